@@ -1,0 +1,57 @@
+// Letters, the steps that send them, and the entries that keep them.
+use crate::acts::Acts;
+use crate::bodies::Body;
+use tv_base::{ActorNo, Seq, Stamp};
+
+/// A letter's identity: the stamp of the entry that sent it, and its place there from 0. Go has stamp 0 and place 0.
+#[derive(Clone, Copy, Debug, PartialEq, Eq)]
+pub struct LetterId {
+    pub stamp: Stamp,
+    pub place: u32,
+}
+
+/// A letter under way or taken.
+#[derive(Drop)]
+pub struct Letter {
+    pub id: LetterId,
+    pub from: ActorNo,
+    pub to: ActorNo,
+    pub body: Body,
+}
+
+/// A letter that is to be sent.
+#[derive(Drop)]
+pub struct Outgoing {
+    pub to: ActorNo,
+    pub body: Body,
+}
+
+/// Letters in the order in which they are sent.
+pub type Letters = Seq<Outgoing, 0xffff_ffff>;
+
+/// What a step sends and does.
+#[derive(Drop)]
+pub struct StepOut {
+    pub sent: Letters,
+    pub acts: Acts,
+}
+
+/// What a step sends and does, twice over: the two are equal, one goes out and one stays in the history.
+#[derive(Drop)]
+pub struct Step {
+    pub given: StepOut,
+    pub kept: StepOut,
+}
+
+/// One event: an actor took a letter, sent letters and acted. Stamps count a history's entries from 1.
+#[derive(Drop)]
+pub struct Entry {
+    pub stamp: Stamp,
+    pub actor: ActorNo,
+    pub took: Letter,
+    pub sent: Letters,
+    pub acts: Acts,
+}
+
+/// Entries by stamp. At most 2^40 of them: a growth past that finds no memory.
+pub type History = Seq<Entry, 0x100_0000_0000>;

@@ -1,0 +1,52 @@
+// Numbers with names of their own, and the one answer for want of memory.
+use std::alloc::{AllocError, AllocFailed};
+
+/// A node, counted from 0.
+#[derive(Clone, Copy, Debug, PartialEq, Eq, PartialOrd, Ord, Hash)]
+pub struct NodeNo(pub u8);
+
+/// An actor. With `n` nodes the nodes are 0 to `n - 1`, the coordinator is `n` and the client `n + 1`.
+#[derive(Clone, Copy, Debug, PartialEq, Eq, PartialOrd, Ord, Hash)]
+pub struct ActorNo(pub u8);
+
+/// A tree, by its place among the script's trees.
+#[derive(Clone, Copy, Debug, PartialEq, Eq, PartialOrd, Ord, Hash)]
+pub struct TreeNo(pub u32);
+
+/// A subtransaction, by its place in its tree. The root is 0.
+#[derive(Clone, Copy, Debug, PartialEq, Eq, PartialOrd, Ord, Hash)]
+pub struct SubNo(pub u32);
+
+/// An item, by its place among the script's items.
+#[derive(Clone, Copy, Debug, PartialEq, Eq, PartialOrd, Ord, Hash)]
+pub struct ItemNo(pub u32);
+
+/// A version of an item, a tree or a node.
+#[derive(Clone, Copy, Debug, Default, PartialEq, Eq, PartialOrd, Ord, Hash)]
+pub struct Version(pub u64);
+
+/// The place of an entry in its history, from 1. Stamp 0 is that of no entry.
+#[derive(Clone, Copy, Debug, Default, PartialEq, Eq, PartialOrd, Ord, Hash)]
+pub struct Stamp(pub u64);
+
+/// No memory was found. After this answer every value that the call was lent is unchanged.
+#[derive(Clone, Copy, Debug, PartialEq, Eq)]
+pub struct NoMemory;
+
+impl From<AllocError> for NoMemory {
+    fn from(_e: AllocError) -> NoMemory {
+        NoMemory
+    }
+}
+
+impl<T: Drop> From<AllocFailed<T>> for NoMemory {
+    fn from(_e: AllocFailed<T>) -> NoMemory {
+        NoMemory
+    }
+}
+
+impl<T: Drop> From<(NoMemory, T)> for NoMemory {
+    fn from(_e: (NoMemory, T)) -> NoMemory {
+        NoMemory
+    }
+}

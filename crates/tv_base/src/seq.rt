@@ -1,0 +1,89 @@
+// The one list type of the public surface.
+ghost use Rattle.std.specs.Prelude.{◌≡◌, ◌+◌, ◌<◌, ◌≤◌, ◌↔◌, [], ◌∷◌, ◌++◌, length, slice_set, slice_get, Some, IsNone, OnOk, OnErr, IfErr, IfSome};
+
+use crate::numbers::NoMemory;
+use std::alloc::Global;
+use std::marker::Model;
+use std::mem;
+
+/// A list of at most `MOST` items that grows at its end, seen by contracts as the list of its items.
+#[derive(Drop)]
+pub struct Seq<T, const MOST: usize> {
+    inner: Vec<T>,
+}
+
+impl<T, const MOST: usize> Model for Seq<T, MOST> {
+    ghost use Rattle.std.specs.Prelude.{List, ◌≤◌, length};
+
+    ghost Value = { List T };
+
+    ghost view = { λ s. s.inner.items };
+
+    ghost invariant = { λ s. length s.inner.items ≤ MOST };
+}
+
+impl<T, const MOST: usize> Seq<T, MOST> {
+    /// An empty list.
+    pub fn new(alloc: Global) -> Seq<T, MOST>
+        ensures { result ≡ [] }
+    {
+        Seq {
+            inner: Vec::new(alloc),
+        }
+    }
+
+    /// The items, in order.
+    pub fn items(&self) -> &[T]
+        ensures items { result.now ≡ self.now }
+        ensures limit { length self.now ≤ MOST }
+    {
+        self.inner.as_slice()
+    }
+
+    /// Adds an item at the end. A list that is full, or finds no memory, stays as it is and hands the item back.
+    pub fn push(&mut self, one: T) -> Result<(), (NoMemory, T)>
+        ensures ok { OnOk result (self.new ≡ self.old ++ one ∷ []) }
+        ensures refused { IfErr result (λ e. e.1 ≡ one) }
+        ensures err { OnErr result (self.new ≡ self.old) }
+    {
+        if MOST <= self.inner.len() {
+            return Err((NoMemory, one));
+        }
+        match self.inner.push(one) {
+            Ok(()) => Ok(()),
+            Err(refused) => Err((NoMemory, refused.value)),
+        }
+    }
+
+    /// Takes the last item off. None exactly where the list is empty.
+    pub fn pop(&mut self) -> Option<T>
+        ensures none { IsNone result ↔ (self.old ≡ []) }
+        ensures last { IfSome result (λ one. self.old ≡ self.new ++ one ∷ []) }
+        ensures empty { IsNone result → self.new ≡ [] }
+    {
+        self.inner.pop()
+    }
+
+    /// Takes the first item out and leaves the others in order. None exactly where the list is empty.
+    ///
+    /// The items behind it move up, so a long list is better gone over by `items`.
+    pub fn take_first(&mut self) -> Option<T>
+        ensures none { IsNone result ↔ (self.old ≡ []) }
+        ensures first { IfSome result (λ one. self.old ≡ one ∷ self.new) }
+        ensures empty { IsNone result → self.new ≡ [] }
+    {
+        if self.inner.is_empty() {
+            return None;
+        }
+        Some(self.inner.remove(0))
+    }
+
+    /// Puts an item at a place, and gives what was there.
+    pub fn put(&mut self, place: usize, one: T) -> T
+        requires { place < length self.old }
+        ensures put { self.new ≡ slice_set self.old place one }
+        ensures was { slice_get self.old place ≡ Some result }
+    {
+        mem::replace(&mut self.inner[place], one)
+    }
+}

@@ -1,0 +1,153 @@
+-- What a record adds to a script, and the conditions under which it is refused, in the order of their numbers.
+use Rattle.std.specs.Prelude.{ℕ, Bool, true, false, not, if◌then◌else◌, ◌≡◌, ◌+◌, ◌==◌, ◌||◌, nat_le, nat_lt, List, [], ◌∷◌, ◌++◌, length, Option, Some, None, is_some, position, Result, Ok, Err, slice_get}
+use Rattle.std.specs.List.{list_any}
+use Rattle.std.specs.Str.{bytes_eq}
+use Rattle.commute_ops.specs.declared.kinds.TheConstants.{MOST_AMOUNT}
+use Rattle.tv_base.specs.declared.numbers.NodeNo.{NodeNo}
+use Rattle.tx_trees.specs.ScriptData.{ScriptData}
+use Rattle.tx_trees.specs.Valid.{deed_fits, load, magnitude}
+use Rattle.tx_trees.specs.declared.parts.ItemRow.{ItemRow}
+use Rattle.tx_trees.specs.declared.parts.Tree.{Tree}
+use Rattle.tx_trees.specs.declared.parts.Sub.{Sub}
+use Rattle.tx_trees.specs.declared.parts.SubOp.{SubOp}
+use Rattle.tx_trees.specs.declared.parts.Deed.{Deed}
+use Rattle.tx_trees.specs.declared.parts.TreeKind.{TreeKind}
+use Rattle.tx_trees.specs.declared.parts.TreeKind.TheVariants as trees
+use Rattle.tx_trees.specs.declared.parts.ScriptRow.TheVariants as rows
+use Rattle.tx_trees.specs.declared.why.Why.{Why}
+use Rattle.tx_trees.specs.declared.why.Why.TheVariants as why
+use Rattle.tx_trees.specs.declared.why.Refusal.{Refusal}
+use Rattle.tx_trees.specs.declared.why.Refusal.TheVariants as refusals
+
+-- the first condition that holds gives its reason; where none holds the record is taken
+abbrev pub judged : {A : Type 0} → List (Bool × Why) → A → Result A Why
+judged [] new = Ok new
+judged (c ∷ cs) new = if c.0 then Err c.1 else judged cs new
+
+-- a call that took the record, refused it or found no memory
+abbrev pub Steps : {T : Type 0} → Result ScriptData Why → Result T Refusal → ScriptData → ScriptData → Type 0
+Steps step (Ok u) old new = step ≡ Ok new
+Steps step (Err (refusals.Why w)) old new = (step ≡ Err w) × (new ≡ old)
+Steps step (Err refusals.NoMemory) old new = new ≡ old
+
+-- a script of so many nodes, with nothing in it
+abbrev pub fresh : ℕ → ScriptData
+fresh n = record { nodes = n; items = []; trees = []; rows = []; picks = []; begun = false }
+
+-- the place of the item of this name, which is its number
+abbrev pub place_of : List ℕ → List ItemRow → Option ℕ
+place_of name items = position (λ r. bytes_eq r.name name) items
+
+-- whether a tree has this name
+abbrev pub names_tree : List ℕ → List Tree → Bool
+names_tree name ts = list_any (λ t. bytes_eq t.name name) ts
+
+abbrev pub with_item : ScriptData → ItemRow → ScriptData
+with_item s row = record s { items = s.items ++ row ∷ []; begun = false }
+
+abbrev pub adds_item : ScriptData → ItemRow → Result ScriptData Why
+adds_item s row =
+    judged ((is_some (place_of row.name s.items), why.NameTaken)
+    ∷ (nat_le 10000 (length s.items), why.TooMany) ∷ []) (with_item s row)
+
+-- a tree with its root alone
+abbrev pub rooted : List ℕ → TreeKind → NodeNo → Tree
+rooted name kind node = record { name = name; kind = kind; subs = record { parent = record { 0 = 0 }; node = node; ops = [] } ∷ [] }
+
+abbrev pub with_tree : ScriptData → List ℕ → TreeKind → NodeNo → ScriptData
+with_tree s name kind node = record s {
+  trees = s.trees ++ rooted name kind node ∷ [];
+  rows = s.rows ++ rows.Tree (record { 0 = length s.trees }) ∷ [];
+  begun = true;
+}
+
+-- how many subtransactions the trees have
+abbrev pub all_subs : List Tree → ℕ
+all_subs [] = 0
+all_subs (t ∷ ts) = length t.subs + all_subs ts
+
+abbrev pub adds_tree : ScriptData → List ℕ → TreeKind → NodeNo → Result ScriptData Why
+adds_tree s name kind node =
+    judged ((names_tree name s.trees, why.NameTaken)
+    ∷ (nat_le 20000 (length s.trees) || nat_le 100000 (all_subs s.trees), why.TooMany) ∷ []) (with_tree s name kind node)
+
+-- the last of a list, changed
+abbrev pub on_last : {A : Type 0} → (A → A) → List A → List A
+on_last f [] = []
+on_last f (x ∷ []) = f x ∷ []
+on_last f (x ∷ y ∷ ys) = x ∷ on_last f (y ∷ ys)
+
+-- the last of a list
+abbrev pub last_of : {A : Type 0} → List A → Option A
+last_of [] = None
+last_of (x ∷ []) = Some x
+last_of (x ∷ y ∷ ys) = last_of (y ∷ ys)
+
+-- how many subtransactions the last tree has
+abbrev pub last_subs : List Tree → ℕ
+last_subs ts = elim (last_of ts) [ None ↦ 0 | Some t ↦ length t.subs ]
+
+abbrev pub push_sub : Sub → Tree → Tree
+push_sub x t = record t { subs = t.subs ++ x ∷ [] }
+
+abbrev pub with_sub : ScriptData → ℕ → NodeNo → ScriptData
+with_sub s parent node = record s {
+  trees = on_last (push_sub (record { parent = record { 0 = parent }; node = node; ops = [] })) s.trees;
+  begun = true;
+}
+
+abbrev pub adds_sub : ScriptData → ℕ → NodeNo → Result ScriptData Why
+adds_sub s parent node =
+    judged ((not s.begun, why.NoTree)
+    ∷ (nat_le (last_subs s.trees) parent, why.BadParent)
+    ∷ (nat_le 64 (last_subs s.trees) || nat_le 100000 (all_subs s.trees), why.TooMany) ∷ []) (with_sub s parent node)
+
+-- how many operations the trees have
+abbrev pub subs_ops : List Sub → ℕ
+subs_ops [] = 0
+subs_ops (x ∷ xs) = length x.ops + subs_ops xs
+
+abbrev pub all_ops : List Tree → ℕ
+all_ops [] = 0
+all_ops (t ∷ ts) = subs_ops t.subs + all_ops ts
+
+-- the last subtransaction of the last tree: its node, and how many operations it has
+abbrev pub last_sub : List Tree → Option Sub
+last_sub ts = elim (last_of ts) [ None ↦ None | Some t ↦ last_of t.subs ]
+
+abbrev pub last_node : List Tree → ℕ
+last_node ts = elim (last_sub ts) [ None ↦ 0 | Some x ↦ x.node.0 ]
+
+abbrev pub last_count : List Tree → ℕ
+last_count ts = elim (last_sub ts) [ None ↦ 0 | Some x ↦ length x.ops ]
+
+abbrev pub last_kind : List Tree → TreeKind
+last_kind ts = elim (last_of ts) [ None ↦ trees.Update | Some t ↦ t.kind ]
+
+abbrev pub push_op : SubOp → Sub → Sub
+push_op o x = record x { ops = x.ops ++ o ∷ [] }
+
+abbrev pub on_last_sub : (Sub → Sub) → Tree → Tree
+on_last_sub f t = record t { subs = on_last f t.subs }
+
+abbrev pub with_op : ScriptData → ℕ → Deed → ScriptData
+with_op s k deed = record s {
+  trees = on_last (on_last_sub (push_op (record { item = record { 0 = k }; deed = deed }))) s.trees;
+  begun = true;
+}
+
+abbrev pub adds_op_on : ScriptData → ℕ → Option ItemRow → Deed → Result ScriptData Why
+adds_op_on s k None deed = Err why.UnknownItem
+adds_op_on s k (Some row) deed =
+    judged ((not s.begun, why.NoTree)
+    ∷ (not (row.node.0 == last_node s.trees), why.WrongNode)
+    ∷ (not (deed_fits (last_kind s.trees) row.kind deed), why.WrongKind)
+    ∷ (nat_le 16 (last_count s.trees) || nat_le 200000 (all_ops s.trees), why.TooMany)
+    ∷ (nat_lt MOST_AMOUNT (load k s + magnitude deed), why.TooMuch) ∷ []) (with_op s k deed)
+
+abbrev pub adds_op_at : ScriptData → Option ℕ → Deed → Result ScriptData Why
+adds_op_at s None deed = Err why.UnknownItem
+adds_op_at s (Some k) deed = adds_op_on s k (slice_get s.items k) deed
+
+abbrev pub adds_op : ScriptData → List ℕ → Deed → Result ScriptData Why
+adds_op s name deed = adds_op_at s (place_of name s.items) deed

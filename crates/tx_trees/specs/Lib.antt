@@ -1,0 +1,3 @@
+pub mod ScriptData
+pub mod Valid
+pub mod Adding

@@ -1,0 +1,45 @@
+-- What a script holds, and how its trees are looked up.
+use Rattle.std.specs.Prelude.{ℕ, Bool, true, false, List, [], Option, Some, None, slice_get}
+use Rattle.tx_trees.specs.declared.parts.ItemRow.{ItemRow}
+use Rattle.tx_trees.specs.declared.parts.Tree.{Tree}
+use Rattle.tx_trees.specs.declared.parts.Sub.{Sub}
+use Rattle.tx_trees.specs.declared.parts.SubOp.{SubOp}
+use Rattle.tx_trees.specs.declared.parts.ScriptRow.{ScriptRow}
+use Rattle.tx_trees.specs.declared.parts.TreeKind.{TreeKind}
+use Rattle.tx_trees.specs.declared.parts.TreeKind.TheVariants.{Update, Read, Strict}
+
+pub record ScriptData : Type 0 where
+  pub nodes : ℕ
+  pub items : List ItemRow
+  pub trees : List Tree
+  pub rows : List ScriptRow
+  pub picks : List ℕ
+  -- whether the last record was a tree, `sub` or operation row
+  pub begun : Bool
+
+-- the subtransactions of tree t, of which there are none where it isn't there
+abbrev pub subs_at : ScriptData → ℕ → List Sub
+subs_at s t = elim (slice_get s.trees t) [ Some tree ↦ tree.subs | None ↦ [] ]
+
+abbrev pub sub_at : ScriptData → ℕ → ℕ → Option Sub
+sub_at s t k = slice_get (subs_at s t) k
+
+-- the node of subtransaction k of tree t; where it isn't there, the number of nodes, which is no node
+abbrev pub node_of : ScriptData → ℕ → ℕ → ℕ
+node_of s t k = elim (sub_at s t k) [ Some sub ↦ sub.node.0 | None ↦ s.nodes ]
+
+-- a tree's home is its root's node
+abbrev pub home_of : ScriptData → ℕ → ℕ
+home_of s t = node_of s t 0
+
+abbrev pub ops_of : ScriptData → ℕ → ℕ → List SubOp
+ops_of s t k = elim (sub_at s t k) [ Some sub ↦ sub.ops | None ↦ [] ]
+
+abbrev pub is_update : TreeKind → Bool
+is_update Update = true
+is_update Read = false
+is_update Strict = false
+
+-- tree t is there, and is an update tree
+abbrev pub updates : ScriptData → ℕ → Bool
+updates s t = elim (slice_get s.trees t) [ Some tree ↦ is_update tree.kind | None ↦ false ]

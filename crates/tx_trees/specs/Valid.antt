@@ -1,0 +1,119 @@
+-- When a script is valid.
+use Rattle.std.specs.Prelude.{ℕ, Bool, true, false, if◌then◌else◌, ◌≡◌, ◌+◌, ◌<◌, ◌≤◌, ◌==◌, IsTrue, List, [], ◌∷◌, length, Option, Some, None, slice_get, unsigned_abs}
+use Rattle.std.specs.List.{AllByRecursion}
+use Rattle.commute_ops.specs.declared.kinds.Kind.{Kind}
+use Rattle.commute_ops.specs.declared.kinds.Kind.TheVariants.{Sum as SumKind, Top as TopKind, Bag as BagKind}
+use Rattle.commute_ops.specs.declared.kinds.Op.{Op}
+use Rattle.commute_ops.specs.declared.kinds.Op.TheVariants.{Add, Top, Put}
+use Rattle.commute_ops.specs.declared.kinds.TheConstants.{MOST_AMOUNT}
+use Rattle.tx_trees.specs.ScriptData.{ScriptData}
+use Rattle.tx_trees.specs.declared.parts.ItemRow.{ItemRow}
+use Rattle.tx_trees.specs.declared.parts.Tree.{Tree}
+use Rattle.tx_trees.specs.declared.parts.Sub.{Sub}
+use Rattle.tx_trees.specs.declared.parts.SubOp.{SubOp}
+use Rattle.tx_trees.specs.declared.parts.Deed.{Deed}
+use Rattle.tx_trees.specs.declared.parts.Deed.TheVariants.{Apply, Get, Set, Draw}
+use Rattle.tx_trees.specs.declared.parts.ScriptRow.{ScriptRow}
+use Rattle.tx_trees.specs.declared.parts.ScriptRow.TheVariants as rows
+use Rattle.tx_trees.specs.declared.parts.TreeKind.{TreeKind}
+use Rattle.tx_trees.specs.declared.parts.TreeKind.TheVariants as trees
+
+-- a commuting operation is of the item's kind
+abbrev pub op_fits : Kind → Op → Bool
+op_fits SumKind (Add a) = true
+op_fits TopKind (Top a) = true
+op_fits BagKind (Put a) = true
+op_fits _ _ = false
+
+-- which operations a tree may have on an item
+abbrev pub deed_fits : TreeKind → Kind → Deed → Bool
+deed_fits trees.Update kind (Apply op) = op_fits kind op
+deed_fits trees.Read kind Get = true
+deed_fits trees.Strict kind Get = true
+deed_fits trees.Strict SumKind (Set a) = true
+deed_fits trees.Strict TopKind (Set a) = true
+deed_fits trees.Strict SumKind (Draw a) = true
+deed_fits _ _ _ = false
+
+-- the magnitude of an amount that an operation names
+abbrev pub op_magnitude : Op → ℕ
+op_magnitude (Add a) = unsigned_abs a
+op_magnitude (Top a) = unsigned_abs a
+op_magnitude (Put a) = unsigned_abs a
+
+abbrev pub magnitude : Deed → ℕ
+magnitude (Apply op) = op_magnitude op
+magnitude Get = 0
+magnitude (Set a) = unsigned_abs a
+magnitude (Draw a) = unsigned_abs a
+
+-- the magnitudes of all amounts on item x
+abbrev pub ops_load : ℕ → List SubOp → ℕ
+ops_load x [] = 0
+ops_load x (o ∷ os) = (if o.item.0 == x then magnitude o.deed else 0) + ops_load x os
+
+abbrev pub subs_load : ℕ → List Sub → ℕ
+subs_load x [] = 0
+subs_load x (s ∷ ss) = ops_load x s.ops + subs_load x ss
+
+abbrev pub trees_load : ℕ → List Tree → ℕ
+trees_load x [] = 0
+trees_load x (t ∷ ts) = subs_load x t.subs + trees_load x ts
+
+-- the magnitude of the initial value
+abbrev pub initial_load : Option ItemRow → ℕ
+initial_load None = 0
+initial_load (Some row) = unsigned_abs row.initial
+
+abbrev pub load : ℕ → ScriptData → ℕ
+load x s = initial_load (slice_get s.items x) + trees_load x s.trees
+
+-- an operation is on an item of the script, at the subtransaction's node, of a kind that fits
+abbrev pub OpAt : TreeKind → ℕ → SubOp → Option ItemRow → Type 0
+OpAt kind node o None = ⊥
+OpAt kind node o (Some row) = (row.node.0 ≡ node) × IsTrue (deed_fits kind row.kind o.deed)
+
+abbrev pub IsOp : List ItemRow → TreeKind → ℕ → SubOp → Type 0
+IsOp items kind node o = OpAt kind node o (slice_get items o.item.0)
+
+-- subtransaction k: its parent comes before it, and the root's is 0
+pub record IsSub (nodes : ℕ) (items : List ItemRow) (kind : TreeKind) (k : ℕ) (s : Sub) : Type 0 where
+  pub root : k ≡ 0 → s.parent.0 ≡ 0
+  pub parent : 0 < k → s.parent.0 < k
+  pub node : s.node.0 < nodes
+  pub few : length s.ops ≤ 16
+  pub ops : AllByRecursion (IsOp items kind s.node.0) s.ops
+
+-- the subtransactions from number k on
+abbrev pub AreSubs : ℕ → List ItemRow → TreeKind → ℕ → List Sub → Type 0
+AreSubs nodes items kind k [] = Unit {0}
+AreSubs nodes items kind k (s ∷ ss) = IsSub nodes items kind k s × AreSubs nodes items kind (k + 1) ss
+
+pub record IsTree (nodes : ℕ) (items : List ItemRow) (t : Tree) : Type 0 where
+  pub root : 0 < length t.subs
+  pub few : length t.subs ≤ 64
+  pub subs : AreSubs nodes items t.kind 0 t.subs
+
+-- an item is at a node of the script, and a bag starts empty
+pub record IsItem (nodes : ℕ) (r : ItemRow) : Type 0 where
+  pub node : r.node.0 < nodes
+  pub bag : r.kind ≡ BagKind → unsigned_abs r.initial ≡ 0
+
+-- the tree rows name the trees from number k on, each once and in order
+abbrev pub NamesInOrder : ℕ → ℕ → List ScriptRow → Type 0
+NamesInOrder k n [] = k ≡ n
+NamesInOrder k n (rows.Tree t ∷ rs) = (t.0 ≡ k) × NamesInOrder (k + 1) n rs
+NamesInOrder k n (rows.Advance ∷ rs) = NamesInOrder k n rs
+NamesInOrder k n (rows.Settle ∷ rs) = NamesInOrder k n rs
+
+-- what every script keeps
+pub record IsValid (s : ScriptData) : Type 0 where
+  pub some_nodes : 1 ≤ s.nodes
+  pub few_nodes : s.nodes ≤ 16
+  pub few_items : length s.items ≤ 10000
+  pub few_trees : length s.trees ≤ 20000
+  pub items : AllByRecursion (IsItem s.nodes) s.items
+  pub trees : AllByRecursion (IsTree s.nodes s.items) s.trees
+  pub loads : (x : ℕ) → x < length s.items → load x s ≤ MOST_AMOUNT
+  pub rows : NamesInOrder 0 (length s.trees) s.rows
+  pub begun : s.begun ≡ true → 0 < length s.trees

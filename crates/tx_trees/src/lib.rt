@@ -1,0 +1,8 @@
+//! Scripts: the nodes, items, update and read trees, rows and picks that a run is made of. A script is valid by its type.
+#![tactic(auto)]
+
+mod parts;
+mod why;
+
+pub use parts::{Deed, ItemRow, ScriptRow, Sub, SubOp, SubOps, Subs, Tree, TreeKind};
+pub use why::{Refusal, Why};

@@ -1,0 +1,87 @@
+// Why a record is refused.
+ghost use Rattle.std.specs.Prelude.{◌≡◌};
+ghost use Rattle.tx_trees.specs.declared.why.Refusal.TheVariants.{NoMemory};
+
+use std::alloc::{AllocError, AllocFailed};
+
+/// The reasons for which a record is refused, in the order in which they are tried (docs/FORMATS.md, "Refusals").
+#[derive(Clone, Copy, Debug, PartialEq, Eq)]
+pub enum Why {
+    /// The input has more than 8,388,608 bytes.
+    TooLong,
+    /// The first field is none of the row words.
+    UnknownRow,
+    /// The number of fields isn't the row's.
+    WrongFields,
+    /// The first record isn't a `nodes` row, or there is no record.
+    NodesFirst,
+    /// A later record is a `nodes` row.
+    NodesTwice,
+    /// A number isn't written as one.
+    BadNumber,
+    /// A number is outside its range.
+    OutOfRange,
+    /// A name isn't 1 to 32 ASCII letters, digits, `_`, `-` or `.`.
+    BadName,
+    /// Another item, or another tree, has the name.
+    NameTaken,
+    /// No item of an earlier record has the name.
+    UnknownItem,
+    /// No tree is begun.
+    NoTree,
+    /// The parent is no earlier subtransaction of the tree.
+    BadParent,
+    /// The item isn't at the subtransaction's node.
+    WrongNode,
+    /// The kind is none, or the operation doesn't fit the tree and the item.
+    WrongKind,
+    /// A limit on a number of things would be passed.
+    TooMany,
+    /// The item's magnitudes would add up to more than 10^15.
+    TooMuch,
+    /// A strict tree already has an operation on the item.
+    ItemTwice,
+    /// The row is of a form that isn't built yet.
+    NotBuilt,
+}
+
+/// A record was refused, or memory ran out.
+#[derive(Clone, Copy, Debug, PartialEq, Eq)]
+pub enum Refusal {
+    /// The first reason that holds.
+    Why(Why),
+    /// Want of memory.
+    NoMemory,
+}
+
+impl From<tv_base::NoMemory> for Refusal {
+    ghost from_gives = { λ _ e. e ≡ NoMemory };
+
+    fn from(_: tv_base::NoMemory) -> Self {
+        Refusal::NoMemory
+    }
+}
+
+impl From<AllocError> for Refusal {
+    ghost from_gives = { λ _ e. e ≡ NoMemory };
+
+    fn from(_: AllocError) -> Self {
+        Refusal::NoMemory
+    }
+}
+
+impl<T: Drop> From<AllocFailed<T>> for Refusal {
+    ghost from_gives = { λ _ e. e ≡ NoMemory };
+
+    fn from(_: AllocFailed<T>) -> Self {
+        Refusal::NoMemory
+    }
+}
+
+impl<T: Drop> From<(tv_base::NoMemory, T)> for Refusal {
+    ghost from_gives = { λ _ e. e ≡ NoMemory };
+
+    fn from(_: (tv_base::NoMemory, T)) -> Self {
+        Refusal::NoMemory
+    }
+}
