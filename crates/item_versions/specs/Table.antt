@@ -1,0 +1,48 @@
+-- What a table holds: items by number.
+use Rattle.std.specs.Prelude.{◌≡◌, ℕ, ◌+◌, ◌<◌, Bool, false, List, [], ◌∷◌, ◌++◌, map, if◌then◌else◌, ◌==◌, ⊤, Option, Some, None, is_some, IsTrue}
+use Rattle.tv_base.specs.declared.numbers.ItemNo.{ItemNo}
+use Rattle.tv_base.specs.declared.numbers.Version.{Version}
+use Rattle.commute_ops.specs.declared.kinds.Op.{Op}
+use Rattle.item_versions.specs.Item.{Held, touched, may_touch}
+
+-- items by number
+abbrev pub Table : Type 0
+Table = List (ItemNo × Held)
+
+-- what the table holds of an item
+abbrev pub item_in : ItemNo → Table → Option Held
+item_in n [] = None
+item_in n (e ∷ es) = if e.0.0 == n.0 then Some e.1 else item_in n es
+
+-- the place of an item, or the number of items where it is not there
+abbrev pub place_of : ItemNo → Table → ℕ
+place_of n [] = 0
+place_of n (e ∷ es) = if e.0.0 == n.0 then 0 else place_of n es + 1
+
+-- the item is put in place of what the table holds of it
+abbrev pub replaced : ItemNo → Held → Table → Table
+replaced n h [] = []
+replaced n h (e ∷ es) = if e.0.0 == n.0 then (n, h) ∷ es else e ∷ replaced n h es
+
+-- the same, and where the item is not there it comes last
+abbrev pub with_item : ItemNo → Held → Table → Table
+with_item n h [] = (n, h) ∷ []
+with_item n h (e ∷ es) = if e.0.0 == n.0 then (n, h) ∷ es else e ∷ with_item n h es
+
+-- the table with every item of a list in its place; the first counts
+abbrev pub pending : Table → Table → Table
+pending [] t = t
+pending (e ∷ es) t = replaced e.0 e.1 (pending es t)
+
+-- what is held of an item goes through an update
+abbrev pub updated : Version → Op → Option Held → ItemNo → Table → Table
+updated v op None n t = t
+updated v op (Some h) n t = replaced n (touched v op h) t
+
+-- the table after an update of one item
+abbrev pub touched_in : Version → ItemNo → Op → Table → Table
+touched_in v n op t = updated v op (item_in n t) n t
+
+-- the item is there, and the update may be made
+abbrev pub may_touch_in : Version → ItemNo → Op → Table → Bool
+may_touch_in v n op t = elim (item_in n t) [ None ↦ false | Some h ↦ may_touch v op h ]

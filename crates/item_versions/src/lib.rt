@@ -1,0 +1,2 @@
+//! Items that keep their values by version, and tables of them.
+#![tactic(auto)]
