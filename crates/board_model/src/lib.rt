@@ -1,0 +1,2 @@
+//! What a history says of trees and items: versions, wholeness and worth.
+#![tactic(auto)]

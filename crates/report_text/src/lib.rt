@@ -1,0 +1,2 @@
+//! The report of a run, from its script and its history alone.
+#![tactic(auto)]

@@ -1,0 +1,76 @@
+-- Histories that the tables allow.
+use Rattle.std.specs.Prelude.{if◌then◌else◌, ℕ, Bool, ◌==◌, ◌+◌, ◌<◌, ◌≡◌, List, [], ◌∷◌, length, Option, Some, None}
+use Rattle.letter_types.specs.declared.entries.Letter.{Letter}
+use Rattle.letter_types.specs.declared.entries.Entry.{Entry}
+use Rattle.letter_types.specs.Letters.{find_id, own}
+use Rattle.letter_types.specs.Letters.{waiting as waiting_for}
+use Rattle.letter_types.specs.Postal.{Postal}
+use Rattle.tx_trees.specs.ScriptData.{ScriptData}
+use Rattle.world_model.specs.Tables.{Out, Node, Client, start_node, start_client, node_row, client_row, still}
+
+-- the client's number
+abbrev pub client_of : ScriptData → ℕ
+client_of s = s.nodes + 1
+
+abbrev pub node_table : ScriptData → ℕ → Node → Letter → Out Node
+node_table s p st l = node_row s p st l.from.0 l.body
+
+abbrev pub client_table : ScriptData → Client → Letter → Out Client
+client_table s st l = client_row s st l.body
+
+-- the coordinator does nothing yet
+abbrev pub coordinator_table : Unit {0} → Letter → Out (Unit {0})
+coordinator_table st l = still st
+
+-- The public shape: the letters went as letters do, and each actor's own entries, in order, are a run of its table.
+
+-- these entries are a run of a table from a state
+abbrev pub IsRunOf : {St : Type 0} → (St → Letter → Out St) → St → List Entry → Type 0
+IsRunOf row st [] = Unit {0}
+IsRunOf row st (e ∷ es) = (e.sent ≡ (row st e.took).sent) × (e.acts ≡ (row st e.took).acts) × IsRunOf row (row st e.took).state es
+
+-- the state after these entries
+abbrev pub after : {St : Type 0} → (St → Letter → Out St) → St → List Entry → St
+after row st [] = st
+after row st (e ∷ es) = after row (row st e.took).state es
+
+pub record WorldRun (s : ScriptData) (h : List Entry) : Type 0 where
+  pub postal : Postal (client_of s) h
+  pub nodes : (p : ℕ) → p < s.nodes → IsRunOf (node_table s p) (start_node s p) (own p h)
+  pub coordinator : IsRunOf coordinator_table (tt {0}) (own s.nodes h)
+  pub client : IsRunOf (client_table s) start_client (own (client_of s) h)
+
+-- The shape for proofs: one entry after the other. A past has the newest entry first, and the letters under way and
+-- the states are functions of it.
+
+abbrev pub waiting : ScriptData → List Entry → List Letter
+waiting s past = waiting_for (client_of s) past
+
+abbrev pub node_in : ScriptData → List Entry → ℕ → Node
+node_in s [] p = start_node s p
+node_in s (e ∷ past) p = if e.actor.0 == p then (node_table s p (node_in s past p) e.took).state else node_in s past p
+
+abbrev pub client_in : ScriptData → List Entry → Client
+client_in s [] = start_client
+client_in s (e ∷ past) = if e.actor.0 == client_of s then (client_table s (client_in s past) e.took).state else client_in s past
+
+-- the table says these letters and these acts
+abbrev pub Says : {St : Type 0} → Out St → Entry → Type 0
+Says out e = (e.sent ≡ out.sent) × (e.acts ≡ out.acts)
+
+-- whose step an entry is
+pub data Moves (s : ScriptData) (past : List Entry) (e : Entry) : Type 0 where
+  AtNode : e.actor.0 < s.nodes → Says (node_table s e.actor.0 (node_in s past e.actor.0) e.took) e → Moves s past e
+  AtCoordinator : e.actor.0 ≡ s.nodes → Says (coordinator_table (tt {0}) e.took) e → Moves s past e
+  AtClient : e.actor.0 ≡ client_of s → Says (client_table s (client_in s past) e.took) e → Moves s past e
+
+-- an entry may come next
+pub record MayFollow (s : ScriptData) (past : List Entry) (e : Entry) : Type 0 where
+  pub stamp : e.stamp.0 ≡ length past + 1
+  pub waits : find_id e.took.id (waiting s past) ≡ Some e.took
+  pub addressee : e.took.to.0 ≡ e.actor.0
+  pub moves : Moves s past e
+
+abbrev pub StepRun : ScriptData → List Entry → Type 0
+StepRun s [] = Unit {0}
+StepRun s (e ∷ past) = MayFollow s past e × StepRun s past

@@ -1,0 +1,2 @@
+//! The tables put together, and what a run is.
+#![tactic(auto)]
