@@ -40,6 +40,14 @@ impl<T, const MOST: usize> Seq<T, MOST> {
         self.inner.as_slice()
     }
 
+    /// The items, by value.
+    pub fn into_vec(self) -> Vec<T>
+        ensures items { result.items ≡ self }
+        ensures limit { length self ≤ MOST }
+    {
+        self.inner
+    }
+
     /// Adds an item at the end. A list that is full, or finds no memory, stays as it is and hands the item back.
     pub fn push(&mut self, one: T) -> Result<(), (NoMemory, T)>
         ensures ok { OnOk result (self.new ≡ self.old ++ one ∷ []) }
