@@ -2,5 +2,7 @@
 #![tactic(auto)]
 
 mod item;
+mod table;
 
 pub use item::Item;
+pub use table::{ItemTable, Staged};
