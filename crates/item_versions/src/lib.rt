@@ -6,3 +6,6 @@ mod table;
 
 pub use item::Item;
 pub use table::{ItemTable, Staged};
+
+#[cfg(test)]
+mod tests;
