@@ -1,5 +1,6 @@
 -- What a table holds: items by number.
-use Rattle.std.specs.Prelude.{◌≡◌, ℕ, ◌+◌, ◌<◌, Bool, false, List, [], ◌∷◌, ◌++◌, map, if◌then◌else◌, ◌==◌, ⊤, Option, Some, None, is_some, IsTrue}
+use Rattle.std.specs.Prelude.{ℕ, ◌+◌, ◌<◌, Bool, false, List, [], ◌∷◌, if◌then◌else◌, ◌==◌, Option, Some, None}
+use Rattle.std.specs.List.{All, AllPairs}
 use Rattle.tv_base.specs.declared.numbers.ItemNo.{ItemNo}
 use Rattle.tv_base.specs.declared.numbers.Version.{Version}
 use Rattle.commute_ops.specs.declared.kinds.Op.{Op}
@@ -8,6 +9,14 @@ use Rattle.item_versions.specs.Item.{Held, touched, may_touch}
 -- items by number
 abbrev pub Table : Type 0
 Table = List (ItemNo × Held)
+
+-- the numbers ascend
+abbrev pub IsAscending : Table → Type 0
+IsAscending t = AllPairs (λ a b. a.0.0 < b.0.0) t
+
+-- the number is greater than every number of the table
+abbrev pub IsAfter : ItemNo → Table → Type 0
+IsAfter n t = All (λ e. e.0.0 < n.0) t
 
 -- what the table holds of an item
 abbrev pub item_in : ItemNo → Table → Option Held

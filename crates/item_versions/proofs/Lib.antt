@@ -1,0 +1,5 @@
+pub mod Collected
+pub mod Halving
+pub mod Order
+pub mod Seen
+pub mod Tables

@@ -1,0 +1,117 @@
+-- Items in their places, and items that are yet to take them.
+use Rattle.std.proofs.Common.{◌≡◌, ◌≢◌, ℕ, ◌+◌, ◌<◌, ◌≤◌, Bool, true, false, List, [], ◌∷◌, ◌++◌, length, get_or, set, eqb, refl, ap, sym, ◌∙◌, arith, add-one, Option, Some, None, ◌⊎◌, inl, inr}
+use Rattle.std.specs.Prelude.{IsSome}
+use Rattle.std.proofs.lemmas.Bool.{cases_eq, eq-eqb, ne_eqb}
+use Rattle.std.proofs.lemmas.Bool.Decides.{nat_tests}
+use Rattle.std.proofs.lemmas.Grind.{common_steps}
+use Rattle.tv_base.specs.declared.numbers.ItemNo.{ItemNo}
+use Rattle.item_versions.specs.Item.{Held}
+use Rattle.item_versions.proofs.Halving.{IsAscending-replaced}
+use Rattle.item_versions.specs.Table.{Table, item_in, place_of, replaced, with_item, pending}
+
+pub place_of-le : (n : ItemNo) (t : Table) → place_of n t ≤ length t
+place_of-le n [] = omega arith
+place_of-le n (e ∷ es) = let h = place_of-le n es in grind (arith, nat_tests)
+
+pub set-place_of : (n : ItemNo) (h : Held) (t : Table) → set t (place_of n t) (n, h) ≡ replaced n h t
+set-place_of n h [] = refl
+set-place_of n h (e ∷ es) = let rest = set-place_of n h es in grind (arith, nat_tests, common_steps)
+
+pub set-place_of_with : (n : ItemNo) (h : Held) (t : Table) → place_of n t < length t → set t (place_of n t) (n, h) ≡ with_item n h t
+set-place_of_with n h [] lt = absurd (omega arith)
+set-place_of_with n h (e ∷ es) lt =
+    let rest : place_of n es < length es → set es (place_of n es) (n, h) ≡ with_item n h es = set-place_of_with n h es in grind (arith, nat_tests, common_steps)
+
+pub replaced-absent : (n : ItemNo) (h : Held) (t : Table) → length t ≤ place_of n t → replaced n h t ≡ t
+replaced-absent n h [] le = refl
+replaced-absent n h (e ∷ es) le =
+    let rest : length es ≤ place_of n es → replaced n h es ≡ es = replaced-absent n h es in grind (arith, nat_tests, common_steps)
+
+pub with_item-absent : (n : ItemNo) (h : Held) (t : Table) → length t ≤ place_of n t → with_item n h t ≡ t ++ (n, h) ∷ []
+with_item-absent n h [] le = refl
+with_item-absent n h (e ∷ es) le =
+    let rest : length es ≤ place_of n es → with_item n h es ≡ es ++ (n, h) ∷ [] = with_item-absent n h es in grind (arith, nat_tests, common_steps)
+
+-- one item put in place twice, and two items put in place in either order
+replaced-same : (n m : ItemNo) (h k : Held) (t : Table) → m.0 ≡ n.0 → replaced n h (replaced m k t) ≡ replaced n h t
+replaced-same n m h k [] eq = refl
+replaced-same n m h k (e ∷ es) eq = let rest = replaced-same n m h k es eq in grind (arith, nat_tests)
+
+pub replaced-other : (n m : ItemNo) (h k : Held) (t : Table) → (n.0 ≡ m.0 → ⊥) → replaced n h (replaced m k t) ≡ replaced m k (replaced n h t)
+replaced-other n m h k [] ne = refl
+replaced-other n m h k (e ∷ es) ne = let rest = replaced-other n m h k es ne in grind (arith, nat_tests)
+
+pub item_in-replaced_other : (n m : ItemNo) (h : Held) (t : Table) → (n.0 ≡ m.0 → ⊥) → item_in n (replaced m h t) ≡ item_in n t
+item_in-replaced_other n m h [] ne = refl
+item_in-replaced_other n m h (e ∷ es) ne = let rest = item_in-replaced_other n m h es ne in grind (arith, nat_tests)
+
+item_in-replaced_same : (n m : ItemNo) (h k : Held) (t : Table) → m.0 ≡ n.0 → item_in n t ≡ Some k → item_in n (replaced m h t) ≡ Some h
+item_in-replaced_same n m h k [] eq is = cc
+item_in-replaced_same n m h k (e ∷ es) eq is =
+    let rest : item_in n es ≡ Some k → item_in n (replaced m h es) ≡ Some h = item_in-replaced_same n m h k es eq in grind (arith, nat_tests)
+
+item_in-replaced_none : (n m : ItemNo) (h : Held) (t : Table) → item_in n t ≡ None → item_in n (replaced m h t) ≡ None
+item_in-replaced_none n m h [] is = refl
+item_in-replaced_none n m h (e ∷ es) is =
+    let rest : item_in n es ≡ None → item_in n (replaced m h es) ≡ None = item_in-replaced_none n m h es in grind (arith, nat_tests)
+
+-- what is pending after one more item
+pub pending-with_item : (n : ItemNo) (h : Held) (s t : Table) → pending (with_item n h s) t ≡ replaced n h (pending s t)
+pending-with_item n h [] t = refl
+pending-with_item n h (e ∷ es) t =
+    elim (cases_eq e.0.0 n.0) [
+      | inl eq ↦ rw (eq-eqb e.0.0 n.0 eq) (sym (replaced-same n e.0 h e.1 (pending es t) eq))
+      | inr ne ↦
+          rw (ne_eqb e.0.0 n.0 ne) (ap (replaced e.0 e.1) (pending-with_item n h es t) ∙ replaced-other e.0 n e.1 h (pending es t) ne)
+    ]
+
+pub pending-push : (e : ItemNo × Held) (s t : Table) → pending (s ++ e ∷ []) t ≡ pending s (replaced e.0 e.1 t)
+pending-push e [] t = refl
+pending-push e (x ∷ s) t = ap (replaced x.0 x.1) (pending-push e s t)
+
+-- what is pending of one item
+pub item_in-pending_none : (n : ItemNo) (s t : Table) → item_in n s ≡ None → item_in n (pending s t) ≡ item_in n t
+item_in-pending_none n [] t is = refl
+item_in-pending_none n (e ∷ es) t is =
+    elim (cases_eq e.0.0 n.0) [
+      | inl eq ↦ absurd (let no : Some e.1 ≡ None = rw (eq-eqb e.0.0 n.0 eq) at is in cc)
+      | inr ne ↦
+          item_in-replaced_other n e.0 e.1 (pending es t) (λ q. ne (sym q)) ∙ item_in-pending_none n es t (rw (ne_eqb e.0.0 n.0 ne) at is)
+    ]
+
+pub item_in-pending_absent : (n : ItemNo) (s t : Table) → item_in n t ≡ None → item_in n (pending s t) ≡ None
+item_in-pending_absent n [] t is = is
+item_in-pending_absent n (e ∷ es) t is = item_in-replaced_none n e.0 e.1 (pending es t) (item_in-pending_absent n es t is)
+
+item_in-pending_there : (n : ItemNo) (k : Held) (s t : Table) → item_in n t ≡ Some k → (k' : Held) × (item_in n (pending s t) ≡ Some k')
+item_in-pending_there n k [] t is = (k, is)
+item_in-pending_there n k (e ∷ es) t is =
+    let (k', is') = item_in-pending_there n k es t is in
+    elim (cases_eq e.0.0 n.0) [
+      | inl eq ↦ (e.1, item_in-replaced_same n e.0 e.1 k' (pending es t) eq is')
+      | inr ne ↦ (k', item_in-replaced_other n e.0 e.1 (pending es t) (λ q. ne (sym q)) ∙ is')
+    ]
+
+item_in-pending_some : (n : ItemNo) (h k : Held) (s t : Table) → item_in n s ≡ Some h → item_in n t ≡ Some k → item_in n (pending s t) ≡ Some h
+item_in-pending_some n h k [] t is there = cc
+item_in-pending_some n h k (e ∷ es) t is there =
+    let (k', is') = item_in-pending_there n k es t there in
+    elim (cases_eq e.0.0 n.0) [
+      | inl eq ↦
+          let same : Some e.1 ≡ Some h = rw (eq-eqb e.0.0 n.0 eq) at is in
+          item_in-replaced_same n e.0 e.1 k' (pending es t) eq is' ∙ same
+      | inr ne ↦
+          item_in-replaced_other n e.0 e.1 (pending es t) (λ q. ne (sym q)) ∙ item_in-pending_some n h k es t (rw (ne_eqb e.0.0 n.0 ne) at is) there
+    ]
+
+-- a pending item of the table is the staged one, or else the table's
+pub pending-staged : (n : ItemNo) (h k : Held) (s t : Table) → item_in n t ≡ Some k → item_in n s ≡ Some h → item_in n (pending s t) ≡ Some h
+pending-staged n h k s t there is = item_in-pending_some n h k s t is there
+
+pub ruleset placing = (place_of-le, set-place_of_with, with_item-absent)
+
+pub ruleset finding = (pending-staged, item_in-pending_none, item_in-pending_absent)
+
+pub ruleset staging = (pending-with_item)
+
+pub ruleset putting = (pending-push, IsAscending-replaced)

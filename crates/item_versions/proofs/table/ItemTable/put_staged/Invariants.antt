@@ -1,0 +1,13 @@
+use Rattle.std.proofs.Common.{◌≡◌, vec_len}
+use Rattle.item_versions.specs.Table.{pending, IsAscending}
+use Rattle.item_versions.proofs.table.ItemTable.put_staged.Given as goal
+
+-- what is pending stays, and the table's numbers ascend
+abbrev pub invariant-loop-item : goal.invariant-loop-item
+invariant-loop-item l = record {
+    same : pending l.entries.items l.self-inside.entries.items ≡ pending l.initial.entries.items l.initial.self-inside.entries.items;
+    up : IsAscending l.self-inside.entries.items;
+}
+
+abbrev pub decreases-loop-item : goal.decreases-loop-item
+decreases-loop-item l = vec_len l.entries

@@ -1,0 +1,251 @@
+ghost use Rattle.std.specs.Prelude.{◌≡◌, ◌++◌, ◌∷◌, ◌<◌, [], length, slice_get, slice_set, slice_index_or, IfSome, IfNone, IsSome, IsTrue, OnOk, OnErr, Some};
+ghost use Rattle.std.specs.Option.{option_copied};
+ghost use Rattle.std.specs.List.{All};
+ghost use Rattle.item_versions.specs.Item.{CanCollect, collected};
+ghost use Rattle.item_versions.specs.Table.{IsAscending, IsAfter, item_in, place_of, replaced, with_item, pending, touched_in, may_touch_in};
+
+use crate::item::Item;
+use commute_ops::{Op, Value};
+use std::alloc::Global;
+use std::marker::Model;
+use tv_base::{ItemNo, NoMemory, Version};
+
+/// Items by ascending number.
+#[derive(Drop)]
+pub struct ItemTable {
+    entries: Vec<(ItemNo, Item)>,
+}
+
+impl Model for ItemTable {
+    ghost use Rattle.item_versions.specs.Table.{Table, IsAscending};
+
+    ghost Value = { Table };
+
+    ghost view = { λ t. t.entries.items };
+
+    ghost invariant = { λ t. IsAscending t.entries.items };
+}
+
+/// Items as they will be, which a table has yet to take. It is searched from end to end, so it serves for a few.
+#[derive(Drop)]
+pub struct Staged {
+    entries: Vec<(ItemNo, Item)>,
+}
+
+impl Model for Staged {
+    ghost use Rattle.item_versions.specs.Table.{Table};
+
+    ghost Value = { Table };
+
+    ghost view = { λ t. t.entries.items };
+}
+
+impl Staged {
+    /// Nothing staged.
+    pub fn new(alloc: Global) -> Staged
+        ensures { result ≡ [] }
+    {
+        Staged {
+            entries: Vec::new(alloc),
+        }
+    }
+}
+
+impl ItemTable {
+    /// A table with no item.
+    pub fn new(alloc: Global) -> ItemTable
+        ensures { result ≡ [] }
+    {
+        ItemTable {
+            entries: Vec::new(alloc),
+        }
+    }
+
+    /// Adds an item, of a number above every other, with this value in version 0. Where no memory is found the
+    /// table is unchanged and the value is let go.
+    pub fn add(&mut self, item: ItemNo, value: Value) -> Result<(), NoMemory>
+        requires { IsAfter item self.old }
+        ensures ok { OnOk result (self.new ≡ self.old ++ (item, (record { 0 = 0 }, value) ∷ []) ∷ []) }
+        ensures err { OnErr result (self.new ≡ self.old) }
+    {
+        let alloc = *self.entries.allocator();
+        let made = Item::new(alloc, value)?;
+        self.entries.push((item, made))?;
+        Ok(())
+    }
+
+    /// How many items there are.
+    pub fn count(&self) -> usize
+        ensures count { result ≡ length self.now }
+        ensures ascending { IsAscending self.now }
+    {
+        self.entries.len()
+    }
+
+    /// The number and the item at a place, counted from 0 in the order of the numbers.
+    pub fn at(&self, place: usize) -> (ItemNo, &Item)
+        requires { place < length self.now }
+        ensures { slice_get self.now place ≡ Some (result.0, result.1.now) }
+    {
+        let entry = &self.entries[place];
+        (entry.0, &entry.1)
+    }
+
+    /// The item of a number, found by halving. None exactly where the number is not there.
+    #[tactic(auto, using(crate::proofs::Halving::finding))]
+    pub fn item(&self, item: ItemNo) -> Option<&Item>
+        ensures { option_copied result ≡ item_in item self.now }
+    {
+        match place(&self.entries, item) {
+            Some(place) => Some(&self.entries[place].1),
+            None => None,
+        }
+    }
+
+    /// Collects the item at a place to version `f`. The other items stay.
+    #[tactic(auto, using(crate::proofs::Halving::collecting))]
+    pub fn collect_at(&mut self, place: usize, f: Version)
+        requires within { place < length self.old }
+        requires can { IfSome (slice_get self.old place) (λ e. CanCollect f e.1) }
+        ensures { IfSome (slice_get self.old place) (λ e. self.new ≡ slice_set self.old place (e.0, collected f e.1)) }
+    {
+        collect_entry(&mut self.entries, place, f);
+    }
+
+    /// What is pending of an item.
+    #[tactic(auto, using(crate::proofs::Tables::finding))]
+    fn current<'a>(&'a self, staged: &'a Staged, item: ItemNo) -> Option<&'a Item>
+        ensures { option_copied result ≡ item_in item (pending staged.now self.now) }
+    {
+        let held = self.item(item)?;
+        match find(&staged.entries, item) {
+            Some(found) => Some(found),
+            None => Some(held),
+        }
+    }
+
+    /// Whether the table has the item, and the update may be made to it as it is with what is staged.
+    pub fn may_stage(&self, staged: &Staged, v: Version, item: ItemNo, op: &Op) -> bool
+        ensures { result ≡ may_touch_in v item op.now (pending staged.now self.now) }
+    {
+        match self.current(staged, item) {
+            Some(current) => current.may_touch(v, op),
+            None => false,
+        }
+    }
+
+    /// Stages an update of one item in version `v`, made to the item as it is with what is staged. The table stays
+    /// as it is. Where no memory is found, so does what is staged.
+    #[tactic(auto, using(crate::proofs::Tables::staging))]
+    pub fn stage(
+        &self,
+        staged: &mut Staged,
+        v: Version,
+        item: ItemNo,
+        op: &Op,
+    ) -> Result<(), NoMemory>
+        requires { IsTrue (may_touch_in v item op.now (pending staged.old self.now)) }
+        ensures ok { OnOk result
+            (pending staged.new self.now ≡ touched_in v item op.now (pending staged.old self.now)) }
+        ensures err { OnErr result (staged.new ≡ staged.old) }
+    {
+        let next = self.current(staged, item).unwrap().touched(v, op)?;
+        put(&mut staged.entries, item, next)
+    }
+
+    /// Puts every staged item in its place. Wants no memory.
+    #[tactic(auto, using(crate::proofs::Tables::putting))]
+    pub fn put_staged(&mut self, staged: Staged)
+        ensures { self.new ≡ pending staged self.old }
+    {
+        let mut entries = staged.entries;
+        while let Some((item, next)) = entries.pop() {
+            replace(&mut self.entries, item, next);
+        }
+    }
+}
+
+/// The place of an item, found by halving.
+#[tactic(auto, using(crate::proofs::Halving::halving))]
+fn place(entries: &[(ItemNo, Item)], item: ItemNo) -> Option<usize>
+    requires { IsAscending entries.now }
+    ensures found { IfSome result (λ p. (p < length entries.now) × ((d : _) → (slice_index_or entries.now p d).0 ≡ item)) }
+    ensures none { IfNone result (All (λ e. e.0.0 ≡ item.0 → ⊥) entries.now) }
+{
+    let mut low = 0;
+    let mut high = entries.len();
+    while low < high {
+        let middle = low + (high - low) / 2;
+        let number = entries[middle].0;
+        if number == item {
+            return Some(middle);
+        }
+        if number < item {
+            low = middle + 1;
+        } else {
+            high = middle;
+        }
+    }
+    None
+}
+
+/// Collects the item at a place.
+fn collect_entry(entries: &mut Vec<(ItemNo, Item)>, place: usize, f: Version)
+    requires within { place < length entries.old.items }
+    requires can { IfSome (slice_get entries.old.items place) (λ e. CanCollect f e.1) }
+    ensures { IfSome (slice_get entries.old.items place)
+        (λ e. entries.new.items ≡ slice_set entries.old.items place (e.0, collected f e.1)) }
+{
+    let entry = &mut entries[place];
+    entry.1.collect(f);
+}
+
+/// Puts the item in place of what the entries, whose numbers ascend, have of it.
+#[tactic(auto, using(crate::proofs::Halving::replacing))]
+fn replace(entries: &mut Vec<(ItemNo, Item)>, item: ItemNo, next: Item)
+    requires { IsAscending entries.old.items }
+    ensures { entries.new.items ≡ replaced item next entries.old.items }
+{
+    if let Some(place) = place(entries, item) {
+        entries[place] = (item, next);
+    }
+}
+
+/// What is there of an item, searched from end to end.
+fn find(entries: &[(ItemNo, Item)], item: ItemNo) -> Option<&Item>
+    ensures { option_copied result ≡ item_in item entries.now }
+{
+    for entry in entries {
+        if entry.0 == item {
+            return Some(&entry.1);
+        }
+    }
+    None
+}
+
+/// The place of an item, or the number of entries where it is not there, searched from end to end.
+fn staged_place(entries: &[(ItemNo, Item)], item: ItemNo) -> usize
+    ensures { result ≡ place_of item entries.now }
+{
+    for (i, entry) in entries.iter().enumerate() {
+        if entry.0 == item {
+            return i;
+        }
+    }
+    entries.len()
+}
+
+/// Puts the item in place of what is there of it, or at the end.
+#[tactic(auto, using(crate::proofs::Tables::placing))]
+fn put(entries: &mut Vec<(ItemNo, Item)>, item: ItemNo, next: Item) -> Result<(), NoMemory>
+    ensures ok { OnOk result (entries.new.items ≡ with_item item next entries.old.items) }
+    ensures err { OnErr result (entries.new.items ≡ entries.old.items) }
+{
+    let place = staged_place(entries, item);
+    if place < entries.len() {
+        entries[place] = (item, next);
+    } else {
+        entries.push((item, next))?;
+    }
+    Ok(())
+}
