@@ -1,3 +1,4 @@
 pub mod Tables
 pub mod Runs
 pub mod Counts
+pub mod Sample

@@ -1,0 +1,6 @@
+pub mod Bags
+pub mod Every
+pub mod Bridge
+pub mod Back
+pub mod Posts
+pub mod Sampled

@@ -1,0 +1,193 @@
+-- A letter that was sent and not taken waits.
+use Rattle.std.proofs.Common.{◌≡◌, ◌≢◌, ◌⊎◌, inl, inr, ℕ, ◌+◌, ◌<◌, ◌==◌, Bool, true, false, List, [], ◌∷◌, ◌++◌, length, refl, ap, sym, ◌∙◌, subst, arith, Option, Some, None, reverse}
+use Rattle.std.specs.Prelude.{if◌then◌else◌, slice_get}
+use Rattle.std.proofs.lemmas.Bool.Decides.{nat_tests}
+use Rattle.std.proofs.lemmas.List.{length-reverse, reverse-reverse}
+use Rattle.std.proofs.lemmas.Option.{slice_get_within}
+use Rattle.letter_types.specs.declared.entries.LetterId.{LetterId}
+use Rattle.letter_types.specs.declared.entries.Letter.{Letter}
+use Rattle.letter_types.specs.declared.entries.Outgoing.{Outgoing}
+use Rattle.letter_types.specs.declared.entries.Entry.{Entry}
+use Rattle.letter_types.specs.Letters.{go, same_id, find_id, drop_id, sealed, letters_of}
+use Rattle.tx_trees.specs.ScriptData.{ScriptData}
+use Rattle.world_model.specs.Tables.{start_node, start_client}
+use Rattle.world_model.specs.Runs.{client_of, WorldRun, node_table, coordinator_table, client_table, waiting, node_in, client_in, Moves, AtNode, AtCoordinator, AtClient, MayFollow, StepRun}
+use Rattle.world_model.proofs.Bridge.{reverse_more, slice_get_split, slice_get_last, slice_get_left, postal_less, run_less, node_after, client_after}
+
+find_left_at : (id : LetterId) (x : Letter) (xs ys : List Letter) (l : Letter) (b : Bool) → same_id id x.id ≡ b → find_id id (x ∷ xs) ≡ Some l
+    → (find_id id xs ≡ Some l → find_id id (xs ++ ys) ≡ Some l) → find_id id (x ∷ xs ++ ys) ≡ Some l
+find_left_at id x xs ys l true is at rest = grind arith
+find_left_at id x xs ys l false is at rest = grind arith
+
+find_left : (id : LetterId) (xs ys : List Letter) (l : Letter) → find_id id xs ≡ Some l → find_id id (xs ++ ys) ≡ Some l
+find_left id [] ys l at = absurd (grind arith)
+find_left id (x ∷ xs) ys l at = find_left_at id x xs ys l (same_id id x.id) refl at (find_left id xs ys l)
+
+find_right_at : (id : LetterId) (x : Letter) (xs ys : List Letter) (b : Bool) → same_id id x.id ≡ b → find_id id (x ∷ xs) ≡ None
+    → (find_id id xs ≡ None → find_id id (xs ++ ys) ≡ find_id id ys) → find_id id (x ∷ xs ++ ys) ≡ find_id id ys
+find_right_at id x xs ys true is none rest = absurd (grind arith)
+find_right_at id x xs ys false is none rest = grind arith
+
+find_right : (id : LetterId) (xs ys : List Letter) → find_id id xs ≡ None → find_id id (xs ++ ys) ≡ find_id id ys
+find_right id [] ys none = refl
+find_right id (x ∷ xs) ys none = find_right_at id x xs ys (same_id id x.id) refl none (find_right id xs ys)
+
+-- two ids that differ
+apart_from : (i j k : LetterId) → same_id i j ≡ false → same_id j k ≡ true → same_id i k ≡ false
+apart_from i j k ne eq = grind (arith, nat_tests)
+
+find_dropped_at : (id i : LetterId) (x : Letter) (xs : List Letter) → same_id id i ≡ false → (b : Bool) → same_id i x.id ≡ b
+    → find_id id (drop_id i xs) ≡ find_id id xs → find_id id (drop_id i (x ∷ xs)) ≡ find_id id (x ∷ xs)
+find_dropped_at id i x xs ne true is rest = let no : same_id id x.id ≡ false = apart_from id i x.id ne is in rw (is, no) refl
+find_dropped_at id i x xs ne false is rest = rw is (ap (λ (r : Option Letter). if same_id id x.id then Some x else r) rest)
+
+find_dropped : (id i : LetterId) (xs : List Letter) → same_id id i ≡ false → find_id id (drop_id i xs) ≡ find_id id xs
+find_dropped id i [] ne = refl
+find_dropped id i (x ∷ xs) ne = find_dropped_at id i x xs ne (same_id i x.id) refl (find_dropped id i xs ne)
+
+none_dropped_at : (id i : LetterId) (x : Letter) (xs : List Letter) (b : Bool) → same_id i x.id ≡ b → (c : Bool) → same_id id x.id ≡ c
+    → find_id id (x ∷ xs) ≡ None → (find_id id xs ≡ None → find_id id (drop_id i xs) ≡ None) → find_id id (drop_id i (x ∷ xs)) ≡ None
+none_dropped_at id i x xs b is true at none rest = absurd (grind arith)
+none_dropped_at id i x xs true is false at none rest = grind arith
+none_dropped_at id i x xs false is false at none rest = grind arith
+
+none_dropped : (id i : LetterId) (xs : List Letter) → find_id id xs ≡ None → find_id id (drop_id i xs) ≡ None
+none_dropped id i [] none = refl
+none_dropped id i (x ∷ xs) none = none_dropped_at id i x xs (same_id i x.id) refl (same_id id x.id) refl none (none_dropped id i xs)
+
+none_sealed : (id : LetterId) (stamp actor place : ℕ) (os : List Outgoing) → id.stamp.0 ≢ stamp → find_id id (sealed stamp actor place os) ≡ None
+none_sealed id stamp actor place [] ne = refl
+none_sealed id stamp actor place (o ∷ os) ne =
+    let no : same_id id (record { stamp = record { 0 = stamp }; place = place }) ≡ false = grind (arith, nat_tests) in
+    rw no (none_sealed id stamp actor (place + 1) os ne)
+
+sealed_stamp_at : (id : LetterId) (stamp actor place : ℕ) (os : List Outgoing) (l : Letter) → find_id id (sealed stamp actor place os) ≡ Some l
+    → (b : Bool) → (id.stamp.0 == stamp) ≡ b → id.stamp.0 ≡ stamp
+sealed_stamp_at id stamp actor place os l at true is = grind (arith, nat_tests)
+sealed_stamp_at id stamp actor place os l at false is =
+    let none : find_id id (sealed stamp actor place os) ≡ None = none_sealed id stamp actor place os (grind (arith, nat_tests)) in
+    absurd (grind arith)
+
+sealed_stamp : (id : LetterId) (stamp actor place : ℕ) (os : List Outgoing) (l : Letter) → find_id id (sealed stamp actor place os) ≡ Some l → id.stamp.0 ≡ stamp
+sealed_stamp id stamp actor place os l at = sealed_stamp_at id stamp actor place os l at (id.stamp.0 == stamp) refl
+
+-- a letter under way is no newer than the last entry
+none_newer : (s : ScriptData) (past : List Entry) (id : LetterId) → StepRun s past → length past < id.stamp.0 → find_id id (waiting s past) ≡ None
+none_newer s [] id run lt =
+    let no : same_id id (go (client_of s)).id ≡ false = grind (arith, nat_tests) in
+    rw no refl
+none_newer s (e ∷ past) id run lt =
+    let old = none_dropped id e.took.id (waiting s past) (none_newer s past id run.1 (omega arith)) in
+    let is : e.stamp.0 ≡ length past + 1 = run.0.stamp in
+    let new = none_sealed id e.stamp.0 e.actor.0 0 e.sent (omega arith) in
+    find_right id (drop_id e.took.id (waiting s past)) (letters_of e) old ∙ new
+
+-- sent by an entry of these, or Go
+abbrev pub SentIn : ScriptData → List Entry → Letter → Type 0
+SentIn s [] l = l ≡ go (client_of s)
+SentIn s (e ∷ past) l = (find_id l.id (letters_of e) ≡ Some l) ⊎ SentIn s past l
+
+-- no entry took one of this id
+abbrev pub NotTaken : List Entry → LetterId → Type 0
+NotTaken [] id = Unit {0}
+NotTaken (e ∷ past) id = (same_id id e.took.id ≡ false) × NotTaken past id
+
+same_self : (i : LetterId) → same_id i i ≡ true
+same_self i = grind (arith, nat_tests)
+
+present : (s : ScriptData) (past : List Entry) (l : Letter) → StepRun s past → SentIn s past l → NotTaken past l.id → find_id l.id (waiting s past) ≡ Some l
+present s [] l run sent free = subst (λ (m : Letter). find_id m.id (go (client_of s) ∷ []) ≡ Some m) (sym sent) refl
+present s (e ∷ past) l run (inl here) free =
+    let stamp : l.id.stamp.0 ≡ e.stamp.0 = sealed_stamp l.id e.stamp.0 e.actor.0 0 e.sent l here in
+    let is : e.stamp.0 ≡ length past + 1 = run.0.stamp in
+    let old = none_dropped l.id e.took.id (waiting s past) (none_newer s past l.id run.1 (omega arith)) in
+    find_right l.id (drop_id e.took.id (waiting s past)) (letters_of e) old ∙ here
+present s (e ∷ past) l run (inr older) free =
+    find_left l.id (drop_id e.took.id (waiting s past)) (letters_of e) l
+    (find_dropped l.id e.took.id (waiting s past) free.0 ∙ present s past l run.1 older free.1)
+
+go_sent : (s : ScriptData) (past : List Entry) → SentIn s past (go (client_of s))
+go_sent s [] = refl
+go_sent s (e ∷ past) = inr (go_sent s past)
+
+sent_at : (s : ScriptData) (past : List Entry) (j : ℕ) (f : Entry) (l : Letter) → slice_get (reverse past) j ≡ Some f → find_id l.id (letters_of f) ≡ Some l → SentIn s past l
+sent_at s [] j f l at found = absurd (grind arith)
+sent_at s (e ∷ past) j f l at found =
+    elim (slice_get_split (reverse past) e j f (rw (reverse_more e past) at at)) [
+      | inl p ↦ inr (sent_at s past j f l p.1 found)
+      | inr p ↦ inl (rw p.1 found)
+    ]
+
+same_is : (i j : LetterId) → same_id i j ≡ true → i ≡ j
+same_is i j is =
+    let a : i.stamp.0 ≡ j.stamp.0 = grind (arith, nat_tests) in
+    let b : i.place ≡ j.place = grind (arith, nat_tests) in
+    ap (λ (n : ℕ). record { stamp = record { 0 = n }; place = i.place }) a ∙ ap (λ (n : ℕ). record { stamp = j.stamp; place = n }) b
+
+id_apart_by : (i j : LetterId) → i ≢ j → (b : Bool) → same_id i j ≡ b → same_id i j ≡ false
+id_apart_by i j ne true is = absurd (ne (same_is i j is))
+id_apart_by i j ne false is = is
+
+not_taken : (past : List Entry) (id : LetterId) → ((j : ℕ) (f : Entry) → slice_get (reverse past) j ≡ Some f → f.took.id ≢ id) → NotTaken past id
+not_taken [] id free = tt
+not_taken (e ∷ past) id free =
+    let last : slice_get (reverse (e ∷ past)) (length (reverse past)) ≡ Some e = rw (reverse_more e past) (slice_get_last (reverse past) e) in
+    let ne : id ≢ e.took.id = λ is. free (length (reverse past)) e last (sym is) in (
+      id_apart_by id e.took.id ne (same_id id e.took.id) refl,
+      not_taken past id (λ j f at. free j f (rw (reverse_more e past) (slice_get_left (reverse past) (e ∷ []) j f at))),
+    )
+
+-- from where a letter came, of the last entry
+came_from : (s : ScriptData) (e : Entry) (past : List Entry) (k : ℕ)
+    → (e.took ≡ go (client_of s)) ⊎ ((j : ℕ) × (f : Entry) × (j < k) × (slice_get (reverse past ++ e ∷ []) j ≡ Some f) × (find_id e.took.id (letters_of f) ≡ Some e.took))
+    → k ≡ length (reverse past) → SentIn s past e.took
+came_from s e past k (inl is) at = rw is (go_sent s past)
+came_from s e past k (inr (j, f, lt, here, found)) at =
+    elim (slice_get_split (reverse past) e j f here) [
+      | inl p ↦ sent_at s past j f e.took p.1 found
+      | inr p ↦ absurd (omega arith)
+    ]
+
+same_test : (n : ℕ) → (n == n) ≡ true
+same_test n = grind (arith, nat_tests)
+
+moves_of : (s : ScriptData) (e : Entry) (past : List Entry) → WorldRun s (reverse (e ∷ past))
+    → (e.actor.0 < s.nodes) ⊎ ((e.actor.0 ≡ s.nodes) ⊎ (e.actor.0 ≡ client_of s)) → Moves s past e
+moves_of s e past world (inl node) =
+    AtNode node ((run_less (node_table s e.actor.0) (start_node s e.actor.0) e.actor.0 e past (node_in s past e.actor.0) (node_after s past e.actor.0) (world.nodes e.actor.0 node)).1 (same_test e.actor.0))
+moves_of s e past world (inr (inl at)) =
+    AtCoordinator at ((run_less coordinator_table (tt {0}) s.nodes e past (tt {0}) refl world.coordinator).1 (rw at (same_test s.nodes)))
+moves_of s e past world (inr (inr at)) =
+    AtClient at ((run_less (client_table s) start_client (client_of s) e past (client_in s past) (client_after s past) world.client).1 (rw at (same_test (client_of s))))
+
+who : (a n : ℕ) → a < n + 2 → (a < n) ⊎ ((a ≡ n) ⊎ (a ≡ n + 1))
+who a n lt = grind arith
+
+pub may_follow : (s : ScriptData) (e : Entry) (past : List Entry) → StepRun s past → WorldRun s (reverse (e ∷ past)) → MayFollow s past e
+may_follow s e past run world =
+    let last : slice_get (reverse past ++ e ∷ []) (length (reverse past)) ≡ Some e = slice_get_last (reverse past) e in
+    let post = rw (reverse_more e past) at world.postal in
+    record {
+      stamp = omega (arith, post.stamps (length (reverse past)) e last, length-reverse past);
+      waits = present s past e.took run (came_from s e past (length (reverse past)) (post.sent (length (reverse past)) e last) refl)
+          (not_taken past e.took.id (λ j f at. post.once j (length (reverse past)) f e (slice_get_within (reverse past) j f at) (slice_get_left (reverse past) (e ∷ []) j f at) last));
+      addressee = post.addressee (length (reverse past)) e last;
+      moves = moves_of s e past world (who e.actor.0 s.nodes (omega (arith, post.known (length (reverse past)) e last)));
+    }
+
+world_less : (s : ScriptData) (e : Entry) (past : List Entry) → WorldRun s (reverse (e ∷ past)) → WorldRun s (reverse past)
+world_less s e past world = record {
+  postal = postal_less s e (reverse past) (rw (reverse_more e past) at world.postal);
+  nodes = λ p lt. (run_less (node_table s p) (start_node s p) p e past (node_in s past p) (node_after s past p) (world.nodes p lt)).0;
+  coordinator = (run_less coordinator_table (tt {0}) s.nodes e past (tt {0}) refl world.coordinator).0;
+  client = (run_less (client_table s) start_client (client_of s) e past (client_in s past) (client_after s past) world.client).0;
+}
+
+pub step_run : (s : ScriptData) (past : List Entry) → WorldRun s (reverse past) → StepRun s past
+step_run s [] world = tt
+step_run s (e ∷ past) world =
+    let run = step_run s past (world_less s e past world) in
+    (may_follow s e past run world, run)
+
+pub steps : (s : ScriptData) (history : List Entry) → WorldRun s history → StepRun s (reverse history)
+steps s history world = step_run s (reverse history) (subst (λ h. WorldRun s h) (sym (reverse-reverse history)) world)

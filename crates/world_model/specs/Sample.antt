@@ -1,0 +1,48 @@
+-- A run of a small script, oldest letter first.
+use Rattle.std.specs.Prelude.{if◌then◌else◌, ℕ, pos, false, ◌==◌, ◌+◌, nat_lt, List, [], ◌∷◌, length, suc, zero}
+use Rattle.commute_ops.specs.declared.kinds.Kind.TheVariants.{Sum}
+use Rattle.commute_ops.specs.declared.kinds.Op.TheVariants.{Add}
+use Rattle.tx_trees.specs.ScriptData.{ScriptData}
+use Rattle.tx_trees.specs.declared.parts.Deed.TheVariants.{Apply}
+use Rattle.tx_trees.specs.declared.parts.ScriptRow.TheVariants.{Tree}
+use Rattle.tx_trees.specs.declared.parts.TreeKind.TheVariants.{Update}
+use Rattle.letter_types.specs.declared.entries.Letter.{Letter}
+use Rattle.letter_types.specs.declared.entries.Entry.{Entry}
+use Rattle.world_model.specs.Tables.{Out}
+use Rattle.world_model.specs.Runs.{waiting, node_in, client_in, node_table, client_table, coordinator_table}
+
+-- an actor takes a letter, and its table says this
+abbrev pub entry_by : {St : Type 0} → List Entry → Letter → Out St → Entry
+entry_by past l out = record { stamp = record { 0 = length past + 1 }; actor = l.to; took = l; sent = out.sent; acts = out.acts }
+
+abbrev pub entry_of : ScriptData → List Entry → Letter → Entry
+entry_of s past l =
+    if nat_lt l.to.0 s.nodes then entry_by past l (node_table s l.to.0 (node_in s past l.to.0) l)
+    else if l.to.0 == s.nodes then entry_by past l (coordinator_table (tt {0}) l)
+    else entry_by past l (client_table s (client_in s past) l)
+
+abbrev pub next_of : ScriptData → List Entry → List Letter → List Entry
+next_of s past [] = past
+next_of s past (l ∷ ls) = entry_of s past l ∷ past
+
+-- the past after so many letters, or after all
+abbrev pub sample : ScriptData → ℕ → List Entry
+sample s zero = []
+sample s (suc n) = next_of s (sample s n) (waiting s (sample s n))
+
+-- item a at node 0 with 10 and item b at node 1 with 0; one tree adds 5 to a and sends a child, which adds 7 to b
+abbrev pub small : ScriptData
+small = record {
+  nodes = 2;
+  items = record { name = 97 ∷ []; node = record { 0 = 0 }; kind = Sum; initial = pos 10 }
+      ∷ record { name = 98 ∷ []; node = record { 0 = 1 }; kind = Sum; initial = pos 0 } ∷ [];
+  trees = record {
+    name = 116 ∷ [];
+    kind = Update;
+    subs = record { parent = record { 0 = 0 }; node = record { 0 = 0 }; ops = record { item = record { 0 = 0 }; deed = Apply (Add (pos 5)) } ∷ [] }
+        ∷ record { parent = record { 0 = 0 }; node = record { 0 = 1 }; ops = record { item = record { 0 = 1 }; deed = Apply (Add (pos 7)) } ∷ [] } ∷ [];
+  } ∷ [];
+  rows = Tree (record { 0 = 0 }) ∷ [];
+  picks = [];
+  begun = false;
+}
