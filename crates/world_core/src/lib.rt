@@ -2,7 +2,7 @@
 #![tactic(auto)]
 
 mod letters;
-// mod node;
+mod node;
 // mod client;
 // mod world;
 
