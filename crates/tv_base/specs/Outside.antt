@@ -13,7 +13,17 @@ one_more n = min (n + 1) (2 ^ 64 - 1)
 
 -- a count went up, or stood at its type's end
 abbrev pub Rose : ℕ → ℕ → Type 0
-Rose before now = min (before + 1) (2 ^ 64 - 1) ≤ now
+Rose before now = one_more before ≤ now
+
+-- the count of faults after a step: one more exactly where the step failed
+abbrev pub faults_after_read : ℕ → ReadStep → ℕ
+faults_after_read n (reads.Got _) = n
+faults_after_read n reads.End = n
+faults_after_read n reads.Failed = one_more n
+
+abbrev pub faults_after_write : ℕ → WriteStep → ℕ
+faults_after_write n (writes.Took _) = n
+faults_after_write n writes.Failed = one_more n
 
 -- one read: the bytes that were next, the end, or nothing
 abbrev pub Reads : Option (List ℕ) → Option (List ℕ) → ReadStep → List ℕ → Type 0

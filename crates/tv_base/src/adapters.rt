@@ -1,5 +1,6 @@
 // A source over any reader, and a sink over any writer.
-ghost use Rattle.std.specs.Prelude.{◌≡◌};
+ghost use Rattle.std.specs.Prelude.{◌≡◌, ◌<◌, ◌≤◌, length};
+ghost use Rattle.tv_base.specs.Outside.{Reads, Rose, Writes, faults_after_read, faults_after_write};
 
 use crate::outside::{ReadStep, Sink, Source, WriteStep};
 use std::io::{Read, Write};
@@ -19,6 +20,13 @@ impl<R> ReaderSource<R> {
     {
         ReaderSource { inner, faults: 0 }
     }
+
+    /// How many reads have failed.
+    pub fn faults(&self) -> u64
+        ensures { result ≡ self.now.faults }
+    {
+        self.faults
+    }
 }
 
 impl<R: Read> Source for ReaderSource<R> {
@@ -27,7 +35,13 @@ impl<R: Read> Source for ReaderSource<R> {
     ghost faults = { λ s. s.faults };
 
     /// One read of the reader. No byte is the end, and an error a fault.
-    fn read(&mut self, buf: &mut [u8]) -> ReadStep {
+    fn read(&mut self, buf: &mut [u8]) -> ReadStep
+        requires { 0 < length buf.old }
+        ensures step { Reads (R.remaining self.old.inner) (R.remaining self.new.inner) result buf.new }
+        ensures later { self.old.faults ≤ self.new.faults }
+        ensures cause { result ≡ ReadStep.Failed → Rose self.old.faults self.new.faults }
+        ensures counts { self.new.faults ≡ faults_after_read self.old.faults result }
+    {
         match self.inner.read(buf) {
             Ok(0) => ReadStep::End,
             Ok(count) => ReadStep::Got(count),
@@ -54,6 +68,13 @@ impl<W> WriterSink<W> {
     {
         WriterSink { inner, faults: 0 }
     }
+
+    /// How many writes have failed.
+    pub fn faults(&self) -> u64
+        ensures { result ≡ self.now.faults }
+    {
+        self.faults
+    }
 }
 
 impl<W: Write> Sink for WriterSink<W> {
@@ -62,14 +83,16 @@ impl<W: Write> Sink for WriterSink<W> {
     ghost faults = { λ s. s.faults };
 
     /// One write to the writer. An error, or a write of no byte, is a fault.
-    fn write(&mut self, piece: &[u8]) -> WriteStep {
+    fn write(&mut self, piece: &[u8]) -> WriteStep
+        requires { 0 < length piece.now }
+        ensures step { Writes (W.contents self.old.inner) (W.contents self.new.inner) result piece.now }
+        ensures later { self.old.faults ≤ self.new.faults }
+        ensures cause { result ≡ WriteStep.Failed → Rose self.old.faults self.new.faults }
+        ensures counts { self.new.faults ≡ faults_after_write self.old.faults result }
+    {
         match self.inner.write(piece) {
-            Ok(0) => {
-                self.faults = self.faults.saturating_add(1);
-                WriteStep::Failed
-            }
-            Ok(count) => WriteStep::Took(count),
-            Err(_) => {
+            Ok(count) if count > 0 => WriteStep::Took(count),
+            Ok(_) | Err(_) => {
                 self.faults = self.faults.saturating_add(1);
                 WriteStep::Failed
             }
