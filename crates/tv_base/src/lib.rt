@@ -1,12 +1,23 @@
 //! The numbers, lists and names that every other crate speaks of, and the outside: sources, sinks and gates.
 #![tactic(auto)]
 
+mod adapters;
+mod memory;
+mod moving;
 mod name;
 mod numbers;
+mod outside;
 mod seq;
 mod text;
 
+pub use adapters::{ReaderSource, WriterSink};
+pub use memory::{MemSink, MemSource};
+pub use moving::{MOST_BYTES, ReadEnd, WriteFailed, read_all, write_all};
 pub use name::Name;
 pub use numbers::{ActorNo, ItemNo, NoMemory, NodeNo, Stamp, SubNo, TreeNo, Version};
+pub use outside::{Gate, NoGate, ReadStep, Sink, Source, WriteStep};
 pub use seq::Seq;
 pub use text::Text;
+
+#[cfg(test)]
+mod tests;

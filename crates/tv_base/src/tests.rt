@@ -1,0 +1,166 @@
+use super::*;
+use std::io;
+use std::io::{Read, Write};
+use std::test::Fail;
+
+// A reader that gives one byte and then only fails.
+#[derive(Drop)]
+struct OneByte {
+    given: bool,
+}
+
+impl Read for OneByte {
+    fn read(&mut self, buf: &mut [u8]) -> io::Result<usize> {
+        if self.given || buf.is_empty() {
+            return Err(io::ErrorKind::Other.into());
+        }
+        self.given = true;
+        buf[0] = b'a';
+        Ok(1)
+    }
+}
+
+// A writer that takes nothing, with no error.
+#[derive(Drop)]
+struct Full;
+
+impl Write for Full {
+    fn write(&mut self, _buf: &[u8]) -> io::Result<usize> {
+        Ok(0)
+    }
+
+    fn flush(&mut self) -> io::Result<()> {
+        Ok(())
+    }
+}
+
+#[test]
+fn a_source_gives_pieces_and_fails_where_listed(rt: HostRuntime) -> Result<(), Fail> {
+    let alloc = rt.alloc();
+    let mut source = MemSource::new(b"abcde".to_vec(alloc)?, 3, [2, 5].to_vec(alloc)?);
+    let mut buf = [0; 4];
+    for (call, want) in [
+        (1, ReadStep::Got(3)),
+        (2, ReadStep::Failed),
+        (3, ReadStep::Got(2)),
+        (4, ReadStep::End),
+        (5, ReadStep::Failed),
+        (6, ReadStep::End),
+    ] {
+        assert_eq!(rt; source.read(&mut buf), want, "at call {call}");
+    }
+    assert_eq!(rt; buf[..3], b"dec"[..]);
+    assert_eq!(rt; (source.calls(), source.faults()), (6, 2));
+    Ok(())
+}
+
+#[test]
+fn a_sink_takes_pieces_and_fails_where_listed_and_full(rt: HostRuntime) -> Result<(), Fail> {
+    let alloc = rt.alloc();
+    let mut sink = MemSink::new(alloc, 5, 3, [2].to_vec(alloc)?)?;
+    for (call, want) in [
+        (1, WriteStep::Took(3)),
+        (2, WriteStep::Failed),
+        (3, WriteStep::Took(2)),
+        (4, WriteStep::Failed),
+    ] {
+        assert_eq!(rt; sink.write(b"vwxyz"), want, "at call {call}");
+    }
+    assert_eq!(rt; sink.bytes(), b"vwxvw".as_slice());
+    assert_eq!(rt; (sink.calls(), sink.faults()), (4, 2));
+    Ok(())
+}
+
+#[test]
+fn all_is_read_and_written(rt: HostRuntime) -> Result<(), Fail> {
+    let alloc = rt.alloc();
+    let mut source = MemSource::new(b"abcdefg".to_vec(alloc)?, 3, Vec::new(alloc));
+    let bytes = read_all(alloc, &mut source)?;
+    assert_eq!(rt; bytes.as_slice(), b"abcdefg".as_slice());
+    let mut sink = MemSink::new(alloc, 7, 2, Vec::new(alloc))?;
+    write_all(&mut sink, &bytes)?;
+    assert_eq!(rt; sink.bytes(), b"abcdefg".as_slice());
+    Ok(())
+}
+
+#[test]
+fn a_fault_ends_the_moving(rt: HostRuntime) -> Result<(), Fail> {
+    let alloc = rt.alloc();
+    let mut source = MemSource::new(b"abcdefg".to_vec(alloc)?, 3, [2].to_vec(alloc)?);
+    assert_eq!(rt; read_all(alloc, &mut source).err(), Some(ReadEnd::Failed));
+    let mut sink = MemSink::new(alloc, 100, 4, [2].to_vec(alloc)?)?;
+    assert_eq!(rt; write_all(&mut sink, b"abcdefg"), Err(WriteFailed));
+    assert_eq!(rt; sink.bytes(), b"abcd".as_slice());
+    Ok(())
+}
+
+#[test]
+fn a_reader_is_a_source(rt: HostRuntime) -> Result<(), Fail> {
+    let alloc = rt.alloc();
+    let mut source = ReaderSource::new(b"abc".as_slice());
+    assert_eq!(rt; read_all(alloc, &mut source)?.as_slice(), b"abc".as_slice());
+    assert_eq!(rt; source.faults(), 0);
+    let mut failing = ReaderSource::new(OneByte { given: false });
+    assert_eq!(rt; read_all(alloc, &mut failing).err(), Some(ReadEnd::Failed));
+    assert_eq!(rt; failing.faults(), 1);
+    Ok(())
+}
+
+#[test]
+fn a_writer_is_a_sink(rt: HostRuntime) -> Result<(), Fail> {
+    let alloc = rt.alloc();
+    let mut bytes = Vec::new(alloc);
+    let mut sink = WriterSink::new(&mut bytes);
+    write_all(&mut sink, b"abc")?;
+    assert_eq!(rt; sink.faults(), 0);
+    assert_eq!(rt; bytes.as_slice(), b"abc".as_slice());
+    let mut full = WriterSink::new(Full);
+    assert_eq!(rt; write_all(&mut full, b"abc"), Err(WriteFailed));
+    assert_eq!(rt; full.faults(), 1);
+    Ok(())
+}
+
+#[test]
+fn names_have_up_to_32_bytes(rt: HostRuntime) -> Result<(), Fail> {
+    let bytes = b"abcdefghijklmnopqrstuvwxyz0123456";
+    for (len, fits) in [(0, false), (1, true), (32, true), (33, false)] {
+        let front = bytes.get(..len).ok_or("a length")?;
+        let name = Name::new(front);
+        assert_eq!(rt; name.is_some(), fits, "at {len} bytes");
+        if let Some(name) = name {
+            assert_eq!(rt; name.bytes(), front);
+        }
+    }
+    NoGate.hold(ActorNo(3));
+    Ok(())
+}
+
+#[test]
+fn lists_grow_at_the_end(rt: HostRuntime) -> Result<(), Fail> {
+    let alloc = rt.alloc();
+    let mut seq: Seq<u8, 3> = Seq::new(alloc);
+    for one in [5, 6, 7] {
+        seq.push(one)?;
+    }
+    assert_eq!(rt; seq.push(8), Err((NoMemory, 8)));
+    assert_eq!(rt; seq.take_first(), Some(5));
+    if seq.items().len() == 2 {
+        assert_eq!(rt; seq.put(0, 9), 6);
+    }
+    assert_eq!(rt; seq.items(), [9, 7].as_slice());
+    assert_eq!(rt; (seq.pop(), seq.pop(), seq.pop()), (Some(7), Some(9), None));
+    assert_eq!(rt; seq.take_first(), None);
+    Ok(())
+}
+
+#[test]
+fn texts_grow_at_the_end(rt: HostRuntime) -> Result<(), Fail> {
+    let alloc = rt.alloc();
+    let mut text = Text::new(alloc);
+    text.push(b'a')?;
+    text.push_all(b"bc")?;
+    assert_eq!(rt; text.bytes(), b"abc".as_slice());
+    assert_eq!(rt; text.take_first(), Some(b'a'));
+    assert_eq!(rt; text.items(), b"bc".as_slice());
+    Ok(())
+}
