@@ -7,7 +7,12 @@ use Rattle.tx_trees.specs.declared.parts.Sub.{Sub}
 use Rattle.letter_types.specs.declared.acts.Act.{Act}
 use Rattle.letter_types.specs.declared.acts.Act.TheVariants.{Born, Did}
 use Rattle.letter_types.specs.declared.entries.Outgoing.{Outgoing}
-use Rattle.world_model.specs.Tables.{sub_letters, turned_if}
+use Rattle.letter_types.specs.declared.entries.StepOut.{StepOut}
+use Rattle.world_model.specs.Tables.{Out, sub_letters, turned_if}
+
+-- a state and what goes out, as a table's row
+abbrev pub made : {St : Type 0} → St → StepOut → Out St
+made st out = record { state = st; sent = out.sent; acts = out.acts }
 
 abbrev pub items_after : Option Table → Table → Table
 items_after None old = old

@@ -2,8 +2,9 @@
 #![tactic(auto)]
 
 mod letters;
+mod lookups;
 mod node;
-// mod client;
+mod client;
 // mod world;
 
 // pub use client::Client;

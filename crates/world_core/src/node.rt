@@ -3,19 +3,21 @@ ghost use Rattle.std.specs.Prelude.{◌≡◌, ◌<◌, ◌+◌, ◌^◌, ◌++�
 ghost use Rattle.std.specs.List.{AllByRecursion};
 ghost use Rattle.commute_ops.specs.Ops.{start};
 ghost use Rattle.tx_trees.specs.Valid.{IsItem};
-ghost use Rattle.world_model.specs.Tables.{touched_by, items_at, sub_letters, turned_if, root_step, sub_step, node_row, start_node};
+ghost use Rattle.letter_types.specs.declared.bodies.Body.TheVariants.{Root as RootLetter, Sub as SubLetter};
+ghost use Rattle.world_model.specs.Tables.{touched_by, items_at, node_row, start_node};
 ghost use Rattle.item_versions.specs.Table.{pending};
-ghost use Rattle.world_core.specs.Parts.{items_after, sent_after, root_acts, turns_after, sub_acts};
+ghost use Rattle.world_core.specs.Parts.{made, items_after, sent_after, root_acts, turns_after, sub_acts};
 
 use crate::letters;
+use crate::lookups;
 use commute_ops::{Kind, Value};
 use item_versions::{ItemTable, Staged};
-use letter_types::{Body, Letter, Step};
+use letter_types::{Body, Step};
 use node_versions::Turns;
 use std::alloc::Global;
 use std::marker::Model;
-use tv_base::{ItemNo, NoMemory, NodeNo, SubNo, TreeNo, Version};
-use tx_trees::{Deed, ItemRow, Sub, SubOp, Tree, TreeKind};
+use tv_base::{ActorNo, ItemNo, NoMemory, NodeNo, SubNo, TreeNo, Version};
+use tx_trees::{Deed, ItemRow, Script, Sub, SubOp};
 
 /// A node's state (docs/ALGORITHM.md, "Nodes").
 #[derive(Drop)]
@@ -132,5 +134,117 @@ fn run_sub(
             items.put_staged(staged);
             Ok(step)
         }
+    }
+}
+
+impl NodeState {
+    /// Node `node` as a run of the script begins: the first versions, and each of its items in version 0 with its
+    /// initial value.
+    pub fn start(alloc: Global, script: &Script, node: NodeNo) -> Result<NodeState, NoMemory>
+        ensures { IfOk result (λ n. n ≡ start_node script.now node.0) }
+    {
+        let nodes = script.nodes();
+        let items = items_at(alloc, node, nodes, script.items())?;
+        Ok(NodeState {
+            turns: Turns::start(),
+            items,
+        })
+    }
+
+    /// The node's versions.
+    pub fn turns(&self) -> &Turns
+        ensures { result.now ≡ self.now.turns }
+    {
+        &self.turns
+    }
+
+    /// The node's items, by number.
+    pub fn items(&self) -> &ItemTable
+        ensures { result.now ≡ self.now.items }
+    {
+        &self.items
+    }
+
+    /// What node `node` does with a letter of this sender and body: its row of the node's table. After want of
+    /// memory the node is as it was.
+    pub(crate) fn step(
+        &mut self,
+        alloc: Global,
+        script: &Script,
+        node: NodeNo,
+        from: ActorNo,
+        body: &Body,
+    ) -> Result<Step, NoMemory>
+        requires { node.0 < script.now.nodes }
+        ensures row { IfOk result (λ step. made self.new step.given ≡ node_row script.now node.0 self.old from.0 body.now) }
+        ensures kept { IfOk result (λ step. step.kept ≡ step.given) }
+        ensures err { OnErr result (self.new ≡ self.old) }
+    {
+        match body {
+            Body::Root { tree } => self.on_root(alloc, script, node, from, *tree),
+            Body::Sub { tree, sub, version } => {
+                self.on_sub(alloc, script, node, from, *tree, *sub, *version)
+            }
+            _ => Ok(letters::still(alloc)),
+        }
+    }
+
+    /// The row of Root.
+    fn on_root(
+        &mut self,
+        alloc: Global,
+        script: &Script,
+        node: NodeNo,
+        from: ActorNo,
+        tree: TreeNo,
+    ) -> Result<Step, NoMemory>
+        requires { node.0 < script.now.nodes }
+        ensures row { IfOk result (λ step. made self.new step.given ≡ node_row script.now node.0 self.old from.0 (RootLetter tree)) }
+        ensures kept { IfOk result (λ step. step.kept ≡ step.given) }
+        ensures err { OnErr result (self.new ≡ self.old) }
+    {
+        let subs = lookups::subs_at(script, tree);
+        let Some(root) = subs.first() else {
+            return Ok(letters::still(alloc));
+        };
+        if root.node != node || !lookups::updates(script, tree) {
+            return Ok(letters::still(alloc));
+        }
+        run_root(alloc, &mut self.items, tree, self.turns.update, root, subs)
+    }
+
+    /// The row of Sub.
+    fn on_sub(
+        &mut self,
+        alloc: Global,
+        script: &Script,
+        node: NodeNo,
+        from: ActorNo,
+        tree: TreeNo,
+        sub: SubNo,
+        version: Version,
+    ) -> Result<Step, NoMemory>
+        requires { node.0 < script.now.nodes }
+        ensures row { IfOk result (λ step. made self.new step.given ≡ node_row script.now node.0 self.old from.0 (SubLetter tree sub version)) }
+        ensures kept { IfOk result (λ step. step.kept ≡ step.given) }
+        ensures err { OnErr result (self.new ≡ self.old) }
+    {
+        let subs = lookups::subs_at(script, tree);
+        let Some(found) = lookups::find_sub(subs, sub) else {
+            return Ok(letters::still(alloc));
+        };
+        if found.node != node || !lookups::updates(script, tree) || from.0 >= script.nodes() {
+            return Ok(letters::still(alloc));
+        }
+        run_sub(
+            alloc,
+            &mut self.turns,
+            &mut self.items,
+            tree,
+            sub,
+            version,
+            found,
+            subs,
+        )
     }
 }
