@@ -1,3 +1,9 @@
 pub mod Values
 pub mod Tables
 pub mod Loads
+pub mod Scripts
+pub mod Sent
+pub mod Fits
+pub mod Steps
+pub mod Counts
+pub mod Goods

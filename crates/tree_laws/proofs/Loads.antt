@@ -49,7 +49,7 @@ subs_same : (a b : ℕ → ℕ) (x k : ℕ) (ss : List Sub) → ((j : ℕ) → k
 subs_same a b x k [] same = refl
 subs_same a b x k (s ∷ ss) same = rw (same k (omega arith), subs_same a b x (k + 1) ss (λ j le. same j (omega arith))) refl
 
-trees_same : (a b : ℕ → ℕ → ℕ) (x t : ℕ) (ts : List Tree) → ((u j : ℕ) → t ≤ u → a u j ≡ b u j) → trees_done a x t ts ≡ trees_done b x t ts
+pub trees_same : (a b : ℕ → ℕ → ℕ) (x t : ℕ) (ts : List Tree) → ((u j : ℕ) → t ≤ u → a u j ≡ b u j) → trees_done a x t ts ≡ trees_done b x t ts
 trees_same a b x t [] same = refl
 trees_same a b x t (tree ∷ ts) same =
     omega (arith, subs_same (a t) (b t) x 0 tree.subs (λ j le. same t j (omega arith)), trees_same a b x (t + 1) ts (λ u j le. same u j (omega arith)))

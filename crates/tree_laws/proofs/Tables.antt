@@ -1,5 +1,5 @@
 -- The items of a node keep to their bounds, and operations that fit may be applied to them.
-use Rattle.std.proofs.Common.{◌≡◌, ℕ, ◌+◌, ◌≤◌, ◌==◌, Bool, true, false, List, [], ◌∷◌, refl, sym, ap, subst, ◌∙◌, arith, Option, Some, None}
+use Rattle.std.proofs.Common.{◌≡◌, ◌≢◌, zero, suc, ◌<◌, ℕ, ◌+◌, ◌≤◌, ◌==◌, Bool, true, false, List, [], ◌∷◌, refl, sym, ap, subst, ◌∙◌, arith, Option, Some, None}
 use Rattle.std.specs.Prelude.{IsTrue, if◌then◌else◌, slice_get, unsigned_abs}
 use Rattle.std.specs.List.{AllByRecursion}
 use Rattle.std.proofs.lemmas.Bool.Decides.{nat_tests}
@@ -19,7 +19,7 @@ use Rattle.tx_trees.specs.declared.parts.ItemRow.{ItemRow}
 use Rattle.tx_trees.specs.declared.parts.SubOp.{SubOp}
 use Rattle.tx_trees.specs.declared.parts.TreeKind.TheVariants as trees
 use Rattle.world_model.specs.Tables.{items_at, touched_by, touched_by_deed}
-use Rattle.tree_laws.proofs.Values.{HeldIn, held_may, touched_held, start_value}
+use Rattle.tree_laws.proofs.Values.{HeldIn, held_more, held_may, touched_held, start_value, value_more}
 
 -- the item is there, and its values keep to the bound
 abbrev pub ItemIn : Kind → ℕ → Option Held → Type 0
@@ -62,9 +62,6 @@ SomeTableIn rows p bound (Some items) = TableIn rows p bound items
 
 same_row : (x y : ItemRow) → Some x ≡ Some y → x ≡ y
 same_row x y is = cc is
-
-is_true : {b : Bool} → IsTrue b → b ≡ true
-is_true sure = grind arith
 
 put_same : (n : ItemNo) (items : Table) (g h : Held) (kind : Kind) (b x : ℕ) → n.0 ≡ x → item_in n items ≡ Some g → HeldIn kind b h
     → ItemIn kind b (item_in (record { 0 = x }) (replaced n h items))
@@ -114,7 +111,7 @@ one_of : (rows : List ItemRow) (p : ℕ) (bound : ℕ → ℕ) (v : Version) (o 
     → slice_get rows o.item.0 ≡ found → OpAt trees.Update p o found → bound o.item.0 + magnitude o.deed ≤ MOST_AMOUNT → TableIn rows p bound items
     → SomeTableIn rows p (bound_after bound o.item.0 (magnitude o.deed)) (touched_by_deed v o.item o.deed items)
 one_of rows p bound v o items None at is_op most all = absurd is_op
-one_of rows p bound v o items (Some r) at is_op most all = one_deed rows p bound v o.item o.deed items r at is_op.0 (is_true is_op.1) most all
+one_of rows p bound v o items (Some r) at is_op most all = one_deed rows p bound v o.item o.deed items r at is_op.0 is_op.1 most all
 
 -- Operations in order.
 
@@ -122,7 +119,14 @@ one_of rows p bound v o items (Some r) at is_op most all = one_deed rows p bound
 abbrev pub bounds_after : (ℕ → ℕ) → List SubOp → ℕ → ℕ
 bounds_after bound os x = bound x + ops_load x os
 
--- items of a node, with greater bounds or the same
+item_more : (kind : Kind) (b c : ℕ) (found : Option Held) → b ≤ c → ItemIn kind b found → ItemIn kind c found
+item_more kind b c None le ok = ok
+item_more kind b c (Some h) le ok = held_more kind b c h le ok
+
+-- greater bounds
+pub table_more : (rows : List ItemRow) (p : ℕ) (a b : ℕ → ℕ) (items : Table) → ((x : ℕ) (r : ItemRow) → slice_get rows x ≡ Some r → a x ≤ b x) → TableIn rows p a items → TableIn rows p b items
+table_more rows p a b items more all = λ x r at node. item_more r.kind (a x) (b x) (item_in (record { 0 = x }) items) (more x r at) (all x r at node)
+
 table_same : (rows : List ItemRow) (p : ℕ) (a b : ℕ → ℕ) (found : Option Table) → ((x : ℕ) → a x ≡ b x) → SomeTableIn rows p a found → SomeTableIn rows p b found
 table_same rows p a b None same all = all
 table_same rows p a b (Some items) same all = λ x r at node. subst (λ (n : ℕ). ItemIn r.kind n (item_in (record { 0 = x }) items)) (same x) (all x r at node)
@@ -153,3 +157,34 @@ touched_table rows p bound v (o ∷ os) items ops most all =
     rest_of rows p bound v o os (touched_by_deed v o.item o.deed items)
       (one_of rows p bound v o items (slice_get rows o.item.0) refl ops.0 (first_load rows p bound o os (slice_get rows o.item.0) refl ops.0 most) all)
       (λ more good. touched_table rows p (bound_after bound o.item.0 (magnitude o.deed)) v os more ops.1 (λ x r at. omega (arith, most x r at)) good)
+
+-- At the start.
+other_node : (n p : ℕ) → (n == p) ≡ false → n ≢ p
+other_node n p is = grind (arith, nat_tests)
+
+start_same_at : (p i x : ℕ) (bound : ℕ → ℕ) (r q : ItemRow) (rows : List ItemRow) → r ≡ q → q.node.0 ≡ p → i ≡ x → unsigned_abs q.initial ≤ bound x
+    → (test : Bool) → (r.node.0 == p) ≡ test → ItemIn q.kind (bound x) (item_in (record { 0 = x }) (items_at p i (r ∷ rows)))
+start_same_at p i x bound r q rows rq node ix most true is =
+    let here : (i == x) ≡ true = grind (arith, nat_tests) in
+    let good : HeldIn q.kind (bound x) ((record { 0 = 0 }, start q.kind q.initial) ∷ []) = (value_more q.kind (unsigned_abs q.initial) (bound x) (start q.kind q.initial) most (start_value q.kind q.initial), tt) in
+    rw is (rw here (subst (λ (z : ItemRow). HeldIn q.kind (bound x) ((record { 0 = 0 }, start z.kind z.initial) ∷ [])) (sym rq) good))
+start_same_at p i x bound r q rows rq node ix most false is =
+    let at : r.node.0 ≡ p = ap (λ (z : ItemRow). z.node.0) rq ∙ node in
+    absurd (omega (arith, other_node r.node.0 p is))
+
+start_later_at : (p i x : ℕ) (r : ItemRow) (rows : List ItemRow) → i < x → (test : Bool) → (r.node.0 == p) ≡ test
+    → item_in (record { 0 = x }) (items_at p i (r ∷ rows)) ≡ item_in (record { 0 = x }) (items_at p (i + 1) rows)
+start_later_at p i x r rows lt true is = let differs : (i == x) ≡ false = grind (arith, nat_tests) in rw is (rw differs refl)
+start_later_at p i x r rows lt false is = rw is refl
+
+start_from : (p i x n : ℕ) (bound : ℕ → ℕ) (q : ItemRow) (rows : List ItemRow) → slice_get rows n ≡ Some q → q.node.0 ≡ p → x ≡ i + n → unsigned_abs q.initial ≤ bound x
+    → ItemIn q.kind (bound x) (item_in (record { 0 = x }) (items_at p i rows))
+start_from p i x n bound q [] at node is most = absurd (cc at)
+start_from p i x zero bound q (r ∷ rows) at node is most = start_same_at p i x bound r q rows (cc at) node (omega arith) most (r.node.0 == p) refl
+start_from p i x (suc n) bound q (r ∷ rows) at node is most =
+    rw (start_later_at p i x r rows (omega arith) (r.node.0 == p) refl) (start_from p (i + 1) x n bound q rows at node (omega arith) most)
+
+-- each item of a node has its initial value
+pub start_table : (rows : List ItemRow) (p : ℕ) (bound : ℕ → ℕ) → ((x : ℕ) (r : ItemRow) → slice_get rows x ≡ Some r → unsigned_abs r.initial ≤ bound x)
+    → TableIn rows p bound (items_at p 0 rows)
+start_table rows p bound most = λ x r at node. start_from p 0 x x bound r rows at node (omega arith) (most x r at)

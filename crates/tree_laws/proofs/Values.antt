@@ -159,3 +159,7 @@ touched_held kind op b v (x ∷ xs) fit all =
         (all_more kind b more (below v (x ∷ xs)) (omega arith) (filter_in kind b (λ y. nat_lt y.0.0 v.0) (x ∷ xs) all))
         (applied_value kind op b (seen_after x.1 v xs) fit (seen_in kind b v x.1 xs all.0 all.1),
          applied_in kind op b (above v (x ∷ xs)) fit (filter_in kind b (λ y. nat_lt v.0 y.0.0) (x ∷ xs) all)))
+
+pub held_more : (kind : Kind) (b c : ℕ) (h : Held) → b ≤ c → HeldIn kind b h → HeldIn kind c h
+held_more kind b c [] le all = all
+held_more kind b c (x ∷ xs) le all = all_more kind b c (x ∷ xs) le all
