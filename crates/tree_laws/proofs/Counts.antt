@@ -1,38 +1,25 @@
 -- In every run what is asked for is done, and once.
-use Rattle.std.proofs.Common.{◌≡◌, ◌≢◌, ◌⊎◌, inl, inr, ℕ, zero, suc, ◌+◌, ◌<◌, ◌≤◌, ◌==◌, ◌&&◌, Bool, true, false, List, [], ◌∷◌, ◌++◌, length, refl, sym, ap, subst, ◌∙◌, arith, Option, Some, None}
-use Rattle.std.specs.Prelude.{if◌then◌else◌, slice_get, drop, unsigned_abs}
+use Rattle.std.proofs.Common.{◌≡◌, ◌⊎◌, inl, inr, ℕ, zero, suc, ◌+◌, ◌<◌, ◌≤◌, ◌==◌, ◌&&◌, Bool, true, false, List, length, refl, sym, subst, arith, Some}
+use Rattle.std.specs.Prelude.{slice_get}
 use Rattle.std.proofs.lemmas.Bool.Decides.{nat_tests}
-use Rattle.tv_base.specs.declared.numbers.Version.{Version}
 use Rattle.commute_ops.specs.declared.kinds.TheConstants.{MOST_AMOUNT}
-use Rattle.letter_types.specs.declared.acts.Act.{Act}
-use Rattle.letter_types.specs.declared.bodies.Body.{Body}
-use Rattle.letter_types.specs.declared.bodies.Body.TheVariants.{Go}
 use Rattle.letter_types.specs.declared.entries.Entry.{Entry}
 use Rattle.letter_types.specs.declared.entries.Letter.{Letter}
-use Rattle.letter_types.specs.declared.entries.LetterId.{LetterId}
-use Rattle.letter_types.specs.declared.entries.Outgoing.{Outgoing}
-use Rattle.letter_types.specs.Letters.{find_id, drop_id, letters_of}
-use Rattle.tx_trees.specs.ScriptData.{ScriptData, subs_at, node_of, home_of, ops_of, updates}
+use Rattle.tx_trees.specs.ScriptData.{ScriptData, node_of, ops_of}
 use Rattle.tx_trees.specs.declared.parts.TreeKind.TheVariants as trees
 use Rattle.std.specs.List.{AllByRecursion}
-use Rattle.tx_trees.specs.Valid.{IsOp, initial_load, ops_load, trees_load, load}
+use Rattle.tx_trees.specs.Valid.{IsOp, initial_load, ops_load, trees_load}
 use Rattle.tx_trees.specs.declared.parts.ItemRow.{ItemRow}
-use Rattle.tx_trees.specs.declared.parts.ScriptRow.{ScriptRow}
-use Rattle.tx_trees.specs.declared.parts.Sub.{Sub}
-use Rattle.tx_trees.specs.declared.parts.SubOp.{SubOp}
-use Rattle.tx_trees.specs.declared.parts.Tree.{Tree}
-use Rattle.world_model.specs.Counts.{tally, one_if, Each}
-use Rattle.world_model.specs.Runs.{client_of, client_in, node_in, waiting, MayFollow, StepRun}
-use Rattle.world_model.specs.Tables.{roots_of, sub_letters, touched_by}
-use Rattle.world_model.proofs.Bags.{tally_step, tally-drop, sealed_tally}
-use Rattle.world_model.proofs.Every.{each_step, each_taken, node_kept}
-use Rattle.tree_laws.specs.Dids.{asks, is_go, is_did, is_born, asked, goes, dids, births}
-use Rattle.tree_laws.proofs.Fits.{Fit, SentFit, children_fit, roots_fit}
-use Rattle.tree_laws.proofs.Loads.{trees_done, trees_none, trees_most, trees_more}
-use Rattle.tree_laws.proofs.Scripts.{Sound, SubAt, sub_there, sub_below, tree_below, has_root, is_sub, get_some, get_below, subs_here, node_here, ops_here}
-use Rattle.tree_laws.proofs.Sent.{on, children, no_root, no_go, roots_once, roots_alone, roots_no_go, other_sub, other_tree}
-use Rattle.tree_laws.proofs.Steps.{Does, MayDo, Next, Begins, DoesOne, next}
-use Rattle.tree_laws.proofs.Tables.{TableIn, SomeTableIn, touched_table, table_more, start_table, bounds_after}
+use Rattle.world_model.specs.Counts.{one_if, Each}
+use Rattle.world_model.specs.Runs.{client_in, node_in, waiting, MayFollow}
+use Rattle.world_model.proofs.Bags.{tally-drop}
+use Rattle.tree_laws.specs.Dids.{asks, asked, goes, dids, births}
+use Rattle.tree_laws.proofs.Fits.{Fit}
+use Rattle.tree_laws.proofs.Loads.{trees_done, trees_most, trees_more}
+use Rattle.tree_laws.proofs.Scripts.{Sound, SubAt, tree_below, is_sub, get_some, get_below, node_here, ops_here}
+use Rattle.tree_laws.proofs.Sent.{other_sub, other_tree}
+use Rattle.tree_laws.proofs.Steps.{MayDo}
+use Rattle.tree_laws.proofs.Tables.{TableIn, touched_table, bounds_after}
 
 -- an item's initial value and what was done to it
 abbrev pub bound : ScriptData → List Entry → ℕ → ℕ
@@ -49,10 +36,10 @@ pub record Good (s : ScriptData) (past : List Entry) : Type 0 where
   pub items : (p : ℕ) → p < s.nodes → TableIn s.items p (bound s past) (node_in s past p).items
 
 -- Each subtransaction is done at most once.
-zero_or : (k : ℕ) → (k ≡ 0) ⊎ (0 < k)
+pub zero_or : (k : ℕ) → (k ≡ 0) ⊎ (0 < k)
 zero_or k = grind arith
 
-parent_at : (s : ScriptData) (t k : ℕ) (c : SubAt s t k) → Sound s → 0 < k → SubAt s t c.sub.parent.0
+pub parent_at : (s : ScriptData) (t k : ℕ) (c : SubAt s t k) → Sound s → 0 < k → SubAt s t c.sub.parent.0
 parent_at s t k c sound lt =
     let up : c.sub.parent.0 < k = (is_sub s t k c sound).parent lt in
     let sub = get_some c.tree.subs c.sub.parent.0 (omega (arith, up, get_below c.tree.subs k c.sub c.here)) in
@@ -95,7 +82,7 @@ pub load_more : (s : ScriptData) (past : List Entry) (t k x : ℕ) (c : SubAt s 
     → trees_done (with_one s past t k) x 0 s.trees ≡ trees_done (dids past) x 0 s.trees + ops_load x (ops_of s t k)
 load_more s past t k x c =
     let more = trees_more (dids past) (with_one s past t k) x 0 t k t c.tree c.sub s.trees c.at (omega arith) c.here (omega (arith, one_here t k))
-      (λ j ne. omega (arith, other_sub t t j k (λ is. ne (sym is)))) (λ u j ne. omega (arith, other_tree u t j k (λ is. ne (sym is)))) in
+    (λ j ne. omega (arith, other_sub t t j k (λ is. ne (sym is)))) (λ u j ne. omega (arith, other_tree u t j k (λ is. ne (sym is)))) in
     rw (ops_here s t k c) more
 
 once_more : (s : ScriptData) (past : List Entry) (t k u i : ℕ) → SubAt s u i → Sound s → Good s past → dids past t k ≡ 0 → (test : Bool) → ((t == u) && (k == i)) ≡ test
@@ -111,10 +98,10 @@ load_most : (s : ScriptData) (past : List Entry) (t k x : ℕ) (c : SubAt s t k)
     → trees_done (dids past) x 0 s.trees + ops_load x (ops_of s t k) ≤ trees_load x s.trees
 load_most s past t k x c sound good none =
     let all : trees_done (with_one s past t k) x 0 s.trees ≤ trees_load x s.trees =
-      trees_most (with_one s past t k) x 0 s.trees (λ u j tree at lt.
-        let sub = get_some tree.subs j lt in
-        let there : SubAt s u j = record { tree = tree; at = at; sub = sub.0; here = sub.1 } in
-        subst (λ (w : ℕ). with_one s past t k w j ≤ 1) (omega arith) (once_more s past t k u j there sound good none ((t == u) && (k == j)) refl)) in
+    trees_most (with_one s past t k) x 0 s.trees (λ u j tree at lt.
+    let sub = get_some tree.subs j lt in
+    let there : SubAt s u j = record { tree = tree; at = at; sub = sub.0; here = sub.1 } in
+    subst (λ (w : ℕ). with_one s past t k w j ≤ 1) (omega arith) (once_more s past t k u j there sound good none ((t == u) && (k == j)) refl)) in
     omega (arith, all, load_more s past t k x c)
 
 -- the bounds after a subtransaction more
@@ -131,6 +118,8 @@ may_do s past e sound good m t k c v one =
     let is = is_sub s t k c sound in
     let node : node_of s t k < s.nodes = rw (node_here s t k c) is.node in
     let none = not_done_by s past t k c sound good (was_asked s past e t k m one) (zero_or k) in
-    let fits : AllByRecursion (IsOp s.items trees.Update (node_of s t k)) (ops_of s t k) = rw (node_here s t k c, ops_here s t k c) is.ops in
-    (node, touched_table s.items (node_of s t k) (bound s past) v (ops_of s t k) (node_in s past (node_of s t k)).items fits
-      (λ x r at. within_most s past t k x r c sound good none at) (good.items (node_of s t k) node))
+    let fits : AllByRecursion (IsOp s.items trees.Update (node_of s t k)) (ops_of s t k) = rw (node_here s t k c, ops_here s t k c) is.ops in (
+      node,
+      touched_table s.items (node_of s t k) (bound s past) v (ops_of s t k) (node_in s past (node_of s t k)).items fits
+          (λ x r at. within_most s past t k x r c sound good none at) (good.items (node_of s t k) node),
+    )

@@ -1,6 +1,6 @@
 -- Letters that are sent are meant for their addressees.
-use Rattle.std.proofs.Common.{◌≡◌, ℕ, zero, suc, ◌+◌, ◌<◌, ◌≤◌, ◌==◌, ◌&&◌, Bool, true, false, List, [], ◌∷◌, length, refl, sym, ap, subst, ◌∙◌, arith, Some}
-use Rattle.std.specs.Prelude.{if◌then◌else◌, nat_lt, slice_get}
+use Rattle.std.proofs.Common.{◌≡◌, ℕ, suc, ◌+◌, ◌<◌, ◌≤◌, ◌==◌, ◌&&◌, Bool, true, false, List, [], ◌∷◌, length, refl, sym, subst, arith, Some}
+use Rattle.std.specs.Prelude.{nat_lt, slice_get}
 use Rattle.letter_types.specs.declared.bodies.Body.{Body}
 use Rattle.letter_types.specs.declared.bodies.Body.TheVariants.{Go, Root, Sub as SubLetter}
 use Rattle.letter_types.specs.declared.entries.LetterId.{LetterId}
@@ -41,8 +41,8 @@ pub children_fit : (s : ScriptData) (t v parent from i : ℕ) (xs : List Sub) �
 children_fit s t v parent from i [] lt node at = tt
 children_fit s t v parent from i (x ∷ xs) lt node at =
     child_fits s t v parent from i x xs lt node (subst (λ (n : ℕ). slice_get (subs_at s t) n ≡ Some x) (omega arith) (at 0 x refl))
-      (children_fit s t v parent from (i + 1) xs lt node (λ n y here. subst (λ (m : ℕ). slice_get (subs_at s t) m ≡ Some y) (omega arith) (at (suc n) y here)))
-      (nat_lt parent i && (x.parent.0 == parent)) refl
+    (children_fit s t v parent from (i + 1) xs lt node (λ n y here. subst (λ (m : ℕ). slice_get (subs_at s t) m ≡ Some y) (omega arith) (at (suc n) y here)))
+    (nat_lt parent i && (x.parent.0 == parent)) refl
 
 names_end : (i n : ℕ) (rows : List ScriptRow) → NamesInOrder i n rows → i ≤ n
 names_end i n [] names = omega (arith, names)

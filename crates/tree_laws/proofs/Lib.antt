@@ -7,3 +7,4 @@ pub mod Fits
 pub mod Steps
 pub mod Counts
 pub mod Goods
+pub mod Whole

@@ -1,11 +1,9 @@
 -- The load of what is done is at most the load of a script, and grows by what is done next.
-use Rattle.std.proofs.Common.{◌≡◌, ◌≢◌, ℕ, zero, suc, ◌+◌, ◌*◌, ◌<◌, ◌≤◌, ◌==◌, ◌&&◌, Bool, true, false, List, [], ◌∷◌, length, refl, sym, ap, subst, ◌∙◌, arith, Some}
+use Rattle.std.proofs.Common.{◌≡◌, ◌≢◌, ℕ, zero, suc, ◌+◌, ◌*◌, ◌<◌, ◌≤◌, List, [], ◌∷◌, length, refl, ap, subst, arith, Some}
 use Rattle.std.specs.Prelude.{slice_get}
-use Rattle.std.proofs.lemmas.Bool.Decides.{nat_tests}
 use Rattle.tx_trees.specs.Valid.{ops_load, subs_load, trees_load}
 use Rattle.tx_trees.specs.declared.parts.Sub.{Sub}
 use Rattle.tx_trees.specs.declared.parts.Tree.{Tree}
-use Rattle.world_model.specs.Counts.{one_if}
 
 -- the load on item x of subtransactions that were each done so often, where the list begins with subtransaction k
 abbrev pub subs_done : (ℕ → ℕ) → ℕ → ℕ → List Sub → ℕ
@@ -34,15 +32,21 @@ subs_most : (often : ℕ → ℕ) (x k : ℕ) (ss : List Sub) → ((j : ℕ) →
 subs_most often x k [] once = omega arith
 subs_most often x k (s ∷ ss) once =
     let first : often k ≤ 1 = subst (λ (n : ℕ). often n ≤ 1) (omega arith) (once 0 (omega arith)) in
-    omega (arith, at_most_load (often k) (ops_load x s.ops) first,
-      subs_most often x (k + 1) ss (λ j lt. subst (λ (n : ℕ). often n ≤ 1) (omega arith) (once (j + 1) (omega arith))))
+    omega (
+      arith,
+      at_most_load (often k) (ops_load x s.ops) first,
+      subs_most often x (k + 1) ss (λ j lt. subst (λ (n : ℕ). often n ≤ 1) (omega arith) (once (j + 1) (omega arith))),
+    )
 
 pub trees_most : (often : ℕ → ℕ → ℕ) (x t : ℕ) (ts : List Tree)
     → ((u j : ℕ) (tree : Tree) → slice_get ts u ≡ Some tree → j < length tree.subs → often (t + u) j ≤ 1) → trees_done often x t ts ≤ trees_load x ts
 trees_most often x t [] once = omega arith
 trees_most often x t (tree ∷ ts) once =
-    omega (arith, subs_most (often t) x 0 tree.subs (λ j lt. subst (λ (n : ℕ). often t n ≤ 1) (omega arith) (subst (λ (n : ℕ). often n j ≤ 1) (omega arith) (once 0 j tree refl lt))),
-      trees_most often x (t + 1) ts (λ u j tr at lt. subst (λ (n : ℕ). often n j ≤ 1) (omega arith) (once (suc u) j tr at lt)))
+    omega (
+      arith,
+      subs_most (often t) x 0 tree.subs (λ j lt. subst (λ (n : ℕ). often t n ≤ 1) (omega arith) (subst (λ (n : ℕ). often n j ≤ 1) (omega arith) (once 0 j tree refl lt))),
+      trees_most often x (t + 1) ts (λ u j tr at lt. subst (λ (n : ℕ). often n j ≤ 1) (omega arith) (once (suc u) j tr at lt)),
+    )
 
 -- One more.
 subs_same : (a b : ℕ → ℕ) (x k : ℕ) (ss : List Sub) → ((j : ℕ) → k ≤ j → a j ≡ b j) → subs_done a x k ss ≡ subs_done b x k ss

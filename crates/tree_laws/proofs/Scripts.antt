@@ -1,10 +1,10 @@
 -- What a valid script says of a subtransaction and of an item.
-use Rattle.std.proofs.Common.{◌≡◌, ℕ, zero, suc, ◌+◌, ◌<◌, ◌≤◌, Bool, true, false, List, [], ◌∷◌, length, refl, sym, ap, subst, ◌∙◌, arith, Option, Some, None}
+use Rattle.std.proofs.Common.{◌≡◌, ℕ, zero, suc, ◌+◌, ◌<◌, ◌≤◌, true, List, [], ◌∷◌, length, refl, ap, subst, arith, Some}
 use Rattle.std.specs.Prelude.{IsTrue, slice_get, unsigned_abs}
 use Rattle.std.specs.List.{AllByRecursion}
 use Rattle.commute_ops.specs.declared.kinds.TheConstants.{MOST_AMOUNT}
-use Rattle.tx_trees.specs.ScriptData.{ScriptData, subs_at, sub_at, node_of, home_of, ops_of, updates, is_update}
-use Rattle.tx_trees.specs.Valid.{IsValid, IsTree, IsSub, AreSubs, IsOp, IsItem, trees_load}
+use Rattle.tx_trees.specs.ScriptData.{ScriptData, subs_at, sub_at, node_of, ops_of, updates, is_update}
+use Rattle.tx_trees.specs.Valid.{IsValid, IsTree, IsSub, AreSubs, trees_load}
 use Rattle.tx_trees.specs.declared.parts.ItemRow.{ItemRow}
 use Rattle.tx_trees.specs.declared.parts.Sub.{Sub}
 use Rattle.tx_trees.specs.declared.parts.Tree.{Tree}
@@ -92,7 +92,7 @@ sub_of_all nodes items kind i k (suc n) (y ∷ subs) sub all at is = sub_of_all 
 pub is_sub : (s : ScriptData) (t k : ℕ) (c : SubAt s t k) → Sound s → IsSub s.nodes s.items trees.Update k c.sub
 is_sub s t k c sound =
     subst (λ (kind : TreeKind). IsSub s.nodes s.items kind k c.sub) (tree_updates s t c.tree sound c.at)
-      (sub_of_all s.nodes s.items c.tree.kind 0 k k c.tree.subs c.sub (is_tree s t c.tree sound c.at).subs c.here (omega arith))
+    (sub_of_all s.nodes s.items c.tree.kind 0 k k c.tree.subs c.sub (is_tree s t c.tree sound c.at).subs c.here (omega arith))
 
 pub has_root : (s : ScriptData) (t : ℕ) → Sound s → t < length s.trees → SubAt s t 0
 has_root s t sound lt =

@@ -1,18 +1,16 @@
 -- What a subtransaction and the client send, by whom it asks for.
-use Rattle.std.proofs.Common.{◌≡◌, ◌≢◌, ℕ, zero, suc, ◌+◌, ◌<◌, ◌≤◌, ◌==◌, ◌&&◌, Bool, true, false, List, [], ◌∷◌, length, refl, sym, ap, subst, ◌∙◌, arith, Some}
-use Rattle.std.specs.Prelude.{if◌then◌else◌, nat_lt, slice_get}
-use Rattle.std.specs.List.{AllByRecursion}
+use Rattle.std.proofs.Common.{◌≡◌, ◌≢◌, ℕ, zero, suc, ◌+◌, ◌<◌, ◌≤◌, ◌==◌, ◌&&◌, Bool, true, false, List, [], ◌∷◌, refl, sym, subst, ◌∙◌, arith, Some}
+use Rattle.std.specs.Prelude.{nat_lt, slice_get}
 use Rattle.std.proofs.lemmas.Bool.Decides.{nat_tests}
 use Rattle.letter_types.specs.declared.bodies.Body.{Body}
-use Rattle.letter_types.specs.declared.bodies.Body.TheVariants.{Root, Sub as SubLetter}
 use Rattle.letter_types.specs.declared.entries.Outgoing.{Outgoing}
-use Rattle.tx_trees.specs.ScriptData.{ScriptData, home_of}
+use Rattle.tx_trees.specs.ScriptData.{ScriptData}
 use Rattle.tx_trees.specs.Valid.{NamesInOrder}
 use Rattle.tx_trees.specs.declared.parts.ScriptRow.{ScriptRow}
 use Rattle.tx_trees.specs.declared.parts.ScriptRow.TheVariants.{Tree as TreeRow, Advance, Settle}
 use Rattle.tx_trees.specs.declared.parts.Sub.{Sub}
-use Rattle.world_model.specs.Counts.{tally, one_if, Each}
-use Rattle.world_model.specs.Tables.{sub_letters, roots_of, IsTreeRow}
+use Rattle.world_model.specs.Counts.{tally, one_if}
+use Rattle.world_model.specs.Tables.{sub_letters, roots_of}
 use Rattle.tree_laws.specs.Dids.{asks, is_go}
 
 -- what was sent, by a number of its body
@@ -83,7 +81,7 @@ high t k v parent i n sub [] at is lt = absurd (cc at)
 high t k v parent i zero sub (x ∷ xs) at is lt =
     let eq : x ≡ sub = cc at in
     subst (λ (y : Sub). tally (on (asks t k)) (sub_letters t v parent i (x ∷ xs)) ≡ one_if (parent == y.parent.0)) eq
-      (child_at t k v parent i x xs (omega arith) lt (nat_lt parent i && (x.parent.0 == parent)) refl)
+    (child_at t k v parent i x xs (omega arith) lt (nat_lt parent i && (x.parent.0 == parent)) refl)
 high t k v parent i (suc n) sub (x ∷ xs) at is lt =
     earlier_at t k v parent i x xs (omega arith) (nat_lt parent i && (x.parent.0 == parent)) refl ∙ high t k v parent (i + 1) n sub xs at (omega arith) lt
 

@@ -1,17 +1,16 @@
 -- What an entry of a run does: the client sends the roots, or a node does a subtransaction.
-use Rattle.std.proofs.Common.{◌≡◌, ◌≢◌, ℕ, zero, suc, ◌+◌, ◌<◌, ◌≤◌, ◌==◌, ◌&&◌, Bool, true, false, List, [], ◌∷◌, ◌++◌, length, refl, sym, ap, subst, ◌∙◌, arith, Option, Some, None}
-use Rattle.std.specs.Prelude.{if◌then◌else◌, nat_lt, drop}
+use Rattle.std.proofs.Common.{◌≡◌, ℕ, ◌<◌, ◌==◌, ◌&&◌, Bool, true, false, List, [], ◌∷◌, ◌++◌, refl, ap, subst, ◌∙◌, arith, Option, Some, None}
+use Rattle.std.specs.Prelude.{nat_lt, drop}
 use Rattle.std.proofs.lemmas.Bool.Decides.{nat_tests}
 use Rattle.tv_base.specs.declared.numbers.SubNo.{SubNo}
 use Rattle.tv_base.specs.declared.numbers.TreeNo.{TreeNo}
 use Rattle.tv_base.specs.declared.numbers.Version.{Version}
 use Rattle.item_versions.specs.Table.{Table}
 use Rattle.letter_types.specs.declared.acts.Act.{Act}
-use Rattle.letter_types.specs.declared.acts.Act.TheVariants.{Born, Did, Turned}
+use Rattle.letter_types.specs.declared.acts.Act.TheVariants.{Did, Turned}
 use Rattle.letter_types.specs.declared.bodies.Body.{Body}
 use Rattle.letter_types.specs.declared.bodies.Body.TheVariants.{Go, Root, Sub as SubLetter}
 use Rattle.letter_types.specs.declared.entries.Entry.{Entry}
-use Rattle.letter_types.specs.declared.entries.Outgoing.{Outgoing}
 use Rattle.tx_trees.specs.ScriptData.{ScriptData, subs_at, node_of, home_of, ops_of, updates}
 use Rattle.world_model.specs.Counts.{tally, one_if}
 use Rattle.world_model.specs.Runs.{client_of, client_in, client_table, node_in, node_table, Says, Moves, AtNode, AtCoordinator, AtClient, MayFollow}
@@ -81,7 +80,7 @@ root_done : (s : ScriptData) (past : List Entry) (e : Entry) (t : TreeNo) (after
 root_done s past e t after items sub up is at made held good =
     let st = node_in s past (home_of s t.0) in
     let row : node_table s (home_of s t.0) st e.took ≡ root_step s t.0 st.turns.update.0 st (Some items) =
-      ap (λ (b : Body). node_row s (home_of s t.0) st e.took.from.0 b) is ∙ root_row s st e.took.from.0 t items up held in
+    ap (λ (b : Body). node_row s (home_of s t.0) st e.took.from.0 b) is ∙ root_row s st e.took.from.0 t items up held in
     let acts : e.acts ≡ (root_step s t.0 st.turns.update.0 st (Some items)).acts = made.1.1 ∙ ap (λ (o : Out Node). o.acts) row in
     record {
       sub = sub;
@@ -103,7 +102,7 @@ sub_done s past e t k v after items sub later up from is at made held good =
     let st = node_in s past (node_of s t.0 k.0) in
     let raises = nat_lt st.turns.update.0 v.0 in
     let row : node_table s (node_of s t.0 k.0) st e.took ≡ sub_step s t.0 k.0 v.0 st (Some items) =
-      ap (λ (b : Body). node_row s (node_of s t.0 k.0) st e.took.from.0 b) is ∙ sub_row s st e.took.from.0 t k v items up from held in
+    ap (λ (b : Body). node_row s (node_of s t.0 k.0) st e.took.from.0 b) is ∙ sub_row s st e.took.from.0 t k v items up from held in
     let acts : e.acts ≡ (sub_step s t.0 k.0 v.0 st (Some items)).acts = made.1.1 ∙ ap (λ (o : Out Node). o.acts) row in
     record {
       sub = sub;

@@ -1,6 +1,6 @@
 -- The items of a node keep to their bounds, and operations that fit may be applied to them.
 use Rattle.std.proofs.Common.{◌≡◌, ◌≢◌, zero, suc, ◌<◌, ℕ, ◌+◌, ◌≤◌, ◌==◌, Bool, true, false, List, [], ◌∷◌, refl, sym, ap, subst, ◌∙◌, arith, Option, Some, None}
-use Rattle.std.specs.Prelude.{IsTrue, if◌then◌else◌, slice_get, unsigned_abs}
+use Rattle.std.specs.Prelude.{if◌then◌else◌, slice_get, unsigned_abs}
 use Rattle.std.specs.List.{AllByRecursion}
 use Rattle.std.proofs.lemmas.Bool.Decides.{nat_tests}
 use Rattle.tv_base.specs.declared.numbers.ItemNo.{ItemNo}
@@ -9,9 +9,8 @@ use Rattle.commute_ops.specs.Ops.{start}
 use Rattle.commute_ops.specs.declared.kinds.Kind.{Kind}
 use Rattle.commute_ops.specs.declared.kinds.Op.{Op}
 use Rattle.commute_ops.specs.declared.kinds.TheConstants.{MOST_AMOUNT}
-use Rattle.item_versions.specs.Item.{Held, touched, may_touch}
-use Rattle.item_versions.specs.Table.{Table, item_in, replaced, updated, touched_in, may_touch_in}
-use Rattle.tx_trees.specs.ScriptData.{ScriptData}
+use Rattle.item_versions.specs.Item.{Held, touched}
+use Rattle.item_versions.specs.Table.{Table, item_in, replaced, touched_in, may_touch_in}
 use Rattle.tx_trees.specs.Valid.{deed_fits, op_fits, op_magnitude, magnitude, ops_load, OpAt, IsOp}
 use Rattle.tx_trees.specs.declared.parts.Deed.{Deed}
 use Rattle.tx_trees.specs.declared.parts.Deed.TheVariants.{Apply, Get, Set, Draw}
@@ -137,7 +136,7 @@ here_load n x m is = let test : (n == x) ≡ true = grind (arith, nat_tests) in 
 rest_of : (rows : List ItemRow) (p : ℕ) (bound : ℕ → ℕ) (v : Version) (o : SubOp) (os : List SubOp) (found : Option Table)
     → SomeTableIn rows p (bound_after bound o.item.0 (magnitude o.deed)) found
     → ((items : Table) → TableIn rows p (bound_after bound o.item.0 (magnitude o.deed)) items
-      → SomeTableIn rows p (bounds_after (bound_after bound o.item.0 (magnitude o.deed)) os) (touched_by v os items))
+    → SomeTableIn rows p (bounds_after (bound_after bound o.item.0 (magnitude o.deed)) os) (touched_by v os items))
     → SomeTableIn rows p (bounds_after bound (o ∷ os)) (elim found [ None ↦ None | Some more ↦ touched_by v os more ])
 rest_of rows p bound v o os None all rest = absurd all
 rest_of rows p bound v o os (Some items) all rest =
@@ -155,8 +154,8 @@ pub touched_table : (rows : List ItemRow) (p : ℕ) (bound : ℕ → ℕ) (v : V
 touched_table rows p bound v [] items ops most all = table_same rows p bound (bounds_after bound []) (Some items) (λ x. omega arith) all
 touched_table rows p bound v (o ∷ os) items ops most all =
     rest_of rows p bound v o os (touched_by_deed v o.item o.deed items)
-      (one_of rows p bound v o items (slice_get rows o.item.0) refl ops.0 (first_load rows p bound o os (slice_get rows o.item.0) refl ops.0 most) all)
-      (λ more good. touched_table rows p (bound_after bound o.item.0 (magnitude o.deed)) v os more ops.1 (λ x r at. omega (arith, most x r at)) good)
+    (one_of rows p bound v o items (slice_get rows o.item.0) refl ops.0 (first_load rows p bound o os (slice_get rows o.item.0) refl ops.0 most) all)
+    (λ more good. touched_table rows p (bound_after bound o.item.0 (magnitude o.deed)) v os more ops.1 (λ x r at. omega (arith, most x r at)) good)
 
 -- At the start.
 other_node : (n p : ℕ) → (n == p) ≡ false → n ≢ p

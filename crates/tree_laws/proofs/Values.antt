@@ -1,9 +1,9 @@
 -- Values of a kind that keep to a bound, and what an operation makes of them.
-use Rattle.std.proofs.Common.{◌≡◌, ℕ, ◌+◌, ◌≤◌, Bool, true, false, List, [], ◌∷◌, ◌++◌, refl, arith}
-use Rattle.std.specs.Prelude.{ℤ, ◌+ℤ◌, IsTrue, if◌then◌else◌, nat_le, nat_lt, not, ◌||◌, ◌&&◌, unsigned_abs, map, pos, negsuc}
+use Rattle.std.proofs.Common.{◌≡◌, ℕ, ◌+◌, ◌≤◌, Bool, true, false, [], ◌∷◌, ◌++◌, refl, arith}
+use Rattle.std.specs.Prelude.{ℤ, ◌+ℤ◌, if◌then◌else◌, nat_le, nat_lt, not, ◌||◌, ◌&&◌, unsigned_abs}
 use Rattle.std.specs.List.{filter}
 use Rattle.std.proofs.lemmas.Bool.Decides.{nat_tests}
-use Rattle.std.proofs.lemmas.Int.{ints, clamps}
+use Rattle.std.proofs.lemmas.Int.{ints}
 use Rattle.tv_base.specs.declared.numbers.Version.{Version}
 use Rattle.commute_ops.specs.Numbers.{is_within}
 use Rattle.commute_ops.specs.Ops.{applied, may_apply, start}
@@ -117,7 +117,7 @@ above_may : (kind : Kind) (op : Op) (b : ℕ) (v : Version) (xs : Held) → op_f
 above_may kind op b v [] fit most all = refl
 above_may kind op b v (x ∷ xs) fit most all =
     both_true (not (nat_lt v.0 x.0.0) || may_apply x.1 op) (may_apply_above v op xs)
-      (or_true (not (nat_lt v.0 x.0.0)) (may_apply x.1 op) (may_apply_value kind op b x.1 fit all.0 most)) (above_may kind op b v xs fit most all.1)
+    (or_true (not (nat_lt v.0 x.0.0)) (may_apply x.1 op) (may_apply_value kind op b x.1 fit all.0 most)) (above_may kind op b v xs fit most all.1)
 
 -- an update with an operation that fits may be made
 pub held_may : (kind : Kind) (op : Op) (b : ℕ) (v : Version) (h : Held) → op_fits kind op ≡ true → b + op_magnitude op ≤ MOST_AMOUNT → HeldIn kind b h
@@ -125,7 +125,7 @@ pub held_may : (kind : Kind) (op : Op) (b : ℕ) (v : Version) (h : Held) → op
 held_may kind op b v [] fit most all = absurd all
 held_may kind op b v (x ∷ xs) fit most all =
     both_true (may_apply (seen_after x.1 v xs) op) (may_apply_above v op (x ∷ xs))
-      (may_apply_value kind op b (seen_after x.1 v xs) fit (seen_in kind b v x.1 xs all.0 all.1) most) (above_may kind op b v (x ∷ xs) fit most all)
+    (may_apply_value kind op b (seen_after x.1 v xs) fit (seen_in kind b v x.1 xs all.0 all.1) most) (above_may kind op b v (x ∷ xs) fit most all)
 
 pick_all : (kind : Kind) (b : ℕ) (test : Bool) (x : Version × Value) (xs : Held) → ValueIn kind b x.1 → AllIn kind b xs → AllIn kind b (if test then x ∷ xs else xs)
 pick_all kind b true x xs p q = (p, q)
@@ -155,10 +155,11 @@ touched_held kind op b v (x ∷ xs) fit all =
     let more = b + op_magnitude op in
     let new : Version × Value = (v, applied (seen_after x.1 v xs) op) in
     held_of_all kind more (below v (x ∷ xs)) (applied_to_all op (above v (x ∷ xs))) new
-      (each_append (λ (y : Version × Value). ValueIn kind more y.1) (below v (x ∷ xs)) (new ∷ applied_to_all op (above v (x ∷ xs)))
-        (all_more kind b more (below v (x ∷ xs)) (omega arith) (filter_in kind b (λ y. nat_lt y.0.0 v.0) (x ∷ xs) all))
-        (applied_value kind op b (seen_after x.1 v xs) fit (seen_in kind b v x.1 xs all.0 all.1),
-         applied_in kind op b (above v (x ∷ xs)) fit (filter_in kind b (λ y. nat_lt v.0 y.0.0) (x ∷ xs) all)))
+    (each_append (λ (y : Version × Value). ValueIn kind more y.1) (below v (x ∷ xs)) (new ∷ applied_to_all op (above v (x ∷ xs)))
+    (all_more kind b more (below v (x ∷ xs)) (omega arith) (filter_in kind b (λ y. nat_lt y.0.0 v.0) (x ∷ xs) all)) (
+      applied_value kind op b (seen_after x.1 v xs) fit (seen_in kind b v x.1 xs all.0 all.1),
+      applied_in kind op b (above v (x ∷ xs)) fit (filter_in kind b (λ y. nat_lt v.0 y.0.0) (x ∷ xs) all),
+    ))
 
 pub held_more : (kind : Kind) (b c : ℕ) (h : Held) → b ≤ c → HeldIn kind b h → HeldIn kind c h
 held_more kind b c [] le all = all
