@@ -8,3 +8,4 @@ pub mod Steps
 pub mod Counts
 pub mod Goods
 pub mod Whole
+pub mod Sampled
