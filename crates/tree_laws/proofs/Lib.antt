@@ -1,0 +1,11 @@
+pub mod Values
+pub mod Tables
+pub mod Loads
+pub mod Scripts
+pub mod Sent
+pub mod Fits
+pub mod Steps
+pub mod Counts
+pub mod Goods
+pub mod Whole
+pub mod Sampled

@@ -1,0 +1,168 @@
+-- What a subtransaction and the client send, by whom it asks for.
+use Rattle.std.proofs.Common.{◌≡◌, ◌≢◌, ℕ, zero, suc, ◌+◌, ◌<◌, ◌≤◌, ◌==◌, ◌&&◌, Bool, true, false, List, [], ◌∷◌, refl, sym, subst, ◌∙◌, arith, Some}
+use Rattle.std.specs.Prelude.{nat_lt, slice_get}
+use Rattle.std.proofs.lemmas.Bool.Decides.{nat_tests}
+use Rattle.letter_types.specs.declared.bodies.Body.{Body}
+use Rattle.letter_types.specs.declared.entries.Outgoing.{Outgoing}
+use Rattle.tx_trees.specs.ScriptData.{ScriptData}
+use Rattle.tx_trees.specs.Valid.{NamesInOrder}
+use Rattle.tx_trees.specs.declared.parts.ScriptRow.{ScriptRow}
+use Rattle.tx_trees.specs.declared.parts.ScriptRow.TheVariants.{Tree as TreeRow, Advance, Settle}
+use Rattle.tx_trees.specs.declared.parts.Sub.{Sub}
+use Rattle.world_model.specs.Counts.{tally, one_if}
+use Rattle.world_model.specs.Tables.{sub_letters, roots_of}
+use Rattle.tree_laws.specs.Dids.{asks, is_go}
+
+-- what was sent, by a number of its body
+abbrev pub on : (Body → ℕ) → Outgoing → ℕ
+on f o = f o.body
+
+-- The children of a subtransaction.
+pub other_tree : (t u k i : ℕ) → u ≢ t → one_if ((u == t) && (i == k)) ≡ 0
+other_tree t u k i ne = grind (arith, nat_tests)
+
+pub other_sub : (t u k i : ℕ) → i ≢ k → one_if ((u == t) && (i == k)) ≡ 0
+other_sub t u k i ne = grind (arith, nat_tests)
+
+same_sub : (t u k i : ℕ) → i ≡ k → one_if ((u == t) && (i == k)) ≡ one_if (u == t)
+same_sub t u k i is = grind (arith, nat_tests)
+
+later_at : (t k u v parent i : ℕ) (x : Sub) (xs : List Sub) → k < i → (test : Bool) → (nat_lt parent i && (x.parent.0 == parent)) ≡ test
+    → tally (on (asks t k)) (sub_letters u v parent (i + 1) xs) ≡ 0 → tally (on (asks t k)) (sub_letters u v parent i (x ∷ xs)) ≡ 0
+later_at t k u v parent i x xs lt true is rest = rw is (omega (arith, other_sub t u k i (omega arith), rest))
+later_at t k u v parent i x xs lt false is rest = rw is rest
+
+-- places after it
+later : (t k u v parent i : ℕ) (xs : List Sub) → k < i → tally (on (asks t k)) (sub_letters u v parent i xs) ≡ 0
+later t k u v parent i [] lt = refl
+later t k u v parent i (x ∷ xs) lt =
+    later_at t k u v parent i x xs lt (nat_lt parent i && (x.parent.0 == parent)) refl (later t k u v parent (i + 1) xs (omega arith))
+
+other_at : (t k u v parent i : ℕ) (x : Sub) (xs : List Sub) → u ≢ t → (test : Bool) → (nat_lt parent i && (x.parent.0 == parent)) ≡ test
+    → tally (on (asks t k)) (sub_letters u v parent (i + 1) xs) ≡ 0 → tally (on (asks t k)) (sub_letters u v parent i (x ∷ xs)) ≡ 0
+other_at t k u v parent i x xs ne true is rest = rw is (omega (arith, other_tree t u k i ne, rest))
+other_at t k u v parent i x xs ne false is rest = rw is rest
+
+-- another tree
+other : (t k u v parent i : ℕ) (xs : List Sub) → u ≢ t → tally (on (asks t k)) (sub_letters u v parent i xs) ≡ 0
+other t k u v parent i [] ne = refl
+other t k u v parent i (x ∷ xs) ne = other_at t k u v parent i x xs ne (nat_lt parent i && (x.parent.0 == parent)) refl (other t k u v parent (i + 1) xs ne)
+
+child_at : (t k v parent i : ℕ) (x : Sub) (xs : List Sub) → i ≡ k → parent < k → (test : Bool) → (nat_lt parent i && (x.parent.0 == parent)) ≡ test
+    → tally (on (asks t k)) (sub_letters t v parent i (x ∷ xs)) ≡ one_if (parent == x.parent.0)
+child_at t k v parent i x xs ik lt true is =
+    let mine : one_if ((t == t) && (i == k)) ≡ 1 = grind (arith, nat_tests) in
+    let its : one_if (parent == x.parent.0) ≡ 1 = grind (arith, nat_tests) in
+    rw is (omega (arith, mine, its, later t k t v parent (i + 1) xs (omega arith)))
+child_at t k v parent i x xs ik lt false is =
+    let its : one_if (parent == x.parent.0) ≡ 0 = grind (arith, nat_tests) in
+    rw is (omega (arith, its, later t k t v parent (i + 1) xs (omega arith)))
+
+earlier_at : (t k v parent i : ℕ) (x : Sub) (xs : List Sub) → i < k → (test : Bool) → (nat_lt parent i && (x.parent.0 == parent)) ≡ test
+    → tally (on (asks t k)) (sub_letters t v parent i (x ∷ xs)) ≡ tally (on (asks t k)) (sub_letters t v parent (i + 1) xs)
+earlier_at t k v parent i x xs lt true is = rw is (omega (arith, other_sub t t k i (omega arith)))
+earlier_at t k v parent i x xs lt false is = rw is refl
+
+-- no child of this parent is subtransaction k, unless k comes after it
+low_at : (t k v parent i : ℕ) (x : Sub) (xs : List Sub) → k ≤ parent → (test : Bool) → (nat_lt parent i && (x.parent.0 == parent)) ≡ test
+    → tally (on (asks t k)) (sub_letters t v parent (i + 1) xs) ≡ 0 → tally (on (asks t k)) (sub_letters t v parent i (x ∷ xs)) ≡ 0
+low_at t k v parent i x xs le true is rest =
+    let lt : parent < i = grind (arith, nat_tests) in
+    rw is (omega (arith, other_sub t t k i (omega arith), rest))
+low_at t k v parent i x xs le false is rest = rw is rest
+
+low : (t k v parent i : ℕ) (xs : List Sub) → k ≤ parent → tally (on (asks t k)) (sub_letters t v parent i xs) ≡ 0
+low t k v parent i [] le = refl
+low t k v parent i (x ∷ xs) le = low_at t k v parent i x xs le (nat_lt parent i && (x.parent.0 == parent)) refl (low t k v parent (i + 1) xs le)
+
+high : (t k v parent i n : ℕ) (sub : Sub) (xs : List Sub) → slice_get xs n ≡ Some sub → k ≡ i + n → parent < k
+    → tally (on (asks t k)) (sub_letters t v parent i xs) ≡ one_if (parent == sub.parent.0)
+high t k v parent i n sub [] at is lt = absurd (cc at)
+high t k v parent i zero sub (x ∷ xs) at is lt =
+    let eq : x ≡ sub = cc at in
+    subst (λ (y : Sub). tally (on (asks t k)) (sub_letters t v parent i (x ∷ xs)) ≡ one_if (parent == y.parent.0)) eq
+    (child_at t k v parent i x xs (omega arith) lt (nat_lt parent i && (x.parent.0 == parent)) refl)
+high t k v parent i (suc n) sub (x ∷ xs) at is lt =
+    earlier_at t k v parent i x xs (omega arith) (nat_lt parent i && (x.parent.0 == parent)) refl ∙ high t k v parent (i + 1) n sub xs at (omega arith) lt
+
+children_by : (t k u v parent : ℕ) (sub : Sub) (xs : List Sub) → slice_get xs k ≡ Some sub → sub.parent.0 < k → (a b : Bool) → (u == t) ≡ a → nat_lt parent k ≡ b
+    → tally (on (asks t k)) (sub_letters u v parent 0 xs) ≡ one_if ((u == t) && (parent == sub.parent.0))
+children_by t k u v parent sub xs at lt false b is test =
+    let ne : u ≢ t = grind (arith, nat_tests) in
+    other t k u v parent 0 xs ne ∙ sym (other_tree t u sub.parent.0 parent ne)
+children_by t k u v parent sub xs at lt true true is test =
+    let eq : u ≡ t = grind (arith, nat_tests) in
+    let below : parent < k = grind (arith, nat_tests) in
+    rw is (subst (λ (w : ℕ). tally (on (asks t k)) (sub_letters w v parent 0 xs) ≡ one_if (parent == sub.parent.0)) (sym eq) (high t k v parent 0 k sub xs at (omega arith) below))
+children_by t k u v parent sub xs at lt true false is test =
+    let eq : u ≡ t = grind (arith, nat_tests) in
+    let past : k ≤ parent = grind (arith, nat_tests) in
+    subst (λ (w : ℕ). tally (on (asks t k)) (sub_letters w v parent 0 xs) ≡ 0) (sym eq) (low t k v parent 0 xs past) ∙ sym (other_sub t u sub.parent.0 parent (omega arith))
+
+-- subtransaction k of tree t is asked for once by its parent, and by no other; the list is that of tree t, if u is t
+pub children : (t k u v parent : ℕ) (sub : Sub) (xs : List Sub) → slice_get xs k ≡ Some sub → sub.parent.0 < k
+    → tally (on (asks t k)) (sub_letters u v parent 0 xs) ≡ one_if ((u == t) && (parent == sub.parent.0))
+children t k u v parent sub xs at lt = children_by t k u v parent sub xs at lt (u == t) (nat_lt parent k) refl refl
+
+pub children_apart : (t k u v parent : ℕ) (xs : List Sub) → u ≢ t → tally (on (asks t k)) (sub_letters u v parent 0 xs) ≡ 0
+children_apart t k u v parent xs ne = other t k u v parent 0 xs ne
+
+no_root_by : (t u v parent : ℕ) (xs : List Sub) → (a : Bool) → (u == t) ≡ a → tally (on (asks t 0)) (sub_letters u v parent 0 xs) ≡ 0
+no_root_by t u v parent xs false is = other t 0 u v parent 0 xs (grind (arith, nat_tests))
+no_root_by t u v parent xs true is =
+    let eq : u ≡ t = grind (arith, nat_tests) in
+    subst (λ (w : ℕ). tally (on (asks t 0)) (sub_letters w v parent 0 xs) ≡ 0) (sym eq) (low t 0 v parent 0 xs (omega arith))
+
+-- none is a root
+pub no_root : (t u v parent : ℕ) (xs : List Sub) → tally (on (asks t 0)) (sub_letters u v parent 0 xs) ≡ 0
+no_root t u v parent xs = no_root_by t u v parent xs (u == t) refl
+
+no_go_at : (u v parent i : ℕ) (x : Sub) (xs : List Sub) → (test : Bool) → (nat_lt parent i && (x.parent.0 == parent)) ≡ test
+    → tally (on is_go) (sub_letters u v parent (i + 1) xs) ≡ 0 → tally (on is_go) (sub_letters u v parent i (x ∷ xs)) ≡ 0
+no_go_at u v parent i x xs true is rest = rw is (omega (arith, rest))
+no_go_at u v parent i x xs false is rest = rw is rest
+
+pub no_go : (u v parent i : ℕ) (xs : List Sub) → tally (on is_go) (sub_letters u v parent i xs) ≡ 0
+no_go u v parent i [] = refl
+no_go u v parent i (x ∷ xs) = no_go_at u v parent i x xs (nat_lt parent i && (x.parent.0 == parent)) refl (no_go u v parent (i + 1) xs)
+
+-- The roots.
+pub roots_no_go : (s : ScriptData) (rows : List ScriptRow) → tally (on is_go) (roots_of s rows) ≡ 0
+roots_no_go s [] = refl
+roots_no_go s (TreeRow t ∷ rows) = omega (arith, roots_no_go s rows)
+roots_no_go s (Advance ∷ rows) = roots_no_go s rows
+roots_no_go s (Settle ∷ rows) = roots_no_go s rows
+
+root_alone : (t u k : ℕ) → 0 < k → one_if ((u == t) && (0 == k)) ≡ 0
+root_alone t u k lt = grind (arith, nat_tests)
+
+pub roots_alone : (s : ScriptData) (t k : ℕ) (rows : List ScriptRow) → 0 < k → tally (on (asks t k)) (roots_of s rows) ≡ 0
+roots_alone s t k [] lt = refl
+roots_alone s t k (TreeRow u ∷ rows) lt = omega (arith, root_alone t u.0 k lt, roots_alone s t k rows lt)
+roots_alone s t k (Advance ∷ rows) lt = roots_alone s t k rows lt
+roots_alone s t k (Settle ∷ rows) lt = roots_alone s t k rows lt
+
+roots_before : (s : ScriptData) (t i n : ℕ) (rows : List ScriptRow) → NamesInOrder i n rows → t < i → tally (on (asks t 0)) (roots_of s rows) ≡ 0
+roots_before s t i n [] names lt = refl
+roots_before s t i n (TreeRow u ∷ rows) names lt =
+    let ne : u.0 ≢ t = omega (arith, names.0) in
+    omega (arith, other_tree t u.0 0 0 ne, roots_before s t (i + 1) n rows names.1 (omega arith))
+roots_before s t i n (Advance ∷ rows) names lt = roots_before s t i n rows names lt
+roots_before s t i n (Settle ∷ rows) names lt = roots_before s t i n rows names lt
+
+roots_at : (s : ScriptData) (t i n u : ℕ) (rows : List ScriptRow) → NamesInOrder (i + 1) n rows → u ≡ i → (test : Bool) → (u == t) ≡ test
+    → (i < t → tally (on (asks t 0)) (roots_of s rows) ≡ 1) → i ≤ t → one_if ((u == t) && (0 == 0)) + tally (on (asks t 0)) (roots_of s rows) ≡ 1
+roots_at s t i n u rows names ui true is rest le =
+    let eq : u ≡ t = grind (arith, nat_tests) in
+    rw is (omega (arith, roots_before s t (i + 1) n rows names (omega arith)))
+roots_at s t i n u rows names ui false is rest le =
+    let ne : u ≢ t = grind (arith, nat_tests) in
+    rw is (omega (arith, rest (omega arith)))
+
+-- the rows ask for each tree's root once
+pub roots_once : (s : ScriptData) (t i n : ℕ) (rows : List ScriptRow) → NamesInOrder i n rows → i ≤ t → t < n → tally (on (asks t 0)) (roots_of s rows) ≡ 1
+roots_once s t i n [] names le lt = absurd (omega (arith, names))
+roots_once s t i n (TreeRow u ∷ rows) names le lt =
+    roots_at s t i n u.0 rows names.1 names.0 (u.0 == t) refl (λ less. roots_once s t (i + 1) n rows names.1 (omega arith) lt) le
+roots_once s t i n (Advance ∷ rows) names le lt = roots_once s t i n rows names le lt
+roots_once s t i n (Settle ∷ rows) names le lt = roots_once s t i n rows names le lt

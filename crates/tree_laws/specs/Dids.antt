@@ -1,0 +1,53 @@
+-- How often subtransactions are asked for and done.
+use Rattle.std.specs.Prelude.{ℕ, ◌==◌, ◌&&◌, ◌+◌, List, [], ◌∷◌}
+use Rattle.letter_types.specs.declared.acts.Act.{Act}
+use Rattle.letter_types.specs.declared.acts.Act.TheVariants.{Born, Did, Finished}
+use Rattle.letter_types.specs.declared.bodies.Body.{Body}
+use Rattle.letter_types.specs.declared.bodies.Body.TheVariants.{Go, Root, Sub, Nudge}
+use Rattle.letter_types.specs.declared.entries.Entry.{Entry}
+use Rattle.letter_types.specs.declared.entries.Letter.{Letter}
+use Rattle.tx_trees.specs.ScriptData.{ScriptData}
+use Rattle.world_model.specs.Counts.{tally, one_if}
+use Rattle.world_model.specs.Runs.{waiting}
+
+-- a letter that asks for subtransaction k of tree t
+abbrev pub asks : ℕ → ℕ → Body → ℕ
+asks t k (Root u) = one_if ((u.0 == t) && (0 == k))
+asks t k (Sub u j v) = one_if ((u.0 == t) && (j.0 == k))
+asks t k Go = 0
+asks t k _ = 0
+
+abbrev pub is_go : Body → ℕ
+is_go Go = 1
+is_go Nudge = 0
+is_go _ = 0
+
+-- the act of doing subtransaction k of tree t
+abbrev pub is_did : ℕ → ℕ → Act → ℕ
+is_did t k (Did u j values) = one_if ((u.0 == t) && (j.0 == k))
+is_did t k Finished = 0
+is_did t k _ = 0
+
+-- the act of bearing tree t
+abbrev pub is_born : ℕ → Act → ℕ
+is_born t (Born u v) = one_if (u.0 == t)
+is_born t Finished = 0
+is_born t _ = 0
+
+-- how many letters under way ask for subtransaction k of tree t
+abbrev pub asked : ScriptData → List Entry → ℕ → ℕ → ℕ
+asked s past t k = tally (λ (l : Letter). asks t k l.body) (waiting s past)
+
+-- how many letters under way are Go
+abbrev pub goes : ScriptData → List Entry → ℕ
+goes s past = tally (λ (l : Letter). is_go l.body) (waiting s past)
+
+-- how often subtransaction k of tree t was done
+abbrev pub dids : List Entry → ℕ → ℕ → ℕ
+dids [] t k = 0
+dids (e ∷ past) t k = tally (is_did t k) e.acts + dids past t k
+
+-- how often tree t was born
+abbrev pub births : List Entry → ℕ → ℕ
+births [] t = 0
+births (e ∷ past) t = tally (is_born t) e.acts + births past t
