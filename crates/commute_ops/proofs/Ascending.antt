@@ -1,7 +1,7 @@
 -- Numbers stay in order when one is put in.
-use Rattle.std.proofs.Common.{◌≡◌, ◌≤◌, ◌<◌, ◌+◌, ℕ, zero, suc, ℤ, List, [], ◌∷◌, length, get_or, arith}
+use Rattle.std.proofs.Common.{zero, suc, ℤ, List, [], ◌∷◌, arith}
 use Rattle.std.specs.Prelude.{◌≤ℤ◌, int_le}
-use Rattle.std.specs.List.{All, AllPairs}
+use Rattle.std.specs.List.{All}
 use Rattle.std.proofs.lemmas.Bool.{cond_both}
 use Rattle.std.proofs.lemmas.Int.{ints}
 use Rattle.std.proofs.lemmas.List.Elements.{All-nil, All-cons, All-head, All-tail}
@@ -30,8 +30,8 @@ IsAscending-with_number n (x ∷ xs) up =
     let least = first-least x xs up in
     cond_both (int_le n x) (n ∷ x ∷ xs) (x ∷ with_number n xs) IsAscending
     (λ e. let le : n ≤ℤ x = grind (arith, ints) in
-          AllPairs-cons (λ x y. x ≤ℤ y) n (x ∷ xs) (All-cons (λ y. n ≤ℤ y) x xs le (All-weaker n x xs le least)) up)
+    AllPairs-cons (λ x y. x ≤ℤ y) n (x ∷ xs) (All-cons (λ y. n ≤ℤ y) x xs le (All-weaker n x xs le least)) up)
     (λ e. let le : x ≤ℤ n = grind (arith, ints) in
-          AllPairs-cons (λ x y. x ≤ℤ y) x (with_number n xs) (All-with_number (λ y. x ≤ℤ y) n xs le least) (IsAscending-with_number n xs (rest-ascends x xs up)))
+    AllPairs-cons (λ x y. x ≤ℤ y) x (with_number n xs) (All-with_number (λ y. x ≤ℤ y) n xs le least) (IsAscending-with_number n xs (rest-ascends x xs up)))
 
 pub ruleset kept = (IsAscending-with_number)
