@@ -1,6 +1,6 @@
 ghost use Rattle.std.specs.Prelude.{◌≡◌, [], IfOk, ⊤};
 ghost use Rattle.std.proofs.Common.{ap};
-ghost use Rattle.commute_ops.specs.Numbers.{with_number, place_of};
+ghost use Rattle.commute_ops.specs.Numbers.{IsAscending, with_number, place_of};
 ghost use Rattle.commute_ops.specs.Laws.{with_number-comm};
 
 use crate::kinds::{Amount, Commute};
@@ -19,7 +19,11 @@ impl Model for BagValue {
 
     ghost Value = { List ℤ };
 
+    ghost use Rattle.commute_ops.specs.Numbers.{IsAscending};
+
     ghost view = { λ b. b.numbers.items };
+
+    ghost invariant = { λ b. IsAscending b.numbers.items };
 }
 
 impl BagValue {
@@ -33,7 +37,8 @@ impl BagValue {
 
     /// The numbers in ascending order, repeats included.
     pub fn items(&self) -> &[Amount]
-        ensures { result.now ≡ self.now }
+        ensures items { result.now ≡ self.now }
+        ensures ascending { IsAscending self.now }
     {
         self.numbers.as_slice()
     }
@@ -55,15 +60,24 @@ impl Commute for BagValue {
 
     ghost applied = { λ ns n. with_number n ns };
 
-    #[tactic(auto, using(crate::proofs::Places::steps))]
+    #[tactic(auto, using(crate::proofs::Ascending::kept))]
     fn apply(&self, alloc: Global, op: &Amount) -> Result<BagValue, NoMemory> {
-        let place = place(&self.numbers, *op);
-        let mut numbers = Vec::from_slice(alloc, &self.numbers)?;
-        numbers.insert(place, *op)?;
+        let numbers = with_number(alloc, &self.numbers, *op)?;
         Ok(BagValue { numbers })
     }
 
     ghost commutes = { λ xs a b _ _ _ _. with_number-comm a b xs };
+}
+
+/// The numbers, which ascend, and `number` once more at its place.
+#[tactic(auto, using(crate::proofs::Places::steps))]
+fn with_number(alloc: Global, numbers: &[Amount], number: Amount) -> Result<Vec<Amount>, NoMemory>
+    ensures { IfOk result (λ made. made.items ≡ with_number number numbers.now) }
+{
+    let place = place(numbers, number);
+    let mut made = Vec::from_slice(alloc, numbers)?;
+    made.insert(place, number)?;
+    Ok(made)
 }
 
 /// How many of the numbers, which ascend, are below `number`.

@@ -8,3 +8,6 @@ mod value;
 pub use bag::BagValue;
 pub use kinds::{Amount, Commute, Kind, MOST_AMOUNT, Op, SumValue, TopValue};
 pub use value::Value;
+
+#[cfg(test)]
+mod tests;

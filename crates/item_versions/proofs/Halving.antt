@@ -1,6 +1,6 @@
 -- A search by halving, and what a table holds at a place.
-use Rattle.std.proofs.Common.{◌≡◌, ℕ, zero, suc, ◌+◌, ◌<◌, ◌≤◌, List, [], ◌∷◌, length, get_or, set, map, refl, ap, sym, ◌∙◌, arith, Option, Some, None, ◌⊎◌, inl, inr}
-use Rattle.std.specs.List.{All, HoldsAt, slice_get}
+use Rattle.std.proofs.Common.{◌≡◌, ℕ, zero, suc, ◌+◌, ◌<◌, ◌≤◌, List, [], ◌∷◌, length, get_or, set, map, refl, ap, sym, ◌∙◌, arith, Some, None, inl, inr}
+use Rattle.std.specs.List.{All, slice_get}
 use Rattle.std.proofs.Math.ListN.{get_or-map}
 use Rattle.std.proofs.Math.Seq.{map-set_same}
 use Rattle.std.proofs.lemmas.List.{length-map}
@@ -12,21 +12,20 @@ use Rattle.tv_base.specs.declared.numbers.ItemNo.{ItemNo}
 use Rattle.item_versions.specs.Item.{Held}
 use Rattle.item_versions.specs.Table.{Table, IsAscending, item_in, replaced}
 
-
 pub before-middle : (t : Table) (m n : ℕ) (x : ItemNo × Held) → IsAscending t → m < length t → x ≡ get_or t m x → x.0.0 < n → (k : ℕ) (d : ItemNo × Held) → k < m + 1 → (get_or t k d).0.0 < n
 before-middle t m n x up within is lt k d le =
     let at : (get_or t m d).0.0 < n = at_read t (λ (y : ItemNo × Held). y.0.0 < n) m x within is lt d in
     elim (cases_lt k m) [
-    | inl less ↦ let one = up k m d less within in omega arith
-    | inr more ↦ let e : k ≡ m = omega arith in rw e at
+      | inl less ↦ let one = up k m d less within in omega arith
+      | inr more ↦ let e : k ≡ m = omega arith in rw e at
     ]
 
 pub after-middle : (t : Table) (m n : ℕ) (x : ItemNo × Held) → IsAscending t → m < length t → x ≡ get_or t m x → n < x.0.0 → (k : ℕ) (d : ItemNo × Held) → m ≤ k → k < length t → n < (get_or t k d).0.0
 after-middle t m n x up within is lt k d le within' =
     let at : n < (get_or t m d).0.0 = at_read t (λ (y : ItemNo × Held). n < y.0.0) m x within is lt d in
     elim (cases_lt m k) [
-    | inl less ↦ let one = up m k d less within' in omega arith
-    | inr more ↦ let e : k ≡ m = omega arith in rw e at
+      | inl less ↦ let one = up m k d less within' in omega arith
+      | inr more ↦ let e : k ≡ m = omega arith in rw e at
     ]
 
 IsAscending-tail : (e : ItemNo × Held) (t : Table) → IsAscending (e ∷ t) → IsAscending t
@@ -88,6 +87,9 @@ IsAscending-set t p e h up is =
     same-order (set t p (e.0, h)) t (map-set_same (λ (x : ItemNo × Held). x.0.0) t p (e.0, h) e (ap (λ (x : ItemNo × Held). x.0.0) (sym (get_or_from_slice_get t p e e is)))) up
 
 pub ruleset halving = (before-middle, after-middle)
+
 pub ruleset finding = (item_in-at, item_in-none)
+
 pub ruleset replacing = (replaced-at, replaced-none)
+
 pub ruleset collecting = (IsAscending-set)

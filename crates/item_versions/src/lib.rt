@@ -2,9 +2,11 @@
 #![tactic(auto)]
 
 mod item;
+mod laws;
 mod table;
 
 pub use item::Item;
+pub use laws::any_updates_and_collections;
 pub use table::{ItemTable, Staged};
 
 #[cfg(test)]

@@ -61,12 +61,7 @@ fn a_collection_renames_the_greatest_version_below(rt: HostRuntime) -> Result<()
     Ok(())
 }
 
-fn stage(
-    table: &ItemTable,
-    staged: &mut Staged,
-    item: u32,
-    amount: Amount,
-) -> Result<(), Fail> {
+fn stage(table: &ItemTable, staged: &mut Staged, item: u32, amount: Amount) -> Result<(), Fail> {
     let op = Op::Add(amount);
     if !table.may_stage(staged, Version(1), ItemNo(item), &op) {
         return Err("the update may not be staged".into());
@@ -96,7 +91,15 @@ fn staged_updates_take_their_places_together(rt: HostRuntime) -> Result<(), Fail
     assert!(rt; !table.may_stage(&staged, Version(1), ItemNo(3), &Op::Add(1)));
     assert_eq!(rt; shown(&table, 4), 40);
     table.put_staged(staged);
-    for (item, want) in [(1, -1), (2, 20), (3, -1), (4, 46), (5, -1), (7, 73), (8, -1)] {
+    for (item, want) in [
+        (1, -1),
+        (2, 20),
+        (3, -1),
+        (4, 46),
+        (5, -1),
+        (7, 73),
+        (8, -1),
+    ] {
         assert_eq!(rt; shown(&table, item), want, "item {item}");
     }
     Ok(())

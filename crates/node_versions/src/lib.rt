@@ -4,3 +4,6 @@
 mod turns;
 
 pub use turns::Turns;
+
+#[cfg(test)]
+mod tests;
