@@ -1,12 +1,14 @@
 //! The actors' states and steps, and the world that runs a script one letter at a time.
 #![tactic(auto)]
 
+mod actor;
+mod client;
 mod letters;
 mod lookups;
 mod node;
-mod client;
 // mod world;
 
-// pub use client::Client;
-// pub use node::NodeState;
+pub use actor::{ActorState, Coordinator, actor_step};
+pub use client::Client;
+pub use node::NodeState;
 // pub use world::World;

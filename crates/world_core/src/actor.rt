@@ -1,0 +1,67 @@
+// The actors as one, and their steps.
+ghost use Rattle.std.specs.Prelude.{◌≡◌, ◌<◌, ◌+◌, [], IfOk, OnErr};
+ghost use Rattle.world_core.specs.Actors.{actor_in, actor_row, IsAddressed};
+ghost use Rattle.world_core.specs.Parts.{made};
+
+use crate::client::Client;
+use crate::letters;
+use crate::node::NodeState;
+use letter_types::{Letter, Step};
+use std::alloc::Global;
+use tv_base::{ActorNo, NoMemory, NodeNo};
+use tx_trees::Script;
+
+/// The coordinator's state.
+#[derive(Clone, Copy, Debug, PartialEq, Eq)]
+pub enum Coordinator {
+    /// No advancement is built yet, so there is nothing to do.
+    Resting,
+}
+
+/// The state of one actor.
+#[derive(Drop)]
+pub enum ActorState {
+    /// One of the nodes.
+    Node(NodeState),
+    /// The coordinator of advancements.
+    Coordinator(Coordinator),
+    /// The client, which submits the script.
+    Client(Client),
+}
+
+impl ActorState {
+    /// The actor of this number as a run of the script begins.
+    pub fn start(alloc: Global, script: &Script, actor: ActorNo) -> Result<ActorState, NoMemory>
+        requires { actor.0 < script.now.nodes + 2 }
+        ensures { IfOk result (λ state. state ≡ actor_in script.now [] actor.0) }
+    {
+        let nodes = script.nodes();
+        if actor.0 < nodes {
+            return Ok(ActorState::Node(NodeState::start(alloc, script, NodeNo(actor.0))?));
+        }
+        if actor.0 == nodes {
+            return Ok(ActorState::Coordinator(Coordinator::Resting));
+        }
+        Ok(ActorState::Client(Client::start()))
+    }
+}
+
+/// What an actor does with a letter that is addressed to it: its row of its table. After want of memory the actor is
+/// as it was.
+pub fn actor_step(
+    alloc: Global,
+    state: &mut ActorState,
+    letter: &Letter,
+    script: &Script,
+) -> Result<Step, NoMemory>
+    requires { IsAddressed script.now letter.now state.old }
+    ensures row { IfOk result (λ step. made state.new step.given ≡ actor_row script.now letter.now state.old) }
+    ensures kept { IfOk result (λ step. step.kept ≡ step.given) }
+    ensures err { OnErr result (state.new ≡ state.old) }
+{
+    match state {
+        ActorState::Node(node) => node.step(alloc, script, NodeNo(letter.to.0), letter.from, &letter.body),
+        ActorState::Coordinator(_) => Ok(letters::still(alloc)),
+        ActorState::Client(client) => client.step(alloc, script, &letter.body),
+    }
+}
