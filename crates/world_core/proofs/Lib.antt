@@ -1,3 +1,4 @@
 pub mod Sends
 pub mod Items
 pub mod FewSubs
+pub mod Sealed

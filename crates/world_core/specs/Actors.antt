@@ -1,5 +1,5 @@
 -- The actors' tables as one, and what a world keeps.
-use Rattle.std.specs.Prelude.{if◌then◌else◌, ℕ, ◌==◌, ◌+◌, ◌<◌, ◌≡◌, nat_lt, List, [], ◌∷◌, ◌++◌, length, reverse, Option, Some, slice_get}
+use Rattle.std.specs.Prelude.{if◌then◌else◌, ℕ, zero, suc, ◌==◌, ◌+◌, ◌<◌, ◌≡◌, nat_lt, List, [], ◌∷◌, ◌++◌, length, reverse, Option, Some, slice_get}
 use Rattle.letter_types.specs.declared.entries.Letter.{Letter}
 use Rattle.letter_types.specs.declared.entries.Entry.{Entry}
 use Rattle.tx_trees.specs.ScriptData.{ScriptData}
@@ -33,6 +33,11 @@ abbrev pub actor_in : ScriptData → List Entry → ℕ → ActorState
 actor_in s past a =
     if nat_lt a s.nodes then Node (node_in s past a)
     else if a == s.nodes then Coordinator coordinators.Resting else Client (client_in s past)
+
+-- actors 0 to n - 1 after a past
+abbrev pub actors_from : ScriptData → List Entry → ℕ → List ActorState
+actors_from s past zero = []
+actors_from s past (suc n) = actors_from s past n ++ actor_in s past n ∷ []
 
 pub record WorldData : Type 0 where
   pub actors : List ActorState

@@ -6,9 +6,9 @@ mod client;
 mod letters;
 mod lookups;
 mod node;
-// mod world;
+mod world;
 
 pub use actor::{ActorState, Coordinator, actor_step};
 pub use client::Client;
 pub use node::NodeState;
-// pub use world::World;
+pub use world::World;
