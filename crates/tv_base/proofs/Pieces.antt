@@ -1,10 +1,10 @@
 -- What was read or written in pieces.
-use Rattle.std.proofs.Common.{◌≡◌, ◌≤◌, ◌<◌, ◌+◌, ℕ, List, ◌++◌, length, take, drop, Option, Some, None, sym, ap, ◌∙◌, append_assoc, arith, length-append, length-drop}
+use Rattle.std.proofs.Common.{◌≡◌, ◌≤◌, ◌+◌, ℕ, List, ◌++◌, length, take, drop, Option, Some, None, sym, ap, ◌∙◌, append_assoc, arith, length-append, length-drop}
 use Rattle.std.specs.Prelude.{◌-◌}
 use Rattle.std.proofs.lemmas.List.{take_all, take_at, length-take, take-append-drop, drop-drop}
 use Rattle.std.proofs.Math.Seq.{take-add}
-use Rattle.std.specs.Io.KnownBytes.{Appends, Consumes, Keeps}
-use Rattle.tv_base.specs.Outside.{HasMoreThan, HasTaken}
+use Rattle.std.specs.Io.KnownBytes.{Appends, Consumes}
+use Rattle.tv_base.specs.Outside.{HasTaken}
 
 rest_is : (d : ℕ) (t : List ℕ) → take (length t - d) (drop d t) ≡ drop d t
 rest_is d t = take_all (length t - d) (drop d t) (omega (arith, length-drop d t))
@@ -24,29 +24,13 @@ gave bytes buf back at n within room is =
     let len : length back ≡ n = ap length back_is ∙ omega (arith, length-take n (drop at bytes), length-drop at bytes) in
     (omega (arith, length-append back (drop n buf)), rw (take_at back (drop n buf) n len, back_is, ← drop-drop) (sym (take-append-drop n (drop at bytes))))
 
-pub appends_keeps : (a b c : Option (List ℕ)) (t : List ℕ) → Appends a b t → Keeps b c → Appends a c t
-appends_keeps None b c t p q = tt
-appends_keeps (Some x) None c t p q = absurd p
-appends_keeps (Some x) (Some y) None t p q = absurd q
-appends_keeps (Some x) (Some y) (Some z) t p q = q ∙ p
-
+-- one more piece of what is left
 pub consumes_more : (a b c : Option (List ℕ)) (s t : List ℕ) → Consumes a b s → Consumes b c t → Consumes a c (s ++ t)
 consumes_more None b c s t p q = tt
 consumes_more (Some x) None c s t p q = absurd p
 consumes_more (Some x) (Some y) None s t p q = absurd q
 consumes_more (Some x) (Some y) (Some z) s t p q = p ∙ ap (λ (w : List ℕ). s ++ w) q ∙ sym (append_assoc s t z)
 
-pub consumes_keeps : (a b c : Option (List ℕ)) (s : List ℕ) → Consumes a b s → Keeps b c → Consumes a c s
-consumes_keeps None b c s p q = tt
-consumes_keeps (Some x) None c s p q = absurd p
-consumes_keeps (Some x) (Some y) None s p q = absurd q
-consumes_keeps (Some x) (Some y) (Some z) s p q = p ∙ ap (λ (w : List ℕ). s ++ w) (sym q)
-
-pub has_more : (m : ℕ) (a b : Option (List ℕ)) (s : List ℕ) → m < length s → Consumes a b s → HasMoreThan m a
-has_more m None b s lt p = tt
-has_more m (Some x) None s lt p = absurd p
-has_more m (Some x) (Some y) s lt p = omega (arith, ap length p, length-append s y)
-
--- no more than n bytes were taken in two steps
-pub has_taken : (n : ℕ) (a b c : Option (List ℕ)) (s t : List ℕ) → Consumes a b s → Consumes b c t → length s + length t ≤ n → HasTaken n a c
-has_taken n a b c s t p q few = (s ++ t, omega (arith, few, length-append s t), consumes_more a b c s t p q)
+-- no more than n bytes were taken, with what one more read can give
+pub has_taken : (n : ℕ) (a b c : Option (List ℕ)) (s buf : List ℕ) (count : ℕ) → Consumes a b s → Consumes b c (take count buf) → length s + length buf ≤ n → HasTaken n a c
+has_taken n a b c s buf count p q few = (s ++ take count buf, omega (arith, few, length-append s (take count buf), length-take count buf), consumes_more a b c s (take count buf) p q)

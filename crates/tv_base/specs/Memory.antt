@@ -19,6 +19,7 @@ pub record FromMemory : Type 0 where
   pub calls : ℕ
   pub faults : ℕ
 
+-- a source that was not called yet
 abbrev pub source_of : List ℕ → ℕ → List ℕ → FromMemory
 source_of bytes most fails = record { left = bytes; most = most; fails = fails; calls = 0; faults = 0 }
 
@@ -30,6 +31,7 @@ read_fails s = lists s.fails (one_more s.calls)
 abbrev pub most_read : FromMemory → ℕ → ℕ
 most_read s room = min (min (length s.left) s.most) room
 
+-- what a read leaves
 abbrev pub after_read : FromMemory → ReadStep → FromMemory
 after_read s (reads.Got n) = record s { left = drop n s.left; calls = one_more s.calls }
 after_read s reads.End = record s { calls = one_more s.calls }
@@ -44,6 +46,7 @@ pub record ToMemory : Type 0 where
   pub calls : ℕ
   pub faults : ℕ
 
+-- a sink that was not called yet
 abbrev pub sink_of : ℕ → ℕ → List ℕ → ToMemory
 sink_of room most fails = record { written = []; room = room; most = most; fails = fails; calls = 0; faults = 0 }
 
@@ -55,6 +58,7 @@ write_fails s = s.room == 0 || lists s.fails (one_more s.calls)
 abbrev pub most_written : ToMemory → ℕ → ℕ
 most_written s piece = min (min s.room s.most) piece
 
+-- what a write of a piece leaves
 abbrev pub after_write : ToMemory → List ℕ → WriteStep → ToMemory
 after_write s piece (writes.Took n) = record s { written = s.written ++ take n piece; room = s.room - n; calls = one_more s.calls }
 after_write s piece writes.Failed = record s { calls = one_more s.calls; faults = one_more s.faults }

@@ -5,8 +5,10 @@ use Rattle.tv_base.proofs.moving.read_all.Goals as goal
 
 pub returns-then-count-room-clause-taken : goal.returns-then-count-room-clause-taken
 returns-then-count-room-clause-taken g c =
-    has_taken _ _ _ _ _ _ c.loop-count.invariant.so_far c.in-Got.ensures.step.2 (omega (arith, c.loop-count.invariant.within, c.in-Got.ensures.step.1, c.read.auto.buf, c.min-asked.ensures, length-take c.in-Got.count c.read.new.buf, length-take c.min-asked.result c.loop-count.chunk))
+    let asked = length-take c.min-asked.result c.loop-count.chunk in
+    has_taken _ _ _ _ _ _ _ c.loop-count.invariant.so_far c.in-Got.ensures.step.2 (omega (arith, c.loop-count.invariant.within, c.read.auto.buf, c.min-asked.ensures, asked))
 
 pub returns-in_err-extend_from_slice-in-Got-clause-taken : goal.returns-in_err-extend_from_slice-in-Got-clause-taken
 returns-in_err-extend_from_slice-in-Got-clause-taken g c =
-    has_taken _ _ _ _ _ _ c.loop-count.invariant.so_far c.in-Got.ensures.step.2 (omega (arith, c.loop-count.invariant.within, c.in-Got.ensures.step.1, c.read.auto.buf, c.min-asked.ensures, length-take c.in-Got.count c.read.new.buf, length-take c.min-asked.result c.loop-count.chunk))
+    let asked = length-take c.min-asked.result c.loop-count.chunk in
+    has_taken _ _ _ _ _ _ _ c.loop-count.invariant.so_far c.in-Got.ensures.step.2 (omega (arith, c.loop-count.invariant.within, c.read.auto.buf, c.min-asked.ensures, asked))
