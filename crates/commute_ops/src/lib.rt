@@ -3,10 +3,12 @@
 
 mod bag;
 mod kinds;
+mod laws;
 mod value;
 
 pub use bag::BagValue;
 pub use kinds::{Amount, Commute, Kind, MOST_AMOUNT, Op, SumValue, TopValue};
+pub use laws::{any_order_gives_the_same, any_order_of_operations};
 pub use value::Value;
 
 #[cfg(test)]

@@ -10,8 +10,11 @@ use tv_base::NoMemory;
 /// A value of an item.
 #[derive(Drop)]
 pub enum Value {
+    /// A number that amounts are added to.
     Sum(SumValue),
+    /// The greatest of the numbers that it was given.
     Top(TopValue),
+    /// A multiset of numbers.
     Bag(BagValue),
 }
 
