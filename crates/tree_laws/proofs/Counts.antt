@@ -47,23 +47,27 @@ parent_at s t k c sound lt =
 
 most_by : (s : ScriptData) (past : List Entry) (n t k : ℕ) (c : SubAt s t k) → Sound s → Good s past → k < suc n
     → ((j : ℕ) → j < n → SubAt s t j → dids past t j ≤ 1) → (k ≡ 0) ⊎ (0 < k) → dids past t k ≤ 1
-most_by s past n t k c sound good lt ih (inl is) = subst (λ (j : ℕ). dids past t j ≤ 1) (sym is) (omega (arith, good.roots t (tree_below s t k c)))
+most_by s past n t k c sound good lt ih (inl is) =
+    subst (λ (j : ℕ). dids past t j ≤ 1) (sym is) (omega (arith, good.roots t (tree_below s t k c)))
 most_by s past n t k c sound good lt ih (inr more) =
     let up : c.sub.parent.0 < k = (is_sub s t k c sound).parent more in
     omega (arith, good.subs t k c more, ih c.sub.parent.0 (omega arith) (parent_at s t k c sound more))
 
 most : (s : ScriptData) (past : List Entry) (n t k : ℕ) (c : SubAt s t k) → Sound s → Good s past → k < n → dids past t k ≤ 1
 most s past zero t k c sound good lt = absurd (omega arith)
-most s past (suc n) t k c sound good lt = most_by s past n t k c sound good lt (λ j less sub. most s past n t j sub sound good less) (zero_or k)
+most s past (suc n) t k c sound good lt =
+    most_by s past n t k c sound good lt (λ j less sub. most s past n t j sub sound good less) (zero_or k)
 
 pub at_most_once : (s : ScriptData) (past : List Entry) (t k : ℕ) → SubAt s t k → Sound s → Good s past → dids past t k ≤ 1
 at_most_once s past t k c sound good = most s past (k + 1) t k c sound good (omega arith)
 
 -- What is asked for by a letter that is taken was not done.
-was_asked : (s : ScriptData) (past : List Entry) (e : Entry) (t k : ℕ) → MayFollow s past e → asks t k e.took.body ≡ 1 → 1 ≤ asked s past t k
+was_asked : (s : ScriptData) (past : List Entry) (e : Entry) (t k : ℕ) → MayFollow s past e → asks t k e.took.body ≡ 1
+    → 1 ≤ asked s past t k
 was_asked s past e t k m one = omega (arith, one, tally-drop (λ (l : Letter). asks t k l.body) e.took.id (waiting s past) e.took m.waits)
 
-not_done_by : (s : ScriptData) (past : List Entry) (t k : ℕ) (c : SubAt s t k) → Sound s → Good s past → 1 ≤ asked s past t k → (k ≡ 0) ⊎ (0 < k) → dids past t k ≡ 0
+not_done_by : (s : ScriptData) (past : List Entry) (t k : ℕ) (c : SubAt s t k) → Sound s → Good s past → 1 ≤ asked s past t k
+    → (k ≡ 0) ⊎ (0 < k) → dids past t k ≡ 0
 not_done_by s past t k c sound good some (inl is) =
     let here : 1 ≤ asked s past t 0 = subst (λ (j : ℕ). 1 ≤ asked s past t j) is some in
     subst (λ (j : ℕ). dids past t j ≡ 0) (sym is) (omega (arith, good.roots t (tree_below s t k c)))
@@ -85,7 +89,8 @@ load_more s past t k x c =
     (λ j ne. omega (arith, other_sub t t j k (λ is. ne (sym is)))) (λ u j ne. omega (arith, other_tree u t j k (λ is. ne (sym is)))) in
     rw (ops_here s t k c) more
 
-once_more : (s : ScriptData) (past : List Entry) (t k u i : ℕ) → SubAt s u i → Sound s → Good s past → dids past t k ≡ 0 → (test : Bool) → ((t == u) && (k == i)) ≡ test
+once_more : (s : ScriptData) (past : List Entry) (t k u i : ℕ) → SubAt s u i → Sound s → Good s past → dids past t k ≡ 0 → (test : Bool)
+    → ((t == u) && (k == i)) ≡ test
     → with_one s past t k u i ≤ 1
 once_more s past t k u i c sound good none true is =
     let tu : t ≡ u = grind (arith, nat_tests) in
@@ -108,12 +113,14 @@ load_most s past t k x c sound good none =
 abbrev pub bounds_with : ScriptData → List Entry → ℕ → ℕ → ℕ → ℕ
 bounds_with s past t k = bounds_after (bound s past) (ops_of s t k)
 
-within_most : (s : ScriptData) (past : List Entry) (t k x : ℕ) (r : ItemRow) (c : SubAt s t k) → Sound s → Good s past → dids past t k ≡ 0 → slice_get s.items x ≡ Some r
+within_most : (s : ScriptData) (past : List Entry) (t k x : ℕ) (r : ItemRow) (c : SubAt s t k) → Sound s → Good s past → dids past t k ≡ 0
+    → slice_get s.items x ≡ Some r
     → bound s past x + ops_load x (ops_of s t k) ≤ MOST_AMOUNT
 within_most s past t k x r c sound good none at =
     omega (arith, load_most s past t k x c sound good none, sound.valid.loads x (get_below s.items x r at))
 
-pub may_do : (s : ScriptData) (past : List Entry) (e : Entry) → Sound s → Good s past → MayFollow s past e → MayDo s past e (bounds_with s past)
+pub may_do : (s : ScriptData) (past : List Entry) (e : Entry) → Sound s → Good s past → MayFollow s past e
+    → MayDo s past e (bounds_with s past)
 may_do s past e sound good m t k c v one =
     let is = is_sub s t k c sound in
     let node : node_of s t k < s.nodes = rw (node_here s t k c) is.node in

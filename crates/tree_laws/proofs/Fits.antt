@@ -20,14 +20,16 @@ use Rattle.tree_laws.proofs.Scripts.{get_below}
 abbrev pub Fit : ScriptData → ℕ → ℕ → Body → Type 0
 Fit s from to Go = to ≡ client_of s
 Fit s from to (Root t) = (t.0 < length s.trees) × (to ≡ home_of s t.0)
-Fit s from to (SubLetter t k v) = (t.0 < length s.trees) × (k.0 < length (subs_at s t.0)) × (0 < k.0) × (to ≡ node_of s t.0 k.0) × (from < s.nodes)
+Fit s from to (SubLetter t k v) =
+    (t.0 < length s.trees) × (k.0 < length (subs_at s t.0)) × (0 < k.0) × (to ≡ node_of s t.0 k.0) × (from < s.nodes)
 Fit s from to _ = ⊥
 
 -- all that an actor sends
 abbrev pub SentFit : ScriptData → ℕ → List Outgoing → Type 0
 SentFit s from os = Each (λ (o : Outgoing). (i : LetterId) → Fit s from o.to.0 o.body) os
 
-child_fits : (s : ScriptData) (t v parent from i : ℕ) (x : Sub) (xs : List Sub) → t < length s.trees → from < s.nodes → slice_get (subs_at s t) i ≡ Some x
+child_fits : (s : ScriptData) (t v parent from i : ℕ) (x : Sub) (xs : List Sub) → t < length s.trees → from < s.nodes
+    → slice_get (subs_at s t) i ≡ Some x
     → SentFit s from (sub_letters t v parent (i + 1) xs) → (test : Bool) → (nat_lt parent i && (x.parent.0 == parent)) ≡ test
     → SentFit s from (sub_letters t v parent i (x ∷ xs))
 child_fits s t v parent from i x xs lt node at rest true is =
@@ -37,7 +39,8 @@ child_fits s t v parent from i x xs lt node at rest true is =
 child_fits s t v parent from i x xs lt node at rest false is = rw is rest
 
 pub children_fit : (s : ScriptData) (t v parent from i : ℕ) (xs : List Sub) → t < length s.trees → from < s.nodes
-    → ((n : ℕ) (x : Sub) → slice_get xs n ≡ Some x → slice_get (subs_at s t) (i + n) ≡ Some x) → SentFit s from (sub_letters t v parent i xs)
+    → ((n : ℕ) (x : Sub) → slice_get xs n ≡ Some x → slice_get (subs_at s t) (i + n) ≡ Some x)
+    → SentFit s from (sub_letters t v parent i xs)
 children_fit s t v parent from i [] lt node at = tt
 children_fit s t v parent from i (x ∷ xs) lt node at =
     child_fits s t v parent from i x xs lt node (subst (λ (n : ℕ). slice_get (subs_at s t) n ≡ Some x) (omega arith) (at 0 x refl))
@@ -50,7 +53,8 @@ names_end i n (TreeRow t ∷ rows) names = omega (arith, names_end (i + 1) n row
 names_end i n (Advance ∷ rows) names = names_end i n rows names
 names_end i n (Settle ∷ rows) names = names_end i n rows names
 
-pub roots_fit : (s : ScriptData) (from i : ℕ) (rows : List ScriptRow) → NamesInOrder i (length s.trees) rows → SentFit s from (roots_of s rows)
+pub roots_fit : (s : ScriptData) (from i : ℕ) (rows : List ScriptRow) → NamesInOrder i (length s.trees) rows
+    → SentFit s from (roots_of s rows)
 roots_fit s from i [] names = tt
 roots_fit s from i (TreeRow t ∷ rows) names =
     ((λ id. (omega (arith, names.0, names_end (i + 1) (length s.trees) rows names.1), refl)), roots_fit s from (i + 1) rows names.1)

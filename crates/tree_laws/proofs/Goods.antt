@@ -29,7 +29,8 @@ flow f s past e m =
     omega (arith, tally_step (λ (l : Letter). f l.body) s past e m, sealed_tally (λ (l : Letter). f l.body) (on f) e.stamp.0 e.actor.0 0 e.sent (λ i o. refl))
 
 -- The client's step.
-begin_sent : (s : ScriptData) (past : List Entry) (e : Entry) → Good s past → MayFollow s past e → e.took.body ≡ Go → e.sent ≡ roots_of s (drop (client_in s past).next s.rows)
+begin_sent : (s : ScriptData) (past : List Entry) (e : Entry) → Good s past → MayFollow s past e → e.took.body ≡ Go
+    → e.sent ≡ roots_of s (drop (client_in s past).next s.rows)
     → e.sent ≡ roots_of s s.rows
 begin_sent s past e good m is sent =
     let went : is_go e.took.body ≡ 1 = ap is_go is in
@@ -37,14 +38,16 @@ begin_sent s past e good m is sent =
     let first : (client_in s past).next ≡ 0 = good.begun (omega (arith, flow is_go s past e m)) in
     sent ∙ ap (λ (n : ℕ). roots_of s (drop n s.rows)) first
 
-begin_gone : (s : ScriptData) (past : List Entry) (e : Entry) → Good s past → MayFollow s past e → e.took.body ≡ Go → e.sent ≡ roots_of s s.rows
+begin_gone : (s : ScriptData) (past : List Entry) (e : Entry) → Good s past → MayFollow s past e → e.took.body ≡ Go
+    → e.sent ≡ roots_of s s.rows
     → (goes s past ≡ 1) × (goes s (e ∷ past) ≡ 0)
 begin_gone s past e good m is sent =
     let went : is_go e.took.body ≡ 1 = ap is_go is in
     let none : tally (on is_go) e.sent ≡ 0 = ap (λ os. tally (on is_go) os) sent ∙ roots_no_go s s.rows in
     (omega (arith, flow is_go s past e m, good.once), omega (arith, flow is_go s past e m, good.once))
 
-begins_good : (s : ScriptData) (past : List Entry) (e : Entry) → Sound s → Good s past → MayFollow s past e → e.took.body ≡ Go → e.actor.0 ≡ client_of s → e.sent ≡ roots_of s s.rows → e.acts ≡ []
+begins_good : (s : ScriptData) (past : List Entry) (e : Entry) → Sound s → Good s past → MayFollow s past e → e.took.body ≡ Go
+    → e.actor.0 ≡ client_of s → e.sent ≡ roots_of s s.rows → e.acts ≡ []
     → Good s (e ∷ past)
 begins_good s past e sound good m is at sent acts =
     let gone = begin_gone s past e good m is sent in
@@ -71,7 +74,8 @@ begins_good s past e sound good m is at sent acts =
     }
 
 -- A node's step.
-bound_next : (s : ScriptData) (past : List Entry) (e : Entry) (t k x : ℕ) → SubAt s t k → ((u i : ℕ) → tally (is_did u i) e.acts ≡ one_if ((t == u) && (k == i)))
+bound_next : (s : ScriptData) (past : List Entry) (e : Entry) (t k x : ℕ) → SubAt s t k
+    → ((u i : ℕ) → tally (is_did u i) e.acts ≡ one_if ((t == u) && (k == i)))
     → bound s (e ∷ past) x ≡ bounds_with s past t k x
 bound_next s past e t k x c did =
     omega (arith, load_more s past t k x c, trees_same (dids (e ∷ past)) (with_one s past t k) x 0 s.trees (λ u j le. omega (arith, did u j)))
@@ -89,7 +93,8 @@ asked_by s t v k u i c lt true is =
 client_kept : (s : ScriptData) (past : List Entry) (e : Entry) → e.actor.0 ≢ client_of s → client_in s (e ∷ past) ≡ client_in s past
 client_kept s past e ne = let other : (e.actor.0 == client_of s) ≡ false = grind (arith, nat_tests) in rw other refl
 
-items_next : (s : ScriptData) (past : List Entry) (e : Entry) (t k : ℕ) → Good s past → Does s past e t k (bounds_with s past t k) → (p : ℕ) → p < s.nodes
+items_next : (s : ScriptData) (past : List Entry) (e : Entry) (t k : ℕ) → Good s past → Does s past e t k (bounds_with s past t k)
+    → (p : ℕ) → p < s.nodes
     → (test : Bool) → (node_of s t k == p) ≡ test → TableIn s.items p (bound s (e ∷ past)) (node_in s (e ∷ past) p).items
 items_next s past e t k good does p lt true is =
     let eq : node_of s t k ≡ p = grind (arith, nat_tests) in
@@ -102,7 +107,8 @@ items_next s past e t k good does p lt false is =
     rw kept (table_more s.items p (bound s past) (bound s (e ∷ past)) (node_in s past p).items
     (λ x r at. omega (arith, bound_next s past e t k x does.sub does.did)) (good.items p lt))
 
-does_good : (s : ScriptData) (past : List Entry) (e : Entry) (t k : ℕ) → Sound s → Good s past → MayFollow s past e → Does s past e t k (bounds_with s past t k) → Good s (e ∷ past)
+does_good : (s : ScriptData) (past : List Entry) (e : Entry) (t k : ℕ) → Sound s → Good s past → MayFollow s past e
+    → Does s past e t k (bounds_with s past t k) → Good s (e ∷ past)
 does_good s past e t k sound good m does =
     let v = does.version in
     let node : e.actor.0 < s.nodes = omega (arith, does.node, node_here s t k does.sub, (is_sub s t k does.sub sound).node) in
@@ -137,7 +143,8 @@ start_good s = record {
   items = λ p lt. start_table s.items p (bound s []) (start_most s);
 }
 
-next_good : (s : ScriptData) (past : List Entry) (e : Entry) → Sound s → Good s past → MayFollow s past e → Next s past e (bounds_with s past) → Good s (e ∷ past)
+next_good : (s : ScriptData) (past : List Entry) (e : Entry) → Sound s → Good s past → MayFollow s past e
+    → Next s past e (bounds_with s past) → Good s (e ∷ past)
 next_good s past e sound good m (Begins is at sent acts) = begins_good s past e sound good m is at (begin_sent s past e good m is sent) acts
 next_good s past e sound good m (DoesOne t k does) = does_good s past e t k sound good m does
 

@@ -28,7 +28,8 @@ trees_none x t (tree ∷ ts) = omega (arith, subs_none x 0 tree.subs, trees_none
 at_most_load : (n m : ℕ) → n ≤ 1 → n * m ≤ m
 at_most_load n m le = grind arith
 
-subs_most : (often : ℕ → ℕ) (x k : ℕ) (ss : List Sub) → ((j : ℕ) → j < length ss → often (k + j) ≤ 1) → subs_done often x k ss ≤ subs_load x ss
+subs_most : (often : ℕ → ℕ) (x k : ℕ) (ss : List Sub) → ((j : ℕ) → j < length ss → often (k + j) ≤ 1)
+    → subs_done often x k ss ≤ subs_load x ss
 subs_most often x k [] once = omega arith
 subs_most often x k (s ∷ ss) once =
     let first : often k ≤ 1 = subst (λ (n : ℕ). often n ≤ 1) (omega arith) (once 0 (omega arith)) in
@@ -39,7 +40,8 @@ subs_most often x k (s ∷ ss) once =
     )
 
 pub trees_most : (often : ℕ → ℕ → ℕ) (x t : ℕ) (ts : List Tree)
-    → ((u j : ℕ) (tree : Tree) → slice_get ts u ≡ Some tree → j < length tree.subs → often (t + u) j ≤ 1) → trees_done often x t ts ≤ trees_load x ts
+    → ((u j : ℕ) (tree : Tree) → slice_get ts u ≡ Some tree → j < length tree.subs → often (t + u) j ≤ 1)
+    → trees_done often x t ts ≤ trees_load x ts
 trees_most often x t [] once = omega arith
 trees_most often x t (tree ∷ ts) once =
     omega (
@@ -53,7 +55,8 @@ subs_same : (a b : ℕ → ℕ) (x k : ℕ) (ss : List Sub) → ((j : ℕ) → k
 subs_same a b x k [] same = refl
 subs_same a b x k (s ∷ ss) same = rw (same k (omega arith), subs_same a b x (k + 1) ss (λ j le. same j (omega arith))) refl
 
-pub trees_same : (a b : ℕ → ℕ → ℕ) (x t : ℕ) (ts : List Tree) → ((u j : ℕ) → t ≤ u → a u j ≡ b u j) → trees_done a x t ts ≡ trees_done b x t ts
+pub trees_same : (a b : ℕ → ℕ → ℕ) (x t : ℕ) (ts : List Tree) → ((u j : ℕ) → t ≤ u → a u j ≡ b u j)
+    → trees_done a x t ts ≡ trees_done b x t ts
 trees_same a b x t [] same = refl
 trees_same a b x t (tree ∷ ts) same =
     omega (arith, subs_same (a t) (b t) x 0 tree.subs (λ j le. same t j (omega arith)), trees_same a b x (t + 1) ts (λ u j le. same u j (omega arith)))
@@ -74,7 +77,8 @@ subs_more a b x i k zero sub (s ∷ ss) at is one others =
 subs_more a b x i k (suc n) sub (s ∷ ss) at is one others =
     rw (others i (omega arith)) (omega (arith, subs_more a b x (i + 1) k n sub ss at (omega arith) one others))
 
-pub trees_more : (a b : ℕ → ℕ → ℕ) (x i t k n : ℕ) (tree : Tree) (sub : Sub) (ts : List Tree) → slice_get ts n ≡ Some tree → t ≡ i + n → slice_get tree.subs k ≡ Some sub
+pub trees_more : (a b : ℕ → ℕ → ℕ) (x i t k n : ℕ) (tree : Tree) (sub : Sub) (ts : List Tree) → slice_get ts n ≡ Some tree → t ≡ i + n
+    → slice_get tree.subs k ≡ Some sub
     → b t k ≡ a t k + 1 → ((j : ℕ) → j ≢ k → b t j ≡ a t j) → ((u j : ℕ) → u ≢ t → b u j ≡ a u j)
     → trees_done b x i ts ≡ trees_done a x i ts + ops_load x sub.ops
 trees_more a b x i t k n tree sub [] at is here one others apart = absurd (cc at)

@@ -72,7 +72,8 @@ is_update_of trees.Read is = absurd (cc is)
 is_update_of trees.Strict is = absurd (cc is)
 
 pub tree_updates : (s : ScriptData) (t : ℕ) (tree : Tree) → Sound s → slice_get s.trees t ≡ Some tree → tree.kind ≡ trees.Update
-tree_updates s t tree sound at = is_update_of tree.kind (all_at (λ (x : Tree). IsTrue (is_update x.kind)) s.trees t tree sound.runnable.trees at)
+tree_updates s t tree sound at =
+    is_update_of tree.kind (all_at (λ (x : Tree). IsTrue (is_update x.kind)) s.trees t tree sound.runnable.trees at)
 
 pub updates_here : (s : ScriptData) (t k : ℕ) (c : SubAt s t k) → Sound s → updates s t ≡ true
 updates_here s t k c sound = rw (c.at, updates) (ap is_update (tree_updates s t c.tree sound c.at))
@@ -80,7 +81,8 @@ updates_here s t k c sound = rw (c.at, updates) (ap is_update (tree_updates s t 
 pub is_tree : (s : ScriptData) (t : ℕ) (tree : Tree) → Sound s → slice_get s.trees t ≡ Some tree → IsTree s.nodes s.items tree
 is_tree s t tree sound at = all_at (IsTree s.nodes s.items) s.trees t tree sound.valid.trees at
 
-sub_of_all : (nodes : ℕ) (items : List ItemRow) (kind : TreeKind) (i k n : ℕ) (subs : List Sub) (sub : Sub) → AreSubs nodes items kind i subs → slice_get subs n ≡ Some sub → k ≡ i + n
+sub_of_all : (nodes : ℕ) (items : List ItemRow) (kind : TreeKind) (i k n : ℕ) (subs : List Sub) (sub : Sub)
+    → AreSubs nodes items kind i subs → slice_get subs n ≡ Some sub → k ≡ i + n
     → IsSub nodes items kind k sub
 sub_of_all nodes items kind i k n [] sub all at is = absurd (cc at)
 sub_of_all nodes items kind i k zero (y ∷ subs) sub all at is =
@@ -100,5 +102,6 @@ has_root s t sound lt =
     let sub = get_some tree.0.subs 0 (is_tree s t tree.0 sound tree.1).root in
     record { tree = tree.0; at = tree.1; sub = sub.0; here = sub.1 }
 
-pub item_load : (s : ScriptData) (x : ℕ) (r : ItemRow) → Sound s → slice_get s.items x ≡ Some r → unsigned_abs r.initial + trees_load x s.trees ≤ MOST_AMOUNT
+pub item_load : (s : ScriptData) (x : ℕ) (r : ItemRow) → Sound s → slice_get s.items x ≡ Some r
+    → unsigned_abs r.initial + trees_load x s.trees ≤ MOST_AMOUNT
 item_load s x r sound at = let most = sound.valid.loads x (get_below s.items x r at) in rw at at most

@@ -46,9 +46,11 @@ other_at t k u v parent i x xs ne false is rest = rw is rest
 -- another tree
 other : (t k u v parent i : ℕ) (xs : List Sub) → u ≢ t → tally (on (asks t k)) (sub_letters u v parent i xs) ≡ 0
 other t k u v parent i [] ne = refl
-other t k u v parent i (x ∷ xs) ne = other_at t k u v parent i x xs ne (nat_lt parent i && (x.parent.0 == parent)) refl (other t k u v parent (i + 1) xs ne)
+other t k u v parent i (x ∷ xs) ne =
+    other_at t k u v parent i x xs ne (nat_lt parent i && (x.parent.0 == parent)) refl (other t k u v parent (i + 1) xs ne)
 
-child_at : (t k v parent i : ℕ) (x : Sub) (xs : List Sub) → i ≡ k → parent < k → (test : Bool) → (nat_lt parent i && (x.parent.0 == parent)) ≡ test
+child_at : (t k v parent i : ℕ) (x : Sub) (xs : List Sub) → i ≡ k → parent < k → (test : Bool)
+    → (nat_lt parent i && (x.parent.0 == parent)) ≡ test
     → tally (on (asks t k)) (sub_letters t v parent i (x ∷ xs)) ≡ one_if (parent == x.parent.0)
 child_at t k v parent i x xs ik lt true is =
     let mine : one_if ((t == t) && (i == k)) ≡ 1 = grind (arith, nat_tests) in
@@ -73,7 +75,8 @@ low_at t k v parent i x xs le false is rest = rw is rest
 
 low : (t k v parent i : ℕ) (xs : List Sub) → k ≤ parent → tally (on (asks t k)) (sub_letters t v parent i xs) ≡ 0
 low t k v parent i [] le = refl
-low t k v parent i (x ∷ xs) le = low_at t k v parent i x xs le (nat_lt parent i && (x.parent.0 == parent)) refl (low t k v parent (i + 1) xs le)
+low t k v parent i (x ∷ xs) le =
+    low_at t k v parent i x xs le (nat_lt parent i && (x.parent.0 == parent)) refl (low t k v parent (i + 1) xs le)
 
 high : (t k v parent i n : ℕ) (sub : Sub) (xs : List Sub) → slice_get xs n ≡ Some sub → k ≡ i + n → parent < k
     → tally (on (asks t k)) (sub_letters t v parent i xs) ≡ one_if (parent == sub.parent.0)
@@ -85,7 +88,8 @@ high t k v parent i zero sub (x ∷ xs) at is lt =
 high t k v parent i (suc n) sub (x ∷ xs) at is lt =
     earlier_at t k v parent i x xs (omega arith) (nat_lt parent i && (x.parent.0 == parent)) refl ∙ high t k v parent (i + 1) n sub xs at (omega arith) lt
 
-children_by : (t k u v parent : ℕ) (sub : Sub) (xs : List Sub) → slice_get xs k ≡ Some sub → sub.parent.0 < k → (a b : Bool) → (u == t) ≡ a → nat_lt parent k ≡ b
+children_by : (t k u v parent : ℕ) (sub : Sub) (xs : List Sub) → slice_get xs k ≡ Some sub → sub.parent.0 < k → (a b : Bool) → (u == t) ≡ a
+    → nat_lt parent k ≡ b
     → tally (on (asks t k)) (sub_letters u v parent 0 xs) ≡ one_if ((u == t) && (parent == sub.parent.0))
 children_by t k u v parent sub xs at lt false b is test =
     let ne : u ≢ t = grind (arith, nat_tests) in
@@ -142,7 +146,8 @@ roots_alone s t k (TreeRow u ∷ rows) lt = omega (arith, root_alone t u.0 k lt,
 roots_alone s t k (Advance ∷ rows) lt = roots_alone s t k rows lt
 roots_alone s t k (Settle ∷ rows) lt = roots_alone s t k rows lt
 
-roots_before : (s : ScriptData) (t i n : ℕ) (rows : List ScriptRow) → NamesInOrder i n rows → t < i → tally (on (asks t 0)) (roots_of s rows) ≡ 0
+roots_before : (s : ScriptData) (t i n : ℕ) (rows : List ScriptRow) → NamesInOrder i n rows → t < i
+    → tally (on (asks t 0)) (roots_of s rows) ≡ 0
 roots_before s t i n [] names lt = refl
 roots_before s t i n (TreeRow u ∷ rows) names lt =
     let ne : u.0 ≢ t = omega (arith, names.0) in
@@ -151,7 +156,8 @@ roots_before s t i n (Advance ∷ rows) names lt = roots_before s t i n rows nam
 roots_before s t i n (Settle ∷ rows) names lt = roots_before s t i n rows names lt
 
 roots_at : (s : ScriptData) (t i n u : ℕ) (rows : List ScriptRow) → NamesInOrder (i + 1) n rows → u ≡ i → (test : Bool) → (u == t) ≡ test
-    → (i < t → tally (on (asks t 0)) (roots_of s rows) ≡ 1) → i ≤ t → one_if ((u == t) && (0 == 0)) + tally (on (asks t 0)) (roots_of s rows) ≡ 1
+    → (i < t → tally (on (asks t 0)) (roots_of s rows) ≡ 1) → i ≤ t
+    → one_if ((u == t) && (0 == 0)) + tally (on (asks t 0)) (roots_of s rows) ≡ 1
 roots_at s t i n u rows names ui true is rest le =
     let eq : u ≡ t = grind (arith, nat_tests) in
     rw is (omega (arith, roots_before s t (i + 1) n rows names (omega arith)))
@@ -160,7 +166,8 @@ roots_at s t i n u rows names ui false is rest le =
     rw is (omega (arith, rest (omega arith)))
 
 -- the rows ask for each tree's root once
-pub roots_once : (s : ScriptData) (t i n : ℕ) (rows : List ScriptRow) → NamesInOrder i n rows → i ≤ t → t < n → tally (on (asks t 0)) (roots_of s rows) ≡ 1
+pub roots_once : (s : ScriptData) (t i n : ℕ) (rows : List ScriptRow) → NamesInOrder i n rows → i ≤ t → t < n
+    → tally (on (asks t 0)) (roots_of s rows) ≡ 1
 roots_once s t i n [] names le lt = absurd (omega (arith, names))
 roots_once s t i n (TreeRow u ∷ rows) names le lt =
     roots_at s t i n u.0 rows names.1 names.0 (u.0 == t) refl (λ less. roots_once s t (i + 1) n rows names.1 (omega arith) lt) le

@@ -35,7 +35,8 @@ pub record Does (s : ScriptData) (past : List Entry) (e : Entry) (t k : ℕ) (af
 
 -- what node p makes of the letter
 abbrev pub Made : ScriptData → List Entry → Entry → ℕ → Type 0
-Made s past e p = (node_in s (e ∷ past) p ≡ (node_table s p (node_in s past p) e.took).state) × Says (node_table s p (node_in s past p) e.took) e
+Made s past e p =
+    (node_in s (e ∷ past) p ≡ (node_table s p (node_in s past p) e.took).state) × Says (node_table s p (node_in s past p) e.took) e
 
 made_by : (s : ScriptData) (past : List Entry) (e : Entry) (p : ℕ) → e.actor.0 ≡ p → NodeNext s past e p → Made s past e p
 made_by s past e p at (Stays ne is) = absurd (ne at)
@@ -51,11 +52,13 @@ below_test : (m n : ℕ) → m < n → nat_lt m n ≡ true
 below_test m n lt = grind (arith, nat_tests)
 
 -- The rows of a node.
-root_row : (s : ScriptData) (st : Node) (from : ℕ) (t : TreeNo) (items : Table) → updates s t.0 ≡ true → touched_by st.turns.update (ops_of s t.0 0) st.items ≡ Some items
+root_row : (s : ScriptData) (st : Node) (from : ℕ) (t : TreeNo) (items : Table) → updates s t.0 ≡ true
+    → touched_by st.turns.update (ops_of s t.0 0) st.items ≡ Some items
     → node_row s (home_of s t.0) st from (Root t) ≡ root_step s t.0 st.turns.update.0 st (Some items)
 root_row s st from t items up held = let here = same_test (home_of s t.0) in rw here (rw up (rw held refl))
 
-sub_row : (s : ScriptData) (st : Node) (from : ℕ) (t : TreeNo) (k : SubNo) (v : Version) (items : Table) → updates s t.0 ≡ true → from < s.nodes
+sub_row : (s : ScriptData) (st : Node) (from : ℕ) (t : TreeNo) (k : SubNo) (v : Version) (items : Table) → updates s t.0 ≡ true
+    → from < s.nodes
     → touched_by v (ops_of s t.0 k.0) st.items ≡ Some items
     → node_row s (node_of s t.0 k.0) st from (SubLetter t k v) ≡ sub_step s t.0 k.0 v.0 st (Some items)
 sub_row s st from t k v items up lt held =
@@ -63,7 +66,8 @@ sub_row s st from t k v items up lt held =
     let node = below_test from s.nodes lt in
     rw here (rw up (rw node (rw held refl)))
 
-not_turned : (f : Act → ℕ) (raises : Bool) (v : ℕ) (acts : List Act) → ((w : Version) → f (Turned w) ≡ 0) → tally f (turned_if raises v ++ acts) ≡ tally f acts
+not_turned : (f : Act → ℕ) (raises : Bool) (v : ℕ) (acts : List Act) → ((w : Version) → f (Turned w) ≡ 0)
+    → tally f (turned_if raises v ++ acts) ≡ tally f acts
 not_turned f true v acts none = omega (arith, none (record { 0 = v }))
 not_turned f false v acts none = refl
 
@@ -73,7 +77,8 @@ root_born t u = grind (arith, nat_tests)
 no_birth : (t u k : ℕ) → 0 < k → one_if ((t == u) && (k == 0)) ≡ 0
 no_birth t u k lt = grind (arith, nat_tests)
 
-root_done : (s : ScriptData) (past : List Entry) (e : Entry) (t : TreeNo) (after : ℕ → ℕ) (items : Table) → SubAt s t.0 0 → updates s t.0 ≡ true → e.took.body ≡ Root t
+root_done : (s : ScriptData) (past : List Entry) (e : Entry) (t : TreeNo) (after : ℕ → ℕ) (items : Table) → SubAt s t.0 0
+    → updates s t.0 ≡ true → e.took.body ≡ Root t
     → e.actor.0 ≡ home_of s t.0 → Made s past e (home_of s t.0)
     → touched_by (node_in s past (home_of s t.0)).turns.update (ops_of s t.0 0) (node_in s past (home_of s t.0)).items ≡ Some items
     → TableIn s.items (home_of s t.0) after items → Does s past e t.0 0 after
@@ -94,7 +99,8 @@ root_done s past e t after items sub up is at made held good =
       no_go = rw is refl;
     }
 
-sub_done : (s : ScriptData) (past : List Entry) (e : Entry) (t : TreeNo) (k : SubNo) (v : Version) (after : ℕ → ℕ) (items : Table) → SubAt s t.0 k.0 → 0 < k.0 → updates s t.0 ≡ true
+sub_done : (s : ScriptData) (past : List Entry) (e : Entry) (t : TreeNo) (k : SubNo) (v : Version) (after : ℕ → ℕ) (items : Table)
+    → SubAt s t.0 k.0 → 0 < k.0 → updates s t.0 ≡ true
     → e.took.from.0 < s.nodes → e.took.body ≡ SubLetter t k v → e.actor.0 ≡ node_of s t.0 k.0 → Made s past e (node_of s t.0 k.0)
     → touched_by v (ops_of s t.0 k.0) (node_in s past (node_of s t.0 k.0)).items ≡ Some items
     → TableIn s.items (node_of s t.0 k.0) after items → Does s past e t.0 k.0 after
@@ -117,7 +123,8 @@ sub_done s past e t k v after items sub later up from is at made held good =
     }
 
 -- The client.
-client_says : (s : ScriptData) (past : List Entry) (e : Entry) → e.actor.0 ≡ client_of s → Moves s past e → Says (client_table s (client_in s past) e.took) e
+client_says : (s : ScriptData) (past : List Entry) (e : Entry) → e.actor.0 ≡ client_of s → Moves s past e
+    → Says (client_table s (client_in s past) e.took) e
 client_says s past e at (AtNode node says) = absurd (omega arith)
 client_says s past e at (AtCoordinator here says) = absurd (omega arith)
 client_says s past e at (AtClient here says) = says
@@ -132,15 +139,18 @@ abbrev pub MayDo : ScriptData → List Entry → Entry → (ℕ → ℕ → ℕ 
 MayDo s past e after = (t k : ℕ) (c : SubAt s t k) (v : Version) → asks t k e.took.body ≡ 1
     → (node_of s t k < s.nodes) × SomeTableIn s.items (node_of s t k) (after t k) (touched_by v (ops_of s t k) (node_in s past (node_of s t k)).items)
 
-root_next : (s : ScriptData) (past : List Entry) (e : Entry) (t : TreeNo) (after : ℕ → ℕ → ℕ → ℕ) (found : Option Table) → SubAt s t.0 0 → updates s t.0 ≡ true → e.took.body ≡ Root t
+root_next : (s : ScriptData) (past : List Entry) (e : Entry) (t : TreeNo) (after : ℕ → ℕ → ℕ → ℕ) (found : Option Table) → SubAt s t.0 0
+    → updates s t.0 ≡ true → e.took.body ≡ Root t
     → e.actor.0 ≡ home_of s t.0 → Made s past e (home_of s t.0)
     → touched_by (node_in s past (home_of s t.0)).turns.update (ops_of s t.0 0) (node_in s past (home_of s t.0)).items ≡ found
     → SomeTableIn s.items (home_of s t.0) (after t.0 0) found → Next s past e after
 root_next s past e t after None sub up is at made held good = absurd good
-root_next s past e t after (Some items) sub up is at made held good = DoesOne t.0 0 (root_done s past e t (after t.0 0) items sub up is at made held good)
+root_next s past e t after (Some items) sub up is at made held good =
+    DoesOne t.0 0 (root_done s past e t (after t.0 0) items sub up is at made held good)
 
 sub_next : (s : ScriptData) (past : List Entry) (e : Entry) (t : TreeNo) (k : SubNo) (v : Version) (after : ℕ → ℕ → ℕ → ℕ) (found : Option Table) → SubAt s t.0 k.0 → 0 < k.0
-    → updates s t.0 ≡ true → e.took.from.0 < s.nodes → e.took.body ≡ SubLetter t k v → e.actor.0 ≡ node_of s t.0 k.0 → Made s past e (node_of s t.0 k.0)
+    → updates s t.0 ≡ true → e.took.from.0 < s.nodes → e.took.body ≡ SubLetter t k v → e.actor.0 ≡ node_of s t.0 k.0
+    → Made s past e (node_of s t.0 k.0)
     → touched_by v (ops_of s t.0 k.0) (node_in s past (node_of s t.0 k.0)).items ≡ found
     → SomeTableIn s.items (node_of s t.0 k.0) (after t.0 k.0) found → Next s past e after
 sub_next s past e t k v after None sub later up from is at made held good = absurd good

@@ -27,10 +27,12 @@ ItemIn kind b (Some h) = HeldIn kind b h
 
 -- each item of node p is in the table, and keeps to its bound
 abbrev pub TableIn : List ItemRow → ℕ → (ℕ → ℕ) → Table → Type 0
-TableIn rows p bound items = (x : ℕ) (r : ItemRow) → slice_get rows x ≡ Some r → r.node.0 ≡ p → ItemIn r.kind (bound x) (item_in (record { 0 = x }) items)
+TableIn rows p bound items =
+    (x : ℕ) (r : ItemRow) → slice_get rows x ≡ Some r → r.node.0 ≡ p → ItemIn r.kind (bound x) (item_in (record { 0 = x }) items)
 
 -- Looking up what was put in place.
-replaced_same_at : (n : ItemNo) (h g : Held) (e : ItemNo × Held) (es : Table) (test : Bool) → (e.0.0 == n.0) ≡ test → item_in n (e ∷ es) ≡ Some g
+replaced_same_at : (n : ItemNo) (h g : Held) (e : ItemNo × Held) (es : Table) (test : Bool) → (e.0.0 == n.0) ≡ test
+    → item_in n (e ∷ es) ≡ Some g
     → (item_in n es ≡ Some g → item_in n (replaced n h es) ≡ Some h) → item_in n (replaced n h (e ∷ es)) ≡ Some h
 replaced_same_at n h g e es true is at rest = let same : (n.0 == n.0) ≡ true = grind (arith, nat_tests) in rw is (rw same refl)
 replaced_same_at n h g e es false is at rest = rw is (rw is (rest (rw is at at)))
@@ -39,9 +41,11 @@ pub replaced_same : (n : ItemNo) (h g : Held) (t : Table) → item_in n t ≡ So
 replaced_same n h g [] at = absurd (cc at)
 replaced_same n h g (e ∷ es) at = replaced_same_at n h g e es (e.0.0 == n.0) refl at (replaced_same n h g es)
 
-replaced_other_at : (n m : ItemNo) (h : Held) (e : ItemNo × Held) (es : Table) → (n.0 == m.0) ≡ false → (test : Bool) → (e.0.0 == n.0) ≡ test
+replaced_other_at : (n m : ItemNo) (h : Held) (e : ItemNo × Held) (es : Table) → (n.0 == m.0) ≡ false → (test : Bool)
+    → (e.0.0 == n.0) ≡ test
     → item_in m (replaced n h es) ≡ item_in m es → item_in m (replaced n h (e ∷ es)) ≡ item_in m (e ∷ es)
-replaced_other_at n m h e es other true is rest = let differs : (e.0.0 == m.0) ≡ false = grind (arith, nat_tests) in rw is (rw other (rw differs refl))
+replaced_other_at n m h e es other true is rest =
+    let differs : (e.0.0 == m.0) ≡ false = grind (arith, nat_tests) in rw is (rw other (rw differs refl))
 replaced_other_at n m h e es other false is rest = rw is (ap (λ (o : Option Held). if e.0.0 == m.0 then Some e.1 else o) rest)
 
 pub replaced_other : (n m : ItemNo) (h : Held) (t : Table) → (n.0 == m.0) ≡ false → item_in m (replaced n h t) ≡ item_in m t
@@ -67,7 +71,8 @@ put_same : (n : ItemNo) (items : Table) (g h : Held) (kind : Kind) (b x : ℕ) �
 put_same n items g h kind b x eq here ok =
     subst (λ (y : ℕ). ItemIn kind b (item_in (record { 0 = y }) (replaced n h items))) eq (rw (replaced_same n h g items here) ok)
 
-put_by : (rows : List ItemRow) (p : ℕ) (bound : ℕ → ℕ) (n : ItemNo) (m : ℕ) (items : Table) (g h : Held) (r : ItemRow) → slice_get rows n.0 ≡ Some r → item_in n items ≡ Some g
+put_by : (rows : List ItemRow) (p : ℕ) (bound : ℕ → ℕ) (n : ItemNo) (m : ℕ) (items : Table) (g h : Held) (r : ItemRow)
+    → slice_get rows n.0 ≡ Some r → item_in n items ≡ Some g
     → HeldIn r.kind (bound n.0 + m) h → TableIn rows p bound items
     → (x : ℕ) (q : ItemRow) → slice_get rows x ≡ Some q → q.node.0 ≡ p → (test : Bool) → (n.0 == x) ≡ test
     → ItemIn q.kind (bound_after bound n.0 m x) (item_in (record { 0 = x }) (replaced n h items))
@@ -107,7 +112,8 @@ one_deed rows p bound v n (Set a) items r at node fit most all = absurd (cc fit)
 one_deed rows p bound v n (Draw a) items r at node fit most all = absurd (cc fit)
 
 one_of : (rows : List ItemRow) (p : ℕ) (bound : ℕ → ℕ) (v : Version) (o : SubOp) (items : Table) (found : Option ItemRow)
-    → slice_get rows o.item.0 ≡ found → OpAt trees.Update p o found → bound o.item.0 + magnitude o.deed ≤ MOST_AMOUNT → TableIn rows p bound items
+    → slice_get rows o.item.0 ≡ found → OpAt trees.Update p o found → bound o.item.0 + magnitude o.deed ≤ MOST_AMOUNT
+    → TableIn rows p bound items
     → SomeTableIn rows p (bound_after bound o.item.0 (magnitude o.deed)) (touched_by_deed v o.item o.deed items)
 one_of rows p bound v o items None at is_op most all = absurd is_op
 one_of rows p bound v o items (Some r) at is_op most all = one_deed rows p bound v o.item o.deed items r at is_op.0 is_op.1 most all
@@ -123,12 +129,17 @@ item_more kind b c None le ok = ok
 item_more kind b c (Some h) le ok = held_more kind b c h le ok
 
 -- greater bounds
-pub table_more : (rows : List ItemRow) (p : ℕ) (a b : ℕ → ℕ) (items : Table) → ((x : ℕ) (r : ItemRow) → slice_get rows x ≡ Some r → a x ≤ b x) → TableIn rows p a items → TableIn rows p b items
-table_more rows p a b items more all = λ x r at node. item_more r.kind (a x) (b x) (item_in (record { 0 = x }) items) (more x r at) (all x r at node)
+pub table_more : (rows : List ItemRow) (p : ℕ) (a b : ℕ → ℕ) (items : Table)
+    → ((x : ℕ) (r : ItemRow) → slice_get rows x ≡ Some r → a x ≤ b x) → TableIn rows p a items → TableIn rows p b items
+table_more rows p a b items more all =
+    λ x r at node. item_more r.kind (a x) (b x) (item_in (record { 0 = x }) items) (more x r at) (all x r at node)
 
-table_same : (rows : List ItemRow) (p : ℕ) (a b : ℕ → ℕ) (found : Option Table) → ((x : ℕ) → a x ≡ b x) → SomeTableIn rows p a found → SomeTableIn rows p b found
+-- equal bounds
+table_same : (rows : List ItemRow) (p : ℕ) (a b : ℕ → ℕ) (found : Option Table) → ((x : ℕ) → a x ≡ b x) → SomeTableIn rows p a found
+    → SomeTableIn rows p b found
 table_same rows p a b None same all = all
-table_same rows p a b (Some items) same all = λ x r at node. subst (λ (n : ℕ). ItemIn r.kind n (item_in (record { 0 = x }) items)) (same x) (all x r at node)
+table_same rows p a b (Some items) same all =
+    λ x r at node. subst (λ (n : ℕ). ItemIn r.kind n (item_in (record { 0 = x }) items)) (same x) (all x r at node)
 
 here_load : (n x m : ℕ) → x ≡ n → (if n == x then m else 0) ≡ m
 here_load n x m is = let test : (n == x) ≡ true = grind (arith, nat_tests) in rw test refl
@@ -142,14 +153,17 @@ rest_of rows p bound v o os None all rest = absurd all
 rest_of rows p bound v o os (Some items) all rest =
     table_same rows p (bounds_after (bound_after bound o.item.0 (magnitude o.deed)) os) (bounds_after bound (o ∷ os)) (touched_by v os items) (λ x. omega arith) (rest items all)
 
-first_load : (rows : List ItemRow) (p : ℕ) (bound : ℕ → ℕ) (o : SubOp) (os : List SubOp) (found : Option ItemRow) → slice_get rows o.item.0 ≡ found → OpAt trees.Update p o found
-    → ((x : ℕ) (r : ItemRow) → slice_get rows x ≡ Some r → bound x + ops_load x (o ∷ os) ≤ MOST_AMOUNT) → bound o.item.0 + magnitude o.deed ≤ MOST_AMOUNT
+first_load : (rows : List ItemRow) (p : ℕ) (bound : ℕ → ℕ) (o : SubOp) (os : List SubOp) (found : Option ItemRow)
+    → slice_get rows o.item.0 ≡ found → OpAt trees.Update p o found
+    → ((x : ℕ) (r : ItemRow) → slice_get rows x ≡ Some r → bound x + ops_load x (o ∷ os) ≤ MOST_AMOUNT)
+    → bound o.item.0 + magnitude o.deed ≤ MOST_AMOUNT
 first_load rows p bound o os None at is_op most = absurd is_op
 first_load rows p bound o os (Some r) at is_op most = omega (arith, most o.item.0 r at, here_load o.item.0 o.item.0 (magnitude o.deed) refl)
 
 -- operations that fit, and that keep within what is allowed, may all be applied
 pub touched_table : (rows : List ItemRow) (p : ℕ) (bound : ℕ → ℕ) (v : Version) (os : List SubOp) (items : Table)
-    → AllByRecursion (IsOp rows trees.Update p) os → ((x : ℕ) (r : ItemRow) → slice_get rows x ≡ Some r → bound x + ops_load x os ≤ MOST_AMOUNT)
+    → AllByRecursion (IsOp rows trees.Update p) os
+    → ((x : ℕ) (r : ItemRow) → slice_get rows x ≡ Some r → bound x + ops_load x os ≤ MOST_AMOUNT)
     → TableIn rows p bound items → SomeTableIn rows p (bounds_after bound os) (touched_by v os items)
 touched_table rows p bound v [] items ops most all = table_same rows p bound (bounds_after bound []) (Some items) (λ x. omega arith) all
 touched_table rows p bound v (o ∷ os) items ops most all =
@@ -161,7 +175,8 @@ touched_table rows p bound v (o ∷ os) items ops most all =
 other_node : (n p : ℕ) → (n == p) ≡ false → n ≢ p
 other_node n p is = grind (arith, nat_tests)
 
-start_same_at : (p i x : ℕ) (bound : ℕ → ℕ) (r q : ItemRow) (rows : List ItemRow) → r ≡ q → q.node.0 ≡ p → i ≡ x → unsigned_abs q.initial ≤ bound x
+start_same_at : (p i x : ℕ) (bound : ℕ → ℕ) (r q : ItemRow) (rows : List ItemRow) → r ≡ q → q.node.0 ≡ p → i ≡ x
+    → unsigned_abs q.initial ≤ bound x
     → (test : Bool) → (r.node.0 == p) ≡ test → ItemIn q.kind (bound x) (item_in (record { 0 = x }) (items_at p i (r ∷ rows)))
 start_same_at p i x bound r q rows rq node ix most true is =
     let here : (i == x) ≡ true = grind (arith, nat_tests) in
@@ -176,14 +191,17 @@ start_later_at : (p i x : ℕ) (r : ItemRow) (rows : List ItemRow) → i < x →
 start_later_at p i x r rows lt true is = let differs : (i == x) ≡ false = grind (arith, nat_tests) in rw is (rw differs refl)
 start_later_at p i x r rows lt false is = rw is refl
 
-start_from : (p i x n : ℕ) (bound : ℕ → ℕ) (q : ItemRow) (rows : List ItemRow) → slice_get rows n ≡ Some q → q.node.0 ≡ p → x ≡ i + n → unsigned_abs q.initial ≤ bound x
+start_from : (p i x n : ℕ) (bound : ℕ → ℕ) (q : ItemRow) (rows : List ItemRow) → slice_get rows n ≡ Some q → q.node.0 ≡ p → x ≡ i + n
+    → unsigned_abs q.initial ≤ bound x
     → ItemIn q.kind (bound x) (item_in (record { 0 = x }) (items_at p i rows))
 start_from p i x n bound q [] at node is most = absurd (cc at)
-start_from p i x zero bound q (r ∷ rows) at node is most = start_same_at p i x bound r q rows (cc at) node (omega arith) most (r.node.0 == p) refl
+start_from p i x zero bound q (r ∷ rows) at node is most =
+    start_same_at p i x bound r q rows (cc at) node (omega arith) most (r.node.0 == p) refl
 start_from p i x (suc n) bound q (r ∷ rows) at node is most =
     rw (start_later_at p i x r rows (omega arith) (r.node.0 == p) refl) (start_from p (i + 1) x n bound q rows at node (omega arith) most)
 
 -- each item of a node has its initial value
-pub start_table : (rows : List ItemRow) (p : ℕ) (bound : ℕ → ℕ) → ((x : ℕ) (r : ItemRow) → slice_get rows x ≡ Some r → unsigned_abs r.initial ≤ bound x)
+pub start_table : (rows : List ItemRow) (p : ℕ) (bound : ℕ → ℕ)
+    → ((x : ℕ) (r : ItemRow) → slice_get rows x ≡ Some r → unsigned_abs r.initial ≤ bound x)
     → TableIn rows p bound (items_at p 0 rows)
 start_table rows p bound most = λ x r at node. start_from p 0 x x bound r rows at node (omega arith) (most x r at)

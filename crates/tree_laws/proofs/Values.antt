@@ -44,7 +44,8 @@ value_more BagKind b c (Top z) le ok = absurd ok
 value_more BagKind b c (Bag zs) le ok = tt
 
 -- an operation that fits may be applied, and the value then keeps to the greater bound
-pub may_apply_value : (kind : Kind) (op : Op) (b : ℕ) (w : Value) → op_fits kind op ≡ true → ValueIn kind b w → b + op_magnitude op ≤ MOST_AMOUNT
+pub may_apply_value : (kind : Kind) (op : Op) (b : ℕ) (w : Value) → op_fits kind op ≡ true → ValueIn kind b w
+    → b + op_magnitude op ≤ MOST_AMOUNT
     → may_apply w op ≡ true
 may_apply_value SumKind (Add a) b (Sum z) fit ok most = within z.0 a b ok most
 may_apply_value TopKind (Raise a) b (Top z) fit ok most = refl
@@ -65,7 +66,8 @@ may_apply_value BagKind op b (Top z) fit ok most = absurd ok
 sum_more : (z a : ℤ) (b : ℕ) → unsigned_abs z ≤ b → unsigned_abs (z +ℤ a) ≤ b + unsigned_abs a
 sum_more z a b le = omega (arith, abs_sum z a)
 
-pub applied_value : (kind : Kind) (op : Op) (b : ℕ) (w : Value) → op_fits kind op ≡ true → ValueIn kind b w → ValueIn kind (b + op_magnitude op) (applied w op)
+pub applied_value : (kind : Kind) (op : Op) (b : ℕ) (w : Value) → op_fits kind op ≡ true → ValueIn kind b w
+    → ValueIn kind (b + op_magnitude op) (applied w op)
 applied_value SumKind (Add a) b (Sum z) fit ok = sum_more z.0 a b ok
 applied_value TopKind (Raise a) b (Top z) fit ok = tt
 applied_value BagKind (Put a) b (Bag zs) fit ok = tt
@@ -96,11 +98,13 @@ abbrev pub HeldIn : Kind → ℕ → Held → Type 0
 HeldIn kind b [] = ⊥
 HeldIn kind b (x ∷ xs) = AllIn kind b (x ∷ xs)
 
-pick_value : (kind : Kind) (b : ℕ) (test : Bool) (x y : Value) → ValueIn kind b x → ValueIn kind b y → ValueIn kind b (if test then x else y)
+pick_value : (kind : Kind) (b : ℕ) (test : Bool) (x y : Value) → ValueIn kind b x → ValueIn kind b y
+    → ValueIn kind b (if test then x else y)
 pick_value kind b true x y p q = p
 pick_value kind b false x y p q = q
 
-seen_in : (kind : Kind) (b : ℕ) (v : Version) (w : Value) (xs : Held) → ValueIn kind b w → AllIn kind b xs → ValueIn kind b (seen_after w v xs)
+seen_in : (kind : Kind) (b : ℕ) (v : Version) (w : Value) (xs : Held) → ValueIn kind b w → AllIn kind b xs
+    → ValueIn kind b (seen_after w v xs)
 seen_in kind b v w [] ok all = ok
 seen_in kind b v w (x ∷ xs) ok all =
     seen_in kind b v (if nat_le x.0.0 v.0 then x.1 else w) xs (pick_value kind b (nat_le x.0.0 v.0) x.1 w all.0 ok) all.1
@@ -112,7 +116,8 @@ or_true false b is = is
 both_true : (a b : Bool) → a ≡ true → b ≡ true → (a && b) ≡ true
 both_true a b p q = rw p q
 
-above_may : (kind : Kind) (op : Op) (b : ℕ) (v : Version) (xs : Held) → op_fits kind op ≡ true → b + op_magnitude op ≤ MOST_AMOUNT → AllIn kind b xs
+above_may : (kind : Kind) (op : Op) (b : ℕ) (v : Version) (xs : Held) → op_fits kind op ≡ true → b + op_magnitude op ≤ MOST_AMOUNT
+    → AllIn kind b xs
     → may_apply_above v op xs ≡ true
 above_may kind op b v [] fit most all = refl
 above_may kind op b v (x ∷ xs) fit most all =
@@ -120,14 +125,16 @@ above_may kind op b v (x ∷ xs) fit most all =
     (or_true (not (nat_lt v.0 x.0.0)) (may_apply x.1 op) (may_apply_value kind op b x.1 fit all.0 most)) (above_may kind op b v xs fit most all.1)
 
 -- an update with an operation that fits may be made
-pub held_may : (kind : Kind) (op : Op) (b : ℕ) (v : Version) (h : Held) → op_fits kind op ≡ true → b + op_magnitude op ≤ MOST_AMOUNT → HeldIn kind b h
+pub held_may : (kind : Kind) (op : Op) (b : ℕ) (v : Version) (h : Held) → op_fits kind op ≡ true → b + op_magnitude op ≤ MOST_AMOUNT
+    → HeldIn kind b h
     → may_touch v op h ≡ true
 held_may kind op b v [] fit most all = absurd all
 held_may kind op b v (x ∷ xs) fit most all =
     both_true (may_apply (seen_after x.1 v xs) op) (may_apply_above v op (x ∷ xs))
     (may_apply_value kind op b (seen_after x.1 v xs) fit (seen_in kind b v x.1 xs all.0 all.1) most) (above_may kind op b v (x ∷ xs) fit most all)
 
-pick_all : (kind : Kind) (b : ℕ) (test : Bool) (x : Version × Value) (xs : Held) → ValueIn kind b x.1 → AllIn kind b xs → AllIn kind b (if test then x ∷ xs else xs)
+pick_all : (kind : Kind) (b : ℕ) (test : Bool) (x : Version × Value) (xs : Held) → ValueIn kind b x.1 → AllIn kind b xs
+    → AllIn kind b (if test then x ∷ xs else xs)
 pick_all kind b true x xs p q = (p, q)
 pick_all kind b false x xs p q = q
 
@@ -135,7 +142,8 @@ filter_in : (kind : Kind) (b : ℕ) (test : Version × Value → Bool) (xs : Hel
 filter_in kind b test [] all = tt
 filter_in kind b test (x ∷ xs) all = pick_all kind b (test x) x (filter test xs) all.0 (filter_in kind b test xs all.1)
 
-applied_in : (kind : Kind) (op : Op) (b : ℕ) (xs : Held) → op_fits kind op ≡ true → AllIn kind b xs → AllIn kind (b + op_magnitude op) (applied_to_all op xs)
+applied_in : (kind : Kind) (op : Op) (b : ℕ) (xs : Held) → op_fits kind op ≡ true → AllIn kind b xs
+    → AllIn kind (b + op_magnitude op) (applied_to_all op xs)
 applied_in kind op b [] fit all = tt
 applied_in kind op b (x ∷ xs) fit all = (applied_value kind op b x.1 fit all.0, applied_in kind op b xs fit all.1)
 

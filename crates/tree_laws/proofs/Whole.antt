@@ -24,7 +24,8 @@ acts_append : (xs ys : List Entry) → acts_of (xs ++ ys) ≡ acts_of xs ++ acts
 acts_append [] ys = refl
 acts_append (x ∷ xs) ys = ap (λ xs. x.acts ++ xs) (acts_append xs ys) ∙ sym (append_assoc x.acts (acts_of xs) (acts_of ys))
 
-acts_more : (f : Act → ℕ) (past : List Entry) (e : Entry) → tally f (acts_of (reverse (e ∷ past))) ≡ tally f e.acts + tally f (acts_of (reverse past))
+acts_more : (f : Act → ℕ) (past : List Entry) (e : Entry)
+    → tally f (acts_of (reverse (e ∷ past))) ≡ tally f e.acts + tally f (acts_of (reverse past))
 acts_more f past e =
     let parts : tally f (acts_of (reverse (e ∷ past))) ≡ tally f (acts_of (reverse past) ++ acts_of (e ∷ [])) =
     ap (λ xs. tally f xs) (ap (λ h. acts_of h) (reverse_more e past) ∙ acts_append (reverse past) (e ∷ [])) in
@@ -39,7 +40,8 @@ births_in [] t = refl
 births_in (e ∷ past) t = omega (arith, acts_more (is_born t) past e, births_in past t)
 
 -- What was counted was done.
-done_at : (t k u j : ℕ) (acts : List Act) (test : Bool) → ((u == t) && (j == k)) ≡ test → 1 ≤ one_if ((u == t) && (j == k)) + tally (is_did t k) acts
+done_at : (t k u j : ℕ) (acts : List Act) (test : Bool) → ((u == t) && (j == k)) ≡ test
+    → 1 ≤ one_if ((u == t) && (j == k)) + tally (is_did t k) acts
     → (1 ≤ tally (is_did t k) acts → was_done t k acts ≡ true) → (((u == t) && (j == k)) || was_done t k acts) ≡ true
 done_at t k u j acts true is some rest = rw is refl
 done_at t k u j acts false is some rest = let more = rw is at some in rw is (rest (omega (arith, more)))
@@ -54,7 +56,8 @@ was_done_of t k (Swept v ∷ acts) some = was_done_of t k acts (omega arith)
 was_done_of t k (Finished ∷ acts) some = was_done_of t k acts (omega arith)
 
 born_at : (t u : ℕ) (acts : List Act) (test : Bool) → (u == t) ≡ test → 1 ≤ one_if (u == t) + tally (is_born t) acts
-    → (1 ≤ tally (is_born t) acts → is_some (version_in t acts) ≡ true) → (v : Version) → is_some (if u == t then Some v else version_in t acts) ≡ true
+    → (1 ≤ tally (is_born t) acts → is_some (version_in t acts) ≡ true) → (v : Version)
+    → is_some (if u == t then Some v else version_in t acts) ≡ true
 born_at t u acts true is some rest v = rw is refl
 born_at t u acts false is some rest v = let more = rw is at some in rw is (rest (omega (arith, more)))
 
@@ -72,7 +75,8 @@ both_true a b p q = rw p q
 
 all_done_of : (t n : ℕ) (acts : List Act) → ((k : ℕ) → k < n → was_done t k acts ≡ true) → all_done t n acts ≡ true
 all_done_of t zero acts done = refl
-all_done_of t (suc n) acts done = both_true (all_done t n acts) (was_done t n acts) (all_done_of t n acts (λ k lt. done k (omega arith))) (done n (omega arith))
+all_done_of t (suc n) acts done =
+    both_true (all_done t n acts) (was_done t n acts) (all_done_of t n acts (λ k lt. done k (omega arith))) (done n (omega arith))
 
 -- Where nothing is under way.
 none_asked : (s : ScriptData) (past : List Entry) (t k : ℕ) → waiting s past ≡ [] → asked s past t k ≡ 0
@@ -92,16 +96,19 @@ done_by s past n t k c sound good empty lt ih (inr more) =
     let up = (is_sub s t k c sound).parent more in
     omega (arith, good.subs t k c more, none_asked s past t k empty, ih c.sub.parent.0 (omega (arith, up)) (parent_at s t k c sound more))
 
-done_below : (s : ScriptData) (past : List Entry) (n t k : ℕ) (c : SubAt s t k) → Sound s → Good s past → waiting s past ≡ [] → k < n → 1 ≤ dids past t k
+done_below : (s : ScriptData) (past : List Entry) (n t k : ℕ) (c : SubAt s t k) → Sound s → Good s past → waiting s past ≡ [] → k < n
+    → 1 ≤ dids past t k
 done_below s past zero t k c sound good empty lt = absurd (omega arith)
 done_below s past (suc n) t k c sound good empty lt =
     done_by s past n t k c sound good empty lt (λ j less sub. done_below s past n t j sub sound good empty less) (zero_or k)
 
 -- every subtransaction was done
-pub all_dids : (s : ScriptData) (past : List Entry) (t k : ℕ) → SubAt s t k → Sound s → StepRun s past → waiting s past ≡ [] → 1 ≤ dids past t k
+pub all_dids : (s : ScriptData) (past : List Entry) (t k : ℕ) → SubAt s t k → Sound s → StepRun s past → waiting s past ≡ []
+    → 1 ≤ dids past t k
 all_dids s past t k c sound run empty = done_below s past (k + 1) t k c sound (good_run s past sound run) empty (omega arith)
 
-pub whole : (s : ScriptData) (past : List Entry) (t : ℕ) → IsValid s → Runnable s → StepRun s past → waiting s past ≡ [] → t < length s.trees → IsWhole s (reverse past) t
+pub whole : (s : ScriptData) (past : List Entry) (t : ℕ) → IsValid s → Runnable s → StepRun s past → waiting s past ≡ []
+    → t < length s.trees → IsWhole s (reverse past) t
 whole s past t valid runnable run empty lt =
     let sound : Sound s = record { valid = valid; runnable = runnable } in
     let good = good_run s past sound run in

@@ -1,144 +1,52 @@
 -- A history that goes step by step is one whose actors each follow their table.
-use Rattle.std.proofs.Common.{◌≡◌, ◌≢◌, ◌⊎◌, inl, inr, ℕ, ◌+◌, ◌<◌, ◌≤◌, ◌==◌, Bool, true, false, List, [], ◌∷◌, ◌++◌, length, refl, ap, sym, ◌∙◌, subst, arith, Some, reverse}
+use Rattle.std.proofs.Common.{◌≡◌, ◌≢◌, ◌⊎◌, inl, inr, ℕ, ◌+◌, ◌<◌, ◌==◌, Bool, true, false, List, [], ◌∷◌, ◌++◌, length, refl, ap, sym, subst, arith, Some, reverse}
 use Rattle.std.specs.Prelude.{if◌then◌else◌, slice_get}
 use Rattle.std.proofs.lemmas.Bool.Decides.{nat_tests}
 use Rattle.std.proofs.lemmas.List.{length-reverse}
 use Rattle.letter_types.specs.declared.entries.LetterId.{LetterId}
 use Rattle.letter_types.specs.declared.entries.Letter.{Letter}
-use Rattle.letter_types.specs.declared.entries.Outgoing.{Outgoing}
 use Rattle.letter_types.specs.declared.entries.Entry.{Entry}
-use Rattle.letter_types.specs.Letters.{go, own, same_id, find_id, drop_id, sealed, letters_of}
+use Rattle.letter_types.specs.Letters.{go, own, same_id, find_id, drop_id, letters_of}
 use Rattle.tx_trees.specs.ScriptData.{ScriptData}
 use Rattle.world_model.specs.Tables.{Out, start_node, start_client}
 use Rattle.world_model.specs.Runs.{client_of, IsRunOf, after, WorldRun, node_table, coordinator_table, client_table, waiting, node_in, client_in, Says, Moves, AtNode, AtCoordinator, AtClient, MayFollow, StepRun}
 use Rattle.world_model.specs.Counts.{tally, one_if}
-use Rattle.world_model.proofs.Bags.{tally_step, tally-drop}
+use Rattle.world_model.proofs.Bags.{tally-drop}
 use Rattle.world_model.proofs.Bridge.{reverse_more, own_more, slice_get_split, slice_get_last, slice_get_left, node_after, client_after}
-
--- the letters of an id
-abbrev of_id : LetterId → Letter → ℕ
-of_id id l = one_if (same_id id l.id)
-
-apart_stamp : (id : LetterId) (stamp place : ℕ) → id.stamp.0 ≢ stamp → one_if (same_id id (record { stamp = record { 0 = stamp }; place = place })) ≡ 0
-apart_stamp id stamp place ne = grind (arith, nat_tests)
-
-apart_place : (id : LetterId) (stamp place : ℕ) → id.place ≢ place → one_if (same_id id (record { stamp = record { 0 = stamp }; place = place })) ≡ 0
-apart_place id stamp place ne = grind (arith, nat_tests)
-
-one_le : (b : Bool) → one_if b ≤ 1
-one_le true = omega arith
-one_le false = omega arith
-
-other_stamp : (id : LetterId) (stamp actor place : ℕ) (os : List Outgoing) → id.stamp.0 ≢ stamp → tally (of_id id) (sealed stamp actor place os) ≡ 0
-other_stamp id stamp actor place [] ne = refl
-other_stamp id stamp actor place (o ∷ os) ne = omega (arith, other_stamp id stamp actor (place + 1) os ne, apart_stamp id stamp place ne)
-
-later_places : (id : LetterId) (stamp actor place : ℕ) (os : List Outgoing) → id.place < place → tally (of_id id) (sealed stamp actor place os) ≡ 0
-later_places id stamp actor place [] lt = refl
-later_places id stamp actor place (o ∷ os) lt = omega (arith, later_places id stamp actor (place + 1) os (omega arith), apart_place id stamp place (omega arith))
-
-one_more : (id : LetterId) (stamp actor place : ℕ) (o : Outgoing) (os : List Outgoing) (b : Bool) → (id.place == place) ≡ b → tally (of_id id) (sealed stamp actor (place + 1) os) ≤ 1 → tally (of_id id) (sealed stamp actor place (o ∷ os)) ≤ 1
-one_more id stamp actor place o os true is le =
-    let eq : id.place ≡ place = grind (arith, nat_tests) in
-    omega (arith, later_places id stamp actor (place + 1) os (omega arith), one_le (same_id id (record { stamp = record { 0 = stamp }; place = place })))
-one_more id stamp actor place o os false is le =
-    let ne : id.place ≢ place = grind (arith, nat_tests) in
-    omega (arith, apart_place id stamp place ne)
-
-at_most_one : (id : LetterId) (stamp actor place : ℕ) (os : List Outgoing) → tally (of_id id) (sealed stamp actor place os) ≤ 1
-at_most_one id stamp actor place [] = omega arith
-at_most_one id stamp actor place (o ∷ os) = one_more id stamp actor place o os (id.place == place) refl (at_most_one id stamp actor (place + 1) os)
-
-none_later : (s : ScriptData) (past : List Entry) (id : LetterId) → StepRun s past → length past < id.stamp.0 → tally (of_id id) (waiting s past) ≡ 0
-none_later s [] id run lt = omega (arith, apart_stamp id 0 0 (omega arith))
-none_later s (e ∷ past) id run lt =
-    let is : e.stamp.0 ≡ length past + 1 = run.0.stamp in
-    omega (arith, tally_step (of_id id) s past e run.0, none_later s past id run.1 (omega arith), other_stamp id e.stamp.0 e.actor.0 0 e.sent (omega arith))
-
-unique_by : (s : ScriptData) (past : List Entry) (e : Entry) (id : LetterId) → StepRun s (e ∷ past) → tally (of_id id) (waiting s past) ≤ 1 → (b : Bool) → (id.stamp.0 == e.stamp.0) ≡ b → tally (of_id id) (waiting s (e ∷ past)) ≤ 1
-unique_by s past e id run ih true is =
-    let eq : id.stamp.0 ≡ e.stamp.0 = grind (arith, nat_tests) in
-    let at : e.stamp.0 ≡ length past + 1 = run.0.stamp in
-    omega (arith, tally_step (of_id id) s past e run.0, none_later s past id run.1 (omega arith), at_most_one id e.stamp.0 e.actor.0 0 e.sent)
-unique_by s past e id run ih false is =
-    let ne : id.stamp.0 ≢ e.stamp.0 = grind (arith, nat_tests) in
-    omega (arith, tally_step (of_id id) s past e run.0, other_stamp id e.stamp.0 e.actor.0 0 e.sent ne)
-
-unique : (s : ScriptData) (past : List Entry) (id : LetterId) → StepRun s past → tally (of_id id) (waiting s past) ≤ 1
-unique s [] id run = omega (arith, one_le (same_id id (go (client_of s)).id))
-unique s (e ∷ past) id run = unique_by s past e id run (unique s past id run.1) (id.stamp.0 == e.stamp.0) refl
-
-found_one_at : (id : LetterId) (x : Letter) (xs : List Letter) (l : Letter) (b : Bool) → same_id id x.id ≡ b → find_id id (x ∷ xs) ≡ Some l → (find_id id xs ≡ Some l → same_id id l.id ≡ true) → same_id id l.id ≡ true
-found_one_at id x xs l true is at rest = let eq : x ≡ l = grind arith in subst (λ (y : Letter). same_id id y.id ≡ true) eq is
-found_one_at id x xs l false is at rest = rest (rw is at at)
-
-found_one : (id : LetterId) (xs : List Letter) (l : Letter) → find_id id xs ≡ Some l → same_id id l.id ≡ true
-found_one id [] l at = absurd (grind arith)
-found_one id (x ∷ xs) l at = found_one_at id x xs l (same_id id x.id) refl at (found_one id xs l)
-
-under_or : (a b : ℕ) → (a ≤ b) ⊎ (b < a)
-under_or a b = grind arith
-
-not_later_by : (s : ScriptData) (past : List Entry) (id : LetterId) → StepRun s past → 1 ≤ tally (of_id id) (waiting s past) → (id.stamp.0 ≤ length past) ⊎ (length past < id.stamp.0) → id.stamp.0 ≤ length past
-not_later_by s past id run some (inl le) = le
-not_later_by s past id run some (inr lt) = absurd (omega (arith, none_later s past id run lt))
-
-not_later : (s : ScriptData) (past : List Entry) (id : LetterId) → StepRun s past → 1 ≤ tally (of_id id) (waiting s past) → id.stamp.0 ≤ length past
-not_later s past id run some = not_later_by s past id run some (under_or id.stamp.0 (length past))
-
--- what was taken is older than the last entry and under way no more
-abbrev Gone : ScriptData → List Entry → LetterId → Type 0
-Gone s past id = (id.stamp.0 ≤ length past) × (tally (of_id id) (waiting s past) ≡ 0)
-
-gone_now : (s : ScriptData) (past : List Entry) (e : Entry) → StepRun s (e ∷ past) → Gone s (e ∷ past) e.took.id
-gone_now s past e run =
-    let here : of_id e.took.id e.took ≡ 1 = ap one_if (found_one e.took.id (waiting s past) e.took run.0.waits) in
-    let drop = tally-drop (of_id e.took.id) e.took.id (waiting s past) e.took run.0.waits in
-    let old : e.took.id.stamp.0 ≤ length past = not_later s past e.took.id run.1 (omega arith) in
-    let is : e.stamp.0 ≡ length past + 1 = run.0.stamp in
-    (omega arith, omega (arith, tally_step (of_id e.took.id) s past e run.0, unique s past e.took.id run.1, other_stamp e.took.id e.stamp.0 e.actor.0 0 e.sent (omega arith)))
-
-gone_later : (s : ScriptData) (past : List Entry) (e : Entry) (id : LetterId) → StepRun s (e ∷ past) → Gone s past id → Gone s (e ∷ past) id
-gone_later s past e id run g =
-    let is : e.stamp.0 ≡ length past + 1 = run.0.stamp in
-    (omega (arith, g.0), omega (arith, tally_step (of_id id) s past e run.0, g.1, other_stamp id e.stamp.0 e.actor.0 0 e.sent (omega (arith, g.0))))
-
-gone : (s : ScriptData) (past : List Entry) (j : ℕ) (f : Entry) → StepRun s past → slice_get (reverse past) j ≡ Some f → Gone s past f.took.id
-gone s [] j f run at = absurd (grind arith)
-gone s (e ∷ past) j f run at =
-    elim (slice_get_split (reverse past) e j f (rw (reverse_more e past) at at)) [
-      | inl p ↦ gone_later s past e f.took.id run (gone s past j f run.1 p.1)
-      | inr p ↦ subst (λ (x : Entry). Gone s (e ∷ past) x.took.id) p.1 (gone_now s past e run)
-    ]
+use Rattle.world_model.proofs.Gone.{apart_from, same_is, of_id, found_one, Gone, gone_now, gone}
 
 -- where a letter under way comes from
 abbrev Came : ScriptData → List Entry → Letter → Type 0
-Came s h l = (l ≡ go (client_of s)) ⊎ ((j : ℕ) × (f : Entry) × (j < length h) × (slice_get h j ≡ Some f) × (find_id l.id (letters_of f) ≡ Some l))
+Came s h l =
+    (l ≡ go (client_of s)) ⊎ ((j : ℕ) × (f : Entry) × (j < length h) × (slice_get h j ≡ Some f) × (find_id l.id (letters_of f) ≡ Some l))
 
-find_either_at : (id : LetterId) (x : Letter) (xs ys : List Letter) (l : Letter) (b : Bool) → same_id id x.id ≡ b → find_id id (x ∷ xs ++ ys) ≡ Some l
-    → (find_id id (xs ++ ys) ≡ Some l → (find_id id xs ≡ Some l) ⊎ (find_id id ys ≡ Some l)) → (find_id id (x ∷ xs) ≡ Some l) ⊎ (find_id id ys ≡ Some l)
+find_either_at : (id : LetterId) (x : Letter) (xs ys : List Letter) (l : Letter) (b : Bool) → same_id id x.id ≡ b
+    → find_id id (x ∷ xs ++ ys) ≡ Some l
+    → (find_id id (xs ++ ys) ≡ Some l → (find_id id xs ≡ Some l) ⊎ (find_id id ys ≡ Some l))
+    → (find_id id (x ∷ xs) ≡ Some l) ⊎ (find_id id ys ≡ Some l)
 find_either_at id x xs ys l true is at rest = inl (rw is (rw is at at))
 find_either_at id x xs ys l false is at rest = rw is (rest (rw is at at))
 
-find_either : (id : LetterId) (xs ys : List Letter) (l : Letter) → find_id id (xs ++ ys) ≡ Some l → (find_id id xs ≡ Some l) ⊎ (find_id id ys ≡ Some l)
+find_either : (id : LetterId) (xs ys : List Letter) (l : Letter) → find_id id (xs ++ ys) ≡ Some l
+    → (find_id id xs ≡ Some l) ⊎ (find_id id ys ≡ Some l)
 find_either id [] ys l at = inr at
 find_either id (x ∷ xs) ys l at = find_either_at id x xs ys l (same_id id x.id) refl at (find_either id xs ys l)
 
-apart_from : (i j k : LetterId) → same_id i j ≡ false → same_id j k ≡ true → same_id i k ≡ false
-apart_from i j k ne eq = grind (arith, nat_tests)
-
-left_kept_at : (id i : LetterId) (x : Letter) (xs : List Letter) (l : Letter) (b : Bool) → same_id id x.id ≡ b → find_id id (x ∷ drop_id i xs) ≡ Some l
+left_kept_at : (id i : LetterId) (x : Letter) (xs : List Letter) (l : Letter) (b : Bool) → same_id id x.id ≡ b
+    → find_id id (x ∷ drop_id i xs) ≡ Some l
     → (find_id id (drop_id i xs) ≡ Some l → find_id id xs ≡ Some l) → find_id id (x ∷ xs) ≡ Some l
 left_kept_at id i x xs l true is at rest = rw is (rw is at at)
 left_kept_at id i x xs l false is at rest = rw is (rest (rw is at at))
 
-left_over_at : (id i : LetterId) (x : Letter) (xs : List Letter) (l : Letter) → same_id id i ≡ false → (b : Bool) → same_id i x.id ≡ b → find_id id (drop_id i (x ∷ xs)) ≡ Some l
+left_over_at : (id i : LetterId) (x : Letter) (xs : List Letter) (l : Letter) → same_id id i ≡ false → (b : Bool) → same_id i x.id ≡ b
+    → find_id id (drop_id i (x ∷ xs)) ≡ Some l
     → (find_id id (drop_id i xs) ≡ Some l → find_id id xs ≡ Some l) → find_id id (x ∷ xs) ≡ Some l
 left_over_at id i x xs l ne true is at rest = let other = apart_from id i x.id ne is in rw other (rw is at at)
 left_over_at id i x xs l ne false is at rest = left_kept_at id i x xs l (same_id id x.id) refl (rw is at at) rest
 
 -- a letter that is left was there (its id is there once)
-find_left_over : (id i : LetterId) (xs : List Letter) (l : Letter) → find_id id (drop_id i xs) ≡ Some l → same_id id i ≡ false → find_id id xs ≡ Some l
+find_left_over : (id i : LetterId) (xs : List Letter) (l : Letter) → find_id id (drop_id i xs) ≡ Some l → same_id id i ≡ false
+    → find_id id xs ≡ Some l
 find_left_over id i [] l at ne = at
 find_left_over id i (x ∷ xs) l at ne = left_over_at id i x xs l ne (same_id i x.id) refl at (λ rest. find_left_over id i xs l rest ne)
 
@@ -147,22 +55,19 @@ came_more s e past l (inl is) = inl is
 came_more s e past l (inr (j, f, lt, at, found)) =
     inr (j, f, omega (arith, length-reverse past, length-reverse (e ∷ past)), rw (reverse_more e past) (slice_get_left (reverse past) (e ∷ []) j f at), found)
 
-came_new : (s : ScriptData) (e : Entry) (past : List Entry) (l : Letter) → find_id l.id (letters_of e) ≡ Some l → Came s (reverse (e ∷ past)) l
+came_new : (s : ScriptData) (e : Entry) (past : List Entry) (l : Letter) → find_id l.id (letters_of e) ≡ Some l
+    → Came s (reverse (e ∷ past)) l
 came_new s e past l found =
     inr (length (reverse past), e, omega (arith, length-reverse past, length-reverse (e ∷ past)), rw (reverse_more e past) (slice_get_last (reverse past) e), found)
 
-go_only : (s : ScriptData) (l : Letter) (b : Bool) → same_id l.id (go (client_of s)).id ≡ b → find_id l.id (go (client_of s) ∷ []) ≡ Some l → l ≡ go (client_of s)
+go_only : (s : ScriptData) (l : Letter) (b : Bool) → same_id l.id (go (client_of s)).id ≡ b → find_id l.id (go (client_of s) ∷ []) ≡ Some l
+    → l ≡ go (client_of s)
 go_only s l true is at = let eq : go (client_of s) ≡ l = grind arith in sym eq
 go_only s l false is at = absurd (grind arith)
 
-same_is : (i j : LetterId) → same_id i j ≡ true → i ≡ j
-same_is i j is =
-    let a : i.stamp.0 ≡ j.stamp.0 = grind (arith, nat_tests) in
-    let b : i.place ≡ j.place = grind (arith, nat_tests) in
-    ap (λ (n : ℕ). record { stamp = record { 0 = n }; place = i.place }) a ∙ ap (λ (n : ℕ). record { stamp = j.stamp; place = n }) b
-
 -- what waits after an entry isn't what it took
-not_the_taken : (s : ScriptData) (past : List Entry) (e : Entry) (l : Letter) → StepRun s (e ∷ past) → find_id l.id (waiting s (e ∷ past)) ≡ Some l → (b : Bool) → same_id l.id e.took.id ≡ b → same_id l.id e.took.id ≡ false
+not_the_taken : (s : ScriptData) (past : List Entry) (e : Entry) (l : Letter) → StepRun s (e ∷ past)
+    → find_id l.id (waiting s (e ∷ past)) ≡ Some l → (b : Bool) → same_id l.id e.took.id ≡ b → same_id l.id e.took.id ≡ false
 not_the_taken s past e l run at false is = is
 not_the_taken s past e l run at true is =
     let none : tally (of_id l.id) (waiting s (e ∷ past)) ≡ 0 = subst (λ (i : LetterId). tally (of_id i) (waiting s (e ∷ past)) ≡ 0) (sym (same_is l.id e.took.id is)) (gone_now s past e run).1 in
@@ -178,7 +83,8 @@ came s (e ∷ past) l run at =
     ]
 
 -- postal
-stamps_of : (s : ScriptData) (past : List Entry) (k : ℕ) (f : Entry) → StepRun s past → slice_get (reverse past) k ≡ Some f → f.stamp.0 ≡ k + 1
+stamps_of : (s : ScriptData) (past : List Entry) (k : ℕ) (f : Entry) → StepRun s past → slice_get (reverse past) k ≡ Some f
+    → f.stamp.0 ≡ k + 1
 stamps_of s [] k f run at = absurd (grind arith)
 stamps_of s (e ∷ past) k f run at =
     elim (slice_get_split (reverse past) e k f (rw (reverse_more e past) at at)) [
@@ -191,7 +97,8 @@ actor_below s past e (AtNode node says) = omega arith
 actor_below s past e (AtCoordinator at says) = omega arith
 actor_below s past e (AtClient at says) = omega arith
 
-addressed : (s : ScriptData) (past : List Entry) (k : ℕ) (f : Entry) → StepRun s past → slice_get (reverse past) k ≡ Some f → (f.took.to.0 ≡ f.actor.0) × (f.actor.0 < client_of s + 1)
+addressed : (s : ScriptData) (past : List Entry) (k : ℕ) (f : Entry) → StepRun s past → slice_get (reverse past) k ≡ Some f
+    → (f.took.to.0 ≡ f.actor.0) × (f.actor.0 < client_of s + 1)
 addressed s [] k f run at = absurd (grind arith)
 addressed s (e ∷ past) k f run at =
     elim (slice_get_split (reverse past) e k f (rw (reverse_more e past) at at)) [
@@ -200,7 +107,8 @@ addressed s (e ∷ past) k f run at =
     ]
 
 abbrev SentBefore : ScriptData → List Entry → ℕ → Entry → Type 0
-SentBefore s h k e = (e.took ≡ go (client_of s)) ⊎ ((j : ℕ) × (f : Entry) × (j < k) × (slice_get h j ≡ Some f) × (find_id e.took.id (letters_of f) ≡ Some e.took))
+SentBefore s h k e =
+    (e.took ≡ go (client_of s)) ⊎ ((j : ℕ) × (f : Entry) × (j < k) × (slice_get h j ≡ Some f) × (find_id e.took.id (letters_of f) ≡ Some e.took))
 
 before_more : (s : ScriptData) (h : List Entry) (e : Entry) (k : ℕ) (f : Entry) → SentBefore s h k f → SentBefore s (h ++ e ∷ []) k f
 before_more s h e k f (inl is) = inl is
@@ -210,7 +118,8 @@ before_last : (s : ScriptData) (h : List Entry) (e : Entry) (k : ℕ) → k ≡ 
 before_last s h e k at (inl is) = inl is
 before_last s h e k at (inr (j, g, lt, here, found)) = inr (j, g, omega arith, slice_get_left h (e ∷ []) j g here, found)
 
-sent_before : (s : ScriptData) (past : List Entry) (k : ℕ) (f : Entry) → StepRun s past → slice_get (reverse past) k ≡ Some f → SentBefore s (reverse past) k f
+sent_before : (s : ScriptData) (past : List Entry) (k : ℕ) (f : Entry) → StepRun s past → slice_get (reverse past) k ≡ Some f
+    → SentBefore s (reverse past) k f
 sent_before s [] k f run at = absurd (grind arith)
 sent_before s (e ∷ past) k f run at =
     rw (reverse_more e past) (elim (slice_get_split (reverse past) e k f (rw (reverse_more e past) at at)) [
@@ -233,54 +142,69 @@ once_by : (s : ScriptData) (past : List Entry) (e : Entry) (j k : ℕ) (f g : En
     → ((k < length (reverse past)) × (slice_get (reverse past) k ≡ Some g)) ⊎ ((k ≡ length (reverse past)) × (e ≡ g))
     → (slice_get (reverse past) j ≡ Some f → slice_get (reverse past) k ≡ Some g → f.took.id ≢ g.took.id) → f.took.id ≢ g.took.id
 once_by s past e j k f g run lt (inl a) (inl b) rest = rest a.1 b.1
-once_by s past e j k f g run lt (inl a) (inr b) rest = subst (λ (x : Entry). f.took.id ≢ x.took.id) b.1 (gone_apart s past f.took.id e run.0 (gone s past j f run.1 a.1))
+once_by s past e j k f g run lt (inl a) (inr b) rest =
+    subst (λ (x : Entry). f.took.id ≢ x.took.id) b.1 (gone_apart s past f.took.id e run.0 (gone s past j f run.1 a.1))
 once_by s past e j k f g run lt (inr a) (inl b) rest = absurd (omega arith)
 once_by s past e j k f g run lt (inr a) (inr b) rest = absurd (omega arith)
 
-taken_once : (s : ScriptData) (past : List Entry) (j k : ℕ) (f g : Entry) → StepRun s past → j < k → slice_get (reverse past) j ≡ Some f → slice_get (reverse past) k ≡ Some g → f.took.id ≢ g.took.id
+taken_once : (s : ScriptData) (past : List Entry) (j k : ℕ) (f g : Entry) → StepRun s past → j < k → slice_get (reverse past) j ≡ Some f
+    → slice_get (reverse past) k ≡ Some g → f.took.id ≢ g.took.id
 taken_once s [] j k f g run lt a b = absurd (grind arith)
 taken_once s (e ∷ past) j k f g run lt a b =
     once_by s past e j k f g run lt (slice_get_split (reverse past) e j f (rw (reverse_more e past) at a)) (slice_get_split (reverse past) e k g (rw (reverse_more e past) at b)) (taken_once s past j k f g run.1 lt)
 
-run_join : {St : Type 0} (row : St → Letter → Out St) (st : St) (es fs : List Entry) → IsRunOf row st es → IsRunOf row (after row st es) fs → IsRunOf row st (es ++ fs)
+run_join : {St : Type 0} (row : St → Letter → Out St) (st : St) (es fs : List Entry) → IsRunOf row st es → IsRunOf row (after row st es) fs
+    → IsRunOf row st (es ++ fs)
 run_join row st [] fs a b = b
 run_join row st (e ∷ es) fs a b = (a.0, a.1, run_join row (row st e.took).state es fs a.2 b)
 
-one_run : {St : Type 0} (row : St → Letter → Out St) (st : St) (e : Entry) (b : Bool) → (b ≡ true → Says (row st e.took) e) → IsRunOf row st (if b then e ∷ [] else [])
+one_run : {St : Type 0} (row : St → Letter → Out St) (st : St) (e : Entry) (b : Bool) → (b ≡ true → Says (row st e.took) e)
+    → IsRunOf row st (if b then e ∷ [] else [])
 one_run row st e true says = let p = says refl in (p.0, p.1, tt)
 one_run row st e false says = tt
 
-run_more : {St : Type 0} (row : St → Letter → Out St) (first : St) (a : ℕ) (e : Entry) (past : List Entry) (st : St) → after row first (own a (reverse past)) ≡ st
-    → IsRunOf row first (own a (reverse past)) → ((e.actor.0 == a) ≡ true → Says (row st e.took) e) → IsRunOf row first (own a (reverse (e ∷ past)))
+run_more : {St : Type 0} (row : St → Letter → Out St) (first : St) (a : ℕ) (e : Entry) (past : List Entry) (st : St)
+    → after row first (own a (reverse past)) ≡ st
+    → IsRunOf row first (own a (reverse past)) → ((e.actor.0 == a) ≡ true → Says (row st e.took) e)
+    → IsRunOf row first (own a (reverse (e ∷ past)))
 run_more row first a e past st is run says =
     rw (own_more a e past) (run_join row first (own a (reverse past)) (if e.actor.0 == a then e ∷ [] else []) run (rw is (one_run row st e (e.actor.0 == a) says)))
 
-says_node : (s : ScriptData) (past : List Entry) (e : Entry) (p : ℕ) → Moves s past e → p < s.nodes → (e.actor.0 == p) ≡ true → Says (node_table s p (node_in s past p) e.took) e
-says_node s past e p (AtNode node says) lt is = let eq : e.actor.0 ≡ p = grind (arith, nat_tests) in subst (λ (n : ℕ). Says (node_table s n (node_in s past n) e.took) e) eq says
+says_node : (s : ScriptData) (past : List Entry) (e : Entry) (p : ℕ) → Moves s past e → p < s.nodes → (e.actor.0 == p) ≡ true
+    → Says (node_table s p (node_in s past p) e.took) e
+says_node s past e p (AtNode node says) lt is =
+    let eq : e.actor.0 ≡ p = grind (arith, nat_tests) in subst (λ (n : ℕ). Says (node_table s n (node_in s past n) e.took) e) eq says
 says_node s past e p (AtCoordinator at says) lt is = let eq : e.actor.0 ≡ p = grind (arith, nat_tests) in absurd (omega arith)
 says_node s past e p (AtClient at says) lt is = let eq : e.actor.0 ≡ p = grind (arith, nat_tests) in absurd (omega arith)
 
-says_coordinator : (s : ScriptData) (past : List Entry) (e : Entry) → Moves s past e → (e.actor.0 == s.nodes) ≡ true → Says (coordinator_table (tt {0}) e.took) e
+says_coordinator : (s : ScriptData) (past : List Entry) (e : Entry) → Moves s past e → (e.actor.0 == s.nodes) ≡ true
+    → Says (coordinator_table (tt {0}) e.took) e
 says_coordinator s past e (AtNode node says) is = let eq : e.actor.0 ≡ s.nodes = grind (arith, nat_tests) in absurd (omega arith)
 says_coordinator s past e (AtCoordinator at says) is = says
 says_coordinator s past e (AtClient at says) is = let eq : e.actor.0 ≡ s.nodes = grind (arith, nat_tests) in absurd (omega arith)
 
-says_client : (s : ScriptData) (past : List Entry) (e : Entry) → Moves s past e → (e.actor.0 == client_of s) ≡ true → Says (client_table s (client_in s past) e.took) e
+says_client : (s : ScriptData) (past : List Entry) (e : Entry) → Moves s past e → (e.actor.0 == client_of s) ≡ true
+    → Says (client_table s (client_in s past) e.took) e
 says_client s past e (AtNode node says) is = let eq : e.actor.0 ≡ client_of s = grind (arith, nat_tests) in absurd (omega arith)
 says_client s past e (AtCoordinator at says) is = let eq : e.actor.0 ≡ client_of s = grind (arith, nat_tests) in absurd (omega arith)
 says_client s past e (AtClient at says) is = says
 
-node_runs : (s : ScriptData) (past : List Entry) (p : ℕ) → p < s.nodes → StepRun s past → IsRunOf (node_table s p) (start_node s p) (own p (reverse past))
+node_runs : (s : ScriptData) (past : List Entry) (p : ℕ) → p < s.nodes → StepRun s past
+    → IsRunOf (node_table s p) (start_node s p) (own p (reverse past))
 node_runs s [] p lt run = tt
-node_runs s (e ∷ past) p lt run = run_more (node_table s p) (start_node s p) p e past (node_in s past p) (node_after s past p) (node_runs s past p lt run.1) (says_node s past e p run.0.moves lt)
+node_runs s (e ∷ past) p lt run =
+    run_more (node_table s p) (start_node s p) p e past (node_in s past p) (node_after s past p) (node_runs s past p lt run.1) (says_node s past e p run.0.moves lt)
 
 coordinator_runs : (s : ScriptData) (past : List Entry) → StepRun s past → IsRunOf coordinator_table (tt {0}) (own s.nodes (reverse past))
 coordinator_runs s [] run = tt
-coordinator_runs s (e ∷ past) run = run_more coordinator_table (tt {0}) s.nodes e past (tt {0}) refl (coordinator_runs s past run.1) (says_coordinator s past e run.0.moves)
+coordinator_runs s (e ∷ past) run =
+    run_more coordinator_table (tt {0}) s.nodes e past (tt {0}) refl (coordinator_runs s past run.1) (says_coordinator s past e run.0.moves)
 
-client_runs : (s : ScriptData) (past : List Entry) → StepRun s past → IsRunOf (client_table s) start_client (own (client_of s) (reverse past))
+client_runs : (s : ScriptData) (past : List Entry) → StepRun s past
+    → IsRunOf (client_table s) start_client (own (client_of s) (reverse past))
 client_runs s [] run = tt
-client_runs s (e ∷ past) run = run_more (client_table s) start_client (client_of s) e past (client_in s past) (client_after s past) (client_runs s past run.1) (says_client s past e run.0.moves)
+client_runs s (e ∷ past) run =
+    run_more (client_table s) start_client (client_of s) e past (client_in s past) (client_after s past) (client_runs s past run.1) (says_client s past e run.0.moves)
 
 pub world_run : (s : ScriptData) (past : List Entry) → StepRun s past → WorldRun s (reverse past)
 world_run s past run = record {

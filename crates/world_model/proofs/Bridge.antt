@@ -39,14 +39,17 @@ run_split row st (e ∷ es) fs run =
     let rest = run_split row (row st e.took).state es fs run.2 in
     ((run.0, run.1, rest.0), rest.1)
 
-after_append : {St : Type 0} (row : St → Letter → Out St) (st : St) (es fs : List Entry) → after row st (es ++ fs) ≡ after row (after row st es) fs
+after_append : {St : Type 0} (row : St → Letter → Out St) (st : St) (es fs : List Entry)
+    → after row st (es ++ fs) ≡ after row (after row st es) fs
 after_append row st [] fs = refl
 after_append row st (e ∷ es) fs = after_append row (row st e.took).state es fs
 
-pub own_more : (a : ℕ) (e : Entry) (past : List Entry) → own a (reverse (e ∷ past)) ≡ own a (reverse past) ++ (if e.actor.0 == a then e ∷ [] else [])
+pub own_more : (a : ℕ) (e : Entry) (past : List Entry)
+    → own a (reverse (e ∷ past)) ≡ own a (reverse past) ++ (if e.actor.0 == a then e ∷ [] else [])
 own_more a e past = rw (reverse_more e past) (filter-append (λ (x : Entry). x.actor.0 == a) (reverse past) (e ∷ []))
 
-one_after : {St : Type 0} (row : St → Letter → Out St) (st : St) (e : Entry) (b : Bool) → after row st (if b then e ∷ [] else []) ≡ (if b then (row st e.took).state else st)
+one_after : {St : Type 0} (row : St → Letter → Out St) (st : St) (e : Entry) (b : Bool)
+    → after row st (if b then e ∷ [] else []) ≡ (if b then (row st e.took).state else st)
 one_after row st e true = refl
 one_after row st e false = refl
 
@@ -57,11 +60,13 @@ state_more : {St : Type 0} (row : St → Letter → Out St) (first : St) (a : �
 state_more row first a e past st is =
     rw (own_more a e past, after_append row first (own a (reverse past)) (if e.actor.0 == a then e ∷ [] else []), is) (one_after row st e (e.actor.0 == a))
 
-pub node_after : (s : ScriptData) (past : List Entry) (p : ℕ) → after (node_table s p) (start_node s p) (own p (reverse past)) ≡ node_in s past p
+pub node_after : (s : ScriptData) (past : List Entry) (p : ℕ)
+    → after (node_table s p) (start_node s p) (own p (reverse past)) ≡ node_in s past p
 node_after s [] p = refl
 node_after s (e ∷ past) p = state_more (node_table s p) (start_node s p) p e past (node_in s past p) (node_after s past p)
 
-pub client_after : (s : ScriptData) (past : List Entry) → after (client_table s) start_client (own (client_of s) (reverse past)) ≡ client_in s past
+pub client_after : (s : ScriptData) (past : List Entry)
+    → after (client_table s) start_client (own (client_of s) (reverse past)) ≡ client_in s past
 client_after s [] = refl
 client_after s (e ∷ past) = state_more (client_table s) start_client (client_of s) e past (client_in s past) (client_after s past)
 

@@ -31,7 +31,8 @@ pub each_drop : (P : Letter → Type 0) (id : LetterId) (xs : List Letter) → E
 each_drop P id [] a = tt
 each_drop P id (x ∷ xs) a = each_drop_at P id x xs (same_id id x.id) refl a (each_drop P id xs a.1)
 
-each_found_at : (P : Letter → Type 0) (id : LetterId) (x : Letter) (xs : List Letter) (l : Letter) (b : Bool) → same_id id x.id ≡ b → Each P (x ∷ xs)
+each_found_at : (P : Letter → Type 0) (id : LetterId) (x : Letter) (xs : List Letter) (l : Letter) (b : Bool) → same_id id x.id ≡ b
+    → Each P (x ∷ xs)
     → (find_id id xs ≡ Some l → P l) → find_id id (x ∷ xs) ≡ Some l → P l
 each_found_at P id x xs l true is a rest at = let eq : x ≡ l = grind arith in subst P eq a.0
 each_found_at P id x xs l false is a rest at = rest (rw is at at)
@@ -41,17 +42,21 @@ each_found P id [] l a at = absurd (grind arith)
 each_found P id (x ∷ xs) l a at = each_found_at P id x xs l (same_id id x.id) refl a (each_found P id xs l a.1) at
 
 pub each_sealed : (P : Letter → Type 0) (stamp actor place : ℕ) (os : List Outgoing)
-    → Each (λ o. (i : LetterId) → P (record { id = i; from = record { 0 = actor }; to = o.to; body = o.body })) os → Each P (sealed stamp actor place os)
+    → Each (λ o. (i : LetterId) → P (record { id = i; from = record { 0 = actor }; to = o.to; body = o.body })) os
+    → Each P (sealed stamp actor place os)
 each_sealed P stamp actor place [] a = tt
-each_sealed P stamp actor place (o ∷ os) a = (a.0 (record { stamp = record { 0 = stamp }; place = place }), each_sealed P stamp actor (place + 1) os a.1)
+each_sealed P stamp actor place (o ∷ os) a =
+    (a.0 (record { stamp = record { 0 = stamp }; place = place }), each_sealed P stamp actor (place + 1) os a.1)
 
 -- every letter under way after an entry
 pub each_step : (P : Letter → Type 0) (s : ScriptData) (past : List Entry) (e : Entry) → Each P (waiting s past)
-    → Each (λ o. (i : LetterId) → P (record { id = i; from = record { 0 = e.actor.0 }; to = o.to; body = o.body })) e.sent → Each P (waiting s (e ∷ past))
+    → Each (λ o. (i : LetterId) → P (record { id = i; from = record { 0 = e.actor.0 }; to = o.to; body = o.body })) e.sent
+    → Each P (waiting s (e ∷ past))
 each_step P s past e old new =
     each_append P (drop_id e.took.id (waiting s past)) (letters_of e) (each_drop P e.took.id (waiting s past) old) (each_sealed P e.stamp.0 e.actor.0 0 e.sent new)
 
-pub each_taken : (P : Letter → Type 0) (s : ScriptData) (past : List Entry) (e : Entry) → MayFollow s past e → Each P (waiting s past) → P e.took
+pub each_taken : (P : Letter → Type 0) (s : ScriptData) (past : List Entry) (e : Entry) → MayFollow s past e → Each P (waiting s past)
+    → P e.took
 each_taken P s past e m all = each_found P e.took.id (waiting s past) e.took all m.waits
 
 -- how a node's state goes on
@@ -60,13 +65,16 @@ pub data NodeNext (s : ScriptData) (past : List Entry) (e : Entry) (p : ℕ) : T
   Moved : e.actor.0 ≡ p → node_in s (e ∷ past) p ≡ (node_table s p (node_in s past p) e.took).state
       → Says (node_table s p (node_in s past p) e.took) e → NodeNext s past e p
 
-moved_says : (s : ScriptData) (past : List Entry) (e : Entry) (p : ℕ) → p < s.nodes → e.actor.0 ≡ p → Moves s past e → Says (node_table s p (node_in s past p) e.took) e
+moved_says : (s : ScriptData) (past : List Entry) (e : Entry) (p : ℕ) → p < s.nodes → e.actor.0 ≡ p → Moves s past e
+    → Says (node_table s p (node_in s past p) e.took) e
 moved_says s past e p lt eq (AtNode node says) = subst (λ (n : ℕ). Says (node_table s n (node_in s past n) e.took) e) eq says
 moved_says s past e p lt eq (AtCoordinator at says) = absurd (omega arith)
 moved_says s past e p lt eq (AtClient at says) = absurd (omega arith)
 
-node_next_by : (s : ScriptData) (past : List Entry) (e : Entry) (p : ℕ) → p < s.nodes → Moves s past e → (b : Bool) → (e.actor.0 == p) ≡ b → NodeNext s past e p
-node_next_by s past e p lt m true is = let eq : e.actor.0 ≡ p = grind (arith, nat_tests) in Moved eq (rw is refl) (moved_says s past e p lt eq m)
+node_next_by : (s : ScriptData) (past : List Entry) (e : Entry) (p : ℕ) → p < s.nodes → Moves s past e → (b : Bool) → (e.actor.0 == p) ≡ b
+    → NodeNext s past e p
+node_next_by s past e p lt m true is =
+    let eq : e.actor.0 ≡ p = grind (arith, nat_tests) in Moved eq (rw is refl) (moved_says s past e p lt eq m)
 node_next_by s past e p lt m false is = Stays (grind (arith, nat_tests)) (rw is refl)
 
 pub node_next : (s : ScriptData) (past : List Entry) (e : Entry) (p : ℕ) → p < s.nodes → MayFollow s past e → NodeNext s past e p
@@ -85,6 +93,7 @@ each_both P Q (x ∷ xs) a b = ((a.0, b.0), each_both P Q xs a.1 b.1)
 
 -- every letter under way after an entry, from what is left without the letter taken
 pub each_left : (P : Letter → Type 0) (s : ScriptData) (past : List Entry) (e : Entry) → Each P (drop_id e.took.id (waiting s past))
-    → Each (λ o. (i : LetterId) → P (record { id = i; from = record { 0 = e.actor.0 }; to = o.to; body = o.body })) e.sent → Each P (waiting s (e ∷ past))
+    → Each (λ o. (i : LetterId) → P (record { id = i; from = record { 0 = e.actor.0 }; to = o.to; body = o.body })) e.sent
+    → Each P (waiting s (e ∷ past))
 each_left P s past e old new =
     each_append P (drop_id e.took.id (waiting s past)) (letters_of e) old (each_sealed P e.stamp.0 e.actor.0 0 e.sent new)

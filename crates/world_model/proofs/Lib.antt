@@ -1,6 +1,7 @@
 pub mod Bags
 pub mod Every
 pub mod Bridge
+pub mod Gone
 pub mod Back
 pub mod Posts
 pub mod Sampled

@@ -12,9 +12,11 @@ use Rattle.letter_types.specs.Letters.{go, same_id, find_id, drop_id, sealed, le
 use Rattle.tx_trees.specs.ScriptData.{ScriptData}
 use Rattle.world_model.specs.Tables.{start_node, start_client}
 use Rattle.world_model.specs.Runs.{client_of, WorldRun, node_table, coordinator_table, client_table, waiting, node_in, client_in, Moves, AtNode, AtCoordinator, AtClient, MayFollow, StepRun}
+use Rattle.world_model.proofs.Gone.{apart_from, same_is}
 use Rattle.world_model.proofs.Bridge.{reverse_more, slice_get_split, slice_get_last, slice_get_left, postal_less, run_less, node_after, client_after}
 
-find_left_at : (id : LetterId) (x : Letter) (xs ys : List Letter) (l : Letter) (b : Bool) → same_id id x.id ≡ b → find_id id (x ∷ xs) ≡ Some l
+find_left_at : (id : LetterId) (x : Letter) (xs ys : List Letter) (l : Letter) (b : Bool) → same_id id x.id ≡ b
+    → find_id id (x ∷ xs) ≡ Some l
     → (find_id id xs ≡ Some l → find_id id (xs ++ ys) ≡ Some l) → find_id id (x ∷ xs ++ ys) ≡ Some l
 find_left_at id x xs ys l true is at rest = grind arith
 find_left_at id x xs ys l false is at rest = grind arith
@@ -31,10 +33,6 @@ find_right_at id x xs ys false is none rest = grind arith
 find_right : (id : LetterId) (xs ys : List Letter) → find_id id xs ≡ None → find_id id (xs ++ ys) ≡ find_id id ys
 find_right id [] ys none = refl
 find_right id (x ∷ xs) ys none = find_right_at id x xs ys (same_id id x.id) refl none (find_right id xs ys)
-
--- two ids that differ
-apart_from : (i j k : LetterId) → same_id i j ≡ false → same_id j k ≡ true → same_id i k ≡ false
-apart_from i j k ne eq = grind (arith, nat_tests)
 
 find_dropped_at : (id i : LetterId) (x : Letter) (xs : List Letter) → same_id id i ≡ false → (b : Bool) → same_id i x.id ≡ b
     → find_id id (drop_id i xs) ≡ find_id id xs → find_id id (drop_id i (x ∷ xs)) ≡ find_id id (x ∷ xs)
@@ -55,24 +53,28 @@ none_dropped : (id i : LetterId) (xs : List Letter) → find_id id xs ≡ None �
 none_dropped id i [] none = refl
 none_dropped id i (x ∷ xs) none = none_dropped_at id i x xs (same_id i x.id) refl (same_id id x.id) refl none (none_dropped id i xs)
 
-none_sealed : (id : LetterId) (stamp actor place : ℕ) (os : List Outgoing) → id.stamp.0 ≢ stamp → find_id id (sealed stamp actor place os) ≡ None
+none_sealed : (id : LetterId) (stamp actor place : ℕ) (os : List Outgoing) → id.stamp.0 ≢ stamp
+    → find_id id (sealed stamp actor place os) ≡ None
 none_sealed id stamp actor place [] ne = refl
 none_sealed id stamp actor place (o ∷ os) ne =
     let no : same_id id (record { stamp = record { 0 = stamp }; place = place }) ≡ false = grind (arith, nat_tests) in
     rw no (none_sealed id stamp actor (place + 1) os ne)
 
-sealed_stamp_at : (id : LetterId) (stamp actor place : ℕ) (os : List Outgoing) (l : Letter) → find_id id (sealed stamp actor place os) ≡ Some l
+sealed_stamp_at : (id : LetterId) (stamp actor place : ℕ) (os : List Outgoing) (l : Letter)
+    → find_id id (sealed stamp actor place os) ≡ Some l
     → (b : Bool) → (id.stamp.0 == stamp) ≡ b → id.stamp.0 ≡ stamp
 sealed_stamp_at id stamp actor place os l at true is = grind (arith, nat_tests)
 sealed_stamp_at id stamp actor place os l at false is =
     let none : find_id id (sealed stamp actor place os) ≡ None = none_sealed id stamp actor place os (grind (arith, nat_tests)) in
     absurd (grind arith)
 
-sealed_stamp : (id : LetterId) (stamp actor place : ℕ) (os : List Outgoing) (l : Letter) → find_id id (sealed stamp actor place os) ≡ Some l → id.stamp.0 ≡ stamp
+sealed_stamp : (id : LetterId) (stamp actor place : ℕ) (os : List Outgoing) (l : Letter)
+    → find_id id (sealed stamp actor place os) ≡ Some l → id.stamp.0 ≡ stamp
 sealed_stamp id stamp actor place os l at = sealed_stamp_at id stamp actor place os l at (id.stamp.0 == stamp) refl
 
 -- a letter under way is no newer than the last entry
-none_newer : (s : ScriptData) (past : List Entry) (id : LetterId) → StepRun s past → length past < id.stamp.0 → find_id id (waiting s past) ≡ None
+none_newer : (s : ScriptData) (past : List Entry) (id : LetterId) → StepRun s past → length past < id.stamp.0
+    → find_id id (waiting s past) ≡ None
 none_newer s [] id run lt =
     let no : same_id id (go (client_of s)).id ≡ false = grind (arith, nat_tests) in
     rw no refl
@@ -95,7 +97,8 @@ NotTaken (e ∷ past) id = (same_id id e.took.id ≡ false) × NotTaken past id
 same_self : (i : LetterId) → same_id i i ≡ true
 same_self i = grind (arith, nat_tests)
 
-present : (s : ScriptData) (past : List Entry) (l : Letter) → StepRun s past → SentIn s past l → NotTaken past l.id → find_id l.id (waiting s past) ≡ Some l
+present : (s : ScriptData) (past : List Entry) (l : Letter) → StepRun s past → SentIn s past l → NotTaken past l.id
+    → find_id l.id (waiting s past) ≡ Some l
 present s [] l run sent free = subst (λ (m : Letter). find_id m.id (go (client_of s) ∷ []) ≡ Some m) (sym sent) refl
 present s (e ∷ past) l run (inl here) free =
     let stamp : l.id.stamp.0 ≡ e.stamp.0 = sealed_stamp l.id e.stamp.0 e.actor.0 0 e.sent l here in
@@ -110,7 +113,8 @@ go_sent : (s : ScriptData) (past : List Entry) → SentIn s past (go (client_of 
 go_sent s [] = refl
 go_sent s (e ∷ past) = inr (go_sent s past)
 
-sent_at : (s : ScriptData) (past : List Entry) (j : ℕ) (f : Entry) (l : Letter) → slice_get (reverse past) j ≡ Some f → find_id l.id (letters_of f) ≡ Some l → SentIn s past l
+sent_at : (s : ScriptData) (past : List Entry) (j : ℕ) (f : Entry) (l : Letter) → slice_get (reverse past) j ≡ Some f
+    → find_id l.id (letters_of f) ≡ Some l → SentIn s past l
 sent_at s [] j f l at found = absurd (grind arith)
 sent_at s (e ∷ past) j f l at found =
     elim (slice_get_split (reverse past) e j f (rw (reverse_more e past) at at)) [
@@ -118,17 +122,12 @@ sent_at s (e ∷ past) j f l at found =
       | inr p ↦ inl (rw p.1 found)
     ]
 
-same_is : (i j : LetterId) → same_id i j ≡ true → i ≡ j
-same_is i j is =
-    let a : i.stamp.0 ≡ j.stamp.0 = grind (arith, nat_tests) in
-    let b : i.place ≡ j.place = grind (arith, nat_tests) in
-    ap (λ (n : ℕ). record { stamp = record { 0 = n }; place = i.place }) a ∙ ap (λ (n : ℕ). record { stamp = j.stamp; place = n }) b
-
 id_apart_by : (i j : LetterId) → i ≢ j → (b : Bool) → same_id i j ≡ b → same_id i j ≡ false
 id_apart_by i j ne true is = absurd (ne (same_is i j is))
 id_apart_by i j ne false is = is
 
-not_taken : (past : List Entry) (id : LetterId) → ((j : ℕ) (f : Entry) → slice_get (reverse past) j ≡ Some f → f.took.id ≢ id) → NotTaken past id
+not_taken : (past : List Entry) (id : LetterId) → ((j : ℕ) (f : Entry) → slice_get (reverse past) j ≡ Some f → f.took.id ≢ id)
+    → NotTaken past id
 not_taken [] id free = tt
 not_taken (e ∷ past) id free =
     let last : slice_get (reverse (e ∷ past)) (length (reverse past)) ≡ Some e = rw (reverse_more e past) (slice_get_last (reverse past) e) in
