@@ -44,6 +44,9 @@ pub record WorldData : Type 0 where
   pub bag : List Letter
   pub history : List Entry
 
+abbrev pub world_of : List ActorState → List Letter → List Entry → WorldData
+world_of actors bag history = record { actors = actors; bag = bag; history = history }
+
 -- the world is one of the script: its history goes step by step, and its actors and its bag are what follows from it
 pub record IsWorldOf (s : ScriptData) (w : WorldData) : Type 0 where
   pub run : StepRun s (reverse w.history)

@@ -1,12 +1,13 @@
 // A world: all actors, the letters under way, and the history so far.
-ghost use Rattle.std.specs.Prelude.{◌≡◌, ◌<◌, ◌≤◌, ◌+◌, ◌^◌, ◌++◌, ◌∷◌, [], length, slice_get, slice_set, IfOk, OnOk, OnErr, Some};
+ghost use Rattle.std.specs.Prelude.{◌≡◌, ◌<◌, ◌≤◌, ◌+◌, ◌-◌, ◌^◌, ◌++◌, ◌∷◌, [], length, slice_get, slice_set, IfOk, IfSome, OnOk, OnErr, Some};
+ghost use Rattle.std.specs.List.{remove};
 ghost use Rattle.std.specs.VecDeque.{deque_len, deque_capacity};
 ghost use Rattle.letter_types.specs.Letters.{go, sealed};
 ghost use Rattle.world_model.specs.Tables.{Runnable};
-ghost use Rattle.world_core.specs.Actors.{IsWorldOf, TookLetter, actors_from};
+ghost use Rattle.world_core.specs.Actors.{IsAddressed, IsWorldOf, TookLetter, actor_row, actors_from, world_of};
 
 use crate::actor::{ActorState, actor_step};
-use letter_types::{Acts, Body, Entry, History, Letter, LetterId, Letters, Step};
+use letter_types::{Acts, Body, Entry, History, Letter, LetterId, Letters, Step, StepOut};
 use std::alloc::Global;
 use std::collections::VecDeque;
 use std::marker::Model;
@@ -82,5 +83,185 @@ fn send(bag: &mut VecDeque<Letter>, stamp: Stamp, actor: ActorNo, sent: Letters)
             body: outgoing.body,
         });
         place = place.saturating_add(1);
+    }
+}
+
+/// Lets the addressee of a letter make its step.
+fn act(
+    alloc: Global,
+    script: &Script,
+    actors: &mut Vec<ActorState>,
+    letter: &Letter,
+) -> Result<Step, NoMemory>
+    requires here { letter.now.to.0 < length actors.old.items }
+    requires addressed { IfSome (slice_get actors.old.items letter.now.to.0) (λ st. IsAddressed script.now letter.now st) }
+    ensures actors { IfOk result (λ step. IfSome (slice_get actors.old.items letter.now.to.0) (λ st. actors.new.items ≡ slice_set actors.old.items letter.now.to.0 (actor_row script.now letter.now st).state)) }
+    ensures sent { IfOk result (λ step. IfSome (slice_get actors.old.items letter.now.to.0) (λ st. step.given.sent ≡ (actor_row script.now letter.now st).sent)) }
+    ensures acts { IfOk result (λ step. IfSome (slice_get actors.old.items letter.now.to.0) (λ st. step.given.acts ≡ (actor_row script.now letter.now st).acts)) }
+    ensures kept { IfOk result (λ step. step.kept ≡ step.given) }
+    ensures err { OnErr result (actors.new.items ≡ actors.old.items) }
+{
+    let place = letter.to.0 as usize;
+    let state = &mut actors[place];
+    actor_step(alloc, state, letter, script)
+}
+
+/// Takes letter `k` out of the bag.
+fn take(bag: &mut VecDeque<Letter>, k: usize) -> Letter
+    requires { k < deque_len bag.old }
+    ensures taken { slice_get bag.old.items k ≡ Some result }
+    ensures left { bag.new.items ≡ remove bag.old.items k }
+    ensures len { deque_len bag.new + 1 ≡ deque_len bag.old }
+    ensures capacity { deque_capacity bag.new ≡ deque_capacity bag.old }
+{
+    bag.remove(k).unwrap()
+}
+
+/// Takes letter `k` out of the bag, sends what the step sent, and puts the entry in the last place of the history.
+fn finish(
+    bag: &mut VecDeque<Letter>,
+    history: &mut History,
+    stamp: Stamp,
+    k: usize,
+    step: Step,
+)
+    requires waits { k < deque_len bag.old }
+    requires room { deque_len bag.old + length step.given.sent ≤ deque_capacity bag.old }
+    requires place { 0 < length history.old }
+    ensures bag { IfSome (slice_get bag.old.items k) (λ l. bag.new.items ≡ remove bag.old.items k ++ sealed stamp.0 l.to.0 0 step.given.sent) }
+    ensures history { IfSome (slice_get bag.old.items k) (λ l. history.new ≡ slice_set history.old (length history.old - 1) (record { stamp = stamp; actor = l.to; took = l; sent = step.kept.sent; acts = step.kept.acts })) }
+{
+    let Step { given, kept } = step;
+    let StepOut { sent: out, acts: _ } = given;
+    let StepOut { sent, acts } = kept;
+    let took = take(bag, k);
+    let actor = took.to;
+    send(bag, stamp, actor, out);
+    let last = history.items().len() - 1;
+    let _placeholder = history.put(
+        last,
+        Entry {
+            stamp,
+            actor,
+            took,
+            sent,
+            acts,
+        },
+    );
+}
+
+/// Letter `k` of the bag.
+fn letter_at(bag: &VecDeque<Letter>, k: usize) -> &Letter
+    requires { k < deque_len bag.now }
+    ensures { slice_get bag.now.items k ≡ Some result.now }
+{
+    &bag[k]
+}
+
+/// One event over the parts of a world.
+fn advance(
+    alloc: Global,
+    script: &Script,
+    actors: &mut Vec<ActorState>,
+    bag: &mut VecDeque<Letter>,
+    history: &mut History,
+    k: usize,
+) -> Result<Stamp, NoMemory>
+    requires waits { k < deque_len bag.old }
+    requires runnable { Runnable script.now }
+    requires world { IsWorldOf script.now (world_of actors.old.items bag.old.items history.old) }
+    ensures world { OnOk result (IsWorldOf script.now (world_of actors.new.items bag.new.items history.new)) }
+    ensures took { OnOk result (TookLetter k (world_of actors.old.items bag.old.items history.old) (world_of actors.new.items bag.new.items history.new)) }
+    ensures stamp { IfOk result (λ stamp. stamp.0 ≡ length history.new) }
+    ensures same_actors { OnErr result (actors.new.items ≡ actors.old.items) }
+    ensures same_bag { OnErr result (bag.new.items ≡ bag.old.items) }
+    ensures same_history { OnErr result (history.new ≡ history.old) }
+{
+    let _valid = script.nodes();
+    let stamp = Stamp(history.items().len() as u64 + 1);
+    let room = script.rows().len() + 64;
+    bag.reserve(room)?;
+    history.push(placeholder(alloc, stamp))?;
+    match act(alloc, script, actors, letter_at(bag, k)) {
+        Ok(step) => {
+            finish(bag, history, stamp, k, step);
+            Ok(stamp)
+        }
+        Err(refused) => {
+            let _placeholder = history.pop();
+            Err(refused)
+        }
+    }
+}
+
+impl World {
+    /// The world of a script as a run begins: Go is under way, and the history is empty.
+    pub fn start(alloc: Global, script: &Script) -> Result<World, NoMemory>
+        ensures world { IfOk result (λ w. IsWorldOf script.now w) }
+        ensures history { IfOk result (λ w. w.history ≡ []) }
+    {
+        let client = ActorNo(script.nodes() + 1);
+        let mut bag = VecDeque::new(alloc);
+        bag.push_back(go(client))?;
+        let actors = first_actors(alloc, script)?;
+        Ok(World {
+            alloc,
+            actors,
+            bag,
+            history: History::new(alloc),
+        })
+    }
+
+    /// How many letters are under way.
+    pub fn waiting(&self) -> usize
+        ensures { result ≡ length self.now.bag }
+    {
+        self.bag.len()
+    }
+
+    /// Letter `k` of those under way, in order of their ids.
+    pub fn letter(&self, k: usize) -> &Letter
+        requires { k < length self.now.bag }
+        ensures { slice_get self.now.bag k ≡ Some result.now }
+    {
+        &self.bag[k]
+    }
+
+    /// The state of an actor.
+    pub fn actor(&self, actor: ActorNo) -> &ActorState
+        requires { actor.0 < length self.now.actors }
+        ensures { slice_get self.now.actors actor.0 ≡ Some result.now }
+    {
+        &self.actors[actor.0 as usize]
+    }
+
+    /// One event: letter `k` of those under way is taken by its addressee, whose step is appended to the history, and
+    /// what it sends goes to the end. Gives the stamp of the new entry. After want of memory the world is as it was.
+    pub fn step(&mut self, script: &Script, k: usize) -> Result<Stamp, NoMemory>
+        requires waits { k < length self.old.bag }
+        requires runnable { Runnable script.now }
+        requires world { IsWorldOf script.now self.old }
+        ensures world { IsWorldOf script.now self.new }
+        ensures took { OnOk result (TookLetter k self.old self.new) }
+        ensures stamp { IfOk result (λ stamp. stamp.0 ≡ length self.new.history) }
+        ensures err { OnErr result (self.new ≡ self.old) }
+    {
+        advance(self.alloc, script, &mut self.actors, &mut self.bag, &mut self.history, k)
+    }
+
+    /// The history so far. It has at most 2^40 entries.
+    pub fn history(&self) -> &History
+        ensures history { result.now ≡ self.now.history }
+        ensures few { length self.now.history ≤ 2 ^ 40 }
+    {
+        let _count = self.history.items();
+        &self.history
+    }
+
+    /// The history, by value.
+    pub fn into_history(self) -> History
+        ensures { result ≡ self.history }
+    {
+        self.history
     }
 }

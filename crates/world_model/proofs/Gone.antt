@@ -81,7 +81,7 @@ unique_by s past e id run ih false is =
     let ne : id.stamp.0 ≢ e.stamp.0 = grind (arith, nat_tests) in
     omega (arith, tally_step (of_id id) s past e run.0, other_stamp id e.stamp.0 e.actor.0 0 e.sent ne)
 
-unique : (s : ScriptData) (past : List Entry) (id : LetterId) → StepRun s past → tally (of_id id) (waiting s past) ≤ 1
+pub unique : (s : ScriptData) (past : List Entry) (id : LetterId) → StepRun s past → tally (of_id id) (waiting s past) ≤ 1
 unique s [] id run = omega (arith, one_le (same_id id (go (client_of s)).id))
 unique s (e ∷ past) id run = unique_by s past e id run (unique s past id run.1) (id.stamp.0 == e.stamp.0) refl
 

@@ -1,0 +1,101 @@
+-- One event over the parts of a world, from what its calls say.
+use Rattle.std.proofs.Common.{◌≡◌, ℕ, suc, zero, ◌+◌, ◌-◌, ◌<◌, ◌≤◌, List, [], ◌∷◌, ◌++◌, length, reverse, Option, Some, None, refl, sym, ap, ◌∙◌, subst, arith}
+use Rattle.std.specs.Prelude.{slice_get, slice_set, IfSome}
+use Rattle.std.specs.List.{remove}
+use Rattle.std.proofs.lemmas.List.{length-append}
+use Rattle.tv_base.specs.declared.numbers.Stamp.{Stamp}
+use Rattle.letter_types.specs.declared.acts.Act.{Act}
+use Rattle.letter_types.specs.declared.entries.Letter.{Letter}
+use Rattle.letter_types.specs.declared.entries.Outgoing.{Outgoing}
+use Rattle.letter_types.specs.declared.entries.StepOut.{StepOut}
+use Rattle.letter_types.specs.declared.entries.Entry.{Entry}
+use Rattle.letter_types.specs.Letters.{sealed}
+use Rattle.tx_trees.specs.ScriptData.{ScriptData}
+use Rattle.tx_trees.specs.Valid.{IsValid}
+use Rattle.tree_laws.proofs.Scripts.{Sound}
+use Rattle.world_core.specs.declared.actor.ActorState.{ActorState}
+use Rattle.world_core.specs.Actors.{WorldData, IsWorldOf, IsAddressed, TookLetter, actor_row, actor_in, world_of}
+use Rattle.world_core.proofs.Few.{few_sent}
+use Rattle.world_core.proofs.Worlds.{asks, below, entry_of, next_world}
+
+pub if_some : {X : Type 0} (P : X → Type 0) (o : Option X) (x : X) → o ≡ Some x → IfSome o P → P x
+if_some P None x is h = absurd (cc is)
+if_some P (Some y) x is h = let eq : y ≡ x = cc is in subst P eq h
+
+if_some_of : {X : Type 0} (P : X → Type 0) (o : Option X) (x : X) → o ≡ Some x → P x → IfSome o P
+if_some_of P o x is h = rw is h
+
+-- the addressee is there
+state_of : (s : ScriptData) (w : WorldData) (k : ℕ) (l : Letter) → IsWorldOf s w → Sound s → slice_get w.bag k ≡ Some l
+    → slice_get w.actors l.to.0 ≡ Some (actor_in s (reverse w.history) l.to.0)
+state_of s w k l world sound at = world.actors l.to.0 (below s w k l world sound at)
+
+pub is_here : (s : ScriptData) (w : WorldData) (k : ℕ) (l : Letter) → IsWorldOf s w → Sound s → slice_get w.bag k ≡ Some l → l.to.0 < length w.actors
+is_here s w k l world sound at = omega (arith, below s w k l world sound at, world.count)
+
+pub is_addressed : (s : ScriptData) (w : WorldData) (k : ℕ) (l : Letter) → IsWorldOf s w → Sound s → slice_get w.bag k ≡ Some l
+    → IfSome (slice_get w.actors l.to.0) (λ st. IsAddressed s l st)
+is_addressed s w k l world sound at = if_some_of (λ st. IsAddressed s l st) (slice_get w.actors l.to.0) (actor_in s (reverse w.history) l.to.0) (state_of s w k l world sound at) (asks s (reverse w.history) l)
+
+pub has_room : (s : ScriptData) (w : WorldData) (k : ℕ) (l : Letter) (sent : List Outgoing) → IsWorldOf s w → Sound s → slice_get w.bag k ≡ Some l
+    → IfSome (slice_get w.actors l.to.0) (λ st. sent ≡ (actor_row s l st).sent) → length sent ≤ length s.rows + 64
+has_room s w k l sent world sound at is =
+    let st = actor_in s (reverse w.history) l.to.0 in
+    let same : sent ≡ (actor_row s l st).sent = if_some (λ x. sent ≡ (actor_row s l x).sent) (slice_get w.actors l.to.0) st (state_of s w k l world sound at) is in
+    omega (arith, ap (length {A = Outgoing}) same, few_sent s l st sound.valid)
+
+set_last : (h : List Entry) (x e : Entry) → slice_set (h ++ x ∷ []) (length h) e ≡ h ++ e ∷ []
+set_last [] x e = refl
+set_last (y ∷ h) x e = ap (λ (ys : List Entry). y ∷ ys) (set_last h x e)
+
+last_place : (h : List Entry) (x : Entry) → length (h ++ x ∷ []) - 1 ≡ length h
+last_place h x = omega (arith, length-append h (x ∷ []))
+
+-- what the calls of an event say
+pub record Event (s : ScriptData) (w : WorldData) (k : ℕ) (l : Letter) (given kept : StepOut) (stamp : Stamp) (x : Entry) (next : WorldData) : Type 0 where
+  pub letter : slice_get w.bag k ≡ Some l
+  pub actors : IfSome (slice_get w.actors l.to.0) (λ st. next.actors ≡ slice_set w.actors l.to.0 (actor_row s l st).state)
+  pub sent : IfSome (slice_get w.actors l.to.0) (λ st. given.sent ≡ (actor_row s l st).sent)
+  pub acts : IfSome (slice_get w.actors l.to.0) (λ st. given.acts ≡ (actor_row s l st).acts)
+  pub same : kept ≡ given
+  pub stamp_is : stamp.0 ≡ length w.history + 1
+  pub bag : IfSome (slice_get w.bag k) (λ m. next.bag ≡ remove w.bag k ++ sealed stamp.0 m.to.0 0 given.sent)
+  pub history : IfSome (slice_get w.bag k) (λ m. next.history ≡ slice_set (w.history ++ x ∷ []) (length (w.history ++ x ∷ []) - 1) (record { stamp = stamp; actor = m.to; took = m; sent = kept.sent; acts = kept.acts }))
+
+abbrev entry_made : Letter → StepOut → Stamp → Entry
+entry_made l out stamp = record { stamp = stamp; actor = l.to; took = l; sent = out.sent; acts = out.acts }
+
+pub history_is : (s : ScriptData) (w : WorldData) (k : ℕ) (l : Letter) (given kept : StepOut) (stamp : Stamp) (x : Entry) (next : WorldData) → Event s w k l given kept stamp x next
+    → next.history ≡ w.history ++ entry_of (length w.history + 1) l given.sent given.acts ∷ []
+history_is s w k l given kept stamp x next e =
+    if_some (λ m. next.history ≡ slice_set (w.history ++ x ∷ []) (length (w.history ++ x ∷ []) - 1) (record { stamp = stamp; actor = m.to; took = m; sent = kept.sent; acts = kept.acts })) (slice_get w.bag k) l e.letter e.history
+    ∙ ap (λ (n : ℕ). slice_set (w.history ++ x ∷ []) n (entry_made l kept stamp)) (last_place w.history x)
+    ∙ set_last w.history x (entry_made l kept stamp)
+    ∙ ap (λ (out : StepOut). w.history ++ entry_made l out stamp ∷ []) e.same
+    ∙ ap (λ (n : ℕ). w.history ++ entry_of n l given.sent given.acts ∷ []) e.stamp_is
+
+pub event_world : (s : ScriptData) (w : WorldData) (k : ℕ) (l : Letter) (given kept : StepOut) (stamp : Stamp) (x : Entry) (next : WorldData) → IsWorldOf s w → Sound s
+    → Event s w k l given kept stamp x next → IsWorldOf s next
+event_world s w k l given kept stamp x next world sound e =
+    let st = actor_in s (reverse w.history) l.to.0 in
+    let at : slice_get w.actors l.to.0 ≡ Some st = state_of s w k l world sound e.letter in
+    let bag : next.bag ≡ remove w.bag k ++ sealed stamp.0 l.to.0 0 given.sent = if_some (λ m. next.bag ≡ remove w.bag k ++ sealed stamp.0 m.to.0 0 given.sent) (slice_get w.bag k) l e.letter e.bag in
+    let made : IsWorldOf s (record { actors = next.actors; bag = next.bag; history = w.history ++ entry_of (length w.history + 1) l given.sent given.acts ∷ [] }) =
+      next_world s w k l st given.sent given.acts next.actors next.bag world sound (record {
+        letter = e.letter;
+        state = at;
+        actors = if_some (λ y. next.actors ≡ slice_set w.actors l.to.0 (actor_row s l y).state) (slice_get w.actors l.to.0) st at e.actors;
+        sent = if_some (λ y. given.sent ≡ (actor_row s l y).sent) (slice_get w.actors l.to.0) st at e.sent;
+        acts = if_some (λ y. given.acts ≡ (actor_row s l y).acts) (slice_get w.actors l.to.0) st at e.acts;
+        bag = bag ∙ ap (λ (n : ℕ). remove w.bag k ++ sealed n l.to.0 0 given.sent) e.stamp_is;
+      }) in
+    subst (λ (h : List Entry). IsWorldOf s (record { actors = next.actors; bag = next.bag; history = h })) (sym (history_is s w k l given kept stamp x next e)) made
+
+pub event_took : (s : ScriptData) (w : WorldData) (k : ℕ) (l : Letter) (given kept : StepOut) (stamp : Stamp) (x : Entry) (next : WorldData)
+    → Event s w k l given kept stamp x next → TookLetter k w next
+event_took s w k l given kept stamp x next e = (entry_of (length w.history + 1) l given.sent given.acts, history_is s w k l given kept stamp x next e, e.letter)
+
+pub event_count : (s : ScriptData) (w : WorldData) (k : ℕ) (l : Letter) (given kept : StepOut) (stamp : Stamp) (x : Entry) (next : WorldData)
+    → Event s w k l given kept stamp x next → length next.history ≡ length w.history + 1
+event_count s w k l given kept stamp x next e =
+    ap (length {A = Entry}) (history_is s w k l given kept stamp x next e) ∙ omega (arith, length-append w.history (entry_of (length w.history + 1) l given.sent given.acts ∷ []))

@@ -1,0 +1,157 @@
+-- A step of an actor makes the next world.
+use Rattle.std.proofs.Common.{◌≡◌, ◌≢◌, ◌⊎◌, inl, inr, ℕ, suc, zero, ◌+◌, ◌<◌, ◌≤◌, ◌==◌, ◌&&◌, Bool, true, false, List, [], ◌∷◌, ◌++◌, length, reverse, Option, Some, None, refl, sym, ap, ◌∙◌, subst, arith}
+use Rattle.std.specs.Prelude.{if◌then◌else◌, nat_lt, slice_get, slice_set}
+use Rattle.std.specs.List.{remove}
+use Rattle.std.proofs.lemmas.Bool.Decides.{nat_tests}
+use Rattle.std.proofs.lemmas.List.{length-reverse, reverse-append}
+use Rattle.std.proofs.lemmas.Option.{slice_get_within}
+use Rattle.std.proofs.Math.ListN.{length-set}
+use Rattle.tv_base.specs.declared.numbers.ActorNo.{ActorNo}
+use Rattle.letter_types.specs.declared.acts.Act.{Act}
+use Rattle.letter_types.specs.declared.bodies.Body.{Body}
+use Rattle.letter_types.specs.declared.bodies.Body.TheVariants.{Go, Root, Sub as SubLetter}
+use Rattle.letter_types.specs.declared.entries.Letter.{Letter}
+use Rattle.letter_types.specs.declared.entries.Outgoing.{Outgoing}
+use Rattle.letter_types.specs.declared.entries.Entry.{Entry}
+use Rattle.letter_types.specs.Letters.{find_id, drop_id, letters_of, sealed}
+use Rattle.tx_trees.specs.ScriptData.{ScriptData, node_of, home_of, sub_at, subs_at}
+use Rattle.tx_trees.specs.Valid.{IsValid}
+use Rattle.world_model.specs.Counts.{Each}
+use Rattle.world_model.specs.Tables.{Out, Runnable}
+use Rattle.world_model.specs.Runs.{StepRun, MayFollow, Moves, AtNode, AtCoordinator, AtClient, Says, waiting, node_in, client_in, node_table, client_table, client_of}
+use Rattle.world_model.proofs.Bridge.{reverse_more}
+use Rattle.world_model.proofs.Every.{each_found}
+use Rattle.world_model.proofs.Gone.{unique}
+use Rattle.tree_laws.proofs.Fits.{Fit}
+use Rattle.tree_laws.proofs.Scripts.{Sound, SubAt, is_sub, sub_there, node_here, has_root}
+use Rattle.tree_laws.proofs.Goods.{good_run}
+use Rattle.world_core.specs.declared.actor.ActorState.{ActorState}
+use Rattle.world_core.specs.Actors.{WorldData, IsWorldOf, IsAddressed, actor_row, actor_in, actors_from}
+use Rattle.world_core.proofs.Bag.{Found, found_at}
+
+-- the entry that a step makes
+abbrev pub entry_of : ℕ → Letter → List Outgoing → List Act → Entry
+entry_of stamp l sent acts = record { stamp = record { 0 = stamp }; actor = l.to; took = l; sent = sent; acts = acts }
+
+-- each letter under way is for one of the actors
+sub_below : (s : ScriptData) (t k : ℕ) (c : SubAt s t k) → Sound s → node_of s t k < s.nodes
+sub_below s t k c sound = subst (λ (n : ℕ). n < s.nodes) (sym (node_here s t k c)) (is_sub s t k c sound).node
+
+fit_below : (s : ScriptData) (from to : ℕ) (body : Body) → Sound s → Fit s from to body → to < s.nodes + 2
+fit_below s from to Go sound fit = omega (arith, fit)
+fit_below s from to (Root t) sound fit = omega (arith, fit.1, sub_below s t.0 0 (has_root s t.0 sound fit.0) sound)
+fit_below s from to (SubLetter t k v) sound fit = omega (arith, fit.3, sub_below s t.0 k.0 (sub_there s t.0 k.0 fit.0 fit.1) sound)
+fit_below s from to _ sound fit = absurd fit
+
+pub addressed : (s : ScriptData) (past : List Entry) (l : Letter) → Sound s → StepRun s past → find_id l.id (waiting s past) ≡ Some l → l.to.0 < s.nodes + 2
+addressed s past l sound run at =
+    fit_below s l.from.0 l.to.0 l.body sound (each_found (λ (x : Letter). Fit s x.from.0 x.to.0 x.body) l.id (waiting s past) l (good_run s past sound run).letters at)
+
+-- the letter of a step may be taken by its addressee
+asks_by : (s : ScriptData) (past : List Entry) (l : Letter) (b c : Bool) → nat_lt l.to.0 s.nodes ≡ b → (l.to.0 == s.nodes) ≡ c → IsAddressed s l (actor_in s past l.to.0)
+asks_by s past l true c is at = rw is (grind (arith, nat_tests))
+asks_by s past l false true is at = rw (is, at) tt
+asks_by s past l false false is at = rw (is, at) tt
+
+pub asks : (s : ScriptData) (past : List Entry) (l : Letter) → IsAddressed s l (actor_in s past l.to.0)
+asks s past l = asks_by s past l (nat_lt l.to.0 s.nodes) (l.to.0 == s.nodes) refl refl
+
+self_true : (n : ℕ) → (n == n) ≡ true
+self_true n = grind (arith, nat_tests)
+
+-- whose step it is
+moves_by : (s : ScriptData) (past : List Entry) (l : Letter) (stamp : ℕ) (sent : List Outgoing) (acts : List Act) (b c : Bool)
+    → nat_lt l.to.0 s.nodes ≡ b → (l.to.0 == s.nodes) ≡ c → l.to.0 < s.nodes + 2
+    → sent ≡ (actor_row s l (actor_in s past l.to.0)).sent → acts ≡ (actor_row s l (actor_in s past l.to.0)).acts
+    → Moves s past (entry_of stamp l sent acts)
+moves_by s past l stamp sent acts true c is at lt a b = AtNode (grind (arith, nat_tests)) (rw is at a, rw is at b)
+moves_by s past l stamp sent acts false true is at lt a b = AtCoordinator (grind (arith, nat_tests)) (rw (is, at) at a, rw (is, at) at b)
+moves_by s past l stamp sent acts false false is at lt a b = AtClient (grind (arith, nat_tests)) (rw (is, at) at a, rw (is, at) at b)
+
+-- the addressee's next state
+state_by : (s : ScriptData) (past : List Entry) (l : Letter) (stamp : ℕ) (sent : List Outgoing) (acts : List Act) (b c : Bool)
+    → nat_lt l.to.0 s.nodes ≡ b → (l.to.0 == s.nodes) ≡ c → l.to.0 < s.nodes + 2
+    → (actor_row s l (actor_in s past l.to.0)).state ≡ actor_in s (entry_of stamp l sent acts ∷ past) l.to.0
+state_by s past l stamp sent acts true c is at lt = rw (is, self_true l.to.0) refl
+state_by s past l stamp sent acts false true is at lt = rw (is, at) refl
+state_by s past l stamp sent acts false false is at lt =
+    let client : (l.to.0 == client_of s) ≡ true = grind (arith, nat_tests) in rw (is, at, client) refl
+
+-- the other actors stay
+others_by : (s : ScriptData) (past : List Entry) (e : Entry) (a : ℕ) (b c : Bool) → nat_lt a s.nodes ≡ b → (a == s.nodes) ≡ c → a < s.nodes + 2 → e.actor.0 ≢ a
+    → actor_in s (e ∷ past) a ≡ actor_in s past a
+others_by s past e a true c is at lt ne = let no : (e.actor.0 == a) ≡ false = grind (arith, nat_tests) in rw (is, no) refl
+others_by s past e a false true is at lt ne = rw (is, at) refl
+others_by s past e a false false is at lt ne = let no : (e.actor.0 == client_of s) ≡ false = grind (arith, nat_tests) in rw (is, at, no) refl
+
+get_set_same : {X : Type 0} (xs : List X) (i : ℕ) (v : X) → i < length xs → slice_get (slice_set xs i v) i ≡ Some v
+get_set_same [] i v lt = absurd (omega arith)
+get_set_same (x ∷ xs) zero v lt = refl
+get_set_same (x ∷ xs) (suc i) v lt = get_set_same xs i v (omega arith)
+
+get_set_other : {X : Type 0} (xs : List X) (i j : ℕ) (v : X) → i ≢ j → slice_get (slice_set xs i v) j ≡ slice_get xs j
+get_set_other [] i j v ne = refl
+get_set_other (x ∷ xs) zero zero v ne = absurd (ne refl)
+get_set_other (x ∷ xs) zero (suc j) v ne = refl
+get_set_other (x ∷ xs) (suc i) zero v ne = refl
+get_set_other (x ∷ xs) (suc i) (suc j) v ne = get_set_other xs i j v (λ is. ne (ap suc is))
+
+-- what a step takes and gives
+pub record Stepped (s : ScriptData) (w : WorldData) (k : ℕ) (l : Letter) (st : ActorState) (out : List Outgoing) (done : List Act) (next : List ActorState) (left : List Letter) : Type 0 where
+  pub letter : slice_get w.bag k ≡ Some l
+  pub state : slice_get w.actors l.to.0 ≡ Some st
+  pub actors : next ≡ slice_set w.actors l.to.0 (actor_row s l st).state
+  pub sent : out ≡ (actor_row s l st).sent
+  pub acts : done ≡ (actor_row s l st).acts
+  pub bag : left ≡ remove w.bag k ++ sealed (length w.history + 1) l.to.0 0 out
+
+some_is : {X : Type 0} (x y : X) → Some x ≡ Some y → x ≡ y
+some_is x y is = cc
+
+pub found_in : (s : ScriptData) (w : WorldData) (k : ℕ) (l : Letter) → IsWorldOf s w → slice_get w.bag k ≡ Some l → Found (waiting s (reverse w.history)) k l
+found_in s w k l world at =
+    found_at (waiting s (reverse w.history)) k l (unique s (reverse w.history) l.id world.run)
+      (subst (λ (ls : List Letter). slice_get ls k ≡ Some l) world.bag at)
+
+pub below : (s : ScriptData) (w : WorldData) (k : ℕ) (l : Letter) → IsWorldOf s w → Sound s → slice_get w.bag k ≡ Some l → l.to.0 < s.nodes + 2
+below s w k l world sound at = addressed s (reverse w.history) l sound world.run (found_in s w k l world at).found
+
+may_follow : (s : ScriptData) (w : WorldData) (k : ℕ) (l : Letter) (sent : List Outgoing) (acts : List Act) → IsWorldOf s w → Sound s
+    → slice_get w.bag k ≡ Some l
+    → sent ≡ (actor_row s l (actor_in s (reverse w.history) l.to.0)).sent → acts ≡ (actor_row s l (actor_in s (reverse w.history) l.to.0)).acts
+    → MayFollow s (reverse w.history) (entry_of (length w.history + 1) l sent acts)
+may_follow s w k l sent acts world sound at a b = record {
+    stamp = omega (arith, length-reverse w.history);
+    waits = (found_in s w k l world at).found;
+    addressee = refl;
+    moves = moves_by s (reverse w.history) l (length w.history + 1) sent acts (nat_lt l.to.0 s.nodes) (l.to.0 == s.nodes) refl refl (below s w k l world sound at) a b;
+  }
+
+actors_next : (s : ScriptData) (past : List Entry) (l : Letter) (stamp : ℕ) (sent : List Outgoing) (acts : List Act) (old : List ActorState) (a : ℕ)
+    → length old ≡ s.nodes + 2 → l.to.0 < s.nodes + 2 → a < s.nodes + 2 → slice_get old a ≡ Some (actor_in s past a) → (b : Bool) → (l.to.0 == a) ≡ b
+    → slice_get (slice_set old l.to.0 (actor_row s l (actor_in s past l.to.0)).state) a ≡ Some (actor_in s (entry_of stamp l sent acts ∷ past) a)
+actors_next s past l stamp sent acts old a count to lt at true is =
+    let eq : l.to.0 ≡ a = grind (arith, nat_tests) in
+    subst (λ (n : ℕ). slice_get (slice_set old l.to.0 (actor_row s l (actor_in s past l.to.0)).state) n ≡ Some (actor_in s (entry_of stamp l sent acts ∷ past) n)) eq
+      (get_set_same old l.to.0 (actor_row s l (actor_in s past l.to.0)).state (omega arith)
+      ∙ ap (λ (x : ActorState). Some x) (state_by s past l stamp sent acts (nat_lt l.to.0 s.nodes) (l.to.0 == s.nodes) refl refl to))
+actors_next s past l stamp sent acts old a count to lt at false is =
+    let ne : l.to.0 ≢ a = grind (arith, nat_tests) in
+    get_set_other old l.to.0 a (actor_row s l (actor_in s past l.to.0)).state ne ∙ at
+    ∙ ap (λ (x : ActorState). Some x) (sym (others_by s past (entry_of stamp l sent acts) a (nat_lt a s.nodes) (a == s.nodes) refl refl lt ne))
+
+pub next_world : (s : ScriptData) (w : WorldData) (k : ℕ) (l : Letter) (st : ActorState) (sent : List Outgoing) (acts : List Act) (actors : List ActorState) (bag : List Letter)
+    → IsWorldOf s w → Sound s → Stepped s w k l st sent acts actors bag
+    → IsWorldOf s (record { actors = actors; bag = bag; history = w.history ++ entry_of (length w.history + 1) l sent acts ∷ [] })
+next_world s w k l st sent acts actors bag world sound step =
+    let past = reverse w.history in
+    let e = entry_of (length w.history + 1) l sent acts in
+    let to : l.to.0 < s.nodes + 2 = below s w k l world sound step.letter in
+    let is : st ≡ actor_in s past l.to.0 = some_is st (actor_in s past l.to.0) (sym step.state ∙ world.actors l.to.0 to) in
+    let back : reverse (w.history ++ e ∷ []) ≡ e ∷ past = reverse-append w.history (e ∷ []) in
+    record {
+      run = rw back (may_follow s w k l sent acts world sound step.letter (step.sent ∙ ap (λ (x : ActorState). (actor_row s l x).sent) is) (step.acts ∙ ap (λ (x : ActorState). (actor_row s l x).acts) is), world.run);
+      count = ap (length {A = ActorState}) step.actors ∙ length-set w.actors l.to.0 (actor_row s l st).state ∙ world.count;
+      actors = λ a lt. rw (back, step.actors, is) (actors_next s past l (length w.history + 1) sent acts w.actors a world.count to lt (world.actors a lt) (l.to.0 == a) refl);
+      bag = step.bag ∙ rw (back, world.bag, (found_in s w k l world step.letter).left) refl;
+    }
