@@ -1,0 +1,7 @@
+use Rattle.std.proofs.Common.{arith, length, ◌+◌}
+use Rattle.csv.specs.Reading.{reader_state, source_of}
+use Rattle.script_reader.proofs.Taken.{few_rows}
+use Rattle.script_reader.proofs.records.Records.new.Goals as goal
+
+pub returns-clause-few : goal.returns-clause-few
+returns-clause-few c = few_rows (length c.args.text.now + 1) c.from_reader.result
