@@ -1,6 +1,6 @@
 -- A row that passes its conditions.
-use Rattle.std.proofs.Common.{◌≡◌, ◌<◌, ◌≤◌, ℕ, suc, Bool, true, false, not, List, [], ◌∷◌, length, Option, Some, None, Result, Ok, Err, refl, sym, ap, ◌∙◌, arith, inl, inr, to_z, of_z}
-use Rattle.std.specs.Prelude.{◌&&◌, ◌||◌, ◌==◌, nat_le, nat_lt, min, ℤ, if◌then◌else◌, is_some, unsigned_abs, IsErrAnd, ◌⊎◌}
+use Rattle.std.proofs.Common.{◌≡◌, ◌<◌, ◌≤◌, ℕ, suc, Bool, true, false, not, List, [], ◌∷◌, length, Option, Some, Result, Ok, Err, refl, sym, ap, ◌∙◌, arith, inl, inr, to_z, of_z}
+use Rattle.std.specs.Prelude.{◌&&◌, ◌||◌, nat_le, nat_lt, min, ℤ, is_some, unsigned_abs, IsErrAnd, ◌⊎◌}
 use Rattle.std.specs.List.{AllByRecursion}
 use Rattle.std.proofs.lemmas.Bool.{cases_lt, le-leb, lt-leb}
 use Rattle.std.proofs.lemmas.Int.{fits_signed_from_abs, to_z-of_z}
@@ -11,7 +11,7 @@ use Rattle.commute_ops.specs.declared.kinds.Kind.{Kind}
 use Rattle.commute_ops.specs.declared.kinds.Op.TheVariants as ops
 use Rattle.tx_trees.specs.ScriptData.{ScriptData}
 use Rattle.tx_trees.specs.Valid.{IsTree, IsValid}
-use Rattle.tx_trees.specs.Adding.{Steps, adds_item, adds_op, adds_sub, adds_tree, judged, last_subs, place_of, with_sub}
+use Rattle.tx_trees.specs.Adding.{Steps, adds_item, adds_op, adds_sub, adds_tree, last_subs, place_of}
 use Rattle.tx_trees.specs.declared.parts.Deed.TheVariants as deeds
 use Rattle.tx_trees.specs.declared.parts.ItemRow.{ItemRow}
 use Rattle.tx_trees.specs.declared.parts.Tree.{Tree}

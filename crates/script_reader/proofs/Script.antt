@@ -1,5 +1,5 @@
 -- Reading the records one after the other.
-use Rattle.std.proofs.Common.{◌≡◌, ◌+◌, ℕ, Bool, true, false, List, [], ◌∷◌, Result, Ok, Err, refl, ap, ◌∙◌}
+use Rattle.std.proofs.Common.{◌≡◌, ◌+◌, ℕ, Bool, true, false, List, [], ◌∷◌, Result, Ok, Err, ap, ◌∙◌}
 use Rattle.tx_trees.specs.ScriptData.{ScriptData}
 use Rattle.tx_trees.specs.declared.why.Why.{Why}
 use Rattle.script_reader.specs.declared.reading.ScriptFault.{ScriptFault}

@@ -1,6 +1,5 @@
 -- What one read of csv tells of the records that are left.
-use Rattle.std.proofs.Common.{◌≡◌, ℕ, suc, zero, List, [], ◌∷◌, length, ◌≤◌, arith, Option, Some, None, Bool, Result, Ok, Err, true, false, inl, refl, sym, ap, ◌∙◌}
-use Rattle.std.specs.Prelude.{IfOk, OnOk, IsErrAnd, MatchResult}
+use Rattle.std.proofs.Common.{◌≡◌, ℕ, suc, zero, List, [], ◌∷◌, length, ◌≤◌, arith, Option, Some, None, Bool, true, false, inl, refl, ◌∙◌}
 use Rattle.std.specs.Borrow.{Bor}
 use Rattle.csv.specs.Machine.{Read, next_record}
 use Rattle.csv.specs.Reading.{NextIs, ReadRecord, ReadsNext, Ready, default_config, pending_of, records_from, reader_state, reader_trim, records_next, source_of, took_first}

@@ -1,5 +1,5 @@
 -- Numbers and amounts as their digits.
-use Rattle.std.specs.Prelude.{ℕ, Bool, true, false, ◌+◌, ◌*◌, ◌-◌, ◌&&◌, ◌==◌, nat_le, ℤ, pos, ◌-ℤ◌, List, [], ◌∷◌, length, fold, Option, Some, None, if◌then◌else◌}
+use Rattle.std.specs.Prelude.{ℕ, Bool, false, ◌+◌, ◌*◌, ◌-◌, ◌&&◌, ◌==◌, nat_le, ℤ, pos, ◌-ℤ◌, List, [], ◌∷◌, length, fold, Option, Some, None, if◌then◌else◌}
 use Rattle.std.specs.List.{list_all}
 
 abbrev pub is_digit : ℕ → Bool

@@ -1,5 +1,5 @@
 -- What an item, a tree, a subtransaction and an operation do to a script that is valid.
-use Rattle.std.proofs.Common.{◌≡◌, ◌<◌, ◌≤◌, ◌+◌, ℕ, suc, zero, Bool, true, false, List, [], ◌∷◌, ◌++◌, length, get_or, refl, sym, ap, ◌∙◌, subst, arith, length-append, inl, inr}
+use Rattle.std.proofs.Common.{◌≡◌, ◌<◌, ◌≤◌, ◌+◌, ℕ, true, false, List, [], ◌∷◌, ◌++◌, length, get_or, refl, sym, ap, ◌∙◌, subst, arith, length-append, inl, inr}
 use Rattle.std.specs.Prelude.{◌==◌, if◌then◌else◌, IsTrue, Option, Some, None, slice_get, unsigned_abs, Result, Ok, Err, IsOk, is_ok}
 use Rattle.std.specs.List.{AllByRecursion}
 use Rattle.std.specs.Global.{Vec}
@@ -7,7 +7,7 @@ use Rattle.std.specs.Vec.{with_item}
 use Rattle.std.proofs.Math.ListN.{set, get_or-append}
 use Rattle.std.proofs.Math.Seq.{get_or-append_seam}
 use Rattle.std.proofs.lemmas.List.{get_or-set_other, get_or-set_same, get_or_default, length-set}
-use Rattle.std.proofs.lemmas.Option.{slice_get-get_or, slice_get_cases, slice_get_past, slice_get_within}
+use Rattle.std.proofs.lemmas.Option.{slice_get-get_or, slice_get_cases}
 use Rattle.std.proofs.lemmas.Bool.{cases_eq, cases_lt}
 use Rattle.std.proofs.lemmas.Grind.{common_steps}
 use Rattle.commute_ops.specs.declared.kinds.Kind.{Kind}
@@ -23,7 +23,7 @@ use Rattle.tx_trees.specs.declared.parts.Tree.{Tree}
 use Rattle.tx_trees.specs.declared.parts.TreeKind.{TreeKind}
 use Rattle.tx_trees.specs.declared.script.Script.TheInside.{Inside}
 use Rattle.tx_trees.specs.ScriptData.{ScriptData}
-use Rattle.tx_trees.specs.Valid.{AreSubs, IsItem, IsOp, IsSub, IsTree, IsValid, NamesInOrder, OpAt, deed_fits, initial_load, load, magnitude, ops_load, subs_load, trees_load}
+use Rattle.tx_trees.specs.Valid.{AreSubs, IsItem, IsOp, IsSub, IsTree, NamesInOrder, OpAt, deed_fits, initial_load, load, magnitude, ops_load, subs_load, trees_load}
 use Rattle.tx_trees.specs.Adding.{advances_in, all_ops, all_subs, kind_at, last_count, last_kind, last_node, last_of, last_subs, node_at, on_last, on_last_sub, push_op, push_sub, subs_ops}
 use Rattle.tx_trees.specs.Inside.{IsKept, data_of}
 use Rattle.tx_trees.proofs.Last.{last_count_is, last_kind_is, last_node_is, last_sub_is, last_subs_is, length-on_last}

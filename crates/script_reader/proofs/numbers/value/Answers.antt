@@ -1,4 +1,4 @@
-use Rattle.std.proofs.Common.{◌≡◌, ◌*◌, ◌≤◌, ◌<◌, ◌^◌, ◌+◌, ◌-◌, length, arith, lit<, Fits}
+use Rattle.std.proofs.Common.{arith}
 use Rattle.script_reader.proofs.Digits.{bounded}
 use Rattle.script_reader.proofs.numbers.value.Goals as goal
 

@@ -1,4 +1,4 @@
-use Rattle.std.proofs.Common.{◌≡◌, ◌∙◌, sym, ap, length, arith}
+use Rattle.std.proofs.Common.{◌∙◌, ap, length, arith}
 use Rattle.csv.specs.Records.{fields_of}
 use Rattle.script_reader.proofs.Script.{ends, goes_on, refuses, takes_false, takes_true}
 use Rattle.script_reader.proofs.reading.read_script.Goals as goal

@@ -1,4 +1,4 @@
-use Rattle.std.proofs.Common.{arith, ◌∙◌, ap, sym}
+use Rattle.std.proofs.Common.{arith}
 use Rattle.tv_base.specs.declared.numbers.TreeNo.{TreeNo}
 use Rattle.script_reader.proofs.Passing.{update_row_is, passed_on}
 use Rattle.script_reader.proofs.rows.update_row_of.Goals as goal

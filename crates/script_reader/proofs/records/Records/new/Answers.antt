@@ -1,5 +1,4 @@
-use Rattle.std.proofs.Common.{arith, length, ◌+◌}
-use Rattle.csv.specs.Reading.{reader_state, source_of}
+use Rattle.std.proofs.Common.{length, ◌+◌}
 use Rattle.script_reader.proofs.Taken.{few_rows}
 use Rattle.script_reader.proofs.records.Records.new.Goals as goal
 

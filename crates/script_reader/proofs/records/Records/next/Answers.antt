@@ -1,5 +1,4 @@
-use Rattle.std.proofs.Common.{◌≡◌, sym, ap, ◌∙◌, List, ℕ}
-use Rattle.csv.specs.Reading.{reader_state, source_of}
+use Rattle.std.proofs.Common.{sym, ◌∙◌}
 use Rattle.script_reader.proofs.Taken.{done_is}
 use Rattle.script_reader.proofs.records.Records.next.Goals as goal
 

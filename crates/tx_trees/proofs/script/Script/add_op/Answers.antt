@@ -1,4 +1,4 @@
-use Rattle.std.proofs.Common.{arith, length, get_or, ap, ◌≡◌, ◌<◌, ◌+◌, ◌∙◌, true, sym, refl}
+use Rattle.std.proofs.Common.{arith, length, ap, ◌≡◌, ◌<◌, ◌+◌, ◌∙◌, true, sym, refl}
 use Rattle.tx_trees.specs.Adding.{kind_at, last_count, last_kind, last_node, last_subs, node_at}
 use Rattle.tx_trees.specs.Valid.{deed_fits}
 use Rattle.commute_ops.specs.declared.kinds.Kind.{Kind}
