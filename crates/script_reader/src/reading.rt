@@ -1,6 +1,7 @@
-// A whole script.
-ghost use Rattle.std.specs.Prelude.{◌≡◌};
-ghost use Rattle.script_reader.specs.Reading.{Gives, read_of, refused_at};
+// A whole script, record by record.
+ghost use Rattle.std.specs.Prelude.{◌≡◌, ◌≤◌, length};
+ghost use Rattle.script_reader.specs.Reading.{Gives, read_of, read_rows, refused_at};
+ghost use Rattle.script_reader.specs.Records.{AreAllRecords, records_in};
 
 use crate::records::Records;
 use crate::rows::{take_first, take_later};
@@ -25,7 +26,7 @@ pub struct ScriptFault {
 pub enum ScriptRefusal {
     /// A record is refused.
     Fault(ScriptFault),
-    /// Want of memory.
+    /// Want of memory, which says nothing of the text.
     NoMemory,
 }
 
@@ -39,6 +40,7 @@ impl From<NoMemory> for ScriptRefusal {
     }
 }
 
+// A refusal, with the row that it is of.
 fn at_row(row: u32, refusal: Refusal) -> ScriptRefusal
     ensures { result ≡ refused_at row refusal }
 {
@@ -50,14 +52,24 @@ fn at_row(row: u32, refusal: Refusal) -> ScriptRefusal
 
 /// The script that these bytes are, or the first fault.
 ///
-/// The bytes are rows of comma separated fields with no header; one byte order mark at the start and blank lines are
-/// passed over. No bytes and no records are a fault of row 1, and more than 8,388,608 bytes one of row 0.
+/// The bytes are records of comma separated fields, of which none is a header. One byte order mark at the start and
+/// blank lines are passed over. A text without any record has the fault `NodesFirst` at row 1, and one of more than
+/// 8,388,608 bytes the fault `TooLong` at row 0. `NoMemory` says nothing of the text.
 pub fn read_script(alloc: Global, bytes: &[u8]) -> Result<Script, ScriptRefusal>
-    ensures { Gives result (read_of bytes.now) }
+    ensures script { Gives result (read_of bytes.now) }
+    ensures whole { AreAllRecords bytes.now (records_in bytes.now) }
 {
     if bytes.len() > MOST_BYTES {
         return Err(at_row(0, Refusal::Why(Why::TooLong)));
     }
+    read_records(alloc, bytes)
+}
+
+// The records of a text that isn't too long.
+fn read_records(alloc: Global, bytes: &[u8]) -> Result<Script, ScriptRefusal>
+    requires { length bytes.now ≤ 8388608 }
+    ensures { Gives result (read_rows (records_in bytes.now)) }
+{
     let mut records = Records::new(alloc, bytes);
     let mut row = ByteRecord::new(alloc);
     if !records.next(&mut row)? {
