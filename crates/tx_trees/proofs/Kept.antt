@@ -1,5 +1,5 @@
 -- What an item, a tree, a subtransaction and an operation do to a script that is valid.
-use Rattle.std.proofs.Common.{◌≡◌, ◌<◌, ◌≤◌, ◌+◌, ℕ, suc, zero, Bool, true, false, List, [], ◌∷◌, ◌++◌, length, get_or, refl, sym, ap, ◌∙◌, subst, arith, length-append, inl, inr}
+use Rattle.std.proofs.Common.{◌≡◌, ◌<◌, ◌≤◌, ◌+◌, ℕ, true, false, List, [], ◌∷◌, ◌++◌, length, get_or, refl, sym, ap, ◌∙◌, subst, arith, length-append, inl, inr}
 use Rattle.std.specs.Prelude.{◌==◌, if◌then◌else◌, IsTrue, Option, Some, None, slice_get, unsigned_abs, Result, Ok, Err, IsOk, is_ok}
 use Rattle.std.specs.List.{AllByRecursion}
 use Rattle.std.specs.Global.{Vec}
@@ -7,7 +7,7 @@ use Rattle.std.specs.Vec.{with_item}
 use Rattle.std.proofs.Math.ListN.{set, get_or-append}
 use Rattle.std.proofs.Math.Seq.{get_or-append_seam}
 use Rattle.std.proofs.lemmas.List.{get_or-set_other, get_or-set_same, get_or_default, length-set}
-use Rattle.std.proofs.lemmas.Option.{slice_get-get_or, slice_get_cases, slice_get_past, slice_get_within}
+use Rattle.std.proofs.lemmas.Option.{slice_get-get_or, slice_get_cases}
 use Rattle.std.proofs.lemmas.Bool.{cases_eq, cases_lt}
 use Rattle.std.proofs.lemmas.Grind.{common_steps}
 use Rattle.commute_ops.specs.declared.kinds.Kind.{Kind}
@@ -23,7 +23,7 @@ use Rattle.tx_trees.specs.declared.parts.Tree.{Tree}
 use Rattle.tx_trees.specs.declared.parts.TreeKind.{TreeKind}
 use Rattle.tx_trees.specs.declared.script.Script.TheInside.{Inside}
 use Rattle.tx_trees.specs.ScriptData.{ScriptData}
-use Rattle.tx_trees.specs.Valid.{AreSubs, IsItem, IsOp, IsSub, IsTree, IsValid, NamesInOrder, OpAt, deed_fits, initial_load, load, magnitude, ops_load, subs_load, trees_load}
+use Rattle.tx_trees.specs.Valid.{AreSubs, IsItem, IsOp, IsSub, IsTree, NamesInOrder, OpAt, deed_fits, initial_load, load, magnitude, ops_load, subs_load, trees_load}
 use Rattle.tx_trees.specs.Adding.{advances_in, all_ops, all_subs, kind_at, last_count, last_kind, last_node, last_of, last_subs, node_at, on_last, on_last_sub, push_op, push_sub, subs_ops}
 use Rattle.tx_trees.specs.Inside.{IsKept, data_of}
 use Rattle.tx_trees.proofs.Last.{last_count_is, last_kind_is, last_node_is, last_sub_is, last_subs_is, length-on_last}
@@ -127,14 +127,16 @@ op-more items r kind node o h = subst (OpAt kind node o) (sym (slice_get-old ite
 
 subs-more : (nodes : ℕ) (items : List ItemRow) (r : ItemRow) (kind : TreeKind) (k : ℕ) (ss : List Sub) → AreSubs nodes items kind k ss → AreSubs nodes (items ++ r ∷ []) kind k ss
 subs-more nodes items r kind k [] h = tt
-subs-more nodes items r kind k (s ∷ ss) h =
-    (record {
-      root = h.0.root;
-      parent = h.0.parent;
-      node = h.0.node;
-      few = h.0.few;
-      ops = all-weaker (IsOp items kind s.node.0) (IsOp (items ++ r ∷ []) kind s.node.0) (op-more items r kind s.node.0) s.ops h.0.ops;
-    }, subs-more nodes items r kind (k + 1) ss h.1)
+subs-more nodes items r kind k (s ∷ ss) h = (
+  record {
+    root = h.0.root;
+    parent = h.0.parent;
+    node = h.0.node;
+    few = h.0.few;
+    ops = all-weaker (IsOp items kind s.node.0) (IsOp (items ++ r ∷ []) kind s.node.0) (op-more items r kind s.node.0) s.ops h.0.ops;
+  },
+  subs-more nodes items r kind (k + 1) ss h.1,
+)
 
 tree-more : (nodes : ℕ) (items : List ItemRow) (r : ItemRow) (t : Tree) → IsTree nodes items t → IsTree nodes (items ++ r ∷ []) t
 tree-more nodes items r t h = record { root = h.root; few = h.few; subs = subs-more nodes items r t.kind 0 t.subs h.subs }
@@ -188,9 +190,9 @@ kept_item s items totals r is totals_are lt item small h =
     let n : length items.items ≡ length s.items.items + 1 = ap length is ∙ omega (arith, length-append s.items.items (r ∷ [])) in
     let m : length totals.items ≡ length s.totals.items + 1 = ap length totals_are ∙ omega (arith, length-append s.totals.items (unsigned_abs r.initial ∷ [])) in
     let old : (k : ℕ) → k < length s.items.items → initial_load (slice_get items.items k) ≡ initial_load (slice_get s.items.items k) = λ k klt.
-        ap (λ (x : List ItemRow). initial_load (slice_get x k)) is ∙ ap initial_load (slice_get-old s.items.items (r ∷ []) k klt) in
+    ap (λ (x : List ItemRow). initial_load (slice_get x k)) is ∙ ap initial_load (slice_get-old s.items.items (r ∷ []) k klt) in
     let fresh : initial_load (slice_get items.items (length s.items.items)) ≡ unsigned_abs r.initial =
-        ap (λ (x : List ItemRow). initial_load (slice_get x (length s.items.items))) is ∙ ap initial_load (slice_get-new s.items.items r) in
+    ap (λ (x : List ItemRow). initial_load (slice_get x (length s.items.items))) is ∙ ap initial_load (slice_get-new s.items.items r) in
     let empty : trees_load (length s.items.items) s.trees.items ≡ 0 = no_trees s.nodes s.items.items s.trees.items h.valid.trees in
     let new : ScriptData = data_of (record s { items = items; totals = totals; begun = false }) in
     let cell : (k : ℕ) → k < length items.items → (get_or totals.items k 0 ≡ load k new) × (load k new ≤ MOST_AMOUNT) = λ k klt.
@@ -201,8 +203,8 @@ kept_item s items totals r is totals_are lt item small h =
       | inr over ↦
           let e : k ≡ length s.items.items = omega arith in
           let last : get_or totals.items (length s.items.items) 0 ≡ unsigned_abs r.initial =
-              ap (λ (x : List ℕ). get_or x (length s.items.items) 0) totals_are
-              ∙ (subst (λ (z : ℕ). get_or (s.totals.items ++ unsigned_abs r.initial ∷ []) z 0 ≡ unsigned_abs r.initial) h.len (get_or-append_seam s.totals.items (unsigned_abs r.initial) [] 0)) in
+          ap (λ (x : List ℕ). get_or x (length s.items.items) 0) totals_are
+          ∙ (subst (λ (z : ℕ). get_or (s.totals.items ++ unsigned_abs r.initial ∷ []) z 0 ≡ unsigned_abs r.initial) h.len (get_or-append_seam s.totals.items (unsigned_abs r.initial) [] 0)) in
           rw e (omega (arith, last, fresh, empty), omega (arith, fresh, empty))
     ] in
     record {
@@ -233,11 +235,11 @@ kept_tree s trees rs n t x number is rows_are number_is subs_are parent node ops
     let len : length trees.items ≡ length s.trees.items + 1 = ap length is ∙ omega (arith, length-append s.trees.items (t ∷ [])) in
     let one : length t.subs ≡ 1 = ap length subs_are in
     let none : (k : ℕ) → subs_load k t.subs ≡ 0 = λ k.
-        let z : ops_load k x.ops ≡ 0 = ap (ops_load k) ops in
-        ap (subs_load k) subs_are ∙ omega (arith, z) in
+    let z : ops_load k x.ops ≡ 0 = ap (ops_load k) ops in
+    ap (subs_load k) subs_are ∙ omega (arith, z) in
     let idle : subs_ops t.subs ≡ 0 = let z : length x.ops ≡ 0 = ap length ops in ap subs_ops subs_are ∙ omega (arith, z) in
     let same : (k : ℕ) → trees_load k trees.items ≡ trees_load k s.trees.items = λ k.
-        ap (trees_load k) is ∙ omega (arith, sum-push (λ (u : Tree). subs_load k u.subs) (trees_load k) (trees_load-sum k) s.trees.items t, none k) in
+    ap (trees_load k) is ∙ omega (arith, sum-push (λ (u : Tree). subs_load k u.subs) (trees_load k) (trees_load-sum k) s.trees.items t, none k) in
     let root : IsSub s.nodes s.items.items t.kind 0 x = record {
       root = λ _. parent;
       parent = λ p. omega arith;
@@ -277,24 +279,27 @@ kept_sub s trees n x is some parent node ops lt n_is h =
     let len : length trees.items ≡ length s.trees.items = ap length is ∙ length-on_last (push_sub x) s.trees.items in
     let none : (k : ℕ) → ops_load k x.ops ≡ 0 = λ k. ap (ops_load k) ops in
     let same : (k : ℕ) → trees_load k trees.items ≡ trees_load k s.trees.items = λ k.
-        ap (trees_load k) is
-        ∙ omega (arith, sum-on_last (λ (u : Tree). subs_load k u.subs) (trees_load k) (trees_load-sum k) (push_sub x) 0 s.trees.items some
-            (λ t _. omega (arith, sum-push (λ (u : Sub). ops_load k u.ops) (subs_load k) (subs_load-sum k) t.subs x, none k))) in
+    ap (trees_load k) is
+    ∙ omega (
+      arith,
+      sum-on_last (λ (u : Tree). subs_load k u.subs) (trees_load k) (trees_load-sum k) (push_sub x) 0 s.trees.items some
+          (λ t _. omega (arith, sum-push (λ (u : Sub). ops_load k u.ops) (subs_load k) (subs_load-sum k) t.subs x, none k)),
+    ) in
     let step : (t : Tree) → last_of s.trees.items ≡ Some t → IsTree s.nodes s.items.items t → IsTree s.nodes s.items.items (push_sub x t) = λ t e th.
-        let count = last_subs_is s.trees.items t e in
-        let more = length-append t.subs (x ∷ []) in
-        let new : IsSub s.nodes s.items.items t.kind (length t.subs) x = record {
-          root = λ q. omega (arith, th.root);
-          parent = λ _. omega arith;
-          node = node;
-          few = omega arith;
-          ops = subst (AllByRecursion (IsOp s.items.items t.kind x.node.0)) (sym ops) tt;
-        } in
-        record {
-          root = omega arith;
-          few = omega arith;
-          subs = subs-push s.nodes s.items.items t.kind 0 (length t.subs) t.subs x th.subs (omega arith) new;
-        } in
+    let count = last_subs_is s.trees.items t e in
+    let more = length-append t.subs (x ∷ []) in
+    let new : IsSub s.nodes s.items.items t.kind (length t.subs) x = record {
+      root = λ q. omega (arith, th.root);
+      parent = λ _. omega arith;
+      node = node;
+      few = omega arith;
+      ops = subst (AllByRecursion (IsOp s.items.items t.kind x.node.0)) (sym ops) tt;
+    } in
+    record {
+      root = omega arith;
+      few = omega arith;
+      subs = subs-push s.nodes s.items.items t.kind 0 (length t.subs) t.subs x th.subs (omega arith) new;
+    } in
     record {
       valid = record {
         some_nodes = h.valid.some_nodes;
@@ -310,8 +315,13 @@ kept_sub s trees n x is some parent node ops lt n_is h =
       len = h.len;
       totals = λ k klt. omega (arith, h.totals k klt, same k);
       subs = omega (arith, ap all_subs is, h.subs, sum-on_last (λ (u : Tree). length u.subs) all_subs all_subs-sum (push_sub x) 1 s.trees.items some (λ t _. omega (arith, length-append t.subs (x ∷ []))));
-      ops = omega (arith, ap all_ops is, h.ops, sum-on_last (λ (u : Tree). subs_ops u.subs) all_ops all_ops-sum (push_sub x) 0 s.trees.items some
-          (λ t _. omega (arith, sum-push (λ (u : Sub). length u.ops) subs_ops subs_ops-sum t.subs x)));
+      ops = omega (
+        arith,
+        ap all_ops is,
+        h.ops,
+        sum-on_last (λ (u : Tree). subs_ops u.subs) all_ops all_ops-sum (push_sub x) 0 s.trees.items some
+            (λ t _. omega (arith, sum-push (λ (u : Sub). length u.ops) subs_ops subs_ops-sum t.subs x)),
+      );
       advances = h.advances;
     }
 
@@ -338,31 +348,31 @@ kept_op s trees k v n o is some at lt node fits few v_is small n_is h =
     let len : length trees.items ≡ length s.trees.items = ap length is ∙ length-on_last (on_last_sub (push_op o)) s.trees.items in
     let root : (t : Tree) → last_of s.trees.items ≡ Some t → 0 < length t.subs = λ t e. (all-last (IsTree s.nodes s.items.items) s.trees.items t h.valid.trees e).root in
     let more : (j : ℕ) → trees_load j trees.items ≡ trees_load j s.trees.items + op_load j o = λ j.
-        ap (trees_load j) is
-        ∙ sum-on_last (λ (u : Tree). subs_load j u.subs) (trees_load j) (trees_load-sum j) (on_last_sub (push_op o)) (op_load j o) s.trees.items some
-            (λ t e. sum-on_last (λ (u : Sub). ops_load j u.ops) (subs_load j) (subs_load-sum j) (push_op o) (op_load j o) t.subs (root t e)
-                (λ x _. sum-push (op_load j) (ops_load j) (ops_load-sum j) x.ops o)) in
+    ap (trees_load j) is
+    ∙ sum-on_last (λ (u : Tree). subs_load j u.subs) (trees_load j) (trees_load-sum j) (on_last_sub (push_op o)) (op_load j o) s.trees.items some
+    (λ t e. sum-on_last (λ (u : Sub). ops_load j u.ops) (subs_load j) (subs_load-sum j) (push_op o) (op_load j o) t.subs (root t e)
+    (λ x _. sum-push (op_load j) (ops_load j) (ops_load-sum j) x.ops o)) in
     let own = load_same o k at in
     let here = h.totals k lt in
     let step : (t : Tree) → last_of s.trees.items ≡ Some t → IsTree s.nodes s.items.items t → IsTree s.nodes s.items.items (on_last_sub (push_op o) t) = λ t e th.
-        let same = length-on_last (push_op o) t.subs in
-        let new : (j : ℕ) (x : Sub) → last_of t.subs ≡ Some x → IsSub s.nodes s.items.items t.kind j x → IsSub s.nodes s.items.items t.kind j (push_op o x) = λ j x f xh.
-            let last = last_sub_is s.trees.items t x e f in
-            let count = last_count_is s.trees.items x last in
-            let its_node : node_at o.item.0 s.items.items ≡ x.node.0 = rw at (node ∙ last_node_is s.trees.items x last) in
-            let its_kind : deed_fits t.kind (kind_at o.item.0 s.items.items) o.deed ≡ true = rw at (sym (ap (λ (q : TreeKind). deed_fits q (kind_at k s.items.items) o.deed) (last_kind_is s.trees.items t e)) ∙ fits) in
-            record {
-              root = xh.root;
-              parent = xh.parent;
-              node = xh.node;
-              few = omega (arith, length-append x.ops (o ∷ []));
-              ops = all-push (IsOp s.items.items t.kind x.node.0) x.ops o xh.ops (op_new s.items.items t.kind x.node.0 o (omega arith) its_node its_kind);
-            } in
-        record {
-          root = omega (arith, th.root);
-          few = omega (arith, th.few);
-          subs = subs-on_last s.nodes s.items.items t.kind (push_op o) 0 t.subs th.subs new;
-        } in
+    let same = length-on_last (push_op o) t.subs in
+    let new : (j : ℕ) (x : Sub) → last_of t.subs ≡ Some x → IsSub s.nodes s.items.items t.kind j x → IsSub s.nodes s.items.items t.kind j (push_op o x) = λ j x f xh.
+    let last = last_sub_is s.trees.items t x e f in
+    let count = last_count_is s.trees.items x last in
+    let its_node : node_at o.item.0 s.items.items ≡ x.node.0 = rw at (node ∙ last_node_is s.trees.items x last) in
+    let its_kind : deed_fits t.kind (kind_at o.item.0 s.items.items) o.deed ≡ true = rw at (sym (ap (λ (q : TreeKind). deed_fits q (kind_at k s.items.items) o.deed) (last_kind_is s.trees.items t e)) ∙ fits) in
+    record {
+      root = xh.root;
+      parent = xh.parent;
+      node = xh.node;
+      few = omega (arith, length-append x.ops (o ∷ []));
+      ops = all-push (IsOp s.items.items t.kind x.node.0) x.ops o xh.ops (op_new s.items.items t.kind x.node.0 o (omega arith) its_node its_kind);
+    } in
+    record {
+      root = omega (arith, th.root);
+      few = omega (arith, th.few);
+      subs = subs-on_last s.nodes s.items.items t.kind (push_op o) 0 t.subs th.subs new;
+    } in
     let cell : (j : ℕ) → j < length s.items.items → (get_or (set s.totals.items k v) j 0 ≡ load j (data_of (record s { trees = trees }))) × (load j (data_of (record s { trees = trees })) ≤ MOST_AMOUNT) = λ j jlt.
     elim (cases_eq j k) [
       | inl e ↦
@@ -388,8 +398,13 @@ kept_op s trees k v n o is some at lt node fits few v_is small n_is h =
       len = omega (arith, h.len, length-set {A = ℕ} s.totals.items k v);
       totals = λ j jlt. (cell j jlt).0;
       subs = omega (arith, ap all_subs is, h.subs, sum-on_last (λ (u : Tree). length u.subs) all_subs all_subs-sum (on_last_sub (push_op o)) 0 s.trees.items some (λ t _. omega (arith, length-on_last (push_op o) t.subs)));
-      ops = omega (arith, ap all_ops is, h.ops, sum-on_last (λ (u : Tree). subs_ops u.subs) all_ops all_ops-sum (on_last_sub (push_op o)) 1 s.trees.items some
-          (λ t e. sum-on_last (λ (u : Sub). length u.ops) subs_ops subs_ops-sum (push_op o) 1 t.subs (root t e) (λ x _. omega (arith, length-append x.ops (o ∷ [])))));
+      ops = omega (
+        arith,
+        ap all_ops is,
+        h.ops,
+        sum-on_last (λ (u : Tree). subs_ops u.subs) all_ops all_ops-sum (on_last_sub (push_op o)) 1 s.trees.items some
+            (λ t e. sum-on_last (λ (u : Sub). length u.ops) subs_ops subs_ops-sum (push_op o) 1 t.subs (root t e) (λ x _. omega (arith, length-append x.ops (o ∷ [])))),
+      );
       advances = h.advances;
     }
 

@@ -9,3 +9,6 @@ mod why;
 pub use parts::{Deed, ItemRow, ScriptRow, Sub, SubOp, SubOps, Subs, Tree, TreeKind};
 pub use script::Script;
 pub use why::{Refusal, Why};
+
+#[cfg(test)]
+mod tests;

@@ -137,7 +137,12 @@ pub(crate) fn empty_sub(alloc: Global, parent: SubNo, node: NodeNo) -> Sub
 }
 
 // A tree with its root alone.
-pub(crate) fn rooted(alloc: Global, name: Name, kind: TreeKind, node: NodeNo) -> Result<Tree, NoMemory>
+pub(crate) fn rooted(
+    alloc: Global,
+    name: Name,
+    kind: TreeKind,
+    node: NodeNo,
+) -> Result<Tree, NoMemory>
     ensures { IfOk result (λ t. t ≡ rooted name kind node) }
 {
     let mut subs = Seq::new(alloc);

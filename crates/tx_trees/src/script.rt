@@ -4,7 +4,10 @@ ghost use Rattle.commute_ops.specs.declared.kinds.TheConstants.{MOST_AMOUNT};
 ghost use Rattle.tx_trees.specs.Valid.{IsItem, IsValid, magnitude};
 ghost use Rattle.tx_trees.specs.Adding.{Steps, adds_item, adds_op, adds_sub, adds_tree, advances_in, fresh, last_subs, place_of};
 
-use crate::lookups::{deed_fits, empty_sub, initial_size, is_tree, kind_at, last_subs, magnitude, node_at, place, place_of_last, push_op, push_sub, rooted};
+use crate::lookups::{
+    deed_fits, empty_sub, initial_size, is_tree, kind_at, last_subs, magnitude, node_at, place,
+    place_of_last, push_op, push_sub, rooted,
+};
 use crate::parts::{Deed, ItemRow, ScriptRow, SubOp, Tree, TreeKind};
 use crate::why::{Refusal, Why};
 use commute_ops::MOST_AMOUNT;
@@ -13,10 +16,15 @@ use std::marker::Model;
 use tv_base::{ItemNo, Name, NodeNo, SubNo, TreeNo};
 
 const MOST_ITEMS: usize = 10_000;
+
 const MOST_TREES: usize = 20_000;
+
 const MOST_SUBS: u32 = 100_000;
+
 const MOST_OPS: u32 = 200_000;
+
 const MOST_SUBS_OF_TREE: usize = 64;
+
 const MOST_OPS_OF_SUB: usize = 16;
 
 /// Nodes, items, trees, rows and picks, seen by contracts as `ScriptData`. Whatever was added, a script is valid:

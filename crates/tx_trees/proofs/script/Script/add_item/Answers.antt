@@ -1,5 +1,4 @@
-use Rattle.std.proofs.Common.{arith, length, ◌∙◌, ap, List, ℕ, ◌++◌, ◌∷◌, [], subst, sym}
-use Rattle.std.specs.Prelude.{unsigned_abs}
+use Rattle.std.proofs.Common.{arith, ◌∙◌, ap, List, ℕ, ◌++◌, ◌∷◌, [], subst, sym}
 use Rattle.tx_trees.specs.ScriptData.{ScriptData}
 use Rattle.tx_trees.specs.Valid.{IsItem}
 use Rattle.tx_trees.proofs.Kept.{kept_item, pushed_is}

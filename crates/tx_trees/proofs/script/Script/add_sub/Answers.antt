@@ -1,4 +1,4 @@
-use Rattle.std.proofs.Common.{arith, length, [], ap, ◌≡◌, ◌<◌, ◌+◌, subst, sym, refl}
+use Rattle.std.proofs.Common.{arith, [], ap, ◌≡◌, ◌<◌, ◌+◌, subst, sym, refl}
 use Rattle.tx_trees.specs.ScriptData.{ScriptData}
 use Rattle.tx_trees.specs.Adding.{last_subs, on_last, push_sub}
 use Rattle.tx_trees.specs.declared.parts.Sub.{Sub}

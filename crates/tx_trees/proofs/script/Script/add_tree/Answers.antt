@@ -1,4 +1,4 @@
-use Rattle.std.proofs.Common.{arith, length, ◌∙◌, ap, List, ℕ, ◌++◌, ◌∷◌, [], ◌≡◌, ◌<◌, ◌+◌, subst, sym, refl}
+use Rattle.std.proofs.Common.{arith, ◌∙◌, ap, List, ◌++◌, ◌∷◌, [], ◌≡◌, ◌<◌, ◌+◌, subst, sym, refl}
 use Rattle.tx_trees.specs.ScriptData.{ScriptData}
 use Rattle.tx_trees.specs.declared.parts.ScriptRow.{ScriptRow}
 use Rattle.tx_trees.specs.declared.parts.ScriptRow.TheVariants as rows

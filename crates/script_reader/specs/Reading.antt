@@ -1,0 +1,42 @@
+-- The script that bytes are, or the first fault.
+use Rattle.std.specs.Prelude.{ℕ, ◌≡◌, ◌+◌, nat_lt, List, [], ◌∷◌, length, Result, Ok, Err, if◌then◌else◌, ⊤}
+use Rattle.tx_trees.specs.ScriptData.{ScriptData}
+use Rattle.tx_trees.specs.declared.why.Why.{Why}
+use Rattle.tx_trees.specs.declared.why.Why.TheVariants as why
+use Rattle.tx_trees.specs.declared.why.Refusal.{Refusal}
+use Rattle.tx_trees.specs.declared.why.Refusal.TheVariants as refusals
+use Rattle.script_reader.specs.Records.{records_in}
+use Rattle.script_reader.specs.Rows.{first_row, later_row}
+use Rattle.script_reader.specs.declared.reading.ScriptFault.{ScriptFault}
+use Rattle.script_reader.specs.declared.reading.ScriptRefusal.{ScriptRefusal}
+use Rattle.script_reader.specs.declared.reading.ScriptRefusal.TheVariants as ends
+
+abbrev pub fault : ℕ → Why → ScriptFault
+fault row why = record { row = row; why = why }
+
+abbrev pub refused_at : ℕ → Refusal → ScriptRefusal
+refused_at row (refusals.Why w) = ends.Fault (fault row w)
+refused_at row refusals.NoMemory = ends.NoMemory
+
+-- a record, and the records after it
+abbrev pub then_rows : ℕ → Result ScriptData Why → (ScriptData → Result ScriptData ScriptFault) → Result ScriptData ScriptFault
+then_rows row (Ok s) more = more s
+then_rows row (Err w) more = Err (fault row w)
+
+-- the records from this row on
+unfoldable pub rows_from : ScriptData → ℕ → List (List (List ℕ)) → Result ScriptData ScriptFault
+rows_from s row [] = Ok s
+rows_from s row (r ∷ rs) = then_rows row (later_row s r) (λ t. rows_from t (row + 1) rs)
+
+abbrev pub read_rows : List (List (List ℕ)) → Result ScriptData ScriptFault
+read_rows [] = Err (fault 1 why.NodesFirst)
+read_rows (r ∷ rs) = then_rows 1 (first_row r) (λ s. rows_from s 2 rs)
+
+abbrev pub read_of : List ℕ → Result ScriptData ScriptFault
+read_of bytes = if nat_lt 8388608 (length bytes) then Err (fault 0 why.TooLong) else read_rows (records_in bytes)
+
+-- what a call gave is what reading gives, unless memory ran out
+abbrev pub Gives : Result ScriptData ScriptRefusal → Result ScriptData ScriptFault → Type 0
+Gives (Ok s) read = read ≡ Ok s
+Gives (Err (ends.Fault f)) read = read ≡ Err f
+Gives (Err ends.NoMemory) read = ⊤

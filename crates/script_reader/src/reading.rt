@@ -1,0 +1,90 @@
+// A whole script, record by record.
+ghost use Rattle.std.specs.Prelude.{◌≡◌, ◌≤◌, length};
+ghost use Rattle.script_reader.specs.Reading.{Gives, read_of, read_rows, refused_at};
+ghost use Rattle.script_reader.specs.Records.{AreAllRecords, records_in};
+
+use crate::records::Records;
+use crate::rows::{take_first, take_later};
+use csv::ByteRecord;
+use std::alloc::Global;
+use tv_base::NoMemory;
+use tx_trees::{Refusal, Script, Why};
+
+const MOST_BYTES: usize = 8_388_608;
+
+/// The first faulty record, and the first of its reasons.
+#[derive(Clone, Copy, Debug, PartialEq, Eq)]
+pub struct ScriptFault {
+    /// Its number, from 1. Row 0 is the whole input, which is too long.
+    pub row: u32,
+    /// The first reason that holds, in the order of `Why`.
+    pub why: Why,
+}
+
+/// Why there is no script.
+#[derive(Clone, Copy, Debug, PartialEq, Eq)]
+pub enum ScriptRefusal {
+    /// A record is refused.
+    Fault(ScriptFault),
+    /// Want of memory, which says nothing of the text.
+    NoMemory,
+}
+
+impl From<NoMemory> for ScriptRefusal {
+    ghost use Rattle.script_reader.specs.declared.reading.ScriptRefusal.TheVariants as refusals;
+
+    ghost from_gives = { λ _ e. e ≡ refusals.NoMemory };
+
+    fn from(_: NoMemory) -> Self {
+        ScriptRefusal::NoMemory
+    }
+}
+
+// A refusal, with the row that it is of.
+fn at_row(row: u32, refusal: Refusal) -> ScriptRefusal
+    ensures { result ≡ refused_at row refusal }
+{
+    match refusal {
+        Refusal::Why(why) => ScriptRefusal::Fault(ScriptFault { row, why }),
+        Refusal::NoMemory => ScriptRefusal::NoMemory,
+    }
+}
+
+/// The script that these bytes are, or the first fault.
+///
+/// The bytes are records of comma separated fields, of which none is a header. One byte order mark at the start and
+/// blank lines are passed over. A text without any record has the fault `NodesFirst` at row 1, and one of more than
+/// 8,388,608 bytes the fault `TooLong` at row 0. `NoMemory` says nothing of the text.
+pub fn read_script(alloc: Global, bytes: &[u8]) -> Result<Script, ScriptRefusal>
+    ensures script { Gives result (read_of bytes.now) }
+    ensures whole { AreAllRecords bytes.now (records_in bytes.now) }
+{
+    if bytes.len() > MOST_BYTES {
+        return Err(at_row(0, Refusal::Why(Why::TooLong)));
+    }
+    read_records(alloc, bytes)
+}
+
+// The records of a text that isn't too long.
+fn read_records(alloc: Global, bytes: &[u8]) -> Result<Script, ScriptRefusal>
+    requires { length bytes.now ≤ 8388608 }
+    ensures { Gives result (read_rows (records_in bytes.now)) }
+{
+    let mut records = Records::new(alloc, bytes);
+    let mut row = ByteRecord::new(alloc);
+    if !records.next(&mut row)? {
+        return Err(at_row(1, Refusal::Why(Why::NodesFirst)));
+    }
+    let mut script = match take_first(alloc, &row) {
+        Ok(script) => script,
+        Err(refusal) => return Err(at_row(1, refusal)),
+    };
+    let mut at: u32 = 2;
+    while records.next(&mut row)? {
+        match take_later(&mut script, &row) {
+            Ok(()) => at += 1,
+            Err(refusal) => return Err(at_row(at, refusal)),
+        }
+    }
+    Ok(script)
+}
