@@ -1,2 +1,4 @@
 pub mod Histories
 pub mod Worth
+pub mod Standings
+pub mod May

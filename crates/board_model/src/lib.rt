@@ -2,5 +2,8 @@
 #![tactic(auto)]
 
 mod histories;
+mod standings;
+mod worth;
 
 pub use histories::version_of;
+pub use standings::Standing;

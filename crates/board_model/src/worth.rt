@@ -1,0 +1,118 @@
+// What items are worth.
+ghost use Rattle.std.specs.Prelude.{◌≡◌, IfOk, IsTrue, length};
+ghost use Rattle.board_model.specs.May.{ops_may, subs_may, trees_may};
+ghost use Rattle.board_model.specs.Standings.{after_standing, standing_write, stands, writes};
+ghost use Rattle.board_model.specs.Worth.{after_ops, after_subs, ops_name, subs_name};
+
+use crate::standings::Standing;
+use commute_ops::Value;
+use std::alloc::Global;
+use tv_base::{ItemNo, NoMemory, Version};
+use tx_trees::{Deed, Sub, SubOp, Tree, TreeKind};
+
+// The value of the item after the operations on it.
+fn after_ops(alloc: Global, ops: &[SubOp], item: ItemNo, first: Value) -> Result<Value, NoMemory>
+    requires { IsTrue (ops_may item.0 ops.now first) }
+    ensures { IfOk result (λ w. w ≡ after_ops item.0 ops.now first) }
+{
+    let mut value = first;
+    for op in ops {
+        if op.item == item {
+            if let Deed::Apply(applied) = &op.deed {
+                value = value.apply(alloc, applied)?;
+            }
+        }
+    }
+    Ok(value)
+}
+
+// The value of the item after all operations of the subtransactions on it.
+fn after_subs(alloc: Global, subs: &[Sub], item: ItemNo, first: Value) -> Result<Value, NoMemory>
+    requires { IsTrue (subs_may item.0 subs.now first) }
+    ensures { IfOk result (λ w. w ≡ after_subs item.0 subs.now first) }
+{
+    let mut value = first;
+    for sub in subs {
+        value = after_ops(alloc, sub.ops.items(), item, value)?;
+    }
+    Ok(value)
+}
+
+// Whether a tree of this kind and standing is a whole update tree of at most this version.
+fn stands(kind: TreeKind, standing: Standing, version: Version) -> bool
+    ensures { result ≡ stands version.0 kind standing }
+{
+    match (kind, standing.born) {
+        (TreeKind::Update, Some(born)) => standing.whole && born <= version,
+        _ => false,
+    }
+}
+
+// The value of the item after the trees that stand.
+fn after_standing(
+    alloc: Global,
+    trees: &[Tree],
+    standings: &[Standing],
+    item: ItemNo,
+    version: Version,
+    first: Value,
+) -> Result<Value, NoMemory>
+    requires each { length standings.now ≡ length trees.now }
+    requires may { IsTrue (trees_may item.0 version.0 trees.now standings.now first) }
+    ensures { IfOk result (λ w. w ≡ after_standing item.0 version.0 trees.now standings.now first) }
+{
+    let mut value = first;
+    for (t, tree) in trees.iter().enumerate() {
+        if stands(tree.kind, standings[t], version) {
+            value = after_subs(alloc, tree.subs.items(), item, value)?;
+        }
+    }
+    Ok(value)
+}
+
+// Whether an operation is on the item.
+fn ops_name(ops: &[SubOp], item: ItemNo) -> bool
+    ensures { result ≡ ops_name item.0 ops.now }
+{
+    for op in ops {
+        if op.item == item {
+            return true;
+        }
+    }
+    false
+}
+
+// Whether an operation of the subtransactions is on the item.
+fn subs_name(subs: &[Sub], item: ItemNo) -> bool
+    ensures { result ≡ subs_name item.0 subs.now }
+{
+    for sub in subs {
+        if ops_name(sub.ops.items(), item) {
+            return true;
+        }
+    }
+    false
+}
+
+// Whether an update tree of this version has an operation on the item.
+fn writes(tree: &Tree, standing: Standing, item: ItemNo, version: Version) -> bool
+    ensures { result ≡ writes item.0 version.0 tree.now standing }
+{
+    match (tree.kind, standing.born) {
+        (TreeKind::Update, Some(born)) => born == version && subs_name(tree.subs.items(), item),
+        _ => false,
+    }
+}
+
+// Whether one of the trees is an update tree of this version with an operation on the item.
+fn standing_write(trees: &[Tree], standings: &[Standing], item: ItemNo, version: Version) -> bool
+    requires { length standings.now ≡ length trees.now }
+    ensures { result ≡ standing_write item.0 version.0 trees.now standings.now }
+{
+    for (t, tree) in trees.iter().enumerate() {
+        if writes(tree, standings[t], item, version) {
+            return true;
+        }
+    }
+    false
+}
