@@ -39,6 +39,7 @@ fn after_subs(alloc: Global, subs: &[Sub], item: ItemNo, first: Value) -> Result
 }
 
 // Whether a tree of this kind and standing is a whole update tree of at most this version.
+#[tactic(auto, using(crate::proofs::Bounds::trees_step))]
 fn stands(kind: TreeKind, standing: Standing, version: Version) -> bool
     ensures { result ≡ stands version.0 kind standing }
 {
