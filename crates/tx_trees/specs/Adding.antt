@@ -2,6 +2,8 @@
 use Rattle.std.specs.Prelude.{ℕ, Bool, true, false, not, if◌then◌else◌, ◌≡◌, ◌+◌, ◌==◌, ◌||◌, nat_le, nat_lt, List, [], ◌∷◌, ◌++◌, length, Option, Some, None, is_some, position, Result, Ok, Err, slice_get}
 use Rattle.std.specs.List.{list_any}
 use Rattle.std.specs.Str.{bytes_eq}
+use Rattle.commute_ops.specs.declared.kinds.Kind.{Kind}
+use Rattle.commute_ops.specs.declared.kinds.Kind.TheVariants.{Sum as SumKind}
 use Rattle.commute_ops.specs.declared.kinds.TheConstants.{MOST_AMOUNT}
 use Rattle.tv_base.specs.declared.numbers.NodeNo.{NodeNo}
 use Rattle.tx_trees.specs.ScriptData.{ScriptData}
@@ -13,6 +15,7 @@ use Rattle.tx_trees.specs.declared.parts.SubOp.{SubOp}
 use Rattle.tx_trees.specs.declared.parts.Deed.{Deed}
 use Rattle.tx_trees.specs.declared.parts.TreeKind.{TreeKind}
 use Rattle.tx_trees.specs.declared.parts.TreeKind.TheVariants as trees
+use Rattle.tx_trees.specs.declared.parts.ScriptRow.{ScriptRow}
 use Rattle.tx_trees.specs.declared.parts.ScriptRow.TheVariants as rows
 use Rattle.tx_trees.specs.declared.why.Why.{Why}
 use Rattle.tx_trees.specs.declared.why.Why.TheVariants as why
@@ -70,6 +73,16 @@ abbrev pub adds_tree : ScriptData → List ℕ → TreeKind → NodeNo → Resul
 adds_tree s name kind node =
     judged ((names_tree name s.trees, why.NameTaken)
     ∷ (nat_le 20000 (length s.trees) || nat_le 100000 (all_subs s.trees), why.TooMany) ∷ []) (with_tree s name kind node)
+
+-- how many advancements are asked for
+abbrev pub is_advance : ScriptRow → Bool
+is_advance (rows.Tree _) = false
+is_advance rows.Advance = true
+is_advance rows.Settle = false
+
+abbrev pub advances_in : List ScriptRow → ℕ
+advances_in [] = 0
+advances_in (r ∷ rs) = (if is_advance r then 1 else 0) + advances_in rs
 
 -- the last of a list, changed
 abbrev pub on_last : {A : Type 0} → (A → A) → List A → List A
@@ -136,18 +149,21 @@ with_op s k deed = record s {
   begun = true;
 }
 
-abbrev pub adds_op_on : ScriptData → ℕ → Option ItemRow → Deed → Result ScriptData Why
-adds_op_on s k None deed = Err why.UnknownItem
-adds_op_on s k (Some row) deed =
-    judged ((not s.begun, why.NoTree)
-    ∷ (not (row.node.0 == last_node s.trees), why.WrongNode)
-    ∷ (not (deed_fits (last_kind s.trees) row.kind deed), why.WrongKind)
-    ∷ (nat_le 16 (last_count s.trees) || nat_le 200000 (all_ops s.trees), why.TooMany)
-    ∷ (nat_lt MOST_AMOUNT (load k s + magnitude deed), why.TooMuch) ∷ []) (with_op s k deed)
+-- the node and the kind of item k
+abbrev pub node_at : ℕ → List ItemRow → ℕ
+node_at k items = elim (slice_get items k) [ None ↦ 0 | Some row ↦ row.node.0 ]
+
+abbrev pub kind_at : ℕ → List ItemRow → Kind
+kind_at k items = elim (slice_get items k) [ None ↦ SumKind | Some row ↦ row.kind ]
 
 abbrev pub adds_op_at : ScriptData → Option ℕ → Deed → Result ScriptData Why
 adds_op_at s None deed = Err why.UnknownItem
-adds_op_at s (Some k) deed = adds_op_on s k (slice_get s.items k) deed
+adds_op_at s (Some k) deed =
+    judged ((not s.begun, why.NoTree)
+    ∷ (not (node_at k s.items == last_node s.trees), why.WrongNode)
+    ∷ (not (deed_fits (last_kind s.trees) (kind_at k s.items) deed), why.WrongKind)
+    ∷ (nat_le 16 (last_count s.trees) || nat_le 200000 (all_ops s.trees), why.TooMany)
+    ∷ (nat_lt MOST_AMOUNT (load k s + magnitude deed), why.TooMuch) ∷ []) (with_op s k deed)
 
 abbrev pub adds_op : ScriptData → List ℕ → Deed → Result ScriptData Why
 adds_op s name deed = adds_op_at s (place_of name s.items) deed

@@ -1,3 +1,4 @@
 pub mod ScriptData
 pub mod Valid
 pub mod Adding
+pub mod Inside
