@@ -1,8 +1,9 @@
 -- In a valid script the operations on an item may be applied one after another, from its initial value on.
-use Rattle.std.proofs.Common.{◌≡◌, ℕ, ◌+◌, ◌≤◌, Bool, true, false, IsTrue, List, [], ◌∷◌, length, refl, ℤ, ap, sym, ◌∙◌, subst, arith}
+use Rattle.std.proofs.Common.{◌≡◌, ℕ, zero, suc, ◌+◌, ◌≤◌, Bool, true, false, IsTrue, List, [], ◌∷◌, length, refl, ℤ, ap, sym, ◌∙◌, subst, arith}
 use Rattle.std.specs.Prelude.{if◌then◌else◌, ◌==◌, ◌&&◌, ◌+ℤ◌, unsigned_abs, Option, Some, None, slice_get, pos}
 use Rattle.std.specs.List.{AllByRecursion}
 use Rattle.std.proofs.lemmas.Int.{ints}
+use Rattle.std.proofs.lemmas.Option.{slice_get_within}
 use Rattle.std.proofs.lemmas.Bool.Decides.{nat_tests}
 use Rattle.commute_ops.specs.declared.kinds.TheConstants.{MOST_AMOUNT}
 use Rattle.commute_ops.specs.declared.kinds.Kind.{Kind}
@@ -12,8 +13,9 @@ use Rattle.commute_ops.specs.declared.kinds.Op.TheVariants.{Add, Top as Raise, P
 use Rattle.commute_ops.specs.declared.value.Value.{Value}
 use Rattle.commute_ops.specs.declared.value.Value.TheVariants.{Sum, Top, Bag}
 use Rattle.commute_ops.specs.Numbers.{is_within}
+use Rattle.commute_ops.specs.Ops.{start}
 use Rattle.tx_trees.specs.ScriptData.{ScriptData}
-use Rattle.tx_trees.specs.Valid.{AreSubs, IsOp, IsTree, IsValid, OpAt, deed_fits, load, magnitude, ops_load, subs_load, trees_load}
+use Rattle.tx_trees.specs.Valid.{AreSubs, IsItem, IsOp, IsTree, IsValid, OpAt, deed_fits, initial_load, load, magnitude, ops_load, subs_load, trees_load}
 use Rattle.tx_trees.specs.declared.parts.Deed.{Deed}
 use Rattle.tx_trees.specs.declared.parts.Deed.TheVariants.{Apply, Get, Set, Draw}
 use Rattle.tx_trees.specs.declared.parts.ItemRow.{ItemRow}
@@ -145,7 +147,7 @@ tree_step Update st nodes items x v ss w left all h =
 tree_step Read st nodes items x v ss w left all h = (refl, less (slice_get items x) w (subs_load x ss + left) left (omega arith) h)
 tree_step Strict st nodes items x v ss w left all h = (refl, less (slice_get items x) w (subs_load x ss + left) left (omega arith) h)
 
-pub trees_step : (nodes : ℕ) (items : List ItemRow) (x v : ℕ) (ts : List Tree) (sts : List Standing) (w : Value) → AllByRecursion (IsTree nodes items) ts
+trees_step : (nodes : ℕ) (items : List ItemRow) (x v : ℕ) (ts : List Tree) (sts : List Standing) (w : Value) → AllByRecursion (IsTree nodes items) ts
     → IsHeld (slice_get items x) w (trees_load x ts) → IsTrue (trees_may x v ts sts w)
 trees_step nodes items x v [] sts w all h = refl
 trees_step nodes items x v (t ∷ ts) [] w all h = refl
@@ -153,3 +155,30 @@ trees_step nodes items x v (t ∷ ts) (st ∷ sts) w all h =
     let one = tree_step t.kind st nodes items x v t.subs w (trees_load x ts) all.0.subs h in
     let next : Value = if stands v t.kind st then after_subs x t.subs w else w in
     both (if stands v t.kind st then subs_may x t.subs w else true) (trees_may x v ts sts next) one.0 (trees_step nodes items x v ts sts next all.1 one.1)
+
+start_held : (kind : Kind) (n : ℤ) (left : ℕ) → unsigned_abs n + left ≤ MOST_AMOUNT → OfKind kind (start kind n) left
+start_held SumKind n left h = h
+start_held TopKind n left h = tt
+start_held BagKind n left h = tt
+
+first_held : (r : Option ItemRow) (left : ℕ) → ((row : ItemRow) → r ≡ Some row → initial_load r + left ≤ MOST_AMOUNT) → IsHeld r (first_value r) left
+first_held None left h = tt
+first_held (Some row) left h = start_held row.kind row.initial left (h row refl)
+
+-- what `worth` owes
+pub worth_may : (s : ScriptData) (x v : ℕ) (sts : List Standing) → IsValid s → IsTrue (trees_may x v s.trees sts (first_value (slice_get s.items x)))
+worth_may s x v sts valid =
+    trees_step s.nodes s.items x v s.trees sts (first_value (slice_get s.items x)) valid.trees
+        (first_held (slice_get s.items x) (trees_load x s.trees)
+            (λ (row : ItemRow) (e : slice_get s.items x ≡ Some row). valid.loads x (slice_get_within s.items x row e)))
+
+nothing : (n : ℤ) → unsigned_abs n ≡ 0 → n ≡ pos 0
+nothing n h = omega (arith, ints)
+
+-- a bag starts with the number 0
+pub bag_starts : (nodes : ℕ) (items : List ItemRow) (k : ℕ) (row : ItemRow) → AllByRecursion (IsItem nodes) items → slice_get items k ≡ Some row → row.kind ≡ BagKind → row.initial ≡ pos 0
+bag_starts nodes [] k row all e h = cc
+bag_starts nodes (r ∷ rs) zero row all e h =
+    let same : r ≡ row = cc in
+    nothing row.initial (subst (λ (one : ItemRow). one.kind ≡ BagKind → unsigned_abs one.initial ≡ 0) same all.0.bag h)
+bag_starts nodes (r ∷ rs) (suc k) row all e h = bag_starts nodes rs k row all.1 e h

@@ -1,3 +1,4 @@
 pub mod Acts
-pub mod Walk
 pub mod Bounds
+pub mod TreeStandings
+pub mod Walk

@@ -1,9 +1,11 @@
 //! What a history says of trees and items: versions, wholeness and worth.
 #![tactic(auto)]
 
+mod balance;
 mod histories;
 mod standings;
-mod worth;
+
 
 pub use histories::version_of;
-pub use standings::Standing;
+pub use standings::{Standing, Standings};
+pub use balance::{is_written, worth};

@@ -1,5 +1,5 @@
 // What a history says of each tree, side by side.
-use tv_base::Version;
+use tv_base::{Seq, Version};
 
 /// What a history says of one tree.
 #[derive(Clone, Copy, Debug, PartialEq, Eq)]
@@ -9,3 +9,6 @@ pub struct Standing {
     /// Whether it is born and each of its subtransactions was done.
     pub whole: bool,
 }
+
+/// What a history says of each tree, by tree number.
+pub type Standings = Seq<Standing, 0xffff_ffff>;

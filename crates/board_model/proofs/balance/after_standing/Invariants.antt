@@ -1,7 +1,7 @@
 use Rattle.std.proofs.Common.{◌≡◌, drop, IsTrue}
 use Rattle.board_model.specs.May.{trees_may}
 use Rattle.board_model.specs.Standings.{after_standing}
-use Rattle.board_model.proofs.worth.after_standing.Given as goal
+use Rattle.board_model.proofs.balance.after_standing.Given as goal
 
 abbrev pub invariant-loop-t : goal.invariant-loop-t
 invariant-loop-t l = record {

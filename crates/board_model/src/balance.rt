@@ -1,14 +1,59 @@
 // What items are worth.
-ghost use Rattle.std.specs.Prelude.{◌≡◌, IfOk, IsTrue, length};
+ghost use Rattle.std.specs.Prelude.{◌≡◌, IfOk, IsTrue, length, slice_get};
 ghost use Rattle.board_model.specs.May.{ops_may, subs_may, trees_may};
-ghost use Rattle.board_model.specs.Standings.{after_standing, standing_write, stands, writes};
-ghost use Rattle.board_model.specs.Worth.{after_ops, after_subs, ops_name, subs_name};
+ghost use Rattle.board_model.specs.Standings.{after_standing, standing_write, standings_of, stands, writes};
+ghost use Rattle.board_model.specs.Worth.{after_ops, after_subs, first_value, is_written, ops_name, subs_name, worth};
 
-use crate::standings::Standing;
-use commute_ops::Value;
+use crate::standings::{Standing, Standings};
+use commute_ops::{Kind, Value};
+use letter_types::History;
 use std::alloc::Global;
 use tv_base::{ItemNo, NoMemory, Version};
-use tx_trees::{Deed, Sub, SubOp, Tree, TreeKind};
+use tx_trees::{Deed, Script, Sub, SubOp, Tree, TreeKind};
+
+/// What an item is worth at a version: its initial value, with all operations on it of the whole update trees of at
+/// most that version, by tree number. An item that isn't there is worth a sum of 0. `standings` are those of the
+/// history.
+///
+/// It evaluates the definition: it goes over the operations of all those trees.
+#[tactic(auto, using(crate::proofs::Bounds::worth_may, crate::proofs::TreeStandings::all_trees))]
+pub fn worth(
+    alloc: Global,
+    script: &Script,
+    history: &History,
+    standings: &Standings,
+    item: ItemNo,
+    version: Version,
+) -> Result<Value, NoMemory>
+    requires { standings.now ≡ standings_of script.now history.now }
+    ensures { IfOk result (λ w. w ≡ worth script.now history.now item.0 version.0) }
+{
+    let first = first_value(alloc, script, item);
+    after_standing(alloc, script.trees(), standings.items(), item, version, first)
+}
+
+/// Whether an update tree of this version, whole or not, has an operation on the item. `standings` are those of the
+/// history.
+///
+/// It evaluates the definition: it goes over the operations of all trees of that version.
+#[tactic(auto, using(crate::proofs::TreeStandings::all_trees))]
+pub fn is_written(script: &Script, history: &History, standings: &Standings, item: ItemNo, version: Version) -> bool
+    requires { standings.now ≡ standings_of script.now history.now }
+    ensures { result ≡ is_written script.now history.now item.0 version.0 }
+{
+    standing_write(script.trees(), standings.items(), item, version)
+}
+
+// The initial value of the item.
+#[tactic(auto, using(crate::proofs::Bounds::bag_starts))]
+fn first_value(alloc: Global, script: &Script, item: ItemNo) -> Value
+    ensures { result ≡ first_value (slice_get script.now.items item.0) }
+{
+    match script.items().get(item.0 as usize) {
+        Some(row) => Value::start(alloc, row.kind, row.initial),
+        None => Value::start(alloc, Kind::Sum, 0),
+    }
+}
 
 // The value of the item after the operations on it.
 fn after_ops(alloc: Global, ops: &[SubOp], item: ItemNo, first: Value) -> Result<Value, NoMemory>
@@ -39,7 +84,6 @@ fn after_subs(alloc: Global, subs: &[Sub], item: ItemNo, first: Value) -> Result
 }
 
 // Whether a tree of this kind and standing is a whole update tree of at most this version.
-#[tactic(auto, using(crate::proofs::Bounds::trees_step))]
 fn stands(kind: TreeKind, standing: Standing, version: Version) -> bool
     ensures { result ≡ stands version.0 kind standing }
 {

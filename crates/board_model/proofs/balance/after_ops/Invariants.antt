@@ -1,7 +1,7 @@
 use Rattle.std.proofs.Common.{◌≡◌, drop, IsTrue}
 use Rattle.board_model.specs.May.{ops_may}
 use Rattle.board_model.specs.Worth.{after_ops}
-use Rattle.board_model.proofs.worth.after_ops.Given as goal
+use Rattle.board_model.proofs.balance.after_ops.Given as goal
 
 abbrev pub invariant-loop-op : goal.invariant-loop-op
 invariant-loop-op l = record {

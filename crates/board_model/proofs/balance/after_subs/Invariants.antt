@@ -1,7 +1,7 @@
 use Rattle.std.proofs.Common.{◌≡◌, drop, IsTrue}
 use Rattle.board_model.specs.May.{subs_may}
 use Rattle.board_model.specs.Worth.{after_subs}
-use Rattle.board_model.proofs.worth.after_subs.Given as goal
+use Rattle.board_model.proofs.balance.after_subs.Given as goal
 
 abbrev pub invariant-loop-sub : goal.invariant-loop-sub
 invariant-loop-sub l = record {
