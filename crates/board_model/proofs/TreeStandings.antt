@@ -13,15 +13,18 @@ use Rattle.board_model.specs.Worth.{after_subs, after_trees, counts, is_up_to, i
 abbrev pub IsFrom : List Tree → ℕ → List Tree → Type 0
 IsFrom all t ts = (i : ℕ) → slice_get all (t + i) ≡ slice_get ts i
 
-next_from : (all : List Tree) (t : ℕ) (tree : Tree) (ts : List Tree) → IsFrom all t (tree ∷ ts) → IsFrom all (t + 1) ts
+pub next_from : (all : List Tree) (t : ℕ) (tree : Tree) (ts : List Tree) → IsFrom all t (tree ∷ ts) → IsFrom all (t + 1) ts
 next_from all t tree ts h i =
     let e : t + 1 + i ≡ t + suc i = omega arith in
     ap (λ (k : ℕ). slice_get all k) e ∙ h (suc i)
 
-here_from : (all : List Tree) (t : ℕ) (tree : Tree) (ts : List Tree) → IsFrom all t (tree ∷ ts) → slice_get all t ≡ Some tree
+pub here_from : (all : List Tree) (t : ℕ) (tree : Tree) (ts : List Tree) → IsFrom all t (tree ∷ ts) → slice_get all t ≡ Some tree
 here_from all t tree ts h =
     let e : t ≡ t + 0 = omega arith in
     ap (λ (k : ℕ). slice_get all k) e ∙ h 0
+
+pub from_start : (all : List Tree) → IsFrom all 0 all
+from_start all i = let e : 0 + i ≡ i = omega arith in ap (λ (k : ℕ). slice_get all k) e
 
 pub length-standings_from : (s : ScriptData) (h : List Entry) (t : ℕ) (ts : List Tree) → length (standings_from s h t ts) ≡ length ts
 length-standings_from s h t [] = refl
@@ -39,7 +42,7 @@ after_from s h x v t (tree ∷ ts) w from =
 
 pub after_all : (s : ScriptData) (h : List Entry) (x v : ℕ) (w : Value)
     → after_standing x v s.trees (standings_of s h) w ≡ after_trees s h x v 0 s.trees w
-after_all s h x v w = after_from s h x v 0 s.trees w (λ (i : ℕ). let e : 0 + i ≡ i = omega arith in ap (λ (k : ℕ). slice_get s.trees k) e)
+after_all s h x v w = after_from s h x v 0 s.trees w (from_start s.trees)
 
 write_from : (s : ScriptData) (h : List Entry) (x v t : ℕ) (ts : List Tree) → standing_write x v ts (standings_from s h t ts) ≡ trees_write h x v t ts
 write_from s h x v t [] = refl
