@@ -1,6 +1,6 @@
 -- The acts of two lists, one behind the other.
 use Rattle.std.proofs.Common.{◌≡◌, ℕ, Bool, true, false, List, [], ◌∷◌, ◌++◌, zero, suc, ◌<◌, refl, ap, ◌∙◌, arith}
-use Rattle.std.specs.Prelude.{◌||◌, Option, Some, None}
+use Rattle.std.specs.Prelude.{◌||◌, Some, None}
 use Rattle.std.proofs.lemmas.Bool.Decides.{nat_tests}
 use Rattle.tv_base.specs.declared.numbers.Version.{Version}
 use Rattle.letter_types.specs.declared.acts.Act.{Act}
@@ -43,4 +43,3 @@ done_later t k a b h = was_done-append t k a b ∙ ap (λ (x : Bool). x || was_d
 pub all_done_not : (t n k : ℕ) (acts : List Act) → k < n → was_done t k acts ≡ false → all_done t n acts ≡ false
 all_done_not t zero k acts small h = absurd (omega arith)
 all_done_not t (suc n) k acts small h = let rest : k < n → was_done t k acts ≡ false → all_done t n acts ≡ false = all_done_not t n k acts in grind (arith, nat_tests)
-

@@ -1,5 +1,5 @@
 -- In a valid script the operations on an item may be applied one after another, from its initial value on.
-use Rattle.std.proofs.Common.{◌≡◌, ℕ, zero, suc, ◌+◌, ◌≤◌, Bool, true, false, IsTrue, List, [], ◌∷◌, length, refl, ℤ, ap, sym, ◌∙◌, subst, arith}
+use Rattle.std.proofs.Common.{◌≡◌, ℕ, zero, suc, ◌+◌, ◌≤◌, Bool, true, false, IsTrue, List, [], ◌∷◌, refl, ℤ, subst, arith}
 use Rattle.std.specs.Prelude.{if◌then◌else◌, ◌==◌, ◌&&◌, ◌+ℤ◌, unsigned_abs, Option, Some, None, slice_get, pos}
 use Rattle.std.specs.List.{AllByRecursion}
 use Rattle.std.proofs.lemmas.Int.{ints}
@@ -8,14 +8,13 @@ use Rattle.std.proofs.lemmas.Bool.Decides.{nat_tests}
 use Rattle.commute_ops.specs.declared.kinds.TheConstants.{MOST_AMOUNT}
 use Rattle.commute_ops.specs.declared.kinds.Kind.{Kind}
 use Rattle.commute_ops.specs.declared.kinds.Kind.TheVariants.{Sum as SumKind, Top as TopKind, Bag as BagKind}
-use Rattle.commute_ops.specs.declared.kinds.Op.{Op}
 use Rattle.commute_ops.specs.declared.kinds.Op.TheVariants.{Add, Top as Raise, Put}
 use Rattle.commute_ops.specs.declared.value.Value.{Value}
 use Rattle.commute_ops.specs.declared.value.Value.TheVariants.{Sum, Top, Bag}
 use Rattle.commute_ops.specs.Numbers.{is_within}
 use Rattle.commute_ops.specs.Ops.{start}
 use Rattle.tx_trees.specs.ScriptData.{ScriptData}
-use Rattle.tx_trees.specs.Valid.{AreSubs, IsItem, IsOp, IsTree, IsValid, OpAt, deed_fits, initial_load, load, magnitude, ops_load, subs_load, trees_load}
+use Rattle.tx_trees.specs.Valid.{AreSubs, IsItem, IsOp, IsTree, IsValid, OpAt, deed_fits, initial_load, magnitude, ops_load, subs_load, trees_load}
 use Rattle.tx_trees.specs.declared.parts.Deed.{Deed}
 use Rattle.tx_trees.specs.declared.parts.Deed.TheVariants.{Apply, Get, Set, Draw}
 use Rattle.tx_trees.specs.declared.parts.ItemRow.{ItemRow}
@@ -117,8 +116,8 @@ ops_step items x node (o ∷ os) w left all h =
     let r : Option ItemRow = slice_get items x in
     let b : Bool = o.item.0 == x in
     let one = item_step b r node o w (ops_load x os + left)
-        (λ (e : b ≡ true). on_item items x o.item.0 node o (grind (arith, nat_tests)) all.0)
-        (less r w (ops_load x (o ∷ os) + left) ((if b then magnitude o.deed else 0) + (ops_load x os + left)) (omega arith) h) in
+    (λ (e : b ≡ true). on_item items x o.item.0 node o (grind (arith, nat_tests)) all.0)
+    (less r w (ops_load x (o ∷ os) + left) ((if b then magnitude o.deed else 0) + (ops_load x os + left)) (omega arith) h) in
     let rest = ops_step items x node os (if b then after_deed o.deed w else w) left all.1 one.1 in
     (both (if b then deed_may o.deed w else true) (ops_may x os (if b then after_deed o.deed w else w)) one.0 rest.0, rest.1)
 
@@ -129,7 +128,7 @@ subs_step nodes items x k [] w left all h = (refl, less (slice_get items x) w (0
 subs_step nodes items x k (s ∷ ss) w left all h =
     let r : Option ItemRow = slice_get items x in
     let one = ops_step items x s.node.0 s.ops w (subs_load x ss + left) all.0.ops
-        (less r w (subs_load x (s ∷ ss) + left) (ops_load x s.ops + (subs_load x ss + left)) (omega arith) h) in
+    (less r w (subs_load x (s ∷ ss) + left) (ops_load x s.ops + (subs_load x ss + left)) (omega arith) h) in
     let rest = subs_step nodes items x (k + 1) ss (after_ops x s.ops w) left all.1 one.1 in
     (both (ops_may x s.ops w) (subs_may x ss (after_ops x s.ops w)) one.0 rest.0, rest.1)
 
@@ -169,8 +168,8 @@ first_held (Some row) left h = start_held row.kind row.initial left (h row refl)
 pub worth_may : (s : ScriptData) (x v : ℕ) (sts : List Standing) → IsValid s → IsTrue (trees_may x v s.trees sts (first_value (slice_get s.items x)))
 worth_may s x v sts valid =
     trees_step s.nodes s.items x v s.trees sts (first_value (slice_get s.items x)) valid.trees
-        (first_held (slice_get s.items x) (trees_load x s.trees)
-            (λ (row : ItemRow) (e : slice_get s.items x ≡ Some row). valid.loads x (slice_get_within s.items x row e)))
+    (first_held (slice_get s.items x) (trees_load x s.trees)
+    (λ (row : ItemRow) (e : slice_get s.items x ≡ Some row). valid.loads x (slice_get_within s.items x row e)))
 
 nothing : (n : ℤ) → unsigned_abs n ≡ 0 → n ≡ pos 0
 nothing n h = omega (arith, ints)

@@ -1,6 +1,6 @@
 -- The rows after a history's acts say what the history says of each tree.
 use Rattle.std.proofs.Common.{◌≡◌, ℕ, zero, suc, ◌+◌, ◌<◌, ◌≤◌, Bool, true, false, List, [], ◌∷◌, ◌++◌, length, refl, ap, sym, ◌∙◌, slice_set, get_or, arith}
-use Rattle.std.specs.Prelude.{if◌then◌else◌, ◌==◌, ◌&&◌, ◌||◌, Option, Some, None, is_some, replicate, slice_get}
+use Rattle.std.specs.Prelude.{if◌then◌else◌, ◌==◌, ◌&&◌, ◌||◌, Option, Some, None, is_some, replicate}
 use Rattle.std.specs.List.{AllByRecursion}
 use Rattle.std.proofs.lemmas.Bool.Decides.{nat_tests}
 use Rattle.std.proofs.lemmas.List.{length-replicate, length-set}
@@ -10,7 +10,6 @@ use Rattle.letter_types.specs.declared.acts.Act.TheVariants.{Born, Did, Turned, 
 use Rattle.letter_types.specs.declared.entries.Entry.{Entry}
 use Rattle.tx_trees.specs.ScriptData.{ScriptData, subs_at}
 use Rattle.tx_trees.specs.Valid.{IsTree, IsValid}
-use Rattle.tx_trees.specs.declared.parts.ItemRow.{ItemRow}
 use Rattle.tx_trees.specs.declared.parts.Sub.{Sub}
 use Rattle.tx_trees.specs.declared.parts.Tree.{Tree}
 use Rattle.board_model.specs.declared.standings.Standing.{Standing}
@@ -56,7 +55,7 @@ on_row-indexed zero t u f (row ∷ rows) e =
     sym (cons (pick u f t row) (f row) (indexed (t + 1) (pick u f) rows) rows (picked u f t row (omega arith)) (past_row (t + 1) u f rows (omega arith)))
 on_row-indexed (suc d) t u f (row ∷ rows) e =
     sym (cons (pick u f t row) row (indexed (t + 1) (pick u f) rows) (on_row d f rows) (left_out u f t row (λ (same : u ≡ t). absurd (omega arith)))
-        (sym (on_row-indexed d (t + 1) u f rows (omega arith))))
+    (sym (on_row-indexed d (t + 1) u f rows (omega arith))))
 
 -- what an act makes of the row of tree t
 abbrev row_step : ℕ → Act → Tally → Tally
@@ -81,7 +80,7 @@ noted-indexed Finished rows = sym (same_rows 0 rows)
 
 fused : (t : ℕ) (a : Act) (acts : List Act) (rows : List Tally)
     → indexed t (λ (k : ℕ) (row : Tally). row_after k acts row) (indexed t (λ (k : ℕ) (row : Tally). row_step k a row) rows)
-        ≡ indexed t (λ (k : ℕ) (row : Tally). row_after k (a ∷ acts) row) rows
+    ≡ indexed t (λ (k : ℕ) (row : Tally). row_after k (a ∷ acts) row) rows
 fused t a acts [] = refl
 fused t a acts (row ∷ rows) = ap (λ (z : List Tally). row_after t acts (row_step t a row) ∷ z) (fused (t + 1) a acts rows)
 
@@ -197,7 +196,7 @@ marked t zero acts small = refl
 marked t (suc n) acts small =
     let len : length (replicate 64 false) ≡ 64 = length-replicate 64 false in
     let one : get_or (row_after t acts blank).done n false ≡ was_done t n acts
-        = done_after t acts blank n (omega (arith, len)) ∙ ap (λ (b : Bool). b || was_done t n acts) (none_done 64 n) in
+    = done_after t acts blank n (omega (arith, len)) ∙ ap (λ (b : Bool). b || was_done t n acts) (none_done 64 n) in
     ap (λ (b : Bool). b && get_or (row_after t acts blank).done n false) (marked t n acts (omega arith)) ∙ ap (λ (b : Bool). all_done t n acts && b) one
 
 standing-row : (t n : ℕ) (acts : List Act) → n ≤ 64
@@ -214,7 +213,7 @@ stood-from s h t (tree ∷ ts) from all =
     let subs : tree.subs ≡ subs_at s t = ap (λ (o : Option Tree). elim o [ Some one ↦ one.subs | None ↦ [] ]) (sym (here_from s.trees t tree ts from)) in
     let whole : ℕ → Standing = λ (n : ℕ). record { born = version_of h t; whole = is_some (version_of h t) && all_done t n (acts_of h) } in
     let head : standing_by (length tree.subs) (row_after t (acts_of h) blank) ≡ record { born = version_of h t; whole = is_whole s h t }
-        = standing-row t (length tree.subs) (acts_of h) all.0.few ∙ ap (λ (ss : List Sub). whole (length ss)) subs in
+    = standing-row t (length tree.subs) (acts_of h) all.0.few ∙ ap (λ (ss : List Sub). whole (length ss)) subs in
     let tail = stood-from s h (t + 1) ts (next_from s.trees t tree ts from) all.1 in
     ap (λ (one : Standing). one ∷ stood_by (indexed (t + 1) (λ (k : ℕ) (row : Tally). row_after k (acts_of h) row) (replicate (length ts) blank)) ts) head
     ∙ ap (λ (z : List Standing). record { born = version_of h t; whole = is_whole s h t } ∷ z) tail

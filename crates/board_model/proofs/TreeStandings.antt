@@ -1,5 +1,5 @@
 -- What the standings of a script's trees say is what the history says.
-use Rattle.std.proofs.Common.{◌≡◌, ℕ, zero, suc, ◌+◌, Bool, false, List, [], ◌∷◌, length, refl, ap, sym, ◌∙◌, arith}
+use Rattle.std.proofs.Common.{◌≡◌, ℕ, suc, ◌+◌, Bool, false, List, [], ◌∷◌, length, refl, ap, sym, ◌∙◌, arith}
 use Rattle.std.specs.Prelude.{if◌then◌else◌, ◌&&◌, ◌||◌, Option, Some, None, slice_get}
 use Rattle.commute_ops.specs.declared.value.Value.{Value}
 use Rattle.letter_types.specs.declared.entries.Entry.{Entry}
@@ -36,7 +36,7 @@ after_from s h x v t [] w from = refl
 after_from s h x v t (tree ∷ ts) w from =
     let same : is_update tree.kind ≡ updates s t = ap (λ (o : Option Tree). elim o [ Some one ↦ is_update one.kind | None ↦ false ]) (sym (here_from s.trees t tree ts from)) in
     let tests : stands v tree.kind (record { born = version_of h t; whole = is_whole s h t }) ≡ counts s h v t
-        = ap (λ (b : Bool). b && (is_whole s h t && is_up_to v (version_of h t))) same in
+    = ap (λ (b : Bool). b && (is_whole s h t && is_up_to v (version_of h t))) same in
     ap (λ (b : Bool). after_standing x v ts (standings_from s h (t + 1) ts) (if b then after_subs x tree.subs w else w)) tests
     ∙ after_from s h x v (t + 1) ts (if counts s h v t then after_subs x tree.subs w else w) (next_from s.trees t tree ts from)
 

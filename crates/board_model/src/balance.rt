@@ -29,7 +29,14 @@ pub fn worth(
     ensures { IfOk result (λ w. w ≡ worth script.now history.now item.0 version.0) }
 {
     let first = first_value(alloc, script, item);
-    after_standing(alloc, script.trees(), standings.items(), item, version, first)
+    after_standing(
+        alloc,
+        script.trees(),
+        standings.items(),
+        item,
+        version,
+        first,
+    )
 }
 
 /// Whether an update tree of this version, whole or not, has an operation on the item. `standings` are those of the
@@ -37,7 +44,13 @@ pub fn worth(
 ///
 /// It evaluates the definition: it goes over the operations of all trees of that version.
 #[tactic(auto, using(crate::proofs::TreeStandings::all_trees))]
-pub fn is_written(script: &Script, history: &History, standings: &Standings, item: ItemNo, version: Version) -> bool
+pub fn is_written(
+    script: &Script,
+    history: &History,
+    standings: &Standings,
+    item: ItemNo,
+    version: Version,
+) -> bool
     requires { standings.now ≡ standings_of script.now history.now }
     ensures { result ≡ is_written script.now history.now item.0 version.0 }
 {

@@ -6,8 +6,7 @@ mod histories;
 mod standings;
 mod tallies;
 
-
-pub use histories::version_of;
+pub use balance::{is_written, worth};
+pub use histories::{is_whole, version_of};
 pub use standings::{Standing, Standings};
 pub use tallies::whole_versions;
-pub use balance::{is_written, worth};

@@ -22,7 +22,11 @@ pub(crate) struct Tally {
 ///
 /// It goes over the history's acts once, and then over the trees.
 #[tactic(auto, using(crate::proofs::OnePass::pass))]
-pub fn whole_versions(alloc: Global, script: &Script, history: &History) -> Result<Standings, NoMemory>
+pub fn whole_versions(
+    alloc: Global,
+    script: &Script,
+    history: &History,
+) -> Result<Standings, NoMemory>
     ensures { IfOk result (λ standings. standings ≡ standings_of script.now history.now) }
 {
     let trees = script.trees();
@@ -66,7 +70,11 @@ fn note(rows: &mut Vec<Tally>, act: &Act)
 {
     match act {
         Act::Born { tree, version } => note_born(rows, *tree, *version),
-        Act::Did { tree, sub, values: _ } => note_done(rows, *tree, *sub),
+        Act::Did {
+            tree,
+            sub,
+            values: _,
+        } => note_done(rows, *tree, *sub),
         _ => {}
     }
 }
