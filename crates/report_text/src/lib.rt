@@ -1,7 +1,13 @@
 //! The report of a run, from its script and its history alone.
 #![tactic(auto)]
 
+mod check_text;
+mod items;
 mod lines;
+mod report;
+mod trees;
 mod values;
 
+pub use check_text::check_line;
 pub use lines::Lines;
+pub use report::report_lines;
