@@ -9,7 +9,6 @@ use Rattle.board_model.specs.Standings.{standings_from, standings_of}
 use Rattle.board_model.proofs.TreeStandings.{length-standings_from}
 use Rattle.report_text.specs.Lines.{trees_lines}
 use Rattle.report_text.specs.Report.{tree_line, trees_text}
-use Rattle.report_text.proofs.Counts.{advances_in-same}
 
 lines_from : (s : ScriptData) (h : List Entry) (t : ℕ) (ts : List Tree) → trees_lines ts (standings_from s h t ts) ≡ trees_text h t ts
 lines_from s h t [] = refl
@@ -21,5 +20,5 @@ lines_all s h = lines_from s h 0 s.trees
 pub length-standings_of : (s : ScriptData) (h : List Entry) → length (standings_of s h) ≡ length s.trees
 length-standings_of s h = length-standings_from s h 0 s.trees
 
--- for `report_lines`
-pub ruleset report = (lines_all, length-standings_of, advances_in-same)
+-- for the trees of a script
+pub ruleset of_script = (lines_all, length-standings_of)

@@ -4,13 +4,14 @@ ghost use Rattle.tx_trees.specs.Adding.{all_subs};
 ghost use Rattle.report_text.specs.Lines.{check_line_of, count_text};
 
 use crate::lines::Lines;
+use crate::run_report::advances;
 use std::alloc::Global;
 use tv_base::NoMemory;
 use tx_trees::{Script, Tree};
 
 /// The line of a script that was read: how many nodes, items, trees, subtransactions (roots are among them) and
 /// advancements it has.
-#[tactic(auto, using(crate::proofs::Counts::counts))]
+#[tactic(auto, using(crate::proofs::Counts::fits))]
 pub fn check_line(alloc: Global, script: &Script) -> Result<Lines, NoMemory>
     ensures { IfOk result (λ text. text ≡ check_line_of script.now) }
 {
@@ -19,7 +20,7 @@ pub fn check_line(alloc: Global, script: &Script) -> Result<Lines, NoMemory>
     push_count(&mut text, b" items ", script.items().len() as u64)?;
     push_count(&mut text, b" trees ", script.trees().len() as u64)?;
     push_count(&mut text, b" subs ", count_subs(script.trees()))?;
-    push_count(&mut text, b" advances ", script.advances() as u64)?;
+    push_count(&mut text, b" advances ", advances(script) as u64)?;
     text.push_bytes(b"\n")?;
     Ok(text)
 }

@@ -25,7 +25,16 @@ pub(crate) fn push_items(
     ensures { OnOk result (text.new ≡ text.old ++ items_text script.now history.now advances 0 script.now.items) }
 {
     for (item, row) in script.items().iter().enumerate() {
-        push_item(alloc, text, script, history, standings, advances, ItemNo(item as u32), row)?;
+        push_item(
+            alloc,
+            text,
+            script,
+            history,
+            standings,
+            advances,
+            ItemNo(item as u32),
+            row,
+        )?;
     }
     Ok(())
 }

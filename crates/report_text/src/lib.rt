@@ -4,10 +4,10 @@
 mod check_text;
 mod items;
 mod lines;
-mod report;
+mod run_report;
 mod trees;
 mod values;
 
 pub use check_text::check_line;
 pub use lines::Lines;
-pub use report::report_lines;
+pub use run_report::report;

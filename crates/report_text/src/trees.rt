@@ -9,7 +9,11 @@ use tv_base::{Name, NoMemory, Version};
 use tx_trees::{Tree, TreeKind};
 
 // The lines of the trees, which have these standings.
-pub(crate) fn push_trees(text: &mut Lines, trees: &[Tree], standings: &[Standing]) -> Result<(), NoMemory>
+pub(crate) fn push_trees(
+    text: &mut Lines,
+    trees: &[Tree],
+    standings: &[Standing],
+) -> Result<(), NoMemory>
     requires { length standings.now ≡ length trees.now }
     ensures { OnOk result (text.new ≡ text.old ++ trees_lines trees.now standings.now) }
 {
@@ -20,7 +24,12 @@ pub(crate) fn push_trees(text: &mut Lines, trees: &[Tree], standings: &[Standing
 }
 
 // The line of a tree: an update tree that is born has one.
-fn push_tree(text: &mut Lines, kind: TreeKind, name: &Name, born: Option<Version>) -> Result<(), NoMemory>
+fn push_tree(
+    text: &mut Lines,
+    kind: TreeKind,
+    name: &Name,
+    born: Option<Version>,
+) -> Result<(), NoMemory>
     ensures { OnOk result (text.new ≡ text.old ++ tree_line kind name.now born) }
 {
     match (kind, born) {

@@ -8,7 +8,11 @@ use commute_ops::{Amount, Value};
 use tv_base::{NoMemory, Version};
 
 // A version and the value there.
-pub(crate) fn push_balance(text: &mut Lines, version: Version, value: &Value) -> Result<(), NoMemory>
+pub(crate) fn push_balance(
+    text: &mut Lines,
+    version: Version,
+    value: &Value,
+) -> Result<(), NoMemory>
     ensures { OnOk result (text.new ≡ text.old ++ balance version.0 value.now) }
 {
     text.push_bytes(b" ")?;
