@@ -10,3 +10,6 @@ pub use balance::{is_written, worth};
 pub use histories::{is_whole, version_of};
 pub use standings::{Standing, Standings};
 pub use tallies::whole_versions;
+
+#[cfg(test)]
+mod tests;

@@ -11,3 +11,6 @@ mod values;
 pub use check_text::check_line;
 pub use lines::Lines;
 pub use run_report::report;
+
+#[cfg(test)]
+mod tests;
