@@ -148,7 +148,8 @@ fn a_run_is_reported(rt: HostRuntime) -> Result<(), Fail> {
     let alloc = rt.alloc();
     let script = one_tree(alloc)?;
     let done = report(alloc, &script, &all_done(alloc)?)?;
-    let want = b"tree t version 1\nnode 0 update 1 read 0\nnode 1 update 1 read 0\nitem a 0:10 1:15\nitem b 0:0 1:7\n";
+    let want =
+        b"tree t version 1\nnode 0 update 1 read 0\nnode 1 update 1 read 0\nitem a 0:10 1:15\nitem b 0:0 1:7\n";
     assert_eq!(rt; done.bytes(), want.as_slice());
     let none = report(alloc, &script, &History::new(alloc))?;
     let want = b"node 0 update 1 read 0\nnode 1 update 1 read 0\nitem a 0:10\nitem b 0:0\n";
