@@ -1,2 +1,5 @@
 pub mod Histories
 pub mod Worth
+pub mod Standings
+pub mod Tallies
+pub mod May

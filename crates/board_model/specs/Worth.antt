@@ -5,7 +5,7 @@ use Rattle.commute_ops.specs.declared.value.Value.{Value}
 use Rattle.commute_ops.specs.declared.value.Value.TheVariants.{Sum}
 use Rattle.commute_ops.specs.Ops.{applied, start}
 use Rattle.letter_types.specs.declared.entries.Entry.{Entry}
-use Rattle.tx_trees.specs.ScriptData.{ScriptData, is_update, subs_at, updates}
+use Rattle.tx_trees.specs.ScriptData.{ScriptData, is_update, updates}
 use Rattle.tx_trees.specs.declared.parts.Deed.{Deed}
 use Rattle.tx_trees.specs.declared.parts.Deed.TheVariants.{Apply}
 use Rattle.tx_trees.specs.declared.parts.SubOp.{SubOp}

@@ -1,0 +1,30 @@
+-- How many advancements and subtransactions a script has.
+use Rattle.std.proofs.Common.{◌≡◌, ℕ, ◌*◌, ◌^◌, ◌<◌, ◌≤◌, List, [], ◌∷◌, length, refl, arith}
+use Rattle.std.specs.List.{AllByRecursion}
+use Rattle.tx_trees.specs.Adding.{all_subs, advances_in as asked_in}
+use Rattle.tx_trees.specs.ScriptData.{ScriptData}
+use Rattle.tx_trees.specs.Valid.{IsTree, IsValid}
+use Rattle.tx_trees.specs.declared.parts.ItemRow.{ItemRow}
+use Rattle.tx_trees.specs.declared.parts.ScriptRow.{ScriptRow}
+use Rattle.tx_trees.specs.declared.parts.ScriptRow.TheVariants as rows
+use Rattle.tx_trees.specs.declared.parts.Tree.{Tree}
+use Rattle.report_text.specs.Report.{advances_in}
+
+pub same_advances : (rs : List ScriptRow) → asked_in rs ≡ advances_in rs
+same_advances [] = refl
+same_advances (rows.Tree t ∷ rs) = let rest = same_advances rs in omega (arith, rest)
+same_advances (rows.Advance ∷ rs) = let rest = same_advances rs in omega (arith, rest)
+same_advances (rows.Settle ∷ rs) = let rest = same_advances rs in omega (arith, rest)
+
+few_subs : (nodes : ℕ) (items : List ItemRow) (ts : List Tree) → AllByRecursion (IsTree nodes items) ts → all_subs ts ≤ 64 * length ts
+few_subs nodes items [] all = omega arith
+few_subs nodes items (t ∷ ts) all =
+    let rest = few_subs nodes items ts all.1 in
+    let one : length t.subs ≤ 64 = all.0.few in
+    omega (arith, rest, one)
+
+pub fits : (s : ScriptData) → IsValid s → all_subs s.trees < 2 ^ 64
+fits s valid =
+    let bound = few_subs s.nodes s.items s.trees valid.trees in
+    let few : length s.trees ≤ 20000 = valid.few_trees in
+    omega (arith, bound, few)

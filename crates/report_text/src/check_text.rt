@@ -1,0 +1,46 @@
+// The line that says what a script has.
+ghost use Rattle.std.specs.Prelude.{◌≡◌, ◌++◌, ◌<◌, ◌^◌, IfOk, OnOk, length};
+ghost use Rattle.tx_trees.specs.Adding.{all_subs};
+ghost use Rattle.report_text.specs.Lines.{check_line_of, count_text};
+
+use crate::lines::Lines;
+use crate::run_report::advances;
+use std::alloc::Global;
+use tv_base::NoMemory;
+use tx_trees::{Script, Tree};
+
+/// The line of a script that was read: how many nodes, items, trees, subtransactions (roots are among them) and
+/// advancements it has.
+#[tactic(auto, using(crate::proofs::Counts::fits))]
+pub fn check_line(alloc: Global, script: &Script) -> Result<Lines, NoMemory>
+    ensures { IfOk result (λ text. text ≡ check_line_of script.now) }
+{
+    let mut text = Lines::new(alloc);
+    push_count(&mut text, b"ok nodes ", script.nodes() as u64)?;
+    push_count(&mut text, b" items ", script.items().len() as u64)?;
+    push_count(&mut text, b" trees ", script.trees().len() as u64)?;
+    push_count(&mut text, b" subs ", count_subs(script.trees()))?;
+    push_count(&mut text, b" advances ", advances(script) as u64)?;
+    text.push_bytes(b"\n")?;
+    Ok(text)
+}
+
+// A word and a number.
+fn push_count(text: &mut Lines, word: &[u8], count: u64) -> Result<(), NoMemory>
+    ensures { OnOk result (text.new ≡ text.old ++ count_text word.now count) }
+{
+    text.push_bytes(word)?;
+    text.push_number(count)
+}
+
+// How many subtransactions the trees have.
+fn count_subs(trees: &[Tree]) -> u64
+    requires { all_subs trees.now < 2 ^ 64 }
+    ensures { result ≡ all_subs trees.now }
+{
+    let mut count = 0u64;
+    for tree in trees {
+        count += tree.subs.items().len() as u64;
+    }
+    count
+}

@@ -1,0 +1,71 @@
+// Values in a report.
+ghost use Rattle.std.specs.Prelude.{◌≡◌, ◌++◌, OnOk, ◌∷◌, codes, decimal};
+ghost use Rattle.std.specs.Fmt.{signed_decimal};
+ghost use Rattle.report_text.specs.Report.{bag_text, balance, more_numbers, value_text};
+
+use crate::lines::Lines;
+use commute_ops::{Amount, Value};
+use tv_base::{NoMemory, Version};
+
+// A version and the value there.
+pub(crate) fn push_balance(
+    text: &mut Lines,
+    version: Version,
+    value: &Value,
+) -> Result<(), NoMemory>
+    ensures { OnOk result (text.new ≡ text.old ++ balance version.0 value.now) }
+{
+    text.push_bytes(b" ")?;
+    text.push_number(version.0)?;
+    text.push_bytes(b":")?;
+    push_value(text, value)
+}
+
+// A number in decimal, or a bag's numbers between braces.
+fn push_value(text: &mut Lines, value: &Value) -> Result<(), NoMemory>
+    ensures { OnOk result (text.new ≡ text.old ++ value_text value.now) }
+{
+    match value {
+        Value::Sum(sum) => text.push_amount(sum.0),
+        Value::Top(top) => text.push_amount(top.0),
+        Value::Bag(bag) => push_bag(text, bag.items()),
+    }
+}
+
+// Numbers in order between braces.
+fn push_bag(text: &mut Lines, numbers: &[Amount]) -> Result<(), NoMemory>
+    ensures { OnOk result (text.new ≡ text.old ++ bag_text numbers.now) }
+{
+    match numbers {
+        [] => text.push_bytes(b"{}"),
+        [first, more @ ..] => push_some(text, *first, more),
+    }
+}
+
+// A number and more of them between braces.
+fn push_some(text: &mut Lines, first: Amount, more: &[Amount]) -> Result<(), NoMemory>
+    ensures { OnOk result (text.new ≡ text.old ++ bag_text (first ∷ more.now)) }
+{
+    text.push_bytes(b"{")?;
+    text.push_amount(first)?;
+    push_more(text, more)?;
+    text.push_bytes(b"}")
+}
+
+// Numbers in order, each behind a comma.
+fn push_more(text: &mut Lines, numbers: &[Amount]) -> Result<(), NoMemory>
+    ensures { OnOk result (text.new ≡ text.old ++ more_numbers numbers.now) }
+{
+    for number in numbers {
+        push_next(text, *number)?;
+    }
+    Ok(())
+}
+
+// A number behind a comma.
+fn push_next(text: &mut Lines, number: Amount) -> Result<(), NoMemory>
+    ensures { OnOk result (text.new ≡ text.old ++ (codes "," ++ signed_decimal number)) }
+{
+    text.push_bytes(b",")?;
+    text.push_amount(number)
+}
