@@ -8,7 +8,7 @@ invariant-loop-outgoing l = record {
   sent : l.bag.items ≡ l.initial.bag.items ++ sealed l.stamp.0 l.actor.0 0 l.yielded;
   place : l.place ≡ length l.yielded;
   len : deque_len l.bag ≡ deque_len l.initial.bag + length l.yielded;
-  left : length l.yielded + length l.outgoing-iterator.rest ≡ length l.fn.sent;
+  left : length l.yielded + length l.outgoing-iterator.rest.items ≡ length l.fn.sent;
   few : length l.fn.sent ≤ 4294967295;
   room : deque_capacity l.bag ≡ deque_capacity l.initial.bag;
 }
