@@ -15,7 +15,7 @@ use tx_trees::{Deed, Script, Sub, SubOp, Tree, TreeKind};
 /// most that version, by tree number. An item that isn't there is worth a sum of 0. `standings` are those of the
 /// history.
 ///
-/// It evaluates the definition: it goes over the operations of all those trees.
+/// It evaluates the definition: it goes over the operations of all those trees. Only want of memory is an error.
 #[tactic(auto, using(crate::proofs::Bounds::worth_may, crate::proofs::TreeStandings::all_trees))]
 pub fn worth(
     alloc: Global,

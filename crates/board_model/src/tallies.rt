@@ -20,7 +20,7 @@ pub(crate) struct Tally {
 
 /// The version of each tree, and whether it is whole, by tree number.
 ///
-/// It goes over the history's acts once, and then over the trees.
+/// It goes over the history's acts once, and then over the trees. Only want of memory is an error.
 #[tactic(auto, using(crate::proofs::OnePass::pass))]
 pub fn whole_versions(
     alloc: Global,

@@ -10,7 +10,7 @@ use tv_base::NoMemory;
 use tx_trees::{Script, Tree};
 
 /// The line of a script that was read: how many nodes, items, trees, subtransactions (roots are among them) and
-/// advancements it has.
+/// advancements it has. Only want of memory is an error.
 #[tactic(auto, using(crate::proofs::Counts::fits))]
 pub fn check_line(alloc: Global, script: &Script) -> Result<Lines, NoMemory>
     ensures { IfOk result (λ text. text ≡ check_line_of script.now) }
