@@ -101,7 +101,7 @@ fn made_by(alloc: Global, script: &Script) -> Result<Made, Stop>
 }
 
 /// The run of the script that the bytes are, and its report.
-#[tactic(auto, using(crate::proofs::Builds::reads_runnable))]
+#[tactic(auto, using(crate::proofs::Ends::reads_runnable))]
 fn made_of(alloc: Global, bytes: &[u8]) -> Result<Made, Stop>
     ensures made { IfOk result (λ made. Reports bytes.now made.history made.text) }
     ensures stop { IfErr result (λ stop. IsStop bytes.now stop) }
