@@ -6,3 +6,6 @@ mod running;
 
 pub use calls::{Ended, threev};
 pub use running::simulate;
+
+#[cfg(test)]
+mod tests;
