@@ -26,4 +26,5 @@ found_subs s t tree at = rw (at, subs_at) refl
 
 pub no_subs : (s : ScriptData) (t : ℕ) → slice_get s.trees t ≡ None → subs_at s t ≡ []
 no_subs s t at = rw (at, subs_at) refl
+
 pub ruleset look_ups = (few_subs, found_subs, no_subs)

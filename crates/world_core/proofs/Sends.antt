@@ -37,4 +37,3 @@ pub other_passed : (t v p k : ℕ) (x : Sub) (xs : List Sub) (sent all : List Ou
 other_passed t v p k x xs sent all lt is test h =
     ap (λ (ys : List Outgoing). sent ++ ys) (sym (ap (sub_letters t v p k) (next_of k x xs lt is) ∙ open_false t v p k x (drop (k + 1) xs) test))
     ∙ h
-

@@ -111,7 +111,7 @@ some_is x y is = cc
 pub found_in : (s : ScriptData) (w : WorldData) (k : ℕ) (l : Letter) → IsWorldOf s w → slice_get w.bag k ≡ Some l → Found (waiting s (reverse w.history)) k l
 found_in s w k l world at =
     found_at (waiting s (reverse w.history)) k l (unique s (reverse w.history) l.id world.run)
-      (subst (λ (ls : List Letter). slice_get ls k ≡ Some l) world.bag at)
+    (subst (λ (ls : List Letter). slice_get ls k ≡ Some l) world.bag at)
 
 pub below : (s : ScriptData) (w : WorldData) (k : ℕ) (l : Letter) → IsWorldOf s w → Sound s → slice_get w.bag k ≡ Some l → l.to.0 < s.nodes + 2
 below s w k l world sound at = addressed s (reverse w.history) l sound world.run (found_in s w k l world at).found
@@ -121,11 +121,11 @@ may_follow : (s : ScriptData) (w : WorldData) (k : ℕ) (l : Letter) (sent : Lis
     → sent ≡ (actor_row s l (actor_in s (reverse w.history) l.to.0)).sent → acts ≡ (actor_row s l (actor_in s (reverse w.history) l.to.0)).acts
     → MayFollow s (reverse w.history) (entry_of (length w.history + 1) l sent acts)
 may_follow s w k l sent acts world sound at a b = record {
-    stamp = omega (arith, length-reverse w.history);
-    waits = (found_in s w k l world at).found;
-    addressee = refl;
-    moves = moves_by s (reverse w.history) l (length w.history + 1) sent acts (nat_lt l.to.0 s.nodes) (l.to.0 == s.nodes) refl refl (below s w k l world sound at) a b;
-  }
+  stamp = omega (arith, length-reverse w.history);
+  waits = (found_in s w k l world at).found;
+  addressee = refl;
+  moves = moves_by s (reverse w.history) l (length w.history + 1) sent acts (nat_lt l.to.0 s.nodes) (l.to.0 == s.nodes) refl refl (below s w k l world sound at) a b;
+}
 
 actors_next : (s : ScriptData) (past : List Entry) (l : Letter) (stamp : ℕ) (sent : List Outgoing) (acts : List Act) (old : List ActorState) (a : ℕ)
     → length old ≡ s.nodes + 2 → l.to.0 < s.nodes + 2 → a < s.nodes + 2 → slice_get old a ≡ Some (actor_in s past a) → (b : Bool) → (l.to.0 == a) ≡ b
@@ -133,8 +133,8 @@ actors_next : (s : ScriptData) (past : List Entry) (l : Letter) (stamp : ℕ) (s
 actors_next s past l stamp sent acts old a count to lt at true is =
     let eq : l.to.0 ≡ a = grind (arith, nat_tests) in
     subst (λ (n : ℕ). slice_get (slice_set old l.to.0 (actor_row s l (actor_in s past l.to.0)).state) n ≡ Some (actor_in s (entry_of stamp l sent acts ∷ past) n)) eq
-      (get_set_same old l.to.0 (actor_row s l (actor_in s past l.to.0)).state (omega arith)
-      ∙ ap (λ (x : ActorState). Some x) (state_by s past l stamp sent acts (nat_lt l.to.0 s.nodes) (l.to.0 == s.nodes) refl refl to))
+    (get_set_same old l.to.0 (actor_row s l (actor_in s past l.to.0)).state (omega arith)
+    ∙ ap (λ (x : ActorState). Some x) (state_by s past l stamp sent acts (nat_lt l.to.0 s.nodes) (l.to.0 == s.nodes) refl refl to))
 actors_next s past l stamp sent acts old a count to lt at false is =
     let ne : l.to.0 ≢ a = grind (arith, nat_tests) in
     get_set_other old l.to.0 a (actor_row s l (actor_in s past l.to.0)).state ne ∙ at
