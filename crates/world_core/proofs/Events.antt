@@ -1,20 +1,17 @@
 -- One event over the parts of a world, from what its calls say.
-use Rattle.std.proofs.Common.{◌≡◌, ℕ, suc, zero, ◌+◌, ◌-◌, ◌<◌, ◌≤◌, List, [], ◌∷◌, ◌++◌, length, reverse, Option, Some, None, refl, sym, ap, ◌∙◌, subst, arith}
+use Rattle.std.proofs.Common.{◌≡◌, ℕ, ◌+◌, ◌-◌, ◌<◌, ◌≤◌, List, [], ◌∷◌, ◌++◌, length, reverse, Option, Some, None, refl, sym, ap, ◌∙◌, subst, arith}
 use Rattle.std.specs.Prelude.{slice_get, slice_set, IfSome}
 use Rattle.std.specs.List.{remove}
 use Rattle.std.proofs.lemmas.List.{length-append}
 use Rattle.tv_base.specs.declared.numbers.Stamp.{Stamp}
-use Rattle.letter_types.specs.declared.acts.Act.{Act}
 use Rattle.letter_types.specs.declared.entries.Letter.{Letter}
 use Rattle.letter_types.specs.declared.entries.Outgoing.{Outgoing}
 use Rattle.letter_types.specs.declared.entries.StepOut.{StepOut}
 use Rattle.letter_types.specs.declared.entries.Entry.{Entry}
 use Rattle.letter_types.specs.Letters.{sealed}
 use Rattle.tx_trees.specs.ScriptData.{ScriptData}
-use Rattle.tx_trees.specs.Valid.{IsValid}
 use Rattle.tree_laws.proofs.Scripts.{Sound}
-use Rattle.world_core.specs.declared.actor.ActorState.{ActorState}
-use Rattle.world_core.specs.Actors.{WorldData, IsWorldOf, IsAddressed, TookLetter, actor_row, actor_in, world_of}
+use Rattle.world_core.specs.Actors.{WorldData, IsWorldOf, IsAddressed, TookLetter, actor_row, actor_in}
 use Rattle.world_core.proofs.Few.{few_sent}
 use Rattle.world_core.proofs.Worlds.{asks, below, entry_of, next_world}
 

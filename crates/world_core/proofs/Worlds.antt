@@ -1,32 +1,26 @@
 -- A step of an actor makes the next world.
-use Rattle.std.proofs.Common.{◌≡◌, ◌≢◌, ◌⊎◌, inl, inr, ℕ, suc, zero, ◌+◌, ◌<◌, ◌≤◌, ◌==◌, ◌&&◌, Bool, true, false, List, [], ◌∷◌, ◌++◌, length, reverse, Option, Some, None, refl, sym, ap, ◌∙◌, subst, arith}
-use Rattle.std.specs.Prelude.{if◌then◌else◌, nat_lt, slice_get, slice_set}
+use Rattle.std.proofs.Common.{◌≡◌, ◌≢◌, ℕ, suc, zero, ◌+◌, ◌<◌, ◌==◌, Bool, true, false, List, [], ◌∷◌, ◌++◌, length, reverse, Some, refl, sym, ap, ◌∙◌, subst, arith}
+use Rattle.std.specs.Prelude.{nat_lt, slice_get, slice_set}
 use Rattle.std.specs.List.{remove}
 use Rattle.std.proofs.lemmas.Bool.Decides.{nat_tests}
 use Rattle.std.proofs.lemmas.List.{length-reverse, reverse-append}
-use Rattle.std.proofs.lemmas.Option.{slice_get_within}
 use Rattle.std.proofs.Math.ListN.{length-set}
-use Rattle.tv_base.specs.declared.numbers.ActorNo.{ActorNo}
 use Rattle.letter_types.specs.declared.acts.Act.{Act}
 use Rattle.letter_types.specs.declared.bodies.Body.{Body}
 use Rattle.letter_types.specs.declared.bodies.Body.TheVariants.{Go, Root, Sub as SubLetter}
 use Rattle.letter_types.specs.declared.entries.Letter.{Letter}
 use Rattle.letter_types.specs.declared.entries.Outgoing.{Outgoing}
 use Rattle.letter_types.specs.declared.entries.Entry.{Entry}
-use Rattle.letter_types.specs.Letters.{find_id, drop_id, letters_of, sealed}
-use Rattle.tx_trees.specs.ScriptData.{ScriptData, node_of, home_of, sub_at, subs_at}
-use Rattle.tx_trees.specs.Valid.{IsValid}
-use Rattle.world_model.specs.Counts.{Each}
-use Rattle.world_model.specs.Tables.{Out, Runnable}
-use Rattle.world_model.specs.Runs.{StepRun, MayFollow, Moves, AtNode, AtCoordinator, AtClient, Says, waiting, node_in, client_in, node_table, client_table, client_of}
-use Rattle.world_model.proofs.Bridge.{reverse_more}
+use Rattle.letter_types.specs.Letters.{find_id, sealed}
+use Rattle.tx_trees.specs.ScriptData.{ScriptData, node_of}
+use Rattle.world_model.specs.Runs.{StepRun, MayFollow, Moves, AtNode, AtCoordinator, AtClient, waiting, client_of}
 use Rattle.world_model.proofs.Every.{each_found}
 use Rattle.world_model.proofs.Gone.{unique}
 use Rattle.tree_laws.proofs.Fits.{Fit}
 use Rattle.tree_laws.proofs.Scripts.{Sound, SubAt, is_sub, sub_there, node_here, has_root}
 use Rattle.tree_laws.proofs.Goods.{good_run}
 use Rattle.world_core.specs.declared.actor.ActorState.{ActorState}
-use Rattle.world_core.specs.Actors.{WorldData, IsWorldOf, IsAddressed, actor_row, actor_in, actors_from}
+use Rattle.world_core.specs.Actors.{WorldData, IsWorldOf, IsAddressed, actor_row, actor_in}
 use Rattle.world_core.proofs.Bag.{Found, found_at}
 
 -- the entry that a step makes
