@@ -8,3 +8,6 @@ mod entries;
 pub use acts::{Act, Acts};
 pub use bodies::{Answer, Body, Notice, Row, Values};
 pub use entries::{Entry, History, Letter, LetterId, Letters, Outgoing, Step, StepOut};
+
+#[cfg(test)]
+mod tests;

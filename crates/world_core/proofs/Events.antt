@@ -1,20 +1,17 @@
 -- One event over the parts of a world, from what its calls say.
-use Rattle.std.proofs.Common.{◌≡◌, ℕ, suc, zero, ◌+◌, ◌-◌, ◌<◌, ◌≤◌, List, [], ◌∷◌, ◌++◌, length, reverse, Option, Some, None, refl, sym, ap, ◌∙◌, subst, arith}
+use Rattle.std.proofs.Common.{◌≡◌, ℕ, ◌+◌, ◌-◌, ◌<◌, ◌≤◌, List, [], ◌∷◌, ◌++◌, length, reverse, Option, Some, None, refl, sym, ap, ◌∙◌, subst, arith}
 use Rattle.std.specs.Prelude.{slice_get, slice_set, IfSome}
 use Rattle.std.specs.List.{remove}
 use Rattle.std.proofs.lemmas.List.{length-append}
 use Rattle.tv_base.specs.declared.numbers.Stamp.{Stamp}
-use Rattle.letter_types.specs.declared.acts.Act.{Act}
 use Rattle.letter_types.specs.declared.entries.Letter.{Letter}
 use Rattle.letter_types.specs.declared.entries.Outgoing.{Outgoing}
 use Rattle.letter_types.specs.declared.entries.StepOut.{StepOut}
 use Rattle.letter_types.specs.declared.entries.Entry.{Entry}
 use Rattle.letter_types.specs.Letters.{sealed}
 use Rattle.tx_trees.specs.ScriptData.{ScriptData}
-use Rattle.tx_trees.specs.Valid.{IsValid}
 use Rattle.tree_laws.proofs.Scripts.{Sound}
-use Rattle.world_core.specs.declared.actor.ActorState.{ActorState}
-use Rattle.world_core.specs.Actors.{WorldData, IsWorldOf, IsAddressed, TookLetter, actor_row, actor_in, world_of}
+use Rattle.world_core.specs.Actors.{WorldData, IsWorldOf, IsAddressed, TookLetter, actor_row, actor_in}
 use Rattle.world_core.proofs.Few.{few_sent}
 use Rattle.world_core.proofs.Worlds.{asks, below, entry_of, next_world}
 
@@ -81,14 +78,14 @@ event_world s w k l given kept stamp x next world sound e =
     let at : slice_get w.actors l.to.0 ≡ Some st = state_of s w k l world sound e.letter in
     let bag : next.bag ≡ remove w.bag k ++ sealed stamp.0 l.to.0 0 given.sent = if_some (λ m. next.bag ≡ remove w.bag k ++ sealed stamp.0 m.to.0 0 given.sent) (slice_get w.bag k) l e.letter e.bag in
     let made : IsWorldOf s (record { actors = next.actors; bag = next.bag; history = w.history ++ entry_of (length w.history + 1) l given.sent given.acts ∷ [] }) =
-      next_world s w k l st given.sent given.acts next.actors next.bag world sound (record {
-        letter = e.letter;
-        state = at;
-        actors = if_some (λ y. next.actors ≡ slice_set w.actors l.to.0 (actor_row s l y).state) (slice_get w.actors l.to.0) st at e.actors;
-        sent = if_some (λ y. given.sent ≡ (actor_row s l y).sent) (slice_get w.actors l.to.0) st at e.sent;
-        acts = if_some (λ y. given.acts ≡ (actor_row s l y).acts) (slice_get w.actors l.to.0) st at e.acts;
-        bag = bag ∙ ap (λ (n : ℕ). remove w.bag k ++ sealed n l.to.0 0 given.sent) e.stamp_is;
-      }) in
+    next_world s w k l st given.sent given.acts next.actors next.bag world sound (record {
+      letter = e.letter;
+      state = at;
+      actors = if_some (λ y. next.actors ≡ slice_set w.actors l.to.0 (actor_row s l y).state) (slice_get w.actors l.to.0) st at e.actors;
+      sent = if_some (λ y. given.sent ≡ (actor_row s l y).sent) (slice_get w.actors l.to.0) st at e.sent;
+      acts = if_some (λ y. given.acts ≡ (actor_row s l y).acts) (slice_get w.actors l.to.0) st at e.acts;
+      bag = bag ∙ ap (λ (n : ℕ). remove w.bag k ++ sealed n l.to.0 0 given.sent) e.stamp_is;
+    }) in
     subst (λ (h : List Entry). IsWorldOf s (record { actors = next.actors; bag = next.bag; history = h })) (sym (history_is s w k l given kept stamp x next e)) made
 
 pub event_took : (s : ScriptData) (w : WorldData) (k : ℕ) (l : Letter) (given kept : StepOut) (stamp : Stamp) (x : Entry) (next : WorldData)

@@ -4,7 +4,6 @@ use Rattle.std.specs.Prelude.{if◌then◌else◌, nat_lt}
 use Rattle.letter_types.specs.declared.bodies.Body.{Body}
 use Rattle.letter_types.specs.declared.bodies.Body.TheVariants.{Go, Root, Sub as SubLetter}
 use Rattle.letter_types.specs.declared.entries.Letter.{Letter}
-use Rattle.letter_types.specs.declared.entries.Outgoing.{Outgoing}
 use Rattle.item_versions.specs.Table.{Table}
 use Rattle.tx_trees.specs.ScriptData.{ScriptData, subs_at, node_of, home_of, ops_of, updates}
 use Rattle.tx_trees.specs.Valid.{IsValid}

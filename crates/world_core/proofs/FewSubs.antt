@@ -2,9 +2,7 @@
 use Rattle.std.proofs.Common.{◌≡◌, ℕ, ◌≤◌, List, [], ◌∷◌, length, Option, Some, None, zero, suc, refl, subst, arith}
 use Rattle.std.specs.Prelude.{slice_get}
 use Rattle.std.specs.List.{AllByRecursion}
-use Rattle.tx_trees.specs.declared.parts.ItemRow.{ItemRow}
 use Rattle.tx_trees.specs.declared.parts.Tree.{Tree}
-use Rattle.tx_trees.specs.declared.parts.Sub.{Sub}
 use Rattle.tx_trees.specs.ScriptData.{ScriptData, subs_at}
 use Rattle.tx_trees.specs.Valid.{IsValid, IsTree}
 
@@ -26,4 +24,5 @@ found_subs s t tree at = rw (at, subs_at) refl
 
 pub no_subs : (s : ScriptData) (t : ℕ) → slice_get s.trees t ≡ None → subs_at s t ≡ []
 no_subs s t at = rw (at, subs_at) refl
+
 pub ruleset look_ups = (few_subs, found_subs, no_subs)

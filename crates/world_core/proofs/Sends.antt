@@ -1,7 +1,6 @@
 -- One turn of the loop over a tree's subtransactions.
-use Rattle.std.proofs.Common.{◌≡◌, ℕ, ◌+◌, ◌<◌, ◌==◌, ◌&&◌, Bool, true, false, List, [], ◌∷◌, ◌++◌, length, drop, refl, sym, ap, ◌∙◌, append_assoc, arith}
+use Rattle.std.proofs.Common.{◌≡◌, ℕ, ◌+◌, ◌<◌, ◌==◌, ◌&&◌, true, false, List, [], ◌∷◌, ◌++◌, length, drop, refl, sym, ap, ◌∙◌, append_assoc, arith}
 use Rattle.std.specs.Prelude.{nat_lt, slice_index_or}
-use Rattle.std.proofs.lemmas.Bool.Decides.{nat_tests}
 use Rattle.std.proofs.lemmas.Grind.{common_steps}
 use Rattle.tx_trees.specs.declared.parts.Sub.{Sub}
 use Rattle.letter_types.specs.declared.bodies.Body.TheVariants.{Sub as SubLetter}
@@ -37,4 +36,3 @@ pub other_passed : (t v p k : ℕ) (x : Sub) (xs : List Sub) (sent all : List Ou
 other_passed t v p k x xs sent all lt is test h =
     ap (λ (ys : List Outgoing). sent ++ ys) (sym (ap (sub_letters t v p k) (next_of k x xs lt is) ∙ open_false t v p k x (drop (k + 1) xs) test))
     ∙ h
-

@@ -1,32 +1,26 @@
 -- A step of an actor makes the next world.
-use Rattle.std.proofs.Common.{◌≡◌, ◌≢◌, ◌⊎◌, inl, inr, ℕ, suc, zero, ◌+◌, ◌<◌, ◌≤◌, ◌==◌, ◌&&◌, Bool, true, false, List, [], ◌∷◌, ◌++◌, length, reverse, Option, Some, None, refl, sym, ap, ◌∙◌, subst, arith}
-use Rattle.std.specs.Prelude.{if◌then◌else◌, nat_lt, slice_get, slice_set}
+use Rattle.std.proofs.Common.{◌≡◌, ◌≢◌, ℕ, suc, zero, ◌+◌, ◌<◌, ◌==◌, Bool, true, false, List, [], ◌∷◌, ◌++◌, length, reverse, Some, refl, sym, ap, ◌∙◌, subst, arith}
+use Rattle.std.specs.Prelude.{nat_lt, slice_get, slice_set}
 use Rattle.std.specs.List.{remove}
 use Rattle.std.proofs.lemmas.Bool.Decides.{nat_tests}
 use Rattle.std.proofs.lemmas.List.{length-reverse, reverse-append}
-use Rattle.std.proofs.lemmas.Option.{slice_get_within}
 use Rattle.std.proofs.Math.ListN.{length-set}
-use Rattle.tv_base.specs.declared.numbers.ActorNo.{ActorNo}
 use Rattle.letter_types.specs.declared.acts.Act.{Act}
 use Rattle.letter_types.specs.declared.bodies.Body.{Body}
 use Rattle.letter_types.specs.declared.bodies.Body.TheVariants.{Go, Root, Sub as SubLetter}
 use Rattle.letter_types.specs.declared.entries.Letter.{Letter}
 use Rattle.letter_types.specs.declared.entries.Outgoing.{Outgoing}
 use Rattle.letter_types.specs.declared.entries.Entry.{Entry}
-use Rattle.letter_types.specs.Letters.{find_id, drop_id, letters_of, sealed}
-use Rattle.tx_trees.specs.ScriptData.{ScriptData, node_of, home_of, sub_at, subs_at}
-use Rattle.tx_trees.specs.Valid.{IsValid}
-use Rattle.world_model.specs.Counts.{Each}
-use Rattle.world_model.specs.Tables.{Out, Runnable}
-use Rattle.world_model.specs.Runs.{StepRun, MayFollow, Moves, AtNode, AtCoordinator, AtClient, Says, waiting, node_in, client_in, node_table, client_table, client_of}
-use Rattle.world_model.proofs.Bridge.{reverse_more}
+use Rattle.letter_types.specs.Letters.{find_id, sealed}
+use Rattle.tx_trees.specs.ScriptData.{ScriptData, node_of}
+use Rattle.world_model.specs.Runs.{StepRun, MayFollow, Moves, AtNode, AtCoordinator, AtClient, waiting, client_of}
 use Rattle.world_model.proofs.Every.{each_found}
 use Rattle.world_model.proofs.Gone.{unique}
 use Rattle.tree_laws.proofs.Fits.{Fit}
 use Rattle.tree_laws.proofs.Scripts.{Sound, SubAt, is_sub, sub_there, node_here, has_root}
 use Rattle.tree_laws.proofs.Goods.{good_run}
 use Rattle.world_core.specs.declared.actor.ActorState.{ActorState}
-use Rattle.world_core.specs.Actors.{WorldData, IsWorldOf, IsAddressed, actor_row, actor_in, actors_from}
+use Rattle.world_core.specs.Actors.{WorldData, IsWorldOf, IsAddressed, actor_row, actor_in}
 use Rattle.world_core.proofs.Bag.{Found, found_at}
 
 -- the entry that a step makes
@@ -111,7 +105,7 @@ some_is x y is = cc
 pub found_in : (s : ScriptData) (w : WorldData) (k : ℕ) (l : Letter) → IsWorldOf s w → slice_get w.bag k ≡ Some l → Found (waiting s (reverse w.history)) k l
 found_in s w k l world at =
     found_at (waiting s (reverse w.history)) k l (unique s (reverse w.history) l.id world.run)
-      (subst (λ (ls : List Letter). slice_get ls k ≡ Some l) world.bag at)
+    (subst (λ (ls : List Letter). slice_get ls k ≡ Some l) world.bag at)
 
 pub below : (s : ScriptData) (w : WorldData) (k : ℕ) (l : Letter) → IsWorldOf s w → Sound s → slice_get w.bag k ≡ Some l → l.to.0 < s.nodes + 2
 below s w k l world sound at = addressed s (reverse w.history) l sound world.run (found_in s w k l world at).found
@@ -121,11 +115,11 @@ may_follow : (s : ScriptData) (w : WorldData) (k : ℕ) (l : Letter) (sent : Lis
     → sent ≡ (actor_row s l (actor_in s (reverse w.history) l.to.0)).sent → acts ≡ (actor_row s l (actor_in s (reverse w.history) l.to.0)).acts
     → MayFollow s (reverse w.history) (entry_of (length w.history + 1) l sent acts)
 may_follow s w k l sent acts world sound at a b = record {
-    stamp = omega (arith, length-reverse w.history);
-    waits = (found_in s w k l world at).found;
-    addressee = refl;
-    moves = moves_by s (reverse w.history) l (length w.history + 1) sent acts (nat_lt l.to.0 s.nodes) (l.to.0 == s.nodes) refl refl (below s w k l world sound at) a b;
-  }
+  stamp = omega (arith, length-reverse w.history);
+  waits = (found_in s w k l world at).found;
+  addressee = refl;
+  moves = moves_by s (reverse w.history) l (length w.history + 1) sent acts (nat_lt l.to.0 s.nodes) (l.to.0 == s.nodes) refl refl (below s w k l world sound at) a b;
+}
 
 actors_next : (s : ScriptData) (past : List Entry) (l : Letter) (stamp : ℕ) (sent : List Outgoing) (acts : List Act) (old : List ActorState) (a : ℕ)
     → length old ≡ s.nodes + 2 → l.to.0 < s.nodes + 2 → a < s.nodes + 2 → slice_get old a ≡ Some (actor_in s past a) → (b : Bool) → (l.to.0 == a) ≡ b
@@ -133,8 +127,8 @@ actors_next : (s : ScriptData) (past : List Entry) (l : Letter) (stamp : ℕ) (s
 actors_next s past l stamp sent acts old a count to lt at true is =
     let eq : l.to.0 ≡ a = grind (arith, nat_tests) in
     subst (λ (n : ℕ). slice_get (slice_set old l.to.0 (actor_row s l (actor_in s past l.to.0)).state) n ≡ Some (actor_in s (entry_of stamp l sent acts ∷ past) n)) eq
-      (get_set_same old l.to.0 (actor_row s l (actor_in s past l.to.0)).state (omega arith)
-      ∙ ap (λ (x : ActorState). Some x) (state_by s past l stamp sent acts (nat_lt l.to.0 s.nodes) (l.to.0 == s.nodes) refl refl to))
+    (get_set_same old l.to.0 (actor_row s l (actor_in s past l.to.0)).state (omega arith)
+    ∙ ap (λ (x : ActorState). Some x) (state_by s past l stamp sent acts (nat_lt l.to.0 s.nodes) (l.to.0 == s.nodes) refl refl to))
 actors_next s past l stamp sent acts old a count to lt at false is =
     let ne : l.to.0 ≢ a = grind (arith, nat_tests) in
     get_set_other old l.to.0 a (actor_row s l (actor_in s past l.to.0)).state ne ∙ at

@@ -1,11 +1,10 @@
 -- The actors' tables as one, and what a world keeps.
-use Rattle.std.specs.Prelude.{if◌then◌else◌, ℕ, zero, suc, ◌==◌, ◌+◌, ◌<◌, ◌≡◌, nat_lt, List, [], ◌∷◌, ◌++◌, length, reverse, Option, Some, slice_get}
+use Rattle.std.specs.Prelude.{if◌then◌else◌, ℕ, zero, suc, ◌==◌, ◌+◌, ◌<◌, ◌≡◌, nat_lt, List, [], ◌∷◌, ◌++◌, length, reverse, Some, slice_get}
 use Rattle.letter_types.specs.declared.entries.Letter.{Letter}
 use Rattle.letter_types.specs.declared.entries.Entry.{Entry}
 use Rattle.tx_trees.specs.ScriptData.{ScriptData}
-use Rattle.world_model.specs.Tables.{Out, Node as NodeData, Client as ClientData, still, start_node, start_client}
-use Rattle.world_model.specs.Runs.{StepRun, waiting, node_in, client_in, node_table, client_table, client_of}
-use Rattle.world_core.specs.declared.actor.Coordinator.{Coordinator as CoordinatorState}
+use Rattle.world_model.specs.Tables.{Out, Node as NodeData, Client as ClientData, still}
+use Rattle.world_model.specs.Runs.{StepRun, waiting, node_in, client_in, node_table, client_table}
 use Rattle.world_core.specs.declared.actor.Coordinator.TheVariants as coordinators
 use Rattle.world_core.specs.declared.actor.ActorState.{ActorState}
 use Rattle.world_core.specs.declared.actor.ActorState.TheVariants.{Node, Coordinator, Client}

@@ -1,5 +1,5 @@
 -- The parts of a node's step, by what its operations make of the items: nothing where they may not be applied.
-use Rattle.std.specs.Prelude.{if◌then◌else◌, ℕ, nat_lt, List, [], ◌∷◌, ◌++◌, Option, Some, None}
+use Rattle.std.specs.Prelude.{ℕ, nat_lt, List, [], ◌∷◌, ◌++◌, Option, Some, None}
 use Rattle.item_versions.specs.Table.{Table}
 use Rattle.node_versions.specs.declared.turns.Turns.{Turns}
 use Rattle.node_versions.specs.Turns.{raised}

@@ -60,7 +60,13 @@ pub fn actor_step(
     ensures err { OnErr result (state.new ≡ state.old) }
 {
     match state {
-        ActorState::Node(node) => node.step(alloc, script, NodeNo(letter.to.0), letter.from, &letter.body),
+        ActorState::Node(node) => node.step(
+            alloc,
+            script,
+            NodeNo(letter.to.0),
+            letter.from,
+            &letter.body,
+        ),
         ActorState::Coordinator(_) => Ok(letters::still(alloc)),
         ActorState::Client(client) => client.step(alloc, script, &letter.body),
     }

@@ -3,8 +3,7 @@ ghost use Rattle.std.specs.Prelude.{◌≡◌, ◌≤◌, ◌^◌, ◌<◌, [], 
 ghost use Rattle.world_model.specs.Tables.{client_row, roots_of, start_client};
 ghost use Rattle.world_core.specs.Parts.{made};
 
-use crate::letters;
-use crate::lookups;
+use crate::{letters, lookups};
 use letter_types::{Acts, Body, Letters, Outgoing, Step, StepOut};
 use std::alloc::Global;
 use std::marker::Model;

@@ -12,3 +12,6 @@ pub use actor::{ActorState, Coordinator, actor_step};
 pub use client::Client;
 pub use node::NodeState;
 pub use world::World;
+
+#[cfg(test)]
+mod tests;

@@ -8,8 +8,7 @@ ghost use Rattle.world_model.specs.Tables.{touched_by, items_at, node_row, start
 ghost use Rattle.item_versions.specs.Table.{pending};
 ghost use Rattle.world_core.specs.Parts.{made, items_after, sent_after, root_acts, turns_after, sub_acts};
 
-use crate::letters;
-use crate::lookups;
+use crate::{letters, lookups};
 use commute_ops::{Kind, Value};
 use item_versions::{ItemTable, Staged};
 use letter_types::{Body, Step};
@@ -43,7 +42,12 @@ fn first_value(alloc: Global, row: &ItemRow) -> Value
 }
 
 /// The table with the items of a node, each in version 0 with its initial value.
-fn items_at(alloc: Global, node: NodeNo, nodes: u8, items: &[ItemRow]) -> Result<ItemTable, NoMemory>
+fn items_at(
+    alloc: Global,
+    node: NodeNo,
+    nodes: u8,
+    items: &[ItemRow],
+) -> Result<ItemTable, NoMemory>
     requires few { length items.now < 2 ^ 32 }
     requires valid { AllByRecursion (IsItem nodes) items.now }
     ensures { IfOk result (λ table. table ≡ items_at node.0 0 items.now) }

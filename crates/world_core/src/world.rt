@@ -118,13 +118,7 @@ fn take(bag: &mut VecDeque<Letter>, k: usize) -> Letter
 }
 
 /// Takes letter `k` out of the bag, sends what the step sent, and puts the entry in the last place of the history.
-fn finish(
-    bag: &mut VecDeque<Letter>,
-    history: &mut History,
-    stamp: Stamp,
-    k: usize,
-    step: Step,
-)
+fn finish(bag: &mut VecDeque<Letter>, history: &mut History, stamp: Stamp, k: usize, step: Step)
     requires waits { k < deque_len bag.old }
     requires room { deque_len bag.old + length step.given.sent ≤ deque_capacity bag.old }
     requires place { 0 < length history.old }
@@ -246,7 +240,14 @@ impl World {
         ensures stamp { IfOk result (λ stamp. stamp.0 ≡ length self.new.history) }
         ensures err { OnErr result (self.new ≡ self.old) }
     {
-        advance(self.alloc, script, &mut self.actors, &mut self.bag, &mut self.history, k)
+        advance(
+            self.alloc,
+            script,
+            &mut self.actors,
+            &mut self.bag,
+            &mut self.history,
+            k,
+        )
     }
 
     /// The history so far. It has at most 2^40 entries.

@@ -1,5 +1,4 @@
 use Rattle.std.proofs.Common.{◌≡◌, ◌∙◌, sym, ap, subst, ◌+◌, ◌++◌, ◌∷◌, []}
-use Rattle.tv_base.specs.declared.numbers.Version.{Version}
 use Rattle.commute_ops.specs.declared.value.Value.{Value}
 use Rattle.item_versions.specs.Table.{Table, IsAfter}
 use Rattle.world_core.proofs.Items.{first_entry, item_here, item_elsewhere, after_more, after_pushed}
@@ -8,19 +7,20 @@ use Rattle.world_core.proofs.node.items_at.Goals.{then-eq+in_ok-add, else-eq}
 
 pub loop-x-preserved : goal.loop-x-preserved
 loop-x-preserved c = elim c.if-eq.branch [
-    then-eq+in_ok-add w ↦
+  | then-eq+in_ok-add w ↦
       let row = c.index-items-x.result in
       let new : c.if-eq.table ≡ c.loop-x.table ++ first_entry c.loop-x.x row ∷ [] =
-        w.table-is ∙ w.in_ok-add.ensures.ok ∙ ap (λ (v : Value). c.loop-x.table ++ (record { 0 = c.loop-x.x }, (record { 0 = 0 }, v) ∷ []) ∷ []) w.first_value.ensures in
+      w.table-is ∙ w.in_ok-add.ensures.ok ∙ ap (λ (v : Value). c.loop-x.table ++ (record { 0 = c.loop-x.x }, (record { 0 = 0 }, v) ∷ []) ∷ []) w.first_value.ensures in
       record {
         so_far = item_here _ _ row c.args.items.now c.loop-x.table c.if-eq.table _ c.loop-x-test.true c.index-items-x.is
-          (sym c.eq.ensures ∙ w.if-eq.true) new c.loop-x.invariant.so_far;
+            (sym c.eq.ensures ∙ w.if-eq.true) new c.loop-x.invariant.so_far;
         after = subst (λ (t : Table). IsAfter (record { 0 = c.loop-x.x + 1 }) t) (sym new) (after_pushed c.loop-x.x _ c.loop-x.table c.loop-x.invariant.after);
       }
   | else-eq w ↦
       let kept : c.if-eq.table ≡ c.loop-x.table = w.table-is in
       record {
         so_far = rw kept (item_elsewhere _ _ c.index-items-x.result c.args.items.now c.loop-x.table _ c.loop-x-test.true c.index-items-x.is
-          (sym c.eq.ensures ∙ w.if-eq.false) c.loop-x.invariant.so_far);
+            (sym c.eq.ensures ∙ w.if-eq.false) c.loop-x.invariant.so_far);
         after = subst (λ (t : Table). IsAfter (record { 0 = c.loop-x.x + 1 }) t) (sym kept) (after_more c.loop-x.x c.loop-x.table c.loop-x.invariant.after);
-      } ]
+      }
+]

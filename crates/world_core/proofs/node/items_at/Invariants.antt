@@ -1,4 +1,4 @@
-use Rattle.std.proofs.Common.{◌≡◌, ◌++◌, ◌≤◌, ◌<◌, drop}
+use Rattle.std.proofs.Common.{◌≡◌, ◌++◌, drop}
 use Rattle.item_versions.specs.Table.{IsAfter}
 use Rattle.world_model.specs.Tables.{items_at}
 use Rattle.world_core.proofs.node.items_at.Given as goal

@@ -6,5 +6,5 @@ use Rattle.world_core.proofs.world.World.start.Goals as goal
 
 pub returns-clause-world : goal.returns-clause-world
 returns-clause-world c =
-  let bag : c.push_back.new.self.items ≡ go (client_of c.args.script.now) ∷ [] = grind (arith, c.in_ok-push_back.ensures.items, c.new-bag.ensures.items, c.go.ensures, c.nodes.ensures.nodes) in
-  first_world _ _ c.in_ok-actors.ensures bag c.new.ensures
+    let bag : c.push_back.new.self.items ≡ go (client_of c.args.script.now) ∷ [] = grind (arith, c.in_ok-push_back.ensures.items, c.new-bag.ensures.items, c.go.ensures, c.nodes.ensures.nodes) in
+    first_world _ _ c.in_ok-actors.ensures bag c.new.ensures
