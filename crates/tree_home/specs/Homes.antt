@@ -37,10 +37,14 @@ place_of t (h ∷ hs) = if nat_lt h.tree.0 t.0 then place_of t hs + 1 else 0
 abbrev pub new_home : TreeNo → ℕ → Version → Home
 new_home t n v = record { tree = t; version = v; notices = replicate n None }
 
--- the homes with a new one, before those of greater numbers
+-- the homes with one more, before those of greater numbers
+abbrev pub with_home : Home → List Home → List Home
+with_home x [] = x ∷ []
+with_home x (h ∷ hs) = if nat_lt h.tree.0 x.tree.0 then h ∷ with_home x hs else x ∷ h ∷ hs
+
+-- the homes with that of a new tree
 abbrev pub begun : TreeNo → ℕ → Version → List Home → List Home
-begun t n v [] = new_home t n v ∷ []
-begun t n v (h ∷ hs) = if nat_lt h.tree.0 t.0 then h ∷ begun t n v hs else new_home t n v ∷ h ∷ hs
+begun t n v hs = with_home (new_home t n v) hs
 
 -- the home with one more notice
 abbrev pub with_notice : SubNo → Gets → Home → Home

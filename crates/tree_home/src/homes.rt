@@ -1,6 +1,6 @@
 ghost use Rattle.std.specs.Prelude.{◌≡◌, ◌++◌, ◌<◌, ◌≤◌, [], length, replicate, IfOk, IfErr, IsNone, IsSome, IsTrue, OnErr, OnOk, Some, None, slice_set, slice_get, ◌↔◌};
 ghost use Rattle.std.specs.Option.{option_copied, is_some};
-ghost use Rattle.tree_home.specs.Homes.{IsAscending, HavePlaces, home_in, place_of, begun, noted, forgotten, gathered, missing_count, missing_in, misses, is_missing, after_notice, answer_in, outcome};
+ghost use Rattle.tree_home.specs.Homes.{IsAscending, HavePlaces, home_in, place_of, with_home, begun, with_notice, noted, forgotten, gathered, missing_count, missing_in, misses, is_missing, after_notice, answer_in, outcome};
 
 use commute_ops::Value;
 use letter_types::Values;
@@ -80,6 +80,113 @@ impl Homes {
     {
         find(&self.homes, tree).is_some()
     }
+
+    /// Whether the tree is there, `sub` is one of its subtransactions, and the notice of `sub` is missing.
+    pub fn misses(&self, tree: TreeNo, sub: SubNo) -> bool
+        ensures { result ≡ misses tree sub self.now }
+    {
+        match find(&self.homes, tree) {
+            Some(home) => is_missing(home.notices.items(), sub),
+            None => false,
+        }
+    }
+
+    /// Adds a tree of `subs` subtransactions, whose notices are all missing. Where no memory is found the trees are
+    /// unchanged.
+    pub fn begin(&mut self, tree: TreeNo, subs: u32, version: Version) -> Result<(), NoMemory>
+        requires some { 0 < subs }
+        requires absent { home_in tree self.old ≡ None }
+        ensures ok { OnOk result (self.new ≡ begun tree subs version self.old) }
+        ensures err { OnErr result (self.new ≡ self.old) }
+    {
+        let alloc = *self.homes.allocator();
+        let notices = no_notices(alloc, subs)?;
+        let home = Home {
+            tree,
+            version,
+            notices,
+        };
+        insert(&mut self.homes, home)
+    }
+
+    /// Takes a tree away. The others stay. Wants no memory.
+    #[tactic(auto, using(crate::proofs::Changes::forgetting))]
+    pub fn forget(&mut self, tree: TreeNo)
+        requires { IsSome (home_in tree self.old) }
+        ensures { self.new ≡ forgotten tree self.old }
+    {
+        let place = place(&self.homes, tree);
+        self.homes.remove(place);
+    }
+
+    /// Takes the values of `sub` down as its notice, where another notice of the tree is missing too. Wants no
+    /// memory.
+    #[tactic(auto, using(crate::proofs::Changes::noting))]
+    pub fn put_notice(&mut self, tree: TreeNo, sub: SubNo, values: Values)
+        requires misses { IsTrue (misses tree sub self.old) }
+        requires another { 1 < missing_in tree self.old }
+        ensures { self.new ≡ noted tree sub values self.old }
+    {
+        put(&mut self.homes, tree, sub, values);
+    }
+}
+
+/// As many notices as the tree has subtransactions, all missing.
+#[tactic(auto, using(std::proofs::lemmas::Grind::replicate_next))]
+fn no_notices(alloc: Global, subs: u32) -> Result<Notices, NoMemory>
+    ensures { IfOk result (λ notices. notices ≡ replicate subs None) }
+{
+    let mut notices = Seq::new(alloc);
+    for _ in 0..subs {
+        notices.push(None)?;
+    }
+    Ok(notices)
+}
+
+/// Adds a home at its place. Where no memory is found the homes are unchanged.
+#[tactic(auto, using(crate::proofs::Changes::inserting))]
+fn insert(homes: &mut Vec<Home>, home: Home) -> Result<(), NoMemory>
+    requires ascending { IsAscending homes.old.items }
+    requires places { HavePlaces homes.old.items }
+    requires absent { home_in home.tree homes.old.items ≡ None }
+    requires some { 0 < length home.notices }
+    ensures ok { OnOk result (homes.new.items ≡ with_home home homes.old.items) }
+    ensures err { OnErr result (homes.new.items ≡ homes.old.items) }
+    ensures ascending { IsAscending homes.new.items }
+    ensures places { HavePlaces homes.new.items }
+{
+    let place = place(homes, home.tree);
+    homes.insert(place, home)?;
+    Ok(())
+}
+
+/// Whether there is a place for the notice of `sub`, and it is missing.
+fn is_missing(notices: &[Option<Values>], sub: SubNo) -> bool
+    ensures { result ≡ is_missing (slice_get notices.now sub.0) }
+{
+    match notices.get(sub.0 as usize) {
+        Some(notice) => notice.is_none(),
+        None => false,
+    }
+}
+
+/// Puts the values of `sub` at the place of its notice, at the home of its tree.
+#[tactic(auto, using(crate::proofs::Changes::noting))]
+fn put(homes: &mut Vec<Home>, tree: TreeNo, sub: SubNo, values: Values)
+    requires ascending { IsAscending homes.old.items }
+    requires misses { IsTrue (misses tree sub homes.old.items) }
+    ensures { homes.new.items ≡ noted tree sub values homes.old.items }
+{
+    let place = place(homes, tree);
+    put_at(&mut homes[place], sub, values);
+}
+
+/// Puts the values of `sub` at the place of its notice.
+fn put_at(home: &mut Home, sub: SubNo, values: Values)
+    requires { sub.0 < length home.old.notices }
+    ensures { home.new ≡ with_notice sub values home.old }
+{
+    home.notices.put(sub.0 as usize, Some(values));
 }
 
 /// How many homes, which ascend by number, are of trees below `tree`. Found by halving.
