@@ -50,11 +50,11 @@ set-place_of t s vs (h ∷ hs) x up some at =
     grind (arith, nat_tests, common_steps)
 
 -- what misses a notice is there, and has a place for it
-misses-some : (s : SubNo) (o : Option Home) → IsTrue (misses_of s o) → IsSome o
+pub misses-some : (s : SubNo) (o : Option Home) → IsTrue (misses_of s o) → IsSome o
 misses-some s None is = is
 misses-some s (Some h) is = refl
 
-misses-at : (s : SubNo) (o : Option Home) (h : Home) → IsTrue (misses_of s o) → o ≡ Some h → IsTrue (is_missing (slice_get h.notices s.0))
+pub misses-at : (s : SubNo) (o : Option Home) (h : Home) → IsTrue (misses_of s o) → o ≡ Some h → IsTrue (is_missing (slice_get h.notices s.0))
 misses-at s None h is eq = cc
 misses-at s (Some k) h is eq = let P : Option Home → Type 0 = λ o. IsTrue (misses_of s o) in subst P eq is
 

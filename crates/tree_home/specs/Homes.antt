@@ -1,5 +1,5 @@
 -- The notices of trees that have their home here.
-use Rattle.std.specs.Prelude.{ℕ, ◌+◌, ◌<◌, Bool, true, false, List, [], ◌∷◌, ◌++◌, ◌==◌, nat_lt, if◌then◌else◌, replicate, slice_set, slice_get, length, Option, Some, None}
+use Rattle.std.specs.Prelude.{ℕ, ◌+◌, ◌<◌, Bool, true, false, List, [], ◌∷◌, ◌++◌, ◌==◌, nat_lt, if◌then◌else◌, replicate, slice_set, slice_get, length, ⊤, Option, Some, None}
 use Rattle.std.specs.List.{All, AllPairs}
 use Rattle.tv_base.specs.declared.numbers.TreeNo.{TreeNo}
 use Rattle.tv_base.specs.declared.numbers.SubNo.{SubNo}
@@ -119,6 +119,11 @@ told k (Some a) = WasAnswered a
 -- what is told of one more notice: the tree's answer, or how many notices are still missing
 abbrev pub outcome : TreeNo → SubNo → Gets → List Home → Noted
 outcome t s vs hs = told (missing_in t (noted t s vs hs)) (answer_in t s vs hs)
+
+-- where notices are still missing, at least one is
+abbrev pub MissesSome : Noted → Type 0
+MissesSome (Missing k) = 0 < k
+MissesSome (WasAnswered a) = ⊤
 
 -- the homes after one more notice: a tree that is answered is gone
 abbrev pub after_notice : TreeNo → SubNo → Gets → List Home → Noted → List Home

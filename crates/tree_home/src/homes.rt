@@ -1,6 +1,6 @@
 ghost use Rattle.std.specs.Prelude.{◌≡◌, ◌++◌, ◌<◌, ◌≤◌, [], length, replicate, IfOk, IfErr, IsNone, IsSome, IsTrue, OnErr, OnOk, Some, None, slice_set, slice_get, ◌↔◌};
 ghost use Rattle.std.specs.Option.{option_copied, is_some};
-ghost use Rattle.tree_home.specs.Homes.{IsAscending, HavePlaces, home_in, place_of, with_home, begun, with_notice, noted, forgotten, gathered, missing_count, missing_in, misses, is_missing, after_notice, answer_in, outcome};
+ghost use Rattle.tree_home.specs.Homes.{IsAscending, HavePlaces, home_in, place_of, with_home, begun, with_notice, noted, forgotten, gathered, missing_count, missing_in, misses, is_missing, after_notice, answer_in, answer_of, outcome, MissesSome};
 
 use commute_ops::Value;
 use letter_types::Values;
@@ -107,6 +107,64 @@ impl Homes {
             notices,
         };
         insert(&mut self.homes, home)
+    }
+
+    /// Takes the values of `sub` down as its notice. Where that was the last that was missing, the tree is gone and
+    /// its answer is given. The other trees stay. Where no memory is found the trees are unchanged and the values
+    /// come back.
+    #[tactic(auto, using(crate::proofs::Gathered::telling))]
+    pub fn note(
+        &mut self,
+        tree: TreeNo,
+        sub: SubNo,
+        values: Values,
+    ) -> Result<Noted, (NoMemory, Values)>
+        requires { IsTrue (misses tree sub self.old) }
+        ensures noted { IfOk result (λ noted. noted ≡ outcome tree sub values self.old) }
+        ensures missing { IfOk result (λ noted. MissesSome noted) }
+        ensures homes { IfOk result (λ noted. self.new ≡ after_notice tree sub values self.old noted) }
+        ensures refused { IfErr result (λ e. e.1 ≡ values) }
+        ensures err { OnErr result (self.new ≡ self.old) }
+    {
+        match self.would_answer(tree, sub, &values) {
+            Err(e) => Err((e, values)),
+            Ok(None) => {
+                self.put_notice(tree, sub, values);
+                Ok(Noted::Missing(self.count_missing(tree)))
+            }
+            Ok(Some(answer)) => {
+                self.forget(tree);
+                Ok(Noted::Answered(answer))
+            }
+        }
+    }
+
+    /// The answer that `note` would give with these values. None exactly where another notice of the tree is missing
+    /// too.
+    #[tactic(auto, using(crate::proofs::Gathered::answering))]
+    pub fn would_answer(
+        &self,
+        tree: TreeNo,
+        sub: SubNo,
+        values: &Values,
+    ) -> Result<Option<Answered>, NoMemory>
+        requires { IsTrue (misses tree sub self.now) }
+        ensures answer { IfOk result (λ answer. answer ≡ answer_in tree sub values.now self.now) }
+        ensures none { IfOk result (λ answer. IsNone answer ↔ (1 < missing_in tree self.now)) }
+    {
+        let alloc = *self.homes.allocator();
+        let home = find(&self.homes, tree).unwrap();
+        answer(alloc, home, sub, values.items())
+    }
+
+    /// How many notices of the tree are missing; none where the tree isn't there.
+    fn count_missing(&self, tree: TreeNo) -> u32
+        ensures { result ≡ missing_in tree self.now }
+    {
+        match find(&self.homes, tree) {
+            Some(home) => count_missing(&home.notices),
+            None => 0,
+        }
     }
 
     /// Takes a tree away. The others stay. Wants no memory.
@@ -219,4 +277,78 @@ fn find(homes: &[Home], tree: TreeNo) -> Option<&Home>
         return Some(&homes[place]);
     }
     None
+}
+
+/// How many notices are missing.
+fn count_missing(notices: &Notices) -> u32
+    ensures { result ≡ missing_count notices.now }
+{
+    let items = notices.items();
+    let mut missing = 0;
+    for notice in items {
+        match notice {
+            None => missing += 1,
+            Some(_) => {}
+        }
+    }
+    missing
+}
+
+/// The answer of a home with the values of `sub`, or None where another notice is missing too.
+#[tactic(auto, using(crate::proofs::Gathered::completing))]
+fn answer(
+    alloc: Global,
+    home: &Home,
+    sub: SubNo,
+    values: &[(ItemNo, Value)],
+) -> Result<Option<Answered>, NoMemory>
+    requires { IsTrue (is_missing (slice_get home.now.notices sub.0)) }
+    ensures answer { IfOk result (λ answer. answer ≡ answer_of sub values.now (Some home.now)) }
+    ensures none { IfOk result (λ answer. IsNone answer ↔ (1 < missing_count home.now.notices)) }
+{
+    if 1 < count_missing(&home.notices) {
+        return Ok(None);
+    }
+    match gather(alloc, home.notices.items(), sub.0 as usize, values)? {
+        None => Ok(None),
+        Some(values) => Ok(Some(Answered {
+            tree: home.tree,
+            version: home.version,
+            values,
+        })),
+    }
+}
+
+/// All values by subtransaction, those of `sub` in their place, or None where another notice is missing.
+#[tactic(auto, using(crate::proofs::Gathered::gathering))]
+fn gather(
+    alloc: Global,
+    notices: &[Option<Values>],
+    sub: usize,
+    values: &[(ItemNo, Value)],
+) -> Result<Option<Values>, NoMemory>
+    ensures { IfOk result (λ all. all ≡ gathered (slice_set notices.now sub (Some values.now))) }
+{
+    let mut all = Seq::new(alloc);
+    for (k, notice) in notices.iter().enumerate() {
+        if k == sub {
+            append(&mut all, alloc, values)?;
+        } else {
+            match notice {
+                None => return Ok(None),
+                Some(values) => append(&mut all, alloc, values.items())?,
+            }
+        }
+    }
+    Ok(Some(all))
+}
+
+/// Adds copies of values.
+fn append(all: &mut Values, alloc: Global, values: &[(ItemNo, Value)]) -> Result<(), NoMemory>
+    ensures { OnOk result (all.new ≡ all.old ++ values.now) }
+{
+    for entry in values {
+        all.push((entry.0, entry.1.copy(alloc)?))?;
+    }
+    Ok(())
 }
