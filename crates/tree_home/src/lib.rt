@@ -2,5 +2,10 @@
 #![tactic(auto)]
 
 mod homes;
+mod laws;
 
 pub use homes::{Answered, Home, Homes, Noted, Notices};
+pub use laws::{a_tree_comes_and_goes, answered_when_none_is_missing, other_trees_stay};
+
+#[cfg(test)]
+mod tests;
