@@ -20,5 +20,5 @@ returns c =
     let low = c.loop-low.low in
     let met : low ≡ c.loop-low.high = omega arith in
     record {
-      place = place_of-is c.args.tree c.args.homes.now low (omega arith) c.loop-low.invariant.before (λ k d le. c.loop-low.invariant.after k d (omega arith))
+      place = place_of-is c.args.tree c.args.homes.now low (omega arith) c.loop-low.invariant.before (λ k d le. c.loop-low.invariant.after k d (omega arith));
     }
