@@ -1,17 +1,16 @@
 -- A home comes, has one more notice, and goes: at its place, and the others keep their order.
-use Rattle.std.proofs.Common.{◌≡◌, ℕ, zero, suc, ◌+◌, ◌<◌, ◌≤◌, Bool, true, List, [], ◌∷◌, eqb, ltb, length, get_or, set, replicate, refl, ap, subst, sym, ◌∙◌, arith, Option, Some, None, inl, inr}
+use Rattle.std.proofs.Common.{◌≡◌, ℕ, zero, suc, ◌<◌, ◌≤◌, List, [], ◌∷◌, eqb, ltb, length, get_or, set, refl, subst, arith, Option, Some, None}
 use Rattle.std.specs.Prelude.{IsSome, IsTrue, slice_get}
 use Rattle.std.specs.List.{All, insert, remove}
 use Rattle.std.proofs.lemmas.Bool.Decides.{nat_tests}
-use Rattle.std.proofs.lemmas.Bool.{cases_lt, cases_eq, cond_both, eq-eqb, ne_eqb, lt-ltb, le-ltb, ltb-true, ltb-false}
+use Rattle.std.proofs.lemmas.Bool.{cond_both, eq-eqb, ne_eqb, ltb-true, ltb-false}
 use Rattle.std.proofs.lemmas.Grind.{common_steps}
 use Rattle.std.proofs.lemmas.List.Elements.{All-nil, All-cons, All-head, All-tail}
 use Rattle.std.proofs.lemmas.List.Kept.{AllPairs-cons}
 use Rattle.tv_base.specs.declared.numbers.TreeNo.{TreeNo}
 use Rattle.tv_base.specs.declared.numbers.SubNo.{SubNo}
-use Rattle.tv_base.specs.declared.numbers.Version.{Version}
 use Rattle.tree_home.specs.declared.homes.Home.{Home}
-use Rattle.tree_home.specs.Homes.{Gets, IsAscending, HavePlaces, home_in, place_of, new_home, with_home, begun, with_notice, noted, forgotten, misses, is_missing, misses_of}
+use Rattle.tree_home.specs.Homes.{Gets, IsAscending, HavePlaces, home_in, place_of, with_home, with_notice, noted, forgotten, misses, is_missing, misses_of}
 use Rattle.tree_home.proofs.Places.{rest-ascends, first-least, none-above}
 
 pub place_of-le : (t : TreeNo) (hs : List Home) → place_of t hs ≤ length hs

@@ -1,5 +1,5 @@
 -- What holds of the homes whatever comes.
-use Rattle.std.specs.Prelude.{ℕ, ◌≡◌, ◌≢◌, ◌+◌, ◌↔◌, List, Option, Some, None, IsSome, IsTrue, map, flat_map}
+use Rattle.std.specs.Prelude.{ℕ, false, ◌==◌, if◌then◌else◌, nat_lt, ◌≡◌, ◌≢◌, ◌+◌, ◌↔◌, List, Some, None, IsSome, IsTrue, map, flat_map}
 use Rattle.tv_base.specs.declared.numbers.TreeNo.{TreeNo}
 use Rattle.tv_base.specs.declared.numbers.SubNo.{SubNo}
 use Rattle.tv_base.specs.declared.numbers.Version.{Version}
@@ -33,6 +33,17 @@ ForgottenIsGone = (t : TreeNo) (hs : List Home) → IsAscending hs → home_in t
 abbrev pub ForgottenTakesBack : Type 0
 ForgottenTakesBack = (t : TreeNo) (n : ℕ) (v : Version) (hs : List Home) → forgotten t (begun t n v hs) ≡ hs
 
+-- of a tree that has begun, the notices up to the number given are missing
+abbrev pub MissesWhenBegun : Type 0
+MissesWhenBegun = (t : TreeNo) (s : SubNo) (n : ℕ) (v : Version) (hs : List Home) → misses t s (begun t n v hs) ≡ nat_lt s.0 n
+
+abbrev pub AllMissing : Type 0
+AllMissing = (t : TreeNo) (n : ℕ) (v : Version) (hs : List Home) → missing_in t (begun t n v hs) ≡ n
+
+-- a notice that is taken down is missing no more, and each other one is missing as before
+abbrev pub MissesOthers : Type 0
+MissesOthers = (t : TreeNo) (r s : SubNo) (vs : Gets) (hs : List Home) → misses t r (noted t s vs hs) ≡ (if r.0 == s.0 then false else misses t r hs)
+
 -- a notice makes one fewer missing
 abbrev pub OneFewer : Type 0
 OneFewer = (t : TreeNo) (s : SubNo) (vs : Gets) (hs : List Home) → IsTrue (misses t s hs) → missing_in t (noted t s vs hs) + 1 ≡ missing_in t hs
@@ -44,7 +55,8 @@ AnsweredExactly = (t : TreeNo) (s : SubNo) (vs : Gets) (hs : List Home) → IsTr
 -- the answer names the tree, has the version of its home, and the values of all notices one after another
 abbrev pub AnswerIsTheTrees : Type 0
 AnswerIsTheTrees = (t : TreeNo) (s : SubNo) (vs : Gets) (hs : List Home) (h : Home) (a : Answered) → home_in t hs ≡ Some h → answer_in t s vs hs ≡ Some a
-    → (a.tree.0 ≡ t.0) × (a.version ≡ h.version) × (gathered (with_notice s vs h).notices ≡ Some a.values)
+    → (a.tree ≡ t) × (a.version ≡ h.version) × (gathered (with_notice s vs h).notices ≡ Some a.values)
 
+-- the values of all notices are gathered in their order
 abbrev pub GatheredInOrder : Type 0
 GatheredInOrder = (vss : List Gets) → gathered (map Some vss) ≡ Some (flat_map (λ vs. vs) vss)

@@ -15,15 +15,19 @@ pub type Notices = Seq<Option<Values>, 0xffff_ffff>;
 #[derive(Drop)]
 pub struct Home {
     pub tree: TreeNo,
+    /// The version that the tree runs in.
     pub version: Version,
+    /// One place for each subtransaction, the root's first.
     pub notices: Notices,
 }
 
-/// What a tree is answered: the values of all its subtransactions, in the order of their numbers.
+/// What a tree is answered.
 #[derive(Drop)]
 pub struct Answered {
     pub tree: TreeNo,
+    /// The version that the tree ran in.
     pub version: Version,
+    /// The values of all its subtransactions, in the order of their numbers.
     pub values: Values,
 }
 
@@ -130,7 +134,7 @@ impl Homes {
             Err(e) => Err((e, values)),
             Ok(None) => {
                 self.put_notice(tree, sub, values);
-                Ok(Noted::Missing(self.count_missing(tree)))
+                Ok(Noted::Missing(self.still_missing(tree)))
             }
             Ok(Some(answer)) => {
                 self.forget(tree);
@@ -157,8 +161,8 @@ impl Homes {
         answer(alloc, home, sub, values.items())
     }
 
-    /// How many notices of the tree are missing; none where the tree isn't there.
-    fn count_missing(&self, tree: TreeNo) -> u32
+    /// How many notices of the tree are missing, 0 where the tree isn't there.
+    fn still_missing(&self, tree: TreeNo) -> u32
         ensures { result ≡ missing_in tree self.now }
     {
         match find(&self.homes, tree) {

@@ -1,4 +1,4 @@
-ghost use Rattle.tree_home.specs.Laws.{BegunKeepsOthers, NotedKeepsOthers, ForgottenKeepsOthers, BegunIsThere, NotedIsThere, ForgottenIsGone, ForgottenTakesBack, OneFewer, AnsweredExactly, AnswerIsTheTrees, GatheredInOrder};
+ghost use Rattle.tree_home.specs.Laws.{BegunKeepsOthers, NotedKeepsOthers, ForgottenKeepsOthers, BegunIsThere, NotedIsThere, ForgottenIsGone, ForgottenTakesBack, MissesWhenBegun, AllMissing, MissesOthers, OneFewer, AnsweredExactly, AnswerIsTheTrees, GatheredInOrder};
 
 /// The home of any other tree stays as it is when a tree begins, has a notice, or goes. It does nothing: its contract
 /// is the law.
@@ -17,11 +17,20 @@ pub fn a_tree_comes_and_goes()
     ensures back { ForgottenTakesBack }
 {}
 
-/// Each notice makes one fewer missing, and a tree is answered exactly where none is missing then. The answer names
-/// the tree, and has its version and the values of all notices in the order of their subtransactions. It does
-/// nothing: its contract is the law.
-pub fn answered_when_none_is_missing()
+/// When a tree begins, the notices of all its subtransactions are missing and of none besides. A notice that is taken
+/// down is missing no more, and each other one is missing as before, so one fewer is. It does nothing: its contract is
+/// the law.
+pub fn what_is_missing()
+    ensures begun { MissesWhenBegun }
+    ensures all { AllMissing }
+    ensures others { MissesOthers }
     ensures one_fewer { OneFewer }
+{}
+
+/// A tree is answered exactly where no notice is missing after this one. The answer names the tree, and has its
+/// version and the values of all notices in the order of their subtransactions. It does nothing: its contract is the
+/// law.
+pub fn answered_when_none_is_missing()
     ensures exactly { AnsweredExactly }
     ensures answer { AnswerIsTheTrees }
     ensures order { GatheredInOrder }

@@ -5,7 +5,9 @@ mod homes;
 mod laws;
 
 pub use homes::{Answered, Home, Homes, Noted, Notices};
-pub use laws::{a_tree_comes_and_goes, answered_when_none_is_missing, other_trees_stay};
+pub use laws::{
+    a_tree_comes_and_goes, answered_when_none_is_missing, other_trees_stay, what_is_missing,
+};
 
 #[cfg(test)]
 mod tests;

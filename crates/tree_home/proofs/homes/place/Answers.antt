@@ -1,4 +1,4 @@
-use Rattle.std.proofs.Common.{◌≡◌, ◌+◌, ◌-◌, ◌/◌, ◌<◌, ◌≤◌, length, subst, sym, arith, rules, ℕ}
+use Rattle.std.proofs.Common.{◌≡◌, ◌+◌, ◌-◌, ◌/◌, ◌<◌, length, arith, rules}
 use Rattle.tree_home.proofs.Places.{before-middle, place_of-is}
 use Rattle.tree_home.proofs.homes.place.Goals as goal
 
