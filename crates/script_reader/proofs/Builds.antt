@@ -52,9 +52,9 @@ last_kept f keeps (t ∷ u ∷ ts) all = (all.0, last_kept f keeps (u ∷ ts) al
 
 tree_runs : (s : ScriptData) (name : List ℕ) (node : NodeNo) → Updates s → Updates (with_tree s name trees.Update node)
 tree_runs s name node r = record {
-    trees = all_append IsUpdate s.trees (rooted name trees.Update node) r.trees refl;
-    rows = all_append NamesTree s.rows _ r.rows tt;
-  }
+  trees = all_append IsUpdate s.trees (rooted name trees.Update node) r.trees refl;
+  rows = all_append NamesTree s.rows _ r.rows tt;
+}
 
 sub_runs : (s : ScriptData) (parent : ℕ) (node : NodeNo) → Updates s → Updates (with_sub s parent node)
 sub_runs s parent node r = record { trees = last_kept (push_sub _) (λ t h. h) s.trees r.trees; rows = r.rows }
@@ -78,9 +78,9 @@ item_some : (s t : ScriptData) (name node kind initial : List ℕ) → item_row 
     → adds_item_of s name (decimal_value node) (kind_of kind) initial ≡ Ok t
 item_some s t name node kind initial is =
     passes t (not (is_number node && is_amount initial))
-      (nat_le s.nodes (decimal_value node) || nat_lt MOST_AMOUNT (size_of initial) || bag_has (kind_of kind) (size_of initial))
-      (not (is_name name)) (is_some (place_of name s.items)) why.BadNumber why.OutOfRange why.BadName why.NameTaken
-      (adds_item_of s name (decimal_value node) (kind_of kind) initial) is
+    (nat_le s.nodes (decimal_value node) || nat_lt MOST_AMOUNT (size_of initial) || bag_has (kind_of kind) (size_of initial))
+    (not (is_name name)) (is_some (place_of name s.items)) why.BadNumber why.OutOfRange why.BadName why.NameTaken
+    (adds_item_of s name (decimal_value node) (kind_of kind) initial) is
 
 update_is : (s t : ScriptData) (name node : List ℕ) → update_row s name node ≡ Ok t → with_tree s name trees.Update (node_no (decimal_value node)) ≡ t
 update_is s t name node is = grind arith
@@ -109,7 +109,7 @@ form_runs : (s t : ScriptData) (fields : List (List ℕ)) (w : RowWord) → Upda
 form_runs s t fields words.Nodes r is = absurd (cc is)
 form_runs s t fields words.Item r is =
     item_runs s t (field fields 1) (decimal_value (field fields 2)) (kind_of (field fields 3)) (field fields 4) r
-      (item_some s t (field fields 1) (field fields 2) (field fields 3) (field fields 4) is)
+    (item_some s t (field fields 1) (field fields 2) (field fields 3) (field fields 4) is)
 form_runs s t fields words.Update r is =
     subst Updates (update_is s t (field fields 1) (field fields 2) is) (tree_runs s (field fields 1) (node_no (decimal_value (field fields 2))) r)
 form_runs s t fields words.Sub r is =
@@ -144,13 +144,13 @@ unfolding rows_from
 from_runs s t row [] r is = let same : s ≡ t = cc is in subst Updates same r
 from_runs s t row (x ∷ xs) r is =
     then_runs t row (later_row s x) (λ u. rows_from u (row + 1) xs) (λ u at. by_word_runs u x (word_of (field x 0)) (later_form s x) (λ w. form_runs s u x w r) at)
-      (λ u h at. from_runs u t (row + 1) xs h at) is
+    (λ u h at. from_runs u t (row + 1) xs h at) is
 
 read_runs : (t : ScriptData) (rs : List (List (List ℕ))) → read_rows rs ≡ Ok t → Updates t
 read_runs t [] is = absurd (cc is)
 read_runs t (x ∷ xs) is =
     then_runs t 1 (first_row x) (λ u. rows_from u 2 xs) (λ u at. by_word_runs u x (word_of (field x 0)) (first_form x) (first_form_runs u x) at)
-      (λ u h at. from_runs u t 2 xs h at) is
+    (λ u h at. from_runs u t 2 xs h at) is
 
 bytes_is : (t : ScriptData) (b : Bool) (e : ScriptFault) (r : Result ScriptData ScriptFault) → (if b then Err e else r) ≡ Ok t → r ≡ Ok t
 bytes_is t true e r is = absurd (cc is)

@@ -5,9 +5,14 @@ use std::test::Fail;
 use std::thread::Threads;
 use tv_base::{MemSink, MemSource, NoGate};
 
-const FIRST: &str = "nodes,2\nitem,a,0,sum,10\nitem,b,1,sum,0\nupdate,t,0\nadd,a,5\nsub,0,1\nadd,b,7\n";
-const FIRST_TEXT: &str = "tree t version 1\nnode 0 update 1 read 0\nnode 1 update 1 read 0\nitem a 0:10 1:15\nitem b 0:0 1:7\n";
+const FIRST: &str =
+    "nodes,2\nitem,a,0,sum,10\nitem,b,1,sum,0\nupdate,t,0\nadd,a,5\nsub,0,1\nadd,b,7\n";
+
+const FIRST_TEXT: &str =
+    "tree t version 1\nnode 0 update 1 read 0\nnode 1 update 1 read 0\nitem a 0:10 1:15\nitem b 0:0 1:7\n";
+
 const SMALL: &str = "nodes,1\nitem,a,0,sum,10";
+
 const SMALL_TEXT: &str = "node 0 update 1 read 0\nitem a 0:10\n";
 
 /// What a call gave and left.
@@ -37,7 +42,11 @@ fn call<R: Threads + Wait + Sync>(
     sink_fails: &[u32],
 ) -> Result<Seen, Fail> {
     let words = words(alloc, line)?;
-    let mut source = MemSource::new(script.as_bytes().to_vec(alloc)?, 8, source_fails.to_vec(alloc)?);
+    let mut source = MemSource::new(
+        script.as_bytes().to_vec(alloc)?,
+        8,
+        source_fails.to_vec(alloc)?,
+    );
     let mut out = MemSink::new(alloc, 1000, 16, sink_fails.to_vec(alloc)?)?;
     let mut err = MemSink::new(alloc, 1000, 16, Vec::new(alloc))?;
     let ended = threev(rt, alloc, &words, &mut source, &mut out, &mut err, &NoGate);
@@ -52,7 +61,14 @@ fn call<R: Threads + Wait + Sync>(
 #[test]
 fn a_script_gives_its_report_and_its_history(rt: HostRuntime) -> Result<(), Fail> {
     for (script, text, entries) in [(FIRST, FIRST_TEXT, 3), (SMALL, SMALL_TEXT, 1)] {
-        let seen = call(&rt, rt.alloc(), &["threev", "--mode", "sim"], script, &[], &[])?;
+        let seen = call(
+            &rt,
+            rt.alloc(),
+            &["threev", "--mode", "sim"],
+            script,
+            &[],
+            &[],
+        )?;
         assert_eq!(rt; seen.status, 0);
         assert_eq!(rt; seen.out.bytes(), text.as_bytes());
         assert_eq!(rt; seen.entries, entries);
@@ -82,7 +98,14 @@ fn faults_and_refusals_have_their_status_and_leave_out_empty(rt: HostRuntime) ->
 
 #[test]
 fn a_sink_that_fails_has_a_front_of_the_report(rt: HostRuntime) -> Result<(), Fail> {
-    let seen = call(&rt, rt.alloc(), &["threev", "--mode", "sim"], FIRST, &[], &[2])?;
+    let seen = call(
+        &rt,
+        rt.alloc(),
+        &["threev", "--mode", "sim"],
+        FIRST,
+        &[],
+        &[2],
+    )?;
     assert_eq!(rt; seen.status, 5);
     assert_eq!(rt; seen.out.bytes(), b"tree t version 1".as_slice());
     assert_eq!(rt; seen.entries, 3);
