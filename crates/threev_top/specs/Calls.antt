@@ -1,88 +1,137 @@
 -- What the top call reads and writes.
-use Rattle.std.specs.Prelude.{ℕ, Bool, true, false, ◌≡◌, ◌≤◌, ◌&&◌, IsTrue, List, [], ◌∷◌, length, codes, Option, Result, Ok, Err, ⊤}
-use Rattle.std.specs.Str.{bytes_eq}
+use Rattle.std.specs.Prelude.{ℕ, Bool, true, false, ◌≡◌, ◌⊎◌, List, [], Option, Some, None, Result, Ok, Err, ⊤}
 use Rattle.std.specs.Io.KnownBytes.{Appends, Consumes, IsAtEnd}
-use Rattle.tv_base.specs.Outside.{AppendsFront}
-use Rattle.letter_types.specs.declared.entries.Entry.{Entry}
-use Rattle.tx_trees.specs.ScriptData.{ScriptData}
-use Rattle.script_reader.specs.Reading.{fault, read_of}
-use Rattle.script_reader.specs.declared.reading.ScriptRefusal.{ScriptRefusal}
-use Rattle.script_reader.specs.declared.reading.ScriptRefusal.TheVariants as refusals
-use Rattle.tx_trees.specs.declared.why.Why.TheVariants as why
+use Rattle.tv_base.specs.Outside.{AppendsFront, HasMoreThan, Rose}
 use Rattle.tv_base.specs.declared.moving.ReadEnd.{ReadEnd}
 use Rattle.tv_base.specs.declared.moving.ReadEnd.TheVariants as ends
+use Rattle.tv_base.specs.declared.moving.TheConstants.{MOST_BYTES}
+use Rattle.command_words.specs.declared.Line.{Line}
+use Rattle.command_words.specs.declared.Line.TheVariants as lines
+use Rattle.command_words.specs.declared.WordsError.{WordsError}
+use Rattle.command_words.specs.declared.WordsError.TheVariants as errors
+use Rattle.letter_types.specs.declared.entries.Entry.{Entry}
+use Rattle.tx_trees.specs.ScriptData.{ScriptData}
+use Rattle.tx_trees.specs.declared.why.Why.TheVariants as why
+use Rattle.script_reader.specs.Reading.{fault, read_of}
 use Rattle.script_reader.specs.declared.reading.ScriptFault.{ScriptFault}
+use Rattle.script_reader.specs.declared.reading.ScriptRefusal.{ScriptRefusal}
+use Rattle.script_reader.specs.declared.reading.ScriptRefusal.TheVariants as refusals
 use Rattle.report_text.specs.Report.{report_of}
+use Rattle.report_text.specs.Lines.{check_line_of}
 use Rattle.threev_top.specs.Finished.{IsFinished}
-use Rattle.threev_top.specs.declared.calls.Stop.{Stop}
-use Rattle.threev_top.specs.declared.calls.Stop.TheVariants as stops
+use Rattle.threev_top.specs.declared.outcomes.Mode.{Mode}
+use Rattle.threev_top.specs.declared.outcomes.Mode.TheVariants as modes
+use Rattle.threev_top.specs.declared.outcomes.Stop.{Stop}
+use Rattle.threev_top.specs.declared.outcomes.Stop.TheVariants as stops
+use Rattle.threev_top.specs.declared.texts.TheConstants.{HELP, VERSION}
 
--- a command line: the program's name, `--mode` and `sim`
-abbrev pub is_line : List (List ℕ) → Bool
-is_line (name ∷ option ∷ mode ∷ []) = bytes_eq option (codes "--mode") && bytes_eq mode (codes "sim")
-is_line _ = false
+-- what a mode writes of a script, and the history that it gives
+abbrev pub IsText : Mode → ScriptData → List Entry → List ℕ → Type 0
+IsText modes.Check s h text = (h ≡ []) × (text ≡ check_line_of s)
+IsText modes.Sim s h text = IsFinished s h × (text ≡ report_of s h)
 
--- the bytes are a script, this is the history of a run of it that has ended, and this is its report
-pub record Reports (bytes : List ℕ) (history : List Entry) (text : List ℕ) : Type 0 where
+-- the bytes are a script, and this is its text and history in this mode
+pub record IsTextOf (mode : Mode) (bytes : List ℕ) (history : List Entry) (text : List ℕ) : Type 0 where
   pub script : ScriptData
   pub read : read_of bytes ≡ Ok script
-  pub run : IsFinished script history
-  pub text_is : text ≡ report_of script history
+  pub is_text : IsText mode script history text
 
-abbrev pub IsRefused : List ℕ → Type 0
-IsRefused bytes = (f : ScriptFault) × (read_of bytes ≡ Err f)
+-- the text of the script that the bytes are was written, whole or a front of it
+abbrev pub WritesText : Mode → List ℕ → Option (List ℕ) → Option (List ℕ) → List Entry → Type 0
+WritesText mode bytes written after history = (text : List ℕ) × IsTextOf mode bytes history text × Appends written after text
 
--- out has received the report of a run of the script that the bytes are
-abbrev pub WritesText : List ℕ → Option (List ℕ) → Option (List ℕ) → List Entry → Type 0
-WritesText bytes written after history = (text : List ℕ) × Reports bytes history text × Appends written after text
+abbrev pub WritesFront : Mode → List ℕ → Option (List ℕ) → Option (List ℕ) → List Entry → Type 0
+WritesFront mode bytes written after history = (text : List ℕ) × IsTextOf mode bytes history text × AppendsFront written after text
 
-abbrev pub WritesFront : List ℕ → Option (List ℕ) → Option (List ℕ) → List Entry → Type 0
-WritesFront bytes written after history = (text : List ℕ) × Reports bytes history text × AppendsFront written after text
+-- all bytes that the source had were read to their end, and out has received the text of their script
+pub record Wrote (mode : Mode) (left now : Option (List ℕ)) (written after : Option (List ℕ)) (history : List Entry) : Type 0 where
+  pub bytes : List ℕ
+  pub consumed : Consumes left now bytes
+  pub at_end : IsAtEnd now
+  pub writes : WritesText mode bytes written after history
 
-abbrev pub status_of : Stop → ℕ
-status_of stops.NoMemory = 1
-status_of stops.Words = 2
-status_of (stops.Script f) = 3
-status_of stops.Reading = 4
+-- the same, but that out has received a front of the text
+pub record WroteFront (mode : Mode) (left now : Option (List ℕ)) (written after : Option (List ℕ)) (history : List Entry) : Type 0 where
+  pub bytes : List ℕ
+  pub consumed : Consumes left now bytes
+  pub at_end : IsAtEnd now
+  pub writes : WritesFront mode bytes written after history
 
--- why the bytes give no run
+-- the same by the words: a mode's text, or the help or version, for which nothing is read
+abbrev pub WroteBy : Option Line → Option (List ℕ) → Option (List ℕ) → Option (List ℕ) → Option (List ℕ) → List Entry → Type 0
+WroteBy (Some lines.Check) left now written after history = Wrote modes.Check left now written after history
+WroteBy (Some (lines.Sim seed shows)) left now written after history = Wrote modes.Sim left now written after history
+WroteBy (Some lines.Help) left now written after history = (now ≡ left) × Appends written after HELP.now × (history ≡ [])
+WroteBy (Some lines.Version) left now written after history = (now ≡ left) × Appends written after VERSION.now × (history ≡ [])
+WroteBy _ left now written after history = ⊥
+
+abbrev pub WroteFrontBy : Option Line → Option (List ℕ) → Option (List ℕ) → Option (List ℕ) → Option (List ℕ) → List Entry → Type 0
+WroteFrontBy (Some lines.Check) left now written after history = WroteFront modes.Check left now written after history
+WroteFrontBy (Some (lines.Sim seed shows)) left now written after history = WroteFront modes.Sim left now written after history
+WroteFrontBy (Some lines.Help) left now written after history = (now ≡ left) × AppendsFront written after HELP.now × (history ≡ [])
+WroteFrontBy (Some lines.Version) left now written after history = (now ≡ left) × AppendsFront written after VERSION.now × (history ≡ [])
+WroteFrontBy _ left now written after history = ⊥
+
+-- all bytes were read to their end, and reading refuses them with this fault
+pub record ReadRefused (left now : Option (List ℕ)) (f : ScriptFault) : Type 0 where
+  pub bytes : List ℕ
+  pub consumed : Consumes left now bytes
+  pub at_end : IsAtEnd now
+  pub refused : read_of bytes ≡ Err f
+
+-- the same, or more bytes came than a script may have
+abbrev pub Refuses : Option (List ℕ) → Option (List ℕ) → ScriptFault → Type 0
+Refuses left now f = ReadRefused left now f ⊎ ((f ≡ fault 0 why.TooLong) × HasMoreThan MOST_BYTES left)
+
+-- the line was written, or a front of it where a fault was counted
+abbrev pub Tells : Option (List ℕ) → Option (List ℕ) → ℕ → ℕ → List ℕ → Type 0
+Tells written after before now line = Appends written after line ⊎ (AppendsFront written after line × Rose before now)
+
+-- why the bytes give no text
 abbrev pub IsStop : List ℕ → Stop → Type 0
 IsStop bytes (stops.Script f) = read_of bytes ≡ Err f
 IsStop bytes stops.NoMemory = ⊤
 IsStop bytes stops.Words = ⊥
 IsStop bytes stops.Reading = ⊥
+IsStop bytes stops.Writing = ⊥
 
 abbrev pub script_stop : ScriptRefusal → Stop
 script_stop (refusals.Fault f) = stops.Script f
 script_stop refusals.NoMemory = stops.NoMemory
+
+abbrev pub words_stop : WordsError → Stop
+words_stop errors.Refused = stops.Words
+words_stop errors.NoMemory = stops.NoMemory
+
+abbrev pub is_refusal : Stop → Bool
+is_refusal (stops.Script f) = true
+is_refusal stops.NoMemory = false
+is_refusal stops.Words = false
+is_refusal stops.Reading = false
+is_refusal stops.Writing = false
 
 abbrev pub reading_stop : ReadEnd → Stop
 reading_stop ends.TooLong = stops.Script (fault 0 why.TooLong)
 reading_stop ends.Failed = stops.Reading
 reading_stop ends.NoMemory = stops.NoMemory
 
--- all bytes that the source had were read to their end, and out has received the report of a run of their script
-pub record Wrote (left now : Option (List ℕ)) (written after : Option (List ℕ)) (history : List Entry) : Type 0 where
-  pub bytes : List ℕ
-  pub text : List ℕ
-  pub consumed : Consumes left now bytes
-  pub at_end : IsAtEnd now
-  pub reports : Reports bytes history text
-  pub appended : Appends written after text
+-- the text was written whole, or writing failed
+abbrev pub IsWritten : Option Stop → Type 0
+IsWritten None = ⊤
+IsWritten (Some stops.Writing) = ⊤
+IsWritten _ = ⊥
 
--- the same, but that out has received a front of the report
-pub record WroteFront (left now : Option (List ℕ)) (written after : Option (List ℕ)) (history : List Entry) : Type 0 where
-  pub bytes : List ℕ
-  pub text : List ℕ
-  pub consumed : Consumes left now bytes
-  pub at_end : IsAtEnd now
-  pub reports : Reports bytes history text
-  pub appended : AppendsFront written after text
+-- what stops may come once there are bytes
+abbrev pub IsByBytes : List ℕ → Option Stop → Type 0
+IsByBytes bytes None = ⊤
+IsByBytes bytes (Some stops.Writing) = ⊤
+IsByBytes bytes (Some stop) = IsStop bytes stop
 
--- all bytes were read to their end, and reading refuses them
-pub record Refuses (left now : Option (List ℕ)) : Type 0 where
-  pub bytes : List ℕ
-  pub fault : ScriptFault
-  pub consumed : Consumes left now bytes
-  pub at_end : IsAtEnd now
-  pub refused : read_of bytes ≡ Err fault
+-- nothing was written to out
+abbrev pub is_before_writing : Option Stop → Bool
+is_before_writing None = false
+is_before_writing (Some stops.Writing) = false
+is_before_writing (Some stops.NoMemory) = true
+is_before_writing (Some stops.Words) = true
+is_before_writing (Some (stops.Script f)) = true
+is_before_writing (Some stops.Reading) = true

@@ -1,49 +1,153 @@
 // The top call.
-ghost use Rattle.std.specs.Prelude.{◌≡◌, ◌≤◌, ◌+◌, ◌⊎◌, ◌↔◌, false, [], map, string_bytes, IfOk, IfErr};
+ghost use Rattle.std.specs.Prelude.{◌≡◌, ◌≤◌, ◌+◌, ◌⊎◌, [], codes, map, string_bytes, IsTrue, None, Some};
 ghost use Rattle.std.specs.Io.KnownBytes.{Appends};
-ghost use Rattle.tv_base.specs.Outside.{AppendsFront, HasMoreThan, HasTaken, Rose};
+ghost use Rattle.tv_base.specs.Outside.{AppendsFront, HasTaken, Rose};
 ghost use Rattle.tv_base.specs.declared.moving.TheConstants.{MOST_BYTES};
-ghost use Rattle.report_text.specs.Report.{report_of};
-ghost use Rattle.world_model.specs.Tables.{Runnable};
-ghost use Rattle.threev_top.specs.Finished.{IsFinished};
-ghost use Rattle.threev_top.specs.Calls.{is_line, IsRefused, IsStop, reading_stop, script_stop, Refuses, Reports, status_of, WritesFront, WritesText, Wrote, WroteFront};
+ghost use Rattle.command_words.specs.Grammar.{built_line};
+ghost use Rattle.command_words.specs.Lines.{is_built};
+ghost use Rattle.script_reader.specs.declared.reading.ScriptFault.{ScriptFault};
+ghost use Rattle.threev_top.specs.Texts.{line_of, row_line, status_of, why_name};
+ghost use Rattle.threev_top.specs.Calls.{is_before_writing, is_refusal, IsWritten, Refuses, Tells, words_stop, WroteBy, WroteFrontBy};
+ghost use Rattle.threev_top.specs.declared.outcomes.Stop.{Stop};
+ghost use Rattle.threev_top.specs.declared.outcomes.Stop.TheVariants as stops;
 
-use crate::running::simulate;
+use crate::outcomes::{Mode, Outcome, Stop, read_and_write, stopped};
+use crate::texts::{HELP, VERSION, fault_line};
+use command_words::{Line, WordsError, read_words};
 use letter_types::History;
-use report_text::{Lines, report};
-use script_reader::{ScriptFault, ScriptRefusal, read_script};
 use std::alloc::Global;
 use std::sync::Wait;
 use std::thread::Threads;
-use tv_base::{Gate, NoMemory, ReadEnd, Sink, Source, read_all, write_all};
-use tx_trees::{Script, Why};
+use tv_base::{Gate, Sink, Source, write_all};
 
 /// How a call of the program ended.
 #[derive(Drop)]
 pub struct Ended {
     /// 0 to 5 (README.md, "Statuses").
     pub status: u8,
-    /// The history of the run at the statuses 0 and 5; empty at the others.
+    /// The history of the run at the statuses 0 and 5 of a mode that runs; empty at all others.
     pub history: History,
 }
 
-/// Why there is nothing to write.
-#[derive(Clone, Copy, Debug, PartialEq, Eq)]
-enum Stop {
-    NoMemory,
-    Words,
-    Script(ScriptFault),
-    Reading,
+/// Writes a text for which nothing is read.
+fn write_fixed<K: Sink>(alloc: Global, text: &[u8], out: &mut K) -> Outcome
+    ensures wrote { result.stop ≡ None → Appends (K.written out.old) (K.written out.new) text.now }
+    ensures front { result.stop ≡ Some stops.Writing → AppendsFront (K.written out.old) (K.written out.new) text.now × Rose (K.faults out.old) (K.faults out.new) }
+    ensures others { IsWritten result.stop }
+    ensures history { result.history ≡ [] }
+{
+    let stop = match write_all(out, text) {
+        Ok(()) => None,
+        Err(_) => Some(Stop::Writing),
+    };
+    Outcome {
+        stop,
+        history: History::new(alloc),
+    }
 }
 
-/// A run that has ended, and its report.
-#[derive(Drop)]
-struct Made {
-    history: History,
-    text: Lines,
+/// Does what a command line asks for.
+fn after_line<S: Source, K: Sink>(
+    alloc: Global,
+    line: Line,
+    source: &mut S,
+    out: &mut K,
+) -> Outcome
+    requires { IsTrue (is_built line) }
+    ensures wrote { result.stop ≡ None → WroteBy (Some line) (S.left source.old) (S.left source.new) (K.written out.old) (K.written out.new) result.history }
+    ensures front { result.stop ≡ Some stops.Writing → WroteFrontBy (Some line) (S.left source.old) (S.left source.new) (K.written out.old) (K.written out.new) result.history × Rose (K.faults out.old) (K.faults out.new) }
+    ensures refused { (f : ScriptFault) → result.stop ≡ Some (stops.Script f) → Refuses (S.left source.old) (S.left source.new) f }
+    ensures reading { result.stop ≡ Some stops.Reading → Rose (S.faults source.old) (S.faults source.new) }
+    ensures words { result.stop ≡ Some stops.Words → ⊥ }
+    ensures nothing { IsTrue (is_before_writing result.stop) → (out.new ≡ out.old) × (result.history ≡ []) }
+    ensures taken { HasTaken (MOST_BYTES + 1) (S.left source.old) (S.left source.new) }
+{
+    match line {
+        Line::Check => read_and_write(alloc, Mode::Check, source, out),
+        Line::Sim { .. } => read_and_write(alloc, Mode::Sim, source, out),
+        Line::Help => write_fixed(alloc, HELP, out),
+        Line::Version => write_fixed(alloc, VERSION, out),
+        Line::Run { .. } | Line::Soak { .. } => unreachable!(),
+    }
 }
 
-/// The status of an end without a run.
+/// Reads the words, and does what they ask for.
+#[tactic(auto, using(crate::proofs::Built::read_is_built))]
+fn after_words<S: Source, K: Sink>(
+    alloc: Global,
+    words: &[String],
+    source: &mut S,
+    out: &mut K,
+) -> Outcome
+    ensures wrote { result.stop ≡ None → WroteBy (built_line (map string_bytes words.now)) (S.left source.old) (S.left source.new) (K.written out.old) (K.written out.new) result.history }
+    ensures front { result.stop ≡ Some stops.Writing → WroteFrontBy (built_line (map string_bytes words.now)) (S.left source.old) (S.left source.new) (K.written out.old) (K.written out.new) result.history × Rose (K.faults out.old) (K.faults out.new) }
+    ensures words { result.stop ≡ Some stops.Words → (built_line (map string_bytes words.now) ≡ None) × (source.new ≡ source.old) }
+    ensures no_line { built_line (map string_bytes words.now) ≡ None → ((result.stop ≡ Some stops.Words) ⊎ (result.stop ≡ Some stops.NoMemory)) × (source.new ≡ source.old) }
+    ensures refused { (f : ScriptFault) → result.stop ≡ Some (stops.Script f) → Refuses (S.left source.old) (S.left source.new) f }
+    ensures reading { result.stop ≡ Some stops.Reading → Rose (S.faults source.old) (S.faults source.new) }
+    ensures nothing { IsTrue (is_before_writing result.stop) → (out.new ≡ out.old) × (result.history ≡ []) }
+    ensures taken { HasTaken (MOST_BYTES + 1) (S.left source.old) (S.left source.new) }
+{
+    match read_words(alloc, words) {
+        Ok(line) => after_line(alloc, line, source, out),
+        Err(refusal) => stopped(alloc, of_words(refusal)),
+    }
+}
+
+/// Why the words gave no line.
+fn of_words(refusal: WordsError) -> Stop
+    ensures { result ≡ words_stop refusal }
+{
+    match refusal {
+        WordsError::Refused => Stop::Words,
+        WordsError::NoMemory => Stop::NoMemory,
+    }
+}
+
+/// Writes a line to `err`. A failure of `err` changes nothing else.
+fn tell_line<E: Sink>(err: &mut E, line: &[u8])
+    ensures { Tells (E.written err.old) (E.written err.new) (E.faults err.old) (E.faults err.new) line.now }
+{
+    match write_all(err, line) {
+        Ok(()) => {}
+        Err(_) => {}
+    }
+}
+
+/// Tells `err` why the text was not written whole, and gives the reason that was told: want of memory where there is
+/// none for the line of a refused script.
+fn tell<E: Sink>(alloc: Global, stop: Stop, err: &mut E) -> Stop
+    ensures told { Tells (E.written err.old) (E.written err.new) (E.faults err.old) (E.faults err.new) (line_of result) }
+    ensures same { (result ≡ stop) ⊎ ((result ≡ stops.NoMemory) × IsTrue (is_refusal stop)) }
+{
+    match stop {
+        Stop::NoMemory => tell_line(err, b"threev: out of memory\n"),
+        Stop::Words => tell_line(err, b"threev: the words are not a command line of this program\n"),
+        Stop::Script(fault) => return tell_fault(alloc, fault, err),
+        Stop::Reading => tell_line(err, b"threev: reading failed\n"),
+        Stop::Writing => tell_line(err, b"threev: writing failed\n"),
+    }
+    stop
+}
+
+/// The same for a refused script.
+fn tell_fault<E: Sink>(alloc: Global, fault: ScriptFault, err: &mut E) -> Stop
+    ensures told { Tells (E.written err.old) (E.written err.new) (E.faults err.old) (E.faults err.new) (line_of result) }
+    ensures same { (result ≡ stops.Script fault) ⊎ (result ≡ stops.NoMemory) }
+{
+    match fault_line(alloc, fault) {
+        Ok(line) => {
+            tell_line(err, line.as_bytes());
+            Stop::Script(fault)
+        }
+        Err(_) => {
+            tell_line(err, b"threev: out of memory\n");
+            Stop::NoMemory
+        }
+    }
+}
+
+/// The status of an end before the text was written whole.
 fn status_of(stop: Stop) -> u8
     ensures { result ≡ status_of stop }
 {
@@ -52,137 +156,13 @@ fn status_of(stop: Stop) -> u8
         Stop::Words => 2,
         Stop::Script(_) => 3,
         Stop::Reading => 4,
+        Stop::Writing => 5,
     }
 }
 
-/// An end without a run.
-fn stopped(alloc: Global, stop: Stop) -> Ended
-    ensures status { result.status ≡ status_of stop }
-    ensures history { result.history ≡ [] }
-{
-    Ended {
-        status: status_of(stop),
-        history: History::new(alloc),
-    }
-}
-
-/// The run of a script, and its report.
-fn run_of(alloc: Global, script: &Script) -> Result<Made, NoMemory>
-    requires { Runnable script.now }
-    ensures run { IfOk result (λ made. IsFinished script.now made.history) }
-    ensures text { IfOk result (λ made. made.text ≡ report_of script.now made.history) }
-{
-    let history = simulate(alloc, script)?;
-    let text = report(alloc, script, &history)?;
-    Ok(Made { history, text })
-}
-
-/// Why a script gave no run.
-fn of_script(refusal: ScriptRefusal) -> Stop
-    ensures { result ≡ script_stop refusal }
-{
-    match refusal {
-        ScriptRefusal::Fault(fault) => Stop::Script(fault),
-        ScriptRefusal::NoMemory => Stop::NoMemory,
-    }
-}
-
-/// The same where the script is known to run.
-fn made_by(alloc: Global, script: &Script) -> Result<Made, Stop>
-    requires { Runnable script.now }
-    ensures run { IfOk result (λ made. IsFinished script.now made.history) }
-    ensures text { IfOk result (λ made. made.text ≡ report_of script.now made.history) }
-    ensures stop { IfErr result (λ stop. stop ≡ Stop.NoMemory) }
-{
-    match run_of(alloc, script) {
-        Ok(made) => Ok(made),
-        Err(_) => Err(Stop::NoMemory),
-    }
-}
-
-/// The run of the script that the bytes are, and its report.
-#[tactic(auto, using(crate::proofs::Ends::reads_runnable))]
-fn made_of(alloc: Global, bytes: &[u8]) -> Result<Made, Stop>
-    ensures made { IfOk result (λ made. Reports bytes.now made.history made.text) }
-    ensures stop { IfErr result (λ stop. IsStop bytes.now stop) }
-{
-    match read_script(alloc, bytes) {
-        Ok(script) => made_by(alloc, &script),
-        Err(refusal) => Err(of_script(refusal)),
-    }
-}
-
-/// Runs the script that the bytes are, and writes its report.
-fn after_bytes<K: Sink>(alloc: Global, bytes: &[u8], out: &mut K) -> Ended
-    ensures wrote { result.status ≡ 0 → WritesText bytes.now (K.written out.old) (K.written out.new) result.history }
-    ensures front { result.status ≡ 5 → WritesFront bytes.now (K.written out.old) (K.written out.new) result.history × Rose (K.faults out.old) (K.faults out.new) }
-    ensures refused { result.status ≡ 3 → IsRefused bytes.now }
-    ensures nothing { 1 ≤ result.status → result.status ≤ 4 → (out.new ≡ out.old) × (result.history ≡ []) }
-    ensures known { (result.status ≡ 0) ⊎ (result.status ≡ 1) ⊎ (result.status ≡ 3) ⊎ (result.status ≡ 5) }
-{
-    match made_of(alloc, bytes) {
-        Ok(made) => write(made, out),
-        Err(stop) => stopped(alloc, stop),
-    }
-}
-
-/// Writes the report of a run.
-fn write<K: Sink>(made: Made, out: &mut K) -> Ended
-    ensures wrote { result.status ≡ 0 → Appends (K.written out.old) (K.written out.new) made.text }
-    ensures front { result.status ≡ 5 → AppendsFront (K.written out.old) (K.written out.new) made.text × Rose (K.faults out.old) (K.faults out.new) }
-    ensures known { (result.status ≡ 0) ⊎ (result.status ≡ 5) }
-    ensures history { result.history ≡ made.history }
-{
-    let Made { history, text } = made;
-    let status = match write_all(out, text.bytes()) {
-        Ok(()) => 0,
-        Err(_) => 5,
-    };
-    Ended { status, history }
-}
-
-/// Why reading gave no bytes.
-fn of_reading(end: ReadEnd) -> Stop
-    ensures { result ≡ reading_stop end }
-{
-    match end {
-        ReadEnd::TooLong => Stop::Script(ScriptFault {
-            row: 0,
-            why: Why::TooLong,
-        }),
-        ReadEnd::Failed => Stop::Reading,
-        ReadEnd::NoMemory => Stop::NoMemory,
-    }
-}
-
-/// Reads the source to its end, runs the script that its bytes are, and writes its report.
-fn after_words<S: Source, K: Sink>(alloc: Global, source: &mut S, out: &mut K) -> Ended
-    ensures wrote { result.status ≡ 0 → Wrote (S.left source.old) (S.left source.new) (K.written out.old) (K.written out.new) result.history }
-    ensures front { result.status ≡ 5 → WroteFront (S.left source.old) (S.left source.new) (K.written out.old) (K.written out.new) result.history × Rose (K.faults out.old) (K.faults out.new) }
-    ensures refused { result.status ≡ 3 → Refuses (S.left source.old) (S.left source.new) ⊎ HasMoreThan MOST_BYTES (S.left source.old) }
-    ensures reading { result.status ≡ 4 → Rose (S.faults source.old) (S.faults source.new) }
-    ensures nothing { 1 ≤ result.status → result.status ≤ 4 → (out.new ≡ out.old) × (result.history ≡ []) }
-    ensures taken { HasTaken (MOST_BYTES + 1) (S.left source.old) (S.left source.new) }
-    ensures known { (result.status ≤ 5) × (result.status ≡ 2 → ⊥) }
-{
-    match read_all(alloc, source) {
-        Ok(bytes) => after_bytes(alloc, &bytes, out),
-        Err(end) => stopped(alloc, of_reading(end)),
-    }
-}
-
-/// Whether the words are a command line of this program: its name, which isn't read, `--mode` and `sim`.
-fn is_line(words: &[String]) -> bool
-    ensures { result ≡ is_line (map string_bytes words.now) }
-{
-    match words {
-        [_, option, mode] => option.as_str() == "--mode" && mode.as_str() == "sim",
-        _ => false,
-    }
-}
-
-/// The whole program: reads the words and the script, runs it, and writes its report to `out`. Nothing is written to
-/// `err` yet, and the runtime and the gate are not used yet.
+/// The whole program: reads the words, reads a script from `source` if they ask for it, writes the text that they ask
+/// for to `out`, and where that didn't come about writes one line to `err`. The runtime and the gate serve modes that
+/// are not built yet.
 pub fn threev<R: Threads + Wait + Sync, S: Source, K: Sink, E: Sink, G: Gate + Sync>(
     _rt: &R,
     alloc: Global,
@@ -192,20 +172,30 @@ pub fn threev<R: Threads + Wait + Sync, S: Source, K: Sink, E: Sink, G: Gate + S
     err: &mut E,
     _gate: &G,
 ) -> Ended
-    ensures wrote { result.status ≡ 0 → Wrote (S.left source.old) (S.left source.new) (K.written out.old) (K.written out.new) result.history }
-    ensures front { result.status ≡ 5 → WroteFront (S.left source.old) (S.left source.new) (K.written out.old) (K.written out.new) result.history × Rose (K.faults out.old) (K.faults out.new) }
-    ensures words { (result.status ≡ 2) ↔ (is_line (map string_bytes words.now) ≡ false) }
-    ensures unread { result.status ≡ 2 → source.new ≡ source.old }
-    ensures refused { result.status ≡ 3 → Refuses (S.left source.old) (S.left source.new) ⊎ HasMoreThan MOST_BYTES (S.left source.old) }
+    ensures wrote { result.status ≡ 0 → WroteBy (built_line (map string_bytes words.now)) (S.left source.old) (S.left source.new) (K.written out.old) (K.written out.new) result.history }
+    ensures front { result.status ≡ 5 → WroteFrontBy (built_line (map string_bytes words.now)) (S.left source.old) (S.left source.new) (K.written out.old) (K.written out.new) result.history × Rose (K.faults out.old) (K.faults out.new) }
+    ensures words { result.status ≡ 2 → (built_line (map string_bytes words.now) ≡ None) × (source.new ≡ source.old) }
+    ensures no_line { built_line (map string_bytes words.now) ≡ None → ((result.status ≡ 1) ⊎ (result.status ≡ 2)) × (source.new ≡ source.old) }
+    ensures refused { result.status ≡ 3 → (f : ScriptFault) × Refuses (S.left source.old) (S.left source.new) f × Tells (E.written err.old) (E.written err.new) (E.faults err.old) (E.faults err.new) (row_line f.row (why_name f.why)) }
     ensures reading { result.status ≡ 4 → Rose (S.faults source.old) (S.faults source.new) }
     ensures nothing { 1 ≤ result.status → result.status ≤ 4 → (out.new ≡ out.old) × (result.history ≡ []) }
     ensures taken { HasTaken (MOST_BYTES + 1) (S.left source.old) (S.left source.new) }
     ensures known { result.status ≤ 5 }
-    ensures err { err.new ≡ err.old }
+    ensures quiet { result.status ≡ 0 → err.new ≡ err.old }
+    ensures told_memory { result.status ≡ 1 → Tells (E.written err.old) (E.written err.new) (E.faults err.old) (E.faults err.new) (codes "threev: out of memory\n") }
+    ensures told_words { result.status ≡ 2 → Tells (E.written err.old) (E.written err.new) (E.faults err.old) (E.faults err.new) (codes "threev: the words are not a command line of this program\n") }
+    ensures told_reading { result.status ≡ 4 → Tells (E.written err.old) (E.written err.new) (E.faults err.old) (E.faults err.new) (codes "threev: reading failed\n") }
+    ensures told_writing { result.status ≡ 5 → Tells (E.written err.old) (E.written err.new) (E.faults err.old) (E.faults err.new) (codes "threev: writing failed\n") }
 {
-    if is_line(words) {
-        after_words(alloc, source, out)
-    } else {
-        stopped(alloc, Stop::Words)
+    let Outcome { stop, history } = after_words(alloc, words, source, out);
+    match stop {
+        None => Ended { status: 0, history },
+        Some(stop) => {
+            let told = tell(alloc, stop, err);
+            Ended {
+                status: status_of(told),
+                history,
+            }
+        }
     }
 }

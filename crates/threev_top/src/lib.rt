@@ -2,9 +2,12 @@
 #![tactic(auto)]
 
 mod calls;
+mod outcomes;
 mod running;
+mod texts;
 
 pub use calls::{Ended, threev};
+pub use outcomes::{Mode, Stop};
 pub use running::simulate;
 
 #[cfg(test)]

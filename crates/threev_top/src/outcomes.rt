@@ -1,0 +1,199 @@
+// How far a call came: the text that a mode makes, the writing of it, and why there was none.
+ghost use Rattle.std.specs.Prelude.{◌≡◌, ◌≤◌, ◌+◌, [], IfOk, IfErr, IsTrue, None, Some};
+ghost use Rattle.std.specs.Io.KnownBytes.{Appends};
+ghost use Rattle.tv_base.specs.Outside.{AppendsFront, HasTaken, Rose};
+ghost use Rattle.tv_base.specs.declared.moving.TheConstants.{MOST_BYTES};
+ghost use Rattle.report_text.specs.Report.{report_of};
+ghost use Rattle.report_text.specs.Lines.{check_line_of};
+ghost use Rattle.world_model.specs.Tables.{Runnable};
+ghost use Rattle.script_reader.specs.declared.reading.ScriptFault.{ScriptFault};
+ghost use Rattle.threev_top.specs.Finished.{IsFinished};
+ghost use Rattle.threev_top.specs.Calls.{is_before_writing, IsByBytes, IsStop, IsText, IsTextOf, IsWritten, reading_stop, Refuses, script_stop, WritesFront, WritesText, Wrote, WroteFront};
+
+use crate::running::simulate;
+use letter_types::History;
+use report_text::{Lines, check_line, report};
+use script_reader::{ScriptFault, ScriptRefusal, read_script};
+use std::alloc::Global;
+use tv_base::{NoMemory, ReadEnd, Sink, Source, read_all, write_all};
+use tx_trees::{Script, Why};
+
+/// What is made of a script.
+#[derive(Clone, Copy, Debug, PartialEq, Eq)]
+pub enum Mode {
+    /// The line that counts its parts.
+    Check,
+    /// A run on one thread, and its report.
+    Sim,
+}
+
+/// Why the text was not written whole.
+#[derive(Clone, Copy, Debug, PartialEq, Eq)]
+pub enum Stop {
+    /// Want of memory.
+    NoMemory,
+    /// The words are not a command line.
+    Words,
+    /// The script was refused.
+    Script(ScriptFault),
+    /// The source failed.
+    Reading,
+    /// The output failed.
+    Writing,
+}
+
+/// How a call ended: why the text was not written whole, if it wasn't, and the history of the run, if there was one.
+#[derive(Drop)]
+pub(crate) struct Outcome {
+    pub(crate) stop: Option<Stop>,
+    pub(crate) history: History,
+}
+
+/// A text to write, and the history of the run that it is of.
+#[derive(Drop)]
+struct Made {
+    history: History,
+    text: Lines,
+}
+
+/// An end without a text.
+pub(crate) fn stopped(alloc: Global, stop: Stop) -> Outcome
+    ensures stop { result.stop ≡ Some stop }
+    ensures history { result.history ≡ [] }
+{
+    Outcome {
+        stop: Some(stop),
+        history: History::new(alloc),
+    }
+}
+
+/// The run of a script, and its report.
+fn report_of(alloc: Global, script: &Script) -> Result<Made, NoMemory>
+    requires { Runnable script.now }
+    ensures run { IfOk result (λ made. IsFinished script.now made.history) }
+    ensures text { IfOk result (λ made. made.text ≡ report_of script.now made.history) }
+{
+    let history = simulate(alloc, script)?;
+    let text = report(alloc, script, &history)?;
+    Ok(Made { history, text })
+}
+
+/// The line that counts a script's parts.
+fn counts_of(alloc: Global, script: &Script) -> Result<Made, NoMemory>
+    ensures history { IfOk result (λ made. made.history ≡ []) }
+    ensures text { IfOk result (λ made. made.text ≡ check_line_of script.now) }
+{
+    let text = check_line(alloc, script)?;
+    Ok(Made {
+        history: History::new(alloc),
+        text,
+    })
+}
+
+/// What a mode makes of a script.
+fn text_of(alloc: Global, mode: Mode, script: &Script) -> Result<Made, NoMemory>
+    requires { Runnable script.now }
+    ensures { IfOk result (λ made. IsText mode script.now made.history made.text) }
+{
+    match mode {
+        Mode::Check => counts_of(alloc, script),
+        Mode::Sim => report_of(alloc, script),
+    }
+}
+
+/// The same, with the stop in place of want of memory.
+fn made_by(alloc: Global, mode: Mode, script: &Script) -> Result<Made, Stop>
+    requires { Runnable script.now }
+    ensures made { IfOk result (λ made. IsText mode script.now made.history made.text) }
+    ensures stop { IfErr result (λ stop. stop ≡ Stop.NoMemory) }
+{
+    match text_of(alloc, mode, script) {
+        Ok(made) => Ok(made),
+        Err(_) => Err(Stop::NoMemory),
+    }
+}
+
+/// Why a text is no script.
+fn of_script(refusal: ScriptRefusal) -> Stop
+    ensures { result ≡ script_stop refusal }
+{
+    match refusal {
+        ScriptRefusal::Fault(fault) => Stop::Script(fault),
+        ScriptRefusal::NoMemory => Stop::NoMemory,
+    }
+}
+
+/// What a mode makes of the script that the bytes are.
+#[tactic(auto, using(crate::proofs::Ends::reads_runnable))]
+fn made_of(alloc: Global, mode: Mode, bytes: &[u8]) -> Result<Made, Stop>
+    ensures made { IfOk result (λ made. IsTextOf mode bytes.now made.history made.text) }
+    ensures stop { IfErr result (λ stop. IsStop bytes.now stop) }
+{
+    match read_script(alloc, bytes) {
+        Ok(script) => made_by(alloc, mode, &script),
+        Err(refusal) => Err(of_script(refusal)),
+    }
+}
+
+/// Writes a text.
+fn write<K: Sink>(made: Made, out: &mut K) -> Outcome
+    ensures wrote { result.stop ≡ None → Appends (K.written out.old) (K.written out.new) made.text }
+    ensures front { result.stop ≡ Some Stop.Writing → AppendsFront (K.written out.old) (K.written out.new) made.text × Rose (K.faults out.old) (K.faults out.new) }
+    ensures others { IsWritten result.stop }
+    ensures history { result.history ≡ made.history }
+{
+    let Made { history, text } = made;
+    let stop = match write_all(out, text.bytes()) {
+        Ok(()) => None,
+        Err(_) => Some(Stop::Writing),
+    };
+    Outcome { stop, history }
+}
+
+/// Writes what a mode makes of the script that the bytes are.
+fn after_bytes<K: Sink>(alloc: Global, mode: Mode, bytes: &[u8], out: &mut K) -> Outcome
+    ensures wrote { result.stop ≡ None → WritesText mode bytes.now (K.written out.old) (K.written out.new) result.history }
+    ensures front { result.stop ≡ Some Stop.Writing → WritesFront mode bytes.now (K.written out.old) (K.written out.new) result.history × Rose (K.faults out.old) (K.faults out.new) }
+    ensures others { IsByBytes bytes.now result.stop }
+    ensures nothing { IsTrue (is_before_writing result.stop) → (out.new ≡ out.old) × (result.history ≡ []) }
+{
+    match made_of(alloc, mode, bytes) {
+        Ok(made) => write(made, out),
+        Err(stop) => stopped(alloc, stop),
+    }
+}
+
+/// Why reading gave no bytes.
+fn of_reading(end: ReadEnd) -> Stop
+    ensures { result ≡ reading_stop end }
+{
+    match end {
+        ReadEnd::TooLong => Stop::Script(ScriptFault {
+            row: 0,
+            why: Why::TooLong,
+        }),
+        ReadEnd::Failed => Stop::Reading,
+        ReadEnd::NoMemory => Stop::NoMemory,
+    }
+}
+
+/// Reads the source to its end, and writes what a mode makes of the script that its bytes are.
+pub(crate) fn read_and_write<S: Source, K: Sink>(
+    alloc: Global,
+    mode: Mode,
+    source: &mut S,
+    out: &mut K,
+) -> Outcome
+    ensures wrote { result.stop ≡ None → Wrote mode (S.left source.old) (S.left source.new) (K.written out.old) (K.written out.new) result.history }
+    ensures front { result.stop ≡ Some Stop.Writing → WroteFront mode (S.left source.old) (S.left source.new) (K.written out.old) (K.written out.new) result.history × Rose (K.faults out.old) (K.faults out.new) }
+    ensures refused { (f : ScriptFault) → result.stop ≡ Some (Stop.Script f) → Refuses (S.left source.old) (S.left source.new) f }
+    ensures reading { result.stop ≡ Some Stop.Reading → Rose (S.faults source.old) (S.faults source.new) }
+    ensures words { result.stop ≡ Some Stop.Words → ⊥ }
+    ensures nothing { IsTrue (is_before_writing result.stop) → (out.new ≡ out.old) × (result.history ≡ []) }
+    ensures taken { HasTaken (MOST_BYTES + 1) (S.left source.old) (S.left source.new) }
+{
+    match read_all(alloc, source) {
+        Ok(bytes) => after_bytes(alloc, mode, &bytes, out),
+        Err(end) => stopped(alloc, of_reading(end)),
+    }
+}

@@ -1,0 +1,77 @@
+// Texts of the program's own: the lines on standard error, the help and the version.
+ghost use Rattle.std.specs.Prelude.{◌≡◌, IfOk, string_bytes};
+ghost use Rattle.threev_top.specs.Texts.{help_text, row_line, version_text, why_name};
+
+use script_reader::ScriptFault;
+use std::alloc::{AllocError, Global};
+use tx_trees::Why;
+
+/// What `--help` writes.
+pub(crate) const HELP: &[u8] = b"threev: runs a script of transactions on several nodes and reports the balances
+
+usage: threev --mode MODE < script
+       threev --help
+       threev --version
+
+modes:
+  check   reads the script and says how many nodes, items, trees, subtransactions and advancements it has
+  sim     runs the script on one thread and writes the report
+
+statuses:
+  0  the text was written
+  1  want of memory
+  2  the words are not a command line
+  3  the script was refused
+  4  reading failed
+  5  writing failed
+
+rows of a script, comma separated:
+  nodes,N                        the number of nodes, 1 to 16; the first row
+  item,NAME,NODE,KIND,INITIAL    an item of kind sum, top or bag
+  update,NAME,NODE               begins an update tree with its root at NODE
+  sub,PARENT,NODE                the next subtransaction of the tree
+  add,ITEM,AMOUNT                adds an amount to a sum
+";
+
+/// What `--version` writes.
+pub(crate) const VERSION: &[u8] = b"threev 0.1.0\n";
+
+/// The name of a reason.
+fn why_name(why: Why) -> &'static str
+    ensures { result.now ≡ why_name why }
+{
+    match why {
+        Why::TooLong => "TooLong",
+        Why::UnknownRow => "UnknownRow",
+        Why::WrongFields => "WrongFields",
+        Why::NodesFirst => "NodesFirst",
+        Why::NodesTwice => "NodesTwice",
+        Why::BadNumber => "BadNumber",
+        Why::OutOfRange => "OutOfRange",
+        Why::BadName => "BadName",
+        Why::NameTaken => "NameTaken",
+        Why::UnknownItem => "UnknownItem",
+        Why::NoTree => "NoTree",
+        Why::BadParent => "BadParent",
+        Why::WrongNode => "WrongNode",
+        Why::WrongKind => "WrongKind",
+        Why::TooMany => "TooMany",
+        Why::TooMuch => "TooMuch",
+        Why::ItemTwice => "ItemTwice",
+        Why::NotBuilt => "NotBuilt",
+    }
+}
+
+/// The line of a refused script, from plain parts.
+fn line_of(alloc: Global, row: u32, name: &str) -> Result<String, AllocError>
+    ensures { IfOk result (λ line. string_bytes line ≡ row_line row name.now) }
+{
+    format!(in alloc; "threev: row {row}: {name}\n")
+}
+
+/// The line of a refused script.
+pub(crate) fn fault_line(alloc: Global, fault: ScriptFault) -> Result<String, AllocError>
+    ensures { IfOk result (λ line. string_bytes line ≡ row_line fault.row (why_name fault.why)) }
+{
+    line_of(alloc, fault.row, why_name(fault.why))
+}
