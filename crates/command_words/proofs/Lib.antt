@@ -1,0 +1,5 @@
+pub mod Parse
+pub mod Digits
+pub mod Getters
+pub mod Steps
+pub mod Equal

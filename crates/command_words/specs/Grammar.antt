@@ -1,0 +1,115 @@
+-- A command line as a plain recursion over its words.
+use Rattle.std.specs.Prelude.{Bool, true, false, ◌||◌, List, [], ◌∷◌, Option, Some, None, is_some, option_and_then, codes, slice_get, drop, if◌then◌else◌}
+use Rattle.std.specs.Option.{option_map_or, option_or}
+use Rattle.std.specs.Str.{bytes_eq, chars}
+use Rattle.clap.specs.Lexer.{long_of, short_of}
+use Rattle.clap.specs.Words.{Text}
+use Rattle.command_words.specs.Lines.{if_built, line_with, mode_of}
+use Rattle.command_words.specs.declared.Line.{Line}
+use Rattle.command_words.specs.declared.Line.TheVariants as lines
+
+-- the options that take a value
+pub data Opt : Type 0 where
+  mode : Opt
+  workers : Opt
+  seed : Opt
+  trees : Opt
+
+abbrev pub name_of : Opt → Text
+name_of mode = codes "mode"
+name_of workers = codes "workers"
+name_of seed = codes "seed"
+name_of trees = codes "trees"
+
+abbrev pub option_of : Text → Option Opt
+option_of name =
+    if bytes_eq (codes "mode") name then Some mode
+    else if bytes_eq (codes "workers") name then Some workers
+    else if bytes_eq (codes "seed") name then Some seed
+    else if bytes_eq (codes "trees") name then Some trees
+    else None
+
+-- what was given so far
+pub record Given : Type 0 where
+  pub mode_given : Option Text
+  pub workers_given : Option Text
+  pub seed_given : Option Text
+  pub trees_given : Option Text
+  pub history_given : Bool
+
+abbrev pub nothing_given : Given
+nothing_given = record { mode_given = None; workers_given = None; seed_given = None; trees_given = None; history_given = false }
+
+abbrev pub value_of : Opt → Given → Option Text
+value_of mode g = g.mode_given
+value_of workers g = g.workers_given
+value_of seed g = g.seed_given
+value_of trees g = g.trees_given
+
+abbrev pub with_value : Opt → Text → Given → Given
+with_value mode v g = record g { mode_given = Some v }
+with_value workers v g = record g { workers_given = Some v }
+with_value seed v g = record g { seed_given = Some v }
+with_value trees v g = record g { trees_given = Some v }
+
+-- each option at most once
+abbrev pub put : Opt → Text → Given → Option Given
+put o v g = if is_some (value_of o g) then None else Some (with_value o v g)
+
+abbrev pub put_history : Given → Option Given
+put_history g = if g.history_given then None else Some (record g { history_given = true })
+
+-- a hyphen and a character after it
+abbrev pub is_short_word : Text → Bool
+is_short_word word = option_map_or (λ flags. is_some (slice_get (chars flags) 0)) (short_of word) false
+
+-- what begins with a hyphen and goes on, `--` too, is no value of its own
+abbrev pub is_option_word : Text → Bool
+is_option_word word = (is_some (long_of word) || is_short_word word) || bytes_eq word (codes "--")
+
+-- a word that no option waits for: `--name=value`, `--history`, or `--name`, which waits
+abbrev pub by_option : Given → Option (Text × Option Text) → (Given → Option Opt → Option Given) → Option Given
+by_option g None next = None
+by_option g (Some (name, Some v)) next = option_and_then (λ o. option_and_then (λ h. next h None) (put o v g)) (option_of name)
+by_option g (Some (name, None)) next =
+    if bytes_eq (codes "history") name then option_and_then (λ h. next h None) (put_history g)
+    else option_and_then (λ o. next g (Some o)) (option_of name)
+
+-- what the words give, after what was given before, where an option may wait for its value
+unfoldable pub given : Given → Option Opt → List Text → Option Given
+given g None [] = Some g
+given g (Some o) [] = None
+given g None (word ∷ rest) = by_option g (long_of word) (λ h waiting. given h waiting rest)
+given g (Some o) (word ∷ rest) = if is_option_word word then None else option_and_then (λ h. given h None rest) (put o word g)
+
+-- with its mode, if it was given
+abbrev pub line_by_mode : Option Text → Given → Option Line
+line_by_mode None g = None
+line_by_mode (Some word) g = line_with (mode_of word) g.workers_given g.seed_given g.trees_given g.history_given
+
+-- the line of what was given
+abbrev pub line_of_given : Given → Option Line
+line_of_given g = line_by_mode g.mode_given g
+
+-- the line of the options; the first word is the program's name
+abbrev pub line_of_options : List Text → Option Line
+line_of_options words = option_and_then line_of_given (given nothing_given None (drop 1 words))
+
+abbrev pub asked_by : Text → Option Line
+asked_by word =
+    if bytes_eq word (codes "--help") then Some lines.Help
+    else if bytes_eq word (codes "--version") then Some lines.Version
+    else None
+
+-- `--help` or `--version` alone
+abbrev pub asked : List Text → Option Line
+asked (name ∷ word ∷ []) = asked_by word
+asked words = None
+
+-- every line of the command line
+abbrev pub line_of : List Text → Option Line
+line_of words = option_or (asked words) (line_of_options words)
+
+-- the line, if it is one and is built
+abbrev pub built_line : List Text → Option Line
+built_line words = option_and_then if_built (line_of words)

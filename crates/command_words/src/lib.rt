@@ -1,0 +1,294 @@
+//! The command line of the program, read into what it asks for.
+#![tactic(auto)]
+
+ghost use Rattle.std.specs.Prelude.{◌≡◌, MatchResult, codes, drop, false, map, option_and_then, option_map, string_bytes, true};
+ghost use Rattle.std.specs.List.{list_any};
+ghost use Rattle.std.specs.Str.{bytes_eq};
+ghost use Rattle.command_words.specs.Grammar.{asked as asked_in, asked_by as asked_in_word, built_line, line_of, line_of_options};
+ghost use Rattle.command_words.specs.Lines.{Tells, given_value, if_built, is_built as is_built_line, is_given_in, line_of_mode, mode_of};
+ghost use Rattle.command_words.specs.Parser.{is_on as is_on_text, line_from};
+
+mod numbers;
+mod parser;
+
+use crate::numbers::number;
+use crate::parser::parsed;
+use std::alloc::{AllocError, Global};
+
+// The number of workers where none is given.
+const DEFAULT_WORKERS: u32 = 4;
+// The most workers.
+const MOST_WORKERS: u32 = 32;
+// The most trees of a soak.
+const MOST_TREES: u32 = 20_000;
+
+/// What a command line asks for.
+#[derive(Clone, Copy, Debug, PartialEq, Eq)]
+pub enum Line {
+    /// Check a script and run nothing.
+    Check,
+    /// Run a script step by step, in one thread.
+    Sim {
+        /// What the choices of the run are drawn from; the run makes none by chance where it isn't given.
+        seed: Option<u64>,
+        /// Whether the run's history is written too.
+        history: bool,
+    },
+    /// Run a script by several threads.
+    Run {
+        /// The number of threads, 1 to 32.
+        workers: u32,
+        /// Whether the run's history is written too.
+        history: bool,
+    },
+    /// Run many scripts that are drawn by chance.
+    Soak {
+        /// The number of threads, 1 to 32.
+        workers: u32,
+        /// What the scripts are drawn from.
+        seed: u64,
+        /// The number of trees, 1 to 20,000.
+        trees: u32,
+    },
+    /// Tell how the program is called.
+    Help,
+    /// Tell the program's version.
+    Version,
+}
+
+/// Why words were not read as a line.
+#[derive(Clone, Copy, Debug, PartialEq, Eq)]
+pub enum WordsError {
+    /// The words are no line of the program, or one that it doesn't build yet.
+    Refused,
+    /// There was no memory to read them; they may be a line.
+    NoMemory,
+}
+
+impl From<AllocError> for WordsError {
+    ghost use Rattle.command_words.specs.declared.WordsError.TheVariants.{NoMemory};
+
+    ghost from_gives = { λ _ e. e ≡ NoMemory };
+
+    fn from(_: AllocError) -> Self {
+        WordsError::NoMemory
+    }
+}
+
+// What `--mode` names.
+#[derive(Clone, Copy)]
+enum Mode {
+    Check,
+    Sim,
+    Run,
+    Soak,
+}
+
+fn mode_by_word(word: &str) -> Option<Mode>
+    ensures { result ≡ mode_of word.now }
+{
+    match word {
+        "check" => Some(Mode::Check),
+        "sim" => Some(Mode::Sim),
+        "run" => Some(Mode::Run),
+        "soak" => Some(Mode::Soak),
+        _ => None,
+    }
+}
+
+// A number in its range, if it is given.
+fn given(low: u64, high: u64, text: Option<&str>) -> Result<Option<u64>, WordsError>
+    ensures { MatchResult result (λ v. (is_given_in low high (option_map (λ t. t.now) text.entry) ≡ true) × (v ≡ given_value (option_map (λ t. t.now) text.entry)))
+        (λ e. (e ≡ WordsError.Refused) × (is_given_in low high (option_map (λ t. t.now) text.entry) ≡ false)) }
+{
+    let Some(text) = text else {
+        return Ok(None);
+    };
+    match number(text.as_bytes()) {
+        Some(n) => {
+            if low as u128 <= n && n <= high as u128 {
+                Ok(Some(n as u64))
+            } else {
+                Err(WordsError::Refused)
+            }
+        }
+        None => Err(WordsError::Refused),
+    }
+}
+
+// A number from 1 on, if it is given.
+fn given_count(high: u32, text: Option<&str>) -> Result<Option<u32>, WordsError>
+    ensures { MatchResult result (λ v. (is_given_in 1 high (option_map (λ t. t.now) text.entry) ≡ true) × (v ≡ given_value (option_map (λ t. t.now) text.entry)))
+        (λ e. (e ≡ WordsError.Refused) × (is_given_in 1 high (option_map (λ t. t.now) text.entry) ≡ false)) }
+{
+    let Some(text) = text else {
+        return Ok(None);
+    };
+    match number(text.as_bytes()) {
+        Some(n) => {
+            if 1 <= n && n <= high as u128 {
+                Ok(Some(n as u32))
+            } else {
+                Err(WordsError::Refused)
+            }
+        }
+        None => Err(WordsError::Refused),
+    }
+}
+
+// What goes with each mode.
+fn line_by_mode(
+    mode: Mode,
+    workers: Option<u32>,
+    seed: Option<u64>,
+    trees: Option<u32>,
+    history: bool,
+) -> Option<Line>
+    ensures { result ≡ line_of_mode mode workers seed trees history }
+{
+    match (mode, workers, seed, trees, history) {
+        (Mode::Check, None, None, None, false) => Some(Line::Check),
+        (Mode::Sim, None, seed, None, history) => Some(Line::Sim { seed, history }),
+        (Mode::Run, workers, None, None, history) => Some(Line::Run {
+            workers: workers.unwrap_or(DEFAULT_WORKERS),
+            history,
+        }),
+        (Mode::Soak, workers, Some(seed), Some(trees), false) => Some(Line::Soak {
+            workers: workers.unwrap_or(DEFAULT_WORKERS),
+            seed,
+            trees,
+        }),
+        _ => None,
+    }
+}
+
+fn mode_by_value(text: Option<&str>) -> Option<Mode>
+    ensures { result ≡ option_and_then mode_of (option_map (λ t. t.now) text.entry) }
+{
+    match text {
+        Some(word) => mode_by_word(word),
+        None => None,
+    }
+}
+
+// The line of the values that clap found.
+fn line_by_values<'a>(
+    mode: Option<&'a str>,
+    workers: Option<&'a str>,
+    seed: Option<&'a str>,
+    trees: Option<&'a str>,
+    history: Option<&'a str>,
+) -> Result<Line, WordsError>
+    ensures { Tells (line_from (option_map (λ t. t.now) mode.entry) (option_map (λ t. t.now) workers.entry) (option_map (λ t. t.now) seed.entry) (option_map (λ t. t.now) trees.entry) (option_map (λ t. t.now) history.entry)) result }
+{
+    let Some(mode) = mode_by_value(mode) else {
+        return Err(WordsError::Refused);
+    };
+    let workers = given_count(MOST_WORKERS, workers)?;
+    let seed = given(0, u64::MAX, seed)?;
+    let trees = given_count(MOST_TREES, trees)?;
+    match line_by_mode(mode, workers, seed, trees, is_on(history)) {
+        Some(line) => Ok(line),
+        None => Err(WordsError::Refused),
+    }
+}
+
+fn is_on(text: Option<&str>) -> bool
+    ensures { result ≡ is_on_text (option_map (λ t. t.now) text.entry) }
+{
+    match text {
+        Some(text) => text == "true",
+        None => false,
+    }
+}
+
+fn has_dashes(words: &[String]) -> bool
+    ensures { result ≡ list_any (λ w. bytes_eq (string_bytes w) (codes "--")) words.now }
+{
+    words.iter().any(|w| w.as_str() == "--")
+}
+
+// The first word is the program's name, and isn't read.
+fn dashed(words: &[String]) -> bool
+    ensures { result ≡ list_any (λ w. bytes_eq (string_bytes w) (codes "--")) (drop 1 words.now) }
+{
+    match words {
+        [_, rest @ ..] => has_dashes(rest),
+        [] => false,
+    }
+}
+
+// The line of the options.
+fn line_by_options(alloc: Global, words: &[String]) -> Result<Line, WordsError>
+    ensures { Tells (line_of_options (map string_bytes words.now)) result }
+{
+    if dashed(words) {
+        return Err(WordsError::Refused);
+    }
+    let matches = parsed(alloc, words)?;
+    line_by_values(
+        matches.get_str("mode"),
+        matches.get_str("workers"),
+        matches.get_str("seed"),
+        matches.get_str("trees"),
+        matches.get_str("history"),
+    )
+}
+
+fn asked_by(word: &str) -> Option<Line>
+    ensures { result ≡ asked_in_word word.now }
+{
+    match word {
+        "--help" => Some(Line::Help),
+        "--version" => Some(Line::Version),
+        _ => None,
+    }
+}
+
+// What stands alone after the program's name.
+fn asked(words: &[String]) -> Option<Line>
+    ensures { result ≡ asked_in (map string_bytes words.now) }
+{
+    match words {
+        [_, word] => asked_by(word.as_str()),
+        _ => None,
+    }
+}
+
+fn line_by_words(alloc: Global, words: &[String]) -> Result<Line, WordsError>
+    ensures { Tells (line_of (map string_bytes words.now)) result }
+{
+    match asked(words) {
+        Some(line) => Ok(line),
+        None => line_by_options(alloc, words),
+    }
+}
+
+fn is_built(line: Line) -> bool
+    ensures { result ≡ is_built_line line }
+{
+    match line {
+        Line::Check | Line::Help | Line::Version => true,
+        Line::Sim { seed, history } => seed.is_none() && !history,
+        Line::Run { .. } | Line::Soak { .. } => false,
+    }
+}
+
+fn only_built(line: Line) -> Result<Line, WordsError>
+    ensures { Tells (if_built line) result }
+{
+    if is_built(line) {
+        Ok(line)
+    } else {
+        Err(WordsError::Refused)
+    }
+}
+
+/// The line that these words are, where the first is the program's name and isn't read. The rest are `--help` or `--version` alone, or options in
+/// any order, each at most once, with the value in the option's own word after `=` or in the word after it. `Refused` comes exactly where the words are no
+/// line that the program builds, and `NoMemory` tells nothing of them.
+pub fn read_words(alloc: Global, words: &[String]) -> Result<Line, WordsError>
+    ensures { Tells (built_line (map string_bytes words.now)) result }
+{
+    only_built(line_by_words(alloc, words)?)
+}
