@@ -1,1 +1,3 @@
 pub mod Ends
+pub mod Built
+pub mod Told

@@ -15,6 +15,7 @@ use crate::outcomes::{Mode, Outcome, Stop, read_and_write, stopped};
 use crate::texts::{HELP, VERSION, fault_line};
 use command_words::{Line, WordsError, read_words};
 use letter_types::History;
+use script_reader::ScriptFault;
 use std::alloc::Global;
 use std::sync::Wait;
 use std::thread::Threads;
@@ -47,12 +48,7 @@ fn write_fixed<K: Sink>(alloc: Global, text: &[u8], out: &mut K) -> Outcome
 }
 
 /// Does what a command line asks for.
-fn after_line<S: Source, K: Sink>(
-    alloc: Global,
-    line: Line,
-    source: &mut S,
-    out: &mut K,
-) -> Outcome
+fn after_line<S: Source, K: Sink>(alloc: Global, line: Line, source: &mut S, out: &mut K) -> Outcome
     requires { IsTrue (is_built line) }
     ensures wrote { result.stop ≡ None → WroteBy (Some line) (S.left source.old) (S.left source.new) (K.written out.old) (K.written out.new) result.history }
     ensures front { result.stop ≡ Some stops.Writing → WroteFrontBy (Some line) (S.left source.old) (S.left source.new) (K.written out.old) (K.written out.new) result.history × Rose (K.faults out.old) (K.faults out.new) }
@@ -122,7 +118,10 @@ fn tell<E: Sink>(alloc: Global, stop: Stop, err: &mut E) -> Stop
 {
     match stop {
         Stop::NoMemory => tell_line(err, b"threev: out of memory\n"),
-        Stop::Words => tell_line(err, b"threev: the words are not a command line of this program\n"),
+        Stop::Words => tell_line(
+            err,
+            b"threev: the words are not a command line of this program\n",
+        ),
         Stop::Script(fault) => return tell_fault(alloc, fault, err),
         Stop::Reading => tell_line(err, b"threev: reading failed\n"),
         Stop::Writing => tell_line(err, b"threev: writing failed\n"),

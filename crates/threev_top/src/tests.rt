@@ -22,6 +22,7 @@ struct Seen {
     entries: usize,
     reads: u64,
     out: MemSink,
+    err: MemSink,
 }
 
 fn words(alloc: Global, list: &[&str]) -> Result<Vec<String>, AllocError> {
@@ -32,7 +33,7 @@ fn words(alloc: Global, list: &[&str]) -> Result<Vec<String>, AllocError> {
     Ok(words)
 }
 
-/// A call over ends in memory, of which each fails at the calls listed.
+/// A call over ends in memory, of which the source and the sink fail at the calls listed, and err has so much room.
 fn call<R: Threads + Wait + Sync>(
     rt: &R,
     alloc: Global,
@@ -40,6 +41,7 @@ fn call<R: Threads + Wait + Sync>(
     script: &str,
     source_fails: &[u32],
     sink_fails: &[u32],
+    err_room: usize,
 ) -> Result<Seen, Fail> {
     let words = words(alloc, line)?;
     let mut source = MemSource::new(
@@ -47,52 +49,100 @@ fn call<R: Threads + Wait + Sync>(
         8,
         source_fails.to_vec(alloc)?,
     );
-    let mut out = MemSink::new(alloc, 1000, 16, sink_fails.to_vec(alloc)?)?;
-    let mut err = MemSink::new(alloc, 1000, 16, Vec::new(alloc))?;
+    let mut out = MemSink::new(alloc, 2000, 16, sink_fails.to_vec(alloc)?)?;
+    let mut err = MemSink::new(alloc, err_room, 16, Vec::new(alloc))?;
     let ended = threev(rt, alloc, &words, &mut source, &mut out, &mut err, &NoGate);
     Ok(Seen {
         status: ended.status,
         entries: ended.history.items().len(),
         reads: source.calls(),
         out,
+        err,
     })
 }
 
 #[test]
-fn a_script_gives_its_report_and_its_history(rt: HostRuntime) -> Result<(), Fail> {
-    for (script, text, entries) in [(FIRST, FIRST_TEXT, 3), (SMALL, SMALL_TEXT, 1)] {
+fn a_script_gives_its_text_and_its_history(rt: HostRuntime) -> Result<(), Fail> {
+    let spelled =
+        "\u{feff}nodes,2\r\n\r\nitem,a,0,sum,10\r\nitem,b,1,sum,0\r\nupdate,t,0\r\nadd,a,5\r\nsub,0,1\r\nadd,b,7\r\n";
+    for (mode, script, text, entries) in [
+        ("sim", FIRST, FIRST_TEXT, 3),
+        ("sim", spelled, FIRST_TEXT, 3),
+        ("sim", SMALL, SMALL_TEXT, 1),
+        (
+            "check",
+            FIRST,
+            "ok nodes 2 items 2 trees 1 subs 2 advances 0\n",
+            0,
+        ),
+    ] {
         let seen = call(
             &rt,
             rt.alloc(),
-            &["threev", "--mode", "sim"],
+            &["threev", "--mode", mode],
             script,
             &[],
             &[],
+            100,
         )?;
         assert_eq!(rt; seen.status, 0);
         assert_eq!(rt; seen.out.bytes(), text.as_bytes());
+        assert_eq!(rt; seen.err.bytes().len(), 0);
         assert_eq!(rt; seen.entries, entries);
     }
     Ok(())
 }
 
 #[test]
-fn faults_and_refusals_have_their_status_and_leave_out_empty(rt: HostRuntime) -> Result<(), Fail> {
-    let line = ["threev", "--mode", "sim"];
-    for fault in 1..5 {
-        let seen = call(&rt, rt.alloc(), &line, SMALL, &[fault], &[])?;
-        assert_eq!(rt; seen.status, 4);
-        assert_eq!(rt; seen.out.bytes().len(), 0);
-    }
-    for script in ["foo", "advance", ""] {
-        let seen = call(&rt, rt.alloc(), &line, script, &[], &[])?;
+fn refusals_leave_out_empty_and_tell_err(rt: HostRuntime) -> Result<(), Fail> {
+    for (script, line) in [
+        ("foo", "threev: row 1: UnknownRow\n"),
+        ("advance", "threev: row 1: NodesFirst\n"),
+        ("", "threev: row 1: NodesFirst\n"),
+        ("nodes,1\nitem,\"a", "threev: row 2: WrongFields\n"),
+    ] {
+        let seen = call(
+            &rt,
+            rt.alloc(),
+            &["threev", "--mode=sim"],
+            script,
+            &[],
+            &[],
+            100,
+        )?;
         assert_eq!(rt; seen.status, 3);
         assert_eq!(rt; seen.out.bytes().len(), 0);
+        assert_eq!(rt; seen.err.bytes(), line.as_bytes());
     }
-    let seen = call(&rt, rt.alloc(), &["threev", "--mode"], SMALL, &[], &[])?;
-    assert_eq!(rt; seen.status, 2);
-    assert_eq!(rt; seen.reads, 0);
-    assert_eq!(rt; seen.out.bytes().len(), 0);
+    let silent = call(
+        &rt,
+        rt.alloc(),
+        &["threev", "--mode", "sim"],
+        "foo",
+        &[],
+        &[],
+        0,
+    )?;
+    assert_eq!(rt; silent.status, 3);
+    Ok(())
+}
+
+#[test]
+fn a_source_that_fails_leaves_out_empty(rt: HostRuntime) -> Result<(), Fail> {
+    for fault in 1..5 {
+        let seen = call(
+            &rt,
+            rt.alloc(),
+            &["threev", "--mode", "sim"],
+            SMALL,
+            &[fault],
+            &[],
+            100,
+        )?;
+        assert_eq!(rt; seen.status, 4);
+        assert_eq!(rt; seen.out.bytes().len(), 0);
+        assert_eq!(rt; seen.err.bytes(), b"threev: reading failed\n".as_slice());
+    }
     Ok(())
 }
 
@@ -105,9 +155,45 @@ fn a_sink_that_fails_has_a_front_of_the_report(rt: HostRuntime) -> Result<(), Fa
         FIRST,
         &[],
         &[2],
+        100,
     )?;
     assert_eq!(rt; seen.status, 5);
     assert_eq!(rt; seen.out.bytes(), b"tree t version 1".as_slice());
+    assert_eq!(rt; seen.err.bytes(), b"threev: writing failed\n".as_slice());
     assert_eq!(rt; seen.entries, 3);
+    Ok(())
+}
+
+#[test]
+fn words_decide_before_anything_is_read(rt: HostRuntime) -> Result<(), Fail> {
+    for line in [
+        ["threev", "--mode"].as_slice(),
+        ["threev", "--mode", "run"].as_slice(),
+        ["threev", "--mode", "sim", "--workers", "2"].as_slice(),
+    ] {
+        let seen = call(&rt, rt.alloc(), line, SMALL, &[], &[], 100)?;
+        assert_eq!(rt; seen.status, 2);
+        assert_eq!(rt; seen.reads, 0);
+        assert_eq!(rt; seen.out.bytes().len(), 0);
+        assert_eq!(rt;
+            seen.err.bytes(),
+            b"threev: the words are not a command line of this program\n".as_slice()
+        );
+    }
+    let version = call(
+        &rt,
+        rt.alloc(),
+        &["threev", "--version"],
+        SMALL,
+        &[],
+        &[],
+        100,
+    )?;
+    assert_eq!(rt; version.status, 0);
+    assert_eq!(rt; version.reads, 0);
+    assert_eq!(rt; version.out.bytes(), b"threev 0.1.0\n".as_slice());
+    let help = call(&rt, rt.alloc(), &["threev", "--help"], SMALL, &[], &[], 100)?;
+    assert_eq!(rt; help.status, 0);
+    assert!(rt; help.out.bytes().starts_with(b"threev: runs a script"));
     Ok(())
 }

@@ -1,13 +1,14 @@
 // Texts of the program's own: the lines on standard error, the help and the version.
 ghost use Rattle.std.specs.Prelude.{◌≡◌, IfOk, string_bytes};
-ghost use Rattle.threev_top.specs.Texts.{help_text, row_line, version_text, why_name};
+ghost use Rattle.threev_top.specs.Texts.{row_line, why_name};
 
 use script_reader::ScriptFault;
 use std::alloc::{AllocError, Global};
 use tx_trees::Why;
 
 /// What `--help` writes.
-pub(crate) const HELP: &[u8] = b"threev: runs a script of transactions on several nodes and reports the balances
+pub(crate) const HELP: &[u8] =
+    b"threev: runs a script of transactions on several nodes and reports the balances
 
 usage: threev --mode MODE < script
        threev --help
