@@ -14,6 +14,8 @@ mod parser;
 use crate::numbers::number;
 use crate::parser::parsed;
 use std::alloc::{AllocError, Global};
+use std::error::Error;
+use std::fmt;
 
 // The number of workers where none is given.
 const DEFAULT_WORKERS: u32 = 4;
@@ -74,6 +76,17 @@ impl From<AllocError> for WordsError {
         WordsError::NoMemory
     }
 }
+
+impl fmt::Display for WordsError {
+    fn fmt<W: fmt::Write>(&self, f: &mut fmt::Formatter<W>) -> fmt::Result {
+        match self {
+            WordsError::Refused => f.write_str("the words are no line of the program"),
+            WordsError::NoMemory => f.write_str("no memory to read the words"),
+        }
+    }
+}
+
+impl Error for WordsError {}
 
 // What `--mode` names.
 #[derive(Clone, Copy)]
@@ -292,3 +305,6 @@ pub fn read_words(alloc: Global, words: &[String]) -> Result<Line, WordsError>
 {
     only_built(line_by_words(alloc, words)?)
 }
+
+#[cfg(test)]
+mod tests;
