@@ -297,9 +297,12 @@ fn only_built(line: Line) -> Result<Line, WordsError>
     }
 }
 
-/// The line that these words are, where the first is the program's name and isn't read. The rest are `--help` or `--version` alone, or options in
-/// any order, each at most once, with the value in the option's own word after `=` or in the word after it. `Refused` comes exactly where the words are no
-/// line that the program builds, and `NoMemory` tells nothing of them.
+/// The line that these words are. The first word is the program's name and isn't read; no words at
+/// all are refused. The rest are `--help` or `--version` alone, or options in any order, each at most
+/// once, its value in the option's own word after `=` or in the word after it.
+///
+/// `Refused` comes only where the words are no line that the program builds, and a line only where
+/// they are that line. `NoMemory` tells nothing of the words. They are left as they were.
 pub fn read_words(alloc: Global, words: &[String]) -> Result<Line, WordsError>
     ensures { Tells (built_line (map string_bytes words.now)) result }
 {
