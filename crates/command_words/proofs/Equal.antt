@@ -21,8 +21,8 @@ use Rattle.clap.specs.Words.{Kinds, Row, Text, fault_of, first_value, found_of, 
 use Rattle.clap.specs.Walk.{Walk, has_row, used, walked}
 use Rattle.clap.specs.Faults.{turn_fault}
 use Rattle.clap.specs.declared.error.kind.ErrorKind.{ErrorKind}
-use Rattle.command_words.specs.Grammar.{line_of_options, line_by_mode, line_of_given, nothing_given, Opt, mode, workers, seed, trees, name_of, option_of, Given, by_option, put, put_history, value_of, with_value}
-use Rattle.command_words.proofs.Plain.{is_option_word, is_short_word, line_taken, plain_line, taken}
+use Rattle.command_words.specs.Grammar.{line_of_options, line_by_mode, line_of_given, nothing_given, Opt, mode, workers, seed, trees, option_of, Given, by_option, put, put_history, value_of, with_value}
+use Rattle.command_words.proofs.Plain.{name_of, is_option_word, is_short_word, line_taken, plain_line, taken}
 use Rattle.command_words.proofs.Steps.{Says, IsUnknown, Rel, at_rows, waits_at, full_at, idle_with, top, rule, history, total, Total, Holds, step_total, new_row, mode_wanted, unknown_is}
 use Rattle.command_words.proofs.Steps as s
 

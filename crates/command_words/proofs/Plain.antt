@@ -12,6 +12,12 @@ use Rattle.command_words.specs.declared.Line.{Line}
 use Rattle.command_words.specs.declared.Mode.{Mode}
 use Rattle.command_words.specs.Grammar.{Given, Opt, by_option, given, line_of_given, line_of_options, mode, nothing_given, option_in, option_of, put, put_history, seed, trees, value_of, with_value, workers}
 
+abbrev pub name_of : Opt → Text
+name_of mode = codes "mode"
+name_of workers = codes "workers"
+name_of seed = codes "seed"
+name_of trees = codes "trees"
+
 -- a hyphen and a character after it
 abbrev pub is_short_word : Text → Bool
 is_short_word word = option_map_or (λ flags. is_some (slice_get (chars flags) 0)) (short_of word) false

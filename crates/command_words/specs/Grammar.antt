@@ -15,12 +15,7 @@ pub data Opt : Type 0 where
   seed : Opt
   trees : Opt
 
-abbrev pub name_of : Opt → Text
-name_of mode = codes "mode"
-name_of workers = codes "workers"
-name_of seed = codes "seed"
-name_of trees = codes "trees"
-
+-- the option of this name
 abbrev pub option_of : Text → Option Opt
 option_of name =
     if bytes_eq (codes "mode") name then Some mode
@@ -67,7 +62,7 @@ name_and_value text = (
       then Some (after_first (λ x. x == 61) text) else None,
 )
 
--- what follows the two hyphens (45) of `--name` or `--name=value`
+-- the name and the value of a word `--name` or `--name=value`, which begins with two hyphens (45)
 abbrev pub option_in : Text → Option (Text × Option Text)
 option_in (a ∷ b ∷ rest) = if a == 45 && b == 45 then Some (name_and_value rest) else None
 option_in word = None
@@ -87,7 +82,7 @@ given g (Some o) [] = None
 given g None (word ∷ rest) = by_option g (option_in word) (λ h waiting. given h waiting rest)
 given g (Some o) (word ∷ rest) = option_and_then (λ h. given h None rest) (put o word g)
 
--- with its mode, if it was given
+-- the line of a mode word, if one was given, with the values of the other options
 abbrev pub line_by_mode : Option Text → Given → Option Line
 line_by_mode None g = None
 line_by_mode (Some word) g = line_with (mode_of word) g.workers_given g.seed_given g.trees_given g.history_given
@@ -101,6 +96,7 @@ abbrev pub line_of_options : List Text → Option Line
 line_of_options [] = None
 line_of_options (name ∷ rest) = option_and_then line_of_given (given nothing_given None rest)
 
+-- the words that ask about the program
 abbrev pub asked_by : Text → Option Line
 asked_by word =
     if bytes_eq word (codes "--help") then Some lines.Help

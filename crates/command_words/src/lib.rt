@@ -302,7 +302,7 @@ fn only_built(line: Line) -> Result<Line, WordsError>
 /// once, its value in the option's own word after `=` or in the word after it.
 ///
 /// `Refused` comes only where the words are no line that the program builds, and a line only where
-/// they are that line. `NoMemory` tells nothing of the words. They are left as they were.
+/// they are that line. `NoMemory` tells nothing of the words.
 pub fn read_words(alloc: Global, words: &[String]) -> Result<Line, WordsError>
     ensures { Tells (built_line (map string_bytes words.now)) result }
 {
