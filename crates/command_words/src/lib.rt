@@ -21,40 +21,40 @@ use std::fmt;
 const DEFAULT_WORKERS: u32 = 4;
 // The most workers.
 const MOST_WORKERS: u32 = 32;
-// The most trees of a soak.
+// The most trees.
 const MOST_TREES: u32 = 20_000;
 
 /// What a command line asks for.
 #[derive(Clone, Copy, Debug, PartialEq, Eq)]
 pub enum Line {
-    /// Check a script and run nothing.
+    /// Mode `check`, with no other option.
     Check,
-    /// Run a script step by step, in one thread.
+    /// Mode `sim`.
     Sim {
-        /// What the choices of the run are drawn from; the run makes none by chance where it isn't given.
+        /// The number of `--seed`, 0 to 2^64 - 1, if it is given.
         seed: Option<u64>,
-        /// Whether the run's history is written too.
+        /// Whether `--history` is given.
         history: bool,
     },
-    /// Run a script by several threads.
+    /// Mode `run`.
     Run {
-        /// The number of threads, 1 to 32.
+        /// The number of `--workers`, 1 to 32; 4 where it isn't given.
         workers: u32,
-        /// Whether the run's history is written too.
+        /// Whether `--history` is given.
         history: bool,
     },
-    /// Run many scripts that are drawn by chance.
+    /// Mode `soak`.
     Soak {
-        /// The number of threads, 1 to 32.
+        /// The number of `--workers`, 1 to 32; 4 where it isn't given.
         workers: u32,
-        /// What the scripts are drawn from.
+        /// The number of `--seed`, 0 to 2^64 - 1.
         seed: u64,
-        /// The number of trees, 1 to 20,000.
+        /// The number of `--trees`, 1 to 20,000.
         trees: u32,
     },
-    /// Tell how the program is called.
+    /// `--help` alone.
     Help,
-    /// Tell the program's version.
+    /// `--version` alone.
     Version,
 }
 
