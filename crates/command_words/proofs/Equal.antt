@@ -21,7 +21,8 @@ use Rattle.clap.specs.Words.{Kinds, Row, Text, fault_of, first_value, found_of, 
 use Rattle.clap.specs.Walk.{Walk, has_row, used, walked}
 use Rattle.clap.specs.Faults.{turn_fault}
 use Rattle.clap.specs.declared.error.kind.ErrorKind.{ErrorKind}
-use Rattle.command_words.specs.Grammar.{line_of_options, line_by_mode, line_of_given, nothing_given, Opt, mode, workers, seed, trees, name_of, option_of, Given, by_option, given, is_option_word, is_short_word, put, put_history, value_of, with_value}
+use Rattle.command_words.specs.Grammar.{line_of_options, line_by_mode, line_of_given, nothing_given, Opt, mode, workers, seed, trees, option_of, Given, by_option, put, put_history, value_of, with_value}
+use Rattle.command_words.proofs.Plain.{name_of, is_option_word, is_short_word, line_taken, plain_line, taken}
 use Rattle.command_words.proofs.Steps.{Says, IsUnknown, Rel, at_rows, waits_at, full_at, idle_with, top, rule, history, total, Total, Holds, step_total, new_row, mode_wanted, unknown_is}
 use Rattle.command_words.proofs.Steps as s
 
@@ -114,62 +115,62 @@ no_option name u = rw (u.mode_not, u.workers_not, u.seed_not, u.trees_not) refl
 
 -- ---- what follows agrees
 record Rest (xs : List Text) : Type 0 where
-  idle_agrees : (g : Given) (rows : List Row) → Rel g rows → Agrees (given g None xs) (total (at_rows rows) xs)
-  waits_agrees : (g : Given) (o : Opt) (rows : List Row) → Rel g rows → Agrees (given g (Some o) xs) (total (waits_at o rows) xs)
-  full_agrees : (g : Given) (o : Opt) (v : Text) (rows : List Row) → Rel g rows → has_row (name_of o) rows ≡ false → Agrees (given (with_value o v g) None xs) (total (full_at o v rows) xs)
+  idle_agrees : (g : Given) (rows : List Row) → Rel g rows → Agrees (taken g None xs) (total (at_rows rows) xs)
+  waits_agrees : (g : Given) (o : Opt) (rows : List Row) → Rel g rows → Agrees (taken g (Some o) xs) (total (waits_at o rows) xs)
+  full_agrees : (g : Given) (o : Opt) (v : Text) (rows : List Row) → Rel g rows → has_row (name_of o) rows ≡ false → Agrees (taken (with_value o v g) None xs) (total (full_at o v rows) xs)
   doomed : (o : Opt) (v : Text) (rows : List Row) → has_row (name_of o) rows ≡ true → (total (full_at o v rows) xs).0 ≢ []
 
 -- the recursion at a word
 abbrev then_given : List Text → Given → Option Opt → Option Given
-then_given xs = λ h waiting. given h waiting xs
+then_given xs = λ h waiting. taken h waiting xs
 
-given_idle : (g : Given) (x : Text) (xs : List Text) (l : Option (Text × Option Text)) → long_of x ≡ l → given g None (x ∷ xs) ≡ by_option g l (then_given xs)
-unfolding given
+given_idle : (g : Given) (x : Text) (xs : List Text) (l : Option (Text × Option Text)) → long_of x ≡ l → taken g None (x ∷ xs) ≡ by_option g l (then_given xs)
+unfolding taken
 given_idle g x xs l e = ap (λ (z : Option (Text × Option Text)). by_option g z (then_given xs)) e
 
-idle_known : (g : Given) (rows : List Row) (x : Text) (xs : List Text) (q : Opt) (v : Option Text) → Says x (name_of q) v → Rel g rows → Rest xs → Agrees (given g None (x ∷ xs)) (total (at_rows rows) (x ∷ xs))
+idle_known : (g : Given) (rows : List Row) (x : Text) (xs : List Text) (q : Opt) (v : Option Text) → Says x (name_of q) v → Rel g rows → Rest xs → Agrees (taken g None (x ∷ xs)) (total (at_rows rows) (x ∷ xs))
 idle_known g rows x xs q (Some v) says r rest =
-    let own : given g None (x ∷ xs) ≡ option_and_then (λ h. given h None xs) (put q v g) = given_idle g x xs _ says.is ∙ ap (λ (o : Option Opt). option_and_then (λ p. option_and_then (λ h. given h None xs) (put p v g)) o) (option_known q) in
+    let own : taken g None (x ∷ xs) ≡ option_and_then (λ h. taken h None xs) (put q v g) = given_idle g x xs _ says.is ∙ ap (λ (o : Option Opt). option_and_then (λ p. option_and_then (λ h. taken h None xs) (put p v g)) o) (option_known q) in
     by (is_some (value_of q g)) refl own
   where
-    by : (b : Bool) → is_some (value_of q g) ≡ b → given g None (x ∷ xs) ≡ option_and_then (λ h. given h None xs) (put q v g) → Agrees (given g None (x ∷ xs)) (total (at_rows rows) (x ∷ xs))
+    by : (b : Bool) → is_some (value_of q g) ≡ b → taken g None (x ∷ xs) ≡ option_and_then (λ h. taken h None xs) (put q v g) → Agrees (taken g None (x ∷ xs)) (total (at_rows rows) (x ∷ xs))
     by true e own =
-        let none : given g None (x ∷ xs) ≡ None = own ∙ rw e refl in
+        let none : taken g None (x ∷ xs) ≡ None = own ∙ rw e refl in
         subst (λ (o : Option Given). Agrees o (total (at_rows rows) (x ∷ xs))) (sym none) (some_kind _ _ _ (fails (at_rows rows) x xs _ _ (s.value_again q rows x v says (r.has q ∙ e))))
     by false e own =
         let fresh = r.has q ∙ e in
-        let some : given g None (x ∷ xs) ≡ given (with_value q v g) None xs = own ∙ rw e refl in
+        let some : taken g None (x ∷ xs) ≡ taken (with_value q v g) None xs = own ∙ rw e refl in
         let t = passes (at_rows rows) _ x xs (s.value_passes q rows x v says fresh) (s.value_walks q rows x v says) ∙ ap (λ (z : List Row). total (at_rows z) xs) (s.used_push q v rows fresh) in
-        subst (λ (o : Option Given). Agrees o (total (at_rows rows) (x ∷ xs))) (sym some) (subst (Agrees (given (with_value q v g) None xs)) (sym t) (rest.idle_agrees (with_value q v g) (rows ++ new_row (rule q) v ∷ []) (s.rel_value g rows q v r fresh)))
+        subst (λ (o : Option Given). Agrees o (total (at_rows rows) (x ∷ xs))) (sym some) (subst (Agrees (taken (with_value q v g) None xs)) (sym t) (rest.idle_agrees (with_value q v g) (rows ++ new_row (rule q) v ∷ []) (s.rel_value g rows q v r fresh)))
 idle_known g rows x xs q None says r rest =
-    let own : given g None (x ∷ xs) ≡ given g (Some q) xs = given_idle g x xs _ says.is ∙ rw (not_flag q, option_known q) refl in
+    let own : taken g None (x ∷ xs) ≡ taken g (Some q) xs = given_idle g x xs _ says.is ∙ rw (not_flag q, option_known q) refl in
     let t = passes (at_rows rows) (waits_at q rows) x xs (s.waits_passes q rows x says) (s.waits_walks q rows x says) in
-    subst (λ (o : Option Given). Agrees o (total (at_rows rows) (x ∷ xs))) (sym own) (subst (Agrees (given g (Some q) xs)) (sym t) (rest.waits_agrees g q rows r))
+    subst (λ (o : Option Given). Agrees o (total (at_rows rows) (x ∷ xs))) (sym own) (subst (Agrees (taken g (Some q) xs)) (sym t) (rest.waits_agrees g q rows r))
 
-idle_flag : (g : Given) (rows : List Row) (x : Text) (xs : List Text) (v : Option Text) → Says x (codes "history") v → Rel g rows → Rest xs → Agrees (given g None (x ∷ xs)) (total (at_rows rows) (x ∷ xs))
+idle_flag : (g : Given) (rows : List Row) (x : Text) (xs : List Text) (v : Option Text) → Says x (codes "history") v → Rel g rows → Rest xs → Agrees (taken g None (x ∷ xs)) (total (at_rows rows) (x ∷ xs))
 idle_flag g rows x xs (Some v) says r rest =
     subst (λ (o : Option Given). Agrees o (total (at_rows rows) (x ∷ xs))) (sym (given_idle g x xs _ says.is)) (some_kind _ _ _ (fails (at_rows rows) x xs _ _ (s.flag_value_fails rows None x v says)))
 idle_flag g rows x xs None says r rest = by g.history_given refl (given_idle g x xs _ says.is)
   where
-    by : (b : Bool) → g.history_given ≡ b → given g None (x ∷ xs) ≡ option_and_then (λ h. given h None xs) (put_history g) → Agrees (given g None (x ∷ xs)) (total (at_rows rows) (x ∷ xs))
+    by : (b : Bool) → g.history_given ≡ b → taken g None (x ∷ xs) ≡ option_and_then (λ h. taken h None xs) (put_history g) → Agrees (taken g None (x ∷ xs)) (total (at_rows rows) (x ∷ xs))
     by true e own =
-        let none : given g None (x ∷ xs) ≡ None = own ∙ rw e refl in
+        let none : taken g None (x ∷ xs) ≡ None = own ∙ rw e refl in
         subst (λ (o : Option Given). Agrees o (total (at_rows rows) (x ∷ xs))) (sym none) (some_kind _ _ _ (fails (at_rows rows) x xs _ _ (s.flag_again rows x says (r.flag ∙ e))))
     by false e own =
         let fresh = r.flag ∙ e in
         let h : Given = record g { history_given = true } in
-        let some : given g None (x ∷ xs) ≡ given h None xs = own ∙ rw e refl in
+        let some : taken g None (x ∷ xs) ≡ taken h None xs = own ∙ rw e refl in
         let t = passes (at_rows rows) _ x xs (s.flag_passes rows x says fresh) (s.flag_walks rows x says) ∙ ap (λ (z : List Row). total (at_rows z) xs) (s.flag_push rows fresh) in
-        subst (λ (o : Option Given). Agrees o (total (at_rows rows) (x ∷ xs))) (sym some) (subst (Agrees (given h None xs)) (sym t) (rest.idle_agrees h (rows ++ new_row history (codes "true") ∷ []) (s.rel_flag g rows r fresh)))
+        subst (λ (o : Option Given). Agrees o (total (at_rows rows) (x ∷ xs))) (sym some) (subst (Agrees (taken h None xs)) (sym t) (rest.idle_agrees h (rows ++ new_row history (codes "true") ∷ []) (s.rel_flag g rows r fresh)))
 
 none_agrees : (o : Option Given) (faults : Total) (k : ErrorKind) (ks : Kinds) → o ≡ None → faults ≡ (k ∷ ks, []) → Agrees o faults
 none_agrees o faults k ks e f = subst (λ (z : Option Given). Agrees z faults) (sym e) (some_kind k ks faults f)
 
-unknown_none : (g : Given) (x : Text) (xs : List Text) (name : Text) (v : Option Text) → long_of x ≡ Some (name, v) → IsUnknown name → given g None (x ∷ xs) ≡ None
+unknown_none : (g : Given) (x : Text) (xs : List Text) (name : Text) (v : Option Text) → long_of x ≡ Some (name, v) → IsUnknown name → taken g None (x ∷ xs) ≡ None
 unknown_none g x xs name (Some v) e u = given_idle g x xs _ e ∙ rw (no_option name u) refl
 unknown_none g x xs name None e u = given_idle g x xs _ e ∙ rw (u.history_not, no_option name u) refl
 
-idle_step : (g : Given) (rows : List Row) (x : Text) (xs : List Text) → Word x → Rel g rows → Rest xs → Agrees (given g None (x ∷ xs)) (total (at_rows rows) (x ∷ xs))
+idle_step : (g : Given) (rows : List Row) (x : Text) (xs : List Text) → Word x → Rel g rows → Rest xs → Agrees (taken g None (x ∷ xs)) (total (at_rows rows) (x ∷ xs))
 idle_step g rows x xs (known q v says) r rest = idle_known g rows x xs q v says r rest
 idle_step g rows x xs (flag v says) r rest = idle_flag g rows x xs v says r rest
 idle_step g rows x xs (unknown name v says u) r rest = none_agrees _ _ _ _ (unknown_none g x xs name v says.is u) (fails (at_rows rows) x xs _ _ (s.unknown_fails rows None x name v says u))
@@ -178,31 +179,31 @@ idle_step g rows x xs (no_char f fs l p sh e) r rest = none_agrees _ _ _ _ (give
 idle_step g rows x xs (plain_text l p sh) r rest = none_agrees _ _ _ _ (given_idle g x xs _ l) (fails (at_rows rows) x xs _ _ (s.stray_fails rows None x l p sh))
 
 -- ---- where an option waits
-given_waits : (g : Given) (o : Opt) (x : Text) (xs : List Text) (b : Bool) → is_option_word x ≡ b → given g (Some o) (x ∷ xs) ≡ (if b then None else option_and_then (λ h. given h None xs) (put o x g))
-unfolding given
-given_waits g o x xs b e = ap (λ (z : Bool). if z then None else option_and_then (λ h. given h None xs) (put o x g)) e
+given_waits : (g : Given) (o : Opt) (x : Text) (xs : List Text) (b : Bool) → is_option_word x ≡ b → taken g (Some o) (x ∷ xs) ≡ (if b then None else option_and_then (λ h. taken h None xs) (put o x g))
+unfolding taken
+given_waits g o x xs b e = ap (λ (z : Bool). if z then None else option_and_then (λ h. taken h None xs) (put o x g)) e
 
 long_word : (x : Text) (p : Text × Option Text) → long_of x ≡ Some p → is_option_word x ≡ true
 long_word x p e = rw e refl
 
 comes : (g : Given) (o : Opt) (rows : List Row) (x : Text) (xs : List Text) → is_option_word x ≡ false → turn_fault top [] (waits_at o rows) x ≡ [] → walked top.rules [] (waits_at o rows) x ≡ full_at o x rows → Rel g rows → Rest xs
-    → Agrees (given g (Some o) (x ∷ xs)) (total (waits_at o rows) (x ∷ xs))
+    → Agrees (taken g (Some o) (x ∷ xs)) (total (waits_at o rows) (x ∷ xs))
 comes g o rows x xs no_word turn walk r rest = by (is_some (value_of o g)) refl (given_waits g o x xs false no_word) (passes (waits_at o rows) (full_at o x rows) x xs turn walk)
   where
-    by : (b : Bool) → is_some (value_of o g) ≡ b → given g (Some o) (x ∷ xs) ≡ option_and_then (λ h. given h None xs) (put o x g) → total (waits_at o rows) (x ∷ xs) ≡ total (full_at o x rows) xs
-        → Agrees (given g (Some o) (x ∷ xs)) (total (waits_at o rows) (x ∷ xs))
+    by : (b : Bool) → is_some (value_of o g) ≡ b → taken g (Some o) (x ∷ xs) ≡ option_and_then (λ h. taken h None xs) (put o x g) → total (waits_at o rows) (x ∷ xs) ≡ total (full_at o x rows) xs
+        → Agrees (taken g (Some o) (x ∷ xs)) (total (waits_at o rows) (x ∷ xs))
     by true e own t =
-        let none : given g (Some o) (x ∷ xs) ≡ None = own ∙ rw e refl in
+        let none : taken g (Some o) (x ∷ xs) ≡ None = own ∙ rw e refl in
         subst (λ (z : Option Given). Agrees z (total (waits_at o rows) (x ∷ xs))) (sym none) (λ q. rest.doomed o x rows (r.has o ∙ e) (ap (λ (z : Total). z.0) (sym t) ∙ q))
     by false e own t =
-        let some : given g (Some o) (x ∷ xs) ≡ given (with_value o x g) None xs = own ∙ rw e refl in
-        subst (λ (z : Option Given). Agrees z (total (waits_at o rows) (x ∷ xs))) (sym some) (subst (Agrees (given (with_value o x g) None xs)) (sym t) (rest.full_agrees g o x rows r (r.has o ∙ e)))
+        let some : taken g (Some o) (x ∷ xs) ≡ taken (with_value o x g) None xs = own ∙ rw e refl in
+        subst (λ (z : Option Given). Agrees z (total (waits_at o rows) (x ∷ xs))) (sym some) (subst (Agrees (taken (with_value o x g) None xs)) (sym t) (rest.full_agrees g o x rows r (r.has o ∙ e)))
 
 waits_flag : (o : Opt) (rows : List Row) (x : Text) (xs : List Text) (v : Option Text) → Says x (codes "history") v → (total (waits_at o rows) (x ∷ xs)).0 ≢ []
 waits_flag o rows x xs None says = some_kind _ _ _ (fails (waits_at o rows) x xs _ _ (s.waits_flag_fails o rows x says))
 waits_flag o rows x xs (Some v) says = some_kind _ _ _ (fails (waits_at o rows) x xs _ _ (s.waits_flag_value_fails o rows x v says))
 
-waits_step : (g : Given) (o : Opt) (rows : List Row) (x : Text) (xs : List Text) → Word x → Rel g rows → Rest xs → Agrees (given g (Some o) (x ∷ xs)) (total (waits_at o rows) (x ∷ xs))
+waits_step : (g : Given) (o : Opt) (rows : List Row) (x : Text) (xs : List Text) → Word x → Rel g rows → Rest xs → Agrees (taken g (Some o) (x ∷ xs)) (total (waits_at o rows) (x ∷ xs))
 waits_step g o rows x xs (known q v says) r rest = none_agrees _ _ _ _ (given_waits g o x xs true (long_word x _ says.is)) (fails (waits_at o rows) x xs _ _ (s.waits_known_fails o q rows x v says))
 waits_step g o rows x xs (flag v says) r rest = subst (λ (z : Option Given). Agrees z (total (waits_at o rows) (x ∷ xs))) (sym (given_waits g o x xs true (long_word x _ says.is))) (waits_flag o rows x xs v says)
 waits_step g o rows x xs (unknown name v says u) r rest = none_agrees _ _ _ _ (given_waits g o x xs true (long_word x _ says.is)) (fails (waits_at o rows) x xs _ _ (s.unknown_fails_waiting o rows x name v says u))
@@ -227,10 +228,10 @@ full_same o v rows x xs (short f fs c l p sh e) fresh = fails (full_at o v rows)
 full_same o v rows x xs (no_char f fs l p sh e) fresh = fails (full_at o v rows) x xs _ _ (s.no_char_fails rows _ x f fs l p sh e) ∙ sym (fails (at_rows (used (rule o) (v ∷ []) rows)) x xs _ _ (s.no_char_fails _ None x f fs l p sh e))
 full_same o v rows x xs (plain_text l p sh) fresh = fails (full_at o v rows) x xs _ _ (s.stray_fails rows _ x l p sh) ∙ sym (fails (at_rows (used (rule o) (v ∷ []) rows)) x xs _ _ (s.stray_fails _ None x l p sh))
 
-full_step : (g : Given) (o : Opt) (v : Text) (rows : List Row) (x : Text) (xs : List Text) → Word x → Rel g rows → has_row (name_of o) rows ≡ false → Rest xs → Agrees (given (with_value o v g) None (x ∷ xs)) (total (full_at o v rows) (x ∷ xs))
+full_step : (g : Given) (o : Opt) (v : Text) (rows : List Row) (x : Text) (xs : List Text) → Word x → Rel g rows → has_row (name_of o) rows ≡ false → Rest xs → Agrees (taken (with_value o v g) None (x ∷ xs)) (total (full_at o v rows) (x ∷ xs))
 full_step g o v rows x xs word r fresh rest =
     let t = full_same o v rows x xs word fresh ∙ ap (λ (z : List Row). total (at_rows z) (x ∷ xs)) (s.used_push o v rows fresh) in
-    subst (Agrees (given (with_value o v g) None (x ∷ xs))) (sym t) (idle_step (with_value o v g) (rows ++ new_row (rule o) v ∷ []) x xs word (s.rel_value g rows o v r fresh) rest)
+    subst (Agrees (taken (with_value o v g) None (x ∷ xs))) (sym t) (idle_step (with_value o v g) (rows ++ new_row (rule o) v ∷ []) x xs word (s.rel_value g rows o v r fresh) rest)
 
 doomed_step : (o : Opt) (v : Text) (rows : List Row) (x : Text) (xs : List Text) → Word x → has_row (name_of o) rows ≡ true → (total (full_at o v rows) (x ∷ xs)).0 ≢ []
 doomed_step o v rows x xs (known q w says) again = some_kind _ _ _ (fails (full_at o v rows) x xs _ _ (s.full_again o q rows v x w again says))
@@ -247,7 +248,7 @@ Clean [] = Unit {0}
 Clean (x ∷ xs) = (bytes_eq x (45 ∷ 45 ∷ []) ≡ false) × Clean xs
 
 nothing_left : Rest []
-unfolding given
+unfolding taken
 nothing_left = record {
   idle_agrees = λ g rows r. s.ends_at g rows r;
   waits_agrees = λ g o rows r. some_fault _ _ _ (s.waits_ends o rows);
@@ -275,7 +276,7 @@ clean_is (x ∷ xs) e = by (bytes_eq x (codes "--")) refl e (clean_is xs)
     by true b e more = absurd (let t : list_any (λ w. bytes_eq w (codes "--")) (x ∷ xs) ≡ true = rw b refl in cc)
     by false b e more = (b, more (rw b at e))
 
-own_total : (words : List Text) → list_any (λ w. bytes_eq w (codes "--")) (drop 1 words) ≡ false → Agrees (given nothing_given None (drop 1 words)) (total (at_rows []) (drop 1 words))
+own_total : (words : List Text) → list_any (λ w. bytes_eq w (codes "--")) (drop 1 words) ≡ false → Agrees (taken nothing_given None (drop 1 words)) (total (at_rows []) (drop 1 words))
 own_total words clean = (rest_is (drop 1 words) (clean_is (drop 1 words) clean)).idle_agrees nothing_given [] s.rel_start
 
 line_eq : (m w se t hist : Option Text) (g : Given) → g.mode_given ≡ m → g.workers_given ≡ w → g.seed_given ≡ se → g.trees_given ≡ t → g.history_given ≡ is_on hist → line_by_mode g.mode_given g ≡ line_from m w se t hist
@@ -309,9 +310,9 @@ lines_by (Some g) faults rows at_end h same = by (is_some g.mode_given) refl
         no_mode g e ∙ (let t : (length faults == 0) ≡ false = ap (λ (ks : Kinds). length ks == 0) some in sym (ap (λ (b : Bool). let l : Option Line = if b then line_of_rows at_end else None in l) t))
 
 pub lines_agree : (words : List Text) → list_any (λ w. bytes_eq w (codes "--")) (drop 1 words) ≡ false
-    → line_of_options words ≡ (if length (fault_of the_app words) == 0 then line_of_rows (matches_of the_app words) else None)
+    → line_taken words ≡ (if length (fault_of the_app words) == 0 then line_of_rows (matches_of the_app words) else None)
 lines_agree words clean =
-    let own = given nothing_given None (drop 1 words) in
+    let own = taken nothing_given None (drop 1 words) in
     let t = total (at_rows []) (drop 1 words) in
     lines_by own (fault_of the_app words) t.1 (matches_of the_app words)
     (subst (λ (ks : Kinds). Agrees own (ks, t.1)) (sym (s.fault_is words)) (own_total words clean))
@@ -331,11 +332,11 @@ option_none g (Some (name, None)) next h = by (bytes_eq (codes "history") name) 
     by true e = rw e (put_none (put_history g) _ (λ k. h k None))
     by false e = rw e (put_none (option_of name) _ (λ o. h g (Some o)))
 
-dashes_none : (xs : List Text) (g : Given) (w : Option Opt) → list_any (λ x. bytes_eq x (codes "--")) xs ≡ true → given g w xs ≡ None
+dashes_none : (xs : List Text) (g : Given) (w : Option Opt) → list_any (λ x. bytes_eq x (codes "--")) xs ≡ true → taken g w xs ≡ None
 dashes_none [] g w e = absurd cc
 dashes_none (x ∷ xs) g w e = by (bytes_eq x (codes "--")) refl w (λ t h v. dashes_none xs h v t)
   where
-    by : (b : Bool) → bytes_eq x (codes "--") ≡ b → (w : Option Opt) → (list_any (λ x. bytes_eq x (codes "--")) xs ≡ true → (h : Given) (v : Option Opt) → given h v xs ≡ None) → given g w (x ∷ xs) ≡ None
+    by : (b : Bool) → bytes_eq x (codes "--") ≡ b → (w : Option Opt) → (list_any (λ x. bytes_eq x (codes "--")) xs ≡ true → (h : Given) (v : Option Opt) → taken h v xs ≡ None) → taken g w (x ∷ xs) ≡ None
     by true d None more =
         let is : x ≡ codes "--" = (bytes_eq-Decides x (codes "--")).0 d in
         given_idle g x xs None (ap long_of is ∙ refl)
@@ -347,7 +348,7 @@ dashes_none (x ∷ xs) g w e = by (bytes_eq x (codes "--")) refl w (λ t h v. da
     by false d None more = given_idle g x xs (long_of x) refl ∙ option_none g (long_of x) _ (more (rw d at e))
     by false d (Some o) more = given_waits g o x xs (is_option_word x) refl ∙ either_none (is_option_word x) (put_none (put o x g) _ (λ k. more (rw d at e) k None))
       where
-        either_none : (b : Bool) → option_and_then (λ h. given h None xs) (put o x g) ≡ None → (if b then None else option_and_then (λ h. given h None xs) (put o x g)) ≡ None
+        either_none : (b : Bool) → option_and_then (λ h. taken h None xs) (put o x g) ≡ None → (if b then None else option_and_then (λ h. taken h None xs) (put o x g)) ≡ None
         either_none true q = refl
         either_none false q = q
 
@@ -359,10 +360,10 @@ pub dashes_are : {X : Type 0} (f : X → Text) (xs : List X) → list_any (λ w.
 dashes_are f xs = list_any-map (λ w. bytes_eq w (codes "--")) f (drop 1 xs) ∙ ap (list_any (λ w. bytes_eq w (codes "--"))) (sym (drop_map f xs))
 
 pub own_dashed : (words : List Text) → list_any (λ w. bytes_eq w (codes "--")) (drop 1 words) ≡ true → line_of_options words ≡ None
-own_dashed words e = ap (option_and_then line_of_given) (dashes_none (drop 1 words) nothing_given None e)
+own_dashed words e = plain_line words ∙ ap (option_and_then line_of_given) (dashes_none (drop 1 words) nothing_given None e)
 
 pub own_refused : (words : List Text) → list_any (λ w. bytes_eq w (codes "--")) (drop 1 words) ≡ false → fault_of the_app words ≢ [] → line_of_options words ≡ None
-own_refused words clean bad = lines_agree words clean ∙ by (fault_of the_app words) bad
+own_refused words clean bad = plain_line words ∙ lines_agree words clean ∙ by (fault_of the_app words) bad
   where
     by : (ks : Kinds) → ks ≢ [] → (let l : Option Line = if length ks == 0 then line_of_rows (matches_of the_app words) else None in l) ≡ None
     by [] h = absurd (h refl)
@@ -371,7 +372,7 @@ own_refused words clean bad = lines_agree words clean ∙ by (fault_of the_app w
         ap (λ (b : Bool). let l : Option Line = if b then line_of_rows (matches_of the_app words) else None in l) more
 
 pub own_taken : (words : List Text) → list_any (λ w. bytes_eq w (codes "--")) (drop 1 words) ≡ false → fault_of the_app words ≡ [] → line_of_options words ≡ line_of_rows (matches_of the_app words)
-own_taken words clean none = lines_agree words clean ∙ (let t : (length (fault_of the_app words) == 0) ≡ true = ap (λ (ks : Kinds). length ks == 0) none in ap (λ (b : Bool). let l : Option Line = if b then line_of_rows (matches_of the_app words) else None in l) t)
+own_taken words clean none = plain_line words ∙ lines_agree words clean ∙ (let t : (length (fault_of the_app words) == 0) ≡ true = ap (λ (ks : Kinds). length ks == 0) none in ap (λ (b : Bool). let l : Option Line = if b then line_of_rows (matches_of the_app words) else None in l) t)
 
 -- ---- what the call answers
 abbrev pub dashes_in : List Text → Bool

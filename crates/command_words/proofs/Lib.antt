@@ -1,5 +1,6 @@
 pub mod Parse
 pub mod Digits
 pub mod Getters
+pub mod Plain
 pub mod Steps
 pub mod Equal

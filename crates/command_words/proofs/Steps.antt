@@ -23,7 +23,8 @@ use Rattle.clap.specs.declared.parser.matches.ValueSource.TheVariants.{CommandLi
 use Rattle.clap.proofs.FaultLemmas.{leaf_fault}
 use Rattle.clap.proofs.OnLiterals.{clap_on_literals}
 use Rattle.command_words.specs.Parser.{history_rule, is_on, mode_rule, option_rule, the_app}
-use Rattle.command_words.specs.Grammar.{Opt, mode, workers, seed, trees, name_of, option_of, Given, nothing_given, value_of, with_value}
+use Rattle.command_words.specs.Grammar.{Opt, mode, workers, seed, trees, option_of, Given, nothing_given, value_of, with_value}
+use Rattle.command_words.proofs.Plain.{name_of}
 
 abbrev pub top : Shape
 top = (built the_app).top

@@ -1,8 +1,8 @@
 -- A command line as a plain recursion over its words.
-use Rattle.std.specs.Prelude.{Bool, true, false, ◌||◌, List, [], ◌∷◌, Option, Some, None, is_some, option_and_then, codes, slice_get, drop, if◌then◌else◌}
-use Rattle.std.specs.Option.{option_map_or, option_or}
-use Rattle.std.specs.Str.{bytes_eq, chars}
-use Rattle.clap.specs.Lexer.{long_of, short_of}
+use Rattle.std.specs.Prelude.{Bool, true, false, ◌==◌, ◌&&◌, List, [], ◌∷◌, Option, Some, None, is_some, option_and_then, codes, if◌then◌else◌}
+use Rattle.std.specs.List.{after_first, before_first, list_any}
+use Rattle.std.specs.Option.{option_or}
+use Rattle.std.specs.Str.{bytes_eq}
 use Rattle.clap.specs.Words.{Text}
 use Rattle.command_words.specs.Lines.{if_built, line_with, mode_of}
 use Rattle.command_words.specs.declared.Line.{Line}
@@ -15,12 +15,7 @@ pub data Opt : Type 0 where
   seed : Opt
   trees : Opt
 
-abbrev pub name_of : Opt → Text
-name_of mode = codes "mode"
-name_of workers = codes "workers"
-name_of seed = codes "seed"
-name_of trees = codes "trees"
-
+-- the option of this name
 abbrev pub option_of : Text → Option Opt
 option_of name =
     if bytes_eq (codes "mode") name then Some mode
@@ -59,13 +54,18 @@ put o v g = if is_some (value_of o g) then None else Some (with_value o v g)
 abbrev pub put_history : Given → Option Given
 put_history g = if g.history_given then None else Some (record g { history_given = true })
 
--- a hyphen and a character after it
-abbrev pub is_short_word : Text → Bool
-is_short_word word = option_map_or (λ flags. is_some (slice_get (chars flags) 0)) (short_of word) false
+-- `name` or `name=value`: what stands before the first `=` (61), and what stands after it where there is one
+abbrev pub name_and_value : Text → Text × Option Text
+name_and_value text = (
+  before_first (λ x. x == 61) text,
+  if list_any (λ x. x == 61) text
+      then Some (after_first (λ x. x == 61) text) else None,
+)
 
--- what begins with a hyphen and goes on, `--` too, is no value of its own
-abbrev pub is_option_word : Text → Bool
-is_option_word word = (is_some (long_of word) || is_short_word word) || bytes_eq word (codes "--")
+-- the name and the value of a word `--name` or `--name=value`, which begins with two hyphens (45)
+abbrev pub option_in : Text → Option (Text × Option Text)
+option_in (a ∷ b ∷ rest) = if a == 45 && b == 45 then Some (name_and_value rest) else None
+option_in word = None
 
 -- a word that no option waits for: `--name=value`, `--history`, or `--name`, which waits
 abbrev pub by_option : Given → Option (Text × Option Text) → (Given → Option Opt → Option Given) → Option Given
@@ -79,10 +79,10 @@ by_option g (Some (name, None)) next =
 unfoldable pub given : Given → Option Opt → List Text → Option Given
 given g None [] = Some g
 given g (Some o) [] = None
-given g None (word ∷ rest) = by_option g (long_of word) (λ h waiting. given h waiting rest)
-given g (Some o) (word ∷ rest) = if is_option_word word then None else option_and_then (λ h. given h None rest) (put o word g)
+given g None (word ∷ rest) = by_option g (option_in word) (λ h waiting. given h waiting rest)
+given g (Some o) (word ∷ rest) = option_and_then (λ h. given h None rest) (put o word g)
 
--- with its mode, if it was given
+-- the line of a mode word, if one was given, with the values of the other options
 abbrev pub line_by_mode : Option Text → Given → Option Line
 line_by_mode None g = None
 line_by_mode (Some word) g = line_with (mode_of word) g.workers_given g.seed_given g.trees_given g.history_given
@@ -91,10 +91,12 @@ line_by_mode (Some word) g = line_with (mode_of word) g.workers_given g.seed_giv
 abbrev pub line_of_given : Given → Option Line
 line_of_given g = line_by_mode g.mode_given g
 
--- the line of the options; the first word is the program's name
+-- the line of the options; the first word is the program's name, which isn't read
 abbrev pub line_of_options : List Text → Option Line
-line_of_options words = option_and_then line_of_given (given nothing_given None (drop 1 words))
+line_of_options [] = None
+line_of_options (name ∷ rest) = option_and_then line_of_given (given nothing_given None rest)
 
+-- the words that ask about the program
 abbrev pub asked_by : Text → Option Line
 asked_by word =
     if bytes_eq word (codes "--help") then Some lines.Help

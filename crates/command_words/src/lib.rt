@@ -14,45 +14,47 @@ mod parser;
 use crate::numbers::number;
 use crate::parser::parsed;
 use std::alloc::{AllocError, Global};
+use std::error::Error;
+use std::fmt;
 
 // The number of workers where none is given.
 const DEFAULT_WORKERS: u32 = 4;
 // The most workers.
 const MOST_WORKERS: u32 = 32;
-// The most trees of a soak.
+// The most trees.
 const MOST_TREES: u32 = 20_000;
 
 /// What a command line asks for.
 #[derive(Clone, Copy, Debug, PartialEq, Eq)]
 pub enum Line {
-    /// Check a script and run nothing.
+    /// Mode `check`, with no other option.
     Check,
-    /// Run a script step by step, in one thread.
+    /// Mode `sim`.
     Sim {
-        /// What the choices of the run are drawn from; the run makes none by chance where it isn't given.
+        /// The number of `--seed`, 0 to 2^64 - 1, if it is given.
         seed: Option<u64>,
-        /// Whether the run's history is written too.
+        /// Whether `--history` is given.
         history: bool,
     },
-    /// Run a script by several threads.
+    /// Mode `run`.
     Run {
-        /// The number of threads, 1 to 32.
+        /// The number of `--workers`, 1 to 32; 4 where it isn't given.
         workers: u32,
-        /// Whether the run's history is written too.
+        /// Whether `--history` is given.
         history: bool,
     },
-    /// Run many scripts that are drawn by chance.
+    /// Mode `soak`.
     Soak {
-        /// The number of threads, 1 to 32.
+        /// The number of `--workers`, 1 to 32; 4 where it isn't given.
         workers: u32,
-        /// What the scripts are drawn from.
+        /// The number of `--seed`, 0 to 2^64 - 1.
         seed: u64,
-        /// The number of trees, 1 to 20,000.
+        /// The number of `--trees`, 1 to 20,000.
         trees: u32,
     },
-    /// Tell how the program is called.
+    /// `--help` alone.
     Help,
-    /// Tell the program's version.
+    /// `--version` alone.
     Version,
 }
 
@@ -74,6 +76,17 @@ impl From<AllocError> for WordsError {
         WordsError::NoMemory
     }
 }
+
+impl fmt::Display for WordsError {
+    fn fmt<W: fmt::Write>(&self, f: &mut fmt::Formatter<W>) -> fmt::Result {
+        match self {
+            WordsError::Refused => f.write_str("the words are no line of the program"),
+            WordsError::NoMemory => f.write_str("no memory to read the words"),
+        }
+    }
+}
+
+impl Error for WordsError {}
 
 // What `--mode` names.
 #[derive(Clone, Copy)]
@@ -284,11 +297,17 @@ fn only_built(line: Line) -> Result<Line, WordsError>
     }
 }
 
-/// The line that these words are, where the first is the program's name and isn't read. The rest are `--help` or `--version` alone, or options in
-/// any order, each at most once, with the value in the option's own word after `=` or in the word after it. `Refused` comes exactly where the words are no
-/// line that the program builds, and `NoMemory` tells nothing of them.
+/// The line that these words are. The first word is the program's name and isn't read; no words at
+/// all are refused. The rest are `--help` or `--version` alone, or options in any order, each at most
+/// once, its value in the option's own word after `=` or in the word after it.
+///
+/// `Refused` comes only where the words are no line that the program builds, and a line only where
+/// they are that line. `NoMemory` tells nothing of the words.
 pub fn read_words(alloc: Global, words: &[String]) -> Result<Line, WordsError>
     ensures { Tells (built_line (map string_bytes words.now)) result }
 {
     only_built(line_by_words(alloc, words)?)
 }
+
+#[cfg(test)]
+mod tests;
