@@ -1,3 +1,4 @@
+pub mod AllItems
 pub mod Acts
 pub mod Bounds
 pub mod OnePass

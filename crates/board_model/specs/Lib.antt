@@ -3,3 +3,5 @@ pub mod Worth
 pub mod Standings
 pub mod Tallies
 pub mod May
+pub mod Balances
+pub mod AllMay

@@ -59,7 +59,7 @@ pub fn is_written(
 
 // The initial value of the item.
 #[tactic(auto, using(crate::proofs::Bounds::bag_starts))]
-fn first_value(alloc: Global, script: &Script, item: ItemNo) -> Value
+pub(crate) fn first_value(alloc: Global, script: &Script, item: ItemNo) -> Value
     ensures { result ≡ first_value (slice_get script.now.items item.0) }
 {
     match script.items().get(item.0 as usize) {
@@ -97,7 +97,7 @@ fn after_subs(alloc: Global, subs: &[Sub], item: ItemNo, first: Value) -> Result
 }
 
 // Whether a tree of this kind and standing is a whole update tree of at most this version.
-fn stands(kind: TreeKind, standing: Standing, version: Version) -> bool
+pub(crate) fn stands(kind: TreeKind, standing: Standing, version: Version) -> bool
     ensures { result ≡ stands version.0 kind standing }
 {
     match (kind, standing.born) {

@@ -172,3 +172,24 @@ fn whole_trees_count_from_their_first_version(rt: HostRuntime) -> Result<(), Fai
     }
     Ok(())
 }
+
+#[test]
+fn a_pass_gives_all_items(rt: HostRuntime) -> Result<(), Fail> {
+    let alloc = rt.alloc();
+    let script = two_trees(alloc)?;
+    let history = one_whole(alloc)?;
+    let standings = whole_versions(alloc, &script, &history)?;
+    for (version, first, second) in [(0, 10, 0), (1, 15, 7)] {
+        let values = balances_at(alloc, &script, &history, &standings, Version(version))?;
+        let [a, b] = values.items() else {
+            return Err("the script has two items".into());
+        };
+        assert_eq!(rt; number(a), first, "the first at {version}");
+        assert_eq!(rt; number(b), second, "the second at {version}");
+    }
+    for (version, want) in [(0, false), (1, true), (2, false)] {
+        let written = written_at(alloc, &script, &history, &standings, Version(version))?;
+        assert_eq!(rt; written.items(), [want, want].as_slice(), "at {version}");
+    }
+    Ok(())
+}

@@ -1,18 +1,20 @@
 // The lines of items.
-ghost use Rattle.std.specs.Prelude.{◌≡◌, ◌++◌, ◌+◌, ◌≤◌, OnOk, codes, length};
+ghost use Rattle.std.specs.Prelude.{◌≡◌, ◌++◌, ◌+◌, OnOk, codes, length};
 ghost use Rattle.board_model.specs.Standings.{standings_of};
-ghost use Rattle.board_model.specs.Worth.{is_written, worth};
-ghost use Rattle.report_text.specs.Report.{balance, balances, item_line, items_text};
+ghost use Rattle.report_text.specs.Lines.{row_line, rows_lines, two_balances};
+ghost use Rattle.report_text.specs.Report.{items_text};
 
 use crate::lines::Lines;
 use crate::values::push_balance;
-use board_model::{Standings, is_written, worth};
+use board_model::{Standings, balances_at, written_at};
+use commute_ops::Value;
 use letter_types::History;
 use std::alloc::Global;
-use tv_base::{ItemNo, NoMemory, Version};
+use tv_base::{NoMemory, Version};
 use tx_trees::{ItemRow, Script};
 
 // The lines of the script's items after so many advancements.
+#[tactic(auto, using(crate::proofs::ItemLines::of_items))]
 pub(crate) fn push_items(
     alloc: Global,
     text: &mut Lines,
@@ -24,76 +26,79 @@ pub(crate) fn push_items(
     requires { standings.now ≡ standings_of script.now history.now }
     ensures { OnOk result (text.new ≡ text.old ++ items_text script.now history.now advances 0 script.now.items) }
 {
-    for (item, row) in script.items().iter().enumerate() {
-        push_item(
-            alloc,
+    let version = Version(advances as u64);
+    let next = Version(version.0 + 1);
+    let shown = balances_at(alloc, script, history, standings, version)?;
+    let later = balances_at(alloc, script, history, standings, next)?;
+    let written = written_at(alloc, script, history, standings, next)?;
+    push_rows(
+        text,
+        advances,
+        script.items(),
+        shown.items(),
+        later.items(),
+        written.items(),
+    )
+}
+
+// The lines of the items of these values: those shown, those at the next version, and whether that is written.
+fn push_rows(
+    text: &mut Lines,
+    advances: u32,
+    rows: &[ItemRow],
+    shown: &[Value],
+    later: &[Value],
+    written: &[bool],
+) -> Result<(), NoMemory>
+    requires shown { length shown.now ≡ length rows.now }
+    requires later { length later.now ≡ length rows.now }
+    requires written { length written.now ≡ length rows.now }
+    ensures { OnOk result (text.new ≡ text.old ++ rows_lines advances rows.now shown.now later.now written.now) }
+{
+    for (item, row) in rows.iter().enumerate() {
+        push_row(
             text,
-            script,
-            history,
-            standings,
             advances,
-            ItemNo(item as u32),
             row,
+            &shown[item],
+            &later[item],
+            written[item],
         )?;
     }
     Ok(())
 }
 
 // The line of an item.
-fn push_item(
-    alloc: Global,
+fn push_row(
     text: &mut Lines,
-    script: &Script,
-    history: &History,
-    standings: &Standings,
     advances: u32,
-    item: ItemNo,
     row: &ItemRow,
+    shown: &Value,
+    later: &Value,
+    written: bool,
 ) -> Result<(), NoMemory>
-    requires { standings.now ≡ standings_of script.now history.now }
-    ensures { OnOk result (text.new ≡ text.old ++ item_line script.now history.now advances item.0 row.now) }
+    ensures { OnOk result (text.new ≡ text.old ++ row_line advances row.now shown.now later.now written) }
 {
     text.push_bytes(b"item ")?;
     text.push_bytes(row.name.bytes())?;
-    push_balances(alloc, text, script, history, standings, advances, item)?;
+    push_balances(text, advances, shown, later, written)?;
     text.push_bytes(b"\n")
 }
 
-// What the item is worth at the version that reads are shown, and at the next if that is written.
+// What an item is worth at the version that reads are shown, and at the next if that is written.
 fn push_balances(
-    alloc: Global,
     text: &mut Lines,
-    script: &Script,
-    history: &History,
-    standings: &Standings,
     advances: u32,
-    item: ItemNo,
+    shown: &Value,
+    later: &Value,
+    written: bool,
 ) -> Result<(), NoMemory>
-    requires { standings.now ≡ standings_of script.now history.now }
-    ensures { OnOk result (text.new ≡ text.old ++ balances script.now history.now advances item.0) }
+    ensures { OnOk result (text.new ≡ text.old ++ two_balances advances shown.now later.now written) }
 {
-    let shown = Version(advances as u64);
-    let next = Version(shown.0 + 1);
-    push_worth(alloc, text, script, history, standings, item, shown)?;
-    if is_written(script, history, standings, item, next) {
-        push_worth(alloc, text, script, history, standings, item, next)?;
+    let version = Version(advances as u64);
+    push_balance(text, version, shown)?;
+    if written {
+        push_balance(text, Version(version.0 + 1), later)?;
     }
     Ok(())
-}
-
-// What the item is worth at the version.
-fn push_worth(
-    alloc: Global,
-    text: &mut Lines,
-    script: &Script,
-    history: &History,
-    standings: &Standings,
-    item: ItemNo,
-    version: Version,
-) -> Result<(), NoMemory>
-    requires { standings.now ≡ standings_of script.now history.now }
-    ensures { OnOk result (text.new ≡ text.old ++ balance version.0 (worth script.now history.now item.0 version.0)) }
-{
-    let value = worth(alloc, script, history, standings, item, version)?;
-    push_balance(text, version, &value)
 }

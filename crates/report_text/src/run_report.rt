@@ -16,9 +16,8 @@ use tx_trees::Script;
 /// the versions of updates and reads after the script's advancements; a line for each item, with what it is worth at
 /// the version that reads are shown, and at the next one if an update tree of that version has an operation on it.
 ///
-/// The trees' versions and wholeness come from one pass over the history. What an item is worth, and whether it is
-/// written, is worked out as it is defined: for each item the operations of the trees are gone over. Only want of
-/// memory is an error.
+/// The trees' versions and wholeness come from one pass over the history; what the items are worth at the two versions,
+/// and which of them are written, from one pass each over the trees. Only want of memory is an error.
 pub fn report(alloc: Global, script: &Script, history: &History) -> Result<Lines, NoMemory>
     ensures { IfOk result (λ text. text ≡ report_of script.now history.now) }
 {
