@@ -77,6 +77,7 @@ missing_count [] = 0
 missing_count (None ∷ ns) = missing_count ns + 1
 missing_count (Some vs ∷ ns) = missing_count ns
 
+-- how many notices a home misses, 0 where there is none
 abbrev pub missing_of : Option Home → ℕ
 missing_of None = 0
 missing_of (Some h) = missing_count h.notices
@@ -91,6 +92,7 @@ is_missing None = false
 is_missing (Some None) = true
 is_missing (Some (Some vs)) = false
 
+-- there is a home that has a place for the notice, and misses it
 abbrev pub misses_of : SubNo → Option Home → Bool
 misses_of s None = false
 misses_of s (Some h) = is_missing (slice_get h.notices s.0)
@@ -104,19 +106,21 @@ abbrev pub answer_with : Home → Option Gets → Option Answered
 answer_with h None = None
 answer_with h (Some vs) = Some (record { tree = h.tree; version = h.version; values = vs })
 
+-- the answer of a home that has one more notice, where none is missing then
 abbrev pub answer_of : SubNo → Gets → Option Home → Option Answered
 answer_of s vs None = None
 answer_of s vs (Some h) = answer_with h (gathered (slice_set h.notices s.0 (Some vs)))
 
--- the tree's answer that one more notice brings, where none is missing then
+-- the answer of a tree that has one more notice, where none is missing then
 abbrev pub answer_in : TreeNo → SubNo → Gets → List Home → Option Answered
 answer_in t s vs hs = answer_of s vs (home_in t hs)
 
+-- the answer where there is one, else how many notices are missing
 abbrev pub told : ℕ → Option Answered → Noted
 told k None = Missing k
 told k (Some a) = WasAnswered a
 
--- what is told of one more notice: the tree's answer, or how many notices are still missing
+-- what is told of one more notice
 abbrev pub outcome : TreeNo → SubNo → Gets → List Home → Noted
 outcome t s vs hs = told (missing_in t (noted t s vs hs)) (answer_in t s vs hs)
 

@@ -7,13 +7,15 @@ use Rattle.tree_home.specs.declared.homes.Home.{Home}
 use Rattle.tree_home.specs.declared.homes.Answered.{Answered}
 use Rattle.tree_home.specs.Homes.{Gets, IsAscending, home_in, new_home, begun, with_notice, noted, forgotten, gathered, misses, missing_in, answer_in}
 
--- the home of another tree stays when a tree begins, has a notice, or goes
+-- the home of another tree stays when a tree begins
 abbrev pub BegunKeepsOthers : Type 0
 BegunKeepsOthers = (t u : TreeNo) (n : ℕ) (v : Version) (hs : List Home) → u.0 ≢ t.0 → home_in u (begun t n v hs) ≡ home_in u hs
 
+-- it stays when a tree has one more notice
 abbrev pub NotedKeepsOthers : Type 0
 NotedKeepsOthers = (t u : TreeNo) (s : SubNo) (vs : Gets) (hs : List Home) → u.0 ≢ t.0 → home_in u (noted t s vs hs) ≡ home_in u hs
 
+-- it stays when a tree goes
 abbrev pub ForgottenKeepsOthers : Type 0
 ForgottenKeepsOthers = (t u : TreeNo) (hs : List Home) → u.0 ≢ t.0 → home_in u (forgotten t hs) ≡ home_in u hs
 
@@ -37,6 +39,7 @@ ForgottenTakesBack = (t : TreeNo) (n : ℕ) (v : Version) (hs : List Home) → f
 abbrev pub MissesWhenBegun : Type 0
 MissesWhenBegun = (t : TreeNo) (s : SubNo) (n : ℕ) (v : Version) (hs : List Home) → misses t s (begun t n v hs) ≡ nat_lt s.0 n
 
+-- as many are missing as there are subtransactions
 abbrev pub AllMissing : Type 0
 AllMissing = (t : TreeNo) (n : ℕ) (v : Version) (hs : List Home) → missing_in t (begun t n v hs) ≡ n
 

@@ -1,4 +1,4 @@
-ghost use Rattle.std.specs.Prelude.{◌≡◌, ◌++◌, ◌<◌, ◌≤◌, [], length, replicate, IfOk, IfErr, IsNone, IsSome, IsTrue, OnErr, OnOk, Some, None, slice_set, slice_get, ◌↔◌};
+ghost use Rattle.std.specs.Prelude.{◌≡◌, ◌++◌, ◌<◌, [], length, replicate, IfOk, IfErr, IsNone, IsSome, IsTrue, OnErr, OnOk, Some, None, slice_set, slice_get, ◌↔◌};
 ghost use Rattle.std.specs.Option.{option_copied, is_some};
 ghost use Rattle.tree_home.specs.Homes.{IsAscending, HavePlaces, home_in, place_of, with_home, begun, with_notice, noted, forgotten, gathered, missing_count, missing_in, misses, is_missing, after_notice, answer_in, answer_of, outcome, MissesSome};
 
