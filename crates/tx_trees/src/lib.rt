@@ -2,7 +2,6 @@
 #![tactic(auto)]
 
 mod lookups;
-mod name_index;
 mod parts;
 mod script;
 mod why;
