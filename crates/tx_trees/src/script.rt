@@ -31,7 +31,6 @@ const MOST_OPS_OF_SUB: usize = 16;
 /// Nodes, items, trees, rows and picks, seen by contracts as `ScriptData`. Whatever was added, a script is valid:
 /// names are taken once, each operation fits its item and its tree, and each item's magnitudes add up to no more
 /// than `MOST_AMOUNT`.
-#[derive(Drop)]
 pub struct Script {
     alloc: Global,
     nodes: u8,
@@ -58,6 +57,28 @@ impl Model for Script {
     ghost view = { data_of };
 
     ghost invariant = { IsKept };
+}
+
+// A drop of its own is one call wherever a script goes out of scope. A derived one would be the drops of all fields
+// there, which every function that holds a script would have to be proved with.
+impl Drop for Script {
+    fn drop(self) {
+        let Script {
+            alloc: _,
+            nodes: _,
+            items: _,
+            trees: _,
+            rows: _,
+            picks: _,
+            begun: _,
+            item_names: _,
+            tree_names: _,
+            totals: _,
+            subs: _,
+            ops: _,
+            advances: _,
+        } = self;
+    }
 }
 
 impl Script {
