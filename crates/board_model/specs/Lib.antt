@@ -1,4 +1,5 @@
 pub mod Histories
+pub mod Right
 pub mod Worth
 pub mod Standings
 pub mod Tallies

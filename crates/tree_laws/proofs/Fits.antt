@@ -6,15 +6,15 @@ use Rattle.letter_types.specs.declared.bodies.Body.TheVariants.{Go, Root, Sub as
 use Rattle.letter_types.specs.declared.entries.LetterId.{LetterId}
 use Rattle.letter_types.specs.declared.entries.Outgoing.{Outgoing}
 use Rattle.std.proofs.lemmas.Bool.Decides.{nat_tests}
-use Rattle.tx_trees.specs.ScriptData.{ScriptData, subs_at, sub_at, node_of, home_of}
+use Rattle.tx_trees.specs.ScriptData.{ScriptData, subs_at, sub_at, node_of, home_of, client_of}
 use Rattle.tx_trees.specs.Valid.{NamesInOrder}
 use Rattle.tx_trees.specs.declared.parts.ScriptRow.{ScriptRow}
 use Rattle.tx_trees.specs.declared.parts.ScriptRow.TheVariants.{Tree as TreeRow, Advance, Settle}
 use Rattle.tx_trees.specs.declared.parts.Sub.{Sub}
 use Rattle.world_model.specs.Counts.{Each}
-use Rattle.world_model.specs.Runs.{client_of}
-use Rattle.world_model.specs.Tables.{sub_letters, roots_of}
+use Rattle.world_model.specs.Tables.{roots_of}
 use Rattle.tree_laws.proofs.Scripts.{get_below}
+use Rattle.tree_step.specs.Children.{sub_letters}
 
 -- a letter goes from the client to itself, or is for a subtransaction of the script and goes to its node
 abbrev pub Fit : ScriptData → ℕ → ℕ → Body → Type 0

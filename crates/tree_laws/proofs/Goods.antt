@@ -6,11 +6,11 @@ use Rattle.letter_types.specs.declared.bodies.Body.{Body}
 use Rattle.letter_types.specs.declared.bodies.Body.TheVariants.{Go}
 use Rattle.letter_types.specs.declared.entries.Entry.{Entry}
 use Rattle.letter_types.specs.declared.entries.Letter.{Letter}
-use Rattle.tx_trees.specs.ScriptData.{ScriptData, subs_at, node_of}
+use Rattle.tx_trees.specs.ScriptData.{ScriptData, subs_at, node_of, client_of}
 use Rattle.tx_trees.specs.declared.parts.ItemRow.{ItemRow}
 use Rattle.world_model.specs.Counts.{tally, one_if}
-use Rattle.world_model.specs.Runs.{client_of, client_in, node_in, waiting, MayFollow, StepRun}
-use Rattle.world_model.specs.Tables.{roots_of, sub_letters}
+use Rattle.world_model.specs.Runs.{client_in, node_in, waiting, MayFollow, StepRun}
+use Rattle.world_model.specs.Tables.{roots_of}
 use Rattle.world_model.proofs.Bags.{tally_step, sealed_tally}
 use Rattle.world_model.proofs.Every.{each_step, each_taken, node_kept}
 use Rattle.tree_laws.specs.Dids.{asks, is_go, is_did, is_born, goes, dids}
@@ -21,6 +21,7 @@ use Rattle.tree_laws.proofs.Scripts.{Sound, SubAt, tree_below, is_sub, subs_here
 use Rattle.tree_laws.proofs.Sent.{on, children, children_apart, no_root, no_go, roots_once, roots_alone, roots_no_go, other_tree}
 use Rattle.tree_laws.proofs.Steps.{Does, Next, Begins, DoesOne, next}
 use Rattle.tree_laws.proofs.Tables.{TableIn, table_more, start_table}
+use Rattle.tree_step.specs.Children.{sub_letters}
 
 -- what an entry does to a number of bodies
 flow : (f : Body → ℕ) (s : ScriptData) (past : List Entry) (e : Entry) → MayFollow s past e

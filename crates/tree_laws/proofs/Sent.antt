@@ -10,8 +10,9 @@ use Rattle.tx_trees.specs.declared.parts.ScriptRow.{ScriptRow}
 use Rattle.tx_trees.specs.declared.parts.ScriptRow.TheVariants.{Tree as TreeRow, Advance, Settle}
 use Rattle.tx_trees.specs.declared.parts.Sub.{Sub}
 use Rattle.world_model.specs.Counts.{tally, one_if}
-use Rattle.world_model.specs.Tables.{sub_letters, roots_of}
+use Rattle.world_model.specs.Tables.{roots_of}
 use Rattle.tree_laws.specs.Dids.{asks, is_go}
+use Rattle.tree_step.specs.Children.{sub_letters}
 
 -- what was sent, by a number of its body
 abbrev pub on : (Body → ℕ) → Outgoing → ℕ

@@ -11,15 +11,20 @@ use Rattle.letter_types.specs.declared.acts.Act.TheVariants.{Did, Turned}
 use Rattle.letter_types.specs.declared.bodies.Body.{Body}
 use Rattle.letter_types.specs.declared.bodies.Body.TheVariants.{Go, Root, Sub as SubLetter}
 use Rattle.letter_types.specs.declared.entries.Entry.{Entry}
-use Rattle.tx_trees.specs.ScriptData.{ScriptData, subs_at, node_of, home_of, ops_of, updates}
+use Rattle.tx_trees.specs.ScriptData.{ScriptData, subs_at, node_of, home_of, ops_of, updates, client_of}
 use Rattle.world_model.specs.Counts.{tally, one_if}
-use Rattle.world_model.specs.Runs.{client_of, client_in, client_table, node_in, node_table, Says, Moves, AtNode, AtCoordinator, AtClient, MayFollow}
-use Rattle.world_model.specs.Tables.{Node, Out, node_row, client_row, root_step, sub_step, touched_by, turned_if, sub_letters, roots_of}
+use Rattle.world_model.specs.Runs.{client_in, client_table, node_in, node_table, Says, Moves, AtNode, AtCoordinator, AtClient, MayFollow}
+use Rattle.world_model.specs.Tables.{node_row, root_step, sub_step, roots_of}
 use Rattle.world_model.proofs.Every.{NodeNext, Stays, Moved, node_next}
 use Rattle.tree_laws.specs.Dids.{asks, is_go, is_did, is_born}
 use Rattle.tree_laws.proofs.Fits.{Fit}
 use Rattle.tree_laws.proofs.Scripts.{Sound, SubAt, sub_there, has_root, updates_here}
 use Rattle.tree_laws.proofs.Tables.{SomeTableIn, TableIn}
+use Rattle.letter_types.specs.Steps.{Out}
+use Rattle.tree_step.specs.Node.{Node}
+use Rattle.client_rows.specs.Client.{client_row}
+use Rattle.tree_step.specs.Children.{sub_letters}
+use Rattle.update_step.specs.Rows.{touched_by, turned_if}
 
 -- subtransaction k of tree t is done at its node in this version; its items then keep to these bounds
 pub record Does (s : ScriptData) (past : List Entry) (e : Entry) (t k : ℕ) (after : ℕ → ℕ) : Type 0 where

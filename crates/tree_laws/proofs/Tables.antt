@@ -17,8 +17,9 @@ use Rattle.tx_trees.specs.declared.parts.Deed.TheVariants.{Apply, Get, Set, Draw
 use Rattle.tx_trees.specs.declared.parts.ItemRow.{ItemRow}
 use Rattle.tx_trees.specs.declared.parts.SubOp.{SubOp}
 use Rattle.tx_trees.specs.declared.parts.TreeKind.TheVariants as trees
-use Rattle.world_model.specs.Tables.{items_at, touched_by, touched_by_deed}
+use Rattle.world_model.specs.Tables.{items_at}
 use Rattle.tree_laws.proofs.Values.{HeldIn, held_more, held_may, touched_held, start_value, value_more}
+use Rattle.update_step.specs.Rows.{touched_by, touched_by_deed}
 
 -- the item is there, and its values keep to the bound
 abbrev pub ItemIn : Kind → ℕ → Option Held → Type 0

@@ -1,5 +1,5 @@
 -- What a script holds, and how its trees are looked up.
-use Rattle.std.specs.Prelude.{ℕ, Bool, true, false, List, [], Option, Some, None, slice_get}
+use Rattle.std.specs.Prelude.{ℕ, ◌+◌, Bool, true, false, List, [], Option, Some, None, slice_get}
 use Rattle.tx_trees.specs.declared.parts.ItemRow.{ItemRow}
 use Rattle.tx_trees.specs.declared.parts.Tree.{Tree}
 use Rattle.tx_trees.specs.declared.parts.Sub.{Sub}
@@ -16,6 +16,10 @@ pub record ScriptData : Type 0 where
   pub picks : List ℕ
   -- whether the last record was a tree, `sub` or operation row
   pub begun : Bool
+
+-- the client's number: the nodes come first, then the coordinator, then the client
+abbrev pub client_of : ScriptData → ℕ
+client_of s = s.nodes + 1
 
 -- the subtransactions of tree t, of which there are none where it isn't there
 abbrev pub subs_at : ScriptData → ℕ → List Sub
@@ -43,3 +47,12 @@ is_update Strict = false
 -- tree t is there, and is an update tree
 abbrev pub updates : ScriptData → ℕ → Bool
 updates s t = elim (slice_get s.trees t) [ Some tree ↦ is_update tree.kind | None ↦ false ]
+
+abbrev pub is_read : TreeKind → Bool
+is_read Update = false
+is_read Read = true
+is_read Strict = false
+
+-- tree t is there, and is a read tree
+abbrev pub reads : ScriptData → ℕ → Bool
+reads s t = elim (slice_get s.trees t) [ Some tree ↦ is_read tree.kind | None ↦ false ]

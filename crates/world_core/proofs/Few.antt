@@ -10,11 +10,16 @@ use Rattle.tx_trees.specs.Valid.{IsValid}
 use Rattle.tx_trees.specs.declared.parts.Sub.{Sub}
 use Rattle.tx_trees.specs.declared.parts.ScriptRow.{ScriptRow}
 use Rattle.tx_trees.specs.declared.parts.ScriptRow.TheVariants.{Tree as TreeRow, Advance}
-use Rattle.world_model.specs.Tables.{Out, Node, Client, still, node_row, client_row, root_step, sub_step, sub_letters, roots_of, touched_by}
+use Rattle.world_model.specs.Tables.{node_row, root_step, sub_step, roots_of}
 use Rattle.world_core.specs.declared.actor.ActorState.{ActorState}
 use Rattle.world_core.specs.declared.actor.ActorState.TheVariants.{Node as NodeActor, Coordinator as CoordinatorActor, Client as ClientActor}
 use Rattle.world_core.specs.Actors.{actor_row}
 use Rattle.world_core.proofs.FewSubs.{few_subs}
+use Rattle.letter_types.specs.Steps.{Out, still}
+use Rattle.tree_step.specs.Node.{Node}
+use Rattle.client_rows.specs.Client.{Client, client_row}
+use Rattle.tree_step.specs.Children.{sub_letters}
+use Rattle.update_step.specs.Rows.{touched_by}
 
 children_by : (t v parent k : ℕ) (x : Sub) (xs : List Sub) (b : Bool) → (nat_lt parent k && (x.parent.0 == parent)) ≡ b
     → length (sub_letters t v parent (k + 1) xs) ≤ length xs → length (sub_letters t v parent k (x ∷ xs)) ≤ length (x ∷ xs)

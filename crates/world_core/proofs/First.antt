@@ -4,8 +4,7 @@ use Rattle.std.specs.Prelude.{slice_get}
 use Rattle.std.proofs.lemmas.List.{length-append}
 use Rattle.letter_types.specs.declared.entries.Entry.{Entry}
 use Rattle.letter_types.specs.Letters.{go}
-use Rattle.tx_trees.specs.ScriptData.{ScriptData}
-use Rattle.world_model.specs.Runs.{client_of}
+use Rattle.tx_trees.specs.ScriptData.{ScriptData, client_of}
 use Rattle.world_model.proofs.Bridge.{slice_get_left, slice_get_last}
 use Rattle.world_core.specs.declared.actor.ActorState.{ActorState}
 use Rattle.world_core.specs.Actors.{IsWorldOf, WorldData, actor_in, actors_from}

@@ -12,8 +12,8 @@ use Rattle.letter_types.specs.declared.entries.Letter.{Letter}
 use Rattle.letter_types.specs.declared.entries.Outgoing.{Outgoing}
 use Rattle.letter_types.specs.declared.entries.Entry.{Entry}
 use Rattle.letter_types.specs.Letters.{find_id, sealed}
-use Rattle.tx_trees.specs.ScriptData.{ScriptData, node_of}
-use Rattle.world_model.specs.Runs.{StepRun, MayFollow, Moves, AtNode, AtCoordinator, AtClient, waiting, client_of}
+use Rattle.tx_trees.specs.ScriptData.{ScriptData, node_of, client_of}
+use Rattle.world_model.specs.Runs.{StepRun, MayFollow, Moves, AtNode, AtCoordinator, AtClient, waiting}
 use Rattle.world_model.proofs.Every.{each_found}
 use Rattle.world_model.proofs.Gone.{unique}
 use Rattle.tree_laws.proofs.Fits.{Fit}

@@ -3,11 +3,12 @@ use Rattle.std.specs.Prelude.{if◌then◌else◌, ℕ, zero, suc, ◌==◌, ◌
 use Rattle.letter_types.specs.declared.entries.Letter.{Letter}
 use Rattle.letter_types.specs.declared.entries.Entry.{Entry}
 use Rattle.tx_trees.specs.ScriptData.{ScriptData}
-use Rattle.world_model.specs.Tables.{Out, Node as NodeData, Client as ClientData, still}
+use Rattle.world_model.specs.Tables.{Node as NodeData, Client as ClientData}
 use Rattle.world_model.specs.Runs.{StepRun, waiting, node_in, client_in, node_table, client_table}
 use Rattle.world_core.specs.declared.actor.Coordinator.TheVariants as coordinators
 use Rattle.world_core.specs.declared.actor.ActorState.{ActorState}
 use Rattle.world_core.specs.declared.actor.ActorState.TheVariants.{Node, Coordinator, Client}
+use Rattle.letter_types.specs.Steps.{Out, still}
 
 abbrev pub at_node : Out NodeData → Out ActorState
 at_node out = record { state = Node out.state; sent = out.sent; acts = out.acts }

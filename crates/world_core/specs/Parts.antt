@@ -8,7 +8,9 @@ use Rattle.letter_types.specs.declared.acts.Act.{Act}
 use Rattle.letter_types.specs.declared.acts.Act.TheVariants.{Born, Did}
 use Rattle.letter_types.specs.declared.entries.Outgoing.{Outgoing}
 use Rattle.letter_types.specs.declared.entries.StepOut.{StepOut}
-use Rattle.world_model.specs.Tables.{Out, sub_letters, turned_if}
+use Rattle.letter_types.specs.Steps.{Out}
+use Rattle.tree_step.specs.Children.{sub_letters}
+use Rattle.update_step.specs.Rows.{turned_if}
 
 -- a state and what goes out, as a table's row
 abbrev pub made : {St : Type 0} → St → StepOut → Out St

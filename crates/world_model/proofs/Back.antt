@@ -7,13 +7,15 @@ use Rattle.letter_types.specs.declared.entries.LetterId.{LetterId}
 use Rattle.letter_types.specs.declared.entries.Letter.{Letter}
 use Rattle.letter_types.specs.declared.entries.Entry.{Entry}
 use Rattle.letter_types.specs.Letters.{go, own, same_id, find_id, drop_id, letters_of}
-use Rattle.tx_trees.specs.ScriptData.{ScriptData}
-use Rattle.world_model.specs.Tables.{Out, start_node, start_client}
-use Rattle.world_model.specs.Runs.{client_of, IsRunOf, after, WorldRun, node_table, coordinator_table, client_table, waiting, node_in, client_in, Says, Moves, AtNode, AtCoordinator, AtClient, MayFollow, StepRun}
+use Rattle.tx_trees.specs.ScriptData.{ScriptData, client_of}
+use Rattle.world_model.specs.Tables.{start_node}
+use Rattle.world_model.specs.Runs.{IsRunOf, after, WorldRun, node_table, coordinator_table, client_table, waiting, node_in, client_in, Says, Moves, AtNode, AtCoordinator, AtClient, MayFollow, StepRun}
 use Rattle.world_model.specs.Counts.{tally, one_if}
 use Rattle.world_model.proofs.Bags.{tally-drop}
 use Rattle.world_model.proofs.Bridge.{reverse_more, own_more, slice_get_split, slice_get_last, slice_get_left, node_after, client_after}
 use Rattle.world_model.proofs.Gone.{apart_from, same_is, of_id, found_one, Gone, gone_now, gone}
+use Rattle.letter_types.specs.Steps.{Out}
+use Rattle.client_rows.specs.Client.{start_client}
 
 -- where a letter under way comes from
 abbrev Came : ScriptData → List Entry → Letter → Type 0
@@ -201,10 +203,10 @@ coordinator_runs s (e ∷ past) run =
     run_more coordinator_table (tt {0}) s.nodes e past (tt {0}) refl (coordinator_runs s past run.1) (says_coordinator s past e run.0.moves)
 
 client_runs : (s : ScriptData) (past : List Entry) → StepRun s past
-    → IsRunOf (client_table s) start_client (own (client_of s) (reverse past))
+    → IsRunOf (client_table s) (start_client s) (own (client_of s) (reverse past))
 client_runs s [] run = tt
 client_runs s (e ∷ past) run =
-    run_more (client_table s) start_client (client_of s) e past (client_in s past) (client_after s past) (client_runs s past run.1) (says_client s past e run.0.moves)
+    run_more (client_table s) (start_client s) (client_of s) e past (client_in s past) (client_after s past) (client_runs s past run.1) (says_client s past e run.0.moves)
 
 pub world_run : (s : ScriptData) (past : List Entry) → StepRun s past → WorldRun s (reverse past)
 world_run s past run = record {

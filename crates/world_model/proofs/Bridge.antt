@@ -8,9 +8,11 @@ use Rattle.letter_types.specs.declared.entries.Letter.{Letter}
 use Rattle.letter_types.specs.declared.entries.Entry.{Entry}
 use Rattle.letter_types.specs.Letters.{go, own, find_id, letters_of}
 use Rattle.letter_types.specs.Postal.{Postal}
-use Rattle.tx_trees.specs.ScriptData.{ScriptData}
-use Rattle.world_model.specs.Tables.{Out, start_node, start_client}
-use Rattle.world_model.specs.Runs.{client_of, IsRunOf, after, node_table, client_table, node_in, client_in, Says}
+use Rattle.tx_trees.specs.ScriptData.{ScriptData, client_of}
+use Rattle.world_model.specs.Tables.{start_node}
+use Rattle.world_model.specs.Runs.{IsRunOf, after, node_table, client_table, node_in, client_in, Says}
+use Rattle.letter_types.specs.Steps.{Out}
+use Rattle.client_rows.specs.Client.{start_client}
 
 pub reverse_more : (e : Entry) (past : List Entry) → reverse (e ∷ past) ≡ reverse past ++ e ∷ []
 reverse_more e past = reverse-append (e ∷ []) past
@@ -66,9 +68,9 @@ node_after s [] p = refl
 node_after s (e ∷ past) p = state_more (node_table s p) (start_node s p) p e past (node_in s past p) (node_after s past p)
 
 pub client_after : (s : ScriptData) (past : List Entry)
-    → after (client_table s) start_client (own (client_of s) (reverse past)) ≡ client_in s past
+    → after (client_table s) (start_client s) (own (client_of s) (reverse past)) ≡ client_in s past
 client_after s [] = refl
-client_after s (e ∷ past) = state_more (client_table s) start_client (client_of s) e past (client_in s past) (client_after s past)
+client_after s (e ∷ past) = state_more (client_table s) (start_client s) (client_of s) e past (client_in s past) (client_after s past)
 
 -- an actor's run with one entry more is one before it, and the entry says what the table says
 pub run_less : {St : Type 0} (row : St → Letter → Out St) (first : St) (a : ℕ) (e : Entry) (past : List Entry) (st : St)

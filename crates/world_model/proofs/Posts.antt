@@ -9,11 +9,12 @@ use Rattle.letter_types.specs.declared.entries.Letter.{Letter}
 use Rattle.letter_types.specs.declared.entries.Outgoing.{Outgoing}
 use Rattle.letter_types.specs.declared.entries.Entry.{Entry}
 use Rattle.letter_types.specs.Letters.{go, same_id, find_id, drop_id, sealed, letters_of}
-use Rattle.tx_trees.specs.ScriptData.{ScriptData}
-use Rattle.world_model.specs.Tables.{start_node, start_client}
-use Rattle.world_model.specs.Runs.{client_of, WorldRun, node_table, coordinator_table, client_table, waiting, node_in, client_in, Moves, AtNode, AtCoordinator, AtClient, MayFollow, StepRun}
+use Rattle.tx_trees.specs.ScriptData.{ScriptData, client_of}
+use Rattle.world_model.specs.Tables.{start_node}
+use Rattle.world_model.specs.Runs.{WorldRun, node_table, coordinator_table, client_table, waiting, node_in, client_in, Moves, AtNode, AtCoordinator, AtClient, MayFollow, StepRun}
 use Rattle.world_model.proofs.Gone.{apart_from, same_is}
 use Rattle.world_model.proofs.Bridge.{reverse_more, slice_get_split, slice_get_last, slice_get_left, postal_less, run_less, node_after, client_after}
+use Rattle.client_rows.specs.Client.{start_client}
 
 find_left_at : (id : LetterId) (x : Letter) (xs ys : List Letter) (l : Letter) (b : Bool) → same_id id x.id ≡ b
     → find_id id (x ∷ xs) ≡ Some l
@@ -157,7 +158,7 @@ moves_of s e past world (inl node) =
 moves_of s e past world (inr (inl at)) =
     AtCoordinator at ((run_less coordinator_table (tt {0}) s.nodes e past (tt {0}) refl world.coordinator).1 (rw at (same_test s.nodes)))
 moves_of s e past world (inr (inr at)) =
-    AtClient at ((run_less (client_table s) start_client (client_of s) e past (client_in s past) (client_after s past) world.client).1 (rw at (same_test (client_of s))))
+    AtClient at ((run_less (client_table s) (start_client s) (client_of s) e past (client_in s past) (client_after s past) world.client).1 (rw at (same_test (client_of s))))
 
 who : (a n : ℕ) → a < n + 2 → (a < n) ⊎ ((a ≡ n) ⊎ (a ≡ n + 1))
 who a n lt = grind arith
@@ -179,7 +180,7 @@ world_less s e past world = record {
   postal = postal_less s e (reverse past) (rw (reverse_more e past) at world.postal);
   nodes = λ p lt. (run_less (node_table s p) (start_node s p) p e past (node_in s past p) (node_after s past p) (world.nodes p lt)).0;
   coordinator = (run_less coordinator_table (tt {0}) s.nodes e past (tt {0}) refl world.coordinator).0;
-  client = (run_less (client_table s) start_client (client_of s) e past (client_in s past) (client_after s past) world.client).0;
+  client = (run_less (client_table s) (start_client s) (client_of s) e past (client_in s past) (client_after s past) world.client).0;
 }
 
 pub step_run : (s : ScriptData) (past : List Entry) → WorldRun s (reverse past) → StepRun s past

@@ -5,12 +5,11 @@ use Rattle.letter_types.specs.declared.entries.Entry.{Entry}
 use Rattle.letter_types.specs.Letters.{find_id, own}
 use Rattle.letter_types.specs.Letters.{waiting as waiting_for}
 use Rattle.letter_types.specs.Postal.{Postal}
-use Rattle.tx_trees.specs.ScriptData.{ScriptData}
-use Rattle.world_model.specs.Tables.{Out, Node, Client, start_node, start_client, node_row, client_row, still}
-
--- the client's number
-abbrev pub client_of : ScriptData → ℕ
-client_of s = s.nodes + 1
+use Rattle.tx_trees.specs.ScriptData.{ScriptData, client_of}
+use Rattle.letter_types.specs.Steps.{Out, still}
+use Rattle.tree_step.specs.Node.{Node}
+use Rattle.client_rows.specs.Client.{Client, start_client, client_row}
+use Rattle.world_model.specs.Tables.{start_node, node_row}
 
 abbrev pub node_table : ScriptData → ℕ → Node → Letter → Out Node
 node_table s p st l = node_row s p st l.from.0 l.body
@@ -18,7 +17,7 @@ node_table s p st l = node_row s p st l.from.0 l.body
 abbrev pub client_table : ScriptData → Client → Letter → Out Client
 client_table s st l = client_row s st l.body
 
--- the coordinator does nothing yet
+-- the coordinator hears nudges, and does nothing yet
 abbrev pub coordinator_table : Unit {0} → Letter → Out (Unit {0})
 coordinator_table st l = still st
 
@@ -38,7 +37,7 @@ pub record WorldRun (s : ScriptData) (h : List Entry) : Type 0 where
   pub postal : Postal (client_of s) h
   pub nodes : (p : ℕ) → p < s.nodes → IsRunOf (node_table s p) (start_node s p) (own p h)
   pub coordinator : IsRunOf coordinator_table (tt {0}) (own s.nodes h)
-  pub client : IsRunOf (client_table s) start_client (own (client_of s) h)
+  pub client : IsRunOf (client_table s) (start_client s) (own (client_of s) h)
 
 -- The shape for proofs: one entry after the other. A past has the newest entry first, and the letters under way and
 -- the states are functions of it.
@@ -51,7 +50,7 @@ node_in s [] p = start_node s p
 node_in s (e ∷ past) p = if e.actor.0 == p then (node_table s p (node_in s past p) e.took).state else node_in s past p
 
 abbrev pub client_in : ScriptData → List Entry → Client
-client_in s [] = start_client
+client_in s [] = start_client s
 client_in s (e ∷ past) = if e.actor.0 == client_of s then (client_table s (client_in s past) e.took).state else client_in s past
 
 -- the table says these letters and these acts

@@ -1,14 +1,14 @@
 -- A run of a small script, oldest letter first.
-use Rattle.std.specs.Prelude.{if◌then◌else◌, ℕ, pos, false, ◌==◌, ◌+◌, nat_lt, List, [], ◌∷◌, length, suc, zero}
+use Rattle.std.specs.Prelude.{if◌then◌else◌, ℕ, pos, false, ◌==◌, ◌+◌, nat_lt, List, [], ◌∷◌, ◌++◌, length, suc, zero}
 use Rattle.commute_ops.specs.declared.kinds.Kind.TheVariants.{Sum}
 use Rattle.commute_ops.specs.declared.kinds.Op.TheVariants.{Add}
 use Rattle.tx_trees.specs.ScriptData.{ScriptData}
-use Rattle.tx_trees.specs.declared.parts.Deed.TheVariants.{Apply}
-use Rattle.tx_trees.specs.declared.parts.ScriptRow.TheVariants.{Tree}
-use Rattle.tx_trees.specs.declared.parts.TreeKind.TheVariants.{Update}
+use Rattle.tx_trees.specs.declared.parts.Deed.TheVariants.{Apply, Get}
+use Rattle.tx_trees.specs.declared.parts.ScriptRow.TheVariants.{Tree, Settle}
+use Rattle.tx_trees.specs.declared.parts.TreeKind.TheVariants.{Update, Read}
 use Rattle.letter_types.specs.declared.entries.Letter.{Letter}
 use Rattle.letter_types.specs.declared.entries.Entry.{Entry}
-use Rattle.world_model.specs.Tables.{Out}
+use Rattle.letter_types.specs.Steps.{Out}
 use Rattle.world_model.specs.Runs.{waiting, node_in, client_in, node_table, client_table, coordinator_table}
 
 -- an actor takes a letter, and its table says this
@@ -45,4 +45,16 @@ small = record {
   rows = Tree (record { 0 = 0 }) ∷ [];
   picks = [];
   begun = false;
+}
+
+-- the same, and once its tree is answered a read tree, whose root gets b at node 1 and whose child gets a at node 0
+abbrev pub with_read : ScriptData
+with_read = record small {
+  trees = small.trees ++ record {
+    name = 114 ∷ [];
+    kind = Read;
+    subs = record { parent = record { 0 = 0 }; node = record { 0 = 1 }; ops = record { item = record { 0 = 1 }; deed = Get } ∷ [] }
+        ∷ record { parent = record { 0 = 0 }; node = record { 0 = 0 }; ops = record { item = record { 0 = 0 }; deed = Get } ∷ [] } ∷ [];
+  } ∷ [];
+  rows = small.rows ++ Settle ∷ Tree (record { 0 = 1 }) ∷ [];
 }

@@ -1,8 +1,8 @@
 use Rattle.std.proofs.Common.{◌≡◌, ◌∷◌, [], arith}
 use Rattle.letter_types.specs.Letters.{go}
-use Rattle.world_model.specs.Runs.{client_of}
 use Rattle.world_core.proofs.First.{first_world}
 use Rattle.world_core.proofs.world.World.start.Goals as goal
+use Rattle.tx_trees.specs.ScriptData.{client_of}
 
 pub returns-clause-world : goal.returns-clause-world
 returns-clause-world c =

@@ -1,0 +1,2 @@
+//! The client, which submits a script's rows.
+#![tactic(auto)]

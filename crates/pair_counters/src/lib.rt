@@ -1,0 +1,2 @@
+//! Requests and completions of one node, by version and other node.
+#![tactic(auto)]

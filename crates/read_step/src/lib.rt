@@ -1,0 +1,2 @@
+//! The step of a subtransaction of a read tree.
+#![tactic(auto)]

@@ -1,0 +1,55 @@
+-- A subtransaction is done: what its node keeps, sends and acts, whatever kind of tree it is of. What its operations
+-- make of the items, and the values of its gets, are given.
+use Rattle.std.specs.Prelude.{ℕ, List, [], ◌∷◌, ◌++◌, length}
+use Rattle.item_versions.specs.Table.{Table}
+use Rattle.node_versions.specs.declared.turns.Turns.{Turns}
+use Rattle.pair_counters.specs.Numbers.{Numbers, asked_one, asked_all, done_one}
+use Rattle.tree_home.specs.Homes.{Gets, begun}
+use Rattle.tx_trees.specs.ScriptData.{ScriptData, client_of, subs_at, home_of}
+use Rattle.letter_types.specs.declared.acts.Act.{Act}
+use Rattle.letter_types.specs.declared.acts.Act.TheVariants.{Born, Did}
+use Rattle.letter_types.specs.declared.entries.Outgoing.{Outgoing}
+use Rattle.letter_types.specs.Steps.{Out}
+use Rattle.tree_step.specs.Node.{Node}
+use Rattle.tree_step.specs.Children.{sub_letters, done_letter, addressees}
+use Rattle.tree_step.specs.Notices.{homes_noted, answer_noted, reply_letters}
+
+-- a root at node p: one request and one completion of p with itself, and a request to each child's node
+abbrev pub counted_root : ℕ → ℕ → List Outgoing → Numbers → Numbers
+counted_root v p children n = done_one v p (asked_all v (addressees children) (asked_one v p n))
+
+-- a subtransaction that q asked for: a request to the addressee of each letter, and a completion from q
+abbrev pub counted_sub : ℕ → ℕ → List Outgoing → Numbers → Numbers
+counted_sub v q letters n = done_one v q (asked_all v (addressees letters) n)
+
+-- the root of tree t at node p, in version v: the tree is born, its children are asked for, and its home takes down
+-- the root's notice
+abbrev pub root_done : ScriptData → ℕ → ℕ → ℕ → Table → Gets → Node → Out Node
+root_done s p t v items values st = record {
+  state = record {
+    turns = st.turns;
+    items = items;
+    counts = counted_root v p (sub_letters t v 0 0 (subs_at s t)) st.counts;
+    homes = homes_noted (record { 0 = t }) (record { 0 = 0 }) values (begun (record { 0 = t }) (length (subs_at s t)) (record { 0 = v }) st.homes);
+  };
+  sent = sub_letters t v 0 0 (subs_at s t)
+      ++ reply_letters (client_of s) (answer_noted (record { 0 = t }) (record { 0 = 0 }) values (begun (record { 0 = t }) (length (subs_at s t)) (record { 0 = v }) st.homes));
+  acts = Born (record { 0 = t }) (record { 0 = v }) ∷ Did (record { 0 = t }) (record { 0 = 0 }) values ∷ [];
+}
+
+-- what subtransaction k of tree t sends in version v: a Sub to each child, and its notice to the home
+abbrev pub sub_sent : ScriptData → ℕ → ℕ → ℕ → Gets → List Outgoing
+sub_sent s t k v values = sub_letters t v k 0 (subs_at s t) ++ done_letter (home_of s t) t k v values ∷ []
+
+-- subtransaction k of tree t, which node q asked for, in version v; `turned` are the acts before it
+abbrev pub sub_done : ScriptData → ℕ → ℕ → ℕ → ℕ → Turns → Table → Gets → List Act → Node → Out Node
+sub_done s q t k v turns items values turned st = record {
+  state = record {
+    turns = turns;
+    items = items;
+    counts = counted_sub v q (sub_sent s t k v values) st.counts;
+    homes = st.homes;
+  };
+  sent = sub_sent s t k v values;
+  acts = turned ++ Did (record { 0 = t }) (record { 0 = k }) values ∷ [];
+}

@@ -1,0 +1,2 @@
+//! The step of a subtransaction of an update tree.
+#![tactic(auto)]
