@@ -2,7 +2,7 @@
 use Rattle.std.proofs.Common.{◌≡◌, ℕ, suc, ◌+◌, ◌<◌, ◌≤◌, ◌==◌, ◌&&◌, Bool, true, false, List, [], ◌∷◌, length, refl, sym, subst, arith, Some}
 use Rattle.std.specs.Prelude.{nat_lt, slice_get}
 use Rattle.letter_types.specs.declared.bodies.Body.{Body}
-use Rattle.letter_types.specs.declared.bodies.Body.TheVariants.{Go, Root, Sub as SubLetter}
+use Rattle.letter_types.specs.declared.bodies.Body.TheVariants.{Go, Root, Sub as SubLetter, Done, Reply, Nudge}
 use Rattle.letter_types.specs.declared.entries.LetterId.{LetterId}
 use Rattle.letter_types.specs.declared.entries.Outgoing.{Outgoing}
 use Rattle.std.proofs.lemmas.Bool.Decides.{nat_tests}
@@ -16,12 +16,17 @@ use Rattle.world_model.specs.Tables.{roots_of}
 use Rattle.tree_laws.proofs.Scripts.{get_below}
 use Rattle.tree_step.specs.Children.{sub_letters}
 
--- a letter goes from the client to itself, or is for a subtransaction of the script and goes to its node
+-- a letter goes from the client to itself, or is for a subtransaction of the script and goes to its node, or brings the
+-- notice of one to its tree's home, or answers a tree to the client, or nudges the coordinator
 abbrev pub Fit : ScriptData → ℕ → ℕ → Body → Type 0
 Fit s from to Go = to ≡ client_of s
 Fit s from to (Root t) = (t.0 < length s.trees) × (to ≡ home_of s t.0)
 Fit s from to (SubLetter t k v) =
     (t.0 < length s.trees) × (k.0 < length (subs_at s t.0)) × (0 < k.0) × (to ≡ node_of s t.0 k.0) × (from < s.nodes)
+Fit s from to (Done t k v notice) =
+    (t.0 < length s.trees) × (k.0 < length (subs_at s t.0)) × (0 < k.0) × (to ≡ home_of s t.0) × (from < s.nodes)
+Fit s from to (Reply t v answer) = (t.0 < length s.trees) × (to ≡ client_of s)
+Fit s from to Nudge = to ≡ s.nodes
 Fit s from to _ = ⊥
 
 -- all that an actor sends

@@ -1,11 +1,8 @@
+pub mod Scripts
 pub mod Values
 pub mod Tables
 pub mod Loads
-pub mod Scripts
-pub mod Sent
 pub mod Fits
-pub mod Steps
-pub mod Counts
-pub mod Goods
-pub mod Whole
-pub mod Sampled
+pub mod Sent
+pub mod Good
+pub mod Nexts

@@ -3,10 +3,13 @@ use Rattle.std.specs.Prelude.{ℕ, ◌==◌, ◌&&◌, ◌+◌, List, [], ◌∷
 use Rattle.letter_types.specs.declared.acts.Act.{Act}
 use Rattle.letter_types.specs.declared.acts.Act.TheVariants.{Born, Did, Finished}
 use Rattle.letter_types.specs.declared.bodies.Body.{Body}
-use Rattle.letter_types.specs.declared.bodies.Body.TheVariants.{Go, Root, Sub, Nudge}
+use Rattle.letter_types.specs.declared.bodies.Body.TheVariants.{Go, Root, Sub, Done, Reply, Nudge}
 use Rattle.letter_types.specs.declared.entries.Entry.{Entry}
 use Rattle.letter_types.specs.declared.entries.Letter.{Letter}
+use Rattle.letter_types.specs.declared.entries.Outgoing.{Outgoing}
 use Rattle.tx_trees.specs.ScriptData.{ScriptData}
+use Rattle.tx_trees.specs.declared.parts.ScriptRow.{ScriptRow}
+use Rattle.tx_trees.specs.declared.parts.ScriptRow.TheVariants.{Tree as TreeRow, Settle as SettleRow}
 use Rattle.world_model.specs.Counts.{tally, one_if}
 use Rattle.world_model.specs.Runs.{waiting}
 
@@ -51,3 +54,38 @@ dids (e ∷ past) t k = tally (is_did t k) e.acts + dids past t k
 abbrev pub births : List Entry → ℕ → ℕ
 births [] t = 0
 births (e ∷ past) t = tally (is_born t) e.acts + births past t
+
+-- a letter that brings the notice of subtransaction k of tree t
+abbrev pub tells_done : ℕ → ℕ → Body → ℕ
+tells_done t k (Done u j v notice) = one_if ((u.0 == t) && (j.0 == k))
+tells_done t k Go = 0
+tells_done t k _ = 0
+
+-- a letter that answers tree t
+abbrev pub replies_to : ℕ → Body → ℕ
+replies_to t (Reply u v answer) = one_if (u.0 == t)
+replies_to t Go = 0
+replies_to t _ = 0
+
+-- how many letters under way bring the notice of subtransaction k of tree t
+abbrev pub notices : ScriptData → List Entry → ℕ → ℕ → ℕ
+notices s past t k = tally (λ (l : Letter). tells_done t k l.body) (waiting s past)
+
+-- how many letters under way answer tree t
+abbrev pub replies : ScriptData → List Entry → ℕ → ℕ
+replies s past t = tally (λ (l : Letter). replies_to t l.body) (waiting s past)
+
+-- how often tree t was answered
+abbrev pub answers : List Entry → ℕ → ℕ
+answers [] t = 0
+answers (e ∷ past) t = tally (λ (o : Outgoing). replies_to t o.body) e.sent + answers past t
+
+-- a row that sends the root of tree t
+abbrev pub is_row_of : ℕ → ScriptRow → ℕ
+is_row_of t (TreeRow u) = one_if (u.0 == t)
+is_row_of t SettleRow = 0
+is_row_of t _ = 0
+
+-- how many of these rows send the root of tree t
+abbrev pub rooted : ℕ → List ScriptRow → ℕ
+rooted t rows = tally (is_row_of t) rows
