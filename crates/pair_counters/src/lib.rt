@@ -1,0 +1,9 @@
+//! Requests to and completions from other nodes, counted by version.
+#![tactic(auto)]
+
+mod counters;
+
+pub use counters::{Counters, Row};
+
+#[cfg(test)]
+mod tests;
