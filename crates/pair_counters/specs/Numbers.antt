@@ -1,5 +1,5 @@
--- Requests and completions of one node.
-use Rattle.std.specs.Prelude.{if◌then◌else◌, ℕ, zero, suc, Bool, ◌==◌, ◌&&◌, ◌+◌, ◌<◌, nat_lt, List, [], ◌∷◌, ◌++◌}
+-- Requests and completions by version and other node.
+use Rattle.std.specs.Prelude.{ℕ, zero, suc, ◌+◌, ◌<◌, ◌==◌, ◌&&◌, nat_lt, List, [], ◌∷◌, ◌++◌, if◌then◌else◌}
 
 -- requests to, and completions from, another node: by version, and then by node
 pub record Numbers : Type 0 where

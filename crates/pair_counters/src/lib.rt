@@ -1,2 +1,9 @@
-//! Requests and completions of one node, by version and other node.
+//! Requests to and completions from other nodes, counted by version.
 #![tactic(auto)]
+
+mod counters;
+
+pub use counters::{Counters, Row};
+
+#[cfg(test)]
+mod tests;
