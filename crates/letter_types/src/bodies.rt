@@ -109,8 +109,8 @@ pub enum Body {
     },
 }
 
-/// A copy of values.
-pub(crate) fn copy_values(alloc: Global, values: &Values) -> Result<Values, NoMemory>
+/// An equal list of values.
+pub fn copy_values(alloc: Global, values: &Values) -> Result<Values, NoMemory>
     ensures { IfOk result (λ copy. copy ≡ values.now) }
 {
     let mut copy = Values::new(alloc);

@@ -6,7 +6,7 @@ mod bodies;
 mod entries;
 
 pub use acts::{Act, Acts};
-pub use bodies::{Answer, Body, Notice, Row, Values};
+pub use bodies::{Answer, Body, Notice, Row, Values, copy_values};
 pub use entries::{Entry, History, Letter, LetterId, Letters, Outgoing, Step, StepOut};
 
 #[cfg(test)]

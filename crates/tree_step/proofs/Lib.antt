@@ -1,0 +1,4 @@
+pub mod Sends
+pub mod Requests
+pub mod Addressed
+pub mod Begun
