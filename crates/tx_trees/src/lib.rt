@@ -4,6 +4,7 @@
 mod lookups;
 mod parts;
 mod script;
+mod trees;
 mod why;
 
 pub use parts::{Deed, ItemRow, ScriptRow, Sub, SubOp, SubOps, Subs, Tree, TreeKind};

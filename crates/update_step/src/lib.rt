@@ -1,2 +1,4 @@
 //! The step of a subtransaction of an update tree.
 #![tactic(auto)]
+
+mod steps;

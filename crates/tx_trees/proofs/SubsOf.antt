@@ -1,0 +1,52 @@
+-- A valid script's trees are small, and run at its nodes.
+use Rattle.std.proofs.Common.{◌≡◌, ℕ, ◌+◌, ◌<◌, ◌≤◌, List, [], ◌∷◌, length, Option, Some, None, zero, suc, refl, sym, subst, arith}
+use Rattle.std.specs.Prelude.{All, slice_get}
+use Rattle.std.specs.List.{AllByRecursion}
+use Rattle.std.proofs.lemmas.List.Elements.{All-from_recursion}
+use Rattle.tx_trees.specs.declared.parts.ItemRow.{ItemRow}
+use Rattle.tx_trees.specs.declared.parts.Sub.{Sub}
+use Rattle.tx_trees.specs.declared.parts.Tree.{Tree}
+use Rattle.tx_trees.specs.declared.parts.TreeKind.{TreeKind}
+use Rattle.tx_trees.specs.ScriptData.{ScriptData, subs_at}
+use Rattle.tx_trees.specs.Valid.{IsValid, IsTree, AreSubs}
+
+-- what holds of each holds at each place
+pub all_at : {X : Type 0} (P : X → Type 0) (xs : List X) (k : ℕ) (x : X) → AllByRecursion P xs → slice_get xs k ≡ Some x → P x
+all_at P [] k x all at = absurd (grind arith)
+all_at P (y ∷ ys) zero x all at = let eq : y ≡ x = grind arith in subst P eq all.0
+all_at P (y ∷ ys) (suc k) x all at = all_at P ys k x all.1 at
+
+few_by : (s : ScriptData) → IsValid s → (t : ℕ) (found : Option Tree) → slice_get s.trees t ≡ found → length (subs_at s t) ≤ 64
+few_by s valid t None at = rw (at, subs_at) (omega arith)
+few_by s valid t (Some tree) at = rw (at, subs_at) (all_at (IsTree s.nodes s.items) s.trees t tree valid.trees at).few
+
+-- a tree has at most 64 subtransactions
+pub few_subs : (s : ScriptData) (t : ℕ) → IsValid s → length (subs_at s t) ≤ 64
+few_subs s t valid = few_by s valid t (slice_get s.trees t) refl
+
+nodes_of : (nodes : ℕ) (items : List ItemRow) (kind : TreeKind) (k : ℕ) (subs : List Sub) → AreSubs nodes items kind k subs
+    → AllByRecursion (λ (x : Sub). x.node.0 < nodes) subs
+nodes_of nodes items kind k [] all = tt
+nodes_of nodes items kind k (x ∷ xs) all = (all.0.node, nodes_of nodes items kind (k + 1) xs all.1)
+
+nodes_by : (s : ScriptData) → IsValid s → (t : ℕ) (found : Option Tree) → slice_get s.trees t ≡ found
+    → AllByRecursion (λ (x : Sub). x.node.0 < s.nodes) (subs_at s t)
+nodes_by s valid t None at = rw (at, subs_at) tt
+nodes_by s valid t (Some tree) at =
+    rw (at, subs_at) (nodes_of s.nodes s.items tree.kind 0 tree.subs (all_at (IsTree s.nodes s.items) s.trees t tree valid.trees at).subs)
+
+-- each runs at one of the script's nodes
+pub sub_nodes : (s : ScriptData) (t : ℕ) → IsValid s → All (λ (x : Sub). x.node.0 < s.nodes) (subs_at s t)
+sub_nodes s t valid = All-from_recursion (λ (x : Sub). x.node.0 < s.nodes) (subs_at s t) (nodes_by s valid t (slice_get s.trees t) refl)
+
+pub found_subs : (s : ScriptData) (t : ℕ) (tree : Tree) → slice_get s.trees t ≡ Some tree → subs_at s t ≡ tree.subs
+found_subs s t tree at = rw (at, subs_at) refl
+
+pub no_subs : (s : ScriptData) (t : ℕ) → slice_get s.trees t ≡ None → subs_at s t ≡ []
+no_subs s t at = rw (at, subs_at) refl
+
+-- the same of a list that is the tree's
+pub subs_nodes : (s : ScriptData) (t : ℕ) (subs : List Sub) → IsValid s → subs ≡ subs_at s t → All (λ (x : Sub). x.node.0 < s.nodes) subs
+subs_nodes s t subs valid is = subst (λ (xs : List Sub). All (λ (x : Sub). x.node.0 < s.nodes) xs) (sym is) (sub_nodes s t valid)
+
+pub ruleset subs_of = (few_subs, subs_nodes, found_subs, no_subs)

@@ -1,0 +1,82 @@
+// A script's trees by number.
+ghost use Rattle.std.specs.Prelude.{◌≡◌, ◌<◌, ◌≤◌, All, length, slice_get};
+ghost use Rattle.std.specs.Option.{option_copied};
+ghost use Rattle.tx_trees.specs.ScriptData.{home_of, is_read, is_update, reads, subs_at, updates};
+
+use crate::parts::{Sub, Tree, TreeKind};
+use crate::script::Script;
+use tv_base::TreeNo;
+
+/// Whether a tree's kind is that of update trees.
+fn is_update(kind: TreeKind) -> bool
+    ensures { result ≡ is_update kind }
+{
+    match kind {
+        TreeKind::Update => true,
+        TreeKind::Read => false,
+        TreeKind::Strict => false,
+    }
+}
+
+/// Whether a tree's kind is that of read trees.
+fn is_read(kind: TreeKind) -> bool
+    ensures { result ≡ is_read kind }
+{
+    match kind {
+        TreeKind::Update => false,
+        TreeKind::Read => true,
+        TreeKind::Strict => false,
+    }
+}
+
+/// A tree by number. None exactly where it isn't there.
+fn find(trees: &[Tree], tree: TreeNo) -> Option<&Tree>
+    ensures { option_copied result ≡ slice_get trees.now tree.0 }
+{
+    trees.get(tree.0 as usize)
+}
+
+impl Script {
+    /// The subtransactions of a tree by number, of which there are none where the tree isn't there.
+    #[tactic(auto, using(crate::proofs::SubsOf::subs_of))]
+    pub fn subs_of(&self, tree: TreeNo) -> &[Sub]
+        ensures subs { result.now ≡ subs_at self.now tree.0 }
+        ensures few { length result.now ≤ 64 }
+        ensures nodes { All (λ s. s.node.0 < self.now.nodes) result.now }
+    {
+        match find(self.trees(), tree) {
+            Some(found) => found.subs.items(),
+            None => &[],
+        }
+    }
+
+    /// Whether the tree is there and is an update tree.
+    pub fn updates(&self, tree: TreeNo) -> bool
+        ensures { result ≡ updates self.now tree.0 }
+    {
+        match find(self.trees(), tree) {
+            Some(found) => is_update(found.kind),
+            None => false,
+        }
+    }
+
+    /// Whether the tree is there and is a read tree.
+    pub fn reads(&self, tree: TreeNo) -> bool
+        ensures { result ≡ reads self.now tree.0 }
+    {
+        match find(self.trees(), tree) {
+            Some(found) => is_read(found.kind),
+            None => false,
+        }
+    }
+
+    /// The node of a tree's root; where the tree isn't there, the number of nodes, which is no node.
+    pub fn home_of(&self, tree: TreeNo) -> u8
+        ensures { result ≡ home_of self.now tree.0 }
+    {
+        match self.subs_of(tree).first() {
+            Some(root) => root.node.0,
+            None => self.nodes(),
+        }
+    }
+}
