@@ -1,0 +1,34 @@
+ghost use Rattle.std.specs.Prelude.{◌≡◌, ◌<◌, ◌≤◌, length, slice_get, slice_set, IfSome};
+ghost use Rattle.std.specs.List.{All};
+ghost use Rattle.tv_base.specs.declared.numbers.Version as version;
+ghost use Rattle.item_versions.specs.Item.{CanCollect, IsHeld, collected};
+ghost use Rattle.version_collect.specs.Collecting.{collected_all, seen_in, numbers_in};
+
+use item_versions::ItemTable;
+use tv_base::Version;
+
+/// Collects every item of the table to version `f`. Each has a version that is at most `f`. What is seen at `f`, and at
+/// every later version, stays. Wants no memory.
+pub fn collect_table(items: &mut ItemTable, f: Version)
+    requires { All (λ e. CanCollect f e.1) items.old }
+    ensures items { items.new ≡ collected_all f items.old }
+    ensures numbers { numbers_in items.new ≡ numbers_in items.old }
+    ensures seen { (v : version.Version) → f.0 ≤ v.0 → seen_in v items.new ≡ seen_in v items.old }
+{
+    for place in 0..items.count() {
+        collect_place(items, place, f);
+    }
+}
+
+/// Collects the item at a place to version `f`. The versions of an item always ascend.
+fn collect_place(items: &mut ItemTable, place: usize, f: Version)
+    requires within { place < length items.old }
+    requires can { IfSome (slice_get items.old place) (λ e. CanCollect f e.1) }
+    ensures collected { IfSome (slice_get items.old place) (λ e. items.new ≡ slice_set items.old place (e.0, collected f e.1)) }
+    ensures ascending { IfSome (slice_get items.old place) (λ e. IsHeld e.1) }
+{
+    // The reader says that the versions ascend.
+    let (_, item) = items.at(place);
+    let _held = item.held();
+    items.collect_at(place, f);
+}
