@@ -1,14 +1,13 @@
 -- A table that is collected item by item.
-use Rattle.std.proofs.Common.{◌≡◌, ℕ, zero, suc, ◌+◌, ◌<◌, ◌≤◌, List, [], ◌∷◌, ◌++◌, length, take, drop, set, map, refl, ap, sym, ◌∙◌, subst, add-one, arith, Option, Some, None}
+use Rattle.std.proofs.Common.{◌≡◌, ℕ, Bool, true, false, ◌&&◌, zero, suc, ◌+◌, ◌<◌, ◌≤◌, List, [], ◌∷◌, ◌++◌, length, take, drop, set, map, refl, ap, sym, ◌∙◌, subst, add-one, arith, Option, Some, None}
 use Rattle.std.specs.Prelude.{slice_get, IfSome}
-use Rattle.std.specs.List.{All}
-use Rattle.std.proofs.lemmas.List.Elements.{All-head, All-tail}
+use Rattle.std.proofs.lemmas.Bool.Decides.{nat_tests}
 use Rattle.tv_base.specs.declared.numbers.ItemNo.{ItemNo}
 use Rattle.tv_base.specs.declared.numbers.Version.{Version}
 use Rattle.item_versions.specs.Item.{Held, IsHeld, CanCollect, collected, seen}
 use Rattle.item_versions.specs.Table.{Table}
 use Rattle.item_versions.proofs.Seen.{seen-collected}
-use Rattle.version_collect.specs.Collecting.{collected_all, seen_in, numbers_in}
+use Rattle.version_collect.specs.Collecting.{may_collect, may_collect_all, collected_all, seen_in, numbers_in}
 
 -- the next item is as it was
 pub next-item : (f : Version) (t : Table) (i : ℕ) → slice_get (collected_all f (take i t) ++ drop i t) i ≡ slice_get t i
@@ -39,6 +38,38 @@ step-items f t now new i lt is put =
     let before : Table = collected_all f (take i t) ++ drop i t in
     let put'' = subst (λ (o : Option (ItemNo × Held)). IfSome o (λ e. new ≡ set before i (e.0, collected f e.1))) (next-item f t i) put' in
     step-of f t new i (slice_get t i) refl lt put''
+
+and_left : (a b : Bool) → (a && b) ≡ true → a ≡ true
+and_left true b both = refl
+and_left false b both = both
+
+and_right : (a b : Bool) → (a && b) ≡ true → b ≡ true
+and_right true b both = both
+and_right false b both = cc
+
+-- an item that may be collected, at a place
+can-collect : (f : Version) (h : Held) → may_collect f h ≡ true → CanCollect f h
+can-collect f [] may = cc
+can-collect f (x ∷ xs) may = grind (arith, nat_tests)
+
+pub can-at : (f : Version) (t : Table) (i : ℕ) → may_collect_all f t ≡ true → IfSome (slice_get t i) (λ e. CanCollect f e.1)
+can-at f [] i may = tt
+can-at f (e ∷ es) zero may = can-collect f e.1 (and_left (may_collect f e.1) (may_collect_all f es) may)
+can-at f (e ∷ es) (suc i) may = can-at f es i (and_right (may_collect f e.1) (may_collect_all f es) may)
+
+pub can-next : (f : Version) (t now : Table) (i : ℕ) → may_collect_all f t ≡ true → now ≡ collected_all f (take i t) ++ drop i t → IfSome (slice_get now i) (λ e. CanCollect f e.1)
+can-next f t now i may is =
+    rw (is, next-item f t i) (can-at f t i may)
+
+-- the test of the items from a place on
+drop-of : (f : Version) (t : Table) (i : ℕ) (o : Option (ItemNo × Held)) → slice_get t i ≡ o → i < length t → (b : Bool) → IfSome o (λ e. b ≡ may_collect f e.1) → may_collect_all f (drop i t) ≡ (b && may_collect_all f (drop (i + 1) t))
+drop-of f [] i o is lt b test = absurd (omega arith)
+drop-of f (x ∷ es) zero None is lt b test = cc
+drop-of f (x ∷ es) zero (Some e) is lt b test = let same : x ≡ e = cc in rw (test, ← same) refl
+drop-of f (x ∷ es) (suc i) o is lt b test = rw add-one (rw add-one at (drop-of f es i o is (omega arith) b test))
+
+pub may-next : (f : Version) (t : Table) (i : ℕ) (b : Bool) → i < length t → IfSome (slice_get t i) (λ e. b ≡ may_collect f e.1) → may_collect_all f (drop i t) ≡ (b && may_collect_all f (drop (i + 1) t))
+may-next f t i b lt test = drop-of f t i (slice_get t i) refl lt b test
 
 -- what holds of the next item held of it from the start
 pub step-held : (P : ItemNo × Held → Type 0) (f : Version) (t now : Table) (i : ℕ) → now ≡ collected_all f (take i t) ++ drop i t → IfSome (slice_get now i) P → IfSome (slice_get t i) P

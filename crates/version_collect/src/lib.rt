@@ -3,7 +3,7 @@
 
 mod collect;
 
-pub use collect::collect_table;
+pub use collect::{collect_table, may_collect};
 
 #[cfg(test)]
 mod tests;

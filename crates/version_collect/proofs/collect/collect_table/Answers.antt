@@ -1,14 +1,18 @@
 use Rattle.std.proofs.Common.{◌≤◌, length, arith}
 use Rattle.std.specs.Prelude.{slice_get, IfSome}
 use Rattle.item_versions.specs.Item.{IsHeld}
-use Rattle.version_collect.proofs.Collected.{step-items, step-held, walked, numbers-all, seen-all}
+use Rattle.version_collect.proofs.Collected.{can-next, step-items, step-held, walked, numbers-all, seen-all}
 use borrow.Author.Count.{below_more}
 use Rattle.version_collect.proofs.collect.collect_table.Goals as goal
+
+pub collect_place-requires-clause-can : goal.collect_place-requires-clause-can
+collect_place-requires-clause-can c =
+    can-next c.args.f c.args.items.now c.loop-place.items c.loop-place.place c.requires c.loop-place.invariant.items
 
 pub loop-place-preserved : goal.loop-place-preserved
 loop-place-preserved c = record {
   items = step-items c.args.f c.args.items.now c.loop-place.items _ c.loop-place.place (omega arith) c.loop-place.invariant.items c.collect_place.ensures.collected;
-  held = below_more (λ k. IfSome (slice_get c.args.items.now k) (λ e. IsHeld e.1)) c.loop-place.place c.loop-place.invariant.held (step-held (λ e. IsHeld e.1) c.args.f c.args.items.now c.loop-place.items c.loop-place.place c.loop-place.invariant.items c.collect_place.ensures.ascending)
+  held = below_more (λ k. IfSome (slice_get c.args.items.now k) (λ e. IsHeld e.1)) c.loop-place.place c.loop-place.invariant.held (step-held (λ e. IsHeld e.1) c.args.f c.args.items.now c.loop-place.items c.loop-place.place c.loop-place.invariant.items c.collect_place.ensures.ascending);
 }
 
 pub returns-clause-numbers : goal.returns-clause-numbers
