@@ -1,7 +1,7 @@
 -- What a verdict says of rows and pairs.
-use Rattle.std.proofs.Common.{◌≡◌, ℕ, zero, suc, ◌+◌, ◌<◌, ◌≤◌, Bool, true, false, ◌&&◌, ◌⊎◌, List, [], ◌∷◌, length, refl, ap, sym, ◌∙◌, arith, inl, inr, eqb, Option, Some, None}
-use Rattle.std.specs.Prelude.{slice_get, ◌≢◌, ◌↔◌, IsNone, IsTrue}
-use Rattle.std.proofs.lemmas.Bool.{cases_lt, cases_eq, eq-eqb, ne_eqb}
+use Rattle.std.proofs.Common.{◌≡◌, ℕ, zero, suc, ◌<◌, Bool, true, false, ◌&&◌, [], ◌∷◌, refl, arith, inl, inr, Some, None}
+use Rattle.std.specs.Prelude.{◌↔◌, IsNone, IsTrue}
+use Rattle.std.proofs.lemmas.Bool.{cases_eq, eq-eqb, ne_eqb}
 use Rattle.std.proofs.lemmas.Bool.Decides.{nat_tests}
 use Rattle.phase_out.specs.Rounds.{Kept, RoundData, all_in, IsMissing, MissesRow, PairDiffers, pair_agrees, kept_number, all_below, agrees, verdict_of}
 

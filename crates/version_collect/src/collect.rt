@@ -35,7 +35,8 @@ pub fn collect_table(items: &mut ItemTable, f: Version)
     ensures numbers { numbers_in items.new ≡ numbers_in items.old }
     ensures seen { (v : version.Version) → f.0 ≤ v.0 → seen_in v items.new ≡ seen_in v items.old }
 {
-    for place in 0..items.count() {
+    let count = items.count();
+    for place in 0..count {
         collect_place(items, place, f);
     }
 }

@@ -1,4 +1,4 @@
-use Rattle.std.proofs.Common.{◌≤◌, length, arith}
+use Rattle.std.proofs.Common.{arith}
 use Rattle.std.specs.Prelude.{slice_get, IfSome}
 use Rattle.item_versions.specs.Item.{IsHeld}
 use Rattle.version_collect.proofs.Collected.{can-next, step-items, step-held, walked, numbers-all, seen-all}

@@ -1,4 +1,4 @@
-use Rattle.std.proofs.Common.{◌≡◌, ◌<◌, sym, ◌∙◌, arith}
+use Rattle.std.proofs.Common.{sym, ◌∙◌, arith}
 use Rattle.version_collect.proofs.Collected.{may-next}
 use Rattle.version_collect.proofs.collect.may_collect.Goals as goal
 

@@ -1,4 +1,3 @@
-use Rattle.phase_out.specs.Rounds.{RoundData}
 use Rattle.phase_out.proofs.Verdicts.{verdict-missing, verdict-differs}
 use Rattle.phase_out.specs.contracts.round.Round.{the_view}
 use Rattle.phase_out.proofs.round.Round.verdict.Goals as goal
