@@ -1,12 +1,11 @@
 -- What the rows count after a change.
-use Rattle.std.proofs.Common.{◌≡◌, ℕ, zero, suc, ◌+◌, ◌<◌, ◌≤◌, Bool, true, false, ◌||◌, List, [], ◌∷◌, ◌++◌, length, get_or, set, cond, eqb, refl, ap, sym, ◌∙◌, add-one, arith, inl, inr, replicate}
+use Rattle.std.proofs.Common.{◌≡◌, ℕ, zero, suc, ◌+◌, ◌<◌, Bool, true, ◌||◌, List, [], ◌∷◌, ◌++◌, length, get_or, set, cond, eqb, refl, ap, sym, ◌∙◌, add-one, arith, inl, inr, replicate}
 use Rattle.std.proofs.Math.Path.{fun_ext}
 use Rattle.std.specs.List.{filter}
 use Rattle.std.specs.Prelude.{nat_le}
 use Rattle.std.proofs.lemmas.Bool.{cases_eq, eq-eqb, ne_eqb}
 use Rattle.std.proofs.lemmas.Bool.Decides.{nat_tests}
 use Rattle.std.proofs.lemmas.List.{get_or-set_same, get_or-set_other}
-use Rattle.std.proofs.lemmas.Grind.{common_steps}
 use Rattle.tv_base.specs.declared.numbers.Version.{Version}
 use Rattle.pair_counters.specs.declared.counters.CounterRow.{CounterRow}
 use Rattle.pair_counters.specs.Numbers.{more_at, from_version}

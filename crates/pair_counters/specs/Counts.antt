@@ -1,6 +1,6 @@
 -- What a node counts.
 use Rattle.std.specs.Prelude.{ℕ, Bool, false, ◌==◌, ◌||◌, nat_lt, if◌then◌else◌}
-use Rattle.pair_counters.specs.Numbers.{Numbers, none, asked_one, done_one, from_version}
+use Rattle.pair_counters.specs.Numbers.{Numbers, none, from_version}
 
 -- the number of nodes, whether a version has its rows, and the numbers
 pub record Counts : Type 0 where

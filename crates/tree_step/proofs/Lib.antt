@@ -2,3 +2,4 @@ pub mod Sends
 pub mod Requests
 pub mod Addressed
 pub mod Begun
+pub mod Made

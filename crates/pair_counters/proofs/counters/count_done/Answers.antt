@@ -1,4 +1,4 @@
-use Rattle.std.proofs.Common.{◌≡◌, ◌<◌, get_or, length, arith, refl}
+use Rattle.std.proofs.Common.{◌≡◌, get_or, arith, refl}
 use Rattle.pair_counters.specs.Rows.{place_of}
 use Rattle.pair_counters.proofs.Rows.{place_of-lt, number-at, number-more, number-same, rows-same}
 use Rattle.pair_counters.proofs.counters.count_done.Goals as goal

@@ -1,6 +1,5 @@
-use Rattle.std.proofs.Common.{refl, ◌≡◌, replicate, ap}
-use Rattle.pair_counters.specs.declared.counters.CounterRow.{CounterRow}
-use Rattle.pair_counters.proofs.Rows.{number-added, rows-added, rows-there, counts-are}
+use Rattle.std.proofs.Common.{refl}
+use Rattle.pair_counters.proofs.Rows.{number-added, rows-added, counts-are}
 use Rattle.pair_counters.proofs.counters.Counters.room.Goals as goal
 
 pub returns-clause-ok : goal.returns-clause-ok

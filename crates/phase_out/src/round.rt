@@ -1,0 +1,214 @@
+ghost use Rattle.std.specs.Prelude.{ℕ, ◌≡◌, ◌<◌, ◌↔◌, length, replicate, slice_get, slice_set, false, true, IfOk, IfSome, IsNone, IsTrue, Some, None};
+ghost use Rattle.phase_out.specs.Rounds.{AreRows, MissesRow, PairDiffers, IsMissing, new_round, all_in, number_at, kept_number, pair_agrees, all_below, agrees, verdict_of, verdict_by};
+
+use pair_counters::Row;
+use std::alloc::Global;
+use std::marker::Model;
+use tv_base::{NoMemory, NodeNo, Seq, Version};
+
+/// A row for each node, or None where it is missing.
+type Kept = Seq<Option<Row>, 0xff>;
+
+/// A round: the rows of numbers of one version that the nodes have sent, first those of completions, then those of
+/// requests.
+#[derive(Drop)]
+pub struct Round {
+    version: Version,
+    number: u64,
+    nodes: u8,
+    dones: Kept,
+    askeds: Kept,
+}
+
+impl Model for Round {
+    ghost use Rattle.phase_out.specs.Rounds.{RoundData, AreRows};
+
+    ghost Value = { RoundData };
+
+    ghost view = { λ r. record { version = r.version; number = r.number; nodes = r.nodes; dones = r.dones; askeds = r.askeds } };
+
+    ghost invariant = { λ r. AreRows r.nodes r.dones × AreRows r.nodes r.askeds };
+}
+
+impl Round {
+    /// A round of this version and number, which misses every node's rows.
+    pub fn new(alloc: Global, version: Version, number: u64, nodes: u8) -> Result<Round, NoMemory>
+        ensures { IfOk result (λ round. round ≡ new_round version number nodes) }
+    {
+        let dones = no_rows(alloc, nodes)?;
+        let askeds = no_rows(alloc, nodes)?;
+        Ok(Round {
+            version,
+            number,
+            nodes,
+            dones,
+            askeds,
+        })
+    }
+
+    /// The version whose numbers are compared.
+    pub fn version(&self) -> Version
+        ensures { result ≡ self.now.version }
+    {
+        self.version
+    }
+
+    /// The round's number.
+    pub fn number(&self) -> u64
+        ensures { result ≡ self.now.number }
+    {
+        self.number
+    }
+
+    /// The number of nodes.
+    pub fn nodes(&self) -> u8
+        ensures { result ≡ self.now.nodes }
+    {
+        self.nodes
+    }
+
+    /// Keeps a node's row of completions, in place of an earlier one. Wants no memory.
+    pub fn take_done(&mut self, from: NodeNo, row: Row)
+        requires node { from.0 < self.old.nodes }
+        requires numbers { length row ≡ self.old.nodes }
+        ensures { self.new ≡ record self.old { dones = slice_set self.old.dones from.0 (Some row) } }
+    {
+        self.put_done(from, Some(row));
+    }
+
+    /// Keeps a node's row of requests, in place of an earlier one. Wants no memory.
+    pub fn take_asked(&mut self, from: NodeNo, row: Row)
+        requires node { from.0 < self.old.nodes }
+        requires numbers { length row ≡ self.old.nodes }
+        ensures { self.new ≡ record self.old { askeds = slice_set self.old.askeds from.0 (Some row) } }
+    {
+        self.put_asked(from, Some(row));
+    }
+
+    /// Puts a row, or none, in place of what is kept of a node's completions, and gives what was kept. Wants no memory.
+    pub fn put_done(&mut self, from: NodeNo, row: Option<Row>) -> Option<Row>
+        requires node { from.0 < self.old.nodes }
+        requires numbers { IfSome row (λ numbers. length numbers ≡ self.old.nodes) }
+        ensures put { self.new ≡ record self.old { dones = slice_set self.old.dones from.0 row } }
+        ensures was { slice_get self.old.dones from.0 ≡ Some result }
+    {
+        self.dones.put(from.0 as usize, row)
+    }
+
+    /// Puts a row, or none, in place of what is kept of a node's requests, and gives what was kept. Wants no memory.
+    pub fn put_asked(&mut self, from: NodeNo, row: Option<Row>) -> Option<Row>
+        requires node { from.0 < self.old.nodes }
+        requires numbers { IfSome row (λ numbers. length numbers ≡ self.old.nodes) }
+        ensures put { self.new ≡ record self.old { askeds = slice_set self.old.askeds from.0 row } }
+        ensures was { slice_get self.old.askeds from.0 ≡ Some result }
+    {
+        self.askeds.put(from.0 as usize, row)
+    }
+
+    /// Whether each node's row of completions is in.
+    pub fn all_done(&self) -> bool
+        ensures all { result ≡ all_in self.now.dones }
+        ensures each { IsTrue result ↔ ((p : ℕ) → IsMissing self.now.dones p → ⊥) }
+    {
+        all_in(self.dones.items())
+    }
+
+    /// Whether every pair of nodes agrees: the requests of the one to the other, and the completions that the other has
+    /// from the one, are equal numbers. None exactly where a row is missing.
+    pub fn verdict(&self) -> Option<bool>
+        ensures verdict { result ≡ verdict_of self.now }
+        ensures missing { IsNone result ↔ MissesRow self.now }
+        ensures differs { (result ≡ Some false) ↔ ((MissesRow self.now → ⊥) × PairDiffers self.now) }
+    {
+        verdict(self.dones.items(), self.askeds.items(), self.nodes)
+    }
+}
+
+/// No row of any node.
+#[tactic(auto, using(std::proofs::lemmas::Grind::replicate_next))]
+fn no_rows(alloc: Global, nodes: u8) -> Result<Kept, NoMemory>
+    ensures rows { IfOk result (λ kept. kept ≡ replicate nodes None) }
+{
+    let mut kept = Seq::new(alloc);
+    for _ in 0..nodes {
+        kept.push(None)?;
+    }
+    Ok(kept)
+}
+
+/// Whether no row is missing.
+fn all_in(kept: &[Option<Row>]) -> bool
+    ensures { result ≡ all_in kept.now }
+{
+    for row in kept {
+        match row {
+            None => return false,
+            Some(_) => {}
+        }
+    }
+    true
+}
+
+/// The number at a place of a node's row, or 0 where it is missing.
+fn number(kept: &[Option<Row>], node: u8, place: u8) -> u64
+    ensures { result ≡ kept_number kept.now node place }
+{
+    match kept.get(node as usize) {
+        Some(Some(row)) => in_row(row.items(), place),
+        _ => 0,
+    }
+}
+
+/// The number at a place, or 0 where there is none.
+fn in_row(row: &[u64], place: u8) -> u64
+    ensures { result ≡ number_at (Some (Some row.now)) place }
+{
+    match row.get(place as usize) {
+        Some(number) => *number,
+        None => 0,
+    }
+}
+
+/// Whether the requests of a node to another are as many as the completions that the other has from it.
+fn pair_agrees(askeds: &[Option<Row>], dones: &[Option<Row>], node: u8, other: u8) -> bool
+    ensures { result ≡ pair_agrees askeds.now dones.now node other }
+{
+    number(askeds, node, other) == number(dones, other, node)
+}
+
+/// Whether a node agrees with each of so many nodes.
+fn node_agrees(askeds: &[Option<Row>], dones: &[Option<Row>], nodes: u8, node: u8) -> bool
+    ensures { result ≡ all_below nodes (pair_agrees askeds.now dones.now node) }
+{
+    for other in 0..nodes {
+        if !pair_agrees(askeds, dones, node, other) {
+            return false;
+        }
+    }
+    true
+}
+
+/// The verdict of the rows of so many nodes.
+fn verdict(dones: &[Option<Row>], askeds: &[Option<Row>], nodes: u8) -> Option<bool>
+    ensures { result ≡ verdict_by nodes dones.now askeds.now }
+{
+    if !all_in(dones) {
+        return None;
+    }
+    if !all_in(askeds) {
+        return None;
+    }
+    Some(agrees(askeds, dones, nodes))
+}
+
+/// Whether every pair of so many nodes agrees.
+fn agrees(askeds: &[Option<Row>], dones: &[Option<Row>], nodes: u8) -> bool
+    ensures { result ≡ agrees nodes askeds.now dones.now }
+{
+    for node in 0..nodes {
+        if !node_agrees(askeds, dones, nodes, node) {
+            return false;
+        }
+    }
+    true
+}

@@ -1,0 +1,9 @@
+//! Collection of all items of a table.
+#![tactic(auto)]
+
+mod collect;
+
+pub use collect::{collect_table, may_collect};
+
+#[cfg(test)]
+mod tests;
