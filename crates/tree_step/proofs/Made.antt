@@ -23,28 +23,28 @@ abbrev out_of : Turns → Table → Numbers → List Home → List Outgoing → 
 out_of turns items numbers homes sent acts =
     record { state = record { turns = turns; items = items; counts = numbers; homes = homes }; sent = sent; acts = acts }
 
--- the homes of a root, of a tree with these subtransactions
-abbrev pub with_root : ℕ → ℕ → Gets → List Sub → List Home → List Home
-with_root t v values xs homes = begun (record { 0 = t }) (length xs) (record { 0 = v }) homes
+-- the homes where a tree with these subtransactions has begun
+abbrev pub with_root : ℕ → ℕ → List Sub → List Home → List Home
+with_root t v xs homes = begun (record { 0 = t }) (length xs) (record { 0 = v }) homes
 
 -- what a root's step sends, of a tree with these subtransactions
 abbrev pub root_sent : ℕ → ℕ → ℕ → Gets → List Sub → List Home → List Outgoing
 root_sent client t v values xs homes =
-    sub_letters t v 0 0 xs ++ reply_letters client (answer_noted (record { 0 = t }) (record { 0 = 0 }) values (with_root t v values xs homes))
+    sub_letters t v 0 0 xs ++ reply_letters client (answer_noted (record { 0 = t }) (record { 0 = 0 }) values (with_root t v xs homes))
 
 -- a root by its parts
 pub root_made : (s : ScriptData) (p t v : ℕ) (values : Gets) (turns : Turns) (items more : Table) (counts next : CounterRows) (homes after : List Home) (out : StepOut) (xs : List Sub)
     → xs ≡ subs_at s t
     → (counts_of next).numbers ≡ counted_root v p (sub_letters t v 0 0 xs) (counts_of counts).numbers
-    → after ≡ homes_noted (record { 0 = t }) (record { 0 = 0 }) values (with_root t v values xs homes)
+    → after ≡ homes_noted (record { 0 = t }) (record { 0 = 0 }) values (with_root t v xs homes)
     → out.sent ≡ root_sent (client_of s) t v values xs homes
     → out.acts ≡ Born (record { 0 = t }) (record { 0 = v }) ∷ Did (record { 0 = t }) (record { 0 = 0 }) values ∷ []
     → made (node_with turns more next after) out ≡ root_done s p t v more values (node_with turns items counts homes)
 root_made s p t v values turns items more counts next homes after out xs is numbers homed sent acts =
     let n : (counts_of next).numbers ≡ counted_root v p (sub_letters t v 0 0 (subs_at s t)) (counts_of counts).numbers =
     numbers ∙ ap (λ (ys : List Sub). counted_root v p (sub_letters t v 0 0 ys) (counts_of counts).numbers) is in
-    let h : after ≡ homes_noted (record { 0 = t }) (record { 0 = 0 }) values (with_root t v values (subs_at s t) homes) =
-    homed ∙ ap (λ (ys : List Sub). homes_noted (record { 0 = t }) (record { 0 = 0 }) values (with_root t v values ys homes)) is in
+    let h : after ≡ homes_noted (record { 0 = t }) (record { 0 = 0 }) values (with_root t v (subs_at s t) homes) =
+    homed ∙ ap (λ (ys : List Sub). homes_noted (record { 0 = t }) (record { 0 = 0 }) values (with_root t v ys homes)) is in
     let o : out.sent ≡ root_sent (client_of s) t v values (subs_at s t) homes = sent ∙ ap (λ (ys : List Sub). root_sent (client_of s) t v values ys homes) is in
     λ i. out_of turns more (n i) (h i) (o i) (acts i)
 
