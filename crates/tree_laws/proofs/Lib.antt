@@ -4,5 +4,11 @@ pub mod Tables
 pub mod Loads
 pub mod Fits
 pub mod Sent
+pub mod Gets
 pub mod Good
 pub mod Nexts
+pub mod Counts
+pub mod Works
+pub mod Steps
+pub mod Stages
+pub mod NextOf
