@@ -12,3 +12,7 @@ pub mod Works
 pub mod Steps
 pub mod Stages
 pub mod NextOf
+pub mod Noting
+pub mod Flows
+pub mod Kept
+pub mod Doing
