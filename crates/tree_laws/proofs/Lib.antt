@@ -16,3 +16,5 @@ pub mod Noting
 pub mod Flows
 pub mod Kept
 pub mod Doing
+pub mod Answering
+pub mod Staging
