@@ -91,6 +91,6 @@ submit_none f s c first quiet none never =
     let rows = take (submitted c (take c.next s.rows) (drop c.next s.rows)) (drop c.next s.rows) in
     omega (arith, tally-append (on f) first (rows_letters s rows), quiet, roots_none f s rows none never)
 
-finish_none : (f : Act → ℕ) (test : Bool) → f Finished ≡ 0 → tally f (if test then Finished ∷ [] else []) ≡ 0
+pub finish_none : (f : Act → ℕ) (test : Bool) → f Finished ≡ 0 → tally f (if test then Finished ∷ [] else []) ≡ 0
 finish_none f true none = omega (arith, none)
 finish_none f false none = refl

@@ -18,3 +18,4 @@ pub mod Kept
 pub mod Doing
 pub mod Answering
 pub mod Staging
+pub mod Submitting
