@@ -18,4 +18,8 @@ pub mod Kept
 pub mod Doing
 pub mod Answering
 pub mod Staging
-pub mod Submitting
+pub mod ClientStep
+pub mod RootStep
+pub mod SubStep
+pub mod NoteStep
+pub mod Goods

@@ -209,3 +209,27 @@ noted_by s past e t k values hs h c home is long root quiet count most up m n mi
     Answered (n.home ∙ ap (home_in t) after ∙ forgotten-gone t hs up) (omega (arith, quiet, n.answers, reply))
     (λ i. last_none s past e t k values hs i n (tree_below s t.0 k.0 c) (λ j d. (last j d).0) (cases_lt i (length (subs_at s t.0))))
     (λ i d. (last i d).1)
+
+-- A root is taken by a tree that isn't born.
+pub begins_stage : (s : ScriptData) (past : List Entry) (e : Entry) (t : TreeNo) (v : Version) (values : Gets) (hs : List Home) → SubAt s t.0 0
+    → ((k : ℕ) → SubAt s t.0 k → dids past t.0 k ≡ 0) → MayFollow s past e → Begins s past e t v values hs → TreeAt s past t.0
+    → TreeAt s (e ∷ past) t.0
+begins_stage s past e t v values hs c undone m b (Unborn none home quiet notes) =
+    let miss = misses_root t (record { 0 = 0 }) (length (subs_at s t.0)) v hs (sub_below s t.0 0 c) in
+    begins_by s past e t v values hs c undone notes quiet m b miss
+    (noting t (record { 0 = 0 }) values (begun t (length (subs_at s t.0)) v hs) miss)
+begins_stage s past e t v values hs c undone m b (Gathers h one home is long some quiet notes) = absurd (omega (arith, undone 0 c))
+begins_stage s past e t v values hs c undone m b (Answered home one notes all) = absurd (omega (arith, undone 0 c, all 0 c))
+
+-- A notice is taken by a tree that gathers.
+pub notes_stage : (s : ScriptData) (past : List Entry) (e : Entry) (t : TreeNo) (k : SubNo) (values : Gets) → SubAt s t.0 k.0
+    → ((i : ℕ) → SubAt s t.0 i → dids past t.0 i ≤ 1) → IsAscending (node_in s past (home_of s t.0)).homes → MayFollow s past e
+    → Notes s past e t k values (node_in s past (home_of s t.0)).homes
+    → misses t k (node_in s past (home_of s t.0)).homes ≡ true → TreeAt s past t.0 → TreeAt s (e ∷ past) t.0
+notes_stage s past e t k values c most up m n miss (Unborn none home quiet notes) =
+    absurd (omega (arith, notes k.0, flow (tells_done t.0 k.0) s past e m, n.told k.0, told_one t.0 k.0 k.0 refl, n.notes k.0))
+notes_stage s past e t k values c most up m n miss (Gathers h one home is long some quiet notes) =
+    let hs = (node_in s past (home_of s t.0)).homes in
+    noted_by s past e t k values hs h c home is long one quiet notes most up m n miss (noting t k values hs miss)
+notes_stage s past e t k values c most up m n miss (Answered home one notes all) =
+    absurd (omega (arith, notes k.0, flow (tells_done t.0 k.0) s past e m, n.told k.0, told_one t.0 k.0 k.0 refl, n.notes k.0))

@@ -1,0 +1,58 @@
+-- What holds in every past of a run, and what comes next.
+use Rattle.std.proofs.Common.{◌≡◌, ℕ, zero, suc, ◌+◌, ◌<◌, ◌≤◌, false, List, [], ◌∷◌, length, get_or, replicate, refl, arith, Some, None}
+use Rattle.std.specs.Prelude.{slice_get, unsigned_abs}
+use Rattle.letter_types.specs.declared.entries.Entry.{Entry}
+use Rattle.tx_trees.specs.ScriptData.{ScriptData}
+use Rattle.tx_trees.specs.declared.parts.ItemRow.{ItemRow}
+use Rattle.world_model.specs.Counts.{one_if}
+use Rattle.world_model.specs.Runs.{MayFollow, StepRun}
+use Rattle.tree_laws.proofs.ClientStep.{begins_good, hears_good}
+use Rattle.tree_laws.proofs.Good.{Good, bound, Unborn}
+use Rattle.tree_laws.proofs.NextOf.{next}
+use Rattle.tree_laws.proofs.Nexts.{Next, Begins, Hears, Rests, DoesRoot, DoesSub, Notes}
+use Rattle.tree_laws.proofs.NoteStep.{rests_good, note_good}
+use Rattle.tree_laws.proofs.RootStep.{root_good}
+use Rattle.tree_laws.proofs.Scripts.{Sound}
+use Rattle.tree_laws.proofs.SubStep.{sub_good}
+use Rattle.tree_laws.proofs.Tables.{start_table}
+
+start_most : (s : ScriptData) (x : ℕ) (r : ItemRow) → slice_get s.items x ≡ Some r → unsigned_abs r.initial ≤ bound s [] x
+start_most s x r at = rw at (omega arith)
+
+none_heard : (n t : ℕ) → one_if (get_or (replicate n false) t false) ≡ 0
+none_heard zero t = refl
+none_heard (suc n) zero = refl
+none_heard (suc n) (suc t) = none_heard n t
+
+start_good : (s : ScriptData) → Good s []
+start_good s = record {
+  letters = (refl, tt);
+  roots = λ t lt. refl;
+  subs = λ t k c lt. refl;
+  born = λ t. refl;
+  stages = λ t lt. Unborn refl refl refl (λ k. refl);
+  heard = λ t lt. omega (arith, none_heard (length s.trees) t);
+  order = λ p lt i j d up within. absurd (omega arith);
+  items = λ p lt. start_table s.items p (bound s []) (start_most s);
+}
+
+next_good : (s : ScriptData) (past : List Entry) (e : Entry) → Sound s → Good s past → MayFollow s past e → Next s past e → Good s (e ∷ past)
+next_good s past e sound good m (Begins is at made) = begins_good s past e sound good m is at made
+next_good s past e sound good m (Hears t v answer is at lt made) = hears_good s past e t v answer sound good m is at lt made
+next_good s past e sound good m (Rests is at sent acts) = rests_good s past e sound good m is at sent acts
+next_good s past e sound good m (DoesRoot t v items values is c at below new work made) =
+    root_good s past e t v items values sound good m is c at new work made
+next_good s past e sound good m (DoesSub t k v turns items values turned is c later from at below work made) =
+    sub_good s past e t k v turns items values turned sound good m is c later at work made
+next_good s past e sound good m (Notes t k v values is c later from at below miss made) =
+    note_good s past e t k v values sound good m is c at below miss made
+
+-- all of it holds in every past
+pub good_run : (s : ScriptData) (past : List Entry) → Sound s → StepRun s past → Good s past
+good_run s [] sound run = start_good s
+good_run s (e ∷ past) sound run =
+    let good = good_run s past sound run.1 in next_good s past e sound good run.0 (next s past e sound good run.0)
+
+-- what the last entry of a run does
+pub next_of : (s : ScriptData) (past : List Entry) (e : Entry) → Sound s → StepRun s (e ∷ past) → Next s past e
+next_of s past e sound run = next s past e sound (good_run s past sound run.1) run.0
