@@ -23,3 +23,5 @@ pub mod RootStep
 pub mod SubStep
 pub mod NoteStep
 pub mod Goods
+pub mod Ends
+pub mod Whole
