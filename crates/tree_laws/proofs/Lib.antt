@@ -25,3 +25,4 @@ pub mod NoteStep
 pub mod Goods
 pub mod Ends
 pub mod Whole
+pub mod Sampled
