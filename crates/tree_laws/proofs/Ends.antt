@@ -1,5 +1,5 @@
 -- Where no letter is under way any more and all rows are submitted, all of each tree is done and the tree is answered.
-use Rattle.std.proofs.Common.{◌≡◌, ◌⊎◌, inl, inr, ℕ, zero, suc, ◌+◌, ◌<◌, ◌≤◌, List, [], ◌∷◌, length, take, refl, sym, ap, subst, ◌∙◌, arith, Option, Some, None}
+use Rattle.std.proofs.Common.{◌≡◌, ◌⊎◌, inl, inr, ℕ, zero, suc, ◌+◌, ◌<◌, List, [], ◌∷◌, length, take, refl, sym, ap, subst, arith, Option, Some, None}
 use Rattle.std.specs.Prelude.{slice_get}
 use Rattle.std.proofs.lemmas.List.{take_all}
 use Rattle.letter_types.specs.declared.entries.Entry.{Entry}
@@ -13,7 +13,7 @@ use Rattle.tree_laws.specs.Dids.{asks, tells_done, asked, notices, dids, answers
 use Rattle.tree_laws.proofs.Counts.{parent_at, zero_or}
 use Rattle.tree_laws.proofs.Good.{Good, TreeAt, Unborn, Gathers, Answered, is_noted}
 use Rattle.tree_laws.proofs.Goods.{good_run}
-use Rattle.tree_laws.proofs.Scripts.{Sound, SubAt, has_root, sub_there, tree_below, is_sub}
+use Rattle.tree_laws.proofs.Scripts.{Sound, SubAt, has_root, sub_there, is_sub}
 use Rattle.tree_laws.proofs.Sent.{rooted_once}
 
 -- Where nothing is under way.
@@ -67,7 +67,7 @@ answered_by : (s : ScriptData) (past : List Entry) (t : ℕ) → waiting s past 
 answered_by s past t empty lt done root (Unborn none home quiet notes) = absurd (omega (arith, done 0 root))
 answered_by s past t empty lt done root (Gathers h one home is long some quiet count) =
     let all = none_missing h.notices (λ k kt.
-        let sub = sub_there s t k lt (omega arith) in omega (arith, done k sub, count k sub, none_told s past t k empty)) in
+    let sub = sub_there s t k lt (omega arith) in omega (arith, done k sub, count k sub, none_told s past t k empty)) in
     absurd (omega (arith, all))
 answered_by s past t empty lt done root (Answered home one notes all) = one
 
