@@ -23,3 +23,9 @@ pub mod RootStep
 pub mod SubStep
 pub mod NoteStep
 pub mod Goods
+pub mod Client
+pub mod Acts
+pub mod Ends
+pub mod Sums
+pub mod Entries
+pub mod SampledEnds
