@@ -24,7 +24,7 @@ use Rattle.tree_laws.specs.Dids.{asks, is_did, dids, replies_to, replies, answer
 use Rattle.tree_laws.specs.Entries.{entries_of}
 use Rattle.tree_laws.proofs.Goods.{good_run, next_of}
 use Rattle.tree_laws.proofs.Doing.{root_answer, root_sends, sub_sends, sub_acts}
-use Rattle.tree_laws.proofs.Ends.{none_left, all_done}
+use Rattle.tree_laws.proofs.Finishes.{none_left, all_done}
 use Rattle.tree_laws.proofs.Fits.{Fit}
 use Rattle.tree_laws.proofs.Flows.{flow, finish_none}
 use Rattle.tree_laws.proofs.Nexts.{Next, Begins, Hears, Rests, DoesRoot, DoesSub, Notes}

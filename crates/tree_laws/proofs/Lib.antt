@@ -25,7 +25,7 @@ pub mod NoteStep
 pub mod Goods
 pub mod Client
 pub mod Acts
-pub mod Ends
+pub mod Finishes
 pub mod Sums
 pub mod Entries
 pub mod SampledEnds

@@ -1,4 +1,4 @@
-use Rattle.tree_laws.proofs.Ends.{run_finishes}
+use Rattle.tree_laws.proofs.Finishes.{run_finishes}
 use Rattle.tree_laws.proofs.run_ends.every_run_finishes.Goals as goal
 
 pub returns : goal.returns
