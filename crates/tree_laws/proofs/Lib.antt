@@ -23,6 +23,8 @@ pub mod RootStep
 pub mod SubStep
 pub mod NoteStep
 pub mod Goods
+pub mod Ends
+pub mod Whole
 pub mod Client
 pub mod Acts
 pub mod Finishes
