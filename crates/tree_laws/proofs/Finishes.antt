@@ -18,7 +18,7 @@ use Rattle.tx_trees.specs.declared.parts.ScriptRow.TheVariants.{Tree as TreeRow,
 use Rattle.world_model.specs.Counts.{tally, one_if}
 use Rattle.world_model.specs.Runs.{client_in, waiting, StepRun}
 use Rattle.world_model.specs.Tables.{Runnable, IsBuiltRow}
-use Rattle.tree_laws.specs.Dids.{is_go, dids, asks, tells_done, notices, replies_to, answers, is_row_of, rooted}
+use Rattle.tree_laws.specs.Dids.{is_go, dids, asks, tells_done, replies_to, answers, is_row_of, rooted}
 use Rattle.tree_laws.specs.Ends.{is_finish, finishes_in}
 use Rattle.tree_laws.proofs.Acts.{acts_more, finished_of}
 use Rattle.tree_laws.proofs.Fits.{names_end}
