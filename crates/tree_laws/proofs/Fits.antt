@@ -60,7 +60,8 @@ RowFits s (TreeRow t) = t.0 < length s.trees
 RowFits s Settle = Unit {0}
 RowFits s Advance = ⊥
 
-names_end : (i n : ℕ) (rows : List ScriptRow) → NamesInOrder i n rows → i ≤ n
+-- the trees that rows name come before the last number
+pub names_end : (i n : ℕ) (rows : List ScriptRow) → NamesInOrder i n rows → i ≤ n
 names_end i n [] names = omega (arith, names)
 names_end i n (TreeRow t ∷ rows) names = omega (arith, names_end (i + 1) n rows names.1)
 names_end i n (Advance ∷ rows) names = names_end i n rows names

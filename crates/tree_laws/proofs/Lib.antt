@@ -26,3 +26,9 @@ pub mod Goods
 pub mod Ends
 pub mod Whole
 pub mod Sampled
+pub mod Client
+pub mod Acts
+pub mod Finishes
+pub mod Sums
+pub mod Entries
+pub mod SampledEnds

@@ -1,6 +1,8 @@
 //! Laws of trees in runs: what is asked for is done, and once.
 #![tactic(auto)]
 
+mod run_ends;
+
 ghost use Rattle.std.specs.Prelude.{◌≡◌, ◌<◌, ℕ, List, [], length, reverse};
 ghost use Rattle.board_model.specs.Histories.{IsWhole};
 ghost use Rattle.letter_types.specs.declared.entries.Entry.{Entry};
@@ -8,6 +10,8 @@ ghost use Rattle.tx_trees.specs.ScriptData.{ScriptData};
 ghost use Rattle.tx_trees.specs.Valid.{IsValid};
 ghost use Rattle.world_model.specs.Runs.{StepRun, waiting};
 ghost use Rattle.world_model.specs.Tables.{Runnable};
+
+pub use run_ends::{entries_are_counted, every_run_finishes, the_client_finishes_once};
 
 /// In every run of a valid script of update trees in which no letter is under way any more, every tree is whole.
 pub fn every_tree_is_whole()
