@@ -131,6 +131,7 @@ submits_good s past e c first sound good m sub heard =
       items = idle_items s past e good idle;
     }
 
+-- the client begins
 pub begins_good : (s : ScriptData) (past : List Entry) (e : Entry) → Sound s → Good s past → MayFollow s past e → e.took.body ≡ Go
     → e.actor.0 ≡ client_of s → MadeByClient s past e (submit s (client_in s past) []) → Good s (e ∷ past)
 begins_good s past e sound good m is at made =
@@ -201,6 +202,7 @@ hears_by s past e t good m lt took sent u ut (inr ne) =
     heard_other (client_in s past).answered t u (answers (e ∷ past) u) (replies s (e ∷ past) u) ne
     (omega (arith, good.heard u ut, flow (replies_to u) s past e m, took u, not_here u t (λ is. ne (sym is)), sent u))
 
+-- the client hears an answer
 pub hears_good : (s : ScriptData) (past : List Entry) (e : Entry) (t : TreeNo) (v : Version) (answer : Answer) → Sound s → Good s past
     → MayFollow s past e → e.took.body ≡ Reply t v answer → e.actor.0 ≡ client_of s → t.0 < length s.trees
     → MadeByClient s past e (submit s (with_answer t.0 (client_in s past)) (nudge s ∷ [])) → Good s (e ∷ past)

@@ -22,6 +22,7 @@ use Rattle.tree_laws.proofs.Tables.{bounds_after}
 pub zero_or : (k : ℕ) → (k ≡ 0) ⊎ (0 < k)
 zero_or k = grind arith
 
+-- a parent is a subtransaction of its tree
 pub parent_at : (s : ScriptData) (t k : ℕ) (c : SubAt s t k) → Sound s → 0 < k → SubAt s t c.sub.parent.0
 parent_at s t k c sound lt =
     let up : c.sub.parent.0 < k = (is_sub s t k c sound).parent lt in
@@ -55,6 +56,7 @@ root_most s past t sound good lt =
       rooted_once (length s.trees) t s.rows sound.valid.rows lt,
     )
 
+-- each subtransaction is done at most once
 pub at_most_once : (s : ScriptData) (past : List Entry) (t k : ℕ) → SubAt s t k → Sound s → Good s past → dids past t k ≤ 1
 at_most_once s past t k c sound good =
     omega (arith, below_root s past t k c sound good, root_most s past t sound good (tree_below s t k c))
@@ -84,6 +86,7 @@ one_here t k = grind (arith, nat_tests)
 abbrev pub with_one : ScriptData → List Entry → ℕ → ℕ → ℕ → ℕ → ℕ
 with_one s past t k u i = one_if ((t == u) && (k == i)) + dids past u i
 
+-- the load of what is done, with a subtransaction more
 pub load_more : (s : ScriptData) (past : List Entry) (t k x : ℕ) (c : SubAt s t k)
     → trees_done (with_one s past t k) x 0 s.trees ≡ trees_done (dids past) x 0 s.trees + ops_load x (ops_of s t k)
 load_more s past t k x c =
@@ -115,6 +118,7 @@ load_most s past t k x c sound good none =
 abbrev pub bounds_with : ScriptData → List Entry → ℕ → ℕ → ℕ → ℕ
 bounds_with s past t k = bounds_after (bound s past) (ops_of s t k)
 
+-- an item that a subtransaction that is not done touches keeps to what is allowed
 pub within_most : (s : ScriptData) (past : List Entry) (t k x : ℕ) (r : ItemRow) (c : SubAt s t k) → Sound s → Good s past → dids past t k ≡ 0
     → slice_get s.items x ≡ Some r
     → bound s past x + ops_load x (ops_of s t k) ≤ MOST_AMOUNT

@@ -149,6 +149,7 @@ note_stage s past e t k v values c sound good m idle is at below miss made u lt 
 note_stage s past e t k v values c sound good m idle is at below miss made u lt (inr ne) =
     stays s past e u m (note_apart s past e t k v values idle is at miss made u ne) (good.stages u lt)
 
+-- a home takes down a notice
 pub note_good : (s : ScriptData) (past : List Entry) (e : Entry) (t : TreeNo) (k : SubNo) (v : Version) (values : Gets) → Sound s → Good s past
     → MayFollow s past e → e.took.body ≡ Done t k v (DidNotice values) → SubAt s t.0 k.0 → e.actor.0 ≡ home_of s t.0 → home_of s t.0 < s.nodes
     → misses t k (node_in s past (home_of s t.0)).homes ≡ true → NoteMade s past e t k v values → Good s (e ∷ past)

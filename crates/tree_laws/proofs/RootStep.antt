@@ -104,6 +104,7 @@ root_stage s past e t v items values c sound good m none does is new made u lt (
 root_stage s past e t v items values c sound good m none does is new made u lt (inr ne) =
     stays s past e u m (root_apart s past e t v items values c does is made u ne) (good.stages u lt)
 
+-- a root is done
 pub root_good : (s : ScriptData) (past : List Entry) (e : Entry) (t : TreeNo) (v : Version) (items : Table) (values : Gets) → Sound s
     → Good s past → MayFollow s past e → e.took.body ≡ Root t → SubAt s t.0 0 → e.actor.0 ≡ home_of s t.0
     → home_in t (node_in s past (home_of s t.0)).homes ≡ None → RootWork s t.0 (node_in s past (home_of s t.0)) v items values

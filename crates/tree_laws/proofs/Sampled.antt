@@ -37,6 +37,7 @@ small_valid = record {
 pub small_runnable : Runnable small
 small_runnable = record { trees = (refl, tt); rows = (tt, tt) }
 
+-- the run of the small script
 pub small_run : StepRun small (sample small 6)
 small_run = (
   record { stamp = refl; waits = refl; addressee = refl; moves = AtCoordinator refl (refl, refl) },
@@ -89,6 +90,7 @@ read_valid = record {
 pub read_runnable : Runnable with_read
 read_runnable = record { trees = (refl, (refl, tt)); rows = (tt, (tt, (tt, tt))) }
 
+-- the run of the script with a read
 pub read_run : StepRun with_read (sample with_read 11)
 read_run = (
   record { stamp = refl; waits = refl; addressee = refl; moves = AtCoordinator refl (refl, refl) },

@@ -107,6 +107,7 @@ sub_stage s past e t k v turns items values turned c later sound good m none roo
 sub_stage s past e t k v turns items values turned c later sound good m none root does is made u lt (inr ne) =
     stays s past e u m (sub_apart s past e t k v turns items values turned does is made u ne) (good.stages u lt)
 
+-- another subtransaction is done
 pub sub_good : (s : ScriptData) (past : List Entry) (e : Entry) (t : TreeNo) (k : SubNo) (v : Version) (turns : Turns) (items : Table)
     (values : Gets) (turned : List Act) → Sound s → Good s past → MayFollow s past e → e.took.body ≡ SubLetter t k v → SubAt s t.0 k.0
     → 0 < k.0 → e.actor.0 ≡ node_of s t.0 k.0 → SubWork s t.0 k.0 (node_in s past (node_of s t.0 k.0)) v turns items values turned

@@ -75,6 +75,7 @@ all_done_of t zero acts done = refl
 all_done_of t (suc n) acts done =
     both_true (all_done t n acts) (was_done t n acts) (all_done_of t n acts (λ k lt. done k (omega arith))) (done n (omega arith))
 
+-- where all rows are submitted and nothing is under way, each tree is whole
 pub whole_from : (s : ScriptData) (past : List Entry) (t : ℕ) → Sound s → StepRun s past → waiting s past ≡ []
     → (client_in s past).next ≡ length s.rows → t < length s.trees → IsWhole s (reverse past) t
 whole_from s past t sound run empty over lt =
