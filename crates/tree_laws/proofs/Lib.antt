@@ -30,3 +30,4 @@ pub mod Whole
 pub mod Sums
 pub mod Entries
 pub mod SampledEnds
+pub mod Sampled
