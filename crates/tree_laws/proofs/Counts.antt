@@ -5,17 +5,15 @@ use Rattle.std.proofs.lemmas.Bool.Decides.{nat_tests}
 use Rattle.commute_ops.specs.declared.kinds.TheConstants.{MOST_AMOUNT}
 use Rattle.letter_types.specs.declared.entries.Entry.{Entry}
 use Rattle.letter_types.specs.declared.entries.Letter.{Letter}
-use Rattle.tx_trees.specs.ScriptData.{ScriptData, node_of, ops_of}
-use Rattle.tx_trees.specs.declared.parts.TreeKind.TheVariants as trees
-use Rattle.std.specs.List.{AllByRecursion}
-use Rattle.tx_trees.specs.Valid.{IsOp, initial_load, ops_load, trees_load}
+use Rattle.tx_trees.specs.ScriptData.{ScriptData, ops_of}
+use Rattle.tx_trees.specs.Valid.{ops_load, trees_load}
 use Rattle.tx_trees.specs.declared.parts.ItemRow.{ItemRow}
-use Rattle.world_model.specs.Counts.{one_if, Each}
-use Rattle.world_model.specs.Runs.{client_in, node_in, waiting, MayFollow}
+use Rattle.world_model.specs.Counts.{one_if}
+use Rattle.world_model.specs.Runs.{client_in, waiting, MayFollow}
 use Rattle.world_model.proofs.Bags.{tally-drop}
 use Rattle.tree_laws.specs.Dids.{asks, asked, dids, is_row_of}
 use Rattle.tree_laws.proofs.Loads.{trees_done, trees_most, trees_more}
-use Rattle.tree_laws.proofs.Scripts.{Sound, SubAt, tree_below, is_sub, get_some, get_below, node_here, ops_here}
+use Rattle.tree_laws.proofs.Scripts.{Sound, SubAt, tree_below, is_sub, get_some, get_below, ops_here}
 use Rattle.tree_laws.proofs.Sent.{other_sub, other_tree, rooted_once, tally_take_le}
 use Rattle.tree_laws.proofs.Good.{Good, bound}
 use Rattle.tree_laws.proofs.Tables.{bounds_after}
@@ -122,4 +120,3 @@ pub within_most : (s : ScriptData) (past : List Entry) (t k x : ℕ) (r : ItemRo
     → bound s past x + ops_load x (ops_of s t k) ≤ MOST_AMOUNT
 within_most s past t k x r c sound good none at =
     omega (arith, load_most s past t k x c sound good none, sound.valid.loads x (get_below s.items x r at))
-

@@ -1,5 +1,5 @@
 -- A root or another subtransaction that is done, by what is asked for and done.
-use Rattle.std.proofs.Common.{◌≡◌, ℕ, ◌<◌, ◌==◌, ◌&&◌, ◌+◌, Bool, true, false, List, [], ◌∷◌, ◌++◌, length, refl, ap, sym, ◌∙◌, arith, Option}
+use Rattle.std.proofs.Common.{◌≡◌, ℕ, ◌<◌, ◌==◌, ◌&&◌, ◌+◌, Bool, true, false, List, [], ◌∷◌, length, refl, ap, sym, ◌∙◌, arith, Option}
 use Rattle.std.specs.Prelude.{nat_lt}
 use Rattle.std.proofs.lemmas.Bool.Decides.{nat_tests}
 use Rattle.tv_base.specs.declared.numbers.SubNo.{SubNo}
@@ -95,7 +95,7 @@ sub_sends f s past e t k v turns items values turned made =
     let parts = ap (λ os. tally (on f) os) made.sent in
     omega (arith, parts, tally-append (on f) (sub_letters t.0 v.0 k.0 0 (subs_at s t.0)) (done_letter (home_of s t.0) t.0 k.0 v.0 values ∷ []))
 
-sub_acts : (f : Act → ℕ) (s : ScriptData) (past : List Entry) (e : Entry) (t : TreeNo) (k : SubNo) (v : Version) (turns : Turns)
+pub sub_acts : (f : Act → ℕ) (s : ScriptData) (past : List Entry) (e : Entry) (t : TreeNo) (k : SubNo) (v : Version) (turns : Turns)
     (items : Table) (values : Gets) (turned : List Act) → SubWork s t.0 k.0 (node_in s past (node_of s t.0 k.0)) v turns items values turned
     → Made s past e (node_of s t.0 k.0) (sub_done s e.took.from.0 t.0 k.0 v.0 turns items values turned (node_in s past (node_of s t.0 k.0)))
     → ((w : Version) → f (Turned w) ≡ 0) → tally f e.acts ≡ f (Did t k values)

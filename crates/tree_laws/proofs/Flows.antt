@@ -1,5 +1,5 @@
 -- What an entry makes of numbers over the letters under way, and what stays at a node.
-use Rattle.std.proofs.Common.{◌≡◌, ◌≢◌, ◌⊎◌, inl, inr, ℕ, ◌+◌, ◌<◌, ◌≤◌, ◌==◌, ◌&&◌, Bool, true, false, List, [], ◌∷◌, ◌++◌, length, refl, sym, ap, subst, ◌∙◌, arith, take, drop, Some}
+use Rattle.std.proofs.Common.{◌≡◌, ◌≢◌, ◌⊎◌, inl, inr, ℕ, ◌+◌, ◌<◌, ◌≤◌, ◌==◌, ◌&&◌, Bool, true, false, List, [], ◌∷◌, length, refl, sym, ap, subst, ◌∙◌, arith, take, drop}
 use Rattle.std.specs.Prelude.{if◌then◌else◌}
 use Rattle.std.proofs.lemmas.Bool.{cases_eq}
 use Rattle.std.proofs.lemmas.Bool.Decides.{nat_tests}
@@ -20,7 +20,6 @@ use Rattle.world_model.specs.Runs.{client_in, node_in, waiting, MayFollow}
 use Rattle.world_model.proofs.Bags.{tally-append, tally_step, sealed_tally}
 use Rattle.world_model.proofs.Every.{each_map, each_none, each_step, node_kept}
 use Rattle.tree_laws.specs.Dids.{tells_done, notices}
-use Rattle.tree_laws.proofs.Counts.{zero_or}
 use Rattle.tree_laws.proofs.Fits.{Fit, SentFit}
 use Rattle.tree_laws.proofs.Good.{Good}
 use Rattle.tree_laws.proofs.Nexts.{Made}

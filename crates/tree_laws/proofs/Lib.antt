@@ -23,3 +23,6 @@ pub mod RootStep
 pub mod SubStep
 pub mod NoteStep
 pub mod Goods
+pub mod Ends
+pub mod Whole
+pub mod Sampled

@@ -1,5 +1,5 @@
 -- What one notice more makes of the homes.
-use Rattle.std.proofs.Common.{◌≡◌, ◌≢◌, ◌⊎◌, inl, inr, ℕ, zero, suc, ◌+◌, ◌<◌, ◌≤◌, Bool, true, false, List, [], ◌∷◌, length, set, replicate, refl, sym, ap, subst, ◌∙◌, arith, Option, Some, None}
+use Rattle.std.proofs.Common.{◌≡◌, ◌≢◌, ◌⊎◌, inl, inr, ℕ, zero, suc, ◌<◌, ◌≤◌, Bool, true, false, List, [], ◌∷◌, length, set, replicate, refl, sym, ap, subst, ◌∙◌, arith, Option, Some, None}
 use Rattle.std.specs.Prelude.{IsSome, nat_lt, slice_get}
 use Rattle.std.proofs.lemmas.Bool.Decides.{nat_tests}
 use Rattle.tv_base.specs.declared.numbers.TreeNo.{TreeNo}
@@ -7,8 +7,8 @@ use Rattle.tv_base.specs.declared.numbers.SubNo.{SubNo}
 use Rattle.tv_base.specs.declared.numbers.Version.{Version}
 use Rattle.tree_home.specs.declared.homes.Home.{Home}
 use Rattle.tree_home.specs.declared.homes.Answered.{Answered}
-use Rattle.tree_home.specs.Homes.{Gets, IsAscending, home_in, new_home, begun, with_notice, noted, forgotten, missing_count, missing_in, misses, answer_in}
-use Rattle.tree_home.proofs.Always.{begun-others, noted-others, forgotten-others, begun-there, misses-begun, answered-exactly}
+use Rattle.tree_home.specs.Homes.{Gets, IsAscending, home_in, new_home, begun, noted, forgotten, missing_count, missing_in, misses, answer_in}
+use Rattle.tree_home.proofs.Always.{begun-others, noted-others, forgotten-others, misses-begun, answered-exactly}
 use Rattle.tree_home.proofs.Changes.{IsAscending-with_home, IsAscending-noted, IsAscending-forgotten}
 use Rattle.tree_step.specs.Notices.{homes_noted, answer_noted}
 use Rattle.tree_laws.proofs.Counts.{zero_or}

@@ -8,8 +8,7 @@ use Rattle.tv_base.specs.declared.numbers.TreeNo.{TreeNo}
 use Rattle.tv_base.specs.declared.numbers.SubNo.{SubNo}
 use Rattle.tv_base.specs.declared.numbers.Version.{Version}
 use Rattle.tree_home.specs.declared.homes.Home.{Home}
-use Rattle.tree_home.specs.declared.homes.Answered.{Answered as Answer}
-use Rattle.tree_home.specs.Homes.{Gets, IsAscending, home_in, new_home, begun, with_notice, noted, forgotten, missing_count, missing_in, misses, answer_in}
+use Rattle.tree_home.specs.Homes.{Gets, IsAscending, home_in, new_home, begun, with_notice, missing_count, misses}
 use Rattle.tree_home.proofs.Always.{begun-there, forgotten-begun, forgotten-gone, all-missing}
 use Rattle.tree_home.proofs.Gathered.{home_in-noted, missing_in-noted}
 use Rattle.tree_step.specs.Notices.{homes_noted, answer_noted, reply_letters}
@@ -204,8 +203,8 @@ noted_by s past e t k values hs h c home is long root quiet count most up m n mi
     let reply = reply_one (client_of s) t (answer_noted t k values hs) a answer (answers_tree t k values hs a miss here) in
     let places = length-set h.notices k.0 (Some values) ∙ long in
     let last = λ (i : ℕ) (d : SubAt s t.0 i). last_count s (e ∷ past) t.0 i (set h.notices k.0 (Some values)) over
-        (omega (arith, places, sub_below s t.0 i d))
-        (noted_count s past e t k values hs h i lt m n (count i d) (most i d) (cases_eq i k.0)) (omega (arith, n.did i, most i d)) in
+    (omega (arith, places, sub_below s t.0 i d))
+    (noted_count s past e t k values hs h i lt m n (count i d) (most i d) (cases_eq i k.0)) (omega (arith, n.did i, most i d)) in
     Answered (n.home ∙ ap (home_in t) after ∙ forgotten-gone t hs up) (omega (arith, quiet, n.answers, reply))
     (λ i. last_none s past e t k values hs i n (tree_below s t.0 k.0 c) (λ j d. (last j d).0) (cases_lt i (length (subs_at s t.0))))
     (λ i d. (last i d).1)

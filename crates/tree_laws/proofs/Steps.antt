@@ -1,5 +1,5 @@
 -- What an actor makes of a letter that it may take, by its table.
-use Rattle.std.proofs.Common.{◌≡◌, ◌≢◌, ℕ, ◌<◌, ◌==◌, Bool, true, false, List, [], ◌∷◌, refl, ap, subst, ◌∙◌, arith, Option, Some, None}
+use Rattle.std.proofs.Common.{◌≡◌, ℕ, ◌<◌, ◌==◌, true, false, List, [], ◌∷◌, refl, ap, ◌∙◌, arith, Some, None}
 use Rattle.std.specs.Prelude.{nat_lt, length}
 use Rattle.std.proofs.lemmas.Bool.Decides.{nat_tests}
 use Rattle.tv_base.specs.declared.numbers.SubNo.{SubNo}

@@ -1,7 +1,6 @@
 -- An entry that does a subtransaction other than a root keeps what holds.
-use Rattle.std.proofs.Common.{◌≡◌, ◌≢◌, ◌⊎◌, inl, inr, ℕ, ◌+◌, ◌<◌, ◌≤◌, ◌==◌, ◌&&◌, true, false, List, [], ◌∷◌, length, ◌++◌, refl, sym, ap, subst, ◌∙◌, arith}
+use Rattle.std.proofs.Common.{◌≡◌, ◌≢◌, ◌⊎◌, inl, inr, ℕ, ◌<◌, ◌≤◌, ◌==◌, ◌&&◌, List, [], ◌∷◌, length, refl, sym, ap, subst, ◌∙◌, arith}
 use Rattle.std.proofs.lemmas.Bool.{cases_eq}
-use Rattle.std.proofs.lemmas.Bool.Decides.{nat_tests}
 use Rattle.tv_base.specs.declared.numbers.SubNo.{SubNo}
 use Rattle.tv_base.specs.declared.numbers.TreeNo.{TreeNo}
 use Rattle.tv_base.specs.declared.numbers.Version.{Version}
@@ -17,7 +16,7 @@ use Rattle.tree_step.specs.Children.{sub_letters, done_letter}
 use Rattle.tree_step.specs.Done.{sub_done}
 use Rattle.world_model.specs.Counts.{tally, one_if}
 use Rattle.world_model.specs.Runs.{node_in, MayFollow}
-use Rattle.tree_laws.specs.Dids.{asks, asked, is_did, dids, tells_done, replies_to}
+use Rattle.tree_laws.specs.Dids.{asks, asked, dids, tells_done, replies_to}
 use Rattle.tree_laws.proofs.Counts.{below_root, not_done, one_here, was_asked, parent_at}
 use Rattle.tree_laws.proofs.Doing.{sub_sends, sub_does}
 use Rattle.tree_laws.proofs.Fits.{SentFit}

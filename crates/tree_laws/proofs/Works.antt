@@ -1,6 +1,5 @@
 -- What a subtransaction makes of its node's items can be made, and keeps to the bounds.
 use Rattle.std.proofs.Common.{◌≡◌, ℕ, true, List, refl, subst, arith, Option, Some, None}
-
 use Rattle.tv_base.specs.declared.numbers.Version.{Version}
 use Rattle.item_versions.specs.Table.{Table}
 use Rattle.tree_home.specs.Homes.{Gets}
