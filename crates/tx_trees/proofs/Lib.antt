@@ -1,3 +1,6 @@
 pub mod Last
-pub mod Kept
+pub mod Lists
 pub mod Named
+pub mod Totals
+pub mod Stays
+pub mod Kept
