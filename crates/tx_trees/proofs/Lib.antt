@@ -4,3 +4,5 @@ pub mod Named
 pub mod Totals
 pub mod Stays
 pub mod Kept
+pub mod Passes
+pub mod Rebuilding

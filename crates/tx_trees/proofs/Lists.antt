@@ -97,10 +97,12 @@ module _ {K : Type 0} (e : K → K → Bool) where
     distinct-push flips ys x d.1 (or_right (e x y) (list_any (e x) ys) absent),
   )
 
-  pub distinct-seam : (xs ys : List K) (x : K) → IsDistinct e (xs ++ x ∷ ys) → list_any (λ (y : K). e y x) xs ≡ false
+  -- none of those before it is the same
+  pub distinct-front : (flips : (x y : K) → e x y ≡ e y x) (xs ys : List K) (x : K) → IsDistinct e (xs ++ x ∷ ys) → list_any (e x) xs ≡ false
   unfolding IsDistinct
-  distinct-seam [] ys x d = refl
-  distinct-seam (y ∷ xs) ys x d = or_both (e y x) (list_any (λ (z : K). e z x) xs) (all-seam (λ (z : K). e y z ≡ false) xs ys x d.0) (distinct-seam xs ys x d.1)
+  distinct-front flips [] ys x d = refl
+  distinct-front flips (y ∷ xs) ys x d =
+      or_both (e x y) (list_any (e x) xs) (flips x y ∙ all-seam (λ (z : K). e y z ≡ false) xs ys x d.0) (distinct-front flips xs ys x d.1)
 
 -- a number of a list that is the sum of numbers of its items
 

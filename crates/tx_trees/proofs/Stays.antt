@@ -41,7 +41,7 @@ and_left false b e = absurd cc
 
 -- operations are on items that are there
 
-op_within : (items : List ItemRow) (kind : TreeKind) (node : ℕ) (o : SubOp) → IsOp items kind node o → o.item.0 < length items
+pub op_within : (items : List ItemRow) (kind : TreeKind) (node : ℕ) (o : SubOp) → IsOp items kind node o → o.item.0 < length items
 op_within items kind node o h = elim (slice_get_cases items o.item.0).1 [
   | inl found ↦ found.1
   | inr past ↦ let none : ⊥ = subst (OpAt kind node o) past.1 h in absurd none

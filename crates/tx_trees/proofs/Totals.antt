@@ -97,6 +97,17 @@ module _ {w : SubOp → ℕ} {O : List SubOp → ℕ} {S : List Sub → ℕ} {T 
       sum-on_last (λ (u : Tree). S u.subs) T h.trees (on_last_sub (push_op o)) (w o) ts some
       (λ t e. sum-on_last (λ (u : Sub). O u.ops) S h.subs (push_op o) (w o) t.subs (omega (arith, root, last_subs_is ts t e)) (λ x _. sum-push w O h.ops x.ops o))
 
+  -- a part of the trees, up to an operation, and the operation weigh no more than all
+  pub total-part : (Ta Tb : List Tree) (t u : Tree) (Sa Sb : List Sub) (x y : Sub) (Oa Ob : List SubOp) (o : SubOp)
+      → t.subs ≡ Sa ++ x ∷ Sb → u.subs ≡ Sa ++ y ∷ [] → x.ops ≡ Oa ++ o ∷ Ob → y.ops ≡ Oa
+      → T (Ta ++ u ∷ []) + w o ≤ T (Ta ++ t ∷ Tb)
+  total-part Ta Tb t u Sa Sb x y Oa Ob o ts us xs ys =
+      let all : S t.subs ≡ S Sa + (O x.ops + S Sb) = ap S ts ∙ omega (arith, sum-append (λ (s : Sub). O s.ops) S h.subs Sa (x ∷ Sb), h.subs.one_more x Sb) in
+      let part : S u.subs ≡ S Sa + O y.ops = ap S us ∙ omega (arith, sum-push (λ (s : Sub). O s.ops) S h.subs Sa y) in
+      let ops : O x.ops ≡ O Oa + (w o + O Ob) = ap O xs ∙ omega (arith, sum-append w O h.ops Oa (o ∷ Ob), h.ops.one_more o Ob) in
+      let before : O y.ops ≡ O Oa = ap O ys in
+      omega (arith, sum-append (λ (v : Tree). S v.subs) T h.trees Ta (t ∷ Tb), h.trees.one_more t Tb, sum-push (λ (v : Tree). S v.subs) T h.trees Ta u)
+
 -- one more tree, subtransaction or operation, and how many there are
 
 pub subs-sub : (ts : List Tree) (x : Sub) → 0 < length ts → all_subs (on_last (push_sub x) ts) ≡ all_subs ts + 1

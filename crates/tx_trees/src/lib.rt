@@ -7,12 +7,14 @@ mod name_index;
 mod names;
 mod parts;
 mod ranges;
+mod rebuilt;
 mod script;
 mod why;
 
 pub use names::is_plain_name;
 pub use parts::{Deed, ItemRow, ScriptRow, Sub, SubOp, SubOps, Subs, Tree, TreeKind};
 pub use ranges::{is_in_range, may_start};
+pub use rebuilt::a_script_is_rebuilt_from_its_rows;
 pub use script::Script;
 pub use why::{Refusal, Why};
 
