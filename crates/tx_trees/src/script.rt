@@ -210,15 +210,6 @@ impl Script {
         visits(self.subs_of(tree), node)
     }
 
-    // The subtransactions of a tree.
-    fn subs_of(&self, tree: TreeNo) -> &[Sub]
-        requires { tree.0 < length self.now.trees }
-        ensures subs { result.now ≡ subs_at self.now tree.0 }
-        ensures few { length result.now ≤ 4294967295 }
-    {
-        self.trees[tree.0 as usize].subs.items()
-    }
-
     /// Whether an item has this name.
     pub fn names_item(&self, name: &Name) -> bool
         ensures { result ≡ is_some (place_of name.now self.now.items) }
