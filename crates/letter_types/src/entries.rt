@@ -1,6 +1,9 @@
 // Letters, the steps that send them, and the entries that keep them.
+ghost use Rattle.std.specs.Prelude.{◌≡◌, []};
+
 use crate::acts::Acts;
 use crate::bodies::Body;
+use std::alloc::Global;
 use tv_base::{ActorNo, Seq, Stamp};
 
 /// A letter's identity: the stamp of the entry that sent it, and its place there from 0. Go has stamp 0 and place 0.
@@ -41,6 +44,33 @@ pub struct StepOut {
 pub struct Step {
     pub given: StepOut,
     pub kept: StepOut,
+}
+
+impl StepOut {
+    /// Nothing is sent, and nothing is done.
+    fn still(alloc: Global) -> StepOut
+        ensures sent { result.sent ≡ [] }
+        ensures acts { result.acts ≡ [] }
+    {
+        StepOut {
+            sent: Letters::new(alloc),
+            acts: Acts::new(alloc),
+        }
+    }
+}
+
+impl Step {
+    /// A step that sends nothing and does nothing.
+    pub fn still(alloc: Global) -> Step
+        ensures sent { result.given.sent ≡ [] }
+        ensures acts { result.given.acts ≡ [] }
+        ensures kept { result.kept ≡ result.given }
+    {
+        Step {
+            given: StepOut::still(alloc),
+            kept: StepOut::still(alloc),
+        }
+    }
 }
 
 /// One event: an actor took a letter, sent letters and acted. Stamps count a history's entries from 1.
