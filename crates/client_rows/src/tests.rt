@@ -1,10 +1,13 @@
+ghost use Rattle.std.specs.Prelude.{OnOk};
+ghost use Rattle.client_rows.specs.Kept.{IsKeptOf};
+
 use super::*;
 use crate::news::News;
 use crate::places::{Place, furthest};
 use letter_types::{Act, Answer, Body, Step, Values};
 use std::alloc::Global;
 use std::test::Fail;
-use tv_base::{ActorNo, Name, NodeNo, TreeNo, Version};
+use tv_base::{ActorNo, Name, NoMemory, NodeNo, TreeNo, Version};
 use tx_trees::{Script, ScriptRow, TreeKind};
 
 fn add_tree(script: &mut Script, name: &[u8], node: u8) -> Result<(), Fail> {
@@ -26,6 +29,13 @@ fn reply(alloc: Global, tree: u32) -> Body {
     }
 }
 
+fn two_trees(alloc: Global) -> Result<Script, Fail> {
+    let mut script = Script::new(alloc, 2);
+    add_tree(&mut script, b"s", 1)?;
+    add_tree(&mut script, b"t", 0)?;
+    Ok(script)
+}
+
 // The tree of the Root at a place of what is sent, and to whom it goes.
 fn root_at(step: &Step, place: usize) -> Option<(ActorNo, TreeNo)> {
     let letter = step.given.sent.items().get(place)?;
@@ -35,48 +45,68 @@ fn root_at(step: &Step, place: usize) -> Option<(ActorNo, TreeNo)> {
     }
 }
 
-// Whether a Nudge to this actor is all that is sent.
-fn nudges(step: &Step, to: u8) -> bool {
+#[test]
+fn at_go_trees_go_to_their_homes(rt: HostRuntime) -> Result<(), Fail> {
+    let alloc = rt.alloc();
+    let script = two_trees(alloc)?;
+    let mut client = Client::new(alloc, &script)?;
+    let step = client.on(alloc, &script, &Body::Go)?;
+    assert_eq!(rt; root_at(&step, 0), Some((ActorNo(1), TreeNo(0))));
+    assert_eq!(rt; root_at(&step, 1), Some((ActorNo(0), TreeNo(1))));
+    assert_eq!(rt; step.given.sent.items().len(), 2);
+    assert!(rt; step.given.acts.items().is_empty());
+    Ok(())
+}
+
+// What the client does at a letter.
+#[derive(Clone, Copy, Debug, PartialEq, Eq)]
+enum Seen {
+    Nothing,
+    Nudge,
+    NudgeAndFinished,
+    Other,
+}
+
+fn seen_in(step: &Step) -> Seen {
+    let acts = step.given.acts.items();
     match step.given.sent.items() {
-        [only] => match &only.body {
-            Body::Nudge => only.to == ActorNo(to),
-            _ => false,
+        [] if acts.is_empty() => Seen::Nothing,
+        [only] if only.to == ActorNo(2) => match (&only.body, acts) {
+            (Body::Nudge, []) => Seen::Nudge,
+            (Body::Nudge, [Act::Finished]) => Seen::NudgeAndFinished,
+            _ => Seen::Other,
         },
-        _ => false,
+        _ => Seen::Other,
     }
 }
 
-// Whether Finished is the one act.
-fn finishes(step: &Step) -> bool {
-    match step.given.acts.items() {
-        [Act::Finished] => true,
-        _ => false,
-    }
+fn at_reply(
+    alloc: Global,
+    script: &Script,
+    client: &mut Client,
+    tree: u32,
+) -> Result<Seen, NoMemory>
+    requires { IsKeptOf script.now client.old }
+    ensures { OnOk result (IsKeptOf script.now client.new) }
+{
+    let step = client.on(alloc, script, &reply(alloc, tree))?;
+    Ok(seen_in(&step))
 }
 
 #[test]
-fn trees_go_to_their_homes_and_the_last_answer_finishes(rt: HostRuntime) -> Result<(), Fail> {
+fn the_last_answer_finishes_once(rt: HostRuntime) -> Result<(), Fail> {
     let alloc = rt.alloc();
-    let mut script = Script::new(alloc, 2);
-    add_tree(&mut script, b"s", 1)?;
-    add_tree(&mut script, b"t", 0)?;
+    let script = two_trees(alloc)?;
     let mut client = Client::new(alloc, &script)?;
-    let started = client.on(alloc, &script, &Body::Go)?;
-    assert_eq!(rt; root_at(&started, 0), Some((ActorNo(1), TreeNo(0))));
-    assert_eq!(rt; root_at(&started, 1), Some((ActorNo(0), TreeNo(1))));
-    assert_eq!(rt; started.given.sent.items().len(), 2);
-    let second = client.on(alloc, &script, &reply(alloc, 1))?;
-    assert!(rt; nudges(&second, 2));
-    assert!(rt; !finishes(&second));
-    let first = client.on(alloc, &script, &reply(alloc, 0))?;
-    assert!(rt; nudges(&first, 2));
-    assert!(rt; finishes(&first));
+    client.on(alloc, &script, &Body::Go)?;
+    assert_eq!(rt; at_reply(alloc, &script, &mut client, 1)?, Seen::Nudge);
+    assert_eq!(rt;
+        at_reply(alloc, &script, &mut client, 0)?,
+        Seen::NudgeAndFinished
+    );
     assert!(rt; client.finished());
-    let again = client.on(alloc, &script, &reply(alloc, 0))?;
-    assert!(rt; nudges(&again, 2));
-    assert!(rt; again.given.acts.items().is_empty());
-    let unknown = client.on(alloc, &script, &reply(alloc, 2))?;
-    assert!(rt; unknown.given.sent.items().is_empty());
+    assert_eq!(rt; at_reply(alloc, &script, &mut client, 0)?, Seen::Nudge);
+    assert_eq!(rt; at_reply(alloc, &script, &mut client, 2)?, Seen::Nothing);
     Ok(())
 }
 
