@@ -4,6 +4,7 @@
 mod check_text;
 mod items;
 mod lines;
+mod reads;
 mod run_report;
 mod trees;
 mod values;
