@@ -1,8 +1,7 @@
 -- The lines of the trees by their standings are those of the report.
 use Rattle.std.proofs.Common.{◌≡◌, ℕ, zero, suc, ◌+◌, List, [], ◌∷◌, ◌++◌, refl, ap, sym, ◌∙◌, append_assoc, arith}
-use Rattle.std.specs.Prelude.{codes, length, Option, Some, None, slice_get}
+use Rattle.std.specs.Prelude.{length, Option, Some, None, slice_get}
 use Rattle.std.specs.List.{AllByRecursion}
-use Rattle.tv_base.specs.declared.numbers.ItemNo.{ItemNo}
 use Rattle.tv_base.specs.declared.numbers.Version.{Version}
 use Rattle.commute_ops.specs.declared.value.Value.{Value}
 use Rattle.letter_types.specs.declared.entries.Entry.{Entry}

@@ -20,14 +20,15 @@ use Rattle.report_text.specs.Report.{advances, balance, get_text, read_line, upd
 -- a value behind the name of its item, where both are there
 abbrev pub found_text : Option ItemRow → Option Value → List ℕ
 found_text None w = []
-found_text (Some row) None = []
 found_text (Some row) (Some w) = get_text row.name w
+found_text (Some row) _ = []
 
 -- the values of the operations' items among these values of all items
 abbrev pub ops_texts : List ItemRow → List Value → List SubOp → List ℕ
 ops_texts rows ws [] = []
 ops_texts rows ws (o ∷ os) = found_text (slice_get rows o.item.0) (slice_get ws o.item.0) ++ ops_texts rows ws os
 
+-- the same for the operations of subtransactions
 abbrev pub subs_texts : List ItemRow → List Value → List Sub → List ℕ
 subs_texts rows ws [] = []
 subs_texts rows ws (k ∷ ks) = ops_texts rows ws k.ops ++ subs_texts rows ws ks
@@ -48,10 +49,11 @@ trees_lines s h (t ∷ ts) (st ∷ sts) = born_line s h t t.kind st.born ++ tree
 abbrev pub IsKept : ScriptData → List Entry → VersionWorths → Type 0
 IsKept s h k = k.values ≡ worths s h k.version.0
 
+-- the same of all that is kept
 abbrev pub AreKept : ScriptData → List Entry → List VersionWorths → Type 0
 AreKept s h ks = AllByRecursion (IsKept s h) ks
 
--- what is kept for version v
+-- what is to be kept for version v
 abbrev pub kept_for : ScriptData → List Entry → Version → VersionWorths
 kept_for s h v = record { version = v; values = worths s h v.0 }
 

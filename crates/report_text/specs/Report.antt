@@ -55,6 +55,7 @@ abbrev pub gets_of : List Sub → List SubOp
 gets_of [] = []
 gets_of (k ∷ ks) = k.ops ++ gets_of ks
 
+-- a word, a name and its version
 abbrev pub version_text : List ℕ → List ℕ → ℕ → List ℕ
 version_text word name v = word ++ (name ++ (codes " version " ++ decimal v))
 
@@ -70,7 +71,7 @@ read_line name v values = version_text (codes "read ") name v ++ (values ++ code
 abbrev pub gets_text : ScriptData → List Entry → ℕ → List Sub → List ℕ
 gets_text s h v ks = values_text s.items (shown s h v (gets_of ks))
 
--- the line of an update or read tree that is born
+-- the line of an update or read tree that is born; no other tree has one
 abbrev pub tree_line : ScriptData → List Entry → Tree → TreeKind → Option Version → List ℕ
 tree_line s h tree Update (Some v) = update_line tree.name v.0
 tree_line s h tree Read (Some v) = read_line tree.name v.0 (gets_text s h v.0 tree.subs)

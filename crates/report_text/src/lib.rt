@@ -5,6 +5,7 @@ mod check_text;
 mod items;
 mod lines;
 mod reads;
+mod run;
 mod run_report;
 mod trees;
 mod values;

@@ -5,21 +5,13 @@ ghost use Rattle.report_text.specs.Lines.{AreKept, found_text, kept_for, ops_tex
 ghost use Rattle.report_text.specs.Report.{get_text, read_line};
 
 use crate::lines::Lines;
+use crate::run::Run;
 use crate::values::push_value;
-use board_model::{Balances, Standings, balances_at};
+use board_model::{Balances, balances_at};
 use commute_ops::Value;
-use letter_types::History;
 use std::alloc::Global;
 use tv_base::{ItemNo, Name, NoMemory, Seq, Version};
-use tx_trees::{ItemRow, Script, Sub, SubOp, Tree};
-
-// A script, a history, and what this says of the script's trees.
-#[derive(Clone, Copy)]
-pub(crate) struct Run<'a> {
-    pub(crate) script: &'a Script,
-    pub(crate) history: &'a History,
-    pub(crate) standings: &'a Standings,
-}
+use tx_trees::{ItemRow, Sub, SubOp, Tree};
 
 // What all items are worth at one version, by item number.
 #[derive(Drop)]
@@ -28,7 +20,7 @@ pub(crate) struct VersionWorths {
     pub(crate) values: Balances,
 }
 
-// What all items are worth at some versions, each of which is there once.
+// What all items are worth at the versions that were asked for so far.
 pub(crate) type Worths = Seq<VersionWorths, 0xffff_ffff>;
 
 // The place of the version's worths, which are worked out and kept if they aren't there yet.

@@ -4,7 +4,7 @@ ghost use Rattle.report_text.specs.Report.{advances, report_of};
 
 use crate::items::push_items;
 use crate::lines::Lines;
-use crate::reads::Run;
+use crate::run::Run;
 use crate::trees::{push_nodes, push_trees};
 use board_model::whole_versions;
 use letter_types::History;
@@ -17,10 +17,10 @@ use tx_trees::Script;
 /// of updates and reads after the script's advancements; a line for each item, with what it is worth at the version
 /// that reads are shown, and at the next one if an update tree of that version has an operation on it.
 ///
-/// The trees' versions and wholeness come from one pass over the history. What the items are worth comes from one pass
-/// over the trees for each version that a born read tree has, and is kept until the trees are written; then from two
-/// more, and which items are written from another. So the work grows with the history, with the script times the number
-/// of those versions, and with the length of the text. Only want of memory is an error.
+/// The trees' versions and wholeness come from one pass over the history. What all items are worth at a version comes
+/// from one pass over the script's trees, made once for each version that a read tree was born with; in a run these are
+/// at most one more than the advancements. Three more passes serve the lines of items. So the work grows with the
+/// history, with the script times the number of those versions, and with the text. Only want of memory is an error.
 pub fn report(alloc: Global, script: &Script, history: &History) -> Result<Lines, NoMemory>
     ensures { IfOk result (λ text. text ≡ report_of script.now history.now) }
 {
@@ -34,7 +34,7 @@ pub fn report(alloc: Global, script: &Script, history: &History) -> Result<Lines
     };
     push_trees(alloc, &mut text, run)?;
     push_nodes(&mut text, advances, script.nodes())?;
-    push_items(alloc, &mut text, script, history, &standings, advances)?;
+    push_items(alloc, &mut text, run, advances)?;
     Ok(text)
 }
 

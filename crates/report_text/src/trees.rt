@@ -5,7 +5,8 @@ ghost use Rattle.report_text.specs.Lines.{AreKept, born_line, trees_lines};
 ghost use Rattle.report_text.specs.Report.{node_line, nodes_text, trees_text, update_line};
 
 use crate::lines::Lines;
-use crate::reads::{Run, Worths, keep, push_read};
+use crate::reads::{Worths, keep, push_read};
+use crate::run::Run;
 use board_model::Standing;
 use std::alloc::Global;
 use tv_base::{Name, NoMemory, Version};
@@ -17,11 +18,11 @@ pub(crate) fn push_trees(alloc: Global, text: &mut Lines, run: Run) -> Result<()
     requires { run.standings.now ≡ standings_of run.script.now run.history.now }
     ensures { OnOk result (text.new ≡ text.old ++ trees_text run.entry.script.now run.entry.history.now 0 run.entry.script.now.trees) }
 {
-    push_born(alloc, text, run, run.script.trees(), run.standings.items())
+    push_tree_lines(alloc, text, run, run.script.trees(), run.standings.items())
 }
 
 // The lines of the trees, which have these standings.
-fn push_born(
+fn push_tree_lines(
     alloc: Global,
     text: &mut Lines,
     run: Run,

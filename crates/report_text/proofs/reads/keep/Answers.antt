@@ -1,4 +1,4 @@
-use Rattle.std.proofs.Common.{◌≡◌, ℕ, ◌==◌, ◌++◌, List, [], ◌∷◌, Some, position, slice_get, length, ap, sym, ◌∙◌}
+use Rattle.std.proofs.Common.{◌≡◌, ◌==◌, ◌++◌, List, [], ◌∷◌, Some, position, slice_get, length, ap, ◌∙◌}
 use Rattle.commute_ops.specs.declared.value.Value.{Value}
 use Rattle.report_text.specs.declared.reads.VersionWorths.{VersionWorths}
 use Rattle.report_text.specs.Lines.{kept_for}

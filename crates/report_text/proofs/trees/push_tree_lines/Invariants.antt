@@ -1,6 +1,6 @@
 use Rattle.std.proofs.Common.{◌≡◌, ◌++◌, drop}
 use Rattle.report_text.specs.Lines.{AreKept, trees_lines}
-use Rattle.report_text.proofs.trees.push_born.Given as goal
+use Rattle.report_text.proofs.trees.push_tree_lines.Given as goal
 
 abbrev pub invariant-loop-t : goal.invariant-loop-t
 invariant-loop-t l = record {
