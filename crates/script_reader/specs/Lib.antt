@@ -5,3 +5,4 @@ pub mod Numbers
 pub mod Words
 pub mod Rows
 pub mod Reading
+pub mod Written
