@@ -5,6 +5,7 @@ use Rattle.std.specs.Fmt.{signed_decimal}
 use Rattle.std.specs.List.{list_all}
 use Rattle.std.proofs.lemmas.Bool.{le-leb}
 use Rattle.std.proofs.lemmas.Bool.Decides.{nat_tests}
+use Rattle.std.proofs.lemmas.Int.{ints}
 use Rattle.std.proofs.lemmas.Fmt.{decimal_by_steps_wide, length-decimal-le_wide}
 use Rattle.std.proofs.lemmas.List.Folds.{list_all-append}
 use Rattle.std.proofs.lemmas.List.Sums.{fold-append}
@@ -58,6 +59,9 @@ first_digit : (ds : List ℕ) → list_all is_digit ds ≡ true → (is_negative
 first_digit [] h = (refl, refl)
 first_digit (b ∷ bs) h = rw (not_minus b (list_all is_digit bs) h) (refl, refl)
 
+below_zero : (n : ℕ) → pos 0 -ℤ pos (suc n) ≡ negsuc n
+below_zero n = omega (arith, ints)
+
 -- an amount of up to 32 digits
 pub amount_read : (a : ℤ) → unsigned_abs a < 10 ^ 32 → (is_amount (signed_decimal a) ≡ true) × (amount_value (signed_decimal a) ≡ a)
 amount_read (pos n) h =
@@ -66,4 +70,4 @@ amount_read (pos n) h =
     (rw f.1 (number_read n h), rw (f.0, f.1, s.value) refl)
 amount_read (negsuc n) h =
     let s = spells (suc n) (omega arith) in
-    (number_read (suc n) h, rw s.value refl)
+    (number_read (suc n) h, rw s.value (below_zero n))
