@@ -6,7 +6,7 @@ use Rattle.std.specs.Global.{Vec}
 use Rattle.std.specs.Vec.{with_item}
 use Rattle.std.proofs.Math.ListN.{set, get_or-append}
 use Rattle.std.proofs.Math.Seq.{get_or-append_seam}
-use Rattle.std.proofs.lemmas.List.{get_or-set_other, get_or-set_same, get_or_default, length-set}
+use Rattle.std.proofs.lemmas.List.{get_or-set_other, get_or-set_same, get_or_default, length-set, map-append}
 use Rattle.std.proofs.lemmas.Option.{slice_get-get_or, slice_get_cases}
 use Rattle.std.proofs.lemmas.Bool.{cases_eq, cases_lt}
 use Rattle.std.proofs.lemmas.Grind.{common_steps}
@@ -25,7 +25,7 @@ use Rattle.tx_trees.specs.declared.script.Script.TheInside.{Inside}
 use Rattle.tx_trees.specs.ScriptData.{ScriptData}
 use Rattle.tx_trees.specs.Valid.{AreSubs, IsItem, IsOp, IsSub, IsTree, NamesInOrder, OpAt, deed_fits, initial_load, load, magnitude, ops_load, subs_load, trees_load}
 use Rattle.tx_trees.specs.Adding.{advances_in, all_ops, all_subs, kind_at, last_count, last_kind, last_node, last_of, last_subs, node_at, on_last, on_last_sub, push_op, push_sub, subs_ops}
-use Rattle.tx_trees.specs.Inside.{IsKept, data_of}
+use Rattle.tx_trees.specs.Inside.{IsKept, data_of, item_names, tree_names}
 use Rattle.tx_trees.proofs.Last.{last_count_is, last_kind_is, last_node_is, last_sub_is, last_subs_is, length-on_last}
 
 -- lists
@@ -178,15 +178,20 @@ advances-push : (rs : List ScriptRow) (t : TreeNo) → advances_in (rs ++ rows.T
 advances-push [] t = refl
 advances-push (r ∷ rs) t = omega (arith, advances-push rs t)
 
+names-on_last : (f : Tree → Tree) (ts : List Tree) → ((t : Tree) → (f t).name ≡ t.name) → tree_names (on_last f ts) ≡ tree_names ts
+names-on_last f [] same = refl
+names-on_last f (t ∷ []) same = ap (λ (n : List ℕ). n ∷ []) (same t)
+names-on_last f (t ∷ u ∷ us) same = ap (λ (ns : List (List ℕ)). t.name ∷ ns) (names-on_last f (u ∷ us) same)
+
 pub some_last_subs : (nodes : ℕ) (items : List ItemRow) (ts : List Tree) → AllByRecursion (IsTree nodes items) ts → 0 < length ts → 0 < last_subs ts
 some_last_subs nodes items ts h some =
     let last = last_some ts some in
     omega (arith, (all-last (IsTree nodes items) ts last.0 h last.1).root, last_subs_is ts last.0 last.1)
 
 -- one more item
-pub kept_item : (s : Inside) (items : Vec ItemRow) (totals : Vec ℕ) (r : ItemRow) → items.items ≡ s.items.items ++ r ∷ [] → totals.items ≡ s.totals.items ++ unsigned_abs r.initial ∷ []
-    → length s.items.items < 10000 → IsItem s.nodes r → unsigned_abs r.initial ≤ MOST_AMOUNT → IsKept s → IsKept (record s { items = items; totals = totals; begun = false })
-kept_item s items totals r is totals_are lt item small h =
+pub kept_item : (s : Inside) (items : Vec ItemRow) (names : List (List ℕ)) (totals : Vec ℕ) (r : ItemRow) → names ≡ s.item_names ++ r.name ∷ [] → items.items ≡ s.items.items ++ r ∷ [] → totals.items ≡ s.totals.items ++ unsigned_abs r.initial ∷ []
+    → length s.items.items < 10000 → IsItem s.nodes r → unsigned_abs r.initial ≤ MOST_AMOUNT → IsKept s → IsKept (record s { items = items; item_names = names; totals = totals; begun = false })
+kept_item s items names totals r names_are is totals_are lt item small h =
     let n : length items.items ≡ length s.items.items + 1 = ap length is ∙ omega (arith, length-append s.items.items (r ∷ [])) in
     let m : length totals.items ≡ length s.totals.items + 1 = ap length totals_are ∙ omega (arith, length-append s.totals.items (unsigned_abs r.initial ∷ [])) in
     let old : (k : ℕ) → k < length s.items.items → initial_load (slice_get items.items k) ≡ initial_load (slice_get s.items.items k) = λ k klt.
@@ -194,7 +199,7 @@ kept_item s items totals r is totals_are lt item small h =
     let fresh : initial_load (slice_get items.items (length s.items.items)) ≡ unsigned_abs r.initial =
     ap (λ (x : List ItemRow). initial_load (slice_get x (length s.items.items))) is ∙ ap initial_load (slice_get-new s.items.items r) in
     let empty : trees_load (length s.items.items) s.trees.items ≡ 0 = no_trees s.nodes s.items.items s.trees.items h.valid.trees in
-    let new : ScriptData = data_of (record s { items = items; totals = totals; begun = false }) in
+    let new : ScriptData = data_of (record s { items = items; item_names = names; totals = totals; begun = false }) in
     let cell : (k : ℕ) → k < length items.items → (get_or totals.items k 0 ≡ load k new) × (load k new ≤ MOST_AMOUNT) = λ k klt.
     elim (cases_lt k (length s.items.items)) [
       | inl below ↦
@@ -220,6 +225,8 @@ kept_item s items totals r is totals_are lt item small h =
         rows = h.valid.rows;
         begun = λ e. absurd cc;
       };
+      item_names = names_are ∙ ap (λ (x : List (List ℕ)). x ++ r.name ∷ []) h.item_names ∙ sym (ap item_names is ∙ map-append (λ (x : ItemRow). x.name) s.items.items (r ∷ []));
+      tree_names = h.tree_names;
       len = omega (arith, h.len);
       totals = λ k klt. (cell k klt).0;
       subs = h.subs;
@@ -228,10 +235,10 @@ kept_item s items totals r is totals_are lt item small h =
     }
 
 -- a tree with its root alone
-pub kept_tree : (s : Inside) (trees : Vec Tree) (rs : Vec ScriptRow) (n : ℕ) (t : Tree) (x : Sub) (number : TreeNo) → trees.items ≡ s.trees.items ++ t ∷ [] → rs.items ≡ s.rows.items ++ rows.Tree number ∷ []
+pub kept_tree : (s : Inside) (trees : Vec Tree) (names : List (List ℕ)) (rs : Vec ScriptRow) (n : ℕ) (t : Tree) (x : Sub) (number : TreeNo) → names ≡ s.tree_names ++ t.name ∷ [] → trees.items ≡ s.trees.items ++ t ∷ [] → rs.items ≡ s.rows.items ++ rows.Tree number ∷ []
     → number.0 ≡ length s.trees.items → t.subs ≡ x ∷ [] → x.parent.0 ≡ 0 → x.node.0 < s.nodes → x.ops ≡ [] → length s.trees.items < 20000 → n ≡ s.subs + 1 → IsKept s
-    → IsKept (record s { trees = trees; rows = rs; begun = true; subs = n })
-kept_tree s trees rs n t x number is rows_are number_is subs_are parent node ops lt n_is h =
+    → IsKept (record s { trees = trees; tree_names = names; rows = rs; begun = true; subs = n })
+kept_tree s trees names rs n t x number names_are is rows_are number_is subs_are parent node ops lt n_is h =
     let len : length trees.items ≡ length s.trees.items + 1 = ap length is ∙ omega (arith, length-append s.trees.items (t ∷ [])) in
     let one : length t.subs ≡ 1 = ap length subs_are in
     let none : (k : ℕ) → subs_load k t.subs ≡ 0 = λ k.
@@ -264,6 +271,8 @@ kept_tree s trees rs n t x number is rows_are number_is subs_are parent node ops
         rows = rw (rows_are, len) (names-push 0 (length s.trees.items) s.rows.items number h.valid.rows number_is);
         begun = λ _. omega arith;
       };
+      item_names = h.item_names;
+      tree_names = names_are ∙ ap (λ (x : List (List ℕ)). x ++ t.name ∷ []) h.tree_names ∙ sym (ap tree_names is ∙ map-append (λ (x : Tree). x.name) s.trees.items (t ∷ []));
       len = h.len;
       totals = λ k klt. omega (arith, h.totals k klt, same k);
       subs = omega (arith, ap all_subs is, sum-push (λ (u : Tree). length u.subs) all_subs all_subs-sum s.trees.items t, h.subs);
@@ -312,6 +321,8 @@ kept_sub s trees n x is some parent node ops lt n_is h =
         rows = rw len h.valid.rows;
         begun = λ _. omega arith;
       };
+      item_names = h.item_names;
+      tree_names = h.tree_names ∙ sym (ap tree_names is ∙ names-on_last (push_sub x) s.trees.items (λ t. refl));
       len = h.len;
       totals = λ k klt. omega (arith, h.totals k klt, same k);
       subs = omega (arith, ap all_subs is, h.subs, sum-on_last (λ (u : Tree). length u.subs) all_subs all_subs-sum (push_sub x) 1 s.trees.items some (λ t _. omega (arith, length-append t.subs (x ∷ []))));
@@ -395,6 +406,8 @@ kept_op s trees k v n o is some at lt node fits few v_is small n_is h =
         rows = rw len h.valid.rows;
         begun = λ _. omega arith;
       };
+      item_names = h.item_names;
+      tree_names = h.tree_names ∙ sym (ap tree_names is ∙ names-on_last (on_last_sub (push_op o)) s.trees.items (λ t. refl));
       len = omega (arith, h.len, length-set {A = ℕ} s.totals.items k v);
       totals = λ j jlt. (cell j jlt).0;
       subs = omega (arith, ap all_subs is, h.subs, sum-on_last (λ (u : Tree). length u.subs) all_subs all_subs-sum (on_last_sub (push_op o)) 0 s.trees.items some (λ t _. omega (arith, length-on_last (push_op o) t.subs)));

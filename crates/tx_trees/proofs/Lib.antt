@@ -1,2 +1,3 @@
 pub mod Last
 pub mod Kept
+pub mod Named

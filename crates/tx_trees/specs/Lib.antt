@@ -1,4 +1,10 @@
+pub mod Adding
+pub mod Amounts
+pub mod Counts
+pub mod Inside
+pub mod Names
+pub mod Ranges
+pub mod Rebuilt
 pub mod ScriptData
 pub mod Valid
-pub mod Adding
-pub mod Inside
+pub mod Why

@@ -40,6 +40,11 @@ is_update Update = true
 is_update Read = false
 is_update Strict = false
 
+abbrev pub is_strict : TreeKind → Bool
+is_strict Strict = true
+is_strict Update = false
+is_strict Read = false
+
 -- tree t is there, and is an update tree
 abbrev pub updates : ScriptData → ℕ → Bool
 updates s t = elim (slice_get s.trees t) [ Some tree ↦ is_update tree.kind | None ↦ false ]

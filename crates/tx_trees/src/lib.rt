@@ -2,6 +2,7 @@
 #![tactic(auto)]
 
 mod lookups;
+mod name_index;
 mod parts;
 mod script;
 mod why;

@@ -1,8 +1,8 @@
 // Look-ups in the parts of a script, and changes at their end.
-ghost use Rattle.std.specs.Prelude.{◌≡◌, ◌<◌, ◌≤◌, [], length, OnOk, OnErr, IfErr, IfOk, IfSome, unsigned_abs};
+ghost use Rattle.std.specs.Prelude.{◌≡◌, ◌<◌, ◌≤◌, [], length, OnOk, OnErr, IfErr, IfOk, unsigned_abs};
 ghost use Rattle.commute_ops.specs.declared.kinds.TheConstants.{MOST_AMOUNT};
 ghost use Rattle.tx_trees.specs.Valid.{deed_fits, magnitude, op_fits};
-ghost use Rattle.tx_trees.specs.Adding.{kind_at, last_count, last_kind, last_node, last_subs, names_tree, node_at, on_last, on_last_sub, place_of, push_op, push_sub, rooted};
+ghost use Rattle.tx_trees.specs.Adding.{kind_at, last_count, last_kind, last_node, last_subs, node_at, on_last, on_last_sub, push_op, push_sub, rooted};
 
 use crate::parts::{Deed, ItemRow, Sub, SubOp, Subs, Tree, TreeKind};
 use crate::why::Refusal;
@@ -16,21 +16,6 @@ pub(crate) struct LastPlace {
     pub(crate) kind: TreeKind,
     pub(crate) node: NodeNo,
     pub(crate) ops: usize,
-}
-
-// The place of the item of this name: the plain search.
-pub(crate) fn place(items: &[ItemRow], name: &[u8]) -> Option<usize>
-    ensures place { result ≡ place_of name.now items.now }
-    ensures within { IfSome result (λ k. k < length items.now) }
-{
-    items.iter().position(|r| r.name.bytes() == name)
-}
-
-// Whether a tree has this name: the plain search.
-pub(crate) fn is_tree(trees: &[Tree], name: &[u8]) -> bool
-    ensures { result ≡ names_tree name.now trees.now }
-{
-    trees.iter().any(|t| t.name.bytes() == name)
 }
 
 // The node of an item.

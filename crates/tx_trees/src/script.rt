@@ -1,13 +1,14 @@
 // A script, which is valid whatever was added.
-ghost use Rattle.std.specs.Prelude.{◌≡◌, ◌<◌, ◌≤◌, length, is_some, unsigned_abs, IfOk};
+ghost use Rattle.std.specs.Prelude.{◌≡◌, ◌<◌, ◌≤◌, length, is_some, unsigned_abs, IfOk, IfSome};
 ghost use Rattle.commute_ops.specs.declared.kinds.TheConstants.{MOST_AMOUNT};
 ghost use Rattle.tx_trees.specs.Valid.{IsItem, IsValid, magnitude};
-ghost use Rattle.tx_trees.specs.Adding.{Steps, adds_item, adds_op, adds_sub, adds_tree, advances_in, fresh, last_subs, place_of};
+ghost use Rattle.tx_trees.specs.Adding.{Steps, adds_item, adds_op, adds_sub, adds_tree, advances_in, fresh, last_subs, names_tree, place_of};
 
 use crate::lookups::{
-    deed_fits, empty_sub, initial_size, is_tree, kind_at, last_subs, magnitude, node_at, place,
-    place_of_last, push_op, push_sub, rooted,
+    deed_fits, empty_sub, initial_size, kind_at, last_subs, magnitude, node_at, place_of_last,
+    push_op, push_sub, rooted,
 };
+use crate::name_index::NameIndex;
 use crate::parts::{Deed, ItemRow, ScriptRow, SubOp, Tree, TreeKind};
 use crate::why::{Refusal, Why};
 use commute_ops::MOST_AMOUNT;
@@ -30,7 +31,6 @@ const MOST_OPS_OF_SUB: usize = 16;
 /// Nodes, items, trees, rows and picks, seen by contracts as `ScriptData`. Whatever was added, a script is valid:
 /// names are taken once, each operation fits its item and its tree, and each item's magnitudes add up to no more
 /// than `MOST_AMOUNT`.
-#[derive(Drop)]
 pub struct Script {
     alloc: Global,
     nodes: u8,
@@ -39,10 +39,15 @@ pub struct Script {
     rows: Vec<ScriptRow>,
     picks: Vec<u32>,
     begun: bool,
+    item_names: NameIndex,
+    tree_names: NameIndex,
     totals: Vec<u64>,
+    puts: Vec<u64>,
     subs: u32,
     ops: u32,
     advances: u32,
+    strict: u32,
+    update_subs: u32,
 }
 
 impl Model for Script {
@@ -55,6 +60,31 @@ impl Model for Script {
     ghost view = { data_of };
 
     ghost invariant = { IsKept };
+}
+
+// A drop of its own is one call wherever a script goes out of scope. A derived one would be the drops of all fields
+// there, which every function that holds a script would have to be proved with.
+impl Drop for Script {
+    fn drop(self) {
+        let Script {
+            alloc: _,
+            nodes: _,
+            items: _,
+            trees: _,
+            rows: _,
+            picks: _,
+            begun: _,
+            item_names: _,
+            tree_names: _,
+            totals: _,
+            puts: _,
+            subs: _,
+            ops: _,
+            advances: _,
+            strict: _,
+            update_subs: _,
+        } = self;
+    }
 }
 
 impl Script {
@@ -71,10 +101,15 @@ impl Script {
             rows: Vec::new(alloc),
             picks: Vec::new(alloc),
             begun: false,
+            item_names: NameIndex::new(alloc),
+            tree_names: NameIndex::new(alloc),
             totals: Vec::new(alloc),
+            puts: Vec::new(alloc),
             subs: 0,
             ops: 0,
             advances: 0,
+            strict: 0,
+            update_subs: 0,
         }
     }
 
@@ -127,7 +162,22 @@ impl Script {
     pub fn names_item(&self, name: &Name) -> bool
         ensures { result ≡ is_some (place_of name.now self.now.items) }
     {
-        place(&self.items, name.bytes()).is_some()
+        self.item_number(name).is_some()
+    }
+
+    // The number of the item of this name.
+    fn item_number(&self, name: &Name) -> Option<usize>
+        ensures number { result ≡ place_of name.now self.now.items }
+        ensures within { IfSome result (λ k. k < length self.now.items) }
+    {
+        self.item_names.number(name)
+    }
+
+    // Whether a tree has this name.
+    fn names_tree(&self, name: &Name) -> bool
+        ensures { result ≡ names_tree name.now self.now.trees }
+    {
+        self.tree_names.has(name)
     }
 
     /// Adds an item, and gives its number. A refusal is `NameTaken` or `TooMany` (10,000 items); it, and want of
@@ -138,7 +188,7 @@ impl Script {
         ensures step { Steps (adds_item self.old row) result self.old self.new }
         ensures number { IfOk result (λ n. n.0 ≡ length self.old.items) }
     {
-        if place(&self.items, row.name.bytes()).is_some() {
+        if self.names_item(&row.name) {
             return Err(Refusal::Why(Why::NameTaken));
         }
         if self.items.len() >= MOST_ITEMS {
@@ -147,7 +197,9 @@ impl Script {
         let number = ItemNo(self.items.len() as u32);
         let initial = initial_size(&row);
         self.totals.reserve(1)?;
-        self.items.push(row)?;
+        self.items.reserve(1)?;
+        self.item_names.add(row.name)?;
+        let _ = self.items.push(row);
         let _ = self.totals.push(initial);
         self.begun = false;
         Ok(number)
@@ -161,7 +213,7 @@ impl Script {
         ensures step { Steps (adds_tree self.old name kind node) result self.old self.new }
         ensures number { IfOk result (λ n. n.0 ≡ length self.old.trees) }
     {
-        if is_tree(&self.trees, name.bytes()) {
+        if self.names_tree(&name) {
             return Err(Refusal::Why(Why::NameTaken));
         }
         if self.trees.len() >= MOST_TREES || self.subs >= MOST_SUBS {
@@ -170,7 +222,9 @@ impl Script {
         let number = TreeNo(self.trees.len() as u32);
         let tree = rooted(self.alloc, name, kind, node)?;
         self.rows.reserve(1)?;
-        self.trees.push(tree)?;
+        self.trees.reserve(1)?;
+        self.tree_names.add(name)?;
+        let _ = self.trees.push(tree);
         let _ = self.rows.push(ScriptRow::Tree(number));
         self.subs += 1;
         self.begun = true;
@@ -208,7 +262,7 @@ impl Script {
         requires { magnitude deed ≤ MOST_AMOUNT }
         ensures { Steps (adds_op self.old item.now deed) result self.old self.new }
     {
-        let Some(number) = place(&self.items, item.bytes()) else {
+        let Some(number) = self.item_number(item) else {
             return Err(Refusal::Why(Why::UnknownItem));
         };
         if !self.begun {
