@@ -1,35 +1,14 @@
 // What the client sends and does, made twice over: once to go out, once to stay.
 ghost use Rattle.std.specs.Prelude.{if◌then◌else◌, ◌≡◌, ◌++◌, ◌∷◌, [], IfOk};
 ghost use Rattle.letter_types.specs.declared.acts.Act.TheVariants.{Finished};
-ghost use Rattle.tx_trees.specs.ScriptData.{subs_at, home_of};
 ghost use Rattle.client_rows.specs.Client.{rows_letters};
 ghost use Rattle.client_rows.specs.News.{sent_first};
 
 use crate::news::News;
 use letter_types::{Act, Acts, Body, Letters, Outgoing, Step, StepOut};
 use std::alloc::Global;
-use tv_base::{ActorNo, NoMemory, TreeNo};
-use tx_trees::{Script, ScriptRow, Sub};
-
-/// The subtransactions of a tree, of which there are none where it isn't there.
-fn subs_at(script: &Script, tree: TreeNo) -> &[Sub]
-    ensures { result.now ≡ subs_at script.now tree.0 }
-{
-    match script.trees().get(tree.0 as usize) {
-        Some(found) => found.subs.items(),
-        None => &[],
-    }
-}
-
-/// The node of a tree's root; where the tree isn't there, the number of nodes, which is no node.
-fn home_of(script: &Script, tree: TreeNo) -> u8
-    ensures { result ≡ home_of script.now tree.0 }
-{
-    match subs_at(script, tree).first() {
-        Some(root) => root.node.0,
-        None => script.nodes(),
-    }
-}
+use tv_base::{ActorNo, NoMemory};
+use tx_trees::{Script, ScriptRow};
 
 /// The letters that are sent before those of the rows: the coordinator hears of an answer.
 fn sent_first(alloc: Global, script: &Script, news: News) -> Result<Letters, NoMemory>
@@ -58,7 +37,7 @@ fn letters(
     for row in rows {
         match *row {
             ScriptRow::Tree(tree) => sent.push(Outgoing {
-                to: ActorNo(home_of(script, tree)),
+                to: ActorNo(script.home_of(tree)),
                 body: Body::Root { tree },
             })?,
             ScriptRow::Advance => sent.push(Outgoing {

@@ -12,7 +12,7 @@ use Rattle.tx_trees.specs.declared.parts.ScriptRow.TheVariants as rows
 use Rattle.tx_trees.specs.declared.parts.Tree.{Tree}
 use Rattle.tx_trees.specs.declared.parts.TreeKind.{TreeKind}
 use Rattle.tx_trees.specs.declared.why.Why.{Why}
-use Rattle.script_reader.specs.Builds.{Builds, IsBuiltRow, is_built}
+use Rattle.script_reader.specs.Builds.{Builds}
 use Rattle.script_reader.specs.Numbers.{amount_value, decimal_value}
 use Rattle.script_reader.specs.Reading.{read_of, read_rows, rows_from, then_rows}
 use Rattle.script_reader.specs.Records.{records_in}
@@ -23,6 +23,7 @@ use Rattle.script_reader.specs.declared.words.OpWord.{OpWord}
 use Rattle.script_reader.specs.declared.words.RowWord.{RowWord}
 use Rattle.script_reader.specs.declared.words.RowWord.TheVariants as words
 use Rattle.script_reader.proofs.Added.{item_is, op_taken, settle_is, sub_is, tree_is}
+use Rattle.tx_trees.specs.Built.{is_built, IsBuiltRow}
 
 abbrev IsBuiltTree : Tree → Type 0
 IsBuiltTree t = IsTrue (is_built t.kind)

@@ -21,13 +21,13 @@ use Rattle.tx_trees.specs.declared.parts.TreeKind.{TreeKind}
 use Rattle.tx_trees.specs.declared.why.Why.{Why}
 use Rattle.tx_trees.specs.declared.why.Refusal.{Refusal}
 use Rattle.tx_trees.specs.declared.why.Refusal.TheVariants as refusals
-use Rattle.script_reader.specs.Builds.{is_built}
 use Rattle.script_reader.specs.Numbers.{amount_of, amount_value, decimal_value, is_amount, is_number, number_of}
 use Rattle.script_reader.specs.Rows.{Leaves, adds_item_of, amount_row, by_word, deed_of, field, if_built, item_of, item_row, later_form, later_row, node_no, op_row, starts, sub_row, tree_row}
 use Rattle.script_reader.specs.Words.{kind_of, len_fits, word_of}
 use Rattle.script_reader.specs.declared.words.OpWord.{OpWord}
 use Rattle.script_reader.specs.declared.words.RowWord.{RowWord}
 use Rattle.script_reader.specs.declared.words.RowWord.TheVariants as words
+use Rattle.tx_trees.specs.Built.{is_built}
 
 -- what a call on a script answers is what its row makes
 pub leaves : {T : Type 0} (made step : Result ScriptData Why) (r : Result T Refusal) (old new : ScriptData) → made ≡ step → Steps step r old new → Leaves made r new

@@ -19,7 +19,7 @@ use Rattle.tx_trees.specs.declared.parts.SubOp.{SubOp}
 use Rattle.tx_trees.specs.declared.parts.Tree.{Tree}
 use Rattle.tx_trees.specs.declared.parts.TreeKind.{TreeKind}
 use Rattle.tx_trees.specs.declared.why.Why.{Why}
-use Rattle.script_reader.specs.Builds.{Builds, IsBuiltRow, is_built}
+use Rattle.script_reader.specs.Builds.{Builds}
 use Rattle.script_reader.specs.ReadBack.{IsReadAs}
 use Rattle.script_reader.specs.Reading.{read_of, read_rows, rows_from, then_rows}
 use Rattle.script_reader.specs.Records.{records_in}
@@ -30,6 +30,7 @@ use Rattle.script_reader.proofs.Lines.{few_lines, lines_read}
 use Rattle.script_reader.proofs.PlainRows.{all_plain, op_named, small_deed}
 use Rattle.script_reader.proofs.RowsBack.{deed_back, item_back, nodes_back, sub_back, tree_back}
 use Rattle.script_reader.proofs.Script.{ends, goes_on}
+use Rattle.tx_trees.specs.Built.{is_built, IsBuiltRow}
 
 -- these rows, read from script u on, give v, whatever row comes next
 abbrev Reads : ScriptData → List (List (List ℕ)) → ScriptData → Type 0

@@ -22,7 +22,6 @@ use Rattle.tx_trees.specs.declared.parts.TreeKind.{TreeKind}
 use Rattle.tx_trees.specs.declared.parts.TreeKind.TheVariants as trees
 use Rattle.tx_trees.specs.declared.why.Why.{Why}
 use Rattle.tx_trees.specs.declared.why.Why.TheVariants as why
-use Rattle.script_reader.specs.Builds.{is_built}
 use Rattle.script_reader.specs.Numbers.{amount_of, number_of}
 use Rattle.script_reader.specs.Rows.{amount_row, deed_of, first_row, if_built, item_row, later_row, nodes_row, op_row, sub_row, tree_row, unless}
 use Rattle.script_reader.specs.Words.{kind_of, kind_word}
@@ -31,6 +30,7 @@ use Rattle.script_reader.specs.declared.words.OpWord.{OpWord}
 use Rattle.script_reader.specs.declared.words.OpWord.TheVariants as ops
 use Rattle.script_reader.proofs.Decimals.{amount_read, number_read, value_read}
 use Rattle.script_reader.proofs.Passing.{amount_row_is, item_row_is}
+use Rattle.tx_trees.specs.Built.{is_built}
 
 number_back : (n : ℕ) → n < 10 ^ 32 → Some n ≡ number_of (decimal n)
 number_back n h = rw (number_read n h, value_read n (omega arith)) refl

@@ -15,13 +15,13 @@ use Rattle.tx_trees.specs.declared.why.Why.{Why}
 use Rattle.tx_trees.specs.declared.why.Why.TheVariants as why
 use Rattle.tx_trees.specs.declared.why.Refusal.{Refusal}
 use Rattle.tx_trees.specs.declared.why.Refusal.TheVariants as refusals
-use Rattle.script_reader.specs.Builds.{is_built}
 use Rattle.script_reader.specs.Numbers.{amount_value, decimal_value, is_amount, is_number}
 use Rattle.script_reader.specs.Words.{kind_of, len_fits, word_of}
 use Rattle.script_reader.specs.declared.words.OpWord.{OpWord}
 use Rattle.script_reader.specs.declared.words.OpWord.TheVariants as ops
 use Rattle.script_reader.specs.declared.words.RowWord.{RowWord}
 use Rattle.script_reader.specs.declared.words.RowWord.TheVariants as words
+use Rattle.tx_trees.specs.Built.{is_built}
 
 -- the first condition that holds gives its reason; where none holds, what comes next
 abbrev pub unless : {A : Type 0} → List (Bool × Why) → Result A Why → Result A Why

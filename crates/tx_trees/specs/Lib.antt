@@ -11,3 +11,4 @@ pub mod SameFacts
 pub mod ScriptData
 pub mod Valid
 pub mod Why
+pub mod Built

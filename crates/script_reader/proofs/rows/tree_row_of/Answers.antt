@@ -1,8 +1,8 @@
 use Rattle.std.proofs.Common.{arith}
 use Rattle.tv_base.specs.declared.numbers.TreeNo.{TreeNo}
-use Rattle.script_reader.specs.Builds.{is_built}
 use Rattle.script_reader.proofs.Passing.{passed_on_built, tree_row_is}
 use Rattle.script_reader.proofs.rows.tree_row_of.Goals as goal
+use Rattle.tx_trees.specs.Built.{is_built}
 
 pub returns-in_err-add_tree : goal.returns-in_err-add_tree
 returns-in_err-add_tree c =
