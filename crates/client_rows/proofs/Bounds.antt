@@ -1,11 +1,12 @@
 -- What every row of the client's table keeps, and how much it sends.
 use Rattle.std.proofs.Common.{if◌then◌else◌, ◌≡◌, ℕ, ◌+◌, ◌≤◌, Bool, true, false, List, [], ◌∷◌, ◌++◌, length, take, drop, Option, Some, None, refl, ◌∙◌, arith, length-append}
-use Rattle.std.proofs.lemmas.List.{length-set, length-take, length-drop}
+use Rattle.std.proofs.lemmas.List.{length-set, length-take, length-drop, length-replicate}
 use Rattle.tx_trees.specs.ScriptData.{ScriptData}
 use Rattle.tx_trees.specs.declared.parts.ScriptRow.{ScriptRow}
 use Rattle.tx_trees.specs.declared.parts.ScriptRow.TheVariants.{Tree as TreeRow, Advance as AdvanceRow, Settle as SettleRow}
 use Rattle.letter_types.specs.declared.bodies.Body.{Body}
-use Rattle.client_rows.specs.Client.{Client, have_ended, submitted, rows_letters, next_after, client_row}
+use Rattle.client_rows.specs.Client.{Client, have_ended, submitted, rows_letters, next_after, client_row, start_client}
+use Rattle.client_rows.specs.Kept.{IsKeptOf, kept_of}
 use Rattle.client_rows.specs.News.{news_of, answered_after, told, sent_first}
 use Rattle.client_rows.specs.declared.news.News.{News}
 use Rattle.client_rows.specs.declared.news.News.TheVariants.{Begun, Answered, Ended}
@@ -79,3 +80,13 @@ few_heard s c (Some news) =
 -- the client sends at most a letter for each row, and a nudge
 pub few_sent_by_client : (s : ScriptData) (c : Client) (body : Body) → length (client_row s c body).sent ≤ length s.rows + 1
 few_sent_by_client s c body = rw (row-heard s c body) (few_heard s c (news_of (length s.trees) body))
+
+-- the client begins within the script
+pub kept_first : (s : ScriptData)
+    → ((start_client s).next ≤ length s.rows) × (length (start_client s).answered ≡ length s.trees)
+kept_first s = (omega arith, length-replicate (length s.trees) false)
+
+-- what is kept of a state within the script is this script's
+pub kept_of-kept : (s : ScriptData) (c : Client) → c.next ≤ length s.rows → length c.answered ≡ length s.trees
+    → IsKeptOf s (kept_of s c)
+kept_of-kept s c next answered = record { numbers = refl; next = next; answered = answered }
