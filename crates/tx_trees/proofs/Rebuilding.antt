@@ -1,7 +1,7 @@
 -- A valid script is built again from its own rows: each of its records meets no condition of refusal, since every limit that
 -- holds of the whole script holds of what stands before the record.
-use Rattle.std.proofs.Common.{◌≡◌, ◌<◌, ◌≤◌, ◌+◌, ◌*◌, ℕ, Bool, true, false, List, [], ◌∷◌, ◌++◌, length, map, refl, sym, ap, ◌∙◌, subst, arith, length-append, append_assoc, inl, inr, cond, suc, zero}
-use Rattle.std.specs.Prelude.{◌==◌, ◌&&◌, ◌||◌, not, IsTrue, Option, Some, None, Result, Ok, Err, is_some, nat_eq, nat_le, nat_lt, position, slice_get, unsigned_abs}
+use Rattle.std.proofs.Common.{◌≡◌, ◌<◌, ◌≤◌, ◌+◌, ◌*◌, ℕ, Bool, true, false, List, [], ◌∷◌, ◌++◌, length, map, refl, sym, ap, ◌∙◌, subst, arith, length-append, append_assoc, cond, suc, zero}
+use Rattle.std.specs.Prelude.{◌==◌, ◌&&◌, not, IsTrue, Option, Some, None, Result, Ok, nat_eq, nat_le, nat_lt, position, slice_get, unsigned_abs}
 use Rattle.std.specs.List.{AllByRecursion, IsDistinct, list_any, position_or_len}
 use Rattle.std.specs.Str.{bytes_eq}
 use Rattle.std.proofs.lemmas.Bool.{lt-ltb}
@@ -9,21 +9,18 @@ use Rattle.std.proofs.lemmas.Cmp.{nat_eq_equiv, nat_list_eq_equiv}
 use Rattle.std.proofs.lemmas.Grind.{common_steps}
 use Rattle.std.proofs.lemmas.List.{append-nil, map-append}
 use Rattle.std.proofs.lemmas.Nat.{mul-le}
-use Rattle.std.proofs.lemmas.Option.{slice_get_cases}
 use Rattle.commute_ops.specs.declared.kinds.Kind.{Kind}
 use Rattle.commute_ops.specs.declared.kinds.Kind.TheVariants as kinds
 use Rattle.commute_ops.specs.declared.kinds.TheConstants.{MOST_AMOUNT}
-use Rattle.tv_base.specs.declared.numbers.NodeNo.{NodeNo}
 use Rattle.tv_base.specs.declared.numbers.TreeNo.{TreeNo}
-use Rattle.tx_trees.specs.Adding.{adds_advance, adds_item, adds_op, adds_pick, adds_settle, adds_sub, adds_tree, are_many, fresh, has_no_op_left, has_no_sub_left, has_no_tree_left, has_touched, kind_at, last_count, last_kind, last_node, last_of, last_sub, last_subs, names_tree, node_at, on_last, on_last_sub, place_of, push_op, push_sub, rooted, touch, with_item, with_op, with_row, with_sub, with_tree}
+use Rattle.tx_trees.specs.Adding.{adds_advance, fresh, has_touched, kind_at, last_count, last_kind, last_node, last_of, last_sub, last_subs, node_at, on_last, on_last_sub, place_of, push_op, push_sub, touch}
 use Rattle.tx_trees.specs.Amounts.{magnitude}
-use Rattle.tx_trees.specs.Counts.{advances_in, all_ops, all_subs, if_update, is_advance, one_put, one_strict, ops_in, strict_trees, trees_puts, update_subs}
+use Rattle.tx_trees.specs.Counts.{advances_in, all_ops, all_subs, if_update, one_put, one_strict, ops_in, strict_trees, trees_puts, update_subs}
 use Rattle.tx_trees.specs.Passing.{MayAddItem, MayAddOp, MayAddSub, MayAddTree}
 use Rattle.tx_trees.specs.Ranges.{is_in_range, may_start}
-use Rattle.tx_trees.specs.Rebuilt.{RebuiltAs, SameScript, items_added, name_at, ops_added, picks_added, rebuilt, rooted_added, row_added, rows_added, subs_added, then_more, tree_added}
+use Rattle.tx_trees.specs.Rebuilt.{RebuiltAs, items_added, name_at, ops_added, picks_added, rebuilt, rooted_added, row_added, rows_added, subs_added, then_more, tree_added}
 use Rattle.tx_trees.specs.ScriptData.{ScriptData, is_strict}
-use Rattle.tx_trees.specs.Valid.{AreSubs, IsItem, IsOp, IsSub, IsTree, IsValid, NamesInOrder, OpAt, deed_fits, initial_load, item_names, items_of, load, tree_names, trees_load}
-use Rattle.tx_trees.specs.declared.parts.Deed.{Deed}
+use Rattle.tx_trees.specs.Valid.{AreSubs, IsItem, IsOp, IsSub, IsTree, IsValid, NamesInOrder, OpAt, deed_fits, item_names, items_of, load, tree_names, trees_load}
 use Rattle.tx_trees.specs.declared.parts.ItemRow.{ItemRow}
 use Rattle.tx_trees.specs.declared.parts.ScriptRow.{ScriptRow}
 use Rattle.tx_trees.specs.declared.parts.ScriptRow.TheVariants as rows
