@@ -1,4 +1,4 @@
--- In every run what is asked for is done, and once.
+-- Each subtransaction is done at most once, and what is done keeps to the script's load.
 use Rattle.std.proofs.Common.{◌≡◌, ◌⊎◌, inl, inr, ℕ, zero, suc, ◌+◌, ◌<◌, ◌≤◌, ◌==◌, ◌&&◌, Bool, true, false, List, length, refl, sym, subst, arith, Some}
 use Rattle.std.specs.Prelude.{slice_get}
 use Rattle.std.proofs.lemmas.Bool.Decides.{nat_tests}
@@ -13,27 +13,12 @@ use Rattle.tx_trees.specs.declared.parts.ItemRow.{ItemRow}
 use Rattle.world_model.specs.Counts.{one_if, Each}
 use Rattle.world_model.specs.Runs.{client_in, node_in, waiting, MayFollow}
 use Rattle.world_model.proofs.Bags.{tally-drop}
-use Rattle.tree_laws.specs.Dids.{asks, asked, goes, dids, births}
-use Rattle.tree_laws.proofs.Fits.{Fit}
+use Rattle.tree_laws.specs.Dids.{asks, asked, dids, is_row_of}
 use Rattle.tree_laws.proofs.Loads.{trees_done, trees_most, trees_more}
 use Rattle.tree_laws.proofs.Scripts.{Sound, SubAt, tree_below, is_sub, get_some, get_below, node_here, ops_here}
-use Rattle.tree_laws.proofs.Sent.{other_sub, other_tree}
-use Rattle.tree_laws.proofs.Steps.{MayDo}
-use Rattle.tree_laws.proofs.Tables.{TableIn, touched_table, bounds_after}
-
--- an item's initial value and what was done to it
-abbrev pub bound : ScriptData → List Entry → ℕ → ℕ
-bound s past x = initial_load (slice_get s.items x) + trees_done (dids past) x 0 s.trees
-
--- what holds in every past: each tree's root is under way or done, each child of what was done likewise
-pub record Good (s : ScriptData) (past : List Entry) : Type 0 where
-  pub letters : Each (λ (l : Letter). Fit s l.from.0 l.to.0 l.body) (waiting s past)
-  pub once : goes s past ≤ 1
-  pub begun : 1 ≤ goes s past → (client_in s past).next ≡ 0
-  pub roots : (t : ℕ) → t < length s.trees → goes s past + asked s past t 0 + dids past t 0 ≡ 1
-  pub subs : (t k : ℕ) (c : SubAt s t k) → 0 < k → dids past t c.sub.parent.0 ≡ asked s past t k + dids past t k
-  pub born : (t : ℕ) → births past t ≡ dids past t 0
-  pub items : (p : ℕ) → p < s.nodes → TableIn s.items p (bound s past) (node_in s past p).items
+use Rattle.tree_laws.proofs.Sent.{other_sub, other_tree, rooted_once, tally_take_le}
+use Rattle.tree_laws.proofs.Good.{Good, bound}
+use Rattle.tree_laws.proofs.Tables.{bounds_after}
 
 -- Each subtransaction is done at most once.
 pub zero_or : (k : ℕ) → (k ≡ 0) ⊎ (0 < k)
@@ -45,24 +30,39 @@ parent_at s t k c sound lt =
     let sub = get_some c.tree.subs c.sub.parent.0 (omega (arith, up, get_below c.tree.subs k c.sub c.here)) in
     record { tree = c.tree; at = c.at; sub = sub.0; here = sub.1 }
 
-most_by : (s : ScriptData) (past : List Entry) (n t k : ℕ) (c : SubAt s t k) → Sound s → Good s past → k < suc n
-    → ((j : ℕ) → j < n → SubAt s t j → dids past t j ≤ 1) → (k ≡ 0) ⊎ (0 < k) → dids past t k ≤ 1
-most_by s past n t k c sound good lt ih (inl is) =
-    subst (λ (j : ℕ). dids past t j ≤ 1) (sym is) (omega (arith, good.roots t (tree_below s t k c)))
-most_by s past n t k c sound good lt ih (inr more) =
+below_by : (s : ScriptData) (past : List Entry) (n t k : ℕ) (c : SubAt s t k) → Sound s → Good s past → k < suc n
+    → ((j : ℕ) → j < n → SubAt s t j → dids past t j ≤ dids past t 0) → (k ≡ 0) ⊎ (0 < k) → dids past t k ≤ dids past t 0
+below_by s past n t k c sound good lt ih (inl is) = subst (λ (j : ℕ). dids past t j ≤ dids past t 0) (sym is) (omega arith)
+below_by s past n t k c sound good lt ih (inr more) =
     let up : c.sub.parent.0 < k = (is_sub s t k c sound).parent more in
     omega (arith, good.subs t k c more, ih c.sub.parent.0 (omega arith) (parent_at s t k c sound more))
 
-most : (s : ScriptData) (past : List Entry) (n t k : ℕ) (c : SubAt s t k) → Sound s → Good s past → k < n → dids past t k ≤ 1
-most s past zero t k c sound good lt = absurd (omega arith)
-most s past (suc n) t k c sound good lt =
-    most_by s past n t k c sound good lt (λ j less sub. most s past n t j sub sound good less) (zero_or k)
+below : (s : ScriptData) (past : List Entry) (n t k : ℕ) (c : SubAt s t k) → Sound s → Good s past → k < n → dids past t k ≤ dids past t 0
+below s past zero t k c sound good lt = absurd (omega arith)
+below s past (suc n) t k c sound good lt =
+    below_by s past n t k c sound good lt (λ j less sub. below s past n t j sub sound good less) (zero_or k)
+
+-- a subtransaction is done no more often than its root
+pub below_root : (s : ScriptData) (past : List Entry) (t k : ℕ) → SubAt s t k → Sound s → Good s past → dids past t k ≤ dids past t 0
+below_root s past t k c sound good = below s past (k + 1) t k c sound good (omega arith)
+
+-- a root is asked for or done at most once
+pub root_most : (s : ScriptData) (past : List Entry) (t : ℕ) → Sound s → Good s past → t < length s.trees
+    → asked s past t 0 + dids past t 0 ≤ 1
+root_most s past t sound good lt =
+    omega (
+      arith,
+      good.roots t lt,
+      tally_take_le (is_row_of t) (client_in s past).next s.rows,
+      rooted_once (length s.trees) t s.rows sound.valid.rows lt,
+    )
 
 pub at_most_once : (s : ScriptData) (past : List Entry) (t k : ℕ) → SubAt s t k → Sound s → Good s past → dids past t k ≤ 1
-at_most_once s past t k c sound good = most s past (k + 1) t k c sound good (omega arith)
+at_most_once s past t k c sound good =
+    omega (arith, below_root s past t k c sound good, root_most s past t sound good (tree_below s t k c))
 
 -- What is asked for by a letter that is taken was not done.
-was_asked : (s : ScriptData) (past : List Entry) (e : Entry) (t k : ℕ) → MayFollow s past e → asks t k e.took.body ≡ 1
+pub was_asked : (s : ScriptData) (past : List Entry) (e : Entry) (t k : ℕ) → MayFollow s past e → asks t k e.took.body ≡ 1
     → 1 ≤ asked s past t k
 was_asked s past e t k m one = omega (arith, one, tally-drop (λ (l : Letter). asks t k l.body) e.took.id (waiting s past) e.took m.waits)
 
@@ -70,12 +70,16 @@ not_done_by : (s : ScriptData) (past : List Entry) (t k : ℕ) (c : SubAt s t k)
     → (k ≡ 0) ⊎ (0 < k) → dids past t k ≡ 0
 not_done_by s past t k c sound good some (inl is) =
     let here : 1 ≤ asked s past t 0 = subst (λ (j : ℕ). 1 ≤ asked s past t j) is some in
-    subst (λ (j : ℕ). dids past t j ≡ 0) (sym is) (omega (arith, good.roots t (tree_below s t k c)))
+    subst (λ (j : ℕ). dids past t j ≡ 0) (sym is) (omega (arith, root_most s past t sound good (tree_below s t k c)))
 not_done_by s past t k c sound good some (inr more) =
     omega (arith, good.subs t k c more, at_most_once s past t c.sub.parent.0 (parent_at s t k c sound more) sound good)
 
+-- what is asked for isn't done
+pub not_done : (s : ScriptData) (past : List Entry) (t k : ℕ) → SubAt s t k → Sound s → Good s past → 1 ≤ asked s past t k → dids past t k ≡ 0
+not_done s past t k c sound good some = not_done_by s past t k c sound good some (zero_or k)
+
 -- Loads.
-one_here : (t k : ℕ) → one_if ((t == t) && (k == k)) ≡ 1
+pub one_here : (t k : ℕ) → one_if ((t == t) && (k == k)) ≡ 1
 one_here t k = grind (arith, nat_tests)
 
 -- a subtransaction more
@@ -113,20 +117,9 @@ load_most s past t k x c sound good none =
 abbrev pub bounds_with : ScriptData → List Entry → ℕ → ℕ → ℕ → ℕ
 bounds_with s past t k = bounds_after (bound s past) (ops_of s t k)
 
-within_most : (s : ScriptData) (past : List Entry) (t k x : ℕ) (r : ItemRow) (c : SubAt s t k) → Sound s → Good s past → dids past t k ≡ 0
+pub within_most : (s : ScriptData) (past : List Entry) (t k x : ℕ) (r : ItemRow) (c : SubAt s t k) → Sound s → Good s past → dids past t k ≡ 0
     → slice_get s.items x ≡ Some r
     → bound s past x + ops_load x (ops_of s t k) ≤ MOST_AMOUNT
 within_most s past t k x r c sound good none at =
     omega (arith, load_most s past t k x c sound good none, sound.valid.loads x (get_below s.items x r at))
 
-pub may_do : (s : ScriptData) (past : List Entry) (e : Entry) → Sound s → Good s past → MayFollow s past e
-    → MayDo s past e (bounds_with s past)
-may_do s past e sound good m t k c v one =
-    let is = is_sub s t k c sound in
-    let node : node_of s t k < s.nodes = rw (node_here s t k c) is.node in
-    let none = not_done_by s past t k c sound good (was_asked s past e t k m one) (zero_or k) in
-    let fits : AllByRecursion (IsOp s.items trees.Update (node_of s t k)) (ops_of s t k) = rw (node_here s t k c, ops_here s t k c) is.ops in (
-      node,
-      touched_table s.items (node_of s t k) (bound s past) v (ops_of s t k) (node_in s past (node_of s t k)).items fits
-          (λ x r at. within_most s past t k x r c sound good none at) (good.items (node_of s t k) node),
-    )

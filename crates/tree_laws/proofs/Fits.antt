@@ -1,6 +1,7 @@
 -- Letters that are sent are meant for their addressees.
-use Rattle.std.proofs.Common.{◌≡◌, ℕ, suc, ◌+◌, ◌<◌, ◌≤◌, ◌==◌, ◌&&◌, Bool, true, false, List, [], ◌∷◌, length, refl, sym, subst, arith, Some}
+use Rattle.std.proofs.Common.{◌≡◌, ℕ, zero, suc, ◌+◌, ◌<◌, ◌≤◌, ◌==◌, ◌&&◌, Bool, true, false, List, [], ◌∷◌, length, take, drop, refl, sym, subst, arith, Some}
 use Rattle.std.specs.Prelude.{nat_lt, slice_get}
+use Rattle.std.specs.List.{AllByRecursion}
 use Rattle.letter_types.specs.declared.bodies.Body.{Body}
 use Rattle.letter_types.specs.declared.bodies.Body.TheVariants.{Go, Root, Sub as SubLetter, Done, Reply, Nudge}
 use Rattle.letter_types.specs.declared.entries.LetterId.{LetterId}
@@ -12,8 +13,9 @@ use Rattle.tx_trees.specs.declared.parts.ScriptRow.{ScriptRow}
 use Rattle.tx_trees.specs.declared.parts.ScriptRow.TheVariants.{Tree as TreeRow, Advance, Settle}
 use Rattle.tx_trees.specs.declared.parts.Sub.{Sub}
 use Rattle.world_model.specs.Counts.{Each}
-use Rattle.world_model.specs.Tables.{roots_of}
-use Rattle.tree_laws.proofs.Scripts.{get_below}
+use Rattle.world_model.specs.Tables.{IsBuiltRow}
+use Rattle.client_rows.specs.Client.{rows_letters}
+use Rattle.tree_laws.proofs.Scripts.{Sound, get_below}
 use Rattle.tree_step.specs.Children.{sub_letters}
 
 -- a letter goes from the client to itself, or is for a subtransaction of the script and goes to its node, or brings the
@@ -52,16 +54,42 @@ children_fit s t v parent from i (x ∷ xs) lt node at =
     (children_fit s t v parent from (i + 1) xs lt node (λ n y here. subst (λ (m : ℕ). slice_get (subs_at s t) m ≡ Some y) (omega arith) (at (suc n) y here)))
     (nat_lt parent i && (x.parent.0 == parent)) refl
 
+-- a row that is built, and names a tree of the script if it names one
+abbrev pub RowFits : ScriptData → ScriptRow → Type 0
+RowFits s (TreeRow t) = t.0 < length s.trees
+RowFits s Settle = Unit {0}
+RowFits s Advance = ⊥
+
 names_end : (i n : ℕ) (rows : List ScriptRow) → NamesInOrder i n rows → i ≤ n
 names_end i n [] names = omega (arith, names)
 names_end i n (TreeRow t ∷ rows) names = omega (arith, names_end (i + 1) n rows names.1)
 names_end i n (Advance ∷ rows) names = names_end i n rows names
 names_end i n (Settle ∷ rows) names = names_end i n rows names
 
-pub roots_fit : (s : ScriptData) (from i : ℕ) (rows : List ScriptRow) → NamesInOrder i (length s.trees) rows
-    → SentFit s from (roots_of s rows)
-roots_fit s from i [] names = tt
-roots_fit s from i (TreeRow t ∷ rows) names =
-    ((λ id. (omega (arith, names.0, names_end (i + 1) (length s.trees) rows names.1), refl)), roots_fit s from (i + 1) rows names.1)
-roots_fit s from i (Advance ∷ rows) names = roots_fit s from i rows names
-roots_fit s from i (Settle ∷ rows) names = roots_fit s from i rows names
+rows_fit_from : (s : ScriptData) (i : ℕ) (rows : List ScriptRow) → NamesInOrder i (length s.trees) rows → AllByRecursion IsBuiltRow rows
+    → Each (RowFits s) rows
+rows_fit_from s i [] names built = tt
+rows_fit_from s i (TreeRow t ∷ rows) names built =
+    (omega (arith, names.0, names_end (i + 1) (length s.trees) rows names.1), rows_fit_from s (i + 1) rows names.1 built.1)
+rows_fit_from s i (Advance ∷ rows) names built = absurd built.0
+rows_fit_from s i (Settle ∷ rows) names built = (tt, rows_fit_from s i rows names built.1)
+
+pub rows_fit : (s : ScriptData) → Sound s → Each (RowFits s) s.rows
+rows_fit s sound = rows_fit_from s 0 s.rows sound.valid.rows sound.runnable.rows
+
+pub each_take : {X : Type 0} (P : X → Type 0) (n : ℕ) (xs : List X) → Each P xs → Each P (take n xs)
+each_take P zero xs all = tt
+each_take P (suc n) [] all = tt
+each_take P (suc n) (x ∷ xs) all = (all.0, each_take P n xs all.1)
+
+pub each_drop : {X : Type 0} (P : X → Type 0) (n : ℕ) (xs : List X) → Each P xs → Each P (drop n xs)
+each_drop P zero xs all = all
+each_drop P (suc n) [] all = tt
+each_drop P (suc n) (x ∷ xs) all = each_drop P n xs all.1
+
+-- the letters of rows
+pub roots_fit : (s : ScriptData) (from : ℕ) (rows : List ScriptRow) → Each (RowFits s) rows → SentFit s from (rows_letters s rows)
+roots_fit s from [] all = tt
+roots_fit s from (TreeRow t ∷ rows) all = ((λ id. (all.0, refl)), roots_fit s from rows all.1)
+roots_fit s from (Advance ∷ rows) all = absurd all.0
+roots_fit s from (Settle ∷ rows) all = roots_fit s from rows all.1

@@ -4,7 +4,7 @@ use Rattle.std.specs.Prelude.{get_or, slice_get}
 use Rattle.tv_base.specs.declared.numbers.TreeNo.{TreeNo}
 use Rattle.letter_types.specs.declared.entries.Entry.{Entry}
 use Rattle.letter_types.specs.declared.entries.Letter.{Letter}
-use Rattle.tree_home.specs.Homes.{Gets, home_in, missing_count}
+use Rattle.tree_home.specs.Homes.{Gets, IsAscending, home_in, missing_count}
 use Rattle.tree_home.specs.declared.homes.Home.{Home}
 use Rattle.tx_trees.specs.ScriptData.{ScriptData, subs_at, home_of}
 use Rattle.tx_trees.specs.Valid.{initial_load}
@@ -39,7 +39,7 @@ bound s past x = initial_load (slice_get s.items x) + trees_done (dids past) x 0
 
 -- letters are meant for their addressees; a root is asked for or done where its row is submitted; each child of what was
 -- done is asked for or done; a birth is the root's; each tree is at one of its stages; an answer is under way or heard;
--- and the items of each node keep to their bounds
+-- the homes of each node stand in order, and its items keep to their bounds
 pub record Good (s : ScriptData) (past : List Entry) : Type 0 where
   pub letters : Each (λ (l : Letter). Fit s l.from.0 l.to.0 l.body) (waiting s past)
   pub roots : (t : ℕ) → t < length s.trees → rooted t (take (client_in s past).next s.rows) ≡ asked s past t 0 + dids past t 0
@@ -47,4 +47,5 @@ pub record Good (s : ScriptData) (past : List Entry) : Type 0 where
   pub born : (t : ℕ) → births past t ≡ dids past t 0
   pub stages : (t : ℕ) → t < length s.trees → TreeAt s past t
   pub heard : (t : ℕ) → t < length s.trees → answers past t ≡ replies s past t + one_if (get_or (client_in s past).answered t false)
+  pub order : (p : ℕ) → p < s.nodes → IsAscending (node_in s past p).homes
   pub items : (p : ℕ) → p < s.nodes → TableIn s.items p (bound s past) (node_in s past p).items

@@ -1,16 +1,16 @@
 -- What a valid script says of a subtransaction and of an item.
-use Rattle.std.proofs.Common.{◌≡◌, ℕ, zero, suc, ◌+◌, ◌<◌, ◌≤◌, true, List, [], ◌∷◌, length, refl, ap, subst, arith, Some}
+use Rattle.std.proofs.Common.{◌≡◌, ◌⊎◌, inl, inr, ℕ, zero, suc, ◌+◌, ◌<◌, ◌≤◌, true, false, List, [], ◌∷◌, length, refl, ap, subst, arith, Some}
 use Rattle.std.specs.Prelude.{IsTrue, slice_get, unsigned_abs}
 use Rattle.std.specs.List.{AllByRecursion}
 use Rattle.commute_ops.specs.declared.kinds.TheConstants.{MOST_AMOUNT}
-use Rattle.tx_trees.specs.ScriptData.{ScriptData, subs_at, sub_at, node_of, ops_of, updates, is_update}
-use Rattle.tx_trees.specs.Valid.{IsValid, IsTree, IsSub, AreSubs, trees_load}
+use Rattle.tx_trees.specs.ScriptData.{ScriptData, subs_at, sub_at, node_of, ops_of, updates, is_update, reads, is_read}
+use Rattle.tx_trees.specs.Valid.{IsValid, IsTree, IsSub, AreSubs, IsOp, trees_load}
 use Rattle.tx_trees.specs.declared.parts.ItemRow.{ItemRow}
 use Rattle.tx_trees.specs.declared.parts.Sub.{Sub}
 use Rattle.tx_trees.specs.declared.parts.Tree.{Tree}
 use Rattle.tx_trees.specs.declared.parts.TreeKind.{TreeKind}
 use Rattle.tx_trees.specs.declared.parts.TreeKind.TheVariants as trees
-use Rattle.world_model.specs.Tables.{Runnable}
+use Rattle.world_model.specs.Tables.{Runnable, is_built}
 
 -- a script that is valid, and whose rows are built
 pub record Sound (s : ScriptData) : Type 0 where
@@ -66,17 +66,35 @@ pub tree_below : (s : ScriptData) (t k : ℕ) → SubAt s t k → t < length s.t
 tree_below s t k c = get_below s.trees t c.tree c.at
 
 -- What is valid.
-is_update_of : (kind : TreeKind) → IsTrue (is_update kind) → kind ≡ trees.Update
+is_update_of : (kind : TreeKind) → is_update kind ≡ true → kind ≡ trees.Update
 is_update_of trees.Update is = refl
 is_update_of trees.Read is = absurd (cc is)
 is_update_of trees.Strict is = absurd (cc is)
 
-pub tree_updates : (s : ScriptData) (t : ℕ) (tree : Tree) → Sound s → slice_get s.trees t ≡ Some tree → tree.kind ≡ trees.Update
-tree_updates s t tree sound at =
-    is_update_of tree.kind (all_at (λ (x : Tree). IsTrue (is_update x.kind)) s.trees t tree sound.runnable.trees at)
+is_read_of : (kind : TreeKind) → is_read kind ≡ true → kind ≡ trees.Read
+is_read_of trees.Update is = absurd (cc is)
+is_read_of trees.Read is = refl
+is_read_of trees.Strict is = absurd (cc is)
 
-pub updates_here : (s : ScriptData) (t k : ℕ) (c : SubAt s t k) → Sound s → updates s t ≡ true
-updates_here s t k c sound = rw (c.at, updates) (ap is_update (tree_updates s t c.tree sound c.at))
+built_of : (kind : TreeKind) → is_built kind ≡ true → (is_update kind ≡ true) ⊎ (is_read kind ≡ true)
+built_of trees.Update is = inl refl
+built_of trees.Read is = inr refl
+built_of trees.Strict is = absurd (cc is)
+
+-- a tree updates or reads
+pub tree_kind : (s : ScriptData) (t k : ℕ) (c : SubAt s t k) → Sound s → (updates s t ≡ true) ⊎ (reads s t ≡ true)
+tree_kind s t k c sound =
+    rw (c.at, updates, reads) (built_of c.tree.kind (all_at (λ (x : Tree). IsTrue (is_built x.kind)) s.trees t c.tree sound.runnable.trees c.at))
+
+pub updates_kind : (s : ScriptData) (t k : ℕ) (c : SubAt s t k) → updates s t ≡ true → c.tree.kind ≡ trees.Update
+updates_kind s t k c up = is_update_of c.tree.kind (rw (c.at, updates) at up)
+
+pub reads_kind : (s : ScriptData) (t k : ℕ) (c : SubAt s t k) → reads s t ≡ true → c.tree.kind ≡ trees.Read
+reads_kind s t k c up = is_read_of c.tree.kind (rw (c.at, reads) at up)
+
+-- a read tree is no update tree
+pub reads_alone : (s : ScriptData) (t k : ℕ) (c : SubAt s t k) → reads s t ≡ true → updates s t ≡ false
+reads_alone s t k c up = rw (c.at, updates) (ap is_update (reads_kind s t k c up))
 
 pub is_tree : (s : ScriptData) (t : ℕ) (tree : Tree) → Sound s → slice_get s.trees t ≡ Some tree → IsTree s.nodes s.items tree
 is_tree s t tree sound at = all_at (IsTree s.nodes s.items) s.trees t tree sound.valid.trees at
@@ -91,10 +109,19 @@ sub_of_all nodes items kind i k zero (y ∷ subs) sub all at is =
     subst (λ (z : Sub). IsSub nodes items kind k z) eq (subst (λ (j : ℕ). IsSub nodes items kind j y) ik all.0)
 sub_of_all nodes items kind i k (suc n) (y ∷ subs) sub all at is = sub_of_all nodes items kind (i + 1) k n subs sub all.1 at (omega arith)
 
-pub is_sub : (s : ScriptData) (t k : ℕ) (c : SubAt s t k) → Sound s → IsSub s.nodes s.items trees.Update k c.sub
+pub is_sub : (s : ScriptData) (t k : ℕ) (c : SubAt s t k) → Sound s → IsSub s.nodes s.items c.tree.kind k c.sub
 is_sub s t k c sound =
-    subst (λ (kind : TreeKind). IsSub s.nodes s.items kind k c.sub) (tree_updates s t c.tree sound c.at)
-    (sub_of_all s.nodes s.items c.tree.kind 0 k k c.tree.subs c.sub (is_tree s t c.tree sound c.at).subs c.here (omega arith))
+    sub_of_all s.nodes s.items c.tree.kind 0 k k c.tree.subs c.sub (is_tree s t c.tree sound c.at).subs c.here (omega arith)
+
+-- the operations of a subtransaction fit its tree's kind
+pub ops_fit : (s : ScriptData) (t k : ℕ) (kind : TreeKind) (c : SubAt s t k) → Sound s → c.tree.kind ≡ kind
+    → AllByRecursion (IsOp s.items kind (node_of s t k)) (ops_of s t k)
+ops_fit s t k kind c sound is =
+    rw (node_here s t k c, ops_here s t k c)
+    (subst (λ (x : TreeKind). AllByRecursion (IsOp s.items x c.sub.node.0) c.sub.ops) is (is_sub s t k c sound).ops)
+
+pub node_below : (s : ScriptData) (t k : ℕ) (c : SubAt s t k) → Sound s → node_of s t k < s.nodes
+node_below s t k c sound = rw (node_here s t k c) (is_sub s t k c sound).node
 
 pub has_root : (s : ScriptData) (t : ℕ) → Sound s → t < length s.trees → SubAt s t 0
 has_root s t sound lt =

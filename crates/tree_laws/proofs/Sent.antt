@@ -1,8 +1,15 @@
 -- What a subtransaction and the client send, by whom it asks for.
-use Rattle.std.proofs.Common.{◌≡◌, ◌≢◌, ℕ, zero, suc, ◌+◌, ◌<◌, ◌≤◌, ◌==◌, ◌&&◌, Bool, true, false, List, [], ◌∷◌, refl, sym, subst, ◌∙◌, arith, Some}
+use Rattle.std.proofs.Common.{◌≡◌, ◌≢◌, ℕ, zero, suc, ◌+◌, ◌<◌, ◌≤◌, ◌==◌, ◌&&◌, Bool, true, false, List, [], ◌∷◌, take, drop, ◌++◌, refl, sym, ap, subst, ◌∙◌, arith, Option, Some, None}
 use Rattle.std.specs.Prelude.{nat_lt, slice_get}
 use Rattle.std.proofs.lemmas.Bool.Decides.{nat_tests}
+use Rattle.std.proofs.lemmas.List.{take-take, drop-take, take-append-drop}
+use Rattle.tv_base.specs.declared.numbers.SubNo.{SubNo}
+use Rattle.tv_base.specs.declared.numbers.TreeNo.{TreeNo}
+use Rattle.tv_base.specs.declared.numbers.Version.{Version}
+use Rattle.letter_types.specs.declared.bodies.Answer.{Answer}
+use Rattle.letter_types.specs.declared.bodies.Answer.TheVariants.{Whole}
 use Rattle.letter_types.specs.declared.bodies.Body.{Body}
+use Rattle.letter_types.specs.declared.bodies.Body.TheVariants.{Root, Sub as SubLetter, Reply, Advance as AdvanceLetter}
 use Rattle.letter_types.specs.declared.entries.Outgoing.{Outgoing}
 use Rattle.tx_trees.specs.ScriptData.{ScriptData}
 use Rattle.tx_trees.specs.Valid.{NamesInOrder}
@@ -10,9 +17,12 @@ use Rattle.tx_trees.specs.declared.parts.ScriptRow.{ScriptRow}
 use Rattle.tx_trees.specs.declared.parts.ScriptRow.TheVariants.{Tree as TreeRow, Advance, Settle}
 use Rattle.tx_trees.specs.declared.parts.Sub.{Sub}
 use Rattle.world_model.specs.Counts.{tally, one_if}
-use Rattle.world_model.specs.Tables.{roots_of}
-use Rattle.tree_laws.specs.Dids.{asks, is_go}
+use Rattle.world_model.proofs.Bags.{tally-append}
+use Rattle.tree_home.specs.declared.homes.Answered.{Answered}
 use Rattle.tree_step.specs.Children.{sub_letters}
+use Rattle.tree_step.specs.Notices.{reply_letters}
+use Rattle.client_rows.specs.Client.{rows_letters}
+use Rattle.tree_laws.specs.Dids.{asks, rooted}
 
 -- what was sent, by a number of its body
 abbrev pub on : (Body → ℕ) → Outgoing → ℕ
@@ -24,6 +34,9 @@ other_tree t u k i ne = grind (arith, nat_tests)
 
 pub other_sub : (t u k i : ℕ) → i ≢ k → one_if ((u == t) && (i == k)) ≡ 0
 other_sub t u k i ne = grind (arith, nat_tests)
+
+pub not_here : (t u : ℕ) → u ≢ t → one_if (u == t) ≡ 0
+not_here t u ne = grind (arith, nat_tests)
 
 same_sub : (t u k i : ℕ) → i ≡ k → one_if ((u == t) && (i == k)) ≡ one_if (u == t)
 same_sub t u k i is = grind (arith, nat_tests)
@@ -122,55 +135,88 @@ no_root_by t u v parent xs true is =
 pub no_root : (t u v parent : ℕ) (xs : List Sub) → tally (on (asks t 0)) (sub_letters u v parent 0 xs) ≡ 0
 no_root t u v parent xs = no_root_by t u v parent xs (u == t) refl
 
-no_go_at : (u v parent i : ℕ) (x : Sub) (xs : List Sub) → (test : Bool) → (nat_lt parent i && (x.parent.0 == parent)) ≡ test
-    → tally (on is_go) (sub_letters u v parent (i + 1) xs) ≡ 0 → tally (on is_go) (sub_letters u v parent i (x ∷ xs)) ≡ 0
-no_go_at u v parent i x xs true is rest = rw is (omega (arith, rest))
-no_go_at u v parent i x xs false is rest = rw is rest
+-- Letters that no number counts.
+rest_at : (f : Body → ℕ) (u v parent i : ℕ) (x : Sub) (xs : List Sub) → ((t : TreeNo) (k : SubNo) (w : Version) → f (SubLetter t k w) ≡ 0)
+    → (test : Bool) → (nat_lt parent i && (x.parent.0 == parent)) ≡ test
+    → tally (on f) (sub_letters u v parent (i + 1) xs) ≡ 0 → tally (on f) (sub_letters u v parent i (x ∷ xs)) ≡ 0
+rest_at f u v parent i x xs none true is rest = rw is (omega (arith, none (record { 0 = u }) (record { 0 = i }) (record { 0 = v }), rest))
+rest_at f u v parent i x xs none false is rest = rw is rest
 
-pub no_go : (u v parent i : ℕ) (xs : List Sub) → tally (on is_go) (sub_letters u v parent i xs) ≡ 0
-no_go u v parent i [] = refl
-no_go u v parent i (x ∷ xs) = no_go_at u v parent i x xs (nat_lt parent i && (x.parent.0 == parent)) refl (no_go u v parent (i + 1) xs)
+-- a number that counts no Sub
+pub subs_none : (f : Body → ℕ) (u v parent i : ℕ) (xs : List Sub) → ((t : TreeNo) (k : SubNo) (w : Version) → f (SubLetter t k w) ≡ 0)
+    → tally (on f) (sub_letters u v parent i xs) ≡ 0
+subs_none f u v parent i [] none = refl
+subs_none f u v parent i (x ∷ xs) none =
+    rest_at f u v parent i x xs none (nat_lt parent i && (x.parent.0 == parent)) refl (subs_none f u v parent (i + 1) xs none)
+
+-- a number that counts no Root and no Advance
+pub roots_none : (f : Body → ℕ) (s : ScriptData) (rows : List ScriptRow) → ((t : TreeNo) → f (Root t) ≡ 0) → f AdvanceLetter ≡ 0
+    → tally (on f) (rows_letters s rows) ≡ 0
+roots_none f s [] none never = refl
+roots_none f s (TreeRow t ∷ rows) none never = omega (arith, none t, roots_none f s rows none never)
+roots_none f s (Advance ∷ rows) none never = omega (arith, never, roots_none f s rows none never)
+roots_none f s (Settle ∷ rows) none never = roots_none f s rows none never
+
+-- a number that counts no Reply
+pub replies_none : (f : Body → ℕ) (client : ℕ) (o : Option Answered) → ((t : TreeNo) (v : Version) (answer : Answer) → f (Reply t v answer) ≡ 0)
+    → tally (on f) (reply_letters client o) ≡ 0
+replies_none f client None none = refl
+replies_none f client (Some a) none = omega (arith, none a.tree a.version (Whole a.values))
 
 -- The roots.
-pub roots_no_go : (s : ScriptData) (rows : List ScriptRow) → tally (on is_go) (roots_of s rows) ≡ 0
-roots_no_go s [] = refl
-roots_no_go s (TreeRow t ∷ rows) = omega (arith, roots_no_go s rows)
-roots_no_go s (Advance ∷ rows) = roots_no_go s rows
-roots_no_go s (Settle ∷ rows) = roots_no_go s rows
-
 root_alone : (t u k : ℕ) → 0 < k → one_if ((u == t) && (0 == k)) ≡ 0
 root_alone t u k lt = grind (arith, nat_tests)
 
-pub roots_alone : (s : ScriptData) (t k : ℕ) (rows : List ScriptRow) → 0 < k → tally (on (asks t k)) (roots_of s rows) ≡ 0
-roots_alone s t k [] lt = refl
-roots_alone s t k (TreeRow u ∷ rows) lt = omega (arith, root_alone t u.0 k lt, roots_alone s t k rows lt)
-roots_alone s t k (Advance ∷ rows) lt = roots_alone s t k rows lt
-roots_alone s t k (Settle ∷ rows) lt = roots_alone s t k rows lt
+pub roots_alone : (s : ScriptData) (t k : ℕ) (rows : List ScriptRow) → 0 < k → tally (on (asks t k)) (rows_letters s rows) ≡ 0
+roots_alone s t k rows lt = roots_none (asks t k) s rows (λ u. root_alone t u.0 k lt) refl
 
-roots_before : (s : ScriptData) (t i n : ℕ) (rows : List ScriptRow) → NamesInOrder i n rows → t < i
-    → tally (on (asks t 0)) (roots_of s rows) ≡ 0
-roots_before s t i n [] names lt = refl
-roots_before s t i n (TreeRow u ∷ rows) names lt =
-    let ne : u.0 ≢ t = omega (arith, names.0) in
-    omega (arith, other_tree t u.0 0 0 ne, roots_before s t (i + 1) n rows names.1 (omega arith))
-roots_before s t i n (Advance ∷ rows) names lt = roots_before s t i n rows names lt
-roots_before s t i n (Settle ∷ rows) names lt = roots_before s t i n rows names lt
+root_here : (t u : ℕ) → one_if ((u == t) && (0 == 0)) ≡ one_if (u == t)
+root_here t u = grind (arith, nat_tests)
 
-roots_at : (s : ScriptData) (t i n u : ℕ) (rows : List ScriptRow) → NamesInOrder (i + 1) n rows → u ≡ i → (test : Bool) → (u == t) ≡ test
-    → (i < t → tally (on (asks t 0)) (roots_of s rows) ≡ 1) → i ≤ t
-    → one_if ((u == t) && (0 == 0)) + tally (on (asks t 0)) (roots_of s rows) ≡ 1
-roots_at s t i n u rows names ui true is rest le =
+-- the letters of rows ask for a tree's root as often as the rows do
+pub roots_of_rows : (s : ScriptData) (t : ℕ) (rows : List ScriptRow) → tally (on (asks t 0)) (rows_letters s rows) ≡ rooted t rows
+roots_of_rows s t [] = refl
+roots_of_rows s t (TreeRow u ∷ rows) = omega (arith, root_here t u.0, roots_of_rows s t rows)
+roots_of_rows s t (Advance ∷ rows) = omega (arith, roots_of_rows s t rows)
+roots_of_rows s t (Settle ∷ rows) = omega (arith, roots_of_rows s t rows)
+
+rooted_before : (t i n : ℕ) (rows : List ScriptRow) → NamesInOrder i n rows → t < i → rooted t rows ≡ 0
+rooted_before t i n [] names lt = refl
+rooted_before t i n (TreeRow u ∷ rows) names lt =
+    let none : one_if (u.0 == t) ≡ 0 = not_here t u.0 (omega (arith, names.0)) in
+    omega (arith, none, rooted_before t (i + 1) n rows names.1 (omega arith))
+rooted_before t i n (Advance ∷ rows) names lt = omega (arith, rooted_before t i n rows names lt)
+rooted_before t i n (Settle ∷ rows) names lt = omega (arith, rooted_before t i n rows names lt)
+
+rooted_at : (t i n u : ℕ) (rows : List ScriptRow) → NamesInOrder (i + 1) n rows → u ≡ i → (test : Bool) → (u == t) ≡ test
+    → (i < t → rooted t rows ≡ 1) → i ≤ t → one_if (u == t) + rooted t rows ≡ 1
+rooted_at t i n u rows names ui true is rest le =
     let eq : u ≡ t = grind (arith, nat_tests) in
-    rw is (omega (arith, roots_before s t (i + 1) n rows names (omega arith)))
-roots_at s t i n u rows names ui false is rest le =
+    rw is (omega (arith, rooted_before t (i + 1) n rows names (omega arith)))
+rooted_at t i n u rows names ui false is rest le =
     let ne : u ≢ t = grind (arith, nat_tests) in
     rw is (omega (arith, rest (omega arith)))
 
+rooted_from : (t i n : ℕ) (rows : List ScriptRow) → NamesInOrder i n rows → i ≤ t → t < n → rooted t rows ≡ 1
+rooted_from t i n [] names le lt = absurd (omega (arith, names))
+rooted_from t i n (TreeRow u ∷ rows) names le lt =
+    rooted_at t i n u.0 rows names.1 names.0 (u.0 == t) refl (λ less. rooted_from t (i + 1) n rows names.1 (omega arith) lt) le
+rooted_from t i n (Advance ∷ rows) names le lt = omega (arith, rooted_from t i n rows names le lt)
+rooted_from t i n (Settle ∷ rows) names le lt = omega (arith, rooted_from t i n rows names le lt)
+
 -- the rows ask for each tree's root once
-pub roots_once : (s : ScriptData) (t i n : ℕ) (rows : List ScriptRow) → NamesInOrder i n rows → i ≤ t → t < n
-    → tally (on (asks t 0)) (roots_of s rows) ≡ 1
-roots_once s t i n [] names le lt = absurd (omega (arith, names))
-roots_once s t i n (TreeRow u ∷ rows) names le lt =
-    roots_at s t i n u.0 rows names.1 names.0 (u.0 == t) refl (λ less. roots_once s t (i + 1) n rows names.1 (omega arith) lt) le
-roots_once s t i n (Advance ∷ rows) names le lt = roots_once s t i n rows names le lt
-roots_once s t i n (Settle ∷ rows) names le lt = roots_once s t i n rows names le lt
+pub rooted_once : (n t : ℕ) (rows : List ScriptRow) → NamesInOrder 0 n rows → t < n → rooted t rows ≡ 1
+rooted_once n t rows names lt = rooted_from t 0 n rows names (omega arith) lt
+
+-- Rows that are submitted one after the other.
+pub tally_take_le : {X : Type 0} (f : X → ℕ) (n : ℕ) (xs : List X) → tally f (take n xs) ≤ tally f xs
+tally_take_le f zero xs = omega arith
+tally_take_le f (suc n) [] = omega arith
+tally_take_le f (suc n) (x ∷ xs) = omega (arith, tally_take_le f n xs)
+
+pub tally_take_more : {X : Type 0} (f : X → ℕ) (n k : ℕ) (xs : List X)
+    → tally f (take (n + k) xs) ≡ tally f (take n xs) + tally f (take k (drop n xs))
+tally_take_more f n k xs =
+    let front : take n (take (n + k) xs) ≡ take n xs = take-take n (n + k) xs (omega arith) in
+    let both : take (n + k) xs ≡ take n xs ++ take k (drop n xs) = cc (front, drop-take n k xs, take-append-drop n (take (n + k) xs)) in
+    ap (λ ys. tally f ys) both ∙ tally-append f (take n xs) (take k (drop n xs))

@@ -1,0 +1,20 @@
+//! Laws of the board: nothing waits, and every read is right.
+#![tactic(auto)]
+
+ghost use Rattle.std.specs.Prelude.{List, reverse};
+ghost use Rattle.board_model.specs.Right.{IsAtOnce, IsRight};
+ghost use Rattle.letter_types.specs.declared.entries.Entry.{Entry};
+ghost use Rattle.tx_trees.specs.ScriptData.{ScriptData};
+ghost use Rattle.tx_trees.specs.Valid.{IsValid};
+ghost use Rattle.world_model.specs.Runs.{StepRun};
+ghost use Rattle.world_model.specs.Tables.{Runnable};
+
+/// In every run of a valid script of update and read trees, the entry that takes a subtransaction's letter does it.
+pub fn no_step_waits()
+    ensures { (s : ScriptData) (past : List Entry) → IsValid s → Runnable s → StepRun s past → IsAtOnce s (reverse past) }
+{}
+
+/// In every such run each read shows what its items were worth at its tree's version in the history up to there.
+pub fn every_read_is_right()
+    ensures { (s : ScriptData) (past : List Entry) → IsValid s → Runnable s → StepRun s past → IsRight s (reverse past) }
+{}

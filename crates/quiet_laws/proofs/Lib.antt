@@ -1,0 +1,4 @@
+pub mod Counters
+pub mod Moves
+pub mod Balance
+pub mod Sampled

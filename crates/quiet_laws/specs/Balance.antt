@@ -1,0 +1,30 @@
+-- Requests, completions and the counted letters between them.
+use Rattle.std.specs.Prelude.{ℕ, Bool, false, ◌==◌, ◌&&◌, ◌+◌, ◌<◌, ◌≤◌, ◌≡◌, List}
+use Rattle.letter_types.specs.declared.bodies.Body.{Body}
+use Rattle.letter_types.specs.declared.bodies.Body.TheVariants.{Go, Sub, Done}
+use Rattle.letter_types.specs.declared.entries.Entry.{Entry}
+use Rattle.letter_types.specs.declared.entries.Letter.{Letter}
+use Rattle.tx_trees.specs.ScriptData.{ScriptData}
+use Rattle.world_model.specs.Counts.{tally, one_if}
+use Rattle.world_model.specs.Runs.{waiting, node_in}
+
+-- a counted letter, which is a Sub or a Done, of version v
+abbrev pub version_is : ℕ → Body → Bool
+version_is v (Sub t k w) = w.0 == v
+version_is v (Done t k w notice) = w.0 == v
+version_is v Go = false
+version_is v _ = false
+
+-- 1 for a counted letter of version v from p to q
+abbrev pub goes_from : ℕ → ℕ → ℕ → Letter → ℕ
+goes_from v p q l = one_if (version_is v l.body && ((l.from.0 == p) && (l.to.0 == q)))
+
+-- how many counted letters of version v are under way from p to q
+abbrev pub out : ScriptData → List Entry → ℕ → ℕ → ℕ → ℕ
+out s past v p q = tally (goes_from v p q) (waiting s past)
+
+-- in a version that both still count, the requests of p to q are the completions of q from p and the letters under way
+abbrev pub Balanced : ScriptData → List Entry → Type 0
+Balanced s past =
+    (v p q : ℕ) → p < s.nodes → q < s.nodes → (node_in s past p).turns.low.0 ≤ v → (node_in s past q).turns.low.0 ≤ v
+    → (node_in s past p).counts.asked v q ≡ (node_in s past q).counts.done v p + out s past v p q
