@@ -1,11 +1,11 @@
 -- The answers that a home sends.
-use Rattle.std.proofs.Common.{◌≡◌, ◌≢◌, ℕ, ◌<◌, length, ◌+◌, ◌==◌, true, List, refl, ap, arith, Option, Some, None}
+use Rattle.std.proofs.Common.{◌≡◌, ◌≢◌, ℕ, ◌<◌, length, ◌==◌, true, List, refl, ap, arith, Option, Some, None}
 use Rattle.std.proofs.lemmas.Bool.Decides.{nat_tests}
 use Rattle.tv_base.specs.declared.numbers.TreeNo.{TreeNo}
 use Rattle.tv_base.specs.declared.numbers.SubNo.{SubNo}
 use Rattle.tree_home.specs.declared.homes.Home.{Home}
 use Rattle.tree_home.specs.declared.homes.Answered.{Answered}
-use Rattle.tree_home.specs.Homes.{Gets, home_in, misses, misses_of, answer_in}
+use Rattle.tree_home.specs.Homes.{Gets, home_in, misses, answer_in}
 use Rattle.tree_home.proofs.Always.{answer-is}
 use Rattle.tree_step.specs.Notices.{answer_noted, reply_letters}
 use Rattle.tx_trees.specs.ScriptData.{ScriptData, client_of}
@@ -21,6 +21,7 @@ home_by : (t : TreeNo) (k : SubNo) (hs : List Home) (o : Option Home) → home_i
 home_by t k hs None is miss = absurd (let no = rw is at miss in cc no)
 home_by t k hs (Some h) is miss = (h, is)
 
+-- where a notice is missing there is a home
 pub home_there : (t : TreeNo) (k : SubNo) (hs : List Home) → misses t k hs ≡ true → (h : Home) × (home_in t hs ≡ Some h)
 home_there t k hs miss = home_by t k hs (home_in t hs) refl miss
 
@@ -54,6 +55,7 @@ apart_by client u t k values hs ne miss (More is answer some) = ap (λ o. tally 
 apart_by client u t k values hs ne miss (Last a is answer here none) =
     reply_other client u t (answer_noted t k values hs) a answer (answers_tree t k values hs a miss here) ne
 
+-- and no reply to another tree
 pub replies_apart : (client u : ℕ) (t : TreeNo) (k : SubNo) (values : Gets) (hs : List Home) → t.0 ≢ u → misses t k hs ≡ true
     → tally (on (replies_to u)) (reply_letters client (answer_noted t k values hs)) ≡ 0
 replies_apart client u t k values hs ne miss = apart_by client u t k values hs ne miss (noting t k values hs miss)
@@ -66,6 +68,7 @@ fits_by s from t k values hs lt miss (Last a is answer here none) =
     let its = ap (λ (x : TreeNo). x.0) (answers_tree t k values hs a miss here) in
     rw answer ((λ id. (omega (arith, its, lt), refl)), tt)
 
+-- an answer is meant for the client
 pub answer_fits : (s : ScriptData) (from : ℕ) (t : TreeNo) (k : SubNo) (values : Gets) (hs : List Home) → t.0 < length s.trees
     → misses t k hs ≡ true → SentFit s from (reply_letters (client_of s) (answer_noted t k values hs))
 answer_fits s from t k values hs lt miss = fits_by s from t k values hs lt miss (noting t k values hs miss)

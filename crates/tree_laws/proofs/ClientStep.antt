@@ -1,5 +1,5 @@
 -- The client's entries keep what holds.
-use Rattle.std.proofs.Common.{◌≡◌, ◌≢◌, ◌⊎◌, inl, inr, ℕ, ◌+◌, ◌<◌, ◌≤◌, ◌==◌, Bool, true, false, List, [], ◌∷◌, ◌++◌, length, get_or, set, take, drop, refl, sym, ap, subst, ◌∙◌, arith}
+use Rattle.std.proofs.Common.{◌≡◌, ◌≢◌, ◌⊎◌, inl, inr, ℕ, ◌+◌, ◌<◌, ◌≤◌, ◌==◌, Bool, true, false, List, [], ◌∷◌, length, get_or, set, take, drop, refl, sym, ap, subst, ◌∙◌, arith}
 use Rattle.std.specs.Prelude.{if◌then◌else◌, nat_lt}
 use Rattle.std.proofs.lemmas.Bool.{cases_eq}
 use Rattle.std.proofs.lemmas.Bool.Decides.{nat_tests}
@@ -8,7 +8,7 @@ use Rattle.tv_base.specs.declared.numbers.TreeNo.{TreeNo}
 use Rattle.tv_base.specs.declared.numbers.Version.{Version}
 use Rattle.letter_types.specs.declared.bodies.Answer.{Answer}
 use Rattle.letter_types.specs.declared.bodies.Body.{Body}
-use Rattle.letter_types.specs.declared.bodies.Body.TheVariants.{Go, Root, Reply, Nudge, Advance as AdvanceLetter, Advanced}
+use Rattle.letter_types.specs.declared.bodies.Body.TheVariants.{Go, Root, Reply, Advance as AdvanceLetter, Advanced}
 use Rattle.letter_types.specs.declared.entries.Entry.{Entry}
 use Rattle.letter_types.specs.declared.entries.LetterId.{LetterId}
 use Rattle.letter_types.specs.declared.entries.Outgoing.{Outgoing}
@@ -17,7 +17,7 @@ use Rattle.tree_step.specs.Node.{Node}
 use Rattle.letter_types.specs.Steps.{still}
 use Rattle.tx_trees.specs.ScriptData.{ScriptData, client_of, home_of}
 use Rattle.tx_trees.specs.declared.parts.ScriptRow.{ScriptRow}
-use Rattle.client_rows.specs.Client.{Client, start_client, client_row, next_after, finishes, submitted, rows_letters, submit, with_answer, nudge}
+use Rattle.client_rows.specs.Client.{Client, client_row, next_after, finishes, submitted, rows_letters, submit, with_answer, nudge}
 use Rattle.world_model.specs.Counts.{tally, one_if}
 use Rattle.world_model.specs.Runs.{client_in, node_in, MayFollow}
 use Rattle.world_model.proofs.Bags.{tally-append}
@@ -63,7 +63,7 @@ rows_next : (s : ScriptData) (past : List Entry) (e : Entry) (c : Client) (first
     ≡ rooted u (take (client_in s past).next s.rows) + tally (on (asks u 0)) e.sent
 rows_next s past e c first sub u =
     let after : rooted u (take (client_in s (e ∷ past)).next s.rows) ≡ rooted u (take (next_after s c) s.rows) =
-        ap (λ (x : Client). rooted u (take x.next s.rows)) sub.made.state in
+    ap (λ (x : Client). rooted u (take x.next s.rows)) sub.made.state in
     let before : rooted u (take c.next s.rows) ≡ rooted u (take (client_in s past).next s.rows) = ap (λ (n : ℕ). rooted u (take n s.rows)) sub.next in
     omega (
       arith,
@@ -131,6 +131,7 @@ submits_good s past e c first sound good m sub heard =
       items = idle_items s past e good idle;
     }
 
+-- the client begins
 pub begins_good : (s : ScriptData) (past : List Entry) (e : Entry) → Sound s → Good s past → MayFollow s past e → e.took.body ≡ Go
     → e.actor.0 ≡ client_of s → MadeByClient s past e (submit s (client_in s past) []) → Good s (e ∷ past)
 begins_good s past e sound good m is at made =
@@ -192,7 +193,7 @@ hears_by : (s : ScriptData) (past : List Entry) (e : Entry) (t : ℕ) → Good s
     → answers (e ∷ past) u ≡ replies s (e ∷ past) u + one_if (get_or (set (client_in s past).answered t true) u false)
 hears_by s past e t good m lt took sent u ut (inl is) =
     let before : answers (e ∷ past) t ≡ replies s (e ∷ past) t + 1 + one_if (get_or (client_in s past).answered t false) =
-        omega (arith, good.heard t lt, flow (replies_to t) s past e m, took t, heard_here t, sent t) in
+    omega (arith, good.heard t lt, flow (replies_to t) s past e m, took t, heard_here t, sent t) in
     let most : answers (e ∷ past) t ≤ 1 = omega (arith, answers_most s past t (good.stages t lt), sent t) in
     let place : t < length (client_in s past).answered = omega (arith, answered_places s past) in
     subst (λ (w : ℕ). answers (e ∷ past) w ≡ replies s (e ∷ past) w + one_if (get_or (set (client_in s past).answered t true) w false)) (sym is)
@@ -201,6 +202,7 @@ hears_by s past e t good m lt took sent u ut (inr ne) =
     heard_other (client_in s past).answered t u (answers (e ∷ past) u) (replies s (e ∷ past) u) ne
     (omega (arith, good.heard u ut, flow (replies_to u) s past e m, took u, not_here u t (λ is. ne (sym is)), sent u))
 
+-- the client hears an answer
 pub hears_good : (s : ScriptData) (past : List Entry) (e : Entry) (t : TreeNo) (v : Version) (answer : Answer) → Sound s → Good s past
     → MayFollow s past e → e.took.body ≡ Reply t v answer → e.actor.0 ≡ client_of s → t.0 < length s.trees
     → MadeByClient s past e (submit s (with_answer t.0 (client_in s past)) (nudge s ∷ [])) → Good s (e ∷ past)
@@ -220,6 +222,6 @@ hears_good s past e t v answer sound good m is at lt made =
     submits_good s past e c (nudge s ∷ []) sound good m sub
     (λ u ut.
     let now : get_or (client_in s (e ∷ past)).answered u false ≡ get_or (set (client_in s past).answered t.0 true) u false =
-        ap (λ (x : Client). get_or x.answered u false) made.state in
+    ap (λ (x : Client). get_or x.answered u false) made.state in
     rw now (hears_by s past e t.0 good m lt (λ w. rw is refl)
     (λ w. sent_none (replies_to w) s past e c (nudge s ∷ []) sub refl (λ x. refl) refl) u ut (cases_eq u t.0)))

@@ -5,17 +5,15 @@ use Rattle.std.proofs.lemmas.Bool.Decides.{nat_tests}
 use Rattle.commute_ops.specs.declared.kinds.TheConstants.{MOST_AMOUNT}
 use Rattle.letter_types.specs.declared.entries.Entry.{Entry}
 use Rattle.letter_types.specs.declared.entries.Letter.{Letter}
-use Rattle.tx_trees.specs.ScriptData.{ScriptData, node_of, ops_of}
-use Rattle.tx_trees.specs.declared.parts.TreeKind.TheVariants as trees
-use Rattle.std.specs.List.{AllByRecursion}
-use Rattle.tx_trees.specs.Valid.{IsOp, initial_load, ops_load, trees_load}
+use Rattle.tx_trees.specs.ScriptData.{ScriptData, ops_of}
+use Rattle.tx_trees.specs.Valid.{ops_load, trees_load}
 use Rattle.tx_trees.specs.declared.parts.ItemRow.{ItemRow}
-use Rattle.world_model.specs.Counts.{one_if, Each}
-use Rattle.world_model.specs.Runs.{client_in, node_in, waiting, MayFollow}
+use Rattle.world_model.specs.Counts.{one_if}
+use Rattle.world_model.specs.Runs.{client_in, waiting, MayFollow}
 use Rattle.world_model.proofs.Bags.{tally-drop}
 use Rattle.tree_laws.specs.Dids.{asks, asked, dids, is_row_of}
 use Rattle.tree_laws.proofs.Loads.{trees_done, trees_most, trees_more}
-use Rattle.tree_laws.proofs.Scripts.{Sound, SubAt, tree_below, is_sub, get_some, get_below, node_here, ops_here}
+use Rattle.tree_laws.proofs.Scripts.{Sound, SubAt, tree_below, is_sub, get_some, get_below, ops_here}
 use Rattle.tree_laws.proofs.Sent.{other_sub, other_tree, rooted_once, tally_take_le}
 use Rattle.tree_laws.proofs.Good.{Good, bound}
 use Rattle.tree_laws.proofs.Tables.{bounds_after}
@@ -24,6 +22,7 @@ use Rattle.tree_laws.proofs.Tables.{bounds_after}
 pub zero_or : (k : ℕ) → (k ≡ 0) ⊎ (0 < k)
 zero_or k = grind arith
 
+-- a parent is a subtransaction of its tree
 pub parent_at : (s : ScriptData) (t k : ℕ) (c : SubAt s t k) → Sound s → 0 < k → SubAt s t c.sub.parent.0
 parent_at s t k c sound lt =
     let up : c.sub.parent.0 < k = (is_sub s t k c sound).parent lt in
@@ -57,6 +56,7 @@ root_most s past t sound good lt =
       rooted_once (length s.trees) t s.rows sound.valid.rows lt,
     )
 
+-- each subtransaction is done at most once
 pub at_most_once : (s : ScriptData) (past : List Entry) (t k : ℕ) → SubAt s t k → Sound s → Good s past → dids past t k ≤ 1
 at_most_once s past t k c sound good =
     omega (arith, below_root s past t k c sound good, root_most s past t sound good (tree_below s t k c))
@@ -86,6 +86,7 @@ one_here t k = grind (arith, nat_tests)
 abbrev pub with_one : ScriptData → List Entry → ℕ → ℕ → ℕ → ℕ → ℕ
 with_one s past t k u i = one_if ((t == u) && (k == i)) + dids past u i
 
+-- the load of what is done, with a subtransaction more
 pub load_more : (s : ScriptData) (past : List Entry) (t k x : ℕ) (c : SubAt s t k)
     → trees_done (with_one s past t k) x 0 s.trees ≡ trees_done (dids past) x 0 s.trees + ops_load x (ops_of s t k)
 load_more s past t k x c =
@@ -117,9 +118,9 @@ load_most s past t k x c sound good none =
 abbrev pub bounds_with : ScriptData → List Entry → ℕ → ℕ → ℕ → ℕ
 bounds_with s past t k = bounds_after (bound s past) (ops_of s t k)
 
+-- an item that a subtransaction that is not done touches keeps to what is allowed
 pub within_most : (s : ScriptData) (past : List Entry) (t k x : ℕ) (r : ItemRow) (c : SubAt s t k) → Sound s → Good s past → dids past t k ≡ 0
     → slice_get s.items x ≡ Some r
     → bound s past x + ops_load x (ops_of s t k) ≤ MOST_AMOUNT
 within_most s past t k x r c sound good none at =
     omega (arith, load_most s past t k x c sound good none, sound.valid.loads x (get_below s.items x r at))
-

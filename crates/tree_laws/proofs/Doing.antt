@@ -1,5 +1,5 @@
 -- A root or another subtransaction that is done, by what is asked for and done.
-use Rattle.std.proofs.Common.{◌≡◌, ℕ, ◌<◌, ◌==◌, ◌&&◌, ◌+◌, Bool, true, false, List, [], ◌∷◌, ◌++◌, length, refl, ap, sym, ◌∙◌, arith, Option}
+use Rattle.std.proofs.Common.{◌≡◌, ℕ, ◌<◌, ◌==◌, ◌&&◌, ◌+◌, Bool, true, false, List, [], ◌∷◌, length, refl, ap, sym, ◌∙◌, arith, Option}
 use Rattle.std.specs.Prelude.{nat_lt}
 use Rattle.std.proofs.lemmas.Bool.Decides.{nat_tests}
 use Rattle.tv_base.specs.declared.numbers.SubNo.{SubNo}
@@ -52,6 +52,7 @@ root_sends f s past e t v items values made =
     ap (λ os. tally (on f) os) made.sent
     ∙ tally-append (on f) (sub_letters t.0 v.0 0 0 (subs_at s t.0)) (reply_letters (client_of s) (root_answer s t v values (home_of s t.0) past))
 
+-- a root that is done is a subtransaction that is done
 pub root_does : (s : ScriptData) (past : List Entry) (e : Entry) (t : TreeNo) (v : Version) (items : Table) (values : Gets) → SubAt s t.0 0
     → Sound s → Good s past → dids past t.0 0 ≡ 0 → e.took.body ≡ Root t → e.actor.0 ≡ home_of s t.0
     → RootWork s t.0 (node_in s past (home_of s t.0)) v items values
@@ -95,7 +96,8 @@ sub_sends f s past e t k v turns items values turned made =
     let parts = ap (λ os. tally (on f) os) made.sent in
     omega (arith, parts, tally-append (on f) (sub_letters t.0 v.0 k.0 0 (subs_at s t.0)) (done_letter (home_of s t.0) t.0 k.0 v.0 values ∷ []))
 
-sub_acts : (f : Act → ℕ) (s : ScriptData) (past : List Entry) (e : Entry) (t : TreeNo) (k : SubNo) (v : Version) (turns : Turns)
+-- the acts of a subtransaction, by a number that counts no turn
+pub sub_acts : (f : Act → ℕ) (s : ScriptData) (past : List Entry) (e : Entry) (t : TreeNo) (k : SubNo) (v : Version) (turns : Turns)
     (items : Table) (values : Gets) (turned : List Act) → SubWork s t.0 k.0 (node_in s past (node_of s t.0 k.0)) v turns items values turned
     → Made s past e (node_of s t.0 k.0) (sub_done s e.took.from.0 t.0 k.0 v.0 turns items values turned (node_in s past (node_of s t.0 k.0)))
     → ((w : Version) → f (Turned w) ≡ 0) → tally f e.acts ≡ f (Did t k values)
@@ -104,6 +106,7 @@ sub_acts f s past e t k v turns items values turned work made none =
     let quiet = turned_none f s t.0 k.0 (node_in s past (node_of s t.0 k.0)) v turns items values turned work none in
     omega (arith, parts, quiet, tally-append f turned (Did t k values ∷ []))
 
+-- the same of another subtransaction
 pub sub_does : (s : ScriptData) (past : List Entry) (e : Entry) (t : TreeNo) (k : SubNo) (v : Version) (turns : Turns) (items : Table)
     (values : Gets) (turned : List Act) → SubAt s t.0 k.0 → 0 < k.0 → Sound s → Good s past → dids past t.0 k.0 ≡ 0
     → e.took.body ≡ SubLetter t k v → e.actor.0 ≡ node_of s t.0 k.0

@@ -45,6 +45,7 @@ child_fits s t v parent from i x xs lt node at rest true is =
     rw is ((λ id. (lt, get_below (subs_at s t) i x at, later, sym there, node)), rest)
 child_fits s t v parent from i x xs lt node at rest false is = rw is rest
 
+-- the letters to children
 pub children_fit : (s : ScriptData) (t v parent from i : ℕ) (xs : List Sub) → t < length s.trees → from < s.nodes
     → ((n : ℕ) (x : Sub) → slice_get xs n ≡ Some x → slice_get (subs_at s t) (i + n) ≡ Some x)
     → SentFit s from (sub_letters t v parent i xs)
@@ -60,7 +61,8 @@ RowFits s (TreeRow t) = t.0 < length s.trees
 RowFits s Settle = Unit {0}
 RowFits s Advance = ⊥
 
-names_end : (i n : ℕ) (rows : List ScriptRow) → NamesInOrder i n rows → i ≤ n
+-- the trees that rows name come before the last number
+pub names_end : (i n : ℕ) (rows : List ScriptRow) → NamesInOrder i n rows → i ≤ n
 names_end i n [] names = omega (arith, names)
 names_end i n (TreeRow t ∷ rows) names = omega (arith, names_end (i + 1) n rows names.1)
 names_end i n (Advance ∷ rows) names = names_end i n rows names
@@ -74,9 +76,11 @@ rows_fit_from s i (TreeRow t ∷ rows) names built =
 rows_fit_from s i (Advance ∷ rows) names built = absurd built.0
 rows_fit_from s i (Settle ∷ rows) names built = (tt, rows_fit_from s i rows names built.1)
 
+-- each row of a sound script fits
 pub rows_fit : (s : ScriptData) → Sound s → Each (RowFits s) s.rows
 rows_fit s sound = rows_fit_from s 0 s.rows sound.valid.rows sound.runnable.rows
 
+-- what holds of each holds of a front and of a rest
 pub each_take : {X : Type 0} (P : X → Type 0) (n : ℕ) (xs : List X) → Each P xs → Each P (take n xs)
 each_take P zero xs all = tt
 each_take P (suc n) [] all = tt

@@ -1,5 +1,5 @@
 -- What an entry makes of numbers over the letters under way, and what stays at a node.
-use Rattle.std.proofs.Common.{◌≡◌, ◌≢◌, ◌⊎◌, inl, inr, ℕ, ◌+◌, ◌<◌, ◌≤◌, ◌==◌, ◌&&◌, Bool, true, false, List, [], ◌∷◌, ◌++◌, length, refl, sym, ap, subst, ◌∙◌, arith, take, drop, Some}
+use Rattle.std.proofs.Common.{◌≡◌, ◌≢◌, ◌⊎◌, inl, inr, ℕ, ◌+◌, ◌<◌, ◌≤◌, ◌==◌, ◌&&◌, Bool, true, false, List, [], ◌∷◌, length, refl, sym, ap, subst, ◌∙◌, arith, take, drop}
 use Rattle.std.specs.Prelude.{if◌then◌else◌}
 use Rattle.std.proofs.lemmas.Bool.{cases_eq}
 use Rattle.std.proofs.lemmas.Bool.Decides.{nat_tests}
@@ -20,7 +20,6 @@ use Rattle.world_model.specs.Runs.{client_in, node_in, waiting, MayFollow}
 use Rattle.world_model.proofs.Bags.{tally-append, tally_step, sealed_tally}
 use Rattle.world_model.proofs.Every.{each_map, each_none, each_step, node_kept}
 use Rattle.tree_laws.specs.Dids.{tells_done, notices}
-use Rattle.tree_laws.proofs.Counts.{zero_or}
 use Rattle.tree_laws.proofs.Fits.{Fit, SentFit}
 use Rattle.tree_laws.proofs.Good.{Good}
 use Rattle.tree_laws.proofs.Nexts.{Made}
@@ -63,6 +62,7 @@ past_end s t i from to (Reply u v answer) le fit = refl
 past_end s t i from to Nudge le fit = refl
 past_end s t i from to _ le fit = absurd fit
 
+-- no notice under way is of a subtransaction past its tree's end
 pub no_notice : (s : ScriptData) (past : List Entry) (t i : ℕ) → Each (λ (l : Letter). Fit s l.from.0 l.to.0 l.body) (waiting s past)
     → length (subs_at s t) ≤ i → notices s past t i ≡ 0
 no_notice s past t i letters le =
@@ -77,10 +77,12 @@ same_at f s past e p out made at same q (inl is) =
     subst (λ (r : ℕ). f (node_in s (e ∷ past) r) ≡ f (node_in s past r)) is (ap f made.state ∙ same)
 same_at f s past e p out made at same q (inr ne) = ap f (node_kept s past e q (λ is. ne (sym at ∙ is)))
 
+-- what a node's step leaves as it is stays at every node
 pub same_part : {X : Type 0} (f : Node → X) (s : ScriptData) (past : List Entry) (e : Entry) (p : ℕ) (out : Out Node) → Made s past e p out
     → e.actor.0 ≡ p → f out.state ≡ f (node_in s past p) → (q : ℕ) → f (node_in s (e ∷ past) q) ≡ f (node_in s past q)
 same_part f s past e p out made at same q = same_at f s past e p out made at same q (cases_eq p q)
 
+-- the client stays where another actor moves
 pub client_kept : (s : ScriptData) (past : List Entry) (e : Entry) → e.actor.0 ≢ client_of s → client_in s (e ∷ past) ≡ client_in s past
 client_kept s past e ne = let other : (e.actor.0 == client_of s) ≡ false = grind (arith, nat_tests) in rw other refl
 
@@ -91,6 +93,7 @@ submit_none f s c first quiet none never =
     let rows = take (submitted c (take c.next s.rows) (drop c.next s.rows)) (drop c.next s.rows) in
     omega (arith, tally-append (on f) first (rows_letters s rows), quiet, roots_none f s rows none never)
 
+-- that all is finished is no act of a tree
 pub finish_none : (f : Act → ℕ) (test : Bool) → f Finished ≡ 0 → tally f (if test then Finished ∷ [] else []) ≡ 0
 finish_none f true none = omega (arith, none)
 finish_none f false none = refl

@@ -1,7 +1,6 @@
 -- What holds in every past of a run.
 use Rattle.std.proofs.Common.{◌≡◌, ℕ, ◌+◌, ◌<◌, ◌≤◌, false, List, length, take, Option, Some, None}
 use Rattle.std.specs.Prelude.{get_or, slice_get}
-use Rattle.tv_base.specs.declared.numbers.TreeNo.{TreeNo}
 use Rattle.letter_types.specs.declared.entries.Entry.{Entry}
 use Rattle.letter_types.specs.declared.entries.Letter.{Letter}
 use Rattle.tree_home.specs.Homes.{Gets, IsAscending, home_in, missing_count}

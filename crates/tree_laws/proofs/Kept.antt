@@ -35,6 +35,7 @@ pub record Idle (s : ScriptData) (past : List Entry) (e : Entry) : Type 0 where
   pub rows : (u : ℕ) → rooted u (take (client_in s (e ∷ past)).next s.rows) ≡ rooted u (take (client_in s past).next s.rows) + tally (on (asks u 0)) e.sent
   pub items : (p : ℕ) → p < s.nodes → (node_in s (e ∷ past) p).items ≡ (node_in s past p).items
 
+-- the fields of what holds, where no subtransaction is done
 pub idle_roots : (s : ScriptData) (past : List Entry) (e : Entry) → Good s past → MayFollow s past e → Idle s past e → (t : ℕ)
     → t < length s.trees → rooted t (take (client_in s (e ∷ past)).next s.rows) ≡ asked s (e ∷ past) t 0 + dids (e ∷ past) t 0
 idle_roots s past e good m idle t lt =
@@ -89,6 +90,7 @@ asked_by s t v k u i c lt true is =
     let here : slice_get (subs_at s t) i ≡ Some c.sub = subst (λ (w : ℕ). slice_get (subs_at s w) i ≡ Some c.sub) (sym eq) (rw (subs_here s u i c) c.here) in
     children u i t v k c.sub (subs_at s t) here lt
 
+-- the fields of what holds, where one is done
 pub does_roots : (s : ScriptData) (past : List Entry) (e : Entry) (t k : ℕ) → Good s past → MayFollow s past e → Does s past e t k → (u : ℕ)
     → u < length s.trees → rooted u (take (client_in s (e ∷ past)).next s.rows) ≡ asked s (e ∷ past) u 0 + dids (e ∷ past) u 0
 does_roots s past e t k good m does u lt =
@@ -145,6 +147,7 @@ children_sent s past e t k v sound c at =
     children_fit s t v k e.actor.0 0 (subs_at s t) (tree_below s t k c) (omega (arith, at, node_below s t k c sound))
     (λ n x here. subst (λ (i : ℕ). slice_get (subs_at s t) i ≡ Some x) (omega arith) here)
 
+-- letters of two lists are meant for their addressees
 pub both_fit : (s : ScriptData) (from : ℕ) (xs ys os : List Outgoing) → os ≡ xs ++ ys → SentFit s from xs → SentFit s from ys → SentFit s from os
 both_fit s from xs ys os is a b =
     subst (λ zs. SentFit s from zs) (sym is) (each_append (λ (o : Outgoing). (i : LetterId) → Fit s from o.to.0 o.body) xs ys a b)
@@ -162,6 +165,7 @@ order_at s past e p out good made at up q lt (inl is) =
 order_at s past e p out good made at up q lt (inr ne) =
     subst (λ (n : Node). IsAscending n.homes) (sym (node_kept s past e q (λ is. ne (sym at ∙ is)))) (good.order q lt)
 
+-- homes stand in order at every node
 pub order_next : (s : ScriptData) (past : List Entry) (e : Entry) (p : ℕ) (out : Out Node) → Good s past → Made s past e p out → e.actor.0 ≡ p
     → IsAscending out.state.homes → (q : ℕ) → q < s.nodes → IsAscending (node_in s (e ∷ past) q).homes
 order_next s past e p out good made at up q lt = order_at s past e p out good made at up q lt (cases_eq p q)

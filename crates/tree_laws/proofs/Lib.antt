@@ -23,3 +23,11 @@ pub mod RootStep
 pub mod SubStep
 pub mod NoteStep
 pub mod Goods
+pub mod Client
+pub mod Acts
+pub mod Finishes
+pub mod Whole
+pub mod Sums
+pub mod Entries
+pub mod SampledEnds
+pub mod Sampled

@@ -1,11 +1,9 @@
 -- What an entry does where all that holds in a past holds.
 use Rattle.std.proofs.Common.{◌≡◌, ◌⊎◌, inl, inr, ℕ, ◌<◌, ◌≤◌, true, List, [], ◌∷◌, refl, ap, subst, ◌∙◌, arith}
 use Rattle.std.specs.Prelude.{nat_lt}
-use Rattle.std.proofs.lemmas.Bool.Decides.{nat_tests}
 use Rattle.tv_base.specs.declared.numbers.SubNo.{SubNo}
 use Rattle.tv_base.specs.declared.numbers.TreeNo.{TreeNo}
 use Rattle.tv_base.specs.declared.numbers.Version.{Version}
-use Rattle.tree_home.specs.Homes.{Gets, home_in}
 use Rattle.letter_types.specs.declared.bodies.Body.{Body}
 use Rattle.letter_types.specs.declared.bodies.Body.TheVariants.{Go, Root, Sub as SubLetter, Done, Reply, Nudge}
 use Rattle.letter_types.specs.declared.bodies.Notice.{Notice}
@@ -17,7 +15,6 @@ use Rattle.tx_trees.specs.ScriptData.{ScriptData, node_of, home_of, updates, rea
 use Rattle.tree_step.specs.Done.{root_done, sub_done}
 use Rattle.update_step.specs.Rows.{turned_if}
 use Rattle.client_rows.specs.Client.{submit, with_answer, nudge}
-use Rattle.world_model.specs.Counts.{one_if, Each}
 use Rattle.world_model.specs.Runs.{client_in, node_in, MayFollow, waiting}
 use Rattle.world_model.specs.Tables.{note_done}
 use Rattle.world_model.proofs.Bags.{tally-drop}

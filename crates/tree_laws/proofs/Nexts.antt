@@ -10,7 +10,6 @@ use Rattle.node_versions.specs.Turns.{raised}
 use Rattle.tree_home.specs.Homes.{Gets, home_in, misses}
 use Rattle.letter_types.specs.declared.acts.Act.{Act}
 use Rattle.letter_types.specs.declared.bodies.Answer.{Answer}
-use Rattle.letter_types.specs.declared.bodies.Body.{Body}
 use Rattle.letter_types.specs.declared.bodies.Body.TheVariants.{Go, Root, Sub as SubLetter, Done, Reply, Nudge}
 use Rattle.letter_types.specs.declared.bodies.Notice.TheVariants.{Did as DidNotice}
 use Rattle.letter_types.specs.declared.entries.Entry.{Entry}

@@ -1,7 +1,6 @@
 -- An entry in which a home takes down a notice, or the coordinator rests, keeps what holds.
-use Rattle.std.proofs.Common.{◌≡◌, ◌≢◌, ◌⊎◌, inl, inr, ℕ, ◌+◌, ◌<◌, ◌≤◌, ◌==◌, ◌&&◌, true, false, List, [], ◌∷◌, length, take, refl, sym, ap, subst, ◌∙◌, arith}
+use Rattle.std.proofs.Common.{◌≡◌, ◌≢◌, ◌⊎◌, inl, inr, ℕ, ◌+◌, ◌<◌, true, List, [], ◌∷◌, length, take, refl, sym, ap, subst, ◌∙◌, arith}
 use Rattle.std.proofs.lemmas.Bool.{cases_eq}
-use Rattle.std.proofs.lemmas.Bool.Decides.{nat_tests}
 use Rattle.tv_base.specs.declared.numbers.SubNo.{SubNo}
 use Rattle.tv_base.specs.declared.numbers.TreeNo.{TreeNo}
 use Rattle.tv_base.specs.declared.numbers.Version.{Version}
@@ -10,15 +9,15 @@ use Rattle.letter_types.specs.declared.bodies.Body.{Body}
 use Rattle.letter_types.specs.declared.bodies.Body.TheVariants.{Done, Nudge}
 use Rattle.letter_types.specs.declared.bodies.Notice.TheVariants.{Did as DidNotice}
 use Rattle.letter_types.specs.declared.entries.Entry.{Entry}
-use Rattle.tx_trees.specs.ScriptData.{ScriptData, subs_at, home_of, client_of}
+use Rattle.tx_trees.specs.ScriptData.{ScriptData, home_of, client_of}
 use Rattle.tree_step.specs.Node.{Node}
 use Rattle.tree_step.specs.Notices.{answer_noted, reply_letters}
 use Rattle.client_rows.specs.Client.{Client}
-use Rattle.world_model.specs.Counts.{tally, one_if}
+use Rattle.world_model.specs.Counts.{tally}
 use Rattle.world_model.specs.Runs.{client_in, node_in, MayFollow}
 use Rattle.world_model.specs.Tables.{note_done}
 use Rattle.world_model.proofs.Every.{node_kept}
-use Rattle.tree_laws.specs.Dids.{asks, is_did, is_born, dids, tells_done, replies_to, rooted}
+use Rattle.tree_laws.specs.Dids.{asks, is_did, is_born, tells_done, replies_to, rooted}
 use Rattle.tree_laws.proofs.Answering.{answer_fits, replies_apart}
 use Rattle.tree_laws.proofs.Counts.{at_most_once}
 use Rattle.tree_laws.proofs.Fits.{SentFit}
@@ -52,14 +51,14 @@ rests_good s past e sound good m is at sent acts =
       items = λ p lt. ap (λ (n : Node). n.items) (node_kept s past e p (omega arith));
     } in
     let apart : (t : ℕ) → t < length s.trees → Apart s past e t = λ t lt.
-        let below = node_below s t 0 (has_root s t sound lt) sound in
-        record {
-          did = λ k. idle.did t k;
-          home = ap (λ (n : Node). home_in (record { 0 = t }) n.homes) (node_kept s past e (home_of s t) (omega arith));
-          answers = none (replies_to t);
-          told = λ k. rw is refl;
-          notes = λ k. none (tells_done t k);
-        } in
+    let below = node_below s t 0 (has_root s t sound lt) sound in
+    record {
+      did = λ k. idle.did t k;
+      home = ap (λ (n : Node). home_in (record { 0 = t }) n.homes) (node_kept s past e (home_of s t) (omega arith));
+      answers = none (replies_to t);
+      told = λ k. rw is refl;
+      notes = λ k. none (tells_done t k);
+    } in
     record {
       letters = letters_next s past e good (rw sent tt);
       roots = idle_roots s past e good m idle;
@@ -87,8 +86,8 @@ note_idle : (s : ScriptData) (past : List Entry) (e : Entry) (t : TreeNo) (k : S
     → NoteMade s past e t k v values → Idle s past e
 note_idle s past e t k v values same is at made =
     let none : (u i : ℕ) → tally (on (asks u i)) e.sent ≡ 0 = λ u i.
-        note_sends (asks u i) s past e t k v values made
-        ∙ replies_none (asks u i) (client_of s) (answer_noted t k values (node_in s past (home_of s t.0)).homes) (λ w x answer. refl) in
+    note_sends (asks u i) s past e t k v values made
+    ∙ replies_none (asks u i) (client_of s) (answer_noted t k values (node_in s past (home_of s t.0)).homes) (λ w x answer. refl) in
     record {
       did = λ u i. ap (λ xs. tally (is_did u i) xs) made.acts;
       born = λ u. ap (λ xs. tally (is_born u) xs) made.acts;
@@ -150,6 +149,7 @@ note_stage s past e t k v values c sound good m idle is at below miss made u lt 
 note_stage s past e t k v values c sound good m idle is at below miss made u lt (inr ne) =
     stays s past e u m (note_apart s past e t k v values idle is at miss made u ne) (good.stages u lt)
 
+-- a home takes down a notice
 pub note_good : (s : ScriptData) (past : List Entry) (e : Entry) (t : TreeNo) (k : SubNo) (v : Version) (values : Gets) → Sound s → Good s past
     → MayFollow s past e → e.took.body ≡ Done t k v (DidNotice values) → SubAt s t.0 k.0 → e.actor.0 ≡ home_of s t.0 → home_of s t.0 < s.nodes
     → misses t k (node_in s past (home_of s t.0)).homes ≡ true → NoteMade s past e t k v values → Good s (e ∷ past)

@@ -1,5 +1,5 @@
 -- What one notice more makes of the homes.
-use Rattle.std.proofs.Common.{◌≡◌, ◌≢◌, ◌⊎◌, inl, inr, ℕ, zero, suc, ◌+◌, ◌<◌, ◌≤◌, Bool, true, false, List, [], ◌∷◌, length, set, replicate, refl, sym, ap, subst, ◌∙◌, arith, Option, Some, None}
+use Rattle.std.proofs.Common.{◌≡◌, ◌≢◌, ◌⊎◌, inl, inr, ℕ, zero, suc, ◌<◌, ◌≤◌, Bool, true, false, List, [], ◌∷◌, length, set, replicate, refl, sym, ap, subst, ◌∙◌, arith, Option, Some, None}
 use Rattle.std.specs.Prelude.{IsSome, nat_lt, slice_get}
 use Rattle.std.proofs.lemmas.Bool.Decides.{nat_tests}
 use Rattle.tv_base.specs.declared.numbers.TreeNo.{TreeNo}
@@ -7,8 +7,8 @@ use Rattle.tv_base.specs.declared.numbers.SubNo.{SubNo}
 use Rattle.tv_base.specs.declared.numbers.Version.{Version}
 use Rattle.tree_home.specs.declared.homes.Home.{Home}
 use Rattle.tree_home.specs.declared.homes.Answered.{Answered}
-use Rattle.tree_home.specs.Homes.{Gets, IsAscending, home_in, new_home, begun, with_notice, noted, forgotten, missing_count, missing_in, misses, answer_in}
-use Rattle.tree_home.proofs.Always.{begun-others, noted-others, forgotten-others, begun-there, misses-begun, answered-exactly}
+use Rattle.tree_home.specs.Homes.{Gets, IsAscending, home_in, new_home, begun, noted, forgotten, missing_count, missing_in, misses, answer_in}
+use Rattle.tree_home.proofs.Always.{begun-others, noted-others, forgotten-others, misses-begun, answered-exactly}
 use Rattle.tree_home.proofs.Changes.{IsAscending-with_home, IsAscending-noted, IsAscending-forgotten}
 use Rattle.tree_step.specs.Notices.{homes_noted, answer_noted}
 use Rattle.tree_laws.proofs.Counts.{zero_or}
@@ -36,6 +36,7 @@ noting_by t k values hs miss (Some a) is =
     let some : IsSome (answer_in t k values hs) = rw is refl in
     Last a (rw miss (rw is refl)) (rw miss is) is ((answered-exactly t k values hs miss).0 some)
 
+-- every notice that was missing is one of these
 pub noting : (t : TreeNo) (k : SubNo) (values : Gets) (hs : List Home) → misses t k hs ≡ true → Noting t k values hs
 noting t k values hs miss = noting_by t k values hs miss (answer_in t k values hs) refl
 
@@ -50,10 +51,12 @@ others_test : (t u : TreeNo) (k : SubNo) (values : Gets) (hs : List Home) → u.
 others_test t u k values hs ne true is = others_by t u k values hs ne (noting t k values hs is)
 others_test t u k values hs ne false is = rw is refl
 
+-- a notice leaves the homes of other trees
 pub noted_keeps_others : (t u : TreeNo) (k : SubNo) (values : Gets) (hs : List Home) → u.0 ≢ t.0
     → home_in u (homes_noted t k values hs) ≡ home_in u hs
 noted_keeps_others t u k values hs ne = others_test t u k values hs ne (misses t k hs) refl
 
+-- so does a root
 pub root_keeps_others : (t u : TreeNo) (k : SubNo) (values : Gets) (n : ℕ) (v : Version) (hs : List Home) → u.0 ≢ t.0
     → home_in u (homes_noted t k values (begun t n v hs)) ≡ home_in u hs
 root_keeps_others t u k values n v hs ne = noted_keeps_others t u k values (begun t n v hs) ne ∙ begun-others t u n v hs ne
@@ -72,9 +75,11 @@ order_test : (t : TreeNo) (k : SubNo) (values : Gets) (hs : List Home) → IsAsc
 order_test t k values hs up true is = order_by t k values hs up (noting t k values hs is)
 order_test t k values hs up false is = subst IsAscending (sym (not_noted t k values hs is)) up
 
+-- a notice leaves the homes in order
 pub noted_in_order : (t : TreeNo) (k : SubNo) (values : Gets) (hs : List Home) → IsAscending hs → IsAscending (homes_noted t k values hs)
 noted_in_order t k values hs up = order_test t k values hs up (misses t k hs) refl
 
+-- so does a root whose tree has no home yet
 pub root_in_order : (t : TreeNo) (k : SubNo) (values : Gets) (n : ℕ) (v : Version) (hs : List Home) → home_in t hs ≡ None → IsAscending hs
     → IsAscending (homes_noted t k values (begun t n v hs))
 root_in_order t k values n v hs new up =
@@ -86,6 +91,7 @@ noted_same [] k values lt = absurd (omega arith)
 noted_same (n ∷ ns) zero values lt = refl
 noted_same (n ∷ ns) (suc k) values lt = noted_same ns k values (omega arith)
 
+-- and at no other
 pub noted_other : (ns : List (Option Gets)) (k i : ℕ) (values : Gets) → i ≢ k
     → is_noted (slice_get (set ns k (Some values)) i) ≡ is_noted (slice_get ns i)
 noted_other [] k i values ne = refl
@@ -94,11 +100,13 @@ noted_other (n ∷ ns) zero (suc i) values ne = refl
 noted_other (n ∷ ns) (suc k) zero values ne = refl
 noted_other (n ∷ ns) (suc k) (suc i) values ne = noted_other ns k i values (λ is. ne (ap suc is))
 
+-- where all are missing none was taken down
 pub none_noted : (n k : ℕ) → is_noted (slice_get (replicate n None) k) ≡ 0
 none_noted zero k = refl
 none_noted (suc n) zero = refl
 none_noted (suc n) (suc k) = none_noted n k
 
+-- where none is missing each was taken down
 pub all_noted : (ns : List (Option Gets)) (k : ℕ) → missing_count ns ≡ 0 → k < length ns → is_noted (slice_get ns k) ≡ 1
 all_noted [] k none lt = absurd (omega arith)
 all_noted (None ∷ ns) k none lt = absurd (omega (arith, none))

@@ -1,43 +1,32 @@
 -- An entry that does a root keeps what holds.
-use Rattle.std.proofs.Common.{◌≡◌, ◌≢◌, ◌⊎◌, inl, inr, ℕ, ◌+◌, ◌<◌, ◌≤◌, ◌==◌, ◌&&◌, true, false, List, [], ◌∷◌, ◌++◌, length, refl, sym, ap, subst, ◌∙◌, arith, Option, Some, None}
-use Rattle.std.specs.Prelude.{get_or, slice_get}
+use Rattle.std.proofs.Common.{◌≡◌, ◌≢◌, ◌⊎◌, inl, inr, ℕ, ◌<◌, List, ◌∷◌, length, refl, sym, ap, subst, ◌∙◌, arith, None}
 use Rattle.std.proofs.lemmas.Bool.{cases_eq}
-use Rattle.std.proofs.lemmas.Bool.Decides.{nat_tests}
-use Rattle.tv_base.specs.declared.numbers.SubNo.{SubNo}
 use Rattle.tv_base.specs.declared.numbers.TreeNo.{TreeNo}
 use Rattle.tv_base.specs.declared.numbers.Version.{Version}
 use Rattle.item_versions.specs.Table.{Table}
-use Rattle.node_versions.specs.declared.turns.Turns.{Turns}
-use Rattle.tree_home.specs.Homes.{Gets, IsAscending, home_in, begun}
-use Rattle.letter_types.specs.declared.acts.Act.{Act}
-use Rattle.letter_types.specs.declared.bodies.Body.TheVariants.{Root, Sub as SubLetter, Done}
+use Rattle.tree_home.specs.Homes.{Gets, home_in, begun}
+use Rattle.letter_types.specs.declared.bodies.Body.TheVariants.{Root}
 use Rattle.letter_types.specs.declared.entries.Entry.{Entry}
-use Rattle.letter_types.specs.declared.entries.LetterId.{LetterId}
-use Rattle.letter_types.specs.declared.entries.Outgoing.{Outgoing}
-use Rattle.letter_types.specs.Steps.{Out}
-use Rattle.tx_trees.specs.ScriptData.{ScriptData, subs_at, node_of, home_of, client_of}
-use Rattle.tx_trees.specs.declared.parts.Sub.{Sub}
+use Rattle.tx_trees.specs.ScriptData.{ScriptData, subs_at, home_of, client_of}
 use Rattle.tree_step.specs.Node.{Node}
-use Rattle.tree_step.specs.Children.{sub_letters, done_letter}
-use Rattle.tree_step.specs.Done.{root_done, sub_done}
+use Rattle.tree_step.specs.Children.{sub_letters}
+use Rattle.tree_step.specs.Done.{root_done}
 use Rattle.tree_step.specs.Notices.{reply_letters}
-use Rattle.client_rows.specs.Client.{Client}
-use Rattle.world_model.specs.Counts.{tally, one_if}
-use Rattle.world_model.specs.Runs.{client_in, node_in, MayFollow}
-use Rattle.world_model.proofs.Every.{each_append, node_kept}
-use Rattle.tree_laws.specs.Dids.{asks, is_did, dids, tells_done, replies_to}
+use Rattle.world_model.specs.Counts.{tally}
+use Rattle.world_model.specs.Runs.{node_in, MayFollow}
+use Rattle.tree_laws.specs.Dids.{asks, dids, tells_done, replies_to}
 use Rattle.tree_laws.proofs.Answering.{answer_fits, replies_apart}
-use Rattle.tree_laws.proofs.Counts.{below_root, not_done, one_here, was_asked, parent_at}
-use Rattle.tree_laws.proofs.Doing.{root_answer, root_sends, root_does, sub_sends, sub_does}
-use Rattle.tree_laws.proofs.Fits.{Fit, SentFit, children_fit}
+use Rattle.tree_laws.proofs.Counts.{below_root, not_done, one_here, was_asked}
+use Rattle.tree_laws.proofs.Doing.{root_answer, root_sends, root_does}
+use Rattle.tree_laws.proofs.Fits.{SentFit}
 use Rattle.tree_laws.proofs.Flows.{letters_next, same_part}
 use Rattle.tree_laws.proofs.Good.{Good, TreeAt}
 use Rattle.tree_laws.proofs.Kept.{Does, does_roots, does_subs, does_born, does_items, heard_same, same_heard, both_fit, children_sent, order_next}
-use Rattle.tree_laws.proofs.Nexts.{Made, RootWork, SubWork}
+use Rattle.tree_laws.proofs.Nexts.{Made, RootWork}
 use Rattle.tree_laws.proofs.Noting.{misses_root, root_keeps_others, root_in_order}
-use Rattle.tree_laws.proofs.Scripts.{Sound, SubAt, is_sub, node_below, sub_below, tree_below}
+use Rattle.tree_laws.proofs.Scripts.{Sound, SubAt, node_below, sub_below, tree_below}
 use Rattle.tree_laws.proofs.Sent.{on, other_tree, replies_none, subs_none}
-use Rattle.tree_laws.proofs.Staging.{Apart, stays, Adds, adds, Begins, begins_stage}
+use Rattle.tree_laws.proofs.Staging.{Apart, stays, Begins, begins_stage}
 
 -- A root.
 abbrev RootMade : ScriptData → List Entry → Entry → TreeNo → Version → Table → Gets → Type 0
@@ -115,6 +104,7 @@ root_stage s past e t v items values c sound good m none does is new made u lt (
 root_stage s past e t v items values c sound good m none does is new made u lt (inr ne) =
     stays s past e u m (root_apart s past e t v items values c does is made u ne) (good.stages u lt)
 
+-- a root is done
 pub root_good : (s : ScriptData) (past : List Entry) (e : Entry) (t : TreeNo) (v : Version) (items : Table) (values : Gets) → Sound s
     → Good s past → MayFollow s past e → e.took.body ≡ Root t → SubAt s t.0 0 → e.actor.0 ≡ home_of s t.0
     → home_in t (node_in s past (home_of s t.0)).homes ≡ None → RootWork s t.0 (node_in s past (home_of s t.0)) v items values

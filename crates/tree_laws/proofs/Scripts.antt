@@ -86,9 +86,11 @@ pub tree_kind : (s : ScriptData) (t k : ℕ) (c : SubAt s t k) → Sound s → (
 tree_kind s t k c sound =
     rw (c.at, updates, reads) (built_of c.tree.kind (all_at (λ (x : Tree). IsTrue (is_built x.kind)) s.trees t c.tree sound.runnable.trees c.at))
 
+-- an update tree is of its kind
 pub updates_kind : (s : ScriptData) (t k : ℕ) (c : SubAt s t k) → updates s t ≡ true → c.tree.kind ≡ trees.Update
 updates_kind s t k c up = is_update_of c.tree.kind (rw (c.at, updates) at up)
 
+-- and a read tree of its own
 pub reads_kind : (s : ScriptData) (t k : ℕ) (c : SubAt s t k) → reads s t ≡ true → c.tree.kind ≡ trees.Read
 reads_kind s t k c up = is_read_of c.tree.kind (rw (c.at, reads) at up)
 
@@ -109,6 +111,7 @@ sub_of_all nodes items kind i k zero (y ∷ subs) sub all at is =
     subst (λ (z : Sub). IsSub nodes items kind k z) eq (subst (λ (j : ℕ). IsSub nodes items kind j y) ik all.0)
 sub_of_all nodes items kind i k (suc n) (y ∷ subs) sub all at is = sub_of_all nodes items kind (i + 1) k n subs sub all.1 at (omega arith)
 
+-- a subtransaction is valid for its tree's kind
 pub is_sub : (s : ScriptData) (t k : ℕ) (c : SubAt s t k) → Sound s → IsSub s.nodes s.items c.tree.kind k c.sub
 is_sub s t k c sound =
     sub_of_all s.nodes s.items c.tree.kind 0 k k c.tree.subs c.sub (is_tree s t c.tree sound c.at).subs c.here (omega arith)
@@ -120,9 +123,11 @@ ops_fit s t k kind c sound is =
     rw (node_here s t k c, ops_here s t k c)
     (subst (λ (x : TreeKind). AllByRecursion (IsOp s.items x c.sub.node.0) c.sub.ops) is (is_sub s t k c sound).ops)
 
+-- the node of a subtransaction is one of the nodes
 pub node_below : (s : ScriptData) (t k : ℕ) (c : SubAt s t k) → Sound s → node_of s t k < s.nodes
 node_below s t k c sound = rw (node_here s t k c) (is_sub s t k c sound).node
 
+-- each tree has a root
 pub has_root : (s : ScriptData) (t : ℕ) → Sound s → t < length s.trees → SubAt s t 0
 has_root s t sound lt =
     let tree = get_some s.trees t lt in

@@ -35,6 +35,7 @@ other_tree t u k i ne = grind (arith, nat_tests)
 pub other_sub : (t u k i : ℕ) → i ≢ k → one_if ((u == t) && (i == k)) ≡ 0
 other_sub t u k i ne = grind (arith, nat_tests)
 
+-- another number
 pub not_here : (t u : ℕ) → u ≢ t → one_if (u == t) ≡ 0
 not_here t u ne = grind (arith, nat_tests)
 
@@ -214,6 +215,7 @@ tally_take_le f zero xs = omega arith
 tally_take_le f (suc n) [] = omega arith
 tally_take_le f (suc n) (x ∷ xs) = omega (arith, tally_take_le f n xs)
 
+-- rows that are submitted after others
 pub tally_take_more : {X : Type 0} (f : X → ℕ) (n k : ℕ) (xs : List X)
     → tally f (take (n + k) xs) ≡ tally f (take n xs) + tally f (take k (drop n xs))
 tally_take_more f n k xs =

@@ -1,5 +1,5 @@
 -- What the stage of a tree says where one of its letters is taken.
-use Rattle.std.proofs.Common.{◌≡◌, ℕ, zero, suc, ◌+◌, ◌<◌, ◌≤◌, true, List, [], ◌∷◌, length, refl, arith, Option, Some, None}
+use Rattle.std.proofs.Common.{◌≡◌, ℕ, zero, suc, ◌<◌, ◌≤◌, true, List, [], ◌∷◌, length, refl, arith, Option, Some, None}
 use Rattle.std.specs.Prelude.{slice_get}
 use Rattle.letter_types.specs.declared.entries.Entry.{Entry}
 use Rattle.tree_home.specs.Homes.{Gets, home_in, misses, is_missing}

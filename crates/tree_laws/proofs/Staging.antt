@@ -8,8 +8,7 @@ use Rattle.tv_base.specs.declared.numbers.TreeNo.{TreeNo}
 use Rattle.tv_base.specs.declared.numbers.SubNo.{SubNo}
 use Rattle.tv_base.specs.declared.numbers.Version.{Version}
 use Rattle.tree_home.specs.declared.homes.Home.{Home}
-use Rattle.tree_home.specs.declared.homes.Answered.{Answered as Answer}
-use Rattle.tree_home.specs.Homes.{Gets, IsAscending, home_in, new_home, begun, with_notice, noted, forgotten, missing_count, missing_in, misses, answer_in}
+use Rattle.tree_home.specs.Homes.{Gets, IsAscending, home_in, new_home, begun, with_notice, missing_count, misses}
 use Rattle.tree_home.proofs.Always.{begun-there, forgotten-begun, forgotten-gone, all-missing}
 use Rattle.tree_home.proofs.Gathered.{home_in-noted, missing_in-noted}
 use Rattle.tree_step.specs.Notices.{homes_noted, answer_noted, reply_letters}
@@ -37,6 +36,7 @@ pub record Apart (s : ScriptData) (past : List Entry) (e : Entry) (t : ℕ) : Ty
   pub told : (k : ℕ) → tells_done t k e.took.body ≡ 0
   pub notes : (k : ℕ) → tally (on (tells_done t k)) e.sent ≡ 0
 
+-- a tree with which an entry has nothing to do stays at its stage
 pub stays : (s : ScriptData) (past : List Entry) (e : Entry) (t : ℕ) → MayFollow s past e → Apart s past e t → TreeAt s past t
     → TreeAt s (e ∷ past) t
 stays s past e t m a (Unborn none home quiet notes) =
@@ -57,6 +57,7 @@ pub record Adds (s : ScriptData) (past : List Entry) (e : Entry) (t : ℕ) : Typ
   pub told : (k : ℕ) → tells_done t k e.took.body ≡ 0
   pub notes : (k : ℕ) → tally (on (tells_done t k)) e.sent ≡ tally (is_did t k) e.acts
 
+-- a tree that gathers gathers on
 pub adds : (s : ScriptData) (past : List Entry) (e : Entry) (t k : ℕ) → SubAt s t k → dids past t k ≡ 0 → 1 ≤ dids past t 0
     → MayFollow s past e → Adds s past e t → TreeAt s past t → TreeAt s (e ∷ past) t
 adds s past e t k c new root m a (Unborn none home quiet notes) = absurd (omega arith)
@@ -102,6 +103,7 @@ root_noted n k values lt (inr ne) =
     let none : one_if (0 == k) ≡ 0 = grind (arith, nat_tests) in
     noted_other (all_none n) 0 k values ne ∙ none_noted n k ∙ sym none
 
+-- its home is begun, or with no other subtransaction it is answered at once
 begins_by : (s : ScriptData) (past : List Entry) (e : Entry) (t : TreeNo) (v : Version) (values : Gets) (hs : List Home) → SubAt s t.0 0
     → ((k : ℕ) → SubAt s t.0 k → dids past t.0 k ≡ 0) → ((k : ℕ) → notices s past t.0 k ≡ 0) → answers past t.0 ≡ 0
     → MayFollow s past e → Begins s past e t v values hs → misses t (record { 0 = 0 }) (begun t (length (subs_at s t.0)) v hs) ≡ true
@@ -184,6 +186,7 @@ last_none : (s : ScriptData) (past : List Entry) (e : Entry) (t : TreeNo) (k : S
 last_none s past e t k values hs i n lt all (inl less) = all i (sub_there s t.0 i lt less)
 last_none s past e t k values hs i n lt all (inr le) = n.past_end i le
 
+-- a notice is taken down, or with the last one the tree is answered
 noted_by : (s : ScriptData) (past : List Entry) (e : Entry) (t : TreeNo) (k : SubNo) (values : Gets) (hs : List Home) (h : Home)
     → SubAt s t.0 k.0 → home_in t hs ≡ Some h → h.tree ≡ t → length h.notices ≡ length (subs_at s t.0) → dids past t.0 0 ≡ 1
     → answers past t.0 ≡ 0 → ((i : ℕ) → SubAt s t.0 i → dids past t.0 i ≡ notices s past t.0 i + is_noted (slice_get h.notices i))
@@ -204,8 +207,8 @@ noted_by s past e t k values hs h c home is long root quiet count most up m n mi
     let reply = reply_one (client_of s) t (answer_noted t k values hs) a answer (answers_tree t k values hs a miss here) in
     let places = length-set h.notices k.0 (Some values) ∙ long in
     let last = λ (i : ℕ) (d : SubAt s t.0 i). last_count s (e ∷ past) t.0 i (set h.notices k.0 (Some values)) over
-        (omega (arith, places, sub_below s t.0 i d))
-        (noted_count s past e t k values hs h i lt m n (count i d) (most i d) (cases_eq i k.0)) (omega (arith, n.did i, most i d)) in
+    (omega (arith, places, sub_below s t.0 i d))
+    (noted_count s past e t k values hs h i lt m n (count i d) (most i d) (cases_eq i k.0)) (omega (arith, n.did i, most i d)) in
     Answered (n.home ∙ ap (home_in t) after ∙ forgotten-gone t hs up) (omega (arith, quiet, n.answers, reply))
     (λ i. last_none s past e t k values hs i n (tree_below s t.0 k.0 c) (λ j d. (last j d).0) (cases_lt i (length (subs_at s t.0))))
     (λ i d. (last i d).1)

@@ -1,5 +1,5 @@
 -- What an actor makes of a letter that it may take, by its table.
-use Rattle.std.proofs.Common.{◌≡◌, ◌≢◌, ℕ, ◌<◌, ◌==◌, Bool, true, false, List, [], ◌∷◌, refl, ap, subst, ◌∙◌, arith, Option, Some, None}
+use Rattle.std.proofs.Common.{◌≡◌, ℕ, ◌<◌, ◌==◌, true, false, List, [], ◌∷◌, refl, ap, ◌∙◌, arith, Some, None}
 use Rattle.std.specs.Prelude.{nat_lt, length}
 use Rattle.std.proofs.lemmas.Bool.Decides.{nat_tests}
 use Rattle.tv_base.specs.declared.numbers.SubNo.{SubNo}
@@ -80,12 +80,14 @@ pub update_root_row : (s : ScriptData) (st : Node) (from : ℕ) (t : TreeNo) (it
     → node_row s (home_of s t.0) st from (Root t) ≡ root_done s (home_of s t.0) t.0 st.turns.update.0 items [] st
 update_root_row s st from t items up new held = let here = same_test (home_of s t.0) in rw up (rw here (rw new (rw held refl)))
 
+-- the root of a read tree
 pub read_root_row : (s : ScriptData) (st : Node) (from : ℕ) (t : TreeNo) (values : Gets) → updates s t.0 ≡ false → reads s t.0 ≡ true
     → home_in t st.homes ≡ None → gets_by st.turns.read (ops_of s t.0 0) st.items ≡ Some values
     → node_row s (home_of s t.0) st from (Root t) ≡ root_done s (home_of s t.0) t.0 st.turns.read.0 st.items values st
 read_root_row s st from t values other up new held =
     let here = same_test (home_of s t.0) in rw other (rw here (rw up (rw new (rw held refl))))
 
+-- another subtransaction of an update tree
 pub update_sub_row : (s : ScriptData) (st : Node) (from : ℕ) (t : TreeNo) (k : SubNo) (v : Version) (items : Table) → updates s t.0 ≡ true
     → from < s.nodes → touched_by v (ops_of s t.0 k.0) st.items ≡ Some items
     → node_row s (node_of s t.0 k.0) st from (SubLetter t k v)
@@ -95,6 +97,7 @@ update_sub_row s st from t k v items up lt held =
     let node = below_test from s.nodes lt in
     rw up (rw here (rw node (rw held refl)))
 
+-- another subtransaction of a read tree
 pub read_sub_row : (s : ScriptData) (st : Node) (from : ℕ) (t : TreeNo) (k : SubNo) (v : Version) (values : Gets) → updates s t.0 ≡ false
     → reads s t.0 ≡ true → from < s.nodes → gets_by v (ops_of s t.0 k.0) st.items ≡ Some values
     → node_row s (node_of s t.0 k.0) st from (SubLetter t k v) ≡ sub_done s from t.0 k.0 v.0 st.turns st.items values [] st
@@ -103,6 +106,7 @@ read_sub_row s st from t k v values other up lt held =
     let node = below_test from s.nodes lt in
     rw other (rw here (rw up (rw node (rw held refl))))
 
+-- a notice at its tree's home
 pub note_row : (s : ScriptData) (st : Node) (from : ℕ) (t : TreeNo) (k : SubNo) (v : Version) (values : Gets)
     → k.0 < length (subs_at s t.0) → from < s.nodes
     → node_row s (home_of s t.0) st from (Done t k v (Did values)) ≡ note_done s from t.0 k.0 v.0 values st

@@ -1,7 +1,6 @@
 -- An entry that does a subtransaction other than a root keeps what holds.
-use Rattle.std.proofs.Common.{◌≡◌, ◌≢◌, ◌⊎◌, inl, inr, ℕ, ◌+◌, ◌<◌, ◌≤◌, ◌==◌, ◌&&◌, true, false, List, [], ◌∷◌, length, ◌++◌, refl, sym, ap, subst, ◌∙◌, arith}
+use Rattle.std.proofs.Common.{◌≡◌, ◌≢◌, ◌⊎◌, inl, inr, ℕ, ◌<◌, ◌≤◌, ◌==◌, ◌&&◌, List, [], ◌∷◌, length, refl, sym, ap, subst, ◌∙◌, arith}
 use Rattle.std.proofs.lemmas.Bool.{cases_eq}
-use Rattle.std.proofs.lemmas.Bool.Decides.{nat_tests}
 use Rattle.tv_base.specs.declared.numbers.SubNo.{SubNo}
 use Rattle.tv_base.specs.declared.numbers.TreeNo.{TreeNo}
 use Rattle.tv_base.specs.declared.numbers.Version.{Version}
@@ -17,7 +16,7 @@ use Rattle.tree_step.specs.Children.{sub_letters, done_letter}
 use Rattle.tree_step.specs.Done.{sub_done}
 use Rattle.world_model.specs.Counts.{tally, one_if}
 use Rattle.world_model.specs.Runs.{node_in, MayFollow}
-use Rattle.tree_laws.specs.Dids.{asks, asked, is_did, dids, tells_done, replies_to}
+use Rattle.tree_laws.specs.Dids.{asks, asked, dids, tells_done, replies_to}
 use Rattle.tree_laws.proofs.Counts.{below_root, not_done, one_here, was_asked, parent_at}
 use Rattle.tree_laws.proofs.Doing.{sub_sends, sub_does}
 use Rattle.tree_laws.proofs.Fits.{SentFit}
@@ -108,6 +107,7 @@ sub_stage s past e t k v turns items values turned c later sound good m none roo
 sub_stage s past e t k v turns items values turned c later sound good m none root does is made u lt (inr ne) =
     stays s past e u m (sub_apart s past e t k v turns items values turned does is made u ne) (good.stages u lt)
 
+-- another subtransaction is done
 pub sub_good : (s : ScriptData) (past : List Entry) (e : Entry) (t : TreeNo) (k : SubNo) (v : Version) (turns : Turns) (items : Table)
     (values : Gets) (turned : List Act) → Sound s → Good s past → MayFollow s past e → e.took.body ≡ SubLetter t k v → SubAt s t.0 k.0
     → 0 < k.0 → e.actor.0 ≡ node_of s t.0 k.0 → SubWork s t.0 k.0 (node_in s past (node_of s t.0 k.0)) v turns items values turned

@@ -1,6 +1,5 @@
 -- What a subtransaction makes of its node's items can be made, and keeps to the bounds.
 use Rattle.std.proofs.Common.{◌≡◌, ℕ, true, List, refl, subst, arith, Option, Some, None}
-
 use Rattle.tv_base.specs.declared.numbers.Version.{Version}
 use Rattle.item_versions.specs.Table.{Table}
 use Rattle.tree_home.specs.Homes.{Gets}
@@ -35,6 +34,7 @@ table_there : (rows : List ItemRow) (p : ℕ) (bounds : ℕ → ℕ) (found : Op
 table_there rows p bounds None ok = absurd ok
 table_there rows p bounds (Some items) ok = (items, refl)
 
+-- so there are the items that it makes
 pub can_touch : (s : ScriptData) (past : List Entry) (t k : ℕ) (v : Version) → SubAt s t k → Sound s → Good s past
     → dids past t k ≡ 0 → updates s t ≡ true
     → (items : Table) × (touched_by v (ops_of s t k) (node_in s past (node_of s t k)).items ≡ Some items)
@@ -42,6 +42,7 @@ can_touch s past t k v c sound good none up =
     table_there s.items (node_of s t k) (bounds_with s past t k) (touched_by v (ops_of s t k) (node_in s past (node_of s t k)).items)
     (touched_fits s past t k v c sound good none up)
 
+-- gets of a read find their values
 pub can_get : (s : ScriptData) (past : List Entry) (t k : ℕ) (v : Version) → SubAt s t k → Sound s → Good s past → reads s t ≡ true
     → (values : Gets) × (gets_by v (ops_of s t k) (node_in s past (node_of s t k)).items ≡ Some values)
 can_get s past t k v c sound good up =
@@ -62,6 +63,7 @@ read_in_bounds s past t k items c sound good is =
     let p = node_of s t k in
     rw is (table_more s.items p (bound s past) (bounds_with s past t k) (node_in s past p).items (λ x r at. omega arith) (good.items p (node_below s t k c sound)))
 
+-- a root
 pub root_in_bounds : (s : ScriptData) (past : List Entry) (t : ℕ) (v : Version) (items : Table) (values : Gets) → SubAt s t 0 → Sound s
     → Good s past → dids past t 0 ≡ 0 → RootWork s t (node_in s past (home_of s t)) v items values
     → TableIn s.items (home_of s t) (bounds_with s past t 0) items
@@ -69,6 +71,7 @@ root_in_bounds s past t v items values c sound good none (RootUpdates up turn is
     touched_in_bounds s past t 0 v items c sound good none up is
 root_in_bounds s past t v items values c sound good none (RootReads up turn is kept) = read_in_bounds s past t 0 items c sound good kept
 
+-- another subtransaction
 pub sub_in_bounds : (s : ScriptData) (past : List Entry) (t k : ℕ) (v : Version) (turns : Turns) (items : Table) (values : Gets) (turned : List Act)
     → SubAt s t k → Sound s → Good s past → dids past t k ≡ 0
     → SubWork s t k (node_in s past (node_of s t k)) v turns items values turned

@@ -1,1 +1,3 @@
 pub mod Dids
+pub mod Ends
+pub mod Entries

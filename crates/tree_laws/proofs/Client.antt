@@ -1,0 +1,178 @@
+-- The client submits rows until a settle row has to wait, finishes once all is over, and finishes once.
+use Rattle.std.proofs.Common.{◌≡◌, ◌≢◌, ◌⊎◌, inl, inr, ℕ, zero, suc, ◌+◌, ◌≤◌, ◌==◌, ◌&&◌, ◌||◌, Bool, true, false, not, List, [], ◌∷◌, ◌++◌, length, take, drop, refl, sym, ap, subst, ◌∙◌, arith, append_assoc, append-nil, length-drop, Some}
+use Rattle.std.specs.Prelude.{if◌then◌else◌, slice_get}
+use Rattle.std.proofs.Math.Seq.{take-add}
+use Rattle.std.proofs.lemmas.Bool.Decides.{nat_tests}
+use Rattle.letter_types.specs.declared.acts.Act.{Act}
+use Rattle.letter_types.specs.declared.acts.Act.TheVariants.{Finished}
+use Rattle.letter_types.specs.declared.entries.Entry.{Entry}
+use Rattle.letter_types.specs.declared.entries.Outgoing.{Outgoing}
+use Rattle.tx_trees.specs.ScriptData.{ScriptData, client_of}
+use Rattle.tx_trees.specs.declared.parts.ScriptRow.{ScriptRow}
+use Rattle.tx_trees.specs.declared.parts.ScriptRow.TheVariants.{Tree as TreeRow, Advance as AdvanceRow, Settle as SettleRow}
+use Rattle.client_rows.specs.Client.{Client, have_ended, submitted, next_after, finishes, submit, with_answer, nudge}
+use Rattle.world_model.specs.Counts.{tally, one_if}
+use Rattle.world_model.specs.Runs.{client_in, MayFollow, StepRun}
+use Rattle.tree_laws.specs.Dids.{is_go, goes}
+use Rattle.tree_laws.specs.Ends.{is_finish}
+use Rattle.tree_laws.proofs.Goods.{next_of}
+use Rattle.tree_laws.proofs.Doing.{sub_acts}
+use Rattle.tree_laws.proofs.Flows.{flow, client_kept}
+use Rattle.tree_laws.proofs.Nexts.{Next, Begins, Hears, Rests, DoesRoot, DoesSub, Notes, MadeByClient}
+use Rattle.tree_laws.proofs.Scripts.{Sound, get_below}
+
+-- How far the client submits.
+
+-- of the rows from here on so many are submitted: all of them, or the next is a settle row that has to wait
+abbrev pub StopsAt : Client → List ScriptRow → List ScriptRow → ℕ → Type 0
+StopsAt c before rows n = (n ≡ length rows) ⊎ ((slice_get rows n ≡ Some SettleRow) × (have_ended c (before ++ take n rows) ≡ false))
+
+-- with one row more before
+stops_later : (c : Client) (before : List ScriptRow) (r : ScriptRow) (rows : List ScriptRow) (n : ℕ)
+    → StopsAt c (before ++ r ∷ []) rows n → StopsAt c before (r ∷ rows) (n + 1)
+stops_later c before r rows n (inl all) = inl (omega (arith, all))
+stops_later c before r rows n (inr (at, waits)) =
+    let more : suc n ≡ n + 1 = omega arith in
+    let joined : have_ended c (before ++ take (suc n) (r ∷ rows)) ≡ false =
+    ap (λ (xs : List ScriptRow). have_ended c xs) (sym (append_assoc before (r ∷ []) (take n rows))) ∙ waits in
+    inr (subst (λ (m : ℕ). (slice_get (r ∷ rows) m ≡ Some SettleRow) × (have_ended c (before ++ take m (r ∷ rows)) ≡ false)) more (at, joined))
+
+-- a settle row is passed if all before it has ended
+stops_at_settle : (c : Client) (before rows : List ScriptRow) (test : Bool) → have_ended c before ≡ test
+    → StopsAt c (before ++ SettleRow ∷ []) rows (submitted c (before ++ SettleRow ∷ []) rows)
+    → StopsAt c before (SettleRow ∷ rows) (if test then submitted c (before ++ SettleRow ∷ []) rows + 1 else 0)
+stops_at_settle c before rows true is rest = stops_later c before SettleRow rows (submitted c (before ++ SettleRow ∷ []) rows) rest
+stops_at_settle c before rows false is rest = inr (refl, ap (λ (xs : List ScriptRow). have_ended c xs) (append-nil before) ∙ is)
+
+-- what is submitted stops there
+pub stops : (c : Client) (before rows : List ScriptRow) → StopsAt c before rows (submitted c before rows)
+stops c before [] = inl refl
+stops c before (SettleRow ∷ rows) = stops_at_settle c before rows (have_ended c before) refl (stops c (before ++ SettleRow ∷ []) rows)
+stops c before (TreeRow t ∷ rows) =
+    stops_later c before (TreeRow t) rows (submitted c (before ++ TreeRow t ∷ []) rows) (stops c (before ++ TreeRow t ∷ []) rows)
+stops c before (AdvanceRow ∷ rows) =
+    stops_later c before AdvanceRow rows (submitted c (before ++ AdvanceRow ∷ []) rows) (stops c (before ++ AdvanceRow ∷ []) rows)
+
+-- the client has submitted all rows, or the next is a settle row that has to wait
+abbrev pub IsStopped : ScriptData → Client → Type 0
+IsStopped s c = StopsAt c [] s.rows c.next
+
+slice_get_drop : {X : Type 0} (i k : ℕ) (xs : List X) (x : X) → slice_get (drop i xs) k ≡ Some x → slice_get xs (i + k) ≡ Some x
+slice_get_drop zero k xs x at = let same : k ≡ 0 + k = omega arith in subst (λ (n : ℕ). slice_get xs n ≡ Some x) same at
+slice_get_drop (suc i) k [] x at = absurd (cc at)
+slice_get_drop (suc i) k (y ∷ xs) x at =
+    let more : suc (i + k) ≡ suc i + k = omega arith in
+    subst (λ (n : ℕ). slice_get (y ∷ xs) n ≡ Some x) more (slice_get_drop i k xs x at)
+
+stopped_by : (s : ScriptData) (c : Client) (n : ℕ) → c.next ≤ length s.rows
+    → StopsAt c (take c.next s.rows) (drop c.next s.rows) n → StopsAt c [] s.rows (c.next + n)
+stopped_by s c n le (inl all) = inl (omega (arith, all, length-drop c.next s.rows))
+stopped_by s c n le (inr (at, waits)) =
+    inr (slice_get_drop c.next n s.rows SettleRow at, ap (λ (xs : List ScriptRow). have_ended c xs) (take-add c.next n s.rows) ∙ waits)
+
+-- once it has submitted what it may, the client has stopped
+pub stopped : (s : ScriptData) (c : Client) (first : List Outgoing) → c.next ≤ length s.rows → IsStopped s (submit s c first).state
+stopped s c first le =
+    stopped_by s c (submitted c (take c.next s.rows) (drop c.next s.rows)) le (stops c (take c.next s.rows) (drop c.next s.rows))
+
+stopped_most : (s : ScriptData) (c : Client) → IsStopped s c → c.next ≤ length s.rows
+stopped_most s c (inl all) = omega (arith, all)
+stopped_most s c (inr (at, waits)) = omega (arith, get_below s.rows c.next SettleRow at)
+
+-- How the client finishes.
+all_over : (next n : ℕ) (ended finished : Bool) → next ≡ n → ended ≡ true → (finished || ((next == n) && (ended && not finished))) ≡ true
+all_over next n ended finished is over = grind (arith, nat_tests)
+
+-- once all is over, the client has finished
+pub finished_then : (s : ScriptData) (c : Client) (first : List Outgoing) → (submit s c first).state.next ≡ length s.rows
+    → have_ended c s.rows ≡ true → (submit s c first).state.finished ≡ true
+finished_then s c first all over = all_over (next_after s c) (length s.rows) (have_ended c s.rows) c.finished all over
+
+finishes_by : (finished test : Bool) (a b : Bool) → test ≡ (a && (b && not finished))
+    → tally is_finish (if test then Finished ∷ [] else []) + one_if finished ≡ one_if (finished || test)
+finishes_by true test true true is = rw is refl
+finishes_by true test true false is = rw is refl
+finishes_by true test false b is = rw is refl
+finishes_by false true a b is = refl
+finishes_by false false a b is = refl
+
+-- the client finishes only if it hasn't
+pub finishes_once : (s : ScriptData) (c : Client) (first : List Outgoing)
+    → tally is_finish (submit s c first).acts + one_if c.finished ≡ one_if (submit s c first).state.finished
+finishes_once s c first =
+    finishes_by c.finished (finishes s (next_after s c) c) (next_after s c == length s.rows) (have_ended c s.rows) refl
+
+-- The client in a run.
+
+-- how often the client has finished in a past
+abbrev pub finish_count : List Entry → ℕ
+finish_count [] = 0
+finish_count (e ∷ past) = tally is_finish e.acts + finish_count past
+
+-- once Go is taken the client has stopped, and has finished if all is over; and it finishes once
+pub record AtRest (s : ScriptData) (past : List Entry) : Type 0 where
+  pub most : (client_in s past).next ≤ length s.rows
+  pub stops : goes s past ≡ 0 → IsStopped s (client_in s past)
+  pub finishes : goes s past ≡ 0 → (client_in s past).next ≡ length s.rows → have_ended (client_in s past) s.rows ≡ true
+      → (client_in s past).finished ≡ true
+  pub once : finish_count past ≡ one_if (client_in s past).finished
+
+-- what the client submits, with what is answered given
+submits_rest : (s : ScriptData) (past : List Entry) (e : Entry) (c : Client) (first : List Outgoing) → AtRest s past
+    → c.next ≡ (client_in s past).next → c.finished ≡ (client_in s past).finished → MadeByClient s past e (submit s c first)
+    → AtRest s (e ∷ past)
+submits_rest s past e c first rest next finished made =
+    let le : c.next ≤ length s.rows = omega (arith, rest.most, next) in
+    let stop : IsStopped s (client_in s (e ∷ past)) = subst (λ (x : Client). IsStopped s x) (sym made.state) (stopped s c first le) in
+    let acts : tally is_finish e.acts ≡ tally is_finish (submit s c first).acts = ap (λ (xs : List Act). tally is_finish xs) made.acts in
+    let before : one_if c.finished ≡ one_if (client_in s past).finished = ap one_if finished in
+    let after : one_if (client_in s (e ∷ past)).finished ≡ one_if (submit s c first).state.finished = ap (λ (x : Client). one_if x.finished) made.state in
+    record {
+      most = stopped_most s (client_in s (e ∷ past)) stop;
+      stops = λ gone. stop;
+      finishes = λ gone all over.
+          let at_end : (submit s c first).state.next ≡ length s.rows = sym (ap (λ (x : Client). x.next) made.state) ∙ all in
+          let ended : have_ended c s.rows ≡ true = sym (ap (λ (x : Client). have_ended x s.rows) made.state) ∙ over in
+          ap (λ (x : Client). x.finished) made.state ∙ finished_then s c first at_end ended;
+      once = omega (arith, acts, before, after, finishes_once s c first, rest.once);
+    }
+
+-- an entry of another actor
+kept_rest : (s : ScriptData) (past : List Entry) (e : Entry) → MayFollow s past e → AtRest s past → e.actor.0 ≢ client_of s
+    → is_go e.took.body ≡ 0 → tally is_finish e.acts ≡ 0 → AtRest s (e ∷ past)
+kept_rest s past e m rest ne other none =
+    let kept = client_kept s past e ne in
+    let before : goes s (e ∷ past) ≡ 0 → goes s past ≡ 0 = λ gone. omega (arith, other, flow is_go s past e m) in
+    let same : one_if (client_in s (e ∷ past)).finished ≡ one_if (client_in s past).finished = ap (λ (x : Client). one_if x.finished) kept in
+    record {
+      most = subst (λ (x : Client). x.next ≤ length s.rows) (sym kept) rest.most;
+      stops = λ gone. subst (λ (x : Client). IsStopped s x) (sym kept) (rest.stops (before gone));
+      finishes = λ gone.
+          subst (λ (x : Client). x.next ≡ length s.rows → have_ended x s.rows ≡ true → x.finished ≡ true) (sym kept) (rest.finishes (before gone));
+      once = omega (arith, none, same, rest.once);
+    }
+
+-- any entry
+next_rest : (s : ScriptData) (past : List Entry) (e : Entry) → MayFollow s past e → AtRest s past → Next s past e → AtRest s (e ∷ past)
+next_rest s past e m rest (Begins is at made) = submits_rest s past e (client_in s past) [] rest refl refl made
+next_rest s past e m rest (Hears t v answer is at lt made) =
+    submits_rest s past e (with_answer t.0 (client_in s past)) (nudge s ∷ []) rest refl refl made
+next_rest s past e m rest (Rests is at sent acts) =
+    kept_rest s past e m rest (omega (arith, at)) (ap is_go is) (ap (λ (xs : List Act). tally is_finish xs) acts)
+next_rest s past e m rest (DoesRoot t v items values is sub at lt new work made) =
+    kept_rest s past e m rest (omega (arith, at, lt)) (ap is_go is) (ap (λ (xs : List Act). tally is_finish xs) made.acts)
+next_rest s past e m rest (DoesSub t k v turns items values turned is sub later from at lt work made) =
+    kept_rest s past e m rest (omega (arith, at, lt)) (ap is_go is)
+    (sub_acts is_finish s past e t k v turns items values turned work made (λ w. refl))
+next_rest s past e m rest (Notes t k v values is sub later from at lt misses made) =
+    kept_rest s past e m rest (omega (arith, at, lt)) (ap is_go is) (ap (λ (xs : List Act). tally is_finish xs) made.acts)
+
+-- in every run
+pub at_rest : (s : ScriptData) (past : List Entry) → Sound s → StepRun s past → AtRest s past
+at_rest s [] sound run = record {
+  most = omega arith;
+  stops = λ gone. absurd (omega (arith, gone));
+  finishes = λ gone all over. absurd (omega (arith, gone));
+  once = refl;
+}
+at_rest s (e ∷ past) sound run = next_rest s past e run.0 (at_rest s past sound run.1) (next_of s past e sound run)

@@ -1,0 +1,201 @@
+-- Where no letter is under way any more, every tree is done and answered, and the client has finished.
+use Rattle.std.proofs.Common.{◌≡◌, ◌⊎◌, inl, inr, ℕ, zero, suc, ◌+◌, ◌<◌, ◌≤◌, ◌==◌, ◌&&◌, Bool, true, false, List, [], ◌∷◌, length, take, reverse, refl, sym, ap, subst, ◌∙◌, arith, Option, Some, None}
+use Rattle.std.specs.Prelude.{get_or, slice_get, nat_le}
+use Rattle.std.specs.List.{AllByRecursion}
+use Rattle.std.proofs.lemmas.Bool.Decides.{nat_tests}
+use Rattle.std.proofs.Math.Seq.{take-length}
+use Rattle.letter_types.specs.declared.entries.Entry.{Entry}
+use Rattle.letter_types.specs.declared.entries.Letter.{Letter}
+use Rattle.board_model.specs.Histories.{acts_of}
+use Rattle.board_model.specs.Right.{HasFinished}
+use Rattle.client_rows.specs.Client.{Client, all_answered, have_ended}
+use Rattle.tree_home.specs.Homes.{Gets, missing_count}
+use Rattle.tx_trees.specs.Adding.{advances_in}
+use Rattle.tx_trees.specs.ScriptData.{ScriptData}
+use Rattle.tx_trees.specs.Valid.{IsValid, NamesInOrder}
+use Rattle.tx_trees.specs.declared.parts.ScriptRow.{ScriptRow}
+use Rattle.tx_trees.specs.declared.parts.ScriptRow.TheVariants.{Tree as TreeRow, Advance as AdvanceRow, Settle as SettleRow}
+use Rattle.world_model.specs.Counts.{tally, one_if}
+use Rattle.world_model.specs.Runs.{client_in, waiting, StepRun}
+use Rattle.world_model.specs.Tables.{Runnable, IsBuiltRow}
+use Rattle.tree_laws.specs.Dids.{is_go, dids, asks, tells_done, replies_to, answers, is_row_of, rooted}
+use Rattle.tree_laws.specs.Ends.{is_finish, finishes_in}
+use Rattle.tree_laws.proofs.Acts.{acts_more, finished_of}
+use Rattle.tree_laws.proofs.Fits.{names_end}
+use Rattle.tree_laws.proofs.Goods.{good_run}
+use Rattle.tree_laws.proofs.Client.{IsStopped, at_rest, finish_count}
+use Rattle.tree_laws.proofs.Counts.{zero_or, parent_at}
+use Rattle.tree_laws.proofs.Sent.{rooted_once, tally_take_le}
+use Rattle.tree_laws.proofs.Good.{Good, TreeAt, Unborn, Gathers, Answered, is_noted}
+use Rattle.tree_laws.proofs.Scripts.{Sound, SubAt, sub_there, is_sub}
+
+-- What is done where no letter is under way.
+
+-- nothing is counted among the letters under way
+pub none_left : (f : Letter → ℕ) (s : ScriptData) (past : List Entry) → waiting s past ≡ [] → tally f (waiting s past) ≡ 0
+none_left f s past empty = ap (λ (ls : List Letter). tally f ls) empty
+
+-- one more subtransaction of a tree whose root was done
+done_by : (s : ScriptData) (past : List Entry) (n t k : ℕ) (c : SubAt s t k) → Sound s → Good s past → waiting s past ≡ []
+    → 1 ≤ dids past t 0 → k < suc n → ((j : ℕ) → j < n → SubAt s t j → 1 ≤ dids past t j) → (k ≡ 0) ⊎ (0 < k) → 1 ≤ dids past t k
+done_by s past n t k c sound good empty root lt ih (inl is) = subst (λ (j : ℕ). 1 ≤ dids past t j) (sym is) root
+done_by s past n t k c sound good empty root lt ih (inr more) =
+    let up = (is_sub s t k c sound).parent more in
+    omega (arith, good.subs t k c more, none_left (λ (l : Letter). asks t k l.body) s past empty, ih c.sub.parent.0 (omega (arith, up)) (parent_at s t k c sound more))
+
+-- each subtransaction of a tree whose root was done
+done_below : (s : ScriptData) (past : List Entry) (n t k : ℕ) (c : SubAt s t k) → Sound s → Good s past → waiting s past ≡ []
+    → 1 ≤ dids past t 0 → k < n → 1 ≤ dids past t k
+done_below s past zero t k c sound good empty root lt = absurd (omega arith)
+done_below s past (suc n) t k c sound good empty root lt =
+    done_by s past n t k c sound good empty root lt (λ j less sub. done_below s past n t j sub sound good empty root less) (zero_or k)
+
+-- the place of a notice that is missing
+place_missing : (ns : List (Option Gets)) → 1 ≤ missing_count ns → (k : ℕ) × (k < length ns) × (slice_get ns k ≡ Some None)
+place_missing [] some = absurd (omega arith)
+place_missing (None ∷ ns) some = (0, omega arith, refl)
+place_missing (Some values ∷ ns) some = let (k, lt, at) = place_missing ns some in (suc k, omega (arith, lt), at)
+
+-- tree t is answered, and each of its subtransactions done, once
+pub record TreeDone (s : ScriptData) (past : List Entry) (t : ℕ) : Type 0 where
+  pub answered : answers past t ≡ 1
+  pub done : (k : ℕ) → SubAt s t k → dids past t k ≡ 1
+
+-- by how far the tree has come at its home
+tree_done_by : (s : ScriptData) (past : List Entry) (t : ℕ) → Sound s → Good s past → waiting s past ≡ [] → t < length s.trees
+    → 1 ≤ dids past t 0 → TreeAt s past t → TreeDone s past t
+tree_done_by s past t sound good empty lt root (Unborn none gone unanswered untold) = absurd (omega (arith, root, none))
+tree_done_by s past t sound good empty lt root (Gathers h one here tree same missing unanswered noted) =
+    let (k, kt, at) = place_missing h.notices missing in
+    let c : SubAt s t k = sub_there s t k lt (omega (arith, kt, same)) in
+    let unnoted : is_noted (slice_get h.notices k) ≡ 0 = ap is_noted at in
+    let done = done_below s past (k + 1) t k c sound good empty root (omega arith) in
+    absurd (omega (arith, noted k c, unnoted, done, none_left (λ (l : Letter). tells_done t k l.body) s past empty))
+tree_done_by s past t sound good empty lt root (Answered gone one untold done) = record { answered = one; done = done }
+
+-- a tree whose row is submitted is done
+pub tree_done : (s : ScriptData) (past : List Entry) (t : ℕ) → Sound s → Good s past → waiting s past ≡ [] → t < length s.trees
+    → 1 ≤ rooted t (take (client_in s past).next s.rows) → TreeDone s past t
+tree_done s past t sound good empty lt row =
+    let root : 1 ≤ dids past t 0 = omega (arith, row, good.roots t lt, none_left (λ (l : Letter). asks t 0 l.body) s past empty) in
+    tree_done_by s past t sound good empty lt root (good.stages t lt)
+
+-- The rows.
+-- the first row, by whether it names the tree
+rooted_here : (t u i n : ℕ) (rest : ℕ) (test : Bool) → (u == t) ≡ test → u ≡ i → i < n → (1 ≤ rest → t < n) → 1 ≤ one_if test + rest → t < n
+rooted_here t u i n rest true is at lt later some = grind (arith, nat_tests)
+rooted_here t u i n rest false is at lt later some = later (omega arith)
+
+-- a row names a tree of the script
+rooted_below : (t i n : ℕ) (rows : List ScriptRow) → NamesInOrder i n rows → 1 ≤ rooted t rows → t < n
+rooted_below t i n [] names some = absurd (omega arith)
+rooted_below t i n (TreeRow u ∷ rows) names some =
+    rooted_here t u.0 i n (rooted t rows) (u.0 == t) refl names.0 (omega (arith, names_end (i + 1) n rows names.1)) (rooted_below t (i + 1) n rows names.1) some
+rooted_below t i n (AdvanceRow ∷ rows) names some = rooted_below t i n rows names (omega (arith, some))
+rooted_below t i n (SettleRow ∷ rows) names some = rooted_below t i n rows names (omega (arith, some))
+
+-- Small lemmas on tests.
+one_is : (t : ℕ) → one_if (t == t) ≡ 1
+one_is t = grind (arith, nat_tests)
+
+both_true : (a b : Bool) → a ≡ true → b ≡ true → (a && b) ≡ true
+both_true a b p q = rw p q
+
+is_true_of : (b : Bool) → 1 ≤ one_if b → b ≡ true
+is_true_of true some = refl
+is_true_of false some = absurd (omega arith)
+
+none_is_most : (n m : ℕ) → n ≡ 0 → nat_le n m ≡ true
+none_is_most n m none = grind (arith, nat_tests)
+
+one_if_most : (b : Bool) → one_if b ≤ 1
+one_if_most true = omega arith
+one_if_most false = omega arith
+
+-- the trees of rows are answered where each of them is
+all_answered_of : (answered : List Bool) (rows : List ScriptRow) → ((t : ℕ) → 1 ≤ rooted t rows → get_or answered t false ≡ true)
+    → all_answered answered rows ≡ true
+all_answered_of answered [] each = refl
+all_answered_of answered (TreeRow t ∷ rows) each =
+    both_true (get_or answered t.0 false) (all_answered answered rows) (each t.0 (omega (arith, one_is t.0)))
+    (all_answered_of answered rows (λ u some. each u (omega (arith, some))))
+all_answered_of answered (AdvanceRow ∷ rows) each = all_answered_of answered rows (λ u some. each u (omega (arith, some)))
+all_answered_of answered (SettleRow ∷ rows) each = all_answered_of answered rows (λ u some. each u (omega (arith, some)))
+
+-- rows that are built have no advancement
+no_advances : (n : ℕ) (rows : List ScriptRow) → AllByRecursion IsBuiltRow rows → advances_in (take n rows) ≡ 0
+no_advances zero rows built = refl
+no_advances (suc n) [] built = refl
+no_advances (suc n) (TreeRow t ∷ rows) built = omega (arith, no_advances n rows built.1)
+no_advances (suc n) (AdvanceRow ∷ rows) built = absurd built.0
+no_advances (suc n) (SettleRow ∷ rows) built = omega (arith, no_advances n rows built.1)
+
+-- Where no letter is under way.
+-- a tree whose row is submitted is answered at the client
+answered_now : (s : ScriptData) (past : List Entry) (t : ℕ) → Sound s → Good s past → waiting s past ≡ []
+    → 1 ≤ rooted t (take (client_in s past).next s.rows) → get_or (client_in s past).answered t false ≡ true
+answered_now s past t sound good empty row =
+    let next = (client_in s past).next in
+    let lt : t < length s.trees = rooted_below t 0 (length s.trees) s.rows sound.valid.rows (omega (arith, row, tally_take_le (is_row_of t) next s.rows)) in
+    let one = (tree_done s past t sound good empty lt row).answered in
+    is_true_of (get_or (client_in s past).answered t false) (omega (arith, good.heard t lt, one, none_left (λ (l : Letter). replies_to t l.body) s past empty))
+
+-- all that was submitted has ended
+ended_now : (s : ScriptData) (past : List Entry) → Sound s → Good s past → waiting s past ≡ []
+    → have_ended (client_in s past) (take (client_in s past).next s.rows) ≡ true
+ended_now s past sound good empty =
+    let c = client_in s past in
+    both_true (all_answered c.answered (take c.next s.rows)) (nat_le (advances_in (take c.next s.rows)) c.ended)
+    (all_answered_of c.answered (take c.next s.rows) (λ t row. answered_now s past t sound good empty row))
+    (none_is_most (advances_in (take c.next s.rows)) c.ended (no_advances c.next s.rows sound.runnable.rows))
+
+-- the client doesn't wait at a settle row
+at_end : (s : ScriptData) (c : Client) → IsStopped s c → have_ended c (take c.next s.rows) ≡ true → c.next ≡ length s.rows
+at_end s c (inl all) over = all
+at_end s c (inr (at, waits)) over = let clash : true ≡ false = sym over ∙ waits in absurd (cc clash)
+
+-- where no letter is under way, all rows are submitted
+pub all_submitted : (s : ScriptData) (past : List Entry) → Sound s → StepRun s past → waiting s past ≡ []
+    → (client_in s past).next ≡ length s.rows
+all_submitted s past sound run empty =
+    at_end s (client_in s past) ((at_rest s past sound run).stops (none_left (λ (l : Letter). is_go l.body) s past empty))
+    (ended_now s past sound (good_run s past sound run) empty)
+
+all_rows : (s : ScriptData) (past : List Entry) → Sound s → StepRun s past → waiting s past ≡ []
+    → take (client_in s past).next s.rows ≡ s.rows
+all_rows s past sound run empty = ap (λ (n : ℕ). take n s.rows) (all_submitted s past sound run empty) ∙ take-length s.rows
+
+-- and each tree is done
+pub all_done : (s : ScriptData) (past : List Entry) (t : ℕ) → Sound s → StepRun s past → waiting s past ≡ [] → t < length s.trees
+    → TreeDone s past t
+all_done s past t sound run empty lt =
+    let once = rooted_once (length s.trees) t s.rows sound.valid.rows lt in
+    tree_done s past t sound (good_run s past sound run) empty lt (rw (all_rows s past sound run empty) (omega (arith, once)))
+
+-- and the client has finished
+client_finished : (s : ScriptData) (past : List Entry) → Sound s → StepRun s past → waiting s past ≡ [] → (client_in s past).finished ≡ true
+client_finished s past sound run empty =
+    let ended = ended_now s past sound (good_run s past sound run) empty in
+    (at_rest s past sound run).finishes (none_left (λ (l : Letter). is_go l.body) s past empty) (all_submitted s past sound run empty)
+    (subst (λ (xs : List ScriptRow). have_ended (client_in s past) xs ≡ true) (all_rows s past sound run empty) ended)
+
+-- a history counts as its past does
+finishes_of : (past : List Entry) → finishes_in (reverse past) ≡ finish_count past
+finishes_of [] = refl
+finishes_of (e ∷ past) = omega (arith, acts_more is_finish past e, finishes_of past)
+
+-- The laws.
+
+-- the client has finished in the end
+pub run_finishes : (s : ScriptData) (past : List Entry) → IsValid s → Runnable s → StepRun s past → waiting s past ≡ []
+    → HasFinished (reverse past)
+run_finishes s past valid runnable run empty =
+    let sound : Sound s = record { valid = valid; runnable = runnable } in
+    let one : one_if (client_in s past).finished ≡ 1 = ap one_if (client_finished s past sound run empty) in
+    finished_of (acts_of (reverse past)) (omega (arith, one, (at_rest s past sound run).once, finishes_of past))
+
+-- the client finishes at most once
+pub run_finishes_once : (s : ScriptData) (past : List Entry) → IsValid s → Runnable s → StepRun s past → finishes_in (reverse past) ≤ 1
+run_finishes_once s past valid runnable run =
+    let sound : Sound s = record { valid = valid; runnable = runnable } in
+    omega (arith, one_if_most (client_in s past).finished, (at_rest s past sound run).once, finishes_of past)

@@ -1,0 +1,125 @@
+-- Two small valid scripts, one of them with a read, have runs to the end.
+use Rattle.std.proofs.Common.{ℕ, zero, suc, ◌<◌, ◌≤◌, refl, arith}
+use Rattle.commute_ops.specs.declared.kinds.TheConstants.{MOST_AMOUNT}
+use Rattle.tx_trees.specs.Valid.{IsValid, load}
+use Rattle.world_model.specs.Runs.{StepRun, AtNode, AtCoordinator, AtClient}
+use Rattle.world_model.specs.Sample.{sample, small, with_read}
+use Rattle.world_model.specs.Tables.{Runnable}
+
+small_loads : (x : ℕ) → x < 2 → load x small ≤ MOST_AMOUNT
+small_loads zero lt = omega arith
+small_loads (suc zero) lt = omega arith
+small_loads (suc (suc x)) lt = absurd (omega arith)
+
+pub small_valid : IsValid small
+small_valid = record {
+  some_nodes = omega arith;
+  few_nodes = omega arith;
+  few_items = omega arith;
+  few_trees = omega arith;
+  items = (record { node = omega arith; bag = λ is. absurd (cc is) }, (record { node = omega arith; bag = λ is. absurd (cc is) }, tt));
+  trees = (
+    record {
+      root = omega arith;
+      few = omega arith;
+      subs = (
+        record { root = λ is. refl; parent = λ lt. absurd (omega arith); node = omega arith; few = omega arith; ops = ((refl, refl), tt) },
+        (record { root = λ is. refl; parent = λ lt. omega arith; node = omega arith; few = omega arith; ops = ((refl, refl), tt) }, tt),
+      );
+    },
+    tt,
+  );
+  loads = small_loads;
+  rows = (refl, refl);
+  begun = λ is. absurd (cc is);
+}
+
+pub small_runnable : Runnable small
+small_runnable = record { trees = (refl, tt); rows = (tt, tt) }
+
+-- the run of the small script
+pub small_run : StepRun small (sample small 6)
+small_run = (
+  record { stamp = refl; waits = refl; addressee = refl; moves = AtCoordinator refl (refl, refl) },
+  (
+    record { stamp = refl; waits = refl; addressee = refl; moves = AtClient refl (refl, refl) },
+    (
+      record { stamp = refl; waits = refl; addressee = refl; moves = AtNode (omega arith) (refl, refl) },
+      (
+        record { stamp = refl; waits = refl; addressee = refl; moves = AtNode (omega arith) (refl, refl) },
+        (
+          record { stamp = refl; waits = refl; addressee = refl; moves = AtNode (omega arith) (refl, refl) },
+          (record { stamp = refl; waits = refl; addressee = refl; moves = AtClient refl (refl, refl) }, tt),
+        ),
+      ),
+    ),
+  ),
+)
+
+read_loads : (x : ℕ) → x < 2 → load x with_read ≤ MOST_AMOUNT
+read_loads zero lt = omega arith
+read_loads (suc zero) lt = omega arith
+read_loads (suc (suc x)) lt = absurd (omega arith)
+
+pub read_valid : IsValid with_read
+read_valid = record {
+  some_nodes = omega arith;
+  few_nodes = omega arith;
+  few_items = omega arith;
+  few_trees = omega arith;
+  items = small_valid.items;
+  trees = (
+    small_valid.trees.0,
+    (
+      record {
+        root = omega arith;
+        few = omega arith;
+        subs = (
+          record { root = λ is. refl; parent = λ lt. absurd (omega arith); node = omega arith; few = omega arith; ops = ((refl, refl), tt) },
+          (record { root = λ is. refl; parent = λ lt. omega arith; node = omega arith; few = omega arith; ops = ((refl, refl), tt) }, tt),
+        );
+      },
+      tt,
+    ),
+  );
+  loads = read_loads;
+  rows = (refl, (refl, refl));
+  begun = λ is. absurd (cc is);
+}
+
+pub read_runnable : Runnable with_read
+read_runnable = record { trees = (refl, (refl, tt)); rows = (tt, (tt, (tt, tt))) }
+
+-- the run of the script with a read
+pub read_run : StepRun with_read (sample with_read 11)
+read_run = (
+  record { stamp = refl; waits = refl; addressee = refl; moves = AtCoordinator refl (refl, refl) },
+  (
+    record { stamp = refl; waits = refl; addressee = refl; moves = AtClient refl (refl, refl) },
+    (
+      record { stamp = refl; waits = refl; addressee = refl; moves = AtNode (omega arith) (refl, refl) },
+      (
+        record { stamp = refl; waits = refl; addressee = refl; moves = AtNode (omega arith) (refl, refl) },
+        (
+          record { stamp = refl; waits = refl; addressee = refl; moves = AtNode (omega arith) (refl, refl) },
+          (
+            record { stamp = refl; waits = refl; addressee = refl; moves = AtCoordinator refl (refl, refl) },
+            (
+              record { stamp = refl; waits = refl; addressee = refl; moves = AtClient refl (refl, refl) },
+              (
+                record { stamp = refl; waits = refl; addressee = refl; moves = AtNode (omega arith) (refl, refl) },
+                (
+                  record { stamp = refl; waits = refl; addressee = refl; moves = AtNode (omega arith) (refl, refl) },
+                  (
+                    record { stamp = refl; waits = refl; addressee = refl; moves = AtNode (omega arith) (refl, refl) },
+                    (record { stamp = refl; waits = refl; addressee = refl; moves = AtClient refl (refl, refl) }, tt),
+                  ),
+                ),
+              ),
+            ),
+          ),
+        ),
+      ),
+    ),
+  ),
+)

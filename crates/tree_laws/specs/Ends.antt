@@ -1,0 +1,17 @@
+-- How often the client finishes.
+use Rattle.std.specs.Prelude.{ℕ, List}
+use Rattle.letter_types.specs.declared.acts.Act.{Act}
+use Rattle.letter_types.specs.declared.acts.Act.TheVariants.{Born, Finished}
+use Rattle.letter_types.specs.declared.entries.Entry.{Entry}
+use Rattle.board_model.specs.Histories.{acts_of}
+use Rattle.world_model.specs.Counts.{tally}
+
+-- the act of finishing
+abbrev pub is_finish : Act → ℕ
+is_finish Finished = 1
+is_finish (Born t v) = 0
+is_finish _ = 0
+
+-- how often the client has finished in a history
+abbrev pub finishes_in : List Entry → ℕ
+finishes_in h = tally is_finish (acts_of h)
