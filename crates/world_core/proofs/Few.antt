@@ -9,6 +9,7 @@ use Rattle.letter_types.specs.declared.bodies.Body.TheVariants.{Root, Sub as Sub
 use Rattle.letter_types.specs.declared.entries.Letter.{Letter}
 use Rattle.letter_types.specs.Steps.{Out, still}
 use Rattle.node_versions.specs.declared.turns.Turns.{Turns}
+use Rattle.node_versions.specs.Turns.{raised}
 use Rattle.read_step.specs.Rows.{gets_by, read_root, read_row, read_sub}
 use Rattle.tree_home.specs.Homes.{Gets, begun, home_in}
 use Rattle.tree_home.specs.declared.homes.Answered.{Answered}
@@ -20,7 +21,7 @@ use Rattle.tree_step.proofs.Addressed.{few_children}
 use Rattle.tx_trees.specs.ScriptData.{ScriptData, client_of, subs_at, home_of, node_of, ops_of, reads, updates}
 use Rattle.tx_trees.specs.Valid.{IsValid}
 use Rattle.tx_trees.proofs.SubsOf.{few_subs}
-use Rattle.update_step.specs.Rows.{touched_by, update_root, update_row, update_sub}
+use Rattle.update_step.specs.Rows.{touched_by, turned_if, update_root, update_row, update_sub}
 use Rattle.world_model.specs.Tables.{node_row, note_done, values_of}
 use Rattle.world_core.specs.Actors.{ActorData, NodeData, CoordinatorData, ClientData, actor_row}
 use Rattle.world_core.proofs.Assumed.{few_sent_by_client}
@@ -60,7 +61,7 @@ update_root_few s p t st (Some items) valid = root_few s p t st.turns.update.0 i
 
 update_sub_few : (s : ScriptData) (q t k v : ℕ) (st : Node) (found : Option Table) → IsValid s → length (update_sub s q t k v st found).sent ≤ 65
 update_sub_few s q t k v st None valid = omega arith
-update_sub_few s q t k v st (Some items) valid = sub_few s q t k v _ items [] _ st valid
+update_sub_few s q t k v st (Some items) valid = sub_few s q t k v (raised (record { 0 = v }) st.turns) items [] (turned_if (nat_lt st.turns.update.0 v) v) st valid
 
 read_root_few : (s : ScriptData) (p t : ℕ) (st : Node) (found : Option Gets) → IsValid s → length (read_root s p t st found).sent ≤ 65
 read_root_few s p t st None valid = omega arith

@@ -1,12 +1,40 @@
 -- The world as a run begins.
-use Rattle.std.proofs.Common.{◌≡◌, ℕ, ◌+◌, ◌<◌, ◌⊎◌, inl, inr, List, [], ◌∷◌, ◌++◌, length, refl, sym, subst}
-use Rattle.std.specs.Prelude.{slice_get, Some}
+use Rattle.std.proofs.Common.{◌≡◌, ℕ, ◌+◌, ◌<◌, ◌==◌, ◌⊎◌, inl, inr, true, false, List, [], ◌∷◌, ◌++◌, length, refl, sym, ap, subst, arith}
+use Rattle.std.specs.Prelude.{nat_lt, slice_get, Some}
+use Rattle.std.proofs.lemmas.Bool.Decides.{nat_tests}
+use Rattle.client_rows.specs.Client.{start_client}
+use Rattle.client_rows.specs.Kept.{IsKeptOf, Kept, kept_of}
 use Rattle.letter_types.specs.declared.entries.Entry.{Entry}
 use Rattle.letter_types.specs.Letters.{go}
+use Rattle.pair_counters.specs.Rows.{counts_of}
+use Rattle.tree_step.specs.Node.{Node as NodeTable}
 use Rattle.tx_trees.specs.ScriptData.{ScriptData, client_of}
+use Rattle.world_model.specs.Tables.{start_node}
 use Rattle.world_model.proofs.Bridge.{slice_get_split}
 use Rattle.world_core.specs.declared.actor.ActorState.{ActorState}
-use Rattle.world_core.specs.Actors.{AreStatesOf, IsStateOf, IsWorldOf, WorldData}
+use Rattle.world_core.specs.declared.actor.ActorState.TheVariants.{Node, Coordinator, Client}
+use Rattle.world_core.specs.declared.actor.Coordinator.TheVariants.{Resting}
+use Rattle.world_core.specs.Actors.{NodeData, ClientData, AreStatesOf, IsStateOf, IsWorldOf, WorldData}
+use Rattle.world_core.specs.Nodes.{NodeParts, node_data}
+
+-- the actors as a run begins
+pub first_node : (s : ScriptData) (a : ℕ) (n : NodeParts) → a < s.nodes → node_data n ≡ start_node s a → (counts_of n.counters).nodes ≡ s.nodes
+    → IsStateOf s [] a (Node n)
+first_node s a n lt is nodes =
+    let here : nat_lt a s.nodes ≡ true = grind (arith, nat_tests) in
+    record { seen = rw here (ap (λ (d : NodeTable). NodeData d) is); script = nodes }
+
+pub first_coordinator : (s : ScriptData) (a : ℕ) → a ≡ s.nodes → IsStateOf s [] a (Coordinator Resting)
+first_coordinator s a is =
+    let above : nat_lt a s.nodes ≡ false = grind (arith, nat_tests) in
+    let here : (a == s.nodes) ≡ true = grind (arith, nat_tests) in
+    record { seen = rw (above, here) refl; script = tt }
+
+pub first_client : (s : ScriptData) (a : ℕ) (c : Kept) → s.nodes < a → c ≡ kept_of s (start_client s) → IsKeptOf s c → IsStateOf s [] a (Client c)
+first_client s a c lt is kept =
+    let above : nat_lt a s.nodes ≡ false = grind (arith, nat_tests) in
+    let other : (a == s.nodes) ≡ false = grind (arith, nat_tests) in
+    record { seen = rw (above, other) (ap (λ (k : Kept). ClientData k.client) is); script = kept }
 
 pub none_there : (s : ScriptData) (past : List Entry) → AreStatesOf s past []
 none_there s past a st at = absurd (cc at)

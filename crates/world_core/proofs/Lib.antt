@@ -1,6 +1,8 @@
 pub mod Items
 pub mod Sealed
 pub mod Bag
+pub mod Nodes
+pub mod Stepped
 pub mod Few
 pub mod First
 pub mod Assumed

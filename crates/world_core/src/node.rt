@@ -11,7 +11,7 @@ ghost use Rattle.tx_trees.specs.Valid.{IsItem};
 ghost use Rattle.world_model.specs.Tables.{items_at, node_row, start_node, values_of};
 ghost use Rattle.world_core.specs.Nodes.{is_for_home, node_data, notice_row, tree_row};
 
-use commute_ops::Value;
+use commute_ops::{Kind, Value};
 use item_versions::ItemTable;
 use letter_types::{Body, Letter, Notice, Step, Values};
 use node_versions::Turns;
@@ -143,9 +143,10 @@ fn hear_notice(
     let client = ActorNo(script.nodes() + 1);
     let from = NodeNo(letter.from.0);
     let values = values_of(notice);
-    take_notice(
+    let step = take_notice(
         alloc, counters, homes, client, from, tree, sub, version, values,
-    )
+    )?;
+    Ok(step)
 }
 
 /// What a node of these parts does with a letter.
