@@ -22,11 +22,13 @@ acts_more e past =
     ∙ ap (λ (acts : List Act). acts_of (reverse past) ++ acts) (append-nil e.acts)
 
 -- up to an earlier entry
-earlier : (e : Entry) (past : List Entry) (n : ℕ) → n ≤ length (reverse past) → take n (reverse past) ≡ take n (reverse (e ∷ past))
+earlier : (e : Entry) (past : List Entry) (n : ℕ) → n ≤ length (reverse past)
+    → take n (reverse past) ≡ take n (reverse (e ∷ past))
 earlier e past n le = rw (reverse_more e past) (sym (take-append-le n (reverse past) (e ∷ []) le))
 
 -- up to the last entry
-whole : (e : Entry) (past : List Entry) (n : ℕ) → length (reverse past) < n → reverse (e ∷ past) ≡ take n (reverse (e ∷ past))
+whole : (e : Entry) (past : List Entry) (n : ℕ) → length (reverse past) < n
+    → reverse (e ∷ past) ≡ take n (reverse (e ∷ past))
 whole e past n lt =
     let all : length (reverse past ++ e ∷ []) ≤ n = omega (arith, length-append (reverse past) (e ∷ [])) in
     rw (reverse_more e past) (sym (take_all n (reverse past ++ e ∷ []) all))
@@ -57,11 +59,14 @@ fewer_of e past zero m is = absurd (omega arith)
 fewer_of e past (suc k) m is = let eq : k ≡ m = omega arith in rw eq refl
 
 -- the first entries of a history are the history of a shorter past
-pub first_of : (past : List Entry) (n : ℕ) → n ≤ length past → take n (reverse past) ≡ reverse (drop (length past - n) past)
+pub first_of : (past : List Entry) (n : ℕ) → n ≤ length past
+    → take n (reverse past) ≡ reverse (drop (length past - n) past)
 first_of [] n le = take_all n [] (omega arith) ∙ all_of [] (0 - n) (omega arith)
 first_of (e ∷ past) n le =
     elim (cases_lt (length past) n) [
-      | inl more ↦ sym (whole e past n (omega (arith, length-reverse past))) ∙ all_of (e ∷ past) (length (e ∷ past) - n) (omega arith)
+      | inl more ↦
+          sym (whole e past n (omega (arith, length-reverse past)))
+          ∙ all_of (e ∷ past) (length (e ∷ past) - n) (omega arith)
       | inr less ↦
           sym (earlier e past n (omega (arith, length-reverse past))) ∙ first_of past n less
           ∙ fewer_of e past (length (e ∷ past) - n) (length past - n) (omega arith)

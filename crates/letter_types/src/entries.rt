@@ -46,6 +46,19 @@ pub struct Step {
     pub kept: StepOut,
 }
 
+impl StepOut {
+    /// Nothing is sent, and nothing is done.
+    fn still(alloc: Global) -> StepOut
+        ensures sent { result.sent ≡ [] }
+        ensures acts { result.acts ≡ [] }
+    {
+        StepOut {
+            sent: Letters::new(alloc),
+            acts: Acts::new(alloc),
+        }
+    }
+}
+
 impl Step {
     /// A step that sends nothing and does nothing.
     pub fn still(alloc: Global) -> Step
@@ -54,14 +67,8 @@ impl Step {
         ensures kept { result.kept ≡ result.given }
     {
         Step {
-            given: StepOut {
-                sent: Letters::new(alloc),
-                acts: Acts::new(alloc),
-            },
-            kept: StepOut {
-                sent: Letters::new(alloc),
-                acts: Acts::new(alloc),
-            },
+            given: StepOut::still(alloc),
+            kept: StepOut::still(alloc),
         }
     }
 }

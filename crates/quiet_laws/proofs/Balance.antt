@@ -41,7 +41,8 @@ few_subs s t k sound sub = rw (subs_here s t k sub) (is_tree s t sub.tree sound 
 root_row : (s : ScriptData) (h t v w from : ℕ) (body : Body) (items : Table) (values : Gets) (st : Node)
     (answer : Option Answered)
     → length (subs_at s t) ≤ 64 → version_is v body ≡ false
-    → answer ≡ answer_noted (record { 0 = t }) (record { 0 = 0 }) values (begun (record { 0 = t }) (length (subs_at s t)) (record { 0 = w }) st.homes)
+    → answer
+    ≡ answer_noted (record { 0 = t }) (record { 0 = 0 }) values (begun (record { 0 = t }) (length (subs_at s t)) (record { 0 = w }) st.homes)
     → RowCounts h v from body st (root_done s h t w items values st)
 root_row s h t v w from body items values st answer few none is = record {
   own = w == v;
@@ -133,14 +134,16 @@ counts_by s past e v sound to (DoesSub t k w turns items values turned is sub la
     let row = sub_done s e.took.from.0 t.0 k.0 w.0 turns items values turned st in
     let few = few_subs s t.0 k.0 sound sub in
     by_node s past e h v row made at to
-    (row_for h v e.took.from.0 e.took.body (SubLetter t k w) st row is (sub_row s h v e.took.from.0 t k w turns items values turned st few))
+    (row_for h v e.took.from.0 e.took.body (SubLetter t k w) st row is
+    (sub_row s h v e.took.from.0 t k w turns items values turned st few))
 counts_by s past e v sound to (Notes t k w values is sub later from at lt misses made) =
     let h = home_of s t.0 in
     let st = node_in s past h in
     let row = note_done s e.took.from.0 t.0 k.0 w.0 values st in
     let answer = answer_noted t k values st.homes in
     by_node s past e h v row made at to
-    (row_for h v e.took.from.0 e.took.body (Done t k w (Did values)) st row is (note_row s h v e.took.from.0 t k w values st answer refl))
+    (row_for h v e.took.from.0 e.took.body (Done t k w (Did values)) st row is
+    (note_row s h v e.took.from.0 t k w values st answer refl))
 
 -- each entry of a run
 counts_of : (s : ScriptData) (past : List Entry) (e : Entry) (v : ℕ) → Sound s → StepRun s (e ∷ past)
@@ -183,7 +186,8 @@ balanced s past valid runnable run =
 -- Counters are small.
 -- each entry adds at most 65
 small_at : (s : ScriptData) (past : List Entry) (p v q : ℕ) → Sound s → StepRun s past → p < s.nodes
-    → ((node_in s past p).counts.asked v q < 65 * length past + 1) × ((node_in s past p).counts.done v q < 65 * length past + 1)
+    → ((node_in s past p).counts.asked v q < 65 * length past + 1)
+    × ((node_in s past p).counts.done v q < 65 * length past + 1)
 small_at s [] p v q sound run lt = (omega arith, omega arith)
 small_at s (e ∷ past) p v q sound run lt =
     let counts = counts_of s past e v sound run in

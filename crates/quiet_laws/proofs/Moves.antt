@@ -25,9 +25,11 @@ sent_on a v p q o = one_if (version_is v o.body && ((a == p) && (o.to.0 == q)))
 pub record Counts (s : ScriptData) (past : List Entry) (e : Entry) (v : ℕ) : Type 0 where
   pub self : ℕ → ℕ → ℕ
   pub asked : (p q : ℕ) → p < s.nodes
-      → (node_in s (e ∷ past) p).counts.asked v q ≡ (node_in s past p).counts.asked v q + self p q + tally (sent_on e.actor.0 v p q) e.sent
+      → (node_in s (e ∷ past) p).counts.asked v q
+      ≡ (node_in s past p).counts.asked v q + self p q + tally (sent_on e.actor.0 v p q) e.sent
   pub done : (p q : ℕ) → q < s.nodes
-      → (node_in s (e ∷ past) q).counts.done v p ≡ (node_in s past q).counts.done v p + self p q + goes_from v p q e.took
+      → (node_in s (e ∷ past) q).counts.done v p
+      ≡ (node_in s past q).counts.done v p + self p q + goes_from v p q e.took
   pub little : (p q : ℕ) → self p q ≤ 1
   pub few : (p q : ℕ) → p < s.nodes → self p q + tally (sent_on e.actor.0 v p q) e.sent ≤ 65
 
@@ -78,7 +80,8 @@ pub record RowCounts (h v from : ℕ) (body : Body) (st : Node) (row : Out Node)
   pub asked : (q : ℕ)
       → row.state.counts.asked v q ≡ st.counts.asked v q + one_if (own && (h == q)) + tally (counted v q) row.sent
   pub done : (p : ℕ)
-      → row.state.counts.done v p ≡ st.counts.done v p + one_if (own && (h == p)) + one_if (version_is v body && (from == p))
+      → row.state.counts.done v p
+      ≡ st.counts.done v p + one_if (own && (h == p)) + one_if (version_is v body && (from == p))
   pub few : (q : ℕ) → one_if own + tally (counted v q) row.sent ≤ 65
 
 -- what a node counts with itself, seen from each end

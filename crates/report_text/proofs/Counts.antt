@@ -1,20 +1,11 @@
--- How many advancements and subtransactions a script has.
-use Rattle.std.proofs.Common.{◌≡◌, ℕ, ◌*◌, ◌^◌, ◌<◌, ◌≤◌, List, [], ◌∷◌, length, refl, arith}
+-- How many subtransactions a script has.
+use Rattle.std.proofs.Common.{ℕ, ◌*◌, ◌^◌, ◌<◌, ◌≤◌, List, [], ◌∷◌, length, arith}
 use Rattle.std.specs.List.{AllByRecursion}
-use Rattle.tx_trees.specs.Adding.{all_subs, advances_in as asked_in}
+use Rattle.tx_trees.specs.Adding.{all_subs}
 use Rattle.tx_trees.specs.ScriptData.{ScriptData}
 use Rattle.tx_trees.specs.Valid.{IsTree, IsValid}
 use Rattle.tx_trees.specs.declared.parts.ItemRow.{ItemRow}
-use Rattle.tx_trees.specs.declared.parts.ScriptRow.{ScriptRow}
-use Rattle.tx_trees.specs.declared.parts.ScriptRow.TheVariants as rows
 use Rattle.tx_trees.specs.declared.parts.Tree.{Tree}
-use Rattle.report_text.specs.Report.{advances_in}
-
-pub same_advances : (rs : List ScriptRow) → asked_in rs ≡ advances_in rs
-same_advances [] = refl
-same_advances (rows.Tree t ∷ rs) = let rest = same_advances rs in omega (arith, rest)
-same_advances (rows.Advance ∷ rs) = let rest = same_advances rs in omega (arith, rest)
-same_advances (rows.Settle ∷ rs) = let rest = same_advances rs in omega (arith, rest)
 
 few_subs : (nodes : ℕ) (items : List ItemRow) (ts : List Tree) → AllByRecursion (IsTree nodes items) ts → all_subs ts ≤ 64 * length ts
 few_subs nodes items [] all = omega arith

@@ -1,3 +1,4 @@
 pub mod Counts
 pub mod ItemLines
+pub mod Kept
 pub mod TreeLines

@@ -1,18 +1,21 @@
 -- The text of the report: a function of the script and the history.
-use Rattle.std.specs.Prelude.{if◌then◌else◌, ℕ, zero, suc, ◌+◌, ℤ, List, [], ◌∷◌, ◌++◌, codes, decimal, Option, Some}
+use Rattle.std.specs.Prelude.{if◌then◌else◌, ℕ, zero, suc, ◌+◌, ℤ, List, [], ◌∷◌, ◌++◌, codes, decimal, Option, Some, None, slice_get}
 use Rattle.std.specs.Fmt.{signed_decimal}
+use Rattle.tv_base.specs.declared.numbers.ItemNo.{ItemNo}
 use Rattle.tv_base.specs.declared.numbers.Version.{Version}
 use Rattle.commute_ops.specs.declared.value.Value.{Value}
 use Rattle.commute_ops.specs.declared.value.Value.TheVariants.{Sum, Top, Bag}
 use Rattle.letter_types.specs.declared.entries.Entry.{Entry}
+use Rattle.tx_trees.specs.Adding.{advances_in}
 use Rattle.tx_trees.specs.ScriptData.{ScriptData}
 use Rattle.tx_trees.specs.declared.parts.ItemRow.{ItemRow}
+use Rattle.tx_trees.specs.declared.parts.Sub.{Sub}
+use Rattle.tx_trees.specs.declared.parts.SubOp.{SubOp}
 use Rattle.tx_trees.specs.declared.parts.Tree.{Tree}
 use Rattle.tx_trees.specs.declared.parts.TreeKind.{TreeKind}
-use Rattle.tx_trees.specs.declared.parts.TreeKind.TheVariants.{Update}
-use Rattle.tx_trees.specs.declared.parts.ScriptRow.{ScriptRow}
-use Rattle.tx_trees.specs.declared.parts.ScriptRow.TheVariants.{Advance, Settle}
+use Rattle.tx_trees.specs.declared.parts.TreeKind.TheVariants.{Update, Read}
 use Rattle.board_model.specs.Histories.{version_of}
+use Rattle.board_model.specs.Right.{shown}
 use Rattle.board_model.specs.Worth.{worth, is_written}
 
 -- numbers in order, each behind a comma
@@ -30,28 +33,54 @@ value_text (Sum s) = signed_decimal s.0
 value_text (Top t) = signed_decimal t.0
 value_text (Bag ns) = bag_text ns
 
--- how many advancements the rows ask for
-abbrev pub advances_in : List ScriptRow → ℕ
-advances_in [] = 0
-advances_in (Advance ∷ rs) = advances_in rs + 1
-advances_in (Settle ∷ rs) = advances_in rs
-advances_in (_ ∷ rs) = advances_in rs
-
+-- how many advancements a script asks for
 abbrev pub advances : ScriptData → ℕ
 advances s = advances_in s.rows
 
-abbrev pub version_line : List ℕ → List ℕ → ℕ → List ℕ
-version_line word name v = word ++ (name ++ (codes " version " ++ (decimal v ++ codes "\n")))
+-- the name of item x, which is empty where it isn't there
+abbrev pub item_name : List ItemRow → ℕ → List ℕ
+item_name rows x = elim (slice_get rows x) [ Some row ↦ row.name | None ↦ [] ]
 
--- the line of an update tree that is born
-abbrev pub tree_line : TreeKind → List ℕ → Option Version → List ℕ
-tree_line Update name (Some v) = version_line (codes "tree ") name v.0
-tree_line _ name _ = []
+-- a value behind the name of its item
+abbrev pub get_text : List ℕ → Value → List ℕ
+get_text name w = codes " " ++ (name ++ (codes "=" ++ value_text w))
+
+-- the values of these items, in order
+abbrev pub values_text : List ItemRow → List (ItemNo × Value) → List ℕ
+values_text rows [] = []
+values_text rows (got ∷ more) = get_text (item_name rows got.0.0) got.1 ++ values_text rows more
+
+-- the operations of subtransactions by number, and then in order; those of a read tree are gets alone
+abbrev pub gets_of : List Sub → List SubOp
+gets_of [] = []
+gets_of (k ∷ ks) = k.ops ++ gets_of ks
+
+-- a word, a name and its version
+abbrev pub version_text : List ℕ → List ℕ → ℕ → List ℕ
+version_text word name v = word ++ (name ++ (codes " version " ++ decimal v))
+
+-- the line of an update tree of version v
+abbrev pub update_line : List ℕ → ℕ → List ℕ
+update_line name v = version_text (codes "tree ") name v ++ codes "\n"
+
+-- the line of a read tree of version v with the text of its values
+abbrev pub read_line : List ℕ → ℕ → List ℕ → List ℕ
+read_line name v values = version_text (codes "read ") name v ++ (values ++ codes "\n")
+
+-- what a read tree's gets are worth at version v in the whole history
+abbrev pub gets_text : ScriptData → List Entry → ℕ → List Sub → List ℕ
+gets_text s h v ks = values_text s.items (shown s h v (gets_of ks))
+
+-- the line of an update or read tree that is born; no other tree has one
+abbrev pub tree_line : ScriptData → List Entry → Tree → TreeKind → Option Version → List ℕ
+tree_line s h tree Update (Some v) = update_line tree.name v.0
+tree_line s h tree Read (Some v) = read_line tree.name v.0 (gets_text s h v.0 tree.subs)
+tree_line s h tree _ _ = []
 
 -- where the list begins with tree t
-abbrev pub trees_text : List Entry → ℕ → List Tree → List ℕ
-trees_text h t [] = []
-trees_text h t (tree ∷ ts) = tree_line tree.kind tree.name (version_of h t) ++ trees_text h (t + 1) ts
+abbrev pub trees_text : ScriptData → List Entry → ℕ → List Tree → List ℕ
+trees_text s h t [] = []
+trees_text s h t (tree ∷ ts) = tree_line s h tree tree.kind (version_of h t) ++ trees_text s h (t + 1) ts
 
 abbrev pub node_line : ℕ → ℕ → List ℕ
 node_line a p = codes "node " ++ (decimal p ++ (codes " update " ++ (decimal (a + 1) ++ (codes " read " ++ (decimal a ++ codes "\n")))))
@@ -80,4 +109,4 @@ items_text s h a x (row ∷ rows) = item_line s h a x row ++ items_text s h a (x
 
 -- trees in the script's order, then nodes by number, then items in the script's order
 abbrev pub report_of : ScriptData → List Entry → List ℕ
-report_of s h = trees_text h 0 s.trees ++ (nodes_text (advances s) s.nodes ++ items_text s h (advances s) 0 s.items)
+report_of s h = trees_text s h 0 s.trees ++ (nodes_text (advances s) s.nodes ++ items_text s h (advances s) 0 s.items)

@@ -5,36 +5,34 @@ ghost use Rattle.report_text.specs.Lines.{row_line, rows_lines, two_balances};
 ghost use Rattle.report_text.specs.Report.{items_text};
 
 use crate::lines::Lines;
+use crate::run::Run;
 use crate::values::push_balance;
-use board_model::{Standings, balances_at, written_at};
+use board_model::{balances_at, written_at};
 use commute_ops::Value;
-use letter_types::History;
 use std::alloc::Global;
 use tv_base::{NoMemory, Version};
-use tx_trees::{ItemRow, Script};
+use tx_trees::ItemRow;
 
 // The lines of the script's items after so many advancements.
 #[tactic(auto, using(crate::proofs::ItemLines::of_items))]
 pub(crate) fn push_items(
     alloc: Global,
     text: &mut Lines,
-    script: &Script,
-    history: &History,
-    standings: &Standings,
+    run: Run,
     advances: u32,
 ) -> Result<(), NoMemory>
-    requires { standings.now ≡ standings_of script.now history.now }
-    ensures { OnOk result (text.new ≡ text.old ++ items_text script.now history.now advances 0 script.now.items) }
+    requires { run.standings.now ≡ standings_of run.script.now run.history.now }
+    ensures { OnOk result (text.new ≡ text.old ++ items_text run.entry.script.now run.entry.history.now advances 0 run.entry.script.now.items) }
 {
     let version = Version(advances as u64);
     let next = Version(version.0 + 1);
-    let shown = balances_at(alloc, script, history, standings, version)?;
-    let later = balances_at(alloc, script, history, standings, next)?;
-    let written = written_at(alloc, script, history, standings, next)?;
+    let shown = balances_at(alloc, run.script, run.history, run.standings, version)?;
+    let later = balances_at(alloc, run.script, run.history, run.standings, next)?;
+    let written = written_at(alloc, run.script, run.history, run.standings, next)?;
     push_rows(
         text,
         advances,
-        script.items(),
+        run.script.items(),
         shown.items(),
         later.items(),
         written.items(),

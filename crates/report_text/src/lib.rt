@@ -4,6 +4,8 @@
 mod check_text;
 mod items;
 mod lines;
+mod reads;
+mod run;
 mod run_report;
 mod trees;
 mod values;

@@ -1,12 +1,13 @@
 // Lines that are written behind one another.
 ghost use Rattle.std.specs.Prelude.{◌≡◌, ◌++◌, [], OnOk, codes, decimal};
 ghost use Rattle.std.specs.Fmt.{signed_decimal};
+ghost use Rattle.report_text.specs.Report.{version_text};
 
 use commute_ops::Amount;
 use itoa::Buffer;
 use std::alloc::Global;
 use std::marker::Model;
-use tv_base::NoMemory;
+use tv_base::{Name, NoMemory, Version};
 
 /// Lines of text, seen by contracts as the list of their bytes. The bytes are ASCII where the script's names are.
 #[derive(Drop)]
@@ -59,5 +60,20 @@ impl Lines {
     {
         let mut buffer = Buffer::new();
         self.push_bytes(buffer.format(amount).as_bytes())
+    }
+
+    // A word, a name and its version.
+    pub(crate) fn push_version(
+        &mut self,
+        word: &[u8],
+        name: &Name,
+        version: Version,
+    ) -> Result<(), NoMemory>
+        ensures { OnOk result (self.new ≡ self.old ++ version_text word.now name.now version.0) }
+    {
+        self.push_bytes(word)?;
+        self.push_bytes(name.bytes())?;
+        self.push_bytes(b" version ")?;
+        self.push_number(version.0)
     }
 }

@@ -1,5 +1,6 @@
-ghost use Rattle.std.specs.Prelude.{◌≤◌, unsigned_abs};
+ghost use Rattle.std.specs.Prelude.{◌≡◌, ◌≤◌, unsigned_abs};
 ghost use Rattle.commute_ops.specs.declared.kinds.TheConstants.{MOST_AMOUNT};
+ghost use Rattle.tx_trees.specs.Valid.{magnitude};
 
 use super::*;
 use crate::values::push_balance;
@@ -12,8 +13,15 @@ use tx_trees::{Deed, ItemRow, Refusal, Script, TreeKind, Why};
 
 const BAD_CALL: Refusal = Refusal::Why(Why::NotBuilt);
 
-fn add_item(script: &mut Script, name: &[u8], node: u8, initial: Amount) -> Result<(), Refusal>
-    requires { unsigned_abs initial ≤ MOST_AMOUNT }
+fn add_item(
+    script: &mut Script,
+    name: &[u8],
+    node: u8,
+    kind: Kind,
+    initial: Amount,
+) -> Result<(), Refusal>
+    requires small { unsigned_abs initial ≤ MOST_AMOUNT }
+    requires bag { kind ≡ Kind.Bag → unsigned_abs initial ≡ 0 }
 {
     let Some(name) = Name::new(name) else {
         return Err(BAD_CALL);
@@ -21,7 +29,6 @@ fn add_item(script: &mut Script, name: &[u8], node: u8, initial: Amount) -> Resu
     if node >= script.nodes() {
         return Err(BAD_CALL);
     }
-    let kind = Kind::Sum;
     let row = ItemRow {
         name,
         node: NodeNo(node),
@@ -32,14 +39,14 @@ fn add_item(script: &mut Script, name: &[u8], node: u8, initial: Amount) -> Resu
     Ok(())
 }
 
-fn add_tree(script: &mut Script, name: &[u8], node: u8) -> Result<(), Refusal> {
+fn add_tree(script: &mut Script, kind: TreeKind, name: &[u8], node: u8) -> Result<(), Refusal> {
     let Some(name) = Name::new(name) else {
         return Err(BAD_CALL);
     };
     if node >= script.nodes() {
         return Err(BAD_CALL);
     }
-    script.add_tree(name, TreeKind::Update, NodeNo(node))?;
+    script.add_tree(name, kind, NodeNo(node))?;
     Ok(())
 }
 
@@ -51,24 +58,82 @@ fn add_child(script: &mut Script, node: u8) -> Result<(), Refusal> {
     Ok(())
 }
 
-fn add_amount(script: &mut Script, name: &[u8], amount: Amount) -> Result<(), Refusal>
-    requires { unsigned_abs amount ≤ MOST_AMOUNT }
+fn add_op(script: &mut Script, name: &[u8], deed: Deed) -> Result<(), Refusal>
+    requires { magnitude deed ≤ MOST_AMOUNT }
 {
     let Some(name) = Name::new(name) else {
         return Err(BAD_CALL);
     };
-    script.add_op(&name, Deed::Apply(Op::Add(amount)))
+    script.add_op(&name, deed)
+}
+
+fn apply(script: &mut Script, name: &[u8], op: Op) -> Result<(), Refusal>
+    requires { magnitude (Deed.Apply op) ≤ MOST_AMOUNT }
+{
+    add_op(script, name, Deed::Apply(op))
+}
+
+fn get(script: &mut Script, name: &[u8]) -> Result<(), Refusal> {
+    add_op(script, name, Deed::Get)
 }
 
 /// Two items, 10 at node 0 and 0 at node 1, and a tree that adds 5 and 7 to them.
 fn one_tree(alloc: Global) -> Result<Script, Refusal> {
     let mut script = Script::new(alloc, 2);
-    add_item(&mut script, b"a", 0, 10)?;
-    add_item(&mut script, b"b", 1, 0)?;
-    add_tree(&mut script, b"t", 0)?;
-    add_amount(&mut script, b"a", 5)?;
+    add_item(&mut script, b"a", 0, Kind::Sum, 10)?;
+    add_item(&mut script, b"b", 1, Kind::Sum, 0)?;
+    add_tree(&mut script, TreeKind::Update, b"t", 0)?;
+    apply(&mut script, b"a", Op::Add(5))?;
     add_child(&mut script, 1)?;
-    add_amount(&mut script, b"b", 7)?;
+    apply(&mut script, b"b", Op::Add(7))?;
+    Ok(script)
+}
+
+/// A sum and a bag at node 0, a top and a bag at node 1.
+fn add_kinds(script: &mut Script) -> Result<(), Refusal> {
+    add_item(script, b"a", 0, Kind::Sum, 10)?;
+    add_item(script, b"g", 0, Kind::Bag, 0)?;
+    add_item(script, b"m", 1, Kind::Top, -3)?;
+    add_item(script, b"e", 1, Kind::Bag, 0)
+}
+
+/// A read tree of three subtransactions, which reads an item three times.
+fn add_wide_read(script: &mut Script) -> Result<(), Refusal> {
+    add_tree(script, TreeKind::Read, b"r", 0)?;
+    get(script, b"g")?;
+    get(script, b"a")?;
+    get(script, b"a")?;
+    add_child(script, 1)?;
+    get(script, b"e")?;
+    get(script, b"m")?;
+    add_child(script, 0)?;
+    get(script, b"a")
+}
+
+/// An update tree that changes all items but the second bag.
+fn add_update(script: &mut Script) -> Result<(), Refusal> {
+    add_tree(script, TreeKind::Update, b"t", 0)?;
+    apply(script, b"a", Op::Add(5))?;
+    apply(script, b"g", Op::Put(40))?;
+    apply(script, b"g", Op::Put(12))?;
+    apply(script, b"g", Op::Put(12))?;
+    add_child(script, 1)?;
+    apply(script, b"m", Op::Top(8))
+}
+
+/// Five trees by number: a read, an update, two reads, and a read that has no operation.
+fn reading(alloc: Global) -> Result<Script, Refusal> {
+    let mut script = Script::new(alloc, 2);
+    add_kinds(&mut script)?;
+    add_wide_read(&mut script)?;
+    add_update(&mut script)?;
+    add_tree(&mut script, TreeKind::Read, b"q", 1)?;
+    get(&mut script, b"m")?;
+    add_child(&mut script, 0)?;
+    get(&mut script, b"g")?;
+    add_tree(&mut script, TreeKind::Read, b"w", 0)?;
+    get(&mut script, b"a")?;
+    add_tree(&mut script, TreeKind::Read, b"u", 0)?;
     Ok(script)
 }
 
@@ -125,6 +190,23 @@ fn all_done(alloc: Global) -> Result<History, NoMemory> {
     Ok(history)
 }
 
+/// The update tree is whole in version 1. The reads are born with versions 1, 0 and 1; the last isn't born.
+fn all_read(alloc: Global) -> Result<History, NoMemory> {
+    let mut history = History::new(alloc);
+    let mut reads = Acts::new(alloc);
+    born(&mut reads, 0, 1)?;
+    born(&mut reads, 2, 0)?;
+    born(&mut reads, 3, 1)?;
+    did(alloc, &mut reads, 3, 0)?;
+    took(alloc, &mut history, 0, reads)?;
+    let mut update = Acts::new(alloc);
+    born(&mut update, 1, 1)?;
+    did(alloc, &mut update, 1, 0)?;
+    did(alloc, &mut update, 1, 1)?;
+    took(alloc, &mut history, 0, update)?;
+    Ok(history)
+}
+
 fn with_numbers(alloc: Global, numbers: &[Amount]) -> Result<Value, Fail> {
     let mut bag = Value::start(alloc, Kind::Bag, 0);
     for number in numbers {
@@ -157,6 +239,25 @@ fn a_run_is_reported(rt: HostRuntime) -> Result<(), Fail> {
     let line = check_line(alloc, &script)?;
     let want = b"ok nodes 2 items 2 trees 1 subs 2 advances 0\n";
     assert_eq!(rt; line.bytes(), want.as_slice());
+    Ok(())
+}
+
+#[test]
+fn reads_show_the_worth_at_their_version(rt: HostRuntime) -> Result<(), Fail> {
+    let alloc = rt.alloc();
+    let script = reading(alloc)?;
+    let done = report(alloc, &script, &all_read(alloc)?)?;
+    let want = b"read r version 1 g={12,12,40} a=15 a=15 e={} m=8 a=15\n\
+        tree t version 1\n\
+        read q version 0 m=-3 g={}\n\
+        read w version 1 a=15\n\
+        node 0 update 1 read 0\n\
+        node 1 update 1 read 0\n\
+        item a 0:10 1:15\n\
+        item g 0:{} 1:{12,12,40}\n\
+        item m 0:-3 1:8\n\
+        item e 0:{}\n";
+    assert_eq!(rt; done.bytes(), want.as_slice());
     Ok(())
 }
 

@@ -22,7 +22,7 @@ pub(crate) fn push_balance(
 }
 
 // A number in decimal, or a bag's numbers between braces.
-fn push_value(text: &mut Lines, value: &Value) -> Result<(), NoMemory>
+pub(crate) fn push_value(text: &mut Lines, value: &Value) -> Result<(), NoMemory>
     ensures { OnOk result (text.new ≡ text.old ++ value_text value.now) }
 {
     match value {

@@ -3,8 +3,7 @@ use Rattle.std.proofs.Common.{◌≡◌, ◌+◌, ℕ, Bool, true, false, List, 
 use Rattle.tx_trees.specs.ScriptData.{ScriptData}
 use Rattle.tx_trees.specs.declared.why.Why.{Why}
 use Rattle.script_reader.specs.declared.reading.ScriptFault.{ScriptFault}
-use Rattle.script_reader.specs.Rows.{later_row}
-use Rattle.tx_trees.specs.Adding.{Steps}
+use Rattle.script_reader.specs.Rows.{Leaves, later_row}
 use Rattle.tx_trees.specs.declared.why.Refusal.{Refusal}
 use Rattle.tx_trees.specs.declared.why.Refusal.TheVariants as refusals
 use Rattle.script_reader.specs.declared.reading.ScriptRefusal.{ScriptRefusal}
@@ -33,6 +32,6 @@ takes_false old false r new e h = h
 
 -- a row that is refused ends the reading
 pub refuses : (s t : ScriptData) (why : Refusal) (at : ℕ) (rows : List (List (List ℕ))) (r : List (List ℕ)) (rs : List (List (List ℕ))) (total : Result ScriptData ScriptFault) (told : ScriptRefusal)
-    → total ≡ rows_from s at rows → rows ≡ r ∷ rs → Steps {T = Unit {0}} (later_row s r) (Err why) s t → told ≡ refused_at at why → Gives (Err told) total
-refuses s t (refusals.Why w) at rows r rs total told so_far e h is = rw is (so_far ∙ stops s w at rows r rs e h.0)
+    → total ≡ rows_from s at rows → rows ≡ r ∷ rs → Leaves {T = Unit {0}} (later_row s r) (Err why) t → told ≡ refused_at at why → Gives (Err told) total
+refuses s t (refusals.Why w) at rows r rs total told so_far e h is = rw is (so_far ∙ stops s w at rows r rs e h)
 refuses s t refusals.NoMemory at rows r rs total told so_far e h is = rw is tt

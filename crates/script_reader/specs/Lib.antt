@@ -3,5 +3,8 @@ pub mod Readers
 pub mod RecordsInside
 pub mod Numbers
 pub mod Words
+pub mod Builds
 pub mod Rows
 pub mod Reading
+pub mod Written
+pub mod ReadBack

@@ -37,3 +37,6 @@ signed negative size = if negative then pos 0 -ℤ pos size else pos size
 
 abbrev pub amount_value : List ℕ → ℤ
 amount_value bytes = signed (is_negative bytes) (size_of bytes)
+
+abbrev pub amount_of : List ℕ → Option ℤ
+amount_of bytes = if is_amount bytes then Some (amount_value bytes) else None

@@ -1,44 +1,71 @@
--- The words that rows begin with, and the names that they hold.
-use Rattle.std.specs.Prelude.{ℕ, Bool, true, ◌==◌, ◌&&◌, ◌||◌, nat_le, List, length, Option, Some, None, if◌then◌else◌, codes}
-use Rattle.std.specs.List.{list_all}
+-- The words that rows begin with, and those of trees, operations and kinds.
+use Rattle.std.specs.Prelude.{ℕ, Bool, ◌==◌, List, Option, Some, None, if◌then◌else◌, codes}
 use Rattle.std.specs.Str.{bytes_eq}
 use Rattle.commute_ops.specs.declared.kinds.Kind.{Kind}
 use Rattle.commute_ops.specs.declared.kinds.Kind.TheVariants as kinds
+use Rattle.tx_trees.specs.declared.parts.TreeKind.{TreeKind}
+use Rattle.tx_trees.specs.declared.parts.TreeKind.TheVariants as trees
+use Rattle.script_reader.specs.declared.words.OpWord.{OpWord}
+use Rattle.script_reader.specs.declared.words.OpWord.TheVariants as ops
 use Rattle.script_reader.specs.declared.words.RowWord.{RowWord}
 use Rattle.script_reader.specs.declared.words.RowWord.TheVariants as words
 
--- words of rows that aren't built yet
-abbrev pub is_tree_word : List ℕ → Bool
-is_tree_word word = bytes_eq word (codes "read") || bytes_eq word (codes "strict")
+abbrev pub tree_word : TreeKind → List ℕ
+tree_word trees.Update = codes "update"
+tree_word trees.Read = codes "read"
+tree_word trees.Strict = codes "strict"
 
-abbrev pub is_deed_word : List ℕ → Bool
-is_deed_word word =
-    bytes_eq word (codes "top") || bytes_eq word (codes "put") || bytes_eq word (codes "set") || bytes_eq word (codes "draw") || bytes_eq word (codes "get")
+abbrev pub kind_word : Kind → List ℕ
+kind_word kinds.Sum = codes "sum"
+kind_word kinds.Top = codes "top"
+kind_word kinds.Bag = codes "bag"
 
-abbrev pub is_step_word : List ℕ → Bool
-is_step_word word = bytes_eq word (codes "advance") || bytes_eq word (codes "settle") || bytes_eq word (codes "pick")
+-- the kind of the trees whose rows begin with this word
+abbrev pub tree_kind_of : List ℕ → Option TreeKind
+tree_kind_of word =
+    if bytes_eq word (codes "update") then Some trees.Update
+    else if bytes_eq word (codes "read") then Some trees.Read
+    else if bytes_eq word (codes "strict") then Some trees.Strict
+    else None
 
-abbrev pub is_unbuilt : List ℕ → Bool
-is_unbuilt word = is_tree_word word || is_deed_word word || is_step_word word
+-- the operation with an amount whose rows begin with this word
+abbrev pub op_word_of : List ℕ → Option OpWord
+op_word_of word =
+    if bytes_eq word (codes "add") then Some ops.Add
+    else if bytes_eq word (codes "top") then Some ops.Top
+    else if bytes_eq word (codes "put") then Some ops.Put
+    else if bytes_eq word (codes "set") then Some ops.Set
+    else if bytes_eq word (codes "draw") then Some ops.Draw
+    else None
+
+-- a tree's word, or an operation's
+abbrev pub tree_or_op : Option TreeKind → Option OpWord → Option RowWord
+tree_or_op (Some kind) op = Some (words.Tree kind)
+tree_or_op None (Some op) = Some (words.Op op)
+tree_or_op None None = None
 
 abbrev pub word_of : List ℕ → Option RowWord
 word_of word =
     if bytes_eq word (codes "nodes") then Some words.Nodes
     else if bytes_eq word (codes "item") then Some words.Item
-    else if bytes_eq word (codes "update") then Some words.Update
     else if bytes_eq word (codes "sub") then Some words.Sub
-    else if bytes_eq word (codes "add") then Some words.Add
-    else if is_unbuilt word then Some words.Unbuilt
-    else None
+    else if bytes_eq word (codes "get") then Some words.Get
+    else if bytes_eq word (codes "advance") then Some words.Advance
+    else if bytes_eq word (codes "settle") then Some words.Settle
+    else if bytes_eq word (codes "pick") then Some words.Pick
+    else tree_or_op (tree_kind_of word) (op_word_of word)
 
 -- the number of fields is the row's
 abbrev pub len_fits : RowWord → ℕ → Bool
 len_fits words.Nodes n = n == 2
 len_fits words.Item n = n == 5
-len_fits words.Update n = n == 3
+len_fits (words.Tree kind) n = n == 3
 len_fits words.Sub n = n == 3
-len_fits words.Add n = n == 3
-len_fits words.Unbuilt n = true
+len_fits (words.Op op) n = n == 3
+len_fits words.Get n = n == 2
+len_fits words.Advance n = n == 1
+len_fits words.Settle n = n == 1
+len_fits words.Pick n = n == 2
 
 abbrev pub kind_of : List ℕ → Option Kind
 kind_of word =
@@ -46,17 +73,3 @@ kind_of word =
     else if bytes_eq word (codes "top") then Some kinds.Top
     else if bytes_eq word (codes "bag") then Some kinds.Bag
     else None
-
-abbrev pub is_letter : ℕ → Bool
-is_letter b = (nat_le 65 b && nat_le b 90) || (nat_le 97 b && nat_le b 122)
-
--- a letter, a digit, `_`, `-` or `.`
-abbrev pub is_name_byte : ℕ → Bool
-is_name_byte b = is_letter b || (nat_le 48 b && nat_le b 57) || (b == 95) || (b == 45) || (b == 46)
-
--- whether these bytes are no more and no fewer than a name has
-abbrev pub has_name_len : List ℕ → Bool
-has_name_len bytes = nat_le 1 (length bytes) && nat_le (length bytes) 32
-
-abbrev pub is_name : List ℕ → Bool
-is_name bytes = has_name_len bytes && list_all is_name_byte bytes

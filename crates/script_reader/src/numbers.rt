@@ -1,8 +1,7 @@
 // Numbers of 1 to 32 decimal digits, and amounts, which may have a minus sign.
-ghost use Rattle.std.specs.Prelude.{◌≡◌, ◌≤◌, length, unsigned_abs};
+ghost use Rattle.std.specs.Prelude.{◌≡◌, ◌≤◌, ◌<◌, ◌^◌, length, unsigned_abs, IfSome};
 ghost use Rattle.std.specs.List.{list_all};
-ghost use Rattle.commute_ops.specs.declared.kinds.TheConstants.{MOST_AMOUNT};
-ghost use Rattle.script_reader.specs.Numbers.{decimal_value, digits_of, is_digit, is_negative, number_of, signed};
+ghost use Rattle.script_reader.specs.Numbers.{amount_of, decimal_value, digits_of, is_digit, is_negative, number_of, signed};
 
 use commute_ops::Amount;
 
@@ -16,7 +15,8 @@ fn all_digits(bytes: &[u8]) -> bool
 
 fn value(bytes: &[u8]) -> u128
     requires { length bytes.now ≤ 32 }
-    ensures { result ≡ decimal_value bytes.now }
+    ensures value { result ≡ decimal_value bytes.now }
+    ensures small { result < 10 ^ 34 }
 {
     let mut value: u128 = 0;
     for b in bytes {
@@ -27,7 +27,8 @@ fn value(bytes: &[u8]) -> u128
 
 // The number that these bytes spell, if they are 1 to 32 decimal digits.
 pub(crate) fn number(bytes: &[u8]) -> Option<u128>
-    ensures { result ≡ number_of bytes.now }
+    ensures value { result ≡ number_of bytes.now }
+    ensures small { IfSome result (λ n. n < 10 ^ 34) }
 {
     if bytes.len() >= 1 && bytes.len() <= MOST_DIGITS && all_digits(bytes) {
         Some(value(bytes))
@@ -37,7 +38,7 @@ pub(crate) fn number(bytes: &[u8]) -> Option<u128>
 }
 
 // Whether an amount begins with a minus sign.
-pub(crate) fn is_negative(bytes: &[u8]) -> bool
+fn is_negative(bytes: &[u8]) -> bool
     ensures { result ≡ is_negative bytes.now }
 {
     match bytes {
@@ -47,7 +48,7 @@ pub(crate) fn is_negative(bytes: &[u8]) -> bool
 }
 
 // An amount without its minus sign.
-pub(crate) fn digits(bytes: &[u8]) -> &[u8]
+fn digits(bytes: &[u8]) -> &[u8]
     ensures { result.now ≡ digits_of bytes.now }
 {
     match bytes {
@@ -57,11 +58,20 @@ pub(crate) fn digits(bytes: &[u8]) -> &[u8]
 }
 
 // The amount of this sign and size.
-pub(crate) fn signed(negative: bool, size: u128) -> Amount
-    requires { size ≤ MOST_AMOUNT }
+fn signed(negative: bool, size: u128) -> Amount
+    requires { size < 10 ^ 34 }
     ensures value { result ≡ signed negative size }
-    ensures size { unsigned_abs result ≡ size }
+    ensures small { unsigned_abs result < 10 ^ 34 }
 {
     let amount = size as Amount;
     if negative { -amount } else { amount }
+}
+
+// The amount that these bytes spell, if they are 1 to 32 decimal digits, with or without a minus sign.
+pub(crate) fn amount(bytes: &[u8]) -> Option<Amount>
+    ensures value { result ≡ amount_of bytes.now }
+    ensures small { IfSome result (λ a. unsigned_abs a < 10 ^ 34) }
+{
+    let size = number(digits(bytes))?;
+    Some(signed(is_negative(bytes), size))
 }

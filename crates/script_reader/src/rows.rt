@@ -1,17 +1,17 @@
 // What each row does to a script.
-ghost use Rattle.std.specs.Prelude.{◌≡◌};
+ghost use Rattle.std.specs.Prelude.{◌≡◌, ◌<◌, ◌^◌, unsigned_abs};
 ghost use Rattle.csv.specs.Records.{fields_of};
-ghost use Rattle.tx_trees.specs.Adding.{Steps};
-ghost use Rattle.script_reader.specs.Rows.{add_row, bag_has, first_row, item_row, later_row, Makes, nodes_row, sub_row, update_row};
+ghost use Rattle.script_reader.specs.Builds.{is_built};
+ghost use Rattle.script_reader.specs.Rows.{Leaves, Makes, advance_row, amount_row, deed_of, first_row, item_of, item_row, later_row, nodes_row, op_row, pick_row, starts, sub_row, tree_row};
 
-use crate::numbers::{digits, is_negative, number, signed};
+use crate::numbers::{amount, number};
 use crate::records::field;
-use crate::words::{RowWord, kind_of, len_fits, name_of, row_word};
-use commute_ops::{Kind, MOST_AMOUNT, Op};
+use crate::words::{OpWord, RowWord, kind_of, len_fits, name_of, row_word};
+use commute_ops::{Amount, Kind, MOST_AMOUNT, Op};
 use csv::ByteRecord;
 use std::alloc::Global;
 use tv_base::{Name, NodeNo};
-use tx_trees::{Deed, ItemRow, Refusal, Script, TreeKind, Why};
+use tx_trees::{Deed, ItemRow, Refusal, Script, TreeKind, Why, is_in_range, may_start};
 
 fn nodes_row_of(alloc: Global, nodes: &[u8]) -> Result<Script, Refusal>
     ensures { Makes (nodes_row nodes.now) result }
@@ -25,13 +25,13 @@ fn nodes_row_of(alloc: Global, nodes: &[u8]) -> Result<Script, Refusal>
     Ok(Script::new(alloc, nodes as u8))
 }
 
-// Whether a bag is given a value.
-fn bag_has(kind: Option<Kind>, size: u128) -> bool
-    ensures { result ≡ bag_has kind size }
+// Whether an item may have this value at the start. Of an unknown kind only the magnitude is tried.
+fn starts(kind: Option<Kind>, initial: &Amount) -> bool
+    ensures { result ≡ starts kind initial.now }
 {
     match kind {
-        Some(Kind::Bag) => size != 0,
-        _ => false,
+        Some(kind) => may_start(kind, *initial),
+        None => initial.unsigned_abs() <= MOST_AMOUNT as u128,
     }
 }
 
@@ -42,16 +42,32 @@ fn item_row_of(
     kind: &[u8],
     initial: &[u8],
 ) -> Result<(), Refusal>
-    ensures { Steps (item_row script.old name.now node.now kind.now initial.now) result script.old script.new }
+    ensures { Leaves (item_row script.old name.now node.now kind.now initial.now) result script.new }
 {
     let Some(node) = number(node) else {
         return Err(Refusal::Why(Why::BadNumber));
     };
-    let Some(size) = number(digits(initial)) else {
+    let Some(initial) = amount(initial) else {
         return Err(Refusal::Why(Why::BadNumber));
     };
-    let kind = kind_of(kind);
-    if node >= script.nodes() as u128 || size > MOST_AMOUNT as u128 || bag_has(kind, size) {
+    add_item_of(script, name, node, kind_of(kind), &initial)
+}
+
+// The item of a row whose numbers are read.
+fn add_item_of(
+    script: &mut Script,
+    name: &[u8],
+    node: u128,
+    kind: Option<Kind>,
+    initial: &Amount,
+) -> Result<(), Refusal>
+    requires { unsigned_abs initial.now < 10 ^ 34 }
+    ensures { Leaves (item_of script.old name.now node kind initial.now) result script.new }
+{
+    if node >= script.nodes() as u128 {
+        return Err(Refusal::Why(Why::OutOfRange));
+    }
+    if !starts(kind, initial) {
         return Err(Refusal::Why(Why::OutOfRange));
     }
     let Some(name) = name_of(name) else {
@@ -63,17 +79,29 @@ fn item_row_of(
     let Some(kind) = kind else {
         return Err(Refusal::Why(Why::WrongKind));
     };
+    let initial = *initial;
     script.add_item(ItemRow {
         name,
         node: NodeNo(node as u8),
         kind,
-        initial: signed(is_negative(initial), size),
+        initial,
     })?;
     Ok(())
 }
 
-fn update_row_of(script: &mut Script, name: &[u8], node: &[u8]) -> Result<(), Refusal>
-    ensures { Steps (update_row script.old name.now node.now) result script.old script.new }
+// Whether trees of this kind may be read.
+fn is_built(kind: TreeKind) -> bool
+    ensures { result ≡ is_built kind }
+{
+    match kind {
+        TreeKind::Update => true,
+        TreeKind::Read => true,
+        TreeKind::Strict => false,
+    }
+}
+
+fn tree_row_of(script: &mut Script, kind: TreeKind, name: &[u8], node: &[u8]) -> Result<(), Refusal>
+    ensures { Leaves (tree_row script.old kind name.now node.now) result script.new }
 {
     let Some(node) = number(node) else {
         return Err(Refusal::Why(Why::BadNumber));
@@ -84,12 +112,16 @@ fn update_row_of(script: &mut Script, name: &[u8], node: &[u8]) -> Result<(), Re
     let Some(name) = name_of(name) else {
         return Err(Refusal::Why(Why::BadName));
     };
-    script.add_tree(name, TreeKind::Update, NodeNo(node as u8))?;
-    Ok(())
+    script.add_tree(name, kind, NodeNo(node as u8))?;
+    if is_built(kind) {
+        Ok(())
+    } else {
+        Err(Refusal::Why(Why::NotBuilt))
+    }
 }
 
 fn sub_row_of(script: &mut Script, parent: &[u8], node: &[u8]) -> Result<(), Refusal>
-    ensures { Steps (sub_row script.old parent.now node.now) result script.old script.new }
+    ensures { Leaves (sub_row script.old parent.now node.now) result script.new }
 {
     let Some(parent) = number(parent) else {
         return Err(Refusal::Why(Why::BadNumber));
@@ -106,20 +138,64 @@ fn sub_row_of(script: &mut Script, parent: &[u8], node: &[u8]) -> Result<(), Ref
     Ok(())
 }
 
-fn add_row_of(script: &mut Script, item: &[u8], amount: &[u8]) -> Result<(), Refusal>
-    ensures { Steps (add_row script.old item.now amount.now) result script.old script.new }
+// The operation of this word and amount.
+fn deed_of(word: OpWord, amount: &Amount) -> Deed
+    ensures { result ≡ deed_of word amount.now }
 {
-    let Some(size) = number(digits(amount)) else {
-        return Err(Refusal::Why(Why::BadNumber));
-    };
-    if size > MOST_AMOUNT as u128 {
+    let amount = *amount;
+    match word {
+        OpWord::Add => Deed::Apply(Op::Add(amount)),
+        OpWord::Top => Deed::Apply(Op::Top(amount)),
+        OpWord::Put => Deed::Apply(Op::Put(amount)),
+        OpWord::Set => Deed::Set(amount),
+        OpWord::Draw => Deed::Draw(amount),
+    }
+}
+
+fn op_row_of(script: &mut Script, item: &[u8], deed: Deed) -> Result<(), Refusal>
+    ensures { Leaves (op_row script.old item.now deed) result script.new }
+{
+    if !is_in_range(deed) {
         return Err(Refusal::Why(Why::OutOfRange));
     }
     let Some(item) = Name::new(item) else {
         return Err(Refusal::Why(Why::UnknownItem));
     };
-    let amount = signed(is_negative(amount), size);
-    script.add_op(&item, Deed::Apply(Op::Add(amount)))
+    script.add_op(&item, deed)
+}
+
+fn amount_row_of(
+    script: &mut Script,
+    word: OpWord,
+    item: &[u8],
+    number: &[u8],
+) -> Result<(), Refusal>
+    ensures { Leaves (amount_row script.old word item.now number.now) result script.new }
+{
+    let Some(amount) = amount(number) else {
+        return Err(Refusal::Why(Why::BadNumber));
+    };
+    op_row_of(script, item, deed_of(word, &amount))
+}
+
+fn advance_row_of(script: &mut Script) -> Result<(), Refusal>
+    ensures { Leaves (advance_row script.old) result script.new }
+{
+    script.add_advance()?;
+    Err(Refusal::Why(Why::NotBuilt))
+}
+
+fn pick_row_of(script: &mut Script, place: &[u8]) -> Result<(), Refusal>
+    ensures { Leaves (pick_row script.old place.now) result script.new }
+{
+    let Some(place) = number(place) else {
+        return Err(Refusal::Why(Why::BadNumber));
+    };
+    if place > u32::MAX as u128 {
+        return Err(Refusal::Why(Why::OutOfRange));
+    }
+    script.add_pick(place as u32)?;
+    Err(Refusal::Why(Why::NotBuilt))
 }
 
 // The first record makes a script.
@@ -138,9 +214,9 @@ pub(crate) fn take_first(alloc: Global, row: &ByteRecord) -> Result<Script, Refu
     }
 }
 
-// Each later one adds to it.
+// Each later one adds to it. What a refused record leaves is not said, since nothing is read after it.
 pub(crate) fn take_later(script: &mut Script, row: &ByteRecord) -> Result<(), Refusal>
-    ensures { Steps (later_row script.old (fields_of row.now)) result script.old script.new }
+    ensures { Leaves (later_row script.old (fields_of row.now)) result script.new }
 {
     let Some(word) = row_word(field(row, 0)) else {
         return Err(Refusal::Why(Why::UnknownRow));
@@ -157,9 +233,12 @@ pub(crate) fn take_later(script: &mut Script, row: &ByteRecord) -> Result<(), Re
             field(row, 3),
             field(row, 4),
         ),
-        RowWord::Update => update_row_of(script, field(row, 1), field(row, 2)),
+        RowWord::Tree(kind) => tree_row_of(script, kind, field(row, 1), field(row, 2)),
         RowWord::Sub => sub_row_of(script, field(row, 1), field(row, 2)),
-        RowWord::Add => add_row_of(script, field(row, 1), field(row, 2)),
-        RowWord::Unbuilt => Err(Refusal::Why(Why::NotBuilt)),
+        RowWord::Op(word) => amount_row_of(script, word, field(row, 1), field(row, 2)),
+        RowWord::Get => op_row_of(script, field(row, 1), Deed::Get),
+        RowWord::Advance => advance_row_of(script),
+        RowWord::Settle => script.add_settle(),
+        RowWord::Pick => pick_row_of(script, field(row, 1)),
     }
 }

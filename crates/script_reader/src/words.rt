@@ -1,50 +1,66 @@
-// The words that rows begin with, and the names that they hold.
+// The words that rows begin with, those of kinds, and names.
 ghost use Rattle.std.specs.Prelude.{◌≡◌, MatchOption, true, false};
-ghost use Rattle.std.specs.List.{list_all};
-ghost use Rattle.script_reader.specs.Words.{is_deed_word, is_name, is_name_byte, is_step_word, is_tree_word, is_unbuilt, kind_of, len_fits, word_of};
+ghost use Rattle.tx_trees.specs.Names.{is_name};
+ghost use Rattle.script_reader.specs.Words.{kind_of, len_fits, op_word_of, tree_kind_of, word_of};
 
 use commute_ops::Kind;
 use tv_base::Name;
+use tx_trees::{TreeKind, is_plain_name};
+
+// An operation with an amount.
+#[derive(Clone, Copy, Debug, PartialEq, Eq)]
+pub(crate) enum OpWord {
+    Add,
+    Top,
+    Put,
+    Set,
+    Draw,
+}
 
 // What a row is, by its first field.
 #[derive(Clone, Copy, Debug, PartialEq, Eq)]
 pub(crate) enum RowWord {
     Nodes,
     Item,
-    Update,
+    Tree(TreeKind),
     Sub,
-    Add,
-    // A row of a form that isn't built yet.
-    Unbuilt,
+    Op(OpWord),
+    Get,
+    Advance,
+    Settle,
+    Pick,
 }
 
-fn is_tree_word(word: &[u8]) -> bool
-    ensures { result ≡ is_tree_word word.now }
+fn tree_kind_of(word: &[u8]) -> Option<TreeKind>
+    ensures { result ≡ tree_kind_of word.now }
 {
-    word == b"read".as_slice() || word == b"strict".as_slice()
+    if word == b"update".as_slice() {
+        Some(TreeKind::Update)
+    } else if word == b"read".as_slice() {
+        Some(TreeKind::Read)
+    } else if word == b"strict".as_slice() {
+        Some(TreeKind::Strict)
+    } else {
+        None
+    }
 }
 
-fn is_deed_word(word: &[u8]) -> bool
-    ensures { result ≡ is_deed_word word.now }
+fn op_word_of(word: &[u8]) -> Option<OpWord>
+    ensures { result ≡ op_word_of word.now }
 {
-    word == b"top".as_slice()
-        || word == b"put".as_slice()
-        || word == b"set".as_slice()
-        || word == b"draw".as_slice()
-        || word == b"get".as_slice()
-}
-
-fn is_step_word(word: &[u8]) -> bool
-    ensures { result ≡ is_step_word word.now }
-{
-    word == b"advance".as_slice() || word == b"settle".as_slice() || word == b"pick".as_slice()
-}
-
-// Whether the word is known, and its form isn't built yet.
-fn is_unbuilt(word: &[u8]) -> bool
-    ensures { result ≡ is_unbuilt word.now }
-{
-    is_tree_word(word) || is_deed_word(word) || is_step_word(word)
+    if word == b"add".as_slice() {
+        Some(OpWord::Add)
+    } else if word == b"top".as_slice() {
+        Some(OpWord::Top)
+    } else if word == b"put".as_slice() {
+        Some(OpWord::Put)
+    } else if word == b"set".as_slice() {
+        Some(OpWord::Set)
+    } else if word == b"draw".as_slice() {
+        Some(OpWord::Draw)
+    } else {
+        None
+    }
 }
 
 pub(crate) fn row_word(word: &[u8]) -> Option<RowWord>
@@ -54,16 +70,20 @@ pub(crate) fn row_word(word: &[u8]) -> Option<RowWord>
         Some(RowWord::Nodes)
     } else if word == b"item".as_slice() {
         Some(RowWord::Item)
-    } else if word == b"update".as_slice() {
-        Some(RowWord::Update)
     } else if word == b"sub".as_slice() {
         Some(RowWord::Sub)
-    } else if word == b"add".as_slice() {
-        Some(RowWord::Add)
-    } else if is_unbuilt(word) {
-        Some(RowWord::Unbuilt)
+    } else if word == b"get".as_slice() {
+        Some(RowWord::Get)
+    } else if word == b"advance".as_slice() {
+        Some(RowWord::Advance)
+    } else if word == b"settle".as_slice() {
+        Some(RowWord::Settle)
+    } else if word == b"pick".as_slice() {
+        Some(RowWord::Pick)
+    } else if let Some(kind) = tree_kind_of(word) {
+        Some(RowWord::Tree(kind))
     } else {
-        None
+        op_word_of(word).map(RowWord::Op)
     }
 }
 
@@ -74,10 +94,13 @@ pub(crate) fn len_fits(word: RowWord, len: usize) -> bool
     match word {
         RowWord::Nodes => len == 2,
         RowWord::Item => len == 5,
-        RowWord::Update => len == 3,
+        RowWord::Tree(_) => len == 3,
         RowWord::Sub => len == 3,
-        RowWord::Add => len == 3,
-        RowWord::Unbuilt => true,
+        RowWord::Op(_) => len == 3,
+        RowWord::Get => len == 2,
+        RowWord::Advance => len == 1,
+        RowWord::Settle => len == 1,
+        RowWord::Pick => len == 2,
     }
 }
 
@@ -95,17 +118,14 @@ pub(crate) fn kind_of(word: &[u8]) -> Option<Kind>
     }
 }
 
-// Whether all bytes are letters, digits, `_`, `-` or `.`.
-fn is_plain(bytes: &[u8]) -> bool
-    ensures { result ≡ list_all is_name_byte bytes.now }
-{
-    bytes.iter().all(|b| b.is_ascii_alphanumeric() || *b == b'_' || *b == b'-' || *b == b'.')
-}
-
 // The name that an item or a tree may be given.
 pub(crate) fn name_of(bytes: &[u8]) -> Option<Name>
     ensures { MatchOption result (is_name bytes.now ≡ false) (λ n. (is_name bytes.now ≡ true) × (n ≡ bytes.now)) }
 {
     let name = Name::new(bytes)?;
-    if is_plain(bytes) { Some(name) } else { None }
+    if is_plain_name(bytes) {
+        Some(name)
+    } else {
+        None
+    }
 }

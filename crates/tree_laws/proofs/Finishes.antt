@@ -17,7 +17,7 @@ use Rattle.tx_trees.specs.declared.parts.ScriptRow.{ScriptRow}
 use Rattle.tx_trees.specs.declared.parts.ScriptRow.TheVariants.{Tree as TreeRow, Advance as AdvanceRow, Settle as SettleRow}
 use Rattle.world_model.specs.Counts.{tally, one_if}
 use Rattle.world_model.specs.Runs.{client_in, waiting, StepRun}
-use Rattle.world_model.specs.Tables.{Runnable, IsBuiltRow}
+use Rattle.world_model.specs.Tables.{Runnable}
 use Rattle.tree_laws.specs.Dids.{is_go, dids, asks, tells_done, replies_to, answers, is_row_of, rooted}
 use Rattle.tree_laws.specs.Ends.{is_finish, finishes_in}
 use Rattle.tree_laws.proofs.Acts.{acts_more, finished_of}
@@ -28,6 +28,7 @@ use Rattle.tree_laws.proofs.Counts.{zero_or, parent_at}
 use Rattle.tree_laws.proofs.Sent.{rooted_once, tally_take_le}
 use Rattle.tree_laws.proofs.Good.{Good, TreeAt, Unborn, Gathers, Answered, is_noted}
 use Rattle.tree_laws.proofs.Scripts.{Sound, SubAt, sub_there, is_sub}
+use Rattle.tx_trees.specs.Built.{IsBuiltRow}
 
 -- What is done where no letter is under way.
 

@@ -13,10 +13,10 @@ use Rattle.tx_trees.specs.declared.parts.ScriptRow.{ScriptRow}
 use Rattle.tx_trees.specs.declared.parts.ScriptRow.TheVariants.{Tree as TreeRow, Advance, Settle}
 use Rattle.tx_trees.specs.declared.parts.Sub.{Sub}
 use Rattle.world_model.specs.Counts.{Each}
-use Rattle.world_model.specs.Tables.{IsBuiltRow}
 use Rattle.client_rows.specs.Client.{rows_letters}
 use Rattle.tree_laws.proofs.Scripts.{Sound, get_below}
 use Rattle.tree_step.specs.Children.{sub_letters}
+use Rattle.tx_trees.specs.Built.{IsBuiltRow}
 
 -- a letter goes from the client to itself, or is for a subtransaction of the script and goes to its node, or brings the
 -- notice of one to its tree's home, or answers a tree to the client, or nudges the coordinator

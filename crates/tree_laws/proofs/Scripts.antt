@@ -10,7 +10,8 @@ use Rattle.tx_trees.specs.declared.parts.Sub.{Sub}
 use Rattle.tx_trees.specs.declared.parts.Tree.{Tree}
 use Rattle.tx_trees.specs.declared.parts.TreeKind.{TreeKind}
 use Rattle.tx_trees.specs.declared.parts.TreeKind.TheVariants as trees
-use Rattle.world_model.specs.Tables.{Runnable, is_built}
+use Rattle.world_model.specs.Tables.{Runnable}
+use Rattle.tx_trees.specs.Built.{is_built}
 
 -- a script that is valid, and whose rows are built
 pub record Sound (s : ScriptData) : Type 0 where

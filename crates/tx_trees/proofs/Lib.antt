@@ -1,3 +1,9 @@
 pub mod Last
+pub mod Lists
+pub mod Named
+pub mod Totals
+pub mod Stays
 pub mod Kept
 pub mod SubsOf
+pub mod Passes
+pub mod Rebuilding

@@ -1,13 +1,18 @@
 -- What a record adds to a script, and the conditions under which it is refused, in the order of their numbers.
-use Rattle.std.specs.Prelude.{ℕ, Bool, true, false, not, if◌then◌else◌, ◌≡◌, ◌+◌, ◌==◌, ◌||◌, nat_le, nat_lt, List, [], ◌∷◌, ◌++◌, length, Option, Some, None, is_some, position, Result, Ok, Err, slice_get}
+use Rattle.std.specs.Prelude.{ℕ, Bool, true, false, not, if◌then◌else◌, ◌≡◌, ◌+◌, ◌*◌, ◌==◌, ◌||◌, ◌&&◌, nat_le, nat_lt, List, [], ◌∷◌, ◌++◌, length, Option, Some, None, is_some, position, Result, Ok, Err, slice_get}
 use Rattle.std.specs.List.{list_any}
 use Rattle.std.specs.Str.{bytes_eq}
 use Rattle.commute_ops.specs.declared.kinds.Kind.{Kind}
 use Rattle.commute_ops.specs.declared.kinds.Kind.TheVariants.{Sum as SumKind}
 use Rattle.commute_ops.specs.declared.kinds.TheConstants.{MOST_AMOUNT}
 use Rattle.tv_base.specs.declared.numbers.NodeNo.{NodeNo}
-use Rattle.tx_trees.specs.ScriptData.{ScriptData}
-use Rattle.tx_trees.specs.Valid.{deed_fits, load, magnitude}
+pub use Rattle.tx_trees.specs.Counts.{advances_in, all_ops, all_subs}
+use Rattle.tx_trees.specs.Amounts.{magnitude}
+use Rattle.tx_trees.specs.Counts.{if_update, one_put, one_strict, ops_in, strict_trees, trees_puts, update_subs}
+use Rattle.tx_trees.specs.Names.{is_name}
+use Rattle.tx_trees.specs.Ranges.{is_in_range, may_start}
+use Rattle.tx_trees.specs.ScriptData.{ScriptData, is_strict}
+use Rattle.tx_trees.specs.Valid.{deed_fits, load}
 use Rattle.tx_trees.specs.declared.parts.ItemRow.{ItemRow}
 use Rattle.tx_trees.specs.declared.parts.Tree.{Tree}
 use Rattle.tx_trees.specs.declared.parts.Sub.{Sub}
@@ -50,7 +55,9 @@ with_item s row = record s { items = s.items ++ row ∷ []; begun = false }
 
 abbrev pub adds_item : ScriptData → ItemRow → Result ScriptData Why
 adds_item s row =
-    judged ((is_some (place_of row.name s.items), why.NameTaken)
+    judged ((nat_le s.nodes row.node.0 || not (may_start row.kind row.initial), why.OutOfRange)
+    ∷ (not (is_name row.name), why.BadName)
+    ∷ (is_some (place_of row.name s.items), why.NameTaken)
     ∷ (nat_le 10000 (length s.items), why.TooMany) ∷ []) (with_item s row)
 
 -- a tree with its root alone
@@ -64,25 +71,22 @@ with_tree s name kind node = record s {
   begun = true;
 }
 
--- how many subtransactions the trees have
-abbrev pub all_subs : List Tree → ℕ
-all_subs [] = 0
-all_subs (t ∷ ts) = length t.subs + all_subs ts
+-- so many strict trees beside so many subtransactions of update trees are too many
+abbrev pub are_many : ℕ → ℕ → Bool
+are_many strict subs = nat_lt 1000000 (strict * subs)
+
+-- with one more tree of this kind a limit would be passed
+abbrev pub has_no_tree_left : TreeKind → List Tree → Bool
+has_no_tree_left kind ts =
+    nat_le 20000 (length ts) || nat_le 100000 (all_subs ts) || nat_lt 1000 (strict_trees ts + one_strict kind)
+    || are_many (strict_trees ts + one_strict kind) (update_subs ts + if_update kind 1)
 
 abbrev pub adds_tree : ScriptData → List ℕ → TreeKind → NodeNo → Result ScriptData Why
 adds_tree s name kind node =
-    judged ((names_tree name s.trees, why.NameTaken)
-    ∷ (nat_le 20000 (length s.trees) || nat_le 100000 (all_subs s.trees), why.TooMany) ∷ []) (with_tree s name kind node)
-
--- how many advancements are asked for
-abbrev pub is_advance : ScriptRow → Bool
-is_advance (rows.Tree _) = false
-is_advance rows.Advance = true
-is_advance rows.Settle = false
-
-abbrev pub advances_in : List ScriptRow → ℕ
-advances_in [] = 0
-advances_in (r ∷ rs) = (if is_advance r then 1 else 0) + advances_in rs
+    judged ((nat_le s.nodes node.0, why.OutOfRange)
+    ∷ (not (is_name name), why.BadName)
+    ∷ (names_tree name s.trees, why.NameTaken)
+    ∷ (has_no_tree_left kind s.trees, why.TooMany) ∷ []) (with_tree s name kind node)
 
 -- the last of a list, changed
 abbrev pub on_last : {A : Type 0} → (A → A) → List A → List A
@@ -100,6 +104,9 @@ last_of (x ∷ y ∷ ys) = last_of (y ∷ ys)
 abbrev pub last_subs : List Tree → ℕ
 last_subs ts = elim (last_of ts) [ None ↦ 0 | Some t ↦ length t.subs ]
 
+abbrev pub last_kind : List Tree → TreeKind
+last_kind ts = elim (last_of ts) [ None ↦ trees.Update | Some t ↦ t.kind ]
+
 abbrev pub push_sub : Sub → Tree → Tree
 push_sub x t = record t { subs = t.subs ++ x ∷ [] }
 
@@ -109,20 +116,17 @@ with_sub s parent node = record s {
   begun = true;
 }
 
+-- with one more subtransaction of the last tree a limit would be passed
+abbrev pub has_no_sub_left : List Tree → Bool
+has_no_sub_left ts =
+    nat_le 64 (last_subs ts) || nat_le 100000 (all_subs ts) || are_many (strict_trees ts) (update_subs ts + if_update (last_kind ts) 1)
+
 abbrev pub adds_sub : ScriptData → ℕ → NodeNo → Result ScriptData Why
 adds_sub s parent node =
-    judged ((not s.begun, why.NoTree)
+    judged ((nat_le s.nodes node.0, why.OutOfRange)
+    ∷ (not s.begun, why.NoTree)
     ∷ (nat_le (last_subs s.trees) parent, why.BadParent)
-    ∷ (nat_le 64 (last_subs s.trees) || nat_le 100000 (all_subs s.trees), why.TooMany) ∷ []) (with_sub s parent node)
-
--- how many operations the trees have
-abbrev pub subs_ops : List Sub → ℕ
-subs_ops [] = 0
-subs_ops (x ∷ xs) = length x.ops + subs_ops xs
-
-abbrev pub all_ops : List Tree → ℕ
-all_ops [] = 0
-all_ops (t ∷ ts) = subs_ops t.subs + all_ops ts
+    ∷ (has_no_sub_left s.trees, why.TooMany) ∷ []) (with_sub s parent node)
 
 -- the last subtransaction of the last tree: its node, and how many operations it has
 abbrev pub last_sub : List Tree → Option Sub
@@ -133,9 +137,6 @@ last_node ts = elim (last_sub ts) [ None ↦ 0 | Some x ↦ x.node.0 ]
 
 abbrev pub last_count : List Tree → ℕ
 last_count ts = elim (last_sub ts) [ None ↦ 0 | Some x ↦ length x.ops ]
-
-abbrev pub last_kind : List Tree → TreeKind
-last_kind ts = elim (last_of ts) [ None ↦ trees.Update | Some t ↦ t.kind ]
 
 abbrev pub push_op : SubOp → Sub → Sub
 push_op o x = record x { ops = x.ops ++ o ∷ [] }
@@ -156,14 +157,40 @@ node_at k items = elim (slice_get items k) [ None ↦ 0 | Some row ↦ row.node.
 abbrev pub kind_at : ℕ → List ItemRow → Kind
 kind_at k items = elim (slice_get items k) [ None ↦ SumKind | Some row ↦ row.kind ]
 
+-- with one more operation on item k a limit would be passed
+abbrev pub has_no_op_left : ℕ → Deed → List Tree → Bool
+has_no_op_left k deed ts = nat_le 16 (last_count ts) || nat_le 200000 (all_ops ts) || nat_lt 64 (trees_puts k ts + one_put deed)
+
+-- the subtransactions have an operation on item k
+abbrev pub touch : ℕ → List Sub → Bool
+touch k ss = list_any (λ o. o.item.0 == k) (ops_in ss)
+
+-- the last tree is strict, and has an operation on item k
+abbrev pub has_touched : ℕ → List Tree → Bool
+has_touched k ts = elim (last_of ts) [ None ↦ false | Some t ↦ is_strict t.kind && touch k t.subs ]
+
 abbrev pub adds_op_at : ScriptData → Option ℕ → Deed → Result ScriptData Why
 adds_op_at s None deed = Err why.UnknownItem
 adds_op_at s (Some k) deed =
     judged ((not s.begun, why.NoTree)
     ∷ (not (node_at k s.items == last_node s.trees), why.WrongNode)
     ∷ (not (deed_fits (last_kind s.trees) (kind_at k s.items) deed), why.WrongKind)
-    ∷ (nat_le 16 (last_count s.trees) || nat_le 200000 (all_ops s.trees), why.TooMany)
-    ∷ (nat_lt MOST_AMOUNT (load k s + magnitude deed), why.TooMuch) ∷ []) (with_op s k deed)
+    ∷ (has_no_op_left k deed s.trees, why.TooMany)
+    ∷ (nat_lt MOST_AMOUNT (load k s + magnitude deed), why.TooMuch)
+    ∷ (has_touched k s.trees, why.ItemTwice) ∷ []) (with_op s k deed)
 
 abbrev pub adds_op : ScriptData → List ℕ → Deed → Result ScriptData Why
-adds_op s name deed = adds_op_at s (place_of name s.items) deed
+adds_op s name deed = if is_in_range deed then adds_op_at s (place_of name s.items) deed else Err why.OutOfRange
+
+-- a row that isn't a tree's
+abbrev pub with_row : ScriptData → ScriptRow → ScriptData
+with_row s row = record s { rows = s.rows ++ row ∷ []; begun = false }
+
+abbrev pub adds_advance : ScriptData → Result ScriptData Why
+adds_advance s = judged ((nat_le 100 (advances_in s.rows), why.TooMany) ∷ []) (with_row s rows.Advance)
+
+abbrev pub adds_settle : ScriptData → Result ScriptData Why
+adds_settle s = Ok (with_row s rows.Settle)
+
+abbrev pub adds_pick : ScriptData → ℕ → Result ScriptData Why
+adds_pick s k = Ok (record s { picks = s.picks ++ k ∷ []; begun = false })

@@ -1,4 +1,14 @@
+pub mod Adding
+pub mod Amounts
+pub mod Counts
+pub mod Inside
+pub mod Names
+pub mod Passing
+pub mod Ranges
+pub mod Rebuilt
+pub mod Same
+pub mod SameFacts
 pub mod ScriptData
 pub mod Valid
-pub mod Adding
-pub mod Inside
+pub mod Why
+pub mod Built

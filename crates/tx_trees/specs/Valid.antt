@@ -1,11 +1,16 @@
 -- When a script is valid.
-use Rattle.std.specs.Prelude.{ℕ, Bool, true, false, if◌then◌else◌, ◌≡◌, ◌+◌, ◌<◌, ◌≤◌, ◌==◌, IsTrue, List, [], ◌∷◌, length, Option, Some, None, slice_get, unsigned_abs}
-use Rattle.std.specs.List.{AllByRecursion}
+use Rattle.std.specs.Prelude.{ℕ, Bool, true, false, if◌then◌else◌, ◌≡◌, ◌+◌, ◌<◌, ◌≤◌, ◌*◌, ◌==◌, IsTrue, List, [], ◌∷◌, length, map, nat_eq, Option, Some, None, slice_get, unsigned_abs}
+use Rattle.std.specs.List.{AllByRecursion, IsDistinct}
+use Rattle.std.specs.Str.{bytes_eq}
 use Rattle.commute_ops.specs.declared.kinds.Kind.{Kind}
 use Rattle.commute_ops.specs.declared.kinds.Kind.TheVariants.{Sum as SumKind, Top as TopKind, Bag as BagKind}
 use Rattle.commute_ops.specs.declared.kinds.Op.{Op}
 use Rattle.commute_ops.specs.declared.kinds.Op.TheVariants.{Add, Top, Put}
 use Rattle.commute_ops.specs.declared.kinds.TheConstants.{MOST_AMOUNT}
+pub use Rattle.tx_trees.specs.Amounts.{magnitude, op_magnitude}
+use Rattle.tx_trees.specs.Counts.{advances_in, all_ops, all_subs, ops_in, strict_trees, trees_puts, update_subs}
+use Rattle.tx_trees.specs.Names.{is_name}
+use Rattle.tx_trees.specs.Ranges.{is_in_range}
 use Rattle.tx_trees.specs.ScriptData.{ScriptData}
 use Rattle.tx_trees.specs.declared.parts.ItemRow.{ItemRow}
 use Rattle.tx_trees.specs.declared.parts.Tree.{Tree}
@@ -34,18 +39,6 @@ deed_fits trees.Strict SumKind (Set a) = true
 deed_fits trees.Strict TopKind (Set a) = true
 deed_fits trees.Strict SumKind (Draw a) = true
 deed_fits _ _ _ = false
-
--- the magnitude of an amount that an operation names
-abbrev pub op_magnitude : Op → ℕ
-op_magnitude (Add a) = unsigned_abs a
-op_magnitude (Top a) = unsigned_abs a
-op_magnitude (Put a) = unsigned_abs a
-
-abbrev pub magnitude : Deed → ℕ
-magnitude (Apply op) = op_magnitude op
-magnitude Get = 0
-magnitude (Set a) = unsigned_abs a
-magnitude (Draw a) = unsigned_abs a
 
 -- the magnitudes of all amounts on item x
 abbrev pub ops_load : ℕ → List SubOp → ℕ
@@ -83,21 +76,31 @@ pub record IsSub (nodes : ℕ) (items : List ItemRow) (kind : TreeKind) (k : ℕ
   pub node : s.node.0 < nodes
   pub few : length s.ops ≤ 16
   pub ops : AllByRecursion (IsOp items kind s.node.0) s.ops
+  pub amounts : AllByRecursion (λ o. IsTrue (is_in_range o.deed)) s.ops
 
 -- the subtransactions from number k on
 abbrev pub AreSubs : ℕ → List ItemRow → TreeKind → ℕ → List Sub → Type 0
 AreSubs nodes items kind k [] = Unit {0}
 AreSubs nodes items kind k (s ∷ ss) = IsSub nodes items kind k s × AreSubs nodes items kind (k + 1) ss
 
+-- the items on which the subtransactions have operations, in order
+abbrev pub items_of : List Sub → List ℕ
+items_of ss = map (λ o. o.item.0) (ops_in ss)
+
 pub record IsTree (nodes : ℕ) (items : List ItemRow) (t : Tree) : Type 0 where
   pub root : 0 < length t.subs
   pub few : length t.subs ≤ 64
   pub subs : AreSubs nodes items t.kind 0 t.subs
+  pub name : IsTrue (is_name t.name)
+  -- a strict tree has at most one operation on an item
+  pub once : t.kind ≡ trees.Strict → IsDistinct nat_eq (items_of t.subs)
 
 -- an item is at a node of the script, and a bag starts empty
 pub record IsItem (nodes : ℕ) (r : ItemRow) : Type 0 where
   pub node : r.node.0 < nodes
   pub bag : r.kind ≡ BagKind → unsigned_abs r.initial ≡ 0
+  pub name : IsTrue (is_name r.name)
+  pub small : unsigned_abs r.initial ≤ MOST_AMOUNT
 
 -- the tree rows name the trees from number k on, each once and in order
 abbrev pub NamesInOrder : ℕ → ℕ → List ScriptRow → Type 0
@@ -105,6 +108,21 @@ NamesInOrder k n [] = k ≡ n
 NamesInOrder k n (rows.Tree t ∷ rs) = (t.0 ≡ k) × NamesInOrder (k + 1) n rs
 NamesInOrder k n (rows.Advance ∷ rs) = NamesInOrder k n rs
 NamesInOrder k n (rows.Settle ∷ rs) = NamesInOrder k n rs
+
+abbrev pub item_names : List ItemRow → List (List ℕ)
+item_names items = map (λ r. r.name) items
+
+abbrev pub tree_names : List Tree → List (List ℕ)
+tree_names ts = map (λ t. t.name) ts
+
+-- the numbers of a script's trees, rows and operations are within their limits
+pub record IsLimited (s : ScriptData) : Type 0 where
+  pub subs : all_subs s.trees ≤ 100000
+  pub ops : all_ops s.trees ≤ 200000
+  pub puts : (x : ℕ) → x < length s.items → trees_puts x s.trees ≤ 64
+  pub advances : advances_in s.rows ≤ 100
+  pub strict : strict_trees s.trees ≤ 1000
+  pub pairs : strict_trees s.trees * update_subs s.trees ≤ 1000000
 
 -- what every script keeps
 pub record IsValid (s : ScriptData) : Type 0 where
@@ -117,3 +135,6 @@ pub record IsValid (s : ScriptData) : Type 0 where
   pub loads : (x : ℕ) → x < length s.items → load x s ≤ MOST_AMOUNT
   pub rows : NamesInOrder 0 (length s.trees) s.rows
   pub begun : s.begun ≡ true → 0 < length s.trees
+  pub distinct_items : IsDistinct bytes_eq (item_names s.items)
+  pub distinct_trees : IsDistinct bytes_eq (tree_names s.trees)
+  pub limited : IsLimited s

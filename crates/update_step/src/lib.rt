@@ -2,3 +2,5 @@
 #![tactic(auto)]
 
 mod steps;
+
+pub use steps::run_update;

@@ -22,6 +22,7 @@ use Rattle.tree_step.specs.Node.{Node}
 use Rattle.tree_step.specs.Notices.{homes_noted, answer_noted, reply_letters}
 use Rattle.update_step.specs.Rows.{update_row}
 use Rattle.read_step.specs.Rows.{read_row}
+use Rattle.tx_trees.specs.Built.{is_built, IsBuiltRow}
 
 -- the items at node p, where the list begins with item x: each in version 0 with its initial value
 abbrev pub items_at : ℕ → ℕ → List ItemRow → Table
@@ -63,16 +64,6 @@ node_row s p st from (Done t k v notice) =
 node_row s p st from _ = still st
 
 -- the scripts whose rows are built: no strict tree, and no advancement
-abbrev pub is_built : TreeKind → Bool
-is_built kinds.Strict = false
-is_built kinds.Update = true
-is_built kinds.Read = true
-
-abbrev pub IsBuiltRow : ScriptRow → Type 0
-IsBuiltRow AdvanceRow = ⊥
-IsBuiltRow SettleRow = Unit {0}
-IsBuiltRow (TreeRow t) = Unit {0}
-
 pub record Runnable (s : ScriptData) : Type 0 where
   pub trees : AllByRecursion (λ (t : Tree). IsTrue (is_built t.kind)) s.trees
   pub rows : AllByRecursion IsBuiltRow s.rows

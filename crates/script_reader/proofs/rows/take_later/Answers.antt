@@ -1,9 +1,9 @@
 use Rattle.std.proofs.Common.{sym, subst, Result, ◌∙◌}
 use Rattle.csv.specs.Records.{fields_of}
 use Rattle.tx_trees.specs.ScriptData.{ScriptData}
-use Rattle.tx_trees.specs.Adding.{Steps}
 use Rattle.tx_trees.specs.declared.why.Why.{Why}
-use Rattle.script_reader.proofs.Passing.{add_form_is, item_form_is, later_is}
+use Rattle.script_reader.specs.Rows.{Leaves}
+use Rattle.script_reader.proofs.Passing.{amount_form_is, get_form_is, item_form_is, later_is}
 use Rattle.script_reader.proofs.rows.take_later.Goals as goal
 
 pub returns-in-Item : goal.returns-in-Item
@@ -11,11 +11,18 @@ returns-in-Item c =
     let fields = fields_of c.args.row.now in
     let e = later_is c.args.script.now fields _ _ _ _ c.field.ensures c.in-Some.ensures c.len_fits.ensures c.len.ensures c.if-not-len_fits.false in
     let f = item_form_is c.args.script.now fields _ _ _ _ _ c.in-Item.is c.field-in-Item.ensures c.field-in-Item-2.ensures c.field-in-Item-3.ensures c.field-in-Item-4.ensures in
-    subst (λ (r : Result ScriptData Why). Steps r c.item_row_of.result c.args.script.now c.item_row_of.new.script) (sym (e ∙ f)) c.item_row_of.ensures
+    subst (λ (r : Result ScriptData Why). Leaves r c.item_row_of.result c.item_row_of.new.script) (sym (e ∙ f)) c.item_row_of.ensures
 
-pub returns-in-Add : goal.returns-in-Add
-returns-in-Add c =
+pub returns-in-Op : goal.returns-in-Op
+returns-in-Op c =
     let fields = fields_of c.args.row.now in
     let e = later_is c.args.script.now fields _ _ _ _ c.field.ensures c.in-Some.ensures c.len_fits.ensures c.len.ensures c.if-not-len_fits.false in
-    let f = add_form_is c.args.script.now fields _ _ _ c.in-Add.is c.field-in-Add.ensures c.field-in-Add-2.ensures in
-    subst (λ (r : Result ScriptData Why). Steps r c.add_row_of.result c.args.script.now c.add_row_of.new.script) (sym (e ∙ f)) c.add_row_of.ensures
+    let f = amount_form_is c.args.script.now fields _ _ _ _ c.in-Op.is c.field-in-Op.ensures c.field-in-Op-2.ensures in
+    subst (λ (r : Result ScriptData Why). Leaves r c.amount_row_of.result c.amount_row_of.new.script) (sym (e ∙ f)) c.amount_row_of.ensures
+
+pub returns-in-Get : goal.returns-in-Get
+returns-in-Get c =
+    let fields = fields_of c.args.row.now in
+    let e = later_is c.args.script.now fields _ _ _ _ c.field.ensures c.in-Some.ensures c.len_fits.ensures c.len.ensures c.if-not-len_fits.false in
+    let f = get_form_is c.args.script.now fields _ _ c.in-Get.is c.field-in-Get.ensures in
+    subst (λ (r : Result ScriptData Why). Leaves r c.op_row_of.result c.op_row_of.new.script) (sym (e ∙ f)) c.op_row_of.ensures

@@ -1,0 +1,92 @@
+-- What every row of the client's table keeps, and how much it sends.
+use Rattle.std.proofs.Common.{if◌then◌else◌, ◌≡◌, ℕ, ◌+◌, ◌≤◌, Bool, true, false, List, [], ◌∷◌, ◌++◌, length, take, drop, Option, Some, None, refl, ◌∙◌, arith, length-append}
+use Rattle.std.proofs.lemmas.List.{length-set, length-take, length-drop, length-replicate}
+use Rattle.tx_trees.specs.ScriptData.{ScriptData}
+use Rattle.tx_trees.specs.declared.parts.ScriptRow.{ScriptRow}
+use Rattle.tx_trees.specs.declared.parts.ScriptRow.TheVariants.{Tree as TreeRow, Advance as AdvanceRow, Settle as SettleRow}
+use Rattle.letter_types.specs.declared.bodies.Body.{Body}
+use Rattle.client_rows.specs.Client.{Client, have_ended, submitted, rows_letters, next_after, client_row, start_client}
+use Rattle.client_rows.specs.Kept.{IsKeptOf, kept_of}
+use Rattle.client_rows.specs.News.{news_of, answered_after, told, sent_first}
+use Rattle.client_rows.specs.declared.news.News.{News}
+use Rattle.client_rows.specs.declared.news.News.TheVariants.{Begun, Answered, Ended}
+use Rattle.client_rows.proofs.Submits.{heard, row-heard}
+
+-- where the client waits it submits fewer
+fewer : (b : Bool) (n m : ℕ) → n ≤ m → (if b then n else 0) ≤ m
+fewer true n m le = le
+fewer false n m le = omega arith
+
+-- no more rows are submitted than there are
+pub few_submitted : (c : Client) (before rows : List ScriptRow) → submitted c before rows ≤ length rows
+few_submitted c before [] = omega arith
+few_submitted c before (TreeRow t ∷ rows) = omega (arith, few_submitted c (before ++ TreeRow t ∷ []) rows)
+few_submitted c before (AdvanceRow ∷ rows) = omega (arith, few_submitted c (before ++ AdvanceRow ∷ []) rows)
+few_submitted c before (SettleRow ∷ rows) =
+    fewer (have_ended c before) (submitted c (before ++ SettleRow ∷ []) rows + 1) (length (SettleRow ∷ rows))
+    (omega (arith, few_submitted c (before ++ SettleRow ∷ []) rows))
+
+-- the client stays within the rows
+pub next_within : (s : ScriptData) (c : Client) → c.next ≤ length s.rows → next_after s c ≤ length s.rows
+next_within s c le = omega (arith, few_submitted c (take c.next s.rows) (drop c.next s.rows), length-drop c.next s.rows)
+
+-- an answer adds no tree
+pub length-answered_after : (news : News) (answered : List Bool) → length (answered_after news answered) ≡ length answered
+length-answered_after Begun answered = refl
+length-answered_after (Answered t) answered = length-set answered t.0 true
+length-answered_after Ended answered = refl
+
+-- what is known of a state that is the client's, of this script
+pub record IsWithinScript (s : ScriptData) (c : Client) : Type 0 where
+  pub next : c.next ≤ length s.rows
+  pub answered : length c.answered ≡ length s.trees
+
+heard_within : (s : ScriptData) (c : Client) (news : Option News) → IsWithinScript s c → IsWithinScript s (heard s c news).state
+heard_within s c None within = within
+heard_within s c (Some news) within = record {
+  next = next_within s (told news c) within.next;
+  answered = length-answered_after news c.answered ∙ within.answered;
+}
+
+-- every row keeps the client within the script
+pub kept_more : (s : ScriptData) (c : Client) (body : Body) → c.next ≤ length s.rows → length c.answered ≡ length s.trees
+    → ((client_row s c body).state.next ≤ length s.rows) × (length (client_row s c body).state.answered ≡ length s.trees)
+kept_more s c body next answered =
+    let within : IsWithinScript s (heard s c (news_of (length s.trees) body)).state =
+    heard_within s c (news_of (length s.trees) body) (record { next = next; answered = answered }) in
+    rw (row-heard s c body) (within.next, within.answered)
+
+-- a row sends one letter at most
+few_letters : (s : ScriptData) (rows : List ScriptRow) → length (rows_letters s rows) ≤ length rows
+few_letters s [] = omega arith
+few_letters s (TreeRow t ∷ rows) = omega (arith, few_letters s rows)
+few_letters s (AdvanceRow ∷ rows) = omega (arith, few_letters s rows)
+few_letters s (SettleRow ∷ rows) = omega (arith, few_letters s rows)
+
+few_first : (s : ScriptData) (news : News) → length (sent_first s news) ≤ 1
+few_first s Begun = omega arith
+few_first s (Answered t) = omega arith
+few_first s Ended = omega arith
+
+few_heard : (s : ScriptData) (c : Client) (news : Option News) → length (heard s c news).sent ≤ length s.rows + 1
+few_heard s c None = omega arith
+few_heard s c (Some news) =
+    let after : Client = told news c in
+    let many : ℕ = submitted after (take c.next s.rows) (drop c.next s.rows) in
+    let rows : List ScriptRow = take many (drop c.next s.rows) in
+    rw (length-append (sent_first s news) (rows_letters s rows))
+    (omega (arith, few_first s news, few_letters s rows, length-take many (drop c.next s.rows), length-drop c.next s.rows))
+
+-- the client sends at most a letter for each row, and a nudge
+pub few_sent_by_client : (s : ScriptData) (c : Client) (body : Body) → length (client_row s c body).sent ≤ length s.rows + 1
+few_sent_by_client s c body = rw (row-heard s c body) (few_heard s c (news_of (length s.trees) body))
+
+-- the client begins within the script
+pub kept_first : (s : ScriptData)
+    → ((start_client s).next ≤ length s.rows) × (length (start_client s).answered ≡ length s.trees)
+kept_first s = (omega arith, length-replicate (length s.trees) false)
+
+-- what is kept of a state within the script is this script's
+pub kept_of-kept : (s : ScriptData) (c : Client) → c.next ≤ length s.rows → length c.answered ≡ length s.trees
+    → IsKeptOf s (kept_of s c)
+kept_of-kept s c next answered = record { numbers = refl; next = next; answered = answered }

@@ -1,0 +1,124 @@
+-- What the client does with a letter is its row of the table.
+use Rattle.std.proofs.Common.{if◌then◌else◌, ◌≡◌, ℕ, ◌+◌, ◌-◌, ◌≤◌, ◌==◌, ◌&&◌, ◌||◌, Bool, true, false, List, [], ◌∷◌, ◌++◌, length, take, drop, Option, Some, None, refl, sym, ap, ◌∙◌, arith}
+use Rattle.std.specs.Prelude.{nat_lt, not}
+use Rattle.std.proofs.lemmas.List.{take_all}
+use Rattle.std.proofs.lemmas.Bool.Decides.{nat_tests}
+use Rattle.tx_trees.specs.ScriptData.{ScriptData}
+use Rattle.tx_trees.specs.declared.parts.ScriptRow.{ScriptRow}
+use Rattle.tx_trees.specs.declared.parts.ScriptRow.TheVariants.{Tree as TreeRow, Advance as AdvanceRow, Settle as SettleRow}
+use Rattle.letter_types.specs.declared.acts.Act.{Act}
+use Rattle.letter_types.specs.declared.acts.Act.TheVariants.{Finished}
+use Rattle.letter_types.specs.declared.bodies.Body.{Body}
+use Rattle.letter_types.specs.declared.bodies.Body.TheVariants.{Go, Reply, Advanced}
+use Rattle.letter_types.specs.declared.entries.Outgoing.{Outgoing}
+use Rattle.letter_types.specs.declared.entries.StepOut.{StepOut}
+use Rattle.letter_types.specs.Steps.{Out, still, made}
+use Rattle.client_rows.specs.Client.{Client, have_ended, submitted, rows_letters, next_after, finishes, submit, client_row}
+use Rattle.client_rows.specs.News.{news_of, answered_after, ended_after, told, sent_first}
+use Rattle.client_rows.specs.Places.{place_at, is_over, knowing, furthest}
+use Rattle.client_rows.specs.declared.news.News.{News}
+use Rattle.client_rows.specs.declared.news.News.TheVariants.{Answered}
+use Rattle.client_rows.specs.declared.places.Place.{Place}
+use Rattle.client_rows.proofs.Further.{over-ended}
+
+-- what the client does with the news that it has, if any
+abbrev pub heard : ScriptData → Client → Option News → Out Client
+heard s c None = still c
+heard s c (Some news) = submit s (told news c) (sent_first s news)
+
+-- each row of the table submits at its news, or does nothing
+pub row-heard : (s : ScriptData) (c : Client) (body : Body) → client_row s c body ≡ heard s c (news_of (length s.trees) body)
+row-heard s c Go = refl
+row-heard s c (Reply t v answer) = elim (nat_lt t.0 (length s.trees)) as (λ (b : Bool).
+    (if b then submit s (told (Answered t) c) (sent_first s (Answered t)) else still c)
+    ≡ heard s c (if b then Some (Answered t) else None)) [ true ↦ refl | false ↦ refl ]
+row-heard s c (Advanced v) = refl
+row-heard s c _ = refl
+
+-- which rows are submitted follows from what is answered and has ended
+submitted-knowing : (c : Client) (before rows : List ScriptRow)
+    → submitted c before rows ≡ submitted (knowing c.answered c.ended) before rows
+submitted-knowing c before [] = refl
+submitted-knowing c before (TreeRow t ∷ rows) = ap (λ (n : ℕ). n + 1) (submitted-knowing c (before ++ TreeRow t ∷ []) rows)
+submitted-knowing c before (AdvanceRow ∷ rows) = ap (λ (n : ℕ). n + 1) (submitted-knowing c (before ++ AdvanceRow ∷ []) rows)
+submitted-knowing c before (SettleRow ∷ rows) =
+    ap (λ (n : ℕ). if have_ended c before then n + 1 else 0) (submitted-knowing c (before ++ SettleRow ∷ []) rows)
+
+-- the client comes as far as it may
+next_after-furthest : (s : ScriptData) (c : Client) → next_after s c ≡ furthest c.answered c.ended s.rows c.next
+next_after-furthest s c = ap (λ (n : ℕ). c.next + n) (submitted-knowing c (take c.next s.rows) (drop c.next s.rows))
+
+-- the numbers of a place say whether the client finishes there
+finishes-place : (s : ScriptData) (c : Client) (at : Place) → at ≡ place_at s.rows c.answered at.next
+    → (last : Bool) → (at.next == length s.rows) ≡ last
+    → ((at.next == length s.rows) && (is_over at c.ended && not c.finished)) ≡ finishes s at.next c
+finishes-place s c at here false is = rw is refl
+finishes-place s c at here true is =
+    let end : length s.rows ≤ at.next = grind (arith, nat_tests) in
+    let over : have_ended c s.rows ≡ is_over at c.ended =
+    ap (λ (rows : List ScriptRow). have_ended c rows) (sym (take_all at.next s.rows end)) ∙ over-ended c s.rows at.next
+    ∙ ap (λ (p : Place). is_over p c.ended) (sym here) in
+    ap (λ (b : Bool). (at.next == length s.rows) && (b && not c.finished)) (sym over)
+
+-- states, letters and acts that are equal make equal rows
+same_row : (answered : List Bool) (ended n m : ℕ) (f g : Bool) (sent sent' : List Outgoing) (acts acts' : List Act)
+    → n ≡ m → f ≡ g → sent ≡ sent' → acts ≡ acts'
+    → ◌≡◌ {A = Out Client}
+    (record { state = record { next = n; answered = answered; ended = ended; finished = f }; sent = sent; acts = acts })
+    (record { state = record { next = m; answered = answered; ended = ended; finished = g }; sent = sent'; acts = acts' })
+same_row answered ended n m f g sent sent' acts acts' next finished letters deeds = cc
+
+-- what a call made of news: where the client came to from `c`, and what goes out
+pub record Submission (s : ScriptData) (news : News) (c : Client) (at : Place) (ends : Bool) (out : StepOut) : Type 0 where
+  pub place : at
+      ≡ place_at s.rows (answered_after news c.answered)
+      (furthest (answered_after news c.answered) (ended_after news c.ended) s.rows c.next)
+  pub finish : ends ≡ ((at.next == length s.rows) && (is_over at (ended_after news c.ended) && not c.finished))
+  pub sent : out.sent ≡ sent_first s news ++ rows_letters s (take (at.next - c.next) (drop c.next s.rows))
+  pub acts : out.acts ≡ (if ends then Finished ∷ [] else [])
+
+-- the state that the call leaves
+abbrev pub state_after : News → Client → Place → Bool → Client
+state_after news c at ends = record {
+  next = at.next;
+  answered = answered_after news c.answered;
+  ended = ended_after news c.ended;
+  finished = c.finished || ends;
+}
+
+pub submission-row : (s : ScriptData) (news : News) (c : Client) (at : Place) (ends : Bool) (out : StepOut)
+    → Submission s news c at ends out → made (state_after news c at ends) out ≡ heard s c (Some news)
+submission-row s news c at ends out made_here =
+    let after : Client = told news c in
+    let next : at.next ≡ next_after s after = ap (λ (p : Place). p.next) made_here.place ∙ sym (next_after-furthest s after) in
+    let here : at ≡ place_at s.rows after.answered at.next =
+    made_here.place ∙ ap (place_at s.rows after.answered) (sym (ap (λ (p : Place). p.next) made_here.place)) in
+    let finish : ends ≡ finishes s (next_after s after) after =
+    made_here.finish ∙ finishes-place s after at here (at.next == length s.rows) refl
+    ∙ ap (λ (n : ℕ). finishes s n after) next in
+    let many : at.next - c.next ≡ submitted after (take c.next s.rows) (drop c.next s.rows) = omega (arith, next) in
+    same_row (answered_after news c.answered) (ended_after news c.ended) at.next (next_after s after)
+    (c.finished || ends) (c.finished || finishes s (next_after s after) after)
+    out.sent (sent_first s news ++ rows_letters s (take (submitted after (take c.next s.rows) (drop c.next s.rows)) (drop c.next s.rows)))
+    out.acts (if finishes s (next_after s after) after then Finished ∷ [] else [])
+    next (ap (λ (b : Bool). c.finished || b) finish)
+    (made_here.sent ∙ ap (λ (n : ℕ). sent_first s news ++ rows_letters s (take n (drop c.next s.rows))) many)
+    (made_here.acts ∙ ap (λ (b : Bool). if b then Finished ∷ [] else []) finish)
+
+-- from equal rows, answers, ends and places the client comes to equal places
+pub same_place : (news : News) {rows rows' : List ScriptRow} {known known' : List Bool} {ended ended' next next' : ℕ}
+    → rows ≡ rows' → known ≡ known' → ended ≡ ended' → next ≡ next'
+    → place_at rows (answered_after news known) (furthest (answered_after news known) ended rows next)
+    ≡ place_at rows' (answered_after news known') (furthest (answered_after news known') ended' rows' next')
+same_place news {rows} {rows'} {known} {known'} {ended} {ended'} {next} {next'} r k e n =
+    ap (λ (x : List ScriptRow). place_at x (answered_after news known) (furthest (answered_after news known) ended x next)) r
+    ∙ ap (λ (x : List Bool). place_at rows' (answered_after news x) (furthest (answered_after news x) ended rows' next)) k
+    ∙ ap (λ (x : ℕ). place_at rows' (answered_after news known') (furthest (answered_after news known') x rows' next)) e
+    ∙ ap (λ (x : ℕ). place_at rows' (answered_after news known') (furthest (answered_after news known') ended' rows' x)) n
+
+-- with equal rows and ends the client finishes alike
+pub same_finish : (at : Place) (finished : Bool) {rows rows' : List ScriptRow} {ended ended' : ℕ} → rows ≡ rows' → ended ≡ ended'
+    → ((at.next == length rows) && (is_over at ended && not finished)) ≡ ((at.next == length rows') && (is_over at ended' && not finished))
+same_finish at finished {rows} {rows'} {ended} {ended'} r e =
+    ap (λ (x : List ScriptRow). (at.next == length x) && (is_over at ended && not finished)) r
+    ∙ ap (λ (x : ℕ). (at.next == length rows') && (is_over at x && not finished)) e

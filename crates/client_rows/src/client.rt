@@ -1,0 +1,103 @@
+// The client: it submits the script's rows.
+ghost use Rattle.std.specs.Prelude.{◌≡◌, ◌==◌, ◌&&◌, length, not, IfOk, OnOk, OnErr};
+ghost use Rattle.letter_types.specs.Steps.{made};
+ghost use Rattle.client_rows.specs.Client.{client_row, start_client};
+ghost use Rattle.client_rows.specs.Kept.{IsKeptOf, kept_of};
+ghost use Rattle.client_rows.specs.Places.{is_over};
+
+use crate::letters;
+use crate::news::{ended_after, mark, news_of};
+use crate::places::{Place, furthest, is_over, with_news};
+use letter_types::{Body, Step};
+use std::alloc::Global;
+use std::marker::Model;
+use tv_base::NoMemory;
+use tx_trees::{Script, ScriptRow};
+
+/// The client's state. It counts what it has submitted, so that no step goes over those rows again.
+#[derive(Drop)]
+pub struct Client {
+    at: Place,
+    answered: Vec<bool>,
+    ended: u64,
+    finished: bool,
+}
+
+impl Model for Client {
+    ghost use Rattle.client_rows.specs.Kept.{Kept};
+
+    ghost Value = { Kept };
+
+    ghost use Rattle.client_rows.specs.Held.{kept_here};
+
+    ghost view = { kept_here };
+}
+
+/// Whether the client finishes at a place: no row is left, all has ended, and it hasn't finished before.
+fn finishes(rows: &[ScriptRow], at: Place, ended: u64, finished: bool) -> bool
+    ensures { result ≡ ((at.next == length rows.now) && (is_over at ended && not finished)) }
+{
+    at.next == rows.len() && is_over(at, ended) && !finished
+}
+
+impl Client {
+    /// The client as a run begins: no row is submitted.
+    pub fn new(alloc: Global, script: &Script) -> Result<Client, NoMemory>
+        ensures start { IfOk result (λ c. c ≡ kept_of script.now (start_client script.now)) }
+        ensures kept { IfOk result (IsKeptOf script.now) }
+    {
+        let answered = vec![in alloc; false; script.trees().len()]?;
+        let at = Place {
+            next: 0,
+            sent: 0,
+            unanswered: 0,
+            asked: 0,
+        };
+        Ok(Client {
+            at,
+            answered,
+            ended: 0,
+            finished: false,
+        })
+    }
+
+    /// Whether the client has finished: the act Finished was one of its acts.
+    pub fn finished(&self) -> bool
+        ensures { result ≡ self.now.client.finished }
+    {
+        self.finished
+    }
+
+    /// How many of the script's rows are submitted.
+    pub fn next(&self) -> usize
+        ensures { result ≡ self.now.client.next }
+    {
+        self.at.next
+    }
+
+    /// What the client does with a letter of this body: its row of the client's table. The script is the one that the
+    /// client was made with. It takes time for the rows that are submitted, and not for those before them. After want
+    /// of memory the client is as it was.
+    pub fn on(&mut self, alloc: Global, script: &Script, body: &Body) -> Result<Step, NoMemory>
+        requires { IsKeptOf script.now self.old }
+        ensures row { IfOk result (λ step. made self.new.client step.given ≡ client_row script.now self.old.client body.now) }
+        ensures kept { IfOk result (λ step. step.kept ≡ step.given) }
+        ensures still_kept { OnOk result (IsKeptOf script.now self.new) }
+        ensures err { OnErr result (self.new ≡ self.old) }
+    {
+        let Some(news) = news_of(script.trees().len(), body) else {
+            return Ok(Step::still(alloc));
+        };
+        let rows = script.rows();
+        let ended = ended_after(news, self.ended);
+        let known = with_news(rows, &self.answered, news, self.at);
+        let at = furthest(rows, &self.answered, news, ended, known);
+        let finishes = finishes(rows, at, ended, self.finished);
+        let step = letters::step(alloc, script, news, &rows[self.at.next..at.next], finishes)?;
+        mark(&mut self.answered, news);
+        self.at = at;
+        self.ended = ended;
+        self.finished |= finishes;
+        Ok(step)
+    }
+}

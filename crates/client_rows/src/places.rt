@@ -1,0 +1,108 @@
+// How far the client is among the rows.
+ghost use Rattle.std.specs.Prelude.{◌≡◌, ◌+◌, ◌<◌, ◌≤◌, length};
+ghost use Rattle.tx_trees.specs.Valid.{NamesInOrder};
+ghost use Rattle.client_rows.specs.News.{answered_after};
+ghost use Rattle.client_rows.specs.Places.{place_at, is_over, furthest, waits};
+
+use crate::news::{News, is_answered};
+use tx_trees::ScriptRow;
+
+/// How far the client is among the script's rows.
+#[derive(Clone, Copy)]
+pub(crate) struct Place {
+    /// How many rows are submitted.
+    pub(crate) next: usize,
+    /// How many of them are trees.
+    pub(crate) sent: usize,
+    /// How many of these trees aren't answered.
+    pub(crate) unanswered: usize,
+    /// How many of the rows ask for an advancement.
+    pub(crate) asked: u64,
+}
+
+/// Whether all that was submitted up to a place has ended.
+pub(crate) fn is_over(at: Place, ended: u64) -> bool
+    ensures { result ≡ is_over at ended }
+{
+    at.unanswered == 0 && at.asked <= ended
+}
+
+/// The same place once the news is known: a tree that is answered by it counts as open no more.
+pub(crate) fn with_news(rows: &[ScriptRow], answered: &[bool], news: News, at: Place) -> Place
+    requires names { NamesInOrder 0 (length answered.now) rows.now }
+    requires at { at ≡ place_at rows.now answered.now at.next }
+    ensures { result ≡ place_at rows.now (answered_after news answered.now) at.next }
+{
+    let News::Answered(tree) = news else {
+        return at;
+    };
+    if tree.0 as usize >= at.sent || answered[tree.0 as usize] {
+        return at;
+    }
+    Place {
+        unanswered: at.unanswered - 1,
+        ..at
+    }
+}
+
+/// The place behind the next row.
+fn behind_next(rows: &[ScriptRow], answered: &[bool], news: News, at: Place) -> Place
+    requires more { at.next < length rows.now }
+    requires at { at ≡ place_at rows.now (answered_after news answered.now) at.next }
+    ensures { result ≡ place_at rows.now (answered_after news answered.now) (at.next + 1) }
+{
+    let next = at.next + 1;
+    match rows[at.next] {
+        ScriptRow::Tree(tree) if is_answered(answered, news, tree) => Place {
+            next,
+            sent: at.sent + 1,
+            ..at
+        },
+        ScriptRow::Tree(_) => Place {
+            next,
+            sent: at.sent + 1,
+            unanswered: at.unanswered + 1,
+            ..at
+        },
+        ScriptRow::Advance => Place {
+            next,
+            asked: at.asked + 1,
+            ..at
+        },
+        ScriptRow::Settle => Place { next, ..at },
+    }
+}
+
+/// Whether the client waits at a row: at a settle row, until all before it has ended.
+fn waits(row: ScriptRow, at: Place, ended: u64) -> bool
+    ensures { result ≡ waits at ended row }
+{
+    match row {
+        ScriptRow::Settle => !is_over(at, ended),
+        _ => false,
+    }
+}
+
+/// The place behind the last row that may be submitted, from a place on.
+pub(crate) fn furthest(
+    rows: &[ScriptRow],
+    answered: &[bool],
+    news: News,
+    ended: u64,
+    from: Place,
+) -> Place
+    requires next { from.next ≤ length rows.now }
+    requires from { from ≡ place_at rows.now (answered_after news answered.now) from.next }
+    ensures forward { from.next ≤ result.next }
+    ensures within { result.next ≤ length rows.now }
+    ensures place { result ≡ place_at rows.now (answered_after news answered.now) (furthest (answered_after news answered.now) ended rows.now from.next) }
+{
+    let mut at = from;
+    while at.next < rows.len() {
+        if waits(rows[at.next], at, ended) {
+            return at;
+        }
+        at = behind_next(rows, answered, news, at);
+    }
+    at
+}

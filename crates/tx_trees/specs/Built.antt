@@ -1,0 +1,18 @@
+-- The forms of trees and rows that are run. Strict trees and advancements aren't yet.
+use Rattle.std.specs.Prelude.{Bool, true, false}
+use Rattle.tx_trees.specs.declared.parts.ScriptRow.{ScriptRow}
+use Rattle.tx_trees.specs.declared.parts.ScriptRow.TheVariants as rows
+use Rattle.tx_trees.specs.declared.parts.TreeKind.{TreeKind}
+use Rattle.tx_trees.specs.declared.parts.TreeKind.TheVariants as trees
+
+-- a tree of this kind is run
+abbrev pub is_built : TreeKind → Bool
+is_built trees.Update = true
+is_built trees.Read = true
+is_built trees.Strict = false
+
+-- a tree's row, or one that waits
+abbrev pub IsBuiltRow : ScriptRow → Type 0
+IsBuiltRow (rows.Tree t) = Unit {0}
+IsBuiltRow rows.Advance = ⊥
+IsBuiltRow rows.Settle = Unit {0}
