@@ -15,13 +15,6 @@ tree_word trees.Update = codes "update"
 tree_word trees.Read = codes "read"
 tree_word trees.Strict = codes "strict"
 
-abbrev pub op_word : OpWord → List ℕ
-op_word ops.Add = codes "add"
-op_word ops.Top = codes "top"
-op_word ops.Put = codes "put"
-op_word ops.Set = codes "set"
-op_word ops.Draw = codes "draw"
-
 abbrev pub kind_word : Kind → List ℕ
 kind_word kinds.Sum = codes "sum"
 kind_word kinds.Top = codes "top"

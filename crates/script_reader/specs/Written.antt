@@ -1,5 +1,21 @@
--- The text of a script.
-use Rattle.std.specs.Prelude.{ℕ, List, [], ◌∷◌, ◌++◌}
+-- The text of a script: its rows, each as a line.
+use Rattle.std.specs.Prelude.{ℕ, List, [], ◌∷◌, ◌++◌, map, Option, Some, None, slice_get, codes, decimal}
+use Rattle.std.specs.Fmt.{signed_decimal}
+use Rattle.std.specs.List.{AllByRecursion}
+use Rattle.std.specs.Str.{IsAscii}
+use Rattle.commute_ops.specs.declared.kinds.Op.TheVariants as applied
+use Rattle.tx_trees.specs.ScriptData.{ScriptData}
+use Rattle.tx_trees.specs.Rebuilt.{name_at}
+use Rattle.tx_trees.specs.declared.parts.Deed.{Deed}
+use Rattle.tx_trees.specs.declared.parts.Deed.TheVariants as deeds
+use Rattle.tx_trees.specs.declared.parts.ItemRow.{ItemRow}
+use Rattle.tx_trees.specs.declared.parts.ScriptRow.{ScriptRow}
+use Rattle.tx_trees.specs.declared.parts.ScriptRow.TheVariants as rows
+use Rattle.tx_trees.specs.declared.parts.Sub.{Sub}
+use Rattle.tx_trees.specs.declared.parts.SubOp.{SubOp}
+use Rattle.tx_trees.specs.declared.parts.Tree.{Tree}
+use Rattle.tx_trees.specs.declared.parts.TreeKind.{TreeKind}
+use Rattle.script_reader.specs.Words.{kind_word, tree_word}
 
 -- the fields behind the first of a record, each behind a comma, and the line's end
 abbrev pub more_fields : List (List ℕ) → List ℕ
@@ -14,3 +30,70 @@ line (f ∷ fs) = f ++ more_fields fs
 abbrev pub lines : List (List (List ℕ)) → List ℕ
 lines [] = []
 lines (r ∷ rs) = line r ++ lines rs
+
+abbrev pub nodes_fields : ℕ → List (List ℕ)
+nodes_fields n = codes "nodes" ∷ decimal n ∷ []
+
+abbrev pub item_fields : ItemRow → List (List ℕ)
+item_fields r = codes "item" ∷ r.name ∷ decimal r.node.0 ∷ kind_word r.kind ∷ signed_decimal r.initial ∷ []
+
+abbrev pub tree_fields : TreeKind → List ℕ → ℕ → List (List ℕ)
+tree_fields kind name node = tree_word kind ∷ name ∷ decimal node ∷ []
+
+abbrev pub sub_fields : Sub → List (List ℕ)
+sub_fields x = codes "sub" ∷ decimal x.parent.0 ∷ decimal x.node.0 ∷ []
+
+-- an operation on the item of this name
+abbrev pub deed_fields : List ℕ → Deed → List (List ℕ)
+deed_fields item (deeds.Apply (applied.Add a)) = codes "add" ∷ item ∷ signed_decimal a ∷ []
+deed_fields item (deeds.Apply (applied.Top a)) = codes "top" ∷ item ∷ signed_decimal a ∷ []
+deed_fields item (deeds.Apply (applied.Put a)) = codes "put" ∷ item ∷ signed_decimal a ∷ []
+deed_fields item (deeds.Set a) = codes "set" ∷ item ∷ signed_decimal a ∷ []
+deed_fields item (deeds.Draw a) = codes "draw" ∷ item ∷ signed_decimal a ∷ []
+deed_fields item deeds.Get = codes "get" ∷ item ∷ []
+
+abbrev pub op_fields : List ItemRow → SubOp → List (List ℕ)
+op_fields items o = deed_fields (name_at o.item.0 items) o.deed
+
+abbrev pub pick_fields : ℕ → List (List ℕ)
+pick_fields k = codes "pick" ∷ decimal k ∷ []
+
+abbrev pub ops_rows : List ItemRow → List SubOp → List (List (List ℕ))
+ops_rows items ops = map (op_fields items) ops
+
+-- each subtransaction behind the root with its operations, by number
+abbrev pub subs_rows : List ItemRow → List Sub → List (List (List ℕ))
+subs_rows items [] = []
+subs_rows items (x ∷ xs) = sub_fields x ∷ (ops_rows items x.ops ++ subs_rows items xs)
+
+-- a tree's row with its root's operations, and then the others
+abbrev pub tree_rows : List ItemRow → TreeKind → List ℕ → List Sub → List (List (List ℕ))
+tree_rows items kind name [] = []
+tree_rows items kind name (x ∷ xs) = tree_fields kind name x.node.0 ∷ (ops_rows items x.ops ++ subs_rows items xs)
+
+abbrev pub rows_of_tree : List ItemRow → Option Tree → List (List (List ℕ))
+rows_of_tree items None = []
+rows_of_tree items (Some t) = tree_rows items t.kind t.name t.subs
+
+abbrev pub rows_of_row : List ItemRow → List Tree → ScriptRow → List (List (List ℕ))
+rows_of_row items ts (rows.Tree n) = rows_of_tree items (slice_get ts n.0)
+rows_of_row items ts rows.Advance = (codes "advance" ∷ []) ∷ []
+rows_of_row items ts rows.Settle = (codes "settle" ∷ []) ∷ []
+
+abbrev pub rows_of_rows : List ItemRow → List Tree → List ScriptRow → List (List (List ℕ))
+rows_of_rows items ts [] = []
+rows_of_rows items ts (r ∷ rs) = rows_of_row items ts r ++ rows_of_rows items ts rs
+
+-- the number of nodes, all items, all rows with their trees, and then all picks
+abbrev pub rows_of : ScriptData → List (List (List ℕ))
+rows_of s = nodes_fields s.nodes ∷ (map item_fields s.items ++ (rows_of_rows s.items s.trees s.rows ++ map pick_fields s.picks))
+
+abbrev pub written : ScriptData → List ℕ
+written s = lines (rows_of s)
+
+-- all names of items, and of trees, are ASCII
+abbrev pub AreAsciiItems : List ItemRow → Type 0
+AreAsciiItems items = AllByRecursion (λ (r : ItemRow). IsAscii r.name) items
+
+abbrev pub AreAsciiTrees : List Tree → Type 0
+AreAsciiTrees ts = AllByRecursion (λ (t : Tree). IsAscii t.name) ts

@@ -1,12 +1,11 @@
 // The words that rows begin with, those of kinds, and names.
 ghost use Rattle.std.specs.Prelude.{◌≡◌, MatchOption, true, false};
-ghost use Rattle.std.specs.List.{list_all};
-ghost use Rattle.tx_trees.specs.Names.{is_name, is_name_byte};
+ghost use Rattle.tx_trees.specs.Names.{is_name};
 ghost use Rattle.script_reader.specs.Words.{kind_of, len_fits, op_word_of, tree_kind_of, word_of};
 
 use commute_ops::Kind;
 use tv_base::Name;
-use tx_trees::TreeKind;
+use tx_trees::{TreeKind, is_plain_name};
 
 // An operation with an amount.
 #[derive(Clone, Copy, Debug, PartialEq, Eq)]
@@ -119,17 +118,14 @@ pub(crate) fn kind_of(word: &[u8]) -> Option<Kind>
     }
 }
 
-// Whether all bytes are letters, digits, `_`, `-` or `.`.
-fn is_plain(bytes: &[u8]) -> bool
-    ensures { result ≡ list_all is_name_byte bytes.now }
-{
-    bytes.iter().all(|b| b.is_ascii_alphanumeric() || *b == b'_' || *b == b'-' || *b == b'.')
-}
-
 // The name that an item or a tree may be given.
 pub(crate) fn name_of(bytes: &[u8]) -> Option<Name>
     ensures { MatchOption result (is_name bytes.now ≡ false) (λ n. (is_name bytes.now ≡ true) × (n ≡ bytes.now)) }
 {
     let name = Name::new(bytes)?;
-    if is_plain(bytes) { Some(name) } else { None }
+    if is_plain_name(bytes) {
+        Some(name)
+    } else {
+        None
+    }
 }

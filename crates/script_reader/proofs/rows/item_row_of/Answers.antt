@@ -1,4 +1,4 @@
-use Rattle.std.proofs.Common.{sym, subst, Result, ℤ, ◌∙◌}
+use Rattle.std.proofs.Common.{sym, subst, Result, ℤ}
 use Rattle.tx_trees.specs.ScriptData.{ScriptData}
 use Rattle.tx_trees.specs.declared.why.Why.{Why}
 use Rattle.script_reader.specs.Rows.{Leaves, item_of}
