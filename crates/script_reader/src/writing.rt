@@ -200,12 +200,7 @@ fn push_deed(text: &mut Text, item: &[u8], deed: &Deed) -> Result<(), NoMemory>
 }
 
 // An operation with an amount.
-fn push_deed_of(
-    text: &mut Text,
-    word: &[u8],
-    item: &[u8],
-    amount: &Amount,
-) -> Result<(), NoMemory>
+fn push_deed_of(text: &mut Text, word: &[u8], item: &[u8], amount: &Amount) -> Result<(), NoMemory>
     requires word { IsAscii word.now }
     requires item { IsAscii item.now }
     ensures { OnOk result (text.new ≡ text.old ++ line (word.now ∷ item.now ∷ signed_decimal amount.now ∷ [])) }

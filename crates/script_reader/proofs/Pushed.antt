@@ -1,0 +1,98 @@
+-- What is pushed piece by piece is the text of the rows.
+use Rattle.std.proofs.Common.{◌≡◌, ◌+◌, ◌-◌, ◌<◌, ◌≤◌, ◌&&◌, ◌∙◌, ◌∷◌, ◌++◌, [], List, Bool, true, false, ℕ, zero, suc, length, get_or, take, drop, map, Result, Ok, Err, OnOk, refl, sym, ap, arith, append_assoc, add-one, drop-cons}
+use Rattle.std.specs.Prelude.{IsTrue}
+use Rattle.std.specs.List.{list_all, AllByRecursion}
+use Rattle.std.specs.Str.{IsAscii}
+use Rattle.std.proofs.lemmas.Bool.Decides.{nat_tests}
+use Rattle.std.proofs.lemmas.Grind.{common_steps}
+use Rattle.tx_trees.specs.Names.{is_name, is_name_byte, has_name_len}
+use Rattle.tx_trees.specs.Rebuilt.{name_at}
+use Rattle.tx_trees.specs.ScriptData.{ScriptData}
+use Rattle.tx_trees.specs.Valid.{IsItem, IsTree}
+use Rattle.tx_trees.specs.declared.parts.ItemRow.{ItemRow}
+use Rattle.tx_trees.specs.declared.parts.ScriptRow.{ScriptRow}
+use Rattle.tx_trees.specs.declared.parts.Sub.{Sub}
+use Rattle.tx_trees.specs.declared.parts.SubOp.{SubOp}
+use Rattle.tx_trees.specs.declared.parts.Tree.{Tree}
+use Rattle.tx_trees.specs.declared.parts.TreeKind.{TreeKind}
+use Rattle.script_reader.specs.Written.{AreAsciiItems, AreAsciiTrees, item_fields, line, lines, nodes_fields, ops_rows, pick_fields, rows_of_row, rows_of_rows, sub_fields, subs_rows, tree_fields, tree_rows, written}
+
+pub lines-append : (a b : List (List (List ℕ))) → lines (a ++ b) ≡ lines a ++ lines b
+lines-append [] b = refl
+lines-append (r ∷ rs) b = ap (λ (t : List ℕ). line r ++ t) (lines-append rs b) ∙ sym (append_assoc (line r) (lines rs) (lines b))
+
+-- one more subtransaction with its operations
+pub sub_pushed : (items : List ItemRow) (xs : List Sub) (i : ℕ) (x : Sub) (ops : List SubOp) (t a b u : List ℕ) → i < length xs → x ≡ get_or xs i x → ops ≡ x.ops → a ≡ t ++ line (sub_fields x) → b ≡ a ++ lines (ops_rows items ops)
+    → t ++ lines (subs_rows items (drop i xs)) ≡ u → b ++ lines (subs_rows items (drop (i + 1) xs)) ≡ u
+sub_pushed items xs i x ops t a b u lt here same ha hb so_far =
+    let rest = lines (subs_rows items (drop (suc i) xs)) in
+    let next : drop i xs ≡ x ∷ drop (suc i) xs = drop-cons xs i x lt ∙ ap (λ (y : Sub). y ∷ drop (suc i) xs) (sym here) in
+    let more : lines (subs_rows items (drop i xs)) ≡ line (sub_fields x) ++ (lines (ops_rows items x.ops) ++ rest) =
+    ap (λ (ys : List Sub). lines (subs_rows items ys)) next ∙ ap (λ (y : List ℕ). line (sub_fields x) ++ y) (lines-append (ops_rows items x.ops) (subs_rows items (drop (suc i) xs))) in
+    let regroup : (a ++ lines (ops_rows items x.ops)) ++ rest ≡ t ++ (line (sub_fields x) ++ (lines (ops_rows items x.ops) ++ rest)) = rw ha (simp append_assoc) in
+    rw (add-one, hb, same) (regroup ∙ ap (λ (y : List ℕ). t ++ y) (sym more) ∙ so_far)
+
+-- one more row with its tree
+pub row_pushed : (items : List ItemRow) (ts : List Tree) (rs : List ScriptRow) (i : ℕ) (d : ScriptRow) (t a u : List ℕ) → i < length rs → a ≡ t ++ lines (rows_of_row items ts (get_or rs i d))
+    → t ++ lines (rows_of_rows items ts (drop i rs)) ≡ u → a ++ lines (rows_of_rows items ts (drop (i + 1) rs)) ≡ u
+row_pushed items ts rs i d t a u lt ha so_far =
+    let r = get_or rs i d in
+    let rest = lines (rows_of_rows items ts (drop (suc i) rs)) in
+    let more : lines (rows_of_rows items ts (drop i rs)) ≡ lines (rows_of_row items ts r) ++ rest =
+    ap (λ (ys : List ScriptRow). lines (rows_of_rows items ts ys)) (drop-cons rs i d lt) ∙ lines-append (rows_of_row items ts r) (rows_of_rows items ts (drop (suc i) rs)) in
+    rw (add-one, ha) (append_assoc t (lines (rows_of_row items ts r)) rest ∙ ap (λ (y : List ℕ). t ++ y) (sym more) ∙ so_far)
+
+on_ok : {T E : Type 0} (r : Result T E) (P Q : Type 0) → (P → Q) → OnOk r P → OnOk r Q
+on_ok (Ok t) P Q f h = f h
+on_ok (Err e) P Q f h = tt
+
+behind_first : (y : Sub) (ys : List Sub) → take (length (y ∷ ys) - 1) (drop 1 (y ∷ ys)) ≡ ys
+behind_first y ys = grind (arith, common_steps)
+
+-- a tree's row with its root's operations, and then the others
+pub tree_pushed : {T E : Type 0} (items : List ItemRow) (kind : TreeKind) (name : List ℕ) (xs ss : List Sub) (x : Sub) (ops : List SubOp) (t a b u : List ℕ) (r : Result T E) → 1 ≤ length xs → xs ≡ ss → x ≡ get_or xs 0 x → ops ≡ x.ops
+    → a ≡ t ++ line (tree_fields kind name x.node.0) → b ≡ a ++ lines (ops_rows items ops) → OnOk r (u ≡ b ++ lines (subs_rows items (take (length xs - 1) (drop 1 xs)))) → OnOk r (u ≡ t ++ lines (tree_rows items kind name ss))
+tree_pushed items kind name [] ss x ops t a b u r some same here sops ha hb h = absurd (omega arith)
+tree_pushed items kind name (y ∷ ys) ss x ops t a b u r some same here sops ha hb h =
+    let rest = lines (subs_rows items ys) in
+    let first : b ≡ (t ++ line (tree_fields kind name y.node.0)) ++ lines (ops_rows items y.ops) = hb ∙ rw (ha, sops, here) refl in
+    let whole : lines (tree_rows items kind name ss) ≡ line (tree_fields kind name y.node.0) ++ (lines (ops_rows items y.ops) ++ rest) =
+    ap (λ (zs : List Sub). lines (tree_rows items kind name zs)) (sym same) ∙ ap (λ (z : List ℕ). line (tree_fields kind name y.node.0) ++ z) (lines-append (ops_rows items y.ops) (subs_rows items ys)) in
+    let regroup : b ++ rest ≡ t ++ lines (tree_rows items kind name ss) = rw (first, whole) (simp append_assoc) in
+    on_ok r _ _ (λ e. e ∙ ap (λ (zs : List Sub). b ++ lines (subs_rows items zs)) (behind_first y ys) ∙ regroup) h
+
+-- a byte of a name is ASCII
+byte_ascii : (b : ℕ) (rest : Bool) → (is_name_byte b && rest) ≡ true → b < 128
+byte_ascii b rest h = grind (arith, nat_tests)
+
+rest_holds : (b rest : Bool) → (b && rest) ≡ true → rest ≡ true
+rest_holds true rest h = h
+rest_holds false rest h = absurd (cc h)
+
+bytes_ascii : (bs : List ℕ) → list_all is_name_byte bs ≡ true → (i : ℕ) → get_or bs i 0 < 128
+bytes_ascii [] h i = omega arith
+bytes_ascii (b ∷ bs) h zero = byte_ascii b (list_all is_name_byte bs) h
+bytes_ascii (b ∷ bs) h (suc i) = bytes_ascii bs (rest_holds (is_name_byte b) (list_all is_name_byte bs) h) i
+
+pub name_ascii : (bs : List ℕ) → IsTrue (is_name bs) → IsAscii bs
+name_ascii bs h = bytes_ascii bs (rest_holds (has_name_len bs) (list_all is_name_byte bs) h)
+
+pub items_ascii : (n : ℕ) (items : List ItemRow) → AllByRecursion (IsItem n) items → AreAsciiItems items
+items_ascii n [] h = tt
+items_ascii n (r ∷ rs) h = (name_ascii r.name h.0.name, items_ascii n rs h.1)
+
+pub trees_ascii : (n : ℕ) (items : List ItemRow) (ts : List Tree) → AllByRecursion (IsTree n items) ts → AreAsciiTrees ts
+trees_ascii n items [] h = tt
+trees_ascii n items (t ∷ ts) h = (name_ascii t.name h.0.name, trees_ascii n items ts h.1)
+
+-- all parts, one behind the other
+pub all_pushed : (s : ScriptData) (t a b c d : List ℕ) → t ≡ [] → a ≡ t ++ line (nodes_fields s.nodes) → b ≡ a ++ lines (map item_fields s.items) → c ≡ b ++ lines (rows_of_rows s.items s.trees s.rows)
+    → d ≡ c ++ lines (map pick_fields s.picks) → d ≡ written s
+all_pushed s t a b c d ht ha hb hc hd =
+    let rest = lines-append (map item_fields s.items) (rows_of_rows s.items s.trees s.rows ++ map pick_fields s.picks)
+    ∙ ap (λ (y : List ℕ). lines (map item_fields s.items) ++ y) (lines-append (rows_of_rows s.items s.trees s.rows) (map pick_fields s.picks)) in
+    let start : a ≡ line (nodes_fields s.nodes) = ha ∙ rw ht refl in
+    hd ∙ rw (hc, hb, start) (simp append_assoc) ∙ ap (λ (y : List ℕ). line (nodes_fields s.nodes) ++ y) (sym rest)
+
+pub rows_are : (t : List ℕ) (items : List ItemRow) (ts : List Tree) (rs : List ScriptRow) (s : ScriptData) → items ≡ s.items → ts ≡ s.trees → rs ≡ s.rows → t ++ lines (rows_of_rows items ts rs) ≡ t ++ lines (rows_of_rows s.items s.trees s.rows)
+rows_are t items ts rs s hi ht hr = rw (hi, ht, hr) refl
