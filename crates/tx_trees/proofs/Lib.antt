@@ -1,3 +1,8 @@
 pub mod Last
-pub mod Kept
+pub mod Lists
 pub mod Named
+pub mod Totals
+pub mod Stays
+pub mod Kept
+pub mod Passes
+pub mod Rebuilding

@@ -10,9 +10,9 @@ use Rattle.std.proofs.lemmas.Cmp.{nat_list_eq_equiv}
 use Rattle.tx_trees.specs.declared.parts.ItemRow.{ItemRow}
 use Rattle.tx_trees.specs.declared.parts.Tree.{Tree}
 use Rattle.tx_trees.specs.Adding.{names_tree, place_of}
-use Rattle.tx_trees.specs.Inside.{item_names, tree_names}
+use Rattle.tx_trees.specs.Valid.{item_names, tree_names}
 
-module _ {X : Type 0} (p : List ℕ → Bool) (f : X → List ℕ) (q : X → Bool) (same : (x : X) → p (f x) ≡ q x) where
+module _ {X Y : Type 0} (p : Y → Bool) (f : X → Y) (q : X → Bool) (same : (x : X) → p (f x) ≡ q x) where
   len-map : (xs : List X) → position_or_len p (map f xs) ≡ position_or_len q xs
   len-map [] = refl
   len-map (x ∷ xs) = ap (λ b. cond (not b) (1 + position_or_len p (map f xs)) 0) (same x) ∙ ap (λ n. cond (not (q x)) (1 + n) 0) (len-map xs)
@@ -21,7 +21,7 @@ module _ {X : Type 0} (p : List ℕ → Bool) (f : X → List ℕ) (q : X → Bo
   position-map xs =
       ap (λ n. cond (nat_lt n (length (map f xs))) (Some n) None) (len-map xs) ∙ ap (λ m. cond (nat_lt (position_or_len q xs) m) (Some (position_or_len q xs)) None) (length-map xs f)
 
-  any-map : (xs : List X) → list_any p (map f xs) ≡ list_any q xs
+  pub any-map : (xs : List X) → list_any p (map f xs) ≡ list_any q xs
   any-map [] = refl
   any-map (x ∷ xs) = ap (λ b. b || list_any p (map f xs)) (same x) ∙ ap (λ b. q x || b) (any-map xs)
 

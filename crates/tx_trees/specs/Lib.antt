@@ -3,6 +3,7 @@ pub mod Amounts
 pub mod Counts
 pub mod Inside
 pub mod Names
+pub mod Passing
 pub mod Ranges
 pub mod Rebuilt
 pub mod ScriptData

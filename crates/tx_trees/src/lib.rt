@@ -1,13 +1,20 @@
-//! Scripts: the nodes, items, update and read trees, rows and picks that a run is made of. A script is valid by its type.
+//! Scripts: the nodes, items, trees, rows and picks that a run is made of. A script is valid by its type.
 #![tactic(auto)]
 
+mod counts;
 mod lookups;
 mod name_index;
+mod names;
 mod parts;
+mod ranges;
+mod rebuilt;
 mod script;
 mod why;
 
+pub use names::is_plain_name;
 pub use parts::{Deed, ItemRow, ScriptRow, Sub, SubOp, SubOps, Subs, Tree, TreeKind};
+pub use ranges::{is_in_range, may_start};
+pub use rebuilt::a_script_is_rebuilt_from_its_rows;
 pub use script::Script;
 pub use why::{Refusal, Why};
 

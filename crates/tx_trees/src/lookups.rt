@@ -1,11 +1,9 @@
 // Look-ups in the parts of a script, and changes at their end.
-ghost use Rattle.std.specs.Prelude.{◌≡◌, ◌<◌, ◌≤◌, [], length, OnOk, OnErr, IfErr, IfOk, unsigned_abs};
-ghost use Rattle.commute_ops.specs.declared.kinds.TheConstants.{MOST_AMOUNT};
-ghost use Rattle.tx_trees.specs.Valid.{deed_fits, magnitude, op_fits};
+ghost use Rattle.std.specs.Prelude.{◌≡◌, ◌<◌, [], length, OnOk, OnErr, IfOk};
+ghost use Rattle.tx_trees.specs.Valid.{deed_fits, op_fits};
 ghost use Rattle.tx_trees.specs.Adding.{kind_at, last_count, last_kind, last_node, last_subs, node_at, on_last, on_last_sub, push_op, push_sub, rooted};
 
 use crate::parts::{Deed, ItemRow, Sub, SubOp, Subs, Tree, TreeKind};
-use crate::why::Refusal;
 use commute_ops::{Kind, Op};
 use std::alloc::Global;
 use tv_base::{Name, NoMemory, NodeNo, Seq, SubNo};
@@ -61,29 +59,6 @@ fn op_fits(kind: Kind, op: Op) -> bool
     }
 }
 
-// The magnitude of an item's initial value.
-pub(crate) fn initial_size(row: &ItemRow) -> u64
-    requires { unsigned_abs row.now.initial ≤ MOST_AMOUNT }
-    ensures { result ≡ unsigned_abs row.now.initial }
-{
-    row.initial.unsigned_abs() as u64
-}
-
-// The magnitude of the amount that an operation names.
-pub(crate) fn magnitude(deed: Deed) -> u64
-    requires { magnitude deed ≤ MOST_AMOUNT }
-    ensures { result ≡ magnitude deed }
-{
-    match deed {
-        Deed::Apply(Op::Add(amount)) => amount.unsigned_abs() as u64,
-        Deed::Apply(Op::Top(amount)) => amount.unsigned_abs() as u64,
-        Deed::Apply(Op::Put(amount)) => amount.unsigned_abs() as u64,
-        Deed::Get => 0,
-        Deed::Set(amount) => amount.unsigned_abs() as u64,
-        Deed::Draw(amount) => amount.unsigned_abs() as u64,
-    }
-}
-
 // How many subtransactions the last tree has.
 pub(crate) fn last_subs(trees: &[Tree]) -> usize
     requires { 0 < length trees.now }
@@ -136,41 +111,42 @@ pub(crate) fn rooted(
 }
 
 // Puts a subtransaction behind those of the last tree.
-pub(crate) fn push_sub(trees: &mut Vec<Tree>, sub: Sub) -> Result<(), Refusal>
+pub(crate) fn push_sub(trees: &mut Vec<Tree>, sub: Sub) -> Result<(), NoMemory>
     requires { 0 < length trees.old.items }
     ensures ok { OnOk result (trees.new.items ≡ on_last (push_sub sub) trees.old.items) }
     ensures err { OnErr result (trees.new.items ≡ trees.old.items) }
-    ensures memory { IfErr result (λ e. e ≡ Refusal.NoMemory) }
 {
     let last = trees.len() - 1;
     let tree = &mut trees[last];
-    tree.subs.push(sub)?;
+    if let Err((none, _)) = tree.subs.push(sub) {
+        return Err(none);
+    }
     Ok(())
 }
 
 // Puts an operation behind those of the last subtransaction.
-fn push_to_last(alloc: Global, subs: &mut Subs, op: SubOp) -> Result<(), Refusal>
+fn push_to_last(alloc: Global, subs: &mut Subs, op: SubOp) -> Result<(), NoMemory>
     requires { 0 < length subs.old }
     ensures ok { OnOk result (subs.new ≡ on_last (push_op op) subs.old) }
     ensures err { OnErr result (subs.new ≡ subs.old) }
-    ensures memory { IfErr result (λ e. e ≡ Refusal.NoMemory) }
 {
     let last = subs.items().len() - 1;
     let spare = empty_sub(alloc, SubNo(0), NodeNo(0));
     let mut sub = subs.put(last, spare);
     let pushed = sub.ops.push(op);
     let _ = subs.put(last, sub);
-    pushed?;
+    if let Err((none, _)) = pushed {
+        return Err(none);
+    }
     Ok(())
 }
 
 // Puts an operation behind those of the last subtransaction of the last tree.
-pub(crate) fn push_op(alloc: Global, trees: &mut Vec<Tree>, op: SubOp) -> Result<(), Refusal>
+pub(crate) fn push_op(alloc: Global, trees: &mut Vec<Tree>, op: SubOp) -> Result<(), NoMemory>
     requires trees { 0 < length trees.old.items }
     requires subs { 0 < last_subs trees.old.items }
     ensures ok { OnOk result (trees.new.items ≡ on_last (on_last_sub (push_op op)) trees.old.items) }
     ensures err { OnErr result (trees.new.items ≡ trees.old.items) }
-    ensures memory { IfErr result (λ e. e ≡ Refusal.NoMemory) }
 {
     let last = trees.len() - 1;
     let tree = &mut trees[last];

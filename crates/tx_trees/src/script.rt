@@ -1,20 +1,25 @@
 // A script, which is valid whatever was added.
-ghost use Rattle.std.specs.Prelude.{◌≡◌, ◌<◌, ◌≤◌, length, is_some, unsigned_abs, IfOk, IfSome};
+ghost use Rattle.std.specs.Prelude.{true, ◌≡◌, ◌<◌, ◌≤◌, ◌+◌, ◌==◌, length, is_some, nat_lt, IfOk, IfSome, OnErr, OnOk};
 ghost use Rattle.commute_ops.specs.declared.kinds.TheConstants.{MOST_AMOUNT};
-ghost use Rattle.tx_trees.specs.Valid.{IsItem, IsValid, magnitude};
-ghost use Rattle.tx_trees.specs.Adding.{Steps, adds_item, adds_op, adds_sub, adds_tree, advances_in, fresh, last_subs, names_tree, place_of};
+ghost use Rattle.tx_trees.specs.Adding.{Steps, adds_advance, adds_item, adds_op, adds_pick, adds_settle, adds_sub, adds_tree, fresh, has_no_op_left, has_no_sub_left, has_no_tree_left, kind_at, last_kind, last_node, last_subs, names_tree, node_at, place_of, with_item, with_op, with_sub, with_tree};
+ghost use Rattle.tx_trees.specs.Amounts.{magnitude};
+ghost use Rattle.tx_trees.specs.Counts.{advances_in};
+ghost use Rattle.tx_trees.specs.Passing.{MayAddItem, MayAddOp, MayAddSub, MayAddTree};
+ghost use Rattle.tx_trees.specs.Valid.{IsValid, deed_fits, load};
 
+use crate::counts::{are_many, has_touched, last_kind, one_put, one_strict, one_update};
 use crate::lookups::{
-    deed_fits, empty_sub, initial_size, kind_at, last_subs, magnitude, node_at, place_of_last,
-    push_op, push_sub, rooted,
+    deed_fits, empty_sub, kind_at, last_subs, node_at, place_of_last, push_op, push_sub, rooted,
 };
 use crate::name_index::NameIndex;
+use crate::names::is_plain_name;
 use crate::parts::{Deed, ItemRow, ScriptRow, SubOp, Tree, TreeKind};
+use crate::ranges::{initial_size, is_in_range, magnitude, may_start};
 use crate::why::{Refusal, Why};
 use commute_ops::MOST_AMOUNT;
 use std::alloc::Global;
 use std::marker::Model;
-use tv_base::{ItemNo, Name, NodeNo, SubNo, TreeNo};
+use tv_base::{ItemNo, Name, NoMemory, NodeNo, SubNo, TreeNo};
 
 const MOST_ITEMS: usize = 10_000;
 
@@ -27,6 +32,12 @@ const MOST_OPS: u32 = 200_000;
 const MOST_SUBS_OF_TREE: usize = 64;
 
 const MOST_OPS_OF_SUB: usize = 16;
+
+const MOST_PUTS: u64 = 64;
+
+const MOST_STRICT: u32 = 1_000;
+
+const MOST_ADVANCES: u32 = 100;
 
 /// Nodes, items, trees, rows and picks, seen by contracts as `ScriptData`. Whatever was added, a script is valid:
 /// names are taken once, each operation fits its item and its tree, and each item's magnitudes add up to no more
@@ -173,21 +184,26 @@ impl Script {
         self.item_names.number(name)
     }
 
-    // Whether a tree has this name.
-    fn names_tree(&self, name: &Name) -> bool
+    /// Whether a tree has this name.
+    pub fn names_tree(&self, name: &Name) -> bool
         ensures { result ≡ names_tree name.now self.now.trees }
     {
         self.tree_names.has(name)
     }
 
-    /// Adds an item, and gives its number. A refusal is `NameTaken` or `TooMany` (10,000 items); it, and want of
-    /// memory, leave the script as it was. After an item no tree is begun.
+    /// Adds an item, and gives its number. A refusal is `OutOfRange` (the node, or the initial value, by `may_start`),
+    /// `BadName`, `NameTaken` or `TooMany` (10,000 items), the first that holds; it, and want of memory, leave the
+    /// script as it was. After an item no tree is begun.
     pub fn add_item(&mut self, row: ItemRow) -> Result<ItemNo, Refusal>
-        requires item { IsItem self.old.nodes row }
-        requires small { unsigned_abs row.initial ≤ MOST_AMOUNT }
         ensures step { Steps (adds_item self.old row) result self.old self.new }
         ensures number { IfOk result (λ n. n.0 ≡ length self.old.items) }
     {
+        if row.node.0 >= self.nodes || !may_start(row.kind, row.initial) {
+            return Err(Refusal::Why(Why::OutOfRange));
+        }
+        if !is_plain_name(row.name.bytes()) {
+            return Err(Refusal::Why(Why::BadName));
+        }
         if self.names_item(&row.name) {
             return Err(Refusal::Why(Why::NameTaken));
         }
@@ -195,30 +211,70 @@ impl Script {
             return Err(Refusal::Why(Why::TooMany));
         }
         let number = ItemNo(self.items.len() as u32);
-        let initial = initial_size(&row);
+        self.put_item(row)?;
+        Ok(number)
+    }
+
+    // Puts an item, to which nothing is opposed, behind the others.
+    fn put_item(&mut self, row: ItemRow) -> Result<(), NoMemory>
+        requires { MayAddItem self.old row }
+        ensures ok { OnOk result (self.new ≡ with_item self.old row) }
+        ensures err { OnErr result (self.new ≡ self.old) }
+    {
+        let initial = initial_size(&row) as u64;
         self.totals.reserve(1)?;
+        self.puts.reserve(1)?;
         self.items.reserve(1)?;
         self.item_names.add(row.name)?;
         let _ = self.items.push(row);
         let _ = self.totals.push(initial);
+        let _ = self.puts.push(0);
         self.begun = false;
-        Ok(number)
+        Ok(())
     }
 
-    /// Begins a tree with its root alone, which the client sends next, and gives its number. A refusal is
-    /// `NameTaken` or `TooMany` (20,000 trees, 100,000 subtransactions); it, and want of memory, leave the script
-    /// as it was.
+    /// Begins a tree with its root alone, which the client sends next, and gives its number. A refusal is `OutOfRange`
+    /// (the node), `BadName`, `NameTaken` or `TooMany` (20,000 trees, 100,000 subtransactions, 1,000 strict trees, or
+    /// 1,000,000 strict trees times subtransactions of update trees), the first that holds; it, and want of memory,
+    /// leave the script as it was.
     pub fn add_tree(&mut self, name: Name, kind: TreeKind, node: NodeNo) -> Result<TreeNo, Refusal>
-        requires { node.0 < self.old.nodes }
         ensures step { Steps (adds_tree self.old name kind node) result self.old self.new }
         ensures number { IfOk result (λ n. n.0 ≡ length self.old.trees) }
     {
+        if node.0 >= self.nodes {
+            return Err(Refusal::Why(Why::OutOfRange));
+        }
+        if !is_plain_name(name.bytes()) {
+            return Err(Refusal::Why(Why::BadName));
+        }
         if self.names_tree(&name) {
             return Err(Refusal::Why(Why::NameTaken));
         }
-        if self.trees.len() >= MOST_TREES || self.subs >= MOST_SUBS {
+        if self.has_no_tree_left(kind) {
             return Err(Refusal::Why(Why::TooMany));
         }
+        let number = TreeNo(self.trees.len() as u32);
+        self.put_tree(name, kind, node)?;
+        Ok(number)
+    }
+
+    // Whether with one more tree of this kind a limit would be passed.
+    fn has_no_tree_left(&self, kind: TreeKind) -> bool
+        ensures { result ≡ has_no_tree_left kind self.now.trees }
+    {
+        let strict = self.strict + one_strict(kind);
+        self.trees.len() >= MOST_TREES
+            || self.subs >= MOST_SUBS
+            || strict > MOST_STRICT
+            || are_many(strict, self.update_subs + one_update(kind))
+    }
+
+    // Puts a tree with its root alone, to which nothing is opposed, behind the others.
+    fn put_tree(&mut self, name: Name, kind: TreeKind, node: NodeNo) -> Result<(), NoMemory>
+        requires { MayAddTree self.old name kind node }
+        ensures ok { OnOk result (self.new ≡ with_tree self.old name kind node) }
+        ensures err { OnErr result (self.new ≡ self.old) }
+    {
         let number = TreeNo(self.trees.len() as u32);
         let tree = rooted(self.alloc, name, kind, node)?;
         self.rows.reserve(1)?;
@@ -227,18 +283,22 @@ impl Script {
         let _ = self.trees.push(tree);
         let _ = self.rows.push(ScriptRow::Tree(number));
         self.subs += 1;
+        self.strict += one_strict(kind);
+        self.update_subs += one_update(kind);
         self.begun = true;
-        Ok(number)
+        Ok(())
     }
 
-    /// Adds a subtransaction to the tree that is begun, and gives its place there. A refusal is `NoTree`,
-    /// `BadParent` or `TooMany` (64 of the tree, 100,000 of all), the first that holds; it, and want of memory,
-    /// leave the script as it was.
+    /// Adds a subtransaction to the tree that is begun, and gives its place there. A refusal is `OutOfRange` (the
+    /// node), `NoTree`, `BadParent` or `TooMany` (64 of the tree, 100,000 of all, or 1,000,000 strict trees times
+    /// subtransactions of update trees), the first that holds; it, and want of memory, leave the script as it was.
     pub fn add_sub(&mut self, parent: u32, node: NodeNo) -> Result<SubNo, Refusal>
-        requires { node.0 < self.old.nodes }
         ensures step { Steps (adds_sub self.old parent node) result self.old self.new }
         ensures number { IfOk result (λ n. n.0 ≡ last_subs self.old.trees) }
     {
+        if node.0 >= self.nodes {
+            return Err(Refusal::Why(Why::OutOfRange));
+        }
         if !self.begun {
             return Err(Refusal::Why(Why::NoTree));
         }
@@ -246,46 +306,159 @@ impl Script {
         if parent as usize >= count {
             return Err(Refusal::Why(Why::BadParent));
         }
-        if count >= MOST_SUBS_OF_TREE || self.subs >= MOST_SUBS {
+        if self.has_no_sub_left() {
             return Err(Refusal::Why(Why::TooMany));
         }
-        let sub = empty_sub(self.alloc, SubNo(parent), node);
-        push_sub(&mut self.trees, sub)?;
-        self.subs += 1;
+        self.put_sub(parent, node)?;
         Ok(SubNo(count as u32))
     }
 
-    /// Adds an operation to the last subtransaction of the tree that is begun. A refusal is `UnknownItem`, `NoTree`,
-    /// `WrongNode`, `WrongKind`, `TooMany` (16 of the subtransaction, 200,000 of all) or `TooMuch`, the first that
-    /// holds; it, and want of memory, leave the script as it was.
+    // Whether with one more subtransaction of the last tree a limit would be passed.
+    fn has_no_sub_left(&self) -> bool
+        requires { self.now.begun ≡ true }
+        ensures { result ≡ has_no_sub_left self.now.trees }
+    {
+        last_subs(&self.trees) >= MOST_SUBS_OF_TREE
+            || self.subs >= MOST_SUBS
+            || are_many(
+                self.strict,
+                self.update_subs + one_update(last_kind(&self.trees)),
+            )
+    }
+
+    // Puts a subtransaction, to which nothing is opposed, behind those of the last tree.
+    fn put_sub(&mut self, parent: u32, node: NodeNo) -> Result<(), NoMemory>
+        requires { MayAddSub self.old parent node }
+        ensures ok { OnOk result (self.new ≡ with_sub self.old parent node) }
+        ensures err { OnErr result (self.new ≡ self.old) }
+    {
+        let more = one_update(last_kind(&self.trees));
+        let sub = empty_sub(self.alloc, SubNo(parent), node);
+        push_sub(&mut self.trees, sub)?;
+        self.subs += 1;
+        self.update_subs += more;
+        Ok(())
+    }
+
+    /// Adds an operation to the last subtransaction of the tree that is begun. A refusal is `OutOfRange` (by
+    /// `is_in_range`), `UnknownItem`, `NoTree`, `WrongNode`, `WrongKind`, `TooMany` (16 of the subtransaction, 200,000
+    /// of all, 64 `put` on the item), `TooMuch`, or `ItemTwice` (a strict tree has an operation on the item already),
+    /// the first that holds; it, and want of memory, leave the script as it was.
     pub fn add_op(&mut self, item: &Name, deed: Deed) -> Result<(), Refusal>
-        requires { magnitude deed ≤ MOST_AMOUNT }
         ensures { Steps (adds_op self.old item.now deed) result self.old self.new }
     {
+        if !is_in_range(deed) {
+            return Err(Refusal::Why(Why::OutOfRange));
+        }
         let Some(number) = self.item_number(item) else {
             return Err(Refusal::Why(Why::UnknownItem));
         };
         if !self.begun {
             return Err(Refusal::Why(Why::NoTree));
         }
-        let last = place_of_last(&self.trees);
-        if node_at(&self.items, number).0 != last.node.0 {
+        if !self.is_here(number) {
             return Err(Refusal::Why(Why::WrongNode));
         }
-        if !deed_fits(last.kind, kind_at(&self.items, number), deed) {
+        if !self.fits(number, deed) {
             return Err(Refusal::Why(Why::WrongKind));
         }
-        if last.ops >= MOST_OPS_OF_SUB || self.ops >= MOST_OPS {
+        if self.has_no_op_left(number, deed) {
             return Err(Refusal::Why(Why::TooMany));
         }
-        let amount = magnitude(deed);
-        if amount > MOST_AMOUNT - self.totals[number] {
+        if self.is_too_much(number, deed) {
             return Err(Refusal::Why(Why::TooMuch));
         }
-        let item = ItemNo(number as u32);
-        push_op(self.alloc, &mut self.trees, SubOp { item, deed })?;
-        self.totals[number] += amount;
+        if has_touched(&self.trees, number) {
+            return Err(Refusal::Why(Why::ItemTwice));
+        }
+        self.put_op(number, deed)?;
+        Ok(())
+    }
+
+    // Whether the item is at the node of the last subtransaction.
+    fn is_here(&self, item: usize) -> bool
+        requires item { item < length self.now.items }
+        requires begun { self.now.begun ≡ true }
+        ensures { result ≡ (node_at item self.now.items == last_node self.now.trees) }
+    {
+        let last = place_of_last(&self.trees);
+        node_at(&self.items, item).0 == last.node.0
+    }
+
+    // Whether the last tree may have this operation on the item.
+    fn fits(&self, item: usize, deed: Deed) -> bool
+        requires item { item < length self.now.items }
+        requires begun { self.now.begun ≡ true }
+        ensures { result ≡ deed_fits (last_kind self.now.trees) (kind_at item self.now.items) deed }
+    {
+        deed_fits(last_kind(&self.trees), kind_at(&self.items, item), deed)
+    }
+
+    // Whether with one more operation on the item a limit would be passed.
+    fn has_no_op_left(&self, item: usize, deed: Deed) -> bool
+        requires item { item < length self.now.items }
+        requires begun { self.now.begun ≡ true }
+        ensures { result ≡ has_no_op_left item deed self.now.trees }
+    {
+        place_of_last(&self.trees).ops >= MOST_OPS_OF_SUB
+            || self.ops >= MOST_OPS
+            || self.puts[item] + one_put(deed) > MOST_PUTS
+    }
+
+    // Whether the item's magnitudes would be too great with those of the operation.
+    fn is_too_much(&self, item: usize, deed: Deed) -> bool
+        requires { item < length self.now.items }
+        ensures { result ≡ nat_lt MOST_AMOUNT (load item self.now + magnitude deed) }
+    {
+        magnitude(deed) > (MOST_AMOUNT - self.totals[item]) as u128
+    }
+
+    // Puts an operation, to which nothing is opposed, behind those of the last subtransaction.
+    fn put_op(&mut self, item: usize, deed: Deed) -> Result<(), NoMemory>
+        requires { MayAddOp self.old item deed }
+        ensures ok { OnOk result (self.new ≡ with_op self.old item deed) }
+        ensures err { OnErr result (self.new ≡ self.old) }
+    {
+        let alloc = self.alloc;
+        let number = ItemNo(item as u32);
+        push_op(alloc, &mut self.trees, SubOp { item: number, deed })?;
+        self.totals[item] += magnitude(deed) as u64;
+        self.puts[item] += one_put(deed);
         self.ops += 1;
+        Ok(())
+    }
+
+    /// Asks for one more advancement. The one refusal is `TooMany` (100 advancements); it, and want of memory, leave
+    /// the script as it was. Afterwards no tree is begun.
+    pub fn add_advance(&mut self) -> Result<(), Refusal>
+        ensures { Steps (adds_advance self.old) result self.old self.new }
+    {
+        if self.advances >= MOST_ADVANCES {
+            return Err(Refusal::Why(Why::TooMany));
+        }
+        self.rows.push(ScriptRow::Advance)?;
+        self.advances += 1;
+        self.begun = false;
+        Ok(())
+    }
+
+    /// Waits until all before it has ended. There is no refusal but want of memory, which leaves the script as it was.
+    /// Afterwards no tree is begun.
+    pub fn add_settle(&mut self) -> Result<(), Refusal>
+        ensures { Steps (adds_settle self.old) result self.old self.new }
+    {
+        self.rows.push(ScriptRow::Settle)?;
+        self.begun = false;
+        Ok(())
+    }
+
+    /// Adds a number to the picks. There is no refusal but want of memory, which leaves the script as it was.
+    /// Afterwards no tree is begun.
+    pub fn add_pick(&mut self, k: u32) -> Result<(), Refusal>
+        ensures { Steps (adds_pick self.old k) result self.old self.new }
+    {
+        self.picks.push(k)?;
+        self.begun = false;
         Ok(())
     }
 }

@@ -1,0 +1,25 @@
+-- A record that meets no condition of refusal is taken.
+use Rattle.std.proofs.Common.{◌≡◌, ℕ, Bool, true, false, List, [], ◌∷◌, refl, ap, ◌∙◌}
+use Rattle.std.specs.Prelude.{if◌then◌else◌, not, ◌||◌, Option, Some, Result, Ok, Err}
+use Rattle.tv_base.specs.declared.numbers.NodeNo.{NodeNo}
+use Rattle.tx_trees.specs.Adding.{adds_item, adds_op, adds_op_at, adds_sub, adds_tree, judged, place_of, with_item, with_op, with_sub, with_tree}
+use Rattle.tx_trees.specs.Passing.{MayAddItem, MayAddOp, MayAddSub, MayAddTree}
+use Rattle.tx_trees.specs.Ranges.{is_in_range}
+use Rattle.tx_trees.specs.ScriptData.{ScriptData}
+use Rattle.tx_trees.specs.declared.parts.Deed.{Deed}
+use Rattle.tx_trees.specs.declared.parts.ItemRow.{ItemRow}
+use Rattle.tx_trees.specs.declared.parts.TreeKind.{TreeKind}
+use Rattle.tx_trees.specs.declared.why.Why.{Why}
+use Rattle.tx_trees.proofs.Lists.{or_both}
+
+pub item_passes : (s : ScriptData) (r : ItemRow) → MayAddItem s r → adds_item s r ≡ Ok (with_item s r)
+item_passes s r m = rw (m.place, m.start, m.plain, m.free, m.room) refl
+
+pub tree_passes : (s : ScriptData) (name : List ℕ) (kind : TreeKind) (node : NodeNo) → MayAddTree s name kind node → adds_tree s name kind node ≡ Ok (with_tree s name kind node)
+tree_passes s name kind node m = rw (m.place, m.plain, m.free, m.room) refl
+
+pub sub_passes : (s : ScriptData) (parent : ℕ) (node : NodeNo) → MayAddSub s parent node → adds_sub s parent node ≡ Ok (with_sub s parent node)
+sub_passes s parent node m = rw (m.place, m.begun, m.earlier, m.room) refl
+
+pub op_passes : (s : ScriptData) (name : List ℕ) (k : ℕ) (deed : Deed) → place_of name s.items ≡ Some k → MayAddOp s k deed → adds_op s name deed ≡ Ok (with_op s k deed)
+op_passes s name k deed place m = rw (m.range, place, m.begun, m.node, m.kind, m.room, m.load, m.once) refl

@@ -1,0 +1,414 @@
+-- A valid script is built again from its own rows: each of its records meets no condition of refusal, since every limit that
+-- holds of the whole script holds of what stands before the record.
+use Rattle.std.proofs.Common.{◌≡◌, ◌<◌, ◌≤◌, ◌+◌, ◌*◌, ℕ, Bool, true, false, List, [], ◌∷◌, ◌++◌, length, map, refl, sym, ap, ◌∙◌, subst, arith, length-append, append_assoc, inl, inr, cond, suc, zero}
+use Rattle.std.specs.Prelude.{◌==◌, ◌&&◌, ◌||◌, not, IsTrue, Option, Some, None, Result, Ok, Err, is_some, nat_eq, nat_le, nat_lt, position, slice_get, unsigned_abs}
+use Rattle.std.specs.List.{AllByRecursion, IsDistinct, list_any, position_or_len}
+use Rattle.std.specs.Str.{bytes_eq}
+use Rattle.std.proofs.lemmas.Bool.{lt-ltb}
+use Rattle.std.proofs.lemmas.Cmp.{nat_eq_equiv, nat_list_eq_equiv}
+use Rattle.std.proofs.lemmas.Grind.{common_steps}
+use Rattle.std.proofs.lemmas.List.{append-nil, map-append}
+use Rattle.std.proofs.lemmas.Nat.{mul-le}
+use Rattle.std.proofs.lemmas.Option.{slice_get_cases}
+use Rattle.commute_ops.specs.declared.kinds.Kind.{Kind}
+use Rattle.commute_ops.specs.declared.kinds.Kind.TheVariants as kinds
+use Rattle.commute_ops.specs.declared.kinds.TheConstants.{MOST_AMOUNT}
+use Rattle.tv_base.specs.declared.numbers.NodeNo.{NodeNo}
+use Rattle.tv_base.specs.declared.numbers.TreeNo.{TreeNo}
+use Rattle.tx_trees.specs.Adding.{adds_advance, adds_item, adds_op, adds_pick, adds_settle, adds_sub, adds_tree, are_many, fresh, has_no_op_left, has_no_sub_left, has_no_tree_left, has_touched, kind_at, last_count, last_kind, last_node, last_of, last_sub, last_subs, names_tree, node_at, on_last, on_last_sub, place_of, push_op, push_sub, rooted, touch, with_item, with_op, with_row, with_sub, with_tree}
+use Rattle.tx_trees.specs.Amounts.{magnitude}
+use Rattle.tx_trees.specs.Counts.{advances_in, all_ops, all_subs, if_update, is_advance, one_put, one_strict, ops_in, strict_trees, trees_puts, update_subs}
+use Rattle.tx_trees.specs.Passing.{MayAddItem, MayAddOp, MayAddSub, MayAddTree}
+use Rattle.tx_trees.specs.Ranges.{is_in_range, may_start}
+use Rattle.tx_trees.specs.Rebuilt.{RebuiltAs, SameScript, items_added, name_at, ops_added, picks_added, rebuilt, rooted_added, row_added, rows_added, subs_added, then_more, tree_added}
+use Rattle.tx_trees.specs.ScriptData.{ScriptData, is_strict}
+use Rattle.tx_trees.specs.Valid.{AreSubs, IsItem, IsOp, IsSub, IsTree, IsValid, NamesInOrder, OpAt, deed_fits, initial_load, item_names, items_of, load, tree_names, trees_load}
+use Rattle.tx_trees.specs.declared.parts.Deed.{Deed}
+use Rattle.tx_trees.specs.declared.parts.ItemRow.{ItemRow}
+use Rattle.tx_trees.specs.declared.parts.ScriptRow.{ScriptRow}
+use Rattle.tx_trees.specs.declared.parts.ScriptRow.TheVariants as rows
+use Rattle.tx_trees.specs.declared.parts.Sub.{Sub}
+use Rattle.tx_trees.specs.declared.parts.SubOp.{SubOp}
+use Rattle.tx_trees.specs.declared.parts.Tree.{Tree}
+use Rattle.tx_trees.specs.declared.parts.TreeKind.{TreeKind}
+use Rattle.tx_trees.specs.declared.parts.TreeKind.TheVariants as trees
+use Rattle.tx_trees.specs.declared.why.Why.{Why}
+use Rattle.tx_trees.proofs.Last.{last_count_is, last_kind_is, last_node_is, last_sub_is, last_subs_is}
+use Rattle.tx_trees.proofs.Lists.{all-seam, distinct-front, last_of-seam, le_not, lt_not, on_last-seam, or_both, or_left, or_right, slice_get-seam, sum-append, sum-push}
+use Rattle.tx_trees.proofs.Named.{any-map, has_item, has_tree}
+use Rattle.tx_trees.proofs.Passes.{item_passes, op_passes, sub_passes, tree_passes}
+use Rattle.tx_trees.proofs.Stays.{op_within}
+use Rattle.tx_trees.proofs.Totals.{all_subs-sum, load_same, load_total, op_load, op_put, op_total, put_same, put_total, strict-sum, total-part, update-sum}
+
+-- what is taken goes on
+taken : (r : Result ScriptData Why) (t : ScriptData) (more : ScriptData → Result ScriptData Why) → r ≡ Ok t → then_more r more ≡ more t
+taken r t more e = ap (λ (x : Result ScriptData Why). then_more x more) e
+
+-- items
+
+may_start-from : (r : ItemRow) → unsigned_abs r.initial ≤ MOST_AMOUNT → (r.kind ≡ kinds.Bag → unsigned_abs r.initial ≡ 0) → may_start r.kind r.initial ≡ true
+may_start-from r small bag = by r.kind refl
+  where
+    by : (k : Kind) → r.kind ≡ k → may_start r.kind r.initial ≡ true
+    by kinds.Sum e = rw e (grind (arith, common_steps))
+    by kinds.Top e = rw e (grind (arith, common_steps))
+    by kinds.Bag e = let zero : unsigned_abs r.initial ≡ 0 = bag e in rw e (grind (arith, common_steps))
+
+module _ (s : ScriptData) (h : IsValid s) where
+  may_add_item : (acc rest : List ItemRow) (r : ItemRow) → acc ++ r ∷ rest ≡ s.items → MayAddItem (record (fresh s.nodes) { items = acc }) r
+  may_add_item acc rest r e =
+      let item : IsItem s.nodes r = all-seam (IsItem s.nodes) acc rest r (subst (AllByRecursion (IsItem s.nodes)) (sym e) h.items) in
+      let names : item_names s.items ≡ item_names acc ++ r.name ∷ item_names rest = ap item_names (sym e) ∙ map-append (λ (x : ItemRow). x.name) acc (r ∷ rest) in
+      let new : list_any (bytes_eq r.name) (item_names acc) ≡ false =
+      distinct-front bytes_eq nat_list_eq_equiv.symm (item_names acc) (item_names rest) r.name (subst (IsDistinct bytes_eq) names h.distinct_items) in
+      record {
+        place = le_not s.nodes r.node.0 item.node;
+        start = may_start-from r item.small item.bag;
+        plain = item.name;
+        free = sym (has_item r.name acc) ∙ new;
+        room = le_not 10000 (length acc) (omega (arith, h.few_items, ap length e, length-append acc (r ∷ rest)));
+      }
+
+  items_done : (acc rest : List ItemRow) → acc ++ rest ≡ s.items → items_added (record (fresh s.nodes) { items = acc }) rest ≡ Ok (record (fresh s.nodes) { items = s.items })
+  items_done acc [] e = ap (λ (xs : List ItemRow). Ok (let t : ScriptData = record (fresh s.nodes) { items = xs } in t)) (sym (append-nil acc) ∙ e)
+  items_done acc (r ∷ rest) e =
+      taken _ _ (λ t. items_added t rest) (item_passes (record (fresh s.nodes) { items = acc }) r (may_add_item acc rest r e))
+      ∙ items_done (acc ++ r ∷ []) rest (append_assoc acc (r ∷ []) rest ∙ e)
+
+-- operations
+
+-- where the item of a name stands
+position_found : {X : Type 0} (p : X → Bool) (xs ys : List X) (x : X) → list_any p xs ≡ false → p x ≡ true → position p (xs ++ x ∷ ys) ≡ Some (length xs)
+position_found p xs ys x absent found =
+    let at : position_or_len p (xs ++ x ∷ ys) ≡ length xs = first xs absent in
+    let lt : nat_lt (length xs) (length (xs ++ x ∷ ys)) ≡ true = lt-ltb (length xs) (length (xs ++ x ∷ ys)) (omega (arith, length-append xs (x ∷ ys))) in
+    ap (λ (n : ℕ). cond (nat_lt n (length (xs ++ x ∷ ys))) (Some n) None) at ∙ ap (λ (b : Bool). cond b (Some (length xs)) None) lt
+  where
+    first : (zs : List _) → list_any p zs ≡ false → position_or_len p (zs ++ x ∷ ys) ≡ length zs
+    first [] absent = ap (λ (b : Bool). cond (not b) (1 + position_or_len p ys) 0) found
+    first (z ∷ zs) absent =
+        let here = or_left (p z) (list_any p zs) absent in
+        let rest = first zs (or_right (p z) (list_any p zs) absent) in
+        ap (λ (b : Bool). cond (not b) (1 + position_or_len p (zs ++ x ∷ ys)) 0) here ∙ omega (arith, rest)
+
+-- the items before and after item k
+split_at : (items : List ItemRow) (k : ℕ) (row : ItemRow) → slice_get items k ≡ Some row → (front : List ItemRow) × (back : List ItemRow) × ((front ++ row ∷ back ≡ items) × (length front ≡ k))
+split_at [] k row e = absurd cc
+split_at (r ∷ rs) zero row e = let is : row ≡ r = cc in ([], rs, (ap (λ (x : ItemRow). x ∷ rs) is, refl))
+split_at (r ∷ rs) (suc k) row e =
+    let more = split_at rs k row e in
+    (r ∷ more.0, more.1, (ap (λ (xs : List ItemRow). r ∷ xs) more.2.0, ap suc more.2.1))
+
+place_found : (items : List ItemRow) (k : ℕ) (row : ItemRow) → IsDistinct bytes_eq (item_names items) → slice_get items k ≡ Some row → place_of row.name items ≡ Some k
+place_found items k row distinct at =
+    let parts = split_at items k row at in
+    let front = parts.0 in
+    let back = parts.1 in
+    let names : item_names items ≡ item_names front ++ row.name ∷ item_names back = ap item_names (sym parts.2.0) ∙ map-append (λ (x : ItemRow). x.name) front (row ∷ back) in
+    let new : list_any (bytes_eq row.name) (item_names front) ≡ false =
+    distinct-front bytes_eq nat_list_eq_equiv.symm (item_names front) (item_names back) row.name (subst (IsDistinct bytes_eq) names distinct) in
+    let absent : list_any (λ (r : ItemRow). bytes_eq r.name row.name) front ≡ false =
+    sym (any-map (bytes_eq row.name) (λ (r : ItemRow). r.name) (λ r. bytes_eq r.name row.name) (λ r. nat_list_eq_equiv.symm row.name r.name) front) ∙ new in
+    ap (place_of row.name) (sym parts.2.0)
+    ∙ position_found (λ (r : ItemRow). bytes_eq r.name row.name) front back row absent (nat_list_eq_equiv.refl row.name)
+    ∙ ap Some parts.2.1
+
+-- the row of the item of an operation
+row_of : (kind : TreeKind) (node : ℕ) (o : SubOp) (found : Option ItemRow) → OpAt kind node o found → (row : ItemRow) × ((found ≡ Some row) × (row.node.0 ≡ node) × (deed_fits kind row.kind o.deed ≡ true))
+row_of kind node o None h = absurd h
+row_of kind node o (Some row) h = (row, (refl, h.0, h.1))
+
+node_is : (items : List ItemRow) (k : ℕ) (row : ItemRow) → slice_get items k ≡ Some row → node_at k items ≡ row.node.0
+node_is items k row e = rw (e, node_at) refl
+
+kind_is : (items : List ItemRow) (k : ℕ) (row : ItemRow) → slice_get items k ≡ Some row → kind_at k items ≡ row.kind
+kind_is items k row e = rw (e, kind_at) refl
+
+name_is : (items : List ItemRow) (k : ℕ) (row : ItemRow) → slice_get items k ≡ Some row → name_at k items ≡ row.name
+name_is items k row e = rw (e, name_at) refl
+
+-- subtransactions from number k on
+sub_at_seam : (nodes : ℕ) (items : List ItemRow) (kind : TreeKind) (k : ℕ) (xs ys : List Sub) (x : Sub) → AreSubs nodes items kind k (xs ++ x ∷ ys) → IsSub nodes items kind (k + length xs) x
+sub_at_seam nodes items kind k [] ys x h = let same : k ≡ k + 0 = omega arith in subst (λ (j : ℕ). IsSub nodes items kind j x) same h.0
+sub_at_seam nodes items kind k (y ∷ xs) ys x h =
+    let same : k + 1 + length xs ≡ k + length (y ∷ xs) = omega arith in
+    subst (λ (j : ℕ). IsSub nodes items kind j x) same (sub_at_seam nodes items kind (k + 1) xs ys x h.1)
+
+ops-append : (xs ys : List Sub) → ops_in (xs ++ ys) ≡ ops_in xs ++ ops_in ys
+ops-append [] ys = refl
+ops-append (x ∷ xs) ys = ap (λ (os : List SubOp). x.ops ++ os) (ops-append xs ys) ∙ sym (append_assoc x.ops (ops_in xs) (ops_in ys))
+
+-- a tree, by its parts
+abbrev tree_of : List ℕ → TreeKind → List Sub → Tree
+tree_of name kind subs = record { name = name; kind = kind; subs = subs }
+
+-- a subtransaction with so many of its operations
+abbrev cut : Sub → List SubOp → Sub
+cut x os = record x { ops = os }
+
+untouched : (kind : TreeKind) (b : Bool) → (kind ≡ trees.Strict → b ≡ false) → (is_strict kind && b) ≡ false
+untouched trees.Update b e = refl
+untouched trees.Read b e = refl
+untouched trees.Strict b e = e refl
+
+-- what an update tree with more subtransactions counts
+update_grown : (kind : TreeKind) (n m : ℕ) → n < m → if_update kind n + if_update kind 1 ≤ if_update kind m
+update_grown trees.Update n m lt = omega arith
+update_grown trees.Read n m lt = omega arith
+update_grown trees.Strict n m lt = omega arith
+
+module _ (s : ScriptData) (h : IsValid s) where
+  -- the script with its items, these trees and these rows
+  abbrev with_rows : List Tree → List ScriptRow → Bool → ScriptData
+  with_rows ts rs b = record { nodes = s.nodes; items = s.items; trees = ts; rows = rs; picks = []; begun = b }
+
+  tree_here : (T Ts : List Tree) (t : Tree) → T ++ t ∷ Ts ≡ s.trees → IsTree s.nodes s.items t
+  tree_here T Ts t e = all-seam (IsTree s.nodes s.items) T Ts t (subst (AllByRecursion (IsTree s.nodes s.items)) (sym e) h.trees)
+
+  may_add_op : (T Ts : List Tree) (name : List ℕ) (kind : TreeKind) (S X : List Sub) (x : Sub) (O os : List SubOp) (o : SubOp) (rs : List ScriptRow)
+      → T ++ tree_of name kind (S ++ x ∷ X) ∷ Ts ≡ s.trees → O ++ o ∷ os ≡ x.ops
+      → MayAddOp (with_rows (T ++ tree_of name kind (S ++ cut x O ∷ []) ∷ []) rs true) o.item.0 o.deed
+  may_add_op T Ts name kind S X x O os o rs e f =
+      let t : Tree = tree_of name kind (S ++ x ∷ X) in
+      let u : Tree = tree_of name kind (S ++ cut x O ∷ []) in
+      let ts : List Tree = T ++ u ∷ [] in
+      let k = o.item.0 in
+      let tree = tree_here T Ts t e in
+      let sub = sub_at_seam s.nodes s.items kind 0 S X x tree.subs in
+      let here = all-seam (IsOp s.items kind x.node.0) O os o (subst (AllByRecursion (IsOp s.items kind x.node.0)) (sym f) sub.ops) in
+      let row = row_of kind x.node.0 o (slice_get s.items k) here in
+      let range : is_in_range o.deed ≡ true = all-seam (λ (p : SubOp). IsTrue (is_in_range p.deed)) O os o (subst (AllByRecursion (λ (p : SubOp). IsTrue (is_in_range p.deed))) (sym f) sub.amounts) in
+      let within = op_within s.items kind x.node.0 o here in
+      let last : last_of ts ≡ Some u = last_of-seam T u in
+      let its_sub : last_sub ts ≡ Some (cut x O) = last_sub_is ts u (cut x O) last (last_of-seam S (cut x O)) in
+      let node : node_at k s.items ≡ last_node ts = node_is s.items k row.0 row.1.0 ∙ row.1.1 ∙ sym (last_node_is ts (cut x O) its_sub) in
+      let its_kind = kind_is s.items k row.0 row.1.0 in
+      let fits : deed_fits (last_kind ts) (kind_at k s.items) o.deed ≡ true =
+      ap (λ (q : TreeKind). deed_fits q (kind_at k s.items) o.deed) (last_kind_is ts u last) ∙ ap (λ (q : Kind). deed_fits kind q o.deed) its_kind ∙ row.1.2 in
+      let count = last_count_is ts (cut x O) its_sub in
+      let some : length x.ops ≡ length O + suc (length os) = ap length (sym f) ∙ omega (arith, length-append O (o ∷ os)) in
+      let ops : all_ops ts + 1 ≤ all_ops s.trees = subst (λ (z : List Tree). all_ops ts + 1 ≤ all_ops z) e (total-part op_total T Ts t u S X x (cut x O) O os o refl refl (sym f) refl) in
+      let puts : trees_puts k ts + op_put k o ≤ trees_puts k s.trees =
+      subst (λ (z : List Tree). trees_puts k ts + op_put k o ≤ trees_puts k z) e (total-part (put_total k) T Ts t u S X x (cut x O) O os o refl refl (sym f) refl) in
+      let loads : trees_load k ts + op_load k o ≤ trees_load k s.trees =
+      subst (λ (z : List Tree). trees_load k ts + op_load k o ≤ trees_load k z) e (total-part (load_total k) T Ts t u S X x (cut x O) O os o refl refl (sym f) refl) in
+      let touched : kind ≡ trees.Strict → touch k u.subs ≡ false = λ strict.
+      let all : ops_in t.subs ≡ ops_in u.subs ++ o ∷ (os ++ ops_in X) = all_ops_of S X x O os o f in
+      let numbers : items_of t.subs ≡ items_of u.subs ++ k ∷ map (λ (p : SubOp). p.item.0) (os ++ ops_in X) =
+      ap (map (λ (p : SubOp). p.item.0)) all ∙ map-append (λ (p : SubOp). p.item.0) (ops_in u.subs) (o ∷ (os ++ ops_in X)) in
+      let new = distinct-front nat_eq nat_eq_equiv.symm (items_of u.subs) (map (λ (p : SubOp). p.item.0) (os ++ ops_in X)) k (subst (IsDistinct nat_eq) numbers (tree.once strict)) in
+      sym (any-map (nat_eq k) (λ (p : SubOp). p.item.0) (λ p. nat_eq p.item.0 k) (λ p. nat_eq_equiv.symm k p.item.0) (ops_in u.subs)) ∙ new in
+      let once : has_touched k ts ≡ false = rw (last, has_touched) (untouched kind (touch k u.subs) touched) in
+      record {
+        range = range;
+        item = within;
+        begun = refl;
+        node = same_number (node_at k s.items) (last_node ts) node;
+        kind = fits;
+        room = or_both _ _ (or_both _ _ (le_not 16 (last_count ts) (omega (arith, sub.few))) (le_not 200000 (all_ops ts) (omega (arith, h.limited.ops))))
+            (lt_not 64 (trees_puts k ts + one_put o.deed) (omega (arith, h.limited.puts k within, put_same o k refl)));
+        load = lt_not MOST_AMOUNT (load k (with_rows ts rs true) + magnitude o.deed) (omega (arith, h.loads k within, load_same o k refl));
+        once = once;
+      }
+    where
+      same_number : (a b : ℕ) → a ≡ b → (a == b) ≡ true
+      same_number a b e = grind (arith, common_steps)
+
+      all_ops_of : (S X : List Sub) (x : Sub) (O os : List SubOp) (o : SubOp) → O ++ o ∷ os ≡ x.ops → ops_in (S ++ x ∷ X) ≡ ops_in (S ++ cut x O ∷ []) ++ o ∷ (os ++ ops_in X)
+      all_ops_of S X x O os o f =
+          let front : ops_in (S ++ cut x O ∷ []) ≡ ops_in S ++ O = ops-append S (cut x O ∷ []) ∙ ap (λ (ps : List SubOp). ops_in S ++ ps) (append-nil O) in
+          ops-append S (x ∷ X)
+          ∙ ap (λ (ps : List SubOp). ops_in S ++ (ps ++ ops_in X)) (sym f)
+          ∙ ap (λ (ps : List SubOp). ops_in S ++ ps) (append_assoc O (o ∷ os) (ops_in X))
+          ∙ sym (append_assoc (ops_in S) O (o ∷ (os ++ ops_in X)))
+          ∙ ap (λ (ps : List SubOp). ps ++ o ∷ (os ++ ops_in X)) (sym front)
+
+  -- the operations of a subtransaction
+  ops_done : (T Ts : List Tree) (name : List ℕ) (kind : TreeKind) (S X : List Sub) (x : Sub) (O os : List SubOp) (rs : List ScriptRow)
+      → T ++ tree_of name kind (S ++ x ∷ X) ∷ Ts ≡ s.trees → O ++ os ≡ x.ops
+      → ops_added (with_rows (T ++ tree_of name kind (S ++ cut x O ∷ []) ∷ []) rs true) os ≡ Ok (with_rows (T ++ tree_of name kind (S ++ x ∷ []) ∷ []) rs true)
+  ops_done T Ts name kind S X x O [] rs e f =
+      ap (λ (os : List SubOp). Ok (with_rows (T ++ tree_of name kind (S ++ cut x os ∷ []) ∷ []) rs true)) (sym (append-nil O) ∙ f)
+  ops_done T Ts name kind S X x O (o ∷ os) rs e f =
+      let u : Tree = tree_of name kind (S ++ cut x O ∷ []) in
+      let st : ScriptData = with_rows (T ++ u ∷ []) rs true in
+      let tree = tree_here T Ts (tree_of name kind (S ++ x ∷ X)) e in
+      let sub = sub_at_seam s.nodes s.items kind 0 S X x tree.subs in
+      let here = all-seam (IsOp s.items kind x.node.0) O os o (subst (AllByRecursion (IsOp s.items kind x.node.0)) (sym f) sub.ops) in
+      let row = row_of kind x.node.0 o (slice_get s.items o.item.0) here in
+      let its_name = name_is s.items o.item.0 row.0 row.1.0 in
+      let place : place_of (name_at o.item.0 s.items) s.items ≡ Some o.item.0 = ap (λ (n : List ℕ). place_of n s.items) its_name ∙ place_found s.items o.item.0 row.0 h.distinct_items row.1.0 in
+      let passes = op_passes st (name_at o.item.0 s.items) o.item.0 o.deed place (may_add_op T Ts name kind S X x O os o rs e f) in
+      let pushed : on_last (on_last_sub (push_op o)) (T ++ u ∷ []) ≡ T ++ tree_of name kind (S ++ cut x (O ++ o ∷ []) ∷ []) ∷ [] =
+      on_last-seam (on_last_sub (push_op o)) T u ∙ ap (λ (xs : List Sub). T ++ tree_of name kind xs ∷ []) (on_last-seam (push_op o) S (cut x O)) in
+      taken _ _ (λ t. ops_added t os) (passes ∙ ap (λ (ts : List Tree). Ok (with_rows ts rs true)) pushed)
+      ∙ ops_done T Ts name kind S X x (O ++ o ∷ []) os rs e (append_assoc O (o ∷ []) os ∙ f)
+
+  -- the other subtransactions of a tree
+
+  may_add_sub : (T Ts : List Tree) (name : List ℕ) (kind : TreeKind) (S X : List Sub) (x : Sub) (rs : List ScriptRow) → T ++ tree_of name kind (S ++ x ∷ X) ∷ Ts ≡ s.trees → 0 < length S
+      → MayAddSub (with_rows (T ++ tree_of name kind S ∷ []) rs true) x.parent.0 x.node
+  may_add_sub T Ts name kind S X x rs e some =
+      let t : Tree = tree_of name kind (S ++ x ∷ X) in
+      let u : Tree = tree_of name kind S in
+      let ts : List Tree = T ++ u ∷ [] in
+      let tree = tree_here T Ts t e in
+      let sub = sub_at_seam s.nodes s.items kind 0 S X x tree.subs in
+      let last : last_of ts ≡ Some u = last_of-seam T u in
+      let count = last_subs_is ts u last in
+      let len = length-append S (x ∷ X) in
+      let subs : all_subs s.trees ≡ all_subs T + (length t.subs + all_subs Ts) = ap all_subs (sym e) ∙ sum-append (λ (v : Tree). length v.subs) all_subs all_subs-sum T (t ∷ Ts) in
+      let subs_now = sum-push (λ (v : Tree). length v.subs) all_subs all_subs-sum T u in
+      let strict : strict_trees s.trees ≡ strict_trees T + (one_strict kind + strict_trees Ts) = ap strict_trees (sym e) ∙ sum-append (λ (v : Tree). one_strict v.kind) strict_trees strict-sum T (t ∷ Ts) in
+      let strict_now = sum-push (λ (v : Tree). one_strict v.kind) strict_trees strict-sum T u in
+      let updates : update_subs s.trees ≡ update_subs T + (if_update kind (length t.subs) + update_subs Ts) =
+      ap update_subs (sym e) ∙ sum-append (λ (v : Tree). if_update v.kind (length v.subs)) update_subs update-sum T (t ∷ Ts) in
+      let updates_now = sum-push (λ (v : Tree). if_update v.kind (length v.subs)) update_subs update-sum T u in
+      let grown = update_grown kind (length S) (length t.subs) (omega arith) in
+      let one : if_update (last_kind ts) 1 ≡ if_update kind 1 = ap (λ (q : TreeKind). if_update q 1) (last_kind_is ts u last) in
+      let pairs = mul-le (strict_trees ts) (update_subs ts + if_update (last_kind ts) 1) (strict_trees s.trees) (update_subs s.trees) (omega arith) (omega arith) in
+      record {
+        place = le_not s.nodes x.node.0 sub.node;
+        begun = refl;
+        earlier = le_not (last_subs ts) x.parent.0 (omega (arith, sub.parent));
+        room = or_both _ _ (or_both _ _ (le_not 64 (last_subs ts) (omega (arith, tree.few))) (le_not 100000 (all_subs ts) (omega (arith, h.limited.subs))))
+            (lt_not 1000000 (strict_trees ts * (update_subs ts + if_update (last_kind ts) 1)) (omega (arith, pairs, h.limited.pairs)));
+      }
+
+  subs_done : (T Ts : List Tree) (name : List ℕ) (kind : TreeKind) (S X : List Sub) (rs : List ScriptRow) → T ++ tree_of name kind (S ++ X) ∷ Ts ≡ s.trees → 0 < length S
+      → subs_added (with_rows (T ++ tree_of name kind S ∷ []) rs true) X ≡ Ok (with_rows (T ++ tree_of name kind (S ++ X) ∷ []) rs true)
+  subs_done T Ts name kind S [] rs e some = ap (λ (xs : List Sub). Ok (with_rows (T ++ tree_of name kind xs ∷ []) rs true)) (sym (append-nil S))
+  subs_done T Ts name kind S (x ∷ X) rs e some =
+      let u : Tree = tree_of name kind S in
+      let st : ScriptData = with_rows (T ++ u ∷ []) rs true in
+      let passes = sub_passes st x.parent.0 x.node (may_add_sub T Ts name kind S X x rs e some) in
+      let pushed = on_last-seam (push_sub (cut x [])) T u in
+      let next : List Sub → Result ScriptData Why = λ (done : List Sub). Ok (with_rows (T ++ tree_of name kind done ∷ []) rs true) in
+      let regrouped : (S ++ x ∷ []) ++ X ≡ S ++ x ∷ X = append_assoc S (x ∷ []) X in
+      let same : T ++ tree_of name kind ((S ++ x ∷ []) ++ X) ∷ Ts ≡ s.trees = ap (λ (xs : List Sub). T ++ tree_of name kind xs ∷ Ts) regrouped ∙ e in
+      taken _ _ (λ t. then_more (ops_added t x.ops) (λ v. subs_added v X)) (passes ∙ ap (λ (ts : List Tree). Ok (with_rows ts rs true)) pushed)
+      ∙ taken _ _ (λ v. subs_added v X) (ops_done T Ts name kind S X x [] x.ops rs e refl)
+      ∙ subs_done T Ts name kind (S ++ x ∷ []) X rs same (omega (arith, length-append S (x ∷ [])))
+      ∙ ap next regrouped
+
+  -- a tree
+
+  may_add_tree : (T Ts : List Tree) (name : List ℕ) (kind : TreeKind) (x : Sub) (X : List Sub) (rs : List ScriptRow) (b : Bool) → T ++ tree_of name kind (x ∷ X) ∷ Ts ≡ s.trees
+      → MayAddTree (with_rows T rs b) name kind x.node
+  may_add_tree T Ts name kind x X rs b e =
+      let t : Tree = tree_of name kind (x ∷ X) in
+      let tree = tree_here T Ts t e in
+      let names : tree_names s.trees ≡ tree_names T ++ name ∷ tree_names Ts = ap tree_names (sym e) ∙ map-append (λ (v : Tree). v.name) T (t ∷ Ts) in
+      let new : list_any (bytes_eq name) (tree_names T) ≡ false =
+      distinct-front bytes_eq nat_list_eq_equiv.symm (tree_names T) (tree_names Ts) name (subst (IsDistinct bytes_eq) names h.distinct_trees) in
+      let len : length s.trees ≡ length T + suc (length Ts) = ap length (sym e) ∙ omega (arith, length-append T (t ∷ Ts)) in
+      let subs : all_subs s.trees ≡ all_subs T + (length t.subs + all_subs Ts) = ap all_subs (sym e) ∙ sum-append (λ (v : Tree). length v.subs) all_subs all_subs-sum T (t ∷ Ts) in
+      let strict : strict_trees s.trees ≡ strict_trees T + (one_strict kind + strict_trees Ts) = ap strict_trees (sym e) ∙ sum-append (λ (v : Tree). one_strict v.kind) strict_trees strict-sum T (t ∷ Ts) in
+      let updates : update_subs s.trees ≡ update_subs T + (if_update kind (length t.subs) + update_subs Ts) =
+      ap update_subs (sym e) ∙ sum-append (λ (v : Tree). if_update v.kind (length v.subs)) update_subs update-sum T (t ∷ Ts) in
+      let grown = update_grown kind 0 (length t.subs) (omega arith) in
+      let pairs = mul-le (strict_trees T + one_strict kind) (update_subs T + if_update kind 1) (strict_trees s.trees) (update_subs s.trees) (omega arith) (omega arith) in
+      record {
+        place = le_not s.nodes x.node.0 tree.subs.0.node;
+        plain = tree.name;
+        free = sym (has_tree name T) ∙ new;
+        room = or_both _ _ (or_both _ _ (or_both _ _ (le_not 20000 (length T) (omega (arith, h.few_trees))) (le_not 100000 (all_subs T) (omega (arith, h.limited.subs))))
+            (lt_not 1000 (strict_trees T + one_strict kind) (omega (arith, h.limited.strict))))
+            (lt_not 1000000 ((strict_trees T + one_strict kind) * (update_subs T + if_update kind 1)) (omega (arith, pairs, h.limited.pairs)));
+      }
+
+  rooted_done : (T Ts : List Tree) (name : List ℕ) (kind : TreeKind) (subs : List Sub) (rs : List ScriptRow) (b : Bool) → T ++ tree_of name kind subs ∷ Ts ≡ s.trees
+      → rooted_added (with_rows T rs b) name kind subs ≡ Ok (with_rows (T ++ tree_of name kind subs ∷ []) (rs ++ rows.Tree (record { 0 = length T }) ∷ []) true)
+  rooted_done T Ts name kind [] rs b e = absurd (omega (arith, (tree_here T Ts (tree_of name kind []) e).root))
+  rooted_done T Ts name kind (x ∷ X) rs b e =
+      let after : List ScriptRow = rs ++ rows.Tree (record { 0 = length T }) ∷ [] in
+      let passes = tree_passes (with_rows T rs b) name kind x.node (may_add_tree T Ts name kind x X rs b e) in
+      let tree = tree_here T Ts (tree_of name kind (x ∷ X)) e in
+      let root : record { parent = record { 0 = 0 }; node = x.node; ops = [] } ≡ cut x [] = rooted_as x (tree.subs.0.root refl) in
+      taken _ _ (λ t. then_more (ops_added t x.ops) (λ v. subs_added v X)) (passes ∙ ap (λ (y : Sub). Ok (with_rows (T ++ tree_of name kind (y ∷ []) ∷ []) after true)) root)
+      ∙ taken _ _ (λ v. subs_added v X) (ops_done T Ts name kind [] X x [] x.ops after e refl)
+      ∙ subs_done T Ts name kind (x ∷ []) X after e (omega arith)
+    where
+      rooted_as : (x : Sub) → x.parent.0 ≡ 0 → (let y : Sub = record { parent = record { 0 = 0 }; node = x.node; ops = [] } in y) ≡ cut x []
+      rooted_as x e = ap (λ (p : ℕ). let y : Sub = record { parent = record { 0 = p }; node = x.node; ops = [] } in y) (sym e)
+
+-- rows
+
+some_left : (k n : ℕ) (rs : List ScriptRow) → NamesInOrder k n rs → k ≤ n
+some_left k n [] names = omega arith
+some_left k n (rows.Tree t ∷ rs) names = omega (arith, some_left (k + 1) n rs names.1)
+some_left k n (rows.Advance ∷ rs) names = some_left k n rs names
+some_left k n (rows.Settle ∷ rs) names = some_left k n rs names
+
+advances-append : (xs ys : List ScriptRow) → advances_in (xs ++ ys) ≡ advances_in xs + advances_in ys
+advances-append [] ys = omega arith
+advances-append (x ∷ xs) ys = omega (arith, advances-append xs ys)
+
+no_more : {A : Type 0} (xs ys : List A) → length xs ≡ length (xs ++ ys) → xs ≡ xs ++ ys
+no_more xs [] e = sym (append-nil xs)
+no_more xs (y ∷ ys) e = absurd (omega (arith, length-append xs (y ∷ ys)))
+
+module _ (s : ScriptData) (h : IsValid s) where
+  advance_taken : (T : List Tree) (R rest : List ScriptRow) (b : Bool) → R ++ rows.Advance ∷ rest ≡ s.rows → adds_advance (with_rows s h T R b) ≡ Ok (with_rows s h T (R ++ rows.Advance ∷ []) false)
+  advance_taken T R rest b e =
+      let some : advances_in s.rows ≡ advances_in R + (1 + advances_in rest) = ap advances_in (sym e) ∙ advances-append R (rows.Advance ∷ rest) in
+      let few : nat_le 100 (advances_in R) ≡ false = le_not 100 (advances_in R) (omega (arith, h.limited.advances)) in
+      rw few refl
+
+  tree_taken : (T Ts : List Tree) (R : List ScriptRow) (b : Bool) (n : TreeNo) → T ++ Ts ≡ s.trees → n.0 ≡ length T → length T < length s.trees
+      → (t : Tree) × (us : List Tree) × ((Ts ≡ t ∷ us) × (row_added s.trees (with_rows s h T R b) (rows.Tree n) ≡ Ok (with_rows s h (T ++ t ∷ []) (R ++ rows.Tree n ∷ []) true)))
+  tree_taken T [] R b n e at more = absurd (omega (arith, ap length e, length-append T []))
+  tree_taken T (t ∷ us) R b n e at more =
+      let here : slice_get s.trees n.0 ≡ Some t = ap (slice_get s.trees) at ∙ ap (λ (ts : List Tree). slice_get ts (length T)) (sym e) ∙ slice_get-seam T us t in
+      let number : rows.Tree (record { 0 = length T }) ≡ rows.Tree n = ap (λ (k : ℕ). let m : TreeNo = record { 0 = k } in rows.Tree m) (sym at) in (
+        t,
+        us,
+        (
+          refl,
+          ap (tree_added (with_rows s h T R b)) here
+              ∙ rooted_done s h T us t.name t.kind t.subs R b e
+              ∙ ap (λ (r : ScriptRow). Ok (with_rows s h (T ++ t ∷ []) (R ++ r ∷ []) true)) number,
+        ),
+      )
+
+  rows_done : (T Ts : List Tree) (R rest : List ScriptRow) (b : Bool) → T ++ Ts ≡ s.trees → R ++ rest ≡ s.rows → NamesInOrder (length T) (length s.trees) rest
+      → (c : Bool) × (rows_added s.trees (with_rows s h T R b) rest ≡ Ok (with_rows s h s.trees s.rows c))
+  rows_done T Ts R [] b e f names =
+      let all : T ≡ s.trees = no_more T Ts (names ∙ ap length (sym e)) ∙ e in
+      let every : R ≡ s.rows = sym (append-nil R) ∙ f in
+      (b, ap (λ (ts : List Tree). Ok (with_rows s h ts R b)) all ∙ ap (λ (rs : List ScriptRow). Ok (with_rows s h s.trees rs b)) every)
+  rows_done T Ts R (rows.Tree n ∷ rest) b e f names =
+      let step = tree_taken T Ts R b n e names.0 (omega (arith, some_left (length T + 1) (length s.trees) rest names.1)) in
+      let t = step.0 in
+      let us = step.1 in
+      let parts : T ++ t ∷ us ≡ s.trees = ap (λ (ts : List Tree). T ++ ts) (sym step.2.0) ∙ e in
+      let len : length (T ++ t ∷ []) ≡ length T + 1 = omega (arith, length-append T (t ∷ [])) in
+      let later : NamesInOrder (length (T ++ t ∷ [])) (length s.trees) rest = subst (λ (k : ℕ). NamesInOrder k (length s.trees) rest) (sym len) names.1 in
+      let more = rows_done (T ++ t ∷ []) us (R ++ rows.Tree n ∷ []) rest true (append_assoc T (t ∷ []) us ∙ parts) (append_assoc R (rows.Tree n ∷ []) rest ∙ f) later in
+      (more.0, taken _ _ (λ u. rows_added s.trees u rest) step.2.1 ∙ more.1)
+  rows_done T Ts R (rows.Advance ∷ rest) b e f names =
+      let more = rows_done T Ts (R ++ rows.Advance ∷ []) rest false e (append_assoc R (rows.Advance ∷ []) rest ∙ f) names in
+      (more.0, taken _ _ (λ u. rows_added s.trees u rest) (advance_taken T R rest b f) ∙ more.1)
+  rows_done T Ts R (rows.Settle ∷ rest) b e f names =
+      let more = rows_done T Ts (R ++ rows.Settle ∷ []) rest false e (append_assoc R (rows.Settle ∷ []) rest ∙ f) names in
+      (more.0, more.1)
+
+  -- picks
+
+  picks_done : (P rest : List ℕ) (b : Bool) → P ++ rest ≡ s.picks → (c : Bool) × (picks_added (record s { picks = P; begun = b }) rest ≡ Ok (record s { begun = c }))
+  picks_done P [] b e = (b, ap (λ (ks : List ℕ). Ok (let u : ScriptData = record s { picks = ks; begun = b } in u)) (sym (append-nil P) ∙ e))
+  picks_done P (k ∷ rest) b e =
+      let more = picks_done (P ++ k ∷ []) rest false (append_assoc P (k ∷ []) rest ∙ e) in
+      (more.0, more.1)
+
+  -- all of it
+  pub is_rebuilt : RebuiltAs s
+  is_rebuilt =
+      let done = rows_done [] s.trees [] s.rows false refl refl h.rows in
+      let picked = picks_done [] s.picks done.0 refl in
+      let last : ScriptData = record s { begun = picked.0 } in
+      let built : rebuilt s ≡ Ok last =
+      taken _ _ (λ t. then_more (rows_added s.trees t s.rows) (λ u. picks_added u s.picks)) (items_done s h [] s.items refl)
+      ∙ taken _ _ (λ u. picks_added u s.picks) done.1
+      ∙ picked.1 in
+      (last, built, record { nodes = refl; items = refl; trees = refl; rows = refl; picks = refl })

@@ -1,0 +1,10 @@
+// The law that a script's own rows give the script.
+ghost use Rattle.tx_trees.specs.ScriptData.{ScriptData};
+ghost use Rattle.tx_trees.specs.Rebuilt.{RebuiltAs};
+ghost use Rattle.tx_trees.specs.Valid.{IsValid};
+
+/// A valid script's own rows, taken in the order in which they are written (its nodes, its items, each row, a tree's row
+/// with its whole tree, and its picks), are all accepted and give this script.
+pub fn a_script_is_rebuilt_from_its_rows()
+    ensures { (s : ScriptData) → IsValid s → RebuiltAs s }
+{}
