@@ -48,6 +48,9 @@ number_read n h =
     let high : nat_le (length (decimal n)) 32 ≡ true = le-leb (length (decimal n)) 32 (length-decimal-le_wide 32 n (omega arith) h (omega arith)) in
     rw (low, high, s.digits) refl
 
+pub digits_read : (n : ℕ) → n < 10 ^ 64 → list_all is_digit (decimal n) ≡ true
+digits_read n h = (spells n h).digits
+
 pub value_read : (n : ℕ) → n < 10 ^ 64 → decimal_value (decimal n) ≡ n
 value_read n h = (spells n h).value
 

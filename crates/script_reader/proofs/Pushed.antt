@@ -65,7 +65,7 @@ tree_pushed items kind name (y ∷ ys) ss x ops t a b u r some same here sops ha
 byte_ascii : (b : ℕ) (rest : Bool) → (is_name_byte b && rest) ≡ true → b < 128
 byte_ascii b rest h = grind (arith, nat_tests)
 
-rest_holds : (b rest : Bool) → (b && rest) ≡ true → rest ≡ true
+pub rest_holds : (b rest : Bool) → (b && rest) ≡ true → rest ≡ true
 rest_holds true rest h = h
 rest_holds false rest h = absurd (cc h)
 

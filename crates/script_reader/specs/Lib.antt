@@ -7,3 +7,4 @@ pub mod Builds
 pub mod Rows
 pub mod Reading
 pub mod Written
+pub mod ReadBack

@@ -1,8 +1,10 @@
 // A script as text.
-ghost use Rattle.std.specs.Prelude.{◌≡◌, ◌++◌, ◌∷◌, [], OnOk, IfOk, map, codes};
+ghost use Rattle.std.specs.Prelude.{◌≡◌, ◌≤◌, ◌++◌, ◌∷◌, [], OnOk, IfOk, map, codes, length};
 ghost use Rattle.std.specs.Fmt.{signed_decimal};
 ghost use Rattle.std.specs.Str.{IsAscii};
 ghost use Rattle.tx_trees.specs.Rebuilt.{name_at};
+ghost use Rattle.script_reader.specs.Builds.{Builds};
+ghost use Rattle.script_reader.specs.ReadBack.{IsReadAs};
 ghost use Rattle.script_reader.specs.Words.{kind_word, tree_word};
 ghost use Rattle.script_reader.specs.Written.{AreAsciiItems, AreAsciiTrees, deed_fields, item_fields, line, lines, nodes_fields, op_fields, ops_rows, pick_fields, rows_of_row, rows_of_rows, sub_fields, subs_rows, tree_fields, tree_rows, written};
 
@@ -13,9 +15,11 @@ use tv_base::{ItemNo, NoMemory, NodeNo, Text};
 use tx_trees::{Deed, ItemRow, Script, ScriptRow, Sub, SubOp, Tree, TreeKind};
 
 /// The text of a script: the `nodes` row, all items, all rows with their trees, and then all picks, each as a line.
-/// Only want of memory is an error.
+/// Only want of memory is an error. A text of at most 8,388,608 bytes is read as an equal script, if the script has no
+/// form that isn't built: no strict tree, no advancement and no pick.
 pub fn write_script(alloc: Global, script: &Script) -> Result<Text, NoMemory>
-    ensures { IfOk result (λ text. text ≡ written script.now) }
+    ensures text { IfOk result (λ text. text ≡ written script.now) }
+    ensures read { IfOk result (λ text. length text ≤ 8388608 → Builds script.now → IsReadAs text script.now) }
 {
     let mut text = Text::new(alloc);
     push_nodes(&mut text, script.nodes())?;

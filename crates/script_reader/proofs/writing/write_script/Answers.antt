@@ -3,6 +3,7 @@ use Rattle.script_reader.specs.Written.{AreAsciiItems, AreAsciiTrees, item_field
 use Rattle.tx_trees.specs.declared.parts.ItemRow.{ItemRow}
 use Rattle.tx_trees.specs.declared.parts.Tree.{Tree}
 use Rattle.script_reader.proofs.Pushed.{all_pushed, items_ascii, rows_are, trees_ascii}
+use Rattle.script_reader.proofs.ReadBack.{text_read}
 use Rattle.script_reader.proofs.writing.write_script.Goals as goal
 
 pub push_items-requires : goal.push_items-requires
@@ -25,4 +26,5 @@ returns c =
     let items = c.in_ok-push_items.ensures ∙ ap (λ (x : List ItemRow). c.push_nodes.new.text ++ lines (map item_fields x)) c.items.ensures.items in
     let rows = c.in_ok-push_rows.ensures ∙ rows_are c.push_items.new.text _ _ _ s c.items-2.ensures.items c.trees.ensures.trees c.rows.ensures in
     let picks = c.in_ok-push_picks.ensures ∙ ap (λ (x : List ℕ). c.push_rows.new.text ++ lines (map pick_fields x)) c.picks.ensures in
-    all_pushed s t c.push_nodes.new.text c.push_items.new.text c.push_rows.new.text c.push_picks.new.text c.new-text.ensures nodes items rows picks
+    let text = all_pushed s t c.push_nodes.new.text c.push_items.new.text c.push_rows.new.text c.push_picks.new.text c.new-text.ensures nodes items rows picks in
+    record { text = text; read = text_read s c.push_picks.new.text c.nodes.ensures.valid text }

@@ -1,0 +1,187 @@
+-- What is written of a script is read as the same script.
+use Rattle.std.proofs.Common.{◌≡◌, ◌+◌, ◌<◌, ◌≤◌, ◌∙◌, ◌++◌, ℕ, zero, suc, Bool, true, false, List, [], ◌∷◌, length, map, Option, Some, None, Result, Ok, Err, refl, sym, ap, subst, arith, append_assoc}
+use Rattle.std.specs.Prelude.{IsTrue, nat_lt, slice_get}
+use Rattle.std.specs.List.{AllByRecursion}
+use Rattle.std.proofs.lemmas.Bool.{lt-leb}
+use Rattle.std.proofs.lemmas.List.{append-nil}
+use Rattle.csv.specs.Reading.{strip_bom}
+use Rattle.tx_trees.proofs.Rebuilding.{is_rebuilt}
+use Rattle.tx_trees.specs.Adding.{adds_item, adds_op, adds_settle, adds_sub, adds_tree, fresh}
+use Rattle.tx_trees.specs.Ranges.{is_in_range}
+use Rattle.tx_trees.specs.Rebuilt.{SameScript, items_added, name_at, ops_added, picks_added, rebuilt, rooted_added, rows_added, subs_added, then_more, tree_added}
+use Rattle.tx_trees.specs.ScriptData.{ScriptData}
+use Rattle.tx_trees.specs.Valid.{AreSubs, IsItem, IsOp, IsTree, IsValid}
+use Rattle.tx_trees.specs.declared.parts.ItemRow.{ItemRow}
+use Rattle.tx_trees.specs.declared.parts.ScriptRow.{ScriptRow}
+use Rattle.tx_trees.specs.declared.parts.ScriptRow.TheVariants as rows
+use Rattle.tx_trees.specs.declared.parts.Sub.{Sub}
+use Rattle.tx_trees.specs.declared.parts.SubOp.{SubOp}
+use Rattle.tx_trees.specs.declared.parts.Tree.{Tree}
+use Rattle.tx_trees.specs.declared.parts.TreeKind.{TreeKind}
+use Rattle.tx_trees.specs.declared.why.Why.{Why}
+use Rattle.script_reader.specs.Builds.{Builds, IsBuiltRow, is_built}
+use Rattle.script_reader.specs.ReadBack.{IsReadAs}
+use Rattle.script_reader.specs.Reading.{read_of, read_rows, rows_from, then_rows}
+use Rattle.script_reader.specs.Records.{records_in}
+use Rattle.script_reader.specs.Rows.{first_row, later_row}
+use Rattle.script_reader.specs.Written.{item_fields, nodes_fields, op_fields, ops_rows, pick_fields, rows_of, rows_of_row, rows_of_rows, rows_of_tree, sub_fields, subs_rows, tree_fields, tree_rows, written}
+use Rattle.script_reader.proofs.Added.{TakesOp, item_is, op_taken, settle_is, sub_is, tree_is}
+use Rattle.script_reader.proofs.Lines.{few_lines, lines_read}
+use Rattle.script_reader.proofs.PlainRows.{all_plain, op_named, small_deed}
+use Rattle.script_reader.proofs.RowsBack.{deed_back, item_back, nodes_back, sub_back, tree_back}
+use Rattle.script_reader.proofs.Script.{ends, goes_on}
+
+-- these rows, read from script u on, give v, whatever row comes next
+abbrev Reads : ScriptData → List (List (List ℕ)) → ScriptData → Type 0
+Reads u rs v = (at : ℕ) (more : List (List (List ℕ))) → (k : ℕ) × (rows_from u at (rs ++ more) ≡ rows_from v k more)
+
+reads_none : (u v : ScriptData) → u ≡ v → Reads u [] v
+reads_none u v h at more = (at, ap (λ (w : ScriptData). rows_from w at more) h)
+
+reads_one : (u v w : ScriptData) (r : List (List ℕ)) (rs : List (List (List ℕ))) → later_row u r ≡ Ok v → Reads v rs w → Reads u (r ∷ rs) w
+reads_one u v w r rs one rest at more = let next = rest (at + 1) more in (next.0, goes_on u v at (r ∷ (rs ++ more)) r (rs ++ more) refl one ∙ next.1)
+
+reads_both : (u v w : ScriptData) (xs ys : List (List (List ℕ))) → Reads u xs v → Reads v ys w → Reads u (xs ++ ys) w
+reads_both u v w xs ys first second at more =
+    let a = first at (ys ++ more) in
+    let b = second a.0 more in
+    (b.0, ap (rows_from u at) (append_assoc xs ys more) ∙ a.1 ∙ b.1)
+
+-- a row that was taken, and then the others
+record Goes (x : Result ScriptData Why) (more : ScriptData → Result ScriptData Why) (v : ScriptData) : Type 0 where
+  first : ScriptData
+  is : x ≡ Ok first
+  rest : more first ≡ Ok v
+
+goes : (x : Result ScriptData Why) (more : ScriptData → Result ScriptData Why) (v : ScriptData) → then_more x more ≡ Ok v → Goes x more v
+goes (Ok s) more v h = record { first = s; is = refl; rest = h }
+goes (Err w) more v h = absurd (cc h)
+
+-- these rows, read from u on, give v with the same items
+record Gives (items : List ItemRow) (u : ScriptData) (rs : List (List (List ℕ))) (v : ScriptData) : Type 0 where
+  reads : Reads u rs v
+  items_stay : v.items ≡ items
+
+items_back : (n : ℕ) (items : List ItemRow) (u v : ScriptData) → n ≤ 16 → AllByRecursion (IsItem n) items → items_added u items ≡ Ok v → Reads u (map item_fields items) v
+items_back n [] u v few all h = reads_none u v (cc h)
+items_back n (r ∷ rs) u v few all h =
+    let g = goes (adds_item u r) (λ t. items_added t rs) v h in
+    reads_one u g.first v (item_fields r) (map item_fields rs) (item_back u n r few all.0 ∙ g.is) (items_back n rs g.first v few all.1 g.rest)
+
+-- the operations of a subtransaction
+record AreOps (n : ℕ) (items : List ItemRow) (kind : TreeKind) (node : ℕ) (os : List SubOp) : Type 0 where
+  all : AllByRecursion (IsItem n) items
+  ops : AllByRecursion (IsOp items kind node) os
+  amounts : AllByRecursion (λ (o : SubOp). IsTrue (is_in_range o.deed)) os
+
+op_items : (u v : ScriptData) (name : List ℕ) (o : SubOp) → adds_op u name o.deed ≡ Ok v → v.items ≡ u.items
+op_items u v name o h = let t = op_taken u v name o.deed h in sym (ap (λ (w : ScriptData). w.items) t.is)
+
+ops_back : (n : ℕ) (items : List ItemRow) (kind : TreeKind) (node : ℕ) (os : List SubOp) (u v : ScriptData) → AreOps n items kind node os → u.items ≡ items → ops_added u os ≡ Ok v → Gives items u (ops_rows items os) v
+ops_back n items kind node [] u v all same h = let e : u ≡ v = cc h in record { reads = reads_none u v e; items_stay = sym (ap (λ (w : ScriptData). w.items) e) ∙ same }
+ops_back n items kind node (o ∷ os) u v a same h =
+    let g = goes (adds_op u (name_at o.item.0 u.items) o.deed) (λ t. ops_added t os) v h in
+    let name = name_at o.item.0 items in
+    let added : adds_op u name o.deed ≡ Ok g.first = ap (λ (xs : List ItemRow). adds_op u (name_at o.item.0 xs) o.deed) (sym same) ∙ g.is in
+    let row = deed_back u name o.deed (op_named n items o.item.0 kind node o a.all a.ops.0) a.amounts.0 (small_deed o.deed a.amounts.0) in
+    let rest = ops_back n items kind node os g.first v (record { all = a.all; ops = a.ops.1; amounts = a.amounts.1 }) (op_items u g.first name o added ∙ same) g.rest in
+    record { reads = reads_one u g.first v (op_fields items o) (ops_rows items os) (row ∙ added) rest.reads; items_stay = rest.items_stay }
+
+-- the subtransactions behind the root
+subs_back : (n : ℕ) (items : List ItemRow) (kind : TreeKind) (k : ℕ) (xs : List Sub) (u v : ScriptData) → n ≤ 16 → 0 < k → k + length xs ≤ 64 → AllByRecursion (IsItem n) items → AreSubs n items kind k xs → u.items ≡ items
+    → subs_added u xs ≡ Ok v → Gives items u (subs_rows items xs) v
+subs_back n items kind k [] u v few some room all subs same h = let e : u ≡ v = cc h in record { reads = reads_none u v e; items_stay = sym (ap (λ (w : ScriptData). w.items) e) ∙ same }
+subs_back n items kind k (x ∷ xs) u v few some room all subs same h =
+    let g = goes (adds_sub u x.parent.0 x.node) (λ t. then_more (ops_added t x.ops) (λ w. subs_added w xs)) v h in
+    let f = goes (ops_added g.first x.ops) (λ w. subs_added w xs) v g.rest in
+    let stays : g.first.items ≡ items = sym (ap (λ (w : ScriptData). w.items) (sub_is u g.first x.parent.0 x.node g.is)) ∙ same in
+    let row = sub_back u x (omega (arith, subs.0.parent some, room)) (omega (arith, subs.0.node, few)) in
+    let ops = ops_back n items kind x.node.0 x.ops g.first f.first (record { all = all; ops = subs.0.ops; amounts = subs.0.amounts }) stays f.is in
+    let rest = subs_back n items kind (k + 1) xs f.first v few (omega arith) (omega (arith, room)) all subs.1 ops.items_stay f.rest in
+    record {
+      reads = reads_one u g.first v (sub_fields x) (ops_rows items x.ops ++ subs_rows items xs) (row ∙ g.is) (reads_both g.first f.first v (ops_rows items x.ops) (subs_rows items xs) ops.reads rest.reads);
+      items_stay = rest.items_stay;
+    }
+
+-- a tree with its root and the others
+rooted_back : (n : ℕ) (items : List ItemRow) (t : Tree) (xs : List Sub) (u v : ScriptData) → n ≤ 16 → length xs ≤ 64 → AllByRecursion (IsItem n) items → AreSubs n items t.kind 0 xs → IsTrue (is_built t.kind) → u.items ≡ items
+    → rooted_added u t.name t.kind xs ≡ Ok v → Gives items u (tree_rows items t.kind t.name xs) v
+rooted_back n items t [] u v few room all subs built same h = absurd (cc h)
+rooted_back n items t (x ∷ xs) u v few room all subs built same h =
+    let g = goes (adds_tree u t.name t.kind x.node) (λ w. then_more (ops_added w x.ops) (λ z. subs_added z xs)) v h in
+    let f = goes (ops_added g.first x.ops) (λ w. subs_added w xs) v g.rest in
+    let stays : g.first.items ≡ items = sym (ap (λ (w : ScriptData). w.items) (tree_is u g.first t.name t.kind x.node g.is)) ∙ same in
+    let row = tree_back u t.kind t.name x.node (omega (arith, subs.0.node, few)) built in
+    let ops = ops_back n items t.kind x.node.0 x.ops g.first f.first (record { all = all; ops = subs.0.ops; amounts = subs.0.amounts }) stays f.is in
+    let rest = subs_back n items t.kind 1 xs f.first v few (omega arith) (omega (arith, room)) all subs.1 ops.items_stay f.rest in
+    record {
+      reads = reads_one u g.first v (tree_fields t.kind t.name x.node.0) (ops_rows items x.ops ++ subs_rows items xs) (row ∙ g.is) (reads_both g.first f.first v (ops_rows items x.ops) (subs_rows items xs) ops.reads rest.reads);
+      items_stay = rest.items_stay;
+    }
+
+tree_at_back : (n : ℕ) (items : List ItemRow) (ts : List Tree) (i : ℕ) (u v : ScriptData) → n ≤ 16 → AllByRecursion (IsItem n) items → AllByRecursion (IsTree n items) ts → AllByRecursion (λ (t : Tree). IsTrue (is_built t.kind)) ts → u.items ≡ items
+    → tree_added u (slice_get ts i) ≡ Ok v → Gives items u (rows_of_tree items (slice_get ts i)) v
+tree_at_back n items [] i u v few all trees built same h = absurd (cc h)
+tree_at_back n items (t ∷ ts) zero u v few all trees built same h = rooted_back n items t t.subs u v few trees.0.few all trees.0.subs built.0 same h
+tree_at_back n items (t ∷ ts) (suc i) u v few all trees built same h = tree_at_back n items ts i u v few all trees.1 built.1 same h
+
+rows_back : (n : ℕ) (items : List ItemRow) (ts : List Tree) (rs : List ScriptRow) (u v : ScriptData) → n ≤ 16 → AllByRecursion (IsItem n) items → AllByRecursion (IsTree n items) ts → AllByRecursion (λ (t : Tree). IsTrue (is_built t.kind)) ts
+    → AllByRecursion IsBuiltRow rs → u.items ≡ items → rows_added ts u rs ≡ Ok v → Reads u (rows_of_rows items ts rs) v
+rows_back n items ts [] u v few all trees built rows same h = reads_none u v (cc h)
+rows_back n items ts (rows.Tree i ∷ rs) u v few all trees built row same h =
+    let g = goes (tree_added u (slice_get ts i.0)) (λ w. rows_added ts w rs) v h in
+    let tree = tree_at_back n items ts i.0 u g.first few all trees built same g.is in
+    reads_both u g.first v (rows_of_tree items (slice_get ts i.0)) (rows_of_rows items ts rs) tree.reads (rows_back n items ts rs g.first v few all trees built row.1 tree.items_stay g.rest)
+rows_back n items ts (rows.Advance ∷ rs) u v few all trees built row same h = absurd row.0
+rows_back n items ts (rows.Settle ∷ rs) u v few all trees built row same h =
+    let g = goes (adds_settle u) (λ w. rows_added ts w rs) v h in
+    let stays : g.first.items ≡ items = sym (ap (λ (w : ScriptData). w.items) (settle_is u g.first g.is)) ∙ same in
+    reads_one u g.first v _ (rows_of_rows items ts rs) g.is (rows_back n items ts rs g.first v few all trees built row.1 stays g.rest)
+
+-- what is written is the rows, line by line
+written_rows : (s : ScriptData) → IsValid s → s.picks ≡ [] → records_in (written s) ≡ rows_of s
+unfolding strip_bom
+written_rows s h none = lines_read (length (written s) + 1) (rows_of s) (omega (arith, few_lines (rows_of s))) (all_plain s h none)
+
+-- what is added stands behind what is there
+items_stand : (items : List ItemRow) (u v : ScriptData) → items_added u items ≡ Ok v → v.items ≡ u.items ++ items
+items_stand [] u v h = let e : u ≡ v = cc h in sym (ap (λ (w : ScriptData). w.items) e) ∙ sym (append-nil u.items)
+items_stand (r ∷ rs) u v h =
+    let g = goes (adds_item u r) (λ t. items_added t rs) v h in
+    let one : u.items ++ r ∷ [] ≡ g.first.items = ap (λ (w : ScriptData). w.items) (item_is u g.first r g.is) in
+    items_stand rs g.first v g.rest ∙ ap (λ (xs : List ItemRow). xs ++ rs) (sym one) ∙ append_assoc u.items (r ∷ []) rs
+
+no_picks : (ks : List ℕ) (u v : ScriptData) → ks ≡ [] → picks_added u ks ≡ Ok v → Reads u (map pick_fields ks) v
+no_picks [] u v none h = reads_none u v (cc h)
+no_picks (k ∷ ks) u v none h = absurd (cc none)
+
+-- from the `nodes` row on
+nodes_then : (s u : ScriptData) (rs : List (List (List ℕ))) → IsValid s → Reads (fresh s.nodes) rs u → read_rows (nodes_fields s.nodes ∷ rs) ≡ Ok u
+nodes_then s u rs h reads =
+    let start = ap (λ (x : Result ScriptData Why). then_rows 1 x (λ t. rows_from t 2 rs)) (nodes_back s.nodes h.some_nodes h.few_nodes) in
+    let rest = reads 2 [] in
+    start ∙ ap (rows_from (fresh s.nodes) 2) (sym (append-nil rs)) ∙ rest.1 ∙ ends u rest.0 [] refl
+
+-- without picks, what builds a script again reads its rows
+rows_read : (s u : ScriptData) → IsValid s → Builds s → rebuilt s ≡ Ok u → read_rows (rows_of s) ≡ Ok u
+rows_read s u h b is =
+    let g = goes (items_added (fresh s.nodes) s.items) (λ t. then_more (rows_added s.trees t s.rows) (λ w. picks_added w s.picks)) u is in
+    let f = goes (rows_added s.trees g.first s.rows) (λ w. picks_added w s.picks) u g.rest in
+    let items = items_back s.nodes s.items (fresh s.nodes) g.first h.few_nodes h.items g.is in
+    let stays : g.first.items ≡ s.items = items_stand s.items (fresh s.nodes) g.first g.is in
+    let rows = rows_back s.nodes s.items s.trees s.rows g.first f.first h.few_nodes h.items h.trees b.trees b.rows stays f.is in
+    let picks = no_picks s.picks f.first u b.picks f.rest in
+    nodes_then s u (map item_fields s.items ++ (rows_of_rows s.items s.trees s.rows ++ map pick_fields s.picks)) h
+    (reads_both (fresh s.nodes) g.first u (map item_fields s.items) (rows_of_rows s.items s.trees s.rows ++ map pick_fields s.picks) items
+    (reads_both g.first f.first u (rows_of_rows s.items s.trees s.rows) (map pick_fields s.picks) rows picks))
+
+-- what is written of a script of built forms is read as the same script
+read_back : (s : ScriptData) → IsValid s → length (written s) ≤ 8388608 → Builds s → IsReadAs (written s) s
+read_back s h few b =
+    let again = is_rebuilt s h in
+    let short : nat_lt 8388608 (length (written s)) ≡ false = lt-leb 8388609 (length (written s)) (omega (arith, few)) in
+    let read : read_of (written s) ≡ read_rows (records_in (written s)) = rw short refl in
+    (again.0, read ∙ ap read_rows (written_rows s h b.picks) ∙ rows_read s again.0 h b again.1, again.2)
+
+pub text_read : (s : ScriptData) (text : List ℕ) → IsValid s → text ≡ written s → length text ≤ 8388608 → Builds s → IsReadAs text s
+text_read s text h is few b = subst (λ (x : List ℕ). IsReadAs x s) (sym is) (read_back s h (subst (λ (x : List ℕ). length x ≤ 8388608) is few) b)

@@ -1,0 +1,118 @@
+-- Each row that is written of a script is read as the call that adds it.
+use Rattle.std.proofs.Common.{◌≡◌, ◌<◌, ◌≤◌, ◌^◌, ◌&&◌, ◌∙◌, ℕ, Bool, true, false, not, List, [], ◌∷◌, Option, Some, None, Result, Ok, Err, refl, sym, ap, arith}
+use Rattle.std.specs.Prelude.{ℤ, IsTrue, ◌||◌, decimal, is_some, length, nat_le, unsigned_abs}
+use Rattle.std.proofs.lemmas.Bool.{le-leb}
+use Rattle.std.specs.Fmt.{signed_decimal}
+use Rattle.std.specs.List.{list_all}
+use Rattle.commute_ops.specs.declared.kinds.Kind.{Kind}
+use Rattle.commute_ops.specs.declared.kinds.Kind.TheVariants as kinds
+use Rattle.commute_ops.specs.declared.kinds.Op.TheVariants as applied
+use Rattle.tv_base.specs.declared.numbers.NodeNo.{NodeNo}
+use Rattle.tx_trees.specs.Adding.{adds_item, adds_op, adds_sub, adds_tree, fresh, has_no_sub_left, has_no_tree_left, judged, last_subs, names_tree, place_of, with_item, with_sub, with_tree}
+use Rattle.tx_trees.specs.Amounts.{magnitude}
+use Rattle.tx_trees.specs.Names.{has_name_len, is_name, is_name_byte}
+use Rattle.tx_trees.specs.Ranges.{is_in_range, may_start}
+use Rattle.tx_trees.specs.ScriptData.{ScriptData}
+use Rattle.tx_trees.specs.Valid.{IsItem}
+use Rattle.tx_trees.specs.declared.parts.Deed.{Deed}
+use Rattle.tx_trees.specs.declared.parts.Deed.TheVariants as deeds
+use Rattle.tx_trees.specs.declared.parts.ItemRow.{ItemRow}
+use Rattle.tx_trees.specs.declared.parts.Sub.{Sub}
+use Rattle.tx_trees.specs.declared.parts.TreeKind.{TreeKind}
+use Rattle.tx_trees.specs.declared.parts.TreeKind.TheVariants as trees
+use Rattle.tx_trees.specs.declared.why.Why.{Why}
+use Rattle.tx_trees.specs.declared.why.Why.TheVariants as why
+use Rattle.script_reader.specs.Builds.{is_built}
+use Rattle.script_reader.specs.Numbers.{amount_of, number_of}
+use Rattle.script_reader.specs.Rows.{amount_row, deed_of, first_row, if_built, item_of, item_row, later_row, node_no, nodes_row, op_row, sub_row, tree_row, unless}
+use Rattle.script_reader.specs.Words.{kind_of, kind_word}
+use Rattle.script_reader.specs.Written.{deed_fields, item_fields, nodes_fields, sub_fields, tree_fields}
+use Rattle.script_reader.specs.declared.words.OpWord.{OpWord}
+use Rattle.script_reader.specs.declared.words.OpWord.TheVariants as ops
+use Rattle.script_reader.proofs.Decimals.{amount_read, number_read, value_read}
+use Rattle.script_reader.proofs.Passing.{amount_row_is, item_row_is}
+
+number_back : (n : ℕ) → n < 10 ^ 32 → Some n ≡ number_of (decimal n)
+number_back n h = rw (number_read n h, value_read n (omega arith)) refl
+
+amount_back : (a : ℤ) → unsigned_abs a < 10 ^ 32 → Some a ≡ amount_of (signed_decimal a)
+amount_back a h = let r = amount_read a h in rw (r.0, r.1) refl
+
+kind_back : (k : Kind) → Some k ≡ kind_of (kind_word k)
+kind_back kinds.Sum = refl
+kind_back kinds.Top = refl
+kind_back kinds.Bag = refl
+
+-- a condition that is tried twice
+tried_item : {A : Type 0} (a b c d : Bool) (w x y z : Why) (new : A)
+    → unless ((a, w) ∷ (b, x) ∷ (c, y) ∷ []) (judged ((a, w) ∷ (b, x) ∷ (c, y) ∷ (d, z) ∷ []) new) ≡ judged ((a, w) ∷ (b, x) ∷ (c, y) ∷ (d, z) ∷ []) new
+tried_item true b c d w x y z new = refl
+tried_item false true c d w x y z new = refl
+tried_item false false true d w x y z new = refl
+tried_item false false false d w x y z new = refl
+
+tried_tree : (a b c d : Bool) (w x y z : Why) (new : ScriptData)
+    → unless ((a, w) ∷ (b, x) ∷ []) (if_built true (judged ((a, w) ∷ (b, x) ∷ (c, y) ∷ (d, z) ∷ []) new)) ≡ judged ((a, w) ∷ (b, x) ∷ (c, y) ∷ (d, z) ∷ []) new
+tried_tree true b c d w x y z new = refl
+tried_tree false true c d w x y z new = refl
+tried_tree false false true d w x y z new = refl
+tried_tree false false false true w x y z new = refl
+tried_tree false false false false w x y z new = refl
+
+tried_sub : {A : Type 0} (a b c d : Bool) (w x y z : Why) (new : A)
+    → unless ((a, w) ∷ []) (judged ((a, w) ∷ (b, x) ∷ (c, y) ∷ (d, z) ∷ []) new) ≡ judged ((a, w) ∷ (b, x) ∷ (c, y) ∷ (d, z) ∷ []) new
+tried_sub true b c d w x y z new = refl
+tried_sub false b c d w x y z new = refl
+
+pub nodes_back : (n : ℕ) → 1 ≤ n → n ≤ 16 → first_row (nodes_fields n) ≡ Ok (fresh n)
+nodes_back n some few =
+    let low : nat_le 1 n ≡ true = le-leb 1 n some in
+    let high : nat_le n 16 ≡ true = le-leb n 16 few in
+    let form : first_row (nodes_fields n) ≡ nodes_row (decimal n) = refl in
+    form ∙ rw (number_read n (omega arith), value_read n (omega arith), low, high) refl
+
+pub item_back : (s : ScriptData) (n : ℕ) (r : ItemRow) → n ≤ 16 → IsItem n r → later_row s (item_fields r) ≡ adds_item s r
+item_back s n r few h =
+    let form : later_row s (item_fields r) ≡ item_row s r.name (decimal r.node.0) (kind_word r.kind) (signed_decimal r.initial) = refl in
+    let typed = item_row_is s r.name (decimal r.node.0) (kind_word r.kind) (signed_decimal r.initial) r.node.0 (Some r.kind) r.initial (number_back r.node.0 (omega (arith, h.node))) (kind_back r.kind) (amount_back r.initial (omega (arith, h.small))) in
+    form ∙ typed
+    ∙ tried_item (nat_le s.nodes r.node.0 || not (may_start r.kind r.initial)) (not (is_name r.name)) (is_some (place_of r.name s.items)) (nat_le 10000 (length s.items)) why.OutOfRange why.BadName why.NameTaken why.TooMany (with_item s r)
+
+built_tree_back : (s : ScriptData) (kind : TreeKind) (name : List ℕ) (node : NodeNo) → node.0 < 16 → is_built kind ≡ true → tree_row s kind name (decimal node.0) ≡ adds_tree s name kind node
+built_tree_back s kind name node low built =
+    let number = number_read node.0 (omega (arith, low)) in
+    let value = value_read node.0 (omega (arith, low)) in
+    rw (number, value, built)
+    (tried_tree (nat_le s.nodes node.0) (not (is_name name)) (names_tree name s.trees) (has_no_tree_left kind s.trees) why.OutOfRange why.BadName why.NameTaken why.TooMany (with_tree s name kind node))
+
+pub tree_back : (s : ScriptData) (kind : TreeKind) (name : List ℕ) (node : NodeNo) → node.0 < 16 → IsTrue (is_built kind) → later_row s (tree_fields kind name node.0) ≡ adds_tree s name kind node
+tree_back s trees.Update name node low built = built_tree_back s trees.Update name node low refl
+tree_back s trees.Read name node low built = built_tree_back s trees.Read name node low refl
+tree_back s trees.Strict name node low built = absurd (cc built)
+
+pub sub_back : (s : ScriptData) (x : Sub) → x.parent.0 < 64 → x.node.0 < 16 → later_row s (sub_fields x) ≡ adds_sub s x.parent.0 x.node
+sub_back s x early low =
+    let form : later_row s (sub_fields x) ≡ sub_row s (decimal x.parent.0) (decimal x.node.0) = refl in
+    form ∙ rw (number_read x.parent.0 (omega (arith, early)), number_read x.node.0 (omega (arith, low)), value_read x.parent.0 (omega (arith, early)), value_read x.node.0 (omega (arith, low)))
+    (tried_sub (nat_le s.nodes x.node.0) (not s.begun) (nat_le (last_subs s.trees) x.parent.0) (has_no_sub_left s.trees) why.OutOfRange why.NoTree why.BadParent why.TooMany (with_sub s x.parent.0 x.node))
+
+first_holds : (b rest : Bool) → (b && rest) ≡ true → b ≡ true
+first_holds true rest h = refl
+first_holds false rest h = absurd (cc h)
+
+op_back : (s : ScriptData) (name : List ℕ) (deed : Deed) → IsTrue (is_name name) → IsTrue (is_in_range deed) → op_row s name deed ≡ adds_op s name deed
+op_back s name deed named range =
+    let len : has_name_len name ≡ true = first_holds (has_name_len name) (list_all is_name_byte name) named in
+    rw (len, range) refl
+
+amount_op_back : (s : ScriptData) (word : OpWord) (name : List ℕ) (a : ℤ) → IsTrue (is_name name) → IsTrue (is_in_range (deed_of word a)) → unsigned_abs a < 10 ^ 32 → amount_row s word name (signed_decimal a) ≡ adds_op s name (deed_of word a)
+amount_op_back s word name a named range small =
+    amount_row_is s word name (signed_decimal a) a (deed_of word a) (amount_back a small) refl ∙ op_back s name (deed_of word a) named range
+
+pub deed_back : (s : ScriptData) (name : List ℕ) (deed : Deed) → IsTrue (is_name name) → IsTrue (is_in_range deed) → magnitude deed < 10 ^ 32 → later_row s (deed_fields name deed) ≡ adds_op s name deed
+deed_back s name (deeds.Apply (applied.Add a)) named range small = amount_op_back s ops.Add name a named range small
+deed_back s name (deeds.Apply (applied.Top a)) named range small = amount_op_back s ops.Top name a named range small
+deed_back s name (deeds.Apply (applied.Put a)) named range small = amount_op_back s ops.Put name a named range small
+deed_back s name (deeds.Set a) named range small = amount_op_back s ops.Set name a named range small
+deed_back s name (deeds.Draw a) named range small = amount_op_back s ops.Draw name a named range small
+deed_back s name deeds.Get named range small = op_back s name deeds.Get named range
