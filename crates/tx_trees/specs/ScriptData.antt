@@ -1,5 +1,6 @@
 -- What a script holds, and how its trees are looked up.
-use Rattle.std.specs.Prelude.{ℕ, Bool, true, false, List, [], Option, Some, None, slice_get}
+use Rattle.std.specs.Prelude.{ℕ, Bool, true, false, ◌==◌, List, [], Option, Some, None, slice_get}
+use Rattle.std.specs.List.{list_any}
 use Rattle.tx_trees.specs.declared.parts.ItemRow.{ItemRow}
 use Rattle.tx_trees.specs.declared.parts.Tree.{Tree}
 use Rattle.tx_trees.specs.declared.parts.Sub.{Sub}
@@ -48,3 +49,11 @@ is_strict Read = false
 -- tree t is there, and is an update tree
 abbrev pub updates : ScriptData → ℕ → Bool
 updates s t = elim (slice_get s.trees t) [ Some tree ↦ is_update tree.kind | None ↦ false ]
+
+-- subtransaction k is there, and has this parent
+abbrev pub is_child : List Sub → ℕ → ℕ → Bool
+is_child subs parent k = elim (slice_get subs k) [ Some sub ↦ sub.parent.0 == parent | None ↦ false ]
+
+-- one of the subtransactions is at the node
+abbrev pub visits : List Sub → ℕ → Bool
+visits subs node = list_any (λ sub. sub.node.0 == node) subs

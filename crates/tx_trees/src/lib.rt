@@ -1,6 +1,7 @@
 //! Scripts: the nodes, items, trees, rows and picks that a run is made of. A script is valid by its type.
 #![tactic(auto)]
 
+mod children;
 mod counts;
 mod lookups;
 mod name_index;

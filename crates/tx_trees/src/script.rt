@@ -1,19 +1,21 @@
 // A script, which is valid whatever was added.
-ghost use Rattle.std.specs.Prelude.{true, ◌≡◌, ◌<◌, ◌≤◌, ◌+◌, ◌==◌, length, is_some, nat_lt, IfOk, IfSome, OnErr, OnOk};
+ghost use Rattle.std.specs.Prelude.{ℕ, true, false, ◌≡◌, ◌<◌, ◌≤◌, ◌+◌, ◌==◌, length, is_some, nat_lt, IfOk, IfSome, IsNone, OnErr, OnOk};
 ghost use Rattle.commute_ops.specs.declared.kinds.TheConstants.{MOST_AMOUNT};
 ghost use Rattle.tx_trees.specs.Adding.{Steps, adds_advance, adds_item, adds_op, adds_pick, adds_settle, adds_sub, adds_tree, fresh, has_no_op_left, has_no_sub_left, has_no_tree_left, kind_at, last_kind, last_node, last_subs, names_tree, node_at, place_of, with_item, with_op, with_sub, with_tree};
 ghost use Rattle.tx_trees.specs.Amounts.{magnitude};
 ghost use Rattle.tx_trees.specs.Counts.{advances_in};
 ghost use Rattle.tx_trees.specs.Passing.{MayAddItem, MayAddOp, MayAddSub, MayAddTree};
+ghost use Rattle.tx_trees.specs.ScriptData.{is_child, subs_at, visits};
 ghost use Rattle.tx_trees.specs.Valid.{IsValid, deed_fits, load};
 
+use crate::children::{next_child, visits};
 use crate::counts::{are_many, has_touched, last_kind, one_put, one_strict, one_update};
 use crate::lookups::{
     deed_fits, empty_sub, kind_at, last_subs, node_at, place_of_last, push_op, push_sub, rooted,
 };
 use crate::name_index::NameIndex;
 use crate::names::is_plain_name;
-use crate::parts::{Deed, ItemRow, ScriptRow, SubOp, Tree, TreeKind};
+use crate::parts::{Deed, ItemRow, ScriptRow, Sub, SubOp, Tree, TreeKind};
 use crate::ranges::{initial_size, is_in_range, magnitude, may_start};
 use crate::why::{Refusal, Why};
 use commute_ops::MOST_AMOUNT;
@@ -167,6 +169,34 @@ impl Script {
         ensures { result ≡ advances_in self.now.rows }
     {
         self.advances
+    }
+
+    /// The least child of `parent` above `after` in this tree. None exactly where there is none.
+    pub fn next_child(&self, tree: TreeNo, parent: SubNo, after: SubNo) -> Option<SubNo>
+        requires { tree.0 < length self.now.trees }
+        ensures above { IfSome result (λ k. after.0 < k.0) }
+        ensures child { IfSome result (λ k. is_child (subs_at self.now tree.0) parent.0 k.0 ≡ true) }
+        ensures least { IfSome result (λ k. (j : ℕ) → after.0 < j → j < k.0 → is_child (subs_at self.now tree.0) parent.0 j ≡ false) }
+        ensures none { IsNone result → (j : ℕ) → after.0 < j → is_child (subs_at self.now tree.0) parent.0 j ≡ false }
+    {
+        next_child(self.subs_of(tree), parent, after)
+    }
+
+    /// Whether a subtransaction of this tree is at the node.
+    pub fn visits(&self, tree: TreeNo, node: NodeNo) -> bool
+        requires { tree.0 < length self.now.trees }
+        ensures { result ≡ visits (subs_at self.now tree.0) node.0 }
+    {
+        visits(self.subs_of(tree), node)
+    }
+
+    // The subtransactions of a tree.
+    fn subs_of(&self, tree: TreeNo) -> &[Sub]
+        requires { tree.0 < length self.now.trees }
+        ensures subs { result.now ≡ subs_at self.now tree.0 }
+        ensures few { length result.now ≤ 4294967295 }
+    {
+        self.trees[tree.0 as usize].subs.items()
     }
 
     /// Whether an item has this name.

@@ -1,54 +1,46 @@
-ghost use Rattle.std.specs.Prelude.{◌≤◌, unsigned_abs};
-ghost use Rattle.commute_ops.specs.declared.kinds.TheConstants.{MOST_AMOUNT};
-ghost use Rattle.tx_trees.specs.Valid.{magnitude};
-
 use super::*;
 use commute_ops::{Amount, Kind, Op};
 use std::test::Fail;
 use tv_base::{ItemNo, Name, NodeNo, SubNo, TreeNo};
 
-const BAD_CALL: Refusal = Refusal::Why(Why::NotBuilt);
+// A text that is no name at all: no call is made.
+const NO_CALL: Refusal = Refusal::Why(Why::NotBuilt);
 
-fn item(script: &mut Script, name: &[u8], node: u8, initial: Amount) -> Result<ItemNo, Refusal>
-    requires { unsigned_abs initial ≤ MOST_AMOUNT }
-{
-    let Some(name) = Name::new(name) else {
-        return Err(BAD_CALL);
-    };
-    if node >= script.nodes() {
-        return Err(BAD_CALL);
-    }
+fn item_of(
+    script: &mut Script,
+    name: &[u8],
+    node: u8,
+    kind: Kind,
+    initial: Amount,
+) -> Result<ItemNo, Refusal> {
+    let name = Name::new(name).ok_or(NO_CALL)?;
     script.add_item(ItemRow {
         name,
         node: NodeNo(node),
-        kind: Kind::Sum,
+        kind,
         initial,
     })
 }
 
+fn item(script: &mut Script, name: &[u8], node: u8, initial: Amount) -> Result<ItemNo, Refusal> {
+    item_of(script, name, node, Kind::Sum, initial)
+}
+
+fn tree_of(script: &mut Script, name: &[u8], kind: TreeKind, node: u8) -> Result<TreeNo, Refusal> {
+    let name = Name::new(name).ok_or(NO_CALL)?;
+    script.add_tree(name, kind, NodeNo(node))
+}
+
 fn tree(script: &mut Script, name: &[u8], node: u8) -> Result<TreeNo, Refusal> {
-    let Some(name) = Name::new(name) else {
-        return Err(BAD_CALL);
-    };
-    if node >= script.nodes() {
-        return Err(BAD_CALL);
-    }
-    script.add_tree(name, TreeKind::Update, NodeNo(node))
+    tree_of(script, name, TreeKind::Update, node)
 }
 
 fn sub(script: &mut Script, parent: u32, node: u8) -> Result<SubNo, Refusal> {
-    if node >= script.nodes() {
-        return Err(BAD_CALL);
-    }
     script.add_sub(parent, NodeNo(node))
 }
 
-fn op(script: &mut Script, name: &[u8], deed: Deed) -> Result<(), Refusal>
-    requires { magnitude deed ≤ MOST_AMOUNT }
-{
-    let Some(name) = Name::new(name) else {
-        return Err(BAD_CALL);
-    };
+fn op(script: &mut Script, name: &[u8], deed: Deed) -> Result<(), Refusal> {
+    let name = Name::new(name).ok_or(NO_CALL)?;
     script.add_op(&name, deed)
 }
 
@@ -126,5 +118,108 @@ fn refusals_leave_the_script(rt: HostRuntime) -> Result<(), Fail> {
     let root = tree.subs.items().first().ok_or("a root")?;
     assert_eq!(rt; tree.subs.items().len(), 1);
     assert_eq!(rt; root.ops.items().len(), 0);
+    Ok(())
+}
+
+#[test]
+fn each_range_is_tried_first(rt: HostRuntime) -> Result<(), Fail> {
+    let mut script = Script::new(rt.alloc(), 2);
+    let far = 1_000_000_000_000_001;
+    let refused = Refusal::Why(Why::OutOfRange);
+    assert_eq!(rt; item(&mut script, b"a b", 2, 0), Err(refused));
+    assert_eq!(rt; item(&mut script, b"a b", 0, far), Err(refused));
+    assert_eq!(rt; item_of(&mut script, b"a b", 0, Kind::Bag, 1), Err(refused));
+    assert_eq!(rt;
+        item(&mut script, b"a b", 0, 1),
+        Err(Refusal::Why(Why::BadName))
+    );
+    assert_eq!(rt; tree(&mut script, b"a b", 2), Err(refused));
+    assert_eq!(rt;
+        tree(&mut script, b"a b", 1),
+        Err(Refusal::Why(Why::BadName))
+    );
+    assert_eq!(rt; sub(&mut script, 0, 2), Err(refused));
+    assert_eq!(rt; op(&mut script, b"a", Deed::Set(-far)), Err(refused));
+    assert_eq!(rt; op(&mut script, b"a", Deed::Draw(-1)), Err(refused));
+    assert_eq!(rt; is_in_range(Deed::Draw(1)), true);
+    assert_eq!(rt; may_start(Kind::Bag, 0), true);
+    assert_eq!(rt; is_plain_name(b"A-z_0.9"), true);
+    assert_eq!(rt; is_plain_name(b"a,b"), false);
+    Ok(())
+}
+
+#[test]
+fn all_kinds_of_trees_and_rows(rt: HostRuntime) -> Result<(), Fail> {
+    let mut script = Script::new(rt.alloc(), 2);
+    assert_eq!(rt; item(&mut script, b"a", 0, 5), Ok(ItemNo(0)));
+    assert_eq!(rt; item_of(&mut script, b"b", 1, Kind::Bag, 0), Ok(ItemNo(1)));
+    assert_eq!(rt; tree(&mut script, b"t", 0), Ok(TreeNo(0)));
+    assert_eq!(rt; sub(&mut script, 0, 1), Ok(SubNo(1)));
+    assert_eq!(rt; op(&mut script, b"b", Deed::Apply(Op::Put(3))), Ok(()));
+    assert_eq!(rt; sub(&mut script, 1, 0), Ok(SubNo(2)));
+    assert_eq!(rt; sub(&mut script, 0, 1), Ok(SubNo(3)));
+    assert_eq!(rt; script.add_advance(), Ok(()));
+    assert_eq!(rt; sub(&mut script, 0, 1), Err(Refusal::Why(Why::NoTree)));
+    assert_eq!(rt;
+        tree_of(&mut script, b"r", TreeKind::Read, 0),
+        Ok(TreeNo(1))
+    );
+    assert_eq!(rt; op(&mut script, b"a", Deed::Get), Ok(()));
+    assert_eq!(rt; op(&mut script, b"a", Deed::Get), Ok(()));
+    assert_eq!(rt; script.add_settle(), Ok(()));
+    assert_eq!(rt;
+        tree_of(&mut script, b"k", TreeKind::Strict, 0),
+        Ok(TreeNo(2))
+    );
+    assert_eq!(rt; op(&mut script, b"a", Deed::Get), Ok(()));
+    assert_eq!(rt;
+        op(&mut script, b"a", Deed::Draw(1)),
+        Err(Refusal::Why(Why::ItemTwice))
+    );
+    assert_eq!(rt; script.add_pick(7), Ok(()));
+    assert_eq!(rt;
+        op(&mut script, b"a", Deed::Get),
+        Err(Refusal::Why(Why::NoTree))
+    );
+    assert_eq!(rt; script.picks(), [7].as_slice());
+    assert_eq!(rt; script.advances(), 1);
+    assert_eq!(rt; script.rows().len(), 5);
+    Ok(())
+}
+
+#[test]
+fn children_and_visits(rt: HostRuntime) -> Result<(), Fail> {
+    let mut script = Script::new(rt.alloc(), 3);
+    assert_eq!(rt; tree(&mut script, b"t", 0), Ok(TreeNo(0)));
+    assert_eq!(rt; sub(&mut script, 0, 1), Ok(SubNo(1)));
+    assert_eq!(rt; sub(&mut script, 1, 0), Ok(SubNo(2)));
+    assert_eq!(rt; sub(&mut script, 0, 1), Ok(SubNo(3)));
+    if script.trees().is_empty() {
+        return Ok(());
+    }
+    let root = SubNo(0);
+    assert_eq!(rt; script.next_child(TreeNo(0), root, root), Some(SubNo(1)));
+    assert_eq!(rt;
+        script.next_child(TreeNo(0), root, SubNo(1)),
+        Some(SubNo(3))
+    );
+    assert_eq!(rt; script.next_child(TreeNo(0), root, SubNo(3)), None);
+    assert_eq!(rt; script.visits(TreeNo(0), NodeNo(1)), true);
+    assert_eq!(rt; script.visits(TreeNo(0), NodeNo(2)), false);
+    Ok(())
+}
+
+#[test]
+fn a_refusal_has_a_text(rt: HostRuntime) -> Result<(), Fail> {
+    let refusal = Refusal::Why(Why::NameTaken);
+    assert_eq!(rt; Why::NameTaken.name(), "NameTaken");
+    assert_eq!(rt;
+        format!(in rt.alloc(); "{refusal}")?.as_str(),
+        "another item, or another tree, has the name"
+    );
+    assert_eq!(rt;
+        format!(in rt.alloc(); "{}", Refusal::NoMemory)?.as_str(),
+        "out of memory"
+    );
     Ok(())
 }
