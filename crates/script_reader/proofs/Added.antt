@@ -1,5 +1,5 @@
 -- What a call on a script made, where it took the record.
-use Rattle.std.proofs.Common.{◌≡◌, ℕ, Bool, true, false, List, [], ◌∷◌, Option, Some, None, Result, Ok, Err, refl, sym, ap, arith}
+use Rattle.std.proofs.Common.{◌≡◌, ℕ, Bool, true, false, List, Option, Some, None, Result, Ok, Err, arith}
 use Rattle.std.specs.Prelude.{if◌then◌else◌}
 use Rattle.tv_base.specs.declared.numbers.NodeNo.{NodeNo}
 use Rattle.tx_trees.specs.Adding.{adds_item, adds_op, adds_op_at, adds_settle, adds_sub, adds_tree, place_of, with_item, with_op, with_row, with_sub, with_tree}

@@ -1,16 +1,13 @@
 -- What is read is a script of built forms alone.
-use Rattle.std.proofs.Common.{◌≡◌, ◌+◌, ◌<◌, ◌++◌, ℕ, Bool, true, false, List, [], ◌∷◌, length, Option, Some, None, Result, Ok, Err, refl, subst, arith}
+use Rattle.std.proofs.Common.{◌≡◌, ◌+◌, ℕ, Bool, true, false, List, [], ◌∷◌, length, Option, Some, None, Result, Ok, Err, refl, subst, arith}
 use Rattle.std.specs.Prelude.{ℤ, if◌then◌else◌, IsTrue, nat_lt}
-use Rattle.std.specs.List.{AllByRecursion}
 use Rattle.commute_ops.specs.declared.kinds.Kind.{Kind}
 use Rattle.tv_base.specs.declared.numbers.NodeNo.{NodeNo}
 use Rattle.tx_trees.proofs.Lists.{all-on_last, all-push}
-use Rattle.tx_trees.specs.Adding.{adds_advance, adds_item, adds_op, adds_pick, adds_settle, adds_sub, adds_tree, fresh, on_last_sub, push_op, push_sub, rooted, with_item, with_op, with_row, with_sub, with_tree}
+use Rattle.tx_trees.specs.Adding.{adds_advance, adds_op, adds_pick, adds_sub, adds_tree, fresh, on_last_sub, push_op, push_sub, rooted, with_op, with_row, with_sub, with_tree}
 use Rattle.tx_trees.specs.ScriptData.{ScriptData}
 use Rattle.tx_trees.specs.declared.parts.Deed.{Deed}
 use Rattle.tx_trees.specs.declared.parts.Deed.TheVariants as deeds
-use Rattle.tx_trees.specs.declared.parts.ItemRow.{ItemRow}
-use Rattle.tx_trees.specs.declared.parts.ScriptRow.{ScriptRow}
 use Rattle.tx_trees.specs.declared.parts.ScriptRow.TheVariants as rows
 use Rattle.tx_trees.specs.declared.parts.Tree.{Tree}
 use Rattle.tx_trees.specs.declared.parts.TreeKind.{TreeKind}
@@ -19,7 +16,7 @@ use Rattle.script_reader.specs.Builds.{Builds, IsBuiltRow, is_built}
 use Rattle.script_reader.specs.Numbers.{amount_value, decimal_value}
 use Rattle.script_reader.specs.Reading.{read_of, read_rows, rows_from, then_rows}
 use Rattle.script_reader.specs.Records.{records_in}
-use Rattle.script_reader.specs.Rows.{adds_item_of, advance_row, amount_row, by_word, deed_of, field, first_form, first_row, if_built, item_of, item_row, later_form, later_row, node_no, nodes_row, op_row, pick_row, sub_row, tree_row}
+use Rattle.script_reader.specs.Rows.{adds_item_of, amount_row, by_word, deed_of, field, first_form, first_row, if_built, item_of, item_row, later_form, later_row, node_no, nodes_row, op_row, pick_row, sub_row, tree_row}
 use Rattle.script_reader.specs.Words.{kind_of, word_of}
 use Rattle.script_reader.specs.declared.reading.ScriptFault.{ScriptFault}
 use Rattle.script_reader.specs.declared.words.OpWord.{OpWord}

@@ -1,6 +1,6 @@
 -- A number that is written in decimal is read as itself.
-use Rattle.std.proofs.Common.{◌≡◌, ◌+◌, ◌*◌, ◌-◌, ◌/◌, ◌%◌, ◌<◌, ◌≤◌, ◌^◌, ◌∙◌, ◌∷◌, ◌++◌, [], List, Bool, true, false, ℕ, suc, length, refl, sym, ap, arith, length-append}
-use Rattle.std.specs.Prelude.{◌&&◌, ◌==◌, nat_le, ℤ, pos, negsuc, ◌-ℤ◌, decimal, fold, unsigned_abs, Some}
+use Rattle.std.proofs.Common.{◌≡◌, ◌+◌, ◌*◌, ◌-◌, ◌/◌, ◌%◌, ◌<◌, ◌≤◌, ◌^◌, ◌∙◌, ◌∷◌, ◌++◌, [], List, Bool, true, false, ℕ, suc, length, refl, arith, length-append}
+use Rattle.std.specs.Prelude.{◌&&◌, ◌==◌, nat_le, ℤ, pos, negsuc, ◌-ℤ◌, decimal, unsigned_abs}
 use Rattle.std.specs.Fmt.{signed_decimal}
 use Rattle.std.specs.List.{list_all}
 use Rattle.std.proofs.lemmas.Bool.{le-leb}
@@ -9,7 +9,7 @@ use Rattle.std.proofs.lemmas.Int.{ints}
 use Rattle.std.proofs.lemmas.Fmt.{decimal_by_steps_wide, length-decimal-le_wide}
 use Rattle.std.proofs.lemmas.List.Folds.{list_all-append}
 use Rattle.std.proofs.lemmas.List.Sums.{fold-append}
-use Rattle.script_reader.specs.Numbers.{amount_value, decimal_value, digits_of, is_amount, is_digit, is_negative, is_number, number_of, signed, size_of}
+use Rattle.script_reader.specs.Numbers.{amount_value, decimal_value, digits_of, is_amount, is_digit, is_negative, is_number}
 
 -- the digits of n: they are digits, the first is there, and their value is n
 record Spells (n : ℕ) (ds : List ℕ) : Type 0 where

@@ -1,6 +1,6 @@
 -- A row that passes its conditions.
-use Rattle.std.proofs.Common.{◌≡◌, ◌<◌, ◌≤◌, ◌^◌, ◌∙◌, ℕ, suc, Bool, true, false, not, List, [], ◌∷◌, length, Option, Some, Result, Ok, Err, refl, sym, ap, arith, inl, inr, to_z, of_z}
-use Rattle.std.specs.Prelude.{◌&&◌, ◌||◌, nat_le, min, ℤ, is_some, unsigned_abs, IsErrAnd, ◌⊎◌}
+use Rattle.std.proofs.Common.{◌≡◌, ◌<◌, ◌≤◌, ◌^◌, ◌∙◌, ℕ, Bool, true, false, List, [], ◌∷◌, length, Option, Some, Result, Ok, Err, refl, sym, ap, arith, inl, inr, to_z, of_z}
+use Rattle.std.specs.Prelude.{nat_le, min, ℤ, is_some, unsigned_abs, IsErrAnd, ◌⊎◌}
 use Rattle.std.specs.Int.{w128}
 use Rattle.std.specs.List.{AllByRecursion}
 use Rattle.std.proofs.lemmas.Bool.{cases_lt, le-leb, lt-leb}
@@ -19,12 +19,11 @@ use Rattle.tx_trees.specs.declared.parts.ItemRow.{ItemRow}
 use Rattle.tx_trees.specs.declared.parts.Tree.{Tree}
 use Rattle.tx_trees.specs.declared.parts.TreeKind.{TreeKind}
 use Rattle.tx_trees.specs.declared.why.Why.{Why}
-use Rattle.tx_trees.specs.declared.why.Why.TheVariants as why
 use Rattle.tx_trees.specs.declared.why.Refusal.{Refusal}
 use Rattle.tx_trees.specs.declared.why.Refusal.TheVariants as refusals
 use Rattle.script_reader.specs.Builds.{is_built}
 use Rattle.script_reader.specs.Numbers.{amount_of, amount_value, decimal_value, is_amount, is_number, number_of}
-use Rattle.script_reader.specs.Rows.{Leaves, adds_item_of, amount_row, by_word, deed_of, field, if_built, item_of, item_row, later_form, later_row, node_no, op_row, starts, sub_row, tree_row, unless}
+use Rattle.script_reader.specs.Rows.{Leaves, adds_item_of, amount_row, by_word, deed_of, field, if_built, item_of, item_row, later_form, later_row, node_no, op_row, starts, sub_row, tree_row}
 use Rattle.script_reader.specs.Words.{kind_of, len_fits, word_of}
 use Rattle.script_reader.specs.declared.words.OpWord.{OpWord}
 use Rattle.script_reader.specs.declared.words.RowWord.{RowWord}

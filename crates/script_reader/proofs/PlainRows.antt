@@ -1,21 +1,20 @@
 -- Every field that is written of a valid script is plain.
-use Rattle.std.proofs.Common.{◌≡◌, ◌+◌, ◌<◌, ◌≤◌, ◌^◌, ◌&&◌, ◌==◌, ◌∷◌, ◌++◌, [], List, Bool, true, false, ℕ, suc, zero, length, map, Option, Some, None, refl, arith}
+use Rattle.std.proofs.Common.{◌≡◌, ◌+◌, ◌<◌, ◌≤◌, ◌^◌, ◌&&◌, ◌∷◌, ◌++◌, [], List, Bool, true, false, ℕ, suc, zero, length, map, refl, arith}
 use Rattle.std.specs.Prelude.{not, ℤ, pos, negsuc, IsTrue, decimal, nat_le, slice_get, unsigned_abs}
 use Rattle.std.specs.Fmt.{signed_decimal}
-use Rattle.std.specs.List.{list_all, list_any, AllByRecursion}
+use Rattle.std.specs.List.{list_all, AllByRecursion}
 use Rattle.std.proofs.lemmas.Bool.Decides.{nat_tests}
 use Rattle.commute_ops.specs.declared.kinds.Kind.{Kind}
 use Rattle.commute_ops.specs.declared.kinds.Kind.TheVariants as kinds
 use Rattle.commute_ops.specs.declared.kinds.Op.TheVariants as applied
 use Rattle.commute_ops.specs.declared.kinds.TheConstants.{MOST_AMOUNT}
 use Rattle.csv.specs.Writing.{default_writer, needs_byte}
-use Rattle.tx_trees.proofs.Lists.{all-push}
 use Rattle.tx_trees.specs.Amounts.{magnitude}
 use Rattle.tx_trees.specs.Names.{has_name_len, is_name, is_name_byte}
 use Rattle.tx_trees.specs.Ranges.{draws_negative, is_in_range}
 use Rattle.tx_trees.specs.Rebuilt.{name_at}
 use Rattle.tx_trees.specs.ScriptData.{ScriptData}
-use Rattle.tx_trees.specs.Valid.{AreSubs, IsItem, IsOp, IsSub, IsTree, IsValid, OpAt}
+use Rattle.tx_trees.specs.Valid.{AreSubs, IsItem, IsOp, IsTree, IsValid, OpAt}
 use Rattle.tx_trees.specs.declared.parts.Deed.{Deed}
 use Rattle.tx_trees.specs.declared.parts.Deed.TheVariants as deeds
 use Rattle.tx_trees.specs.declared.parts.ItemRow.{ItemRow}
@@ -27,8 +26,8 @@ use Rattle.tx_trees.specs.declared.parts.Tree.{Tree}
 use Rattle.tx_trees.specs.declared.parts.TreeKind.{TreeKind}
 use Rattle.tx_trees.specs.declared.parts.TreeKind.TheVariants as trees
 use Rattle.script_reader.specs.Numbers.{is_digit}
-use Rattle.script_reader.specs.Words.{kind_word, tree_word}
-use Rattle.script_reader.specs.Written.{deed_fields, pick_fields, rows_of, item_fields, nodes_fields, op_fields, ops_rows, rows_of_row, rows_of_rows, rows_of_tree, sub_fields, subs_rows, tree_fields, tree_rows}
+use Rattle.script_reader.specs.Words.{kind_word}
+use Rattle.script_reader.specs.Written.{deed_fields, pick_fields, rows_of, item_fields, nodes_fields, ops_rows, rows_of_rows, rows_of_tree, sub_fields, subs_rows, tree_fields, tree_rows}
 use Rattle.script_reader.proofs.Decimals.{digits_read}
 use Rattle.script_reader.proofs.Lines.{IsPlain, IsPlainRow}
 use Rattle.script_reader.proofs.Pushed.{rest_holds}

@@ -6,7 +6,6 @@ use Rattle.std.specs.Str.{IsAscii}
 use Rattle.std.proofs.lemmas.Bool.Decides.{nat_tests}
 use Rattle.std.proofs.lemmas.Grind.{common_steps}
 use Rattle.tx_trees.specs.Names.{is_name, is_name_byte, has_name_len}
-use Rattle.tx_trees.specs.Rebuilt.{name_at}
 use Rattle.tx_trees.specs.ScriptData.{ScriptData}
 use Rattle.tx_trees.specs.Valid.{IsItem, IsTree}
 use Rattle.tx_trees.specs.declared.parts.ItemRow.{ItemRow}

@@ -1,5 +1,5 @@
 -- What is written of a script is read as the same script.
-use Rattle.std.proofs.Common.{◌≡◌, ◌+◌, ◌<◌, ◌≤◌, ◌∙◌, ◌++◌, ℕ, zero, suc, Bool, true, false, List, [], ◌∷◌, length, map, Option, Some, None, Result, Ok, Err, refl, sym, ap, subst, arith, append_assoc}
+use Rattle.std.proofs.Common.{◌≡◌, ◌+◌, ◌<◌, ◌≤◌, ◌∙◌, ◌++◌, ℕ, zero, suc, false, List, [], ◌∷◌, length, map, Result, Ok, Err, refl, sym, ap, subst, arith, append_assoc}
 use Rattle.std.specs.Prelude.{IsTrue, nat_lt, slice_get}
 use Rattle.std.specs.List.{AllByRecursion}
 use Rattle.std.proofs.lemmas.Bool.{lt-leb}
@@ -8,7 +8,7 @@ use Rattle.csv.specs.Reading.{strip_bom}
 use Rattle.tx_trees.proofs.Rebuilding.{is_rebuilt}
 use Rattle.tx_trees.specs.Adding.{adds_item, adds_op, adds_settle, adds_sub, adds_tree, fresh}
 use Rattle.tx_trees.specs.Ranges.{is_in_range}
-use Rattle.tx_trees.specs.Rebuilt.{SameScript, items_added, name_at, ops_added, picks_added, rebuilt, rooted_added, rows_added, subs_added, then_more, tree_added}
+use Rattle.tx_trees.specs.Rebuilt.{items_added, name_at, ops_added, picks_added, rebuilt, rooted_added, rows_added, subs_added, then_more, tree_added}
 use Rattle.tx_trees.specs.ScriptData.{ScriptData}
 use Rattle.tx_trees.specs.Valid.{AreSubs, IsItem, IsOp, IsTree, IsValid}
 use Rattle.tx_trees.specs.declared.parts.ItemRow.{ItemRow}
@@ -23,9 +23,9 @@ use Rattle.script_reader.specs.Builds.{Builds, IsBuiltRow, is_built}
 use Rattle.script_reader.specs.ReadBack.{IsReadAs}
 use Rattle.script_reader.specs.Reading.{read_of, read_rows, rows_from, then_rows}
 use Rattle.script_reader.specs.Records.{records_in}
-use Rattle.script_reader.specs.Rows.{first_row, later_row}
-use Rattle.script_reader.specs.Written.{item_fields, nodes_fields, op_fields, ops_rows, pick_fields, rows_of, rows_of_row, rows_of_rows, rows_of_tree, sub_fields, subs_rows, tree_fields, tree_rows, written}
-use Rattle.script_reader.proofs.Added.{TakesOp, item_is, op_taken, settle_is, sub_is, tree_is}
+use Rattle.script_reader.specs.Rows.{later_row}
+use Rattle.script_reader.specs.Written.{item_fields, nodes_fields, op_fields, ops_rows, pick_fields, rows_of, rows_of_rows, rows_of_tree, sub_fields, subs_rows, tree_fields, tree_rows, written}
+use Rattle.script_reader.proofs.Added.{item_is, op_taken, settle_is, sub_is, tree_is}
 use Rattle.script_reader.proofs.Lines.{few_lines, lines_read}
 use Rattle.script_reader.proofs.PlainRows.{all_plain, op_named, small_deed}
 use Rattle.script_reader.proofs.RowsBack.{deed_back, item_back, nodes_back, sub_back, tree_back}

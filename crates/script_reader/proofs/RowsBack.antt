@@ -1,5 +1,5 @@
 -- Each row that is written of a script is read as the call that adds it.
-use Rattle.std.proofs.Common.{◌≡◌, ◌<◌, ◌≤◌, ◌^◌, ◌&&◌, ◌∙◌, ℕ, Bool, true, false, not, List, [], ◌∷◌, Option, Some, None, Result, Ok, Err, refl, sym, ap, arith}
+use Rattle.std.proofs.Common.{◌≡◌, ◌<◌, ◌≤◌, ◌^◌, ◌&&◌, ◌∙◌, ℕ, Bool, true, false, not, List, [], ◌∷◌, Some, Ok, refl, arith}
 use Rattle.std.specs.Prelude.{ℤ, IsTrue, ◌||◌, decimal, is_some, length, nat_le, unsigned_abs}
 use Rattle.std.proofs.lemmas.Bool.{le-leb}
 use Rattle.std.specs.Fmt.{signed_decimal}
@@ -24,7 +24,7 @@ use Rattle.tx_trees.specs.declared.why.Why.{Why}
 use Rattle.tx_trees.specs.declared.why.Why.TheVariants as why
 use Rattle.script_reader.specs.Builds.{is_built}
 use Rattle.script_reader.specs.Numbers.{amount_of, number_of}
-use Rattle.script_reader.specs.Rows.{amount_row, deed_of, first_row, if_built, item_of, item_row, later_row, node_no, nodes_row, op_row, sub_row, tree_row, unless}
+use Rattle.script_reader.specs.Rows.{amount_row, deed_of, first_row, if_built, item_row, later_row, nodes_row, op_row, sub_row, tree_row, unless}
 use Rattle.script_reader.specs.Words.{kind_of, kind_word}
 use Rattle.script_reader.specs.Written.{deed_fields, item_fields, nodes_fields, sub_fields, tree_fields}
 use Rattle.script_reader.specs.declared.words.OpWord.{OpWord}

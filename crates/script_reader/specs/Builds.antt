@@ -1,5 +1,5 @@
 -- Scripts of the forms that are built.
-use Rattle.std.specs.Prelude.{ℕ, ◌≡◌, Bool, true, false, IsTrue, List, []}
+use Rattle.std.specs.Prelude.{◌≡◌, Bool, true, false, IsTrue, []}
 use Rattle.std.specs.List.{AllByRecursion}
 use Rattle.tx_trees.specs.ScriptData.{ScriptData}
 use Rattle.tx_trees.specs.declared.parts.ScriptRow.{ScriptRow}

@@ -7,13 +7,15 @@ use crate::records::Records;
 use crate::rows::{take_first, take_later};
 use csv::ByteRecord;
 use std::alloc::Global;
+use thiserror::Error;
 use tv_base::NoMemory;
 use tx_trees::{Refusal, Script, Why};
 
 const MOST_BYTES: usize = 8_388_608;
 
 /// The first faulty record, and the first of its reasons.
-#[derive(Clone, Copy, Debug, PartialEq, Eq)]
+#[derive(Clone, Copy, Debug, PartialEq, Eq, Error)]
+#[error("row {row}: {why}")]
 pub struct ScriptFault {
     /// Its number, from 1. Row 0 is the whole input, which is too long.
     pub row: u32,
@@ -22,11 +24,13 @@ pub struct ScriptFault {
 }
 
 /// Why there is no script.
-#[derive(Clone, Copy, Debug, PartialEq, Eq)]
+#[derive(Clone, Copy, Debug, PartialEq, Eq, Error)]
 pub enum ScriptRefusal {
     /// A record is refused.
+    #[error("{0}")]
     Fault(ScriptFault),
     /// Want of memory, which says nothing of the text.
+    #[error("out of memory")]
     NoMemory,
 }
 

@@ -1,43 +1,103 @@
 use super::*;
+use commute_ops::{Amount, Kind, Op};
+use std::alloc::Global;
 use std::test::Fail;
-use tv_base::NodeNo;
-use tx_trees::Why;
+use tv_base::{Name, NodeNo};
+use tx_trees::{Deed, ItemRow, Refusal, Script, TreeKind, Why};
+
+const TWO_NODES: &[u8] =
+    b"nodes,2\nitem,a,0,sum,10\nitem,b,1,sum,0\nupdate,t,0\nadd,a,5\nsub,0,1\nadd,b,7\nsettle\n";
 
 #[test]
-fn a_script_is_read(rt: HostRuntime) -> Result<(), Fail> {
-    let texts: [&[u8]; 2] = [
-        b"nodes,2\nitem,a,0,sum,10\nitem,b,1,sum,0\nupdate,t,0\nadd,a,5\nsub,0,1\nadd,b,7\n",
-        b"\xEF\xBB\xBFnodes,2\r\n\r\nitem,a,0,sum,10\r\nitem,b,1,sum,0\r\n\r\nupdate,t,0\r\nadd,a,5\r\nsub,0,1\r\nadd,b,7",
+fn a_script_is_read_and_written(rt: HostRuntime) -> Result<(), Fail> {
+    let texts: [&[u8]; 5] = [
+        TWO_NODES,
+        b"\xEF\xBB\xBFnodes,2\r\n\r\nitem,a,0,sum,10\r\nitem,b,1,sum,0\r\n\r\nupdate,t,0\r\nadd,a,5\r\nsub,0,1\r\nadd,b,7\r\nsettle",
+        b"nodes,2\ritem,a,0,sum,10\ritem,b,1,sum,0\r\rupdate,t,0\radd,a,5\rsub,0,1\radd,b,7\rsettle\r",
+        b"\"nodes\",\"2\"\nitem,\"a\",0,\"sum\",10\nitem,b,1,sum,\"0\"\n\"update\",t,0\nadd,a,5\n\"sub\",0,1\nadd,\"b\",7\n\"settle\"\n",
+        b"nodes,02\nitem,a,00,sum,0010\nitem,b,1,sum,-0\nupdate,t,0\nadd,a,05\nsub,00,1\nadd,b,7\nsettle\n",
     ];
     for text in texts {
-        let script = match read_script(rt.alloc(), text) {
-            Ok(script) => script,
-            Err(_) => return Err("refused".into()),
-        };
-        assert_eq!(rt; script.nodes(), 2);
-        assert_eq!(rt; script.items().len(), 2);
-        let item = script.items().first().ok_or("an item")?;
-        assert_eq!(rt; item.initial, 10);
-        let tree = script.trees().first().ok_or("a tree")?;
-        assert_eq!(rt; tree.subs.items().len(), 2);
-        let leaf = tree.subs.items().get(1).ok_or("a leaf")?;
-        assert_eq!(rt; leaf.node, NodeNo(1));
-        assert_eq!(rt; leaf.ops.items().len(), 1);
+        let script = read_script(rt.alloc(), text)?;
+        let written = write_script(rt.alloc(), &script).map_err(|_| "no memory")?;
+        assert_eq!(rt; written.bytes(), TWO_NODES);
     }
+    Ok(())
+}
+
+fn name(bytes: &[u8]) -> Result<Name, Refusal> {
+    Name::new(bytes).ok_or(Refusal::Why(Why::BadName))
+}
+
+fn item(
+    script: &mut Script,
+    bytes: &[u8],
+    node: u8,
+    kind: Kind,
+    initial: Amount,
+) -> Result<(), Refusal> {
+    let name = name(bytes)?;
+    script.add_item(ItemRow {
+        name,
+        node: NodeNo(node),
+        kind,
+        initial,
+    })?;
+    Ok(())
+}
+
+fn every_form(alloc: Global) -> Result<Script, Refusal> {
+    let mut script = Script::new(alloc, 2);
+    item(&mut script, b"a", 0, Kind::Sum, 5)?;
+    item(&mut script, b"b", 1, Kind::Top, -3)?;
+    item(&mut script, b"c", 0, Kind::Bag, 0)?;
+    script.add_tree(name(b"t")?, TreeKind::Update, NodeNo(0))?;
+    script.add_op(&name(b"a")?, Deed::Apply(Op::Add(-2)))?;
+    script.add_op(&name(b"c")?, Deed::Apply(Op::Put(9)))?;
+    script.add_sub(0, NodeNo(1))?;
+    script.add_op(&name(b"b")?, Deed::Apply(Op::Top(7)))?;
+    script.add_settle()?;
+    script.add_tree(name(b"r")?, TreeKind::Read, NodeNo(0))?;
+    script.add_op(&name(b"a")?, Deed::Get)?;
+    script.add_tree(name(b"k")?, TreeKind::Strict, NodeNo(0))?;
+    script.add_op(&name(b"a")?, Deed::Draw(1))?;
+    script.add_sub(0, NodeNo(1))?;
+    script.add_op(&name(b"b")?, Deed::Set(8))?;
+    script.add_advance()?;
+    script.add_pick(4_294_967_295)?;
+    script.add_pick(0)?;
+    Ok(script)
+}
+
+#[test]
+fn every_form_is_written(rt: HostRuntime) -> Result<(), Fail> {
+    let script = every_form(rt.alloc())?;
+    let text = write_script(rt.alloc(), &script).map_err(|_| "no memory")?;
+    let wanted: &[u8] =
+        b"nodes,2\nitem,a,0,sum,5\nitem,b,1,top,-3\nitem,c,0,bag,0\nupdate,t,0\nadd,a,-2\nput,c,9\nsub,0,1\ntop,b,7\nsettle\nread,r,0\nget,a\nstrict,k,0\ndraw,a,1\nsub,0,1\nset,b,8\nadvance\npick,4294967295\npick,0\n";
+    assert_eq!(rt; text.bytes(), wanted);
     Ok(())
 }
 
 #[test]
 fn the_first_fault_is_told(rt: HostRuntime) -> Result<(), Fail> {
-    let table: [(&[u8], u32, Why); 19] = [
+    let table: [(&[u8], u32, Why); 42] = [
         (b"", 1, Why::NodesFirst),
+        (b"\xEF\xBB\xBF", 1, Why::NodesFirst),
         (b"foo,1\n", 1, Why::UnknownRow),
+        (b"\"\"\n", 1, Why::UnknownRow),
         (b"nodes\n", 1, Why::WrongFields),
         (b"advance\n", 1, Why::NodesFirst),
         (b"nodes,1\nnodes,1\n", 2, Why::NodesTwice),
         (b"nodes,x\n", 1, Why::BadNumber),
         (b"nodes,17\n", 1, Why::OutOfRange),
         (b"nodes,1\nitem,a b,0,sum,1\n", 2, Why::BadName),
+        (b"nodes,1\nitem,\"a\nb\",0,sum,1\n", 2, Why::BadName),
+        (
+            b"nodes,1\nitem,a,0,sum,1\nitem,a,0,sum,1\n",
+            3,
+            Why::NameTaken,
+        ),
         (
             b"nodes,1\nitem,a,0,sum,-0\nitem,a,0,old,1\n",
             3,
@@ -45,28 +105,124 @@ fn the_first_fault_is_told(rt: HostRuntime) -> Result<(), Fail> {
         ),
         (b"nodes,1\nitem,a,0,old,1\n", 2, Why::WrongKind),
         (b"nodes,1\nitem,a,0,bag,1\n", 2, Why::OutOfRange),
-        (b"nodes,1\nitem,a,0,sum,+1\n", 2, Why::BadNumber),
+        (
+            b"nodes,1\nitem,a,0,old,1000000000000001\n",
+            2,
+            Why::OutOfRange,
+        ),
+        (b"nodes,1\nitem,a,1,sum,+1\n", 2, Why::BadNumber),
+        (
+            b"nodes,1\nitem,a,0,sum,000000000000000000000000000000001\n",
+            2,
+            Why::BadNumber,
+        ),
         (b"nodes,1\nupdate,t,0\nadd,a,1\n", 3, Why::UnknownItem),
+        (b"nodes,1\nupdate,t,0\nadd,,1\n", 3, Why::UnknownItem),
+        (
+            b"nodes,1\nupdate,t,0\nadd,,-1000000000000001\n",
+            3,
+            Why::OutOfRange,
+        ),
+        (b"nodes,1\nupdate,t,0\ndraw,a,-1\n", 3, Why::OutOfRange),
+        (
+            b"nodes,1\nitem,a,0,sum,1\nupdate,t,0\ndraw,a,1\n",
+            4,
+            Why::WrongKind,
+        ),
+        (
+            b"nodes,1\nitem,a,0,sum,1\nread,t,0\nset,a,1\n",
+            4,
+            Why::WrongKind,
+        ),
         (b"nodes,1\nsub,0,0\n", 2, Why::NoTree),
+        (b"nodes,1\nupdate,t,0\nsettle\nsub,0,0\n", 4, Why::NoTree),
         (b"nodes,1\nupdate,t,0\nsub,1,0\n", 3, Why::BadParent),
         (
             b"nodes,1\nupdate,t,0\nsub,4294967296,0\n",
             3,
             Why::BadParent,
         ),
+        (b"nodes,1\nupdate,t,0\nsub,1,1\n", 3, Why::OutOfRange),
         (
             b"nodes,2\nitem,a,1,sum,0\nupdate,t,0\nadd,a,1\n",
             4,
             Why::WrongNode,
         ),
+        (
+            b"nodes,1\nitem,a,0,sum,0\nupdate,t,0\nget,a\n",
+            4,
+            Why::WrongKind,
+        ),
         (b"nodes,1\nitem,\"a", 2, Why::WrongFields),
-        (b"nodes,1\nsettle\n", 2, Why::NotBuilt),
+        (b"nodes,1\nadvance\n", 2, Why::NotBuilt),
+        (b"nodes,1\nadvance,1\n", 2, Why::WrongFields),
+        (b"nodes,1\npick,0\n", 2, Why::NotBuilt),
+        (b"nodes,1\npick,-1\n", 2, Why::BadNumber),
+        (b"nodes,1\npick,4294967296\n", 2, Why::OutOfRange),
+        (b"nodes,1\nstrict,k,0\n", 2, Why::NotBuilt),
+        (b"nodes,1\nstrict,k,1\n", 2, Why::OutOfRange),
+        (b"nodes,1\nread,k,0\nstrict,k,0\n", 3, Why::NameTaken),
+        (
+            b"nodes,1\nitem,a,0,sum,999999999999999\nupdate,t,0\nadd,a,1\nadd,a,1\n",
+            5,
+            Why::TooMuch,
+        ),
+        (
+            b"nodes,1\nitem,a,0,sum,999999999999999\nupdate,t,0\nadd,a,1\nadd,a,-1\n",
+            5,
+            Why::TooMuch,
+        ),
     ];
     for (text, row, why) in table {
         match read_script(rt.alloc(), text) {
             Ok(_) => assert!(rt; false),
             Err(refusal) => assert_eq!(rt; refusal, ScriptRefusal::Fault(ScriptFault { row, why })),
         }
+    }
+    Ok(())
+}
+
+// A path of so many subtransactions, each the child of the one before it.
+fn path(alloc: Global, subs: u32) -> Result<String, Fail> {
+    let mut text = format!(in alloc; "nodes,1\nupdate,t,0\n")?;
+    for parent in 1..subs {
+        let row = format!(in alloc; "sub,{},0\n", parent - 1)?;
+        text.push_str(row.as_str())?;
+    }
+    Ok(text)
+}
+
+#[test]
+fn limits_are_met(rt: HostRuntime) -> Result<(), Fail> {
+    let greatest = b"nodes,1\nitem,a,0,sum,999999999999999\nupdate,t,0\nadd,a,1\n";
+    let script = read_script(rt.alloc(), greatest)?;
+    assert_eq!(rt; script.items().len(), 1);
+    let longest = path(rt.alloc(), 64)?;
+    let script = read_script(rt.alloc(), longest.as_bytes())?;
+    let tree = script.trees().first().ok_or("a tree")?;
+    assert_eq!(rt; tree.subs.items().len(), 64);
+    let longer = path(rt.alloc(), 65)?;
+    match read_script(rt.alloc(), longer.as_bytes()) {
+        Ok(_) => assert!(rt; false),
+        Err(refusal) => assert_eq!(rt;
+            refusal,
+            ScriptRefusal::Fault(ScriptFault {
+                row: 66,
+                why: Why::TooMany
+            })
+        ),
+    }
+    let mut bytes = Vec::new(rt.alloc());
+    bytes.resize(8_388_609, b'\n')?;
+    match read_script(rt.alloc(), &bytes) {
+        Ok(_) => assert!(rt; false),
+        Err(refusal) => assert_eq!(rt;
+            refusal,
+            ScriptRefusal::Fault(ScriptFault {
+                row: 0,
+                why: Why::TooLong
+            })
+        ),
     }
     Ok(())
 }

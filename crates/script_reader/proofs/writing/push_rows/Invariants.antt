@@ -1,4 +1,4 @@
-use Rattle.std.proofs.Common.{◌≡◌, ◌++◌, drop, map}
+use Rattle.std.proofs.Common.{◌≡◌, ◌++◌, drop}
 use Rattle.script_reader.specs.Written.{lines, rows_of_rows}
 use Rattle.script_reader.proofs.writing.push_rows.Given as goal
 

@@ -1,4 +1,3 @@
-use Rattle.std.proofs.Common.{arith}
 use Rattle.script_reader.proofs.Pushed.{sub_pushed}
 use Rattle.script_reader.proofs.writing.push_subs.Goals as goal
 

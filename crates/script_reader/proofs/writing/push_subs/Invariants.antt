@@ -1,4 +1,4 @@
-use Rattle.std.proofs.Common.{◌≡◌, ◌++◌, drop, map}
+use Rattle.std.proofs.Common.{◌≡◌, ◌++◌, drop}
 use Rattle.script_reader.specs.Written.{lines, subs_rows}
 use Rattle.script_reader.proofs.writing.push_subs.Given as goal
 

@@ -1,4 +1,3 @@
-use Rattle.std.proofs.Common.{ap, ◌∙◌}
 use Rattle.script_reader.proofs.Pushed.{tree_pushed}
 use Rattle.script_reader.proofs.writing.push_tree.Goals as goal
 
