@@ -6,6 +6,8 @@ pub mod Names
 pub mod Passing
 pub mod Ranges
 pub mod Rebuilt
+pub mod Same
+pub mod SameFacts
 pub mod ScriptData
 pub mod Valid
 pub mod Why

@@ -9,6 +9,7 @@ mod names;
 mod parts;
 mod ranges;
 mod rebuilt;
+mod same;
 mod script;
 mod why;
 
@@ -16,6 +17,7 @@ pub use names::is_plain_name;
 pub use parts::{Deed, ItemRow, ScriptRow, Sub, SubOp, SubOps, Subs, Tree, TreeKind};
 pub use ranges::{is_in_range, may_start};
 pub use rebuilt::a_script_is_rebuilt_from_its_rows;
+pub use same::equal_scripts_are_the_same;
 pub use script::Script;
 pub use why::{Refusal, Why};
 

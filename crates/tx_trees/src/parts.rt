@@ -27,7 +27,7 @@ pub enum Deed {
 }
 
 /// An operation of a subtransaction.
-#[derive(Clone, Copy, Debug, PartialEq, Eq)]
+#[derive(Clone, Copy, Debug)]
 pub struct SubOp {
     /// The item, which is at the subtransaction's node.
     pub item: ItemNo,
@@ -77,7 +77,7 @@ pub struct ItemRow {
 }
 
 /// What the client does next.
-#[derive(Clone, Copy, Debug, PartialEq, Eq)]
+#[derive(Clone, Copy, Debug)]
 pub enum ScriptRow {
     /// Sends the root of this tree to its home.
     Tree(TreeNo),

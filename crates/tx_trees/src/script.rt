@@ -5,6 +5,8 @@ ghost use Rattle.tx_trees.specs.Adding.{Steps, adds_advance, adds_item, adds_op,
 ghost use Rattle.tx_trees.specs.Amounts.{magnitude};
 ghost use Rattle.tx_trees.specs.Counts.{advances_in};
 ghost use Rattle.tx_trees.specs.Passing.{MayAddItem, MayAddOp, MayAddSub, MayAddTree};
+ghost use Rattle.tx_trees.specs.Same.{same_script};
+ghost use Rattle.tx_trees.specs.SameFacts.{script_laws};
 ghost use Rattle.tx_trees.specs.ScriptData.{is_child, subs_at, visits};
 ghost use Rattle.tx_trees.specs.Valid.{IsValid, deed_fits, load};
 
@@ -97,6 +99,24 @@ impl Drop for Script {
             strict: _,
             update_subs: _,
         } = self;
+    }
+}
+
+// Equal where the nodes, items, trees, rows and picks are equal.
+impl PartialEq for Script {
+    ghost eq = { same_script };
+
+    ghost laws = { script_laws };
+
+    fn eq(&self, other: &Script) -> bool {
+        if self.nodes != other.nodes || self.items.as_slice() != other.items.as_slice() {
+            return false;
+        }
+        if self.trees.as_slice() != other.trees.as_slice() {
+            return false;
+        }
+        self.rows.as_slice() == other.rows.as_slice()
+            && self.picks.as_slice() == other.picks.as_slice()
     }
 }
 

@@ -210,6 +210,21 @@ fn children_and_visits(rt: HostRuntime) -> Result<(), Fail> {
 }
 
 #[test]
+fn scripts_are_equal_by_what_they_hold(rt: HostRuntime) -> Result<(), Fail> {
+    let mut one = Script::new(rt.alloc(), 1);
+    let mut other = Script::new(rt.alloc(), 1);
+    assert_eq!(rt; item(&mut one, b"a", 0, 1), Ok(ItemNo(0)));
+    assert_eq!(rt; tree(&mut one, b"t", 0), Ok(TreeNo(0)));
+    assert_eq!(rt; tree(&mut other, b"t", 0), Ok(TreeNo(0)));
+    assert_eq!(rt; one == other, false);
+    assert_eq!(rt; item(&mut other, b"a", 0, 1), Ok(ItemNo(0)));
+    assert_eq!(rt; one == other, true);
+    assert_eq!(rt; other.add_pick(1), Ok(()));
+    assert_eq!(rt; one == other, false);
+    Ok(())
+}
+
+#[test]
 fn a_refusal_has_a_text(rt: HostRuntime) -> Result<(), Fail> {
     let refusal = Refusal::Why(Why::NameTaken);
     assert_eq!(rt; Why::NameTaken.name(), "NameTaken");
