@@ -11,18 +11,23 @@ use Rattle.tx_trees.specs.declared.parts.ScriptRow.TheVariants as rows
 use Rattle.tx_trees.specs.declared.parts.TreeKind.{TreeKind}
 use Rattle.tx_trees.specs.declared.why.Why.{Why}
 
+-- an item that was taken stands last
 pub item_is : (s t : ScriptData) (r : ItemRow) → adds_item s r ≡ Ok t → with_item s r ≡ t
 item_is s t r is = grind arith
 
+-- a tree that was taken stands last
 pub tree_is : (s t : ScriptData) (name : List ℕ) (kind : TreeKind) (node : NodeNo) → adds_tree s name kind node ≡ Ok t → with_tree s name kind node ≡ t
 tree_is s t name kind node is = grind arith
 
+-- a subtransaction that was taken stands last in the last tree
 pub sub_is : (s t : ScriptData) (parent : ℕ) (node : NodeNo) → adds_sub s parent node ≡ Ok t → with_sub s parent node ≡ t
 sub_is s t parent node is = grind arith
 
+-- an operation that was taken stands last in the last subtransaction
 pub op_at_is : (s t : ScriptData) (k : ℕ) (deed : Deed) → adds_op_at s (Some k) deed ≡ Ok t → with_op s k deed ≡ t
 op_at_is s t k deed is = grind arith
 
+-- a row that waits stands last
 pub settle_is : (s t : ScriptData) → adds_settle s ≡ Ok t → with_row s rows.Settle ≡ t
 settle_is s t is = cc is
 
@@ -31,13 +36,16 @@ pub record TakesOp (s t : ScriptData) (deed : Deed) : Type 0 where
   pub item : ℕ
   pub is : with_op s item deed ≡ t
 
+-- only an operation on an item is taken
 op_at_taken : (s t : ScriptData) (place : Option ℕ) (deed : Deed) → adds_op_at s place deed ≡ Ok t → TakesOp s t deed
 op_at_taken s t None deed is = absurd (cc is)
 op_at_taken s t (Some k) deed is = record { item = k; is = op_at_is s t k deed is }
 
+-- what was taken met the condition
 if_taken : {A : Type 0} (b : Bool) (r : Result A Why) (w : Why) (t : A) → (if b then r else Err w) ≡ Ok t → r ≡ Ok t
 if_taken true r w t is = is
 if_taken false r w t is = absurd (cc is)
 
+-- an operation that was taken, by the name of its item
 pub op_taken : (s t : ScriptData) (name : List ℕ) (deed : Deed) → adds_op s name deed ≡ Ok t → TakesOp s t deed
 op_taken s t name deed is = op_at_taken s t (place_of name s.items) deed (if_taken (is_in_range deed) _ _ t is)

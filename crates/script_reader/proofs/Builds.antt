@@ -25,11 +25,13 @@ use Rattle.script_reader.specs.declared.words.RowWord.TheVariants as words
 use Rattle.script_reader.proofs.Added.{item_is, op_taken, settle_is, sub_is, tree_is}
 use Rattle.tx_trees.specs.Built.{is_built, IsBuiltRow}
 
+-- a tree of a built kind
 abbrev IsBuiltTree : Tree → Type 0
 IsBuiltTree t = IsTrue (is_built t.kind)
 
 -- what each call adds
 
+-- a tree of a built kind keeps it
 tree_builds : (s : ScriptData) (name : List ℕ) (kind : TreeKind) (node : NodeNo) → is_built kind ≡ true → Builds s → Builds (with_tree s name kind node)
 tree_builds s name kind node built b = record {
   trees = all-push IsBuiltTree s.trees (rooted name kind node) b.trees built;
@@ -37,6 +39,7 @@ tree_builds s name kind node built b = record {
   picks = b.picks;
 }
 
+-- a subtransaction keeps it
 sub_builds : (s : ScriptData) (parent : ℕ) (node : NodeNo) → Builds s → Builds (with_sub s parent node)
 sub_builds s parent node b = record {
   trees = all-on_last IsBuiltTree (push_sub (record { parent = record { 0 = parent }; node = node; ops = [] })) s.trees b.trees (λ t last h. h);
@@ -44,6 +47,7 @@ sub_builds s parent node b = record {
   picks = b.picks;
 }
 
+-- an operation keeps it
 op_builds : (s : ScriptData) (k : ℕ) (deed : Deed) → Builds s → Builds (with_op s k deed)
 op_builds s k deed b = record {
   trees = all-on_last IsBuiltTree (on_last_sub (push_op (record { item = record { 0 = k }; deed = deed }))) s.trees b.trees (λ t last h. h);
@@ -51,53 +55,67 @@ op_builds s k deed b = record {
   picks = b.picks;
 }
 
+-- a row that waits keeps it
 settle_builds : (s : ScriptData) → Builds s → Builds (with_row s rows.Settle)
 settle_builds s b = record { trees = b.trees; rows = all-push IsBuiltRow s.rows rows.Settle b.rows tt; picks = b.picks }
 
 -- each row
 
+-- an item row that is taken has numbers
 item_some : (s t : ScriptData) (name node kind initial : List ℕ) → item_row s name node kind initial ≡ Ok t → item_of s name (decimal_value node) (kind_of kind) (amount_value initial) ≡ Ok t
 item_some s t name node kind initial is = grind arith
 
+-- an item that is taken passes its conditions
 item_of_some : (s t : ScriptData) (name : List ℕ) (node : ℕ) (kind : Option Kind) (initial : ℤ) → item_of s name node kind initial ≡ Ok t → adds_item_of s name node kind initial ≡ Ok t
 item_of_some s t name node kind initial is = grind arith
 
+-- an item row keeps it
 item_row_builds : (s t : ScriptData) (name : List ℕ) (node : ℕ) (kind : Option Kind) (initial : ℤ) → Builds s → adds_item_of s name node kind initial ≡ Ok t → Builds t
 item_row_builds s t name node None initial b is = absurd (cc is)
 item_row_builds s t name node (Some kind) initial b is = subst Builds (item_is s t (record { name = name; node = node_no node; kind = kind; initial = initial }) is) (record { trees = b.trees; rows = b.rows; picks = b.picks })
 
+-- a form that is taken is built
 if_built_is : (built : Bool) (r : Result ScriptData Why) (t : ScriptData) → if_built built r ≡ Ok t → (built ≡ true) × (r ≡ Ok t)
 if_built_is true (Ok s) t is = (refl, is)
 if_built_is false (Ok s) t is = absurd (cc is)
 if_built_is built (Err w) t is = absurd (cc is)
 
+-- a tree row that is taken passes its conditions
 tree_some : (s t : ScriptData) (kind : TreeKind) (name node : List ℕ) → tree_row s kind name node ≡ Ok t → if_built (is_built kind) (adds_tree s name kind (node_no (decimal_value node))) ≡ Ok t
 tree_some s t kind name node is = grind arith
 
+-- a tree row keeps it
 tree_row_builds : (s t : ScriptData) (kind : TreeKind) (name node : List ℕ) → Builds s → tree_row s kind name node ≡ Ok t → Builds t
 tree_row_builds s t kind name node b is =
     let made = if_built_is (is_built kind) (adds_tree s name kind (node_no (decimal_value node))) t (tree_some s t kind name node is) in
     subst Builds (tree_is s t name kind (node_no (decimal_value node)) made.1) (tree_builds s name kind (node_no (decimal_value node)) made.0 b)
 
+-- a `sub` row that is taken passes its conditions
 sub_some : (s t : ScriptData) (parent node : List ℕ) → sub_row s parent node ≡ Ok t → adds_sub s (decimal_value parent) (node_no (decimal_value node)) ≡ Ok t
 sub_some s t parent node is = grind arith
 
+-- an operation that is taken passes its conditions
 op_some : (s t : ScriptData) (item : List ℕ) (deed : Deed) → op_row s item deed ≡ Ok t → adds_op s item deed ≡ Ok t
 op_some s t item deed is = grind arith
 
+-- an operation row keeps it
 op_row_builds : (s t : ScriptData) (item : List ℕ) (deed : Deed) → Builds s → op_row s item deed ≡ Ok t → Builds t
 op_row_builds s t item deed b is = let taken = op_taken s t item deed (op_some s t item deed is) in subst Builds taken.is (op_builds s taken.item deed b)
 
+-- an operation row that is taken has an amount
 amount_some : (s t : ScriptData) (word : OpWord) (item amount : List ℕ) → amount_row s word item amount ≡ Ok t → op_row s item (deed_of word (amount_value amount)) ≡ Ok t
 amount_some s t word item amount is = grind arith
 
+-- a pick that were taken would pass its conditions
 pick_some : (s t : ScriptData) (place : List ℕ) → pick_row s place ≡ Ok t → if_built false (adds_pick s (decimal_value place)) ≡ Ok t
 pick_some s t place is = grind arith
 
+-- a form that is not built is never taken
 never : (r : Result ScriptData Why) (t : ScriptData) → if_built false r ≡ Ok t → ⊥
 never (Ok s) t is = cc is
 never (Err w) t is = cc is
 
+-- each later row keeps it
 form_builds : (s t : ScriptData) (fields : List (List ℕ)) (w : RowWord) → Builds s → later_form s fields w ≡ Ok t → Builds t
 form_builds s t fields words.Nodes b is = absurd (cc is)
 form_builds s t fields words.Item b is =
@@ -114,16 +132,20 @@ form_builds s t fields words.Advance b is = absurd (never (adds_advance s) t is)
 form_builds s t fields words.Settle b is = subst Builds (settle_is s t is) (settle_builds s b)
 form_builds s t fields words.Pick b is = absurd (never (adds_pick s (decimal_value (field fields 1))) t (pick_some s t (field fields 1) is))
 
+-- the `nodes` row makes an empty script
 nodes_is : (t : ScriptData) (nodes : List ℕ) → nodes_row nodes ≡ Ok t → fresh (decimal_value nodes) ≡ t
 nodes_is t nodes is = grind arith
 
+-- the first row makes it so
 first_form_builds : (t : ScriptData) (fields : List (List ℕ)) (w : RowWord) → first_form fields w ≡ Ok t → Builds t
 first_form_builds t fields words.Nodes is = subst Builds (nodes_is t (field fields 1) is) (record { trees = tt; rows = tt; picks = refl })
 first_form_builds t fields _ is = absurd (cc is)
 
+-- a row that is taken has its number of fields
 by_word_is : (t : ScriptData) (fields : List (List ℕ)) (v : RowWord) (form : RowWord → Result ScriptData Why) → by_word fields (Some v) form ≡ Ok t → form v ≡ Ok t
 by_word_is t fields v form is = grind arith
 
+-- a row by its word
 by_word_builds : (t : ScriptData) (fields : List (List ℕ)) (w : Option RowWord) (form : RowWord → Result ScriptData Why) → ((v : RowWord) → form v ≡ Ok t → Builds t)
     → by_word fields w form ≡ Ok t → Builds t
 by_word_builds t fields None form h is = absurd (cc is)
@@ -131,11 +153,13 @@ by_word_builds t fields (Some v) form h is = h v (by_word_is t fields v form is)
 
 -- all rows
 
+-- a row and the rows after it
 then_builds : (t : ScriptData) (row : ℕ) (one : Result ScriptData Why) (more : ScriptData → Result ScriptData ScriptFault) → ((s : ScriptData) → one ≡ Ok s → Builds s)
     → ((s : ScriptData) → Builds s → more s ≡ Ok t → Builds t) → then_rows row one more ≡ Ok t → Builds t
 then_builds t row (Ok s) more h k is = k s (h s refl) is
 then_builds t row (Err w) more h k is = absurd (cc is)
 
+-- all later rows keep it
 from_builds : (s t : ScriptData) (row : ℕ) (rs : List (List (List ℕ))) → Builds s → rows_from s row rs ≡ Ok t → Builds t
 unfolding rows_from
 from_builds s t row [] b is = let same : s ≡ t = cc is in subst Builds same b
@@ -143,15 +167,18 @@ from_builds s t row (x ∷ xs) b is =
     then_builds t row (later_row s x) (λ u. rows_from u (row + 1) xs) (λ u at. by_word_builds u x (word_of (field x 0)) (later_form s x) (λ w. form_builds s u x w b) at)
     (λ u h at. from_builds u t (row + 1) xs h at) is
 
+-- all rows
 read_builds : (t : ScriptData) (rs : List (List (List ℕ))) → read_rows rs ≡ Ok t → Builds t
 read_builds t [] is = absurd (cc is)
 read_builds t (x ∷ xs) is =
     then_builds t 1 (first_row x) (λ u. rows_from u 2 xs) (λ u at. by_word_builds u x (word_of (field x 0)) (first_form x) (first_form_builds u x) at)
     (λ u h at. from_builds u t 2 xs h at) is
 
+-- a text that is taken is not too long
 bytes_is : (t : ScriptData) (b : Bool) (e : ScriptFault) (r : Result ScriptData ScriptFault) → (if b then Err e else r) ≡ Ok t → r ≡ Ok t
 bytes_is t true e r is = absurd (cc is)
 bytes_is t false e r is = is
 
+-- what bytes are read as is of built forms alone
 pub reads_built : (bytes : List ℕ) (s : ScriptData) → read_of bytes ≡ Ok s → Builds s
 reads_built bytes s is = read_builds s (records_in bytes) (bytes_is s (nat_lt 8388608 (length bytes)) _ (read_rows (records_in bytes)) is)

@@ -17,15 +17,18 @@ record Spells (n : ℕ) (ds : List ℕ) : Type 0 where
   some : 1 ≤ length ds
   value : decimal_value ds ≡ n
 
+-- the byte of a digit is a digit
 is_digit_of : (d : ℕ) → d < 10 → is_digit (48 + d) ≡ true
 is_digit_of d h =
     let low : nat_le 48 (48 + d) ≡ true = le-leb 48 (48 + d) (omega arith) in
     let high : nat_le (48 + d) 57 ≡ true = le-leb (48 + d) 57 (omega arith) in
     rw (low, high) refl
 
+-- a number below ten is one digit
 one_digit : (n : ℕ) → n < 10 → Spells n ((48 + n) ∷ [])
 one_digit n h = record { digits = rw (is_digit_of n h) refl; some = omega arith; value = omega arith }
 
+-- one digit more
 more_digits : (n : ℕ) (ds : List ℕ) → 10 ≤ n → Spells (n / 10) ds → Spells n (ds ++ ((48 + n % 10) ∷ []))
 more_digits n ds h s =
     let d : is_digit (48 + n % 10) ≡ true = is_digit_of (n % 10) (omega arith) in
@@ -37,6 +40,7 @@ more_digits n ds h s =
       value = v ∙ omega (arith, s.value);
     }
 
+-- what is written of a number spells it
 spells : (n : ℕ) → n < 10 ^ 64 → Spells n (decimal n)
 spells = decimal_by_steps_wide Spells one_digit more_digits
 
@@ -48,12 +52,15 @@ number_read n h =
     let high : nat_le (length (decimal n)) 32 ≡ true = le-leb (length (decimal n)) 32 (length-decimal-le_wide 32 n (omega arith) h (omega arith)) in
     rw (low, high, s.digits) refl
 
+-- what is written of a number is digits
 pub digits_read : (n : ℕ) → n < 10 ^ 64 → list_all is_digit (decimal n) ≡ true
 digits_read n h = (spells n h).digits
 
+-- and they have its value
 pub value_read : (n : ℕ) → n < 10 ^ 64 → decimal_value (decimal n) ≡ n
 value_read n h = (spells n h).value
 
+-- a digit is no minus sign
 not_minus : (b : ℕ) (x : Bool) → (is_digit b && x) ≡ true → (b == 45) ≡ false
 not_minus b x h = grind (arith, nat_tests)
 
@@ -62,6 +69,7 @@ first_digit : (ds : List ℕ) → list_all is_digit ds ≡ true → (is_negative
 first_digit [] h = (refl, refl)
 first_digit (b ∷ bs) h = rw (not_minus b (list_all is_digit bs) h) (refl, refl)
 
+-- nothing less a number
 below_zero : (n : ℕ) → pos 0 -ℤ pos (suc n) ≡ negsuc n
 below_zero n = omega (arith, ints)
 

@@ -22,19 +22,23 @@ pub record IsPlainRow (r : List (List ℕ)) : Type 0 where
   pub first : IsPlain head
   pub rest : AllByRecursion IsPlain tail
 
+-- csv writes a plain field as it is
 field_is : (f : List ℕ) → IsPlain f → field_text default_writer f ≡ f
 field_is f h = rw h refl
 
+-- and plain fields behind the first
 more_is : (fs : List (List ℕ)) → AllByRecursion IsPlain fs → fields_text default_writer fs ++ (10 ∷ []) ≡ more_fields fs
 unfolding fields_text
 more_is [] h = refl
 more_is (f ∷ fs) h = rw (field_is f h.0) (ap (λ (t : List ℕ). 44 ∷ t) (append_assoc f (fields_text default_writer fs) (10 ∷ []) ∙ ap (λ (t : List ℕ). f ++ t) (more_is fs h.1)))
 
+-- a record whose first field is not empty is not blank
 not_blank : (b : ℕ) (bs : List ℕ) (fs : List (List ℕ)) → IsPlain (b ∷ bs) → is_blank default_writer ((b ∷ bs) ∷ fs) ≡ false
 unfolding is_blank
 not_blank b bs [] h = rw (field_is (b ∷ bs) h) (ne_eqb (suc (length bs)) 0 (λ z. cc z))
 not_blank b bs (f ∷ fs) h = refl
 
+-- csv writes a plain record as its line
 row_is : (f : List ℕ) (fs : List (List ℕ)) → 0 < length f → IsPlain f → AllByRecursion IsPlain fs → row_text default_writer (f ∷ fs) ≡ line (f ∷ fs)
 row_is [] fs some first rest = absurd (omega arith)
 row_is (b ∷ bs) fs some first rest =
@@ -55,6 +59,7 @@ lines_read (suc n) [] few h = refl
 lines_read (suc n) (r ∷ rs) few h =
     ap (records_next (records_from default_config n)) (line_read r (lines rs) h.0) ∙ ap (λ (t : List (List (List ℕ))). r ∷ t) (lines_read n rs (omega (arith, few)) h.1)
 
+-- a line has a byte
 line_some : (r : List (List ℕ)) → 0 < length (line r)
 line_some [] = omega arith
 line_some (f ∷ []) = omega (arith, length-append f (10 ∷ []))

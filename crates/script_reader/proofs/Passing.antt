@@ -49,9 +49,11 @@ passed_on_built U made step built e (Ok t) old new h is steps = absurd h
 passed_on_built U made step built (refusals.Why w) (Err x) old new h is steps = rw (h, is, steps.0) refl
 passed_on_built U made step built refusals.NoMemory (Err x) old new h is steps = rw h tt
 
+-- what the code read as a number is one
 number_is : (bytes : List ℕ) (n : ℕ) → number_of bytes ≡ Some n → (is_number bytes ≡ true) × (decimal_value bytes ≡ n)
 number_is bytes n e = cond_some (is_number bytes) (decimal_value bytes) n e
 
+-- what the code read as an amount is one
 amount_is : (bytes : List ℕ) (a : ℤ) → amount_of bytes ≡ Some a → (is_amount bytes ≡ true) × (amount_value bytes ≡ a)
 amount_is bytes a e = cond_some (is_amount bytes) (amount_value bytes) a e
 
@@ -61,6 +63,7 @@ passed_as v h =
     let small : unsigned_abs v < 170141183460469231731687303715884105728 = omega (arith, h) in
     to_z-of_z w128 v (fits_signed_from_abs w128 v small)
 
+-- an item that passes its conditions is added
 pub item_of_is : (s : ScriptData) (name m : List ℕ) (n : ℕ) (o : Option Kind) (k : Kind) (a : ℤ) → o ≡ Some k → n < s.nodes → starts o a ≡ true → is_name name ≡ true → m ≡ name → is_some (place_of m s.items) ≡ false
     → item_of s name n o a ≡ adds_item s (let r : ItemRow = record { name = m; node = node_no n; kind = k; initial = a } in r)
 item_of_is s name m n o k a kind low start named same free =
@@ -69,6 +72,7 @@ item_of_is s name m n o k a kind low start named same free =
     let passes : item_of s name n o a ≡ adds_item_of s name n o a = rw (few, start, named, alone) refl in
     passes ∙ rw (kind, same) refl
 
+-- an item row whose numbers are read
 pub item_row_is : (s : ScriptData) (name node kind initial : List ℕ) (n : ℕ) (k : Option Kind) (a : ℤ) → Some n ≡ number_of node → k ≡ kind_of kind → Some a ≡ amount_of initial
     → item_row s name node kind initial ≡ item_of s name n k a
 item_row_is s name node kind initial n k a hn hk ha =
@@ -77,6 +81,7 @@ item_row_is s name node kind initial n k a hn hk ha =
     let passes : item_row s name node kind initial ≡ item_of s name (decimal_value node) (kind_of kind) (amount_value initial) = rw (b.0, d.0) refl in
     passes ∙ rw (b.1, d.1, hk) refl
 
+-- a tree row that passes its conditions begins a tree
 pub tree_row_is : (s : ScriptData) (kind : TreeKind) (name node m : List ℕ) (n : ℕ) → Some n ≡ number_of node → n < s.nodes → is_name name ≡ true → m ≡ name
     → tree_row s kind name node ≡ if_built (is_built kind) (adds_tree s m kind (node_no n))
 tree_row_is s kind name node m n hn low named same =
@@ -84,6 +89,7 @@ tree_row_is s kind name node m n hn low named same =
     let few : nat_le s.nodes n ≡ false = lt-leb s.nodes n low in
     rw (same, a.0, named, a.1, few) refl
 
+-- the last tree has few subtransactions
 few_last : (n : ℕ) (items : List ItemRow) (ts : List Tree) → AllByRecursion (IsTree n items) ts → last_subs ts ≤ 64
 few_last n items [] h = omega arith
 few_last n items (t ∷ []) h = h.0.few
@@ -97,12 +103,14 @@ too_great s p q node valid hp hq =
     let b : nat_le (last_subs s.trees) q ≡ true = le-leb (last_subs s.trees) q (omega arith) in
     rw (a, b) refl
 
+-- a number that is cut to 32 bits is itself, or both are great
 pub clamped : (p q : ℕ) → q ≡ min p 4294967295 → (q ≡ p) ⊎ ((64 ≤ p) × (64 ≤ q))
 clamped p q e = elim (cases_lt p 4294967296) [
   | inl below ↦ inl (omega (arith, e))
   | inr above ↦ inr (omega arith, omega (arith, e))
 ]
 
+-- a `sub` row that passes its conditions adds one
 pub sub_row_is : (s : ScriptData) (parent node : List ℕ) (p n q : ℕ) → Some p ≡ number_of parent → Some n ≡ number_of node → n < s.nodes → IsValid s → (q ≡ p) ⊎ ((64 ≤ p) × (64 ≤ q))
     → sub_row s parent node ≡ adds_sub s q (node_no n)
 sub_row_is s parent node p n q hp hn low valid same =
@@ -116,6 +124,7 @@ sub_row_is s parent node p n q hp hn low valid same =
     let passes : sub_row s parent node ≡ adds_sub s p (node_no n) = rw (a.0, b.0, a.1, b.1, few) refl in
     passes ∙ is
 
+-- an operation that passes its conditions is added
 pub op_row_is : (s : ScriptData) (item m : List ℕ) (deed : Deed) → is_in_range deed ≡ true → m ≡ item → 0 < length item → length item ≤ 32 → op_row s item deed ≡ adds_op s m deed
 op_row_is s item m deed range same some few =
     let low : nat_le 1 (length item) ≡ true = le-leb 1 (length item) some in
@@ -123,6 +132,7 @@ op_row_is s item m deed range same some few =
     let named : has_name_len item ≡ true = rw (low, high) refl in
     rw (same, range, named) refl
 
+-- an operation row whose amount is read
 pub amount_row_is : (s : ScriptData) (word : OpWord) (item bytes : List ℕ) (a : ℤ) (deed : Deed) → Some a ≡ amount_of bytes → deed ≡ deed_of word a → amount_row s word item bytes ≡ op_row s item deed
 amount_row_is s word item bytes a deed ha hd =
     let b = amount_is bytes a (sym ha) in
@@ -137,12 +147,15 @@ later_is s fields word w n fits is hw hf hn good =
     let same : len_fits w (length fields) ≡ true = ap (len_fits w) (sym hn) ∙ sym hf ∙ good in
     ap (λ (o : Option RowWord). by_word fields o (later_form s fields)) e ∙ rw same refl
 
+-- an item row, by its fields
 pub item_form_is : (s : ScriptData) (fields : List (List ℕ)) (w : RowWord) (a b c d : List ℕ) → w ≡ words.Item → a ≡ field fields 1 → b ≡ field fields 2 → c ≡ field fields 3 → d ≡ field fields 4
     → later_form s fields w ≡ item_row s a b c d
 item_form_is s fields w a b c d is ha hb hc hd = rw (is, ha, hb, hc, hd) refl
 
+-- an operation row with an amount, by its fields
 pub amount_form_is : (s : ScriptData) (fields : List (List ℕ)) (w : RowWord) (word : OpWord) (a b : List ℕ) → w ≡ words.Op word → a ≡ field fields 1 → b ≡ field fields 2 → later_form s fields w ≡ amount_row s word a b
 amount_form_is s fields w word a b is ha hb = rw (is, ha, hb) refl
 
+-- a `get` row, by its field
 pub get_form_is : (s : ScriptData) (fields : List (List ℕ)) (w : RowWord) (a : List ℕ) → w ≡ words.Get → a ≡ field fields 1 → later_form s fields w ≡ op_row s a deeds.Get
 get_form_is s fields w a is ha = rw (is, ha) refl

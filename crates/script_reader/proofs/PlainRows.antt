@@ -32,23 +32,29 @@ use Rattle.script_reader.proofs.Decimals.{digits_read}
 use Rattle.script_reader.proofs.Lines.{IsPlain, IsPlainRow}
 use Rattle.script_reader.proofs.Pushed.{rest_holds}
 
+-- a digit calls for no quotes
 digit_plain : (b : ℕ) (rest : Bool) → (is_digit b && rest) ≡ true → needs_byte default_writer b ≡ false
 digit_plain b rest h = grind (arith, nat_tests)
 
+-- a byte of a name calls for no quotes
 name_byte_plain : (b : ℕ) (rest : Bool) → (is_name_byte b && rest) ≡ true → needs_byte default_writer b ≡ false
 name_byte_plain b rest h = grind (arith, nat_tests)
 
+-- digits are plain
 digits_plain : (bs : List ℕ) → list_all is_digit bs ≡ true → IsPlain bs
 digits_plain [] h = refl
 digits_plain (b ∷ bs) h = rw (digit_plain b (list_all is_digit bs) h) (digits_plain bs (rest_holds (is_digit b) (list_all is_digit bs) h))
 
+-- bytes of a name are plain
 bytes_plain : (bs : List ℕ) → list_all is_name_byte bs ≡ true → IsPlain bs
 bytes_plain [] h = refl
 bytes_plain (b ∷ bs) h = rw (name_byte_plain b (list_all is_name_byte bs) h) (bytes_plain bs (rest_holds (is_name_byte b) (list_all is_name_byte bs) h))
 
+-- a name is plain
 name_plain : (bs : List ℕ) → IsTrue (is_name bs) → IsPlain bs
 name_plain bs h = bytes_plain bs (rest_holds (has_name_len bs) (list_all is_name_byte bs) h)
 
+-- a number is plain
 number_plain : (n : ℕ) → n < 10 ^ 64 → IsPlain (decimal n)
 number_plain n h = digits_plain (decimal n) (digits_read n h)
 
@@ -57,11 +63,13 @@ amount_plain : (a : ℤ) → unsigned_abs a < 10 ^ 32 → IsPlain (signed_decima
 amount_plain (pos n) h = number_plain n (omega arith)
 amount_plain (negsuc n) h = number_plain (suc n) (omega arith)
 
+-- the word of a kind is plain
 kind_plain : (k : Kind) → IsPlain (kind_word k)
 kind_plain kinds.Sum = refl
 kind_plain kinds.Top = refl
 kind_plain kinds.Bag = refl
 
+-- an amount of a bounded size is small
 bounded : (m : ℕ) (b : Bool) → (nat_le m MOST_AMOUNT && b) ≡ true → m < 10 ^ 32
 bounded m b h = grind (arith, nat_tests)
 
@@ -75,9 +83,11 @@ op_named n [] k kind node o all h = absurd h
 op_named n (r ∷ rs) zero kind node o all h = all.0.name
 op_named n (r ∷ rs) (suc k) kind node o all h = op_named n rs k kind node o all.1 h
 
+-- the `nodes` row
 nodes_plain : (n : ℕ) → n ≤ 16 → IsPlainRow (nodes_fields n)
 nodes_plain n few = record { head = _; tail = _; is = refl; some = omega arith; first = refl; rest = (number_plain n (omega arith), tt) }
 
+-- an item row
 item_plain : (n : ℕ) (r : ItemRow) → n ≤ 16 → IsItem n r → IsPlainRow (item_fields r)
 item_plain n r few h = record {
   head = _;
@@ -88,11 +98,13 @@ item_plain n r few h = record {
   rest = (name_plain r.name h.name, (number_plain r.node.0 (omega (arith, h.node)), (kind_plain r.kind, (amount_plain r.initial (omega (arith, h.small)), tt))));
 }
 
+-- a tree row
 tree_plain : (kind : TreeKind) (name : List ℕ) (node : ℕ) → IsTrue (is_name name) → node < 16 → IsPlainRow (tree_fields kind name node)
 tree_plain trees.Update name node h low = record { head = _; tail = _; is = refl; some = omega arith; first = refl; rest = (name_plain name h, (number_plain node (omega arith), tt)) }
 tree_plain trees.Read name node h low = record { head = _; tail = _; is = refl; some = omega arith; first = refl; rest = (name_plain name h, (number_plain node (omega arith), tt)) }
 tree_plain trees.Strict name node h low = record { head = _; tail = _; is = refl; some = omega arith; first = refl; rest = (name_plain name h, (number_plain node (omega arith), tt)) }
 
+-- a `sub` row
 sub_plain : (x : Sub) → x.parent.0 < 64 → x.node.0 < 16 → IsPlainRow (sub_fields x)
 sub_plain x early low = record {
   head = _;
@@ -103,9 +115,11 @@ sub_plain x early low = record {
   rest = (number_plain x.parent.0 (omega arith), (number_plain x.node.0 (omega arith), tt));
 }
 
+-- a name and an amount
 with_amount : (name : List ℕ) (a : ℤ) → IsTrue (is_name name) → unsigned_abs a < 10 ^ 32 → AllByRecursion IsPlain (name ∷ signed_decimal a ∷ [])
 with_amount name a h small = (name_plain name h, (amount_plain a small, tt))
 
+-- an operation row
 deed_plain : (name : List ℕ) (deed : Deed) → IsTrue (is_name name) → magnitude deed < 10 ^ 32 → IsPlainRow (deed_fields name deed)
 deed_plain name (deeds.Apply (applied.Add a)) h small = record { head = _; tail = _; is = refl; some = omega arith; first = refl; rest = with_amount name a h small }
 deed_plain name (deeds.Apply (applied.Top a)) h small = record { head = _; tail = _; is = refl; some = omega arith; first = refl; rest = with_amount name a h small }
@@ -114,23 +128,28 @@ deed_plain name (deeds.Set a) h small = record { head = _; tail = _; is = refl; 
 deed_plain name (deeds.Draw a) h small = record { head = _; tail = _; is = refl; some = omega arith; first = refl; rest = with_amount name a h small }
 deed_plain name deeds.Get h small = record { head = _; tail = _; is = refl; some = omega arith; first = refl; rest = (name_plain name h, tt) }
 
+-- all these rows are plain
 abbrev ArePlain : List (List (List ℕ)) → Type 0
 ArePlain rs = AllByRecursion IsPlainRow rs
 
+-- rows behind rows
 plain-append : (xs ys : List (List (List ℕ))) → ArePlain xs → ArePlain ys → ArePlain (xs ++ ys)
 plain-append [] ys h k = k
 plain-append (x ∷ xs) ys h k = (h.0, plain-append xs ys h.1 k)
 
+-- all items
 items_plain : (n : ℕ) (items : List ItemRow) → n ≤ 16 → AllByRecursion (IsItem n) items → ArePlain (map item_fields items)
 items_plain n [] few h = tt
 items_plain n (r ∷ rs) few h = (item_plain n r few h.0, items_plain n rs few h.1)
 
+-- all operations of a subtransaction
 ops_plain : (n : ℕ) (items : List ItemRow) (kind : TreeKind) (node : ℕ) (os : List SubOp) → AllByRecursion (IsItem n) items → AllByRecursion (IsOp items kind node) os → AllByRecursion (λ (o : SubOp). IsTrue (is_in_range o.deed)) os
     → ArePlain (ops_rows items os)
 ops_plain n items kind node [] all h small = tt
 ops_plain n items kind node (o ∷ os) all h small =
     (deed_plain (name_at o.item.0 items) o.deed (op_named n items o.item.0 kind node o all h.0) (small_deed o.deed small.0), ops_plain n items kind node os all h.1 small.1)
 
+-- all subtransactions behind the root
 subs_plain : (n : ℕ) (items : List ItemRow) (kind : TreeKind) (k : ℕ) (xs : List Sub) → n ≤ 16 → 0 < k → k + length xs ≤ 64 → AllByRecursion (IsItem n) items → AreSubs n items kind k xs → ArePlain (subs_rows items xs)
 subs_plain n items kind k [] few some room all h = tt
 subs_plain n items kind k (x ∷ xs) few some room all h = (
@@ -138,6 +157,7 @@ subs_plain n items kind k (x ∷ xs) few some room all h = (
   plain-append (ops_rows items x.ops) (subs_rows items xs) (ops_plain n items kind x.node.0 x.ops all h.0.ops h.0.amounts) (subs_plain n items kind (k + 1) xs few (omega arith) (omega (arith, room)) all h.1),
 )
 
+-- a tree
 rooted_plain : (n : ℕ) (items : List ItemRow) (kind : TreeKind) (name : List ℕ) (xs : List Sub) → n ≤ 16 → length xs ≤ 64 → IsTrue (is_name name) → AllByRecursion (IsItem n) items → AreSubs n items kind 0 xs → ArePlain (tree_rows items kind name xs)
 rooted_plain n items kind name [] few room named all h = tt
 rooted_plain n items kind name (x ∷ xs) few room named all h = (
@@ -145,11 +165,13 @@ rooted_plain n items kind name (x ∷ xs) few room named all h = (
   plain-append (ops_rows items x.ops) (subs_rows items xs) (ops_plain n items kind x.node.0 x.ops all h.0.ops h.0.amounts) (subs_plain n items kind 1 xs few (omega arith) (omega (arith, room)) all h.1),
 )
 
+-- a tree by its number
 tree_at_plain : (n : ℕ) (items : List ItemRow) (ts : List Tree) (i : ℕ) → n ≤ 16 → AllByRecursion (IsItem n) items → AllByRecursion (IsTree n items) ts → ArePlain (rows_of_tree items (slice_get ts i))
 tree_at_plain n items [] i few all h = tt
 tree_at_plain n items (t ∷ ts) zero few all h = rooted_plain n items t.kind t.name t.subs few h.0.few h.0.name all h.0.subs
 tree_at_plain n items (t ∷ ts) (suc i) few all h = tree_at_plain n items ts i few all h.1
 
+-- all rows with their trees
 rows_plain : (n : ℕ) (items : List ItemRow) (ts : List Tree) (rs : List ScriptRow) → n ≤ 16 → AllByRecursion (IsItem n) items → AllByRecursion (IsTree n items) ts → ArePlain (rows_of_rows items ts rs)
 rows_plain n items ts [] few all h = tt
 rows_plain n items ts (rows.Tree t ∷ rs) few all h = plain-append (rows_of_tree items (slice_get ts t.0)) (rows_of_rows items ts rs) (tree_at_plain n items ts t.0 few all h) (rows_plain n items ts rs few all h)

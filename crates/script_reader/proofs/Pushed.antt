@@ -16,6 +16,7 @@ use Rattle.tx_trees.specs.declared.parts.Tree.{Tree}
 use Rattle.tx_trees.specs.declared.parts.TreeKind.{TreeKind}
 use Rattle.script_reader.specs.Written.{AreAsciiItems, AreAsciiTrees, item_fields, line, lines, nodes_fields, ops_rows, pick_fields, rows_of_row, rows_of_rows, sub_fields, subs_rows, tree_fields, tree_rows, written}
 
+-- the lines of rows behind rows
 pub lines-append : (a b : List (List (List ℕ))) → lines (a ++ b) ≡ lines a ++ lines b
 lines-append [] b = refl
 lines-append (r ∷ rs) b = ap (λ (t : List ℕ). line r ++ t) (lines-append rs b) ∙ sym (append_assoc (line r) (lines rs) (lines b))
@@ -41,10 +42,12 @@ row_pushed items ts rs i d t a u lt ha so_far =
     ap (λ (ys : List ScriptRow). lines (rows_of_rows items ts ys)) (drop-cons rs i d lt) ∙ lines-append (rows_of_row items ts r) (rows_of_rows items ts (drop (suc i) rs)) in
     rw (add-one, ha) (append_assoc t (lines (rows_of_row items ts r)) rest ∙ ap (λ (y : List ℕ). t ++ y) (sym more) ∙ so_far)
 
+-- what holds where a call succeeds follows from what its clause says
 on_ok : {T E : Type 0} (r : Result T E) (P Q : Type 0) → (P → Q) → OnOk r P → OnOk r Q
 on_ok (Ok t) P Q f h = f h
 on_ok (Err e) P Q f h = tt
 
+-- all but the first
 behind_first : (y : Sub) (ys : List Sub) → take (length (y ∷ ys) - 1) (drop 1 (y ∷ ys)) ≡ ys
 behind_first y ys = grind (arith, common_steps)
 
@@ -64,22 +67,27 @@ tree_pushed items kind name (y ∷ ys) ss x ops t a b u r some same here sops ha
 byte_ascii : (b : ℕ) (rest : Bool) → (is_name_byte b && rest) ≡ true → b < 128
 byte_ascii b rest h = grind (arith, nat_tests)
 
+-- the second of two conditions
 pub rest_holds : (b rest : Bool) → (b && rest) ≡ true → rest ≡ true
 rest_holds true rest h = h
 rest_holds false rest h = absurd (cc h)
 
+-- bytes of a name are ASCII
 bytes_ascii : (bs : List ℕ) → list_all is_name_byte bs ≡ true → (i : ℕ) → get_or bs i 0 < 128
 bytes_ascii [] h i = omega arith
 bytes_ascii (b ∷ bs) h zero = byte_ascii b (list_all is_name_byte bs) h
 bytes_ascii (b ∷ bs) h (suc i) = bytes_ascii bs (rest_holds (is_name_byte b) (list_all is_name_byte bs) h) i
 
+-- a name is ASCII
 pub name_ascii : (bs : List ℕ) → IsTrue (is_name bs) → IsAscii bs
 name_ascii bs h = bytes_ascii bs (rest_holds (has_name_len bs) (list_all is_name_byte bs) h)
 
+-- names of valid items are ASCII
 pub items_ascii : (n : ℕ) (items : List ItemRow) → AllByRecursion (IsItem n) items → AreAsciiItems items
 items_ascii n [] h = tt
 items_ascii n (r ∷ rs) h = (name_ascii r.name h.0.name, items_ascii n rs h.1)
 
+-- names of valid trees are ASCII
 pub trees_ascii : (n : ℕ) (items : List ItemRow) (ts : List Tree) → AllByRecursion (IsTree n items) ts → AreAsciiTrees ts
 trees_ascii n items [] h = tt
 trees_ascii n items (t ∷ ts) h = (name_ascii t.name h.0.name, trees_ascii n items ts h.1)
@@ -93,5 +101,6 @@ all_pushed s t a b c d ht ha hb hc hd =
     let start : a ≡ line (nodes_fields s.nodes) = ha ∙ rw ht refl in
     hd ∙ rw (hc, hb, start) (simp append_assoc) ∙ ap (λ (y : List ℕ). line (nodes_fields s.nodes) ++ y) (sym rest)
 
+-- a script's parts, by what its readers gave
 pub rows_are : (t : List ℕ) (items : List ItemRow) (ts : List Tree) (rs : List ScriptRow) (s : ScriptData) → items ≡ s.items → ts ≡ s.trees → rs ≡ s.rows → t ++ lines (rows_of_rows items ts rs) ≡ t ++ lines (rows_of_rows s.items s.trees s.rows)
 rows_are t items ts rs s hi ht hr = rw (hi, ht, hr) refl

@@ -36,12 +36,15 @@ use Rattle.tx_trees.specs.Built.{is_built, IsBuiltRow}
 abbrev Reads : ScriptData → List (List (List ℕ)) → ScriptData → Type 0
 Reads u rs v = (at : ℕ) (more : List (List (List ℕ))) → (k : ℕ) × (rows_from u at (rs ++ more) ≡ rows_from v k more)
 
+-- no rows
 reads_none : (u v : ScriptData) → u ≡ v → Reads u [] v
 reads_none u v h at more = (at, ap (λ (w : ScriptData). rows_from w at more) h)
 
+-- one row before others
 reads_one : (u v w : ScriptData) (r : List (List ℕ)) (rs : List (List (List ℕ))) → later_row u r ≡ Ok v → Reads v rs w → Reads u (r ∷ rs) w
 reads_one u v w r rs one rest at more = let next = rest (at + 1) more in (next.0, goes_on u v at (r ∷ (rs ++ more)) r (rs ++ more) refl one ∙ next.1)
 
+-- rows before others
 reads_both : (u v w : ScriptData) (xs ys : List (List (List ℕ))) → Reads u xs v → Reads v ys w → Reads u (xs ++ ys) w
 reads_both u v w xs ys first second at more =
     let a = first at (ys ++ more) in
@@ -54,6 +57,7 @@ record Goes (x : Result ScriptData Why) (more : ScriptData → Result ScriptData
   is : x ≡ Ok first
   rest : more first ≡ Ok v
 
+-- what was taken was taken step by step
 goes : (x : Result ScriptData Why) (more : ScriptData → Result ScriptData Why) (v : ScriptData) → then_more x more ≡ Ok v → Goes x more v
 goes (Ok s) more v h = record { first = s; is = refl; rest = h }
 goes (Err w) more v h = absurd (cc h)
@@ -63,6 +67,7 @@ record Gives (items : List ItemRow) (u : ScriptData) (rs : List (List (List ℕ)
   reads : Reads u rs v
   items_stay : v.items ≡ items
 
+-- all items
 items_back : (n : ℕ) (items : List ItemRow) (u v : ScriptData) → n ≤ 16 → AllByRecursion (IsItem n) items → items_added u items ≡ Ok v → Reads u (map item_fields items) v
 items_back n [] u v few all h = reads_none u v (cc h)
 items_back n (r ∷ rs) u v few all h =
@@ -75,9 +80,11 @@ record AreOps (n : ℕ) (items : List ItemRow) (kind : TreeKind) (node : ℕ) (o
   ops : AllByRecursion (IsOp items kind node) os
   amounts : AllByRecursion (λ (o : SubOp). IsTrue (is_in_range o.deed)) os
 
+-- an operation leaves the items
 op_items : (u v : ScriptData) (name : List ℕ) (o : SubOp) → adds_op u name o.deed ≡ Ok v → v.items ≡ u.items
 op_items u v name o h = let t = op_taken u v name o.deed h in sym (ap (λ (w : ScriptData). w.items) t.is)
 
+-- all operations of a subtransaction
 ops_back : (n : ℕ) (items : List ItemRow) (kind : TreeKind) (node : ℕ) (os : List SubOp) (u v : ScriptData) → AreOps n items kind node os → u.items ≡ items → ops_added u os ≡ Ok v → Gives items u (ops_rows items os) v
 ops_back n items kind node [] u v all same h = let e : u ≡ v = cc h in record { reads = reads_none u v e; items_stay = sym (ap (λ (w : ScriptData). w.items) e) ∙ same }
 ops_back n items kind node (o ∷ os) u v a same h =
@@ -120,12 +127,14 @@ rooted_back n items t (x ∷ xs) u v few room all subs built same h =
       items_stay = rest.items_stay;
     }
 
+-- a tree by its number
 tree_at_back : (n : ℕ) (items : List ItemRow) (ts : List Tree) (i : ℕ) (u v : ScriptData) → n ≤ 16 → AllByRecursion (IsItem n) items → AllByRecursion (IsTree n items) ts → AllByRecursion (λ (t : Tree). IsTrue (is_built t.kind)) ts → u.items ≡ items
     → tree_added u (slice_get ts i) ≡ Ok v → Gives items u (rows_of_tree items (slice_get ts i)) v
 tree_at_back n items [] i u v few all trees built same h = absurd (cc h)
 tree_at_back n items (t ∷ ts) zero u v few all trees built same h = rooted_back n items t t.subs u v few trees.0.few all trees.0.subs built.0 same h
 tree_at_back n items (t ∷ ts) (suc i) u v few all trees built same h = tree_at_back n items ts i u v few all trees.1 built.1 same h
 
+-- all rows with their trees
 rows_back : (n : ℕ) (items : List ItemRow) (ts : List Tree) (rs : List ScriptRow) (u v : ScriptData) → n ≤ 16 → AllByRecursion (IsItem n) items → AllByRecursion (IsTree n items) ts → AllByRecursion (λ (t : Tree). IsTrue (is_built t.kind)) ts
     → AllByRecursion IsBuiltRow rs → u.items ≡ items → rows_added ts u rs ≡ Ok v → Reads u (rows_of_rows items ts rs) v
 rows_back n items ts [] u v few all trees built rows same h = reads_none u v (cc h)
@@ -152,6 +161,7 @@ items_stand (r ∷ rs) u v h =
     let one : u.items ++ r ∷ [] ≡ g.first.items = ap (λ (w : ScriptData). w.items) (item_is u g.first r g.is) in
     items_stand rs g.first v g.rest ∙ ap (λ (xs : List ItemRow). xs ++ rs) (sym one) ∙ append_assoc u.items (r ∷ []) rs
 
+-- no pick is read
 no_picks : (ks : List ℕ) (u v : ScriptData) → ks ≡ [] → picks_added u ks ≡ Ok v → Reads u (map pick_fields ks) v
 no_picks [] u v none h = reads_none u v (cc h)
 no_picks (k ∷ ks) u v none h = absurd (cc none)
@@ -184,5 +194,6 @@ read_back s h few b =
     let read : read_of (written s) ≡ read_rows (records_in (written s)) = rw short refl in
     (again.0, read ∙ ap read_rows (written_rows s h b.picks) ∙ rows_read s again.0 h b again.1, again.2)
 
+-- the same of a text that is equal to what is written
 pub text_read : (s : ScriptData) (text : List ℕ) → IsValid s → text ≡ written s → length text ≤ 8388608 → Builds s → IsReadAs text s
 text_read s text h is few b = subst (λ (x : List ℕ). IsReadAs x s) (sym is) (read_back s h (subst (λ (x : List ℕ). length x ≤ 8388608) is few) b)

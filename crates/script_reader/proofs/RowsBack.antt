@@ -32,12 +32,15 @@ use Rattle.script_reader.proofs.Decimals.{amount_read, number_read, value_read}
 use Rattle.script_reader.proofs.Passing.{amount_row_is, item_row_is}
 use Rattle.tx_trees.specs.Built.{is_built}
 
+-- a number that is written is read as itself
 number_back : (n : ℕ) → n < 10 ^ 32 → Some n ≡ number_of (decimal n)
 number_back n h = rw (number_read n h, value_read n (omega arith)) refl
 
+-- and an amount
 amount_back : (a : ℤ) → unsigned_abs a < 10 ^ 32 → Some a ≡ amount_of (signed_decimal a)
 amount_back a h = let r = amount_read a h in rw (r.0, r.1) refl
 
+-- and a kind's word
 kind_back : (k : Kind) → Some k ≡ kind_of (kind_word k)
 kind_back kinds.Sum = refl
 kind_back kinds.Top = refl
@@ -51,6 +54,7 @@ tried_item false true c d w x y z new = refl
 tried_item false false true d w x y z new = refl
 tried_item false false false d w x y z new = refl
 
+-- the same of a tree, whose form is built
 tried_tree : (a b c d : Bool) (w x y z : Why) (new : ScriptData)
     → unless ((a, w) ∷ (b, x) ∷ []) (if_built true (judged ((a, w) ∷ (b, x) ∷ (c, y) ∷ (d, z) ∷ []) new)) ≡ judged ((a, w) ∷ (b, x) ∷ (c, y) ∷ (d, z) ∷ []) new
 tried_tree true b c d w x y z new = refl
@@ -59,11 +63,13 @@ tried_tree false false true d w x y z new = refl
 tried_tree false false false true w x y z new = refl
 tried_tree false false false false w x y z new = refl
 
+-- the same of a subtransaction
 tried_sub : {A : Type 0} (a b c d : Bool) (w x y z : Why) (new : A)
     → unless ((a, w) ∷ []) (judged ((a, w) ∷ (b, x) ∷ (c, y) ∷ (d, z) ∷ []) new) ≡ judged ((a, w) ∷ (b, x) ∷ (c, y) ∷ (d, z) ∷ []) new
 tried_sub true b c d w x y z new = refl
 tried_sub false b c d w x y z new = refl
 
+-- the `nodes` row
 pub nodes_back : (n : ℕ) → 1 ≤ n → n ≤ 16 → first_row (nodes_fields n) ≡ Ok (fresh n)
 nodes_back n some few =
     let low : nat_le 1 n ≡ true = le-leb 1 n some in
@@ -71,6 +77,7 @@ nodes_back n some few =
     let form : first_row (nodes_fields n) ≡ nodes_row (decimal n) = refl in
     form ∙ rw (number_read n (omega arith), value_read n (omega arith), low, high) refl
 
+-- an item row
 pub item_back : (s : ScriptData) (n : ℕ) (r : ItemRow) → n ≤ 16 → IsItem n r → later_row s (item_fields r) ≡ adds_item s r
 item_back s n r few h =
     let form : later_row s (item_fields r) ≡ item_row s r.name (decimal r.node.0) (kind_word r.kind) (signed_decimal r.initial) = refl in
@@ -78,6 +85,7 @@ item_back s n r few h =
     form ∙ typed
     ∙ tried_item (nat_le s.nodes r.node.0 || not (may_start r.kind r.initial)) (not (is_name r.name)) (is_some (place_of r.name s.items)) (nat_le 10000 (length s.items)) why.OutOfRange why.BadName why.NameTaken why.TooMany (with_item s r)
 
+-- a tree row of a built kind, by its fields
 built_tree_back : (s : ScriptData) (kind : TreeKind) (name : List ℕ) (node : NodeNo) → node.0 < 16 → is_built kind ≡ true → tree_row s kind name (decimal node.0) ≡ adds_tree s name kind node
 built_tree_back s kind name node low built =
     let number = number_read node.0 (omega (arith, low)) in
@@ -85,30 +93,36 @@ built_tree_back s kind name node low built =
     rw (number, value, built)
     (tried_tree (nat_le s.nodes node.0) (not (is_name name)) (names_tree name s.trees) (has_no_tree_left kind s.trees) why.OutOfRange why.BadName why.NameTaken why.TooMany (with_tree s name kind node))
 
+-- a tree row of a built kind
 pub tree_back : (s : ScriptData) (kind : TreeKind) (name : List ℕ) (node : NodeNo) → node.0 < 16 → IsTrue (is_built kind) → later_row s (tree_fields kind name node.0) ≡ adds_tree s name kind node
 tree_back s trees.Update name node low built = built_tree_back s trees.Update name node low refl
 tree_back s trees.Read name node low built = built_tree_back s trees.Read name node low refl
 tree_back s trees.Strict name node low built = absurd (cc built)
 
+-- a `sub` row
 pub sub_back : (s : ScriptData) (x : Sub) → x.parent.0 < 64 → x.node.0 < 16 → later_row s (sub_fields x) ≡ adds_sub s x.parent.0 x.node
 sub_back s x early low =
     let form : later_row s (sub_fields x) ≡ sub_row s (decimal x.parent.0) (decimal x.node.0) = refl in
     form ∙ rw (number_read x.parent.0 (omega (arith, early)), number_read x.node.0 (omega (arith, low)), value_read x.parent.0 (omega (arith, early)), value_read x.node.0 (omega (arith, low)))
     (tried_sub (nat_le s.nodes x.node.0) (not s.begun) (nat_le (last_subs s.trees) x.parent.0) (has_no_sub_left s.trees) why.OutOfRange why.NoTree why.BadParent why.TooMany (with_sub s x.parent.0 x.node))
 
+-- the first of two conditions
 first_holds : (b rest : Bool) → (b && rest) ≡ true → b ≡ true
 first_holds true rest h = refl
 first_holds false rest h = absurd (cc h)
 
+-- an operation on an item with a name
 op_back : (s : ScriptData) (name : List ℕ) (deed : Deed) → IsTrue (is_name name) → IsTrue (is_in_range deed) → op_row s name deed ≡ adds_op s name deed
 op_back s name deed named range =
     let len : has_name_len name ≡ true = first_holds (has_name_len name) (list_all is_name_byte name) named in
     rw (len, range) refl
 
+-- an operation with an amount
 amount_op_back : (s : ScriptData) (word : OpWord) (name : List ℕ) (a : ℤ) → IsTrue (is_name name) → IsTrue (is_in_range (deed_of word a)) → unsigned_abs a < 10 ^ 32 → amount_row s word name (signed_decimal a) ≡ adds_op s name (deed_of word a)
 amount_op_back s word name a named range small =
     amount_row_is s word name (signed_decimal a) a (deed_of word a) (amount_back a small) refl ∙ op_back s name (deed_of word a) named range
 
+-- an operation row
 pub deed_back : (s : ScriptData) (name : List ℕ) (deed : Deed) → IsTrue (is_name name) → IsTrue (is_in_range deed) → magnitude deed < 10 ^ 32 → later_row s (deed_fields name deed) ≡ adds_op s name deed
 deed_back s name (deeds.Apply (applied.Add a)) named range small = amount_op_back s ops.Add name a named range small
 deed_back s name (deeds.Apply (applied.Top a)) named range small = amount_op_back s ops.Top name a named range small

@@ -10,22 +10,27 @@ use Rattle.script_reader.specs.declared.reading.ScriptRefusal.{ScriptRefusal}
 use Rattle.script_reader.specs.Records.{Takes}
 use Rattle.script_reader.specs.Reading.{Gives, fault, refused_at, rows_from, then_rows}
 
+-- a row that is taken
 pub goes_on : (s t : ScriptData) (at : ℕ) (rows : List (List (List ℕ))) (r : List (List ℕ)) (rs : List (List (List ℕ))) → rows ≡ r ∷ rs → later_row s r ≡ Ok t → rows_from s at rows ≡ rows_from t (at + 1) rs
 unfolding rows_from
 goes_on s t at rows r rs e h = ap (rows_from s at) e ∙ ap (λ (x : Result ScriptData Why). then_rows at x (λ u. rows_from u (at + 1) rs)) h
 
+-- a row that is refused
 pub stops : (s : ScriptData) (w : Why) (at : ℕ) (rows : List (List (List ℕ))) (r : List (List ℕ)) (rs : List (List (List ℕ))) → rows ≡ r ∷ rs → later_row s r ≡ Err w → rows_from s at rows ≡ Err (fault at w)
 unfolding rows_from
 stops s w at rows r rs e h = ap (rows_from s at) e ∙ ap (λ (x : Result ScriptData Why). then_rows at x (λ u. rows_from u (at + 1) rs)) h
 
+-- no row is left
 pub ends : (s : ScriptData) (at : ℕ) (rows : List (List (List ℕ))) → rows ≡ [] → rows_from s at rows ≡ Ok s
 unfolding rows_from
 ends s at rows e = ap (rows_from s at) e
 
+-- what was read if there was a record
 pub takes_true : (old : List (List (List ℕ))) (found : Bool) (r : List (List ℕ)) (new : List (List (List ℕ))) → found ≡ true → Takes old found r new → old ≡ r ∷ new
 takes_true old true r new e h = h
 takes_true old false r new e h = absurd cc
 
+-- and if there was none
 pub takes_false : (old : List (List (List ℕ))) (found : Bool) (r : List (List ℕ)) (new : List (List (List ℕ))) → found ≡ false → Takes old found r new → old ≡ []
 takes_false old true r new e h = absurd cc
 takes_false old false r new e h = h

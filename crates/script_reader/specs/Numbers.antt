@@ -2,6 +2,7 @@
 use Rattle.std.specs.Prelude.{ℕ, Bool, false, ◌+◌, ◌*◌, ◌-◌, ◌&&◌, ◌==◌, nat_le, ℤ, pos, ◌-ℤ◌, List, [], ◌∷◌, length, fold, Option, Some, None, if◌then◌else◌}
 use Rattle.std.specs.List.{list_all}
 
+-- a decimal digit
 abbrev pub is_digit : ℕ → Bool
 is_digit b = nat_le 48 b && nat_le b 57
 
@@ -13,6 +14,7 @@ decimal_value digits = fold (λ value b. value * 10 + (b - 48)) 0 digits
 abbrev pub is_number : List ℕ → Bool
 is_number bytes = nat_le 1 (length bytes) && nat_le (length bytes) 32 && list_all is_digit bytes
 
+-- the number that bytes spell, if they do
 abbrev pub number_of : List ℕ → Option ℕ
 number_of bytes = if is_number bytes then Some (decimal_value bytes) else None
 
@@ -21,10 +23,12 @@ abbrev pub is_negative : List ℕ → Bool
 is_negative [] = false
 is_negative (b ∷ bs) = b == 45
 
+-- what stands behind the minus sign, if there is one
 abbrev pub digits_of : List ℕ → List ℕ
 digits_of [] = []
 digits_of (b ∷ bs) = if b == 45 then bs else b ∷ bs
 
+-- 1 to 32 decimal digits, with or without a minus sign
 abbrev pub is_amount : List ℕ → Bool
 is_amount bytes = is_number (digits_of bytes)
 
@@ -32,11 +36,14 @@ is_amount bytes = is_number (digits_of bytes)
 abbrev pub size_of : List ℕ → ℕ
 size_of bytes = decimal_value (digits_of bytes)
 
+-- a magnitude with its sign
 abbrev pub signed : Bool → ℕ → ℤ
 signed negative size = if negative then pos 0 -ℤ pos size else pos size
 
+-- the value of an amount
 abbrev pub amount_value : List ℕ → ℤ
 amount_value bytes = signed (is_negative bytes) (size_of bytes)
 
+-- the amount that bytes spell, if they do
 abbrev pub amount_of : List ℕ → Option ℤ
 amount_of bytes = if is_amount bytes then Some (amount_value bytes) else None

@@ -11,9 +11,11 @@ use Rattle.script_reader.specs.declared.reading.ScriptFault.{ScriptFault}
 use Rattle.script_reader.specs.declared.reading.ScriptRefusal.{ScriptRefusal}
 use Rattle.script_reader.specs.declared.reading.ScriptRefusal.TheVariants as ends
 
+-- the reason of a row
 abbrev pub fault : ℕ → Why → ScriptFault
 fault row why = record { row = row; why = why }
 
+-- a refusal, with its row
 abbrev pub refused_at : ℕ → Refusal → ScriptRefusal
 refused_at row (refusals.Why w) = ends.Fault (fault row w)
 refused_at row refusals.NoMemory = ends.NoMemory
@@ -28,10 +30,12 @@ unfoldable pub rows_from : ScriptData → ℕ → List (List (List ℕ)) → Res
 rows_from s row [] = Ok s
 rows_from s row (r ∷ rs) = then_rows row (later_row s r) (λ t. rows_from t (row + 1) rs)
 
+-- all records: the first makes a script, and each later one adds to it
 abbrev pub read_rows : List (List (List ℕ)) → Result ScriptData ScriptFault
 read_rows [] = Err (fault 1 why.NodesFirst)
 read_rows (r ∷ rs) = then_rows 1 (first_row r) (λ s. rows_from s 2 rs)
 
+-- the script that bytes are, or the first faulty record and the lowest of its reasons
 abbrev pub read_of : List ℕ → Result ScriptData ScriptFault
 read_of bytes = if nat_lt 8388608 (length bytes) then Err (fault 0 why.TooLong) else read_rows (records_in bytes)
 

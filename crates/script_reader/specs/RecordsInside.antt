@@ -3,6 +3,7 @@ use Rattle.std.specs.Prelude.{◌≡◌, ℕ, List, ◌⊎◌}
 use Rattle.script_reader.specs.Readers.{IsReading, rows_left}
 use Rattle.script_reader.specs.declared.records.Records.TheInside.{Inside}
 
+-- the records that are left
 abbrev pub left_of : Inside → List (List (List ℕ))
 left_of r = rows_left r.left r.reader
 

@@ -45,9 +45,11 @@ Leaves made (Ok done) new = made ≡ Ok new
 Leaves made (Err (refusals.Why w)) new = made ≡ Err w
 Leaves made (Err refusals.NoMemory) new = ⊤
 
+-- a node by its number
 abbrev pub node_no : ℕ → NodeNo
 node_no n = record { 0 = n }
 
+-- `nodes,N`
 abbrev pub nodes_row : List ℕ → Result ScriptData Why
 nodes_row nodes =
     unless ((not (is_number nodes), why.BadNumber)
@@ -59,6 +61,7 @@ abbrev pub starts : Option Kind → ℤ → Bool
 starts None initial = nat_le (unsigned_abs initial) MOST_AMOUNT
 starts (Some kind) initial = may_start kind initial
 
+-- adds an item of a known kind
 abbrev pub adds_item_of : ScriptData → List ℕ → ℕ → Option Kind → ℤ → Result ScriptData Why
 adds_item_of s name node None initial = Err why.WrongKind
 adds_item_of s name node (Some kind) initial =
@@ -72,11 +75,13 @@ item_of s name node kind initial =
     ∷ (is_some (place_of name s.items), why.NameTaken) ∷ [])
     (adds_item_of s name node kind initial)
 
+-- `item,NAME,NODE,KIND,INITIAL`
 abbrev pub item_row : ScriptData → List ℕ → List ℕ → List ℕ → List ℕ → Result ScriptData Why
 item_row s name node kind initial =
     unless ((not (is_number node && is_amount initial), why.BadNumber) ∷ [])
     (item_of s name (decimal_value node) (kind_of kind) (amount_value initial))
 
+-- `update,NAME,NODE`, and the same of `read` and `strict`
 abbrev pub tree_row : ScriptData → TreeKind → List ℕ → List ℕ → Result ScriptData Why
 tree_row s kind name node =
     unless ((not (is_number node), why.BadNumber)
@@ -84,6 +89,7 @@ tree_row s kind name node =
     ∷ (not (is_name name), why.BadName) ∷ [])
     (if_built (is_built kind) (adds_tree s name kind (node_no (decimal_value node))))
 
+-- `sub,PARENT,NODE`
 abbrev pub sub_row : ScriptData → List ℕ → List ℕ → Result ScriptData Why
 sub_row s parent node =
     unless ((not (is_number parent && is_number node), why.BadNumber)
@@ -98,19 +104,23 @@ deed_of ops.Put a = deeds.Apply (applied.Put a)
 deed_of ops.Set a = deeds.Set a
 deed_of ops.Draw a = deeds.Draw a
 
+-- an operation on the item of this name; `get,ITEM` is one
 abbrev pub op_row : ScriptData → List ℕ → Deed → Result ScriptData Why
 op_row s item deed =
     unless ((not (is_in_range deed), why.OutOfRange)
     ∷ (not (has_name_len item), why.UnknownItem) ∷ [])
     (adds_op s item deed)
 
+-- `add,ITEM,AMOUNT`, and the same of the other words with an amount
 abbrev pub amount_row : ScriptData → OpWord → List ℕ → List ℕ → Result ScriptData Why
 amount_row s word item amount =
     unless ((not (is_amount amount), why.BadNumber) ∷ []) (op_row s item (deed_of word (amount_value amount)))
 
+-- `advance`
 abbrev pub advance_row : ScriptData → Result ScriptData Why
 advance_row s = if_built false (adds_advance s)
 
+-- `pick,K`
 abbrev pub pick_row : ScriptData → List ℕ → Result ScriptData Why
 pick_row s place =
     unless ((not (is_number place), why.BadNumber)
@@ -122,13 +132,16 @@ abbrev pub by_word : {A : Type 0} → List (List ℕ) → Option RowWord → (Ro
 by_word fields None form = Err why.UnknownRow
 by_word fields (Some w) form = unless ((not (len_fits w (length fields)), why.WrongFields) ∷ []) (form w)
 
+-- a field by its place
 abbrev pub field : List (List ℕ) → ℕ → List ℕ
 field fields i = get_or fields i []
 
+-- the first record, by its word
 abbrev pub first_form : List (List ℕ) → RowWord → Result ScriptData Why
 first_form fields words.Nodes = nodes_row (field fields 1)
 first_form fields _ = Err why.NodesFirst
 
+-- a later record, by its word
 abbrev pub later_form : ScriptData → List (List ℕ) → RowWord → Result ScriptData Why
 later_form s fields words.Nodes = Err why.NodesTwice
 later_form s fields words.Item = item_row s (field fields 1) (field fields 2) (field fields 3) (field fields 4)
@@ -140,8 +153,10 @@ later_form s fields words.Advance = advance_row s
 later_form s fields words.Settle = adds_settle s
 later_form s fields words.Pick = pick_row s (field fields 1)
 
+-- the first record
 abbrev pub first_row : List (List ℕ) → Result ScriptData Why
 first_row fields = by_word fields (word_of (field fields 0)) (first_form fields)
 
+-- a later record
 abbrev pub later_row : ScriptData → List (List ℕ) → Result ScriptData Why
 later_row s fields = by_word fields (word_of (field fields 0)) (later_form s fields)

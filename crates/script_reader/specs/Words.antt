@@ -10,11 +10,13 @@ use Rattle.script_reader.specs.declared.words.OpWord.TheVariants as ops
 use Rattle.script_reader.specs.declared.words.RowWord.{RowWord}
 use Rattle.script_reader.specs.declared.words.RowWord.TheVariants as words
 
+-- the word of a tree row
 abbrev pub tree_word : TreeKind → List ℕ
 tree_word trees.Update = codes "update"
 tree_word trees.Read = codes "read"
 tree_word trees.Strict = codes "strict"
 
+-- the word of a kind
 abbrev pub kind_word : Kind → List ℕ
 kind_word kinds.Sum = codes "sum"
 kind_word kinds.Top = codes "top"
@@ -44,6 +46,7 @@ tree_or_op (Some kind) op = Some (words.Tree kind)
 tree_or_op None (Some op) = Some (words.Op op)
 tree_or_op None None = None
 
+-- the form of a row, by its first field
 abbrev pub word_of : List ℕ → Option RowWord
 word_of word =
     if bytes_eq word (codes "nodes") then Some words.Nodes
@@ -67,6 +70,7 @@ len_fits words.Advance n = n == 1
 len_fits words.Settle n = n == 1
 len_fits words.Pick n = n == 2
 
+-- the kind of this word
 abbrev pub kind_of : List ℕ → Option Kind
 kind_of word =
     if bytes_eq word (codes "sum") then Some kinds.Sum

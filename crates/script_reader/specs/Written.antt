@@ -27,19 +27,24 @@ abbrev pub line : List (List ℕ) → List ℕ
 line [] = 10 ∷ []
 line (f ∷ fs) = f ++ more_fields fs
 
+-- records as lines
 abbrev pub lines : List (List (List ℕ)) → List ℕ
 lines [] = []
 lines (r ∷ rs) = line r ++ lines rs
 
+-- the `nodes` row
 abbrev pub nodes_fields : ℕ → List (List ℕ)
 nodes_fields n = codes "nodes" ∷ decimal n ∷ []
 
+-- an item row
 abbrev pub item_fields : ItemRow → List (List ℕ)
 item_fields r = codes "item" ∷ r.name ∷ decimal r.node.0 ∷ kind_word r.kind ∷ signed_decimal r.initial ∷ []
 
+-- a tree row
 abbrev pub tree_fields : TreeKind → List ℕ → ℕ → List (List ℕ)
 tree_fields kind name node = tree_word kind ∷ name ∷ decimal node ∷ []
 
+-- a `sub` row
 abbrev pub sub_fields : Sub → List (List ℕ)
 sub_fields x = codes "sub" ∷ decimal x.parent.0 ∷ decimal x.node.0 ∷ []
 
@@ -52,12 +57,15 @@ deed_fields item (deeds.Set a) = codes "set" ∷ item ∷ signed_decimal a ∷ [
 deed_fields item (deeds.Draw a) = codes "draw" ∷ item ∷ signed_decimal a ∷ []
 deed_fields item deeds.Get = codes "get" ∷ item ∷ []
 
+-- an operation row
 abbrev pub op_fields : List ItemRow → SubOp → List (List ℕ)
 op_fields items o = deed_fields (name_at o.item.0 items) o.deed
 
+-- a `pick` row
 abbrev pub pick_fields : ℕ → List (List ℕ)
 pick_fields k = codes "pick" ∷ decimal k ∷ []
 
+-- the operations of a subtransaction
 abbrev pub ops_rows : List ItemRow → List SubOp → List (List (List ℕ))
 ops_rows items ops = map (op_fields items) ops
 
@@ -71,15 +79,18 @@ abbrev pub tree_rows : List ItemRow → TreeKind → List ℕ → List Sub → L
 tree_rows items kind name [] = []
 tree_rows items kind name (x ∷ xs) = tree_fields kind name x.node.0 ∷ (ops_rows items x.ops ++ subs_rows items xs)
 
+-- the rows of a tree, if it is there
 abbrev pub rows_of_tree : List ItemRow → Option Tree → List (List (List ℕ))
 rows_of_tree items None = []
 rows_of_tree items (Some t) = tree_rows items t.kind t.name t.subs
 
+-- a row, a tree row with its whole tree
 abbrev pub rows_of_row : List ItemRow → List Tree → ScriptRow → List (List (List ℕ))
 rows_of_row items ts (rows.Tree n) = rows_of_tree items (slice_get ts n.0)
 rows_of_row items ts rows.Advance = (codes "advance" ∷ []) ∷ []
 rows_of_row items ts rows.Settle = (codes "settle" ∷ []) ∷ []
 
+-- all rows, in order
 abbrev pub rows_of_rows : List ItemRow → List Tree → List ScriptRow → List (List (List ℕ))
 rows_of_rows items ts [] = []
 rows_of_rows items ts (r ∷ rs) = rows_of_row items ts r ++ rows_of_rows items ts rs
@@ -88,12 +99,14 @@ rows_of_rows items ts (r ∷ rs) = rows_of_row items ts r ++ rows_of_rows items 
 abbrev pub rows_of : ScriptData → List (List (List ℕ))
 rows_of s = nodes_fields s.nodes ∷ (map item_fields s.items ++ (rows_of_rows s.items s.trees s.rows ++ map pick_fields s.picks))
 
+-- the text of a script
 abbrev pub written : ScriptData → List ℕ
 written s = lines (rows_of s)
 
--- all names of items, and of trees, are ASCII
+-- the names of items are ASCII
 abbrev pub AreAsciiItems : List ItemRow → Type 0
 AreAsciiItems items = AllByRecursion (λ (r : ItemRow). IsAscii r.name) items
 
+-- and those of trees
 abbrev pub AreAsciiTrees : List Tree → Type 0
 AreAsciiTrees ts = AllByRecursion (λ (t : Tree). IsAscii t.name) ts

@@ -1,7 +1,7 @@
 // What each row does to a script.
 ghost use Rattle.std.specs.Prelude.{◌≡◌, ◌<◌, ◌^◌, unsigned_abs};
 ghost use Rattle.csv.specs.Records.{fields_of};
-ghost use Rattle.script_reader.specs.Builds.{is_built};
+ghost use Rattle.tx_trees.specs.Built.{is_built};
 ghost use Rattle.script_reader.specs.Rows.{Leaves, Makes, advance_row, amount_row, deed_of, first_row, item_of, item_row, later_row, nodes_row, op_row, pick_row, starts, sub_row, tree_row};
 
 use crate::numbers::{amount, number};

@@ -12,9 +12,11 @@ const TWO_NODES: &[u8] =
 fn a_script_is_read_and_written(rt: HostRuntime) -> Result<(), Fail> {
     let texts: [&[u8]; 5] = [
         TWO_NODES,
-        b"\xEF\xBB\xBFnodes,2\r\n\r\nitem,a,0,sum,10\r\nitem,b,1,sum,0\r\n\r\nupdate,t,0\r\nadd,a,5\r\nsub,0,1\r\nadd,b,7\r\nsettle",
+        b"\xEF\xBB\xBFnodes,2\r\n\r\nitem,a,0,sum,10\r\nitem,b,1,sum,0\r\n\r\n\
+            update,t,0\r\nadd,a,5\r\nsub,0,1\r\nadd,b,7\r\nsettle",
         b"nodes,2\ritem,a,0,sum,10\ritem,b,1,sum,0\r\rupdate,t,0\radd,a,5\rsub,0,1\radd,b,7\rsettle\r",
-        b"\"nodes\",\"2\"\nitem,\"a\",0,\"sum\",10\nitem,b,1,sum,\"0\"\n\"update\",t,0\nadd,a,5\n\"sub\",0,1\nadd,\"b\",7\n\"settle\"\n",
+        b"\"nodes\",\"2\"\nitem,\"a\",0,\"sum\",10\nitem,b,1,sum,\"0\"\n\
+            \"update\",t,0\nadd,a,5\n\"sub\",0,1\nadd,\"b\",7\n\"settle\"\n",
         b"nodes,02\nitem,a,00,sum,0010\nitem,b,1,sum,-0\nupdate,t,0\nadd,a,05\nsub,00,1\nadd,b,7\nsettle\n",
     ];
     for text in texts {
@@ -73,8 +75,9 @@ fn every_form(alloc: Global) -> Result<Script, Refusal> {
 fn every_form_is_written(rt: HostRuntime) -> Result<(), Fail> {
     let script = every_form(rt.alloc())?;
     let text = write_script(rt.alloc(), &script).map_err(|_| "no memory")?;
-    let wanted: &[u8] =
-        b"nodes,2\nitem,a,0,sum,5\nitem,b,1,top,-3\nitem,c,0,bag,0\nupdate,t,0\nadd,a,-2\nput,c,9\nsub,0,1\ntop,b,7\nsettle\nread,r,0\nget,a\nstrict,k,0\ndraw,a,1\nsub,0,1\nset,b,8\nadvance\npick,4294967295\npick,0\n";
+    let wanted: &[u8] = b"nodes,2\nitem,a,0,sum,5\nitem,b,1,top,-3\nitem,c,0,bag,0\n\
+        update,t,0\nadd,a,-2\nput,c,9\nsub,0,1\ntop,b,7\nsettle\nread,r,0\nget,a\n\
+        strict,k,0\ndraw,a,1\nsub,0,1\nset,b,8\nadvance\npick,4294967295\npick,0\n";
     assert_eq!(rt; text.bytes(), wanted);
     Ok(())
 }
