@@ -153,3 +153,21 @@ fn a_settle_row_waits_for_answers_and_ends(rt: HostRuntime) {
     let all = furthest(&ROWS, &[true, true], News::Begun, 1, START);
     assert_eq!(rt; (all.next, all.unanswered), (5, 0));
 }
+
+#[test]
+fn a_settle_row_holds_back_the_rows_behind_it(rt: HostRuntime) -> Result<(), Fail> {
+    let alloc = rt.alloc();
+    let mut script = Script::new(alloc, 2);
+    add_tree(&mut script, b"s", 1)?;
+    script.add_settle()?;
+    add_tree(&mut script, b"t", 0)?;
+    let mut client = Client::new(alloc, &script)?;
+    client.on(alloc, &script, &Body::Go)?;
+    assert_eq!(rt; client.next(), 1);
+    assert_eq!(rt; at_reply(alloc, &script, &mut client, 1)?, Seen::Nudge);
+    assert_eq!(rt; client.next(), 1);
+    client.on(alloc, &script, &reply(alloc, 0))?;
+    assert_eq!(rt; client.next(), 3);
+    assert!(rt; client.finished());
+    Ok(())
+}

@@ -1,6 +1,6 @@
 -- What a script keeps beside what it holds: it stays right when something is added.
 use Rattle.std.proofs.Common.{◌≡◌, ◌<◌, ◌≤◌, ◌+◌, ℕ, true, false, List, [], ◌∷◌, ◌++◌, length, get_or, refl, sym, ap, ◌∙◌, subst, arith, length-append, inl, inr}
-use Rattle.std.specs.Prelude.{if◌then◌else◌, Result, Ok, Err, IsOk, is_ok, slice_get, unsigned_abs}
+use Rattle.std.specs.Prelude.{if◌then◌else◌, Result, Ok, Err, IsOk, is_ok, unsigned_abs}
 use Rattle.std.specs.Global.{Vec}
 use Rattle.std.specs.Vec.{with_item as with_cell}
 use Rattle.std.proofs.Math.ListN.{set, get_or-append}

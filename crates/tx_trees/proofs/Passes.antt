@@ -1,16 +1,13 @@
 -- A record that meets no condition of refusal is taken.
-use Rattle.std.proofs.Common.{◌≡◌, ℕ, Bool, true, false, List, [], ◌∷◌, refl, ap, ◌∙◌}
-use Rattle.std.specs.Prelude.{if◌then◌else◌, not, ◌||◌, Option, Some, Result, Ok, Err}
+use Rattle.std.proofs.Common.{◌≡◌, ℕ, List, refl}
+use Rattle.std.specs.Prelude.{Some, Ok}
 use Rattle.tv_base.specs.declared.numbers.NodeNo.{NodeNo}
-use Rattle.tx_trees.specs.Adding.{adds_item, adds_op, adds_op_at, adds_sub, adds_tree, judged, place_of, with_item, with_op, with_sub, with_tree}
+use Rattle.tx_trees.specs.Adding.{adds_item, adds_op, adds_sub, adds_tree, place_of, with_item, with_op, with_sub, with_tree}
 use Rattle.tx_trees.specs.Passing.{MayAddItem, MayAddOp, MayAddSub, MayAddTree}
-use Rattle.tx_trees.specs.Ranges.{is_in_range}
 use Rattle.tx_trees.specs.ScriptData.{ScriptData}
 use Rattle.tx_trees.specs.declared.parts.Deed.{Deed}
 use Rattle.tx_trees.specs.declared.parts.ItemRow.{ItemRow}
 use Rattle.tx_trees.specs.declared.parts.TreeKind.{TreeKind}
-use Rattle.tx_trees.specs.declared.why.Why.{Why}
-use Rattle.tx_trees.proofs.Lists.{or_both}
 
 pub item_passes : (s : ScriptData) (r : ItemRow) → MayAddItem s r → adds_item s r ≡ Ok (with_item s r)
 item_passes s r m = rw (m.place, m.start, m.plain, m.free, m.room) refl

@@ -1,7 +1,7 @@
 -- A valid script is built again from its own rows: each of its records meets no condition of refusal, since every limit that
 -- holds of the whole script holds of what stands before the record.
-use Rattle.std.proofs.Common.{◌≡◌, ◌<◌, ◌≤◌, ◌+◌, ◌*◌, ℕ, Bool, true, false, List, [], ◌∷◌, ◌++◌, length, map, refl, sym, ap, ◌∙◌, subst, arith, length-append, append_assoc, inl, inr, cond, suc, zero}
-use Rattle.std.specs.Prelude.{◌==◌, ◌&&◌, ◌||◌, not, IsTrue, Option, Some, None, Result, Ok, Err, is_some, nat_eq, nat_le, nat_lt, position, slice_get, unsigned_abs}
+use Rattle.std.proofs.Common.{◌≡◌, ◌<◌, ◌≤◌, ◌+◌, ◌*◌, ℕ, Bool, true, false, List, [], ◌∷◌, ◌++◌, length, map, refl, sym, ap, ◌∙◌, subst, arith, length-append, append_assoc, cond, suc, zero}
+use Rattle.std.specs.Prelude.{◌==◌, ◌&&◌, not, IsTrue, Option, Some, None, Result, Ok, nat_eq, nat_le, nat_lt, position, slice_get, unsigned_abs}
 use Rattle.std.specs.List.{AllByRecursion, IsDistinct, list_any, position_or_len}
 use Rattle.std.specs.Str.{bytes_eq}
 use Rattle.std.proofs.lemmas.Bool.{lt-ltb}
@@ -9,21 +9,18 @@ use Rattle.std.proofs.lemmas.Cmp.{nat_eq_equiv, nat_list_eq_equiv}
 use Rattle.std.proofs.lemmas.Grind.{common_steps}
 use Rattle.std.proofs.lemmas.List.{append-nil, map-append}
 use Rattle.std.proofs.lemmas.Nat.{mul-le}
-use Rattle.std.proofs.lemmas.Option.{slice_get_cases}
 use Rattle.commute_ops.specs.declared.kinds.Kind.{Kind}
 use Rattle.commute_ops.specs.declared.kinds.Kind.TheVariants as kinds
 use Rattle.commute_ops.specs.declared.kinds.TheConstants.{MOST_AMOUNT}
-use Rattle.tv_base.specs.declared.numbers.NodeNo.{NodeNo}
 use Rattle.tv_base.specs.declared.numbers.TreeNo.{TreeNo}
-use Rattle.tx_trees.specs.Adding.{adds_advance, adds_item, adds_op, adds_pick, adds_settle, adds_sub, adds_tree, are_many, fresh, has_no_op_left, has_no_sub_left, has_no_tree_left, has_touched, kind_at, last_count, last_kind, last_node, last_of, last_sub, last_subs, names_tree, node_at, on_last, on_last_sub, place_of, push_op, push_sub, rooted, touch, with_item, with_op, with_row, with_sub, with_tree}
+use Rattle.tx_trees.specs.Adding.{adds_advance, fresh, has_touched, kind_at, last_count, last_kind, last_node, last_of, last_sub, last_subs, node_at, on_last, on_last_sub, place_of, push_op, push_sub, touch}
 use Rattle.tx_trees.specs.Amounts.{magnitude}
-use Rattle.tx_trees.specs.Counts.{advances_in, all_ops, all_subs, if_update, is_advance, one_put, one_strict, ops_in, strict_trees, trees_puts, update_subs}
+use Rattle.tx_trees.specs.Counts.{advances_in, all_ops, all_subs, if_update, one_put, one_strict, ops_in, strict_trees, trees_puts, update_subs}
 use Rattle.tx_trees.specs.Passing.{MayAddItem, MayAddOp, MayAddSub, MayAddTree}
 use Rattle.tx_trees.specs.Ranges.{is_in_range, may_start}
-use Rattle.tx_trees.specs.Rebuilt.{RebuiltAs, SameScript, items_added, name_at, ops_added, picks_added, rebuilt, rooted_added, row_added, rows_added, subs_added, then_more, tree_added}
+use Rattle.tx_trees.specs.Rebuilt.{RebuiltAs, items_added, name_at, ops_added, picks_added, rebuilt, rooted_added, row_added, rows_added, subs_added, then_more, tree_added}
 use Rattle.tx_trees.specs.ScriptData.{ScriptData, is_strict}
-use Rattle.tx_trees.specs.Valid.{AreSubs, IsItem, IsOp, IsSub, IsTree, IsValid, NamesInOrder, OpAt, deed_fits, initial_load, item_names, items_of, load, tree_names, trees_load}
-use Rattle.tx_trees.specs.declared.parts.Deed.{Deed}
+use Rattle.tx_trees.specs.Valid.{AreSubs, IsItem, IsOp, IsSub, IsTree, IsValid, NamesInOrder, OpAt, deed_fits, item_names, items_of, load, tree_names, trees_load}
 use Rattle.tx_trees.specs.declared.parts.ItemRow.{ItemRow}
 use Rattle.tx_trees.specs.declared.parts.ScriptRow.{ScriptRow}
 use Rattle.tx_trees.specs.declared.parts.ScriptRow.TheVariants as rows
@@ -151,6 +148,10 @@ untouched trees.Update b e = refl
 untouched trees.Read b e = refl
 untouched trees.Strict b e = e refl
 
+-- the script with its items, these trees and these rows
+abbrev with_rows : ScriptData → List Tree → List ScriptRow → Bool → ScriptData
+with_rows s ts rs b = record { nodes = s.nodes; items = s.items; trees = ts; rows = rs; picks = []; begun = b }
+
 -- what an update tree with more subtransactions counts
 update_grown : (kind : TreeKind) (n m : ℕ) → n < m → if_update kind n + if_update kind 1 ≤ if_update kind m
 update_grown trees.Update n m lt = omega arith
@@ -158,16 +159,12 @@ update_grown trees.Read n m lt = omega arith
 update_grown trees.Strict n m lt = omega arith
 
 module _ (s : ScriptData) (h : IsValid s) where
-  -- the script with its items, these trees and these rows
-  abbrev with_rows : List Tree → List ScriptRow → Bool → ScriptData
-  with_rows ts rs b = record { nodes = s.nodes; items = s.items; trees = ts; rows = rs; picks = []; begun = b }
-
   tree_here : (T Ts : List Tree) (t : Tree) → T ++ t ∷ Ts ≡ s.trees → IsTree s.nodes s.items t
   tree_here T Ts t e = all-seam (IsTree s.nodes s.items) T Ts t (subst (AllByRecursion (IsTree s.nodes s.items)) (sym e) h.trees)
 
   may_add_op : (T Ts : List Tree) (name : List ℕ) (kind : TreeKind) (S X : List Sub) (x : Sub) (O os : List SubOp) (o : SubOp) (rs : List ScriptRow)
       → T ++ tree_of name kind (S ++ x ∷ X) ∷ Ts ≡ s.trees → O ++ o ∷ os ≡ x.ops
-      → MayAddOp (with_rows (T ++ tree_of name kind (S ++ cut x O ∷ []) ∷ []) rs true) o.item.0 o.deed
+      → MayAddOp (with_rows s (T ++ tree_of name kind (S ++ cut x O ∷ []) ∷ []) rs true) o.item.0 o.deed
   may_add_op T Ts name kind S X x O os o rs e f =
       let t : Tree = tree_of name kind (S ++ x ∷ X) in
       let u : Tree = tree_of name kind (S ++ cut x O ∷ []) in
@@ -207,7 +204,7 @@ module _ (s : ScriptData) (h : IsValid s) where
         kind = fits;
         room = or_both _ _ (or_both _ _ (le_not 16 (last_count ts) (omega (arith, sub.few))) (le_not 200000 (all_ops ts) (omega (arith, h.limited.ops))))
             (lt_not 64 (trees_puts k ts + one_put o.deed) (omega (arith, h.limited.puts k within, put_same o k refl)));
-        load = lt_not MOST_AMOUNT (load k (with_rows ts rs true) + magnitude o.deed) (omega (arith, h.loads k within, load_same o k refl));
+        load = lt_not MOST_AMOUNT (load k (with_rows s ts rs true) + magnitude o.deed) (omega (arith, h.loads k within, load_same o k refl));
         once = once;
       }
     where
@@ -226,12 +223,12 @@ module _ (s : ScriptData) (h : IsValid s) where
   -- the operations of a subtransaction
   ops_done : (T Ts : List Tree) (name : List ℕ) (kind : TreeKind) (S X : List Sub) (x : Sub) (O os : List SubOp) (rs : List ScriptRow)
       → T ++ tree_of name kind (S ++ x ∷ X) ∷ Ts ≡ s.trees → O ++ os ≡ x.ops
-      → ops_added (with_rows (T ++ tree_of name kind (S ++ cut x O ∷ []) ∷ []) rs true) os ≡ Ok (with_rows (T ++ tree_of name kind (S ++ x ∷ []) ∷ []) rs true)
+      → ops_added (with_rows s (T ++ tree_of name kind (S ++ cut x O ∷ []) ∷ []) rs true) os ≡ Ok (with_rows s (T ++ tree_of name kind (S ++ x ∷ []) ∷ []) rs true)
   ops_done T Ts name kind S X x O [] rs e f =
-      ap (λ (os : List SubOp). Ok (with_rows (T ++ tree_of name kind (S ++ cut x os ∷ []) ∷ []) rs true)) (sym (append-nil O) ∙ f)
+      ap (λ (os : List SubOp). Ok (with_rows s (T ++ tree_of name kind (S ++ cut x os ∷ []) ∷ []) rs true)) (sym (append-nil O) ∙ f)
   ops_done T Ts name kind S X x O (o ∷ os) rs e f =
       let u : Tree = tree_of name kind (S ++ cut x O ∷ []) in
-      let st : ScriptData = with_rows (T ++ u ∷ []) rs true in
+      let st : ScriptData = with_rows s (T ++ u ∷ []) rs true in
       let tree = tree_here T Ts (tree_of name kind (S ++ x ∷ X)) e in
       let sub = sub_at_seam s.nodes s.items kind 0 S X x tree.subs in
       let here = all-seam (IsOp s.items kind x.node.0) O os o (subst (AllByRecursion (IsOp s.items kind x.node.0)) (sym f) sub.ops) in
@@ -241,13 +238,13 @@ module _ (s : ScriptData) (h : IsValid s) where
       let passes = op_passes st (name_at o.item.0 s.items) o.item.0 o.deed place (may_add_op T Ts name kind S X x O os o rs e f) in
       let pushed : on_last (on_last_sub (push_op o)) (T ++ u ∷ []) ≡ T ++ tree_of name kind (S ++ cut x (O ++ o ∷ []) ∷ []) ∷ [] =
       on_last-seam (on_last_sub (push_op o)) T u ∙ ap (λ (xs : List Sub). T ++ tree_of name kind xs ∷ []) (on_last-seam (push_op o) S (cut x O)) in
-      taken _ _ (λ t. ops_added t os) (passes ∙ ap (λ (ts : List Tree). Ok (with_rows ts rs true)) pushed)
+      taken _ _ (λ t. ops_added t os) (passes ∙ ap (λ (ts : List Tree). Ok (with_rows s ts rs true)) pushed)
       ∙ ops_done T Ts name kind S X x (O ++ o ∷ []) os rs e (append_assoc O (o ∷ []) os ∙ f)
 
   -- the other subtransactions of a tree
 
   may_add_sub : (T Ts : List Tree) (name : List ℕ) (kind : TreeKind) (S X : List Sub) (x : Sub) (rs : List ScriptRow) → T ++ tree_of name kind (S ++ x ∷ X) ∷ Ts ≡ s.trees → 0 < length S
-      → MayAddSub (with_rows (T ++ tree_of name kind S ∷ []) rs true) x.parent.0 x.node
+      → MayAddSub (with_rows s (T ++ tree_of name kind S ∷ []) rs true) x.parent.0 x.node
   may_add_sub T Ts name kind S X x rs e some =
       let t : Tree = tree_of name kind (S ++ x ∷ X) in
       let u : Tree = tree_of name kind S in
@@ -276,17 +273,17 @@ module _ (s : ScriptData) (h : IsValid s) where
       }
 
   subs_done : (T Ts : List Tree) (name : List ℕ) (kind : TreeKind) (S X : List Sub) (rs : List ScriptRow) → T ++ tree_of name kind (S ++ X) ∷ Ts ≡ s.trees → 0 < length S
-      → subs_added (with_rows (T ++ tree_of name kind S ∷ []) rs true) X ≡ Ok (with_rows (T ++ tree_of name kind (S ++ X) ∷ []) rs true)
-  subs_done T Ts name kind S [] rs e some = ap (λ (xs : List Sub). Ok (with_rows (T ++ tree_of name kind xs ∷ []) rs true)) (sym (append-nil S))
+      → subs_added (with_rows s (T ++ tree_of name kind S ∷ []) rs true) X ≡ Ok (with_rows s (T ++ tree_of name kind (S ++ X) ∷ []) rs true)
+  subs_done T Ts name kind S [] rs e some = ap (λ (xs : List Sub). Ok (with_rows s (T ++ tree_of name kind xs ∷ []) rs true)) (sym (append-nil S))
   subs_done T Ts name kind S (x ∷ X) rs e some =
       let u : Tree = tree_of name kind S in
-      let st : ScriptData = with_rows (T ++ u ∷ []) rs true in
+      let st : ScriptData = with_rows s (T ++ u ∷ []) rs true in
       let passes = sub_passes st x.parent.0 x.node (may_add_sub T Ts name kind S X x rs e some) in
       let pushed = on_last-seam (push_sub (cut x [])) T u in
-      let next : List Sub → Result ScriptData Why = λ (done : List Sub). Ok (with_rows (T ++ tree_of name kind done ∷ []) rs true) in
+      let next : List Sub → Result ScriptData Why = λ (done : List Sub). Ok (with_rows s (T ++ tree_of name kind done ∷ []) rs true) in
       let regrouped : (S ++ x ∷ []) ++ X ≡ S ++ x ∷ X = append_assoc S (x ∷ []) X in
       let same : T ++ tree_of name kind ((S ++ x ∷ []) ++ X) ∷ Ts ≡ s.trees = ap (λ (xs : List Sub). T ++ tree_of name kind xs ∷ Ts) regrouped ∙ e in
-      taken _ _ (λ t. then_more (ops_added t x.ops) (λ v. subs_added v X)) (passes ∙ ap (λ (ts : List Tree). Ok (with_rows ts rs true)) pushed)
+      taken _ _ (λ t. then_more (ops_added t x.ops) (λ v. subs_added v X)) (passes ∙ ap (λ (ts : List Tree). Ok (with_rows s ts rs true)) pushed)
       ∙ taken _ _ (λ v. subs_added v X) (ops_done T Ts name kind S X x [] x.ops rs e refl)
       ∙ subs_done T Ts name kind (S ++ x ∷ []) X rs same (omega (arith, length-append S (x ∷ [])))
       ∙ ap next regrouped
@@ -294,7 +291,7 @@ module _ (s : ScriptData) (h : IsValid s) where
   -- a tree
 
   may_add_tree : (T Ts : List Tree) (name : List ℕ) (kind : TreeKind) (x : Sub) (X : List Sub) (rs : List ScriptRow) (b : Bool) → T ++ tree_of name kind (x ∷ X) ∷ Ts ≡ s.trees
-      → MayAddTree (with_rows T rs b) name kind x.node
+      → MayAddTree (with_rows s T rs b) name kind x.node
   may_add_tree T Ts name kind x X rs b e =
       let t : Tree = tree_of name kind (x ∷ X) in
       let tree = tree_here T Ts t e in
@@ -318,14 +315,14 @@ module _ (s : ScriptData) (h : IsValid s) where
       }
 
   rooted_done : (T Ts : List Tree) (name : List ℕ) (kind : TreeKind) (subs : List Sub) (rs : List ScriptRow) (b : Bool) → T ++ tree_of name kind subs ∷ Ts ≡ s.trees
-      → rooted_added (with_rows T rs b) name kind subs ≡ Ok (with_rows (T ++ tree_of name kind subs ∷ []) (rs ++ rows.Tree (record { 0 = length T }) ∷ []) true)
+      → rooted_added (with_rows s T rs b) name kind subs ≡ Ok (with_rows s (T ++ tree_of name kind subs ∷ []) (rs ++ rows.Tree (record { 0 = length T }) ∷ []) true)
   rooted_done T Ts name kind [] rs b e = absurd (omega (arith, (tree_here T Ts (tree_of name kind []) e).root))
   rooted_done T Ts name kind (x ∷ X) rs b e =
       let after : List ScriptRow = rs ++ rows.Tree (record { 0 = length T }) ∷ [] in
-      let passes = tree_passes (with_rows T rs b) name kind x.node (may_add_tree T Ts name kind x X rs b e) in
+      let passes = tree_passes (with_rows s T rs b) name kind x.node (may_add_tree T Ts name kind x X rs b e) in
       let tree = tree_here T Ts (tree_of name kind (x ∷ X)) e in
       let root : record { parent = record { 0 = 0 }; node = x.node; ops = [] } ≡ cut x [] = rooted_as x (tree.subs.0.root refl) in
-      taken _ _ (λ t. then_more (ops_added t x.ops) (λ v. subs_added v X)) (passes ∙ ap (λ (y : Sub). Ok (with_rows (T ++ tree_of name kind (y ∷ []) ∷ []) after true)) root)
+      taken _ _ (λ t. then_more (ops_added t x.ops) (λ v. subs_added v X)) (passes ∙ ap (λ (y : Sub). Ok (with_rows s (T ++ tree_of name kind (y ∷ []) ∷ []) after true)) root)
       ∙ taken _ _ (λ v. subs_added v X) (ops_done T Ts name kind [] X x [] x.ops after e refl)
       ∙ subs_done T Ts name kind (x ∷ []) X after e (omega arith)
     where
@@ -349,14 +346,14 @@ no_more xs [] e = sym (append-nil xs)
 no_more xs (y ∷ ys) e = absurd (omega (arith, length-append xs (y ∷ ys)))
 
 module _ (s : ScriptData) (h : IsValid s) where
-  advance_taken : (T : List Tree) (R rest : List ScriptRow) (b : Bool) → R ++ rows.Advance ∷ rest ≡ s.rows → adds_advance (with_rows s h T R b) ≡ Ok (with_rows s h T (R ++ rows.Advance ∷ []) false)
+  advance_taken : (T : List Tree) (R rest : List ScriptRow) (b : Bool) → R ++ rows.Advance ∷ rest ≡ s.rows → adds_advance (with_rows s T R b) ≡ Ok (with_rows s T (R ++ rows.Advance ∷ []) false)
   advance_taken T R rest b e =
       let some : advances_in s.rows ≡ advances_in R + (1 + advances_in rest) = ap advances_in (sym e) ∙ advances-append R (rows.Advance ∷ rest) in
       let few : nat_le 100 (advances_in R) ≡ false = le_not 100 (advances_in R) (omega (arith, h.limited.advances)) in
       rw few refl
 
   tree_taken : (T Ts : List Tree) (R : List ScriptRow) (b : Bool) (n : TreeNo) → T ++ Ts ≡ s.trees → n.0 ≡ length T → length T < length s.trees
-      → (t : Tree) × (us : List Tree) × ((Ts ≡ t ∷ us) × (row_added s.trees (with_rows s h T R b) (rows.Tree n) ≡ Ok (with_rows s h (T ++ t ∷ []) (R ++ rows.Tree n ∷ []) true)))
+      → (t : Tree) × (us : List Tree) × ((Ts ≡ t ∷ us) × (row_added s.trees (with_rows s T R b) (rows.Tree n) ≡ Ok (with_rows s (T ++ t ∷ []) (R ++ rows.Tree n ∷ []) true)))
   tree_taken T [] R b n e at more = absurd (omega (arith, ap length e, length-append T []))
   tree_taken T (t ∷ us) R b n e at more =
       let here : slice_get s.trees n.0 ≡ Some t = ap (slice_get s.trees) at ∙ ap (λ (ts : List Tree). slice_get ts (length T)) (sym e) ∙ slice_get-seam T us t in
@@ -365,18 +362,18 @@ module _ (s : ScriptData) (h : IsValid s) where
         us,
         (
           refl,
-          ap (tree_added (with_rows s h T R b)) here
+          ap (tree_added (with_rows s T R b)) here
               ∙ rooted_done s h T us t.name t.kind t.subs R b e
-              ∙ ap (λ (r : ScriptRow). Ok (with_rows s h (T ++ t ∷ []) (R ++ r ∷ []) true)) number,
+              ∙ ap (λ (r : ScriptRow). Ok (with_rows s (T ++ t ∷ []) (R ++ r ∷ []) true)) number,
         ),
       )
 
   rows_done : (T Ts : List Tree) (R rest : List ScriptRow) (b : Bool) → T ++ Ts ≡ s.trees → R ++ rest ≡ s.rows → NamesInOrder (length T) (length s.trees) rest
-      → (c : Bool) × (rows_added s.trees (with_rows s h T R b) rest ≡ Ok (with_rows s h s.trees s.rows c))
+      → (c : Bool) × (rows_added s.trees (with_rows s T R b) rest ≡ Ok (with_rows s s.trees s.rows c))
   rows_done T Ts R [] b e f names =
       let all : T ≡ s.trees = no_more T Ts (names ∙ ap length (sym e)) ∙ e in
       let every : R ≡ s.rows = sym (append-nil R) ∙ f in
-      (b, ap (λ (ts : List Tree). Ok (with_rows s h ts R b)) all ∙ ap (λ (rs : List ScriptRow). Ok (with_rows s h s.trees rs b)) every)
+      (b, ap (λ (ts : List Tree). Ok (with_rows s ts R b)) all ∙ ap (λ (rs : List ScriptRow). Ok (with_rows s s.trees rs b)) every)
   rows_done T Ts R (rows.Tree n ∷ rest) b e f names =
       let step = tree_taken T Ts R b n e names.0 (omega (arith, some_left (length T + 1) (length s.trees) rest names.1)) in
       let t = step.0 in

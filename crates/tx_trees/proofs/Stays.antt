@@ -1,7 +1,6 @@
 -- A script stays valid when a record that meets no condition of refusal is added.
 use Rattle.std.proofs.Common.{◌≡◌, ◌<◌, ◌≤◌, ◌+◌, ◌*◌, ℕ, Bool, true, false, List, [], ◌∷◌, ◌++◌, length, map, refl, sym, ap, ◌∙◌, subst, arith, length-append, inl, inr, append_assoc}
-use Rattle.std.specs.Prelude.{◌==◌, ◌&&◌, ◌||◌, IsTrue, Option, Some, None, is_some, nat_eq, nat_le, nat_lt, position, slice_get, unsigned_abs}
-use Rattle.std.specs.Int.{is_negative}
+use Rattle.std.specs.Prelude.{◌==◌, ◌&&◌, ◌||◌, IsTrue, Option, Some, None, nat_eq, nat_le, nat_lt, slice_get, unsigned_abs}
 use Rattle.std.specs.List.{AllByRecursion, IsDistinct, list_any}
 use Rattle.std.specs.Str.{bytes_eq}
 use Rattle.std.proofs.lemmas.Bool.{cases_eq, cases_lt}
@@ -14,13 +13,13 @@ use Rattle.commute_ops.specs.declared.kinds.Kind.TheVariants as kinds
 use Rattle.commute_ops.specs.declared.kinds.TheConstants.{MOST_AMOUNT}
 use Rattle.tv_base.specs.declared.numbers.NodeNo.{NodeNo}
 use Rattle.tv_base.specs.declared.numbers.TreeNo.{TreeNo}
-use Rattle.tx_trees.specs.Adding.{are_many, has_no_op_left, has_no_sub_left, has_no_tree_left, has_touched, kind_at, last_count, last_kind, last_node, last_of, last_subs, names_tree, node_at, on_last, on_last_sub, place_of, push_op, push_sub, rooted, touch, with_item, with_op, with_row, with_sub, with_tree}
+use Rattle.tx_trees.specs.Adding.{are_many, has_no_op_left, has_no_sub_left, has_no_tree_left, has_touched, kind_at, last_count, last_kind, last_node, last_of, last_subs, node_at, on_last, on_last_sub, push_op, push_sub, rooted, touch, with_item, with_op, with_row, with_sub, with_tree}
 use Rattle.tx_trees.specs.Amounts.{magnitude}
-use Rattle.tx_trees.specs.Counts.{advances_in, all_ops, all_subs, if_update, is_advance, one_put, one_strict, ops_in, ops_puts, strict_trees, subs_ops, subs_puts, trees_puts, update_subs}
+use Rattle.tx_trees.specs.Counts.{advances_in, all_ops, all_subs, if_update, one_put, one_strict, ops_in, ops_puts, strict_trees, subs_puts, trees_puts, update_subs}
 use Rattle.tx_trees.specs.Passing.{MayAddItem, MayAddOp, MayAddSub, MayAddTree}
-use Rattle.tx_trees.specs.Ranges.{is_in_range, may_start, starts_full}
+use Rattle.tx_trees.specs.Ranges.{is_in_range, may_start}
 use Rattle.tx_trees.specs.ScriptData.{ScriptData, is_strict}
-use Rattle.tx_trees.specs.Valid.{AreSubs, IsItem, IsLimited, IsOp, IsSub, IsTree, IsValid, NamesInOrder, OpAt, deed_fits, initial_load, item_names, items_of, load, ops_load, subs_load, tree_names, trees_load}
+use Rattle.tx_trees.specs.Valid.{AreSubs, IsItem, IsOp, IsSub, IsTree, IsValid, NamesInOrder, OpAt, deed_fits, initial_load, item_names, items_of, load, ops_load, subs_load, tree_names, trees_load}
 use Rattle.tx_trees.specs.declared.parts.Deed.{Deed}
 use Rattle.tx_trees.specs.declared.parts.ItemRow.{ItemRow}
 use Rattle.tx_trees.specs.declared.parts.ScriptRow.{ScriptRow}
@@ -33,7 +32,7 @@ use Rattle.tx_trees.specs.declared.parts.TreeKind.TheVariants as trees
 use Rattle.tx_trees.proofs.Last.{last_count_is, last_kind_is, last_node_is, last_sub_is, last_subs_is, length-on_last}
 use Rattle.tx_trees.proofs.Lists.{all-last, all-on_last, all-push, all-weaker, distinct-push, last_some, not_le, not_lt, or_left, or_right, slice_get-old, slice_get-seam, sum-push}
 use Rattle.tx_trees.proofs.Named.{any-map, has_item, has_tree}
-use Rattle.tx_trees.proofs.Totals.{all_subs-sum, load_other, load_same, load_total, op_load, op_put, op_total, put_other, put_same, put_total, strict-op, strict-sub, strict-sum, subs-op, subs-sub, total-op, total-sub, total-tree, update-op, update-sub, update-sum}
+use Rattle.tx_trees.proofs.Totals.{all_subs-sum, load_other, load_same, load_total, op_total, put_other, put_same, put_total, strict-op, strict-sub, strict-sum, subs-op, subs-sub, total-op, total-sub, total-tree, update-op, update-sub, update-sum}
 
 and_left : (a b : Bool) → (a && b) ≡ true → a ≡ true
 and_left true b e = refl

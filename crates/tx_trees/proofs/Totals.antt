@@ -1,8 +1,8 @@
 -- What operations, subtransactions and trees add up to, and what a record adds to it.
 use Rattle.std.proofs.Common.{◌≡◌, ◌<◌, ◌≤◌, ◌+◌, ℕ, List, [], ◌∷◌, ◌++◌, length, refl, sym, ap, ◌∙◌, arith, length-append}
-use Rattle.std.specs.Prelude.{◌==◌, if◌then◌else◌, Some}
+use Rattle.std.specs.Prelude.{◌==◌, if◌then◌else◌}
 use Rattle.std.proofs.lemmas.Grind.{common_steps}
-use Rattle.tx_trees.specs.Adding.{last_kind, last_of, last_subs, on_last, on_last_sub, push_op, push_sub}
+use Rattle.tx_trees.specs.Adding.{last_kind, last_subs, on_last, on_last_sub, push_op, push_sub}
 use Rattle.tx_trees.specs.Amounts.{magnitude}
 use Rattle.tx_trees.specs.Counts.{all_ops, all_subs, if_update, one_put, one_strict, ops_puts, strict_trees, subs_ops, subs_puts, trees_puts, update_subs}
 use Rattle.tx_trees.specs.Valid.{ops_load, subs_load, trees_load}
@@ -12,7 +12,7 @@ use Rattle.tx_trees.specs.declared.parts.Tree.{Tree}
 use Rattle.tx_trees.specs.declared.parts.TreeKind.{TreeKind}
 use Rattle.tx_trees.specs.declared.parts.TreeKind.TheVariants as trees
 use Rattle.tx_trees.proofs.Last.{last_kind_is, last_subs_is, length-on_last}
-use Rattle.tx_trees.proofs.Lists.{IsSum, last_some, sum-append, sum-on_last, sum-push}
+use Rattle.tx_trees.proofs.Lists.{IsSum, sum-append, sum-on_last, sum-push}
 
 -- a weight of operations, summed over operations, subtransactions and trees
 pub record IsTotal (w : SubOp → ℕ) (O : List SubOp → ℕ) (S : List Sub → ℕ) (T : List Tree → ℕ) : Type 0 where

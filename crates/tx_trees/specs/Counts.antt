@@ -1,7 +1,6 @@
 -- How many things of each sort a script has.
 use Rattle.std.specs.Prelude.{ℕ, Bool, true, false, if◌then◌else◌, ◌+◌, ◌==◌, List, [], ◌∷◌, ◌++◌, length}
-use Rattle.commute_ops.specs.declared.kinds.Op.{Op}
-use Rattle.commute_ops.specs.declared.kinds.Op.TheVariants.{Add, Top, Put}
+use Rattle.commute_ops.specs.declared.kinds.Op.TheVariants.{Put}
 use Rattle.tx_trees.specs.declared.parts.Tree.{Tree}
 use Rattle.tx_trees.specs.declared.parts.Sub.{Sub}
 use Rattle.tx_trees.specs.declared.parts.SubOp.{SubOp}

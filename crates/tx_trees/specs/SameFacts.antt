@@ -7,7 +7,7 @@ use Rattle.std.specs.Cmp.{IsEquivalence, IsPartialEquivalence, partial_equiv_fro
 use Rattle.std.specs.Cmp.Lexicographic.{pointwise}
 use Rattle.std.specs.Str.{bytes_eq}
 use Rattle.std.proofs.lemmas.Bool.Decides.{Decides-eqb, Decides-int_eq, same_from_decides}
-use Rattle.std.proofs.lemmas.Slice.Eq.{bytes_eq-Decides, slice_eq-Decides}
+use Rattle.std.proofs.lemmas.Slice.Eq.{slice_eq-Decides}
 use Rattle.commute_ops.specs.declared.kinds.Kind.{Kind}
 use Rattle.commute_ops.specs.declared.kinds.Kind.TheVariants as kinds
 use Rattle.commute_ops.specs.declared.kinds.Op.{Op}

@@ -3,8 +3,8 @@ ghost use Rattle.tx_trees.specs.ScriptData.{ScriptData};
 ghost use Rattle.tx_trees.specs.Rebuilt.{RebuiltAs};
 ghost use Rattle.tx_trees.specs.Valid.{IsValid};
 
-/// A valid script's own rows, taken in the order in which they are written (its nodes, its items, each row, a tree's row
-/// with its whole tree, and its picks), are all accepted and give this script.
+/// A valid script's own rows are all accepted and give this script, when they are taken in the order in which they are
+/// written: its nodes, its items, each row, a tree's row with its whole tree, and its picks.
 pub fn a_script_is_rebuilt_from_its_rows()
     ensures { (s : ScriptData) → IsValid s → RebuiltAs s }
 {}

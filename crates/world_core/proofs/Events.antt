@@ -1,19 +1,21 @@
 -- One event over the parts of a world, from what its calls say.
-use Rattle.std.proofs.Common.{◌≡◌, ℕ, ◌+◌, ◌-◌, ◌<◌, ◌≤◌, List, [], ◌∷◌, ◌++◌, length, reverse, Option, Some, None, refl, sym, ap, ◌∙◌, subst, arith}
+use Rattle.std.proofs.Common.{◌≡◌, ℕ, ◌+◌, ◌*◌, ◌-◌, ◌^◌, ◌<◌, ◌≤◌, List, [], ◌∷◌, ◌++◌, length, reverse, Option, Some, None, refl, sym, ap, ◌∙◌, subst, arith, lit≤}
 use Rattle.std.specs.Prelude.{slice_get, slice_set, IfSome}
 use Rattle.std.specs.List.{remove}
-use Rattle.std.proofs.lemmas.List.{length-append}
+use Rattle.std.proofs.lemmas.List.{length-append, length-reverse}
 use Rattle.tv_base.specs.declared.numbers.Stamp.{Stamp}
 use Rattle.letter_types.specs.declared.entries.Letter.{Letter}
 use Rattle.letter_types.specs.declared.entries.Outgoing.{Outgoing}
 use Rattle.letter_types.specs.declared.entries.StepOut.{StepOut}
 use Rattle.letter_types.specs.declared.entries.Entry.{Entry}
 use Rattle.letter_types.specs.Letters.{sealed}
+use Rattle.letter_types.specs.Steps.{Out, made}
 use Rattle.tx_trees.specs.ScriptData.{ScriptData}
-use Rattle.tree_laws.proofs.Scripts.{Sound}
-use Rattle.world_core.specs.Actors.{WorldData, IsWorldOf, IsAddressed, TookLetter, actor_row, actor_in}
+use Rattle.tree_laws.proofs.Scripts.{Sound, get_some}
+use Rattle.world_core.specs.declared.actor.ActorState.{ActorState}
+use Rattle.world_core.specs.Actors.{ActorData, Acted, CountsBelow, IsAddressed, IsWorldOf, MayTake, TookLetter, WorldData, actor_row, data_of}
 use Rattle.world_core.proofs.Few.{few_sent}
-use Rattle.world_core.proofs.Worlds.{asks, below, entry_of, next_world}
+use Rattle.world_core.proofs.Worlds.{asks, below, entry_of, next_world, small_counts}
 
 pub if_some : {X : Type 0} (P : X → Type 0) (o : Option X) (x : X) → o ≡ Some x → IfSome o P → P x
 if_some P None x is h = absurd (cc is)
@@ -23,23 +25,30 @@ if_some_of : {X : Type 0} (P : X → Type 0) (o : Option X) (x : X) → o ≡ So
 if_some_of P o x is h = rw is h
 
 -- the addressee is there
-state_of : (s : ScriptData) (w : WorldData) (k : ℕ) (l : Letter) → IsWorldOf s w → Sound s → slice_get w.bag k ≡ Some l
-    → slice_get w.actors l.to.0 ≡ Some (actor_in s (reverse w.history) l.to.0)
-state_of s w k l world sound at = world.actors l.to.0 (below s w k l world sound at)
-
 pub is_here : (s : ScriptData) (w : WorldData) (k : ℕ) (l : Letter) → IsWorldOf s w → Sound s → slice_get w.bag k ≡ Some l → l.to.0 < length w.actors
 is_here s w k l world sound at = omega (arith, below s w k l world sound at, world.count)
 
-pub is_addressed : (s : ScriptData) (w : WorldData) (k : ℕ) (l : Letter) → IsWorldOf s w → Sound s → slice_get w.bag k ≡ Some l
-    → IfSome (slice_get w.actors l.to.0) (λ st. IsAddressed s l st)
-is_addressed s w k l world sound at = if_some_of (λ st. IsAddressed s l st) (slice_get w.actors l.to.0) (actor_in s (reverse w.history) l.to.0) (state_of s w k l world sound at) (asks s (reverse w.history) l)
+-- a state there may take the letter, while the history is short
+state_may : (s : ScriptData) (w : WorldData) (m : ℕ) (l : Letter) (st : ActorState) → IsWorldOf s w → Sound s → 65 * length w.history + 1 ≤ m
+    → slice_get w.actors l.to.0 ≡ Some st → MayTake s l m st
+state_may s w m l st world sound le there =
+    let is = world.actors l.to.0 st there in
+    record {
+      addressed = subst (λ (d : ActorData). IsAddressed s l d) (sym is.seen) (asks s (reverse w.history) l);
+      script = is.script;
+      small = subst (λ (d : ActorData). CountsBelow m d) (sym is.seen)
+          (small_counts s (reverse w.history) l.to.0 m sound world.run (omega (arith, length-reverse w.history)));
+    }
 
-pub has_room : (s : ScriptData) (w : WorldData) (k : ℕ) (l : Letter) (sent : List Outgoing) → IsWorldOf s w → Sound s → slice_get w.bag k ≡ Some l
-    → IfSome (slice_get w.actors l.to.0) (λ st. sent ≡ (actor_row s l st).sent) → length sent ≤ length s.rows + 64
-has_room s w k l sent world sound at is =
-    let st = actor_in s (reverse w.history) l.to.0 in
-    let same : sent ≡ (actor_row s l st).sent = if_some (λ x. sent ≡ (actor_row s l x).sent) (slice_get w.actors l.to.0) st (state_of s w k l world sound at) is in
-    omega (arith, ap (length {A = Outgoing}) same, few_sent s l st sound.valid)
+pub may_take : (s : ScriptData) (w : WorldData) (k m : ℕ) (l : Letter) → IsWorldOf s w → Sound s → 65 * length w.history + 1 ≤ m → slice_get w.bag k ≡ Some l
+    → IfSome (slice_get w.actors l.to.0) (MayTake s l m)
+may_take s w k m l world sound le at =
+    let found = get_some w.actors l.to.0 (is_here s w k l world sound at) in
+    if_some_of (MayTake s l m) (slice_get w.actors l.to.0) found.0 found.1 (state_may s w m l found.0 world sound le found.1)
+
+pub has_room : (s : ScriptData) (l : Letter) (old new : List ActorState) (out : StepOut) → Sound s → Acted s l old new out → length out.sent ≤ length s.rows + 65
+has_room s l old new out sound acted =
+    omega (arith, ap (λ (o : Out ActorData). length o.sent) acted.row, few_sent s l (data_of acted.before) sound.valid)
 
 set_last : (h : List Entry) (x e : Entry) → slice_set (h ++ x ∷ []) (length h) e ≡ h ++ e ∷ []
 set_last [] x e = refl
@@ -51,9 +60,7 @@ last_place h x = omega (arith, length-append h (x ∷ []))
 -- what the calls of an event say
 pub record Event (s : ScriptData) (w : WorldData) (k : ℕ) (l : Letter) (given kept : StepOut) (stamp : Stamp) (x : Entry) (next : WorldData) : Type 0 where
   pub letter : slice_get w.bag k ≡ Some l
-  pub actors : IfSome (slice_get w.actors l.to.0) (λ st. next.actors ≡ slice_set w.actors l.to.0 (actor_row s l st).state)
-  pub sent : IfSome (slice_get w.actors l.to.0) (λ st. given.sent ≡ (actor_row s l st).sent)
-  pub acts : IfSome (slice_get w.actors l.to.0) (λ st. given.acts ≡ (actor_row s l st).acts)
+  pub acted : Acted s l w.actors next.actors given
   pub same : kept ≡ given
   pub stamp_is : stamp.0 ≡ length w.history + 1
   pub bag : IfSome (slice_get w.bag k) (λ m. next.bag ≡ remove w.bag k ++ sealed stamp.0 m.to.0 0 given.sent)
@@ -74,16 +81,11 @@ history_is s w k l given kept stamp x next e =
 pub event_world : (s : ScriptData) (w : WorldData) (k : ℕ) (l : Letter) (given kept : StepOut) (stamp : Stamp) (x : Entry) (next : WorldData) → IsWorldOf s w → Sound s
     → Event s w k l given kept stamp x next → IsWorldOf s next
 event_world s w k l given kept stamp x next world sound e =
-    let st = actor_in s (reverse w.history) l.to.0 in
-    let at : slice_get w.actors l.to.0 ≡ Some st = state_of s w k l world sound e.letter in
     let bag : next.bag ≡ remove w.bag k ++ sealed stamp.0 l.to.0 0 given.sent = if_some (λ m. next.bag ≡ remove w.bag k ++ sealed stamp.0 m.to.0 0 given.sent) (slice_get w.bag k) l e.letter e.bag in
     let made : IsWorldOf s (record { actors = next.actors; bag = next.bag; history = w.history ++ entry_of (length w.history + 1) l given.sent given.acts ∷ [] }) =
-    next_world s w k l st given.sent given.acts next.actors next.bag world sound (record {
+    next_world s w k l given next.actors next.bag world sound (record {
       letter = e.letter;
-      state = at;
-      actors = if_some (λ y. next.actors ≡ slice_set w.actors l.to.0 (actor_row s l y).state) (slice_get w.actors l.to.0) st at e.actors;
-      sent = if_some (λ y. given.sent ≡ (actor_row s l y).sent) (slice_get w.actors l.to.0) st at e.sent;
-      acts = if_some (λ y. given.acts ≡ (actor_row s l y).acts) (slice_get w.actors l.to.0) st at e.acts;
+      acted = e.acted;
       bag = bag ∙ ap (λ (n : ℕ). remove w.bag k ++ sealed n l.to.0 0 given.sent) e.stamp_is;
     }) in
     subst (λ (h : List Entry). IsWorldOf s (record { actors = next.actors; bag = next.bag; history = h })) (sym (history_is s w k l given kept stamp x next e)) made

@@ -1,9 +1,10 @@
-pub mod Sends
 pub mod Items
-pub mod FewSubs
 pub mod Sealed
 pub mod Bag
-pub mod Worlds
-pub mod First
+pub mod Nodes
+pub mod Stepped
 pub mod Few
+pub mod First
+pub mod Assumed
+pub mod Worlds
 pub mod Events

@@ -1,5 +1,5 @@
 -- A step of an actor makes the next world.
-use Rattle.std.proofs.Common.{◌≡◌, ◌≢◌, ℕ, suc, zero, ◌+◌, ◌<◌, ◌==◌, Bool, true, false, List, [], ◌∷◌, ◌++◌, length, reverse, Some, refl, sym, ap, ◌∙◌, subst, arith}
+use Rattle.std.proofs.Common.{◌≡◌, ◌≢◌, ℕ, suc, zero, ◌+◌, ◌*◌, ◌<◌, ◌≤◌, ◌==◌, Bool, true, false, List, [], ◌∷◌, ◌++◌, length, reverse, Some, refl, sym, ap, ◌∙◌, subst, arith}
 use Rattle.std.specs.Prelude.{nat_lt, slice_get, slice_set}
 use Rattle.std.specs.List.{remove}
 use Rattle.std.proofs.lemmas.Bool.Decides.{nat_tests}
@@ -7,20 +7,24 @@ use Rattle.std.proofs.lemmas.List.{length-reverse, reverse-append}
 use Rattle.std.proofs.Math.ListN.{length-set}
 use Rattle.letter_types.specs.declared.acts.Act.{Act}
 use Rattle.letter_types.specs.declared.bodies.Body.{Body}
-use Rattle.letter_types.specs.declared.bodies.Body.TheVariants.{Go, Root, Sub as SubLetter}
+use Rattle.letter_types.specs.declared.bodies.Body.TheVariants.{Go, Root, Sub as SubLetter, Done, Reply, Nudge}
 use Rattle.letter_types.specs.declared.entries.Letter.{Letter}
 use Rattle.letter_types.specs.declared.entries.Outgoing.{Outgoing}
 use Rattle.letter_types.specs.declared.entries.Entry.{Entry}
+use Rattle.letter_types.specs.declared.entries.StepOut.{StepOut}
 use Rattle.letter_types.specs.Letters.{find_id, sealed}
+use Rattle.letter_types.specs.Steps.{Out, made}
+use Rattle.pair_counters.specs.Numbers.{AllBelow, Numbers}
+use Rattle.quiet_laws.proofs.Balance.{small}
 use Rattle.tx_trees.specs.ScriptData.{ScriptData, node_of, client_of}
-use Rattle.world_model.specs.Runs.{StepRun, MayFollow, Moves, AtNode, AtCoordinator, AtClient, waiting}
+use Rattle.world_model.specs.Runs.{StepRun, MayFollow, Moves, AtNode, AtCoordinator, AtClient, node_in, waiting}
 use Rattle.world_model.proofs.Every.{each_found}
 use Rattle.world_model.proofs.Gone.{unique}
 use Rattle.tree_laws.proofs.Fits.{Fit}
-use Rattle.tree_laws.proofs.Scripts.{Sound, SubAt, is_sub, sub_there, node_here, has_root}
+use Rattle.tree_laws.proofs.Scripts.{Sound, SubAt, get_below, is_sub, sub_there, node_here, has_root}
 use Rattle.tree_laws.proofs.Goods.{good_run}
 use Rattle.world_core.specs.declared.actor.ActorState.{ActorState}
-use Rattle.world_core.specs.Actors.{WorldData, IsWorldOf, IsAddressed, actor_row, actor_in}
+use Rattle.world_core.specs.Actors.{ActorData, Acted, AreStatesOf, CountsBelow, IsAddressed, IsFor, IsStateOf, IsWorldOf, WorldData, actor_in, actor_row, data_of}
 use Rattle.world_core.proofs.Bag.{Found, found_at}
 
 -- the entry that a step makes
@@ -35,6 +39,9 @@ fit_below : (s : ScriptData) (from to : ℕ) (body : Body) → Sound s → Fit s
 fit_below s from to Go sound fit = omega (arith, fit)
 fit_below s from to (Root t) sound fit = omega (arith, fit.1, sub_below s t.0 0 (has_root s t.0 sound fit.0) sound)
 fit_below s from to (SubLetter t k v) sound fit = omega (arith, fit.3, sub_below s t.0 k.0 (sub_there s t.0 k.0 fit.0 fit.1) sound)
+fit_below s from to (Done t k v notice) sound fit = omega (arith, fit.3, sub_below s t.0 0 (has_root s t.0 sound fit.0) sound)
+fit_below s from to (Reply t v answer) sound fit = omega (arith, fit.1)
+fit_below s from to Nudge sound fit = omega (arith, fit)
 fit_below s from to _ sound fit = absurd fit
 
 pub addressed : (s : ScriptData) (past : List Entry) (l : Letter) → Sound s → StepRun s past → find_id l.id (waiting s past) ≡ Some l → l.to.0 < s.nodes + 2
@@ -49,6 +56,21 @@ asks_by s past l false false is at = rw (is, at) tt
 
 pub asks : (s : ScriptData) (past : List Entry) (l : Letter) → IsAddressed s l (actor_in s past l.to.0)
 asks s past l = asks_by s past l (nat_lt l.to.0 s.nodes) (l.to.0 == s.nodes) refl refl
+
+-- what an actor counts is small while the history is short
+small_by : (s : ScriptData) (past : List Entry) (a m : ℕ) (b c : Bool) → ((p : ℕ) → p < s.nodes → AllBelow m (node_in s past p).counts)
+    → nat_lt a s.nodes ≡ b → (a == s.nodes) ≡ c → CountsBelow m (actor_in s past a)
+small_by s past a m true c small is at = rw is (small a (grind (arith, nat_tests)))
+small_by s past a m false true small is at = rw (is, at) tt
+small_by s past a m false false small is at = rw (is, at) tt
+
+below_more : (m n : ℕ) (counts : Numbers) → m ≤ n → AllBelow m counts → AllBelow n counts
+below_more m n counts le all v q = let both = all v q in (omega (arith, both.0), omega (arith, both.1))
+
+pub small_counts : (s : ScriptData) (past : List Entry) (a m : ℕ) → Sound s → StepRun s past → 65 * length past + 1 ≤ m → CountsBelow m (actor_in s past a)
+small_counts s past a m sound run le =
+    small_by s past a m (nat_lt a s.nodes) (a == s.nodes)
+    (λ p lt. below_more (65 * length past + 1) m (node_in s past p).counts le (small s past sound.valid sound.runnable run p lt)) refl refl
 
 self_true : (n : ℕ) → (n == n) ≡ true
 self_true n = grind (arith, nat_tests)
@@ -90,17 +112,14 @@ get_set_other (x ∷ xs) zero (suc j) v ne = refl
 get_set_other (x ∷ xs) (suc i) zero v ne = refl
 get_set_other (x ∷ xs) (suc i) (suc j) v ne = get_set_other xs i j v (λ is. ne (ap suc is))
 
--- what a step takes and gives
-pub record Stepped (s : ScriptData) (w : WorldData) (k : ℕ) (l : Letter) (st : ActorState) (out : List Outgoing) (done : List Act) (next : List ActorState) (left : List Letter) : Type 0 where
-  pub letter : slice_get w.bag k ≡ Some l
-  pub state : slice_get w.actors l.to.0 ≡ Some st
-  pub actors : next ≡ slice_set w.actors l.to.0 (actor_row s l st).state
-  pub sent : out ≡ (actor_row s l st).sent
-  pub acts : done ≡ (actor_row s l st).acts
-  pub bag : left ≡ remove w.bag k ++ sealed (length w.history + 1) l.to.0 0 out
-
 some_is : {X : Type 0} (x y : X) → Some x ≡ Some y → x ≡ y
 some_is x y is = cc
+
+-- what a step takes and gives: the addressee's state before and after, what it sent and did, and the bag then
+pub record Stepped (s : ScriptData) (w : WorldData) (k : ℕ) (l : Letter) (out : StepOut) (next : List ActorState) (left : List Letter) : Type 0 where
+  pub letter : slice_get w.bag k ≡ Some l
+  pub acted : Acted s l w.actors next out
+  pub bag : left ≡ remove w.bag k ++ sealed (length w.history + 1) l.to.0 0 out.sent
 
 pub found_in : (s : ScriptData) (w : WorldData) (k : ℕ) (l : Letter) → IsWorldOf s w → slice_get w.bag k ≡ Some l → Found (waiting s (reverse w.history)) k l
 found_in s w k l world at =
@@ -109,6 +128,11 @@ found_in s w k l world at =
 
 pub below : (s : ScriptData) (w : WorldData) (k : ℕ) (l : Letter) → IsWorldOf s w → Sound s → slice_get w.bag k ≡ Some l → l.to.0 < s.nodes + 2
 below s w k l world sound at = addressed s (reverse w.history) l sound world.run (found_in s w k l world at).found
+
+-- the step is the row of what the past says of its addressee
+row_is : (s : ScriptData) (past : List Entry) (l : Letter) (old next : List ActorState) (out : StepOut) → AreStatesOf s past old → (a : Acted s l old next out)
+    → made (data_of a.after) out ≡ actor_row s l (actor_in s past l.to.0)
+row_is s past l old next out states a = a.row ∙ ap (λ (d : ActorData). actor_row s l d) (states l.to.0 a.before a.there).seen
 
 may_follow : (s : ScriptData) (w : WorldData) (k : ℕ) (l : Letter) (sent : List Outgoing) (acts : List Act) → IsWorldOf s w → Sound s
     → slice_get w.bag k ≡ Some l
@@ -121,31 +145,44 @@ may_follow s w k l sent acts world sound at a b = record {
   moves = moves_by s (reverse w.history) l (length w.history + 1) sent acts (nat_lt l.to.0 s.nodes) (l.to.0 == s.nodes) refl refl (below s w k l world sound at) a b;
 }
 
-actors_next : (s : ScriptData) (past : List Entry) (l : Letter) (stamp : ℕ) (sent : List Outgoing) (acts : List Act) (old : List ActorState) (a : ℕ)
-    → length old ≡ s.nodes + 2 → l.to.0 < s.nodes + 2 → a < s.nodes + 2 → slice_get old a ≡ Some (actor_in s past a) → (b : Bool) → (l.to.0 == a) ≡ b
-    → slice_get (slice_set old l.to.0 (actor_row s l (actor_in s past l.to.0)).state) a ≡ Some (actor_in s (entry_of stamp l sent acts ∷ past) a)
-actors_next s past l stamp sent acts old a count to lt at true is =
+-- each actor's next state
+state_next : (s : ScriptData) (past : List Entry) (l : Letter) (stamp : ℕ) (sent : List Outgoing) (acts : List Act) (old : List ActorState) (after st : ActorState) (a : ℕ)
+    → length old ≡ s.nodes + 2 → l.to.0 < s.nodes + 2 → AreStatesOf s past old
+    → data_of after ≡ (actor_row s l (actor_in s past l.to.0)).state → IsFor s after
+    → slice_get (slice_set old l.to.0 after) a ≡ Some st → (b : Bool) → (l.to.0 == a) ≡ b → IsStateOf s (entry_of stamp l sent acts ∷ past) a st
+state_next s past l stamp sent acts old after st a count to states row script at true is =
     let eq : l.to.0 ≡ a = grind (arith, nat_tests) in
-    subst (λ (n : ℕ). slice_get (slice_set old l.to.0 (actor_row s l (actor_in s past l.to.0)).state) n ≡ Some (actor_in s (entry_of stamp l sent acts ∷ past) n)) eq
-    (get_set_same old l.to.0 (actor_row s l (actor_in s past l.to.0)).state (omega arith)
-    ∙ ap (λ (x : ActorState). Some x) (state_by s past l stamp sent acts (nat_lt l.to.0 s.nodes) (l.to.0 == s.nodes) refl refl to))
-actors_next s past l stamp sent acts old a count to lt at false is =
+    let here : slice_get (slice_set old l.to.0 after) a ≡ Some after =
+    subst (λ (n : ℕ). slice_get (slice_set old l.to.0 after) n ≡ Some after) eq (get_set_same old l.to.0 after (omega arith)) in
+    let same : after ≡ st = some_is after st (sym here ∙ at) in
+    subst (λ (y : ActorState). IsStateOf s (entry_of stamp l sent acts ∷ past) a y) same (record {
+      seen = subst (λ (n : ℕ). data_of after ≡ actor_in s (entry_of stamp l sent acts ∷ past) n) eq
+          (row ∙ state_by s past l stamp sent acts (nat_lt l.to.0 s.nodes) (l.to.0 == s.nodes) refl refl to);
+      script = script;
+    })
+state_next s past l stamp sent acts old after st a count to states row script at false is =
     let ne : l.to.0 ≢ a = grind (arith, nat_tests) in
-    get_set_other old l.to.0 a (actor_row s l (actor_in s past l.to.0)).state ne ∙ at
-    ∙ ap (λ (x : ActorState). Some x) (sym (others_by s past (entry_of stamp l sent acts) a (nat_lt a s.nodes) (a == s.nodes) refl refl lt ne))
+    let there : slice_get old a ≡ Some st = sym (get_set_other old l.to.0 a after ne) ∙ at in
+    let lt : a < s.nodes + 2 = omega (arith, get_below old a st there) in
+    record {
+      seen = (states a st there).seen ∙ sym (others_by s past (entry_of stamp l sent acts) a (nat_lt a s.nodes) (a == s.nodes) refl refl lt ne);
+      script = (states a st there).script;
+    }
 
-pub next_world : (s : ScriptData) (w : WorldData) (k : ℕ) (l : Letter) (st : ActorState) (sent : List Outgoing) (acts : List Act) (actors : List ActorState) (bag : List Letter)
-    → IsWorldOf s w → Sound s → Stepped s w k l st sent acts actors bag
-    → IsWorldOf s (record { actors = actors; bag = bag; history = w.history ++ entry_of (length w.history + 1) l sent acts ∷ [] })
-next_world s w k l st sent acts actors bag world sound step =
+pub next_world : (s : ScriptData) (w : WorldData) (k : ℕ) (l : Letter) (out : StepOut) (actors : List ActorState) (bag : List Letter)
+    → IsWorldOf s w → Sound s → Stepped s w k l out actors bag
+    → IsWorldOf s (record { actors = actors; bag = bag; history = w.history ++ entry_of (length w.history + 1) l out.sent out.acts ∷ [] })
+next_world s w k l out actors bag world sound step =
     let past = reverse w.history in
-    let e = entry_of (length w.history + 1) l sent acts in
+    let e = entry_of (length w.history + 1) l out.sent out.acts in
     let to : l.to.0 < s.nodes + 2 = below s w k l world sound step.letter in
-    let is : st ≡ actor_in s past l.to.0 = some_is st (actor_in s past l.to.0) (sym step.state ∙ world.actors l.to.0 to) in
+    let acted = step.acted in
+    let row : made (data_of acted.after) out ≡ actor_row s l (actor_in s past l.to.0) = row_is s past l w.actors actors out world.actors acted in
     let back : reverse (w.history ++ e ∷ []) ≡ e ∷ past = reverse-append w.history (e ∷ []) in
     record {
-      run = rw back (may_follow s w k l sent acts world sound step.letter (step.sent ∙ ap (λ (x : ActorState). (actor_row s l x).sent) is) (step.acts ∙ ap (λ (x : ActorState). (actor_row s l x).acts) is), world.run);
-      count = ap (length {A = ActorState}) step.actors ∙ length-set w.actors l.to.0 (actor_row s l st).state ∙ world.count;
-      actors = λ a lt. rw (back, step.actors, is) (actors_next s past l (length w.history + 1) sent acts w.actors a world.count to lt (world.actors a lt) (l.to.0 == a) refl);
+      run = rw back (may_follow s w k l out.sent out.acts world sound step.letter (ap (λ (o : Out ActorData). o.sent) row) (ap (λ (o : Out ActorData). o.acts) row), world.run);
+      count = ap (length {A = ActorState}) acted.set ∙ length-set w.actors l.to.0 acted.after ∙ world.count;
+      actors = rw (back, acted.set) (λ a st at. state_next s past l (length w.history + 1) out.sent out.acts w.actors acted.after st a world.count to world.actors
+          (ap (λ (o : Out ActorData). o.state) row) acted.script at (l.to.0 == a) refl);
       bag = step.bag ∙ rw (back, world.bag, (found_in s w k l world step.letter).left) refl;
     }

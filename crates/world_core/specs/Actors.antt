@@ -1,43 +1,76 @@
 -- The actors' tables as one, and what a world keeps.
-use Rattle.std.specs.Prelude.{if◌then◌else◌, ℕ, zero, suc, ◌==◌, ◌+◌, ◌<◌, ◌≡◌, nat_lt, List, [], ◌∷◌, ◌++◌, length, reverse, Some, slice_get}
+use Rattle.std.specs.Prelude.{if◌then◌else◌, ℕ, ◌==◌, ◌+◌, ◌<◌, ◌≡◌, nat_lt, List, [], ◌∷◌, ◌++◌, length, reverse, Some, slice_get, slice_set}
+use Rattle.client_rows.specs.Client.{Client as ClientTable}
+use Rattle.client_rows.specs.Kept.{IsKeptOf}
 use Rattle.letter_types.specs.declared.entries.Letter.{Letter}
 use Rattle.letter_types.specs.declared.entries.Entry.{Entry}
+use Rattle.letter_types.specs.declared.entries.StepOut.{StepOut}
+use Rattle.letter_types.specs.Steps.{Out, still, made}
+use Rattle.pair_counters.specs.Numbers.{AllBelow}
+use Rattle.pair_counters.specs.Rows.{counts_of}
+use Rattle.tree_step.specs.Node.{Node as NodeTable}
 use Rattle.tx_trees.specs.ScriptData.{ScriptData}
-use Rattle.world_model.specs.Tables.{Node as NodeData, Client as ClientData}
 use Rattle.world_model.specs.Runs.{StepRun, waiting, node_in, client_in, node_table, client_table}
-use Rattle.world_core.specs.declared.actor.Coordinator.TheVariants as coordinators
 use Rattle.world_core.specs.declared.actor.ActorState.{ActorState}
 use Rattle.world_core.specs.declared.actor.ActorState.TheVariants.{Node, Coordinator, Client}
-use Rattle.letter_types.specs.Steps.{Out, still}
+use Rattle.world_core.specs.Nodes.{node_data}
 
-abbrev pub at_node : Out NodeData → Out ActorState
-at_node out = record { state = Node out.state; sent = out.sent; acts = out.acts }
+-- an actor as its table sees it
+pub data ActorData : Type 0 where
+  NodeData : NodeTable → ActorData
+  CoordinatorData : ActorData
+  ClientData : ClientTable → ActorData
 
-abbrev pub at_client : Out ClientData → Out ActorState
-at_client out = record { state = Client out.state; sent = out.sent; acts = out.acts }
+-- a state as its table sees it
+abbrev pub data_of : ActorState → ActorData
+data_of (Node n) = NodeData (node_data n)
+data_of (Coordinator c) = CoordinatorData
+data_of (Client c) = ClientData c.client
+
+abbrev pub at_node : Out NodeTable → Out ActorData
+at_node out = record { state = NodeData out.state; sent = out.sent; acts = out.acts }
+
+abbrev pub at_client : Out ClientTable → Out ActorData
+at_client out = record { state = ClientData out.state; sent = out.sent; acts = out.acts }
 
 -- what an actor does with a letter that is addressed to it
-abbrev pub actor_row : ScriptData → Letter → ActorState → Out ActorState
-actor_row s l (Node st) = at_node (node_table s l.to.0 st l)
-actor_row s l (Coordinator c) = still (Coordinator c)
-actor_row s l (Client c) = at_client (client_table s c l)
+abbrev pub actor_row : ScriptData → Letter → ActorData → Out ActorData
+actor_row s l (NodeData st) = at_node (node_table s l.to.0 st l)
+actor_row s l CoordinatorData = still CoordinatorData
+actor_row s l (ClientData c) = at_client (client_table s c l)
 
 -- a letter for a node is addressed to one of the script's
-abbrev pub IsAddressed : ScriptData → Letter → ActorState → Type 0
-IsAddressed s l (Node st) = l.to.0 < s.nodes
-IsAddressed s l (Coordinator c) = Unit {0}
-IsAddressed s l (Client c) = Unit {0}
+abbrev pub IsAddressed : ScriptData → Letter → ActorData → Type 0
+IsAddressed s l (NodeData st) = l.to.0 < s.nodes
+IsAddressed s l CoordinatorData = Unit {0}
+IsAddressed s l (ClientData c) = Unit {0}
+
+-- each number that a node counts is below m
+abbrev pub CountsBelow : ℕ → ActorData → Type 0
+CountsBelow m (NodeData st) = AllBelow m st.counts
+CountsBelow m CoordinatorData = Unit {0}
+CountsBelow m (ClientData c) = Unit {0}
+
+-- a state of the script: a node counts by the script's nodes, and a client goes over its rows
+abbrev pub IsFor : ScriptData → ActorState → Type 0
+IsFor s (Node n) = (counts_of n.counters).nodes ≡ s.nodes
+IsFor s (Coordinator c) = Unit {0}
+IsFor s (Client c) = IsKeptOf s c
 
 -- actor a after a past: the nodes, then the coordinator, then the client
-abbrev pub actor_in : ScriptData → List Entry → ℕ → ActorState
+abbrev pub actor_in : ScriptData → List Entry → ℕ → ActorData
 actor_in s past a =
-    if nat_lt a s.nodes then Node (node_in s past a)
-    else if a == s.nodes then Coordinator coordinators.Resting else Client (client_in s past)
+    if nat_lt a s.nodes then NodeData (node_in s past a)
+    else if a == s.nodes then CoordinatorData else ClientData (client_in s past)
 
--- actors 0 to n - 1 after a past
-abbrev pub actors_from : ScriptData → List Entry → ℕ → List ActorState
-actors_from s past zero = []
-actors_from s past (suc n) = actors_from s past n ++ actor_in s past n ∷ []
+-- the state of actor a after a past
+pub record IsStateOf (s : ScriptData) (past : List Entry) (a : ℕ) (st : ActorState) : Type 0 where
+  pub seen : data_of st ≡ actor_in s past a
+  pub script : IsFor s st
+
+-- the states of the actors after a past, by number
+abbrev pub AreStatesOf : ScriptData → List Entry → List ActorState → Type 0
+AreStatesOf s past actors = (a : ℕ) (st : ActorState) → slice_get actors a ≡ Some st → IsStateOf s past a st
 
 pub record WorldData : Type 0 where
   pub actors : List ActorState
@@ -51,9 +84,24 @@ world_of actors bag history = record { actors = actors; bag = bag; history = his
 pub record IsWorldOf (s : ScriptData) (w : WorldData) : Type 0 where
   pub run : StepRun s (reverse w.history)
   pub count : length w.actors ≡ s.nodes + 2
-  pub actors : (a : ℕ) → a < s.nodes + 2 → slice_get w.actors a ≡ Some (actor_in s (reverse w.history) a)
+  pub actors : AreStatesOf s (reverse w.history) w.actors
   pub bag : w.bag ≡ waiting s (reverse w.history)
 
 -- letter k of the bag was taken: there is one entry more, and it took this letter
 abbrev pub TookLetter : ℕ → WorldData → WorldData → Type 0
 TookLetter k old new = (e : Entry) × (new.history ≡ old.history ++ e ∷ []) × (slice_get old.bag k ≡ Some e.took)
+
+-- an actor may take a letter: it is addressed to it, of its script, and the numbers that it counts are small
+pub record MayTake (s : ScriptData) (l : Letter) (m : ℕ) (st : ActorState) : Type 0 where
+  pub addressed : IsAddressed s l (data_of st)
+  pub script : IsFor s st
+  pub small : CountsBelow m (data_of st)
+
+-- the addressee of a letter made its step, with these letters and acts, and the other actors stay
+pub record Acted (s : ScriptData) (l : Letter) (old new : List ActorState) (out : StepOut) : Type 0 where
+  pub before : ActorState
+  pub after : ActorState
+  pub there : slice_get old l.to.0 ≡ Some before
+  pub set : new ≡ slice_set old l.to.0 after
+  pub row : made (data_of after) out ≡ actor_row s l (data_of before)
+  pub script : IsFor s after

@@ -1,11 +1,10 @@
 // The actors as one, and their steps.
-ghost use Rattle.std.specs.Prelude.{◌≡◌, ◌<◌, ◌+◌, [], IfOk, OnErr};
-ghost use Rattle.world_core.specs.Actors.{actor_in, actor_row, IsAddressed};
-ghost use Rattle.world_core.specs.Parts.{made};
+ghost use Rattle.std.specs.Prelude.{◌≡◌, ◌<◌, ◌+◌, ◌^◌, [], IfOk, OnOk, OnErr};
+ghost use Rattle.letter_types.specs.Steps.{made};
+ghost use Rattle.world_core.specs.Actors.{actor_row, CountsBelow, data_of, IsAddressed, IsFor, IsStateOf};
 
-use crate::client::Client;
-use crate::letters;
 use crate::node::NodeState;
+use client_rows::Client;
 use letter_types::{Letter, Step};
 use std::alloc::Global;
 use tv_base::{ActorNo, NoMemory, NodeNo};
@@ -33,7 +32,7 @@ impl ActorState {
     /// The actor of this number as a run of the script begins.
     pub fn start(alloc: Global, script: &Script, actor: ActorNo) -> Result<ActorState, NoMemory>
         requires { actor.0 < script.now.nodes + 2 }
-        ensures { IfOk result (λ state. state ≡ actor_in script.now [] actor.0) }
+        ensures { IfOk result (IsStateOf script.now [] actor.0) }
     {
         let nodes = script.nodes();
         if actor.0 < nodes {
@@ -42,32 +41,29 @@ impl ActorState {
         if actor.0 == nodes {
             return Ok(ActorState::Coordinator(Coordinator::Resting));
         }
-        Ok(ActorState::Client(Client::start()))
+        Ok(ActorState::Client(Client::new(alloc, script)?))
     }
 }
 
-/// What an actor does with a letter that is addressed to it: its row of its table. After want of memory the actor is
-/// as it was.
+/// What an actor does with a letter that is addressed to it: its row of its table. A letter that has no row changes and
+/// sends nothing. After want of memory the actor is as it was.
 pub fn actor_step(
     alloc: Global,
     state: &mut ActorState,
     letter: &Letter,
     script: &Script,
 ) -> Result<Step, NoMemory>
-    requires { IsAddressed script.now letter.now state.old }
-    ensures row { IfOk result (λ step. made state.new step.given ≡ actor_row script.now letter.now state.old) }
+    requires addressed { IsAddressed script.now letter.now (data_of state.old) }
+    requires script { IsFor script.now state.old }
+    requires small { CountsBelow (2 ^ 62) (data_of state.old) }
+    ensures row { IfOk result (λ step. made (data_of state.new) step.given ≡ actor_row script.now letter.now (data_of state.old)) }
     ensures kept { IfOk result (λ step. step.kept ≡ step.given) }
+    ensures script { OnOk result (IsFor script.now state.new) }
     ensures err { OnErr result (state.new ≡ state.old) }
 {
     match state {
-        ActorState::Node(node) => node.step(
-            alloc,
-            script,
-            NodeNo(letter.to.0),
-            letter.from,
-            &letter.body,
-        ),
-        ActorState::Coordinator(_) => Ok(letters::still(alloc)),
-        ActorState::Client(client) => client.step(alloc, script, &letter.body),
+        ActorState::Node(node) => node.step(alloc, letter, script),
+        ActorState::Coordinator(_) => Ok(Step::still(alloc)),
+        ActorState::Client(client) => client.on(alloc, script, &letter.body),
     }
 }

@@ -2,16 +2,10 @@
 #![tactic(auto)]
 
 mod actor;
-mod client;
-mod letters;
-mod lookups;
 mod node;
 mod world;
 
 pub use actor::{ActorState, Coordinator, actor_step};
-pub use client::Client;
 pub use node::NodeState;
 pub use world::World;
 
-#[cfg(test)]
-mod tests;

@@ -1,10 +1,10 @@
 // A world: all actors, the letters under way, and the history so far.
-ghost use Rattle.std.specs.Prelude.{◌≡◌, ◌<◌, ◌≤◌, ◌+◌, ◌-◌, ◌^◌, ◌++◌, ◌∷◌, [], length, slice_get, slice_set, IfOk, IfSome, OnOk, OnErr, Some};
+ghost use Rattle.std.specs.Prelude.{◌≡◌, ◌<◌, ◌≤◌, ◌+◌, ◌-◌, ◌^◌, ◌++◌, [], length, slice_get, slice_set, IfOk, IfSome, OnOk, OnErr, Some};
 ghost use Rattle.std.specs.List.{remove};
 ghost use Rattle.std.specs.VecDeque.{deque_len, deque_capacity};
 ghost use Rattle.letter_types.specs.Letters.{go, sealed};
 ghost use Rattle.world_model.specs.Tables.{Runnable};
-ghost use Rattle.world_core.specs.Actors.{IsAddressed, IsWorldOf, TookLetter, actor_row, actors_from, world_of};
+ghost use Rattle.world_core.specs.Actors.{Acted, AreStatesOf, IsWorldOf, MayTake, TookLetter, world_of};
 
 use crate::actor::{ActorState, actor_step};
 use letter_types::{Acts, Body, Entry, History, Letter, LetterId, Letters, Step, StepOut};
@@ -59,7 +59,8 @@ fn placeholder(alloc: Global, stamp: Stamp) -> Entry {
 
 /// The actors of a script as a run begins.
 fn first_actors(alloc: Global, script: &Script) -> Result<Vec<ActorState>, NoMemory>
-    ensures { IfOk result (λ actors. actors.items ≡ actors_from script.now [] (script.now.nodes + 2)) }
+    ensures count { IfOk result (λ actors. length actors.items ≡ script.now.nodes + 2) }
+    ensures states { IfOk result (λ actors. AreStatesOf script.now [] actors.items) }
 {
     let count = script.nodes() + 2;
     let mut actors = Vec::new(alloc);
@@ -94,10 +95,8 @@ fn act(
     letter: &Letter,
 ) -> Result<Step, NoMemory>
     requires here { letter.now.to.0 < length actors.old.items }
-    requires addressed { IfSome (slice_get actors.old.items letter.now.to.0) (λ st. IsAddressed script.now letter.now st) }
-    ensures actors { IfOk result (λ step. IfSome (slice_get actors.old.items letter.now.to.0) (λ st. actors.new.items ≡ slice_set actors.old.items letter.now.to.0 (actor_row script.now letter.now st).state)) }
-    ensures sent { IfOk result (λ step. IfSome (slice_get actors.old.items letter.now.to.0) (λ st. step.given.sent ≡ (actor_row script.now letter.now st).sent)) }
-    ensures acts { IfOk result (λ step. IfSome (slice_get actors.old.items letter.now.to.0) (λ st. step.given.acts ≡ (actor_row script.now letter.now st).acts)) }
+    requires may { IfSome (slice_get actors.old.items letter.now.to.0) (MayTake script.now letter.now (2 ^ 62)) }
+    ensures acted { IfOk result (λ step. Acted script.now letter.now actors.old.items actors.new.items step.given) }
     ensures kept { IfOk result (λ step. step.kept ≡ step.given) }
     ensures err { OnErr result (actors.new.items ≡ actors.old.items) }
 {
@@ -173,7 +172,7 @@ fn advance(
 {
     let _valid = script.nodes();
     let stamp = Stamp(history.items().len() as u64 + 1);
-    let room = script.rows().len() + 64;
+    let room = script.rows().len() + 65;
     bag.reserve(room)?;
     history.push(placeholder(alloc, stamp))?;
     match act(alloc, script, actors, letter_at(bag, k)) {

@@ -1,7 +1,7 @@
 use Rattle.std.proofs.Common.{◌≡◌, ◌-◌, ◌<◌, ℕ, List, length, get_or, ap, sym, ◌∙◌, arith, suc, true, false, Bool, refl}
-use Rattle.std.specs.Prelude.{◌&&◌, Some}
+use Rattle.std.specs.Prelude.{◌&&◌}
 use Rattle.tx_trees.specs.ScriptData.{is_strict}
-use Rattle.tx_trees.specs.Adding.{has_touched, last_of, touch}
+use Rattle.tx_trees.specs.Adding.{has_touched, touch}
 use Rattle.tx_trees.specs.declared.parts.Tree.{Tree}
 use Rattle.tx_trees.proofs.Last.{last_at}
 use Rattle.tx_trees.proofs.counts.has_touched.Goals as goal

@@ -1,4 +1,4 @@
-use Rattle.std.proofs.Common.{◌≡◌, ◌+◌, ◌-◌, ◌≤◌, ap, sym, ◌∙◌, subst, arith, List, [], ◌∷◌, ◌++◌, length, Some}
+use Rattle.std.proofs.Common.{◌≡◌, ◌+◌, ◌-◌, ◌^◌, ◌≤◌, ap, sym, ◌∙◌, subst, arith, List, [], ◌∷◌, ◌++◌, length, Some}
 use Rattle.std.specs.Prelude.{slice_get, slice_set, IfSome}
 use Rattle.std.specs.List.{remove}
 use Rattle.tv_base.specs.declared.numbers.Stamp.{Stamp}
@@ -7,7 +7,7 @@ use Rattle.letter_types.specs.declared.entries.Letter.{Letter}
 use Rattle.letter_types.specs.declared.entries.Entry.{Entry}
 use Rattle.tx_trees.specs.declared.parts.ScriptRow.{ScriptRow}
 use Rattle.world_core.specs.Actors.{world_of}
-use Rattle.world_core.proofs.Events.{is_here, is_addressed, has_room, Event, event_world, event_took, event_count}
+use Rattle.world_core.proofs.Events.{is_here, may_take, has_room, Event, event_world, event_took, event_count}
 use Rattle.world_core.proofs.world.advance.Goals as goal
 
 pub act-requires-clause-here : goal.act-requires-clause-here
@@ -15,16 +15,16 @@ act-requires-clause-here c =
     let at : slice_get c.args.bag.now.items c.args.k ≡ Some c.letter_at.result.now = ap (λ (ls : List Letter). slice_get ls c.args.k) (sym c.in_ok-reserve.ensures.items) ∙ c.letter_at.ensures in
     is_here _ _ _ _ c.requires.world (record { valid = c.nodes-valid.ensures.valid; runnable = c.requires.runnable }) at
 
-pub act-requires-clause-addressed : goal.act-requires-clause-addressed
-act-requires-clause-addressed c =
+pub act-requires-clause-may : goal.act-requires-clause-may
+act-requires-clause-may c =
     let at : slice_get c.args.bag.now.items c.args.k ≡ Some c.letter_at.result.now = ap (λ (ls : List Letter). slice_get ls c.args.k) (sym c.in_ok-reserve.ensures.items) ∙ c.letter_at.ensures in
-    is_addressed _ _ _ _ c.requires.world (record { valid = c.nodes-valid.ensures.valid; runnable = c.requires.runnable }) at
+    let few : length c.args.history.now ≤ 2 ^ 40 = c.items.ensures.limit in
+    may_take _ _ _ _ _ c.requires.world (record { valid = c.nodes-valid.ensures.valid; runnable = c.requires.runnable }) (omega (arith, few)) at
 
 pub finish-requires-clause-room : goal.finish-requires-clause-room
 finish-requires-clause-room c =
-    let at : slice_get c.args.bag.now.items c.args.k ≡ Some c.letter_at.result.now = ap (λ (ls : List Letter). slice_get ls c.args.k) (sym c.in_ok-reserve.ensures.items) ∙ c.letter_at.ensures in
-    let few : length c.in-Ok.step.given.sent ≤ length c.args.script.now.rows + 64 =
-    has_room _ _ _ _ _ c.requires.world (record { valid = c.nodes-valid.ensures.valid; runnable = c.requires.runnable }) at c.in-Ok.ensures.sent in
+    let few : length c.in-Ok.step.given.sent ≤ length c.args.script.now.rows + 65 =
+    has_room _ _ _ _ _ (record { valid = c.nodes-valid.ensures.valid; runnable = c.requires.runnable }) c.in-Ok.ensures.acted in
     omega (arith, few, c.in_ok-reserve.ensures.ok, ap (length {A = ScriptRow}) c.rows.ensures)
 
 event : (c : goal.After-finish) → Event c.args.script.now (world_of c.args.actors.now.items c.args.bag.now.items c.args.history.now) c.args.k c.letter_at.result.now
@@ -36,9 +36,7 @@ event c =
     let stamp : Stamp = record { 0 = length c.items.result.now + 1 } in
     record {
       letter = ap (λ (ls : List Letter). slice_get ls c.args.k) (sym same) ∙ c.letter_at.ensures;
-      actors = c.in-Ok.ensures.actors;
-      sent = c.in-Ok.ensures.sent;
-      acts = c.in-Ok.ensures.acts;
+      acted = c.in-Ok.ensures.acted;
       same = c.in-Ok.ensures.kept;
       stamp_is = omega (arith, ap (length {A = Entry}) c.items.ensures.items);
       bag = subst (λ (ls : List Letter). IfSome (slice_get ls c.args.k) (λ m. c.finish.new.bag.items ≡ remove ls c.args.k ++ sealed stamp.0 m.to.0 0 step.given.sent)) same c.finish.ensures.bag;

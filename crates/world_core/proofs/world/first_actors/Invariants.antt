@@ -1,6 +1,9 @@
-use Rattle.std.proofs.Common.{◌≡◌, []}
-use Rattle.world_core.specs.Actors.{actors_from}
+use Rattle.std.proofs.Common.{◌≡◌, [], length}
+use Rattle.world_core.specs.Actors.{AreStatesOf}
 use Rattle.world_core.proofs.world.first_actors.Given as goal
 
 abbrev pub invariant-loop-actor : goal.invariant-loop-actor
-invariant-loop-actor l = l.actors.items ≡ actors_from l.script [] l.actor
+invariant-loop-actor l = record {
+  count : length l.actors.items ≡ l.actor;
+  states : AreStatesOf l.script [] l.actors.items;
+}

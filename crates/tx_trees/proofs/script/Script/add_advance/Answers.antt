@@ -1,4 +1,4 @@
-use Rattle.std.proofs.Common.{arith, ◌≡◌, refl}
+use Rattle.std.proofs.Common.{arith, refl}
 use Rattle.tx_trees.proofs.Kept.{kept_advance}
 use Rattle.tx_trees.proofs.script.Script.add_advance.Goals as goal
 

@@ -1,4 +1,3 @@
-use Rattle.std.proofs.Common.{arith, ◌≡◌, refl}
 use Rattle.tx_trees.proofs.Kept.{kept_settle}
 use Rattle.tx_trees.proofs.script.Script.add_settle.Goals as goal
 

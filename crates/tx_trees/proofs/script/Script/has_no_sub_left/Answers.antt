@@ -1,4 +1,4 @@
-use Rattle.std.proofs.Common.{◌≡◌, ◌<◌, ◌≤◌, arith}
+use Rattle.std.proofs.Common.{arith}
 use Rattle.tx_trees.proofs.Kept.{few_updates, one_update_small}
 use Rattle.tx_trees.proofs.script.Script.has_no_sub_left.Goals as goal
 

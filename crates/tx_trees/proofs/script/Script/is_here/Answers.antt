@@ -1,4 +1,4 @@
-use Rattle.std.proofs.Common.{◌≡◌, ◌<◌, ap, subst, sym, arith, true}
+use Rattle.std.proofs.Common.{◌≡◌, ap, subst, sym, arith, true}
 use Rattle.tx_trees.specs.ScriptData.{ScriptData}
 use Rattle.tx_trees.specs.Adding.{last_subs}
 use Rattle.tx_trees.proofs.Stays.{some_last_subs}

@@ -1,5 +1,5 @@
-use Rattle.std.proofs.Common.{arith, ◌∙◌, ◌≡◌, ap, List, ℕ, ◌++◌, ◌∷◌, [], subst, sym}
-use Rattle.std.specs.Prelude.{is_some, unsigned_abs}
+use Rattle.std.proofs.Common.{arith, ◌∙◌, ap, List, ℕ, ◌++◌, ◌∷◌, [], subst, sym}
+use Rattle.std.specs.Prelude.{is_some}
 use Rattle.std.specs.List.{list_any}
 use Rattle.std.specs.Str.{bytes_eq}
 use Rattle.tx_trees.specs.declared.parts.ItemRow.{ItemRow}

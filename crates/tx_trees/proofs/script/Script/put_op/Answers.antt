@@ -1,4 +1,4 @@
-use Rattle.std.proofs.Common.{arith, length, get_or, ap, ◌≡◌, ◌<◌, ◌+◌, ◌∙◌, true, sym, refl, subst}
+use Rattle.std.proofs.Common.{arith, length, get_or, ◌≡◌, ◌<◌, ◌+◌, sym, refl, subst}
 use Rattle.tx_trees.specs.ScriptData.{ScriptData}
 use Rattle.tx_trees.specs.Amounts.{magnitude}
 use Rattle.tx_trees.specs.Counts.{one_put}

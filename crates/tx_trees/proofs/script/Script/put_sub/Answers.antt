@@ -1,4 +1,4 @@
-use Rattle.std.proofs.Common.{arith, ℕ, [], ap, ◌≡◌, ◌<◌, ◌≤◌, ◌+◌, subst, sym, refl, ◌∙◌}
+use Rattle.std.proofs.Common.{arith, ℕ, ap, ◌≡◌, ◌+◌, subst, sym, refl, ◌∙◌}
 use Rattle.tx_trees.specs.ScriptData.{ScriptData}
 use Rattle.tx_trees.specs.Adding.{last_kind}
 use Rattle.tx_trees.specs.Counts.{if_update}

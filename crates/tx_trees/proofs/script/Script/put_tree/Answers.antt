@@ -1,7 +1,6 @@
-use Rattle.std.proofs.Common.{arith, length, ◌∙◌, ap, List, ℕ, ◌+◌, ◌++◌, ◌∷◌, [], ◌≡◌, ◌≤◌, subst, sym, refl}
+use Rattle.std.proofs.Common.{arith, length, ◌∙◌, ap, List, ℕ, ◌+◌, ◌++◌, ◌∷◌, [], ◌≡◌, subst, sym, refl}
 use Rattle.std.specs.List.{list_any}
 use Rattle.std.specs.Str.{bytes_eq}
-use Rattle.tv_base.specs.declared.numbers.TreeNo.{TreeNo}
 use Rattle.tx_trees.specs.ScriptData.{ScriptData}
 use Rattle.tx_trees.specs.declared.parts.ScriptRow.{ScriptRow}
 use Rattle.tx_trees.specs.declared.parts.ScriptRow.TheVariants as rows
