@@ -1,10 +1,10 @@
 // Texts of the program's own: the lines on standard error, the help and the version.
 ghost use Rattle.std.specs.Prelude.{◌≡◌, IfOk, string_bytes};
-ghost use Rattle.threev_top.specs.Texts.{row_line, why_name};
+ghost use Rattle.threev_top.specs.Texts.{row_line};
+ghost use Rattle.tx_trees.specs.Why.{why_name};
 
 use script_reader::ScriptFault;
 use std::alloc::{AllocError, Global};
-use tx_trees::Why;
 
 /// What `--help` writes.
 pub(crate) const HELP: &[u8] =
@@ -30,38 +30,17 @@ rows of a script, comma separated:
   nodes,N                        the number of nodes, 1 to 16; the first row
   item,NAME,NODE,KIND,INITIAL    an item of kind sum, top or bag
   update,NAME,NODE               begins an update tree with its root at NODE
+  read,NAME,NODE                 begins a read tree with its root at NODE
   sub,PARENT,NODE                the next subtransaction of the tree
   add,ITEM,AMOUNT                adds an amount to a sum
+  top,ITEM,AMOUNT                raises a top to at least an amount
+  put,ITEM,AMOUNT                puts a number into a bag
+  get,ITEM                       reads an item
+  settle                         waits until all before it has ended
 ";
 
 /// What `--version` writes.
 pub(crate) const VERSION: &[u8] = b"threev 0.1.0\n";
-
-/// The name of a reason.
-fn why_name(why: Why) -> &'static str
-    ensures { result.now ≡ why_name why }
-{
-    match why {
-        Why::TooLong => "TooLong",
-        Why::UnknownRow => "UnknownRow",
-        Why::WrongFields => "WrongFields",
-        Why::NodesFirst => "NodesFirst",
-        Why::NodesTwice => "NodesTwice",
-        Why::BadNumber => "BadNumber",
-        Why::OutOfRange => "OutOfRange",
-        Why::BadName => "BadName",
-        Why::NameTaken => "NameTaken",
-        Why::UnknownItem => "UnknownItem",
-        Why::NoTree => "NoTree",
-        Why::BadParent => "BadParent",
-        Why::WrongNode => "WrongNode",
-        Why::WrongKind => "WrongKind",
-        Why::TooMany => "TooMany",
-        Why::TooMuch => "TooMuch",
-        Why::ItemTwice => "ItemTwice",
-        Why::NotBuilt => "NotBuilt",
-    }
-}
 
 /// The line of a refused script, from plain parts.
 fn line_of(alloc: Global, row: u32, name: &str) -> Result<String, AllocError>
@@ -74,5 +53,5 @@ fn line_of(alloc: Global, row: u32, name: &str) -> Result<String, AllocError>
 pub(crate) fn fault_line(alloc: Global, fault: ScriptFault) -> Result<String, AllocError>
     ensures { IfOk result (λ line. string_bytes line ≡ row_line fault.row (why_name fault.why)) }
 {
-    line_of(alloc, fault.row, why_name(fault.why))
+    line_of(alloc, fault.row, fault.why.name())
 }
