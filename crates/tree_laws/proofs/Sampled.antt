@@ -1,7 +1,10 @@
 -- Two small valid scripts, one of them with a read, have runs to the end.
 use Rattle.std.proofs.Common.{ℕ, zero, suc, ◌<◌, ◌≤◌, refl, arith}
 use Rattle.commute_ops.specs.declared.kinds.TheConstants.{MOST_AMOUNT}
-use Rattle.tx_trees.specs.Valid.{IsValid, load}
+use Rattle.std.specs.List.{IsDistinct}
+use Rattle.std.specs.Str.{bytes_eq}
+use Rattle.tx_trees.specs.Counts.{trees_puts}
+use Rattle.tx_trees.specs.Valid.{IsLimited, IsValid, item_names, load, tree_names}
 use Rattle.world_model.specs.Runs.{StepRun, AtNode, AtCoordinator, AtClient}
 use Rattle.world_model.specs.Sample.{sample, small, with_read}
 use Rattle.world_model.specs.Tables.{Runnable}
@@ -11,27 +14,63 @@ small_loads zero lt = omega arith
 small_loads (suc zero) lt = omega arith
 small_loads (suc (suc x)) lt = absurd (omega arith)
 
+small_puts : (x : ℕ) → x < 2 → trees_puts x small.trees ≤ 64
+small_puts zero lt = omega arith
+small_puts (suc zero) lt = omega arith
+small_puts (suc (suc x)) lt = absurd (omega arith)
+
+small_limited : IsLimited small
+small_limited = record {
+  subs = omega arith;
+  ops = omega arith;
+  puts = small_puts;
+  advances = omega arith;
+  strict = omega arith;
+  pairs = omega arith;
+}
+
+-- names that are apart
+items_apart : IsDistinct bytes_eq (item_names small.items)
+unfolding IsDistinct
+items_apart = ((refl, tt), (tt, tt))
+
+one_apart : IsDistinct bytes_eq (tree_names small.trees)
+unfolding IsDistinct
+one_apart = (tt, tt)
+
+two_apart : IsDistinct bytes_eq (tree_names with_read.trees)
+unfolding IsDistinct
+two_apart = ((refl, tt), (tt, tt))
+
 pub small_valid : IsValid small
 small_valid = record {
   some_nodes = omega arith;
   few_nodes = omega arith;
   few_items = omega arith;
   few_trees = omega arith;
-  items = (record { node = omega arith; bag = λ is. absurd (cc is) }, (record { node = omega arith; bag = λ is. absurd (cc is) }, tt));
+  items = (
+    record { node = omega arith; bag = λ is. absurd (cc is); name = refl; small = omega arith },
+    (record { node = omega arith; bag = λ is. absurd (cc is); name = refl; small = omega arith }, tt),
+  );
   trees = (
     record {
       root = omega arith;
       few = omega arith;
       subs = (
-        record { root = λ is. refl; parent = λ lt. absurd (omega arith); node = omega arith; few = omega arith; ops = ((refl, refl), tt) },
-        (record { root = λ is. refl; parent = λ lt. omega arith; node = omega arith; few = omega arith; ops = ((refl, refl), tt) }, tt),
+        record { root = λ is. refl; parent = λ lt. absurd (omega arith); node = omega arith; few = omega arith; ops = ((refl, refl), tt); amounts = (refl, tt) },
+        (record { root = λ is. refl; parent = λ lt. omega arith; node = omega arith; few = omega arith; ops = ((refl, refl), tt); amounts = (refl, tt) }, tt),
       );
+      name = refl;
+      once = λ is. absurd (cc is);
     },
     tt,
   );
   loads = small_loads;
   rows = (refl, refl);
   begun = λ is. absurd (cc is);
+  distinct_items = items_apart;
+  distinct_trees = one_apart;
+  limited = small_limited;
 }
 
 pub small_runnable : Runnable small
@@ -61,6 +100,21 @@ read_loads zero lt = omega arith
 read_loads (suc zero) lt = omega arith
 read_loads (suc (suc x)) lt = absurd (omega arith)
 
+read_puts : (x : ℕ) → x < 2 → trees_puts x with_read.trees ≤ 64
+read_puts zero lt = omega arith
+read_puts (suc zero) lt = omega arith
+read_puts (suc (suc x)) lt = absurd (omega arith)
+
+read_limited : IsLimited with_read
+read_limited = record {
+  subs = omega arith;
+  ops = omega arith;
+  puts = read_puts;
+  advances = omega arith;
+  strict = omega arith;
+  pairs = omega arith;
+}
+
 pub read_valid : IsValid with_read
 read_valid = record {
   some_nodes = omega arith;
@@ -75,9 +129,11 @@ read_valid = record {
         root = omega arith;
         few = omega arith;
         subs = (
-          record { root = λ is. refl; parent = λ lt. absurd (omega arith); node = omega arith; few = omega arith; ops = ((refl, refl), tt) },
-          (record { root = λ is. refl; parent = λ lt. omega arith; node = omega arith; few = omega arith; ops = ((refl, refl), tt) }, tt),
+          record { root = λ is. refl; parent = λ lt. absurd (omega arith); node = omega arith; few = omega arith; ops = ((refl, refl), tt); amounts = (refl, tt) },
+          (record { root = λ is. refl; parent = λ lt. omega arith; node = omega arith; few = omega arith; ops = ((refl, refl), tt); amounts = (refl, tt) }, tt),
         );
+        name = refl;
+        once = λ is. absurd (cc is);
       },
       tt,
     ),
@@ -85,6 +141,9 @@ read_valid = record {
   loads = read_loads;
   rows = (refl, (refl, refl));
   begun = λ is. absurd (cc is);
+  distinct_items = items_apart;
+  distinct_trees = two_apart;
+  limited = read_limited;
 }
 
 pub read_runnable : Runnable with_read
