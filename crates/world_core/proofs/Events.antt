@@ -1,19 +1,18 @@
 -- One event over the parts of a world, from what its calls say.
-use Rattle.std.proofs.Common.{◌≡◌, ℕ, ◌+◌, ◌*◌, ◌-◌, ◌^◌, ◌<◌, ◌≤◌, List, [], ◌∷◌, ◌++◌, length, reverse, Option, Some, None, refl, sym, ap, ◌∙◌, subst, arith, lit≤}
+use Rattle.std.proofs.Common.{◌≡◌, ℕ, ◌+◌, ◌*◌, ◌-◌, ◌<◌, ◌≤◌, List, [], ◌∷◌, ◌++◌, length, reverse, Option, Some, None, refl, sym, ap, ◌∙◌, subst, arith}
 use Rattle.std.specs.Prelude.{slice_get, slice_set, IfSome}
 use Rattle.std.specs.List.{remove}
 use Rattle.std.proofs.lemmas.List.{length-append, length-reverse}
 use Rattle.tv_base.specs.declared.numbers.Stamp.{Stamp}
 use Rattle.letter_types.specs.declared.entries.Letter.{Letter}
-use Rattle.letter_types.specs.declared.entries.Outgoing.{Outgoing}
 use Rattle.letter_types.specs.declared.entries.StepOut.{StepOut}
 use Rattle.letter_types.specs.declared.entries.Entry.{Entry}
 use Rattle.letter_types.specs.Letters.{sealed}
-use Rattle.letter_types.specs.Steps.{Out, made}
+use Rattle.letter_types.specs.Steps.{Out}
 use Rattle.tx_trees.specs.ScriptData.{ScriptData}
 use Rattle.tree_laws.proofs.Scripts.{Sound, get_some}
 use Rattle.world_core.specs.declared.actor.ActorState.{ActorState}
-use Rattle.world_core.specs.Actors.{ActorData, Acted, CountsBelow, IsAddressed, IsWorldOf, MayTake, TookLetter, WorldData, actor_row, data_of}
+use Rattle.world_core.specs.Actors.{ActorData, Acted, CountsBelow, IsAddressed, IsWorldOf, MayTake, TookLetter, WorldData, data_of}
 use Rattle.world_core.proofs.Few.{few_sent}
 use Rattle.world_core.proofs.Worlds.{asks, below, entry_of, next_world, small_counts}
 

@@ -1,5 +1,5 @@
 -- A step sends at most as many letters as the script has rows, and 65.
-use Rattle.std.proofs.Common.{◌≡◌, ℕ, ◌+◌, ◌≤◌, ◌==◌, ◌&&◌, Bool, true, false, List, [], ◌∷◌, length, Option, Some, None, arith, length-append}
+use Rattle.std.proofs.Common.{ℕ, ◌+◌, ◌≤◌, ◌==◌, ◌&&◌, Bool, true, false, List, [], ◌∷◌, length, Option, Some, None, arith, length-append}
 use Rattle.std.specs.Prelude.{if◌then◌else◌, nat_lt, not}
 use Rattle.std.specs.Option.{is_some}
 use Rattle.item_versions.specs.Table.{Table}
@@ -24,7 +24,7 @@ use Rattle.tx_trees.proofs.SubsOf.{few_subs}
 use Rattle.update_step.specs.Rows.{touched_by, turned_if, update_root, update_row, update_sub}
 use Rattle.world_model.specs.Tables.{node_row, note_done, values_of}
 use Rattle.world_core.specs.Actors.{ActorData, NodeData, CoordinatorData, ClientData, actor_row}
-use Rattle.world_core.proofs.Assumed.{few_sent_by_client}
+use Rattle.client_rows.proofs.Bounds.{few_sent_by_client}
 
 few_replies : (client : ℕ) (answer : Option Answered) → length (reply_letters client answer) ≤ 1
 few_replies client None = omega arith

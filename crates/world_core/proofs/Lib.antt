@@ -5,6 +5,5 @@ pub mod Nodes
 pub mod Stepped
 pub mod Few
 pub mod First
-pub mod Assumed
 pub mod Worlds
 pub mod Events

@@ -1,5 +1,5 @@
 -- A step that was made for a part of an actor is the actor's.
-use Rattle.std.proofs.Common.{◌≡◌, ℕ, List, ap, sym, Result, Ok, Err}
+use Rattle.std.proofs.Common.{◌≡◌, ℕ, List, ap, Result, Ok, Err}
 use Rattle.std.specs.Prelude.{IfOk}
 use Rattle.tv_base.specs.declared.numbers.NoMemory.{NoMemory}
 use Rattle.tv_base.specs.declared.numbers.SubNo.{SubNo}
@@ -13,11 +13,11 @@ use Rattle.letter_types.specs.declared.bodies.Body.TheVariants.{Done}
 use Rattle.letter_types.specs.declared.bodies.Notice.{Notice}
 use Rattle.letter_types.specs.declared.entries.Letter.{Letter}
 use Rattle.letter_types.specs.declared.entries.Step.{Step}
-use Rattle.letter_types.specs.Steps.{Out, made}
+use Rattle.letter_types.specs.Steps.{made}
 use Rattle.node_versions.specs.declared.turns.Turns.{Turns}
 use Rattle.pair_counters.specs.Rows.{CounterRows}
 use Rattle.tree_home.specs.declared.homes.Home.{Home}
-use Rattle.tree_step.specs.Node.{Node as NodeTable, node_with}
+use Rattle.tree_step.specs.Node.{node_with}
 use Rattle.tx_trees.specs.ScriptData.{ScriptData}
 use Rattle.world_model.specs.Tables.{node_row, values_of}
 use Rattle.world_core.specs.declared.actor.ActorState.{ActorState}

@@ -9,3 +9,5 @@ pub use actor::{ActorState, Coordinator, actor_step};
 pub use node::NodeState;
 pub use world::World;
 
+#[cfg(test)]
+mod tests;

@@ -171,7 +171,9 @@ fn node_step(
     ensures same_homes { OnErr result (homes.new ≡ homes.old) }
 {
     match &letter.body {
-        Body::Root { tree } => run_tree(alloc, turns, items, counters, homes, *tree, letter, script),
+        Body::Root { tree } => run_tree(
+            alloc, turns, items, counters, homes, *tree, letter, script,
+        ),
         Body::Sub { tree, .. } => {
             run_tree(alloc, turns, items, counters, homes, *tree, letter, script)
         }

@@ -1,4 +1,4 @@
-use Rattle.std.proofs.Common.{ℕ, ◌+◌, ap, sym, ◌∙◌}
+use Rattle.std.proofs.Common.{ℕ, ◌+◌, ap, sym}
 use Rattle.world_core.proofs.Nodes.{notice_taken}
 use Rattle.world_core.proofs.node.hear_notice.Goals as goal
 
