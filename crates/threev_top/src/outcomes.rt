@@ -124,7 +124,6 @@ fn of_script(refusal: ScriptRefusal) -> Stop
 }
 
 /// What a mode makes of the script that the bytes are.
-#[tactic(auto, using(crate::proofs::Ends::reads_runnable))]
 fn made_of(alloc: Global, mode: Mode, bytes: &[u8]) -> Result<Made, Stop>
     ensures made { IfOk result (λ made. IsTextOf mode bytes.now made.history made.text) }
     ensures stop { IfErr result (λ stop. IsStop bytes.now stop) }

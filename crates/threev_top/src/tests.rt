@@ -11,13 +11,17 @@ const FIRST: &str =
 const FIRST_TEXT: &str =
     "tree t version 1\nnode 0 update 1 read 0\nnode 1 update 1 read 0\nitem a 0:10 1:15\nitem b 0:0 1:7\n";
 
-const READ: &str = "nodes,2\nitem,a,0,sum,10\nitem,b,1,sum,0\nupdate,t,0\nadd,a,5\nsub,0,1\nadd,b,7\nsettle\nread,r,1\nget,b\nsub,0,0\nget,a\n";
+const READ: &str =
+    "nodes,2\nitem,a,0,sum,10\nitem,b,1,sum,0\nupdate,t,0\nadd,a,5\nsub,0,1\nadd,b,7\nsettle\nread,r,1\nget,b\nsub,0,0\nget,a\n";
 
-const READ_TEXT: &str = "tree t version 1\nread r version 0 b=0 a=10\nnode 0 update 1 read 0\nnode 1 update 1 read 0\nitem a 0:10 1:15\nitem b 0:0 1:7\n";
+const READ_TEXT: &str =
+    "tree t version 1\nread r version 0 b=0 a=10\nnode 0 update 1 read 0\nnode 1 update 1 read 0\nitem a 0:10 1:15\nitem b 0:0 1:7\n";
 
-const BILLING: &str = "nodes,3\nitem,alice,0,sum,0\nitem,bob,1,sum,0\nitem,calls,2,bag,0\nitem,longest,2,top,0\nupdate,c1,0\nadd,alice,12\nsub,0,1\nadd,bob,3\nsub,0,2\nput,calls,12\ntop,longest,12\nupdate,c2,1\nadd,bob,40\nsub,0,2\nput,calls,40\ntop,longest,40\nsettle\nread,bill,2\nget,calls\nget,longest\nsub,0,0\nget,alice\nsub,0,1\nget,bob\n";
+const BILLING: &str =
+    "nodes,3\nitem,alice,0,sum,0\nitem,bob,1,sum,0\nitem,calls,2,bag,0\nitem,longest,2,top,0\nupdate,c1,0\nadd,alice,12\nsub,0,1\nadd,bob,3\nsub,0,2\nput,calls,12\ntop,longest,12\nupdate,c2,1\nadd,bob,40\nsub,0,2\nput,calls,40\ntop,longest,40\nsettle\nread,bill,2\nget,calls\nget,longest\nsub,0,0\nget,alice\nsub,0,1\nget,bob\n";
 
-const BILLING_TEXT: &str = "tree c1 version 1\ntree c2 version 1\nread bill version 0 calls={} longest=0 alice=0 bob=0\nnode 0 update 1 read 0\nnode 1 update 1 read 0\nnode 2 update 1 read 0\nitem alice 0:0 1:12\nitem bob 0:0 1:43\nitem calls 0:{} 1:{12,40}\nitem longest 0:0 1:40\n";
+const BILLING_TEXT: &str =
+    "tree c1 version 1\ntree c2 version 1\nread bill version 0 calls={} longest=0 alice=0 bob=0\nnode 0 update 1 read 0\nnode 1 update 1 read 0\nnode 2 update 1 read 0\nitem alice 0:0 1:12\nitem bob 0:0 1:43\nitem calls 0:{} 1:{12,40}\nitem longest 0:0 1:40\n";
 
 const ZERO: &str = "nodes,1\nitem,a,0,sum,10\nupdate,t,0\nadd,a,0\n";
 
