@@ -1,4 +1,4 @@
-use Rattle.std.proofs.Common.{◌≡◌, ◌∙◌, length}
+use Rattle.std.proofs.Common.{◌∙◌, length}
 use Rattle.tree_step.proofs.Begun.{root_missed, is_there, taken_back}
 use Rattle.tree_step.proofs.steps.do_root.Goals as goal
 
