@@ -24,11 +24,13 @@ if_some_of : {X : Type 0} (P : X → Type 0) (o : Option X) (x : X) → o ≡ So
 if_some_of P o x is h = rw is h
 
 -- the addressee is there
-pub is_here : (s : ScriptData) (w : WorldData) (k : ℕ) (l : Letter) → IsWorldOf s w → Sound s → slice_get w.bag k ≡ Some l → l.to.0 < length w.actors
+pub is_here : (s : ScriptData) (w : WorldData) (k : ℕ) (l : Letter) → IsWorldOf s w → Sound s
+    → slice_get w.bag k ≡ Some l → l.to.0 < length w.actors
 is_here s w k l world sound at = omega (arith, below s w k l world sound at, world.count)
 
 -- a state there may take the letter, while the history is short
-state_may : (s : ScriptData) (w : WorldData) (m : ℕ) (l : Letter) (st : ActorState) → IsWorldOf s w → Sound s → 65 * length w.history + 1 ≤ m
+state_may : (s : ScriptData) (w : WorldData) (m : ℕ) (l : Letter) (st : ActorState) → IsWorldOf s w → Sound s
+    → 65 * length w.history + 1 ≤ m
     → slice_get w.actors l.to.0 ≡ Some st → MayTake s l m st
 state_may s w m l st world sound le there =
     let is = world.actors l.to.0 st there in
@@ -39,13 +41,15 @@ state_may s w m l st world sound le there =
           (small_counts s (reverse w.history) l.to.0 m sound world.run (omega (arith, length-reverse w.history)));
     }
 
-pub may_take : (s : ScriptData) (w : WorldData) (k m : ℕ) (l : Letter) → IsWorldOf s w → Sound s → 65 * length w.history + 1 ≤ m → slice_get w.bag k ≡ Some l
+pub may_take : (s : ScriptData) (w : WorldData) (k m : ℕ) (l : Letter) → IsWorldOf s w → Sound s
+    → 65 * length w.history + 1 ≤ m → slice_get w.bag k ≡ Some l
     → IfSome (slice_get w.actors l.to.0) (MayTake s l m)
 may_take s w k m l world sound le at =
     let found = get_some w.actors l.to.0 (is_here s w k l world sound at) in
     if_some_of (MayTake s l m) (slice_get w.actors l.to.0) found.0 found.1 (state_may s w m l found.0 world sound le found.1)
 
-pub has_room : (s : ScriptData) (l : Letter) (old new : List ActorState) (out : StepOut) → Sound s → Acted s l old new out → length out.sent ≤ length s.rows + 65
+pub has_room : (s : ScriptData) (l : Letter) (old new : List ActorState) (out : StepOut) → Sound s
+    → Acted s l old new out → length out.sent ≤ length s.rows + 65
 has_room s l old new out sound acted =
     omega (arith, ap (λ (o : Out ActorData). length o.sent) acted.row, few_sent s l (data_of acted.before) sound.valid)
 
@@ -96,4 +100,5 @@ event_took s w k l given kept stamp x next e = (entry_of (length w.history + 1) 
 pub event_count : (s : ScriptData) (w : WorldData) (k : ℕ) (l : Letter) (given kept : StepOut) (stamp : Stamp) (x : Entry) (next : WorldData)
     → Event s w k l given kept stamp x next → length next.history ≡ length w.history + 1
 event_count s w k l given kept stamp x next e =
-    ap (length {A = Entry}) (history_is s w k l given kept stamp x next e) ∙ omega (arith, length-append w.history (entry_of (length w.history + 1) l given.sent given.acts ∷ []))
+    ap (length {A = Entry}) (history_is s w k l given kept stamp x next e)
+    ∙ omega (arith, length-append w.history (entry_of (length w.history + 1) l given.sent given.acts ∷ []))

@@ -30,11 +30,13 @@ few_replies : (client : ℕ) (answer : Option Answered) → length (reply_letter
 few_replies client None = omega arith
 few_replies client (Some a) = omega arith
 
-pick : (n : ℕ) (b : Bool) (x y : Out Node) → length x.sent ≤ n → length y.sent ≤ n → length (if b then x else y).sent ≤ n
+pick : (n : ℕ) (b : Bool) (x y : Out Node) → length x.sent ≤ n → length y.sent ≤ n
+    → length (if b then x else y).sent ≤ n
 pick n true x y l r = l
 pick n false x y l r = r
 
-root_few : (s : ScriptData) (p t v : ℕ) (items : Table) (values : Gets) (st : Node) → IsValid s → length (root_done s p t v items values st).sent ≤ 65
+root_few : (s : ScriptData) (p t v : ℕ) (items : Table) (values : Gets) (st : Node) → IsValid s
+    → length (root_done s p t v items values st).sent ≤ 65
 root_few s p t v items values st valid =
     let answer = answer_noted (record { 0 = t }) (record { 0 = 0 }) values (begun (record { 0 = t }) (length (subs_at s t)) (record { 0 = v }) st.homes) in
     omega (
@@ -55,23 +57,28 @@ sub_few s q t k v turns items values turned st valid =
       length-append (sub_letters t v k 0 (subs_at s t)) (done_letter (home_of s t) t k v values ∷ []),
     )
 
-update_root_few : (s : ScriptData) (p t : ℕ) (st : Node) (found : Option Table) → IsValid s → length (update_root s p t st found).sent ≤ 65
+update_root_few : (s : ScriptData) (p t : ℕ) (st : Node) (found : Option Table) → IsValid s
+    → length (update_root s p t st found).sent ≤ 65
 update_root_few s p t st None valid = omega arith
 update_root_few s p t st (Some items) valid = root_few s p t st.turns.update.0 items [] st valid
 
-update_sub_few : (s : ScriptData) (q t k v : ℕ) (st : Node) (found : Option Table) → IsValid s → length (update_sub s q t k v st found).sent ≤ 65
+update_sub_few : (s : ScriptData) (q t k v : ℕ) (st : Node) (found : Option Table) → IsValid s
+    → length (update_sub s q t k v st found).sent ≤ 65
 update_sub_few s q t k v st None valid = omega arith
 update_sub_few s q t k v st (Some items) valid = sub_few s q t k v (raised (record { 0 = v }) st.turns) items [] (turned_if (nat_lt st.turns.update.0 v) v) st valid
 
-read_root_few : (s : ScriptData) (p t : ℕ) (st : Node) (found : Option Gets) → IsValid s → length (read_root s p t st found).sent ≤ 65
+read_root_few : (s : ScriptData) (p t : ℕ) (st : Node) (found : Option Gets) → IsValid s
+    → length (read_root s p t st found).sent ≤ 65
 read_root_few s p t st None valid = omega arith
 read_root_few s p t st (Some values) valid = root_few s p t st.turns.read.0 st.items values st valid
 
-read_sub_few : (s : ScriptData) (q t k v : ℕ) (st : Node) (found : Option Gets) → IsValid s → length (read_sub s q t k v st found).sent ≤ 65
+read_sub_few : (s : ScriptData) (q t k v : ℕ) (st : Node) (found : Option Gets) → IsValid s
+    → length (read_sub s q t k v st found).sent ≤ 65
 read_sub_few s q t k v st None valid = omega arith
 read_sub_few s q t k v st (Some values) valid = sub_few s q t k v st.turns st.items values [] st valid
 
-update_few : (s : ScriptData) (p : ℕ) (st : Node) (from : ℕ) (body : Body) → IsValid s → length (update_row s p st from body).sent ≤ 65
+update_few : (s : ScriptData) (p : ℕ) (st : Node) (from : ℕ) (body : Body) → IsValid s
+    → length (update_row s p st from body).sent ≤ 65
 update_few s p st from (Root t) valid =
     pick 65 ((home_of s t.0 == p) && (updates s t.0 && not (is_some (home_in t st.homes)))) _ (still st)
     (update_root_few s p t.0 st (touched_by st.turns.update (ops_of s t.0 0) st.items) valid) (omega arith)
@@ -80,7 +87,8 @@ update_few s p st from (SubLetter t k v) valid =
     (update_sub_few s from t.0 k.0 v.0 st (touched_by v (ops_of s t.0 k.0) st.items) valid) (omega arith)
 update_few s p st from _ valid = omega arith
 
-read_few : (s : ScriptData) (p : ℕ) (st : Node) (from : ℕ) (body : Body) → IsValid s → length (read_row s p st from body).sent ≤ 65
+read_few : (s : ScriptData) (p : ℕ) (st : Node) (from : ℕ) (body : Body) → IsValid s
+    → length (read_row s p st from body).sent ≤ 65
 read_few s p st from (Root t) valid =
     pick 65 ((home_of s t.0 == p) && (reads s t.0 && not (is_some (home_in t st.homes)))) _ (still st)
     (read_root_few s p t.0 st (gets_by st.turns.read (ops_of s t.0 0) st.items) valid) (omega arith)
@@ -92,7 +100,8 @@ read_few s p st from _ valid = omega arith
 note_few : (s : ScriptData) (q t k v : ℕ) (values : Gets) (st : Node) → length (note_done s q t k v values st).sent ≤ 65
 note_few s q t k v values st = omega (arith, few_replies (client_of s) (answer_noted (record { 0 = t }) (record { 0 = k }) values st.homes))
 
-node_few : (s : ScriptData) (p : ℕ) (st : Node) (from : ℕ) (body : Body) → IsValid s → length (node_row s p st from body).sent ≤ 65
+node_few : (s : ScriptData) (p : ℕ) (st : Node) (from : ℕ) (body : Body) → IsValid s
+    → length (node_row s p st from body).sent ≤ 65
 node_few s p st from (Root t) valid =
     pick 65 (updates s t.0) (update_row s p st from (Root t)) (read_row s p st from (Root t)) (update_few s p st from (Root t) valid) (read_few s p st from (Root t) valid)
 node_few s p st from (SubLetter t k v) valid =
@@ -102,7 +111,8 @@ node_few s p st from (Done t k v notice) valid =
     (note_few s from t.0 k.0 v.0 (values_of notice) st) (omega arith)
 node_few s p st from _ valid = omega arith
 
-pub few_sent : (s : ScriptData) (l : Letter) (st : ActorData) → IsValid s → length (actor_row s l st).sent ≤ length s.rows + 65
+pub few_sent : (s : ScriptData) (l : Letter) (st : ActorData) → IsValid s
+    → length (actor_row s l st).sent ≤ length s.rows + 65
 few_sent s l (NodeData st) valid = omega (arith, node_few s l.to.0 st l.from.0 l.body valid)
 few_sent s l CoordinatorData valid = omega arith
 few_sent s l (ClientData c) valid = omega (arith, few_sent_by_client s c l.body)

@@ -1,9 +1,7 @@
 -- The world as a run begins.
-use Rattle.std.proofs.Common.{◌≡◌, ℕ, ◌+◌, ◌<◌, ◌==◌, ◌⊎◌, inl, inr, true, false, List, [], ◌∷◌, ◌++◌, length, refl, sym, ap, subst, arith}
+use Rattle.std.proofs.Common.{◌≡◌, ℕ, ◌+◌, ◌<◌, ◌⊎◌, inl, inr, true, List, [], ◌∷◌, ◌++◌, length, refl, sym, ap, subst, arith}
 use Rattle.std.specs.Prelude.{nat_lt, slice_get, Some}
 use Rattle.std.proofs.lemmas.Bool.Decides.{nat_tests}
-use Rattle.client_rows.specs.Client.{start_client}
-use Rattle.client_rows.specs.Kept.{IsKeptOf, Kept, kept_of}
 use Rattle.letter_types.specs.declared.entries.Entry.{Entry}
 use Rattle.letter_types.specs.Letters.{go}
 use Rattle.pair_counters.specs.Rows.{counts_of}
@@ -12,45 +10,33 @@ use Rattle.tx_trees.specs.ScriptData.{ScriptData, client_of}
 use Rattle.world_model.specs.Tables.{start_node}
 use Rattle.world_model.proofs.Bridge.{slice_get_split}
 use Rattle.world_core.specs.declared.actor.ActorState.{ActorState}
-use Rattle.world_core.specs.declared.actor.ActorState.TheVariants.{Node, Coordinator, Client}
-use Rattle.world_core.specs.declared.actor.Coordinator.TheVariants.{Resting}
-use Rattle.world_core.specs.Actors.{NodeData, ClientData, AreStatesOf, IsStateOf, IsWorldOf, WorldData}
+use Rattle.world_core.specs.declared.actor.ActorState.TheVariants.{Node}
+use Rattle.world_core.specs.Actors.{NodeData, AreStatesOf, IsStateOf, IsWorldOf, WorldData}
 use Rattle.world_core.specs.Nodes.{NodeParts, node_data}
 
--- the actors as a run begins
-pub first_node : (s : ScriptData) (a : ℕ) (n : NodeParts) → a < s.nodes → node_data n ≡ start_node s a → (counts_of n.counters).nodes ≡ s.nodes
+-- a node as a run begins
+pub first_node : (s : ScriptData) (a : ℕ) (n : NodeParts) → a < s.nodes → node_data n ≡ start_node s a
+    → (counts_of n.counters).nodes ≡ s.nodes
     → IsStateOf s [] a (Node n)
 first_node s a n lt is nodes =
     let here : nat_lt a s.nodes ≡ true = grind (arith, nat_tests) in
     record { seen = rw here (ap (λ (d : NodeTable). NodeData d) is); script = nodes }
 
-pub first_coordinator : (s : ScriptData) (a : ℕ) → a ≡ s.nodes → IsStateOf s [] a (Coordinator Resting)
-first_coordinator s a is =
-    let above : nat_lt a s.nodes ≡ false = grind (arith, nat_tests) in
-    let here : (a == s.nodes) ≡ true = grind (arith, nat_tests) in
-    record { seen = rw (above, here) refl; script = tt }
-
-pub first_client : (s : ScriptData) (a : ℕ) (c : Kept) → s.nodes < a → c ≡ kept_of s (start_client s) → IsKeptOf s c → IsStateOf s [] a (Client c)
-first_client s a c lt is kept =
-    let above : nat_lt a s.nodes ≡ false = grind (arith, nat_tests) in
-    let other : (a == s.nodes) ≡ false = grind (arith, nat_tests) in
-    record { seen = rw (above, other) (ap (λ (k : Kept). ClientData k.client) is); script = kept }
-
-pub none_there : (s : ScriptData) (past : List Entry) → AreStatesOf s past []
-none_there s past a st at = absurd (cc at)
-
-one_of : (s : ScriptData) (past : List Entry) (xs : List ActorState) (x : ActorState) (a : ℕ) (st : ActorState) → AreStatesOf s past xs → IsStateOf s past (length xs) x
+one_of : (s : ScriptData) (past : List Entry) (xs : List ActorState) (x : ActorState) (a : ℕ) (st : ActorState)
+    → AreStatesOf s past xs → IsStateOf s past (length xs) x
     → ((a < length xs) × (slice_get xs a ≡ Some st)) ⊎ ((a ≡ length xs) × (x ≡ st)) → IsStateOf s past a st
 one_of s past xs x a st all one (inl p) = all a st p.1
 one_of s past xs x a st all one (inr p) =
     subst (λ (y : ActorState). IsStateOf s past a y) p.1 (subst (λ (k : ℕ). IsStateOf s past k x) (sym p.0) one)
 
 -- one state more
-pub states_more : (s : ScriptData) (past : List Entry) (xs : List ActorState) (x : ActorState) → AreStatesOf s past xs → IsStateOf s past (length xs) x
+pub states_more : (s : ScriptData) (past : List Entry) (xs : List ActorState) (x : ActorState) → AreStatesOf s past xs
+    → IsStateOf s past (length xs) x
     → AreStatesOf s past (xs ++ x ∷ [])
 states_more s past xs x all one a st at = one_of s past xs x a st all one (slice_get_split xs x a st at)
 
-pub first_world : (s : ScriptData) (w : WorldData) → length w.actors ≡ s.nodes + 2 → AreStatesOf s [] w.actors → w.bag ≡ go (client_of s) ∷ [] → w.history ≡ []
+pub first_world : (s : ScriptData) (w : WorldData) → length w.actors ≡ s.nodes + 2 → AreStatesOf s [] w.actors
+    → w.bag ≡ go (client_of s) ∷ [] → w.history ≡ []
     → IsWorldOf s w
 first_world s w count actors bag history = record {
   run = rw history tt;

@@ -5,8 +5,6 @@ use Rattle.tv_base.specs.declared.numbers.NoMemory.{NoMemory}
 use Rattle.tv_base.specs.declared.numbers.SubNo.{SubNo}
 use Rattle.tv_base.specs.declared.numbers.TreeNo.{TreeNo}
 use Rattle.tv_base.specs.declared.numbers.Version.{Version}
-use Rattle.client_rows.specs.Client.{client_row}
-use Rattle.client_rows.specs.Kept.{Kept}
 use Rattle.item_versions.specs.Table.{Table}
 use Rattle.letter_types.specs.declared.bodies.Body.{Body}
 use Rattle.letter_types.specs.declared.bodies.Body.TheVariants.{Done}
@@ -21,8 +19,8 @@ use Rattle.tree_step.specs.Node.{node_with}
 use Rattle.tx_trees.specs.ScriptData.{ScriptData}
 use Rattle.world_model.specs.Tables.{node_row, values_of}
 use Rattle.world_core.specs.declared.actor.ActorState.{ActorState}
-use Rattle.world_core.specs.declared.actor.ActorState.TheVariants.{Node, Client}
-use Rattle.world_core.specs.Actors.{NodeData, actor_row, at_client, at_node, data_of, ClientData}
+use Rattle.world_core.specs.declared.actor.ActorState.TheVariants.{Node}
+use Rattle.world_core.specs.Actors.{NodeData, actor_row, at_node, data_of}
 use Rattle.world_core.specs.Nodes.{NodeParts, node_data, notice_row}
 
 -- the row of a notice is the node's
@@ -34,15 +32,9 @@ done_row s p from t k v notice body turns items counts next homes after (Ok step
 done_row s p from t k v notice body turns items counts next homes after (Err e) is row = tt
 
 -- the row of a node is the actor's
-pub node_acts : (s : ScriptData) (l : Letter) (state : ActorState) (n after : NodeParts) (r : Result Step NoMemory) → state ≡ Node n
+pub node_acts : (s : ScriptData) (l : Letter) (state : ActorState) (n after : NodeParts) (r : Result Step NoMemory)
+    → state ≡ Node n
     → IfOk r (λ step. made (node_data after) step.given ≡ node_row s l.to.0 (node_data n) l.from.0 l.body)
     → IfOk r (λ step. made (NodeData (node_data after)) step.given ≡ actor_row s l (data_of state))
 node_acts s l state n after (Ok step) is row = rw is (ap at_node row)
 node_acts s l state n after (Err e) is row = tt
-
--- the row of the client is the actor's
-pub client_acts : (s : ScriptData) (l : Letter) (state : ActorState) (c after : Kept) (r : Result Step NoMemory) → state ≡ Client c
-    → IfOk r (λ step. made after.client step.given ≡ client_row s c.client l.body)
-    → IfOk r (λ step. made (ClientData after.client) step.given ≡ actor_row s l (data_of state))
-client_acts s l state c after (Ok step) is row = rw is (ap at_client row)
-client_acts s l state c after (Err e) is row = tt

@@ -44,12 +44,14 @@ fit_below s from to (Reply t v answer) sound fit = omega (arith, fit.1)
 fit_below s from to Nudge sound fit = omega (arith, fit)
 fit_below s from to _ sound fit = absurd fit
 
-pub addressed : (s : ScriptData) (past : List Entry) (l : Letter) → Sound s → StepRun s past → find_id l.id (waiting s past) ≡ Some l → l.to.0 < s.nodes + 2
+pub addressed : (s : ScriptData) (past : List Entry) (l : Letter) → Sound s → StepRun s past
+    → find_id l.id (waiting s past) ≡ Some l → l.to.0 < s.nodes + 2
 addressed s past l sound run at =
     fit_below s l.from.0 l.to.0 l.body sound (each_found (λ (x : Letter). Fit s x.from.0 x.to.0 x.body) l.id (waiting s past) l (good_run s past sound run).letters at)
 
 -- the letter of a step may be taken by its addressee
-asks_by : (s : ScriptData) (past : List Entry) (l : Letter) (b c : Bool) → nat_lt l.to.0 s.nodes ≡ b → (l.to.0 == s.nodes) ≡ c → IsAddressed s l (actor_in s past l.to.0)
+asks_by : (s : ScriptData) (past : List Entry) (l : Letter) (b c : Bool) → nat_lt l.to.0 s.nodes ≡ b
+    → (l.to.0 == s.nodes) ≡ c → IsAddressed s l (actor_in s past l.to.0)
 asks_by s past l true c is at = rw is (grind (arith, nat_tests))
 asks_by s past l false true is at = rw (is, at) tt
 asks_by s past l false false is at = rw (is, at) tt
@@ -58,7 +60,8 @@ pub asks : (s : ScriptData) (past : List Entry) (l : Letter) → IsAddressed s l
 asks s past l = asks_by s past l (nat_lt l.to.0 s.nodes) (l.to.0 == s.nodes) refl refl
 
 -- what an actor counts is small while the history is short
-small_by : (s : ScriptData) (past : List Entry) (a m : ℕ) (b c : Bool) → ((p : ℕ) → p < s.nodes → AllBelow m (node_in s past p).counts)
+small_by : (s : ScriptData) (past : List Entry) (a m : ℕ) (b c : Bool)
+    → ((p : ℕ) → p < s.nodes → AllBelow m (node_in s past p).counts)
     → nat_lt a s.nodes ≡ b → (a == s.nodes) ≡ c → CountsBelow m (actor_in s past a)
 small_by s past a m true c small is at = rw is (small a (grind (arith, nat_tests)))
 small_by s past a m false true small is at = rw (is, at) tt
@@ -67,7 +70,8 @@ small_by s past a m false false small is at = rw (is, at) tt
 below_more : (m n : ℕ) (counts : Numbers) → m ≤ n → AllBelow m counts → AllBelow n counts
 below_more m n counts le all v q = let both = all v q in (omega (arith, both.0), omega (arith, both.1))
 
-pub small_counts : (s : ScriptData) (past : List Entry) (a m : ℕ) → Sound s → StepRun s past → 65 * length past + 1 ≤ m → CountsBelow m (actor_in s past a)
+pub small_counts : (s : ScriptData) (past : List Entry) (a m : ℕ) → Sound s → StepRun s past → 65 * length past + 1 ≤ m
+    → CountsBelow m (actor_in s past a)
 small_counts s past a m sound run le =
     small_by s past a m (nat_lt a s.nodes) (a == s.nodes)
     (λ p lt. below_more (65 * length past + 1) m (node_in s past p).counts le (small s past sound.valid sound.runnable run p lt)) refl refl
@@ -94,7 +98,8 @@ state_by s past l stamp sent acts false false is at lt =
     let client : (l.to.0 == client_of s) ≡ true = grind (arith, nat_tests) in rw (is, at, client) refl
 
 -- the other actors stay
-others_by : (s : ScriptData) (past : List Entry) (e : Entry) (a : ℕ) (b c : Bool) → nat_lt a s.nodes ≡ b → (a == s.nodes) ≡ c → a < s.nodes + 2 → e.actor.0 ≢ a
+others_by : (s : ScriptData) (past : List Entry) (e : Entry) (a : ℕ) (b c : Bool) → nat_lt a s.nodes ≡ b
+    → (a == s.nodes) ≡ c → a < s.nodes + 2 → e.actor.0 ≢ a
     → actor_in s (e ∷ past) a ≡ actor_in s past a
 others_by s past e a true c is at lt ne = let no : (e.actor.0 == a) ≡ false = grind (arith, nat_tests) in rw (is, no) refl
 others_by s past e a false true is at lt ne = rw (is, at) refl
@@ -121,22 +126,28 @@ pub record Stepped (s : ScriptData) (w : WorldData) (k : ℕ) (l : Letter) (out 
   pub acted : Acted s l w.actors next out
   pub bag : left ≡ remove w.bag k ++ sealed (length w.history + 1) l.to.0 0 out.sent
 
-pub found_in : (s : ScriptData) (w : WorldData) (k : ℕ) (l : Letter) → IsWorldOf s w → slice_get w.bag k ≡ Some l → Found (waiting s (reverse w.history)) k l
+pub found_in : (s : ScriptData) (w : WorldData) (k : ℕ) (l : Letter) → IsWorldOf s w → slice_get w.bag k ≡ Some l
+    → Found (waiting s (reverse w.history)) k l
 found_in s w k l world at =
     found_at (waiting s (reverse w.history)) k l (unique s (reverse w.history) l.id world.run)
     (subst (λ (ls : List Letter). slice_get ls k ≡ Some l) world.bag at)
 
-pub below : (s : ScriptData) (w : WorldData) (k : ℕ) (l : Letter) → IsWorldOf s w → Sound s → slice_get w.bag k ≡ Some l → l.to.0 < s.nodes + 2
+pub below : (s : ScriptData) (w : WorldData) (k : ℕ) (l : Letter) → IsWorldOf s w → Sound s
+    → slice_get w.bag k ≡ Some l → l.to.0 < s.nodes + 2
 below s w k l world sound at = addressed s (reverse w.history) l sound world.run (found_in s w k l world at).found
 
 -- the step is the row of what the past says of its addressee
-row_is : (s : ScriptData) (past : List Entry) (l : Letter) (old next : List ActorState) (out : StepOut) → AreStatesOf s past old → (a : Acted s l old next out)
+row_is : (s : ScriptData) (past : List Entry) (l : Letter) (old next : List ActorState) (out : StepOut)
+    → AreStatesOf s past old → (a : Acted s l old next out)
     → made (data_of a.after) out ≡ actor_row s l (actor_in s past l.to.0)
-row_is s past l old next out states a = a.row ∙ ap (λ (d : ActorData). actor_row s l d) (states l.to.0 a.before a.there).seen
+row_is s past l old next out states a = a.row
+    ∙ ap (λ (d : ActorData). actor_row s l d) (states l.to.0 a.before a.there).seen
 
-may_follow : (s : ScriptData) (w : WorldData) (k : ℕ) (l : Letter) (sent : List Outgoing) (acts : List Act) → IsWorldOf s w → Sound s
+may_follow : (s : ScriptData) (w : WorldData) (k : ℕ) (l : Letter) (sent : List Outgoing) (acts : List Act)
+    → IsWorldOf s w → Sound s
     → slice_get w.bag k ≡ Some l
-    → sent ≡ (actor_row s l (actor_in s (reverse w.history) l.to.0)).sent → acts ≡ (actor_row s l (actor_in s (reverse w.history) l.to.0)).acts
+    → sent ≡ (actor_row s l (actor_in s (reverse w.history) l.to.0)).sent
+    → acts ≡ (actor_row s l (actor_in s (reverse w.history) l.to.0)).acts
     → MayFollow s (reverse w.history) (entry_of (length w.history + 1) l sent acts)
 may_follow s w k l sent acts world sound at a b = record {
   stamp = omega (arith, length-reverse w.history);
@@ -149,7 +160,8 @@ may_follow s w k l sent acts world sound at a b = record {
 state_next : (s : ScriptData) (past : List Entry) (l : Letter) (stamp : ℕ) (sent : List Outgoing) (acts : List Act) (old : List ActorState) (after st : ActorState) (a : ℕ)
     → length old ≡ s.nodes + 2 → l.to.0 < s.nodes + 2 → AreStatesOf s past old
     → data_of after ≡ (actor_row s l (actor_in s past l.to.0)).state → IsFor s after
-    → slice_get (slice_set old l.to.0 after) a ≡ Some st → (b : Bool) → (l.to.0 == a) ≡ b → IsStateOf s (entry_of stamp l sent acts ∷ past) a st
+    → slice_get (slice_set old l.to.0 after) a ≡ Some st → (b : Bool) → (l.to.0 == a) ≡ b
+    → IsStateOf s (entry_of stamp l sent acts ∷ past) a st
 state_next s past l stamp sent acts old after st a count to states row script at true is =
     let eq : l.to.0 ≡ a = grind (arith, nat_tests) in
     let here : slice_get (slice_set old l.to.0 after) a ≡ Some after =
@@ -165,7 +177,8 @@ state_next s past l stamp sent acts old after st a count to states row script at
     let there : slice_get old a ≡ Some st = sym (get_set_other old l.to.0 a after ne) ∙ at in
     let lt : a < s.nodes + 2 = omega (arith, get_below old a st there) in
     record {
-      seen = (states a st there).seen ∙ sym (others_by s past (entry_of stamp l sent acts) a (nat_lt a s.nodes) (a == s.nodes) refl refl lt ne);
+      seen = (states a st there).seen
+          ∙ sym (others_by s past (entry_of stamp l sent acts) a (nat_lt a s.nodes) (a == s.nodes) refl refl lt ne);
       script = (states a st there).script;
     }
 

@@ -117,7 +117,8 @@ fn values_of(notice: &Notice) -> &Values
     }
 }
 
-/// A notice, which its tree's home takes down. Any other node, and the home if it can't be one of its tree's, leaves it.
+/// A notice, which its tree's home takes down. Any other node leaves it, and so does the home where it can't be one of
+/// its tree's.
 fn hear_notice(
     alloc: Global,
     counters: &mut Counters,
