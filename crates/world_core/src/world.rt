@@ -1,9 +1,10 @@
 // A world: all actors, the letters under way, and the history so far.
-ghost use Rattle.std.specs.Prelude.{◌≡◌, ◌<◌, ◌≤◌, ◌+◌, ◌-◌, ◌^◌, ◌++◌, [], length, slice_get, slice_set, IfOk, IfSome, OnOk, OnErr, Some};
+ghost use Rattle.std.specs.Prelude.{◌≡◌, ◌<◌, ◌≤◌, ◌+◌, ◌-◌, ◌^◌, ◌++◌, [], length, reverse, slice_get, slice_set, IfOk, IfSome, OnOk, OnErr, Some};
 ghost use Rattle.std.specs.List.{remove};
 ghost use Rattle.std.specs.VecDeque.{deque_len, deque_capacity};
 ghost use Rattle.letter_types.specs.Letters.{go, sealed};
 ghost use Rattle.world_model.specs.Tables.{Runnable};
+ghost use Rattle.quiet_laws.specs.Balance.{Balanced};
 ghost use Rattle.world_core.specs.Actors.{Acted, AreStatesOf, IsWorldOf, MayTake, TookLetter, world_of};
 
 use crate::actor::{ActorState, actor_step};
@@ -230,23 +231,27 @@ impl World {
 
     /// One event: letter `k` of those under way is taken by its addressee, whose step is appended to the history, and
     /// what it sends goes to the end. Gives the stamp of the new entry. After want of memory the world is as it was.
+    /// The counters stay balanced: what one node asked of another is what that one did for it and what is under way.
     pub fn step(&mut self, script: &Script, k: usize) -> Result<Stamp, NoMemory>
         requires waits { k < length self.old.bag }
         requires runnable { Runnable script.now }
         requires world { IsWorldOf script.now self.old }
         ensures world { IsWorldOf script.now self.new }
+        ensures balanced { Balanced script.now (reverse self.new.history) }
         ensures took { OnOk result (TookLetter k self.old self.new) }
         ensures stamp { IfOk result (λ stamp. stamp.0 ≡ length self.new.history) }
         ensures err { OnErr result (self.new ≡ self.old) }
     {
-        advance(
+        let _valid = script.nodes();
+        let stamp = advance(
             self.alloc,
             script,
             &mut self.actors,
             &mut self.bag,
             &mut self.history,
             k,
-        )
+        )?;
+        Ok(stamp)
     }
 
     /// The history so far. It has at most 2^40 entries.
