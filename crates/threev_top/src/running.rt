@@ -13,7 +13,6 @@ use world_core::World;
 /// Runs a script on one thread, the oldest letter first, until no letter is under way.
 ///
 /// It always returns: a history has at most 2^40 entries, and a run that would pass that finds no memory.
-
 pub fn simulate(alloc: Global, script: &Script) -> Result<History, NoMemory>
     requires { Runnable script.now }
     ensures { IfOk result (λ history. IsFinished script.now history) }
