@@ -69,13 +69,15 @@ impl Commute for BagValue {
     ghost commutes = { λ xs a b _ _ _ _. with_number-comm a b xs };
 }
 
-/// The numbers, which ascend, and `number` once more at its place.
+/// The numbers, which ascend, and `number` once more at its place. They are copied once, into a block that has room
+/// for one more.
 #[tactic(auto, using(crate::proofs::Places::steps))]
 fn with_number(alloc: Global, numbers: &[Amount], number: Amount) -> Result<Vec<Amount>, NoMemory>
     ensures { IfOk result (λ made. made.items ≡ with_number number numbers.now) }
 {
     let place = place(numbers, number);
-    let mut made = Vec::from_slice(alloc, numbers)?;
+    let mut made = Vec::with_capacity(alloc, numbers.len() + 1)?;
+    made.extend_from_slice(numbers)?;
     made.insert(place, number)?;
     Ok(made)
 }

@@ -1,9 +1,10 @@
 // What actors do beside sending letters.
 ghost use Rattle.std.specs.Prelude.{◌≡◌, IfOk};
 
-use crate::bodies::{Values, copy_values};
+use crate::votes::Vote;
+use commute_ops::{Values, copy_values};
 use std::alloc::Global;
-use tv_base::{NoMemory, Seq, SubNo, TreeNo, Version};
+use tv_base::{ItemNo, NoMemory, Seq, SubNo, TreeNo, Version};
 
 /// What an actor does beside sending letters (docs/ALGORITHM.md, "Acts"). The node of an act is its entry's actor.
 #[derive(Drop)]
@@ -33,6 +34,39 @@ pub enum Act {
     },
     /// All trees are answered and all advancements have ended.
     Finished,
+    /// A strict tree isn't born yet: its home's update version isn't its read version plus one.
+    Waits {
+        tree: TreeNo,
+        update: Version,
+        read: Version,
+    },
+    /// A subtransaction of an update tree waits for a strict tree's lock on an item.
+    Parked {
+        tree: TreeNo,
+        sub: SubNo,
+        item: ItemNo,
+        holder: TreeNo,
+    },
+    /// A subtransaction of a strict tree has voted.
+    Voted {
+        tree: TreeNo,
+        sub: SubNo,
+        vote: Vote,
+    },
+    /// The marks of an update tree have gone.
+    Freed {
+        tree: TreeNo,
+    },
+    /// A strict tree commits, or aborts.
+    Decided {
+        tree: TreeNo,
+        commit: bool,
+    },
+    /// What a strict tree decided was applied at a node.
+    Applied {
+        tree: TreeNo,
+        commit: bool,
+    },
 }
 
 /// Acts in order.
@@ -57,6 +91,36 @@ impl Act {
             Act::Showed { version } => Ok(Act::Showed { version: *version }),
             Act::Swept { version } => Ok(Act::Swept { version: *version }),
             Act::Finished => Ok(Act::Finished),
+            Act::Waits { tree, update, read } => Ok(Act::Waits {
+                tree: *tree,
+                update: *update,
+                read: *read,
+            }),
+            Act::Parked {
+                tree,
+                sub,
+                item,
+                holder,
+            } => Ok(Act::Parked {
+                tree: *tree,
+                sub: *sub,
+                item: *item,
+                holder: *holder,
+            }),
+            Act::Voted { tree, sub, vote } => Ok(Act::Voted {
+                tree: *tree,
+                sub: *sub,
+                vote: vote.copy(alloc)?,
+            }),
+            Act::Freed { tree } => Ok(Act::Freed { tree: *tree }),
+            Act::Decided { tree, commit } => Ok(Act::Decided {
+                tree: *tree,
+                commit: *commit,
+            }),
+            Act::Applied { tree, commit } => Ok(Act::Applied {
+                tree: *tree,
+                commit: *commit,
+            }),
         }
     }
 }

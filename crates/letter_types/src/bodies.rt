@@ -1,12 +1,10 @@
 // What letters say.
-ghost use Rattle.std.specs.Prelude.{◌≡◌, ◌++◌, IfOk, OnOk, OnErr};
+ghost use Rattle.std.specs.Prelude.{◌≡◌, IfOk};
 
-use commute_ops::Value;
+use crate::votes::Cause;
+use commute_ops::{Values, copy_values};
 use std::alloc::Global;
-use tv_base::{ItemNo, NoMemory, Seq, SubNo, TreeNo, Version};
-
-/// The values of a subtransaction's gets, in order.
-pub type Values = Seq<(ItemNo, Value), 0xffff_ffff>;
+use tv_base::{NoMemory, Seq, SubNo, TreeNo, Version};
 
 /// Numbers by node.
 pub type Row = Seq<u64, 0xffff_ffff>;
@@ -14,8 +12,12 @@ pub type Row = Seq<u64, 0xffff_ffff>;
 /// What a subtransaction tells its home.
 #[derive(Drop)]
 pub enum Notice {
-    /// It was done, and its gets gave these values.
+    /// It was done, and its gets gave these values. From an update or a read tree.
     Did(Values),
+    /// It voted yes, and its gets gave these values. From a strict tree.
+    Yes(Values),
+    /// It voted no, for this cause. From a strict tree.
+    No(Cause),
 }
 
 /// What the client is told of a tree.
@@ -23,6 +25,19 @@ pub enum Notice {
 pub enum Answer {
     /// All of it was done, and its gets gave these values, by subtransaction and then by operation.
     Whole(Values),
+    /// A strict tree was aborted, for the cause of the no voter of the lowest number.
+    Aborted(Cause),
+}
+
+/// What a coordinator that has forgotten its state has a node do with a version.
+#[derive(Clone, Copy, Debug, PartialEq, Eq)]
+pub enum What {
+    /// Raise the update version to it.
+    Turn,
+    /// Show it to reads.
+    Show,
+    /// Collect to it.
+    Sweep,
 }
 
 /// What a letter says (docs/ALGORITHM.md, "Letters").
@@ -107,21 +122,64 @@ pub enum Body {
     Advanced {
         version: Version,
     },
-}
-
-/// An equal list of values.
-pub fn copy_values(alloc: Global, values: &Values) -> Result<Values, NoMemory>
-    ensures { IfOk result (λ copy. copy ≡ values.now) }
-{
-    let mut copy = Values::new(alloc);
-    for entry in values.items() {
-        copy.push((entry.0, entry.1.copy(alloc)?))?;
-    }
-    Ok(copy)
+    /// A strict tree's home tells a node whether the tree commits.
+    Decide {
+        tree: TreeNo,
+        version: Version,
+        commit: bool,
+    },
+    /// A node has applied the decision.
+    Decided {
+        tree: TreeNo,
+        version: Version,
+    },
+    /// An update tree is whole: its marks may go.
+    Release {
+        tree: TreeNo,
+    },
+    /// A node looks again at a letter that it has kept.
+    Wake {
+        tree: TreeNo,
+        sub: SubNo,
+    },
+    /// The coordinator forgets all but its epoch.
+    Lose,
+    /// The advancement of this number, from 1, is asked for.
+    AdvanceNo {
+        advance: u32,
+    },
+    /// A coordinator that has forgotten its state asks for numbers.
+    Ask {
+        epoch: u64,
+    },
+    /// A node's three versions.
+    Numbers {
+        epoch: u64,
+        update: Version,
+        read: Version,
+        low: Version,
+    },
+    /// How many advancements the client has asked for.
+    Wanted {
+        epoch: u64,
+        advances: u32,
+    },
+    /// A node is told what to do with a version.
+    Order {
+        epoch: u64,
+        what: What,
+        version: Version,
+    },
+    /// A node has done it.
+    Obeyed {
+        epoch: u64,
+        what: What,
+        version: Version,
+    },
 }
 
 /// A copy of a row.
-fn copy_row(alloc: Global, row: &Row) -> Result<Row, NoMemory>
+pub fn copy_row(alloc: Global, row: &Row) -> Result<Row, NoMemory>
     ensures { IfOk result (λ copy. copy ≡ row.now) }
 {
     let mut copy = Row::new(alloc);
@@ -138,6 +196,8 @@ impl Notice {
     {
         match self {
             Notice::Did(values) => Ok(Notice::Did(copy_values(alloc, values)?)),
+            Notice::Yes(values) => Ok(Notice::Yes(copy_values(alloc, values)?)),
+            Notice::No(cause) => Ok(Notice::No(*cause)),
         }
     }
 }
@@ -149,6 +209,7 @@ impl Answer {
     {
         match self {
             Answer::Whole(values) => Ok(Answer::Whole(copy_values(alloc, values)?)),
+            Answer::Aborted(cause) => Ok(Answer::Aborted(*cause)),
         }
     }
 }
@@ -221,6 +282,60 @@ impl Body {
                 row: copy_row(alloc, row)?,
             }),
             Body::Advanced { version } => Ok(Body::Advanced { version: *version }),
+            Body::Decide {
+                tree,
+                version,
+                commit,
+            } => Ok(Body::Decide {
+                tree: *tree,
+                version: *version,
+                commit: *commit,
+            }),
+            Body::Decided { tree, version } => Ok(Body::Decided {
+                tree: *tree,
+                version: *version,
+            }),
+            Body::Release { tree } => Ok(Body::Release { tree: *tree }),
+            Body::Wake { tree, sub } => Ok(Body::Wake {
+                tree: *tree,
+                sub: *sub,
+            }),
+            Body::Lose => Ok(Body::Lose),
+            Body::AdvanceNo { advance } => Ok(Body::AdvanceNo { advance: *advance }),
+            Body::Ask { epoch } => Ok(Body::Ask { epoch: *epoch }),
+            Body::Numbers {
+                epoch,
+                update,
+                read,
+                low,
+            } => Ok(Body::Numbers {
+                epoch: *epoch,
+                update: *update,
+                read: *read,
+                low: *low,
+            }),
+            Body::Wanted { epoch, advances } => Ok(Body::Wanted {
+                epoch: *epoch,
+                advances: *advances,
+            }),
+            Body::Order {
+                epoch,
+                what,
+                version,
+            } => Ok(Body::Order {
+                epoch: *epoch,
+                what: *what,
+                version: *version,
+            }),
+            Body::Obeyed {
+                epoch,
+                what,
+                version,
+            } => Ok(Body::Obeyed {
+                epoch: *epoch,
+                what: *what,
+                version: *version,
+            }),
         }
     }
 }

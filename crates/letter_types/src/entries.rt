@@ -83,5 +83,14 @@ pub struct Entry {
     pub acts: Acts,
 }
 
+/// An entry without its acts: what the passing of letters looks at.
+#[derive(Drop)]
+pub struct Posting {
+    pub stamp: Stamp,
+    pub actor: ActorNo,
+    pub took: Letter,
+    pub sent: Letters,
+}
+
 /// Entries by stamp. At most 2^40 of them: a growth past that finds no memory.
 pub type History = Seq<Entry, 0x100_0000_0000>;

@@ -4,10 +4,12 @@
 mod acts;
 mod bodies;
 mod entries;
+mod votes;
 
 pub use acts::{Act, Acts};
-pub use bodies::{Answer, Body, Notice, Row, Values, copy_values};
-pub use entries::{Entry, History, Letter, LetterId, Letters, Outgoing, Step, StepOut};
+pub use bodies::{Answer, Body, Notice, Row, What, copy_row};
+pub use entries::{Entry, History, Letter, LetterId, Letters, Outgoing, Posting, Step, StepOut};
+pub use votes::{Cause, Vote};
 
 #[cfg(test)]
 mod tests;

@@ -1,0 +1,19 @@
+ghost use Rattle.std.specs.Prelude.{◌≡◌, IfOk};
+
+use crate::value::Value;
+use std::alloc::Global;
+use tv_base::{ItemNo, NoMemory, Seq};
+
+/// The values that the gets of a subtransaction or of a tree gave, each with its item, in order.
+pub type Values = Seq<(ItemNo, Value), 0xffff_ffff>;
+
+/// An equal list of values.
+pub fn copy_values(alloc: Global, values: &Values) -> Result<Values, NoMemory>
+    ensures { IfOk result (λ copy. copy ≡ values.now) }
+{
+    let mut copy = Values::new(alloc);
+    for entry in values.items() {
+        copy.push((entry.0, entry.1.copy(alloc)?))?;
+    }
+    Ok(copy)
+}

@@ -1,0 +1,38 @@
+// Votes of strict trees.
+ghost use Rattle.std.specs.Prelude.{◌≡◌, IfOk};
+
+use commute_ops::{Amount, Values, copy_values};
+use std::alloc::Global;
+use tv_base::{ItemNo, NoMemory, TreeNo, Version};
+
+/// Why a subtransaction of a strict tree votes no.
+#[derive(Clone, Copy, Debug, PartialEq, Eq)]
+pub enum Cause {
+    /// Another tree has a lock on the item that doesn't go with the one wanted.
+    Conflict { item: ItemNo, holder: TreeNo },
+    /// The item is held in a version above the tree's; this is the greatest.
+    Newer { item: ItemNo, version: Version },
+    /// The item has less than is to be drawn.
+    Short { item: ItemNo, found: Amount },
+}
+
+/// How a subtransaction of a strict tree votes.
+#[derive(Drop)]
+pub enum Vote {
+    /// It can be done, and its gets give these values.
+    Yes(Values),
+    /// It can't be done, for this cause.
+    No(Cause),
+}
+
+impl Vote {
+    /// An equal vote.
+    pub fn copy(&self, alloc: Global) -> Result<Vote, NoMemory>
+        ensures { IfOk result (λ copy. copy ≡ self.now) }
+    {
+        match self {
+            Vote::Yes(values) => Ok(Vote::Yes(copy_values(alloc, values)?)),
+            Vote::No(cause) => Ok(Vote::No(*cause)),
+        }
+    }
+}

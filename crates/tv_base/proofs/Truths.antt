@@ -1,0 +1,12 @@
+-- Tests that hold: of a number and itself, and each of two where both do.
+use Rattle.std.proofs.Common.{◌≡◌, ◌==◌, ◌&&◌, ℕ, Bool, true, refl}
+use Rattle.std.proofs.lemmas.Bool.{and_parts, eq-eqb}
+
+pub same_test : (n : ℕ) → (n == n) ≡ true
+same_test n = eq-eqb n n refl
+
+pub left_true : (a b : Bool) → (a && b) ≡ true → a ≡ true
+left_true a b is = (and_parts a b is).0
+
+pub right_true : (a b : Bool) → (a && b) ≡ true → b ≡ true
+right_true a b is = (and_parts a b is).1
