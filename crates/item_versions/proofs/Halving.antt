@@ -91,5 +91,3 @@ pub ruleset halving = (before-middle, after-middle)
 pub ruleset finding = (item_in-at, item_in-none)
 
 pub ruleset replacing = (replaced-at, replaced-none)
-
-pub ruleset collecting = (IsAscending-set)

@@ -1,14 +1,15 @@
 -- Any list of updates and collections.
-use Rattle.std.proofs.Common.{◌≡◌, ℕ, ◌≤◌, false, ◌&&◌, ◌||◌, ◌==◌, List, [], ◌∷◌, ◌++◌, ltb, refl, ap, ◌∙◌, arith, Some, inl, inr, option_map}
+use Rattle.std.proofs.Common.{◌≡◌, ◌≤◌, false, ◌&&◌, ◌||◌, ◌==◌, List, [], ◌∷◌, ◌++◌, ltb, refl, ap, ◌∙◌, arith, Some, inl, inr, option_map}
 use Rattle.std.proofs.lemmas.Bool.{cases_lt, lt-ltb, le-ltb, le-leb, lt-leb}
 use Rattle.std.proofs.lemmas.Bool.Decides.{nat_tests}
 use Rattle.tv_base.specs.declared.numbers.Version.{Version}
 use Rattle.commute_ops.specs.declared.value.Value.{Value}
 use Rattle.commute_ops.specs.declared.kinds.Op.{Op}
 use Rattle.commute_ops.specs.Ops.{applied}
-use Rattle.item_versions.specs.Item.{Held, AscendsAbove, IsHeld, below, above, applied_to_all, touched, collected, seen, seen_after}
-use Rattle.item_versions.specs.History.{Step, touch, collect, new_held, held_after, CanRun, low_after, ops_up_to, applied_each, touches, holds, SeesUpdates, HoldsUpdated, StaysHeld}
+use Rattle.item_versions.specs.Item.{Held, IsHeld, below, above, applied_to_all, touched, holds, collected, seen, seen_after}
+use Rattle.item_versions.specs.History.{Step, touch, collect, new_held, held_after, CanRun, low_after, ops_up_to, applied_each, touches, SeesUpdates, HoldsUpdated, StaysHeld}
 use Rattle.item_versions.proofs.Order.{IsHeld-touched, IsHeld-collected, below-nil}
+use Rattle.item_versions.proofs.Rooms.{holds-later}
 use Rattle.item_versions.proofs.Seen.{seen-touched_from, seen-touched_below, seen-collected}
 
 abbrev LowestIs : Version → Held → Type 0
@@ -26,7 +27,7 @@ low-grows : (steps : List Step) (f : Version) (h : Held) → IsHeld h → Lowest
 low-grows steps f [] held low can = absurd low
 low-grows [] f (x ∷ xs) held low can = omega arith
 low-grows (touch v op ∷ steps) f (x ∷ xs) held low can =
-    low-grows steps f (touched v op (x ∷ xs)) (IsHeld-touched v op (x ∷ xs) held) (LowestIs-touched f v op x xs held low can.0) can.2
+    low-grows steps f (touched v op (x ∷ xs)) (IsHeld-touched v op (x ∷ xs) held) (LowestIs-touched f v op x xs held low can.0) can.3
 low-grows (collect g ∷ steps) f (x ∷ xs) held low can =
     let rest = low-grows steps g (collected g (x ∷ xs)) (IsHeld-collected g (x ∷ xs) held) refl can.1 in omega (arith, can.0, low)
 
@@ -40,10 +41,10 @@ seen-after v (touch u op ∷ steps) f (x ∷ xs) w held low can le is =
     elim (cases_lt v.0 u.0) [
       | inl less ↦
           rw (lt-leb u.0 v.0 less)
-          (seen-after v steps f (touched u op (x ∷ xs)) w held' low' can.2 le (seen-touched_below v u op x xs (omega arith) less ∙ is))
+          (seen-after v steps f (touched u op (x ∷ xs)) w held' low' can.3 le (seen-touched_below v u op x xs (omega arith) less ∙ is))
       | inr more ↦
           rw (le-leb u.0 v.0 more)
-          (seen-after v steps f (touched u op (x ∷ xs)) (applied w op) held' low' can.2 le (seen-touched_from v u op x xs held more ∙ ap (λ o. option_map (λ z. applied z op) o) is))
+          (seen-after v steps f (touched u op (x ∷ xs)) (applied w op) held' low' can.3 le (seen-touched_from v u op x xs held more ∙ ap (λ o. option_map (λ z. applied z op) o) is))
     ]
 seen-after v (collect g ∷ steps) f (x ∷ xs) w held low can le is =
     let held' = IsHeld-collected g (x ∷ xs) held in
@@ -87,16 +88,12 @@ holds-touched n v op x xs =
     let upper = holds-above n v (x ∷ xs) in
     joined ∙ (let e : (holds n (below v (x ∷ xs)) || (v.0 == n.0 || holds n (applied_to_all op (above v (x ∷ xs))))) ≡ (v.0 == n.0 || holds n (x ∷ xs)) = rw (lower, all, upper) (grind (arith, nat_tests)) in e)
 
-holds-later : (n : Version) (m : ℕ) (xs : Held) → AscendsAbove m xs → n.0 ≤ m → holds n xs ≡ false
-holds-later n m [] up le = refl
-holds-later n m (x ∷ xs) up le = let rest = holds-later n x.0.0 xs up.1 (omega (arith, up.0)) in let less = up.0 in grind (arith, nat_tests)
-
 holds-run : (n : Version) (steps : List Step) (f : Version) (h : Held) → IsHeld h → LowestIs f h → CanRun f steps h → holds n (held_after steps h) ≡ ((low_after f steps).0 == n.0 || (ltb (low_after f steps).0 n.0 && (holds n h || touches n steps)))
 holds-run n steps f [] held low can = absurd low
 holds-run n [] f (x ∷ xs) held low can =
-    let later : n.0 ≤ x.0.0 → holds n xs ≡ false = holds-later n x.0.0 xs held in grind (arith, nat_tests)
+    let later : n.0 ≤ x.0.0 → holds n xs ≡ false = λ le. holds-later n x.0.0 xs le held in grind (arith, nat_tests)
 holds-run n (touch v op ∷ steps) f (x ∷ xs) held low can =
-    let rest = holds-run n steps f (touched v op (x ∷ xs)) (IsHeld-touched v op (x ∷ xs) held) (LowestIs-touched f v op x xs held low can.0) can.2 in
+    let rest = holds-run n steps f (touched v op (x ∷ xs)) (IsHeld-touched v op (x ∷ xs) held) (LowestIs-touched f v op x xs held low can.0) can.3 in
     let same = holds-touched n v op x xs in
     rest ∙ rw same (grind (arith, nat_tests))
 holds-run n (collect g ∷ steps) f (x ∷ xs) held low can =

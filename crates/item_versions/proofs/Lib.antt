@@ -1,6 +1,10 @@
 pub mod Collected
 pub mod Halving
 pub mod History
+pub mod Holding
 pub mod Order
+pub mod Rooms
 pub mod Seen
+pub mod Staging
 pub mod Tables
+pub mod Window

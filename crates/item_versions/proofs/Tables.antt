@@ -1,11 +1,11 @@
 -- Items in their places, and items that are yet to take them.
-use Rattle.std.proofs.Common.{◌≡◌, ◌<◌, ◌≤◌, [], ◌∷◌, ◌++◌, length, set, refl, ap, sym, ◌∙◌, arith, Some, None, inl, inr}
-use Rattle.std.proofs.lemmas.Bool.{cases_eq, eq-eqb, ne_eqb}
+use Rattle.std.specs.List.{AllByRecursion}
+use Rattle.std.proofs.Common.{◌==◌, subst, ◌≡◌, ◌<◌, ◌≤◌, [], ◌∷◌, ◌++◌, length, set, refl, ap, sym, ◌∙◌, arith, Some, None, inl, inr}
+use Rattle.std.proofs.lemmas.Bool.{cases_eq, cond_both, eq-eqb, ne_eqb}
 use Rattle.std.proofs.lemmas.Bool.Decides.{nat_tests}
 use Rattle.std.proofs.lemmas.Grind.{common_steps}
 use Rattle.tv_base.specs.declared.numbers.ItemNo.{ItemNo}
 use Rattle.item_versions.specs.Item.{Held}
-use Rattle.item_versions.proofs.Halving.{IsAscending-replaced}
 use Rattle.item_versions.specs.Table.{Table, item_in, place_of, replaced, with_item, pending}
 
 pub place_of-le : (n : ItemNo) (t : Table) → place_of n t ≤ length t
@@ -107,10 +107,35 @@ item_in-pending_some n h k (e ∷ es) t is there =
 pub pending-staged : (n : ItemNo) (h k : Held) (s t : Table) → item_in n t ≡ Some k → item_in n s ≡ Some h → item_in n (pending s t) ≡ Some h
 pending-staged n h k s t there is = item_in-pending_some n h k s t is there
 
-pub ruleset placing = (place_of-le, set-place_of_with, with_item-absent)
+-- what holds of each item of a table
+module _ (P : Held → Type 0) where
+  abbrev pub Each : Table → Type 0
+  Each t = AllByRecursion (λ e. P e.1) t
+
+  pub each-replaced : (n : ItemNo) (h : Held) (t : Table) → P h → Each t → Each (replaced n h t)
+  each-replaced n h [] one all = tt
+  each-replaced n h (e ∷ es) one all =
+      cond_both (e.0.0 == n.0) ((n, h) ∷ es) (e ∷ replaced n h es) Each
+      (λ _. (one, all.1))
+      (λ _. (all.0, each-replaced n h es one all.1))
+
+  pub each-pending : (s t : Table) → Each s → Each t → Each (pending s t)
+  each-pending [] t alls all = all
+  each-pending (e ∷ es) t alls all = each-replaced e.0 e.1 (pending es t) alls.0 (each-pending es t alls.1 all)
+
+  pub each-append : (s t : Table) → Each s → Each t → Each (s ++ t)
+  each-append [] t alls all = all
+  each-append (e ∷ es) t alls all = (alls.0, each-append es t alls.1 all)
+
+  pub each-item : (n : ItemNo) (t : Table) (h : Held) → item_in n t ≡ Some h → Each t → P h
+  each-item n [] h is all = cc
+  each-item n (e ∷ es) h is all =
+      elim (cases_eq e.0.0 n.0) [
+        | inl eq ↦
+            let same : Some e.1 ≡ Some h = rw (eq-eqb e.0.0 n.0 eq) at is in
+            let same' : e.1 ≡ h = cc in
+            subst P same' all.0
+        | inr ne ↦ each-item n es h (rw (ne_eqb e.0.0 n.0 ne) at is) all.1
+      ]
 
 pub ruleset finding = (pending-staged, item_in-pending_none, item_in-pending_absent)
-
-pub ruleset staging = (pending-with_item)
-
-pub ruleset putting = (pending-push, IsAscending-replaced)

@@ -4,7 +4,7 @@ use Rattle.tv_base.specs.declared.numbers.Version.{Version}
 use Rattle.commute_ops.specs.declared.value.Value.{Value}
 use Rattle.commute_ops.specs.declared.kinds.Op.{Op}
 use Rattle.commute_ops.specs.Ops.{applied}
-use Rattle.item_versions.specs.Item.{Held, IsHeld, seen, touched, may_touch, collected, CanCollect}
+use Rattle.item_versions.specs.Item.{Held, IsHeld, seen, touched, may_touch, holds, has_room, collected, CanCollect}
 
 -- an update in a version, or a collection to one
 pub data Step : Type 0 where
@@ -24,7 +24,8 @@ held_after (collect f ∷ steps) h = held_after steps (collected f h)
 -- each step may be made, and no update is in a version below the last collected to, which is f before the first step
 abbrev pub CanRun : Version → List Step → Held → Type 0
 CanRun f [] h = ⊤
-CanRun f (touch v op ∷ steps) h = (f.0 ≤ v.0) × IsTrue (may_touch v op h) × CanRun f steps (touched v op h)
+CanRun f (touch v op ∷ steps) h =
+    (f.0 ≤ v.0) × IsTrue (may_touch v op h) × IsTrue (has_room v h) × CanRun f steps (touched v op h)
 CanRun f (collect g ∷ steps) h = CanCollect g h × CanRun g steps (collected g h)
 
 -- the version last collected to, or the one given where there is no collection
@@ -50,15 +51,11 @@ touches v [] = false
 touches v (touch u op ∷ steps) = u.0 == v.0 || touches v steps
 touches v (collect f ∷ steps) = touches v steps
 
--- version v is held
-abbrev pub holds : Version → Held → Bool
-holds v [] = false
-holds v (x ∷ xs) = x.0.0 == v.0 || holds v xs
-
 -- in a version from the last collected to up, the initial value is seen with every update of up to that version
 abbrev pub SeesUpdates : Type 0
 SeesUpdates =
-    (w : Value) (steps : List Step) (v : Version) → CanRun (record { 0 = 0 }) steps (new_held w) → (low_after (record { 0 = 0 }) steps).0 ≤ v.0
+    (w : Value) (steps : List Step) (v : Version)
+    → CanRun (record { 0 = 0 }) steps (new_held w) → (low_after (record { 0 = 0 }) steps).0 ≤ v.0
     → seen v (held_after steps (new_held w)) ≡ Some (applied_each w (ops_up_to v steps))
 
 -- the versions held are the one last collected to, and those above it that have an update
@@ -66,7 +63,8 @@ abbrev pub HoldsUpdated : Type 0
 HoldsUpdated =
     (w : Value) (steps : List Step) (v : Version) → CanRun (record { 0 = 0 }) steps (new_held w)
     → holds v (held_after steps (new_held w))
-    ≡ ((low_after (record { 0 = 0 }) steps).0 == v.0 || (nat_lt (low_after (record { 0 = 0 }) steps).0 v.0 && touches v steps))
+    ≡ ((low_after (record { 0 = 0 }) steps).0 == v.0
+    || (nat_lt (low_after (record { 0 = 0 }) steps).0 v.0 && touches v steps))
 
 -- what is held always ascends
 abbrev pub StaysHeld : Type 0

@@ -1,10 +1,11 @@
 -- What an item holds: its values by version.
-use Rattle.std.specs.Prelude.{ℕ, Bool, true, false, not, ◌&&◌, ◌||◌, ◌+◌, ◌<◌, ◌≤◌, List, [], ◌∷◌, ◌++◌, map, if◌then◌else◌, nat_lt, nat_le, ⊤, Option, Some, None}
+use Rattle.std.specs.Prelude.{ℕ, Bool, true, false, not, ◌&&◌, ◌||◌, ◌+◌, ◌<◌, ◌≤◌, ◌==◌, List, [], ◌∷◌, ◌++◌, length, map, if◌then◌else◌, nat_lt, nat_le, ⊤, Option, Some, None}
 use Rattle.std.specs.List.{filter}
 use Rattle.tv_base.specs.declared.numbers.Version.{Version}
 use Rattle.commute_ops.specs.declared.value.Value.{Value}
 use Rattle.commute_ops.specs.declared.kinds.Op.{Op}
-use Rattle.commute_ops.specs.Ops.{applied, may_apply}
+use Rattle.commute_ops.specs.Ops.{applied, is_bag, may_apply}
+use Rattle.item_versions.specs.declared.item.TheConstants.{MOST_VERSIONS}
 
 -- values by version
 abbrev pub Held : Type 0
@@ -57,6 +58,24 @@ may_apply_above v op (x ∷ xs) = (not (nat_lt v.0 x.0.0) || may_apply x.1 op) &
 abbrev pub may_touch : Version → Op → Held → Bool
 may_touch v op [] = false
 may_touch v op (x ∷ xs) = may_apply (seen_after x.1 v xs) op && may_apply_above v op (x ∷ xs)
+
+-- version v is held
+abbrev pub holds : Version → Held → Bool
+holds v [] = false
+holds v (x ∷ xs) = x.0.0 == v.0 || holds v xs
+
+-- there is room for version v: it is held, or fewer versions are held than may be
+abbrev pub has_room : Version → Held → Bool
+has_room v xs = holds v xs || nat_lt (length xs) MOST_VERSIONS
+
+-- some value is a bag
+abbrev pub has_bag : Held → Bool
+has_bag [] = false
+has_bag (x ∷ xs) = is_bag x.1 || has_bag xs
+
+-- what is held once version v has this value: v is made where it is not there, and all other versions stay
+abbrev pub put_value : Version → Value → Held → Held
+put_value v w xs = below v xs ++ (v, w) ∷ above v xs
 
 -- what is held after a collection to version f
 abbrev pub collected : Version → Held → Held

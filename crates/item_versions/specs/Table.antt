@@ -1,10 +1,11 @@
 -- What a table holds: items by number.
 use Rattle.std.specs.Prelude.{ℕ, ◌+◌, ◌<◌, Bool, false, List, [], ◌∷◌, if◌then◌else◌, ◌==◌, Option, Some, None}
-use Rattle.std.specs.List.{All, AllPairs}
+use Rattle.std.specs.List.{All, AllByRecursion, AllPairs}
 use Rattle.tv_base.specs.declared.numbers.ItemNo.{ItemNo}
 use Rattle.tv_base.specs.declared.numbers.Version.{Version}
 use Rattle.commute_ops.specs.declared.kinds.Op.{Op}
-use Rattle.item_versions.specs.Item.{Held, touched, may_touch}
+use Rattle.commute_ops.specs.declared.value.Value.{Value}
+use Rattle.item_versions.specs.Item.{Held, IsHeld, touched, may_touch, has_room, put_value}
 
 -- items by number
 abbrev pub Table : Type 0
@@ -13,6 +14,15 @@ Table = List (ItemNo × Held)
 -- the numbers ascend
 abbrev pub IsAscending : Table → Type 0
 IsAscending t = AllPairs (λ a b. a.0.0 < b.0.0) t
+
+-- of each item at least one version is held, and its versions ascend
+abbrev pub IsHeldTable : Table → Type 0
+IsHeldTable t = AllByRecursion (λ e. IsHeld e.1) t
+
+-- what a table always keeps: its numbers ascend, and so do the versions of each item
+pub record IsTable (t : Table) : Type 0 where
+  pub ascending : IsAscending t
+  pub held : IsHeldTable t
 
 -- the number is greater than every number of the table
 abbrev pub IsAfter : ItemNo → Table → Type 0
@@ -55,3 +65,16 @@ touched_in v n op t = updated v op (item_in n t) n t
 -- the item is there, and the update may be made
 abbrev pub may_touch_in : Version → ItemNo → Op → Table → Bool
 may_touch_in v n op t = elim (item_in n t) [ None ↦ false | Some h ↦ may_touch v op h ]
+
+-- the item is there, and has room for version v
+abbrev pub has_room_in : Version → ItemNo → Table → Bool
+has_room_in v n t = elim (item_in n t) [ None ↦ false | Some h ↦ has_room v h ]
+
+-- what is held of an item is given a value
+abbrev pub valued : Version → Value → Option Held → ItemNo → Table → Table
+valued v w None n t = t
+valued v w (Some h) n t = replaced n (put_value v w h) t
+
+-- the table once version v of one item has this value
+abbrev pub put_value_in : Version → ItemNo → Value → Table → Table
+put_value_in v n w t = valued v w (item_in n t) n t

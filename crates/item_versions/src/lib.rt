@@ -5,7 +5,7 @@ mod item;
 mod laws;
 mod table;
 
-pub use item::Item;
+pub use item::{Item, MOST_VERSIONS};
 pub use laws::any_updates_and_collections;
 pub use table::{ItemTable, Staged};
 

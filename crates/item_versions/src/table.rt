@@ -1,8 +1,8 @@
 ghost use Rattle.std.specs.Prelude.{◌≡◌, ◌++◌, ◌∷◌, ◌<◌, [], length, slice_get, slice_set, slice_index_or, IfSome, IfNone, IsSome, IsTrue, OnOk, OnErr, Some};
 ghost use Rattle.std.specs.Option.{option_copied};
 ghost use Rattle.std.specs.List.{All};
-ghost use Rattle.item_versions.specs.Item.{CanCollect, collected};
-ghost use Rattle.item_versions.specs.Table.{IsAscending, IsAfter, item_in, place_of, replaced, with_item, pending, touched_in, may_touch_in};
+ghost use Rattle.item_versions.specs.Item.{CanCollect, collected, has_room, may_touch, put_value, touched};
+ghost use Rattle.item_versions.specs.Table.{IsAscending, IsAfter, IsHeldTable, item_in, place_of, replaced, pending, touched_in, may_touch_in, has_room_in, put_value_in};
 
 use crate::item::Item;
 use commute_ops::{Op, Value};
@@ -17,16 +17,17 @@ pub struct ItemTable {
 }
 
 impl Model for ItemTable {
-    ghost use Rattle.item_versions.specs.Table.{Table, IsAscending};
+    ghost use Rattle.item_versions.specs.Table.{Table, IsTable};
 
     ghost Value = { Table };
 
     ghost view = { λ t. t.entries.items };
 
-    ghost invariant = { λ t. IsAscending t.entries.items };
+    ghost invariant = { λ t. IsTable t.entries.items };
 }
 
 /// Items as they will be, which a table has yet to take. It is searched from end to end, so it serves for a few.
+/// Each item is copied once, when it is first staged, and then changed in place.
 #[derive(Drop)]
 pub struct Staged {
     entries: Vec<(ItemNo, Item)>,
@@ -63,13 +64,14 @@ impl ItemTable {
 
     /// Adds an item, of a number above every other, with this value in version 0. Where no memory is found the
     /// table is unchanged and the value is let go.
+    #[tactic(auto, using(crate::proofs::Holding::adding))]
     pub fn add(&mut self, item: ItemNo, value: Value) -> Result<(), NoMemory>
         requires { IsAfter item self.old }
         ensures ok { OnOk result (self.new ≡ self.old ++ (item, (record { 0 = 0 }, value) ∷ []) ∷ []) }
         ensures err { OnErr result (self.new ≡ self.old) }
     {
         let alloc = *self.entries.allocator();
-        let made = Item::new(alloc, value)?;
+        let made = Item::new(value);
         self.entries.push((item, made))?;
         Ok(())
     }
@@ -78,6 +80,7 @@ impl ItemTable {
     pub fn count(&self) -> usize
         ensures count { result ≡ length self.now }
         ensures ascending { IsAscending self.now }
+        ensures held { IsHeldTable self.now }
     {
         self.entries.len()
     }
@@ -103,7 +106,6 @@ impl ItemTable {
     }
 
     /// Collects the item at a place to version `f`. The other items stay.
-    #[tactic(auto, using(crate::proofs::Halving::collecting))]
     pub fn collect_at(&mut self, place: usize, f: Version)
         requires within { place < length self.old }
         requires can { IfSome (slice_get self.old place) (λ e. CanCollect f e.1) }
@@ -134,9 +136,22 @@ impl ItemTable {
         }
     }
 
+    /// Whether the table has the item, and it has room for version `v` as it is with what is staged.
+    pub fn has_room(&self, staged: &Staged, v: Version, item: ItemNo) -> bool
+        ensures { result ≡ has_room_in v item (pending staged.now self.now) }
+    {
+        match self.current(staged, item) {
+            Some(current) => current.has_room(v),
+            None => false,
+        }
+    }
+
     /// Stages an update of one item in version `v`, made to the item as it is with what is staged. The table stays
     /// as it is. Where no memory is found, so does what is staged.
-    #[tactic(auto, using(crate::proofs::Tables::staging))]
+    ///
+    /// An item that is staged already is changed in place, and wants memory only for bags: each from version `v` up
+    /// is copied once. Any other is copied.
+    #[tactic(auto, using(crate::proofs::Staging::staging))]
     pub fn stage(
         &self,
         staged: &mut Staged,
@@ -144,22 +159,60 @@ impl ItemTable {
         item: ItemNo,
         op: &Op,
     ) -> Result<(), NoMemory>
-        requires { IsTrue (may_touch_in v item op.now (pending staged.old self.now)) }
+        requires may { IsTrue (may_touch_in v item op.now (pending staged.old self.now)) }
+        requires room { IsTrue (has_room_in v item (pending staged.old self.now)) }
         ensures ok { OnOk result
             (pending staged.new self.now ≡ touched_in v item op.now (pending staged.old self.now)) }
         ensures err { OnErr result (staged.new ≡ staged.old) }
     {
-        let next = self.current(staged, item).unwrap().touched(v, op)?;
-        put(&mut staged.entries, item, next)
+        let alloc = *staged.entries.allocator();
+        let place = staged_place(&staged.entries, item);
+        if place < staged.entries.len() {
+            return touch_entry(&mut staged.entries, place, alloc, v, op);
+        }
+        let next = self.item(item).unwrap().touched(alloc, v, op)?;
+        staged.entries.push((item, next))?;
+        Ok(())
+    }
+
+    /// Stages that version `v` of one item has this value. All other versions stay as they are with what is staged.
+    /// The table stays as it is. Where no memory is found, so does what is staged, and the value is let go.
+    ///
+    /// An item that is staged already is changed in place, and wants no memory. Any other is copied.
+    #[tactic(auto, using(crate::proofs::Staging::staging))]
+    pub fn stage_value(
+        &self,
+        staged: &mut Staged,
+        v: Version,
+        item: ItemNo,
+        value: Value,
+    ) -> Result<(), NoMemory>
+        requires { IsTrue (has_room_in v item (pending staged.old self.now)) }
+        ensures ok { OnOk result
+            (pending staged.new self.now ≡ put_value_in v item value (pending staged.old self.now)) }
+        ensures err { OnErr result (staged.new ≡ staged.old) }
+    {
+        let alloc = *staged.entries.allocator();
+        let place = staged_place(&staged.entries, item);
+        if place < staged.entries.len() {
+            put_in_entry(&mut staged.entries, place, v, value);
+            return Ok(());
+        }
+        let mut next = self.item(item).unwrap().copy(alloc)?;
+        next.put_value(v, value);
+        staged.entries.push((item, next))?;
+        Ok(())
     }
 
     /// Puts every staged item in its place. Wants no memory.
-    #[tactic(auto, using(crate::proofs::Tables::putting))]
+    #[tactic(auto, using(crate::proofs::Holding::putting))]
     pub fn put_staged(&mut self, staged: Staged)
         ensures { self.new ≡ pending staged self.old }
     {
         let mut entries = staged.entries;
         while let Some((item, next)) = entries.pop() {
+            // The reader says that the versions ascend.
+            let _held = next.held();
             replace(&mut self.entries, item, next);
         }
     }
@@ -235,17 +288,32 @@ fn staged_place(entries: &[(ItemNo, Item)], item: ItemNo) -> usize
     entries.len()
 }
 
-/// Puts the item in place of what is there of it, or at the end.
-#[tactic(auto, using(crate::proofs::Tables::placing))]
-fn put(entries: &mut Vec<(ItemNo, Item)>, item: ItemNo, next: Item) -> Result<(), NoMemory>
-    ensures ok { OnOk result (entries.new.items ≡ with_item item next entries.old.items) }
+/// Makes an update to the item at a place.
+fn touch_entry(
+    entries: &mut Vec<(ItemNo, Item)>,
+    place: usize,
+    alloc: Global,
+    v: Version,
+    op: &Op,
+) -> Result<(), NoMemory>
+    requires within { place < length entries.old.items }
+    requires may { IfSome (slice_get entries.old.items place) (λ e. IsTrue (may_touch v op.now e.1)) }
+    requires room { IfSome (slice_get entries.old.items place) (λ e. IsTrue (has_room v e.1)) }
+    ensures ok { OnOk result (IfSome (slice_get entries.old.items place)
+        (λ e. entries.new.items ≡ slice_set entries.old.items place (e.0, touched v op.now e.1))) }
     ensures err { OnErr result (entries.new.items ≡ entries.old.items) }
 {
-    let place = staged_place(entries, item);
-    if place < entries.len() {
-        entries[place] = (item, next);
-    } else {
-        entries.push((item, next))?;
-    }
-    Ok(())
+    let entry = &mut entries[place];
+    entry.1.touch(alloc, v, op)
+}
+
+/// Gives version `v` of the item at a place this value.
+fn put_in_entry(entries: &mut Vec<(ItemNo, Item)>, place: usize, v: Version, value: Value)
+    requires within { place < length entries.old.items }
+    requires room { IfSome (slice_get entries.old.items place) (λ e. IsTrue (has_room v e.1)) }
+    ensures { IfSome (slice_get entries.old.items place)
+        (λ e. entries.new.items ≡ slice_set entries.old.items place (e.0, put_value v value e.1)) }
+{
+    let entry = &mut entries[place];
+    entry.1.put_value(v, value);
 }

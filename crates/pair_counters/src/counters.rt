@@ -1,11 +1,14 @@
-ghost use Rattle.std.specs.Prelude.{◌≡◌, ◌<◌, ◌≤◌, ◌^◌, ◌++◌, ◌∷◌, [], length, replicate, IfOk, IsTrue, OnOk, OnErr};
+ghost use Rattle.std.specs.Prelude.{ℕ, ◌≡◌, ◌+◌, ◌%◌, ◌<◌, ◌≤◌, ◌^◌, length, slice_get, IfOk};
 ghost use Rattle.pair_counters.specs.Numbers.{asked_one, done_one, more_at, numbers_of, from_version};
-ghost use Rattle.pair_counters.specs.Counts.{no_counts, with_rows, rows_from, dropped_below};
-ghost use Rattle.pair_counters.specs.Rows.{counts_of, has_row, place_of, asked_in, done_in, no_numbers};
+ghost use Rattle.pair_counters.specs.Counts.{no_counts, dropped_below, CountsThree};
+ghost use Rattle.pair_counters.specs.Rows.{counts_of, is_kept, number_of, asked_in, done_in, no_numbers};
 
 use std::alloc::Global;
 use std::marker::Model;
 use tv_base::{NoMemory, NodeNo, Seq, Version};
+
+/// How many versions are counted at a time.
+const VERSIONS: u64 = 3;
 
 /// Numbers by node.
 pub type Row = Seq<u64, 0xffff_ffff>;
@@ -13,17 +16,17 @@ pub type Row = Seq<u64, 0xffff_ffff>;
 /// The numbers of one version, by node. The places from the number of nodes on are not read.
 #[derive(Drop)]
 pub struct CounterRow {
-    pub version: Version,
     pub asked: [u64; 64],
     pub done: [u64; 64],
 }
 
-/// The requests to other nodes, and the completions from them, that a node counts by version. A version counts once it
-/// has its rows.
+/// The requests to other nodes, and the completions from them, that a node counts by version: for the low version and
+/// the two after it. Three rows are used in turn, that of version `v` is `v` mod 3.
 #[derive(Drop)]
 pub struct Counters {
     nodes: u8,
-    rows: Vec<CounterRow>,
+    low: Version,
+    rows: [CounterRow; 3],
 }
 
 impl Model for Counters {
@@ -32,20 +35,21 @@ impl Model for Counters {
 
     ghost Value = { CounterRows };
 
-    ghost view = { λ c. record { nodes = c.nodes; rows = c.rows.items } };
+    ghost view = { λ c. record { nodes = c.nodes; low = c.low.0; rows = c.rows } };
 
     ghost invariant = { λ c. c.nodes ≤ 64 };
 }
 
 impl Counters {
-    /// Counters for so many nodes, at most 64, with no rows.
-    pub fn new(alloc: Global, nodes: u8) -> Counters
+    /// Counters for so many nodes, at most 64, with nothing counted. The low version is 0.
+    pub fn new(nodes: u8) -> Counters
         requires { nodes ≤ 64 }
         ensures { counts_of result ≡ no_counts nodes }
     {
         Counters {
             nodes,
-            rows: Vec::new(alloc),
+            low: Version(0),
+            rows: [no_numbers(), no_numbers(), no_numbers()],
         }
     }
 
@@ -57,187 +61,178 @@ impl Counters {
         self.nodes
     }
 
-    /// Whether version `v` has its rows.
-    pub fn has_rows(&self, v: Version) -> bool
-        ensures { result ≡ (counts_of self.now).rows v.0 }
+    /// The low version: the greatest that was given to `drop_below`, 0 at first. It and the two after it are counted,
+    /// the numbers of all others are 0.
+    pub fn low(&self) -> Version
+        ensures low { result.0 ≡ (counts_of self.now).low }
+        ensures three { CountsThree (counts_of self.now) }
     {
-        has_row(&self.rows, v)
+        self.low
     }
 
-    /// Sees to it that version `v` has its rows. Where no memory is found the counters are unchanged.
-    pub fn room(&mut self, v: Version) -> Result<(), NoMemory>
-        ensures ok { OnOk result (counts_of self.new ≡ with_rows v.0 (counts_of self.old)) }
-        ensures err { OnErr result (self.new ≡ self.old) }
-    {
-        if has_row(&self.rows, v) {
-            return Ok(());
-        }
-        self.rows.push(no_numbers(v))?;
-        Ok(())
-    }
+    /// Sees to it that version `v` can be counted. All numbers stay. Wants no memory, since the rows are there.
+    pub fn room(&mut self, v: Version)
+        requires from { (counts_of self.old).low ≤ v.0 }
+        requires up_to { v.0 ≤ (counts_of self.old).low + 2 }
+        ensures { self.new ≡ self.old }
+    {}
 
     /// Counts one more request of version `v` to a node.
     pub fn asked(&mut self, v: Version, to: NodeNo)
-        requires rows { IsTrue ((counts_of self.old).rows v.0) }
+        requires from { (counts_of self.old).low ≤ v.0 }
+        requires up_to { v.0 ≤ (counts_of self.old).low + 2 }
         requires node { to.0 < (counts_of self.old).nodes }
         requires below { (counts_of self.old).numbers.asked v.0 to.0 < 2 ^ 63 }
-        ensures { counts_of self.new ≡ record (counts_of self.old) { numbers = asked_one v.0 to.0 (counts_of self.old).numbers } }
+        ensures { counts_of self.new
+            ≡ record (counts_of self.old) { numbers = asked_one v.0 to.0 (counts_of self.old).numbers } }
     {
         count_asked(&mut self.rows, v, to);
     }
 
     /// Counts one more completion of version `v` from a node.
     pub fn done(&mut self, v: Version, from: NodeNo)
-        requires rows { IsTrue ((counts_of self.old).rows v.0) }
+        requires from { (counts_of self.old).low ≤ v.0 }
+        requires up_to { v.0 ≤ (counts_of self.old).low + 2 }
         requires node { from.0 < (counts_of self.old).nodes }
         requires below { (counts_of self.old).numbers.done v.0 from.0 < 2 ^ 63 }
-        ensures { counts_of self.new ≡ record (counts_of self.old) { numbers = done_one v.0 from.0 (counts_of self.old).numbers } }
+        ensures { counts_of self.new
+            ≡ record (counts_of self.old) { numbers = done_one v.0 from.0 (counts_of self.old).numbers } }
     {
         count_done(&mut self.rows, v, from);
     }
 
-    /// How many requests of version `v` went to a node. 0 where the version has no rows.
+    /// How many requests of version `v` went to a node. 0 where the version isn't counted.
     pub fn asked_at(&self, v: Version, to: NodeNo) -> u64
         requires { to.0 < (counts_of self.now).nodes }
         ensures { result ≡ (counts_of self.now).numbers.asked v.0 to.0 }
     {
-        asked_number(&self.rows, v, to)
+        asked_number(&self.rows, self.low, v, to)
     }
 
-    /// How many completions of version `v` came from a node. 0 where the version has no rows.
+    /// How many completions of version `v` came from a node. 0 where the version isn't counted.
     pub fn done_at(&self, v: Version, from: NodeNo) -> u64
         requires { from.0 < (counts_of self.now).nodes }
         ensures { result ≡ (counts_of self.now).numbers.done v.0 from.0 }
     {
-        done_number(&self.rows, v, from)
+        done_number(&self.rows, self.low, v, from)
     }
 
-    /// The requests of version `v`, by node.
+    /// The requests of version `v`, by node. Zeros where the version isn't counted.
     pub fn asked_row(&self, alloc: Global, v: Version) -> Result<Row, NoMemory>
-        ensures { IfOk result (λ row. row ≡ numbers_of (counts_of self.now).nodes ((counts_of self.now).numbers.asked v.0)) }
+        ensures { IfOk result
+            (λ row. row ≡ numbers_of (counts_of self.now).nodes ((counts_of self.now).numbers.asked v.0)) }
     {
         let mut row = Row::new(alloc);
         for node in 0..self.nodes {
-            row.push(asked_number(&self.rows, v, NodeNo(node)))?;
+            row.push(asked_number(&self.rows, self.low, v, NodeNo(node)))?;
         }
         Ok(row)
     }
 
-    /// The completions of version `v`, by node.
+    /// The completions of version `v`, by node. Zeros where the version isn't counted.
     pub fn done_row(&self, alloc: Global, v: Version) -> Result<Row, NoMemory>
-        ensures { IfOk result (λ row. row ≡ numbers_of (counts_of self.now).nodes ((counts_of self.now).numbers.done v.0)) }
+        ensures { IfOk result
+            (λ row. row ≡ numbers_of (counts_of self.now).nodes ((counts_of self.now).numbers.done v.0)) }
     {
         let mut row = Row::new(alloc);
         for node in 0..self.nodes {
-            row.push(done_number(&self.rows, v, NodeNo(node)))?;
+            row.push(done_number(&self.rows, self.low, v, NodeNo(node)))?;
         }
         Ok(row)
     }
 
-    /// Lets the rows of versions below `v` go. The other versions keep theirs. Wants no memory.
+    /// Lets the numbers of versions below `v` go. The other versions keep theirs. The low version is then `v`, or stays
+    /// where that isn't above it. Wants no memory.
     pub fn drop_below(&mut self, v: Version)
         ensures { counts_of self.new ≡ dropped_below v.0 (counts_of self.old) }
     {
-        keep_from(&mut self.rows, v);
+        if self.low < v {
+            keep_from(&mut self.rows, self.low, v);
+            self.low = v;
+        }
     }
 }
 
-/// A version's row, with nothing counted.
-fn no_numbers(v: Version) -> CounterRow
-    ensures { result ≡ no_numbers v }
+/// A row with nothing counted.
+fn no_numbers() -> CounterRow
+    ensures { result ≡ no_numbers }
 {
     CounterRow {
-        version: v,
         asked: [0; 64],
         done: [0; 64],
     }
 }
 
-/// Whether the version has a row.
-fn has_row(rows: &[CounterRow], v: Version) -> bool
-    ensures { result ≡ has_row rows.now v.0 }
+/// Whether the version is the low one or one of the two after it.
+fn is_kept(low: Version, v: Version) -> bool
+    ensures { result ≡ is_kept low.0 v.0 }
 {
-    for row in rows {
-        if row.version == v {
-            return true;
-        }
-    }
-    false
-}
-
-/// The place of the version's row, or the number of rows where it has none.
-fn place(rows: &[CounterRow], v: Version) -> usize
-    ensures { result ≡ place_of v.0 rows.now }
-{
-    for (i, row) in rows.iter().enumerate() {
-        if row.version == v {
-            return i;
-        }
-    }
-    rows.len()
+    low.0 <= v.0 && v.0 - low.0 < VERSIONS
 }
 
 /// Counts one more request of the version to a node.
-fn count_asked(rows: &mut Vec<CounterRow>, v: Version, to: NodeNo)
-    requires room { IsTrue (has_row rows.old.items v.0) }
+fn count_asked(rows: &mut [CounterRow], v: Version, to: NodeNo)
+    requires three { length rows.old ≡ 3 }
     requires node { to.0 < 64 }
-    requires below { asked_in rows.old.items v.0 to.0 < 2 ^ 63 }
-    ensures asked { asked_in rows.new.items ≡ more_at v.0 to.0 (asked_in rows.old.items) }
-    ensures done { done_in rows.new.items ≡ done_in rows.old.items }
-    ensures rows { has_row rows.new.items ≡ has_row rows.old.items }
+    requires below { number_of (λ r. r.asked) to.0 (slice_get rows.old (v.0 % 3)) < 2 ^ 63 }
+    ensures asked { (low : ℕ) → low ≤ v.0 → v.0 ≤ low + 2
+        → asked_in low rows.new ≡ more_at v.0 to.0 (asked_in low rows.old) }
+    ensures done { (low : ℕ) → low ≤ v.0 → v.0 ≤ low + 2 → done_in low rows.new ≡ done_in low rows.old }
 {
-    let place = place(rows, v);
-    let row = &mut rows[place];
+    let row = &mut rows[(v.0 % VERSIONS) as usize];
     let number = row.asked[to.0 as usize];
     row.asked[to.0 as usize] = number + 1;
 }
 
 /// Counts one more completion of the version from a node.
-fn count_done(rows: &mut Vec<CounterRow>, v: Version, from: NodeNo)
-    requires room { IsTrue (has_row rows.old.items v.0) }
+fn count_done(rows: &mut [CounterRow], v: Version, from: NodeNo)
+    requires three { length rows.old ≡ 3 }
     requires node { from.0 < 64 }
-    requires below { done_in rows.old.items v.0 from.0 < 2 ^ 63 }
-    ensures asked { asked_in rows.new.items ≡ asked_in rows.old.items }
-    ensures done { done_in rows.new.items ≡ more_at v.0 from.0 (done_in rows.old.items) }
-    ensures rows { has_row rows.new.items ≡ has_row rows.old.items }
+    requires below { number_of (λ r. r.done) from.0 (slice_get rows.old (v.0 % 3)) < 2 ^ 63 }
+    ensures asked { (low : ℕ) → low ≤ v.0 → v.0 ≤ low + 2 → asked_in low rows.new ≡ asked_in low rows.old }
+    ensures done { (low : ℕ) → low ≤ v.0 → v.0 ≤ low + 2
+        → done_in low rows.new ≡ more_at v.0 from.0 (done_in low rows.old) }
 {
-    let place = place(rows, v);
-    let row = &mut rows[place];
+    let row = &mut rows[(v.0 % VERSIONS) as usize];
     let number = row.done[from.0 as usize];
     row.done[from.0 as usize] = number + 1;
 }
 
 /// The requests of the version to a node.
-fn asked_number(rows: &[CounterRow], v: Version, to: NodeNo) -> u64
-    requires { to.0 < 64 }
-    ensures { result ≡ asked_in rows.now v.0 to.0 }
+fn asked_number(rows: &[CounterRow], low: Version, v: Version, to: NodeNo) -> u64
+    requires three { length rows.now ≡ 3 }
+    requires node { to.0 < 64 }
+    ensures { result ≡ asked_in low.0 rows.now v.0 to.0 }
 {
-    for row in rows {
-        if row.version == v {
-            return row.asked[to.0 as usize];
-        }
+    if !is_kept(low, v) {
+        return 0;
     }
-    0
+    rows[(v.0 % VERSIONS) as usize].asked[to.0 as usize]
 }
 
 /// The completions of the version from a node.
-fn done_number(rows: &[CounterRow], v: Version, from: NodeNo) -> u64
-    requires { from.0 < 64 }
-    ensures { result ≡ done_in rows.now v.0 from.0 }
+fn done_number(rows: &[CounterRow], low: Version, v: Version, from: NodeNo) -> u64
+    requires three { length rows.now ≡ 3 }
+    requires node { from.0 < 64 }
+    ensures { result ≡ done_in low.0 rows.now v.0 from.0 }
 {
-    for row in rows {
-        if row.version == v {
-            return row.done[from.0 as usize];
-        }
+    if !is_kept(low, v) {
+        return 0;
     }
-    0
+    rows[(v.0 % VERSIONS) as usize].done[from.0 as usize]
 }
 
-/// Keeps the rows of versions from `v` up, in order.
-fn keep_from(rows: &mut Vec<CounterRow>, v: Version)
-    ensures asked { asked_in rows.new.items ≡ from_version v.0 (asked_in rows.old.items) }
-    ensures done { done_in rows.new.items ≡ from_version v.0 (done_in rows.old.items) }
-    ensures rows { has_row rows.new.items ≡ rows_from v.0 (has_row rows.old.items) }
+/// Keeps the numbers of versions from `v` up: the rows of lower ones become those of later versions, with nothing
+/// counted.
+fn keep_from(rows: &mut [CounterRow], low: Version, v: Version)
+    requires three { length rows.old ≡ 3 }
+    requires further { low.0 < v.0 }
+    ensures asked { asked_in v.0 rows.new ≡ from_version v.0 (asked_in low.0 rows.old) }
+    ensures done { done_in v.0 rows.new ≡ from_version v.0 (done_in low.0 rows.old) }
 {
-    rows.retain(|row| v <= row.version);
+    let first = low.0 % VERSIONS;
+    let dropped = (v.0 - low.0).min(VERSIONS);
+    for k in 0..dropped {
+        rows[((first + k) % VERSIONS) as usize] = no_numbers();
+    }
 }

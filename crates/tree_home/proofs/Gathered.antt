@@ -1,12 +1,13 @@
--- What is gathered of notices, and how many are missing.
-use Rattle.std.proofs.Common.{◌≡◌, ℕ, zero, suc, ◌+◌, ◌<◌, ◌≤◌, Bool, true, List, [], ◌∷◌, ◌++◌, length, get_or, set, refl, ap, subst, sym, ◌∙◌, arith, append_assoc, append-nil, Option, Some, None, inl, inr}
-use Rattle.std.specs.Prelude.{IsSome, IsTrue, slice_get}
-use Rattle.std.proofs.lemmas.Bool.Decides.{nat_tests}
+-- What is gathered of notices, how many are missing, and a tree that has one more.
+use Rattle.std.proofs.Common.{◌≡◌, ℕ, zero, suc, ◌+◌, ◌<◌, ◌≤◌, List, [], ◌∷◌, ◌++◌, length, set, refl, ap, subst, ◌∙◌, arith, append_assoc, append-nil, Option, Some, None}
+use Rattle.std.specs.Prelude.{IsSome, IsNone, IsTrue, slice_get, ◌↔◌}
 use Rattle.tv_base.specs.declared.numbers.TreeNo.{TreeNo}
 use Rattle.tv_base.specs.declared.numbers.SubNo.{SubNo}
-use Rattle.tree_home.specs.declared.homes.Home.{Home}
-use Rattle.tree_home.specs.Homes.{Gets, home_in, with_notice, noted, prepended, gathered, missing_count, missing_of, missing_in, misses, misses_of, is_missing}
-use Rattle.tree_home.proofs.Changes.{misses-some, misses-at}
+use Rattle.tree_home.specs.declared.homes.OpenTree.{OpenTree}
+use Rattle.tree_home.specs.declared.homes.Answered.{Answered}
+use Rattle.tree_home.specs.declared.homes.Noted.TheVariants.{Missing}
+use Rattle.tree_home.specs.Homes.{Gets, OpenTrees, home_in, with_notice, noted, noted_of, prepended, gathered, missing_count, missing_of, missing_in, misses, misses_of, is_missing, told}
+use Rattle.tree_home.proofs.Maps.{put_at-same}
 
 pub prepended-append : (vs ws : Gets) (o : Option Gets) → prepended (vs ++ ws) o ≡ prepended vs (prepended ws o)
 prepended-append vs ws None = refl
@@ -33,44 +34,71 @@ gathered-all (None ∷ ns) none = absurd (omega (arith, none))
 gathered-all (Some vs ∷ ns) none = ap (prepended vs) (gathered-all ns none)
 
 -- one more notice makes one fewer missing
-pub missing_count-set : (ns : List (Option Gets)) (p : ℕ) (vs : Gets) → IsTrue (is_missing (slice_get ns p)) → missing_count (set ns p (Some vs)) + 1 ≡ missing_count ns
+pub missing_count-set : (ns : List (Option Gets)) (p : ℕ) (vs : Gets) → IsTrue (is_missing (slice_get ns p))
+    → missing_count (set ns p (Some vs)) + 1 ≡ missing_count ns
 missing_count-set [] p vs is = cc
 missing_count-set (None ∷ ns) zero vs is = refl
 missing_count-set (Some us ∷ ns) zero vs is = cc
 missing_count-set (None ∷ ns) (suc p) vs is = let rest = missing_count-set ns p vs is in omega arith
 missing_count-set (Some us ∷ ns) (suc p) vs is = missing_count-set ns p vs is
 
-pub gathered-others : (ns : List (Option Gets)) (p : ℕ) (vs : Gets) → IsTrue (is_missing (slice_get ns p)) → 1 < missing_count ns → gathered (set ns p (Some vs)) ≡ None
+pub gathered-others : (ns : List (Option Gets)) (p : ℕ) (vs : Gets) → IsTrue (is_missing (slice_get ns p))
+    → 1 < missing_count ns → gathered (set ns p (Some vs)) ≡ None
 gathered-others ns p vs is more =
     let one = missing_count-set ns p vs is in
     gathered-none (set ns p (Some vs)) (omega arith)
 
-pub gathered-last : (ns : List (Option Gets)) (p : ℕ) (vs : Gets) → IsTrue (is_missing (slice_get ns p)) → missing_count ns ≤ 1 → gathered (set ns p (Some vs)) ≡ Some (all_of (set ns p (Some vs)))
+pub gathered-last : (ns : List (Option Gets)) (p : ℕ) (vs : Gets) → IsTrue (is_missing (slice_get ns p))
+    → missing_count ns ≤ 1 → gathered (set ns p (Some vs)) ≡ Some (all_of (set ns p (Some vs)))
 gathered-last ns p vs is few =
     let one = missing_count-set ns p vs is in
     gathered-all (set ns p (Some vs)) (omega arith)
 
--- the tree's home has the notice
-pub home_in-noted : (t : TreeNo) (s : SubNo) (vs : Gets) (hs : List Home) (h : Home) → home_in t hs ≡ Some h → home_in t (noted t s vs hs) ≡ Some (with_notice s vs h)
-home_in-noted t s vs [] h is = cc
-home_in-noted t s vs (x ∷ hs) h is =
-    let rest : home_in t hs ≡ Some h → home_in t (noted t s vs hs) ≡ Some (with_notice s vs h) = home_in-noted t s vs hs h in
-    grind (arith, nat_tests)
+-- what misses a notice is there, and has a place for it
+pub misses-some : (s : SubNo) (o : Option OpenTree) → IsTrue (misses_of s o) → IsSome o
+misses-some s None is = is
+misses-some s (Some h) is = refl
 
-missing_in-noted' : (t : TreeNo) (s : SubNo) (vs : Gets) (hs : List Home) (o : Option Home) → home_in t hs ≡ o → IsTrue (misses_of s o) → missing_in t (noted t s vs hs) + 1 ≡ missing_of o
-missing_in-noted' t s vs hs None is miss = cc
-missing_in-noted' t s vs hs (Some h) is miss =
-    let one = missing_count-set h.notices s.0 vs miss in
-    rw (home_in-noted t s vs hs h is) one
+pub misses-at : (s : SubNo) (o : Option OpenTree) (h : OpenTree) → IsTrue (misses_of s o) → o ≡ Some h
+    → IsTrue (is_missing (slice_get h.notices s.0))
+misses-at s None h is eq = cc
+misses-at s (Some k) h is eq = let P : Option OpenTree → Type 0 = λ o. IsTrue (misses_of s o) in subst P eq is
 
-pub missing_in-noted : (t : TreeNo) (s : SubNo) (vs : Gets) (hs : List Home) → IsTrue (misses t s hs) → missing_in t (noted t s vs hs) + 1 ≡ missing_in t hs
-missing_in-noted t s vs hs miss = missing_in-noted' t s vs hs (home_in t hs) refl miss
+pub missing-lt : (ns : List (Option Gets)) (p : ℕ) → IsTrue (is_missing (slice_get ns p)) → p < length ns
+missing-lt [] p is = cc
+missing-lt (n ∷ ns) zero is = omega arith
+missing-lt (n ∷ ns) (suc p) is = let rest = missing-lt ns p is in omega arith
 
-pub misses-there : (t : TreeNo) (s : SubNo) (hs : List Home) → IsTrue (misses t s hs) → IsSome (home_in t hs)
+-- the tree has the notice
+pub home_in-noted : (t : TreeNo) (s : SubNo) (vs : Gets) (hs : OpenTrees) (h : OpenTree) → home_in t hs ≡ Some h
+    → home_in t (noted t s vs hs) ≡ Some (with_notice s vs h)
+home_in-noted t s vs hs h is = put_at-same t.0 (noted_of s vs (hs t.0)) hs ∙ ap (noted_of s vs) is
+
+missing-noted_of : (s : SubNo) (vs : Gets) (o : Option OpenTree) → IsTrue (misses_of s o)
+    → missing_of (noted_of s vs o) + 1 ≡ missing_of o
+missing-noted_of s vs None miss = cc
+missing-noted_of s vs (Some h) miss = missing_count-set h.notices s.0 vs miss
+
+pub missing_in-noted : (t : TreeNo) (s : SubNo) (vs : Gets) (hs : OpenTrees) → IsTrue (misses t s hs)
+    → missing_in t (noted t s vs hs) + 1 ≡ missing_in t hs
+missing_in-noted t s vs hs miss =
+    ap (λ (o : Option OpenTree). missing_of o + 1) (put_at-same t.0 (noted_of s vs (hs t.0)) hs)
+    ∙ missing-noted_of s vs (hs t.0) miss
+
+pub misses-there : (t : TreeNo) (s : SubNo) (hs : OpenTrees) → IsTrue (misses t s hs) → IsSome (home_in t hs)
 misses-there t s hs is = misses-some s (home_in t hs) is
 
-pub misses-here : (t : TreeNo) (s : SubNo) (hs : List Home) (h : Home) → IsTrue (misses t s hs) → home_in t hs ≡ Some h → IsTrue (is_missing (slice_get h.notices s.0))
+pub misses-here : (t : TreeNo) (s : SubNo) (hs : OpenTrees) (h : OpenTree) → IsTrue (misses t s hs)
+    → home_in t hs ≡ Some h → IsTrue (is_missing (slice_get h.notices s.0))
 misses-here t s hs h is eq = misses-at s (home_in t hs) h is eq
+
+-- what is told where a notice is missing
+pub told-missing : (k m : ℕ) (o : Option Answered) → k ≡ m → None ≡ o → Missing k ≡ told m o
+told-missing k m o left none = rw (← left, ← none) refl
+
+pub more-missing : (o : Option Answered) (m : ℕ) → o ≡ None → (IsNone o ↔ (1 < m)) → 1 < m
+more-missing None m is when = when.0 refl
+more-missing (Some a) m is when = cc
 
 pub ruleset gathering = (prepended-append, prepended-nil, append-nil)
 

@@ -1,20 +1,20 @@
-ghost use Rattle.std.specs.Prelude.{◌≡◌, ◌++◌, ◌<◌, [], length, replicate, IfOk, IfErr, IsNone, IsSome, IsTrue, OnErr, OnOk, Some, None, slice_set, slice_get, ◌↔◌};
+ghost use Rattle.std.specs.Prelude.{◌≡◌, ◌++◌, ◌<◌, length, replicate, IfOk, IfErr, IsNone, IsSome, IsTrue, OnErr, OnOk, Some, None, slice_set, slice_get, ◌↔◌};
 ghost use Rattle.std.specs.Option.{option_copied, is_some};
-ghost use Rattle.tree_home.specs.Homes.{IsAscending, HavePlaces, home_in, place_of, with_home, begun, with_notice, noted, forgotten, gathered, missing_count, missing_in, misses, is_missing, after_notice, answer_in, answer_of, outcome, MissesSome};
+ghost use Rattle.tree_home.specs.Maps.{put_at};
+ghost use Rattle.tree_home.specs.Homes.{IsAscending, no_trees, trees_of, home_in, begun, with_notice, noted, forgotten, gathered, missing_count, missing_in, misses, is_missing, after_notice, answer_in, answer_of, outcome, MissesSome};
 
-use commute_ops::Value;
-use letter_types::Values;
+use commute_ops::{Value, Values};
 use std::alloc::Global;
+use std::collections::BTreeMap;
 use std::marker::Model;
 use tv_base::{ItemNo, NoMemory, Seq, SubNo, TreeNo, Version};
 
 /// The notices of a tree, by subtransaction: the values that its gets gave, or None where it is missing.
 pub type Notices = Seq<Option<Values>, 0xffff_ffff>;
 
-/// A tree whose notices are gathered.
+/// A tree that is open at its home: its notices are gathered.
 #[derive(Drop)]
-pub struct Home {
-    pub tree: TreeNo,
+pub struct OpenTree {
     /// The version that the tree runs in.
     pub version: Version,
     /// One place for each subtransaction, the root's first.
@@ -40,57 +40,52 @@ pub enum Noted {
     Answered(Answered),
 }
 
-/// The trees that have their home here and aren't answered yet, by ascending number. Each has at least one
-/// subtransaction.
+/// The trees that have their home here and aren't answered yet, by number. To begin, note and forget one takes time by
+/// the logarithm of how many there are.
 #[derive(Drop)]
 pub struct Homes {
-    homes: Vec<Home>,
+    alloc: Global,
+    trees: BTreeMap<TreeNo, OpenTree>,
 }
 
 impl Model for Homes {
     ghost use Rattle.std.specs.Prelude.{List};
-    ghost use Rattle.tree_home.specs.declared.homes.Home.{Home};
-    ghost use Rattle.tree_home.specs.Homes.{IsAscending, HavePlaces};
+    ghost use Rattle.tv_base.specs.declared.numbers.TreeNo.{TreeNo};
+    ghost use Rattle.tree_home.specs.declared.homes.OpenTree.{OpenTree};
 
-    ghost Value = { List Home };
+    ghost Value = { List (TreeNo × OpenTree) };
 
-    ghost view = { λ h. h.homes.items };
+    ghost use Rattle.tree_home.specs.Homes.{IsAscending};
 
-    ghost invariant = { λ h. IsAscending h.homes.items × HavePlaces h.homes.items };
+    ghost view = { λ h. h.trees.entries };
+
+    ghost invariant = { λ h. IsAscending h.trees.entries };
 }
 
 impl Homes {
     /// No tree.
     pub fn new(alloc: Global) -> Homes
-        ensures { result ≡ [] }
+        ensures { trees_of result ≡ no_trees }
     {
         Homes {
-            homes: Vec::new(alloc),
+            alloc,
+            trees: BTreeMap::new(alloc),
         }
     }
 
-    /// The trees by ascending number, each with its notices so far.
-    pub fn homes(&self) -> &[Home]
-        ensures homes { result.now ≡ self.now }
-        ensures ascending { IsAscending self.now }
-        ensures places { HavePlaces self.now }
-    {
-        self.homes.as_slice()
-    }
-
-    /// Whether the tree is there. Searches by halving.
+    /// Whether the tree is there.
     pub fn has(&self, tree: TreeNo) -> bool
-        ensures { result ≡ is_some (home_in tree self.now) }
+        ensures { result ≡ is_some (home_in tree (trees_of self.now)) }
     {
-        find(&self.homes, tree).is_some()
+        find(&self.trees, tree).is_some()
     }
 
     /// Whether the tree is there, `sub` is one of its subtransactions, and the notice of `sub` is missing.
     pub fn misses(&self, tree: TreeNo, sub: SubNo) -> bool
-        ensures { result ≡ misses tree sub self.now }
+        ensures { result ≡ misses tree sub (trees_of self.now) }
     {
-        match find(&self.homes, tree) {
-            Some(home) => is_missing(home.notices.items(), sub),
+        match find(&self.trees, tree) {
+            Some(opened) => is_missing(opened.notices.items(), sub),
             None => false,
         }
     }
@@ -99,18 +94,13 @@ impl Homes {
     /// unchanged.
     pub fn begin(&mut self, tree: TreeNo, subs: u32, version: Version) -> Result<(), NoMemory>
         requires some { 0 < subs }
-        requires absent { home_in tree self.old ≡ None }
-        ensures ok { OnOk result (self.new ≡ begun tree subs version self.old) }
+        requires absent { home_in tree (trees_of self.old) ≡ None }
+        ensures ok { OnOk result (trees_of self.new ≡ begun tree subs version (trees_of self.old)) }
         ensures err { OnErr result (self.new ≡ self.old) }
+        ensures was_ascending { IsAscending self.old }
     {
-        let alloc = *self.homes.allocator();
-        let notices = no_notices(alloc, subs)?;
-        let home = Home {
-            tree,
-            version,
-            notices,
-        };
-        insert(&mut self.homes, home)
+        let notices = no_notices(self.alloc, subs)?;
+        insert(&mut self.trees, tree, OpenTree { version, notices })
     }
 
     /// Takes the values of `sub` down as its notice. Where that was the last that was missing, the tree is gone and
@@ -123,10 +113,11 @@ impl Homes {
         sub: SubNo,
         values: Values,
     ) -> Result<Noted, (NoMemory, Values)>
-        requires { IsTrue (misses tree sub self.old) }
-        ensures noted { IfOk result (λ noted. noted ≡ outcome tree sub values self.old) }
+        requires { IsTrue (misses tree sub (trees_of self.old)) }
+        ensures noted { IfOk result (λ noted. noted ≡ outcome tree sub values (trees_of self.old)) }
         ensures missing { IfOk result (λ noted. MissesSome noted) }
-        ensures homes { IfOk result (λ noted. self.new ≡ after_notice tree sub values self.old noted) }
+        ensures homes { IfOk result
+            (λ noted. trees_of self.new ≡ after_notice tree sub values (trees_of self.old) noted) }
         ensures refused { IfErr result (λ e. e.1 ≡ values) }
         ensures err { OnErr result (self.new ≡ self.old) }
     {
@@ -152,44 +143,41 @@ impl Homes {
         sub: SubNo,
         values: &Values,
     ) -> Result<Option<Answered>, NoMemory>
-        requires { IsTrue (misses tree sub self.now) }
-        ensures answer { IfOk result (λ answer. answer ≡ answer_in tree sub values.now self.now) }
-        ensures none { IfOk result (λ answer. IsNone answer ↔ (1 < missing_in tree self.now)) }
+        requires { IsTrue (misses tree sub (trees_of self.now)) }
+        ensures answer { IfOk result (λ answer. answer ≡ answer_in tree sub values.now (trees_of self.now)) }
+        ensures none { IfOk result (λ answer. IsNone answer ↔ (1 < missing_in tree (trees_of self.now))) }
     {
-        let alloc = *self.homes.allocator();
-        let home = find(&self.homes, tree).unwrap();
-        answer(alloc, home, sub, values.items())
+        let opened = find(&self.trees, tree).unwrap();
+        answer(self.alloc, tree, opened, sub, values.items())
     }
 
     /// How many notices of the tree are missing, 0 where the tree isn't there.
     fn still_missing(&self, tree: TreeNo) -> u32
-        ensures { result ≡ missing_in tree self.now }
+        ensures { result ≡ missing_in tree (trees_of self.now) }
     {
-        match find(&self.homes, tree) {
-            Some(home) => count_missing(&home.notices),
+        match find(&self.trees, tree) {
+            Some(opened) => count_missing(&opened.notices),
             None => 0,
         }
     }
 
     /// Takes a tree away. The others stay. Wants no memory.
-    #[tactic(auto, using(crate::proofs::Changes::forgetting))]
     pub fn forget(&mut self, tree: TreeNo)
-        requires { IsSome (home_in tree self.old) }
-        ensures { self.new ≡ forgotten tree self.old }
+        requires { IsSome (home_in tree (trees_of self.old)) }
+        ensures forgotten { trees_of self.new ≡ forgotten tree (trees_of self.old) }
+        ensures ascending { IsAscending self.new }
     {
-        let place = place(&self.homes, tree);
-        self.homes.remove(place);
+        remove(&mut self.trees, tree);
     }
 
     /// Takes the values of `sub` down as its notice, where another notice of the tree is missing too. Wants no
     /// memory.
-    #[tactic(auto, using(crate::proofs::Changes::noting))]
     pub fn put_notice(&mut self, tree: TreeNo, sub: SubNo, values: Values)
-        requires misses { IsTrue (misses tree sub self.old) }
-        requires another { 1 < missing_in tree self.old }
-        ensures { self.new ≡ noted tree sub values self.old }
+        requires misses { IsTrue (misses tree sub (trees_of self.old)) }
+        requires another { 1 < missing_in tree (trees_of self.old) }
+        ensures { trees_of self.new ≡ noted tree sub values (trees_of self.old) }
     {
-        put(&mut self.homes, tree, sub, values);
+        put(&mut self.trees, tree, sub, values);
     }
 }
 
@@ -205,21 +193,43 @@ fn no_notices(alloc: Global, subs: u32) -> Result<Notices, NoMemory>
     Ok(notices)
 }
 
-/// Adds a home at its place. Where no memory is found the homes are unchanged.
-#[tactic(auto, using(crate::proofs::Changes::inserting))]
-fn insert(homes: &mut Vec<Home>, home: Home) -> Result<(), NoMemory>
-    requires ascending { IsAscending homes.old.items }
-    requires places { HavePlaces homes.old.items }
-    requires absent { home_in home.tree homes.old.items ≡ None }
-    requires some { 0 < length home.notices }
-    ensures ok { OnOk result (homes.new.items ≡ with_home home homes.old.items) }
-    ensures err { OnErr result (homes.new.items ≡ homes.old.items) }
-    ensures ascending { IsAscending homes.new.items }
-    ensures places { HavePlaces homes.new.items }
+/// What is open of a tree.
+fn find(trees: &BTreeMap<TreeNo, OpenTree>, tree: TreeNo) -> Option<&OpenTree>
+    ensures { option_copied result ≡ home_in tree (trees_of trees.now.entries) }
 {
-    let place = place(homes, home.tree);
-    homes.insert(place, home)?;
+    trees.get(&tree)
+}
+
+/// Puts what is open of a tree under its number. Where no memory is found the trees are unchanged.
+fn insert(
+    trees: &mut BTreeMap<TreeNo, OpenTree>,
+    tree: TreeNo,
+    opened: OpenTree,
+) -> Result<(), NoMemory>
+    ensures ok { OnOk result (trees_of trees.new.entries ≡ put_at tree.0 (Some opened) (trees_of trees.old.entries)) }
+    ensures err { OnErr result (trees.new.entries ≡ trees.old.entries) }
+    ensures ascending { IsAscending trees.new.entries }
+{
+    trees.insert(tree, opened)?;
     Ok(())
+}
+
+/// Takes a tree away.
+fn remove(trees: &mut BTreeMap<TreeNo, OpenTree>, tree: TreeNo)
+    ensures forgotten { trees_of trees.new.entries ≡ forgotten tree (trees_of trees.old.entries) }
+    ensures ascending { IsAscending trees.new.entries }
+{
+    trees.remove(&tree);
+}
+
+/// Puts the values of `sub` at the place of its notice, in what is open of its tree.
+fn put(trees: &mut BTreeMap<TreeNo, OpenTree>, tree: TreeNo, sub: SubNo, values: Values)
+    requires { IsTrue (misses tree sub (trees_of trees.old.entries)) }
+    ensures noted { trees_of trees.new.entries ≡ noted tree sub values (trees_of trees.old.entries) }
+    ensures ascending { IsAscending trees.new.entries }
+{
+    let opened = trees.get_mut(&tree).unwrap();
+    add_notice(opened, sub, values);
 }
 
 /// Whether there is a place for the notice of `sub`, and it is missing.
@@ -232,55 +242,12 @@ fn is_missing(notices: &[Option<Values>], sub: SubNo) -> bool
     }
 }
 
-/// Puts the values of `sub` at the place of its notice, at the home of its tree.
-#[tactic(auto, using(crate::proofs::Changes::noting))]
-fn put(homes: &mut Vec<Home>, tree: TreeNo, sub: SubNo, values: Values)
-    requires ascending { IsAscending homes.old.items }
-    requires misses { IsTrue (misses tree sub homes.old.items) }
-    ensures { homes.new.items ≡ noted tree sub values homes.old.items }
-{
-    let place = place(homes, tree);
-    put_at(&mut homes[place], sub, values);
-}
-
 /// Puts the values of `sub` at the place of its notice.
-fn put_at(home: &mut Home, sub: SubNo, values: Values)
-    requires { sub.0 < length home.old.notices }
-    ensures { home.new ≡ with_notice sub values home.old }
+fn add_notice(opened: &mut OpenTree, sub: SubNo, values: Values)
+    requires { sub.0 < length opened.old.notices }
+    ensures { opened.new ≡ with_notice sub values opened.old }
 {
-    home.notices.put(sub.0 as usize, Some(values));
-}
-
-/// How many homes, which ascend by number, are of trees below `tree`. Found by halving.
-#[tactic(auto, using(crate::proofs::Places::halving))]
-fn place(homes: &[Home], tree: TreeNo) -> usize
-    requires { IsAscending homes.now }
-    ensures place { result ≡ place_of tree homes.now }
-{
-    let mut low = 0;
-    let mut high = homes.len();
-    while low < high {
-        let middle = low + (high - low) / 2;
-        if homes[middle].tree < tree {
-            low = middle + 1;
-        } else {
-            high = middle;
-        }
-    }
-    low
-}
-
-/// The home of a tree, found by halving.
-#[tactic(auto, using(crate::proofs::Places::finding))]
-fn find(homes: &[Home], tree: TreeNo) -> Option<&Home>
-    requires { IsAscending homes.now }
-    ensures { option_copied result ≡ home_in tree homes.now }
-{
-    let place = place(homes, tree);
-    if place < homes.len() && homes[place].tree == tree {
-        return Some(&homes[place]);
-    }
-    None
+    opened.notices.put(sub.0 as usize, Some(values));
 }
 
 /// How many notices are missing.
@@ -298,26 +265,27 @@ fn count_missing(notices: &Notices) -> u32
     missing
 }
 
-/// The answer of a home with the values of `sub`, or None where another notice is missing too.
+/// The answer of a tree with the values of `sub`, or None where another notice is missing too.
 #[tactic(auto, using(crate::proofs::Gathered::completing))]
 fn answer(
     alloc: Global,
-    home: &Home,
+    tree: TreeNo,
+    opened: &OpenTree,
     sub: SubNo,
     values: &[(ItemNo, Value)],
 ) -> Result<Option<Answered>, NoMemory>
-    requires { IsTrue (is_missing (slice_get home.now.notices sub.0)) }
-    ensures answer { IfOk result (λ answer. answer ≡ answer_of sub values.now (Some home.now)) }
-    ensures none { IfOk result (λ answer. IsNone answer ↔ (1 < missing_count home.now.notices)) }
+    requires { IsTrue (is_missing (slice_get opened.now.notices sub.0)) }
+    ensures answer { IfOk result (λ answer. answer ≡ answer_of tree sub values.now (Some opened.now)) }
+    ensures none { IfOk result (λ answer. IsNone answer ↔ (1 < missing_count opened.now.notices)) }
 {
-    if 1 < count_missing(&home.notices) {
+    if 1 < count_missing(&opened.notices) {
         return Ok(None);
     }
-    match gather(alloc, home.notices.items(), sub.0 as usize, values)? {
+    match gather(alloc, opened.notices.items(), sub.0 as usize, values)? {
         None => Ok(None),
         Some(values) => Ok(Some(Answered {
-            tree: home.tree,
-            version: home.version,
+            tree,
+            version: opened.version,
             values,
         })),
     }

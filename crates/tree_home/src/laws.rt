@@ -1,4 +1,4 @@
-ghost use Rattle.tree_home.specs.Laws.{BegunKeepsOthers, NotedKeepsOthers, ForgottenKeepsOthers, BegunIsThere, NotedIsThere, ForgottenIsGone, ForgottenTakesBack, MissesWhenBegun, AllMissing, MissesOthers, OneFewer, AnsweredExactly, AnswerIsTheTrees, GatheredInOrder};
+ghost use Rattle.tree_home.specs.Laws.{BegunKeepsOthers, NotedKeepsOthers, ForgottenKeepsOthers, BegunIsThere, NotedIsThere, ForgottenIsGone, ForgottenTakesBack, EntriesAreTheirTrees, MissesWhenBegun, AllMissing, MissesOthers, OneFewer, AnsweredExactly, AnswerIsTheTrees, GatheredInOrder};
 
 /// The home of any other tree stays as it is when a tree begins, has a notice, or goes. It does nothing: its contract
 /// is the law.
@@ -15,6 +15,12 @@ pub fn a_tree_comes_and_goes()
     ensures noted { NotedIsThere }
     ensures forgotten { ForgottenIsGone }
     ensures back { ForgottenTakesBack }
+{}
+
+/// What is kept is no more than the trees: where the trees are the same, it is the same. So a tree that begins and is
+/// forgotten leaves what was there before. It does nothing: its contract is the law.
+pub fn entries_are_their_trees()
+    ensures { EntriesAreTheirTrees }
 {}
 
 /// When a tree begins, the notices of all its subtransactions are missing and of none besides. A notice that is taken

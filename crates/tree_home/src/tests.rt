@@ -1,6 +1,5 @@
 use super::*;
-use commute_ops::{SumValue, Value};
-use letter_types::Values;
+use commute_ops::{SumValue, Value, Values};
 use std::alloc::Global;
 use std::test::Fail;
 use tv_base::{ItemNo, NoMemory, SubNo, TreeNo, Version};
@@ -80,12 +79,6 @@ fn trees_do_not_touch_each_other(rt: HostRuntime) -> Result<(), Fail> {
     begin(&mut homes, 5, 2, 1)?;
     begin(&mut homes, 3, 2, 2)?;
     begin(&mut homes, 4, 1, 3)?;
-    for (place, tree) in [(0, 3), (1, 4), (2, 5)] {
-        assert_eq!(rt;
-            homes.homes().get(place).map(|home| home.tree.0),
-            Some(tree)
-        );
-    }
     for (tree, sub, want) in [
         (5, 1, 1),
         (3, 0, 1),
@@ -100,7 +93,9 @@ fn trees_do_not_touch_each_other(rt: HostRuntime) -> Result<(), Fail> {
             "tree {tree}"
         );
     }
-    assert!(rt; homes.homes().is_empty());
+    for tree in 3..6 {
+        assert!(rt; !homes.has(TreeNo(tree)), "tree {tree}");
+    }
     Ok(())
 }
 

@@ -1,12 +1,17 @@
 -- A table that is collected item by item.
-use Rattle.std.proofs.Common.{◌≡◌, ℕ, Bool, true, false, ◌&&◌, zero, suc, ◌+◌, ◌<◌, ◌≤◌, List, [], ◌∷◌, ◌++◌, length, take, drop, set, refl, ap, sym, ◌∙◌, subst, add-one, arith, Option, Some, None}
+use Rattle.std.proofs.Common.{◌≡◌, ℕ, Bool, true, ◌&&◌, zero, suc, ◌+◌, ◌<◌, ◌≤◌, List, [], ◌∷◌, ◌++◌, length, take, drop, set, refl, ap, sym, ◌∙◌, subst, add-one, arith, Option, Some, None}
 use Rattle.std.specs.Prelude.{slice_get, IfSome}
 use Rattle.std.proofs.lemmas.Bool.Decides.{nat_tests}
 use Rattle.tv_base.specs.declared.numbers.ItemNo.{ItemNo}
 use Rattle.tv_base.specs.declared.numbers.Version.{Version}
-use Rattle.item_versions.specs.Item.{Held, IsHeld, CanCollect, collected, seen}
-use Rattle.item_versions.specs.Table.{Table}
+use Rattle.tv_base.proofs.Truths.{left_true, right_true}
+use Rattle.item_versions.specs.Item.{Held, CanCollect, collected, seen}
+use Rattle.item_versions.specs.Table.{Table, IsHeldTable}
+use Rattle.item_versions.specs.Window.{IsWindowed, IsWindowedTable}
+use Rattle.item_versions.proofs.Holding.{none-past}
+use Rattle.item_versions.proofs.Order.{IsHeld-collected}
 use Rattle.item_versions.proofs.Seen.{seen-collected}
+use Rattle.item_versions.proofs.Window.{IsWindowed-collected, CanCollect-windowed}
 use Rattle.version_collect.specs.Collecting.{may_collect, may_collect_all, collected_all, seen_in, numbers_in}
 
 -- the next item is as it was
@@ -22,11 +27,6 @@ one-more f [] i e is = cc
 one-more f (x ∷ es) zero e is = let same : x ≡ e = cc in ap (λ (y : ItemNo × Held). (y.0, collected f y.1) ∷ es) (sym same)
 one-more f (x ∷ es) (suc i) e is = rw add-one (ap (λ (t : Table). (x.0, collected f x.1) ∷ t) (rw add-one at (one-more f es i e is)))
 
-none-past : (t : Table) (i : ℕ) → slice_get t i ≡ None → length t ≤ i
-none-past [] i is = omega arith
-none-past (e ∷ es) zero is = cc
-none-past (e ∷ es) (suc i) is = let rest = none-past es i is in omega arith
-
 step-of : (f : Version) (t new : Table) (i : ℕ) (o : Option (ItemNo × Held)) → slice_get t i ≡ o → i < length t → IfSome o (λ e. new ≡ set (collected_all f (take i t) ++ drop i t) i (e.0, collected f e.1)) → new ≡ collected_all f (take (i + 1) t) ++ drop (i + 1) t
 step-of f t new i None is lt put = let past = none-past t i is in absurd (omega arith)
 step-of f t new i (Some e) is lt put = put ∙ one-more f t i e is
@@ -39,14 +39,6 @@ step-items f t now new i lt is put =
     let put'' = subst (λ (o : Option (ItemNo × Held)). IfSome o (λ e. new ≡ set before i (e.0, collected f e.1))) (next-item f t i) put' in
     step-of f t new i (slice_get t i) refl lt put''
 
-and_left : (a b : Bool) → (a && b) ≡ true → a ≡ true
-and_left true b both = refl
-and_left false b both = both
-
-and_right : (a b : Bool) → (a && b) ≡ true → b ≡ true
-and_right true b both = both
-and_right false b both = cc
-
 -- an item that may be collected, at a place
 can-collect : (f : Version) (h : Held) → may_collect f h ≡ true → CanCollect f h
 can-collect f [] may = cc
@@ -54,8 +46,8 @@ can-collect f (x ∷ xs) may = grind (arith, nat_tests)
 
 pub can-at : (f : Version) (t : Table) (i : ℕ) → may_collect_all f t ≡ true → IfSome (slice_get t i) (λ e. CanCollect f e.1)
 can-at f [] i may = tt
-can-at f (e ∷ es) zero may = can-collect f e.1 (and_left (may_collect f e.1) (may_collect_all f es) may)
-can-at f (e ∷ es) (suc i) may = can-at f es i (and_right (may_collect f e.1) (may_collect_all f es) may)
+can-at f (e ∷ es) zero may = can-collect f e.1 (left_true (may_collect f e.1) (may_collect_all f es) may)
+can-at f (e ∷ es) (suc i) may = can-at f es i (right_true (may_collect f e.1) (may_collect_all f es) may)
 
 pub can-next : (f : Version) (t now : Table) (i : ℕ) → may_collect_all f t ≡ true → now ≡ collected_all f (take i t) ++ drop i t → IfSome (slice_get now i) (λ e. CanCollect f e.1)
 can-next f t now i may is =
@@ -71,12 +63,6 @@ drop-of f (x ∷ es) (suc i) o is lt b test = rw add-one (rw add-one at (drop-of
 pub may-next : (f : Version) (t : Table) (i : ℕ) (b : Bool) → i < length t → IfSome (slice_get t i) (λ e. b ≡ may_collect f e.1) → may_collect_all f (drop i t) ≡ (b && may_collect_all f (drop (i + 1) t))
 may-next f t i b lt test = drop-of f t i (slice_get t i) refl lt b test
 
--- what holds of the next item held of it from the start
-pub step-held : (P : ItemNo × Held → Type 0) (f : Version) (t now : Table) (i : ℕ) → now ≡ collected_all f (take i t) ++ drop i t → IfSome (slice_get now i) P → IfSome (slice_get t i) P
-step-held P f t now i is held =
-    let held' = subst (λ (n : Table). IfSome (slice_get n i) P) is held in
-    subst (λ (o : Option (ItemNo × Held)). IfSome o P) (next-item f t i) held'
-
 whole : (f : Version) (t : Table) (i : ℕ) → length t ≤ i → collected_all f (take i t) ++ drop i t ≡ collected_all f t
 whole f [] zero le = refl
 whole f [] (suc i) le = refl
@@ -88,15 +74,39 @@ pub walked : (f : Version) (t now : Table) (i : ℕ) → length t ≤ i → now 
 walked f t now i le is = is ∙ whole f t i le
 
 -- a collection changes nothing of what is seen from its version up
-pub seen-all : (f v : Version) (t : Table) → ((k : ℕ) → k < length t → IfSome (slice_get t k) (λ e. IsHeld e.1)) → f.0 ≤ v.0 → seen_in v (collected_all f t) ≡ seen_in v t
+pub seen-all : (f v : Version) (t : Table) → IsHeldTable t → f.0 ≤ v.0 → seen_in v (collected_all f t) ≡ seen_in v t
 seen-all f v [] held le = refl
 seen-all f v (e ∷ es) held le =
-    let first : IsHeld e.1 = held 0 (omega arith) in
-    let rest = seen-all f v es (λ k lt. held (suc k) (omega arith)) le in
-    let now : seen v (collected f e.1) ≡ seen v e.1 = seen-collected v f e.1 first le in
+    let rest = seen-all f v es held.1 le in
+    let now : seen v (collected f e.1) ≡ seen v e.1 = seen-collected v f e.1 held.0 le in
     λ i. (e.0, now i) ∷ rest i
 
 -- nor of the numbers
 pub numbers-all : (f : Version) (t : Table) → numbers_in (collected_all f t) ≡ numbers_in t
 numbers-all f [] = refl
 numbers-all f (e ∷ es) = ap (λ (ns : List ItemNo). e.0 ∷ ns) (numbers-all f es)
+
+-- a collection keeps the versions of each item in order, and takes each to its next window
+pub IsHeldTable-collected_all : (f : Version) (t : Table) → IsHeldTable t → IsHeldTable (collected_all f t)
+IsHeldTable-collected_all f [] held = tt
+IsHeldTable-collected_all f (e ∷ es) held =
+    (IsHeld-collected f e.1 held.0, IsHeldTable-collected_all f es held.1)
+
+pub IsWindowedTable-collected_all : (low : ℕ) (f : Version) (t : Table) → low ≤ f.0 → IsWindowedTable low t
+    → IsWindowedTable f.0 (collected_all f t)
+IsWindowedTable-collected_all low f [] le win = tt
+IsWindowedTable-collected_all low f (e ∷ es) le win = (
+  IsWindowed-collected low f e.1 le (CanCollect-windowed low f e.1 win.0 le) win.0,
+  IsWindowedTable-collected_all low f es le win.1,
+)
+
+may-windowed : (low : ℕ) (f : Version) (h : Held) → IsWindowed low h → low ≤ f.0 → may_collect f h ≡ true
+may-windowed low f [] win le = absurd (omega (arith, win.least.0))
+may-windowed low f (x ∷ xs) win le = let first = win.least.1 in grind (arith, nat_tests)
+
+-- a windowed table may be collected to its low version, and to any later one
+pub may_collect_all-windowed : (low : ℕ) (f : Version) (t : Table) → low ≤ f.0 → IsWindowedTable low t
+    → may_collect_all f t ≡ true
+may_collect_all-windowed low f [] le win = refl
+may_collect_all-windowed low f (e ∷ es) le win =
+    rw (may-windowed low f e.1 win.0 le) (may_collect_all-windowed low f es le win.1)

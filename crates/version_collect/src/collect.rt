@@ -1,6 +1,5 @@
-ghost use Rattle.std.specs.Prelude.{◌≡◌, ◌<◌, ◌≤◌, length, slice_get, slice_set, IfSome, IsTrue};
+ghost use Rattle.std.specs.Prelude.{◌≡◌, ◌<◌, ◌≤◌, length, slice_get, IfSome, IsTrue};
 ghost use Rattle.tv_base.specs.declared.numbers.Version as version;
-ghost use Rattle.item_versions.specs.Item.{CanCollect, IsHeld, collected};
 ghost use Rattle.version_collect.specs.Collecting.{may_collect, may_collect_all, collected_all, seen_in, numbers_in};
 
 use item_versions::ItemTable;
@@ -37,19 +36,6 @@ pub fn collect_table(items: &mut ItemTable, f: Version)
 {
     let count = items.count();
     for place in 0..count {
-        collect_place(items, place, f);
+        items.collect_at(place, f);
     }
-}
-
-/// Collects the item at a place to version `f`. The versions of an item always ascend.
-fn collect_place(items: &mut ItemTable, place: usize, f: Version)
-    requires within { place < length items.old }
-    requires can { IfSome (slice_get items.old place) (λ e. CanCollect f e.1) }
-    ensures collected { IfSome (slice_get items.old place) (λ e. items.new ≡ slice_set items.old place (e.0, collected f e.1)) }
-    ensures ascending { IfSome (slice_get items.old place) (λ e. IsHeld e.1) }
-{
-    // The reader says that the versions ascend.
-    let (_, item) = items.at(place);
-    let _held = item.held();
-    items.collect_at(place, f);
 }

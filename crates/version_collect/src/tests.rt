@@ -19,7 +19,9 @@ fn seen(items: &ItemTable, place: usize, v: u64) -> Amount {
 // Adds 5 to item 0 in a version.
 fn touch(alloc: Global, items: &mut ItemTable, v: u64) -> Result<(), Fail> {
     let mut staged = Staged::new(alloc);
-    if !items.may_stage(&staged, Version(v), ItemNo(0), &Op::Add(5)) {
+    if !items.may_stage(&staged, Version(v), ItemNo(0), &Op::Add(5))
+        || !items.has_room(&staged, Version(v), ItemNo(0))
+    {
         return Err("the update may not be made".into());
     }
     items.stage(&mut staged, Version(v), ItemNo(0), &Op::Add(5))?;

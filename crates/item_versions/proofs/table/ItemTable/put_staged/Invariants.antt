@@ -1,12 +1,12 @@
 use Rattle.std.proofs.Common.{◌≡◌, vec_len}
-use Rattle.item_versions.specs.Table.{pending, IsAscending}
+use Rattle.item_versions.specs.Table.{pending, IsTable}
 use Rattle.item_versions.proofs.table.ItemTable.put_staged.Given as goal
 
--- what is pending stays, and the table's numbers ascend
+-- what is pending stays, and the table is one
 abbrev pub invariant-loop-item : goal.invariant-loop-item
 invariant-loop-item l = record {
   same : pending l.entries.items l.self-inside.entries.items ≡ pending l.initial.entries.items l.initial.self-inside.entries.items;
-  up : IsAscending l.self-inside.entries.items;
+  up : IsTable l.self-inside.entries.items;
 }
 
 abbrev pub decreases-loop-item : goal.decreases-loop-item
