@@ -1,6 +1,8 @@
 //! The step of a subtransaction of a read tree.
 #![tactic(auto)]
 
+mod faces;
 mod steps;
 
-pub use steps::run_read;
+pub use faces::run_read;
+pub use steps::do_read;

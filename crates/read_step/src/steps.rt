@@ -1,24 +1,17 @@
-ghost use Rattle.std.specs.Prelude.{◌≡◌, ◌<◌, ◌≤◌, ◌^◌, ◌++◌, ◌∷◌, [], length, All, IfOk, IsTrue, None, OnErr, slice_get, Some};
+ghost use Rattle.std.specs.Prelude.{◌≡◌, [], is_some, IfOk, IfSome, IsTrue, OnErr, OnOk};
 ghost use Rattle.std.specs.Option.{option_copied};
-ghost use Rattle.letter_types.specs.declared.bodies.Body.TheVariants.{Root as RootLetter, Sub as SubLetter};
 ghost use Rattle.letter_types.specs.Steps.{made};
-ghost use Rattle.pair_counters.specs.Numbers.{AllBelow};
-ghost use Rattle.pair_counters.specs.Rows.{counts_of};
-ghost use Rattle.tree_home.specs.Homes.{home_in};
-ghost use Rattle.tx_trees.specs.ScriptData.{home_of, subs_at};
-ghost use Rattle.tree_step.specs.Node.{node_with};
-ghost use Rattle.read_step.specs.Rows.{gets_by, got_by_deed, read_root, read_row, read_sub};
+ghost use Rattle.tree_step.specs.Due.{is_due};
+ghost use Rattle.tree_step.specs.Node.{data_of, effect_on, IsInWindow, IsOf, IsReady};
+ghost use Rattle.read_step.specs.Rows.{can_get, getting, got_by_deed, row_if_made};
 
-use commute_ops::Value;
-use item_versions::ItemTable;
-use letter_types::{Body, Letter, Step, Values};
-use node_versions::Turns;
-use pair_counters::Counters;
+use commute_ops::{Value, Values};
+use item_versions::{ItemTable, Staged};
+use letter_types::{Letter, Step};
 use std::alloc::Global;
-use tree_home::Homes;
-use tree_step::{do_root, do_sub};
-use tv_base::{ActorNo, NoMemory, NodeNo, SubNo, TreeNo, Version};
-use tx_trees::{Deed, Script, Sub, SubOp};
+use tree_step::{Effect, NodeParts, asked_ops, asked_version, do_tree};
+use tv_base::{NoMemory, Version};
+use tx_trees::{Deed, Script, SubOp};
 
 /// What a get shows in version `v`. None where the operation isn't one, or its item isn't there.
 fn shown<'a>(items: &'a ItemTable, v: Version, op: &SubOp) -> Option<&'a Value>
@@ -33,14 +26,17 @@ fn shown<'a>(items: &'a ItemTable, v: Version, op: &SubOp) -> Option<&'a Value>
     Some(item.seen(v))
 }
 
-/// The values of gets in version `v`, in order. None where one of them isn't a get, or its item isn't there.
-fn all_shown(
+/// What the operations of a read make in version `v`. None exactly where one of them isn't a get, or its item isn't
+/// there.
+pub(crate) fn get_all(
     alloc: Global,
     items: &ItemTable,
     v: Version,
     ops: &[SubOp],
-) -> Result<Option<Values>, NoMemory>
-    ensures { IfOk result (λ found. found ≡ gets_by v ops.now items.now) }
+) -> Result<Option<Effect>, NoMemory>
+    ensures can { IfOk result (λ found. is_some found ≡ can_get v ops.now items.now) }
+    ensures effect { IfOk result (λ found. IfSome found (λ e. effect_on items.now e ≡ getting v ops.now items.now)) }
+    ensures none { IfOk result (λ found. IfSome found (λ e. e.staged ≡ [])) }
 {
     let mut values = Values::new(alloc);
     for op in ops {
@@ -49,226 +45,36 @@ fn all_shown(
         };
         values.push((op.item, value.copy(alloc)?))?;
     }
-    Ok(Some(values))
-}
-
-/// The root of a tree at node `node`, whose home doesn't have it, if its operations are gets of items that are there.
-fn run_root(
-    alloc: Global,
-    turns: &Turns,
-    items: &ItemTable,
-    counters: &mut Counters,
-    homes: &mut Homes,
-    script: &Script,
-    node: NodeNo,
-    tree: TreeNo,
-    ops: &[SubOp],
-    subs: &[Sub],
-) -> Result<Step, NoMemory>
-    requires subs { subs.now ≡ subs_at script.now tree.0 }
-    requires some { 0 < length subs.now }
-    requires few { length subs.now ≤ 64 }
-    requires node { node.0 < (counts_of counters.old).nodes }
-    requires nodes { All (λ s. s.node.0 < (counts_of counters.old).nodes) subs.now }
-    requires below { AllBelow (2 ^ 62) (counts_of counters.old).numbers }
-    requires absent { home_in tree homes.old ≡ None }
-    ensures row { IfOk result (λ step. made (node_with turns.now items.now counters.new homes.new) step.given ≡ read_root script.now node.0 tree.0 (node_with turns.now items.now counters.old homes.old) (gets_by turns.now.read ops.now items.now)) }
-    ensures kept { IfOk result (λ step. step.kept ≡ step.given) }
-    ensures nodes { IfOk result (λ _. (counts_of counters.new).nodes ≡ (counts_of counters.old).nodes) }
-    ensures same_counts { OnErr result (counters.new ≡ counters.old) }
-    ensures same_homes { OnErr result (homes.new ≡ homes.old) }
-{
-    let Some(values) = all_shown(alloc, items, turns.read, ops)? else {
-        return Ok(Step::still(alloc));
-    };
-    let client = ActorNo(script.nodes() + 1);
-    let step = do_root(
-        alloc, counters, homes, node, client, tree, turns.read, &values, subs,
-    )?;
-    Ok(step)
-}
-
-/// Subtransaction `sub` of a tree in version `v`, which node `from` asked for, if its operations are gets of items that are there. The
-/// homes, of which the row speaks, stay as they are.
-fn run_sub(
-    alloc: Global,
-    turns: &Turns,
-    items: &ItemTable,
-    counters: &mut Counters,
-    homes: &Homes,
-    script: &Script,
-    from: NodeNo,
-    home: NodeNo,
-    tree: TreeNo,
-    sub: SubNo,
-    v: Version,
-    ops: &[SubOp],
-    subs: &[Sub],
-) -> Result<Step, NoMemory>
-    requires subs { subs.now ≡ subs_at script.now tree.0 }
-    requires home { home.0 ≡ home_of script.now tree.0 }
-    requires few { length subs.now ≤ 64 }
-    requires from { from.0 < (counts_of counters.old).nodes }
-    requires at_home { home.0 < (counts_of counters.old).nodes }
-    requires nodes { All (λ s. s.node.0 < (counts_of counters.old).nodes) subs.now }
-    requires below { AllBelow (2 ^ 62) (counts_of counters.old).numbers }
-    ensures row { IfOk result (λ step. made (node_with turns.now items.now counters.new homes.now) step.given ≡ read_sub script.now from.0 tree.0 sub.0 v.0 (node_with turns.now items.now counters.old homes.now) (gets_by v ops.now items.now)) }
-    ensures kept { IfOk result (λ step. step.kept ≡ step.given) }
-    ensures nodes { IfOk result (λ _. (counts_of counters.new).nodes ≡ (counts_of counters.old).nodes) }
-    ensures same_counts { OnErr result (counters.new ≡ counters.old) }
-{
-    let Some(values) = all_shown(alloc, items, v, ops)? else {
-        return Ok(Step::still(alloc));
-    };
-    let step = do_sub(
-        alloc, counters, from, home, tree, sub, v, &values, false, subs,
-    )?;
-    Ok(step)
-}
-
-/// The row of Root.
-fn on_root(
-    alloc: Global,
-    turns: &Turns,
-    items: &ItemTable,
-    counters: &mut Counters,
-    homes: &mut Homes,
-    script: &Script,
-    node: NodeNo,
-    from: ActorNo,
-    tree: TreeNo,
-) -> Result<Step, NoMemory>
-    requires node { node.0 < script.now.nodes }
-    requires nodes { (counts_of counters.old).nodes ≡ script.now.nodes }
-    requires below { AllBelow (2 ^ 62) (counts_of counters.old).numbers }
-    ensures row { IfOk result (λ step. made (node_with turns.now items.now counters.new homes.new) step.given ≡ read_row script.now node.0 (node_with turns.now items.now counters.old homes.old) from.0 (RootLetter tree)) }
-    ensures kept { IfOk result (λ step. step.kept ≡ step.given) }
-    ensures nodes { IfOk result (λ _. (counts_of counters.new).nodes ≡ (counts_of counters.old).nodes) }
-    ensures same_counts { OnErr result (counters.new ≡ counters.old) }
-    ensures same_homes { OnErr result (homes.new ≡ homes.old) }
-{
-    let subs = script.subs_of(tree);
-    let Some(root) = subs.first() else {
-        return Ok(Step::still(alloc));
-    };
-    if root.node != node || !script.reads(tree) || homes.has(tree) {
-        return Ok(Step::still(alloc));
-    }
-    run_root(
-        alloc,
-        turns,
-        items,
-        counters,
-        homes,
-        script,
-        node,
-        tree,
-        root.ops.items(),
-        subs,
-    )
-}
-
-/// The row of Sub. The homes stay as they are.
-fn on_sub(
-    alloc: Global,
-    turns: &Turns,
-    items: &ItemTable,
-    counters: &mut Counters,
-    homes: &Homes,
-    script: &Script,
-    node: NodeNo,
-    from: ActorNo,
-    tree: TreeNo,
-    sub: SubNo,
-    version: Version,
-) -> Result<Step, NoMemory>
-    requires node { node.0 < script.now.nodes }
-    requires nodes { (counts_of counters.old).nodes ≡ script.now.nodes }
-    requires below { AllBelow (2 ^ 62) (counts_of counters.old).numbers }
-    ensures row { IfOk result (λ step. made (node_with turns.now items.now counters.new homes.now) step.given ≡ read_row script.now node.0 (node_with turns.now items.now counters.old homes.now) from.0 (SubLetter tree sub version)) }
-    ensures kept { IfOk result (λ step. step.kept ≡ step.given) }
-    ensures nodes { IfOk result (λ _. (counts_of counters.new).nodes ≡ (counts_of counters.old).nodes) }
-    ensures same_counts { OnErr result (counters.new ≡ counters.old) }
-{
-    let subs = script.subs_of(tree);
-    let Some(found) = find_sub(subs, sub) else {
-        return Ok(Step::still(alloc));
-    };
-    if found.node != node || !script.reads(tree) || from.0 >= script.nodes() {
-        return Ok(Step::still(alloc));
-    }
-    let home = NodeNo(script.home_of(tree));
-    run_sub(
-        alloc,
-        turns,
-        items,
-        counters,
-        homes,
-        script,
-        NodeNo(from.0),
-        home,
-        tree,
-        sub,
-        version,
-        found.ops.items(),
-        subs,
-    )
-}
-
-/// A subtransaction by number. None exactly where it isn't there.
-fn find_sub(subs: &[Sub], sub: SubNo) -> Option<&Sub>
-    ensures { option_copied result ≡ slice_get subs.now sub.0 }
-{
-    subs.get(sub.0 as usize)
+    Ok(Some(Effect {
+        staged: Staged::new(alloc),
+        values,
+    }))
 }
 
 /// What a node does with a letter that asks it for a subtransaction of a read tree (docs/ALGORITHM.md, "Nodes"). A
-/// letter that isn't one, or that isn't for this node, changes and sends nothing. Nothing is
-/// raised. Want of memory leaves the counters and the homes as they were.
-pub fn run_read(
+/// letter whose operations may not be made changes and sends nothing. Want of memory leaves the node as it was.
+pub fn do_read(
     alloc: Global,
-    turns: &Turns,
-    items: &ItemTable,
-    counters: &mut Counters,
-    homes: &mut Homes,
+    node: &mut NodeParts,
     letter: &Letter,
     script: &Script,
 ) -> Result<Step, NoMemory>
-    requires node { letter.now.to.0 < script.now.nodes }
-    requires nodes { (counts_of counters.old).nodes ≡ script.now.nodes }
-    requires below { AllBelow (2 ^ 62) (counts_of counters.old).numbers }
-    ensures row { IfOk result (λ step. made (node_with turns.now items.now counters.new homes.new) step.given ≡ read_row script.now letter.now.to.0 (node_with turns.now items.now counters.old homes.old) letter.now.from.0 letter.now.body) }
+    // What the caller knows.
+    requires ready { IsReady script.now letter.now.to.0 node.old }
+    requires due { IsTrue (is_due script.now letter.now.to.0 (data_of node.old) letter.now.from.0 letter.now.body) }
+    // What is made.
+    ensures row { IfOk result (λ step. made (data_of node.new) step.given
+        ≡ row_if_made script.now letter.now.to.0 (data_of node.old) letter.now.from.0 letter.now.body) }
     ensures kept { IfOk result (λ step. step.kept ≡ step.given) }
-    ensures nodes { IfOk result (λ _. (counts_of counters.new).nodes ≡ (counts_of counters.old).nodes) }
-    ensures same_counts { OnErr result (counters.new ≡ counters.old) }
-    ensures same_homes { OnErr result (homes.new ≡ homes.old) }
+    // What stays, and what want of memory leaves.
+    ensures script { OnOk result (IsOf script.now node.new) }
+    ensures window { OnOk result (IsInWindow node.new) }
+    ensures err { OnErr result (node.new ≡ node.old) }
 {
-    let node = NodeNo(letter.to.0);
-    match &letter.body {
-        Body::Root { tree } => on_root(
-            alloc,
-            turns,
-            items,
-            counters,
-            homes,
-            script,
-            node,
-            letter.from,
-            *tree,
-        ),
-        Body::Sub { tree, sub, version } => on_sub(
-            alloc,
-            turns,
-            items,
-            counters,
-            homes,
-            script,
-            node,
-            letter.from,
-            *tree,
-            *sub,
-            *version,
-        ),
-        _ => Ok(Step::still(alloc)),
-    }
+    let version = asked_version(letter, node.turns.read);
+    let Some(effect) = get_all(alloc, &node.items, version, asked_ops(letter, script))? else {
+        return Ok(Step::still(alloc));
+    };
+    let step = do_tree(alloc, node, letter, script, version, false, effect)?;
+    Ok(step)
 }

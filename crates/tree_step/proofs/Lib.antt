@@ -3,3 +3,7 @@ pub mod Requests
 pub mod Addressed
 pub mod Begun
 pub mod Made
+pub mod Rooted
+pub mod Noted
+pub mod Dues
+pub mod KindsAt

@@ -1,18 +1,63 @@
 -- What a node keeps.
-use Rattle.std.specs.Prelude.{List}
-use Rattle.item_versions.specs.Table.{Table}
+use Rattle.std.specs.Prelude.{ℕ, ◌≡◌, ◌+◌, ◌<◌, ◌≤◌, ◌^◌, List}
+use Rattle.tv_base.specs.declared.numbers.TreeNo.{TreeNo}
+use Rattle.item_versions.specs.Table.{Table, pending}
+use Rattle.item_versions.specs.Window.{IsWindowedTable}
 use Rattle.node_versions.specs.declared.turns.Turns.{Turns}
-use Rattle.pair_counters.specs.Numbers.{Numbers}
+use Rattle.pair_counters.specs.Numbers.{AllBelow, Numbers}
 use Rattle.pair_counters.specs.Rows.{CounterRows, counts_of}
-use Rattle.tree_home.specs.declared.homes.Home.{Home}
+use Rattle.tree_home.specs.Homes.{Gets, OpenTrees, trees_of}
+use Rattle.tree_home.specs.declared.homes.OpenTree.{OpenTree}
+use Rattle.tx_trees.specs.ScriptData.{ScriptData}
+use Rattle.tree_step.specs.declared.node.NodeParts.{NodeParts}
+use Rattle.tree_step.specs.declared.node.Effect.{Effect as Staging}
 
 -- its versions, its items by number, its requests and completions, and the trees whose notices it gathers
 pub record Node : Type 0 where
   pub turns : Turns
   pub items : Table
   pub counts : Numbers
-  pub homes : List Home
+  pub homes : OpenTrees
 
 -- a node of these parts
-abbrev pub node_with : Turns → Table → CounterRows → List Home → Node
-node_with turns items counters homes = record { turns = turns; items = items; counts = (counts_of counters).numbers; homes = homes }
+abbrev pub node_with : Turns → Table → CounterRows → List (TreeNo × OpenTree) → Node
+node_with turns items counters homes =
+    record { turns = turns; items = items; counts = (counts_of counters).numbers; homes = trees_of homes }
+
+-- a node's state as the table sees it
+abbrev pub data_of : NodeParts → Node
+data_of n = node_with n.turns n.items n.counters n.homes
+
+-- a node of the script counts by the script's nodes
+abbrev pub IsOf : ScriptData → NodeParts → Type 0
+IsOf s n = (counts_of n.counters).nodes ≡ s.nodes
+
+-- a node's versions, those of its items and those that it counts are from its low version to two above it
+pub record IsInWindow (n : NodeParts) : Type 0 where
+  pub low_read : n.turns.low.0 ≤ n.turns.read.0
+  pub low_update : n.turns.low.0 ≤ n.turns.update.0
+  pub read : n.turns.read.0 ≤ n.turns.low.0 + 2
+  pub update : n.turns.update.0 ≤ n.turns.low.0 + 2
+  pub items : IsWindowedTable n.turns.low.0 n.items
+  pub counters : (counts_of n.counters).low ≡ n.turns.low.0
+
+-- p is one of the script's nodes, this node is of the script, its numbers are small enough to count on, and its
+-- versions are in their window
+pub record IsReady (s : ScriptData) (p : ℕ) (n : NodeParts) : Type 0 where
+  pub there : p < s.nodes
+  pub script : IsOf s n
+  pub small : AllBelow (2 ^ 62) (counts_of n.counters).numbers
+  pub window : IsInWindow n
+
+-- what the operations of a subtransaction make: the items, and the values of gets
+pub record Effect : Type 0 where
+  pub items : Table
+  pub values : Gets
+
+-- what is staged, at these items
+abbrev pub effect_on : Table → Staging → Effect
+effect_on items e = record { items = pending e.staged items; values = e.values }
+
+-- a state of these parts
+abbrev pub state_of : Turns → Table → CounterRows → List (TreeNo × OpenTree) → NodeParts
+state_of turns items counters homes = record { turns = turns; items = items; counters = counters; homes = homes }

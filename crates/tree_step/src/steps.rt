@@ -1,22 +1,27 @@
 // A root or another subtransaction is done.
-ghost use Rattle.std.specs.Prelude.{◌≡◌, ◌<◌, ◌≤◌, ◌^◌, ◌++◌, ◌∷◌, [], length, All, IfOk, IsTrue, None, OnErr, if◌then◌else◌};
+ghost use Rattle.std.specs.Prelude.{◌≡◌, ◌<◌, ◌^◌, ◌++◌, ◌∷◌, [], length, IfOk, IsTrue, None, OnErr, OnOk, if◌then◌else◌};
+ghost use Rattle.item_versions.specs.Table.{pending};
+ghost use Rattle.item_versions.specs.Window.{in_window, IsWindowedTable};
 ghost use Rattle.letter_types.specs.declared.acts.Act.TheVariants.{Born, Did, Turned};
-ghost use Rattle.pair_counters.specs.Numbers.{AllBelow};
-ghost use Rattle.pair_counters.specs.Rows.{counts_of};
-ghost use Rattle.tree_home.specs.Homes.{answer_in, begun, home_in, misses};
+ghost use Rattle.letter_types.specs.Steps.{made};
+ghost use Rattle.tree_home.specs.Homes.{begun, home_in, trees_of};
+ghost use Rattle.tx_trees.specs.ScriptData.{subs_at};
 ghost use Rattle.tree_step.specs.Children.{done_letter, sub_letters};
-ghost use Rattle.tree_step.specs.Done.{counted_root, counted_sub};
-ghost use Rattle.tree_step.specs.Notices.{answer_noted, homes_noted, reply_letters};
+ghost use Rattle.tree_step.specs.Done.{raised_if, root_done, sub_done};
+ghost use Rattle.tree_step.specs.Node.{data_of, effect_on, IsInWindow, IsOf, IsReady};
+ghost use Rattle.tree_step.specs.Notices.{homes_noted, reply_letters};
+ghost use Rattle.tree_step.specs.Opening.{root_answer};
 
 use crate::counting::{count_root, count_sub};
 use crate::letters::{root_out, sub_letters, sub_out};
-use crate::notices::put_noted;
-use letter_types::{Step, Values, copy_values};
-use pair_counters::Counters;
+use crate::node::{Effect, NodeParts};
+use commute_ops::{Values, copy_values};
+use letter_types::Step;
+use node_versions::Turns;
 use std::alloc::Global;
 use tree_home::{Answered, Homes};
 use tv_base::{ActorNo, NoMemory, NodeNo, SubNo, TreeNo, Version};
-use tx_trees::Sub;
+use tx_trees::{Script, Sub};
 
 /// What a root's step sends and does, twice over.
 fn root_step(
@@ -29,8 +34,10 @@ fn root_step(
     subs: &[Sub],
 ) -> Result<Step, NoMemory>
     requires { length subs.now < 2 ^ 32 }
-    ensures sent { IfOk result (λ step. step.given.sent ≡ sub_letters tree.0 version.0 0 0 subs.now ++ reply_letters client.0 answer.now) }
-    ensures acts { IfOk result (λ step. step.given.acts ≡ Born tree version ∷ Did tree (record { 0 = 0 }) values.now ∷ []) }
+    ensures sent { IfOk result (λ step. step.given.sent ≡ sub_letters tree.0 version.0 0 0 subs.now
+        ++ reply_letters client.0 answer.now) }
+    ensures acts { IfOk result (λ step. step.given.acts
+        ≡ Born tree version ∷ Did tree (record { 0 = 0 }) values.now ∷ []) }
     ensures kept { IfOk result (λ step. step.kept ≡ step.given) }
 {
     let given = root_out(alloc, client, tree, version, values, answer, subs)?;
@@ -38,80 +45,86 @@ fn root_step(
     Ok(Step { given, kept })
 }
 
-/// The root of a tree that has begun at its home: all memory is taken first, the counters' row last.
-fn finish_root(
+/// The answer of a tree of so many subtransactions once its root is done: None exactly where it has another.
+fn root_answer(
     alloc: Global,
-    counters: &mut Counters,
-    homes: &mut Homes,
-    node: NodeNo,
-    client: ActorNo,
     tree: TreeNo,
+    subs: u32,
     version: Version,
     values: &Values,
-    subs: &[Sub],
-) -> Result<Step, NoMemory>
-    requires few { length subs.now ≤ 64 }
-    requires node { node.0 < (counts_of counters.old).nodes }
-    requires nodes { All (λ s. s.node.0 < (counts_of counters.old).nodes) subs.now }
-    requires below { AllBelow (2 ^ 62) (counts_of counters.old).numbers }
-    requires misses { IsTrue (misses tree (record { 0 = 0 }) homes.old) }
-    ensures counts { IfOk result (λ _. (counts_of counters.new).numbers ≡ counted_root version.0 node.0 (sub_letters tree.0 version.0 0 0 subs.now) (counts_of counters.old).numbers) }
-    ensures nodes { IfOk result (λ _. (counts_of counters.new).nodes ≡ (counts_of counters.old).nodes) }
-    ensures homes { IfOk result (λ _. homes.new ≡ homes_noted tree (record { 0 = 0 }) values.now homes.old) }
-    ensures sent { IfOk result (λ step. step.given.sent ≡ sub_letters tree.0 version.0 0 0 subs.now ++ reply_letters client.0 (answer_noted tree (record { 0 = 0 }) values.now homes.old)) }
-    ensures acts { IfOk result (λ step. step.given.acts ≡ Born tree version ∷ Did tree (record { 0 = 0 }) values.now ∷ []) }
-    ensures kept { IfOk result (λ step. step.kept ≡ step.given) }
-    ensures same_counts { OnErr result (counters.new ≡ counters.old) }
-    ensures same_homes { OnErr result (homes.new ≡ homes.old) }
+) -> Result<Option<Answered>, NoMemory>
+    ensures { IfOk result (λ answer. answer ≡ root_answer subs tree version values.now) }
 {
-    let answer = homes.would_answer(tree, SubNo(0), values)?;
-    let taken = copy_values(alloc, values)?;
-    let children = sub_letters(alloc, tree, version, SubNo(0), subs)?;
-    let step = root_step(alloc, client, tree, version, values, &answer, subs)?;
-    count_root(counters, version, node, children.items())?;
-    put_noted(homes, tree, SubNo(0), taken, &answer);
-    Ok(step)
+    if subs != 1 {
+        return Ok(None);
+    }
+    let values = copy_values(alloc, values)?;
+    Ok(Some(Answered {
+        tree,
+        version,
+        values,
+    }))
 }
 
-/// The root of a tree is done at `node` in this version, with these values of its gets: it is counted, its children are
-/// asked for, and its home takes down its notice, which may be the last. Want of memory leaves the counters and the
-/// homes as they were.
-pub fn do_root(
-    alloc: Global,
-    counters: &mut Counters,
+/// Opens a tree of so many subtransactions at its home, and takes its root's notice down. A tree that has no other
+/// isn't opened, since it is answered at once. Want of memory leaves the open trees as they were.
+fn open_tree(
     homes: &mut Homes,
-    node: NodeNo,
-    client: ActorNo,
+    tree: TreeNo,
+    subs: u32,
+    version: Version,
+    values: Values,
+) -> Result<(), NoMemory>
+    requires some { 0 < subs }
+    requires absent { home_in tree (trees_of homes.old) ≡ None }
+    ensures ok { OnOk result (trees_of homes.new
+        ≡ homes_noted tree (record { 0 = 0 }) values (begun tree subs version (trees_of homes.old))) }
+    ensures err { OnErr result (homes.new ≡ homes.old) }
+{
+    if subs == 1 {
+        return Ok(());
+    }
+    homes.begin(tree, subs, version)?;
+    homes.put_notice(tree, SubNo(0), values);
+    Ok(())
+}
+
+/// The root of a tree is done at node `at` in this version, with this effect: it is counted, its children are asked
+/// for, and its home takes down its notice, which may be the last. Want of memory leaves the node as it was.
+pub(crate) fn do_root(
+    alloc: Global,
+    node: &mut NodeParts,
+    script: &Script,
+    at: NodeNo,
     tree: TreeNo,
     version: Version,
-    values: &Values,
-    subs: &[Sub],
+    effect: Effect,
 ) -> Result<Step, NoMemory>
-    requires some { 0 < length subs.now }
-    requires few { length subs.now ≤ 64 }
-    requires node { node.0 < (counts_of counters.old).nodes }
-    requires nodes { All (λ s. s.node.0 < (counts_of counters.old).nodes) subs.now }
-    requires below { AllBelow (2 ^ 62) (counts_of counters.old).numbers }
-    requires absent { home_in tree homes.old ≡ None }
-    ensures counts { IfOk result (λ _. (counts_of counters.new).numbers ≡ counted_root version.0 node.0 (sub_letters tree.0 version.0 0 0 subs.now) (counts_of counters.old).numbers) }
-    ensures nodes { IfOk result (λ _. (counts_of counters.new).nodes ≡ (counts_of counters.old).nodes) }
-    ensures homes { IfOk result (λ _. homes.new ≡ homes_noted tree (record { 0 = 0 }) values.now (begun tree (length subs.now) version homes.old)) }
-    ensures sent { IfOk result (λ step. step.given.sent ≡ sub_letters tree.0 version.0 0 0 subs.now ++ reply_letters client.0 (answer_noted tree (record { 0 = 0 }) values.now (begun tree (length subs.now) version homes.old))) }
-    ensures acts { IfOk result (λ step. step.given.acts ≡ Born tree version ∷ Did tree (record { 0 = 0 }) values.now ∷ []) }
+    // What the caller knows.
+    requires ready { IsReady script.now at.0 node.old }
+    requires there { 0 < length (subs_at script.now tree.0) }
+    requires absent { home_in tree (trees_of node.old.homes) ≡ None }
+    requires near { IsTrue (in_window node.old.turns.low.0 version.0) }
+    requires fits { IsWindowedTable node.old.turns.low.0 (pending effect.staged node.old.items) }
+    // What is made.
+    ensures row { IfOk result (λ step. made (data_of node.new) step.given
+        ≡ root_done script.now at.0 tree.0 version.0 (effect_on node.old.items effect) (data_of node.old)) }
     ensures kept { IfOk result (λ step. step.kept ≡ step.given) }
-    ensures same_counts { OnErr result (counters.new ≡ counters.old) }
-    ensures same_homes { OnErr result (homes.new ≡ homes.old) }
+    // What stays, and what want of memory leaves.
+    ensures script { OnOk result (IsOf script.now node.new) }
+    ensures window { OnOk result (IsInWindow node.new) }
+    ensures err { OnErr result (node.new ≡ node.old) }
 {
-    homes.begin(tree, subs.len() as u32, version)?;
-    match finish_root(
-        alloc, counters, homes, node, client, tree, version, values, subs,
-    ) {
-        Ok(step) => Ok(step),
-        Err(refused) => {
-            homes.forget(tree);
-            Err(refused)
-        }
-    }
+    let subs = script.subs_of(tree);
+    let count = subs.len() as u32;
+    let client = ActorNo(script.nodes() + 1);
+    let answer = root_answer(alloc, tree, count, version, &effect.values)?;
+    let children = sub_letters(alloc, tree, version, SubNo(0), subs)?;
+    let step = root_step(alloc, client, tree, version, &effect.values, &answer, subs)?;
+    open_tree(&mut node.homes, tree, count, version, effect.values)?;
+    count_root(&mut node.counters, version, at, children.items());
+    node.items.put_staged(effect.staged);
+    Ok(step)
 }
 
 /// What a subtransaction's step sends and does, twice over.
@@ -126,8 +139,10 @@ fn sub_step(
     subs: &[Sub],
 ) -> Result<Step, NoMemory>
     requires { length subs.now < 2 ^ 32 }
-    ensures sent { IfOk result (λ step. step.given.sent ≡ sub_letters tree.0 version.0 sub.0 0 subs.now ++ done_letter home.0 tree.0 sub.0 version.0 values.now ∷ []) }
-    ensures acts { IfOk result (λ step. step.given.acts ≡ (if raises then Turned version ∷ [] else []) ++ Did tree sub values.now ∷ []) }
+    ensures sent { IfOk result (λ step. step.given.sent ≡ sub_letters tree.0 version.0 sub.0 0 subs.now
+        ++ done_letter home.0 tree.0 sub.0 version.0 values.now ∷ []) }
+    ensures acts { IfOk result (λ step. step.given.acts ≡ (if raises then Turned version ∷ [] else [])
+        ++ Did tree sub values.now ∷ []) }
     ensures kept { IfOk result (λ step. step.kept ≡ step.given) }
 {
     let given = sub_out(alloc, home, tree, sub, version, values, raises, subs)?;
@@ -135,34 +150,57 @@ fn sub_step(
     Ok(Step { given, kept })
 }
 
-/// Subtransaction `sub` of a tree, which node `from` asked for, is done in this version with these values of its gets:
-/// it is counted, its children are asked for, and its notice goes to the tree's home. `raises` says whether it raises
-/// its node's update version before. Want of memory leaves the counters as they were.
-pub fn do_sub(
+/// Raises the update version where it is to be raised.
+fn raise_if(turns: &mut Turns, raises: bool, v: Version)
+    ensures { turns.new ≡ raised_if raises v.0 turns.old }
+{
+    if raises {
+        turns.update = v;
+    }
+}
+
+/// Subtransaction `sub` of a tree, which node `from` asked for, is done in this version, with this effect: it is
+/// counted, its children are asked for, and its notice goes to the tree's home. `raises` says whether it raises the
+/// node's update version before. Want of memory leaves the node as it was.
+pub(crate) fn do_sub(
     alloc: Global,
-    counters: &mut Counters,
+    node: &mut NodeParts,
+    script: &Script,
     from: NodeNo,
-    home: NodeNo,
     tree: TreeNo,
     sub: SubNo,
     version: Version,
-    values: &Values,
     raises: bool,
-    subs: &[Sub],
+    effect: Effect,
 ) -> Result<Step, NoMemory>
-    requires few { length subs.now ≤ 64 }
-    requires from { from.0 < (counts_of counters.old).nodes }
-    requires home { home.0 < (counts_of counters.old).nodes }
-    requires nodes { All (λ s. s.node.0 < (counts_of counters.old).nodes) subs.now }
-    requires below { AllBelow (2 ^ 62) (counts_of counters.old).numbers }
-    ensures counts { IfOk result (λ _. (counts_of counters.new).numbers ≡ counted_sub version.0 from.0 (sub_letters tree.0 version.0 sub.0 0 subs.now ++ done_letter home.0 tree.0 sub.0 version.0 values.now ∷ []) (counts_of counters.old).numbers) }
-    ensures nodes { IfOk result (λ _. (counts_of counters.new).nodes ≡ (counts_of counters.old).nodes) }
-    ensures sent { IfOk result (λ step. step.given.sent ≡ sub_letters tree.0 version.0 sub.0 0 subs.now ++ done_letter home.0 tree.0 sub.0 version.0 values.now ∷ []) }
-    ensures acts { IfOk result (λ step. step.given.acts ≡ (if raises then Turned version ∷ [] else []) ++ Did tree sub values.now ∷ []) }
+    // What the caller knows.
+    requires ready { IsReady script.now from.0 node.old }
+    requires there { 0 < length (subs_at script.now tree.0) }
+    requires near { IsTrue (in_window node.old.turns.low.0 version.0) }
+    requires fits { IsWindowedTable node.old.turns.low.0 (pending effect.staged node.old.items) }
+    // What is made.
+    ensures row { IfOk result (λ step. made (data_of node.new) step.given
+        ≡ sub_done script.now from.0 tree.0 sub.0 version.0 raises (effect_on node.old.items effect) (data_of node.old)) }
     ensures kept { IfOk result (λ step. step.kept ≡ step.given) }
-    ensures same_counts { OnErr result (counters.new ≡ counters.old) }
+    // What stays, and what want of memory leaves.
+    ensures script { OnOk result (IsOf script.now node.new) }
+    ensures window { OnOk result (IsInWindow node.new) }
+    ensures err { OnErr result (node.new ≡ node.old) }
 {
-    let step = sub_step(alloc, home, tree, sub, version, values, raises, subs)?;
-    count_sub(counters, version, from, step.given.sent.items())?;
+    let subs = script.subs_of(tree);
+    let home = NodeNo(script.home_of(tree));
+    let step = sub_step(
+        alloc,
+        home,
+        tree,
+        sub,
+        version,
+        &effect.values,
+        raises,
+        subs,
+    )?;
+    count_sub(&mut node.counters, version, from, step.given.sent.items());
+    raise_if(&mut node.turns, raises, version);
+    node.items.put_staged(effect.staged);
     Ok(step)
 }

@@ -1,6 +1,8 @@
 //! The step of a subtransaction of an update tree.
 #![tactic(auto)]
 
+mod faces;
 mod steps;
 
-pub use steps::run_update;
+pub use faces::run_update;
+pub use steps::do_update;

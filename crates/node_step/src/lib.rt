@@ -1,0 +1,9 @@
+//! What a node does with a letter.
+#![tactic(auto)]
+
+mod node;
+
+pub use node::step_node;
+
+#[cfg(test)]
+mod tests;

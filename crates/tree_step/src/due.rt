@@ -1,0 +1,98 @@
+// Whether a letter is one that a node takes.
+ghost use Rattle.std.specs.Prelude.{◌≡◌, ◌==◌, ◌&&◌, not, is_some, nat_lt, length};
+ghost use Rattle.item_versions.specs.Window.{in_window};
+ghost use Rattle.tx_trees.specs.ScriptData.{home_of, node_of, subs_at};
+ghost use Rattle.tree_home.specs.Homes.{home_in, trees_of};
+ghost use Rattle.tree_step.specs.Apt.{is_did, is_strict_at, suits};
+ghost use Rattle.tree_step.specs.Due.{is_due};
+ghost use Rattle.tree_step.specs.Node.{data_of};
+
+use crate::lookups::{kind_of, node_of};
+use crate::node::NodeParts;
+use letter_types::{Body, Letter, Notice};
+use node_versions::Turns;
+use tree_home::Homes;
+use tv_base::{ActorNo, SubNo, TreeNo, Version};
+use tx_trees::{Script, TreeKind};
+
+/// How many versions a node goes by at a time.
+const VERSIONS: u64 = 3;
+
+/// Whether a tree's root stands at node `at`, which doesn't have the tree.
+fn is_new_root(script: &Script, at: ActorNo, homes: &Homes, tree: TreeNo) -> bool
+    ensures { result ≡ (home_of script.now tree.0 == at.0) && not (is_some (home_in tree (trees_of homes.now))) }
+{
+    script.home_of(tree) == at.0 && !homes.has(tree)
+}
+
+/// Whether a subtransaction stands at node `at`, and was asked for by a node.
+fn is_sub_at(script: &Script, at: ActorNo, from: ActorNo, tree: TreeNo, sub: SubNo) -> bool
+    ensures { result ≡ (node_of script.now tree.0 sub.0 == at.0) && nat_lt from.0 script.now.nodes }
+{
+    node_of(script, tree, sub) == at.0 && from.0 < script.nodes()
+}
+
+/// Whether a tree is there, and is strict.
+fn is_strict(script: &Script, tree: TreeNo) -> bool
+    ensures { result ≡ is_strict_at script.now tree.0 }
+{
+    matches!(kind_of(script, tree), Some(TreeKind::Strict))
+}
+
+/// Whether a notice tells that a subtransaction was done, and isn't a vote.
+fn is_did(notice: &Notice) -> bool
+    ensures { result ≡ is_did notice.now }
+{
+    match notice {
+        Notice::Did(_) => true,
+        _ => false,
+    }
+}
+
+/// Whether a notice is one of the tree's kind.
+fn suits(script: &Script, tree: TreeNo, notice: &Notice) -> bool
+    ensures { result ≡ suits (is_strict_at script.now tree.0) notice.now }
+{
+    is_strict(script, tree) != is_did(notice)
+}
+
+/// Whether a tree has its home at node `at`, and the subtransaction, and the sender is a node.
+fn is_notice_for(script: &Script, at: ActorNo, from: ActorNo, tree: TreeNo, sub: SubNo) -> bool
+    ensures { result ≡ (home_of script.now tree.0 == at.0) &&
+        (nat_lt sub.0 (length (subs_at script.now tree.0)) && nat_lt from.0 script.now.nodes) }
+{
+    script.home_of(tree) == at.0
+        && (sub.0 as usize) < script.subs_of(tree).len()
+        && from.0 < script.nodes()
+}
+
+/// Whether a version is one of the three that begin with the low version.
+fn is_near(turns: &Turns, version: Version) -> bool
+    ensures { result ≡ in_window turns.now.low.0 version.0 }
+{
+    turns.low.0 <= version.0 && version.0 - turns.low.0 < VERSIONS
+}
+
+/// Whether a letter asks its addressee for a subtransaction or brings it a notice, and what it names belongs there, a
+/// root's tree isn't open yet, and the version that it names is one of the three that begin with the low version.
+pub fn is_due(node: &NodeParts, letter: &Letter, script: &Script) -> bool
+    ensures { result ≡ is_due script.now letter.now.to.0 (data_of node.now) letter.now.from.0 letter.now.body }
+{
+    match &letter.body {
+        Body::Root { tree } => is_new_root(script, letter.to, &node.homes, *tree),
+        Body::Sub { tree, sub, version } => {
+            is_sub_at(script, letter.to, letter.from, *tree, *sub) && is_near(&node.turns, *version)
+        }
+        Body::Done {
+            tree,
+            sub,
+            version,
+            notice,
+        } => {
+            is_notice_for(script, letter.to, letter.from, *tree, *sub)
+                && suits(script, *tree, notice)
+                && is_near(&node.turns, *version)
+        }
+        _ => false,
+    }
+}
