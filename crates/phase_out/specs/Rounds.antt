@@ -1,5 +1,5 @@
 -- A round: the rows of numbers that are kept, and what they say.
-use Rattle.std.specs.Prelude.{◌≡◌, ◌≢◌, ℕ, zero, suc, ◌<◌, Bool, true, false, ◌&&◌, ◌==◌, ◌⊎◌, List, [], ◌∷◌, if◌then◌else◌, replicate, slice_get, slice_index, length, IfSome, Option, Some, None}
+use Rattle.std.specs.Prelude.{◌≡◌, ◌≢◌, ℕ, zero, suc, ◌<◌, Bool, true, false, ◌&&◌, ◌==◌, nat_lt, ◌⊎◌, List, [], ◌∷◌, if◌then◌else◌, replicate, slice_get, slice_index, length, IfSome, Option, Some, None}
 use Rattle.std.specs.List.{All}
 use Rattle.tv_base.specs.declared.numbers.Version.{Version}
 
@@ -24,6 +24,11 @@ new_round v k n =
 pub record AreRows (n : ℕ) (ks : Kept) : Type 0 where
   pub places : length ks ≡ n
   pub numbers : All (λ k. IfSome k (λ row. length row ≡ n)) ks
+
+-- what a sender tells of a version and a round's number is a row of this round: it is a node, and it has a number for
+-- each node
+abbrev pub is_of : ℕ → Version → ℕ → List ℕ → RoundData → Bool
+is_of from v k row r = (v.0 == r.version.0) && ((k == r.number) && (nat_lt from r.nodes && (length row == r.nodes)))
 
 -- no row is missing
 abbrev pub all_in : Kept → Bool

@@ -1,5 +1,5 @@
 ghost use Rattle.std.specs.Prelude.{ℕ, ◌≡◌, ◌<◌, ◌↔◌, length, replicate, slice_get, slice_set, false, true, IfOk, IfSome, IsNone, IsTrue, Some, None};
-ghost use Rattle.phase_out.specs.Rounds.{AreRows, MissesRow, PairDiffers, IsMissing, new_round, all_in, number_at, kept_number, pair_agrees, all_below, agrees, verdict_of, verdict_by};
+ghost use Rattle.phase_out.specs.Rounds.{AreRows, MissesRow, PairDiffers, IsMissing, new_round, is_of, all_in, number_at, kept_number, pair_agrees, all_below, agrees, verdict_of, verdict_by};
 
 use pair_counters::Row;
 use std::alloc::Global;
@@ -46,6 +46,19 @@ impl Round {
         })
     }
 
+    /// A round of no nodes: no row is of it. Wants no memory.
+    pub fn empty(alloc: Global) -> Round
+        ensures { result ≡ new_round (record { 0 = 0 }) 0 0 }
+    {
+        Round {
+            version: Version(0),
+            number: 0,
+            nodes: 0,
+            dones: Seq::new(alloc),
+            askeds: Seq::new(alloc),
+        }
+    }
+
     /// The version whose numbers are compared.
     pub fn version(&self) -> Version
         ensures { result ≡ self.now.version }
@@ -65,6 +78,19 @@ impl Round {
         ensures { result ≡ self.now.nodes }
     {
         self.nodes
+    }
+
+    /// Whether a row that an actor tells of a version and a round's number is one of this round: the actor is a node,
+    /// and the row has a number for each node.
+    pub fn is_of(&self, from: NodeNo, version: Version, number: u64, row: &Row) -> bool
+        ensures is_of { result ≡ is_of from.0 version number row.now self.now }
+        ensures node { IsTrue result → from.0 < self.now.nodes }
+        ensures numbers { IsTrue result → length row.now ≡ self.now.nodes }
+    {
+        version == self.version
+            && number == self.number
+            && from.0 < self.nodes
+            && row.items().len() == self.nodes as usize
     }
 
     /// Keeps a node's row of completions, in place of an earlier one. Wants no memory.
@@ -91,6 +117,7 @@ impl Round {
         requires numbers { IfSome row (λ numbers. length numbers ≡ self.old.nodes) }
         ensures put { self.new ≡ record self.old { dones = slice_set self.old.dones from.0 row } }
         ensures was { slice_get self.old.dones from.0 ≡ Some result }
+        ensures were_numbers { IfSome result (λ numbers. length numbers ≡ self.old.nodes) }
     {
         self.dones.put(from.0 as usize, row)
     }
@@ -101,6 +128,7 @@ impl Round {
         requires numbers { IfSome row (λ numbers. length numbers ≡ self.old.nodes) }
         ensures put { self.new ≡ record self.old { askeds = slice_set self.old.askeds from.0 row } }
         ensures was { slice_get self.old.askeds from.0 ≡ Some result }
+        ensures were_numbers { IfSome result (λ numbers. length numbers ≡ self.old.nodes) }
     {
         self.askeds.put(from.0 as usize, row)
     }

@@ -14,19 +14,15 @@ fn row(alloc: Global, first: u64, second: u64) -> Result<Row, NoMemory> {
 
 // Keeps a row of completions, where it may be kept.
 fn take_done(round: &mut Round, from: u8, row: Row) {
-    if from < round.nodes() {
-        if row.items().len() == round.nodes() as usize {
-            round.take_done(NodeNo(from), row);
-        }
+    if round.is_of(NodeNo(from), Version(1), 7, &row) {
+        round.take_done(NodeNo(from), row);
     }
 }
 
 // Keeps a row of requests, where it may be kept.
 fn take_asked(round: &mut Round, from: u8, row: Row) {
-    if from < round.nodes() {
-        if row.items().len() == round.nodes() as usize {
-            round.take_asked(NodeNo(from), row);
-        }
+    if round.is_of(NodeNo(from), Version(1), 7, &row) {
+        round.take_asked(NodeNo(from), row);
     }
 }
 
@@ -50,5 +46,10 @@ fn a_verdict_compares_every_pair(rt: HostRuntime) -> Result<(), Fail> {
     // Its row that counts the third takes the place of the earlier one.
     take_done(&mut round, 1, row(alloc, 3, 4)?);
     assert_eq!(rt; round.verdict(), Some(true));
+    let none = Round::empty(alloc);
+    assert_eq!(rt;
+        none.is_of(NodeNo(0), Version(0), 0, &Row::new(alloc)),
+        false
+    );
     Ok(())
 }

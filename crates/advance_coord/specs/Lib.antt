@@ -1,0 +1,2 @@
+pub mod Coordinator
+pub mod Sent
