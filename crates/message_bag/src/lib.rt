@@ -1,0 +1,72 @@
+//! Bags of letters under way, which can lie behind a lock.
+#![tactic(auto)]
+
+ghost use Rattle.std.specs.Prelude.{◌≡◌, ◌<◌, ◌%◌, ◌↔◌, [], ◌∷◌, ◌++◌, length, OnOk, OnErr, IfErr, IfSome, IsNone, Some, remove, slice_get};
+
+use stamp_post::{Envelope, PostName};
+use std::alloc::{AllocFailed, Global};
+use std::collections::VecDeque;
+use std::marker::{Model, PhantomData};
+use tv_base::NoMemory;
+
+/// Envelopes of the post that `P` names, in the order in which they came. Contracts see it as their list.
+#[derive(Drop)]
+pub struct Bag<P: PostName> {
+    envelopes: VecDeque<Envelope>,
+    post: PhantomData<P>,
+}
+
+impl<P: PostName> Model for Bag<P> {
+    ghost use Rattle.std.specs.Prelude.{◌≡◌, List, All};
+    ghost use Rattle.stamp_post.specs.Shown.{EnvelopeData};
+
+    ghost Value = { List EnvelopeData };
+
+    ghost view = { λ b. b.envelopes.items };
+
+    ghost invariant = { λ b. All (λ e. e.post ≡ P.post) b.envelopes.items };
+}
+
+impl<P: PostName> Bag<P> {
+    /// An empty bag.
+    pub fn new(alloc: Global) -> Bag<P>
+        ensures { result ≡ [] }
+    {
+        Bag {
+            envelopes: VecDeque::new(alloc),
+            post: PhantomData,
+        }
+    }
+
+    /// Puts an envelope last. Where no memory is found the bag stays as it is and the envelope comes back.
+    pub fn put(&mut self, envelope: Envelope) -> Result<(), (NoMemory, Envelope)>
+        requires { envelope.post ≡ P.post }
+        ensures ok { OnOk result (self.new ≡ self.old ++ envelope ∷ []) }
+        ensures refused { IfErr result (λ e. e.1 ≡ envelope) }
+        ensures err { OnErr result (self.new ≡ self.old) }
+    {
+        match self.envelopes.push_back(envelope) {
+            Ok(()) => Ok(()),
+            Err(AllocFailed { value }) => Err((NoMemory, value)),
+        }
+    }
+
+    /// Takes the envelope at `place` modulo the length out, and leaves the others in order. None exactly where the bag
+    /// is empty.
+    pub fn take(&mut self, place: usize) -> Option<Envelope>
+        ensures none { IsNone result ↔ (self.old ≡ []) }
+        ensures empty { IsNone result → self.new ≡ [] }
+        ensures taken { IfSome result (λ e. slice_get self.old (place % length self.old) ≡ Some e) }
+        ensures others { IfSome result (λ _. self.new ≡ remove self.old (place % length self.old)) }
+        ensures post { IfSome result (λ e. e.post ≡ P.post) }
+    {
+        let count = self.envelopes.len();
+        if count == 0 {
+            return None;
+        }
+        self.envelopes.remove(place % count)
+    }
+}
+
+#[cfg(test)]
+mod tests;

@@ -1,0 +1,4 @@
+pub mod Lists
+pub mod Claims
+pub mod Steps
+pub mod Known

@@ -1,0 +1,15 @@
+//! A clock that threads share, and letters between actors that can be neither copied nor made.
+#![tactic(auto)]
+
+mod first;
+mod name;
+mod post;
+mod rule;
+mod seats;
+
+pub use name::PostName;
+pub use post::{Gathered, Post, PostParts};
+pub use seats::{ActorSeat, Envelope, Gatherer, Outbox, Receipt, Receipts, Seats};
+
+#[cfg(test)]
+mod tests;

@@ -1,0 +1,16 @@
+// The name of a post, for types that stand behind a lock.
+use std::marker::Brand;
+
+/// Which post it is. A value behind a lock is known by its type alone, so such a type takes a name. Whoever calls a
+/// function that is generic over a name picks what it means there.
+pub trait PostName {
+    ghost use Rattle.stamp_post.specs.Shown.{PostId};
+
+    ghost post: { PostId };
+}
+
+impl PostName for Brand {
+    ghost use Rattle.stamp_post.specs.Shown.{no_post};
+
+    ghost post = { no_post };
+}

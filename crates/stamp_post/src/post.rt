@@ -1,0 +1,362 @@
+// The post: its clock, and the steps on it.
+ghost use Rattle.std.specs.Prelude.{◌≡◌, ◌+◌, ◌-◌, ◌<◌, ◌≤◌, All, [], ◌∷◌, ◌++◌, length, map, slice_get, IfOk, IfSome, IfNone, Some, None};
+ghost use Rattle.letter_types.specs.declared.entries.Posting.{Posting};
+ghost use Rattle.letter_types.specs.Letters.{go};
+ghost use Rattle.letter_types.specs.Postal.{letters_sent};
+ghost use Rattle.stamp_post.specs.Logs.{most, posting};
+ghost use Rattle.stamp_post.specs.Shown.{seat_data, outbox_data, envelope_data, new_seats, seat_joined, receipt_joined, IsAddressed, Gathers};
+ghost use Rattle.stamp_post.specs.Views.{first_data};
+
+use crate::first::FirstSeat;
+use crate::rule::{
+    Clock, JoinActor, JoinEnvelope, JoinReceipt, Sends, SplitActor, SplitEnvelope, SplitGo,
+    SplitOutbox, Stamps, View,
+};
+use crate::seats::{ActorSeat, Envelope, Gatherer, Outbox, Receipt, Receipts, Seats};
+use atomic_table::Table;
+use letter_types::{Body, Letter, LetterId, Letters};
+use std::alloc::Global;
+use std::collections::VecDeque;
+use std::marker::{Brand, Model};
+use tv_base::{ActorNo, NoMemory, Stamp};
+
+// The clock. Word 0 is only read, where views are cut and joined.
+const CLOCK: usize = 1;
+
+/// What all threads of a post share: its clock. Contracts see which post it is, and how many actors it has.
+#[derive(Drop)]
+pub struct Post {
+    table: Table<(), View, u8, Clock, Global>,
+}
+
+impl Model for Post {
+    ghost use Rattle.std.specs.Prelude.{◌≡◌};
+    ghost use Rattle.stamp_post.specs.Shown.{PostId, post_id};
+
+    ghost Value = { PostId };
+
+    ghost view = { λ p. post_id p.table.shared.table_id p.table.shared.key };
+
+    ghost invariant = { λ p. (p.table.shared.table_id.words ≡ 2) × (p.table.shared.table_id.slots ≡ 0) };
+}
+
+/// A new post and all that belongs to it.
+#[derive(Drop)]
+pub struct PostParts {
+    pub post: Post,
+    pub gatherer: Gatherer,
+    pub seats: Seats,
+    pub first: Envelope,
+}
+
+/// What gathering found: how many postings there are. Their stamps are 1 to this number.
+#[derive(Clone, Copy, Debug, PartialEq, Eq)]
+pub struct Gathered {
+    pub count: u64,
+}
+
+impl Post {
+    // Both words are 0.
+    fn open(alloc: Global, actors: u8) -> Result<(Post, FirstSeat), NoMemory>
+        ensures { IfOk result (λ r. (r.0.actors ≡ actors) × (r.1 ≡ first_data r.0 0 (Some (go (actors - 1))) [] [])) }
+    {
+        let (table, seat) = Table::of_words(alloc, &[0, 0], &actors)?;
+        let first = FirstSeat {
+            seat,
+            actors,
+            made: 0,
+        };
+        Ok((Post { table }, first))
+    }
+
+    // The next actor.
+    fn split_actor(&self, first: &mut FirstSeat) -> ActorSeat
+        requires post { first.old.post ≡ self.now }
+        requires few { first.old.made < self.now.actors }
+        ensures first { first.new ≡ first_data self.now (first.old.made + 1) first.old.here first.old.seats
+            first.old.receipts }
+        ensures actor { result ≡ seat_data self.now first.old.made [] None None }
+    {
+        let seat = self.table.shared.split_seat::<SplitActor>(&mut first.seat);
+        let actors = first.actors;
+        let number = first.made;
+        first.made += 1;
+        ActorSeat {
+            seat,
+            actors,
+            number,
+        }
+    }
+
+    // Go, which is this letter.
+    fn split_go(&self, first: &mut FirstSeat, letter: Letter) -> Envelope
+        requires post { first.old.post ≡ self.now }
+        requires here { first.old.here ≡ Some letter }
+        requires addressed { letter.to.0 < self.now.actors }
+        ensures first { first.new ≡ first_data self.now first.old.made None first.old.seats first.old.receipts }
+        ensures go { result ≡ envelope_data self.now letter }
+    {
+        let seat = self.table.shared.split_seat::<SplitGo>(&mut first.seat);
+        let actors = first.actors;
+        Envelope {
+            seat,
+            actors,
+            letter,
+        }
+    }
+
+    // All actors, in order.
+    fn split_actors(
+        &self,
+        alloc: Global,
+        first: &mut FirstSeat,
+        actors: u8,
+    ) -> Result<Seats, NoMemory>
+        requires post { first.old.post ≡ self.now }
+        requires none { first.old.made ≡ 0 }
+        requires all { self.now.actors ≡ actors }
+        ensures first { IfOk result (λ _. first.new ≡ first_data self.now actors first.old.here first.old.seats
+            first.old.receipts) }
+        ensures seats { IfOk result (λ seats. seats ≡ new_seats self.now 0 actors) }
+    {
+        let mut seats = Seats::new(alloc);
+        for _number in 0..actors {
+            let seat = self.split_actor(first);
+            seats.push(seat)?;
+        }
+        Ok(seats)
+    }
+
+    /// A post of so many actors, at least 1, that has no posting. There is one seat for each actor, in order of number,
+    /// and the first letter, from and to the last actor. Each post is another one.
+    pub fn start(alloc: Global, actors: u8) -> Result<PostParts, NoMemory>
+        requires { 1 ≤ actors }
+        ensures post { IfOk result (λ p. p.post.actors ≡ actors) }
+        ensures gatherer { IfOk result (λ p. p.gatherer ≡ p.post) }
+        ensures seats { IfOk result (λ p. p.seats ≡ new_seats p.post 0 actors) }
+        ensures first { IfOk result (λ p. p.first ≡ envelope_data p.post (go (actors - 1))) }
+    {
+        let (post, mut first) = Post::open(alloc, actors)?;
+        let seats = post.split_actors(alloc, &mut first, actors)?;
+        let last = ActorNo(actors - 1);
+        let letter = Letter {
+            id: LetterId {
+                stamp: Stamp(0),
+                place: 0,
+            },
+            from: last,
+            to: last,
+            body: Body::Go,
+        };
+        let envelope = post.split_go(&mut first, letter);
+        Ok(PostParts {
+            post,
+            gatherer: Gatherer { first },
+            seats,
+            first: envelope,
+        })
+    }
+
+    /// The actor takes a letter that is addressed to it. It has none yet that it hasn't stamped.
+    pub fn take(&self, seat: &mut ActorSeat, envelope: Envelope) -> Letter
+        requires post { (seat.old.post ≡ self.now) × (envelope.post ≡ self.now) }
+        requires addressee { envelope.letter.to.0 ≡ seat.old.number }
+        requires none { seat.old.taken ≡ None }
+        ensures seat { seat.new ≡ seat_data self.now seat.old.number seat.old.own
+            (Some envelope.letter) seat.old.unsent }
+        ensures letter { result ≡ envelope.letter }
+    {
+        let Envelope {
+            seat: other,
+            actors: _,
+            letter,
+        } = envelope;
+        self.table
+            .shared
+            .join_seat::<JoinEnvelope>(&mut seat.seat, other);
+        letter
+    }
+
+    // The call picks what is sent.
+    fn stamp_as<S: Sends>(&self, seat: &mut ActorSeat, letter: &Letter, sent: &Letters) -> Stamp
+        requires sends { sent.now ≡ S.sent }
+        requires post { seat.old.post ≡ self.now }
+        requires taken { seat.old.taken ≡ Some letter.now }
+        requires addressed { IsAddressed self.now.actors sent.now }
+        requires room { length seat.old.own < most }
+        ensures { let p = posting result.0 seat.old.number letter.now sent.now in
+            seat.new ≡ seat_data self.now seat.old.number (seat.old.own ++ p ∷ []) None (Some p) }
+    {
+        let before = self
+            .table
+            .shared
+            .fetch_add::<Stamps<S>>(&mut seat.seat, CLOCK, 1);
+        Stamp(before + 1)
+    }
+
+    /// Makes the actor's next posting, of the letter that it has taken and what it sends, at the clock's next number.
+    /// All that is sent is addressed to actors of the post, and the actor has fewer than 2^40 postings.
+    pub fn stamp(&self, seat: &mut ActorSeat, letter: &Letter, sent: &Letters) -> Stamp
+        requires post { seat.old.post ≡ self.now }
+        requires taken { seat.old.taken ≡ Some letter.now }
+        requires addressed { IsAddressed self.now.actors sent.now }
+        requires room { length seat.old.own < most }
+        ensures { let p = posting result.0 seat.old.number letter.now sent.now in
+            seat.new ≡ seat_data self.now seat.old.number (seat.old.own ++ p ∷ []) None (Some p) }
+    {
+        self.stamp_as::<Brand>(seat, letter, sent)
+    }
+
+    /// The outbox of the actor's last posting, which has this stamp and sends these letters. It wasn't made yet.
+    pub fn outbox(&self, seat: &mut ActorSeat, stamp: Stamp, sent: Letters) -> Outbox
+        requires post { seat.old.post ≡ self.now }
+        requires unsent { (p : Posting) × (seat.old.unsent ≡ Some p) × (p.stamp ≡ stamp) × (p.sent ≡ sent) }
+        ensures seat { seat.new ≡ seat_data self.now seat.old.number seat.old.own seat.old.taken None }
+        ensures posting { seat.old.unsent ≡ Some result.posting }
+        ensures outbox { result ≡ outbox_data self.now seat.old.number seat.old.own result.posting 0 }
+    {
+        let actors = seat.actors;
+        let number = seat.number;
+        let other = self.table.shared.split_seat::<SplitOutbox>(&mut seat.seat);
+        Outbox {
+            seat: other,
+            actors,
+            number,
+            stamp,
+            left: VecDeque::from(sent.into_vec()),
+            place: 0,
+        }
+    }
+
+    // An actor comes back.
+    fn join_seat(&self, first: &mut FirstSeat, seat: ActorSeat)
+        requires post { (first.old.post ≡ self.now) × (seat.post ≡ self.now) }
+        ensures { first.new ≡ first_data self.now first.old.made first.old.here
+            (first.old.seats ++ seat_joined seat ∷ []) first.old.receipts }
+    {
+        let ActorSeat {
+            seat,
+            actors: _,
+            number: _,
+        } = seat;
+        self.table
+            .shared
+            .join_seat::<JoinActor>(&mut first.seat, seat);
+    }
+
+    // A receipt comes back.
+    fn join_receipt(&self, first: &mut FirstSeat, receipt: Receipt)
+        requires post { (first.old.post ≡ self.now) × (receipt.post ≡ self.now) }
+        ensures { first.new ≡ first_data self.now first.old.made first.old.here first.old.seats
+            (first.old.receipts ++ receipt_joined receipt ∷ []) }
+    {
+        let Receipt {
+            seat,
+            actors: _,
+            number: _,
+            stamp: _,
+            place: _,
+        } = receipt;
+        self.table
+            .shared
+            .join_seat::<JoinReceipt>(&mut first.seat, seat);
+    }
+
+    fn join_seats(&self, first: &mut FirstSeat, seats: Seats)
+        requires post { first.old.post ≡ self.now }
+        requires seats { All (λ s. s.post ≡ self.now) seats }
+        ensures { first.new ≡ first_data self.now first.old.made first.old.here
+            (first.old.seats ++ map seat_joined seats) first.old.receipts }
+    {
+        for seat in seats.into_vec() {
+            self.join_seat(first, seat);
+        }
+    }
+
+    fn join_receipts(&self, first: &mut FirstSeat, receipts: Receipts)
+        requires post { first.old.post ≡ self.now }
+        requires receipts { All (λ r. r.post ≡ self.now) receipts }
+        ensures { first.new ≡ first_data self.now first.old.made first.old.here first.old.seats
+            (first.old.receipts ++ map receipt_joined receipts) }
+    {
+        for receipt in receipts.into_vec() {
+            self.join_receipt(first, receipt);
+        }
+    }
+
+    // The last state, of which the first seat knows what was joined.
+    fn close(self, first: FirstSeat) -> u64
+        requires { first.post ≡ self }
+        ensures { (g : Gathers self.actors first.seats first.receipts) × (length g.log ≡ result) }
+    {
+        let FirstSeat {
+            seat,
+            actors: _,
+            made: _,
+        } = first;
+        let Post { table } = self;
+        let closed = table.close_with(seat);
+        let count = closed.word(CLOCK);
+        closed.free();
+        count
+    }
+
+    /// Ties the postings of the actors' seats together, and takes the receipts in. They are those of one log that went
+    /// as letters do, with as many postings as the answer counts.
+    pub fn gather(self, gatherer: Gatherer, seats: Seats, receipts: Receipts) -> Gathered
+        requires gatherer { gatherer ≡ self }
+        requires seats { All (λ s. s.post ≡ self) seats }
+        requires receipts { All (λ r. r.post ≡ self) receipts }
+        ensures { (g : Gathers self.actors (map seat_joined seats) (map receipt_joined receipts))
+            × (length g.log ≡ result.count) }
+    {
+        let Gatherer { first } = gatherer;
+        let mut first = first;
+        self.join_seats(&mut first, seats);
+        self.join_receipts(&mut first, receipts);
+        let count = self.close(first);
+        Gathered { count }
+    }
+}
+
+impl Outbox {
+    /// The next letter of the posting, in order. None exactly where none is left.
+    pub fn next(&mut self, post: &Post) -> Option<Envelope>
+        requires { self.old.post ≡ post.now }
+        // None exactly where no letter is left
+        ensures left { IfSome result (λ _. self.old.next < length self.old.posting.sent) }
+        ensures none { IfNone result (length self.old.posting.sent ≤ self.old.next) }
+        // which letter it is
+        ensures letter { IfSome result (λ e. slice_get (letters_sent self.old.posting) self.old.next ≡ Some e.letter) }
+        ensures post { IfSome result (λ e. e.post ≡ self.old.post) }
+        // what is left behind
+        ensures out { IfSome result (λ _.
+            self.new ≡ outbox_data self.old.post self.old.number self.old.own self.old.posting (self.old.next + 1)) }
+        ensures same { IfNone result (self.new ≡ self.old) }
+    {
+        let Some(out) = self.left.pop_front() else {
+            return None;
+        };
+        let seat = post
+            .table
+            .shared
+            .split_seat::<SplitEnvelope>(&mut self.seat);
+        let id = LetterId {
+            stamp: self.stamp,
+            place: self.place,
+        };
+        let letter = Letter {
+            id,
+            from: ActorNo(self.number),
+            to: out.to,
+            body: out.body,
+        };
+        let actors = self.actors;
+        self.place += 1;
+        Some(Envelope {
+            seat,
+            actors,
+            letter,
+        })
+    }
+}

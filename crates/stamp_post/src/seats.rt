@@ -1,0 +1,194 @@
+// What is handed about: actors' seats, outboxes, envelopes, receipts and the gatherer.
+ghost use Rattle.std.specs.Prelude.{◌≡◌, ◌<◌, ◌≤◌, length, MatchResult};
+ghost use Rattle.stamp_post.specs.Shown.{IsAddressed, receipt_data};
+
+use crate::first::FirstSeat;
+use crate::rule::View;
+use atomic_table::Seat;
+use letter_types::{Letter, Outgoing};
+use std::collections::VecDeque;
+use std::marker::Model;
+use tv_base::{Seq, Stamp};
+
+/// The seat of one actor, which alone takes letters and stamps postings for it. Contracts see its post, its number, its
+/// postings so far, the letter that it has taken and not stamped, and its last posting while that one's outbox isn't
+/// made.
+#[derive(Drop)]
+pub struct ActorSeat {
+    pub(crate) seat: Seat<(), View>,
+    pub(crate) actors: u8,
+    pub(crate) number: u8,
+}
+
+impl Model for ActorSeat {
+    ghost use Rattle.std.specs.Prelude.{◌≡◌, []};
+    ghost use Rattle.stamp_post.specs.declared.rule.View.TheVariants.{Acting};
+    ghost use Rattle.stamp_post.specs.Shown.{SeatData, seat_data, post_id, IsSeat};
+    ghost use Rattle.stamp_post.specs.Views.{own_in, taken_in, unsent_in};
+
+    ghost Value = { SeatData };
+
+    ghost view = { λ s. seat_data (post_id s.seat.table_id s.actors) s.number (own_in s.seat.me.0)
+        (taken_in s.seat.me.0) (unsent_in s.seat.me.0) };
+
+    ghost invariant = { λ s.
+        (s.seat.me ≡ (Acting s.number (own_in s.seat.me.0) (taken_in s.seat.me.0) (unsent_in s.seat.me.0), []))
+        × IsSeat s.actors s.number (taken_in s.seat.me.0) (unsent_in s.seat.me.0) };
+}
+
+/// Seats in order of actor. A post has at most 255 actors.
+pub type Seats = Seq<ActorSeat, 255>;
+
+/// The seat that the actors' seats and the receipts are gathered into.
+#[derive(Drop)]
+pub struct Gatherer {
+    pub(crate) first: FirstSeat,
+}
+
+impl Model for Gatherer {
+    ghost use Rattle.std.specs.Prelude.{◌≡◌, []};
+    ghost use Rattle.stamp_post.specs.Shown.{PostId};
+
+    ghost Value = { PostId };
+
+    ghost view = { λ g. g.first.post };
+
+    ghost invariant = { λ g. (g.first.seats ≡ []) × (g.first.receipts ≡ []) };
+}
+
+/// A letter under way, addressed to one of the post's actors. It can be neither copied nor made otherwise.
+#[derive(Drop)]
+pub struct Envelope {
+    pub(crate) seat: Seat<(), View>,
+    pub(crate) actors: u8,
+    pub(crate) letter: Letter,
+}
+
+impl Model for Envelope {
+    ghost use Rattle.std.specs.Prelude.{◌≡◌, ◌<◌, []};
+    ghost use Rattle.stamp_post.specs.declared.rule.View.TheVariants.{Carrying};
+    ghost use Rattle.stamp_post.specs.Shown.{EnvelopeData, envelope_data, post_id};
+
+    ghost Value = { EnvelopeData };
+
+    ghost view = { λ e. envelope_data (post_id e.seat.table_id e.actors) e.letter };
+
+    ghost invariant = { λ e. (e.seat.me ≡ (Carrying e.letter, [])) × (e.letter.to.0 < e.actors) };
+}
+
+impl Envelope {
+    /// The letter.
+    pub fn letter(&self) -> &Letter
+        ensures letter { result.now ≡ self.now.letter }
+        ensures addressed { self.now.letter.to.0 < self.now.post.actors }
+    {
+        &self.letter
+    }
+}
+
+/// The letters of one posting that aren't out yet. Contracts see its post, its actor, that actor's postings up to its
+/// own, its own, and how many letters are out.
+#[derive(Drop)]
+pub struct Outbox {
+    pub(crate) seat: Seat<(), View>,
+    pub(crate) actors: u8,
+    pub(crate) number: u8,
+    pub(crate) stamp: Stamp,
+    pub(crate) left: VecDeque<Outgoing>,
+    pub(crate) place: u32,
+}
+
+impl Model for Outbox {
+    ghost use Rattle.std.specs.Prelude.{◌≡◌, ◌≤◌, [], drop, length};
+    ghost use Rattle.stamp_post.specs.declared.rule.View.TheVariants.{Sending};
+    ghost use Rattle.stamp_post.specs.Shown.{OutboxData, outbox_data, post_id, IsAddressed};
+    ghost use Rattle.stamp_post.specs.Views.{own_in, posting_in};
+
+    ghost Value = { OutboxData };
+
+    ghost view = { λ o. outbox_data (post_id o.seat.table_id o.actors) o.number (own_in o.seat.me.0)
+        (posting_in o.seat.me.0) o.place };
+
+    ghost invariant = { λ o.
+        (o.seat.me ≡ (Sending o.number (own_in o.seat.me.0) (posting_in o.seat.me.0) o.place, []))
+        × ((posting_in o.seat.me.0).stamp ≡ o.stamp)
+        × ((posting_in o.seat.me.0).actor.0 ≡ o.number)
+        × (o.left.items ≡ drop o.place (posting_in o.seat.me.0).sent)
+        × (length (posting_in o.seat.me.0).sent ≤ 4294967295)
+        × IsAddressed o.actors o.left.items };
+}
+
+impl Outbox {
+    /// The stamp of its posting.
+    pub fn stamp(&self) -> Stamp
+        ensures { result ≡ self.now.posting.stamp }
+    {
+        self.stamp
+    }
+
+    /// The receipt of a posting whose letters are all out. The outbox comes back exactly where a letter is left.
+    pub fn receipt(self) -> Result<Receipt, Outbox>
+        ensures { MatchResult result
+            (λ r. (r ≡ receipt_data self.post self.number self.own self.posting)
+            × (length self.posting.sent ≤ self.next))
+            (λ o. (o ≡ self) × (self.next < length self.posting.sent)) }
+    {
+        if !self.left.is_empty() {
+            return Err(self);
+        }
+        let Outbox {
+            seat,
+            actors,
+            number,
+            stamp,
+            left: _,
+            place,
+        } = self;
+        Ok(Receipt {
+            seat,
+            actors,
+            number,
+            stamp,
+            place,
+        })
+    }
+}
+
+/// That a posting was stamped and all its letters are out. Contracts see its post, its actor, that actor's postings up
+/// to its own, and its own.
+#[derive(Drop)]
+pub struct Receipt {
+    pub(crate) seat: Seat<(), View>,
+    pub(crate) actors: u8,
+    pub(crate) number: u8,
+    pub(crate) stamp: Stamp,
+    pub(crate) place: u32,
+}
+
+impl Model for Receipt {
+    ghost use Rattle.std.specs.Prelude.{◌≡◌, []};
+    ghost use Rattle.stamp_post.specs.declared.rule.View.TheVariants.{Sending};
+    ghost use Rattle.stamp_post.specs.Shown.{ReceiptData, receipt_data, post_id};
+    ghost use Rattle.stamp_post.specs.Views.{own_in, posting_in};
+
+    ghost Value = { ReceiptData };
+
+    ghost view = { λ r. receipt_data (post_id r.seat.table_id r.actors) r.number (own_in r.seat.me.0)
+        (posting_in r.seat.me.0) };
+
+    ghost invariant = { λ r.
+        (r.seat.me ≡ (Sending r.number (own_in r.seat.me.0) (posting_in r.seat.me.0) r.place, []))
+        × ((posting_in r.seat.me.0).stamp ≡ r.stamp) };
+}
+
+impl Receipt {
+    /// The stamp of its posting.
+    pub fn stamp(&self) -> Stamp
+        ensures { result ≡ self.now.posting.stamp }
+    {
+        self.stamp
+    }
+}
+
+/// Receipts in any order. At most 2^40 of them: a growth past that finds no memory.
+pub type Receipts = Seq<Receipt, 0x100_0000_0000>;
