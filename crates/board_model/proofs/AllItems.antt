@@ -1,29 +1,31 @@
 -- The pass over all items gives of each item what it is worth, and whether it is written.
 use Rattle.std.proofs.Common.{◌≡◌, ℕ, zero, suc, ◌+◌, ◌<◌, ◌≤◌, Bool, true, false, IsTrue, List, [], ◌∷◌, length, drop, refl, ap, sym, ◌∙◌, subst, slice_set, get_or, arith}
-use Rattle.std.specs.Prelude.{if◌then◌else◌, ◌==◌, ◌&&◌, ◌||◌, Option, Some, None, slice_get}
+use Rattle.std.specs.Prelude.{if◌then◌else◌, fold, ◌==◌, ◌&&◌, ◌||◌, Option, Some, None, slice_get}
 use Rattle.std.specs.Option.{option_map}
 use Rattle.std.proofs.lemmas.Bool.Decides.{nat_tests}
 use Rattle.std.proofs.lemmas.Option.{slice_get-get_or}
-use Rattle.commute_ops.specs.declared.kinds.Op.{Op}
+use Rattle.std.proofs.lemmas.Bool.{and_from}
+use Rattle.tv_base.proofs.Truths.{same_test, left_true, right_true}
 use Rattle.commute_ops.specs.declared.value.Value.{Value}
-use Rattle.commute_ops.specs.Ops.{applied, may_apply}
 use Rattle.letter_types.specs.declared.entries.Entry.{Entry}
-use Rattle.tx_trees.specs.ScriptData.{ScriptData, is_update}
+use Rattle.tx_trees.specs.ScriptData.{ScriptData, subs_at}
 use Rattle.tx_trees.specs.Valid.{IsValid}
 use Rattle.tx_trees.specs.declared.parts.Deed.{Deed}
-use Rattle.tx_trees.specs.declared.parts.Deed.TheVariants.{Apply}
 use Rattle.tx_trees.specs.declared.parts.ItemRow.{ItemRow}
 use Rattle.tx_trees.specs.declared.parts.Sub.{Sub}
 use Rattle.tx_trees.specs.declared.parts.SubOp.{SubOp}
 use Rattle.tx_trees.specs.declared.parts.Tree.{Tree}
+use Rattle.tx_trees.specs.declared.parts.TreeKind.{TreeKind}
+use Rattle.tx_trees.specs.declared.parts.TreeKind.TheVariants.{Update, Read, Strict}
 use Rattle.board_model.specs.declared.standings.Standing.{Standing}
-use Rattle.board_model.specs.AllMay.{all_op_may, all_ops_may, all_subs_may, all_trees_may, deed_may_at}
-use Rattle.board_model.specs.Balances.{all_after_op, all_after_ops, all_after_standing, all_after_subs, by_number, first_values, is_update_of, mark_ops, mark_subs, mark_trees, no_marks, on_item, worths, written_items}
-use Rattle.board_model.specs.May.{deed_may, ops_may, subs_may, trees_may}
-use Rattle.board_model.specs.Standings.{after_standing, standing_write, standings_of, stands, writes}
-use Rattle.board_model.specs.Worth.{after_deed, after_ops, after_subs, first_value, is_version, is_written, ops_name, subs_name, worth}
+use Rattle.board_model.specs.Balances.{all_after_op, all_after_ops, all_after_subs, all_after_tree, by_number, first_values, mark_op, mark_ops, mark_subs, mark_trees, may_write_by, no_marks, on_item, worths, writes_by, written_items}
+use Rattle.board_model.specs.May.{all_op_may, all_ops_may, all_subs_may, all_trees_may, deed_may, deed_may_at, ops_may, subs_may, trees_may}
+use Rattle.board_model.specs.Histories.{places_of, version_of, was_committed}
+use Rattle.board_model.specs.Serial.{is_version, serial_to}
+use Rattle.board_model.specs.Standings.{standings_from, standings_of}
+use Rattle.board_model.specs.Worth.{after_deed, after_ops, after_subs, after_tree, changes, first_value, is_written, may_write, ops_change, subs_change, trees_write, worth, writes}
 use Rattle.board_model.proofs.Bounds.{worth_may}
-use Rattle.board_model.proofs.TreeStandings.{after_all, length-standings_from, write_all}
+use Rattle.board_model.proofs.Closings.{AreApart}
 
 -- lists that agree at each place are equal
 same_gets : {A : Type 0} (xs ys : List A) → ((i : ℕ) → slice_get xs i ≡ slice_get ys i) → xs ≡ ys
@@ -53,10 +55,6 @@ then_maps {A} f g xs ys zs p q x = q x ∙ ap (λ (o : Option A). option_map (g 
 maps_same : {A : Type 0} (xs : List A) → Maps (λ (x : ℕ) (a : A). a) xs xs
 maps_same xs x = map_id (slice_get xs x)
 
-maps_choice : {A : Type 0} (b : Bool) (f : ℕ → A → A) (xs ys : List A) → Maps f xs ys → Maps (λ (x : ℕ) (a : A). if b then f x a else a) xs (if b then ys else xs)
-maps_choice true f xs ys p = p
-maps_choice false f xs ys p = maps_same xs
-
 -- what an element at a place owes
 abbrev pub Each : {A : Type 0} → (ℕ → A → Type 0) → List A → Type 0
 Each {A} P xs = (x : ℕ) (a : A) → slice_get xs x ≡ Some a → P x a
@@ -67,21 +65,6 @@ each_step P f (Some a) b h e = let same : f a ≡ b = cc in subst P same (h a re
 
 each_after : {A : Type 0} (P : ℕ → A → Type 0) (f : ℕ → A → A) (xs ys : List A) → Maps f xs ys → Each (λ (x : ℕ) (a : A). P x (f x a)) xs → Each P ys
 each_after P f xs ys m h x b e = each_step (P x) (f x) (slice_get xs x) b (λ (a : _) (here : slice_get xs x ≡ Some a). h x a here) (sym (m x) ∙ e)
-
-both : (a b : Bool) → IsTrue a → IsTrue b → IsTrue (a && b)
-both true b p q = q
-both false b p q = cc
-
-left : (a b : Bool) → IsTrue (a && b) → IsTrue a
-left true b p = refl
-left false b p = p
-
-right : (a b : Bool) → IsTrue (a && b) → IsTrue b
-right true b p = p
-right false b p = cc
-
-is_self : (x : ℕ) → (x == x) ≡ true
-is_self x = grind (arith, nat_tests)
 
 zero_suc : (x : ℕ) → false ≡ (zero == suc x)
 zero_suc x = grind (arith, nat_tests)
@@ -116,18 +99,13 @@ subs_map (s ∷ ss) ws =
     then_maps (λ (x : ℕ) (w : Value). after_ops x s.ops w) (λ (x : ℕ) (w : Value). after_subs x ss w)
     ws (all_after_ops s.ops ws) (all_after_subs ss (all_after_ops s.ops ws)) (ops_map s.ops ws) (subs_map ss (all_after_ops s.ops ws))
 
-tree_maps : (v : ℕ) (t : Tree) (st : Standing) (ws : List Value)
-    → Maps (λ (x : ℕ) (w : Value). if stands v t.kind st then after_subs x t.subs w else w) ws (if stands v t.kind st then all_after_subs t.subs ws else ws)
-tree_maps v t st ws = maps_choice (stands v t.kind st) (λ (x : ℕ) (w : Value). after_subs x t.subs w) ws (all_after_subs t.subs ws) (subs_map t.subs ws)
-
-trees_map : (v : ℕ) (ts : List Tree) (sts : List Standing) (ws : List Value)
-    → Maps (λ (x : ℕ) (w : Value). after_standing x v ts sts w) ws (all_after_standing v ts sts ws)
-trees_map v [] sts ws = maps_same ws
-trees_map v (t ∷ ts) [] ws = maps_same ws
-trees_map v (t ∷ ts) (st ∷ sts) ws =
-    let next : List Value = if stands v t.kind st then all_after_subs t.subs ws else ws in
-    then_maps (λ (x : ℕ) (w : Value). if stands v t.kind st then after_subs x t.subs w else w) (λ (x : ℕ) (w : Value). after_standing x v ts sts w)
-    ws next (all_after_standing v ts sts next) (tree_maps v t st ws) (trees_map v ts sts next)
+trees_map : (s : ScriptData) (ts : List ℕ) (ws : List Value)
+    → Maps (λ (x : ℕ) (w : Value). fold (after_tree s x) w ts) ws (fold (all_after_tree s) ws ts)
+trees_map s [] ws = maps_same ws
+trees_map s (t ∷ ts) ws =
+    let next : List Value = all_after_tree s ws t in
+    then_maps (λ (x : ℕ) (w : Value). after_tree s x w t) (λ (x : ℕ) (w : Value). fold (after_tree s x) w ts)
+    ws next (fold (all_after_tree s) next ts) (subs_map (subs_at s t) ws) (trees_map s ts next)
 
 -- what each item may take, all items may take
 at_place : (deed : Deed) (o : Option Value) → ((w : Value) → o ≡ Some w → IsTrue (deed_may deed w)) → IsTrue (deed_may_at deed o)
@@ -135,7 +113,7 @@ at_place deed None h = refl
 at_place deed (Some w) h = h w refl
 
 here_may : (b : Bool) (deed : Deed) (w : Value) (more : Bool) → b ≡ true → IsTrue ((if b then deed_may deed w else true) && more) → IsTrue (deed_may deed w)
-here_may true deed w more e h = left (deed_may deed w) more h
+here_may true deed w more e h = left_true (deed_may deed w) more h
 here_may false deed w more e h = cc
 
 ops_lift : (os : List SubOp) (ws : List Value) → Each (λ (x : ℕ) (w : Value). IsTrue (ops_may x os w)) ws → IsTrue (all_ops_may os ws)
@@ -144,44 +122,36 @@ ops_lift (o ∷ os) ws h =
     let now : IsTrue (all_op_may o ws)
     = at_place o.deed (slice_get ws o.item.0)
     (λ (w : Value) (e : slice_get ws o.item.0 ≡ Some w). here_may (o.item.0 == o.item.0) o.deed w
-    (ops_may o.item.0 os (if o.item.0 == o.item.0 then after_deed o.deed w else w)) (is_self o.item.0) (h o.item.0 w e)) in
+    (ops_may o.item.0 os (if o.item.0 == o.item.0 then after_deed o.deed w else w)) (same_test o.item.0) (h o.item.0 w e)) in
     let next : Each (λ (x : ℕ) (w : Value). IsTrue (ops_may x os w)) (all_after_op o ws)
     = each_after (λ (x : ℕ) (w : Value). IsTrue (ops_may x os w)) (λ (x : ℕ) (w : Value). if o.item.0 == x then after_deed o.deed w else w)
     ws (all_after_op o ws) (op_maps o ws)
-    (λ (x : ℕ) (w : Value) (e : slice_get ws x ≡ Some w). right (if o.item.0 == x then deed_may o.deed w else true)
+    (λ (x : ℕ) (w : Value) (e : slice_get ws x ≡ Some w). right_true (if o.item.0 == x then deed_may o.deed w else true)
     (ops_may x os (if o.item.0 == x then after_deed o.deed w else w)) (h x w e)) in
-    both (all_op_may o ws) (all_ops_may os (all_after_op o ws)) now (ops_lift os (all_after_op o ws) next)
+    and_from (all_op_may o ws) (all_ops_may os (all_after_op o ws)) now (ops_lift os (all_after_op o ws) next)
 
 subs_lift : (ss : List Sub) (ws : List Value) → Each (λ (x : ℕ) (w : Value). IsTrue (subs_may x ss w)) ws → IsTrue (all_subs_may ss ws)
 subs_lift [] ws h = refl
 subs_lift (s ∷ ss) ws h =
     let now : IsTrue (all_ops_may s.ops ws)
-    = ops_lift s.ops ws (λ (x : ℕ) (w : Value) (e : slice_get ws x ≡ Some w). left (ops_may x s.ops w) (subs_may x ss (after_ops x s.ops w)) (h x w e)) in
+    = ops_lift s.ops ws (λ (x : ℕ) (w : Value) (e : slice_get ws x ≡ Some w). left_true (ops_may x s.ops w) (subs_may x ss (after_ops x s.ops w)) (h x w e)) in
     let next : Each (λ (x : ℕ) (w : Value). IsTrue (subs_may x ss w)) (all_after_ops s.ops ws)
     = each_after (λ (x : ℕ) (w : Value). IsTrue (subs_may x ss w)) (λ (x : ℕ) (w : Value). after_ops x s.ops w) ws (all_after_ops s.ops ws) (ops_map s.ops ws)
-    (λ (x : ℕ) (w : Value) (e : slice_get ws x ≡ Some w). right (ops_may x s.ops w) (subs_may x ss (after_ops x s.ops w)) (h x w e)) in
-    both (all_ops_may s.ops ws) (all_subs_may ss (all_after_ops s.ops ws)) now (subs_lift ss (all_after_ops s.ops ws) next)
+    (λ (x : ℕ) (w : Value) (e : slice_get ws x ≡ Some w). right_true (ops_may x s.ops w) (subs_may x ss (after_ops x s.ops w)) (h x w e)) in
+    and_from (all_ops_may s.ops ws) (all_subs_may ss (all_after_ops s.ops ws)) now (subs_lift ss (all_after_ops s.ops ws) next)
 
-choice_lift : (b : Bool) (ss : List Sub) (ws : List Value) → Each (λ (x : ℕ) (w : Value). IsTrue (if b then subs_may x ss w else true)) ws
-    → IsTrue (if b then all_subs_may ss ws else true)
-choice_lift true ss ws h = subs_lift ss ws h
-choice_lift false ss ws h = refl
-
-trees_lift : (v : ℕ) (ts : List Tree) (sts : List Standing) (ws : List Value) → Each (λ (x : ℕ) (w : Value). IsTrue (trees_may x v ts sts w)) ws
-    → IsTrue (all_trees_may v ts sts ws)
-trees_lift v [] sts ws h = refl
-trees_lift v (t ∷ ts) [] ws h = refl
-trees_lift v (t ∷ ts) (st ∷ sts) ws h =
-    let b : Bool = stands v t.kind st in
-    let after : List Value = if b then all_after_subs t.subs ws else ws in
-    let now : IsTrue (if b then all_subs_may t.subs ws else true)
-    = choice_lift b t.subs ws (λ (x : ℕ) (w : Value) (e : slice_get ws x ≡ Some w). left (if b then subs_may x t.subs w else true)
-    (trees_may x v ts sts (if b then after_subs x t.subs w else w)) (h x w e)) in
-    let next : Each (λ (x : ℕ) (w : Value). IsTrue (trees_may x v ts sts w)) after
-    = each_after (λ (x : ℕ) (w : Value). IsTrue (trees_may x v ts sts w)) (λ (x : ℕ) (w : Value). if b then after_subs x t.subs w else w) ws after (tree_maps v t st ws)
-    (λ (x : ℕ) (w : Value) (e : slice_get ws x ≡ Some w). right (if b then subs_may x t.subs w else true)
-    (trees_may x v ts sts (if b then after_subs x t.subs w else w)) (h x w e)) in
-    both (if b then all_subs_may t.subs ws else true) (all_trees_may v ts sts after) now (trees_lift v ts sts after next)
+trees_lift : (s : ScriptData) (ts : List ℕ) (ws : List Value) → Each (λ (x : ℕ) (w : Value). IsTrue (trees_may s x ts w)) ws
+    → IsTrue (all_trees_may s ts ws)
+trees_lift s [] ws h = refl
+trees_lift s (t ∷ ts) ws h =
+    let ks : List Sub = subs_at s t in
+    let after : List Value = all_after_tree s ws t in
+    let now : IsTrue (all_subs_may ks ws)
+    = subs_lift ks ws (λ (x : ℕ) (w : Value) (e : slice_get ws x ≡ Some w). left_true (subs_may x ks w) (trees_may s x ts (after_tree s x w t)) (h x w e)) in
+    let next : Each (λ (x : ℕ) (w : Value). IsTrue (trees_may s x ts w)) after
+    = each_after (λ (x : ℕ) (w : Value). IsTrue (trees_may s x ts w)) (λ (x : ℕ) (w : Value). after_tree s x w t) ws after (subs_map ks ws)
+    (λ (x : ℕ) (w : Value) (e : slice_get ws x ≡ Some w). right_true (subs_may x ks w) (trees_may s x ts (after_tree s x w t)) (h x w e)) in
+    and_from (all_subs_may ks ws) (all_trees_may s ts after) now (trees_lift s ts after next)
 
 first_get : (items : List ItemRow) (x : ℕ) → slice_get (first_values items) x ≡ option_map (λ (row : ItemRow). first_value (Some row)) (slice_get items x)
 first_get [] x = refl
@@ -214,26 +184,28 @@ at_first : (f : Value → Value) (o : Option ItemRow)
 at_first f None = refl
 at_first f (Some row) = refl
 
--- what `balances_at` gives
-pub worth_all : (s : ScriptData) (h : List Entry) (v : ℕ) → all_after_standing v s.trees (standings_of s h) (first_values s.items) ≡ worths s h v
+-- the values after the serial order up to a version
+pub worth_all : (s : ScriptData) (h : List Entry) (v : ℕ)
+    → fold (all_after_tree s) (first_values s.items) (serial_to s h v) ≡ worths s h v
 worth_all s h v =
-    numbered s.items (λ (x : ℕ). worth s h x v) (λ (x : ℕ) (o : Option ItemRow). after_standing x v s.trees (standings_of s h) (first_value o))
-    (all_after_standing v s.trees (standings_of s h) (first_values s.items))
-    (λ (x : ℕ). trees_map v s.trees (standings_of s h) (first_values s.items) x
-    ∙ ap (λ (o : Option Value). option_map (λ (w : Value). after_standing x v s.trees (standings_of s h) w) o) (first_get s.items x)
-    ∙ at_first (λ (w : Value). after_standing x v s.trees (standings_of s h) w) (slice_get s.items x))
-    (λ (x : ℕ). after_all s h x v (first_value (slice_get s.items x)))
+    let ts : List ℕ = serial_to s h v in
+    numbered s.items (λ (x : ℕ). worth s h x v) (λ (x : ℕ) (o : Option ItemRow). fold (after_tree s x) (first_value o) ts)
+    (fold (all_after_tree s) (first_values s.items) ts)
+    (λ (x : ℕ). trees_map s ts (first_values s.items) x
+    ∙ ap (λ (o : Option Value). option_map (λ (w : Value). fold (after_tree s x) w ts) o) (first_get s.items x)
+    ∙ at_first (λ (w : Value). fold (after_tree s x) w ts) (slice_get s.items x))
+    (λ (x : ℕ). refl)
 
 first_is : (o : Option ItemRow) (w : Value) → option_map (λ (row : ItemRow). first_value (Some row)) o ≡ Some w → first_value o ≡ w
 first_is None w e = cc
 first_is (Some row) w e = cc
 
--- what `balances_at` owes
-pub all_may : (s : ScriptData) (v : ℕ) (sts : List Standing) → IsValid s → IsTrue (all_trees_may v s.trees sts (first_values s.items))
-all_may s v sts valid =
-    trees_lift v s.trees sts (first_values s.items)
+-- the deeds of trees that are apart may be done one after the other
+pub all_may : (s : ScriptData) (ts : List ℕ) → IsValid s → AreApart ts → IsTrue (all_trees_may s ts (first_values s.items))
+all_may s ts valid apart =
+    trees_lift s ts (first_values s.items)
     (λ (x : ℕ) (w : Value) (e : slice_get (first_values s.items) x ≡ Some w).
-    subst (λ (one : Value). IsTrue (trees_may x v s.trees sts one)) (first_is (slice_get s.items x) w (sym (first_get s.items x) ∙ e)) (worth_may s x v sts valid))
+    subst (λ (one : Value). IsTrue (trees_may s x ts one)) (first_is (slice_get s.items x) w (sym (first_get s.items x) ∙ e)) (worth_may s x ts valid apart))
 
 or_false : (b : Bool) → b ≡ (b || false)
 or_false true = refl
@@ -279,34 +251,64 @@ set_marks zero (m ∷ ms) (suc x) =
 set_marks (suc y) (m ∷ ms) zero = ap (λ (b : Bool). Some b) (or_false m) ∙ ap (λ (c : Bool). Some (m || c)) (suc_zero y)
 set_marks (suc y) (m ∷ ms) (suc x) = set_marks y ms x ∙ ap (λ (c : Bool). option_map (λ (b : Bool). b || c) (slice_get ms x)) (suc_suc y x)
 
-ops_mark : (os : List SubOp) (ms : List Bool) → Marked (λ (x : ℕ). ops_name x os) ms (mark_ops os ms)
+and_comm : (a b : Bool) → (a && b) ≡ (b && a)
+and_comm true true = refl
+and_comm true false = refl
+and_comm false true = refl
+and_comm false false = refl
+
+op_mark : (o : SubOp) (ms : List Bool) → Marked (λ (x : ℕ). (o.item.0 == x) && changes o.deed) ms (mark_op o ms)
+op_mark o ms x =
+    choice_marked (changes o.deed) (λ (k : ℕ). o.item.0 == k) ms (slice_set ms o.item.0 true) (set_marks o.item.0 ms) x
+    ∙ ap (λ (c : Bool). option_map (λ (b : Bool). b || c) (slice_get ms x)) (and_comm (changes o.deed) (o.item.0 == x))
+
+ops_mark : (os : List SubOp) (ms : List Bool) → Marked (λ (x : ℕ). ops_change x os) ms (mark_ops os ms)
 ops_mark [] ms = none_marked ms
 ops_mark (o ∷ os) ms =
-    let next : List Bool = slice_set ms o.item.0 true in
-    then_marked (λ (x : ℕ). o.item.0 == x) (λ (x : ℕ). ops_name x os) ms next (mark_ops os next) (set_marks o.item.0 ms) (ops_mark os next)
+    let next : List Bool = mark_op o ms in
+    then_marked (λ (x : ℕ). (o.item.0 == x) && changes o.deed) (λ (x : ℕ). ops_change x os) ms next (mark_ops os next) (op_mark o ms) (ops_mark os next)
 
-subs_mark : (ss : List Sub) (ms : List Bool) → Marked (λ (x : ℕ). subs_name x ss) ms (mark_subs ss ms)
+subs_mark : (ss : List Sub) (ms : List Bool) → Marked (λ (x : ℕ). subs_change x ss) ms (mark_subs ss ms)
 subs_mark [] ms = none_marked ms
 subs_mark (s ∷ ss) ms =
     let next : List Bool = mark_ops s.ops ms in
-    then_marked (λ (x : ℕ). ops_name x s.ops) (λ (x : ℕ). subs_name x ss) ms next (mark_subs ss next) (ops_mark s.ops ms) (subs_mark ss next)
+    then_marked (λ (x : ℕ). ops_change x s.ops) (λ (x : ℕ). subs_change x ss) ms next (mark_subs ss next) (ops_mark s.ops ms) (subs_mark ss next)
 
-and_assoc : (a b c : Bool) → ((a && b) && c) ≡ (a && (b && c))
-and_assoc true b c = refl
-and_assoc false b c = refl
+-- what the trees write, side by side with their standings
+abbrev writes_at : ℕ → ℕ → Tree → Standing → Bool
+writes_at x v t st = writes_by v t.kind st && subs_change x t.subs
+
+abbrev standing_write : ℕ → ℕ → List Tree → List Standing → Bool
+standing_write x v [] sts = false
+standing_write x v (t ∷ ts) [] = false
+standing_write x v (t ∷ ts) (st ∷ sts) = writes_at x v t st || standing_write x v ts sts
 
 tree_marks : (v : ℕ) (t : Tree) (st : Standing) (ms : List Bool)
-    → Marked (λ (x : ℕ). writes x v t st) ms (if is_update_of v t.kind st then mark_subs t.subs ms else ms)
-tree_marks v t st ms x =
-    choice_marked (is_update_of v t.kind st) (λ (k : ℕ). subs_name k t.subs) ms (mark_subs t.subs ms) (subs_mark t.subs ms) x
-    ∙ ap (λ (c : Bool). option_map (λ (b : Bool). b || c) (slice_get ms x)) (and_assoc (is_update t.kind) (is_version v st.born) (subs_name x t.subs))
+    → Marked (λ (x : ℕ). writes_at x v t st) ms (if writes_by v t.kind st then mark_subs t.subs ms else ms)
+tree_marks v t st ms = choice_marked (writes_by v t.kind st) (λ (k : ℕ). subs_change k t.subs) ms (mark_subs t.subs ms) (subs_mark t.subs ms)
 
 trees_mark : (v : ℕ) (ts : List Tree) (sts : List Standing) (ms : List Bool) → Marked (λ (x : ℕ). standing_write x v ts sts) ms (mark_trees v ts sts ms)
 trees_mark v [] sts ms = none_marked ms
 trees_mark v (t ∷ ts) [] ms = none_marked ms
 trees_mark v (t ∷ ts) (st ∷ sts) ms =
-    let next : List Bool = if is_update_of v t.kind st then mark_subs t.subs ms else ms in
-    then_marked (λ (x : ℕ). writes x v t st) (λ (x : ℕ). standing_write x v ts sts) ms next (mark_trees v ts sts next) (tree_marks v t st ms) (trees_mark v ts sts next)
+    let next : List Bool = if writes_by v t.kind st then mark_subs t.subs ms else ms in
+    then_marked (λ (x : ℕ). writes_at x v t st) (λ (x : ℕ). standing_write x v ts sts) ms next (mark_trees v ts sts next) (tree_marks v t st ms) (trees_mark v ts sts next)
+
+kind_writes : (h : List Entry) (t : ℕ) (kind : TreeKind) → may_write_by kind (was_committed t (places_of h)) ≡ may_write h t kind
+kind_writes h t Update = refl
+kind_writes h t Read = refl
+kind_writes h t Strict = refl
+
+write_from : (s : ScriptData) (h : List Entry) (x v t : ℕ) (ts : List Tree) → standing_write x v ts (standings_from s h t ts) ≡ trees_write h x v t ts
+write_from s h x v t [] = refl
+write_from s h x v t (tree ∷ ts) =
+    ap (λ (b : Bool). ((is_version v (version_of h t) && b) && subs_change x tree.subs) || standing_write x v ts (standings_from s h (t + 1) ts))
+    (kind_writes h t tree.kind)
+    ∙ ap (λ (b : Bool). writes h x v t tree || b) (write_from s h x v (t + 1) ts)
+
+pub length-standings_from : (s : ScriptData) (h : List Entry) (t : ℕ) (ts : List Tree) → length (standings_from s h t ts) ≡ length ts
+length-standings_from s h t [] = refl
+length-standings_from s h t (tree ∷ ts) = let rest = length-standings_from s h (t + 1) ts in grind arith
 
 no_mark_get : (items : List ItemRow) (x : ℕ) → slice_get (no_marks items) x ≡ option_map (λ (row : ItemRow). false) (slice_get items x)
 no_mark_get [] x = refl
@@ -325,35 +327,37 @@ written_all s h v =
     (λ (x : ℕ). trees_mark v s.trees (standings_of s h) (no_marks s.items) x
     ∙ ap (λ (o : Option Bool). option_map (λ (b : Bool). b || standing_write x v s.trees (standings_of s h)) o) (no_mark_get s.items x)
     ∙ at_false (standing_write x v s.trees (standings_of s h)) (slice_get s.items x))
-    (λ (x : ℕ). write_all s h x v)
+    (λ (x : ℕ). write_from s h x v 0 s.trees)
 
--- an operation that is applied to the value of its item
+-- a deed that is done to the value of its item
 on_item_there : (x : ℕ) (f : Value → Value) (ws : List Value) (d : Value) → x < length ws → slice_set ws x (f (get_or ws x d)) ≡ on_item x f ws
 on_item_there x f [] d small = absurd (omega arith)
 on_item_there zero f (w ∷ ws) d small = refl
 on_item_there (suc x) f (w ∷ ws) d small = ap (λ (zs : List Value). w ∷ zs) (on_item_there x f ws d (omega arith))
 
-pub applied_there : (o : SubOp) (op : Op) (ws : List Value) (w d : Value) → o.deed ≡ Apply op → o.item.0 < length ws → w ≡ applied (get_or ws o.item.0 d) op
+pub done_there : (o : SubOp) (ws : List Value) (w d : Value) → o.item.0 < length ws → w ≡ after_deed o.deed (get_or ws o.item.0 d)
     → slice_set ws o.item.0 w ≡ all_after_op o ws
-applied_there o op ws w d deed small e =
-    ap (λ (one : Value). slice_set ws o.item.0 one) e ∙ on_item_there o.item.0 (after_deed (Apply op)) ws d small
-    ∙ ap (λ (one : Deed). on_item o.item.0 (after_deed one) ws) (sym deed)
+done_there o ws w d small e =
+    ap (λ (one : Value). slice_set ws o.item.0 one) e ∙ on_item_there o.item.0 (after_deed o.deed) ws d small
 
 pub on_item_past : (x : ℕ) (f : Value → Value) (ws : List Value) → length ws ≤ x → on_item x f ws ≡ ws
 on_item_past x f [] small = refl
 on_item_past zero f (w ∷ ws) small = absurd (omega arith)
 on_item_past (suc x) f (w ∷ ws) small = ap (λ (zs : List Value). w ∷ zs) (on_item_past x f ws (omega arith))
 
-pub on_item_same : (x : ℕ) (ws : List Value) → on_item x (λ (w : Value). w) ws ≡ ws
-on_item_same x [] = refl
-on_item_same zero (w ∷ ws) = refl
-on_item_same (suc x) (w ∷ ws) = ap (λ (zs : List Value). w ∷ zs) (on_item_same x ws)
+on_item_kept : (x : ℕ) (f : Value → Value) (ws : List Value) (d : Value) → x < length ws → get_or ws x d ≡ f (get_or ws x d) → ws ≡ on_item x f ws
+on_item_kept x f [] d small e = absurd (omega arith)
+on_item_kept zero f (w ∷ ws) d small e = ap (λ (one : Value). one ∷ ws) e
+on_item_kept (suc x) f (w ∷ ws) d small e = ap (λ (zs : List Value). w ∷ zs) (on_item_kept x f ws d (omega arith) e)
 
-pub may_there : (o : SubOp) (op : Op) (ws : List Value) (d : Value) → o.deed ≡ Apply op → o.item.0 < length ws → IsTrue (all_op_may o ws)
-    → IsTrue (may_apply (get_or ws o.item.0 d) op)
-may_there o op ws d deed small h =
-    subst (λ (one : Option Value). IsTrue (deed_may_at (Apply op) one)) (slice_get-get_or ws o.item.0 d small)
-    (subst (λ (one : Deed). IsTrue (deed_may_at one (slice_get ws o.item.0))) deed h)
+pub stays_there : (o : SubOp) (ws : List Value) (d : Value) → o.item.0 < length ws → get_or ws o.item.0 d ≡ after_deed o.deed (get_or ws o.item.0 d)
+    → ws ≡ all_after_op o ws
+stays_there o ws d small e = on_item_kept o.item.0 (after_deed o.deed) ws d small e
+
+pub may_there : (o : SubOp) (ws : List Value) (d : Value) → o.item.0 < length ws → IsTrue (all_op_may o ws)
+    → IsTrue (deed_may o.deed (get_or ws o.item.0 d))
+may_there o ws d small h =
+    subst (λ (one : Option Value). IsTrue (deed_may_at o.deed one)) (slice_get-get_or ws o.item.0 d small) h
 
 -- for the initial values
 pub first_step : (items : List ItemRow) (i : ℕ) → i < length items
@@ -364,9 +368,7 @@ first_step (row ∷ rows) (suc i) small =
     let e : suc (i + 1) ≡ suc i + 1 = omega arith in
     first_step rows i (omega arith) ∙ ap (λ (k : ℕ). first_value (slice_get rows i) ∷ first_values (drop k (row ∷ rows))) e
 
--- for the pass over all items
-pub ruleset values = (worth_all, all_may, length-standings_from)
-
+-- for the marks
 pub ruleset marks = (written_all, length-standings_from)
 
-pub ruleset on_items = (applied_there, on_item_past, on_item_same, may_there)
+pub ruleset on_items = (done_there, on_item_past, stays_there, may_there)

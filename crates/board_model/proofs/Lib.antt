@@ -1,7 +1,11 @@
 pub mod AllItems
-pub mod Acts
+pub mod AnyOrder
 pub mod Bounds
-pub mod OnePass
+pub mod Closings
+pub mod Places
 pub mod Rows
-pub mod TreeStandings
+pub mod SerialOrder
 pub mod Walk
+pub mod Back
+pub mod ByVersion
+pub mod Carrying

@@ -1,42 +1,95 @@
 -- What the acts of a history say of trees.
-use Rattle.std.specs.Prelude.{if◌then◌else◌, ℕ, zero, suc, Bool, true, false, ◌==◌, ◌&&◌, ◌||◌, List, [], ◌∷◌, ◌++◌, length, Option, Some, None, IsTrue, is_some}
+use Rattle.std.specs.Prelude.{if◌then◌else◌, ℕ, zero, suc, Bool, true, false, ◌==◌, ◌&&◌, List, [], ◌∷◌, ◌++◌, length, map, Option, Some, None, IsTrue, is_some, slice_get}
+use Rattle.std.specs.List.{list_any}
+use Rattle.std.specs.Option.{option_or}
 use Rattle.tv_base.specs.declared.numbers.Version.{Version}
 use Rattle.letter_types.specs.declared.acts.Act.{Act}
-use Rattle.letter_types.specs.declared.acts.Act.TheVariants.{Born, Did, Finished}
+use Rattle.letter_types.specs.declared.acts.Act.TheVariants.{Born, Did, Decided, Applied, Finished}
 use Rattle.letter_types.specs.declared.entries.Entry.{Entry}
-use Rattle.tx_trees.specs.ScriptData.{ScriptData, subs_at}
+use Rattle.tx_trees.specs.ScriptData.{ScriptData, is_strict, subs_at}
+use Rattle.tx_trees.specs.declared.parts.Sub.{Sub}
+
+-- an act, and its entry's actor
+pub record Place : Type 0 where
+  pub node : ℕ
+  pub act : Act
+
+-- the acts of an entry, in order
+abbrev pub places_at : Entry → List Place
+places_at e = map (λ (a : Act). record { node = e.actor.0; act = a }) e.acts
 
 -- the acts of a history, in order of entries and then of acts
-abbrev pub acts_of : List Entry → List Act
-acts_of [] = []
-acts_of (e ∷ es) = e.acts ++ acts_of es
+abbrev pub places_of : List Entry → List Place
+places_of [] = []
+places_of (e ∷ es) = places_at e ++ places_of es
 
--- the version with which tree t was born
-abbrev pub version_in : ℕ → List Act → Option Version
+-- the version with which the act bears tree t
+abbrev pub born_as : ℕ → Act → Option Version
+born_as t (Born u v) = if u.0 == t then Some v else None
+born_as t Finished = None
+born_as t _ = None
+
+-- the version with which tree t was first born
+abbrev pub version_in : ℕ → List Place → Option Version
 version_in t [] = None
-version_in t (Born u v ∷ acts) = if u.0 == t then Some v else version_in t acts
-version_in t (Finished ∷ acts) = version_in t acts
-version_in t (_ ∷ acts) = version_in t acts
-
--- subtransaction k of tree t was done
-abbrev pub was_done : ℕ → ℕ → List Act → Bool
-was_done t k [] = false
-was_done t k (Did u j vs ∷ acts) = ((u.0 == t) && (j.0 == k)) || was_done t k acts
-was_done t k (Finished ∷ acts) = was_done t k acts
-was_done t k (_ ∷ acts) = was_done t k acts
-
--- each of the first n subtransactions of tree t was done
-abbrev pub all_done : ℕ → ℕ → List Act → Bool
-all_done t zero acts = true
-all_done t (suc n) acts = all_done t n acts && was_done t n acts
+version_in t (x ∷ xs) = option_or (born_as t x.act) (version_in t xs)
 
 -- the version of tree t in a history; an unborn tree has none
 abbrev pub version_of : List Entry → ℕ → Option Version
-version_of h t = version_in t (acts_of h)
+version_of h t = version_in t (places_of h)
 
--- tree t is whole: it is born, and each of its subtransactions was done
+-- the act is a Did of subtransaction k of tree t
+abbrev pub does : ℕ → ℕ → Act → Bool
+does t k (Did u j values) = (u.0 == t) && (j.0 == k)
+does t k Finished = false
+does t k _ = false
+
+-- subtransaction k of tree t was done
+abbrev pub was_done : ℕ → ℕ → List Place → Bool
+was_done t k xs = list_any (λ (x : Place). does t k x.act) xs
+
+-- each of the first n subtransactions of tree t was done
+abbrev pub all_done : ℕ → ℕ → List Place → Bool
+all_done t zero xs = true
+all_done t (suc n) xs = all_done t n xs && was_done t n xs
+
+-- the act commits tree t
+abbrev pub commits : ℕ → Act → Bool
+commits t (Decided u commit) = (u.0 == t) && commit
+commits t Finished = false
+commits t _ = false
+
+-- tree t was decided to commit
+abbrev pub was_committed : ℕ → List Place → Bool
+was_committed t xs = list_any (λ (x : Place). commits t x.act) xs
+
+-- the act is an Applied of tree t
+abbrev pub applies : ℕ → Act → Bool
+applies t (Applied u commit) = u.0 == t
+applies t Finished = false
+applies t _ = false
+
+-- what was decided of tree t was applied at node p
+abbrev pub was_applied : ℕ → ℕ → List Place → Bool
+was_applied t p xs = list_any (λ (x : Place). (x.node == p) && applies t x.act) xs
+
+-- the same at each node that these subtransactions of tree t visit
+abbrev pub all_applied : ℕ → List Sub → List Place → Bool
+all_applied t [] xs = true
+all_applied t (k ∷ ks) xs = was_applied t k.node.0 xs && all_applied t ks xs
+
+-- tree t is there, and is a strict tree
+abbrev pub is_strict_tree : ScriptData → ℕ → Bool
+is_strict_tree s t = elim (slice_get s.trees t) [ Some tree ↦ is_strict tree.kind | None ↦ false ]
+
+-- all that is to come of tree t has come: each of its subtransactions was done; what was decided of a strict tree was
+-- applied at each node that it visits
+abbrev pub is_through : ScriptData → List Place → ℕ → Bool
+is_through s xs t = if is_strict_tree s t then all_applied t (subs_at s t) xs else all_done t (length (subs_at s t)) xs
+
+-- tree t is whole: it is born, and all that is to come of it has come
 abbrev pub is_whole : ScriptData → List Entry → ℕ → Bool
-is_whole s h t = is_some (version_of h t) && all_done t (length (subs_at s t)) (acts_of h)
+is_whole s h t = is_some (version_of h t) && is_through s (places_of h) t
 
 abbrev pub IsWhole : ScriptData → List Entry → ℕ → Type 0
 IsWhole s h t = IsTrue (is_whole s h t)

@@ -1,8 +1,11 @@
 pub mod Histories
-pub mod Right
+pub mod Serial
 pub mod Worth
+pub mod Right
 pub mod Standings
 pub mod Tallies
-pub mod May
+pub mod Closed
 pub mod Balances
-pub mod AllMay
+pub mod May
+pub mod SerialList
+pub mod Carried

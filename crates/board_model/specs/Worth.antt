@@ -1,23 +1,39 @@
--- What an item is worth at a version: its initial value, with all operations of the whole update trees up to there.
-use Rattle.std.specs.Prelude.{if◌then◌else◌, ℕ, Bool, false, ◌==◌, ◌&&◌, ◌||◌, ◌+◌, nat_le, pos, List, [], ◌∷◌, Option, Some, None, slice_get}
-use Rattle.tv_base.specs.declared.numbers.Version.{Version}
+-- What an item is worth at a version: its initial value, folded over the deeds of the serial order up to there.
+use Rattle.std.specs.Prelude.{if◌then◌else◌, ℕ, Bool, true, false, ◌==◌, ◌&&◌, ◌||◌, ◌+◌, ℤ, ◌-ℤ◌, pos, List, [], ◌∷◌, fold, Option, Some, None, slice_get}
 use Rattle.commute_ops.specs.declared.value.Value.{Value}
-use Rattle.commute_ops.specs.declared.value.Value.TheVariants.{Sum}
+use Rattle.commute_ops.specs.declared.value.Value.TheVariants.{Sum, Top, Bag}
 use Rattle.commute_ops.specs.Ops.{applied, start}
 use Rattle.letter_types.specs.declared.entries.Entry.{Entry}
-use Rattle.tx_trees.specs.ScriptData.{ScriptData, is_update, updates}
+use Rattle.tx_trees.specs.ScriptData.{ScriptData, subs_at}
 use Rattle.tx_trees.specs.declared.parts.Deed.{Deed}
-use Rattle.tx_trees.specs.declared.parts.Deed.TheVariants.{Apply}
-use Rattle.tx_trees.specs.declared.parts.SubOp.{SubOp}
-use Rattle.tx_trees.specs.declared.parts.Sub.{Sub}
-use Rattle.tx_trees.specs.declared.parts.Tree.{Tree}
+use Rattle.tx_trees.specs.declared.parts.Deed.TheVariants as deeds
 use Rattle.tx_trees.specs.declared.parts.ItemRow.{ItemRow}
-use Rattle.board_model.specs.Histories.{version_of, is_whole}
+use Rattle.tx_trees.specs.declared.parts.Sub.{Sub}
+use Rattle.tx_trees.specs.declared.parts.SubOp.{SubOp}
+use Rattle.tx_trees.specs.declared.parts.Tree.{Tree}
+use Rattle.tx_trees.specs.declared.parts.TreeKind.{TreeKind}
+use Rattle.tx_trees.specs.declared.parts.TreeKind.TheVariants.{Update, Read, Strict}
+use Rattle.board_model.specs.Histories.{places_of, version_of, was_committed}
+use Rattle.board_model.specs.Serial.{is_version, serial_to}
 
--- the value after a deed, which for other deeds than commuting operations is what it was
+-- the number of a sum or a top set to n; a bag stays
+abbrev pub with_set : ℤ → Value → Value
+with_set n (Sum old) = Sum (record { 0 = n })
+with_set n (Top old) = Top (record { 0 = n })
+with_set n (Bag ns) = Bag ns
+
+-- a sum lowered by n; other values stay
+abbrev pub with_drawn : ℤ → Value → Value
+with_drawn n (Sum old) = Sum (record { 0 = old.0 -ℤ n })
+with_drawn n (Top old) = Top old
+with_drawn n (Bag ns) = Bag ns
+
+-- the value after a deed
 abbrev pub after_deed : Deed → Value → Value
-after_deed (Apply op) w = applied w op
-after_deed _ w = w
+after_deed (deeds.Apply op) w = applied w op
+after_deed deeds.Get w = w
+after_deed (deeds.Set n) w = with_set n w
+after_deed (deeds.Draw n) w = with_drawn n w
 
 -- the value of item x after the operations on it
 abbrev pub after_ops : ℕ → List SubOp → Value → Value
@@ -26,22 +42,11 @@ after_ops x (o ∷ os) w = after_ops x os (if o.item.0 == x then after_deed o.de
 
 abbrev pub after_subs : ℕ → List Sub → Value → Value
 after_subs x [] w = w
-after_subs x (s ∷ ss) w = after_subs x ss (after_ops x s.ops w)
+after_subs x (k ∷ ks) w = after_subs x ks (after_ops x k.ops w)
 
--- a version that is there, and at most v
-abbrev pub is_up_to : ℕ → Option Version → Bool
-is_up_to v None = false
-is_up_to v (Some w) = nat_le w.0 v
-
--- tree t is a whole update tree of version at most v
-abbrev pub counts : ScriptData → List Entry → ℕ → ℕ → Bool
-counts s h v t = updates s t && (is_whole s h t && is_up_to v (version_of h t))
-
--- the value of item x after the trees that count, where the list begins with tree t
-abbrev pub after_trees : ScriptData → List Entry → ℕ → ℕ → ℕ → List Tree → Value → Value
-after_trees s h x v t [] w = w
-after_trees s h x v t (tree ∷ ts) w =
-    after_trees s h x v (t + 1) ts (if counts s h v t then after_subs x tree.subs w else w)
+-- the value of item x after tree t
+abbrev pub after_tree : ScriptData → ℕ → Value → ℕ → Value
+after_tree s x w t = after_subs x (subs_at s t) w
 
 -- the initial value of an item
 abbrev pub first_value : Option ItemRow → Value
@@ -50,27 +55,39 @@ first_value (Some row) = start row.kind row.initial
 
 -- what item x is worth at version v
 abbrev pub worth : ScriptData → List Entry → ℕ → ℕ → Value
-worth s h x v = after_trees s h x v 0 s.trees (first_value (slice_get s.items x))
+worth s h x v = fold (after_tree s x) (first_value (slice_get s.items x)) (serial_to s h v)
 
--- an operation on item x is among these
-abbrev pub ops_name : ℕ → List SubOp → Bool
-ops_name x [] = false
-ops_name x (o ∷ os) = (o.item.0 == x) || ops_name x os
+-- the deed changes its item
+abbrev pub changes : Deed → Bool
+changes deeds.Get = false
+changes (deeds.Apply op) = true
+changes (deeds.Set n) = true
+changes (deeds.Draw n) = true
 
-abbrev pub subs_name : ℕ → List Sub → Bool
-subs_name x [] = false
-subs_name x (s ∷ ss) = ops_name x s.ops || subs_name x ss
+-- a change of item x is among these
+abbrev pub ops_change : ℕ → List SubOp → Bool
+ops_change x [] = false
+ops_change x (o ∷ os) = ((o.item.0 == x) && changes o.deed) || ops_change x os
 
--- the version is this one
-abbrev pub is_version : ℕ → Option Version → Bool
-is_version v None = false
-is_version v (Some w) = w.0 == v
+abbrev pub subs_change : ℕ → List Sub → Bool
+subs_change x [] = false
+subs_change x (k ∷ ks) = ops_change x k.ops || subs_change x ks
 
--- an update tree of version v has an operation on item x, where the list begins with tree t
+-- a tree of this kind writes, whatever it was born as: an update tree does, and a strict tree that was decided to commit
+abbrev pub may_write : List Entry → ℕ → TreeKind → Bool
+may_write h t Update = true
+may_write h t Read = false
+may_write h t Strict = was_committed t (places_of h)
+
+-- tree t is of version v, writes, and changes item x
+abbrev pub writes : List Entry → ℕ → ℕ → ℕ → Tree → Bool
+writes h x v t tree = (is_version v (version_of h t) && may_write h t tree.kind) && subs_change x tree.subs
+
+-- the same of one of the trees, where the list begins with tree t
 abbrev pub trees_write : List Entry → ℕ → ℕ → ℕ → List Tree → Bool
 trees_write h x v t [] = false
-trees_write h x v t (tree ∷ ts) =
-    (is_update tree.kind && (is_version v (version_of h t) && subs_name x tree.subs)) || trees_write h x v (t + 1) ts
+trees_write h x v t (tree ∷ ts) = writes h x v t tree || trees_write h x v (t + 1) ts
 
+-- an update tree of version v, whole or not, or a committed strict tree of version v changes item x
 abbrev pub is_written : ScriptData → List Entry → ℕ → ℕ → Bool
 is_written s h x v = trees_write h x v 0 s.trees

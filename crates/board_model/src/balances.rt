@@ -1,15 +1,15 @@
-// What all items are worth at a version, and which of them are written, by one pass over the trees.
-ghost use Rattle.std.specs.Prelude.{◌≡◌, IfOk, IsTrue, length, slice_set, true};
-ghost use Rattle.board_model.specs.AllMay.{all_op_may, all_ops_may, all_subs_may, all_trees_may};
-ghost use Rattle.board_model.specs.Balances.{all_after_op, all_after_ops, all_after_standing, all_after_subs, first_values, is_update_of, mark_ops, mark_subs, mark_trees, no_marks, worths, written_items};
+// What all items are worth after trees, and which of them are written.
+ghost use Rattle.std.specs.Prelude.{◌≡◌, IfOk, IsTrue, length, slice_get, slice_set, true, unwrap_or};
+ghost use Rattle.board_model.specs.Balances.{all_after_op, all_after_ops, all_after_subs, first_values, mark_op, mark_ops, mark_subs, mark_trees, no_marks, subs_in, writes_by, written_items};
+ghost use Rattle.board_model.specs.May.{all_op_may, all_ops_may, all_subs_may, deed_may, draw_may};
 ghost use Rattle.board_model.specs.Standings.{standings_of};
+ghost use Rattle.board_model.specs.Worth.{after_deed, changes, first_value, with_drawn, with_set};
 
-use crate::balance::{first_value, stands};
 use crate::standings::{Standing, Standings};
-use commute_ops::Value;
+use commute_ops::{Amount, Kind, SumValue, TopValue, Value};
 use letter_types::History;
 use std::alloc::Global;
-use tv_base::{ItemNo, NoMemory, Seq, Version};
+use tv_base::{ItemNo, NoMemory, Seq, TreeNo, Version};
 use tx_trees::{Deed, ItemRow, Script, Sub, SubOp, Tree, TreeKind};
 
 /// What each item is worth, by item number.
@@ -18,27 +18,8 @@ pub type Balances = Seq<Value, 0xffff_ffff>;
 /// Which items are written, by item number.
 pub type Marks = Seq<bool, 0xffff_ffff>;
 
-/// What each item of the script is worth at a version: its initial value, with all operations on it of the whole
-/// update trees of at most that version, by tree number. `standings` are those of the history.
-///
-/// It goes over the trees once, and applies each operation to the value of its item. Only want of memory is an error.
-#[tactic(auto, using(crate::proofs::AllItems::values))]
-pub fn balances_at(
-    alloc: Global,
-    script: &Script,
-    history: &History,
-    standings: &Standings,
-    version: Version,
-) -> Result<Balances, NoMemory>
-    requires { standings.now ≡ standings_of script.now history.now }
-    ensures { IfOk result (λ values. values ≡ worths script.now history.now version.0) }
-{
-    let first = first_values(alloc, script)?;
-    all_after_standing(alloc, script.trees(), standings.items(), version, first)
-}
-
-/// Which items of the script an update tree of this version, whole or not, has an operation on. `standings` are those
-/// of the history.
+/// Which items of the script are written in a version: an update tree of it, whole or not, has an operation on the item,
+/// or a committed strict tree of it a set or a draw. `standings` are those of the history.
 ///
 /// It goes over the trees once. Only want of memory is an error.
 #[tactic(auto, using(crate::proofs::AllItems::marks))]
@@ -58,7 +39,7 @@ pub fn written_at(
 
 // The initial value of each item.
 #[tactic(auto, using(crate::proofs::AllItems::first_step))]
-fn first_values(alloc: Global, script: &Script) -> Result<Balances, NoMemory>
+pub(crate) fn first_values(alloc: Global, script: &Script) -> Result<Balances, NoMemory>
     ensures { IfOk result (λ values. values ≡ first_values script.now.items) }
 {
     let mut values = Balances::new(alloc);
@@ -68,6 +49,53 @@ fn first_values(alloc: Global, script: &Script) -> Result<Balances, NoMemory>
     Ok(values)
 }
 
+// The initial value of the item.
+#[tactic(auto, using(crate::proofs::Bounds::bag_starts))]
+fn first_value(alloc: Global, script: &Script, item: ItemNo) -> Value
+    ensures { result ≡ first_value (slice_get script.now.items item.0) }
+{
+    match script.items().get(item.0 as usize) {
+        Some(row) => Value::start(alloc, row.kind, row.initial),
+        None => Value::start(alloc, Kind::Sum, 0),
+    }
+}
+
+// The value after the deed, or None where it stays.
+fn after_deed(alloc: Global, deed: &Deed, value: &Value) -> Result<Option<Value>, NoMemory>
+    requires { IsTrue (deed_may deed.now value.now) }
+    ensures { IfOk result (λ after. unwrap_or after value.now ≡ after_deed deed.now value.now) }
+{
+    match deed {
+        Deed::Apply(op) => Ok(Some(value.apply(alloc, op)?)),
+        Deed::Get => Ok(None),
+        Deed::Set(number) => Ok(with_set(value, *number)),
+        Deed::Draw(number) => Ok(with_drawn(value, *number)),
+    }
+}
+
+// A sum or a top of this number. None for a bag.
+fn with_set(value: &Value, number: Amount) -> Option<Value>
+    ensures { unwrap_or result value.now ≡ with_set number value.now }
+{
+    match value {
+        Value::Sum(_) => Some(Value::Sum(SumValue(number))),
+        Value::Top(_) => Some(Value::Top(TopValue(number))),
+        Value::Bag(_) => None,
+    }
+}
+
+// A sum lowered by this number. None for other values.
+fn with_drawn(value: &Value, number: Amount) -> Option<Value>
+    requires { IsTrue (draw_may number value.now) }
+    ensures { unwrap_or result value.now ≡ with_drawn number value.now }
+{
+    match value {
+        Value::Sum(sum) => Some(Value::Sum(SumValue(sum.0 - number))),
+        Value::Top(_) => None,
+        Value::Bag(_) => None,
+    }
+}
+
 // The values after an operation on its item.
 #[tactic(auto, using(crate::proofs::AllItems::on_items))]
 fn all_after_op(alloc: Global, op: &SubOp, first: Balances) -> Result<Balances, NoMemory>
@@ -75,15 +103,13 @@ fn all_after_op(alloc: Global, op: &SubOp, first: Balances) -> Result<Balances, 
     ensures { IfOk result (λ values. values ≡ all_after_op op.now first) }
 {
     let place = op.item.0 as usize;
-    let Deed::Apply(applied) = &op.deed else {
-        return Ok(first);
-    };
     if first.items().len() <= place {
         return Ok(first);
     }
     let mut values = first;
-    let value = values.items()[place].apply(alloc, applied)?;
-    values.put(place, value);
+    if let Some(value) = after_deed(alloc, &op.deed, &values.items()[place])? {
+        values.put(place, value);
+    }
     Ok(values)
 }
 
@@ -111,25 +137,20 @@ fn all_after_subs(alloc: Global, subs: &[Sub], first: Balances) -> Result<Balanc
     Ok(values)
 }
 
-// The values after the trees that stand.
-fn all_after_standing(
+// The values after one of the trees. One that isn't there changes nothing.
+pub(crate) fn all_after_tree(
     alloc: Global,
     trees: &[Tree],
-    standings: &[Standing],
-    version: Version,
+    tree: TreeNo,
     first: Balances,
 ) -> Result<Balances, NoMemory>
-    requires each { length standings.now ≡ length trees.now }
-    requires may { IsTrue (all_trees_may version.0 trees.now standings.now first) }
-    ensures { IfOk result (λ values. values ≡ all_after_standing version.0 trees.now standings.now first) }
+    requires { IsTrue (all_subs_may (subs_in trees.now tree.0) first) }
+    ensures { IfOk result (λ values. values ≡ all_after_subs (subs_in trees.now tree.0) first) }
 {
-    let mut values = first;
-    for (t, tree) in trees.iter().enumerate() {
-        if stands(tree.kind, standings[t], version) {
-            values = all_after_subs(alloc, tree.subs.items(), values)?;
-        }
+    match trees.get(tree.0 as usize) {
+        Some(row) => all_after_subs(alloc, row.subs.items(), first),
+        None => Ok(first),
     }
-    Ok(values)
 }
 
 // A mark for each item, none of which is set.
@@ -154,12 +175,33 @@ fn mark(marks: &mut Marks, item: ItemNo)
     }
 }
 
-// Marks the items of the operations.
+// Whether the deed changes its item.
+fn changes(deed: Deed) -> bool
+    ensures { result ≡ changes deed }
+{
+    match deed {
+        Deed::Get => false,
+        Deed::Apply(_) => true,
+        Deed::Set(_) => true,
+        Deed::Draw(_) => true,
+    }
+}
+
+// Marks the item of the operation, if that changes it.
+fn mark_op(marks: &mut Marks, op: &SubOp)
+    ensures { marks.new ≡ mark_op op.now marks.old }
+{
+    if changes(op.deed) {
+        mark(marks, op.item);
+    }
+}
+
+// Marks the items that the operations change.
 fn mark_ops(marks: &mut Marks, ops: &[SubOp])
     ensures { marks.new ≡ mark_ops ops.now marks.old }
 {
     for op in ops {
-        mark(marks, op.item);
+        mark_op(marks, op);
     }
 }
 
@@ -172,24 +214,25 @@ fn mark_subs(marks: &mut Marks, subs: &[Sub])
     }
 }
 
-// Whether a tree of this kind and standing is an update tree of this version.
-fn is_update_of(kind: TreeKind, standing: Standing, version: Version) -> bool
-    ensures { result ≡ is_update_of version.0 kind standing }
+// Whether a tree of this kind and standing is of this version, and writes.
+fn writes_by(kind: TreeKind, standing: Standing, version: Version) -> bool
+    ensures { result ≡ writes_by version.0 kind standing }
 {
     match (kind, standing.born) {
         (TreeKind::Update, Some(born)) => born == version,
+        (TreeKind::Strict, Some(born)) => born == version && standing.committed,
         _ => false,
     }
 }
 
-// The marks with those of the items that an update tree of this version has an operation on.
+// The marks with those of the items that trees of this version write.
 fn mark_trees(trees: &[Tree], standings: &[Standing], version: Version, none: Marks) -> Marks
     requires { length standings.now ≡ length trees.now }
     ensures { result ≡ mark_trees version.0 trees.now standings.now none }
 {
     let mut marks = none;
     for (t, tree) in trees.iter().enumerate() {
-        if is_update_of(tree.kind, standings[t], version) {
+        if writes_by(tree.kind, standings[t], version) {
             mark_subs(&mut marks, tree.subs.items());
         }
     }

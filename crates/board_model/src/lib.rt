@@ -1,17 +1,17 @@
-//! What a history says of trees and items: versions, wholeness and worth.
+//! What a history says of trees and items: versions, wholeness, the serial order and worth.
 #![tactic(auto)]
 
-mod balance;
 mod balances;
-mod histories;
+mod carried;
+mod closed_trees;
+mod serial;
 mod standings;
 mod tallies;
 
-pub use balance::{is_written, worth};
-pub use balances::{Balances, Marks, balances_at, written_at};
-pub use histories::{is_whole, version_of};
+pub use balances::{Balances, Marks, written_at};
+pub use carried::{Carried, carry, start};
+pub use serial::{Member, Members, Outcomes, by_version, outcomes_of};
 pub use standings::{Standing, Standings};
-pub use tallies::whole_versions;
 
 #[cfg(test)]
 mod tests;

@@ -6,8 +6,11 @@ use tv_base::{Seq, Version};
 pub struct Standing {
     /// The version with which it was born. None where it isn't born.
     pub born: Option<Version>,
-    /// Whether it is born and each of its subtransactions was done.
+    /// Whether it is whole: it is born, and each of its subtransactions was done. A strict tree is whole where it is
+    /// born and what was decided of it was applied at each node that it visits.
     pub whole: bool,
+    /// Whether it was decided to commit. Only strict trees are.
+    pub committed: bool,
 }
 
 /// What a history says of each tree, by tree number.

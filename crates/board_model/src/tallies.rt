@@ -1,72 +1,40 @@
-// One pass over a history, which keeps of each tree its version and which of its subtransactions were done.
+// What is kept of each tree while a history is gone over from its end.
 ghost use Rattle.std.specs.Prelude.{◌≡◌, IfOk, false, get_or, length, replicate};
-ghost use Rattle.board_model.specs.Histories.{acts_of};
-ghost use Rattle.board_model.specs.Standings.{standings_of};
-ghost use Rattle.board_model.specs.Tallies.{all_marked, blank, noted, on_row, standing_by, stood_by, taken_in, with_born, with_done};
+ghost use Rattle.board_model.specs.Tallies.{all_marked, all_met, blank, is_through_by, noted, on_row, standing_by, stood_by, with_applied, with_born, with_decided, with_done};
 
 use crate::standings::{Standing, Standings};
-use letter_types::{Act, Entry, History};
+use letter_types::Act;
 use std::alloc::Global;
-use tv_base::{NoMemory, SubNo, TreeNo, Version};
-use tx_trees::{Script, Tree};
+use tv_base::{ActorNo, NoMemory, SubNo, TreeNo, Version};
+use tx_trees::{Sub, Tree, TreeKind};
 
-// What the acts gone over so far say of one tree: the version that it was born with, and which of its
-// subtransactions were done. A tree of a script has at most 64.
+// What the acts gone over so far say of one tree: the version that the earliest Born gives, which of its
+// subtransactions were done, at which nodes what was decided of it was applied, and whether it was decided to commit. A
+// tree of a script has at most 64 subtransactions, and a script at most 16 nodes.
 #[derive(Clone, Copy)]
 pub(crate) struct Tally {
     pub(crate) born: Option<Version>,
     pub(crate) done: [bool; 64],
-}
-
-/// The version of each tree, and whether it is whole, by tree number.
-///
-/// It goes over the history's acts once, and then over the trees. Only want of memory is an error.
-#[tactic(auto, using(crate::proofs::OnePass::pass))]
-pub fn whole_versions(
-    alloc: Global,
-    script: &Script,
-    history: &History,
-) -> Result<Standings, NoMemory>
-    ensures { IfOk result (λ standings. standings ≡ standings_of script.now history.now) }
-{
-    let trees = script.trees();
-    let mut rows = blank_rows(alloc, trees.len())?;
-    note_entries(&mut rows, history.items());
-    stood_by(alloc, &rows, trees)
+    pub(crate) applied: [bool; 16],
+    pub(crate) committed: bool,
 }
 
 // So many rows of which nothing is known.
-fn blank_rows(alloc: Global, count: usize) -> Result<Vec<Tally>, NoMemory>
+pub(crate) fn blank_rows(alloc: Global, count: usize) -> Result<Vec<Tally>, NoMemory>
     ensures { IfOk result (λ rows. rows.items ≡ replicate count blank) }
 {
     let row = Tally {
         born: None,
         done: [false; 64],
+        applied: [false; 16],
+        committed: false,
     };
     Ok(vec![in alloc; row; count]?)
 }
 
-// Notes the acts of the entries.
-fn note_entries(rows: &mut Vec<Tally>, entries: &[Entry])
-    ensures { rows.new.items ≡ taken_in (acts_of entries.now) rows.old.items }
-{
-    for entry in entries {
-        note_acts(rows, entry.acts.items());
-    }
-}
-
-// Notes the acts in order.
-fn note_acts(rows: &mut Vec<Tally>, acts: &[Act])
-    ensures { rows.new.items ≡ taken_in acts.now rows.old.items }
-{
-    for act in acts {
-        note(rows, act);
-    }
-}
-
-// Notes an act.
-fn note(rows: &mut Vec<Tally>, act: &Act)
-    ensures { rows.new.items ≡ noted act.now rows.old.items }
+// Notes an act of this actor, which stands before those noted so far.
+pub(crate) fn note(rows: &mut Vec<Tally>, actor: ActorNo, act: &Act)
+    ensures { rows.new.items ≡ noted actor.0 act.now rows.old.items }
 {
     match act {
         Act::Born { tree, version } => note_born(rows, *tree, *version),
@@ -75,6 +43,8 @@ fn note(rows: &mut Vec<Tally>, act: &Act)
             sub,
             values: _,
         } => note_done(rows, *tree, *sub),
+        Act::Decided { tree, commit } => note_decided(rows, *tree, *commit),
+        Act::Applied { tree, commit: _ } => note_applied(rows, *tree, actor),
         _ => {}
     }
 }
@@ -103,17 +73,41 @@ fn note_done(rows: &mut Vec<Tally>, tree: TreeNo, sub: SubNo)
     }
 }
 
-// The row with the version, if it has none yet.
+// Notes what was decided of the tree.
+#[tactic(auto, using(crate::proofs::Rows::on_rows))]
+fn note_decided(rows: &mut Vec<Tally>, tree: TreeNo, commit: bool)
+    ensures { rows.new.items ≡ on_row tree.0 (with_decided commit) rows.old.items }
+{
+    let place = tree.0 as usize;
+    if place < rows.len() {
+        let row = with_decided(rows[place], commit);
+        rows[place] = row;
+    }
+}
+
+// Notes that what was decided of the tree was applied at the node.
+#[tactic(auto, using(crate::proofs::Rows::on_rows))]
+fn note_applied(rows: &mut Vec<Tally>, tree: TreeNo, node: ActorNo)
+    ensures { rows.new.items ≡ on_row tree.0 (with_applied node.0) rows.old.items }
+{
+    let place = tree.0 as usize;
+    if place < rows.len() {
+        let row = with_applied(rows[place], node);
+        rows[place] = row;
+    }
+}
+
+// The row with the version, in place of a later one.
 fn with_born(row: Tally, version: Version) -> Tally
     ensures { result ≡ with_born version row }
 {
     let done = row.done;
-    match row.born {
-        Some(_) => row,
-        None => Tally {
-            born: Some(version),
-            done,
-        },
+    let applied = row.applied;
+    Tally {
+        born: Some(version),
+        done,
+        applied,
+        committed: row.committed,
     }
 }
 
@@ -127,32 +121,91 @@ fn with_done(row: Tally, sub: SubNo) -> Tally
     if place < 64 {
         done[place] = true;
     }
+    let applied = row.applied;
     Tally {
         born: row.born,
         done,
+        applied,
+        committed: row.committed,
+    }
+}
+
+// The row of a tree that was decided to commit, or not.
+fn with_decided(row: Tally, commit: bool) -> Tally
+    ensures { result ≡ with_decided commit row }
+{
+    let done = row.done;
+    let applied = row.applied;
+    Tally {
+        born: row.born,
+        done,
+        applied,
+        committed: commit || row.committed,
+    }
+}
+
+// The row with the node marked, if it is one of 16.
+#[tactic(auto, using(crate::proofs::Rows::set_beyond))]
+fn with_applied(row: Tally, node: ActorNo) -> Tally
+    ensures { result ≡ with_applied node.0 row }
+{
+    let mut applied = row.applied;
+    let place = node.0 as usize;
+    if place < 16 {
+        applied[place] = true;
+    }
+    let done = row.done;
+    Tally {
+        born: row.born,
+        done,
+        applied,
+        committed: row.committed,
     }
 }
 
 // What the rows say of the trees.
-fn stood_by(alloc: Global, rows: &[Tally], trees: &[Tree]) -> Result<Standings, NoMemory>
+pub(crate) fn stood_by(alloc: Global, rows: &[Tally], trees: &[Tree]) -> Result<Standings, NoMemory>
     requires { length rows.now ≡ length trees.now }
     ensures { IfOk result (λ standings. standings ≡ stood_by rows.now trees.now) }
 {
     let mut standings = Standings::new(alloc);
     for (t, tree) in trees.iter().enumerate() {
-        standings.push(standing_by(tree.subs.items().len(), &rows[t]))?;
+        standings.push(standing_by(tree, &rows[t]))?;
     }
     Ok(standings)
 }
 
-// What a row says of its tree, which has so many subtransactions.
-fn standing_by(subs: usize, row: &Tally) -> Standing
-    ensures { result ≡ standing_by subs row.now }
+// What a row says of its tree.
+fn standing_by(tree: &Tree, row: &Tally) -> Standing
+    ensures { result ≡ standing_by tree.now row.now }
 {
     Standing {
         born: row.born,
-        whole: row.born.is_some() && all_marked(subs, &row.done),
+        whole: row.born.is_some() && is_through(tree.kind, tree.subs.items(), row),
+        committed: row.committed,
     }
+}
+
+// Whether all that is to come of a tree of this kind has come.
+fn is_through(kind: TreeKind, subs: &[Sub], row: &Tally) -> bool
+    ensures { result ≡ is_through_by kind subs.now row.now }
+{
+    match kind {
+        TreeKind::Strict => all_met(subs, &row.applied),
+        _ => all_marked(subs.len(), &row.done),
+    }
+}
+
+// Whether the node of each subtransaction is marked.
+fn all_met(subs: &[Sub], applied: &[bool]) -> bool
+    ensures { result ≡ all_met subs.now applied.now }
+{
+    for sub in subs {
+        if !is_marked(applied, sub.node.0 as usize) {
+            return false;
+        }
+    }
+    true
 }
 
 // Whether each of the first subtransactions, so many of them, was done.
@@ -168,9 +221,9 @@ fn all_marked(subs: usize, done: &[bool]) -> bool
     true
 }
 
-// Whether the subtransaction was done.
-fn is_marked(done: &[bool], sub: usize) -> bool
-    ensures { result ≡ get_or done.now sub false }
+// Whether the place is marked.
+fn is_marked(marks: &[bool], place: usize) -> bool
+    ensures { result ≡ get_or marks.now place false }
 {
-    sub < done.len() && done[sub]
+    place < marks.len() && marks[place]
 }

@@ -3,11 +3,11 @@ ghost use Rattle.commute_ops.specs.declared.kinds.TheConstants.{MOST_AMOUNT};
 ghost use Rattle.tx_trees.specs.Valid.{magnitude};
 
 use super::*;
-use commute_ops::{Amount, Kind, Op, Value};
-use letter_types::{Act, Acts, Body, Entry, History, Letter, LetterId, Letters, Values};
+use commute_ops::{Amount, Kind, Op, Value, Values};
+use letter_types::{Act, Acts, Body, Entry, History, Letter, LetterId, Letters};
 use std::alloc::Global;
 use std::test::Fail;
-use tv_base::{ActorNo, ItemNo, Name, NoMemory, NodeNo, Stamp, SubNo, TreeNo, Version};
+use tv_base::{ActorNo, Name, NoMemory, NodeNo, Stamp, SubNo, TreeNo, Version};
 use tx_trees::{Deed, ItemRow, Refusal, Script, TreeKind, Why};
 
 const BAD_CALL: Refusal = Refusal::Why(Why::NotBuilt);
@@ -140,55 +140,45 @@ fn whole_trees_count_from_their_first_version(rt: HostRuntime) -> Result<(), Fai
     let alloc = rt.alloc();
     let script = two_trees(alloc)?;
     let history = one_whole(alloc)?;
-    let standings = whole_versions(alloc, &script, &history)?;
+    let outcomes = outcomes_of(alloc, &script, &history)?;
     let first = Standing {
         born: Some(Version(1)),
         whole: true,
+        committed: false,
     };
     let second = Standing {
         born: Some(Version(1)),
         whole: false,
+        committed: false,
     };
-    assert_eq!(rt; standings.items(), [first, second].as_slice());
-    for (item, version, want) in [(0, 0, 10), (0, 1, 15), (1, 0, 0), (1, 1, 7), (2, 1, 0)] {
-        let value = worth(
+    assert_eq!(rt; outcomes.standings.items(), [first, second].as_slice());
+    let member = Member {
+        version: Version(1),
+        tree: TreeNo(0),
+    };
+    assert_eq!(rt; outcomes.serial.items(), [member].as_slice());
+    let begun = start(alloc, &script, &outcomes.serial)?;
+    let carried = carry(
+        alloc,
+        &script,
+        &history,
+        &outcomes.serial,
+        begun,
+        Version(1),
+    )?;
+    let [a, b] = carried.values.items() else {
+        return Err("the script has two items".into());
+    };
+    assert_eq!(rt; number(a), 15, "the first");
+    assert_eq!(rt; number(b), 7, "the second");
+    for (version, want) in [(0, false), (1, true), (2, false)] {
+        let written = written_at(
             alloc,
             &script,
             &history,
-            &standings,
-            ItemNo(item),
+            &outcomes.standings,
             Version(version),
         )?;
-        assert_eq!(rt; number(&value), want, "item {item} at {version}");
-    }
-    assert!(rt; is_written(&script, &history, &standings, ItemNo(0), Version(1)));
-    assert!(rt; !is_written(&script, &history, &standings, ItemNo(0), Version(2)));
-    for (tree, whole) in [(0, true), (1, false), (2, false)] {
-        assert_eq!(rt;
-            is_whole(&script, &history, TreeNo(tree)),
-            whole,
-            "tree {tree}"
-        );
-    }
-    Ok(())
-}
-
-#[test]
-fn a_pass_gives_all_items(rt: HostRuntime) -> Result<(), Fail> {
-    let alloc = rt.alloc();
-    let script = two_trees(alloc)?;
-    let history = one_whole(alloc)?;
-    let standings = whole_versions(alloc, &script, &history)?;
-    for (version, first, second) in [(0, 10, 0), (1, 15, 7)] {
-        let values = balances_at(alloc, &script, &history, &standings, Version(version))?;
-        let [a, b] = values.items() else {
-            return Err("the script has two items".into());
-        };
-        assert_eq!(rt; number(a), first, "the first at {version}");
-        assert_eq!(rt; number(b), second, "the second at {version}");
-    }
-    for (version, want) in [(0, false), (1, true), (2, false)] {
-        let written = written_at(alloc, &script, &history, &standings, Version(version))?;
         assert_eq!(rt; written.items(), [want, want].as_slice(), "at {version}");
     }
     Ok(())

@@ -1,4 +1,6 @@
 pub mod Counts
 pub mod ItemLines
-pub mod Kept
+pub mod Plain
+pub mod Serving
 pub mod TreeLines
+pub mod Whole

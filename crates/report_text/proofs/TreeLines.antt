@@ -1,12 +1,12 @@
 -- The lines of the trees by their standings are those of the report.
-use Rattle.std.proofs.Common.{◌≡◌, ℕ, zero, suc, ◌+◌, List, [], ◌∷◌, ◌++◌, refl, ap, sym, ◌∙◌, append_assoc, arith}
+use Rattle.std.proofs.Common.{◌≡◌, ℕ, zero, suc, ◌+◌, true, false, List, [], ◌∷◌, ◌++◌, refl, ap, sym, ◌∙◌, append_assoc, arith}
 use Rattle.std.specs.Prelude.{length, Option, Some, None, slice_get}
 use Rattle.std.specs.List.{AllByRecursion}
 use Rattle.tv_base.specs.declared.numbers.Version.{Version}
 use Rattle.commute_ops.specs.declared.value.Value.{Value}
 use Rattle.letter_types.specs.declared.entries.Entry.{Entry}
-use Rattle.tx_trees.specs.ScriptData.{ScriptData}
-use Rattle.tx_trees.specs.Valid.{AreSubs, IsOp, IsTree, IsValid, OpAt}
+use Rattle.tx_trees.specs.ScriptData.{ScriptData, is_read}
+use Rattle.tx_trees.specs.Valid.{AreSubs, IsOp, OpAt}
 use Rattle.tx_trees.specs.declared.parts.ItemRow.{ItemRow}
 use Rattle.tx_trees.specs.declared.parts.Sub.{Sub}
 use Rattle.tx_trees.specs.declared.parts.SubOp.{SubOp}
@@ -18,8 +18,9 @@ use Rattle.board_model.specs.Histories.{version_of}
 use Rattle.board_model.specs.Right.{shown}
 use Rattle.board_model.specs.Standings.{standings_from, standings_of}
 use Rattle.board_model.specs.Worth.{worth}
-use Rattle.board_model.proofs.TreeStandings.{length-standings_from}
+use Rattle.board_model.proofs.AllItems.{length-standings_from}
 use Rattle.report_text.specs.Lines.{born_line, found_text, ops_texts, subs_texts, trees_lines}
+use Rattle.report_text.specs.Served.{AreRead}
 use Rattle.report_text.specs.Report.{get_text, gets_of, gets_text, item_name, read_line, tree_line, trees_text, values_text}
 
 -- the value of an item that is there, by number
@@ -63,7 +64,7 @@ shown-append s h v (o ∷ os) more =
     ap (λ (z : List ℕ). one ++ z) (shown-append s h v os more)
     ∙ sym (append_assoc one (values_text s.items (shown s h v os)) (values_text s.items (shown s h v more)))
 
-subs_text : (s : ScriptData) (h : List Entry) (v : ℕ) (kind : TreeKind) (k : ℕ) (ss : List Sub)
+pub subs_text : (s : ScriptData) (h : List Entry) (v : ℕ) (kind : TreeKind) (k : ℕ) (ss : List Sub)
     → AreSubs s.nodes s.items kind k ss → subs_texts s.items (worths s h v) ss ≡ gets_text s h v ss
 subs_text s h v kind k [] all = refl
 subs_text s h v kind k (x ∷ ss) all =
@@ -73,26 +74,58 @@ subs_text s h v kind k (x ∷ ss) all =
     ∙ ap (λ (z : List ℕ). values_text s.items (shown s h v x.ops) ++ z) rest
     ∙ sym (shown-append s h v x.ops (gets_of ss))
 
-line_is : (s : ScriptData) (h : List Entry) (tree : Tree) (kind : TreeKind) (born : Option Version)
-    → IsTree s.nodes s.items tree → born_line s h tree kind born ≡ tree_line s h tree kind born
-line_is s h tree Update None one = refl
-line_is s h tree Update (Some v) one = refl
-line_is s h tree Read None one = refl
-line_is s h tree Read (Some v) one = ap (λ (z : List ℕ). read_line tree.name v.0 z) (subs_text s h v.0 tree.kind 0 tree.subs one.subs)
-line_is s h tree Strict born one = refl
+-- a text at each place, which is that of the read tree there, where the list begins with tree t
+abbrev pub ReadFrom : ScriptData → List Entry → ℕ → List Tree → List (List ℕ) → Type 0
+ReadFrom s h t ts texts =
+    (i : ℕ) (tree : Tree) (v : Version) → slice_get ts i ≡ Some tree → is_read tree.kind ≡ true → version_of h (t + i) ≡ Some v
+    → slice_get texts i ≡ Some (gets_text s h v.0 tree.subs)
 
-lines_from : (s : ScriptData) (h : List Entry) (t : ℕ) (ts : List Tree)
-    → AllByRecursion (IsTree s.nodes s.items) ts → trees_lines s h ts (standings_from s h t ts) ≡ trees_text s h t ts
-lines_from s h t [] all = refl
-lines_from s h t (tree ∷ ts) all =
-    ap (λ (z : List ℕ). z ++ trees_lines s h ts (standings_from s h (t + 1) ts)) (line_is s h tree tree.kind (version_of h t) all.0)
-    ∙ ap (λ (z : List ℕ). tree_line s h tree tree.kind (version_of h t) ++ z) (lines_from s h (t + 1) ts all.1)
+line_is : (s : ScriptData) (h : List Entry) (tree : Tree) (kind : TreeKind) (born : Option Version) (text : List ℕ)
+    → ((v : Version) → is_read kind ≡ true → born ≡ Some v → text ≡ gets_text s h v.0 tree.subs)
+    → born_line tree kind born text ≡ tree_line s h tree kind born
+line_is s h tree Update None text is = refl
+line_is s h tree Update (Some v) text is = refl
+line_is s h tree Read None text is = refl
+line_is s h tree Read (Some v) text is = ap (λ (z : List ℕ). read_line tree.name v.0 z) (is v refl refl)
+line_is s h tree Strict None text is = refl
+line_is s h tree Strict (Some v) text is = refl
 
-pub lines_all : (s : ScriptData) (h : List Entry) → IsValid s → trees_lines s h s.trees (standings_of s h) ≡ trees_text s h 0 s.trees
-lines_all s h valid = lines_from s h 0 s.trees valid.trees
+lines_from : (s : ScriptData) (h : List Entry) (t : ℕ) (ts : List Tree) (texts : List (List ℕ))
+    → length texts ≡ length ts → ReadFrom s h t ts texts → trees_lines ts (standings_from s h t ts) texts ≡ trees_text s h t ts
+lines_from s h t [] texts len is = refl
+lines_from s h t (tree ∷ ts) [] len is = absurd (omega arith)
+lines_from s h t (tree ∷ ts) (text ∷ texts) len is =
+    ap (λ (z : List ℕ). z ++ trees_lines ts (standings_from s h (t + 1) ts) texts)
+    (line_is s h tree tree.kind (version_of h t) text
+    (λ (v : Version) kind born. head_is (is 0 tree v refl kind (ap (λ (k : ℕ). version_of h k) (at_zero t) ∙ born))))
+    ∙ ap (λ (z : List ℕ). tree_line s h tree tree.kind (version_of h t) ++ z)
+    (lines_from s h (t + 1) ts texts (omega arith)
+    (λ (i : ℕ) (one : Tree) (v : Version) there kind born. is (suc i) one v there kind (ap (λ (k : ℕ). version_of h k) (at_next t i) ∙ born))) where
+      at_zero : (t : ℕ) → t + 0 ≡ t
+      at_zero t = omega arith
+
+      at_next : (t i : ℕ) → t + suc i ≡ t + 1 + i
+      at_next t i = omega arith
+
+      head_is : {a b : List ℕ} → Some a ≡ Some b → a ≡ b
+      head_is e = cc e
+
+-- a tree that is there
+kind_here : (o : Option Tree) (tree : Tree) → o ≡ Some tree → (elim o [ Some one ↦ is_read one.kind | None ↦ false ]) ≡ is_read tree.kind
+kind_here o tree e = ap (λ (z : Option Tree). elim z [ Some one ↦ is_read one.kind | None ↦ false ]) e
+
+subs_here : (o : Option Tree) (tree : Tree) → o ≡ Some tree → (elim o as (λ (z : Option Tree). List Sub) [ Some one ↦ one.subs | None ↦ [] ]) ≡ tree.subs
+subs_here o tree e = ap (λ (z : Option Tree). elim z as (λ (y : Option Tree). List Sub) [ Some one ↦ one.subs | None ↦ [] ]) e
+
+pub lines_all : (s : ScriptData) (h : List Entry) (texts : List (List ℕ)) → AreRead s h texts
+    → trees_lines s.trees (standings_of s h) texts ≡ trees_text s h 0 s.trees
+lines_all s h texts read =
+    lines_from s h 0 s.trees texts read.count
+    (λ (i : ℕ) (tree : Tree) (v : Version) there kind born.
+    read.each i v (kind_here (slice_get s.trees i) tree there ∙ kind) (ap (λ (k : ℕ). version_of h k) (from_zero i) ∙ born)
+    ∙ ap (λ (ks : List Sub). Some (gets_text s h v.0 ks)) (subs_here (slice_get s.trees i) tree there)) where
+      from_zero : (i : ℕ) → i ≡ 0 + i
+      from_zero i = omega arith
 
 pub length-standings_of : (s : ScriptData) (h : List Entry) → length (standings_of s h) ≡ length s.trees
 length-standings_of s h = length-standings_from s h 0 s.trees
-
--- for the trees of a script
-pub ruleset of_script = (lines_all, length-standings_of)

@@ -1,9 +1,8 @@
 -- Parts of the report over the standings of the trees and the values of the items, and the line of a script that was read.
-use Rattle.std.specs.Prelude.{◌≡◌, if◌then◌else◌, ℕ, ◌+◌, Bool, List, [], ◌∷◌, ◌++◌, length, codes, decimal, Option, Some, None, slice_get}
-use Rattle.std.specs.List.{AllByRecursion}
+-- Only the code of the report cites them, but for `check_line_of`.
+use Rattle.std.specs.Prelude.{if◌then◌else◌, ℕ, ◌+◌, Bool, List, [], ◌∷◌, ◌++◌, length, codes, decimal, Option, Some, None, slice_get}
 use Rattle.tv_base.specs.declared.numbers.Version.{Version}
 use Rattle.commute_ops.specs.declared.value.Value.{Value}
-use Rattle.letter_types.specs.declared.entries.Entry.{Entry}
 use Rattle.tx_trees.specs.Adding.{all_subs}
 use Rattle.tx_trees.specs.ScriptData.{ScriptData}
 use Rattle.tx_trees.specs.declared.parts.ItemRow.{ItemRow}
@@ -12,9 +11,7 @@ use Rattle.tx_trees.specs.declared.parts.SubOp.{SubOp}
 use Rattle.tx_trees.specs.declared.parts.Tree.{Tree}
 use Rattle.tx_trees.specs.declared.parts.TreeKind.{TreeKind}
 use Rattle.tx_trees.specs.declared.parts.TreeKind.TheVariants.{Update, Read}
-use Rattle.board_model.specs.Balances.{worths}
 use Rattle.board_model.specs.declared.standings.Standing.{Standing}
-use Rattle.report_text.specs.declared.reads.VersionWorths.{VersionWorths}
 use Rattle.report_text.specs.Report.{advances, balance, get_text, read_line, update_line}
 
 -- a value behind the name of its item, where both are there
@@ -33,29 +30,17 @@ abbrev pub subs_texts : List ItemRow → List Value → List Sub → List ℕ
 subs_texts rows ws [] = []
 subs_texts rows ws (k ∷ ks) = ops_texts rows ws k.ops ++ subs_texts rows ws ks
 
--- the line of a tree that is born, by what all items are worth at its version
-abbrev pub born_line : ScriptData → List Entry → Tree → TreeKind → Option Version → List ℕ
-born_line s h tree Update (Some v) = update_line tree.name v.0
-born_line s h tree Read (Some v) = read_line tree.name v.0 (subs_texts s.items (worths s h v.0) tree.subs)
-born_line s h tree _ _ = []
+-- the line of a tree that is born, by the text of its values
+abbrev pub born_line : Tree → TreeKind → Option Version → List ℕ → List ℕ
+born_line tree Update (Some v) values = update_line tree.name v.0
+born_line tree Read (Some v) values = read_line tree.name v.0 values
+born_line tree _ _ values = []
 
--- the lines of the trees of these standings
-abbrev pub trees_lines : ScriptData → List Entry → List Tree → List Standing → List ℕ
-trees_lines s h [] sts = []
-trees_lines s h (t ∷ ts) [] = []
-trees_lines s h (t ∷ ts) (st ∷ sts) = born_line s h t t.kind st.born ++ trees_lines s h ts sts
-
--- what is kept for a version is what all items are worth there
-abbrev pub IsKept : ScriptData → List Entry → VersionWorths → Type 0
-IsKept s h k = k.values ≡ worths s h k.version.0
-
--- the same of all that is kept
-abbrev pub AreKept : ScriptData → List Entry → List VersionWorths → Type 0
-AreKept s h ks = AllByRecursion (IsKept s h) ks
-
--- what is to be kept for version v
-abbrev pub kept_for : ScriptData → List Entry → Version → VersionWorths
-kept_for s h v = record { version = v; values = worths s h v.0 }
+-- the lines of the trees of these standings and texts
+abbrev pub trees_lines : List Tree → List Standing → List (List ℕ) → List ℕ
+trees_lines (t ∷ ts) (st ∷ sts) (r ∷ rs) = born_line t t.kind st.born r ++ trees_lines ts sts rs
+trees_lines [] sts rs = []
+trees_lines _ _ _ = []
 
 -- a value at version a, and one at the next if that is written
 abbrev pub two_balances : ℕ → Value → Value → Bool → List ℕ

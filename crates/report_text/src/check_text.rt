@@ -1,36 +1,38 @@
 // The line that says what a script has.
 ghost use Rattle.std.specs.Prelude.{◌≡◌, ◌++◌, ◌<◌, ◌^◌, IfOk, OnOk, length};
+ghost use Rattle.std.specs.Str.{IsAscii};
 ghost use Rattle.tx_trees.specs.Adding.{all_subs};
 ghost use Rattle.report_text.specs.Lines.{check_line_of, count_text};
 
-use crate::lines::Lines;
+use crate::parts::push_number;
 use crate::run_report::advances;
 use std::alloc::Global;
-use tv_base::NoMemory;
+use tv_base::{NoMemory, Text};
 use tx_trees::{Script, Tree};
 
 /// The line of a script that was read: how many nodes, items, trees, subtransactions (roots are among them) and
 /// advancements it has. Only want of memory is an error.
 #[tactic(auto, using(crate::proofs::Counts::fits))]
-pub fn check_line(alloc: Global, script: &Script) -> Result<Lines, NoMemory>
+pub fn check_line(alloc: Global, script: &Script) -> Result<Text, NoMemory>
     ensures { IfOk result (λ text. text ≡ check_line_of script.now) }
 {
-    let mut text = Lines::new(alloc);
+    let mut text = Text::new(alloc);
     push_count(&mut text, b"ok nodes ", script.nodes() as u64)?;
     push_count(&mut text, b" items ", script.items().len() as u64)?;
     push_count(&mut text, b" trees ", script.trees().len() as u64)?;
     push_count(&mut text, b" subs ", count_subs(script.trees()))?;
     push_count(&mut text, b" advances ", advances(script) as u64)?;
-    text.push_bytes(b"\n")?;
+    text.push_all(b"\n")?;
     Ok(text)
 }
 
 // A word and a number.
-fn push_count(text: &mut Lines, word: &[u8], count: u64) -> Result<(), NoMemory>
+fn push_count(text: &mut Text, word: &[u8], count: u64) -> Result<(), NoMemory>
+    requires { IsAscii word.now }
     ensures { OnOk result (text.new ≡ text.old ++ count_text word.now count) }
 {
-    text.push_bytes(word)?;
-    text.push_number(count)
+    text.push_all(word)?;
+    push_number(text, count)
 }
 
 // How many subtransactions the trees have.

@@ -3,15 +3,15 @@
 
 mod check_text;
 mod items;
-mod lines;
+mod parts;
 mod reads;
 mod run;
 mod run_report;
+mod served;
 mod trees;
 mod values;
 
 pub use check_text::check_line;
-pub use lines::Lines;
 pub use run_report::report;
 
 #[cfg(test)]

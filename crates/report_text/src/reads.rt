@@ -1,78 +1,71 @@
-// The lines of read trees, and what items are worth at the versions of those.
-ghost use Rattle.std.specs.Prelude.{◌≡◌, ◌==◌, ◌++◌, IfOk, OnOk, Some, position, slice_get};
-ghost use Rattle.board_model.specs.Standings.{standings_of};
-ghost use Rattle.report_text.specs.Lines.{AreKept, found_text, kept_for, ops_texts, subs_texts};
-ghost use Rattle.report_text.specs.Report.{get_text, read_line};
+// The values of read trees.
+ghost use Rattle.std.specs.Prelude.{◌≡◌, ◌++◌, IfOk, OnOk, length, slice_get};
+ghost use Rattle.std.specs.Str.{IsAscii};
+ghost use Rattle.board_model.specs.Balances.{subs_in};
+ghost use Rattle.report_text.specs.Lines.{found_text, ops_texts, subs_texts};
+ghost use Rattle.tx_trees.specs.AsciiNames.{AreAsciiItems};
+ghost use Rattle.report_text.specs.Report.{get_text};
 
-use crate::lines::Lines;
-use crate::run::Run;
 use crate::values::push_value;
-use board_model::{Balances, balances_at};
 use commute_ops::Value;
 use std::alloc::Global;
-use tv_base::{ItemNo, Name, NoMemory, Seq, Version};
+use tv_base::{ItemNo, Name, NoMemory, Seq, Text, TreeNo};
 use tx_trees::{ItemRow, Sub, SubOp, Tree};
 
-// What all items are worth at one version, by item number.
-#[derive(Drop)]
-pub(crate) struct VersionWorths {
-    pub(crate) version: Version,
-    pub(crate) values: Balances,
-}
+// What read trees show, by tree number.
+pub(crate) type Reads = Seq<Text, 0xffff_ffff>;
 
-// What all items are worth at the versions that were asked for so far.
-pub(crate) type Worths = Seq<VersionWorths, 0xffff_ffff>;
-
-// The place of the version's worths, which are worked out and kept if they aren't there yet.
-pub(crate) fn keep(
-    alloc: Global,
-    kept: &mut Worths,
-    run: Run,
-    version: Version,
-) -> Result<usize, NoMemory>
-    requires stood { run.standings.now ≡ standings_of run.script.now run.history.now }
-    requires kept { AreKept run.script.now run.history.now kept.old }
-    ensures kept { OnOk result (AreKept run.entry.script.now run.entry.history.now kept.new) }
-    ensures there { IfOk result (λ p. slice_get kept.new p ≡ Some (kept_for run.entry.script.now run.entry.history.now version)) }
+// No text for each tree.
+pub(crate) fn no_texts(alloc: Global, trees: &[Tree]) -> Result<Reads, NoMemory>
+    ensures { IfOk result (λ texts. length texts ≡ length trees.now) }
 {
-    if let Some(place) = place_of(kept.items(), version) {
-        return Ok(place);
+    let mut texts = Reads::new(alloc);
+    for tree in trees {
+        texts.push(Text::new(alloc))?;
     }
-    let place = kept.items().len();
-    let values = balances_at(alloc, run.script, run.history, run.standings, version)?;
-    kept.push(VersionWorths { version, values })?;
-    Ok(place)
+    Ok(texts)
 }
 
-// The place of the version among those that are kept.
-fn place_of(kept: &[VersionWorths], version: Version) -> Option<usize>
-    ensures { result ≡ position (λ k. k.version.0 == version.0) kept.now }
+// The values of the items that a tree's operations are on, among these of all items. A tree that isn't there has none.
+pub(crate) fn values_of(
+    alloc: Global,
+    rows: &[ItemRow],
+    trees: &[Tree],
+    tree: TreeNo,
+    values: &[Value],
+) -> Result<Text, NoMemory>
+    requires { AreAsciiItems rows.now }
+    ensures { IfOk result (λ text. text ≡ subs_texts rows.now values.now (subs_in trees.now tree.0)) }
 {
-    kept.iter().position(|k| k.version == version)
+    match trees.get(tree.0 as usize) {
+        Some(row) => values_in(alloc, rows, values, row.subs.items()),
+        None => Ok(Text::new(alloc)),
+    }
 }
 
-// The line of a read tree of this version, by what all items are worth there.
-pub(crate) fn push_read(
-    text: &mut Lines,
+// The same of these subtransactions.
+fn values_in(
+    alloc: Global,
     rows: &[ItemRow],
     values: &[Value],
-    tree: &Tree,
-    version: Version,
-) -> Result<(), NoMemory>
-    ensures { OnOk result (text.new ≡ text.old ++ read_line tree.now.name version.0 (subs_texts rows.now values.now tree.now.subs)) }
+    subs: &[Sub],
+) -> Result<Text, NoMemory>
+    requires { AreAsciiItems rows.now }
+    ensures { IfOk result (λ text. text ≡ subs_texts rows.now values.now subs.now) }
 {
-    text.push_version(b"read ", &tree.name, version)?;
-    push_subs(text, rows, values, tree.subs.items())?;
-    text.push_bytes(b"\n")
+    let mut text = Text::new(alloc);
+    push_subs(&mut text, rows, values, subs)?;
+    Ok(text)
 }
 
 // The values of the items that the subtransactions' operations are on.
 fn push_subs(
-    text: &mut Lines,
+    text: &mut Text,
     rows: &[ItemRow],
     values: &[Value],
     subs: &[Sub],
 ) -> Result<(), NoMemory>
+    requires { AreAsciiItems rows.now }
     ensures { OnOk result (text.new ≡ text.old ++ subs_texts rows.now values.now subs.now) }
 {
     for sub in subs {
@@ -83,11 +76,12 @@ fn push_subs(
 
 // The values of the operations' items, in the order of the operations.
 fn push_ops(
-    text: &mut Lines,
+    text: &mut Text,
     rows: &[ItemRow],
     values: &[Value],
     ops: &[SubOp],
 ) -> Result<(), NoMemory>
+    requires { AreAsciiItems rows.now }
     ensures { OnOk result (text.new ≡ text.old ++ ops_texts rows.now values.now ops.now) }
 {
     for op in ops {
@@ -97,12 +91,14 @@ fn push_ops(
 }
 
 // The item's value behind its name, where both are there.
+#[tactic(auto, using(crate::proofs::Plain::item_ascii))]
 fn push_found(
-    text: &mut Lines,
+    text: &mut Text,
     rows: &[ItemRow],
     values: &[Value],
     item: ItemNo,
 ) -> Result<(), NoMemory>
+    requires { AreAsciiItems rows.now }
     ensures { OnOk result (text.new ≡ text.old ++ found_text (slice_get rows.now item.0) (slice_get values.now item.0)) }
 {
     let Some(row) = rows.get(item.0 as usize) else {
@@ -115,11 +111,12 @@ fn push_found(
 }
 
 // A value behind the name of its item.
-fn push_get(text: &mut Lines, name: &Name, value: &Value) -> Result<(), NoMemory>
+fn push_get(text: &mut Text, name: &Name, value: &Value) -> Result<(), NoMemory>
+    requires { IsAscii name.now }
     ensures { OnOk result (text.new ≡ text.old ++ get_text name.now value.now) }
 {
-    text.push_bytes(b" ")?;
-    text.push_bytes(name.bytes())?;
-    text.push_bytes(b"=")?;
+    text.push_all(b" ")?;
+    text.push_all(name.bytes())?;
+    text.push_all(b"=")?;
     push_value(text, value)
 }

@@ -1,12 +1,12 @@
 // What a report is made of.
-use board_model::Standings;
+use board_model::Members;
 use letter_types::History;
 use tx_trees::Script;
 
-// A script, a history, and what this says of the script's trees.
+// A script, a history, and its serial order.
 #[derive(Clone, Copy)]
 pub(crate) struct Run<'a> {
     pub(crate) script: &'a Script,
     pub(crate) history: &'a History,
-    pub(crate) standings: &'a Standings,
+    pub(crate) serial: &'a Members,
 }

@@ -4,11 +4,11 @@ ghost use Rattle.tx_trees.specs.Valid.{magnitude};
 
 use super::*;
 use crate::values::push_balance;
-use commute_ops::{Amount, Kind, Op, SumValue, Value};
-use letter_types::{Act, Acts, Body, Entry, History, Letter, LetterId, Letters, Values};
+use commute_ops::{Amount, Kind, Op, SumValue, Value, Values};
+use letter_types::{Act, Acts, Body, Entry, History, Letter, LetterId, Letters};
 use std::alloc::Global;
 use std::test::Fail;
-use tv_base::{ActorNo, Name, NoMemory, NodeNo, Stamp, SubNo, TreeNo, Version};
+use tv_base::{ActorNo, Name, NoMemory, NodeNo, Stamp, SubNo, Text, TreeNo, Version};
 use tx_trees::{Deed, ItemRow, Refusal, Script, TreeKind, Why};
 
 const BAD_CALL: Refusal = Refusal::Why(Why::NotBuilt);
@@ -219,8 +219,8 @@ fn with_numbers(alloc: Global, numbers: &[Amount]) -> Result<Value, Fail> {
     Ok(bag)
 }
 
-fn shown(alloc: Global, value: &Value) -> Result<Lines, NoMemory> {
-    let mut text = Lines::new(alloc);
+fn shown(alloc: Global, value: &Value) -> Result<Text, NoMemory> {
+    let mut text = Text::new(alloc);
     push_balance(&mut text, Version(3), value)?;
     Ok(text)
 }

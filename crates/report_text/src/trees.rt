@@ -1,80 +1,71 @@
 // The lines of trees and of nodes.
 ghost use Rattle.std.specs.Prelude.{◌≡◌, ◌++◌, ◌+◌, OnOk, codes, length};
-ghost use Rattle.board_model.specs.Standings.{standings_of};
-ghost use Rattle.report_text.specs.Lines.{AreKept, born_line, trees_lines};
-ghost use Rattle.report_text.specs.Report.{node_line, nodes_text, trees_text, update_line};
+ghost use Rattle.std.specs.Str.{IsAscii};
+ghost use Rattle.report_text.specs.Lines.{born_line, trees_lines};
+ghost use Rattle.tx_trees.specs.AsciiNames.{AreAsciiTrees};
+ghost use Rattle.report_text.specs.Report.{node_line, nodes_text, read_line, update_line};
 
-use crate::lines::Lines;
-use crate::reads::{Worths, keep, push_read};
-use crate::run::Run;
+use crate::parts::{push_number, push_version};
 use board_model::Standing;
-use std::alloc::Global;
-use tv_base::{Name, NoMemory, Version};
+use tv_base::{Name, NoMemory, Text, Version};
 use tx_trees::{Tree, TreeKind};
 
-// The lines of the script's trees, whose standings these are.
-#[tactic(auto, using(crate::proofs::TreeLines::of_script))]
-pub(crate) fn push_trees(alloc: Global, text: &mut Lines, run: Run) -> Result<(), NoMemory>
-    requires { run.standings.now ≡ standings_of run.script.now run.history.now }
-    ensures { OnOk result (text.new ≡ text.old ++ trees_text run.entry.script.now run.entry.history.now 0 run.entry.script.now.trees) }
-{
-    push_tree_lines(alloc, text, run, run.script.trees(), run.standings.items())
-}
-
-// The lines of the trees, which have these standings.
-fn push_tree_lines(
-    alloc: Global,
-    text: &mut Lines,
-    run: Run,
+// The lines of the trees, which have these standings; the values of read trees come by tree number.
+pub(crate) fn push_trees(
+    text: &mut Text,
     trees: &[Tree],
     standings: &[Standing],
+    reads: &[Text],
 ) -> Result<(), NoMemory>
-    requires stood { run.standings.now ≡ standings_of run.script.now run.history.now }
-    requires each { length standings.now ≡ length trees.now }
-    ensures { OnOk result (text.new ≡ text.old ++ trees_lines run.entry.script.now run.entry.history.now trees.now standings.now) }
+    requires names { AreAsciiTrees trees.now }
+    requires standings { length standings.now ≡ length trees.now }
+    requires reads { length reads.now ≡ length trees.now }
+    ensures { OnOk result (text.new ≡ text.old ++ trees_lines trees.now standings.now reads.now) }
 {
-    let mut kept = Worths::new(alloc);
     for (t, tree) in trees.iter().enumerate() {
-        push_tree(alloc, text, &mut kept, run, tree, standings[t].born)?;
+        push_tree(text, tree, standings[t].born, &reads[t])?;
     }
     Ok(())
 }
 
 // The line of a tree: an update or read tree that is born has one.
 fn push_tree(
-    alloc: Global,
-    text: &mut Lines,
-    kept: &mut Worths,
-    run: Run,
+    text: &mut Text,
     tree: &Tree,
     born: Option<Version>,
+    values: &Text,
 ) -> Result<(), NoMemory>
-    requires stood { run.standings.now ≡ standings_of run.script.now run.history.now }
-    requires kept { AreKept run.script.now run.history.now kept.old }
-    ensures kept { OnOk result (AreKept run.entry.script.now run.entry.history.now kept.new) }
-    ensures text { OnOk result (text.new ≡ text.old ++ born_line run.entry.script.now run.entry.history.now tree.now tree.now.kind born) }
+    requires { IsAscii tree.now.name }
+    ensures { OnOk result (text.new ≡ text.old ++ born_line tree.now tree.now.kind born values.now) }
 {
     match (tree.kind, born) {
         (TreeKind::Update, Some(version)) => push_update(text, &tree.name, version),
-        (TreeKind::Read, Some(version)) => {
-            let place = keep(alloc, kept, run, version)?;
-            let values = kept.items()[place].values.items();
-            push_read(text, run.script.items(), values, tree, version)
-        }
+        (TreeKind::Read, Some(version)) => push_read(text, &tree.name, version, values),
         _ => Ok(()),
     }
 }
 
 // The line of an update tree of this version.
-fn push_update(text: &mut Lines, name: &Name, version: Version) -> Result<(), NoMemory>
+fn push_update(text: &mut Text, name: &Name, version: Version) -> Result<(), NoMemory>
+    requires { IsAscii name.now }
     ensures { OnOk result (text.new ≡ text.old ++ update_line name.now version.0) }
 {
-    text.push_version(b"tree ", name, version)?;
-    text.push_bytes(b"\n")
+    push_version(text, b"tree ", name, version)?;
+    text.push_all(b"\n")
+}
+
+// The line of a read tree of this version, with the text of its values.
+fn push_read(text: &mut Text, name: &Name, version: Version, values: &Text) -> Result<(), NoMemory>
+    requires { IsAscii name.now }
+    ensures { OnOk result (text.new ≡ text.old ++ read_line name.now version.0 values.now) }
+{
+    push_version(text, b"read ", name, version)?;
+    text.push_all(values.bytes())?;
+    text.push_all(b"\n")
 }
 
 // The lines of so many nodes after so many advancements.
-pub(crate) fn push_nodes(text: &mut Lines, advances: u32, nodes: u8) -> Result<(), NoMemory>
+pub(crate) fn push_nodes(text: &mut Text, advances: u32, nodes: u8) -> Result<(), NoMemory>
     ensures { OnOk result (text.new ≡ text.old ++ nodes_text advances nodes) }
 {
     for node in 0..nodes {
@@ -84,15 +75,15 @@ pub(crate) fn push_nodes(text: &mut Lines, advances: u32, nodes: u8) -> Result<(
 }
 
 // The line of a node: the version of its updates, and the version that reads are shown.
-fn push_node(text: &mut Lines, advances: u32, node: u8) -> Result<(), NoMemory>
+fn push_node(text: &mut Text, advances: u32, node: u8) -> Result<(), NoMemory>
     ensures { OnOk result (text.new ≡ text.old ++ node_line advances node) }
 {
     let shown = advances as u64;
-    text.push_bytes(b"node ")?;
-    text.push_number(node as u64)?;
-    text.push_bytes(b" update ")?;
-    text.push_number(shown + 1)?;
-    text.push_bytes(b" read ")?;
-    text.push_number(shown)?;
-    text.push_bytes(b"\n")
+    text.push_all(b"node ")?;
+    push_number(text, node as u64)?;
+    text.push_all(b" update ")?;
+    push_number(text, shown + 1)?;
+    text.push_all(b" read ")?;
+    push_number(text, shown)?;
+    text.push_all(b"\n")
 }

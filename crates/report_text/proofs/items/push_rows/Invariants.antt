@@ -1,7 +1,11 @@
 use Rattle.std.proofs.Common.{◌≡◌, ◌++◌, drop}
 use Rattle.report_text.specs.Lines.{rows_lines}
+use Rattle.tx_trees.specs.AsciiNames.{AreAsciiItems}
 use Rattle.report_text.proofs.items.push_rows.Given as goal
 
 abbrev pub invariant-loop-item : goal.invariant-loop-item
-invariant-loop-item l = l.text ++ rows_lines l.advances (drop l.item l.rows) (drop l.item l.shown) (drop l.item l.later) (drop l.item l.written)
-    ≡ l.initial.text ++ rows_lines l.advances l.rows l.shown l.later l.written
+invariant-loop-item l = record {
+  text : l.text ++ rows_lines l.advances (drop l.item l.rows) (drop l.item l.shown) (drop l.item l.later) (drop l.item l.written)
+      ≡ l.initial.text ++ rows_lines l.advances l.rows l.shown l.later l.written;
+  names : AreAsciiItems (drop l.item l.rows);
+}

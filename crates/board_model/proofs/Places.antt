@@ -1,0 +1,46 @@
+-- The places of two histories, one behind the other.
+use Rattle.std.proofs.Common.{◌≡◌, ℕ, zero, suc, ◌<◌, false, List, [], ◌∷◌, ◌++◌, refl, ap, sym, ◌∙◌, append_assoc, arith}
+use Rattle.std.specs.Prelude.{◌||◌, ◌&&◌, ◌==◌, Option, Some, None}
+use Rattle.std.specs.Option.{option_or}
+use Rattle.std.proofs.lemmas.Bool.Decides.{nat_tests}
+use Rattle.std.proofs.lemmas.List.Folds.{list_any-append}
+use Rattle.letter_types.specs.declared.entries.Entry.{Entry}
+use Rattle.board_model.specs.Histories.{Place, all_done, applies, born_as, commits, does, places_at, places_of, version_in, was_applied, was_committed, was_done}
+use Rattle.board_model.specs.Right.{finishes, has_finished}
+
+pub places_of-append : (a b : List Entry) → places_of (a ++ b) ≡ places_of a ++ places_of b
+places_of-append [] b = refl
+places_of-append (e ∷ a) b =
+    ap (λ (xs : List Place). places_at e ++ xs) (places_of-append a b)
+    ∙ sym (append_assoc (places_at e) (places_of a) (places_of b))
+
+option_or_assoc : {T : Type 0} (a b c : Option T) → option_or (option_or a b) c ≡ option_or a (option_or b c)
+option_or_assoc None b c = refl
+option_or_assoc (Some x) b c = refl
+
+pub version_in-append : (t : ℕ) (a b : List Place) → version_in t (a ++ b) ≡ option_or (version_in t a) (version_in t b)
+version_in-append t [] b = refl
+version_in-append t (x ∷ a) b =
+    ap (λ o. option_or (born_as t x.act) o) (version_in-append t a b)
+    ∙ sym (option_or_assoc (born_as t x.act) (version_in t a) (version_in t b))
+
+pub was_done-append : (t k : ℕ) (a b : List Place) → was_done t k (a ++ b) ≡ (was_done t k a || was_done t k b)
+was_done-append t k a b = list_any-append (λ (x : Place). does t k x.act) a b
+
+pub was_committed-append : (t : ℕ) (a b : List Place)
+    → was_committed t (a ++ b) ≡ (was_committed t a || was_committed t b)
+was_committed-append t a b = list_any-append (λ (x : Place). commits t x.act) a b
+
+pub was_applied-append : (t p : ℕ) (a b : List Place)
+    → was_applied t p (a ++ b) ≡ (was_applied t p a || was_applied t p b)
+was_applied-append t p a b = list_any-append (λ (x : Place). (x.node == p) && applies t x.act) a b
+
+pub has_finished-append : (a b : List Place) → has_finished (a ++ b) ≡ (has_finished a || has_finished b)
+has_finished-append a b = list_any-append (λ (x : Place). finishes x.act) a b
+
+-- one of the first n that wasn't done
+pub all_done_not : (t n k : ℕ) (xs : List Place) → k < n → was_done t k xs ≡ false → all_done t n xs ≡ false
+all_done_not t zero k xs small h = absurd (omega arith)
+all_done_not t (suc n) k xs small h =
+    let rest : k < n → was_done t k xs ≡ false → all_done t n xs ≡ false = all_done_not t n k xs in
+    grind (arith, nat_tests)

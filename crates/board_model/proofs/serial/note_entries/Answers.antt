@@ -1,0 +1,31 @@
+use Rattle.std.proofs.Common.{◌-◌, List, length, drop, refl, ap, sym, ◌∙◌, arith}
+use Rattle.letter_types.specs.declared.acts.Act.{Act}
+use Rattle.letter_types.specs.declared.entries.Entry.{Entry}
+use Rattle.board_model.specs.Closed.{Closed, closed_back}
+use Rattle.board_model.specs.Histories.{Place, places_at, places_of}
+use Rattle.board_model.specs.SerialList.{placed}
+use Rattle.board_model.specs.declared.tallies.Tally.{Tally}
+use Rattle.board_model.specs.Tallies.{noted_back}
+use Rattle.board_model.proofs.Back.{closed_back-append, entry_back, noted_back-append}
+use Rattle.board_model.proofs.serial.note_entries.Goals as goal
+
+pub loop-k-preserved : goal.loop-k-preserved
+loop-k-preserved c =
+    let e : Entry = c.index-entries-count.result in
+    let es : List Entry = c.args.entries.now in
+    let rest : List Place = places_of (drop (length es - c.loop-k.k) es) in
+    let here = entry_back es (length es) c.loop-k.k e refl (omega arith) c.index-entries-count.is in
+    record {
+      rows =
+          c.in_ok-note_acts.ensures.rows
+          ∙ ap (λ (acts : List Act). noted_back (placed e.actor.0 acts) c.loop-k.rows.items) c.items.ensures.items
+          ∙ ap (λ (rows : List Tally). noted_back (places_at e) rows) c.loop-k.invariant.rows
+          ∙ sym (noted_back-append (places_at e) rest c.args.rows.now.items)
+          ∙ sym (ap (λ (xs : List Place). noted_back xs c.args.rows.now.items) here);
+      closings =
+          c.in_ok-note_acts.ensures.closings
+          ∙ ap (λ (acts : List Act). closed_back c.args.script.now (placed e.actor.0 acts) c.loop-k.closings) c.items.ensures.items
+          ∙ ap (λ (z : Closed). closed_back c.args.script.now (places_at e) z) c.loop-k.invariant.closings
+          ∙ sym (closed_back-append c.args.script.now (places_at e) rest c.args.closings.now)
+          ∙ sym (ap (λ (xs : List Place). closed_back c.args.script.now xs c.args.closings.now) here);
+    }

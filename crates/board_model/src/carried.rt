@@ -1,0 +1,71 @@
+// What all items are worth, version after version, in one pass over the serial order.
+ghost use Rattle.std.specs.Prelude.{◌≡◌, ◌<◌, ◌≤◌, IfOk};
+ghost use Rattle.board_model.specs.Balances.{worths};
+ghost use Rattle.board_model.specs.Carried.{IsCarried};
+ghost use Rattle.board_model.specs.SerialList.{IsSerial};
+
+use crate::balances::{Balances, all_after_tree, first_values};
+use crate::serial::Members;
+use letter_types::History;
+use std::alloc::Global;
+use tv_base::{NoMemory, Version};
+use tx_trees::Script;
+
+/// What all items are worth at a version that has been reached in the serial order.
+#[derive(Drop)]
+pub struct Carried {
+    /// The version.
+    pub version: Version,
+    /// How many members of the serial order are of at most this version.
+    pub place: usize,
+    /// The values, by item number.
+    pub values: Balances,
+}
+
+/// The initial values, before all members. Only want of memory is an error.
+pub fn start(alloc: Global, script: &Script, serial: &Members) -> Result<Carried, NoMemory>
+    ensures carried { IfOk result (λ c. IsCarried script.now serial.now c) }
+    ensures version { IfOk result (λ c. c.version.0 ≡ 0) }
+{
+    let values = first_values(alloc, script)?;
+    Ok(Carried {
+        version: Version(0),
+        place: 0,
+        values,
+    })
+}
+
+/// The values carried on to this version, which isn't below the one that was reached: what each item is worth there.
+/// `serial` is the serial order of the history.
+///
+/// It goes on over the members up to this version. Only want of memory is an error.
+#[tactic(auto, using(crate::proofs::Carrying::carrying))]
+pub fn carry(
+    alloc: Global,
+    script: &Script,
+    history: &History,
+    serial: &Members,
+    carried: Carried,
+    version: Version,
+) -> Result<Carried, NoMemory>
+    requires serial { IsSerial script.now history.now serial.now }
+    requires carried { IsCarried script.now serial.now carried }
+    requires later { carried.version.0 ≤ version.0 }
+    ensures carried { IfOk result (λ c. IsCarried script.now serial.now c) }
+    ensures version { IfOk result (λ c. c.version ≡ version) }
+    ensures worths { IfOk result (λ c. c.values ≡ worths script.now history.now version.0) }
+{
+    let trees = script.trees();
+    let members = serial.items();
+    let mut place = carried.place;
+    let mut values = carried.values;
+    while place < members.len() && members[place].version.0 <= version.0 {
+        values = all_after_tree(alloc, trees, members[place].tree, values)?;
+        place += 1;
+    }
+    Ok(Carried {
+        version,
+        place,
+        values,
+    })
+}

@@ -1,0 +1,12 @@
+use Rattle.std.proofs.Common.{◌≤◌, ◌-◌, length}
+use Rattle.report_text.specs.Served.{IsServed}
+use Rattle.report_text.proofs.served.serve_to.Given as goal
+
+abbrev pub invariant-loop-now : goal.invariant-loop-now
+invariant-loop-now l = record {
+  served : IsServed l.run.script.now l.run.history.now l.run.serial.now l.asks l.reads l.now;
+  later : l.now.carried.version.0 ≤ l.version.0;
+}
+
+abbrev pub decreases-loop-now : goal.decreases-loop-now
+decreases-loop-now l = length l.list - l.now.place

@@ -1,0 +1,10 @@
+use Rattle.std.proofs.Common.{◌≡◌, ◌++◌, drop}
+use Rattle.report_text.specs.Lines.{trees_lines}
+use Rattle.tx_trees.specs.AsciiNames.{AreAsciiTrees}
+use Rattle.report_text.proofs.trees.push_trees.Given as goal
+
+abbrev pub invariant-loop-t : goal.invariant-loop-t
+invariant-loop-t l = record {
+  text : l.text ++ trees_lines (drop l.t l.trees) (drop l.t l.standings) (drop l.t l.reads) ≡ l.initial.text ++ trees_lines l.trees l.standings l.reads;
+  names : AreAsciiTrees (drop l.t l.trees);
+}

@@ -1,0 +1,200 @@
+// What read trees show, each taken when its version is reached in one pass over the serial order.
+ghost use Rattle.std.specs.Prelude.{◌≡◌, ◌++◌, ◌+◌, ◌<◌, ◌≤◌, ◌^◌, IfOk, OnOk, length, slice_index_or};
+ghost use Rattle.board_model.specs.Balances.{worths};
+ghost use Rattle.board_model.specs.SerialList.{IsSerial};
+ghost use Rattle.board_model.specs.Standings.{standings_of};
+ghost use Rattle.board_model.specs.declared.serial.Member.{Member};
+ghost use Rattle.report_text.specs.Served.{AreAsked, AreRead, AreTold, IsServed, ask_at, asks_from, read_version};
+
+use crate::reads::{Reads, no_texts, values_of};
+use crate::run::Run;
+use board_model::{Balances, Carried, Member, Members, Standing, by_version, carry, start};
+use std::alloc::Global;
+use tv_base::{NoMemory, TreeNo, Version};
+use tx_trees::{Tree, TreeKind};
+
+// How far the pass has come: how many read trees were asked, and what all items are worth there.
+#[derive(Drop)]
+pub(crate) struct Served {
+    pub(crate) place: usize,
+    pub(crate) carried: Carried,
+}
+
+// What a run shows: the values of read trees by tree number, and what all items are worth after the advancements and at
+// the next version.
+#[derive(Drop)]
+pub(crate) struct Shown {
+    pub(crate) reads: Reads,
+    pub(crate) balances: Balances,
+    pub(crate) later: Balances,
+}
+
+// What the run shows after so many advancements.
+pub(crate) fn shown_of(
+    alloc: Global,
+    run: Run,
+    standings: &[Standing],
+    advances: u32,
+) -> Result<Shown, NoMemory>
+    requires serial { IsSerial run.script.now run.history.now run.serial.now }
+    requires stood { standings.now ≡ standings_of run.script.now run.history.now }
+    ensures reads { IfOk result (λ shown. AreRead run.entry.script.now run.entry.history.now shown.reads) }
+    ensures balances { IfOk result (λ shown. shown.balances ≡ worths run.entry.script.now run.entry.history.now advances) }
+    ensures later { IfOk result (λ shown. shown.later ≡ worths run.entry.script.now run.entry.history.now (advances + 1)) }
+{
+    let trees = run.script.trees();
+    let found = asks_of(alloc, trees, standings)?;
+    let asks = by_version(alloc, found)?;
+    let mut reads = no_texts(alloc, trees)?;
+    let first = Served {
+        place: 0,
+        carried: start(alloc, run.script, run.serial)?,
+    };
+    let version = Version(advances as u64);
+    let now = serve_to(alloc, run, &asks, &mut reads, first, version)?;
+    let balances = copied(alloc, &now.carried.values)?;
+    let next = Version(version.0 + 1);
+    let after = serve_to(alloc, run, &asks, &mut reads, now, next)?;
+    let later = copied(alloc, &after.carried.values)?;
+    serve_rest(alloc, run, &asks, &mut reads, after)?;
+    Ok(Shown {
+        reads,
+        balances,
+        later,
+    })
+}
+
+// A copy of the values.
+fn copied(alloc: Global, values: &Balances) -> Result<Balances, NoMemory>
+    ensures { IfOk result (λ copy. copy ≡ values.now) }
+{
+    let mut copy = Balances::new(alloc);
+    for value in values.items() {
+        copy.push(value.copy(alloc)?)?;
+    }
+    Ok(copy)
+}
+
+// The read trees that are born, with their versions.
+fn asks_of(alloc: Global, trees: &[Tree], standings: &[Standing]) -> Result<Members, NoMemory>
+    requires each { length standings.now ≡ length trees.now }
+    requires few { length trees.now < 2 ^ 32 }
+    ensures { IfOk result (λ asks. asks ≡ asks_from 0 trees.now standings.now) }
+{
+    let mut asks = Members::new(alloc);
+    for (t, tree) in trees.iter().enumerate() {
+        let version = read_version(tree.kind, standings[t].born);
+        push_ask(&mut asks, version, t as u32)?;
+    }
+    Ok(asks)
+}
+
+// The version of a read tree. None for other trees.
+fn read_version(kind: TreeKind, born: Option<Version>) -> Option<Version>
+    ensures { result ≡ read_version kind born }
+{
+    match kind {
+        TreeKind::Read => born,
+        _ => None,
+    }
+}
+
+// Adds the tree with its version, if there is one.
+fn push_ask(asks: &mut Members, version: Option<Version>, tree: u32) -> Result<(), NoMemory>
+    ensures { OnOk result (asks.new ≡ asks.old ++ ask_at version tree) }
+{
+    if let Some(version) = version {
+        let tree = TreeNo(tree);
+        asks.push(Member { version, tree })?;
+    }
+    Ok(())
+}
+
+// The next read tree shows its values.
+fn serve_one(
+    alloc: Global,
+    run: Run,
+    asks: &Members,
+    reads: &mut Reads,
+    served: Served,
+) -> Result<Served, NoMemory>
+    requires serial { IsSerial run.script.now run.history.now run.serial.now }
+    requires asks { AreAsked run.script.now run.history.now asks.now }
+    requires served { IsServed run.script.now run.history.now run.serial.now asks.now reads.old served }
+    requires more { served.place < length asks.now }
+    ensures served { IfOk result (λ r. IsServed run.entry.script.now run.entry.history.now run.entry.serial.now asks.now reads.new r) }
+    ensures place { IfOk result (λ r. r.place ≡ served.place + 1) }
+    ensures version { IfOk result (λ r. (d : Member) → r.carried.version ≡ (slice_index_or asks.now served.place d).version) }
+{
+    let rows = run.script.items();
+    let trees = run.script.trees();
+    let ask = asks.items()[served.place];
+    let place = served.place + 1;
+    let carried = carry(
+        alloc,
+        run.script,
+        run.history,
+        run.serial,
+        served.carried,
+        ask.version,
+    )?;
+    let text = values_of(alloc, rows, trees, ask.tree, carried.values.items())?;
+    reads.put(ask.tree.0 as usize, text);
+    Ok(Served { place, carried })
+}
+
+// The read trees of at most this version show their values, and what all items are worth is carried on to it.
+fn serve_to(
+    alloc: Global,
+    run: Run,
+    asks: &Members,
+    reads: &mut Reads,
+    served: Served,
+    version: Version,
+) -> Result<Served, NoMemory>
+    requires serial { IsSerial run.script.now run.history.now run.serial.now }
+    requires asks { AreAsked run.script.now run.history.now asks.now }
+    requires served { IsServed run.script.now run.history.now run.serial.now asks.now reads.old served }
+    requires later { served.carried.version.0 ≤ version.0 }
+    ensures served { IfOk result (λ r. IsServed run.entry.script.now run.entry.history.now run.entry.serial.now asks.now reads.new r) }
+    ensures version { IfOk result (λ r. r.carried.version ≡ version) }
+    ensures worths { IfOk result (λ r. r.carried.values ≡ worths run.entry.script.now run.entry.history.now version.0) }
+{
+    let list = asks.items();
+    let mut now = served;
+    while now.place < list.len() && list[now.place].version.0 <= version.0 {
+        now = serve_one(alloc, run, asks, reads, now)?;
+    }
+    let place = now.place;
+    let carried = carry(
+        alloc,
+        run.script,
+        run.history,
+        run.serial,
+        now.carried,
+        version,
+    )?;
+    Ok(Served { place, carried })
+}
+
+// All other read trees show their values.
+fn serve_rest(
+    alloc: Global,
+    run: Run,
+    asks: &Members,
+    reads: &mut Reads,
+    served: Served,
+) -> Result<(), NoMemory>
+    requires serial { IsSerial run.script.now run.history.now run.serial.now }
+    requires asks { AreAsked run.script.now run.history.now asks.now }
+    requires served { IsServed run.script.now run.history.now run.serial.now asks.now reads.old served }
+    ensures count { OnOk result (length reads.new ≡ length run.entry.script.now.trees) }
+    ensures told { OnOk result (AreTold run.entry.script.now run.entry.history.now asks.now (length asks.now) reads.new) }
+{
+    let list = asks.items();
+    let mut now = served;
+    while now.place < list.len() {
+        now = serve_one(alloc, run, asks, reads, now)?;
+    }
+    Ok(())
+}
