@@ -1,25 +1,21 @@
 -- A history with one entry more.
-use Rattle.std.proofs.Common.{◌≡◌, ℕ, zero, suc, ◌+◌, ◌-◌, ◌<◌, ◌≤◌, List, [], ◌∷◌, ◌++◌, length, take, drop, reverse, refl, sym, ap, ◌∙◌, subst, append_assoc, arith, Some, inl, inr}
+use Rattle.std.proofs.Common.{◌≡◌, ℕ, zero, suc, ◌+◌, ◌-◌, ◌<◌, ◌≤◌, List, [], ◌∷◌, ◌++◌, length, take, drop, reverse, refl, sym, ap, ◌∙◌, subst, arith, Some, inl, inr}
 use Rattle.std.specs.Prelude.{slice_get}
 use Rattle.std.proofs.lemmas.Bool.{cases_lt}
 use Rattle.std.proofs.lemmas.List.{take-append-le, take_all, append-nil, length-append, length-reverse}
-use Rattle.letter_types.specs.declared.acts.Act.{Act}
+use Rattle.tv_base.proofs.ByPlace.{slice_get_split}
 use Rattle.letter_types.specs.declared.entries.Entry.{Entry}
 use Rattle.tx_trees.specs.ScriptData.{ScriptData}
-use Rattle.board_model.specs.Histories.{acts_of}
+use Rattle.board_model.specs.Histories.{Place, places_at, places_of}
+use Rattle.board_model.proofs.Places.{places_of-append}
 use Rattle.world_model.specs.Runs.{StepRun}
-use Rattle.world_model.proofs.Bridge.{reverse_more, slice_get_split}
-
--- the acts of two lists, one behind the other
-pub acts_append : (a b : List Entry) → acts_of (a ++ b) ≡ acts_of a ++ acts_of b
-acts_append [] b = refl
-acts_append (e ∷ a) b = rw append_assoc (ap (λ (acts : List Act). e.acts ++ acts) (acts_append a b))
+use Rattle.world_model.proofs.Bridge.{reverse_more}
 
 -- the acts of a history, with those of one entry more
-pub acts_more : (e : Entry) (past : List Entry) → acts_of (reverse (e ∷ past)) ≡ acts_of (reverse past) ++ e.acts
-acts_more e past =
-    ap acts_of (reverse_more e past) ∙ acts_append (reverse past) (e ∷ [])
-    ∙ ap (λ (acts : List Act). acts_of (reverse past) ++ acts) (append-nil e.acts)
+pub places_more : (e : Entry) (past : List Entry) → places_of (reverse (e ∷ past)) ≡ places_of (reverse past) ++ places_at e
+places_more e past =
+    ap places_of (reverse_more e past) ∙ places_of-append (reverse past) (e ∷ [])
+    ∙ ap (λ (xs : List Place). places_of (reverse past) ++ xs) (append-nil (places_at e))
 
 -- up to an earlier entry
 earlier : (e : Entry) (past : List Entry) (n : ℕ) → n ≤ length (reverse past)

@@ -1,7 +1,7 @@
 pub mod Histories
-pub mod Waits
-pub mod Firsts
-pub mod Worths
-pub mod Turns
+pub mod Versions
+pub mod Seen
+pub mod OwnDeeds
 pub mod Shown
+pub mod Waits
 pub mod Sampled

@@ -1,7 +1,7 @@
 -- The entry that takes a subtransaction's letter does it.
-use Rattle.std.proofs.Common.{◌≡◌, ℕ, ◌==◌, ◌&&◌, Bool, true, List, [], ◌∷◌, ◌++◌, reverse, refl, ◌∙◌, arith}
-use Rattle.std.specs.Prelude.{◌||◌}
+use Rattle.std.proofs.Common.{◌≡◌, ℕ, ◌==◌, ◌&&◌, true, List, [], ◌∷◌, ◌++◌, reverse, refl, ap, ◌∙◌, arith}
 use Rattle.std.proofs.lemmas.Bool.Decides.{nat_tests}
+use Rattle.std.proofs.lemmas.List.{map-append}
 use Rattle.tree_home.specs.Homes.{Gets}
 use Rattle.tv_base.specs.declared.numbers.SubNo.{SubNo}
 use Rattle.tv_base.specs.declared.numbers.TreeNo.{TreeNo}
@@ -13,47 +13,46 @@ use Rattle.letter_types.specs.declared.bodies.Notice.TheVariants.{Did as DidNoti
 use Rattle.letter_types.specs.declared.entries.Entry.{Entry}
 use Rattle.tx_trees.specs.ScriptData.{ScriptData}
 use Rattle.tx_trees.specs.Valid.{IsValid}
-use Rattle.board_model.specs.Histories.{was_done}
+use Rattle.std.proofs.lemmas.Bool.{or_right}
+use Rattle.board_model.specs.Histories.{Place, places_at, was_done}
 use Rattle.board_model.specs.Right.{IsDoneAtOnce, IsAtOnce}
-use Rattle.board_model.proofs.Acts.{was_done-append}
+use Rattle.board_model.proofs.Places.{was_done-append}
 use Rattle.world_model.specs.Runs.{StepRun}
 use Rattle.world_model.specs.Tables.{Runnable}
 use Rattle.tree_laws.proofs.Nexts.{Next, Begins, Hears, Rests, DoesRoot, DoesSub, Notes}
+use Rattle.tree_step.specs.Done.{turned_if}
 use Rattle.tree_laws.proofs.Scripts.{Sound}
 use Rattle.tree_laws.proofs.Goods.{next_of}
 use Rattle.board_laws.proofs.Histories.{one_more}
+use Rattle.board_laws.proofs.Versions.{placed}
 
 itself : (t k : ℕ) → ((t == t) && (k == k)) ≡ true
 itself t k = grind (arith, nat_tests)
 
-or_true : (a b : Bool) → b ≡ true → (a || b) ≡ true
-or_true true b is = refl
-or_true _ b is = is
-
--- an entry whose last act does a subtransaction does it
-last_did : (t : TreeNo) (k : SubNo) (values : Gets) (turned : List Act)
-    → was_done t.0 k.0 (turned ++ Did t k values ∷ []) ≡ true
-last_did t k values turned =
-    was_done-append t.0 k.0 turned (Did t k values ∷ []) ∙ or_true (was_done t.0 k.0 turned)
-    (was_done t.0 k.0 (Did t k values ∷ [])) (rw (itself t.0 k.0) refl)
+-- acts whose last one does a subtransaction
+last_did : (node : ℕ) (t : TreeNo) (k : SubNo) (values : Gets) (first : List Act)
+    → was_done t.0 k.0 (placed node (first ++ Did t k values ∷ [])) ≡ true
+last_did node t k values first =
+    ap (λ (xs : List Place). was_done t.0 k.0 xs) (map-append _ first (Did t k values ∷ []))
+    ∙ was_done-append t.0 k.0 (placed node first) (placed node (Did t k values ∷ []))
+    ∙ or_right (was_done t.0 k.0 (placed node first)) (was_done t.0 k.0 (placed node (Did t k values ∷ []))) (rw (itself t.0 k.0) refl)
 
 -- by the body and the acts
 at_once_of : (s : ScriptData) (e : Entry) (body : Body) (acts : List Act) → e.took.body ≡ body → e.acts ≡ acts
-    → IsDoneAtOnce s body acts
-    → IsDoneAtOnce s e.took.body e.acts
+    → IsDoneAtOnce s body (placed e.actor.0 acts) → IsDoneAtOnce s e.took.body (places_at e)
 at_once_of s e body acts is made done = rw is (rw made done)
 
 -- each kind of entry
-at_once : (s : ScriptData) (past : List Entry) (e : Entry) → Next s past e → IsDoneAtOnce s e.took.body e.acts
+at_once : (s : ScriptData) (past : List Entry) (e : Entry) → Next s past e → IsDoneAtOnce s e.took.body (places_at e)
 at_once s past e (Begins is at made) = at_once_of s e Go e.acts is refl tt
 at_once s past e (Hears t v answer is at lt made) = at_once_of s e (Reply t v answer) e.acts is refl tt
 at_once s past e (Rests is at sent acts) = at_once_of s e Nudge e.acts is refl tt
-at_once s past e (DoesRoot t v items values is sub at lt none work made) =
-    at_once_of s e (Root t) (Born t v ∷ Did t (record { 0 = 0 }) values ∷ []) is made.acts
-    (λ commutes. last_did t (record { 0 = 0 }) values (Born t v ∷ []))
-at_once s past e (DoesSub t k v turns items values turned is sub later from at lt work made) =
-    at_once_of s e (SubLetter t k v) (turned ++ Did t k values ∷ []) is made.acts
-    (λ commutes. last_did t k values turned)
+at_once s past e (DoesRoot t v effect is sub at lt none work made) =
+    at_once_of s e (Root t) (Born t v ∷ Did t (record { 0 = 0 }) effect.values ∷ []) is made.acts
+    (λ commutes. last_did e.actor.0 t (record { 0 = 0 }) effect.values (Born t v ∷ []))
+at_once s past e (DoesSub t k v raises effect is sub later from at lt work made) =
+    at_once_of s e (SubLetter t k v) (turned_if raises v.0 ++ Did t k effect.values ∷ []) is made.acts
+    (λ commutes. last_did e.actor.0 t k effect.values (turned_if raises v.0))
 at_once s past e (Notes t k v values is sub later from at lt misses made) =
     at_once_of s e (Done t k v (DidNotice values)) e.acts is refl tt
 
@@ -61,7 +60,7 @@ at_once s past e (Notes t k v values is sub later from at lt misses made) =
 all_at_once : (s : ScriptData) (past : List Entry) → Sound s → StepRun s past → IsAtOnce s (reverse past)
 all_at_once s [] sound run = λ n e here. absurd (cc here)
 all_at_once s (e ∷ past) sound run =
-    one_more (λ (h : List Entry) (x : Entry). IsDoneAtOnce s x.took.body x.acts) e past (all_at_once s past sound run.1)
+    one_more (λ (h : List Entry) (x : Entry). IsDoneAtOnce s x.took.body (places_at x)) e past (all_at_once s past sound run.1)
     (at_once s past e (next_of s past e sound run))
 
 -- nothing waits

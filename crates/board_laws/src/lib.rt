@@ -1,7 +1,8 @@
-//! Laws of the board: nothing waits, and every read is right.
+//! Laws of the board: nothing waits, every read is right, and nodes see what their own deeds have made.
 #![tactic(auto)]
 
 ghost use Rattle.std.specs.Prelude.{List, reverse};
+ghost use Rattle.board_laws.specs.OwnValues.{SeesOwn};
 ghost use Rattle.board_model.specs.Right.{IsAtOnce, IsRight};
 ghost use Rattle.letter_types.specs.declared.entries.Entry.{Entry};
 ghost use Rattle.tx_trees.specs.ScriptData.{ScriptData};
@@ -11,10 +12,18 @@ ghost use Rattle.world_model.specs.Tables.{Runnable};
 
 /// In every run of a valid script of update and read trees, the entry that takes a subtransaction's letter does it.
 pub fn no_step_waits()
-    ensures { (s : ScriptData) (past : List Entry) → IsValid s → Runnable s → StepRun s past → IsAtOnce s (reverse past) }
+    ensures { (s : ScriptData) (past : List Entry) → IsValid s → Runnable s → StepRun s past
+        → IsAtOnce s (reverse past) }
+{}
+
+/// In every such run a node sees of each of its items, in every version from its low version up, the initial value
+/// folded over its own Dids of that version or an older one.
+pub fn nodes_see_their_own_deeds()
+    ensures { (s : ScriptData) (past : List Entry) → IsValid s → Runnable s → StepRun s past → SeesOwn s past }
 {}
 
 /// In every such run each read shows what its items were worth at its tree's version in the history up to there.
 pub fn every_read_is_right()
-    ensures { (s : ScriptData) (past : List Entry) → IsValid s → Runnable s → StepRun s past → IsRight s (reverse past) }
+    ensures { (s : ScriptData) (past : List Entry) → IsValid s → Runnable s → StepRun s past
+        → IsRight s (reverse past) }
 {}

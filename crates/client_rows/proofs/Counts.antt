@@ -4,6 +4,7 @@ use Rattle.std.proofs.lemmas.List.{length-take, take_more}
 use Rattle.tx_trees.specs.Adding.{advances_in}
 use Rattle.tx_trees.specs.declared.parts.ScriptRow.{ScriptRow}
 use Rattle.tx_trees.specs.declared.parts.ScriptRow.TheVariants.{Tree as TreeRow, Advance as AdvanceRow, Settle as SettleRow}
+use Rattle.tx_trees.proofs.Rebuilding.{advances_in-append}
 use Rattle.client_rows.specs.Kept.{trees_in, unanswered_in}
 use Rattle.client_rows.specs.Places.{place_at}
 use Rattle.client_rows.specs.declared.places.Place.{Place}
@@ -20,12 +21,6 @@ unanswered_in-append answered [] ys = omega arith
 unanswered_in-append answered (TreeRow t ∷ xs) ys = omega (arith, unanswered_in-append answered xs ys)
 unanswered_in-append answered (AdvanceRow ∷ xs) ys = unanswered_in-append answered xs ys
 unanswered_in-append answered (SettleRow ∷ xs) ys = unanswered_in-append answered xs ys
-
-pub advances_in-append : (xs ys : List ScriptRow) → advances_in (xs ++ ys) ≡ advances_in xs + advances_in ys
-advances_in-append [] ys = omega arith
-advances_in-append (TreeRow t ∷ xs) ys = omega (arith, advances_in-append xs ys)
-advances_in-append (AdvanceRow ∷ xs) ys = omega (arith, advances_in-append xs ys)
-advances_in-append (SettleRow ∷ xs) ys = omega (arith, advances_in-append xs ys)
 
 -- there are no more trees than rows
 pub few_trees : (xs : List ScriptRow) → trees_in xs ≤ length xs

@@ -8,7 +8,7 @@ ghost use Rattle.client_rows.specs.Places.{is_over};
 use crate::letters;
 use crate::news::{ended_after, mark, news_of};
 use crate::places::{Place, furthest, is_over, with_news};
-use letter_types::{Body, Step};
+use letter_types::{Letter, Step};
 use std::alloc::Global;
 use std::marker::Model;
 use tv_base::NoMemory;
@@ -75,17 +75,18 @@ impl Client {
         self.at.next
     }
 
-    /// What the client does with a letter of this body: its row of the client's table. The script is the one that the
-    /// client was made with. It takes time for the rows that are submitted, and not for those before them. After want
-    /// of memory the client is as it was.
-    pub fn on(&mut self, alloc: Global, script: &Script, body: &Body) -> Result<Step, NoMemory>
+    /// What the client does with a letter: its row of the client's table. The script is the one that the client was
+    /// made with. It takes time for the rows that are submitted, and not for those before them. After want of memory
+    /// the client is as it was.
+    pub fn on(&mut self, alloc: Global, letter: &Letter, script: &Script) -> Result<Step, NoMemory>
         requires { IsKeptOf script.now self.old }
-        ensures row { IfOk result (λ step. made self.new.client step.given ≡ client_row script.now self.old.client body.now) }
+        ensures row { IfOk result
+            (λ step. made self.new.client step.given ≡ client_row script.now self.old.client letter.now.body) }
         ensures kept { IfOk result (λ step. step.kept ≡ step.given) }
         ensures still_kept { OnOk result (IsKeptOf script.now self.new) }
         ensures err { OnErr result (self.new ≡ self.old) }
     {
-        let Some(news) = news_of(script.trees().len(), body) else {
+        let Some(news) = news_of(script.trees().len(), &letter.body) else {
             return Ok(Step::still(alloc));
         };
         let rows = script.rows();

@@ -4,10 +4,11 @@ ghost use Rattle.client_rows.specs.Kept.{IsKeptOf};
 use super::*;
 use crate::news::News;
 use crate::places::{Place, furthest};
-use letter_types::{Act, Answer, Body, Step, Values};
+use commute_ops::Values;
+use letter_types::{Act, Answer, Body, Letter, LetterId, Step};
 use std::alloc::Global;
 use std::test::Fail;
-use tv_base::{ActorNo, Name, NoMemory, NodeNo, TreeNo, Version};
+use tv_base::{ActorNo, Name, NoMemory, NodeNo, Stamp, TreeNo, Version};
 use tx_trees::{Script, ScriptRow, TreeKind};
 
 fn add_tree(script: &mut Script, name: &[u8], node: u8) -> Result<(), Fail> {
@@ -21,12 +22,29 @@ fn add_tree(script: &mut Script, name: &[u8], node: u8) -> Result<(), Fail> {
     Ok(())
 }
 
-fn reply(alloc: Global, tree: u32) -> Body {
-    Body::Reply {
-        tree: TreeNo(tree),
-        version: Version(1),
-        answer: Answer::Whole(Values::new(alloc)),
+// A letter to the client of two nodes.
+fn letter(from: u8, body: Body) -> Letter {
+    Letter {
+        id: LetterId {
+            stamp: Stamp(0),
+            place: 0,
+        },
+        from: ActorNo(from),
+        to: ActorNo(3),
+        body,
     }
+}
+
+fn reply(alloc: Global, tree: u32) -> Letter {
+    let answer = Answer::Whole(Values::new(alloc));
+    letter(
+        0,
+        Body::Reply {
+            tree: TreeNo(tree),
+            version: Version(1),
+            answer,
+        },
+    )
 }
 
 fn two_trees(alloc: Global) -> Result<Script, Fail> {
@@ -50,7 +68,7 @@ fn at_go_trees_go_to_their_homes(rt: HostRuntime) -> Result<(), Fail> {
     let alloc = rt.alloc();
     let script = two_trees(alloc)?;
     let mut client = Client::new(alloc, &script)?;
-    let step = client.on(alloc, &script, &Body::Go)?;
+    let step = client.on(alloc, &letter(3, Body::Go), &script)?;
     assert_eq!(rt; root_at(&step, 0), Some((ActorNo(1), TreeNo(0))));
     assert_eq!(rt; root_at(&step, 1), Some((ActorNo(0), TreeNo(1))));
     assert_eq!(rt; step.given.sent.items().len(), 2);
@@ -89,7 +107,7 @@ fn at_reply(
     requires { IsKeptOf script.now client.old }
     ensures { OnOk result (IsKeptOf script.now client.new) }
 {
-    let step = client.on(alloc, script, &reply(alloc, tree))?;
+    let step = client.on(alloc, &reply(alloc, tree), script)?;
     Ok(seen_in(&step))
 }
 
@@ -98,7 +116,7 @@ fn the_last_answer_finishes_once(rt: HostRuntime) -> Result<(), Fail> {
     let alloc = rt.alloc();
     let script = two_trees(alloc)?;
     let mut client = Client::new(alloc, &script)?;
-    client.on(alloc, &script, &Body::Go)?;
+    client.on(alloc, &letter(3, Body::Go), &script)?;
     assert_eq!(rt; at_reply(alloc, &script, &mut client, 1)?, Seen::Nudge);
     assert_eq!(rt;
         at_reply(alloc, &script, &mut client, 0)?,
@@ -162,11 +180,11 @@ fn a_settle_row_holds_back_the_rows_behind_it(rt: HostRuntime) -> Result<(), Fai
     script.add_settle()?;
     add_tree(&mut script, b"t", 0)?;
     let mut client = Client::new(alloc, &script)?;
-    client.on(alloc, &script, &Body::Go)?;
+    client.on(alloc, &letter(3, Body::Go), &script)?;
     assert_eq!(rt; client.next(), 1);
     assert_eq!(rt; at_reply(alloc, &script, &mut client, 1)?, Seen::Nudge);
     assert_eq!(rt; client.next(), 1);
-    client.on(alloc, &script, &reply(alloc, 0))?;
+    client.on(alloc, &reply(alloc, 0), &script)?;
     assert_eq!(rt; client.next(), 3);
     assert!(rt; client.finished());
     Ok(())

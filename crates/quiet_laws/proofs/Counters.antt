@@ -8,8 +8,10 @@ use Rattle.tree_home.specs.declared.homes.Answered.{Answered}
 use Rattle.tree_step.specs.Children.{sub_letters, addressees}
 use Rattle.tree_step.specs.Done.{counted_root, counted_sub}
 use Rattle.tree_step.specs.Notices.{reply_letters}
+use Rattle.tree_step.proofs.Requests.{done_kept}
 use Rattle.tx_trees.specs.declared.parts.Sub.{Sub}
 use Rattle.world_model.specs.Counts.{tally, one_if, Each}
+use Rattle.world_model.proofs.Bags.{one_if_most}
 use Rattle.quiet_laws.specs.Balance.{version_is}
 
 -- 1 for a counted letter of version w to r
@@ -50,11 +52,6 @@ asked_letters v (o ∷ os) n w r are =
       one_letter v w o.to.0 r (version_is w o.body) (are.0 w),
     )
 
--- a request is no completion
-pub asked_keeps : (v : ℕ) (qs : List ℕ) (n : Numbers) → (asked_all v qs n).done ≡ n.done
-asked_keeps v [] n = refl
-asked_keeps v (q ∷ qs) n = asked_keeps v qs (asked_one v q n)
-
 child_of : (t v parent k : ℕ) (x : Sub) (xs : List Sub) → AreOf v (sub_letters t v parent (k + 1) xs) → (test : Bool)
     → (nat_lt parent k && (x.parent.0 == parent)) ≡ test → AreOf v (sub_letters t v parent k (x ∷ xs))
 child_of t v parent k x xs rest true is = rw is ((λ w. refl), rest)
@@ -81,7 +78,7 @@ root_asked v p os n w r are = omega (arith, asked_letters v os (asked_one v p n)
 pub root_completed : (v p : ℕ) (os : List Outgoing) (n : Numbers) (w r : ℕ)
     → (counted_root v p os n).done w r ≡ n.done w r + at_pair v p w r
 root_completed v p os n w r =
-    rw (asked_keeps v (addressees os) (asked_one v p n)) (more_is v p n.done w r)
+    rw (done_kept v (addressees os) (asked_one v p n)) (more_is v p n.done w r)
 
 -- the requests and completions of another subtransaction
 pub sub_asked : (v q : ℕ) (os : List Outgoing) (n : Numbers) (w r : ℕ) → AreOf v os
@@ -90,18 +87,15 @@ sub_asked v q os n w r are = asked_letters v os n w r are
 
 pub sub_completed : (v q : ℕ) (os : List Outgoing) (n : Numbers) (w r : ℕ)
     → (counted_sub v q os n).done w r ≡ n.done w r + at_pair v q w r
-sub_completed v q os n w r = rw (asked_keeps v (addressees os) n) (more_is v q n.done w r)
+sub_completed v q os n w r = rw (done_kept v (addressees os) n) (more_is v q n.done w r)
 
 -- How many counted letters there are at most.
-pub at_most_one : (b : Bool) → one_if b ≤ 1
-at_most_one true = omega arith
-at_most_one false = omega arith
 
 child_few : (t v parent k w r : ℕ) (x : Sub) (xs : List Sub)
     → tally (counted w r) (sub_letters t v parent (k + 1) xs) ≤ length xs → (test : Bool)
     → (nat_lt parent k && (x.parent.0 == parent)) ≡ test
     → tally (counted w r) (sub_letters t v parent k (x ∷ xs)) ≤ length (x ∷ xs)
-child_few t v parent k w r x xs rest true is = rw is (omega (arith, at_most_one ((v == w) && (x.node.0 == r))))
+child_few t v parent k w r x xs rest true is = rw is (omega (arith, one_if_most ((v == w) && (x.node.0 == r))))
 child_few t v parent k w r x xs rest false is = rw is (omega arith)
 
 -- no more than there are subtransactions

@@ -11,11 +11,11 @@ use Rattle.tree_step.specs.Node.{Node}
 use Rattle.tx_trees.specs.ScriptData.{ScriptData}
 use Rattle.world_model.specs.Counts.{tally, one_if}
 use Rattle.world_model.specs.Runs.{node_in}
-use Rattle.world_model.proofs.Bags.{tally_same, tally_none}
+use Rattle.world_model.proofs.Bags.{tally_same, tally_none, one_if_most}
 use Rattle.world_model.proofs.Every.{node_kept}
 use Rattle.quiet_laws.specs.Balance.{version_is, goes_from}
 use Rattle.tree_laws.proofs.Nexts.{Made}
-use Rattle.quiet_laws.proofs.Counters.{counted, at_most_one}
+use Rattle.quiet_laws.proofs.Counters.{counted}
 
 -- what an entry of actor a sends to q, if a is p
 abbrev pub sent_on : ℕ → ℕ → ℕ → ℕ → Outgoing → ℕ
@@ -145,7 +145,7 @@ done_by s past e h v p q row made at to counts (inr ne) =
     (omega (arith, own_not_to counts.own h p q ne, took_elsewhere v p q e.took (λ is. ne (sym (to ∙ at) ∙ is))))
 
 and_most : (b c : Bool) → one_if (b && c) ≤ one_if b
-and_most true c = at_most_one c
+and_most true c = one_if_most c
 and_most false c = omega arith
 
 -- at most 65 are counted
@@ -156,7 +156,7 @@ few_by : (s : ScriptData) (past : List Entry) (e : Entry) (h v p q : ℕ) (row :
 few_by s past e h v p q row own c made few (inl eq) =
     omega (arith, and_most own c, sent_by s past e h v p q row made eq)
 few_by s past e h v p q row own c made few (inr ne) =
-    omega (arith, at_most_one (own && c), sent_elsewhere e.actor.0 v p q e.sent ne)
+    omega (arith, one_if_most (own && c), sent_elsewhere e.actor.0 v p q e.sent ne)
 
 -- the entry of a node, by what its row counts
 pub by_node : (s : ScriptData) (past : List Entry) (e : Entry) (h v : ℕ) (row : Out Node) → Made s past e h row
@@ -166,7 +166,7 @@ by_node s past e h v row made at to counts = record {
   self = λ p q. one_if (counts.own && ((h == p) && (h == q)));
   asked = λ p q lt. asked_by s past e h v p q row made at counts (cases_eq h p);
   done = λ p q lt. done_by s past e h v p q row made at to counts (cases_eq h q);
-  little = λ p q. at_most_one (counts.own && ((h == p) && (h == q)));
+  little = λ p q. one_if_most (counts.own && ((h == p) && (h == q)));
   few = λ p q lt. few_by s past e h v p q row counts.own ((h == p) && (h == q)) made (counts.few q)
       (cases_eq e.actor.0 p);
 }

@@ -1,14 +1,7 @@
 -- While the child of the small run is under way, the balance has a letter in it.
 use Rattle.std.proofs.Common.{◌≡◌, refl}
-use Rattle.world_model.specs.Runs.{node_in}
 use Rattle.world_model.specs.Sample.{sample, small}
 use Rattle.quiet_laws.specs.Balance.{out}
-
-pub one_asked : (node_in small (sample small 2) 0).counts.asked 1 1 ≡ 1
-one_asked = refl
-
-pub none_done : (node_in small (sample small 2) 1).counts.done 1 0 ≡ 0
-none_done = refl
 
 pub one_under_way : out small (sample small 2) 1 0 1 ≡ 1
 one_under_way = refl

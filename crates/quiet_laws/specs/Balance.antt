@@ -1,17 +1,19 @@
 -- Requests, completions and the counted letters between them.
-use Rattle.std.specs.Prelude.{ℕ, Bool, false, ◌==◌, ◌&&◌, ◌+◌, ◌<◌, ◌≤◌, ◌≡◌, List}
+use Rattle.std.specs.Prelude.{ℕ, Bool, false, ◌==◌, ◌&&◌, ◌+◌, ◌<◌, ◌≤◌, ◌≡◌, ◌⊎◌, List}
 use Rattle.letter_types.specs.declared.bodies.Body.{Body}
-use Rattle.letter_types.specs.declared.bodies.Body.TheVariants.{Go, Sub, Done}
+use Rattle.letter_types.specs.declared.bodies.Body.TheVariants.{Go, Sub, Done, Decide, Decided}
 use Rattle.letter_types.specs.declared.entries.Entry.{Entry}
 use Rattle.letter_types.specs.declared.entries.Letter.{Letter}
 use Rattle.tx_trees.specs.ScriptData.{ScriptData}
 use Rattle.world_model.specs.Counts.{tally, one_if}
 use Rattle.world_model.specs.Runs.{waiting, node_in}
 
--- a counted letter, which is a Sub or a Done, of version v
+-- a counted letter of version v: a Sub, a Done, a Decide or a Decided
 abbrev pub version_is : ℕ → Body → Bool
 version_is v (Sub t k w) = w.0 == v
 version_is v (Done t k w notice) = w.0 == v
+version_is v (Decide t w commit) = w.0 == v
+version_is v (Decided t w) = w.0 == v
 version_is v Go = false
 version_is v _ = false
 
@@ -23,8 +25,14 @@ goes_from v p q l = one_if (version_is v l.body && ((l.from.0 == p) && (l.to.0 =
 abbrev pub out : ScriptData → List Entry → ℕ → ℕ → ℕ → ℕ
 out s past v p q = tally (goes_from v p q) (waiting s past)
 
--- in a version that both still count, the requests of p to q are the completions of q from p and the letters under way
-abbrev pub Balanced : ScriptData → List Entry → Type 0
-Balanced s past =
-    (v p q : ℕ) → p < s.nodes → q < s.nodes → (node_in s past p).turns.low.0 ≤ v → (node_in s past q).turns.low.0 ≤ v
-    → (node_in s past p).counts.asked v q ≡ (node_in s past q).counts.done v p + out s past v p q
+-- node p has collected to a version above v
+abbrev pub HasLeft : ScriptData → List Entry → ℕ → ℕ → Type 0
+HasLeft s past v p = v < (node_in s past p).turns.low.0
+
+-- in a version that both still count, the requests of p to q are the completions of q from p and the counted letters
+-- under way; in a version that one of them has left, no counted letter is under way
+pub record Balanced (s : ScriptData) (past : List Entry) : Type 0 where
+  pub equal : (v p q : ℕ) → p < s.nodes → q < s.nodes
+      → (node_in s past p).turns.low.0 ≤ v → (node_in s past q).turns.low.0 ≤ v
+      → (node_in s past p).counts.asked v q ≡ (node_in s past q).counts.done v p + out s past v p q
+  pub none : (v p q : ℕ) → p < s.nodes → q < s.nodes → HasLeft s past v p ⊎ HasLeft s past v q → out s past v p q ≡ 0

@@ -18,5 +18,6 @@ pub fn requests_are_completions_and_letters()
 
 /// In every such run no counter of a node grows past 65 for each entry.
 pub fn counts_are_small()
-    ensures { (s : ScriptData) (past : List Entry) → IsValid s → Runnable s → StepRun s past → (p : ℕ) → p < s.nodes → AllBelow (65 * length past + 1) (node_in s past p).counts }
+    ensures { (s : ScriptData) (past : List Entry) → IsValid s → Runnable s → StepRun s past → (p : ℕ) → p < s.nodes
+        → AllBelow (65 * length past + 1) (node_in s past p).counts }
 {}

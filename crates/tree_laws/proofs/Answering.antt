@@ -1,11 +1,11 @@
 -- The answers that a home sends.
-use Rattle.std.proofs.Common.{◌≡◌, ◌≢◌, ℕ, ◌<◌, length, ◌==◌, true, List, refl, ap, arith, Option, Some, None}
+use Rattle.std.proofs.Common.{◌≡◌, ◌≢◌, ℕ, ◌<◌, length, ◌==◌, true, refl, ap, arith, Option, Some, None}
 use Rattle.std.proofs.lemmas.Bool.Decides.{nat_tests}
 use Rattle.tv_base.specs.declared.numbers.TreeNo.{TreeNo}
 use Rattle.tv_base.specs.declared.numbers.SubNo.{SubNo}
-use Rattle.tree_home.specs.declared.homes.Home.{Home}
+use Rattle.tree_home.specs.declared.homes.OpenTree.{OpenTree}
 use Rattle.tree_home.specs.declared.homes.Answered.{Answered}
-use Rattle.tree_home.specs.Homes.{Gets, home_in, misses, answer_in}
+use Rattle.tree_home.specs.Homes.{answer_in, Gets, home_in, misses, OpenTrees}
 use Rattle.tree_home.proofs.Always.{answer-is}
 use Rattle.tree_step.specs.Notices.{answer_noted, reply_letters}
 use Rattle.tx_trees.specs.ScriptData.{ScriptData, client_of}
@@ -16,17 +16,17 @@ use Rattle.tree_laws.proofs.Noting.{Noting, More, Last, noting}
 use Rattle.tree_laws.proofs.Sent.{on, not_here}
 
 -- a home that misses a notice is there
-home_by : (t : TreeNo) (k : SubNo) (hs : List Home) (o : Option Home) → home_in t hs ≡ o → misses t k hs ≡ true
-    → (h : Home) × (home_in t hs ≡ Some h)
+home_by : (t : TreeNo) (k : SubNo) (hs : OpenTrees) (o : Option OpenTree) → home_in t hs ≡ o → misses t k hs ≡ true
+    → (h : OpenTree) × (home_in t hs ≡ Some h)
 home_by t k hs None is miss = absurd (let no = rw is at miss in cc no)
 home_by t k hs (Some h) is miss = (h, is)
 
 -- where a notice is missing there is a home
-pub home_there : (t : TreeNo) (k : SubNo) (hs : List Home) → misses t k hs ≡ true → (h : Home) × (home_in t hs ≡ Some h)
+pub home_there : (t : TreeNo) (k : SubNo) (hs : OpenTrees) → misses t k hs ≡ true → (h : OpenTree) × (home_in t hs ≡ Some h)
 home_there t k hs miss = home_by t k hs (home_in t hs) refl miss
 
 -- an answer names its tree
-pub answers_tree : (t : TreeNo) (k : SubNo) (values : Gets) (hs : List Home) (a : Answered) → misses t k hs ≡ true
+pub answers_tree : (t : TreeNo) (k : SubNo) (values : Gets) (hs : OpenTrees) (a : Answered) → misses t k hs ≡ true
     → answer_in t k values hs ≡ Some a → a.tree ≡ t
 answers_tree t k values hs a miss is =
     let there = home_there t k hs miss in
@@ -49,19 +49,19 @@ reply_other client u t o a is its ne =
     let none = not_here u a.tree.0 (λ eq. ne (omega (arith, same, eq))) in
     rw is (omega (arith, none))
 
-apart_by : (client u : ℕ) (t : TreeNo) (k : SubNo) (values : Gets) (hs : List Home) → t.0 ≢ u → misses t k hs ≡ true → Noting t k values hs
+apart_by : (client u : ℕ) (t : TreeNo) (k : SubNo) (values : Gets) (hs : OpenTrees) → t.0 ≢ u → misses t k hs ≡ true → Noting t k values hs
     → tally (on (replies_to u)) (reply_letters client (answer_noted t k values hs)) ≡ 0
 apart_by client u t k values hs ne miss (More is answer some) = ap (λ o. tally (on (replies_to u)) (reply_letters client o)) answer
 apart_by client u t k values hs ne miss (Last a is answer here none) =
     reply_other client u t (answer_noted t k values hs) a answer (answers_tree t k values hs a miss here) ne
 
 -- and no reply to another tree
-pub replies_apart : (client u : ℕ) (t : TreeNo) (k : SubNo) (values : Gets) (hs : List Home) → t.0 ≢ u → misses t k hs ≡ true
+pub replies_apart : (client u : ℕ) (t : TreeNo) (k : SubNo) (values : Gets) (hs : OpenTrees) → t.0 ≢ u → misses t k hs ≡ true
     → tally (on (replies_to u)) (reply_letters client (answer_noted t k values hs)) ≡ 0
 replies_apart client u t k values hs ne miss = apart_by client u t k values hs ne miss (noting t k values hs miss)
 
 -- an answer is meant for the client
-fits_by : (s : ScriptData) (from : ℕ) (t : TreeNo) (k : SubNo) (values : Gets) (hs : List Home) → t.0 < length s.trees → misses t k hs ≡ true
+fits_by : (s : ScriptData) (from : ℕ) (t : TreeNo) (k : SubNo) (values : Gets) (hs : OpenTrees) → t.0 < length s.trees → misses t k hs ≡ true
     → Noting t k values hs → SentFit s from (reply_letters (client_of s) (answer_noted t k values hs))
 fits_by s from t k values hs lt miss (More is answer some) = rw answer tt
 fits_by s from t k values hs lt miss (Last a is answer here none) =
@@ -69,6 +69,6 @@ fits_by s from t k values hs lt miss (Last a is answer here none) =
     rw answer ((λ id. (omega (arith, its, lt), refl)), tt)
 
 -- an answer is meant for the client
-pub answer_fits : (s : ScriptData) (from : ℕ) (t : TreeNo) (k : SubNo) (values : Gets) (hs : List Home) → t.0 < length s.trees
+pub answer_fits : (s : ScriptData) (from : ℕ) (t : TreeNo) (k : SubNo) (values : Gets) (hs : OpenTrees) → t.0 < length s.trees
     → misses t k hs ≡ true → SentFit s from (reply_letters (client_of s) (answer_noted t k values hs))
 answer_fits s from t k values hs lt miss = fits_by s from t k values hs lt miss (noting t k values hs miss)

@@ -1,16 +1,18 @@
 -- The client submits rows until a settle row has to wait, finishes once all is over, and finishes once.
-use Rattle.std.proofs.Common.{◌≡◌, ◌≢◌, ◌⊎◌, inl, inr, ℕ, zero, suc, ◌+◌, ◌≤◌, ◌==◌, ◌&&◌, ◌||◌, Bool, true, false, not, List, [], ◌∷◌, ◌++◌, length, take, drop, refl, sym, ap, subst, ◌∙◌, arith, append_assoc, append-nil, length-drop, Some}
-use Rattle.std.specs.Prelude.{if◌then◌else◌, slice_get}
+use Rattle.std.proofs.Common.{◌≡◌, ◌≢◌, ◌⊎◌, inl, inr, ℕ, zero, suc, ◌+◌, ◌≤◌, ◌==◌, ◌&&◌, ◌||◌, Bool, true, false, not, List, [], ◌∷◌, ◌++◌, length, get_or, set, take, drop, refl, sym, ap, subst, ◌∙◌, arith, append_assoc, append-nil, length-drop, Some}
+use Rattle.std.specs.Prelude.{if◌then◌else◌, nat_le, slice_get}
 use Rattle.std.proofs.Math.Seq.{take-add}
 use Rattle.std.proofs.lemmas.Bool.Decides.{nat_tests}
+use Rattle.std.proofs.lemmas.Bool.{and_from, and_parts}
 use Rattle.letter_types.specs.declared.acts.Act.{Act}
 use Rattle.letter_types.specs.declared.acts.Act.TheVariants.{Finished}
 use Rattle.letter_types.specs.declared.entries.Entry.{Entry}
 use Rattle.letter_types.specs.declared.entries.Outgoing.{Outgoing}
+use Rattle.tx_trees.specs.Adding.{advances_in}
 use Rattle.tx_trees.specs.ScriptData.{ScriptData, client_of}
 use Rattle.tx_trees.specs.declared.parts.ScriptRow.{ScriptRow}
 use Rattle.tx_trees.specs.declared.parts.ScriptRow.TheVariants.{Tree as TreeRow, Advance as AdvanceRow, Settle as SettleRow}
-use Rattle.client_rows.specs.Client.{Client, have_ended, submitted, next_after, finishes, submit, with_answer, nudge}
+use Rattle.client_rows.specs.Client.{Client, all_answered, have_ended, submitted, next_after, finishes, submit, with_answer, nudge}
 use Rattle.world_model.specs.Counts.{tally, one_if}
 use Rattle.world_model.specs.Runs.{client_in, MayFollow, StepRun}
 use Rattle.tree_laws.specs.Dids.{is_go, goes}
@@ -102,6 +104,62 @@ pub finishes_once : (s : ScriptData) (c : Client) (first : List Outgoing)
 finishes_once s c first =
     finishes_by c.finished (finishes s (next_after s c) c) (next_after s c == length s.rows) (have_ended c s.rows) refl
 
+-- all rows are submitted, and all that they asked for has ended
+pub record IsOver (s : ScriptData) (c : Client) : Type 0 where
+  pub all : c.next ≡ length s.rows
+  pub ended : have_ended c s.rows ≡ true
+
+none_submitted : (c : Client) (before rows : List ScriptRow) → length rows ≡ 0 → submitted c before rows ≡ 0
+none_submitted c before [] none = refl
+none_submitted c before (row ∷ rows) none = absurd (omega arith)
+
+over_parts : (next n : ℕ) (ended : Bool) → ((next == n) && (ended && true)) ≡ true → (next ≡ n) × (ended ≡ true)
+over_parts next n ended is = (grind (arith, nat_tests), grind (arith, nat_tests))
+
+over_by : (s : ScriptData) (c : Client) (first : List Outgoing) (was : Bool) → c.finished ≡ was → (c.finished ≡ true → IsOver s c)
+    → (submit s c first).state.finished ≡ true → IsOver s (submit s c first).state
+over_by s c first true is over now =
+    let before = over is in
+    let none = none_submitted c (take c.next s.rows) (drop c.next s.rows) (omega (arith, length-drop c.next s.rows, before.all)) in
+    record { all = omega (arith, none, before.all); ended = before.ended }
+over_by s c first false is over now =
+    let test : ((next_after s c == length s.rows) && (have_ended c s.rows && true)) ≡ true = rw is at now in
+    let parts = over_parts (next_after s c) (length s.rows) (have_ended c s.rows) test in
+    record { all = parts.0; ended = parts.1 }
+
+-- where the client has finished, all is over
+pub over_then : (s : ScriptData) (c : Client) (first : List Outgoing) → (c.finished ≡ true → IsOver s c)
+    → (submit s c first).state.finished ≡ true → IsOver s (submit s c first).state
+over_then s c first over now = over_by s c first c.finished refl over now
+
+-- an answer more
+answer_grows : (answered : List Bool) (t u : ℕ) → get_or answered u false ≡ true → get_or (set answered t true) u false ≡ true
+answer_grows [] t u is = absurd (cc is)
+answer_grows (x ∷ answered) zero zero is = refl
+answer_grows (x ∷ answered) zero (suc u) is = is
+answer_grows (x ∷ answered) (suc t) zero is = is
+answer_grows (x ∷ answered) (suc t) (suc u) is = answer_grows answered t u is
+
+answers_grow : (answered : List Bool) (t : ℕ) (rows : List ScriptRow) → all_answered answered rows ≡ true
+    → all_answered (set answered t true) rows ≡ true
+answers_grow answered t [] is = refl
+answers_grow answered t (TreeRow u ∷ rows) is =
+    let parts = and_parts (get_or answered u.0 false) (all_answered answered rows) is in
+    and_from (get_or (set answered t true) u.0 false) (all_answered (set answered t true) rows) (answer_grows answered t u.0 parts.0)
+    (answers_grow answered t rows parts.1)
+answers_grow answered t (AdvanceRow ∷ rows) is = answers_grow answered t rows is
+answers_grow answered t (SettleRow ∷ rows) is = answers_grow answered t rows is
+
+-- what is over stays over with an answer more
+answer_over : (s : ScriptData) (c : Client) (t : ℕ) → IsOver s c → IsOver s (with_answer t c)
+answer_over s c t over =
+    let parts = and_parts (all_answered c.answered s.rows) (nat_le (advances_in s.rows) c.ended) over.ended in
+    record {
+      all = over.all;
+      ended = and_from (all_answered (set c.answered t true) s.rows) (nat_le (advances_in s.rows) c.ended)
+          (answers_grow c.answered t s.rows parts.0) parts.1;
+    }
+
 -- The client in a run.
 
 -- how often the client has finished in a past
@@ -109,19 +167,20 @@ abbrev pub finish_count : List Entry → ℕ
 finish_count [] = 0
 finish_count (e ∷ past) = tally is_finish e.acts + finish_count past
 
--- once Go is taken the client has stopped, and has finished if all is over; and it finishes once
+-- once Go is taken the client has stopped, and has finished if all is over; it finishes once, and then all is over
 pub record AtRest (s : ScriptData) (past : List Entry) : Type 0 where
   pub most : (client_in s past).next ≤ length s.rows
   pub stops : goes s past ≡ 0 → IsStopped s (client_in s past)
   pub finishes : goes s past ≡ 0 → (client_in s past).next ≡ length s.rows → have_ended (client_in s past) s.rows ≡ true
       → (client_in s past).finished ≡ true
   pub once : finish_count past ≡ one_if (client_in s past).finished
+  pub over : (client_in s past).finished ≡ true → IsOver s (client_in s past)
 
 -- what the client submits, with what is answered given
 submits_rest : (s : ScriptData) (past : List Entry) (e : Entry) (c : Client) (first : List Outgoing) → AtRest s past
-    → c.next ≡ (client_in s past).next → c.finished ≡ (client_in s past).finished → MadeByClient s past e (submit s c first)
-    → AtRest s (e ∷ past)
-submits_rest s past e c first rest next finished made =
+    → c.next ≡ (client_in s past).next → c.finished ≡ (client_in s past).finished → (c.finished ≡ true → IsOver s c)
+    → MadeByClient s past e (submit s c first) → AtRest s (e ∷ past)
+submits_rest s past e c first rest next finished over made =
     let le : c.next ≤ length s.rows = omega (arith, rest.most, next) in
     let stop : IsStopped s (client_in s (e ∷ past)) = subst (λ (x : Client). IsStopped s x) (sym made.state) (stopped s c first le) in
     let acts : tally is_finish e.acts ≡ tally is_finish (submit s c first).acts = ap (λ (xs : List Act). tally is_finish xs) made.acts in
@@ -135,6 +194,7 @@ submits_rest s past e c first rest next finished made =
           let ended : have_ended c s.rows ≡ true = sym (ap (λ (x : Client). have_ended x s.rows) made.state) ∙ over in
           ap (λ (x : Client). x.finished) made.state ∙ finished_then s c first at_end ended;
       once = omega (arith, acts, before, after, finishes_once s c first, rest.once);
+      over = subst (λ (x : Client). x.finished ≡ true → IsOver s x) (sym made.state) (over_then s c first over);
     }
 
 -- an entry of another actor
@@ -150,20 +210,22 @@ kept_rest s past e m rest ne other none =
       finishes = λ gone.
           subst (λ (x : Client). x.next ≡ length s.rows → have_ended x s.rows ≡ true → x.finished ≡ true) (sym kept) (rest.finishes (before gone));
       once = omega (arith, none, same, rest.once);
+      over = subst (λ (x : Client). x.finished ≡ true → IsOver s x) (sym kept) rest.over;
     }
 
 -- any entry
 next_rest : (s : ScriptData) (past : List Entry) (e : Entry) → MayFollow s past e → AtRest s past → Next s past e → AtRest s (e ∷ past)
-next_rest s past e m rest (Begins is at made) = submits_rest s past e (client_in s past) [] rest refl refl made
+next_rest s past e m rest (Begins is at made) = submits_rest s past e (client_in s past) [] rest refl refl rest.over made
 next_rest s past e m rest (Hears t v answer is at lt made) =
-    submits_rest s past e (with_answer t.0 (client_in s past)) (nudge s ∷ []) rest refl refl made
+    submits_rest s past e (with_answer t.0 (client_in s past)) (nudge s ∷ []) rest refl refl
+    (λ was. answer_over s (client_in s past) t.0 (rest.over was)) made
 next_rest s past e m rest (Rests is at sent acts) =
     kept_rest s past e m rest (omega (arith, at)) (ap is_go is) (ap (λ (xs : List Act). tally is_finish xs) acts)
-next_rest s past e m rest (DoesRoot t v items values is sub at lt new work made) =
+next_rest s past e m rest (DoesRoot t v effect is sub at lt new work made) =
     kept_rest s past e m rest (omega (arith, at, lt)) (ap is_go is) (ap (λ (xs : List Act). tally is_finish xs) made.acts)
-next_rest s past e m rest (DoesSub t k v turns items values turned is sub later from at lt work made) =
+next_rest s past e m rest (DoesSub t k v raises effect is sub later from at lt work made) =
     kept_rest s past e m rest (omega (arith, at, lt)) (ap is_go is)
-    (sub_acts is_finish s past e t k v turns items values turned work made (λ w. refl))
+    (sub_acts is_finish s past e t k v raises effect work made (λ w. refl))
 next_rest s past e m rest (Notes t k v values is sub later from at lt misses made) =
     kept_rest s past e m rest (omega (arith, at, lt)) (ap is_go is) (ap (λ (xs : List Act). tally is_finish xs) made.acts)
 
@@ -174,5 +236,6 @@ at_rest s [] sound run = record {
   stops = λ gone. absurd (omega (arith, gone));
   finishes = λ gone all over. absurd (omega (arith, gone));
   once = refl;
+  over = λ is. absurd (cc is);
 }
 at_rest s (e ∷ past) sound run = next_rest s past e run.0 (at_rest s past sound run.1) (next_of s past e sound run)

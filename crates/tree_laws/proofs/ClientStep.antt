@@ -2,7 +2,6 @@
 use Rattle.std.proofs.Common.{◌≡◌, ◌≢◌, ◌⊎◌, inl, inr, ℕ, ◌+◌, ◌<◌, ◌≤◌, ◌==◌, Bool, true, false, List, [], ◌∷◌, length, get_or, set, take, drop, refl, sym, ap, subst, ◌∙◌, arith}
 use Rattle.std.specs.Prelude.{if◌then◌else◌, nat_lt}
 use Rattle.std.proofs.lemmas.Bool.{cases_eq}
-use Rattle.std.proofs.lemmas.Bool.Decides.{nat_tests}
 use Rattle.std.proofs.lemmas.List.{length-set, length-replicate, get_or-set_same, get_or-set_other}
 use Rattle.tv_base.specs.declared.numbers.TreeNo.{TreeNo}
 use Rattle.tv_base.specs.declared.numbers.Version.{Version}
@@ -12,16 +11,16 @@ use Rattle.letter_types.specs.declared.bodies.Body.TheVariants.{Go, Root, Reply,
 use Rattle.letter_types.specs.declared.entries.Entry.{Entry}
 use Rattle.letter_types.specs.declared.entries.LetterId.{LetterId}
 use Rattle.letter_types.specs.declared.entries.Outgoing.{Outgoing}
-use Rattle.tree_home.specs.Homes.{IsAscending, home_in}
+use Rattle.tree_home.specs.Homes.{home_in}
 use Rattle.tree_step.specs.Node.{Node}
 use Rattle.letter_types.specs.Steps.{still}
 use Rattle.tx_trees.specs.ScriptData.{ScriptData, client_of, home_of}
 use Rattle.tx_trees.specs.declared.parts.ScriptRow.{ScriptRow}
 use Rattle.client_rows.specs.Client.{Client, client_row, next_after, finishes, submitted, rows_letters, submit, with_answer, nudge}
 use Rattle.world_model.specs.Counts.{tally, one_if}
-use Rattle.world_model.specs.Runs.{client_in, node_in, MayFollow}
-use Rattle.world_model.proofs.Bags.{tally-append}
-use Rattle.world_model.proofs.Every.{each_append, node_kept}
+use Rattle.world_model.specs.Runs.{client_in, MayFollow}
+use Rattle.world_model.proofs.Bags.{tally-append, one_if_same}
+use Rattle.world_model.proofs.Every.{coordinator_kept, each_append, node_kept}
 use Rattle.tree_laws.specs.Dids.{asks, tells_done, replies_to, replies, answers, is_did, is_born, is_row_of, rooted}
 use Rattle.tree_laws.proofs.Fits.{Fit, SentFit, rows_fit, each_take, each_drop, roots_fit, RowFits}
 use Rattle.tree_laws.proofs.Flows.{flow, letters_next, submit_none, finish_none}
@@ -107,12 +106,6 @@ submits_fit s past e c first sound sub =
     (each_append (λ (o : Outgoing). (i : LetterId) → Fit s e.actor.0 o.to.0 o.body) first (rows_letters s (new_rows s c)) sub.fits
     (roots_fit s e.actor.0 (new_rows s c) rows))
 
-submits_order : (s : ScriptData) (past : List Entry) (e : Entry) (c : Client) (first : List Outgoing) → Good s past → Submits s past e c first
-    → (p : ℕ) → p < s.nodes → IsAscending (node_in s (e ∷ past) p).homes
-submits_order s past e c first good sub p lt =
-    let at = sub.at in
-    subst (λ (n : Node). IsAscending n.homes) (sym (node_kept s past e p (omega arith))) (good.order p lt)
-
 -- whatever the client hears, if its answers are right
 submits_good : (s : ScriptData) (past : List Entry) (e : Entry) (c : Client) (first : List Outgoing) → Sound s → Good s past → MayFollow s past e
     → Submits s past e c first
@@ -127,7 +120,8 @@ submits_good s past e c first sound good m sub heard =
       born = idle_born s past e good idle;
       stages = λ t lt. stays s past e t m (submits_apart s past e c first sound sub t lt) (good.stages t lt);
       heard = heard;
-      order = submits_order s past e c first good sub;
+      turns = λ p lt. let at = sub.at in ap (λ (n : Node). n.turns) (node_kept s past e p (omega arith)) ∙ good.turns p lt;
+      coordinator = let at = sub.at in coordinator_kept s past e (omega arith) ∙ good.coordinator;
       items = idle_items s past e good idle;
     }
 
@@ -173,7 +167,7 @@ answered_places s (e ∷ past) = places_by s past e (e.actor.0 == client_of s) (
 
 answers_most : (s : ScriptData) (past : List Entry) (t : ℕ) → TreeAt s past t → answers past t ≤ 1
 answers_most s past t (Unborn none home quiet notes) = omega arith
-answers_most s past t (Gathers h one home is long some quiet notes) = omega arith
+answers_most s past t (Gathers h one home long some quiet notes) = omega arith
 answers_most s past t (Answered home one notes all) = omega arith
 
 heard_one : (answered : List Bool) (t a b : ℕ) → t < length answered → a ≤ 1 → a ≡ b + 1 + one_if (get_or answered t false)
@@ -184,16 +178,13 @@ heard_other : (answered : List Bool) (t u a b : ℕ) → u ≢ t → a ≡ b + o
     → a ≡ b + one_if (get_or (set answered t true) u false)
 heard_other answered t u a b ne is = rw (get_or-set_other answered t u true false ne) is
 
-heard_here : (t : ℕ) → one_if (t == t) ≡ 1
-heard_here t = grind (arith, nat_tests)
-
 hears_by : (s : ScriptData) (past : List Entry) (e : Entry) (t : ℕ) → Good s past → MayFollow s past e → t < length s.trees
     → ((u : ℕ) → replies_to u e.took.body ≡ one_if (t == u)) → ((u : ℕ) → tally (on (replies_to u)) e.sent ≡ 0)
     → (u : ℕ) → u < length s.trees → (u ≡ t) ⊎ (u ≢ t)
     → answers (e ∷ past) u ≡ replies s (e ∷ past) u + one_if (get_or (set (client_in s past).answered t true) u false)
 hears_by s past e t good m lt took sent u ut (inl is) =
     let before : answers (e ∷ past) t ≡ replies s (e ∷ past) t + 1 + one_if (get_or (client_in s past).answered t false) =
-    omega (arith, good.heard t lt, flow (replies_to t) s past e m, took t, heard_here t, sent t) in
+    omega (arith, good.heard t lt, flow (replies_to t) s past e m, took t, one_if_same t, sent t) in
     let most : answers (e ∷ past) t ≤ 1 = omega (arith, answers_most s past t (good.stages t lt), sent t) in
     let place : t < length (client_in s past).answered = omega (arith, answered_places s past) in
     subst (λ (w : ℕ). answers (e ∷ past) w ≡ replies s (e ∷ past) w + one_if (get_or (set (client_in s past).answered t true) w false)) (sym is)

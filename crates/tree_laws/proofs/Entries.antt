@@ -1,5 +1,5 @@
 -- How many entries a run to its end has.
-use Rattle.std.proofs.Common.{◌≡◌, ℕ, suc, ◌+◌, ◌*◌, ◌<◌, ◌≤◌, ◌==◌, ◌&&◌, List, [], ◌∷◌, length, take, drop, refl, sym, ap, subst, ◌∙◌, arith, Some}
+use Rattle.std.proofs.Common.{◌≡◌, ℕ, suc, ◌+◌, ◌*◌, ◌<◌, ◌≤◌, ◌==◌, ◌&&◌, List, [], ◌∷◌, length, reverse, take, drop, refl, sym, ap, subst, ◌∙◌, arith, Some}
 use Rattle.std.specs.Prelude.{slice_get}
 use Rattle.std.specs.List.{AllByRecursion}
 use Rattle.std.proofs.lemmas.Bool.Decides.{nat_tests}
@@ -10,7 +10,8 @@ use Rattle.letter_types.specs.declared.entries.Entry.{Entry}
 use Rattle.letter_types.specs.declared.entries.Letter.{Letter}
 use Rattle.letter_types.specs.declared.entries.Outgoing.{Outgoing}
 use Rattle.client_rows.specs.Client.{Client, submitted, rows_letters, next_after, finishes, submit, with_answer, nudge}
-use Rattle.tx_trees.specs.Adding.{all_subs}
+use Rattle.tx_trees.specs.Adding.{advances_in, all_subs}
+use Rattle.tx_trees.specs.declared.parts.ScriptRow.{ScriptRow}
 use Rattle.tx_trees.specs.ScriptData.{ScriptData, subs_at, home_of, client_of}
 use Rattle.tx_trees.specs.Valid.{IsValid, IsTree}
 use Rattle.tx_trees.specs.declared.parts.ItemRow.{ItemRow}
@@ -21,10 +22,13 @@ use Rattle.world_model.specs.Tables.{Runnable}
 use Rattle.world_model.proofs.Bags.{tally-append}
 use Rattle.world_model.proofs.Every.{each_taken}
 use Rattle.tree_laws.specs.Dids.{asks, is_did, dids, replies_to, replies, answers}
-use Rattle.tree_laws.specs.Entries.{entries_of}
+use Rattle.std.proofs.Math.Seq.{take-length}
+use Rattle.advance_coord.specs.Coordinator.{Coordinator}
+use Rattle.world_model.proofs.Bridge.{coordinator_after}
+use Rattle.tree_laws.specs.Entries.{entries_of, rounds_in}
 use Rattle.tree_laws.proofs.Goods.{good_run, next_of}
-use Rattle.tree_laws.proofs.Doing.{root_answer, root_sends, sub_sends, sub_acts}
-use Rattle.tree_laws.proofs.Finishes.{none_left, all_done}
+use Rattle.tree_laws.proofs.Doing.{root_answer, root_sends, sub_sends, sub_acts, no_birth}
+use Rattle.tree_laws.proofs.Finishes.{none_left, all_done, no_advances}
 use Rattle.tree_laws.proofs.Fits.{Fit}
 use Rattle.tree_laws.proofs.Flows.{flow, finish_none}
 use Rattle.tree_laws.proofs.Nexts.{Next, Begins, Hears, Rests, DoesRoot, DoesSub, Notes}
@@ -88,13 +92,13 @@ balanced s past e (Hears t v answer is at lt made) =
     let sent = submit_other s (with_answer t.0 (client_in s past)) (nudge s ∷ []) in
     balanced_by e (Reply t v answer) 1 is (ap (λ os. tally (on is_other) os) made.sent ∙ sent) (omega arith)
 balanced s past e (Rests is at sent acts) = balanced_by e Nudge 0 is (ap (λ os. tally (on is_other) os) sent) (omega arith)
-balanced s past e (DoesRoot t v items values is sub at lt new work made) =
+balanced s past e (DoesRoot t v effect is sub at lt new work made) =
     let children = subs_none is_other t.0 v.0 0 0 (subs_at s t.0) (λ u k w. refl) in
-    let answer = replies_none is_other (client_of s) (root_answer s t v values (home_of s t.0) past) (λ u w a. refl) in
-    balanced_by e (Root t) 0 is (omega (arith, root_sends is_other s past e t v items values made, children, answer)) (omega arith)
-balanced s past e (DoesSub t k v turns items values turned is sub later from at lt work made) =
+    let answer = replies_none is_other (client_of s) (root_answer s t v effect.values (home_of s t.0) past) (λ u w a. refl) in
+    balanced_by e (Root t) 0 is (omega (arith, root_sends is_other s past e t v effect made, children, answer)) (omega arith)
+balanced s past e (DoesSub t k v raises effect is sub later from at lt work made) =
     let children = subs_none is_other t.0 v.0 k.0 0 (subs_at s t.0) (λ u j w. refl) in
-    balanced_by e (SubLetter t k v) 1 is (omega (arith, sub_sends is_other s past e t k v turns items values turned made, children)) (omega arith)
+    balanced_by e (SubLetter t k v) 1 is (omega (arith, sub_sends is_other s past e t k v raises effect made, children)) (omega arith)
 balanced s past e (Notes t k v values is sub later from at lt misses made) =
     let answer = replies_none is_other (client_of s) _ (λ u w a. refl) in
     balanced_by e (Done t k v (DidNotice values)) 0 is (ap (λ os. tally (on is_other) os) made.sent ∙ answer) (omega arith)
@@ -127,15 +131,12 @@ taken_same f g s (e ∷ past) sound run same =
 root_here : (u t : ℕ) → one_if ((u == t) && (0 == 0)) ≡ one_if (u == t)
 root_here u t = grind (arith, nat_tests)
 
-no_root_here : (u t j : ℕ) → 0 < j → one_if ((u == t) && (j == 0)) ≡ 0
-no_root_here u t j lt = grind (arith, nat_tests)
-
 -- a letter asks for the root of one tree, if it asks for a root
 root_by_tree : (s : ScriptData) (from to : ℕ) (b : Body) → Fit s from to b → is_root b ≡ over 0 (λ t. asks t 0 b) s.trees
 root_by_tree s from to (Root u) fit =
     sym (over_same 0 (λ t. asks t 0 (Root u)) (λ t. one_if (u.0 == t)) s.trees (λ t le lt. root_here u.0 t) ∙ over_hit 0 u.0 s.trees (omega arith) (omega (arith, fit.0)))
 root_by_tree s from to (SubLetter u j v) fit =
-    sym (over_none 0 (λ t. asks t 0 (SubLetter u j v)) s.trees (λ t. no_root_here u.0 t j.0 fit.2))
+    sym (over_none 0 (λ t. asks t 0 (SubLetter u j v)) s.trees (λ t. no_birth u.0 t j.0 fit.2))
 root_by_tree s from to (Done u j v notice) fit = sym (over_none 0 (λ t. 0) s.trees (λ t. refl))
 root_by_tree s from to (Reply u v answer) fit = sym (over_none 0 (λ t. 0) s.trees (λ t. refl))
 root_by_tree s from to Go fit = sym (over_none 0 (λ t. 0) s.trees (λ t. refl))
@@ -187,10 +188,10 @@ does_asked s past e t k (Hears u v answer is at lt made) =
     let c = with_answer u.0 (client_in s past) in
     omega (arith, ap (asks t k) is, ap (λ acts. tally (is_did t k) acts) made.acts, finish_none (is_did t k) (finishes s (next_after s c) c) refl)
 does_asked s past e t k (Rests is at sent acts) = omega (arith, ap (asks t k) is, ap (λ acts. tally (is_did t k) acts) acts)
-does_asked s past e t k (DoesRoot u v items values is sub at lt new work made) =
+does_asked s past e t k (DoesRoot u v effect is sub at lt new work made) =
     omega (arith, ap (asks t k) is, ap (λ acts. tally (is_did t k) acts) made.acts)
-does_asked s past e t k (DoesSub u j v turns items values turned is sub later from at lt work made) =
-    omega (arith, ap (asks t k) is, sub_acts (is_did t k) s past e u j v turns items values turned work made (λ w. refl))
+does_asked s past e t k (DoesSub u j v raises effect is sub later from at lt work made) =
+    omega (arith, ap (asks t k) is, sub_acts (is_did t k) s past e u j v raises effect work made (λ w. refl))
 does_asked s past e t k (Notes u j v values is sub later from at lt misses made) =
     omega (arith, ap (asks t k) is, ap (λ acts. tally (is_did t k) acts) made.acts)
 
@@ -264,10 +265,14 @@ some_subs nodes items (t ∷ ts) all = omega (arith, all.0.root, some_subs nodes
 
 -- The law.
 pub entries_counted : (s : ScriptData) (past : List Entry) → IsValid s → Runnable s → StepRun s past → waiting s past ≡ []
-    → length past ≡ entries_of s
+    → length past ≡ entries_of s (rounds_in s (reverse past))
 entries_counted s past valid runnable run empty =
     let sound : Sound s = record { valid = valid; runnable = runnable } in
-    omega (
+    let rounds : rounds_in s (reverse past) ≡ 0 =
+    ap (λ (c : Coordinator). c.round) (coordinator_after s past ∙ (good_run s past sound run).coordinator) in
+    let none : advances_in s.rows ≡ 0 =
+    sym (ap (λ (rows : List ScriptRow). advances_in rows) (take-length s.rows)) ∙ no_advances (length s.rows) s.rows runnable.rows in
+    rw (rounds, none) (omega (
       arith,
       counted s past sound run,
       none_left (λ (l : Letter). is_other l.body) s past empty,
@@ -275,4 +280,4 @@ entries_counted s past valid runnable run empty =
       works_taken s past sound run empty,
       replies_taken s past sound run empty,
       some_subs s.nodes s.items s.trees valid.trees,
-    )
+    ))

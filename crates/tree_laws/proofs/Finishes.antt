@@ -1,13 +1,14 @@
 -- Where no letter is under way any more, every tree is done and answered, and the client has finished.
-use Rattle.std.proofs.Common.{◌≡◌, ◌⊎◌, inl, inr, ℕ, zero, suc, ◌+◌, ◌<◌, ◌≤◌, ◌==◌, ◌&&◌, Bool, true, false, List, [], ◌∷◌, length, take, reverse, refl, sym, ap, subst, ◌∙◌, arith, Option, Some, None}
-use Rattle.std.specs.Prelude.{get_or, slice_get, nat_le}
+use Rattle.std.proofs.Common.{◌≡◌, ◌⊎◌, inl, inr, ℕ, zero, suc, ◌+◌, ◌<◌, ◌≤◌, ◌==◌, Bool, true, false, List, [], ◌∷◌, length, take, reverse, refl, sym, ap, subst, ◌∙◌, arith, Option, Some, None}
+use Rattle.std.specs.Prelude.{IsTrue, get_or, slice_get, nat_le}
 use Rattle.std.specs.List.{AllByRecursion}
 use Rattle.std.proofs.lemmas.Bool.Decides.{nat_tests}
 use Rattle.std.proofs.Math.Seq.{take-length}
+use Rattle.std.proofs.lemmas.Bool.{and_from, and_parts}
 use Rattle.letter_types.specs.declared.entries.Entry.{Entry}
 use Rattle.letter_types.specs.declared.entries.Letter.{Letter}
-use Rattle.board_model.specs.Histories.{acts_of}
-use Rattle.board_model.specs.Right.{HasFinished}
+use Rattle.board_model.specs.Histories.{Place, places_of}
+use Rattle.board_model.specs.Right.{HasFinished, finishes}
 use Rattle.client_rows.specs.Client.{Client, all_answered, have_ended}
 use Rattle.tree_home.specs.Homes.{Gets, missing_count}
 use Rattle.tx_trees.specs.Adding.{advances_in}
@@ -15,20 +16,20 @@ use Rattle.tx_trees.specs.ScriptData.{ScriptData}
 use Rattle.tx_trees.specs.Valid.{IsValid, NamesInOrder}
 use Rattle.tx_trees.specs.declared.parts.ScriptRow.{ScriptRow}
 use Rattle.tx_trees.specs.declared.parts.ScriptRow.TheVariants.{Tree as TreeRow, Advance as AdvanceRow, Settle as SettleRow}
+use Rattle.tx_trees.proofs.Rebuilding.{names_end}
 use Rattle.world_model.specs.Counts.{tally, one_if}
 use Rattle.world_model.specs.Runs.{client_in, waiting, StepRun}
-use Rattle.world_model.specs.Tables.{Runnable}
+use Rattle.world_model.specs.Tables.{Runnable, is_run_row}
+use Rattle.world_model.proofs.Bags.{one_if_most, one_if_same}
 use Rattle.tree_laws.specs.Dids.{is_go, dids, asks, tells_done, replies_to, answers, is_row_of, rooted}
 use Rattle.tree_laws.specs.Ends.{is_finish, finishes_in}
-use Rattle.tree_laws.proofs.Acts.{acts_more, finished_of}
-use Rattle.tree_laws.proofs.Fits.{names_end}
+use Rattle.tree_laws.proofs.Acts.{acts_more, any_counted, counted_any, finish_marks, of_act}
 use Rattle.tree_laws.proofs.Goods.{good_run}
 use Rattle.tree_laws.proofs.Client.{IsStopped, at_rest, finish_count}
 use Rattle.tree_laws.proofs.Counts.{zero_or, parent_at}
 use Rattle.tree_laws.proofs.Sent.{rooted_once, tally_take_le}
 use Rattle.tree_laws.proofs.Good.{Good, TreeAt, Unborn, Gathers, Answered, is_noted}
 use Rattle.tree_laws.proofs.Scripts.{Sound, SubAt, sub_there, is_sub}
-use Rattle.tx_trees.specs.Built.{IsBuiltRow}
 
 -- What is done where no letter is under way.
 
@@ -66,7 +67,7 @@ pub record TreeDone (s : ScriptData) (past : List Entry) (t : ℕ) : Type 0 wher
 tree_done_by : (s : ScriptData) (past : List Entry) (t : ℕ) → Sound s → Good s past → waiting s past ≡ [] → t < length s.trees
     → 1 ≤ dids past t 0 → TreeAt s past t → TreeDone s past t
 tree_done_by s past t sound good empty lt root (Unborn none gone unanswered untold) = absurd (omega (arith, root, none))
-tree_done_by s past t sound good empty lt root (Gathers h one here tree same missing unanswered noted) =
+tree_done_by s past t sound good empty lt root (Gathers h one here same missing unanswered noted) =
     let (k, kt, at) = place_missing h.notices missing in
     let c : SubAt s t k = sub_there s t k lt (omega (arith, kt, same)) in
     let unnoted : is_noted (slice_get h.notices k) ≡ 0 = ap is_noted at in
@@ -96,11 +97,11 @@ rooted_below t i n (AdvanceRow ∷ rows) names some = rooted_below t i n rows na
 rooted_below t i n (SettleRow ∷ rows) names some = rooted_below t i n rows names (omega (arith, some))
 
 -- Small lemmas on tests.
-one_is : (t : ℕ) → one_if (t == t) ≡ 1
-one_is t = grind (arith, nat_tests)
-
-both_true : (a b : Bool) → a ≡ true → b ≡ true → (a && b) ≡ true
-both_true a b p q = rw p q
+answered_here : (answered : List Bool) (t u rest : ℕ) (test : Bool) → (u == t) ≡ test → get_or answered u false ≡ true
+    → (1 ≤ rest → get_or answered t false ≡ true) → 1 ≤ one_if test + rest → get_or answered t false ≡ true
+answered_here answered t u rest true is one later some =
+    let same : u ≡ t = grind (arith, nat_tests) in subst (λ (n : ℕ). get_or answered n false ≡ true) same one
+answered_here answered t u rest false is one later some = later (omega arith)
 
 is_true_of : (b : Bool) → 1 ≤ one_if b → b ≡ true
 is_true_of true some = refl
@@ -109,26 +110,22 @@ is_true_of false some = absurd (omega arith)
 none_is_most : (n m : ℕ) → n ≡ 0 → nat_le n m ≡ true
 none_is_most n m none = grind (arith, nat_tests)
 
-one_if_most : (b : Bool) → one_if b ≤ 1
-one_if_most true = omega arith
-one_if_most false = omega arith
-
 -- the trees of rows are answered where each of them is
 all_answered_of : (answered : List Bool) (rows : List ScriptRow) → ((t : ℕ) → 1 ≤ rooted t rows → get_or answered t false ≡ true)
     → all_answered answered rows ≡ true
 all_answered_of answered [] each = refl
 all_answered_of answered (TreeRow t ∷ rows) each =
-    both_true (get_or answered t.0 false) (all_answered answered rows) (each t.0 (omega (arith, one_is t.0)))
+    and_from (get_or answered t.0 false) (all_answered answered rows) (each t.0 (omega (arith, one_if_same t.0)))
     (all_answered_of answered rows (λ u some. each u (omega (arith, some))))
 all_answered_of answered (AdvanceRow ∷ rows) each = all_answered_of answered rows (λ u some. each u (omega (arith, some)))
 all_answered_of answered (SettleRow ∷ rows) each = all_answered_of answered rows (λ u some. each u (omega (arith, some)))
 
--- rows that are built have no advancement
-no_advances : (n : ℕ) (rows : List ScriptRow) → AllByRecursion IsBuiltRow rows → advances_in (take n rows) ≡ 0
+-- rows that are run have no advancement
+pub no_advances : (n : ℕ) (rows : List ScriptRow) → AllByRecursion (λ (r : ScriptRow). IsTrue (is_run_row r)) rows → advances_in (take n rows) ≡ 0
 no_advances zero rows built = refl
 no_advances (suc n) [] built = refl
 no_advances (suc n) (TreeRow t ∷ rows) built = omega (arith, no_advances n rows built.1)
-no_advances (suc n) (AdvanceRow ∷ rows) built = absurd built.0
+no_advances (suc n) (AdvanceRow ∷ rows) built = absurd (cc built.0)
 no_advances (suc n) (SettleRow ∷ rows) built = omega (arith, no_advances n rows built.1)
 
 -- Where no letter is under way.
@@ -146,7 +143,7 @@ ended_now : (s : ScriptData) (past : List Entry) → Sound s → Good s past →
     → have_ended (client_in s past) (take (client_in s past).next s.rows) ≡ true
 ended_now s past sound good empty =
     let c = client_in s past in
-    both_true (all_answered c.answered (take c.next s.rows)) (nat_le (advances_in (take c.next s.rows)) c.ended)
+    and_from (all_answered c.answered (take c.next s.rows)) (nat_le (advances_in (take c.next s.rows)) c.ended)
     (all_answered_of c.answered (take c.next s.rows) (λ t row. answered_now s past t sound good empty row))
     (none_is_most (advances_in (take c.next s.rows)) c.ended (no_advances c.next s.rows sound.runnable.rows))
 
@@ -185,6 +182,43 @@ finishes_of : (past : List Entry) → finishes_in (reverse past) ≡ finish_coun
 finishes_of [] = refl
 finishes_of (e ∷ past) = omega (arith, acts_more is_finish past e, finishes_of past)
 
+-- Where the client has finished.
+
+-- a history that says so
+pub finished_by : (s : ScriptData) (past : List Entry) → Sound s → StepRun s past → HasFinished (reverse past)
+    → (client_in s past).finished ≡ true
+finished_by s past sound run finished =
+    let some = any_counted (of_act is_finish) (λ (x : Place). finishes x.act) (places_of (reverse past)) (λ x. finish_marks x.act) finished in
+    is_true_of (client_in s past).finished (omega (arith, some, finishes_of past, (at_rest s past sound run).once))
+
+-- the trees of rows that are all answered
+answered_in : (answered : List Bool) (t : ℕ) (rows : List ScriptRow) → all_answered answered rows ≡ true → 1 ≤ rooted t rows
+    → get_or answered t false ≡ true
+answered_in answered t [] all some = absurd (omega arith)
+answered_in answered t (TreeRow u ∷ rows) all some =
+    let parts = and_parts (get_or answered u.0 false) (all_answered answered rows) all in
+    answered_here answered t u.0 (rooted t rows) (u.0 == t) refl parts.0 (answered_in answered t rows parts.1) some
+answered_in answered t (AdvanceRow ∷ rows) all some = answered_in answered t rows all (omega (arith, some))
+answered_in answered t (SettleRow ∷ rows) all some = answered_in answered t rows all (omega (arith, some))
+
+-- an answered tree is at its last stage
+stage_done : (s : ScriptData) (past : List Entry) (t : ℕ) → 1 ≤ answers past t → TreeAt s past t → (k : ℕ) → SubAt s t k → dids past t k ≡ 1
+stage_done s past t some (Unborn none gone unanswered untold) = absurd (omega arith)
+stage_done s past t some (Gathers h one here same missing unanswered noted) = absurd (omega arith)
+stage_done s past t some (Answered gone one untold done) = done
+
+-- so each subtransaction of each tree is done, once
+pub done_then : (s : ScriptData) (past : List Entry) (t : ℕ) → Sound s → StepRun s past → (client_in s past).finished ≡ true
+    → t < length s.trees → (k : ℕ) → SubAt s t k → dids past t k ≡ 1
+done_then s past t sound run finished lt =
+    let over = (at_rest s past sound run).over finished in
+    let all = (and_parts (all_answered (client_in s past).answered s.rows) (nat_le (advances_in s.rows) (client_in s past).ended) over.ended).0 in
+    let once = rooted_once (length s.trees) t s.rows sound.valid.rows lt in
+    let is = answered_in (client_in s past).answered t s.rows all (omega (arith, once)) in
+    let good = good_run s past sound run in
+    let heard : one_if (get_or (client_in s past).answered t false) ≡ 1 = ap one_if is in
+    stage_done s past t (omega (arith, good.heard t lt, heard)) (good.stages t lt)
+
 -- The laws.
 
 -- the client has finished in the end
@@ -193,7 +227,8 @@ pub run_finishes : (s : ScriptData) (past : List Entry) → IsValid s → Runnab
 run_finishes s past valid runnable run empty =
     let sound : Sound s = record { valid = valid; runnable = runnable } in
     let one : one_if (client_in s past).finished ≡ 1 = ap one_if (client_finished s past sound run empty) in
-    finished_of (acts_of (reverse past)) (omega (arith, one, (at_rest s past sound run).once, finishes_of past))
+    counted_any (of_act is_finish) (λ (x : Place). finishes x.act) (places_of (reverse past)) (λ x. finish_marks x.act)
+    (omega (arith, one, (at_rest s past sound run).once, finishes_of past))
 
 -- the client finishes at most once
 pub run_finishes_once : (s : ScriptData) (past : List Entry) → IsValid s → Runnable s → StepRun s past → finishes_in (reverse past) ≤ 1

@@ -1,6 +1,6 @@
 -- The gets of a read tree find a value, since each item of their node is there.
-use Rattle.std.proofs.Common.{◌≡◌, ℕ, true, List, [], ◌∷◌, refl, Option, Some, None}
-use Rattle.std.specs.Prelude.{slice_get}
+use Rattle.std.proofs.Common.{◌≡◌, ℕ, ◌&&◌, Bool, true, List, [], ◌∷◌, refl, Option, Some, None}
+use Rattle.std.specs.Prelude.{is_some, slice_get}
 use Rattle.std.specs.List.{AllByRecursion}
 use Rattle.tv_base.specs.declared.numbers.ItemNo.{ItemNo}
 use Rattle.tv_base.specs.declared.numbers.Version.{Version}
@@ -8,14 +8,13 @@ use Rattle.commute_ops.specs.declared.kinds.Kind.{Kind}
 use Rattle.commute_ops.specs.declared.value.Value.{Value}
 use Rattle.item_versions.specs.Item.{Held, seen_after}
 use Rattle.item_versions.specs.Table.{Table, item_in}
-use Rattle.tree_home.specs.Homes.{Gets}
 use Rattle.tx_trees.specs.Valid.{deed_fits, OpAt, IsOp}
 use Rattle.tx_trees.specs.declared.parts.Deed.{Deed}
 use Rattle.tx_trees.specs.declared.parts.Deed.TheVariants.{Apply, Get, Set, Draw}
 use Rattle.tx_trees.specs.declared.parts.ItemRow.{ItemRow}
 use Rattle.tx_trees.specs.declared.parts.SubOp.{SubOp}
 use Rattle.tx_trees.specs.declared.parts.TreeKind.TheVariants as trees
-use Rattle.read_step.specs.Rows.{seen_in, got_by_deed, gets_by}
+use Rattle.read_step.specs.Rows.{seen_in, got_by_deed, can_get}
 use Rattle.tree_laws.proofs.Tables.{ItemIn, TableIn}
 
 -- an item that is there is seen in any version
@@ -39,15 +38,13 @@ got_of : (rows : List ItemRow) (p : ℕ) (bound : ℕ → ℕ) (v : Version) (o 
 got_of rows p bound v o items None at is_op all = absurd is_op
 got_of rows p bound v o items (Some r) at is_op all = got_deed rows p bound v o.item o.deed items r at is_op.0 is_op.1 all
 
-first_got : (x : ItemNo) (a : Option Value) (b : Option Gets) (w : Value) (ws : Gets) → a ≡ Some w → b ≡ Some ws
-    → (elim a [ None ↦ None | Some y ↦ elim b [ None ↦ None | Some ys ↦ Some ((x, y) ∷ ys) ] ]) ≡ Some ((x, w) ∷ ws)
-first_got x a b w ws one rest = rw one (rw rest refl)
+some_and : (found : Option Value) (w : Value) (b : Bool) → found ≡ Some w → b ≡ true → (is_some found && b) ≡ true
+some_and found w b is rest = rw is rest
 
 -- gets that fit each find a value
 pub gets_found : (rows : List ItemRow) (p : ℕ) (bound : ℕ → ℕ) (v : Version) (os : List SubOp) (items : Table)
-    → AllByRecursion (IsOp rows trees.Read p) os → TableIn rows p bound items → (values : Gets) × (gets_by v os items ≡ Some values)
-gets_found rows p bound v [] items ops all = ([], refl)
+    → AllByRecursion (IsOp rows trees.Read p) os → TableIn rows p bound items → can_get v os items ≡ true
+gets_found rows p bound v [] items ops all = refl
 gets_found rows p bound v (o ∷ os) items ops all =
     let first = got_of rows p bound v o items (slice_get rows o.item.0) refl ops.0 all in
-    let rest = gets_found rows p bound v os items ops.1 all in
-    ((o.item, first.0) ∷ rest.0, first_got o.item (got_by_deed v o.item o.deed items) (gets_by v os items) first.0 rest.0 first.1 rest.1)
+    some_and (got_by_deed v o.item o.deed items) first.0 (can_get v os items) first.1 (gets_found rows p bound v os items ops.1 all)

@@ -3,12 +3,14 @@ use Rattle.std.proofs.Common.{◌≡◌, ℕ, ◌+◌, ◌<◌, ◌≤◌, false
 use Rattle.std.specs.Prelude.{get_or, slice_get}
 use Rattle.letter_types.specs.declared.entries.Entry.{Entry}
 use Rattle.letter_types.specs.declared.entries.Letter.{Letter}
-use Rattle.tree_home.specs.Homes.{Gets, IsAscending, home_in, missing_count}
-use Rattle.tree_home.specs.declared.homes.Home.{Home}
+use Rattle.tree_home.specs.Homes.{Gets, home_in, missing_count}
+use Rattle.tree_home.specs.declared.homes.OpenTree.{OpenTree}
 use Rattle.tx_trees.specs.ScriptData.{ScriptData, subs_at, home_of}
 use Rattle.tx_trees.specs.Valid.{initial_load}
 use Rattle.world_model.specs.Counts.{one_if, Each}
-use Rattle.world_model.specs.Runs.{client_in, node_in, waiting}
+use Rattle.node_versions.specs.Turns.{start as first_turns}
+use Rattle.advance_coord.specs.Coordinator.{start_coordinator}
+use Rattle.world_model.specs.Runs.{client_in, coordinator_in, node_in, waiting}
 use Rattle.tree_laws.specs.Dids.{asked, dids, births, notices, replies, answers, rooted}
 use Rattle.tree_laws.proofs.Fits.{Fit}
 use Rattle.tree_laws.proofs.Loads.{trees_done}
@@ -26,8 +28,8 @@ is_noted (Some (Some values)) = 1
 pub data TreeAt (s : ScriptData) (past : List Entry) (t : ℕ) : Type 0 where
   Unborn : dids past t 0 ≡ 0 → home_in (record { 0 = t }) (node_in s past (home_of s t)).homes ≡ None → answers past t ≡ 0
       → ((k : ℕ) → notices s past t k ≡ 0) → TreeAt s past t
-  Gathers : (h : Home) → dids past t 0 ≡ 1 → home_in (record { 0 = t }) (node_in s past (home_of s t)).homes ≡ Some h
-      → h.tree ≡ record { 0 = t } → length h.notices ≡ length (subs_at s t) → 1 ≤ missing_count h.notices → answers past t ≡ 0
+  Gathers : (h : OpenTree) → dids past t 0 ≡ 1 → home_in (record { 0 = t }) (node_in s past (home_of s t)).homes ≡ Some h
+      → length h.notices ≡ length (subs_at s t) → 1 ≤ missing_count h.notices → answers past t ≡ 0
       → ((k : ℕ) → SubAt s t k → dids past t k ≡ notices s past t k + is_noted (slice_get h.notices k)) → TreeAt s past t
   Answered : home_in (record { 0 = t }) (node_in s past (home_of s t)).homes ≡ None → answers past t ≡ 1
       → ((k : ℕ) → notices s past t k ≡ 0) → ((k : ℕ) → SubAt s t k → dids past t k ≡ 1) → TreeAt s past t
@@ -38,7 +40,7 @@ bound s past x = initial_load (slice_get s.items x) + trees_done (dids past) x 0
 
 -- letters are meant for their addressees; a root is asked for or done where its row is submitted; each child of what was
 -- done is asked for or done; a birth is the root's; each tree is at one of its stages; an answer is under way or heard;
--- the homes of each node stand in order, and its items keep to their bounds
+-- each node is in its first versions, and its items keep to their bounds; the coordinator has nothing to do
 pub record Good (s : ScriptData) (past : List Entry) : Type 0 where
   pub letters : Each (λ (l : Letter). Fit s l.from.0 l.to.0 l.body) (waiting s past)
   pub roots : (t : ℕ) → t < length s.trees → rooted t (take (client_in s past).next s.rows) ≡ asked s past t 0 + dids past t 0
@@ -46,5 +48,6 @@ pub record Good (s : ScriptData) (past : List Entry) : Type 0 where
   pub born : (t : ℕ) → births past t ≡ dids past t 0
   pub stages : (t : ℕ) → t < length s.trees → TreeAt s past t
   pub heard : (t : ℕ) → t < length s.trees → answers past t ≡ replies s past t + one_if (get_or (client_in s past).answered t false)
-  pub order : (p : ℕ) → p < s.nodes → IsAscending (node_in s past p).homes
+  pub turns : (p : ℕ) → p < s.nodes → (node_in s past p).turns ≡ first_turns
+  pub coordinator : coordinator_in s past ≡ start_coordinator s.nodes
   pub items : (p : ℕ) → p < s.nodes → TableIn s.items p (bound s past) (node_in s past p).items

@@ -32,7 +32,8 @@ start_good s = record {
   born = λ t. refl;
   stages = λ t lt. Unborn refl refl refl (λ k. refl);
   heard = λ t lt. omega (arith, none_heard (length s.trees) t);
-  order = λ p lt i j d up within. absurd (omega arith);
+  turns = λ p lt. refl;
+  coordinator = refl;
   items = λ p lt. start_table s.items p (bound s []) (start_most s);
 }
 
@@ -40,10 +41,10 @@ next_good : (s : ScriptData) (past : List Entry) (e : Entry) → Sound s → Goo
 next_good s past e sound good m (Begins is at made) = begins_good s past e sound good m is at made
 next_good s past e sound good m (Hears t v answer is at lt made) = hears_good s past e t v answer sound good m is at lt made
 next_good s past e sound good m (Rests is at sent acts) = rests_good s past e sound good m is at sent acts
-next_good s past e sound good m (DoesRoot t v items values is c at below new work made) =
-    root_good s past e t v items values sound good m is c at new work made
-next_good s past e sound good m (DoesSub t k v turns items values turned is c later from at below work made) =
-    sub_good s past e t k v turns items values turned sound good m is c later at work made
+next_good s past e sound good m (DoesRoot t v effect is c at below new work made) =
+    root_good s past e t v effect sound good m is c at new work made
+next_good s past e sound good m (DoesSub t k v raises effect is c later from at below work made) =
+    sub_good s past e t k v raises effect sound good m is c later at work made
 next_good s past e sound good m (Notes t k v values is c later from at below miss made) =
     note_good s past e t k v values sound good m is c at below miss made
 

@@ -6,10 +6,7 @@ use Rattle.std.proofs.lemmas.Bool.Decides.{nat_tests}
 use Rattle.letter_types.specs.declared.entries.Entry.{Entry}
 use Rattle.letter_types.specs.declared.entries.LetterId.{LetterId}
 use Rattle.letter_types.specs.declared.entries.Outgoing.{Outgoing}
-use Rattle.letter_types.specs.Steps.{Out}
 use Rattle.tx_trees.specs.ScriptData.{ScriptData, subs_at, node_of}
-use Rattle.tree_home.specs.Homes.{IsAscending}
-use Rattle.tree_step.specs.Node.{Node}
 use Rattle.client_rows.specs.Client.{Client}
 use Rattle.tree_step.specs.Children.{sub_letters}
 use Rattle.world_model.specs.Counts.{tally, one_if}
@@ -21,7 +18,6 @@ use Rattle.tree_laws.proofs.Fits.{Fit, SentFit, children_fit}
 use Rattle.tree_laws.proofs.Flows.{flow}
 use Rattle.tree_laws.proofs.Good.{Good, bound}
 use Rattle.tree_laws.proofs.Loads.{trees_same}
-use Rattle.tree_laws.proofs.Nexts.{Made}
 use Rattle.tree_laws.proofs.Scripts.{Sound, SubAt, is_sub, subs_here, node_below, tree_below}
 use Rattle.tree_laws.proofs.Sent.{on, children, children_apart, no_root, other_tree}
 use Rattle.tree_laws.proofs.Tables.{TableIn, table_more}
@@ -141,10 +137,10 @@ pub does_items : (s : ScriptData) (past : List Entry) (e : Entry) (t k : ℕ) �
 does_items s past e t k good does p lt = does_items_by s past e t k good does p lt (cases_eq (node_of s t k) p)
 
 -- what is sent to children is meant for them
-pub children_sent : (s : ScriptData) (past : List Entry) (e : Entry) (t k : ℕ) (v : ℕ) → Sound s → SubAt s t k → e.actor.0 ≡ node_of s t k
+pub children_sent : (s : ScriptData) (past : List Entry) (e : Entry) (t k : ℕ) (v : ℕ) → Sound s → SubAt s t k → v ≤ 1 → e.actor.0 ≡ node_of s t k
     → SentFit s e.actor.0 (sub_letters t v k 0 (subs_at s t))
-children_sent s past e t k v sound c at =
-    children_fit s t v k e.actor.0 0 (subs_at s t) (tree_below s t k c) (omega (arith, at, node_below s t k c sound))
+children_sent s past e t k v sound c most at =
+    children_fit s t v k e.actor.0 0 (subs_at s t) (tree_below s t k c) (omega (arith, at, node_below s t k c sound)) most
     (λ n x here. subst (λ (i : ℕ). slice_get (subs_at s t) i ≡ Some x) (omega arith) here)
 
 -- letters of two lists are meant for their addressees
@@ -156,16 +152,3 @@ both_fit s from xs ys os is a b =
 pub same_heard : (s : ScriptData) (past : List Entry) (e : Entry) → client_in s (e ∷ past) ≡ client_in s past → (t : ℕ)
     → get_or (client_in s (e ∷ past)).answered t false ≡ get_or (client_in s past).answered t false
 same_heard s past e same t = ap (λ (c : Client). get_or c.answered t false) same
-
--- the homes of a node that goes on stand in order, and those of the others
-order_at : (s : ScriptData) (past : List Entry) (e : Entry) (p : ℕ) (out : Out Node) → Good s past → Made s past e p out → e.actor.0 ≡ p
-    → IsAscending out.state.homes → (q : ℕ) → q < s.nodes → (p ≡ q) ⊎ (p ≢ q) → IsAscending (node_in s (e ∷ past) q).homes
-order_at s past e p out good made at up q lt (inl is) =
-    subst (λ (r : ℕ). IsAscending (node_in s (e ∷ past) r).homes) is (subst (λ (n : Node). IsAscending n.homes) (sym made.state) up)
-order_at s past e p out good made at up q lt (inr ne) =
-    subst (λ (n : Node). IsAscending n.homes) (sym (node_kept s past e q (λ is. ne (sym at ∙ is)))) (good.order q lt)
-
--- homes stand in order at every node
-pub order_next : (s : ScriptData) (past : List Entry) (e : Entry) (p : ℕ) (out : Out Node) → Good s past → Made s past e p out → e.actor.0 ≡ p
-    → IsAscending out.state.homes → (q : ℕ) → q < s.nodes → IsAscending (node_in s (e ∷ past) q).homes
-order_next s past e p out good made at up q lt = order_at s past e p out good made at up q lt (cases_eq p q)

@@ -23,6 +23,7 @@ pub mod RootStep
 pub mod SubStep
 pub mod NoteStep
 pub mod Goods
+pub mod Aptness
 pub mod Client
 pub mod Acts
 pub mod Finishes

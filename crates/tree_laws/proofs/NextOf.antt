@@ -1,5 +1,5 @@
 -- What an entry does where all that holds in a past holds.
-use Rattle.std.proofs.Common.{◌≡◌, ◌⊎◌, inl, inr, ℕ, ◌<◌, ◌≤◌, true, List, [], ◌∷◌, refl, ap, subst, ◌∙◌, arith}
+use Rattle.std.proofs.Common.{◌≡◌, ◌⊎◌, inl, inr, ℕ, ◌<◌, ◌≤◌, true, false, List, [], ◌∷◌, refl, ap, subst, ◌∙◌, arith}
 use Rattle.std.specs.Prelude.{nat_lt}
 use Rattle.tv_base.specs.declared.numbers.SubNo.{SubNo}
 use Rattle.tv_base.specs.declared.numbers.TreeNo.{TreeNo}
@@ -7,16 +7,16 @@ use Rattle.tv_base.specs.declared.numbers.Version.{Version}
 use Rattle.letter_types.specs.declared.bodies.Body.{Body}
 use Rattle.letter_types.specs.declared.bodies.Body.TheVariants.{Go, Root, Sub as SubLetter, Done, Reply, Nudge}
 use Rattle.letter_types.specs.declared.bodies.Notice.{Notice}
-use Rattle.letter_types.specs.declared.bodies.Notice.TheVariants.{Did}
+use Rattle.letter_types.specs.declared.bodies.Notice.TheVariants.{Did, Yes, No}
 use Rattle.letter_types.specs.declared.entries.Entry.{Entry}
 use Rattle.letter_types.specs.declared.entries.Letter.{Letter}
-use Rattle.node_versions.specs.Turns.{raised}
-use Rattle.tx_trees.specs.ScriptData.{ScriptData, node_of, home_of, updates, reads}
-use Rattle.tree_step.specs.Done.{root_done, sub_done}
-use Rattle.update_step.specs.Rows.{turned_if}
+use Rattle.tx_trees.specs.ScriptData.{ScriptData, node_of, home_of, ops_of, updates, reads}
+use Rattle.tree_step.specs.Apt.{is_did}
+use Rattle.tree_step.specs.Done.{note_done, root_done, sub_done}
+use Rattle.update_step.specs.Rows.{touching}
+use Rattle.read_step.specs.Rows.{getting}
 use Rattle.client_rows.specs.Client.{submit, with_answer, nudge}
 use Rattle.world_model.specs.Runs.{client_in, node_in, MayFollow, waiting}
-use Rattle.world_model.specs.Tables.{note_done}
 use Rattle.world_model.proofs.Bags.{tally-drop}
 use Rattle.world_model.proofs.Every.{each_taken}
 use Rattle.tree_laws.specs.Dids.{asks, tells_done, notices, dids}
@@ -24,10 +24,11 @@ use Rattle.tree_laws.proofs.Counts.{at_most_once, not_done, one_here, was_asked}
 use Rattle.tree_laws.proofs.Fits.{Fit}
 use Rattle.tree_laws.proofs.Good.{Good}
 use Rattle.tree_laws.proofs.Nexts.{Next, Begins, Hears, Rests, DoesRoot, DoesSub, Notes, RootUpdates, RootReads, SubUpdates, SubReads}
-use Rattle.tree_laws.proofs.Scripts.{Sound, SubAt, has_root, sub_there, sub_below, tree_below, tree_kind, node_below, reads_alone}
+use Rattle.tree_laws.proofs.Scripts.{Sound, SubAt, has_root, sub_there, sub_below, tree_below, tree_kind, node_below, not_strict, update_kind_at, read_kind_at}
 use Rattle.tree_laws.proofs.Stages.{no_home, misses_notice}
-use Rattle.tree_laws.proofs.Steps.{made, made_by_client, rests, update_root_row, read_root_row, update_sub_row, read_sub_row, note_row, hear_row}
-use Rattle.tree_laws.proofs.Works.{can_touch, can_get}
+use Rattle.node_step.proofs.Apts.{update_root_row, read_root_row, update_sub_row, read_sub_row, notice_row}
+use Rattle.tree_laws.proofs.Steps.{made, made_by_client, near_test, rests, hear_row}
+use Rattle.tree_laws.proofs.Works.{update_can, read_can}
 
 -- the letter taken asks for subtransaction k of tree t
 taken_asks : (s : ScriptData) (past : List Entry) (e : Entry) (t k : ℕ) (b : Body) → SubAt s t k → Sound s → Good s past → MayFollow s past e
@@ -42,36 +43,44 @@ root_next s past e t c sound good m is at (inl up) =
     let lt = node_below s t.0 0 c sound in
     let none = taken_asks s past e t.0 0 (Root t) c sound good m is (one_here t.0 0) in
     let new = no_home s past t.0 none (good.stages t.0 (tree_below s t.0 0 c)) in
-    let held = can_touch s past t.0 0 st.turns.update c sound good none up in
-    DoesRoot t st.turns.update held.0 [] is c at lt new (RootUpdates up refl held.1 refl)
-    (made s past e (home_of s t.0) (Root t) (root_done s (home_of s t.0) t.0 st.turns.update.0 held.0 [] st) lt at m is (update_root_row s st e.took.from.0 t held.0 up new held.1))
+    let can = update_can s past t.0 0 st.turns.update c sound good none up in
+    let effect = touching st.turns.update (ops_of s t.0 0) st.items in
+    DoesRoot t st.turns.update effect is c at lt new (RootUpdates up refl can refl)
+    (made s past e (home_of s t.0) (root_done s (home_of s t.0) t.0 st.turns.update.0 effect st) lt at m
+    (update_root_row s st e.took t is (update_kind_at s t.0 0 c up) new can))
 root_next s past e t c sound good m is at (inr up) =
     let st = node_in s past (home_of s t.0) in
     let lt = node_below s t.0 0 c sound in
     let none = taken_asks s past e t.0 0 (Root t) c sound good m is (one_here t.0 0) in
     let new = no_home s past t.0 none (good.stages t.0 (tree_below s t.0 0 c)) in
-    let held = can_get s past t.0 0 st.turns.read c sound good up in
-    DoesRoot t st.turns.read st.items held.0 is c at lt new (RootReads up refl held.1 refl)
-    (made s past e (home_of s t.0) (Root t) (root_done s (home_of s t.0) t.0 st.turns.read.0 st.items held.0 st) lt at m is (read_root_row s st e.took.from.0 t held.0 (reads_alone s t.0 0 c up) up new held.1))
+    let can = read_can s past t.0 0 st.turns.read c sound good up in
+    let effect = getting st.turns.read (ops_of s t.0 0) st.items in
+    DoesRoot t st.turns.read effect is c at lt new (RootReads up refl can refl)
+    (made s past e (home_of s t.0) (root_done s (home_of s t.0) t.0 st.turns.read.0 effect st) lt at m
+    (read_root_row s st e.took t is (read_kind_at s t.0 0 c up) new can))
 
 -- Another subtransaction.
 sub_next : (s : ScriptData) (past : List Entry) (e : Entry) (t : TreeNo) (k : SubNo) (v : Version) → SubAt s t.0 k.0 → 0 < k.0 → Sound s
-    → Good s past → MayFollow s past e → e.took.body ≡ SubLetter t k v → e.actor.0 ≡ node_of s t.0 k.0 → e.took.from.0 < s.nodes
+    → Good s past → MayFollow s past e → e.took.body ≡ SubLetter t k v → e.actor.0 ≡ node_of s t.0 k.0 → e.took.from.0 < s.nodes → v.0 ≤ 1
     → (updates s t.0 ≡ true) ⊎ (reads s t.0 ≡ true) → Next s past e
-sub_next s past e t k v c later sound good m is at from (inl up) =
+sub_next s past e t k v c later sound good m is at from most (inl up) =
     let st = node_in s past (node_of s t.0 k.0) in
     let lt = node_below s t.0 k.0 c sound in
     let none = taken_asks s past e t.0 k.0 (SubLetter t k v) c sound good m is (one_here t.0 k.0) in
-    let held = can_touch s past t.0 k.0 v c sound good none up in
-    let turned = turned_if (nat_lt st.turns.update.0 v.0) v.0 in
-    DoesSub t k v (raised v st.turns) held.0 [] turned is c later from at lt (SubUpdates up refl held.1 refl refl)
-    (made s past e (node_of s t.0 k.0) (SubLetter t k v) (sub_done s e.took.from.0 t.0 k.0 v.0 (raised v st.turns) held.0 [] turned st) lt at m is (update_sub_row s st e.took.from.0 t k v held.0 up from held.1))
-sub_next s past e t k v c later sound good m is at from (inr up) =
+    let can = update_can s past t.0 k.0 v c sound good none up in
+    let raises = nat_lt st.turns.update.0 v.0 in
+    let effect = touching v (ops_of s t.0 k.0) st.items in
+    DoesSub t k v raises effect is c later from at lt (SubUpdates up refl can refl)
+    (made s past e (node_of s t.0 k.0) (sub_done s e.took.from.0 t.0 k.0 v.0 raises effect st) lt at m
+    (update_sub_row s st e.took t k v is (update_kind_at s t.0 k.0 c up) from (near_test st v (good.turns (node_of s t.0 k.0) lt) most) can))
+sub_next s past e t k v c later sound good m is at from most (inr up) =
     let st = node_in s past (node_of s t.0 k.0) in
     let lt = node_below s t.0 k.0 c sound in
-    let held = can_get s past t.0 k.0 v c sound good up in
-    DoesSub t k v st.turns st.items held.0 [] is c later from at lt (SubReads up refl held.1 refl refl)
-    (made s past e (node_of s t.0 k.0) (SubLetter t k v) (sub_done s e.took.from.0 t.0 k.0 v.0 st.turns st.items held.0 [] st) lt at m is (read_sub_row s st e.took.from.0 t k v held.0 (reads_alone s t.0 k.0 c up) up from held.1))
+    let can = read_can s past t.0 k.0 v c sound good up in
+    let effect = getting v (ops_of s t.0 k.0) st.items in
+    DoesSub t k v false effect is c later from at lt (SubReads up refl can refl)
+    (made s past e (node_of s t.0 k.0) (sub_done s e.took.from.0 t.0 k.0 v.0 false effect st) lt at m
+    (read_sub_row s st e.took t k v is (read_kind_at s t.0 k.0 c up) from (near_test st v (good.turns (node_of s t.0 k.0) lt) most) can))
 
 -- A notice.
 was_told : (s : ScriptData) (past : List Entry) (e : Entry) (t k : ℕ) → MayFollow s past e → tells_done t k e.took.body ≡ 1 → 1 ≤ notices s past t k
@@ -80,15 +89,19 @@ was_told s past e t k m one =
 
 note_next : (s : ScriptData) (past : List Entry) (e : Entry) (t : TreeNo) (k : SubNo) (v : Version) (notice : Notice) → SubAt s t.0 k.0 → 0 < k.0
     → Sound s → Good s past → MayFollow s past e → e.took.body ≡ Done t k v notice → e.actor.0 ≡ home_of s t.0 → e.took.from.0 < s.nodes
-    → Next s past e
-note_next s past e t k v (Did values) c later sound good m is at from =
+    → v.0 ≤ 1 → is_did notice ≡ true → Next s past e
+note_next s past e t k v (Yes values) c later sound good m is at from most did = absurd (cc did)
+note_next s past e t k v (No cause) c later sound good m is at from most did = absurd (cc did)
+note_next s past e t k v (Did values) c later sound good m is at from most did =
     let st = node_in s past (home_of s t.0) in
     let root = has_root s t.0 sound (tree_below s t.0 k.0 c) in
     let lt = node_below s t.0 0 root sound in
     let told = was_told s past e t.0 k.0 m (ap (tells_done t.0 k.0) is ∙ one_here t.0 k.0) in
     let missing = misses_notice s past t.0 k.0 c (at_most_once s past t.0 k.0 c sound good) told (good.stages t.0 (tree_below s t.0 k.0 c)) in
     Notes t k v values is c later from at lt missing
-    (made s past e (home_of s t.0) (Done t k v (Did values)) (note_done s e.took.from.0 t.0 k.0 v.0 values st) lt at m is (note_row s st e.took.from.0 t k v values (sub_below s t.0 k.0 c) from))
+    (made s past e (home_of s t.0) (note_done s e.took.from.0 t.0 k.0 v.0 values st) lt at m
+    (notice_row s st e.took t k v values is (not_strict s t.0 k.0 c sound) (sub_below s t.0 k.0 c) from
+    (near_test st v (good.turns (home_of s t.0) lt) most)))
 
 next_by : (s : ScriptData) (past : List Entry) (e : Entry) → Sound s → Good s past → MayFollow s past e → (b : Body) → e.took.body ≡ b
     → Fit s e.took.from.0 e.actor.0 b → Next s past e
@@ -99,14 +112,14 @@ next_by s past e sound good m (Root t) is fit =
     root_next s past e t c sound good m is fit.1 (tree_kind s t.0 0 c sound)
 next_by s past e sound good m (SubLetter t k v) is fit =
     let c = sub_there s t.0 k.0 fit.0 fit.1 in
-    sub_next s past e t k v c fit.2 sound good m is fit.3 fit.4 (tree_kind s t.0 k.0 c sound)
+    sub_next s past e t k v c fit.2 sound good m is fit.3 fit.4 fit.5 (tree_kind s t.0 k.0 c sound)
 next_by s past e sound good m (Done t k v notice) is fit =
-    note_next s past e t k v notice (sub_there s t.0 k.0 fit.0 fit.1) fit.2 sound good m is fit.3 fit.4
+    note_next s past e t k v notice (sub_there s t.0 k.0 fit.0 fit.1) fit.2 sound good m is fit.3 fit.4 fit.5 fit.6
 next_by s past e sound good m (Reply t v answer) is fit =
     Hears t v answer is fit.1 fit.0
     (made_by_client s past e (Reply t v answer) (submit s (with_answer t.0 (client_in s past)) (nudge s ∷ [])) fit.1 m is (hear_row s (client_in s past) t v answer fit.0))
 next_by s past e sound good m Nudge is fit =
-    let quiet = rests s past e fit m in Rests is fit quiet.0 quiet.1
+    let quiet = rests s past e fit m good.coordinator is in Rests is fit quiet.0 quiet.1
 next_by s past e sound good m _ is fit = absurd fit
 
 -- an entry that may follow is one of these

@@ -1,26 +1,21 @@
 -- What an entry of a run does, by cases.
-use Rattle.std.proofs.Common.{◌≡◌, ℕ, ◌<◌, true, List, [], ◌∷◌, Some, None}
+use Rattle.std.proofs.Common.{◌≡◌, ℕ, ◌<◌, Bool, true, false, List, [], ◌∷◌, None}
 use Rattle.std.specs.Prelude.{length, nat_lt}
 use Rattle.tv_base.specs.declared.numbers.SubNo.{SubNo}
 use Rattle.tv_base.specs.declared.numbers.TreeNo.{TreeNo}
 use Rattle.tv_base.specs.declared.numbers.Version.{Version}
-use Rattle.item_versions.specs.Table.{Table}
-use Rattle.node_versions.specs.declared.turns.Turns.{Turns}
-use Rattle.node_versions.specs.Turns.{raised}
 use Rattle.tree_home.specs.Homes.{Gets, home_in, misses}
-use Rattle.letter_types.specs.declared.acts.Act.{Act}
 use Rattle.letter_types.specs.declared.bodies.Answer.{Answer}
 use Rattle.letter_types.specs.declared.bodies.Body.TheVariants.{Go, Root, Sub as SubLetter, Done, Reply, Nudge}
 use Rattle.letter_types.specs.declared.bodies.Notice.TheVariants.{Did as DidNotice}
 use Rattle.letter_types.specs.declared.entries.Entry.{Entry}
 use Rattle.letter_types.specs.Steps.{Out}
 use Rattle.tx_trees.specs.ScriptData.{ScriptData, client_of, node_of, home_of, ops_of, updates, reads}
-use Rattle.tree_step.specs.Node.{Node}
-use Rattle.tree_step.specs.Done.{root_done, sub_done}
-use Rattle.update_step.specs.Rows.{touched_by, turned_if}
-use Rattle.read_step.specs.Rows.{gets_by}
+use Rattle.tree_step.specs.Node.{Effect, Node}
+use Rattle.tree_step.specs.Done.{note_done, root_done, sub_done}
+use Rattle.update_step.specs.Rows.{can_touch, touching}
+use Rattle.read_step.specs.Rows.{can_get, getting}
 use Rattle.client_rows.specs.Client.{Client, submit, with_answer, nudge}
-use Rattle.world_model.specs.Tables.{note_done}
 use Rattle.world_model.specs.Runs.{client_in, node_in}
 use Rattle.tree_laws.proofs.Scripts.{SubAt}
 
@@ -37,18 +32,19 @@ pub record MadeByClient (s : ScriptData) (past : List Entry) (e : Entry) (out : 
   pub acts : e.acts ≡ out.acts
 
 -- what the root of tree t makes of the items in version v, and the values that it gets
-pub data RootWork (s : ScriptData) (t : ℕ) (st : Node) (v : Version) (items : Table) (values : Gets) : Type 0 where
-  RootUpdates : updates s t ≡ true → v ≡ st.turns.update → touched_by v (ops_of s t 0) st.items ≡ Some items → values ≡ []
-      → RootWork s t st v items values
-  RootReads : reads s t ≡ true → v ≡ st.turns.read → gets_by v (ops_of s t 0) st.items ≡ Some values → items ≡ st.items
-      → RootWork s t st v items values
+pub data RootWork (s : ScriptData) (t : ℕ) (st : Node) (v : Version) (effect : Effect) : Type 0 where
+  RootUpdates : updates s t ≡ true → v ≡ st.turns.update → can_touch v (ops_of s t 0) st.items ≡ true
+      → effect ≡ touching v (ops_of s t 0) st.items → RootWork s t st v effect
+  RootReads : reads s t ≡ true → v ≡ st.turns.read → can_get v (ops_of s t 0) st.items ≡ true
+      → effect ≡ getting v (ops_of s t 0) st.items → RootWork s t st v effect
 
--- what subtransaction k of tree t makes of the turns and items in version v, the values that it gets, and the acts before its Did
-pub data SubWork (s : ScriptData) (t k : ℕ) (st : Node) (v : Version) (turns : Turns) (items : Table) (values : Gets) (turned : List Act) : Type 0 where
-  SubUpdates : updates s t ≡ true → turns ≡ raised v st.turns → touched_by v (ops_of s t k) st.items ≡ Some items → values ≡ []
-      → turned ≡ turned_if (nat_lt st.turns.update.0 v.0) v.0 → SubWork s t k st v turns items values turned
-  SubReads : reads s t ≡ true → turns ≡ st.turns → gets_by v (ops_of s t k) st.items ≡ Some values → items ≡ st.items
-      → turned ≡ [] → SubWork s t k st v turns items values turned
+-- what subtransaction k of tree t makes of the items in version v, the values that it gets, and whether it raises its
+-- node's update version
+pub data SubWork (s : ScriptData) (t k : ℕ) (st : Node) (v : Version) (raises : Bool) (effect : Effect) : Type 0 where
+  SubUpdates : updates s t ≡ true → raises ≡ nat_lt st.turns.update.0 v.0 → can_touch v (ops_of s t k) st.items ≡ true
+      → effect ≡ touching v (ops_of s t k) st.items → SubWork s t k st v raises effect
+  SubReads : reads s t ≡ true → raises ≡ false → can_get v (ops_of s t k) st.items ≡ true
+      → effect ≡ getting v (ops_of s t k) st.items → SubWork s t k st v raises effect
 
 -- the client begins, or hears an answer; the coordinator hears a nudge; a node does a root or another subtransaction,
 -- or a home takes down a notice that it missed
@@ -57,14 +53,14 @@ pub data Next (s : ScriptData) (past : List Entry) (e : Entry) : Type 0 where
   Hears : (t : TreeNo) (v : Version) (answer : Answer) → e.took.body ≡ Reply t v answer → e.actor.0 ≡ client_of s → t.0 < length s.trees
       → MadeByClient s past e (submit s (with_answer t.0 (client_in s past)) (nudge s ∷ [])) → Next s past e
   Rests : e.took.body ≡ Nudge → e.actor.0 ≡ s.nodes → e.sent ≡ [] → e.acts ≡ [] → Next s past e
-  DoesRoot : (t : TreeNo) (v : Version) (items : Table) (values : Gets) → e.took.body ≡ Root t → SubAt s t.0 0 → e.actor.0 ≡ home_of s t.0
+  DoesRoot : (t : TreeNo) (v : Version) (effect : Effect) → e.took.body ≡ Root t → SubAt s t.0 0 → e.actor.0 ≡ home_of s t.0
       → home_of s t.0 < s.nodes → home_in t (node_in s past (home_of s t.0)).homes ≡ None
-      → RootWork s t.0 (node_in s past (home_of s t.0)) v items values
-      → Made s past e (home_of s t.0) (root_done s (home_of s t.0) t.0 v.0 items values (node_in s past (home_of s t.0))) → Next s past e
-  DoesSub : (t : TreeNo) (k : SubNo) (v : Version) (turns : Turns) (items : Table) (values : Gets) (turned : List Act)
+      → RootWork s t.0 (node_in s past (home_of s t.0)) v effect
+      → Made s past e (home_of s t.0) (root_done s (home_of s t.0) t.0 v.0 effect (node_in s past (home_of s t.0))) → Next s past e
+  DoesSub : (t : TreeNo) (k : SubNo) (v : Version) (raises : Bool) (effect : Effect)
       → e.took.body ≡ SubLetter t k v → SubAt s t.0 k.0 → 0 < k.0 → e.took.from.0 < s.nodes → e.actor.0 ≡ node_of s t.0 k.0
-      → node_of s t.0 k.0 < s.nodes → SubWork s t.0 k.0 (node_in s past (node_of s t.0 k.0)) v turns items values turned
-      → Made s past e (node_of s t.0 k.0) (sub_done s e.took.from.0 t.0 k.0 v.0 turns items values turned (node_in s past (node_of s t.0 k.0)))
+      → node_of s t.0 k.0 < s.nodes → SubWork s t.0 k.0 (node_in s past (node_of s t.0 k.0)) v raises effect
+      → Made s past e (node_of s t.0 k.0) (sub_done s e.took.from.0 t.0 k.0 v.0 raises effect (node_in s past (node_of s t.0 k.0)))
       → Next s past e
   Notes : (t : TreeNo) (k : SubNo) (v : Version) (values : Gets) → e.took.body ≡ Done t k v (DidNotice values) → SubAt s t.0 k.0 → 0 < k.0
       → e.took.from.0 < s.nodes → e.actor.0 ≡ home_of s t.0 → home_of s t.0 < s.nodes

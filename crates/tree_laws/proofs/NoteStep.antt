@@ -1,10 +1,11 @@
 -- An entry in which a home takes down a notice, or the coordinator rests, keeps what holds.
-use Rattle.std.proofs.Common.{◌≡◌, ◌≢◌, ◌⊎◌, inl, inr, ℕ, ◌+◌, ◌<◌, true, List, [], ◌∷◌, length, take, refl, sym, ap, subst, ◌∙◌, arith}
+use Rattle.std.proofs.Common.{◌≡◌, ◌≢◌, ◌⊎◌, inl, inr, ℕ, ◌+◌, ◌<◌, ◌==◌, true, List, [], ◌∷◌, length, take, refl, sym, ap, subst, ◌∙◌, arith}
 use Rattle.std.proofs.lemmas.Bool.{cases_eq}
+use Rattle.std.proofs.lemmas.Bool.Decides.{nat_tests}
 use Rattle.tv_base.specs.declared.numbers.SubNo.{SubNo}
 use Rattle.tv_base.specs.declared.numbers.TreeNo.{TreeNo}
 use Rattle.tv_base.specs.declared.numbers.Version.{Version}
-use Rattle.tree_home.specs.Homes.{Gets, IsAscending, home_in, misses}
+use Rattle.tree_home.specs.Homes.{Gets, home_in, misses}
 use Rattle.letter_types.specs.declared.bodies.Body.{Body}
 use Rattle.letter_types.specs.declared.bodies.Body.TheVariants.{Done, Nudge}
 use Rattle.letter_types.specs.declared.bodies.Notice.TheVariants.{Did as DidNotice}
@@ -14,20 +15,23 @@ use Rattle.tree_step.specs.Node.{Node}
 use Rattle.tree_step.specs.Notices.{answer_noted, reply_letters}
 use Rattle.client_rows.specs.Client.{Client}
 use Rattle.world_model.specs.Counts.{tally}
-use Rattle.world_model.specs.Runs.{client_in, node_in, MayFollow}
-use Rattle.world_model.specs.Tables.{note_done}
-use Rattle.world_model.proofs.Every.{node_kept}
+use Rattle.tree_step.specs.Done.{note_done}
+use Rattle.letter_types.specs.Steps.{Out}
+use Rattle.advance_coord.specs.Coordinator.{Coordinator, start_coordinator}
+use Rattle.world_model.specs.Runs.{client_in, coordinator_in, node_in, MayFollow}
+use Rattle.world_model.proofs.Every.{coordinator_kept, node_kept}
 use Rattle.tree_laws.specs.Dids.{asks, is_did, is_born, tells_done, replies_to, rooted}
 use Rattle.tree_laws.proofs.Answering.{answer_fits, replies_apart}
 use Rattle.tree_laws.proofs.Counts.{at_most_once}
 use Rattle.tree_laws.proofs.Fits.{SentFit}
 use Rattle.tree_laws.proofs.Flows.{letters_next, same_part, client_kept, no_notice}
 use Rattle.tree_laws.proofs.Good.{Good, TreeAt}
-use Rattle.tree_laws.proofs.Kept.{Idle, idle_roots, idle_subs, idle_born, idle_items, heard_same, same_heard, order_next}
+use Rattle.tree_laws.proofs.Kept.{Idle, idle_roots, idle_subs, idle_born, idle_items, heard_same, same_heard}
 use Rattle.tree_laws.proofs.Nexts.{Made}
-use Rattle.tree_laws.proofs.Noting.{noted_keeps_others, noted_in_order}
+use Rattle.tree_laws.proofs.Noting.{noted_keeps_others}
 use Rattle.tree_laws.proofs.Scripts.{Sound, SubAt, has_root, node_below, tree_below}
 use Rattle.tree_laws.proofs.Sent.{on, other_tree, replies_none}
+use Rattle.tree_laws.proofs.Steps.{idle_row}
 use Rattle.tree_laws.proofs.Staging.{Apart, stays, Notes, notes_stage}
 
 -- where nothing is asked for, and the client isn't moved, the rows stay
@@ -37,6 +41,12 @@ rows_same : (s : ScriptData) (past : List Entry) (e : Entry) → client_in s (e 
 rows_same s past e same u none = let rows = ap (λ (c : Client). rooted u (take c.next s.rows)) same in omega (arith, rows, none)
 
 -- The coordinator.
+idle_stays : (s : ScriptData) (past : List Entry) (e : Entry) → e.actor.0 ≡ s.nodes → coordinator_in s past ≡ start_coordinator s.nodes
+    → e.took.body ≡ Nudge → coordinator_in s (e ∷ past) ≡ start_coordinator s.nodes
+idle_stays s past e at idle is =
+    let here : (e.actor.0 == s.nodes) ≡ true = grind (arith, nat_tests) in
+    rw here (ap (λ (o : Out Coordinator). o.state) (idle_row s past e idle is))
+
 pub rests_good : (s : ScriptData) (past : List Entry) (e : Entry) → Sound s → Good s past → MayFollow s past e → e.took.body ≡ Nudge
     → e.actor.0 ≡ s.nodes → e.sent ≡ [] → e.acts ≡ [] → Good s (e ∷ past)
 rests_good s past e sound good m is at sent acts =
@@ -66,7 +76,8 @@ rests_good s past e sound good m is at sent acts =
       born = idle_born s past e good idle;
       stages = λ t lt. stays s past e t m (apart t lt) (good.stages t lt);
       heard = λ t lt. heard_same s past e good m t lt (rw is refl) (same_heard s past e same t);
-      order = λ p lt. subst (λ (n : Node). IsAscending n.homes) (sym (node_kept s past e p (omega arith))) (good.order p lt);
+      turns = λ p lt. ap (λ (n : Node). n.turns) (node_kept s past e p (omega arith)) ∙ good.turns p lt;
+      coordinator = idle_stays s past e at good.coordinator is;
       items = idle_items s past e good idle;
     }
 
@@ -144,7 +155,7 @@ note_stage : (s : ScriptData) (past : List Entry) (e : Entry) (t : TreeNo) (k : 
 note_stage s past e t k v values c sound good m idle is at below miss made u lt (inl same) =
     let here = tree_below s t.0 k.0 c in
     subst (λ (w : ℕ). TreeAt s (e ∷ past) w) same
-    (notes_stage s past e t k values c (λ i d. at_most_once s past t.0 i d sound good) (good.order (home_of s t.0) below) m
+    (notes_stage s past e t k values c (λ i d. at_most_once s past t.0 i d sound good) m
     (note_notes s past e t k v values here good idle is miss made) miss (good.stages t.0 here))
 note_stage s past e t k v values c sound good m idle is at below miss made u lt (inr ne) =
     stays s past e u m (note_apart s past e t k v values idle is at miss made u ne) (good.stages u lt)
@@ -164,7 +175,7 @@ note_good s past e t k v values sound good m is c at below miss made =
       born = idle_born s past e good idle;
       stages = λ u lt. note_stage s past e t k v values c sound good m idle is at below miss made u lt (cases_eq t.0 u);
       heard = λ u lt. heard_same s past e good m u lt (rw is refl) (same_heard s past e same u);
-      order = order_next s past e p (note_done s e.took.from.0 t.0 k.0 v.0 values (node_in s past p)) good made at
-          (noted_in_order t k values (node_in s past p).homes (good.order p below));
+      turns = λ q lt. same_part (λ (st : Node). st.turns) s past e p (note_done s e.took.from.0 t.0 k.0 v.0 values (node_in s past p)) made at refl q ∙ good.turns q lt;
+      coordinator = coordinator_kept s past e (omega arith) ∙ good.coordinator;
       items = idle_items s past e good idle;
     }

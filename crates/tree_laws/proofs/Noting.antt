@@ -1,34 +1,32 @@
 -- What one notice more makes of the homes.
-use Rattle.std.proofs.Common.{◌≡◌, ◌≢◌, ◌⊎◌, inl, inr, ℕ, zero, suc, ◌<◌, ◌≤◌, Bool, true, false, List, [], ◌∷◌, length, set, replicate, refl, sym, ap, subst, ◌∙◌, arith, Option, Some, None}
+use Rattle.std.proofs.Common.{◌≡◌, ◌≢◌, ◌⊎◌, inl, inr, ℕ, zero, suc, ◌<◌, ◌≤◌, Bool, true, false, List, [], ◌∷◌, length, set, replicate, refl, ap, ◌∙◌, arith, Option, Some, None}
 use Rattle.std.specs.Prelude.{IsSome, nat_lt, slice_get}
 use Rattle.std.proofs.lemmas.Bool.Decides.{nat_tests}
 use Rattle.tv_base.specs.declared.numbers.TreeNo.{TreeNo}
 use Rattle.tv_base.specs.declared.numbers.SubNo.{SubNo}
 use Rattle.tv_base.specs.declared.numbers.Version.{Version}
-use Rattle.tree_home.specs.declared.homes.Home.{Home}
 use Rattle.tree_home.specs.declared.homes.Answered.{Answered}
-use Rattle.tree_home.specs.Homes.{Gets, IsAscending, home_in, new_home, begun, noted, forgotten, missing_count, missing_in, misses, answer_in}
+use Rattle.tree_home.specs.Homes.{answer_in, begun, forgotten, Gets, home_in, misses, missing_count, missing_in, noted, OpenTrees}
 use Rattle.tree_home.proofs.Always.{begun-others, noted-others, forgotten-others, misses-begun, answered-exactly}
-use Rattle.tree_home.proofs.Changes.{IsAscending-with_home, IsAscending-noted, IsAscending-forgotten}
 use Rattle.tree_step.specs.Notices.{homes_noted, answer_noted}
 use Rattle.tree_laws.proofs.Counts.{zero_or}
 use Rattle.tree_laws.proofs.Good.{is_noted}
 
 -- a notice that was missing: others are still missing, or the tree is answered and gone
-pub data Noting (t : TreeNo) (k : SubNo) (values : Gets) (hs : List Home) : Type 0 where
+pub data Noting (t : TreeNo) (k : SubNo) (values : Gets) (hs : OpenTrees) : Type 0 where
   More : homes_noted t k values hs ≡ noted t k values hs → answer_noted t k values hs ≡ None → 1 ≤ missing_in t (noted t k values hs)
       → Noting t k values hs
   Last : (a : Answered) → homes_noted t k values hs ≡ forgotten t hs → answer_noted t k values hs ≡ Some a
       → answer_in t k values hs ≡ Some a → missing_in t (noted t k values hs) ≡ 0 → Noting t k values hs
 
-some_missing : (t : TreeNo) (k : SubNo) (values : Gets) (hs : List Home) → misses t k hs ≡ true → answer_in t k values hs ≡ None
+some_missing : (t : TreeNo) (k : SubNo) (values : Gets) (hs : OpenTrees) → misses t k hs ≡ true → answer_in t k values hs ≡ None
     → (missing_in t (noted t k values hs) ≡ 0) ⊎ (0 < missing_in t (noted t k values hs)) → 1 ≤ missing_in t (noted t k values hs)
 some_missing t k values hs miss is (inl none) =
     let some : IsSome (answer_in t k values hs) = (answered-exactly t k values hs miss).1 none in
     absurd (let no = rw is at some in cc)
 some_missing t k values hs miss is (inr some) = some
 
-noting_by : (t : TreeNo) (k : SubNo) (values : Gets) (hs : List Home) → misses t k hs ≡ true → (o : Option Answered)
+noting_by : (t : TreeNo) (k : SubNo) (values : Gets) (hs : OpenTrees) → misses t k hs ≡ true → (o : Option Answered)
     → answer_in t k values hs ≡ o → Noting t k values hs
 noting_by t k values hs miss None is =
     More (rw miss (rw is refl)) (rw miss is) (some_missing t k values hs miss is (zero_or (missing_in t (noted t k values hs))))
@@ -37,53 +35,29 @@ noting_by t k values hs miss (Some a) is =
     Last a (rw miss (rw is refl)) (rw miss is) is ((answered-exactly t k values hs miss).0 some)
 
 -- every notice that was missing is one of these
-pub noting : (t : TreeNo) (k : SubNo) (values : Gets) (hs : List Home) → misses t k hs ≡ true → Noting t k values hs
+pub noting : (t : TreeNo) (k : SubNo) (values : Gets) (hs : OpenTrees) → misses t k hs ≡ true → Noting t k values hs
 noting t k values hs miss = noting_by t k values hs miss (answer_in t k values hs) refl
 
 -- The homes of other trees stay.
-others_by : (t u : TreeNo) (k : SubNo) (values : Gets) (hs : List Home) → u.0 ≢ t.0 → Noting t k values hs
+others_by : (t u : TreeNo) (k : SubNo) (values : Gets) (hs : OpenTrees) → u.0 ≢ t.0 → Noting t k values hs
     → home_in u (homes_noted t k values hs) ≡ home_in u hs
 others_by t u k values hs ne (More is answer some) = ap (home_in u) is ∙ noted-others t u k values hs ne
 others_by t u k values hs ne (Last a is answer here none) = ap (home_in u) is ∙ forgotten-others t u hs ne
 
-others_test : (t u : TreeNo) (k : SubNo) (values : Gets) (hs : List Home) → u.0 ≢ t.0 → (test : Bool) → misses t k hs ≡ test
+others_test : (t u : TreeNo) (k : SubNo) (values : Gets) (hs : OpenTrees) → u.0 ≢ t.0 → (test : Bool) → misses t k hs ≡ test
     → home_in u (homes_noted t k values hs) ≡ home_in u hs
 others_test t u k values hs ne true is = others_by t u k values hs ne (noting t k values hs is)
 others_test t u k values hs ne false is = rw is refl
 
 -- a notice leaves the homes of other trees
-pub noted_keeps_others : (t u : TreeNo) (k : SubNo) (values : Gets) (hs : List Home) → u.0 ≢ t.0
+pub noted_keeps_others : (t u : TreeNo) (k : SubNo) (values : Gets) (hs : OpenTrees) → u.0 ≢ t.0
     → home_in u (homes_noted t k values hs) ≡ home_in u hs
 noted_keeps_others t u k values hs ne = others_test t u k values hs ne (misses t k hs) refl
 
 -- so does a root
-pub root_keeps_others : (t u : TreeNo) (k : SubNo) (values : Gets) (n : ℕ) (v : Version) (hs : List Home) → u.0 ≢ t.0
+pub root_keeps_others : (t u : TreeNo) (k : SubNo) (values : Gets) (n : ℕ) (v : Version) (hs : OpenTrees) → u.0 ≢ t.0
     → home_in u (homes_noted t k values (begun t n v hs)) ≡ home_in u hs
 root_keeps_others t u k values n v hs ne = noted_keeps_others t u k values (begun t n v hs) ne ∙ begun-others t u n v hs ne
-
--- The homes stand in order.
-order_by : (t : TreeNo) (k : SubNo) (values : Gets) (hs : List Home) → IsAscending hs → Noting t k values hs
-    → IsAscending (homes_noted t k values hs)
-order_by t k values hs up (More is answer some) = subst IsAscending (sym is) (IsAscending-noted t k values hs up)
-order_by t k values hs up (Last a is answer here none) = subst IsAscending (sym is) (IsAscending-forgotten t hs up)
-
-not_noted : (t : TreeNo) (k : SubNo) (values : Gets) (hs : List Home) → misses t k hs ≡ false → homes_noted t k values hs ≡ hs
-not_noted t k values hs is = rw is refl
-
-order_test : (t : TreeNo) (k : SubNo) (values : Gets) (hs : List Home) → IsAscending hs → (test : Bool) → misses t k hs ≡ test
-    → IsAscending (homes_noted t k values hs)
-order_test t k values hs up true is = order_by t k values hs up (noting t k values hs is)
-order_test t k values hs up false is = subst IsAscending (sym (not_noted t k values hs is)) up
-
--- a notice leaves the homes in order
-pub noted_in_order : (t : TreeNo) (k : SubNo) (values : Gets) (hs : List Home) → IsAscending hs → IsAscending (homes_noted t k values hs)
-noted_in_order t k values hs up = order_test t k values hs up (misses t k hs) refl
-
--- so does a root whose tree has no home yet
-pub root_in_order : (t : TreeNo) (k : SubNo) (values : Gets) (n : ℕ) (v : Version) (hs : List Home) → home_in t hs ≡ None → IsAscending hs
-    → IsAscending (homes_noted t k values (begun t n v hs))
-root_in_order t k values n v hs new up =
-    noted_in_order t k values (begun t n v hs) (IsAscending-with_home (new_home t n v) hs new up)
 
 -- Which notices were taken down.
 pub noted_same : (ns : List (Option Gets)) (k : ℕ) (values : Gets) → k < length ns → is_noted (slice_get (set ns k (Some values)) k) ≡ 1
@@ -114,5 +88,5 @@ all_noted (Some values ∷ ns) zero none lt = refl
 all_noted (Some values ∷ ns) (suc k) none lt = all_noted ns k none (omega arith)
 
 -- A tree that begins misses its root's notice.
-pub misses_root : (t : TreeNo) (k : SubNo) (n : ℕ) (v : Version) (hs : List Home) → k.0 < n → misses t k (begun t n v hs) ≡ true
+pub misses_root : (t : TreeNo) (k : SubNo) (n : ℕ) (v : Version) (hs : OpenTrees) → k.0 < n → misses t k (begun t n v hs) ≡ true
 misses_root t k n v hs lt = let below : nat_lt k.0 n ≡ true = grind (arith, nat_tests) in misses-begun t k n v hs ∙ below

@@ -1,14 +1,15 @@
 -- An entry that does a root keeps what holds.
-use Rattle.std.proofs.Common.{◌≡◌, ◌≢◌, ◌⊎◌, inl, inr, ℕ, ◌<◌, List, ◌∷◌, length, refl, sym, ap, subst, ◌∙◌, arith, None}
+use Rattle.std.proofs.Common.{◌≡◌, ◌≢◌, ◌⊎◌, inl, inr, ℕ, ◌<◌, ◌≤◌, List, ◌∷◌, length, refl, sym, ap, subst, ◌∙◌, arith, None}
 use Rattle.std.proofs.lemmas.Bool.{cases_eq}
 use Rattle.tv_base.specs.declared.numbers.TreeNo.{TreeNo}
 use Rattle.tv_base.specs.declared.numbers.Version.{Version}
-use Rattle.item_versions.specs.Table.{Table}
-use Rattle.tree_home.specs.Homes.{Gets, home_in, begun}
+use Rattle.node_versions.specs.declared.turns.Turns.{Turns}
+use Rattle.world_model.proofs.Every.{coordinator_kept}
+use Rattle.tree_home.specs.Homes.{home_in, begun}
 use Rattle.letter_types.specs.declared.bodies.Body.TheVariants.{Root}
 use Rattle.letter_types.specs.declared.entries.Entry.{Entry}
 use Rattle.tx_trees.specs.ScriptData.{ScriptData, subs_at, home_of, client_of}
-use Rattle.tree_step.specs.Node.{Node}
+use Rattle.tree_step.specs.Node.{Effect, Node}
 use Rattle.tree_step.specs.Children.{sub_letters}
 use Rattle.tree_step.specs.Done.{root_done}
 use Rattle.tree_step.specs.Notices.{reply_letters}
@@ -21,106 +22,118 @@ use Rattle.tree_laws.proofs.Doing.{root_answer, root_sends, root_does}
 use Rattle.tree_laws.proofs.Fits.{SentFit}
 use Rattle.tree_laws.proofs.Flows.{letters_next, same_part}
 use Rattle.tree_laws.proofs.Good.{Good, TreeAt}
-use Rattle.tree_laws.proofs.Kept.{Does, does_roots, does_subs, does_born, does_items, heard_same, same_heard, both_fit, children_sent, order_next}
-use Rattle.tree_laws.proofs.Nexts.{Made, RootWork}
-use Rattle.tree_laws.proofs.Noting.{misses_root, root_keeps_others, root_in_order}
+use Rattle.tree_laws.proofs.Kept.{Does, does_roots, does_subs, does_born, does_items, heard_same, same_heard, both_fit, children_sent}
+use Rattle.tree_laws.proofs.Nexts.{Made, RootWork, RootUpdates, RootReads}
+use Rattle.tree_laws.proofs.Noting.{misses_root, root_keeps_others}
 use Rattle.tree_laws.proofs.Scripts.{Sound, SubAt, node_below, sub_below, tree_below}
 use Rattle.tree_laws.proofs.Sent.{on, other_tree, replies_none, subs_none}
 use Rattle.tree_laws.proofs.Staging.{Apart, stays, Begins, begins_stage}
 
 -- A root.
-abbrev RootMade : ScriptData → List Entry → Entry → TreeNo → Version → Table → Gets → Type 0
-RootMade s past e t v items values =
-    Made s past e (home_of s t.0) (root_done s (home_of s t.0) t.0 v.0 items values (node_in s past (home_of s t.0)))
+abbrev RootMade : ScriptData → List Entry → Entry → TreeNo → Version → Effect → Type 0
+RootMade s past e t v effect =
+    Made s past e (home_of s t.0) (root_done s (home_of s t.0) t.0 v.0 effect (node_in s past (home_of s t.0)))
 
-root_fits : (s : ScriptData) (past : List Entry) (e : Entry) (t : TreeNo) (v : Version) (items : Table) (values : Gets) → SubAt s t.0 0 → Sound s
-    → e.actor.0 ≡ home_of s t.0 → RootMade s past e t v items values → SentFit s e.actor.0 e.sent
-root_fits s past e t v items values c sound at made =
+root_fits : (s : ScriptData) (past : List Entry) (e : Entry) (t : TreeNo) (v : Version) (effect : Effect) → SubAt s t.0 0 → Sound s
+    → v.0 ≤ 1 → e.actor.0 ≡ home_of s t.0 → RootMade s past e t v effect → SentFit s e.actor.0 e.sent
+root_fits s past e t v effect c sound most at made =
     let hs = begun t (length (subs_at s t.0)) v (node_in s past (home_of s t.0)).homes in
     let miss = misses_root t (record { 0 = 0 }) (length (subs_at s t.0)) v (node_in s past (home_of s t.0)).homes (sub_below s t.0 0 c) in
-    both_fit s e.actor.0 (sub_letters t.0 v.0 0 0 (subs_at s t.0)) (reply_letters (client_of s) (root_answer s t v values (home_of s t.0) past)) e.sent
-    made.sent (children_sent s past e t.0 0 v.0 sound c at)
-    (answer_fits s e.actor.0 t (record { 0 = 0 }) values hs (tree_below s t.0 0 c) miss)
+    both_fit s e.actor.0 (sub_letters t.0 v.0 0 0 (subs_at s t.0)) (reply_letters (client_of s) (root_answer s t v effect.values (home_of s t.0) past)) e.sent
+    made.sent (children_sent s past e t.0 0 v.0 sound c most at)
+    (answer_fits s e.actor.0 t (record { 0 = 0 }) effect.values hs (tree_below s t.0 0 c) miss)
 
 -- a root tells no notice
-root_tells : (s : ScriptData) (past : List Entry) (e : Entry) (t : TreeNo) (v : Version) (items : Table) (values : Gets)
-    → RootMade s past e t v items values → (u k : ℕ) → tally (on (tells_done u k)) e.sent ≡ 0
-root_tells s past e t v items values made u k =
+root_tells : (s : ScriptData) (past : List Entry) (e : Entry) (t : TreeNo) (v : Version) (effect : Effect)
+    → RootMade s past e t v effect → (u k : ℕ) → tally (on (tells_done u k)) e.sent ≡ 0
+root_tells s past e t v effect made u k =
     omega (
       arith,
-      root_sends (tells_done u k) s past e t v items values made,
+      root_sends (tells_done u k) s past e t v effect made,
       subs_none (tells_done u k) t.0 v.0 0 0 (subs_at s t.0) (λ w i x. refl),
-      replies_none (tells_done u k) (client_of s) (root_answer s t v values (home_of s t.0) past) (λ w x answer. refl),
+      replies_none (tells_done u k) (client_of s) (root_answer s t v effect.values (home_of s t.0) past) (λ w x answer. refl),
     )
 
 -- what a root answers
-root_answers : (s : ScriptData) (past : List Entry) (e : Entry) (t : TreeNo) (v : Version) (items : Table) (values : Gets)
-    → RootMade s past e t v items values → (u : ℕ)
+root_answers : (s : ScriptData) (past : List Entry) (e : Entry) (t : TreeNo) (v : Version) (effect : Effect)
+    → RootMade s past e t v effect → (u : ℕ)
     → tally (on (replies_to u)) e.sent
-    ≡ tally (on (replies_to u)) (reply_letters (client_of s) (root_answer s t v values (home_of s t.0) past))
-root_answers s past e t v items values made u =
+    ≡ tally (on (replies_to u)) (reply_letters (client_of s) (root_answer s t v effect.values (home_of s t.0) past))
+root_answers s past e t v effect made u =
     omega (
       arith,
-      root_sends (replies_to u) s past e t v items values made,
+      root_sends (replies_to u) s past e t v effect made,
       subs_none (replies_to u) t.0 v.0 0 0 (subs_at s t.0) (λ w i x. refl),
     )
 
-root_apart : (s : ScriptData) (past : List Entry) (e : Entry) (t : TreeNo) (v : Version) (items : Table) (values : Gets) → SubAt s t.0 0
-    → Does s past e t.0 0 → e.took.body ≡ Root t → RootMade s past e t v items values → (u : ℕ) → t.0 ≢ u → Apart s past e u
-root_apart s past e t v items values c does is made u ne =
+root_apart : (s : ScriptData) (past : List Entry) (e : Entry) (t : TreeNo) (v : Version) (effect : Effect) → SubAt s t.0 0
+    → Does s past e t.0 0 → e.took.body ≡ Root t → RootMade s past e t v effect → (u : ℕ) → t.0 ≢ u → Apart s past e u
+root_apart s past e t v effect c does is made u ne =
     let n = length (subs_at s t.0) in
     let hs = (node_in s past (home_of s t.0)).homes in
     let miss = misses_root t (record { 0 = 0 }) n v hs (sub_below s t.0 0 c) in
     record {
       did = λ k. does.did u k ∙ other_tree u t.0 k 0 ne;
       home = same_part (λ (st : Node). home_in (record { 0 = u }) st.homes) s past e (home_of s t.0)
-          (root_done s (home_of s t.0) t.0 v.0 items values (node_in s past (home_of s t.0))) made does.at
-          (root_keeps_others t (record { 0 = u }) (record { 0 = 0 }) values n v hs (λ same. ne (sym same))) (home_of s u);
-      answers = root_answers s past e t v items values made u ∙ replies_apart (client_of s) u t (record { 0 = 0 }) values (begun t n v hs) ne miss;
+          (root_done s (home_of s t.0) t.0 v.0 effect (node_in s past (home_of s t.0))) made does.at
+          (root_keeps_others t (record { 0 = u }) (record { 0 = 0 }) effect.values n v hs (λ same. ne (sym same))) (home_of s u);
+      answers = root_answers s past e t v effect made u ∙ replies_apart (client_of s) u t (record { 0 = 0 }) effect.values (begun t n v hs) ne miss;
       told = λ k. rw is refl;
-      notes = root_tells s past e t v items values made u;
+      notes = root_tells s past e t v effect made u;
     }
 
-root_begins : (s : ScriptData) (past : List Entry) (e : Entry) (t : TreeNo) (v : Version) (items : Table) (values : Gets)
+root_begins : (s : ScriptData) (past : List Entry) (e : Entry) (t : TreeNo) (v : Version) (effect : Effect)
     → Does s past e t.0 0 → e.took.body ≡ Root t → home_in t (node_in s past (home_of s t.0)).homes ≡ None
-    → RootMade s past e t v items values → Begins s past e t v values (node_in s past (home_of s t.0)).homes
-root_begins s past e t v items values does is new made = record {
+    → RootMade s past e t v effect → Begins s past e t v effect.values (node_in s past (home_of s t.0)).homes
+root_begins s past e t v effect does is new made = record {
   did = λ k. does.did t.0 k;
   home = ap (λ (st : Node). home_in t st.homes) made.state;
-  answers = root_answers s past e t v items values made t.0;
+  answers = root_answers s past e t v effect made t.0;
   told = λ k. rw is refl;
-  notes = root_tells s past e t v items values made t.0;
+  notes = root_tells s past e t v effect made t.0;
   new = new;
 }
 
-root_stage : (s : ScriptData) (past : List Entry) (e : Entry) (t : TreeNo) (v : Version) (items : Table) (values : Gets) → SubAt s t.0 0
+root_stage : (s : ScriptData) (past : List Entry) (e : Entry) (t : TreeNo) (v : Version) (effect : Effect) → SubAt s t.0 0
     → Sound s → Good s past → MayFollow s past e → dids past t.0 0 ≡ 0 → Does s past e t.0 0 → e.took.body ≡ Root t
-    → home_in t (node_in s past (home_of s t.0)).homes ≡ None → RootMade s past e t v items values → (u : ℕ) → u < length s.trees
+    → home_in t (node_in s past (home_of s t.0)).homes ≡ None → RootMade s past e t v effect → (u : ℕ) → u < length s.trees
     → (t.0 ≡ u) ⊎ (t.0 ≢ u) → TreeAt s (e ∷ past) u
-root_stage s past e t v items values c sound good m none does is new made u lt (inl same) =
+root_stage s past e t v effect c sound good m none does is new made u lt (inl same) =
     subst (λ (w : ℕ). TreeAt s (e ∷ past) w) same
-    (begins_stage s past e t v values (node_in s past (home_of s t.0)).homes c (λ k d. omega (arith, none, below_root s past t.0 k d sound good)) m
-    (root_begins s past e t v items values does is new made) (good.stages t.0 (tree_below s t.0 0 c)))
-root_stage s past e t v items values c sound good m none does is new made u lt (inr ne) =
-    stays s past e u m (root_apart s past e t v items values c does is made u ne) (good.stages u lt)
+    (begins_stage s past e t v effect.values (node_in s past (home_of s t.0)).homes c (λ k d. omega (arith, none, below_root s past t.0 k d sound good)) m
+    (root_begins s past e t v effect does is new made) (good.stages t.0 (tree_below s t.0 0 c)))
+root_stage s past e t v effect c sound good m none does is new made u lt (inr ne) =
+    stays s past e u m (root_apart s past e t v effect c does is made u ne) (good.stages u lt)
+
+-- the version of a root is one of the first
+root_version : (s : ScriptData) (past : List Entry) (t : ℕ) (v : Version) (effect : Effect) → SubAt s t 0 → Sound s → Good s past
+    → RootWork s t (node_in s past (home_of s t)) v effect → v.0 ≤ 1
+root_version s past t v effect c sound good (RootUpdates up is can made) =
+    let first = ap (λ (u : Turns). u.update.0) (good.turns (home_of s t) (node_below s t 0 c sound)) in
+    let same = ap (λ (w : Version). w.0) is in
+    omega arith
+root_version s past t v effect c sound good (RootReads read is can made) =
+    let first = ap (λ (u : Turns). u.read.0) (good.turns (home_of s t) (node_below s t 0 c sound)) in
+    let same = ap (λ (w : Version). w.0) is in
+    omega arith
 
 -- a root is done
-pub root_good : (s : ScriptData) (past : List Entry) (e : Entry) (t : TreeNo) (v : Version) (items : Table) (values : Gets) → Sound s
+pub root_good : (s : ScriptData) (past : List Entry) (e : Entry) (t : TreeNo) (v : Version) (effect : Effect) → Sound s
     → Good s past → MayFollow s past e → e.took.body ≡ Root t → SubAt s t.0 0 → e.actor.0 ≡ home_of s t.0
-    → home_in t (node_in s past (home_of s t.0)).homes ≡ None → RootWork s t.0 (node_in s past (home_of s t.0)) v items values
-    → RootMade s past e t v items values → Good s (e ∷ past)
-root_good s past e t v items values sound good m is c at new work made =
+    → home_in t (node_in s past (home_of s t.0)).homes ≡ None → RootWork s t.0 (node_in s past (home_of s t.0)) v effect
+    → RootMade s past e t v effect → Good s (e ∷ past)
+root_good s past e t v effect sound good m is c at new work made =
     let none = not_done s past t.0 0 c sound good (was_asked s past e t.0 0 m (ap (asks t.0 0) is ∙ one_here t.0 0)) in
-    let does = root_does s past e t v items values c sound good none is at work made in
-    let hs = (node_in s past (home_of s t.0)).homes in
-    let up = root_in_order t (record { 0 = 0 }) values (length (subs_at s t.0)) v hs new (good.order (home_of s t.0) (node_below s t.0 0 c sound)) in
+    let does = root_does s past e t v effect c sound good none is at work made in
+    let below = node_below s t.0 0 c sound in
     record {
-      letters = letters_next s past e good (root_fits s past e t v items values c sound at made);
+      letters = letters_next s past e good (root_fits s past e t v effect c sound (root_version s past t.0 v effect c sound good work) at made);
       roots = does_roots s past e t.0 0 good m does;
       subs = does_subs s past e t.0 0 sound good m does;
       born = does_born s past e t.0 0 good does;
-      stages = λ u lt. root_stage s past e t v items values c sound good m none does is new made u lt (cases_eq t.0 u);
+      stages = λ u lt. root_stage s past e t v effect c sound good m none does is new made u lt (cases_eq t.0 u);
       heard = λ u lt. heard_same s past e good m u lt (rw is refl) (same_heard s past e does.client u);
-      order = order_next s past e (home_of s t.0) (root_done s (home_of s t.0) t.0 v.0 items values (node_in s past (home_of s t.0))) good made at up;
+      turns = λ q lt. same_part (λ (st : Node). st.turns) s past e (home_of s t.0) (root_done s (home_of s t.0) t.0 v.0 effect (node_in s past (home_of s t.0))) made at refl q ∙ good.turns q lt;
+      coordinator = coordinator_kept s past e (omega arith) ∙ good.coordinator;
       items = does_items s past e t.0 0 good does;
     }

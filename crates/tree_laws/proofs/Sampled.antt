@@ -74,7 +74,7 @@ small_valid = record {
 }
 
 pub small_runnable : Runnable small
-small_runnable = record { trees = (refl, tt); rows = (tt, tt) }
+small_runnable = record { trees = (refl, tt); rows = (refl, tt) }
 
 -- the run of the small script
 pub small_run : StepRun small (sample small 6)
@@ -147,7 +147,7 @@ read_valid = record {
 }
 
 pub read_runnable : Runnable with_read
-read_runnable = record { trees = (refl, (refl, tt)); rows = (tt, (tt, (tt, tt))) }
+read_runnable = record { trees = (refl, (refl, tt)); rows = (refl, (refl, (refl, tt))) }
 
 -- the run of the script with a read
 pub read_run : StepRun with_read (sample with_read 11)

@@ -4,10 +4,10 @@ use Rattle.world_model.specs.Sample.{sample, small, with_read}
 use Rattle.tree_laws.specs.Ends.{finishes_in}
 use Rattle.tree_laws.specs.Entries.{entries_of}
 
-pub entries : entries_of small ≡ 6
+pub entries : entries_of small 0 ≡ 6
 entries = refl
 
-pub more_entries : entries_of with_read ≡ 11
+pub more_entries : entries_of with_read 0 ≡ 11
 more_entries = refl
 
 pub finishes : finishes_in (reverse (sample small 10)) ≡ 1

@@ -10,10 +10,11 @@ use Rattle.tx_trees.specs.declared.parts.Sub.{Sub}
 use Rattle.tx_trees.specs.declared.parts.Tree.{Tree}
 use Rattle.tx_trees.specs.declared.parts.TreeKind.{TreeKind}
 use Rattle.tx_trees.specs.declared.parts.TreeKind.TheVariants as trees
-use Rattle.world_model.specs.Tables.{Runnable}
-use Rattle.tx_trees.specs.Built.{is_built}
+use Rattle.tx_trees.proofs.SubsOf.{all_at}
+use Rattle.tree_step.specs.Apt.{kind_at, is_strict_at}
+use Rattle.world_model.specs.Tables.{Runnable, is_run}
 
--- a script that is valid, and whose rows are built
+-- a script that is valid, and that the world runs
 pub record Sound (s : ScriptData) : Type 0 where
   pub valid : IsValid s
   pub runnable : Runnable s
@@ -24,11 +25,6 @@ pub record SubAt (s : ScriptData) (t k : ℕ) : Type 0 where
   pub at : slice_get s.trees t ≡ Some tree
   pub sub : Sub
   pub here : slice_get tree.subs k ≡ Some sub
-
-pub all_at : {X : Type 0} (P : X → Type 0) (xs : List X) (k : ℕ) (x : X) → AllByRecursion P xs → slice_get xs k ≡ Some x → P x
-all_at P [] k x all at = absurd (cc at)
-all_at P (y ∷ xs) zero x all at = let eq : y ≡ x = cc at in subst P eq all.0
-all_at P (y ∷ xs) (suc k) x all at = all_at P xs k x all.1 at
 
 pub get_some : {X : Type 0} (xs : List X) (k : ℕ) → k < length xs → (x : X) × (slice_get xs k ≡ Some x)
 get_some [] k lt = absurd (omega arith)
@@ -77,15 +73,15 @@ is_read_of trees.Update is = absurd (cc is)
 is_read_of trees.Read is = refl
 is_read_of trees.Strict is = absurd (cc is)
 
-built_of : (kind : TreeKind) → is_built kind ≡ true → (is_update kind ≡ true) ⊎ (is_read kind ≡ true)
-built_of trees.Update is = inl refl
-built_of trees.Read is = inr refl
-built_of trees.Strict is = absurd (cc is)
+run_of : (kind : TreeKind) → is_run kind ≡ true → (is_update kind ≡ true) ⊎ (is_read kind ≡ true)
+run_of trees.Update is = inl refl
+run_of trees.Read is = inr refl
+run_of trees.Strict is = absurd (cc is)
 
 -- a tree updates or reads
 pub tree_kind : (s : ScriptData) (t k : ℕ) (c : SubAt s t k) → Sound s → (updates s t ≡ true) ⊎ (reads s t ≡ true)
 tree_kind s t k c sound =
-    rw (c.at, updates, reads) (built_of c.tree.kind (all_at (λ (x : Tree). IsTrue (is_built x.kind)) s.trees t c.tree sound.runnable.trees c.at))
+    rw (c.at, updates, reads) (run_of c.tree.kind (all_at (λ (x : Tree). IsTrue (is_run x.kind)) s.trees t c.tree sound.runnable.trees c.at))
 
 -- an update tree is of its kind
 pub updates_kind : (s : ScriptData) (t k : ℕ) (c : SubAt s t k) → updates s t ≡ true → c.tree.kind ≡ trees.Update
@@ -94,6 +90,21 @@ updates_kind s t k c up = is_update_of c.tree.kind (rw (c.at, updates) at up)
 -- and a read tree of its own
 pub reads_kind : (s : ScriptData) (t k : ℕ) (c : SubAt s t k) → reads s t ≡ true → c.tree.kind ≡ trees.Read
 reads_kind s t k c up = is_read_of c.tree.kind (rw (c.at, reads) at up)
+
+-- the kind that a node asks for
+pub update_kind_at : (s : ScriptData) (t k : ℕ) (c : SubAt s t k) → updates s t ≡ true → kind_at s t ≡ Some trees.Update
+update_kind_at s t k c up = rw (c.at, kind_at) (ap (λ (x : TreeKind). Some x) (updates_kind s t k c up))
+
+pub read_kind_at : (s : ScriptData) (t k : ℕ) (c : SubAt s t k) → reads s t ≡ true → kind_at s t ≡ Some trees.Read
+read_kind_at s t k c up = rw (c.at, kind_at) (ap (λ (x : TreeKind). Some x) (reads_kind s t k c up))
+
+not_strict_by : (s : ScriptData) (t k : ℕ) (c : SubAt s t k) → (updates s t ≡ true) ⊎ (reads s t ≡ true) → is_strict_at s t ≡ false
+not_strict_by s t k c (inl up) = rw (update_kind_at s t k c up, is_strict_at) refl
+not_strict_by s t k c (inr up) = rw (read_kind_at s t k c up, is_strict_at) refl
+
+-- no tree is strict
+pub not_strict : (s : ScriptData) (t k : ℕ) (c : SubAt s t k) → Sound s → is_strict_at s t ≡ false
+not_strict s t k c sound = not_strict_by s t k c (tree_kind s t k c sound)
 
 -- a read tree is no update tree
 pub reads_alone : (s : ScriptData) (t k : ℕ) (c : SubAt s t k) → reads s t ≡ true → updates s t ≡ false

@@ -13,7 +13,7 @@ use Rattle.tree_laws.proofs.Scripts.{SubAt, sub_below}
 pub no_home : (s : ScriptData) (past : List Entry) (t : ℕ) → dids past t 0 ≡ 0 → TreeAt s past t
     → home_in (record { 0 = t }) (node_in s past (home_of s t)).homes ≡ None
 no_home s past t none (Unborn new home answers notes) = home
-no_home s past t none (Gathers h one home is long some answers notes) = absurd (omega arith)
+no_home s past t none (Gathers h one home long some answers notes) = absurd (omega arith)
 no_home s past t none (Answered home answers notes all) = home
 
 -- a notice that was not taken down is missing
@@ -27,6 +27,6 @@ missing_at (n ∷ ns) (suc k) lt none = missing_at ns k (omega arith) none
 pub misses_notice : (s : ScriptData) (past : List Entry) (t k : ℕ) → SubAt s t k → dids past t k ≤ 1 → 1 ≤ notices s past t k → TreeAt s past t
     → misses (record { 0 = t }) (record { 0 = k }) (node_in s past (home_of s t)).homes ≡ true
 misses_notice s past t k c most some (Unborn new home answers notes) = absurd (omega (arith, notes k))
-misses_notice s past t k c most some (Gathers h one home is long few answers notes) =
+misses_notice s past t k c most some (Gathers h one home long few answers notes) =
     rw home (missing_at h.notices k (omega (arith, long, sub_below s t k c)) (omega (arith, notes k c)))
 misses_notice s past t k c most some (Answered home answers notes all) = absurd (omega (arith, notes k))

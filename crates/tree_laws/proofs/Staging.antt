@@ -7,8 +7,8 @@ use Rattle.std.proofs.lemmas.List.{length-set, length-replicate}
 use Rattle.tv_base.specs.declared.numbers.TreeNo.{TreeNo}
 use Rattle.tv_base.specs.declared.numbers.SubNo.{SubNo}
 use Rattle.tv_base.specs.declared.numbers.Version.{Version}
-use Rattle.tree_home.specs.declared.homes.Home.{Home}
-use Rattle.tree_home.specs.Homes.{Gets, IsAscending, home_in, new_home, begun, with_notice, missing_count, misses}
+use Rattle.tree_home.specs.declared.homes.OpenTree.{OpenTree}
+use Rattle.tree_home.specs.Homes.{begun, Gets, home_in, misses, missing_count, new_tree, OpenTrees, with_notice}
 use Rattle.tree_home.proofs.Always.{begun-there, forgotten-begun, forgotten-gone, all-missing}
 use Rattle.tree_home.proofs.Gathered.{home_in-noted, missing_in-noted}
 use Rattle.tree_step.specs.Notices.{homes_noted, answer_noted, reply_letters}
@@ -25,7 +25,7 @@ use Rattle.tree_laws.proofs.Scripts.{SubAt, sub_below, sub_there, tree_below}
 use Rattle.tree_laws.proofs.Sent.{on}
 
 -- the home of tree t
-abbrev pub home_now : ScriptData → List Entry → ℕ → Option Home
+abbrev pub home_now : ScriptData → List Entry → ℕ → Option OpenTree
 home_now s past t = home_in (record { 0 = t }) (node_in s past (home_of s t)).homes
 
 -- the entry has nothing to do with tree t
@@ -42,8 +42,8 @@ pub stays : (s : ScriptData) (past : List Entry) (e : Entry) (t : ℕ) → MayFo
 stays s past e t m a (Unborn none home quiet notes) =
     Unborn (omega (arith, none, a.did 0)) (a.home ∙ home) (omega (arith, quiet, a.answers))
     (λ k. omega (arith, notes k, flow (tells_done t k) s past e m, a.told k, a.notes k))
-stays s past e t m a (Gathers h one home is long some quiet notes) =
-    Gathers h (omega (arith, one, a.did 0)) (a.home ∙ home) is long some (omega (arith, quiet, a.answers))
+stays s past e t m a (Gathers h one home long some quiet notes) =
+    Gathers h (omega (arith, one, a.did 0)) (a.home ∙ home) long some (omega (arith, quiet, a.answers))
     (λ k c. omega (arith, notes k c, a.did k, flow (tells_done t k) s past e m, a.told k, a.notes k))
 stays s past e t m a (Answered home one notes all) =
     Answered (a.home ∙ home) (omega (arith, one, a.answers)) (λ k. omega (arith, notes k, flow (tells_done t k) s past e m, a.told k, a.notes k))
@@ -61,13 +61,13 @@ pub record Adds (s : ScriptData) (past : List Entry) (e : Entry) (t : ℕ) : Typ
 pub adds : (s : ScriptData) (past : List Entry) (e : Entry) (t k : ℕ) → SubAt s t k → dids past t k ≡ 0 → 1 ≤ dids past t 0
     → MayFollow s past e → Adds s past e t → TreeAt s past t → TreeAt s (e ∷ past) t
 adds s past e t k c new root m a (Unborn none home quiet notes) = absurd (omega arith)
-adds s past e t k c new root m a (Gathers h one home is long some quiet notes) =
-    Gathers h (omega (arith, one, a.root)) (a.home ∙ home) is long some (omega (arith, quiet, a.answers))
+adds s past e t k c new root m a (Gathers h one home long some quiet notes) =
+    Gathers h (omega (arith, one, a.root)) (a.home ∙ home) long some (omega (arith, quiet, a.answers))
     (λ i d. omega (arith, notes i d, flow (tells_done t i) s past e m, a.told i, a.notes i))
 adds s past e t k c new root m a (Answered home one notes all) = absurd (omega (arith, all k c))
 
 -- Tree t's root is done: all of it is missing but the root.
-pub record Begins (s : ScriptData) (past : List Entry) (e : Entry) (t : TreeNo) (v : Version) (values : Gets) (hs : List Home) : Type 0 where
+pub record Begins (s : ScriptData) (past : List Entry) (e : Entry) (t : TreeNo) (v : Version) (values : Gets) (hs : OpenTrees) : Type 0 where
   pub did : (k : ℕ) → tally (is_did t.0 k) e.acts ≡ one_if ((t.0 == t.0) && (0 == k))
   pub home : home_now s (e ∷ past) t.0 ≡ home_in t (homes_noted t (record { 0 = 0 }) values (begun t (length (subs_at s t.0)) v hs))
   pub answers : tally (on (replies_to t.0)) e.sent
@@ -104,17 +104,17 @@ root_noted n k values lt (inr ne) =
     noted_other (all_none n) 0 k values ne ∙ none_noted n k ∙ sym none
 
 -- its home is begun, or with no other subtransaction it is answered at once
-begins_by : (s : ScriptData) (past : List Entry) (e : Entry) (t : TreeNo) (v : Version) (values : Gets) (hs : List Home) → SubAt s t.0 0
+begins_by : (s : ScriptData) (past : List Entry) (e : Entry) (t : TreeNo) (v : Version) (values : Gets) (hs : OpenTrees) → SubAt s t.0 0
     → ((k : ℕ) → SubAt s t.0 k → dids past t.0 k ≡ 0) → ((k : ℕ) → notices s past t.0 k ≡ 0) → answers past t.0 ≡ 0
     → MayFollow s past e → Begins s past e t v values hs → misses t (record { 0 = 0 }) (begun t (length (subs_at s t.0)) v hs) ≡ true
     → Noting t (record { 0 = 0 }) values (begun t (length (subs_at s t.0)) v hs) → TreeAt s (e ∷ past) t.0
 begins_by s past e t v values hs c undone notes quiet m b miss (More is answer some) =
     let n = length (subs_at s t.0) in
-    let there = home_in-noted t (record { 0 = 0 }) values (begun t n v hs) (new_home t n v) (begun-there t n v hs) in
+    let there = home_in-noted t (record { 0 = 0 }) values (begun t n v hs) (new_tree n v) (begun-there t n v hs) in
     let few : 1 ≤ missing_count (set (all_none n) 0 (Some values)) = rw there at some in
     let silent = ap (λ o. tally (on (replies_to t.0)) (reply_letters (client_of s) o)) answer in
-    Gathers (with_notice (record { 0 = 0 }) values (new_home t n v)) (omega (arith, b.did 0, first_one t.0 0, undone 0 c)) (b.home ∙ ap (home_in t) is ∙ there)
-    refl (root_places n values) few (omega (arith, quiet, b.answers, silent))
+    Gathers (with_notice (record { 0 = 0 }) values (new_tree n v)) (omega (arith, b.did 0, first_one t.0 0, undone 0 c)) (b.home ∙ ap (home_in t) is ∙ there)
+    (root_places n values) few (omega (arith, quiet, b.answers, silent))
     (λ k d. omega (
       arith,
       b.did k,
@@ -131,14 +131,14 @@ begins_by s past e t v values hs c undone notes quiet m b miss (Last a is answer
     let hs' = begun t n v hs in
     let one = missing_in-noted t (record { 0 = 0 }) values hs' miss in
     let reply = reply_one (client_of s) t (answer_noted t (record { 0 = 0 }) values hs') a answer (answers_tree t (record { 0 = 0 }) values hs' a miss here) in
-    Answered (b.home ∙ ap (home_in t) (is ∙ forgotten-begun t n v hs) ∙ b.new) (omega (arith, quiet, b.answers, reply))
+    Answered (b.home ∙ ap (home_in t) (is ∙ forgotten-begun t n v hs b.new) ∙ b.new) (omega (arith, quiet, b.answers, reply))
     (λ k. omega (arith, notes k, flow (tells_done t.0 k) s past e m, b.told k, b.notes k))
     (λ k d.
     let first : k ≡ 0 = omega (arith, sub_below s t.0 k d, none, one, all-missing t n v hs) in
     omega (arith, undone k d, b.did k, first_one t.0 k, first_here k first))
 
 -- Tree t takes down the notice of subtransaction k.
-pub record Notes (s : ScriptData) (past : List Entry) (e : Entry) (t : TreeNo) (k : SubNo) (values : Gets) (hs : List Home) : Type 0 where
+pub record Notes (s : ScriptData) (past : List Entry) (e : Entry) (t : TreeNo) (k : SubNo) (values : Gets) (hs : OpenTrees) : Type 0 where
   pub did : (i : ℕ) → tally (is_did t.0 i) e.acts ≡ 0
   pub home : home_now s (e ∷ past) t.0 ≡ home_in t (homes_noted t k values hs)
   pub answers : tally (on (replies_to t.0)) e.sent
@@ -154,7 +154,7 @@ told_none : (t k i : ℕ) → i ≢ k → one_if ((t == t) && (k == i)) ≡ 0
 told_none t k i ne = grind (arith, nat_tests)
 
 -- each notice is under way or taken down
-noted_count : (s : ScriptData) (past : List Entry) (e : Entry) (t : TreeNo) (k : SubNo) (values : Gets) (hs : List Home) (h : Home) (i : ℕ)
+noted_count : (s : ScriptData) (past : List Entry) (e : Entry) (t : TreeNo) (k : SubNo) (values : Gets) (hs : OpenTrees) (h : OpenTree) (i : ℕ)
     → k.0 < length h.notices → MayFollow s past e → Notes s past e t k values hs
     → dids past t.0 i ≡ notices s past t.0 i + is_noted (slice_get h.notices i) → dids past t.0 i ≤ 1 → (i ≡ k.0) ⊎ (i ≢ k.0)
     → dids (e ∷ past) t.0 i ≡ notices s (e ∷ past) t.0 i + is_noted (slice_get (set h.notices k.0 (Some values)) i)
@@ -179,7 +179,7 @@ last_count : (s : ScriptData) (past : List Entry) (t i : ℕ) (ns : List (Option
 last_count s past t i ns none lt count most =
     let one = all_noted ns i none lt in (omega (arith, one), omega (arith, one))
 
-last_none : (s : ScriptData) (past : List Entry) (e : Entry) (t : TreeNo) (k : SubNo) (values : Gets) (hs : List Home) (i : ℕ)
+last_none : (s : ScriptData) (past : List Entry) (e : Entry) (t : TreeNo) (k : SubNo) (values : Gets) (hs : OpenTrees) (i : ℕ)
     → Notes s past e t k values hs → t.0 < length s.trees
     → ((j : ℕ) → SubAt s t.0 j → notices s (e ∷ past) t.0 j ≡ 0) → (i < length (subs_at s t.0)) ⊎ (length (subs_at s t.0) ≤ i)
     → notices s (e ∷ past) t.0 i ≡ 0
@@ -187,20 +187,20 @@ last_none s past e t k values hs i n lt all (inl less) = all i (sub_there s t.0 
 last_none s past e t k values hs i n lt all (inr le) = n.past_end i le
 
 -- a notice is taken down, or with the last one the tree is answered
-noted_by : (s : ScriptData) (past : List Entry) (e : Entry) (t : TreeNo) (k : SubNo) (values : Gets) (hs : List Home) (h : Home)
-    → SubAt s t.0 k.0 → home_in t hs ≡ Some h → h.tree ≡ t → length h.notices ≡ length (subs_at s t.0) → dids past t.0 0 ≡ 1
+noted_by : (s : ScriptData) (past : List Entry) (e : Entry) (t : TreeNo) (k : SubNo) (values : Gets) (hs : OpenTrees) (h : OpenTree)
+    → SubAt s t.0 k.0 → home_in t hs ≡ Some h → length h.notices ≡ length (subs_at s t.0) → dids past t.0 0 ≡ 1
     → answers past t.0 ≡ 0 → ((i : ℕ) → SubAt s t.0 i → dids past t.0 i ≡ notices s past t.0 i + is_noted (slice_get h.notices i))
-    → ((i : ℕ) → SubAt s t.0 i → dids past t.0 i ≤ 1) → IsAscending hs → MayFollow s past e → Notes s past e t k values hs
+    → ((i : ℕ) → SubAt s t.0 i → dids past t.0 i ≤ 1) → MayFollow s past e → Notes s past e t k values hs
     → misses t k hs ≡ true → Noting t k values hs → TreeAt s (e ∷ past) t.0
-noted_by s past e t k values hs h c home is long root quiet count most up m n miss (More after answer some) =
+noted_by s past e t k values hs h c home long root quiet count most m n miss (More after answer some) =
     let there = home_in-noted t k values hs h home in
     let few : 1 ≤ missing_count (set h.notices k.0 (Some values)) = rw there at some in
     let silent = ap (λ o. tally (on (replies_to t.0)) (reply_letters (client_of s) o)) answer in
     let lt : k.0 < length h.notices = omega (arith, sub_below s t.0 k.0 c) in
-    Gathers (with_notice k values h) (omega (arith, n.did 0, root)) (n.home ∙ ap (home_in t) after ∙ there) is
+    Gathers (with_notice k values h) (omega (arith, n.did 0, root)) (n.home ∙ ap (home_in t) after ∙ there)
     (length-set h.notices k.0 (Some values) ∙ long) few (omega (arith, quiet, n.answers, silent))
     (λ i d. noted_count s past e t k values hs h i lt m n (count i d) (most i d) (cases_eq i k.0))
-noted_by s past e t k values hs h c home is long root quiet count most up m n miss (Last a after answer here none) =
+noted_by s past e t k values hs h c home long root quiet count most m n miss (Last a after answer here none) =
     let there = home_in-noted t k values hs h home in
     let over : missing_count (set h.notices k.0 (Some values)) ≡ 0 = rw there at none in
     let lt : k.0 < length h.notices = omega (arith, sub_below s t.0 k.0 c) in
@@ -209,30 +209,30 @@ noted_by s past e t k values hs h c home is long root quiet count most up m n mi
     let last = λ (i : ℕ) (d : SubAt s t.0 i). last_count s (e ∷ past) t.0 i (set h.notices k.0 (Some values)) over
     (omega (arith, places, sub_below s t.0 i d))
     (noted_count s past e t k values hs h i lt m n (count i d) (most i d) (cases_eq i k.0)) (omega (arith, n.did i, most i d)) in
-    Answered (n.home ∙ ap (home_in t) after ∙ forgotten-gone t hs up) (omega (arith, quiet, n.answers, reply))
+    Answered (n.home ∙ ap (home_in t) after ∙ forgotten-gone t hs) (omega (arith, quiet, n.answers, reply))
     (λ i. last_none s past e t k values hs i n (tree_below s t.0 k.0 c) (λ j d. (last j d).0) (cases_lt i (length (subs_at s t.0))))
     (λ i d. (last i d).1)
 
 -- A root is taken by a tree that isn't born.
-pub begins_stage : (s : ScriptData) (past : List Entry) (e : Entry) (t : TreeNo) (v : Version) (values : Gets) (hs : List Home) → SubAt s t.0 0
+pub begins_stage : (s : ScriptData) (past : List Entry) (e : Entry) (t : TreeNo) (v : Version) (values : Gets) (hs : OpenTrees) → SubAt s t.0 0
     → ((k : ℕ) → SubAt s t.0 k → dids past t.0 k ≡ 0) → MayFollow s past e → Begins s past e t v values hs → TreeAt s past t.0
     → TreeAt s (e ∷ past) t.0
 begins_stage s past e t v values hs c undone m b (Unborn none home quiet notes) =
     let miss = misses_root t (record { 0 = 0 }) (length (subs_at s t.0)) v hs (sub_below s t.0 0 c) in
     begins_by s past e t v values hs c undone notes quiet m b miss
     (noting t (record { 0 = 0 }) values (begun t (length (subs_at s t.0)) v hs) miss)
-begins_stage s past e t v values hs c undone m b (Gathers h one home is long some quiet notes) = absurd (omega (arith, undone 0 c))
+begins_stage s past e t v values hs c undone m b (Gathers h one home long some quiet notes) = absurd (omega (arith, undone 0 c))
 begins_stage s past e t v values hs c undone m b (Answered home one notes all) = absurd (omega (arith, undone 0 c, all 0 c))
 
 -- A notice is taken by a tree that gathers.
 pub notes_stage : (s : ScriptData) (past : List Entry) (e : Entry) (t : TreeNo) (k : SubNo) (values : Gets) → SubAt s t.0 k.0
-    → ((i : ℕ) → SubAt s t.0 i → dids past t.0 i ≤ 1) → IsAscending (node_in s past (home_of s t.0)).homes → MayFollow s past e
+    → ((i : ℕ) → SubAt s t.0 i → dids past t.0 i ≤ 1) → MayFollow s past e
     → Notes s past e t k values (node_in s past (home_of s t.0)).homes
     → misses t k (node_in s past (home_of s t.0)).homes ≡ true → TreeAt s past t.0 → TreeAt s (e ∷ past) t.0
-notes_stage s past e t k values c most up m n miss (Unborn none home quiet notes) =
+notes_stage s past e t k values c most m n miss (Unborn none home quiet notes) =
     absurd (omega (arith, notes k.0, flow (tells_done t.0 k.0) s past e m, n.told k.0, told_one t.0 k.0 k.0 refl, n.notes k.0))
-notes_stage s past e t k values c most up m n miss (Gathers h one home is long some quiet notes) =
+notes_stage s past e t k values c most m n miss (Gathers h one home long some quiet notes) =
     let hs = (node_in s past (home_of s t.0)).homes in
-    noted_by s past e t k values hs h c home is long one quiet notes most up m n miss (noting t k values hs miss)
-notes_stage s past e t k values c most up m n miss (Answered home one notes all) =
+    noted_by s past e t k values hs h c home long one quiet notes most m n miss (noting t k values hs miss)
+notes_stage s past e t k values c most m n miss (Answered home one notes all) =
     absurd (omega (arith, notes k.0, flow (tells_done t.0 k.0) s past e m, n.told k.0, told_one t.0 k.0 k.0 refl, n.notes k.0))

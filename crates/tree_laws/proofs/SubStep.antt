@@ -1,93 +1,91 @@
 -- An entry that does a subtransaction other than a root keeps what holds.
-use Rattle.std.proofs.Common.{◌≡◌, ◌≢◌, ◌⊎◌, inl, inr, ℕ, ◌<◌, ◌≤◌, ◌==◌, ◌&&◌, List, [], ◌∷◌, length, refl, sym, ap, subst, ◌∙◌, arith}
+use Rattle.std.proofs.Common.{◌≡◌, ◌≢◌, ◌⊎◌, inl, inr, ℕ, ◌<◌, ◌≤◌, ◌==◌, ◌&&◌, Bool, false, List, [], ◌∷◌, length, refl, sym, ap, subst, ◌∙◌, arith}
+use Rattle.std.specs.Prelude.{nat_lt}
 use Rattle.std.proofs.lemmas.Bool.{cases_eq}
+use Rattle.std.proofs.lemmas.Bool.Decides.{nat_tests}
 use Rattle.tv_base.specs.declared.numbers.SubNo.{SubNo}
 use Rattle.tv_base.specs.declared.numbers.TreeNo.{TreeNo}
 use Rattle.tv_base.specs.declared.numbers.Version.{Version}
-use Rattle.item_versions.specs.Table.{Table}
 use Rattle.node_versions.specs.declared.turns.Turns.{Turns}
-use Rattle.tree_home.specs.Homes.{Gets, home_in}
-use Rattle.letter_types.specs.declared.acts.Act.{Act}
+use Rattle.tree_home.specs.Homes.{home_in}
 use Rattle.letter_types.specs.declared.bodies.Body.TheVariants.{Sub as SubLetter}
 use Rattle.letter_types.specs.declared.entries.Entry.{Entry}
 use Rattle.tx_trees.specs.ScriptData.{ScriptData, subs_at, node_of, home_of}
-use Rattle.tree_step.specs.Node.{Node}
+use Rattle.tree_step.specs.Node.{Effect, Node}
 use Rattle.tree_step.specs.Children.{sub_letters, done_letter}
-use Rattle.tree_step.specs.Done.{sub_done}
+use Rattle.tree_step.specs.Done.{raised_if, sub_done}
+use Rattle.node_versions.specs.Turns.{start as first_turns}
+use Rattle.letter_types.specs.declared.bodies.Body.{Body}
+use Rattle.letter_types.specs.declared.entries.Letter.{Letter}
+use Rattle.world_model.proofs.Every.{coordinator_kept, each_taken}
 use Rattle.world_model.specs.Counts.{tally, one_if}
 use Rattle.world_model.specs.Runs.{node_in, MayFollow}
 use Rattle.tree_laws.specs.Dids.{asks, asked, dids, tells_done, replies_to}
 use Rattle.tree_laws.proofs.Counts.{below_root, not_done, one_here, was_asked, parent_at}
 use Rattle.tree_laws.proofs.Doing.{sub_sends, sub_does}
-use Rattle.tree_laws.proofs.Fits.{SentFit}
+use Rattle.tree_laws.proofs.Fits.{Fit, SentFit}
 use Rattle.tree_laws.proofs.Flows.{letters_next, same_part}
 use Rattle.tree_laws.proofs.Good.{Good, TreeAt}
-use Rattle.tree_laws.proofs.Kept.{Does, does_roots, does_subs, does_born, does_items, heard_same, same_heard, both_fit, children_sent, order_next}
-use Rattle.tree_laws.proofs.Nexts.{Made, SubWork}
+use Rattle.tree_laws.proofs.Kept.{Does, does_roots, does_subs, does_born, does_items, heard_same, same_heard, both_fit, children_sent}
+use Rattle.tree_laws.proofs.Nexts.{Made, SubWork, SubUpdates, SubReads}
 use Rattle.tree_laws.proofs.Scripts.{Sound, SubAt, node_below, sub_below, tree_below}
 use Rattle.tree_laws.proofs.Sent.{on, other_tree, other_sub, subs_none}
 use Rattle.tree_laws.proofs.Staging.{Apart, stays, Adds, adds}
 
-abbrev SubMade : ScriptData → List Entry → Entry → TreeNo → SubNo → Version → Turns → Table → Gets → List Act → Type 0
-SubMade s past e t k v turns items values turned =
-    Made s past e (node_of s t.0 k.0) (sub_done s e.took.from.0 t.0 k.0 v.0 turns items values turned (node_in s past (node_of s t.0 k.0)))
+abbrev SubMade : ScriptData → List Entry → Entry → TreeNo → SubNo → Version → Bool → Effect → Type 0
+SubMade s past e t k v raises effect =
+    Made s past e (node_of s t.0 k.0) (sub_done s e.took.from.0 t.0 k.0 v.0 raises effect (node_in s past (node_of s t.0 k.0)))
 
-sub_fits : (s : ScriptData) (past : List Entry) (e : Entry) (t : TreeNo) (k : SubNo) (v : Version) (turns : Turns) (items : Table) (values : Gets)
-    (turned : List Act) → SubAt s t.0 k.0 → 0 < k.0 → Sound s → e.actor.0 ≡ node_of s t.0 k.0 → SubMade s past e t k v turns items values turned
+sub_fits : (s : ScriptData) (past : List Entry) (e : Entry) (t : TreeNo) (k : SubNo) (v : Version) (raises : Bool) (effect : Effect) → SubAt s t.0 k.0 → 0 < k.0 → Sound s → v.0 ≤ 1 → e.actor.0 ≡ node_of s t.0 k.0 → SubMade s past e t k v raises effect
     → SentFit s e.actor.0 e.sent
-sub_fits s past e t k v turns items values turned c later sound at made =
+sub_fits s past e t k v raises effect c later sound most at made =
     let node = node_below s t.0 k.0 c sound in
-    both_fit s e.actor.0 (sub_letters t.0 v.0 k.0 0 (subs_at s t.0)) (done_letter (home_of s t.0) t.0 k.0 v.0 values ∷ []) e.sent made.sent
-    (children_sent s past e t.0 k.0 v.0 sound c at)
-    ((λ id. (tree_below s t.0 k.0 c, sub_below s t.0 k.0 c, later, refl, omega arith)), tt)
+    both_fit s e.actor.0 (sub_letters t.0 v.0 k.0 0 (subs_at s t.0)) (done_letter (home_of s t.0) t.0 k.0 v.0 effect.values ∷ []) e.sent made.sent
+    (children_sent s past e t.0 k.0 v.0 sound c most at)
+    ((λ id. (tree_below s t.0 k.0 c, sub_below s t.0 k.0 c, later, refl, omega arith, most, refl)), tt)
 
 -- its notice is sent, and no other
-sub_tells : (s : ScriptData) (past : List Entry) (e : Entry) (t : TreeNo) (k : SubNo) (v : Version) (turns : Turns) (items : Table)
-    (values : Gets) (turned : List Act) → SubMade s past e t k v turns items values turned → (u i : ℕ)
+sub_tells : (s : ScriptData) (past : List Entry) (e : Entry) (t : TreeNo) (k : SubNo) (v : Version) (raises : Bool) (effect : Effect) → SubMade s past e t k v raises effect → (u i : ℕ)
     → tally (on (tells_done u i)) e.sent ≡ one_if ((t.0 == u) && (k.0 == i))
-sub_tells s past e t k v turns items values turned made u i =
+sub_tells s past e t k v raises effect made u i =
     omega (
       arith,
-      sub_sends (tells_done u i) s past e t k v turns items values turned made,
+      sub_sends (tells_done u i) s past e t k v raises effect made,
       subs_none (tells_done u i) t.0 v.0 k.0 0 (subs_at s t.0) (λ w j x. refl),
     )
 
-sub_answers : (s : ScriptData) (past : List Entry) (e : Entry) (t : TreeNo) (k : SubNo) (v : Version) (turns : Turns) (items : Table)
-    (values : Gets) (turned : List Act) → SubMade s past e t k v turns items values turned → (u : ℕ) → tally (on (replies_to u)) e.sent ≡ 0
-sub_answers s past e t k v turns items values turned made u =
+sub_answers : (s : ScriptData) (past : List Entry) (e : Entry) (t : TreeNo) (k : SubNo) (v : Version) (raises : Bool) (effect : Effect) → SubMade s past e t k v raises effect → (u : ℕ) → tally (on (replies_to u)) e.sent ≡ 0
+sub_answers s past e t k v raises effect made u =
     omega (
       arith,
-      sub_sends (replies_to u) s past e t k v turns items values turned made,
+      sub_sends (replies_to u) s past e t k v raises effect made,
       subs_none (replies_to u) t.0 v.0 k.0 0 (subs_at s t.0) (λ w j x. refl),
     )
 
-sub_home : (s : ScriptData) (past : List Entry) (e : Entry) (t : TreeNo) (k : SubNo) (v : Version) (turns : Turns) (items : Table)
-    (values : Gets) (turned : List Act) → e.actor.0 ≡ node_of s t.0 k.0 → SubMade s past e t k v turns items values turned → (u : ℕ)
+sub_home : (s : ScriptData) (past : List Entry) (e : Entry) (t : TreeNo) (k : SubNo) (v : Version) (raises : Bool) (effect : Effect) → e.actor.0 ≡ node_of s t.0 k.0 → SubMade s past e t k v raises effect → (u : ℕ)
     → home_in (record { 0 = u }) (node_in s (e ∷ past) (home_of s u)).homes ≡ home_in (record { 0 = u }) (node_in s past (home_of s u)).homes
-sub_home s past e t k v turns items values turned at made u =
+sub_home s past e t k v raises effect at made u =
     same_part (λ (st : Node). home_in (record { 0 = u }) st.homes) s past e (node_of s t.0 k.0)
-    (sub_done s e.took.from.0 t.0 k.0 v.0 turns items values turned (node_in s past (node_of s t.0 k.0))) made at refl (home_of s u)
+    (sub_done s e.took.from.0 t.0 k.0 v.0 raises effect (node_in s past (node_of s t.0 k.0))) made at refl (home_of s u)
 
-sub_apart : (s : ScriptData) (past : List Entry) (e : Entry) (t : TreeNo) (k : SubNo) (v : Version) (turns : Turns) (items : Table)
-    (values : Gets) (turned : List Act) → Does s past e t.0 k.0 → e.took.body ≡ SubLetter t k v
-    → SubMade s past e t k v turns items values turned → (u : ℕ) → t.0 ≢ u → Apart s past e u
-sub_apart s past e t k v turns items values turned does is made u ne = record {
+sub_apart : (s : ScriptData) (past : List Entry) (e : Entry) (t : TreeNo) (k : SubNo) (v : Version) (raises : Bool) (effect : Effect) → Does s past e t.0 k.0 → e.took.body ≡ SubLetter t k v
+    → SubMade s past e t k v raises effect → (u : ℕ) → t.0 ≢ u → Apart s past e u
+sub_apart s past e t k v raises effect does is made u ne = record {
   did = λ i. does.did u i ∙ other_tree u t.0 i k.0 ne;
-  home = sub_home s past e t k v turns items values turned does.at made u;
-  answers = sub_answers s past e t k v turns items values turned made u;
+  home = sub_home s past e t k v raises effect does.at made u;
+  answers = sub_answers s past e t k v raises effect made u;
   told = λ i. rw is refl;
-  notes = λ i. sub_tells s past e t k v turns items values turned made u i ∙ other_tree u t.0 i k.0 ne;
+  notes = λ i. sub_tells s past e t k v raises effect made u i ∙ other_tree u t.0 i k.0 ne;
 }
 
-sub_adds : (s : ScriptData) (past : List Entry) (e : Entry) (t : TreeNo) (k : SubNo) (v : Version) (turns : Turns) (items : Table)
-    (values : Gets) (turned : List Act) → 0 < k.0 → Does s past e t.0 k.0 → e.took.body ≡ SubLetter t k v
-    → SubMade s past e t k v turns items values turned → Adds s past e t.0
-sub_adds s past e t k v turns items values turned later does is made = record {
+sub_adds : (s : ScriptData) (past : List Entry) (e : Entry) (t : TreeNo) (k : SubNo) (v : Version) (raises : Bool) (effect : Effect) → 0 < k.0 → Does s past e t.0 k.0 → e.took.body ≡ SubLetter t k v
+    → SubMade s past e t k v raises effect → Adds s past e t.0
+sub_adds s past e t k v raises effect later does is made = record {
   root = does.did t.0 0 ∙ other_sub t.0 t.0 0 k.0 (omega arith);
-  home = sub_home s past e t k v turns items values turned does.at made t.0;
-  answers = sub_answers s past e t k v turns items values turned made t.0;
+  home = sub_home s past e t k v raises effect does.at made t.0;
+  answers = sub_answers s past e t k v raises effect made t.0;
   told = λ i. rw is refl;
-  notes = λ i. sub_tells s past e t k v turns items values turned made t.0 i ∙ sym (does.did t.0 i);
+  notes = λ i. sub_tells s past e t k v raises effect made t.0 i ∙ sym (does.did t.0 i);
 }
 
 -- the root of what is asked for was done
@@ -96,36 +94,57 @@ root_was : (s : ScriptData) (past : List Entry) (t k : ℕ) (c : SubAt s t k) �
 root_was s past t k c later sound good some =
     omega (arith, good.subs t k c later, below_root s past t c.sub.parent.0 (parent_at s t k c sound later) sound good)
 
-sub_stage : (s : ScriptData) (past : List Entry) (e : Entry) (t : TreeNo) (k : SubNo) (v : Version) (turns : Turns) (items : Table)
-    (values : Gets) (turned : List Act) → SubAt s t.0 k.0 → 0 < k.0 → Sound s → Good s past → MayFollow s past e → dids past t.0 k.0 ≡ 0
-    → 1 ≤ dids past t.0 0 → Does s past e t.0 k.0 → e.took.body ≡ SubLetter t k v → SubMade s past e t k v turns items values turned
+sub_stage : (s : ScriptData) (past : List Entry) (e : Entry) (t : TreeNo) (k : SubNo) (v : Version) (raises : Bool) (effect : Effect) → SubAt s t.0 k.0 → 0 < k.0 → Sound s → Good s past → MayFollow s past e → dids past t.0 k.0 ≡ 0
+    → 1 ≤ dids past t.0 0 → Does s past e t.0 k.0 → e.took.body ≡ SubLetter t k v → SubMade s past e t k v raises effect
     → (u : ℕ) → u < length s.trees → (t.0 ≡ u) ⊎ (t.0 ≢ u) → TreeAt s (e ∷ past) u
-sub_stage s past e t k v turns items values turned c later sound good m none root does is made u lt (inl same) =
+sub_stage s past e t k v raises effect c later sound good m none root does is made u lt (inl same) =
     subst (λ (w : ℕ). TreeAt s (e ∷ past) w) same
-    (adds s past e t.0 k.0 c none root m (sub_adds s past e t k v turns items values turned later does is made)
+    (adds s past e t.0 k.0 c none root m (sub_adds s past e t k v raises effect later does is made)
     (good.stages t.0 (tree_below s t.0 k.0 c)))
-sub_stage s past e t k v turns items values turned c later sound good m none root does is made u lt (inr ne) =
-    stays s past e u m (sub_apart s past e t k v turns items values turned does is made u ne) (good.stages u lt)
+sub_stage s past e t k v raises effect c later sound good m none root does is made u lt (inr ne) =
+    stays s past e u m (sub_apart s past e t k v raises effect does is made u ne) (good.stages u lt)
+
+-- its version is one of the first, so it raises nothing
+above_none : (a v : ℕ) → a ≡ 1 → v ≤ 1 → nat_lt a v ≡ false
+above_none a v is most = grind (arith, nat_tests)
+
+raises_none : (s : ScriptData) (t k : ℕ) (st : Node) (v : Version) (raises : Bool) (effect : Effect) → st.turns ≡ first_turns → v.0 ≤ 1
+    → SubWork s t k st v raises effect → raises ≡ false
+raises_none s t k st v raises effect first most (SubUpdates up is can made) =
+    is ∙ above_none st.turns.update.0 v.0 (ap (λ (u : Turns). u.update.0) first) most
+raises_none s t k st v raises effect first most (SubReads up is can made) = is
+
+raised_same : (raises : Bool) (v : ℕ) (turns : Turns) → raises ≡ false → raised_if raises v turns ≡ turns
+raised_same raises v turns none = rw none refl
+
+taken_version : (s : ScriptData) (past : List Entry) (e : Entry) (t : TreeNo) (k : SubNo) (v : Version) → MayFollow s past e → Good s past
+    → e.took.body ≡ SubLetter t k v → v.0 ≤ 1
+taken_version s past e t k v m good is =
+    let fit = each_taken (λ (l : Letter). Fit s l.from.0 l.to.0 l.body) s past e m good.letters in
+    (subst (λ (b : Body). Fit s e.took.from.0 e.took.to.0 b) is fit).5
 
 -- another subtransaction is done
-pub sub_good : (s : ScriptData) (past : List Entry) (e : Entry) (t : TreeNo) (k : SubNo) (v : Version) (turns : Turns) (items : Table)
-    (values : Gets) (turned : List Act) → Sound s → Good s past → MayFollow s past e → e.took.body ≡ SubLetter t k v → SubAt s t.0 k.0
-    → 0 < k.0 → e.actor.0 ≡ node_of s t.0 k.0 → SubWork s t.0 k.0 (node_in s past (node_of s t.0 k.0)) v turns items values turned
-    → SubMade s past e t k v turns items values turned → Good s (e ∷ past)
-sub_good s past e t k v turns items values turned sound good m is c later at work made =
+pub sub_good : (s : ScriptData) (past : List Entry) (e : Entry) (t : TreeNo) (k : SubNo) (v : Version) (raises : Bool) (effect : Effect) → Sound s → Good s past → MayFollow s past e → e.took.body ≡ SubLetter t k v → SubAt s t.0 k.0
+    → 0 < k.0 → e.actor.0 ≡ node_of s t.0 k.0 → SubWork s t.0 k.0 (node_in s past (node_of s t.0 k.0)) v raises effect
+    → SubMade s past e t k v raises effect → Good s (e ∷ past)
+sub_good s past e t k v raises effect sound good m is c later at work made =
     let asked = was_asked s past e t.0 k.0 m (ap (asks t.0 k.0) is ∙ one_here t.0 k.0) in
     let none = not_done s past t.0 k.0 c sound good asked in
     let root = root_was s past t.0 k.0 c later sound good asked in
-    let does = sub_does s past e t k v turns items values turned c later sound good none is at work made in
+    let does = sub_does s past e t k v raises effect c later sound good none is at work made in
     let p = node_of s t.0 k.0 in
+    let below = node_below s t.0 k.0 c sound in
+    let most = taken_version s past e t k v m good is in
+    let same = raised_same raises v.0 (node_in s past p).turns (raises_none s t.0 k.0 (node_in s past p) v raises effect (good.turns p below) most work) in
     record {
-      letters = letters_next s past e good (sub_fits s past e t k v turns items values turned c later sound at made);
+      letters = letters_next s past e good (sub_fits s past e t k v raises effect c later sound most at made);
       roots = does_roots s past e t.0 k.0 good m does;
       subs = does_subs s past e t.0 k.0 sound good m does;
       born = does_born s past e t.0 k.0 good does;
-      stages = λ u lt. sub_stage s past e t k v turns items values turned c later sound good m none root does is made u lt (cases_eq t.0 u);
+      stages = λ u lt. sub_stage s past e t k v raises effect c later sound good m none root does is made u lt (cases_eq t.0 u);
       heard = λ u lt. heard_same s past e good m u lt (rw is refl) (same_heard s past e does.client u);
-      order = order_next s past e p (sub_done s e.took.from.0 t.0 k.0 v.0 turns items values turned (node_in s past p)) good made at
-          (good.order p (node_below s t.0 k.0 c sound));
+      turns = λ q lt. same_part (λ (st : Node). st.turns) s past e p (sub_done s e.took.from.0 t.0 k.0 v.0 raises effect (node_in s past p)) made at same q
+          ∙ good.turns q lt;
+      coordinator = coordinator_kept s past e (omega arith) ∙ good.coordinator;
       items = does_items s past e t.0 k.0 good does;
     }

@@ -3,6 +3,7 @@ use Rattle.std.proofs.Common.{◌≡◌, ◌≢◌, zero, suc, ◌<◌, ℕ, ◌
 use Rattle.std.specs.Prelude.{if◌then◌else◌, slice_get, unsigned_abs}
 use Rattle.std.specs.List.{AllByRecursion}
 use Rattle.std.proofs.lemmas.Bool.Decides.{nat_tests}
+use Rattle.std.proofs.lemmas.Bool.{and_from}
 use Rattle.tv_base.specs.declared.numbers.ItemNo.{ItemNo}
 use Rattle.tv_base.specs.declared.numbers.Version.{Version}
 use Rattle.commute_ops.specs.Ops.{start}
@@ -19,7 +20,7 @@ use Rattle.tx_trees.specs.declared.parts.SubOp.{SubOp}
 use Rattle.tx_trees.specs.declared.parts.TreeKind.TheVariants as trees
 use Rattle.world_model.specs.Tables.{items_at}
 use Rattle.tree_laws.proofs.Values.{HeldIn, held_more, held_may, touched_held, start_value, value_more}
-use Rattle.update_step.specs.Rows.{touched_by, touched_by_deed}
+use Rattle.update_step.specs.Rows.{may_make, after_deed, can_touch, after_ops}
 
 -- the item is there, and its values keep to the bound
 abbrev pub ItemIn : Kind → ℕ → Option Held → Type 0
@@ -59,10 +60,9 @@ replaced_other n m h (e ∷ es) other = replaced_other_at n m h e es other (e.0.
 abbrev pub bound_after : (ℕ → ℕ) → ℕ → ℕ → ℕ → ℕ
 bound_after bound n m x = bound x + (if n == x then m else 0)
 
--- there is a table, whose items keep to their bounds
-abbrev pub SomeTableIn : List ItemRow → ℕ → (ℕ → ℕ) → Option Table → Type 0
-SomeTableIn rows p bound None = ⊥
-SomeTableIn rows p bound (Some items) = TableIn rows p bound items
+-- an operation may be made, and the items keep to their bounds after it
+abbrev Makes : List ItemRow → ℕ → (ℕ → ℕ) → Version → ItemNo → Deed → Table → Type 0
+Makes rows p bound v n deed items = (may_make v n deed items ≡ true) × TableIn rows p bound (after_deed v n deed items)
 
 same_row : (x y : ItemRow) → Some x ≡ Some y → x ≡ y
 same_row x y is = cc is
@@ -89,23 +89,23 @@ put_by rows p bound n m items g h r at here ok all x q qat node false is =
 one_op : (rows : List ItemRow) (p : ℕ) (bound : ℕ → ℕ) (v : Version) (n : ItemNo) (op : Op) (items : Table) (r : ItemRow) (h : Held)
     → slice_get rows n.0 ≡ Some r → op_fits r.kind op ≡ true → item_in n items ≡ Some h → HeldIn r.kind (bound n.0) h
     → bound n.0 + op_magnitude op ≤ MOST_AMOUNT → TableIn rows p bound items
-    → SomeTableIn rows p (bound_after bound n.0 (op_magnitude op)) (touched_by_deed v n (Apply op) items)
+    → Makes rows p (bound_after bound n.0 (op_magnitude op)) v n (Apply op) items
 one_op rows p bound v n op items r h at fit here ok most all =
     let may : may_touch_in v n op items ≡ true = rw (here, may_touch_in) (held_may r.kind op (bound n.0) v h fit most ok) in
     let is : touched_in v n op items ≡ replaced n (touched v op h) items = rw here refl in
-    rw may (rw is (λ x q qat node. put_by rows p bound n (op_magnitude op) items h (touched v op h) r at here (touched_held r.kind op (bound n.0) v h fit ok) all x q qat node (n.0 == x) refl))
+    (may, rw is (λ x q qat node. put_by rows p bound n (op_magnitude op) items h (touched v op h) r at here (touched_held r.kind op (bound n.0) v h fit ok) all x q qat node (n.0 == x) refl))
 
 one_there : (rows : List ItemRow) (p : ℕ) (bound : ℕ → ℕ) (v : Version) (n : ItemNo) (op : Op) (items : Table) (r : ItemRow) (found : Option Held)
     → slice_get rows n.0 ≡ Some r → op_fits r.kind op ≡ true → item_in n items ≡ found → ItemIn r.kind (bound n.0) found
     → bound n.0 + op_magnitude op ≤ MOST_AMOUNT → TableIn rows p bound items
-    → SomeTableIn rows p (bound_after bound n.0 (op_magnitude op)) (touched_by_deed v n (Apply op) items)
+    → Makes rows p (bound_after bound n.0 (op_magnitude op)) v n (Apply op) items
 one_there rows p bound v n op items r None at fit here ok most all = absurd ok
 one_there rows p bound v n op items r (Some h) at fit here ok most all = one_op rows p bound v n op items r h at fit here ok most all
 
 one_deed : (rows : List ItemRow) (p : ℕ) (bound : ℕ → ℕ) (v : Version) (n : ItemNo) (deed : Deed) (items : Table) (r : ItemRow)
     → slice_get rows n.0 ≡ Some r → r.node.0 ≡ p → deed_fits trees.Update r.kind deed ≡ true
     → bound n.0 + magnitude deed ≤ MOST_AMOUNT → TableIn rows p bound items
-    → SomeTableIn rows p (bound_after bound n.0 (magnitude deed)) (touched_by_deed v n deed items)
+    → Makes rows p (bound_after bound n.0 (magnitude deed)) v n deed items
 one_deed rows p bound v n (Apply op) items r at node fit most all =
     one_there rows p bound v n op items r (item_in n items) at fit refl (all n.0 r at node) most all
 one_deed rows p bound v n Get items r at node fit most all = absurd (cc fit)
@@ -115,7 +115,7 @@ one_deed rows p bound v n (Draw a) items r at node fit most all = absurd (cc fit
 one_of : (rows : List ItemRow) (p : ℕ) (bound : ℕ → ℕ) (v : Version) (o : SubOp) (items : Table) (found : Option ItemRow)
     → slice_get rows o.item.0 ≡ found → OpAt trees.Update p o found → bound o.item.0 + magnitude o.deed ≤ MOST_AMOUNT
     → TableIn rows p bound items
-    → SomeTableIn rows p (bound_after bound o.item.0 (magnitude o.deed)) (touched_by_deed v o.item o.deed items)
+    → Makes rows p (bound_after bound o.item.0 (magnitude o.deed)) v o.item o.deed items
 one_of rows p bound v o items None at is_op most all = absurd is_op
 one_of rows p bound v o items (Some r) at is_op most all = one_deed rows p bound v o.item o.deed items r at is_op.0 is_op.1 most all
 
@@ -136,23 +136,13 @@ table_more rows p a b items more all =
     λ x r at node. item_more r.kind (a x) (b x) (item_in (record { 0 = x }) items) (more x r at) (all x r at node)
 
 -- equal bounds
-table_same : (rows : List ItemRow) (p : ℕ) (a b : ℕ → ℕ) (found : Option Table) → ((x : ℕ) → a x ≡ b x) → SomeTableIn rows p a found
-    → SomeTableIn rows p b found
-table_same rows p a b None same all = all
-table_same rows p a b (Some items) same all =
+table_same : (rows : List ItemRow) (p : ℕ) (a b : ℕ → ℕ) (items : Table) → ((x : ℕ) → a x ≡ b x) → TableIn rows p a items
+    → TableIn rows p b items
+table_same rows p a b items same all =
     λ x r at node. subst (λ (n : ℕ). ItemIn r.kind n (item_in (record { 0 = x }) items)) (same x) (all x r at node)
 
 here_load : (n x m : ℕ) → x ≡ n → (if n == x then m else 0) ≡ m
 here_load n x m is = let test : (n == x) ≡ true = grind (arith, nat_tests) in rw test refl
-
-rest_of : (rows : List ItemRow) (p : ℕ) (bound : ℕ → ℕ) (v : Version) (o : SubOp) (os : List SubOp) (found : Option Table)
-    → SomeTableIn rows p (bound_after bound o.item.0 (magnitude o.deed)) found
-    → ((items : Table) → TableIn rows p (bound_after bound o.item.0 (magnitude o.deed)) items
-    → SomeTableIn rows p (bounds_after (bound_after bound o.item.0 (magnitude o.deed)) os) (touched_by v os items))
-    → SomeTableIn rows p (bounds_after bound (o ∷ os)) (elim found [ None ↦ None | Some more ↦ touched_by v os more ])
-rest_of rows p bound v o os None all rest = absurd all
-rest_of rows p bound v o os (Some items) all rest =
-    table_same rows p (bounds_after (bound_after bound o.item.0 (magnitude o.deed)) os) (bounds_after bound (o ∷ os)) (touched_by v os items) (λ x. omega arith) (rest items all)
 
 first_load : (rows : List ItemRow) (p : ℕ) (bound : ℕ → ℕ) (o : SubOp) (os : List SubOp) (found : Option ItemRow)
     → slice_get rows o.item.0 ≡ found → OpAt trees.Update p o found
@@ -161,16 +151,20 @@ first_load : (rows : List ItemRow) (p : ℕ) (bound : ℕ → ℕ) (o : SubOp) (
 first_load rows p bound o os None at is_op most = absurd is_op
 first_load rows p bound o os (Some r) at is_op most = omega (arith, most o.item.0 r at, here_load o.item.0 o.item.0 (magnitude o.deed) refl)
 
--- operations that fit, and that keep within what is allowed, may all be applied
+-- operations that fit, and that keep within what is allowed, may all be made, and the items keep to their bounds
 pub touched_table : (rows : List ItemRow) (p : ℕ) (bound : ℕ → ℕ) (v : Version) (os : List SubOp) (items : Table)
     → AllByRecursion (IsOp rows trees.Update p) os
     → ((x : ℕ) (r : ItemRow) → slice_get rows x ≡ Some r → bound x + ops_load x os ≤ MOST_AMOUNT)
-    → TableIn rows p bound items → SomeTableIn rows p (bounds_after bound os) (touched_by v os items)
-touched_table rows p bound v [] items ops most all = table_same rows p bound (bounds_after bound []) (Some items) (λ x. omega arith) all
+    → TableIn rows p bound items
+    → (can_touch v os items ≡ true) × TableIn rows p (bounds_after bound os) (after_ops v os items)
+touched_table rows p bound v [] items ops most all = (refl, table_same rows p bound (bounds_after bound []) items (λ x. omega arith) all)
 touched_table rows p bound v (o ∷ os) items ops most all =
-    rest_of rows p bound v o os (touched_by_deed v o.item o.deed items)
-    (one_of rows p bound v o items (slice_get rows o.item.0) refl ops.0 (first_load rows p bound o os (slice_get rows o.item.0) refl ops.0 most) all)
-    (λ more good. touched_table rows p (bound_after bound o.item.0 (magnitude o.deed)) v os more ops.1 (λ x r at. omega (arith, most x r at)) good)
+    let first = bound_after bound o.item.0 (magnitude o.deed) in
+    let one = one_of rows p bound v o items (slice_get rows o.item.0) refl ops.0 (first_load rows p bound o os (slice_get rows o.item.0) refl ops.0 most) all in
+    let rest = touched_table rows p first v os (after_deed v o.item o.deed items) ops.1 (λ x r at. omega (arith, most x r at)) one.1 in (
+      and_from (may_make v o.item o.deed items) (can_touch v os (after_deed v o.item o.deed items)) one.0 rest.0,
+      table_same rows p (bounds_after first os) (bounds_after bound (o ∷ os)) (after_ops v os (after_deed v o.item o.deed items)) (λ x. omega arith) rest.1,
+    )
 
 -- At the start.
 other_node : (n p : ℕ) → (n == p) ≡ false → n ≢ p

@@ -1,9 +1,9 @@
 -- Values of a kind that keep to a bound, and what an operation makes of them.
 use Rattle.std.proofs.Common.{◌≡◌, ℕ, ◌+◌, ◌≤◌, Bool, true, false, [], ◌∷◌, ◌++◌, refl, arith}
-use Rattle.std.specs.Prelude.{ℤ, ◌+ℤ◌, if◌then◌else◌, nat_le, nat_lt, not, ◌||◌, ◌&&◌, unsigned_abs}
+use Rattle.std.specs.Prelude.{ℤ, ◌+ℤ◌, if◌then◌else◌, nat_le, nat_lt, not, ◌||◌, unsigned_abs}
 use Rattle.std.specs.List.{filter}
 use Rattle.std.proofs.lemmas.Bool.Decides.{nat_tests}
-use Rattle.std.proofs.lemmas.Int.{ints}
+use Rattle.std.proofs.lemmas.Bool.{and_from, or_right}
 use Rattle.tv_base.specs.declared.numbers.Version.{Version}
 use Rattle.commute_ops.specs.Numbers.{is_within}
 use Rattle.commute_ops.specs.Ops.{applied, may_apply, start}
@@ -14,6 +14,7 @@ use Rattle.commute_ops.specs.declared.kinds.Op.TheVariants.{Add, Top as Raise, P
 use Rattle.commute_ops.specs.declared.kinds.TheConstants.{MOST_AMOUNT}
 use Rattle.commute_ops.specs.declared.value.Value.{Value}
 use Rattle.commute_ops.specs.declared.value.Value.TheVariants.{Sum, Top, Bag}
+use Rattle.board_model.proofs.Bounds.{abs_add}
 use Rattle.item_versions.specs.Item.{Held, seen_after, below, above, applied_to_all, touched, may_apply_above, may_touch}
 use Rattle.tx_trees.specs.Valid.{op_fits, op_magnitude}
 use Rattle.world_model.specs.Counts.{Each}
@@ -25,9 +26,6 @@ ValueIn SumKind b (Sum z) = unsigned_abs z.0 ≤ b
 ValueIn TopKind b (Top z) = Unit {0}
 ValueIn BagKind b (Bag zs) = Unit {0}
 ValueIn _ b _ = ⊥
-
-abs_sum : (z a : ℤ) → unsigned_abs (z +ℤ a) ≤ unsigned_abs z + unsigned_abs a
-abs_sum z a = grind (arith, ints)
 
 within : (z a : ℤ) (b : ℕ) → unsigned_abs z ≤ b → b + unsigned_abs a ≤ MOST_AMOUNT → is_within z a ≡ true
 within z a b le most = grind (arith, nat_tests)
@@ -64,7 +62,7 @@ may_apply_value BagKind op b (Sum z) fit ok most = absurd ok
 may_apply_value BagKind op b (Top z) fit ok most = absurd ok
 
 sum_more : (z a : ℤ) (b : ℕ) → unsigned_abs z ≤ b → unsigned_abs (z +ℤ a) ≤ b + unsigned_abs a
-sum_more z a b le = omega (arith, abs_sum z a)
+sum_more z a b le = omega (arith, abs_add z a)
 
 pub applied_value : (kind : Kind) (op : Op) (b : ℕ) (w : Value) → op_fits kind op ≡ true → ValueIn kind b w
     → ValueIn kind (b + op_magnitude op) (applied w op)
@@ -109,20 +107,13 @@ seen_in kind b v w [] ok all = ok
 seen_in kind b v w (x ∷ xs) ok all =
     seen_in kind b v (if nat_le x.0.0 v.0 then x.1 else w) xs (pick_value kind b (nat_le x.0.0 v.0) x.1 w all.0 ok) all.1
 
-or_true : (a b : Bool) → b ≡ true → (a || b) ≡ true
-or_true true b is = refl
-or_true false b is = is
-
-both_true : (a b : Bool) → a ≡ true → b ≡ true → (a && b) ≡ true
-both_true a b p q = rw p q
-
 above_may : (kind : Kind) (op : Op) (b : ℕ) (v : Version) (xs : Held) → op_fits kind op ≡ true → b + op_magnitude op ≤ MOST_AMOUNT
     → AllIn kind b xs
     → may_apply_above v op xs ≡ true
 above_may kind op b v [] fit most all = refl
 above_may kind op b v (x ∷ xs) fit most all =
-    both_true (not (nat_lt v.0 x.0.0) || may_apply x.1 op) (may_apply_above v op xs)
-    (or_true (not (nat_lt v.0 x.0.0)) (may_apply x.1 op) (may_apply_value kind op b x.1 fit all.0 most)) (above_may kind op b v xs fit most all.1)
+    and_from (not (nat_lt v.0 x.0.0) || may_apply x.1 op) (may_apply_above v op xs)
+    (or_right (not (nat_lt v.0 x.0.0)) (may_apply x.1 op) (may_apply_value kind op b x.1 fit all.0 most)) (above_may kind op b v xs fit most all.1)
 
 -- an update with an operation that fits may be made
 pub held_may : (kind : Kind) (op : Op) (b : ℕ) (v : Version) (h : Held) → op_fits kind op ≡ true → b + op_magnitude op ≤ MOST_AMOUNT
@@ -130,7 +121,7 @@ pub held_may : (kind : Kind) (op : Op) (b : ℕ) (v : Version) (h : Held) → op
     → may_touch v op h ≡ true
 held_may kind op b v [] fit most all = absurd all
 held_may kind op b v (x ∷ xs) fit most all =
-    both_true (may_apply (seen_after x.1 v xs) op) (may_apply_above v op (x ∷ xs))
+    and_from (may_apply (seen_after x.1 v xs) op) (may_apply_above v op (x ∷ xs))
     (may_apply_value kind op b (seen_after x.1 v xs) fit (seen_in kind b v x.1 xs all.0 all.1) most) (above_may kind op b v (x ∷ xs) fit most all)
 
 pick_all : (kind : Kind) (b : ℕ) (test : Bool) (x : Version × Value) (xs : Held) → ValueIn kind b x.1 → AllIn kind b xs

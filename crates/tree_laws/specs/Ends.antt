@@ -3,7 +3,7 @@ use Rattle.std.specs.Prelude.{ℕ, List}
 use Rattle.letter_types.specs.declared.acts.Act.{Act}
 use Rattle.letter_types.specs.declared.acts.Act.TheVariants.{Born, Finished}
 use Rattle.letter_types.specs.declared.entries.Entry.{Entry}
-use Rattle.board_model.specs.Histories.{acts_of}
+use Rattle.board_model.specs.Histories.{Place, places_of}
 use Rattle.world_model.specs.Counts.{tally}
 
 -- the act of finishing
@@ -14,4 +14,4 @@ is_finish _ = 0
 
 -- how often the client has finished in a history
 abbrev pub finishes_in : List Entry → ℕ
-finishes_in h = tally is_finish (acts_of h)
+finishes_in h = tally (λ (x : Place). is_finish x.act) (places_of h)

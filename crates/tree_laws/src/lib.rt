@@ -3,18 +3,26 @@
 
 mod run_ends;
 
-ghost use Rattle.std.specs.Prelude.{◌≡◌, ◌<◌, ℕ, List, [], length, reverse};
+ghost use Rattle.std.specs.Prelude.{◌<◌, ◌∷◌, ℕ, IsTrue, List, length, reverse};
 ghost use Rattle.board_model.specs.Histories.{IsWhole};
+ghost use Rattle.board_model.specs.Right.{HasFinished};
 ghost use Rattle.letter_types.specs.declared.entries.Entry.{Entry};
+ghost use Rattle.node_step.specs.Apt.{is_apt};
 ghost use Rattle.tx_trees.specs.ScriptData.{ScriptData};
 ghost use Rattle.tx_trees.specs.Valid.{IsValid};
-ghost use Rattle.world_model.specs.Runs.{StepRun, waiting};
+ghost use Rattle.world_model.specs.Runs.{node_in, StepRun};
 ghost use Rattle.world_model.specs.Tables.{Runnable};
 
 pub use run_ends::{entries_are_counted, every_run_finishes, the_client_finishes_once};
 
-/// In every run of a valid script of update and read trees in which no letter is under way any more, every tree is
-/// whole.
+/// In every run of a valid script of update and read trees in which the client has finished, every tree is whole.
 pub fn every_tree_is_whole()
-    ensures { (s : ScriptData) (past : List Entry) (t : ℕ) → IsValid s → Runnable s → StepRun s past → waiting s past ≡ [] → t < length s.trees → IsWhole s (reverse past) t }
+    ensures { (s : ScriptData) (past : List Entry) (t : ℕ) → IsValid s → Runnable s → StepRun s past
+        → HasFinished (reverse past) → t < length s.trees → IsWhole s (reverse past) t }
+{}
+
+/// In every run of a valid script of update and read trees, each letter that a node takes is apt there.
+pub fn every_letter_is_apt()
+    ensures { (s : ScriptData) (past : List Entry) (e : Entry) → IsValid s → Runnable s → StepRun s (e ∷ past)
+        → e.actor.0 < s.nodes → IsTrue (is_apt s e.actor.0 (node_in s past e.actor.0) e.took) }
 {}

@@ -1,20 +1,25 @@
 -- A history that goes step by step is one whose actors each follow their table.
-use Rattle.std.proofs.Common.{◌≡◌, ◌≢◌, ◌⊎◌, inl, inr, ℕ, ◌+◌, ◌<◌, ◌==◌, Bool, true, false, List, [], ◌∷◌, ◌++◌, length, refl, ap, sym, subst, arith, Some, reverse}
+use Rattle.std.proofs.Common.{◌≡◌, ◌≢◌, ◌⊎◌, inl, inr, ℕ, ◌+◌, ◌<◌, ◌==◌, Bool, true, false, List, [], ◌∷◌, ◌++◌, length, refl, ap, sym, ◌∙◌, subst, arith, Some, reverse}
 use Rattle.std.specs.Prelude.{if◌then◌else◌, slice_get}
 use Rattle.std.proofs.lemmas.Bool.Decides.{nat_tests}
 use Rattle.std.proofs.lemmas.List.{length-reverse}
+use Rattle.tv_base.proofs.ByPlace.{slice_get_left, slice_get_last, slice_get_split}
 use Rattle.letter_types.specs.declared.entries.LetterId.{LetterId}
 use Rattle.letter_types.specs.declared.entries.Letter.{Letter}
 use Rattle.letter_types.specs.declared.entries.Entry.{Entry}
 use Rattle.letter_types.specs.Letters.{go, own, same_id, find_id, drop_id, letters_of}
 use Rattle.tx_trees.specs.ScriptData.{ScriptData, client_of}
-use Rattle.world_model.specs.Tables.{start_node}
-use Rattle.world_model.specs.Runs.{IsRunOf, after, WorldRun, node_table, coordinator_table, client_table, waiting, node_in, client_in, Says, Moves, AtNode, AtCoordinator, AtClient, MayFollow, StepRun}
+use Rattle.node_step.specs.Apt.{node_row}
+use Rattle.advance_coord.specs.Coordinator.{start_coordinator}
+use Rattle.world_model.specs.Tables.{NodeData, CoordinatorData, ClientData, start_node, client_table, coordinator_table}
+use Rattle.world_model.specs.Runs.{IsRunOf, after, actor_after, WorldRun, waiting, node_in, coordinator_in, client_in, Says, Moves, AtNode, AtCoordinator, AtClient, MayFollow, StepRun}
 use Rattle.world_model.specs.Counts.{tally, one_if}
 use Rattle.world_model.proofs.Bags.{tally-drop}
-use Rattle.world_model.proofs.Bridge.{reverse_more, own_more, slice_get_split, slice_get_last, slice_get_left, node_after, client_after}
+use Rattle.world_model.proofs.Bridge.{reverse_more, own_more, node_after, coordinator_after, client_after}
+use Rattle.world_model.proofs.Actors.{TableRun, world_of_tables, node_data_after, coordinator_data_after, client_data_after}
 use Rattle.world_model.proofs.Gone.{apart_from, same_is, of_id, found_one, Gone, gone_now, gone}
 use Rattle.letter_types.specs.Steps.{Out}
+use Rattle.letter_types.proofs.Ids.{same_id-self}
 use Rattle.client_rows.specs.Client.{start_client}
 
 -- where a letter under way comes from
@@ -130,13 +135,10 @@ sent_before s (e ∷ past) k f run at =
     ])
 
 -- a letter that is found isn't gone
-id_of_self : (i : LetterId) → same_id i i ≡ true
-id_of_self i = grind (arith, nat_tests)
-
 gone_apart : (s : ScriptData) (past : List Entry) (id : LetterId) (e : Entry) → MayFollow s past e → Gone s past id → id ≢ e.took.id
 gone_apart s past id e m g = λ same.
     let none : tally (of_id e.took.id) (waiting s past) ≡ 0 = subst (λ (i : LetterId). tally (of_id i) (waiting s past) ≡ 0) same g.1 in
-    let one : of_id e.took.id e.took ≡ 1 = ap one_if (id_of_self e.took.id) in
+    let one : of_id e.took.id e.took ≡ 1 = ap one_if (same_id-self e.took.id) in
     omega (arith, tally-drop (of_id e.took.id) e.took.id (waiting s past) e.took m.waits)
 
 once_by : (s : ScriptData) (past : List Entry) (e : Entry) (j k : ℕ) (f g : Entry) → StepRun s (e ∷ past) → j < k
@@ -173,14 +175,14 @@ run_more row first a e past st is run says =
     rw (own_more a e past) (run_join row first (own a (reverse past)) (if e.actor.0 == a then e ∷ [] else []) run (rw is (one_run row st e (e.actor.0 == a) says)))
 
 says_node : (s : ScriptData) (past : List Entry) (e : Entry) (p : ℕ) → Moves s past e → p < s.nodes → (e.actor.0 == p) ≡ true
-    → Says (node_table s p (node_in s past p) e.took) e
+    → Says (node_row s p (node_in s past p) e.took) e
 says_node s past e p (AtNode node says) lt is =
-    let eq : e.actor.0 ≡ p = grind (arith, nat_tests) in subst (λ (n : ℕ). Says (node_table s n (node_in s past n) e.took) e) eq says
+    let eq : e.actor.0 ≡ p = grind (arith, nat_tests) in subst (λ (n : ℕ). Says (node_row s n (node_in s past n) e.took) e) eq says
 says_node s past e p (AtCoordinator at says) lt is = let eq : e.actor.0 ≡ p = grind (arith, nat_tests) in absurd (omega arith)
 says_node s past e p (AtClient at says) lt is = let eq : e.actor.0 ≡ p = grind (arith, nat_tests) in absurd (omega arith)
 
 says_coordinator : (s : ScriptData) (past : List Entry) (e : Entry) → Moves s past e → (e.actor.0 == s.nodes) ≡ true
-    → Says (coordinator_table (tt {0}) e.took) e
+    → Says (coordinator_table (coordinator_in s past) e.took) e
 says_coordinator s past e (AtNode node says) is = let eq : e.actor.0 ≡ s.nodes = grind (arith, nat_tests) in absurd (omega arith)
 says_coordinator s past e (AtCoordinator at says) is = says
 says_coordinator s past e (AtClient at says) is = let eq : e.actor.0 ≡ s.nodes = grind (arith, nat_tests) in absurd (omega arith)
@@ -192,15 +194,15 @@ says_client s past e (AtCoordinator at says) is = let eq : e.actor.0 ≡ client_
 says_client s past e (AtClient at says) is = says
 
 node_runs : (s : ScriptData) (past : List Entry) (p : ℕ) → p < s.nodes → StepRun s past
-    → IsRunOf (node_table s p) (start_node s p) (own p (reverse past))
+    → IsRunOf (node_row s p) (start_node s p) (own p (reverse past))
 node_runs s [] p lt run = tt
 node_runs s (e ∷ past) p lt run =
-    run_more (node_table s p) (start_node s p) p e past (node_in s past p) (node_after s past p) (node_runs s past p lt run.1) (says_node s past e p run.0.moves lt)
+    run_more (node_row s p) (start_node s p) p e past (node_in s past p) (node_after s past p) (node_runs s past p lt run.1) (says_node s past e p run.0.moves lt)
 
-coordinator_runs : (s : ScriptData) (past : List Entry) → StepRun s past → IsRunOf coordinator_table (tt {0}) (own s.nodes (reverse past))
+coordinator_runs : (s : ScriptData) (past : List Entry) → StepRun s past → IsRunOf coordinator_table (start_coordinator s.nodes) (own s.nodes (reverse past))
 coordinator_runs s [] run = tt
 coordinator_runs s (e ∷ past) run =
-    run_more coordinator_table (tt {0}) s.nodes e past (tt {0}) refl (coordinator_runs s past run.1) (says_coordinator s past e run.0.moves)
+    run_more coordinator_table (start_coordinator s.nodes) s.nodes e past (coordinator_in s past) (coordinator_after s past) (coordinator_runs s past run.1) (says_coordinator s past e run.0.moves)
 
 client_runs : (s : ScriptData) (past : List Entry) → StepRun s past
     → IsRunOf (client_table s) (start_client s) (own (client_of s) (reverse past))
@@ -208,8 +210,8 @@ client_runs s [] run = tt
 client_runs s (e ∷ past) run =
     run_more (client_table s) (start_client s) (client_of s) e past (client_in s past) (client_after s past) (client_runs s past run.1) (says_client s past e run.0.moves)
 
-pub world_run : (s : ScriptData) (past : List Entry) → StepRun s past → WorldRun s (reverse past)
-world_run s past run = record {
+table_run_of : (s : ScriptData) (past : List Entry) → StepRun s past → TableRun s (reverse past)
+table_run_of s past run = record {
   postal = record {
     stamps = λ k e at. stamps_of s past k e run at;
     sent = λ k e at. sent_before s past k e run at;
@@ -221,3 +223,17 @@ world_run s past run = record {
   coordinator = coordinator_runs s past run;
   client = client_runs s past run;
 }
+
+pub world_run : (s : ScriptData) (past : List Entry) → StepRun s past → WorldRun s (reverse past)
+world_run s past run = world_of_tables s (reverse past) (table_run_of s past run)
+
+-- The state to which an actor's own entries lead is the one after the past.
+pub node_leads : (s : ScriptData) (past : List Entry) (p : ℕ) → p < s.nodes → actor_after s (reverse past) p ≡ NodeData (node_in s past p)
+node_leads s past p lt = node_data_after s p (own p (reverse past)) lt ∙ ap NodeData (node_after s past p)
+
+pub coordinator_leads : (s : ScriptData) (past : List Entry)
+    → actor_after s (reverse past) s.nodes ≡ CoordinatorData (coordinator_in s past)
+coordinator_leads s past = coordinator_data_after s (own s.nodes (reverse past)) ∙ ap CoordinatorData (coordinator_after s past)
+
+pub client_leads : (s : ScriptData) (past : List Entry) → actor_after s (reverse past) (client_of s) ≡ ClientData (client_in s past)
+client_leads s past = client_data_after s (own (client_of s) (reverse past)) ∙ ap ClientData (client_after s past)

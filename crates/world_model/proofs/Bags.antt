@@ -1,5 +1,6 @@
 -- Sums over the letters under way.
-use Rattle.std.proofs.Common.{◌≡◌, ℕ, ◌+◌, Bool, true, false, List, [], ◌∷◌, ◌++◌, refl, arith, Some}
+use Rattle.std.proofs.Common.{◌≡◌, ℕ, ◌+◌, ◌≤◌, ◌==◌, Bool, true, false, List, [], ◌∷◌, ◌++◌, refl, ap, arith, Some}
+use Rattle.tv_base.proofs.Truths.{same_test}
 use Rattle.letter_types.specs.declared.entries.LetterId.{LetterId}
 use Rattle.letter_types.specs.declared.entries.Letter.{Letter}
 use Rattle.letter_types.specs.declared.entries.Outgoing.{Outgoing}
@@ -7,7 +8,16 @@ use Rattle.letter_types.specs.declared.entries.Entry.{Entry}
 use Rattle.letter_types.specs.Letters.{same_id, find_id, drop_id, sealed, letters_of}
 use Rattle.tx_trees.specs.ScriptData.{ScriptData}
 use Rattle.world_model.specs.Runs.{waiting, MayFollow}
-use Rattle.world_model.specs.Counts.{tally}
+use Rattle.world_model.specs.Counts.{tally, one_if}
+
+-- a test counts for one at most, and that of a number and itself for one
+
+pub one_if_most : (b : Bool) → one_if b ≤ 1
+one_if_most true = omega arith
+one_if_most false = omega arith
+
+pub one_if_same : (t : ℕ) → one_if (t == t) ≡ 1
+one_if_same t = ap one_if (same_test t)
 
 pub tally-append : {X : Type 0} (f : X → ℕ) (xs ys : List X) → tally f (xs ++ ys) ≡ tally f xs + tally f ys
 tally-append f [] ys = omega arith

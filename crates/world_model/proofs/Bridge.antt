@@ -1,38 +1,25 @@
 -- A history whose actors each follow their table is one that goes step by step.
-use Rattle.std.proofs.Common.{◌≡◌, ◌⊎◌, inl, inr, ℕ, ◌<◌, ◌==◌, Bool, true, false, List, [], ◌∷◌, ◌++◌, length, refl, subst, arith, Some, suc, zero, reverse}
+use Rattle.std.proofs.Common.{◌≡◌, ◌⊎◌, inl, inr, ℕ, ◌<◌, ◌==◌, Bool, true, false, List, [], ◌∷◌, ◌++◌, length, refl, subst, arith, Some, reverse}
 use Rattle.std.specs.Prelude.{if◌then◌else◌, slice_get}
 use Rattle.std.proofs.lemmas.List.{reverse-append}
 use Rattle.std.proofs.lemmas.List.Elements.{filter-append}
 use Rattle.std.proofs.lemmas.Option.{slice_get_within}
+use Rattle.tv_base.proofs.ByPlace.{slice_get_left, slice_get_split}
 use Rattle.letter_types.specs.declared.entries.Letter.{Letter}
 use Rattle.letter_types.specs.declared.entries.Entry.{Entry}
 use Rattle.letter_types.specs.Letters.{go, own, find_id, letters_of}
-use Rattle.letter_types.specs.Postal.{Postal}
 use Rattle.tx_trees.specs.ScriptData.{ScriptData, client_of}
 use Rattle.world_model.specs.Tables.{start_node}
-use Rattle.world_model.specs.Runs.{IsRunOf, after, node_table, client_table, node_in, client_in, Says}
+use Rattle.node_step.specs.Apt.{node_row}
+use Rattle.advance_coord.specs.Coordinator.{start_coordinator}
+use Rattle.world_model.specs.Tables.{client_table, coordinator_table}
+use Rattle.world_model.specs.Runs.{IsRunOf, after, node_in, coordinator_in, client_in, Says}
+use Rattle.world_model.proofs.Actors.{EntryPostal}
 use Rattle.letter_types.specs.Steps.{Out}
 use Rattle.client_rows.specs.Client.{start_client}
 
 pub reverse_more : (e : Entry) (past : List Entry) → reverse (e ∷ past) ≡ reverse past ++ e ∷ []
 reverse_more e past = reverse-append (e ∷ []) past
-
-pub slice_get_left : {X : Type 0} (xs ys : List X) (k : ℕ) (x : X) → slice_get xs k ≡ Some x → slice_get (xs ++ ys) k ≡ Some x
-slice_get_left [] ys k x at = absurd (grind arith)
-slice_get_left (y ∷ xs) ys zero x at = at
-slice_get_left (y ∷ xs) ys (suc k) x at = slice_get_left xs ys k x at
-
-pub slice_get_last : {X : Type 0} (xs : List X) (y : X) → slice_get (xs ++ y ∷ []) (length xs) ≡ Some y
-slice_get_last [] y = refl
-slice_get_last (x ∷ xs) y = slice_get_last xs y
-
-pub slice_get_split : {X : Type 0} (xs : List X) (y : X) (k : ℕ) (x : X) → slice_get (xs ++ y ∷ []) k ≡ Some x
-    → ((k < length xs) × (slice_get xs k ≡ Some x)) ⊎ ((k ≡ length xs) × (y ≡ x))
-slice_get_split [] y zero x at = inr (refl, grind arith)
-slice_get_split [] y (suc k) x at = absurd (grind arith)
-slice_get_split (z ∷ xs) y zero x at = inl (omega arith, at)
-slice_get_split (z ∷ xs) y (suc k) x at =
-    elim (slice_get_split xs y k x at) [ inl p ↦ inl (omega (arith, p.0), p.1) | inr p ↦ inr (omega (arith, p.0), p.1) ]
 
 run_split : {St : Type 0} (row : St → Letter → Out St) (st : St) (es fs : List Entry) → IsRunOf row st (es ++ fs)
     → IsRunOf row st es × IsRunOf row (after row st es) fs
@@ -63,9 +50,15 @@ state_more row first a e past st is =
     rw (own_more a e past, after_append row first (own a (reverse past)) (if e.actor.0 == a then e ∷ [] else []), is) (one_after row st e (e.actor.0 == a))
 
 pub node_after : (s : ScriptData) (past : List Entry) (p : ℕ)
-    → after (node_table s p) (start_node s p) (own p (reverse past)) ≡ node_in s past p
+    → after (node_row s p) (start_node s p) (own p (reverse past)) ≡ node_in s past p
 node_after s [] p = refl
-node_after s (e ∷ past) p = state_more (node_table s p) (start_node s p) p e past (node_in s past p) (node_after s past p)
+node_after s (e ∷ past) p = state_more (node_row s p) (start_node s p) p e past (node_in s past p) (node_after s past p)
+
+pub coordinator_after : (s : ScriptData) (past : List Entry)
+    → after coordinator_table (start_coordinator s.nodes) (own s.nodes (reverse past)) ≡ coordinator_in s past
+coordinator_after s [] = refl
+coordinator_after s (e ∷ past) =
+    state_more coordinator_table (start_coordinator s.nodes) s.nodes e past (coordinator_in s past) (coordinator_after s past)
 
 pub client_after : (s : ScriptData) (past : List Entry)
     → after (client_table s) (start_client s) (own (client_of s) (reverse past)) ≡ client_in s past
@@ -91,7 +84,7 @@ sent_less s e h k f lt (inr (j, g, jk, at, found)) =
     elim (slice_get_split h e j g at) [ inl p ↦ inr (j, g, jk, p.1, found) | inr p ↦ absurd (omega arith) ]
 
 -- postal, one entry less
-pub postal_less : (s : ScriptData) (e : Entry) (h : List Entry) → Postal (client_of s) (h ++ e ∷ []) → Postal (client_of s) h
+pub postal_less : (s : ScriptData) (e : Entry) (h : List Entry) → EntryPostal (client_of s) (h ++ e ∷ []) → EntryPostal (client_of s) h
 postal_less s e h post = record {
   stamps = λ k f at. post.stamps k f (slice_get_left h (e ∷ []) k f at);
   sent = λ k f at. sent_less s e h k f (slice_get_within h k f at) (post.sent k f (slice_get_left h (e ∷ []) k f at));

@@ -7,7 +7,8 @@ use Rattle.letter_types.specs.declared.entries.Outgoing.{Outgoing}
 use Rattle.letter_types.specs.declared.entries.Entry.{Entry}
 use Rattle.letter_types.specs.Letters.{same_id, find_id, drop_id, sealed, letters_of}
 use Rattle.tx_trees.specs.ScriptData.{ScriptData}
-use Rattle.world_model.specs.Runs.{node_table, waiting, node_in, Says, Moves, AtNode, AtCoordinator, AtClient, MayFollow}
+use Rattle.node_step.specs.Apt.{node_row}
+use Rattle.world_model.specs.Runs.{waiting, coordinator_in, node_in, Says, Moves, AtNode, AtCoordinator, AtClient, MayFollow}
 use Rattle.world_model.specs.Counts.{tally, Each}
 
 pub each_append : {X : Type 0} (P : X → Type 0) (xs ys : List X) → Each P xs → Each P ys → Each P (xs ++ ys)
@@ -62,12 +63,12 @@ each_taken P s past e m all = each_found P e.took.id (waiting s past) e.took all
 -- how a node's state goes on
 pub data NodeNext (s : ScriptData) (past : List Entry) (e : Entry) (p : ℕ) : Type 0 where
   Stays : e.actor.0 ≢ p → node_in s (e ∷ past) p ≡ node_in s past p → NodeNext s past e p
-  Moved : e.actor.0 ≡ p → node_in s (e ∷ past) p ≡ (node_table s p (node_in s past p) e.took).state
-      → Says (node_table s p (node_in s past p) e.took) e → NodeNext s past e p
+  Moved : e.actor.0 ≡ p → node_in s (e ∷ past) p ≡ (node_row s p (node_in s past p) e.took).state
+      → Says (node_row s p (node_in s past p) e.took) e → NodeNext s past e p
 
 moved_says : (s : ScriptData) (past : List Entry) (e : Entry) (p : ℕ) → p < s.nodes → e.actor.0 ≡ p → Moves s past e
-    → Says (node_table s p (node_in s past p) e.took) e
-moved_says s past e p lt eq (AtNode node says) = subst (λ (n : ℕ). Says (node_table s n (node_in s past n) e.took) e) eq says
+    → Says (node_row s p (node_in s past p) e.took) e
+moved_says s past e p lt eq (AtNode node says) = subst (λ (n : ℕ). Says (node_row s n (node_in s past n) e.took) e) eq says
 moved_says s past e p lt eq (AtCoordinator at says) = absurd (omega arith)
 moved_says s past e p lt eq (AtClient at says) = absurd (omega arith)
 
@@ -82,6 +83,10 @@ node_next s past e p lt m = node_next_by s past e p lt m.moves (e.actor.0 == p) 
 
 pub node_kept : (s : ScriptData) (past : List Entry) (e : Entry) (p : ℕ) → e.actor.0 ≢ p → node_in s (e ∷ past) p ≡ node_in s past p
 node_kept s past e p ne = let no : (e.actor.0 == p) ≡ false = grind (arith, nat_tests) in rw no refl
+
+pub coordinator_kept : (s : ScriptData) (past : List Entry) (e : Entry) → e.actor.0 ≢ s.nodes
+    → coordinator_in s (e ∷ past) ≡ coordinator_in s past
+coordinator_kept s past e ne = let no : (e.actor.0 == s.nodes) ≡ false = grind (arith, nat_tests) in rw no refl
 
 pub each_zero : {X : Type 0} (f : X → ℕ) (xs : List X) → tally f xs ≡ 0 → Each (λ x. f x ≡ 0) xs
 each_zero f [] none = tt

@@ -2,6 +2,7 @@
 use Rattle.std.proofs.Common.{◌≡◌, ◌≢◌, ◌⊎◌, inl, inr, ℕ, ◌+◌, ◌<◌, ◌≤◌, ◌==◌, Bool, true, false, List, [], ◌∷◌, length, refl, ap, ◌∙◌, subst, arith, Some, reverse}
 use Rattle.std.specs.Prelude.{slice_get}
 use Rattle.std.proofs.lemmas.Bool.Decides.{nat_tests}
+use Rattle.tv_base.proofs.ByPlace.{slice_get_split}
 use Rattle.letter_types.specs.declared.entries.LetterId.{LetterId}
 use Rattle.letter_types.specs.declared.entries.Letter.{Letter}
 use Rattle.letter_types.specs.declared.entries.Outgoing.{Outgoing}
@@ -10,8 +11,8 @@ use Rattle.letter_types.specs.Letters.{go, same_id, find_id, sealed}
 use Rattle.tx_trees.specs.ScriptData.{ScriptData, client_of}
 use Rattle.world_model.specs.Runs.{waiting, StepRun}
 use Rattle.world_model.specs.Counts.{tally, one_if}
-use Rattle.world_model.proofs.Bags.{tally_step, tally-drop}
-use Rattle.world_model.proofs.Bridge.{reverse_more, slice_get_split}
+use Rattle.world_model.proofs.Bags.{tally_step, tally-drop, one_if_most}
+use Rattle.world_model.proofs.Bridge.{reverse_more}
 
 -- Ids that differ, and ids that are the same.
 pub apart_from : (i j k : LetterId) → same_id i j ≡ false → same_id j k ≡ true → same_id i k ≡ false
@@ -35,10 +36,6 @@ apart_place : (id : LetterId) (stamp place : ℕ) → id.place ≢ place
     → one_if (same_id id (record { stamp = record { 0 = stamp }; place = place })) ≡ 0
 apart_place id stamp place ne = grind (arith, nat_tests)
 
-one_le : (b : Bool) → one_if b ≤ 1
-one_le true = omega arith
-one_le false = omega arith
-
 other_stamp : (id : LetterId) (stamp actor place : ℕ) (os : List Outgoing) → id.stamp.0 ≢ stamp
     → tally (of_id id) (sealed stamp actor place os) ≡ 0
 other_stamp id stamp actor place [] ne = refl
@@ -54,7 +51,7 @@ one_more : (id : LetterId) (stamp actor place : ℕ) (o : Outgoing) (os : List O
     → tally (of_id id) (sealed stamp actor (place + 1) os) ≤ 1 → tally (of_id id) (sealed stamp actor place (o ∷ os)) ≤ 1
 one_more id stamp actor place o os true is le =
     let eq : id.place ≡ place = grind (arith, nat_tests) in
-    omega (arith, later_places id stamp actor (place + 1) os (omega arith), one_le (same_id id (record { stamp = record { 0 = stamp }; place = place })))
+    omega (arith, later_places id stamp actor (place + 1) os (omega arith), one_if_most (same_id id (record { stamp = record { 0 = stamp }; place = place })))
 one_more id stamp actor place o os false is le =
     let ne : id.place ≢ place = grind (arith, nat_tests) in
     omega (arith, apart_place id stamp place ne)
@@ -82,7 +79,7 @@ unique_by s past e id run ih false is =
     omega (arith, tally_step (of_id id) s past e run.0, other_stamp id e.stamp.0 e.actor.0 0 e.sent ne)
 
 pub unique : (s : ScriptData) (past : List Entry) (id : LetterId) → StepRun s past → tally (of_id id) (waiting s past) ≤ 1
-unique s [] id run = omega (arith, one_le (same_id id (go (client_of s)).id))
+unique s [] id run = omega (arith, one_if_most (same_id id (go (client_of s)).id))
 unique s (e ∷ past) id run = unique_by s past e id run (unique s past id run.1) (id.stamp.0 == e.stamp.0) refl
 
 found_one_at : (id : LetterId) (x : Letter) (xs : List Letter) (l : Letter) (b : Bool) → same_id id x.id ≡ b → find_id id (x ∷ xs) ≡ Some l

@@ -1,5 +1,6 @@
 pub mod Bags
 pub mod Every
+pub mod Actors
 pub mod Bridge
 pub mod Gone
 pub mod Back

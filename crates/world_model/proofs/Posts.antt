@@ -4,16 +4,21 @@ use Rattle.std.specs.Prelude.{if◌then◌else◌, slice_get}
 use Rattle.std.proofs.lemmas.Bool.Decides.{nat_tests}
 use Rattle.std.proofs.lemmas.List.{length-reverse, reverse-reverse}
 use Rattle.std.proofs.lemmas.Option.{slice_get_within}
+use Rattle.tv_base.proofs.Truths.{same_test}
+use Rattle.tv_base.proofs.ByPlace.{slice_get_left, slice_get_last, slice_get_split}
 use Rattle.letter_types.specs.declared.entries.LetterId.{LetterId}
 use Rattle.letter_types.specs.declared.entries.Letter.{Letter}
 use Rattle.letter_types.specs.declared.entries.Outgoing.{Outgoing}
 use Rattle.letter_types.specs.declared.entries.Entry.{Entry}
 use Rattle.letter_types.specs.Letters.{go, same_id, find_id, drop_id, sealed, letters_of}
 use Rattle.tx_trees.specs.ScriptData.{ScriptData, client_of}
-use Rattle.world_model.specs.Tables.{start_node}
-use Rattle.world_model.specs.Runs.{WorldRun, node_table, coordinator_table, client_table, waiting, node_in, client_in, Moves, AtNode, AtCoordinator, AtClient, MayFollow, StepRun}
+use Rattle.node_step.specs.Apt.{node_row}
+use Rattle.advance_coord.specs.Coordinator.{start_coordinator}
+use Rattle.world_model.specs.Tables.{start_node, client_table, coordinator_table}
+use Rattle.world_model.specs.Runs.{WorldRun, waiting, node_in, coordinator_in, client_in, Moves, AtNode, AtCoordinator, AtClient, MayFollow, StepRun}
 use Rattle.world_model.proofs.Gone.{apart_from, same_is}
-use Rattle.world_model.proofs.Bridge.{reverse_more, slice_get_split, slice_get_last, slice_get_left, postal_less, run_less, node_after, client_after}
+use Rattle.world_model.proofs.Bridge.{reverse_more, postal_less, run_less, node_after, coordinator_after, client_after}
+use Rattle.world_model.proofs.Actors.{TableRun, table_run}
 use Rattle.client_rows.specs.Client.{start_client}
 
 find_left_at : (id : LetterId) (x : Letter) (xs ys : List Letter) (l : Letter) (b : Bool) → same_id id x.id ≡ b
@@ -95,9 +100,6 @@ abbrev pub NotTaken : List Entry → LetterId → Type 0
 NotTaken [] id = Unit {0}
 NotTaken (e ∷ past) id = (same_id id e.took.id ≡ false) × NotTaken past id
 
-same_self : (i : LetterId) → same_id i i ≡ true
-same_self i = grind (arith, nat_tests)
-
 present : (s : ScriptData) (past : List Entry) (l : Letter) → StepRun s past → SentIn s past l → NotTaken past l.id
     → find_id l.id (waiting s past) ≡ Some l
 present s [] l run sent free = subst (λ (m : Letter). find_id m.id (go (client_of s) ∷ []) ≡ Some m) (sym sent) refl
@@ -148,22 +150,19 @@ came_from s e past k (inr (j, f, lt, here, found)) at =
       | inr p ↦ absurd (omega arith)
     ]
 
-same_test : (n : ℕ) → (n == n) ≡ true
-same_test n = grind (arith, nat_tests)
-
-moves_of : (s : ScriptData) (e : Entry) (past : List Entry) → WorldRun s (reverse (e ∷ past))
+moves_of : (s : ScriptData) (e : Entry) (past : List Entry) → TableRun s (reverse (e ∷ past))
     → (e.actor.0 < s.nodes) ⊎ ((e.actor.0 ≡ s.nodes) ⊎ (e.actor.0 ≡ client_of s)) → Moves s past e
 moves_of s e past world (inl node) =
-    AtNode node ((run_less (node_table s e.actor.0) (start_node s e.actor.0) e.actor.0 e past (node_in s past e.actor.0) (node_after s past e.actor.0) (world.nodes e.actor.0 node)).1 (same_test e.actor.0))
+    AtNode node ((run_less (node_row s e.actor.0) (start_node s e.actor.0) e.actor.0 e past (node_in s past e.actor.0) (node_after s past e.actor.0) (world.nodes e.actor.0 node)).1 (same_test e.actor.0))
 moves_of s e past world (inr (inl at)) =
-    AtCoordinator at ((run_less coordinator_table (tt {0}) s.nodes e past (tt {0}) refl world.coordinator).1 (rw at (same_test s.nodes)))
+    AtCoordinator at ((run_less coordinator_table (start_coordinator s.nodes) s.nodes e past (coordinator_in s past) (coordinator_after s past) world.coordinator).1 (rw at (same_test s.nodes)))
 moves_of s e past world (inr (inr at)) =
     AtClient at ((run_less (client_table s) (start_client s) (client_of s) e past (client_in s past) (client_after s past) world.client).1 (rw at (same_test (client_of s))))
 
 who : (a n : ℕ) → a < n + 2 → (a < n) ⊎ ((a ≡ n) ⊎ (a ≡ n + 1))
 who a n lt = grind arith
 
-pub may_follow : (s : ScriptData) (e : Entry) (past : List Entry) → StepRun s past → WorldRun s (reverse (e ∷ past)) → MayFollow s past e
+pub may_follow : (s : ScriptData) (e : Entry) (past : List Entry) → StepRun s past → TableRun s (reverse (e ∷ past)) → MayFollow s past e
 may_follow s e past run world =
     let last : slice_get (reverse past ++ e ∷ []) (length (reverse past)) ≡ Some e = slice_get_last (reverse past) e in
     let post = rw (reverse_more e past) at world.postal in
@@ -175,19 +174,20 @@ may_follow s e past run world =
       moves = moves_of s e past world (who e.actor.0 s.nodes (omega (arith, post.known (length (reverse past)) e last)));
     }
 
-world_less : (s : ScriptData) (e : Entry) (past : List Entry) → WorldRun s (reverse (e ∷ past)) → WorldRun s (reverse past)
+world_less : (s : ScriptData) (e : Entry) (past : List Entry) → TableRun s (reverse (e ∷ past)) → TableRun s (reverse past)
 world_less s e past world = record {
   postal = postal_less s e (reverse past) (rw (reverse_more e past) at world.postal);
-  nodes = λ p lt. (run_less (node_table s p) (start_node s p) p e past (node_in s past p) (node_after s past p) (world.nodes p lt)).0;
-  coordinator = (run_less coordinator_table (tt {0}) s.nodes e past (tt {0}) refl world.coordinator).0;
+  nodes = λ p lt. (run_less (node_row s p) (start_node s p) p e past (node_in s past p) (node_after s past p) (world.nodes p lt)).0;
+  coordinator = (run_less coordinator_table (start_coordinator s.nodes) s.nodes e past (coordinator_in s past) (coordinator_after s past) world.coordinator).0;
   client = (run_less (client_table s) (start_client s) (client_of s) e past (client_in s past) (client_after s past) world.client).0;
 }
 
-pub step_run : (s : ScriptData) (past : List Entry) → WorldRun s (reverse past) → StepRun s past
+step_run : (s : ScriptData) (past : List Entry) → TableRun s (reverse past) → StepRun s past
 step_run s [] world = tt
 step_run s (e ∷ past) world =
     let run = step_run s past (world_less s e past world) in
     (may_follow s e past run world, run)
 
 pub steps : (s : ScriptData) (history : List Entry) → WorldRun s history → StepRun s (reverse history)
-steps s history world = step_run s (reverse history) (subst (λ h. WorldRun s h) (sym (reverse-reverse history)) world)
+steps s history world =
+    step_run s (reverse history) (subst (λ h. TableRun s h) (sym (reverse-reverse history)) (table_run s history world))

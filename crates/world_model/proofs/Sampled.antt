@@ -1,10 +1,9 @@
 -- The small run ends, and each node then holds what it was to.
-use Rattle.std.proofs.Common.{◌≡◌, ℤ, true, false, [], ◌∷◌, length, refl, Some}
+use Rattle.std.proofs.Common.{◌≡◌, ℤ, true, [], ◌∷◌, length, refl, Some}
 use Rattle.std.specs.Prelude.{pos}
 use Rattle.commute_ops.specs.declared.value.Value.TheVariants.{Sum}
 use Rattle.item_versions.specs.Item.{Held}
 use Rattle.item_versions.specs.Table.{item_in}
-use Rattle.client_rows.specs.Client.{Client}
 use Rattle.world_model.specs.Runs.{waiting, node_in, client_in}
 use Rattle.world_model.specs.Sample.{sample, small, with_read}
 

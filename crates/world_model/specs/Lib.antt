@@ -1,4 +1,5 @@
 pub mod Tables
 pub mod Runs
+pub mod Scheduled
 pub mod Counts
 pub mod Sample

@@ -1,25 +1,17 @@
 -- Histories that the tables allow.
-use Rattle.std.specs.Prelude.{if◌then◌else◌, ℕ, ◌==◌, ◌+◌, ◌<◌, ◌≡◌, List, [], ◌∷◌, length, Some}
+use Rattle.std.specs.Prelude.{if◌then◌else◌, ℕ, ◌==◌, ◌+◌, ◌<◌, ◌≡◌, List, [], ◌∷◌, length, map, Some}
 use Rattle.letter_types.specs.declared.entries.Letter.{Letter}
 use Rattle.letter_types.specs.declared.entries.Entry.{Entry}
 use Rattle.letter_types.specs.Letters.{find_id, own}
 use Rattle.letter_types.specs.Letters.{waiting as waiting_for}
-use Rattle.letter_types.specs.Postal.{Postal}
+use Rattle.letter_types.specs.Postal.{Postal, posting_of}
+use Rattle.letter_types.specs.Steps.{Out}
 use Rattle.tx_trees.specs.ScriptData.{ScriptData, client_of}
-use Rattle.letter_types.specs.Steps.{Out, still}
 use Rattle.tree_step.specs.Node.{Node}
-use Rattle.client_rows.specs.Client.{Client, start_client, client_row}
-use Rattle.world_model.specs.Tables.{start_node, node_row}
-
-abbrev pub node_table : ScriptData → ℕ → Node → Letter → Out Node
-node_table s p st l = node_row s p st l.from.0 l.body
-
-abbrev pub client_table : ScriptData → Client → Letter → Out Client
-client_table s st l = client_row s st l.body
-
--- the coordinator hears nudges, and does nothing yet
-abbrev pub coordinator_table : Unit {0} → Letter → Out (Unit {0})
-coordinator_table st l = still st
+use Rattle.node_step.specs.Apt.{node_row}
+use Rattle.advance_coord.specs.Coordinator.{Coordinator, start_coordinator}
+use Rattle.client_rows.specs.Client.{Client, start_client}
+use Rattle.world_model.specs.Tables.{ActorData, start_node, start_actor, actor_row, wide_actor_row, coordinator_table, client_table}
 
 -- The public shape: the letters went as letters do, and each actor's own entries, in order, are a run of its table.
 
@@ -33,11 +25,22 @@ abbrev pub after : {St : Type 0} → (St → Letter → Out St) → St → List 
 after row st [] = st
 after row st (e ∷ es) = after row (row st e.took).state es
 
+-- actor a's own entries are a run of its table from its start
+abbrev pub IsActorRun : ScriptData → List Entry → ℕ → Type 0
+IsActorRun s h a = IsRunOf (actor_row s a) (start_actor s a) (own a h)
+
 pub record WorldRun (s : ScriptData) (h : List Entry) : Type 0 where
-  pub postal : Postal (client_of s) h
-  pub nodes : (p : ℕ) → p < s.nodes → IsRunOf (node_table s p) (start_node s p) (own p h)
-  pub coordinator : IsRunOf coordinator_table (tt {0}) (own s.nodes h)
-  pub client : IsRunOf (client_table s) (start_client s) (own (client_of s) h)
+  pub postal : Postal (client_of s) (map posting_of h)
+  pub actors : (a : ℕ) → a < s.nodes + 2 → IsActorRun s h a
+
+-- the same by the wider aptness
+pub record WideRun (s : ScriptData) (h : List Entry) : Type 0 where
+  pub postal : Postal (client_of s) (map posting_of h)
+  pub actors : (a : ℕ) → a < s.nodes + 2 → IsRunOf (wide_actor_row s a) (start_actor s a) (own a h)
+
+-- the state to which actor a's own entries lead
+abbrev pub actor_after : ScriptData → List Entry → ℕ → ActorData
+actor_after s h a = after (actor_row s a) (start_actor s a) (own a h)
 
 -- The shape for proofs: one entry after the other. A past has the newest entry first, and the letters under way and
 -- the states are functions of it.
@@ -47,7 +50,12 @@ waiting s past = waiting_for (client_of s) past
 
 abbrev pub node_in : ScriptData → List Entry → ℕ → Node
 node_in s [] p = start_node s p
-node_in s (e ∷ past) p = if e.actor.0 == p then (node_table s p (node_in s past p) e.took).state else node_in s past p
+node_in s (e ∷ past) p = if e.actor.0 == p then (node_row s p (node_in s past p) e.took).state else node_in s past p
+
+abbrev pub coordinator_in : ScriptData → List Entry → Coordinator
+coordinator_in s [] = start_coordinator s.nodes
+coordinator_in s (e ∷ past) =
+    if e.actor.0 == s.nodes then (coordinator_table (coordinator_in s past) e.took).state else coordinator_in s past
 
 abbrev pub client_in : ScriptData → List Entry → Client
 client_in s [] = start_client s
@@ -59,8 +67,8 @@ Says out e = (e.sent ≡ out.sent) × (e.acts ≡ out.acts)
 
 -- whose step an entry is
 pub data Moves (s : ScriptData) (past : List Entry) (e : Entry) : Type 0 where
-  AtNode : e.actor.0 < s.nodes → Says (node_table s e.actor.0 (node_in s past e.actor.0) e.took) e → Moves s past e
-  AtCoordinator : e.actor.0 ≡ s.nodes → Says (coordinator_table (tt {0}) e.took) e → Moves s past e
+  AtNode : e.actor.0 < s.nodes → Says (node_row s e.actor.0 (node_in s past e.actor.0) e.took) e → Moves s past e
+  AtCoordinator : e.actor.0 ≡ s.nodes → Says (coordinator_table (coordinator_in s past) e.took) e → Moves s past e
   AtClient : e.actor.0 ≡ client_of s → Says (client_table s (client_in s past) e.took) e → Moves s past e
 
 -- an entry may come next

@@ -9,7 +9,9 @@ use Rattle.tx_trees.specs.declared.parts.TreeKind.TheVariants.{Update, Read}
 use Rattle.letter_types.specs.declared.entries.Letter.{Letter}
 use Rattle.letter_types.specs.declared.entries.Entry.{Entry}
 use Rattle.letter_types.specs.Steps.{Out}
-use Rattle.world_model.specs.Runs.{waiting, node_in, client_in, node_table, client_table, coordinator_table}
+use Rattle.node_step.specs.Apt.{node_row}
+use Rattle.world_model.specs.Tables.{client_table, coordinator_table}
+use Rattle.world_model.specs.Runs.{waiting, node_in, coordinator_in, client_in}
 
 -- an actor takes a letter, and its table says this
 abbrev pub entry_by : {St : Type 0} → List Entry → Letter → Out St → Entry
@@ -17,8 +19,8 @@ entry_by past l out = record { stamp = record { 0 = length past + 1 }; actor = l
 
 abbrev pub entry_of : ScriptData → List Entry → Letter → Entry
 entry_of s past l =
-    if nat_lt l.to.0 s.nodes then entry_by past l (node_table s l.to.0 (node_in s past l.to.0) l)
-    else if l.to.0 == s.nodes then entry_by past l (coordinator_table (tt {0}) l)
+    if nat_lt l.to.0 s.nodes then entry_by past l (node_row s l.to.0 (node_in s past l.to.0) l)
+    else if l.to.0 == s.nodes then entry_by past l (coordinator_table (coordinator_in s past) l)
     else entry_by past l (client_table s (client_in s past) l)
 
 abbrev pub next_of : ScriptData → List Entry → List Letter → List Entry

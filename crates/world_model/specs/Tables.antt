@@ -1,28 +1,24 @@
--- What each actor does with a letter: the rows of all crates below, put together.
-use Rattle.std.specs.Prelude.{if◌then◌else◌, ℕ, Bool, true, false, ◌==◌, ◌&&◌, ◌+◌, nat_lt, List, [], ◌∷◌, length, IsTrue}
+-- How each actor begins, and what it does with a letter: one table for all of them.
+use Rattle.std.specs.Prelude.{if◌then◌else◌, ℕ, Bool, true, false, ◌==◌, ◌+◌, nat_lt, List, [], ◌∷◌, IsTrue}
 use Rattle.std.specs.List.{AllByRecursion}
 use Rattle.commute_ops.specs.Ops.{start}
 use Rattle.item_versions.specs.Table.{Table}
 use Rattle.node_versions.specs.Turns.{start as first_turns}
-use Rattle.pair_counters.specs.Numbers.{none, done_one}
-use Rattle.tree_home.specs.Homes.{Gets}
-use Rattle.tx_trees.specs.ScriptData.{ScriptData, client_of, subs_at, home_of, updates}
+use Rattle.pair_counters.specs.Numbers.{none}
+use Rattle.tree_home.specs.Homes.{no_trees}
+use Rattle.tx_trees.specs.ScriptData.{ScriptData}
 use Rattle.tx_trees.specs.declared.parts.ItemRow.{ItemRow}
-use Rattle.tx_trees.specs.declared.parts.Tree.{Tree}
 use Rattle.tx_trees.specs.declared.parts.ScriptRow.{ScriptRow}
-use Rattle.tx_trees.specs.declared.parts.ScriptRow.TheVariants.{Tree as TreeRow, Advance as AdvanceRow, Settle as SettleRow}
+use Rattle.tx_trees.specs.declared.parts.ScriptRow.TheVariants.{Tree as TreeRow, Settle as SettleRow, Advance as AdvanceRow}
+use Rattle.tx_trees.specs.declared.parts.Tree.{Tree}
 use Rattle.tx_trees.specs.declared.parts.TreeKind.{TreeKind}
-use Rattle.tx_trees.specs.declared.parts.TreeKind.TheVariants as kinds
-use Rattle.letter_types.specs.declared.bodies.Body.{Body}
-use Rattle.letter_types.specs.declared.bodies.Body.TheVariants.{Root, Sub as SubLetter, Done}
-use Rattle.letter_types.specs.declared.bodies.Notice.{Notice}
-use Rattle.letter_types.specs.declared.bodies.Notice.TheVariants.{Did}
-use Rattle.letter_types.specs.Steps.{Out, still}
+use Rattle.tx_trees.specs.declared.parts.TreeKind.TheVariants.{Update, Read, Strict}
+use Rattle.letter_types.specs.declared.entries.Letter.{Letter}
+use Rattle.letter_types.specs.Steps.{Out}
 use Rattle.tree_step.specs.Node.{Node}
-use Rattle.tree_step.specs.Notices.{homes_noted, answer_noted, reply_letters}
-use Rattle.update_step.specs.Rows.{update_row}
-use Rattle.read_step.specs.Rows.{read_row}
-use Rattle.tx_trees.specs.Built.{is_built, IsBuiltRow}
+use Rattle.node_step.specs.Apt.{node_row, wide_node_row}
+use Rattle.advance_coord.specs.Coordinator.{Coordinator, start_coordinator, coordinator_row}
+use Rattle.client_rows.specs.Client.{Client, start_client, client_row}
 
 -- the items at node p, where the list begins with item x: each in version 0 with its initial value
 abbrev pub items_at : ℕ → ℕ → List ItemRow → Table
@@ -33,37 +29,55 @@ items_at p x (r ∷ rs) =
     else items_at p (x + 1) rs
 
 abbrev pub start_node : ScriptData → ℕ → Node
-start_node s p = record { turns = first_turns; items = items_at p 0 s.items; counts = none; homes = [] }
+start_node s p = record { turns = first_turns; items = items_at p 0 s.items; counts = none; homes = no_trees }
 
--- a tree's home takes a notice from node q: it counts the completion, and answers the client if none is missing any more
-abbrev pub note_done : ScriptData → ℕ → ℕ → ℕ → ℕ → Gets → Node → Out Node
-note_done s q t k v values st = record {
-  state = record {
-    turns = st.turns;
-    items = st.items;
-    counts = done_one v q st.counts;
-    homes = homes_noted (record { 0 = t }) (record { 0 = k }) values st.homes;
-  };
-  sent = reply_letters (client_of s) (answer_noted (record { 0 = t }) (record { 0 = k }) values st.homes);
-  acts = [];
-}
+-- the state of an actor, as its table sees it
+pub data ActorData : Type 0 where
+  NodeData : Node → ActorData
+  CoordinatorData : Coordinator → ActorData
+  ClientData : Client → ActorData
 
--- the values that a notice brings
-abbrev pub values_of : Notice → Gets
-values_of (Did values) = values
+-- actor a at the start: the nodes come first, then the coordinator, then the client
+abbrev pub start_actor : ScriptData → ℕ → ActorData
+start_actor s a =
+    if nat_lt a s.nodes then NodeData (start_node s a)
+    else if a == s.nodes then CoordinatorData (start_coordinator s.nodes) else ClientData (start_client s)
 
--- what node p does with a letter of this sender and body
-abbrev pub node_row : ScriptData → ℕ → Node → ℕ → Body → Out Node
-node_row s p st from (Root t) = if updates s t.0 then update_row s p st from (Root t) else read_row s p st from (Root t)
-node_row s p st from (SubLetter t k v) =
-    if updates s t.0 then update_row s p st from (SubLetter t k v) else read_row s p st from (SubLetter t k v)
-node_row s p st from (Done t k v notice) =
-    if (home_of s t.0 == p) && (nat_lt k.0 (length (subs_at s t.0)) && nat_lt from s.nodes)
-    then note_done s from t.0 k.0 v.0 (values_of notice) st
-    else still st
-node_row s p st from _ = still st
+-- what comes of a letter, seen as the state of an actor
+abbrev pub as_actor : {St : Type 0} → (St → ActorData) → Out St → Out ActorData
+as_actor see out = record { state = see out.state; sent = out.sent; acts = out.acts }
 
--- the scripts whose rows are built: no strict tree, and no advancement
+-- the coordinator's and the client's rows for a letter
+abbrev pub coordinator_table : Coordinator → Letter → Out Coordinator
+coordinator_table c l = coordinator_row c l.from.0 l.body
+
+abbrev pub client_table : ScriptData → Client → Letter → Out Client
+client_table s c l = client_row s c l.body
+
+-- what actor a does with a letter
+abbrev pub actor_row : ScriptData → ℕ → ActorData → Letter → Out ActorData
+actor_row s a (NodeData st) l = as_actor NodeData (node_row s a st l)
+actor_row s a (CoordinatorData c) l = as_actor CoordinatorData (coordinator_table c l)
+actor_row s a (ClientData c) l = as_actor ClientData (client_table s c l)
+
+-- the same by the wider aptness, which has no window of versions
+abbrev pub wide_actor_row : ScriptData → ℕ → ActorData → Letter → Out ActorData
+wide_actor_row s a (NodeData st) l = as_actor NodeData (wide_node_row s a st l)
+wide_actor_row s a (CoordinatorData c) l = as_actor CoordinatorData (coordinator_table c l)
+wide_actor_row s a (ClientData c) l = as_actor ClientData (client_table s c l)
+
+-- a tree that the world runs, and a row that it runs: what a reader accepts is a matter of its own
+abbrev pub is_run : TreeKind → Bool
+is_run Update = true
+is_run Read = true
+is_run Strict = false
+
+abbrev pub is_run_row : ScriptRow → Bool
+is_run_row (TreeRow t) = true
+is_run_row SettleRow = true
+is_run_row AdvanceRow = false
+
+-- the scripts that the world runs: no strict tree, and no advancement
 pub record Runnable (s : ScriptData) : Type 0 where
-  pub trees : AllByRecursion (λ (t : Tree). IsTrue (is_built t.kind)) s.trees
-  pub rows : AllByRecursion IsBuiltRow s.rows
+  pub trees : AllByRecursion (λ (t : Tree). IsTrue (is_run t.kind)) s.trees
+  pub rows : AllByRecursion (λ (r : ScriptRow). IsTrue (is_run_row r)) s.rows

@@ -25,8 +25,8 @@ returns-clause-row c =
           ∙ ap (λ (rows : List ScriptRow). sent_first s news ++ rows_letters s (take (at.next - old.next) (drop old.next rows))) c.rows-rows.ensures;
       acts = c.in_ok-step.ensures.acts;
     } in
-    let told : Some news ≡ news_of (length s.trees) c.args.body.now =
-    c.in-Some.ensures ∙ ap (λ (trees : List Tree). news_of (length trees) c.args.body.now) c.trees.ensures.trees in
+    let told : Some news ≡ news_of (length s.trees) c.args.letter.now.body =
+    c.in-Some.ensures ∙ ap (λ (trees : List Tree). news_of (length trees) c.args.letter.now.body) c.trees.ensures.trees in
     let state : List Bool → ℕ → Client = λ (answered : List Bool) (ended : ℕ). record {
       next = at.next;
       answered = answered;
@@ -37,5 +37,5 @@ returns-clause-row c =
     ∙ ap (λ (ended : ℕ). made (state (answered_after news old.answered) ended) c.in_ok-step.step.given) c.ended_after-ended.ensures
     ∙ submission-row s news old at c.finishes-finishes.result c.in_ok-step.step.given out
     ∙ ap (heard s old) told
-    ∙ sym (row-heard s old c.args.body.now)
-    ∙ ap (λ (k : Kept). client_row s k.client c.args.body.now) c.self.view_is
+    ∙ sym (row-heard s old c.args.letter.now.body)
+    ∙ ap (λ (k : Kept). client_row s k.client c.args.letter.now.body) c.self.view_is

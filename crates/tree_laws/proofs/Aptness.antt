@@ -1,0 +1,86 @@
+-- Each letter that a node takes in a run is apt.
+use Rattle.std.proofs.Common.{◌≡◌, ℕ, ◌<◌, Bool, true, List, ◌∷◌, None, sym, subst, arith}
+use Rattle.tv_base.specs.declared.numbers.SubNo.{SubNo}
+use Rattle.tv_base.specs.declared.numbers.TreeNo.{TreeNo}
+use Rattle.tv_base.specs.declared.numbers.Version.{Version}
+use Rattle.letter_types.specs.declared.bodies.Body.{Body}
+use Rattle.letter_types.specs.declared.bodies.Body.TheVariants.{Root, Sub as SubLetter, Done}
+use Rattle.letter_types.specs.declared.bodies.Notice.TheVariants.{Did}
+use Rattle.letter_types.specs.declared.entries.Entry.{Entry}
+use Rattle.letter_types.specs.declared.entries.Letter.{Letter}
+use Rattle.node_step.specs.Apt.{is_apt}
+use Rattle.node_step.proofs.Apts.{update_root_apt, read_root_apt, update_sub_apt, read_sub_apt, notice_apt}
+use Rattle.read_step.specs.Rows.{can_get}
+use Rattle.tree_step.specs.Apt.{is_near}
+use Rattle.tree_step.specs.Node.{Effect}
+use Rattle.tree_home.specs.Homes.{home_in}
+use Rattle.tx_trees.specs.ScriptData.{ScriptData, node_of, home_of, ops_of}
+use Rattle.tx_trees.specs.Valid.{IsValid}
+use Rattle.update_step.specs.Rows.{can_touch}
+use Rattle.world_model.specs.Runs.{MayFollow, StepRun, node_in}
+use Rattle.world_model.specs.Tables.{Runnable}
+use Rattle.world_model.proofs.Every.{each_taken}
+use Rattle.tree_laws.proofs.Fits.{Fit}
+use Rattle.tree_laws.proofs.Good.{Good}
+use Rattle.tree_laws.proofs.Goods.{good_run, next_of}
+use Rattle.tree_laws.proofs.Nexts.{Next, Begins, Hears, Rests, DoesRoot, DoesSub, Notes, RootWork, RootUpdates, RootReads, SubWork, SubUpdates, SubReads}
+use Rattle.tree_laws.proofs.Scripts.{Sound, SubAt, not_strict, read_kind_at, sub_below, update_kind_at}
+use Rattle.tree_laws.proofs.Steps.{near_test}
+
+-- node p would find the letter of an entry apt
+abbrev IsApt : ScriptData → List Entry → Entry → ℕ → Type 0
+IsApt s past e p = is_apt s p (node_in s past p) e.took ≡ true
+
+-- the letter of an entry is meant for its actor
+taken_fits : (s : ScriptData) (past : List Entry) (e : Entry) (b : Body) → Good s past → MayFollow s past e → e.took.body ≡ b
+    → Fit s e.took.from.0 e.actor.0 b
+taken_fits s past e b good m is =
+    let fit = each_taken (λ (l : Letter). Fit s l.from.0 l.to.0 l.body) s past e m good.letters in
+    subst (λ (x : Body). Fit s e.took.from.0 e.actor.0 x) is
+    (subst (λ (n : ℕ). Fit s e.took.from.0 n e.took.body) m.addressee fit)
+
+root_apt : (s : ScriptData) (past : List Entry) (e : Entry) (t : TreeNo) (v : Version) (effect : Effect) → e.took.body ≡ Root t
+    → SubAt s t.0 0 → home_in t (node_in s past (home_of s t.0)).homes ≡ None
+    → RootWork s t.0 (node_in s past (home_of s t.0)) v effect → IsApt s past e (home_of s t.0)
+root_apt s past e t v effect is c new (RootUpdates up same can made) =
+    update_root_apt s (node_in s past (home_of s t.0)) e.took t is (update_kind_at s t.0 0 c up) new
+    (subst (λ (w : Version). can_touch w (ops_of s t.0 0) (node_in s past (home_of s t.0)).items ≡ true) same can)
+root_apt s past e t v effect is c new (RootReads up same can made) =
+    read_root_apt s (node_in s past (home_of s t.0)) e.took t is (read_kind_at s t.0 0 c up) new
+    (subst (λ (w : Version). can_get w (ops_of s t.0 0) (node_in s past (home_of s t.0)).items ≡ true) same can)
+
+sub_apt : (s : ScriptData) (past : List Entry) (e : Entry) (t : TreeNo) (k : SubNo) (v : Version) (raises : Bool) (effect : Effect)
+    → e.took.body ≡ SubLetter t k v → SubAt s t.0 k.0 → e.took.from.0 < s.nodes → is_near (node_in s past (node_of s t.0 k.0)) v ≡ true
+    → SubWork s t.0 k.0 (node_in s past (node_of s t.0 k.0)) v raises effect → IsApt s past e (node_of s t.0 k.0)
+sub_apt s past e t k v raises effect is c from near (SubUpdates up raised can made) =
+    update_sub_apt s (node_in s past (node_of s t.0 k.0)) e.took t k v is (update_kind_at s t.0 k.0 c up) from near can
+sub_apt s past e t k v raises effect is c from near (SubReads up raised can made) =
+    read_sub_apt s (node_in s past (node_of s t.0 k.0)) e.took t k v is (read_kind_at s t.0 k.0 c up) from near can
+
+-- node p is the entry's actor
+at_actor : (s : ScriptData) (past : List Entry) (e : Entry) (p : ℕ) → e.actor.0 ≡ p → IsApt s past e p → IsApt s past e e.actor.0
+at_actor s past e p at apt = subst (IsApt s past e) (sym at) apt
+
+apt_by : (s : ScriptData) (past : List Entry) (e : Entry) → Sound s → Good s past → MayFollow s past e → e.actor.0 < s.nodes
+    → Next s past e → IsApt s past e e.actor.0
+apt_by s past e sound good m node (Begins is at made) = absurd (omega arith)
+apt_by s past e sound good m node (Hears t v answer is at lt made) = absurd (omega arith)
+apt_by s past e sound good m node (Rests is at sent acts) = absurd (omega arith)
+apt_by s past e sound good m node (DoesRoot t v effect is c at lt new work made) =
+    at_actor s past e (home_of s t.0) at (root_apt s past e t v effect is c new work)
+apt_by s past e sound good m node (DoesSub t k v raises effect is c later from at lt work made) =
+    let fit = taken_fits s past e (SubLetter t k v) good m is in
+    let near = near_test (node_in s past (node_of s t.0 k.0)) v (good.turns (node_of s t.0 k.0) lt) fit.5 in
+    at_actor s past e (node_of s t.0 k.0) at (sub_apt s past e t k v raises effect is c from near work)
+apt_by s past e sound good m node (Notes t k v values is c later from at lt miss made) =
+    let fit = taken_fits s past e (Done t k v (Did values)) good m is in
+    let st = node_in s past (home_of s t.0) in
+    let near = near_test st v (good.turns (home_of s t.0) lt) fit.5 in
+    at_actor s past e (home_of s t.0) at
+    (notice_apt s st e.took t k v values is (not_strict s t.0 k.0 c sound) (sub_below s t.0 k.0 c) from near)
+
+pub taken_is_apt : (s : ScriptData) (past : List Entry) (e : Entry) → IsValid s → Runnable s → StepRun s (e ∷ past)
+    → e.actor.0 < s.nodes → is_apt s e.actor.0 (node_in s past e.actor.0) e.took ≡ true
+taken_is_apt s past e valid runs run node =
+    let sound : Sound s = record { valid = valid; runnable = runs } in
+    apt_by s past e sound (good_run s past sound run.1) run.0 node (next_of s past e sound run)

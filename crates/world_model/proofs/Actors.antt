@@ -1,0 +1,216 @@
+-- The table of an actor is that of a node, of the coordinator or of the client; so a run of one is a run of the other.
+use Rattle.std.proofs.Common.{◌≡◌, ◌⊎◌, inl, inr, ℕ, zero, suc, ◌+◌, ◌<◌, ◌==◌, Bool, true, false, List, [], ◌∷◌, refl, ap, sym, subst, arith, Some}
+use Rattle.std.specs.Prelude.{nat_lt, map, slice_get}
+use Rattle.std.proofs.lemmas.Bool.Decides.{nat_tests}
+use Rattle.letter_types.specs.declared.entries.Letter.{Letter}
+use Rattle.letter_types.specs.declared.entries.Entry.{Entry}
+use Rattle.letter_types.specs.declared.entries.Posting.{Posting}
+use Rattle.letter_types.specs.Letters.{go, own, find_id, letters_of}
+use Rattle.letter_types.specs.Postal.{Postal, posting_of, letters_sent}
+use Rattle.letter_types.specs.Steps.{Out}
+use Rattle.tx_trees.specs.ScriptData.{ScriptData, client_of}
+use Rattle.node_step.specs.Apt.{node_row}
+use Rattle.advance_coord.specs.Coordinator.{start_coordinator}
+use Rattle.client_rows.specs.Client.{start_client}
+use Rattle.world_model.specs.Tables.{ActorData, NodeData, CoordinatorData, ClientData, start_node, start_actor, as_actor, actor_row, coordinator_table, client_table}
+use Rattle.world_model.specs.Runs.{IsRunOf, after, IsActorRun, WorldRun}
+
+-- The letters of a history of entries went as letters do.
+pub record EntryPostal (client : ℕ) (h : List Entry) : Type 0 where
+  pub stamps : (k : ℕ) (e : Entry) → slice_get h k ≡ Some e → e.stamp.0 ≡ k + 1
+  pub sent : (k : ℕ) (e : Entry) → slice_get h k ≡ Some e
+      → (e.took ≡ go client)
+      ⊎ ((j : ℕ) × (f : Entry) × (j < k) × (slice_get h j ≡ Some f) × (find_id e.took.id (letters_of f) ≡ Some e.took))
+  pub once : (j k : ℕ) (e f : Entry) → j < k → slice_get h j ≡ Some e → slice_get h k ≡ Some f → (e.took.id ≡ f.took.id → ⊥)
+  pub addressee : (k : ℕ) (e : Entry) → slice_get h k ≡ Some e → e.took.to.0 ≡ e.actor.0
+  pub known : (k : ℕ) (e : Entry) → slice_get h k ≡ Some e → e.actor.0 < client + 1
+
+posting_at : (h : List Entry) (k : ℕ) (e : Entry) → slice_get h k ≡ Some e → slice_get (map posting_of h) k ≡ Some (posting_of e)
+posting_at [] k e at = absurd (grind arith)
+posting_at (x ∷ h) zero e at = let same : x ≡ e = grind arith in ap (λ (y : Entry). Some (posting_of y)) same
+posting_at (x ∷ h) (suc k) e at = posting_at h k e at
+
+entry_at : (h : List Entry) (k : ℕ) (p : Posting) → slice_get (map posting_of h) k ≡ Some p
+    → (e : Entry) × (slice_get h k ≡ Some e) × (posting_of e ≡ p)
+entry_at [] k p at = absurd (grind arith)
+entry_at (x ∷ h) zero p at = (x, refl, grind arith)
+entry_at (x ∷ h) (suc k) p at = entry_at h k p at
+
+abbrev Came : ℕ → List Entry → ℕ → Letter → Type 0
+Came client h k l =
+    (l ≡ go client) ⊎ ((j : ℕ) × (f : Entry) × (j < k) × (slice_get h j ≡ Some f) × (find_id l.id (letters_of f) ≡ Some l))
+
+abbrev CamePosted : ℕ → List Entry → ℕ → Letter → Type 0
+CamePosted client h k l =
+    (l ≡ go client)
+    ⊎ ((j : ℕ) × (f : Posting) × (j < k) × (slice_get (map posting_of h) j ≡ Some f) × (find_id l.id (letters_sent f) ≡ Some l))
+
+came_entry : (client : ℕ) (h : List Entry) (k : ℕ) (l : Letter) → CamePosted client h k l → Came client h k l
+came_entry client h k l (inl is) = inl is
+came_entry client h k l (inr (j, f, lt, at, found)) =
+    let there = entry_at h j f at in
+    inr (j, there.0, lt, there.1, subst (λ (p : Posting). find_id l.id (letters_sent p) ≡ Some l) (sym there.2) found)
+
+came_posted : (client : ℕ) (h : List Entry) (k : ℕ) (l : Letter) → Came client h k l → CamePosted client h k l
+came_posted client h k l (inl is) = inl is
+came_posted client h k l (inr (j, f, lt, at, found)) = inr (j, posting_of f, lt, posting_at h j f at, found)
+
+-- by entries
+pub entry_postal : (client : ℕ) (h : List Entry) → Postal client (map posting_of h) → EntryPostal client h
+entry_postal client h p = record {
+  stamps = λ k e at. p.stamps k (posting_of e) (posting_at h k e at);
+  sent = λ k e at. came_entry client h k e.took (p.sent k (posting_of e) (posting_at h k e at));
+  once = λ j k e f lt a b. p.once j k (posting_of e) (posting_of f) lt (posting_at h j e a) (posting_at h k f b);
+  addressee = λ k e at. p.addressee k (posting_of e) (posting_at h k e at);
+  known = λ k e at. p.known k (posting_of e) (posting_at h k e at);
+}
+
+stamp_posted : (client : ℕ) (h : List Entry) → EntryPostal client h → (k : ℕ) (f : Posting) → slice_get (map posting_of h) k ≡ Some f
+    → f.stamp.0 ≡ k + 1
+stamp_posted client h p k f at =
+    let there = entry_at h k f at in
+    subst (λ (x : Posting). x.stamp.0 ≡ k + 1) there.2 (p.stamps k there.0 there.1)
+
+sent_posted : (client : ℕ) (h : List Entry) → EntryPostal client h → (k : ℕ) (f : Posting) → slice_get (map posting_of h) k ≡ Some f
+    → CamePosted client h k f.took
+sent_posted client h p k f at =
+    let there = entry_at h k f at in
+    subst (λ (x : Posting). CamePosted client h k x.took) there.2 (came_posted client h k there.0.took (p.sent k there.0 there.1))
+
+once_posted : (client : ℕ) (h : List Entry) → EntryPostal client h → (j k : ℕ) (f g : Posting) → j < k
+    → slice_get (map posting_of h) j ≡ Some f → slice_get (map posting_of h) k ≡ Some g → f.took.id ≡ g.took.id → ⊥
+once_posted client h p j k f g lt a b =
+    let one = entry_at h j f a in
+    let two = entry_at h k g b in
+    subst (λ (x : Posting). x.took.id ≡ g.took.id → ⊥) one.2
+    (subst (λ (x : Posting). one.0.took.id ≡ x.took.id → ⊥) two.2 (p.once j k one.0 two.0 lt one.1 two.1))
+
+ends_posted : (client : ℕ) (h : List Entry) → EntryPostal client h → (k : ℕ) (f : Posting) → slice_get (map posting_of h) k ≡ Some f
+    → (f.took.to.0 ≡ f.actor.0) × (f.actor.0 < client + 1)
+ends_posted client h p k f at =
+    let there = entry_at h k f at in
+    subst (λ (x : Posting). (x.took.to.0 ≡ x.actor.0) × (x.actor.0 < client + 1)) there.2 (p.addressee k there.0 there.1, p.known k there.0 there.1)
+
+-- by postings
+pub postal_of : (client : ℕ) (h : List Entry) → EntryPostal client h → Postal client (map posting_of h)
+postal_of client h p = record {
+  stamps = λ k f at. stamp_posted client h p k f at;
+  sent = λ k f at. sent_posted client h p k f at;
+  once = λ j k f g lt a b. once_posted client h p j k f g lt a b;
+  addressee = λ k f at. (ends_posted client h p k f at).0;
+  known = λ k f at. (ends_posted client h p k f at).1;
+}
+
+-- Tables that are seen as an actor's.
+
+-- a row seen as an actor's
+abbrev Sees : {St : Type 0} → (ActorData → Letter → Out ActorData) → (St → ActorData) → (St → Letter → Out St) → Type 0
+Sees {St} big see row = (st : St) (l : Letter) → big (see st) l ≡ as_actor see (row st l)
+
+-- the run of the one is a run of the other
+seen_run : {St : Type 0} (big : ActorData → Letter → Out ActorData) (see : St → ActorData) (row : St → Letter → Out St)
+    → Sees big see row → (st : St) (es : List Entry) → IsRunOf row st es → IsRunOf big (see st) es
+seen_run big see row same st [] run = tt
+seen_run big see row same st (e ∷ es) run =
+    rw (same st e.took) (run.0, run.1, seen_run big see row same (row st e.took).state es run.2)
+
+run_seen : {St : Type 0} (big : ActorData → Letter → Out ActorData) (see : St → ActorData) (row : St → Letter → Out St)
+    → Sees big see row → (st : St) (es : List Entry) → IsRunOf big (see st) es → IsRunOf row st es
+run_seen big see row same st [] run = tt
+run_seen big see row same st (e ∷ es) run =
+    let here = rw (same st e.took) at run in
+    (here.0, here.1, run_seen big see row same (row st e.took).state es here.2)
+
+-- and so is the state after it
+seen_after : {St : Type 0} (big : ActorData → Letter → Out ActorData) (see : St → ActorData) (row : St → Letter → Out St)
+    → Sees big see row → (st : St) (es : List Entry) → after big (see st) es ≡ see (after row st es)
+seen_after big see row same st [] = refl
+seen_after big see row same st (e ∷ es) = rw (same st e.took) (seen_after big see row same (row st e.took).state es)
+
+-- How each actor starts.
+pub starts_node : (s : ScriptData) (p : ℕ) → p < s.nodes → start_actor s p ≡ NodeData (start_node s p)
+starts_node s p lt = let is : nat_lt p s.nodes ≡ true = grind (arith, nat_tests) in rw is refl
+
+pub starts_coordinator : (s : ScriptData) → start_actor s s.nodes ≡ CoordinatorData (start_coordinator s.nodes)
+starts_coordinator s =
+    let no : nat_lt s.nodes s.nodes ≡ false = grind (arith, nat_tests) in
+    let is : (s.nodes == s.nodes) ≡ true = grind (arith, nat_tests) in
+    rw no (rw is refl)
+
+pub starts_client : (s : ScriptData) → start_actor s (client_of s) ≡ ClientData (start_client s)
+starts_client s =
+    let no : nat_lt (client_of s) s.nodes ≡ false = grind (arith, nat_tests) in
+    let apart : (client_of s == s.nodes) ≡ false = grind (arith, nat_tests) in
+    rw no (rw apart refl)
+
+-- A run by the tables, actor by actor.
+pub record TableRun (s : ScriptData) (h : List Entry) : Type 0 where
+  pub postal : EntryPostal (client_of s) h
+  pub nodes : (p : ℕ) → p < s.nodes → IsRunOf (node_row s p) (start_node s p) (own p h)
+  pub coordinator : IsRunOf coordinator_table (start_coordinator s.nodes) (own s.nodes h)
+  pub client : IsRunOf (client_table s) (start_client s) (own (client_of s) h)
+
+pub table_run : (s : ScriptData) (h : List Entry) → WorldRun s h → TableRun s h
+table_run s h w = record {
+  postal = entry_postal (client_of s) h w.postal;
+  nodes = λ p lt.
+      run_seen (actor_row s p) NodeData (node_row s p) (λ st l. refl) (start_node s p) (own p h)
+      (subst (λ (st : ActorData). IsRunOf (actor_row s p) st (own p h)) (starts_node s p lt) (w.actors p (omega arith)));
+  coordinator =
+      run_seen (actor_row s s.nodes) CoordinatorData coordinator_table (λ st l. refl) (start_coordinator s.nodes) (own s.nodes h)
+      (subst (λ (st : ActorData). IsRunOf (actor_row s s.nodes) st (own s.nodes h)) (starts_coordinator s) (w.actors s.nodes (omega arith)));
+  client =
+      run_seen (actor_row s (client_of s)) ClientData (client_table s) (λ st l. refl) (start_client s) (own (client_of s) h)
+      (subst (λ (st : ActorData). IsRunOf (actor_row s (client_of s)) st (own (client_of s) h)) (starts_client s) (w.actors (client_of s) (omega arith)));
+}
+
+-- an actor is a node, the coordinator or the client
+pub data Who (s : ScriptData) (a : ℕ) : Type 0 where
+  ANode : a < s.nodes → Who s a
+  TheCoordinator : a ≡ s.nodes → Who s a
+  TheClient : a ≡ client_of s → Who s a
+
+who_by : (s : ScriptData) (a : ℕ) → a < s.nodes + 2 → (b c : Bool) → nat_lt a s.nodes ≡ b → (a == s.nodes) ≡ c → Who s a
+who_by s a lt true c is at = ANode (grind (arith, nat_tests))
+who_by s a lt false true is at = TheCoordinator (grind (arith, nat_tests))
+who_by s a lt false false is at =
+    let ge : s.nodes < a + 1 = grind (arith, nat_tests) in
+    let ne : a ≡ s.nodes → ⊥ = grind (arith, nat_tests) in
+    TheClient (omega arith)
+
+pub who : (s : ScriptData) (a : ℕ) → a < s.nodes + 2 → Who s a
+who s a lt = who_by s a lt (nat_lt a s.nodes) (a == s.nodes) refl refl
+
+actor_run : (s : ScriptData) (h : List Entry) (a : ℕ) → TableRun s h → Who s a → IsActorRun s h a
+actor_run s h a run (ANode lt) =
+    subst (λ (st : ActorData). IsRunOf (actor_row s a) st (own a h)) (sym (starts_node s a lt))
+    (seen_run (actor_row s a) NodeData (node_row s a) (λ st l. refl) (start_node s a) (own a h) (run.nodes a lt))
+actor_run s h a run (TheCoordinator is) =
+    subst (λ (b : ℕ). IsActorRun s h b) (sym is)
+    (subst (λ (st : ActorData). IsRunOf (actor_row s s.nodes) st (own s.nodes h)) (sym (starts_coordinator s))
+    (seen_run (actor_row s s.nodes) CoordinatorData coordinator_table (λ st l. refl) (start_coordinator s.nodes) (own s.nodes h) run.coordinator))
+actor_run s h a run (TheClient is) =
+    subst (λ (b : ℕ). IsActorRun s h b) (sym is)
+    (subst (λ (st : ActorData). IsRunOf (actor_row s (client_of s)) st (own (client_of s) h)) (sym (starts_client s))
+    (seen_run (actor_row s (client_of s)) ClientData (client_table s) (λ st l. refl) (start_client s) (own (client_of s) h) run.client))
+
+pub world_of_tables : (s : ScriptData) (h : List Entry) → TableRun s h → WorldRun s h
+world_of_tables s h run = record {
+  postal = postal_of (client_of s) h run.postal;
+  actors = λ a lt. actor_run s h a run (who s a lt);
+}
+
+-- the state to which an actor's own entries lead, by whose it is
+pub node_data_after : (s : ScriptData) (p : ℕ) (es : List Entry) → p < s.nodes
+    → after (actor_row s p) (start_actor s p) es ≡ NodeData (after (node_row s p) (start_node s p) es)
+node_data_after s p es lt = rw (starts_node s p lt) (seen_after (actor_row s p) NodeData (node_row s p) (λ st l. refl) (start_node s p) es)
+
+pub coordinator_data_after : (s : ScriptData) (es : List Entry)
+    → after (actor_row s s.nodes) (start_actor s s.nodes) es ≡ CoordinatorData (after coordinator_table (start_coordinator s.nodes) es)
+coordinator_data_after s es =
+    rw (starts_coordinator s) (seen_after (actor_row s s.nodes) CoordinatorData coordinator_table (λ st l. refl) (start_coordinator s.nodes) es)
+
+pub client_data_after : (s : ScriptData) (es : List Entry)
+    → after (actor_row s (client_of s)) (start_actor s (client_of s)) es ≡ ClientData (after (client_table s) (start_client s) es)
+client_data_after s es =
+    rw (starts_client s) (seen_after (actor_row s (client_of s)) ClientData (client_table s) (λ st l. refl) (start_client s) es)
