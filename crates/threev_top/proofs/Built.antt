@@ -1,6 +1,6 @@
 -- A line that is read is built.
 use Rattle.std.proofs.Common.{◌≡◌, Bool, true, false, List, ℕ, Option, Some, None, refl, subst}
-use Rattle.std.specs.Prelude.{if◌then◌else◌, IsTrue, option_and_then}
+use Rattle.std.specs.Prelude.{IsTrue, option_and_then}
 use Rattle.command_words.specs.Grammar.{built_line, line_of}
 use Rattle.command_words.specs.Lines.{if_built, is_built}
 use Rattle.command_words.specs.declared.Line.{Line}

@@ -1,5 +1,5 @@
 -- What the top call reads and writes.
-use Rattle.std.specs.Prelude.{ℕ, Bool, true, false, ◌≡◌, ◌⊎◌, List, [], Option, Some, None, Result, Ok, Err, ⊤}
+use Rattle.std.specs.Prelude.{ℕ, Bool, true, false, ◌≡◌, ◌⊎◌, List, [], Option, Some, None, Ok, Err, ⊤}
 use Rattle.std.specs.Io.KnownBytes.{Appends, Consumes, IsAtEnd}
 use Rattle.tv_base.specs.Outside.{AppendsFront, HasMoreThan, Rose}
 use Rattle.tv_base.specs.declared.moving.ReadEnd.{ReadEnd}
@@ -18,17 +18,19 @@ use Rattle.script_reader.specs.declared.reading.ScriptRefusal.{ScriptRefusal}
 use Rattle.script_reader.specs.declared.reading.ScriptRefusal.TheVariants as refusals
 use Rattle.report_text.specs.Report.{report_of}
 use Rattle.report_text.specs.Lines.{check_line_of}
-use Rattle.threev_top.specs.Finished.{IsFinished}
+use Rattle.world_model.specs.Scheduled.{IsScheduled}
+use Rattle.threev_top.specs.Finished.{HasEnded}
 use Rattle.threev_top.specs.declared.outcomes.Mode.{Mode}
 use Rattle.threev_top.specs.declared.outcomes.Mode.TheVariants as modes
 use Rattle.threev_top.specs.declared.outcomes.Stop.{Stop}
 use Rattle.threev_top.specs.declared.outcomes.Stop.TheVariants as stops
 use Rattle.threev_top.specs.declared.texts.TheConstants.{HELP, VERSION}
 
--- what a mode writes of a script, and the history that it gives
+-- what a mode writes of a script, and the history that it gives; letters are taken by the script's picks, and then the
+-- oldest first
 abbrev pub IsText : Mode → ScriptData → List Entry → List ℕ → Type 0
 IsText modes.Check s h text = (h ≡ []) × (text ≡ check_line_of s)
-IsText modes.Sim s h text = IsFinished s h × (text ≡ report_of s h)
+IsText modes.Sim s h text = HasEnded s h × IsScheduled s None h × (text ≡ report_of s h)
 
 -- the bytes are a script, and this is its text and history in this mode
 pub record IsTextOf (mode : Mode) (bytes : List ℕ) (history : List Entry) (text : List ℕ) : Type 0 where
@@ -38,38 +40,50 @@ pub record IsTextOf (mode : Mode) (bytes : List ℕ) (history : List Entry) (tex
 
 -- the text of the script that the bytes are was written, whole or a front of it
 abbrev pub WritesText : Mode → List ℕ → Option (List ℕ) → Option (List ℕ) → List Entry → Type 0
-WritesText mode bytes written after history = (text : List ℕ) × IsTextOf mode bytes history text × Appends written after text
+WritesText mode bytes written after history = (text : List ℕ) × IsTextOf mode bytes history text
+    × Appends written after text
 
 abbrev pub WritesFront : Mode → List ℕ → Option (List ℕ) → Option (List ℕ) → List Entry → Type 0
-WritesFront mode bytes written after history = (text : List ℕ) × IsTextOf mode bytes history text × AppendsFront written after text
+WritesFront mode bytes written after history = (text : List ℕ) × IsTextOf mode bytes history text
+    × AppendsFront written after text
 
 -- all bytes that the source had were read to their end, and out has received the text of their script
-pub record Wrote (mode : Mode) (left now : Option (List ℕ)) (written after : Option (List ℕ)) (history : List Entry) : Type 0 where
+pub record Wrote (mode : Mode) (left now : Option (List ℕ)) (written after : Option (List ℕ))
+    (history : List Entry) : Type 0 where
   pub bytes : List ℕ
   pub consumed : Consumes left now bytes
   pub at_end : IsAtEnd now
   pub writes : WritesText mode bytes written after history
 
 -- the same, but that out has received a front of the text
-pub record WroteFront (mode : Mode) (left now : Option (List ℕ)) (written after : Option (List ℕ)) (history : List Entry) : Type 0 where
+pub record WroteFront (mode : Mode) (left now : Option (List ℕ)) (written after : Option (List ℕ))
+    (history : List Entry) : Type 0 where
   pub bytes : List ℕ
   pub consumed : Consumes left now bytes
   pub at_end : IsAtEnd now
   pub writes : WritesFront mode bytes written after history
 
--- the same by the words: a mode's text, or the help or version, for which nothing is read
-abbrev pub WroteBy : Option Line → Option (List ℕ) → Option (List ℕ) → Option (List ℕ) → Option (List ℕ) → List Entry → Type 0
+-- the same by the words: a mode's text, or the help or version, for which nothing is read; a line that isn't listed has
+-- no meaning, and so is never taken
+abbrev pub WroteBy : Option Line → Option (List ℕ) → Option (List ℕ) → Option (List ℕ) → Option (List ℕ)
+    → List Entry → Type 0
 WroteBy (Some lines.Check) left now written after history = Wrote modes.Check left now written after history
-WroteBy (Some (lines.Sim seed shows)) left now written after history = Wrote modes.Sim left now written after history
-WroteBy (Some lines.Help) left now written after history = (now ≡ left) × Appends written after HELP.now × (history ≡ [])
-WroteBy (Some lines.Version) left now written after history = (now ≡ left) × Appends written after VERSION.now × (history ≡ [])
+WroteBy (Some (lines.Sim None false)) left now written after history = Wrote modes.Sim left now written after history
+WroteBy (Some lines.Help) left now written after history = (now ≡ left) × Appends written after HELP.now
+    × (history ≡ [])
+WroteBy (Some lines.Version) left now written after history = (now ≡ left) × Appends written after VERSION.now
+    × (history ≡ [])
 WroteBy _ left now written after history = ⊥
 
-abbrev pub WroteFrontBy : Option Line → Option (List ℕ) → Option (List ℕ) → Option (List ℕ) → Option (List ℕ) → List Entry → Type 0
+abbrev pub WroteFrontBy : Option Line → Option (List ℕ) → Option (List ℕ) → Option (List ℕ) → Option (List ℕ)
+    → List Entry → Type 0
 WroteFrontBy (Some lines.Check) left now written after history = WroteFront modes.Check left now written after history
-WroteFrontBy (Some (lines.Sim seed shows)) left now written after history = WroteFront modes.Sim left now written after history
-WroteFrontBy (Some lines.Help) left now written after history = (now ≡ left) × AppendsFront written after HELP.now × (history ≡ [])
-WroteFrontBy (Some lines.Version) left now written after history = (now ≡ left) × AppendsFront written after VERSION.now × (history ≡ [])
+WroteFrontBy (Some (lines.Sim None false)) left now written after history =
+    WroteFront modes.Sim left now written after history
+WroteFrontBy (Some lines.Help) left now written after history = (now ≡ left) × AppendsFront written after HELP.now
+    × (history ≡ [])
+WroteFrontBy (Some lines.Version) left now written after history = (now ≡ left) × AppendsFront written after VERSION.now
+    × (history ≡ [])
 WroteFrontBy _ left now written after history = ⊥
 
 -- all bytes were read to their end, and reading refuses them with this fault

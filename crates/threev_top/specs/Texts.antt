@@ -1,7 +1,6 @@
 -- The program's own texts.
 use Rattle.std.specs.Prelude.{ℕ, List, ◌++◌, codes, decimal}
 use Rattle.tx_trees.specs.Why.{why_name}
-use Rattle.script_reader.specs.declared.reading.ScriptFault.{ScriptFault}
 use Rattle.threev_top.specs.declared.outcomes.Stop.{Stop}
 use Rattle.threev_top.specs.declared.outcomes.Stop.TheVariants as stops
 

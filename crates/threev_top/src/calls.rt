@@ -34,7 +34,8 @@ pub struct Ended {
 /// Writes a text for which nothing is read.
 fn write_fixed<K: Sink>(alloc: Global, text: &[u8], out: &mut K) -> Outcome
     ensures wrote { result.stop ≡ None → Appends (K.written out.old) (K.written out.new) text.now }
-    ensures front { result.stop ≡ Some stops.Writing → AppendsFront (K.written out.old) (K.written out.new) text.now × Rose (K.faults out.old) (K.faults out.new) }
+    ensures front { result.stop ≡ Some stops.Writing → AppendsFront (K.written out.old) (K.written out.new) text.now
+        × Rose (K.faults out.old) (K.faults out.new) }
     ensures others { IsWritten result.stop }
     ensures history { result.history ≡ [] }
 {
@@ -51,20 +52,30 @@ fn write_fixed<K: Sink>(alloc: Global, text: &[u8], out: &mut K) -> Outcome
 /// Does what a command line asks for.
 fn after_line<S: Source, K: Sink>(alloc: Global, line: Line, source: &mut S, out: &mut K) -> Outcome
     requires { IsTrue (is_built line) }
-    ensures wrote { result.stop ≡ None → WroteBy (Some line) (S.left source.old) (S.left source.new) (K.written out.old) (K.written out.new) result.history }
-    ensures front { result.stop ≡ Some stops.Writing → WroteFrontBy (Some line) (S.left source.old) (S.left source.new) (K.written out.old) (K.written out.new) result.history × Rose (K.faults out.old) (K.faults out.new) }
-    ensures refused { (f : ScriptFault) → result.stop ≡ Some (stops.Script f) → Refuses (S.left source.old) (S.left source.new) f }
+    // What is written.
+    ensures wrote { result.stop ≡ None → WroteBy (Some line) (S.left source.old) (S.left source.new)
+        (K.written out.old) (K.written out.new) result.history }
+    ensures front { result.stop ≡ Some stops.Writing → WroteFrontBy (Some line) (S.left source.old)
+        (S.left source.new) (K.written out.old) (K.written out.new) result.history
+        × Rose (K.faults out.old) (K.faults out.new) }
+    // Why it isn't.
+    ensures refused { (f : ScriptFault) → result.stop ≡ Some (stops.Script f)
+        → Refuses (S.left source.old) (S.left source.new) f }
     ensures reading { result.stop ≡ Some stops.Reading → Rose (S.faults source.old) (S.faults source.new) }
     ensures words { result.stop ≡ Some stops.Words → ⊥ }
+    // What stays.
     ensures nothing { IsTrue (is_before_writing result.stop) → (out.new ≡ out.old) × (result.history ≡ []) }
     ensures taken { HasTaken (MOST_BYTES + 1) (S.left source.old) (S.left source.new) }
 {
     match line {
         Line::Check => read_and_write(alloc, Mode::Check, source, out),
-        Line::Sim { .. } => read_and_write(alloc, Mode::Sim, source, out),
+        Line::Sim {
+            seed: None,
+            history: false,
+        } => read_and_write(alloc, Mode::Sim, source, out),
         Line::Help => write_fixed(alloc, HELP, out),
         Line::Version => write_fixed(alloc, VERSION, out),
-        Line::Run { .. } | Line::Soak { .. } => unreachable!(),
+        Line::Sim { .. } | Line::Run { .. } | Line::Soak { .. } => unreachable!(),
     }
 }
 
@@ -76,12 +87,21 @@ fn after_words<S: Source, K: Sink>(
     source: &mut S,
     out: &mut K,
 ) -> Outcome
-    ensures wrote { result.stop ≡ None → WroteBy (built_line (map string_bytes words.now)) (S.left source.old) (S.left source.new) (K.written out.old) (K.written out.new) result.history }
-    ensures front { result.stop ≡ Some stops.Writing → WroteFrontBy (built_line (map string_bytes words.now)) (S.left source.old) (S.left source.new) (K.written out.old) (K.written out.new) result.history × Rose (K.faults out.old) (K.faults out.new) }
-    ensures words { result.stop ≡ Some stops.Words → (built_line (map string_bytes words.now) ≡ None) × (source.new ≡ source.old) }
-    ensures no_line { built_line (map string_bytes words.now) ≡ None → ((result.stop ≡ Some stops.Words) ⊎ (result.stop ≡ Some stops.NoMemory)) × (source.new ≡ source.old) }
-    ensures refused { (f : ScriptFault) → result.stop ≡ Some (stops.Script f) → Refuses (S.left source.old) (S.left source.new) f }
+    // What is written.
+    ensures wrote { result.stop ≡ None → WroteBy (built_line (map string_bytes words.now)) (S.left source.old)
+        (S.left source.new) (K.written out.old) (K.written out.new) result.history }
+    ensures front { result.stop ≡ Some stops.Writing → WroteFrontBy (built_line (map string_bytes words.now))
+        (S.left source.old) (S.left source.new) (K.written out.old) (K.written out.new) result.history
+        × Rose (K.faults out.old) (K.faults out.new) }
+    // Why it isn't.
+    ensures words { result.stop ≡ Some stops.Words → (built_line (map string_bytes words.now) ≡ None)
+        × (source.new ≡ source.old) }
+    ensures no_line { built_line (map string_bytes words.now) ≡ None
+        → ((result.stop ≡ Some stops.Words) ⊎ (result.stop ≡ Some stops.NoMemory)) × (source.new ≡ source.old) }
+    ensures refused { (f : ScriptFault) → result.stop ≡ Some (stops.Script f)
+        → Refuses (S.left source.old) (S.left source.new) f }
     ensures reading { result.stop ≡ Some stops.Reading → Rose (S.faults source.old) (S.faults source.new) }
+    // What stays.
     ensures nothing { IsTrue (is_before_writing result.stop) → (out.new ≡ out.old) × (result.history ≡ []) }
     ensures taken { HasTaken (MOST_BYTES + 1) (S.left source.old) (S.left source.new) }
 {
@@ -114,7 +134,8 @@ fn tell_line<E: Sink>(err: &mut E, line: &[u8])
 /// Tells `err` why the text was not written whole, and gives the reason that was told: want of memory where there is
 /// none for the line of a refused script.
 fn tell<E: Sink>(alloc: Global, stop: Stop, err: &mut E) -> Stop
-    ensures told { Tells (E.written err.old) (E.written err.new) (E.faults err.old) (E.faults err.new) (line_of result) }
+    ensures told { Tells (E.written err.old) (E.written err.new) (E.faults err.old) (E.faults err.new)
+        (line_of result) }
     ensures same { (result ≡ stop) ⊎ ((result ≡ stops.NoMemory) × IsTrue (is_refusal stop)) }
 {
     match stop {
@@ -132,7 +153,8 @@ fn tell<E: Sink>(alloc: Global, stop: Stop, err: &mut E) -> Stop
 
 /// The same for a refused script.
 fn tell_fault<E: Sink>(alloc: Global, fault: ScriptFault, err: &mut E) -> Stop
-    ensures told { Tells (E.written err.old) (E.written err.new) (E.faults err.old) (E.faults err.new) (line_of result) }
+    ensures told { Tells (E.written err.old) (E.written err.new) (E.faults err.old) (E.faults err.new)
+        (line_of result) }
     ensures same { (result ≡ stops.Script fault) ⊎ (result ≡ stops.NoMemory) }
 {
     match fault_line(alloc, fault) {
@@ -172,20 +194,34 @@ pub fn threev<R: Threads + Wait + Sync, S: Source, K: Sink, E: Sink, G: Gate + S
     err: &mut E,
     _gate: &G,
 ) -> Ended
-    ensures wrote { result.status ≡ 0 → WroteBy (built_line (map string_bytes words.now)) (S.left source.old) (S.left source.new) (K.written out.old) (K.written out.new) result.history }
-    ensures front { result.status ≡ 5 → WroteFrontBy (built_line (map string_bytes words.now)) (S.left source.old) (S.left source.new) (K.written out.old) (K.written out.new) result.history × Rose (K.faults out.old) (K.faults out.new) }
+    // What is written at the statuses 0 and 5.
+    ensures wrote { result.status ≡ 0 → WroteBy (built_line (map string_bytes words.now)) (S.left source.old)
+        (S.left source.new) (K.written out.old) (K.written out.new) result.history }
+    ensures front { result.status ≡ 5 → WroteFrontBy (built_line (map string_bytes words.now)) (S.left source.old)
+        (S.left source.new) (K.written out.old) (K.written out.new) result.history
+        × Rose (K.faults out.old) (K.faults out.new) }
+    // When the other statuses come, and what they leave.
     ensures words { result.status ≡ 2 → (built_line (map string_bytes words.now) ≡ None) × (source.new ≡ source.old) }
-    ensures no_line { built_line (map string_bytes words.now) ≡ None → ((result.status ≡ 1) ⊎ (result.status ≡ 2)) × (source.new ≡ source.old) }
-    ensures refused { result.status ≡ 3 → (f : ScriptFault) × Refuses (S.left source.old) (S.left source.new) f × Tells (E.written err.old) (E.written err.new) (E.faults err.old) (E.faults err.new) (row_line f.row (why_name f.why)) }
+    ensures no_line { built_line (map string_bytes words.now) ≡ None
+        → ((result.status ≡ 1) ⊎ (result.status ≡ 2)) × (source.new ≡ source.old) }
+    ensures refused { result.status ≡ 3 → (f : ScriptFault) × Refuses (S.left source.old) (S.left source.new) f
+        × Tells (E.written err.old) (E.written err.new) (E.faults err.old) (E.faults err.new)
+        (row_line f.row (why_name f.why)) }
     ensures reading { result.status ≡ 4 → Rose (S.faults source.old) (S.faults source.new) }
     ensures nothing { 1 ≤ result.status → result.status ≤ 4 → (out.new ≡ out.old) × (result.history ≡ []) }
+    // In any case.
     ensures taken { HasTaken (MOST_BYTES + 1) (S.left source.old) (S.left source.new) }
     ensures known { result.status ≤ 5 }
+    // What standard error is told.
     ensures quiet { result.status ≡ 0 → err.new ≡ err.old }
-    ensures told_memory { result.status ≡ 1 → Tells (E.written err.old) (E.written err.new) (E.faults err.old) (E.faults err.new) (codes "threev: out of memory\n") }
-    ensures told_words { result.status ≡ 2 → Tells (E.written err.old) (E.written err.new) (E.faults err.old) (E.faults err.new) (codes "threev: the words are not a command line of this program\n") }
-    ensures told_reading { result.status ≡ 4 → Tells (E.written err.old) (E.written err.new) (E.faults err.old) (E.faults err.new) (codes "threev: reading failed\n") }
-    ensures told_writing { result.status ≡ 5 → Tells (E.written err.old) (E.written err.new) (E.faults err.old) (E.faults err.new) (codes "threev: writing failed\n") }
+    ensures told_memory { result.status ≡ 1 → Tells (E.written err.old) (E.written err.new) (E.faults err.old) (E.faults err.new)
+        (codes "threev: out of memory\n") }
+    ensures told_words { result.status ≡ 2 → Tells (E.written err.old) (E.written err.new) (E.faults err.old) (E.faults err.new)
+        (codes "threev: the words are not a command line of this program\n") }
+    ensures told_reading { result.status ≡ 4 → Tells (E.written err.old) (E.written err.new) (E.faults err.old) (E.faults err.new)
+        (codes "threev: reading failed\n") }
+    ensures told_writing { result.status ≡ 5 → Tells (E.written err.old) (E.written err.new) (E.faults err.old) (E.faults err.new)
+        (codes "threev: writing failed\n") }
 {
     let Outcome { stop, history } = after_words(alloc, words, source, out);
     match stop {

@@ -7,15 +7,16 @@ ghost use Rattle.report_text.specs.Report.{report_of};
 ghost use Rattle.report_text.specs.Lines.{check_line_of};
 ghost use Rattle.world_model.specs.Tables.{Runnable};
 ghost use Rattle.script_reader.specs.declared.reading.ScriptFault.{ScriptFault};
-ghost use Rattle.threev_top.specs.Finished.{IsFinished};
+ghost use Rattle.world_model.specs.Scheduled.{IsScheduled};
+ghost use Rattle.threev_top.specs.Finished.{HasEnded};
 ghost use Rattle.threev_top.specs.Calls.{is_before_writing, IsByBytes, IsStop, IsText, IsTextOf, IsWritten, reading_stop, Refuses, script_stop, WritesFront, WritesText, Wrote, WroteFront};
 
 use crate::running::simulate;
 use letter_types::History;
-use report_text::{Lines, check_line, report};
+use report_text::{check_line, report};
 use script_reader::{ScriptFault, ScriptRefusal, read_script};
 use std::alloc::Global;
-use tv_base::{NoMemory, ReadEnd, Sink, Source, read_all, write_all};
+use tv_base::{NoMemory, ReadEnd, Sink, Source, Text, read_all, write_all};
 use tx_trees::{Script, Why};
 
 /// What is made of a script.
@@ -53,7 +54,7 @@ pub(crate) struct Outcome {
 #[derive(Drop)]
 struct Made {
     history: History,
-    text: Lines,
+    text: Text,
 }
 
 /// An end without a text.
@@ -70,7 +71,8 @@ pub(crate) fn stopped(alloc: Global, stop: Stop) -> Outcome
 /// The run of a script, and its report.
 fn report_of(alloc: Global, script: &Script) -> Result<Made, NoMemory>
     requires { Runnable script.now }
-    ensures run { IfOk result (λ made. IsFinished script.now made.history) }
+    ensures ended { IfOk result (λ made. HasEnded script.now made.history) }
+    ensures scheduled { IfOk result (λ made. IsScheduled script.now None made.history) }
     ensures text { IfOk result (λ made. made.text ≡ report_of script.now made.history) }
 {
     let history = simulate(alloc, script)?;
@@ -137,7 +139,8 @@ fn made_of(alloc: Global, mode: Mode, bytes: &[u8]) -> Result<Made, Stop>
 /// Writes a text.
 fn write<K: Sink>(made: Made, out: &mut K) -> Outcome
     ensures wrote { result.stop ≡ None → Appends (K.written out.old) (K.written out.new) made.text }
-    ensures front { result.stop ≡ Some Stop.Writing → AppendsFront (K.written out.old) (K.written out.new) made.text × Rose (K.faults out.old) (K.faults out.new) }
+    ensures front { result.stop ≡ Some Stop.Writing → AppendsFront (K.written out.old) (K.written out.new) made.text
+        × Rose (K.faults out.old) (K.faults out.new) }
     ensures others { IsWritten result.stop }
     ensures history { result.history ≡ made.history }
 {
@@ -151,8 +154,10 @@ fn write<K: Sink>(made: Made, out: &mut K) -> Outcome
 
 /// Writes what a mode makes of the script that the bytes are.
 fn after_bytes<K: Sink>(alloc: Global, mode: Mode, bytes: &[u8], out: &mut K) -> Outcome
-    ensures wrote { result.stop ≡ None → WritesText mode bytes.now (K.written out.old) (K.written out.new) result.history }
-    ensures front { result.stop ≡ Some Stop.Writing → WritesFront mode bytes.now (K.written out.old) (K.written out.new) result.history × Rose (K.faults out.old) (K.faults out.new) }
+    ensures wrote { result.stop ≡ None → WritesText mode bytes.now (K.written out.old)
+        (K.written out.new) result.history }
+    ensures front { result.stop ≡ Some Stop.Writing → WritesFront mode bytes.now (K.written out.old)
+        (K.written out.new) result.history × Rose (K.faults out.old) (K.faults out.new) }
     ensures others { IsByBytes bytes.now result.stop }
     ensures nothing { IsTrue (is_before_writing result.stop) → (out.new ≡ out.old) × (result.history ≡ []) }
 {
@@ -183,11 +188,17 @@ pub(crate) fn read_and_write<S: Source, K: Sink>(
     source: &mut S,
     out: &mut K,
 ) -> Outcome
-    ensures wrote { result.stop ≡ None → Wrote mode (S.left source.old) (S.left source.new) (K.written out.old) (K.written out.new) result.history }
-    ensures front { result.stop ≡ Some Stop.Writing → WroteFront mode (S.left source.old) (S.left source.new) (K.written out.old) (K.written out.new) result.history × Rose (K.faults out.old) (K.faults out.new) }
-    ensures refused { (f : ScriptFault) → result.stop ≡ Some (Stop.Script f) → Refuses (S.left source.old) (S.left source.new) f }
+    // What is written.
+    ensures wrote { result.stop ≡ None → Wrote mode (S.left source.old) (S.left source.new) (K.written out.old)
+        (K.written out.new) result.history }
+    ensures front { result.stop ≡ Some Stop.Writing → WroteFront mode (S.left source.old) (S.left source.new)
+        (K.written out.old) (K.written out.new) result.history × Rose (K.faults out.old) (K.faults out.new) }
+    // Why it isn't.
+    ensures refused { (f : ScriptFault) → result.stop ≡ Some (Stop.Script f)
+        → Refuses (S.left source.old) (S.left source.new) f }
     ensures reading { result.stop ≡ Some Stop.Reading → Rose (S.faults source.old) (S.faults source.new) }
     ensures words { result.stop ≡ Some Stop.Words → ⊥ }
+    // What stays.
     ensures nothing { IsTrue (is_before_writing result.stop) → (out.new ≡ out.old) × (result.history ≡ []) }
     ensures taken { HasTaken (MOST_BYTES + 1) (S.left source.old) (S.left source.new) }
 {

@@ -2,10 +2,9 @@
 use Rattle.std.proofs.Common.{◌≡◌, ℕ, suc, zero, ◌+◌, ◌≤◌, Bool, true, false, List, [], ◌∷◌, Some, refl, sym, ap, subst, arith}
 use Rattle.std.specs.Prelude.{slice_get}
 use Rattle.std.specs.List.{remove}
-use Rattle.std.proofs.lemmas.Bool.Decides.{nat_tests}
 use Rattle.letter_types.specs.declared.entries.Letter.{Letter}
-use Rattle.letter_types.specs.declared.entries.LetterId.{LetterId}
 use Rattle.letter_types.specs.Letters.{same_id, find_id, drop_id}
+use Rattle.letter_types.proofs.Ids.{same_id-self}
 use Rattle.world_model.specs.Counts.{tally, one_if}
 use Rattle.world_model.proofs.Gone.{of_id}
 
@@ -14,12 +13,9 @@ pub record Found (xs : List Letter) (k : ℕ) (l : Letter) : Type 0 where
   pub found : find_id l.id xs ≡ Some l
   pub left : drop_id l.id xs ≡ remove xs k
 
-self_id : (i : LetterId) → same_id i i ≡ true
-self_id i = grind (arith, nat_tests)
-
 there : (xs : List Letter) (k : ℕ) (l : Letter) → slice_get xs k ≡ Some l → 1 ≤ tally (of_id l.id) xs
 there [] k l at = absurd (cc at)
-there (x ∷ xs) zero l at = let eq : x ≡ l = cc at in subst (λ (y : Letter). 1 ≤ of_id l.id y + tally (of_id l.id) xs) (sym eq) (rw (self_id l.id) (omega arith))
+there (x ∷ xs) zero l at = let eq : x ≡ l = cc at in subst (λ (y : Letter). 1 ≤ of_id l.id y + tally (of_id l.id) xs) (sym eq) (rw (same_id-self l.id) (omega arith))
 there (x ∷ xs) (suc k) l at = omega (arith, there xs k l at)
 
 apart_by : (b : Bool) (n : ℕ) → one_if b + n ≤ 1 → 1 ≤ n → b ≡ false
@@ -27,7 +23,7 @@ apart_by true n le one = absurd (omega arith)
 apart_by false n le one = refl
 
 first_found : (x : Letter) (xs : List Letter) → Found (x ∷ xs) zero x
-first_found x xs = record { found = rw (self_id x.id) refl; left = rw (self_id x.id) refl }
+first_found x xs = record { found = rw (same_id-self x.id) refl; left = rw (same_id-self x.id) refl }
 
 later_found : (x : Letter) (xs : List Letter) (k : ℕ) (l : Letter) → same_id l.id x.id ≡ false → Found xs k l → Found (x ∷ xs) (suc k) l
 later_found x xs k l is f = record { found = rw is f.found; left = rw is (ap (λ (ys : List Letter). x ∷ ys) f.left) }

@@ -12,9 +12,11 @@ use Rattle.letter_types.specs.Steps.{Out}
 use Rattle.tx_trees.specs.ScriptData.{ScriptData}
 use Rattle.tree_laws.proofs.Scripts.{Sound, get_some}
 use Rattle.world_core.specs.declared.actor.ActorState.{ActorState}
-use Rattle.world_core.specs.Actors.{ActorData, Acted, CountsBelow, IsAddressed, IsWorldOf, MayTake, TookLetter, WorldData, data_of}
+use Rattle.tree_laws.proofs.Goods.{good_run}
+use Rattle.world_model.specs.Tables.{ActorData}
+use Rattle.world_core.specs.Actors.{Acted, CountsBelow, IsAddressed, IsWorldOf, MayTake, TookLetter, WorldData}
 use Rattle.world_core.proofs.Few.{few_sent}
-use Rattle.world_core.proofs.Worlds.{asks, below, entry_of, next_world, small_counts}
+use Rattle.world_core.proofs.Worlds.{asks, below, entry_of, next_world, row_is, small_counts}
 
 pub if_some : {X : Type 0} (P : X → Type 0) (o : Option X) (x : X) → o ≡ Some x → IfSome o P → P x
 if_some P None x is h = absurd (cc is)
@@ -48,10 +50,15 @@ may_take s w k m l world sound le at =
     let found = get_some w.actors l.to.0 (is_here s w k l world sound at) in
     if_some_of (MayTake s l m) (slice_get w.actors l.to.0) found.0 found.1 (state_may s w m l found.0 world sound le found.1)
 
-pub has_room : (s : ScriptData) (l : Letter) (old new : List ActorState) (out : StepOut) → Sound s
-    → Acted s l old new out → length out.sent ≤ length s.rows + 65
-has_room s l old new out sound acted =
-    omega (arith, ap (λ (o : Out ActorData). length o.sent) acted.row, few_sent s l (data_of acted.before) sound.valid)
+pub has_room : (s : ScriptData) (w : WorldData) (l : Letter) (new : List ActorState) (out : StepOut) → IsWorldOf s w → Sound s
+    → Acted s l w.actors new out → length out.sent ≤ length s.rows + 65
+has_room s w l new out world sound acted =
+    let past = reverse w.history in
+    omega (
+      arith,
+      ap (λ (o : Out ActorData). length o.sent) (row_is s past l w.actors new out world.actors acted),
+      few_sent s past l.to.0 l sound.valid (good_run s past sound world.run),
+    )
 
 set_last : (h : List Entry) (x e : Entry) → slice_set (h ++ x ∷ []) (length h) e ≡ h ++ e ∷ []
 set_last [] x e = refl

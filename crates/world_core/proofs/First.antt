@@ -1,26 +1,52 @@
 -- The world as a run begins.
-use Rattle.std.proofs.Common.{◌≡◌, ℕ, ◌+◌, ◌<◌, ◌⊎◌, inl, inr, true, List, [], ◌∷◌, ◌++◌, length, refl, sym, ap, subst, arith}
+use Rattle.std.proofs.Common.{◌≡◌, ℕ, ◌+◌, ◌<◌, ◌⊎◌, inl, inr, true, List, [], ◌∷◌, ◌++◌, length, refl, sym, ap, ◌∙◌, subst, arith}
 use Rattle.std.specs.Prelude.{nat_lt, slice_get, Some}
 use Rattle.std.proofs.lemmas.Bool.Decides.{nat_tests}
+use Rattle.tv_base.proofs.ByPlace.{slice_get_split}
 use Rattle.letter_types.specs.declared.entries.Entry.{Entry}
 use Rattle.letter_types.specs.Letters.{go}
+use Rattle.node_versions.specs.Turns.{start as first_turns}
+use Rattle.item_versions.specs.Window.{IsWindowedTable}
+use Rattle.node_versions.specs.declared.turns.Turns.{Turns}
+use Rattle.pair_counters.specs.Counts.{Counts, no_counts}
 use Rattle.pair_counters.specs.Rows.{counts_of}
-use Rattle.tree_step.specs.Node.{Node as NodeTable}
+use Rattle.tree_home.specs.Homes.{no_trees, trees_of}
+use Rattle.tree_step.specs.Node.{IsInWindow, IsOf, data_of}
+use Rattle.tree_step.specs.declared.node.NodeParts.{NodeParts}
 use Rattle.tx_trees.specs.ScriptData.{ScriptData, client_of}
-use Rattle.world_model.specs.Tables.{start_node}
-use Rattle.world_model.proofs.Bridge.{slice_get_split}
+use Rattle.world_model.specs.Tables.{NodeData, items_at, start_node}
 use Rattle.world_core.specs.declared.actor.ActorState.{ActorState}
 use Rattle.world_core.specs.declared.actor.ActorState.TheVariants.{Node}
-use Rattle.world_core.specs.Actors.{NodeData, AreStatesOf, IsStateOf, IsWorldOf, WorldData}
-use Rattle.world_core.specs.Nodes.{NodeParts, node_data}
+use Rattle.world_core.specs.Actors.{AreStatesOf, IsStateOf, IsWorldOf, WorldData}
+
+-- the first versions, the items as they begin, nothing counted, no tree
+pub starts : (s : ScriptData) (p : ℕ) (n : NodeParts)
+    → n.turns ≡ first_turns → n.items ≡ items_at p 0 s.items → counts_of n.counters ≡ no_counts s.nodes → trees_of n.homes ≡ no_trees
+    → data_of n ≡ start_node s p
+starts s p n turns items counts homes = λ i. record { turns = turns i; items = items i; counts = (counts i).numbers; homes = homes i }
+
+-- it is in its window
+pub starts_in_window : (n : NodeParts) (nodes : ℕ) → n.turns ≡ first_turns → IsWindowedTable 0 n.items
+    → counts_of n.counters ≡ no_counts nodes → IsInWindow n
+starts_in_window n nodes turns items counts =
+    let low : n.turns.low.0 ≡ 0 = ap (λ (x : Turns). x.low.0) turns in
+    let read : n.turns.read.0 ≡ 0 = ap (λ (x : Turns). x.read.0) turns in
+    let update : n.turns.update.0 ≡ 1 = ap (λ (x : Turns). x.update.0) turns in
+    record {
+      low_read = omega (arith, low, read);
+      low_update = omega (arith, low, update);
+      read = omega (arith, low, read);
+      update = omega (arith, low, update);
+      items = subst (λ (k : ℕ). IsWindowedTable k n.items) (sym low) items;
+      counters = ap (λ (x : Counts). x.low) counts ∙ sym low;
+    }
 
 -- a node as a run begins
-pub first_node : (s : ScriptData) (a : ℕ) (n : NodeParts) → a < s.nodes → node_data n ≡ start_node s a
-    → (counts_of n.counters).nodes ≡ s.nodes
+pub first_node : (s : ScriptData) (a : ℕ) (n : NodeParts) → a < s.nodes → data_of n ≡ start_node s a → IsOf s n
     → IsStateOf s [] a (Node n)
 first_node s a n lt is nodes =
     let here : nat_lt a s.nodes ≡ true = grind (arith, nat_tests) in
-    record { seen = rw here (ap (λ (d : NodeTable). NodeData d) is); script = nodes }
+    record { seen = rw here (ap NodeData is); script = nodes }
 
 one_of : (s : ScriptData) (past : List Entry) (xs : List ActorState) (x : ActorState) (a : ℕ) (st : ActorState)
     → AreStatesOf s past xs → IsStateOf s past (length xs) x

@@ -1,9 +1,9 @@
 pub mod Items
 pub mod Sealed
 pub mod Bag
-pub mod Nodes
 pub mod Stepped
 pub mod Few
 pub mod First
 pub mod Worlds
+pub mod Leads
 pub mod Events

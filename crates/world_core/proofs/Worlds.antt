@@ -5,6 +5,7 @@ use Rattle.std.specs.List.{remove}
 use Rattle.std.proofs.lemmas.Bool.Decides.{nat_tests}
 use Rattle.std.proofs.lemmas.List.{length-reverse, reverse-append}
 use Rattle.std.proofs.Math.ListN.{length-set}
+use Rattle.tv_base.proofs.Truths.{same_test}
 use Rattle.letter_types.specs.declared.acts.Act.{Act}
 use Rattle.letter_types.specs.declared.bodies.Body.{Body}
 use Rattle.letter_types.specs.declared.bodies.Body.TheVariants.{Go, Root, Sub as SubLetter, Done, Reply, Nudge}
@@ -16,15 +17,16 @@ use Rattle.letter_types.specs.Letters.{find_id, sealed}
 use Rattle.letter_types.specs.Steps.{Out, made}
 use Rattle.pair_counters.specs.Numbers.{AllBelow, Numbers}
 use Rattle.quiet_laws.proofs.Balance.{small}
-use Rattle.tx_trees.specs.ScriptData.{ScriptData, node_of, client_of}
+use Rattle.tx_trees.specs.ScriptData.{ScriptData, client_of}
 use Rattle.world_model.specs.Runs.{StepRun, MayFollow, Moves, AtNode, AtCoordinator, AtClient, node_in, waiting}
 use Rattle.world_model.proofs.Every.{each_found}
 use Rattle.world_model.proofs.Gone.{unique}
 use Rattle.tree_laws.proofs.Fits.{Fit}
-use Rattle.tree_laws.proofs.Scripts.{Sound, SubAt, get_below, is_sub, sub_there, node_here, has_root}
+use Rattle.tree_laws.proofs.Scripts.{Sound, get_below, has_root, node_below, sub_there}
 use Rattle.tree_laws.proofs.Goods.{good_run}
 use Rattle.world_core.specs.declared.actor.ActorState.{ActorState}
-use Rattle.world_core.specs.Actors.{ActorData, Acted, AreStatesOf, CountsBelow, IsAddressed, IsFor, IsStateOf, IsWorldOf, WorldData, actor_in, actor_row, data_of}
+use Rattle.world_model.specs.Tables.{ActorData, actor_row}
+use Rattle.world_core.specs.Actors.{Acted, AreStatesOf, CountsBelow, IsAddressed, IsFor, IsStateOf, IsWorldOf, WorldData, actor_in, data_of}
 use Rattle.world_core.proofs.Bag.{Found, found_at}
 
 -- the entry that a step makes
@@ -32,14 +34,11 @@ abbrev pub entry_of : ℕ → Letter → List Outgoing → List Act → Entry
 entry_of stamp l sent acts = record { stamp = record { 0 = stamp }; actor = l.to; took = l; sent = sent; acts = acts }
 
 -- each letter under way is for one of the actors
-sub_below : (s : ScriptData) (t k : ℕ) (c : SubAt s t k) → Sound s → node_of s t k < s.nodes
-sub_below s t k c sound = subst (λ (n : ℕ). n < s.nodes) (sym (node_here s t k c)) (is_sub s t k c sound).node
-
 fit_below : (s : ScriptData) (from to : ℕ) (body : Body) → Sound s → Fit s from to body → to < s.nodes + 2
 fit_below s from to Go sound fit = omega (arith, fit)
-fit_below s from to (Root t) sound fit = omega (arith, fit.1, sub_below s t.0 0 (has_root s t.0 sound fit.0) sound)
-fit_below s from to (SubLetter t k v) sound fit = omega (arith, fit.3, sub_below s t.0 k.0 (sub_there s t.0 k.0 fit.0 fit.1) sound)
-fit_below s from to (Done t k v notice) sound fit = omega (arith, fit.3, sub_below s t.0 0 (has_root s t.0 sound fit.0) sound)
+fit_below s from to (Root t) sound fit = omega (arith, fit.1, node_below s t.0 0 (has_root s t.0 sound fit.0) sound)
+fit_below s from to (SubLetter t k v) sound fit = omega (arith, fit.3, node_below s t.0 k.0 (sub_there s t.0 k.0 fit.0 fit.1) sound)
+fit_below s from to (Done t k v notice) sound fit = omega (arith, fit.3, node_below s t.0 0 (has_root s t.0 sound fit.0) sound)
 fit_below s from to (Reply t v answer) sound fit = omega (arith, fit.1)
 fit_below s from to Nudge sound fit = omega (arith, fit)
 fit_below s from to _ sound fit = absurd fit
@@ -76,13 +75,10 @@ small_counts s past a m sound run le =
     small_by s past a m (nat_lt a s.nodes) (a == s.nodes)
     (λ p lt. below_more (65 * length past + 1) m (node_in s past p).counts le (small s past sound.valid sound.runnable run p lt)) refl refl
 
-self_true : (n : ℕ) → (n == n) ≡ true
-self_true n = grind (arith, nat_tests)
-
 -- whose step it is
 moves_by : (s : ScriptData) (past : List Entry) (l : Letter) (stamp : ℕ) (sent : List Outgoing) (acts : List Act) (b c : Bool)
     → nat_lt l.to.0 s.nodes ≡ b → (l.to.0 == s.nodes) ≡ c → l.to.0 < s.nodes + 2
-    → sent ≡ (actor_row s l (actor_in s past l.to.0)).sent → acts ≡ (actor_row s l (actor_in s past l.to.0)).acts
+    → sent ≡ (actor_row s l.to.0 (actor_in s past l.to.0) l).sent → acts ≡ (actor_row s l.to.0 (actor_in s past l.to.0) l).acts
     → Moves s past (entry_of stamp l sent acts)
 moves_by s past l stamp sent acts true c is at lt a b = AtNode (grind (arith, nat_tests)) (rw is at a, rw is at b)
 moves_by s past l stamp sent acts false true is at lt a b = AtCoordinator (grind (arith, nat_tests)) (rw (is, at) at a, rw (is, at) at b)
@@ -91,8 +87,8 @@ moves_by s past l stamp sent acts false false is at lt a b = AtClient (grind (ar
 -- the addressee's next state
 state_by : (s : ScriptData) (past : List Entry) (l : Letter) (stamp : ℕ) (sent : List Outgoing) (acts : List Act) (b c : Bool)
     → nat_lt l.to.0 s.nodes ≡ b → (l.to.0 == s.nodes) ≡ c → l.to.0 < s.nodes + 2
-    → (actor_row s l (actor_in s past l.to.0)).state ≡ actor_in s (entry_of stamp l sent acts ∷ past) l.to.0
-state_by s past l stamp sent acts true c is at lt = rw (is, self_true l.to.0) refl
+    → (actor_row s l.to.0 (actor_in s past l.to.0) l).state ≡ actor_in s (entry_of stamp l sent acts ∷ past) l.to.0
+state_by s past l stamp sent acts true c is at lt = rw (is, same_test l.to.0) refl
 state_by s past l stamp sent acts false true is at lt = rw (is, at) refl
 state_by s past l stamp sent acts false false is at lt =
     let client : (l.to.0 == client_of s) ≡ true = grind (arith, nat_tests) in rw (is, at, client) refl
@@ -102,7 +98,8 @@ others_by : (s : ScriptData) (past : List Entry) (e : Entry) (a : ℕ) (b c : Bo
     → (a == s.nodes) ≡ c → a < s.nodes + 2 → e.actor.0 ≢ a
     → actor_in s (e ∷ past) a ≡ actor_in s past a
 others_by s past e a true c is at lt ne = let no : (e.actor.0 == a) ≡ false = grind (arith, nat_tests) in rw (is, no) refl
-others_by s past e a false true is at lt ne = rw (is, at) refl
+others_by s past e a false true is at lt ne =
+    let no : (e.actor.0 == s.nodes) ≡ false = grind (arith, nat_tests) in rw (is, at, no) refl
 others_by s past e a false false is at lt ne = let no : (e.actor.0 == client_of s) ≡ false = grind (arith, nat_tests) in rw (is, at, no) refl
 
 get_set_same : {X : Type 0} (xs : List X) (i : ℕ) (v : X) → i < length xs → slice_get (slice_set xs i v) i ≡ Some v
@@ -137,17 +134,17 @@ pub below : (s : ScriptData) (w : WorldData) (k : ℕ) (l : Letter) → IsWorldO
 below s w k l world sound at = addressed s (reverse w.history) l sound world.run (found_in s w k l world at).found
 
 -- the step is the row of what the past says of its addressee
-row_is : (s : ScriptData) (past : List Entry) (l : Letter) (old next : List ActorState) (out : StepOut)
+pub row_is : (s : ScriptData) (past : List Entry) (l : Letter) (old next : List ActorState) (out : StepOut)
     → AreStatesOf s past old → (a : Acted s l old next out)
-    → made (data_of a.after) out ≡ actor_row s l (actor_in s past l.to.0)
+    → made (data_of a.after) out ≡ actor_row s l.to.0 (actor_in s past l.to.0) l
 row_is s past l old next out states a = a.row
-    ∙ ap (λ (d : ActorData). actor_row s l d) (states l.to.0 a.before a.there).seen
+    ∙ ap (λ (d : ActorData). actor_row s l.to.0 d l) (states l.to.0 a.before a.there).seen
 
 may_follow : (s : ScriptData) (w : WorldData) (k : ℕ) (l : Letter) (sent : List Outgoing) (acts : List Act)
     → IsWorldOf s w → Sound s
     → slice_get w.bag k ≡ Some l
-    → sent ≡ (actor_row s l (actor_in s (reverse w.history) l.to.0)).sent
-    → acts ≡ (actor_row s l (actor_in s (reverse w.history) l.to.0)).acts
+    → sent ≡ (actor_row s l.to.0 (actor_in s (reverse w.history) l.to.0) l).sent
+    → acts ≡ (actor_row s l.to.0 (actor_in s (reverse w.history) l.to.0) l).acts
     → MayFollow s (reverse w.history) (entry_of (length w.history + 1) l sent acts)
 may_follow s w k l sent acts world sound at a b = record {
   stamp = omega (arith, length-reverse w.history);
@@ -159,7 +156,7 @@ may_follow s w k l sent acts world sound at a b = record {
 -- each actor's next state
 state_next : (s : ScriptData) (past : List Entry) (l : Letter) (stamp : ℕ) (sent : List Outgoing) (acts : List Act) (old : List ActorState) (after st : ActorState) (a : ℕ)
     → length old ≡ s.nodes + 2 → l.to.0 < s.nodes + 2 → AreStatesOf s past old
-    → data_of after ≡ (actor_row s l (actor_in s past l.to.0)).state → IsFor s after
+    → data_of after ≡ (actor_row s l.to.0 (actor_in s past l.to.0) l).state → IsFor s after
     → slice_get (slice_set old l.to.0 after) a ≡ Some st → (b : Bool) → (l.to.0 == a) ≡ b
     → IsStateOf s (entry_of stamp l sent acts ∷ past) a st
 state_next s past l stamp sent acts old after st a count to states row script at true is =
@@ -190,7 +187,7 @@ next_world s w k l out actors bag world sound step =
     let e = entry_of (length w.history + 1) l out.sent out.acts in
     let to : l.to.0 < s.nodes + 2 = below s w k l world sound step.letter in
     let acted = step.acted in
-    let row : made (data_of acted.after) out ≡ actor_row s l (actor_in s past l.to.0) = row_is s past l w.actors actors out world.actors acted in
+    let row : made (data_of acted.after) out ≡ actor_row s l.to.0 (actor_in s past l.to.0) l = row_is s past l w.actors actors out world.actors acted in
     let back : reverse (w.history ++ e ∷ []) ≡ e ∷ past = reverse-append w.history (e ∷ []) in
     record {
       run = rw back (may_follow s w k l out.sent out.acts world sound step.letter (ap (λ (o : Out ActorData). o.sent) row) (ap (λ (o : Out ActorData). o.acts) row), world.run);

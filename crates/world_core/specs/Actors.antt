@@ -1,59 +1,37 @@
--- The actors' tables as one, and what a world keeps.
+-- The actors' states by their tables, and what a world keeps.
 use Rattle.std.specs.Prelude.{if◌then◌else◌, ℕ, ◌==◌, ◌+◌, ◌<◌, ◌≡◌, nat_lt, List, [], ◌∷◌, ◌++◌, length, reverse, Some, slice_get, slice_set}
-use Rattle.client_rows.specs.Client.{Client as ClientTable}
 use Rattle.client_rows.specs.Kept.{IsKeptOf}
 use Rattle.letter_types.specs.declared.entries.Letter.{Letter}
 use Rattle.letter_types.specs.declared.entries.Entry.{Entry}
 use Rattle.letter_types.specs.declared.entries.StepOut.{StepOut}
-use Rattle.letter_types.specs.Steps.{Out, still, made}
+use Rattle.letter_types.specs.Steps.{made}
 use Rattle.pair_counters.specs.Numbers.{AllBelow}
-use Rattle.pair_counters.specs.Rows.{counts_of}
-use Rattle.tree_step.specs.Node.{Node as NodeTable}
+use Rattle.tree_step.specs.Node.{IsOf, data_of as node_data}
 use Rattle.tx_trees.specs.ScriptData.{ScriptData}
-use Rattle.world_model.specs.Runs.{StepRun, waiting, node_in, client_in, node_table, client_table}
+use Rattle.world_model.specs.Tables.{ActorData, NodeData, CoordinatorData, ClientData, actor_row}
+use Rattle.world_model.specs.Runs.{StepRun, waiting, node_in, coordinator_in, client_in}
 use Rattle.world_core.specs.declared.actor.ActorState.{ActorState}
 use Rattle.world_core.specs.declared.actor.ActorState.TheVariants.{Node, Coordinator, Client}
-use Rattle.world_core.specs.Nodes.{node_data}
-
--- an actor as its table sees it
-pub data ActorData : Type 0 where
-  NodeData : NodeTable → ActorData
-  CoordinatorData : ActorData
-  ClientData : ClientTable → ActorData
 
 -- a state as its table sees it
 abbrev pub data_of : ActorState → ActorData
 data_of (Node n) = NodeData (node_data n)
-data_of (Coordinator c) = CoordinatorData
+data_of (Coordinator c) = CoordinatorData c
 data_of (Client c) = ClientData c.client
-
-abbrev pub at_node : Out NodeTable → Out ActorData
-at_node out = record { state = NodeData out.state; sent = out.sent; acts = out.acts }
-
-abbrev pub at_client : Out ClientTable → Out ActorData
-at_client out = record { state = ClientData out.state; sent = out.sent; acts = out.acts }
-
--- what an actor does with a letter that is addressed to it
-abbrev pub actor_row : ScriptData → Letter → ActorData → Out ActorData
-actor_row s l (NodeData st) = at_node (node_table s l.to.0 st l)
-actor_row s l CoordinatorData = still CoordinatorData
-actor_row s l (ClientData c) = at_client (client_table s c l)
 
 -- a letter for a node is addressed to one of the script's
 abbrev pub IsAddressed : ScriptData → Letter → ActorData → Type 0
 IsAddressed s l (NodeData st) = l.to.0 < s.nodes
-IsAddressed s l CoordinatorData = Unit {0}
-IsAddressed s l (ClientData c) = Unit {0}
+IsAddressed s l _ = Unit {0}
 
 -- each number that a node counts is below m
 abbrev pub CountsBelow : ℕ → ActorData → Type 0
 CountsBelow m (NodeData st) = AllBelow m st.counts
-CountsBelow m CoordinatorData = Unit {0}
-CountsBelow m (ClientData c) = Unit {0}
+CountsBelow m _ = Unit {0}
 
 -- a state of the script: a node counts by the script's nodes, and a client goes over its rows
 abbrev pub IsFor : ScriptData → ActorState → Type 0
-IsFor s (Node n) = (counts_of n.counters).nodes ≡ s.nodes
+IsFor s (Node n) = IsOf s n
 IsFor s (Coordinator c) = Unit {0}
 IsFor s (Client c) = IsKeptOf s c
 
@@ -61,7 +39,7 @@ IsFor s (Client c) = IsKeptOf s c
 abbrev pub actor_in : ScriptData → List Entry → ℕ → ActorData
 actor_in s past a =
     if nat_lt a s.nodes then NodeData (node_in s past a)
-    else if a == s.nodes then CoordinatorData else ClientData (client_in s past)
+    else if a == s.nodes then CoordinatorData (coordinator_in s past) else ClientData (client_in s past)
 
 -- the state of actor a after a past
 pub record IsStateOf (s : ScriptData) (past : List Entry) (a : ℕ) (st : ActorState) : Type 0 where
@@ -103,5 +81,5 @@ pub record Acted (s : ScriptData) (l : Letter) (old new : List ActorState) (out 
   pub after : ActorState
   pub there : slice_get old l.to.0 ≡ Some before
   pub set : new ≡ slice_set old l.to.0 after
-  pub row : made (data_of after) out ≡ actor_row s l (data_of before)
+  pub row : made (data_of after) out ≡ actor_row s l.to.0 (data_of before) l
   pub script : IsFor s after

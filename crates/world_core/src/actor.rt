@@ -1,21 +1,16 @@
 // The actors as one, and their steps.
 ghost use Rattle.std.specs.Prelude.{◌≡◌, ◌<◌, ◌+◌, ◌^◌, [], IfOk, OnOk, OnErr};
 ghost use Rattle.letter_types.specs.Steps.{made};
-ghost use Rattle.world_core.specs.Actors.{actor_row, CountsBelow, data_of, IsAddressed, IsFor, IsStateOf};
+ghost use Rattle.world_model.specs.Tables.{actor_row};
+ghost use Rattle.world_core.specs.Actors.{CountsBelow, data_of, IsAddressed, IsFor, IsStateOf};
 
 use crate::node::NodeState;
+use advance_coord::Coordinator;
 use client_rows::Client;
 use letter_types::{Letter, Step};
 use std::alloc::Global;
 use tv_base::{ActorNo, NoMemory, NodeNo};
 use tx_trees::Script;
-
-/// The coordinator's state.
-#[derive(Clone, Copy, Debug, PartialEq, Eq)]
-pub enum Coordinator {
-    /// No advancement is built yet, so there is nothing to do.
-    Resting,
-}
 
 /// The state of one actor.
 #[derive(Drop)]
@@ -39,13 +34,13 @@ impl ActorState {
             return Ok(ActorState::Node(NodeState::start(alloc, script, NodeNo(actor.0))?));
         }
         if actor.0 == nodes {
-            return Ok(ActorState::Coordinator(Coordinator::Resting));
+            return Ok(ActorState::Coordinator(Coordinator::new(alloc, nodes)));
         }
         Ok(ActorState::Client(Client::new(alloc, script)?))
     }
 }
 
-/// What an actor does with a letter that is addressed to it: its row of its table. A letter that has no row changes and
+/// What an actor does with a letter that is addressed to it: its row of its table. A letter that isn't apt changes and
 /// sends nothing. After want of memory the actor is as it was.
 pub fn actor_step(
     alloc: Global,
@@ -56,14 +51,15 @@ pub fn actor_step(
     requires addressed { IsAddressed script.now letter.now (data_of state.old) }
     requires script { IsFor script.now state.old }
     requires small { CountsBelow (2 ^ 62) (data_of state.old) }
-    ensures row { IfOk result (λ step. made (data_of state.new) step.given ≡ actor_row script.now letter.now (data_of state.old)) }
+    ensures row { IfOk result (λ step. made (data_of state.new) step.given
+        ≡ actor_row script.now letter.now.to.0 (data_of state.old) letter.now) }
     ensures kept { IfOk result (λ step. step.kept ≡ step.given) }
     ensures script { OnOk result (IsFor script.now state.new) }
     ensures err { OnErr result (state.new ≡ state.old) }
 {
     match state {
         ActorState::Node(node) => node.step(alloc, letter, script),
-        ActorState::Coordinator(_) => Ok(Step::still(alloc)),
-        ActorState::Client(client) => client.on(alloc, script, &letter.body),
+        ActorState::Coordinator(coordinator) => coordinator.on(alloc, letter),
+        ActorState::Client(client) => client.on(alloc, letter, script),
     }
 }

@@ -5,7 +5,7 @@ mod actor;
 mod node;
 mod world;
 
-pub use actor::{ActorState, Coordinator, actor_step};
+pub use actor::{ActorState, actor_step};
 pub use node::NodeState;
 pub use world::World;
 

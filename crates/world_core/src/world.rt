@@ -5,7 +5,9 @@ ghost use Rattle.std.specs.VecDeque.{deque_len, deque_capacity};
 ghost use Rattle.letter_types.specs.Letters.{go, sealed};
 ghost use Rattle.world_model.specs.Tables.{Runnable};
 ghost use Rattle.quiet_laws.specs.Balance.{Balanced};
-ghost use Rattle.world_core.specs.Actors.{Acted, AreStatesOf, IsWorldOf, MayTake, TookLetter, world_of};
+ghost use Rattle.tx_trees.specs.ScriptData.{ScriptData};
+ghost use Rattle.world_model.specs.Runs.{actor_after};
+ghost use Rattle.world_core.specs.Actors.{Acted, AreStatesOf, data_of, IsWorldOf, MayTake, TookLetter, world_of};
 
 use crate::actor::{ActorState, actor_step};
 use letter_types::{Acts, Body, Entry, History, Letter, LetterId, Letters, Step, StepOut};
@@ -122,8 +124,11 @@ fn finish(bag: &mut VecDeque<Letter>, history: &mut History, stamp: Stamp, k: us
     requires waits { k < deque_len bag.old }
     requires room { deque_len bag.old + length step.given.sent ≤ deque_capacity bag.old }
     requires place { 0 < length history.old }
-    ensures bag { IfSome (slice_get bag.old.items k) (λ l. bag.new.items ≡ remove bag.old.items k ++ sealed stamp.0 l.to.0 0 step.given.sent) }
-    ensures history { IfSome (slice_get bag.old.items k) (λ l. history.new ≡ slice_set history.old (length history.old - 1) (record { stamp = stamp; actor = l.to; took = l; sent = step.kept.sent; acts = step.kept.acts })) }
+    ensures bag { IfSome (slice_get bag.old.items k) (λ l. bag.new.items
+        ≡ remove bag.old.items k ++ sealed stamp.0 l.to.0 0 step.given.sent) }
+    ensures history { IfSome (slice_get bag.old.items k) (λ l. history.new
+        ≡ slice_set history.old (length history.old - 1)
+        (record { stamp = stamp; actor = l.to; took = l; sent = step.kept.sent; acts = step.kept.acts })) }
 {
     let Step { given, kept } = step;
     let StepOut { sent: out, acts: _ } = given;
@@ -152,6 +157,14 @@ fn letter_at(bag: &VecDeque<Letter>, k: usize) -> &Letter
     &bag[k]
 }
 
+/// The state of an actor.
+fn state_at(actors: &Vec<ActorState>, actor: ActorNo) -> &ActorState
+    requires { actor.0 < length actors.now.items }
+    ensures { slice_get actors.now.items actor.0 ≡ Some result.now }
+{
+    &actors[actor.0 as usize]
+}
+
 /// One event over the parts of a world.
 fn advance(
     alloc: Global,
@@ -161,12 +174,16 @@ fn advance(
     history: &mut History,
     k: usize,
 ) -> Result<Stamp, NoMemory>
+    // What the caller knows.
     requires waits { k < deque_len bag.old }
     requires runnable { Runnable script.now }
     requires world { IsWorldOf script.now (world_of actors.old.items bag.old.items history.old) }
+    // What came.
     ensures world { OnOk result (IsWorldOf script.now (world_of actors.new.items bag.new.items history.new)) }
-    ensures took { OnOk result (TookLetter k (world_of actors.old.items bag.old.items history.old) (world_of actors.new.items bag.new.items history.new)) }
+    ensures took { OnOk result (TookLetter k (world_of actors.old.items bag.old.items history.old)
+        (world_of actors.new.items bag.new.items history.new)) }
     ensures stamp { IfOk result (λ stamp. stamp.0 ≡ length history.new) }
+    // What want of memory leaves.
     ensures same_actors { OnErr result (actors.new.items ≡ actors.old.items) }
     ensures same_bag { OnErr result (bag.new.items ≡ bag.old.items) }
     ensures same_history { OnErr result (history.new ≡ history.old) }
@@ -221,21 +238,25 @@ impl World {
         &self.bag[k]
     }
 
-    /// The state of an actor.
+    /// The state of an actor. In a world of a script it is the one to which this actor's own entries lead.
     pub fn actor(&self, actor: ActorNo) -> &ActorState
         requires { actor.0 < length self.now.actors }
-        ensures { slice_get self.now.actors actor.0 ≡ Some result.now }
+        ensures here { slice_get self.now.actors actor.0 ≡ Some result.now }
+        ensures leads { (s : ScriptData) → IsWorldOf s self.now
+            → data_of result.now ≡ actor_after s self.now.history actor.0 }
     {
-        &self.actors[actor.0 as usize]
+        state_at(&self.actors, actor)
     }
 
     /// One event: letter `k` of those under way is taken by its addressee, whose step is appended to the history, and
     /// what it sends goes to the end. Gives the stamp of the new entry. After want of memory the world is as it was.
     /// The counters stay balanced: what one node asked of another is what that one did for it and what is under way.
     pub fn step(&mut self, script: &Script, k: usize) -> Result<Stamp, NoMemory>
+        // What the caller knows.
         requires waits { k < length self.old.bag }
         requires runnable { Runnable script.now }
         requires world { IsWorldOf script.now self.old }
+        // What is a world's, and what came.
         ensures world { IsWorldOf script.now self.new }
         ensures balanced { Balanced script.now (reverse self.new.history) }
         ensures took { OnOk result (TookLetter k self.old self.new) }

@@ -1,4 +1,4 @@
-use Rattle.std.proofs.Common.{◌≡◌, ◌∙◌, subst, List, ℕ}
+use Rattle.std.proofs.Common.{◌∙◌, subst, List, ℕ}
 use Rattle.threev_top.specs.Calls.{Tells}
 use Rattle.threev_top.proofs.calls.tell_fault.Goals as goal
 

@@ -1,4 +1,4 @@
-use Rattle.std.proofs.Common.{◌≡◌, ◌∙◌, List, ℕ, Some}
+use Rattle.std.proofs.Common.{◌∙◌, List, ℕ}
 use Rattle.script_reader.specs.declared.reading.ScriptFault.{ScriptFault}
 use Rattle.threev_top.specs.Calls.{Refuses, Tells}
 use Rattle.threev_top.specs.declared.outcomes.Stop.TheVariants as stops

@@ -24,7 +24,8 @@ act-requires-clause-may c =
 pub finish-requires-clause-room : goal.finish-requires-clause-room
 finish-requires-clause-room c =
     let few : length c.in-Ok.step.given.sent ≤ length c.args.script.now.rows + 65 =
-    has_room _ _ _ _ _ (record { valid = c.nodes-valid.ensures.valid; runnable = c.requires.runnable }) c.in-Ok.ensures.acted in
+    has_room _ (world_of c.args.actors.now.items c.args.bag.now.items c.args.history.now) _ _ _ c.requires.world
+    (record { valid = c.nodes-valid.ensures.valid; runnable = c.requires.runnable }) c.in-Ok.ensures.acted in
     omega (arith, few, c.in_ok-reserve.ensures.ok, ap (length {A = ScriptRow}) c.rows.ensures)
 
 event : (c : goal.After-finish) → Event c.args.script.now (world_of c.args.actors.now.items c.args.bag.now.items c.args.history.now) c.args.k c.letter_at.result.now
