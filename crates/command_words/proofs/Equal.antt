@@ -23,7 +23,7 @@ use Rattle.clap.specs.Faults.{turn_fault}
 use Rattle.clap.specs.declared.error.kind.ErrorKind.{ErrorKind}
 use Rattle.command_words.specs.Grammar.{line_of_options, line_by_mode, line_of_given, nothing_given, Opt, mode, workers, seed, trees, option_of, Given, by_option, put, put_history, value_of, with_value}
 use Rattle.command_words.proofs.Plain.{name_of, is_option_word, is_short_word, line_taken, plain_line, taken}
-use Rattle.command_words.proofs.Steps.{Says, IsUnknown, Rel, at_rows, waits_at, full_at, idle_with, top, rule, history, total, Total, Holds, step_total, new_row, mode_wanted, unknown_is}
+use Rattle.command_words.proofs.Steps.{Says, IsUnknown, Rel, at_rows, waits_at, full_at, top, rule, history, total, Total, Holds, step_total, new_row, mode_wanted, unknown_is, not_flag}
 use Rattle.command_words.proofs.Steps as s
 
 -- what a word is, where it is not `--`
@@ -103,12 +103,6 @@ option_known mode = refl
 option_known workers = refl
 option_known seed = refl
 option_known trees = refl
-
-not_flag : (q : Opt) → bytes_eq (codes "history") (name_of q) ≡ false
-not_flag mode = refl
-not_flag workers = refl
-not_flag seed = refl
-not_flag trees = refl
 
 no_option : (name : Text) → IsUnknown name → option_of name ≡ None
 no_option name u = rw (u.mode_not, u.workers_not, u.seed_not, u.trees_not) refl

@@ -653,11 +653,11 @@ pub wanted_is : (b : Bool) → check_kinds false false (not b || false) ≡ mode
 wanted_is true = refl
 wanted_is false = refl
 
-other : (o : Opt) → bytes_eq (codes "history") (name_of o) ≡ false
-other mode = refl
-other workers = refl
-other seed = refl
-other trees = refl
+pub not_flag : (o : Opt) → bytes_eq (codes "history") (name_of o) ≡ false
+not_flag mode = refl
+not_flag workers = refl
+not_flag seed = refl
+not_flag trees = refl
 
 -- the rows with the flag's default
 holds_at : (g : Given) (rows : List Row) → Rel g rows → Holds g (with_default rows history)
@@ -675,7 +675,7 @@ holds_at g rows r = by (has_row (codes "history") rows) refl
         let row : Row = record { id = codes "history"; values = codes "false" ∷ []; count = None; source = Some DefaultValue; reading = reading_by history } in
         let more : with_default rows history ≡ rows ++ row ∷ [] = rw e (at_row_absent (codes "history") (more_values DefaultValue (codes "false" ∷ [])) (row ∷ []) rows e) in
         subst (Holds g) (sym more) (record {
-          values = λ o. first_push (name_of o) rows row (other o) ∙ r.values o;
+          values = λ o. first_push (name_of o) rows row (not_flag o) ∙ r.values o;
           on = ap is_on (first_new (codes "history") rows row refl e) ∙ (sym e ∙ r.flag);
         })
 

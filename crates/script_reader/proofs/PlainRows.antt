@@ -4,6 +4,7 @@ use Rattle.std.specs.Prelude.{not, ℤ, pos, negsuc, IsTrue, decimal, nat_le, sl
 use Rattle.std.specs.Fmt.{signed_decimal}
 use Rattle.std.specs.List.{list_all, AllByRecursion}
 use Rattle.std.proofs.lemmas.Bool.Decides.{nat_tests}
+use Rattle.tv_base.proofs.Truths.{right_true}
 use Rattle.commute_ops.specs.declared.kinds.Kind.{Kind}
 use Rattle.commute_ops.specs.declared.kinds.Kind.TheVariants as kinds
 use Rattle.commute_ops.specs.declared.kinds.Op.TheVariants as applied
@@ -30,7 +31,6 @@ use Rattle.script_reader.specs.Words.{kind_word}
 use Rattle.script_reader.specs.Written.{deed_fields, pick_fields, rows_of, item_fields, nodes_fields, ops_rows, rows_of_rows, rows_of_tree, sub_fields, subs_rows, tree_fields, tree_rows}
 use Rattle.script_reader.proofs.Decimals.{digits_read}
 use Rattle.script_reader.proofs.Lines.{IsPlain, IsPlainRow}
-use Rattle.script_reader.proofs.Pushed.{rest_holds}
 
 -- a digit calls for no quotes
 digit_plain : (b : ℕ) (rest : Bool) → (is_digit b && rest) ≡ true → needs_byte default_writer b ≡ false
@@ -43,16 +43,16 @@ name_byte_plain b rest h = grind (arith, nat_tests)
 -- digits are plain
 digits_plain : (bs : List ℕ) → list_all is_digit bs ≡ true → IsPlain bs
 digits_plain [] h = refl
-digits_plain (b ∷ bs) h = rw (digit_plain b (list_all is_digit bs) h) (digits_plain bs (rest_holds (is_digit b) (list_all is_digit bs) h))
+digits_plain (b ∷ bs) h = rw (digit_plain b (list_all is_digit bs) h) (digits_plain bs (right_true (is_digit b) (list_all is_digit bs) h))
 
 -- bytes of a name are plain
 bytes_plain : (bs : List ℕ) → list_all is_name_byte bs ≡ true → IsPlain bs
 bytes_plain [] h = refl
-bytes_plain (b ∷ bs) h = rw (name_byte_plain b (list_all is_name_byte bs) h) (bytes_plain bs (rest_holds (is_name_byte b) (list_all is_name_byte bs) h))
+bytes_plain (b ∷ bs) h = rw (name_byte_plain b (list_all is_name_byte bs) h) (bytes_plain bs (right_true (is_name_byte b) (list_all is_name_byte bs) h))
 
 -- a name is plain
 name_plain : (bs : List ℕ) → IsTrue (is_name bs) → IsPlain bs
-name_plain bs h = bytes_plain bs (rest_holds (has_name_len bs) (list_all is_name_byte bs) h)
+name_plain bs h = bytes_plain bs (right_true (has_name_len bs) (list_all is_name_byte bs) h)
 
 -- a number is plain
 number_plain : (n : ℕ) → n < 10 ^ 64 → IsPlain (decimal n)

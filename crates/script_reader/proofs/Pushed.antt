@@ -1,20 +1,14 @@
 -- What is pushed piece by piece is the text of the rows.
-use Rattle.std.proofs.Common.{◌≡◌, ◌+◌, ◌-◌, ◌<◌, ◌≤◌, ◌&&◌, ◌∙◌, ◌∷◌, ◌++◌, [], List, Bool, true, false, ℕ, zero, suc, length, get_or, take, drop, map, Result, Ok, Err, OnOk, refl, sym, ap, arith, append_assoc, add-one, drop-cons}
-use Rattle.std.specs.Prelude.{IsTrue}
-use Rattle.std.specs.List.{list_all, AllByRecursion}
-use Rattle.std.specs.Str.{IsAscii}
-use Rattle.std.proofs.lemmas.Bool.Decides.{nat_tests}
+use Rattle.std.proofs.Common.{◌≡◌, ◌+◌, ◌-◌, ◌<◌, ◌≤◌, ◌∙◌, ◌∷◌, ◌++◌, [], List, ℕ, suc, length, get_or, take, drop, map, Result, Ok, Err, OnOk, refl, sym, ap, arith, append_assoc, add-one, drop-cons}
 use Rattle.std.proofs.lemmas.Grind.{common_steps}
-use Rattle.tx_trees.specs.Names.{is_name, is_name_byte, has_name_len}
 use Rattle.tx_trees.specs.ScriptData.{ScriptData}
-use Rattle.tx_trees.specs.Valid.{IsItem, IsTree}
 use Rattle.tx_trees.specs.declared.parts.ItemRow.{ItemRow}
 use Rattle.tx_trees.specs.declared.parts.ScriptRow.{ScriptRow}
 use Rattle.tx_trees.specs.declared.parts.Sub.{Sub}
 use Rattle.tx_trees.specs.declared.parts.SubOp.{SubOp}
 use Rattle.tx_trees.specs.declared.parts.Tree.{Tree}
 use Rattle.tx_trees.specs.declared.parts.TreeKind.{TreeKind}
-use Rattle.script_reader.specs.Written.{AreAsciiItems, AreAsciiTrees, item_fields, line, lines, nodes_fields, ops_rows, pick_fields, rows_of_row, rows_of_rows, sub_fields, subs_rows, tree_fields, tree_rows, written}
+use Rattle.script_reader.specs.Written.{item_fields, line, lines, nodes_fields, ops_rows, pick_fields, rows_of_row, rows_of_rows, sub_fields, subs_rows, tree_fields, tree_rows, written}
 
 -- the lines of rows behind rows
 pub lines-append : (a b : List (List (List ℕ))) → lines (a ++ b) ≡ lines a ++ lines b
@@ -62,35 +56,6 @@ tree_pushed items kind name (y ∷ ys) ss x ops t a b u r some same here sops ha
     ap (λ (zs : List Sub). lines (tree_rows items kind name zs)) (sym same) ∙ ap (λ (z : List ℕ). line (tree_fields kind name y.node.0) ++ z) (lines-append (ops_rows items y.ops) (subs_rows items ys)) in
     let regroup : b ++ rest ≡ t ++ lines (tree_rows items kind name ss) = rw (first, whole) (simp append_assoc) in
     on_ok r _ _ (λ e. e ∙ ap (λ (zs : List Sub). b ++ lines (subs_rows items zs)) (behind_first y ys) ∙ regroup) h
-
--- a byte of a name is ASCII
-byte_ascii : (b : ℕ) (rest : Bool) → (is_name_byte b && rest) ≡ true → b < 128
-byte_ascii b rest h = grind (arith, nat_tests)
-
--- the second of two conditions
-pub rest_holds : (b rest : Bool) → (b && rest) ≡ true → rest ≡ true
-rest_holds true rest h = h
-rest_holds false rest h = absurd (cc h)
-
--- bytes of a name are ASCII
-bytes_ascii : (bs : List ℕ) → list_all is_name_byte bs ≡ true → (i : ℕ) → get_or bs i 0 < 128
-bytes_ascii [] h i = omega arith
-bytes_ascii (b ∷ bs) h zero = byte_ascii b (list_all is_name_byte bs) h
-bytes_ascii (b ∷ bs) h (suc i) = bytes_ascii bs (rest_holds (is_name_byte b) (list_all is_name_byte bs) h) i
-
--- a name is ASCII
-pub name_ascii : (bs : List ℕ) → IsTrue (is_name bs) → IsAscii bs
-name_ascii bs h = bytes_ascii bs (rest_holds (has_name_len bs) (list_all is_name_byte bs) h)
-
--- names of valid items are ASCII
-pub items_ascii : (n : ℕ) (items : List ItemRow) → AllByRecursion (IsItem n) items → AreAsciiItems items
-items_ascii n [] h = tt
-items_ascii n (r ∷ rs) h = (name_ascii r.name h.0.name, items_ascii n rs h.1)
-
--- names of valid trees are ASCII
-pub trees_ascii : (n : ℕ) (items : List ItemRow) (ts : List Tree) → AllByRecursion (IsTree n items) ts → AreAsciiTrees ts
-trees_ascii n items [] h = tt
-trees_ascii n items (t ∷ ts) h = (name_ascii t.name h.0.name, trees_ascii n items ts h.1)
 
 -- all parts, one behind the other
 pub all_pushed : (s : ScriptData) (t a b c d : List ℕ) → t ≡ [] → a ≡ t ++ line (nodes_fields s.nodes) → b ≡ a ++ lines (map item_fields s.items) → c ≡ b ++ lines (rows_of_rows s.items s.trees s.rows)

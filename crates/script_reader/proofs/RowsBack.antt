@@ -1,5 +1,5 @@
 -- Each row that is written of a script is read as the call that adds it.
-use Rattle.std.proofs.Common.{◌≡◌, ◌<◌, ◌≤◌, ◌^◌, ◌&&◌, ◌∙◌, ℕ, Bool, true, false, not, List, [], ◌∷◌, Some, Ok, refl, arith}
+use Rattle.std.proofs.Common.{◌≡◌, ◌<◌, ◌≤◌, ◌^◌, ◌∙◌, ℕ, Bool, true, false, not, List, [], ◌∷◌, Some, Ok, refl, arith}
 use Rattle.std.specs.Prelude.{ℤ, IsTrue, ◌||◌, decimal, is_some, length, nat_le, unsigned_abs}
 use Rattle.std.proofs.lemmas.Bool.{le-leb}
 use Rattle.std.specs.Fmt.{signed_decimal}
@@ -8,6 +8,7 @@ use Rattle.commute_ops.specs.declared.kinds.Kind.{Kind}
 use Rattle.commute_ops.specs.declared.kinds.Kind.TheVariants as kinds
 use Rattle.commute_ops.specs.declared.kinds.Op.TheVariants as applied
 use Rattle.tv_base.specs.declared.numbers.NodeNo.{NodeNo}
+use Rattle.tv_base.proofs.Truths.{left_true}
 use Rattle.tx_trees.specs.Adding.{adds_item, adds_op, adds_sub, adds_tree, fresh, has_no_sub_left, has_no_tree_left, judged, last_subs, names_tree, place_of, with_item, with_sub, with_tree}
 use Rattle.tx_trees.specs.Amounts.{magnitude}
 use Rattle.tx_trees.specs.Names.{has_name_len, is_name, is_name_byte}
@@ -106,15 +107,10 @@ sub_back s x early low =
     form ∙ rw (number_read x.parent.0 (omega (arith, early)), number_read x.node.0 (omega (arith, low)), value_read x.parent.0 (omega (arith, early)), value_read x.node.0 (omega (arith, low)))
     (tried_sub (nat_le s.nodes x.node.0) (not s.begun) (nat_le (last_subs s.trees) x.parent.0) (has_no_sub_left s.trees) why.OutOfRange why.NoTree why.BadParent why.TooMany (with_sub s x.parent.0 x.node))
 
--- the first of two conditions
-first_holds : (b rest : Bool) → (b && rest) ≡ true → b ≡ true
-first_holds true rest h = refl
-first_holds false rest h = absurd (cc h)
-
 -- an operation on an item with a name
 op_back : (s : ScriptData) (name : List ℕ) (deed : Deed) → IsTrue (is_name name) → IsTrue (is_in_range deed) → op_row s name deed ≡ adds_op s name deed
 op_back s name deed named range =
-    let len : has_name_len name ≡ true = first_holds (has_name_len name) (list_all is_name_byte name) named in
+    let len : has_name_len name ≡ true = left_true (has_name_len name) (list_all is_name_byte name) named in
     rw (len, range) refl
 
 -- an operation with an amount

@@ -1,11 +1,9 @@
 -- Scripts of the forms that are built.
-use Rattle.std.specs.Prelude.{◌≡◌, Bool, true, false, IsTrue, []}
+use Rattle.std.specs.Prelude.{◌≡◌, IsTrue, []}
 use Rattle.std.specs.List.{AllByRecursion}
 use Rattle.tx_trees.specs.ScriptData.{ScriptData}
-use Rattle.tx_trees.specs.declared.parts.ScriptRow.{ScriptRow}
 use Rattle.tx_trees.specs.declared.parts.ScriptRow.TheVariants as rows
 use Rattle.tx_trees.specs.declared.parts.Tree.{Tree}
-use Rattle.tx_trees.specs.declared.parts.TreeKind.{TreeKind}
 use Rattle.tx_trees.specs.declared.parts.TreeKind.TheVariants as trees
 use Rattle.tx_trees.specs.Built.{is_built, IsBuiltRow}
 

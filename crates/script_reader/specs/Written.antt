@@ -1,8 +1,6 @@
 -- The text of a script: its rows, each as a line.
 use Rattle.std.specs.Prelude.{ℕ, List, [], ◌∷◌, ◌++◌, map, Option, Some, None, slice_get, codes, decimal}
 use Rattle.std.specs.Fmt.{signed_decimal}
-use Rattle.std.specs.List.{AllByRecursion}
-use Rattle.std.specs.Str.{IsAscii}
 use Rattle.commute_ops.specs.declared.kinds.Op.TheVariants as applied
 use Rattle.tx_trees.specs.ScriptData.{ScriptData}
 use Rattle.tx_trees.specs.Rebuilt.{name_at}
@@ -102,11 +100,3 @@ rows_of s = nodes_fields s.nodes ∷ (map item_fields s.items ++ (rows_of_rows s
 -- the text of a script
 abbrev pub written : ScriptData → List ℕ
 written s = lines (rows_of s)
-
--- the names of items are ASCII
-abbrev pub AreAsciiItems : List ItemRow → Type 0
-AreAsciiItems items = AllByRecursion (λ (r : ItemRow). IsAscii r.name) items
-
--- and those of trees
-abbrev pub AreAsciiTrees : List Tree → Type 0
-AreAsciiTrees ts = AllByRecursion (λ (t : Tree). IsAscii t.name) ts

@@ -6,7 +6,8 @@ ghost use Rattle.tx_trees.specs.Rebuilt.{name_at};
 ghost use Rattle.script_reader.specs.Builds.{Builds};
 ghost use Rattle.script_reader.specs.ReadBack.{IsReadAs};
 ghost use Rattle.script_reader.specs.Words.{kind_word, tree_word};
-ghost use Rattle.script_reader.specs.Written.{AreAsciiItems, AreAsciiTrees, deed_fields, item_fields, line, lines, nodes_fields, op_fields, ops_rows, pick_fields, rows_of_row, rows_of_rows, sub_fields, subs_rows, tree_fields, tree_rows, written};
+ghost use Rattle.tx_trees.specs.AsciiNames.{AreAsciiItems, AreAsciiTrees};
+ghost use Rattle.script_reader.specs.Written.{deed_fields, item_fields, line, lines, nodes_fields, op_fields, ops_rows, pick_fields, rows_of_row, rows_of_rows, sub_fields, subs_rows, tree_fields, tree_rows, written};
 
 use crate::text_fields::{end_row, push_amount, push_field, push_number};
 use commute_ops::{Amount, Kind, Op};

@@ -1,3 +1,4 @@
+pub mod AsciiNames
 pub mod Last
 pub mod Lists
 pub mod Named

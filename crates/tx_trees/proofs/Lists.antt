@@ -6,6 +6,7 @@ use Rattle.std.proofs.Math.ListN.{get_or-append}
 use Rattle.std.proofs.Math.Seq.{get_or-append_seam}
 use Rattle.std.proofs.lemmas.Option.{slice_get-get_or}
 use Rattle.std.proofs.lemmas.Grind.{common_steps}
+use Rattle.std.proofs.lemmas.Bool.{or_from}
 use Rattle.tx_trees.specs.Adding.{last_of, on_last}
 
 -- tests
@@ -17,10 +18,6 @@ or_left false b e = refl
 pub or_right : (a b : Bool) → (a || b) ≡ false → b ≡ false
 or_right true b e = absurd cc
 or_right false b e = e
-
-pub or_both : (a b : Bool) → a ≡ false → b ≡ false → (a || b) ≡ false
-or_both true b e f = e
-or_both false b e f = f
 
 pub not_le : (a b : ℕ) → nat_le a b ≡ false → b < a
 not_le a b e = grind (arith, common_steps)
@@ -102,7 +99,7 @@ module _ {K : Type 0} (e : K → K → Bool) where
   unfolding IsDistinct
   distinct-front flips [] ys x d = refl
   distinct-front flips (y ∷ xs) ys x d =
-      or_both (e x y) (list_any (e x) xs) (flips x y ∙ all-seam (λ (z : K). e y z ≡ false) xs ys x d.0) (distinct-front flips xs ys x d.1)
+      or_from (e x y) (list_any (e x) xs) (flips x y ∙ all-seam (λ (z : K). e y z ≡ false) xs ys x d.0) (distinct-front flips xs ys x d.1)
 
 -- a number of a list that is the sum of numbers of its items
 

@@ -4,7 +4,7 @@ use Rattle.std.proofs.Common.{◌≡◌, ◌<◌, ◌≤◌, ◌+◌, ◌*◌, �
 use Rattle.std.specs.Prelude.{◌==◌, ◌&&◌, not, IsTrue, Option, Some, None, Result, Ok, nat_eq, nat_le, nat_lt, position, slice_get, unsigned_abs}
 use Rattle.std.specs.List.{AllByRecursion, IsDistinct, list_any, position_or_len}
 use Rattle.std.specs.Str.{bytes_eq}
-use Rattle.std.proofs.lemmas.Bool.{lt-ltb}
+use Rattle.std.proofs.lemmas.Bool.{lt-ltb, or_from}
 use Rattle.std.proofs.lemmas.Cmp.{nat_eq_equiv, nat_list_eq_equiv}
 use Rattle.std.proofs.lemmas.Grind.{common_steps}
 use Rattle.std.proofs.lemmas.List.{append-nil, map-append}
@@ -31,7 +31,7 @@ use Rattle.tx_trees.specs.declared.parts.TreeKind.{TreeKind}
 use Rattle.tx_trees.specs.declared.parts.TreeKind.TheVariants as trees
 use Rattle.tx_trees.specs.declared.why.Why.{Why}
 use Rattle.tx_trees.proofs.Last.{last_count_is, last_kind_is, last_node_is, last_sub_is, last_subs_is}
-use Rattle.tx_trees.proofs.Lists.{all-seam, distinct-front, last_of-seam, le_not, lt_not, on_last-seam, or_both, or_left, or_right, slice_get-seam, sum-append, sum-push}
+use Rattle.tx_trees.proofs.Lists.{all-seam, distinct-front, last_of-seam, le_not, lt_not, on_last-seam, or_left, or_right, slice_get-seam, sum-append, sum-push}
 use Rattle.tx_trees.proofs.Named.{any-map, has_item, has_tree}
 use Rattle.tx_trees.proofs.Passes.{item_passes, op_passes, sub_passes, tree_passes}
 use Rattle.tx_trees.proofs.Stays.{op_within}
@@ -202,7 +202,7 @@ module _ (s : ScriptData) (h : IsValid s) where
         begun = refl;
         node = same_number (node_at k s.items) (last_node ts) node;
         kind = fits;
-        room = or_both _ _ (or_both _ _ (le_not 16 (last_count ts) (omega (arith, sub.few))) (le_not 200000 (all_ops ts) (omega (arith, h.limited.ops))))
+        room = or_from _ _ (or_from _ _ (le_not 16 (last_count ts) (omega (arith, sub.few))) (le_not 200000 (all_ops ts) (omega (arith, h.limited.ops))))
             (lt_not 64 (trees_puts k ts + one_put o.deed) (omega (arith, h.limited.puts k within, put_same o k refl)));
         load = lt_not MOST_AMOUNT (load k (with_rows s ts rs true) + magnitude o.deed) (omega (arith, h.loads k within, load_same o k refl));
         once = once;
@@ -268,7 +268,7 @@ module _ (s : ScriptData) (h : IsValid s) where
         place = le_not s.nodes x.node.0 sub.node;
         begun = refl;
         earlier = le_not (last_subs ts) x.parent.0 (omega (arith, sub.parent));
-        room = or_both _ _ (or_both _ _ (le_not 64 (last_subs ts) (omega (arith, tree.few))) (le_not 100000 (all_subs ts) (omega (arith, h.limited.subs))))
+        room = or_from _ _ (or_from _ _ (le_not 64 (last_subs ts) (omega (arith, tree.few))) (le_not 100000 (all_subs ts) (omega (arith, h.limited.subs))))
             (lt_not 1000000 (strict_trees ts * (update_subs ts + if_update (last_kind ts) 1)) (omega (arith, pairs, h.limited.pairs)));
       }
 
@@ -309,7 +309,7 @@ module _ (s : ScriptData) (h : IsValid s) where
         place = le_not s.nodes x.node.0 tree.subs.0.node;
         plain = tree.name;
         free = sym (has_tree name T) ∙ new;
-        room = or_both _ _ (or_both _ _ (or_both _ _ (le_not 20000 (length T) (omega (arith, h.few_trees))) (le_not 100000 (all_subs T) (omega (arith, h.limited.subs))))
+        room = or_from _ _ (or_from _ _ (or_from _ _ (le_not 20000 (length T) (omega (arith, h.few_trees))) (le_not 100000 (all_subs T) (omega (arith, h.limited.subs))))
             (lt_not 1000 (strict_trees T + one_strict kind) (omega (arith, h.limited.strict))))
             (lt_not 1000000 ((strict_trees T + one_strict kind) * (update_subs T + if_update kind 1)) (omega (arith, pairs, h.limited.pairs)));
       }
@@ -331,15 +331,15 @@ module _ (s : ScriptData) (h : IsValid s) where
 
 -- rows
 
-some_left : (k n : ℕ) (rs : List ScriptRow) → NamesInOrder k n rs → k ≤ n
-some_left k n [] names = omega arith
-some_left k n (rows.Tree t ∷ rs) names = omega (arith, some_left (k + 1) n rs names.1)
-some_left k n (rows.Advance ∷ rs) names = some_left k n rs names
-some_left k n (rows.Settle ∷ rs) names = some_left k n rs names
+pub names_end : (k n : ℕ) (rs : List ScriptRow) → NamesInOrder k n rs → k ≤ n
+names_end k n [] names = omega arith
+names_end k n (rows.Tree t ∷ rs) names = omega (arith, names_end (k + 1) n rs names.1)
+names_end k n (rows.Advance ∷ rs) names = names_end k n rs names
+names_end k n (rows.Settle ∷ rs) names = names_end k n rs names
 
-advances-append : (xs ys : List ScriptRow) → advances_in (xs ++ ys) ≡ advances_in xs + advances_in ys
-advances-append [] ys = omega arith
-advances-append (x ∷ xs) ys = omega (arith, advances-append xs ys)
+pub advances_in-append : (xs ys : List ScriptRow) → advances_in (xs ++ ys) ≡ advances_in xs + advances_in ys
+advances_in-append [] ys = omega arith
+advances_in-append (x ∷ xs) ys = omega (arith, advances_in-append xs ys)
 
 no_more : {A : Type 0} (xs ys : List A) → length xs ≡ length (xs ++ ys) → xs ≡ xs ++ ys
 no_more xs [] e = sym (append-nil xs)
@@ -348,7 +348,7 @@ no_more xs (y ∷ ys) e = absurd (omega (arith, length-append xs (y ∷ ys)))
 module _ (s : ScriptData) (h : IsValid s) where
   advance_taken : (T : List Tree) (R rest : List ScriptRow) (b : Bool) → R ++ rows.Advance ∷ rest ≡ s.rows → adds_advance (with_rows s T R b) ≡ Ok (with_rows s T (R ++ rows.Advance ∷ []) false)
   advance_taken T R rest b e =
-      let some : advances_in s.rows ≡ advances_in R + (1 + advances_in rest) = ap advances_in (sym e) ∙ advances-append R (rows.Advance ∷ rest) in
+      let some : advances_in s.rows ≡ advances_in R + (1 + advances_in rest) = ap advances_in (sym e) ∙ advances_in-append R (rows.Advance ∷ rest) in
       let few : nat_le 100 (advances_in R) ≡ false = le_not 100 (advances_in R) (omega (arith, h.limited.advances)) in
       rw few refl
 
@@ -375,7 +375,7 @@ module _ (s : ScriptData) (h : IsValid s) where
       let every : R ≡ s.rows = sym (append-nil R) ∙ f in
       (b, ap (λ (ts : List Tree). Ok (with_rows s ts R b)) all ∙ ap (λ (rs : List ScriptRow). Ok (with_rows s s.trees rs b)) every)
   rows_done T Ts R (rows.Tree n ∷ rest) b e f names =
-      let step = tree_taken T Ts R b n e names.0 (omega (arith, some_left (length T + 1) (length s.trees) rest names.1)) in
+      let step = tree_taken T Ts R b n e names.0 (omega (arith, names_end (length T + 1) (length s.trees) rest names.1)) in
       let t = step.0 in
       let us = step.1 in
       let parts : T ++ t ∷ us ≡ s.trees = ap (λ (ts : List Tree). T ++ ts) (sym step.2.0) ∙ e in

@@ -34,10 +34,6 @@ use Rattle.tx_trees.proofs.Lists.{all-last, all-on_last, all-push, all-weaker, d
 use Rattle.tx_trees.proofs.Named.{any-map, has_item, has_tree}
 use Rattle.tx_trees.proofs.Totals.{all_subs-sum, load_other, load_same, load_total, op_total, put_other, put_same, put_total, strict-op, strict-sub, strict-sum, subs-op, subs-sub, total-op, total-sub, total-tree, update-op, update-sub, update-sum}
 
-and_left : (a b : Bool) → (a && b) ≡ true → a ≡ true
-and_left true b e = refl
-and_left false b e = absurd cc
-
 -- operations are on items that are there
 
 pub op_within : (items : List ItemRow) (kind : TreeKind) (node : ℕ) (o : SubOp) → IsOp items kind node o → o.item.0 < length items

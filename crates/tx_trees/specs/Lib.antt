@@ -1,5 +1,6 @@
 pub mod Adding
 pub mod Amounts
+pub mod AsciiNames
 pub mod Counts
 pub mod Inside
 pub mod Names

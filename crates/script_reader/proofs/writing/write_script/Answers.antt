@@ -1,7 +1,9 @@
 use Rattle.std.proofs.Common.{◌++◌, ◌∙◌, ap, map, sym, subst, List, ℕ}
-use Rattle.script_reader.specs.Written.{AreAsciiItems, AreAsciiTrees, item_fields, line, lines, nodes_fields, pick_fields}
+use Rattle.script_reader.specs.Written.{item_fields, line, lines, nodes_fields, pick_fields}
 use Rattle.tx_trees.specs.declared.parts.ItemRow.{ItemRow}
-use Rattle.script_reader.proofs.Pushed.{all_pushed, items_ascii, rows_are, trees_ascii}
+use Rattle.tx_trees.specs.AsciiNames.{AreAsciiItems, AreAsciiTrees}
+use Rattle.tx_trees.proofs.AsciiNames.{items_ascii, trees_ascii}
+use Rattle.script_reader.proofs.Pushed.{all_pushed, rows_are}
 use Rattle.script_reader.proofs.ReadBack.{text_read}
 use Rattle.script_reader.proofs.writing.write_script.Goals as goal
 
