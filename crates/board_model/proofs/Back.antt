@@ -16,6 +16,7 @@ use Rattle.commute_ops.specs.declared.value.Value.{Value}
 use Rattle.letter_types.specs.declared.acts.Act.{Act}
 use Rattle.letter_types.specs.declared.acts.Act.TheVariants.{Born, Did, Turned, Showed, Swept, Finished, Waits, Parked, Voted, Freed, Decided, Applied}
 use Rattle.letter_types.specs.declared.entries.Entry.{Entry}
+use Rattle.tx_trees.proofs.SubsOf.{few_nodes}
 use Rattle.tx_trees.specs.ScriptData.{ScriptData, is_strict, is_update, updates}
 use Rattle.tx_trees.specs.Valid.{AreSubs, IsTree, IsValid}
 use Rattle.tx_trees.specs.declared.parts.ItemRow.{ItemRow}
@@ -57,8 +58,8 @@ pub record Tells (t : ℕ) (xs : List Place) (row : Tally) : Type 0 where
   pub born : row.born ≡ version_in t xs
   pub many : length row.done ≡ 64
   pub done : (k : ℕ) → k < 64 → get_or row.done k false ≡ was_done t k xs
-  pub nodes : length row.applied ≡ 16
-  pub applied : (p : ℕ) → p < 16 → get_or row.applied p false ≡ was_applied t p xs
+  pub nodes : length row.applied ≡ 64
+  pub applied : (p : ℕ) → p < 64 → get_or row.applied p false ≡ was_applied t p xs
   pub committed : row.committed ≡ was_committed t xs
 
 -- the same of all rows, where the list begins with tree t
@@ -256,8 +257,8 @@ blank_tells t (suc n) = (
     born = refl;
     many = length-replicate 64 false;
     done = λ (k : ℕ) small. none_marked 64 k;
-    nodes = length-replicate 16 false;
-    applied = λ (p : ℕ) small. none_marked 16 p;
+    nodes = length-replicate 64 false;
+    applied = λ (p : ℕ) small. none_marked 64 p;
     committed = refl;
   },
   blank_tells (t + 1) n,
@@ -296,7 +297,7 @@ marked t (suc n) xs row small h =
     ap (λ (b : Bool). b && get_or row.done n false) (marked t n xs row (omega arith) h)
     ∙ ap (λ (b : Bool). all_done t n xs && b) (h.done n (omega arith))
 
-met : (t nodes : ℕ) (items : List ItemRow) (kind : TreeKind) (k : ℕ) (ks : List Sub) (xs : List Place) (row : Tally) → nodes ≤ 16
+met : (t nodes : ℕ) (items : List ItemRow) (kind : TreeKind) (k : ℕ) (ks : List Sub) (xs : List Place) (row : Tally) → nodes ≤ 64
     → AreSubs nodes items kind k ks → Tells t xs row → all_met ks row.applied ≡ all_applied t ks xs
 met t nodes items kind k [] xs row few all h = refl
 met t nodes items kind k (one ∷ ks) xs row few all h =
@@ -304,7 +305,7 @@ met t nodes items kind k (one ∷ ks) xs row few all h =
     ap (λ (b : Bool). b && all_met ks row.applied) (h.applied one.node.0 (omega arith))
     ∙ ap (λ (b : Bool). was_applied t one.node.0 xs && b) (met t nodes items kind (k + 1) ks xs row few all.1 h)
 
-by_kind : (t nodes : ℕ) (items : List ItemRow) (kind : TreeKind) (ks : List Sub) (xs : List Place) (row : Tally) → nodes ≤ 16
+by_kind : (t nodes : ℕ) (items : List ItemRow) (kind : TreeKind) (ks : List Sub) (xs : List Place) (row : Tally) → nodes ≤ 64
     → length ks ≤ 64 → AreSubs nodes items kind 0 ks → Tells t xs row
     → is_through_by kind ks row ≡ (if is_strict kind then all_applied t ks xs else all_done t (length ks) xs)
 by_kind t nodes items Update ks xs row few small all h = marked t (length ks) xs row small h
@@ -312,7 +313,7 @@ by_kind t nodes items Read ks xs row few small all h = marked t (length ks) xs r
 by_kind t nodes items Strict ks xs row few small all h = met t nodes items Strict 0 ks xs row few all h
 
 -- what a row says of its tree is what the history says
-standing_is : (s : ScriptData) (h : List Entry) (t : ℕ) (tree : Tree) (row : Tally) → s.nodes ≤ 16 → IsTree s.nodes s.items tree
+standing_is : (s : ScriptData) (h : List Entry) (t : ℕ) (tree : Tree) (row : Tally) → s.nodes ≤ 64 → IsTree s.nodes s.items tree
     → slice_get s.trees t ≡ Some tree → Tells t (places_of h) row → standing_by tree row ≡ standing_of s h t
 standing_is s h t tree row few is here told =
     let xs : List Place = places_of h in
@@ -331,7 +332,7 @@ standing_is s h t tree row few is here told =
 abbrev IsFrom : List Tree → ℕ → List Tree → Type 0
 IsFrom all t ts = (i : ℕ) → slice_get all (t + i) ≡ slice_get ts i
 
-stood_from : (s : ScriptData) (h : List Entry) (t : ℕ) (ts : List Tree) (rows : List Tally) → s.nodes ≤ 16
+stood_from : (s : ScriptData) (h : List Entry) (t : ℕ) (ts : List Tree) (rows : List Tally) → s.nodes ≤ 64
     → AllByRecursion (IsTree s.nodes s.items) ts → IsFrom s.trees t ts → length rows ≡ length ts → AllTell t (places_of h) rows
     → stood_by rows ts ≡ standings_from s h t ts
 stood_from s h t [] [] few all from len told = refl
@@ -350,7 +351,7 @@ stood_from s h t (tree ∷ ts) (row ∷ rows) few all from len told =
 pub stood_all : (s : ScriptData) (h : List Entry) → IsValid s
     → stood_by (noted_back (places_of h) (replicate (length s.trees) blank)) s.trees ≡ standings_of s h
 stood_all s h valid =
-    stood_from s h 0 s.trees (noted_back (places_of h) (replicate (length s.trees) blank)) valid.few_nodes valid.trees
+    stood_from s h 0 s.trees (noted_back (places_of h) (replicate (length s.trees) blank)) (few_nodes s valid) valid.trees
     (λ (i : ℕ). ap (λ (k : ℕ). slice_get s.trees k) (from_zero i)) (length-noted_back (places_of h) (length s.trees))
     (all_told (length s.trees) (places_of h)) where
       from_zero : (i : ℕ) → 0 + i ≡ i

@@ -15,6 +15,7 @@ use Rattle.commute_ops.specs.declared.value.Value.{Value}
 use Rattle.commute_ops.specs.declared.value.Value.TheVariants.{Sum, Top, Bag}
 use Rattle.commute_ops.specs.Numbers.{is_within}
 use Rattle.commute_ops.specs.Ops.{applied, may_apply, start}
+use Rattle.tx_trees.proofs.SubsOf.{small_load}
 use Rattle.tx_trees.specs.ScriptData.{ScriptData, subs_at}
 use Rattle.tx_trees.specs.Valid.{AreSubs, IsItem, IsOp, IsTree, IsValid, OpAt, deed_fits, initial_load, magnitude, op_fits, op_magnitude, ops_load, subs_load, trees_load}
 use Rattle.tx_trees.specs.declared.parts.Deed.{Deed}
@@ -272,7 +273,7 @@ worth_may s x ts valid apart =
     trees_step s x ts (first_value (slice_get s.items x)) valid
     (first_held (slice_get s.items x) (loads_of s x ts)
     (λ (row : ItemRow) (e : slice_get s.items x ≡ Some row).
-    omega (arith, valid.loads x (slice_get_within s.items x row e), loads_most s x ts apart)))
+    omega (arith, small_load s x valid (slice_get_within s.items x row e), loads_most s x ts apart)))
 
 nothing : (n : ℤ) → unsigned_abs n ≡ 0 → n ≡ pos 0
 nothing n h = omega (arith, ints)

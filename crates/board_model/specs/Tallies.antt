@@ -14,7 +14,7 @@ use Rattle.board_model.specs.Histories.{Place}
 
 -- nothing is known of the tree yet
 abbrev pub blank : Tally
-blank = record { born = None; done = replicate 64 false; applied = replicate 16 false; committed = false }
+blank = record { born = None; done = replicate 64 false; applied = replicate 64 false; committed = false }
 
 abbrev pub with_born : Version → Tally → Tally
 with_born v row = record row { born = Some v }

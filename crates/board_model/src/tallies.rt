@@ -10,12 +10,12 @@ use tx_trees::{Sub, Tree, TreeKind};
 
 // What the acts gone over so far say of one tree: the version that the earliest Born gives, which of its
 // subtransactions were done, at which nodes what was decided of it was applied, and whether it was decided to commit. A
-// tree of a script has at most 64 subtransactions, and a script at most 16 nodes.
+// tree of a script has at most 64 subtransactions, and a script at most 64 nodes.
 #[derive(Clone, Copy)]
 pub(crate) struct Tally {
     pub(crate) born: Option<Version>,
     pub(crate) done: [bool; 64],
-    pub(crate) applied: [bool; 16],
+    pub(crate) applied: [bool; 64],
     pub(crate) committed: bool,
 }
 
@@ -26,7 +26,7 @@ pub(crate) fn blank_rows(alloc: Global, count: usize) -> Result<Vec<Tally>, NoMe
     let row = Tally {
         born: None,
         done: [false; 64],
-        applied: [false; 16],
+        applied: [false; 64],
         committed: false,
     };
     Ok(vec![in alloc; row; count]?)
@@ -144,14 +144,14 @@ fn with_decided(row: Tally, commit: bool) -> Tally
     }
 }
 
-// The row with the node marked, if it is one of 16.
+// The row with the node marked, if it is one of 64.
 #[tactic(auto, using(crate::proofs::Rows::set_beyond))]
 fn with_applied(row: Tally, node: ActorNo) -> Tally
     ensures { result ≡ with_applied node.0 row }
 {
     let mut applied = row.applied;
     let place = node.0 as usize;
-    if place < 16 {
+    if place < 64 {
         applied[place] = true;
     }
     let done = row.done;

@@ -8,7 +8,7 @@ use letter_types::{Act, Acts, Body, Entry, History, Letter, LetterId, Letters};
 use std::alloc::Global;
 use std::test::Fail;
 use tv_base::{ActorNo, Name, NoMemory, NodeNo, Stamp, SubNo, TreeNo, Version};
-use tx_trees::{Deed, ItemRow, Refusal, Script, TreeKind, Why};
+use tx_trees::{Deed, Form, ItemRow, Refusal, Script, TreeKind, Why};
 
 const BAD_CALL: Refusal = Refusal::Why(Why::NotBuilt);
 
@@ -62,7 +62,7 @@ fn add_amount(script: &mut Script, name: &[u8], amount: Amount) -> Result<(), Re
 
 /// Two items, 10 at node 0 and 0 at node 1; a tree that adds 5 and 7 to them, and one that adds 100 to the first.
 fn two_trees(alloc: Global) -> Result<Script, Refusal> {
-    let mut script = Script::new(alloc, 2);
+    let mut script = Script::new(alloc, Form::One, 2);
     add_item(&mut script, b"a", 0, 10)?;
     add_item(&mut script, b"b", 1, 0)?;
     add_tree(&mut script, b"t", 0)?;

@@ -3,7 +3,7 @@ use Rattle.std.proofs.Common.{if◌then◌else◌, ◌≡◌, ℕ, ◌+◌, ◌�
 use Rattle.std.proofs.lemmas.List.{length-set, length-take, length-drop, length-replicate}
 use Rattle.tx_trees.specs.ScriptData.{ScriptData}
 use Rattle.tx_trees.specs.declared.parts.ScriptRow.{ScriptRow}
-use Rattle.tx_trees.specs.declared.parts.ScriptRow.TheVariants.{Tree as TreeRow, Advance as AdvanceRow, Settle as SettleRow}
+use Rattle.tx_trees.specs.declared.parts.ScriptRow.TheVariants.{Tree as TreeRow, Advance as AdvanceRow, Settle as SettleRow, Lose as LoseRow}
 use Rattle.letter_types.specs.declared.bodies.Body.{Body}
 use Rattle.client_rows.specs.Client.{Client, have_ended, submitted, rows_letters, next_after, client_row, start_client}
 use Rattle.client_rows.specs.Kept.{IsKeptOf, kept_of}
@@ -22,6 +22,7 @@ pub few_submitted : (c : Client) (before rows : List ScriptRow) → submitted c 
 few_submitted c before [] = omega arith
 few_submitted c before (TreeRow t ∷ rows) = omega (arith, few_submitted c (before ++ TreeRow t ∷ []) rows)
 few_submitted c before (AdvanceRow ∷ rows) = omega (arith, few_submitted c (before ++ AdvanceRow ∷ []) rows)
+few_submitted c before (LoseRow ∷ rows) = omega (arith, few_submitted c (before ++ LoseRow ∷ []) rows)
 few_submitted c before (SettleRow ∷ rows) =
     fewer (have_ended c before) (submitted c (before ++ SettleRow ∷ []) rows + 1) (length (SettleRow ∷ rows))
     (omega (arith, few_submitted c (before ++ SettleRow ∷ []) rows))
@@ -62,6 +63,7 @@ few_letters s [] = omega arith
 few_letters s (TreeRow t ∷ rows) = omega (arith, few_letters s rows)
 few_letters s (AdvanceRow ∷ rows) = omega (arith, few_letters s rows)
 few_letters s (SettleRow ∷ rows) = omega (arith, few_letters s rows)
+few_letters s (LoseRow ∷ rows) = omega (arith, few_letters s rows)
 
 few_first : (s : ScriptData) (news : News) → length (sent_first s news) ≤ 1
 few_first s Begun = omega arith

@@ -3,7 +3,7 @@ use Rattle.std.proofs.Common.{if◌then◌else◌, ◌≡◌, ℕ, ◌+◌, ◌<
 use Rattle.std.proofs.lemmas.List.{length-take, take_more}
 use Rattle.tx_trees.specs.Adding.{advances_in}
 use Rattle.tx_trees.specs.declared.parts.ScriptRow.{ScriptRow}
-use Rattle.tx_trees.specs.declared.parts.ScriptRow.TheVariants.{Tree as TreeRow, Advance as AdvanceRow, Settle as SettleRow}
+use Rattle.tx_trees.specs.declared.parts.ScriptRow.TheVariants.{Tree as TreeRow, Advance as AdvanceRow, Settle as SettleRow, Lose as LoseRow}
 use Rattle.tx_trees.proofs.Rebuilding.{advances_in-append}
 use Rattle.client_rows.specs.Kept.{trees_in, unanswered_in}
 use Rattle.client_rows.specs.Places.{place_at}
@@ -14,6 +14,7 @@ trees_in-append [] ys = omega arith
 trees_in-append (TreeRow t ∷ xs) ys = omega (arith, trees_in-append xs ys)
 trees_in-append (AdvanceRow ∷ xs) ys = trees_in-append xs ys
 trees_in-append (SettleRow ∷ xs) ys = trees_in-append xs ys
+trees_in-append (LoseRow ∷ xs) ys = trees_in-append xs ys
 
 pub unanswered_in-append : (answered : List Bool) (xs ys : List ScriptRow)
     → unanswered_in answered (xs ++ ys) ≡ unanswered_in answered xs + unanswered_in answered ys
@@ -21,6 +22,7 @@ unanswered_in-append answered [] ys = omega arith
 unanswered_in-append answered (TreeRow t ∷ xs) ys = omega (arith, unanswered_in-append answered xs ys)
 unanswered_in-append answered (AdvanceRow ∷ xs) ys = unanswered_in-append answered xs ys
 unanswered_in-append answered (SettleRow ∷ xs) ys = unanswered_in-append answered xs ys
+unanswered_in-append answered (LoseRow ∷ xs) ys = unanswered_in-append answered xs ys
 
 -- there are no more trees than rows
 pub few_trees : (xs : List ScriptRow) → trees_in xs ≤ length xs
@@ -28,6 +30,7 @@ few_trees [] = omega arith
 few_trees (TreeRow t ∷ xs) = omega (arith, few_trees xs)
 few_trees (AdvanceRow ∷ xs) = omega (arith, few_trees xs)
 few_trees (SettleRow ∷ xs) = omega (arith, few_trees xs)
+few_trees (LoseRow ∷ xs) = omega (arith, few_trees xs)
 
 -- a tree counts as unanswered at most once
 one_at_most : (b : Bool) → (if b then 0 else 1) ≤ 1
@@ -40,6 +43,7 @@ few_unanswered answered [] = omega arith
 few_unanswered answered (TreeRow t ∷ xs) = omega (arith, few_unanswered answered xs, one_at_most (get_or answered t.0 false))
 few_unanswered answered (AdvanceRow ∷ xs) = omega (arith, few_unanswered answered xs)
 few_unanswered answered (SettleRow ∷ xs) = omega (arith, few_unanswered answered xs)
+few_unanswered answered (LoseRow ∷ xs) = omega (arith, few_unanswered answered xs)
 
 -- no more advancements are asked for than there are rows
 pub few_advances : (xs : List ScriptRow) → advances_in xs ≤ length xs
@@ -47,6 +51,7 @@ few_advances [] = omega arith
 few_advances (TreeRow t ∷ xs) = omega (arith, few_advances xs)
 few_advances (AdvanceRow ∷ xs) = omega (arith, few_advances xs)
 few_advances (SettleRow ∷ xs) = omega (arith, few_advances xs)
+few_advances (LoseRow ∷ xs) = omega (arith, few_advances xs)
 
 -- the numbers of a place are at most that of its rows
 pub record IsWithin (at : Place) : Type 0 where

@@ -5,7 +5,7 @@ use Rattle.std.proofs.lemmas.List.{drop_all, drop_more, take_more}
 use Rattle.std.proofs.lemmas.Bool.Decides.{nat_tests}
 use Rattle.tx_trees.specs.Adding.{advances_in}
 use Rattle.tx_trees.specs.declared.parts.ScriptRow.{ScriptRow}
-use Rattle.tx_trees.specs.declared.parts.ScriptRow.TheVariants.{Tree as TreeRow, Advance as AdvanceRow, Settle as SettleRow}
+use Rattle.tx_trees.specs.declared.parts.ScriptRow.TheVariants.{Tree as TreeRow, Advance as AdvanceRow, Settle as SettleRow, Lose as LoseRow}
 use Rattle.client_rows.specs.Client.{Client, all_answered, have_ended, submitted}
 use Rattle.client_rows.specs.Kept.{unanswered_in}
 use Rattle.client_rows.specs.Places.{place_at, is_over, waits, knowing, furthest}
@@ -22,6 +22,7 @@ all-answered answered [] = refl
 all-answered answered (TreeRow t ∷ xs) =
     answered-tree (get_or answered t.0 false) (unanswered_in answered xs) (all_answered answered xs) (all-answered answered xs)
 all-answered answered (AdvanceRow ∷ xs) = all-answered answered xs
+all-answered answered (LoseRow ∷ xs) = all-answered answered xs
 all-answered answered (SettleRow ∷ xs) = all-answered answered xs
 
 -- so the numbers of a place say whether all before it has ended
@@ -47,6 +48,7 @@ submitted-goes : (c : Client) (before : List ScriptRow) (row : ScriptRow) (rows 
     → submitted c before (row ∷ rows) ≡ submitted c (before ++ row ∷ []) rows + 1
 submitted-goes c before (TreeRow t) rows at over goes = refl
 submitted-goes c before AdvanceRow rows at over goes = refl
+submitted-goes c before LoseRow rows at over goes = refl
 submitted-goes c before SettleRow rows at over goes =
     settled (have_ended c before) (is_over at c.ended) (submitted c (before ++ SettleRow ∷ []) rows + 1) over goes
 
@@ -55,6 +57,7 @@ submitted-waits : (c : Client) (before : List ScriptRow) (row : ScriptRow) (rows
     → have_ended c before ≡ is_over at c.ended → waits at c.ended row ≡ true → submitted c before (row ∷ rows) ≡ 0
 submitted-waits c before (TreeRow t) rows at over stops = cc
 submitted-waits c before AdvanceRow rows at over stops = cc
+submitted-waits c before LoseRow rows at over stops = cc
 submitted-waits c before SettleRow rows at over stops =
     unsettled (have_ended c before) (is_over at c.ended) (submitted c (before ++ SettleRow ∷ []) rows + 1) over stops
 

@@ -6,7 +6,7 @@ use Rattle.tx_trees.specs.Adding.{advances_in}
 use Rattle.std.proofs.lemmas.Bool.{cases_eq}
 use Rattle.tx_trees.specs.Valid.{NamesInOrder}
 use Rattle.tx_trees.specs.declared.parts.ScriptRow.{ScriptRow}
-use Rattle.tx_trees.specs.declared.parts.ScriptRow.TheVariants.{Tree as TreeRow, Advance as AdvanceRow, Settle as SettleRow}
+use Rattle.tx_trees.specs.declared.parts.ScriptRow.TheVariants.{Tree as TreeRow, Advance as AdvanceRow, Settle as SettleRow, Lose as LoseRow}
 use Rattle.client_rows.specs.Kept.{trees_in, unanswered_in}
 use Rattle.client_rows.specs.Places.{place_at}
 use Rattle.client_rows.specs.declared.places.Place.{Place}
@@ -21,6 +21,7 @@ names-take k n (suc m) (TreeRow t ∷ rows) names =
     (names.0, rw e at (names-take (k + 1) n m rows names.1))
 names-take k n (suc m) (AdvanceRow ∷ rows) names = names-take k n m rows names
 names-take k n (suc m) (SettleRow ∷ rows) names = names-take k n m rows names
+names-take k n (suc m) (LoseRow ∷ rows) names = names-take k n m rows names
 
 -- there are as many trees as their numbers say
 pub trees-named : (k n : ℕ) (rows : List ScriptRow) → NamesInOrder k n rows → k + trees_in rows ≡ n
@@ -28,6 +29,7 @@ trees-named k n [] names = omega (arith, names)
 trees-named k n (TreeRow t ∷ rows) names = omega (arith, trees-named (k + 1) n rows names.1)
 trees-named k n (AdvanceRow ∷ rows) names = trees-named k n rows names
 trees-named k n (SettleRow ∷ rows) names = trees-named k n rows names
+trees-named k n (LoseRow ∷ rows) names = trees-named k n rows names
 
 -- a part of the rows has no more trees than all
 pub trees-take : (m : ℕ) (rows : List ScriptRow) → trees_in (take m rows) ≤ trees_in rows
@@ -36,6 +38,7 @@ trees-take (suc m) [] = omega arith
 trees-take (suc m) (TreeRow t ∷ rows) = omega (arith, trees-take m rows)
 trees-take (suc m) (AdvanceRow ∷ rows) = trees-take m rows
 trees-take (suc m) (SettleRow ∷ rows) = trees-take m rows
+trees-take (suc m) (LoseRow ∷ rows) = trees-take m rows
 
 -- an answer to a tree that these rows don't name changes nothing
 pub unanswered-other : (answered : List Bool) (t k n : ℕ) (rows : List ScriptRow) → NamesInOrder k n rows
@@ -47,6 +50,7 @@ unanswered-other answered t k n (TreeRow u ∷ rows) names away =
     rw (get_or-set_other answered t u.0 true false ne, unanswered-other answered t (k + 1) n rows names.1 further) refl
 unanswered-other answered t k n (AdvanceRow ∷ rows) names away = unanswered-other answered t k n rows names away
 unanswered-other answered t k n (SettleRow ∷ rows) names away = unanswered-other answered t k n rows names away
+unanswered-other answered t k n (LoseRow ∷ rows) names away = unanswered-other answered t k n rows names away
 
 -- the answer to a tree that these rows name is one fewer, if it is new
 pub unanswered-here : (answered : List Bool) (t k n : ℕ) (rows : List ScriptRow) → NamesInOrder k n rows
@@ -68,6 +72,7 @@ unanswered-here answered t k n (TreeRow u ∷ rows) names low high lt =
     ]
 unanswered-here answered t k n (AdvanceRow ∷ rows) names low high lt = unanswered-here answered t k n rows names low high lt
 unanswered-here answered t k n (SettleRow ∷ rows) names low high lt = unanswered-here answered t k n rows names low high lt
+unanswered-here answered t k n (LoseRow ∷ rows) names low high lt = unanswered-here answered t k n rows names low high lt
 
 -- fewer trees are submitted than are known
 pub sent_known : (rows : List ScriptRow) (answered : List Bool) (at : Place) → NamesInOrder 0 (length answered) rows

@@ -5,7 +5,7 @@ use Rattle.std.proofs.lemmas.List.{take_all}
 use Rattle.std.proofs.lemmas.Bool.Decides.{nat_tests}
 use Rattle.tx_trees.specs.ScriptData.{ScriptData}
 use Rattle.tx_trees.specs.declared.parts.ScriptRow.{ScriptRow}
-use Rattle.tx_trees.specs.declared.parts.ScriptRow.TheVariants.{Tree as TreeRow, Advance as AdvanceRow, Settle as SettleRow}
+use Rattle.tx_trees.specs.declared.parts.ScriptRow.TheVariants.{Tree as TreeRow, Advance as AdvanceRow, Settle as SettleRow, Lose as LoseRow}
 use Rattle.letter_types.specs.declared.acts.Act.{Act}
 use Rattle.letter_types.specs.declared.acts.Act.TheVariants.{Finished}
 use Rattle.letter_types.specs.declared.bodies.Body.{Body}
@@ -41,6 +41,7 @@ submitted-knowing : (c : Client) (before rows : List ScriptRow)
 submitted-knowing c before [] = refl
 submitted-knowing c before (TreeRow t ∷ rows) = ap (λ (n : ℕ). n + 1) (submitted-knowing c (before ++ TreeRow t ∷ []) rows)
 submitted-knowing c before (AdvanceRow ∷ rows) = ap (λ (n : ℕ). n + 1) (submitted-knowing c (before ++ AdvanceRow ∷ []) rows)
+submitted-knowing c before (LoseRow ∷ rows) = ap (λ (n : ℕ). n + 1) (submitted-knowing c (before ++ LoseRow ∷ []) rows)
 submitted-knowing c before (SettleRow ∷ rows) =
     ap (λ (n : ℕ). if have_ended c before then n + 1 else 0) (submitted-knowing c (before ++ SettleRow ∷ []) rows)
 

@@ -38,7 +38,8 @@ submitted c before [] = 0
 submitted c before (SettleRow ∷ rows) = if have_ended c before then submitted c (before ++ SettleRow ∷ []) rows + 1 else 0
 submitted c before (row ∷ rows) = submitted c (before ++ row ∷ []) rows + 1
 
--- a Root to its home for each tree, an Advance to the coordinator for each advancement
+-- a Root to its home for each tree, an Advance to the coordinator for each advancement; for a row that makes the
+-- coordinator forget nothing yet, since no script that has one is run
 abbrev pub rows_letters : ScriptData → List ScriptRow → List Outgoing
 rows_letters s [] = []
 rows_letters s (TreeRow t ∷ rows) = record { to = record { 0 = home_of s t.0 }; body = Root t } ∷ rows_letters s rows

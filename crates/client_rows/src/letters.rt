@@ -45,6 +45,7 @@ fn letters(
                 body: Body::Advance,
             })?,
             ScriptRow::Settle => {}
+            ScriptRow::Lose => {}
         }
     }
     Ok(sent)

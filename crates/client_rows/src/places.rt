@@ -70,6 +70,7 @@ fn behind_next(rows: &[ScriptRow], answered: &[bool], news: News, at: Place) -> 
             ..at
         },
         ScriptRow::Settle => Place { next, ..at },
+        ScriptRow::Lose => Place { next, ..at },
     }
 }
 

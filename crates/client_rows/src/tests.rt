@@ -9,7 +9,7 @@ use letter_types::{Act, Answer, Body, Letter, LetterId, Step};
 use std::alloc::Global;
 use std::test::Fail;
 use tv_base::{ActorNo, Name, NoMemory, NodeNo, Stamp, TreeNo, Version};
-use tx_trees::{Script, ScriptRow, TreeKind};
+use tx_trees::{Form, Script, ScriptRow, TreeKind};
 
 fn add_tree(script: &mut Script, name: &[u8], node: u8) -> Result<(), Fail> {
     let Some(name) = Name::new(name) else {
@@ -48,7 +48,7 @@ fn reply(alloc: Global, tree: u32) -> Letter {
 }
 
 fn two_trees(alloc: Global) -> Result<Script, Fail> {
-    let mut script = Script::new(alloc, 2);
+    let mut script = Script::new(alloc, Form::One, 2);
     add_tree(&mut script, b"s", 1)?;
     add_tree(&mut script, b"t", 0)?;
     Ok(script)
@@ -175,7 +175,7 @@ fn a_settle_row_waits_for_answers_and_ends(rt: HostRuntime) {
 #[test]
 fn a_settle_row_holds_back_the_rows_behind_it(rt: HostRuntime) -> Result<(), Fail> {
     let alloc = rt.alloc();
-    let mut script = Script::new(alloc, 2);
+    let mut script = Script::new(alloc, Form::One, 2);
     add_tree(&mut script, b"s", 1)?;
     script.add_settle()?;
     add_tree(&mut script, b"t", 0)?;

@@ -16,6 +16,7 @@ mode_of word =
     else if bytes_eq word (codes "sim") then Some modes.Sim
     else if bytes_eq word (codes "run") then Some modes.Run
     else if bytes_eq word (codes "soak") then Some modes.Soak
+    else if bytes_eq word (codes "upgrade") then Some modes.Upgrade
     else None
 
 -- a number from low to high, if it is given
@@ -33,6 +34,7 @@ line_of_mode modes.Check None None None false = Some lines.Check
 line_of_mode modes.Sim None seed None history = Some (lines.Sim seed history)
 line_of_mode modes.Run workers None None history = Some (lines.Run (unwrap_or workers 4) history)
 line_of_mode modes.Soak workers (Some seed) (Some trees) false = Some (lines.Soak (unwrap_or workers 4) seed trees)
+line_of_mode modes.Upgrade None None None false = Some lines.Upgrade
 line_of_mode mode workers seed trees history = None
 
 -- the line of a mode with these values
@@ -46,7 +48,8 @@ line_with (Some mode) workers seed trees history =
 -- what the program does so far: the other lines are refused
 abbrev pub is_built : Line → Bool
 is_built lines.Check = true
-is_built (lines.Sim None false) = true
+is_built (lines.Sim seed false) = true
+is_built lines.Upgrade = true
 is_built lines.Help = true
 is_built lines.Version = true
 is_built line = false

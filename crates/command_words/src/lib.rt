@@ -52,6 +52,8 @@ pub enum Line {
         /// The number of `--trees`, 1 to 20,000.
         trees: u32,
     },
+    /// Mode `upgrade`, with no other option.
+    Upgrade,
     /// `--help` alone.
     Help,
     /// `--version` alone.
@@ -95,6 +97,7 @@ enum Mode {
     Sim,
     Run,
     Soak,
+    Upgrade,
 }
 
 fn mode_by_word(word: &str) -> Option<Mode>
@@ -105,6 +108,7 @@ fn mode_by_word(word: &str) -> Option<Mode>
         "sim" => Some(Mode::Sim),
         "run" => Some(Mode::Run),
         "soak" => Some(Mode::Soak),
+        "upgrade" => Some(Mode::Upgrade),
         _ => None,
     }
 }
@@ -171,6 +175,7 @@ fn line_by_mode(
             seed,
             trees,
         }),
+        (Mode::Upgrade, None, None, None, false) => Some(Line::Upgrade),
         _ => None,
     }
 }
@@ -281,8 +286,8 @@ fn is_built(line: Line) -> bool
     ensures { result ≡ is_built_line line }
 {
     match line {
-        Line::Check | Line::Help | Line::Version => true,
-        Line::Sim { seed, history } => seed.is_none() && !history,
+        Line::Check | Line::Upgrade | Line::Help | Line::Version => true,
+        Line::Sim { seed: _, history } => !history,
         Line::Run { .. } | Line::Soak { .. } => false,
     }
 }

@@ -16,9 +16,10 @@ fn words_are_read_or_refused(rt: HostRuntime) -> Result<(), Fail> {
         seed: None,
         history: false,
     };
-    let taken: [(&[&str], Line); 4] = [
+    let taken: [(&[&str], Line); 5] = [
         (&["threev", "--mode", "sim"], sim),
         (&["--", "--mode=check"], Line::Check),
+        (&["threev", "--mode", "upgrade"], Line::Upgrade),
         (&["threev", "--help"], Line::Help),
         (&["threev", "--version"], Line::Version),
     ];
@@ -29,13 +30,14 @@ fn words_are_read_or_refused(rt: HostRuntime) -> Result<(), Fail> {
             "at {list:?}"
         );
     }
-    let refused: [&[&str]; 12] = [
+    let refused: [&[&str]; 13] = [
         &[],
         &["threev"],
         &["threev", "--mode", "run", "--mode", "sim"],
         &["threev", "--mode", "sim", "--workers", "2"],
         &["threev", "--mode", "soak", "--seed", "1"],
         &["threev", "--mode", "run"],
+        &["threev", "--mode", "upgrade", "--history"],
         &["threev", "--mode", "sim", "--"],
         &["threev", "--mode="],
         &["threev", "--mode"],

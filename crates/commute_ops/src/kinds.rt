@@ -11,7 +11,7 @@ use tv_base::NoMemory;
 pub type Amount = i128;
 
 /// The greatest magnitude of an amount, of an initial value, and of what an item's magnitudes add up to.
-pub const MOST_AMOUNT: u64 = 1_000_000_000_000_000;
+pub const MOST_AMOUNT: u128 = 1_000_000_000_000_000_000_000_000_000_000;
 
 /// The kind of an item.
 #[derive(Clone, Copy, Debug, PartialEq, Eq)]

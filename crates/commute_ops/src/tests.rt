@@ -2,7 +2,7 @@ use super::*;
 use std::alloc::Global;
 use std::test::Fail;
 
-const MOST: Amount = 1_000_000_000_000_000;
+const MOST: Amount = 1_000_000_000_000_000_000_000_000_000_000;
 
 fn start(alloc: Global, kind: Kind, initial: Amount) -> Value {
     match kind {

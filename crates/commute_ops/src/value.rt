@@ -87,7 +87,7 @@ impl Value {
 fn is_within(number: Amount, amount: Amount) -> bool
     ensures { result ≡ is_within number amount }
 {
-    let most = MOST_AMOUNT as u128;
+    let most = MOST_AMOUNT;
     let left = number.unsigned_abs();
     let right = amount.unsigned_abs();
     left <= most && right <= most && left + right <= most

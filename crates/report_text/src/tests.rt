@@ -9,7 +9,7 @@ use letter_types::{Act, Acts, Body, Entry, History, Letter, LetterId, Letters};
 use std::alloc::Global;
 use std::test::Fail;
 use tv_base::{ActorNo, Name, NoMemory, NodeNo, Stamp, SubNo, Text, TreeNo, Version};
-use tx_trees::{Deed, ItemRow, Refusal, Script, TreeKind, Why};
+use tx_trees::{Deed, Form, ItemRow, Refusal, Script, TreeKind, Why};
 
 const BAD_CALL: Refusal = Refusal::Why(Why::NotBuilt);
 
@@ -79,7 +79,7 @@ fn get(script: &mut Script, name: &[u8]) -> Result<(), Refusal> {
 
 /// Two items, 10 at node 0 and 0 at node 1, and a tree that adds 5 and 7 to them.
 fn one_tree(alloc: Global) -> Result<Script, Refusal> {
-    let mut script = Script::new(alloc, 2);
+    let mut script = Script::new(alloc, Form::One, 2);
     add_item(&mut script, b"a", 0, Kind::Sum, 10)?;
     add_item(&mut script, b"b", 1, Kind::Sum, 0)?;
     add_tree(&mut script, TreeKind::Update, b"t", 0)?;
@@ -123,7 +123,7 @@ fn add_update(script: &mut Script) -> Result<(), Refusal> {
 
 /// Five trees by number: a read, an update, two reads, and a read that has no operation.
 fn reading(alloc: Global) -> Result<Script, Refusal> {
-    let mut script = Script::new(alloc, 2);
+    let mut script = Script::new(alloc, Form::One, 2);
     add_kinds(&mut script)?;
     add_wide_read(&mut script)?;
     add_update(&mut script)?;

@@ -1,8 +1,8 @@
 -- What a call on a script made, where it took the record.
-use Rattle.std.proofs.Common.{◌≡◌, ℕ, Bool, true, false, List, Option, Some, None, Result, Ok, Err, arith}
+use Rattle.std.proofs.Common.{◌≡◌, ◌++◌, ◌∷◌, [], ℕ, Bool, true, false, List, Option, Some, None, Result, Ok, Err, refl, arith}
 use Rattle.std.specs.Prelude.{if◌then◌else◌}
 use Rattle.tv_base.specs.declared.numbers.NodeNo.{NodeNo}
-use Rattle.tx_trees.specs.Adding.{adds_item, adds_op, adds_op_at, adds_settle, adds_sub, adds_tree, place_of, with_item, with_op, with_row, with_sub, with_tree}
+use Rattle.tx_trees.specs.Adding.{adds_item, adds_op, adds_op_at, adds_pick, adds_settle, adds_sub, adds_tree, place_of, with_item, with_op, with_row, with_sub, with_tree}
 use Rattle.tx_trees.specs.Ranges.{is_in_range}
 use Rattle.tx_trees.specs.ScriptData.{ScriptData}
 use Rattle.tx_trees.specs.declared.parts.Deed.{Deed}
@@ -31,6 +31,10 @@ op_at_is s t k deed is = grind arith
 pub settle_is : (s t : ScriptData) → adds_settle s ≡ Ok t → with_row s rows.Settle ≡ t
 settle_is s t is = cc is
 
+-- a pick that was taken stands last
+pub pick_is : (s t : ScriptData) (k : ℕ) → adds_pick s k ≡ Ok t → record s { picks = s.picks ++ k ∷ []; begun = false } ≡ t
+pick_is s t k is = cc is
+
 -- an operation that was taken is on an item
 pub record TakesOp (s t : ScriptData) (deed : Deed) : Type 0 where
   pub item : ℕ
@@ -46,6 +50,15 @@ if_taken : {A : Type 0} (b : Bool) (r : Result A Why) (w : Why) (t : A) → (if 
 if_taken true r w t is = is
 if_taken false r w t is = absurd (cc is)
 
+-- what was taken met the test
+test_met : {A : Type 0} (b : Bool) (r : Result A Why) (w : Why) (t : A) → (if b then r else Err w) ≡ Ok t → b ≡ true
+test_met true r w t is = refl
+test_met false r w t is = absurd (cc is)
+
+-- an operation that was taken has an amount in the form's range
+pub op_in_range : (s t : ScriptData) (name : List ℕ) (deed : Deed) → adds_op s name deed ≡ Ok t → is_in_range s.form deed ≡ true
+op_in_range s t name deed is = test_met (is_in_range s.form deed) _ _ t is
+
 -- an operation that was taken, by the name of its item
 pub op_taken : (s t : ScriptData) (name : List ℕ) (deed : Deed) → adds_op s name deed ≡ Ok t → TakesOp s t deed
-op_taken s t name deed is = op_at_taken s t (place_of name s.items) deed (if_taken (is_in_range deed) _ _ t is)
+op_taken s t name deed is = op_at_taken s t (place_of name s.items) deed (if_taken (is_in_range s.form deed) _ _ t is)

@@ -1,5 +1,5 @@
 -- A row that passes its conditions.
-use Rattle.std.proofs.Common.{◌≡◌, ◌<◌, ◌≤◌, ◌^◌, ◌∙◌, ℕ, Bool, true, false, List, [], ◌∷◌, length, Option, Some, Result, Ok, Err, refl, sym, ap, arith, inl, inr, to_z, of_z}
+use Rattle.std.proofs.Common.{◌≡◌, ◌<◌, ◌≤◌, ◌^◌, ◌∙◌, ℕ, Bool, true, false, List, [], ◌∷◌, length, Option, Some, None, Result, Ok, Err, refl, sym, ap, arith, inl, inr, to_z, of_z}
 use Rattle.std.specs.Prelude.{nat_le, min, ℤ, is_some, unsigned_abs, IsErrAnd, ◌⊎◌}
 use Rattle.std.specs.Int.{w128}
 use Rattle.std.specs.List.{AllByRecursion}
@@ -15,15 +15,18 @@ use Rattle.tx_trees.specs.Names.{has_name_len, is_name}
 use Rattle.tx_trees.specs.Ranges.{is_in_range}
 use Rattle.tx_trees.specs.declared.parts.Deed.{Deed}
 use Rattle.tx_trees.specs.declared.parts.Deed.TheVariants as deeds
+use Rattle.tx_trees.specs.declared.parts.Form.{Form}
+use Rattle.tx_trees.specs.declared.parts.Form.TheVariants as forms
 use Rattle.tx_trees.specs.declared.parts.ItemRow.{ItemRow}
 use Rattle.tx_trees.specs.declared.parts.Tree.{Tree}
 use Rattle.tx_trees.specs.declared.parts.TreeKind.{TreeKind}
 use Rattle.tx_trees.specs.declared.why.Why.{Why}
+use Rattle.tx_trees.specs.declared.why.Why.TheVariants as why
 use Rattle.tx_trees.specs.declared.why.Refusal.{Refusal}
 use Rattle.tx_trees.specs.declared.why.Refusal.TheVariants as refusals
 use Rattle.script_reader.specs.Numbers.{amount_of, amount_value, decimal_value, is_amount, is_number, number_of}
 use Rattle.script_reader.specs.Rows.{Leaves, adds_item_of, amount_row, by_word, deed_of, field, if_built, item_of, item_row, later_form, later_row, node_no, op_row, starts, sub_row, tree_row}
-use Rattle.script_reader.specs.Words.{kind_of, len_fits, word_of}
+use Rattle.script_reader.specs.Words.{if_word, kind_of, later_word, len_fits, may_follow, word_of}
 use Rattle.script_reader.specs.declared.words.OpWord.{OpWord}
 use Rattle.script_reader.specs.declared.words.RowWord.{RowWord}
 use Rattle.script_reader.specs.declared.words.RowWord.TheVariants as words
@@ -64,7 +67,7 @@ passed_as v h =
     to_z-of_z w128 v (fits_signed_from_abs w128 v small)
 
 -- an item that passes its conditions is added
-pub item_of_is : (s : ScriptData) (name m : List ℕ) (n : ℕ) (o : Option Kind) (k : Kind) (a : ℤ) → o ≡ Some k → n < s.nodes → starts o a ≡ true → is_name name ≡ true → m ≡ name → is_some (place_of m s.items) ≡ false
+pub item_of_is : (s : ScriptData) (name m : List ℕ) (n : ℕ) (o : Option Kind) (k : Kind) (a : ℤ) → o ≡ Some k → n < s.nodes → starts s.form o a ≡ true → is_name name ≡ true → m ≡ name → is_some (place_of m s.items) ≡ false
     → item_of s name n o a ≡ adds_item s (let r : ItemRow = record { name = m; node = node_no n; kind = k; initial = a } in r)
 item_of_is s name m n o k a kind low start named same free =
     let few : nat_le s.nodes n ≡ false = lt-leb s.nodes n low in
@@ -125,7 +128,7 @@ sub_row_is s parent node p n q hp hn low valid same =
     passes ∙ is
 
 -- an operation that passes its conditions is added
-pub op_row_is : (s : ScriptData) (item m : List ℕ) (deed : Deed) → is_in_range deed ≡ true → m ≡ item → 0 < length item → length item ≤ 32 → op_row s item deed ≡ adds_op s m deed
+pub op_row_is : (s : ScriptData) (item m : List ℕ) (deed : Deed) → is_in_range s.form deed ≡ true → m ≡ item → 0 < length item → length item ≤ 32 → op_row s item deed ≡ adds_op s m deed
 op_row_is s item m deed range same some few =
     let low : nat_le 1 (length item) ≡ true = le-leb 1 (length item) some in
     let high : nat_le (length item) 32 ≡ true = le-leb (length item) 32 few in
@@ -140,10 +143,10 @@ amount_row_is s word item bytes a deed ha hd =
     passes ∙ ap (op_row s item) (sym hd)
 
 -- what a row is, by what the code read of it
-pub later_is : (s : ScriptData) (fields : List (List ℕ)) (word : List ℕ) (w : RowWord) (n : ℕ) (fits : Bool) → word ≡ field fields 0 → Some w ≡ word_of word → fits ≡ len_fits w n → n ≡ length fields → fits ≡ true
+pub later_is : (s : ScriptData) (fields : List (List ℕ)) (f : Form) (word : List ℕ) (w : RowWord) (n : ℕ) (fits : Bool) → f ≡ s.form → word ≡ field fields 0 → Some w ≡ later_word f word → fits ≡ len_fits w n → n ≡ length fields → fits ≡ true
     → later_row s fields ≡ later_form s fields w
-later_is s fields word w n fits is hw hf hn good =
-    let e : word_of (field fields 0) ≡ Some w = ap word_of (sym is) ∙ sym hw in
+later_is s fields f word w n fits same_form is hw hf hn good =
+    let e : later_word s.form (field fields 0) ≡ Some w = ap (later_word s.form) (sym is) ∙ ap (λ (g : Form). later_word g word) (sym same_form) ∙ sym hw in
     let same : len_fits w (length fields) ≡ true = ap (len_fits w) (sym hn) ∙ sym hf ∙ good in
     ap (λ (o : Option RowWord). by_word fields o (later_form s fields)) e ∙ rw same refl
 
@@ -159,3 +162,38 @@ amount_form_is s fields w word a b is ha hb = rw (is, ha, hb) refl
 -- a `get` row, by its field
 pub get_form_is : (s : ScriptData) (fields : List (List ℕ)) (w : RowWord) (a : List ℕ) → w ≡ words.Get → a ≡ field fields 1 → later_form s fields w ≡ op_row s a deeds.Get
 get_form_is s fields w a is ha = rw (is, ha) refl
+
+-- a `lose` row is read of a script of the second form alone
+no_lose : (f : Form) (o : Option RowWord) → if_word (may_follow f) o ≡ Some words.Lose → f ≡ forms.Two
+no_lose forms.Two o e = refl
+no_lose forms.One None e = absurd (cc e)
+no_lose forms.One (Some words.Lose) e = absurd (cc e)
+no_lose forms.One (Some words.Form) e = absurd (cc e)
+no_lose forms.One (Some words.Nodes) e = absurd (cc e)
+no_lose forms.One (Some words.Item) e = absurd (cc e)
+no_lose forms.One (Some (words.Tree k)) e = absurd (cc e)
+no_lose forms.One (Some words.Sub) e = absurd (cc e)
+no_lose forms.One (Some (words.Op o)) e = absurd (cc e)
+no_lose forms.One (Some words.Get) e = absurd (cc e)
+no_lose forms.One (Some words.Advance) e = absurd (cc e)
+no_lose forms.One (Some words.Settle) e = absurd (cc e)
+no_lose forms.One (Some words.Pick) e = absurd (cc e)
+
+pub second_loses : (s : ScriptData) (fields : List (List ℕ)) (f : Form) (word : List ℕ) (w : RowWord) → f ≡ s.form → word ≡ field fields 0 → Some w ≡ later_word f word → w ≡ words.Lose → s.form ≡ forms.Two
+second_loses s fields f word w same is hw lose = sym same ∙ no_lose f (word_of word) (sym hw ∙ ap (λ (v : RowWord). Some v) lose)
+
+-- a row that hasn't its number of fields
+pub later_wrong : (s : ScriptData) (fields : List (List ℕ)) (f : Form) (word : List ℕ) (w : RowWord) (n : ℕ) (fits : Bool) → f ≡ s.form → word ≡ field fields 0 → Some w ≡ later_word f word → fits ≡ len_fits w n → n ≡ length fields → fits ≡ false
+    → later_row s fields ≡ Err why.WrongFields
+later_wrong s fields f word w n fits same_form is hw hf hn bad =
+    let e : later_word s.form (field fields 0) ≡ Some w = ap (later_word s.form) (sym is) ∙ ap (λ (g : Form). later_word g word) (sym same_form) ∙ sym hw in
+    let same : len_fits w (length fields) ≡ false = ap (len_fits w) (sym hn) ∙ sym hf ∙ bad in
+    ap (λ (o : Option RowWord). by_word fields o (later_form s fields)) e ∙ rw same refl
+
+-- a tree row, by its fields
+pub tree_form_is : (s : ScriptData) (fields : List (List ℕ)) (w : RowWord) (kind : TreeKind) (a b : List ℕ) → w ≡ words.Tree kind → a ≡ field fields 1 → b ≡ field fields 2 → later_form s fields w ≡ tree_row s kind a b
+tree_form_is s fields w kind a b is ha hb = rw (is, ha, hb) refl
+
+-- a `sub` row, by its fields
+pub sub_form_is : (s : ScriptData) (fields : List (List ℕ)) (w : RowWord) (a b : List ℕ) → w ≡ words.Sub → a ≡ field fields 1 → b ≡ field fields 2 → later_form s fields w ≡ sub_row s a b
+sub_form_is s fields w a b is ha hb = rw (is, ha, hb) refl

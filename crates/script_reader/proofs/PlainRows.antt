@@ -10,6 +10,7 @@ use Rattle.commute_ops.specs.declared.kinds.Kind.TheVariants as kinds
 use Rattle.commute_ops.specs.declared.kinds.Op.TheVariants as applied
 use Rattle.commute_ops.specs.declared.kinds.TheConstants.{MOST_AMOUNT}
 use Rattle.csv.specs.Writing.{default_writer, needs_byte}
+use Rattle.tx_trees.proofs.SubsOf.{few_nodes}
 use Rattle.tx_trees.specs.Amounts.{magnitude}
 use Rattle.tx_trees.specs.Names.{has_name_len, is_name, is_name_byte}
 use Rattle.tx_trees.specs.Ranges.{draws_negative, is_in_range}
@@ -18,6 +19,8 @@ use Rattle.tx_trees.specs.ScriptData.{ScriptData}
 use Rattle.tx_trees.specs.Valid.{AreSubs, IsItem, IsOp, IsTree, IsValid, OpAt}
 use Rattle.tx_trees.specs.declared.parts.Deed.{Deed}
 use Rattle.tx_trees.specs.declared.parts.Deed.TheVariants as deeds
+use Rattle.tx_trees.specs.declared.parts.Form.{Form}
+use Rattle.tx_trees.specs.declared.parts.Form.TheVariants as forms
 use Rattle.tx_trees.specs.declared.parts.ItemRow.{ItemRow}
 use Rattle.tx_trees.specs.declared.parts.ScriptRow.{ScriptRow}
 use Rattle.tx_trees.specs.declared.parts.ScriptRow.TheVariants as rows
@@ -26,9 +29,9 @@ use Rattle.tx_trees.specs.declared.parts.SubOp.{SubOp}
 use Rattle.tx_trees.specs.declared.parts.Tree.{Tree}
 use Rattle.tx_trees.specs.declared.parts.TreeKind.{TreeKind}
 use Rattle.tx_trees.specs.declared.parts.TreeKind.TheVariants as trees
-use Rattle.script_reader.specs.Numbers.{is_digit}
+use Rattle.script_reader.specs.Numbers.{AreSmall, is_digit}
 use Rattle.script_reader.specs.Words.{kind_word}
-use Rattle.script_reader.specs.Written.{deed_fields, pick_fields, rows_of, item_fields, nodes_fields, ops_rows, rows_of_rows, rows_of_tree, sub_fields, subs_rows, tree_fields, tree_rows}
+use Rattle.script_reader.specs.Written.{deed_fields, form_rows, pick_fields, rows_behind, rows_of, item_fields, nodes_fields, ops_rows, rows_of_rows, rows_of_tree, sub_fields, subs_rows, tree_fields, tree_rows}
 use Rattle.script_reader.proofs.Decimals.{digits_read}
 use Rattle.script_reader.proofs.Lines.{IsPlain, IsPlainRow}
 
@@ -74,7 +77,7 @@ bounded : (m : ℕ) (b : Bool) → (nat_le m MOST_AMOUNT && b) ≡ true → m < 
 bounded m b h = grind (arith, nat_tests)
 
 -- an amount in range is small
-pub small_deed : (deed : Deed) → IsTrue (is_in_range deed) → magnitude deed < 10 ^ 32
+pub small_deed : (deed : Deed) → IsTrue (is_in_range forms.Two deed) → magnitude deed < 10 ^ 32
 small_deed deed h = bounded (magnitude deed) (not (draws_negative deed)) h
 
 -- the name of an item that an operation is on
@@ -84,11 +87,11 @@ op_named n (r ∷ rs) zero kind node o all h = all.0.name
 op_named n (r ∷ rs) (suc k) kind node o all h = op_named n rs k kind node o all.1 h
 
 -- the `nodes` row
-nodes_plain : (n : ℕ) → n ≤ 16 → IsPlainRow (nodes_fields n)
+nodes_plain : (n : ℕ) → n ≤ 64 → IsPlainRow (nodes_fields n)
 nodes_plain n few = record { head = _; tail = _; is = refl; some = omega arith; first = refl; rest = (number_plain n (omega arith), tt) }
 
 -- an item row
-item_plain : (n : ℕ) (r : ItemRow) → n ≤ 16 → IsItem n r → IsPlainRow (item_fields r)
+item_plain : (n : ℕ) (r : ItemRow) → n ≤ 64 → IsItem n r → IsPlainRow (item_fields r)
 item_plain n r few h = record {
   head = _;
   tail = _;
@@ -99,13 +102,13 @@ item_plain n r few h = record {
 }
 
 -- a tree row
-tree_plain : (kind : TreeKind) (name : List ℕ) (node : ℕ) → IsTrue (is_name name) → node < 16 → IsPlainRow (tree_fields kind name node)
+tree_plain : (kind : TreeKind) (name : List ℕ) (node : ℕ) → IsTrue (is_name name) → node < 64 → IsPlainRow (tree_fields kind name node)
 tree_plain trees.Update name node h low = record { head = _; tail = _; is = refl; some = omega arith; first = refl; rest = (name_plain name h, (number_plain node (omega arith), tt)) }
 tree_plain trees.Read name node h low = record { head = _; tail = _; is = refl; some = omega arith; first = refl; rest = (name_plain name h, (number_plain node (omega arith), tt)) }
 tree_plain trees.Strict name node h low = record { head = _; tail = _; is = refl; some = omega arith; first = refl; rest = (name_plain name h, (number_plain node (omega arith), tt)) }
 
 -- a `sub` row
-sub_plain : (x : Sub) → x.parent.0 < 64 → x.node.0 < 16 → IsPlainRow (sub_fields x)
+sub_plain : (x : Sub) → x.parent.0 < 64 → x.node.0 < 64 → IsPlainRow (sub_fields x)
 sub_plain x early low = record {
   head = _;
   tail = _;
@@ -114,6 +117,10 @@ sub_plain x early low = record {
   first = refl;
   rest = (number_plain x.parent.0 (omega arith), (number_plain x.node.0 (omega arith), tt));
 }
+
+-- a `pick` row
+pick_plain : (k : ℕ) → k < 2 ^ 32 → IsPlainRow (pick_fields k)
+pick_plain k small = record { head = _; tail = _; is = refl; some = omega arith; first = refl; rest = (number_plain k (omega arith), tt) }
 
 -- a name and an amount
 with_amount : (name : List ℕ) (a : ℤ) → IsTrue (is_name name) → unsigned_abs a < 10 ^ 32 → AllByRecursion IsPlain (name ∷ signed_decimal a ∷ [])
@@ -138,19 +145,19 @@ plain-append [] ys h k = k
 plain-append (x ∷ xs) ys h k = (h.0, plain-append xs ys h.1 k)
 
 -- all items
-items_plain : (n : ℕ) (items : List ItemRow) → n ≤ 16 → AllByRecursion (IsItem n) items → ArePlain (map item_fields items)
+items_plain : (n : ℕ) (items : List ItemRow) → n ≤ 64 → AllByRecursion (IsItem n) items → ArePlain (map item_fields items)
 items_plain n [] few h = tt
 items_plain n (r ∷ rs) few h = (item_plain n r few h.0, items_plain n rs few h.1)
 
 -- all operations of a subtransaction
-ops_plain : (n : ℕ) (items : List ItemRow) (kind : TreeKind) (node : ℕ) (os : List SubOp) → AllByRecursion (IsItem n) items → AllByRecursion (IsOp items kind node) os → AllByRecursion (λ (o : SubOp). IsTrue (is_in_range o.deed)) os
+ops_plain : (n : ℕ) (items : List ItemRow) (kind : TreeKind) (node : ℕ) (os : List SubOp) → AllByRecursion (IsItem n) items → AllByRecursion (IsOp items kind node) os → AllByRecursion (λ (o : SubOp). IsTrue (is_in_range forms.Two o.deed)) os
     → ArePlain (ops_rows items os)
 ops_plain n items kind node [] all h small = tt
 ops_plain n items kind node (o ∷ os) all h small =
     (deed_plain (name_at o.item.0 items) o.deed (op_named n items o.item.0 kind node o all h.0) (small_deed o.deed small.0), ops_plain n items kind node os all h.1 small.1)
 
 -- all subtransactions behind the root
-subs_plain : (n : ℕ) (items : List ItemRow) (kind : TreeKind) (k : ℕ) (xs : List Sub) → n ≤ 16 → 0 < k → k + length xs ≤ 64 → AllByRecursion (IsItem n) items → AreSubs n items kind k xs → ArePlain (subs_rows items xs)
+subs_plain : (n : ℕ) (items : List ItemRow) (kind : TreeKind) (k : ℕ) (xs : List Sub) → n ≤ 64 → 0 < k → k + length xs ≤ 64 → AllByRecursion (IsItem n) items → AreSubs n items kind k xs → ArePlain (subs_rows items xs)
 subs_plain n items kind k [] few some room all h = tt
 subs_plain n items kind k (x ∷ xs) few some room all h = (
   sub_plain x (omega (arith, h.0.parent some)) (omega (arith, h.0.node)),
@@ -158,7 +165,7 @@ subs_plain n items kind k (x ∷ xs) few some room all h = (
 )
 
 -- a tree
-rooted_plain : (n : ℕ) (items : List ItemRow) (kind : TreeKind) (name : List ℕ) (xs : List Sub) → n ≤ 16 → length xs ≤ 64 → IsTrue (is_name name) → AllByRecursion (IsItem n) items → AreSubs n items kind 0 xs → ArePlain (tree_rows items kind name xs)
+rooted_plain : (n : ℕ) (items : List ItemRow) (kind : TreeKind) (name : List ℕ) (xs : List Sub) → n ≤ 64 → length xs ≤ 64 → IsTrue (is_name name) → AllByRecursion (IsItem n) items → AreSubs n items kind 0 xs → ArePlain (tree_rows items kind name xs)
 rooted_plain n items kind name [] few room named all h = tt
 rooted_plain n items kind name (x ∷ xs) few room named all h = (
   tree_plain kind name x.node.0 named (omega (arith, h.0.node)),
@@ -166,22 +173,36 @@ rooted_plain n items kind name (x ∷ xs) few room named all h = (
 )
 
 -- a tree by its number
-tree_at_plain : (n : ℕ) (items : List ItemRow) (ts : List Tree) (i : ℕ) → n ≤ 16 → AllByRecursion (IsItem n) items → AllByRecursion (IsTree n items) ts → ArePlain (rows_of_tree items (slice_get ts i))
+tree_at_plain : (n : ℕ) (items : List ItemRow) (ts : List Tree) (i : ℕ) → n ≤ 64 → AllByRecursion (IsItem n) items → AllByRecursion (IsTree n items) ts → ArePlain (rows_of_tree items (slice_get ts i))
 tree_at_plain n items [] i few all h = tt
 tree_at_plain n items (t ∷ ts) zero few all h = rooted_plain n items t.kind t.name t.subs few h.0.few h.0.name all h.0.subs
 tree_at_plain n items (t ∷ ts) (suc i) few all h = tree_at_plain n items ts i few all h.1
 
 -- all rows with their trees
-rows_plain : (n : ℕ) (items : List ItemRow) (ts : List Tree) (rs : List ScriptRow) → n ≤ 16 → AllByRecursion (IsItem n) items → AllByRecursion (IsTree n items) ts → ArePlain (rows_of_rows items ts rs)
+rows_plain : (n : ℕ) (items : List ItemRow) (ts : List Tree) (rs : List ScriptRow) → n ≤ 64 → AllByRecursion (IsItem n) items → AllByRecursion (IsTree n items) ts → ArePlain (rows_of_rows items ts rs)
 rows_plain n items ts [] few all h = tt
 rows_plain n items ts (rows.Tree t ∷ rs) few all h = plain-append (rows_of_tree items (slice_get ts t.0)) (rows_of_rows items ts rs) (tree_at_plain n items ts t.0 few all h) (rows_plain n items ts rs few all h)
 rows_plain n items ts (rows.Advance ∷ rs) few all h = (record { head = _; tail = _; is = refl; some = omega arith; first = refl; rest = tt }, rows_plain n items ts rs few all h)
 rows_plain n items ts (rows.Settle ∷ rs) few all h = (record { head = _; tail = _; is = refl; some = omega arith; first = refl; rest = tt }, rows_plain n items ts rs few all h)
+rows_plain n items ts (rows.Lose ∷ rs) few all h = (record { head = _; tail = _; is = refl; some = omega arith; first = refl; rest = tt }, rows_plain n items ts rs few all h)
 
--- all rows of a valid script that has no picks
-pub all_plain : (s : ScriptData) → IsValid s → s.picks ≡ [] → ArePlain (rows_of s)
-all_plain s h none = (
-  nodes_plain s.nodes h.few_nodes,
-  plain-append (map item_fields s.items) (rows_of_rows s.items s.trees s.rows ++ map pick_fields s.picks) (items_plain s.nodes s.items h.few_nodes h.items)
-      (plain-append (rows_of_rows s.items s.trees s.rows) (map pick_fields s.picks) (rows_plain s.nodes s.items s.trees s.rows h.few_nodes h.items h.trees) (rw none tt)),
-)
+-- the row of the second form
+form_plain : (f : Form) → ArePlain (form_rows f)
+form_plain forms.One = tt
+form_plain forms.Two = (record { head = _; tail = _; is = refl; some = omega arith; first = refl; rest = (refl, tt) }, tt)
+
+-- all picks
+picks_plain : (ks : List ℕ) → AreSmall ks → ArePlain (map pick_fields ks)
+picks_plain [] small = tt
+picks_plain (k ∷ ks) small = (pick_plain k (small 0), picks_plain ks (λ i. small (suc i)))
+
+-- all rows of a valid script
+pub all_plain : (s : ScriptData) → IsValid s → AreSmall s.picks → ArePlain (rows_of s)
+all_plain s h small =
+    let few = few_nodes s h in
+    let behind : ArePlain (rows_behind s) = (
+      nodes_plain s.nodes few,
+      plain-append (map item_fields s.items) (rows_of_rows s.items s.trees s.rows ++ map pick_fields s.picks) (items_plain s.nodes s.items few h.items)
+          (plain-append (rows_of_rows s.items s.trees s.rows) (map pick_fields s.picks) (rows_plain s.nodes s.items s.trees s.rows few h.items h.trees) (picks_plain s.picks small)),
+    ) in
+    plain-append (form_rows s.form) (rows_behind s) (form_plain s.form) behind

@@ -8,7 +8,7 @@ use Rattle.tx_trees.specs.declared.parts.Sub.{Sub}
 use Rattle.tx_trees.specs.declared.parts.SubOp.{SubOp}
 use Rattle.tx_trees.specs.declared.parts.Tree.{Tree}
 use Rattle.tx_trees.specs.declared.parts.TreeKind.{TreeKind}
-use Rattle.script_reader.specs.Written.{item_fields, line, lines, nodes_fields, ops_rows, pick_fields, rows_of_row, rows_of_rows, sub_fields, subs_rows, tree_fields, tree_rows, written}
+use Rattle.script_reader.specs.Written.{form_rows, item_fields, line, lines, nodes_fields, ops_rows, pick_fields, rows_behind, rows_of_row, rows_of_rows, sub_fields, subs_rows, tree_fields, tree_rows, written}
 
 -- the lines of rows behind rows
 pub lines-append : (a b : List (List (List ℕ))) → lines (a ++ b) ≡ lines a ++ lines b
@@ -58,13 +58,19 @@ tree_pushed items kind name (y ∷ ys) ss x ops t a b u r some same here sops ha
     on_ok r _ _ (λ e. e ∙ ap (λ (zs : List Sub). b ++ lines (subs_rows items zs)) (behind_first y ys) ∙ regroup) h
 
 -- all parts, one behind the other
-pub all_pushed : (s : ScriptData) (t a b c d : List ℕ) → t ≡ [] → a ≡ t ++ line (nodes_fields s.nodes) → b ≡ a ++ lines (map item_fields s.items) → c ≡ b ++ lines (rows_of_rows s.items s.trees s.rows)
+pub all_pushed : (s : ScriptData) (t f a b c d : List ℕ) → t ≡ [] → f ≡ t ++ lines (form_rows s.form) → a ≡ f ++ line (nodes_fields s.nodes) → b ≡ a ++ lines (map item_fields s.items) → c ≡ b ++ lines (rows_of_rows s.items s.trees s.rows)
     → d ≡ c ++ lines (map pick_fields s.picks) → d ≡ written s
-all_pushed s t a b c d ht ha hb hc hd =
+all_pushed s t f a b c d ht hf ha hb hc hd =
     let rest = lines-append (map item_fields s.items) (rows_of_rows s.items s.trees s.rows ++ map pick_fields s.picks)
     ∙ ap (λ (y : List ℕ). lines (map item_fields s.items) ++ y) (lines-append (rows_of_rows s.items s.trees s.rows) (map pick_fields s.picks)) in
-    let start : a ≡ line (nodes_fields s.nodes) = ha ∙ rw ht refl in
-    hd ∙ rw (hc, hb, start) (simp append_assoc) ∙ ap (λ (y : List ℕ). line (nodes_fields s.nodes) ++ y) (sym rest)
+    let first : f ≡ lines (form_rows s.form) = hf ∙ rw ht refl in
+    hd
+    ∙ all_of (lines (form_rows s.form)) (line (nodes_fields s.nodes)) (lines (map item_fields s.items)) (lines (rows_of_rows s.items s.trees s.rows)) (lines (map pick_fields s.picks)) f a b c first ha hb hc
+    ∙ ap (λ (y : List ℕ). lines (form_rows s.form) ++ (line (nodes_fields s.nodes) ++ y)) (sym rest)
+    ∙ sym (lines-append (form_rows s.form) (rows_behind s))
+  where
+    all_of : (F N I R P f a b c : List ℕ) → f ≡ F → a ≡ f ++ N → b ≡ a ++ I → c ≡ b ++ R → c ++ P ≡ F ++ (N ++ (I ++ (R ++ P)))
+    all_of F N I R P f a b c hf ha hb hc = rw (hc, hb, ha, hf) (simp append_assoc)
 
 -- a script's parts, by what its readers gave
 pub rows_are : (t : List ℕ) (items : List ItemRow) (ts : List Tree) (rs : List ScriptRow) (s : ScriptData) → items ≡ s.items → ts ≡ s.trees → rs ≡ s.rows → t ++ lines (rows_of_rows items ts rs) ≡ t ++ lines (rows_of_rows s.items s.trees s.rows)

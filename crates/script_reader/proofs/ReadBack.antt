@@ -1,16 +1,21 @@
 -- What is written of a script is read as the same script.
 use Rattle.std.proofs.Common.{◌≡◌, ◌+◌, ◌<◌, ◌≤◌, ◌∙◌, ◌++◌, ℕ, zero, suc, false, List, [], ◌∷◌, length, map, Result, Ok, Err, refl, sym, ap, subst, arith, append_assoc}
-use Rattle.std.specs.Prelude.{IsTrue, nat_lt, slice_get}
+use Rattle.std.specs.Prelude.{IsTrue, nat_lt, Option, slice_get}
 use Rattle.std.specs.List.{AllByRecursion}
 use Rattle.std.proofs.lemmas.Bool.{lt-leb}
 use Rattle.std.proofs.lemmas.List.{append-nil}
-use Rattle.csv.specs.Reading.{strip_bom}
+use Rattle.csv.specs.Reading.{default_config, records_from, strip_bom}
+use Rattle.csv.specs.declared.parser.State.TheVariants as st
 use Rattle.tx_trees.proofs.Rebuilding.{is_rebuilt}
-use Rattle.tx_trees.specs.Adding.{adds_item, adds_op, adds_settle, adds_sub, adds_tree, fresh}
+use Rattle.tx_trees.proofs.SubsOf.{few_nodes}
+use Rattle.tx_trees.specs.Adding.{adds_item, adds_op, adds_pick, adds_settle, adds_sub, adds_tree, fresh}
+use Rattle.tx_trees.specs.Forms.{most_nodes}
 use Rattle.tx_trees.specs.Ranges.{is_in_range}
 use Rattle.tx_trees.specs.Rebuilt.{items_added, name_at, ops_added, picks_added, rebuilt, rooted_added, rows_added, subs_added, then_more, tree_added}
 use Rattle.tx_trees.specs.ScriptData.{ScriptData}
 use Rattle.tx_trees.specs.Valid.{AreSubs, IsItem, IsOp, IsTree, IsValid}
+use Rattle.tx_trees.specs.declared.parts.Form.{Form}
+use Rattle.tx_trees.specs.declared.parts.Form.TheVariants as forms
 use Rattle.tx_trees.specs.declared.parts.ItemRow.{ItemRow}
 use Rattle.tx_trees.specs.declared.parts.ScriptRow.{ScriptRow}
 use Rattle.tx_trees.specs.declared.parts.ScriptRow.TheVariants as rows
@@ -20,15 +25,16 @@ use Rattle.tx_trees.specs.declared.parts.Tree.{Tree}
 use Rattle.tx_trees.specs.declared.parts.TreeKind.{TreeKind}
 use Rattle.tx_trees.specs.declared.why.Why.{Why}
 use Rattle.script_reader.specs.Builds.{Builds}
+use Rattle.script_reader.specs.Numbers.{AreSmall}
 use Rattle.script_reader.specs.ReadBack.{IsReadAs}
-use Rattle.script_reader.specs.Reading.{read_of, read_rows, rows_from, then_rows}
+use Rattle.script_reader.specs.Reading.{after_first, read_of, read_rows, rows_from, then_rows}
 use Rattle.script_reader.specs.Records.{records_in}
 use Rattle.script_reader.specs.Rows.{later_row}
-use Rattle.script_reader.specs.Written.{item_fields, nodes_fields, op_fields, ops_rows, pick_fields, rows_of, rows_of_rows, rows_of_tree, sub_fields, subs_rows, tree_fields, tree_rows, written}
-use Rattle.script_reader.proofs.Added.{item_is, op_taken, settle_is, sub_is, tree_is}
+use Rattle.script_reader.specs.Written.{form_rows, lines, item_fields, nodes_fields, op_fields, ops_rows, pick_fields, rows_of, rows_of_rows, rows_of_tree, sub_fields, subs_rows, tree_fields, tree_rows, written}
+use Rattle.script_reader.proofs.Added.{item_is, op_in_range, op_taken, settle_is, sub_is, tree_is}
 use Rattle.script_reader.proofs.Lines.{few_lines, lines_read}
 use Rattle.script_reader.proofs.PlainRows.{all_plain, op_named, small_deed}
-use Rattle.script_reader.proofs.RowsBack.{deed_back, item_back, nodes_back, sub_back, tree_back}
+use Rattle.script_reader.proofs.RowsBack.{deed_back, item_back, nodes_back, pick_back, second_nodes_back, sub_back, tree_back}
 use Rattle.script_reader.proofs.Script.{ends, goes_on}
 use Rattle.tx_trees.specs.Built.{is_built, IsBuiltRow}
 
@@ -68,7 +74,7 @@ record Gives (items : List ItemRow) (u : ScriptData) (rs : List (List (List ℕ)
   items_stay : v.items ≡ items
 
 -- all items
-items_back : (n : ℕ) (items : List ItemRow) (u v : ScriptData) → n ≤ 16 → AllByRecursion (IsItem n) items → items_added u items ≡ Ok v → Reads u (map item_fields items) v
+items_back : (n : ℕ) (items : List ItemRow) (u v : ScriptData) → n ≤ 64 → AllByRecursion (IsItem n) items → items_added u items ≡ Ok v → Reads u (map item_fields items) v
 items_back n [] u v few all h = reads_none u v (cc h)
 items_back n (r ∷ rs) u v few all h =
     let g = goes (adds_item u r) (λ t. items_added t rs) v h in
@@ -78,7 +84,7 @@ items_back n (r ∷ rs) u v few all h =
 record AreOps (n : ℕ) (items : List ItemRow) (kind : TreeKind) (node : ℕ) (os : List SubOp) : Type 0 where
   all : AllByRecursion (IsItem n) items
   ops : AllByRecursion (IsOp items kind node) os
-  amounts : AllByRecursion (λ (o : SubOp). IsTrue (is_in_range o.deed)) os
+  amounts : AllByRecursion (λ (o : SubOp). IsTrue (is_in_range forms.Two o.deed)) os
 
 -- an operation leaves the items
 op_items : (u v : ScriptData) (name : List ℕ) (o : SubOp) → adds_op u name o.deed ≡ Ok v → v.items ≡ u.items
@@ -91,12 +97,12 @@ ops_back n items kind node (o ∷ os) u v a same h =
     let g = goes (adds_op u (name_at o.item.0 u.items) o.deed) (λ t. ops_added t os) v h in
     let name = name_at o.item.0 items in
     let added : adds_op u name o.deed ≡ Ok g.first = ap (λ (xs : List ItemRow). adds_op u (name_at o.item.0 xs) o.deed) (sym same) ∙ g.is in
-    let row = deed_back u name o.deed (op_named n items o.item.0 kind node o a.all a.ops.0) a.amounts.0 (small_deed o.deed a.amounts.0) in
+    let row = deed_back u name o.deed (op_named n items o.item.0 kind node o a.all a.ops.0) (op_in_range u g.first name o.deed added) (small_deed o.deed a.amounts.0) in
     let rest = ops_back n items kind node os g.first v (record { all = a.all; ops = a.ops.1; amounts = a.amounts.1 }) (op_items u g.first name o added ∙ same) g.rest in
     record { reads = reads_one u g.first v (op_fields items o) (ops_rows items os) (row ∙ added) rest.reads; items_stay = rest.items_stay }
 
 -- the subtransactions behind the root
-subs_back : (n : ℕ) (items : List ItemRow) (kind : TreeKind) (k : ℕ) (xs : List Sub) (u v : ScriptData) → n ≤ 16 → 0 < k → k + length xs ≤ 64 → AllByRecursion (IsItem n) items → AreSubs n items kind k xs → u.items ≡ items
+subs_back : (n : ℕ) (items : List ItemRow) (kind : TreeKind) (k : ℕ) (xs : List Sub) (u v : ScriptData) → n ≤ 64 → 0 < k → k + length xs ≤ 64 → AllByRecursion (IsItem n) items → AreSubs n items kind k xs → u.items ≡ items
     → subs_added u xs ≡ Ok v → Gives items u (subs_rows items xs) v
 subs_back n items kind k [] u v few some room all subs same h = let e : u ≡ v = cc h in record { reads = reads_none u v e; items_stay = sym (ap (λ (w : ScriptData). w.items) e) ∙ same }
 subs_back n items kind k (x ∷ xs) u v few some room all subs same h =
@@ -112,7 +118,7 @@ subs_back n items kind k (x ∷ xs) u v few some room all subs same h =
     }
 
 -- a tree with its root and the others
-rooted_back : (n : ℕ) (items : List ItemRow) (t : Tree) (xs : List Sub) (u v : ScriptData) → n ≤ 16 → length xs ≤ 64 → AllByRecursion (IsItem n) items → AreSubs n items t.kind 0 xs → IsTrue (is_built t.kind) → u.items ≡ items
+rooted_back : (n : ℕ) (items : List ItemRow) (t : Tree) (xs : List Sub) (u v : ScriptData) → n ≤ 64 → length xs ≤ 64 → AllByRecursion (IsItem n) items → AreSubs n items t.kind 0 xs → IsTrue (is_built t.kind) → u.items ≡ items
     → rooted_added u t.name t.kind xs ≡ Ok v → Gives items u (tree_rows items t.kind t.name xs) v
 rooted_back n items t [] u v few room all subs built same h = absurd (cc h)
 rooted_back n items t (x ∷ xs) u v few room all subs built same h =
@@ -128,14 +134,14 @@ rooted_back n items t (x ∷ xs) u v few room all subs built same h =
     }
 
 -- a tree by its number
-tree_at_back : (n : ℕ) (items : List ItemRow) (ts : List Tree) (i : ℕ) (u v : ScriptData) → n ≤ 16 → AllByRecursion (IsItem n) items → AllByRecursion (IsTree n items) ts → AllByRecursion (λ (t : Tree). IsTrue (is_built t.kind)) ts → u.items ≡ items
+tree_at_back : (n : ℕ) (items : List ItemRow) (ts : List Tree) (i : ℕ) (u v : ScriptData) → n ≤ 64 → AllByRecursion (IsItem n) items → AllByRecursion (IsTree n items) ts → AllByRecursion (λ (t : Tree). IsTrue (is_built t.kind)) ts → u.items ≡ items
     → tree_added u (slice_get ts i) ≡ Ok v → Gives items u (rows_of_tree items (slice_get ts i)) v
 tree_at_back n items [] i u v few all trees built same h = absurd (cc h)
 tree_at_back n items (t ∷ ts) zero u v few all trees built same h = rooted_back n items t t.subs u v few trees.0.few all trees.0.subs built.0 same h
 tree_at_back n items (t ∷ ts) (suc i) u v few all trees built same h = tree_at_back n items ts i u v few all trees.1 built.1 same h
 
 -- all rows with their trees
-rows_back : (n : ℕ) (items : List ItemRow) (ts : List Tree) (rs : List ScriptRow) (u v : ScriptData) → n ≤ 16 → AllByRecursion (IsItem n) items → AllByRecursion (IsTree n items) ts → AllByRecursion (λ (t : Tree). IsTrue (is_built t.kind)) ts
+rows_back : (n : ℕ) (items : List ItemRow) (ts : List Tree) (rs : List ScriptRow) (u v : ScriptData) → n ≤ 64 → AllByRecursion (IsItem n) items → AllByRecursion (IsTree n items) ts → AllByRecursion (λ (t : Tree). IsTrue (is_built t.kind)) ts
     → AllByRecursion IsBuiltRow rs → u.items ≡ items → rows_added ts u rs ≡ Ok v → Reads u (rows_of_rows items ts rs) v
 rows_back n items ts [] u v few all trees built rows same h = reads_none u v (cc h)
 rows_back n items ts (rows.Tree i ∷ rs) u v few all trees built row same h =
@@ -143,15 +149,23 @@ rows_back n items ts (rows.Tree i ∷ rs) u v few all trees built row same h =
     let tree = tree_at_back n items ts i.0 u g.first few all trees built same g.is in
     reads_both u g.first v (rows_of_tree items (slice_get ts i.0)) (rows_of_rows items ts rs) tree.reads (rows_back n items ts rs g.first v few all trees built row.1 tree.items_stay g.rest)
 rows_back n items ts (rows.Advance ∷ rs) u v few all trees built row same h = absurd row.0
+rows_back n items ts (rows.Lose ∷ rs) u v few all trees built row same h = absurd row.0
 rows_back n items ts (rows.Settle ∷ rs) u v few all trees built row same h =
     let g = goes (adds_settle u) (λ w. rows_added ts w rs) v h in
     let stays : g.first.items ≡ items = sym (ap (λ (w : ScriptData). w.items) (settle_is u g.first g.is)) ∙ same in
     reads_one u g.first v _ (rows_of_rows items ts rs) g.is (rows_back n items ts rs g.first v few all trees built row.1 stays g.rest)
 
--- what is written is the rows, line by line
-written_rows : (s : ScriptData) → IsValid s → s.picks ≡ [] → records_in (written s) ≡ rows_of s
+-- what is written begins with no byte order mark
+no_mark : (f : Form) (n : ℕ) (rs : List (List (List ℕ))) → strip_bom (lines (form_rows f ++ nodes_fields n ∷ rs)) ≡ lines (form_rows f ++ nodes_fields n ∷ rs)
 unfolding strip_bom
-written_rows s h none = lines_read (length (written s) + 1) (rows_of s) (omega (arith, few_lines (rows_of s))) (all_plain s h none)
+no_mark forms.One n rs = refl
+no_mark forms.Two n rs = refl
+
+-- what is written is the rows, line by line
+written_rows : (s : ScriptData) → IsValid s → AreSmall s.picks → records_in (written s) ≡ rows_of s
+written_rows s h small =
+    ap (records_from default_config (length (written s) + 1) st.StartRecord) (no_mark s.form s.nodes (map item_fields s.items ++ (rows_of_rows s.items s.trees s.rows ++ map pick_fields s.picks)))
+    ∙ lines_read (length (written s) + 1) (rows_of s) (omega (arith, few_lines (rows_of s))) (all_plain s h small)
 
 -- what is added stands behind what is there
 items_stand : (items : List ItemRow) (u v : ScriptData) → items_added u items ≡ Ok v → v.items ≡ u.items ++ items
@@ -161,39 +175,46 @@ items_stand (r ∷ rs) u v h =
     let one : u.items ++ r ∷ [] ≡ g.first.items = ap (λ (w : ScriptData). w.items) (item_is u g.first r g.is) in
     items_stand rs g.first v g.rest ∙ ap (λ (xs : List ItemRow). xs ++ rs) (sym one) ∙ append_assoc u.items (r ∷ []) rs
 
--- no pick is read
-no_picks : (ks : List ℕ) (u v : ScriptData) → ks ≡ [] → picks_added u ks ≡ Ok v → Reads u (map pick_fields ks) v
-no_picks [] u v none h = reads_none u v (cc h)
-no_picks (k ∷ ks) u v none h = absurd (cc none)
+-- all picks
+picks_back : (ks : List ℕ) (u v : ScriptData) → AreSmall ks → picks_added u ks ≡ Ok v → Reads u (map pick_fields ks) v
+picks_back [] u v small h = reads_none u v (cc h)
+picks_back (k ∷ ks) u v small h =
+    let g = goes (adds_pick u k) (λ t. picks_added t ks) v h in
+    reads_one u g.first v (pick_fields k) (map pick_fields ks) (pick_back u k (small 0) ∙ g.is) (picks_back ks g.first v (λ i. small (suc i)) g.rest)
 
--- from the `nodes` row on
-nodes_then : (s u : ScriptData) (rs : List (List (List ℕ))) → IsValid s → Reads (fresh s.nodes) rs u → read_rows (nodes_fields s.nodes ∷ rs) ≡ Ok u
-nodes_then s u rs h reads =
-    let start = ap (λ (x : Result ScriptData Why). then_rows 1 x (λ t. rows_from t 2 rs)) (nodes_back s.nodes h.some_nodes h.few_nodes) in
+-- from the `nodes` row on, behind the row of the second form where it is there
+nodes_then : (f : Form) (n : ℕ) (u : ScriptData) (rs : List (List (List ℕ))) → 1 ≤ n → n ≤ most_nodes f → Reads (fresh f n) rs u → read_rows (form_rows f ++ nodes_fields n ∷ rs) ≡ Ok u
+nodes_then forms.One n u rs some few reads =
+    let start = ap (λ (x : Result (Option ScriptData) Why). after_first x rs) (nodes_back n some few) in
     let rest = reads 2 [] in
-    start ∙ ap (rows_from (fresh s.nodes) 2) (sym (append-nil rs)) ∙ rest.1 ∙ ends u rest.0 [] refl
+    start ∙ ap (rows_from (fresh forms.One n) 2) (sym (append-nil rs)) ∙ rest.1 ∙ ends u rest.0 [] refl
+nodes_then forms.Two n u rs some few reads =
+    let start = ap (λ (x : Result ScriptData Why). then_rows 2 x (λ t. rows_from t 3 rs)) (second_nodes_back n some few) in
+    let rest = reads 3 [] in
+    start ∙ ap (rows_from (fresh forms.Two n) 3) (sym (append-nil rs)) ∙ rest.1 ∙ ends u rest.0 [] refl
 
--- without picks, what builds a script again reads its rows
-rows_read : (s u : ScriptData) → IsValid s → Builds s → rebuilt s ≡ Ok u → read_rows (rows_of s) ≡ Ok u
-rows_read s u h b is =
-    let g = goes (items_added (fresh s.nodes) s.items) (λ t. then_more (rows_added s.trees t s.rows) (λ w. picks_added w s.picks)) u is in
+-- what builds a script again reads its rows
+rows_read : (s u : ScriptData) → IsValid s → Builds s → AreSmall s.picks → rebuilt s ≡ Ok u → read_rows (rows_of s) ≡ Ok u
+rows_read s u h b small is =
+    let g = goes (items_added (fresh s.form s.nodes) s.items) (λ t. then_more (rows_added s.trees t s.rows) (λ w. picks_added w s.picks)) u is in
     let f = goes (rows_added s.trees g.first s.rows) (λ w. picks_added w s.picks) u g.rest in
-    let items = items_back s.nodes s.items (fresh s.nodes) g.first h.few_nodes h.items g.is in
-    let stays : g.first.items ≡ s.items = items_stand s.items (fresh s.nodes) g.first g.is in
-    let rows = rows_back s.nodes s.items s.trees s.rows g.first f.first h.few_nodes h.items h.trees b.trees b.rows stays f.is in
-    let picks = no_picks s.picks f.first u b.picks f.rest in
-    nodes_then s u (map item_fields s.items ++ (rows_of_rows s.items s.trees s.rows ++ map pick_fields s.picks)) h
-    (reads_both (fresh s.nodes) g.first u (map item_fields s.items) (rows_of_rows s.items s.trees s.rows ++ map pick_fields s.picks) items
+    let few = few_nodes s h in
+    let items = items_back s.nodes s.items (fresh s.form s.nodes) g.first few h.items g.is in
+    let stays : g.first.items ≡ s.items = items_stand s.items (fresh s.form s.nodes) g.first g.is in
+    let rows = rows_back s.nodes s.items s.trees s.rows g.first f.first few h.items h.trees b.trees b.rows stays f.is in
+    let picks = picks_back s.picks f.first u small f.rest in
+    nodes_then s.form s.nodes u (map item_fields s.items ++ (rows_of_rows s.items s.trees s.rows ++ map pick_fields s.picks)) h.some_nodes h.few_nodes
+    (reads_both (fresh s.form s.nodes) g.first u (map item_fields s.items) (rows_of_rows s.items s.trees s.rows ++ map pick_fields s.picks) items
     (reads_both g.first f.first u (rows_of_rows s.items s.trees s.rows) (map pick_fields s.picks) rows picks))
 
 -- what is written of a script of built forms is read as the same script
-read_back : (s : ScriptData) → IsValid s → length (written s) ≤ 8388608 → Builds s → IsReadAs (written s) s
-read_back s h few b =
+read_back : (s : ScriptData) → IsValid s → AreSmall s.picks → length (written s) ≤ 8388608 → Builds s → IsReadAs (written s) s
+read_back s h small few b =
     let again = is_rebuilt s h in
     let short : nat_lt 8388608 (length (written s)) ≡ false = lt-leb 8388609 (length (written s)) (omega (arith, few)) in
     let read : read_of (written s) ≡ read_rows (records_in (written s)) = rw short refl in
-    (again.0, read ∙ ap read_rows (written_rows s h b.picks) ∙ rows_read s again.0 h b again.1, again.2)
+    (again.0, read ∙ ap read_rows (written_rows s h small) ∙ rows_read s again.0 h b small again.1, again.2)
 
 -- the same of a text that is equal to what is written
-pub text_read : (s : ScriptData) (text : List ℕ) → IsValid s → text ≡ written s → length text ≤ 8388608 → Builds s → IsReadAs text s
-text_read s text h is few b = subst (λ (x : List ℕ). IsReadAs x s) (sym is) (read_back s h (subst (λ (x : List ℕ). length x ≤ 8388608) is few) b)
+pub text_read : (s : ScriptData) (text : List ℕ) → IsValid s → AreSmall s.picks → text ≡ written s → length text ≤ 8388608 → Builds s → IsReadAs text s
+text_read s text h small is few b = subst (λ (x : List ℕ). IsReadAs x s) (sym is) (read_back s h small (subst (λ (x : List ℕ). length x ≤ 8388608) is few) b)

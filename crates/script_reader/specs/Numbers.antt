@@ -1,5 +1,5 @@
 -- Numbers and amounts as their digits.
-use Rattle.std.specs.Prelude.{ℕ, Bool, false, ◌+◌, ◌*◌, ◌-◌, ◌&&◌, ◌==◌, nat_le, ℤ, pos, ◌-ℤ◌, List, [], ◌∷◌, length, fold, Option, Some, None, if◌then◌else◌}
+use Rattle.std.specs.Prelude.{ℕ, Bool, false, ◌+◌, ◌*◌, ◌-◌, ◌&&◌, ◌==◌, ◌<◌, ◌^◌, nat_le, ℤ, pos, ◌-ℤ◌, List, [], ◌∷◌, length, fold, Option, Some, None, if◌then◌else◌, slice_index}
 use Rattle.std.specs.List.{list_all}
 
 -- a decimal digit
@@ -47,3 +47,7 @@ amount_value bytes = signed (is_negative bytes) (size_of bytes)
 -- the amount that bytes spell, if they do
 abbrev pub amount_of : List ℕ → Option ℤ
 amount_of bytes = if is_amount bytes then Some (amount_value bytes) else None
+
+-- numbers of 32 bits
+abbrev pub AreSmall : List ℕ → Type 0
+AreSmall ks = (i : ℕ) → slice_index ks i < 2 ^ 32

@@ -1,12 +1,12 @@
 -- The script that bytes are, or the first fault.
-use Rattle.std.specs.Prelude.{ℕ, ◌≡◌, ◌+◌, nat_lt, List, [], ◌∷◌, length, Result, Ok, Err, if◌then◌else◌, ⊤}
+use Rattle.std.specs.Prelude.{ℕ, ◌≡◌, ◌+◌, nat_lt, List, [], ◌∷◌, length, Option, Some, None, Result, Ok, Err, if◌then◌else◌, ⊤}
 use Rattle.tx_trees.specs.ScriptData.{ScriptData}
 use Rattle.tx_trees.specs.declared.why.Why.{Why}
 use Rattle.tx_trees.specs.declared.why.Why.TheVariants as why
 use Rattle.tx_trees.specs.declared.why.Refusal.{Refusal}
 use Rattle.tx_trees.specs.declared.why.Refusal.TheVariants as refusals
 use Rattle.script_reader.specs.Records.{records_in}
-use Rattle.script_reader.specs.Rows.{first_row, later_row}
+use Rattle.script_reader.specs.Rows.{first_row, later_row, second_row}
 use Rattle.script_reader.specs.declared.reading.ScriptFault.{ScriptFault}
 use Rattle.script_reader.specs.declared.reading.ScriptRefusal.{ScriptRefusal}
 use Rattle.script_reader.specs.declared.reading.ScriptRefusal.TheVariants as ends
@@ -30,10 +30,21 @@ unfoldable pub rows_from : ScriptData → ℕ → List (List (List ℕ)) → Res
 rows_from s row [] = Ok s
 rows_from s row (r ∷ rs) = then_rows row (later_row s r) (λ t. rows_from t (row + 1) rs)
 
--- all records: the first makes a script, and each later one adds to it
+-- the records behind one that names the second form: the first of them makes a script
+abbrev pub second_rows : List (List (List ℕ)) → Result ScriptData ScriptFault
+second_rows [] = Err (fault 2 why.NodesFirst)
+second_rows (r ∷ rs) = then_rows 2 (second_row r) (λ s. rows_from s 3 rs)
+
+-- the records behind the first
+abbrev pub after_first : Result (Option ScriptData) Why → List (List (List ℕ)) → Result ScriptData ScriptFault
+after_first (Err w) rs = Err (fault 1 w)
+after_first (Ok None) rs = second_rows rs
+after_first (Ok (Some s)) rs = rows_from s 2 rs
+
+-- all records: the first makes a script, or names the second form, and then the second does; each later one adds to it
 abbrev pub read_rows : List (List (List ℕ)) → Result ScriptData ScriptFault
 read_rows [] = Err (fault 1 why.NodesFirst)
-read_rows (r ∷ rs) = then_rows 1 (first_row r) (λ s. rows_from s 2 rs)
+read_rows (r ∷ rs) = after_first (first_row r) rs
 
 -- the script that bytes are, or the first faulty record and the lowest of its reasons
 abbrev pub read_of : List ℕ → Result ScriptData ScriptFault

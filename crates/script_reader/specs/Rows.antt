@@ -1,22 +1,24 @@
 -- What each row does to a script, with its conditions in the order of their numbers.
-use Rattle.std.specs.Prelude.{ℕ, ℤ, Bool, false, not, ◌≡◌, ◌&&◌, ◌||◌, nat_le, List, [], ◌∷◌, length, get_or, Option, Some, None, is_some, Result, Ok, Err, if◌then◌else◌, unsigned_abs, ⊤}
-use Rattle.commute_ops.specs.declared.kinds.TheConstants.{MOST_AMOUNT}
+use Rattle.std.specs.Prelude.{ℕ, ℤ, Bool, false, not, ◌≡◌, ◌==◌, ◌&&◌, ◌||◌, nat_le, List, [], ◌∷◌, length, get_or, Option, Some, None, is_some, Result, Ok, Err, if◌then◌else◌, unsigned_abs, ⊤}
 use Rattle.commute_ops.specs.declared.kinds.Kind.{Kind}
 use Rattle.commute_ops.specs.declared.kinds.Op.TheVariants as applied
 use Rattle.tv_base.specs.declared.numbers.NodeNo.{NodeNo}
 use Rattle.tx_trees.specs.ScriptData.{ScriptData}
-use Rattle.tx_trees.specs.Adding.{adds_advance, adds_item, adds_op, adds_pick, adds_settle, adds_sub, adds_tree, fresh, place_of}
+use Rattle.tx_trees.specs.Adding.{adds_advance, adds_item, adds_lose, adds_op, adds_pick, adds_settle, adds_sub, adds_tree, fresh, place_of}
+use Rattle.tx_trees.specs.Forms.{most_amount, most_nodes}
 use Rattle.tx_trees.specs.Names.{has_name_len, is_name}
 use Rattle.tx_trees.specs.Ranges.{is_in_range, may_start}
 use Rattle.tx_trees.specs.declared.parts.Deed.{Deed}
 use Rattle.tx_trees.specs.declared.parts.Deed.TheVariants as deeds
+use Rattle.tx_trees.specs.declared.parts.Form.{Form}
+use Rattle.tx_trees.specs.declared.parts.Form.TheVariants as forms
 use Rattle.tx_trees.specs.declared.parts.TreeKind.{TreeKind}
 use Rattle.tx_trees.specs.declared.why.Why.{Why}
 use Rattle.tx_trees.specs.declared.why.Why.TheVariants as why
 use Rattle.tx_trees.specs.declared.why.Refusal.{Refusal}
 use Rattle.tx_trees.specs.declared.why.Refusal.TheVariants as refusals
 use Rattle.script_reader.specs.Numbers.{amount_value, decimal_value, is_amount, is_number}
-use Rattle.script_reader.specs.Words.{kind_of, len_fits, word_of}
+use Rattle.script_reader.specs.Words.{first_word, kind_of, later_word, len_fits}
 use Rattle.script_reader.specs.declared.words.OpWord.{OpWord}
 use Rattle.script_reader.specs.declared.words.OpWord.TheVariants as ops
 use Rattle.script_reader.specs.declared.words.RowWord.{RowWord}
@@ -39,6 +41,12 @@ Makes made (Ok s) = made ≡ Ok s
 Makes made (Err (refusals.Why w)) = made ≡ Err w
 Makes made (Err refusals.NoMemory) = ⊤
 
+-- what the first record made: a script, or, where it names the second form, none yet
+abbrev pub Begins : Result (Option ScriptData) Why → Result (Option ScriptData) Refusal → Type 0
+Begins begun (Ok s) = begun ≡ Ok s
+Begins begun (Err (refusals.Why w)) = begun ≡ Err w
+Begins begun (Err refusals.NoMemory) = ⊤
+
 -- what a call made of a script that it was lent, or why it did not
 abbrev pub Leaves : {T : Type 0} → Result ScriptData Why → Result T Refusal → ScriptData → Type 0
 Leaves made (Ok done) new = made ≡ Ok new
@@ -49,17 +57,22 @@ Leaves made (Err refusals.NoMemory) new = ⊤
 abbrev pub node_no : ℕ → NodeNo
 node_no n = record { 0 = n }
 
+-- `threev,2`: the script is of the second form
+abbrev pub form_row : List ℕ → Result (Option ScriptData) Why
+form_row form =
+    unless ((not (is_number form), why.BadNumber) ∷ (not (decimal_value form == 2), why.OutOfRange) ∷ []) (Ok None)
+
 -- `nodes,N`
-abbrev pub nodes_row : List ℕ → Result ScriptData Why
-nodes_row nodes =
+abbrev pub nodes_row : Form → List ℕ → Result ScriptData Why
+nodes_row form nodes =
     unless ((not (is_number nodes), why.BadNumber)
-    ∷ (not (nat_le 1 (decimal_value nodes) && nat_le (decimal_value nodes) 16), why.OutOfRange) ∷ [])
-    (Ok (fresh (decimal_value nodes)))
+    ∷ (not (nat_le 1 (decimal_value nodes) && nat_le (decimal_value nodes) (most_nodes form)), why.OutOfRange) ∷ [])
+    (Ok (fresh form (decimal_value nodes)))
 
 -- an item may start with this value; of an unknown kind only the magnitude is tried
-abbrev pub starts : Option Kind → ℤ → Bool
-starts None initial = nat_le (unsigned_abs initial) MOST_AMOUNT
-starts (Some kind) initial = may_start kind initial
+abbrev pub starts : Form → Option Kind → ℤ → Bool
+starts form None initial = nat_le (unsigned_abs initial) (most_amount form)
+starts form (Some kind) initial = may_start form kind initial
 
 -- adds an item of a known kind
 abbrev pub adds_item_of : ScriptData → List ℕ → ℕ → Option Kind → ℤ → Result ScriptData Why
@@ -70,7 +83,7 @@ adds_item_of s name node (Some kind) initial =
 -- the item of a row whose numbers are read
 abbrev pub item_of : ScriptData → List ℕ → ℕ → Option Kind → ℤ → Result ScriptData Why
 item_of s name node kind initial =
-    unless ((nat_le s.nodes node || not (starts kind initial), why.OutOfRange)
+    unless ((nat_le s.nodes node || not (starts s.form kind initial), why.OutOfRange)
     ∷ (not (is_name name), why.BadName)
     ∷ (is_some (place_of name s.items), why.NameTaken) ∷ [])
     (adds_item_of s name node kind initial)
@@ -107,7 +120,7 @@ deed_of ops.Draw a = deeds.Draw a
 -- an operation on the item of this name; `get,ITEM` is one
 abbrev pub op_row : ScriptData → List ℕ → Deed → Result ScriptData Why
 op_row s item deed =
-    unless ((not (is_in_range deed), why.OutOfRange)
+    unless ((not (is_in_range s.form deed), why.OutOfRange)
     ∷ (not (has_name_len item), why.UnknownItem) ∷ [])
     (adds_op s item deed)
 
@@ -125,7 +138,11 @@ abbrev pub pick_row : ScriptData → List ℕ → Result ScriptData Why
 pick_row s place =
     unless ((not (is_number place), why.BadNumber)
     ∷ (nat_le 4294967296 (decimal_value place), why.OutOfRange) ∷ [])
-    (if_built false (adds_pick s (decimal_value place)))
+    (adds_pick s (decimal_value place))
+
+-- `lose`
+abbrev pub lose_row : ScriptData → Result ScriptData Why
+lose_row s = if_built false (adds_lose s)
 
 -- by its first field, and then by the number of its fields
 abbrev pub by_word : {A : Type 0} → List (List ℕ) → Option RowWord → (RowWord → Result A Why) → Result A Why
@@ -136,13 +153,25 @@ by_word fields (Some w) form = unless ((not (len_fits w (length fields)), why.Wr
 abbrev pub field : List (List ℕ) → ℕ → List ℕ
 field fields i = get_or fields i []
 
+-- a script that is begun
+abbrev pub begun : Result ScriptData Why → Result (Option ScriptData) Why
+begun (Ok s) = Ok (Some s)
+begun (Err w) = Err w
+
 -- the first record, by its word
-abbrev pub first_form : List (List ℕ) → RowWord → Result ScriptData Why
-first_form fields words.Nodes = nodes_row (field fields 1)
+abbrev pub first_form : List (List ℕ) → RowWord → Result (Option ScriptData) Why
+first_form fields words.Form = form_row (field fields 1)
+first_form fields words.Nodes = begun (nodes_row forms.One (field fields 1))
 first_form fields _ = Err why.NodesFirst
+
+-- the record behind one that names the second form, by its word
+abbrev pub second_form : List (List ℕ) → RowWord → Result ScriptData Why
+second_form fields words.Nodes = nodes_row forms.Two (field fields 1)
+second_form fields _ = Err why.NodesFirst
 
 -- a later record, by its word
 abbrev pub later_form : ScriptData → List (List ℕ) → RowWord → Result ScriptData Why
+later_form s fields words.Form = Err why.UnknownRow
 later_form s fields words.Nodes = Err why.NodesTwice
 later_form s fields words.Item = item_row s (field fields 1) (field fields 2) (field fields 3) (field fields 4)
 later_form s fields (words.Tree kind) = tree_row s kind (field fields 1) (field fields 2)
@@ -152,11 +181,16 @@ later_form s fields words.Get = op_row s (field fields 1) deeds.Get
 later_form s fields words.Advance = advance_row s
 later_form s fields words.Settle = adds_settle s
 later_form s fields words.Pick = pick_row s (field fields 1)
+later_form s fields words.Lose = lose_row s
 
 -- the first record
-abbrev pub first_row : List (List ℕ) → Result ScriptData Why
-first_row fields = by_word fields (word_of (field fields 0)) (first_form fields)
+abbrev pub first_row : List (List ℕ) → Result (Option ScriptData) Why
+first_row fields = by_word fields (first_word (field fields 0)) (first_form fields)
+
+-- the record behind one that names the second form
+abbrev pub second_row : List (List ℕ) → Result ScriptData Why
+second_row fields = by_word fields (later_word forms.Two (field fields 0)) (second_form fields)
 
 -- a later record
 abbrev pub later_row : ScriptData → List (List ℕ) → Result ScriptData Why
-later_row s fields = by_word fields (word_of (field fields 0)) (later_form s fields)
+later_row s fields = by_word fields (later_word s.form (field fields 0)) (later_form s fields)

@@ -1,8 +1,10 @@
 -- The words that rows begin with, and those of trees, operations and kinds.
-use Rattle.std.specs.Prelude.{ℕ, Bool, ◌==◌, List, Option, Some, None, if◌then◌else◌, codes}
+use Rattle.std.specs.Prelude.{ℕ, Bool, true, false, ◌==◌, List, Option, Some, None, if◌then◌else◌, codes}
 use Rattle.std.specs.Str.{bytes_eq}
 use Rattle.commute_ops.specs.declared.kinds.Kind.{Kind}
 use Rattle.commute_ops.specs.declared.kinds.Kind.TheVariants as kinds
+use Rattle.tx_trees.specs.Forms.{is_second}
+use Rattle.tx_trees.specs.declared.parts.Form.{Form}
 use Rattle.tx_trees.specs.declared.parts.TreeKind.{TreeKind}
 use Rattle.tx_trees.specs.declared.parts.TreeKind.TheVariants as trees
 use Rattle.script_reader.specs.declared.words.OpWord.{OpWord}
@@ -46,20 +48,47 @@ tree_or_op (Some kind) op = Some (words.Tree kind)
 tree_or_op None (Some op) = Some (words.Op op)
 tree_or_op None None = None
 
--- the form of a row, by its first field
+-- what a row is, by its first field
 abbrev pub word_of : List ℕ → Option RowWord
 word_of word =
-    if bytes_eq word (codes "nodes") then Some words.Nodes
+    if bytes_eq word (codes "threev") then Some words.Form
+    else if bytes_eq word (codes "nodes") then Some words.Nodes
     else if bytes_eq word (codes "item") then Some words.Item
     else if bytes_eq word (codes "sub") then Some words.Sub
     else if bytes_eq word (codes "get") then Some words.Get
     else if bytes_eq word (codes "advance") then Some words.Advance
     else if bytes_eq word (codes "settle") then Some words.Settle
     else if bytes_eq word (codes "pick") then Some words.Pick
+    else if bytes_eq word (codes "lose") then Some words.Lose
     else tree_or_op (tree_kind_of word) (op_word_of word)
+
+-- the first record may name the second form, and isn't of it
+abbrev pub may_be_first : RowWord → Bool
+may_be_first words.Lose = false
+may_be_first word = true
+
+-- a later record names no form; `lose` is a row word of the second form
+abbrev pub may_follow : Form → RowWord → Bool
+may_follow form words.Form = false
+may_follow form words.Lose = is_second form
+may_follow form word = true
+
+-- a row word that may stand here
+abbrev pub if_word : (RowWord → Bool) → Option RowWord → Option RowWord
+if_word may None = None
+if_word may (Some word) = if may word then Some word else None
+
+-- what the first record is
+abbrev pub first_word : List ℕ → Option RowWord
+first_word word = if_word may_be_first (word_of word)
+
+-- what a later record of this form is
+abbrev pub later_word : Form → List ℕ → Option RowWord
+later_word form word = if_word (may_follow form) (word_of word)
 
 -- the number of fields is the row's
 abbrev pub len_fits : RowWord → ℕ → Bool
+len_fits words.Form n = n == 2
 len_fits words.Nodes n = n == 2
 len_fits words.Item n = n == 5
 len_fits (words.Tree kind) n = n == 3
@@ -69,6 +98,7 @@ len_fits words.Get n = n == 2
 len_fits words.Advance n = n == 1
 len_fits words.Settle n = n == 1
 len_fits words.Pick n = n == 2
+len_fits words.Lose n = n == 1
 
 -- the kind of this word
 abbrev pub kind_of : List ℕ → Option Kind

@@ -6,6 +6,8 @@ use Rattle.tx_trees.specs.ScriptData.{ScriptData}
 use Rattle.tx_trees.specs.Rebuilt.{name_at}
 use Rattle.tx_trees.specs.declared.parts.Deed.{Deed}
 use Rattle.tx_trees.specs.declared.parts.Deed.TheVariants as deeds
+use Rattle.tx_trees.specs.declared.parts.Form.{Form}
+use Rattle.tx_trees.specs.declared.parts.Form.TheVariants as forms
 use Rattle.tx_trees.specs.declared.parts.ItemRow.{ItemRow}
 use Rattle.tx_trees.specs.declared.parts.ScriptRow.{ScriptRow}
 use Rattle.tx_trees.specs.declared.parts.ScriptRow.TheVariants as rows
@@ -29,6 +31,14 @@ line (f ∷ fs) = f ++ more_fields fs
 abbrev pub lines : List (List (List ℕ)) → List ℕ
 lines [] = []
 lines (r ∷ rs) = line r ++ lines rs
+
+-- the row that names the second form
+abbrev pub form_fields : List (List ℕ)
+form_fields = codes "threev" ∷ codes "2" ∷ []
+
+abbrev pub form_rows : Form → List (List (List ℕ))
+form_rows forms.One = []
+form_rows forms.Two = form_fields ∷ []
 
 -- the `nodes` row
 abbrev pub nodes_fields : ℕ → List (List ℕ)
@@ -87,6 +97,7 @@ abbrev pub rows_of_row : List ItemRow → List Tree → ScriptRow → List (List
 rows_of_row items ts (rows.Tree n) = rows_of_tree items (slice_get ts n.0)
 rows_of_row items ts rows.Advance = (codes "advance" ∷ []) ∷ []
 rows_of_row items ts rows.Settle = (codes "settle" ∷ []) ∷ []
+rows_of_row items ts rows.Lose = (codes "lose" ∷ []) ∷ []
 
 -- all rows, in order
 abbrev pub rows_of_rows : List ItemRow → List Tree → List ScriptRow → List (List (List ℕ))
@@ -94,8 +105,12 @@ rows_of_rows items ts [] = []
 rows_of_rows items ts (r ∷ rs) = rows_of_row items ts r ++ rows_of_rows items ts rs
 
 -- the number of nodes, all items, all rows with their trees, and then all picks
+abbrev pub rows_behind : ScriptData → List (List (List ℕ))
+rows_behind s = nodes_fields s.nodes ∷ (map item_fields s.items ++ (rows_of_rows s.items s.trees s.rows ++ map pick_fields s.picks))
+
+-- the same, behind the row of the second form where it is of that
 abbrev pub rows_of : ScriptData → List (List (List ℕ))
-rows_of s = nodes_fields s.nodes ∷ (map item_fields s.items ++ (rows_of_rows s.items s.trees s.rows ++ map pick_fields s.picks))
+rows_of s = form_rows s.form ++ rows_behind s
 
 -- the text of a script
 abbrev pub written : ScriptData → List ℕ

@@ -1,10 +1,10 @@
 // A whole script, record by record.
-ghost use Rattle.std.specs.Prelude.{◌≡◌, ◌≤◌, length};
-ghost use Rattle.script_reader.specs.Reading.{Gives, read_of, read_rows, refused_at};
+ghost use Rattle.std.specs.Prelude.{◌≡◌, ◌≤◌, ◌+◌, length};
+ghost use Rattle.script_reader.specs.Reading.{Gives, read_of, read_rows, refused_at, rows_from, second_rows};
 ghost use Rattle.script_reader.specs.Records.{AreAllRecords, records_in};
 
 use crate::records::Records;
-use crate::rows::{take_first, take_later};
+use crate::rows::{take_first, take_later, take_second};
 use csv::ByteRecord;
 use std::alloc::Global;
 use thiserror::Error;
@@ -57,8 +57,9 @@ fn at_row(row: u32, refusal: Refusal) -> ScriptRefusal
 /// The script that these bytes are, or the first fault.
 ///
 /// The bytes are records of comma separated fields, of which none is a header. One byte order mark at the start and
-/// blank lines are passed over. A text without any record has the fault `NodesFirst` at row 1, and one of more than
-/// 8,388,608 bytes the fault `TooLong` at row 0. `NoMemory` says nothing of the text.
+/// blank lines are passed over. A script whose first record is `threev,2` is of the second form. A text without any
+/// record has the fault `NodesFirst` at row 1, and one of more than 8,388,608 bytes the fault `TooLong` at row 0.
+/// `NoMemory` says nothing of the text.
 pub fn read_script(alloc: Global, bytes: &[u8]) -> Result<Script, ScriptRefusal>
     ensures script { Gives result (read_of bytes.now) }
     ensures whole { AreAllRecords bytes.now (records_in bytes.now) }
@@ -79,13 +80,49 @@ fn read_records(alloc: Global, bytes: &[u8]) -> Result<Script, ScriptRefusal>
     if !records.next(&mut row)? {
         return Err(at_row(1, Refusal::Why(Why::NodesFirst)));
     }
-    let mut script = match take_first(alloc, &row) {
-        Ok(script) => script,
+    let first = match take_first(alloc, &row) {
+        Ok(first) => first,
         Err(refusal) => return Err(at_row(1, refusal)),
     };
-    let mut at: u32 = 2;
-    while records.next(&mut row)? {
-        match take_later(&mut script, &row) {
+    match first {
+        Some(script) => read_later(script, 2, &mut records, &mut row),
+        None => read_second(alloc, &mut records, &mut row),
+    }
+}
+
+// The records behind one that names the second form.
+fn read_second(
+    alloc: Global,
+    records: &mut Records,
+    row: &mut ByteRecord,
+) -> Result<Script, ScriptRefusal>
+    requires { length records.old ≤ 8388608 }
+    ensures { Gives result (second_rows records.old) }
+{
+    if !records.next(row)? {
+        return Err(at_row(2, Refusal::Why(Why::NodesFirst)));
+    }
+    let script = match take_second(alloc, row) {
+        Ok(script) => script,
+        Err(refusal) => return Err(at_row(2, refusal)),
+    };
+    read_later(script, 3, records, row)
+}
+
+// The records from this one on, each of which adds to the script.
+fn read_later(
+    begun: Script,
+    first: u32,
+    records: &mut Records,
+    row: &mut ByteRecord,
+) -> Result<Script, ScriptRefusal>
+    requires { first + length records.old ≤ 8388611 }
+    ensures { Gives result (rows_from begun first records.old) }
+{
+    let mut script = begun;
+    let mut at = first;
+    while records.next(row)? {
+        match take_later(&mut script, row) {
             Ok(()) => at += 1,
             Err(refusal) => return Err(at_row(at, refusal)),
         }

@@ -2,36 +2,49 @@
 ghost use Rattle.std.specs.Prelude.{◌≡◌, ◌<◌, ◌^◌, unsigned_abs};
 ghost use Rattle.csv.specs.Records.{fields_of};
 ghost use Rattle.tx_trees.specs.Built.{is_built};
-ghost use Rattle.script_reader.specs.Rows.{Leaves, Makes, advance_row, amount_row, deed_of, first_row, item_of, item_row, later_row, nodes_row, op_row, pick_row, starts, sub_row, tree_row};
+ghost use Rattle.script_reader.specs.Rows.{Begins, Leaves, Makes, advance_row, amount_row, begun, deed_of, first_row, form_row, item_of, item_row, later_row, lose_row, nodes_row, op_row, pick_row, second_row, starts, sub_row, tree_row};
 
 use crate::numbers::{amount, number};
 use crate::records::field;
-use crate::words::{OpWord, RowWord, kind_of, len_fits, name_of, row_word};
-use commute_ops::{Amount, Kind, MOST_AMOUNT, Op};
+use crate::words::{OpWord, RowWord, first_word, kind_of, later_word, len_fits, name_of};
+use commute_ops::{Amount, Kind, Op};
 use csv::ByteRecord;
 use std::alloc::Global;
 use tv_base::{Name, NodeNo};
-use tx_trees::{Deed, ItemRow, Refusal, Script, TreeKind, Why, is_in_range, may_start};
+use tx_trees::{Deed, Form, ItemRow, Refusal, Script, TreeKind, Why, is_in_range, may_start};
 
-fn nodes_row_of(alloc: Global, nodes: &[u8]) -> Result<Script, Refusal>
-    ensures { Makes (nodes_row nodes.now) result }
+// Nothing is begun yet where the second form is named.
+fn form_row_of(form: &[u8]) -> Result<Option<Script>, Refusal>
+    ensures { Begins (form_row form.now) result }
+{
+    let Some(form) = number(form) else {
+        return Err(Refusal::Why(Why::BadNumber));
+    };
+    if form != 2 {
+        return Err(Refusal::Why(Why::OutOfRange));
+    }
+    Ok(None)
+}
+
+fn nodes_row_of(alloc: Global, form: Form, nodes: &[u8]) -> Result<Script, Refusal>
+    ensures { Makes (nodes_row form nodes.now) result }
 {
     let Some(nodes) = number(nodes) else {
         return Err(Refusal::Why(Why::BadNumber));
     };
-    if nodes < 1 || nodes > 16 {
+    if nodes < 1 || nodes > form.most_nodes() as u128 {
         return Err(Refusal::Why(Why::OutOfRange));
     }
-    Ok(Script::new(alloc, nodes as u8))
+    Ok(Script::new(alloc, form, nodes as u8))
 }
 
 // Whether an item may have this value at the start. Of an unknown kind only the magnitude is tried.
-fn starts(kind: Option<Kind>, initial: &Amount) -> bool
-    ensures { result ≡ starts kind initial.now }
+fn starts(form: Form, kind: Option<Kind>, initial: &Amount) -> bool
+    ensures { result ≡ starts form kind initial.now }
 {
     match kind {
-        Some(kind) => may_start(kind, *initial),
-        None => initial.unsigned_abs() <= MOST_AMOUNT as u128,
+        Some(kind) => may_start(form, kind, *initial),
+        None => initial.unsigned_abs() <= form.most_amount(),
     }
 }
 
@@ -67,7 +80,7 @@ fn add_item_of(
     if node >= script.nodes() as u128 {
         return Err(Refusal::Why(Why::OutOfRange));
     }
-    if !starts(kind, initial) {
+    if !starts(script.form(), kind, initial) {
         return Err(Refusal::Why(Why::OutOfRange));
     }
     let Some(name) = name_of(name) else {
@@ -155,7 +168,7 @@ fn deed_of(word: OpWord, amount: &Amount) -> Deed
 fn op_row_of(script: &mut Script, item: &[u8], deed: Deed) -> Result<(), Refusal>
     ensures { Leaves (op_row script.old item.now deed) result script.new }
 {
-    if !is_in_range(deed) {
+    if !is_in_range(script.form(), deed) {
         return Err(Refusal::Why(Why::OutOfRange));
     }
     let Some(item) = Name::new(item) else {
@@ -194,22 +207,56 @@ fn pick_row_of(script: &mut Script, place: &[u8]) -> Result<(), Refusal>
     if place > u32::MAX as u128 {
         return Err(Refusal::Why(Why::OutOfRange));
     }
-    script.add_pick(place as u32)?;
+    script.add_pick(place as u32)
+}
+
+fn lose_row_of(script: &mut Script) -> Result<(), Refusal>
+    requires { script.old.form ≡ Form.Two }
+    ensures { Leaves (lose_row script.old) result script.new }
+{
+    script.add_lose()?;
     Err(Refusal::Why(Why::NotBuilt))
 }
 
-// The first record makes a script.
-pub(crate) fn take_first(alloc: Global, row: &ByteRecord) -> Result<Script, Refusal>
-    ensures { Makes (first_row (fields_of row.now)) result }
+// The script of a `nodes` row in the first record.
+fn begin(alloc: Global, nodes: &[u8]) -> Result<Option<Script>, Refusal>
+    ensures { Begins (begun (nodes_row Form.One nodes.now)) result }
 {
-    let Some(word) = row_word(field(row, 0)) else {
+    match nodes_row_of(alloc, Form::One, nodes) {
+        Ok(script) => Ok(Some(script)),
+        Err(refusal) => Err(refusal),
+    }
+}
+
+// The first record makes a script, or names the second form.
+pub(crate) fn take_first(alloc: Global, row: &ByteRecord) -> Result<Option<Script>, Refusal>
+    ensures { Begins (first_row (fields_of row.now)) result }
+{
+    let Some(word) = first_word(field(row, 0)) else {
         return Err(Refusal::Why(Why::UnknownRow));
     };
     if !len_fits(word, row.len()) {
         return Err(Refusal::Why(Why::WrongFields));
     }
     match word {
-        RowWord::Nodes => nodes_row_of(alloc, field(row, 1)),
+        RowWord::Form => form_row_of(field(row, 1)),
+        RowWord::Nodes => begin(alloc, field(row, 1)),
+        _ => Err(Refusal::Why(Why::NodesFirst)),
+    }
+}
+
+// The second record makes a script where the first names the second form.
+pub(crate) fn take_second(alloc: Global, row: &ByteRecord) -> Result<Script, Refusal>
+    ensures { Makes (second_row (fields_of row.now)) result }
+{
+    let Some(word) = later_word(Form::Two, field(row, 0)) else {
+        return Err(Refusal::Why(Why::UnknownRow));
+    };
+    if !len_fits(word, row.len()) {
+        return Err(Refusal::Why(Why::WrongFields));
+    }
+    match word {
+        RowWord::Nodes => nodes_row_of(alloc, Form::Two, field(row, 1)),
         _ => Err(Refusal::Why(Why::NodesFirst)),
     }
 }
@@ -218,13 +265,14 @@ pub(crate) fn take_first(alloc: Global, row: &ByteRecord) -> Result<Script, Refu
 pub(crate) fn take_later(script: &mut Script, row: &ByteRecord) -> Result<(), Refusal>
     ensures { Leaves (later_row script.old (fields_of row.now)) result script.new }
 {
-    let Some(word) = row_word(field(row, 0)) else {
+    let Some(word) = later_word(script.form(), field(row, 0)) else {
         return Err(Refusal::Why(Why::UnknownRow));
     };
     if !len_fits(word, row.len()) {
         return Err(Refusal::Why(Why::WrongFields));
     }
     match word {
+        RowWord::Form => Err(Refusal::Why(Why::UnknownRow)),
         RowWord::Nodes => Err(Refusal::Why(Why::NodesTwice)),
         RowWord::Item => item_row_of(
             script,
@@ -240,5 +288,6 @@ pub(crate) fn take_later(script: &mut Script, row: &ByteRecord) -> Result<(), Re
         RowWord::Advance => advance_row_of(script),
         RowWord::Settle => script.add_settle(),
         RowWord::Pick => pick_row_of(script, field(row, 1)),
+        RowWord::Lose => lose_row_of(script),
     }
 }

@@ -3,7 +3,7 @@ use commute_ops::{Amount, Kind, Op};
 use std::alloc::Global;
 use std::test::Fail;
 use tv_base::{Name, NodeNo};
-use tx_trees::{Deed, ItemRow, Refusal, Script, TreeKind, Why};
+use tx_trees::{Deed, Form, ItemRow, Refusal, Script, TreeKind, Why};
 
 const TWO_NODES: &[u8] =
     b"nodes,2\nitem,a,0,sum,10\nitem,b,1,sum,0\nupdate,t,0\nadd,a,5\nsub,0,1\nadd,b,7\nsettle\n";
@@ -23,6 +23,24 @@ fn a_script_is_read_and_written(rt: HostRuntime) -> Result<(), Fail> {
         let script = read_script(rt.alloc(), text)?;
         let written = write_script(rt.alloc(), &script).map_err(|_| "no memory")?;
         assert_eq!(rt; written.bytes(), TWO_NODES);
+    }
+    Ok(())
+}
+
+const WITH_PICKS: &[u8] = b"nodes,1\nupdate,t,0\nsub,0,0\npick,4294967295\npick,0\npick,7\n";
+
+#[test]
+fn picks_are_read_and_written(rt: HostRuntime) -> Result<(), Fail> {
+    let texts: [&[u8]; 3] = [
+        WITH_PICKS,
+        b"nodes,1\npick,4294967295\nupdate,t,0\nsub,0,0\npick,0\npick,7\n",
+        b"nodes,1\r\n\r\npick,04294967295\r\n\"pick\",\"00\"\r\nupdate,t,0\r\nsub,0,0\r\npick,7",
+    ];
+    for text in texts {
+        let script = read_script(rt.alloc(), text)?;
+        assert_eq!(rt; script.picks(), [4_294_967_295, 0, 7].as_slice());
+        let written = write_script(rt.alloc(), &script).map_err(|_| "no memory")?;
+        assert_eq!(rt; written.bytes(), WITH_PICKS);
     }
     Ok(())
 }
@@ -49,7 +67,7 @@ fn item(
 }
 
 fn every_form(alloc: Global) -> Result<Script, Refusal> {
-    let mut script = Script::new(alloc, 2);
+    let mut script = Script::new(alloc, Form::One, 2);
     item(&mut script, b"a", 0, Kind::Sum, 5)?;
     item(&mut script, b"b", 1, Kind::Top, -3)?;
     item(&mut script, b"c", 0, Kind::Bag, 0)?;
@@ -83,8 +101,30 @@ fn every_form_is_written(rt: HostRuntime) -> Result<(), Fail> {
 }
 
 #[test]
+fn the_second_form_is_read_and_written(rt: HostRuntime) -> Result<(), Fail> {
+    let wanted: &[u8] =
+        b"threev,2\nnodes,64\nitem,a,63,sum,-1000000000000000000000000000000\nupdate,t,63\nadd,a,0\n";
+    let text: &[u8] = b"threev,02\nnodes,064\nitem,a,63,sum,-01000000000000000000000000000000\n\
+        update,t,63\nadd,a,-0\n";
+    let script = read_script(rt.alloc(), text)?;
+    let written = write_script(rt.alloc(), &script).map_err(|_| "no memory")?;
+    assert_eq!(rt; written.bytes(), wanted);
+    for (text, row, why) in [
+        (b"threev,2\nnodes,1\nlose\n".as_slice(), 3, Why::NotBuilt),
+        (b"threev,2\nlose\n".as_slice(), 2, Why::NodesFirst),
+        (b"lose\n".as_slice(), 1, Why::UnknownRow),
+    ] {
+        match read_script(rt.alloc(), text) {
+            Ok(_) => assert!(rt; false),
+            Err(refusal) => assert_eq!(rt; refusal, ScriptRefusal::Fault(ScriptFault { row, why })),
+        }
+    }
+    Ok(())
+}
+
+#[test]
 fn the_first_fault_is_told(rt: HostRuntime) -> Result<(), Fail> {
-    let table: [(&[u8], u32, Why); 42] = [
+    let table: [(&[u8], u32, Why); 41] = [
         (b"", 1, Why::NodesFirst),
         (b"\xEF\xBB\xBF", 1, Why::NodesFirst),
         (b"foo,1\n", 1, Why::UnknownRow),
@@ -159,7 +199,6 @@ fn the_first_fault_is_told(rt: HostRuntime) -> Result<(), Fail> {
         (b"nodes,1\nitem,\"a", 2, Why::WrongFields),
         (b"nodes,1\nadvance\n", 2, Why::NotBuilt),
         (b"nodes,1\nadvance,1\n", 2, Why::WrongFields),
-        (b"nodes,1\npick,0\n", 2, Why::NotBuilt),
         (b"nodes,1\npick,-1\n", 2, Why::BadNumber),
         (b"nodes,1\npick,4294967296\n", 2, Why::OutOfRange),
         (b"nodes,1\nstrict,k,0\n", 2, Why::NotBuilt),

@@ -1,11 +1,11 @@
 // The words that rows begin with, those of kinds, and names.
 ghost use Rattle.std.specs.Prelude.{◌≡◌, MatchOption, true, false};
 ghost use Rattle.tx_trees.specs.Names.{is_name};
-ghost use Rattle.script_reader.specs.Words.{kind_of, len_fits, op_word_of, tree_kind_of, word_of};
+ghost use Rattle.script_reader.specs.Words.{first_word, kind_of, later_word, len_fits, may_be_first, may_follow, op_word_of, tree_kind_of, word_of};
 
 use commute_ops::Kind;
 use tv_base::Name;
-use tx_trees::{TreeKind, is_plain_name};
+use tx_trees::{Form, TreeKind, is_plain_name};
 
 // An operation with an amount.
 #[derive(Clone, Copy, Debug, PartialEq, Eq)]
@@ -20,6 +20,7 @@ pub(crate) enum OpWord {
 // What a row is, by its first field.
 #[derive(Clone, Copy, Debug, PartialEq, Eq)]
 pub(crate) enum RowWord {
+    Form,
     Nodes,
     Item,
     Tree(TreeKind),
@@ -29,6 +30,7 @@ pub(crate) enum RowWord {
     Advance,
     Settle,
     Pick,
+    Lose,
 }
 
 fn tree_kind_of(word: &[u8]) -> Option<TreeKind>
@@ -63,10 +65,12 @@ fn op_word_of(word: &[u8]) -> Option<OpWord>
     }
 }
 
-pub(crate) fn row_word(word: &[u8]) -> Option<RowWord>
+fn row_word(word: &[u8]) -> Option<RowWord>
     ensures { result ≡ word_of word.now }
 {
-    if word == b"nodes".as_slice() {
+    if word == b"threev".as_slice() {
+        Some(RowWord::Form)
+    } else if word == b"nodes".as_slice() {
         Some(RowWord::Nodes)
     } else if word == b"item".as_slice() {
         Some(RowWord::Item)
@@ -80,10 +84,53 @@ pub(crate) fn row_word(word: &[u8]) -> Option<RowWord>
         Some(RowWord::Settle)
     } else if word == b"pick".as_slice() {
         Some(RowWord::Pick)
+    } else if word == b"lose".as_slice() {
+        Some(RowWord::Lose)
     } else if let Some(kind) = tree_kind_of(word) {
         Some(RowWord::Tree(kind))
     } else {
         op_word_of(word).map(RowWord::Op)
+    }
+}
+
+// Whether the first record may be such a row: it may name the second form, and isn't of it.
+fn may_be_first(word: RowWord) -> bool
+    ensures { result ≡ may_be_first word }
+{
+    match word {
+        RowWord::Lose => false,
+        _ => true,
+    }
+}
+
+// Whether a later record may be such a row: it names no form, and `lose` is a row word of the second form.
+fn may_follow(form: Form, word: RowWord) -> bool
+    ensures { result ≡ may_follow form word }
+{
+    match (form, word) {
+        (_, RowWord::Form) => false,
+        (Form::One, RowWord::Lose) => false,
+        _ => true,
+    }
+}
+
+// What the first record is.
+pub(crate) fn first_word(word: &[u8]) -> Option<RowWord>
+    ensures { result ≡ first_word word.now }
+{
+    let word = row_word(word)?;
+    if may_be_first(word) { Some(word) } else { None }
+}
+
+// What a later record of a script of this form is.
+pub(crate) fn later_word(form: Form, word: &[u8]) -> Option<RowWord>
+    ensures { result ≡ later_word form word.now }
+{
+    let word = row_word(word)?;
+    if may_follow(form, word) {
+        Some(word)
+    } else {
+        None
     }
 }
 
@@ -92,6 +139,7 @@ pub(crate) fn len_fits(word: RowWord, len: usize) -> bool
     ensures { result ≡ len_fits word len }
 {
     match word {
+        RowWord::Form => len == 2,
         RowWord::Nodes => len == 2,
         RowWord::Item => len == 5,
         RowWord::Tree(_) => len == 3,
@@ -101,6 +149,7 @@ pub(crate) fn len_fits(word: RowWord, len: usize) -> bool
         RowWord::Advance => len == 1,
         RowWord::Settle => len == 1,
         RowWord::Pick => len == 2,
+        RowWord::Lose => len == 1,
     }
 }
 

@@ -5,29 +5,42 @@ ghost use Rattle.std.specs.Str.{IsAscii};
 ghost use Rattle.tx_trees.specs.Rebuilt.{name_at};
 ghost use Rattle.script_reader.specs.Builds.{Builds};
 ghost use Rattle.script_reader.specs.ReadBack.{IsReadAs};
+ghost use Rattle.script_reader.specs.Numbers.{AreSmall};
 ghost use Rattle.script_reader.specs.Words.{kind_word, tree_word};
 ghost use Rattle.tx_trees.specs.AsciiNames.{AreAsciiItems, AreAsciiTrees};
-ghost use Rattle.script_reader.specs.Written.{deed_fields, item_fields, line, lines, nodes_fields, op_fields, ops_rows, pick_fields, rows_of_row, rows_of_rows, sub_fields, subs_rows, tree_fields, tree_rows, written};
+ghost use Rattle.script_reader.specs.Written.{deed_fields, form_rows, item_fields, line, lines, nodes_fields, op_fields, ops_rows, pick_fields, rows_of_row, rows_of_rows, sub_fields, subs_rows, tree_fields, tree_rows, written};
 
 use crate::text_fields::{end_row, push_amount, push_field, push_number};
 use commute_ops::{Amount, Kind, Op};
 use std::alloc::Global;
 use tv_base::{ItemNo, NoMemory, NodeNo, Text};
-use tx_trees::{Deed, ItemRow, Script, ScriptRow, Sub, SubOp, Tree, TreeKind};
+use tx_trees::{Deed, Form, ItemRow, Script, ScriptRow, Sub, SubOp, Tree, TreeKind};
 
-/// The text of a script: the `nodes` row, all items, all rows with their trees, and then all picks, each as a line.
-/// Only want of memory is an error. A text of at most 8,388,608 bytes is read as an equal script, if the script has no
-/// form that isn't built: no strict tree, no advancement and no pick.
+/// The text of a script: the row of the second form, if it is of that, the `nodes` row, all items, all rows with their
+/// trees, and then all picks, each as a line. Only want of memory is an error. A text of at most 8,388,608 bytes is read
+/// as an equal script, if the script has nothing that isn't built: no strict tree, no advancement, and no row that makes
+/// the coordinator forget.
 pub fn write_script(alloc: Global, script: &Script) -> Result<Text, NoMemory>
     ensures text { IfOk result (λ text. text ≡ written script.now) }
     ensures read { IfOk result (λ text. length text ≤ 8388608 → Builds script.now → IsReadAs text script.now) }
 {
     let mut text = Text::new(alloc);
+    push_form(&mut text, script.form())?;
     push_nodes(&mut text, script.nodes())?;
     push_items(&mut text, script.items())?;
     push_rows(&mut text, script.items(), script.trees(), script.rows())?;
     push_picks(&mut text, script.picks())?;
     Ok(text)
+}
+
+// The row of the second form.
+fn push_form(text: &mut Text, form: Form) -> Result<(), NoMemory>
+    ensures { OnOk result (text.new ≡ text.old ++ lines (form_rows form)) }
+{
+    match form {
+        Form::One => Ok(()),
+        Form::Two => text.push_all(b"threev,2\n"),
+    }
 }
 
 fn push_nodes(text: &mut Text, nodes: u8) -> Result<(), NoMemory>
@@ -108,6 +121,7 @@ fn push_row(
         }
         ScriptRow::Advance => text.push_all(b"advance\n"),
         ScriptRow::Settle => text.push_all(b"settle\n"),
+        ScriptRow::Lose => text.push_all(b"lose\n"),
     }
 }
 
@@ -226,7 +240,9 @@ fn push_get(text: &mut Text, item: &[u8]) -> Result<(), NoMemory>
 }
 
 fn push_picks(text: &mut Text, picks: &[u32]) -> Result<(), NoMemory>
-    ensures { OnOk result (text.new ≡ text.old ++ lines (map pick_fields picks.now)) }
+    ensures text { OnOk result (text.new ≡ text.old ++ lines (map pick_fields picks.now)) }
+    // Picks have 32 bits.
+    ensures small { AreSmall picks.now }
 {
     for pick in picks {
         push_pick(text, *pick)?;

@@ -12,6 +12,7 @@ use Rattle.tv_base.specs.declared.numbers.TreeNo.{TreeNo}
 use Rattle.commute_ops.specs.declared.kinds.Op.TheVariants as ops
 use Rattle.tx_trees.specs.declared.parts.Deed.{Deed}
 use Rattle.tx_trees.specs.declared.parts.Deed.TheVariants as deeds
+use Rattle.tx_trees.specs.declared.parts.Form.TheVariants as forms
 use Rattle.tx_trees.specs.declared.parts.ItemRow.{ItemRow}
 use Rattle.tx_trees.specs.declared.parts.ScriptRow.{ScriptRow}
 use Rattle.tx_trees.specs.declared.parts.ScriptRow.TheVariants as rows
@@ -23,13 +24,13 @@ use Rattle.tx_trees.specs.declared.parts.TreeKind.TheVariants as trees
 use Rattle.tx_trees.specs.declared.script.Script.TheInside.{Inside}
 use Rattle.tx_trees.specs.Adding.{last_kind, on_last, on_last_sub, push_op, push_sub, rooted}
 use Rattle.tx_trees.specs.Amounts.{magnitude}
-use Rattle.tx_trees.specs.Counts.{advances_in, all_ops, all_subs, if_update, one_put, one_strict, strict_trees, trees_puts, update_subs}
+use Rattle.tx_trees.specs.Counts.{advances_in, all_ops, all_subs, loses_in, if_update, one_put, one_strict, strict_trees, trees_puts, update_subs}
 use Rattle.tx_trees.specs.Inside.{IsKept, data_of}
 use Rattle.tx_trees.specs.Passing.{MayAddItem, MayAddOp, MayAddSub, MayAddTree}
 use Rattle.tx_trees.specs.ScriptData.{ScriptData}
 use Rattle.tx_trees.specs.Valid.{IsValid, initial_load, item_names, load, tree_names, trees_load}
 use Rattle.tx_trees.proofs.Lists.{slice_get-old, slice_get-seam, sum-push}
-use Rattle.tx_trees.proofs.Stays.{advances-advance, advances-settle, advances-tree, names-on_last, some_last_subs, trees_before, valid_item, valid_op, valid_row, valid_sub, valid_tree}
+use Rattle.tx_trees.proofs.Stays.{advances-advance, advances-lose, advances-settle, advances-tree, loses-push, names-on_last, some_last_subs, trees_before, valid_item, valid_op, valid_row, valid_sub, valid_tree, valid_upgraded}
 use Rattle.tx_trees.proofs.Totals.{all_subs-sum, load_other, load_same, load_total, op_total, put_other, put_same, put_total, strict-op, strict-sub, strict-sum, subs-op, subs-sub, total-op, total-sub, total-tree, update-op, update-sub, update-sum}
 
 -- numbers beside the items, where one is added or changed
@@ -105,6 +106,7 @@ kept_item s items names totals puts r names_are is totals_are puts_are may h =
       subs = h.subs;
       ops = h.ops;
       advances = h.advances;
+      loses = h.loses;
       strict = h.strict;
       update_subs = h.update_subs;
     }
@@ -131,6 +133,7 @@ kept_tree s trees names rs n strict updates name kind node names_are is rows_are
       subs = omega (arith, ap all_subs is, sum-push (λ (u : Tree). length u.subs) all_subs all_subs-sum s.trees.items t, h.subs);
       ops = omega (arith, ap all_ops is, total-tree op_total s.trees.items t x refl refl, h.ops);
       advances = omega (arith, ap advances_in rows_are, advances-tree s.rows.items number, h.advances);
+      loses = omega (arith, ap loses_in rows_are, loses-push s.rows.items (rows.Tree number), h.loses);
       strict = omega (arith, ap strict_trees is, sum-push (λ (u : Tree). one_strict u.kind) strict_trees strict-sum s.trees.items t, h.strict);
       update_subs = omega (arith, ap update_subs is, sum-push (λ (u : Tree). if_update u.kind (length u.subs)) update_subs update-sum s.trees.items t, h.update_subs);
     }
@@ -155,6 +158,7 @@ kept_sub s trees n updates parent node x x_is was n_is updates_are may h =
       subs = omega (arith, ap all_subs is, subs-sub s.trees.items y some, h.subs);
       ops = omega (arith, ap all_ops is, total-sub op_total s.trees.items y refl some, h.ops);
       advances = h.advances;
+      loses = h.loses;
       strict = omega (arith, ap strict_trees is, strict-sub s.trees.items y some, h.strict);
       update_subs = omega (arith, ap update_subs is, update-sub s.trees.items y some, h.update_subs);
     }
@@ -186,6 +190,7 @@ kept_op s trees k v p n deed is v_is p_is n_is may h =
       subs = omega (arith, ap all_subs is, subs-op s.trees.items o some, h.subs);
       ops = omega (arith, ap all_ops is, total-op op_total s.trees.items o some root, h.ops);
       advances = h.advances;
+      loses = h.loses;
       strict = omega (arith, ap strict_trees is, strict-op s.trees.items o some, h.strict);
       update_subs = omega (arith, ap update_subs is, update-op s.trees.items o some, h.update_subs);
     }
@@ -196,7 +201,8 @@ pub kept_advance : (s : Inside) (rs : Vec ScriptRow) (n : ℕ) → rs.items ≡ 
 kept_advance s rs n is n_is few h =
     let more = advances-advance s.rows.items in
     record {
-      valid = subst (λ (xs : List ScriptRow). IsValid (record (data_of s) { rows = xs; begun = false })) (sym is) (valid_row (data_of s) rows.Advance refl (omega (arith, h.advances)) h.valid);
+      valid = subst (λ (xs : List ScriptRow). IsValid (record (data_of s) { rows = xs; begun = false })) (sym is)
+          (valid_row (data_of s) rows.Advance refl (omega (arith, h.advances)) (omega (arith, h.valid.limited.loses, loses-push s.rows.items rows.Advance)) (λ e. refl) h.valid);
       item_names = h.item_names;
       tree_names = h.tree_names;
       len = h.len;
@@ -206,6 +212,7 @@ kept_advance s rs n is n_is few h =
       subs = h.subs;
       ops = h.ops;
       advances = omega (arith, ap advances_in is, h.advances);
+      loses = omega (arith, ap loses_in is, loses-push s.rows.items rows.Advance, h.loses);
       strict = h.strict;
       update_subs = h.update_subs;
     }
@@ -216,7 +223,7 @@ kept_settle s rs is h =
     let more = advances-settle s.rows.items in
     record {
       valid = subst (λ (xs : List ScriptRow). IsValid (record (data_of s) { rows = xs; begun = false })) (sym is)
-          (valid_row (data_of s) rows.Settle refl (omega (arith, h.valid.limited.advances)) h.valid);
+          (valid_row (data_of s) rows.Settle refl (omega (arith, h.valid.limited.advances)) (omega (arith, h.valid.limited.loses, loses-push s.rows.items rows.Settle)) (λ e. refl) h.valid);
       item_names = h.item_names;
       tree_names = h.tree_names;
       len = h.len;
@@ -226,6 +233,69 @@ kept_settle s rs is h =
       subs = h.subs;
       ops = h.ops;
       advances = omega (arith, ap advances_in is, h.advances);
+      loses = omega (arith, ap loses_in is, loses-push s.rows.items rows.Settle, h.loses);
       strict = h.strict;
       update_subs = h.update_subs;
+    }
+
+-- the coordinator forgets once more
+pub kept_lose : (s : Inside) (rs : Vec ScriptRow) (n : ℕ) → rs.items ≡ s.rows.items ++ rows.Lose ∷ [] → n ≡ s.loses + 1 → s.loses < 100 → s.form ≡ forms.Two → IsKept s
+    → IsKept (record s { rows = rs; loses = n; begun = false })
+kept_lose s rs n is n_is few second h =
+    let more = loses-push s.rows.items rows.Lose in
+    let same = advances-lose s.rows.items in
+    record {
+      valid = subst (λ (xs : List ScriptRow). IsValid (record (data_of s) { rows = xs; begun = false })) (sym is)
+          (valid_row (data_of s) rows.Lose refl (omega (arith, h.valid.limited.advances)) (omega (arith, h.loses)) (λ e. absurd (cc (e, second))) h.valid);
+      item_names = h.item_names;
+      tree_names = h.tree_names;
+      len = h.len;
+      totals = h.totals;
+      puts_len = h.puts_len;
+      puts = h.puts;
+      subs = h.subs;
+      ops = h.ops;
+      advances = omega (arith, ap advances_in is, h.advances);
+      loses = omega (arith, ap loses_in is, h.loses);
+      strict = h.strict;
+      update_subs = h.update_subs;
+    }
+
+-- the second form
+pub kept_upgraded : (s : Inside) → IsKept s → IsKept (record s { form = forms.Two })
+kept_upgraded s h = record {
+  valid = valid_upgraded (data_of s) h.valid;
+  item_names = h.item_names;
+  tree_names = h.tree_names;
+  len = h.len;
+  totals = h.totals;
+  puts_len = h.puts_len;
+  puts = h.puts;
+  subs = h.subs;
+  ops = h.ops;
+  advances = h.advances;
+  loses = h.loses;
+  strict = h.strict;
+  update_subs = h.update_subs;
+}
+
+-- lists that were only given room
+pub kept_room : (s : Inside) (trees : Vec Tree) (rs : Vec ScriptRow) (names : List (List ℕ)) → trees.items ≡ s.trees.items → rs.items ≡ s.rows.items → names ≡ s.tree_names → IsKept s
+    → IsKept (record s { trees = trees; rows = rs; tree_names = names })
+kept_room s trees rs names is rows_are names_are h =
+    let with_trees = subst (λ (ts : List Tree). IsValid (record (data_of s) { trees = ts })) (sym is) h.valid in
+    record {
+      valid = subst (λ (xs : List ScriptRow). IsValid (record (data_of s) { trees = trees.items; rows = xs })) (sym rows_are) with_trees;
+      item_names = h.item_names;
+      tree_names = names_are ∙ h.tree_names ∙ sym (ap tree_names is);
+      len = h.len;
+      totals = λ k lt. omega (arith, h.totals k lt, ap (trees_load k) is);
+      puts_len = h.puts_len;
+      puts = λ k lt. omega (arith, h.puts k lt, ap (trees_puts k) is);
+      subs = omega (arith, ap all_subs is, h.subs);
+      ops = omega (arith, ap all_ops is, h.ops);
+      advances = omega (arith, ap advances_in rows_are, h.advances);
+      loses = omega (arith, ap loses_in rows_are, h.loses);
+      strict = omega (arith, ap strict_trees is, h.strict);
+      update_subs = omega (arith, ap update_subs is, h.update_subs);
     }

@@ -13,14 +13,18 @@ use Rattle.commute_ops.specs.declared.kinds.Kind.{Kind}
 use Rattle.commute_ops.specs.declared.kinds.Kind.TheVariants as kinds
 use Rattle.commute_ops.specs.declared.kinds.TheConstants.{MOST_AMOUNT}
 use Rattle.tv_base.specs.declared.numbers.TreeNo.{TreeNo}
-use Rattle.tx_trees.specs.Adding.{adds_advance, fresh, has_touched, kind_at, last_count, last_kind, last_node, last_of, last_sub, last_subs, node_at, on_last, on_last_sub, place_of, push_op, push_sub, touch}
+use Rattle.tx_trees.specs.Adding.{adds_advance, adds_lose, fresh, has_touched, kind_at, last_count, last_kind, last_node, last_of, last_sub, last_subs, node_at, on_last, on_last_sub, place_of, push_op, push_sub, touch}
 use Rattle.tx_trees.specs.Amounts.{magnitude}
-use Rattle.tx_trees.specs.Counts.{advances_in, all_ops, all_subs, if_update, one_put, one_strict, ops_in, strict_trees, trees_puts, update_subs}
+use Rattle.tx_trees.specs.Forms.{most_amount}
+use Rattle.tx_trees.specs.Counts.{advances_in, all_ops, all_subs, loses_in, if_update, one_put, one_strict, ops_in, strict_trees, trees_puts, update_subs}
 use Rattle.tx_trees.specs.Passing.{MayAddItem, MayAddOp, MayAddSub, MayAddTree}
-use Rattle.tx_trees.specs.Ranges.{is_in_range, may_start}
+use Rattle.tx_trees.specs.Ranges.{draws_negative, is_in_range, may_start}
 use Rattle.tx_trees.specs.Rebuilt.{RebuiltAs, items_added, name_at, ops_added, picks_added, rebuilt, rooted_added, row_added, rows_added, subs_added, then_more, tree_added}
 use Rattle.tx_trees.specs.ScriptData.{ScriptData, is_strict}
-use Rattle.tx_trees.specs.Valid.{AreSubs, IsItem, IsOp, IsSub, IsTree, IsValid, NamesInOrder, OpAt, deed_fits, item_names, items_of, load, tree_names, trees_load}
+use Rattle.tx_trees.specs.Valid.{AreSubs, IsItem, IsOp, IsSub, IsTree, IsValid, NamesInOrder, OpAt, deed_fits, initial_load, item_names, items_of, load, tree_names, trees_load}
+use Rattle.tx_trees.specs.declared.parts.Deed.{Deed}
+use Rattle.tx_trees.specs.declared.parts.Form.{Form}
+use Rattle.tx_trees.specs.declared.parts.Form.TheVariants as forms
 use Rattle.tx_trees.specs.declared.parts.ItemRow.{ItemRow}
 use Rattle.tx_trees.specs.declared.parts.ScriptRow.{ScriptRow}
 use Rattle.tx_trees.specs.declared.parts.ScriptRow.TheVariants as rows
@@ -43,36 +47,45 @@ taken r t more e = ap (λ (x : Result ScriptData Why). then_more x more) e
 
 -- items
 
-may_start-from : (r : ItemRow) → unsigned_abs r.initial ≤ MOST_AMOUNT → (r.kind ≡ kinds.Bag → unsigned_abs r.initial ≡ 0) → may_start r.kind r.initial ≡ true
-may_start-from r small bag = by r.kind refl
+may_start-from : (f : Form) (r : ItemRow) → unsigned_abs r.initial ≤ most_amount f → (r.kind ≡ kinds.Bag → unsigned_abs r.initial ≡ 0) → may_start f r.kind r.initial ≡ true
+may_start-from f r small bag = by r.kind refl
   where
-    by : (k : Kind) → r.kind ≡ k → may_start r.kind r.initial ≡ true
+    by : (k : Kind) → r.kind ≡ k → may_start f r.kind r.initial ≡ true
     by kinds.Sum e = rw e (grind (arith, common_steps))
     by kinds.Top e = rw e (grind (arith, common_steps))
     by kinds.Bag e = let zero : unsigned_abs r.initial ≡ 0 = bag e in rw e (grind (arith, common_steps))
 
 module _ (s : ScriptData) (h : IsValid s) where
-  may_add_item : (acc rest : List ItemRow) (r : ItemRow) → acc ++ r ∷ rest ≡ s.items → MayAddItem (record (fresh s.nodes) { items = acc }) r
+  may_add_item : (acc rest : List ItemRow) (r : ItemRow) → acc ++ r ∷ rest ≡ s.items → MayAddItem (record (fresh s.form s.nodes) { items = acc }) r
   may_add_item acc rest r e =
+      let within : length acc < length s.items = omega (arith, ap length e, length-append acc (r ∷ rest)) in
+      let here : slice_get s.items (length acc) ≡ Some r = ap (λ (xs : List ItemRow). slice_get xs (length acc)) (sym e) ∙ slice_get-seam acc rest r in
       let item : IsItem s.nodes r = all-seam (IsItem s.nodes) acc rest r (subst (AllByRecursion (IsItem s.nodes)) (sym e) h.items) in
       let names : item_names s.items ≡ item_names acc ++ r.name ∷ item_names rest = ap item_names (sym e) ∙ map-append (λ (x : ItemRow). x.name) acc (r ∷ rest) in
       let new : list_any (bytes_eq r.name) (item_names acc) ≡ false =
       distinct-front bytes_eq nat_list_eq_equiv.symm (item_names acc) (item_names rest) r.name (subst (IsDistinct bytes_eq) names h.distinct_items) in
       record {
         place = le_not s.nodes r.node.0 item.node;
-        start = may_start-from r item.small item.bag;
+        start = may_start-from s.form r (omega (arith, h.loads (length acc) within, ap initial_load here)) item.bag;
         plain = item.name;
         free = sym (has_item r.name acc) ∙ new;
         room = le_not 10000 (length acc) (omega (arith, h.few_items, ap length e, length-append acc (r ∷ rest)));
       }
 
-  items_done : (acc rest : List ItemRow) → acc ++ rest ≡ s.items → items_added (record (fresh s.nodes) { items = acc }) rest ≡ Ok (record (fresh s.nodes) { items = s.items })
-  items_done acc [] e = ap (λ (xs : List ItemRow). Ok (let t : ScriptData = record (fresh s.nodes) { items = xs } in t)) (sym (append-nil acc) ∙ e)
+  items_done : (acc rest : List ItemRow) → acc ++ rest ≡ s.items → items_added (record (fresh s.form s.nodes) { items = acc }) rest ≡ Ok (record (fresh s.form s.nodes) { items = s.items })
+  items_done acc [] e = ap (λ (xs : List ItemRow). Ok (let t : ScriptData = record (fresh s.form s.nodes) { items = xs } in t)) (sym (append-nil acc) ∙ e)
   items_done acc (r ∷ rest) e =
-      taken _ _ (λ t. items_added t rest) (item_passes (record (fresh s.nodes) { items = acc }) r (may_add_item acc rest r e))
+      taken _ _ (λ t. items_added t rest) (item_passes (record (fresh s.form s.nodes) { items = acc }) r (may_add_item acc rest r e))
       ∙ items_done (acc ++ r ∷ []) rest (append_assoc acc (r ∷ []) rest ∙ e)
 
 -- operations
+
+-- what is in the wider range is in the form's if it is small enough
+in_range : (f : Form) (deed : Deed) → magnitude deed ≤ most_amount f → is_in_range forms.Two deed ≡ true → is_in_range f deed ≡ true
+in_range f deed small e = within (magnitude deed) (most_amount f) (not (draws_negative deed)) small e
+  where
+    within : (m most : ℕ) (b : Bool) → m ≤ most → (nat_le m MOST_AMOUNT && b) ≡ true → (nat_le m most && b) ≡ true
+    within m most b small e = grind (arith, common_steps)
 
 -- where the item of a name stands
 position_found : {X : Type 0} (p : X → Bool) (xs ys : List X) (x : X) → list_any p xs ≡ false → p x ≡ true → position p (xs ++ x ∷ ys) ≡ Some (length xs)
@@ -150,7 +163,7 @@ untouched trees.Strict b e = e refl
 
 -- the script with its items, these trees and these rows
 abbrev with_rows : ScriptData → List Tree → List ScriptRow → Bool → ScriptData
-with_rows s ts rs b = record { nodes = s.nodes; items = s.items; trees = ts; rows = rs; picks = []; begun = b }
+with_rows s ts rs b = record { form = s.form; nodes = s.nodes; items = s.items; trees = ts; rows = rs; picks = []; begun = b }
 
 -- what an update tree with more subtransactions counts
 update_grown : (kind : TreeKind) (n m : ℕ) → n < m → if_update kind n + if_update kind 1 ≤ if_update kind m
@@ -174,7 +187,8 @@ module _ (s : ScriptData) (h : IsValid s) where
       let sub = sub_at_seam s.nodes s.items kind 0 S X x tree.subs in
       let here = all-seam (IsOp s.items kind x.node.0) O os o (subst (AllByRecursion (IsOp s.items kind x.node.0)) (sym f) sub.ops) in
       let row = row_of kind x.node.0 o (slice_get s.items k) here in
-      let range : is_in_range o.deed ≡ true = all-seam (λ (p : SubOp). IsTrue (is_in_range p.deed)) O os o (subst (AllByRecursion (λ (p : SubOp). IsTrue (is_in_range p.deed))) (sym f) sub.amounts) in
+      let wide : is_in_range forms.Two o.deed ≡ true =
+      all-seam (λ (p : SubOp). IsTrue (is_in_range forms.Two p.deed)) O os o (subst (AllByRecursion (λ (p : SubOp). IsTrue (is_in_range forms.Two p.deed))) (sym f) sub.amounts) in
       let within = op_within s.items kind x.node.0 o here in
       let last : last_of ts ≡ Some u = last_of-seam T u in
       let its_sub : last_sub ts ≡ Some (cut x O) = last_sub_is ts u (cut x O) last (last_of-seam S (cut x O)) in
@@ -197,14 +211,14 @@ module _ (s : ScriptData) (h : IsValid s) where
       sym (any-map (nat_eq k) (λ (p : SubOp). p.item.0) (λ p. nat_eq p.item.0 k) (λ p. nat_eq_equiv.symm k p.item.0) (ops_in u.subs)) ∙ new in
       let once : has_touched k ts ≡ false = rw (last, has_touched) (untouched kind (touch k u.subs) touched) in
       record {
-        range = range;
+        range = in_range s.form o.deed (omega (arith, h.loads k within, load_same o k refl, loads)) wide;
         item = within;
         begun = refl;
         node = same_number (node_at k s.items) (last_node ts) node;
         kind = fits;
         room = or_from _ _ (or_from _ _ (le_not 16 (last_count ts) (omega (arith, sub.few))) (le_not 200000 (all_ops ts) (omega (arith, h.limited.ops))))
             (lt_not 64 (trees_puts k ts + one_put o.deed) (omega (arith, h.limited.puts k within, put_same o k refl)));
-        load = lt_not MOST_AMOUNT (load k (with_rows s ts rs true) + magnitude o.deed) (omega (arith, h.loads k within, load_same o k refl));
+        load = lt_not (most_amount s.form) (load k (with_rows s ts rs true) + magnitude o.deed) (omega (arith, h.loads k within, load_same o k refl));
         once = once;
       }
     where
@@ -304,12 +318,14 @@ module _ (s : ScriptData) (h : IsValid s) where
       let updates : update_subs s.trees ≡ update_subs T + (if_update kind (length t.subs) + update_subs Ts) =
       ap update_subs (sym e) ∙ sum-append (λ (v : Tree). if_update v.kind (length v.subs)) update_subs update-sum T (t ∷ Ts) in
       let grown = update_grown kind 0 (length t.subs) (omega arith) in
+      let places = mul-le s.nodes (length T + 1) s.nodes (length s.trees) (omega arith) (omega arith) in
       let pairs = mul-le (strict_trees T + one_strict kind) (update_subs T + if_update kind 1) (strict_trees s.trees) (update_subs s.trees) (omega arith) (omega arith) in
       record {
         place = le_not s.nodes x.node.0 tree.subs.0.node;
         plain = tree.name;
         free = sym (has_tree name T) ∙ new;
-        room = or_from _ _ (or_from _ _ (or_from _ _ (le_not 20000 (length T) (omega (arith, h.few_trees))) (le_not 100000 (all_subs T) (omega (arith, h.limited.subs))))
+        room = or_from _ _ (or_from _ _ (or_from _ _ (or_from _ _ (le_not 20000 (length T) (omega (arith, h.few_trees)))
+            (lt_not 320000 (s.nodes * (length T + 1)) (omega (arith, places, h.limited.places)))) (le_not 100000 (all_subs T) (omega (arith, h.limited.subs))))
             (lt_not 1000 (strict_trees T + one_strict kind) (omega (arith, h.limited.strict))))
             (lt_not 1000000 ((strict_trees T + one_strict kind) * (update_subs T + if_update kind 1)) (omega (arith, pairs, h.limited.pairs)));
       }
@@ -336,10 +352,15 @@ names_end k n [] names = omega arith
 names_end k n (rows.Tree t ∷ rs) names = omega (arith, names_end (k + 1) n rs names.1)
 names_end k n (rows.Advance ∷ rs) names = names_end k n rs names
 names_end k n (rows.Settle ∷ rs) names = names_end k n rs names
+names_end k n (rows.Lose ∷ rs) names = names_end k n rs names
 
 pub advances_in-append : (xs ys : List ScriptRow) → advances_in (xs ++ ys) ≡ advances_in xs + advances_in ys
 advances_in-append [] ys = omega arith
 advances_in-append (x ∷ xs) ys = omega (arith, advances_in-append xs ys)
+
+loses_in-append : (xs ys : List ScriptRow) → loses_in (xs ++ ys) ≡ loses_in xs + loses_in ys
+loses_in-append [] ys = omega arith
+loses_in-append (x ∷ xs) ys = omega (arith, loses_in-append xs ys)
 
 no_more : {A : Type 0} (xs ys : List A) → length xs ≡ length (xs ++ ys) → xs ≡ xs ++ ys
 no_more xs [] e = sym (append-nil xs)
@@ -350,6 +371,12 @@ module _ (s : ScriptData) (h : IsValid s) where
   advance_taken T R rest b e =
       let some : advances_in s.rows ≡ advances_in R + (1 + advances_in rest) = ap advances_in (sym e) ∙ advances_in-append R (rows.Advance ∷ rest) in
       let few : nat_le 100 (advances_in R) ≡ false = le_not 100 (advances_in R) (omega (arith, h.limited.advances)) in
+      rw few refl
+
+  lose_taken : (T : List Tree) (R rest : List ScriptRow) (b : Bool) → R ++ rows.Lose ∷ rest ≡ s.rows → adds_lose (with_rows s T R b) ≡ Ok (with_rows s T (R ++ rows.Lose ∷ []) false)
+  lose_taken T R rest b e =
+      let some : loses_in s.rows ≡ loses_in R + (1 + loses_in rest) = ap loses_in (sym e) ∙ loses_in-append R (rows.Lose ∷ rest) in
+      let few : nat_le 100 (loses_in R) ≡ false = le_not 100 (loses_in R) (omega (arith, h.limited.loses)) in
       rw few refl
 
   tree_taken : (T Ts : List Tree) (R : List ScriptRow) (b : Bool) (n : TreeNo) → T ++ Ts ≡ s.trees → n.0 ≡ length T → length T < length s.trees
@@ -389,6 +416,9 @@ module _ (s : ScriptData) (h : IsValid s) where
   rows_done T Ts R (rows.Settle ∷ rest) b e f names =
       let more = rows_done T Ts (R ++ rows.Settle ∷ []) rest false e (append_assoc R (rows.Settle ∷ []) rest ∙ f) names in
       (more.0, more.1)
+  rows_done T Ts R (rows.Lose ∷ rest) b e f names =
+      let more = rows_done T Ts (R ++ rows.Lose ∷ []) rest false e (append_assoc R (rows.Lose ∷ []) rest ∙ f) names in
+      (more.0, taken _ _ (λ u. rows_added s.trees u rest) (lose_taken T R rest b f) ∙ more.1)
 
   -- picks
 
@@ -408,4 +438,4 @@ module _ (s : ScriptData) (h : IsValid s) where
       taken _ _ (λ t. then_more (rows_added s.trees t s.rows) (λ u. picks_added u s.picks)) (items_done s h [] s.items refl)
       ∙ taken _ _ (λ u. picks_added u s.picks) done.1
       ∙ picked.1 in
-      (last, built, record { nodes = refl; items = refl; trees = refl; rows = refl; picks = refl })
+      (last, built, record { form = refl; nodes = refl; items = refl; trees = refl; rows = refl; picks = refl })

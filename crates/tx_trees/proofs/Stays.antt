@@ -1,6 +1,6 @@
 -- A script stays valid when a record that meets no condition of refusal is added.
 use Rattle.std.proofs.Common.{◌≡◌, ◌<◌, ◌≤◌, ◌+◌, ◌*◌, ℕ, Bool, true, false, List, [], ◌∷◌, ◌++◌, length, map, refl, sym, ap, ◌∙◌, subst, arith, length-append, inl, inr, append_assoc}
-use Rattle.std.specs.Prelude.{◌==◌, ◌&&◌, ◌||◌, IsTrue, Option, Some, None, nat_eq, nat_le, nat_lt, slice_get, unsigned_abs}
+use Rattle.std.specs.Prelude.{◌==◌, ◌&&◌, ◌||◌, not, if◌then◌else◌, IsTrue, Option, Some, None, nat_eq, nat_le, nat_lt, slice_get, unsigned_abs}
 use Rattle.std.specs.List.{AllByRecursion, IsDistinct, list_any}
 use Rattle.std.specs.Str.{bytes_eq}
 use Rattle.std.proofs.lemmas.Bool.{cases_eq, cases_lt}
@@ -13,14 +13,17 @@ use Rattle.commute_ops.specs.declared.kinds.Kind.TheVariants as kinds
 use Rattle.commute_ops.specs.declared.kinds.TheConstants.{MOST_AMOUNT}
 use Rattle.tv_base.specs.declared.numbers.NodeNo.{NodeNo}
 use Rattle.tv_base.specs.declared.numbers.TreeNo.{TreeNo}
-use Rattle.tx_trees.specs.Adding.{are_many, has_no_op_left, has_no_sub_left, has_no_tree_left, has_touched, kind_at, last_count, last_kind, last_node, last_of, last_subs, node_at, on_last, on_last_sub, push_op, push_sub, rooted, touch, with_item, with_op, with_row, with_sub, with_tree}
+use Rattle.tx_trees.specs.Adding.{are_many, are_spread, has_no_op_left, has_no_sub_left, has_no_tree_left, has_touched, kind_at, last_count, last_kind, last_node, last_of, last_subs, node_at, on_last, on_last_sub, push_op, push_sub, rooted, touch, upgraded, with_item, with_op, with_row, with_sub, with_tree}
 use Rattle.tx_trees.specs.Amounts.{magnitude}
-use Rattle.tx_trees.specs.Counts.{advances_in, all_ops, all_subs, if_update, one_put, one_strict, ops_in, ops_puts, strict_trees, subs_puts, trees_puts, update_subs}
+use Rattle.tx_trees.specs.Counts.{advances_in, all_ops, all_subs, is_lose, loses_in, if_update, one_put, one_strict, ops_in, ops_puts, strict_trees, subs_puts, trees_puts, update_subs}
+use Rattle.tx_trees.specs.Forms.{most_amount, most_nodes}
 use Rattle.tx_trees.specs.Passing.{MayAddItem, MayAddOp, MayAddSub, MayAddTree}
-use Rattle.tx_trees.specs.Ranges.{is_in_range, may_start}
+use Rattle.tx_trees.specs.Ranges.{draws_negative, is_in_range, may_start, starts_full}
 use Rattle.tx_trees.specs.ScriptData.{ScriptData, is_strict}
 use Rattle.tx_trees.specs.Valid.{AreSubs, IsItem, IsOp, IsSub, IsTree, IsValid, NamesInOrder, OpAt, deed_fits, initial_load, item_names, items_of, load, ops_load, subs_load, tree_names, trees_load}
 use Rattle.tx_trees.specs.declared.parts.Deed.{Deed}
+use Rattle.tx_trees.specs.declared.parts.Form.{Form}
+use Rattle.tx_trees.specs.declared.parts.Form.TheVariants as forms
 use Rattle.tx_trees.specs.declared.parts.ItemRow.{ItemRow}
 use Rattle.tx_trees.specs.declared.parts.ScriptRow.{ScriptRow}
 use Rattle.tx_trees.specs.declared.parts.ScriptRow.TheVariants as rows
@@ -103,20 +106,24 @@ names-push k n [] t h e = (omega arith, omega arith)
 names-push k n (rows.Tree u ∷ rs) t h e = (h.0, names-push (k + 1) n rs t h.1 e)
 names-push k n (rows.Advance ∷ rs) t h e = names-push k n rs t h e
 names-push k n (rows.Settle ∷ rs) t h e = names-push k n rs t h e
+names-push k n (rows.Lose ∷ rs) t h e = names-push k n rs t h e
 
 -- a row that isn't a tree's
 abbrev pub is_plain : ScriptRow → Bool
 is_plain (rows.Tree t) = false
 is_plain rows.Advance = true
 is_plain rows.Settle = true
+is_plain rows.Lose = true
 
 names-plain : (k n : ℕ) (rs : List ScriptRow) (r : ScriptRow) → NamesInOrder k n rs → is_plain r ≡ true → NamesInOrder k n (rs ++ r ∷ [])
 names-plain k n [] (rows.Tree t) h e = absurd cc
 names-plain k n [] rows.Advance h e = h
 names-plain k n [] rows.Settle h e = h
+names-plain k n [] rows.Lose h e = h
 names-plain k n (rows.Tree u ∷ rs) r h e = (h.0, names-plain (k + 1) n rs r h.1 e)
 names-plain k n (rows.Advance ∷ rs) r h e = names-plain k n rs r h e
 names-plain k n (rows.Settle ∷ rs) r h e = names-plain k n rs r h e
+names-plain k n (rows.Lose ∷ rs) r h e = names-plain k n rs r h e
 
 pub advances-tree : (rs : List ScriptRow) (t : TreeNo) → advances_in (rs ++ rows.Tree t ∷ []) ≡ advances_in rs
 advances-tree [] t = refl
@@ -129,6 +136,18 @@ advances-advance (r ∷ rs) = omega (arith, advances-advance rs)
 pub advances-settle : (rs : List ScriptRow) → advances_in (rs ++ rows.Settle ∷ []) ≡ advances_in rs
 advances-settle [] = refl
 advances-settle (r ∷ rs) = omega (arith, advances-settle rs)
+
+pub advances-lose : (rs : List ScriptRow) → advances_in (rs ++ rows.Lose ∷ []) ≡ advances_in rs
+advances-lose [] = refl
+advances-lose (r ∷ rs) = omega (arith, advances-lose rs)
+
+-- one for a row that makes the coordinator forget
+abbrev pub one_lose : ScriptRow → ℕ
+one_lose r = if is_lose r then 1 else 0
+
+pub loses-push : (rs : List ScriptRow) (r : ScriptRow) → loses_in (rs ++ r ∷ []) ≡ loses_in rs + one_lose r
+loses-push [] r = omega arith
+loses-push (q ∷ rs) r = omega (arith, loses-push rs r)
 
 pub names-on_last : (f : Tree → Tree) (ts : List Tree) → ((t : Tree) → (f t).name ≡ t.name) → tree_names (on_last f ts) ≡ tree_names ts
 names-on_last f [] same = refl
@@ -153,19 +172,37 @@ ops-op (s ∷ t ∷ ts) o some = ap (λ (os : List SubOp). s.ops ++ os) (ops-op 
 
 -- one more item
 
-starts_small : (r : ItemRow) → may_start r.kind r.initial ≡ true → unsigned_abs r.initial ≤ MOST_AMOUNT
-starts_small r e = grind (arith, common_steps, e)
+-- what a form allows
 
-starts_empty : (r : ItemRow) → may_start r.kind r.initial ≡ true → r.kind ≡ kinds.Bag → unsigned_abs r.initial ≡ 0
-starts_empty r e bag = let here : may_start kinds.Bag r.initial ≡ true = subst (λ (k : Kind). may_start k r.initial ≡ true) bag e in grind (arith, common_steps, here)
+pub most_amount-small : (f : Form) → most_amount f ≤ MOST_AMOUNT
+most_amount-small forms.One = omega arith
+most_amount-small forms.Two = omega arith
+
+pub most_nodes-small : (f : Form) → most_nodes f ≤ 64
+most_nodes-small forms.One = omega arith
+most_nodes-small forms.Two = omega arith
+
+at_most : (m most : ℕ) (b : Bool) → (nat_le m most && b) ≡ true → m ≤ most
+at_most m most b e = grind (arith, common_steps)
+
+and_so : (m most : ℕ) (b : Bool) → most ≤ MOST_AMOUNT → (nat_le m most && b) ≡ true → (nat_le m MOST_AMOUNT && b) ≡ true
+and_so m most b le e = grind (arith, common_steps)
+
+starts_small : (f : Form) (r : ItemRow) → may_start f r.kind r.initial ≡ true → unsigned_abs r.initial ≤ most_amount f
+starts_small f r e = at_most (unsigned_abs r.initial) (most_amount f) (not (starts_full r.kind r.initial)) e
+
+starts_empty : (f : Form) (r : ItemRow) → may_start f r.kind r.initial ≡ true → r.kind ≡ kinds.Bag → unsigned_abs r.initial ≡ 0
+starts_empty f r e bag =
+    let here : may_start f kinds.Bag r.initial ≡ true = subst (λ (k : Kind). may_start f k r.initial ≡ true) bag e in
+    grind (arith, common_steps, here)
 
 pub valid_item : (s : ScriptData) (r : ItemRow) → MayAddItem s r → IsValid s → IsValid (with_item s r)
 valid_item s r may h =
     let more : length (s.items ++ r ∷ []) ≡ length s.items + 1 = omega (arith, length-append s.items (r ∷ [])) in
     let few = not_le 10000 (length s.items) may.room in
     let idle = trees_before s.nodes s.items s.trees h.trees in
-    let small = starts_small r may.start in
-    let item : IsItem s.nodes r = record { node = not_le s.nodes r.node.0 may.place; bag = starts_empty r may.start; name = may.plain; small = small } in
+    let small = starts_small s.form r may.start in
+    let item : IsItem s.nodes r = record { node = not_le s.nodes r.node.0 may.place; bag = starts_empty s.form r may.start; name = may.plain; small = omega (arith, small, most_amount-small s.form) } in
     let names : item_names (s.items ++ r ∷ []) ≡ item_names s.items ++ r.name ∷ [] = map-append (λ (x : ItemRow). x.name) s.items (r ∷ []) in
     let new : list_any (bytes_eq r.name) (item_names s.items) ≡ false = has_item r.name s.items ∙ may.free in
     let fresh : initial_load (slice_get (s.items ++ r ∷ []) (length s.items)) ≡ unsigned_abs r.initial = ap initial_load (slice_get-seam s.items [] r) in
@@ -192,29 +229,36 @@ valid_item s r may h =
           | inr over ↦ let e : x ≡ length s.items = omega arith in rw e (omega (arith, idle.1))
         ];
         advances = h.limited.advances;
+        loses = h.limited.loses;
         strict = h.limited.strict;
         pairs = h.limited.pairs;
+        places = h.limited.places;
       };
+      first_form = h.first_form;
     }
 
 -- one more tree, with its root alone
 
-pub record TreesLeft (kind : TreeKind) (ts : List Tree) : Type 0 where
+pub record TreesLeft (nodes : ℕ) (kind : TreeKind) (ts : List Tree) : Type 0 where
   pub trees : length ts < 20000
+  pub places : nodes * (length ts + 1) ≤ 320000
   pub subs : all_subs ts < 100000
   pub strict : strict_trees ts + one_strict kind ≤ 1000
   pub pairs : (strict_trees ts + one_strict kind) * (update_subs ts + if_update kind 1) ≤ 1000000
 
-pub trees_left : (kind : TreeKind) (ts : List Tree) → has_no_tree_left kind ts ≡ false → TreesLeft kind ts
-trees_left kind ts e =
-    let a = nat_le 20000 (length ts) in
+pub trees_left : (nodes : ℕ) (kind : TreeKind) (ts : List Tree) → has_no_tree_left nodes kind ts ≡ false → TreesLeft nodes kind ts
+trees_left nodes kind ts e =
+    let z = nat_le 20000 (length ts) in
+    let y = are_spread nodes (length ts + 1) in
+    let a = z || y in
     let b = nat_le 100000 (all_subs ts) in
     let c = nat_lt 1000 (strict_trees ts + one_strict kind) in
     let d = are_many (strict_trees ts + one_strict kind) (update_subs ts + if_update kind 1) in
     let f = or_left (a || b || c) d e in
     let g = or_left (a || b) c f in
     record {
-      trees = not_le 20000 (length ts) (or_left a b g);
+      trees = not_le 20000 (length ts) (or_left z y (or_left a b g));
+      places = not_lt 320000 (nodes * (length ts + 1)) (or_right z y (or_left a b g));
       subs = not_le 100000 (all_subs ts) (or_right a b g);
       strict = not_lt 1000 (strict_trees ts + one_strict kind) (or_right (a || b) c f);
       pairs = not_lt 1000000 ((strict_trees ts + one_strict kind) * (update_subs ts + if_update kind 1)) (or_right (a || b || c) d e);
@@ -225,7 +269,7 @@ unfolding IsDistinct
 valid_tree s name kind node may h =
     let t : Tree = rooted name kind node in
     let x : Sub = record { parent = record { 0 = 0 }; node = node; ops = [] } in
-    let left = trees_left kind s.trees may.room in
+    let left = trees_left s.nodes kind s.trees may.room in
     let len : length (s.trees ++ t ∷ []) ≡ length s.trees + 1 = omega (arith, length-append s.trees (t ∷ [])) in
     let loads : (k : ℕ) → trees_load k (s.trees ++ t ∷ []) ≡ trees_load k s.trees = λ k. total-tree (load_total k) s.trees t x refl refl in
     let puts : (k : ℕ) → trees_puts k (s.trees ++ t ∷ []) ≡ trees_puts k s.trees = λ k. total-tree (put_total k) s.trees t x refl refl in
@@ -262,9 +306,12 @@ valid_tree s name kind node may h =
         ops = omega (arith, h.limited.ops);
         puts = λ k lt. omega (arith, h.limited.puts k lt, puts k);
         advances = omega (arith, h.limited.advances, advances-tree s.rows (record { 0 = length s.trees }));
+        loses = omega (arith, h.limited.loses, loses-push s.rows (rows.Tree (record { 0 = length s.trees })));
         strict = omega (arith, left.strict);
         pairs = rw (strict, updates) left.pairs;
+        places = rw len left.places;
       };
+      first_form = λ e. omega (arith, h.first_form e, loses-push s.rows (rows.Tree (record { 0 = length s.trees })));
     }
 
 -- one more subtransaction of the last tree
@@ -334,9 +381,12 @@ valid_sub s parent node may h =
         ops = omega (arith, h.limited.ops);
         puts = λ k lt. omega (arith, h.limited.puts k lt, total-sub (put_total k) s.trees x refl some);
         advances = h.limited.advances;
+        loses = h.limited.loses;
         strict = omega (arith, h.limited.strict);
         pairs = rw (strict, updates) left.pairs;
+        places = rw len h.limited.places;
       };
+      first_form = h.first_form;
     }
 
 -- one more operation of the last subtransaction
@@ -384,13 +434,17 @@ same_item k ss = any-map (nat_eq k) (λ (o : SubOp). o.item.0) (λ o. nat_eq o.i
 is_same : (a b : ℕ) → (a == b) ≡ true → a ≡ b
 is_same a b e = grind (arith, common_steps)
 
+-- what is in a form's range is in the wider one
+wider : (f : Form) (deed : Deed) → is_in_range f deed ≡ true → is_in_range forms.Two deed ≡ true
+wider f deed e = and_so (magnitude deed) (most_amount f) (not (draws_negative deed)) (most_amount-small f) e
+
 pub valid_op : (s : ScriptData) (k : ℕ) (deed : Deed) → MayAddOp s k deed → IsValid s → IsValid (with_op s k deed)
 valid_op s k deed may h =
     let o : SubOp = record { item = record { 0 = k }; deed = deed } in
     let some = h.begun may.begun in
     let left = ops_left k deed s.trees may.room in
     let node = is_same (node_at k s.items) (last_node s.trees) may.node in
-    let small = not_lt MOST_AMOUNT (load k s + magnitude deed) may.load in
+    let small = not_lt (most_amount s.form) (load k s + magnitude deed) may.load in
     let root = some_last_subs s.nodes s.items s.trees h.trees some in
     let len = length-on_last (on_last_sub (push_op o)) s.trees in
     let names = names-on_last (on_last_sub (push_op o)) s.trees (λ t. refl) in
@@ -411,7 +465,7 @@ valid_op s k deed may h =
       node = xh.node;
       few = omega (arith, length-append x.ops (o ∷ []), left.sub);
       ops = all-push (IsOp s.items t.kind x.node.0) x.ops o xh.ops (op_new s.items t.kind x.node.0 o may.item its_node its_kind);
-      amounts = all-push (λ (p : SubOp). IsTrue (is_in_range p.deed)) x.ops o xh.amounts may.range;
+      amounts = all-push (λ (p : SubOp). IsTrue (is_in_range forms.Two p.deed)) x.ops o xh.amounts (wider s.form deed may.range);
     } in
     let items : items_of (on_last (push_op o) t.subs) ≡ items_of t.subs ++ k ∷ [] =
     ap (map (λ (p : SubOp). p.item.0)) (ops-op t.subs o th.root) ∙ map-append (λ (p : SubOp). p.item.0) (ops_in t.subs) (o ∷ []) in
@@ -447,15 +501,19 @@ valid_op s k deed may h =
           | inr ne ↦ omega (arith, h.limited.puts j lt, total-op (put_total j) s.trees o some root, put_other o j (λ q. ne (sym q)))
         ];
         advances = h.limited.advances;
+        loses = h.limited.loses;
         strict = omega (arith, h.limited.strict);
         pairs = rw (strict, updates) h.limited.pairs;
+        places = rw len h.limited.places;
       };
+      first_form = h.first_form;
     }
 
 -- a row that isn't a tree's, and a pick
 
-pub valid_row : (s : ScriptData) (r : ScriptRow) → is_plain r ≡ true → advances_in (s.rows ++ r ∷ []) ≤ 100 → IsValid s → IsValid (with_row s r)
-valid_row s r plain few h = record {
+pub valid_row : (s : ScriptData) (r : ScriptRow) → is_plain r ≡ true → advances_in (s.rows ++ r ∷ []) ≤ 100 → loses_in (s.rows ++ r ∷ []) ≤ 100
+    → (s.form ≡ forms.One → one_lose r ≡ 0) → IsValid s → IsValid (with_row s r)
+valid_row s r plain few few_loses first h = record {
   some_nodes = h.some_nodes;
   few_nodes = h.few_nodes;
   few_items = h.few_items;
@@ -467,7 +525,8 @@ valid_row s r plain few h = record {
   begun = λ e. absurd cc;
   distinct_items = h.distinct_items;
   distinct_trees = h.distinct_trees;
-  limited = record { subs = h.limited.subs; ops = h.limited.ops; puts = h.limited.puts; advances = few; strict = h.limited.strict; pairs = h.limited.pairs };
+  limited = record { subs = h.limited.subs; ops = h.limited.ops; puts = h.limited.puts; advances = few; loses = few_loses; strict = h.limited.strict; pairs = h.limited.pairs; places = h.limited.places };
+  first_form = λ e. omega (arith, h.first_form e, first e, loses-push s.rows r);
 }
 
 pub valid_pick : (s : ScriptData) (k : ℕ) → IsValid s → IsValid (record s { picks = s.picks ++ k ∷ []; begun = false })
@@ -483,5 +542,46 @@ valid_pick s k h = record {
   begun = λ e. absurd cc;
   distinct_items = h.distinct_items;
   distinct_trees = h.distinct_trees;
-  limited = record { subs = h.limited.subs; ops = h.limited.ops; puts = h.limited.puts; advances = h.limited.advances; strict = h.limited.strict; pairs = h.limited.pairs };
+  limited = record {
+    subs = h.limited.subs;
+    ops = h.limited.ops;
+    puts = h.limited.puts;
+    advances = h.limited.advances;
+    loses = h.limited.loses;
+    strict = h.limited.strict;
+    pairs = h.limited.pairs;
+    places = h.limited.places;
+  };
+  first_form = h.first_form;
+}
+
+-- a script of the second form allows more
+
+wider_nodes : (f : Form) (n : ℕ) → n ≤ most_nodes f → n ≤ 64
+wider_nodes f n le = omega (arith, most_nodes-small f)
+
+pub valid_upgraded : (s : ScriptData) → IsValid s → IsValid (upgraded s)
+valid_upgraded s h = record {
+  some_nodes = h.some_nodes;
+  few_nodes = wider_nodes s.form s.nodes h.few_nodes;
+  few_items = h.few_items;
+  few_trees = h.few_trees;
+  items = h.items;
+  trees = h.trees;
+  loads = λ x lt. omega (arith, h.loads x lt, most_amount-small s.form);
+  rows = h.rows;
+  begun = h.begun;
+  distinct_items = h.distinct_items;
+  distinct_trees = h.distinct_trees;
+  limited = record {
+    subs = h.limited.subs;
+    ops = h.limited.ops;
+    puts = h.limited.puts;
+    advances = h.limited.advances;
+    loses = h.limited.loses;
+    strict = h.limited.strict;
+    pairs = h.limited.pairs;
+    places = h.limited.places;
+  };
+  first_form = λ e. absurd (cc e);
 }

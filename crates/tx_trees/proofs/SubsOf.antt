@@ -1,20 +1,30 @@
--- A valid script's trees are small, and run at its nodes.
+-- A valid script's nodes are few, its items' magnitudes and its trees are small, and its trees run at its nodes.
 use Rattle.std.proofs.Common.{◌≡◌, ℕ, ◌+◌, ◌<◌, ◌≤◌, List, [], ◌∷◌, length, Option, Some, None, zero, suc, refl, sym, subst, arith}
 use Rattle.std.specs.Prelude.{All, slice_get}
 use Rattle.std.specs.List.{AllByRecursion}
 use Rattle.std.proofs.lemmas.List.Elements.{All-from_recursion}
+use Rattle.commute_ops.specs.declared.kinds.TheConstants.{MOST_AMOUNT}
 use Rattle.tx_trees.specs.declared.parts.ItemRow.{ItemRow}
 use Rattle.tx_trees.specs.declared.parts.Sub.{Sub}
 use Rattle.tx_trees.specs.declared.parts.Tree.{Tree}
 use Rattle.tx_trees.specs.declared.parts.TreeKind.{TreeKind}
 use Rattle.tx_trees.specs.ScriptData.{ScriptData, subs_at}
-use Rattle.tx_trees.specs.Valid.{IsValid, IsTree, AreSubs}
+use Rattle.tx_trees.specs.Valid.{IsValid, IsTree, AreSubs, load}
+use Rattle.tx_trees.proofs.Stays.{most_amount-small, most_nodes-small}
 
 -- what holds of each holds at each place
 pub all_at : {X : Type 0} (P : X → Type 0) (xs : List X) (k : ℕ) (x : X) → AllByRecursion P xs → slice_get xs k ≡ Some x → P x
 all_at P [] k x all at = absurd (grind arith)
 all_at P (y ∷ ys) zero x all at = let eq : y ≡ x = grind arith in subst P eq all.0
 all_at P (y ∷ ys) (suc k) x all at = all_at P ys k x all.1 at
+
+-- a script has at most 64 nodes
+pub few_nodes : (s : ScriptData) → IsValid s → s.nodes ≤ 64
+few_nodes s valid = omega (arith, valid.few_nodes, most_nodes-small s.form)
+
+-- an item's magnitudes add up to no more than the greatest of a value
+pub small_load : (s : ScriptData) (x : ℕ) → IsValid s → x < length s.items → load x s ≤ MOST_AMOUNT
+small_load s x valid lt = omega (arith, valid.loads x lt, most_amount-small s.form)
 
 few_by : (s : ScriptData) → IsValid s → (t : ℕ) (found : Option Tree) → slice_get s.trees t ≡ found → length (subs_at s t) ≤ 64
 few_by s valid t None at = rw (at, subs_at) (omega arith)

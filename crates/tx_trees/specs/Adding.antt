@@ -4,15 +4,17 @@ use Rattle.std.specs.List.{list_any}
 use Rattle.std.specs.Str.{bytes_eq}
 use Rattle.commute_ops.specs.declared.kinds.Kind.{Kind}
 use Rattle.commute_ops.specs.declared.kinds.Kind.TheVariants.{Sum as SumKind}
-use Rattle.commute_ops.specs.declared.kinds.TheConstants.{MOST_AMOUNT}
 use Rattle.tv_base.specs.declared.numbers.NodeNo.{NodeNo}
-pub use Rattle.tx_trees.specs.Counts.{advances_in, all_ops, all_subs}
+pub use Rattle.tx_trees.specs.Counts.{advances_in, all_ops, all_subs, loses_in}
 use Rattle.tx_trees.specs.Amounts.{magnitude}
 use Rattle.tx_trees.specs.Counts.{if_update, one_put, one_strict, ops_in, strict_trees, trees_puts, update_subs}
+use Rattle.tx_trees.specs.Forms.{most_amount}
 use Rattle.tx_trees.specs.Names.{is_name}
 use Rattle.tx_trees.specs.Ranges.{is_in_range, may_start}
 use Rattle.tx_trees.specs.ScriptData.{ScriptData, is_strict}
 use Rattle.tx_trees.specs.Valid.{deed_fits, load}
+use Rattle.tx_trees.specs.declared.parts.Form.{Form}
+use Rattle.tx_trees.specs.declared.parts.Form.TheVariants as forms
 use Rattle.tx_trees.specs.declared.parts.ItemRow.{ItemRow}
 use Rattle.tx_trees.specs.declared.parts.Tree.{Tree}
 use Rattle.tx_trees.specs.declared.parts.Sub.{Sub}
@@ -38,9 +40,9 @@ Steps step (Ok u) old new = step ≡ Ok new
 Steps step (Err (refusals.Why w)) old new = (step ≡ Err w) × (new ≡ old)
 Steps step (Err refusals.NoMemory) old new = new ≡ old
 
--- a script of so many nodes, with nothing in it
-abbrev pub fresh : ℕ → ScriptData
-fresh n = record { nodes = n; items = []; trees = []; rows = []; picks = []; begun = false }
+-- a script of this form and of so many nodes, with nothing in it
+abbrev pub fresh : Form → ℕ → ScriptData
+fresh form n = record { form = form; nodes = n; items = []; trees = []; rows = []; picks = []; begun = false }
 
 -- the place of the item of this name, which is its number
 abbrev pub place_of : List ℕ → List ItemRow → Option ℕ
@@ -55,7 +57,7 @@ with_item s row = record s { items = s.items ++ row ∷ []; begun = false }
 
 abbrev pub adds_item : ScriptData → ItemRow → Result ScriptData Why
 adds_item s row =
-    judged ((nat_le s.nodes row.node.0 || not (may_start row.kind row.initial), why.OutOfRange)
+    judged ((nat_le s.nodes row.node.0 || not (may_start s.form row.kind row.initial), why.OutOfRange)
     ∷ (not (is_name row.name), why.BadName)
     ∷ (is_some (place_of row.name s.items), why.NameTaken)
     ∷ (nat_le 10000 (length s.items), why.TooMany) ∷ []) (with_item s row)
@@ -75,10 +77,14 @@ with_tree s name kind node = record s {
 abbrev pub are_many : ℕ → ℕ → Bool
 are_many strict subs = nat_lt 1000000 (strict * subs)
 
+-- so many trees are too many for so many nodes
+abbrev pub are_spread : ℕ → ℕ → Bool
+are_spread nodes trees = nat_lt 320000 (nodes * trees)
+
 -- with one more tree of this kind a limit would be passed
-abbrev pub has_no_tree_left : TreeKind → List Tree → Bool
-has_no_tree_left kind ts =
-    nat_le 20000 (length ts) || nat_le 100000 (all_subs ts) || nat_lt 1000 (strict_trees ts + one_strict kind)
+abbrev pub has_no_tree_left : ℕ → TreeKind → List Tree → Bool
+has_no_tree_left nodes kind ts =
+    nat_le 20000 (length ts) || are_spread nodes (length ts + 1) || nat_le 100000 (all_subs ts) || nat_lt 1000 (strict_trees ts + one_strict kind)
     || are_many (strict_trees ts + one_strict kind) (update_subs ts + if_update kind 1)
 
 abbrev pub adds_tree : ScriptData → List ℕ → TreeKind → NodeNo → Result ScriptData Why
@@ -86,7 +92,7 @@ adds_tree s name kind node =
     judged ((nat_le s.nodes node.0, why.OutOfRange)
     ∷ (not (is_name name), why.BadName)
     ∷ (names_tree name s.trees, why.NameTaken)
-    ∷ (has_no_tree_left kind s.trees, why.TooMany) ∷ []) (with_tree s name kind node)
+    ∷ (has_no_tree_left s.nodes kind s.trees, why.TooMany) ∷ []) (with_tree s name kind node)
 
 -- the last of a list, changed
 abbrev pub on_last : {A : Type 0} → (A → A) → List A → List A
@@ -176,11 +182,11 @@ adds_op_at s (Some k) deed =
     ∷ (not (node_at k s.items == last_node s.trees), why.WrongNode)
     ∷ (not (deed_fits (last_kind s.trees) (kind_at k s.items) deed), why.WrongKind)
     ∷ (has_no_op_left k deed s.trees, why.TooMany)
-    ∷ (nat_lt MOST_AMOUNT (load k s + magnitude deed), why.TooMuch)
+    ∷ (nat_lt (most_amount s.form) (load k s + magnitude deed), why.TooMuch)
     ∷ (has_touched k s.trees, why.ItemTwice) ∷ []) (with_op s k deed)
 
 abbrev pub adds_op : ScriptData → List ℕ → Deed → Result ScriptData Why
-adds_op s name deed = if is_in_range deed then adds_op_at s (place_of name s.items) deed else Err why.OutOfRange
+adds_op s name deed = if is_in_range s.form deed then adds_op_at s (place_of name s.items) deed else Err why.OutOfRange
 
 -- a row that isn't a tree's
 abbrev pub with_row : ScriptData → ScriptRow → ScriptData
@@ -192,5 +198,12 @@ adds_advance s = judged ((nat_le 100 (advances_in s.rows), why.TooMany) ∷ []) 
 abbrev pub adds_settle : ScriptData → Result ScriptData Why
 adds_settle s = Ok (with_row s rows.Settle)
 
+abbrev pub adds_lose : ScriptData → Result ScriptData Why
+adds_lose s = judged ((nat_le 100 (loses_in s.rows), why.TooMany) ∷ []) (with_row s rows.Lose)
+
 abbrev pub adds_pick : ScriptData → ℕ → Result ScriptData Why
 adds_pick s k = Ok (record s { picks = s.picks ++ k ∷ []; begun = false })
+
+-- the same script in the second form
+abbrev pub upgraded : ScriptData → ScriptData
+upgraded s = record s { form = forms.Two }

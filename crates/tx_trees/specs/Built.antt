@@ -1,4 +1,5 @@
--- The forms of trees and rows that are run. Strict trees and advancements aren't yet.
+-- The forms of trees and rows that are run. Strict trees, advancements and rows that make the coordinator forget aren't
+-- yet.
 use Rattle.std.specs.Prelude.{Bool, true, false}
 use Rattle.tx_trees.specs.declared.parts.ScriptRow.{ScriptRow}
 use Rattle.tx_trees.specs.declared.parts.ScriptRow.TheVariants as rows
@@ -16,3 +17,4 @@ abbrev pub IsBuiltRow : ScriptRow → Type 0
 IsBuiltRow (rows.Tree t) = Unit {0}
 IsBuiltRow rows.Advance = ⊥
 IsBuiltRow rows.Settle = Unit {0}
+IsBuiltRow rows.Lose = ⊥

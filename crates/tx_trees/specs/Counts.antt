@@ -71,10 +71,22 @@ abbrev pub is_advance : ScriptRow → Bool
 is_advance (rows.Tree _) = false
 is_advance rows.Advance = true
 is_advance rows.Settle = false
+is_advance rows.Lose = false
 
 abbrev pub advances_in : List ScriptRow → ℕ
 advances_in [] = 0
 advances_in (r ∷ rs) = (if is_advance r then 1 else 0) + advances_in rs
+
+-- how often the coordinator is made to forget
+abbrev pub is_lose : ScriptRow → Bool
+is_lose (rows.Tree _) = false
+is_lose rows.Advance = false
+is_lose rows.Settle = false
+is_lose rows.Lose = true
+
+abbrev pub loses_in : List ScriptRow → ℕ
+loses_in [] = 0
+loses_in (r ∷ rs) = (if is_lose r then 1 else 0) + loses_in rs
 
 -- the operations of the subtransactions, in order
 abbrev pub ops_in : List Sub → List SubOp

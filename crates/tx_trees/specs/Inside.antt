@@ -2,11 +2,12 @@
 use Rattle.std.specs.Prelude.{ℕ, ◌≡◌, ◌<◌, length, get_or}
 use Rattle.tx_trees.specs.ScriptData.{ScriptData}
 use Rattle.tx_trees.specs.Valid.{IsValid, item_names, load, tree_names}
-use Rattle.tx_trees.specs.Counts.{advances_in, all_ops, all_subs, strict_trees, trees_puts, update_subs}
+use Rattle.tx_trees.specs.Counts.{advances_in, all_ops, all_subs, loses_in, strict_trees, trees_puts, update_subs}
 use Rattle.tx_trees.specs.declared.script.Script.TheInside.{Inside}
 
 abbrev pub data_of : Inside → ScriptData
 data_of s = record {
+  form = s.form;
   nodes = s.nodes;
   items = s.items.items;
   trees = s.trees.items;
@@ -28,5 +29,6 @@ pub record IsKept (s : Inside) : Type 0 where
   pub subs : s.subs ≡ all_subs s.trees.items
   pub ops : s.ops ≡ all_ops s.trees.items
   pub advances : s.advances ≡ advances_in s.rows.items
+  pub loses : s.loses ≡ loses_in s.rows.items
   pub strict : s.strict ≡ strict_trees s.trees.items
   pub update_subs : s.update_subs ≡ update_subs s.trees.items

@@ -2,6 +2,7 @@ pub mod Adding
 pub mod Amounts
 pub mod AsciiNames
 pub mod Counts
+pub mod Forms
 pub mod Inside
 pub mod Names
 pub mod Passing

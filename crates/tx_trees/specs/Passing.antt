@@ -1,9 +1,9 @@
 -- What a record that is taken meets: none of the conditions under which it is refused.
 use Rattle.std.specs.Prelude.{ℕ, true, false, ◌≡◌, ◌<◌, ◌+◌, ◌==◌, List, length, is_some, nat_le, nat_lt}
-use Rattle.commute_ops.specs.declared.kinds.TheConstants.{MOST_AMOUNT}
 use Rattle.tv_base.specs.declared.numbers.NodeNo.{NodeNo}
 use Rattle.tx_trees.specs.Adding.{has_no_op_left, has_no_sub_left, has_no_tree_left, has_touched, kind_at, last_kind, last_node, last_subs, names_tree, node_at, place_of}
 use Rattle.tx_trees.specs.Amounts.{magnitude}
+use Rattle.tx_trees.specs.Forms.{most_amount}
 use Rattle.tx_trees.specs.Names.{is_name}
 use Rattle.tx_trees.specs.Ranges.{is_in_range, may_start}
 use Rattle.tx_trees.specs.ScriptData.{ScriptData}
@@ -14,7 +14,7 @@ use Rattle.tx_trees.specs.declared.parts.TreeKind.{TreeKind}
 
 pub record MayAddItem (s : ScriptData) (row : ItemRow) : Type 0 where
   pub place : nat_le s.nodes row.node.0 ≡ false
-  pub start : may_start row.kind row.initial ≡ true
+  pub start : may_start s.form row.kind row.initial ≡ true
   pub plain : is_name row.name ≡ true
   pub free : is_some (place_of row.name s.items) ≡ false
   pub room : nat_le 10000 (length s.items) ≡ false
@@ -23,7 +23,7 @@ pub record MayAddTree (s : ScriptData) (name : List ℕ) (kind : TreeKind) (node
   pub place : nat_le s.nodes node.0 ≡ false
   pub plain : is_name name ≡ true
   pub free : names_tree name s.trees ≡ false
-  pub room : has_no_tree_left kind s.trees ≡ false
+  pub room : has_no_tree_left s.nodes kind s.trees ≡ false
 
 pub record MayAddSub (s : ScriptData) (parent : ℕ) (node : NodeNo) : Type 0 where
   pub place : nat_le s.nodes node.0 ≡ false
@@ -32,11 +32,11 @@ pub record MayAddSub (s : ScriptData) (parent : ℕ) (node : NodeNo) : Type 0 wh
   pub room : has_no_sub_left s.trees ≡ false
 
 pub record MayAddOp (s : ScriptData) (k : ℕ) (deed : Deed) : Type 0 where
-  pub range : is_in_range deed ≡ true
+  pub range : is_in_range s.form deed ≡ true
   pub item : k < length s.items
   pub begun : s.begun ≡ true
   pub node : (node_at k s.items == last_node s.trees) ≡ true
   pub kind : deed_fits (last_kind s.trees) (kind_at k s.items) deed ≡ true
   pub room : has_no_op_left k deed s.trees ≡ false
-  pub load : nat_lt MOST_AMOUNT (load k s + magnitude deed) ≡ false
+  pub load : nat_lt (most_amount s.form) (load k s + magnitude deed) ≡ false
   pub once : has_touched k s.trees ≡ false

@@ -3,10 +3,11 @@ use Rattle.std.specs.Prelude.{Bool, false, not, ◌&&◌, ◌==◌, nat_le, ℤ,
 use Rattle.std.specs.Int.{is_negative}
 use Rattle.commute_ops.specs.declared.kinds.Kind.{Kind}
 use Rattle.commute_ops.specs.declared.kinds.Kind.TheVariants as kinds
-use Rattle.commute_ops.specs.declared.kinds.TheConstants.{MOST_AMOUNT}
 use Rattle.tx_trees.specs.Amounts.{magnitude}
+use Rattle.tx_trees.specs.Forms.{most_amount}
 use Rattle.tx_trees.specs.declared.parts.Deed.{Deed}
 use Rattle.tx_trees.specs.declared.parts.Deed.TheVariants as deeds
+use Rattle.tx_trees.specs.declared.parts.Form.{Form}
 
 -- an operation that lowers by a negative amount
 abbrev pub draws_negative : Deed → Bool
@@ -15,8 +16,8 @@ draws_negative (deeds.Apply op) = false
 draws_negative deeds.Get = false
 draws_negative (deeds.Set a) = false
 
-abbrev pub is_in_range : Deed → Bool
-is_in_range deed = nat_le (magnitude deed) MOST_AMOUNT && not (draws_negative deed)
+abbrev pub is_in_range : Form → Deed → Bool
+is_in_range form deed = nat_le (magnitude deed) (most_amount form) && not (draws_negative deed)
 
 -- a bag starts empty
 abbrev pub starts_full : Kind → ℤ → Bool
@@ -24,5 +25,5 @@ starts_full kinds.Bag a = not (unsigned_abs a == 0)
 starts_full kinds.Sum a = false
 starts_full kinds.Top a = false
 
-abbrev pub may_start : Kind → ℤ → Bool
-may_start kind a = nat_le (unsigned_abs a) MOST_AMOUNT && not (starts_full kind a)
+abbrev pub may_start : Form → Kind → ℤ → Bool
+may_start form kind a = nat_le (unsigned_abs a) (most_amount form) && not (starts_full kind a)

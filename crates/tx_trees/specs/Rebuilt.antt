@@ -1,7 +1,7 @@
--- A script that is built again from its own rows: its nodes, its items, each row, a tree's row with its whole tree, and
+-- A script that is built again from its own rows: its form, its nodes, its items, each row, a tree's row with its whole tree, and
 -- its picks, in this order.
 use Rattle.std.specs.Prelude.{ℕ, ◌≡◌, List, [], ◌∷◌, Option, Some, None, Result, Ok, Err, slice_get}
-use Rattle.tx_trees.specs.Adding.{adds_advance, adds_item, adds_op, adds_pick, adds_settle, adds_sub, adds_tree, fresh}
+use Rattle.tx_trees.specs.Adding.{adds_advance, adds_item, adds_lose, adds_op, adds_pick, adds_settle, adds_sub, adds_tree, fresh}
 use Rattle.tx_trees.specs.ScriptData.{ScriptData}
 use Rattle.tx_trees.specs.declared.parts.ItemRow.{ItemRow}
 use Rattle.tx_trees.specs.declared.parts.ScriptRow.{ScriptRow}
@@ -50,6 +50,7 @@ abbrev pub row_added : List Tree → ScriptData → ScriptRow → Result ScriptD
 row_added ts s (rows.Tree n) = tree_added s (slice_get ts n.0)
 row_added ts s rows.Advance = adds_advance s
 row_added ts s rows.Settle = adds_settle s
+row_added ts s rows.Lose = adds_lose s
 
 abbrev pub rows_added : List Tree → ScriptData → List ScriptRow → Result ScriptData Why
 rows_added ts s [] = Ok s
@@ -61,11 +62,12 @@ picks_added s (k ∷ ks) = then_more (adds_pick s k) (λ t. picks_added t ks)
 
 abbrev pub rebuilt : ScriptData → Result ScriptData Why
 rebuilt s =
-    then_more (items_added (fresh s.nodes) s.items)
+    then_more (items_added (fresh s.form s.nodes) s.items)
     (λ t. then_more (rows_added s.trees t s.rows) (λ u. picks_added u s.picks))
 
 -- two scripts that differ at most in what their last record was
 pub record SameScript (s t : ScriptData) : Type 0 where
+  pub form : s.form ≡ t.form
   pub nodes : s.nodes ≡ t.nodes
   pub items : s.items ≡ t.items
   pub trees : s.trees ≡ t.trees

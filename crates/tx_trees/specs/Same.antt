@@ -10,6 +10,8 @@ use Rattle.commute_ops.specs.declared.kinds.Op.TheVariants as ops
 use Rattle.tx_trees.specs.ScriptData.{ScriptData}
 use Rattle.tx_trees.specs.declared.parts.Deed.{Deed}
 use Rattle.tx_trees.specs.declared.parts.Deed.TheVariants as deeds
+use Rattle.tx_trees.specs.declared.parts.Form.{Form}
+use Rattle.tx_trees.specs.declared.parts.Form.TheVariants as forms
 use Rattle.tx_trees.specs.declared.parts.ItemRow.{ItemRow}
 use Rattle.tx_trees.specs.declared.parts.ScriptRow.{ScriptRow}
 use Rattle.tx_trees.specs.declared.parts.ScriptRow.TheVariants as rows
@@ -18,6 +20,11 @@ use Rattle.tx_trees.specs.declared.parts.SubOp.{SubOp}
 use Rattle.tx_trees.specs.declared.parts.Tree.{Tree}
 use Rattle.tx_trees.specs.declared.parts.TreeKind.{TreeKind}
 use Rattle.tx_trees.specs.declared.parts.TreeKind.TheVariants as trees
+
+abbrev pub same_form : Form → Form → Bool
+same_form forms.One forms.One = true
+same_form forms.Two forms.Two = true
+same_form _ _ = false
 
 abbrev pub same_kind : Kind → Kind → Bool
 same_kind kinds.Sum kinds.Sum = true
@@ -48,6 +55,7 @@ abbrev pub same_row : ScriptRow → ScriptRow → Bool
 same_row (rows.Tree t) (rows.Tree u) = t.0 == u.0
 same_row rows.Advance rows.Advance = true
 same_row rows.Settle rows.Settle = true
+same_row rows.Lose rows.Lose = true
 same_row _ _ = false
 
 abbrev pub same_item : ItemRow → ItemRow → Bool
@@ -65,5 +73,5 @@ same_tree t u = bytes_eq t.name u.name && same_tree_kind t.kind u.kind && pointw
 -- all but what the last record was
 abbrev pub same_script : ScriptData → ScriptData → Bool
 same_script s t =
-    s.nodes == t.nodes && pointwise same_item s.items t.items && pointwise same_tree s.trees t.trees && pointwise same_row s.rows t.rows
+    same_form s.form t.form && s.nodes == t.nodes && pointwise same_item s.items t.items && pointwise same_tree s.trees t.trees && pointwise same_row s.rows t.rows
     && pointwise nat_eq s.picks t.picks

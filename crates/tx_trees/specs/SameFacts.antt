@@ -13,10 +13,12 @@ use Rattle.commute_ops.specs.declared.kinds.Kind.TheVariants as kinds
 use Rattle.commute_ops.specs.declared.kinds.Op.{Op}
 use Rattle.commute_ops.specs.declared.kinds.Op.TheVariants as ops
 use Rattle.tx_trees.specs.Rebuilt.{SameScript}
-use Rattle.tx_trees.specs.Same.{same_deed, same_item, same_kind, same_op, same_row, same_script, same_sub, same_sub_op, same_tree, same_tree_kind}
+use Rattle.tx_trees.specs.Same.{same_deed, same_form, same_item, same_kind, same_op, same_row, same_script, same_sub, same_sub_op, same_tree, same_tree_kind}
 use Rattle.tx_trees.specs.ScriptData.{ScriptData}
 use Rattle.tx_trees.specs.declared.parts.Deed.{Deed}
 use Rattle.tx_trees.specs.declared.parts.Deed.TheVariants as deeds
+use Rattle.tx_trees.specs.declared.parts.Form.{Form}
+use Rattle.tx_trees.specs.declared.parts.Form.TheVariants as forms
 use Rattle.tx_trees.specs.declared.parts.ItemRow.{ItemRow}
 use Rattle.tx_trees.specs.declared.parts.ScriptRow.{ScriptRow}
 use Rattle.tx_trees.specs.declared.parts.ScriptRow.TheVariants as rows
@@ -74,6 +76,18 @@ exact_name = exact_list nat_eq exact_number
 
 exact_amount : IsExact int_eq
 exact_amount = record { equal = λ a b. (Decides-int_eq a b).0; itself = λ a. (Decides-int_eq a a).1 refl }
+
+exact_form : IsExact same_form
+exact_form = record { equal = equal; itself = itself }
+  where
+    equal : (a b : Form) → same_form a b ≡ true → a ≡ b
+    equal forms.One forms.One e = refl
+    equal forms.Two forms.Two e = refl
+    equal _ _ e = absurd cc
+
+    itself : (a : Form) → same_form a a ≡ true
+    itself forms.One = refl
+    itself forms.Two = refl
 
 exact_kind : IsExact same_kind
 exact_kind = record { equal = equal; itself = itself }
@@ -140,12 +154,14 @@ exact_row = record { equal = equal; itself = itself }
     equal (rows.Tree t) (rows.Tree u) e = ap (λ (k : ℕ). let r : ScriptRow = rows.Tree (record { 0 = k }) in r) (exact_number.equal t.0 u.0 e)
     equal rows.Advance rows.Advance e = refl
     equal rows.Settle rows.Settle e = refl
+    equal rows.Lose rows.Lose e = refl
     equal _ _ e = absurd cc
 
     itself : (a : ScriptRow) → same_row a a ≡ true
     itself (rows.Tree t) = exact_number.itself t.0
     itself rows.Advance = refl
     itself rows.Settle = refl
+    itself rows.Lose = refl
 
 exact_sub_op : IsExact same_sub_op
 exact_sub_op = record {
@@ -222,15 +238,17 @@ same_exactly s t = (to, from)
 
     to : same_script s t ≡ true → SameScript s t
     to e =
-        let two = s.nodes == t.nodes && pointwise same_item s.items t.items in
+        let one = same_form s.form t.form && s.nodes == t.nodes in
+        let two = one && pointwise same_item s.items t.items in
         let three = two && pointwise same_tree s.trees t.trees in
         let four = three && pointwise same_row s.rows t.rows in
         let front = and_first four _ e in
         let less = and_first three _ front in
         let least = and_first two _ less in
         record {
-          nodes = exact_number.equal s.nodes t.nodes (and_first _ _ least);
-          items = items.equal s.items t.items (and_second (s.nodes == t.nodes) _ least);
+          form = exact_form.equal s.form t.form (and_first _ _ (and_first one _ least));
+          nodes = exact_number.equal s.nodes t.nodes (and_second (same_form s.form t.form) _ (and_first one _ least));
+          items = items.equal s.items t.items (and_second one _ least);
           trees = trees_exact.equal s.trees t.trees (and_second two _ less);
           rows = rows_exact.equal s.rows t.rows (and_second three _ front);
           picks = picks.equal s.picks t.picks (and_second four _ e);
@@ -238,21 +256,22 @@ same_exactly s t = (to, from)
 
     from : SameScript s t → same_script s t ≡ true
     from h =
+        let form = subst (λ (x : Form). same_form s.form x ≡ true) h.form (exact_form.itself s.form) in
         let nodes = subst (λ (x : ℕ). (s.nodes == x) ≡ true) h.nodes (exact_number.itself s.nodes) in
         let its_items = subst (λ (x : List ItemRow). pointwise same_item s.items x ≡ true) h.items (items.itself s.items) in
         let its_trees = subst (λ (x : List Tree). pointwise same_tree s.trees x ≡ true) h.trees (trees_exact.itself s.trees) in
         let its_rows = subst (λ (x : List ScriptRow). pointwise same_row s.rows x ≡ true) h.rows (rows_exact.itself s.rows) in
         let its_picks = subst (λ (x : List ℕ). pointwise nat_eq s.picks x ≡ true) h.picks (picks.itself s.picks) in
-        and_both _ _ (and_both _ _ (and_both _ _ (and_both _ _ nodes its_items) its_trees) its_rows) its_picks
+        and_both _ _ (and_both _ _ (and_both _ _ (and_both _ _ (and_both _ _ form nodes) its_items) its_trees) its_rows) its_picks
 
 pub script_laws : IsPartialEquivalence same_script
 script_laws = record { symm = symm; trans = trans }
   where
     turned : (s t : ScriptData) → SameScript s t → SameScript t s
-    turned s t h = record { nodes = sym h.nodes; items = sym h.items; trees = sym h.trees; rows = sym h.rows; picks = sym h.picks }
+    turned s t h = record { form = sym h.form; nodes = sym h.nodes; items = sym h.items; trees = sym h.trees; rows = sym h.rows; picks = sym h.picks }
 
     joined : (s t u : ScriptData) → SameScript s t → SameScript t u → SameScript s u
-    joined s t u h i = record { nodes = h.nodes ∙ i.nodes; items = h.items ∙ i.items; trees = h.trees ∙ i.trees; rows = h.rows ∙ i.rows; picks = h.picks ∙ i.picks }
+    joined s t u h i = record { form = h.form ∙ i.form; nodes = h.nodes ∙ i.nodes; items = h.items ∙ i.items; trees = h.trees ∙ i.trees; rows = h.rows ∙ i.rows; picks = h.picks ∙ i.picks }
 
     symm : (s t : ScriptData) → same_script s t ≡ same_script t s
     symm s t =

@@ -1,6 +1,7 @@
 -- What a script holds, and how its trees are looked up.
 use Rattle.std.specs.Prelude.{ℕ, ◌+◌, Bool, true, false, ◌==◌, List, [], Option, Some, None, slice_get}
 use Rattle.std.specs.List.{list_any}
+use Rattle.tx_trees.specs.declared.parts.Form.{Form}
 use Rattle.tx_trees.specs.declared.parts.ItemRow.{ItemRow}
 use Rattle.tx_trees.specs.declared.parts.Tree.{Tree}
 use Rattle.tx_trees.specs.declared.parts.Sub.{Sub}
@@ -10,6 +11,7 @@ use Rattle.tx_trees.specs.declared.parts.TreeKind.{TreeKind}
 use Rattle.tx_trees.specs.declared.parts.TreeKind.TheVariants.{Update, Read, Strict}
 
 pub record ScriptData : Type 0 where
+  pub form : Form
   pub nodes : ℕ
   pub items : List ItemRow
   pub trees : List Tree

@@ -8,10 +8,12 @@ use Rattle.commute_ops.specs.declared.kinds.Op.{Op}
 use Rattle.commute_ops.specs.declared.kinds.Op.TheVariants.{Add, Top, Put}
 use Rattle.commute_ops.specs.declared.kinds.TheConstants.{MOST_AMOUNT}
 pub use Rattle.tx_trees.specs.Amounts.{magnitude, op_magnitude}
-use Rattle.tx_trees.specs.Counts.{advances_in, all_ops, all_subs, ops_in, strict_trees, trees_puts, update_subs}
+use Rattle.tx_trees.specs.Counts.{advances_in, all_ops, all_subs, loses_in, ops_in, strict_trees, trees_puts, update_subs}
+use Rattle.tx_trees.specs.Forms.{most_amount, most_nodes}
 use Rattle.tx_trees.specs.Names.{is_name}
 use Rattle.tx_trees.specs.Ranges.{is_in_range}
 use Rattle.tx_trees.specs.ScriptData.{ScriptData}
+use Rattle.tx_trees.specs.declared.parts.Form.TheVariants as forms
 use Rattle.tx_trees.specs.declared.parts.ItemRow.{ItemRow}
 use Rattle.tx_trees.specs.declared.parts.Tree.{Tree}
 use Rattle.tx_trees.specs.declared.parts.Sub.{Sub}
@@ -69,14 +71,15 @@ OpAt kind node o (Some row) = (row.node.0 ≡ node) × IsTrue (deed_fits kind ro
 abbrev pub IsOp : List ItemRow → TreeKind → ℕ → SubOp → Type 0
 IsOp items kind node o = OpAt kind node o (slice_get items o.item.0)
 
--- subtransaction k: its parent comes before it, and the root's is 0
+-- subtransaction k: its parent comes before it, and the root's is 0; its amounts are in the wider range, and in that of
+-- the script's form since an item's magnitudes are
 pub record IsSub (nodes : ℕ) (items : List ItemRow) (kind : TreeKind) (k : ℕ) (s : Sub) : Type 0 where
   pub root : k ≡ 0 → s.parent.0 ≡ 0
   pub parent : 0 < k → s.parent.0 < k
   pub node : s.node.0 < nodes
   pub few : length s.ops ≤ 16
   pub ops : AllByRecursion (IsOp items kind s.node.0) s.ops
-  pub amounts : AllByRecursion (λ o. IsTrue (is_in_range o.deed)) s.ops
+  pub amounts : AllByRecursion (λ o. IsTrue (is_in_range forms.Two o.deed)) s.ops
 
 -- the subtransactions from number k on
 abbrev pub AreSubs : ℕ → List ItemRow → TreeKind → ℕ → List Sub → Type 0
@@ -95,7 +98,7 @@ pub record IsTree (nodes : ℕ) (items : List ItemRow) (t : Tree) : Type 0 where
   -- a strict tree has at most one operation on an item
   pub once : t.kind ≡ trees.Strict → IsDistinct nat_eq (items_of t.subs)
 
--- an item is at a node of the script, and a bag starts empty
+-- an item is at a node of the script, and a bag starts empty; how much the form allows is said of all magnitudes
 pub record IsItem (nodes : ℕ) (r : ItemRow) : Type 0 where
   pub node : r.node.0 < nodes
   pub bag : r.kind ≡ BagKind → unsigned_abs r.initial ≡ 0
@@ -108,6 +111,7 @@ NamesInOrder k n [] = k ≡ n
 NamesInOrder k n (rows.Tree t ∷ rs) = (t.0 ≡ k) × NamesInOrder (k + 1) n rs
 NamesInOrder k n (rows.Advance ∷ rs) = NamesInOrder k n rs
 NamesInOrder k n (rows.Settle ∷ rs) = NamesInOrder k n rs
+NamesInOrder k n (rows.Lose ∷ rs) = NamesInOrder k n rs
 
 abbrev pub item_names : List ItemRow → List (List ℕ)
 item_names items = map (λ r. r.name) items
@@ -121,20 +125,23 @@ pub record IsLimited (s : ScriptData) : Type 0 where
   pub ops : all_ops s.trees ≤ 200000
   pub puts : (x : ℕ) → x < length s.items → trees_puts x s.trees ≤ 64
   pub advances : advances_in s.rows ≤ 100
+  pub loses : loses_in s.rows ≤ 100
   pub strict : strict_trees s.trees ≤ 1000
   pub pairs : strict_trees s.trees * update_subs s.trees ≤ 1000000
+  pub places : s.nodes * length s.trees ≤ 320000
 
 -- what every script keeps
 pub record IsValid (s : ScriptData) : Type 0 where
   pub some_nodes : 1 ≤ s.nodes
-  pub few_nodes : s.nodes ≤ 16
+  pub few_nodes : s.nodes ≤ most_nodes s.form
   pub few_items : length s.items ≤ 10000
   pub few_trees : length s.trees ≤ 20000
   pub items : AllByRecursion (IsItem s.nodes) s.items
   pub trees : AllByRecursion (IsTree s.nodes s.items) s.trees
-  pub loads : (x : ℕ) → x < length s.items → load x s ≤ MOST_AMOUNT
+  pub loads : (x : ℕ) → x < length s.items → load x s ≤ most_amount s.form
   pub rows : NamesInOrder 0 (length s.trees) s.rows
   pub begun : s.begun ≡ true → 0 < length s.trees
   pub distinct_items : IsDistinct bytes_eq (item_names s.items)
   pub distinct_trees : IsDistinct bytes_eq (tree_names s.trees)
   pub limited : IsLimited s
+  pub first_form : s.form ≡ forms.One → loses_in s.rows ≡ 0

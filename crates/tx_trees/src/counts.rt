@@ -1,7 +1,7 @@
 // How a record counts against the limits of a script.
 ghost use Rattle.std.specs.Prelude.{◌≡◌, ◌<◌, ◌==◌, length};
 ghost use Rattle.std.specs.List.{list_any};
-ghost use Rattle.tx_trees.specs.Adding.{are_many, has_touched, last_kind, touch};
+ghost use Rattle.tx_trees.specs.Adding.{are_many, are_spread, has_touched, last_kind, touch};
 ghost use Rattle.tx_trees.specs.Counts.{if_update, one_put, one_strict};
 ghost use Rattle.tx_trees.specs.ScriptData.{is_strict};
 
@@ -11,11 +11,21 @@ use commute_ops::Op;
 // The greatest number of strict trees times subtransactions of update trees.
 const MOST_PAIRS: u64 = 1_000_000;
 
+// The greatest number of nodes times trees.
+const MOST_PLACES: u64 = 320_000;
+
 // Whether so many strict trees beside so many subtransactions of update trees are too many.
 pub(crate) fn are_many(strict: u32, subs: u32) -> bool
     ensures { result ≡ are_many strict subs }
 {
     strict as u64 * subs as u64 > MOST_PAIRS
+}
+
+// Whether so many trees are too many for so many nodes.
+pub(crate) fn are_spread(nodes: u8, trees: u32) -> bool
+    ensures { result ≡ are_spread nodes trees }
+{
+    nodes as u64 * trees as u64 > MOST_PLACES
 }
 
 // How many strict trees a tree of this kind is.

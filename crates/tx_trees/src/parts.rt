@@ -2,6 +2,15 @@
 use commute_ops::{Amount, Kind, Op};
 use tv_base::{ItemNo, Name, NodeNo, Seq, SubNo, TreeNo};
 
+/// The form of a script, which says how much it may have.
+#[derive(Clone, Copy, Debug, PartialEq, Eq)]
+pub enum Form {
+    /// The first form: 1 to 16 nodes, and magnitudes of at most 10^15.
+    One,
+    /// The second form: 1 to 64 nodes, magnitudes of at most 10^30, and rows that the first form doesn't have.
+    Two,
+}
+
 /// The kind of a tree.
 #[derive(Clone, Copy, Debug, PartialEq, Eq)]
 pub enum TreeKind {
@@ -85,4 +94,6 @@ pub enum ScriptRow {
     Advance,
     /// Waits until all before it has ended.
     Settle,
+    /// Makes the coordinator forget what it knows. Only a script of the second form has it.
+    Lose,
 }

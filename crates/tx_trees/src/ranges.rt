@@ -3,8 +3,8 @@ ghost use Rattle.std.specs.Prelude.{◌≡◌, unsigned_abs};
 ghost use Rattle.tx_trees.specs.Amounts.{magnitude, op_magnitude};
 ghost use Rattle.tx_trees.specs.Ranges.{draws_negative, is_in_range, may_start, starts_full};
 
-use crate::parts::{Deed, ItemRow};
-use commute_ops::{Amount, Kind, MOST_AMOUNT, Op};
+use crate::parts::{Deed, Form, ItemRow};
+use commute_ops::{Amount, Kind, Op};
 
 // The magnitude of the amount of a commuting operation.
 fn op_magnitude(op: Op) -> u128
@@ -39,11 +39,12 @@ fn draws_negative(deed: Deed) -> bool
     }
 }
 
-/// Whether an operation's amount is in range: of magnitude `MOST_AMOUNT` or less, and not negative in a `draw`.
-pub fn is_in_range(deed: Deed) -> bool
-    ensures { result ≡ is_in_range deed }
+/// Whether an operation's amount is in the form's range: of magnitude `most_amount` or less, and not negative in a
+/// `draw`.
+pub fn is_in_range(form: Form, deed: Deed) -> bool
+    ensures { result ≡ is_in_range form deed }
 {
-    magnitude(deed) <= MOST_AMOUNT as u128 && !draws_negative(deed)
+    magnitude(deed) <= form.most_amount() && !draws_negative(deed)
 }
 
 // The magnitude of an item's initial value.
@@ -64,9 +65,9 @@ fn starts_full(kind: Kind, initial: Amount) -> bool
     }
 }
 
-/// Whether an item of this kind may start with this value: of magnitude `MOST_AMOUNT` or less, and 0 for a bag.
-pub fn may_start(kind: Kind, initial: Amount) -> bool
-    ensures { result ≡ may_start kind initial }
+/// Whether an item of this kind may start with this value: of magnitude `most_amount` or less, and 0 for a bag.
+pub fn may_start(form: Form, kind: Kind, initial: Amount) -> bool
+    ensures { result ≡ may_start form kind initial }
 {
-    initial.unsigned_abs() <= MOST_AMOUNT as u128 && !starts_full(kind, initial)
+    initial.unsigned_abs() <= form.most_amount() && !starts_full(kind, initial)
 }

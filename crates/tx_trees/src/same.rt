@@ -2,13 +2,23 @@
 ghost use Rattle.std.specs.Prelude.{◌≡◌};
 ghost use Rattle.std.specs.Bool.{Decides};
 ghost use Rattle.tx_trees.specs.Rebuilt.{SameScript};
-ghost use Rattle.tx_trees.specs.Same.{same_deed, same_item, same_kind, same_op, same_row, same_script, same_sub, same_sub_op, same_tree, same_tree_kind};
+ghost use Rattle.tx_trees.specs.Same.{same_deed, same_form, same_item, same_kind, same_op, same_row, same_script, same_sub, same_sub_op, same_tree, same_tree_kind};
 ghost use Rattle.tx_trees.specs.SameFacts.{item_laws, row_equiv, sub_laws, sub_op_equiv, tree_laws};
 ghost use Rattle.std.specs.Cmp.{partial_equiv_from_equiv};
 ghost use Rattle.tx_trees.specs.ScriptData.{ScriptData};
 
-use crate::parts::{Deed, ItemRow, ScriptRow, Sub, SubOp, Tree, TreeKind};
+use crate::parts::{Deed, Form, ItemRow, ScriptRow, Sub, SubOp, Tree, TreeKind};
 use commute_ops::{Kind, Op};
+
+pub(crate) fn same_form(a: Form, b: Form) -> bool
+    ensures { result ≡ same_form a b }
+{
+    match (a, b) {
+        (Form::One, Form::One) => true,
+        (Form::Two, Form::Two) => true,
+        _ => false,
+    }
+}
 
 fn same_kind(a: Kind, b: Kind) -> bool
     ensures { result ≡ same_kind a b }
@@ -79,6 +89,7 @@ impl PartialEq for ScriptRow {
             (ScriptRow::Tree(x), ScriptRow::Tree(y)) => x.0 == y.0,
             (ScriptRow::Advance, ScriptRow::Advance) => true,
             (ScriptRow::Settle, ScriptRow::Settle) => true,
+            (ScriptRow::Lose, ScriptRow::Lose) => true,
             _ => false,
         }
     }
@@ -127,7 +138,7 @@ impl PartialEq for ItemRow {
     }
 }
 
-/// Two scripts compare equal exactly where their nodes, items, trees, rows and picks are equal.
+/// Two scripts compare equal exactly where their form, nodes, items, trees, rows and picks are equal.
 pub fn equal_scripts_are_the_same()
     ensures { (s t : ScriptData) → Decides (same_script s t) (SameScript s t) }
 {}

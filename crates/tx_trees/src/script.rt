@@ -1,9 +1,9 @@
 // A script, which is valid whatever was added.
 ghost use Rattle.std.specs.Prelude.{ℕ, true, false, ◌≡◌, ◌<◌, ◌≤◌, ◌+◌, ◌==◌, length, is_some, nat_lt, IfOk, IfSome, IsNone, OnErr, OnOk};
-ghost use Rattle.commute_ops.specs.declared.kinds.TheConstants.{MOST_AMOUNT};
-ghost use Rattle.tx_trees.specs.Adding.{Steps, adds_advance, adds_item, adds_op, adds_pick, adds_settle, adds_sub, adds_tree, fresh, has_no_op_left, has_no_sub_left, has_no_tree_left, kind_at, last_kind, last_node, last_subs, names_tree, node_at, place_of, with_item, with_op, with_sub, with_tree};
+ghost use Rattle.tx_trees.specs.Adding.{Steps, adds_advance, adds_item, adds_lose, adds_op, adds_pick, adds_settle, adds_sub, adds_tree, fresh, has_no_op_left, has_no_sub_left, has_no_tree_left, kind_at, last_kind, last_node, last_subs, names_tree, node_at, place_of, with_item, with_op, with_sub, with_tree, upgraded};
 ghost use Rattle.tx_trees.specs.Amounts.{magnitude};
 ghost use Rattle.tx_trees.specs.Counts.{advances_in};
+ghost use Rattle.tx_trees.specs.Forms.{most_amount, most_nodes};
 ghost use Rattle.tx_trees.specs.Passing.{MayAddItem, MayAddOp, MayAddSub, MayAddTree};
 ghost use Rattle.tx_trees.specs.Same.{same_script};
 ghost use Rattle.tx_trees.specs.SameFacts.{script_laws};
@@ -11,16 +11,18 @@ ghost use Rattle.tx_trees.specs.ScriptData.{is_child, subs_at, visits};
 ghost use Rattle.tx_trees.specs.Valid.{IsValid, deed_fits, load};
 
 use crate::children::{next_child, visits};
-use crate::counts::{are_many, has_touched, last_kind, one_put, one_strict, one_update};
+use crate::counts::{
+    are_many, are_spread, has_touched, last_kind, one_put, one_strict, one_update,
+};
 use crate::lookups::{
     deed_fits, empty_sub, kind_at, last_subs, node_at, place_of_last, push_op, push_sub, rooted,
 };
 use crate::name_index::NameIndex;
 use crate::names::is_plain_name;
-use crate::parts::{Deed, ItemRow, ScriptRow, Sub, SubOp, Tree, TreeKind};
+use crate::parts::{Deed, Form, ItemRow, ScriptRow, Sub, SubOp, Tree, TreeKind};
 use crate::ranges::{initial_size, is_in_range, magnitude, may_start};
+use crate::same::same_form;
 use crate::why::{Refusal, Why};
-use commute_ops::MOST_AMOUNT;
 use std::alloc::Global;
 use std::marker::Model;
 use tv_base::{ItemNo, Name, NoMemory, NodeNo, SubNo, TreeNo};
@@ -43,11 +45,14 @@ const MOST_STRICT: u32 = 1_000;
 
 const MOST_ADVANCES: u32 = 100;
 
+const MOST_LOSES: u32 = 100;
+
 /// Nodes, items, trees, rows and picks, seen by contracts as `ScriptData`. Whatever was added, a script is valid:
 /// names are taken once, each operation fits its item and its tree, and each item's magnitudes add up to no more
-/// than `MOST_AMOUNT`.
+/// than the form allows.
 pub struct Script {
     alloc: Global,
+    form: Form,
     nodes: u8,
     items: Vec<ItemRow>,
     trees: Vec<Tree>,
@@ -56,11 +61,12 @@ pub struct Script {
     begun: bool,
     item_names: NameIndex,
     tree_names: NameIndex,
-    totals: Vec<u64>,
+    totals: Vec<u128>,
     puts: Vec<u64>,
     subs: u32,
     ops: u32,
     advances: u32,
+    loses: u32,
     strict: u32,
     update_subs: u32,
 }
@@ -83,6 +89,7 @@ impl Drop for Script {
     fn drop(self) {
         let Script {
             alloc: _,
+            form: _,
             nodes: _,
             items: _,
             trees: _,
@@ -96,19 +103,23 @@ impl Drop for Script {
             subs: _,
             ops: _,
             advances: _,
+            loses: _,
             strict: _,
             update_subs: _,
         } = self;
     }
 }
 
-// Equal where the nodes, items, trees, rows and picks are equal.
+// Equal where the form, nodes, items, trees, rows and picks are equal.
 impl PartialEq for Script {
     ghost eq = { same_script };
 
     ghost laws = { script_laws };
 
     fn eq(&self, other: &Script) -> bool {
+        if !same_form(self.form, other.form) {
+            return false;
+        }
         if self.nodes != other.nodes || self.items.as_slice() != other.items.as_slice() {
             return false;
         }
@@ -121,13 +132,14 @@ impl PartialEq for Script {
 }
 
 impl Script {
-    /// A script of so many nodes, 1 to 16, with nothing in it.
-    pub fn new(alloc: Global, nodes: u8) -> Script
-        requires { (1 ≤ nodes) × (nodes ≤ 16) }
-        ensures { result ≡ fresh nodes }
+    /// A script of this form and of so many nodes, 1 to 16, or 1 to 64 of the second form, with nothing in it.
+    pub fn new(alloc: Global, form: Form, nodes: u8) -> Script
+        requires { (1 ≤ nodes) × (nodes ≤ most_nodes form) }
+        ensures { result ≡ fresh form nodes }
     {
         Script {
             alloc,
+            form,
             nodes,
             items: Vec::new(alloc),
             trees: Vec::new(alloc),
@@ -141,12 +153,27 @@ impl Script {
             subs: 0,
             ops: 0,
             advances: 0,
+            loses: 0,
             strict: 0,
             update_subs: 0,
         }
     }
 
-    /// How many nodes there are, 1 to 16.
+    /// Which form it is of.
+    pub fn form(&self) -> Form
+        ensures { result ≡ self.now.form }
+    {
+        self.form
+    }
+
+    /// Makes it a script of the second form, with all else as it is.
+    pub fn upgrade(&mut self)
+        ensures { self.new ≡ upgraded self.old }
+    {
+        self.form = Form::Two;
+    }
+
+    /// How many nodes there are, 1 to 64.
     pub fn nodes(&self) -> u8
         ensures nodes { result ≡ self.now.nodes }
         ensures valid { IsValid self.now }
@@ -239,7 +266,7 @@ impl Script {
         ensures step { Steps (adds_item self.old row) result self.old self.new }
         ensures number { IfOk result (λ n. n.0 ≡ length self.old.items) }
     {
-        if row.node.0 >= self.nodes || !may_start(row.kind, row.initial) {
+        if row.node.0 >= self.nodes || !may_start(self.form, row.kind, row.initial) {
             return Err(Refusal::Why(Why::OutOfRange));
         }
         if !is_plain_name(row.name.bytes()) {
@@ -262,7 +289,7 @@ impl Script {
         ensures ok { OnOk result (self.new ≡ with_item self.old row) }
         ensures err { OnErr result (self.new ≡ self.old) }
     {
-        let initial = initial_size(&row) as u64;
+        let initial = initial_size(&row);
         self.totals.reserve(1)?;
         self.puts.reserve(1)?;
         self.items.reserve(1)?;
@@ -275,9 +302,9 @@ impl Script {
     }
 
     /// Begins a tree with its root alone, which the client sends next, and gives its number. A refusal is `OutOfRange`
-    /// (the node), `BadName`, `NameTaken` or `TooMany` (20,000 trees, 100,000 subtransactions, 1,000 strict trees, or
-    /// 1,000,000 strict trees times subtransactions of update trees), the first that holds; it, and want of memory,
-    /// leave the script as it was.
+    /// (the node), `BadName`, `NameTaken` or `TooMany` (20,000 trees, 320,000 nodes times trees, 100,000 subtransactions,
+    /// 1,000 strict trees, or 1,000,000 strict trees times subtransactions of update trees), the first that holds; it,
+    /// and want of memory, leave the script as it was.
     pub fn add_tree(&mut self, name: Name, kind: TreeKind, node: NodeNo) -> Result<TreeNo, Refusal>
         ensures step { Steps (adds_tree self.old name kind node) result self.old self.new }
         ensures number { IfOk result (λ n. n.0 ≡ length self.old.trees) }
@@ -301,10 +328,11 @@ impl Script {
 
     // Whether with one more tree of this kind a limit would be passed.
     fn has_no_tree_left(&self, kind: TreeKind) -> bool
-        ensures { result ≡ has_no_tree_left kind self.now.trees }
+        ensures { result ≡ has_no_tree_left self.now.nodes kind self.now.trees }
     {
         let strict = self.strict + one_strict(kind);
         self.trees.len() >= MOST_TREES
+            || are_spread(self.nodes, self.trees.len() as u32 + 1)
             || self.subs >= MOST_SUBS
             || strict > MOST_STRICT
             || are_many(strict, self.update_subs + one_update(kind))
@@ -388,7 +416,7 @@ impl Script {
     pub fn add_op(&mut self, item: &Name, deed: Deed) -> Result<(), Refusal>
         ensures { Steps (adds_op self.old item.now deed) result self.old self.new }
     {
-        if !is_in_range(deed) {
+        if !is_in_range(self.form, deed) {
             return Err(Refusal::Why(Why::OutOfRange));
         }
         let Some(number) = self.item_number(item) else {
@@ -449,9 +477,9 @@ impl Script {
     // Whether the item's magnitudes would be too great with those of the operation.
     fn is_too_much(&self, item: usize, deed: Deed) -> bool
         requires { item < length self.now.items }
-        ensures { result ≡ nat_lt MOST_AMOUNT (load item self.now + magnitude deed) }
+        ensures { result ≡ nat_lt (most_amount self.now.form) (load item self.now + magnitude deed) }
     {
-        magnitude(deed) > (MOST_AMOUNT - self.totals[item]) as u128
+        magnitude(deed) > self.form.most_amount() - self.totals[item]
     }
 
     // Puts an operation, to which nothing is opposed, behind those of the last subtransaction.
@@ -463,7 +491,7 @@ impl Script {
         let alloc = self.alloc;
         let number = ItemNo(item as u32);
         push_op(alloc, &mut self.trees, SubOp { item: number, deed })?;
-        self.totals[item] += magnitude(deed) as u64;
+        self.totals[item] += magnitude(deed);
         self.puts[item] += one_put(deed);
         self.ops += 1;
         Ok(())
@@ -489,6 +517,21 @@ impl Script {
         ensures { Steps (adds_settle self.old) result self.old self.new }
     {
         self.rows.push(ScriptRow::Settle)?;
+        self.begun = false;
+        Ok(())
+    }
+
+    /// Makes the coordinator forget what it knows, once more. The one refusal is `TooMany` (100 such rows); it, and want
+    /// of memory, leave the script as it was. Afterwards no tree is begun.
+    pub fn add_lose(&mut self) -> Result<(), Refusal>
+        requires { self.old.form ≡ Form.Two }
+        ensures { Steps (adds_lose self.old) result self.old self.new }
+    {
+        if self.loses >= MOST_LOSES {
+            return Err(Refusal::Why(Why::TooMany));
+        }
+        self.rows.push(ScriptRow::Lose)?;
+        self.loses += 1;
         self.begun = false;
         Ok(())
     }

@@ -46,7 +46,7 @@ fn op(script: &mut Script, name: &[u8], deed: Deed) -> Result<(), Refusal> {
 
 #[test]
 fn a_script_is_built(rt: HostRuntime) -> Result<(), Fail> {
-    let mut script = Script::new(rt.alloc(), 2);
+    let mut script = Script::new(rt.alloc(), Form::One, 2);
     assert_eq!(rt; item(&mut script, b"a", 0, 10), Ok(ItemNo(0)));
     assert_eq!(rt; item(&mut script, b"b", 1, 0), Ok(ItemNo(1)));
     assert_eq!(rt; tree(&mut script, b"t", 0), Ok(TreeNo(0)));
@@ -79,7 +79,7 @@ fn a_script_is_built(rt: HostRuntime) -> Result<(), Fail> {
 
 #[test]
 fn refusals_leave_the_script(rt: HostRuntime) -> Result<(), Fail> {
-    let mut script = Script::new(rt.alloc(), 2);
+    let mut script = Script::new(rt.alloc(), Form::One, 2);
     let add = Deed::Apply(Op::Add(1));
     let top = Deed::Apply(Op::Top(1));
     let much = Deed::Apply(Op::Add(-1_000_000_000_000_000));
@@ -123,7 +123,7 @@ fn refusals_leave_the_script(rt: HostRuntime) -> Result<(), Fail> {
 
 #[test]
 fn each_range_is_tried_first(rt: HostRuntime) -> Result<(), Fail> {
-    let mut script = Script::new(rt.alloc(), 2);
+    let mut script = Script::new(rt.alloc(), Form::One, 2);
     let far = 1_000_000_000_000_001;
     let refused = Refusal::Why(Why::OutOfRange);
     assert_eq!(rt; item(&mut script, b"a b", 2, 0), Err(refused));
@@ -141,8 +141,8 @@ fn each_range_is_tried_first(rt: HostRuntime) -> Result<(), Fail> {
     assert_eq!(rt; sub(&mut script, 0, 2), Err(refused));
     assert_eq!(rt; op(&mut script, b"a", Deed::Set(-far)), Err(refused));
     assert_eq!(rt; op(&mut script, b"a", Deed::Draw(-1)), Err(refused));
-    assert_eq!(rt; is_in_range(Deed::Draw(1)), true);
-    assert_eq!(rt; may_start(Kind::Bag, 0), true);
+    assert_eq!(rt; is_in_range(Form::One, Deed::Draw(1)), true);
+    assert_eq!(rt; may_start(Form::One, Kind::Bag, 0), true);
     assert_eq!(rt; is_plain_name(b"A-z_0.9"), true);
     assert_eq!(rt; is_plain_name(b"a,b"), false);
     Ok(())
@@ -150,7 +150,7 @@ fn each_range_is_tried_first(rt: HostRuntime) -> Result<(), Fail> {
 
 #[test]
 fn all_kinds_of_trees_and_rows(rt: HostRuntime) -> Result<(), Fail> {
-    let mut script = Script::new(rt.alloc(), 2);
+    let mut script = Script::new(rt.alloc(), Form::One, 2);
     assert_eq!(rt; item(&mut script, b"a", 0, 5), Ok(ItemNo(0)));
     assert_eq!(rt; item_of(&mut script, b"b", 1, Kind::Bag, 0), Ok(ItemNo(1)));
     assert_eq!(rt; tree(&mut script, b"t", 0), Ok(TreeNo(0)));
@@ -189,7 +189,7 @@ fn all_kinds_of_trees_and_rows(rt: HostRuntime) -> Result<(), Fail> {
 
 #[test]
 fn children_and_visits(rt: HostRuntime) -> Result<(), Fail> {
-    let mut script = Script::new(rt.alloc(), 3);
+    let mut script = Script::new(rt.alloc(), Form::One, 3);
     assert_eq!(rt; tree(&mut script, b"t", 0), Ok(TreeNo(0)));
     assert_eq!(rt; sub(&mut script, 0, 1), Ok(SubNo(1)));
     assert_eq!(rt; sub(&mut script, 1, 0), Ok(SubNo(2)));
@@ -211,8 +211,8 @@ fn children_and_visits(rt: HostRuntime) -> Result<(), Fail> {
 
 #[test]
 fn scripts_are_equal_by_what_they_hold(rt: HostRuntime) -> Result<(), Fail> {
-    let mut one = Script::new(rt.alloc(), 1);
-    let mut other = Script::new(rt.alloc(), 1);
+    let mut one = Script::new(rt.alloc(), Form::One, 1);
+    let mut other = Script::new(rt.alloc(), Form::One, 1);
     assert_eq!(rt; item(&mut one, b"a", 0, 1), Ok(ItemNo(0)));
     assert_eq!(rt; tree(&mut one, b"t", 0), Ok(TreeNo(0)));
     assert_eq!(rt; tree(&mut other, b"t", 0), Ok(TreeNo(0)));
@@ -236,5 +236,42 @@ fn a_refusal_has_a_text(rt: HostRuntime) -> Result<(), Fail> {
         format!(in rt.alloc(); "{}", Refusal::NoMemory)?.as_str(),
         "out of memory"
     );
+    Ok(())
+}
+
+#[test]
+fn the_second_form_allows_more(rt: HostRuntime) -> Result<(), Fail> {
+    let most = 1_000_000_000_000_000_000_000_000_000_000;
+    let too_much = Refusal::Why(Why::TooMuch);
+    let mut script = Script::new(rt.alloc(), Form::Two, 64);
+    assert_eq!(rt; script.form() == Form::Two, true);
+    assert_eq!(rt; item(&mut script, b"a", 63, 0), Ok(ItemNo(0)));
+    assert_eq!(rt;
+        item(&mut script, b"b", 63, most + 1),
+        Err(Refusal::Why(Why::OutOfRange))
+    );
+    assert_eq!(rt; tree(&mut script, b"t", 63), Ok(TreeNo(0)));
+    assert_eq!(rt; op(&mut script, b"a", Deed::Apply(Op::Add(-most))), Ok(()));
+    assert_eq!(rt;
+        op(&mut script, b"a", Deed::Apply(Op::Add(1))),
+        Err(too_much)
+    );
+    if script.form() == Form::Two {
+        assert_eq!(rt; script.add_lose(), Ok(()));
+    }
+    assert_eq!(rt; script.rows().len(), 2);
+    assert_eq!(rt; sub(&mut script, 0, 1), Err(Refusal::Why(Why::NoTree)));
+    Ok(())
+}
+
+#[test]
+fn a_script_is_upgraded(rt: HostRuntime) -> Result<(), Fail> {
+    let mut one = Script::new(rt.alloc(), Form::One, 2);
+    let mut two = Script::new(rt.alloc(), Form::Two, 2);
+    assert_eq!(rt; item(&mut one, b"a", 1, 7), Ok(ItemNo(0)));
+    assert_eq!(rt; item(&mut two, b"a", 1, 7), Ok(ItemNo(0)));
+    assert_eq!(rt; one == two, false);
+    one.upgrade();
+    assert_eq!(rt; one == two, true);
     Ok(())
 }

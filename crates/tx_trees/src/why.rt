@@ -54,8 +54,8 @@ pub enum Why {
     /// A limit on a number of things would be passed.
     #[error("a limit on a number of things would be passed")]
     TooMany,
-    /// The item's magnitudes would add up to more than 10^15.
-    #[error("the item's magnitudes would add up to more than 10^15")]
+    /// The item's magnitudes would add up to more than the form allows.
+    #[error("the item's magnitudes would add up to more than the form allows")]
     TooMuch,
     /// A strict tree already has an operation on the item.
     #[error("a strict tree already has an operation on the item")]

@@ -47,3 +47,8 @@ pub returns-in-Settle : goal.returns-in-Settle
 returns-in-Settle c =
     place_behind c.args.rows.now (answered_after c.args.news c.args.answered.now) c.args.at _ _ _ _ _ c.requires.more c.in-Settle.is c.requires.at
     (omega arith) (omega arith) (omega arith)
+
+pub returns-in-Lose : goal.returns-in-Lose
+returns-in-Lose c =
+    place_behind c.args.rows.now (answered_after c.args.news c.args.answered.now) c.args.at _ _ _ _ _ c.requires.more c.in-Lose.is c.requires.at
+    (omega arith) (omega arith) (omega arith)

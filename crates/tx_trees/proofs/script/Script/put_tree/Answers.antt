@@ -7,7 +7,7 @@ use Rattle.tx_trees.specs.declared.parts.ScriptRow.TheVariants as rows
 use Rattle.tx_trees.specs.declared.parts.Tree.{Tree}
 use Rattle.tx_trees.specs.Adding.{names_tree, rooted}
 use Rattle.tx_trees.specs.Passing.{MayAddTree}
-use Rattle.tx_trees.proofs.Kept.{few_updates, one_update_small, kept_tree, pushed_is}
+use Rattle.tx_trees.proofs.Kept.{few_updates, kept_room, kept_tree, one_update_small, pushed_is}
 use Rattle.tx_trees.proofs.Named.{has_tree}
 use Rattle.tx_trees.proofs.script.Script.put_tree.Goals as goal
 
@@ -43,3 +43,11 @@ invariant_of-self-2 c =
     ∙ ap (λ (n : ℕ). s.rows.items ++ rows.Tree (record { 0 = n }) ∷ []) number in
     let may = subst (λ (h : ScriptData). MayAddTree h name c.args.kind c.args.node) (sym c.self.view_is) c.requires in
     kept_tree s c.push.new.self c.add.new.self c.push-2.new.self _ _ _ name c.args.kind c.args.node c.in_ok-add.ensures.ok trees added refl (ap (λ (n : ℕ). s.strict + n) c.one_strict.ensures) (ap (λ (n : ℕ). s.update_subs + n) c.one_update.ensures) may c.self.invariant
+
+pub invariant_of-self-in_err-reserve-2 : goal.invariant_of-self-in_err-reserve-2
+invariant_of-self-in_err-reserve-2 c =
+    kept_room c.self.inside c.reserve-2.new.self c.reserve.new.self c.self.inside.tree_names c.in_err-reserve-2.ensures.items c.in_ok-reserve.ensures.items refl c.self.invariant
+
+pub invariant_of-self-in_err-add : goal.invariant_of-self-in_err-add
+invariant_of-self-in_err-add c =
+    kept_room c.self.inside c.reserve-2.new.self c.reserve.new.self c.add.new.self c.in_ok-reserve-2.ensures.items c.in_ok-reserve.ensures.items c.in_err-add.ensures.err c.self.invariant

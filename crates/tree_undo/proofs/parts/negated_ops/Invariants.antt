@@ -1,0 +1,6 @@
+use Rattle.std.proofs.Common.{◌≡◌, map, take}
+use Rattle.tree_undo.specs.Undone.{negated}
+use Rattle.tree_undo.proofs.parts.negated_ops.Given as goal
+
+abbrev pub invariant-loop-op : goal.invariant-loop-op
+invariant-loop-op l = l.out ≡ map negated (take l.op-index l.ops)

@@ -1,0 +1,104 @@
+// A subtransaction that stays, and what undoes one.
+ghost use Rattle.std.specs.Prelude.{◌≡◌, ◌≤◌, ◌==◌, if◌then◌else◌, IfOk, [], length, map};
+ghost use Rattle.std.specs.List.{AllByRecursion};
+ghost use Rattle.commute_ops.specs.declared.kinds.TheConstants.{MOST_AMOUNT};
+ghost use Rattle.tx_trees.specs.Amounts.{magnitude, op_magnitude};
+ghost use Rattle.tree_undo.specs.Undone.{inverse, negated, negated_deed, negated_op, staying};
+
+use crate::marks::new_number;
+use commute_ops::Op;
+use std::alloc::Global;
+use tv_base::{NoMemory, SubNo};
+use tx_trees::{Deed, Sub, SubOp, SubOps};
+
+// The operation with the other sign.
+fn negated_op(op: Op) -> Op
+    requires { op_magnitude op ≤ MOST_AMOUNT }
+    ensures { result ≡ negated_op op }
+{
+    match op {
+        Op::Add(amount) => Op::Add(0 - amount),
+        Op::Top(amount) => Op::Top(amount),
+        Op::Put(amount) => Op::Put(amount),
+    }
+}
+
+fn negated_deed(deed: Deed) -> Deed
+    requires { magnitude deed ≤ MOST_AMOUNT }
+    ensures { result ≡ negated_deed deed }
+{
+    match deed {
+        Deed::Apply(op) => Deed::Apply(negated_op(op)),
+        other => other,
+    }
+}
+
+// The operations with the other sign, in order.
+fn negated_ops(alloc: Global, ops: &[SubOp]) -> Result<SubOps, NoMemory>
+    requires { AllByRecursion (λ o. magnitude o.deed ≤ MOST_AMOUNT) ops.now }
+    ensures { IfOk result (λ out. out ≡ map negated ops.now) }
+{
+    let mut out = SubOps::new(alloc);
+    for op in ops {
+        out.push(SubOp {
+            item: op.item,
+            deed: negated_deed(op.deed),
+        })?;
+    }
+    Ok(out)
+}
+
+// The same operations.
+fn copied_ops(alloc: Global, ops: &[SubOp]) -> Result<SubOps, NoMemory>
+    ensures { IfOk result (λ out. out ≡ ops.now) }
+{
+    let mut out = SubOps::new(alloc);
+    for op in ops {
+        out.push(*op)?;
+    }
+    Ok(out)
+}
+
+// What subtransaction k does where it stays: the failed one does nothing.
+fn staying_ops(alloc: Global, k: usize, sub: &Sub, failed: SubNo) -> Result<SubOps, NoMemory>
+    ensures { IfOk result (λ out. out ≡ (if k == failed.0 then [] else sub.now.ops)) }
+{
+    if k == failed.0 as usize {
+        return Ok(SubOps::new(alloc));
+    }
+    copied_ops(alloc, sub.ops.items())
+}
+
+// Subtransaction k where it stays.
+pub(crate) fn staying(
+    alloc: Global,
+    goes: &[bool],
+    k: usize,
+    sub: &Sub,
+    failed: SubNo,
+) -> Result<Sub, NoMemory>
+    requires { length goes.now ≤ 64 }
+    ensures { IfOk result (λ out. out ≡ staying failed.0 goes.now k sub.now) }
+{
+    let ops = staying_ops(alloc, k, sub, failed)?;
+    let parent = new_number(goes, sub.parent);
+    let node = sub.node;
+    Ok(Sub { parent, node, ops })
+}
+
+// What undoes a subtransaction.
+pub(crate) fn inverse(
+    alloc: Global,
+    goes: &[bool],
+    sub: &Sub,
+    failed: SubNo,
+) -> Result<Sub, NoMemory>
+    requires few { length goes.now ≤ 64 }
+    requires small { AllByRecursion (λ o. magnitude o.deed ≤ MOST_AMOUNT) sub.now.ops }
+    ensures { IfOk result (λ out. out ≡ inverse failed.0 goes.now sub.now) }
+{
+    let ops = negated_ops(alloc, sub.ops.items())?;
+    let parent = new_number(goes, failed);
+    let node = sub.node;
+    Ok(Sub { parent, node, ops })
+}
