@@ -2,7 +2,7 @@
 use Rattle.std.proofs.Common.{◌≡◌, ℕ, Bool, true, false, refl, sym, ◌∙◌, ap}
 use Rattle.std.specs.Prelude.{if◌then◌else◌, ◌&&◌}
 use Rattle.letter_types.specs.declared.bodies.Body.{Body}
-use Rattle.letter_types.specs.declared.bodies.Body.TheVariants.{Root, Sub as SubLetter, Done}
+use Rattle.letter_types.specs.declared.bodies.Body.TheVariants.{Root, Sub as SubLetter, Done, Turn, Show, Sweep, AskDone, AskAsked}
 use Rattle.letter_types.specs.declared.entries.Letter.{Letter}
 use Rattle.letter_types.specs.Steps.{Out, still}
 use Rattle.tx_trees.specs.ScriptData.{ScriptData}
@@ -39,6 +39,11 @@ pub other_row : (s : ScriptData) (p from : ℕ) (st : Node) (body : Body) → ha
 other_row s p from st (Root t) is = absurd (cc)
 other_row s p from st (SubLetter t k v) is = absurd (cc)
 other_row s p from st (Done t k v notice) is = absurd (cc)
+other_row s p from st (Turn v) is = absurd (cc)
+other_row s p from st (Show v) is = absurd (cc)
+other_row s p from st (Sweep v) is = absurd (cc)
+other_row s p from st (AskDone v k) is = absurd (cc)
+other_row s p from st (AskAsked v k) is = absurd (cc)
 other_row s p from st _ is = refl
 
 undue : (s : ScriptData) (p : ℕ) (st : Node) (l : Letter) (a b c d e : Bool) → has_row l.body ≡ a

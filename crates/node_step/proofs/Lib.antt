@@ -1,3 +1,4 @@
 pub mod Dues
 pub mod Apts
 pub mod Fresh
+pub mod Ordered

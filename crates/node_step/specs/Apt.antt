@@ -1,7 +1,7 @@
 -- Which letters are apt at a node, and what the node does with a letter.
 use Rattle.std.specs.Prelude.{if◌then◌else◌, ℕ, Bool, true, false, ◌&&◌, [], Option, Some}
 use Rattle.letter_types.specs.declared.bodies.Body.{Body}
-use Rattle.letter_types.specs.declared.bodies.Body.TheVariants.{Root, Sub as SubLetter, Done, Sweep}
+use Rattle.letter_types.specs.declared.bodies.Body.TheVariants.{Root, Sub as SubLetter, Done, Turn, Show, Sweep, AskDone, AskAsked}
 use Rattle.letter_types.specs.declared.bodies.Notice.{Notice}
 use Rattle.letter_types.specs.declared.bodies.Notice.TheVariants.{Did, Yes, No}
 use Rattle.letter_types.specs.declared.entries.Letter.{Letter}
@@ -16,6 +16,7 @@ use Rattle.tree_step.specs.Done.{note_done}
 use Rattle.update_step.specs.Rows.{can_update, update_row}
 use Rattle.read_step.specs.Rows.{can_read, read_row}
 use Rattle.version_collect.specs.Collecting.{may_collect_all}
+use Rattle.node_step.specs.Advancing.{turn_row, show_row, sweep_row, done_row, asked_row}
 
 -- the operations that a letter asks for may be made, where it asks for some of a tree of this kind
 abbrev pub can_make_by : ScriptData → Node → Body → Option TreeKind → Bool
@@ -63,6 +64,11 @@ row s p st from (Root t) = tree_row s p st from (Root t) (kind_at s t.0)
 row s p st from (SubLetter t k v) = tree_row s p st from (SubLetter t k v) (kind_at s t.0)
 row s p st from (Done t k v notice) =
     if is_did notice then note_done s from t.0 k.0 v.0 (values_of notice) st else still st
+row s p st from (Turn v) = turn_row s v st
+row s p st from (Show v) = show_row s v st
+row s p st from (Sweep v) = sweep_row s v st
+row s p st from (AskDone v k) = done_row s v k st
+row s p st from (AskAsked v k) = asked_row s v k st
 row s p st from _ = still st
 
 -- what node p does with a letter: any that isn't apt changes and sends nothing

@@ -2,6 +2,7 @@
 #![tactic(auto)]
 
 mod node;
+mod orders;
 
 pub use node::step_node;
 

@@ -7,6 +7,7 @@ ghost use Rattle.tree_step.specs.Due.{is_due};
 ghost use Rattle.tree_step.specs.Node.{data_of, IsInWindow, IsOf, IsReady};
 ghost use Rattle.node_step.specs.Apt.{can_make_by, node_row, tree_row, values_of};
 
+use crate::orders::{show, sweep, tell_asked, tell_done, turn};
 use letter_types::{Body, Letter, Notice, Step};
 use read_step::do_read;
 use std::alloc::Global;
@@ -112,6 +113,11 @@ pub fn step_node(
             let from = NodeNo(letter.from.0);
             step_notice(alloc, node, script, from, *tree, *sub, *version, notice)
         }
+        Body::Turn { version } => turn(alloc, node, script, *version),
+        Body::Show { version } => show(alloc, node, script, *version),
+        Body::Sweep { version } => sweep(alloc, node, script, *version),
+        Body::AskDone { version, round } => tell_done(alloc, node, script, *version, *round),
+        Body::AskAsked { version, round } => tell_asked(alloc, node, script, *version, *round),
         _ => Ok(Step::still(alloc)),
     }
 }

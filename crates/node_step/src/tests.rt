@@ -1,7 +1,9 @@
-ghost use Rattle.std.specs.Prelude.{◌<◌, IfOk};
-ghost use Rattle.tree_step.specs.Node.{IsReady};
+ghost use Rattle.std.specs.Prelude.{◌≡◌, ◌<◌, IfOk};
+ghost use Rattle.pair_counters.specs.Rows.{counts_of};
+ghost use Rattle.tree_step.specs.Node.{IsInWindow, IsOf, IsReady};
 
 use super::*;
+use crate::orders::sweep;
 use commute_ops::{Kind, Op, SumValue, Value, Values};
 use item_versions::ItemTable;
 use letter_types::{Act, Answer, Body, Letter, LetterId, Notice, Outgoing, Step};
@@ -13,7 +15,7 @@ use std::test::Fail;
 use tree_home::Homes;
 use tree_step::{NodeParts, is_due};
 use tv_base::{ActorNo, ItemNo, Name, NoMemory, NodeNo, Stamp, SubNo, TreeNo, Version};
-use tx_trees::{Deed, ItemRow, Script, TreeKind};
+use tx_trees::{Deed, Form, ItemRow, Script, TreeKind};
 use update_step::run_update;
 
 fn named(name: &[u8]) -> Result<Name, Fail> {
@@ -36,7 +38,7 @@ fn add_item(script: &mut Script, name: &[u8], node: u8) -> Result<(), Fail> {
 
 // Tree 0 is an update tree with a child at node 1, tree 1 a read tree without one.
 fn two_trees(alloc: Global) -> Result<Script, Fail> {
-    let mut script = Script::new(alloc, 2);
+    let mut script = Script::new(alloc, Form::One, 2);
     add_item(&mut script, b"a", 0)?;
     add_item(&mut script, b"b", 1)?;
     script.add_tree(named(b"t")?, TreeKind::Update, NodeNo(0))?;
@@ -232,5 +234,171 @@ fn a_notice_is_counted(rt: HostRuntime) -> Result<(), Fail> {
     assert!(rt; step.given.sent.items().is_empty());
     assert!(rt; !node.homes.has(TreeNo(0)));
     assert!(rt; matches!(node.counters.done_row(alloc, Version(1))?.items(), [0, 1]));
+    Ok(())
+}
+
+// A node's versions after a letter of this body, and how many letters it sent and acts it made.
+fn turns_after(alloc: Global, script: &Script, body: Body) -> Result<(Turns, usize, usize), Fail> {
+    let (node, step) = take(alloc, script, 0, &letter(2, 0, body))?;
+    let sent = step.given.sent.items().len();
+    let acts = step.given.acts.items().len();
+    Ok((node.turns, sent, acts))
+}
+
+fn turned(version: u64) -> Body {
+    Body::Turn {
+        version: Version(version),
+    }
+}
+
+fn shown(version: u64) -> Body {
+    Body::Show {
+        version: Version(version),
+    }
+}
+
+fn swept(version: u64) -> Body {
+    Body::Sweep {
+        version: Version(version),
+    }
+}
+
+fn turns(update: u64, read: u64, low: u64) -> Turns {
+    Turns {
+        update: Version(update),
+        read: Version(read),
+        low: Version(low),
+    }
+}
+
+#[test]
+fn a_node_turns(rt: HostRuntime) -> Result<(), Fail> {
+    let alloc = rt.alloc();
+    let script = two_trees(alloc)?;
+    let (now, sent, acts) = turns_after(alloc, &script, turned(2))?;
+    assert_eq!(rt; (now, sent, acts), (turns(2, 0, 0), 1, 1));
+    let (now, sent, acts) = turns_after(alloc, &script, turned(1))?;
+    assert_eq!(rt; (now, sent, acts), (turns(1, 0, 0), 1, 0));
+    let (now, sent, acts) = turns_after(alloc, &script, turned(3))?;
+    assert_eq!(rt; (now, sent, acts), (turns(1, 0, 0), 0, 0));
+    Ok(())
+}
+
+#[test]
+fn a_node_shows(rt: HostRuntime) -> Result<(), Fail> {
+    let alloc = rt.alloc();
+    let script = two_trees(alloc)?;
+    let (now, sent, acts) = turns_after(alloc, &script, shown(1))?;
+    assert_eq!(rt; (now, sent, acts), (turns(1, 1, 0), 1, 1));
+    Ok(())
+}
+
+#[test]
+fn what_is_still_read_is_not_swept(rt: HostRuntime) -> Result<(), Fail> {
+    let alloc = rt.alloc();
+    let script = two_trees(alloc)?;
+    let (now, sent, acts) = turns_after(alloc, &script, swept(1))?;
+    assert_eq!(rt; (now, sent, acts), (turns(1, 0, 0), 0, 0));
+    let (now, sent, acts) = turns_after(alloc, &script, swept(0))?;
+    assert_eq!(rt; (now, sent, acts), (turns(1, 0, 0), 1, 1));
+    Ok(())
+}
+
+// One completion from node 1 in version 0, where it may be counted.
+fn complete(counters: &mut Counters)
+    ensures nodes { (counts_of counters.new).nodes ≡ (counts_of counters.old).nodes }
+    ensures low { (counts_of counters.new).low ≡ (counts_of counters.old).low }
+{
+    if counters.low().0 == 0 && counters.nodes() > 1 {
+        if counters.done_at(Version(0), NodeNo(1)) < 100 {
+            counters.done(Version(0), NodeNo(1));
+        }
+    }
+}
+
+// The first version of item 0.
+fn first_held(node: &NodeParts) -> Option<u64> {
+    let (version, _) = node.items.item(ItemNo(0))?.held().first()?;
+    Some(version.0)
+}
+
+// A node sweeps to this version, where the letter is due.
+fn sweep_due(alloc: Global, script: &Script, node: &mut NodeParts, version: u64) -> Result<(), Fail>
+    requires script { IsOf script.now node.old }
+    requires window { IsInWindow node.old }
+{
+    let order = letter(2, 0, swept(version));
+    if !is_due(node, &order, script) {
+        return Err("not due".into());
+    }
+    if let Body::Sweep { version } = &order.body {
+        sweep(alloc, node, script, *version)?;
+    }
+    Ok(())
+}
+
+// A node that has counted one completion of version 0, and shows version 1.
+fn counting_node(alloc: Global, script: &Script) -> Result<NodeParts, NoMemory>
+    requires { 0 < script.now.nodes }
+    ensures script { IfOk result (λ node. IsOf script.now node) }
+    ensures window { IfOk result (λ node. IsInWindow node) }
+{
+    let mut node = fresh(alloc, script, 0, ItemNo(0), ten())?;
+    complete(&mut node.counters);
+    if node.turns.low.0 == 0 {
+        node.turns.show(Version(1));
+    }
+    Ok(node)
+}
+
+#[test]
+fn a_node_sweeps(rt: HostRuntime) -> Result<(), Fail> {
+    let alloc = rt.alloc();
+    let script = two_trees(alloc)?;
+    if script.nodes() == 0 {
+        return Err("no node".into());
+    }
+    let mut node = counting_node(alloc, &script)?;
+    assert!(rt; matches!(node.counters.done_row(alloc, Version(0))?.items(), [0, 1]));
+    sweep_due(alloc, &script, &mut node, 1)?;
+    assert_eq!(rt; node.turns, turns(1, 1, 1));
+    // Version 0 has become version 1, and what was counted of it has gone.
+    assert_eq!(rt; first_held(&node), Some(1));
+    assert_eq!(rt; seen(&node, 0, 1), 10);
+    assert!(rt; matches!(node.counters.done_row(alloc, Version(0))?.items(), [0, 0]));
+    Ok(())
+}
+
+// The numbers of a row that are told, and the round that is answered.
+fn told(step: &Step) -> (u64, usize) {
+    match step.given.sent.items().first() {
+        Some(sent) => match &sent.body {
+            Body::DoneRow { round, row, .. } => (*round, row.items().len()),
+            Body::AskedRow { round, row, .. } => (round.saturating_add(100), row.items().len()),
+            _ => (0, 0),
+        },
+        None => (0, 0),
+    }
+}
+
+#[test]
+fn a_node_tells_its_rows(rt: HostRuntime) -> Result<(), Fail> {
+    let alloc = rt.alloc();
+    let script = two_trees(alloc)?;
+    let version = Version(1);
+    let done = letter(2, 0, Body::AskDone { version, round: 7 });
+    let (_, step) = take(alloc, &script, 0, &done)?;
+    assert_eq!(rt; told(&step), (7, 2));
+    Ok(())
+}
+
+#[test]
+fn a_node_tells_its_requests(rt: HostRuntime) -> Result<(), Fail> {
+    let alloc = rt.alloc();
+    let script = two_trees(alloc)?;
+    let version = Version(1);
+    let asked = letter(2, 0, Body::AskAsked { version, round: 7 });
+    let (_, step) = take(alloc, &script, 0, &asked)?;
+    assert_eq!(rt; told(&step), (107, 2));
     Ok(())
 }

@@ -1,5 +1,5 @@
 // Whether a letter is one that a node takes.
-ghost use Rattle.std.specs.Prelude.{◌≡◌, ◌==◌, ◌&&◌, not, is_some, nat_lt, length};
+ghost use Rattle.std.specs.Prelude.{◌≡◌, ◌==◌, ◌&&◌, ◌+◌, not, is_some, nat_le, nat_lt, length};
 ghost use Rattle.item_versions.specs.Window.{in_window};
 ghost use Rattle.tx_trees.specs.ScriptData.{home_of, node_of, subs_at};
 ghost use Rattle.tree_home.specs.Homes.{home_in, trees_of};
@@ -73,8 +73,27 @@ fn is_near(turns: &Turns, version: Version) -> bool
     turns.low.0 <= version.0 && version.0 - turns.low.0 < VERSIONS
 }
 
-/// Whether a letter asks its addressee for a subtransaction or brings it a notice, and what it names belongs there, a
-/// root's tree isn't open yet, and the version that it names is one of the three that begin with the low version.
+/// Whether a version is at most two above the low version, and so one to which the update version may be raised.
+fn is_within_reach(turns: &Turns, version: Version) -> bool
+    ensures { result ≡ nat_le version.0 (turns.now.low.0 + 2) }
+{
+    version.0 <= turns.low.0 || version.0 - turns.low.0 < VERSIONS
+}
+
+/// Whether a version is from the low version up, and neither above the one that is read nor above the one that is
+/// updated: a node may collect to it.
+fn is_left_behind(turns: &Turns, version: Version) -> bool
+    ensures { result ≡ nat_le turns.now.low.0 version.0
+        && (nat_le version.0 turns.now.read.0 && nat_le version.0 turns.now.update.0) }
+{
+    turns.low.0 <= version.0 && version.0 <= turns.read.0 && version.0 <= turns.update.0
+}
+
+/// Whether a letter is one that a node takes, and what it names belongs there, a root's tree isn't open yet, and the
+/// version that it names is one that the node can go by: a subtransaction, a notice and a version to show are of one of
+/// the three versions that begin with the low version, a version to raise to is at most the last of them, and a version
+/// to collect to is from the low version up and neither read nor updated below. Letters that ask for rows are always
+/// taken.
 pub fn is_due(node: &NodeParts, letter: &Letter, script: &Script) -> bool
     ensures { result ≡ is_due script.now letter.now.to.0 (data_of node.now) letter.now.from.0 letter.now.body }
 {
@@ -93,6 +112,11 @@ pub fn is_due(node: &NodeParts, letter: &Letter, script: &Script) -> bool
                 && suits(script, *tree, notice)
                 && is_near(&node.turns, *version)
         }
+        Body::Turn { version } => is_within_reach(&node.turns, *version),
+        Body::Show { version } => is_near(&node.turns, *version),
+        Body::Sweep { version } => is_left_behind(&node.turns, *version),
+        Body::AskDone { .. } => true,
+        Body::AskAsked { .. } => true,
         _ => false,
     }
 }

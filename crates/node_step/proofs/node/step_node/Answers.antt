@@ -26,3 +26,33 @@ returns-in-Done-clause-row c =
     let due = due_row c.args.script.now c.args.letter.now.to.0 (data_of c.args.node.now) c.args.letter.now
     (sym c.if-not-is_due.ensures) in
     rw due (rw c.in-Done.is c.step_notice.ensures.row)
+
+pub returns-in-Turn-clause-row : goal.returns-in-Turn-clause-row
+returns-in-Turn-clause-row c =
+    let due = due_row c.args.script.now c.args.letter.now.to.0 (data_of c.args.node.now) c.args.letter.now
+    (sym c.if-not-is_due.ensures) in
+    rw due (rw c.in-Turn.is c.turn.ensures.row)
+
+pub returns-in-Show-clause-row : goal.returns-in-Show-clause-row
+returns-in-Show-clause-row c =
+    let due = due_row c.args.script.now c.args.letter.now.to.0 (data_of c.args.node.now) c.args.letter.now
+    (sym c.if-not-is_due.ensures) in
+    rw due (rw c.in-Show.is c.show.ensures.row)
+
+pub returns-in-Sweep-clause-row : goal.returns-in-Sweep-clause-row
+returns-in-Sweep-clause-row c =
+    let due = due_row c.args.script.now c.args.letter.now.to.0 (data_of c.args.node.now) c.args.letter.now
+    (sym c.if-not-is_due.ensures) in
+    rw due (rw c.in-Sweep.is c.sweep.ensures.row)
+
+pub returns-in-AskDone-clause-row : goal.returns-in-AskDone-clause-row
+returns-in-AskDone-clause-row c =
+    let due = due_row c.args.script.now c.args.letter.now.to.0 (data_of c.args.node.now) c.args.letter.now
+    (sym c.if-not-is_due.ensures) in
+    rw due (rw c.in-AskDone.is c.tell_done.ensures.row)
+
+pub returns-in-AskAsked-clause-row : goal.returns-in-AskAsked-clause-row
+returns-in-AskAsked-clause-row c =
+    let due = due_row c.args.script.now c.args.letter.now.to.0 (data_of c.args.node.now) c.args.letter.now
+    (sym c.if-not-is_due.ensures) in
+    rw due (rw c.in-AskAsked.is c.tell_asked.ensures.row)
