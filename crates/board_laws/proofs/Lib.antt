@@ -1,5 +1,6 @@
 pub mod Histories
 pub mod Versions
+pub mod InTurn
 pub mod Seen
 pub mod OwnDeeds
 pub mod Shown

@@ -6,7 +6,6 @@ use Rattle.std.proofs.lemmas.Bool.Decides.{nat_tests}
 use Rattle.tv_base.specs.declared.numbers.SubNo.{SubNo}
 use Rattle.tv_base.specs.declared.numbers.TreeNo.{TreeNo}
 use Rattle.tv_base.specs.declared.numbers.Version.{Version}
-use Rattle.node_versions.specs.declared.turns.Turns.{Turns}
 use Rattle.letter_types.specs.declared.acts.Act.{Act}
 use Rattle.letter_types.specs.declared.acts.Act.TheVariants.{Born, Did, Finished}
 use Rattle.letter_types.specs.declared.bodies.Body.{Body}
@@ -15,42 +14,35 @@ use Rattle.letter_types.specs.declared.entries.Entry.{Entry}
 use Rattle.letter_types.specs.declared.entries.Letter.{Letter}
 use Rattle.letter_types.specs.declared.entries.LetterId.{LetterId}
 use Rattle.letter_types.specs.declared.entries.Outgoing.{Outgoing}
-use Rattle.client_rows.specs.Client.{Client, finishes, next_after, nudge, rows_letters, submit, submitted, with_answer}
+use Rattle.client_rows.specs.Client.{Client, finishes, next_after, nudge, rows_letters, submit, submitted, with_answer, with_end}
 use Rattle.tree_home.specs.declared.homes.Answered.{Answered}
 use Rattle.tree_home.specs.Homes.{begun}
 use Rattle.tree_step.specs.Children.{sub_letters, done_letter}
 use Rattle.tree_step.specs.Done.{root_done, sub_done, turned_if}
-use Rattle.tree_step.specs.Node.{Effect}
+use Rattle.letter_types.specs.Steps.{Out}
+use Rattle.tree_step.specs.Node.{Effect, Node}
 use Rattle.tree_step.specs.Notices.{answer_noted, reply_letters}
 use Rattle.tx_trees.specs.ScriptData.{ScriptData, client_of, home_of, node_of, reads, subs_at, updates}
 use Rattle.tx_trees.specs.declared.parts.ScriptRow.{ScriptRow}
-use Rattle.tx_trees.specs.declared.parts.ScriptRow.TheVariants.{Tree as TreeRow, Advance, Settle}
+use Rattle.tx_trees.specs.declared.parts.ScriptRow.TheVariants.{Tree as TreeRow, Advance, Settle, Lose}
 use Rattle.tx_trees.specs.declared.parts.Sub.{Sub}
 use Rattle.board_model.specs.Histories.{Place, born_as, places_at, places_of, version_in}
 use Rattle.board_model.proofs.Places.{version_in-append}
 use Rattle.world_model.specs.Counts.{Each, one_if, tally}
 use Rattle.world_model.specs.Runs.{MayFollow, StepRun, client_in, node_in, waiting}
 use Rattle.world_model.proofs.Every.{each_append, each_map, each_step, each_taken}
-use Rattle.tree_laws.specs.Dids.{asks, births, is_born}
+use Rattle.tree_laws.specs.Dids.{asks, is_born}
 use Rattle.tree_laws.proofs.Acts.{of_act}
 use Rattle.tree_laws.proofs.Counts.{not_done, one_here, was_asked}
 use Rattle.tree_laws.proofs.Good.{Good}
 use Rattle.tree_laws.proofs.Goods.{good_run, next_of}
-use Rattle.tree_laws.proofs.Nexts.{Made, RootWork, RootUpdates, RootReads, Next, Begins, Hears, Rests, DoesRoot, DoesSub, Notes}
-use Rattle.tree_laws.proofs.Scripts.{Sound, SubAt, node_below, reads_alone}
+use Rattle.world_model.proofs.Nexts.{Made, RootWork, Next, Begins, Hears, Ends, Coordinates, DoesRoot, DoesSub, Notes, Obeys, Order, Turns, Shows, Sweeps, TellsDone, TellsAsked}
+use Rattle.world_model.specs.Timely.{AllTimely}
+use Rattle.world_model.proofs.Orders.{OfOrders, of}
+use Rattle.tree_laws.proofs.OrderStep.{coordinator_sends}
+use Rattle.world_model.proofs.Scripts.{Sound, SubAt, reads_alone}
 use Rattle.tree_laws.proofs.Whole.{births_in}
 use Rattle.board_laws.proofs.Histories.{places_more}
-
--- a read tree is in version 0, and an update tree in version 1, while no version is shown
-pub record InTurn (s : ScriptData) (t v : ℕ) : Type 0 where
-  pub read : reads s t ≡ true → v ≡ 0
-  pub update : updates s t ≡ true → v ≡ 1
-
--- a birth is in turn
-abbrev pub IsBornInTurn : ScriptData → Act → Type 0
-IsBornInTurn s (Born t v) = InTurn s t.0 v.0
-IsBornInTurn s Finished = Unit {0}
-IsBornInTurn s _ = Unit {0}
 
 -- what was done is of a tree that is born
 abbrev pub IsOfBorn : List Place → Act → Type 0
@@ -64,9 +56,8 @@ HasVersion xs (SubLetter t k v) = version_in t.0 xs ≡ Some v
 HasVersion xs Go = Unit {0}
 HasVersion xs _ = Unit {0}
 
--- so with each birth, each deed and each letter under way
+-- so with each deed and each letter under way
 pub record AreVersioned (s : ScriptData) (past : List Entry) : Type 0 where
-  pub births : Each (λ (x : Place). IsBornInTurn s x.act) (places_of (reverse past))
   pub deeds : Each (λ (x : Place). IsOfBorn (places_of (reverse past)) x.act) (places_of (reverse past))
   pub letters : Each (λ (l : Letter). HasVersion (places_of (reverse past)) l.body) (waiting s past)
 
@@ -96,7 +87,7 @@ born_marks t (Born u v) = born_test t u.0 v (u.0 == t) refl
 born_marks t Finished = refl
 born_marks t _ = refl
 
-unborn : (t : ℕ) (xs : List Place) → tally (of_act (is_born t)) xs ≡ 0 → version_in t xs ≡ None
+pub unborn : (t : ℕ) (xs : List Place) → tally (of_act (is_born t)) xs ≡ 0 → version_in t xs ≡ None
 unborn t [] none = refl
 unborn t (x ∷ xs) none =
     unborn_at t (born_as t x.act) (version_in t xs) (omega (arith, born_marks t x.act)) (unborn t xs (omega arith))
@@ -137,6 +128,7 @@ rows_versioned xs s [] = tt
 rows_versioned xs s (TreeRow t ∷ rows) = ((λ i. tt), rows_versioned xs s rows)
 rows_versioned xs s (Advance ∷ rows) = ((λ i. tt), rows_versioned xs s rows)
 rows_versioned xs s (Settle ∷ rows) = rows_versioned xs s rows
+rows_versioned xs s (Lose ∷ rows) = rows_versioned xs s rows
 
 sent_append : (xs : List Place) (os ps : List Outgoing) → SentVersioned xs os → SentVersioned xs ps → SentVersioned xs (os ++ ps)
 sent_append xs os ps one more = each_append (λ (o : Outgoing). (i : LetterId) → HasVersion xs o.body) os ps one more
@@ -151,25 +143,18 @@ submit_versioned xs s c first one =
 abbrev pub placed : ℕ → List Act → List Place
 placed node acts = map (λ (a : Act). record { node = node; act = a }) acts
 
-end_born : (s : ScriptData) (node : ℕ) (test : Bool) → Each (λ (x : Place). IsBornInTurn s x.act) (placed node (if test then Finished ∷ [] else []))
-end_born s node true = (tt, tt)
-end_born s node false = tt
-
 end_deeds : (xs : List Place) (node : ℕ) (test : Bool) → Each (λ (x : Place). IsOfBorn xs x.act) (placed node (if test then Finished ∷ [] else []))
 end_deeds xs node true = (tt, tt)
 end_deeds xs node false = tt
 
 -- One entry more, by its acts and by what it sends.
 more : (s : ScriptData) (past : List Entry) (e : Entry) → AreVersioned s past
-    → Each (λ (x : Place). IsBornInTurn s x.act) (places_at e)
     → Each (λ (x : Place). IsOfBorn (places_of (reverse past) ++ places_at e) x.act) (places_at e)
     → SentVersioned (places_of (reverse past) ++ places_at e) e.sent → AreVersioned s (e ∷ past)
-more s past e are births deeds sent =
+more s past e are deeds sent =
     let old = places_of (reverse past) in
     let new = places_at e in
     record {
-      births = subst (Each (λ (x : Place). IsBornInTurn s x.act)) (sym (places_more e past))
-          (each_append (λ (x : Place). IsBornInTurn s x.act) old new are.births births);
       deeds = subst (λ (xs : List Place). Each (λ (x : Place). IsOfBorn xs x.act) xs) (sym (places_more e past))
           (each_append (λ (x : Place). IsOfBorn (old ++ new) x.act) old new
           (each_map (λ (x : Place). IsOfBorn old x.act) (λ (x : Place). IsOfBorn (old ++ new) x.act) old (λ x is. deed_stays old new x.act is) are.deeds) deeds);
@@ -182,15 +167,6 @@ more s past e are births deeds sent =
 -- Kinds of trees.
 pub not_both : (s : ScriptData) (t k : ℕ) → SubAt s t k → updates s t ≡ true → reads s t ≡ true → ⊥
 not_both s t k c up read = let no : true ≡ false = sym up ∙ reads_alone s t k c read in cc no
-
-root_in_turn : (s : ScriptData) (past : List Entry) (t : ℕ) (v : Version) (effect : Effect) → SubAt s t 0 → Sound s → Good s past
-    → RootWork s t (node_in s past (home_of s t)) v effect → InTurn s t v.0
-root_in_turn s past t v effect c sound good (RootUpdates up is can made) =
-    let first = ap (λ (u : Turns). u.update.0) (good.turns (home_of s t) (node_below s t 0 c sound)) in
-    record { read = λ read. absurd (not_both s t 0 c up read); update = λ up. ap (λ (w : Version). w.0) is ∙ first }
-root_in_turn s past t v effect c sound good (RootReads read is can made) =
-    let first = ap (λ (u : Turns). u.read.0) (good.turns (home_of s t) (node_below s t 0 c sound)) in
-    record { read = λ read. ap (λ (w : Version). w.0) is ∙ first; update = λ up. absurd (not_both s t 0 c up read) }
 
 -- The entry of a root.
 born_here : (t : TreeNo) (v : Version) (node : ℕ) (xs ys : List Place) → version_in t.0 xs ≡ None
@@ -220,7 +196,6 @@ root_next s past e t v effect c sound good m are is work made =
     let version = root_version s past e t v effect c sound good m is made in
     let answer = answer_noted t (record { 0 = 0 }) effect.values (begun t (length (subs_at s t.0)) v st.homes) in
     more s past e are
-    (rw made.acts (root_in_turn s past t.0 v effect c sound good work, (tt, tt)))
     (subst (λ (acts : List Act). Each (λ (x : Place). IsOfBorn xs x.act) (placed e.actor.0 acts)) (sym made.acts)
     (tt, (born_by (version_in t.0 xs) v version, tt)))
     (subst (λ (os : List Outgoing). SentVersioned xs os) (sym made.sent)
@@ -242,11 +217,6 @@ sub_version s past e t k v are m is =
     let old = taken_version s past e t k v are m is in
     version_stays t.0 (places_of (reverse past)) (places_at e) (born_by (version_in t.0 (places_of (reverse past))) v old) ∙ old
 
-turned_born : (s : ScriptData) (node v : ℕ) (raises : Bool) (acts : List Act) → Each (λ (x : Place). IsBornInTurn s x.act) (placed node acts)
-    → Each (λ (x : Place). IsBornInTurn s x.act) (placed node (turned_if raises v ++ acts))
-turned_born s node v true acts rest = (tt, rest)
-turned_born s node v false acts rest = rest
-
 turned_deeds : (xs : List Place) (node v : ℕ) (raises : Bool) (acts : List Act) → Each (λ (x : Place). IsOfBorn xs x.act) (placed node acts)
     → Each (λ (x : Place). IsOfBorn xs x.act) (placed node (turned_if raises v ++ acts))
 turned_deeds xs node v true acts rest = (tt, rest)
@@ -261,7 +231,6 @@ sub_next s past e t k v raises effect m are is made =
     let version = sub_version s past e t k v are m is in
     let own = Did t k effect.values ∷ [] in
     more s past e are
-    (rw made.acts (turned_born s e.actor.0 v.0 raises own (tt, tt)))
     (subst (λ (acts : List Act). Each (λ (x : Place). IsOfBorn xs x.act) (placed e.actor.0 acts)) (sym made.acts)
     (turned_deeds xs e.actor.0 v.0 raises own (born_by (version_in t.0 xs) v version, tt)))
     (subst (λ (os : List Outgoing). SentVersioned xs os) (sym made.sent)
@@ -274,17 +243,57 @@ client_next : (s : ScriptData) (past : List Entry) (e : Entry) (c : Client) (fir
 client_next s past e c first are sent acts one =
     let xs = places_of (reverse past) ++ places_at e in
     let test = finishes s (next_after s c) c in
-    more s past e are (rw acts (end_born s e.actor.0 test))
+    more s past e are
     (subst (λ (acts : List Act). Each (λ (x : Place). IsOfBorn xs x.act) (placed e.actor.0 acts)) (sym acts) (end_deeds xs e.actor.0 test))
     (subst (λ (os : List Outgoing). SentVersioned xs os) (sym sent) (submit_versioned xs s c first one))
+
+-- What the coordinator sends, and what a node that obeys does.
+orders_versioned : (xs : List Place) (n : ℕ) → OfOrders (λ (to : ℕ) (b : Body). HasVersion xs b) n
+orders_versioned xs n = record {
+  turn = λ to v lt. tt;
+  show = λ to v lt. tt;
+  sweep = λ to v lt. tt;
+  ask_done = λ to v k lt. tt;
+  ask_asked = λ to v k lt. tt;
+  advanced = λ v. tt;
+}
+
+order_versioned : (xs : List Place) (s : ScriptData) (st : Node) (b : Body) (out : Out Node) → Order s st b out → SentVersioned xs out.sent
+order_versioned xs s st b out (Turns v is row) = rw row ((λ i. tt), tt)
+order_versioned xs s st b out (Shows v is row) = rw row ((λ i. tt), tt)
+order_versioned xs s st b out (Sweeps v is row) = rw row ((λ i. tt), tt)
+order_versioned xs s st b out (TellsDone v k is row) = rw row ((λ i. tt), tt)
+order_versioned xs s st b out (TellsAsked v k is row) = rw row ((λ i. tt), tt)
+
+turn_deeds : (xs : List Place) (node v : ℕ) (raises : Bool) → Each (λ (x : Place). IsOfBorn xs x.act) (placed node (turned_if raises v))
+turn_deeds xs node v true = (tt, tt)
+turn_deeds xs node v false = tt
+
+order_deeds : (xs : List Place) (node : ℕ) (s : ScriptData) (st : Node) (b : Body) (out : Out Node) → Order s st b out
+    → Each (λ (x : Place). IsOfBorn xs x.act) (placed node out.acts)
+order_deeds xs node s st b out (Turns v is row) = rw row (turn_deeds xs node v.0 (nat_lt st.turns.update.0 v.0))
+order_deeds xs node s st b out (Shows v is row) = rw row (tt, tt)
+order_deeds xs node s st b out (Sweeps v is row) = rw row (tt, tt)
+order_deeds xs node s st b out (TellsDone v k is row) = rw row tt
+order_deeds xs node s st b out (TellsAsked v k is row) = rw row tt
 
 versioned_next : (s : ScriptData) (past : List Entry) (e : Entry) → Sound s → Good s past → MayFollow s past e → AreVersioned s past
     → Next s past e → AreVersioned s (e ∷ past)
 versioned_next s past e sound good m are (Begins is at made) = client_next s past e (client_in s past) [] are made.sent made.acts tt
 versioned_next s past e sound good m are (Hears t v answer is at lt made) =
     client_next s past e (with_answer t.0 (client_in s past)) (nudge s ∷ []) are made.sent made.acts ((λ i. tt), tt)
-versioned_next s past e sound good m are (Rests is at sent acts) =
-    more s past e are (rw acts tt) (rw acts tt) (rw sent tt)
+versioned_next s past e sound good m are (Ends v is at made) = client_next s past e (with_end (client_in s past)) [] are made.sent made.acts tt
+versioned_next s past e sound good m are (Coordinates tells at made) =
+    let xs = places_of (reverse past) ++ places_at e in
+    more s past e are (rw made.acts tt)
+    (each_map (of (λ (to : ℕ) (b : Body). HasVersion xs b)) (λ (o : Outgoing). (i : LetterId) → HasVersion xs o.body) e.sent (λ o is i. is)
+    (coordinator_sends (λ (to : ℕ) (b : Body). HasVersion xs b) s past e made (orders_versioned xs s.nodes)))
+versioned_next s past e sound good m are (Obeys p out at lt order made) =
+    let xs = places_of (reverse past) ++ places_at e in
+    more s past e are
+    (subst (λ (acts : List Act). Each (λ (x : Place). IsOfBorn xs x.act) (placed e.actor.0 acts)) (sym made.acts)
+    (order_deeds xs e.actor.0 s (node_in s past p) e.took.body out order))
+    (subst (λ (os : List Outgoing). SentVersioned xs os) (sym made.sent) (order_versioned xs s (node_in s past p) e.took.body out order))
 versioned_next s past e sound good m are (DoesRoot t v effect is c at lt none work made) =
     root_next s past e t v effect c sound good m are is work made
 versioned_next s past e sound good m are (DoesSub t k v raises effect is c later from at lt work made) =
@@ -292,11 +301,12 @@ versioned_next s past e sound good m are (DoesSub t k v raises effect is c later
 versioned_next s past e sound good m are (Notes t k v values is c later from at lt misses made) =
     let xs = places_of (reverse past) ++ places_at e in
     let answer = answer_noted t k values (node_in s past (home_of s t.0)).homes in
-    more s past e are (rw made.acts tt) (rw made.acts tt)
+    more s past e are (rw made.acts tt)
     (subst (λ (os : List Outgoing). SentVersioned xs os) (sym made.sent) (replies_versioned xs (client_of s) answer))
 
--- in every run
-pub versioned_run : (s : ScriptData) (past : List Entry) → Sound s → StepRun s past → AreVersioned s past
-versioned_run s [] sound run = record { births = tt; deeds = tt; letters = (tt, tt) }
-versioned_run s (e ∷ past) sound run =
-    versioned_next s past e sound (good_run s past sound run.1) run.0 (versioned_run s past sound run.1) (next_of s past e sound run)
+-- in every run in which each letter came in time
+pub versioned_run : (s : ScriptData) (past : List Entry) → Sound s → StepRun s past → AllTimely s past → AreVersioned s past
+versioned_run s [] sound run timely = record { deeds = tt; letters = (tt, tt) }
+versioned_run s (e ∷ past) sound run timely =
+    versioned_next s past e sound (good_run s past sound run.1 timely.1) run.0 (versioned_run s past sound run.1 timely.1)
+    (next_of s past e sound run timely)

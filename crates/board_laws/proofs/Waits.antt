@@ -8,7 +8,7 @@ use Rattle.tv_base.specs.declared.numbers.TreeNo.{TreeNo}
 use Rattle.letter_types.specs.declared.acts.Act.{Act}
 use Rattle.letter_types.specs.declared.acts.Act.TheVariants.{Born, Did}
 use Rattle.letter_types.specs.declared.bodies.Body.{Body}
-use Rattle.letter_types.specs.declared.bodies.Body.TheVariants.{Go, Root, Sub as SubLetter, Done, Reply, Nudge}
+use Rattle.letter_types.specs.declared.bodies.Body.TheVariants.{Go, Root, Sub as SubLetter, Done, Reply, Advanced}
 use Rattle.letter_types.specs.declared.bodies.Notice.TheVariants.{Did as DidNotice}
 use Rattle.letter_types.specs.declared.entries.Entry.{Entry}
 use Rattle.tx_trees.specs.ScriptData.{ScriptData}
@@ -17,11 +17,14 @@ use Rattle.std.proofs.lemmas.Bool.{or_right}
 use Rattle.board_model.specs.Histories.{Place, places_at, was_done}
 use Rattle.board_model.specs.Right.{IsDoneAtOnce, IsAtOnce}
 use Rattle.board_model.proofs.Places.{was_done-append}
-use Rattle.world_model.specs.Runs.{StepRun}
+use Rattle.world_model.specs.Runs.{node_in, StepRun}
 use Rattle.world_model.specs.Tables.{Runnable}
-use Rattle.tree_laws.proofs.Nexts.{Next, Begins, Hears, Rests, DoesRoot, DoesSub, Notes}
+use Rattle.world_model.proofs.Nexts.{Next, Begins, Hears, Ends, Coordinates, DoesRoot, DoesSub, Notes, Obeys, Order, Turns, Shows, Sweeps, TellsDone, TellsAsked, Tells}
+use Rattle.world_model.specs.Timely.{AllTimely}
+use Rattle.letter_types.specs.Steps.{Out}
 use Rattle.tree_step.specs.Done.{turned_if}
-use Rattle.tree_laws.proofs.Scripts.{Sound}
+use Rattle.tree_step.specs.Node.{Node}
+use Rattle.world_model.proofs.Scripts.{Sound}
 use Rattle.tree_laws.proofs.Goods.{next_of}
 use Rattle.board_laws.proofs.Histories.{one_more}
 use Rattle.board_laws.proofs.Versions.{placed}
@@ -42,11 +45,26 @@ at_once_of : (s : ScriptData) (e : Entry) (body : Body) (acts : List Act) → e.
     → IsDoneAtOnce s body (placed e.actor.0 acts) → IsDoneAtOnce s e.took.body (places_at e)
 at_once_of s e body acts is made done = rw is (rw made done)
 
+-- a letter that asks for no subtransaction
+told_at_once : (s : ScriptData) (xs : List Place) (b : Body) → Tells b → IsDoneAtOnce s b xs
+told_at_once s xs (Root t) tells = absurd tells
+told_at_once s xs (SubLetter t k v) tells = absurd tells
+told_at_once s xs _ tells = tt
+
+obeys_at_once : (s : ScriptData) (st : Node) (xs : List Place) (b : Body) (out : Out Node) → Order s st b out → IsDoneAtOnce s b xs
+obeys_at_once s st xs b out (Turns v is row) = rw is tt
+obeys_at_once s st xs b out (Shows v is row) = rw is tt
+obeys_at_once s st xs b out (Sweeps v is row) = rw is tt
+obeys_at_once s st xs b out (TellsDone v k is row) = rw is tt
+obeys_at_once s st xs b out (TellsAsked v k is row) = rw is tt
+
 -- each kind of entry
 at_once : (s : ScriptData) (past : List Entry) (e : Entry) → Next s past e → IsDoneAtOnce s e.took.body (places_at e)
 at_once s past e (Begins is at made) = at_once_of s e Go e.acts is refl tt
 at_once s past e (Hears t v answer is at lt made) = at_once_of s e (Reply t v answer) e.acts is refl tt
-at_once s past e (Rests is at sent acts) = at_once_of s e Nudge e.acts is refl tt
+at_once s past e (Ends v is at made) = at_once_of s e (Advanced v) e.acts is refl tt
+at_once s past e (Coordinates tells at made) = told_at_once s (places_at e) e.took.body tells
+at_once s past e (Obeys p out at lt order made) = obeys_at_once s (node_in s past p) (places_at e) e.took.body out order
 at_once s past e (DoesRoot t v effect is sub at lt none work made) =
     at_once_of s e (Root t) (Born t v ∷ Did t (record { 0 = 0 }) effect.values ∷ []) is made.acts
     (λ commutes. last_did e.actor.0 t (record { 0 = 0 }) effect.values (Born t v ∷ []))
@@ -57,12 +75,12 @@ at_once s past e (Notes t k v values is sub later from at lt misses made) =
     at_once_of s e (Done t k v (DidNotice values)) e.acts is refl tt
 
 -- each entry of a history
-all_at_once : (s : ScriptData) (past : List Entry) → Sound s → StepRun s past → IsAtOnce s (reverse past)
-all_at_once s [] sound run = λ n e here. absurd (cc here)
-all_at_once s (e ∷ past) sound run =
-    one_more (λ (h : List Entry) (x : Entry). IsDoneAtOnce s x.took.body (places_at x)) e past (all_at_once s past sound run.1)
-    (at_once s past e (next_of s past e sound run))
+all_at_once : (s : ScriptData) (past : List Entry) → Sound s → StepRun s past → AllTimely s past → IsAtOnce s (reverse past)
+all_at_once s [] sound run timely = λ n e here. absurd (cc here)
+all_at_once s (e ∷ past) sound run timely =
+    one_more (λ (h : List Entry) (x : Entry). IsDoneAtOnce s x.took.body (places_at x)) e past (all_at_once s past sound run.1 timely.1)
+    (at_once s past e (next_of s past e sound run timely))
 
 -- nothing waits
-pub no_wait : (s : ScriptData) (past : List Entry) → IsValid s → Runnable s → StepRun s past → IsAtOnce s (reverse past)
-no_wait s past valid runnable run = all_at_once s past (record { valid = valid; runnable = runnable }) run
+pub no_wait : (s : ScriptData) (past : List Entry) → IsValid s → Runnable s → StepRun s past → AllTimely s past → IsAtOnce s (reverse past)
+no_wait s past valid runnable run timely = all_at_once s past (record { valid = valid; runnable = runnable }) run timely

@@ -1,29 +1,34 @@
 //! Laws of the board: nothing waits, every read is right, and nodes see what their own deeds have made.
 #![tactic(auto)]
 
-ghost use Rattle.std.specs.Prelude.{List, reverse};
+ghost use Rattle.std.specs.Prelude.{◌≡◌, List, reverse};
 ghost use Rattle.board_laws.specs.OwnValues.{SeesOwn};
 ghost use Rattle.board_model.specs.Right.{IsAtOnce, IsRight};
 ghost use Rattle.letter_types.specs.declared.entries.Entry.{Entry};
+ghost use Rattle.tx_trees.specs.Adding.{advances_in};
 ghost use Rattle.tx_trees.specs.ScriptData.{ScriptData};
 ghost use Rattle.tx_trees.specs.Valid.{IsValid};
 ghost use Rattle.world_model.specs.Runs.{StepRun};
 ghost use Rattle.world_model.specs.Tables.{Runnable};
+ghost use Rattle.world_model.specs.Timely.{AllTimely};
 
-/// In every run of a valid script of update and read trees, the entry that takes a subtransaction's letter does it.
+/// In every run of a valid script of update and read trees in which each letter came in time, the entry that takes a
+/// subtransaction's letter does it.
 pub fn no_step_waits()
-    ensures { (s : ScriptData) (past : List Entry) → IsValid s → Runnable s → StepRun s past
+    ensures { (s : ScriptData) (past : List Entry) → IsValid s → Runnable s → StepRun s past → AllTimely s past
         → IsAtOnce s (reverse past) }
 {}
 
 /// In every such run a node sees of each of its items, in every version from its low version up, the initial value
 /// folded over its own Dids of that version or an older one.
 pub fn nodes_see_their_own_deeds()
-    ensures { (s : ScriptData) (past : List Entry) → IsValid s → Runnable s → StepRun s past → SeesOwn s past }
+    ensures { (s : ScriptData) (past : List Entry) → IsValid s → Runnable s → StepRun s past → AllTimely s past
+        → SeesOwn s past }
 {}
 
-/// In every such run each read shows what its items were worth at its tree's version in the history up to there.
+/// In every run of a valid script of update and read trees without advancements each read shows what its items were
+/// worth at its tree's version in the history up to there.
 pub fn every_read_is_right()
-    ensures { (s : ScriptData) (past : List Entry) → IsValid s → Runnable s → StepRun s past
+    ensures { (s : ScriptData) (past : List Entry) → IsValid s → Runnable s → advances_in s.rows ≡ 0 → StepRun s past
         → IsRight s (reverse past) }
 {}

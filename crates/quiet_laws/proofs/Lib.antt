@@ -1,4 +1,12 @@
 pub mod Counters
 pub mod Moves
 pub mod Balance
+pub mod Sending
+pub mod Silence
+pub mod Steps
+pub mod Waves
+pub mod Rounds
+pub mod Shows
+pub mod Below
+pub mod Closing
 pub mod Sampled

@@ -13,25 +13,32 @@ use Rattle.world_model.specs.Counts.{tally, one_if}
 use Rattle.world_model.specs.Runs.{node_in}
 use Rattle.world_model.proofs.Bags.{tally_same, tally_none, one_if_most}
 use Rattle.world_model.proofs.Every.{node_kept}
-use Rattle.quiet_laws.specs.Balance.{version_is, goes_from}
-use Rattle.tree_laws.proofs.Nexts.{Made}
+use Rattle.quiet_laws.specs.Balance.{MOST_COUNTED, version_is, goes_from}
+use Rattle.world_model.proofs.Nexts.{Made}
 use Rattle.quiet_laws.proofs.Counters.{counted}
 
 -- what an entry of actor a sends to q, if a is p
 abbrev pub sent_on : ℕ → ℕ → ℕ → ℕ → Outgoing → ℕ
 sent_on a v p q o = one_if (version_is v o.body && ((a == p) && (o.to.0 == q)))
 
--- an entry adds as much to both counters of a pair, but for the counted letters that the one sends and the other takes
+-- an entry adds as much to both counters of a pair, but for the counted letters that the one sends and the other takes,
+-- in a version that the nodes haven't left; in one that they have, no more
 pub record Counts (s : ScriptData) (past : List Entry) (e : Entry) (v : ℕ) : Type 0 where
   pub self : ℕ → ℕ → ℕ
-  pub asked : (p q : ℕ) → p < s.nodes
+  pub asked : (p q : ℕ) → p < s.nodes → (node_in s (e ∷ past) p).turns.low.0 ≤ v
       → (node_in s (e ∷ past) p).counts.asked v q
       ≡ (node_in s past p).counts.asked v q + self p q + tally (sent_on e.actor.0 v p q) e.sent
-  pub done : (p q : ℕ) → q < s.nodes
+  pub done : (p q : ℕ) → q < s.nodes → (node_in s (e ∷ past) q).turns.low.0 ≤ v
       → (node_in s (e ∷ past) q).counts.done v p
       ≡ (node_in s past q).counts.done v p + self p q + goes_from v p q e.took
+  pub asked_most : (p q : ℕ) → p < s.nodes
+      → (node_in s (e ∷ past) p).counts.asked v q
+      ≤ (node_in s past p).counts.asked v q + self p q + tally (sent_on e.actor.0 v p q) e.sent
+  pub done_most : (p q : ℕ) → q < s.nodes
+      → (node_in s (e ∷ past) q).counts.done v p ≤
+      (node_in s past q).counts.done v p + self p q + goes_from v p q e.took
   pub little : (p q : ℕ) → self p q ≤ 1
-  pub few : (p q : ℕ) → p < s.nodes → self p q + tally (sent_on e.actor.0 v p q) e.sent ≤ 65
+  pub few : (p q : ℕ) → p < s.nodes → self p q + tally (sent_on e.actor.0 v p q) e.sent ≤ MOST_COUNTED
 
 -- all that an actor sends is its own
 sent_here : (a v p q : ℕ) (os : List Outgoing) → (a == p) ≡ true → tally (sent_on a v p q) os ≡ tally (counted v q) os
@@ -56,7 +63,7 @@ took_here : (v p q : ℕ) (l : Letter) → l.to.0 ≡ q → goes_from v p q l �
 took_here v p q l eq = let is : (l.to.0 == q) ≡ true = grind (arith, nat_tests) in rw is (grind (arith, nat_tests))
 
 -- An entry that counts nothing.
-uncounted_goes : (v p q : ℕ) (l : Letter) → version_is v l.body ≡ false → goes_from v p q l ≡ 0
+pub uncounted_goes : (v p q : ℕ) (l : Letter) → version_is v l.body ≡ false → goes_from v p q l ≡ 0
 uncounted_goes v p q l is = rw is refl
 
 -- the entry of the coordinator or the client
@@ -64,9 +71,12 @@ pub apart : (s : ScriptData) (past : List Entry) (e : Entry) (v : ℕ) → e.too
     → version_is v e.took.body ≡ false → Counts s past e v
 apart s past e v to outside none = record {
   self = λ p q. 0;
-  asked = λ p q lt.
+  asked = λ p q lt low.
       rw (node_kept s past e p (omega arith)) (omega (arith, sent_elsewhere e.actor.0 v p q e.sent (omega arith)));
-  done = λ p q lt. rw (node_kept s past e q (omega arith)) (omega (arith, uncounted_goes v p q e.took none));
+  done = λ p q lt low. rw (node_kept s past e q (omega arith)) (omega (arith, uncounted_goes v p q e.took none));
+  asked_most = λ p q lt.
+      rw (node_kept s past e p (omega arith)) (omega (arith, sent_elsewhere e.actor.0 v p q e.sent (omega arith)));
+  done_most = λ p q lt. rw (node_kept s past e q (omega arith)) (omega (arith, uncounted_goes v p q e.took none));
   little = λ p q. omega arith;
   few = λ p q lt. omega (arith, sent_elsewhere e.actor.0 v p q e.sent (omega arith));
 }
@@ -77,12 +87,17 @@ apart s past e v to outside none = record {
 -- counts besides
 pub record RowCounts (h v from : ℕ) (body : Body) (st : Node) (row : Out Node) : Type 0 where
   pub own : Bool
-  pub asked : (q : ℕ)
+  pub asked : (q : ℕ) → row.state.turns.low.0 ≤ v
       → row.state.counts.asked v q ≡ st.counts.asked v q + one_if (own && (h == q)) + tally (counted v q) row.sent
-  pub done : (p : ℕ)
+  pub done : (p : ℕ) → row.state.turns.low.0 ≤ v
       → row.state.counts.done v p
       ≡ st.counts.done v p + one_if (own && (h == p)) + one_if (version_is v body && (from == p))
-  pub few : (q : ℕ) → one_if own + tally (counted v q) row.sent ≤ 65
+  pub asked_most : (q : ℕ) → row.state.counts.asked v q ≤ st.counts.asked v q + one_if (own && (h == q)) + tally
+      (counted v q) row.sent
+  pub done_most : (p : ℕ)
+      → row.state.counts.done v p ≤ st.counts.done v p + one_if (own && (h == p)) + one_if
+      (version_is v body && (from == p))
+  pub few : (q : ℕ) → one_if own + tally (counted v q) row.sent ≤ MOST_COUNTED
 
 -- what a node counts with itself, seen from each end
 own_at : (own : Bool) (h p q : ℕ) → h ≡ p → one_if (own && ((h == p) && (h == q))) ≡ one_if (own && (h == q))
@@ -116,17 +131,27 @@ sent_by s past e h v p q row made at =
     let is : (e.actor.0 == p) ≡ true = grind (arith, nat_tests) in
     sent_here e.actor.0 v p q e.sent is ∙ ap (tally (counted v q)) made.sent
 
+-- a node hasn't left a version that its row hasn't
+low_of : (s : ScriptData) (past : List Entry) (e : Entry) (h p v : ℕ) (row : Out Node) → Made s past e h row → h ≡ p
+    → (node_in s (e ∷ past) p).turns.low.0 ≤ v → row.state.turns.low.0 ≤ v
+low_of s past e h p v row made eq low =
+    let there : (node_in s (e ∷ past) h).turns.low.0 ≤ v = subst (λ (n : ℕ). (node_in s (e ∷ past) n).turns.low.0 ≤ v)
+    (sym eq) low in
+    subst (λ (st : Node). st.turns.low.0 ≤ v) made.state there
+
 -- the requests of the actor and of the others
 asked_by : (s : ScriptData) (past : List Entry) (e : Entry) (h v p q : ℕ) (row : Out Node) → Made s past e h row
     → e.actor.0 ≡ h
     → (counts : RowCounts h v e.took.from.0 e.took.body (node_in s past h) row)
-    → (h ≡ p) ⊎ (h ≢ p) → AskedMore s past e v p q (one_if (counts.own && ((h == p) && (h == q))))
-asked_by s past e h v p q row made at counts (inl eq) =
+    → (h ≡ p) ⊎ (h ≢ p) → (node_in s (e ∷ past) p).turns.low.0 ≤ v
+    → AskedMore s past e v p q (one_if (counts.own && ((h == p) && (h == q))))
+asked_by s past e h v p q row made at counts (inl eq) low =
+    let low' : row.state.turns.low.0 ≤ v = low_of s past e h p v row made eq low in
     let here : AskedMore s past e v h q (one_if (counts.own && (h == q))) =
-    rw made.state (omega (arith, counts.asked q, sent_by s past e h v h q row made at)) in
+    rw made.state (omega (arith, counts.asked q low', sent_by s past e h v h q row made at)) in
     let there = subst (λ (n : ℕ). AskedMore s past e v n q (one_if (counts.own && (h == q)))) eq here in
     rw (own_at counts.own h p q eq) there
-asked_by s past e h v p q row made at counts (inr ne) =
+asked_by s past e h v p q row made at counts (inr ne) low =
     rw (node_kept s past e p (λ is. ne (sym at ∙ is)))
     (omega (arith, own_not counts.own h p q ne, sent_elsewhere e.actor.0 v p q e.sent (λ is. ne (sym at ∙ is))))
 
@@ -134,13 +159,51 @@ asked_by s past e h v p q row made at counts (inr ne) =
 done_by : (s : ScriptData) (past : List Entry) (e : Entry) (h v p q : ℕ) (row : Out Node) → Made s past e h row
     → e.actor.0 ≡ h
     → e.took.to.0 ≡ e.actor.0 → (counts : RowCounts h v e.took.from.0 e.took.body (node_in s past h) row)
-    → (h ≡ q) ⊎ (h ≢ q) → DoneMore s past e v p q (one_if (counts.own && ((h == p) && (h == q))))
-done_by s past e h v p q row made at to counts (inl eq) =
+    → (h ≡ q) ⊎ (h ≢ q) → (node_in s (e ∷ past) q).turns.low.0 ≤ v
+    → DoneMore s past e v p q (one_if (counts.own && ((h == p) && (h == q))))
+done_by s past e h v p q row made at to counts (inl eq) low =
+    let low' : row.state.turns.low.0 ≤ v = low_of s past e h q v row made eq low in
     let here : DoneMore s past e v p h (one_if (counts.own && (h == p))) =
-    rw made.state (omega (arith, counts.done p, took_here v p h e.took (to ∙ at))) in
+    rw made.state (omega (arith, counts.done p low', took_here v p h e.took (to ∙ at))) in
     let there = subst (λ (n : ℕ). DoneMore s past e v p n (one_if (counts.own && (h == p)))) eq here in
     rw (own_from counts.own h p q eq) there
-done_by s past e h v p q row made at to counts (inr ne) =
+done_by s past e h v p q row made at to counts (inr ne) low =
+    rw (node_kept s past e q (λ is. ne (sym at ∙ is)))
+    (omega (arith, own_not_to counts.own h p q ne, took_elsewhere v p q e.took (λ is. ne (sym (to ∙ at) ∙ is))))
+
+-- Of every version: no more than that.
+abbrev AskedMost : ScriptData → List Entry → Entry → ℕ → ℕ → ℕ → ℕ → Type 0
+AskedMost s past e v p q self =
+    (node_in s (e ∷ past) p).counts.asked v q ≤ (node_in s past p).counts.asked v q + self + tally
+    (sent_on e.actor.0 v p q) e.sent
+
+abbrev DoneMost : ScriptData → List Entry → Entry → ℕ → ℕ → ℕ → ℕ → Type 0
+DoneMost s past e v p q self =
+    (node_in s (e ∷ past) q).counts.done v p ≤ (node_in s past q).counts.done v p + self + goes_from v p q e.took
+
+asked_most_by : (s : ScriptData) (past : List Entry) (e : Entry) (h v p q : ℕ) (row : Out Node) → Made s past e h row
+    → e.actor.0 ≡ h
+    → (counts : RowCounts h v e.took.from.0 e.took.body (node_in s past h) row)
+    → (h ≡ p) ⊎ (h ≢ p) → AskedMost s past e v p q (one_if (counts.own && ((h == p) && (h == q))))
+asked_most_by s past e h v p q row made at counts (inl eq) =
+    let here : AskedMost s past e v h q (one_if (counts.own && (h == q))) =
+    rw made.state (omega (arith, counts.asked_most q, sent_by s past e h v h q row made at)) in
+    let there = subst (λ (n : ℕ). AskedMost s past e v n q (one_if (counts.own && (h == q)))) eq here in
+    rw (own_at counts.own h p q eq) there
+asked_most_by s past e h v p q row made at counts (inr ne) =
+    rw (node_kept s past e p (λ is. ne (sym at ∙ is)))
+    (omega (arith, own_not counts.own h p q ne, sent_elsewhere e.actor.0 v p q e.sent (λ is. ne (sym at ∙ is))))
+
+done_most_by : (s : ScriptData) (past : List Entry) (e : Entry) (h v p q : ℕ) (row : Out Node) → Made s past e h row
+    → e.actor.0 ≡ h
+    → e.took.to.0 ≡ e.actor.0 → (counts : RowCounts h v e.took.from.0 e.took.body (node_in s past h) row)
+    → (h ≡ q) ⊎ (h ≢ q) → DoneMost s past e v p q (one_if (counts.own && ((h == p) && (h == q))))
+done_most_by s past e h v p q row made at to counts (inl eq) =
+    let here : DoneMost s past e v p h (one_if (counts.own && (h == p))) =
+    rw made.state (omega (arith, counts.done_most p, took_here v p h e.took (to ∙ at))) in
+    let there = subst (λ (n : ℕ). DoneMost s past e v p n (one_if (counts.own && (h == p)))) eq here in
+    rw (own_from counts.own h p q eq) there
+done_most_by s past e h v p q row made at to counts (inr ne) =
     rw (node_kept s past e q (λ is. ne (sym at ∙ is)))
     (omega (arith, own_not_to counts.own h p q ne, took_elsewhere v p q e.took (λ is. ne (sym (to ∙ at) ∙ is))))
 
@@ -148,11 +211,11 @@ and_most : (b c : Bool) → one_if (b && c) ≤ one_if b
 and_most true c = one_if_most c
 and_most false c = omega arith
 
--- at most 65 are counted
+-- no more are counted than an entry counts at most
 few_by : (s : ScriptData) (past : List Entry) (e : Entry) (h v p q : ℕ) (row : Out Node) (own c : Bool)
     → Made s past e h row
-    → one_if own + tally (counted v q) row.sent ≤ 65 → (e.actor.0 ≡ p) ⊎ (e.actor.0 ≢ p)
-    → one_if (own && c) + tally (sent_on e.actor.0 v p q) e.sent ≤ 65
+    → one_if own + tally (counted v q) row.sent ≤ MOST_COUNTED → (e.actor.0 ≡ p) ⊎ (e.actor.0 ≢ p)
+    → one_if (own && c) + tally (sent_on e.actor.0 v p q) e.sent ≤ MOST_COUNTED
 few_by s past e h v p q row own c made few (inl eq) =
     omega (arith, and_most own c, sent_by s past e h v p q row made eq)
 few_by s past e h v p q row own c made few (inr ne) =
@@ -164,8 +227,10 @@ pub by_node : (s : ScriptData) (past : List Entry) (e : Entry) (h v : ℕ) (row 
     → e.took.to.0 ≡ e.actor.0 → RowCounts h v e.took.from.0 e.took.body (node_in s past h) row → Counts s past e v
 by_node s past e h v row made at to counts = record {
   self = λ p q. one_if (counts.own && ((h == p) && (h == q)));
-  asked = λ p q lt. asked_by s past e h v p q row made at counts (cases_eq h p);
-  done = λ p q lt. done_by s past e h v p q row made at to counts (cases_eq h q);
+  asked = λ p q lt low. asked_by s past e h v p q row made at counts (cases_eq h p) low;
+  done = λ p q lt low. done_by s past e h v p q row made at to counts (cases_eq h q) low;
+  asked_most = λ p q lt. asked_most_by s past e h v p q row made at counts (cases_eq h p);
+  done_most = λ p q lt. done_most_by s past e h v p q row made at to counts (cases_eq h q);
   little = λ p q. one_if_most (counts.own && ((h == p) && (h == q)));
   few = λ p q lt. few_by s past e h v p q row counts.own ((h == p) && (h == q)) made (counts.few q)
       (cases_eq e.actor.0 p);

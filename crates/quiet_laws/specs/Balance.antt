@@ -36,3 +36,8 @@ pub record Balanced (s : ScriptData) (past : List Entry) : Type 0 where
       → (node_in s past p).turns.low.0 ≤ v → (node_in s past q).turns.low.0 ≤ v
       → (node_in s past p).counts.asked v q ≡ (node_in s past q).counts.done v p + out s past v p q
   pub none : (v p q : ℕ) → p < s.nodes → q < s.nodes → HasLeft s past v p ⊎ HasLeft s past v q → out s past v p q ≡ 0
+
+-- how much an entry adds to a counter at most: a subtransaction's children and its notice, or a root's children and
+-- itself
+abbrev pub MOST_COUNTED : ℕ
+MOST_COUNTED = 65

@@ -11,9 +11,10 @@ use Rattle.tree_step.specs.Notices.{answer_noted, reply_letters}
 use Rattle.tx_trees.specs.ScriptData.{ScriptData, client_of}
 use Rattle.world_model.specs.Counts.{tally, one_if}
 use Rattle.tree_laws.specs.Dids.{replies_to}
-use Rattle.tree_laws.proofs.Fits.{SentFit}
+use Rattle.world_model.proofs.Fits.{SentFit}
 use Rattle.tree_laws.proofs.Noting.{Noting, More, Last, noting}
-use Rattle.tree_laws.proofs.Sent.{on, not_here}
+use Rattle.world_model.proofs.Sends.{on}
+use Rattle.tree_laws.proofs.Sent.{not_here}
 
 -- a home that misses a notice is there
 home_by : (t : TreeNo) (k : SubNo) (hs : OpenTrees) (o : Option OpenTree) → home_in t hs ≡ o → misses t k hs ≡ true

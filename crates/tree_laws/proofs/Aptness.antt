@@ -1,43 +1,33 @@
--- Each letter that a node takes in a run is apt.
+-- Each letter that a node takes in a run is apt, if it comes in time.
 use Rattle.std.proofs.Common.{◌≡◌, ℕ, ◌<◌, Bool, true, List, ◌∷◌, None, sym, subst, arith}
 use Rattle.tv_base.specs.declared.numbers.SubNo.{SubNo}
 use Rattle.tv_base.specs.declared.numbers.TreeNo.{TreeNo}
 use Rattle.tv_base.specs.declared.numbers.Version.{Version}
-use Rattle.letter_types.specs.declared.bodies.Body.{Body}
-use Rattle.letter_types.specs.declared.bodies.Body.TheVariants.{Root, Sub as SubLetter, Done}
+use Rattle.letter_types.specs.declared.bodies.Body.TheVariants.{Root, Sub as SubLetter, Done, Turn, Show, Sweep}
 use Rattle.letter_types.specs.declared.bodies.Notice.TheVariants.{Did}
 use Rattle.letter_types.specs.declared.entries.Entry.{Entry}
-use Rattle.letter_types.specs.declared.entries.Letter.{Letter}
 use Rattle.node_step.specs.Apt.{is_apt}
 use Rattle.node_step.proofs.Apts.{update_root_apt, read_root_apt, update_sub_apt, read_sub_apt, notice_apt}
 use Rattle.read_step.specs.Rows.{can_get}
 use Rattle.tree_step.specs.Apt.{is_near}
-use Rattle.tree_step.specs.Node.{Effect}
+use Rattle.letter_types.specs.Steps.{Out}
+use Rattle.tree_step.specs.Node.{Effect, Node}
 use Rattle.tree_home.specs.Homes.{home_in}
 use Rattle.tx_trees.specs.ScriptData.{ScriptData, node_of, home_of, ops_of}
 use Rattle.tx_trees.specs.Valid.{IsValid}
 use Rattle.update_step.specs.Rows.{can_touch}
 use Rattle.world_model.specs.Runs.{MayFollow, StepRun, node_in}
 use Rattle.world_model.specs.Tables.{Runnable}
-use Rattle.world_model.proofs.Every.{each_taken}
-use Rattle.tree_laws.proofs.Fits.{Fit}
 use Rattle.tree_laws.proofs.Good.{Good}
 use Rattle.tree_laws.proofs.Goods.{good_run, next_of}
-use Rattle.tree_laws.proofs.Nexts.{Next, Begins, Hears, Rests, DoesRoot, DoesSub, Notes, RootWork, RootUpdates, RootReads, SubWork, SubUpdates, SubReads}
-use Rattle.tree_laws.proofs.Scripts.{Sound, SubAt, not_strict, read_kind_at, sub_below, update_kind_at}
-use Rattle.tree_laws.proofs.Steps.{near_test}
+use Rattle.world_model.proofs.Nexts.{Next, Begins, Hears, Ends, Coordinates, DoesRoot, DoesSub, Notes, Obeys, Order, Turns, Shows, Sweeps, TellsDone, TellsAsked, RootWork, RootUpdates, RootReads, SubWork, SubUpdates, SubReads}
+use Rattle.world_model.proofs.Scripts.{Sound, SubAt, not_strict, read_kind_at, sub_below, update_kind_at}
+use Rattle.tree_laws.proofs.Steps.{timely_at, turns_by, shows_by, sweeps_by, tells_done_by, tells_asked_by}
+use Rattle.world_model.specs.Timely.{AllTimely, WasTimely}
 
 -- node p would find the letter of an entry apt
 abbrev IsApt : ScriptData → List Entry → Entry → ℕ → Type 0
 IsApt s past e p = is_apt s p (node_in s past p) e.took ≡ true
-
--- the letter of an entry is meant for its actor
-taken_fits : (s : ScriptData) (past : List Entry) (e : Entry) (b : Body) → Good s past → MayFollow s past e → e.took.body ≡ b
-    → Fit s e.took.from.0 e.actor.0 b
-taken_fits s past e b good m is =
-    let fit = each_taken (λ (l : Letter). Fit s l.from.0 l.to.0 l.body) s past e m good.letters in
-    subst (λ (x : Body). Fit s e.took.from.0 e.actor.0 x) is
-    (subst (λ (n : ℕ). Fit s e.took.from.0 n e.took.body) m.addressee fit)
 
 root_apt : (s : ScriptData) (past : List Entry) (e : Entry) (t : TreeNo) (v : Version) (effect : Effect) → e.took.body ≡ Root t
     → SubAt s t.0 0 → home_in t (node_in s past (home_of s t.0)).homes ≡ None
@@ -61,26 +51,37 @@ sub_apt s past e t k v raises effect is c from near (SubReads up raised can made
 at_actor : (s : ScriptData) (past : List Entry) (e : Entry) (p : ℕ) → e.actor.0 ≡ p → IsApt s past e p → IsApt s past e e.actor.0
 at_actor s past e p at apt = subst (IsApt s past e) (sym at) apt
 
-apt_by : (s : ScriptData) (past : List Entry) (e : Entry) → Sound s → Good s past → MayFollow s past e → e.actor.0 < s.nodes
+obeys_apt : (s : ScriptData) (past : List Entry) (e : Entry) (p : ℕ) (out : Out Node) → WasTimely s past e → e.actor.0 ≡ p → p < s.nodes
+    → Order s (node_in s past p) e.took.body out → IsApt s past e p
+obeys_apt s past e p out was at lt (Turns v is row) =
+    (turns_by s p (node_in s past p) e.took v is (timely_at s past e p (Turn v) was at lt is)).0
+obeys_apt s past e p out was at lt (Shows v is row) =
+    (shows_by s p (node_in s past p) e.took v is (timely_at s past e p (Show v) was at lt is)).0
+obeys_apt s past e p out was at lt (Sweeps v is row) =
+    (sweeps_by s p (node_in s past p) e.took v is (timely_at s past e p (Sweep v) was at lt is)).0
+obeys_apt s past e p out was at lt (TellsDone v k is row) = (tells_done_by s p (node_in s past p) e.took v k is).0
+obeys_apt s past e p out was at lt (TellsAsked v k is row) = (tells_asked_by s p (node_in s past p) e.took v k is).0
+
+apt_by : (s : ScriptData) (past : List Entry) (e : Entry) → Sound s → Good s past → MayFollow s past e → WasTimely s past e → e.actor.0 < s.nodes
     → Next s past e → IsApt s past e e.actor.0
-apt_by s past e sound good m node (Begins is at made) = absurd (omega arith)
-apt_by s past e sound good m node (Hears t v answer is at lt made) = absurd (omega arith)
-apt_by s past e sound good m node (Rests is at sent acts) = absurd (omega arith)
-apt_by s past e sound good m node (DoesRoot t v effect is c at lt new work made) =
+apt_by s past e sound good m was node (Begins is at made) = absurd (omega arith)
+apt_by s past e sound good m was node (Hears t v answer is at lt made) = absurd (omega arith)
+apt_by s past e sound good m was node (Ends v is at made) = absurd (omega arith)
+apt_by s past e sound good m was node (Coordinates tells at made) = absurd (omega arith)
+apt_by s past e sound good m was node (Obeys p out at lt order made) = at_actor s past e p at (obeys_apt s past e p out was at lt order)
+apt_by s past e sound good m was node (DoesRoot t v effect is c at lt new work made) =
     at_actor s past e (home_of s t.0) at (root_apt s past e t v effect is c new work)
-apt_by s past e sound good m node (DoesSub t k v raises effect is c later from at lt work made) =
-    let fit = taken_fits s past e (SubLetter t k v) good m is in
-    let near = near_test (node_in s past (node_of s t.0 k.0)) v (good.turns (node_of s t.0 k.0) lt) fit.5 in
+apt_by s past e sound good m was node (DoesSub t k v raises effect is c later from at lt work made) =
+    let near = timely_at s past e (node_of s t.0 k.0) (SubLetter t k v) was at lt is in
     at_actor s past e (node_of s t.0 k.0) at (sub_apt s past e t k v raises effect is c from near work)
-apt_by s past e sound good m node (Notes t k v values is c later from at lt miss made) =
-    let fit = taken_fits s past e (Done t k v (Did values)) good m is in
+apt_by s past e sound good m was node (Notes t k v values is c later from at lt miss made) =
     let st = node_in s past (home_of s t.0) in
-    let near = near_test st v (good.turns (home_of s t.0) lt) fit.5 in
+    let near = timely_at s past e (home_of s t.0) (Done t k v (Did values)) was at lt is in
     at_actor s past e (home_of s t.0) at
     (notice_apt s st e.took t k v values is (not_strict s t.0 k.0 c sound) (sub_below s t.0 k.0 c) from near)
 
 pub taken_is_apt : (s : ScriptData) (past : List Entry) (e : Entry) → IsValid s → Runnable s → StepRun s (e ∷ past)
-    → e.actor.0 < s.nodes → is_apt s e.actor.0 (node_in s past e.actor.0) e.took ≡ true
-taken_is_apt s past e valid runs run node =
+    → AllTimely s (e ∷ past) → e.actor.0 < s.nodes → is_apt s e.actor.0 (node_in s past e.actor.0) e.took ≡ true
+taken_is_apt s past e valid runs run timely node =
     let sound : Sound s = record { valid = valid; runnable = runs } in
-    apt_by s past e sound (good_run s past sound run.1) run.0 node (next_of s past e sound run)
+    apt_by s past e sound (good_run s past sound run.1 timely.1) run.0 timely.0 node (next_of s past e sound run timely)

@@ -12,23 +12,24 @@ use Rattle.letter_types.specs.declared.entries.Entry.{Entry}
 use Rattle.letter_types.specs.declared.entries.LetterId.{LetterId}
 use Rattle.letter_types.specs.declared.entries.Outgoing.{Outgoing}
 use Rattle.tree_home.specs.Homes.{home_in}
-use Rattle.tree_step.specs.Node.{Node}
 use Rattle.letter_types.specs.Steps.{still}
 use Rattle.tx_trees.specs.ScriptData.{ScriptData, client_of, home_of}
 use Rattle.tx_trees.specs.declared.parts.ScriptRow.{ScriptRow}
-use Rattle.client_rows.specs.Client.{Client, client_row, next_after, finishes, submitted, rows_letters, submit, with_answer, nudge}
+use Rattle.client_rows.specs.Client.{Client, client_row, next_after, finishes, submitted, rows_letters, submit, with_answer, with_end, nudge}
 use Rattle.world_model.specs.Counts.{tally, one_if}
 use Rattle.world_model.specs.Runs.{client_in, MayFollow}
 use Rattle.world_model.proofs.Bags.{tally-append, one_if_same}
-use Rattle.world_model.proofs.Every.{coordinator_kept, each_append, node_kept}
+use Rattle.world_model.proofs.Every.{each_append, node_kept}
 use Rattle.tree_laws.specs.Dids.{asks, tells_done, replies_to, replies, answers, is_did, is_born, is_row_of, rooted}
-use Rattle.tree_laws.proofs.Fits.{Fit, SentFit, rows_fit, each_take, each_drop, roots_fit, RowFits}
-use Rattle.tree_laws.proofs.Flows.{flow, letters_next, submit_none, finish_none}
+use Rattle.world_model.proofs.Fits.{Fit, SentFit, rows_fit, each_take, each_drop, roots_fit, RowFits}
+use Rattle.world_model.proofs.Flows.{flow, submit_none, finish_none}
+use Rattle.tree_laws.proofs.Flows.{letters_next}
 use Rattle.tree_laws.proofs.Good.{Good, TreeAt, Unborn, Gathers, Answered}
-use Rattle.tree_laws.proofs.Kept.{Idle, idle_roots, idle_subs, idle_born, idle_items, heard_same}
-use Rattle.tree_laws.proofs.Nexts.{MadeByClient}
-use Rattle.tree_laws.proofs.Scripts.{Sound, has_root, node_below}
-use Rattle.tree_laws.proofs.Sent.{on, roots_alone, roots_of_rows, tally_take_more, not_here}
+use Rattle.tree_laws.proofs.Kept.{Idle, idle_roots, idle_subs, idle_born, idle_items, heard_same, stay_in}
+use Rattle.world_model.proofs.Nexts.{MadeByClient}
+use Rattle.world_model.proofs.Scripts.{Sound, has_root, node_below}
+use Rattle.world_model.proofs.Sends.{on}
+use Rattle.tree_laws.proofs.Sent.{roots_alone, roots_of_rows, tally_take_more, not_here}
 use Rattle.tree_laws.proofs.Staging.{Apart, stays}
 
 -- the client submits what it may, from a state in which as much was submitted, behind letters that ask for nothing
@@ -81,7 +82,7 @@ submits_idle s past e c first sub = record {
   took = sub.took;
   sends = λ u i lt. omega (arith, sent_parts (asks u i) s past e c first sub, sub.no_asks u i, roots_alone s u i (new_rows s c) lt);
   rows = rows_next s past e c first sub;
-  items = λ p lt. let at = sub.at in ap (λ n. n.items) (node_kept s past e p (omega arith));
+  items = λ p lt. let at = sub.at in stay_in s past e p (ap (λ n. n.items) (node_kept s past e p (omega arith)));
 }
 
 submits_apart : (s : ScriptData) (past : List Entry) (e : Entry) (c : Client) (first : List Outgoing) → Sound s → Submits s past e c first
@@ -120,8 +121,6 @@ submits_good s past e c first sound good m sub heard =
       born = idle_born s past e good idle;
       stages = λ t lt. stays s past e t m (submits_apart s past e c first sound sub t lt) (good.stages t lt);
       heard = heard;
-      turns = λ p lt. let at = sub.at in ap (λ (n : Node). n.turns) (node_kept s past e p (omega arith)) ∙ good.turns p lt;
-      coordinator = let at = sub.at in coordinator_kept s past e (omega arith) ∙ good.coordinator;
       items = idle_items s past e good idle;
     }
 
@@ -141,6 +140,25 @@ begins_good s past e sound good m is at made =
       told = λ u i. rw is refl;
     } in
     submits_good s past e (client_in s past) [] sound good m sub
+    (λ t lt. heard_same s past e good m t lt (rw is refl) (ap (λ (x : Client). get_or x.answered t false) made.state))
+
+-- the client hears that an advancement has ended
+pub ends_good : (s : ScriptData) (past : List Entry) (e : Entry) (v : Version) → Sound s → Good s past → MayFollow s past e
+    → e.took.body ≡ Advanced v → e.actor.0 ≡ client_of s → MadeByClient s past e (submit s (with_end (client_in s past)) [])
+    → Good s (e ∷ past)
+ends_good s past e v sound good m is at made =
+    let sub : Submits s past e (with_end (client_in s past)) [] = record {
+      at = at;
+      made = made;
+      next = refl;
+      fits = tt;
+      no_asks = λ u i. refl;
+      no_notes = λ u i. refl;
+      no_answers = λ u. refl;
+      took = λ u i. rw is refl;
+      told = λ u i. rw is refl;
+    } in
+    submits_good s past e (with_end (client_in s past)) [] sound good m sub
     (λ t lt. heard_same s past e good m t lt (rw is refl) (ap (λ (x : Client). get_or x.answered t false) made.state))
 
 -- Hearing an answer.
@@ -165,7 +183,7 @@ pub answered_places : (s : ScriptData) (past : List Entry) → length (client_in
 answered_places s [] = length-replicate (length s.trees) false
 answered_places s (e ∷ past) = places_by s past e (e.actor.0 == client_of s) (answered_places s past)
 
-answers_most : (s : ScriptData) (past : List Entry) (t : ℕ) → TreeAt s past t → answers past t ≤ 1
+pub answers_most : (s : ScriptData) (past : List Entry) (t : ℕ) → TreeAt s past t → answers past t ≤ 1
 answers_most s past t (Unborn none home quiet notes) = omega arith
 answers_most s past t (Gathers h one home long some quiet notes) = omega arith
 answers_most s past t (Answered home one notes all) = omega arith

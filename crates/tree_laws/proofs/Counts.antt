@@ -5,6 +5,7 @@ use Rattle.std.proofs.lemmas.Bool.Decides.{nat_tests}
 use Rattle.commute_ops.specs.declared.kinds.TheConstants.{MOST_AMOUNT}
 use Rattle.letter_types.specs.declared.entries.Entry.{Entry}
 use Rattle.letter_types.specs.declared.entries.Letter.{Letter}
+use Rattle.tx_trees.proofs.SubsOf.{small_load}
 use Rattle.tx_trees.specs.ScriptData.{ScriptData, ops_of}
 use Rattle.tx_trees.specs.Valid.{ops_load, trees_load}
 use Rattle.tx_trees.specs.declared.parts.ItemRow.{ItemRow}
@@ -13,7 +14,7 @@ use Rattle.world_model.specs.Runs.{client_in, waiting, MayFollow}
 use Rattle.world_model.proofs.Bags.{tally-drop}
 use Rattle.tree_laws.specs.Dids.{asks, asked, dids, is_row_of}
 use Rattle.tree_laws.proofs.Loads.{trees_done, trees_most, trees_more}
-use Rattle.tree_laws.proofs.Scripts.{Sound, SubAt, tree_below, is_sub, get_some, get_below, ops_here}
+use Rattle.world_model.proofs.Scripts.{Sound, SubAt, tree_below, is_sub, get_some, get_below, ops_here}
 use Rattle.tree_laws.proofs.Sent.{other_sub, other_tree, rooted_once, tally_take_le}
 use Rattle.tree_laws.proofs.Good.{Good, bound}
 use Rattle.tree_laws.proofs.Tables.{bounds_after}
@@ -123,4 +124,4 @@ pub within_most : (s : ScriptData) (past : List Entry) (t k x : ℕ) (r : ItemRo
     → slice_get s.items x ≡ Some r
     → bound s past x + ops_load x (ops_of s t k) ≤ MOST_AMOUNT
 within_most s past t k x r c sound good none at =
-    omega (arith, load_most s past t k x c sound good none, sound.valid.loads x (get_below s.items x r at))
+    omega (arith, load_most s past t k x c sound good none, small_load s x sound.valid (get_below s.items x r at))

@@ -21,12 +21,12 @@ use Rattle.world_model.specs.Counts.{tally, one_if}
 use Rattle.world_model.specs.Runs.{node_in}
 use Rattle.world_model.proofs.Bags.{tally-append}
 use Rattle.tree_laws.specs.Dids.{asks, is_did, is_born, dids}
-use Rattle.tree_laws.proofs.Flows.{client_kept}
+use Rattle.world_model.proofs.Flows.{client_kept}
 use Rattle.tree_laws.proofs.Good.{Good}
 use Rattle.tree_laws.proofs.Kept.{Does}
-use Rattle.tree_laws.proofs.Nexts.{Made, RootWork, SubWork}
-use Rattle.tree_laws.proofs.Scripts.{Sound, SubAt, node_below}
-use Rattle.tree_laws.proofs.Sent.{on, replies_none}
+use Rattle.world_model.proofs.Nexts.{Made, RootWork, SubWork}
+use Rattle.world_model.proofs.Scripts.{Sound, SubAt, node_below}
+use Rattle.world_model.proofs.Sends.{on, replies_none}
 use Rattle.tree_laws.proofs.Works.{root_in_bounds, sub_in_bounds}
 
 root_born : (t u : ℕ) → one_if (t == u) ≡ one_if ((t == u) && (0 == 0))

@@ -1,9 +1,7 @@
 -- Where no letter is under way any more, every tree is done and answered, and the client has finished.
 use Rattle.std.proofs.Common.{◌≡◌, ◌⊎◌, inl, inr, ℕ, zero, suc, ◌+◌, ◌<◌, ◌≤◌, ◌==◌, Bool, true, false, List, [], ◌∷◌, length, take, reverse, refl, sym, ap, subst, ◌∙◌, arith, Option, Some, None}
-use Rattle.std.specs.Prelude.{IsTrue, get_or, slice_get, nat_le}
-use Rattle.std.specs.List.{AllByRecursion}
+use Rattle.std.specs.Prelude.{get_or, slice_get, nat_le}
 use Rattle.std.proofs.lemmas.Bool.Decides.{nat_tests}
-use Rattle.std.proofs.Math.Seq.{take-length}
 use Rattle.std.proofs.lemmas.Bool.{and_from, and_parts}
 use Rattle.letter_types.specs.declared.entries.Entry.{Entry}
 use Rattle.letter_types.specs.declared.entries.Letter.{Letter}
@@ -15,21 +13,22 @@ use Rattle.tx_trees.specs.Adding.{advances_in}
 use Rattle.tx_trees.specs.ScriptData.{ScriptData}
 use Rattle.tx_trees.specs.Valid.{IsValid, NamesInOrder}
 use Rattle.tx_trees.specs.declared.parts.ScriptRow.{ScriptRow}
-use Rattle.tx_trees.specs.declared.parts.ScriptRow.TheVariants.{Tree as TreeRow, Advance as AdvanceRow, Settle as SettleRow}
+use Rattle.tx_trees.specs.declared.parts.ScriptRow.TheVariants.{Tree as TreeRow, Advance as AdvanceRow, Settle as SettleRow, Lose as LoseRow}
 use Rattle.tx_trees.proofs.Rebuilding.{names_end}
 use Rattle.world_model.specs.Counts.{tally, one_if}
 use Rattle.world_model.specs.Runs.{client_in, waiting, StepRun}
-use Rattle.world_model.specs.Tables.{Runnable, is_run_row}
+use Rattle.world_model.specs.Tables.{Runnable}
 use Rattle.world_model.proofs.Bags.{one_if_most, one_if_same}
-use Rattle.tree_laws.specs.Dids.{is_go, dids, asks, tells_done, replies_to, answers, is_row_of, rooted}
+use Rattle.tree_laws.specs.Dids.{dids, asked, asks, tells_done, replies_to, answers, is_row_of, rooted}
 use Rattle.tree_laws.specs.Ends.{is_finish, finishes_in}
-use Rattle.tree_laws.proofs.Acts.{acts_more, any_counted, counted_any, finish_marks, of_act}
+use Rattle.tree_laws.proofs.Acts.{acts_more, any_counted, finish_marks, of_act}
 use Rattle.tree_laws.proofs.Goods.{good_run}
 use Rattle.tree_laws.proofs.Client.{IsStopped, at_rest, finish_count}
 use Rattle.tree_laws.proofs.Counts.{zero_or, parent_at}
 use Rattle.tree_laws.proofs.Sent.{rooted_once, tally_take_le}
 use Rattle.tree_laws.proofs.Good.{Good, TreeAt, Unborn, Gathers, Answered, is_noted}
-use Rattle.tree_laws.proofs.Scripts.{Sound, SubAt, sub_there, is_sub}
+use Rattle.world_model.specs.Timely.{AllTimely}
+use Rattle.world_model.proofs.Scripts.{Sound, SubAt, sub_there, is_sub}
 
 -- What is done where no letter is under way.
 
@@ -38,19 +37,20 @@ pub none_left : (f : Letter → ℕ) (s : ScriptData) (past : List Entry) → wa
 none_left f s past empty = ap (λ (ls : List Letter). tally f ls) empty
 
 -- one more subtransaction of a tree whose root was done
-done_by : (s : ScriptData) (past : List Entry) (n t k : ℕ) (c : SubAt s t k) → Sound s → Good s past → waiting s past ≡ []
+done_by : (s : ScriptData) (past : List Entry) (n t k : ℕ) (c : SubAt s t k) → Sound s → Good s past
+    → ((j : ℕ) → 0 < j → asked s past t j ≡ 0)
     → 1 ≤ dids past t 0 → k < suc n → ((j : ℕ) → j < n → SubAt s t j → 1 ≤ dids past t j) → (k ≡ 0) ⊎ (0 < k) → 1 ≤ dids past t k
-done_by s past n t k c sound good empty root lt ih (inl is) = subst (λ (j : ℕ). 1 ≤ dids past t j) (sym is) root
-done_by s past n t k c sound good empty root lt ih (inr more) =
+done_by s past n t k c sound good quiet root lt ih (inl is) = subst (λ (j : ℕ). 1 ≤ dids past t j) (sym is) root
+done_by s past n t k c sound good quiet root lt ih (inr more) =
     let up = (is_sub s t k c sound).parent more in
-    omega (arith, good.subs t k c more, none_left (λ (l : Letter). asks t k l.body) s past empty, ih c.sub.parent.0 (omega (arith, up)) (parent_at s t k c sound more))
+    omega (arith, good.subs t k c more, quiet k more, ih c.sub.parent.0 (omega (arith, up)) (parent_at s t k c sound more))
 
--- each subtransaction of a tree whose root was done
-done_below : (s : ScriptData) (past : List Entry) (n t k : ℕ) (c : SubAt s t k) → Sound s → Good s past → waiting s past ≡ []
-    → 1 ≤ dids past t 0 → k < n → 1 ≤ dids past t k
-done_below s past zero t k c sound good empty root lt = absurd (omega arith)
-done_below s past (suc n) t k c sound good empty root lt =
-    done_by s past n t k c sound good empty root lt (λ j less sub. done_below s past n t j sub sound good empty root less) (zero_or k)
+-- each subtransaction of a tree whose root was done, where none is asked for any more
+pub done_below : (s : ScriptData) (past : List Entry) (n t k : ℕ) (c : SubAt s t k) → Sound s → Good s past
+    → ((j : ℕ) → 0 < j → asked s past t j ≡ 0) → 1 ≤ dids past t 0 → k < n → 1 ≤ dids past t k
+done_below s past zero t k c sound good quiet root lt = absurd (omega arith)
+done_below s past (suc n) t k c sound good quiet root lt =
+    done_by s past n t k c sound good quiet root lt (λ j less sub. done_below s past n t j sub sound good quiet root less) (zero_or k)
 
 -- the place of a notice that is missing
 place_missing : (ns : List (Option Gets)) → 1 ≤ missing_count ns → (k : ℕ) × (k < length ns) × (slice_get ns k ≡ Some None)
@@ -71,7 +71,7 @@ tree_done_by s past t sound good empty lt root (Gathers h one here same missing 
     let (k, kt, at) = place_missing h.notices missing in
     let c : SubAt s t k = sub_there s t k lt (omega (arith, kt, same)) in
     let unnoted : is_noted (slice_get h.notices k) ≡ 0 = ap is_noted at in
-    let done = done_below s past (k + 1) t k c sound good empty root (omega arith) in
+    let done = done_below s past (k + 1) t k c sound good (λ j more. none_left (λ (l : Letter). asks t j l.body) s past empty) root (omega arith) in
     absurd (omega (arith, noted k c, unnoted, done, none_left (λ (l : Letter). tells_done t k l.body) s past empty))
 tree_done_by s past t sound good empty lt root (Answered gone one untold done) = record { answered = one; done = done }
 
@@ -95,6 +95,7 @@ rooted_below t i n (TreeRow u ∷ rows) names some =
     rooted_here t u.0 i n (rooted t rows) (u.0 == t) refl names.0 (omega (arith, names_end (i + 1) n rows names.1)) (rooted_below t (i + 1) n rows names.1) some
 rooted_below t i n (AdvanceRow ∷ rows) names some = rooted_below t i n rows names (omega (arith, some))
 rooted_below t i n (SettleRow ∷ rows) names some = rooted_below t i n rows names (omega (arith, some))
+rooted_below t i n (LoseRow ∷ rows) names some = rooted_below t i n rows names (omega (arith, some))
 
 -- Small lemmas on tests.
 answered_here : (answered : List Bool) (t u rest : ℕ) (test : Bool) → (u == t) ≡ test → get_or answered u false ≡ true
@@ -107,11 +108,8 @@ is_true_of : (b : Bool) → 1 ≤ one_if b → b ≡ true
 is_true_of true some = refl
 is_true_of false some = absurd (omega arith)
 
-none_is_most : (n m : ℕ) → n ≡ 0 → nat_le n m ≡ true
-none_is_most n m none = grind (arith, nat_tests)
-
 -- the trees of rows are answered where each of them is
-all_answered_of : (answered : List Bool) (rows : List ScriptRow) → ((t : ℕ) → 1 ≤ rooted t rows → get_or answered t false ≡ true)
+pub all_answered_of : (answered : List Bool) (rows : List ScriptRow) → ((t : ℕ) → 1 ≤ rooted t rows → get_or answered t false ≡ true)
     → all_answered answered rows ≡ true
 all_answered_of answered [] each = refl
 all_answered_of answered (TreeRow t ∷ rows) each =
@@ -119,18 +117,11 @@ all_answered_of answered (TreeRow t ∷ rows) each =
     (all_answered_of answered rows (λ u some. each u (omega (arith, some))))
 all_answered_of answered (AdvanceRow ∷ rows) each = all_answered_of answered rows (λ u some. each u (omega (arith, some)))
 all_answered_of answered (SettleRow ∷ rows) each = all_answered_of answered rows (λ u some. each u (omega (arith, some)))
-
--- rows that are run have no advancement
-pub no_advances : (n : ℕ) (rows : List ScriptRow) → AllByRecursion (λ (r : ScriptRow). IsTrue (is_run_row r)) rows → advances_in (take n rows) ≡ 0
-no_advances zero rows built = refl
-no_advances (suc n) [] built = refl
-no_advances (suc n) (TreeRow t ∷ rows) built = omega (arith, no_advances n rows built.1)
-no_advances (suc n) (AdvanceRow ∷ rows) built = absurd (cc built.0)
-no_advances (suc n) (SettleRow ∷ rows) built = omega (arith, no_advances n rows built.1)
+all_answered_of answered (LoseRow ∷ rows) each = all_answered_of answered rows (λ u some. each u (omega (arith, some)))
 
 -- Where no letter is under way.
 -- a tree whose row is submitted is answered at the client
-answered_now : (s : ScriptData) (past : List Entry) (t : ℕ) → Sound s → Good s past → waiting s past ≡ []
+pub answered_now : (s : ScriptData) (past : List Entry) (t : ℕ) → Sound s → Good s past → waiting s past ≡ []
     → 1 ≤ rooted t (take (client_in s past).next s.rows) → get_or (client_in s past).answered t false ≡ true
 answered_now s past t sound good empty row =
     let next = (client_in s past).next in
@@ -138,58 +129,24 @@ answered_now s past t sound good empty row =
     let one = (tree_done s past t sound good empty lt row).answered in
     is_true_of (get_or (client_in s past).answered t false) (omega (arith, good.heard t lt, one, none_left (λ (l : Letter). replies_to t l.body) s past empty))
 
--- all that was submitted has ended
-ended_now : (s : ScriptData) (past : List Entry) → Sound s → Good s past → waiting s past ≡ []
-    → have_ended (client_in s past) (take (client_in s past).next s.rows) ≡ true
-ended_now s past sound good empty =
-    let c = client_in s past in
-    and_from (all_answered c.answered (take c.next s.rows)) (nat_le (advances_in (take c.next s.rows)) c.ended)
-    (all_answered_of c.answered (take c.next s.rows) (λ t row. answered_now s past t sound good empty row))
-    (none_is_most (advances_in (take c.next s.rows)) c.ended (no_advances c.next s.rows sound.runnable.rows))
-
 -- the client doesn't wait at a settle row
-at_end : (s : ScriptData) (c : Client) → IsStopped s c → have_ended c (take c.next s.rows) ≡ true → c.next ≡ length s.rows
+pub at_end : (s : ScriptData) (c : Client) → IsStopped s c → have_ended c (take c.next s.rows) ≡ true → c.next ≡ length s.rows
 at_end s c (inl all) over = all
 at_end s c (inr (at, waits)) over = let clash : true ≡ false = sym over ∙ waits in absurd (cc clash)
 
--- where no letter is under way, all rows are submitted
-pub all_submitted : (s : ScriptData) (past : List Entry) → Sound s → StepRun s past → waiting s past ≡ []
-    → (client_in s past).next ≡ length s.rows
-all_submitted s past sound run empty =
-    at_end s (client_in s past) ((at_rest s past sound run).stops (none_left (λ (l : Letter). is_go l.body) s past empty))
-    (ended_now s past sound (good_run s past sound run) empty)
-
-all_rows : (s : ScriptData) (past : List Entry) → Sound s → StepRun s past → waiting s past ≡ []
-    → take (client_in s past).next s.rows ≡ s.rows
-all_rows s past sound run empty = ap (λ (n : ℕ). take n s.rows) (all_submitted s past sound run empty) ∙ take-length s.rows
-
--- and each tree is done
-pub all_done : (s : ScriptData) (past : List Entry) (t : ℕ) → Sound s → StepRun s past → waiting s past ≡ [] → t < length s.trees
-    → TreeDone s past t
-all_done s past t sound run empty lt =
-    let once = rooted_once (length s.trees) t s.rows sound.valid.rows lt in
-    tree_done s past t sound (good_run s past sound run) empty lt (rw (all_rows s past sound run empty) (omega (arith, once)))
-
--- and the client has finished
-client_finished : (s : ScriptData) (past : List Entry) → Sound s → StepRun s past → waiting s past ≡ [] → (client_in s past).finished ≡ true
-client_finished s past sound run empty =
-    let ended = ended_now s past sound (good_run s past sound run) empty in
-    (at_rest s past sound run).finishes (none_left (λ (l : Letter). is_go l.body) s past empty) (all_submitted s past sound run empty)
-    (subst (λ (xs : List ScriptRow). have_ended (client_in s past) xs ≡ true) (all_rows s past sound run empty) ended)
-
 -- a history counts as its past does
-finishes_of : (past : List Entry) → finishes_in (reverse past) ≡ finish_count past
+pub finishes_of : (past : List Entry) → finishes_in (reverse past) ≡ finish_count past
 finishes_of [] = refl
 finishes_of (e ∷ past) = omega (arith, acts_more is_finish past e, finishes_of past)
 
 -- Where the client has finished.
 
 -- a history that says so
-pub finished_by : (s : ScriptData) (past : List Entry) → Sound s → StepRun s past → HasFinished (reverse past)
+pub finished_by : (s : ScriptData) (past : List Entry) → Sound s → StepRun s past → AllTimely s past → HasFinished (reverse past)
     → (client_in s past).finished ≡ true
-finished_by s past sound run finished =
+finished_by s past sound run timely finished =
     let some = any_counted (of_act is_finish) (λ (x : Place). finishes x.act) (places_of (reverse past)) (λ x. finish_marks x.act) finished in
-    is_true_of (client_in s past).finished (omega (arith, some, finishes_of past, (at_rest s past sound run).once))
+    is_true_of (client_in s past).finished (omega (arith, some, finishes_of past, (at_rest s past sound run timely).once))
 
 -- the trees of rows that are all answered
 answered_in : (answered : List Bool) (t : ℕ) (rows : List ScriptRow) → all_answered answered rows ≡ true → 1 ≤ rooted t rows
@@ -200,6 +157,7 @@ answered_in answered t (TreeRow u ∷ rows) all some =
     answered_here answered t u.0 (rooted t rows) (u.0 == t) refl parts.0 (answered_in answered t rows parts.1) some
 answered_in answered t (AdvanceRow ∷ rows) all some = answered_in answered t rows all (omega (arith, some))
 answered_in answered t (SettleRow ∷ rows) all some = answered_in answered t rows all (omega (arith, some))
+answered_in answered t (LoseRow ∷ rows) all some = answered_in answered t rows all (omega (arith, some))
 
 -- an answered tree is at its last stage
 stage_done : (s : ScriptData) (past : List Entry) (t : ℕ) → 1 ≤ answers past t → TreeAt s past t → (k : ℕ) → SubAt s t k → dids past t k ≡ 1
@@ -208,30 +166,21 @@ stage_done s past t some (Gathers h one here same missing unanswered noted) = ab
 stage_done s past t some (Answered gone one untold done) = done
 
 -- so each subtransaction of each tree is done, once
-pub done_then : (s : ScriptData) (past : List Entry) (t : ℕ) → Sound s → StepRun s past → (client_in s past).finished ≡ true
+pub done_then : (s : ScriptData) (past : List Entry) (t : ℕ) → Sound s → StepRun s past → AllTimely s past → (client_in s past).finished ≡ true
     → t < length s.trees → (k : ℕ) → SubAt s t k → dids past t k ≡ 1
-done_then s past t sound run finished lt =
-    let over = (at_rest s past sound run).over finished in
+done_then s past t sound run timely finished lt =
+    let over = (at_rest s past sound run timely).over finished in
     let all = (and_parts (all_answered (client_in s past).answered s.rows) (nat_le (advances_in s.rows) (client_in s past).ended) over.ended).0 in
     let once = rooted_once (length s.trees) t s.rows sound.valid.rows lt in
     let is = answered_in (client_in s past).answered t s.rows all (omega (arith, once)) in
-    let good = good_run s past sound run in
+    let good = good_run s past sound run timely in
     let heard : one_if (get_or (client_in s past).answered t false) ≡ 1 = ap one_if is in
     stage_done s past t (omega (arith, good.heard t lt, heard)) (good.stages t lt)
 
 -- The laws.
 
--- the client has finished in the end
-pub run_finishes : (s : ScriptData) (past : List Entry) → IsValid s → Runnable s → StepRun s past → waiting s past ≡ []
-    → HasFinished (reverse past)
-run_finishes s past valid runnable run empty =
-    let sound : Sound s = record { valid = valid; runnable = runnable } in
-    let one : one_if (client_in s past).finished ≡ 1 = ap one_if (client_finished s past sound run empty) in
-    counted_any (of_act is_finish) (λ (x : Place). finishes x.act) (places_of (reverse past)) (λ x. finish_marks x.act)
-    (omega (arith, one, (at_rest s past sound run).once, finishes_of past))
-
 -- the client finishes at most once
-pub run_finishes_once : (s : ScriptData) (past : List Entry) → IsValid s → Runnable s → StepRun s past → finishes_in (reverse past) ≤ 1
-run_finishes_once s past valid runnable run =
+pub run_finishes_once : (s : ScriptData) (past : List Entry) → IsValid s → Runnable s → StepRun s past → AllTimely s past → finishes_in (reverse past) ≤ 1
+run_finishes_once s past valid runnable run timely =
     let sound : Sound s = record { valid = valid; runnable = runnable } in
-    omega (arith, one_if_most (client_in s past).finished, (at_rest s past sound run).once, finishes_of past)
+    omega (arith, one_if_most (client_in s past).finished, (at_rest s past sound run timely).once, finishes_of past)

@@ -8,13 +8,11 @@ use Rattle.tree_home.specs.declared.homes.OpenTree.{OpenTree}
 use Rattle.tx_trees.specs.ScriptData.{ScriptData, subs_at, home_of}
 use Rattle.tx_trees.specs.Valid.{initial_load}
 use Rattle.world_model.specs.Counts.{one_if, Each}
-use Rattle.node_versions.specs.Turns.{start as first_turns}
-use Rattle.advance_coord.specs.Coordinator.{start_coordinator}
-use Rattle.world_model.specs.Runs.{client_in, coordinator_in, node_in, waiting}
+use Rattle.world_model.specs.Runs.{client_in, node_in, waiting}
 use Rattle.tree_laws.specs.Dids.{asked, dids, births, notices, replies, answers, rooted}
-use Rattle.tree_laws.proofs.Fits.{Fit}
+use Rattle.world_model.proofs.Fits.{Fit}
 use Rattle.tree_laws.proofs.Loads.{trees_done}
-use Rattle.tree_laws.proofs.Scripts.{SubAt}
+use Rattle.world_model.proofs.Scripts.{SubAt}
 use Rattle.tree_laws.proofs.Tables.{TableIn}
 
 -- a notice that was taken down
@@ -40,7 +38,7 @@ bound s past x = initial_load (slice_get s.items x) + trees_done (dids past) x 0
 
 -- letters are meant for their addressees; a root is asked for or done where its row is submitted; each child of what was
 -- done is asked for or done; a birth is the root's; each tree is at one of its stages; an answer is under way or heard;
--- each node is in its first versions, and its items keep to their bounds; the coordinator has nothing to do
+-- the items of each node keep to their bounds
 pub record Good (s : ScriptData) (past : List Entry) : Type 0 where
   pub letters : Each (λ (l : Letter). Fit s l.from.0 l.to.0 l.body) (waiting s past)
   pub roots : (t : ℕ) → t < length s.trees → rooted t (take (client_in s past).next s.rows) ≡ asked s past t 0 + dids past t 0
@@ -48,6 +46,4 @@ pub record Good (s : ScriptData) (past : List Entry) : Type 0 where
   pub born : (t : ℕ) → births past t ≡ dids past t 0
   pub stages : (t : ℕ) → t < length s.trees → TreeAt s past t
   pub heard : (t : ℕ) → t < length s.trees → answers past t ≡ replies s past t + one_if (get_or (client_in s past).answered t false)
-  pub turns : (p : ℕ) → p < s.nodes → (node_in s past p).turns ≡ first_turns
-  pub coordinator : coordinator_in s past ≡ start_coordinator s.nodes
   pub items : (p : ℕ) → p < s.nodes → TableIn s.items p (bound s past) (node_in s past p).items

@@ -6,13 +6,15 @@ use Rattle.tx_trees.specs.ScriptData.{ScriptData}
 use Rattle.tx_trees.specs.declared.parts.ItemRow.{ItemRow}
 use Rattle.world_model.specs.Counts.{one_if}
 use Rattle.world_model.specs.Runs.{MayFollow, StepRun}
-use Rattle.tree_laws.proofs.ClientStep.{begins_good, hears_good}
+use Rattle.tree_laws.proofs.ClientStep.{begins_good, ends_good, hears_good}
 use Rattle.tree_laws.proofs.Good.{Good, bound, Unborn}
 use Rattle.tree_laws.proofs.NextOf.{next}
-use Rattle.tree_laws.proofs.Nexts.{Next, Begins, Hears, Rests, DoesRoot, DoesSub, Notes}
-use Rattle.tree_laws.proofs.NoteStep.{rests_good, note_good}
+use Rattle.world_model.proofs.Nexts.{Next, Begins, Hears, Ends, Coordinates, DoesRoot, DoesSub, Notes, Obeys}
+use Rattle.world_model.specs.Timely.{AllTimely}
+use Rattle.tree_laws.proofs.NoteStep.{note_good}
+use Rattle.tree_laws.proofs.OrderStep.{aside_good, coordinates_aside, obeys_aside}
 use Rattle.tree_laws.proofs.RootStep.{root_good}
-use Rattle.tree_laws.proofs.Scripts.{Sound}
+use Rattle.world_model.proofs.Scripts.{Sound}
 use Rattle.tree_laws.proofs.SubStep.{sub_good}
 use Rattle.tree_laws.proofs.Tables.{start_table}
 
@@ -32,15 +34,15 @@ start_good s = record {
   born = λ t. refl;
   stages = λ t lt. Unborn refl refl refl (λ k. refl);
   heard = λ t lt. omega (arith, none_heard (length s.trees) t);
-  turns = λ p lt. refl;
-  coordinator = refl;
   items = λ p lt. start_table s.items p (bound s []) (start_most s);
 }
 
 next_good : (s : ScriptData) (past : List Entry) (e : Entry) → Sound s → Good s past → MayFollow s past e → Next s past e → Good s (e ∷ past)
 next_good s past e sound good m (Begins is at made) = begins_good s past e sound good m is at made
 next_good s past e sound good m (Hears t v answer is at lt made) = hears_good s past e t v answer sound good m is at lt made
-next_good s past e sound good m (Rests is at sent acts) = rests_good s past e sound good m is at sent acts
+next_good s past e sound good m (Ends v is at made) = ends_good s past e v sound good m is at made
+next_good s past e sound good m (Coordinates tells at made) = aside_good s past e sound good m (coordinates_aside s past e tells at made)
+next_good s past e sound good m (Obeys p out at lt order made) = aside_good s past e sound good m (obeys_aside s past e p out at lt order made)
 next_good s past e sound good m (DoesRoot t v effect is c at below new work made) =
     root_good s past e t v effect sound good m is c at new work made
 next_good s past e sound good m (DoesSub t k v raises effect is c later from at below work made) =
@@ -48,12 +50,12 @@ next_good s past e sound good m (DoesSub t k v raises effect is c later from at 
 next_good s past e sound good m (Notes t k v values is c later from at below miss made) =
     note_good s past e t k v values sound good m is c at below miss made
 
--- all of it holds in every past
-pub good_run : (s : ScriptData) (past : List Entry) → Sound s → StepRun s past → Good s past
-good_run s [] sound run = start_good s
-good_run s (e ∷ past) sound run =
-    let good = good_run s past sound run.1 in next_good s past e sound good run.0 (next s past e sound good run.0)
+-- all of it holds in every past in which each letter came in time
+pub good_run : (s : ScriptData) (past : List Entry) → Sound s → StepRun s past → AllTimely s past → Good s past
+good_run s [] sound run timely = start_good s
+good_run s (e ∷ past) sound run timely =
+    let good = good_run s past sound run.1 timely.1 in next_good s past e sound good run.0 (next s past e sound good run.0 timely.0)
 
 -- what the last entry of a run does
-pub next_of : (s : ScriptData) (past : List Entry) (e : Entry) → Sound s → StepRun s (e ∷ past) → Next s past e
-next_of s past e sound run = next s past e sound (good_run s past sound run.1) run.0
+pub next_of : (s : ScriptData) (past : List Entry) (e : Entry) → Sound s → StepRun s (e ∷ past) → AllTimely s (e ∷ past) → Next s past e
+next_of s past e sound run timely = next s past e sound (good_run s past sound run.1 timely.1) run.0 timely.0

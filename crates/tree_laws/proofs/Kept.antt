@@ -6,6 +6,7 @@ use Rattle.std.proofs.lemmas.Bool.Decides.{nat_tests}
 use Rattle.letter_types.specs.declared.entries.Entry.{Entry}
 use Rattle.letter_types.specs.declared.entries.LetterId.{LetterId}
 use Rattle.letter_types.specs.declared.entries.Outgoing.{Outgoing}
+use Rattle.item_versions.specs.Table.{Table}
 use Rattle.tx_trees.specs.ScriptData.{ScriptData, subs_at, node_of}
 use Rattle.client_rows.specs.Client.{Client}
 use Rattle.tree_step.specs.Children.{sub_letters}
@@ -14,22 +15,30 @@ use Rattle.world_model.specs.Runs.{client_in, node_in, MayFollow}
 use Rattle.world_model.proofs.Every.{each_append, node_kept}
 use Rattle.tree_laws.specs.Dids.{asks, asked, is_did, is_born, dids, births, replies_to, replies, answers, rooted}
 use Rattle.tree_laws.proofs.Counts.{bounds_with, with_one, load_more}
-use Rattle.tree_laws.proofs.Fits.{Fit, SentFit, children_fit}
-use Rattle.tree_laws.proofs.Flows.{flow}
+use Rattle.world_model.proofs.Fits.{Fit, SentFit, children_fit}
+use Rattle.world_model.proofs.Flows.{flow}
 use Rattle.tree_laws.proofs.Good.{Good, bound}
 use Rattle.tree_laws.proofs.Loads.{trees_same}
-use Rattle.tree_laws.proofs.Scripts.{Sound, SubAt, is_sub, subs_here, node_below, tree_below}
-use Rattle.tree_laws.proofs.Sent.{on, children, children_apart, no_root, other_tree}
+use Rattle.world_model.proofs.Scripts.{Sound, SubAt, is_sub, subs_here, node_below, tree_below}
+use Rattle.world_model.proofs.Sends.{on}
+use Rattle.tree_laws.proofs.Sent.{children, children_apart, no_root, other_tree}
 use Rattle.tree_laws.proofs.Tables.{TableIn, table_more}
 
--- no subtransaction is done and no child asked for; roots are asked for as rows are submitted; the items stay
+-- no subtransaction is done and no child asked for; roots are asked for as rows are submitted; the items keep to the
+-- bounds that they kept to
 pub record Idle (s : ScriptData) (past : List Entry) (e : Entry) : Type 0 where
   pub did : (u i : ℕ) → tally (is_did u i) e.acts ≡ 0
   pub born : (u : ℕ) → tally (is_born u) e.acts ≡ 0
   pub took : (u i : ℕ) → asks u i e.took.body ≡ 0
   pub sends : (u i : ℕ) → 0 < i → tally (on (asks u i)) e.sent ≡ 0
   pub rows : (u : ℕ) → rooted u (take (client_in s (e ∷ past)).next s.rows) ≡ rooted u (take (client_in s past).next s.rows) + tally (on (asks u 0)) e.sent
-  pub items : (p : ℕ) → p < s.nodes → (node_in s (e ∷ past) p).items ≡ (node_in s past p).items
+  pub items : (p : ℕ) → p < s.nodes → (most : ℕ → ℕ) → TableIn s.items p most (node_in s past p).items
+      → TableIn s.items p most (node_in s (e ∷ past) p).items
+
+-- items that stay keep to their bounds
+pub stay_in : (s : ScriptData) (past : List Entry) (e : Entry) (p : ℕ) → (node_in s (e ∷ past) p).items ≡ (node_in s past p).items
+    → (most : ℕ → ℕ) → TableIn s.items p most (node_in s past p).items → TableIn s.items p most (node_in s (e ∷ past) p).items
+stay_in s past e p same most ok = subst (λ (t : Table). TableIn s.items p most t) (sym same) ok
 
 -- the fields of what holds, where no subtransaction is done
 pub idle_roots : (s : ScriptData) (past : List Entry) (e : Entry) → Good s past → MayFollow s past e → Idle s past e → (t : ℕ)
@@ -53,8 +62,8 @@ idle_bound s past e idle x =
 pub idle_items : (s : ScriptData) (past : List Entry) (e : Entry) → Good s past → Idle s past e → (p : ℕ) → p < s.nodes
     → TableIn s.items p (bound s (e ∷ past)) (node_in s (e ∷ past) p).items
 idle_items s past e good idle p lt =
-    rw (idle.items p lt)
-    (table_more s.items p (bound s past) (bound s (e ∷ past)) (node_in s past p).items (λ x r at. idle_bound s past e idle x) (good.items p lt))
+    table_more s.items p (bound s past) (bound s (e ∷ past)) (node_in s (e ∷ past) p).items (λ x r at. idle_bound s past e idle x)
+    (idle.items p lt (bound s past) (good.items p lt))
 
 -- an answer that is neither heard nor forgotten
 pub heard_same : (s : ScriptData) (past : List Entry) (e : Entry) → Good s past → MayFollow s past e → (t : ℕ) → t < length s.trees
@@ -137,10 +146,10 @@ pub does_items : (s : ScriptData) (past : List Entry) (e : Entry) (t k : ℕ) �
 does_items s past e t k good does p lt = does_items_by s past e t k good does p lt (cases_eq (node_of s t k) p)
 
 -- what is sent to children is meant for them
-pub children_sent : (s : ScriptData) (past : List Entry) (e : Entry) (t k : ℕ) (v : ℕ) → Sound s → SubAt s t k → v ≤ 1 → e.actor.0 ≡ node_of s t k
+pub children_sent : (s : ScriptData) (past : List Entry) (e : Entry) (t k : ℕ) (v : ℕ) → Sound s → SubAt s t k → e.actor.0 ≡ node_of s t k
     → SentFit s e.actor.0 (sub_letters t v k 0 (subs_at s t))
-children_sent s past e t k v sound c most at =
-    children_fit s t v k e.actor.0 0 (subs_at s t) (tree_below s t k c) (omega (arith, at, node_below s t k c sound)) most
+children_sent s past e t k v sound c at =
+    children_fit s t v k e.actor.0 0 (subs_at s t) (tree_below s t k c) (omega (arith, at, node_below s t k c sound))
     (λ n x here. subst (λ (i : ℕ). slice_get (subs_at s t) i ≡ Some x) (omega arith) here)
 
 -- letters of two lists are meant for their addressees

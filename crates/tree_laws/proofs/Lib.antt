@@ -1,12 +1,9 @@
-pub mod Scripts
 pub mod Values
 pub mod Tables
 pub mod Loads
-pub mod Fits
 pub mod Sent
 pub mod Gets
 pub mod Good
-pub mod Nexts
 pub mod Counts
 pub mod Works
 pub mod Steps
@@ -22,7 +19,10 @@ pub mod ClientStep
 pub mod RootStep
 pub mod SubStep
 pub mod NoteStep
+pub mod OrderStep
 pub mod Goods
+pub mod Nudges
+pub mod Unadvanced
 pub mod Aptness
 pub mod Client
 pub mod Acts

@@ -5,29 +5,31 @@ use Rattle.tv_base.specs.declared.numbers.SubNo.{SubNo}
 use Rattle.tv_base.specs.declared.numbers.TreeNo.{TreeNo}
 use Rattle.tv_base.specs.declared.numbers.Version.{Version}
 use Rattle.letter_types.specs.declared.bodies.Body.{Body}
-use Rattle.letter_types.specs.declared.bodies.Body.TheVariants.{Go, Root, Sub as SubLetter, Done, Reply, Nudge}
+use Rattle.letter_types.specs.declared.bodies.Body.TheVariants.{Go, Root, Sub as SubLetter, Done, Reply, Nudge, Advance, Turn, Show, Sweep, Turned, Shown, Swept, AskDone, AskAsked, DoneRow, AskedRow, Advanced}
 use Rattle.letter_types.specs.declared.bodies.Notice.{Notice}
 use Rattle.letter_types.specs.declared.bodies.Notice.TheVariants.{Did, Yes, No}
 use Rattle.letter_types.specs.declared.entries.Entry.{Entry}
 use Rattle.letter_types.specs.declared.entries.Letter.{Letter}
 use Rattle.tx_trees.specs.ScriptData.{ScriptData, node_of, home_of, ops_of, updates, reads}
-use Rattle.tree_step.specs.Apt.{is_did}
+use Rattle.tree_step.specs.Apt.{is_did, is_near}
+use Rattle.node_step.specs.Advancing.{turn_row, show_row, sweep_row, done_row, asked_row}
 use Rattle.tree_step.specs.Done.{note_done, root_done, sub_done}
 use Rattle.update_step.specs.Rows.{touching}
 use Rattle.read_step.specs.Rows.{getting}
-use Rattle.client_rows.specs.Client.{submit, with_answer, nudge}
+use Rattle.client_rows.specs.Client.{submit, with_answer, with_end, nudge}
 use Rattle.world_model.specs.Runs.{client_in, node_in, MayFollow, waiting}
 use Rattle.world_model.proofs.Bags.{tally-drop}
 use Rattle.world_model.proofs.Every.{each_taken}
 use Rattle.tree_laws.specs.Dids.{asks, tells_done, notices, dids}
 use Rattle.tree_laws.proofs.Counts.{at_most_once, not_done, one_here, was_asked}
-use Rattle.tree_laws.proofs.Fits.{Fit}
+use Rattle.world_model.proofs.Fits.{Fit}
 use Rattle.tree_laws.proofs.Good.{Good}
-use Rattle.tree_laws.proofs.Nexts.{Next, Begins, Hears, Rests, DoesRoot, DoesSub, Notes, RootUpdates, RootReads, SubUpdates, SubReads}
-use Rattle.tree_laws.proofs.Scripts.{Sound, SubAt, has_root, sub_there, sub_below, tree_below, tree_kind, node_below, not_strict, update_kind_at, read_kind_at}
+use Rattle.world_model.proofs.Nexts.{Next, Begins, Hears, Ends, Coordinates, DoesRoot, DoesSub, Notes, Obeys, Turns, Shows, Sweeps, TellsDone, TellsAsked, RootUpdates, RootReads, SubUpdates, SubReads}
+use Rattle.world_model.proofs.Scripts.{Sound, SubAt, has_root, sub_there, sub_below, tree_below, tree_kind, node_below, not_strict, update_kind_at, read_kind_at}
 use Rattle.tree_laws.proofs.Stages.{no_home, misses_notice}
 use Rattle.node_step.proofs.Apts.{update_root_row, read_root_row, update_sub_row, read_sub_row, notice_row}
-use Rattle.tree_laws.proofs.Steps.{made, made_by_client, near_test, rests, hear_row}
+use Rattle.tree_laws.proofs.Steps.{made, made_by_client, made_by_coordinator, hear_row, timely_at, turns_by, shows_by, sweeps_by, tells_done_by, tells_asked_by}
+use Rattle.world_model.specs.Timely.{WasTimely}
 use Rattle.tree_laws.proofs.Works.{update_can, read_can}
 
 -- the letter taken asks for subtransaction k of tree t
@@ -61,9 +63,9 @@ root_next s past e t c sound good m is at (inr up) =
 
 -- Another subtransaction.
 sub_next : (s : ScriptData) (past : List Entry) (e : Entry) (t : TreeNo) (k : SubNo) (v : Version) → SubAt s t.0 k.0 → 0 < k.0 → Sound s
-    → Good s past → MayFollow s past e → e.took.body ≡ SubLetter t k v → e.actor.0 ≡ node_of s t.0 k.0 → e.took.from.0 < s.nodes → v.0 ≤ 1
+    → Good s past → MayFollow s past e → e.took.body ≡ SubLetter t k v → e.actor.0 ≡ node_of s t.0 k.0 → e.took.from.0 < s.nodes → is_near (node_in s past (node_of s t.0 k.0)) v ≡ true
     → (updates s t.0 ≡ true) ⊎ (reads s t.0 ≡ true) → Next s past e
-sub_next s past e t k v c later sound good m is at from most (inl up) =
+sub_next s past e t k v c later sound good m is at from near (inl up) =
     let st = node_in s past (node_of s t.0 k.0) in
     let lt = node_below s t.0 k.0 c sound in
     let none = taken_asks s past e t.0 k.0 (SubLetter t k v) c sound good m is (one_here t.0 k.0) in
@@ -72,15 +74,15 @@ sub_next s past e t k v c later sound good m is at from most (inl up) =
     let effect = touching v (ops_of s t.0 k.0) st.items in
     DoesSub t k v raises effect is c later from at lt (SubUpdates up refl can refl)
     (made s past e (node_of s t.0 k.0) (sub_done s e.took.from.0 t.0 k.0 v.0 raises effect st) lt at m
-    (update_sub_row s st e.took t k v is (update_kind_at s t.0 k.0 c up) from (near_test st v (good.turns (node_of s t.0 k.0) lt) most) can))
-sub_next s past e t k v c later sound good m is at from most (inr up) =
+    (update_sub_row s st e.took t k v is (update_kind_at s t.0 k.0 c up) from near can))
+sub_next s past e t k v c later sound good m is at from near (inr up) =
     let st = node_in s past (node_of s t.0 k.0) in
     let lt = node_below s t.0 k.0 c sound in
     let can = read_can s past t.0 k.0 v c sound good up in
     let effect = getting v (ops_of s t.0 k.0) st.items in
     DoesSub t k v false effect is c later from at lt (SubReads up refl can refl)
     (made s past e (node_of s t.0 k.0) (sub_done s e.took.from.0 t.0 k.0 v.0 false effect st) lt at m
-    (read_sub_row s st e.took t k v is (read_kind_at s t.0 k.0 c up) from (near_test st v (good.turns (node_of s t.0 k.0) lt) most) can))
+    (read_sub_row s st e.took t k v is (read_kind_at s t.0 k.0 c up) from near can))
 
 -- A notice.
 was_told : (s : ScriptData) (past : List Entry) (e : Entry) (t k : ℕ) → MayFollow s past e → tells_done t k e.took.body ≡ 1 → 1 ≤ notices s past t k
@@ -89,10 +91,10 @@ was_told s past e t k m one =
 
 note_next : (s : ScriptData) (past : List Entry) (e : Entry) (t : TreeNo) (k : SubNo) (v : Version) (notice : Notice) → SubAt s t.0 k.0 → 0 < k.0
     → Sound s → Good s past → MayFollow s past e → e.took.body ≡ Done t k v notice → e.actor.0 ≡ home_of s t.0 → e.took.from.0 < s.nodes
-    → v.0 ≤ 1 → is_did notice ≡ true → Next s past e
-note_next s past e t k v (Yes values) c later sound good m is at from most did = absurd (cc did)
-note_next s past e t k v (No cause) c later sound good m is at from most did = absurd (cc did)
-note_next s past e t k v (Did values) c later sound good m is at from most did =
+    → is_near (node_in s past (home_of s t.0)) v ≡ true → is_did notice ≡ true → Next s past e
+note_next s past e t k v (Yes values) c later sound good m is at from near did = absurd (cc did)
+note_next s past e t k v (No cause) c later sound good m is at from near did = absurd (cc did)
+note_next s past e t k v (Did values) c later sound good m is at from near did =
     let st = node_in s past (home_of s t.0) in
     let root = has_root s t.0 sound (tree_below s t.0 k.0 c) in
     let lt = node_below s t.0 0 root sound in
@@ -101,29 +103,59 @@ note_next s past e t k v (Did values) c later sound good m is at from most did =
     Notes t k v values is c later from at lt missing
     (made s past e (home_of s t.0) (note_done s e.took.from.0 t.0 k.0 v.0 values st) lt at m
     (notice_row s st e.took t k v values is (not_strict s t.0 k.0 c sound) (sub_below s t.0 k.0 c) from
-    (near_test st v (good.turns (home_of s t.0) lt) most)))
+    near))
 
-next_by : (s : ScriptData) (past : List Entry) (e : Entry) → Sound s → Good s past → MayFollow s past e → (b : Body) → e.took.body ≡ b
-    → Fit s e.took.from.0 e.actor.0 b → Next s past e
-next_by s past e sound good m Go is fit =
+next_by : (s : ScriptData) (past : List Entry) (e : Entry) → Sound s → Good s past → MayFollow s past e → WasTimely s past e → (b : Body)
+    → e.took.body ≡ b → Fit s e.took.from.0 e.actor.0 b → Next s past e
+next_by s past e sound good m was Go is fit =
     Begins is fit (made_by_client s past e Go (submit s (client_in s past) []) fit m is refl)
-next_by s past e sound good m (Root t) is fit =
+next_by s past e sound good m was (Root t) is fit =
     let c = has_root s t.0 sound fit.0 in
     root_next s past e t c sound good m is fit.1 (tree_kind s t.0 0 c sound)
-next_by s past e sound good m (SubLetter t k v) is fit =
+next_by s past e sound good m was (SubLetter t k v) is fit =
     let c = sub_there s t.0 k.0 fit.0 fit.1 in
-    sub_next s past e t k v c fit.2 sound good m is fit.3 fit.4 fit.5 (tree_kind s t.0 k.0 c sound)
-next_by s past e sound good m (Done t k v notice) is fit =
-    note_next s past e t k v notice (sub_there s t.0 k.0 fit.0 fit.1) fit.2 sound good m is fit.3 fit.4 fit.5 fit.6
-next_by s past e sound good m (Reply t v answer) is fit =
+    let near = timely_at s past e (node_of s t.0 k.0) (SubLetter t k v) was fit.3 (node_below s t.0 k.0 c sound) is in
+    sub_next s past e t k v c fit.2 sound good m is fit.3 fit.4 near (tree_kind s t.0 k.0 c sound)
+next_by s past e sound good m was (Done t k v notice) is fit =
+    let home = node_below s t.0 0 (has_root s t.0 sound fit.0) sound in
+    let near = timely_at s past e (home_of s t.0) (Done t k v notice) was fit.3 home is in
+    note_next s past e t k v notice (sub_there s t.0 k.0 fit.0 fit.1) fit.2 sound good m is fit.3 fit.4 near fit.5
+next_by s past e sound good m was (Reply t v answer) is fit =
     Hears t v answer is fit.1 fit.0
     (made_by_client s past e (Reply t v answer) (submit s (with_answer t.0 (client_in s past)) (nudge s ∷ [])) fit.1 m is (hear_row s (client_in s past) t v answer fit.0))
-next_by s past e sound good m Nudge is fit =
-    let quiet = rests s past e fit m good.coordinator is in Rests is fit quiet.0 quiet.1
-next_by s past e sound good m _ is fit = absurd fit
+next_by s past e sound good m was (Advanced v) is fit =
+    Ends v is fit (made_by_client s past e (Advanced v) (submit s (with_end (client_in s past)) []) fit m is refl)
+next_by s past e sound good m was Nudge is fit = Coordinates (rw is tt) fit (made_by_coordinator s past e fit m)
+next_by s past e sound good m was Advance is fit = Coordinates (rw is tt) fit (made_by_coordinator s past e fit m)
+next_by s past e sound good m was (Turned v) is fit = Coordinates (rw is tt) fit.1 (made_by_coordinator s past e fit.1 m)
+next_by s past e sound good m was (Shown v) is fit = Coordinates (rw is tt) fit.1 (made_by_coordinator s past e fit.1 m)
+next_by s past e sound good m was (Swept v) is fit = Coordinates (rw is tt) fit.1 (made_by_coordinator s past e fit.1 m)
+next_by s past e sound good m was (DoneRow v k row) is fit = Coordinates (rw is tt) fit.1 (made_by_coordinator s past e fit.1 m)
+next_by s past e sound good m was (AskedRow v k row) is fit = Coordinates (rw is tt) fit.1 (made_by_coordinator s past e fit.1 m)
+next_by s past e sound good m was (Turn v) is fit =
+    let p = e.actor.0 in
+    let row = (turns_by s p (node_in s past p) e.took v is (timely_at s past e p (Turn v) was refl fit is)).1 in
+    Obeys p (turn_row s v (node_in s past p)) refl fit (Turns v is refl) (made s past e p (turn_row s v (node_in s past p)) fit refl m row)
+next_by s past e sound good m was (Show v) is fit =
+    let p = e.actor.0 in
+    let row = (shows_by s p (node_in s past p) e.took v is (timely_at s past e p (Show v) was refl fit is)).1 in
+    Obeys p (show_row s v (node_in s past p)) refl fit (Shows v is refl) (made s past e p (show_row s v (node_in s past p)) fit refl m row)
+next_by s past e sound good m was (Sweep v) is fit =
+    let p = e.actor.0 in
+    let row = (sweeps_by s p (node_in s past p) e.took v is (timely_at s past e p (Sweep v) was refl fit is)).1 in
+    Obeys p (sweep_row s v (node_in s past p)) refl fit (Sweeps v is refl) (made s past e p (sweep_row s v (node_in s past p)) fit refl m row)
+next_by s past e sound good m was (AskDone v k) is fit =
+    let p = e.actor.0 in
+    let row = (tells_done_by s p (node_in s past p) e.took v k is).1 in
+    Obeys p (done_row s v k (node_in s past p)) refl fit (TellsDone v k is refl) (made s past e p (done_row s v k (node_in s past p)) fit refl m row)
+next_by s past e sound good m was (AskAsked v k) is fit =
+    let p = e.actor.0 in
+    let row = (tells_asked_by s p (node_in s past p) e.took v k is).1 in
+    Obeys p (asked_row s v k (node_in s past p)) refl fit (TellsAsked v k is refl) (made s past e p (asked_row s v k (node_in s past p)) fit refl m row)
+next_by s past e sound good m was _ is fit = absurd fit
 
--- an entry that may follow is one of these
-pub next : (s : ScriptData) (past : List Entry) (e : Entry) → Sound s → Good s past → MayFollow s past e → Next s past e
-next s past e sound good m =
+-- an entry that may follow, with a letter in time, is one of these
+pub next : (s : ScriptData) (past : List Entry) (e : Entry) → Sound s → Good s past → MayFollow s past e → WasTimely s past e → Next s past e
+next s past e sound good m was =
     let fit = each_taken (λ (l : Letter). Fit s l.from.0 l.to.0 l.body) s past e m good.letters in
-    next_by s past e sound good m e.took.body refl (subst (λ (n : ℕ). Fit s e.took.from.0 n e.took.body) m.addressee fit)
+    next_by s past e sound good m was e.took.body refl (subst (λ (n : ℕ). Fit s e.took.from.0 n e.took.body) m.addressee fit)

@@ -1,13 +1,12 @@
--- An entry in which a home takes down a notice, or the coordinator rests, keeps what holds.
-use Rattle.std.proofs.Common.{◌≡◌, ◌≢◌, ◌⊎◌, inl, inr, ℕ, ◌+◌, ◌<◌, ◌==◌, true, List, [], ◌∷◌, length, take, refl, sym, ap, subst, ◌∙◌, arith}
+-- An entry in which a home takes down a notice keeps what holds.
+use Rattle.std.proofs.Common.{◌≡◌, ◌≢◌, ◌⊎◌, inl, inr, ℕ, ◌+◌, ◌<◌, true, List, ◌∷◌, length, take, refl, sym, ap, subst, ◌∙◌, arith}
 use Rattle.std.proofs.lemmas.Bool.{cases_eq}
-use Rattle.std.proofs.lemmas.Bool.Decides.{nat_tests}
 use Rattle.tv_base.specs.declared.numbers.SubNo.{SubNo}
 use Rattle.tv_base.specs.declared.numbers.TreeNo.{TreeNo}
 use Rattle.tv_base.specs.declared.numbers.Version.{Version}
 use Rattle.tree_home.specs.Homes.{Gets, home_in, misses}
 use Rattle.letter_types.specs.declared.bodies.Body.{Body}
-use Rattle.letter_types.specs.declared.bodies.Body.TheVariants.{Done, Nudge}
+use Rattle.letter_types.specs.declared.bodies.Body.TheVariants.{Done}
 use Rattle.letter_types.specs.declared.bodies.Notice.TheVariants.{Did as DidNotice}
 use Rattle.letter_types.specs.declared.entries.Entry.{Entry}
 use Rattle.tx_trees.specs.ScriptData.{ScriptData, home_of, client_of}
@@ -16,70 +15,27 @@ use Rattle.tree_step.specs.Notices.{answer_noted, reply_letters}
 use Rattle.client_rows.specs.Client.{Client}
 use Rattle.world_model.specs.Counts.{tally}
 use Rattle.tree_step.specs.Done.{note_done}
-use Rattle.letter_types.specs.Steps.{Out}
-use Rattle.advance_coord.specs.Coordinator.{Coordinator, start_coordinator}
-use Rattle.world_model.specs.Runs.{client_in, coordinator_in, node_in, MayFollow}
-use Rattle.world_model.proofs.Every.{coordinator_kept, node_kept}
+use Rattle.world_model.specs.Runs.{client_in, node_in, MayFollow}
 use Rattle.tree_laws.specs.Dids.{asks, is_did, is_born, tells_done, replies_to, rooted}
 use Rattle.tree_laws.proofs.Answering.{answer_fits, replies_apart}
 use Rattle.tree_laws.proofs.Counts.{at_most_once}
-use Rattle.tree_laws.proofs.Fits.{SentFit}
-use Rattle.tree_laws.proofs.Flows.{letters_next, same_part, client_kept, no_notice}
+use Rattle.world_model.proofs.Fits.{SentFit}
+use Rattle.world_model.proofs.Flows.{same_part, client_kept}
+use Rattle.tree_laws.proofs.Flows.{letters_next, no_notice}
 use Rattle.tree_laws.proofs.Good.{Good, TreeAt}
-use Rattle.tree_laws.proofs.Kept.{Idle, idle_roots, idle_subs, idle_born, idle_items, heard_same, same_heard}
-use Rattle.tree_laws.proofs.Nexts.{Made}
+use Rattle.tree_laws.proofs.Kept.{Idle, idle_roots, idle_subs, idle_born, idle_items, heard_same, same_heard, stay_in}
+use Rattle.world_model.proofs.Nexts.{Made}
 use Rattle.tree_laws.proofs.Noting.{noted_keeps_others}
-use Rattle.tree_laws.proofs.Scripts.{Sound, SubAt, has_root, node_below, tree_below}
-use Rattle.tree_laws.proofs.Sent.{on, other_tree, replies_none}
-use Rattle.tree_laws.proofs.Steps.{idle_row}
+use Rattle.world_model.proofs.Scripts.{Sound, SubAt, tree_below}
+use Rattle.world_model.proofs.Sends.{on, replies_none}
+use Rattle.tree_laws.proofs.Sent.{other_tree}
 use Rattle.tree_laws.proofs.Staging.{Apart, stays, Notes, notes_stage}
 
 -- where nothing is asked for, and the client isn't moved, the rows stay
-rows_same : (s : ScriptData) (past : List Entry) (e : Entry) → client_in s (e ∷ past) ≡ client_in s past → (u : ℕ)
+pub rows_same : (s : ScriptData) (past : List Entry) (e : Entry) → client_in s (e ∷ past) ≡ client_in s past → (u : ℕ)
     → tally (on (asks u 0)) e.sent ≡ 0
     → rooted u (take (client_in s (e ∷ past)).next s.rows) ≡ rooted u (take (client_in s past).next s.rows) + tally (on (asks u 0)) e.sent
 rows_same s past e same u none = let rows = ap (λ (c : Client). rooted u (take c.next s.rows)) same in omega (arith, rows, none)
-
--- The coordinator.
-idle_stays : (s : ScriptData) (past : List Entry) (e : Entry) → e.actor.0 ≡ s.nodes → coordinator_in s past ≡ start_coordinator s.nodes
-    → e.took.body ≡ Nudge → coordinator_in s (e ∷ past) ≡ start_coordinator s.nodes
-idle_stays s past e at idle is =
-    let here : (e.actor.0 == s.nodes) ≡ true = grind (arith, nat_tests) in
-    rw here (ap (λ (o : Out Coordinator). o.state) (idle_row s past e idle is))
-
-pub rests_good : (s : ScriptData) (past : List Entry) (e : Entry) → Sound s → Good s past → MayFollow s past e → e.took.body ≡ Nudge
-    → e.actor.0 ≡ s.nodes → e.sent ≡ [] → e.acts ≡ [] → Good s (e ∷ past)
-rests_good s past e sound good m is at sent acts =
-    let none : (f : Body → ℕ) → tally (on f) e.sent ≡ 0 = λ f. ap (λ os. tally (on f) os) sent in
-    let same = client_kept s past e (omega arith) in
-    let idle : Idle s past e = record {
-      did = λ u i. ap (λ xs. tally (is_did u i) xs) acts;
-      born = λ u. ap (λ xs. tally (is_born u) xs) acts;
-      took = λ u i. rw is refl;
-      sends = λ u i lt. none (asks u i);
-      rows = λ u. rows_same s past e same u (none (asks u 0));
-      items = λ p lt. ap (λ (n : Node). n.items) (node_kept s past e p (omega arith));
-    } in
-    let apart : (t : ℕ) → t < length s.trees → Apart s past e t = λ t lt.
-    let below = node_below s t 0 (has_root s t sound lt) sound in
-    record {
-      did = λ k. idle.did t k;
-      home = ap (λ (n : Node). home_in (record { 0 = t }) n.homes) (node_kept s past e (home_of s t) (omega arith));
-      answers = none (replies_to t);
-      told = λ k. rw is refl;
-      notes = λ k. none (tells_done t k);
-    } in
-    record {
-      letters = letters_next s past e good (rw sent tt);
-      roots = idle_roots s past e good m idle;
-      subs = idle_subs s past e good m idle;
-      born = idle_born s past e good idle;
-      stages = λ t lt. stays s past e t m (apart t lt) (good.stages t lt);
-      heard = λ t lt. heard_same s past e good m t lt (rw is refl) (same_heard s past e same t);
-      turns = λ p lt. ap (λ (n : Node). n.turns) (node_kept s past e p (omega arith)) ∙ good.turns p lt;
-      coordinator = idle_stays s past e at good.coordinator is;
-      items = idle_items s past e good idle;
-    }
 
 -- A notice.
 abbrev NoteMade : ScriptData → List Entry → Entry → TreeNo → SubNo → Version → Gets → Type 0
@@ -105,8 +61,8 @@ note_idle s past e t k v values same is at made =
       took = λ u i. rw is refl;
       sends = λ u i lt. none u i;
       rows = λ u. rows_same s past e same u (none u 0);
-      items = λ p lt. same_part (λ (st : Node). st.items) s past e (home_of s t.0)
-          (note_done s e.took.from.0 t.0 k.0 v.0 values (node_in s past (home_of s t.0))) made at refl p;
+      items = λ p lt. stay_in s past e p (same_part (λ (st : Node). st.items) s past e (home_of s t.0)
+          (note_done s e.took.from.0 t.0 k.0 v.0 values (node_in s past (home_of s t.0))) made at refl p);
     }
 
 note_tells : (s : ScriptData) (past : List Entry) (e : Entry) (t : TreeNo) (k : SubNo) (v : Version) (values : Gets)
@@ -175,7 +131,5 @@ note_good s past e t k v values sound good m is c at below miss made =
       born = idle_born s past e good idle;
       stages = λ u lt. note_stage s past e t k v values c sound good m idle is at below miss made u lt (cases_eq t.0 u);
       heard = λ u lt. heard_same s past e good m u lt (rw is refl) (same_heard s past e same u);
-      turns = λ q lt. same_part (λ (st : Node). st.turns) s past e p (note_done s e.took.from.0 t.0 k.0 v.0 values (node_in s past p)) made at refl q ∙ good.turns q lt;
-      coordinator = coordinator_kept s past e (omega arith) ∙ good.coordinator;
       items = idle_items s past e good idle;
     }

@@ -1,10 +1,8 @@
 -- An entry that does a root keeps what holds.
-use Rattle.std.proofs.Common.{◌≡◌, ◌≢◌, ◌⊎◌, inl, inr, ℕ, ◌<◌, ◌≤◌, List, ◌∷◌, length, refl, sym, ap, subst, ◌∙◌, arith, None}
+use Rattle.std.proofs.Common.{◌≡◌, ◌≢◌, ◌⊎◌, inl, inr, ℕ, ◌<◌, List, ◌∷◌, length, refl, sym, ap, subst, ◌∙◌, arith, None}
 use Rattle.std.proofs.lemmas.Bool.{cases_eq}
 use Rattle.tv_base.specs.declared.numbers.TreeNo.{TreeNo}
 use Rattle.tv_base.specs.declared.numbers.Version.{Version}
-use Rattle.node_versions.specs.declared.turns.Turns.{Turns}
-use Rattle.world_model.proofs.Every.{coordinator_kept}
 use Rattle.tree_home.specs.Homes.{home_in, begun}
 use Rattle.letter_types.specs.declared.bodies.Body.TheVariants.{Root}
 use Rattle.letter_types.specs.declared.entries.Entry.{Entry}
@@ -19,14 +17,16 @@ use Rattle.tree_laws.specs.Dids.{asks, dids, tells_done, replies_to}
 use Rattle.tree_laws.proofs.Answering.{answer_fits, replies_apart}
 use Rattle.tree_laws.proofs.Counts.{below_root, not_done, one_here, was_asked}
 use Rattle.tree_laws.proofs.Doing.{root_answer, root_sends, root_does}
-use Rattle.tree_laws.proofs.Fits.{SentFit}
-use Rattle.tree_laws.proofs.Flows.{letters_next, same_part}
+use Rattle.world_model.proofs.Fits.{SentFit}
+use Rattle.world_model.proofs.Flows.{same_part}
+use Rattle.tree_laws.proofs.Flows.{letters_next}
 use Rattle.tree_laws.proofs.Good.{Good, TreeAt}
 use Rattle.tree_laws.proofs.Kept.{Does, does_roots, does_subs, does_born, does_items, heard_same, same_heard, both_fit, children_sent}
-use Rattle.tree_laws.proofs.Nexts.{Made, RootWork, RootUpdates, RootReads}
+use Rattle.world_model.proofs.Nexts.{Made, RootWork}
 use Rattle.tree_laws.proofs.Noting.{misses_root, root_keeps_others}
-use Rattle.tree_laws.proofs.Scripts.{Sound, SubAt, node_below, sub_below, tree_below}
-use Rattle.tree_laws.proofs.Sent.{on, other_tree, replies_none, subs_none}
+use Rattle.world_model.proofs.Scripts.{Sound, SubAt, node_below, sub_below, tree_below}
+use Rattle.world_model.proofs.Sends.{on, replies_none, subs_none}
+use Rattle.tree_laws.proofs.Sent.{other_tree}
 use Rattle.tree_laws.proofs.Staging.{Apart, stays, Begins, begins_stage}
 
 -- A root.
@@ -35,12 +35,12 @@ RootMade s past e t v effect =
     Made s past e (home_of s t.0) (root_done s (home_of s t.0) t.0 v.0 effect (node_in s past (home_of s t.0)))
 
 root_fits : (s : ScriptData) (past : List Entry) (e : Entry) (t : TreeNo) (v : Version) (effect : Effect) → SubAt s t.0 0 → Sound s
-    → v.0 ≤ 1 → e.actor.0 ≡ home_of s t.0 → RootMade s past e t v effect → SentFit s e.actor.0 e.sent
-root_fits s past e t v effect c sound most at made =
+    → e.actor.0 ≡ home_of s t.0 → RootMade s past e t v effect → SentFit s e.actor.0 e.sent
+root_fits s past e t v effect c sound at made =
     let hs = begun t (length (subs_at s t.0)) v (node_in s past (home_of s t.0)).homes in
     let miss = misses_root t (record { 0 = 0 }) (length (subs_at s t.0)) v (node_in s past (home_of s t.0)).homes (sub_below s t.0 0 c) in
     both_fit s e.actor.0 (sub_letters t.0 v.0 0 0 (subs_at s t.0)) (reply_letters (client_of s) (root_answer s t v effect.values (home_of s t.0) past)) e.sent
-    made.sent (children_sent s past e t.0 0 v.0 sound c most at)
+    made.sent (children_sent s past e t.0 0 v.0 sound c at)
     (answer_fits s e.actor.0 t (record { 0 = 0 }) effect.values hs (tree_below s t.0 0 c) miss)
 
 -- a root tells no notice
@@ -105,18 +105,6 @@ root_stage s past e t v effect c sound good m none does is new made u lt (inl sa
 root_stage s past e t v effect c sound good m none does is new made u lt (inr ne) =
     stays s past e u m (root_apart s past e t v effect c does is made u ne) (good.stages u lt)
 
--- the version of a root is one of the first
-root_version : (s : ScriptData) (past : List Entry) (t : ℕ) (v : Version) (effect : Effect) → SubAt s t 0 → Sound s → Good s past
-    → RootWork s t (node_in s past (home_of s t)) v effect → v.0 ≤ 1
-root_version s past t v effect c sound good (RootUpdates up is can made) =
-    let first = ap (λ (u : Turns). u.update.0) (good.turns (home_of s t) (node_below s t 0 c sound)) in
-    let same = ap (λ (w : Version). w.0) is in
-    omega arith
-root_version s past t v effect c sound good (RootReads read is can made) =
-    let first = ap (λ (u : Turns). u.read.0) (good.turns (home_of s t) (node_below s t 0 c sound)) in
-    let same = ap (λ (w : Version). w.0) is in
-    omega arith
-
 -- a root is done
 pub root_good : (s : ScriptData) (past : List Entry) (e : Entry) (t : TreeNo) (v : Version) (effect : Effect) → Sound s
     → Good s past → MayFollow s past e → e.took.body ≡ Root t → SubAt s t.0 0 → e.actor.0 ≡ home_of s t.0
@@ -127,13 +115,11 @@ root_good s past e t v effect sound good m is c at new work made =
     let does = root_does s past e t v effect c sound good none is at work made in
     let below = node_below s t.0 0 c sound in
     record {
-      letters = letters_next s past e good (root_fits s past e t v effect c sound (root_version s past t.0 v effect c sound good work) at made);
+      letters = letters_next s past e good (root_fits s past e t v effect c sound at made);
       roots = does_roots s past e t.0 0 good m does;
       subs = does_subs s past e t.0 0 sound good m does;
       born = does_born s past e t.0 0 good does;
       stages = λ u lt. root_stage s past e t v effect c sound good m none does is new made u lt (cases_eq t.0 u);
       heard = λ u lt. heard_same s past e good m u lt (rw is refl) (same_heard s past e does.client u);
-      turns = λ q lt. same_part (λ (st : Node). st.turns) s past e (home_of s t.0) (root_done s (home_of s t.0) t.0 v.0 effect (node_in s past (home_of s t.0))) made at refl q ∙ good.turns q lt;
-      coordinator = coordinator_kept s past e (omega arith) ∙ good.coordinator;
       items = does_items s past e t.0 0 good does;
     }

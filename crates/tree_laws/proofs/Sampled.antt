@@ -1,15 +1,15 @@
 -- Two small valid scripts, one of them with a read, have runs to the end.
 use Rattle.std.proofs.Common.{ℕ, zero, suc, ◌<◌, ◌≤◌, refl, arith}
-use Rattle.commute_ops.specs.declared.kinds.TheConstants.{MOST_AMOUNT}
 use Rattle.std.specs.List.{IsDistinct}
 use Rattle.std.specs.Str.{bytes_eq}
 use Rattle.tx_trees.specs.Counts.{trees_puts}
+use Rattle.tx_trees.specs.Forms.{most_amount}
 use Rattle.tx_trees.specs.Valid.{IsLimited, IsValid, item_names, load, tree_names}
 use Rattle.world_model.specs.Runs.{StepRun, AtNode, AtCoordinator, AtClient}
 use Rattle.world_model.specs.Sample.{sample, small, with_read}
 use Rattle.world_model.specs.Tables.{Runnable}
 
-small_loads : (x : ℕ) → x < 2 → load x small ≤ MOST_AMOUNT
+small_loads : (x : ℕ) → x < 2 → load x small ≤ most_amount small.form
 small_loads zero lt = omega arith
 small_loads (suc zero) lt = omega arith
 small_loads (suc (suc x)) lt = absurd (omega arith)
@@ -25,8 +25,10 @@ small_limited = record {
   ops = omega arith;
   puts = small_puts;
   advances = omega arith;
+  loses = omega arith;
   strict = omega arith;
   pairs = omega arith;
+  places = omega arith;
 }
 
 -- names that are apart
@@ -71,6 +73,7 @@ small_valid = record {
   distinct_items = items_apart;
   distinct_trees = one_apart;
   limited = small_limited;
+  first_form = λ is. refl;
 }
 
 pub small_runnable : Runnable small
@@ -95,7 +98,7 @@ small_run = (
   ),
 )
 
-read_loads : (x : ℕ) → x < 2 → load x with_read ≤ MOST_AMOUNT
+read_loads : (x : ℕ) → x < 2 → load x with_read ≤ most_amount with_read.form
 read_loads zero lt = omega arith
 read_loads (suc zero) lt = omega arith
 read_loads (suc (suc x)) lt = absurd (omega arith)
@@ -111,8 +114,10 @@ read_limited = record {
   ops = omega arith;
   puts = read_puts;
   advances = omega arith;
+  loses = omega arith;
   strict = omega arith;
   pairs = omega arith;
+  places = omega arith;
 }
 
 pub read_valid : IsValid with_read
@@ -144,6 +149,7 @@ read_valid = record {
   distinct_items = items_apart;
   distinct_trees = two_apart;
   limited = read_limited;
+  first_form = λ is. refl;
 }
 
 pub read_runnable : Runnable with_read

@@ -1,32 +1,19 @@
 -- What a subtransaction and the client send, by whom it asks for.
-use Rattle.std.proofs.Common.{◌≡◌, ◌≢◌, ℕ, zero, suc, ◌+◌, ◌<◌, ◌≤◌, ◌==◌, ◌&&◌, Bool, true, false, List, [], ◌∷◌, take, drop, ◌++◌, refl, sym, ap, subst, ◌∙◌, arith, Option, Some, None}
+use Rattle.std.proofs.Common.{◌≡◌, ◌≢◌, ℕ, zero, suc, ◌+◌, ◌<◌, ◌≤◌, ◌==◌, ◌&&◌, Bool, true, false, List, [], ◌∷◌, take, drop, ◌++◌, refl, sym, ap, subst, ◌∙◌, arith, Some}
 use Rattle.std.specs.Prelude.{nat_lt, slice_get}
 use Rattle.std.proofs.lemmas.Bool.Decides.{nat_tests}
 use Rattle.std.proofs.lemmas.List.{take-take, drop-take, take-append-drop}
-use Rattle.tv_base.specs.declared.numbers.SubNo.{SubNo}
-use Rattle.tv_base.specs.declared.numbers.TreeNo.{TreeNo}
-use Rattle.tv_base.specs.declared.numbers.Version.{Version}
-use Rattle.letter_types.specs.declared.bodies.Answer.{Answer}
-use Rattle.letter_types.specs.declared.bodies.Answer.TheVariants.{Whole}
-use Rattle.letter_types.specs.declared.bodies.Body.{Body}
-use Rattle.letter_types.specs.declared.bodies.Body.TheVariants.{Root, Sub as SubLetter, Reply, Advance as AdvanceLetter}
-use Rattle.letter_types.specs.declared.entries.Outgoing.{Outgoing}
 use Rattle.tx_trees.specs.ScriptData.{ScriptData}
 use Rattle.tx_trees.specs.Valid.{NamesInOrder}
 use Rattle.tx_trees.specs.declared.parts.ScriptRow.{ScriptRow}
-use Rattle.tx_trees.specs.declared.parts.ScriptRow.TheVariants.{Tree as TreeRow, Advance, Settle}
+use Rattle.tx_trees.specs.declared.parts.ScriptRow.TheVariants.{Tree as TreeRow, Advance, Settle, Lose}
 use Rattle.tx_trees.specs.declared.parts.Sub.{Sub}
 use Rattle.world_model.specs.Counts.{tally, one_if}
 use Rattle.world_model.proofs.Bags.{tally-append}
-use Rattle.tree_home.specs.declared.homes.Answered.{Answered}
 use Rattle.tree_step.specs.Children.{sub_letters}
-use Rattle.tree_step.specs.Notices.{reply_letters}
 use Rattle.client_rows.specs.Client.{rows_letters}
+use Rattle.world_model.proofs.Sends.{on, roots_none}
 use Rattle.tree_laws.specs.Dids.{asks, rooted}
-
--- what was sent, by a number of its body
-abbrev pub on : (Body → ℕ) → Outgoing → ℕ
-on f o = f o.body
 
 -- The children of a subtransaction.
 pub other_tree : (t u k i : ℕ) → u ≢ t → one_if ((u == t) && (i == k)) ≡ 0
@@ -136,34 +123,6 @@ no_root_by t u v parent xs true is =
 pub no_root : (t u v parent : ℕ) (xs : List Sub) → tally (on (asks t 0)) (sub_letters u v parent 0 xs) ≡ 0
 no_root t u v parent xs = no_root_by t u v parent xs (u == t) refl
 
--- Letters that no number counts.
-rest_at : (f : Body → ℕ) (u v parent i : ℕ) (x : Sub) (xs : List Sub) → ((t : TreeNo) (k : SubNo) (w : Version) → f (SubLetter t k w) ≡ 0)
-    → (test : Bool) → (nat_lt parent i && (x.parent.0 == parent)) ≡ test
-    → tally (on f) (sub_letters u v parent (i + 1) xs) ≡ 0 → tally (on f) (sub_letters u v parent i (x ∷ xs)) ≡ 0
-rest_at f u v parent i x xs none true is rest = rw is (omega (arith, none (record { 0 = u }) (record { 0 = i }) (record { 0 = v }), rest))
-rest_at f u v parent i x xs none false is rest = rw is rest
-
--- a number that counts no Sub
-pub subs_none : (f : Body → ℕ) (u v parent i : ℕ) (xs : List Sub) → ((t : TreeNo) (k : SubNo) (w : Version) → f (SubLetter t k w) ≡ 0)
-    → tally (on f) (sub_letters u v parent i xs) ≡ 0
-subs_none f u v parent i [] none = refl
-subs_none f u v parent i (x ∷ xs) none =
-    rest_at f u v parent i x xs none (nat_lt parent i && (x.parent.0 == parent)) refl (subs_none f u v parent (i + 1) xs none)
-
--- a number that counts no Root and no Advance
-pub roots_none : (f : Body → ℕ) (s : ScriptData) (rows : List ScriptRow) → ((t : TreeNo) → f (Root t) ≡ 0) → f AdvanceLetter ≡ 0
-    → tally (on f) (rows_letters s rows) ≡ 0
-roots_none f s [] none never = refl
-roots_none f s (TreeRow t ∷ rows) none never = omega (arith, none t, roots_none f s rows none never)
-roots_none f s (Advance ∷ rows) none never = omega (arith, never, roots_none f s rows none never)
-roots_none f s (Settle ∷ rows) none never = roots_none f s rows none never
-
--- a number that counts no Reply
-pub replies_none : (f : Body → ℕ) (client : ℕ) (o : Option Answered) → ((t : TreeNo) (v : Version) (answer : Answer) → f (Reply t v answer) ≡ 0)
-    → tally (on f) (reply_letters client o) ≡ 0
-replies_none f client None none = refl
-replies_none f client (Some a) none = omega (arith, none a.tree a.version (Whole a.values))
-
 -- The roots.
 root_alone : (t u k : ℕ) → 0 < k → one_if ((u == t) && (0 == k)) ≡ 0
 root_alone t u k lt = grind (arith, nat_tests)
@@ -180,6 +139,7 @@ roots_of_rows s t [] = refl
 roots_of_rows s t (TreeRow u ∷ rows) = omega (arith, root_here t u.0, roots_of_rows s t rows)
 roots_of_rows s t (Advance ∷ rows) = omega (arith, roots_of_rows s t rows)
 roots_of_rows s t (Settle ∷ rows) = omega (arith, roots_of_rows s t rows)
+roots_of_rows s t (Lose ∷ rows) = omega (arith, roots_of_rows s t rows)
 
 rooted_before : (t i n : ℕ) (rows : List ScriptRow) → NamesInOrder i n rows → t < i → rooted t rows ≡ 0
 rooted_before t i n [] names lt = refl
@@ -188,6 +148,7 @@ rooted_before t i n (TreeRow u ∷ rows) names lt =
     omega (arith, none, rooted_before t (i + 1) n rows names.1 (omega arith))
 rooted_before t i n (Advance ∷ rows) names lt = omega (arith, rooted_before t i n rows names lt)
 rooted_before t i n (Settle ∷ rows) names lt = omega (arith, rooted_before t i n rows names lt)
+rooted_before t i n (Lose ∷ rows) names lt = omega (arith, rooted_before t i n rows names lt)
 
 rooted_at : (t i n u : ℕ) (rows : List ScriptRow) → NamesInOrder (i + 1) n rows → u ≡ i → (test : Bool) → (u == t) ≡ test
     → (i < t → rooted t rows ≡ 1) → i ≤ t → one_if (u == t) + rooted t rows ≡ 1
@@ -204,6 +165,7 @@ rooted_from t i n (TreeRow u ∷ rows) names le lt =
     rooted_at t i n u.0 rows names.1 names.0 (u.0 == t) refl (λ less. rooted_from t (i + 1) n rows names.1 (omega arith) lt) le
 rooted_from t i n (Advance ∷ rows) names le lt = omega (arith, rooted_from t i n rows names le lt)
 rooted_from t i n (Settle ∷ rows) names le lt = omega (arith, rooted_from t i n rows names le lt)
+rooted_from t i n (Lose ∷ rows) names le lt = omega (arith, rooted_from t i n rows names le lt)
 
 -- the rows ask for each tree's root once
 pub rooted_once : (n t : ℕ) (rows : List ScriptRow) → NamesInOrder 0 n rows → t < n → rooted t rows ≡ 1

@@ -7,7 +7,7 @@ use Rattle.tx_trees.specs.ScriptData.{ScriptData, home_of}
 use Rattle.world_model.specs.Runs.{node_in}
 use Rattle.tree_laws.specs.Dids.{dids, notices}
 use Rattle.tree_laws.proofs.Good.{TreeAt, Unborn, Gathers, Answered, is_noted}
-use Rattle.tree_laws.proofs.Scripts.{SubAt, sub_below}
+use Rattle.world_model.proofs.Scripts.{SubAt, sub_below}
 
 -- a tree whose root isn't done has no home
 pub no_home : (s : ScriptData) (past : List Entry) (t : ℕ) → dids past t 0 ≡ 0 → TreeAt s past t

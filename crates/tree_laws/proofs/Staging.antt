@@ -18,11 +18,11 @@ use Rattle.world_model.specs.Counts.{tally, one_if}
 use Rattle.world_model.specs.Runs.{node_in, MayFollow}
 use Rattle.tree_laws.specs.Dids.{is_did, dids, tells_done, notices, replies_to, answers}
 use Rattle.tree_laws.proofs.Answering.{answers_tree, reply_one}
-use Rattle.tree_laws.proofs.Flows.{flow}
+use Rattle.world_model.proofs.Flows.{flow}
 use Rattle.tree_laws.proofs.Good.{TreeAt, Unborn, Gathers, Answered, is_noted}
 use Rattle.tree_laws.proofs.Noting.{Noting, More, Last, noting, noted_same, noted_other, none_noted, all_noted, misses_root}
-use Rattle.tree_laws.proofs.Scripts.{SubAt, sub_below, sub_there, tree_below}
-use Rattle.tree_laws.proofs.Sent.{on}
+use Rattle.world_model.proofs.Scripts.{SubAt, sub_below, sub_there, tree_below}
+use Rattle.world_model.proofs.Sends.{on}
 
 -- the home of tree t
 abbrev pub home_now : ScriptData → List Entry → ℕ → Option OpenTree

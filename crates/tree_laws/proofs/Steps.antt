@@ -1,27 +1,28 @@
 -- What an actor makes of a letter that it may take, by its table.
-use Rattle.std.proofs.Common.{◌≡◌, ℕ, ◌+◌, ◌<◌, ◌≤◌, ◌==◌, true, List, [], ◌∷◌, refl, ap, ◌∙◌, arith}
-use Rattle.std.specs.Prelude.{nat_le, length}
+use Rattle.std.proofs.Common.{◌≡◌, ℕ, ◌<◌, ◌==◌, true, List, [], ◌∷◌, refl, ap, subst, ◌∙◌, arith}
+use Rattle.std.specs.Prelude.{length}
 use Rattle.std.proofs.lemmas.Bool.Decides.{nat_tests}
 use Rattle.std.proofs.lemmas.Bool.{lt-ltb}
 use Rattle.tv_base.specs.declared.numbers.TreeNo.{TreeNo}
 use Rattle.tv_base.specs.declared.numbers.Version.{Version}
-use Rattle.node_versions.specs.declared.turns.Turns.{Turns}
-use Rattle.node_versions.specs.Turns.{start as first_turns}
 use Rattle.letter_types.specs.declared.bodies.Answer.{Answer}
 use Rattle.letter_types.specs.declared.bodies.Body.{Body}
-use Rattle.letter_types.specs.declared.bodies.Body.TheVariants.{Reply, Nudge}
+use Rattle.letter_types.specs.declared.bodies.Body.TheVariants.{Reply, Turn, Show, Sweep, AskDone, AskAsked}
 use Rattle.letter_types.specs.declared.entries.Entry.{Entry}
-use Rattle.letter_types.specs.Steps.{Out, still}
+use Rattle.letter_types.specs.declared.entries.Letter.{Letter}
+use Rattle.letter_types.specs.Steps.{Out}
 use Rattle.tx_trees.specs.ScriptData.{ScriptData, client_of}
-use Rattle.tree_step.specs.Apt.{is_near}
 use Rattle.tree_step.specs.Node.{Node}
-use Rattle.node_step.specs.Apt.{node_row, row}
-use Rattle.advance_coord.specs.Coordinator.{Coordinator, coordinator_row, start_coordinator}
+use Rattle.tree_step.specs.Apt.{is_timely}
+use Rattle.node_step.specs.Apt.{is_apt, node_row}
+use Rattle.node_step.specs.Advancing.{turn_row, show_row, sweep_row, done_row, asked_row}
 use Rattle.client_rows.specs.Client.{Client, client_row, submit, with_answer, nudge}
 use Rattle.world_model.specs.Tables.{client_table, coordinator_table}
 use Rattle.world_model.specs.Runs.{client_in, coordinator_in, node_in, Says, Moves, AtNode, AtCoordinator, AtClient, MayFollow}
 use Rattle.world_model.proofs.Every.{NodeNext, Stays, Moved, node_next}
-use Rattle.tree_laws.proofs.Nexts.{Made, MadeByClient}
+use Rattle.world_model.proofs.Nexts.{Made, MadeByClient, MadeByCoordinator}
+use Rattle.world_model.proofs.Orders.{no_acts}
+use Rattle.world_model.specs.Timely.{WasTimely}
 
 made_by : (s : ScriptData) (past : List Entry) (e : Entry) (p : ℕ) (out : Out Node) → e.actor.0 ≡ p → NodeNext s past e p
     → node_row s p (node_in s past p) e.took ≡ out → Made s past e p out
@@ -56,34 +57,58 @@ made_by_client s past e b out at m is row =
       acts = says.1 ∙ ap (λ (o : Out Client). o.acts) its;
     }
 
-rests_by : (s : ScriptData) (past : List Entry) (e : Entry) (c : Coordinator) → e.actor.0 ≡ s.nodes → Moves s past e
-    → coordinator_table (coordinator_in s past) e.took ≡ still c → (e.sent ≡ []) × (e.acts ≡ [])
-rests_by s past e c at (AtNode node says) row = absurd (omega arith)
-rests_by s past e c at (AtCoordinator here says) row =
-    (says.0 ∙ ap (λ (o : Out Coordinator). o.sent) row, says.1 ∙ ap (λ (o : Out Coordinator). o.acts) row)
-rests_by s past e c at (AtClient here says) row = absurd (omega arith)
+coordinator_says : (s : ScriptData) (past : List Entry) (e : Entry) → e.actor.0 ≡ s.nodes → Moves s past e
+    → Says (coordinator_table (coordinator_in s past) e.took) e
+coordinator_says s past e at (AtNode node says) = absurd (omega arith)
+coordinator_says s past e at (AtCoordinator here says) = says
+coordinator_says s past e at (AtClient here says) = absurd (omega arith)
 
--- while there is no advancement, a nudge changes nothing
-pub idle_row : (s : ScriptData) (past : List Entry) (e : Entry) → coordinator_in s past ≡ start_coordinator s.nodes → e.took.body ≡ Nudge
-    → coordinator_table (coordinator_in s past) e.took ≡ still (start_coordinator s.nodes)
-idle_row s past e idle is =
-    ap (λ (c : Coordinator). coordinator_row c e.took.from.0 e.took.body) idle
-    ∙ ap (λ (b : Body). coordinator_row (start_coordinator s.nodes) e.took.from.0 b) is
-
--- the coordinator does nothing
-pub rests : (s : ScriptData) (past : List Entry) (e : Entry) → e.actor.0 ≡ s.nodes → MayFollow s past e
-    → coordinator_in s past ≡ start_coordinator s.nodes → e.took.body ≡ Nudge → (e.sent ≡ []) × (e.acts ≡ [])
-rests s past e at m idle is = rests_by s past e (start_coordinator s.nodes) at m.moves (idle_row s past e idle is)
-
--- a version up to 1 is near a node that is in its first versions
-pub near_test : (st : Node) (v : Version) → st.turns ≡ first_turns → v.0 ≤ 1 → is_near st v ≡ true
-near_test st v first most =
-    let low : st.turns.low.0 ≡ 0 = ap (λ (t : Turns). t.low.0) first in
-    let above : nat_le st.turns.low.0 v.0 ≡ true = grind (arith, nat_tests) in
-    let below : nat_le v.0 (st.turns.low.0 + 2) ≡ true = grind (arith, nat_tests) in
-    rw above (rw below refl)
+-- the coordinator goes on by its row, which has no acts
+pub made_by_coordinator : (s : ScriptData) (past : List Entry) (e : Entry) → e.actor.0 ≡ s.nodes → MayFollow s past e
+    → MadeByCoordinator s past e
+made_by_coordinator s past e at m =
+    let here : (e.actor.0 == s.nodes) ≡ true = grind (arith, nat_tests) in
+    let says = coordinator_says s past e at m.moves in
+    record {
+      state = rw here refl;
+      sent = says.0;
+      acts = says.1 ∙ no_acts (coordinator_in s past) e.took.from.0 e.took.body;
+    }
 
 -- The client's row for an answer.
 pub hear_row : (s : ScriptData) (c : Client) (t : TreeNo) (v : Version) (answer : Answer) → t.0 < length s.trees
     → client_row s c (Reply t v answer) ≡ submit s (with_answer t.0 c) (nudge s ∷ [])
 hear_row s c t v answer lt = let there = lt-ltb t.0 (length s.trees) lt in rw there refl
+
+-- Letters in time.
+-- the letter of an entry of node p was timely there
+pub timely_at : (s : ScriptData) (past : List Entry) (e : Entry) (p : ℕ) (b : Body) → WasTimely s past e → e.actor.0 ≡ p → p < s.nodes
+    → e.took.body ≡ b → is_timely s (node_in s past p) b ≡ true
+timely_at s past e p b was at lt is =
+    let here : is_timely s (node_in s past p) e.took.body ≡ true =
+    subst (λ (n : ℕ). is_timely s (node_in s past n) e.took.body ≡ true) at (was (omega (arith, at, lt))) in
+    subst (λ (x : Body). is_timely s (node_in s past p) x ≡ true) is here
+
+-- A node's row for a letter of the coordinator that is timely.
+pub turns_by : (s : ScriptData) (p : ℕ) (st : Node) (l : Letter) (v : Version) → l.body ≡ Turn v → is_timely s st (Turn v) ≡ true
+    → (is_apt s p st l ≡ true) × (node_row s p st l ≡ turn_row s v st)
+turns_by s p st l v is timely =
+    let apt : is_apt s p st l ≡ true = rw is (rw timely refl) in (apt, rw apt (rw is refl))
+
+pub shows_by : (s : ScriptData) (p : ℕ) (st : Node) (l : Letter) (v : Version) → l.body ≡ Show v → is_timely s st (Show v) ≡ true
+    → (is_apt s p st l ≡ true) × (node_row s p st l ≡ show_row s v st)
+shows_by s p st l v is timely =
+    let apt : is_apt s p st l ≡ true = rw is (rw timely refl) in (apt, rw apt (rw is refl))
+
+pub sweeps_by : (s : ScriptData) (p : ℕ) (st : Node) (l : Letter) (v : Version) → l.body ≡ Sweep v → is_timely s st (Sweep v) ≡ true
+    → (is_apt s p st l ≡ true) × (node_row s p st l ≡ sweep_row s v st)
+sweeps_by s p st l v is timely =
+    let apt : is_apt s p st l ≡ true = rw is (rw timely refl) in (apt, rw apt (rw is refl))
+
+pub tells_done_by : (s : ScriptData) (p : ℕ) (st : Node) (l : Letter) (v : Version) (k : ℕ) → l.body ≡ AskDone v k
+    → (is_apt s p st l ≡ true) × (node_row s p st l ≡ done_row s v k st)
+tells_done_by s p st l v k is = let apt : is_apt s p st l ≡ true = rw is refl in (apt, rw apt (rw is refl))
+
+pub tells_asked_by : (s : ScriptData) (p : ℕ) (st : Node) (l : Letter) (v : Version) (k : ℕ) → l.body ≡ AskAsked v k
+    → (is_apt s p st l ≡ true) × (node_row s p st l ≡ asked_row s v k st)
+tells_asked_by s p st l v k is = let apt : is_apt s p st l ≡ true = rw is refl in (apt, rw apt (rw is refl))

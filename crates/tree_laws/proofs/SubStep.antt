@@ -1,48 +1,43 @@
 -- An entry that does a subtransaction other than a root keeps what holds.
-use Rattle.std.proofs.Common.{◌≡◌, ◌≢◌, ◌⊎◌, inl, inr, ℕ, ◌<◌, ◌≤◌, ◌==◌, ◌&&◌, Bool, false, List, [], ◌∷◌, length, refl, sym, ap, subst, ◌∙◌, arith}
-use Rattle.std.specs.Prelude.{nat_lt}
+use Rattle.std.proofs.Common.{◌≡◌, ◌≢◌, ◌⊎◌, inl, inr, ℕ, ◌<◌, ◌≤◌, ◌==◌, ◌&&◌, Bool, List, [], ◌∷◌, length, refl, sym, ap, subst, ◌∙◌, arith}
 use Rattle.std.proofs.lemmas.Bool.{cases_eq}
-use Rattle.std.proofs.lemmas.Bool.Decides.{nat_tests}
 use Rattle.tv_base.specs.declared.numbers.SubNo.{SubNo}
 use Rattle.tv_base.specs.declared.numbers.TreeNo.{TreeNo}
 use Rattle.tv_base.specs.declared.numbers.Version.{Version}
-use Rattle.node_versions.specs.declared.turns.Turns.{Turns}
 use Rattle.tree_home.specs.Homes.{home_in}
 use Rattle.letter_types.specs.declared.bodies.Body.TheVariants.{Sub as SubLetter}
 use Rattle.letter_types.specs.declared.entries.Entry.{Entry}
 use Rattle.tx_trees.specs.ScriptData.{ScriptData, subs_at, node_of, home_of}
 use Rattle.tree_step.specs.Node.{Effect, Node}
 use Rattle.tree_step.specs.Children.{sub_letters, done_letter}
-use Rattle.tree_step.specs.Done.{raised_if, sub_done}
-use Rattle.node_versions.specs.Turns.{start as first_turns}
-use Rattle.letter_types.specs.declared.bodies.Body.{Body}
-use Rattle.letter_types.specs.declared.entries.Letter.{Letter}
-use Rattle.world_model.proofs.Every.{coordinator_kept, each_taken}
+use Rattle.tree_step.specs.Done.{sub_done}
 use Rattle.world_model.specs.Counts.{tally, one_if}
 use Rattle.world_model.specs.Runs.{node_in, MayFollow}
 use Rattle.tree_laws.specs.Dids.{asks, asked, dids, tells_done, replies_to}
 use Rattle.tree_laws.proofs.Counts.{below_root, not_done, one_here, was_asked, parent_at}
 use Rattle.tree_laws.proofs.Doing.{sub_sends, sub_does}
-use Rattle.tree_laws.proofs.Fits.{Fit, SentFit}
-use Rattle.tree_laws.proofs.Flows.{letters_next, same_part}
+use Rattle.world_model.proofs.Fits.{SentFit}
+use Rattle.world_model.proofs.Flows.{same_part}
+use Rattle.tree_laws.proofs.Flows.{letters_next}
 use Rattle.tree_laws.proofs.Good.{Good, TreeAt}
 use Rattle.tree_laws.proofs.Kept.{Does, does_roots, does_subs, does_born, does_items, heard_same, same_heard, both_fit, children_sent}
-use Rattle.tree_laws.proofs.Nexts.{Made, SubWork, SubUpdates, SubReads}
-use Rattle.tree_laws.proofs.Scripts.{Sound, SubAt, node_below, sub_below, tree_below}
-use Rattle.tree_laws.proofs.Sent.{on, other_tree, other_sub, subs_none}
+use Rattle.world_model.proofs.Nexts.{Made, SubWork}
+use Rattle.world_model.proofs.Scripts.{Sound, SubAt, node_below, sub_below, tree_below}
+use Rattle.world_model.proofs.Sends.{on, subs_none}
+use Rattle.tree_laws.proofs.Sent.{other_tree, other_sub}
 use Rattle.tree_laws.proofs.Staging.{Apart, stays, Adds, adds}
 
 abbrev SubMade : ScriptData → List Entry → Entry → TreeNo → SubNo → Version → Bool → Effect → Type 0
 SubMade s past e t k v raises effect =
     Made s past e (node_of s t.0 k.0) (sub_done s e.took.from.0 t.0 k.0 v.0 raises effect (node_in s past (node_of s t.0 k.0)))
 
-sub_fits : (s : ScriptData) (past : List Entry) (e : Entry) (t : TreeNo) (k : SubNo) (v : Version) (raises : Bool) (effect : Effect) → SubAt s t.0 k.0 → 0 < k.0 → Sound s → v.0 ≤ 1 → e.actor.0 ≡ node_of s t.0 k.0 → SubMade s past e t k v raises effect
+sub_fits : (s : ScriptData) (past : List Entry) (e : Entry) (t : TreeNo) (k : SubNo) (v : Version) (raises : Bool) (effect : Effect) → SubAt s t.0 k.0 → 0 < k.0 → Sound s → e.actor.0 ≡ node_of s t.0 k.0 → SubMade s past e t k v raises effect
     → SentFit s e.actor.0 e.sent
-sub_fits s past e t k v raises effect c later sound most at made =
+sub_fits s past e t k v raises effect c later sound at made =
     let node = node_below s t.0 k.0 c sound in
     both_fit s e.actor.0 (sub_letters t.0 v.0 k.0 0 (subs_at s t.0)) (done_letter (home_of s t.0) t.0 k.0 v.0 effect.values ∷ []) e.sent made.sent
-    (children_sent s past e t.0 k.0 v.0 sound c most at)
-    ((λ id. (tree_below s t.0 k.0 c, sub_below s t.0 k.0 c, later, refl, omega arith, most, refl)), tt)
+    (children_sent s past e t.0 k.0 v.0 sound c at)
+    ((λ id. (tree_below s t.0 k.0 c, sub_below s t.0 k.0 c, later, refl, omega arith, refl)), tt)
 
 -- its notice is sent, and no other
 sub_tells : (s : ScriptData) (past : List Entry) (e : Entry) (t : TreeNo) (k : SubNo) (v : Version) (raises : Bool) (effect : Effect) → SubMade s past e t k v raises effect → (u i : ℕ)
@@ -104,25 +99,6 @@ sub_stage s past e t k v raises effect c later sound good m none root does is ma
 sub_stage s past e t k v raises effect c later sound good m none root does is made u lt (inr ne) =
     stays s past e u m (sub_apart s past e t k v raises effect does is made u ne) (good.stages u lt)
 
--- its version is one of the first, so it raises nothing
-above_none : (a v : ℕ) → a ≡ 1 → v ≤ 1 → nat_lt a v ≡ false
-above_none a v is most = grind (arith, nat_tests)
-
-raises_none : (s : ScriptData) (t k : ℕ) (st : Node) (v : Version) (raises : Bool) (effect : Effect) → st.turns ≡ first_turns → v.0 ≤ 1
-    → SubWork s t k st v raises effect → raises ≡ false
-raises_none s t k st v raises effect first most (SubUpdates up is can made) =
-    is ∙ above_none st.turns.update.0 v.0 (ap (λ (u : Turns). u.update.0) first) most
-raises_none s t k st v raises effect first most (SubReads up is can made) = is
-
-raised_same : (raises : Bool) (v : ℕ) (turns : Turns) → raises ≡ false → raised_if raises v turns ≡ turns
-raised_same raises v turns none = rw none refl
-
-taken_version : (s : ScriptData) (past : List Entry) (e : Entry) (t : TreeNo) (k : SubNo) (v : Version) → MayFollow s past e → Good s past
-    → e.took.body ≡ SubLetter t k v → v.0 ≤ 1
-taken_version s past e t k v m good is =
-    let fit = each_taken (λ (l : Letter). Fit s l.from.0 l.to.0 l.body) s past e m good.letters in
-    (subst (λ (b : Body). Fit s e.took.from.0 e.took.to.0 b) is fit).5
-
 -- another subtransaction is done
 pub sub_good : (s : ScriptData) (past : List Entry) (e : Entry) (t : TreeNo) (k : SubNo) (v : Version) (raises : Bool) (effect : Effect) → Sound s → Good s past → MayFollow s past e → e.took.body ≡ SubLetter t k v → SubAt s t.0 k.0
     → 0 < k.0 → e.actor.0 ≡ node_of s t.0 k.0 → SubWork s t.0 k.0 (node_in s past (node_of s t.0 k.0)) v raises effect
@@ -134,17 +110,12 @@ sub_good s past e t k v raises effect sound good m is c later at work made =
     let does = sub_does s past e t k v raises effect c later sound good none is at work made in
     let p = node_of s t.0 k.0 in
     let below = node_below s t.0 k.0 c sound in
-    let most = taken_version s past e t k v m good is in
-    let same = raised_same raises v.0 (node_in s past p).turns (raises_none s t.0 k.0 (node_in s past p) v raises effect (good.turns p below) most work) in
     record {
-      letters = letters_next s past e good (sub_fits s past e t k v raises effect c later sound most at made);
+      letters = letters_next s past e good (sub_fits s past e t k v raises effect c later sound at made);
       roots = does_roots s past e t.0 k.0 good m does;
       subs = does_subs s past e t.0 k.0 sound good m does;
       born = does_born s past e t.0 k.0 good does;
       stages = λ u lt. sub_stage s past e t k v raises effect c later sound good m none root does is made u lt (cases_eq t.0 u);
       heard = λ u lt. heard_same s past e good m u lt (rw is refl) (same_heard s past e does.client u);
-      turns = λ q lt. same_part (λ (st : Node). st.turns) s past e p (sub_done s e.took.from.0 t.0 k.0 v.0 raises effect (node_in s past p)) made at same q
-          ∙ good.turns q lt;
-      coordinator = coordinator_kept s past e (omega arith) ∙ good.coordinator;
       items = does_items s past e t.0 k.0 good does;
     }

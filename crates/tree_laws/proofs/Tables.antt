@@ -10,7 +10,7 @@ use Rattle.commute_ops.specs.Ops.{start}
 use Rattle.commute_ops.specs.declared.kinds.Kind.{Kind}
 use Rattle.commute_ops.specs.declared.kinds.Op.{Op}
 use Rattle.commute_ops.specs.declared.kinds.TheConstants.{MOST_AMOUNT}
-use Rattle.item_versions.specs.Item.{Held, touched}
+use Rattle.item_versions.specs.Item.{Held, collected, touched}
 use Rattle.item_versions.specs.Table.{Table, item_in, replaced, touched_in, may_touch_in}
 use Rattle.tx_trees.specs.Valid.{deed_fits, op_fits, op_magnitude, magnitude, ops_load, OpAt, IsOp}
 use Rattle.tx_trees.specs.declared.parts.Deed.{Deed}
@@ -19,7 +19,8 @@ use Rattle.tx_trees.specs.declared.parts.ItemRow.{ItemRow}
 use Rattle.tx_trees.specs.declared.parts.SubOp.{SubOp}
 use Rattle.tx_trees.specs.declared.parts.TreeKind.TheVariants as trees
 use Rattle.world_model.specs.Tables.{items_at}
-use Rattle.tree_laws.proofs.Values.{HeldIn, held_more, held_may, touched_held, start_value, value_more}
+use Rattle.version_collect.specs.Collecting.{collected_all}
+use Rattle.tree_laws.proofs.Values.{HeldIn, collected_held, held_more, held_may, touched_held, start_value, value_more}
 use Rattle.update_step.specs.Rows.{may_make, after_deed, can_touch, after_ops}
 
 -- the item is there, and its values keep to the bound
@@ -200,3 +201,30 @@ pub start_table : (rows : List ItemRow) (p : ℕ) (bound : ℕ → ℕ)
     → ((x : ℕ) (r : ItemRow) → slice_get rows x ≡ Some r → unsigned_abs r.initial ≤ bound x)
     → TableIn rows p bound (items_at p 0 rows)
 start_table rows p bound most = λ x r at node. start_from p 0 x x bound r rows at node (omega arith) (most x r at)
+
+-- A collection.
+-- what is held of an item, where it is there, goes through one
+abbrev pub collected_of : Version → Option Held → Option Held
+collected_of f None = None
+collected_of f (Some h) = Some (collected f h)
+
+collected_at : (f : Version) (n : ItemNo) (e : ItemNo × Held) (es : Table) (test : Bool) → (e.0.0 == n.0) ≡ test
+    → item_in n (collected_all f es) ≡ collected_of f (item_in n es)
+    → item_in n (collected_all f (e ∷ es)) ≡ collected_of f (item_in n (e ∷ es))
+collected_at f n e es true is rest = rw is refl
+collected_at f n e es false is rest = rw is rest
+
+-- what is there of an item is collected
+pub item_collected : (f : Version) (n : ItemNo) (t : Table) → item_in n (collected_all f t) ≡ collected_of f (item_in n t)
+item_collected f n [] = refl
+item_collected f n (e ∷ es) = collected_at f n e es (e.0.0 == n.0) refl (item_collected f n es)
+
+collected_item : (kind : Kind) (b : ℕ) (f : Version) (o : Option Held) → ItemIn kind b o → ItemIn kind b (collected_of f o)
+collected_item kind b f None ok = absurd ok
+collected_item kind b f (Some h) ok = collected_held kind b f h ok
+
+-- a table whose items are all collected keeps to its bounds
+pub collected_table : (rows : List ItemRow) (p : ℕ) (bound : ℕ → ℕ) (f : Version) (items : Table) → TableIn rows p bound items
+    → TableIn rows p bound (collected_all f items)
+collected_table rows p bound f items ok =
+    λ x r at here. rw (item_collected f (record { 0 = x }) items) (collected_item r.kind (bound x) f (item_in (record { 0 = x }) items) (ok x r at here))

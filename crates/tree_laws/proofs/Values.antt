@@ -15,7 +15,7 @@ use Rattle.commute_ops.specs.declared.kinds.TheConstants.{MOST_AMOUNT}
 use Rattle.commute_ops.specs.declared.value.Value.{Value}
 use Rattle.commute_ops.specs.declared.value.Value.TheVariants.{Sum, Top, Bag}
 use Rattle.board_model.proofs.Bounds.{abs_add}
-use Rattle.item_versions.specs.Item.{Held, seen_after, below, above, applied_to_all, touched, may_apply_above, may_touch}
+use Rattle.item_versions.specs.Item.{Held, seen_after, below, above, applied_to_all, collected, touched, may_apply_above, may_touch}
 use Rattle.tx_trees.specs.Valid.{op_fits, op_magnitude}
 use Rattle.world_model.specs.Counts.{Each}
 use Rattle.world_model.proofs.Every.{each_append, each_map}
@@ -159,6 +159,12 @@ touched_held kind op b v (x ∷ xs) fit all =
       applied_value kind op b (seen_after x.1 v xs) fit (seen_in kind b v x.1 xs all.0 all.1),
       applied_in kind op b (above v (x ∷ xs)) fit (filter_in kind b (λ y. nat_lt v.0 y.0.0) (x ∷ xs) all),
     ))
+
+-- a collection keeps to the bound
+pub collected_held : (kind : Kind) (b : ℕ) (f : Version) (h : Held) → HeldIn kind b h → HeldIn kind b (collected f h)
+collected_held kind b f [] all = absurd all
+collected_held kind b f (x ∷ xs) all =
+    (seen_in kind b f x.1 xs all.0 all.1, filter_in kind b (λ y. nat_lt f.0 y.0.0) (x ∷ xs) all)
 
 pub held_more : (kind : Kind) (b c : ℕ) (h : Held) → b ≤ c → HeldIn kind b h → HeldIn kind c h
 held_more kind b c [] le all = all

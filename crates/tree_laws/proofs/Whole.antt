@@ -19,7 +19,8 @@ use Rattle.tree_laws.specs.Dids.{is_did, is_born, dids, births}
 use Rattle.tree_laws.proofs.Acts.{of_act, acts_more, counted_any}
 use Rattle.tree_laws.proofs.Finishes.{done_then, finished_by}
 use Rattle.tree_laws.proofs.Goods.{good_run}
-use Rattle.tree_laws.proofs.Scripts.{Sound, SubAt, get_below, has_root, reads_kind, sub_there, tree_kind, updates_kind}
+use Rattle.world_model.specs.Timely.{AllTimely}
+use Rattle.world_model.proofs.Scripts.{Sound, SubAt, get_below, has_root, reads_kind, sub_there, tree_kind, updates_kind}
 
 -- A history counts as its past does.
 pub dids_in : (past : List Entry) (t k : ℕ) → tally (of_act (is_did t k)) (places_of (reverse past)) ≡ dids past t k
@@ -88,19 +89,19 @@ whole_by : (a b c : Bool) → a ≡ true → b ≡ false → c ≡ true → (d :
 whole_by a b c p q r d = rw (p, q, r) refl
 
 -- a tree whose subtransactions are all done is whole
-pub whole_done : (s : ScriptData) (past : List Entry) (t : ℕ) → Sound s → StepRun s past → t < length s.trees
+pub whole_done : (s : ScriptData) (past : List Entry) (t : ℕ) → Sound s → StepRun s past → AllTimely s past → t < length s.trees
     → ((k : ℕ) → SubAt s t k → dids past t k ≡ 1) → IsWhole s (reverse past) t
-whole_done s past t sound run lt done =
+whole_done s past t sound run timely lt done =
     let xs = places_of (reverse past) in
     let root = has_root s t sound lt in
-    let born = (good_run s past sound run).born t in
+    let born = (good_run s past sound run timely).born t in
     whole_by (is_some (version_of (reverse past) t)) (is_strict_tree s t) (all_done_in t (length (subs_at s t)) xs)
     (born_of t xs (omega (arith, births_in past t, born, done 0 root))) (no_strict s t 0 root sound)
     (all_done_of t (length (subs_at s t)) xs (λ k kt. was_done_of t k xs (omega (arith, dids_in past t k, done k (sub_there s t k lt kt))))) _
 
 -- where the client has finished, every tree is whole
-pub whole : (s : ScriptData) (past : List Entry) (t : ℕ) → IsValid s → Runnable s → StepRun s past → HasFinished (reverse past)
+pub whole : (s : ScriptData) (past : List Entry) (t : ℕ) → IsValid s → Runnable s → StepRun s past → AllTimely s past → HasFinished (reverse past)
     → t < length s.trees → IsWhole s (reverse past) t
-whole s past t valid runnable run finished lt =
+whole s past t valid runnable run timely finished lt =
     let sound : Sound s = record { valid = valid; runnable = runnable } in
-    whole_done s past t sound run lt (done_then s past t sound run (finished_by s past sound run finished) lt)
+    whole_done s past t sound run timely lt (done_then s past t sound run timely (finished_by s past sound run timely finished) lt)

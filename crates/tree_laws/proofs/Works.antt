@@ -12,8 +12,8 @@ use Rattle.tree_laws.specs.Dids.{dids}
 use Rattle.tree_laws.proofs.Counts.{bounds_with, within_most}
 use Rattle.tree_laws.proofs.Gets.{gets_found}
 use Rattle.tree_laws.proofs.Good.{Good, bound}
-use Rattle.tree_laws.proofs.Nexts.{RootWork, RootUpdates, RootReads, SubWork, SubUpdates, SubReads}
-use Rattle.tree_laws.proofs.Scripts.{Sound, SubAt, node_below, ops_fit, updates_kind, reads_kind}
+use Rattle.world_model.proofs.Nexts.{RootWork, RootUpdates, RootReads, SubWork, SubUpdates, SubReads}
+use Rattle.world_model.proofs.Scripts.{Sound, SubAt, node_below, ops_fit, updates_kind, reads_kind}
 use Rattle.tree_laws.proofs.Tables.{TableIn, touched_table, table_more}
 
 -- an update that wasn't done can be done, and its node's items then keep to the bounds with it

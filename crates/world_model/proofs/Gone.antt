@@ -91,7 +91,7 @@ pub found_one : (id : LetterId) (xs : List Letter) (l : Letter) → find_id id x
 found_one id [] l at = absurd (grind arith)
 found_one id (x ∷ xs) l at = found_one_at id x xs l (same_id id x.id) refl at (found_one id xs l)
 
-under_or : (a b : ℕ) → (a ≤ b) ⊎ (b < a)
+pub under_or : (a b : ℕ) → (a ≤ b) ⊎ (b < a)
 under_or a b = grind arith
 
 not_later_by : (s : ScriptData) (past : List Entry) (id : LetterId) → StepRun s past → 1 ≤ tally (of_id id) (waiting s past)

@@ -6,3 +6,10 @@ pub mod Gone
 pub mod Back
 pub mod Posts
 pub mod Sampled
+pub mod Scripts
+pub mod Fits
+pub mod Nexts
+pub mod Sends
+pub mod Flows
+pub mod Orders
+pub mod Lawful

@@ -3,3 +3,4 @@ pub mod Runs
 pub mod Scheduled
 pub mod Counts
 pub mod Sample
+pub mod Timely

@@ -4,6 +4,7 @@ use Rattle.commute_ops.specs.declared.kinds.Kind.TheVariants.{Sum}
 use Rattle.commute_ops.specs.declared.kinds.Op.TheVariants.{Add}
 use Rattle.tx_trees.specs.ScriptData.{ScriptData}
 use Rattle.tx_trees.specs.declared.parts.Deed.TheVariants.{Apply, Get}
+use Rattle.tx_trees.specs.declared.parts.Form.TheVariants.{One}
 use Rattle.tx_trees.specs.declared.parts.ScriptRow.TheVariants.{Tree, Settle}
 use Rattle.tx_trees.specs.declared.parts.TreeKind.TheVariants.{Update, Read}
 use Rattle.letter_types.specs.declared.entries.Letter.{Letter}
@@ -35,6 +36,7 @@ sample s (suc n) = next_of s (sample s n) (waiting s (sample s n))
 -- item a at node 0 with 10 and item b at node 1 with 0; one tree adds 5 to a and sends a child, which adds 7 to b
 abbrev pub small : ScriptData
 small = record {
+  form = One;
   nodes = 2;
   items = record { name = 97 ∷ []; node = record { 0 = 0 }; kind = Sum; initial = pos 10 }
       ∷ record { name = 98 ∷ []; node = record { 0 = 1 }; kind = Sum; initial = pos 0 } ∷ [];

@@ -9,7 +9,7 @@ use Rattle.tree_home.specs.Homes.{no_trees}
 use Rattle.tx_trees.specs.ScriptData.{ScriptData}
 use Rattle.tx_trees.specs.declared.parts.ItemRow.{ItemRow}
 use Rattle.tx_trees.specs.declared.parts.ScriptRow.{ScriptRow}
-use Rattle.tx_trees.specs.declared.parts.ScriptRow.TheVariants.{Tree as TreeRow, Settle as SettleRow, Advance as AdvanceRow}
+use Rattle.tx_trees.specs.declared.parts.ScriptRow.TheVariants.{Tree as TreeRow, Settle as SettleRow, Advance as AdvanceRow, Lose as LoseRow}
 use Rattle.tx_trees.specs.declared.parts.Tree.{Tree}
 use Rattle.tx_trees.specs.declared.parts.TreeKind.{TreeKind}
 use Rattle.tx_trees.specs.declared.parts.TreeKind.TheVariants.{Update, Read, Strict}
@@ -75,9 +75,10 @@ is_run Strict = false
 abbrev pub is_run_row : ScriptRow → Bool
 is_run_row (TreeRow t) = true
 is_run_row SettleRow = true
-is_run_row AdvanceRow = false
+is_run_row AdvanceRow = true
+is_run_row LoseRow = false
 
--- the scripts that the world runs: no strict tree, and no advancement
+-- the scripts that the world runs: no strict tree, and no row that makes the coordinator forget
 pub record Runnable (s : ScriptData) : Type 0 where
   pub trees : AllByRecursion (λ (t : Tree). IsTrue (is_run t.kind)) s.trees
   pub rows : AllByRecursion (λ (r : ScriptRow). IsTrue (is_run_row r)) s.rows

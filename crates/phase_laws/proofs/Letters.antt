@@ -1,0 +1,152 @@
+-- How many letters of a kind are sent, under a number that looks at bodies.
+use Rattle.std.proofs.Common.{if◌then◌else◌, ◌≡◌, ℕ, zero, suc, ◌<◌, Bool, true, false, List, [], ◌∷◌, length, refl, ap, ◌∙◌, arith}
+use Rattle.tv_base.specs.declared.numbers.SubNo.{SubNo}
+use Rattle.tv_base.specs.declared.numbers.TreeNo.{TreeNo}
+use Rattle.tv_base.specs.declared.numbers.Version.{Version}
+use Rattle.letter_types.specs.declared.bodies.Answer.{Answer}
+use Rattle.letter_types.specs.declared.bodies.Body.{Body}
+use Rattle.letter_types.specs.declared.bodies.Body.TheVariants.{Root, Sub as SubLetter, Done, Reply, Turn, Show, Sweep, Turned, Shown, Swept, AskDone, AskAsked, DoneRow, AskedRow}
+use Rattle.letter_types.specs.declared.bodies.Notice.{Notice}
+use Rattle.letter_types.specs.declared.bodies.Notice.TheVariants.{Did as DidNotice}
+use Rattle.letter_types.specs.declared.entries.Entry.{Entry}
+use Rattle.letter_types.specs.declared.entries.Outgoing.{Outgoing}
+use Rattle.letter_types.specs.Steps.{Out}
+use Rattle.tx_trees.specs.ScriptData.{ScriptData, client_of, home_of, node_of, subs_at}
+use Rattle.tree_home.specs.Homes.{Gets}
+use Rattle.pair_counters.specs.Numbers.{numbers_of}
+use Rattle.tree_step.specs.Children.{sub_letters, done_letter}
+use Rattle.tree_step.specs.Done.{note_done, root_done, sub_done, with_tree}
+use Rattle.tree_step.specs.Node.{Effect, Node}
+use Rattle.tree_step.specs.Notices.{answer_noted, reply_letters}
+use Rattle.advance_coord.specs.Coordinator.{Coordinator, to_nodes, keep_done}
+use Rattle.world_model.specs.Counts.{tally}
+use Rattle.world_model.specs.Runs.{MayFollow, node_in}
+use Rattle.world_model.proofs.Bags.{tally-append}
+use Rattle.world_model.proofs.Flows.{flow}
+use Rattle.world_model.proofs.Nexts.{Next, Begins, Hears, Ends, Coordinates, DoesRoot, DoesSub, Notes, Obeys, Order, Turns, Shows, Sweeps, TellsDone, TellsAsked}
+use Rattle.world_model.proofs.Sends.{on, replies_none, subs_none}
+use Rattle.phase_laws.specs.Phases.{under_way}
+
+-- a letter to each node counts as often as there are nodes, or not at all
+pub to_nodes_none : (f : Body → ℕ) (n : ℕ) (body : Body) → f body ≡ 0 → tally (on f) (to_nodes n body) ≡ 0
+to_nodes_none f zero body none = refl
+to_nodes_none f (suc n) body none =
+    omega (
+      arith,
+      none,
+      to_nodes_none f n body none,
+      tally-append (on f) (to_nodes n body) (record { to = record { 0 = n }; body = body } ∷ []),
+    )
+
+pub to_nodes_one : (f : Body → ℕ) (n : ℕ) (body : Body) → f body ≡ 1 → tally (on f) (to_nodes n body) ≡ n
+to_nodes_one f zero body one = refl
+to_nodes_one f (suc n) body one =
+    omega (
+      arith,
+      one,
+      to_nodes_one f n body one,
+      tally-append (on f) (to_nodes n body) (record { to = record { 0 = n }; body = body } ∷ []),
+    )
+
+pick_none : (f : Body → ℕ) (b : Bool) (xs : List Outgoing) → tally (on f) xs ≡ 0 → tally (on f) (if b then xs else []) ≡ 0
+pick_none f true xs none = none
+pick_none f false xs none = refl
+
+-- a row of completions brings no letter but those that ask for requests
+pub keep_done_none : (f : Body → ℕ) (from : ℕ) (row : List ℕ) (c : Coordinator)
+    → f (AskAsked c.current.version c.current.number) ≡ 0 → tally (on f) (keep_done from row c).sent ≡ 0
+keep_done_none f from row c none =
+    pick_none f _ (to_nodes c.nodes (AskAsked c.current.version c.current.number))
+    (to_nodes_none f c.nodes (AskAsked c.current.version c.current.number) none)
+
+-- a number that counts no letter of trees
+pub record NoTrees (f : Body → ℕ) : Type 0 where
+  pub root : (t : TreeNo) → f (Root t) ≡ 0
+  pub sub : (t : TreeNo) (k : SubNo) (v : Version) → f (SubLetter t k v) ≡ 0
+  pub done : (t : TreeNo) (k : SubNo) (v : Version) (notice : Notice) → f (Done t k v notice) ≡ 0
+  pub reply : (t : TreeNo) (v : Version) (answer : Answer) → f (Reply t v answer) ≡ 0
+
+pub root_none : (f : Body → ℕ) (s : ScriptData) (p t v : ℕ) (effect : Effect) (st : Node) → NoTrees f
+    → tally (on f) (root_done s p t v effect st).sent ≡ 0
+root_none f s p t v effect st none =
+    let subs = sub_letters t v 0 0 (subs_at s t) in
+    let answer =
+    answer_noted (record { 0 = t }) (record { 0 = 0 }) effect.values (with_tree t (length (subs_at s t)) v st).homes in
+    omega (
+      arith,
+      tally-append (on f) subs (reply_letters (client_of s) answer),
+      subs_none f t v 0 0 (subs_at s t) none.sub,
+      replies_none f (client_of s) answer none.reply,
+    )
+
+pub sub_none : (f : Body → ℕ) (s : ScriptData) (q t k v : ℕ) (raises : Bool) (effect : Effect) (st : Node) → NoTrees f
+    → tally (on f) (sub_done s q t k v raises effect st).sent ≡ 0
+sub_none f s q t k v raises effect st none =
+    let subs = sub_letters t v k 0 (subs_at s t) in
+    let notice = done_letter (home_of s t) t k v effect.values in
+    omega (
+      arith,
+      tally-append (on f) subs (notice ∷ []),
+      subs_none f t v k 0 (subs_at s t) none.sub,
+      none.done (record { 0 = t }) (record { 0 = k }) (record { 0 = v }) (DidNotice effect.values),
+    )
+
+pub note_none : (f : Body → ℕ) (s : ScriptData) (q t k v : ℕ) (values : Gets) (st : Node) → NoTrees f
+    → tally (on f) (note_done s q t k v values st).sent ≡ 0
+note_none f s q t k v values st none =
+    replies_none f (client_of s) (answer_noted (record { 0 = t }) (record { 0 = k }) values st.homes) none.reply
+
+-- two numbers that count no letter of trees; an answer counts by f as the order that it answers counts by h
+pub record Passes (f h : Body → ℕ) : Type 0 where
+  pub sent : NoTrees f
+  pub took : NoTrees h
+  pub turned : (v : Version) → f (Turned v) ≡ h (Turn v)
+  pub shown : (v : Version) → f (Shown v) ≡ h (Show v)
+  pub swept : (v : Version) → f (Swept v) ≡ h (Sweep v)
+  pub done_row : (v : Version) (k : ℕ) (row : List ℕ) → f (DoneRow v k row) ≡ h (AskDone v k)
+  pub asked_row : (v : Version) (k : ℕ) (row : List ℕ) → f (AskedRow v k row) ≡ h (AskAsked v k)
+
+order_passes : (f h : Body → ℕ) → Passes f h → (s : ScriptData) (st : Node) (body : Body) (out : Out Node) → Order s st body out
+    → tally (on f) out.sent ≡ h body
+order_passes f h passes s st body out (Turns v bd is) =
+    ap (λ (o : Out Node). tally (on f) o.sent) is ∙ omega (arith, passes.turned v, ap h bd)
+order_passes f h passes s st body out (Shows v bd is) =
+    ap (λ (o : Out Node). tally (on f) o.sent) is ∙ omega (arith, passes.shown v, ap h bd)
+order_passes f h passes s st body out (Sweeps v bd is) =
+    ap (λ (o : Out Node). tally (on f) o.sent) is ∙ omega (arith, passes.swept v, ap h bd)
+order_passes f h passes s st body out (TellsDone v k bd is) =
+    ap (λ (o : Out Node). tally (on f) o.sent) is
+    ∙ omega (arith, passes.done_row v k (numbers_of s.nodes (st.counts.done v.0)), ap h bd)
+order_passes f h passes s st body out (TellsAsked v k bd is) =
+    ap (λ (o : Out Node). tally (on f) o.sent) is
+    ∙ omega (arith, passes.asked_row v k (numbers_of s.nodes (st.counts.asked v.0)), ap h bd)
+
+-- what a node sends counts by f as what it took counts by h
+pub node_passes : (f h : Body → ℕ) → Passes f h → (s : ScriptData) (past : List Entry) (e : Entry) → e.actor.0 < s.nodes
+    → Next s past e → tally (on f) e.sent ≡ h e.took.body
+node_passes f h passes s past e node (Begins bd at made) = absurd (omega (arith, node, at))
+node_passes f h passes s past e node (Hears t v answer bd at lt made) = absurd (omega (arith, node, at))
+node_passes f h passes s past e node (Ends v bd at made) = absurd (omega (arith, node, at))
+node_passes f h passes s past e node (Coordinates tells at made) = absurd (omega (arith, node, at))
+node_passes f h passes s past e node (DoesRoot t v effect bd sub at lt new work made) =
+    let sent : tally (on f) e.sent ≡ 0 =
+    ap (λ (os : List Outgoing). tally (on f) os) made.sent
+    ∙ root_none f s (home_of s t.0) t.0 v.0 effect (node_in s past (home_of s t.0)) passes.sent in
+    omega (arith, sent, ap h bd, passes.took.root t)
+node_passes f h passes s past e node (DoesSub t k v raises effect bd sub pos from at lt work made) =
+    let sent : tally (on f) e.sent ≡ 0 =
+    ap (λ (os : List Outgoing). tally (on f) os) made.sent
+    ∙ sub_none f s e.took.from.0 t.0 k.0 v.0 raises effect (node_in s past (node_of s t.0 k.0)) passes.sent in
+    omega (arith, sent, ap h bd, passes.took.sub t k v)
+node_passes f h passes s past e node (Notes t k v values bd sub pos from at lt missed made) =
+    let sent : tally (on f) e.sent ≡ 0 =
+    ap (λ (os : List Outgoing). tally (on f) os) made.sent
+    ∙ note_none f s e.took.from.0 t.0 k.0 v.0 values (node_in s past (home_of s t.0)) passes.sent in
+    omega (arith, sent, ap h bd, passes.took.done t k v (DidNotice values))
+node_passes f h passes s past e node (Obeys p out at lt order made) =
+    ap (λ (os : List Outgoing). tally (on f) os) made.sent ∙ order_passes f h passes s (node_in s past p) e.took.body out order
+
+-- so a node's entry leaves the number over the letters under way
+pub node_keeps : (f : Body → ℕ) → Passes f f → (s : ScriptData) (past : List Entry) (e : Entry) → MayFollow s past e
+    → e.actor.0 < s.nodes → Next s past e → under_way f s (e ∷ past) ≡ under_way f s past
+node_keeps f passes s past e m node next = omega (arith, flow f s past e m, node_passes f f passes s past e node next)

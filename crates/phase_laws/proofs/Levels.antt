@@ -1,0 +1,142 @@
+-- The versions of the nodes against the coordinator's phase, in every run.
+use Rattle.std.proofs.Common.{◌≡◌, ℕ, ◌+◌, ◌<◌, ◌≤◌, ◌&&◌, Bool, true, false, List, [], ◌∷◌, refl, subst, arith}
+use Rattle.std.specs.Prelude.{nat_le}
+use Rattle.std.proofs.lemmas.Bool.Decides.{nat_tests}
+use Rattle.tv_base.proofs.Truths.{left_true}
+use Rattle.tv_base.specs.declared.numbers.Version.{Version}
+use Rattle.letter_types.specs.declared.bodies.Body.{Body}
+use Rattle.letter_types.specs.declared.bodies.Body.TheVariants.{Turn, Show, Sweep, AskDone, AskAsked}
+use Rattle.letter_types.specs.declared.entries.Entry.{Entry}
+use Rattle.letter_types.specs.declared.entries.Letter.{Letter}
+use Rattle.node_versions.specs.declared.turns.Turns.{Turns as TurnsOf}
+use Rattle.tx_trees.specs.ScriptData.{ScriptData}
+use Rattle.tree_step.specs.Apt.{is_timely}
+use Rattle.tree_step.specs.Node.{Node}
+use Rattle.advance_coord.specs.declared.phase.Phase.{Phase}
+use Rattle.advance_coord.specs.declared.phase.Phase.TheVariants.{Idle, Turning, Counting, Paused, Showing, Sweeping}
+use Rattle.world_model.specs.Runs.{MayFollow, StepRun, coordinator_in, node_in}
+use Rattle.world_model.specs.Timely.{AllTimely}
+use Rattle.world_model.proofs.Every.{each_taken}
+use Rattle.world_model.proofs.Lawful.{Lawful}
+use Rattle.phase_laws.specs.Phases.{TurnStage, ShowStage, SweepStage, IsInPhase, PhasesHaveTheirLetters, VersionsKeepToThePhase}
+use Rattle.phase_laws.proofs.Small.{small}
+use Rattle.phase_laws.proofs.Tokens.{PhaseFor, phase_for, told}
+pub use Rattle.phase_laws.specs.Phases.{least_update, most_update, least_read, most_read, most_low}
+pub use Rattle.phase_laws.proofs.LevelAt.{Level, LevelAt, LevelBody, Levels, due_update, due_read, due_low, tell, tells}
+use Rattle.phase_laws.proofs.LevelSteps.{LevelOf, level_next}
+use Rattle.phase_laws.proofs.LevelLetters.{letters_next}
+
+-- In every run the levels are those of the phase. That the version is at least 1 follows from the bounds.
+first_in : (s : ScriptData) (past : List Entry) → Lawful s → StepRun s past → AllTimely s past
+    → 1 ≤ (coordinator_in s past).update
+first_in s past laws run timely = omega (arith, (small s past laws run timely).ended)
+
+levels_first : (s : ScriptData) (p : ℕ) → LevelAt s [] p
+levels_first s p = omega arith
+
+pub levels : (s : ScriptData) (past : List Entry) → Lawful s → StepRun s past → AllTimely s past → Levels s past
+levels s [] laws run timely = record { first = omega arith; node = λ p lt. levels_first s p; letters = (tt, tt) }
+levels s (e ∷ past) laws run timely =
+    let was = levels s past laws run.1 timely.1 in
+    let next = laws.next past e run timely in
+    record {
+      first = first_in s (e ∷ past) laws run timely;
+      node = level_next s past e laws run timely was next;
+      letters = letters_next s past e laws run timely.1 was next;
+    }
+
+-- What follows: a node's versions keep to the phase, and are near its low version.
+phased : (phase : Phase) (u : ℕ) (turns : TurnsOf) (t1 t2 t3 : ℕ) → 1 ≤ u → LevelOf phase u turns t1 t2 t3 → IsInPhase phase u turns
+phased Idle u turns t1 t2 t3 one was = omega (arith, was, one)
+phased Turning u turns t1 t2 t3 one was = omega (arith, was, one)
+phased (Counting true) u turns t1 t2 t3 one was = omega (arith, was, one)
+phased (Counting false) u turns t1 t2 t3 one was = omega (arith, was, one)
+phased (Paused true) u turns t1 t2 t3 one was = omega (arith, was, one)
+phased (Paused false) u turns t1 t2 t3 one was = omega (arith, was, one)
+phased Showing u turns t1 t2 t3 one was = omega (arith, was, one)
+phased Sweeping u turns t1 t2 t3 one was = omega (arith, was, one)
+
+-- in every run
+pub versions_in_phase : (s : ScriptData) (past : List Entry) → Lawful s → StepRun s past → AllTimely s past
+    → VersionsKeepToThePhase s past
+versions_in_phase s past laws run timely = λ p lt.
+    let all = levels s past laws run timely in
+    phased (coordinator_in s past).phase (coordinator_in s past).update (node_in s past p).turns
+    (tells s past TurnStage p) (tells s past ShowStage p) (tells s past SweepStage p) all.first (all.node p lt)
+
+pub letters_in_phase : (s : ScriptData) (past : List Entry) → Lawful s → StepRun s past → AllTimely s past
+    → PhasesHaveTheirLetters s past
+letters_in_phase s past laws run timely = λ g. told g s past laws run timely
+
+-- An order that is taken is timely.
+abbrev pub IsOrder : Body → Type 0
+IsOrder (Turn v) = Unit {0}
+IsOrder (Show v) = Unit {0}
+IsOrder (Sweep v) = Unit {0}
+IsOrder (AskDone v k) = Unit {0}
+IsOrder (AskAsked v k) = Unit {0}
+IsOrder _ = ⊥
+
+turn_near : (u : ℕ) (v : Version) (turns : TurnsOf) (t1 t2 t3 : ℕ) → 1 ≤ u → v.0 ≡ u + 1 → LevelOf Turning u turns t1 t2 t3
+    → nat_le v.0 (turns.low.0 + 2) ≡ true
+turn_near u v turns t1 t2 t3 one is was =
+    let le : v.0 ≤ turns.low.0 + 2 = omega (arith, was, one, is) in grind (arith, nat_tests)
+
+both_true : (a b : Bool) → a ≡ true → b ≡ true → (a && b) ≡ true
+both_true true b one two = two
+both_true false b one two = absurd (cc one)
+
+le_true : (a b : ℕ) → a ≤ b → nat_le a b ≡ true
+le_true a b le = grind (arith, nat_tests)
+
+show_near : (u : ℕ) (v : Version) (turns : TurnsOf) (t1 t2 t3 : ℕ) → 1 ≤ u → v.0 ≡ u → LevelOf Showing u turns t1 t2 t3
+    → (nat_le turns.low.0 v.0 && nat_le v.0 (turns.low.0 + 2)) ≡ true
+show_near u v turns t1 t2 t3 one is was =
+    both_true (nat_le turns.low.0 v.0) (nat_le v.0 (turns.low.0 + 2)) (le_true turns.low.0 v.0 (omega (arith, was, one, is)))
+    (le_true v.0 (turns.low.0 + 2) (omega (arith, was, one, is)))
+
+sweep_near : (u : ℕ) (v : Version) (turns : TurnsOf) (t1 t2 t3 : ℕ) → 1 ≤ u → v.0 ≡ u → LevelOf Sweeping u turns t1 t2 t3
+    → (nat_le turns.low.0 v.0 && (nat_le v.0 turns.read.0 && nat_le v.0 turns.update.0)) ≡ true
+sweep_near u v turns t1 t2 t3 one is was =
+    both_true (nat_le turns.low.0 v.0) (nat_le v.0 turns.read.0 && nat_le v.0 turns.update.0)
+    (le_true turns.low.0 v.0 (omega (arith, was, one, is)))
+    (both_true (nat_le v.0 turns.read.0) (nat_le v.0 turns.update.0)
+    (le_true v.0 turns.read.0 (omega (arith, was, one, is))) (le_true v.0 turns.update.0 (omega (arith, was, one, is))))
+
+-- by the levels, the phase and the version of the order alone
+order_timely_by : (s : ScriptData) (phase : Phase) (u : ℕ) (st : Node) (t1 t2 t3 : ℕ) (body : Body) → 1 ≤ u
+    → LevelOf phase u st.turns t1 t2 t3
+    → PhaseFor body phase → LevelBody s phase u body → IsOrder body → is_timely s st body ≡ true
+order_timely_by s phase u st t1 t2 t3 (Turn v) one was at right is =
+    turn_near u v st.turns t1 t2 t3 one right (subst (λ (q : Phase). LevelOf q u st.turns t1 t2 t3) at was)
+order_timely_by s phase u st t1 t2 t3 (Show v) one was at right is =
+    show_near u v st.turns t1 t2 t3 one right (subst (λ (q : Phase). LevelOf q u st.turns t1 t2 t3) at was)
+order_timely_by s phase u st t1 t2 t3 (Sweep v) one was at right is =
+    sweep_near u v st.turns t1 t2 t3 one right (subst (λ (q : Phase). LevelOf q u st.turns t1 t2 t3) at was)
+order_timely_by s phase u st t1 t2 t3 (AskDone v k) one was at right is = refl
+order_timely_by s phase u st t1 t2 t3 (AskAsked v k) one was at right is = refl
+order_timely_by s phase u st t1 t2 t3 body one was at right is = absurd is
+
+-- each order is timely where it is taken
+pub order_timely : (s : ScriptData) (past : List Entry) (e : Entry) (body : Body) (p : ℕ) → Lawful s → StepRun s past
+    → AllTimely s past
+    → MayFollow s past e → p < s.nodes → e.took.body ≡ body → IsOrder body → is_timely s (node_in s past p) body ≡ true
+order_timely s past e body p laws run timely m lt bd is =
+    let c = coordinator_in s past in
+    let all = levels s past laws run timely in
+    let right = each_taken (λ (l : Letter). LevelBody s c.phase c.update l.body) s past e m all.letters in
+    order_timely_by s c.phase c.update (node_in s past p) (tells s past TurnStage p) (tells s past ShowStage p)
+    (tells s past SweepStage p) body
+    all.first (all.node p lt) (phase_for s past e body laws run timely m bd)
+    (subst (λ (b : Body). LevelBody s c.phase c.update b) bd right) is
+
+-- a letter that sweeps doesn't lower the low version
+pub sweeps_rise : (s : ScriptData) (past : List Entry) (e : Entry) (v : Version) (p : ℕ) → Lawful s → StepRun s past
+    → AllTimely s past
+    → MayFollow s past e → p < s.nodes → e.took.body ≡ Sweep v → (node_in s past p).turns.low.0 ≤ v.0
+sweeps_rise s past e v p laws run timely m lt bd =
+    let test = order_timely s past e (Sweep v) p laws run timely m lt bd tt in
+    let st = node_in s past p in
+    let low : nat_le st.turns.low.0 v.0 ≡ true =
+    left_true (nat_le st.turns.low.0 v.0) (nat_le v.0 st.turns.read.0 && nat_le v.0 st.turns.update.0) test in
+    grind (arith, nat_tests)

@@ -1,0 +1,9 @@
+pub mod Outcomes
+pub mod Letters
+pub mod Small
+pub mod Tokens
+pub mod LevelAt
+pub mod LevelSteps
+pub mod LevelLetters
+pub mod Levels
+pub mod Current

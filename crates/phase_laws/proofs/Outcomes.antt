@@ -1,0 +1,252 @@
+-- What a step of the coordinator can be, where its numbers can still grow.
+use Rattle.std.proofs.Common.{if◌then◌else◌, ◌≡◌, ◌⊎◌, inl, inr, ℕ, ◌+◌, ◌-◌, ◌^◌, ◌<◌, ◌==◌, ◌&&◌, Bool, true, false, List, [], ◌∷◌, refl, ap, ◌∙◌, arith, Option, Some, None}
+use Rattle.tv_base.specs.declared.numbers.Version.{Version}
+use Rattle.tv_base.specs.Outside.{one_more}
+use Rattle.tv_base.proofs.Truths.{left_true, right_true}
+use Rattle.phase_out.specs.Rounds.{new_round, is_of, all_in, verdict_of}
+use Rattle.letter_types.specs.declared.bodies.Body.{Body}
+use Rattle.letter_types.specs.declared.bodies.Body.TheVariants.{Nudge, Advance, Turn, Turned, Shown, Swept, AskDone, DoneRow, AskedRow}
+use Rattle.letter_types.specs.Steps.{Out, still}
+use Rattle.advance_coord.specs.Coordinator.{Coordinator, version, to_nodes, in_phase, begin_phase, counted, begin_round, acknowledged, with_asked, keep_done, end_count, judged, keep_asked, advanced, end_advance, row_of, coordinator_row}
+use Rattle.advance_coord.specs.declared.phase.Phase.{Phase}
+use Rattle.advance_coord.specs.declared.phase.Phase.TheVariants.{Idle, Turning, Counting, Paused, Showing, Sweeping}
+
+-- a number that isn't its type's last grows by one
+pub one_more_is : (n : ℕ) → n < 2 ^ 64 - 1 → one_more n ≡ n + 1
+one_more_is n lt = omega (arith, lt)
+
+-- the coordinator's numbers can still grow
+pub record HasRoom (c : Coordinator) : Type 0 where
+  pub update : c.update + 1 < 2 ^ 64 - 1
+  pub waits : c.waits < 2 ^ 64 - 1
+  pub round : c.round < 2 ^ 64 - 1
+  pub acks : c.acks < 2 ^ 64 - 1
+
+-- round k begins: it misses every row and asks every node for its completions
+abbrev pub round_begun : Bool → ℕ → Coordinator → Out Coordinator
+round_begun reads k c = begin_phase (Counting reads) (AskDone (counted reads c) k) (record c {
+  round = k;
+  current = new_round (counted reads c) k c.nodes;
+  flag = false;
+})
+
+-- the coordinator with one more row of requests
+abbrev pub asked_kept : ℕ → List ℕ → Coordinator → Coordinator
+asked_kept from row c = record c { current = with_asked from row c.current }
+
+-- in the next update version, with so many that wait
+abbrev pub in_next : Phase → ℕ → Coordinator → Coordinator
+in_next phase waits c = in_phase phase (record c { update = c.update + 1; waits = waits })
+
+-- an advancement has ended, and none waits
+abbrev pub finished : Coordinator → Out Coordinator
+finished c = record { state = in_next Idle 0 c; sent = advanced c ∷ []; acts = [] }
+
+-- it has ended, and the next begins in the same step
+abbrev pub gone_on : Coordinator → Out Coordinator
+gone_on c = record {
+  state = in_next Turning (c.waits - 1) c;
+  sent = advanced c ∷ to_nodes c.nodes (Turn (version (c.update + 2)));
+  acts = [];
+}
+
+-- the phase waits for this letter as an acknowledgement
+abbrev pub IsAnswer : Phase → Body → Type 0
+IsAnswer Turning (Turned v) = Unit {0}
+IsAnswer Showing (Shown v) = Unit {0}
+IsAnswer Sweeping (Swept v) = Unit {0}
+IsAnswer _ _ = ⊥
+
+-- an advancement is under way
+abbrev pub IsRunning : Phase → Type 0
+IsRunning Idle = ⊥
+IsRunning _ = Unit {0}
+
+-- the coordinator takes nothing from this letter
+abbrev pub Ignored : Body → Phase → ℕ → Coordinator → Type 0
+Ignored Advance phase from c = ⊥
+Ignored Nudge (Counting reads) from c = ⊥
+Ignored Nudge (Paused reads) from c = ⊥
+Ignored (Turned v) Turning from c = ⊥
+Ignored (Shown v) Showing from c = ⊥
+Ignored (Swept v) Sweeping from c = ⊥
+Ignored (DoneRow v k row) (Counting reads) from c = is_of from v k row c.current ≡ false
+Ignored (AskedRow v k row) (Counting reads) from c = (is_of from v k row c.current && all_in c.current.dones) ≡ false
+Ignored _ _ from c = Unit {0}
+
+-- a row of requests of this round, after all completions
+pub record TakesAsked (c : Coordinator) (from : ℕ) (body : Body) (reads : Bool) (v : Version) (k : ℕ) (row : List ℕ)
+    : Type 0 where
+  pub phase : c.phase ≡ Counting reads
+  pub body_is : body ≡ AskedRow v k row
+  pub here : is_of from v k row c.current ≡ true
+  pub after_dones : all_in c.current.dones ≡ true
+
+-- the letter is ignored; an advance waits, or a nudge is remembered; a phase begins, or is acknowledged, or was for the
+-- last time, and the next begins; a round is resumed, keeps a row, or is judged
+pub data Outcome (c : Coordinator) (from : ℕ) (body : Body) (out : Out Coordinator) : Type 0 where
+  Rests : (phase : Phase) → c.phase ≡ phase → Ignored body phase from c → out ≡ still c → Outcome c from body out
+  Queues : (phase : Phase) → c.phase ≡ phase → IsRunning phase → body ≡ Advance → out ≡ still (record c { waits = c.waits + 1 })
+      → Outcome c from body out
+  Flags : (reads : Bool) → c.phase ≡ Counting reads → body ≡ Nudge → out ≡ still (record c { flag = true })
+      → Outcome c from body out
+  Turns : c.phase ≡ Idle → body ≡ Advance → out ≡ begin_phase Turning (Turn (version (c.update + 1))) c
+      → Outcome c from body out
+  Acks : (phase : Phase) → c.phase ≡ phase → IsAnswer phase body → (c.acks + 1 == c.nodes) ≡ false
+      → out ≡ still (record c { acks = c.acks + 1 }) → Outcome c from body out
+  LastTurned : (v : Version) → c.phase ≡ Turning → body ≡ Turned v → (c.acks + 1 == c.nodes) ≡ true
+      → out ≡ round_begun false (c.round + 1) c → Outcome c from body out
+  LastShown : (v : Version) → c.phase ≡ Showing → body ≡ Shown v → (c.acks + 1 == c.nodes) ≡ true
+      → out ≡ round_begun true (c.round + 1) c → Outcome c from body out
+  Finishes : (v : Version) → c.phase ≡ Sweeping → body ≡ Swept v → (c.acks + 1 == c.nodes) ≡ true → (c.waits == 0) ≡ true
+      → out ≡ finished c → Outcome c from body out
+  GoesOn : (v : Version) → c.phase ≡ Sweeping → body ≡ Swept v → (c.acks + 1 == c.nodes) ≡ true → (c.waits == 0) ≡ false
+      → out ≡ gone_on c
+      → Outcome c from body out
+  Resumes : (reads : Bool) → c.phase ≡ Paused reads → body ≡ Nudge → out ≡ round_begun reads (c.round + 1) c
+      → Outcome c from body out
+  KeepsDone : (reads : Bool) (v : Version) (k : ℕ) (row : List ℕ) → c.phase ≡ Counting reads → body ≡ DoneRow v k row
+      → is_of from v k row c.current ≡ true → out ≡ keep_done from row c → Outcome c from body out
+  KeepsAsked : (reads : Bool) (v : Version) (k : ℕ) (row : List ℕ) → TakesAsked c from body reads v k row
+      → verdict_of (with_asked from row c.current) ≡ None → out ≡ still (asked_kept from row c) → Outcome c from body out
+  Agrees : (reads : Bool) (v : Version) (k : ℕ) (row : List ℕ) → TakesAsked c from body reads v k row
+      → verdict_of (with_asked from row c.current) ≡ Some true → out ≡ end_count reads (asked_kept from row c)
+      → Outcome c from body out
+  Recounts : (reads : Bool) (v : Version) (k : ℕ) (row : List ℕ) → TakesAsked c from body reads v k row
+      → verdict_of (with_asked from row c.current) ≡ Some false → c.flag ≡ true
+      → out ≡ round_begun reads (c.round + 1) (asked_kept from row c) → Outcome c from body out
+  Pauses : (reads : Bool) (v : Version) (k : ℕ) (row : List ℕ) → TakesAsked c from body reads v k row
+      → verdict_of (with_asked from row c.current) ≡ Some false → c.flag ≡ false
+      → out ≡ still (in_phase (Paused reads) (asked_kept from row c)) → Outcome c from body out
+
+-- a round begins with the next number
+next_round : (reads : Bool) (c : Coordinator) → c.round < 2 ^ 64 - 1 → begin_round reads c ≡ round_begun reads (c.round + 1) c
+next_round reads c lt = ap (λ (k : ℕ). round_begun reads k c) (one_more_is c.round lt)
+
+-- one acknowledgement more: the last one, or one before it
+acknowledged-last : (next : Out Coordinator) (c : Coordinator) → HasRoom c → (c.acks + 1 == c.nodes) ≡ true
+    → acknowledged next c ≡ next
+acknowledged-last next c room is = rw (one_more_is c.acks room.acks) (rw is refl)
+
+acknowledged-more : (next : Out Coordinator) (c : Coordinator) → HasRoom c → (c.acks + 1 == c.nodes) ≡ false
+    → acknowledged next c ≡ still (record c { acks = c.acks + 1 })
+acknowledged-more next c room is = rw (one_more_is c.acks room.acks) (rw is refl)
+
+end_advance-finishes : (c : Coordinator) → HasRoom c → (c.waits == 0) ≡ true
+    → end_advance c ≡ finished c
+end_advance-finishes c room none = rw none (rw (one_more_is c.update (omega (arith, room.update))) refl)
+
+end_advance-goes_on : (c : Coordinator) → HasRoom c → (c.waits == 0) ≡ false
+    → end_advance c
+    ≡ gone_on c
+end_advance-goes_on c room some =
+    let once : one_more c.update ≡ c.update + 1 = one_more_is c.update (omega (arith, room.update)) in
+    let twice : one_more (c.update + 1) ≡ c.update + 2 = one_more_is (c.update + 1) room.update ∙ omega arith in
+    rw some (rw once (rw twice refl))
+
+turned_out : (c : Coordinator) (from : ℕ) (v : Version) → HasRoom c → c.phase ≡ Turning → (b : Bool)
+    → (c.acks + 1 == c.nodes) ≡ b → Outcome c from (Turned v) (acknowledged (begin_round false c) c)
+turned_out c from v room at true is =
+    LastTurned v at refl is (acknowledged-last (begin_round false c) c room is ∙ next_round false c room.round)
+turned_out c from v room at false is = Acks Turning at tt is (acknowledged-more (begin_round false c) c room is)
+
+shown_out : (c : Coordinator) (from : ℕ) (v : Version) → HasRoom c → c.phase ≡ Showing → (b : Bool)
+    → (c.acks + 1 == c.nodes) ≡ b → Outcome c from (Shown v) (acknowledged (begin_round true c) c)
+shown_out c from v room at true is =
+    LastShown v at refl is (acknowledged-last (begin_round true c) c room is ∙ next_round true c room.round)
+shown_out c from v room at false is = Acks Showing at tt is (acknowledged-more (begin_round true c) c room is)
+
+swept_out : (c : Coordinator) (from : ℕ) (v : Version) → HasRoom c → c.phase ≡ Sweeping → (b d : Bool)
+    → (c.acks + 1 == c.nodes) ≡ b → (c.waits == 0) ≡ d → Outcome c from (Swept v) (acknowledged (end_advance c) c)
+swept_out c from v room at true true is none =
+    Finishes v at refl is none (acknowledged-last (end_advance c) c room is ∙ end_advance-finishes c room none)
+swept_out c from v room at true false is some =
+    GoesOn v at refl is some (acknowledged-last (end_advance c) c room is ∙ end_advance-goes_on c room some)
+swept_out c from v room at false d is any = Acks Sweeping at tt is (acknowledged-more (end_advance c) c room is)
+
+done_out : (c : Coordinator) (reads : Bool) (from : ℕ) (v : Version) (k : ℕ) (row : List ℕ) → c.phase ≡ Counting reads
+    → (b : Bool) → is_of from v k row c.current ≡ b
+    → Outcome c from (DoneRow v k row) (if is_of from v k row c.current then keep_done from row c else still c)
+done_out c reads from v k row at true is = KeepsDone reads v k row at refl is (rw is refl)
+done_out c reads from v k row at false is = Rests (Counting reads) at is (rw is refl)
+
+judged_out : (c : Coordinator) (reads : Bool) (from : ℕ) (v : Version) (k : ℕ) (row : List ℕ) → HasRoom c
+    → TakesAsked c from (AskedRow v k row) reads v k row → (verdict : Option Bool)
+    → verdict_of (with_asked from row c.current) ≡ verdict
+    → (flag : Bool) → c.flag ≡ flag → Outcome c from (AskedRow v k row) (judged reads verdict (asked_kept from row c))
+judged_out c reads from v k row room takes None is flag fl = KeepsAsked reads v k row takes is refl
+judged_out c reads from v k row room takes (Some true) is flag fl = Agrees reads v k row takes is refl
+judged_out c reads from v k row room takes (Some false) is true fl =
+    Recounts reads v k row takes is fl (rw fl (next_round reads (asked_kept from row c) room.round))
+judged_out c reads from v k row room takes (Some false) is false fl = Pauses reads v k row takes is fl (rw fl refl)
+
+pick_out : (c : Coordinator) (from : ℕ) (body : Body) (b : Bool) (x y : Out Coordinator) → (b ≡ true → Outcome c from body x)
+    → (b ≡ false → Outcome c from body y) → Outcome c from body (if b then x else y)
+pick_out c from body true x y left right = left refl
+pick_out c from body false x y left right = right refl
+
+asked_out : (c : Coordinator) (reads : Bool) (from : ℕ) (v : Version) (k : ℕ) (row : List ℕ) → HasRoom c
+    → c.phase ≡ Counting reads → Outcome c from (AskedRow v k row)
+    (if is_of from v k row c.current && all_in c.current.dones then keep_asked reads from row c else still c)
+asked_out c reads from v k row room at =
+    pick_out c from (AskedRow v k row) (is_of from v k row c.current && all_in c.current.dones)
+    (keep_asked reads from row c) (still c)
+    (λ is. judged_out c reads from v k row room (record {
+      phase = at;
+      body_is = refl;
+      here = left_true (is_of from v k row c.current) (all_in c.current.dones) is;
+      after_dones = right_true (is_of from v k row c.current) (all_in c.current.dones) is;
+    }) (verdict_of (with_asked from row c.current)) refl c.flag refl)
+    (λ is. Rests (Counting reads) at is refl)
+
+row_out : (body : Body) (phase : Phase) (from : ℕ) (c : Coordinator) → HasRoom c → c.phase ≡ phase
+    → Outcome c from body (row_of body phase from c)
+row_out Advance Idle from c room at =
+    Turns at refl (ap (λ (n : ℕ). begin_phase Turning (Turn (version n)) c) (one_more_is c.update (omega (arith, room.update))))
+row_out Advance Turning from c room at =
+    Queues Turning at tt refl (ap (λ (n : ℕ). still (record c { waits = n })) (one_more_is c.waits room.waits))
+row_out Advance Showing from c room at =
+    Queues Showing at tt refl (ap (λ (n : ℕ). still (record c { waits = n })) (one_more_is c.waits room.waits))
+row_out Advance Sweeping from c room at =
+    Queues Sweeping at tt refl (ap (λ (n : ℕ). still (record c { waits = n })) (one_more_is c.waits room.waits))
+row_out Advance (Counting reads) from c room at =
+    Queues (Counting reads) at tt refl (ap (λ (n : ℕ). still (record c { waits = n })) (one_more_is c.waits room.waits))
+row_out Advance (Paused reads) from c room at =
+    Queues (Paused reads) at tt refl (ap (λ (n : ℕ). still (record c { waits = n })) (one_more_is c.waits room.waits))
+row_out (Turned v) Turning from c room at = turned_out c from v room at (c.acks + 1 == c.nodes) refl
+row_out (DoneRow v k row) (Counting reads) from c room at = done_out c reads from v k row at (is_of from v k row c.current) refl
+row_out (AskedRow v k row) (Counting reads) from c room at = asked_out c reads from v k row room at
+row_out Nudge (Counting reads) from c room at = Flags reads at refl refl
+row_out Nudge (Paused reads) from c room at = Resumes reads at refl (next_round reads c room.round)
+row_out (Shown v) Showing from c room at = shown_out c from v room at (c.acks + 1 == c.nodes) refl
+row_out (Swept v) Sweeping from c room at = swept_out c from v room at (c.acks + 1 == c.nodes) (c.waits == 0) refl refl
+row_out body phase from c room at = Rests phase at tt refl
+
+-- every step of the coordinator is one of these
+pub outcome : (c : Coordinator) (from : ℕ) (body : Body) → HasRoom c → Outcome c from body (coordinator_row c from body)
+outcome c from body room = row_out body c.phase from c room refl
+
+-- The coordinator's version stays or grows by one.
+ends_update : (reads : Bool) (c : Coordinator) → (end_count reads c).state.update ≡ c.update
+ends_update true c = refl
+ends_update false c = refl
+
+pub update_next : (c : Coordinator) (from : ℕ) (body : Body) (out : Out Coordinator) → Outcome c from body out
+    → (out.state.update ≡ c.update) ⊎ (out.state.update ≡ c.update + 1)
+update_next c from body out (Rests phase at ignored is) = inl (ap (λ (o : Out Coordinator). o.state.update) is)
+update_next c from body out (Queues phase at goes bd is) = inl (ap (λ (o : Out Coordinator). o.state.update) is)
+update_next c from body out (Flags reads at bd is) = inl (ap (λ (o : Out Coordinator). o.state.update) is)
+update_next c from body out (Turns at bd is) = inl (ap (λ (o : Out Coordinator). o.state.update) is)
+update_next c from body out (Acks phase at answer more is) = inl (ap (λ (o : Out Coordinator). o.state.update) is)
+update_next c from body out (LastTurned v at bd last is) = inl (ap (λ (o : Out Coordinator). o.state.update) is)
+update_next c from body out (LastShown v at bd last is) = inl (ap (λ (o : Out Coordinator). o.state.update) is)
+update_next c from body out (Finishes v at bd last none is) = inr (ap (λ (o : Out Coordinator). o.state.update) is)
+update_next c from body out (GoesOn v at bd last some is) = inr (ap (λ (o : Out Coordinator). o.state.update) is)
+update_next c from body out (Resumes reads at bd is) = inl (ap (λ (o : Out Coordinator). o.state.update) is)
+update_next c from body out (KeepsDone reads v k row at bd here is) = inl (ap (λ (o : Out Coordinator). o.state.update) is)
+update_next c from body out (KeepsAsked reads v k row takes verdict is) = inl (ap (λ (o : Out Coordinator). o.state.update) is)
+update_next c from body out (Agrees reads v k row takes verdict is) =
+    inl (ap (λ (o : Out Coordinator). o.state.update) is ∙ ends_update reads (asked_kept from row c))
+update_next c from body out (Recounts reads v k row takes verdict flag is) =
+    inl (ap (λ (o : Out Coordinator). o.state.update) is)
+update_next c from body out (Pauses reads v k row takes verdict flag is) = inl (ap (λ (o : Out Coordinator). o.state.update) is)

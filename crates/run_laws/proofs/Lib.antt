@@ -1,0 +1,4 @@
+pub mod Wholes
+pub mod Reached
+pub mod Closed
+pub mod InTime

@@ -1,0 +1,12 @@
+pub mod Measures
+pub mod Busy
+pub mod Balancing
+pub mod Course
+pub mod Heard
+pub mod Exacts
+pub mod Pauses
+pub mod Ends
+pub mod Costs
+pub mod Entries
+pub mod Bounds
+pub mod Sampled

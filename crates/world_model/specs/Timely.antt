@@ -1,0 +1,15 @@
+-- A run in which each letter came in time.
+use Rattle.std.specs.Prelude.{◌≡◌, ◌<◌, true, List, [], ◌∷◌}
+use Rattle.letter_types.specs.declared.entries.Entry.{Entry}
+use Rattle.tx_trees.specs.ScriptData.{ScriptData}
+use Rattle.tree_step.specs.Apt.{is_timely}
+use Rattle.world_model.specs.Runs.{node_in}
+
+-- the letter of an entry was timely at its node, if it was taken by one
+abbrev pub WasTimely : ScriptData → List Entry → Entry → Type 0
+WasTimely s past e = e.actor.0 < s.nodes → is_timely s (node_in s past e.actor.0) e.took.body ≡ true
+
+-- each letter that a node took was timely there. That every run is one is the last law of all that are proved of these.
+abbrev pub AllTimely : ScriptData → List Entry → Type 0
+AllTimely s [] = Unit {0}
+AllTimely s (e ∷ past) = WasTimely s past e × AllTimely s past
