@@ -1,4 +1,3 @@
-pub mod Ends
-pub mod Placed
+pub mod ReadRuns
 pub mod Built
 pub mod Told

@@ -13,24 +13,27 @@ use Rattle.letter_types.specs.declared.entries.Entry.{Entry}
 use Rattle.tx_trees.specs.ScriptData.{ScriptData}
 use Rattle.tx_trees.specs.declared.why.Why.TheVariants as why
 use Rattle.script_reader.specs.Reading.{fault, read_of}
+use Rattle.script_reader.specs.Written.{written}
+use Rattle.tx_trees.specs.Adding.{upgraded}
 use Rattle.script_reader.specs.declared.reading.ScriptFault.{ScriptFault}
 use Rattle.script_reader.specs.declared.reading.ScriptRefusal.{ScriptRefusal}
 use Rattle.script_reader.specs.declared.reading.ScriptRefusal.TheVariants as refusals
 use Rattle.report_text.specs.Report.{report_of}
 use Rattle.report_text.specs.Lines.{check_line_of}
 use Rattle.world_model.specs.Scheduled.{IsScheduled}
-use Rattle.threev_top.specs.Finished.{HasEnded}
+use Rattle.sim_runner.specs.Finished.{HasEnded}
 use Rattle.threev_top.specs.declared.outcomes.Mode.{Mode}
 use Rattle.threev_top.specs.declared.outcomes.Mode.TheVariants as modes
 use Rattle.threev_top.specs.declared.outcomes.Stop.{Stop}
 use Rattle.threev_top.specs.declared.outcomes.Stop.TheVariants as stops
 use Rattle.threev_top.specs.declared.texts.TheConstants.{HELP, VERSION}
 
--- what a mode writes of a script, and the history that it gives; letters are taken by the script's picks, and then the
--- oldest first
+-- what a mode writes of a script, and the history that it gives; letters are taken by the script's picks, and then by
+-- the draws of a seed, or without one the oldest first
 abbrev pub IsText : Mode → ScriptData → List Entry → List ℕ → Type 0
 IsText modes.Check s h text = (h ≡ []) × (text ≡ check_line_of s)
-IsText modes.Sim s h text = HasEnded s h × IsScheduled s None h × (text ≡ report_of s h)
+IsText (modes.Sim seed) s h text = HasEnded s h × IsScheduled s seed h × (text ≡ report_of s h)
+IsText modes.Upgrade s h text = (h ≡ []) × (text ≡ written (upgraded s))
 
 -- the bytes are a script, and this is its text and history in this mode
 pub record IsTextOf (mode : Mode) (bytes : List ℕ) (history : List Entry) (text : List ℕ) : Type 0 where
@@ -68,7 +71,9 @@ pub record WroteFront (mode : Mode) (left now : Option (List ℕ)) (written afte
 abbrev pub WroteBy : Option Line → Option (List ℕ) → Option (List ℕ) → Option (List ℕ) → Option (List ℕ)
     → List Entry → Type 0
 WroteBy (Some lines.Check) left now written after history = Wrote modes.Check left now written after history
-WroteBy (Some (lines.Sim None false)) left now written after history = Wrote modes.Sim left now written after history
+WroteBy (Some (lines.Sim seed false)) left now written after history =
+    Wrote (modes.Sim seed) left now written after history
+WroteBy (Some lines.Upgrade) left now written after history = Wrote modes.Upgrade left now written after history
 WroteBy (Some lines.Help) left now written after history = (now ≡ left) × Appends written after HELP.now
     × (history ≡ [])
 WroteBy (Some lines.Version) left now written after history = (now ≡ left) × Appends written after VERSION.now
@@ -78,8 +83,9 @@ WroteBy _ left now written after history = ⊥
 abbrev pub WroteFrontBy : Option Line → Option (List ℕ) → Option (List ℕ) → Option (List ℕ) → Option (List ℕ)
     → List Entry → Type 0
 WroteFrontBy (Some lines.Check) left now written after history = WroteFront modes.Check left now written after history
-WroteFrontBy (Some (lines.Sim None false)) left now written after history =
-    WroteFront modes.Sim left now written after history
+WroteFrontBy (Some (lines.Sim seed false)) left now written after history =
+    WroteFront (modes.Sim seed) left now written after history
+WroteFrontBy (Some lines.Upgrade) left now written after history = WroteFront modes.Upgrade left now written after history
 WroteFrontBy (Some lines.Help) left now written after history = (now ≡ left) × AppendsFront written after HELP.now
     × (history ≡ [])
 WroteFrontBy (Some lines.Version) left now written after history = (now ≡ left) × AppendsFront written after VERSION.now

@@ -1,3 +1,3 @@
-pub mod Finished
 pub mod Texts
+pub mod Upgraded
 pub mod Calls

@@ -70,9 +70,10 @@ fn after_line<S: Source, K: Sink>(alloc: Global, line: Line, source: &mut S, out
     match line {
         Line::Check => read_and_write(alloc, Mode::Check, source, out),
         Line::Sim {
-            seed: None,
+            seed,
             history: false,
-        } => read_and_write(alloc, Mode::Sim, source, out),
+        } => read_and_write(alloc, Mode::Sim { seed }, source, out),
+        Line::Upgrade => read_and_write(alloc, Mode::Upgrade, source, out),
         Line::Help => write_fixed(alloc, HELP, out),
         Line::Version => write_fixed(alloc, VERSION, out),
         Line::Sim { .. } | Line::Run { .. } | Line::Soak { .. } => unreachable!(),

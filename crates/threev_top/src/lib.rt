@@ -3,12 +3,12 @@
 
 mod calls;
 mod outcomes;
-mod running;
 mod texts;
+mod upgraded;
 
 pub use calls::{Ended, threev};
 pub use outcomes::{Mode, Stop};
-pub use running::simulate;
+pub use upgraded::upgraded_scripts_have_the_same_runs;
 
 #[cfg(test)]
 mod tests;

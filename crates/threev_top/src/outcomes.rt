@@ -5,16 +5,17 @@ ghost use Rattle.tv_base.specs.Outside.{AppendsFront, HasTaken, Rose};
 ghost use Rattle.tv_base.specs.declared.moving.TheConstants.{MOST_BYTES};
 ghost use Rattle.report_text.specs.Report.{report_of};
 ghost use Rattle.report_text.specs.Lines.{check_line_of};
-ghost use Rattle.world_model.specs.Tables.{Runnable};
+ghost use Rattle.script_reader.specs.Written.{written};
+ghost use Rattle.tx_trees.specs.Adding.{upgraded};
 ghost use Rattle.script_reader.specs.declared.reading.ScriptFault.{ScriptFault};
 ghost use Rattle.world_model.specs.Scheduled.{IsScheduled};
-ghost use Rattle.threev_top.specs.Finished.{HasEnded};
+ghost use Rattle.sim_runner.specs.Finished.{HasEnded, MayRun};
 ghost use Rattle.threev_top.specs.Calls.{is_before_writing, IsByBytes, IsStop, IsText, IsTextOf, IsWritten, reading_stop, Refuses, script_stop, WritesFront, WritesText, Wrote, WroteFront};
 
-use crate::running::simulate;
 use letter_types::History;
 use report_text::{check_line, report};
-use script_reader::{ScriptFault, ScriptRefusal, read_script};
+use script_reader::{ScriptFault, ScriptRefusal, read_script, write_script};
+use sim_runner::simulate;
 use std::alloc::Global;
 use tv_base::{NoMemory, ReadEnd, Sink, Source, Text, read_all, write_all};
 use tx_trees::{Script, Why};
@@ -24,8 +25,14 @@ use tx_trees::{Script, Why};
 pub enum Mode {
     /// The line that counts its parts.
     Check,
-    /// A run on one thread, and its report.
-    Sim,
+    /// A run on one thread, and its report. The letters are taken by the script's picks, then with a seed by its draws,
+    /// and without one the oldest first.
+    Sim {
+        /// The number from which the draws are made.
+        seed: Option<u64>,
+    },
+    /// The script in the second form.
+    Upgrade,
 }
 
 /// Why the text was not written whole.
@@ -69,13 +76,13 @@ pub(crate) fn stopped(alloc: Global, stop: Stop) -> Outcome
 }
 
 /// The run of a script, and its report.
-fn report_of(alloc: Global, script: &Script) -> Result<Made, NoMemory>
-    requires { Runnable script.now }
+fn report_of(alloc: Global, script: &Script, seed: Option<u64>) -> Result<Made, NoMemory>
+    requires { MayRun script.now }
     ensures ended { IfOk result (λ made. HasEnded script.now made.history) }
-    ensures scheduled { IfOk result (λ made. IsScheduled script.now None made.history) }
+    ensures scheduled { IfOk result (λ made. IsScheduled script.now seed made.history) }
     ensures text { IfOk result (λ made. made.text ≡ report_of script.now made.history) }
 {
-    let history = simulate(alloc, script)?;
+    let history = simulate(alloc, script, seed)?;
     let text = report(alloc, script, &history)?;
     Ok(Made { history, text })
 }
@@ -92,21 +99,36 @@ fn counts_of(alloc: Global, script: &Script) -> Result<Made, NoMemory>
     })
 }
 
+/// The text of the script in the second form.
+fn upgraded_of(alloc: Global, script: Script) -> Result<Made, NoMemory>
+    ensures history { IfOk result (λ made. made.history ≡ []) }
+    ensures text { IfOk result (λ made. made.text ≡ written (upgraded script)) }
+{
+    let mut script = script;
+    script.upgrade();
+    let text = write_script(alloc, &script)?;
+    Ok(Made {
+        history: History::new(alloc),
+        text,
+    })
+}
+
 /// What a mode makes of a script.
-fn text_of(alloc: Global, mode: Mode, script: &Script) -> Result<Made, NoMemory>
-    requires { Runnable script.now }
-    ensures { IfOk result (λ made. IsText mode script.now made.history made.text) }
+fn text_of(alloc: Global, mode: Mode, script: Script) -> Result<Made, NoMemory>
+    requires { MayRun script }
+    ensures { IfOk result (λ made. IsText mode script made.history made.text) }
 {
     match mode {
-        Mode::Check => counts_of(alloc, script),
-        Mode::Sim => report_of(alloc, script),
+        Mode::Check => counts_of(alloc, &script),
+        Mode::Sim { seed } => report_of(alloc, &script, seed),
+        Mode::Upgrade => upgraded_of(alloc, script),
     }
 }
 
 /// The same, with the stop in place of want of memory.
-fn made_by(alloc: Global, mode: Mode, script: &Script) -> Result<Made, Stop>
-    requires { Runnable script.now }
-    ensures made { IfOk result (λ made. IsText mode script.now made.history made.text) }
+fn made_by(alloc: Global, mode: Mode, script: Script) -> Result<Made, Stop>
+    requires { MayRun script }
+    ensures made { IfOk result (λ made. IsText mode script made.history made.text) }
     ensures stop { IfErr result (λ stop. stop ≡ Stop.NoMemory) }
 {
     match text_of(alloc, mode, script) {
@@ -131,7 +153,7 @@ fn made_of(alloc: Global, mode: Mode, bytes: &[u8]) -> Result<Made, Stop>
     ensures stop { IfErr result (λ stop. IsStop bytes.now stop) }
 {
     match read_script(alloc, bytes) {
-        Ok(script) => made_by(alloc, mode, &script),
+        Ok(script) => made_by(alloc, mode, script),
         Err(refusal) => Err(of_script(refusal)),
     }
 }

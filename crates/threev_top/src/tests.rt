@@ -73,6 +73,7 @@ fn a_script_gives_its_text_and_its_history(rt: HostRuntime) -> Result<(), Fail> 
         ("sim", FIRST, FIRST_TEXT, 6),
         ("sim", SMALL, SMALL_TEXT, 1),
         ("sim", READ, READ_TEXT, 11),
+        ("upgrade", SMALL, "threev,2\nnodes,1\nitem,a,0,sum,10\n", 0),
         (
             "check",
             FIRST,

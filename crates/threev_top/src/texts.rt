@@ -10,13 +10,18 @@ use std::alloc::{AllocError, Global};
 pub(crate) const HELP: &[u8] =
     b"threev: runs a script of transactions on several nodes and reports the balances
 
-usage: threev --mode MODE < script
+usage: threev --mode MODE [--seed N] < script
        threev --help
        threev --version
 
 modes:
-  check   reads the script and says how many nodes, items, trees, subtransactions and advancements it has
-  sim     runs the script on one thread and writes the report
+  check    reads the script and says how many nodes, items, trees, subtransactions and advancements it has
+  sim      runs the script on one thread and writes the report
+  upgrade  reads the script and writes it in the second form
+
+options:
+  --seed N   with sim, 0 to 2^64 - 1: after the picks the draws of N say which letter
+             is taken next; without it the oldest is
 
 statuses:
   0  the text was written
@@ -27,7 +32,8 @@ statuses:
   5  writing failed
 
 rows of a script, comma separated:
-  nodes,N                        the number of nodes, 1 to 16; the first row
+  threev,2                       the script is of the second form; the first row
+  nodes,N                        the number of nodes, 1 to 16, or 64 in the second form; the first row, or the next
   item,NAME,NODE,KIND,INITIAL    an item of kind sum, top or bag
   update,NAME,NODE               begins an update tree with its root at NODE
   read,NAME,NODE                 begins a read tree with its root at NODE
@@ -37,6 +43,7 @@ rows of a script, comma separated:
   put,ITEM,AMOUNT                puts a number into a bag
   get,ITEM                       reads an item
   settle                         waits until all before it has ended
+  pick,K                         the next letter taken is number K of those under way, from 0
 ";
 
 /// What `--version` writes.

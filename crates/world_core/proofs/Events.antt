@@ -10,9 +10,8 @@ use Rattle.letter_types.specs.declared.entries.Entry.{Entry}
 use Rattle.letter_types.specs.Letters.{sealed}
 use Rattle.letter_types.specs.Steps.{Out}
 use Rattle.tx_trees.specs.ScriptData.{ScriptData}
-use Rattle.tree_laws.proofs.Scripts.{Sound, get_some}
+use Rattle.world_model.proofs.Scripts.{Sound, get_some}
 use Rattle.world_core.specs.declared.actor.ActorState.{ActorState}
-use Rattle.tree_laws.proofs.Goods.{good_run}
 use Rattle.world_model.specs.Tables.{ActorData}
 use Rattle.world_core.specs.Actors.{Acted, CountsBelow, IsAddressed, IsWorldOf, MayTake, TookLetter, WorldData}
 use Rattle.world_core.proofs.Few.{few_sent}
@@ -57,7 +56,7 @@ has_room s w l new out world sound acted =
     omega (
       arith,
       ap (λ (o : Out ActorData). length o.sent) (row_is s past l w.actors new out world.actors acted),
-      few_sent s past l.to.0 l sound.valid (good_run s past sound world.run),
+      few_sent s past l.to.0 l sound.valid,
     )
 
 set_last : (h : List Entry) (x e : Entry) → slice_set (h ++ x ∷ []) (length h) e ≡ h ++ e ∷ []

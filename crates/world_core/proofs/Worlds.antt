@@ -8,7 +8,7 @@ use Rattle.std.proofs.Math.ListN.{length-set}
 use Rattle.tv_base.proofs.Truths.{same_test}
 use Rattle.letter_types.specs.declared.acts.Act.{Act}
 use Rattle.letter_types.specs.declared.bodies.Body.{Body}
-use Rattle.letter_types.specs.declared.bodies.Body.TheVariants.{Go, Root, Sub as SubLetter, Done, Reply, Nudge}
+use Rattle.letter_types.specs.declared.bodies.Body.TheVariants.{Go, Root, Sub as SubLetter, Done, Reply, Nudge, Advance, Turn, Show, Sweep, Turned, Shown, Swept, AskDone, AskAsked, DoneRow, AskedRow, Advanced}
 use Rattle.letter_types.specs.declared.entries.Letter.{Letter}
 use Rattle.letter_types.specs.declared.entries.Outgoing.{Outgoing}
 use Rattle.letter_types.specs.declared.entries.Entry.{Entry}
@@ -16,14 +16,17 @@ use Rattle.letter_types.specs.declared.entries.StepOut.{StepOut}
 use Rattle.letter_types.specs.Letters.{find_id, sealed}
 use Rattle.letter_types.specs.Steps.{Out, made}
 use Rattle.pair_counters.specs.Numbers.{AllBelow, Numbers}
-use Rattle.quiet_laws.proofs.Balance.{small}
+use Rattle.quiet_laws.specs.Balance.{MOST_COUNTED}
 use Rattle.tx_trees.specs.ScriptData.{ScriptData, client_of}
+use Rattle.world_model.specs.Counts.{Each}
 use Rattle.world_model.specs.Runs.{StepRun, MayFollow, Moves, AtNode, AtCoordinator, AtClient, node_in, waiting}
 use Rattle.world_model.proofs.Every.{each_found}
 use Rattle.world_model.proofs.Gone.{unique}
-use Rattle.tree_laws.proofs.Fits.{Fit}
-use Rattle.tree_laws.proofs.Scripts.{Sound, get_below, has_root, node_below, sub_there}
+use Rattle.world_model.proofs.Fits.{Fit}
+use Rattle.world_model.proofs.Scripts.{Sound, get_below, has_root, node_below, sub_there}
 use Rattle.tree_laws.proofs.Goods.{good_run}
+use Rattle.quiet_laws.specs.Quiet.{IsGivenInQuiet}
+use Rattle.run_laws.proofs.InTime.{counts_small, given_run, in_time}
 use Rattle.world_core.specs.declared.actor.ActorState.{ActorState}
 use Rattle.world_model.specs.Tables.{ActorData, actor_row}
 use Rattle.world_core.specs.Actors.{Acted, AreStatesOf, CountsBelow, IsAddressed, IsFor, IsStateOf, IsWorldOf, WorldData, actor_in, data_of}
@@ -41,12 +44,24 @@ fit_below s from to (SubLetter t k v) sound fit = omega (arith, fit.3, node_belo
 fit_below s from to (Done t k v notice) sound fit = omega (arith, fit.3, node_below s t.0 0 (has_root s t.0 sound fit.0) sound)
 fit_below s from to (Reply t v answer) sound fit = omega (arith, fit.1)
 fit_below s from to Nudge sound fit = omega (arith, fit)
+fit_below s from to Advance sound fit = omega (arith, fit)
+fit_below s from to (Turned v) sound fit = omega (arith, fit.1)
+fit_below s from to (Shown v) sound fit = omega (arith, fit.1)
+fit_below s from to (Swept v) sound fit = omega (arith, fit.1)
+fit_below s from to (DoneRow v k row) sound fit = omega (arith, fit.1)
+fit_below s from to (AskedRow v k row) sound fit = omega (arith, fit.1)
+fit_below s from to (Turn v) sound fit = omega (arith, fit)
+fit_below s from to (Show v) sound fit = omega (arith, fit)
+fit_below s from to (Sweep v) sound fit = omega (arith, fit)
+fit_below s from to (AskDone v k) sound fit = omega (arith, fit)
+fit_below s from to (AskAsked v k) sound fit = omega (arith, fit)
+fit_below s from to (Advanced v) sound fit = omega (arith, fit)
 fit_below s from to _ sound fit = absurd fit
 
 pub addressed : (s : ScriptData) (past : List Entry) (l : Letter) → Sound s → StepRun s past
     → find_id l.id (waiting s past) ≡ Some l → l.to.0 < s.nodes + 2
 addressed s past l sound run at =
-    fit_below s l.from.0 l.to.0 l.body sound (each_found (λ (x : Letter). Fit s x.from.0 x.to.0 x.body) l.id (waiting s past) l (good_run s past sound run).letters at)
+    fit_below s l.from.0 l.to.0 l.body sound (each_found (λ (x : Letter). Fit s x.from.0 x.to.0 x.body) l.id (waiting s past) l (good_run s past sound run (in_time s past sound run)).letters at)
 
 -- the letter of a step may be taken by its addressee
 asks_by : (s : ScriptData) (past : List Entry) (l : Letter) (b c : Bool) → nat_lt l.to.0 s.nodes ≡ b
@@ -69,11 +84,11 @@ small_by s past a m false false small is at = rw (is, at) tt
 below_more : (m n : ℕ) (counts : Numbers) → m ≤ n → AllBelow m counts → AllBelow n counts
 below_more m n counts le all v q = let both = all v q in (omega (arith, both.0), omega (arith, both.1))
 
-pub small_counts : (s : ScriptData) (past : List Entry) (a m : ℕ) → Sound s → StepRun s past → 65 * length past + 1 ≤ m
+pub small_counts : (s : ScriptData) (past : List Entry) (a m : ℕ) → Sound s → StepRun s past → MOST_COUNTED * length past + 1 ≤ m
     → CountsBelow m (actor_in s past a)
 small_counts s past a m sound run le =
     small_by s past a m (nat_lt a s.nodes) (a == s.nodes)
-    (λ p lt. below_more (65 * length past + 1) m (node_in s past p).counts le (small s past sound.valid sound.runnable run p lt)) refl refl
+    (λ p lt. below_more (MOST_COUNTED * length past + 1) m (node_in s past p).counts le (counts_small s past sound run p lt)) refl refl
 
 -- whose step it is
 moves_by : (s : ScriptData) (past : List Entry) (l : Letter) (stamp : ℕ) (sent : List Outgoing) (acts : List Act) (b c : Bool)
@@ -196,3 +211,10 @@ next_world s w k l out actors bag world sound step =
           (ap (λ (o : Out ActorData). o.state) row) acted.script at (l.to.0 == a) refl);
       bag = step.bag ∙ rw (back, world.bag, (found_in s w k l world step.letter).left) refl;
     }
+
+-- the entry that a step makes sends in quiet
+pub given_step : (s : ScriptData) (old new : List Entry) → Sound s → StepRun s (reverse new) → (e : Entry) → new ≡ old ++ e ∷ []
+    → Each (λ (o : Outgoing). IsGivenInQuiet s (reverse old) o.body) e.sent
+given_step s old new sound run e is =
+    let more : reverse new ≡ e ∷ reverse old = ap reverse is ∙ reverse-append old (e ∷ []) in
+    given_run s (reverse old) e sound (subst (StepRun s) more run)

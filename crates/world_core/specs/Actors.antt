@@ -3,11 +3,14 @@ use Rattle.std.specs.Prelude.{if◌then◌else◌, ℕ, ◌==◌, ◌+◌, ◌<�
 use Rattle.client_rows.specs.Kept.{IsKeptOf}
 use Rattle.letter_types.specs.declared.entries.Letter.{Letter}
 use Rattle.letter_types.specs.declared.entries.Entry.{Entry}
+use Rattle.letter_types.specs.declared.entries.Outgoing.{Outgoing}
 use Rattle.letter_types.specs.declared.entries.StepOut.{StepOut}
 use Rattle.letter_types.specs.Steps.{made}
 use Rattle.pair_counters.specs.Numbers.{AllBelow}
 use Rattle.tree_step.specs.Node.{IsOf, data_of as node_data}
 use Rattle.tx_trees.specs.ScriptData.{ScriptData}
+use Rattle.quiet_laws.specs.Quiet.{IsGivenInQuiet}
+use Rattle.world_model.specs.Counts.{Each}
 use Rattle.world_model.specs.Tables.{ActorData, NodeData, CoordinatorData, ClientData, actor_row}
 use Rattle.world_model.specs.Runs.{StepRun, waiting, node_in, coordinator_in, client_in}
 use Rattle.world_core.specs.declared.actor.ActorState.{ActorState}
@@ -64,6 +67,11 @@ pub record IsWorldOf (s : ScriptData) (w : WorldData) : Type 0 where
   pub count : length w.actors ≡ s.nodes + 2
   pub actors : AreStatesOf s (reverse w.history) w.actors
   pub bag : w.bag ≡ waiting s (reverse w.history)
+
+-- what the entry that was made sends, it sends in quiet: Show(v) and Sweep(v)
+abbrev pub GaveInQuiet : ScriptData → WorldData → WorldData → Type 0
+GaveInQuiet s old new = (e : Entry) → new.history ≡ old.history ++ e ∷ []
+    → Each (λ (o : Outgoing). IsGivenInQuiet s (reverse old.history) o.body) e.sent
 
 -- letter k of the bag was taken: there is one entry more, and it took this letter
 abbrev pub TookLetter : ℕ → WorldData → WorldData → Type 0

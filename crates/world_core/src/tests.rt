@@ -9,7 +9,7 @@ use letter_types::{Act, Body, Letter, LetterId, Step};
 use std::alloc::Global;
 use std::test::Fail;
 use tv_base::{ActorNo, ItemNo, Name, NoMemory, NodeNo, Stamp, TreeNo, Version};
-use tx_trees::{Deed, ItemRow, Refusal, Script, ScriptRow, TreeKind, Why};
+use tx_trees::{Deed, Form, ItemRow, Refusal, Script, ScriptRow, TreeKind, Why};
 
 const BAD_CALL: Refusal = Refusal::Why(Why::NotBuilt);
 
@@ -61,7 +61,7 @@ fn add_amount(script: &mut Script, name: &[u8], amount: Amount) -> Result<(), Re
 
 /// Two items, 10 at node 0 and 0 at node 1, and a tree that adds 5 and 7 to them.
 fn one_tree(alloc: Global) -> Result<Script, Refusal> {
-    let mut script = Script::new(alloc, 2);
+    let mut script = Script::new(alloc, Form::One, 2);
     add_item(&mut script, b"a", 0, 10)?;
     add_item(&mut script, b"b", 1, 0)?;
     add_tree(&mut script, b"t", TreeKind::Update)?;
@@ -73,7 +73,7 @@ fn one_tree(alloc: Global) -> Result<Script, Refusal> {
 
 /// A read tree alone, which gets an item of 10.
 fn one_read(alloc: Global) -> Result<Script, Refusal> {
-    let mut script = Script::new(alloc, 1);
+    let mut script = Script::new(alloc, Form::One, 1);
     add_item(&mut script, b"a", 0, 10)?;
     add_tree(&mut script, b"r", TreeKind::Read)?;
     let Some(name) = Name::new(b"a") else {
@@ -260,7 +260,7 @@ fn a_read_is_answered(rt: HostRuntime) -> Result<(), Fail> {
 
 #[test]
 fn go_alone_is_taken_where_there_is_no_tree(rt: HostRuntime) -> Result<(), Fail> {
-    let mut script = Script::new(rt.alloc(), 1);
+    let mut script = Script::new(rt.alloc(), Form::One, 1);
     add_item(&mut script, b"a", 0, 10)?;
     if !may_run(&script) {
         return Err("a script that may not be run".into());

@@ -1,18 +1,17 @@
 // A world: all actors, the letters under way, and the history so far.
 ghost use Rattle.std.specs.Prelude.{◌≡◌, ◌<◌, ◌≤◌, ◌+◌, ◌-◌, ◌^◌, ◌++◌, [], length, reverse, slice_get, slice_set, IfOk, IfSome, OnOk, OnErr, Some};
 ghost use Rattle.std.specs.List.{remove};
-ghost use Rattle.std.specs.VecDeque.{deque_len, deque_capacity};
 ghost use Rattle.letter_types.specs.Letters.{go, sealed};
 ghost use Rattle.world_model.specs.Tables.{Runnable};
 ghost use Rattle.quiet_laws.specs.Balance.{Balanced};
 ghost use Rattle.tx_trees.specs.ScriptData.{ScriptData};
 ghost use Rattle.world_model.specs.Runs.{actor_after};
-ghost use Rattle.world_core.specs.Actors.{Acted, AreStatesOf, data_of, IsWorldOf, MayTake, TookLetter, world_of};
+ghost use Rattle.world_core.specs.Actors.{Acted, AreStatesOf, data_of, GaveInQuiet, IsWorldOf, MayTake, TookLetter, world_of};
 
 use crate::actor::{ActorState, actor_step};
+use letter_bag::Bag;
 use letter_types::{Acts, Body, Entry, History, Letter, LetterId, Letters, Step, StepOut};
 use std::alloc::Global;
-use std::collections::VecDeque;
 use std::marker::Model;
 use tv_base::{ActorNo, NoMemory, Stamp};
 use tx_trees::Script;
@@ -22,7 +21,7 @@ use tx_trees::Script;
 pub struct World {
     alloc: Global,
     actors: Vec<ActorState>,
-    bag: VecDeque<Letter>,
+    bag: Bag<Letter>,
     history: History,
 }
 
@@ -74,13 +73,13 @@ fn first_actors(alloc: Global, script: &Script) -> Result<Vec<ActorState>, NoMem
 }
 
 /// The letters of an entry go to the end of the bag, each with its id.
-fn send(bag: &mut VecDeque<Letter>, stamp: Stamp, actor: ActorNo, sent: Letters)
-    requires room { deque_len bag.old + length sent ≤ deque_capacity bag.old }
+fn send(bag: &mut Bag<Letter>, stamp: Stamp, actor: ActorNo, sent: Letters)
+    requires { length sent ≤ bag.old.room }
     ensures { bag.new.items ≡ bag.old.items ++ sealed stamp.0 actor.0 0 sent }
 {
     let mut place: u32 = 0;
     for outgoing in sent.into_vec() {
-        bag.push_back_reserved(Letter {
+        bag.put_reserved(Letter {
             id: LetterId { stamp, place },
             from: actor,
             to: outgoing.to,
@@ -108,21 +107,10 @@ fn act(
     actor_step(alloc, state, letter, script)
 }
 
-/// Takes letter `k` out of the bag.
-fn take(bag: &mut VecDeque<Letter>, k: usize) -> Letter
-    requires { k < deque_len bag.old }
-    ensures taken { slice_get bag.old.items k ≡ Some result }
-    ensures left { bag.new.items ≡ remove bag.old.items k }
-    ensures len { deque_len bag.new + 1 ≡ deque_len bag.old }
-    ensures capacity { deque_capacity bag.new ≡ deque_capacity bag.old }
-{
-    bag.remove(k).unwrap()
-}
-
 /// Takes letter `k` out of the bag, sends what the step sent, and puts the entry in the last place of the history.
-fn finish(bag: &mut VecDeque<Letter>, history: &mut History, stamp: Stamp, k: usize, step: Step)
-    requires waits { k < deque_len bag.old }
-    requires room { deque_len bag.old + length step.given.sent ≤ deque_capacity bag.old }
+fn finish(bag: &mut Bag<Letter>, history: &mut History, stamp: Stamp, k: usize, step: Step)
+    requires waits { k < length bag.old.items }
+    requires room { length step.given.sent ≤ bag.old.room }
     requires place { 0 < length history.old }
     ensures bag { IfSome (slice_get bag.old.items k) (λ l. bag.new.items
         ≡ remove bag.old.items k ++ sealed stamp.0 l.to.0 0 step.given.sent) }
@@ -133,7 +121,7 @@ fn finish(bag: &mut VecDeque<Letter>, history: &mut History, stamp: Stamp, k: us
     let Step { given, kept } = step;
     let StepOut { sent: out, acts: _ } = given;
     let StepOut { sent, acts } = kept;
-    let took = take(bag, k);
+    let took = bag.take(k);
     let actor = took.to;
     send(bag, stamp, actor, out);
     let last = history.items().len() - 1;
@@ -149,12 +137,13 @@ fn finish(bag: &mut VecDeque<Letter>, history: &mut History, stamp: Stamp, k: us
     );
 }
 
-/// Letter `k` of the bag.
-fn letter_at(bag: &VecDeque<Letter>, k: usize) -> &Letter
-    requires { k < deque_len bag.now }
-    ensures { slice_get bag.now.items k ≡ Some result.now }
+/// Makes room for the letters of one step.
+fn make_room(bag: &mut Bag<Letter>, room: usize) -> Result<(), NoMemory>
+    ensures items { bag.new.items ≡ bag.old.items }
+    ensures ok { OnOk result (bag.new.room ≡ room) }
 {
-    &bag[k]
+    bag.reserve(room)?;
+    Ok(())
 }
 
 /// The state of an actor.
@@ -170,12 +159,12 @@ fn advance(
     alloc: Global,
     script: &Script,
     actors: &mut Vec<ActorState>,
-    bag: &mut VecDeque<Letter>,
+    bag: &mut Bag<Letter>,
     history: &mut History,
     k: usize,
 ) -> Result<Stamp, NoMemory>
     // What the caller knows.
-    requires waits { k < deque_len bag.old }
+    requires waits { k < length bag.old.items }
     requires runnable { Runnable script.now }
     requires world { IsWorldOf script.now (world_of actors.old.items bag.old.items history.old) }
     // What came.
@@ -191,9 +180,9 @@ fn advance(
     let _valid = script.nodes();
     let stamp = Stamp(history.items().len() as u64 + 1);
     let room = script.rows().len() + 65;
-    bag.reserve(room)?;
+    make_room(bag, room)?;
     history.push(placeholder(alloc, stamp))?;
-    match act(alloc, script, actors, letter_at(bag, k)) {
+    match act(alloc, script, actors, bag.at(k)) {
         Ok(step) => {
             finish(bag, history, stamp, k, step);
             Ok(stamp)
@@ -212,8 +201,8 @@ impl World {
         ensures history { IfOk result (λ w. w.history ≡ []) }
     {
         let client = ActorNo(script.nodes() + 1);
-        let mut bag = VecDeque::new(alloc);
-        bag.push_back(go(client))?;
+        let mut bag = Bag::new(alloc);
+        bag.put(go(client))?;
         let actors = first_actors(alloc, script)?;
         Ok(World {
             alloc,
@@ -235,7 +224,7 @@ impl World {
         requires { k < length self.now.bag }
         ensures { slice_get self.now.bag k ≡ Some result.now }
     {
-        &self.bag[k]
+        self.bag.at(k)
     }
 
     /// The state of an actor. In a world of a script it is the one to which this actor's own entries lead.
@@ -251,6 +240,7 @@ impl World {
     /// One event: letter `k` of those under way is taken by its addressee, whose step is appended to the history, and
     /// what it sends goes to the end. Gives the stamp of the new entry. After want of memory the world is as it was.
     /// The counters stay balanced: what one node asked of another is what that one did for it and what is under way.
+    /// A version is shown, or swept to, only when nothing of the versions before it is under way or can come.
     pub fn step(&mut self, script: &Script, k: usize) -> Result<Stamp, NoMemory>
         // What the caller knows.
         requires waits { k < length self.old.bag }
@@ -260,6 +250,7 @@ impl World {
         ensures world { IsWorldOf script.now self.new }
         ensures balanced { Balanced script.now (reverse self.new.history) }
         ensures took { OnOk result (TookLetter k self.old self.new) }
+        ensures quiet { OnOk result (GaveInQuiet script.now self.old self.new) }
         ensures stamp { IfOk result (λ stamp. stamp.0 ≡ length self.new.history) }
         ensures err { OnErr result (self.new ≡ self.old) }
     {

@@ -1,7 +1,6 @@
 use Rattle.std.proofs.Common.{◌∙◌, List, ℕ}
 use Rattle.script_reader.specs.declared.reading.ScriptFault.{ScriptFault}
 use Rattle.threev_top.specs.Calls.{Refuses, Tells}
-use Rattle.threev_top.specs.declared.outcomes.Stop.TheVariants as stops
 use Rattle.threev_top.proofs.Told.{refused_told}
 use Rattle.threev_top.proofs.calls.threev.Goals as goal
 

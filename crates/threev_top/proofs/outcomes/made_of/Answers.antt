@@ -1,4 +1,4 @@
-use Rattle.threev_top.proofs.Ends.{reads_runnable}
+use Rattle.threev_top.proofs.ReadRuns.{reads_runnable}
 use Rattle.threev_top.proofs.outcomes.made_of.Goals as goal
 
 pub made_by-requires : goal.made_by-requires

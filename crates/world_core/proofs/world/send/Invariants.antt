@@ -1,5 +1,4 @@
 use Rattle.std.proofs.Common.{◌≡◌, ◌≤◌, ◌+◌, ◌++◌, length}
-use Rattle.std.specs.VecDeque.{deque_len, deque_capacity}
 use Rattle.letter_types.specs.Letters.{sealed}
 use Rattle.world_core.proofs.world.send.Given as goal
 
@@ -7,8 +6,7 @@ abbrev pub invariant-loop-outgoing : goal.invariant-loop-outgoing
 invariant-loop-outgoing l = record {
   sent : l.bag.items ≡ l.initial.bag.items ++ sealed l.stamp.0 l.actor.0 0 l.yielded;
   place : l.place ≡ length l.yielded;
-  len : deque_len l.bag ≡ deque_len l.initial.bag + length l.yielded;
   left : length l.yielded + length l.outgoing-iterator.rest.items ≡ length l.fn.sent;
   few : length l.fn.sent ≤ 4294967295;
-  room : deque_capacity l.bag ≡ deque_capacity l.initial.bag;
+  room : l.bag.room + length l.yielded ≡ l.initial.bag.room;
 }

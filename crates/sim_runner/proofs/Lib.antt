@@ -1,0 +1,4 @@
+pub mod Ends
+pub mod Picked
+pub mod PickNumbers
+pub mod OldestPlaces

@@ -1,0 +1,5 @@
+use Rattle.world_core.specs.Actors.{IsWorldOf}
+use Rattle.sim_runner.proofs.advancing.take.Given as goal
+
+abbrev pub invariant-loop : goal.invariant-loop
+invariant-loop g l = IsWorldOf l.script l.world

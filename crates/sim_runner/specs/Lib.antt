@@ -1,0 +1,3 @@
+pub mod Finished
+pub mod Picks
+pub mod Pickers
