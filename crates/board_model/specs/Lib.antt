@@ -9,3 +9,6 @@ pub mod Balances
 pub mod May
 pub mod SerialList
 pub mod Carried
+pub mod Stands
+pub mod Moves
+pub mod Gates

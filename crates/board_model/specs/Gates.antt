@@ -1,0 +1,74 @@
+-- What ties a history to the rows of its script: when the gate of a row is open, and what fits it.
+use Rattle.std.specs.Prelude.{if◌then◌else◌, ℕ, Bool, true, false, ◌≡◌, ◌<◌, ◌==◌, ◌+◌, ◌&&◌, List, [], ◌∷◌, length, take, Some, IsTrue, slice_get}
+use Rattle.std.specs.List.{list_any}
+use Rattle.letter_types.specs.declared.acts.Act.{Act}
+use Rattle.letter_types.specs.declared.acts.Act.TheVariants.{Born, Turned, Swept, Finished}
+use Rattle.letter_types.specs.declared.entries.Entry.{Entry}
+use Rattle.tx_trees.specs.Counts.{advances_in}
+use Rattle.tx_trees.specs.ScriptData.{ScriptData}
+use Rattle.tx_trees.specs.declared.parts.ScriptRow.{ScriptRow}
+use Rattle.tx_trees.specs.declared.parts.ScriptRow.TheVariants.{Tree as TreeRow, Advance as AdvanceRow, Settle as SettleRow}
+use Rattle.board_model.specs.Histories.{Place}
+use Rattle.board_model.specs.Moves.{AtEachAct, is_whole_in, low_after, read_after, update_after}
+use Rattle.board_model.specs.Right.{has_finished}
+
+abbrev pub is_settle : ScriptRow → Bool
+is_settle SettleRow = true
+is_settle (TreeRow t) = false
+is_settle _ = false
+
+-- the rows before the last `settle` among these; there are none where none is among them
+abbrev pub before_settle : List ScriptRow → List ScriptRow
+before_settle [] = []
+before_settle (r ∷ rs) = if list_any is_settle rs then r ∷ before_settle rs else []
+
+-- the rows for which row i waits
+abbrev pub awaited : ScriptData → ℕ → List ScriptRow
+awaited s i = before_settle (take i s.rows)
+
+-- node p has collected to version v in one of these acts
+abbrev pub sweeps_to : ℕ → Act → Bool
+sweeps_to v (Swept w) = w.0 == v
+sweeps_to v Finished = false
+sweeps_to v _ = false
+
+abbrev pub was_swept : ℕ → ℕ → List Place → Bool
+was_swept p v xs = list_any (λ (x : Place). (x.node == p) && sweeps_to v x.act) xs
+
+-- the gate of row i is open after these acts: each tree for which it waits is whole, and for each advancement, the first
+-- of which ends with version 1, every node has collected to its version
+pub record IsOpen (s : ScriptData) (xs : List Place) (i : ℕ) : Type 0 where
+  pub trees : (j t : ℕ) → slice_get (awaited s i) j ≡ Some (TreeRow (record { 0 = t })) → IsTrue (is_whole_in s xs t)
+  pub advances : (a p : ℕ) → a < advances_in (awaited s i) → p < s.nodes → IsTrue (was_swept p (a + 1) xs)
+
+-- a tree is born when the gate of its row is open
+pub record IsBornByItsRow (s : ScriptData) (xs : List Place) (t : ℕ) : Type 0 where
+  pub row : ℕ
+  pub there : slice_get s.rows row ≡ Some (TreeRow (record { 0 = t }))
+  pub gate : IsOpen s xs row
+
+-- a node's update version is raised to v when the gate of the advance row of number v - 1 is open, counted from 1
+pub record IsTurnedByItsRow (s : ScriptData) (xs : List Place) (v : ℕ) : Type 0 where
+  pub row : ℕ
+  pub there : slice_get s.rows row ≡ Some AdvanceRow
+  pub number : advances_in (take row s.rows) + 2 ≡ v
+  pub gate : IsOpen s xs row
+
+-- the client finishes once, when every tree is whole and every node has gone through all advancements
+pub record IsEnd (s : ScriptData) (xs : List Place) : Type 0 where
+  pub once : has_finished xs ≡ false
+  pub whole : (t : ℕ) → t < length s.trees → IsTrue (is_whole_in s xs t)
+  pub update : (p : ℕ) → p < s.nodes → update_after xs p ≡ advances_in s.rows + 1
+  pub read : (p : ℕ) → p < s.nodes → read_after xs p ≡ advances_in s.rows
+  pub low : (p : ℕ) → p < s.nodes → low_after xs p ≡ advances_in s.rows
+
+-- the act keeps to the script, after the acts xs
+abbrev pub KeepsTo : ScriptData → List Place → Act → Type 0
+KeepsTo s xs (Born t v) = IsBornByItsRow s xs t.0
+KeepsTo s xs (Turned v) = IsTurnedByItsRow s xs v.0
+KeepsTo s xs Finished = IsEnd s xs
+KeepsTo s xs _ = Unit {0}
+
+-- each act of a history keeps to the script
+abbrev pub Fits : ScriptData → List Entry → Type 0
+Fits s h = AtEachAct (λ (before : List Entry) (xs : List Place) (x : Place). KeepsTo s xs x.act) h

@@ -1,0 +1,183 @@
+-- Which locks stand at a place of a history, and why a subtransaction of a strict tree votes no: a look back over the
+-- acts. No tree of a run so far takes a lock.
+use Rattle.std.specs.Prelude.{if◌then◌else◌, ℕ, zero, suc, ℤ, Bool, true, false, ◌==◌, ◌&&◌, not, max, nat_lt, int_lt, List, [], ◌∷◌, ◌++◌, fold, filter, length, map, Option, Some, None}
+use Rattle.std.specs.List.{list_any}
+use Rattle.std.specs.Option.{option_or}
+use Rattle.tv_base.specs.declared.numbers.ItemNo.{ItemNo}
+use Rattle.tv_base.specs.declared.numbers.Version.{Version}
+use Rattle.commute_ops.specs.declared.value.Value.{Value}
+use Rattle.commute_ops.specs.declared.value.Value.TheVariants.{Sum, Top, Bag}
+use Rattle.letter_types.specs.declared.acts.Act.{Act}
+use Rattle.letter_types.specs.declared.acts.Act.TheVariants.{Did, Voted, Freed, Applied, Finished}
+use Rattle.letter_types.specs.declared.entries.Entry.{Entry}
+use Rattle.letter_types.specs.declared.votes.Cause.{Cause}
+use Rattle.letter_types.specs.declared.votes.Cause.TheVariants.{Conflict, Newer, Short}
+use Rattle.letter_types.specs.declared.votes.Vote.{Vote}
+use Rattle.letter_types.specs.declared.votes.Vote.TheVariants.{Yes, No}
+use Rattle.tx_trees.specs.ScriptData.{ScriptData, ops_of, subs_at, updates}
+use Rattle.tx_trees.specs.declared.parts.Deed.{Deed}
+use Rattle.tx_trees.specs.declared.parts.Deed.TheVariants as deeds
+use Rattle.tx_trees.specs.declared.parts.ItemRow.{ItemRow}
+use Rattle.tx_trees.specs.declared.parts.SubOp.{SubOp}
+use Rattle.board_model.specs.Histories.{Place, version_in}
+use Rattle.board_model.specs.Worth.{ops_change, subs_change, worth}
+
+-- how a tree has an item: marked by a commuting operation, looked at by a get, held by a set or a draw
+pub data LockMode : Type 0 where
+  Mark : LockMode
+  Look : LockMode
+  Hold : LockMode
+
+abbrev pub mode_of : Deed → LockMode
+mode_of (deeds.Apply op) = Mark
+mode_of deeds.Get = Look
+mode_of (deeds.Set n) = Hold
+mode_of (deeds.Draw n) = Hold
+
+-- a mark goes with a mark and a look with a look; every other pair conflicts
+abbrev pub conflicts : LockMode → LockMode → Bool
+conflicts Mark Mark = false
+conflicts Look Look = false
+conflicts _ _ = true
+
+-- the operations whose locks the act takes for tree k: those that an update tree has done, and those that a strict tree
+-- has voted yes for; a read tree takes none
+abbrev pub locked_by : ScriptData → ℕ → Act → List SubOp
+locked_by s k (Did t j values) = if (t.0 == k) && updates s k then ops_of s k j.0 else []
+locked_by s k (Voted t j (Yes values)) = if t.0 == k then ops_of s k j.0 else []
+locked_by s k (Voted t j (No cause)) = []
+locked_by s k Finished = []
+locked_by s k _ = []
+
+-- the act lets go of what tree k has at its node
+abbrev pub lets_go : ℕ → Act → Bool
+lets_go k (Freed t) = t.0 == k
+lets_go k (Applied t commit) = t.0 == k
+lets_go k Finished = false
+lets_go k _ = false
+
+-- the modes on item x among those of these operations
+abbrev pub modes_on : ℕ → List SubOp → List LockMode
+modes_on x os = map (λ (o : SubOp). mode_of o.deed) (filter (λ (o : SubOp). o.item.0 == x) os)
+
+-- the modes in which tree k has item x, which is at node p, after an act and after these acts
+abbrev pub modes_after : ScriptData → ℕ → ℕ → ℕ → List LockMode → Place → List LockMode
+modes_after s p x k modes y =
+    if (y.node == p) && lets_go k y.act then [] else modes ++ modes_on x (locked_by s k y.act)
+
+abbrev pub modes_standing : ScriptData → List Place → ℕ → ℕ → ℕ → List LockMode
+modes_standing s xs p x k = fold (modes_after s p x k) [] xs
+
+-- tree k has the item in a mode that conflicts with this one
+abbrev pub stands_against : ScriptData → List Place → ℕ → ℕ → LockMode → ℕ → Bool
+stands_against s xs p x mode k = list_any (conflicts mode) (modes_standing s xs p x k)
+
+-- the least number from k on, of at most n, that passes a test
+abbrev pub least_from : (ℕ → Bool) → ℕ → ℕ → Option ℕ
+least_from test k zero = None
+least_from test k (suc n) = if test k then Some k else least_from test (suc k) n
+
+-- the tree of least number, other than t, that has the item in a mode that conflicts with this one
+abbrev pub holder_of : ScriptData → List Place → ℕ → ℕ → ℕ → LockMode → Option ℕ
+holder_of s xs p t x mode =
+    least_from (λ (k : ℕ). not (k == t) && stands_against s xs p x mode k) 0 (length s.trees)
+
+-- the first of these operations whose item is so held, as a cause
+abbrev pub conflict_with : ItemNo → Option ℕ → Option Cause
+conflict_with x None = None
+conflict_with x (Some k) = Some (Conflict x (record { 0 = k }))
+
+abbrev pub conflict_of : ScriptData → List Place → ℕ → ℕ → List SubOp → Option Cause
+conflict_of s xs p t [] = None
+conflict_of s xs p t (o ∷ os) =
+    option_or (conflict_with o.item (holder_of s xs p t o.item.0 (mode_of o.deed))) (conflict_of s xs p t os)
+
+-- the version of the tree by whose act item x was written, else 0: an update tree's Did writes, and the Applied of a
+-- commit at the item's node
+abbrev pub version_or_zero : Option Version → ℕ
+version_or_zero None = 0
+version_or_zero (Some v) = v.0
+
+abbrev pub written_by : ScriptData → List Place → ℕ → Bool → Act → ℕ
+written_by s xs x here (Did t j values) =
+    if updates s t.0 && ops_change x (ops_of s t.0 j.0) then version_or_zero (version_in t.0 xs) else 0
+written_by s xs x here (Applied t commit) =
+    if here && (commit && subs_change x (subs_at s t.0)) then version_or_zero (version_in t.0 xs) else 0
+written_by s xs x here Finished = 0
+written_by s xs x here _ = 0
+
+abbrev pub written_in : ScriptData → List Place → ℕ → ℕ → Place → ℕ
+written_in s xs p x y = written_by s xs x (y.node == p) y.act
+
+-- the greatest version in which item x was written
+abbrev pub newest_of : ScriptData → List Place → ℕ → ℕ → ℕ
+newest_of s xs p x = fold (λ (v : ℕ) (y : Place). max v (written_in s xs p x y)) 0 xs
+
+-- the operation writes over what is newer
+abbrev pub overwrites : Deed → Bool
+overwrites (deeds.Set n) = true
+overwrites (deeds.Draw n) = true
+overwrites deeds.Get = false
+overwrites (deeds.Apply op) = false
+
+-- the first of these operations that writes an item which is written in a version above v, as a cause
+abbrev pub newer_of : ScriptData → List Place → ℕ → ℕ → List SubOp → Option Cause
+newer_of s xs p v [] = None
+newer_of s xs p v (o ∷ os) =
+    if overwrites o.deed && nat_lt v (newest_of s xs p o.item.0)
+    then Some (Newer o.item (record { 0 = newest_of s xs p o.item.0 })) else newer_of s xs p v os
+
+-- a value that is less than what is drawn, as a cause
+abbrev pub short_by : ItemNo → Deed → Value → Option Cause
+short_by x (deeds.Draw n) (Sum found) = if int_lt found.0 n then Some (Short x found.0) else None
+short_by x (deeds.Draw n) (Top found) = None
+short_by x (deeds.Draw n) (Bag ns) = None
+short_by x (deeds.Set n) w = None
+short_by x deeds.Get w = None
+short_by x (deeds.Apply op) w = None
+
+-- the first of these operations that draws more than its item is worth at version v, as a cause
+abbrev pub short_of : ScriptData → List Entry → ℕ → List SubOp → Option Cause
+short_of s before v [] = None
+short_of s before v (o ∷ os) = option_or (short_by o.item o.deed (worth s before o.item.0 v)) (short_of s before v os)
+
+-- why a subtransaction of strict tree t with these operations at node p votes no, if it does: a lock that conflicts, else
+-- a newer version, else a value that is short
+abbrev pub cause_at : ScriptData → List Entry → List Place → ℕ → ℕ → ℕ → List SubOp → Option Cause
+cause_at s before xs p t v os =
+    option_or (conflict_of s xs p t os) (option_or (newer_of s xs p v os) (short_of s before v os))
+
+abbrev pub cause_of : ScriptData → List Entry → List Place → ℕ → ℕ → List SubOp → Option Cause
+cause_of s before xs p t os = cause_at s before xs p t (version_or_zero (version_in t xs)) os
+
+-- the cause that a vote names
+abbrev pub refusal_in : Vote → Option Cause
+refusal_in (Yes values) = None
+refusal_in (No cause) = Some cause
+
+-- subtransaction k of tree t has voted, or has voted yes
+abbrev pub votes : ℕ → ℕ → Act → Bool
+votes t k (Voted u j vote) = (u.0 == t) && (j.0 == k)
+votes t k Finished = false
+votes t k _ = false
+
+abbrev pub votes_yes : ℕ → ℕ → Act → Bool
+votes_yes t k (Voted u j (Yes values)) = (u.0 == t) && (j.0 == k)
+votes_yes t k (Voted u j (No cause)) = false
+votes_yes t k Finished = false
+votes_yes t k _ = false
+
+abbrev pub was_voted : ℕ → ℕ → List Place → Bool
+was_voted t k xs = list_any (λ (x : Place). votes t k x.act) xs
+
+abbrev pub voted_yes : ℕ → ℕ → List Place → Bool
+voted_yes t k xs = list_any (λ (x : Place). votes_yes t k x.act) xs
+
+-- the marks of tree t went at node p
+abbrev pub frees : ℕ → Act → Bool
+frees t (Freed u) = u.0 == t
+frees t Finished = false
+frees t _ = false
+
+abbrev pub was_freed : ℕ → ℕ → List Place → Bool
+was_freed t p xs = list_any (λ (x : Place). (x.node == p) && frees t x.act) xs

@@ -1,0 +1,2 @@
+//! The law of gates: every run keeps to the rows of its script.
+#![tactic(auto)]

@@ -1,0 +1,40 @@
+-- What is promised of every run that ends.
+--
+-- Whatever order the nodes' steps and the letters' arrivals take, a run that ends Ok has written the report of its own
+-- stored history, in which every read tree shows exactly the whole update trees of its version or older, all committed
+-- trees are a serial run ordered by version, no item has held more than three versions, and no read or commuting step has
+-- waited for version advancement.
+use Rattle.std.specs.Prelude.{ℕ, ◌<◌, List, length}
+use Rattle.letter_types.specs.declared.entries.Entry.{Entry}
+use Rattle.tx_trees.specs.ScriptData.{ScriptData}
+use Rattle.board_model.specs.Gates.{Fits}
+use Rattle.board_model.specs.Histories.{IsWhole}
+use Rattle.board_model.specs.Moves.{IsBoardRun}
+use Rattle.board_model.specs.Right.{HasFinished, IsAtOnce, IsRight}
+use Rattle.world_model.specs.Runs.{WorldRun}
+use Rattle.show_laws.specs.Reads.{ReadsStayRight, UpdatesComeFirst}
+use Rattle.hold_laws.specs.Held.{HasHeldThree, IsSettled}
+
+-- The headline of a script and a history, with a field a phrase, in its order. That its report was written is said beside
+-- it, where there is something that is written to.
+pub record HasHeadline (s : ScriptData) (h : List Entry) : Type 0 where
+  -- whatever order the nodes' steps and the letters' arrivals take: each actor went by its table, and letters went as
+  -- letters do
+  pub run : WorldRun s h
+  -- a run that ends: the client has finished, and every tree is whole
+  pub finished : HasFinished h
+  pub whole : (t : ℕ) → t < length s.trees → IsWhole s h t
+  -- the report of its own stored history: its balances are what the nodes hold, and its reads are what the steps gave
+  pub settled : IsSettled s h
+  pub reads : ReadsStayRight s h
+  -- every read tree shows exactly the whole update trees of its version or older
+  pub right : IsRight s h
+  pub updates_first : UpdatesComeFirst s h
+  -- all committed trees are a serial run ordered by version: what is worth is a fold over the serial order, and versions
+  -- and order are tied to the script by the Board and the gates
+  pub board : IsBoardRun s h
+  pub fits : Fits s h
+  -- no item has held more than three versions
+  pub three : HasHeldThree s h
+  -- no read or commuting step has waited for version advancement
+  pub at_once : IsAtOnce s h
