@@ -1,0 +1,4 @@
+pub mod NodeNumbers
+pub mod Raised
+pub mod Deeds
+pub mod BoardRuns
