@@ -160,7 +160,7 @@ answered_in answered t (SettleRow ∷ rows) all some = answered_in answered t ro
 answered_in answered t (LoseRow ∷ rows) all some = answered_in answered t rows all (omega (arith, some))
 
 -- an answered tree is at its last stage
-stage_done : (s : ScriptData) (past : List Entry) (t : ℕ) → 1 ≤ answers past t → TreeAt s past t → (k : ℕ) → SubAt s t k → dids past t k ≡ 1
+pub stage_done : (s : ScriptData) (past : List Entry) (t : ℕ) → 1 ≤ answers past t → TreeAt s past t → (k : ℕ) → SubAt s t k → dids past t k ≡ 1
 stage_done s past t some (Unborn none gone unanswered untold) = absurd (omega arith)
 stage_done s past t some (Gathers h one here same missing unanswered noted) = absurd (omega arith)
 stage_done s past t some (Answered gone one untold done) = done
