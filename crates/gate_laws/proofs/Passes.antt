@@ -1,11 +1,10 @@
 -- The client passes a settle row only when all before it has ended. So for each row that it has submitted, and for the
 -- one that it stands at, all for which the row waits has ended at the client.
-use Rattle.std.proofs.Common.{◌≡◌, ℕ, zero, suc, ◌+◌, ◌-◌, ◌≤◌, ◌<◌, Bool, true, false, List, [], ◌∷◌, ◌++◌, take, drop, refl, sym, ap, subst, ◌∙◌, arith, append_assoc, append-nil, set, inl, inr}
+use Rattle.std.proofs.Common.{◌≡◌, ℕ, zero, suc, ◌+◌, ◌-◌, ◌≤◌, Bool, true, false, List, [], ◌∷◌, ◌++◌, take, drop, refl, sym, ap, subst, ◌∙◌, arith, append_assoc, append-nil, set, inl, inr}
 use Rattle.std.specs.Prelude.{if◌then◌else◌, ◌^◌, min, nat_le}
 use Rattle.std.specs.List.{list_any}
 use Rattle.std.proofs.Math.Seq.{take-add}
 use Rattle.std.proofs.lemmas.Bool.{and_from, and_parts, cases_lt}
-use Rattle.std.proofs.lemmas.List.Folds.{list_any-append}
 use Rattle.letter_types.specs.declared.entries.Entry.{Entry}
 use Rattle.letter_types.specs.declared.entries.Outgoing.{Outgoing}
 use Rattle.tx_trees.specs.Counts.{advances_in}
@@ -13,8 +12,8 @@ use Rattle.tx_trees.specs.ScriptData.{ScriptData}
 use Rattle.tx_trees.specs.declared.parts.ScriptRow.{ScriptRow}
 use Rattle.tx_trees.specs.declared.parts.ScriptRow.TheVariants.{Tree as TreeRow, Advance as AdvanceRow, Settle as SettleRow, Lose as LoseRow}
 use Rattle.board_model.specs.Gates.{awaited, before_settle, is_settle}
-use Rattle.client_rows.specs.Client.{Client, all_answered, have_ended, next_after, nudge, submit, submitted, with_answer, with_end}
-use Rattle.world_model.specs.Runs.{MayFollow, StepRun, client_in}
+use Rattle.client_rows.specs.Client.{Client, all_answered, have_ended, nudge, submit, submitted, with_answer, with_end}
+use Rattle.world_model.specs.Runs.{StepRun, client_in}
 use Rattle.world_model.specs.Timely.{AllTimely}
 use Rattle.world_model.proofs.Flows.{client_kept}
 use Rattle.world_model.proofs.Nexts.{Next, Begins, Hears, Ends, Coordinates, DoesRoot, DoesSub, Notes, Obeys, MadeByClient}
@@ -59,7 +58,7 @@ passed_later c before r rows passed = subst (λ (xs : List ScriptRow). HasPassed
 passed_at_settle : (c : Client) (before rows : List ScriptRow) (j : ℕ) (test : Bool) → have_ended c before ≡ test
     → suc j ≤ (if test then submitted c (before ++ SettleRow ∷ []) rows + 1 else 0)
     → (HasPassed c (before ++ SettleRow ∷ []) → j ≤ submitted c (before ++ SettleRow ∷ []) rows
-        → HasPassed c ((before ++ SettleRow ∷ []) ++ take j rows))
+    → HasPassed c ((before ++ SettleRow ∷ []) ++ take j rows))
     → HasPassed c (before ++ SettleRow ∷ take j rows)
 passed_at_settle c before rows j true is le rest =
     passed_later c before SettleRow (take j rows)

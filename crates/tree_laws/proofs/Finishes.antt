@@ -104,7 +104,7 @@ answered_here answered t u rest true is one later some =
     let same : u ≡ t = grind (arith, nat_tests) in subst (λ (n : ℕ). get_or answered n false ≡ true) same one
 answered_here answered t u rest false is one later some = later (omega arith)
 
-is_true_of : (b : Bool) → 1 ≤ one_if b → b ≡ true
+pub is_true_of : (b : Bool) → 1 ≤ one_if b → b ≡ true
 is_true_of true some = refl
 is_true_of false some = absurd (omega arith)
 
