@@ -6,3 +6,4 @@ pub mod OwnDeeds
 pub mod Shown
 pub mod Waits
 pub mod Sampled
+pub mod Numbers

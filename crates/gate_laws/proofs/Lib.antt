@@ -1,0 +1,5 @@
+pub mod Passes
+pub mod Swept
+pub mod Opens
+pub mod Keeps
+pub mod Fitting
