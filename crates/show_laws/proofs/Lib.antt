@@ -5,3 +5,4 @@ pub mod OwnWorth
 pub mod Before
 pub mod Early
 pub mod RightReads
+pub mod Staying
