@@ -1,12 +1,12 @@
 -- A read tree's version is one that was shown: up to it all update trees are whole, and none comes later.
-use Rattle.std.proofs.Common.{◌≡◌, ◌⊎◌, inl, inr, ℕ, ◌+◌, ◌<◌, ◌≤◌, true, false, List, [], ◌∷◌, ◌++◌, reverse, refl, sym, ap, ◌∙◌, arith, Some, None}
+use Rattle.std.proofs.Common.{◌≡◌, ◌⊎◌, inl, inr, ℕ, ◌<◌, ◌≤◌, true, false, List, [], ◌∷◌, ◌++◌, reverse, refl, sym, ap, ◌∙◌, arith, Some}
 use Rattle.std.specs.Prelude.{slice_get}
 use Rattle.tv_base.specs.declared.numbers.Version.{Version}
 use Rattle.advance_coord.specs.declared.phase.Phase.{Phase}
 use Rattle.advance_coord.specs.declared.phase.Phase.TheVariants.{Idle, Turning, Counting, Paused, Showing, Sweeping}
 use Rattle.letter_types.specs.declared.entries.Entry.{Entry}
-use Rattle.tx_trees.specs.ScriptData.{ScriptData, reads, updates}
-use Rattle.board_model.specs.Histories.{places_at, places_of, version_in, version_of}
+use Rattle.tx_trees.specs.ScriptData.{ScriptData, reads}
+use Rattle.board_model.specs.Histories.{places_at, places_of, version_in}
 use Rattle.world_model.specs.Runs.{StepRun, coordinator_in, node_in}
 use Rattle.world_model.specs.Timely.{AllTimely}
 use Rattle.world_model.proofs.Scripts.{Sound}

@@ -8,7 +8,7 @@ use Rattle.tv_base.proofs.Truths.{left_true}
 use Rattle.item_versions.specs.Table.{Table}
 use Rattle.item_versions.specs.Window.{in_window}
 use Rattle.letter_types.specs.declared.acts.Act.{Act}
-use Rattle.letter_types.specs.declared.acts.Act.TheVariants.{Born, Did, Voted, Finished}
+use Rattle.letter_types.specs.declared.acts.Act.TheVariants.{Did, Voted, Finished}
 use Rattle.letter_types.specs.declared.bodies.Body.{Body}
 use Rattle.letter_types.specs.declared.bodies.Body.TheVariants.{Sub as SubLetter}
 use Rattle.letter_types.specs.declared.entries.Entry.{Entry}
@@ -24,7 +24,7 @@ use Rattle.tx_trees.specs.Valid.{IsOp, OpAt}
 use Rattle.tx_trees.specs.declared.parts.ItemRow.{ItemRow}
 use Rattle.tx_trees.specs.declared.parts.SubOp.{SubOp}
 use Rattle.tx_trees.specs.declared.parts.TreeKind.TheVariants as trees
-use Rattle.board_model.specs.Histories.{places_at, places_of, version_in, version_of}
+use Rattle.board_model.specs.Histories.{version_in, version_of}
 use Rattle.board_model.specs.Right.{shown}
 use Rattle.board_model.specs.Worth.{worth}
 use Rattle.board_laws.proofs.Histories.{places_more}
@@ -32,8 +32,7 @@ use Rattle.board_laws.proofs.OwnDeeds.{Sees, sees_run}
 use Rattle.board_laws.proofs.Seen.{gets_valued, valued}
 use Rattle.board_laws.proofs.Versions.{not_both, root_version, sub_version, taken_version, versioned_run}
 use Rattle.world_model.specs.Runs.{StepRun, client_in, node_in}
-use Rattle.world_model.specs.Timely.{AllTimely, WasTimely}
-use Rattle.world_model.proofs.Lawful.{Lawful}
+use Rattle.world_model.specs.Timely.{AllTimely}
 use Rattle.world_model.proofs.Nexts.{Made, Next, Begins, Hears, Ends, Coordinates, DoesRoot, DoesSub, Notes, Obeys, Order, Turns, Shows, Sweeps, TellsDone, TellsAsked, RootWork, RootUpdates, RootReads, SubWork, SubUpdates, SubReads}
 use Rattle.world_model.proofs.Scripts.{Sound, SubAt, ops_fit, reads_kind}
 use Rattle.tree_laws.proofs.Goods.{good_run, next_of}
@@ -203,9 +202,11 @@ entry_by s past e sound run timely (DoesSub t k v raises effect is c later from 
     let near : is_timely s (node_in s past p) (SubLetter t k v) ≡ true = timely_at s past e p (SubLetter t k v) timely.0 at lt is in
     let low = low_of (node_in s past p).turns.low.0 v.0 near in
     acts_read s past e _ made.acts
-    (all_append (ReadsAt s past e) (turned_if raises v.0) (Did t k effect.values ∷ []) (turned_reads s past e v.0 raises)
-    (sub_reads s past e t.0 k.0 e.took.from.0 v raises effect c sound run timely
-    (DoesSub t k v raises effect is c later from at lt work made) lt old version low work made, tt)) where
+    (all_append (ReadsAt s past e) (turned_if raises v.0) (Did t k effect.values ∷ []) (turned_reads s past e v.0 raises) (
+      sub_reads s past e t.0 k.0 e.took.from.0 v raises effect c sound run timely
+          (DoesSub t k v raises effect is c later from at lt work made) lt old version low work made,
+      tt,
+    )) where
       low_of : (low v : ℕ) → in_window low v ≡ true → low ≤ v
       low_of low v is = let one : nat_le low v ≡ true = left_true (nat_le low v) (nat_le v (low + 2)) is in grind (arith, nat_tests)
 entry_by s past e sound run timely (Notes t k v values is c later from at lt misses made) = acts_read s past e [] made.acts tt

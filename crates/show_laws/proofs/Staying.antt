@@ -1,6 +1,6 @@
 -- Every read is right, all update trees of its version and older ones were whole before, and it stays right.
-use Rattle.std.proofs.Common.{◌≡◌, ◌⊎◌, inl, inr, ℕ, ◌+◌, ◌<◌, ◌≤◌, ◌==◌, ◌&&◌, Bool, true, false, List, [], ◌∷◌, ◌++◌, reverse, refl, sym, ap, subst, ◌∙◌, arith, Option, Some, None}
-use Rattle.std.specs.Prelude.{fold, nat_le, slice_get, take, IsTrue}
+use Rattle.std.proofs.Common.{◌≡◌, ℕ, ◌+◌, ◌<◌, ◌≤◌, ◌==◌, ◌&&◌, Bool, true, false, List, [], ◌∷◌, ◌++◌, reverse, refl, sym, ap, subst, ◌∙◌, arith, Option, Some, None}
+use Rattle.std.specs.Prelude.{nat_le, take}
 use Rattle.std.specs.List.{AllByRecursion}
 use Rattle.std.proofs.lemmas.Bool.Decides.{nat_tests}
 use Rattle.tv_base.specs.declared.numbers.Version.{Version}
@@ -8,27 +8,25 @@ use Rattle.commute_ops.specs.declared.value.Value.{Value}
 use Rattle.letter_types.specs.declared.acts.Act.{Act}
 use Rattle.letter_types.specs.declared.acts.Act.TheVariants.{Did, Voted, Finished}
 use Rattle.letter_types.specs.declared.entries.Entry.{Entry}
-use Rattle.tree_home.specs.Homes.{Gets}
 use Rattle.tx_trees.specs.ScriptData.{ScriptData, ops_of, updates}
 use Rattle.tx_trees.specs.Valid.{IsValid}
 use Rattle.tx_trees.specs.declared.parts.SubOp.{SubOp}
-use Rattle.board_model.specs.Histories.{IsWhole, version_of}
-use Rattle.board_model.specs.Right.{IsRight, IsRightAct, IsShown, shown}
+use Rattle.board_model.specs.Histories.{version_of}
+use Rattle.board_model.specs.Right.{IsRight, IsRightAct, IsShown}
 use Rattle.board_model.specs.Serial.{is_in, serial_to}
 use Rattle.board_model.specs.Worth.{worth}
 use Rattle.board_model.proofs.AnyOrder.{worth_of_trees}
 use Rattle.board_model.proofs.Closings.{AreApart}
 use Rattle.board_model.proofs.SerialOrder.{serial_to_apart}
-use Rattle.board_laws.specs.OwnValues.{is_up_to, updates_to}
+use Rattle.board_laws.specs.OwnValues.{is_up_to}
 use Rattle.board_laws.proofs.Seen.{valued}
 use Rattle.world_model.specs.Counts.{one_if}
 use Rattle.world_model.specs.Runs.{StepRun}
 use Rattle.world_model.specs.Tables.{Runnable}
-use Rattle.world_model.specs.Timely.{AllTimely}
 use Rattle.world_model.proofs.Scripts.{Sound}
 use Rattle.tree_laws.proofs.Nudges.{lawful}
 use Rattle.tree_laws.proofs.Whole.{none_strict}
-use Rattle.run_laws.specs.Shown.{NoUpdateCame, UpdatesAreWhole}
+use Rattle.run_laws.specs.Shown.{NoUpdateCame}
 use Rattle.run_laws.proofs.Closed.{rises, rises_on, run_before, timely_before}
 use Rattle.run_laws.proofs.InTime.{in_time}
 use Rattle.run_laws.proofs.Reached.{now_below}
@@ -37,7 +35,7 @@ use Rattle.show_laws.proofs.Before.{Stands, stands, version_kept}
 use Rattle.show_laws.proofs.Counted.{numbers_equal, permutes, times}
 use Rattle.show_laws.proofs.Early.{none_comes, whole_to}
 use Rattle.show_laws.proofs.OwnWorth.{stands_exactly}
-use Rattle.show_laws.proofs.RightReads.{ReadAt, ReadsAt, entry_reads, shown_valued}
+use Rattle.show_laws.proofs.RightReads.{ReadsAt, entry_reads, shown_valued}
 
 -- what follows for each of a list
 acts_map : (P Q : Act → Type 0) (acts : List Act) → ((a : Act) → P a → Q a) → AllByRecursion P acts → AllByRecursion Q acts
