@@ -1,0 +1,4 @@
+pub mod Counted
+pub mod Placed
+pub mod Folded
+pub mod OwnWorth
