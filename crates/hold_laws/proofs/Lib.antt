@@ -1,0 +1,4 @@
+pub mod Few
+pub mod Keeping
+pub mod Kept
+pub mod Written
