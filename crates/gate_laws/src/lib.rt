@@ -1,8 +1,9 @@
 //! The law of gates: every run keeps to the rows of its script.
 #![tactic(auto)]
 
-ghost use Rattle.std.specs.Prelude.{List, reverse};
-ghost use Rattle.board_model.specs.Gates.{Fits};
+ghost use Rattle.std.specs.Prelude.{◌++◌, ℕ, List, reverse};
+ghost use Rattle.board_model.specs.Gates.{Fits, IsOpen};
+ghost use Rattle.board_model.specs.Histories.{Place};
 ghost use Rattle.letter_types.specs.declared.entries.Entry.{Entry};
 ghost use Rattle.tx_trees.specs.ScriptData.{ScriptData};
 ghost use Rattle.tx_trees.specs.Valid.{IsValid};
@@ -15,4 +16,9 @@ ghost use Rattle.world_model.specs.Tables.{Runnable};
 /// every node has collected to the version of each advancement there.
 pub fn every_run_keeps_to_its_rows()
     ensures { (s : ScriptData) (past : List Entry) → IsValid s → Runnable s → StepRun s past → Fits s (reverse past) }
+{}
+
+/// A gate that is open stays open, whatever comes.
+pub fn open_gates_stay_open()
+    ensures { (s : ScriptData) (xs ys : List Place) (i : ℕ) → IsOpen s xs i → IsOpen s (xs ++ ys) i }
 {}
