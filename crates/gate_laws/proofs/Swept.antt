@@ -39,18 +39,15 @@ use Rattle.phase_laws.proofs.Levels.{levels}
 use Rattle.phase_laws.proofs.Tokens.{phase_for}
 use Rattle.board_laws.proofs.Histories.{places_more}
 use Rattle.board_laws.proofs.Versions.{placed}
+use Rattle.gate_laws.proofs.Stays.{any_more}
 
 -- What was collected, with more acts.
-or_left : (a b : Bool) → a ≡ true → (a || b) ≡ true
-or_left a b is = rw is refl
-
 or_right : (a b : Bool) → b ≡ true → (a || b) ≡ true
 or_right true b is = refl
 or_right false b is = is
 
-pub swept_more : (p v : ℕ) (xs ys : List Place) → was_swept p v xs ≡ true → was_swept p v (xs ++ ys) ≡ true
-swept_more p v xs ys is =
-    list_any-append (λ (x : Place). (x.node == p) && sweeps_to v x.act) xs ys ∙ or_left (was_swept p v xs) (was_swept p v ys) is
+swept_more : (p v : ℕ) (xs ys : List Place) → was_swept p v xs ≡ true → was_swept p v (xs ++ ys) ≡ true
+swept_more p v xs ys is = any_more (λ (x : Place). (x.node == p) && sweeps_to v x.act) xs ys is
 
 swept_last : (p v : ℕ) (xs ys : List Place) → was_swept p v ys ≡ true → was_swept p v (xs ++ ys) ≡ true
 swept_last p v xs ys is =

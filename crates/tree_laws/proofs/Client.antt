@@ -170,7 +170,7 @@ answer_over s c t over =
     }
 
 -- one more advancement that has ended
-pub end_small : (c : Client) → (with_end c).ended ≤ 2 ^ 64 - 1
+end_small : (c : Client) → (with_end c).ended ≤ 2 ^ 64 - 1
 end_small c = omega arith
 
 pub end_grows : (n k : ℕ) → k ≤ 2 ^ 64 - 1 → nat_le n k ≡ true → nat_le n (min (k + 1) (2 ^ 64 - 1)) ≡ true
