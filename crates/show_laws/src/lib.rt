@@ -13,7 +13,8 @@ ghost use Rattle.world_model.specs.Tables.{Runnable};
 /// In every run of a valid script of update and read trees, with advancements too, each read shows what its items are
 /// worth at its tree's version in the history up to there.
 pub fn every_read_is_right()
-    ensures { (s : ScriptData) (past : List Entry) → IsValid s → Runnable s → StepRun s past → IsRight s (reverse past) }
+    ensures { (s : ScriptData) (past : List Entry) → IsValid s → Runnable s → StepRun s past
+        → IsRight s (reverse past) }
 {}
 
 /// Before any step of a read tree of version v, each update tree that the whole history gives a version of at most v is
