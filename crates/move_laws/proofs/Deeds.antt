@@ -1,8 +1,7 @@
 -- A tree is born at its home, once, and in its home's version; a subtransaction is done at its node, once, and after its
 -- parent.
-use Rattle.std.proofs.Common.{◌≡◌, ℕ, ◌<◌, ◌==◌, ◌||◌, Bool, true, false, List, [], ◌∷◌, ◌++◌, reverse, refl, sym, ap, subst, ◌∙◌, arith, Option, Some, None}
+use Rattle.std.proofs.Common.{◌≡◌, ℕ, ◌<◌, ◌==◌, ◌||◌, Bool, true, false, List, [], ◌∷◌, ◌++◌, reverse, refl, sym, ap, subst, ◌∙◌, arith, Option}
 use Rattle.std.specs.Prelude.{is_some}
-use Rattle.std.proofs.lemmas.Bool.Decides.{nat_tests}
 use Rattle.tv_base.specs.declared.numbers.SubNo.{SubNo}
 use Rattle.tv_base.specs.declared.numbers.TreeNo.{TreeNo}
 use Rattle.tv_base.specs.declared.numbers.Version.{Version}
@@ -10,11 +9,11 @@ use Rattle.letter_types.specs.declared.acts.Act.TheVariants.{Born}
 use Rattle.letter_types.specs.declared.bodies.Body.TheVariants.{Root, Sub as SubLetter}
 use Rattle.letter_types.specs.declared.entries.Entry.{Entry}
 use Rattle.tree_step.specs.Node.{Effect, Node}
-use Rattle.tx_trees.specs.ScriptData.{ScriptData, home_of, node_of, reads, updates}
+use Rattle.tx_trees.specs.ScriptData.{ScriptData, home_of, node_of, updates}
 use Rattle.tx_trees.specs.declared.parts.Sub.{Sub}
 use Rattle.board_model.specs.Histories.{Place, does, is_strict_tree, places_of, version_in, was_done}
 use Rattle.board_model.specs.Moves.{IsAsked, IsAskedBy, IsBirth, IsDeed}
-use Rattle.board_model.proofs.Places.{version_in-append, was_done-append}
+use Rattle.board_model.proofs.Places.{was_done-append}
 use Rattle.world_model.specs.Counts.{tally}
 use Rattle.world_model.specs.Runs.{node_in}
 use Rattle.world_model.proofs.Nexts.{RootWork, RootUpdates, RootReads, SubWork, SubUpdates, SubReads}
@@ -24,21 +23,11 @@ use Rattle.tree_laws.proofs.Acts.{any_counted, of_act}
 use Rattle.tree_laws.proofs.Counts.{not_done, one_here, was_asked}
 use Rattle.tree_laws.proofs.Good.{Good}
 use Rattle.tree_laws.proofs.Whole.{births_in, did_marks, dids_in, none_strict, was_done_of}
-use Rattle.board_laws.proofs.Versions.{AreVersioned, not_both, taken_version, unborn, version_stays}
+use Rattle.board_laws.proofs.Versions.{AreVersioned, born_by, born_here, not_both, taken_version, unborn, version_stays}
+use Rattle.run_laws.proofs.Wholes.{root_turn}
 use Rattle.move_laws.proofs.Raised.{Stand}
 
 -- Births.
--- the version that a birth takes
-root_update : (s : ScriptData) (t : ℕ) (st : Node) (v : Version) (effect : Effect) → SubAt s t 0 → RootWork s t st v effect
-    → updates s t ≡ true → v.0 ≡ st.turns.update.0
-root_update s t st v effect c (RootUpdates up is can made) of = ap (λ (w : Version). w.0) is
-root_update s t st v effect c (RootReads read is can made) of = absurd (not_both s t 0 c of read)
-
-root_read : (s : ScriptData) (t : ℕ) (st : Node) (v : Version) (effect : Effect) → SubAt s t 0 → RootWork s t st v effect
-    → reads s t ≡ true → v.0 ≡ st.turns.read.0
-root_read s t st v effect c (RootUpdates up is can made) of = absurd (not_both s t 0 c up of)
-root_read s t st v effect c (RootReads read is can made) of = ap (λ (w : Version). w.0) is
-
 -- a letter that asks for what isn't done yet
 none_done : (s : ScriptData) (past : List Entry) (e : Entry) (t k : ℕ) → SubAt s t k → Good s past → Stand s past e
     → asks t k e.took.body ≡ 1 → dids past t k ≡ 0
@@ -55,8 +44,8 @@ birth_is s past e t v effect c good stand is at lt work =
     subst (λ (q : ℕ). IsBirth s (places_of (reverse past)) q t.0 v.0) (sym at) (record {
       unborn = unborn t.0 (places_of (reverse past)) (omega (arith, births_in past t.0, good.born t.0, none));
       home = (lt, refl);
-      update = λ up. root_update s t.0 st v effect c work up ∙ sym numbers.update;
-      read = λ read. root_read s t.0 st v effect c work read ∙ sym numbers.read;
+      update = λ up. root_turn s t.0 t.0 st v effect c refl work false up ∙ sym numbers.update;
+      read = λ read. root_turn s t.0 t.0 st v effect c refl work true read ∙ sym numbers.read;
       strict = λ strict. absurd (let not : is_strict_tree s t.0 ≡ false = none_strict s t.0 stand.sound in cc (not, strict));
     })
 
@@ -81,9 +70,6 @@ done_more t k xs ys old = was_done-append t k xs ys ∙ rw old refl
 born_more : (t : ℕ) (xs ys : List Place) → is_some (version_in t xs) ≡ true → is_some (version_in t (xs ++ ys)) ≡ true
 born_more t xs ys is = ap (λ (o : Option Version). is_some o) (version_stays t xs ys is) ∙ is
 
-some_is : (found : Option Version) (v : Version) → found ≡ Some v → is_some found ≡ true
-some_is found v is = rw is refl
-
 -- an update shows nothing
 root_values : (s : ScriptData) (t : ℕ) (st : Node) (v : Version) (effect : Effect) → SubAt s t 0 → RootWork s t st v effect
     → updates s t ≡ true → effect.values ≡ []
@@ -96,12 +82,6 @@ sub_values s t k st v raises effect c (SubUpdates up is can made) of = ap (λ (x
 sub_values s t k st v raises effect c (SubReads read is can made) of = absurd (not_both s t k c of read)
 
 -- a root, after its tree's birth
-born_here : (t : TreeNo) (v : Version) (node : ℕ) (xs : List Place) → version_in t.0 xs ≡ None
-    → version_in t.0 (xs ++ record { node = node; act = Born t v } ∷ []) ≡ Some v
-born_here t v node xs none =
-    let itself : (t.0 == t.0) ≡ true = grind (arith, nat_tests) in
-    version_in-append t.0 xs (record { node = node; act = Born t v } ∷ []) ∙ rw none (rw itself refl)
-
 root_asked : (s : ScriptData) (t : ℕ) (had : ℕ → Bool) → SubAt s t 0 → IsAsked s had t 0
 root_asked s t had c = subst (λ (found : Option Sub). IsAskedBy had 0 found) (sym (sub_here s t 0 c)) refl
 
@@ -115,7 +95,7 @@ root_deed s past e t v effect c good stand is at lt work =
     let none = none_done s past e t.0 0 c good stand (ap (asks t.0 0) is ∙ one_here t.0 0) in
     let old = unborn t.0 xs (omega (arith, births_in past t.0, good.born t.0, none)) in
     record {
-      born = some_is (version_in t.0 (xs ++ born ∷ [])) v (born_here t v e.actor.0 xs old);
+      born = born_by (version_in t.0 (xs ++ born ∷ [])) v (born_here t v e.actor.0 xs [] old);
       asked = root_asked s t.0 (λ (j : ℕ). was_done t.0 j (xs ++ born ∷ [])) c;
       once = undone_more t.0 0 xs born (undone past t.0 0 none) refl;
       node = (omega (arith, at, lt), sym at);
@@ -146,7 +126,7 @@ sub_deed s past e t k v raises effect ys c later good are stand is at lt work no
     was_done_of t.0 parent xs (omega (arith, dids_in past t.0 parent, good.subs t.0 k.0 c later, some)) in
     let version = taken_version s past e t k v are stand.follows is in
     record {
-      born = born_more t.0 xs ys (some_is (version_in t.0 xs) v version);
+      born = born_more t.0 xs ys (born_by (version_in t.0 xs) v version);
       asked = sub_asked s t.0 k.0 (λ (j : ℕ). was_done t.0 j (xs ++ ys)) c (done_more t.0 parent xs ys done);
       once = was_done-append t.0 k.0 xs ys ∙ rw (undone past t.0 k.0 none) none_new;
       node = (omega (arith, at, lt), sym at);

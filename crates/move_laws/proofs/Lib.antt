@@ -2,3 +2,5 @@ pub mod NodeNumbers
 pub mod Raised
 pub mod Deeds
 pub mod BoardRuns
+pub mod WideRuns
+pub mod Sampled

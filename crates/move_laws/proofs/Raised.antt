@@ -1,7 +1,8 @@
 -- A node raises its numbers one by one, each where the phase allows it.
-use Rattle.std.proofs.Common.{◌≡◌, ℕ, ◌+◌, ◌<◌, ◌≤◌, ◌==◌, ◌||◌, Bool, true, false, List, reverse, refl, sym, ap, subst, ◌∙◌, arith}
+use Rattle.std.proofs.Common.{◌≡◌, ℕ, ◌+◌, ◌<◌, ◌≤◌, ◌||◌, Bool, true, false, List, reverse, refl, sym, ap, subst, ◌∙◌, arith}
 use Rattle.std.specs.Prelude.{nat_lt}
 use Rattle.std.proofs.lemmas.Bool.Decides.{nat_tests}
+use Rattle.tv_base.proofs.Truths.{same_test}
 use Rattle.tv_base.specs.declared.numbers.Version.{Version}
 use Rattle.letter_types.specs.declared.bodies.Body.{Body}
 use Rattle.letter_types.specs.declared.bodies.Body.TheVariants.{Sub as SubLetter, Turn, Show, Sweep}
@@ -58,9 +59,6 @@ told_here g s past e b p m at is one =
     let here : tell g p e.took.to.0 e.took.body ≡ 1 =
     ap (λ (q : ℕ). tell g p q e.took.body) to ∙ ap (tell g p p) is ∙ one in
     omega (arith, here, tally-drop (λ (l : Letter). tell g p l.to.0 l.body) e.took.id (waiting s past) e.took m.waits)
-
-to_itself : (p : ℕ) → one_if (p == p) ≡ 1
-to_itself p = grind (arith, nat_tests)
 
 taken_level : (s : ScriptData) (past : List Entry) (e : Entry) (b : Body) → Stand s past e → e.took.body ≡ b
     → LevelBody s (coordinator_in s past).phase (coordinator_in s past).update b
@@ -134,7 +132,7 @@ shows_next s past e p v stand at lt is =
     let showing = phase_for s past e (Show v) (lawful s stand.sound) stand.run stand.timely stand.follows is in
     let version : v.0 ≡ c.update = taken_level s past e (Show v) stand is in
     let here : LevelIn Showing s past p = level_in Showing s past p showing (stand.levels.node p lt) in
-    let one = told_here ShowStage s past e (Show v) p stand.follows at is (to_itself p) in
+    let one = told_here ShowStage s past e (Show v) p stand.follows at is (ap one_if (same_test p)) in
     let whole = backed_by s past e (Show v) stand is in
     subst (λ (q : ℕ). IsShowing s (places_of (reverse past)) q v.0) (sym at) (record {
       node = lt;
@@ -153,7 +151,7 @@ sweeps_next s past e p v stand at lt is =
     let sweeping = phase_for s past e (Sweep v) (lawful s stand.sound) stand.run stand.timely stand.follows is in
     let version : v.0 ≡ c.update = taken_level s past e (Sweep v) stand is in
     let here : LevelIn Sweeping s past p = level_in Sweeping s past p sweeping (stand.levels.node p lt) in
-    let one = told_here SweepStage s past e (Sweep v) p stand.follows at is (to_itself p) in
+    let one = told_here SweepStage s past e (Sweep v) p stand.follows at is (ap one_if (same_test p)) in
     let whole = backed_by s past e (Sweep v) stand is in
     subst (λ (q : ℕ). IsSweeping s (places_of (reverse past)) q v.0) (sym at) (record {
       node = lt;

@@ -2,5 +2,7 @@
 #![tactic(auto)]
 
 mod board;
+mod window;
 
 pub use board::every_run_is_a_board_run;
+pub use window::the_window_refuses_nothing;
