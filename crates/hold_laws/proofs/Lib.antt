@@ -1,4 +1,6 @@
+pub mod AtEnd
 pub mod Few
 pub mod Keeping
 pub mod Kept
+pub mod Settled
 pub mod Written
