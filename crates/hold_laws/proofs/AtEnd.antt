@@ -24,6 +24,7 @@ use Rattle.world_model.specs.Tables.{is_run}
 use Rattle.world_model.proofs.Scripts.{Sound, SubAt, ops_here}
 use Rattle.tree_laws.specs.Dids.{dids, is_did}
 use Rattle.tree_laws.proofs.Acts.{of_act}
+use Rattle.tree_laws.proofs.Counts.{zero_or}
 use Rattle.tree_laws.proofs.Whole.{dids_in}
 use Rattle.hold_laws.proofs.Written.{act_writes, some_write, written}
 
@@ -146,16 +147,12 @@ act_here s xs x w t k (Did u j values) up version change some =
 act_here s xs x w t k Finished up version change some = absurd (omega (arith, some))
 act_here s xs x w t k _ up version change some = absurd (omega (arith, some))
 
-zero_or_one : (n : ℕ) → (n ≡ 0) ⊎ (1 ≤ n)
-zero_or_one zero = inl refl
-zero_or_one (suc n) = inr (omega arith)
-
 some_here : (s : ScriptData) (xs : List Place) (x w t k : ℕ) (zs : List Place) → updates s t ≡ true
     → is_version w (version_in t xs) ≡ true → ops_change x (ops_of s t k) ≡ true
     → 1 ≤ tally (of_act (is_did t k)) zs → some_write s xs x w zs ≡ true
 some_here s xs x w t k [] up version change some = absurd (omega arith)
 some_here s xs x w t k (z ∷ zs) up version change some =
-    elim (zero_or_one (is_did t k z.act)) [
+    elim (zero_or (is_did t k z.act)) [
       | inl none ↦
           or_right (act_writes s xs x w z.act) (some_write s xs x w zs)
           (some_here s xs x w t k zs up version change (omega (arith, some, none)))

@@ -2,9 +2,9 @@
 -- are those in which one of its own Dids changes the item.
 use Rattle.std.proofs.Common.{◌≡◌, ◌≢◌, ◌⊎◌, inl, inr, ℕ, ◌+◌, ◌<◌, ◌≤◌, ◌==◌, ◌&&◌, ◌||◌, Bool, true, false, List, [], ◌∷◌, ◌++◌, reverse, refl, sym, ap, subst, ◌∙◌, arith, Some}
 use Rattle.std.specs.Prelude.{if◌then◌else◌, nat_le, nat_lt, slice_get}
+use Rattle.std.proofs.Math.Bool.{or_comm}
 use Rattle.std.proofs.lemmas.Bool.{cases_eq}
 use Rattle.std.proofs.lemmas.Bool.Decides.{nat_tests}
-use Rattle.tv_base.proofs.Truths.{left_true, right_true}
 use Rattle.tv_base.specs.declared.numbers.SubNo.{SubNo}
 use Rattle.tv_base.specs.declared.numbers.TreeNo.{TreeNo}
 use Rattle.tv_base.specs.declared.numbers.Version.{Version}
@@ -54,9 +54,6 @@ pub record Keeps (s : ScriptData) (past : List Entry) (p : ℕ) (st : Node) : Ty
 or_false : (a b : Bool) → b ≡ false → a ≡ (a || b)
 or_false true b is = refl
 or_false false b is = sym is
-
-turned_or : (a b : Bool) → (a || b) ≡ (b || a)
-turned_or a b = grind (arith, nat_tests)
 
 -- one entry more, after which the node is as said
 step : (s : ScriptData) (past : List Entry) (e : Entry) (p : ℕ) (st : Node) → AreVersioned s past
@@ -114,7 +111,7 @@ held_more : (s : ScriptData) (past : List Entry) (e : Entry) (p : ℕ) (st : Nod
 held_more s past e p st t k v x w r values up version acts new is old =
     let here : some_write s (with_entry past e) x w (places_at e) ≡ (v.0 == w && ops_change x (ops_of s t.0 k.0)) =
     acts ∙ did_writes s (with_entry past e) x w t k v values up version in
-    is ∙ turned_or (v.0 == w && ops_change x (ops_of s t.0 k.0)) (holds_in (record { 0 = w }) (record { 0 = x }) st.items) ∙ rw (old, here) refl
+    is ∙ or_comm (v.0 == w && ops_change x (ops_of s t.0 k.0)) (holds_in (record { 0 = w }) (record { 0 = x }) st.items) ∙ rw (old, here) refl
 
 root_keeps_by : (s : ScriptData) (past : List Entry) (e : Entry) (t : TreeNo) (v : Version) (effect : Effect) → SubAt s t.0 0
     → AreVersioned s past → version_in t.0 (with_entry past e) ≡ Some v

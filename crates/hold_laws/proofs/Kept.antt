@@ -23,6 +23,7 @@ use Rattle.update_step.specs.Rows.{after_deed, after_ops, can_touch, may_make}
 use Rattle.version_collect.specs.Collecting.{collected_all}
 use Rattle.board_model.specs.Worth.{changes, ops_change}
 use Rattle.tree_laws.proofs.Tables.{replaced_other, replaced_same}
+use Rattle.board_laws.proofs.Seen.{same_item}
 
 -- the versions held ascend, the first is low, and none is above up
 pub record IsKept (low up : ℕ) (h : Held) : Type 0 where
@@ -76,9 +77,6 @@ holds_of w (Some h) = holds w h
 
 abbrev pub holds_in : Version → ItemNo → Table → Bool
 holds_in w x items = holds_of w (item_in x items)
-
-same_item : (n x : ItemNo) (items : Table) → n.0 ≡ x.0 → item_in n items ≡ item_in x items
-same_item n x items is = ap (λ (k : ℕ). item_in (record { 0 = k }) items) is
 
 put_holds : (w v : Version) (n x : ItemNo) (op : Op) (items : Table) (h : Held) → item_in n items ≡ Some h → may_touch v op h ≡ true
     → (test : Bool) → (n.0 == x.0) ≡ test

@@ -2,7 +2,7 @@
 -- next one where that is written.
 use Rattle.std.proofs.Common.{◌≡◌, ◌≢◌, ℕ, ◌+◌, ◌<◌, ◌≤◌, ◌==◌, ◌&&◌, ◌||◌, Bool, true, false, List, [], ◌∷◌, length, reverse, take, refl, sym, ap, subst, ◌∙◌, arith, Option, Some, None}
 use Rattle.std.specs.Prelude.{if◌then◌else◌, nat_le, slice_get}
-use Rattle.std.proofs.lemmas.Bool.{and_parts}
+use Rattle.std.proofs.lemmas.Bool.{and_parts, leb-true}
 use Rattle.std.proofs.lemmas.Bool.Decides.{nat_tests}
 use Rattle.tv_base.specs.declared.numbers.Version.{Version}
 use Rattle.commute_ops.specs.declared.value.Value.{Value}
@@ -44,31 +44,33 @@ use Rattle.hold_laws.proofs.Kept.{IsKept, holds_of}
 use Rattle.hold_laws.proofs.Written.{written}
 
 -- What is held of an item from version a to at most the next one.
+
+-- a version with its value, by its number
+version_is : (x : Version × Value) (n : ℕ) (v : Value) → x.0.0 ≡ n → x.1 ≡ v → x ≡ (record { 0 = n }, v)
+version_is x n v number value = λ i. (record { 0 = number i }, value i)
+
 two_held : (a : ℕ) (va vb : Value) (h : Held) (test : Bool) → IsKept a (a + 1) h → holds (record { 0 = a + 1 }) h ≡ test
     → seen (record { 0 = a }) h ≡ Some va → seen (record { 0 = a + 1 }) h ≡ Some vb
     → h ≡ (record { 0 = a }, va) ∷ (if test then (record { 0 = a + 1 }, vb) ∷ [] else [])
 two_held a va vb [] test kept is now next = absurd kept.order
 two_held a va vb (x ∷ []) test kept is now next =
     let first : x.0.0 ≡ a = kept.least.1 in
-    let value : x.1 ≡ va = cc now in
+    let one : x ≡ (record { 0 = a }, va) = version_is x a va first (cc now) in
     let none : (x.0.0 == a + 1 || false) ≡ false = grind (arith, nat_tests) in
     let no : test ≡ false = sym is ∙ none in
-    rw no (ap (λ (m : ℕ). (record { 0 = m }, x.1) ∷ []) first ∙ ap (λ (u : Value). (record { 0 = a }, u) ∷ []) value)
+    rw no (ap (λ (z : Version × Value). z ∷ []) one)
 two_held a va vb (x ∷ y ∷ []) test kept is now next =
     let first : x.0.0 ≡ a = kept.least.1 in
     let second : y.0.0 ≡ a + 1 = omega (arith, kept.order.0, kept.most.1.0, first) in
     let later : nat_le y.0.0 a ≡ false = grind (arith, nat_tests) in
     let there : nat_le y.0.0 (a + 1) ≡ true = grind (arith, nat_tests) in
-    let value : x.1 ≡ va = let at : Some x.1 ≡ Some va = rw later at now in cc at in
-    let value' : y.1 ≡ vb = let at : Some y.1 ≡ Some vb = rw there at next in cc at in
-    let held : (x.0.0 == a + 1 || (y.0.0 == a + 1 || false)) ≡ true = grind (arith, nat_tests) in
-    let yes' : test ≡ true = sym is ∙ held in
-    rw yes' (
-    ap (λ (m : ℕ). (record { 0 = m }, x.1) ∷ y ∷ []) first
-    ∙ ap (λ (u : Value). (record { 0 = a }, u) ∷ y ∷ []) value
-    ∙ ap (λ (m : ℕ). (record { 0 = a }, va) ∷ (record { 0 = m }, y.1) ∷ []) second
-    ∙ ap (λ (u : Value). (record { 0 = a }, va) ∷ (record { 0 = a + 1 }, u) ∷ []) value'
-    )
+    let old : Some x.1 ≡ Some va = rw later at now in
+    let new : Some y.1 ≡ Some vb = rw there at next in
+    let one : x ≡ (record { 0 = a }, va) = version_is x a va first (cc old) in
+    let two : y ≡ (record { 0 = a + 1 }, vb) = version_is y (a + 1) vb second (cc new) in
+    let both : (x.0.0 == a + 1 || (y.0.0 == a + 1 || false)) ≡ true = grind (arith, nat_tests) in
+    let held : test ≡ true = sym is ∙ both in
+    rw held (λ i. one i ∷ two i ∷ [])
 two_held a va vb (x ∷ y ∷ z ∷ zs) test kept is now next =
     absurd (omega (arith, kept.least.1, kept.order.0, kept.order.1.0, kept.most.1.1.0))
 
@@ -95,9 +97,6 @@ stands_by s u phase turns idle is in_phase =
       update = omega (arith, is, now.update_from, now.update_to);
     }
 
-at_most : (n k : ℕ) → nat_le n k ≡ true → n ≤ k
-at_most n k is = grind (arith, nat_tests)
-
 stands : (s : ScriptData) (past : List Entry) (p : ℕ) → Sound s → StepRun s past → AllTimely s past → (client_in s past).finished ≡ true
     → p < s.nodes → Stands s (node_in s past p).turns
 stands s past p sound run timely finished lt =
@@ -107,7 +106,7 @@ stands s past p sound run timely finished lt =
     let parts = and_parts (all_answered (client_in s past).answered s.rows) (nat_le (advances_in s.rows) (client_in s past).ended) over.ended in
     let numbers = small s past laws run timely in
     let most = asked_most (client_in s past).next s.rows in
-    let ended = at_most (advances_in s.rows) (client_in s past).ended parts.1 in
+    let ended = leb-true (advances_in s.rows) (client_in s past).ended parts.1 in
     let update : c.update ≡ advances_in s.rows + 1 = omega (arith, numbers.asked, numbers.ended, most, ended) in
     let none : running c.phase ≡ 0 = omega (arith, numbers.asked, numbers.ended, most, ended) in
     stands_by s c.update c.phase (node_in s past p).turns (idle_of c.phase none) update (versions_in_phase s past laws run timely p lt)
