@@ -18,7 +18,7 @@ places_more e past =
     ∙ ap (λ (xs : List Place). places_of (reverse past) ++ xs) (append-nil (places_at e))
 
 -- up to an earlier entry
-earlier : (e : Entry) (past : List Entry) (n : ℕ) → n ≤ length (reverse past)
+pub earlier : (e : Entry) (past : List Entry) (n : ℕ) → n ≤ length (reverse past)
     → take n (reverse past) ≡ take n (reverse (e ∷ past))
 earlier e past n le = rw (reverse_more e past) (sym (take-append-le n (reverse past) (e ∷ []) le))
 

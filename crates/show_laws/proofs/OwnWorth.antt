@@ -24,7 +24,7 @@ use Rattle.world_model.specs.Runs.{StepRun}
 use Rattle.world_model.specs.Timely.{AllTimely}
 use Rattle.world_model.proofs.Bags.{tally-append}
 use Rattle.world_model.proofs.Every.{each_map, each_none}
-use Rattle.world_model.proofs.Scripts.{Sound, SubAt, sub_below, sub_there}
+use Rattle.world_model.proofs.Scripts.{Sound, SubAt, has_root, sub_below, sub_there}
 use Rattle.tree_laws.specs.Dids.{is_did}
 use Rattle.tree_laws.proofs.Acts.{any_counted, of_act}
 use Rattle.tree_laws.proofs.Counts.{at_most_once}
@@ -187,28 +187,38 @@ whole_was_done s h t k sound whole lt =
     let all : all_done t (length (subs_at s t)) xs ≡ true = grind (arith, commuting, through) in
     done_of t (length (subs_at s t)) k xs lt all
 
+stands_by : (s : ScriptData) (h : List Entry) (v t : ℕ) → Sound s → UpdatesAreWhole s h v → (b : Bool) → updates_to s h v t ≡ b
+    → (c : Bool) → is_in t (serial_to s h v) ≡ c → c ≡ b
+stands_by s h v t sound whole true is c at =
+    let up : updates s t ≡ true = left_true (updates s t) (is_up_to v (version_of h t)) is in
+    let to : is_up_to v (version_of h t) ≡ true = right_true (updates s t) (is_up_to v (version_of h t)) is in
+    let w = version_to v (version_of h t) to in
+    let root = has_root s t sound (update_there s t (slice_get s.trees t) refl up) in
+    sym at ∙ whole_stands s h v t (none_strict s t sound) (sub_below s t 0 root) up (whole t w.0 up w.1 w.2) to
+stands_by s h v t sound whole false is false at = refl
+stands_by s h v t sound whole false is true at =
+    let up : updates s t ≡ true = (stands_whole s h v t (none_strict s t sound) at).0 in
+    let to = stands_up_to s h v t at in
+    let both : updates_to s h v t ≡ true = rw up to in
+    sym both ∙ is
+
+-- the serial order has just the update trees of version at most v
+pub stands_exactly : (s : ScriptData) (h : List Entry) (v t : ℕ) → Sound s → UpdatesAreWhole s h v
+    → is_in t (serial_to s h v) ≡ updates_to s h v t
+stands_exactly s h v t sound whole = stands_by s h v t sound whole (updates_to s h v t) refl (is_in t (serial_to s h v)) refl
+
 same_inside : (s : ScriptData) (past : List Entry) (v t k : ℕ) → Sound s → StepRun s past → AllTimely s past
     → UpdatesAreWhole s (reverse past) v → k < length (subs_at s t) → (b : Bool) → updates_to s (reverse past) v t ≡ b
-    → one_if (is_in t (serial_to s (reverse past) v)) ≡ (if b then tally (of_act (is_did t k)) (places_of (reverse past)) else 0)
+    → one_if b ≡ (if b then tally (of_act (is_did t k)) (places_of (reverse past)) else 0)
 same_inside s past v t k sound run timely whole lt true is =
     let h = reverse past in
     let up : updates s t ≡ true = left_true (updates s t) (is_up_to v (version_of h t)) is in
     let to : is_up_to v (version_of h t) ≡ true = right_true (updates s t) (is_up_to v (version_of h t)) is in
     let w = version_to v (version_of h t) to in
-    let all : IsWhole s h t = whole t w.0 up w.1 w.2 in
-    let stands = whole_stands s h v t (none_strict s t sound) (omega arith) up all to in
     let there = update_there s t (slice_get s.trees t) refl up in
-    let once = done_once s past t k (sub_there s t k there lt) sound run timely (whole_was_done s h t k sound all lt) in
-    ap one_if stands ∙ sym once
-same_inside s past v t k sound run timely whole lt false is =
-    none_there (is_in t (serial_to s (reverse past) v)) refl where
-      none_there : (b : Bool) → is_in t (serial_to s (reverse past) v) ≡ b → one_if (is_in t (serial_to s (reverse past) v)) ≡ 0
-      none_there false at = ap one_if at
-      none_there true at =
-          let up : updates s t ≡ true = (stands_whole s (reverse past) v t (none_strict s t sound) at).0 in
-          let to = stands_up_to s (reverse past) v t at in
-          let both : updates_to s (reverse past) v t ≡ true = rw up to in
-          absurd (let no : true ≡ false = sym both ∙ is in cc no)
+    let done = whole_was_done s h t k sound (whole t w.0 up w.1 w.2) lt in
+    sym (done_once s past t k (sub_there s t k there lt) sound run timely done)
+same_inside s past v t k sound run timely whole lt false is = refl
 
 same_by : (s : ScriptData) (past : List Entry) (v t k : ℕ) → Sound s → StepRun s past → AllTimely s past
     → UpdatesAreWhole s (reverse past) v → (k < length (subs_at s t)) ⊎ (length (subs_at s t) ≤ k)
@@ -216,6 +226,7 @@ same_by : (s : ScriptData) (past : List Entry) (v t k : ℕ) → Sound s → Ste
     ≡ (if updates_to s (reverse past) v t then tally (of_act (is_did t k)) (places_of (reverse past)) else 0)
 same_by s past v t k sound run timely whole (inl lt) =
     inside s t k (serial_to s (reverse past) v) lt (serial_to_apart s (reverse past) v)
+    ∙ ap one_if (stands_exactly s (reverse past) v t sound whole)
     ∙ same_inside s past v t k sound run timely whole lt (updates_to s (reverse past) v t) refl
 same_by s past v t k sound run timely whole (inr le) =
     let xs = places_of (reverse past) in
