@@ -1,5 +1,5 @@
 -- Where every tree is whole, a Did changes an item in a version exactly where the item is written in it.
-use Rattle.std.proofs.Common.{◌≡◌, ◌⊎◌, inl, inr, ℕ, zero, suc, ◌+◌, ◌<◌, ◌≤◌, ◌==◌, ◌&&◌, ◌||◌, Bool, true, false, List, [], ◌∷◌, length, reverse, refl, sym, ap, subst, ◌∙◌, arith, Option, Some, None}
+use Rattle.std.proofs.Common.{◌≡◌, inl, inr, ℕ, zero, suc, ◌+◌, ◌≤◌, ◌==◌, ◌&&◌, Bool, true, false, List, [], ◌∷◌, reverse, refl, sym, ap, subst, ◌∙◌, arith, Option, Some, None}
 use Rattle.std.specs.Prelude.{IsTrue, slice_get}
 use Rattle.std.proofs.lemmas.Bool.{and_from, and_parts, or_cases, or_left, or_right}
 use Rattle.std.proofs.lemmas.Bool.Decides.{nat_tests}
@@ -11,7 +11,6 @@ use Rattle.letter_types.specs.declared.entries.Entry.{Entry}
 use Rattle.tree_home.specs.Homes.{Gets}
 use Rattle.tx_trees.specs.ScriptData.{ScriptData, is_update, ops_of, sub_at, updates}
 use Rattle.tx_trees.specs.declared.parts.Sub.{Sub}
-use Rattle.tx_trees.specs.declared.parts.SubOp.{SubOp}
 use Rattle.tx_trees.specs.declared.parts.Tree.{Tree}
 use Rattle.tx_trees.specs.declared.parts.TreeKind.{TreeKind}
 use Rattle.tx_trees.specs.declared.parts.TreeKind.TheVariants as trees
@@ -76,7 +75,8 @@ did_to : (s : ScriptData) (h : List Entry) (x w t k : ℕ) → updates s t ≡ t
 did_to s h x w t k up version change =
     let (tree, at, kind) = tree_found (slice_get s.trees t) up in
     let (sub, here, change') = ops_found x (sub_at s t k) change in
-    let there : slice_get tree.subs k ≡ Some sub = sym (ap (λ (o : Option Tree). slice_get (elim o [ Some z ↦ z.subs | None ↦ [] ]) k) at) ∙ here in
+    let there : slice_get tree.subs k ≡ Some sub =
+    sym (ap (λ (o : Option Tree). slice_get (elim o [ Some z ↦ z.subs | None ↦ [] ]) k) at) ∙ here in
     trees_write_at h x w 0 t s.trees t tree at (omega arith)
     (and_from (is_version w (version_of h t) && may_write h t tree.kind) (subs_change x tree.subs)
     (and_from (is_version w (version_of h t)) (may_write h t tree.kind) version (update_may h t tree.kind kind))

@@ -1,14 +1,12 @@
 -- The versions of an item after the operations of a subtransaction and after a collection: they ascend from the low version
 -- to at most one that is given, and those above the low one are those in which an update touched the item.
-use Rattle.std.proofs.Common.{◌≡◌, ℕ, ◌+◌, ◌<◌, ◌≤◌, ◌==◌, ◌&&◌, ◌||◌, Bool, true, false, List, [], ◌∷◌, ◌++◌, length, ltb, refl, sym, ap, ◌∙◌, arith, Option, Some, None, inl, inr}
-use Rattle.std.specs.Prelude.{if◌then◌else◌}
+use Rattle.std.proofs.Common.{◌≡◌, ℕ, ◌<◌, ◌≤◌, ◌==◌, ◌&&◌, ◌||◌, Bool, true, false, List, [], ◌∷◌, length, ltb, refl, sym, ap, ◌∙◌, arith, Option, Some, None}
 use Rattle.std.proofs.lemmas.Bool.{and_parts}
 use Rattle.std.proofs.lemmas.Bool.Decides.{nat_tests}
 use Rattle.tv_base.specs.declared.numbers.ItemNo.{ItemNo}
 use Rattle.tv_base.specs.declared.numbers.Version.{Version}
 use Rattle.commute_ops.specs.Ops.{applied}
 use Rattle.commute_ops.specs.declared.kinds.Op.{Op}
-use Rattle.commute_ops.specs.declared.value.Value.{Value}
 use Rattle.item_versions.specs.Item.{Held, IsHeld, above, applied_to_all, below, collected, holds, may_touch, seen_after, touched}
 use Rattle.item_versions.specs.Table.{Table, item_in, may_touch_in, replaced, updated}
 use Rattle.item_versions.specs.Window.{first_version}

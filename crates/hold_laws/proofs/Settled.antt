@@ -1,33 +1,32 @@
 -- Once the client has finished, each node holds of its items their worth in the last version that was shown, and in the
 -- next one where that is written.
-use Rattle.std.proofs.Common.{◌≡◌, ◌≢◌, ℕ, ◌+◌, ◌<◌, ◌≤◌, ◌==◌, ◌&&◌, ◌||◌, Bool, true, false, List, [], ◌∷◌, length, reverse, take, refl, sym, ap, subst, ◌∙◌, arith, Option, Some, None}
+use Rattle.std.proofs.Common.{◌≡◌, ℕ, ◌+◌, ◌<◌, ◌≤◌, ◌==◌, ◌||◌, Bool, true, false, List, [], ◌∷◌, reverse, refl, sym, ap, subst, ◌∙◌, arith, Option, Some, None}
 use Rattle.std.specs.Prelude.{if◌then◌else◌, nat_le, slice_get}
 use Rattle.std.proofs.lemmas.Bool.{and_parts, leb-true}
 use Rattle.std.proofs.lemmas.Bool.Decides.{nat_tests}
 use Rattle.tv_base.specs.declared.numbers.Version.{Version}
 use Rattle.commute_ops.specs.declared.value.Value.{Value}
-use Rattle.item_versions.specs.Item.{Held, holds, seen, seen_after}
+use Rattle.item_versions.specs.Item.{Held, holds, seen}
 use Rattle.item_versions.specs.Table.{item_in}
 use Rattle.letter_types.specs.declared.entries.Entry.{Entry}
 use Rattle.node_versions.specs.declared.turns.Turns.{Turns}
 use Rattle.tx_trees.specs.Counts.{advances_in}
-use Rattle.tx_trees.specs.ScriptData.{ScriptData, updates}
+use Rattle.tx_trees.specs.ScriptData.{ScriptData}
 use Rattle.tx_trees.specs.declared.parts.ItemRow.{ItemRow}
 use Rattle.advance_coord.specs.declared.phase.Phase.{Phase}
 use Rattle.advance_coord.specs.declared.phase.Phase.TheVariants.{Idle, Turning, Counting, Paused, Showing, Sweeping}
 use Rattle.client_rows.specs.Client.{all_answered}
 use Rattle.board_model.specs.Right.{HasFinished}
 use Rattle.board_model.specs.Worth.{is_written, worth}
-use Rattle.board_laws.specs.OwnValues.{own_value, seen_at}
+use Rattle.board_laws.specs.OwnValues.{seen_at}
 use Rattle.board_laws.proofs.OwnDeeds.{sees_own}
 use Rattle.world_model.specs.Runs.{StepRun, client_in, coordinator_in, node_in}
 use Rattle.world_model.specs.Timely.{AllTimely}
-use Rattle.world_model.proofs.Scripts.{Sound, SubAt, tree_below}
+use Rattle.world_model.proofs.Scripts.{Sound, tree_below}
 use Rattle.phase_laws.specs.Advances.{running}
 use Rattle.phase_laws.specs.Phases.{IsInPhase}
 use Rattle.phase_laws.proofs.Levels.{versions_in_phase}
 use Rattle.phase_laws.proofs.Small.{asked_most, small}
-use Rattle.tree_laws.specs.Dids.{dids}
 use Rattle.tree_laws.proofs.Client.{at_rest}
 use Rattle.tree_laws.proofs.Finishes.{done_then, finished_by}
 use Rattle.tree_laws.proofs.Nudges.{lawful}
@@ -36,12 +35,11 @@ use Rattle.run_laws.specs.Shown.{UpdatesAreWhole}
 use Rattle.run_laws.proofs.Closed.{update_there}
 use Rattle.run_laws.proofs.InTime.{in_time}
 use Rattle.show_laws.proofs.OwnWorth.{own_is_worth}
-use Rattle.hold_laws.specs.Held.{IsSettled, held_after, worth_at_end}
+use Rattle.hold_laws.specs.Held.{IsSettled}
 use Rattle.hold_laws.proofs.AtEnd.{written_at_end}
 use Rattle.hold_laws.proofs.Few.{held_at, item_node}
 use Rattle.hold_laws.proofs.Keeping.{keeps_run}
 use Rattle.hold_laws.proofs.Kept.{IsKept, holds_of}
-use Rattle.hold_laws.proofs.Written.{written}
 
 -- What is held of an item from version a to at most the next one.
 

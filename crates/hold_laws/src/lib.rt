@@ -17,8 +17,8 @@ pub fn no_item_has_held_more_than_three()
         → HasHeldThree s (reverse past) }
 {}
 
-/// In every run in which the client has finished, a node holds of each of its items just what the report says of it: its
-/// worth in the last version that was shown, and in the next one if an update tree of that version changes the item.
+/// In every run in which the client has finished, a node holds of each of its items the balances of the report and
+/// nothing else: its worth in the last version that was shown, and in the next one if a tree of that one changes it.
 pub fn nodes_hold_the_balances()
     ensures { (s : ScriptData) (past : List Entry) → IsValid s → Runnable s → StepRun s past
         → HasFinished (reverse past) → IsSettled s (reverse past) }
