@@ -1,24 +1,22 @@
 -- Of each item at most three versions are held, after each part of a history.
-use Rattle.std.proofs.Common.{◌≡◌, ◌⊎◌, inl, inr, ℕ, ◌+◌, ◌-◌, ◌<◌, ◌≤◌, List, [], ◌∷◌, length, take, drop, reverse, refl, sym, ap, subst, ◌∙◌, arith, Option, Some, None}
+use Rattle.std.proofs.Common.{◌≡◌, inl, inr, ℕ, ◌+◌, ◌-◌, ◌<◌, ◌≤◌, List, [], ◌∷◌, length, take, drop, reverse, refl, ap, ◌∙◌, arith, Option, Some, None}
 use Rattle.std.specs.Prelude.{slice_get}
 use Rattle.std.proofs.lemmas.Bool.{cases_lt}
 use Rattle.std.proofs.lemmas.List.{length-reverse, take_all}
 use Rattle.commute_ops.specs.declared.value.Value.{Value}
 use Rattle.tv_base.specs.declared.numbers.Version.{Version}
-use Rattle.tv_base.specs.declared.numbers.ItemNo.{ItemNo}
 use Rattle.item_versions.specs.Item.{Held, seen}
-use Rattle.item_versions.specs.Table.{Table, item_in}
+use Rattle.item_versions.specs.Table.{item_in}
 use Rattle.item_versions.proofs.Tables.{each-item}
 use Rattle.item_versions.proofs.Window.{few-above}
 use Rattle.letter_types.specs.declared.entries.Entry.{Entry}
 use Rattle.node_versions.specs.declared.turns.Turns.{Turns}
-use Rattle.read_step.specs.Rows.{seen_in}
 use Rattle.tx_trees.specs.ScriptData.{ScriptData}
 use Rattle.tx_trees.specs.Valid.{IsItem}
 use Rattle.tx_trees.specs.declared.parts.ItemRow.{ItemRow}
 use Rattle.tx_trees.proofs.SubsOf.{all_at}
 use Rattle.world_model.specs.Runs.{StepRun, actor_after, node_in}
-use Rattle.world_model.specs.Tables.{ActorData, NodeData}
+use Rattle.world_model.specs.Tables.{ActorData}
 use Rattle.world_model.proofs.Back.{node_leads}
 use Rattle.world_model.proofs.Scripts.{Sound}
 use Rattle.tree_laws.proofs.Nudges.{lawful}
@@ -66,7 +64,8 @@ held_at s past x r sound run at =
     let st = node_in s past p in
     let timely = in_time s past sound run in
     let low = st.turns.low.0 in
-    let found = found_by (record { 0 = low }) _ (item_in (record { 0 = x }) st.items) (sees_own s past sound run timely p x low r lt at refl (omega arith)) in
+    let sees = sees_own s past sound run timely p x low r lt at refl (omega arith) in
+    let found = found_by (record { 0 = low }) _ (item_in (record { 0 = x }) st.items) sees in
     record {
       held = found.0;
       is = found.1;

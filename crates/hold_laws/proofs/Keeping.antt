@@ -1,16 +1,14 @@
 -- In every run the versions of a node's items are from its low version to its update version, and those above the low one
 -- are those in which one of its own Dids changes the item.
-use Rattle.std.proofs.Common.{◌≡◌, ◌≢◌, ◌⊎◌, inl, inr, ℕ, ◌+◌, ◌<◌, ◌≤◌, ◌==◌, ◌&&◌, ◌||◌, Bool, true, false, List, [], ◌∷◌, ◌++◌, reverse, refl, sym, ap, subst, ◌∙◌, arith, Some}
+use Rattle.std.proofs.Common.{◌≡◌, ◌≢◌, ◌⊎◌, inl, inr, ℕ, ◌+◌, ◌<◌, ◌≤◌, ◌==◌, ◌&&◌, ◌||◌, Bool, true, false, List, [], ◌∷◌, ◌++◌, refl, sym, ap, subst, ◌∙◌, arith, Some}
 use Rattle.std.specs.Prelude.{if◌then◌else◌, nat_le, nat_lt, slice_get}
+use Rattle.std.proofs.Math.Bool.{or_comm}
 use Rattle.std.proofs.lemmas.Bool.{cases_eq}
 use Rattle.std.proofs.lemmas.Bool.Decides.{nat_tests}
-use Rattle.tv_base.proofs.Truths.{left_true, right_true}
 use Rattle.tv_base.specs.declared.numbers.SubNo.{SubNo}
 use Rattle.tv_base.specs.declared.numbers.TreeNo.{TreeNo}
 use Rattle.tv_base.specs.declared.numbers.Version.{Version}
-use Rattle.commute_ops.specs.Ops.{start}
 use Rattle.item_versions.specs.Table.{Table}
-use Rattle.item_versions.specs.Window.{in_window}
 use Rattle.item_versions.proofs.Tables.{Each as EachItem}
 use Rattle.item_versions.proofs.Window.{in_window-low}
 use Rattle.node_versions.specs.Turns.{raised}
@@ -28,7 +26,7 @@ use Rattle.node_step.specs.Advancing.{show_row, sweep_row, turn_row}
 use Rattle.client_rows.specs.Client.{finishes, next_after, with_answer, with_end}
 use Rattle.tx_trees.specs.ScriptData.{ScriptData, home_of, node_of, ops_of, updates}
 use Rattle.tx_trees.specs.declared.parts.ItemRow.{ItemRow}
-use Rattle.board_model.specs.Histories.{Place, places_at, places_of, version_in}
+use Rattle.board_model.specs.Histories.{Place, places_at, version_in}
 use Rattle.board_model.specs.Worth.{ops_change}
 use Rattle.world_model.specs.Runs.{MayFollow, StepRun, client_in, node_in}
 use Rattle.world_model.specs.Tables.{items_at, start_node}
@@ -55,9 +53,6 @@ or_false : (a b : Bool) → b ≡ false → a ≡ (a || b)
 or_false true b is = refl
 or_false false b is = sym is
 
-turned_or : (a b : Bool) → (a || b) ≡ (b || a)
-turned_or a b = grind (arith, nat_tests)
-
 -- one entry more, after which the node is as said
 step : (s : ScriptData) (past : List Entry) (e : Entry) (p : ℕ) (st : Node) → AreVersioned s past
     → EachItem (IsKept st.turns.low.0 st.turns.update.0) st.items
@@ -70,10 +65,16 @@ step s past e p st are kept holds = record {
   holds = λ x w r at node low. holds x w r at node low ∙ sym (written_more s past e x w are);
 }
 
--- an entry that writes nothing of the node's items
+-- an entry writes nothing of the items of node p
+abbrev WritesNone : ScriptData → List Entry → Entry → ℕ → Type 0
+WritesNone s past e p =
+    (x w : ℕ) (r : ItemRow) → slice_get s.items x ≡ Some r → r.node.0 ≡ p
+    → some_write s (with_entry past e) x w (places_at e) ≡ false
+
+-- then the node's items are as said
 quiet_step : (s : ScriptData) (past : List Entry) (e : Entry) (p : ℕ) (st : Node) → AreVersioned s past
     → EachItem (IsKept st.turns.low.0 st.turns.update.0) st.items
-    → ((x w : ℕ) (r : ItemRow) → slice_get s.items x ≡ Some r → r.node.0 ≡ p → some_write s (with_entry past e) x w (places_at e) ≡ false)
+    → WritesNone s past e p
     → ((x w : ℕ) (r : ItemRow) → slice_get s.items x ≡ Some r → r.node.0 ≡ p → st.turns.low.0 < w
     → holds_in (record { 0 = w }) (record { 0 = x }) st.items ≡ written s past x w)
     → Keeps s (e ∷ past) p st
@@ -114,7 +115,7 @@ held_more : (s : ScriptData) (past : List Entry) (e : Entry) (p : ℕ) (st : Nod
 held_more s past e p st t k v x w r values up version acts new is old =
     let here : some_write s (with_entry past e) x w (places_at e) ≡ (v.0 == w && ops_change x (ops_of s t.0 k.0)) =
     acts ∙ did_writes s (with_entry past e) x w t k v values up version in
-    is ∙ turned_or (v.0 == w && ops_change x (ops_of s t.0 k.0)) (holds_in (record { 0 = w }) (record { 0 = x }) st.items) ∙ rw (old, here) refl
+    is ∙ or_comm (v.0 == w && ops_change x (ops_of s t.0 k.0)) (holds_in (record { 0 = w }) (record { 0 = x }) st.items) ∙ rw (old, here) refl
 
 root_keeps_by : (s : ScriptData) (past : List Entry) (e : Entry) (t : TreeNo) (v : Version) (effect : Effect) → SubAt s t.0 0
     → AreVersioned s past → version_in t.0 (with_entry past e) ≡ Some v
@@ -150,7 +151,8 @@ root_keeps : (s : ScriptData) (past : List Entry) (e : Entry) (t : TreeNo) (v : 
     → (node_in s past (home_of s t.0)).turns.low.0 ≤ (node_in s past (home_of s t.0)).turns.update.0 → e.took.body ≡ Root t
     → RootWork s t.0 (node_in s past (home_of s t.0)) v effect
     → Made s past e (home_of s t.0) (root_done s (home_of s t.0) t.0 v.0 effect (node_in s past (home_of s t.0)))
-    → Keeps s past (home_of s t.0) (node_in s past (home_of s t.0)) → Keeps s (e ∷ past) (home_of s t.0) (node_in s (e ∷ past) (home_of s t.0))
+    → Keeps s past (home_of s t.0) (node_in s past (home_of s t.0))
+    → Keeps s (e ∷ past) (home_of s t.0) (node_in s (e ∷ past) (home_of s t.0))
 root_keeps s past e t v effect c sound good m are low is work made keeps =
     subst (λ (n : Node). Keeps s (e ∷ past) (home_of s t.0) n) (sym made.state)
     (root_keeps_by s past e t v effect c are (root_version s past e t v effect c sound good m is made) low made.acts keeps work)
@@ -183,8 +185,7 @@ sub_keeps_by : (s : ScriptData) (past : List Entry) (e : Entry) (t : TreeNo) (k 
 sub_keeps_by s past e t k v raises effect c version low acts keeps (SubUpdates up turn can made) =
     let p = node_of s t.0 k.0 in
     let st = node_in s past p in
-    let more = raised_up raises v.0 st.turns turn in
-    (
+    let more = raised_up raises v.0 st.turns turn in (
       rw (made, more.2)
           (kept_ops st.turns.low.0 (raised_if raises v.0 st.turns).update.0 v (ops_of s t.0 k.0) st.items low more.1
           (kept_table st.turns.low.0 st.turns.update.0 (raised_if raises v.0 st.turns).update.0 st.items more.0 keeps.kept)),
@@ -228,7 +229,7 @@ sub_keeps s past e t k v raises effect c m are is timely work made keeps =
 
 -- A node whose items and versions stay.
 same_keeps : (s : ScriptData) (past : List Entry) (e : Entry) (p : ℕ) (st : Node) → AreVersioned s past
-    → ((x w : ℕ) (r : ItemRow) → slice_get s.items x ≡ Some r → r.node.0 ≡ p → some_write s (with_entry past e) x w (places_at e) ≡ false)
+    → WritesNone s past e p
     → Keeps s past p st → Keeps s (e ∷ past) p st
 same_keeps s past e p st are none keeps = quiet_step s past e p st are keeps.kept none keeps.holds
 
@@ -253,7 +254,7 @@ swept_from low read update v is = (grind (arith, nat_tests), grind (arith, nat_t
 
 order_keeps : (s : ScriptData) (past : List Entry) (e : Entry) (p : ℕ) (out : Out Node) → AreVersioned s past
     → is_timely s (node_in s past p) e.took.body ≡ true
-    → ((x w : ℕ) (r : ItemRow) → slice_get s.items x ≡ Some r → r.node.0 ≡ p → some_write s (with_entry past e) x w (places_at e) ≡ false)
+    → WritesNone s past e p
     → Keeps s past p (node_in s past p)
     → Order s (node_in s past p) e.took.body out → Keeps s (e ∷ past) p out.state
 order_keeps s past e p out are timely none keeps (TurnsBy v is row) =
@@ -289,18 +290,15 @@ obeys_keeps : (s : ScriptData) (past : List Entry) (e : Entry) (p : ℕ) (out : 
 obeys_keeps s past e p out are was at lt order made keeps =
     subst (λ (n : Node). Keeps s (e ∷ past) p n) (sym made.state)
     (order_keeps s past e p out are (timely_at s past e p e.took.body was at lt refl)
-    (λ x w r there node. of_acts s past e x w out.acts made.acts ∙ order_writes s (with_entry past e) x w e.actor.0 (node_in s past p) e.took.body out order)
+    (λ x w r there node.
+    of_acts s past e x w out.acts made.acts
+    ∙ order_writes s (with_entry past e) x w e.actor.0 (node_in s past p) e.took.body out order)
     keeps order)
 
 -- Every node.
--- the entry is of node h: of each other node's items it writes nothing
-abbrev WritesAt : ScriptData → List Entry → Entry → ℕ → ℕ → Type 0
-WritesAt s past e h p =
-    h ≢ p → (x w : ℕ) (r : ItemRow) → slice_get s.items x ≡ Some r → r.node.0 ≡ p → some_write s (with_entry past e) x w (places_at e) ≡ false
-
 keeps_at : (s : ScriptData) (past : List Entry) (e : Entry) (h p : ℕ) → AreVersioned s past → e.actor.0 ≡ h
     → Keeps s (e ∷ past) h (node_in s (e ∷ past) h)
-    → WritesAt s past e h p → Keeps s past p (node_in s past p) → (h ≡ p) ⊎ (h ≢ p) → Keeps s (e ∷ past) p (node_in s (e ∷ past) p)
+    → (h ≢ p → WritesNone s past e p) → Keeps s past p (node_in s past p) → (h ≡ p) ⊎ (h ≢ p) → Keeps s (e ∷ past) p (node_in s (e ∷ past) p)
 keeps_at s past e h p are at now none keeps (inl is) = subst (λ (q : ℕ). Keeps s (e ∷ past) q (node_in s (e ∷ past) q)) is now
 keeps_at s past e h p are at now none keeps (inr ne) =
     subst (λ (n : Node). Keeps s (e ∷ past) p n) (sym (node_kept s past e p (λ is. ne (sym at ∙ is))))
@@ -334,7 +332,9 @@ keeps_next s past e sound good m are lows keeps was (Coordinates tells at made) 
     keeps_outside s past e p are lt (omega arith) (λ x w. of_acts s past e x w [] made.acts) (keeps p lt)
 keeps_next s past e sound good m are lows keeps was (Obeys h out at below order made) p lt =
     keeps_at s past e h p are at (obeys_keeps s past e h out are was at below order made (keeps h below))
-    (λ ne x w r there node. of_acts s past e x w out.acts made.acts ∙ order_writes s (with_entry past e) x w e.actor.0 (node_in s past h) e.took.body out order)
+    (λ ne x w r there node.
+    of_acts s past e x w out.acts made.acts
+    ∙ order_writes s (with_entry past e) x w e.actor.0 (node_in s past h) e.took.body out order)
     (keeps p lt) (cases_eq h p)
 keeps_next s past e sound good m are lows keeps was (DoesRoot t v effect is c at below new work made) p lt =
     let h = home_of s t.0 in
@@ -363,7 +363,8 @@ keeps_next s past e sound good m are lows keeps was (Notes t k v values is c lat
 first_by : (w x p i : ℕ) (q : ItemRow) (rows : List ItemRow) → 0 < w
     → holds_in (record { 0 = w }) (record { 0 = x }) (items_at p (i + 1) rows) ≡ false → (test here : Bool)
     → (q.node.0 == p) ≡ test → (i == x) ≡ here → holds_in (record { 0 = w }) (record { 0 = x }) (items_at p i (q ∷ rows)) ≡ false
-first_by w x p i q rows more rest true true is at = let other : (0 == w) ≡ false = grind (arith, nat_tests) in rw is (rw (at, holds_in) (rw other refl))
+first_by w x p i q rows more rest true true is at =
+    let other : (0 == w) ≡ false = grind (arith, nat_tests) in rw is (rw (at, holds_in) (rw other refl))
 first_by w x p i q rows more rest true false is at = rw is (rw (at, holds_in) rest)
 first_by w x p i q rows more rest false here is at = rw is rest
 

@@ -1,14 +1,12 @@
 -- The versions of an item after the operations of a subtransaction and after a collection: they ascend from the low version
 -- to at most one that is given, and those above the low one are those in which an update touched the item.
-use Rattle.std.proofs.Common.{◌≡◌, ℕ, ◌+◌, ◌<◌, ◌≤◌, ◌==◌, ◌&&◌, ◌||◌, Bool, true, false, List, [], ◌∷◌, ◌++◌, length, ltb, refl, sym, ap, ◌∙◌, arith, Option, Some, None, inl, inr}
-use Rattle.std.specs.Prelude.{if◌then◌else◌}
+use Rattle.std.proofs.Common.{◌≡◌, ℕ, ◌<◌, ◌≤◌, ◌==◌, ◌&&◌, ◌||◌, Bool, true, false, List, [], ◌∷◌, length, ltb, refl, sym, ap, ◌∙◌, arith, Option, Some, None}
 use Rattle.std.proofs.lemmas.Bool.{and_parts}
 use Rattle.std.proofs.lemmas.Bool.Decides.{nat_tests}
 use Rattle.tv_base.specs.declared.numbers.ItemNo.{ItemNo}
 use Rattle.tv_base.specs.declared.numbers.Version.{Version}
 use Rattle.commute_ops.specs.Ops.{applied}
 use Rattle.commute_ops.specs.declared.kinds.Op.{Op}
-use Rattle.commute_ops.specs.declared.value.Value.{Value}
 use Rattle.item_versions.specs.Item.{Held, IsHeld, above, applied_to_all, below, collected, holds, may_touch, seen_after, touched}
 use Rattle.item_versions.specs.Table.{Table, item_in, may_touch_in, replaced, updated}
 use Rattle.item_versions.specs.Window.{first_version}
@@ -23,6 +21,7 @@ use Rattle.update_step.specs.Rows.{after_deed, after_ops, can_touch, may_make}
 use Rattle.version_collect.specs.Collecting.{collected_all}
 use Rattle.board_model.specs.Worth.{changes, ops_change}
 use Rattle.tree_laws.proofs.Tables.{replaced_other, replaced_same}
+use Rattle.board_laws.proofs.Seen.{same_item}
 
 -- the versions held ascend, the first is low, and none is above up
 pub record IsKept (low up : ℕ) (h : Held) : Type 0 where
@@ -76,9 +75,6 @@ holds_of w (Some h) = holds w h
 
 abbrev pub holds_in : Version → ItemNo → Table → Bool
 holds_in w x items = holds_of w (item_in x items)
-
-same_item : (n x : ItemNo) (items : Table) → n.0 ≡ x.0 → item_in n items ≡ item_in x items
-same_item n x items is = ap (λ (k : ℕ). item_in (record { 0 = k }) items) is
 
 put_holds : (w v : Version) (n x : ItemNo) (op : Op) (items : Table) (h : Held) → item_in n items ≡ Some h → may_touch v op h ≡ true
     → (test : Bool) → (n.0 == x.0) ≡ test
