@@ -27,7 +27,7 @@ use Rattle.phase_laws.proofs.Levels.{levels}
 use Rattle.board_laws.proofs.Histories.{at_each_act_more}
 use Rattle.board_laws.proofs.Versions.{AreVersioned, placed, versioned_run}
 use Rattle.move_laws.proofs.Deeds.{birth_is, root_deed, sub_deed}
-use Rattle.move_laws.proofs.NodeNumbers.{numbers_run}
+use Rattle.board_laws.proofs.Numbers.{numbers_run}
 use Rattle.move_laws.proofs.Raised.{Stand, shows_next, sweeps_next, turn_by_order, turn_by_sub}
 
 -- these acts of an entry are moves, one after the other

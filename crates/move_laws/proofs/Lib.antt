@@ -1,4 +1,3 @@
-pub mod NodeNumbers
 pub mod Raised
 pub mod Deeds
 pub mod BoardRuns
