@@ -1,0 +1,8 @@
+//! Actors behind locks of their own, and workers that hand letters to them.
+#![tactic(auto)]
+
+mod cell;
+mod name;
+
+pub use cell::{ActorCell, Sent};
+pub use name::ClusterName;
