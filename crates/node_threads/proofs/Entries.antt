@@ -29,7 +29,7 @@ after_more : {St : Type 0} (row : St → Letter → Out St) (st : St) (es : List
 after_more row st [] e = refl
 after_more row st (x ∷ es) e = after_more row (row st x.took).state es e
 
-acts_more : {St : Type 0} (row : St → Letter → Out St) (st : St) (acts : List Act) (es : List Entry) (e : Entry)
+pub acts_more : {St : Type 0} (row : St → Letter → Out St) (st : St) (acts : List Act) (es : List Entry) (e : Entry)
     → last_acts_from row st acts (map posting_of (es ++ e ∷ [])) ≡ (row (after row st es) e.took).acts
 acts_more row st acts [] e = refl
 acts_more row st acts (x ∷ es) e = acts_more row (row st x.took).state (row st x.took).acts es e

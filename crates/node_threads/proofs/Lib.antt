@@ -1,3 +1,5 @@
 pub mod Bounds
 pub mod Sends
 pub mod Entries
+pub mod Merges
+pub mod Gatherings

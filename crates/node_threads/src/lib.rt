@@ -2,7 +2,10 @@
 #![tactic(auto)]
 
 mod cell;
+mod cluster;
+mod merge;
 mod name;
 
 pub use cell::{ActorCell, Sent};
+pub use cluster::Cluster;
 pub use name::ClusterName;
