@@ -183,3 +183,18 @@ told s actors rows receipts h g runs long some_there merged k r at =
           ∙ ap (last_acts s r.number) postings;
       later = earlier (actors - 1) g.log place r.posting g.postal stands.1 (g.postal.sent place r.posting stands.1);
     }
+
+-- what is said once all is gathered and merged
+pub finishes_as : (s : ScriptData) (actors n count : ℕ) (seats : List JoinedSeat) (rows : List (List Entry)) (receipts : List ReceiptData) (h : List Entry)
+    → n ≡ actors → seats ≡ joined_from 0 rows → ((g : Gathers n seats (map receipt_joined receipts)) × (length g.log ≡ count))
+    → AllRun s rows → length rows ≡ actors → actors ≡ s.nodes + 2
+    → ((log : List Posting) → IsLogOf log rows → length log ≡ count → IsMerged log rows h)
+    → WorldRun s h × ((k : ℕ) (r : ReceiptData) → slice_get receipts k ≡ Some r → IsTold s h r)
+finishes_as s actors n count seats rows receipts h same joined gathered runs long all merges =
+    let g : (g : Gathers actors (joined_from 0 rows) (map receipt_joined receipts)) × (length g.log ≡ count) =
+    subst (λ (z : ℕ × List JoinedSeat). (g : Gathers z.0 z.1 (map receipt_joined receipts)) × (length g.log ≡ count)) (λ k. (same k, joined k)) gathered in
+    let merged : IsMerged g.0.log rows h = merges g.0.log (is_log actors rows (map receipt_joined receipts) g.0) g.1 in
+    let client : actors - 1 ≡ client_of s = omega arith in (
+      world_run s rows g.0.log h (subst (λ (m : ℕ). Postal m g.0.log) client g.0.postal) runs (long ∙ all) merged,
+      told s actors rows receipts h g.0 runs long (omega arith) merged,
+    )

@@ -3,3 +3,4 @@ pub mod Sends
 pub mod Entries
 pub mod Merges
 pub mod Gatherings
+pub mod Ends

@@ -10,11 +10,12 @@ use crate::merge::merged;
 use crate::name::ClusterName;
 use crossbeam_utils::CachePadded;
 use letter_types::{Entry, History};
+use message_bag::Bag;
 use stamp_post::{Envelope, Gatherer, Post, PostParts, Receipts, Seats};
 use std::alloc::Global;
 use std::collections::VecDeque;
 use std::marker::PhantomData;
-use std::sync::{Mutex, Wait};
+use std::sync::{Condvar, Mutex, Wait};
 use tv_base::{Gate, NoMemory};
 use tx_trees::Script;
 
@@ -26,14 +27,28 @@ struct Keeper<K: ClusterName> {
     ghost gatherer_is: { gatherer ≡ K.post },
 }
 
-/// The actors of the script that `K` names, on the post that it names: each cell under a lock of its own.
+// What workers tell one another: how often an envelope was put or something ended, whether the client has finished, and
+// whether memory was wanting.
+#[derive(Clone, Copy)]
+pub(crate) struct Moves {
+    pub(crate) count: u64,
+    pub(crate) finished: bool,
+    pub(crate) failed: bool,
+}
+
+/// The actors of the script that `K` names, on the post that it names. Each has a cell, and a bag of the letters that
+/// are under way to it, each under a lock of its own.
 #[derive(Drop)]
 pub struct Cluster<K: ClusterName> {
     post: Post,
     keeper: Mutex<Keeper<K>>,
     cells: Vec<CachePadded<Mutex<ActorCell<K>>>>,
+    pub(crate) bags: Vec<CachePadded<Mutex<Bag<K>>>>,
+    pub(crate) moves: Mutex<Moves>,
+    pub(crate) moved: Condvar,
     ghost post_is: { post ≡ K.post },
     ghost has_cells: { length cells.items ≡ K.post.actors },
+    ghost has_bags: { length bags.items ≡ K.post.actors },
     ghost has_actors: { K.post.actors ≡ K.script.nodes + 2 },
 }
 
@@ -66,6 +81,20 @@ fn cells_of<K: ClusterName>(
         cells.push(CachePadded::new(Mutex::new(cell)))?;
     }
     Ok(cells)
+}
+
+// An empty bag for each actor.
+fn bags_of<K: ClusterName>(
+    alloc: Global,
+    actors: u8,
+) -> Result<Vec<CachePadded<Mutex<Bag<K>>>>, NoMemory>
+    ensures { IfOk result (λ bags. length bags.items ≡ actors) }
+{
+    let mut bags = Vec::new(alloc);
+    for _actor in 0..actors {
+        bags.push(CachePadded::new(Mutex::new(Bag::new(alloc))))?;
+    }
+    Ok(bags)
 }
 
 // The actors' seats and entries, out of their cells.
@@ -112,7 +141,9 @@ impl<K: ClusterName> Cluster<K> {
             seats,
             first,
         } = parts;
-        let cells = cells_of::<K>(alloc, script, seats, script.nodes() + 2)?;
+        let actors = script.nodes() + 2;
+        let cells = cells_of::<K>(alloc, script, seats, actors)?;
+        let bags = bags_of::<K>(alloc, actors)?;
         let cluster = Cluster {
             post,
             keeper: Mutex::new(Keeper {
@@ -120,6 +151,13 @@ impl<K: ClusterName> Cluster<K> {
                 name: PhantomData,
             }),
             cells,
+            bags,
+            moves: Mutex::new(Moves {
+                count: 0,
+                finished: false,
+                failed: false,
+            }),
+            moved: Condvar::new(),
         };
         Ok((cluster, first))
     }
@@ -168,6 +206,9 @@ impl<K: ClusterName> Cluster<K> {
             post,
             keeper,
             cells,
+            bags: _,
+            moves: _,
+            moved: _,
         } = self;
         let Keeper { gatherer, name: _ } = keeper.into_inner();
         let Apart { seats, lists } = taken_apart::<K>(alloc, cells)?;

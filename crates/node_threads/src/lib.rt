@@ -5,7 +5,10 @@ mod cell;
 mod cluster;
 mod merge;
 mod name;
+mod running;
+mod workers;
 
 pub use cell::{ActorCell, Sent};
 pub use cluster::Cluster;
 pub use name::ClusterName;
+pub use running::run;
