@@ -145,10 +145,11 @@ fn entries_at(history: &History, stamp: Stamp) -> u64 {
 }
 
 fn has_end(history: &History) -> bool {
-    history
+    history.items().iter().any(|entry| entry
+        .acts
         .items()
         .iter()
-        .any(|entry| entry.acts.items().iter().any(|act| matches!(act, Act::Finished)))
+        .any(|act| matches!(act, Act::Finished)))
 }
 
 // A node's first hold sets its flag and waits for the other node's flag. Each hold is counted.
