@@ -1,5 +1,5 @@
 -- A script's fields, as what it holds, and the numbers that are kept beside it.
-use Rattle.std.specs.Prelude.{ℕ, ◌≡◌, ◌<◌, length, get_or}
+use Rattle.std.specs.Prelude.{ℕ, ◌≡◌, ◌<◌, List, length, get_or}
 use Rattle.tx_trees.specs.ScriptData.{ScriptData}
 use Rattle.tx_trees.specs.Valid.{IsValid, item_names, load, tree_names}
 use Rattle.tx_trees.specs.Counts.{advances_in, all_ops, all_subs, loses_in, strict_trees, trees_puts, update_subs}
@@ -15,6 +15,11 @@ data_of s = record {
   picks = s.picks.items;
   begun = s.begun;
 }
+
+-- the magnitudes of each item of a script, all together
+pub record AreTotals (cells : List ℕ) (s : ScriptData) : Type 0 where
+  pub len : length cells ≡ length s.items
+  pub loads : (k : ℕ) → k < length s.items → get_or cells k 0 ≡ load k s
 
 -- valid, with the name and the totals of each item beside the items, the name of each tree beside the trees, and how
 -- many there are of what is limited
