@@ -9,4 +9,5 @@ pub mod SubsOf
 pub mod Passes
 pub mod UndoneTrees
 pub mod Undoing
+pub mod Loading
 pub mod Rebuilding

@@ -144,6 +144,12 @@ sum-replaced m M h f (y ∷ []) x e =
     omega (arith, h.one_more (f y) [], h.one_more y [], ap m is, ap (λ (z : _). m (f z)) is)
 sum-replaced m M h f (y ∷ z ∷ zs) x e = omega (arith, h.one_more y (on_last f (z ∷ zs)), h.one_more y (z ∷ zs), sum-replaced m M h f (z ∷ zs) x e)
 
+-- the last weighs no more than all
+pub last_weight : {A : Type 0} (m : A → ℕ) (M : List A → ℕ) → IsSum m M → (xs : List A) (x : A) → last_of xs ≡ Some x → m x ≤ M xs
+last_weight m M h [] x e = absurd cc
+last_weight m M h (y ∷ []) x e = let is : y ≡ x = cc in omega (arith, h.one_more y [], ap m is)
+last_weight m M h (y ∷ z ∷ zs) x e = omega (arith, h.one_more y (z ∷ zs), last_weight m M h (z ∷ zs) x e)
+
 pub sum-on_last : {A : Type 0} (m : A → ℕ) (M : List A → ℕ) → IsSum m M → (f : A → A) (d : ℕ) (xs : List A) → 0 < length xs
     → ((x : A) → last_of xs ≡ Some x → m (f x) ≡ m x + d) → M (on_last f xs) ≡ M xs + d
 sum-on_last m M h f d [] some step = absurd (omega arith)

@@ -279,7 +279,7 @@ pub most_nodes-small : (f : Form) → most_nodes f ≤ 64
 most_nodes-small forms.One = omega arith
 most_nodes-small forms.Two = omega arith
 
-at_most : (m most : ℕ) (b : Bool) → (nat_le m most && b) ≡ true → m ≤ most
+pub at_most : (m most : ℕ) (b : Bool) → (nat_le m most && b) ≡ true → m ≤ most
 at_most m most b e = grind (arith, common_steps)
 
 and_so : (m most : ℕ) (b : Bool) → most ≤ MOST_AMOUNT → (nat_le m most && b) ≡ true → (nat_le m MOST_AMOUNT && b) ≡ true

@@ -4,17 +4,27 @@ use Rattle.std.specs.Prelude.{◌==◌, ◌&&◌, ◌||◌, not, if◌then◌els
 use Rattle.std.specs.List.{AllByRecursion, IsDistinct, list_any}
 use Rattle.std.specs.Str.{bytes_eq}
 use Rattle.std.proofs.lemmas.Bool.{cases_eq, or_from}
+use Rattle.std.proofs.lemmas.Grind.{common_steps}
 use Rattle.commute_ops.specs.declared.kinds.Op.TheVariants as ops
 use Rattle.tx_trees.specs.Adding.{any_from, are_crowded, are_many, failed_tree, is_heavy, last_may_fail, last_of, last_subs, last_tree_subs, may_fail, on_last, with_failed}
 use Rattle.tx_trees.specs.Counts.{all_ops, all_subs, if_update, one_put, one_strict, ops_puts, strict_trees, subs_ops, subs_puts, trees_puts, update_subs}
+use Rattle.commute_ops.specs.declared.kinds.TheConstants.{MOST_AMOUNT}
+use Rattle.tx_trees.specs.Amounts.{magnitude}
 use Rattle.tx_trees.specs.Forms.{most_amount}
+use Rattle.tx_trees.specs.Ranges.{draws_negative, is_in_range}
+use Rattle.tx_trees.specs.Inside.{AreTotals, IsKept, IsReloaded, MayReload, OpWithin, SubWithin, data_of}
 use Rattle.tx_trees.specs.Passing.{MayFail}
 use Rattle.tx_trees.specs.ScriptData.{ScriptData, is_update}
 use Rattle.tx_trees.specs.Undone.{goes_from, inverse, inverses_from, is_add, is_undone, negated, negated_deed, ops_add, staying, staying_from, stays, subs_add, undoes, undone}
-use Rattle.tx_trees.specs.Valid.{AreSubs, AreWithin, HasFailed, IsTree, IsValid, as_written, load, subs_load, tree_names, trees_load}
+use Rattle.tx_trees.specs.Valid.{AreSubs, AreWithin, HasFailed, IsOp, IsTree, IsValid, as_written, load, ops_load, subs_load, tree_names, trees_load}
+use Rattle.std.specs.Global.{Vec}
+use Rattle.tv_base.specs.declared.numbers.SubNo.{SubNo}
+use Rattle.tx_trees.specs.declared.script.Script.TheInside.{Inside}
+use Rattle.std.proofs.Math.ListN.{set}
 use Rattle.tx_trees.specs.declared.parts.Deed.{Deed}
 use Rattle.tx_trees.specs.declared.parts.Deed.TheVariants as deeds
 use Rattle.tx_trees.specs.declared.parts.Form.{Form}
+use Rattle.tx_trees.specs.declared.parts.Form.TheVariants as forms
 use Rattle.tx_trees.specs.declared.parts.ItemRow.{ItemRow}
 use Rattle.tx_trees.specs.declared.parts.Sub.{Sub}
 use Rattle.tx_trees.specs.declared.parts.SubOp.{SubOp}
@@ -22,10 +32,10 @@ use Rattle.tx_trees.specs.declared.parts.Tree.{Tree}
 use Rattle.tx_trees.specs.declared.parts.TreeKind.{TreeKind}
 use Rattle.tx_trees.specs.declared.parts.TreeKind.TheVariants as trees
 use Rattle.tx_trees.specs.declared.parts.Written.{Written}
-use Rattle.tx_trees.proofs.Last.{last_subs_is, length-on_last}
-use Rattle.tx_trees.proofs.Lists.{IsSum, all-last, all-on_last, last_of-on_last, last_of-seam, last_some, lt_not, not_lt, or_left, or_right, split_last, sum-replaced}
-use Rattle.tx_trees.proofs.Stays.{failed-last, last_written_is, names-on_last}
-use Rattle.tx_trees.proofs.Totals.{all_subs-sum, load_total, op_total, put_total, strict-sum, update-sum}
+use Rattle.tx_trees.proofs.Last.{last_at, last_subs_is, length-on_last, on_last_is}
+use Rattle.tx_trees.proofs.Lists.{IsSum, last_weight, all-last, all-on_last, all-weaker, last_of-on_last, last_of-seam, last_some, lt_not, not_lt, or_left, or_right, split_last, sum-replaced}
+use Rattle.tx_trees.proofs.Stays.{at_most, failed-last, last_written_is, most_amount-small, names-on_last, op_within}
+use Rattle.tx_trees.proofs.Totals.{all_subs-sum, load_total, op_load, op_total, put_total, strict-sum, update-sum}
 use Rattle.tx_trees.proofs.UndoneTrees.{undone_some, undone_valid}
 
 -- tests
@@ -280,3 +290,195 @@ valid_failed s k may h =
   where
     some_same : (a b : Tree) → Some a ≡ Some b → a ≡ b
     some_same a b e = let P : Option Tree → Type 0 = λ o. elim o [ None ↦ ⊥ | Some z ↦ a ≡ z ] in subst P e refl
+
+-- what is known of the last tree where it may fail
+
+pub record LastFails (s : ScriptData) (k : ℕ) : Type 0 where
+  pub tree : Tree
+  pub last : last_of s.trees ≡ Some tree
+  pub count : last_subs s.trees ≡ length tree.subs
+  pub same_subs : last_tree_subs s.trees ≡ tree.subs
+  pub update : tree.kind ≡ trees.Update
+  pub adds : subs_add tree.subs ≡ true
+  pub few : length tree.subs ≤ 64
+  pub before : AreSubs s.nodes s.items trees.Update 0 tree.subs
+  pub after : AreSubs s.nodes s.items trees.Update 0 (undone tree.subs k)
+
+pub last_fails : (s : ScriptData) (k : ℕ) → s.begun ≡ true → last_may_fail s.trees ≡ true → k < last_subs s.trees → IsValid s → LastFails s k
+last_fails s k begun may earlier h =
+    let found = last_some s.trees (h.begun begun) in
+    let t = found.0 in
+    let fails : may_fail t ≡ true = sym (last_may_fail_is s.trees t found.1) ∙ may in
+    let th : IsTree s.nodes s.items t = all-last (IsTree s.nodes s.items) s.trees t h.trees found.1 in
+    let count = last_subs_is s.trees t found.1 in
+    let before : AreSubs s.nodes s.items trees.Update 0 t.subs = subst (λ (q : TreeKind). AreSubs s.nodes s.items q 0 t.subs) (fails_update t fails) th.subs in
+    record {
+      tree = t;
+      last = found.1;
+      count = count;
+      same_subs = last_tree_subs_is s.trees t found.1;
+      update = fails_update t fails;
+      adds = fails_adds t fails;
+      few = th.few;
+      before = before;
+      after = undone_valid s.nodes s.items t.subs k (omega arith) before;
+    }
+
+-- subtransactions have few operations, of items that are there and of small amounts
+
+pub few_ops : (nodes : ℕ) (items : List ItemRow) (kind : TreeKind) (k : ℕ) (ss : List Sub) → AreSubs nodes items kind k ss → subs_ops ss ≤ 16 * length ss
+few_ops nodes items kind k [] h = omega arith
+few_ops nodes items kind k (s ∷ ss) h = omega (arith, h.0.few, few_ops nodes items kind (k + 1) ss h.1)
+
+one_load : (x : ℕ) (o : SubOp) → IsTrue (is_in_range forms.Two o.deed) → op_load x o ≤ MOST_AMOUNT
+one_load x o e = by (o.item.0 == x) (at_most (magnitude o.deed) MOST_AMOUNT (not (draws_negative o.deed)) e)
+  where
+    by : (b : Bool) → magnitude o.deed ≤ MOST_AMOUNT → (if b then magnitude o.deed else 0) ≤ MOST_AMOUNT
+    by true le = le
+    by false le = omega arith
+
+small_ops : (x : ℕ) (os : List SubOp) → AllByRecursion (λ (o : SubOp). IsTrue (is_in_range forms.Two o.deed)) os → ops_load x os ≤ 1000000000000000000000000000000 * length os
+small_ops x [] h = omega arith
+small_ops x (o ∷ os) h = omega (arith, one_load x o h.0, small_ops x os h.1)
+
+pub small_subs : (nodes : ℕ) (items : List ItemRow) (kind : TreeKind) (k x : ℕ) (ss : List Sub) → AreSubs nodes items kind k ss → subs_load x ss ≤ 16000000000000000000000000000000 * length ss
+small_subs nodes items kind k x [] h = omega arith
+small_subs nodes items kind k x (s ∷ ss) h = omega (arith, small_ops x s.ops h.0.amounts, h.0.few, small_subs nodes items kind (k + 1) x ss h.1)
+
+pub subs_within : (nodes : ℕ) (items : List ItemRow) (kind : TreeKind) (k : ℕ) (ss : List Sub) → AreSubs nodes items kind k ss → AllByRecursion (SubWithin (length items)) ss
+subs_within nodes items kind k [] h = tt
+subs_within nodes items kind k (s ∷ ss) h = (
+  all-weaker (IsOp items kind s.node.0) (OpWithin (length items)) (λ o is. op_within items kind s.node.0 o is) s.ops h.0.ops,
+  subs_within nodes items kind (k + 1) ss h.1,
+)
+
+-- what the functions that undo the last tree say
+
+some_last : (ts : List Tree) (found : Option Tree) → last_of ts ≡ found → 0 < last_subs ts → (t : Tree) × (last_of ts ≡ Some t)
+some_last ts None e lt = let none : last_subs ts ≡ 0 = rw (e, last_subs) refl in absurd (omega arith)
+some_last ts (Some t) e lt = (t, e)
+
+pub failed_count : (ts : List Tree) (k m : ℕ) (expanded : List Sub) → m < last_subs ts → expanded ≡ undone (last_tree_subs ts) k → last_subs (on_last (failed_tree k) ts) ≡ length expanded
+failed_count ts k m expanded lt is =
+    let found = some_last ts (last_of ts) refl (omega arith) in
+    let t = found.0 in
+    last_subs_is (on_last (failed_tree k) ts) (failed_tree k t) (last_of-on_last (failed_tree k) ts t found.1)
+    ∙ sym (ap (λ (x : List Sub). length x) (is ∙ ap (λ (x : List Sub). undone x k) (last_tree_subs_is ts t found.1)))
+
+true_first : (a b c d : Bool) → a ≡ true → (a || b || c || d) ≡ true
+true_first true b c d e = refl
+true_first false b c d e = absurd cc
+
+pub crowded_tree : (ts : List Tree) (n : ℕ) → last_subs ts ≡ n → 64 < n → true ≡ are_crowded ts
+crowded_tree ts n is lt =
+    sym (true_first (nat_lt 64 (last_subs ts)) (nat_lt 100000 (all_subs ts)) (nat_lt 200000 (all_ops ts)) (are_many (strict_trees ts) (update_subs ts)) (lt_true 64 (last_subs ts) (omega arith)))
+  where
+    lt_true : (a b : ℕ) → a < b → nat_lt a b ≡ true
+    lt_true a b lt = grind (arith, common_steps)
+
+pub crowded_last : (ts : List Tree) (b : Bool) → last_subs ts ≤ 64 → all_subs ts ≤ 100000 → all_ops ts ≤ 200000 → b ≡ are_many (strict_trees ts) (update_subs ts) → b ≡ are_crowded ts
+crowded_last ts b tree subs ops e =
+    e ∙ sym (ap (λ (x : Bool). x || nat_lt 100000 (all_subs ts) || nat_lt 200000 (all_ops ts) || are_many (strict_trees ts) (update_subs ts)) (lt_not 64 (last_subs ts) tree)
+        ∙ ap (λ (x : Bool). false || x || nat_lt 200000 (all_ops ts) || are_many (strict_trees ts) (update_subs ts)) (lt_not 100000 (all_subs ts) subs)
+        ∙ ap (λ (x : Bool). false || false || x || are_many (strict_trees ts) (update_subs ts)) (lt_not 200000 (all_ops ts) ops))
+
+-- how many there are with the undone form
+pub record Sizes (s : ScriptData) (k : ℕ) (expanded : List Sub) : Type 0 where
+  pub few_before : last_subs s.trees ≤ 64
+  pub few_ops_before : subs_ops (last_tree_subs s.trees) ≤ 1024
+  pub few_ops_after : subs_ops expanded ≤ 1024
+  pub subs : all_subs (with_failed s k).trees + last_subs s.trees ≡ all_subs s.trees + length expanded
+  pub ops : all_ops (with_failed s k).trees + subs_ops (last_tree_subs s.trees) ≡ all_ops s.trees + subs_ops expanded
+  pub updates : update_subs (with_failed s k).trees + last_subs s.trees ≡ update_subs s.trees + length expanded
+
+pub sizes_are : (s : ScriptData) (k : ℕ) (expanded : List Sub) → s.begun ≡ true → last_may_fail s.trees ≡ true → k < last_subs s.trees → expanded ≡ undone (last_tree_subs s.trees) k → length expanded ≤ 64
+    → IsValid s → Sizes s k expanded
+sizes_are s k expanded begun may earlier is few h =
+    let f = last_fails s k begun may earlier h in
+    let t = f.tree in
+    let same : expanded ≡ undone t.subs k = is ∙ ap (λ (x : List Sub). undone x k) f.same_subs in
+    let len = ap (λ (x : List Sub). length x) same in
+    let ops_len = ap subs_ops same in
+    let before_len = ap subs_ops f.same_subs in
+    record {
+      few_before = omega (arith, f.count, f.few);
+      few_ops_before = omega (arith, before_len, few_ops s.nodes s.items trees.Update 0 t.subs f.before, f.few);
+      few_ops_after = omega (arith, ops_len, few_ops s.nodes s.items trees.Update 0 (undone t.subs k) f.after, len, few);
+      subs = omega (arith, failed_subs s.trees k t f.last, f.count, len);
+      ops = omega (arith, failed_ops s.trees k t f.last, before_len, ops_len);
+      updates = omega (arith, failed_updates s.trees k t f.last f.update, f.count, len);
+    }
+
+-- the totals with the undone form
+module _ (s : Inside) (h : IsKept s) (k : ℕ) (expanded : List Sub) (begun : s.begun ≡ true) (may : last_may_fail s.trees.items ≡ true) (earlier : k < last_subs s.trees.items)
+    (is : expanded ≡ undone (last_tree_subs s.trees.items) k) (few : length expanded ≤ 64) where
+  pub may_reload : MayReload s.totals.items (last_tree_subs s.trees.items) expanded
+  may_reload =
+      let d = data_of s in
+      let f = last_fails d k begun may earlier h.valid in
+      let t = f.tree in
+      let same : expanded ≡ undone t.subs k = is ∙ ap (λ (x : List Sub). undone x k) f.same_subs in
+      let before = subst (λ (x : List Sub). AreSubs d.nodes d.items trees.Update 0 x) (sym f.same_subs) f.before in
+      let after = subst (λ (x : List Sub). AreSubs d.nodes d.items trees.Update 0 x) (sym same) f.after in
+      record {
+        off_within = subst (λ (n : ℕ). AllByRecursion (SubWithin n) (last_tree_subs s.trees.items)) (sym h.len) (subs_within d.nodes d.items trees.Update 0 (last_tree_subs s.trees.items) before);
+        on_within = subst (λ (n : ℕ). AllByRecursion (SubWithin n) expanded) (sym h.len) (subs_within d.nodes d.items trees.Update 0 expanded after);
+        enough = λ x lt. omega (arith, h.totals x (omega (arith, h.len)), last_weight (λ (u : Tree). subs_load x u.subs) (trees_load x) (load_total x).trees s.trees.items t f.last, ap (subs_load x) f.same_subs);
+        room = λ x lt. omega (arith, h.totals x (omega (arith, h.len)), h.valid.loads x (omega (arith, h.len)), most_amount-small d.form, small_subs d.nodes d.items trees.Update 0 x expanded after, few);
+      }
+
+  pub reloaded_totals : (now : List ℕ) → IsReloaded s.totals.items now (last_tree_subs s.trees.items) expanded → AreTotals now (with_failed (data_of s) k)
+  reloaded_totals now r =
+      let d = data_of s in
+      let f = last_fails d k begun may earlier h.valid in
+      let t = f.tree in
+      let same : expanded ≡ undone t.subs k = is ∙ ap (λ (x : List Sub). undone x k) f.same_subs in
+      record {
+        len = omega (arith, r.len, h.len);
+        loads = λ x lt. omega (arith, r.loads x (omega (arith, h.len)), h.totals x lt, failed_loads s.trees.items k t f.last x, ap (subs_load x) f.same_subs, ap (subs_load x) same);
+      }
+
+-- whether an item is too heavy, by the totals
+pub heavy_is : (s : ScriptData) (cells : List ℕ) (most : ℕ) → AreTotals cells s → most ≡ most_amount s.form → list_any (λ (n : ℕ). nat_lt most n) cells ≡ is_heavy s
+heavy_is s cells most h is =
+    ap (λ (m : ℕ). list_any (λ (n : ℕ). nat_lt m n) cells) is
+    ∙ any_cells (λ (n : ℕ). nat_lt (most_amount s.form) n) (λ (x : ℕ). load x s) cells 0 (λ j lt. h.loads j (omega (arith, h.len)) ∙ ap (λ (x : ℕ). load x s) (let same : j ≡ 0 + j = omega arith in same))
+    ∙ ap (any_from (λ (x : ℕ). nat_lt (most_amount s.form) (load x s)) 0) h.len
+
+-- what a script keeps beside what it holds, where its last tree fails
+pub kept_failed : (s : Inside) (its : Vec Tree) (totals : Vec ℕ) (k n o u : ℕ) → its.items ≡ on_last (failed_tree k) s.trees.items → AreTotals totals.items (with_failed (data_of s) k)
+    → n ≡ all_subs (with_failed (data_of s) k).trees → o ≡ all_ops (with_failed (data_of s) k).trees → u ≡ update_subs (with_failed (data_of s) k).trees → MayFail (data_of s) k → IsKept s
+    → IsKept (record s { trees = its; totals = totals; subs = n; ops = o; update_subs = u; begun = false })
+kept_failed s its totals k n o u is t n_is o_is u_is may h =
+    let f = last_fails (data_of s) k may.begun may.adds may.earlier h.valid in
+    record {
+      valid = subst (λ (ts : List Tree). IsValid (record (data_of s) { trees = ts; begun = false })) (sym is) (valid_failed (data_of s) k may h.valid);
+      item_names = h.item_names;
+      tree_names = h.tree_names ∙ sym (ap tree_names is ∙ names-on_last (failed_tree k) s.trees.items (λ v. refl));
+      len = t.len;
+      totals = λ j lt. t.loads j lt ∙ sym (ap (λ (ts : List Tree). load j (record (data_of s) { trees = ts; begun = false })) is);
+      puts_len = h.puts_len;
+      puts = λ j lt. h.puts j lt ∙ sym (ap (trees_puts j) is ∙ failed_puts s.trees.items k f.tree f.last j f.adds);
+      subs = n_is ∙ sym (ap all_subs is);
+      ops = o_is ∙ sym (ap all_ops is);
+      advances = h.advances;
+      loses = h.loses;
+      strict = h.strict ∙ sym (ap strict_trees is ∙ failed_strict s.trees.items k f.tree f.last);
+      update_subs = u_is ∙ sym (ap update_subs is);
+    }
+
+-- the last of some trees, in its place
+pub fail_last_is : (ts : List Tree) (k : ℕ) (t : Tree) (failed : SubNo) (was now : List Sub) → suc k ≡ length ts → t ≡ get_or ts k t → was ≡ t.subs → now ≡ undone (last_tree_subs ts) failed.0
+    → set ts k (let u : Tree = record { name = t.name; kind = t.kind; subs = now; written = Some (record { failed = failed; subs = was }) } in u) ≡ on_last (failed_tree failed.0) ts
+fail_last_is ts k t failed was now e at was_is now_is =
+    let last = last_at ts k t e at in
+    let undone_now : now ≡ undone t.subs failed.0 = now_is ∙ ap (λ (x : List Sub). undone x failed.0) (last_tree_subs_is ts t last) in
+    ap (λ (x : List Sub). set ts k (let u : Tree = record { name = t.name; kind = t.kind; subs = x; written = Some (record { failed = failed; subs = was }) } in u)) undone_now
+    ∙ ap (λ (x : List Sub). set ts k (let u : Tree = record { name = t.name; kind = t.kind; subs = undone t.subs failed.0; written = Some (record { failed = failed; subs = x }) } in u)) was_is
+    ∙ ap (λ (u : Tree). set ts k (failed_tree failed.0 u)) at
+    ∙ on_last_is (failed_tree failed.0) ts k t e
+
+pub strict_failed : (ts : List Tree) (k m : ℕ) → m < last_subs ts → strict_trees (on_last (failed_tree k) ts) ≡ strict_trees ts
+strict_failed ts k m lt =
+    let found = some_last ts (last_of ts) refl (omega arith) in
+    failed_strict ts k found.0 found.1

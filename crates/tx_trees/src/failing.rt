@@ -1,8 +1,9 @@
 // What changes where the last tree fails and is undone.
-ghost use Rattle.std.specs.Prelude.{◌≡◌, ◌<◌, ◌≤◌, ◌+◌, ◌^◌, ℕ, get_or, length, nat_lt};
+ghost use Rattle.std.specs.Prelude.{◌≡◌, ◌<◌, ◌≤◌, ◌+◌, ◌^◌, ℕ, IfOk, get_or, length, nat_lt};
 ghost use Rattle.std.specs.List.{AllByRecursion, list_any};
 ghost use Rattle.tx_trees.specs.Adding.{failed_tree, last_ops, last_tree_subs, may_fail, on_last};
 ghost use Rattle.tx_trees.specs.Counts.{subs_ops};
+ghost use Rattle.tx_trees.specs.Inside.{IsReloaded, MayReload};
 ghost use Rattle.tx_trees.specs.Undone.{is_add, ops_add, subs_add, undone};
 ghost use Rattle.tx_trees.specs.Valid.{ops_load, subs_load};
 
@@ -10,8 +11,9 @@ use crate::parts::{Deed, Sub, SubOp, Subs, Tree, Written};
 use crate::ranges::magnitude;
 use crate::trees::is_update;
 use commute_ops::Op;
+use std::alloc::Global;
 use std::mem;
-use tv_base::SubNo;
+use tv_base::{NoMemory, SubNo};
 
 fn is_add(deed: Deed) -> bool
     ensures { result ≡ is_add deed }
@@ -88,7 +90,7 @@ fn unload_ops(totals: &mut Vec<u128>, ops: &[SubOp])
 }
 
 // Adds the magnitudes of the subtransactions' operations to the items' totals.
-pub(crate) fn load_subs(totals: &mut Vec<u128>, subs: &[Sub])
+fn load_subs(totals: &mut Vec<u128>, subs: &[Sub])
     requires within { AllByRecursion (λ s. AllByRecursion (λ o. o.item.0 < length totals.old.items) s.ops) subs.now }
     requires room { (k : ℕ) → k < length totals.old.items → get_or totals.old.items k 0 + subs_load k subs.now < 2 ^ 128 }
     ensures len { length totals.new.items ≡ length totals.old.items }
@@ -100,7 +102,7 @@ pub(crate) fn load_subs(totals: &mut Vec<u128>, subs: &[Sub])
 }
 
 // Takes the magnitudes of the subtransactions' operations off the items' totals.
-pub(crate) fn unload_subs(totals: &mut Vec<u128>, subs: &[Sub])
+fn unload_subs(totals: &mut Vec<u128>, subs: &[Sub])
     requires within { AllByRecursion (λ s. AllByRecursion (λ o. o.item.0 < length totals.old.items) s.ops) subs.now }
     requires loaded { (k : ℕ) → k < length totals.old.items → subs_load k subs.now ≤ get_or totals.old.items k 0 }
     ensures len { length totals.new.items ≡ length totals.old.items }
@@ -109,6 +111,32 @@ pub(crate) fn unload_subs(totals: &mut Vec<u128>, subs: &[Sub])
     for sub in subs {
         unload_ops(totals, sub.ops.items());
     }
+}
+
+fn copied(alloc: Global, totals: &[u128]) -> Result<Vec<u128>, NoMemory>
+    ensures { IfOk result (λ out. out.items ≡ totals.now) }
+{
+    let mut out = Vec::new(alloc);
+    for total in totals {
+        out.push(*total)?;
+    }
+    Ok(out)
+}
+
+// The items' totals with some subtransactions in the place of others.
+pub(crate) fn reloaded(
+    alloc: Global,
+    totals: &[u128],
+    off: &[Sub],
+    on: &[Sub],
+) -> Result<Vec<u128>, NoMemory>
+    requires { MayReload totals.now off.now on.now }
+    ensures { IfOk result (λ out. IsReloaded totals.now out.items off.now on.now) }
+{
+    let mut out = copied(alloc, totals)?;
+    unload_subs(&mut out, off);
+    load_subs(&mut out, on);
+    Ok(out)
 }
 
 // Whether one of the totals is too great.

@@ -1,6 +1,6 @@
 // A script, which is valid whatever was added.
 ghost use Rattle.std.specs.Prelude.{ℕ, true, false, ◌≡◌, ◌<◌, ◌≤◌, ◌+◌, ◌==◌, length, is_some, nat_lt, IfOk, IfSome, IsNone, OnErr, OnOk};
-ghost use Rattle.tx_trees.specs.Adding.{Steps, adds_advance, adds_item, adds_lose, adds_op, adds_pick, adds_settle, adds_sub, adds_tree, are_crowded, fresh, has_no_op_left, has_no_sub_left, has_no_tree_left, kind_at, last_kind, last_may_fail, last_node, last_subs, last_tree_subs, names_tree, node_at, place_of, puts_undone, with_failed, with_item, with_op, with_sub, with_tree, upgraded};
+ghost use Rattle.tx_trees.specs.Adding.{Steps, adds_advance, adds_item, adds_lose, adds_op, adds_pick, adds_settle, adds_sub, adds_tree, are_crowded, fresh, has_no_op_left, has_no_sub_left, has_no_tree_left, is_heavy, kind_at, last_kind, last_may_fail, last_node, last_subs, last_tree_subs, names_tree, node_at, place_of, puts_undone, with_failed, with_item, with_op, with_sub, with_tree, upgraded};
 ghost use Rattle.tx_trees.specs.Amounts.{magnitude};
 ghost use Rattle.tx_trees.specs.Counts.{advances_in, all_ops, all_subs, update_subs};
 ghost use Rattle.tx_trees.specs.Forms.{most_amount, most_nodes};
@@ -15,7 +15,7 @@ use crate::children::{next_child, visits};
 use crate::counts::{
     are_many, are_spread, has_touched, last_kind, one_put, one_strict, one_update,
 };
-use crate::failing::{are_heavy, count_ops, fail_last, last_ops, load_subs, unload_subs};
+use crate::failing::{are_heavy, count_ops, fail_last, last_ops, reloaded};
 use crate::lookups::{
     deed_fits, empty_sub, kind_at, last_subs, node_at, place_of_last, push_op, push_sub, rooted,
 };
@@ -549,9 +549,9 @@ impl Script {
         let after = expanded.len() as u32;
         let ops_after = count_ops(expanded);
         Sizes {
-            subs: self.subs - before + after,
-            ops: self.ops - ops_before + ops_after,
-            update_subs: self.update_subs - before + after,
+            subs: self.subs + after - before,
+            ops: self.ops + ops_after - ops_before,
+            update_subs: self.update_subs + after - before,
         }
     }
 
@@ -564,11 +564,18 @@ impl Script {
         requires few { length expanded.now ≤ 64 }
         ensures { IfOk result (λ t. AreTotals t.items (with_failed self.now failed.0)) }
     {
-        let mut totals = self.totals.to_vec(self.alloc)?;
         let last = &self.trees[self.trees.len() - 1];
-        unload_subs(&mut totals, last.subs.items());
-        load_subs(&mut totals, expanded);
+        let totals = reloaded(self.alloc, &self.totals, last.subs.items(), expanded)?;
         Ok(totals)
+    }
+
+    // Whether an item's magnitudes are too great with the undone form in the place of what the last tree was written
+    // with.
+    fn is_heavy_with(&self, failed: SubNo, totals: &[u128]) -> bool
+        requires { AreTotals totals.now (with_failed self.now failed.0) }
+        ensures { result ≡ is_heavy (with_failed self.now failed.0) }
+    {
+        are_heavy(totals, self.form.most_amount())
     }
 
     /// Makes the tree that is begun fail: its undone form takes the place of its subtransactions, which are kept as
@@ -587,7 +594,7 @@ impl Script {
             return Err(Refusal::Why(Why::TooMany));
         }
         let totals = self.totals_with(failed, expanded.items())?;
-        if are_heavy(&totals, self.form.most_amount()) {
+        if self.is_heavy_with(failed, &totals) {
             return Err(Refusal::Why(Why::TooMuch));
         }
         self.put_failed(failed, expanded, totals);
