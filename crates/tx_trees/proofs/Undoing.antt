@@ -330,6 +330,30 @@ pub few_ops : (nodes : ℕ) (items : List ItemRow) (kind : TreeKind) (k : ℕ) (
 few_ops nodes items kind k [] h = omega arith
 few_ops nodes items kind k (s ∷ ss) h = omega (arith, h.0.few, few_ops nodes items kind (k + 1) ss h.1)
 
+-- a magnitude in the wider range
+small_op : (o : SubOp) → IsTrue (is_in_range forms.Two o.deed) → magnitude o.deed ≤ MOST_AMOUNT
+small_op o e = at_most (magnitude o.deed) MOST_AMOUNT (not (draws_negative o.deed)) e
+
+pub small_amounts : (nodes : ℕ) (items : List ItemRow) (kind : TreeKind) (k : ℕ) (ss : List Sub) → AreSubs nodes items kind k ss → AllByRecursion (λ (s : Sub). AllByRecursion (λ (o : SubOp). magnitude o.deed ≤ MOST_AMOUNT) s.ops) ss
+small_amounts nodes items kind k [] h = tt
+small_amounts nodes items kind k (s ∷ ss) h = (
+  all-weaker (λ (o : SubOp). IsTrue (is_in_range forms.Two o.deed)) (λ (o : SubOp). magnitude o.deed ≤ MOST_AMOUNT) small_op s.ops h.0.amounts,
+  small_amounts nodes items kind (k + 1) ss h.1,
+)
+
+-- the subtransactions of the last tree
+pub record LastSubs (s : ScriptData) (subs : List Sub) : Type 0 where
+  pub same : subs ≡ last_tree_subs s.trees
+  pub count : length subs ≡ last_subs s.trees
+  pub few : length subs ≤ 64
+  pub small : AllByRecursion (λ (x : Sub). AllByRecursion (λ (o : SubOp). magnitude o.deed ≤ MOST_AMOUNT) x.ops) subs
+
+pub last_subs_here : (s : ScriptData) (k : ℕ) (t : Tree) → suc k ≡ length s.trees → t ≡ get_or s.trees k t → IsValid s → LastSubs s t.subs
+last_subs_here s k t e at h =
+    let last = last_at s.trees k t e at in
+    let th = all-last (IsTree s.nodes s.items) s.trees t h.trees last in
+    record { same = sym (last_tree_subs_is s.trees t last); count = sym (last_subs_is s.trees t last); few = th.few; small = small_amounts s.nodes s.items t.kind 0 t.subs th.subs }
+
 one_load : (x : ℕ) (o : SubOp) → IsTrue (is_in_range forms.Two o.deed) → op_load x o ≤ MOST_AMOUNT
 one_load x o e = by (o.item.0 == x) (at_most (magnitude o.deed) MOST_AMOUNT (not (draws_negative o.deed)) e)
   where

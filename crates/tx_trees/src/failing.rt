@@ -46,8 +46,8 @@ fn subs_add(subs: &[Sub]) -> bool
     true
 }
 
-/// Whether a tree may fail: it is an update tree, and all its operations are `add`.
-pub fn may_fail(tree: &Tree) -> bool
+// Whether a tree may fail: it is an update tree, and all its operations are `add`.
+pub(crate) fn may_fail(tree: &Tree) -> bool
     ensures { result ≡ may_fail tree.now }
 {
     is_update(tree.kind) && subs_add(tree.subs.items())

@@ -16,7 +16,6 @@ mod script;
 mod trees;
 mod why;
 
-pub use failing::may_fail;
 pub use names::is_plain_name;
 pub use parts::{Deed, Form, ItemRow, ScriptRow, Sub, SubOp, SubOps, Subs, Tree, TreeKind, Written};
 pub use ranges::{is_in_range, may_start};

@@ -1,5 +1,7 @@
 // A script, which is valid whatever was added.
 ghost use Rattle.std.specs.Prelude.{ℕ, true, false, ◌≡◌, ◌<◌, ◌≤◌, ◌+◌, ◌==◌, length, is_some, nat_lt, IfOk, IfSome, IsNone, OnErr, OnOk};
+ghost use Rattle.std.specs.List.{AllByRecursion};
+ghost use Rattle.commute_ops.specs.declared.kinds.TheConstants.{MOST_AMOUNT};
 ghost use Rattle.tx_trees.specs.Adding.{Steps, adds_advance, adds_item, adds_lose, adds_op, adds_pick, adds_settle, adds_sub, adds_tree, are_crowded, fresh, has_no_op_left, has_no_sub_left, has_no_tree_left, is_heavy, kind_at, last_kind, last_may_fail, last_node, last_subs, last_tree_subs, names_tree, node_at, place_of, puts_undone, with_failed, with_item, with_op, with_sub, with_tree, upgraded};
 ghost use Rattle.tx_trees.specs.Amounts.{magnitude};
 ghost use Rattle.tx_trees.specs.Counts.{advances_in, all_ops, all_subs, update_subs};
@@ -15,7 +17,7 @@ use crate::children::{next_child, visits};
 use crate::counts::{
     are_many, are_spread, has_touched, last_kind, one_put, one_strict, one_update,
 };
-use crate::failing::{are_heavy, count_ops, fail_last, last_ops, reloaded};
+use crate::failing::{are_heavy, count_ops, fail_last, last_ops, may_fail, reloaded};
 use crate::lookups::{
     deed_fits, empty_sub, kind_at, last_subs, node_at, place_of_last, push_op, push_sub, rooted,
 };
@@ -515,6 +517,25 @@ impl Script {
         ensures some { self.now.begun ≡ true → 0 < length self.now.trees }
     {
         self.begun
+    }
+
+    /// The subtransactions of the tree that is begun.
+    pub fn begun_subs(&self) -> &Subs
+        requires { self.now.begun ≡ true }
+        ensures subs { result.now ≡ last_tree_subs self.now.trees }
+        ensures count { length result.now ≡ last_subs self.now.trees }
+        ensures few { length result.now ≤ 64 }
+        ensures small { AllByRecursion (λ s. AllByRecursion (λ o. magnitude o.deed ≤ MOST_AMOUNT) s.ops) result.now }
+    {
+        &self.trees[self.trees.len() - 1].subs
+    }
+
+    /// Whether the tree that is begun may fail: it is an update tree, and all its operations are `add`.
+    pub fn begun_may_fail(&self) -> bool
+        requires { self.now.begun ≡ true }
+        ensures { result ≡ last_may_fail self.now.trees }
+    {
+        may_fail(&self.trees[self.trees.len() - 1])
     }
 
     // Whether the last tree's undone form, in the place of what it was written with, passes a limit.
