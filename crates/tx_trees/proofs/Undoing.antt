@@ -13,10 +13,12 @@ use Rattle.tx_trees.specs.Amounts.{magnitude}
 use Rattle.tx_trees.specs.Forms.{most_amount}
 use Rattle.tx_trees.specs.Ranges.{draws_negative, is_in_range}
 use Rattle.tx_trees.specs.Inside.{AreTotals, IsKept, IsReloaded, MayReload, OpWithin, SubWithin, data_of}
+use Rattle.tx_trees.specs.Names.{is_name}
+use Rattle.tx_trees.specs.Rebuilt.{written_subs}
 use Rattle.tx_trees.specs.Passing.{MayFail}
 use Rattle.tx_trees.specs.ScriptData.{ScriptData, is_update}
 use Rattle.tx_trees.specs.Undone.{goes_from, inverse, inverses_from, is_add, is_undone, negated, negated_deed, ops_add, staying, staying_from, stays, subs_add, undoes, undone}
-use Rattle.tx_trees.specs.Valid.{AreSubs, AreWithin, HasFailed, IsOp, IsTree, IsValid, as_written, load, ops_load, subs_load, tree_names, trees_load}
+use Rattle.tx_trees.specs.Valid.{AreSubs, AreWithin, HasFailed, IsOp, IsTree, IsValid, MayAllHaveFailed, MayHaveFailed, as_written, load, ops_load, subs_load, tree_names, trees_load}
 use Rattle.std.specs.Global.{Vec}
 use Rattle.tv_base.specs.declared.numbers.SubNo.{SubNo}
 use Rattle.tx_trees.specs.declared.script.Script.TheInside.{Inside}
@@ -506,3 +508,35 @@ pub strict_failed : (ts : List Tree) (k m : ℕ) → m < last_subs ts → strict
 strict_failed ts k m lt =
     let found = some_last ts (last_of ts) refl (omega arith) in
     failed_strict ts k found.0 found.1
+
+-- a tree of a valid script as it was written
+pub record WrittenTree (form : Form) (nodes : ℕ) (items : List ItemRow) (t : Tree) : Type 0 where
+  pub few : length (written_subs t) ≤ 64
+  pub subs : AreSubs nodes items t.kind 0 (written_subs t)
+  pub name : IsTrue (is_name t.name)
+  pub fails : (w : Written) → t.written ≡ Some w → (form ≡ forms.Two) × (w.failed.0 < 64)
+
+written_tree : (form : Form) (nodes : ℕ) (items : List ItemRow) (front : List Tree) (t : Tree) (w : Option Written) → t.written ≡ w → IsTree nodes items t → MayHaveFailed form nodes items front t w → WrittenTree form nodes items t
+written_tree form nodes items front t None is th h =
+    let same : written_subs t ≡ t.subs = rw (is, written_subs) refl in
+    record {
+      few = subst (λ (x : List Sub). length x ≤ 64) (sym same) th.few;
+      subs = subst (λ (x : List Sub). AreSubs nodes items t.kind 0 x) (sym same) th.subs;
+      name = th.name;
+      fails = λ w e. absurd (cc (e, is));
+    }
+written_tree form nodes items front t (Some w) is th h =
+    let same : written_subs t ≡ w.subs = rw (is, written_subs) refl in
+    record {
+      few = subst (λ (x : List Sub). length x ≤ 64) (sym same) h.tree.few;
+      subs = subst (λ (x : List Sub). AreSubs nodes items t.kind 0 x) (sym same) h.tree.subs;
+      name = th.name;
+      fails = λ v e. (h.second, let one : w ≡ v = some_written w v (sym is ∙ e) in subst (λ (x : Written). x.failed.0 < 64) one (omega (arith, h.failed, h.tree.few)));
+    }
+  where
+    some_written : (a b : Written) → Some a ≡ Some b → a ≡ b
+    some_written a b e = let P : Option Written → Type 0 = λ o. elim o [ None ↦ ⊥ | Some z ↦ a ≡ z ] in subst P e refl
+
+pub written_trees : (form : Form) (nodes : ℕ) (items : List ItemRow) (front ts : List Tree) → AllByRecursion (IsTree nodes items) ts → MayAllHaveFailed form nodes items front ts → AllByRecursion (WrittenTree form nodes items) ts
+written_trees form nodes items front [] all h = tt
+written_trees form nodes items front (t ∷ ts) all h = (written_tree form nodes items front t t.written refl all.0 h.0, written_trees form nodes items (front ++ t ∷ []) ts all.1 h.1)
