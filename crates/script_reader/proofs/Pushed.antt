@@ -71,7 +71,7 @@ fail_pushed items t w subs a b c r is same hb h =
     let text : lines (rows_of_tree items (Some t)) ≡ lines rows ++ (line (fail_fields w.failed.0) ++ []) = ap lines whole ∙ lines-append rows last in
     let before : b ≡ a ++ lines rows = hb ∙ ap (λ (x : List Sub). a ++ lines (tree_rows items t.kind t.name x)) same in
     on_ok r _ _ (λ e. e ∙ ap (λ (x : List ℕ). x ++ line (fail_fields w.failed.0)) before ∙ append_assoc a (lines rows) (line (fail_fields w.failed.0))
-        ∙ ap (λ (x : List ℕ). a ++ (lines rows ++ x)) (sym (append-nil (line (fail_fields w.failed.0)))) ∙ ap (λ (x : List ℕ). a ++ x) (sym text)) h
+    ∙ ap (λ (x : List ℕ). a ++ (lines rows ++ x)) (sym (append-nil (line (fail_fields w.failed.0)))) ∙ ap (λ (x : List ℕ). a ++ x) (sym text)) h
 
 -- all parts, one behind the other
 pub all_pushed : (s : ScriptData) (t f a b c d : List ℕ) → t ≡ [] → f ≡ t ++ lines (form_rows s.form) → a ≡ f ++ line (nodes_fields s.nodes) → b ≡ a ++ lines (map item_fields s.items) → c ≡ b ++ lines (rows_of_rows s.items s.trees s.rows)

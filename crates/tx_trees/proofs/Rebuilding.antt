@@ -476,8 +476,7 @@ module _ (s : ScriptData) (h : IsValid s) where
   written_done T Ts t rs b None is e f =
       let after : List ScriptRow = rs ++ rows.Tree (record { 0 = length T }) ∷ [] in
       let same : tree_of t.name t.kind t.subs ≡ t = ap (λ (w : Option Written). let v : Tree = record { name = t.name; kind = t.kind; subs = t.subs; written = w } in v) (sym is) in
-      let here : T ++ tree_of t.name t.kind t.subs ∷ Ts ≡ s.trees = ap (λ (v : Tree). T ++ v ∷ Ts) same ∙ e in
-      (
+      let here : T ++ tree_of t.name t.kind t.subs ∷ Ts ≡ s.trees = ap (λ (v : Tree). T ++ v ∷ Ts) same ∙ e in (
         true,
         taken _ _ (λ u. fail_added u None) (rooted_done s h T Ts t.name t.kind t.subs rs b here)
             ∙ ap (λ (v : Tree). Ok (with_rows s (T ++ v ∷ []) after true)) same,
@@ -496,8 +495,7 @@ module _ (s : ScriptData) (h : IsValid s) where
       let last = last_of-seam T u in
       let may : may_fail u ≡ true = may_fail_is u f.update f.adds in
       let passes = fail_passes st k refl (omega (arith, f.failed, last_subs_is ts u last)) (last_may_fail_is ts u last ∙ may)
-      (ap are_crowded changed ∙ uncrowded T Ts t e) (ap (λ (x : List Tree). is_heavy (with_rows s x after false)) changed ∙ unheavy T Ts t after false e) in
-      (
+      (ap are_crowded changed ∙ uncrowded T Ts t e) (ap (λ (x : List Tree). is_heavy (with_rows s x after false)) changed ∙ unheavy T Ts t after false e) in (
         false,
         taken _ _ (λ v. fail_added v (Some w)) (rooted_done then (before_failing T Ts t w e f) T [] t.name t.kind w.subs rs b refl)
             ∙ passes

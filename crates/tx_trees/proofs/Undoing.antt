@@ -405,8 +405,8 @@ crowded_tree ts n is lt =
 pub crowded_last : (ts : List Tree) (b : Bool) → last_subs ts ≤ 64 → all_subs ts ≤ 100000 → all_ops ts ≤ 200000 → b ≡ are_many (strict_trees ts) (update_subs ts) → b ≡ are_crowded ts
 crowded_last ts b tree subs ops e =
     e ∙ sym (ap (λ (x : Bool). x || nat_lt 100000 (all_subs ts) || nat_lt 200000 (all_ops ts) || are_many (strict_trees ts) (update_subs ts)) (lt_not 64 (last_subs ts) tree)
-        ∙ ap (λ (x : Bool). false || x || nat_lt 200000 (all_ops ts) || are_many (strict_trees ts) (update_subs ts)) (lt_not 100000 (all_subs ts) subs)
-        ∙ ap (λ (x : Bool). false || false || x || are_many (strict_trees ts) (update_subs ts)) (lt_not 200000 (all_ops ts) ops))
+    ∙ ap (λ (x : Bool). false || x || nat_lt 200000 (all_ops ts) || are_many (strict_trees ts) (update_subs ts)) (lt_not 100000 (all_subs ts) subs)
+    ∙ ap (λ (x : Bool). false || false || x || are_many (strict_trees ts) (update_subs ts)) (lt_not 200000 (all_ops ts) ops))
 
 -- how many there are with the undone form
 pub record Sizes (s : ScriptData) (k : ℕ) (expanded : List Sub) : Type 0 where
