@@ -1,6 +1,6 @@
 -- What a tree of `add` operations becomes once one of its subtransactions fails: those that the failed one sent don't
 -- run, and what the others do is undone.
-use Rattle.std.specs.Prelude.{ℕ, Bool, false, not, if◌then◌else◌, ◌+◌, ◌==◌, ◌&&◌, ◌||◌, List, [], ◌∷◌, ◌++◌, length, get_or, take, map, pos, ◌-ℤ◌, count_by}
+use Rattle.std.specs.Prelude.{ℕ, Bool, true, false, not, if◌then◌else◌, ◌+◌, ◌==◌, ◌&&◌, ◌||◌, List, [], ◌∷◌, ◌++◌, length, get_or, take, map, pos, ◌-ℤ◌, count_by}
 use Rattle.commute_ops.specs.declared.kinds.Op.{Op}
 use Rattle.commute_ops.specs.declared.kinds.Op.TheVariants as ops
 use Rattle.tx_trees.specs.declared.parts.Deed.{Deed}
@@ -84,3 +84,21 @@ with_inverses failed goes subs = staying_from failed goes 0 subs ++ inverses_fro
 -- the undone form of a tree of which this subtransaction fails
 abbrev pub undone : List Sub → ℕ → List Sub
 undone subs failed = with_inverses failed (goes_from failed [] subs) subs
+
+-- an operation is an `add`
+abbrev pub is_add : Deed → Bool
+is_add (deeds.Apply (ops.Add a)) = true
+is_add (deeds.Apply (ops.Top a)) = false
+is_add (deeds.Apply (ops.Put a)) = false
+is_add deeds.Get = false
+is_add (deeds.Set a) = false
+is_add (deeds.Draw a) = false
+
+-- all operations are `add`
+abbrev pub ops_add : List SubOp → Bool
+ops_add [] = true
+ops_add (o ∷ os) = is_add o.deed && ops_add os
+
+abbrev pub subs_add : List Sub → Bool
+subs_add [] = true
+subs_add (x ∷ xs) = ops_add x.ops && subs_add xs

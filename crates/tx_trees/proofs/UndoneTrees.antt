@@ -22,10 +22,14 @@ use Rattle.tx_trees.specs.declared.parts.ItemRow.{ItemRow}
 use Rattle.tx_trees.specs.declared.parts.Sub.{Sub}
 use Rattle.tx_trees.specs.declared.parts.SubOp.{SubOp}
 use Rattle.tx_trees.specs.declared.parts.TreeKind.TheVariants as trees
-use Rattle.tree_undo.specs.Undone.{goes_from, goes_next, inverse, inverses_from, is_undone, negated, negated_deed, new_number, staying, staying_from, stays, undone}
-use Rattle.tree_undo.proofs.Steps.{marks_len}
+use Rattle.tx_trees.specs.Undone.{goes_from, goes_next, inverse, inverses_from, is_undone, negated, negated_deed, new_number, staying, staying_from, stays, undone}
 
 -- marks
+
+-- as many marks as subtransactions
+pub marks_len : (failed : ℕ) (goes : List Bool) (xs : List Sub) → length (goes_from failed goes xs) ≡ length goes + length xs
+marks_len failed goes [] = omega arith
+marks_len failed goes (x ∷ xs) = omega (arith, marks_len failed (goes ++ goes_next failed goes x ∷ []) xs, length-append goes (goes_next failed goes x ∷ []))
 
 -- the marks that are known already stay
 mark_stays : (failed : ℕ) (goes : List Bool) (xs : List Sub) (j : ℕ) → j < length goes → get_or (goes_from failed goes xs) j false ≡ get_or goes j false
@@ -263,14 +267,26 @@ none_goes nodes items failed goes (x ∷ xs) h before j le =
           ap (λ (n : ℕ). get_or (goes ++ g ∷ []) n false) at ∙ get_or-append_seam goes g [] false ∙ is ∙ none
     ]
 
--- an undone tree is a tree
-pub undone_valid : (nodes : ℕ) (items : List ItemRow) (subs : List Sub) (failed : ℕ) → failed < length subs → AreSubs nodes items trees.Update 0 subs → AreSubs nodes items trees.Update 0 (undone subs failed)
-undone_valid nodes items subs failed lt h =
-    let final = goes_from failed [] subs in
-    let len : length final ≡ length subs = omega (arith, marks_len failed [] subs) in
-    let mark : get_or final failed false ≡ false = none_goes nodes items failed [] subs h (λ j below le. absurd (omega arith)) failed (omega arith) in
-    let count : new_number final 0 + length (staying_from failed final 0 subs) ≡ new_number final (0 + length subs) = staying_len nodes items failed final 0 subs (omega arith) in
-    let whole : 0 + length subs ≡ length subs = omega arith in
-    let early : new_number final failed < length (staying_from failed final 0 subs) = omega (arith, number_less final failed (length subs) lt (omega arith) mark, ap (new_number final) whole) in
-    are_both nodes items 0 (length (staying_from failed final 0 subs)) (staying_from failed final 0 subs) (inverses_from failed final 0 subs) (staying_valid nodes items failed final [] subs refl h) (omega arith)
-    (inverses_valid nodes items failed final (length (staying_from failed final 0 subs)) 0 subs early h)
+module _ (nodes : ℕ) (items : List ItemRow) (subs : List Sub) (failed : ℕ) (lt : failed < length subs) (h : AreSubs nodes items trees.Update 0 subs) where
+  -- the failed one stays, so one of those that stay has its new number
+  failed_stays : new_number (goes_from failed [] subs) failed < length (staying_from failed (goes_from failed [] subs) 0 subs)
+  failed_stays =
+      let final = goes_from failed [] subs in
+      let len : length final ≡ length subs = omega (arith, marks_len failed [] subs) in
+      let mark : get_or final failed false ≡ false = none_goes nodes items failed [] subs h (λ j below le. absurd (omega arith)) failed (omega arith) in
+      let count : new_number final 0 + length (staying_from failed final 0 subs) ≡ new_number final (0 + length subs) = staying_len nodes items failed final 0 subs (omega arith) in
+      let whole : 0 + length subs ≡ length subs = omega arith in
+      omega (arith, number_less final failed (length subs) lt (omega arith) mark, ap (new_number final) whole)
+
+  -- an undone tree has a root
+  pub undone_some : 0 < length (undone subs failed)
+  undone_some =
+      let final = goes_from failed [] subs in
+      omega (arith, failed_stays, length-append (staying_from failed final 0 subs) (inverses_from failed final 0 subs))
+
+  -- an undone tree is a tree
+  pub undone_valid : AreSubs nodes items trees.Update 0 (undone subs failed)
+  undone_valid =
+      let final = goes_from failed [] subs in
+      are_both nodes items 0 (length (staying_from failed final 0 subs)) (staying_from failed final 0 subs) (inverses_from failed final 0 subs) (staying_valid nodes items failed final [] subs refl h) (omega arith)
+      (inverses_valid nodes items failed final (length (staying_from failed final 0 subs)) 0 subs failed_stays h)
