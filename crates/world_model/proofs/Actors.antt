@@ -31,7 +31,7 @@ posting_at [] k e at = absurd (grind arith)
 posting_at (x ∷ h) zero e at = let same : x ≡ e = grind arith in ap (λ (y : Entry). Some (posting_of y)) same
 posting_at (x ∷ h) (suc k) e at = posting_at h k e at
 
-entry_at : (h : List Entry) (k : ℕ) (p : Posting) → slice_get (map posting_of h) k ≡ Some p
+pub entry_at : (h : List Entry) (k : ℕ) (p : Posting) → slice_get (map posting_of h) k ≡ Some p
     → (e : Entry) × (slice_get h k ≡ Some e) × (posting_of e ≡ p)
 entry_at [] k p at = absurd (grind arith)
 entry_at (x ∷ h) zero p at = (x, refl, grind arith)

@@ -95,7 +95,7 @@ pub coordinator_each : (P : ℕ → Body → Type 0) (c : Coordinator) → OfOrd
 coordinator_each P c h from body = row_each P from c h body c.phase
 
 -- The coordinator has no acts, and its number of nodes stays.
-record Plain (c : Coordinator) (out : Out Coordinator) : Type 0 where
+pub record Plain (c : Coordinator) (out : Out Coordinator) : Type 0 where
   pub acts : out.acts ≡ []
   pub nodes : out.state.nodes ≡ c.nodes
 
@@ -115,7 +115,7 @@ judged_plain reads None c d is = same c _ refl is
 judged_plain reads (Some true) c d is = ends_plain reads c d is
 judged_plain reads (Some false) c d is = pick_plain c d.flag _ _ (same c _ refl is) (same c _ refl is)
 
-row_plain : (from : ℕ) (c : Coordinator) (body : Body) (phase : Phase) → Plain c (row_of body phase from c)
+pub row_plain : (from : ℕ) (c : Coordinator) (body : Body) (phase : Phase) → Plain c (row_of body phase from c)
 row_plain from c Advance Idle = same c _ refl refl
 row_plain from c Advance _ = same c _ refl refl
 row_plain from c (Turned v) Turning = pick_plain c (one_more c.acks == c.nodes) _ _ (same c _ refl refl) (same c _ refl refl)

@@ -1,0 +1,6 @@
+pub mod Bounds
+pub mod Sends
+pub mod Entries
+pub mod Merges
+pub mod Gatherings
+pub mod Ends

@@ -1,0 +1,234 @@
+-- The actors' entries, merged by stamp into one history.
+use Rattle.std.proofs.Common.{◌≡◌, ◌≢◌, ℕ, zero, suc, ◌+◌, ◌<◌, ◌≤◌, ◌==◌, Bool, true, false, List, [], ◌∷◌, ◌++◌, length, map, take, drop, get_or, refl, sym, ap, ◌∙◌, subst, arith, append_assoc, Some, None, ◌⊎◌, inl, inr}
+use Rattle.std.specs.Prelude.{if◌then◌else◌, slice_get, slice_set}
+use Rattle.std.proofs.lemmas.Bool.{cases_eq}
+use Rattle.std.proofs.lemmas.Bool.Decides.{nat_tests}
+use Rattle.std.proofs.lemmas.List.{length-set, map-append}
+use Rattle.std.proofs.lemmas.List.Elements.{filter-append}
+use Rattle.std.proofs.lemmas.Option.{slice_get_within}
+use Rattle.letter_types.specs.declared.entries.Entry.{Entry}
+use Rattle.letter_types.specs.declared.entries.Posting.{Posting}
+use Rattle.letter_types.specs.Letters.{own}
+use Rattle.letter_types.specs.Postal.{posting_of}
+use Rattle.stamp_post.specs.Logs.{own_postings}
+use Rattle.world_model.proofs.Scripts.{get_some}
+use Rattle.node_threads.specs.Histories.{FirstHas, IsLogOf, IsMerged, Taken}
+
+-- The stamps are m, m + 1 and on.
+abbrev From : ℕ → List Posting → Type 0
+From m [] = Unit {0}
+From m (p ∷ ps) = (p.stamp.0 ≡ m) × From (m + 1) ps
+
+from_of : (m : ℕ) (log : List Posting) → ((k : ℕ) (p : Posting) → slice_get log k ≡ Some p → p.stamp.0 ≡ m + k) → From m log
+from_of m [] h = tt
+from_of m (p ∷ ps) h = (h 0 p refl ∙ omega arith, from_of (m + 1) ps (λ k x at. h (suc k) x at ∙ omega arith))
+
+from_drop : (k m : ℕ) (log : List Posting) → From m log → From (m + k) (drop k log)
+from_drop zero m log h = subst (λ (x : ℕ). From x log) (omega arith) h
+from_drop (suc k) m [] h = tt
+from_drop (suc k) m (p ∷ ps) h = subst (λ (x : ℕ). From x (drop k ps)) (omega arith) (from_drop k (m + 1) ps h.1)
+
+-- an actor's first posting has a stamp from m on
+above_by : (b : Bool) (m : ℕ) (p x : Posting) (ps xs : List Posting) → p.stamp.0 ≡ m
+    → ((ys : List Posting) → ps ≡ x ∷ ys → m + 1 ≤ x.stamp.0) → (if b then p ∷ ps else ps) ≡ x ∷ xs → m ≤ x.stamp.0
+above_by true m p x ps xs at h is = let same : p ≡ x = cc is in omega (arith, ap (λ (y : Posting). y.stamp.0) same)
+above_by false m p x ps xs at h is = omega (arith, h xs is)
+
+above : (a m : ℕ) (log : List Posting) (x : Posting) (xs : List Posting) → From m log → own_postings a log ≡ x ∷ xs → m ≤ x.stamp.0
+above a m [] x xs h is = absurd (cc is)
+above a m (p ∷ ps) x xs h is =
+    above_by (p.actor.0 == a) m p x (own_postings a ps) xs h.0 (λ ys at. above a (m + 1) ps x ys h.1 at) is
+
+-- an actor's first posting is the first of all, where it has the first stamp
+next_by : (b : Bool) (a m : ℕ) (p x : Posting) (ps xs : List Posting) → (p.actor.0 == a) ≡ b → From (m + 1) ps → x.stamp.0 ≡ m
+    → (if b then p ∷ own_postings a ps else own_postings a ps) ≡ x ∷ xs
+    → (p ≡ x) × (p.actor.0 ≡ a) × (own_postings a ps ≡ xs)
+next_by true a m p x ps xs mine h at is = (cc is, grind (arith, nat_tests), cc is)
+next_by false a m p x ps xs mine h at is = absurd (omega (arith, above a (m + 1) ps x xs h is))
+
+-- what is first
+pub record Next (a : ℕ) (log : List Posting) (x : Posting) (xs : List Posting) : Type 0 where
+  pub rest : List Posting
+  pub whole : log ≡ x ∷ rest
+  pub mine : x.actor.0 ≡ a
+  pub left : own_postings a rest ≡ xs
+
+next : (a m : ℕ) (log : List Posting) (x : Posting) (xs : List Posting) → From m log → own_postings a log ≡ x ∷ xs → x.stamp.0 ≡ m
+    → Next a log x xs
+next a m [] x xs h is at = absurd (cc is)
+next a m (p ∷ ps) x xs h is at =
+    let r = next_by (p.actor.0 == a) a m p x ps xs refl h.1 at is in
+    record { rest = ps; whole = ap (λ y. y ∷ ps) r.0; mine = ap (λ (y : Posting). y.actor.0) (sym r.0) ∙ r.1; left = r.2 }
+
+drop_next : (k : ℕ) (log : List Posting) (x : Posting) (rest : List Posting) → drop k log ≡ x ∷ rest
+    → (drop (suc k) log ≡ rest) × (take (suc k) log ≡ take k log ++ x ∷ [])
+drop_next zero [] x rest is = absurd (cc is)
+drop_next zero (p ∷ ps) x rest is = (cc is, (let same : p ≡ x = cc is in ap (λ y. y ∷ []) same))
+drop_next (suc k) [] x rest is = absurd (cc is)
+drop_next (suc k) (p ∷ ps) x rest is = let r = drop_next k ps x rest is in (r.0, ap (λ ys. p ∷ ys) r.1)
+
+rest_by : (b : Bool) (p : Posting) (ps : List Posting) → b ≡ false → (if b then p ∷ ps else ps) ≡ ps
+rest_by b p ps is = rw is refl
+
+other_rest : (a b : ℕ) (x : Posting) (rest : List Posting) → x.actor.0 ≡ b → b ≢ a → own_postings a (x ∷ rest) ≡ own_postings a rest
+other_rest a b x rest mine ne = let no : (x.actor.0 == a) ≡ false = grind (arith, nat_tests) in rest_by (x.actor.0 == a) x (own_postings a rest) no
+
+one_by : (b c : Bool) (e : Entry) → b ≡ c → (if b then e ∷ [] else []) ≡ (if c then e ∷ [] else [])
+one_by b c e is = rw is refl
+
+own_last : (a : ℕ) (all : List Entry) (e : Entry) → e.actor.0 ≡ a → own a (all ++ e ∷ []) ≡ own a all ++ e ∷ []
+own_last a all e mine =
+    let yes' : (e.actor.0 == a) ≡ true = grind (arith, nat_tests) in
+    filter-append (λ (x : Entry). x.actor.0 == a) all (e ∷ []) ∙ ap (λ (es : List Entry). own a all ++ es) (one_by (e.actor.0 == a) true e yes')
+
+own_same : (a : ℕ) (all : List Entry) (e : Entry) → e.actor.0 ≢ a → own a (all ++ e ∷ []) ≡ own a all
+own_same a all e other =
+    let no' : (e.actor.0 == a) ≡ false = grind (arith, nat_tests) in
+    filter-append (λ (x : Entry). x.actor.0 == a) all (e ∷ []) ∙ ap (λ (es : List Entry). own a all ++ es) (one_by (e.actor.0 == a) false e no')
+    ∙ nothing_more (own a all)
+  where
+    nothing_more : (es : List Entry) → es ++ [] ≡ es
+    nothing_more [] = refl
+    nothing_more (x ∷ es) = ap (λ (ys : List Entry). x ∷ ys) (nothing_more es)
+
+get_set_same : {X : Type 0} (xs : List X) (i : ℕ) (v : X) → i < length xs → slice_get (slice_set xs i v) i ≡ Some v
+get_set_same [] i v lt = absurd (omega arith)
+get_set_same (x ∷ xs) zero v lt = refl
+get_set_same (x ∷ xs) (suc i) v lt = get_set_same xs i v (omega arith)
+
+get_set_other : {X : Type 0} (xs : List X) (i j : ℕ) (v : X) → i ≢ j → slice_get (slice_set xs i v) j ≡ slice_get xs j
+get_set_other [] i j v ne = refl
+get_set_other (x ∷ xs) zero zero v ne = absurd (ne refl)
+get_set_other (x ∷ xs) zero (suc j) v ne = refl
+get_set_other (x ∷ xs) (suc i) zero v ne = refl
+get_set_other (x ∷ xs) (suc i) (suc j) v ne = get_set_other xs i j v (λ is. ne (ap suc is))
+
+-- one actor, once k entries are in order: what is left of its entries
+pub record Row (log : List Posting) (k : ℕ) (all : List Entry) (first rows : List (List Entry)) (a : ℕ) : Type 0 where
+  pub begun : List Entry
+  pub left : List Entry
+  pub was : slice_get first a ≡ Some begun
+  pub at : slice_get rows a ≡ Some left
+  pub next : map posting_of left ≡ own_postings a (drop k log)
+  pub whole : begun ≡ own a all ++ left
+
+-- what holds once k entries are in order
+pub record Merging (log : List Posting) (k : ℕ) (all : List Entry) (first rows : List (List Entry)) : Type 0 where
+  pub front : map posting_of all ≡ take k log
+  pub long : length rows ≡ length first
+  pub each : (a : ℕ) → a < length first → Row log k all first rows a
+
+-- no entry is in order yet
+pub starts : (log : List Posting) (rows : List (List Entry)) → IsLogOf log rows → Merging log 0 [] rows rows
+starts log rows is = record {
+  front = refl;
+  long = refl;
+  each = λ a lt. let there = get_some rows a lt in record {
+    begun = there.0;
+    left = there.0;
+    was = there.1;
+    at = there.1;
+    next = is.own a there.0 there.1;
+    whole = refl;
+  };
+}
+
+some_is : {X : Type 0} (x y : X) → Some x ≡ Some y → x ≡ y
+some_is x y is = cc
+
+row_more : (log : List Posting) (k : ℕ) (all : List Entry) (first rows : List (List Entry)) (b : ℕ) (e : Entry) (left : List Entry) (rest : List Posting)
+    → slice_get rows b ≡ Some (e ∷ left) → drop k log ≡ posting_of e ∷ rest → e.actor.0 ≡ b → own_postings b rest ≡ map posting_of left
+    → drop (k + 1) log ≡ rest → b < length rows → (a : ℕ) → Row log k all first rows a → (b ≡ a) ⊎ (b ≢ a)
+    → Row log (k + 1) (all ++ e ∷ []) first (slice_set rows b left) a
+row_more log k all first rows b e left rest there whole mine own_left after lt a r (inl same) =
+    let eq : r.left ≡ e ∷ left = some_is r.left (e ∷ left) (sym r.at ∙ subst (λ (j : ℕ). slice_get rows j ≡ Some (e ∷ left)) same there) in
+    record {
+      begun = r.begun;
+      left = left;
+      was = r.was;
+      at = subst (λ (j : ℕ). slice_get (slice_set rows b left) j ≡ Some left) same (get_set_same rows b left lt);
+      next = sym own_left ∙ (λ i. own_postings (same i) (sym after i));
+      whole = r.whole ∙ ap (λ (es : List Entry). own a all ++ es) eq ∙ sym (append_assoc (own a all) (e ∷ []) left)
+          ∙ ap (λ (es : List Entry). es ++ left) (sym (own_last a all e (mine ∙ same)));
+    }
+row_more log k all first rows b e left rest there whole mine own_left after lt a r (inr ne) =
+    record {
+      begun = r.begun;
+      left = r.left;
+      was = r.was;
+      at = get_set_other rows b a left ne ∙ r.at;
+      next = r.next ∙ ap (own_postings a) whole ∙ other_rest a b (posting_of e) rest mine ne ∙ ap (own_postings a) (sym after);
+      whole = r.whole ∙ ap (λ (es : List Entry). es ++ r.left) (sym (own_same a all e (λ is. ne (sym mine ∙ is))));
+    }
+
+-- one entry more
+pub merges : (log : List Posting) (k : ℕ) (all : List Entry) (first rows new : List (List Entry)) (e : Entry) → IsLogOf log first
+    → Taken (k + 1) rows new e → Merging log k all first rows → Merging log (k + 1) (all ++ e ∷ []) first new
+merges log k all first rows new e is t m =
+    let b = t.actor in
+    let lt : b < length rows = slice_get_within rows b (e ∷ t.left) t.at in
+    let r = m.each b (omega (arith, m.long)) in
+    let eq : r.left ≡ e ∷ t.left = some_is r.left (e ∷ t.left) (sym r.at ∙ t.at) in
+    let from : From (k + 1) (drop k log) = subst (λ (n : ℕ). From n (drop k log)) (omega arith) (from_drop k 1 log (from_of 1 log (λ j p at. is.stamps j p at ∙ omega arith))) in
+    let n = next b (k + 1) (drop k log) (posting_of e) (map posting_of t.left) from (sym r.next ∙ ap (map posting_of) eq) t.stamp_is in
+    let d = drop_next k log (posting_of e) n.rest n.whole in
+    let one : suc k ≡ k + 1 = omega arith in
+    let after : drop (k + 1) log ≡ n.rest = ap (λ (j : ℕ). drop j log) (sym one) ∙ d.0 in
+    record {
+      front = map-append posting_of all (e ∷ []) ∙ ap (λ (ps : List Posting). ps ++ posting_of e ∷ []) m.front ∙ sym d.1 ∙ ap (λ (j : ℕ). take j log) one;
+      long = ap (length {A = List Entry}) t.set ∙ length-set rows b t.left ∙ m.long;
+      each = λ a below. subst (λ (xs : List (List Entry)). Row log (k + 1) (all ++ e ∷ []) first xs a) (sym t.set)
+          (row_more log k all first rows b e t.left n.rest t.at n.whole n.mine n.left after lt a (m.each a below) (cases_eq b a));
+    }
+
+take_whole : (log : List Posting) → take (length log) log ≡ log
+take_whole [] = refl
+take_whole (p ∷ ps) = ap (λ l. p ∷ l) (take_whole ps)
+
+drop_whole : (log : List Posting) → drop (length log) log ≡ []
+drop_whole [] = refl
+drop_whole (p ∷ ps) = drop_whole ps
+
+none_left : (es : List Entry) → map posting_of es ≡ [] → es ≡ []
+none_left [] is = refl
+none_left (e ∷ es) is = absurd (cc is)
+
+append_nothing : (es : List Entry) → es ++ [] ≡ es
+append_nothing [] = refl
+append_nothing (x ∷ es) = ap (λ (ys : List Entry). x ∷ ys) (append_nothing es)
+
+-- all of them are in order
+pub ends : (log : List Posting) (k : ℕ) (all : List Entry) (first rows : List (List Entry)) → length log ≡ k → Merging log k all first rows
+    → IsMerged log first all
+ends log k all first rows long m = record {
+  postings = m.front ∙ ap (λ (j : ℕ). take j log) (sym long) ∙ take_whole log;
+  own = λ a es at.
+      let r = m.each a (slice_get_within first a es at) in
+      let none : r.left ≡ [] = none_left r.left (r.next ∙ ap (λ (j : ℕ). own_postings a (drop j log)) (sym long) ∙ ap (own_postings a) (drop_whole log)) in
+      let same : r.begun ≡ es = some_is r.begun es (sym r.was ∙ at) in
+      sym (append_nothing (own a all)) ∙ ap (λ (xs : List Entry). own a all ++ xs) (sym none) ∙ sym r.whole ∙ same;
+}
+
+-- what a list has at a place
+pub at_place : {X : Type 0} (xs : List X) (i : ℕ) (x : X) → i < length xs → x ≡ get_or xs i x → slice_get xs i ≡ Some x
+at_place [] i x lt is = absurd (omega arith)
+at_place (y ∷ xs) zero x lt is = ap (λ (z : _). Some z) (sym is)
+at_place (y ∷ xs) (suc i) x lt is = at_place xs i x (omega arith) is
+
+pub at_map : {X Y : Type 0} (f : X → Y) (xs : List X) (i : ℕ) (x : X) → slice_get xs i ≡ Some x → slice_get (map f xs) i ≡ Some (f x)
+at_map f [] i x at = absurd (cc at)
+at_map f (y ∷ xs) zero x at = let same : y ≡ x = cc at in ap (λ (z : _). Some (f z)) same
+at_map f (y ∷ xs) (suc i) x at = at_map f xs i x at
+
+pub map_set : {X Y : Type 0} (f : X → Y) (xs : List X) (i : ℕ) (x : X) → map f (slice_set xs i x) ≡ slice_set (map f xs) i (f x)
+map_set f [] i x = refl
+map_set f (y ∷ xs) zero x = refl
+map_set f (y ∷ xs) (suc i) x = ap (λ ys. f y ∷ ys) (map_set f xs i x)
+
+-- the first of a list
+pub first_has : (es : List Entry) (e : Entry) (stamp : ℕ) → 0 < length es → e ≡ get_or es 0 e → e.stamp.0 ≡ stamp → FirstHas stamp es
+first_has [] e stamp lt is at = absurd (omega arith)
+first_has (x ∷ es) e stamp lt is at = ap (λ (y : Entry). y.stamp.0) (sym is) ∙ at
+
+pub first_of : (es : List Entry) (e : Entry) (left : List Entry) (stamp : ℕ) → es ≡ e ∷ left → FirstHas stamp es → e.stamp.0 ≡ stamp
+first_of es e left stamp is h = subst (FirstHas stamp) is h

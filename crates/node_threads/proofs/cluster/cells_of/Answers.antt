@@ -1,0 +1,20 @@
+use Rattle.std.proofs.Common.{◌≡◌, ◌+◌, ◌-◌, ap, sym, ◌∙◌, arith, length, rules}
+use Rattle.stamp_post.specs.Shown.{new_seats}
+use Rattle.stamp_post.proofs.Known.{new_seats_first}
+use Rattle.node_threads.proofs.cluster.cells_of.Goals as goal
+
+pub start-requires-clause-seat : goal.start-requires-clause-seat
+start-requires-clause-seat g c =
+    let n = c.loop-number.number in
+    let f = new_seats_first g.K.PostName.post n (c.args.actors - n) c.in-Some.seat _
+    (sym c.loop-number.invariant.seats ∙ c.in-Some.ensures.first) in f.0
+
+pub loop-number-preserved : goal.loop-number-preserved
+loop-number-preserved g c =
+    let n = c.loop-number.number in
+    let f = new_seats_first g.K.PostName.post n (c.args.actors - n) c.in-Some.seat _
+    (sym c.loop-number.invariant.seats ∙ c.in-Some.ensures.first) in
+    let on : c.args.actors - n - 1 ≡ c.args.actors - (n + 1) = omega arith in record {
+      seats = f.1 ∙ ap (new_seats g.K.PostName.post (n + 1)) on;
+      count = search rules;
+    }

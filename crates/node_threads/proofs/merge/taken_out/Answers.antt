@@ -1,0 +1,30 @@
+use Rattle.std.proofs.Common.{◌≡◌, List, ◌∷◌, map, get_or, sym, ap, ◌∙◌, subst, length, ◌<◌, rules, Global, Some}
+use Rattle.std.specs.Prelude.{slice_get, slice_set}
+use Rattle.std.specs.declared.collections.VecDeque.{VecDeque}
+use Rattle.letter_types.specs.declared.entries.Entry.{Entry}
+use Rattle.node_threads.specs.Histories.{FirstHas}
+use Rattle.node_threads.proofs.Merges.{at_map, at_place, first_of, map_set}
+use Rattle.node_threads.proofs.merge.taken_out.Goals as goal
+
+pub returns-then-is_first : goal.returns-then-is_first
+returns-then-is_first c =
+    let items_of : VecDeque Entry Global → List Entry = λ v. v.items in
+    let a = c.loop-actor.actor in
+    let old = c.loop-actor.lists.items in
+    let same : old ≡ c.args.lists.now.items = c.loop-actor.invariant in
+    let d = c.index_mut-list.result.now in
+    let inside : a < length old = search rules in
+    let there : d ≡ get_or old a d = c.index_mut-list.ensures.value in
+    let here : slice_get old a ≡ Some d = at_place old a d inside there in
+    let row : slice_get (map items_of old) a ≡ Some d.items = at_map items_of old a d here in
+    let popped : d.items ≡ c.in_ok-entry.entry ∷ c.pop_front.new.self.items = c.in_ok-entry.ensures.items in
+    let at_first : Some c.index.result.now ≡ Some d = sym (at_place old a c.index.result.now inside c.index.ensures) ∙ here in
+    let one : c.index.result.now ≡ d = cc at_first in
+    let has : FirstHas c.args.stamp.0 d.items = subst (λ (x : VecDeque Entry Global). FirstHas c.args.stamp.0 x.items) one (c.is_first.ensures c.if-is_first.true) in
+    record {
+      actor = a;
+      left = c.pop_front.new.self.items;
+      at = subst (λ (l : List (VecDeque Entry Global)). slice_get (map items_of l) a ≡ Some d.items) same row ∙ ap (λ (l : List Entry). Some l) popped;
+      set = map_set items_of old a c.pop_front.new.self ∙ ap (λ (l : List (VecDeque Entry Global)). slice_set (map items_of l) a c.pop_front.new.self.items) same;
+      stamp_is = first_of d.items c.in_ok-entry.entry c.pop_front.new.self.items c.args.stamp.0 popped has;
+    }

@@ -1,0 +1,219 @@
+// Cells behind locks.
+ghost use Rattle.std.specs.Prelude.{◌≡◌, ◌+◌, ◌<◌, ℕ, All, length, map, slice_get, IfOk, MatchResult, Some};
+ghost use Rattle.stamp_post.specs.Shown.{ReceiptData, new_seats, seat_joined};
+ghost use Rattle.world_model.specs.Runs.{WorldRun};
+ghost use Rattle.node_threads.specs.Cells.{Delivered};
+ghost use Rattle.node_threads.specs.Histories.{AllRun, IsTold, joined_from};
+
+use crate::cell::{ActorCell, Sent};
+use crate::merge::merged;
+use crate::name::ClusterName;
+use crossbeam_utils::CachePadded;
+use letter_types::{Entry, History};
+use message_bag::Bag;
+use stamp_post::{Envelope, Gatherer, Post, PostParts, Receipts, Seats};
+use std::alloc::Global;
+use std::collections::VecDeque;
+use std::marker::PhantomData;
+use std::sync::{Condvar, Mutex, Wait};
+use tv_base::{Gate, NoMemory};
+use tx_trees::Script;
+
+// A gatherer can be sent to another thread, and not shared by several. So it lies under a lock, which nobody takes.
+#[derive(Drop)]
+struct Keeper<K: ClusterName> {
+    gatherer: Gatherer,
+    name: PhantomData<K>,
+    ghost gatherer_is: { gatherer ≡ K.post },
+}
+
+// What workers tell one another: how often an envelope was put or something ended, whether the client has finished, and
+// whether memory was wanting.
+#[derive(Clone, Copy)]
+pub(crate) struct Moves {
+    pub(crate) count: u64,
+    pub(crate) finished: bool,
+    pub(crate) failed: bool,
+}
+
+/// The actors of the script that `K` names, on the post that it names. Each has a cell, and a bag of the letters that
+/// are under way to it, each under a lock of its own.
+#[derive(Drop)]
+pub struct Cluster<K: ClusterName> {
+    post: Post,
+    keeper: Mutex<Keeper<K>>,
+    cells: Vec<CachePadded<Mutex<ActorCell<K>>>>,
+    pub(crate) bags: Vec<CachePadded<Mutex<Bag<K>>>>,
+    pub(crate) moves: Mutex<Moves>,
+    pub(crate) moved: Condvar,
+    ghost post_is: { post ≡ K.post },
+    ghost has_cells: { length cells.items ≡ K.post.actors },
+    ghost has_bags: { length bags.items ≡ K.post.actors },
+    ghost has_actors: { K.post.actors ≡ K.script.nodes + 2 },
+}
+
+// What actors have: their seats and their entries, by number.
+#[derive(Drop)]
+struct Apart {
+    seats: Seats,
+    lists: Vec<VecDeque<Entry>>,
+}
+
+// A cell for each actor.
+fn cells_of<K: ClusterName>(
+    alloc: Global,
+    script: &Script,
+    seats: Seats,
+    actors: u8,
+) -> Result<Vec<CachePadded<Mutex<ActorCell<K>>>>, NoMemory>
+    requires script { script.now ≡ K.script }
+    requires post { (K.post.actors ≡ actors) × (K.post.actors ≡ K.script.nodes + 2) }
+    requires seats { seats ≡ new_seats K.post 0 actors }
+    ensures { IfOk result (λ cells. length cells.items ≡ actors) }
+{
+    let mut left = seats;
+    let mut cells = Vec::new(alloc);
+    for number in 0..actors {
+        let Some(seat) = left.take_first() else {
+            return Err(NoMemory);
+        };
+        let cell = ActorCell::<K>::start(alloc, script, number, seat)?;
+        cells.push(CachePadded::new(Mutex::new(cell)))?;
+    }
+    Ok(cells)
+}
+
+// An empty bag for each actor.
+fn bags_of<K: ClusterName>(
+    alloc: Global,
+    actors: u8,
+) -> Result<Vec<CachePadded<Mutex<Bag<K>>>>, NoMemory>
+    ensures { IfOk result (λ bags. length bags.items ≡ actors) }
+{
+    let mut bags = Vec::new(alloc);
+    for _actor in 0..actors {
+        bags.push(CachePadded::new(Mutex::new(Bag::new(alloc))))?;
+    }
+    Ok(bags)
+}
+
+// The actors' seats and entries, out of their cells.
+fn taken_apart<K: ClusterName>(
+    alloc: Global,
+    cells: Vec<CachePadded<Mutex<ActorCell<K>>>>,
+) -> Result<Apart, NoMemory>
+    ensures seats { IfOk result (λ a. All (λ s. s.post ≡ K.post) a.seats) }
+    ensures joined { IfOk result (λ a. map seat_joined a.seats ≡ joined_from 0 (map (λ v. v.items) a.lists.items)) }
+    ensures runs { IfOk result (λ a. AllRun K.script (map (λ v. v.items) a.lists.items)) }
+    ensures count { IfOk result (λ a. length a.lists.items ≡ length cells.items) }
+{
+    let mut seats = Seats::new(alloc);
+    let mut lists = Vec::new(alloc);
+    for padded in cells {
+        let cell = padded.into_inner().into_inner();
+        // No clause ties a lock's place to what lies under it.
+        if cell.number().0 as usize != lists.len() {
+            return Err(NoMemory);
+        }
+        let (entries, seat) = cell.into_parts();
+        seats.push(seat)?;
+        lists.push(VecDeque::from(entries))?;
+    }
+    Ok(Apart { seats, lists })
+}
+
+impl<K: ClusterName> Cluster<K> {
+    /// A cluster of a new post for the script's actors, and Go.
+    pub fn start(
+        alloc: Global,
+        script: &Script,
+        parts: PostParts,
+    ) -> Result<(Cluster<K>, Envelope), NoMemory>
+        requires script { script.now ≡ K.script }
+        requires post { (parts.post ≡ K.post) × (K.post.actors ≡ K.script.nodes + 2) }
+        requires gatherer { parts.gatherer ≡ K.post }
+        requires seats { parts.seats ≡ new_seats K.post 0 K.post.actors }
+        ensures { IfOk result (λ r. r.1 ≡ parts.first) }
+    {
+        let PostParts {
+            post,
+            gatherer,
+            seats,
+            first,
+        } = parts;
+        let actors = script.nodes() + 2;
+        let cells = cells_of::<K>(alloc, script, seats, actors)?;
+        let bags = bags_of::<K>(alloc, actors)?;
+        let cluster = Cluster {
+            post,
+            keeper: Mutex::new(Keeper {
+                gatherer,
+                name: PhantomData,
+            }),
+            cells,
+            bags,
+            moves: Mutex::new(Moves {
+                count: 0,
+                finished: false,
+                failed: false,
+            }),
+            moved: Condvar::new(),
+        };
+        Ok((cluster, first))
+    }
+
+    /// The post, which gives the letters of each outbox out.
+    pub fn post(&self) -> &Post
+        ensures { result.now ≡ K.post }
+    {
+        &self.post
+    }
+
+    /// Hands an envelope to its addressee, under that one's lock alone, past the gate. After want of memory the envelope
+    /// comes back.
+    pub fn deliver<R: Wait, G: Gate>(
+        &self,
+        rt: &R,
+        alloc: Global,
+        envelope: Envelope,
+        script: &Script,
+        gate: &G,
+    ) -> Result<Sent, (NoMemory, Envelope)>
+        requires script { script.now ≡ K.script }
+        requires envelope { envelope.post ≡ K.post }
+        ensures { MatchResult result
+            (λ sent. Delivered K.post K.script envelope.letter sent)
+            (λ e. e.1 ≡ envelope) }
+    {
+        let to = envelope.letter().to;
+        let lock: &Mutex<ActorCell<K>> = &self.cells[to.0 as usize];
+        let mut cell = lock.lock(rt);
+        gate.hold(to);
+        // No clause ties a lock's place to what lies under it.
+        if cell.number() != to {
+            return Err((NoMemory, envelope));
+        }
+        cell.handle(alloc, &self.post, envelope, script)
+    }
+
+    /// All entries by stamp. They are a run of the script, and each receipt's entry is one of them.
+    pub fn finish(self, alloc: Global, receipts: Receipts) -> Result<History, NoMemory>
+        requires { All (λ r. r.post ≡ K.post) receipts }
+        ensures run { IfOk result (λ h. WorldRun K.script h) }
+        ensures told { IfOk result (λ h. (k : ℕ) (r : ReceiptData) → slice_get receipts k ≡ Some r → IsTold K.script h r) }
+    {
+        let Cluster {
+            post,
+            keeper,
+            cells,
+            bags: _,
+            moves: _,
+            moved: _,
+        } = self;
+        let Keeper { gatherer, name: _ } = keeper.into_inner();
+        let Apart { seats, lists } = taken_apart::<K>(alloc, cells)?;
+        let gathered = post.gather(gatherer, seats, receipts);
+        let history = merged(alloc, lists, gathered.count)?;
+        Ok(history)
+    }
+}

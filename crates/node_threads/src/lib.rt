@@ -1,0 +1,14 @@
+//! Actors behind locks of their own, and workers that hand letters to them.
+#![tactic(auto)]
+
+mod cell;
+mod cluster;
+mod merge;
+mod name;
+mod running;
+mod workers;
+
+pub use cell::{ActorCell, Sent};
+pub use cluster::Cluster;
+pub use name::ClusterName;
+pub use running::run;
