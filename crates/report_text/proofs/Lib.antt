@@ -1,3 +1,4 @@
+pub mod SmallWorths
 pub mod Counts
 pub mod ItemLines
 pub mod Plain
