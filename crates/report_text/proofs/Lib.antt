@@ -1,7 +1,7 @@
-pub mod SmallWorths
 pub mod Counts
 pub mod ItemLines
 pub mod Plain
 pub mod Serving
+pub mod SmallWorths
 pub mod TreeLines
 pub mod Whole

@@ -44,14 +44,15 @@ small_from : (s : ScriptData) (h : List Entry) (v k : ℕ) (rows : List ItemRow)
     → ((i : ℕ) (row : ItemRow) → slice_get rows i ≡ Some row → slice_get s.items (k + i) ≡ Some row)
     → AreSmall (by_number (λ (x : ℕ). worth s h x v) k rows)
 small_from s h v k [] valid there = tt
-small_from s h v k (row ∷ rows) valid there =
-    (worth_small s h v k row valid (at_zero k (there 0 row refl)),
-    small_from s h v (k + 1) rows valid (λ (i : ℕ) (one : ItemRow) e. at_next i k one (there (suc i) one e))) where
-      at_zero : (k : ℕ) → slice_get s.items (k + 0) ≡ Some row → slice_get s.items k ≡ Some row
-      at_zero k e = let same : k ≡ k + 0 = omega arith in ap (λ (n : ℕ). slice_get s.items n) same ∙ e
+small_from s h v k (row ∷ rows) valid there = (
+  worth_small s h v k row valid (at_zero k (there 0 row refl)),
+  small_from s h v (k + 1) rows valid (λ (i : ℕ) (one : ItemRow) e. at_next i k one (there (suc i) one e)),
+) where
+  at_zero : (k : ℕ) → slice_get s.items (k + 0) ≡ Some row → slice_get s.items k ≡ Some row
+  at_zero k e = let same : k ≡ k + 0 = omega arith in ap (λ (n : ℕ). slice_get s.items n) same ∙ e
 
-      at_next : (i k : ℕ) (one : ItemRow) → slice_get s.items (k + suc i) ≡ Some one → slice_get s.items (k + 1 + i) ≡ Some one
-      at_next i k one e = let same : k + 1 + i ≡ k + suc i = omega arith in ap (λ (n : ℕ). slice_get s.items n) same ∙ e
+  at_next : (i k : ℕ) (one : ItemRow) → slice_get s.items (k + suc i) ≡ Some one → slice_get s.items (k + 1 + i) ≡ Some one
+  at_next i k one e = let same : k + 1 + i ≡ k + suc i = omega arith in ap (λ (n : ℕ). slice_get s.items n) same ∙ e
 
 pub worths_small : (s : ScriptData) (h : List Entry) (v : ℕ) → IsValid s → AreSmall (worths s h v)
 worths_small s h v valid =

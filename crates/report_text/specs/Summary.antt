@@ -49,12 +49,16 @@ abbrev pub kind_worth : ScriptData → List Entry → Kind → ℕ → ℕ → L
 kind_worth s h kind v x [] = pos 0
 kind_worth s h kind v x (row ∷ rows) = part_of kind row.kind (worth s h x v) +ℤ kind_worth s h kind v (x + 1) rows
 
--- what a script has that was made by the seed; roots are among the subtransactions
+-- how many trees there are, of both kinds, and how many subtransactions; roots are among these
+abbrev pub trees_counts : List Tree → List ℕ
+trees_counts ts =
+    count_text (codes " trees ") (length ts) ++ (count_text (codes " updates ") (update_trees ts)
+    ++ (count_text (codes " reads ") (read_trees ts) ++ count_text (codes " subs ") (all_subs ts)))
+
+-- what a script has that was made by the seed
 abbrev pub counts_line : ScriptData → ℕ → List ℕ
 counts_line s seed =
-    count_text (codes "soak seed ") seed ++ (count_text (codes " trees ") (length s.trees)
-    ++ (count_text (codes " updates ") (update_trees s.trees) ++ (count_text (codes " reads ") (read_trees s.trees)
-    ++ (count_text (codes " subs ") (all_subs s.trees) ++ (count_text (codes " advances ") (advances s) ++ codes "\n")))))
+    count_text (codes "soak seed ") seed ++ (trees_counts s.trees ++ (count_text (codes " advances ") (advances s) ++ codes "\n"))
 
 -- the worth of all sums, and of all tops
 abbrev pub totals_line : ℤ → ℤ → List ℕ

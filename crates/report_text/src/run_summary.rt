@@ -6,7 +6,7 @@ ghost use Rattle.tx_trees.specs.Adding.{all_subs};
 ghost use Rattle.tx_trees.specs.Counts.{if_update};
 ghost use Rattle.board_model.specs.Balances.{worths};
 ghost use Rattle.report_text.specs.Lines.{count_text};
-ghost use Rattle.report_text.specs.Summary.{counts_line, number_of, one_read, part_of, read_trees, summary_of, totals_line, update_trees};
+ghost use Rattle.report_text.specs.Summary.{counts_line, number_of, one_read, kind_worth, part_of, read_trees, summary_of, totals_line, trees_counts, update_trees};
 ghost use Rattle.report_text.specs.Totals.{AreSmall, kind_total};
 
 use crate::check_text::count_subs;
@@ -20,6 +20,7 @@ use tv_base::{NoMemory, Text, Version};
 use tx_trees::{ItemRow, Script, Tree, TreeKind};
 
 // What all sums have, and what all tops have.
+#[derive(Clone, Copy)]
 struct Totals {
     sum: Amount,
     top: Amount,
@@ -39,12 +40,28 @@ pub fn summary(
     ensures { IfOk result (λ text. text ≡ summary_of script.now history.now seed) }
 {
     let version = Version(advances(script) as u64);
-    let values = worths_at(alloc, script, history, version)?;
-    let totals = totals_of(script.items(), values.items());
+    let totals = totals_at(alloc, script, history, version)?;
     let mut text = Text::new(alloc);
     push_counts(&mut text, script, seed)?;
     push_totals(&mut text, &totals)?;
     Ok(text)
+}
+
+// What all sums and all tops are worth at the version.
+fn totals_at(
+    alloc: Global,
+    script: &Script,
+    history: &History,
+    version: Version,
+) -> Result<Totals, NoMemory>
+    ensures sum { IfOk result (λ t. t.sum ≡ kind_worth script.now history.now Kind.Sum version.0 0 script.now.items) }
+    ensures top { IfOk result (λ t. t.top ≡ kind_worth script.now history.now Kind.Top version.0 0 script.now.items) }
+{
+    let values = worths_at(alloc, script, history, version)?;
+    let rows = script.items();
+    let balances = values.items();
+    let totals = totals_of(rows, balances);
+    Ok(totals)
 }
 
 // What all items are worth at the version.
@@ -118,14 +135,21 @@ fn number_of(value: &Value) -> Amount
 fn push_counts(text: &mut Text, script: &Script, seed: u64) -> Result<(), NoMemory>
     ensures { OnOk result (text.new ≡ text.old ++ counts_line script.now seed) }
 {
-    let trees = script.trees();
     push_count(text, b"soak seed ", seed)?;
+    push_tree_counts(text, script.trees())?;
+    push_count(text, b" advances ", advances(script) as u64)?;
+    text.push_all(b"\n")
+}
+
+// How many trees there are, of both kinds, and how many subtransactions.
+fn push_tree_counts(text: &mut Text, trees: &[Tree]) -> Result<(), NoMemory>
+    requires { all_subs trees.now < 2 ^ 64 }
+    ensures { OnOk result (text.new ≡ text.old ++ trees_counts trees.now) }
+{
     push_count(text, b" trees ", trees.len() as u64)?;
     push_count(text, b" updates ", count_updates(trees))?;
     push_count(text, b" reads ", count_reads(trees))?;
-    push_count(text, b" subs ", count_subs(trees))?;
-    push_count(text, b" advances ", advances(script) as u64)?;
-    text.push_all(b"\n")
+    push_count(text, b" subs ", count_subs(trees))
 }
 
 // How many trees are update trees.

@@ -1,0 +1,5 @@
+pub mod Taken
+pub mod Names
+pub mod Items
+pub mod Totals
+pub mod Trees
