@@ -13,7 +13,6 @@ use Rattle.letter_types.specs.declared.votes.Cause.TheVariants.{Conflict, Newer,
 use Rattle.letter_types.specs.declared.votes.Vote.{Vote}
 use Rattle.letter_types.specs.declared.votes.Vote.TheVariants as votes
 use Rattle.tx_trees.specs.ScriptData.{ScriptData, client_of, is_strict}
-use Rattle.tx_trees.specs.declared.parts.ItemRow.{ItemRow}
 use Rattle.tx_trees.specs.declared.parts.Tree.{Tree}
 use Rattle.report_text.specs.Lines.{count_text}
 use Rattle.report_text.specs.Report.{get_text}

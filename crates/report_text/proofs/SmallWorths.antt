@@ -1,7 +1,7 @@
 -- What each item is worth keeps to the bound on magnitudes, since in a valid script all that is done to it does; and the
 -- total by the values of all items is that of the summary.
-use Rattle.std.proofs.Common.{◌≡◌, ℕ, suc, ◌+◌, ◌≤◌, ℤ, List, [], ◌∷◌, refl, ap, sym, ◌∙◌, subst, arith}
-use Rattle.std.specs.Prelude.{◌+ℤ◌, unsigned_abs, Option, Some, None, slice_get}
+use Rattle.std.proofs.Common.{◌≡◌, ℕ, suc, ◌+◌, ◌≤◌, ℤ, List, [], ◌∷◌, refl, ap, ◌∙◌, subst, arith}
+use Rattle.std.specs.Prelude.{◌+ℤ◌, unsigned_abs, Option, Some, slice_get}
 use Rattle.std.proofs.lemmas.Int.{ints}
 use Rattle.commute_ops.specs.declared.kinds.Kind.{Kind}
 use Rattle.commute_ops.specs.declared.kinds.Kind.TheVariants.{Sum as SumKind, Top as TopKind, Bag as BagKind}

@@ -1,17 +1,14 @@
 -- All items are taken, and each is found by its name. There are 32, so it is computed for each of them.
-use Rattle.std.proofs.Common.{◌≡◌, ◌+◌, ◌<◌, ◌≤◌, ◌%◌, ◌∙◌, ◌∷◌, ◌++◌, [], List, Bool, true, false, ℕ, zero, suc, length, refl, sym, ap, arith}
-use Rattle.std.specs.Prelude.{◌&&◌, ◌==◌, not, nat_le, nat_lt, Option, Some, None, is_some, slice_get, unsigned_abs}
+use Rattle.std.proofs.Common.{◌≡◌, ◌<◌, ◌%◌, ◌∙◌, Bool, true, false, ℕ, zero, suc, length, refl, ap, arith}
+use Rattle.std.specs.Prelude.{◌&&◌, ◌==◌, not, nat_le, Option, Some, None, is_some}
 use Rattle.std.specs.Fmt.{digits}
 use Rattle.std.proofs.lemmas.Bool.Decides.{nat_tests}
 use Rattle.tv_base.proofs.Truths.{left_true, right_true}
-use Rattle.commute_ops.specs.declared.kinds.Kind.{Kind}
-use Rattle.tx_trees.specs.Adding.{kind_at, node_at, place_of}
+use Rattle.tx_trees.specs.Adding.{place_of}
 use Rattle.tx_trees.specs.Names.{is_name}
 use Rattle.tx_trees.specs.Passing.{MayAddItem}
 use Rattle.tx_trees.specs.Ranges.{may_start}
-use Rattle.tx_trees.specs.Valid.{initial_load}
 use Rattle.tx_trees.specs.declared.parts.Form.TheVariants as forms
-use Rattle.tx_trees.specs.declared.parts.ItemRow.{ItemRow}
 use Rattle.script_gen.specs.Generated.{item_name, item_row, items_up_to}
 use Rattle.script_gen.specs.Within.{with_items}
 

@@ -3,3 +3,5 @@ pub mod Names
 pub mod Items
 pub mod Totals
 pub mod Trees
+pub mod Stages
+pub mod Behind

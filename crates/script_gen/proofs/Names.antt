@@ -1,6 +1,6 @@
 -- What is written in decimal behind a letter is a name, and other numbers have other names.
-use Rattle.std.proofs.Common.{◌≡◌, ◌+◌, ◌*◌, ◌-◌, ◌/◌, ◌%◌, ◌<◌, ◌≤◌, ◌^◌, ◌∙◌, ◌∷◌, ◌++◌, [], List, Bool, true, false, ℕ, length, refl, sym, ap, arith, length-append}
-use Rattle.std.specs.Prelude.{◌&&◌, decimal, fold, nat_le}
+use Rattle.std.proofs.Common.{◌≡◌, ◌+◌, ◌*◌, ◌-◌, ◌/◌, ◌%◌, ◌<◌, ◌≤◌, ◌^◌, ◌∙◌, ◌∷◌, ◌++◌, [], List, true, ℕ, length, refl, sym, ap, arith}
+use Rattle.std.specs.Prelude.{decimal, fold, nat_le}
 use Rattle.std.specs.List.{list_all}
 use Rattle.std.specs.Str.{bytes_eq}
 use Rattle.std.proofs.lemmas.Bool.{le-leb}

@@ -1,6 +1,6 @@
 -- How much a generated tree has: at most four subtransactions, each with one operation of a small amount, and no `put`.
-use Rattle.std.proofs.Common.{◌≡◌, ◌+◌, ◌*◌, ◌/◌, ◌%◌, ◌<◌, ◌≤◌, ◌∙◌, ◌∷◌, ◌++◌, [], List, Bool, true, false, ℕ, zero, suc, length, refl, sym, ap, arith, length-append}
-use Rattle.std.specs.Prelude.{◌==◌, if◌then◌else◌, unsigned_abs, pos}
+use Rattle.std.proofs.Common.{◌≡◌, ◌+◌, ◌*◌, ◌%◌, ◌≤◌, ◌∷◌, [], List, Bool, true, false, ℕ, zero, suc, length, refl, arith, length-append}
+use Rattle.std.specs.Prelude.{◌==◌, if◌then◌else◌, unsigned_abs}
 use Rattle.std.specs.List.{AllByRecursion}
 use Rattle.std.proofs.lemmas.Int.{ints}
 use Rattle.tx_trees.specs.Adding.{all_ops, all_subs}
@@ -14,7 +14,7 @@ use Rattle.tx_trees.specs.declared.parts.TreeKind.TheVariants as kinds
 use Rattle.tx_trees.proofs.Lists.{IsSum, all-push}
 use Rattle.tx_trees.proofs.Totals.{all_subs-sum, load_total, op_total, put_total, strict-sum}
 use Rattle.script_gen.specs.Draws.{after_draws, given, next_draw}
-use Rattle.script_gen.specs.Generated.{after_trees, amount_by, deed_by, generated_sub, generated_tree, home_by, is_top, item_by, kind_by, more_by, node_by, size_after, subs_up_to, tree_with, trees_up_to}
+use Rattle.script_gen.specs.Generated.{after_trees, amount_by, deed_by, generated_sub, generated_tree, home_by, is_top, item_by, kind_by, node_by, size_after, subs_up_to, trees_up_to}
 
 -- a sum of what is at most b
 sum_most : {A : Type 0} (m : A → ℕ) (M : List A → ℕ) (b : ℕ) → IsSum m M → (xs : List A) → AllByRecursion (λ (x : A). m x ≤ b) xs → M xs ≤ b * length xs
@@ -64,9 +64,13 @@ length-subs kind home x (suc n) =
 
 pub subs_load_most : (y : ℕ) (kind : TreeKind) (home x n : ℕ) → subs_load y (subs_up_to kind home x n) ≤ 999 * n
 subs_load_most y kind home x n =
-    omega (arith, length-subs kind home x n, sum_most _ (subs_load y) 999 (load_total y).subs (subs_up_to kind home x n)
-    (all_subs_are _ kind home x (λ (k e : ℕ). if_most (item_by (node_by home k e) e == y) (magnitude (deed_by kind (item_by (node_by home k e) e) (amount_by e))) 999
-    (deed_small kind (item_by (node_by home k e) e) e)) n))
+    omega (
+      arith,
+      length-subs kind home x n,
+      sum_most _ (subs_load y) 999 (load_total y).subs (subs_up_to kind home x n)
+          (all_subs_are _ kind home x (λ (k e : ℕ). if_most (item_by (node_by home k e) e == y) (magnitude (deed_by kind (item_by (node_by home k e) e) (amount_by e))) 999
+          (deed_small kind (item_by (node_by home k e) e) e)) n),
+    )
 
 pub subs_ops_most : (kind : TreeKind) (home x n : ℕ) → subs_ops (subs_up_to kind home x n) ≤ n
 subs_ops_most kind home x n =
@@ -76,9 +80,13 @@ subs_ops_most kind home x n =
 
 pub subs_puts_none : (y : ℕ) (kind : TreeKind) (home x n : ℕ) → subs_puts y (subs_up_to kind home x n) ≡ 0
 subs_puts_none y kind home x n =
-    omega (arith, length-subs kind home x n, sum_most _ (subs_puts y) 0 (put_total y).subs (subs_up_to kind home x n)
-    (all_subs_are _ kind home x (λ (k e : ℕ). if_most (item_by (node_by home k e) e == y) (one_put (deed_by kind (item_by (node_by home k e) e) (amount_by e))) 0
-    (none (no_put kind (item_by (node_by home k e) e) e))) n)) where
+    omega (
+      arith,
+      length-subs kind home x n,
+      sum_most _ (subs_puts y) 0 (put_total y).subs (subs_up_to kind home x n)
+          (all_subs_are _ kind home x (λ (k e : ℕ). if_most (item_by (node_by home k e) e == y) (one_put (deed_by kind (item_by (node_by home k e) e) (amount_by e))) 0
+          (none (no_put kind (item_by (node_by home k e) e) e))) n),
+    ) where
       none : {m : ℕ} → m ≡ 0 → m ≤ 0
       none e = omega (arith, e)
 
@@ -104,25 +112,45 @@ length-trees seed (suc j) = omega (arith, length-append (trees_up_to seed j) (ge
 
 pub all_subs_most : (seed n : ℕ) → all_subs (trees_up_to seed n) ≤ 4 * n
 all_subs_most seed n =
-    omega (arith, length-trees seed n, sum_most _ all_subs 4 all_subs-sum (trees_up_to seed n)
-    (all_trees_are _ seed (λ (j x : ℕ). omega (arith, size_most x, length-subs (kind_by (given (next_draw x))) (home_by (given (next_draw x))) (next_draw x) (size_after x))) n))
+    omega (
+      arith,
+      length-trees seed n,
+      sum_most _ all_subs 4 all_subs-sum (trees_up_to seed n)
+          (all_trees_are _ seed (λ (j x : ℕ). omega (arith, size_most x, length-subs (kind_by (given (next_draw x))) (home_by (given (next_draw x))) (next_draw x) (size_after x))) n),
+    )
 
 pub all_ops_most : (seed n : ℕ) → all_ops (trees_up_to seed n) ≤ 4 * n
 all_ops_most seed n =
-    omega (arith, length-trees seed n, sum_most _ all_ops 4 op_total.trees (trees_up_to seed n)
-    (all_trees_are _ seed (λ (j x : ℕ). omega (arith, size_most x, subs_ops_most (kind_by (given (next_draw x))) (home_by (given (next_draw x))) (next_draw x) (size_after x))) n))
+    omega (
+      arith,
+      length-trees seed n,
+      sum_most _ all_ops 4 op_total.trees (trees_up_to seed n)
+          (all_trees_are _ seed (λ (j x : ℕ). omega (arith, size_most x, subs_ops_most (kind_by (given (next_draw x))) (home_by (given (next_draw x))) (next_draw x) (size_after x))) n),
+    )
 
 pub strict_none : (seed n : ℕ) → strict_trees (trees_up_to seed n) ≡ 0
 strict_none seed n =
-    omega (arith, length-trees seed n, sum_most _ strict_trees 0 strict-sum (trees_up_to seed n)
-    (all_trees_are _ seed (λ (j x : ℕ). omega (arith, not_strict (given (next_draw x)))) n))
+    omega (
+      arith,
+      length-trees seed n,
+      sum_most _ strict_trees 0 strict-sum (trees_up_to seed n)
+          (all_trees_are _ seed (λ (j x : ℕ). omega (arith, not_strict (given (next_draw x)))) n),
+    )
 
 pub puts_none : (y seed n : ℕ) → trees_puts y (trees_up_to seed n) ≡ 0
 puts_none y seed n =
-    omega (arith, length-trees seed n, sum_most _ (trees_puts y) 0 (put_total y).trees (trees_up_to seed n)
-    (all_trees_are _ seed (λ (j x : ℕ). omega (arith, subs_puts_none y (kind_by (given (next_draw x))) (home_by (given (next_draw x))) (next_draw x) (size_after x))) n))
+    omega (
+      arith,
+      length-trees seed n,
+      sum_most _ (trees_puts y) 0 (put_total y).trees (trees_up_to seed n)
+          (all_trees_are _ seed (λ (j x : ℕ). omega (arith, subs_puts_none y (kind_by (given (next_draw x))) (home_by (given (next_draw x))) (next_draw x) (size_after x))) n),
+    )
 
 pub load_most : (y seed n : ℕ) → trees_load y (trees_up_to seed n) ≤ 3996 * n
 load_most y seed n =
-    omega (arith, length-trees seed n, sum_most _ (trees_load y) 3996 (load_total y).trees (trees_up_to seed n)
-    (all_trees_are _ seed (λ (j x : ℕ). omega (arith, size_most x, subs_load_most y (kind_by (given (next_draw x))) (home_by (given (next_draw x))) (next_draw x) (size_after x))) n))
+    omega (
+      arith,
+      length-trees seed n,
+      sum_most _ (trees_load y) 3996 (load_total y).trees (trees_up_to seed n)
+          (all_trees_are _ seed (λ (j x : ℕ). omega (arith, size_most x, subs_load_most y (kind_by (given (next_draw x))) (home_by (given (next_draw x))) (next_draw x) (size_after x))) n),
+    )

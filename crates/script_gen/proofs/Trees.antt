@@ -1,7 +1,6 @@
 -- Each record of a generated tree is taken, and all of them make the tree.
 use Rattle.std.proofs.Common.{◌≡◌, ◌+◌, ◌*◌, ◌/◌, ◌%◌, ◌<◌, ◌≤◌, ◌∙◌, ◌∷◌, ◌++◌, [], List, Bool, true, false, ℕ, zero, suc, length, refl, sym, ap, subst, arith, length-append}
-use Rattle.std.specs.Prelude.{◌&&◌, ◌||◌, ◌==◌, if◌then◌else◌, not, nat_le, nat_lt, Option, Some, None, slice_get, unsigned_abs}
-use Rattle.std.specs.List.{list_any}
+use Rattle.std.specs.Prelude.{◌&&◌, ◌||◌, ◌==◌, not, nat_le, nat_lt, Option, Some, None, slice_get, unsigned_abs}
 use Rattle.std.specs.Str.{bytes_eq}
 use Rattle.std.proofs.lemmas.Bool.{le-leb}
 use Rattle.std.proofs.lemmas.Bool.Decides.{nat_tests}
@@ -10,12 +9,12 @@ use Rattle.std.proofs.lemmas.List.Folds.{list_any-append}
 use Rattle.tv_base.specs.declared.numbers.NodeNo.{NodeNo}
 use Rattle.tv_base.specs.declared.numbers.SubNo.{SubNo}
 use Rattle.commute_ops.specs.declared.kinds.Kind.{Kind}
-use Rattle.tx_trees.specs.Adding.{all_ops, all_subs, are_many, has_no_op_left, has_no_sub_left, has_no_tree_left, has_touched, kind_at, last_count, last_kind, last_node, last_of, last_sub, last_subs, names_tree, node_at, on_last, on_last_sub, push_op, push_sub, touch, with_op, with_sub, with_tree}
+use Rattle.tx_trees.specs.Adding.{all_ops, all_subs, has_no_tree_left, kind_at, last_count, last_kind, last_node, last_of, last_sub, last_subs, names_tree, node_at, on_last_sub, push_op, push_sub, touch, with_op, with_sub, with_tree}
 use Rattle.tx_trees.specs.Amounts.{magnitude}
 use Rattle.tx_trees.specs.Counts.{one_put, one_strict, strict_trees, subs_ops, subs_puts, trees_puts, update_subs, if_update}
 use Rattle.tx_trees.specs.Forms.{most_amount}
 use Rattle.tx_trees.specs.Passing.{MayAddOp, MayAddSub, MayAddTree}
-use Rattle.tx_trees.specs.Ranges.{draws_negative, is_in_range}
+use Rattle.tx_trees.specs.Ranges.{draws_negative}
 use Rattle.tx_trees.specs.ScriptData.{ScriptData, is_strict}
 use Rattle.tx_trees.specs.Valid.{deed_fits, initial_load, load, subs_load, trees_load}
 use Rattle.tx_trees.specs.declared.parts.Deed.{Deed}

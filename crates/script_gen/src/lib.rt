@@ -2,13 +2,13 @@
 #![tactic(auto)]
 
 mod draws;
-//mod generating;
+mod generating;
 mod items_made;
 mod naming;
 mod taking;
 mod trees_made;
 
-//pub use generating::generate;
+pub use generating::generate;
 
 #[cfg(test)]
 mod tests;

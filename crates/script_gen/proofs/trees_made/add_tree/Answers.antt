@@ -1,39 +1,92 @@
-use Rattle.std.proofs.Common.{rules, ◌≡◌, ◌<◌, ◌≤◌, ◌+◌, ◌/◌, ◌%◌, IfOk, OnOk, Some, ℕ, ◌-◌, ◌*◌, length, Bool, true, false, nat_eq, nat_lt, List, [], ◌∷◌, ◌++◌, slice_index_or, slice_set, bit_and, bit_or, Fits, w8, w32, w64, Bor, MutBor}
-use Rattle.tx_trees.specs.Adding.{advances_in, place_of, with_op, with_tree}
-use Rattle.tx_trees.specs.Passing.{MayAddOp, MayAddTree}
+use Rattle.std.proofs.Common.{◌≡◌, ◌+◌, ◌<◌, ◌≤◌, ◌∙◌, ℕ, suc, ap, arith}
 use Rattle.script_gen.specs.Draws.{after_draws, given, next_draw}
-use Rattle.script_gen.specs.Generated.{advances_behind, after_tree, after_trees, amount_by, deed_by, generated_tree, home_by, item_by, item_name, kind_by, more_by, node_by, parent_by, tree_name, tree_with}
-use Rattle.script_gen.specs.Within.{Follows, HasRoom, HasTrees, bare_tree, with_begun}
+use Rattle.script_gen.specs.Generated.{home_by, kind_by, tree_with}
+use Rattle.script_gen.specs.Within.{with_begun}
+use Rattle.script_gen.proofs.Stages.{begin_may, begun, op_made, op_may_now, op_named, sub_made, sub_may_now}
+use Rattle.script_gen.proofs.Trees.{node_is}
 use Rattle.script_gen.proofs.trees_made.add_tree.Goals as goal
 
--- src/trees_made.rt:59:5
+-- what is drawn first
+drawn_first : (d own x : ℕ) → d ≡ given own → own ≡ next_draw x → d ≡ given (next_draw x)
+drawn_first d own x is e = is ∙ ap given e
+
 pub begin_tree-requires-clause-may : goal.begin_tree-requires-clause-may
-begin_tree-requires-clause-may c = ?
+begin_tree-requires-clause-may c =
+    let d = drawn_first c.given-drawn.result c.next_draw-own.result c.args.first c.given-drawn.ensures c.next_draw-own.ensures in
+    begin_may c.args.script.now c.args.j c.args.first c.home_by-home.result c.kind_by-kind.result c.requires (c.kind_by-kind.ensures ∙ ap kind_by d)
+    (c.home_by-home.ensures ∙ ap home_by d)
 
--- src/trees_made.rt:61:5
 pub add_op-requires-clause-named : goal.add_op-requires-clause-named
-add_op-requires-clause-named c = ?
+add_op-requires-clause-named c =
+    let d = drawn_first c.given-drawn.result c.next_draw-own.result c.args.first c.given-drawn.ensures c.next_draw-own.ensures in
+    let kind = c.kind_by-kind.ensures ∙ ap kind_by d in
+    let home = c.home_by-home.ensures ∙ ap home_by d in
+    op_named c.args.script.now c.begin_tree.new.script c.args.j c.args.first 0 c.home_by-home.result c.given.result c.requires
+    (begun c.args.script.now c.begin_tree.new.script c.args.j c.args.first c.home_by-home.result c.kind_by-kind.result c.requires kind home c.in_ok-begin_tree.ensures)
+    home
 
--- src/trees_made.rt:61:5
 pub add_op-requires-clause-may : goal.add_op-requires-clause-may
-add_op-requires-clause-may c = ?
+add_op-requires-clause-may c =
+    let d = drawn_first c.given-drawn.result c.next_draw-own.result c.args.first c.given-drawn.ensures c.next_draw-own.ensures in
+    let kind = c.kind_by-kind.ensures ∙ ap kind_by d in
+    let home = c.home_by-home.ensures ∙ ap home_by d in
+    let few : 0 ≤ 3 = omega arith in
+    op_may_now c.args.script.now c.begin_tree.new.script c.args.j c.args.first 0 c.home_by-home.result c.given.result c.kind_by-kind.result c.requires few
+    (begun c.args.script.now c.begin_tree.new.script c.args.j c.args.first c.home_by-home.result c.kind_by-kind.result c.requires kind home c.in_ok-begin_tree.ensures)
+    kind home (c.given.ensures ∙ ap given (c.next_draw-number.ensures ∙ ap next_draw c.next_draw-own.ensures))
 
--- src/trees_made.rt:62:5
 pub loop-k-init : goal.loop-k-init
-loop-k-init c = ?
+loop-k-init c =
+    let d = drawn_first c.given-drawn.result c.next_draw-own.result c.args.first c.given-drawn.ensures c.next_draw-own.ensures in
+    let kind = c.kind_by-kind.ensures ∙ ap kind_by d in
+    let home = c.home_by-home.ensures ∙ ap home_by d in
+    let number = c.next_draw-number.ensures ∙ ap next_draw c.next_draw-own.ensures in
+    record {
+      made = op_made c.args.script.now c.begin_tree.new.script c.add_op.new.script c.args.j c.args.first 0 c.home_by-home.result c.given.result c.kind_by-kind.result
+          (begun c.args.script.now c.begin_tree.new.script c.args.j c.args.first c.home_by-home.result c.kind_by-kind.result c.requires kind home c.in_ok-begin_tree.ensures)
+          kind home (c.given.ensures ∙ ap given number) c.in_ok-add_op.ensures;
+      number = number;
+    }
 
--- src/trees_made.rt:66:9
 pub take_sub-requires : goal.take_sub-requires
-take_sub-requires c = ?
+take_sub-requires c =
+    sub_may_now c.args.script.now c.loop-k.script c.args.j c.args.first c.loop-k.k c.node_by-node.result c.given-e.result c.requires (omega arith)
+    (omega (arith, c.more_by-k-end.ensures)) c.loop-k.invariant.made c.node_by-node.ensures
 
--- src/trees_made.rt:67:9
 pub add_op-requires-in-loop-k-clause-named : goal.add_op-requires-in-loop-k-clause-named
-add_op-requires-in-loop-k-clause-named c = ?
+add_op-requires-in-loop-k-clause-named c =
+    let some : 0 < c.loop-k.k = omega arith in
+    let drawn = c.given-e.ensures ∙ ap given (c.next_draw-number-in-loop-k.ensures ∙ ap next_draw c.loop-k.invariant.number) in
+    op_named c.args.script.now c.take_sub.new.script c.args.j c.args.first c.loop-k.k c.node_by-node.result c.given-e.result c.requires
+    (sub_made c.args.script.now c.loop-k.script c.take_sub.new.script c.args.j c.args.first c.loop-k.k c.node_by-node.result c.given-e.result some
+    c.loop-k.invariant.made c.node_by-node.ensures drawn c.in_ok-take_sub.ensures)
+    (c.node_by-node.ensures ∙ node_is (home_by (given (next_draw c.args.first))) c.loop-k.k c.given-e.result some)
 
--- src/trees_made.rt:67:9
 pub add_op-requires-in-loop-k-clause-may : goal.add_op-requires-in-loop-k-clause-may
-add_op-requires-in-loop-k-clause-may c = ?
+add_op-requires-in-loop-k-clause-may c =
+    let d = drawn_first c.given-drawn.result c.next_draw-own.result c.args.first c.given-drawn.ensures c.next_draw-own.ensures in
+    let kind = c.kind_by-kind.ensures ∙ ap kind_by d in
+    let some : 0 < c.loop-k.k = omega arith in
+    let few : c.loop-k.k ≤ 3 = omega (arith, c.more_by-k-end.ensures) in
+    let drawn = c.given-e.ensures ∙ ap given (c.next_draw-number-in-loop-k.ensures ∙ ap next_draw c.loop-k.invariant.number) in
+    op_may_now c.args.script.now c.take_sub.new.script c.args.j c.args.first c.loop-k.k c.node_by-node.result c.given-e.result c.kind_by-kind.result c.requires few
+    (sub_made c.args.script.now c.loop-k.script c.take_sub.new.script c.args.j c.args.first c.loop-k.k c.node_by-node.result c.given-e.result some
+    c.loop-k.invariant.made c.node_by-node.ensures drawn c.in_ok-take_sub.ensures)
+    kind (c.node_by-node.ensures ∙ node_is (home_by (given (next_draw c.args.first))) c.loop-k.k c.given-e.result some) drawn
 
--- src/trees_made.rt:62:5
 pub loop-k-preserved : goal.loop-k-preserved
-loop-k-preserved c = ?
+loop-k-preserved c =
+    let d = drawn_first c.given-drawn.result c.next_draw-own.result c.args.first c.given-drawn.ensures c.next_draw-own.ensures in
+    let kind = c.kind_by-kind.ensures ∙ ap kind_by d in
+    let some : 0 < c.loop-k.k = omega arith in
+    let number = c.next_draw-number-in-loop-k.ensures ∙ ap next_draw c.loop-k.invariant.number in
+    let drawn = c.given-e.ensures ∙ ap given number in
+    let up : suc c.loop-k.k ≡ c.loop-k.k + 1 = omega arith in
+    record {
+      made = op_made c.args.script.now c.take_sub.new.script c.add_op-in-loop-k.new.script c.args.j c.args.first c.loop-k.k c.node_by-node.result c.given-e.result c.kind_by-kind.result
+          (sub_made c.args.script.now c.loop-k.script c.take_sub.new.script c.args.j c.args.first c.loop-k.k c.node_by-node.result c.given-e.result some
+          c.loop-k.invariant.made c.node_by-node.ensures drawn c.in_ok-take_sub.ensures)
+          kind (c.node_by-node.ensures ∙ node_is (home_by (given (next_draw c.args.first))) c.loop-k.k c.given-e.result some) drawn c.in_ok-add_op-2.ensures
+          ∙ ap (λ (n : ℕ). with_begun c.args.script.now c.args.j (tree_with c.args.j c.args.first n)) up;
+      number = number ∙ ap (λ (n : ℕ). after_draws n (next_draw c.args.first)) up;
+    }
