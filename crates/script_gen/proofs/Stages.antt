@@ -7,7 +7,8 @@ use Rattle.tx_trees.specs.Passing.{MayAddOp, MayAddSub, MayAddTree}
 use Rattle.tx_trees.specs.ScriptData.{ScriptData}
 use Rattle.tx_trees.specs.declared.parts.ItemRow.{ItemRow}
 use Rattle.tx_trees.specs.declared.parts.TreeKind.{TreeKind}
-use Rattle.script_gen.specs.Draws.{after_draws, given, next_draw}
+use Rattle.script_gen.specs.Draws.{after_draws, given}
+use Rattle.tv_base.specs.Draws.{next_draw}
 use Rattle.script_gen.specs.Generated.{amount_by, deed_by, home_by, item_by, item_name, kind_by, node_by, parent_by, tree_name, tree_with}
 use Rattle.script_gen.specs.Within.{HasRoom, bare_tree, with_begun}
 use Rattle.script_gen.proofs.Items.{item_found}

@@ -13,7 +13,8 @@ use Rattle.tx_trees.specs.declared.parts.TreeKind.{TreeKind}
 use Rattle.tx_trees.specs.declared.parts.TreeKind.TheVariants as kinds
 use Rattle.tx_trees.proofs.Lists.{IsSum, all-push}
 use Rattle.tx_trees.proofs.Totals.{all_subs-sum, load_total, op_total, put_total, strict-sum}
-use Rattle.script_gen.specs.Draws.{after_draws, given, next_draw}
+use Rattle.script_gen.specs.Draws.{after_draws, given}
+use Rattle.tv_base.specs.Draws.{next_draw}
 use Rattle.script_gen.specs.Generated.{after_trees, amount_by, deed_by, generated_sub, generated_tree, home_by, is_top, item_by, kind_by, node_by, size_after, subs_up_to, trees_up_to}
 
 -- a sum of what is at most b

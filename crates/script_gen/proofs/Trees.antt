@@ -30,7 +30,8 @@ use Rattle.tx_trees.specs.declared.parts.TreeKind.TheVariants as kinds
 use Rattle.tx_trees.proofs.Last.{last_count_is, last_kind_is, last_node_is, last_sub_is, last_subs_is}
 use Rattle.tx_trees.proofs.Lists.{last_of-seam, le_not, lt_not, on_last-seam, slice_get-old, slice_get-seam, sum-push}
 use Rattle.tx_trees.proofs.Totals.{all_subs-sum, load_total, op_total, put_total, strict-sum}
-use Rattle.script_gen.specs.Draws.{after_draws, given, next_draw}
+use Rattle.script_gen.specs.Draws.{after_draws, given}
+use Rattle.tv_base.specs.Draws.{next_draw}
 use Rattle.script_gen.specs.Generated.{after_trees, amount_by, deed_by, generated_tree, home_by, is_top, item_by, item_row, items_up_to, kind_by, node_by, parent_by, subs_up_to, tree_name, tree_with, trees_up_to}
 use Rattle.script_gen.specs.Within.{HasRoom, HasTrees, bare_sub, bare_tree, with_begun}
 use Rattle.script_gen.proofs.Names.{name_plain, names_apart}
@@ -218,10 +219,10 @@ none_strict kinds.Strict b e = absurd (cc e)
 op_may : (s : ScriptData) (j : ℕ) (name : List ℕ) (kind : TreeKind) (ss : List Sub) (p : SubNo) (q : NodeNo) (k : ℕ) (deed : Deed) → HasRoom j s
     → one_strict kind ≡ 0 → subs_ops ss ≤ 3 → subs_load k ss ≤ 2997 → subs_puts k ss ≡ 0 → k < 32 → q.0 ≡ k % 4
     → deed_fits kind (item_row k).kind deed ≡ true → magnitude deed ≤ 999 → one_put deed ≡ 0 → draws_negative deed ≡ false
-    → MayAddOp (with_begun s j (let t : Tree = record { name = name; kind = kind; subs = ss ++ (let b : Sub = record { parent = p; node = q; ops = [] } in b) ∷ [] } in t)) k deed
+    → MayAddOp (with_begun s j (let t : Tree = record { name = name; kind = kind; subs = ss ++ (let b : Sub = record { parent = p; node = q; ops = [] } in b) ∷ []; written = None } in t)) k deed
 op_may s j name kind ss p q k deed room plain few small none less at fits size put rises =
     let b : Sub = record { parent = p; node = q; ops = [] } in
-    let t : Tree = record { name = name; kind = kind; subs = ss ++ b ∷ [] } in
+    let t : Tree = record { name = name; kind = kind; subs = ss ++ b ∷ []; written = None } in
     let trees : List Tree = s.trees ++ t ∷ [] in
     let last : last_of trees ≡ Some t = last_of-seam s.trees t in
     let sub : last_sub trees ≡ Some b = last_sub_is trees t b last (last_of-seam ss b) in
@@ -296,7 +297,7 @@ added s j x n =
     let o : SubOp = record { item = record { 0 = k }; deed = deed_by (kind_by d) k (amount_by g) } in
     ap (λ (ts : List Tree). let t : ScriptData = record s { trees = ts; rows = s.rows ++ rows.Tree (record { 0 = j }) ∷ []; begun = true } in t)
     (on_last-seam (on_last_sub (push_op o)) s.trees (bare_tree j x n)
-    ∙ ap (λ (ks : List Sub). s.trees ++ (let t : Tree = record { name = tree_name j; kind = kind_by d; subs = ks } in t) ∷ [])
+    ∙ ap (λ (ks : List Sub). s.trees ++ (let t : Tree = record { name = tree_name j; kind = kind_by d; subs = ks; written = None } in t) ∷ [])
     (on_last-seam (push_op o) (subs_up_to (kind_by d) (home_by d) (next_draw x) n) (bare_sub (home_by d) n g)))
 
 pub op_added : (s : ScriptData) (j x n e : ℕ) → e ≡ given (after_draws (suc n) (next_draw x))

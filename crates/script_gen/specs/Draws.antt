@@ -1,9 +1,6 @@
--- The numbers that are drawn from a seed.
-use Rattle.std.specs.Prelude.{ℕ, zero, suc, ◌+◌, ◌*◌, ◌/◌, ◌%◌, ◌^◌}
-
--- the number after x
-abbrev pub next_draw : ℕ → ℕ
-next_draw x = (6364136223846793005 * x + 1442695040888963407) % 2 ^ 64
+-- Draws from a seed, one after the other, and what each gives.
+use Rattle.std.specs.Prelude.{ℕ, zero, suc, ◌/◌, ◌^◌}
+use Rattle.tv_base.specs.Draws.{next_draw}
 
 -- the number after k draws from x
 abbrev pub after_draws : ℕ → ℕ → ℕ

@@ -1,5 +1,5 @@
 -- The script that a seed makes: 4 nodes, 32 items, and so many trees, each from draws of its own.
-use Rattle.std.specs.Prelude.{if◌then◌else◌, ℕ, zero, suc, ◌+◌, ◌*◌, ◌/◌, ◌%◌, ◌==◌, ℤ, pos, List, [], ◌∷◌, ◌++◌, codes, decimal, Bool, false}
+use Rattle.std.specs.Prelude.{if◌then◌else◌, ℕ, zero, suc, ◌+◌, ◌*◌, ◌/◌, ◌%◌, ◌==◌, ℤ, pos, List, [], ◌∷◌, ◌++◌, None, codes, decimal, Bool, false}
 use Rattle.commute_ops.specs.declared.kinds.Kind.TheVariants as kinds
 use Rattle.commute_ops.specs.declared.kinds.Op.TheVariants as ops
 use Rattle.tx_trees.specs.ScriptData.{ScriptData}
@@ -13,7 +13,8 @@ use Rattle.tx_trees.specs.declared.parts.Sub.{Sub}
 use Rattle.tx_trees.specs.declared.parts.Tree.{Tree}
 use Rattle.tx_trees.specs.declared.parts.TreeKind.{TreeKind}
 use Rattle.tx_trees.specs.declared.parts.TreeKind.TheVariants as trees
-use Rattle.script_gen.specs.Draws.{after_draws, given, next_draw}
+use Rattle.script_gen.specs.Draws.{after_draws, given}
+use Rattle.tv_base.specs.Draws.{next_draw}
 
 abbrev pub item_name : ℕ → List ℕ
 item_name k = codes "i" ++ decimal k
@@ -91,6 +92,7 @@ tree_with j x n = record {
   name = tree_name j;
   kind = kind_by (given (next_draw x));
   subs = subs_up_to (kind_by (given (next_draw x))) (home_by (given (next_draw x))) (next_draw x) n;
+  written = None;
 }
 
 -- how many subtransactions the tree has whose draws begin after x

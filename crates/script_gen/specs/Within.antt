@@ -9,7 +9,8 @@ use Rattle.tx_trees.specs.declared.parts.ScriptRow.{ScriptRow}
 use Rattle.tx_trees.specs.declared.parts.ScriptRow.TheVariants as rows
 use Rattle.tx_trees.specs.declared.parts.Sub.{Sub}
 use Rattle.tx_trees.specs.declared.parts.Tree.{Tree}
-use Rattle.script_gen.specs.Draws.{after_draws, given, next_draw}
+use Rattle.script_gen.specs.Draws.{after_draws, given}
+use Rattle.tv_base.specs.Draws.{next_draw}
 use Rattle.script_gen.specs.Generated.{home_by, items_up_to, kind_by, node_by, parent_by, rows_up_to, subs_up_to, tree_name, trees_up_to}
 
 -- the first n items

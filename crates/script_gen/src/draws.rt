@@ -1,6 +1,7 @@
 // Numbers that are drawn from a seed.
 ghost use Rattle.std.specs.Prelude.{◌≡◌, ◌<◌, ◌^◌};
-ghost use Rattle.script_gen.specs.Draws.{given, next_draw};
+ghost use Rattle.script_gen.specs.Draws.{given};
+ghost use Rattle.tv_base.specs.Draws.{next_draw};
 
 // The number after this one.
 pub(crate) fn next_draw(number: u64) -> u64

@@ -1,5 +1,6 @@
 use Rattle.std.proofs.Common.{◌≡◌, ◌+◌, ◌<◌, ◌≤◌, ◌∙◌, ℕ, suc, ap, arith}
-use Rattle.script_gen.specs.Draws.{after_draws, given, next_draw}
+use Rattle.script_gen.specs.Draws.{after_draws, given}
+use Rattle.tv_base.specs.Draws.{next_draw}
 use Rattle.script_gen.specs.Generated.{home_by, kind_by, tree_with}
 use Rattle.script_gen.specs.Within.{with_begun}
 use Rattle.script_gen.proofs.Stages.{begin_may, begun, op_made, op_may_now, op_named, sub_made, sub_may_now}
