@@ -1,3 +1,2 @@
 pub mod ReadRuns
-pub mod Built
 pub mod Told

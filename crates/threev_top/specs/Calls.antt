@@ -22,7 +22,7 @@ use Rattle.report_text.specs.Report.{report_of}
 use Rattle.report_text.specs.Lines.{check_line_of}
 use Rattle.world_model.specs.Scheduled.{IsScheduled}
 use Rattle.headline.specs.Headline.{HasHeadline}
-use Rattle.history_text.specs.HistoryLines.{history_lines_of}
+use Rattle.history_text.specs.History.{history_lines_of}
 use Rattle.script_gen.specs.Generated.{generated}
 use Rattle.report_text.specs.Summary.{summary_of}
 use Rattle.sim_runner.specs.Finished.{HasEnded}
@@ -133,12 +133,6 @@ leaves_source (Some (lines.Sim seed shows)) = false
 leaves_source (Some (lines.Run workers shows)) = false
 leaves_source (Some lines.Upgrade) = false
 
--- a line has from 1 to 32 workers and from 1 to 20,000 trees, where it has any
-abbrev pub IsInRange : Line → Type 0
-IsInRange (lines.Run workers shows) = (1 ≤ workers) × (workers ≤ 32)
-IsInRange (lines.Soak workers seed trees) = (1 ≤ workers) × (workers ≤ 32) × (1 ≤ trees) × (trees ≤ 20000)
-IsInRange _ = Unit {0}
-
 -- all bytes were read to their end, and reading refuses them with this fault
 pub record ReadRefused (left now : Option (List ℕ)) (f : ScriptFault) : Type 0 where
   pub bytes : List ℕ
@@ -187,6 +181,13 @@ abbrev pub IsWritten : Option Stop → Type 0
 IsWritten None = ⊤
 IsWritten (Some stops.Writing) = ⊤
 IsWritten _ = ⊥
+
+-- the same, or there was no memory
+abbrev pub IsWrittenOrNoMemory : Option Stop → Type 0
+IsWrittenOrNoMemory None = ⊤
+IsWrittenOrNoMemory (Some stops.Writing) = ⊤
+IsWrittenOrNoMemory (Some stops.NoMemory) = ⊤
+IsWrittenOrNoMemory _ = ⊥
 
 -- what stops may come once there are bytes
 abbrev pub IsByBytes : List ℕ → Option Stop → Type 0
