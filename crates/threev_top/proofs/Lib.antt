@@ -1,2 +1,3 @@
 pub mod ReadRuns
 pub mod Told
+pub mod Generated
