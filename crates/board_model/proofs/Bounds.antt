@@ -1,6 +1,7 @@
 -- In a valid script the operations on an item may be applied one after another, from its initial value on.
 use Rattle.std.proofs.Common.{◌≡◌, ℕ, zero, suc, ◌+◌, ◌<◌, ◌≤◌, Bool, true, false, IsTrue, List, [], ◌∷◌, refl, ℤ, ap, sym, ◌∙◌, subst, arith}
-use Rattle.std.specs.Prelude.{if◌then◌else◌, ◌==◌, ◌||◌, ◌+ℤ◌, ◌-ℤ◌, unsigned_abs, Option, Some, None, slice_get, pos}
+use Rattle.std.specs.Prelude.{if◌then◌else◌, cond, fold, int_lt, ◌==◌, ◌||◌, ◌+ℤ◌, ◌-ℤ◌, unsigned_abs, Option, Some, None, slice_get, pos}
+use Rattle.std.specs.Int.{int_max}
 use Rattle.std.specs.List.{AllByRecursion}
 use Rattle.std.proofs.lemmas.Int.{ints}
 use Rattle.std.proofs.lemmas.Option.{slice_get_within}
@@ -34,7 +35,7 @@ use Rattle.board_model.proofs.Closings.{AreApart}
 -- a value of the kind, which magnitudes that add up to `left` may still be added to
 abbrev pub OfKind : Kind → Value → ℕ → Type 0
 OfKind SumKind (Sum n) left = unsigned_abs n.0 + left ≤ MOST_AMOUNT
-OfKind TopKind (Top n) left = Unit {0}
+OfKind TopKind (Top n) left = unsigned_abs n.0 + left ≤ MOST_AMOUNT
 OfKind BagKind (Bag ns) left = Unit {0}
 OfKind _ _ _ = ⊥
 
@@ -46,6 +47,13 @@ IsHeld (Some row) w left = OfKind row.kind w left
 pub abs_add : (n a : ℤ) → unsigned_abs (n +ℤ a) ≤ unsigned_abs n + unsigned_abs a
 abs_add n a = omega (arith, ints)
 
+abs_either : (b : Bool) (n a : ℤ) → unsigned_abs (cond b n a) ≤ unsigned_abs n + unsigned_abs a
+abs_either true n a = omega arith
+abs_either false n a = omega arith
+
+abs_max : (n a : ℤ) → unsigned_abs (int_max n a) ≤ unsigned_abs n + unsigned_abs a
+abs_max n a = abs_either (int_lt a n) n a
+
 abs_sub : (n a : ℤ) → unsigned_abs (n -ℤ a) ≤ unsigned_abs n + unsigned_abs a
 abs_sub n a = omega (arith, ints)
 
@@ -54,7 +62,7 @@ within n a left h = grind (arith, nat_tests)
 
 less_of : (kind : Kind) (w : Value) (a b : ℕ) → b ≤ a → OfKind kind w a → OfKind kind w b
 less_of SumKind (Sum n) a b small h = omega arith
-less_of TopKind (Top n) a b small h = tt
+less_of TopKind (Top n) a b small h = omega arith
 less_of BagKind (Bag ns) a b small h = tt
 less_of SumKind (Top n) a b small h = h
 less_of SumKind (Bag n) a b small h = h
@@ -77,7 +85,7 @@ op_step SumKind (Raise a) w left f h = absurd (cc f)
 op_step SumKind (Put a) w left f h = absurd (cc f)
 op_step TopKind (Add a) w left f h = absurd (cc f)
 op_step TopKind (Raise a) (Sum n) left f h = absurd h
-op_step TopKind (Raise a) (Top n) left f h = (refl, tt)
+op_step TopKind (Raise a) (Top n) left f h = (refl, omega (arith, abs_max n.0 a))
 op_step TopKind (Raise a) (Bag n) left f h = absurd h
 op_step TopKind (Put a) w left f h = absurd (cc f)
 op_step BagKind (Add a) w left f h = absurd (cc f)
@@ -111,7 +119,7 @@ fits_step Strict SumKind (Set a) (Sum n) left f h = (refl, omega arith)
 fits_step Strict SumKind (Set a) (Top n) left f h = absurd h
 fits_step Strict SumKind (Set a) (Bag ns) left f h = absurd h
 fits_step Strict TopKind (Set a) (Sum n) left f h = absurd h
-fits_step Strict TopKind (Set a) (Top n) left f h = (refl, tt)
+fits_step Strict TopKind (Set a) (Top n) left f h = (refl, omega arith)
 fits_step Strict TopKind (Set a) (Bag ns) left f h = absurd h
 fits_step Strict BagKind (Set a) w left f h = absurd (cc f)
 fits_step Strict SumKind (Draw a) (Sum n) left f h = (within n.0 a left h, omega (arith, abs_sub n.0 a))
@@ -190,11 +198,12 @@ here_step s t x w left valid h =
     subst P (sym (subs_of s t)) (tree_step s.nodes s.items s.trees t x w left valid.trees) h
 
 trees_step : (s : ScriptData) (x : ℕ) (ts : List ℕ) (w : Value) → IsValid s → IsHeld (slice_get s.items x) w (loads_of s x ts)
-    → IsTrue (trees_may s x ts w)
-trees_step s x [] w valid h = refl
+    → IsTrue (trees_may s x ts w) × IsHeld (slice_get s.items x) (fold (after_tree s x) w ts) 0
+trees_step s x [] w valid h = (refl, h)
 trees_step s x (t ∷ ts) w valid h =
     let one = here_step s t x w (loads_of s x ts) valid h in
-    and_from (subs_may x (subs_at s t) w) (trees_may s x ts (after_tree s x w t)) one.0 (trees_step s x ts (after_tree s x w t) valid one.1)
+    let rest = trees_step s x ts (after_tree s x w t) valid one.1 in
+    (and_from (subs_may x (subs_at s t) w) (trees_may s x ts (after_tree s x w t)) one.0 rest.0, rest.1)
 
 -- what the trees among these have for item x, where the list of trees begins with tree k
 abbrev among : ℕ → List ℕ → ℕ → List Tree → ℕ
@@ -259,21 +268,31 @@ loads_most s x ts apart = omega (arith, loads_among s x ts apart, among_most x t
 
 start_held : (kind : Kind) (n : ℤ) (left : ℕ) → unsigned_abs n + left ≤ MOST_AMOUNT → OfKind kind (start kind n) left
 start_held SumKind n left h = h
-start_held TopKind n left h = tt
+start_held TopKind n left h = h
 start_held BagKind n left h = tt
 
 first_held : (r : Option ItemRow) (left : ℕ) → ((row : ItemRow) → r ≡ Some row → initial_load r + left ≤ MOST_AMOUNT) → IsHeld r (first_value r) left
 first_held None left h = tt
 first_held (Some row) left h = start_held row.kind row.initial left (h row refl)
 
--- the deeds of trees that are apart may be done one after the other
-pub worth_may : (s : ScriptData) (x : ℕ) (ts : List ℕ) → IsValid s → AreApart ts
+apart_step : (s : ScriptData) (x : ℕ) (ts : List ℕ) → IsValid s → AreApart ts
     → IsTrue (trees_may s x ts (first_value (slice_get s.items x)))
-worth_may s x ts valid apart =
+    × IsHeld (slice_get s.items x) (fold (after_tree s x) (first_value (slice_get s.items x)) ts) 0
+apart_step s x ts valid apart =
     trees_step s x ts (first_value (slice_get s.items x)) valid
     (first_held (slice_get s.items x) (loads_of s x ts)
     (λ (row : ItemRow) (e : slice_get s.items x ≡ Some row).
     omega (arith, small_load s x valid (slice_get_within s.items x row e), loads_most s x ts apart)))
+
+-- the deeds of trees that are apart may be done one after the other
+pub worth_may : (s : ScriptData) (x : ℕ) (ts : List ℕ) → IsValid s → AreApart ts
+    → IsTrue (trees_may s x ts (first_value (slice_get s.items x)))
+worth_may s x ts valid apart = (apart_step s x ts valid apart).0
+
+-- and their value is within the bound
+pub worth_held : (s : ScriptData) (x : ℕ) (ts : List ℕ) → IsValid s → AreApart ts
+    → IsHeld (slice_get s.items x) (fold (after_tree s x) (first_value (slice_get s.items x)) ts) 0
+worth_held s x ts valid apart = (apart_step s x ts valid apart).1
 
 nothing : (n : ℤ) → unsigned_abs n ≡ 0 → n ≡ pos 0
 nothing n h = omega (arith, ints)

@@ -4,3 +4,4 @@ pub mod Getters
 pub mod Plain
 pub mod Steps
 pub mod Equal
+pub mod Ranges

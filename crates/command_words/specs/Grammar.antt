@@ -4,7 +4,7 @@ use Rattle.std.specs.List.{after_first, before_first, list_any}
 use Rattle.std.specs.Option.{option_or}
 use Rattle.std.specs.Str.{bytes_eq}
 use Rattle.clap.specs.Words.{Text}
-use Rattle.command_words.specs.Lines.{if_built, line_with, mode_of}
+use Rattle.command_words.specs.Lines.{line_with, mode_of}
 use Rattle.command_words.specs.declared.Line.{Line}
 use Rattle.command_words.specs.declared.Line.TheVariants as lines
 
@@ -118,7 +118,3 @@ asked words = None
 -- every line of the command line
 abbrev pub line_of : List Text → Option Line
 line_of words = option_or (asked words) (line_of_options words)
-
--- the line, if it is one and is built
-abbrev pub built_line : List Text → Option Line
-built_line words = option_and_then if_built (line_of words)

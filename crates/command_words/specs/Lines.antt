@@ -1,5 +1,5 @@
 -- The line that the values of the options make.
-use Rattle.std.specs.Prelude.{ℕ, Bool, true, false, ◌≡◌, ◌&&◌, nat_le, Option, Some, None, Result, Ok, Err, codes, unwrap_or, if◌then◌else◌, ⊤}
+use Rattle.std.specs.Prelude.{ℕ, Bool, true, false, ◌≡◌, ◌≤◌, ◌&&◌, nat_le, Option, Some, None, Result, Ok, Err, codes, unwrap_or, if◌then◌else◌, ⊤}
 use Rattle.std.specs.Str.{bytes_eq}
 use Rattle.clap.specs.Words.{Text}
 use Rattle.command_words.specs.Numbers.{decimal_value, is_number}
@@ -45,17 +45,11 @@ line_with (Some mode) workers seed trees history =
     then line_of_mode mode (given_value workers) (given_value seed) (given_value trees) history
     else None
 
--- what the program does so far: the other lines are refused
-abbrev pub is_built : Line → Bool
-is_built lines.Check = true
-is_built (lines.Sim seed false) = true
-is_built lines.Upgrade = true
-is_built lines.Help = true
-is_built lines.Version = true
-is_built line = false
-
-abbrev pub if_built : Line → Option Line
-if_built line = if is_built line then Some line else None
+-- a line has from 1 to 32 workers and from 1 to 20,000 trees, where it has any
+abbrev pub IsInRange : Line → Type 0
+IsInRange (lines.Run workers history) = (1 ≤ workers) × (workers ≤ 32)
+IsInRange (lines.Soak workers seed trees) = (1 ≤ workers) × (workers ≤ 32) × (1 ≤ trees) × (trees ≤ 20000)
+IsInRange _ = Unit {0}
 
 -- what a call made of the words, but for want of memory
 abbrev pub Tells : Option Line → Result Line WordsError → Type 0

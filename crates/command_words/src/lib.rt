@@ -1,11 +1,11 @@
 //! The command line of the program, read into what it asks for.
 #![tactic(auto)]
 
-ghost use Rattle.std.specs.Prelude.{◌≡◌, MatchResult, codes, drop, false, map, option_and_then, option_map, string_bytes, true};
+ghost use Rattle.std.specs.Prelude.{◌≡◌, IfOk, MatchResult, codes, drop, false, map, option_and_then, option_map, string_bytes, true};
 ghost use Rattle.std.specs.List.{list_any};
 ghost use Rattle.std.specs.Str.{bytes_eq};
-ghost use Rattle.command_words.specs.Grammar.{asked as asked_in, asked_by as asked_in_word, built_line, line_of, line_of_options};
-ghost use Rattle.command_words.specs.Lines.{Tells, given_value, if_built, is_built as is_built_line, is_given_in, line_of_mode, mode_of};
+ghost use Rattle.command_words.specs.Grammar.{asked as asked_in, asked_by as asked_in_word, line_of, line_of_options};
+ghost use Rattle.command_words.specs.Lines.{IsInRange, Tells, given_value, is_given_in, line_of_mode, mode_of};
 ghost use Rattle.command_words.specs.Parser.{is_on as is_on_text, line_from};
 
 mod numbers;
@@ -63,7 +63,7 @@ pub enum Line {
 /// Why words were not read as a line.
 #[derive(Clone, Copy, Debug, PartialEq, Eq)]
 pub enum WordsError {
-    /// The words are no line of the program, or one that it doesn't build yet.
+    /// The words are no line of the program.
     Refused,
     /// There was no memory to read them; they may be a line.
     NoMemory,
@@ -279,45 +279,20 @@ fn asked(words: &[String]) -> Option<Line>
     }
 }
 
-fn line_by_words(alloc: Global, words: &[String]) -> Result<Line, WordsError>
-    ensures { Tells (line_of (map string_bytes words.now)) result }
+/// The line that these words are. The first word is the program's name and isn't read; no words at
+/// all are refused. The rest are `--help` or `--version` alone, or options in any order, each at most
+/// once, its value in the option's own word after `=` or in the word after it.
+///
+/// `Refused` comes only where the words are no line, and a line only where they are that line.
+/// `NoMemory` tells nothing of the words.
+pub fn read_words(alloc: Global, words: &[String]) -> Result<Line, WordsError>
+    ensures told { Tells (line_of (map string_bytes words.now)) result }
+    ensures range { IfOk result IsInRange }
 {
     match asked(words) {
         Some(line) => Ok(line),
         None => line_by_options(alloc, words),
     }
-}
-
-fn is_built(line: Line) -> bool
-    ensures { result ≡ is_built_line line }
-{
-    match line {
-        Line::Check | Line::Upgrade | Line::Help | Line::Version => true,
-        Line::Sim { seed: _, history } => !history,
-        Line::Run { .. } | Line::Soak { .. } => false,
-    }
-}
-
-fn only_built(line: Line) -> Result<Line, WordsError>
-    ensures { Tells (if_built line) result }
-{
-    if is_built(line) {
-        Ok(line)
-    } else {
-        Err(WordsError::Refused)
-    }
-}
-
-/// The line that these words are. The first word is the program's name and isn't read; no words at
-/// all are refused. The rest are `--help` or `--version` alone, or options in any order, each at most
-/// once, its value in the option's own word after `=` or in the word after it.
-///
-/// `Refused` comes only where the words are no line that the program builds, and a line only where
-/// they are that line. `NoMemory` tells nothing of the words.
-pub fn read_words(alloc: Global, words: &[String]) -> Result<Line, WordsError>
-    ensures { Tells (built_line (map string_bytes words.now)) result }
-{
-    only_built(line_by_words(alloc, words)?)
 }
 
 #[cfg(test)]

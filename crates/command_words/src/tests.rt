@@ -30,13 +30,12 @@ fn words_are_read_or_refused(rt: HostRuntime) -> Result<(), Fail> {
             "at {list:?}"
         );
     }
-    let refused: [&[&str]; 13] = [
+    let refused: [&[&str]; 12] = [
         &[],
         &["threev"],
         &["threev", "--mode", "run", "--mode", "sim"],
         &["threev", "--mode", "sim", "--workers", "2"],
         &["threev", "--mode", "soak", "--seed", "1"],
-        &["threev", "--mode", "run"],
         &["threev", "--mode", "upgrade", "--history"],
         &["threev", "--mode", "sim", "--"],
         &["threev", "--mode="],
@@ -93,7 +92,7 @@ fn every_line_has_its_words(rt: HostRuntime) -> Result<(), Fail> {
     ];
     for (list, line) in full {
         assert_eq!(rt;
-            line_by_words(alloc, &words(alloc, list)?),
+            read_words(alloc, &words(alloc, list)?),
             Ok(line),
             "at {list:?}"
         );
@@ -107,7 +106,7 @@ fn every_line_has_its_words(rt: HostRuntime) -> Result<(), Fail> {
     ];
     for list in refused {
         assert_eq!(rt;
-            line_by_words(alloc, &words(alloc, list)?),
+            read_words(alloc, &words(alloc, list)?),
             Err(WordsError::Refused),
             "at {list:?}"
         );

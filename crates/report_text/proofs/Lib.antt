@@ -2,5 +2,6 @@ pub mod Counts
 pub mod ItemLines
 pub mod Plain
 pub mod Serving
+pub mod SmallWorths
 pub mod TreeLines
 pub mod Whole

@@ -32,7 +32,7 @@ subs_texts rows ws (k ∷ ks) = ops_texts rows ws k.ops ++ subs_texts rows ws ks
 
 -- the line of a tree that is born, by the text of its values
 abbrev pub born_line : Tree → TreeKind → Option Version → List ℕ → List ℕ
-born_line tree Update (Some v) values = update_line tree.name v.0
+born_line tree Update (Some v) values = update_line tree.name v.0 tree.written
 born_line tree Read (Some v) values = read_line tree.name v.0 values
 born_line tree _ _ values = []
 

@@ -14,6 +14,7 @@ use Rattle.tx_trees.specs.declared.parts.SubOp.{SubOp}
 use Rattle.tx_trees.specs.declared.parts.Tree.{Tree}
 use Rattle.tx_trees.specs.declared.parts.TreeKind.{TreeKind}
 use Rattle.tx_trees.specs.declared.parts.TreeKind.TheVariants.{Update, Read}
+use Rattle.tx_trees.specs.declared.parts.Written.{Written}
 use Rattle.board_model.specs.Histories.{version_of}
 use Rattle.board_model.specs.Right.{shown}
 use Rattle.board_model.specs.Worth.{worth, is_written}
@@ -59,9 +60,14 @@ gets_of (k ∷ ks) = k.ops ++ gets_of ks
 abbrev pub version_text : List ℕ → List ℕ → ℕ → List ℕ
 version_text word name v = word ++ (name ++ (codes " version " ++ decimal v))
 
--- the line of an update tree of version v
-abbrev pub update_line : List ℕ → ℕ → List ℕ
-update_line name v = version_text (codes "tree ") name v ++ codes "\n"
+-- the mark of a tree that is undone
+abbrev pub undone_mark : Option Written → List ℕ
+undone_mark None = []
+undone_mark (Some w) = codes " undone"
+
+-- the line of an update tree of version v, which is marked where the tree is undone
+abbrev pub update_line : List ℕ → ℕ → Option Written → List ℕ
+update_line name v written = version_text (codes "tree ") name v ++ (undone_mark written ++ codes "\n")
 
 -- the line of a read tree of version v with the text of its values
 abbrev pub read_line : List ℕ → ℕ → List ℕ → List ℕ
@@ -73,7 +79,7 @@ gets_text s h v ks = values_text s.items (shown s h v (gets_of ks))
 
 -- the line of an update or read tree that is born; no other tree has one
 abbrev pub tree_line : ScriptData → List Entry → Tree → TreeKind → Option Version → List ℕ
-tree_line s h tree Update (Some v) = update_line tree.name v.0
+tree_line s h tree Update (Some v) = update_line tree.name v.0 tree.written
 tree_line s h tree Read (Some v) = read_line tree.name v.0 (gets_text s h v.0 tree.subs)
 tree_line s h tree _ _ = []
 

@@ -1,10 +1,9 @@
 // The line that says what a script has.
-ghost use Rattle.std.specs.Prelude.{◌≡◌, ◌++◌, ◌<◌, ◌^◌, IfOk, OnOk, length};
-ghost use Rattle.std.specs.Str.{IsAscii};
+ghost use Rattle.std.specs.Prelude.{◌≡◌, ◌<◌, ◌^◌, IfOk};
 ghost use Rattle.tx_trees.specs.Adding.{all_subs};
-ghost use Rattle.report_text.specs.Lines.{check_line_of, count_text};
+ghost use Rattle.report_text.specs.Lines.{check_line_of};
 
-use crate::parts::push_number;
+use crate::parts::push_count;
 use crate::run_report::advances;
 use std::alloc::Global;
 use tv_base::{NoMemory, Text};
@@ -26,17 +25,8 @@ pub fn check_line(alloc: Global, script: &Script) -> Result<Text, NoMemory>
     Ok(text)
 }
 
-// A word and a number.
-fn push_count(text: &mut Text, word: &[u8], count: u64) -> Result<(), NoMemory>
-    requires { IsAscii word.now }
-    ensures { OnOk result (text.new ≡ text.old ++ count_text word.now count) }
-{
-    text.push_all(word)?;
-    push_number(text, count)
-}
-
 // How many subtransactions the trees have.
-fn count_subs(trees: &[Tree]) -> u64
+pub(crate) fn count_subs(trees: &[Tree]) -> u64
     requires { all_subs trees.now < 2 ^ 64 }
     ensures { result ≡ all_subs trees.now }
 {

@@ -7,12 +7,16 @@ mod parts;
 mod reads;
 mod run;
 mod run_report;
+mod run_summary;
 mod served;
 mod trees;
 mod values;
 
 pub use check_text::check_line;
+pub use parts::{push_amount, push_count, push_number};
 pub use run_report::report;
+pub use run_summary::summary;
+pub use values::push_value;
 
 #[cfg(test)]
 mod tests;

@@ -262,6 +262,22 @@ fn reads_show_the_worth_at_their_version(rt: HostRuntime) -> Result<(), Fail> {
 }
 
 #[test]
+fn a_run_is_summed_up(rt: HostRuntime) -> Result<(), Fail> {
+    let alloc = rt.alloc();
+    let mut script = reading(alloc)?;
+    let history = all_read(alloc)?;
+    let before = summary(alloc, &script, &history, 7)?;
+    let want = b"soak seed 7 trees 5 updates 1 reads 4 subs 9 advances 0\ntotal sum 10 top -3\n";
+    assert_eq!(rt; before.bytes(), want.as_slice());
+    script.add_advance()?;
+    let after = summary(alloc, &script, &history, 18446744073709551615)?;
+    let want = b"soak seed 18446744073709551615 trees 5 updates 1 reads 4 subs 9 advances 1\n\
+        total sum 15 top 8\n";
+    assert_eq!(rt; after.bytes(), want.as_slice());
+    Ok(())
+}
+
+#[test]
 fn values_are_shown(rt: HostRuntime) -> Result<(), Fail> {
     let alloc = rt.alloc();
     let five = shown(alloc, &Value::Sum(SumValue(5)))?;

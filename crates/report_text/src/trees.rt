@@ -3,12 +3,12 @@ ghost use Rattle.std.specs.Prelude.{◌≡◌, ◌++◌, ◌+◌, OnOk, codes, l
 ghost use Rattle.std.specs.Str.{IsAscii};
 ghost use Rattle.report_text.specs.Lines.{born_line, trees_lines};
 ghost use Rattle.tx_trees.specs.AsciiNames.{AreAsciiTrees};
-ghost use Rattle.report_text.specs.Report.{node_line, nodes_text, read_line, update_line};
+ghost use Rattle.report_text.specs.Report.{node_line, nodes_text, read_line, undone_mark, update_line};
 
 use crate::parts::{push_number, push_version};
 use board_model::Standing;
 use tv_base::{Name, NoMemory, Text, Version};
-use tx_trees::{Tree, TreeKind};
+use tx_trees::{Tree, TreeKind, Written};
 
 // The lines of the trees, which have these standings; the values of read trees come by tree number.
 pub(crate) fn push_trees(
@@ -39,19 +39,30 @@ fn push_tree(
     ensures { OnOk result (text.new ≡ text.old ++ born_line tree.now tree.now.kind born values.now) }
 {
     match (tree.kind, born) {
-        (TreeKind::Update, Some(version)) => push_update(text, &tree.name, version),
+        (TreeKind::Update, Some(version)) => push_update(text, tree, version),
         (TreeKind::Read, Some(version)) => push_read(text, &tree.name, version, values),
         _ => Ok(()),
     }
 }
 
 // The line of an update tree of this version.
-fn push_update(text: &mut Text, name: &Name, version: Version) -> Result<(), NoMemory>
-    requires { IsAscii name.now }
-    ensures { OnOk result (text.new ≡ text.old ++ update_line name.now version.0) }
+fn push_update(text: &mut Text, tree: &Tree, version: Version) -> Result<(), NoMemory>
+    requires { IsAscii tree.now.name }
+    ensures { OnOk result (text.new ≡ text.old ++ update_line tree.now.name version.0 tree.now.written) }
 {
-    push_version(text, b"tree ", name, version)?;
+    push_version(text, b"tree ", &tree.name, version)?;
+    push_mark(text, &tree.written)?;
     text.push_all(b"\n")
+}
+
+// The mark of a tree that is undone.
+fn push_mark(text: &mut Text, written: &Option<Written>) -> Result<(), NoMemory>
+    ensures { OnOk result (text.new ≡ text.old ++ undone_mark written.now) }
+{
+    match written {
+        Some(_) => text.push_all(b" undone"),
+        None => Ok(()),
+    }
 }
 
 // The line of a read tree of this version, with the text of its values.

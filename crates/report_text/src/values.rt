@@ -17,8 +17,8 @@ pub(crate) fn push_balance(text: &mut Text, version: Version, value: &Value) -> 
     push_value(text, value)
 }
 
-// A number in decimal, or a bag's numbers between braces.
-pub(crate) fn push_value(text: &mut Text, value: &Value) -> Result<(), NoMemory>
+/// A number in decimal, or a bag's numbers between braces.
+pub fn push_value(text: &mut Text, value: &Value) -> Result<(), NoMemory>
     ensures { OnOk result (text.new ≡ text.old ++ value_text value.now) }
 {
     match value {

@@ -1,8 +1,8 @@
 -- What a call on a script made, where it took the record.
 use Rattle.std.proofs.Common.{◌≡◌, ◌++◌, ◌∷◌, [], ℕ, Bool, true, false, List, Option, Some, None, Result, Ok, Err, refl, arith}
-use Rattle.std.specs.Prelude.{if◌then◌else◌}
+use Rattle.std.specs.Prelude.{if◌then◌else◌, nat_le, not}
 use Rattle.tv_base.specs.declared.numbers.NodeNo.{NodeNo}
-use Rattle.tx_trees.specs.Adding.{adds_advance, adds_item, adds_op, adds_op_at, adds_pick, adds_settle, adds_sub, adds_tree, place_of, with_item, with_op, with_row, with_sub, with_tree}
+use Rattle.tx_trees.specs.Adding.{adds_advance, adds_fail, are_crowded, is_heavy, judged, last_may_fail, last_subs, with_failed, adds_item, adds_op, adds_op_at, adds_pick, adds_settle, adds_sub, adds_tree, place_of, with_item, with_op, with_row, with_sub, with_tree}
 use Rattle.tx_trees.specs.Ranges.{is_in_range}
 use Rattle.tx_trees.specs.ScriptData.{ScriptData}
 use Rattle.tx_trees.specs.declared.parts.Deed.{Deed}
@@ -10,6 +10,7 @@ use Rattle.tx_trees.specs.declared.parts.ItemRow.{ItemRow}
 use Rattle.tx_trees.specs.declared.parts.ScriptRow.TheVariants as rows
 use Rattle.tx_trees.specs.declared.parts.TreeKind.{TreeKind}
 use Rattle.tx_trees.specs.declared.why.Why.{Why}
+use Rattle.tx_trees.specs.declared.why.Why.TheVariants as why
 
 -- an item that was taken stands last
 pub item_is : (s t : ScriptData) (r : ItemRow) → adds_item s r ≡ Ok t → with_item s r ≡ t
@@ -26,6 +27,28 @@ sub_is s t parent node is = grind arith
 -- an operation that was taken stands last in the last subtransaction
 pub op_at_is : (s t : ScriptData) (k : ℕ) (deed : Deed) → adds_op_at s (Some k) deed ≡ Ok t → with_op s k deed ≡ t
 op_at_is s t k deed is = grind arith
+
+-- what met no condition
+first_passes : {A : Type 0} (b : Bool) (w : Why) (cs : List (Bool × Why)) (new t : A) → judged ((b, w) ∷ cs) new ≡ Ok t → judged cs new ≡ Ok t
+first_passes true w cs new t is = absurd (cc is)
+first_passes false w cs new t is = is
+
+ok_same : (a b : ScriptData) → (let r : Result ScriptData Why = Ok a in r ≡ Ok b) → a ≡ b
+ok_same a b e = cc e
+
+-- a tree that was taken as failing is undone
+pub fail_is : (s t : ScriptData) (k : ℕ) → adds_fail s k ≡ Ok t → with_failed s k ≡ t
+fail_is s t k is =
+    let last : List (Bool × Why) = (is_heavy (with_failed s k), why.TooMuch) ∷ [] in
+    let fourth : List (Bool × Why) = (are_crowded (with_failed s k).trees, why.TooMany) ∷ last in
+    let third : List (Bool × Why) = (not (last_may_fail s.trees), why.WrongKind) ∷ fourth in
+    let second : List (Bool × Why) = (nat_le (last_subs s.trees) k, why.BadParent) ∷ third in
+    let a = first_passes (not s.begun) why.NoTree second (with_failed s k) t is in
+    let b = first_passes (nat_le (last_subs s.trees) k) why.BadParent third (with_failed s k) t a in
+    let c = first_passes (not (last_may_fail s.trees)) why.WrongKind fourth (with_failed s k) t b in
+    let d = first_passes (are_crowded (with_failed s k).trees) why.TooMany last (with_failed s k) t c in
+    let e = first_passes (is_heavy (with_failed s k)) why.TooMuch [] (with_failed s k) t d in
+    ok_same (with_failed s k) t e
 
 -- a row that waits stands last
 pub advance_is : (s t : ScriptData) → adds_advance s ≡ Ok t → with_row s rows.Advance ≡ t

@@ -4,7 +4,7 @@ use Rattle.std.specs.Prelude.{ℤ, if◌then◌else◌, not, ◌&&◌, ◌==◌,
 use Rattle.commute_ops.specs.declared.kinds.Kind.{Kind}
 use Rattle.tv_base.specs.declared.numbers.NodeNo.{NodeNo}
 use Rattle.tx_trees.proofs.Lists.{all-on_last, all-push}
-use Rattle.tx_trees.specs.Adding.{adds_advance, adds_lose, adds_op, adds_pick, adds_sub, adds_tree, fresh, on_last_sub, push_op, push_sub, rooted, with_op, with_row, with_sub, with_tree}
+use Rattle.tx_trees.specs.Adding.{adds_advance, adds_fail, failed_tree, with_failed, adds_lose, adds_op, adds_pick, adds_sub, adds_tree, fresh, on_last_sub, push_op, push_sub, rooted, with_op, with_row, with_sub, with_tree}
 use Rattle.tx_trees.specs.ScriptData.{ScriptData}
 use Rattle.tx_trees.specs.declared.parts.Deed.{Deed}
 use Rattle.tx_trees.specs.declared.parts.Deed.TheVariants as deeds
@@ -25,7 +25,7 @@ use Rattle.script_reader.specs.declared.reading.ScriptFault.{ScriptFault}
 use Rattle.script_reader.specs.declared.words.OpWord.{OpWord}
 use Rattle.script_reader.specs.declared.words.RowWord.{RowWord}
 use Rattle.script_reader.specs.declared.words.RowWord.TheVariants as words
-use Rattle.script_reader.proofs.Added.{advance_is, item_is, op_taken, pick_is, settle_is, sub_is, tree_is}
+use Rattle.script_reader.proofs.Added.{advance_is, fail_is, item_is, op_taken, pick_is, settle_is, sub_is, tree_is}
 use Rattle.tx_trees.specs.Built.{is_built, IsBuiltRow}
 
 -- a tree of a built kind
@@ -54,6 +54,10 @@ op_builds s k deed b = record {
   trees = all-on_last IsBuiltTree (on_last_sub (push_op (record { item = record { 0 = k }; deed = deed }))) s.trees b.trees (λ t last h. h);
   rows = b.rows;
 }
+
+-- a tree that fails keeps it
+fail_builds : (s : ScriptData) (k : ℕ) → Builds s → Builds (with_failed s k)
+fail_builds s k b = record { trees = all-on_last IsBuiltTree (failed_tree k) s.trees b.trees (λ t last h. h); rows = b.rows }
 
 -- a row that asks for an advancement keeps it, and so does one that waits
 advance_builds : (s : ScriptData) → Builds s → Builds (with_row s rows.Advance)
@@ -146,6 +150,9 @@ form_builds s t fields words.Advance b is = subst Builds (advance_is s t is) (ad
 form_builds s t fields words.Settle b is = subst Builds (settle_is s t is) (settle_builds s b)
 form_builds s t fields words.Pick b is = pick_builds s t (decimal_value (field fields 1)) b (pick_some s t (field fields 1) is)
 form_builds s t fields words.Lose b is = absurd (never (adds_lose s) t is)
+form_builds s t fields words.Fail b is =
+    let k = decimal_value (field fields 1) in
+    subst Builds (fail_is s t k (unless_one (not (is_number (field fields 1))) why.BadNumber (adds_fail s k) t is)) (fail_builds s k b)
 
 -- the `nodes` row makes an empty script
 nodes_is : (f : Form) (t : ScriptData) (nodes : List ℕ) → nodes_row f nodes ≡ Ok t → fresh f (decimal_value nodes) ≡ t

@@ -10,7 +10,7 @@ use Rattle.commute_ops.specs.declared.kinds.Kind.{Kind}
 use Rattle.tv_base.specs.declared.numbers.NodeNo.{NodeNo}
 use Rattle.tx_trees.specs.ScriptData.{ScriptData}
 use Rattle.tx_trees.specs.Valid.{IsTree, IsValid}
-use Rattle.tx_trees.specs.Adding.{Steps, adds_item, adds_op, adds_sub, adds_tree, last_subs, place_of}
+use Rattle.tx_trees.specs.Adding.{last_may_fail, puts_undone, Steps, adds_item, adds_op, adds_sub, adds_tree, last_subs, place_of}
 use Rattle.tx_trees.specs.Names.{has_name_len, is_name}
 use Rattle.tx_trees.specs.Ranges.{is_in_range}
 use Rattle.tx_trees.specs.declared.parts.Deed.{Deed}
@@ -25,7 +25,7 @@ use Rattle.tx_trees.specs.declared.why.Why.TheVariants as why
 use Rattle.tx_trees.specs.declared.why.Refusal.{Refusal}
 use Rattle.tx_trees.specs.declared.why.Refusal.TheVariants as refusals
 use Rattle.script_reader.specs.Numbers.{amount_of, amount_value, decimal_value, is_amount, is_number, number_of}
-use Rattle.script_reader.specs.Rows.{Leaves, adds_item_of, amount_row, by_word, deed_of, field, if_built, item_of, item_row, later_form, later_row, node_no, op_row, starts, sub_row, tree_row}
+use Rattle.script_reader.specs.Rows.{Leaves, adds_item_of, amount_row, by_word, deed_of, fail_row, field, if_built, item_of, item_row, later_form, later_row, node_no, op_row, starts, sub_row, tree_row}
 use Rattle.script_reader.specs.Words.{if_word, kind_of, later_word, len_fits, may_follow, word_of}
 use Rattle.script_reader.specs.declared.words.OpWord.{OpWord}
 use Rattle.script_reader.specs.declared.words.RowWord.{RowWord}
@@ -178,9 +178,61 @@ no_lose forms.One (Some words.Get) e = absurd (cc e)
 no_lose forms.One (Some words.Advance) e = absurd (cc e)
 no_lose forms.One (Some words.Settle) e = absurd (cc e)
 no_lose forms.One (Some words.Pick) e = absurd (cc e)
+no_lose forms.One (Some words.Fail) e = absurd (cc e)
 
 pub second_loses : (s : ScriptData) (fields : List (List ℕ)) (f : Form) (word : List ℕ) (w : RowWord) → f ≡ s.form → word ≡ field fields 0 → Some w ≡ later_word f word → w ≡ words.Lose → s.form ≡ forms.Two
 second_loses s fields f word w same is hw lose = sym same ∙ no_lose f (word_of word) (sym hw ∙ ap (λ (v : RowWord). Some v) lose)
+
+-- nor is a `fail` row of one of the first
+no_fail : (f : Form) (o : Option RowWord) → if_word (may_follow f) o ≡ Some words.Fail → f ≡ forms.Two
+no_fail forms.Two o e = refl
+no_fail forms.One None e = absurd (cc e)
+no_fail forms.One (Some words.Lose) e = absurd (cc e)
+no_fail forms.One (Some words.Form) e = absurd (cc e)
+no_fail forms.One (Some words.Nodes) e = absurd (cc e)
+no_fail forms.One (Some words.Item) e = absurd (cc e)
+no_fail forms.One (Some (words.Tree k)) e = absurd (cc e)
+no_fail forms.One (Some words.Sub) e = absurd (cc e)
+no_fail forms.One (Some (words.Op o)) e = absurd (cc e)
+no_fail forms.One (Some words.Get) e = absurd (cc e)
+no_fail forms.One (Some words.Advance) e = absurd (cc e)
+no_fail forms.One (Some words.Settle) e = absurd (cc e)
+no_fail forms.One (Some words.Pick) e = absurd (cc e)
+no_fail forms.One (Some words.Fail) e = absurd (cc e)
+
+pub second_fails : (s : ScriptData) (fields : List (List ℕ)) (f : Form) (word : List ℕ) (w : RowWord) → f ≡ s.form → word ≡ field fields 0 → Some w ≡ later_word f word → w ≡ words.Fail → s.form ≡ forms.Two
+second_fails s fields f word w same is hw fails = sym same ∙ no_fail f (word_of word) (sym hw ∙ ap (λ (v : RowWord). Some v) fails)
+
+-- a `fail` row, by its field
+pub fail_form_is : (s : ScriptData) (fields : List (List ℕ)) (w : RowWord) (a : List ℕ) → w ≡ words.Fail → a ≡ field fields 1 → later_form s fields w ≡ fail_row s a
+fail_form_is s fields w a is ha = rw (is, ha) refl
+
+-- a `fail` row that meets no condition but a limit undoes the tree
+pub fail_row_is : (s : ScriptData) (sub : List ℕ) (k : ℕ) → Some k ≡ number_of sub → s.begun ≡ true → k < last_subs s.trees → last_may_fail s.trees ≡ true → fail_row s sub ≡ puts_undone s k
+fail_row_is s sub k hk begun earlier adds =
+    let a = number_is sub k (sym hk) in
+    let low : nat_le (last_subs s.trees) k ≡ false = lt-leb (last_subs s.trees) k earlier in
+    rw (a.0, a.1, begun, low, adds) refl
+
+-- it has a number, and no tree is begun
+pub fail_no_tree : (s : ScriptData) (sub : List ℕ) (k : ℕ) → Some k ≡ number_of sub → s.begun ≡ false → fail_row s sub ≡ Err why.NoTree
+fail_no_tree s sub k hk begun =
+    let a = number_is sub k (sym hk) in
+    rw (a.0, begun) refl
+
+-- the tree has no such subtransaction
+pub fail_bad_parent : (s : ScriptData) (sub : List ℕ) (k : ℕ) → Some k ≡ number_of sub → s.begun ≡ true → last_subs s.trees ≤ k → fail_row s sub ≡ Err why.BadParent
+fail_bad_parent s sub k hk begun over =
+    let a = number_is sub k (sym hk) in
+    let high : nat_le (last_subs s.trees) k ≡ true = le-leb (last_subs s.trees) k over in
+    rw (a.0, a.1, begun, high) refl
+
+-- the tree may not fail
+pub fail_wrong_kind : (s : ScriptData) (sub : List ℕ) (k : ℕ) → Some k ≡ number_of sub → s.begun ≡ true → k < last_subs s.trees → last_may_fail s.trees ≡ false → fail_row s sub ≡ Err why.WrongKind
+fail_wrong_kind s sub k hk begun earlier adds =
+    let a = number_is sub k (sym hk) in
+    let low : nat_le (last_subs s.trees) k ≡ false = lt-leb (last_subs s.trees) k earlier in
+    rw (a.0, a.1, begun, low, adds) refl
 
 -- a row that hasn't its number of fields
 pub later_wrong : (s : ScriptData) (fields : List (List ℕ)) (f : Form) (word : List ℕ) (w : RowWord) (n : ℕ) (fits : Bool) → f ≡ s.form → word ≡ field fields 0 → Some w ≡ later_word f word → fits ≡ len_fits w n → n ≡ length fields → fits ≡ false

@@ -1,6 +1,6 @@
 -- Every field that is written of a valid script is plain.
 use Rattle.std.proofs.Common.{◌≡◌, ◌+◌, ◌<◌, ◌≤◌, ◌^◌, ◌&&◌, ◌∷◌, ◌++◌, [], List, Bool, true, false, ℕ, suc, zero, length, map, refl, arith}
-use Rattle.std.specs.Prelude.{not, ℤ, pos, negsuc, IsTrue, decimal, nat_le, slice_get, unsigned_abs}
+use Rattle.std.specs.Prelude.{Option, Some, None, not, ℤ, pos, negsuc, IsTrue, decimal, nat_le, slice_get, unsigned_abs}
 use Rattle.std.specs.Fmt.{signed_decimal}
 use Rattle.std.specs.List.{list_all, AllByRecursion}
 use Rattle.std.proofs.lemmas.Bool.Decides.{nat_tests}
@@ -14,7 +14,7 @@ use Rattle.tx_trees.proofs.SubsOf.{few_nodes}
 use Rattle.tx_trees.specs.Amounts.{magnitude}
 use Rattle.tx_trees.specs.Names.{has_name_len, is_name, is_name_byte}
 use Rattle.tx_trees.specs.Ranges.{draws_negative, is_in_range}
-use Rattle.tx_trees.specs.Rebuilt.{name_at}
+use Rattle.tx_trees.specs.Rebuilt.{name_at, written_subs}
 use Rattle.tx_trees.specs.ScriptData.{ScriptData}
 use Rattle.tx_trees.specs.Valid.{AreSubs, IsItem, IsOp, IsTree, IsValid, OpAt}
 use Rattle.tx_trees.specs.declared.parts.Deed.{Deed}
@@ -28,10 +28,12 @@ use Rattle.tx_trees.specs.declared.parts.Sub.{Sub}
 use Rattle.tx_trees.specs.declared.parts.SubOp.{SubOp}
 use Rattle.tx_trees.specs.declared.parts.Tree.{Tree}
 use Rattle.tx_trees.specs.declared.parts.TreeKind.{TreeKind}
+use Rattle.tx_trees.specs.declared.parts.Written.{Written}
+use Rattle.tx_trees.proofs.Undoing.{WrittenTree, written_trees}
 use Rattle.tx_trees.specs.declared.parts.TreeKind.TheVariants as trees
 use Rattle.script_reader.specs.Numbers.{AreSmall, is_digit}
 use Rattle.script_reader.specs.Words.{kind_word}
-use Rattle.script_reader.specs.Written.{deed_fields, form_rows, pick_fields, rows_behind, rows_of, item_fields, nodes_fields, ops_rows, rows_of_rows, rows_of_tree, sub_fields, subs_rows, tree_fields, tree_rows}
+use Rattle.script_reader.specs.Written.{deed_fields, fail_rows, form_rows, pick_fields, rows_behind, rows_of, item_fields, nodes_fields, ops_rows, rows_of_rows, rows_of_tree, sub_fields, subs_rows, tree_fields, tree_rows}
 use Rattle.script_reader.proofs.Decimals.{digits_read}
 use Rattle.script_reader.proofs.Lines.{IsPlain, IsPlainRow}
 
@@ -172,19 +174,26 @@ rooted_plain n items kind name (x ∷ xs) few room named all h = (
   plain-append (ops_rows items x.ops) (subs_rows items xs) (ops_plain n items kind x.node.0 x.ops all h.0.ops h.0.amounts) (subs_plain n items kind 1 xs few (omega arith) (omega (arith, room)) all h.1),
 )
 
+-- the row of a subtransaction that fails
+fail_plain : (f : Form) (w : Option Written) → ((v : Written) → w ≡ Some v → (f ≡ forms.Two) × (v.failed.0 < 64)) → ArePlain (fail_rows w)
+fail_plain f None h = tt
+fail_plain f (Some w) h =
+    (record { head = _; tail = _; is = refl; some = omega arith; first = refl; rest = (number_plain w.failed.0 (omega (arith, (h w refl).1)), tt) }, tt)
+
 -- a tree by its number
-tree_at_plain : (n : ℕ) (items : List ItemRow) (ts : List Tree) (i : ℕ) → n ≤ 64 → AllByRecursion (IsItem n) items → AllByRecursion (IsTree n items) ts → ArePlain (rows_of_tree items (slice_get ts i))
-tree_at_plain n items [] i few all h = tt
-tree_at_plain n items (t ∷ ts) zero few all h = rooted_plain n items t.kind t.name t.subs few h.0.few h.0.name all h.0.subs
-tree_at_plain n items (t ∷ ts) (suc i) few all h = tree_at_plain n items ts i few all h.1
+tree_at_plain : (f : Form) (n : ℕ) (items : List ItemRow) (ts : List Tree) (i : ℕ) → n ≤ 64 → AllByRecursion (IsItem n) items → AllByRecursion (WrittenTree f n items) ts → ArePlain (rows_of_tree items (slice_get ts i))
+tree_at_plain f n items [] i few all h = tt
+tree_at_plain f n items (t ∷ ts) zero few all h =
+    plain-append (tree_rows items t.kind t.name (written_subs t)) (fail_rows t.written) (rooted_plain n items t.kind t.name (written_subs t) few h.0.few h.0.name all h.0.subs) (fail_plain f t.written h.0.fails)
+tree_at_plain f n items (t ∷ ts) (suc i) few all h = tree_at_plain f n items ts i few all h.1
 
 -- all rows with their trees
-rows_plain : (n : ℕ) (items : List ItemRow) (ts : List Tree) (rs : List ScriptRow) → n ≤ 64 → AllByRecursion (IsItem n) items → AllByRecursion (IsTree n items) ts → ArePlain (rows_of_rows items ts rs)
-rows_plain n items ts [] few all h = tt
-rows_plain n items ts (rows.Tree t ∷ rs) few all h = plain-append (rows_of_tree items (slice_get ts t.0)) (rows_of_rows items ts rs) (tree_at_plain n items ts t.0 few all h) (rows_plain n items ts rs few all h)
-rows_plain n items ts (rows.Advance ∷ rs) few all h = (record { head = _; tail = _; is = refl; some = omega arith; first = refl; rest = tt }, rows_plain n items ts rs few all h)
-rows_plain n items ts (rows.Settle ∷ rs) few all h = (record { head = _; tail = _; is = refl; some = omega arith; first = refl; rest = tt }, rows_plain n items ts rs few all h)
-rows_plain n items ts (rows.Lose ∷ rs) few all h = (record { head = _; tail = _; is = refl; some = omega arith; first = refl; rest = tt }, rows_plain n items ts rs few all h)
+rows_plain : (f : Form) (n : ℕ) (items : List ItemRow) (ts : List Tree) (rs : List ScriptRow) → n ≤ 64 → AllByRecursion (IsItem n) items → AllByRecursion (WrittenTree f n items) ts → ArePlain (rows_of_rows items ts rs)
+rows_plain f n items ts [] few all h = tt
+rows_plain f n items ts (rows.Tree t ∷ rs) few all h = plain-append (rows_of_tree items (slice_get ts t.0)) (rows_of_rows items ts rs) (tree_at_plain f n items ts t.0 few all h) (rows_plain f n items ts rs few all h)
+rows_plain f n items ts (rows.Advance ∷ rs) few all h = (record { head = _; tail = _; is = refl; some = omega arith; first = refl; rest = tt }, rows_plain f n items ts rs few all h)
+rows_plain f n items ts (rows.Settle ∷ rs) few all h = (record { head = _; tail = _; is = refl; some = omega arith; first = refl; rest = tt }, rows_plain f n items ts rs few all h)
+rows_plain f n items ts (rows.Lose ∷ rs) few all h = (record { head = _; tail = _; is = refl; some = omega arith; first = refl; rest = tt }, rows_plain f n items ts rs few all h)
 
 -- the row of the second form
 form_plain : (f : Form) → ArePlain (form_rows f)
@@ -203,6 +212,6 @@ all_plain s h small =
     let behind : ArePlain (rows_behind s) = (
       nodes_plain s.nodes few,
       plain-append (map item_fields s.items) (rows_of_rows s.items s.trees s.rows ++ map pick_fields s.picks) (items_plain s.nodes s.items few h.items)
-          (plain-append (rows_of_rows s.items s.trees s.rows) (map pick_fields s.picks) (rows_plain s.nodes s.items s.trees s.rows few h.items h.trees) (picks_plain s.picks small)),
+          (plain-append (rows_of_rows s.items s.trees s.rows) (map pick_fields s.picks) (rows_plain s.form s.nodes s.items s.trees s.rows few h.items (written_trees s.form s.nodes s.items [] s.trees h.trees h.failed)) (picks_plain s.picks small)),
     ) in
     plain-append (form_rows s.form) (rows_behind s) (form_plain s.form) behind

@@ -8,7 +8,11 @@ use Rattle.tx_trees.specs.declared.parts.Sub.{Sub}
 use Rattle.tx_trees.specs.declared.parts.SubOp.{SubOp}
 use Rattle.tx_trees.specs.declared.parts.Tree.{Tree}
 use Rattle.tx_trees.specs.declared.parts.TreeKind.{TreeKind}
-use Rattle.script_reader.specs.Written.{form_rows, item_fields, line, lines, nodes_fields, ops_rows, pick_fields, rows_behind, rows_of_row, rows_of_rows, sub_fields, subs_rows, tree_fields, tree_rows, written}
+use Rattle.tx_trees.specs.declared.parts.Written.{Written}
+use Rattle.tx_trees.specs.Rebuilt.{written_subs}
+use Rattle.std.specs.Prelude.{Some}
+use Rattle.std.proofs.lemmas.List.{append-nil}
+use Rattle.script_reader.specs.Written.{fail_fields, fail_rows, rows_of_tree, form_rows, item_fields, line, lines, nodes_fields, ops_rows, pick_fields, rows_behind, rows_of_row, rows_of_rows, sub_fields, subs_rows, tree_fields, tree_rows, written}
 
 -- the lines of rows behind rows
 pub lines-append : (a b : List (List (List ℕ))) → lines (a ++ b) ≡ lines a ++ lines b
@@ -56,6 +60,18 @@ tree_pushed items kind name (y ∷ ys) ss x ops t a b u r some same here sops ha
     ap (λ (zs : List Sub). lines (tree_rows items kind name zs)) (sym same) ∙ ap (λ (z : List ℕ). line (tree_fields kind name y.node.0) ++ z) (lines-append (ops_rows items y.ops) (subs_rows items ys)) in
     let regroup : b ++ rest ≡ t ++ lines (tree_rows items kind name ss) = rw (first, whole) (simp append_assoc) in
     on_ok r _ _ (λ e. e ∙ ap (λ (zs : List Sub). b ++ lines (subs_rows items zs)) (behind_first y ys) ∙ regroup) h
+
+-- a tree with the row of the subtransaction that fails
+pub fail_pushed : {T E : Type 0} (items : List ItemRow) (t : Tree) (w : Written) (subs : List Sub) (a b c : List ℕ) (r : Result T E) → Some w ≡ t.written → subs ≡ w.subs → b ≡ a ++ lines (tree_rows items t.kind t.name subs)
+    → OnOk r (c ≡ b ++ line (fail_fields w.failed.0)) → OnOk r (c ≡ a ++ lines (rows_of_tree items (Some t)))
+fail_pushed items t w subs a b c r is same hb h =
+    let rows = tree_rows items t.kind t.name w.subs in
+    let last = fail_fields w.failed.0 ∷ [] in
+    let whole : rows_of_tree items (Some t) ≡ rows ++ last = rw (sym is, written_subs, fail_rows) refl in
+    let text : lines (rows_of_tree items (Some t)) ≡ lines rows ++ (line (fail_fields w.failed.0) ++ []) = ap lines whole ∙ lines-append rows last in
+    let before : b ≡ a ++ lines rows = hb ∙ ap (λ (x : List Sub). a ++ lines (tree_rows items t.kind t.name x)) same in
+    on_ok r _ _ (λ e. e ∙ ap (λ (x : List ℕ). x ++ line (fail_fields w.failed.0)) before ∙ append_assoc a (lines rows) (line (fail_fields w.failed.0))
+    ∙ ap (λ (x : List ℕ). a ++ (lines rows ++ x)) (sym (append-nil (line (fail_fields w.failed.0)))) ∙ ap (λ (x : List ℕ). a ++ x) (sym text)) h
 
 -- all parts, one behind the other
 pub all_pushed : (s : ScriptData) (t f a b c d : List ℕ) → t ≡ [] → f ≡ t ++ lines (form_rows s.form) → a ≡ f ++ line (nodes_fields s.nodes) → b ≡ a ++ lines (map item_fields s.items) → c ≡ b ++ lines (rows_of_rows s.items s.trees s.rows)

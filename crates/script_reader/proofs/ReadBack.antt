@@ -1,6 +1,6 @@
 -- What is written of a script is read as the same script.
 use Rattle.std.proofs.Common.{◌≡◌, ◌+◌, ◌<◌, ◌≤◌, ◌∙◌, ◌++◌, ℕ, zero, suc, false, List, [], ◌∷◌, length, map, Result, Ok, Err, refl, sym, ap, subst, arith, append_assoc}
-use Rattle.std.specs.Prelude.{IsTrue, nat_lt, Option, slice_get}
+use Rattle.std.specs.Prelude.{IsTrue, nat_lt, Option, Some, None, slice_get}
 use Rattle.std.specs.List.{AllByRecursion}
 use Rattle.std.proofs.lemmas.Bool.{lt-leb}
 use Rattle.std.proofs.lemmas.List.{append-nil}
@@ -11,7 +11,7 @@ use Rattle.tx_trees.proofs.SubsOf.{few_nodes}
 use Rattle.tx_trees.specs.Adding.{adds_advance, adds_item, adds_op, adds_pick, adds_settle, adds_sub, adds_tree, fresh}
 use Rattle.tx_trees.specs.Forms.{most_nodes}
 use Rattle.tx_trees.specs.Ranges.{is_in_range}
-use Rattle.tx_trees.specs.Rebuilt.{items_added, name_at, ops_added, picks_added, rebuilt, rooted_added, rows_added, subs_added, then_more, tree_added}
+use Rattle.tx_trees.specs.Rebuilt.{fail_added, written_subs, items_added, name_at, ops_added, picks_added, rebuilt, rooted_added, rows_added, subs_added, then_more, tree_added}
 use Rattle.tx_trees.specs.ScriptData.{ScriptData}
 use Rattle.tx_trees.specs.Valid.{AreSubs, IsItem, IsOp, IsTree, IsValid}
 use Rattle.tx_trees.specs.declared.parts.Form.{Form}
@@ -23,6 +23,8 @@ use Rattle.tx_trees.specs.declared.parts.Sub.{Sub}
 use Rattle.tx_trees.specs.declared.parts.SubOp.{SubOp}
 use Rattle.tx_trees.specs.declared.parts.Tree.{Tree}
 use Rattle.tx_trees.specs.declared.parts.TreeKind.{TreeKind}
+use Rattle.tx_trees.specs.declared.parts.Written.{Written}
+use Rattle.tx_trees.proofs.Undoing.{WrittenTree, written_trees}
 use Rattle.tx_trees.specs.declared.why.Why.{Why}
 use Rattle.script_reader.specs.Builds.{Builds}
 use Rattle.script_reader.specs.Numbers.{AreSmall}
@@ -30,11 +32,11 @@ use Rattle.script_reader.specs.ReadBack.{IsReadAs}
 use Rattle.script_reader.specs.Reading.{after_first, read_of, read_rows, rows_from, then_rows}
 use Rattle.script_reader.specs.Records.{records_in}
 use Rattle.script_reader.specs.Rows.{later_row}
-use Rattle.script_reader.specs.Written.{form_rows, lines, item_fields, nodes_fields, op_fields, ops_rows, pick_fields, rows_of, rows_of_rows, rows_of_tree, sub_fields, subs_rows, tree_fields, tree_rows, written}
-use Rattle.script_reader.proofs.Added.{advance_is, item_is, op_in_range, op_taken, settle_is, sub_is, tree_is}
+use Rattle.script_reader.specs.Written.{fail_fields, fail_rows, form_rows, lines, item_fields, nodes_fields, op_fields, ops_rows, pick_fields, rows_of, rows_of_rows, rows_of_tree, sub_fields, subs_rows, tree_fields, tree_rows, written}
+use Rattle.script_reader.proofs.Added.{advance_is, fail_is, item_is, op_in_range, op_taken, settle_is, sub_is, tree_is}
 use Rattle.script_reader.proofs.Lines.{few_lines, lines_read}
 use Rattle.script_reader.proofs.PlainRows.{all_plain, op_named, small_deed}
-use Rattle.script_reader.proofs.RowsBack.{deed_back, item_back, nodes_back, pick_back, second_nodes_back, sub_back, tree_back}
+use Rattle.script_reader.proofs.RowsBack.{deed_back, fail_back, item_back, nodes_back, pick_back, second_nodes_back, sub_back, tree_back}
 use Rattle.script_reader.proofs.Script.{ends, goes_on}
 use Rattle.tx_trees.specs.Built.{is_built, IsBuiltRow}
 
@@ -68,10 +70,11 @@ goes : (x : Result ScriptData Why) (more : ScriptData → Result ScriptData Why)
 goes (Ok s) more v h = record { first = s; is = refl; rest = h }
 goes (Err w) more v h = absurd (cc h)
 
--- these rows, read from u on, give v with the same items
+-- these rows, read from u on, give v with the same items and the same form
 record Gives (items : List ItemRow) (u : ScriptData) (rs : List (List (List ℕ))) (v : ScriptData) : Type 0 where
   reads : Reads u rs v
   items_stay : v.items ≡ items
+  form_stays : v.form ≡ u.form
 
 -- all items
 items_back : (n : ℕ) (items : List ItemRow) (u v : ScriptData) → n ≤ 64 → AllByRecursion (IsItem n) items → items_added u items ≡ Ok v → Reads u (map item_fields items) v
@@ -90,21 +93,25 @@ record AreOps (n : ℕ) (items : List ItemRow) (kind : TreeKind) (node : ℕ) (o
 op_items : (u v : ScriptData) (name : List ℕ) (o : SubOp) → adds_op u name o.deed ≡ Ok v → v.items ≡ u.items
 op_items u v name o h = let t = op_taken u v name o.deed h in sym (ap (λ (w : ScriptData). w.items) t.is)
 
+-- nor does it change the form
+op_form : (u v : ScriptData) (name : List ℕ) (o : SubOp) → adds_op u name o.deed ≡ Ok v → v.form ≡ u.form
+op_form u v name o h = let t = op_taken u v name o.deed h in sym (ap (λ (w : ScriptData). w.form) t.is)
+
 -- all operations of a subtransaction
 ops_back : (n : ℕ) (items : List ItemRow) (kind : TreeKind) (node : ℕ) (os : List SubOp) (u v : ScriptData) → AreOps n items kind node os → u.items ≡ items → ops_added u os ≡ Ok v → Gives items u (ops_rows items os) v
-ops_back n items kind node [] u v all same h = let e : u ≡ v = cc h in record { reads = reads_none u v e; items_stay = sym (ap (λ (w : ScriptData). w.items) e) ∙ same }
+ops_back n items kind node [] u v all same h = let e : u ≡ v = cc h in record { reads = reads_none u v e; items_stay = sym (ap (λ (w : ScriptData). w.items) e) ∙ same; form_stays = sym (ap (λ (w : ScriptData). w.form) e) }
 ops_back n items kind node (o ∷ os) u v a same h =
     let g = goes (adds_op u (name_at o.item.0 u.items) o.deed) (λ t. ops_added t os) v h in
     let name = name_at o.item.0 items in
     let added : adds_op u name o.deed ≡ Ok g.first = ap (λ (xs : List ItemRow). adds_op u (name_at o.item.0 xs) o.deed) (sym same) ∙ g.is in
     let row = deed_back u name o.deed (op_named n items o.item.0 kind node o a.all a.ops.0) (op_in_range u g.first name o.deed added) (small_deed o.deed a.amounts.0) in
     let rest = ops_back n items kind node os g.first v (record { all = a.all; ops = a.ops.1; amounts = a.amounts.1 }) (op_items u g.first name o added ∙ same) g.rest in
-    record { reads = reads_one u g.first v (op_fields items o) (ops_rows items os) (row ∙ added) rest.reads; items_stay = rest.items_stay }
+    record { reads = reads_one u g.first v (op_fields items o) (ops_rows items os) (row ∙ added) rest.reads; items_stay = rest.items_stay; form_stays = rest.form_stays ∙ op_form u g.first name o added }
 
 -- the subtransactions behind the root
 subs_back : (n : ℕ) (items : List ItemRow) (kind : TreeKind) (k : ℕ) (xs : List Sub) (u v : ScriptData) → n ≤ 64 → 0 < k → k + length xs ≤ 64 → AllByRecursion (IsItem n) items → AreSubs n items kind k xs → u.items ≡ items
     → subs_added u xs ≡ Ok v → Gives items u (subs_rows items xs) v
-subs_back n items kind k [] u v few some room all subs same h = let e : u ≡ v = cc h in record { reads = reads_none u v e; items_stay = sym (ap (λ (w : ScriptData). w.items) e) ∙ same }
+subs_back n items kind k [] u v few some room all subs same h = let e : u ≡ v = cc h in record { reads = reads_none u v e; items_stay = sym (ap (λ (w : ScriptData). w.items) e) ∙ same; form_stays = sym (ap (λ (w : ScriptData). w.form) e) }
 subs_back n items kind k (x ∷ xs) u v few some room all subs same h =
     let g = goes (adds_sub u x.parent.0 x.node) (λ t. then_more (ops_added t x.ops) (λ w. subs_added w xs)) v h in
     let f = goes (ops_added g.first x.ops) (λ w. subs_added w xs) v g.rest in
@@ -115,6 +122,7 @@ subs_back n items kind k (x ∷ xs) u v few some room all subs same h =
     record {
       reads = reads_one u g.first v (sub_fields x) (ops_rows items x.ops ++ subs_rows items xs) (row ∙ g.is) (reads_both g.first f.first v (ops_rows items x.ops) (subs_rows items xs) ops.reads rest.reads);
       items_stay = rest.items_stay;
+      form_stays = rest.form_stays ∙ ops.form_stays ∙ sym (ap (λ (w : ScriptData). w.form) (sub_is u g.first x.parent.0 x.node g.is));
     }
 
 -- a tree with its root and the others
@@ -131,32 +139,59 @@ rooted_back n items t (x ∷ xs) u v few room all subs built same h =
     record {
       reads = reads_one u g.first v (tree_fields t.kind t.name x.node.0) (ops_rows items x.ops ++ subs_rows items xs) (row ∙ g.is) (reads_both g.first f.first v (ops_rows items x.ops) (subs_rows items xs) ops.reads rest.reads);
       items_stay = rest.items_stay;
+      form_stays = rest.form_stays ∙ ops.form_stays ∙ sym (ap (λ (w : ScriptData). w.form) (tree_is u g.first t.name t.kind x.node g.is));
+    }
+
+-- the row of a subtransaction that fails
+fail_rows_back : (f : Form) (items : List ItemRow) (w : Option Written) (u v : ScriptData) → ((x : Written) → w ≡ Some x → (f ≡ forms.Two) × (x.failed.0 < 64)) → u.form ≡ f → u.items ≡ items
+    → fail_added u w ≡ Ok v → Gives items u (fail_rows w) v
+fail_rows_back f items None u v fails at same h =
+    let e : u ≡ v = cc h in
+    record { reads = reads_none u v e; items_stay = sym (ap (λ (w : ScriptData). w.items) e) ∙ same; form_stays = sym (ap (λ (w : ScriptData). w.form) e) }
+fail_rows_back f items (Some w) u v fails at same h =
+    let k = w.failed.0 in
+    let is = fail_is u v k h in
+    let found = fails w refl in
+    record {
+      reads = reads_one u v v (fail_fields k) [] (fail_back u k (at ∙ found.0) found.1 ∙ h) (reads_none v v refl);
+      items_stay = sym (ap (λ (x : ScriptData). x.items) is) ∙ same;
+      form_stays = sym (ap (λ (x : ScriptData). x.form) is);
     }
 
 -- a tree by its number
-tree_at_back : (n : ℕ) (items : List ItemRow) (ts : List Tree) (i : ℕ) (u v : ScriptData) → n ≤ 64 → AllByRecursion (IsItem n) items → AllByRecursion (IsTree n items) ts → AllByRecursion (λ (t : Tree). IsTrue (is_built t.kind)) ts → u.items ≡ items
-    → tree_added u (slice_get ts i) ≡ Ok v → Gives items u (rows_of_tree items (slice_get ts i)) v
-tree_at_back n items [] i u v few all trees built same h = absurd (cc h)
-tree_at_back n items (t ∷ ts) zero u v few all trees built same h = rooted_back n items t t.subs u v few trees.0.few all trees.0.subs built.0 same h
-tree_at_back n items (t ∷ ts) (suc i) u v few all trees built same h = tree_at_back n items ts i u v few all trees.1 built.1 same h
+tree_at_back : (f : Form) (n : ℕ) (items : List ItemRow) (ts : List Tree) (i : ℕ) (u v : ScriptData) → n ≤ 64 → AllByRecursion (IsItem n) items → AllByRecursion (WrittenTree f n items) ts → AllByRecursion (λ (t : Tree). IsTrue (is_built t.kind)) ts
+    → u.form ≡ f → u.items ≡ items → tree_added u (slice_get ts i) ≡ Ok v → Gives items u (rows_of_tree items (slice_get ts i)) v
+tree_at_back f n items [] i u v few all trees built at same h = absurd (cc h)
+tree_at_back f n items (t ∷ ts) zero u v few all trees built at same h =
+    let g = goes (rooted_added u t.name t.kind (written_subs t)) (λ w. fail_added w t.written) v h in
+    let tree = rooted_back n items t (written_subs t) u g.first few trees.0.few all trees.0.subs built.0 same g.is in
+    let row = fail_rows_back f items t.written g.first v trees.0.fails (tree.form_stays ∙ at) tree.items_stay g.rest in
+    record {
+      reads = reads_both u g.first v (tree_rows items t.kind t.name (written_subs t)) (fail_rows t.written) tree.reads row.reads;
+      items_stay = row.items_stay;
+      form_stays = row.form_stays ∙ tree.form_stays;
+    }
+tree_at_back f n items (t ∷ ts) (suc i) u v few all trees built at same h = tree_at_back f n items ts i u v few all trees.1 built.1 at same h
 
 -- all rows with their trees
-rows_back : (n : ℕ) (items : List ItemRow) (ts : List Tree) (rs : List ScriptRow) (u v : ScriptData) → n ≤ 64 → AllByRecursion (IsItem n) items → AllByRecursion (IsTree n items) ts → AllByRecursion (λ (t : Tree). IsTrue (is_built t.kind)) ts
-    → AllByRecursion IsBuiltRow rs → u.items ≡ items → rows_added ts u rs ≡ Ok v → Reads u (rows_of_rows items ts rs) v
-rows_back n items ts [] u v few all trees built rows same h = reads_none u v (cc h)
-rows_back n items ts (rows.Tree i ∷ rs) u v few all trees built row same h =
+rows_back : (f : Form) (n : ℕ) (items : List ItemRow) (ts : List Tree) (rs : List ScriptRow) (u v : ScriptData) → n ≤ 64 → AllByRecursion (IsItem n) items → AllByRecursion (WrittenTree f n items) ts
+    → AllByRecursion (λ (t : Tree). IsTrue (is_built t.kind)) ts → AllByRecursion IsBuiltRow rs → u.form ≡ f → u.items ≡ items → rows_added ts u rs ≡ Ok v → Reads u (rows_of_rows items ts rs) v
+rows_back f n items ts [] u v few all trees built rows at same h = reads_none u v (cc h)
+rows_back f n items ts (rows.Tree i ∷ rs) u v few all trees built row at same h =
     let g = goes (tree_added u (slice_get ts i.0)) (λ w. rows_added ts w rs) v h in
-    let tree = tree_at_back n items ts i.0 u g.first few all trees built same g.is in
-    reads_both u g.first v (rows_of_tree items (slice_get ts i.0)) (rows_of_rows items ts rs) tree.reads (rows_back n items ts rs g.first v few all trees built row.1 tree.items_stay g.rest)
-rows_back n items ts (rows.Advance ∷ rs) u v few all trees built row same h =
+    let tree = tree_at_back f n items ts i.0 u g.first few all trees built at same g.is in
+    reads_both u g.first v (rows_of_tree items (slice_get ts i.0)) (rows_of_rows items ts rs) tree.reads (rows_back f n items ts rs g.first v few all trees built row.1 (tree.form_stays ∙ at) tree.items_stay g.rest)
+rows_back f n items ts (rows.Advance ∷ rs) u v few all trees built row at same h =
     let g = goes (adds_advance u) (λ w. rows_added ts w rs) v h in
     let stays : g.first.items ≡ items = sym (ap (λ (w : ScriptData). w.items) (advance_is u g.first g.is)) ∙ same in
-    reads_one u g.first v _ (rows_of_rows items ts rs) g.is (rows_back n items ts rs g.first v few all trees built row.1 stays g.rest)
-rows_back n items ts (rows.Lose ∷ rs) u v few all trees built row same h = absurd row.0
-rows_back n items ts (rows.Settle ∷ rs) u v few all trees built row same h =
+    let form : g.first.form ≡ f = sym (ap (λ (w : ScriptData). w.form) (advance_is u g.first g.is)) ∙ at in
+    reads_one u g.first v _ (rows_of_rows items ts rs) g.is (rows_back f n items ts rs g.first v few all trees built row.1 form stays g.rest)
+rows_back f n items ts (rows.Lose ∷ rs) u v few all trees built row at same h = absurd row.0
+rows_back f n items ts (rows.Settle ∷ rs) u v few all trees built row at same h =
     let g = goes (adds_settle u) (λ w. rows_added ts w rs) v h in
     let stays : g.first.items ≡ items = sym (ap (λ (w : ScriptData). w.items) (settle_is u g.first g.is)) ∙ same in
-    reads_one u g.first v _ (rows_of_rows items ts rs) g.is (rows_back n items ts rs g.first v few all trees built row.1 stays g.rest)
+    let form : g.first.form ≡ f = sym (ap (λ (w : ScriptData). w.form) (settle_is u g.first g.is)) ∙ at in
+    reads_one u g.first v _ (rows_of_rows items ts rs) g.is (rows_back f n items ts rs g.first v few all trees built row.1 form stays g.rest)
 
 -- what is written begins with no byte order mark
 no_mark : (f : Form) (n : ℕ) (rs : List (List (List ℕ))) → strip_bom (lines (form_rows f ++ nodes_fields n ∷ rs)) ≡ lines (form_rows f ++ nodes_fields n ∷ rs)
@@ -177,6 +212,13 @@ items_stand (r ∷ rs) u v h =
     let g = goes (adds_item u r) (λ t. items_added t rs) v h in
     let one : u.items ++ r ∷ [] ≡ g.first.items = ap (λ (w : ScriptData). w.items) (item_is u g.first r g.is) in
     items_stand rs g.first v g.rest ∙ ap (λ (xs : List ItemRow). xs ++ rs) (sym one) ∙ append_assoc u.items (r ∷ []) rs
+
+-- items leave the form
+items_form : (items : List ItemRow) (u v : ScriptData) → items_added u items ≡ Ok v → v.form ≡ u.form
+items_form [] u v h = let e : u ≡ v = cc h in sym (ap (λ (w : ScriptData). w.form) e)
+items_form (r ∷ rs) u v h =
+    let g = goes (adds_item u r) (λ t. items_added t rs) v h in
+    items_form rs g.first v g.rest ∙ sym (ap (λ (w : ScriptData). w.form) (item_is u g.first r g.is))
 
 -- all picks
 picks_back : (ks : List ℕ) (u v : ScriptData) → AreSmall ks → picks_added u ks ≡ Ok v → Reads u (map pick_fields ks) v
@@ -204,7 +246,8 @@ rows_read s u h b small is =
     let few = few_nodes s h in
     let items = items_back s.nodes s.items (fresh s.form s.nodes) g.first few h.items g.is in
     let stays : g.first.items ≡ s.items = items_stand s.items (fresh s.form s.nodes) g.first g.is in
-    let rows = rows_back s.nodes s.items s.trees s.rows g.first f.first few h.items h.trees b.trees b.rows stays f.is in
+    let form : g.first.form ≡ s.form = items_form s.items (fresh s.form s.nodes) g.first g.is in
+    let rows = rows_back s.form s.nodes s.items s.trees s.rows g.first f.first few h.items (written_trees s.form s.nodes s.items [] s.trees h.trees h.failed) b.trees b.rows form stays f.is in
     let picks = picks_back s.picks f.first u small f.rest in
     nodes_then s.form s.nodes u (map item_fields s.items ++ (rows_of_rows s.items s.trees s.rows ++ map pick_fields s.picks)) h.some_nodes h.few_nodes
     (reads_both (fresh s.form s.nodes) g.first u (map item_fields s.items) (rows_of_rows s.items s.trees s.rows ++ map pick_fields s.picks) items

@@ -9,7 +9,7 @@ use Rattle.commute_ops.specs.declared.kinds.Kind.TheVariants as kinds
 use Rattle.commute_ops.specs.declared.kinds.Op.TheVariants as applied
 use Rattle.tv_base.specs.declared.numbers.NodeNo.{NodeNo}
 use Rattle.tv_base.proofs.Truths.{left_true}
-use Rattle.tx_trees.specs.Adding.{adds_item, adds_op, adds_pick, adds_sub, adds_tree, fresh, has_no_sub_left, has_no_tree_left, judged, last_subs, names_tree, place_of, with_item, with_sub, with_tree}
+use Rattle.tx_trees.specs.Adding.{adds_fail, adds_item, adds_op, adds_pick, adds_sub, adds_tree, fresh, has_no_sub_left, has_no_tree_left, judged, last_subs, names_tree, place_of, with_item, with_sub, with_tree}
 use Rattle.tx_trees.specs.Amounts.{magnitude}
 use Rattle.tx_trees.specs.Forms.{most_nodes}
 use Rattle.tx_trees.specs.Names.{has_name_len, is_name, is_name_byte}
@@ -27,9 +27,9 @@ use Rattle.tx_trees.specs.declared.parts.TreeKind.TheVariants as trees
 use Rattle.tx_trees.specs.declared.why.Why.{Why}
 use Rattle.tx_trees.specs.declared.why.Why.TheVariants as why
 use Rattle.script_reader.specs.Numbers.{amount_of, number_of}
-use Rattle.script_reader.specs.Rows.{amount_row, begun, deed_of, first_row, if_built, item_row, later_row, nodes_row, op_row, pick_row, second_row, sub_row, tree_row, unless}
-use Rattle.script_reader.specs.Words.{kind_of, kind_word}
-use Rattle.script_reader.specs.Written.{deed_fields, item_fields, nodes_fields, pick_fields, sub_fields, tree_fields}
+use Rattle.script_reader.specs.Rows.{amount_row, begun, by_word, deed_of, fail_row, field, later_form, first_row, if_built, item_row, later_row, nodes_row, op_row, pick_row, second_row, sub_row, tree_row, unless}
+use Rattle.script_reader.specs.Words.{kind_of, kind_word, later_word}
+use Rattle.script_reader.specs.Written.{deed_fields, fail_fields, item_fields, nodes_fields, pick_fields, sub_fields, tree_fields}
 use Rattle.script_reader.specs.declared.words.OpWord.{OpWord}
 use Rattle.script_reader.specs.declared.words.OpWord.TheVariants as ops
 use Rattle.script_reader.proofs.Decimals.{amount_read, number_read, value_read}
@@ -120,6 +120,12 @@ sub_back s x early low =
     let form : later_row s (sub_fields x) ≡ sub_row s (decimal x.parent.0) (decimal x.node.0) = refl in
     form ∙ rw (number_read x.parent.0 (omega (arith, early)), number_read x.node.0 (omega (arith, low)), value_read x.parent.0 (omega (arith, early)), value_read x.node.0 (omega (arith, low)))
     (tried_sub (nat_le s.nodes x.node.0) (not s.begun) (nat_le (last_subs s.trees) x.parent.0) (has_no_sub_left s.trees) why.OutOfRange why.NoTree why.BadParent why.TooMany (with_sub s x.parent.0 x.node))
+
+-- a `fail` row of a script of the second form
+pub fail_back : (s : ScriptData) (k : ℕ) → s.form ≡ forms.Two → k < 64 → later_row s (fail_fields k) ≡ adds_fail s k
+fail_back s k second small =
+    let form : later_row s (fail_fields k) ≡ fail_row s (decimal k) = ap (λ (f : Form). by_word (fail_fields k) (later_word f (field (fail_fields k) 0)) (later_form s (fail_fields k))) second in
+    form ∙ rw (number_read k (omega (arith, small)), value_read k (omega (arith, small))) refl
 
 -- a `pick` row
 pub pick_back : (s : ScriptData) (k : ℕ) → k < 2 ^ 32 → later_row s (pick_fields k) ≡ adds_pick s k

@@ -4,7 +4,7 @@ use Rattle.commute_ops.specs.declared.kinds.Kind.{Kind}
 use Rattle.commute_ops.specs.declared.kinds.Op.TheVariants as applied
 use Rattle.tv_base.specs.declared.numbers.NodeNo.{NodeNo}
 use Rattle.tx_trees.specs.ScriptData.{ScriptData}
-use Rattle.tx_trees.specs.Adding.{adds_advance, adds_item, adds_lose, adds_op, adds_pick, adds_settle, adds_sub, adds_tree, fresh, place_of}
+use Rattle.tx_trees.specs.Adding.{adds_advance, adds_fail, adds_item, adds_lose, adds_op, adds_pick, adds_settle, adds_sub, adds_tree, fresh, place_of}
 use Rattle.tx_trees.specs.Forms.{most_amount, most_nodes}
 use Rattle.tx_trees.specs.Names.{has_name_len, is_name}
 use Rattle.tx_trees.specs.Ranges.{is_in_range, may_start}
@@ -144,6 +144,10 @@ pick_row s place =
 abbrev pub lose_row : ScriptData → Result ScriptData Why
 lose_row s = if_built false (adds_lose s)
 
+-- `fail,SUB`
+abbrev pub fail_row : ScriptData → List ℕ → Result ScriptData Why
+fail_row s sub = unless ((not (is_number sub), why.BadNumber) ∷ []) (adds_fail s (decimal_value sub))
+
 -- by its first field, and then by the number of its fields
 abbrev pub by_word : {A : Type 0} → List (List ℕ) → Option RowWord → (RowWord → Result A Why) → Result A Why
 by_word fields None form = Err why.UnknownRow
@@ -182,6 +186,7 @@ later_form s fields words.Advance = advance_row s
 later_form s fields words.Settle = adds_settle s
 later_form s fields words.Pick = pick_row s (field fields 1)
 later_form s fields words.Lose = lose_row s
+later_form s fields words.Fail = fail_row s (field fields 1)
 
 -- the first record
 abbrev pub first_row : List (List ℕ) → Result (Option ScriptData) Why

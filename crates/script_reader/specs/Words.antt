@@ -60,17 +60,20 @@ word_of word =
     else if bytes_eq word (codes "settle") then Some words.Settle
     else if bytes_eq word (codes "pick") then Some words.Pick
     else if bytes_eq word (codes "lose") then Some words.Lose
+    else if bytes_eq word (codes "fail") then Some words.Fail
     else tree_or_op (tree_kind_of word) (op_word_of word)
 
 -- the first record may name the second form, and isn't of it
 abbrev pub may_be_first : RowWord → Bool
 may_be_first words.Lose = false
+may_be_first words.Fail = false
 may_be_first word = true
 
--- a later record names no form; `lose` is a row word of the second form
+-- a later record names no form; `lose` and `fail` are row words of the second form
 abbrev pub may_follow : Form → RowWord → Bool
 may_follow form words.Form = false
 may_follow form words.Lose = is_second form
+may_follow form words.Fail = is_second form
 may_follow form word = true
 
 -- a row word that may stand here
@@ -99,6 +102,7 @@ len_fits words.Advance n = n == 1
 len_fits words.Settle n = n == 1
 len_fits words.Pick n = n == 2
 len_fits words.Lose n = n == 1
+len_fits words.Fail n = n == 2
 
 -- the kind of this word
 abbrev pub kind_of : List ℕ → Option Kind

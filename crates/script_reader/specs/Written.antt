@@ -3,7 +3,7 @@ use Rattle.std.specs.Prelude.{ℕ, List, [], ◌∷◌, ◌++◌, map, Option, S
 use Rattle.std.specs.Fmt.{signed_decimal}
 use Rattle.commute_ops.specs.declared.kinds.Op.TheVariants as applied
 use Rattle.tx_trees.specs.ScriptData.{ScriptData}
-use Rattle.tx_trees.specs.Rebuilt.{name_at}
+use Rattle.tx_trees.specs.Rebuilt.{name_at, written_subs}
 use Rattle.tx_trees.specs.declared.parts.Deed.{Deed}
 use Rattle.tx_trees.specs.declared.parts.Deed.TheVariants as deeds
 use Rattle.tx_trees.specs.declared.parts.Form.{Form}
@@ -15,6 +15,7 @@ use Rattle.tx_trees.specs.declared.parts.Sub.{Sub}
 use Rattle.tx_trees.specs.declared.parts.SubOp.{SubOp}
 use Rattle.tx_trees.specs.declared.parts.Tree.{Tree}
 use Rattle.tx_trees.specs.declared.parts.TreeKind.{TreeKind}
+use Rattle.tx_trees.specs.declared.parts.Written.{Written}
 use Rattle.script_reader.specs.Words.{kind_word, tree_word}
 
 -- the fields behind the first of a record, each behind a comma, and the line's end
@@ -73,6 +74,15 @@ op_fields items o = deed_fields (name_at o.item.0 items) o.deed
 abbrev pub pick_fields : ℕ → List (List ℕ)
 pick_fields k = codes "pick" ∷ decimal k ∷ []
 
+-- the row of a subtransaction that fails
+abbrev pub fail_fields : ℕ → List (List ℕ)
+fail_fields k = codes "fail" ∷ decimal k ∷ []
+
+-- the same, where one fails
+abbrev pub fail_rows : Option Written → List (List (List ℕ))
+fail_rows None = []
+fail_rows (Some w) = fail_fields w.failed.0 ∷ []
+
 -- the operations of a subtransaction
 abbrev pub ops_rows : List ItemRow → List SubOp → List (List (List ℕ))
 ops_rows items ops = map (op_fields items) ops
@@ -87,10 +97,10 @@ abbrev pub tree_rows : List ItemRow → TreeKind → List ℕ → List Sub → L
 tree_rows items kind name [] = []
 tree_rows items kind name (x ∷ xs) = tree_fields kind name x.node.0 ∷ (ops_rows items x.ops ++ subs_rows items xs)
 
--- the rows of a tree, if it is there
+-- the rows of a tree, if it is there, as it was written
 abbrev pub rows_of_tree : List ItemRow → Option Tree → List (List (List ℕ))
 rows_of_tree items None = []
-rows_of_tree items (Some t) = tree_rows items t.kind t.name t.subs
+rows_of_tree items (Some t) = tree_rows items t.kind t.name (written_subs t) ++ fail_rows t.written
 
 -- a row, a tree row with its whole tree
 abbrev pub rows_of_row : List ItemRow → List Tree → ScriptRow → List (List (List ℕ))

@@ -85,7 +85,7 @@ fn read_records(alloc: Global, bytes: &[u8]) -> Result<Script, ScriptRefusal>
         Err(refusal) => return Err(at_row(1, refusal)),
     };
     match first {
-        Some(script) => read_later(script, 2, &mut records, &mut row),
+        Some(script) => read_later(alloc, script, 2, &mut records, &mut row),
         None => read_second(alloc, &mut records, &mut row),
     }
 }
@@ -106,11 +106,12 @@ fn read_second(
         Ok(script) => script,
         Err(refusal) => return Err(at_row(2, refusal)),
     };
-    read_later(script, 3, records, row)
+    read_later(alloc, script, 3, records, row)
 }
 
 // The records from this one on, each of which adds to the script.
 fn read_later(
+    alloc: Global,
     begun: Script,
     first: u32,
     records: &mut Records,
@@ -122,7 +123,7 @@ fn read_later(
     let mut script = begun;
     let mut at = first;
     while records.next(row)? {
-        match take_later(&mut script, row) {
+        match take_later(alloc, &mut script, row) {
             Ok(()) => at += 1,
             Err(refusal) => return Err(at_row(at, refusal)),
         }

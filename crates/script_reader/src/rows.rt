@@ -1,8 +1,9 @@
 // What each row does to a script.
-ghost use Rattle.std.specs.Prelude.{◌≡◌, ◌<◌, ◌^◌, unsigned_abs};
+ghost use Rattle.std.specs.Prelude.{◌≡◌, ◌<◌, ◌^◌, true, unsigned_abs};
 ghost use Rattle.csv.specs.Records.{fields_of};
+ghost use Rattle.tx_trees.specs.Adding.{last_may_fail, last_subs, puts_undone};
 ghost use Rattle.tx_trees.specs.Built.{is_built};
-ghost use Rattle.script_reader.specs.Rows.{Begins, Leaves, Makes, advance_row, amount_row, begun, deed_of, first_row, form_row, item_of, item_row, later_row, lose_row, nodes_row, op_row, pick_row, second_row, starts, sub_row, tree_row};
+ghost use Rattle.script_reader.specs.Rows.{Begins, Leaves, Makes, advance_row, amount_row, begun, deed_of, fail_row, first_row, form_row, item_of, item_row, later_row, lose_row, nodes_row, op_row, pick_row, second_row, starts, sub_row, tree_row};
 
 use crate::numbers::{amount, number};
 use crate::records::field;
@@ -10,7 +11,8 @@ use crate::words::{OpWord, RowWord, first_word, kind_of, later_word, len_fits, n
 use commute_ops::{Amount, Kind, Op};
 use csv::ByteRecord;
 use std::alloc::Global;
-use tv_base::{Name, NodeNo};
+use tree_undo::expand;
+use tv_base::{Name, NodeNo, SubNo};
 use tx_trees::{Deed, Form, ItemRow, Refusal, Script, TreeKind, Why, is_in_range, may_start};
 
 // Nothing is begun yet where the second form is named.
@@ -217,6 +219,37 @@ fn lose_row_of(script: &mut Script) -> Result<(), Refusal>
     Err(Refusal::Why(Why::NotBuilt))
 }
 
+fn fail_row_of(alloc: Global, script: &mut Script, sub: &[u8]) -> Result<(), Refusal>
+    requires { script.old.form ≡ Form.Two }
+    ensures { Leaves (fail_row script.old sub.now) result script.new }
+{
+    let Some(sub) = number(sub) else {
+        return Err(Refusal::Why(Why::BadNumber));
+    };
+    if !script.begun() {
+        return Err(Refusal::Why(Why::NoTree));
+    }
+    if sub >= script.begun_subs().items().len() as u128 {
+        return Err(Refusal::Why(Why::BadParent));
+    }
+    if !script.begun_may_fail() {
+        return Err(Refusal::Why(Why::WrongKind));
+    }
+    fail(alloc, script, SubNo(sub as u32))
+}
+
+// Undoes the tree that is begun, which may fail, one of its subtransactions having failed.
+fn fail(alloc: Global, script: &mut Script, failed: SubNo) -> Result<(), Refusal>
+    requires second { script.old.form ≡ Form.Two }
+    requires begun { script.old.begun ≡ true }
+    requires adds { last_may_fail script.old.trees ≡ true }
+    requires earlier { failed.0 < last_subs script.old.trees }
+    ensures { Leaves (puts_undone script.old failed.0) result script.new }
+{
+    let expanded = expand(alloc, script.begun_subs(), failed)?;
+    script.put_undone(failed, expanded)
+}
+
 // The script of a `nodes` row in the first record.
 fn begin(alloc: Global, nodes: &[u8]) -> Result<Option<Script>, Refusal>
     ensures { Begins (begun (nodes_row Form.One nodes.now)) result }
@@ -261,7 +294,11 @@ pub(crate) fn take_second(alloc: Global, row: &ByteRecord) -> Result<Script, Ref
 }
 
 // Each later one adds to it. What a refused record leaves is not said, since nothing is read after it.
-pub(crate) fn take_later(script: &mut Script, row: &ByteRecord) -> Result<(), Refusal>
+pub(crate) fn take_later(
+    alloc: Global,
+    script: &mut Script,
+    row: &ByteRecord,
+) -> Result<(), Refusal>
     ensures { Leaves (later_row script.old (fields_of row.now)) result script.new }
 {
     let Some(word) = later_word(script.form(), field(row, 0)) else {
@@ -288,5 +325,6 @@ pub(crate) fn take_later(script: &mut Script, row: &ByteRecord) -> Result<(), Re
         RowWord::Settle => script.add_settle(),
         RowWord::Pick => pick_row_of(script, field(row, 1)),
         RowWord::Lose => lose_row_of(script),
+        RowWord::Fail => fail_row_of(alloc, script, field(row, 1)),
     }
 }

@@ -122,6 +122,50 @@ fn the_second_form_is_read_and_written(rt: HostRuntime) -> Result<(), Fail> {
     Ok(())
 }
 
+const FAILED: &[u8] =
+    b"threev,2\nnodes,2\nitem,a,0,sum,10\nitem,b,1,sum,0\nupdate,t,0\nadd,a,5\nsub,0,1\nadd,b,7\n\
+    fail,1\nsettle\n";
+
+#[test]
+fn a_failed_tree_is_read_and_written(rt: HostRuntime) -> Result<(), Fail> {
+    let script = read_script(rt.alloc(), FAILED)?;
+    let written = write_script(rt.alloc(), &script).map_err(|_| "no memory")?;
+    assert_eq!(rt; written.bytes(), FAILED);
+    let tree = script.trees().get(0).ok_or("a tree")?;
+    assert_eq!(rt; tree.subs.items().len(), 3);
+    for (text, row, why) in [
+        (
+            b"nodes,1\nupdate,t,0\nfail,0\n".as_slice(),
+            3,
+            Why::UnknownRow,
+        ),
+        (b"threev,2\nfail,0\n".as_slice(), 2, Why::NodesFirst),
+        (b"threev,2\nnodes,1\nfail,x\n".as_slice(), 3, Why::BadNumber),
+        (b"threev,2\nnodes,1\nfail,0\n".as_slice(), 3, Why::NoTree),
+        (
+            b"threev,2\nnodes,1\nupdate,t,0\nfail,1\n".as_slice(),
+            4,
+            Why::BadParent,
+        ),
+        (
+            b"threev,2\nnodes,1\nread,t,0\nfail,0\n".as_slice(),
+            4,
+            Why::WrongKind,
+        ),
+        (
+            b"threev,2\nnodes,1\nupdate,t,0\nfail,0\nsub,0,0\n".as_slice(),
+            5,
+            Why::NoTree,
+        ),
+    ] {
+        match read_script(rt.alloc(), text) {
+            Ok(_) => assert!(rt; false),
+            Err(refusal) => assert_eq!(rt; refusal, ScriptRefusal::Fault(ScriptFault { row, why })),
+        }
+    }
+    Ok(())
+}
+
 #[test]
 fn the_first_fault_is_told(rt: HostRuntime) -> Result<(), Fail> {
     let table: [(&[u8], u32, Why); 41] = [

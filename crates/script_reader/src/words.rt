@@ -31,6 +31,7 @@ pub(crate) enum RowWord {
     Settle,
     Pick,
     Lose,
+    Fail,
 }
 
 fn tree_kind_of(word: &[u8]) -> Option<TreeKind>
@@ -86,6 +87,8 @@ fn row_word(word: &[u8]) -> Option<RowWord>
         Some(RowWord::Pick)
     } else if word == b"lose".as_slice() {
         Some(RowWord::Lose)
+    } else if word == b"fail".as_slice() {
+        Some(RowWord::Fail)
     } else if let Some(kind) = tree_kind_of(word) {
         Some(RowWord::Tree(kind))
     } else {
@@ -99,17 +102,19 @@ fn may_be_first(word: RowWord) -> bool
 {
     match word {
         RowWord::Lose => false,
+        RowWord::Fail => false,
         _ => true,
     }
 }
 
-// Whether a later record may be such a row: it names no form, and `lose` is a row word of the second form.
+// Whether a later record may be such a row: it names no form, and `lose` and `fail` are row words of the second form.
 fn may_follow(form: Form, word: RowWord) -> bool
     ensures { result ≡ may_follow form word }
 {
     match (form, word) {
         (_, RowWord::Form) => false,
         (Form::One, RowWord::Lose) => false,
+        (Form::One, RowWord::Fail) => false,
         _ => true,
     }
 }
@@ -150,6 +155,7 @@ pub(crate) fn len_fits(word: RowWord, len: usize) -> bool
         RowWord::Settle => len == 1,
         RowWord::Pick => len == 2,
         RowWord::Lose => len == 1,
+        RowWord::Fail => len == 2,
     }
 }
 

@@ -8,12 +8,12 @@ ghost use Rattle.script_reader.specs.ReadBack.{IsReadAs};
 ghost use Rattle.script_reader.specs.Numbers.{AreSmall};
 ghost use Rattle.script_reader.specs.Words.{kind_word, tree_word};
 ghost use Rattle.tx_trees.specs.AsciiNames.{AreAsciiItems, AreAsciiTrees};
-ghost use Rattle.script_reader.specs.Written.{deed_fields, form_rows, item_fields, line, lines, nodes_fields, op_fields, ops_rows, pick_fields, rows_of_row, rows_of_rows, sub_fields, subs_rows, tree_fields, tree_rows, written};
+ghost use Rattle.script_reader.specs.Written.{deed_fields, fail_fields, form_rows, item_fields, line, lines, nodes_fields, op_fields, ops_rows, pick_fields, rows_of_row, rows_of_rows, rows_of_tree, sub_fields, subs_rows, tree_fields, tree_rows, written};
 
 use crate::text_fields::{end_row, push_amount, push_field, push_number};
 use commute_ops::{Amount, Kind, Op};
 use std::alloc::Global;
-use tv_base::{ItemNo, NoMemory, NodeNo, Text};
+use tv_base::{ItemNo, NoMemory, NodeNo, SubNo, Text};
 use tx_trees::{Deed, Form, ItemRow, Script, ScriptRow, Sub, SubOp, Tree, TreeKind};
 
 /// The text of a script: the row of the second form, if it is of that, the `nodes` row, all items, all rows with their
@@ -137,13 +137,41 @@ fn tree_word(kind: TreeKind) -> &'static [u8]
     }
 }
 
-// A tree: the root with its operations, and then the other subtransactions with theirs.
+// A tree as it was written, and the row of the subtransaction that fails.
 fn push_tree(text: &mut Text, items: &[ItemRow], tree: &Tree) -> Result<(), NoMemory>
     requires items { AreAsciiItems items.now }
     requires name { IsAscii tree.now.name }
-    ensures { OnOk result (text.new ≡ text.old ++ lines (tree_rows items.now tree.now.kind tree.now.name tree.now.subs)) }
+    ensures { OnOk result (text.new ≡ text.old ++ lines (rows_of_tree items.now (Some tree.now))) }
 {
-    let [root, rest @ ..] = tree.subs.items() else {
+    match &tree.written {
+        Some(written) => {
+            push_rooted(text, items, tree, written.subs.items())?;
+            push_fail(text, written.failed)
+        }
+        None => push_rooted(text, items, tree, tree.subs.items()),
+    }
+}
+
+fn push_fail(text: &mut Text, failed: SubNo) -> Result<(), NoMemory>
+    ensures { OnOk result (text.new ≡ text.old ++ line (fail_fields failed.0)) }
+{
+    text.push_all(b"fail")?;
+    push_number(text, failed.0 as u64)?;
+    end_row(text)
+}
+
+// A tree with these subtransactions: the root with its operations, and then the others with theirs.
+fn push_rooted(
+    text: &mut Text,
+    items: &[ItemRow],
+    tree: &Tree,
+    subs: &[Sub],
+) -> Result<(), NoMemory>
+    requires items { AreAsciiItems items.now }
+    requires name { IsAscii tree.now.name }
+    ensures { OnOk result (text.new ≡ text.old ++ lines (tree_rows items.now tree.now.kind tree.now.name subs.now)) }
+{
+    let [root, rest @ ..] = subs else {
         return Ok(());
     };
     push_root(text, tree, root.node)?;

@@ -7,7 +7,8 @@ use Rattle.letter_types.specs.declared.entries.Entry.{Entry}
 use Rattle.letter_types.specs.declared.entries.Letter.{Letter}
 use Rattle.tx_trees.specs.ScriptData.{ScriptData}
 use Rattle.world_model.specs.Runs.{waiting}
-use Rattle.world_model.specs.Scheduled.{IsScheduled, draw, drawn_from, next_draw, number_for, waiting_at}
+use Rattle.world_model.specs.Scheduled.{IsScheduled, draw, drawn_from, number_for, waiting_at}
+use Rattle.tv_base.specs.Draws.{next_draw}
 use Rattle.sim_runner.specs.Pickers.{IsPickedBy, picker_at}
 use Rattle.sim_runner.specs.Picks.{PicksData, after_number, next_number}
 

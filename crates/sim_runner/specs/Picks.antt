@@ -1,7 +1,8 @@
 -- The numbers of a schedule, one after the other: those that are given, and then the draws of a seed.
 use Rattle.std.specs.Prelude.{ℕ, List, [], ◌∷◌, Option}
 use Rattle.std.specs.Option.{option_map}
-use Rattle.world_model.specs.Scheduled.{next_draw, number_for}
+use Rattle.tv_base.specs.Draws.{next_draw}
+use Rattle.world_model.specs.Scheduled.{number_for}
 
 -- the numbers that are left of those given, and the number that the next draw is made of
 pub record PicksData : Type 0 where

@@ -1,7 +1,7 @@
 // The numbers by which a schedule takes letters.
 ghost use Rattle.std.specs.Prelude.{◌≡◌, ◌<◌, ◌%◌, ◌/◌, ◌^◌, length};
 ghost use Rattle.sim_runner.specs.Picks.{after_number, next_number};
-ghost use Rattle.world_model.specs.Scheduled.{next_draw};
+ghost use Rattle.tv_base.specs.Draws.{next_draw};
 
 use crate::pickers::Picker;
 use std::marker::Model;

@@ -120,6 +120,8 @@ valid = record {
     places = small_valid.limited.places;
   };
   first_form = λ is. refl;
+  unfailed = λ is. refl;
+  failed = (tt, tt);
 }
 
 pub sound : Sound advanced

@@ -1,3 +1,3 @@
 pub mod ReadRuns
-pub mod Built
 pub mod Told
+pub mod Generated

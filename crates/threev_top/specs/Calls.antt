@@ -1,5 +1,5 @@
 -- What the top call reads and writes.
-use Rattle.std.specs.Prelude.{ℕ, Bool, true, false, ◌≡◌, ◌⊎◌, List, [], Option, Some, None, Ok, Err, ⊤}
+use Rattle.std.specs.Prelude.{ℕ, Bool, true, false, ◌≡◌, ◌≤◌, ◌++◌, ◌⊎◌, List, [], Option, Some, None, Ok, Err, ⊤}
 use Rattle.std.specs.Io.KnownBytes.{Appends, Consumes, IsAtEnd}
 use Rattle.tv_base.specs.Outside.{AppendsFront, HasMoreThan, Rose}
 use Rattle.tv_base.specs.declared.moving.ReadEnd.{ReadEnd}
@@ -21,6 +21,10 @@ use Rattle.script_reader.specs.declared.reading.ScriptRefusal.TheVariants as ref
 use Rattle.report_text.specs.Report.{report_of}
 use Rattle.report_text.specs.Lines.{check_line_of}
 use Rattle.world_model.specs.Scheduled.{IsScheduled}
+use Rattle.headline.specs.Headline.{HasHeadline}
+use Rattle.history_text.specs.History.{history_lines_of}
+use Rattle.script_gen.specs.Generated.{generated}
+use Rattle.report_text.specs.Summary.{summary_of}
 use Rattle.sim_runner.specs.Finished.{HasEnded}
 use Rattle.threev_top.specs.declared.outcomes.Mode.{Mode}
 use Rattle.threev_top.specs.declared.outcomes.Mode.TheVariants as modes
@@ -28,12 +32,23 @@ use Rattle.threev_top.specs.declared.outcomes.Stop.{Stop}
 use Rattle.threev_top.specs.declared.outcomes.Stop.TheVariants as stops
 use Rattle.threev_top.specs.declared.texts.TheConstants.{HELP, VERSION}
 
--- what a mode writes of a script, and the history that it gives; letters are taken by the script's picks, and then by
--- the draws of a seed, or without one the oldest first
+-- the report of a history, and its lines behind it where they are asked for
+abbrev pub report_with : Bool → ScriptData → List Entry → List ℕ
+report_with false s h = report_of s h
+report_with true s h = report_of s h ++ history_lines_of s h
+
+-- what a mode writes of a script, and the history that it gives: a run has the headline; on one thread letters are taken
+-- by the script's picks, and then by the draws of a seed, or without one the oldest first
 abbrev pub IsText : Mode → ScriptData → List Entry → List ℕ → Type 0
 IsText modes.Check s h text = (h ≡ []) × (text ≡ check_line_of s)
-IsText (modes.Sim seed) s h text = HasEnded s h × IsScheduled s seed h × (text ≡ report_of s h)
+IsText (modes.Sim seed lines) s h text = HasEnded s h × IsScheduled s seed h × (text ≡ report_with lines s h)
+IsText (modes.Run workers lines) s h text = HasHeadline s h × (text ≡ report_with lines s h)
 IsText modes.Upgrade s h text = (h ≡ []) × (text ≡ written (upgraded s))
+
+-- a mode that runs threads has from 1 to 32 workers
+abbrev pub HasWorkers : Mode → Type 0
+HasWorkers (modes.Run workers lines) = (1 ≤ workers) × (workers ≤ 32)
+HasWorkers _ = Unit {0}
 
 -- the bytes are a script, and this is its text and history in this mode
 pub record IsTextOf (mode : Mode) (bytes : List ℕ) (history : List Entry) (text : List ℕ) : Type 0 where
@@ -66,31 +81,57 @@ pub record WroteFront (mode : Mode) (left now : Option (List ℕ)) (written afte
   pub at_end : IsAtEnd now
   pub writes : WritesFront mode bytes written after history
 
--- the same by the words: a mode's text, or the help or version, for which nothing is read; a line that isn't listed has
--- no meaning, and so is never taken
+-- the run of the script that a seed makes has the headline, and out has received its summary, whole or a front of it
+abbrev pub WroteSummary : ℕ → ℕ → Option (List ℕ) → Option (List ℕ) → List Entry → Type 0
+WroteSummary seed trees written after history =
+    HasHeadline (generated seed trees) history
+    × Appends written after (summary_of (generated seed trees) history seed)
+
+abbrev pub WroteSummaryFront : ℕ → ℕ → Option (List ℕ) → Option (List ℕ) → List Entry → Type 0
+WroteSummaryFront seed trees written after history =
+    HasHeadline (generated seed trees) history
+    × AppendsFront written after (summary_of (generated seed trees) history seed)
+
+-- what a line of the words writes: a mode's text of the script that was read; or a summary, the help or the version, for
+-- which nothing is read
 abbrev pub WroteBy : Option Line → Option (List ℕ) → Option (List ℕ) → Option (List ℕ) → Option (List ℕ)
     → List Entry → Type 0
 WroteBy (Some lines.Check) left now written after history = Wrote modes.Check left now written after history
-WroteBy (Some (lines.Sim seed false)) left now written after history =
-    Wrote (modes.Sim seed) left now written after history
+WroteBy (Some (lines.Sim seed shows)) left now written after history =
+    Wrote (modes.Sim seed shows) left now written after history
+WroteBy (Some (lines.Run workers shows)) left now written after history =
+    Wrote (modes.Run workers shows) left now written after history
+WroteBy (Some (lines.Soak workers seed trees)) left now written after history =
+    WroteSummary seed trees written after history
 WroteBy (Some lines.Upgrade) left now written after history = Wrote modes.Upgrade left now written after history
-WroteBy (Some lines.Help) left now written after history = (now ≡ left) × Appends written after HELP.now
-    × (history ≡ [])
-WroteBy (Some lines.Version) left now written after history = (now ≡ left) × Appends written after VERSION.now
-    × (history ≡ [])
-WroteBy _ left now written after history = ⊥
+WroteBy (Some lines.Help) left now written after history = Appends written after HELP.now × (history ≡ [])
+WroteBy (Some lines.Version) left now written after history = Appends written after VERSION.now × (history ≡ [])
+WroteBy None left now written after history = ⊥
 
 abbrev pub WroteFrontBy : Option Line → Option (List ℕ) → Option (List ℕ) → Option (List ℕ) → Option (List ℕ)
     → List Entry → Type 0
 WroteFrontBy (Some lines.Check) left now written after history = WroteFront modes.Check left now written after history
-WroteFrontBy (Some (lines.Sim seed false)) left now written after history =
-    WroteFront (modes.Sim seed) left now written after history
+WroteFrontBy (Some (lines.Sim seed shows)) left now written after history =
+    WroteFront (modes.Sim seed shows) left now written after history
+WroteFrontBy (Some (lines.Run workers shows)) left now written after history =
+    WroteFront (modes.Run workers shows) left now written after history
+WroteFrontBy (Some (lines.Soak workers seed trees)) left now written after history =
+    WroteSummaryFront seed trees written after history
 WroteFrontBy (Some lines.Upgrade) left now written after history = WroteFront modes.Upgrade left now written after history
-WroteFrontBy (Some lines.Help) left now written after history = (now ≡ left) × AppendsFront written after HELP.now
-    × (history ≡ [])
-WroteFrontBy (Some lines.Version) left now written after history = (now ≡ left) × AppendsFront written after VERSION.now
-    × (history ≡ [])
-WroteFrontBy _ left now written after history = ⊥
+WroteFrontBy (Some lines.Help) left now written after history = AppendsFront written after HELP.now × (history ≡ [])
+WroteFrontBy (Some lines.Version) left now written after history = AppendsFront written after VERSION.now × (history ≡ [])
+WroteFrontBy None left now written after history = ⊥
+
+-- for this line the source is left alone, at every status
+abbrev pub leaves_source : Option Line → Bool
+leaves_source None = true
+leaves_source (Some lines.Help) = true
+leaves_source (Some lines.Version) = true
+leaves_source (Some (lines.Soak workers seed trees)) = true
+leaves_source (Some lines.Check) = false
+leaves_source (Some (lines.Sim seed shows)) = false
+leaves_source (Some (lines.Run workers shows)) = false
+leaves_source (Some lines.Upgrade) = false
 
 -- all bytes were read to their end, and reading refuses them with this fault
 pub record ReadRefused (left now : Option (List ℕ)) (f : ScriptFault) : Type 0 where
@@ -140,6 +181,13 @@ abbrev pub IsWritten : Option Stop → Type 0
 IsWritten None = ⊤
 IsWritten (Some stops.Writing) = ⊤
 IsWritten _ = ⊥
+
+-- the same, or there was no memory
+abbrev pub IsWrittenOrNoMemory : Option Stop → Type 0
+IsWrittenOrNoMemory None = ⊤
+IsWrittenOrNoMemory (Some stops.Writing) = ⊤
+IsWrittenOrNoMemory (Some stops.NoMemory) = ⊤
+IsWrittenOrNoMemory _ = ⊥
 
 -- what stops may come once there are bytes
 abbrev pub IsByBytes : List ℕ → Option Stop → Type 0

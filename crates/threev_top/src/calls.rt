@@ -1,26 +1,32 @@
 // The top call.
-ghost use Rattle.std.specs.Prelude.{◌≡◌, ◌≤◌, ◌+◌, ◌⊎◌, [], codes, map, string_bytes, IsTrue, None, Some};
+ghost use Rattle.std.specs.Prelude.{◌≡◌, ◌≤◌, ◌+◌, ◌⊎◌, [], codes, map, string_bytes, IfOk, IsTrue, None, Some};
 ghost use Rattle.std.specs.Io.KnownBytes.{Appends};
 ghost use Rattle.tv_base.specs.Outside.{AppendsFront, HasTaken, Rose};
 ghost use Rattle.tv_base.specs.declared.moving.TheConstants.{MOST_BYTES};
-ghost use Rattle.command_words.specs.Grammar.{built_line};
-ghost use Rattle.command_words.specs.Lines.{is_built};
+ghost use Rattle.command_words.specs.Grammar.{line_of};
+ghost use Rattle.command_words.specs.Lines.{IsInRange};
 ghost use Rattle.script_reader.specs.declared.reading.ScriptFault.{ScriptFault};
-ghost use Rattle.threev_top.specs.Texts.{line_of, row_line, status_of};
+ghost use Rattle.threev_top.specs.Texts.{line_of as err_line, row_line, status_of};
 ghost use Rattle.tx_trees.specs.Why.{why_name};
-ghost use Rattle.threev_top.specs.Calls.{is_before_writing, is_refusal, IsWritten, Refuses, Tells, words_stop, WroteBy, WroteFrontBy};
+ghost use Rattle.threev_top.specs.Calls.{is_before_writing, is_refusal, IsWritten, IsWrittenOrNoMemory, leaves_source, Refuses, Tells, words_stop, WroteBy, WroteFrontBy, WroteSummary, WroteSummaryFront};
+ghost use Rattle.headline.specs.Headline.{HasHeadline};
+ghost use Rattle.report_text.specs.Summary.{summary_of};
+ghost use Rattle.script_gen.specs.Generated.{generated};
 ghost use Rattle.threev_top.specs.declared.outcomes.Stop.{Stop};
 ghost use Rattle.threev_top.specs.declared.outcomes.Stop.TheVariants as stops;
 
-use crate::outcomes::{Mode, Outcome, Stop, read_and_write, stopped};
+use crate::outcomes::{Made, Mode, Outcome, Stop, read_and_write, stopped, write};
 use crate::texts::{HELP, VERSION, fault_line};
 use command_words::{Line, WordsError, read_words};
 use letter_types::History;
+use node_threads::run;
+use report_text::summary;
+use script_gen::generate;
 use script_reader::ScriptFault;
 use std::alloc::Global;
 use std::sync::Wait;
 use std::thread::Threads;
-use tv_base::{Gate, Sink, Source, write_all};
+use tv_base::{Gate, NoMemory, Sink, Source, write_all};
 
 /// How a call of the program ended.
 #[derive(Drop)]
@@ -49,9 +55,62 @@ fn write_fixed<K: Sink>(alloc: Global, text: &[u8], out: &mut K) -> Outcome
     }
 }
 
+/// The run of the script that a seed makes, on threads, and its summary.
+fn soaked<R: Threads + Wait + Sync, G: Gate + Sync>(
+    rt: &R,
+    alloc: Global,
+    workers: u32,
+    seed: u64,
+    trees: u32,
+    gate: &G,
+) -> Result<Made, NoMemory>
+    requires workers { (1 ≤ workers) × (workers ≤ 32) }
+    requires trees { trees ≤ 20000 }
+    ensures headline { IfOk result (λ made. HasHeadline (generated seed trees) made.history) }
+    ensures text { IfOk result (λ made. made.text ≡ summary_of (generated seed trees) made.history seed) }
+{
+    let script = generate(alloc, seed, trees)?;
+    let _valid = script.nodes();
+    let history = run(rt, alloc, &script, workers, gate)?;
+    let text = summary(alloc, &script, &history, seed)?;
+    Ok(Made { history, text })
+}
+
+/// Writes the summary of a run that a seed makes; nothing is read.
+fn soak<R: Threads + Wait + Sync, K: Sink, G: Gate + Sync>(
+    rt: &R,
+    alloc: Global,
+    workers: u32,
+    seed: u64,
+    trees: u32,
+    out: &mut K,
+    gate: &G,
+) -> Outcome
+    requires workers { (1 ≤ workers) × (workers ≤ 32) }
+    requires trees { trees ≤ 20000 }
+    ensures wrote { result.stop ≡ None → WroteSummary seed trees (K.written out.old) (K.written out.new)
+        result.history }
+    ensures front { result.stop ≡ Some stops.Writing → WroteSummaryFront seed trees (K.written out.old)
+        (K.written out.new) result.history × Rose (K.faults out.old) (K.faults out.new) }
+    ensures others { IsWrittenOrNoMemory result.stop }
+    ensures nothing { IsTrue (is_before_writing result.stop) → (out.new ≡ out.old) × (result.history ≡ []) }
+{
+    match soaked(rt, alloc, workers, seed, trees, gate) {
+        Ok(made) => write(made, out),
+        Err(_) => stopped(alloc, Stop::NoMemory),
+    }
+}
+
 /// Does what a command line asks for.
-fn after_line<S: Source, K: Sink>(alloc: Global, line: Line, source: &mut S, out: &mut K) -> Outcome
-    requires { IsTrue (is_built line) }
+fn after_line<R: Threads + Wait + Sync, S: Source, K: Sink, G: Gate + Sync>(
+    rt: &R,
+    alloc: Global,
+    line: Line,
+    source: &mut S,
+    out: &mut K,
+    gate: &G,
+) -> Outcome
+    requires { IsInRange line }
     // What is written.
     ensures wrote { result.stop ≡ None → WroteBy (Some line) (S.left source.old) (S.left source.new)
         (K.written out.old) (K.written out.new) result.history }
@@ -64,50 +123,58 @@ fn after_line<S: Source, K: Sink>(alloc: Global, line: Line, source: &mut S, out
     ensures reading { result.stop ≡ Some stops.Reading → Rose (S.faults source.old) (S.faults source.new) }
     ensures words { result.stop ≡ Some stops.Words → ⊥ }
     // What stays.
+    ensures unread { IsTrue (leaves_source (Some line)) → source.new ≡ source.old }
     ensures nothing { IsTrue (is_before_writing result.stop) → (out.new ≡ out.old) × (result.history ≡ []) }
     ensures taken { HasTaken (MOST_BYTES + 1) (S.left source.old) (S.left source.new) }
 {
     match line {
-        Line::Check => read_and_write(alloc, Mode::Check, source, out),
-        Line::Sim {
+        Line::Check => read_and_write(rt, alloc, Mode::Check, source, out, gate),
+        Line::Sim { seed, history } => {
+            read_and_write(rt, alloc, Mode::Sim { seed, history }, source, out, gate)
+        }
+        Line::Run { workers, history } => {
+            read_and_write(rt, alloc, Mode::Run { workers, history }, source, out, gate)
+        }
+        Line::Soak {
+            workers,
             seed,
-            history: false,
-        } => read_and_write(alloc, Mode::Sim { seed }, source, out),
-        Line::Upgrade => read_and_write(alloc, Mode::Upgrade, source, out),
+            trees,
+        } => soak(rt, alloc, workers, seed, trees, out, gate),
+        Line::Upgrade => read_and_write(rt, alloc, Mode::Upgrade, source, out, gate),
         Line::Help => write_fixed(alloc, HELP, out),
         Line::Version => write_fixed(alloc, VERSION, out),
-        Line::Sim { .. } | Line::Run { .. } | Line::Soak { .. } => unreachable!(),
     }
 }
 
 /// Reads the words, and does what they ask for.
-#[tactic(auto, using(crate::proofs::Built::read_is_built))]
-fn after_words<S: Source, K: Sink>(
+fn after_words<R: Threads + Wait + Sync, S: Source, K: Sink, G: Gate + Sync>(
+    rt: &R,
     alloc: Global,
     words: &[String],
     source: &mut S,
     out: &mut K,
+    gate: &G,
 ) -> Outcome
     // What is written.
-    ensures wrote { result.stop ≡ None → WroteBy (built_line (map string_bytes words.now)) (S.left source.old)
+    ensures wrote { result.stop ≡ None → WroteBy (line_of (map string_bytes words.now)) (S.left source.old)
         (S.left source.new) (K.written out.old) (K.written out.new) result.history }
-    ensures front { result.stop ≡ Some stops.Writing → WroteFrontBy (built_line (map string_bytes words.now))
+    ensures front { result.stop ≡ Some stops.Writing → WroteFrontBy (line_of (map string_bytes words.now))
         (S.left source.old) (S.left source.new) (K.written out.old) (K.written out.new) result.history
         × Rose (K.faults out.old) (K.faults out.new) }
     // Why it isn't.
-    ensures words { result.stop ≡ Some stops.Words → (built_line (map string_bytes words.now) ≡ None)
-        × (source.new ≡ source.old) }
-    ensures no_line { built_line (map string_bytes words.now) ≡ None
-        → ((result.stop ≡ Some stops.Words) ⊎ (result.stop ≡ Some stops.NoMemory)) × (source.new ≡ source.old) }
+    ensures words { result.stop ≡ Some stops.Words → line_of (map string_bytes words.now) ≡ None }
+    ensures no_line { line_of (map string_bytes words.now) ≡ None
+        → (result.stop ≡ Some stops.Words) ⊎ (result.stop ≡ Some stops.NoMemory) }
     ensures refused { (f : ScriptFault) → result.stop ≡ Some (stops.Script f)
         → Refuses (S.left source.old) (S.left source.new) f }
     ensures reading { result.stop ≡ Some stops.Reading → Rose (S.faults source.old) (S.faults source.new) }
     // What stays.
+    ensures unread { IsTrue (leaves_source (line_of (map string_bytes words.now))) → source.new ≡ source.old }
     ensures nothing { IsTrue (is_before_writing result.stop) → (out.new ≡ out.old) × (result.history ≡ []) }
     ensures taken { HasTaken (MOST_BYTES + 1) (S.left source.old) (S.left source.new) }
 {
     match read_words(alloc, words) {
-        Ok(line) => after_line(alloc, line, source, out),
+        Ok(line) => after_line(rt, alloc, line, source, out, gate),
         Err(refusal) => stopped(alloc, of_words(refusal)),
     }
 }
@@ -136,7 +203,7 @@ fn tell_line<E: Sink>(err: &mut E, line: &[u8])
 /// none for the line of a refused script.
 fn tell<E: Sink>(alloc: Global, stop: Stop, err: &mut E) -> Stop
     ensures told { Tells (E.written err.old) (E.written err.new) (E.faults err.old) (E.faults err.new)
-        (line_of result) }
+        (err_line result) }
     ensures same { (result ≡ stop) ⊎ ((result ≡ stops.NoMemory) × IsTrue (is_refusal stop)) }
 {
     match stop {
@@ -155,7 +222,7 @@ fn tell<E: Sink>(alloc: Global, stop: Stop, err: &mut E) -> Stop
 /// The same for a refused script.
 fn tell_fault<E: Sink>(alloc: Global, fault: ScriptFault, err: &mut E) -> Stop
     ensures told { Tells (E.written err.old) (E.written err.new) (E.faults err.old) (E.faults err.new)
-        (line_of result) }
+        (err_line result) }
     ensures same { (result ≡ stops.Script fault) ⊎ (result ≡ stops.NoMemory) }
 {
     match fault_line(alloc, fault) {
@@ -183,36 +250,44 @@ fn status_of(stop: Stop) -> u8
     }
 }
 
-/// The whole program: reads the words, reads a script from `source` if they ask for it, writes the text that they ask
-/// for to `out`, and where that didn't come about writes one line to `err`. The runtime and the gate serve modes that
-/// are not built yet.
+/// The whole program: reads the words, reads a script from `source` if they ask for it, runs it on one thread or on
+/// many, writes the text that they ask for to `out`, and where that didn't come about writes one line to `err`. In a
+/// run on threads the gate is called before each step, under the lock of its actor.
+///
+/// In the modes that run, the history at the statuses 0 and 5 has the headline (`HasHeadline`). On threads the call may
+/// wait, and what is promised holds if it returns.
 pub fn threev<R: Threads + Wait + Sync, S: Source, K: Sink, E: Sink, G: Gate + Sync>(
-    _rt: &R,
+    rt: &R,
     alloc: Global,
     words: &[String],
     source: &mut S,
     out: &mut K,
     err: &mut E,
-    _gate: &G,
+    gate: &G,
 ) -> Ended
     // What is written at the statuses 0 and 5.
-    ensures wrote { result.status ≡ 0 → WroteBy (built_line (map string_bytes words.now)) (S.left source.old)
+    ensures wrote { result.status ≡ 0 → WroteBy (line_of (map string_bytes words.now)) (S.left source.old)
         (S.left source.new) (K.written out.old) (K.written out.new) result.history }
-    ensures front { result.status ≡ 5 → WroteFrontBy (built_line (map string_bytes words.now)) (S.left source.old)
+    ensures front { result.status ≡ 5 → WroteFrontBy (line_of (map string_bytes words.now)) (S.left source.old)
         (S.left source.new) (K.written out.old) (K.written out.new) result.history
         × Rose (K.faults out.old) (K.faults out.new) }
     // When the other statuses come, and what they leave.
-    ensures words { result.status ≡ 2 → (built_line (map string_bytes words.now) ≡ None) × (source.new ≡ source.old) }
-    ensures no_line { built_line (map string_bytes words.now) ≡ None
-        → ((result.status ≡ 1) ⊎ (result.status ≡ 2)) × (source.new ≡ source.old) }
+    ensures words { result.status ≡ 2 → line_of (map string_bytes words.now) ≡ None }
+    ensures no_line { line_of (map string_bytes words.now) ≡ None → (result.status ≡ 1) ⊎ (result.status ≡ 2) }
     ensures refused { result.status ≡ 3 → (f : ScriptFault) × Refuses (S.left source.old) (S.left source.new) f
         × Tells (E.written err.old) (E.written err.new) (E.faults err.old) (E.faults err.new)
         (row_line f.row (why_name f.why)) }
     ensures reading { result.status ≡ 4 → Rose (S.faults source.old) (S.faults source.new) }
     ensures nothing { 1 ≤ result.status → result.status ≤ 4 → (out.new ≡ out.old) × (result.history ≡ []) }
     // In any case.
+    ensures unread { IsTrue (leaves_source (line_of (map string_bytes words.now))) → source.new ≡ source.old }
     ensures taken { HasTaken (MOST_BYTES + 1) (S.left source.old) (S.left source.new) }
     ensures known { result.status ≤ 5 }
+    // With words that are a line, a script that is accepted and no faults, the text is written, or memory was wanting.
+    ensures complete { (line_of (map string_bytes words.now) ≡ None → ⊥)
+        → ((f : ScriptFault) → Refuses (S.left source.old) (S.left source.new) f → ⊥)
+        → (Rose (S.faults source.old) (S.faults source.new) → ⊥) → (Rose (K.faults out.old) (K.faults out.new) → ⊥)
+        → result.status ≤ 1 }
     // What standard error is told.
     ensures quiet { result.status ≡ 0 → err.new ≡ err.old }
     ensures told_memory { result.status ≡ 1 → Tells (E.written err.old) (E.written err.new) (E.faults err.old) (E.faults err.new)
@@ -224,7 +299,7 @@ pub fn threev<R: Threads + Wait + Sync, S: Source, K: Sink, E: Sink, G: Gate + S
     ensures told_writing { result.status ≡ 5 → Tells (E.written err.old) (E.written err.new) (E.faults err.old) (E.faults err.new)
         (codes "threev: writing failed\n") }
 {
-    let Outcome { stop, history } = after_words(alloc, words, source, out);
+    let Outcome { stop, history } = after_words(rt, alloc, words, source, out, gate);
     match stop {
         None => Ended { status: 0, history },
         Some(stop) => {

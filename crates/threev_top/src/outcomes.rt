@@ -3,22 +3,26 @@ ghost use Rattle.std.specs.Prelude.{◌≡◌, ◌≤◌, ◌+◌, [], IfOk, IfE
 ghost use Rattle.std.specs.Io.KnownBytes.{Appends};
 ghost use Rattle.tv_base.specs.Outside.{AppendsFront, HasTaken, Rose};
 ghost use Rattle.tv_base.specs.declared.moving.TheConstants.{MOST_BYTES};
-ghost use Rattle.report_text.specs.Report.{report_of};
 ghost use Rattle.report_text.specs.Lines.{check_line_of};
 ghost use Rattle.script_reader.specs.Written.{written};
 ghost use Rattle.tx_trees.specs.Adding.{upgraded};
 ghost use Rattle.script_reader.specs.declared.reading.ScriptFault.{ScriptFault};
 ghost use Rattle.world_model.specs.Scheduled.{IsScheduled};
 ghost use Rattle.world_model.specs.Tables.{Runnable};
+ghost use Rattle.headline.specs.Headline.{HasHeadline};
 ghost use Rattle.sim_runner.specs.Finished.{HasEnded};
-ghost use Rattle.threev_top.specs.Calls.{is_before_writing, IsByBytes, IsStop, IsText, IsTextOf, IsWritten, reading_stop, Refuses, script_stop, WritesFront, WritesText, Wrote, WroteFront};
+ghost use Rattle.threev_top.specs.Calls.{HasWorkers, is_before_writing, IsByBytes, IsStop, IsText, IsTextOf, IsWritten, reading_stop, Refuses, report_with, script_stop, WritesFront, WritesText, Wrote, WroteFront};
 
+use history_text::history_lines;
 use letter_types::History;
+use node_threads::run;
 use report_text::{check_line, report};
 use script_reader::{ScriptFault, ScriptRefusal, read_script, write_script};
 use sim_runner::simulate;
 use std::alloc::Global;
-use tv_base::{NoMemory, ReadEnd, Sink, Source, Text, read_all, write_all};
+use std::sync::Wait;
+use std::thread::Threads;
+use tv_base::{Gate, NoMemory, ReadEnd, Sink, Source, Text, read_all, write_all};
 use tx_trees::{Script, Why};
 
 /// What is made of a script.
@@ -31,6 +35,15 @@ pub enum Mode {
     Sim {
         /// The number from which the draws are made.
         seed: Option<u64>,
+        /// Whether the lines of the history follow the report.
+        history: bool,
+    },
+    /// A run on threads, and its report. The script's picks aren't used.
+    Run {
+        /// How many threads work at once, 1 to 32.
+        workers: u32,
+        /// Whether the lines of the history follow the report.
+        history: bool,
     },
     /// The script in the second form.
     Upgrade,
@@ -60,9 +73,9 @@ pub(crate) struct Outcome {
 
 /// A text to write, and the history of the run that it is of.
 #[derive(Drop)]
-struct Made {
-    history: History,
-    text: Text,
+pub(crate) struct Made {
+    pub(crate) history: History,
+    pub(crate) text: Text,
 }
 
 /// An end without a text.
@@ -76,15 +89,57 @@ pub(crate) fn stopped(alloc: Global, stop: Stop) -> Outcome
     }
 }
 
-/// The run of a script, and its report.
-fn report_of(alloc: Global, script: &Script, seed: Option<u64>) -> Result<Made, NoMemory>
+/// The report of a run, and the lines of its history behind it where they are asked for.
+fn report_with(
+    alloc: Global,
+    script: &Script,
+    history: &History,
+    lines: bool,
+) -> Result<Text, NoMemory>
+    ensures { IfOk result (λ text. text ≡ report_with lines script.now history.now) }
+{
+    let mut text = report(alloc, script, history)?;
+    if lines {
+        let more = history_lines(alloc, script, history)?;
+        text.push_all(more.bytes())?;
+    }
+    Ok(text)
+}
+
+/// The run of a script on one thread, and its report.
+fn simulated(
+    alloc: Global,
+    script: &Script,
+    seed: Option<u64>,
+    lines: bool,
+) -> Result<Made, NoMemory>
     requires { Runnable script.now }
     ensures ended { IfOk result (λ made. HasEnded script.now made.history) }
     ensures scheduled { IfOk result (λ made. IsScheduled script.now seed made.history) }
-    ensures text { IfOk result (λ made. made.text ≡ report_of script.now made.history) }
+    ensures text { IfOk result (λ made. made.text ≡ report_with lines script.now made.history) }
 {
     let history = simulate(alloc, script, seed)?;
-    let text = report(alloc, script, &history)?;
+    let text = report_with(alloc, script, &history, lines)?;
+    Ok(Made { history, text })
+}
+
+/// The run of a script on threads, and its report.
+fn ran<R: Threads + Wait + Sync, G: Gate + Sync>(
+    rt: &R,
+    alloc: Global,
+    script: &Script,
+    workers: u32,
+    lines: bool,
+    gate: &G,
+) -> Result<Made, NoMemory>
+    requires runnable { Runnable script.now }
+    requires workers { (1 ≤ workers) × (workers ≤ 32) }
+    ensures headline { IfOk result (λ made. HasHeadline script.now made.history) }
+    ensures text { IfOk result (λ made. made.text ≡ report_with lines script.now made.history) }
+{
+    let _valid = script.nodes();
+    let history = run(rt, alloc, script, workers, gate)?;
+    let text = report_with(alloc, script, &history, lines)?;
     Ok(Made { history, text })
 }
 
@@ -115,24 +170,39 @@ fn upgraded_of(alloc: Global, script: Script) -> Result<Made, NoMemory>
 }
 
 /// What a mode makes of a script.
-fn text_of(alloc: Global, mode: Mode, script: Script) -> Result<Made, NoMemory>
-    requires { Runnable script }
+fn text_of<R: Threads + Wait + Sync, G: Gate + Sync>(
+    rt: &R,
+    alloc: Global,
+    mode: Mode,
+    script: Script,
+    gate: &G,
+) -> Result<Made, NoMemory>
+    requires runnable { Runnable script }
+    requires workers { HasWorkers mode }
     ensures { IfOk result (λ made. IsText mode script made.history made.text) }
 {
     match mode {
         Mode::Check => counts_of(alloc, &script),
-        Mode::Sim { seed } => report_of(alloc, &script, seed),
+        Mode::Sim { seed, history } => simulated(alloc, &script, seed, history),
+        Mode::Run { workers, history } => ran(rt, alloc, &script, workers, history, gate),
         Mode::Upgrade => upgraded_of(alloc, script),
     }
 }
 
 /// The same, with the stop in place of want of memory.
-fn made_by(alloc: Global, mode: Mode, script: Script) -> Result<Made, Stop>
-    requires { Runnable script }
+fn made_by<R: Threads + Wait + Sync, G: Gate + Sync>(
+    rt: &R,
+    alloc: Global,
+    mode: Mode,
+    script: Script,
+    gate: &G,
+) -> Result<Made, Stop>
+    requires runnable { Runnable script }
+    requires workers { HasWorkers mode }
     ensures made { IfOk result (λ made. IsText mode script made.history made.text) }
     ensures stop { IfErr result (λ stop. stop ≡ Stop.NoMemory) }
 {
-    match text_of(alloc, mode, script) {
+    match text_of(rt, alloc, mode, script, gate) {
         Ok(made) => Ok(made),
         Err(_) => Err(Stop::NoMemory),
     }
@@ -149,18 +219,25 @@ fn of_script(refusal: ScriptRefusal) -> Stop
 }
 
 /// What a mode makes of the script that the bytes are.
-fn made_of(alloc: Global, mode: Mode, bytes: &[u8]) -> Result<Made, Stop>
+fn made_of<R: Threads + Wait + Sync, G: Gate + Sync>(
+    rt: &R,
+    alloc: Global,
+    mode: Mode,
+    bytes: &[u8],
+    gate: &G,
+) -> Result<Made, Stop>
+    requires { HasWorkers mode }
     ensures made { IfOk result (λ made. IsTextOf mode bytes.now made.history made.text) }
     ensures stop { IfErr result (λ stop. IsStop bytes.now stop) }
 {
     match read_script(alloc, bytes) {
-        Ok(script) => made_by(alloc, mode, script),
+        Ok(script) => made_by(rt, alloc, mode, script, gate),
         Err(refusal) => Err(of_script(refusal)),
     }
 }
 
 /// Writes a text.
-fn write<K: Sink>(made: Made, out: &mut K) -> Outcome
+pub(crate) fn write<K: Sink>(made: Made, out: &mut K) -> Outcome
     ensures wrote { result.stop ≡ None → Appends (K.written out.old) (K.written out.new) made.text }
     ensures front { result.stop ≡ Some Stop.Writing → AppendsFront (K.written out.old) (K.written out.new) made.text
         × Rose (K.faults out.old) (K.faults out.new) }
@@ -176,7 +253,15 @@ fn write<K: Sink>(made: Made, out: &mut K) -> Outcome
 }
 
 /// Writes what a mode makes of the script that the bytes are.
-fn after_bytes<K: Sink>(alloc: Global, mode: Mode, bytes: &[u8], out: &mut K) -> Outcome
+fn after_bytes<R: Threads + Wait + Sync, K: Sink, G: Gate + Sync>(
+    rt: &R,
+    alloc: Global,
+    mode: Mode,
+    bytes: &[u8],
+    out: &mut K,
+    gate: &G,
+) -> Outcome
+    requires { HasWorkers mode }
     ensures wrote { result.stop ≡ None → WritesText mode bytes.now (K.written out.old)
         (K.written out.new) result.history }
     ensures front { result.stop ≡ Some Stop.Writing → WritesFront mode bytes.now (K.written out.old)
@@ -184,7 +269,7 @@ fn after_bytes<K: Sink>(alloc: Global, mode: Mode, bytes: &[u8], out: &mut K) ->
     ensures others { IsByBytes bytes.now result.stop }
     ensures nothing { IsTrue (is_before_writing result.stop) → (out.new ≡ out.old) × (result.history ≡ []) }
 {
-    match made_of(alloc, mode, bytes) {
+    match made_of(rt, alloc, mode, bytes, gate) {
         Ok(made) => write(made, out),
         Err(stop) => stopped(alloc, stop),
     }
@@ -205,12 +290,15 @@ fn of_reading(end: ReadEnd) -> Stop
 }
 
 /// Reads the source to its end, and writes what a mode makes of the script that its bytes are.
-pub(crate) fn read_and_write<S: Source, K: Sink>(
+pub(crate) fn read_and_write<R: Threads + Wait + Sync, S: Source, K: Sink, G: Gate + Sync>(
+    rt: &R,
     alloc: Global,
     mode: Mode,
     source: &mut S,
     out: &mut K,
+    gate: &G,
 ) -> Outcome
+    requires { HasWorkers mode }
     // What is written.
     ensures wrote { result.stop ≡ None → Wrote mode (S.left source.old) (S.left source.new) (K.written out.old)
         (K.written out.new) result.history }
@@ -226,7 +314,7 @@ pub(crate) fn read_and_write<S: Source, K: Sink>(
     ensures taken { HasTaken (MOST_BYTES + 1) (S.left source.old) (S.left source.new) }
 {
     match read_all(alloc, source) {
-        Ok(bytes) => after_bytes(alloc, mode, &bytes, out),
+        Ok(bytes) => after_bytes(rt, alloc, mode, &bytes, out, gate),
         Err(end) => stopped(alloc, of_reading(end)),
     }
 }

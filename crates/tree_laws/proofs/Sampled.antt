@@ -74,6 +74,8 @@ small_valid = record {
   distinct_trees = one_apart;
   limited = small_limited;
   first_form = λ is. refl;
+  unfailed = λ is. refl;
+  failed = (tt, tt);
 }
 
 pub small_runnable : Runnable small
@@ -150,6 +152,8 @@ read_valid = record {
   distinct_trees = two_apart;
   limited = read_limited;
   first_form = λ is. refl;
+  unfailed = λ is. refl;
+  failed = (tt, (tt, tt));
 }
 
 pub read_runnable : Runnable with_read

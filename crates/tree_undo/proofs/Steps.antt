@@ -1,7 +1,8 @@
 -- One turn of each loop over the subtransactions.
-use Rattle.std.proofs.Common.{◌≡◌, ◌+◌, ◌<◌, ◌∙◌, ◌∷◌, ◌++◌, [], ℕ, suc, Bool, List, length, drop, get_or, sym, ap, arith, append_assoc, add-one, drop-cons, length-append, ◌≤◌}
+use Rattle.std.proofs.Common.{◌≡◌, ◌+◌, ◌<◌, ◌∙◌, ◌∷◌, ◌++◌, [], ℕ, suc, Bool, List, length, drop, get_or, sym, ap, arith, append_assoc, add-one, drop-cons, ◌≤◌}
 use Rattle.tx_trees.specs.declared.parts.Sub.{Sub}
-use Rattle.tree_undo.specs.Undone.{goes_from, goes_next, inverses_from, staying_from, stays, undoes}
+use Rattle.tx_trees.proofs.UndoneTrees.{marks_len}
+use Rattle.tx_trees.specs.Undone.{goes_from, goes_next, inverses_from, staying_from, stays, undoes}
 
 -- the rest of a list, from one of its places on
 rest_is : (xs : List Sub) (i : ℕ) (x : Sub) → i < length xs → x ≡ get_or xs i x → drop i xs ≡ x ∷ drop (i + 1) xs
@@ -30,11 +31,6 @@ undid failed goes out new all xs i x lt here is so_far =
     ∙ append_assoc out (undoes failed goes i x) (inverses_from failed goes (i + 1) (drop (i + 1) xs))
     ∙ sym (ap (λ (y : List Sub). out ++ inverses_from failed goes i y) (rest_is xs i x lt here))
     ∙ so_far
-
--- as many marks as subtransactions
-pub marks_len : (failed : ℕ) (goes : List Bool) (xs : List Sub) → length (goes_from failed goes xs) ≡ length goes + length xs
-marks_len failed goes [] = omega arith
-marks_len failed goes (x ∷ xs) = omega (arith, marks_len failed (goes ++ goes_next failed goes x ∷ []) xs, length-append goes (goes_next failed goes x ∷ []))
 
 pub few_marks : (failed : ℕ) (goes marks : List Bool) (xs ss : List Sub) → goes ≡ marks → marks ≡ goes_from failed [] xs → xs ≡ ss → length ss ≤ 64 → length goes ≤ 64
 few_marks failed goes marks xs ss is made same few = omega (arith, ap length is, ap length made, marks_len failed [] xs, ap length same)

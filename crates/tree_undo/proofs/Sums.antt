@@ -11,7 +11,7 @@ use Rattle.tx_trees.specs.declared.parts.Deed.TheVariants as deeds
 use Rattle.tx_trees.specs.declared.parts.Sub.{Sub}
 use Rattle.tx_trees.specs.declared.parts.SubOp.{SubOp}
 use Rattle.tree_undo.specs.Balance.{added, ops_added, subs_added}
-use Rattle.tree_undo.specs.Undone.{goes_from, inverses_from, negated, negated_deed, new_number, staying_from, stays, undoes, undone}
+use Rattle.tx_trees.specs.Undone.{goes_from, inverses_from, negated, negated_deed, new_number, staying_from, stays, undoes, undone}
 
 -- an amount with the other sign takes back what the amount adds
 added_negated : (d : Deed) → added (negated_deed d) ≡ pos 0 -ℤ added d

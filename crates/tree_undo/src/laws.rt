@@ -5,7 +5,7 @@ ghost use Rattle.tx_trees.specs.declared.parts.ItemRow.{ItemRow};
 ghost use Rattle.tx_trees.specs.declared.parts.Sub.{Sub};
 ghost use Rattle.tx_trees.specs.declared.parts.TreeKind.TheVariants.{Update};
 ghost use Rattle.tree_undo.specs.Balance.{subs_added};
-ghost use Rattle.tree_undo.specs.Undone.{undone};
+ghost use Rattle.tx_trees.specs.Undone.{undone};
 
 /// What the subtransactions of an undone tree add to an item adds up to nothing.
 pub fn an_undone_tree_adds_up_to_nothing()

@@ -1,6 +1,6 @@
 // Which subtransactions go with the failed one, and the new numbers of those that stay.
 ghost use Rattle.std.specs.Prelude.{◌≡◌, ◌≤◌, ◌==◌, ◌&&◌, not, IfOk, [], false, get_or, length, take, count_by};
-ghost use Rattle.tree_undo.specs.Undone.{goes_from, goes_next, is_undone, new_number};
+ghost use Rattle.tx_trees.specs.Undone.{goes_from, goes_next, is_undone, new_number};
 
 use std::alloc::Global;
 use tv_base::{NoMemory, SubNo};

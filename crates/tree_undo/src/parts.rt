@@ -3,7 +3,7 @@ ghost use Rattle.std.specs.Prelude.{◌≡◌, ◌≤◌, ◌==◌, if◌then◌
 ghost use Rattle.std.specs.List.{AllByRecursion};
 ghost use Rattle.commute_ops.specs.declared.kinds.TheConstants.{MOST_AMOUNT};
 ghost use Rattle.tx_trees.specs.Amounts.{magnitude, op_magnitude};
-ghost use Rattle.tree_undo.specs.Undone.{inverse, negated, negated_deed, negated_op, staying};
+ghost use Rattle.tx_trees.specs.Undone.{inverse, negated, negated_deed, negated_op, staying};
 
 use crate::marks::new_number;
 use commute_ops::Op;

@@ -3,7 +3,7 @@ ghost use Rattle.std.specs.Prelude.{◌≡◌, ◌≤◌, ◌<◌, ◌++◌, OnO
 ghost use Rattle.std.specs.List.{AllByRecursion};
 ghost use Rattle.commute_ops.specs.declared.kinds.TheConstants.{MOST_AMOUNT};
 ghost use Rattle.tx_trees.specs.Amounts.{magnitude};
-ghost use Rattle.tree_undo.specs.Undone.{inverses_from, staying_from, stays, undoes, undone};
+ghost use Rattle.tx_trees.specs.Undone.{inverses_from, staying_from, stays, undoes, undone};
 
 use crate::marks::{goes_at, is_undone, marks};
 use crate::parts::{inverse, staying};

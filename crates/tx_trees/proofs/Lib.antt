@@ -7,4 +7,7 @@ pub mod Stays
 pub mod Kept
 pub mod SubsOf
 pub mod Passes
+pub mod UndoneTrees
+pub mod Undoing
+pub mod Loading
 pub mod Rebuilding

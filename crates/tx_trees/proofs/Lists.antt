@@ -54,6 +54,10 @@ pub all-seam : {A : Type 0} (P : A → Type 0) (xs ys : List A) (y : A) → AllB
 all-seam P [] ys y h = h.0
 all-seam P (x ∷ xs) ys y h = all-seam P xs ys y h.1
 
+pub all-before : {A : Type 0} (P : A → Type 0) (xs ys : List A) → AllByRecursion P (xs ++ ys) → AllByRecursion P xs
+all-before P [] ys h = tt
+all-before P (x ∷ xs) ys h = (h.0, all-before P xs ys h.1)
+
 pub all-weaker : {A : Type 0} (P Q : A → Type 0) → ((x : A) → P x → Q x) → (xs : List A) → AllByRecursion P xs → AllByRecursion Q xs
 all-weaker P Q f [] h = tt
 all-weaker P Q f (x ∷ xs) h = (f x h.0, all-weaker P Q f xs h.1)
@@ -78,6 +82,20 @@ last_of-seam [] x = refl
 last_of-seam (y ∷ []) x = refl
 last_of-seam (y ∷ z ∷ zs) x = last_of-seam (z ∷ zs) x
 
+pub last_of-on_last : {A : Type 0} (f : A → A) (xs : List A) (x : A) → last_of xs ≡ Some x → last_of (on_last f xs) ≡ Some (f x)
+last_of-on_last f [] x e = absurd cc
+last_of-on_last f (y ∷ []) x e = let is : y ≡ x = cc in ap (λ (z : _). Some (f z)) is
+last_of-on_last f (y ∷ z ∷ []) x e = last_of-on_last f (z ∷ []) x e
+last_of-on_last f (y ∷ z ∷ w ∷ ws) x e = last_of-on_last f (z ∷ w ∷ ws) x e
+
+-- the last of some, and those before it
+pub split_last : {A : Type 0} (xs : List A) → 0 < length xs → (front : List A) × (x : A) × (xs ≡ front ++ x ∷ [])
+split_last [] some = absurd (omega arith)
+split_last (x ∷ []) some = ([], x, refl)
+split_last (x ∷ y ∷ ys) some =
+    let more = split_last (y ∷ ys) (omega arith) in
+    (x ∷ more.0, more.1, ap (λ (r : List _). x ∷ r) more.2)
+
 pub on_last-seam : {A : Type 0} (f : A → A) (xs : List A) (x : A) → on_last f (xs ++ x ∷ []) ≡ xs ++ f x ∷ []
 on_last-seam f [] x = refl
 on_last-seam f (y ∷ []) x = refl
@@ -93,6 +111,11 @@ module _ {K : Type 0} (e : K → K → Bool) where
     all-push (λ (z : K). e y z ≡ false) ys x d.0 (flips y x ∙ or_left (e x y) (list_any (e x) ys) absent),
     distinct-push flips ys x d.1 (or_right (e x y) (list_any (e x) ys) absent),
   )
+
+  pub distinct-before : (xs ys : List K) → IsDistinct e (xs ++ ys) → IsDistinct e xs
+  unfolding IsDistinct
+  distinct-before [] ys d = tt
+  distinct-before (x ∷ xs) ys d = (all-before (λ (z : K). e x z ≡ false) xs ys d.0, distinct-before xs ys d.1)
 
   -- none of those before it is the same
   pub distinct-front : (flips : (x y : K) → e x y ≡ e y x) (xs ys : List K) (x : K) → IsDistinct e (xs ++ x ∷ ys) → list_any (e x) xs ≡ false
@@ -113,6 +136,19 @@ sum-append m M h (x ∷ xs) ys = omega (arith, h.one_more x (xs ++ ys), h.one_mo
 
 pub sum-push : {A : Type 0} (m : A → ℕ) (M : List A → ℕ) → IsSum m M → (xs : List A) (x : A) → M (xs ++ x ∷ []) ≡ M xs + m x
 sum-push m M h xs x = omega (arith, sum-append m M h xs (x ∷ []), h.one_more x [], h.none)
+
+pub sum-replaced : {A : Type 0} (m : A → ℕ) (M : List A → ℕ) → IsSum m M → (f : A → A) (xs : List A) (x : A) → last_of xs ≡ Some x → M (on_last f xs) + m x ≡ M xs + m (f x)
+sum-replaced m M h f [] x e = absurd cc
+sum-replaced m M h f (y ∷ []) x e =
+    let is : y ≡ x = cc in
+    omega (arith, h.one_more (f y) [], h.one_more y [], ap m is, ap (λ (z : _). m (f z)) is)
+sum-replaced m M h f (y ∷ z ∷ zs) x e = omega (arith, h.one_more y (on_last f (z ∷ zs)), h.one_more y (z ∷ zs), sum-replaced m M h f (z ∷ zs) x e)
+
+-- the last weighs no more than all
+pub last_weight : {A : Type 0} (m : A → ℕ) (M : List A → ℕ) → IsSum m M → (xs : List A) (x : A) → last_of xs ≡ Some x → m x ≤ M xs
+last_weight m M h [] x e = absurd cc
+last_weight m M h (y ∷ []) x e = let is : y ≡ x = cc in omega (arith, h.one_more y [], ap m is)
+last_weight m M h (y ∷ z ∷ zs) x e = omega (arith, h.one_more y (z ∷ zs), last_weight m M h (z ∷ zs) x e)
 
 pub sum-on_last : {A : Type 0} (m : A → ℕ) (M : List A → ℕ) → IsSum m M → (f : A → A) (d : ℕ) (xs : List A) → 0 < length xs
     → ((x : A) → last_of xs ≡ Some x → m (f x) ≡ m x + d) → M (on_last f xs) ≡ M xs + d

@@ -13,15 +13,15 @@ use Rattle.commute_ops.specs.declared.kinds.Kind.{Kind}
 use Rattle.commute_ops.specs.declared.kinds.Kind.TheVariants as kinds
 use Rattle.commute_ops.specs.declared.kinds.TheConstants.{MOST_AMOUNT}
 use Rattle.tv_base.specs.declared.numbers.TreeNo.{TreeNo}
-use Rattle.tx_trees.specs.Adding.{adds_advance, adds_lose, fresh, has_touched, kind_at, last_count, last_kind, last_node, last_of, last_sub, last_subs, node_at, on_last, on_last_sub, place_of, push_op, push_sub, touch}
+use Rattle.tx_trees.specs.Adding.{adds_advance, adds_lose, are_crowded, failed_tree, fresh, is_heavy, may_fail, has_touched, kind_at, last_count, last_kind, last_node, last_of, last_sub, last_subs, node_at, on_last, on_last_sub, place_of, push_op, push_sub, touch}
 use Rattle.tx_trees.specs.Amounts.{magnitude}
 use Rattle.tx_trees.specs.Forms.{most_amount}
-use Rattle.tx_trees.specs.Counts.{advances_in, all_ops, all_subs, loses_in, if_update, one_put, one_strict, ops_in, strict_trees, trees_puts, update_subs}
+use Rattle.tx_trees.specs.Counts.{advances_in, all_ops, all_subs, loses_in, if_update, one_put, one_strict, ops_in, strict_trees, subs_ops, trees_puts, update_subs}
 use Rattle.tx_trees.specs.Passing.{MayAddItem, MayAddOp, MayAddSub, MayAddTree}
 use Rattle.tx_trees.specs.Ranges.{draws_negative, is_in_range, may_start}
-use Rattle.tx_trees.specs.Rebuilt.{RebuiltAs, items_added, name_at, ops_added, picks_added, rebuilt, rooted_added, row_added, rows_added, subs_added, then_more, tree_added}
+use Rattle.tx_trees.specs.Rebuilt.{RebuiltAs, fail_added, items_added, name_at, ops_added, picks_added, rebuilt, rooted_added, row_added, rows_added, subs_added, then_more, tree_added}
 use Rattle.tx_trees.specs.ScriptData.{ScriptData, is_strict}
-use Rattle.tx_trees.specs.Valid.{AreSubs, IsItem, IsOp, IsSub, IsTree, IsValid, NamesInOrder, OpAt, deed_fits, initial_load, item_names, items_of, load, tree_names, trees_load}
+use Rattle.tx_trees.specs.Valid.{AreSubs, IsItem, IsOp, IsSub, HasFailed, IsTree, IsValid, MayAllHaveFailed, MayHaveFailed, NamesInOrder, OpAt, as_written, deed_fits, initial_load, item_names, items_of, load, subs_load, tree_names, trees_load}
 use Rattle.tx_trees.specs.declared.parts.Deed.{Deed}
 use Rattle.tx_trees.specs.declared.parts.Form.{Form}
 use Rattle.tx_trees.specs.declared.parts.Form.TheVariants as forms
@@ -33,12 +33,14 @@ use Rattle.tx_trees.specs.declared.parts.SubOp.{SubOp}
 use Rattle.tx_trees.specs.declared.parts.Tree.{Tree}
 use Rattle.tx_trees.specs.declared.parts.TreeKind.{TreeKind}
 use Rattle.tx_trees.specs.declared.parts.TreeKind.TheVariants as trees
+use Rattle.tx_trees.specs.declared.parts.Written.{Written}
 use Rattle.tx_trees.specs.declared.why.Why.{Why}
 use Rattle.tx_trees.proofs.Last.{last_count_is, last_kind_is, last_node_is, last_sub_is, last_subs_is}
-use Rattle.tx_trees.proofs.Lists.{all-seam, distinct-front, last_of-seam, le_not, lt_not, on_last-seam, or_left, or_right, slice_get-seam, sum-append, sum-push}
+use Rattle.tx_trees.proofs.Lists.{all-before, all-push, all-seam, distinct-before, distinct-front, last_of-seam, le_not, lt_not, on_last-seam, or_left, or_right, slice_get-seam, sum-append, sum-push}
 use Rattle.tx_trees.proofs.Named.{any-map, has_item, has_tree}
-use Rattle.tx_trees.proofs.Passes.{item_passes, op_passes, sub_passes, tree_passes}
-use Rattle.tx_trees.proofs.Stays.{op_within}
+use Rattle.tx_trees.proofs.Undoing.{crowded_not, last_may_fail_is, may_fail_is, none_any}
+use Rattle.tx_trees.proofs.Passes.{fail_passes, item_passes, op_passes, sub_passes, tree_passes}
+use Rattle.tx_trees.proofs.Stays.{failed-front, failed-push, failed-seam, last_written_is, op_within}
 use Rattle.tx_trees.proofs.Totals.{all_subs-sum, load_same, load_total, op_load, op_put, op_total, put_same, put_total, strict-sum, total-part, update-sum}
 
 -- what is taken goes on
@@ -150,7 +152,7 @@ ops-append (x ∷ xs) ys = ap (λ (os : List SubOp). x.ops ++ os) (ops-append xs
 
 -- a tree, by its parts
 abbrev tree_of : List ℕ → TreeKind → List Sub → Tree
-tree_of name kind subs = record { name = name; kind = kind; subs = subs }
+tree_of name kind subs = record { name = name; kind = kind; subs = subs; written = None }
 
 -- a subtransaction with so many of its operations
 abbrev cut : Sub → List SubOp → Sub
@@ -366,6 +368,26 @@ no_more : {A : Type 0} (xs ys : List A) → length xs ≡ length (xs ++ ys) → 
 no_more xs [] e = sym (append-nil xs)
 no_more xs (y ∷ ys) e = absurd (omega (arith, length-append xs (y ∷ ys)))
 
+-- the rows of n trees, from number k on
+abbrev numbered : ℕ → ℕ → List ScriptRow
+numbered k zero = []
+numbered k (suc n) = rows.Tree (record { 0 = k }) ∷ numbered (k + 1) n
+
+numbered_names : (k n : ℕ) → NamesInOrder k (k + n) (numbered k n)
+numbered_names k zero = omega arith
+numbered_names k (suc n) =
+    let same : k + 1 + n ≡ k + suc n = omega arith in
+    (refl, subst (λ (m : ℕ). NamesInOrder (k + 1) m (numbered (k + 1) n)) same (numbered_names (k + 1) n))
+
+numbered_plain : (k n : ℕ) → (advances_in (numbered k n) ≡ 0) × (loses_in (numbered k n) ≡ 0)
+numbered_plain k zero = (refl, refl)
+numbered_plain k (suc n) = let rest = numbered_plain (k + 1) n in (omega arith, omega arith)
+
+-- a tree by its parts and what it was written as
+abbrev tree_as : ScriptData → List ℕ → TreeKind → List Sub → Option Written → Result ScriptData Why
+tree_as s name kind subs w =
+    then_more (rooted_added s name kind (elim w [ None ↦ subs | Some v ↦ v.subs ])) (λ u. fail_added u w)
+
 module _ (s : ScriptData) (h : IsValid s) where
   advance_taken : (T : List Tree) (R rest : List ScriptRow) (b : Bool) → R ++ rows.Advance ∷ rest ≡ s.rows → adds_advance (with_rows s T R b) ≡ Ok (with_rows s T (R ++ rows.Advance ∷ []) false)
   advance_taken T R rest b e =
@@ -379,19 +401,123 @@ module _ (s : ScriptData) (h : IsValid s) where
       let few : nat_le 100 (loses_in R) ≡ false = le_not 100 (loses_in R) (omega (arith, h.limited.loses)) in
       rw few refl
 
+  -- the script with the first of its trees alone, the last of them as it was before it failed
+  before_failing : (T Ts : List Tree) (t : Tree) (w : Written) → T ++ t ∷ Ts ≡ s.trees → HasFailed s.form s.nodes s.items T t w
+      → IsValid (with_rows s (T ++ as_written t w ∷ []) (numbered 0 (length (T ++ as_written t w ∷ []))) true)
+  before_failing T Ts t w e f =
+      let u : Tree = as_written t w in
+      let ts : List Tree = T ++ u ∷ [] in
+      let n = length ts in
+      let len : n ≡ length T + 1 = omega (arith, length-append T (u ∷ [])) in
+      let all : length s.trees ≡ length T + suc (length Ts) = ap length (sym e) ∙ omega (arith, length-append T (t ∷ Ts)) in
+      let every = subst (AllByRecursion (IsTree s.nodes s.items)) (sym e) h.trees in
+      let names : tree_names s.trees ≡ tree_names ts ++ tree_names Ts =
+      ap tree_names (sym e)
+      ∙ map-append (λ (v : Tree). v.name) T (t ∷ Ts)
+      ∙ sym (ap (λ (ns : List (List ℕ)). ns ++ tree_names Ts) (map-append (λ (v : Tree). v.name) T (u ∷ [])) ∙ append_assoc (tree_names T) (t.name ∷ []) (tree_names Ts)) in
+      let strict : strict_trees s.trees ≡ strict_trees T + (one_strict t.kind + strict_trees Ts) = ap strict_trees (sym e) ∙ sum-append (λ (v : Tree). one_strict v.kind) strict_trees strict-sum T (t ∷ Ts) in
+      let strict_now = sum-push (λ (v : Tree). one_strict v.kind) strict_trees strict-sum T u in
+      let places = mul-le s.nodes n s.nodes (length s.trees) (omega arith) (omega arith) in
+      let zero_first : 0 + n ≡ n = omega arith in
+      record {
+        some_nodes = h.some_nodes;
+        few_nodes = h.few_nodes;
+        few_items = h.few_items;
+        few_trees = omega (arith, h.few_trees);
+        items = h.items;
+        trees = all-push (IsTree s.nodes s.items) T u (all-before (IsTree s.nodes s.items) T (t ∷ Ts) every) f.tree;
+        loads = f.within.loads;
+        rows = subst (λ (m : ℕ). NamesInOrder 0 m (numbered 0 n)) zero_first (numbered_names 0 n);
+        begun = λ _. omega arith;
+        distinct_items = h.distinct_items;
+        distinct_trees = distinct-before bytes_eq (tree_names ts) (tree_names Ts) (subst (IsDistinct bytes_eq) names h.distinct_trees);
+        limited = record {
+          subs = f.within.subs;
+          ops = f.within.ops;
+          puts = f.within.puts;
+          advances = omega (arith, numbered_plain 0 n);
+          loses = omega (arith, numbered_plain 0 n);
+          strict = omega (arith, h.limited.strict);
+          pairs = f.within.pairs;
+          places = omega (arith, places, h.limited.places);
+        };
+        first_form = λ _. (numbered_plain 0 n).1;
+        unfailed = λ _. last_written_is ts u (last_of-seam T u);
+        failed = failed-push s.form s.nodes s.items [] T u (failed-front s.form s.nodes s.items [] T (t ∷ Ts) (subst (MayAllHaveFailed s.form s.nodes s.items []) (sym e) h.failed)) tt;
+      }
+
+  -- so many trees pass no limit
+  uncrowded : (T Ts : List Tree) (t : Tree) → T ++ t ∷ Ts ≡ s.trees → are_crowded (T ++ t ∷ []) ≡ false
+  uncrowded T Ts t e =
+      let ts : List Tree = T ++ t ∷ [] in
+      let count = last_subs_is ts t (last_of-seam T t) in
+      let subs : all_subs s.trees ≡ all_subs T + (length t.subs + all_subs Ts) = ap all_subs (sym e) ∙ sum-append (λ (v : Tree). length v.subs) all_subs all_subs-sum T (t ∷ Ts) in
+      let subs_now = sum-push (λ (v : Tree). length v.subs) all_subs all_subs-sum T t in
+      let ops : all_ops s.trees ≡ all_ops T + (subs_ops t.subs + all_ops Ts) = ap all_ops (sym e) ∙ sum-append (λ (v : Tree). subs_ops v.subs) all_ops op_total.trees T (t ∷ Ts) in
+      let ops_now = sum-push (λ (v : Tree). subs_ops v.subs) all_ops op_total.trees T t in
+      let strict : strict_trees s.trees ≡ strict_trees T + (one_strict t.kind + strict_trees Ts) = ap strict_trees (sym e) ∙ sum-append (λ (v : Tree). one_strict v.kind) strict_trees strict-sum T (t ∷ Ts) in
+      let strict_now = sum-push (λ (v : Tree). one_strict v.kind) strict_trees strict-sum T t in
+      let updates : update_subs s.trees ≡ update_subs T + (if_update t.kind (length t.subs) + update_subs Ts) =
+      ap update_subs (sym e) ∙ sum-append (λ (v : Tree). if_update v.kind (length v.subs)) update_subs update-sum T (t ∷ Ts) in
+      let updates_now = sum-push (λ (v : Tree). if_update v.kind (length v.subs)) update_subs update-sum T t in
+      let pairs = mul-le (strict_trees ts) (update_subs ts) (strict_trees s.trees) (update_subs s.trees) (omega arith) (omega arith) in
+      crowded_not ts (omega (arith, (tree_here s h T Ts t e).few)) (omega (arith, h.limited.subs)) (omega (arith, h.limited.ops)) (omega (arith, pairs, h.limited.pairs))
+
+  -- so many trees are not too heavy
+  unheavy : (T Ts : List Tree) (t : Tree) (rs : List ScriptRow) (b : Bool) → T ++ t ∷ Ts ≡ s.trees → is_heavy (with_rows s (T ++ t ∷ []) rs b) ≡ false
+  unheavy T Ts t rs b e = none_any (λ (x : ℕ). nat_lt (most_amount s.form) (load x (with_rows s (T ++ t ∷ []) rs b))) 0 (length s.items) (λ x from lt.
+      let all : trees_load x s.trees ≡ trees_load x T + (subs_load x t.subs + trees_load x Ts) = ap (trees_load x) (sym e) ∙ sum-append (λ (v : Tree). subs_load x v.subs) (trees_load x) (load_total x).trees T (t ∷ Ts) in
+      let now = sum-push (λ (v : Tree). subs_load x v.subs) (trees_load x) (load_total x).trees T t in
+      lt_not (most_amount s.form) (load x (with_rows s (T ++ t ∷ []) rs b)) (omega (arith, h.loads x (omega arith))))
+
+  -- a tree that was written as w
+  written_done : (T Ts : List Tree) (t : Tree) (rs : List ScriptRow) (b : Bool) (w : Option Written) → t.written ≡ w → T ++ t ∷ Ts ≡ s.trees → MayHaveFailed s.form s.nodes s.items T t w
+      → (c : Bool) × (tree_as (with_rows s T rs b) t.name t.kind t.subs w ≡ Ok (with_rows s (T ++ t ∷ []) (rs ++ rows.Tree (record { 0 = length T }) ∷ []) c))
+  written_done T Ts t rs b None is e f =
+      let after : List ScriptRow = rs ++ rows.Tree (record { 0 = length T }) ∷ [] in
+      let same : tree_of t.name t.kind t.subs ≡ t = ap (λ (w : Option Written). let v : Tree = record { name = t.name; kind = t.kind; subs = t.subs; written = w } in v) (sym is) in
+      let here : T ++ tree_of t.name t.kind t.subs ∷ Ts ≡ s.trees = ap (λ (v : Tree). T ++ v ∷ Ts) same ∙ e in (
+        true,
+        taken _ _ (λ u. fail_added u None) (rooted_done s h T Ts t.name t.kind t.subs rs b here)
+            ∙ ap (λ (v : Tree). Ok (with_rows s (T ++ v ∷ []) after true)) same,
+      )
+  written_done T Ts t rs b (Some w) is e f =
+      let after : List ScriptRow = rs ++ rows.Tree (record { 0 = length T }) ∷ [] in
+      let u : Tree = as_written t w in
+      let k = w.failed.0 in
+      let ts : List Tree = T ++ u ∷ [] in
+      let then : ScriptData = with_rows s ts (numbered 0 (length ts)) true in
+      let st : ScriptData = with_rows s ts after true in
+      let undone_now : failed_tree k u ≡ t =
+      ap (λ (ss : List Sub). let v : Tree = record { name = t.name; kind = t.kind; subs = ss; written = Some w } in v) (sym f.subs)
+      ∙ ap (λ (x : Option Written). let v : Tree = record { name = t.name; kind = t.kind; subs = t.subs; written = x } in v) (sym is) in
+      let changed : on_last (failed_tree k) ts ≡ T ++ t ∷ [] = on_last-seam (failed_tree k) T u ∙ ap (λ (v : Tree). T ++ v ∷ []) undone_now in
+      let last = last_of-seam T u in
+      let may : may_fail u ≡ true = may_fail_is u f.update f.adds in
+      let passes = fail_passes st k refl (omega (arith, f.failed, last_subs_is ts u last)) (last_may_fail_is ts u last ∙ may)
+      (ap are_crowded changed ∙ uncrowded T Ts t e) (ap (λ (x : List Tree). is_heavy (with_rows s x after false)) changed ∙ unheavy T Ts t after false e) in (
+        false,
+        taken _ _ (λ v. fail_added v (Some w)) (rooted_done then (before_failing T Ts t w e f) T [] t.name t.kind w.subs rs b refl)
+            ∙ passes
+            ∙ ap (λ (x : List Tree). Ok (with_rows s x after false)) changed,
+      )
+
   tree_taken : (T Ts : List Tree) (R : List ScriptRow) (b : Bool) (n : TreeNo) → T ++ Ts ≡ s.trees → n.0 ≡ length T → length T < length s.trees
-      → (t : Tree) × (us : List Tree) × ((Ts ≡ t ∷ us) × (row_added s.trees (with_rows s T R b) (rows.Tree n) ≡ Ok (with_rows s (T ++ t ∷ []) (R ++ rows.Tree n ∷ []) true)))
+      → (t : Tree) × (us : List Tree) × (c : Bool) × ((Ts ≡ t ∷ us) × (row_added s.trees (with_rows s T R b) (rows.Tree n) ≡ Ok (with_rows s (T ++ t ∷ []) (R ++ rows.Tree n ∷ []) c)))
   tree_taken T [] R b n e at more = absurd (omega (arith, ap length e, length-append T []))
   tree_taken T (t ∷ us) R b n e at more =
       let here : slice_get s.trees n.0 ≡ Some t = ap (slice_get s.trees) at ∙ ap (λ (ts : List Tree). slice_get ts (length T)) (sym e) ∙ slice_get-seam T us t in
-      let number : rows.Tree (record { 0 = length T }) ≡ rows.Tree n = ap (λ (k : ℕ). let m : TreeNo = record { 0 = k } in rows.Tree m) (sym at) in (
+      let number : rows.Tree (record { 0 = length T }) ≡ rows.Tree n = ap (λ (k : ℕ). let m : TreeNo = record { 0 = k } in rows.Tree m) (sym at) in
+      let failed = failed-seam s.form s.nodes s.items [] T us t (subst (MayAllHaveFailed s.form s.nodes s.items []) (sym e) h.failed) in
+      let done = written_done T us t R b t.written refl e failed in (
         t,
         us,
+        done.0,
         (
           refl,
           ap (tree_added (with_rows s T R b)) here
-              ∙ rooted_done s h T us t.name t.kind t.subs R b e
-              ∙ ap (λ (r : ScriptRow). Ok (with_rows s (T ++ t ∷ []) (R ++ r ∷ []) true)) number,
+              ∙ done.1
+              ∙ ap (λ (r : ScriptRow). Ok (with_rows s (T ++ t ∷ []) (R ++ r ∷ []) done.0)) number,
         ),
       )
 
@@ -405,11 +531,11 @@ module _ (s : ScriptData) (h : IsValid s) where
       let step = tree_taken T Ts R b n e names.0 (omega (arith, names_end (length T + 1) (length s.trees) rest names.1)) in
       let t = step.0 in
       let us = step.1 in
-      let parts : T ++ t ∷ us ≡ s.trees = ap (λ (ts : List Tree). T ++ ts) (sym step.2.0) ∙ e in
+      let parts : T ++ t ∷ us ≡ s.trees = ap (λ (ts : List Tree). T ++ ts) (sym step.3.0) ∙ e in
       let len : length (T ++ t ∷ []) ≡ length T + 1 = omega (arith, length-append T (t ∷ [])) in
       let later : NamesInOrder (length (T ++ t ∷ [])) (length s.trees) rest = subst (λ (k : ℕ). NamesInOrder k (length s.trees) rest) (sym len) names.1 in
-      let more = rows_done (T ++ t ∷ []) us (R ++ rows.Tree n ∷ []) rest true (append_assoc T (t ∷ []) us ∙ parts) (append_assoc R (rows.Tree n ∷ []) rest ∙ f) later in
-      (more.0, taken _ _ (λ u. rows_added s.trees u rest) step.2.1 ∙ more.1)
+      let more = rows_done (T ++ t ∷ []) us (R ++ rows.Tree n ∷ []) rest step.2 (append_assoc T (t ∷ []) us ∙ parts) (append_assoc R (rows.Tree n ∷ []) rest ∙ f) later in
+      (more.0, taken _ _ (λ u. rows_added s.trees u rest) step.3.1 ∙ more.1)
   rows_done T Ts R (rows.Advance ∷ rest) b e f names =
       let more = rows_done T Ts (R ++ rows.Advance ∷ []) rest false e (append_assoc R (rows.Advance ∷ []) rest ∙ f) names in
       (more.0, taken _ _ (λ u. rows_added s.trees u rest) (advance_taken T R rest b f) ∙ more.1)

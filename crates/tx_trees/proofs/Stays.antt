@@ -20,7 +20,7 @@ use Rattle.tx_trees.specs.Forms.{most_amount, most_nodes}
 use Rattle.tx_trees.specs.Passing.{MayAddItem, MayAddOp, MayAddSub, MayAddTree}
 use Rattle.tx_trees.specs.Ranges.{draws_negative, is_in_range, may_start, starts_full}
 use Rattle.tx_trees.specs.ScriptData.{ScriptData, is_strict}
-use Rattle.tx_trees.specs.Valid.{AreSubs, IsItem, IsOp, IsSub, IsTree, IsValid, NamesInOrder, OpAt, deed_fits, initial_load, item_names, items_of, load, ops_load, subs_load, tree_names, trees_load}
+use Rattle.tx_trees.specs.Valid.{AreSubs, AreWithin, HasFailed, IsItem, IsOp, IsSub, IsTree, IsValid, MayAllHaveFailed, MayHaveFailed, NamesInOrder, as_written, last_written, OpAt, deed_fits, initial_load, item_names, items_of, load, ops_load, subs_load, tree_names, trees_load}
 use Rattle.tx_trees.specs.declared.parts.Deed.{Deed}
 use Rattle.tx_trees.specs.declared.parts.Form.{Form}
 use Rattle.tx_trees.specs.declared.parts.Form.TheVariants as forms
@@ -32,8 +32,9 @@ use Rattle.tx_trees.specs.declared.parts.SubOp.{SubOp}
 use Rattle.tx_trees.specs.declared.parts.Tree.{Tree}
 use Rattle.tx_trees.specs.declared.parts.TreeKind.{TreeKind}
 use Rattle.tx_trees.specs.declared.parts.TreeKind.TheVariants as trees
+use Rattle.tx_trees.specs.declared.parts.Written.{Written}
 use Rattle.tx_trees.proofs.Last.{last_count_is, last_kind_is, last_node_is, last_sub_is, last_subs_is, length-on_last}
-use Rattle.tx_trees.proofs.Lists.{all-last, all-on_last, all-push, all-weaker, distinct-push, last_some, not_le, not_lt, or_left, or_right, slice_get-old, slice_get-seam, sum-push}
+use Rattle.tx_trees.proofs.Lists.{all-last, all-on_last, all-push, all-weaker, distinct-push, last_of-on_last, last_of-seam, last_some, not_le, not_lt, on_last-seam, or_left, or_right, slice_get-old, slice_get-seam, split_last, sum-push}
 use Rattle.tx_trees.proofs.Named.{any-map, has_item, has_tree}
 use Rattle.tx_trees.proofs.Totals.{all_subs-sum, load_other, load_same, load_total, op_total, put_other, put_same, put_total, strict-op, strict-sub, strict-sum, subs-op, subs-sub, total-op, total-sub, total-tree, update-op, update-sub, update-sum}
 
@@ -87,6 +88,102 @@ trees_before nodes items (t ∷ ts) h =
     let here = subs_before nodes items t.kind 0 t.subs h.0.subs in
     let rest = trees_before nodes items ts h.1 in
     (omega arith, omega arith)
+
+-- trees that have failed
+
+abbrev Failing : Form → ℕ → List ItemRow → List Tree → List Tree → Type 0
+Failing form nodes items front ts = MayAllHaveFailed form nodes items front ts
+
+within-item : (form : Form) (nodes : ℕ) (items : List ItemRow) (r : ItemRow) (ts : List Tree) → AllByRecursion (IsTree nodes items) ts → unsigned_abs r.initial ≤ most_amount form
+    → AreWithin form items ts → AreWithin form (items ++ r ∷ []) ts
+within-item form nodes items r ts all small h =
+    let more : length (items ++ r ∷ []) ≡ length items + 1 = omega (arith, length-append items (r ∷ [])) in
+    let idle = trees_before nodes items ts all in
+    let fresh : initial_load (slice_get (items ++ r ∷ []) (length items)) ≡ unsigned_abs r.initial = ap initial_load (slice_get-seam items [] r) in
+    record {
+      subs = h.subs;
+      ops = h.ops;
+      puts = λ x lt. elim (cases_lt x (length items)) [
+        | inl below ↦ h.puts x below
+        | inr over ↦ let e : x ≡ length items = omega arith in rw e (omega (arith, idle.1))
+      ];
+      loads = λ x lt. elim (cases_lt x (length items)) [
+        | inl below ↦ omega (arith, h.loads x below, ap initial_load (slice_get-old items (r ∷ []) x below))
+        | inr over ↦ let e : x ≡ length items = omega arith in rw e (omega (arith, fresh, idle.0, small))
+      ];
+      pairs = h.pairs;
+    }
+
+failed-item : (form : Form) (nodes : ℕ) (items : List ItemRow) (r : ItemRow) (front ts : List Tree) → AllByRecursion (IsTree nodes items) front → AllByRecursion (IsTree nodes items) ts
+    → unsigned_abs r.initial ≤ most_amount form → Failing form nodes items front ts → Failing form nodes (items ++ r ∷ []) front ts
+failed-item form nodes items r front [] all each small h = tt
+failed-item form nodes items r front (t ∷ ts) all each small h = (
+  by t.written h.0,
+  failed-item form nodes items r (front ++ t ∷ []) ts (all-push (IsTree nodes items) front t all each.0) each.1 small h.1,
+)
+  where
+    by : (w : Option Written) → MayHaveFailed form nodes items front t w → MayHaveFailed form nodes (items ++ r ∷ []) front t w
+    by None h = tt
+    by (Some w) h = record {
+      second = h.second;
+      update = h.update;
+      adds = h.adds;
+      failed = h.failed;
+      subs = h.subs;
+      tree = tree-more nodes items r (as_written t w) h.tree;
+      within = within-item form nodes items r (front ++ as_written t w ∷ []) (all-push (IsTree nodes items) front (as_written t w) all h.tree) small h.within;
+    }
+
+failed-second : (form : Form) (nodes : ℕ) (items : List ItemRow) (front ts : List Tree) → Failing form nodes items front ts → Failing forms.Two nodes items front ts
+failed-second form nodes items front [] h = tt
+failed-second form nodes items front (t ∷ ts) h = (by t.written h.0, failed-second form nodes items (front ++ t ∷ []) ts h.1)
+  where
+    by : (w : Option Written) → MayHaveFailed form nodes items front t w → MayHaveFailed forms.Two nodes items front t w
+    by None h = tt
+    by (Some w) h = subst (λ (f : Form). HasFailed f nodes items front t w) h.second h
+
+module _ (form : Form) (nodes : ℕ) (items : List ItemRow) where
+  pub failed-push : (front ts : List Tree) (t : Tree) → Failing form nodes items front ts → MayHaveFailed form nodes items (front ++ ts) t t.written → Failing form nodes items front (ts ++ t ∷ [])
+  failed-push front [] t h new = (subst (λ (f : List Tree). MayHaveFailed form nodes items f t t.written) (append-nil front) new, tt)
+  failed-push front (u ∷ us) t h new =
+      let regrouped = subst (λ (f : List Tree). MayHaveFailed form nodes items f t t.written) (sym (append_assoc front (u ∷ []) us)) new in
+      (h.0, failed-push (front ++ u ∷ []) us t h.1 regrouped)
+
+  pub failed-front : (front ts more : List Tree) → Failing form nodes items front (ts ++ more) → Failing form nodes items front ts
+  failed-front front [] more h = tt
+  failed-front front (t ∷ ts) more h = (h.0, failed-front (front ++ t ∷ []) ts more h.1)
+
+  pub failed-seam : (front ts more : List Tree) (t : Tree) → Failing form nodes items front (ts ++ t ∷ more) → MayHaveFailed form nodes items (front ++ ts) t t.written
+  failed-seam front [] more t h = subst (λ (f : List Tree). MayHaveFailed form nodes items f t t.written) (sym (append-nil front)) h.0
+  failed-seam front (u ∷ us) more t h =
+      subst (λ (f : List Tree). MayHaveFailed form nodes items f t t.written) (append_assoc front (u ∷ []) us) (failed-seam (front ++ u ∷ []) us more t h.1)
+
+pub last_written_is : (ts : List Tree) (t : Tree) → last_of ts ≡ Some t → last_written ts ≡ t.written
+last_written_is ts t e = rw (e, last_written) refl
+
+-- the last tree has changed, and what it was written as is what takes its place
+pub failed-last : (form : Form) (nodes : ℕ) (items : List ItemRow) (f : Tree → Tree) (ts front : List Tree) (t : Tree) → ts ≡ front ++ t ∷ [] → MayHaveFailed form nodes items front (f t) (f t).written
+    → Failing form nodes items [] ts → Failing form nodes items [] (on_last f ts)
+failed-last form nodes items f ts front t e new h =
+    let changed : on_last f ts ≡ front ++ f t ∷ [] = ap (on_last f) e ∙ on_last-seam f front t in
+    let before = failed-front form nodes items [] front (t ∷ []) (subst (Failing form nodes items []) e h) in
+    subst (Failing form nodes items []) (sym changed) (failed-push form nodes items [] front (f t) before new)
+
+-- the last tree hasn't failed, and doesn't by this change
+failed-on_last : (form : Form) (nodes : ℕ) (items : List ItemRow) (f : Tree → Tree) (ts : List Tree) → 0 < length ts → last_written ts ≡ None → ((t : Tree) → (f t).written ≡ t.written)
+    → Failing form nodes items [] ts → Failing form nodes items [] (on_last f ts)
+failed-on_last form nodes items f ts some unfailed same h =
+    let parts = split_last ts some in
+    let front = parts.0 in
+    let t = parts.1 in
+    let last : last_of ts ≡ Some t = ap last_of parts.2 ∙ last_of-seam front t in
+    let none : (f t).written ≡ None = same t ∙ sym (last_written_is ts t last) ∙ unfailed in
+    failed-last form nodes items f ts front t parts.2 (subst (MayHaveFailed form nodes items front (f t)) (sym none) tt) h
+
+unfailed-on_last : (f : Tree → Tree) (ts : List Tree) → 0 < length ts → last_written ts ≡ None → ((t : Tree) → (f t).written ≡ t.written) → last_written (on_last f ts) ≡ None
+unfailed-on_last f ts some unfailed same =
+    let last = last_some ts some in
+    last_written_is (on_last f ts) (f last.0) (last_of-on_last f ts last.0 last.1) ∙ same last.0 ∙ sym (last_written_is ts last.0 last.1) ∙ unfailed
 
 -- subtransactions and rows at the end
 
@@ -182,7 +279,7 @@ pub most_nodes-small : (f : Form) → most_nodes f ≤ 64
 most_nodes-small forms.One = omega arith
 most_nodes-small forms.Two = omega arith
 
-at_most : (m most : ℕ) (b : Bool) → (nat_le m most && b) ≡ true → m ≤ most
+pub at_most : (m most : ℕ) (b : Bool) → (nat_le m most && b) ≡ true → m ≤ most
 at_most m most b e = grind (arith, common_steps)
 
 and_so : (m most : ℕ) (b : Bool) → most ≤ MOST_AMOUNT → (nat_le m most && b) ≡ true → (nat_le m MOST_AMOUNT && b) ≡ true
@@ -235,6 +332,8 @@ valid_item s r may h =
         places = h.limited.places;
       };
       first_form = h.first_form;
+      unfailed = λ e. absurd cc;
+      failed = failed-item s.form s.nodes s.items r [] s.trees tt h.trees small h.failed;
     }
 
 -- one more tree, with its root alone
@@ -312,6 +411,8 @@ valid_tree s name kind node may h =
         places = rw len left.places;
       };
       first_form = λ e. omega (arith, h.first_form e, loses-push s.rows (rows.Tree (record { 0 = length s.trees })));
+      unfailed = λ _. last_written_is (s.trees ++ t ∷ []) t (last_of-seam s.trees t);
+      failed = failed-push s.form s.nodes s.items [] s.trees t h.failed tt;
     }
 
 -- one more subtransaction of the last tree
@@ -387,6 +488,8 @@ valid_sub s parent node may h =
         places = rw len h.limited.places;
       };
       first_form = h.first_form;
+      unfailed = λ _. unfailed-on_last (push_sub x) s.trees some (h.unfailed may.begun) (λ t. refl);
+      failed = failed-on_last s.form s.nodes s.items (push_sub x) s.trees some (h.unfailed may.begun) (λ t. refl) h.failed;
     }
 
 -- one more operation of the last subtransaction
@@ -507,6 +610,8 @@ valid_op s k deed may h =
         places = rw len h.limited.places;
       };
       first_form = h.first_form;
+      unfailed = λ _. unfailed-on_last (on_last_sub (push_op o)) s.trees some (h.unfailed may.begun) (λ t. refl);
+      failed = failed-on_last s.form s.nodes s.items (on_last_sub (push_op o)) s.trees some (h.unfailed may.begun) (λ t. refl) h.failed;
     }
 
 -- a row that isn't a tree's, and a pick
@@ -527,6 +632,8 @@ valid_row s r plain few few_loses first h = record {
   distinct_trees = h.distinct_trees;
   limited = record { subs = h.limited.subs; ops = h.limited.ops; puts = h.limited.puts; advances = few; loses = few_loses; strict = h.limited.strict; pairs = h.limited.pairs; places = h.limited.places };
   first_form = λ e. omega (arith, h.first_form e, first e, loses-push s.rows r);
+  unfailed = λ e. absurd cc;
+  failed = h.failed;
 }
 
 pub valid_pick : (s : ScriptData) (k : ℕ) → IsValid s → IsValid (record s { picks = s.picks ++ k ∷ []; begun = false })
@@ -553,6 +660,8 @@ valid_pick s k h = record {
     places = h.limited.places;
   };
   first_form = h.first_form;
+  unfailed = λ e. absurd cc;
+  failed = h.failed;
 }
 
 -- a script of the second form allows more
@@ -584,4 +693,6 @@ valid_upgraded s h = record {
     places = h.limited.places;
   };
   first_form = λ e. absurd (cc e);
+  unfailed = h.unfailed;
+  failed = failed-second s.form s.nodes s.items [] s.trees h.failed;
 }

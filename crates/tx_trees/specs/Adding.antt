@@ -1,18 +1,20 @@
 -- What a record adds to a script, and the conditions under which it is refused, in the order of their numbers.
-use Rattle.std.specs.Prelude.{ℕ, Bool, true, false, not, if◌then◌else◌, ◌≡◌, ◌+◌, ◌*◌, ◌==◌, ◌||◌, ◌&&◌, nat_le, nat_lt, List, [], ◌∷◌, ◌++◌, length, Option, Some, None, is_some, position, Result, Ok, Err, slice_get}
+use Rattle.std.specs.Prelude.{ℕ, suc, zero, Bool, true, false, not, if◌then◌else◌, ◌≡◌, ◌+◌, ◌*◌, ◌==◌, ◌||◌, ◌&&◌, nat_le, nat_lt, List, [], ◌∷◌, ◌++◌, length, Option, Some, None, is_some, position, Result, Ok, Err, slice_get}
 use Rattle.std.specs.List.{list_any}
 use Rattle.std.specs.Str.{bytes_eq}
 use Rattle.commute_ops.specs.declared.kinds.Kind.{Kind}
 use Rattle.commute_ops.specs.declared.kinds.Kind.TheVariants.{Sum as SumKind}
 use Rattle.tv_base.specs.declared.numbers.NodeNo.{NodeNo}
 pub use Rattle.tx_trees.specs.Counts.{advances_in, all_ops, all_subs, loses_in}
+pub use Rattle.tx_trees.specs.Valid.{last_of}
 use Rattle.tx_trees.specs.Amounts.{magnitude}
-use Rattle.tx_trees.specs.Counts.{if_update, one_put, one_strict, ops_in, strict_trees, trees_puts, update_subs}
+use Rattle.tx_trees.specs.Counts.{if_update, one_put, one_strict, ops_in, strict_trees, subs_ops, trees_puts, update_subs}
 use Rattle.tx_trees.specs.Forms.{most_amount}
 use Rattle.tx_trees.specs.Names.{is_name}
 use Rattle.tx_trees.specs.Ranges.{is_in_range, may_start}
-use Rattle.tx_trees.specs.ScriptData.{ScriptData, is_strict}
-use Rattle.tx_trees.specs.Valid.{deed_fits, load}
+use Rattle.tx_trees.specs.ScriptData.{ScriptData, is_strict, is_update}
+use Rattle.tx_trees.specs.Undone.{subs_add, undone}
+use Rattle.tx_trees.specs.Valid.{deed_fits, last_of, load}
 use Rattle.tx_trees.specs.declared.parts.Form.{Form}
 use Rattle.tx_trees.specs.declared.parts.Form.TheVariants as forms
 use Rattle.tx_trees.specs.declared.parts.ItemRow.{ItemRow}
@@ -24,6 +26,7 @@ use Rattle.tx_trees.specs.declared.parts.TreeKind.{TreeKind}
 use Rattle.tx_trees.specs.declared.parts.TreeKind.TheVariants as trees
 use Rattle.tx_trees.specs.declared.parts.ScriptRow.{ScriptRow}
 use Rattle.tx_trees.specs.declared.parts.ScriptRow.TheVariants as rows
+use Rattle.tx_trees.specs.declared.parts.Written.{Written}
 use Rattle.tx_trees.specs.declared.why.Why.{Why}
 use Rattle.tx_trees.specs.declared.why.Why.TheVariants as why
 use Rattle.tx_trees.specs.declared.why.Refusal.{Refusal}
@@ -64,7 +67,7 @@ adds_item s row =
 
 -- a tree with its root alone
 abbrev pub rooted : List ℕ → TreeKind → NodeNo → Tree
-rooted name kind node = record { name = name; kind = kind; subs = record { parent = record { 0 = 0 }; node = node; ops = [] } ∷ [] }
+rooted name kind node = record { name = name; kind = kind; subs = record { parent = record { 0 = 0 }; node = node; ops = [] } ∷ []; written = None }
 
 abbrev pub with_tree : ScriptData → List ℕ → TreeKind → NodeNo → ScriptData
 with_tree s name kind node = record s {
@@ -99,12 +102,6 @@ abbrev pub on_last : {A : Type 0} → (A → A) → List A → List A
 on_last f [] = []
 on_last f (x ∷ []) = f x ∷ []
 on_last f (x ∷ y ∷ ys) = x ∷ on_last f (y ∷ ys)
-
--- the last of a list
-abbrev pub last_of : {A : Type 0} → List A → Option A
-last_of [] = None
-last_of (x ∷ []) = Some x
-last_of (x ∷ y ∷ ys) = last_of (y ∷ ys)
 
 -- how many subtransactions the last tree has
 abbrev pub last_subs : List Tree → ℕ
@@ -187,6 +184,62 @@ adds_op_at s (Some k) deed =
 
 abbrev pub adds_op : ScriptData → List ℕ → Deed → Result ScriptData Why
 adds_op s name deed = if is_in_range s.form deed then adds_op_at s (place_of name s.items) deed else Err why.OutOfRange
+
+-- a tree may fail: it is an update tree, and all its operations are `add`
+abbrev pub may_fail : Tree → Bool
+may_fail t = is_update t.kind && subs_add t.subs
+
+-- the last tree may fail
+abbrev pub last_may_fail : List Tree → Bool
+last_may_fail ts = elim (last_of ts) [ None ↦ false | Some t ↦ may_fail t ]
+
+-- the subtransactions of the last tree
+abbrev pub last_tree_subs : List Tree → List Sub
+last_tree_subs ts = elim (last_of ts) [ None ↦ [] | Some t ↦ t.subs ]
+
+-- how many operations the last tree has
+abbrev pub last_ops : List Tree → ℕ
+last_ops ts = subs_ops (last_tree_subs ts)
+
+-- a tree of which subtransaction k fails: it is undone, and what it was written with is kept
+abbrev pub failed_tree : ℕ → Tree → Tree
+failed_tree k t = record {
+  name = t.name;
+  kind = t.kind;
+  subs = undone t.subs k;
+  written = Some (record { failed = record { 0 = k }; subs = t.subs });
+}
+
+abbrev pub with_failed : ScriptData → ℕ → ScriptData
+with_failed s k = record s { trees = on_last (failed_tree k) s.trees; begun = false }
+
+-- trees pass a limit, where the last one has changed
+abbrev pub are_crowded : List Tree → Bool
+are_crowded ts =
+    nat_lt 64 (last_subs ts) || nat_lt 100000 (all_subs ts) || nat_lt 200000 (all_ops ts) || are_many (strict_trees ts) (update_subs ts)
+
+-- one of n numbers from k on passes the test
+abbrev pub any_from : (ℕ → Bool) → ℕ → ℕ → Bool
+any_from p k zero = false
+any_from p k (suc n) = p k || any_from p (suc k) n
+
+-- an item's magnitudes are too great
+abbrev pub is_heavy : ScriptData → Bool
+is_heavy s = any_from (λ x. nat_lt (most_amount s.form) (load x s)) 0 (length s.items)
+
+-- the last tree, which may fail, is undone, subtransaction k having failed
+abbrev pub puts_undone : ScriptData → ℕ → Result ScriptData Why
+puts_undone s k =
+    judged ((are_crowded (with_failed s k).trees, why.TooMany)
+    ∷ (is_heavy (with_failed s k), why.TooMuch) ∷ []) (with_failed s k)
+
+abbrev pub adds_fail : ScriptData → ℕ → Result ScriptData Why
+adds_fail s k =
+    judged ((not s.begun, why.NoTree)
+    ∷ (nat_le (last_subs s.trees) k, why.BadParent)
+    ∷ (not (last_may_fail s.trees), why.WrongKind)
+    ∷ (are_crowded (with_failed s k).trees, why.TooMany)
+    ∷ (is_heavy (with_failed s k), why.TooMuch) ∷ []) (with_failed s k)
 
 -- a row that isn't a tree's
 abbrev pub with_row : ScriptData → ScriptRow → ScriptData

@@ -11,6 +11,7 @@ pub mod Rebuilt
 pub mod Same
 pub mod SameFacts
 pub mod ScriptData
+pub mod Undone
 pub mod Valid
 pub mod Why
 pub mod Built

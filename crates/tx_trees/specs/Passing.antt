@@ -1,7 +1,7 @@
 -- What a record that is taken meets: none of the conditions under which it is refused.
 use Rattle.std.specs.Prelude.{ℕ, true, false, ◌≡◌, ◌<◌, ◌+◌, ◌==◌, List, length, is_some, nat_le, nat_lt}
 use Rattle.tv_base.specs.declared.numbers.NodeNo.{NodeNo}
-use Rattle.tx_trees.specs.Adding.{has_no_op_left, has_no_sub_left, has_no_tree_left, has_touched, kind_at, last_kind, last_node, last_subs, names_tree, node_at, place_of}
+use Rattle.tx_trees.specs.Adding.{are_crowded, has_no_op_left, has_no_sub_left, has_no_tree_left, has_touched, is_heavy, kind_at, last_kind, last_may_fail, last_node, last_subs, names_tree, node_at, place_of, with_failed}
 use Rattle.tx_trees.specs.Amounts.{magnitude}
 use Rattle.tx_trees.specs.Forms.{most_amount}
 use Rattle.tx_trees.specs.Names.{is_name}
@@ -9,6 +9,7 @@ use Rattle.tx_trees.specs.Ranges.{is_in_range, may_start}
 use Rattle.tx_trees.specs.ScriptData.{ScriptData}
 use Rattle.tx_trees.specs.Valid.{deed_fits, load}
 use Rattle.tx_trees.specs.declared.parts.Deed.{Deed}
+use Rattle.tx_trees.specs.declared.parts.Form.TheVariants as forms
 use Rattle.tx_trees.specs.declared.parts.ItemRow.{ItemRow}
 use Rattle.tx_trees.specs.declared.parts.TreeKind.{TreeKind}
 
@@ -30,6 +31,14 @@ pub record MayAddSub (s : ScriptData) (parent : ℕ) (node : NodeNo) : Type 0 wh
   pub begun : s.begun ≡ true
   pub earlier : nat_le (last_subs s.trees) parent ≡ false
   pub room : has_no_sub_left s.trees ≡ false
+
+pub record MayFail (s : ScriptData) (k : ℕ) : Type 0 where
+  pub second : s.form ≡ forms.Two
+  pub begun : s.begun ≡ true
+  pub earlier : k < last_subs s.trees
+  pub adds : last_may_fail s.trees ≡ true
+  pub room : are_crowded (with_failed s k).trees ≡ false
+  pub light : is_heavy (with_failed s k) ≡ false
 
 pub record MayAddOp (s : ScriptData) (k : ℕ) (deed : Deed) : Type 0 where
   pub range : is_in_range s.form deed ≡ true

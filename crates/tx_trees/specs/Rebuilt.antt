@@ -1,7 +1,7 @@
 -- A script that is built again from its own rows: its form, its nodes, its items, each row, a tree's row with its whole tree, and
 -- its picks, in this order.
 use Rattle.std.specs.Prelude.{ℕ, ◌≡◌, List, [], ◌∷◌, Option, Some, None, Result, Ok, Err, slice_get}
-use Rattle.tx_trees.specs.Adding.{adds_advance, adds_item, adds_lose, adds_op, adds_pick, adds_settle, adds_sub, adds_tree, fresh}
+use Rattle.tx_trees.specs.Adding.{adds_advance, adds_fail, adds_item, adds_lose, adds_op, adds_pick, adds_settle, adds_sub, adds_tree, fresh}
 use Rattle.tx_trees.specs.ScriptData.{ScriptData}
 use Rattle.tx_trees.specs.declared.parts.ItemRow.{ItemRow}
 use Rattle.tx_trees.specs.declared.parts.ScriptRow.{ScriptRow}
@@ -10,6 +10,7 @@ use Rattle.tx_trees.specs.declared.parts.Sub.{Sub}
 use Rattle.tx_trees.specs.declared.parts.SubOp.{SubOp}
 use Rattle.tx_trees.specs.declared.parts.Tree.{Tree}
 use Rattle.tx_trees.specs.declared.parts.TreeKind.{TreeKind}
+use Rattle.tx_trees.specs.declared.parts.Written.{Written}
 use Rattle.tx_trees.specs.declared.why.Why.{Why}
 use Rattle.tx_trees.specs.declared.why.Why.TheVariants as why
 
@@ -41,9 +42,18 @@ rooted_added s name kind [] = Err why.NoTree
 rooted_added s name kind (x ∷ xs) =
     then_more (adds_tree s name kind x.node) (λ t. then_more (ops_added t x.ops) (λ u. subs_added u xs))
 
+-- what a tree is written with
+abbrev pub written_subs : Tree → List Sub
+written_subs t = elim t.written [ None ↦ t.subs | Some w ↦ w.subs ]
+
+-- the tree fails, where it was written as one that fails
+abbrev pub fail_added : ScriptData → Option Written → Result ScriptData Why
+fail_added s None = Ok s
+fail_added s (Some w) = adds_fail s w.failed.0
+
 abbrev pub tree_added : ScriptData → Option Tree → Result ScriptData Why
 tree_added s None = Err why.NoTree
-tree_added s (Some t) = rooted_added s t.name t.kind t.subs
+tree_added s (Some t) = then_more (rooted_added s t.name t.kind (written_subs t)) (λ u. fail_added u t.written)
 
 -- a row of a script that has these trees
 abbrev pub row_added : List Tree → ScriptData → ScriptRow → Result ScriptData Why

@@ -1,5 +1,5 @@
 -- When two scripts, and two of their parts, are equal.
-use Rattle.std.specs.Prelude.{Bool, true, false, ◌&&◌, ◌==◌, nat_eq}
+use Rattle.std.specs.Prelude.{Bool, true, false, ◌&&◌, ◌==◌, nat_eq, Option, Some, None}
 use Rattle.std.specs.Ordering.{int_eq}
 use Rattle.std.specs.Cmp.Lexicographic.{pointwise}
 use Rattle.std.specs.Str.{bytes_eq}
@@ -20,6 +20,7 @@ use Rattle.tx_trees.specs.declared.parts.SubOp.{SubOp}
 use Rattle.tx_trees.specs.declared.parts.Tree.{Tree}
 use Rattle.tx_trees.specs.declared.parts.TreeKind.{TreeKind}
 use Rattle.tx_trees.specs.declared.parts.TreeKind.TheVariants as trees
+use Rattle.tx_trees.specs.declared.parts.Written.{Written}
 
 abbrev pub same_form : Form → Form → Bool
 same_form forms.One forms.One = true
@@ -67,8 +68,17 @@ same_sub_op o p = o.item.0 == p.item.0 && same_deed o.deed p.deed
 abbrev pub same_sub : Sub → Sub → Bool
 same_sub x y = x.parent.0 == y.parent.0 && x.node.0 == y.node.0 && pointwise same_sub_op x.ops y.ops
 
+abbrev pub same_written_as : Written → Written → Bool
+same_written_as v w = v.failed.0 == w.failed.0 && pointwise same_sub v.subs w.subs
+
+abbrev pub same_written : Option Written → Option Written → Bool
+same_written (Some v) (Some w) = same_written_as v w
+same_written None None = true
+same_written _ _ = false
+
 abbrev pub same_tree : Tree → Tree → Bool
-same_tree t u = bytes_eq t.name u.name && same_tree_kind t.kind u.kind && pointwise same_sub t.subs u.subs
+same_tree t u =
+    bytes_eq t.name u.name && same_tree_kind t.kind u.kind && pointwise same_sub t.subs u.subs && same_written t.written u.written
 
 -- all but what the last record was
 abbrev pub same_script : ScriptData → ScriptData → Bool

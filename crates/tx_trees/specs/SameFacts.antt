@@ -1,6 +1,6 @@
 -- Two scripts that compare equal are the same, but for what their last record was.
 use Rattle.std.proofs.Common.{◌≡◌, ℕ, Bool, true, false, ℤ, List, refl, sym, ap, ◌∙◌, subst}
-use Rattle.std.specs.Prelude.{◌&&◌, ◌==◌, nat_eq}
+use Rattle.std.specs.Prelude.{◌&&◌, ◌==◌, nat_eq, Option, Some, None}
 use Rattle.std.specs.Ordering.{int_eq}
 use Rattle.std.specs.Bool.{Decides}
 use Rattle.std.specs.Cmp.{IsEquivalence, IsPartialEquivalence, partial_equiv_from_equiv}
@@ -13,7 +13,7 @@ use Rattle.commute_ops.specs.declared.kinds.Kind.TheVariants as kinds
 use Rattle.commute_ops.specs.declared.kinds.Op.{Op}
 use Rattle.commute_ops.specs.declared.kinds.Op.TheVariants as ops
 use Rattle.tx_trees.specs.Rebuilt.{SameScript}
-use Rattle.tx_trees.specs.Same.{same_deed, same_form, same_item, same_kind, same_op, same_row, same_script, same_sub, same_sub_op, same_tree, same_tree_kind}
+use Rattle.tx_trees.specs.Same.{same_deed, same_form, same_item, same_kind, same_op, same_row, same_script, same_sub, same_sub_op, same_tree, same_tree_kind, same_written, same_written_as}
 use Rattle.tx_trees.specs.ScriptData.{ScriptData}
 use Rattle.tx_trees.specs.declared.parts.Deed.{Deed}
 use Rattle.tx_trees.specs.declared.parts.Deed.TheVariants as deeds
@@ -27,6 +27,7 @@ use Rattle.tx_trees.specs.declared.parts.SubOp.{SubOp}
 use Rattle.tx_trees.specs.declared.parts.Tree.{Tree}
 use Rattle.tx_trees.specs.declared.parts.TreeKind.{TreeKind}
 use Rattle.tx_trees.specs.declared.parts.TreeKind.TheVariants as trees
+use Rattle.tx_trees.specs.declared.parts.Written.{Written}
 
 -- A comparison is exact where what compares equal is equal, and each value compares equal to itself.
 pub record IsExact {A : Type 0} (E : A → A → Bool) : Type 0 where
@@ -207,17 +208,44 @@ exact_sub = record {
   itself = λ x. and_both _ _ (and_both _ _ (exact_number.itself x.parent.0) (exact_number.itself x.node.0)) ((exact_list same_sub_op exact_sub_op).itself x.ops);
 }
 
+exact_written_as : IsExact same_written_as
+exact_written_as = record {
+  equal = λ v w e.
+      let failed = exact_number.equal v.failed.0 w.failed.0 (and_first _ _ e) in
+      let subs = (exact_list same_sub exact_sub).equal v.subs w.subs (and_second (v.failed.0 == w.failed.0) _ e) in
+      ap (λ (k : ℕ). let z : Written = record { failed = record { 0 = k }; subs = v.subs } in z) failed
+      ∙ ap (λ (ss : List Sub). let z : Written = record { failed = w.failed; subs = ss } in z) subs;
+  itself = λ v. and_both _ _ (exact_number.itself v.failed.0) ((exact_list same_sub exact_sub).itself v.subs);
+}
+
+exact_written : IsExact same_written
+exact_written = record { equal = equal; itself = itself }
+  where
+    equal : (a b : Option Written) → same_written a b ≡ true → a ≡ b
+    equal (Some v) (Some w) e = ap (λ (x : Written). Some x) (exact_written_as.equal v w e)
+    equal None None e = refl
+    equal (Some v) None e = absurd cc
+    equal None (Some w) e = absurd cc
+
+    itself : (a : Option Written) → same_written a a ≡ true
+    itself (Some v) = exact_written_as.itself v
+    itself None = refl
+
 exact_tree : IsExact same_tree
 exact_tree = record {
   equal = λ t u e.
       let front = bytes_eq t.name u.name && same_tree_kind t.kind u.kind in
-      let name = exact_name.equal t.name u.name (and_first _ _ (and_first front _ e)) in
-      let kind = exact_tree_kind.equal t.kind u.kind (and_second (bytes_eq t.name u.name) _ (and_first front _ e)) in
-      let subs = (exact_list same_sub exact_sub).equal t.subs u.subs (and_second front _ e) in
+      let most = front && pointwise same_sub t.subs u.subs in
+      let less = and_first most _ e in
+      let name = exact_name.equal t.name u.name (and_first _ _ (and_first front _ less)) in
+      let kind = exact_tree_kind.equal t.kind u.kind (and_second (bytes_eq t.name u.name) _ (and_first front _ less)) in
+      let subs = (exact_list same_sub exact_sub).equal t.subs u.subs (and_second front _ less) in
+      let written = exact_written.equal t.written u.written (and_second most _ e) in
       ap (λ (n : List ℕ). let z : Tree = record t { name = n } in z) name
-      ∙ ap (λ (k : TreeKind). let z : Tree = record { name = u.name; kind = k; subs = t.subs } in z) kind
-      ∙ ap (λ (ss : List Sub). let z : Tree = record { name = u.name; kind = u.kind; subs = ss } in z) subs;
-  itself = λ t. and_both _ _ (and_both _ _ (exact_name.itself t.name) (exact_tree_kind.itself t.kind)) ((exact_list same_sub exact_sub).itself t.subs);
+      ∙ ap (λ (k : TreeKind). let z : Tree = record { name = u.name; kind = k; subs = t.subs; written = t.written } in z) kind
+      ∙ ap (λ (ss : List Sub). let z : Tree = record { name = u.name; kind = u.kind; subs = ss; written = t.written } in z) subs
+      ∙ ap (λ (w : Option Written). let z : Tree = record { name = u.name; kind = u.kind; subs = u.subs; written = w } in z) written;
+  itself = λ t. and_both _ _ (and_both _ _ (and_both _ _ (exact_name.itself t.name) (exact_tree_kind.itself t.kind)) ((exact_list same_sub exact_sub).itself t.subs)) (exact_written.itself t.written);
 }
 
 -- two scripts compare equal exactly where they are the same
@@ -286,6 +314,9 @@ item_laws = exact_laws same_item exact_item
 
 pub sub_laws : IsPartialEquivalence same_sub
 sub_laws = exact_laws same_sub exact_sub
+
+pub written_laws : IsPartialEquivalence same_written_as
+written_laws = exact_laws same_written_as exact_written_as
 
 pub tree_laws : IsPartialEquivalence same_tree
 tree_laws = exact_laws same_tree exact_tree

@@ -1,5 +1,5 @@
 -- When a script is valid.
-use Rattle.std.specs.Prelude.{ℕ, Bool, true, false, if◌then◌else◌, ◌≡◌, ◌+◌, ◌<◌, ◌≤◌, ◌*◌, ◌==◌, IsTrue, List, [], ◌∷◌, length, map, nat_eq, Option, Some, None, slice_get, unsigned_abs}
+use Rattle.std.specs.Prelude.{ℕ, Bool, true, false, if◌then◌else◌, ◌≡◌, ◌+◌, ◌<◌, ◌≤◌, ◌*◌, ◌==◌, IsTrue, List, [], ◌∷◌, ◌++◌, length, map, nat_eq, Option, Some, None, slice_get, unsigned_abs}
 use Rattle.std.specs.List.{AllByRecursion, IsDistinct}
 use Rattle.std.specs.Str.{bytes_eq}
 use Rattle.commute_ops.specs.declared.kinds.Kind.{Kind}
@@ -13,6 +13,8 @@ use Rattle.tx_trees.specs.Forms.{most_amount, most_nodes}
 use Rattle.tx_trees.specs.Names.{is_name}
 use Rattle.tx_trees.specs.Ranges.{is_in_range}
 use Rattle.tx_trees.specs.ScriptData.{ScriptData}
+use Rattle.tx_trees.specs.Undone.{subs_add, undone}
+use Rattle.tx_trees.specs.declared.parts.Form.{Form}
 use Rattle.tx_trees.specs.declared.parts.Form.TheVariants as forms
 use Rattle.tx_trees.specs.declared.parts.ItemRow.{ItemRow}
 use Rattle.tx_trees.specs.declared.parts.Tree.{Tree}
@@ -24,6 +26,7 @@ use Rattle.tx_trees.specs.declared.parts.ScriptRow.{ScriptRow}
 use Rattle.tx_trees.specs.declared.parts.ScriptRow.TheVariants as rows
 use Rattle.tx_trees.specs.declared.parts.TreeKind.{TreeKind}
 use Rattle.tx_trees.specs.declared.parts.TreeKind.TheVariants as trees
+use Rattle.tx_trees.specs.declared.parts.Written.{Written}
 
 -- a commuting operation is of the item's kind
 abbrev pub op_fits : Kind → Op → Bool
@@ -130,6 +133,49 @@ pub record IsLimited (s : ScriptData) : Type 0 where
   pub pairs : strict_trees s.trees * update_subs s.trees ≤ 1000000
   pub places : s.nodes * length s.trees ≤ 320000
 
+-- a tree as it was before it failed
+abbrev pub as_written : Tree → Written → Tree
+as_written t w = record { name = t.name; kind = t.kind; subs = w.subs; written = None }
+
+-- trees pass no limit
+pub record AreWithin (form : Form) (items : List ItemRow) (ts : List Tree) : Type 0 where
+  pub subs : all_subs ts ≤ 100000
+  pub ops : all_ops ts ≤ 200000
+  pub puts : (x : ℕ) → x < length items → trees_puts x ts ≤ 64
+  pub loads : (x : ℕ) → x < length items → initial_load (slice_get items x) + trees_load x ts ≤ most_amount form
+  pub pairs : strict_trees ts * update_subs ts ≤ 1000000
+
+-- a tree behind these that was written as w and then failed: what was written is an update tree of `add` operations,
+-- which passed no limit when it stood behind them, and the tree is its undone form
+pub record HasFailed (form : Form) (nodes : ℕ) (items : List ItemRow) (front : List Tree) (t : Tree) (w : Written) : Type 0 where
+  pub second : form ≡ forms.Two
+  pub update : t.kind ≡ trees.Update
+  pub adds : IsTrue (subs_add w.subs)
+  pub failed : w.failed.0 < length w.subs
+  pub subs : t.subs ≡ undone w.subs w.failed.0
+  pub tree : IsTree nodes items (as_written t w)
+  pub within : AreWithin form items (front ++ as_written t w ∷ [])
+
+abbrev pub MayHaveFailed : Form → ℕ → List ItemRow → List Tree → Tree → Option Written → Type 0
+MayHaveFailed form nodes items front t None = Unit {0}
+MayHaveFailed form nodes items front t (Some w) = HasFailed form nodes items front t w
+
+-- each tree that was written otherwise, of those behind these, has failed
+abbrev pub MayAllHaveFailed : Form → ℕ → List ItemRow → List Tree → List Tree → Type 0
+MayAllHaveFailed form nodes items front [] = Unit {0}
+MayAllHaveFailed form nodes items front (t ∷ ts) =
+    MayHaveFailed form nodes items front t t.written × MayAllHaveFailed form nodes items (front ++ t ∷ []) ts
+
+-- the last of a list
+abbrev pub last_of : {A : Type 0} → List A → Option A
+last_of [] = None
+last_of (x ∷ []) = Some x
+last_of (x ∷ y ∷ ys) = last_of (y ∷ ys)
+
+-- what the last tree was written as, if it has failed
+abbrev pub last_written : List Tree → Option Written
+last_written ts = elim (last_of ts) [ None ↦ None | Some t ↦ t.written ]
+
 -- what every script keeps
 pub record IsValid (s : ScriptData) : Type 0 where
   pub some_nodes : 1 ≤ s.nodes
@@ -145,3 +191,6 @@ pub record IsValid (s : ScriptData) : Type 0 where
   pub distinct_trees : IsDistinct bytes_eq (tree_names s.trees)
   pub limited : IsLimited s
   pub first_form : s.form ≡ forms.One → loses_in s.rows ≡ 0
+  -- a tree that is begun hasn't failed
+  pub unfailed : s.begun ≡ true → last_written s.trees ≡ None
+  pub failed : MayAllHaveFailed s.form s.nodes s.items [] s.trees

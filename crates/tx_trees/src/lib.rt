@@ -3,6 +3,7 @@
 
 mod children;
 mod counts;
+mod failing;
 mod forms;
 mod lookups;
 mod name_index;
@@ -16,7 +17,9 @@ mod trees;
 mod why;
 
 pub use names::is_plain_name;
-pub use parts::{Deed, Form, ItemRow, ScriptRow, Sub, SubOp, SubOps, Subs, Tree, TreeKind};
+pub use parts::{
+    Deed, Form, ItemRow, ScriptRow, Sub, SubOp, SubOps, Subs, Tree, TreeKind, Written,
+};
 pub use ranges::{is_in_range, may_start};
 pub use rebuilt::a_script_is_rebuilt_from_its_rows;
 pub use same::equal_scripts_are_the_same;

@@ -107,7 +107,12 @@ pub(crate) fn rooted(
 {
     let mut subs = Seq::new(alloc);
     subs.push(empty_sub(alloc, SubNo(0), node))?;
-    Ok(Tree { name, kind, subs })
+    Ok(Tree {
+        name,
+        kind,
+        subs,
+        written: None,
+    })
 }
 
 // Puts a subtransaction behind those of the last tree.

@@ -61,6 +61,15 @@ pub struct Sub {
 /// Subtransactions by number.
 pub type Subs = Seq<Sub, 0xffff_ffff>;
 
+/// A tree as it was written, before one of its subtransactions failed.
+#[derive(Drop)]
+pub struct Written {
+    /// The subtransaction that fails.
+    pub failed: SubNo,
+    /// The subtransactions that the tree was written with.
+    pub subs: Subs,
+}
+
 /// A transaction: a tree of subtransactions. The root is subtransaction 0, and its node is the tree's home.
 #[derive(Drop)]
 pub struct Tree {
@@ -68,8 +77,10 @@ pub struct Tree {
     pub name: Name,
     /// What it may do.
     pub kind: TreeKind,
-    /// Its subtransactions.
+    /// Its subtransactions. Where the tree is undone they are the undone form of those that it was written with.
     pub subs: Subs,
+    /// What it was written as, where it is undone.
+    pub written: Option<Written>,
 }
 
 /// An item, which lies at one node.

@@ -2,12 +2,12 @@
 ghost use Rattle.std.specs.Prelude.{◌≡◌};
 ghost use Rattle.std.specs.Bool.{Decides};
 ghost use Rattle.tx_trees.specs.Rebuilt.{SameScript};
-ghost use Rattle.tx_trees.specs.Same.{same_deed, same_form, same_item, same_kind, same_op, same_row, same_script, same_sub, same_sub_op, same_tree, same_tree_kind};
-ghost use Rattle.tx_trees.specs.SameFacts.{item_laws, row_equiv, sub_laws, sub_op_equiv, tree_laws};
+ghost use Rattle.tx_trees.specs.Same.{same_deed, same_form, same_item, same_kind, same_op, same_row, same_script, same_sub, same_sub_op, same_tree, same_tree_kind, same_written, same_written_as};
+ghost use Rattle.tx_trees.specs.SameFacts.{item_laws, row_equiv, sub_laws, sub_op_equiv, tree_laws, written_laws};
 ghost use Rattle.std.specs.Cmp.{partial_equiv_from_equiv};
 ghost use Rattle.tx_trees.specs.ScriptData.{ScriptData};
 
-use crate::parts::{Deed, Form, ItemRow, ScriptRow, Sub, SubOp, Tree, TreeKind};
+use crate::parts::{Deed, Form, ItemRow, ScriptRow, Sub, SubOp, Tree, TreeKind, Written};
 use commute_ops::{Kind, Op};
 
 pub(crate) fn same_form(a: Form, b: Form) -> bool
@@ -112,6 +112,26 @@ impl PartialEq for Sub {
     }
 }
 
+impl PartialEq for Written {
+    ghost eq = { same_written_as };
+
+    ghost laws = { written_laws };
+
+    fn eq(&self, other: &Written) -> bool {
+        self.failed.0 == other.failed.0 && self.subs.items() == other.subs.items()
+    }
+}
+
+fn same_written(a: &Option<Written>, b: &Option<Written>) -> bool
+    ensures { result ≡ same_written a.now b.now }
+{
+    match (a, b) {
+        (Some(x), Some(y)) => x == y,
+        (None, None) => true,
+        _ => false,
+    }
+}
+
 impl PartialEq for Tree {
     ghost eq = { same_tree };
 
@@ -121,7 +141,7 @@ impl PartialEq for Tree {
         if self.name != other.name || !same_tree_kind(self.kind, other.kind) {
             return false;
         }
-        self.subs.items() == other.subs.items()
+        self.subs.items() == other.subs.items() && same_written(&self.written, &other.written)
     }
 }
 

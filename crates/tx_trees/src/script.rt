@@ -1,10 +1,13 @@
 // A script, which is valid whatever was added.
 ghost use Rattle.std.specs.Prelude.{ℕ, true, false, ◌≡◌, ◌<◌, ◌≤◌, ◌+◌, ◌==◌, length, is_some, nat_lt, IfOk, IfSome, IsNone, OnErr, OnOk};
-ghost use Rattle.tx_trees.specs.Adding.{Steps, adds_advance, adds_item, adds_lose, adds_op, adds_pick, adds_settle, adds_sub, adds_tree, fresh, has_no_op_left, has_no_sub_left, has_no_tree_left, kind_at, last_kind, last_node, last_subs, names_tree, node_at, place_of, with_item, with_op, with_sub, with_tree, upgraded};
+ghost use Rattle.std.specs.List.{AllByRecursion};
+ghost use Rattle.commute_ops.specs.declared.kinds.TheConstants.{MOST_AMOUNT};
+ghost use Rattle.tx_trees.specs.Adding.{Steps, adds_advance, adds_item, adds_lose, adds_op, adds_pick, adds_settle, adds_sub, adds_tree, are_crowded, fresh, has_no_op_left, has_no_sub_left, has_no_tree_left, is_heavy, kind_at, last_kind, last_may_fail, last_node, last_subs, last_tree_subs, names_tree, node_at, place_of, puts_undone, with_failed, with_item, with_op, with_sub, with_tree, upgraded};
 ghost use Rattle.tx_trees.specs.Amounts.{magnitude};
-ghost use Rattle.tx_trees.specs.Counts.{advances_in};
+ghost use Rattle.tx_trees.specs.Counts.{advances_in, all_ops, all_subs, update_subs};
 ghost use Rattle.tx_trees.specs.Forms.{most_amount, most_nodes};
-ghost use Rattle.tx_trees.specs.Passing.{MayAddItem, MayAddOp, MayAddSub, MayAddTree};
+ghost use Rattle.tx_trees.specs.Undone.{undone};
+ghost use Rattle.tx_trees.specs.Passing.{MayFail, MayAddItem, MayAddOp, MayAddSub, MayAddTree};
 ghost use Rattle.tx_trees.specs.Same.{same_script};
 ghost use Rattle.tx_trees.specs.SameFacts.{script_laws};
 ghost use Rattle.tx_trees.specs.ScriptData.{is_child, subs_at, visits};
@@ -14,12 +17,13 @@ use crate::children::{next_child, visits};
 use crate::counts::{
     are_many, are_spread, has_touched, last_kind, one_put, one_strict, one_update,
 };
+use crate::failing::{are_heavy, count_ops, fail_last, last_ops, may_fail, reloaded};
 use crate::lookups::{
     deed_fits, empty_sub, kind_at, last_subs, node_at, place_of_last, push_op, push_sub, rooted,
 };
 use crate::name_index::NameIndex;
 use crate::names::is_plain_name;
-use crate::parts::{Deed, Form, ItemRow, ScriptRow, Sub, SubOp, Tree, TreeKind};
+use crate::parts::{Deed, Form, ItemRow, ScriptRow, Sub, SubOp, Subs, Tree, TreeKind};
 use crate::ranges::{initial_size, is_in_range, magnitude, may_start};
 use crate::same::same_form;
 use crate::why::{Refusal, Why};
@@ -68,6 +72,14 @@ pub struct Script {
     advances: u32,
     loses: u32,
     strict: u32,
+    update_subs: u32,
+}
+
+// How many subtransactions, operations, and subtransactions of update trees there are.
+#[derive(Clone, Copy)]
+struct Sizes {
+    subs: u32,
+    ops: u32,
     update_subs: u32,
 }
 
@@ -132,6 +144,8 @@ impl PartialEq for Script {
 }
 
 impl Script {
+    ghost use Rattle.tx_trees.specs.Inside.{AreTotals};
+
     /// A script of this form and of so many nodes, 1 to 16, or 1 to 64 of the second form, with nothing in it.
     pub fn new(alloc: Global, form: Form, nodes: u8) -> Script
         requires { (1 ≤ nodes) × (nodes ≤ most_nodes form) }
@@ -495,6 +509,133 @@ impl Script {
         self.puts[item] += one_put(deed);
         self.ops += 1;
         Ok(())
+    }
+
+    /// Whether a tree is begun: the last record was a tree, a subtransaction or an operation.
+    pub fn begun(&self) -> bool
+        ensures begun { result ≡ self.now.begun }
+        ensures some { self.now.begun ≡ true → 0 < length self.now.trees }
+    {
+        self.begun
+    }
+
+    /// The subtransactions of the tree that is begun.
+    pub fn begun_subs(&self) -> &Subs
+        requires { self.now.begun ≡ true }
+        ensures subs { result.now ≡ last_tree_subs self.now.trees }
+        ensures count { length result.now ≡ last_subs self.now.trees }
+        ensures few { length result.now ≤ 64 }
+        ensures small { AllByRecursion (λ s. AllByRecursion (λ o. magnitude o.deed ≤ MOST_AMOUNT) s.ops) result.now }
+    {
+        &self.trees[self.trees.len() - 1].subs
+    }
+
+    /// Whether the tree that is begun may fail: it is an update tree, and all its operations are `add`.
+    pub fn begun_may_fail(&self) -> bool
+        requires { self.now.begun ≡ true }
+        ensures { result ≡ last_may_fail self.now.trees }
+    {
+        may_fail(&self.trees[self.trees.len() - 1])
+    }
+
+    // Whether the last tree's undone form, in the place of what it was written with, passes a limit.
+    fn is_crowded_by(&self, failed: SubNo, expanded: &[Sub]) -> bool
+        requires begun { self.now.begun ≡ true }
+        requires adds { last_may_fail self.now.trees ≡ true }
+        requires earlier { failed.0 < last_subs self.now.trees }
+        requires undone { expanded.now ≡ undone (last_tree_subs self.now.trees) failed.0 }
+        ensures { result ≡ are_crowded (with_failed self.now failed.0).trees }
+    {
+        if expanded.len() > MOST_SUBS_OF_TREE {
+            return true;
+        }
+        let sizes = self.sizes_with(failed, expanded);
+        sizes.subs > MOST_SUBS || sizes.ops > MOST_OPS || are_many(self.strict, sizes.update_subs)
+    }
+
+    // How many subtransactions and operations there are with the undone form in the place of what the last tree was
+    // written with.
+    fn sizes_with(&self, failed: SubNo, expanded: &[Sub]) -> Sizes
+        requires begun { self.now.begun ≡ true }
+        requires adds { last_may_fail self.now.trees ≡ true }
+        requires earlier { failed.0 < last_subs self.now.trees }
+        requires undone { expanded.now ≡ undone (last_tree_subs self.now.trees) failed.0 }
+        requires few { length expanded.now ≤ 64 }
+        ensures subs { result.subs ≡ all_subs (with_failed self.now failed.0).trees }
+        ensures ops { result.ops ≡ all_ops (with_failed self.now failed.0).trees }
+        ensures update_subs { result.update_subs ≡ update_subs (with_failed self.now failed.0).trees }
+    {
+        let before = last_subs(&self.trees) as u32;
+        let ops_before = last_ops(&self.trees);
+        let after = expanded.len() as u32;
+        let ops_after = count_ops(expanded);
+        Sizes {
+            subs: self.subs + after - before,
+            ops: self.ops + ops_after - ops_before,
+            update_subs: self.update_subs + after - before,
+        }
+    }
+
+    // Each item's magnitudes with the undone form in the place of what the last tree was written with.
+    fn totals_with(&self, failed: SubNo, expanded: &[Sub]) -> Result<Vec<u128>, NoMemory>
+        requires begun { self.now.begun ≡ true }
+        requires adds { last_may_fail self.now.trees ≡ true }
+        requires earlier { failed.0 < last_subs self.now.trees }
+        requires undone { expanded.now ≡ undone (last_tree_subs self.now.trees) failed.0 }
+        requires few { length expanded.now ≤ 64 }
+        ensures { IfOk result (λ t. AreTotals t.items (with_failed self.now failed.0)) }
+    {
+        let last = &self.trees[self.trees.len() - 1];
+        let totals = reloaded(self.alloc, &self.totals, last.subs.items(), expanded)?;
+        Ok(totals)
+    }
+
+    // Whether an item's magnitudes are too great with the undone form in the place of what the last tree was written
+    // with.
+    fn is_heavy_with(&self, failed: SubNo, totals: &[u128]) -> bool
+        requires { AreTotals totals.now (with_failed self.now failed.0) }
+        ensures { result ≡ is_heavy (with_failed self.now failed.0) }
+    {
+        are_heavy(totals, self.form.most_amount())
+    }
+
+    /// Makes the tree that is begun fail: its undone form takes the place of its subtransactions, which are kept as
+    /// what it was written with. A refusal is `TooMany` (64 subtransactions of the tree, 100,000 of all, 200,000
+    /// operations, or 1,000,000 strict trees times subtransactions of update trees) or `TooMuch` (an item's magnitudes),
+    /// the first that holds; it, and want of memory, leave the script as it was. Afterwards no tree is begun.
+    pub fn put_undone(&mut self, failed: SubNo, expanded: Subs) -> Result<(), Refusal>
+        requires second { self.old.form ≡ Form.Two }
+        requires begun { self.old.begun ≡ true }
+        requires adds { last_may_fail self.old.trees ≡ true }
+        requires earlier { failed.0 < last_subs self.old.trees }
+        requires undone { expanded ≡ undone (last_tree_subs self.old.trees) failed.0 }
+        ensures { Steps (puts_undone self.old failed.0) result self.old self.new }
+    {
+        if self.is_crowded_by(failed, expanded.items()) {
+            return Err(Refusal::Why(Why::TooMany));
+        }
+        let totals = self.totals_with(failed, expanded.items())?;
+        if self.is_heavy_with(failed, &totals) {
+            return Err(Refusal::Why(Why::TooMuch));
+        }
+        self.put_failed(failed, expanded, totals);
+        Ok(())
+    }
+
+    // Puts the undone form, to which nothing is opposed, in the place of what the last tree was written with.
+    fn put_failed(&mut self, failed: SubNo, expanded: Subs, totals: Vec<u128>)
+        requires may { MayFail self.old failed.0 }
+        requires undone { expanded ≡ undone (last_tree_subs self.old.trees) failed.0 }
+        requires totals { AreTotals totals.items (with_failed self.old failed.0) }
+        ensures { self.new ≡ with_failed self.old failed.0 }
+    {
+        let sizes = self.sizes_with(failed, expanded.items());
+        fail_last(&mut self.trees, failed, expanded);
+        self.totals = totals;
+        self.subs = sizes.subs;
+        self.ops = sizes.ops;
+        self.update_subs = sizes.update_subs;
+        self.begun = false;
     }
 
     /// Asks for one more advancement. The one refusal is `TooMany` (100 advancements); it, and want of memory, leave

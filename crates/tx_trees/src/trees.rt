@@ -8,7 +8,7 @@ use crate::script::Script;
 use tv_base::TreeNo;
 
 /// Whether a tree's kind is that of update trees.
-fn is_update(kind: TreeKind) -> bool
+pub(crate) fn is_update(kind: TreeKind) -> bool
     ensures { result ≡ is_update kind }
 {
     match kind {

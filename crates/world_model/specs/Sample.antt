@@ -1,5 +1,5 @@
 -- A run of a small script, oldest letter first.
-use Rattle.std.specs.Prelude.{if◌then◌else◌, ℕ, pos, false, ◌==◌, ◌+◌, nat_lt, List, [], ◌∷◌, ◌++◌, length, suc, zero}
+use Rattle.std.specs.Prelude.{if◌then◌else◌, ℕ, pos, false, ◌==◌, ◌+◌, nat_lt, List, [], ◌∷◌, ◌++◌, length, suc, zero, None}
 use Rattle.commute_ops.specs.declared.kinds.Kind.TheVariants.{Sum}
 use Rattle.commute_ops.specs.declared.kinds.Op.TheVariants.{Add}
 use Rattle.tx_trees.specs.ScriptData.{ScriptData}
@@ -51,6 +51,7 @@ small = record {
     kind = Update;
     subs = record { parent = record { 0 = 0 }; node = record { 0 = 0 }; ops = record { item = record { 0 = 0 }; deed = Apply (Add (pos 5)) } ∷ [] }
         ∷ record { parent = record { 0 = 0 }; node = record { 0 = 1 }; ops = record { item = record { 0 = 1 }; deed = Apply (Add (pos 7)) } ∷ [] } ∷ [];
+    written = None;
   } ∷ [];
   rows = Tree (record { 0 = 0 }) ∷ [];
   picks = [];
@@ -65,6 +66,7 @@ with_read = record small {
     kind = Read;
     subs = record { parent = record { 0 = 0 }; node = record { 0 = 1 }; ops = record { item = record { 0 = 1 }; deed = Get } ∷ [] }
         ∷ record { parent = record { 0 = 0 }; node = record { 0 = 0 }; ops = record { item = record { 0 = 0 }; deed = Get } ∷ [] } ∷ [];
+    written = None;
   } ∷ [];
   rows = small.rows ++ Settle ∷ Tree (record { 0 = 1 }) ∷ [];
 }

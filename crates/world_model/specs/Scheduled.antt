@@ -1,13 +1,10 @@
 -- A history whose letters were taken by a schedule: the script's picks, then the draws of a seed, then the oldest.
-use Rattle.std.specs.Prelude.{if◌then◌else◌, ℕ, zero, suc, ◌+◌, ◌*◌, ◌/◌, ◌%◌, ◌^◌, ◌-◌, ◌≡◌, nat_lt, List, [], length, take, reverse, Option, Some, None, slice_get, slice_index}
+use Rattle.std.specs.Prelude.{if◌then◌else◌, ℕ, zero, suc, ◌+◌, ◌/◌, ◌%◌, ◌^◌, ◌-◌, ◌≡◌, nat_lt, List, [], length, take, reverse, Option, Some, None, slice_get, slice_index}
+use Rattle.tv_base.specs.Draws.{next_draw}
 use Rattle.letter_types.specs.declared.entries.Entry.{Entry}
 use Rattle.letter_types.specs.declared.entries.Letter.{Letter}
 use Rattle.tx_trees.specs.ScriptData.{ScriptData}
 use Rattle.world_model.specs.Runs.{waiting}
-
--- the number after x
-abbrev pub next_draw : ℕ → ℕ
-next_draw x = (6364136223846793005 * x + 1442695040888963407) % 2 ^ 64
 
 -- the number after the first k + 1 draws from a seed
 abbrev pub drawn_from : ℕ → ℕ → ℕ

@@ -3,7 +3,7 @@ use Rattle.csv.specs.Records.{fields_of}
 use Rattle.tx_trees.specs.ScriptData.{ScriptData}
 use Rattle.tx_trees.specs.declared.why.Why.{Why}
 use Rattle.script_reader.specs.Rows.{Leaves}
-use Rattle.script_reader.proofs.Passing.{amount_form_is, get_form_is, item_form_is, later_is, later_wrong, second_loses, sub_form_is, tree_form_is}
+use Rattle.script_reader.proofs.Passing.{amount_form_is, fail_form_is, get_form_is, item_form_is, later_is, later_wrong, second_fails, second_loses, sub_form_is, tree_form_is}
 use Rattle.script_reader.proofs.rows.take_later.Goals as goal
 
 pub returns-in-Item : goal.returns-in-Item
@@ -47,3 +47,13 @@ returns-then-not-len_fits c =
 
 pub lose_row_of-requires : goal.lose_row_of-requires
 lose_row_of-requires c = second_loses c.args.script.now (fields_of c.args.row.now) _ _ _ c.form.ensures c.field.ensures c.in-Some.ensures c.in-Lose.is
+
+pub fail_row_of-requires : goal.fail_row_of-requires
+fail_row_of-requires c = second_fails c.args.script.now (fields_of c.args.row.now) _ _ _ c.form.ensures c.field.ensures c.in-Some.ensures c.in-Fail.is
+
+pub returns-in-Fail : goal.returns-in-Fail
+returns-in-Fail c =
+    let fields = fields_of c.args.row.now in
+    let e = later_is c.args.script.now fields _ _ _ _ _ c.form.ensures c.field.ensures c.in-Some.ensures c.len_fits.ensures c.len.ensures c.if-not-len_fits.false in
+    let f = fail_form_is c.args.script.now fields _ _ c.in-Fail.is c.field-in-Fail.ensures in
+    subst (λ (r : Result ScriptData Why). Leaves r c.fail_row_of.result c.fail_row_of.new.script) (sym (e ∙ f)) c.fail_row_of.ensures

@@ -1,7 +1,7 @@
-use Rattle.script_reader.proofs.Pushed.{tree_pushed}
+use Rattle.std.proofs.Common.{sym}
+use Rattle.script_reader.proofs.Pushed.{fail_pushed}
 use Rattle.script_reader.proofs.writing.push_tree.Goals as goal
 
-pub returns : goal.returns
-returns c =
-    tree_pushed c.args.items.now c.args.tree.now.kind c.args.tree.now.name c.items.result.now c.args.tree.now.subs c.root-item.result c.items-2.result.now c.args.text.now c.push_root.new.text c.push_ops.new.text c.push_subs.new.text c.push_subs.result
-    c.in-len1-up.len_at_least c.items.ensures.items c.root-item.is c.items-2.ensures.items c.in_ok-push_root.ensures c.in_ok-push_ops.ensures c.push_subs.ensures
+pub returns-in_ok-push_rooted-in-Some : goal.returns-in_ok-push_rooted-in-Some
+returns-in_ok-push_rooted-in-Some c =
+    fail_pushed c.args.items.now c.args.tree.now c.in-Some.written c.items.result.now c.args.text.now c.push_rooted.new.text c.push_fail.new.text c.push_fail.result (sym c.in-Some.is) c.items.ensures.items c.in_ok-push_rooted-in-Some.ensures c.push_fail.ensures

@@ -1,4 +1,4 @@
-use Rattle.tree_undo.proofs.Trees.{undone_valid}
+use Rattle.tx_trees.proofs.UndoneTrees.{undone_valid}
 use Rattle.tree_undo.proofs.laws.an_undone_tree_is_a_tree.Goals as goal
 
 pub returns : goal.returns

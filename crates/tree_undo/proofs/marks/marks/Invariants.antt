@@ -1,5 +1,5 @@
 use Rattle.std.proofs.Common.{◌≡◌, [], drop}
-use Rattle.tree_undo.specs.Undone.{goes_from}
+use Rattle.tx_trees.specs.Undone.{goes_from}
 use Rattle.tree_undo.proofs.marks.marks.Given as goal
 
 abbrev pub invariant-loop-sub : goal.invariant-loop-sub

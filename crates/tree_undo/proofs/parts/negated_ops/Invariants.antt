@@ -1,5 +1,5 @@
 use Rattle.std.proofs.Common.{◌≡◌, map, take}
-use Rattle.tree_undo.specs.Undone.{negated}
+use Rattle.tx_trees.specs.Undone.{negated}
 use Rattle.tree_undo.proofs.parts.negated_ops.Given as goal
 
 abbrev pub invariant-loop-op : goal.invariant-loop-op

@@ -1,5 +1,5 @@
 use Rattle.std.proofs.Common.{◌≡◌, ◌++◌, drop}
-use Rattle.tree_undo.specs.Undone.{inverses_from}
+use Rattle.tx_trees.specs.Undone.{inverses_from}
 use Rattle.tree_undo.proofs.undoing.push_inverses.Given as goal
 
 abbrev pub invariant-loop-k : goal.invariant-loop-k

@@ -1,5 +1,5 @@
 use Rattle.std.proofs.Common.{◌≡◌, ◌++◌, drop}
-use Rattle.tree_undo.specs.Undone.{staying_from}
+use Rattle.tx_trees.specs.Undone.{staying_from}
 use Rattle.tree_undo.proofs.undoing.push_staying.Given as goal
 
 abbrev pub invariant-loop-k : goal.invariant-loop-k

@@ -1,0 +1,4 @@
+pub mod Names
+pub mod Bodies
+pub mod Acts
+pub mod History

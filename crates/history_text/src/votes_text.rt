@@ -1,0 +1,146 @@
+// What votes, notices and answers say.
+ghost use Rattle.std.specs.Prelude.{◌≡◌, ◌++◌, OnOk, codes, slice_get};
+ghost use Rattle.std.specs.Str.{IsAscii};
+ghost use Rattle.report_text.specs.Report.{get_text};
+ghost use Rattle.history_text.specs.Names.{answer_text, cause_text, cause_word, commit_word, got_text, item_text, notice_text, vote_text, whole_word, yes_text};
+
+use crate::naming::{push_item, push_item_word, push_tree_word};
+use commute_ops::{Value, Values};
+use letter_types::{Answer, Cause, Notice, Vote};
+use report_text::{push_amount, push_count, push_value};
+use tv_base::{ItemNo, NoMemory, Text, TreeNo};
+use tx_trees::{Script, TreeKind};
+
+// The values of gets, each behind the name of its item.
+pub(crate) fn push_got(text: &mut Text, script: &Script, got: &Values) -> Result<(), NoMemory>
+    ensures { OnOk result (text.new ≡ text.old ++ got_text script.now got.now) }
+{
+    push_values(text, script, got.items())
+}
+
+// The same of a slice.
+fn push_values(text: &mut Text, script: &Script, got: &[(ItemNo, Value)]) -> Result<(), NoMemory>
+    ensures { OnOk result (text.new ≡ text.old ++ got_text script.now got.now) }
+{
+    for one in got {
+        push_get(text, script, one.0, &one.1)?;
+    }
+    Ok(())
+}
+
+// A value behind the name of its item.
+fn push_get(text: &mut Text, script: &Script, item: ItemNo, value: &Value) -> Result<(), NoMemory>
+    ensures { OnOk result (text.new ≡ text.old ++ get_text (item_text script.now item.0) value.now) }
+{
+    text.push_all(b" ")?;
+    push_item(text, script, item)?;
+    text.push_all(b"=")?;
+    push_value(text, value)
+}
+
+// A cause of a no.
+fn push_cause(text: &mut Text, script: &Script, cause: &Cause) -> Result<(), NoMemory>
+    ensures { OnOk result (text.new ≡ text.old ++ cause_text script.now cause.now) }
+{
+    match cause {
+        Cause::Conflict { item, holder } => {
+            push_item_word(text, script, b"conflict ", *item)?;
+            push_tree_word(text, script, b" ", *holder)
+        }
+        Cause::Newer { item, version } => {
+            push_item_word(text, script, b"newer ", *item)?;
+            push_count(text, b" ", version.0)
+        }
+        Cause::Short { item, found } => {
+            push_item_word(text, script, b"short ", *item)?;
+            text.push_all(b" ")?;
+            push_amount(text, *found)
+        }
+    }
+}
+
+// A word and a cause.
+fn push_cause_word(
+    text: &mut Text,
+    script: &Script,
+    word: &[u8],
+    cause: &Cause,
+) -> Result<(), NoMemory>
+    requires { IsAscii word.now }
+    ensures { OnOk result (text.new ≡ text.old ++ cause_word script.now word.now cause.now) }
+{
+    text.push_all(word)?;
+    push_cause(text, script, cause)
+}
+
+// A yes with the values of gets.
+fn push_yes(text: &mut Text, script: &Script, got: &Values) -> Result<(), NoMemory>
+    ensures { OnOk result (text.new ≡ text.old ++ yes_text script.now got.now) }
+{
+    text.push_all(b" yes")?;
+    push_got(text, script, got)
+}
+
+// A vote.
+pub(crate) fn push_vote(text: &mut Text, script: &Script, vote: &Vote) -> Result<(), NoMemory>
+    ensures { OnOk result (text.new ≡ text.old ++ vote_text script.now vote.now) }
+{
+    match vote {
+        Vote::Yes(got) => push_yes(text, script, got),
+        Vote::No(cause) => push_cause_word(text, script, b" no ", cause),
+    }
+}
+
+// A notice.
+pub(crate) fn push_notice(text: &mut Text, script: &Script, notice: &Notice) -> Result<(), NoMemory>
+    ensures { OnOk result (text.new ≡ text.old ++ notice_text script.now notice.now) }
+{
+    match notice {
+        Notice::Did(got) => push_got(text, script, got),
+        Notice::Yes(got) => push_yes(text, script, got),
+        Notice::No(cause) => push_cause_word(text, script, b" no ", cause),
+    }
+}
+
+// That a strict tree was committed; of other trees nothing is said.
+fn push_whole(text: &mut Text, script: &Script, tree: TreeNo) -> Result<(), NoMemory>
+    ensures { OnOk result (text.new ≡ text.old ++ whole_word (slice_get script.now.trees tree.0)) }
+{
+    let Some(row) = script.trees().get(tree.0 as usize) else {
+        return Ok(());
+    };
+    match row.kind {
+        TreeKind::Strict => text.push_all(b" committed"),
+        TreeKind::Update => Ok(()),
+        TreeKind::Read => Ok(()),
+    }
+}
+
+// What the client is told of the tree.
+pub(crate) fn push_answer(
+    text: &mut Text,
+    script: &Script,
+    tree: TreeNo,
+    answer: &Answer,
+) -> Result<(), NoMemory>
+    ensures { OnOk result (text.new ≡ text.old ++ answer_text script.now tree.0 answer.now) }
+{
+    match answer {
+        Answer::Whole(got) => {
+            push_whole(text, script, tree)?;
+            push_got(text, script, got)
+        }
+        Answer::Aborted(cause) => push_cause_word(text, script, b" aborted ", cause),
+    }
+}
+
+// Whether a strict tree commits.
+pub(crate) fn push_commit(text: &mut Text, commit: bool) -> Result<(), NoMemory>
+    ensures { OnOk result (text.new ≡ text.old ++ commit_word commit) }
+{
+    if commit {
+        text.push_all(b" commit")
+    } else {
+        text.push_all(b" abort")
+    }
+}

@@ -1,0 +1,79 @@
+-- All items are taken, and each is found by its name. There are 32, so it is computed for each of them.
+use Rattle.std.proofs.Common.{◌≡◌, ◌<◌, ◌%◌, ◌∙◌, Bool, true, false, ℕ, zero, suc, length, refl, ap, arith}
+use Rattle.std.specs.Prelude.{◌&&◌, ◌==◌, not, nat_le, Option, Some, None, is_some}
+use Rattle.std.specs.Fmt.{digits}
+use Rattle.std.proofs.lemmas.Bool.Decides.{nat_tests}
+use Rattle.tv_base.proofs.Truths.{left_true, right_true}
+use Rattle.tx_trees.specs.Adding.{place_of}
+use Rattle.tx_trees.specs.Names.{is_name}
+use Rattle.tx_trees.specs.Passing.{MayAddItem}
+use Rattle.tx_trees.specs.Ranges.{may_start}
+use Rattle.tx_trees.specs.declared.parts.Form.TheVariants as forms
+use Rattle.script_gen.specs.Generated.{item_name, item_row, items_up_to}
+use Rattle.script_gen.specs.Within.{with_items}
+
+-- a test of each number below n
+abbrev all_below : ℕ → (ℕ → Bool) → Bool
+all_below zero f = true
+all_below (suc n) f = f n && all_below n f
+
+below_is : (n k : ℕ) (f : ℕ → Bool) → all_below n f ≡ true → k < n → f k ≡ true
+below_is zero k f all lt = absurd (omega arith)
+below_is (suc n) k f all lt = by (k == n) refl (λ less. below_is n k f (right_true (f n) (all_below n f) all) less) where
+  by : (b : Bool) → (k == n) ≡ b → (k < n → f k ≡ true) → f k ≡ true
+  by true e rest = let same : k ≡ n = grind (arith, nat_tests) in ap f same ∙ left_true (f n) (all_below n f) all
+  by false e rest = let less : k < n = grind (arith, nat_tests) in rest less
+
+not_true : (b : Bool) → not b ≡ true → b ≡ false
+not_true true e = absurd (cc e)
+not_true false e = refl
+
+-- what is opposed to nothing
+abbrev passes : ℕ → Bool
+passes k =
+    not (nat_le 4 (k % 4)) && (may_start forms.One (item_row k).kind (item_row k).initial && (is_name (item_name k)
+    && (not (is_some (place_of (item_name k) (items_up_to k))) && not (nat_le 10000 (length (items_up_to k))))))
+
+abbrev is_at : Option ℕ → ℕ → Bool
+is_at None k = false
+is_at (Some x) k = x == k
+
+at_is : (o : Option ℕ) (k : ℕ) → is_at o k ≡ true → o ≡ Some k
+at_is None k e = absurd (cc e)
+at_is (Some x) k e = let same : x ≡ k = grind (arith, nat_tests) in ap Some same
+
+-- where its name, its node, its kind and its first value stand
+abbrev stands : ℕ → Bool
+stands k = is_at (place_of (item_name k) (items_up_to 32)) k
+
+all_pass : all_below 32 passes ≡ true
+unfolding digits
+all_pass = refl
+
+all_stand : all_below 32 stands ≡ true
+unfolding digits
+all_stand = refl
+
+-- item k is taken behind those before it
+pub item_may : (k : ℕ) → k < 32 → MayAddItem (with_items k) (item_row k)
+item_may k lt =
+    let all = below_is 32 k passes all_pass lt in
+    let a : Bool = not (nat_le 4 (k % 4)) in
+    let b : Bool = may_start forms.One (item_row k).kind (item_row k).initial in
+    let c : Bool = is_name (item_name k) in
+    let d : Bool = not (is_some (place_of (item_name k) (items_up_to k))) in
+    let e : Bool = not (nat_le 10000 (length (items_up_to k))) in
+    let after_a = right_true a (b && (c && (d && e))) all in
+    let after_b = right_true b (c && (d && e)) after_a in
+    let after_c = right_true c (d && e) after_b in
+    record {
+      place = not_true (nat_le 4 (k % 4)) (left_true a (b && (c && (d && e))) all);
+      start = left_true b (c && (d && e)) after_a;
+      plain = left_true c (d && e) after_b;
+      free = not_true (is_some (place_of (item_name k) (items_up_to k))) (left_true d e after_c);
+      room = not_true (nat_le 10000 (length (items_up_to k))) (right_true d e after_c);
+    }
+
+-- item k is found by its name
+pub item_found : (k : ℕ) → k < 32 → place_of (item_name k) (items_up_to 32) ≡ Some k
+item_found k lt = at_is (place_of (item_name k) (items_up_to 32)) k (below_is 32 k stands all_stand lt)

@@ -1,0 +1,38 @@
+// The script that a seed makes.
+ghost use Rattle.std.specs.Prelude.{◌≡◌, ◌<◌, ◌≤◌, IfOk, OnOk};
+ghost use Rattle.tx_trees.specs.Adding.{advances_in, with_row};
+ghost use Rattle.script_gen.specs.Generated.{generated};
+ghost use Rattle.script_gen.specs.Within.{HasTrees, with_end, with_items};
+
+use crate::items_made::add_items;
+use crate::taking::{take_advance, take_settle};
+use crate::trees_made::add_trees;
+use std::alloc::Global;
+use tv_base::NoMemory;
+use tx_trees::{Form, Script};
+
+/// The script of so many trees, at most 20,000, that the seed makes: 4 nodes, 32 items, and update and read trees of one
+/// to four subtransactions with one operation each, all by the draws of the seed. An advancement is asked for behind
+/// every 250th tree, and one more when all before it has ended.
+///
+/// Such a script keeps to all limits and rules of scripts, so only want of memory is an error.
+pub fn generate(alloc: Global, seed: u64, trees: u32) -> Result<Script, NoMemory>
+    requires { trees ≤ 20000 }
+    ensures { IfOk result (λ script. script ≡ generated seed trees) }
+{
+    let mut script = Script::new(alloc, Form::One, 4);
+    add_items(alloc, &mut script)?;
+    add_trees(alloc, &mut script, seed, trees)?;
+    add_end(&mut script)?;
+    Ok(script)
+}
+
+// Waits for all trees, asks for one more advancement, and waits for it.
+fn add_end(script: &mut Script) -> Result<(), NoMemory>
+    requires { advances_in script.old.rows < 100 }
+    ensures { OnOk result (script.new ≡ with_end script.old) }
+{
+    take_settle(script)?;
+    take_advance(script)?;
+    take_settle(script)
+}

@@ -1,0 +1,14 @@
+//! Scripts that are made from a seed.
+#![tactic(auto)]
+
+mod draws;
+mod generating;
+mod items_made;
+mod naming;
+mod taking;
+mod trees_made;
+
+pub use generating::generate;
+
+#[cfg(test)]
+mod tests;
