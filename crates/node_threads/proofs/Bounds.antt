@@ -1,8 +1,7 @@
 -- Whatever letters an actor takes: its counters are small while its entries are few, and a coordinator keeps its number
 -- of nodes.
-use Rattle.std.proofs.Common.{◌≡◌, ℕ, ◌+◌, ◌*◌, ◌-◌, ◌<◌, ◌≤◌, ◌==◌, ◌&&◌, Bool, true, false, List, [], ◌∷◌, length, refl, sym, ap, ◌∙◌, subst, arith, Option, Some, None}
+use Rattle.std.proofs.Common.{◌≡◌, ℕ, ◌+◌, ◌*◌, ◌<◌, ◌≤◌, ◌==◌, ◌&&◌, Bool, true, false, List, [], ◌∷◌, length, refl, sym, ◌∙◌, subst, arith, Option, Some, None}
 use Rattle.std.specs.Prelude.{if◌then◌else◌, nat_lt}
-use Rattle.std.proofs.lemmas.Bool.Decides.{nat_tests}
 use Rattle.tv_base.specs.declared.numbers.Version.{Version}
 use Rattle.std.proofs.lemmas.List.{length-append}
 use Rattle.letter_types.specs.declared.bodies.Body.{Body}
@@ -12,16 +11,16 @@ use Rattle.letter_types.specs.declared.entries.Letter.{Letter}
 use Rattle.letter_types.specs.declared.entries.Outgoing.{Outgoing}
 use Rattle.letter_types.specs.Steps.{Out, still}
 use Rattle.node_step.specs.Apt.{is_apt, node_row, row, tree_row, values_of}
-use Rattle.pair_counters.specs.Numbers.{AllBelow, Numbers, asked_all, asked_one, done_one, from_version}
+use Rattle.pair_counters.specs.Numbers.{AllBelow, Numbers, asked_one, done_one, from_version}
 use Rattle.read_step.specs.Rows.{getting}
 use Rattle.tree_step.specs.Apt.{is_did, kind_at}
 use Rattle.tree_step.specs.Asked.{asked_ops, asked_version, tree_done}
 use Rattle.tree_step.specs.Children.{addressees, done_letter, sub_letters}
-use Rattle.tree_step.specs.Done.{counted_root, counted_sub, note_done, root_done, sub_done, sub_sent}
+use Rattle.tree_step.specs.Done.{counted_root, counted_sub, note_done, sub_sent}
 use Rattle.tree_step.specs.Node.{Effect, Node}
 use Rattle.tree_step.proofs.Addressed.{few_children}
 use Rattle.tree_step.proofs.Requests.{asked_most, done_kept}
-use Rattle.tx_trees.specs.ScriptData.{ScriptData, client_of, home_of, subs_at}
+use Rattle.tx_trees.specs.ScriptData.{ScriptData, home_of, subs_at}
 use Rattle.tx_trees.specs.Valid.{IsValid}
 use Rattle.tx_trees.specs.declared.parts.TreeKind.{TreeKind}
 use Rattle.tx_trees.specs.declared.parts.TreeKind.TheVariants.{Update, Read, Strict}
@@ -29,7 +28,7 @@ use Rattle.tx_trees.proofs.SubsOf.{few_subs}
 use Rattle.update_step.specs.Rows.{touching}
 use Rattle.world_model.specs.Runs.{after}
 use Rattle.world_model.specs.Tables.{ActorData, NodeData, CoordinatorData, ClientData, actor_row, start_actor}
-use Rattle.world_model.proofs.Actors.{Who, ANode, TheCoordinator, TheClient, node_data_after, coordinator_data_after, client_data_after, starts_node, starts_coordinator, starts_client, who}
+use Rattle.world_model.proofs.Actors.{Who, ANode, TheCoordinator, TheClient, coordinator_data_after, client_data_after, who}
 use Rattle.world_model.proofs.Orders.{row_plain}
 use Rattle.world_core.specs.Actors.{CountsBelow, IsAddressed}
 

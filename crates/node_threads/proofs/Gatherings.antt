@@ -7,7 +7,7 @@ use Rattle.tv_base.proofs.ByPlace.{slice_get_split}
 use Rattle.letter_types.specs.declared.entries.Entry.{Entry}
 use Rattle.letter_types.specs.declared.entries.Letter.{Letter}
 use Rattle.letter_types.specs.declared.entries.Posting.{Posting}
-use Rattle.letter_types.specs.Letters.{find_id, go, own}
+use Rattle.letter_types.specs.Letters.{find_id, go}
 use Rattle.letter_types.specs.Postal.{Postal, letters_sent, posting_of}
 use Rattle.letter_types.specs.Steps.{Out}
 use Rattle.stamp_post.specs.declared.rule.JoinedReceipt.{JoinedReceipt}
@@ -20,7 +20,7 @@ use Rattle.world_model.specs.Runs.{IsRunOf, WorldRun, after}
 use Rattle.world_model.specs.Tables.{actor_row, start_actor}
 use Rattle.world_model.proofs.Actors.{entry_at}
 use Rattle.world_model.proofs.Scripts.{get_some}
-use Rattle.node_threads.specs.Cells.{last_acts, last_acts_from}
+use Rattle.node_threads.specs.Cells.{last_acts}
 use Rattle.node_threads.specs.Histories.{AllRun, IsLogOf, IsMerged, IsTold, joined_from}
 use Rattle.node_threads.proofs.Entries.{acts_more}
 use Rattle.node_threads.proofs.Merges.{at_map}

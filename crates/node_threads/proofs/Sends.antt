@@ -1,6 +1,6 @@
 -- Whatever letters an actor takes, it sends letters to actors of the script.
-use Rattle.std.proofs.Common.{◌≡◌, ℕ, zero, suc, ◌+◌, ◌*◌, ◌<◌, ◌≤◌, ◌==◌, ◌&&◌, Bool, true, false, List, [], ◌∷◌, ◌++◌, length, take, drop, refl, sym, ap, ◌∙◌, subst, arith, Option, Some, None}
-use Rattle.std.specs.Prelude.{if◌then◌else◌, nat_lt, All}
+use Rattle.std.proofs.Common.{◌≡◌, ℕ, ◌+◌, ◌*◌, ◌<◌, ◌≤◌, Bool, true, false, List, [], ◌∷◌, length, take, drop, refl, sym, subst, arith, Option, Some, None}
+use Rattle.std.specs.Prelude.{if◌then◌else◌, nat_lt}
 use Rattle.tv_base.specs.declared.numbers.Version.{Version}
 use Rattle.std.specs.List.{AllByRecursion}
 use Rattle.std.proofs.lemmas.List.Elements.{All-from_recursion, recursion_from_All}
@@ -15,7 +15,6 @@ use Rattle.letter_types.specs.Steps.{Out, still}
 use Rattle.node_step.specs.Apt.{is_apt, node_row, row, tree_row, values_of}
 use Rattle.read_step.specs.Rows.{getting}
 use Rattle.stamp_post.specs.Shown.{IsAddressed}
-use Rattle.tree_home.specs.Homes.{Gets}
 use Rattle.tree_home.specs.declared.homes.Answered.{Answered}
 use Rattle.tree_step.specs.Apt.{is_did, kind_at}
 use Rattle.tree_step.specs.Asked.{asked_ops, asked_version, tree_done}
@@ -23,7 +22,7 @@ use Rattle.tree_step.specs.Children.{done_letter, sub_letters}
 use Rattle.tree_step.specs.Done.{note_done, with_tree}
 use Rattle.tree_step.specs.Node.{Effect, Node}
 use Rattle.tree_step.specs.Notices.{answer_noted, reply_letters}
-use Rattle.tree_step.proofs.Addressed.{AreFor, children_nodes}
+use Rattle.tree_step.proofs.Addressed.{children_nodes}
 use Rattle.tx_trees.specs.ScriptData.{ScriptData, client_of, home_of, node_of, sub_at, subs_at}
 use Rattle.tx_trees.specs.Valid.{IsValid}
 use Rattle.tx_trees.specs.declared.parts.ScriptRow.{ScriptRow}
@@ -37,7 +36,7 @@ use Rattle.world_model.specs.Counts.{Each}
 use Rattle.world_model.specs.Runs.{after}
 use Rattle.world_model.specs.Tables.{ActorData, NodeData, CoordinatorData, ClientData, actor_row, start_actor}
 use Rattle.world_model.proofs.Every.{each_append}
-use Rattle.world_model.proofs.Orders.{OfOrders, coordinator_each, of}
+use Rattle.world_model.proofs.Orders.{OfOrders, coordinator_each}
 use Rattle.node_threads.proofs.Bounds.{KeepsBelow, keeps}
 
 -- each letter goes to one of so many actors

@@ -1,5 +1,5 @@
 -- An actor's cell, and what delivering a letter says.
-use Rattle.std.specs.Prelude.{◌≡◌, ◌+◌, ◌*◌, ◌<◌, ℕ, false, List, [], ◌∷◌, ◌++◌, length, map}
+use Rattle.std.specs.Prelude.{◌≡◌, ℕ, false, List, [], ◌∷◌, ◌++◌, map}
 use Rattle.letter_types.specs.declared.acts.Act.{Act}
 use Rattle.letter_types.specs.declared.entries.Entry.{Entry}
 use Rattle.letter_types.specs.declared.entries.Letter.{Letter}
@@ -12,7 +12,7 @@ use Rattle.stamp_post.specs.Shown.{PostId, outbox_data}
 use Rattle.world_core.specs.declared.actor.ActorState.{ActorState}
 use Rattle.world_core.specs.Actors.{IsFor, data_of}
 use Rattle.world_model.specs.Runs.{IsRunOf, after}
-use Rattle.world_model.specs.Tables.{ActorData, actor_row, start_actor}
+use Rattle.world_model.specs.Tables.{actor_row, start_actor}
 use Rattle.node_threads.specs.declared.cell.Sent.{Sent}
 
 -- an actor: its number, and its own entries in order

@@ -51,9 +51,7 @@ fn work_all<'x, K: ClusterName + Send + Sync, R: Threads + Wait + Sync, G: Gate 
                 let spawned = scope.spawn(
                     move ||
                         requires { script.now ≡ K.script }
-                    {
-                        cluster.serve(rt, alloc, worker, script, gate).is_ok()
-                    },
+                    { cluster.serve(rt, alloc, worker, script, gate).is_ok() },
                 );
                 if spawned.is_err() {
                     let _ended = cluster.serve(rt, alloc, worker, script, gate);

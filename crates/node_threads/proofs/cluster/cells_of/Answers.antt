@@ -1,4 +1,4 @@
-use Rattle.std.proofs.Common.{◌≡◌, ◌+◌, ◌-◌, ap, sym, ◌∙◌, arith, length, rules}
+use Rattle.std.proofs.Common.{◌≡◌, ◌+◌, ◌-◌, ap, sym, ◌∙◌, arith, rules}
 use Rattle.stamp_post.specs.Shown.{new_seats}
 use Rattle.stamp_post.proofs.Known.{new_seats_first}
 use Rattle.node_threads.proofs.cluster.cells_of.Goals as goal

@@ -1,4 +1,4 @@
-use Rattle.std.proofs.Common.{◌≡◌, List, sym, ◌∙◌, subst}
+use Rattle.std.proofs.Common.{List, sym, ◌∙◌, subst}
 use Rattle.letter_types.specs.declared.entries.Entry.{Entry}
 use Rattle.board_model.specs.Right.{HasFinished}
 use Rattle.node_threads.proofs.Ends.{ends_there}

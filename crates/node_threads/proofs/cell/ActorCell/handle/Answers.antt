@@ -1,18 +1,17 @@
-use Rattle.std.proofs.Common.{◌≡◌, ◌+◌, ◌*◌, ◌<◌, ◌≤◌, ◌^◌, ℕ, List, [], ◌∷◌, ◌++◌, length, map, refl, sym, ap, ◌∙◌, subst, arith, Some, None, rules}
+use Rattle.std.proofs.Common.{◌≡◌, ◌+◌, ◌<◌, ◌^◌, List, [], ◌∷◌, ◌++◌, length, map, refl, sym, ap, ◌∙◌, subst, arith, Some, None, rules}
 use Rattle.letter_types.specs.declared.entries.Entry.{Entry}
 use Rattle.letter_types.specs.declared.entries.Letter.{Letter}
-use Rattle.letter_types.specs.declared.entries.Outgoing.{Outgoing}
 use Rattle.letter_types.specs.declared.entries.Posting.{Posting}
 use Rattle.letter_types.specs.declared.entries.StepOut.{StepOut}
 use Rattle.letter_types.specs.Postal.{posting_of}
-use Rattle.letter_types.specs.Steps.{Out, made}
+use Rattle.letter_types.specs.Steps.{Out}
 use Rattle.stamp_post.specs.Logs.{posting}
-use Rattle.stamp_post.specs.Shown.{IsAddressed, OutboxData, SeatData, outbox_data, seat_data}
+use Rattle.stamp_post.specs.Shown.{OutboxData, SeatData, outbox_data, seat_data}
 use Rattle.tx_trees.specs.ScriptData.{ScriptData}
 use Rattle.tx_trees.specs.Valid.{IsValid}
-use Rattle.world_core.specs.Actors.{CountsBelow, data_of, IsAddressed as MayReach, IsFor}
+use Rattle.world_core.specs.Actors.{data_of, IsAddressed as MayReach, IsFor}
 use Rattle.world_model.specs.Tables.{ActorData, actor_row}
-use Rattle.node_threads.specs.Cells.{CellData, Delivered, Handled, LeadsTo, last_acts}
+use Rattle.node_threads.specs.Cells.{CellData, LeadsTo, last_acts}
 use Rattle.node_threads.proofs.Bounds.{few_counted, is_addressed}
 use Rattle.node_threads.proofs.Entries.{Stepped, acts_are, leads_more, postings_more, seat_stamped}
 use Rattle.node_threads.proofs.Sends.{sent_addressed}

@@ -1,4 +1,4 @@
-use Rattle.std.proofs.Common.{◌≡◌, subst}
+use Rattle.std.proofs.Common.{subst}
 use Rattle.world_model.specs.Runs.{IsRunOf}
 use Rattle.world_model.specs.Tables.{actor_row, start_actor}
 use Rattle.node_threads.specs.Cells.{CellData}
