@@ -10,18 +10,24 @@ use std::alloc::{AllocError, Global};
 pub(crate) const HELP: &[u8] =
     b"threev: runs a script of transactions on several nodes and reports the balances
 
-usage: threev --mode MODE [--seed N] < script
+usage: threev --mode MODE [--seed N] [--workers N] [--history] < script
+       threev --mode soak --seed N --trees N [--workers N]
        threev --help
        threev --version
 
 modes:
   check    reads the script and says how many nodes, items, trees, subtransactions and advancements it has
   sim      runs the script on one thread and writes the report
+  run      runs the script on threads and writes the report
+  soak     makes a script from a seed, runs it on threads and sums it up; reads nothing
   upgrade  reads the script and writes it in the second form
 
 options:
-  --seed N   with sim, 0 to 2^64 - 1: after the picks the draws of N say which letter
-             is taken next; without it the oldest is
+  --seed N     with sim, 0 to 2^64 - 1: after the picks the draws of N say which letter
+               is taken next; without it the oldest is. With soak: what is made of it
+  --trees N    with soak, 1 to 20000: how many trees the script has
+  --workers N  with run and soak, 1 to 32: how many threads work at once; 4 if not given
+  --history    with sim and run: the lines of the history follow the report
 
 statuses:
   0  the text was written
@@ -42,7 +48,9 @@ rows of a script, comma separated:
   top,ITEM,AMOUNT                raises a top to at least an amount
   put,ITEM,AMOUNT                puts a number into a bag
   get,ITEM                       reads an item
+  advance                        asks for one advancement of the versions
   settle                         waits until all before it has ended
+  fail,SUB                       of the second form: subtransaction SUB of the tree fails, and the tree is undone
   pick,K                         the next letter taken is number K of those under way, from 0
 ";
 
