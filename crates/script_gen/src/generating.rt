@@ -1,8 +1,8 @@
 // The script that a seed makes.
 ghost use Rattle.std.specs.Prelude.{◌≡◌, ◌<◌, ◌≤◌, IfOk, OnOk};
-ghost use Rattle.tx_trees.specs.Adding.{advances_in, with_row};
+ghost use Rattle.tx_trees.specs.Adding.{advances_in};
 ghost use Rattle.script_gen.specs.Generated.{generated};
-ghost use Rattle.script_gen.specs.Within.{HasTrees, with_end, with_items};
+ghost use Rattle.script_gen.specs.Within.{with_end};
 
 use crate::items_made::add_items;
 use crate::taking::{take_advance, take_settle};
