@@ -16,7 +16,8 @@ took_text id = count_text (codes " took ") id.stamp.0 ++ count_text (codes ".") 
 
 abbrev pub entry_line : ScriptData → Entry → List ℕ
 entry_line s e =
-    count_text (codes "entry ") e.stamp.0 ++ (codes " " ++ (actor_text s e.actor.0 ++ (took_text e.took.id ++ codes "\n")))
+    count_text (codes "entry ") e.stamp.0
+    ++ (codes " " ++ (actor_text s e.actor.0 ++ (took_text e.took.id ++ codes "\n")))
 
 abbrev pub sent_line : ScriptData → Outgoing → List ℕ
 sent_line s o = codes "sent " ++ (actor_text s o.to.0 ++ (codes " " ++ (body_text s o.body ++ codes "\n")))

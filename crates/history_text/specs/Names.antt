@@ -1,5 +1,5 @@
--- How actors, trees and items are named in a history's lines, and what a vote, a notice and an answer say. What the script
--- doesn't have is printed by its number.
+-- How actors, trees and items are named in a history's lines, and what a vote, a notice and an answer say. What the
+-- script doesn't have is printed by its number.
 use Rattle.std.specs.Prelude.{if◌then◌else◌, ℕ, ◌==◌, Bool, true, false, List, [], ◌∷◌, ◌++◌, codes, decimal, Option, Some, None, slice_get}
 use Rattle.std.specs.Fmt.{signed_decimal}
 use Rattle.tv_base.specs.declared.numbers.ItemNo.{ItemNo}

@@ -1,9 +1,6 @@
 // What actors do beside sending letters.
 ghost use Rattle.std.specs.Prelude.{◌≡◌, ◌++◌, OnOk};
-ghost use Rattle.report_text.specs.Lines.{count_text};
 ghost use Rattle.history_text.specs.Acts.{act_text};
-ghost use Rattle.history_text.specs.Bodies.{at_version};
-ghost use Rattle.history_text.specs.Names.{commit_word, got_text, item_word, sub_word, tree_word, vote_text};
 
 use crate::letter_lines::push_version;
 use crate::naming::{push_item_word, push_sub_word, push_tree_word};

@@ -1,10 +1,6 @@
 // The lines of a history.
 ghost use Rattle.std.specs.Prelude.{◌≡◌, ◌++◌, IfOk, OnOk};
-ghost use Rattle.report_text.specs.Lines.{count_text};
 ghost use Rattle.history_text.specs.History.{act_line, act_lines, entry_line, entry_lines, history_lines_of, sent_line, sent_lines, took_text};
-ghost use Rattle.history_text.specs.Acts.{act_text};
-ghost use Rattle.history_text.specs.Bodies.{body_text};
-ghost use Rattle.history_text.specs.Names.{actor_text};
 
 use crate::act_lines::push_act;
 use crate::letter_lines::push_body;

@@ -1,9 +1,7 @@
 // What letters say.
 ghost use Rattle.std.specs.Prelude.{◌≡◌, ◌++◌, OnOk};
 ghost use Rattle.std.specs.Str.{IsAscii};
-ghost use Rattle.report_text.specs.Lines.{count_text};
 ghost use Rattle.history_text.specs.Bodies.{at_version, body_text, numbers_text, order_text, round_text, three_text};
-ghost use Rattle.history_text.specs.Names.{answer_text, commit_word, notice_text, sub_word, tree_word};
 
 use crate::naming::{push_sub_word, push_tree_word};
 use crate::votes_text::{push_answer, push_commit, push_notice};

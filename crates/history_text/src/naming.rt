@@ -1,7 +1,6 @@
 // Actors, trees and items by name. What the script doesn't have is printed by its number.
-ghost use Rattle.std.specs.Prelude.{◌≡◌, ◌++◌, OnOk, codes};
+ghost use Rattle.std.specs.Prelude.{◌≡◌, ◌++◌, OnOk};
 ghost use Rattle.std.specs.Str.{IsAscii};
-ghost use Rattle.report_text.specs.Lines.{count_text};
 ghost use Rattle.history_text.specs.Names.{actor_text, item_text, item_word, sub_word, tree_text, tree_word};
 
 use report_text::{push_count, push_number};

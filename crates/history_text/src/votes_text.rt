@@ -1,5 +1,5 @@
 // What votes, notices and answers say.
-ghost use Rattle.std.specs.Prelude.{◌≡◌, ◌++◌, OnOk, codes, slice_get};
+ghost use Rattle.std.specs.Prelude.{◌≡◌, ◌++◌, OnOk, slice_get};
 ghost use Rattle.std.specs.Str.{IsAscii};
 ghost use Rattle.report_text.specs.Report.{get_text};
 ghost use Rattle.history_text.specs.Names.{answer_text, cause_text, cause_word, commit_word, got_text, item_text, notice_text, vote_text, whole_word, yes_text};

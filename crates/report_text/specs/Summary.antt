@@ -58,11 +58,13 @@ trees_counts ts =
 -- what a script has that was made by the seed
 abbrev pub counts_line : ScriptData → ℕ → List ℕ
 counts_line s seed =
-    count_text (codes "soak seed ") seed ++ (trees_counts s.trees ++ (count_text (codes " advances ") (advances s) ++ codes "\n"))
+    count_text (codes "soak seed ") seed
+    ++ (trees_counts s.trees ++ (count_text (codes " advances ") (advances s) ++ codes "\n"))
 
 -- the worth of all sums, and of all tops
 abbrev pub totals_line : ℤ → ℤ → List ℕ
-totals_line sum top = codes "total sum " ++ (signed_decimal sum ++ (codes " top " ++ (signed_decimal top ++ codes "\n")))
+totals_line sum top =
+    codes "total sum " ++ (signed_decimal sum ++ (codes " top " ++ (signed_decimal top ++ codes "\n")))
 
 -- the line of counts, and that of what all items are worth at the version that reads are shown
 abbrev pub summary_of : ScriptData → List Entry → ℕ → List ℕ

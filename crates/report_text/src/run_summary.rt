@@ -1,11 +1,9 @@
 // The summary of a run.
-ghost use Rattle.std.specs.Prelude.{◌≡◌, ◌++◌, ◌<◌, ◌≤◌, ◌^◌, IfOk, OnOk, codes, length, unsigned_abs};
-ghost use Rattle.std.specs.Fmt.{signed_decimal};
+ghost use Rattle.std.specs.Prelude.{◌≡◌, ◌++◌, ◌<◌, ◌≤◌, ◌^◌, IfOk, OnOk, length, unsigned_abs};
 ghost use Rattle.commute_ops.specs.declared.kinds.TheConstants.{MOST_AMOUNT};
 ghost use Rattle.tx_trees.specs.Adding.{all_subs};
 ghost use Rattle.tx_trees.specs.Counts.{if_update};
 ghost use Rattle.board_model.specs.Balances.{worths};
-ghost use Rattle.report_text.specs.Lines.{count_text};
 ghost use Rattle.report_text.specs.Summary.{counts_line, number_of, one_read, kind_worth, part_of, read_trees, summary_of, totals_line, trees_counts, update_trees};
 ghost use Rattle.report_text.specs.Totals.{AreSmall, kind_total};
 

@@ -9,17 +9,13 @@ use Rattle.tx_trees.specs.declared.parts.ItemRow.{ItemRow}
 use Rattle.tx_trees.specs.declared.parts.TreeKind.{TreeKind}
 use Rattle.script_gen.specs.Draws.{after_draws, given}
 use Rattle.tv_base.specs.Draws.{next_draw}
-use Rattle.script_gen.specs.Generated.{amount_by, deed_by, home_by, item_by, item_name, kind_by, node_by, parent_by, tree_name, tree_with}
+use Rattle.script_gen.specs.Generated.{amount_by, deed_by, home_by, item_by, item_name, kind_by, node_by, own_draw, parent_by, tree_name, tree_with}
 use Rattle.script_gen.specs.Within.{HasRoom, bare_tree, with_begun}
 use Rattle.script_gen.proofs.Items.{item_found}
 use Rattle.script_gen.proofs.Trees.{item_less, next_op_may, next_sub_may, node_is, op_added, parent_is, sub_added, tree_begun, tree_may}
 
 abbrev at_node : ℕ → NodeNo
 at_node n = record { 0 = n }
-
--- the tree's own draw
-abbrev own_draw : ℕ → ℕ
-own_draw x = given (next_draw x)
 
 pub begin_may : (s : ScriptData) (j x home : ℕ) (kind : TreeKind) → HasRoom j s → kind ≡ kind_by (own_draw x) → home ≡ home_by (own_draw x)
     → MayAddTree s (tree_name j) kind (at_node home)

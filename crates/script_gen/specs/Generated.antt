@@ -1,5 +1,5 @@
 -- The script that a seed makes: 4 nodes, 32 items, and so many trees, each from draws of its own.
-use Rattle.std.specs.Prelude.{if◌then◌else◌, ℕ, zero, suc, ◌+◌, ◌*◌, ◌/◌, ◌%◌, ◌==◌, ℤ, pos, List, [], ◌∷◌, ◌++◌, None, codes, decimal, Bool, false}
+use Rattle.std.specs.Prelude.{if◌then◌else◌, ℕ, zero, suc, ◌+◌, ◌*◌, ◌/◌, ◌%◌, ◌==◌, ℤ, pos, List, [], ◌∷◌, ◌++◌, codes, decimal, Bool, false, None}
 use Rattle.commute_ops.specs.declared.kinds.Kind.TheVariants as kinds
 use Rattle.commute_ops.specs.declared.kinds.Op.TheVariants as ops
 use Rattle.tx_trees.specs.ScriptData.{ScriptData}
@@ -84,20 +84,25 @@ generated_sub kind home k e = record {
 -- the first n subtransactions, each by one draw after x
 abbrev pub subs_up_to : TreeKind → ℕ → ℕ → ℕ → List Sub
 subs_up_to kind home x zero = []
-subs_up_to kind home x (suc k) = subs_up_to kind home x k ++ generated_sub kind home k (given (after_draws (suc k) x)) ∷ []
+subs_up_to kind home x (suc k) =
+    subs_up_to kind home x k ++ generated_sub kind home k (given (after_draws (suc k) x)) ∷ []
+
+-- a tree's own draw, where its draws begin after x
+abbrev pub own_draw : ℕ → ℕ
+own_draw x = given (next_draw x)
 
 -- tree j with its first n subtransactions, by the draws after x, of which the first is the tree's own
 abbrev pub tree_with : ℕ → ℕ → ℕ → Tree
 tree_with j x n = record {
   name = tree_name j;
-  kind = kind_by (given (next_draw x));
-  subs = subs_up_to (kind_by (given (next_draw x))) (home_by (given (next_draw x))) (next_draw x) n;
+  kind = kind_by (own_draw x);
+  subs = subs_up_to (kind_by (own_draw x)) (home_by (own_draw x)) (next_draw x) n;
   written = None;
 }
 
 -- how many subtransactions the tree has whose draws begin after x
 abbrev pub size_after : ℕ → ℕ
-size_after x = more_by (given (next_draw x)) + 1
+size_after x = more_by (own_draw x) + 1
 
 abbrev pub generated_tree : ℕ → ℕ → Tree
 generated_tree j x = tree_with j x (size_after x)

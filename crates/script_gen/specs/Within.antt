@@ -1,6 +1,6 @@
 -- The script while it is generated. Only the code of the generator cites it.
-use Rattle.std.specs.Prelude.{◌≡◌, ◌<◌, ◌≤◌, ℕ, suc, ◌*◌, true, false, List, [], ◌∷◌, ◌++◌, length}
-use Rattle.tx_trees.specs.Adding.{all_ops, all_subs, names_tree, with_row}
+use Rattle.std.specs.Prelude.{◌≡◌, ◌<◌, ◌≤◌, ℕ, suc, ◌*◌, true, false, List, [], ◌∷◌, ◌++◌, length, None}
+use Rattle.tx_trees.specs.Adding.{all_ops, all_subs, names_tree, with_op, with_row}
 use Rattle.tx_trees.specs.Counts.{strict_trees, trees_puts}
 use Rattle.tx_trees.specs.ScriptData.{ScriptData}
 use Rattle.tx_trees.specs.Valid.{trees_load}
@@ -9,13 +9,22 @@ use Rattle.tx_trees.specs.declared.parts.ScriptRow.{ScriptRow}
 use Rattle.tx_trees.specs.declared.parts.ScriptRow.TheVariants as rows
 use Rattle.tx_trees.specs.declared.parts.Sub.{Sub}
 use Rattle.tx_trees.specs.declared.parts.Tree.{Tree}
+use Rattle.tx_trees.specs.declared.parts.TreeKind.{TreeKind}
 use Rattle.script_gen.specs.Draws.{after_draws, given}
 use Rattle.tv_base.specs.Draws.{next_draw}
-use Rattle.script_gen.specs.Generated.{home_by, items_up_to, kind_by, node_by, parent_by, rows_up_to, subs_up_to, tree_name, trees_up_to}
+use Rattle.script_gen.specs.Generated.{amount_by, deed_by, home_by, item_by, items_up_to, kind_by, node_by, own_draw, parent_by, rows_up_to, subs_up_to, tree_name, trees_up_to}
 
 -- the first n items
 abbrev pub with_items : ℕ → ScriptData
-with_items n = record { form = forms.One; nodes = 4; items = items_up_to n; trees = []; rows = []; picks = []; begun = false }
+with_items n = record {
+  form = forms.One;
+  nodes = 4;
+  items = items_up_to n;
+  trees = [];
+  rows = [];
+  picks = [];
+  begun = false;
+}
 
 -- the script with its first j trees
 pub record HasTrees (seed j : ℕ) (s : ScriptData) : Type 0 where
@@ -48,14 +57,23 @@ bare_sub home n e = record { parent = record { 0 = parent_by n e }; node = recor
 abbrev pub bare_tree : ℕ → ℕ → ℕ → Tree
 bare_tree j x n = record {
   name = tree_name j;
-  kind = kind_by (given (next_draw x));
-  subs = subs_up_to (kind_by (given (next_draw x))) (home_by (given (next_draw x))) (next_draw x) n
-      ++ bare_sub (home_by (given (next_draw x))) n (given (after_draws (suc n) (next_draw x))) ∷ [];
+  kind = kind_by (own_draw x);
+  subs = subs_up_to (kind_by (own_draw x)) (home_by (own_draw x)) (next_draw x) n
+      ++ bare_sub (home_by (own_draw x)) n (given (after_draws (suc n) (next_draw x))) ∷ [];
+  written = None;
 }
 
 -- the script with one more tree, which is tree j and is begun
 abbrev pub with_begun : ScriptData → ℕ → Tree → ScriptData
-with_begun s j t = record s { trees = s.trees ++ t ∷ []; rows = s.rows ++ rows.Tree (record { 0 = j }) ∷ []; begun = true }
+with_begun s j t = record s {
+  trees = s.trees ++ t ∷ [];
+  rows = s.rows ++ rows.Tree (record { 0 = j }) ∷ [];
+  begun = true;
+}
+
+-- the script with the operation at this node by its draw
+abbrev pub with_op_by : ScriptData → TreeKind → ℕ → ℕ → ScriptData
+with_op_by s kind node e = with_op s (item_by node e) (deed_by kind (item_by node e) (amount_by e))
 
 -- the script with a row more, or none, and with all else but for whether a tree is begun
 pub record Follows (s t : ScriptData) (more : List ScriptRow) : Type 0 where

@@ -1,5 +1,5 @@
 // Numbers that are drawn from a seed.
-ghost use Rattle.std.specs.Prelude.{◌≡◌, ◌<◌, ◌^◌};
+ghost use Rattle.std.specs.Prelude.{◌≡◌};
 ghost use Rattle.script_gen.specs.Draws.{given};
 ghost use Rattle.tv_base.specs.Draws.{next_draw};
 

@@ -1,8 +1,8 @@
 // The script that a seed makes.
 ghost use Rattle.std.specs.Prelude.{◌≡◌, ◌<◌, ◌≤◌, IfOk, OnOk};
-ghost use Rattle.tx_trees.specs.Adding.{advances_in, with_row};
+ghost use Rattle.tx_trees.specs.Adding.{advances_in};
 ghost use Rattle.script_gen.specs.Generated.{generated};
-ghost use Rattle.script_gen.specs.Within.{HasTrees, with_end, with_items};
+ghost use Rattle.script_gen.specs.Within.{with_end};
 
 use crate::items_made::add_items;
 use crate::taking::{take_advance, take_settle};
@@ -11,9 +11,9 @@ use std::alloc::Global;
 use tv_base::NoMemory;
 use tx_trees::{Form, Script};
 
-/// The script of so many trees, at most 20,000, that the seed makes: 4 nodes, 32 items, and update and read trees of one
-/// to four subtransactions with one operation each, all by the draws of the seed. An advancement is asked for behind
-/// every 250th tree, and one more when all before it has ended.
+/// The script of so many trees, at most 20,000, that the seed makes: 4 nodes, 32 items, and update and read trees of
+/// one to four subtransactions with one operation each, all by the draws of the seed. An advancement is asked for
+/// behind every 250th tree, and one more when all before it has ended.
 ///
 /// Such a script keeps to all limits and rules of scripts, so only want of memory is an error.
 pub fn generate(alloc: Global, seed: u64, trees: u32) -> Result<Script, NoMemory>

@@ -2,7 +2,6 @@
 ghost use Rattle.std.specs.Prelude.{◌≡◌, ◌<◌, ◌+◌, OnOk};
 ghost use Rattle.script_gen.specs.Generated.{is_top, item_row};
 ghost use Rattle.script_gen.specs.Within.{with_items};
-ghost use Rattle.tx_trees.specs.Adding.{with_item};
 
 use crate::naming::name_of;
 use crate::taking::take_item;

@@ -1,5 +1,5 @@
 // Names of a letter and a number.
-ghost use Rattle.std.specs.Prelude.{◌≡◌, ◌<◌, ◌∷◌, [], ◌++◌, IfOk, OnOk, decimal};
+ghost use Rattle.std.specs.Prelude.{◌≡◌, ◌<◌, ◌++◌, IfOk, decimal};
 ghost use Rattle.std.specs.Str.{IsAscii};
 
 use itoa::Buffer;

@@ -1,11 +1,9 @@
 // The trees.
-ghost use Rattle.std.specs.Prelude.{◌≡◌, ◌<◌, ◌≤◌, ◌+◌, ◌/◌, ◌%◌, IfOk, OnOk, Some};
-ghost use Rattle.tx_trees.specs.Adding.{advances_in, place_of, with_op, with_tree};
+ghost use Rattle.std.specs.Prelude.{◌≡◌, ◌<◌, ◌≤◌, ◌/◌, ◌%◌, IfOk, OnOk, Some};
+ghost use Rattle.tx_trees.specs.Adding.{advances_in, place_of, with_tree};
 ghost use Rattle.tx_trees.specs.Passing.{MayAddOp, MayAddTree};
-ghost use Rattle.script_gen.specs.Draws.{after_draws, given};
-ghost use Rattle.tv_base.specs.Draws.{next_draw};
-ghost use Rattle.script_gen.specs.Generated.{advances_behind, after_tree, after_trees, amount_by, deed_by, generated_tree, home_by, item_by, item_name, kind_by, more_by, node_by, parent_by, tree_name, tree_with};
-ghost use Rattle.script_gen.specs.Within.{Follows, HasRoom, HasTrees, bare_tree, with_begun};
+ghost use Rattle.script_gen.specs.Generated.{advances_behind, after_tree, amount_by, deed_by, generated_tree, home_by, item_by, item_name, kind_by, more_by, tree_name};
+ghost use Rattle.script_gen.specs.Within.{Follows, HasRoom, HasTrees, with_begun, with_op_by};
 
 use crate::draws::{given, next_draw};
 use crate::items_made::is_top;
@@ -97,7 +95,7 @@ fn add_op(
     requires node { node < 4 }
     requires named { place_of (item_name (item_by node e)) script.old.items ≡ Some (item_by node e) }
     requires may { MayAddOp script.old (item_by node e) (deed_by kind (item_by node e) (amount_by e)) }
-    ensures { OnOk result (script.new ≡ with_op script.old (item_by node e) (deed_by kind (item_by node e) (amount_by e))) }
+    ensures { OnOk result (script.new ≡ with_op_by script.old kind node e) }
 {
     let item = item_by(node, e);
     let name = name_of(alloc, b"i", item)?;
