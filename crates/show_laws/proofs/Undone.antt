@@ -89,7 +89,8 @@ subs_raise x (k ∷ ks) w is =
 
 -- An undone tree leaves every value as it is.
 
-undone_leaves : (x : ℕ) (ks : List Sub) (failed : ℕ) (w : Value) → subs_add ks ≡ true → after_subs x (undone ks failed) w ≡ w
+undone_leaves : (x : ℕ) (ks : List Sub) (failed : ℕ) (w : Value) → subs_add ks ≡ true
+    → after_subs x (undone ks failed) w ≡ w
 undone_leaves x ks failed w is =
     subs_raise x (undone ks failed) w (undone_adds ks failed is)
     ∙ raised_none (subs_added x (undone ks failed)) w (undone_even ks failed x)
@@ -117,12 +118,13 @@ leaves_by : (s : ScriptData) (t x : ℕ) (w : Value) → IsValid s → (found : 
     → is_undone s t ≡ true → after_tree s x w t ≡ w
 leaves_by s t x w valid None at is = absurd (let no : is_undone s t ≡ false = rw (at, is_undone) refl in cc (no, is))
 leaves_by s t x w valid (Some tree) at is =
-    let some : is_some tree.written ≡ true = (let same : is_undone s t ≡ is_some tree.written = rw (at, is_undone) refl in sym same ∙ is) in
+    let same : is_undone s t ≡ is_some tree.written = rw (at, is_undone) refl in
     ap (λ (ks : List Sub). after_subs x ks w) (found_subs s t tree at)
-    ∙ trees_leave s.form s.nodes s.items [] s.trees t x tree w valid.failed at some
+    ∙ trees_leave s.form s.nodes s.items [] s.trees t x tree w valid.failed at (sym same ∙ is)
 
 -- an undone tree of a valid script leaves item x as it is
-pub undone_tree_leaves : (s : ScriptData) (t x : ℕ) (w : Value) → IsValid s → is_undone s t ≡ true → after_tree s x w t ≡ w
+pub undone_tree_leaves : (s : ScriptData) (t x : ℕ) (w : Value) → IsValid s → is_undone s t ≡ true
+    → after_tree s x w t ≡ w
 undone_tree_leaves s t x w valid is = leaves_by s t x w valid (slice_get s.trees t) refl is
 
 -- So nothing is worth more or less without them.
@@ -144,13 +146,14 @@ worth_is_kept s h x v valid =
     fold_kept (after_tree s x) (is_undone s) (first_value (slice_get s.items x)) (serial_to s h v)
     (λ t u is. undone_tree_leaves s t x u valid is)
 
-pub shown_is_kept : (s : ScriptData) (h : List Entry) (v : ℕ) (os : List SubOp) → IsValid s → shown s h v os ≡ shown_kept s h v os
+pub shown_is_kept : (s : ScriptData) (h : List Entry) (v : ℕ) (os : List SubOp) → IsValid s
+    → shown s h v os ≡ shown_kept s h v os
 shown_is_kept s h v [] valid = refl
 shown_is_kept s h v (o ∷ os) valid =
     let one = worth_is_kept s h o.item.0 v valid in let rest = shown_is_kept s h v os valid in cc
 
-shown_at : (s : ScriptData) (h : List Entry) (os : List SubOp) (values : List (ItemNo × Value)) (born : Option Version) → IsValid s
-    → IsShown s h os values born → IsShownKept s h os values born
+shown_at : (s : ScriptData) (h : List Entry) (os : List SubOp) (values : List (ItemNo × Value)) (born : Option Version)
+    → IsValid s → IsShown s h os values born → IsShownKept s h os values born
 shown_at s h os values None valid is = is
 shown_at s h os values (Some v) valid is = is ∙ shown_is_kept s h v.0 os valid
 

@@ -17,7 +17,7 @@ use Rattle.board_model.specs.Worth.{after_tree, first_value}
 abbrev pub is_undone : ScriptData → ℕ → Bool
 is_undone s t = elim (slice_get s.trees t) [ Some tree ↦ is_some tree.written | None ↦ false ]
 
--- what item x is worth at version v by the trees that weren't undone: the undone ones are left out of the serial order
+-- what item x is worth at version v by the trees that weren't undone: the others are left out of the serial order
 abbrev pub worth_kept : ScriptData → List Entry → ℕ → ℕ → Value
 worth_kept s h x v =
     fold (after_tree s x) (first_value (slice_get s.items x)) (filter (λ (t : ℕ). not (is_undone s t)) (serial_to s h v))
