@@ -11,6 +11,7 @@ use Rattle.letter_types.specs.declared.entries.Entry.{Entry}
 use Rattle.move_laws.proofs.BoardRuns.{board_run}
 use Rattle.run_laws.proofs.InTime.{in_time}
 use Rattle.show_laws.proofs.Staying.{reads_right, stay_right, updates_first}
+use Rattle.show_laws.proofs.Undone.{nothing_undone}
 use Rattle.tree_laws.proofs.Whole.{whole}
 use Rattle.tx_trees.specs.ScriptData.{ScriptData}
 use Rattle.tx_trees.specs.Valid.{IsValid}
@@ -37,6 +38,7 @@ headline_past s past sound run finished =
       fits = fits_run s past sound run timely;
       three = held_three s past sound run;
       at_once = no_wait s past sound.valid sound.runnable run timely;
+      undone = nothing_undone s past sound.valid sound.runnable run;
     }
 
 -- of a run by the tables

@@ -3,7 +3,7 @@
 -- Whatever order the nodes' steps and the letters' arrivals take, a run that ends Ok has written the report of its own
 -- stored history, in which every read tree shows exactly the whole update trees of its version or older, all committed
 -- trees are a serial run ordered by version, no item has held more than three versions, and no read or commuting step has
--- waited for version advancement.
+-- waited for version advancement. And no read shows any part of a tree that was undone.
 use Rattle.std.specs.Prelude.{ℕ, ◌<◌, List, length}
 use Rattle.letter_types.specs.declared.entries.Entry.{Entry}
 use Rattle.tx_trees.specs.ScriptData.{ScriptData}
@@ -13,6 +13,7 @@ use Rattle.board_model.specs.Moves.{IsBoardRun}
 use Rattle.board_model.specs.Right.{HasFinished, IsAtOnce, IsRight}
 use Rattle.world_model.specs.Runs.{WorldRun}
 use Rattle.show_laws.specs.Reads.{ReadsStayRight, UpdatesComeFirst}
+use Rattle.show_laws.specs.Undone.{ShowsNothingUndone}
 use Rattle.hold_laws.specs.Held.{HasHeldThree, IsSettled}
 
 -- The headline of a script and a history, with a field a phrase, in its order. That its report was written is said beside
@@ -38,3 +39,5 @@ pub record HasHeadline (s : ScriptData) (h : List Entry) : Type 0 where
   pub three : HasHeldThree s h
   -- no read or commuting step has waited for version advancement
   pub at_once : IsAtOnce s h
+  -- and no read shows any part of a tree that was undone
+  pub undone : ShowsNothingUndone s h

@@ -6,3 +6,5 @@ pub mod Before
 pub mod Early
 pub mod RightReads
 pub mod Staying
+pub mod Undone
+pub mod Sampled

@@ -38,7 +38,7 @@ use Rattle.show_laws.proofs.OwnWorth.{stands_exactly}
 use Rattle.show_laws.proofs.RightReads.{ReadsAt, entry_reads, shown_valued}
 
 -- what follows for each of a list
-acts_map : (P Q : Act → Type 0) (acts : List Act) → ((a : Act) → P a → Q a) → AllByRecursion P acts → AllByRecursion Q acts
+pub acts_map : (P Q : Act → Type 0) (acts : List Act) → ((a : Act) → P a → Q a) → AllByRecursion P acts → AllByRecursion Q acts
 acts_map P Q [] step all = tt
 acts_map P Q (a ∷ acts) step all = (step a all.0, acts_map P Q acts step all.1)
 

@@ -1,10 +1,12 @@
-//! Laws of reads: they show just the whole update trees of their version and older ones, and stay right.
+//! Laws of reads: they show just the whole update trees of their version and older ones, nothing of a tree that was
+//! undone, and stay right.
 #![tactic(auto)]
 
 ghost use Rattle.std.specs.Prelude.{List, reverse};
 ghost use Rattle.board_model.specs.Right.{IsRight};
 ghost use Rattle.letter_types.specs.declared.entries.Entry.{Entry};
 ghost use Rattle.show_laws.specs.Reads.{ReadsStayRight, UpdatesComeFirst};
+ghost use Rattle.show_laws.specs.Undone.{ShowsNothingUndone};
 ghost use Rattle.tx_trees.specs.ScriptData.{ScriptData};
 ghost use Rattle.tx_trees.specs.Valid.{IsValid};
 ghost use Rattle.world_model.specs.Runs.{StepRun};
@@ -28,4 +30,11 @@ pub fn updates_come_first()
 pub fn reads_stay_right()
     ensures { (s : ScriptData) (past : List Entry) → IsValid s → Runnable s → StepRun s past
         → ReadsStayRight s (reverse past) }
+{}
+
+/// What a step of a read tree gave is also what its items are worth at the tree's version by the trees alone that weren't
+/// undone: no read shows any part of a tree that was undone.
+pub fn no_read_shows_what_was_undone()
+    ensures { (s : ScriptData) (past : List Entry) → IsValid s → Runnable s → StepRun s past
+        → ShowsNothingUndone s (reverse past) }
 {}
