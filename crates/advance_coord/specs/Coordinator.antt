@@ -125,7 +125,8 @@ abbrev pub row_of : Body → Phase → ℕ → Coordinator → Out Coordinator
 row_of Advance Idle from c = begin_phase Turning (Turn (version (one_more c.update))) c
 row_of Advance _ from c = still (record c { waits = one_more c.waits })
 row_of (Turned v) Turning from c = acknowledged (begin_round false c) c
-row_of (DoneRow v k row) (Counting reads) from c = if is_of from v k row c.current then keep_done from row c else still c
+row_of (DoneRow v k row) (Counting reads) from c =
+    if is_of from v k row c.current then keep_done from row c else still c
 row_of (AskedRow v k row) (Counting reads) from c =
     if is_of from v k row c.current && all_in c.current.dones then keep_asked reads from row c else still c
 row_of Nudge (Counting reads) from c = still (record c { flag = true })

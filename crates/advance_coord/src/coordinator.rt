@@ -200,7 +200,8 @@ impl Coordinator {
 
     /// A node has turned, in phase turning.
     fn on_turned(&mut self, alloc: Global) -> Result<Step, NoMemory>
-        ensures row { IfOk result (λ step. made self.new step.given ≡ acknowledged (begin_round false self.old) self.old) }
+        ensures row { IfOk result (λ step. made self.new step.given
+            ≡ acknowledged (begin_round false self.old) self.old) }
         ensures kept { IfOk result (λ step. step.kept ≡ step.given) }
         ensures err { OnErr result (self.new ≡ self.old) }
     {
@@ -212,7 +213,8 @@ impl Coordinator {
 
     /// A node shows the update version, in phase showing.
     fn on_shown(&mut self, alloc: Global) -> Result<Step, NoMemory>
-        ensures row { IfOk result (λ step. made self.new step.given ≡ acknowledged (begin_round true self.old) self.old) }
+        ensures row { IfOk result (λ step. made self.new step.given
+            ≡ acknowledged (begin_round true self.old) self.old) }
         ensures kept { IfOk result (λ step. step.kept ≡ step.given) }
         ensures err { OnErr result (self.new ≡ self.old) }
     {
@@ -333,7 +335,8 @@ impl Coordinator {
 
     /// Does what the verdict asks for.
     fn judge(&mut self, alloc: Global, reads: bool) -> Result<Step, NoMemory>
-        ensures row { IfOk result (λ step. made self.new step.given ≡ judged reads (verdict_of self.old.current) self.old) }
+        ensures row { IfOk result (λ step. made self.new step.given
+            ≡ judged reads (verdict_of self.old.current) self.old) }
         ensures kept { IfOk result (λ step. step.kept ≡ step.given) }
         ensures err { OnErr result (self.new ≡ self.old) }
     {

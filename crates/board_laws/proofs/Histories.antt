@@ -7,6 +7,7 @@ use Rattle.tv_base.proofs.ByPlace.{slice_get_split}
 use Rattle.letter_types.specs.declared.entries.Entry.{Entry}
 use Rattle.tx_trees.specs.ScriptData.{ScriptData}
 use Rattle.board_model.specs.Histories.{Place, places_at, places_of}
+use Rattle.board_model.specs.Moves.{AtEachAct, OneByOne}
 use Rattle.board_model.proofs.Places.{places_of-append}
 use Rattle.world_model.specs.Runs.{StepRun}
 use Rattle.world_model.proofs.Bridge.{reverse_more}
@@ -18,7 +19,7 @@ places_more e past =
     ∙ ap (λ (xs : List Place). places_of (reverse past) ++ xs) (append-nil (places_at e))
 
 -- up to an earlier entry
-earlier : (e : Entry) (past : List Entry) (n : ℕ) → n ≤ length (reverse past)
+pub earlier : (e : Entry) (past : List Entry) (n : ℕ) → n ≤ length (reverse past)
     → take n (reverse past) ≡ take n (reverse (e ∷ past))
 earlier e past n le = rw (reverse_more e past) (sym (take-append-le n (reverse past) (e ∷ []) le))
 
@@ -39,6 +40,25 @@ one_more P e past old new n x here =
       | inl p ↦ subst (λ (h : List Entry). P h x) (earlier e past (n + 1) (omega (arith, p.0))) (old n x p.1)
       | inr p ↦ subst (λ (y : Entry). P (take (n + 1) (reverse (e ∷ past))) y) p.1
           (subst (λ (h : List Entry). P h e) (whole e past (n + 1) (omega (arith, p.0))) new)
+    ]
+
+-- up to before the last entry
+before_last : (e : Entry) (past : List Entry) (n : ℕ) → n ≡ length (reverse past)
+    → reverse past ≡ take n (reverse (e ∷ past))
+before_last e past n is =
+    sym (take_all n (reverse past) (omega (arith, is))) ∙ earlier e past n (omega (arith, is))
+
+-- what holds of each act and the history before its entry, with one entry more
+pub at_each_act_more : (P : List Entry → List Place → Place → Type 0) (e : Entry) (past : List Entry)
+    → AtEachAct P (reverse past) → OneByOne (P (reverse past)) (places_of (reverse past)) (places_at e)
+    → AtEachAct P (reverse (e ∷ past))
+at_each_act_more P e past old new n x here =
+    elim (slice_get_split (reverse past) e n x (rw (reverse_more e past) at here)) [
+      | inl p ↦ subst (λ (h : List Entry). OneByOne (P h) (places_of h) (places_at x)) (earlier e past n (omega (arith, p.0)))
+          (old n x p.1)
+      | inr p ↦ subst (λ (y : Entry). OneByOne (P (take n (reverse (e ∷ past)))) (places_of (take n (reverse (e ∷ past)))) (places_at y))
+          p.1
+          (subst (λ (h : List Entry). OneByOne (P h) (places_of h) (places_at e)) (before_last e past n p.0) new)
     ]
 
 -- without its last entries, a run is a run

@@ -275,7 +275,7 @@ turn_fold s h x u v true w = refl
 turn_fold s h x u v false w = refl
 
 -- a letter that sweeps names no version below the low one
-swept_above : (low v : ℕ) (rest : Bool) → (nat_le low v && rest) ≡ true → low ≤ v
+pub swept_above : (low v : ℕ) (rest : Bool) → (nat_le low v && rest) ≡ true → low ≤ v
 swept_above low v rest is = let first : nat_le low v ≡ true = left_true (nat_le low v) rest is in grind (arith, nat_tests)
 
 order_sees : (s : ScriptData) (past : List Entry) (e : Entry) (p : ℕ) (out : Out Node) → AreVersioned s past

@@ -75,7 +75,7 @@ seen-touched low u v op (x ∷ xs) w from le is =
 abbrev pub seen_of : Version → Option Held → Option Value
 seen_of u found = elim found [ None ↦ None | Some h ↦ seen u h ]
 
-same_item : (n x : ItemNo) (items : Table) → n.0 ≡ x.0 → item_in n items ≡ item_in x items
+pub same_item : (n x : ItemNo) (items : Table) → n.0 ≡ x.0 → item_in n items ≡ item_in x items
 same_item n x items is = ap (λ (k : ℕ). item_in (record { 0 = k }) items) is
 
 put_seen : (low : ℕ) (u v : Version) (n x : ItemNo) (op : Op) (items : Table) (held : Held) (w : Value) → Each (IsFrom low) items

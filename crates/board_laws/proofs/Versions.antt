@@ -70,7 +70,7 @@ some_or None b is = absurd (cc is)
 pub version_stays : (t : ℕ) (xs ys : List Place) → is_some (version_in t xs) ≡ true → version_in t (xs ++ ys) ≡ version_in t xs
 version_stays t xs ys is = version_in-append t xs ys ∙ some_or (version_in t xs) (version_in t ys) is
 
-born_by : (found : Option Version) (v : Version) → found ≡ Some v → is_some found ≡ true
+pub born_by : (found : Option Version) (v : Version) → found ≡ Some v → is_some found ≡ true
 born_by found v is = rw is refl
 
 -- a tree without births isn't born
@@ -169,7 +169,7 @@ pub not_both : (s : ScriptData) (t k : ℕ) → SubAt s t k → updates s t ≡ 
 not_both s t k c up read = let no : true ≡ false = sym up ∙ reads_alone s t k c read in cc no
 
 -- The entry of a root.
-born_here : (t : TreeNo) (v : Version) (node : ℕ) (xs ys : List Place) → version_in t.0 xs ≡ None
+pub born_here : (t : TreeNo) (v : Version) (node : ℕ) (xs ys : List Place) → version_in t.0 xs ≡ None
     → version_in t.0 (xs ++ record { node = node; act = Born t v } ∷ ys) ≡ Some v
 born_here t v node xs ys none =
     let itself : (t.0 == t.0) ≡ true = grind (arith, nat_tests) in

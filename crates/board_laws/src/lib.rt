@@ -1,11 +1,10 @@
-//! Laws of the board: nothing waits, every read is right, and nodes see what their own deeds have made.
+//! Laws of the board: nothing waits, and nodes see what their own deeds have made.
 #![tactic(auto)]
 
-ghost use Rattle.std.specs.Prelude.{◌≡◌, List, reverse};
+ghost use Rattle.std.specs.Prelude.{List, reverse};
 ghost use Rattle.board_laws.specs.OwnValues.{SeesOwn};
-ghost use Rattle.board_model.specs.Right.{IsAtOnce, IsRight};
+ghost use Rattle.board_model.specs.Right.{IsAtOnce};
 ghost use Rattle.letter_types.specs.declared.entries.Entry.{Entry};
-ghost use Rattle.tx_trees.specs.Adding.{advances_in};
 ghost use Rattle.tx_trees.specs.ScriptData.{ScriptData};
 ghost use Rattle.tx_trees.specs.Valid.{IsValid};
 ghost use Rattle.world_model.specs.Runs.{StepRun};
@@ -24,11 +23,4 @@ pub fn no_step_waits()
 pub fn nodes_see_their_own_deeds()
     ensures { (s : ScriptData) (past : List Entry) → IsValid s → Runnable s → StepRun s past → AllTimely s past
         → SeesOwn s past }
-{}
-
-/// In every run of a valid script of update and read trees without advancements each read shows what its items were
-/// worth at its tree's version in the history up to there.
-pub fn every_read_is_right()
-    ensures { (s : ScriptData) (past : List Entry) → IsValid s → Runnable s → advances_in s.rows ≡ 0 → StepRun s past
-        → IsRight s (reverse past) }
 {}

@@ -171,7 +171,8 @@ worth_of_ops s h x v ops valid c same =
     values_are_free_of_order (trees_on s x (serial_to s h v)) ops same (first_value (slice_get s.items x))
     ∙ sym (worth_is s h x v valid c)
 
-exchanged : (a b : List Op) (w : Value) → fold applied (fold applied w a) b ≡ fold applied (fold applied w b) a
+-- two lists of operations, the one after the other
+pub exchanged : (a b : List Op) (w : Value) → fold applied (fold applied w a) b ≡ fold applied (fold applied w b) a
 exchanged a b w =
     sym (fold-append applied w a b)
     ∙ values_are_free_of_order (b ++ a) (a ++ b) (IsPermutation-append_comm b a) w

@@ -1,4 +1,5 @@
--- What all items are worth at a version, side by side, and which of them are written. Only the code of the report cites it.
+-- What all items are worth at a version, side by side, and which of them are written. Only the code of the report cites
+-- it.
 use Rattle.std.specs.Prelude.{if◌then◌else◌, ℕ, zero, suc, Bool, true, false, ◌&&◌, ◌+◌, List, [], ◌∷◌, Some, None, slice_get, slice_set}
 use Rattle.commute_ops.specs.declared.value.Value.{Value}
 use Rattle.letter_types.specs.declared.entries.Entry.{Entry}

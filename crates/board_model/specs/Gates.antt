@@ -35,8 +35,8 @@ sweeps_to v _ = false
 abbrev pub was_swept : ℕ → ℕ → List Place → Bool
 was_swept p v xs = list_any (λ (x : Place). (x.node == p) && sweeps_to v x.act) xs
 
--- the gate of row i is open after these acts: each tree for which it waits is whole, and for each advancement, the first
--- of which ends with version 1, every node has collected to its version
+-- the gate of row i is open after these acts: each tree for which it waits is whole, and for each advancement, the
+-- first of which ends with version 1, every node has collected to its version
 pub record IsOpen (s : ScriptData) (xs : List Place) (i : ℕ) : Type 0 where
   pub trees : (j t : ℕ) → slice_get (awaited s i) j ≡ Some (TreeRow (record { 0 = t })) → IsTrue (is_whole_in s xs t)
   pub advances : (a p : ℕ) → a < advances_in (awaited s i) → p < s.nodes → IsTrue (was_swept p (a + 1) xs)

@@ -28,7 +28,8 @@ deed_may (deeds.Draw n) w = draw_may n w
 abbrev pub ops_may : ℕ → List SubOp → Value → Bool
 ops_may x [] w = true
 ops_may x (o ∷ os) w =
-    (if o.item.0 == x then deed_may o.deed w else true) && ops_may x os (if o.item.0 == x then after_deed o.deed w else w)
+    (if o.item.0 == x then deed_may o.deed w else true)
+    && ops_may x os (if o.item.0 == x then after_deed o.deed w else w)
 
 abbrev pub subs_may : ℕ → List Sub → Value → Bool
 subs_may x [] w = true

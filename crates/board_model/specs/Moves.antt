@@ -172,8 +172,8 @@ pub record IsApplying (s : ScriptData) (xs : List Place) (p t : ℕ) (commit : B
 
 -- The Board's run.
 
--- the act is a move at node p, after the acts xs, in an entry before which the history was this one. The client's end and
--- the parking of a letter leave the Board as it is
+-- the act is a move at node p, after the acts xs, in an entry before which the history was this one. The client's end
+-- and the parking of a letter leave the Board as it is
 abbrev pub IsMoveAt : ScriptData → List Entry → List Place → ℕ → Act → Type 0
 IsMoveAt s before xs p (Born t v) = IsBirth s xs p t.0 v.0
 IsMoveAt s before xs p (Did t k values) = IsDeed s xs p t.0 k.0 values
@@ -198,7 +198,8 @@ OneByOne P xs (y ∷ ys) = P xs y × OneByOne P (xs ++ y ∷ []) ys
 
 -- what holds of every act of a history, by the history before its entry and all acts before it
 abbrev pub AtEachAct : (List Entry → List Place → Place → Type 0) → List Entry → Type 0
-AtEachAct P h = (n : ℕ) (e : Entry) → slice_get h n ≡ Some e → OneByOne (P (take n h)) (places_of (take n h)) (places_at e)
+AtEachAct P h =
+    (n : ℕ) (e : Entry) → slice_get h n ≡ Some e → OneByOne (P (take n h)) (places_of (take n h)) (places_at e)
 
 -- the acts of a history, one after the other, are moves of the Board from its start
 abbrev pub IsBoardRun : ScriptData → List Entry → Type 0

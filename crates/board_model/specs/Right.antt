@@ -42,8 +42,8 @@ abbrev pub IsRightVote : ScriptData → List Entry → List SubOp → Option Ver
 IsRightVote s before ops born (Yes values) = IsShown s before (gets_among ops) values born
 IsRightVote s before ops born (No cause) = Unit {0}
 
--- a subtransaction of a read tree shows what its items are worth at the tree's version, in the history up to and with its
--- entry; a strict tree's vote is right
+-- a subtransaction of a read tree shows what its items are worth at the tree's version, in the history up to and with
+-- its entry; a strict tree's vote is right
 abbrev pub IsRightAct : ScriptData → List Entry → List Entry → Act → Type 0
 IsRightAct s before upto (Did t k values) =
     IsTrue (reads s t.0) → IsShown s upto (ops_of s t.0 k.0) values (version_of upto t.0)

@@ -141,8 +141,8 @@ abbrev pub short_of : ScriptData → List Entry → ℕ → List SubOp → Optio
 short_of s before v [] = None
 short_of s before v (o ∷ os) = option_or (short_by o.item o.deed (worth s before o.item.0 v)) (short_of s before v os)
 
--- why a subtransaction of strict tree t with these operations at node p votes no, if it does: a lock that conflicts, else
--- a newer version, else a value that is short
+-- why a subtransaction of strict tree t with these operations at node p votes no, if it does: a lock that conflicts,
+-- else a newer version, else a value that is short
 abbrev pub cause_at : ScriptData → List Entry → List Place → ℕ → ℕ → ℕ → List SubOp → Option Cause
 cause_at s before xs p t v os =
     option_or (conflict_of s xs p t os) (option_or (newer_of s xs p v os) (short_of s before v os))

@@ -66,7 +66,11 @@ is_through_by Read subs row = all_marked (length subs) row.done
 -- what a row says of its tree
 abbrev pub standing_by : Tree → Tally → Standing
 standing_by tree row =
-    record { born = row.born; whole = is_some row.born && is_through_by tree.kind tree.subs row; committed = row.committed }
+    record {
+      born = row.born;
+      whole = is_some row.born && is_through_by tree.kind tree.subs row;
+      committed = row.committed;
+    }
 
 abbrev pub stood_by : List Tally → List Tree → List Standing
 stood_by [] trees = []

@@ -73,7 +73,8 @@ abbrev pub subs_change : ℕ → List Sub → Bool
 subs_change x [] = false
 subs_change x (k ∷ ks) = ops_change x k.ops || subs_change x ks
 
--- a tree of this kind writes, whatever it was born as: an update tree does, and a strict tree that was decided to commit
+-- a tree of this kind writes, whatever it was born as: an update tree does, and a strict tree that was decided to
+-- commit
 abbrev pub may_write : List Entry → ℕ → TreeKind → Bool
 may_write h t Update = true
 may_write h t Read = false

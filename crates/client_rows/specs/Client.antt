@@ -35,7 +35,8 @@ have_ended c rows = all_answered c.answered rows && nat_le (advances_in rows) c.
 -- ended
 abbrev pub submitted : Client → List ScriptRow → List ScriptRow → ℕ
 submitted c before [] = 0
-submitted c before (SettleRow ∷ rows) = if have_ended c before then submitted c (before ++ SettleRow ∷ []) rows + 1 else 0
+submitted c before (SettleRow ∷ rows) =
+    if have_ended c before then submitted c (before ++ SettleRow ∷ []) rows + 1 else 0
 submitted c before (row ∷ rows) = submitted c (before ++ row ∷ []) rows + 1
 
 -- a Root to its home for each tree, an Advance to the coordinator for each advancement; for a row that makes the
@@ -57,7 +58,12 @@ finishes s next c = (next == length s.rows) && (have_ended c s.rows && not c.fin
 -- the client submits what it may, behind the letters that are sent first, and finishes if all is over
 abbrev pub submit : ScriptData → Client → List Outgoing → Out Client
 submit s c first = record {
-  state = record { next = next_after s c; answered = c.answered; ended = c.ended; finished = c.finished || finishes s (next_after s c) c };
+  state = record {
+    next = next_after s c;
+    answered = c.answered;
+    ended = c.ended;
+    finished = c.finished || finishes s (next_after s c) c;
+  };
   sent = first ++ rows_letters s (take (submitted c (take c.next s.rows) (drop c.next s.rows)) (drop c.next s.rows));
   acts = if finishes s (next_after s c) c then Finished ∷ [] else [];
 }
@@ -77,6 +83,7 @@ nudge s = record { to = record { 0 = s.nodes }; body = Nudge }
 -- what the client does with a letter of this body
 abbrev pub client_row : ScriptData → Client → Body → Out Client
 client_row s c Go = submit s c []
-client_row s c (Reply t v answer) = if nat_lt t.0 (length s.trees) then submit s (with_answer t.0 c) (nudge s ∷ []) else still c
+client_row s c (Reply t v answer) =
+    if nat_lt t.0 (length s.trees) then submit s (with_answer t.0 c) (nudge s ∷ []) else still c
 client_row s c (Advanced v) = submit s (with_end c) []
 client_row s c _ = still c

@@ -86,7 +86,8 @@ pub(crate) fn step(
     rows: &[ScriptRow],
     finishes: bool,
 ) -> Result<Step, NoMemory>
-    ensures sent { IfOk result (λ step. step.given.sent ≡ sent_first script.now news ++ rows_letters script.now rows.now) }
+    ensures sent { IfOk result (λ step. step.given.sent
+        ≡ sent_first script.now news ++ rows_letters script.now rows.now) }
     ensures acts { IfOk result (λ step. step.given.acts ≡ (if finishes then Finished ∷ [] else [])) }
     ensures kept { IfOk result (λ step. step.kept ≡ step.given) }
 {

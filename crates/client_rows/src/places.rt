@@ -96,7 +96,8 @@ pub(crate) fn furthest(
     requires from { from ≡ place_at rows.now (answered_after news answered.now) from.next }
     ensures forward { from.next ≤ result.next }
     ensures within { result.next ≤ length rows.now }
-    ensures place { result ≡ place_at rows.now (answered_after news answered.now) (furthest (answered_after news answered.now) ended rows.now from.next) }
+    ensures place { result ≡ place_at rows.now (answered_after news answered.now)
+        (furthest (answered_after news answered.now) ended rows.now from.next) }
 {
     let mut at = from;
     while at.next < rows.len() {

@@ -33,7 +33,13 @@ pub record Given : Type 0 where
   pub history_given : Bool
 
 abbrev pub nothing_given : Given
-nothing_given = record { mode_given = None; workers_given = None; seed_given = None; trees_given = None; history_given = false }
+nothing_given = record {
+  mode_given = None;
+  workers_given = None;
+  seed_given = None;
+  trees_given = None;
+  history_given = false;
+}
 
 abbrev pub value_of : Opt → Given → Option Text
 value_of mode g = g.mode_given
@@ -70,7 +76,8 @@ option_in word = None
 -- a word that no option waits for: `--name=value`, `--history`, or `--name`, which waits
 abbrev pub by_option : Given → Option (Text × Option Text) → (Given → Option Opt → Option Given) → Option Given
 by_option g None next = None
-by_option g (Some (name, Some v)) next = option_and_then (λ o. option_and_then (λ h. next h None) (put o v g)) (option_of name)
+by_option g (Some (name, Some v)) next =
+    option_and_then (λ o. option_and_then (λ h. next h None) (put o v g)) (option_of name)
 by_option g (Some (name, None)) next =
     if bytes_eq (codes "history") name then option_and_then (λ h. next h None) (put_history g)
     else option_and_then (λ o. next g (Some o)) (option_of name)

@@ -21,11 +21,15 @@ abbrev pub history_rule : Rule
 history_rule = record (new_rule (codes "history")) { long = Some (codes "history"); action = Some SetTrue }
 
 abbrev pub bare_app : App
-bare_app = let a = new_app (codes "threev") in record a { top = record (a.top) { disable_help_flag = true; disable_version_flag = true } }
+bare_app =
+    let a = new_app (codes "threev") in
+    record a { top = record (a.top) { disable_help_flag = true; disable_version_flag = true } }
 
 -- the options, as clap knows them
 abbrev pub the_app : App
-the_app = with_rule (with_rule (with_rule (with_rule (with_rule bare_app mode_rule) (option_rule (codes "workers"))) (option_rule (codes "seed"))) (option_rule (codes "trees"))) history_rule
+the_app =
+    with_rule (with_rule (with_rule (with_rule (with_rule bare_app mode_rule)
+    (option_rule (codes "workers"))) (option_rule (codes "seed"))) (option_rule (codes "trees"))) history_rule
 
 abbrev pub refusal_of : ErrorKind → WordsError
 refusal_of kind.OutOfMemory = errors.NoMemory
@@ -47,4 +51,6 @@ line_from None workers seed trees history = None
 line_from (Some mode) workers seed trees history = line_with (mode_of mode) workers seed trees (is_on history)
 
 abbrev pub line_of_rows : List Row → Option Line
-line_of_rows rows = line_from (first_of (codes "mode") rows) (first_of (codes "workers") rows) (first_of (codes "seed") rows) (first_of (codes "trees") rows) (first_of (codes "history") rows)
+line_of_rows rows =
+    line_from (first_of (codes "mode") rows) (first_of (codes "workers") rows) (first_of (codes "seed") rows)
+    (first_of (codes "trees") rows) (first_of (codes "history") rows)

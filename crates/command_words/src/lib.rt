@@ -115,7 +115,9 @@ fn mode_by_word(word: &str) -> Option<Mode>
 
 // A number in its range, if it is given.
 fn given(low: u64, high: u64, text: Option<&str>) -> Result<Option<u64>, WordsError>
-    ensures { MatchResult result (λ v. (is_given_in low high (option_map (λ t. t.now) text.entry) ≡ true) × (v ≡ given_value (option_map (λ t. t.now) text.entry)))
+    ensures { MatchResult result
+        (λ v. (is_given_in low high (option_map (λ t. t.now) text.entry) ≡ true)
+        × (v ≡ given_value (option_map (λ t. t.now) text.entry)))
         (λ e. (e ≡ WordsError.Refused) × (is_given_in low high (option_map (λ t. t.now) text.entry) ≡ false)) }
 {
     let Some(text) = text else {
@@ -135,7 +137,9 @@ fn given(low: u64, high: u64, text: Option<&str>) -> Result<Option<u64>, WordsEr
 
 // A number from 1 on, if it is given.
 fn given_count(high: u32, text: Option<&str>) -> Result<Option<u32>, WordsError>
-    ensures { MatchResult result (λ v. (is_given_in 1 high (option_map (λ t. t.now) text.entry) ≡ true) × (v ≡ given_value (option_map (λ t. t.now) text.entry)))
+    ensures { MatchResult result
+        (λ v. (is_given_in 1 high (option_map (λ t. t.now) text.entry) ≡ true)
+        × (v ≡ given_value (option_map (λ t. t.now) text.entry)))
         (λ e. (e ≡ WordsError.Refused) × (is_given_in 1 high (option_map (λ t. t.now) text.entry) ≡ false)) }
 {
     let Some(text) = text else {
@@ -197,7 +201,9 @@ fn line_by_values<'a>(
     trees: Option<&'a str>,
     history: Option<&'a str>,
 ) -> Result<Line, WordsError>
-    ensures { Tells (line_from (option_map (λ t. t.now) mode.entry) (option_map (λ t. t.now) workers.entry) (option_map (λ t. t.now) seed.entry) (option_map (λ t. t.now) trees.entry) (option_map (λ t. t.now) history.entry)) result }
+    ensures { Tells (line_from (option_map (λ t. t.now) mode.entry) (option_map (λ t. t.now) workers.entry)
+        (option_map (λ t. t.now) seed.entry) (option_map (λ t. t.now) trees.entry)
+        (option_map (λ t. t.now) history.entry)) result }
 {
     let Some(mode) = mode_by_value(mode) else {
         return Err(WordsError::Refused);

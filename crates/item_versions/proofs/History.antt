@@ -75,11 +75,11 @@ holds-below : (n v : Version) (xs : Held) → holds n (below v xs) ≡ (ltb n.0 
 holds-below n v [] = grind (arith, nat_tests)
 holds-below n v (x ∷ xs) = let rest = holds-below n v xs in grind (arith, nat_tests)
 
-holds-above : (n v : Version) (xs : Held) → holds n (above v xs) ≡ (ltb v.0 n.0 && holds n xs)
+pub holds-above : (n v : Version) (xs : Held) → holds n (above v xs) ≡ (ltb v.0 n.0 && holds n xs)
 holds-above n v [] = grind (arith, nat_tests)
 holds-above n v (x ∷ xs) = let rest = holds-above n v xs in grind (arith, nat_tests)
 
-holds-touched : (n v : Version) (op : Op) (x : Version × Value) (xs : Held) → holds n (touched v op (x ∷ xs)) ≡ (v.0 == n.0 || holds n (x ∷ xs))
+pub holds-touched : (n v : Version) (op : Op) (x : Version × Value) (xs : Held) → holds n (touched v op (x ∷ xs)) ≡ (v.0 == n.0 || holds n (x ∷ xs))
 holds-touched n v op x xs =
     let w = applied (seen_after x.1 v xs) op in
     let joined = holds-append n (below v (x ∷ xs)) ((v, w) ∷ applied_to_all op (above v (x ∷ xs))) in

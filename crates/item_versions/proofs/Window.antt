@@ -28,11 +28,11 @@ pub in_window-is : (low v : ℕ) → low ≤ v → v ≤ low + 2 → in_window l
 in_window-is low v least most = grind (arith, nat_tests)
 
 -- no version of a list is above m
-abbrev AllUpTo : ℕ → Held → Type 0
+abbrev pub AllUpTo : ℕ → Held → Type 0
 AllUpTo m xs = AllByRecursion (λ x. x.0.0 ≤ m) xs
 
 -- so many versions above n are not more than the numbers there
-few-above : (n m : ℕ) (xs : Held) → n ≤ m → AscendsAbove n xs → AllUpTo m xs → length xs + n ≤ m
+pub few-above : (n m : ℕ) (xs : Held) → n ≤ m → AscendsAbove n xs → AllUpTo m xs → length xs + n ≤ m
 few-above n m [] le up most = omega arith
 few-above n m (x ∷ xs) le up most =
     let rest = few-above x.0.0 m xs most.0 up.1 most.1 in
@@ -65,27 +65,27 @@ has_room-windowed low v (x ∷ xs) held win is =
     grind (arith, nat_tests)
 
 -- no version above m, in parts of a list and in lists put together
-up_to-append : (m : ℕ) (xs ys : Held) → AllUpTo m xs → AllUpTo m ys → AllUpTo m (xs ++ ys)
+pub up_to-append : (m : ℕ) (xs ys : Held) → AllUpTo m xs → AllUpTo m ys → AllUpTo m (xs ++ ys)
 up_to-append m [] ys most most' = most'
 up_to-append m (x ∷ xs) ys most most' = (most.0, up_to-append m xs ys most.1 most')
 
-up_to-filter : (m : ℕ) (p : Version × Value → Bool) (xs : Held) → AllUpTo m xs → AllUpTo m (filter p xs)
+pub up_to-filter : (m : ℕ) (p : Version × Value → Bool) (xs : Held) → AllUpTo m xs → AllUpTo m (filter p xs)
 up_to-filter m p [] most = tt
 up_to-filter m p (x ∷ xs) most =
     cond_both (p x) (x ∷ filter p xs) (filter p xs) (AllUpTo m)
     (λ _. (most.0, up_to-filter m p xs most.1))
     (λ _. up_to-filter m p xs most.1)
 
-up_to-applied : (m : ℕ) (op : Op) (xs : Held) → AllUpTo m xs → AllUpTo m (applied_to_all op xs)
+pub up_to-applied : (m : ℕ) (op : Op) (xs : Held) → AllUpTo m xs → AllUpTo m (applied_to_all op xs)
 up_to-applied m op [] most = tt
 up_to-applied m op (x ∷ xs) most = (most.0, up_to-applied m op xs most.1)
 
-up_to-more : (m n : ℕ) (xs : Held) → m ≤ n → AllUpTo m xs → AllUpTo n xs
+pub up_to-more : (m n : ℕ) (xs : Held) → m ≤ n → AllUpTo m xs → AllUpTo n xs
 up_to-more m n [] le most = tt
 up_to-more m n (x ∷ xs) le most = (omega (arith, most.0), up_to-more m n xs le most.1)
 
 -- version v with a value, between the versions below it and others of the window
-first-joined : (low : ℕ) (v : Version) (w : Value) (x : Version × Value) (xs ys : Held)
+pub first-joined : (low : ℕ) (v : Version) (w : Value) (x : Version × Value) (xs ys : Held)
     → AscendsAbove x.0.0 xs → x.0.0 ≡ low → low ≤ v.0
     → (0 < length (below v (x ∷ xs) ++ (v, w) ∷ ys)) × (first_version (below v (x ∷ xs) ++ (v, w) ∷ ys) ≡ low)
 first-joined low v w x xs ys up is le =

@@ -222,7 +222,8 @@ impl ItemTable {
 #[tactic(auto, using(crate::proofs::Halving::halving))]
 fn place(entries: &[(ItemNo, Item)], item: ItemNo) -> Option<usize>
     requires { IsAscending entries.now }
-    ensures found { IfSome result (λ p. (p < length entries.now) × ((d : _) → (slice_index_or entries.now p d).0 ≡ item)) }
+    ensures found { IfSome result (λ p. (p < length entries.now)
+        × ((d : _) → (slice_index_or entries.now p d).0 ≡ item)) }
     ensures none { IfNone result (All (λ e. e.0.0 ≡ item.0 → ⊥) entries.now) }
 {
     let mut low = 0;

@@ -22,7 +22,12 @@ same_id a b = (a.stamp.0 == b.stamp.0) && (a.place == b.place)
 abbrev pub sealed : ℕ → ℕ → ℕ → List Outgoing → List Letter
 sealed stamp actor place [] = []
 sealed stamp actor place (o ∷ os) =
-    record { id = record { stamp = record { 0 = stamp }; place = place }; from = record { 0 = actor }; to = o.to; body = o.body }
+    record {
+      id = record { stamp = record { 0 = stamp }; place = place };
+      from = record { 0 = actor };
+      to = o.to;
+      body = o.body;
+    }
     ∷ sealed stamp actor (place + 1) os
 
 -- the letters that an entry sent

@@ -19,7 +19,8 @@ pub record Postal (client : ℕ) (h : List Posting) : Type 0 where
   pub stamps : (k : ℕ) (e : Posting) → slice_get h k ≡ Some e → e.stamp.0 ≡ k + 1
   pub sent : (k : ℕ) (e : Posting) → slice_get h k ≡ Some e
       → (e.took ≡ go client)
-      ⊎ ((j : ℕ) × (f : Posting) × (j < k) × (slice_get h j ≡ Some f) × (find_id e.took.id (letters_sent f) ≡ Some e.took))
+      ⊎ ((j : ℕ) × (f : Posting) × (j < k) × (slice_get h j ≡ Some f)
+      × (find_id e.took.id (letters_sent f) ≡ Some e.took))
   pub once : (j k : ℕ) (e f : Posting) → j < k → slice_get h j ≡ Some e → slice_get h k ≡ Some f → e.took.id ≢ f.took.id
   pub addressee : (k : ℕ) (e : Posting) → slice_get h k ≡ Some e → e.took.to.0 ≡ e.actor.0
   pub known : (k : ℕ) (e : Posting) → slice_get h k ≡ Some e → e.actor.0 < client + 1

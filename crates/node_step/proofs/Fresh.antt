@@ -10,13 +10,13 @@ use Rattle.item_versions.proofs.Window.{IsWindowed-new}
 use Rattle.node_versions.specs.declared.turns.Turns.{Turns}
 use Rattle.node_versions.specs.Turns.{start}
 use Rattle.pair_counters.specs.Counts.{Counts, no_counts}
-use Rattle.pair_counters.specs.Numbers.{AllBelow, none}
+use Rattle.pair_counters.specs.Numbers.{AllBelow, none, MOST_COUNT}
 use Rattle.pair_counters.specs.Rows.{CounterRows, counts_of}
 use Rattle.tree_home.specs.declared.homes.OpenTree.{OpenTree}
 use Rattle.tx_trees.specs.ScriptData.{ScriptData}
 use Rattle.tree_step.specs.Node.{IsInWindow, IsReady, state_of}
 
-none_small : AllBelow (2 ^ 62) none
+none_small : AllBelow MOST_COUNT none
 none_small v q = (omega arith, omega arith)
 
 fresh_window : (items : Table) (c : CounterRows) (homes : List (TreeNo × OpenTree)) → IsWindowedTable 0 items
@@ -37,7 +37,7 @@ pub fresh_ready : (s : ScriptData) (p : ℕ) (turns : Turns) (items : Table) (c 
 fresh_ready s p turns items c homes there first fits counted = record {
   there = there;
   script = ap (λ (k : Counts). k.nodes) counted;
-  small = subst (λ (k : Counts). AllBelow (2 ^ 62) k.numbers) (sym counted) none_small;
+  small = subst (λ (k : Counts). AllBelow MOST_COUNT k.numbers) (sym counted) none_small;
   window = subst (λ (t : Turns). IsInWindow (state_of t items c homes)) (sym first)
       (fresh_window items c homes fits (ap (λ (k : Counts). k.low) counted));
 }

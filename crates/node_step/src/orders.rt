@@ -93,7 +93,8 @@ pub(crate) fn turn(
     requires window { IsInWindow node.old }
     requires near { IsTrue (nat_le version.0 (node.old.turns.low.0 + 2)) }
     // What is made.
-    ensures row { IfOk result (λ step. made (data_of node.new) step.given ≡ turn_row script.now version (data_of node.old)) }
+    ensures row { IfOk result (λ step. made (data_of node.new) step.given
+        ≡ turn_row script.now version (data_of node.old)) }
     ensures kept { IfOk result (λ step. step.kept ≡ step.given) }
     // What stays, and what want of memory leaves.
     ensures script { OnOk result (IsOf script.now node.new) }
@@ -118,7 +119,8 @@ pub(crate) fn show(
     requires window { IsInWindow node.old }
     requires near { IsTrue (in_window node.old.turns.low.0 version.0) }
     // What is made.
-    ensures row { IfOk result (λ step. made (data_of node.new) step.given ≡ show_row script.now version (data_of node.old)) }
+    ensures row { IfOk result (λ step. made (data_of node.new) step.given
+        ≡ show_row script.now version (data_of node.old)) }
     ensures kept { IfOk result (λ step. step.kept ≡ step.given) }
     // What stays, and what want of memory leaves.
     ensures script { OnOk result (IsOf script.now node.new) }

@@ -1,5 +1,5 @@
 -- Requests and completions by version and other node.
-use Rattle.std.specs.Prelude.{ℕ, zero, suc, ◌+◌, ◌<◌, ◌==◌, ◌&&◌, nat_lt, List, [], ◌∷◌, ◌++◌, if◌then◌else◌}
+use Rattle.std.specs.Prelude.{ℕ, zero, suc, ◌+◌, ◌<◌, ◌==◌, ◌&&◌, ◌^◌, nat_lt, List, [], ◌∷◌, ◌++◌, if◌then◌else◌}
 
 -- requests to, and completions from, another node: by version, and then by node
 pub record Numbers : Type 0 where
@@ -32,6 +32,10 @@ from_version v f w q = if nat_lt w v then 0 else f w q
 abbrev pub numbers_of : ℕ → (ℕ → ℕ) → List ℕ
 numbers_of zero f = []
 numbers_of (suc n) f = numbers_of n f ++ f n ∷ []
+
+-- no count of a run comes to this number, so that a step counts without a test
+abbrev pub MOST_COUNT : ℕ
+MOST_COUNT = 2 ^ 62
 
 -- each number is below m
 abbrev pub AllBelow : ℕ → Numbers → Type 0

@@ -634,7 +634,7 @@ level_obeyed s past e p out was due right (TellsAsked v k bd is) =
     (λ g. ap (token g) bd ∙ ask_apart v k g))
 
 -- a subtransaction of an update tree is of a version that its node may come to
-sub_raises : (s : ScriptData) (phase : Phase) (u t k : ℕ) (st : Node) (v : Version) (raises : Bool) (effect : Effect)
+pub sub_raises : (s : ScriptData) (phase : Phase) (u t k : ℕ) (st : Node) (v : Version) (raises : Bool) (effect : Effect)
     → SubWork s t k st v raises effect → (updates s t ≡ true → v.0 ≤ most_update phase u) → raises ≡ true
     → (st.turns.update.0 < v.0) × (v.0 ≤ most_update phase u)
 sub_raises s phase u t k st v raises effect (SubUpdates up is can made) right more =

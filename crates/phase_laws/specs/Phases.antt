@@ -96,4 +96,5 @@ PhasesHaveTheirLetters s past = (g : Stage) → Told s past g
 -- every node's versions are those of the coordinator's phase
 abbrev pub VersionsKeepToThePhase : ScriptData → List Entry → Type 0
 VersionsKeepToThePhase s past =
-    (p : ℕ) → p < s.nodes → IsInPhase (coordinator_in s past).phase (coordinator_in s past).update (node_in s past p).turns
+    (p : ℕ) → p < s.nodes
+    → IsInPhase (coordinator_in s past).phase (coordinator_in s past).update (node_in s past p).turns

@@ -33,14 +33,14 @@ use Rattle.run_laws.proofs.Reached.{Reaches, Same, Closes, now_below, step_reach
 use Rattle.run_laws.proofs.Wholes.{born_by, born_split, born_with, is_of_kind}
 
 -- a tree all of whose subtransactions are done is whole
-is_whole_of : (s : ScriptData) (past : List Entry) (t : ℕ) → Sound s → StepRun s past → AllTimely s past → t < length s.trees
+pub is_whole_of : (s : ScriptData) (past : List Entry) (t : ℕ) → Sound s → StepRun s past → AllTimely s past → t < length s.trees
     → ((k : ℕ) → SubAt s t k → 1 ≤ dids past t k) → IsWhole s (reverse past) t
 is_whole_of s past t sound run timely lt done =
     let good = good_run s past sound run timely in
     whole_done s past t sound run timely lt (λ k c. omega (arith, done k c, at_most_once s past t k c sound good))
 
 -- a tree of a kind is there
-update_there : (s : ScriptData) (t : ℕ) (found : Option Tree) → slice_get s.trees t ≡ found
+pub update_there : (s : ScriptData) (t : ℕ) (found : Option Tree) → slice_get s.trees t ≡ found
     → (elim found [ Some tree ↦ is_update tree.kind | None ↦ false ]) ≡ true → t < length s.trees
 update_there s t None is up = absurd (cc up)
 update_there s t (Some tree) is up = get_below s.trees t tree is
@@ -131,7 +131,7 @@ kept_level kind s past e same =
     omega (arith, eq)
 
 -- it never falls
-rises : (kind : Bool) (s : ScriptData) (past : List Entry) (e : Entry) → Lawful s → StepRun s past → AllTimely s past → Next s past e
+pub rises : (kind : Bool) (s : ScriptData) (past : List Entry) (e : Entry) → Lawful s → StepRun s past → AllTimely s past → Next s past e
     → now_below kind s past ≤ now_below kind s (e ∷ past)
 rises kind s past e laws run timely (Coordinates tells at made) =
     step_rises kind s past e (now_below kind s (e ∷ past)) refl (step_reaches kind s past e laws run timely made)
@@ -148,7 +148,7 @@ rises kind s past e laws run timely (Notes t k v values is c later from at lt mi
 rises kind s past e laws run timely (Obeys p out at lt order made) =
     kept_level kind s past e (coordinator_kept s past e (omega (arith, at, lt)))
 
-rises_on : (kind : Bool) (s : ScriptData) (past later : List Entry) → Lawful s → StepRun s (later ++ past) → AllTimely s (later ++ past)
+pub rises_on : (kind : Bool) (s : ScriptData) (past later : List Entry) → Lawful s → StepRun s (later ++ past) → AllTimely s (later ++ past)
     → now_below kind s past ≤ now_below kind s (later ++ past)
 rises_on kind s past [] laws run timely = omega arith
 rises_on kind s past (e ∷ later) laws run timely =
@@ -175,7 +175,7 @@ came_by kind s past later e t w laws run timely of lt before (inr new) =
     ))
 
 -- no tree of the kind comes to a version below it
-none_came : (kind : Bool) (s : ScriptData) (past later : List Entry) (t : ℕ) (w : Version) → Lawful s → StepRun s (later ++ past)
+pub none_came : (kind : Bool) (s : ScriptData) (past later : List Entry) (t : ℕ) (w : Version) → Lawful s → StepRun s (later ++ past)
     → AllTimely s (later ++ past) → is_of_kind kind s t ≡ true → w.0 < now_below kind s past → born_with (later ++ past) t ≡ Some w
     → born_with past t ≡ Some w
 none_came kind s past [] t w laws run timely of lt born = born
@@ -193,11 +193,11 @@ closed_by s past later (Sweep v) laws run timely bound = λ t w read born lt.
 closed_by s past later Go laws run timely bound = tt
 closed_by s past later _ laws run timely bound = tt
 
-run_before : (s : ScriptData) (past later : List Entry) → StepRun s (later ++ past) → StepRun s past
+pub run_before : (s : ScriptData) (past later : List Entry) → StepRun s (later ++ past) → StepRun s past
 run_before s past [] run = run
 run_before s past (e ∷ later) run = run_before s past later run.1
 
-timely_before : (s : ScriptData) (past later : List Entry) → AllTimely s (later ++ past) → AllTimely s past
+pub timely_before : (s : ScriptData) (past later : List Entry) → AllTimely s (later ++ past) → AllTimely s past
 timely_before s past [] timely = timely
 timely_before s past (e ∷ later) timely = timely_before s past later timely.1
 

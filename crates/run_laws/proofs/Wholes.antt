@@ -1,6 +1,6 @@
 -- Up to the version that is shown each update tree that is born is whole; and so is each read tree of a version that
 -- is swept.
-use Rattle.std.proofs.Common.{if◌then◌else◌, ◌≡◌, ◌⊎◌, inl, inr, ℕ, zero, suc, ◌+◌, ◌-◌, ◌<◌, ◌≤◌, ◌==◌, ◌&&◌, Bool, true, false, List, [], ◌∷◌, ◌++◌, reverse, refl, sym, ap, subst, ◌∙◌, arith, Option, Some, None}
+use Rattle.std.proofs.Common.{if◌then◌else◌, ◌≡◌, ◌⊎◌, inl, inr, ℕ, zero, suc, ◌+◌, ◌<◌, ◌≤◌, ◌==◌, ◌&&◌, Bool, true, false, List, [], ◌∷◌, ◌++◌, reverse, refl, sym, ap, subst, ◌∙◌, arith, Option, Some, None}
 use Rattle.std.specs.Prelude.{nat_lt}
 use Rattle.std.specs.Option.{option_or}
 use Rattle.std.proofs.lemmas.Bool.Decides.{nat_tests}
@@ -153,7 +153,7 @@ none_some s past e t w found none some = let clash : None ≡ Some w = sym none 
 of_acts : (t : ℕ) (e : Entry) (acts : List Act) → e.acts ≡ acts → version_in t (places_at e) ≡ version_in t (placed e.actor.0 acts)
 of_acts t e acts is = ap (λ (xs : List Act). version_in t (placed e.actor.0 xs)) is
 
-root_turn : (s : ScriptData) (t u : ℕ) (st : Node) (v : Version) (effect : Effect) → SubAt s u 0 → u ≡ t → RootWork s u st v effect
+pub root_turn : (s : ScriptData) (t u : ℕ) (st : Node) (v : Version) (effect : Effect) → SubAt s u 0 → u ≡ t → RootWork s u st v effect
     → (kind : Bool) → is_of_kind kind s t ≡ true → v.0 ≡ turn_of kind st
 root_turn s t u st v effect c same (RootUpdates up is can made) false of = ap (λ (w : Version). w.0) is
 root_turn s t u st v effect c same (RootUpdates up is can made) true of =

@@ -25,7 +25,7 @@ use Rattle.script_reader.specs.declared.reading.ScriptFault.{ScriptFault}
 use Rattle.script_reader.specs.declared.words.OpWord.{OpWord}
 use Rattle.script_reader.specs.declared.words.RowWord.{RowWord}
 use Rattle.script_reader.specs.declared.words.RowWord.TheVariants as words
-use Rattle.script_reader.proofs.Added.{fail_is, item_is, op_taken, pick_is, settle_is, sub_is, tree_is}
+use Rattle.script_reader.proofs.Added.{advance_is, fail_is, item_is, op_taken, pick_is, settle_is, sub_is, tree_is}
 use Rattle.tx_trees.specs.Built.{is_built, IsBuiltRow}
 
 -- a tree of a built kind
@@ -59,7 +59,10 @@ op_builds s k deed b = record {
 fail_builds : (s : ScriptData) (k : ℕ) → Builds s → Builds (with_failed s k)
 fail_builds s k b = record { trees = all-on_last IsBuiltTree (failed_tree k) s.trees b.trees (λ t last h. h); rows = b.rows }
 
--- a row that waits keeps it
+-- a row that asks for an advancement keeps it, and so does one that waits
+advance_builds : (s : ScriptData) → Builds s → Builds (with_row s rows.Advance)
+advance_builds s b = record { trees = b.trees; rows = all-push IsBuiltRow s.rows rows.Advance b.rows tt }
+
 settle_builds : (s : ScriptData) → Builds s → Builds (with_row s rows.Settle)
 settle_builds s b = record { trees = b.trees; rows = all-push IsBuiltRow s.rows rows.Settle b.rows tt }
 
@@ -143,7 +146,7 @@ form_builds s t fields words.Sub b is =
 form_builds s t fields (words.Op word) b is =
     op_row_builds s t (field fields 1) (deed_of word (amount_value (field fields 2))) b (amount_some s t word (field fields 1) (field fields 2) is)
 form_builds s t fields words.Get b is = op_row_builds s t (field fields 1) deeds.Get b is
-form_builds s t fields words.Advance b is = absurd (never (adds_advance s) t is)
+form_builds s t fields words.Advance b is = subst Builds (advance_is s t is) (advance_builds s b)
 form_builds s t fields words.Settle b is = subst Builds (settle_is s t is) (settle_builds s b)
 form_builds s t fields words.Pick b is = pick_builds s t (decimal_value (field fields 1)) b (pick_some s t (field fields 1) is)
 form_builds s t fields words.Lose b is = absurd (never (adds_lose s) t is)

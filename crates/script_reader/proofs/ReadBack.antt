@@ -8,7 +8,7 @@ use Rattle.csv.specs.Reading.{default_config, records_from, strip_bom}
 use Rattle.csv.specs.declared.parser.State.TheVariants as st
 use Rattle.tx_trees.proofs.Rebuilding.{is_rebuilt}
 use Rattle.tx_trees.proofs.SubsOf.{few_nodes}
-use Rattle.tx_trees.specs.Adding.{adds_item, adds_op, adds_pick, adds_settle, adds_sub, adds_tree, fresh}
+use Rattle.tx_trees.specs.Adding.{adds_advance, adds_item, adds_op, adds_pick, adds_settle, adds_sub, adds_tree, fresh}
 use Rattle.tx_trees.specs.Forms.{most_nodes}
 use Rattle.tx_trees.specs.Ranges.{is_in_range}
 use Rattle.tx_trees.specs.Rebuilt.{fail_added, written_subs, items_added, name_at, ops_added, picks_added, rebuilt, rooted_added, rows_added, subs_added, then_more, tree_added}
@@ -33,7 +33,7 @@ use Rattle.script_reader.specs.Reading.{after_first, read_of, read_rows, rows_fr
 use Rattle.script_reader.specs.Records.{records_in}
 use Rattle.script_reader.specs.Rows.{later_row}
 use Rattle.script_reader.specs.Written.{fail_fields, fail_rows, form_rows, lines, item_fields, nodes_fields, op_fields, ops_rows, pick_fields, rows_of, rows_of_rows, rows_of_tree, sub_fields, subs_rows, tree_fields, tree_rows, written}
-use Rattle.script_reader.proofs.Added.{fail_is, item_is, op_in_range, op_taken, settle_is, sub_is, tree_is}
+use Rattle.script_reader.proofs.Added.{advance_is, fail_is, item_is, op_in_range, op_taken, settle_is, sub_is, tree_is}
 use Rattle.script_reader.proofs.Lines.{few_lines, lines_read}
 use Rattle.script_reader.proofs.PlainRows.{all_plain, op_named, small_deed}
 use Rattle.script_reader.proofs.RowsBack.{deed_back, fail_back, item_back, nodes_back, pick_back, second_nodes_back, sub_back, tree_back}
@@ -181,7 +181,11 @@ rows_back f n items ts (rows.Tree i ∷ rs) u v few all trees built row at same 
     let g = goes (tree_added u (slice_get ts i.0)) (λ w. rows_added ts w rs) v h in
     let tree = tree_at_back f n items ts i.0 u g.first few all trees built at same g.is in
     reads_both u g.first v (rows_of_tree items (slice_get ts i.0)) (rows_of_rows items ts rs) tree.reads (rows_back f n items ts rs g.first v few all trees built row.1 (tree.form_stays ∙ at) tree.items_stay g.rest)
-rows_back f n items ts (rows.Advance ∷ rs) u v few all trees built row at same h = absurd row.0
+rows_back f n items ts (rows.Advance ∷ rs) u v few all trees built row at same h =
+    let g = goes (adds_advance u) (λ w. rows_added ts w rs) v h in
+    let stays : g.first.items ≡ items = sym (ap (λ (w : ScriptData). w.items) (advance_is u g.first g.is)) ∙ same in
+    let form : g.first.form ≡ f = sym (ap (λ (w : ScriptData). w.form) (advance_is u g.first g.is)) ∙ at in
+    reads_one u g.first v _ (rows_of_rows items ts rs) g.is (rows_back f n items ts rs g.first v few all trees built row.1 form stays g.rest)
 rows_back f n items ts (rows.Lose ∷ rs) u v few all trees built row at same h = absurd row.0
 rows_back f n items ts (rows.Settle ∷ rs) u v few all trees built row at same h =
     let g = goes (adds_settle u) (λ w. rows_added ts w rs) v h in

@@ -5,7 +5,7 @@ use Rattle.tx_trees.specs.ScriptData.{ScriptData}
 use Rattle.tx_trees.specs.declared.parts.Tree.{Tree}
 use Rattle.tx_trees.specs.Built.{is_built, IsBuiltRow}
 
--- no strict tree, no advancement, and no row that makes the coordinator forget
+-- no strict tree, and no row that makes the coordinator forget
 pub record Builds (s : ScriptData) : Type 0 where
   pub trees : AllByRecursion (λ (t : Tree). IsTrue (is_built t.kind)) s.trees
   pub rows : AllByRecursion IsBuiltRow s.rows

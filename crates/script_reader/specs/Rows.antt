@@ -131,7 +131,7 @@ amount_row s word item amount =
 
 -- `advance`
 abbrev pub advance_row : ScriptData → Result ScriptData Why
-advance_row s = if_built false (adds_advance s)
+advance_row s = adds_advance s
 
 -- `pick,K`
 abbrev pub pick_row : ScriptData → List ℕ → Result ScriptData Why

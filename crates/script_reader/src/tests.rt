@@ -241,7 +241,6 @@ fn the_first_fault_is_told(rt: HostRuntime) -> Result<(), Fail> {
             Why::WrongKind,
         ),
         (b"nodes,1\nitem,\"a", 2, Why::WrongFields),
-        (b"nodes,1\nadvance\n", 2, Why::NotBuilt),
         (b"nodes,1\nadvance,1\n", 2, Why::WrongFields),
         (b"nodes,1\npick,-1\n", 2, Why::BadNumber),
         (b"nodes,1\npick,4294967296\n", 2, Why::OutOfRange),

@@ -3,14 +3,14 @@ ghost use Rattle.std.specs.Prelude.{◌≡◌, ◌≤◌, true};
 ghost use Rattle.world_core.specs.Actors.{IsWorldOf};
 ghost use Rattle.world_model.specs.Tables.{Runnable};
 
-use crate::{Hold, Newest, Picker, Picks, Starve};
+use crate::{Hold, Newest, Picker, Picks, Starve, simulate_by};
 use commute_ops::{Amount, Kind, Op, Value};
 use item_versions::ItemTable;
-use letter_types::{Act, Body, Entry, History, LetterId};
+use letter_types::{History, LetterId};
 use report_text::report;
 use std::alloc::Global;
 use std::test::Fail;
-use tv_base::{ActorNo, ItemNo, Name, NoMemory, NodeNo, Stamp, Text, Version};
+use tv_base::{ActorNo, ItemNo, Name, NoMemory, NodeNo, Stamp, Text};
 use tx_trees::{Deed, Form, ItemRow, Refusal, Script, ScriptRow, TreeKind, Why};
 use world_core::{ActorState, World};
 
@@ -32,9 +32,6 @@ use Row::{Add, Advance, Get, Item, Read, Settle, Sub, Update};
 const A: &[u8] = b"a";
 
 const B: &[u8] = b"b";
-
-/// More entries than any of these runs has.
-const MOST_ENTRIES: u32 = 30_000;
 
 /// Two items, 10 at node 0 and 0 at node 1, a tree that adds 5 and 7 to them, and an advancement.
 const FIRST_COPY_ADVANCED: [Row; 7] = [
@@ -82,22 +79,6 @@ node 14 update 101 read 100
 node 15 update 101 read 100
 ";
 
-const OLDER_VERSION: [Row; 13] = [
-    Item(A, 0, 10),
-    Item(B, 1, 0),
-    Update(b"t", 0),
-    Add(A, 5),
-    Sub(0, 1),
-    Add(B, 7),
-    Settle,
-    Read(b"r", 1),
-    Get(B),
-    Sub(0, 0),
-    Get(A),
-    Settle,
-    Advance,
-];
-
 const LATE_OLDER_STEP: [Row; 9] = [
     Item(A, 0, 10),
     Item(B, 1, 0),
@@ -108,31 +89,6 @@ const LATE_OLDER_STEP: [Row; 9] = [
     Advance,
     Update(b"u", 1),
     Add(B, 3),
-];
-
-const CHILD_BEFORE_ITS_TURN: [Row; 7] = [
-    Item(A, 0, 10),
-    Item(B, 1, 0),
-    Advance,
-    Update(b"u", 0),
-    Add(A, 1),
-    Sub(0, 1),
-    Add(B, 2),
-];
-
-const SLOW_READER: [Row; 12] = [
-    Item(A, 0, 10),
-    Item(B, 1, 0),
-    Update(b"t", 0),
-    Add(A, 5),
-    Sub(0, 1),
-    Add(B, 7),
-    Settle,
-    Read(b"r", 0),
-    Get(A),
-    Sub(0, 1),
-    Get(B),
-    Advance,
 ];
 
 const WHY_TWO_WAVES: [Row; 11] = [
@@ -244,37 +200,9 @@ fn run_script<P: Picker>(alloc: Global, script: &Script, picker: &mut P) -> Resu
     if !may_run(script) {
         return Err(Refusal::Why(Why::NotBuilt));
     }
-    let mut world = World::start(alloc, script)?;
-    take(script, &mut world, picker, MOST_ENTRIES)?;
-    let history = world.into_history();
+    let history = simulate_by(alloc, script, picker)?;
     let text = report(alloc, script, &history)?;
     Ok(Ran { text, history })
-}
-
-/// A run of these rows to its end by these picks, and the oldest letters after them.
-fn run_picks(alloc: Global, rows: &[Row], picks: &[u32]) -> Result<Ran, Refusal> {
-    run_by(alloc, rows, &mut Picks::new(picks, None))
-}
-
-/// Whether an entry did this subtransaction of tree `t`.
-fn did(entry: &Entry, t: u32, k: u32) -> bool {
-    entry.acts.items().iter().any(|act| match act {
-        Act::Did {
-            tree,
-            sub,
-            values: _,
-        } => tree.0 == t && sub.0 == k,
-        _ => false,
-    })
-}
-
-/// Whether an entry sent a Show.
-fn shows(entry: &Entry) -> bool {
-    entry
-        .sent
-        .items()
-        .iter()
-        .any(|letter| matches!(letter.body, Body::Show { .. }))
 }
 
 /// What an item at a node holds after so many entries by these picks, version by version.
@@ -313,110 +241,19 @@ fn place_of(items: &ItemTable, item: u32, place: usize) -> Option<(u64, Amount)>
 }
 
 #[test]
-fn an_advancement_comes_to_its_end(rt: HostRuntime) -> Result<(), Fail> {
+fn a_node_that_is_starved_delays_an_advancement_alone(rt: HostRuntime) -> Result<(), Fail> {
     let text =
         b"tree t version 1\nread r version 1 b=7 a=15\nnode 0 update 2 read 1\nnode 1 update 2 read 1\nitem a 1:15\nitem b 1:7\n".as_slice();
-    let oldest = run_picks(rt.alloc(), &WHOLE_ADVANCEMENT, &[])?;
-    assert_eq!(rt; oldest.text.bytes(), text);
-    assert_eq!(rt; oldest.history.items().len(), 41);
-    let starved = run_by(rt.alloc(), &WHOLE_ADVANCEMENT, &mut Starve(ActorNo(1)))?;
-    assert_eq!(rt; starved.text.bytes(), text);
-    assert_eq!(rt; starved.history.items().len(), 41);
-    Ok(())
-}
-
-#[test]
-fn a_read_before_the_advancement_sees_the_older_version(rt: HostRuntime) -> Result<(), Fail> {
-    let ran = run_picks(rt.alloc(), &OLDER_VERSION, &[])?;
-    let text =
-        b"tree t version 1\nread r version 0 b=0 a=10\nnode 0 update 2 read 1\nnode 1 update 2 read 1\nitem a 1:15\nitem b 1:7\n".as_slice();
+    let ran = run_by(rt.alloc(), &WHOLE_ADVANCEMENT, &mut Starve(ActorNo(1)))?;
     assert_eq!(rt; ran.text.bytes(), text);
-    Ok(())
-}
-
-#[test]
-fn an_item_is_renamed_twice(rt: HostRuntime) -> Result<(), Fail> {
-    let script = script_of(rt.alloc(), 1, &[Item(b"c", 0, 4), Advance, Advance])?;
-    let ran = run_script(rt.alloc(), &script, &mut Picks::new(&[], None))?;
-    assert_eq!(rt;
-        ran.text.bytes(),
-        b"node 0 update 3 read 2\nitem c 2:4\n".as_slice()
-    );
+    assert_eq!(rt; ran.history.items().len(), 41);
     Ok(())
 }
 
 #[test]
 fn a_late_older_step_writes_the_newer_version_too(rt: HostRuntime) -> Result<(), Fail> {
-    let picks = [0, 0, 0, 3];
-    let ran = run_picks(rt.alloc(), &LATE_OLDER_STEP, &picks)?;
-    let text =
-        b"tree t version 1\ntree u version 2\nnode 0 update 2 read 1\nnode 1 update 2 read 1\nitem a 1:15\nitem b 1:7 2:10\n".as_slice();
-    assert_eq!(rt; ran.text.bytes(), text);
-    let entries = ran.history.items();
-    let turn = entries.get(3).ok_or("entry 4")?;
-    assert!(rt; turn.actor == ActorNo(1) && matches!(turn.took.body, Body::Turn { .. }));
-    assert!(rt; did(entries.get(4).ok_or("entry 5")?, 1, 0));
-    assert!(rt; did(entries.get(5).ok_or("entry 6")?, 0, 1));
-    let held = held_after(rt.alloc(), &LATE_OLDER_STEP, &picks, 6, 1, 1)?;
+    let held = held_after(rt.alloc(), &LATE_OLDER_STEP, &[0, 0, 0, 3], 6, 1, 1)?;
     assert_eq!(rt; held, [Some((0, 0)), Some((1, 7)), Some((2, 10))]);
-    Ok(())
-}
-
-#[test]
-fn a_child_that_comes_before_its_turn_raises_the_version(rt: HostRuntime) -> Result<(), Fail> {
-    let ran = run_picks(rt.alloc(), &CHILD_BEFORE_ITS_TURN, &[0, 0, 1, 0, 2])?;
-    let text =
-        b"tree u version 2\nnode 0 update 2 read 1\nnode 1 update 2 read 1\nitem a 1:10 2:11\nitem b 1:0 2:2\n".as_slice();
-    assert_eq!(rt; ran.text.bytes(), text);
-    let entries = ran.history.items();
-    let child = entries.get(4).ok_or("entry 5")?;
-    assert!(rt; child.actor == ActorNo(1) && did(child, 0, 1));
-    assert_eq!(rt; child.acts.items().len(), 2);
-    assert!(rt;
-        matches!(
-            child.acts.items().first(),
-            Some(Act::Turned {
-                version: Version(2)
-            })
-        )
-    );
-    let turn = entries.get(5).ok_or("entry 6")?;
-    assert!(rt; turn.actor == ActorNo(1) && matches!(turn.took.body, Body::Turn { .. }));
-    assert_eq!(rt; turn.acts.items().len(), 0);
-    let sent = turn.sent.items().first().ok_or("a letter")?;
-    assert!(rt; matches!(sent.body, Body::Turned { .. }));
-    Ok(())
-}
-
-#[test]
-fn a_sweep_waits_for_a_slow_reader(rt: HostRuntime) -> Result<(), Fail> {
-    let picks = [
-        0, 0, 0, 0, 0, 0, 0, 0, 1, 1, 1, 1, 1, 1, 1, 1, 1, 1, 1, 1, 1, 1, 1, 1, 1, 1, 1, 1, 1, 1,
-        1, 1,
-    ];
-    let ran = run_picks(rt.alloc(), &SLOW_READER, &picks)?;
-    let text =
-        b"tree t version 1\nread r version 0 a=10 b=0\nnode 0 update 2 read 1\nnode 1 update 2 read 1\nitem a 1:15\nitem b 1:7\n".as_slice();
-    assert_eq!(rt; ran.text.bytes(), text);
-    let entries = ran.history.items();
-    assert_eq!(rt; entries.len(), 49);
-    assert!(rt; did(entries.get(32).ok_or("entry 33")?, 1, 1));
-    Ok(())
-}
-
-#[test]
-fn a_round_needs_two_waves(rt: HostRuntime) -> Result<(), Fail> {
-    let picks = [0, 0, 0, 1, 1, 1, 1, 0, 1, 1, 1, 3, 0, 0, 1, 1, 1, 1, 1];
-    let ran = run_picks(rt.alloc(), &WHY_TWO_WAVES, &picks)?;
-    let text =
-        b"tree t version 1\nnode 0 update 2 read 1\nnode 1 update 2 read 1\nitem a 1:5\nitem b 1:10\n".as_slice();
-    assert_eq!(rt; ran.text.bytes(), text);
-    let entries = ran.history.items();
-    assert_eq!(rt; entries.len(), 48);
-    assert!(rt; did(entries.get(19).ok_or("entry 20")?, 0, 3));
-    for entry in entries.iter().take(20) {
-        assert!(rt; !shows(entry));
-    }
     Ok(())
 }
 

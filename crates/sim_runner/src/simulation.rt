@@ -1,8 +1,9 @@
 // Runs on one thread.
 ghost use Rattle.std.specs.Prelude.{◌≡◌, ◌≤◌, ◌^◌, IfOk, length};
-ghost use Rattle.sim_runner.specs.Finished.{HasEnded, MayRun};
+ghost use Rattle.sim_runner.specs.Finished.{HasEnded};
 ghost use Rattle.sim_runner.specs.Pickers.{IsPickedBy, picker_at};
 ghost use Rattle.world_model.specs.Scheduled.{IsScheduled};
+ghost use Rattle.world_model.specs.Tables.{Runnable};
 
 use crate::pickers::Picker;
 use crate::picks::Picks;
@@ -21,7 +22,7 @@ pub fn simulate_by<P: Picker>(
     script: &Script,
     picker: &mut P,
 ) -> Result<History, NoMemory>
-    requires { MayRun script.now }
+    requires { Runnable script.now }
     ensures ended { IfOk result (λ history. HasEnded script.now history) }
     ensures picked { IfOk result (λ history. IsPickedBy P.place P.after script.now picker.old history) }
     ensures picker { IfOk result (λ history. picker.new
@@ -40,7 +41,7 @@ pub fn simulate_by<P: Picker>(
 /// Runs a script on one thread until no letter is under way. The letters are taken by the script's picks, then with a
 /// seed by its draws, and without one the oldest first (docs/ALGORITHM.md, "Schedules"). It always returns.
 pub fn simulate(alloc: Global, script: &Script, seed: Option<u64>) -> Result<History, NoMemory>
-    requires { MayRun script.now }
+    requires { Runnable script.now }
     ensures ended { IfOk result (λ history. HasEnded script.now history) }
     ensures scheduled { IfOk result (λ history. IsScheduled script.now seed history) }
 {

@@ -1,10 +1,9 @@
 -- What is read may be run.
-use Rattle.std.proofs.Common.{◌≡◌, ℕ, List, [], ◌∷◌, refl, arith}
+use Rattle.std.proofs.Common.{◌≡◌, ℕ, List, [], ◌∷◌, refl}
 use Rattle.std.specs.Prelude.{IsTrue, Ok}
 use Rattle.std.specs.List.{AllByRecursion}
 use Rattle.tx_trees.specs.ScriptData.{ScriptData}
 use Rattle.tx_trees.specs.Built.{is_built, IsBuiltRow}
-use Rattle.tx_trees.specs.Counts.{advances_in}
 use Rattle.tx_trees.specs.declared.parts.ScriptRow.{ScriptRow}
 use Rattle.tx_trees.specs.declared.parts.ScriptRow.TheVariants.{Tree as TreeRow, Settle as SettleRow, Advance as AdvanceRow, Lose as LoseRow}
 use Rattle.tx_trees.specs.declared.parts.Tree.{Tree}
@@ -13,13 +12,12 @@ use Rattle.tx_trees.specs.declared.parts.TreeKind.TheVariants.{Update, Read, Str
 use Rattle.script_reader.specs.Reading.{read_of}
 use Rattle.script_reader.specs.Builds.{Builds}
 use Rattle.script_reader.proofs.Builds.{reads_built}
-use Rattle.world_model.specs.Tables.{is_run, is_run_row}
-use Rattle.sim_runner.specs.Finished.{MayRun}
+use Rattle.world_model.specs.Tables.{is_run, is_run_row, Runnable}
 
 row_runs : (r : ScriptRow) → IsBuiltRow r → IsTrue (is_run_row r)
 row_runs (TreeRow t) built = refl
 row_runs SettleRow built = refl
-row_runs AdvanceRow built = absurd built
+row_runs AdvanceRow built = refl
 row_runs LoseRow built = absurd built
 
 rows_run : (rs : List ScriptRow) → AllByRecursion IsBuiltRow rs → AllByRecursion (λ (r : ScriptRow). IsTrue (is_run_row r)) rs
@@ -35,18 +33,8 @@ trees_run : (ts : List Tree) → AllByRecursion (λ (t : Tree). IsTrue (is_built
 trees_run [] built = tt
 trees_run (t ∷ ts) built = (kind_runs t.kind built.0, trees_run ts built.1)
 
-rows_still : (rs : List ScriptRow) → AllByRecursion IsBuiltRow rs → advances_in rs ≡ 0
-rows_still [] built = refl
-rows_still (TreeRow t ∷ rs) built = omega (arith, rows_still rs built.1)
-rows_still (SettleRow ∷ rs) built = omega (arith, rows_still rs built.1)
-rows_still (AdvanceRow ∷ rs) built = absurd built.0
-rows_still (LoseRow ∷ rs) built = absurd built.0
-
 -- what is read runs
-pub reads_runnable : (bytes : List ℕ) (s : ScriptData) → read_of bytes ≡ Ok s → MayRun s
+pub reads_runnable : (bytes : List ℕ) (s : ScriptData) → read_of bytes ≡ Ok s → Runnable s
 reads_runnable bytes s is =
     let builds : Builds s = reads_built bytes s is in
-    record {
-      runnable = record { trees = trees_run s.trees builds.trees; rows = rows_run s.rows builds.rows };
-      still = rows_still s.rows builds.rows;
-    }
+    record { trees = trees_run s.trees builds.trees; rows = rows_run s.rows builds.rows }

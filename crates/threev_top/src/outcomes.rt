@@ -9,7 +9,8 @@ ghost use Rattle.script_reader.specs.Written.{written};
 ghost use Rattle.tx_trees.specs.Adding.{upgraded};
 ghost use Rattle.script_reader.specs.declared.reading.ScriptFault.{ScriptFault};
 ghost use Rattle.world_model.specs.Scheduled.{IsScheduled};
-ghost use Rattle.sim_runner.specs.Finished.{HasEnded, MayRun};
+ghost use Rattle.world_model.specs.Tables.{Runnable};
+ghost use Rattle.sim_runner.specs.Finished.{HasEnded};
 ghost use Rattle.threev_top.specs.Calls.{is_before_writing, IsByBytes, IsStop, IsText, IsTextOf, IsWritten, reading_stop, Refuses, script_stop, WritesFront, WritesText, Wrote, WroteFront};
 
 use letter_types::History;
@@ -77,7 +78,7 @@ pub(crate) fn stopped(alloc: Global, stop: Stop) -> Outcome
 
 /// The run of a script, and its report.
 fn report_of(alloc: Global, script: &Script, seed: Option<u64>) -> Result<Made, NoMemory>
-    requires { MayRun script.now }
+    requires { Runnable script.now }
     ensures ended { IfOk result (λ made. HasEnded script.now made.history) }
     ensures scheduled { IfOk result (λ made. IsScheduled script.now seed made.history) }
     ensures text { IfOk result (λ made. made.text ≡ report_of script.now made.history) }
@@ -115,7 +116,7 @@ fn upgraded_of(alloc: Global, script: Script) -> Result<Made, NoMemory>
 
 /// What a mode makes of a script.
 fn text_of(alloc: Global, mode: Mode, script: Script) -> Result<Made, NoMemory>
-    requires { MayRun script }
+    requires { Runnable script }
     ensures { IfOk result (λ made. IsText mode script made.history made.text) }
 {
     match mode {
@@ -127,7 +128,7 @@ fn text_of(alloc: Global, mode: Mode, script: Script) -> Result<Made, NoMemory>
 
 /// The same, with the stop in place of want of memory.
 fn made_by(alloc: Global, mode: Mode, script: Script) -> Result<Made, Stop>
-    requires { MayRun script }
+    requires { Runnable script }
     ensures made { IfOk result (λ made. IsText mode script made.history made.text) }
     ensures stop { IfErr result (λ stop. stop ≡ Stop.NoMemory) }
 {

@@ -148,7 +148,7 @@ answer_grows (x ∷ answered) zero (suc u) is = is
 answer_grows (x ∷ answered) (suc t) zero is = is
 answer_grows (x ∷ answered) (suc t) (suc u) is = answer_grows answered t u is
 
-answers_grow : (answered : List Bool) (t : ℕ) (rows : List ScriptRow) → all_answered answered rows ≡ true
+pub answers_grow : (answered : List Bool) (t : ℕ) (rows : List ScriptRow) → all_answered answered rows ≡ true
     → all_answered (set answered t true) rows ≡ true
 answers_grow answered t [] is = refl
 answers_grow answered t (TreeRow u ∷ rows) is =
@@ -173,7 +173,7 @@ answer_over s c t over =
 end_small : (c : Client) → (with_end c).ended ≤ 2 ^ 64 - 1
 end_small c = omega arith
 
-end_grows : (n k : ℕ) → k ≤ 2 ^ 64 - 1 → nat_le n k ≡ true → nat_le n (min (k + 1) (2 ^ 64 - 1)) ≡ true
+pub end_grows : (n k : ℕ) → k ≤ 2 ^ 64 - 1 → nat_le n k ≡ true → nat_le n (min (k + 1) (2 ^ 64 - 1)) ≡ true
 end_grows n k small is =
     let le : n ≤ k = grind (arith, nat_tests) in
     let more : k ≤ min (k + 1) (2 ^ 64 - 1) = grind arith in

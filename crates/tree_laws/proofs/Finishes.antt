@@ -104,7 +104,7 @@ answered_here answered t u rest true is one later some =
     let same : u ≡ t = grind (arith, nat_tests) in subst (λ (n : ℕ). get_or answered n false ≡ true) same one
 answered_here answered t u rest false is one later some = later (omega arith)
 
-is_true_of : (b : Bool) → 1 ≤ one_if b → b ≡ true
+pub is_true_of : (b : Bool) → 1 ≤ one_if b → b ≡ true
 is_true_of true some = refl
 is_true_of false some = absurd (omega arith)
 
@@ -160,7 +160,7 @@ answered_in answered t (SettleRow ∷ rows) all some = answered_in answered t ro
 answered_in answered t (LoseRow ∷ rows) all some = answered_in answered t rows all (omega (arith, some))
 
 -- an answered tree is at its last stage
-stage_done : (s : ScriptData) (past : List Entry) (t : ℕ) → 1 ≤ answers past t → TreeAt s past t → (k : ℕ) → SubAt s t k → dids past t k ≡ 1
+pub stage_done : (s : ScriptData) (past : List Entry) (t : ℕ) → 1 ≤ answers past t → TreeAt s past t → (k : ℕ) → SubAt s t k → dids past t k ≡ 1
 stage_done s past t some (Unborn none gone unanswered untold) = absurd (omega arith)
 stage_done s past t some (Gathers h one here same missing unanswered noted) = absurd (omega arith)
 stage_done s past t some (Answered gone one untold done) = done

@@ -4,7 +4,7 @@ use Rattle.tv_base.specs.declared.numbers.TreeNo.{TreeNo}
 use Rattle.item_versions.specs.Table.{Table, pending}
 use Rattle.item_versions.specs.Window.{IsWindowedTable}
 use Rattle.node_versions.specs.declared.turns.Turns.{Turns}
-use Rattle.pair_counters.specs.Numbers.{AllBelow, Numbers}
+use Rattle.pair_counters.specs.Numbers.{AllBelow, Numbers, MOST_COUNT}
 use Rattle.pair_counters.specs.Rows.{CounterRows, counts_of}
 use Rattle.tree_home.specs.Homes.{Gets, OpenTrees, trees_of}
 use Rattle.tree_home.specs.declared.homes.OpenTree.{OpenTree}
@@ -46,7 +46,7 @@ pub record IsInWindow (n : NodeParts) : Type 0 where
 pub record IsReady (s : ScriptData) (p : ℕ) (n : NodeParts) : Type 0 where
   pub there : p < s.nodes
   pub script : IsOf s n
-  pub small : AllBelow (2 ^ 62) (counts_of n.counters).numbers
+  pub small : AllBelow MOST_COUNT (counts_of n.counters).numbers
   pub window : IsInWindow n
 
 -- what the operations of a subtransaction make: the items, and the values of gets

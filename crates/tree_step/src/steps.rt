@@ -180,7 +180,8 @@ pub(crate) fn do_sub(
     requires fits { IsWindowedTable node.old.turns.low.0 (pending effect.staged node.old.items) }
     // What is made.
     ensures row { IfOk result (λ step. made (data_of node.new) step.given
-        ≡ sub_done script.now from.0 tree.0 sub.0 version.0 raises (effect_on node.old.items effect) (data_of node.old)) }
+        ≡ sub_done script.now from.0 tree.0 sub.0 version.0 raises (effect_on node.old.items effect)
+        (data_of node.old)) }
     ensures kept { IfOk result (λ step. step.kept ≡ step.given) }
     // What stays, and what want of memory leaves.
     ensures script { OnOk result (IsOf script.now node.new) }

@@ -37,7 +37,8 @@ after_read s (reads.Got n) = record s { left = drop n s.left; calls = one_more s
 after_read s reads.End = record s { calls = one_more s.calls }
 after_read s reads.Failed = record s { calls = one_more s.calls; faults = one_more s.faults }
 
--- a sink: the bytes written, the room left, the most that one call takes, the calls that fail, and the calls and faults so far
+-- a sink: the bytes written, the room left, the most that one call takes, the calls that fail, and the calls and faults
+-- so far
 pub record ToMemory : Type 0 where
   pub written : List ℕ
   pub room : ℕ
@@ -60,5 +61,6 @@ most_written s piece = min (min s.room s.most) piece
 
 -- what a write of a piece leaves
 abbrev pub after_write : ToMemory → List ℕ → WriteStep → ToMemory
-after_write s piece (writes.Took n) = record s { written = s.written ++ take n piece; room = s.room - n; calls = one_more s.calls }
+after_write s piece (writes.Took n) =
+    record s { written = s.written ++ take n piece; room = s.room - n; calls = one_more s.calls }
 after_write s piece writes.Failed = record s { calls = one_more s.calls; faults = one_more s.faults }

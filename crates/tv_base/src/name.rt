@@ -59,7 +59,8 @@ impl Hash for Name {
 impl Name {
     /// The name of these bytes. None exactly where there is no byte, or more than 32.
     pub fn new(bytes: &[u8]) -> Option<Name>
-        ensures { MatchOption result ((length bytes.now ≡ 0) ⊎ (32 < length bytes.now)) (λ n. (n ≡ bytes.now) × (0 < length bytes.now) × (length bytes.now ≤ 32)) }
+        ensures { MatchOption result ((length bytes.now ≡ 0) ⊎ (32 < length bytes.now))
+            (λ n. (n ≡ bytes.now) × (0 < length bytes.now) × (length bytes.now ≤ 32)) }
     {
         let len = bytes.len();
         if len == 0 || len > 32 {

@@ -1,5 +1,4 @@
--- The forms of trees and rows that are run. Strict trees, advancements and rows that make the coordinator forget aren't
--- yet.
+-- The forms of trees and rows that are run. Strict trees and rows that make the coordinator forget aren't yet.
 use Rattle.std.specs.Prelude.{Bool, true, false}
 use Rattle.tx_trees.specs.declared.parts.ScriptRow.{ScriptRow}
 use Rattle.tx_trees.specs.declared.parts.ScriptRow.TheVariants as rows
@@ -12,9 +11,9 @@ is_built trees.Update = true
 is_built trees.Read = true
 is_built trees.Strict = false
 
--- a tree's row, or one that waits
+-- a tree's row, one that asks for an advancement, or one that waits
 abbrev pub IsBuiltRow : ScriptRow → Type 0
 IsBuiltRow (rows.Tree t) = Unit {0}
-IsBuiltRow rows.Advance = ⊥
+IsBuiltRow rows.Advance = Unit {0}
 IsBuiltRow rows.Settle = Unit {0}
 IsBuiltRow rows.Lose = ⊥

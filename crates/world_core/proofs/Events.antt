@@ -11,6 +11,8 @@ use Rattle.letter_types.specs.Letters.{sealed}
 use Rattle.letter_types.specs.Steps.{Out}
 use Rattle.tx_trees.specs.ScriptData.{ScriptData}
 use Rattle.world_model.proofs.Scripts.{Sound, get_some}
+use Rattle.quiet_laws.specs.Balance.{MOST_COUNTED}
+use Rattle.tree_step.specs.Children.{MOST_SENT}
 use Rattle.world_core.specs.declared.actor.ActorState.{ActorState}
 use Rattle.world_model.specs.Tables.{ActorData}
 use Rattle.world_core.specs.Actors.{Acted, CountsBelow, IsAddressed, IsWorldOf, MayTake, TookLetter, WorldData}
@@ -31,7 +33,7 @@ is_here s w k l world sound at = omega (arith, below s w k l world sound at, wor
 
 -- a state there may take the letter, while the history is short
 state_may : (s : ScriptData) (w : WorldData) (m : ℕ) (l : Letter) (st : ActorState) → IsWorldOf s w → Sound s
-    → 65 * length w.history + 1 ≤ m
+    → MOST_COUNTED * length w.history + 1 ≤ m
     → slice_get w.actors l.to.0 ≡ Some st → MayTake s l m st
 state_may s w m l st world sound le there =
     let is = world.actors l.to.0 st there in
@@ -43,14 +45,14 @@ state_may s w m l st world sound le there =
     }
 
 pub may_take : (s : ScriptData) (w : WorldData) (k m : ℕ) (l : Letter) → IsWorldOf s w → Sound s
-    → 65 * length w.history + 1 ≤ m → slice_get w.bag k ≡ Some l
+    → MOST_COUNTED * length w.history + 1 ≤ m → slice_get w.bag k ≡ Some l
     → IfSome (slice_get w.actors l.to.0) (MayTake s l m)
 may_take s w k m l world sound le at =
     let found = get_some w.actors l.to.0 (is_here s w k l world sound at) in
     if_some_of (MayTake s l m) (slice_get w.actors l.to.0) found.0 found.1 (state_may s w m l found.0 world sound le found.1)
 
 pub has_room : (s : ScriptData) (w : WorldData) (l : Letter) (new : List ActorState) (out : StepOut) → IsWorldOf s w → Sound s
-    → Acted s l w.actors new out → length out.sent ≤ length s.rows + 65
+    → Acted s l w.actors new out → length out.sent ≤ length s.rows + MOST_SENT
 has_room s w l new out world sound acted =
     let past = reverse w.history in
     omega (

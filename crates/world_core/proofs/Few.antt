@@ -1,4 +1,4 @@
--- A step sends at most as many letters as the script has rows, and 65.
+-- A step sends at most as many letters as the script has rows, and a subtransaction may send.
 use Rattle.std.proofs.Common.{◌≡◌, ℕ, zero, suc, ◌+◌, ◌≤◌, ◌==◌, ◌&&◌, not, Bool, true, false, List, [], ◌∷◌, length, refl, arith, Option, Some, None}
 use Rattle.std.specs.Prelude.{if◌then◌else◌, nat_lt}
 use Rattle.std.proofs.lemmas.List.{length-append}
@@ -21,7 +21,7 @@ use Rattle.tree_home.specs.Homes.{Gets}
 use Rattle.tree_home.specs.declared.homes.Answered.{Answered}
 use Rattle.tree_step.specs.Apt.{is_did, kind_at}
 use Rattle.tree_step.specs.Asked.{asked_ops, asked_version, tree_done}
-use Rattle.tree_step.specs.Children.{sub_letters, done_letter}
+use Rattle.tree_step.specs.Children.{sub_letters, done_letter, MOST_SENT}
 use Rattle.tree_step.specs.Done.{note_done, root_done, sub_done, with_tree}
 use Rattle.tree_step.specs.Node.{Effect, Node}
 use Rattle.tree_step.specs.Notices.{answer_noted, reply_letters}
@@ -47,7 +47,7 @@ pick n true x y l r = l
 pick n false x y l r = r
 
 root_few : (s : ScriptData) (p t v : ℕ) (e : Effect) (st : Node) → IsValid s
-    → length (root_done s p t v e st).sent ≤ 65
+    → length (root_done s p t v e st).sent ≤ MOST_SENT
 root_few s p t v e st valid =
     let answer = answer_noted (record { 0 = t }) (record { 0 = 0 }) e.values (with_tree t (length (subs_at s t)) v st).homes in
     omega (
@@ -59,7 +59,7 @@ root_few s p t v e st valid =
     )
 
 sub_few : (s : ScriptData) (q t k v : ℕ) (raises : Bool) (e : Effect) (st : Node) → IsValid s
-    → length (sub_done s q t k v raises e st).sent ≤ 65
+    → length (sub_done s q t k v raises e st).sent ≤ MOST_SENT
 sub_few s q t k v raises e st valid =
     omega (
       arith,
@@ -69,13 +69,13 @@ sub_few s q t k v raises e st valid =
     )
 
 done_few : (s : ScriptData) (p from : ℕ) (v : Version) (raises : Bool) (e : Effect) (body : Body) (st : Node) → IsValid s
-    → length (tree_done s p from v raises e body st).sent ≤ 65
+    → length (tree_done s p from v raises e body st).sent ≤ MOST_SENT
 done_few s p from v raises e (Root t) st valid = root_few s p t.0 v.0 e st valid
 done_few s p from v raises e (SubLetter t k w) st valid = sub_few s from t.0 k.0 v.0 raises e st valid
 done_few s p from v raises e _ st valid = omega arith
 
 tree_few : (s : ScriptData) (p : ℕ) (st : Node) (from : ℕ) (body : Body) (kind : Option TreeKind) → IsValid s
-    → length (tree_row s p st from body kind).sent ≤ 65
+    → length (tree_row s p st from body kind).sent ≤ MOST_SENT
 tree_few s p st from body (Some Update) valid =
     let v : Version = asked_version st.turns.update body in
     done_few s p from v (nat_lt st.turns.update.0 v.0) (touching v (asked_ops s body) st.items) body st valid
@@ -85,16 +85,16 @@ tree_few s p st from body (Some Read) valid =
 tree_few s p st from body (Some Strict) valid = omega arith
 tree_few s p st from body None valid = omega arith
 
-note_few : (s : ScriptData) (q t k v : ℕ) (values : Gets) (st : Node) → length (note_done s q t k v values st).sent ≤ 65
+note_few : (s : ScriptData) (q t k v : ℕ) (values : Gets) (st : Node) → length (note_done s q t k v values st).sent ≤ MOST_SENT
 note_few s q t k v values st =
     omega (arith, few_replies (client_of s) (answer_noted (record { 0 = t }) (record { 0 = k }) values st.homes))
 
 row_few : (s : ScriptData) (p : ℕ) (st : Node) (from : ℕ) (body : Body) → IsValid s
-    → length (row s p st from body).sent ≤ 65
+    → length (row s p st from body).sent ≤ MOST_SENT
 row_few s p st from (Root t) valid = tree_few s p st from (Root t) (kind_at s t.0) valid
 row_few s p st from (SubLetter t k v) valid = tree_few s p st from (SubLetter t k v) (kind_at s t.0) valid
 row_few s p st from (Done t k v notice) valid =
-    pick 65 (is_did notice) (note_done s from t.0 k.0 v.0 (values_of notice) st) (still st)
+    pick MOST_SENT (is_did notice) (note_done s from t.0 k.0 v.0 (values_of notice) st) (still st)
     (note_few s from t.0 k.0 v.0 (values_of notice) st) (omega arith)
 row_few s p st from (Turn v) valid = omega arith
 row_few s p st from (Show v) valid = omega arith
@@ -103,9 +103,9 @@ row_few s p st from (AskDone v k) valid = omega arith
 row_few s p st from (AskAsked v k) valid = omega arith
 row_few s p st from _ valid = omega arith
 
-node_few : (s : ScriptData) (p : ℕ) (st : Node) (l : Letter) → IsValid s → length (node_row s p st l).sent ≤ 65
+node_few : (s : ScriptData) (p : ℕ) (st : Node) (l : Letter) → IsValid s → length (node_row s p st l).sent ≤ MOST_SENT
 node_few s p st l valid =
-    pick 65 (is_apt s p st l) (row s p st l.from.0 l.body) (still st) (row_few s p st l.from.0 l.body valid) (omega arith)
+    pick MOST_SENT (is_apt s p st l) (row s p st l.from.0 l.body) (still st) (row_few s p st l.from.0 l.body valid) (omega arith)
 
 to_each : (n : ℕ) (body : Body) → length (to_nodes n body) ≡ n
 to_each zero body = refl
@@ -154,7 +154,7 @@ coordinator_few from c _ _ = omega arith
 
 few_by : (s : ScriptData) (past : List Entry) (a : ℕ) (l : Letter) (b c : Bool) → IsValid s
     → nat_lt a s.nodes ≡ b → (a == s.nodes) ≡ c
-    → length (actor_row s a (actor_in s past a) l).sent ≤ length s.rows + 65
+    → length (actor_row s a (actor_in s past a) l).sent ≤ length s.rows + MOST_SENT
 few_by s past a l true c valid is at = rw is (omega (arith, node_few s a (node_in s past a) l valid))
 few_by s past a l false true valid is at =
     let c = coordinator_in s past in
@@ -163,5 +163,5 @@ few_by s past a l false false valid is at = rw (is, at) (omega (arith, few_sent_
 
 -- an actor's step after a past
 pub few_sent : (s : ScriptData) (past : List Entry) (a : ℕ) (l : Letter) → IsValid s
-    → length (actor_row s a (actor_in s past a) l).sent ≤ length s.rows + 65
+    → length (actor_row s a (actor_in s past a) l).sent ≤ length s.rows + MOST_SENT
 few_sent s past a l valid = few_by s past a l (nat_lt a s.nodes) (a == s.nodes) valid refl refl

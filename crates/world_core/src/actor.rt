@@ -3,6 +3,7 @@ ghost use Rattle.std.specs.Prelude.{◌≡◌, ◌<◌, ◌+◌, ◌^◌, [], If
 ghost use Rattle.letter_types.specs.Steps.{made};
 ghost use Rattle.world_model.specs.Tables.{actor_row};
 ghost use Rattle.world_core.specs.Actors.{CountsBelow, data_of, IsAddressed, IsFor, IsStateOf};
+ghost use Rattle.pair_counters.specs.Numbers.{MOST_COUNT};
 
 use crate::node::NodeState;
 use advance_coord::Coordinator;
@@ -50,7 +51,7 @@ pub fn actor_step(
 ) -> Result<Step, NoMemory>
     requires addressed { IsAddressed script.now letter.now (data_of state.old) }
     requires script { IsFor script.now state.old }
-    requires small { CountsBelow (2 ^ 62) (data_of state.old) }
+    requires small { CountsBelow MOST_COUNT (data_of state.old) }
     ensures row { IfOk result (λ step. made (data_of state.new) step.given
         ≡ actor_row script.now letter.now.to.0 (data_of state.old) letter.now) }
     ensures kept { IfOk result (λ step. step.kept ≡ step.given) }

@@ -5,7 +5,7 @@ ghost use Rattle.commute_ops.specs.Ops.{start};
 ghost use Rattle.item_versions.specs.Window.{IsWindowedTable};
 ghost use Rattle.letter_types.specs.Steps.{made};
 ghost use Rattle.node_step.specs.Apt.{node_row};
-ghost use Rattle.pair_counters.specs.Numbers.{AllBelow};
+ghost use Rattle.pair_counters.specs.Numbers.{AllBelow, MOST_COUNT};
 ghost use Rattle.pair_counters.specs.Rows.{counts_of};
 ghost use Rattle.tree_step.specs.Node.{data_of, IsOf};
 ghost use Rattle.tx_trees.specs.Valid.{IsItem};
@@ -128,7 +128,7 @@ impl NodeState {
         // What the caller knows.
         requires node { letter.now.to.0 < script.now.nodes }
         requires script { IsOf script.now self.old }
-        requires below { AllBelow (2 ^ 62) (counts_of self.old.counters).numbers }
+        requires below { AllBelow MOST_COUNT (counts_of self.old.counters).numbers }
         // What is made, what stays, and what want of memory leaves.
         ensures row { IfOk result (λ step. made (data_of self.new) step.given
             ≡ node_row script.now letter.now.to.0 (data_of self.old) letter.now) }

@@ -6,7 +6,8 @@ ghost use Rattle.world_model.specs.Tables.{Runnable};
 ghost use Rattle.quiet_laws.specs.Balance.{Balanced};
 ghost use Rattle.tx_trees.specs.ScriptData.{ScriptData};
 ghost use Rattle.world_model.specs.Runs.{actor_after};
-ghost use Rattle.world_core.specs.Actors.{Acted, AreStatesOf, data_of, GaveInQuiet, IsWorldOf, MayTake, TookLetter, world_of};
+ghost use Rattle.world_core.specs.Actors.{Acted, AreStatesOf, data_of, GaveInQuiet, IsWorldOf, MayTake, MOST_ENTRIES, TookLetter, world_of};
+ghost use Rattle.pair_counters.specs.Numbers.{MOST_COUNT};
 
 use crate::actor::{ActorState, actor_step};
 use letter_bag::Bag;
@@ -15,6 +16,9 @@ use std::alloc::Global;
 use std::marker::Model;
 use tv_base::{ActorNo, NoMemory, Stamp};
 use tx_trees::Script;
+
+/// The most letters that a node sends in a step: a Sub to each other subtransaction of a tree, and a Done or a Reply.
+const MOST_SENT: usize = 65;
 
 /// All actors of a script, the letters under way in order of their ids, and the history so far.
 #[derive(Drop)]
@@ -97,7 +101,7 @@ fn act(
     letter: &Letter,
 ) -> Result<Step, NoMemory>
     requires here { letter.now.to.0 < length actors.old.items }
-    requires may { IfSome (slice_get actors.old.items letter.now.to.0) (MayTake script.now letter.now (2 ^ 62)) }
+    requires may { IfSome (slice_get actors.old.items letter.now.to.0) (MayTake script.now letter.now MOST_COUNT) }
     ensures acted { IfOk result (λ step. Acted script.now letter.now actors.old.items actors.new.items step.given) }
     ensures kept { IfOk result (λ step. step.kept ≡ step.given) }
     ensures err { OnErr result (actors.new.items ≡ actors.old.items) }
@@ -179,7 +183,7 @@ fn advance(
 {
     let _valid = script.nodes();
     let stamp = Stamp(history.items().len() as u64 + 1);
-    let room = script.rows().len() + 65;
+    let room = script.rows().len() + MOST_SENT;
     make_room(bag, room)?;
     history.push(placeholder(alloc, stamp))?;
     match act(alloc, script, actors, bag.at(k)) {
@@ -269,7 +273,7 @@ impl World {
     /// The history so far. It has at most 2^40 entries.
     pub fn history(&self) -> &History
         ensures history { result.now ≡ self.now.history }
-        ensures few { length self.now.history ≤ 2 ^ 40 }
+        ensures few { length self.now.history ≤ MOST_ENTRIES }
     {
         let _count = self.history.items();
         &self.history

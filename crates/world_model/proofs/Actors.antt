@@ -9,11 +9,12 @@ use Rattle.letter_types.specs.Letters.{go, own, find_id, letters_of}
 use Rattle.letter_types.specs.Postal.{Postal, posting_of, letters_sent}
 use Rattle.letter_types.specs.Steps.{Out}
 use Rattle.tx_trees.specs.ScriptData.{ScriptData, client_of}
+use Rattle.tree_step.specs.Node.{Node}
 use Rattle.node_step.specs.Apt.{node_row}
 use Rattle.advance_coord.specs.Coordinator.{start_coordinator}
 use Rattle.client_rows.specs.Client.{start_client}
 use Rattle.world_model.specs.Tables.{ActorData, NodeData, CoordinatorData, ClientData, start_node, start_actor, as_actor, actor_row, coordinator_table, client_table}
-use Rattle.world_model.specs.Runs.{IsRunOf, after, IsActorRun, WorldRun}
+use Rattle.world_model.specs.Runs.{IsRunOf, after, WorldRun}
 
 -- The letters of a history of entries went as letters do.
 pub record EntryPostal (client : ℕ) (h : List Entry) : Type 0 where
@@ -104,7 +105,7 @@ postal_of client h p = record {
 -- Tables that are seen as an actor's.
 
 -- a row seen as an actor's
-abbrev Sees : {St : Type 0} → (ActorData → Letter → Out ActorData) → (St → ActorData) → (St → Letter → Out St) → Type 0
+abbrev pub Sees : {St : Type 0} → (ActorData → Letter → Out ActorData) → (St → ActorData) → (St → Letter → Out St) → Type 0
 Sees {St} big see row = (st : St) (l : Letter) → big (see st) l ≡ as_actor see (row st l)
 
 -- the run of the one is a run of the other
@@ -143,26 +144,47 @@ starts_client s =
     let apart : (client_of s == s.nodes) ≡ false = grind (arith, nat_tests) in
     rw no (rw apart refl)
 
--- A run by the tables, actor by actor.
-pub record TableRun (s : ScriptData) (h : List Entry) : Type 0 where
+-- A run by tables, actor by actor, where the nodes go by these rows.
+pub record RowsRun (row : ℕ → Node → Letter → Out Node) (s : ScriptData) (h : List Entry) : Type 0 where
   pub postal : EntryPostal (client_of s) h
-  pub nodes : (p : ℕ) → p < s.nodes → IsRunOf (node_row s p) (start_node s p) (own p h)
+  pub nodes : (p : ℕ) → p < s.nodes → IsRunOf (row p) (start_node s p) (own p h)
   pub coordinator : IsRunOf coordinator_table (start_coordinator s.nodes) (own s.nodes h)
   pub client : IsRunOf (client_table s) (start_client s) (own (client_of s) h)
 
-pub table_run : (s : ScriptData) (h : List Entry) → WorldRun s h → TableRun s h
-table_run s h w = record {
-  postal = entry_postal (client_of s) h w.postal;
+-- where they go by the window of versions
+abbrev pub TableRun : ScriptData → List Entry → Type 0
+TableRun s h = RowsRun (node_row s) s h
+
+-- one table for all actors that is made of these rows, and of the coordinator's and the client's tables
+pub record IsTableOf (s : ScriptData) (big : ℕ → ActorData → Letter → Out ActorData) (row : ℕ → Node → Letter → Out Node) : Type 0 where
+  pub node : (p : ℕ) → Sees (big p) NodeData (row p)
+  pub coordinator : (a : ℕ) → Sees (big a) CoordinatorData coordinator_table
+  pub client : (a : ℕ) → Sees (big a) ClientData (client_table s)
+
+-- each actor's own entries are a run of its table from its start
+abbrev pub AreRunsOf : (ℕ → ActorData → Letter → Out ActorData) → ScriptData → List Entry → Type 0
+AreRunsOf big s h = (a : ℕ) → a < s.nodes + 2 → IsRunOf (big a) (start_actor s a) (own a h)
+
+pub rows_run : (big : ℕ → ActorData → Letter → Out ActorData) (row : ℕ → Node → Letter → Out Node) (s : ScriptData) (h : List Entry)
+    → IsTableOf s big row → Postal (client_of s) (map posting_of h) → AreRunsOf big s h → RowsRun row s h
+rows_run big row s h is postal actors = record {
+  postal = entry_postal (client_of s) h postal;
   nodes = λ p lt.
-      run_seen (actor_row s p) NodeData (node_row s p) (λ st l. refl) (start_node s p) (own p h)
-      (subst (λ (st : ActorData). IsRunOf (actor_row s p) st (own p h)) (starts_node s p lt) (w.actors p (omega arith)));
+      run_seen (big p) NodeData (row p) (is.node p) (start_node s p) (own p h)
+      (subst (λ (st : ActorData). IsRunOf (big p) st (own p h)) (starts_node s p lt) (actors p (omega arith)));
   coordinator =
-      run_seen (actor_row s s.nodes) CoordinatorData coordinator_table (λ st l. refl) (start_coordinator s.nodes) (own s.nodes h)
-      (subst (λ (st : ActorData). IsRunOf (actor_row s s.nodes) st (own s.nodes h)) (starts_coordinator s) (w.actors s.nodes (omega arith)));
+      run_seen (big s.nodes) CoordinatorData coordinator_table (is.coordinator s.nodes) (start_coordinator s.nodes) (own s.nodes h)
+      (subst (λ (st : ActorData). IsRunOf (big s.nodes) st (own s.nodes h)) (starts_coordinator s) (actors s.nodes (omega arith)));
   client =
-      run_seen (actor_row s (client_of s)) ClientData (client_table s) (λ st l. refl) (start_client s) (own (client_of s) h)
-      (subst (λ (st : ActorData). IsRunOf (actor_row s (client_of s)) st (own (client_of s) h)) (starts_client s) (w.actors (client_of s) (omega arith)));
+      run_seen (big (client_of s)) ClientData (client_table s) (is.client (client_of s)) (start_client s) (own (client_of s) h)
+      (subst (λ (st : ActorData). IsRunOf (big (client_of s)) st (own (client_of s) h)) (starts_client s) (actors (client_of s) (omega arith)));
 }
+
+by_window : (s : ScriptData) → IsTableOf s (actor_row s) (node_row s)
+by_window s = record { node = λ p st l. refl; coordinator = λ a c l. refl; client = λ a c l. refl }
+
+pub table_run : (s : ScriptData) (h : List Entry) → WorldRun s h → TableRun s h
+table_run s h w = rows_run (actor_row s) (node_row s) s h (by_window s) w.postal w.actors
 
 -- an actor is a node, the coordinator or the client
 pub data Who (s : ScriptData) (a : ℕ) : Type 0 where
@@ -181,23 +203,29 @@ who_by s a lt false false is at =
 pub who : (s : ScriptData) (a : ℕ) → a < s.nodes + 2 → Who s a
 who s a lt = who_by s a lt (nat_lt a s.nodes) (a == s.nodes) refl refl
 
-actor_run : (s : ScriptData) (h : List Entry) (a : ℕ) → TableRun s h → Who s a → IsActorRun s h a
-actor_run s h a run (ANode lt) =
-    subst (λ (st : ActorData). IsRunOf (actor_row s a) st (own a h)) (sym (starts_node s a lt))
-    (seen_run (actor_row s a) NodeData (node_row s a) (λ st l. refl) (start_node s a) (own a h) (run.nodes a lt))
-actor_run s h a run (TheCoordinator is) =
-    subst (λ (b : ℕ). IsActorRun s h b) (sym is)
-    (subst (λ (st : ActorData). IsRunOf (actor_row s s.nodes) st (own s.nodes h)) (sym (starts_coordinator s))
-    (seen_run (actor_row s s.nodes) CoordinatorData coordinator_table (λ st l. refl) (start_coordinator s.nodes) (own s.nodes h) run.coordinator))
-actor_run s h a run (TheClient is) =
-    subst (λ (b : ℕ). IsActorRun s h b) (sym is)
-    (subst (λ (st : ActorData). IsRunOf (actor_row s (client_of s)) st (own (client_of s) h)) (sym (starts_client s))
-    (seen_run (actor_row s (client_of s)) ClientData (client_table s) (λ st l. refl) (start_client s) (own (client_of s) h) run.client))
+actor_run : (big : ℕ → ActorData → Letter → Out ActorData) (row : ℕ → Node → Letter → Out Node) (s : ScriptData) (h : List Entry) (a : ℕ)
+    → IsTableOf s big row → RowsRun row s h → Who s a → IsRunOf (big a) (start_actor s a) (own a h)
+actor_run big row s h a is run (ANode lt) =
+    subst (λ (st : ActorData). IsRunOf (big a) st (own a h)) (sym (starts_node s a lt))
+    (seen_run (big a) NodeData (row a) (is.node a) (start_node s a) (own a h) (run.nodes a lt))
+actor_run big row s h a is run (TheCoordinator at) =
+    subst (λ (b : ℕ). IsRunOf (big b) (start_actor s b) (own b h)) (sym at)
+    (subst (λ (st : ActorData). IsRunOf (big s.nodes) st (own s.nodes h)) (sym (starts_coordinator s))
+    (seen_run (big s.nodes) CoordinatorData coordinator_table (is.coordinator s.nodes) (start_coordinator s.nodes) (own s.nodes h) run.coordinator))
+actor_run big row s h a is run (TheClient at) =
+    subst (λ (b : ℕ). IsRunOf (big b) (start_actor s b) (own b h)) (sym at)
+    (subst (λ (st : ActorData). IsRunOf (big (client_of s)) st (own (client_of s) h)) (sym (starts_client s))
+    (seen_run (big (client_of s)) ClientData (client_table s) (is.client (client_of s)) (start_client s) (own (client_of s) h) run.client))
+
+-- and back, of all actors
+pub runs_of_rows : (big : ℕ → ActorData → Letter → Out ActorData) (row : ℕ → Node → Letter → Out Node) (s : ScriptData) (h : List Entry)
+    → IsTableOf s big row → RowsRun row s h → AreRunsOf big s h
+runs_of_rows big row s h is run = λ a lt. actor_run big row s h a is run (who s a lt)
 
 pub world_of_tables : (s : ScriptData) (h : List Entry) → TableRun s h → WorldRun s h
 world_of_tables s h run = record {
   postal = postal_of (client_of s) h run.postal;
-  actors = λ a lt. actor_run s h a run (who s a lt);
+  actors = runs_of_rows (actor_row s) (node_row s) s h (by_window s) run;
 }
 
 -- the state to which an actor's own entries lead, by whose it is

@@ -167,14 +167,14 @@ one_run : {St : Type 0} (row : St → Letter → Out St) (st : St) (e : Entry) (
 one_run row st e true says = let p = says refl in (p.0, p.1, tt)
 one_run row st e false says = tt
 
-run_more : {St : Type 0} (row : St → Letter → Out St) (first : St) (a : ℕ) (e : Entry) (past : List Entry) (st : St)
+pub run_more : {St : Type 0} (row : St → Letter → Out St) (first : St) (a : ℕ) (e : Entry) (past : List Entry) (st : St)
     → after row first (own a (reverse past)) ≡ st
     → IsRunOf row first (own a (reverse past)) → ((e.actor.0 == a) ≡ true → Says (row st e.took) e)
     → IsRunOf row first (own a (reverse (e ∷ past)))
 run_more row first a e past st is run says =
     rw (own_more a e past) (run_join row first (own a (reverse past)) (if e.actor.0 == a then e ∷ [] else []) run (rw is (one_run row st e (e.actor.0 == a) says)))
 
-says_node : (s : ScriptData) (past : List Entry) (e : Entry) (p : ℕ) → Moves s past e → p < s.nodes → (e.actor.0 == p) ≡ true
+pub says_node : (s : ScriptData) (past : List Entry) (e : Entry) (p : ℕ) → Moves s past e → p < s.nodes → (e.actor.0 == p) ≡ true
     → Says (node_row s p (node_in s past p) e.took) e
 says_node s past e p (AtNode node says) lt is =
     let eq : e.actor.0 ≡ p = grind (arith, nat_tests) in subst (λ (n : ℕ). Says (node_row s n (node_in s past n) e.took) e) eq says
@@ -210,7 +210,7 @@ client_runs s [] run = tt
 client_runs s (e ∷ past) run =
     run_more (client_table s) (start_client s) (client_of s) e past (client_in s past) (client_after s past) (client_runs s past run.1) (says_client s past e run.0.moves)
 
-table_run_of : (s : ScriptData) (past : List Entry) → StepRun s past → TableRun s (reverse past)
+pub table_run_of : (s : ScriptData) (past : List Entry) → StepRun s past → TableRun s (reverse past)
 table_run_of s past run = record {
   postal = record {
     stamps = λ k e at. stamps_of s past k e run at;

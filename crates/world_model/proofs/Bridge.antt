@@ -43,7 +43,7 @@ one_after row st e true = refl
 one_after row st e false = refl
 
 -- the state after an actor's own entries, with one entry more
-state_more : {St : Type 0} (row : St → Letter → Out St) (first : St) (a : ℕ) (e : Entry) (past : List Entry) (st : St)
+pub state_more : {St : Type 0} (row : St → Letter → Out St) (first : St) (a : ℕ) (e : Entry) (past : List Entry) (st : St)
     → after row first (own a (reverse past)) ≡ st
     → after row first (own a (reverse (e ∷ past))) ≡ (if e.actor.0 == a then (row st e.took).state else st)
 state_more row first a e past st is =

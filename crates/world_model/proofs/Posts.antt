@@ -10,15 +10,17 @@ use Rattle.letter_types.specs.declared.entries.LetterId.{LetterId}
 use Rattle.letter_types.specs.declared.entries.Letter.{Letter}
 use Rattle.letter_types.specs.declared.entries.Outgoing.{Outgoing}
 use Rattle.letter_types.specs.declared.entries.Entry.{Entry}
-use Rattle.letter_types.specs.Letters.{go, same_id, find_id, drop_id, sealed, letters_of}
+use Rattle.letter_types.specs.Letters.{go, own, same_id, find_id, drop_id, sealed, letters_of}
+use Rattle.letter_types.specs.Steps.{Out}
 use Rattle.tx_trees.specs.ScriptData.{ScriptData, client_of}
+use Rattle.tree_step.specs.Node.{Node}
 use Rattle.node_step.specs.Apt.{node_row}
 use Rattle.advance_coord.specs.Coordinator.{start_coordinator}
 use Rattle.world_model.specs.Tables.{start_node, client_table, coordinator_table}
-use Rattle.world_model.specs.Runs.{WorldRun, waiting, node_in, coordinator_in, client_in, Moves, AtNode, AtCoordinator, AtClient, MayFollow, StepRun}
+use Rattle.world_model.specs.Runs.{IsRunOf, after, WorldRun, waiting, node_in, coordinator_in, client_in, Says, Moves, AtNode, AtCoordinator, AtClient, MayFollow, StepRun}
 use Rattle.world_model.proofs.Gone.{apart_from, same_is}
 use Rattle.world_model.proofs.Bridge.{reverse_more, postal_less, run_less, node_after, coordinator_after, client_after}
-use Rattle.world_model.proofs.Actors.{TableRun, table_run}
+use Rattle.world_model.proofs.Actors.{EntryPostal, RowsRun, TableRun, table_run}
 use Rattle.client_rows.specs.Client.{start_client}
 
 find_left_at : (id : LetterId) (x : Letter) (xs ys : List Letter) (l : Letter) (b : Bool) → same_id id x.id ≡ b
@@ -150,34 +152,69 @@ came_from s e past k (inr (j, f, lt, here, found)) at =
       | inr p ↦ absurd (omega arith)
     ]
 
-moves_of : (s : ScriptData) (e : Entry) (past : List Entry) → TableRun s (reverse (e ∷ past))
+-- whose step the last entry is, where it says what its node's row says
+pub moves_by : (s : ScriptData) (e : Entry) (past : List Entry)
+    → (e.actor.0 < s.nodes → Says (node_row s e.actor.0 (node_in s past e.actor.0) e.took) e)
+    → IsRunOf coordinator_table (start_coordinator s.nodes) (own s.nodes (reverse (e ∷ past)))
+    → IsRunOf (client_table s) (start_client s) (own (client_of s) (reverse (e ∷ past)))
     → (e.actor.0 < s.nodes) ⊎ ((e.actor.0 ≡ s.nodes) ⊎ (e.actor.0 ≡ client_of s)) → Moves s past e
-moves_of s e past world (inl node) =
-    AtNode node ((run_less (node_row s e.actor.0) (start_node s e.actor.0) e.actor.0 e past (node_in s past e.actor.0) (node_after s past e.actor.0) (world.nodes e.actor.0 node)).1 (same_test e.actor.0))
-moves_of s e past world (inr (inl at)) =
-    AtCoordinator at ((run_less coordinator_table (start_coordinator s.nodes) s.nodes e past (coordinator_in s past) (coordinator_after s past) world.coordinator).1 (rw at (same_test s.nodes)))
-moves_of s e past world (inr (inr at)) =
-    AtClient at ((run_less (client_table s) (start_client s) (client_of s) e past (client_in s past) (client_after s past) world.client).1 (rw at (same_test (client_of s))))
+moves_by s e past node coordinator client (inl lt) = AtNode lt (node lt)
+moves_by s e past node coordinator client (inr (inl at)) =
+    AtCoordinator at ((run_less coordinator_table (start_coordinator s.nodes) s.nodes e past (coordinator_in s past) (coordinator_after s past) coordinator).1 (rw at (same_test s.nodes)))
+moves_by s e past node coordinator client (inr (inr at)) =
+    AtClient at ((run_less (client_table s) (start_client s) (client_of s) e past (client_in s past) (client_after s past) client).1 (rw at (same_test (client_of s))))
+
+node_says : (s : ScriptData) (e : Entry) (past : List Entry) → TableRun s (reverse (e ∷ past)) → e.actor.0 < s.nodes
+    → Says (node_row s e.actor.0 (node_in s past e.actor.0) e.took) e
+node_says s e past world lt =
+    (run_less (node_row s e.actor.0) (start_node s e.actor.0) e.actor.0 e past (node_in s past e.actor.0) (node_after s past e.actor.0) (world.nodes e.actor.0 lt)).1
+    (same_test e.actor.0)
 
 who : (a n : ℕ) → a < n + 2 → (a < n) ⊎ ((a ≡ n) ⊎ (a ≡ n + 1))
 who a n lt = grind arith
 
-pub may_follow : (s : ScriptData) (e : Entry) (past : List Entry) → StepRun s past → TableRun s (reverse (e ∷ past)) → MayFollow s past e
-may_follow s e past run world =
+-- the letter that the last entry took was under way
+pub waits_of : (s : ScriptData) (e : Entry) (past : List Entry) → StepRun s past → EntryPostal (client_of s) (reverse (e ∷ past))
+    → find_id e.took.id (waiting s past) ≡ Some e.took
+waits_of s e past run postal =
     let last : slice_get (reverse past ++ e ∷ []) (length (reverse past)) ≡ Some e = slice_get_last (reverse past) e in
-    let post = rw (reverse_more e past) at world.postal in
+    let post = rw (reverse_more e past) at postal in
+    present s past e.took run (came_from s e past (length (reverse past)) (post.sent (length (reverse past)) e last) refl)
+    (not_taken past e.took.id (λ j f at. post.once j (length (reverse past)) f e (slice_get_within (reverse past) j f at) (slice_get_left (reverse past) (e ∷ []) j f at) last))
+
+-- the actor of the last entry
+pub who_of : (s : ScriptData) (e : Entry) (past : List Entry) → EntryPostal (client_of s) (reverse (e ∷ past))
+    → (e.took.to.0 ≡ e.actor.0) × ((e.actor.0 < s.nodes) ⊎ ((e.actor.0 ≡ s.nodes) ⊎ (e.actor.0 ≡ client_of s)))
+who_of s e past postal =
+    let last : slice_get (reverse past ++ e ∷ []) (length (reverse past)) ≡ Some e = slice_get_last (reverse past) e in
+    let post = rw (reverse_more e past) at postal in
+    (post.addressee (length (reverse past)) e last, who e.actor.0 s.nodes (omega (arith, post.known (length (reverse past)) e last)))
+
+-- it may come next
+pub follows_by : (s : ScriptData) (e : Entry) (past : List Entry) → StepRun s past → EntryPostal (client_of s) (reverse (e ∷ past))
+    → Moves s past e → MayFollow s past e
+follows_by s e past run postal moves =
+    let last : slice_get (reverse past ++ e ∷ []) (length (reverse past)) ≡ Some e = slice_get_last (reverse past) e in
+    let post = rw (reverse_more e past) at postal in
     record {
       stamp = omega (arith, post.stamps (length (reverse past)) e last, length-reverse past);
-      waits = present s past e.took run (came_from s e past (length (reverse past)) (post.sent (length (reverse past)) e last) refl)
-          (not_taken past e.took.id (λ j f at. post.once j (length (reverse past)) f e (slice_get_within (reverse past) j f at) (slice_get_left (reverse past) (e ∷ []) j f at) last));
-      addressee = post.addressee (length (reverse past)) e last;
-      moves = moves_of s e past world (who e.actor.0 s.nodes (omega (arith, post.known (length (reverse past)) e last)));
+      waits = waits_of s e past run postal;
+      addressee = (who_of s e past postal).0;
+      moves = moves;
     }
 
-world_less : (s : ScriptData) (e : Entry) (past : List Entry) → TableRun s (reverse (e ∷ past)) → TableRun s (reverse past)
-world_less s e past world = record {
+may_follow : (s : ScriptData) (e : Entry) (past : List Entry) → StepRun s past → TableRun s (reverse (e ∷ past)) → MayFollow s past e
+may_follow s e past run world =
+    follows_by s e past run world.postal
+    (moves_by s e past (node_says s e past world) world.coordinator world.client (who_of s e past world.postal).1)
+
+-- a run by tables without its last entry
+pub rows_less : (row : ℕ → Node → Letter → Out Node) (s : ScriptData) (e : Entry) (past : List Entry)
+    → RowsRun row s (reverse (e ∷ past)) → RowsRun row s (reverse past)
+rows_less row s e past world = record {
   postal = postal_less s e (reverse past) (rw (reverse_more e past) at world.postal);
-  nodes = λ p lt. (run_less (node_row s p) (start_node s p) p e past (node_in s past p) (node_after s past p) (world.nodes p lt)).0;
+  nodes = λ p lt.
+      (run_less (row p) (start_node s p) p e past (after (row p) (start_node s p) (own p (reverse past))) refl (world.nodes p lt)).0;
   coordinator = (run_less coordinator_table (start_coordinator s.nodes) s.nodes e past (coordinator_in s past) (coordinator_after s past) world.coordinator).0;
   client = (run_less (client_table s) (start_client s) (client_of s) e past (client_in s past) (client_after s past) world.client).0;
 }
@@ -185,7 +222,7 @@ world_less s e past world = record {
 step_run : (s : ScriptData) (past : List Entry) → TableRun s (reverse past) → StepRun s past
 step_run s [] world = tt
 step_run s (e ∷ past) world =
-    let run = step_run s past (world_less s e past world) in
+    let run = step_run s past (rows_less (node_row s) s e past world) in
     (may_follow s e past run world, run)
 
 pub steps : (s : ScriptData) (history : List Entry) → WorldRun s history → StepRun s (reverse history)

@@ -18,7 +18,8 @@ use Rattle.world_model.specs.Tables.{ActorData, start_node, start_actor, actor_r
 -- these entries are a run of a table from a state
 abbrev pub IsRunOf : {St : Type 0} → (St → Letter → Out St) → St → List Entry → Type 0
 IsRunOf row st [] = Unit {0}
-IsRunOf row st (e ∷ es) = (e.sent ≡ (row st e.took).sent) × (e.acts ≡ (row st e.took).acts) × IsRunOf row (row st e.took).state es
+IsRunOf row st (e ∷ es) =
+    (e.sent ≡ (row st e.took).sent) × (e.acts ≡ (row st e.took).acts) × IsRunOf row (row st e.took).state es
 
 -- the state after these entries
 abbrev pub after : {St : Type 0} → (St → Letter → Out St) → St → List Entry → St
@@ -59,7 +60,8 @@ coordinator_in s (e ∷ past) =
 
 abbrev pub client_in : ScriptData → List Entry → Client
 client_in s [] = start_client s
-client_in s (e ∷ past) = if e.actor.0 == client_of s then (client_table s (client_in s past) e.took).state else client_in s past
+client_in s (e ∷ past) =
+    if e.actor.0 == client_of s then (client_table s (client_in s past) e.took).state else client_in s past
 
 -- the table says these letters and these acts
 abbrev pub Says : {St : Type 0} → Out St → Entry → Type 0

@@ -16,7 +16,13 @@ use Rattle.world_model.specs.Runs.{waiting, node_in, coordinator_in, client_in}
 
 -- an actor takes a letter, and its table says this
 abbrev pub entry_by : {St : Type 0} → List Entry → Letter → Out St → Entry
-entry_by past l out = record { stamp = record { 0 = length past + 1 }; actor = l.to; took = l; sent = out.sent; acts = out.acts }
+entry_by past l out = record {
+  stamp = record { 0 = length past + 1 };
+  actor = l.to;
+  took = l;
+  sent = out.sent;
+  acts = out.acts;
+}
 
 abbrev pub entry_of : ScriptData → List Entry → Letter → Entry
 entry_of s past l =

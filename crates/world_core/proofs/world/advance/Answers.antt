@@ -6,6 +6,7 @@ use Rattle.letter_types.specs.Letters.{sealed}
 use Rattle.letter_types.specs.declared.entries.Letter.{Letter}
 use Rattle.letter_types.specs.declared.entries.Entry.{Entry}
 use Rattle.tx_trees.specs.declared.parts.ScriptRow.{ScriptRow}
+use Rattle.tree_step.specs.Children.{MOST_SENT}
 use Rattle.world_core.specs.Actors.{world_of}
 use Rattle.world_core.proofs.Events.{is_here, may_take, has_room, Event, event_world, event_took, event_count}
 use Rattle.world_core.proofs.world.advance.Goals as goal
@@ -23,7 +24,7 @@ act-requires-clause-may c =
 
 pub finish-requires-clause-room : goal.finish-requires-clause-room
 finish-requires-clause-room c =
-    let few : length c.in-Ok.step.given.sent ≤ length c.args.script.now.rows + 65 =
+    let few : length c.in-Ok.step.given.sent ≤ length c.args.script.now.rows + MOST_SENT =
     has_room _ (world_of c.args.actors.now.items c.args.bag.now.items c.args.history.now) _ _ _ c.requires.world
     (record { valid = c.nodes-valid.ensures.valid; runnable = c.requires.runnable }) c.in-Ok.ensures.acted in
     omega (arith, few, c.in_ok-make_room.ensures.ok, ap (length {A = ScriptRow}) c.rows.ensures)

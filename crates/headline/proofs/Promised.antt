@@ -1,0 +1,47 @@
+-- Every run by the tables whose client has finished has the headline: the laws put together.
+use Rattle.std.proofs.Common.{List, reverse, subst, sym}
+use Rattle.std.proofs.lemmas.List.{reverse-reverse}
+use Rattle.board_laws.proofs.Waits.{no_wait}
+use Rattle.board_model.specs.Right.{HasFinished}
+use Rattle.gate_laws.proofs.Fitting.{fits_run}
+use Rattle.headline.specs.Headline.{HasHeadline}
+use Rattle.hold_laws.proofs.Few.{held_three}
+use Rattle.hold_laws.proofs.Settled.{settled}
+use Rattle.letter_types.specs.declared.entries.Entry.{Entry}
+use Rattle.move_laws.proofs.BoardRuns.{board_run}
+use Rattle.run_laws.proofs.InTime.{in_time}
+use Rattle.show_laws.proofs.Staying.{reads_right, stay_right, updates_first}
+use Rattle.tree_laws.proofs.Whole.{whole}
+use Rattle.tx_trees.specs.ScriptData.{ScriptData}
+use Rattle.tx_trees.specs.Valid.{IsValid}
+use Rattle.world_model.proofs.Back.{world_run}
+use Rattle.world_model.proofs.Posts.{steps}
+use Rattle.world_model.proofs.Scripts.{Sound}
+use Rattle.world_model.specs.Runs.{StepRun, WorldRun}
+use Rattle.world_model.specs.Tables.{Runnable}
+
+-- of a run by steps
+pub headline_past : (s : ScriptData) (past : List Entry) → Sound s → StepRun s past → HasFinished (reverse past)
+    → HasHeadline s (reverse past)
+headline_past s past sound run finished =
+    let timely = in_time s past sound run in
+    record {
+      run = world_run s past run;
+      finished = finished;
+      whole = λ t lt. whole s past t sound.valid sound.runnable run timely finished lt;
+      settled = settled s past sound run finished;
+      reads = stay_right s past sound.valid sound.runnable run;
+      right = reads_right s past sound.valid sound.runnable run;
+      updates_first = updates_first s past sound.valid sound.runnable run;
+      board = board_run s past sound run timely;
+      fits = fits_run s past sound run timely;
+      three = held_three s past sound run;
+      at_once = no_wait s past sound.valid sound.runnable run timely;
+    }
+
+-- of a run by the tables
+pub headline : (s : ScriptData) (h : List Entry) → IsValid s → Runnable s → WorldRun s h → HasFinished h → HasHeadline s h
+headline s h valid runnable run finished =
+    subst (HasHeadline s) (reverse-reverse h)
+    (headline_past s (reverse h) (record { valid = valid; runnable = runnable }) (steps s h run)
+    (subst HasFinished (sym (reverse-reverse h)) finished))

@@ -1,0 +1,180 @@
+-- A run by the wider aptness is a run by the window of versions: each letter under way is apt.
+use Rattle.std.proofs.Common.{if◌then◌else◌, ◌≡◌, ℕ, ◌+◌, ◌<◌, ◌≤◌, ◌==◌, ◌&&◌, Bool, true, false, List, [], ◌∷◌, reverse, refl, sym, ap, subst, ◌∙◌, arith, Some}
+use Rattle.std.specs.Prelude.{length, nat_le}
+use Rattle.std.proofs.lemmas.Bool.Decides.{nat_tests}
+use Rattle.std.proofs.lemmas.List.{reverse-reverse}
+use Rattle.tv_base.proofs.Truths.{same_test}
+use Rattle.tv_base.specs.declared.numbers.Version.{Version}
+use Rattle.item_versions.specs.Item.{Held}
+use Rattle.item_versions.specs.Table.{Table}
+use Rattle.item_versions.proofs.Tables.{Each as EachItem}
+use Rattle.version_collect.specs.Collecting.{may_collect, may_collect_all}
+use Rattle.letter_types.specs.declared.bodies.Body.{Body}
+use Rattle.letter_types.specs.declared.bodies.Body.TheVariants.{Go, Sweep}
+use Rattle.letter_types.specs.declared.entries.Entry.{Entry}
+use Rattle.letter_types.specs.declared.entries.Letter.{Letter}
+use Rattle.letter_types.specs.Letters.{find_id, own}
+use Rattle.letter_types.specs.Steps.{Out}
+use Rattle.tx_trees.specs.ScriptData.{ScriptData}
+use Rattle.tree_step.specs.Apt.{is_named, is_new, is_timely}
+use Rattle.tree_step.specs.Node.{Node}
+use Rattle.node_step.specs.Apt.{can_make, is_apt, is_widely_apt, is_widely_timely, node_row, row, wide_node_row}
+use Rattle.world_model.specs.Runs.{IsRunOf, MayFollow, AtNode, Says, StepRun, WideRun, WorldRun, after, node_in, waiting}
+use Rattle.world_model.specs.Tables.{start_node, wide_actor_row}
+use Rattle.world_model.proofs.Actors.{IsTableOf, RowsRun, rows_run, runs_of_rows}
+use Rattle.world_model.proofs.Back.{run_more, says_node, table_run_of, world_run}
+use Rattle.world_model.proofs.Bridge.{run_less, state_more}
+use Rattle.world_model.proofs.Posts.{follows_by, moves_by, rows_less, steps, waits_of, who_of}
+use Rattle.world_model.proofs.Scripts.{Sound}
+use Rattle.tree_laws.proofs.Aptness.{taken_is_apt}
+use Rattle.board_laws.proofs.OwnDeeds.{sees_run, swept_above}
+use Rattle.board_laws.proofs.Seen.{IsFrom}
+use Rattle.run_laws.proofs.InTime.{in_time}
+
+-- An apt letter is widely apt.
+may_at : (low : ℕ) (f : Version) (h : Held) → IsFrom low h → low ≤ f.0 → may_collect f h ≡ true
+may_at low f [] from le = absurd from.first
+may_at low f (x ∷ xs) from le = let le2 : x.0.0 ≤ f.0 = omega (arith, from.first, le) in grind (arith, nat_tests)
+
+may_all : (low : ℕ) (f : Version) (t : Table) → low ≤ f.0 → EachItem (IsFrom low) t → may_collect_all f t ≡ true
+may_all low f [] le from = refl
+may_all low f (e ∷ es) le from = rw (may_at low f e.1 from.0 le) (may_all low f es le from.1)
+
+widely_timely : (s : ScriptData) (st : Node) (b : Body) → EachItem (IsFrom st.turns.low.0) st.items → is_timely s st b ≡ true
+    → is_widely_timely s st b ≡ true
+widely_timely s st (Sweep v) from timely =
+    may_all st.turns.low.0 v st.items
+    (swept_above st.turns.low.0 v.0 (nat_le v.0 st.turns.read.0 && nat_le v.0 st.turns.update.0) timely) from
+widely_timely s st Go from timely = refl
+widely_timely s st _ from timely = refl
+
+four_true : (a b c d e : Bool) → (a && (b && (c && d))) ≡ true → (c ≡ true → e ≡ true) → (a && (b && (e && d))) ≡ true
+four_true true true true true e is wide = rw (wide refl) refl
+four_true true true true false e is wide = absurd (cc is)
+four_true true true false d e is wide = absurd (cc is)
+four_true true false c d e is wide = absurd (cc is)
+four_true false b c d e is wide = absurd (cc is)
+
+widely_apt : (s : ScriptData) (p : ℕ) (st : Node) (l : Letter) → EachItem (IsFrom st.turns.low.0) st.items → is_apt s p st l ≡ true
+    → is_widely_apt s p st l ≡ true
+widely_apt s p st l from apt =
+    four_true (is_named s p l.from.0 l.body) (is_new s st l.body) (is_timely s st l.body) (can_make s st l.body)
+    (is_widely_timely s st l.body) apt (λ timely. widely_timely s st l.body from timely)
+
+-- so both tables have the same row for it
+apt_row : (s : ScriptData) (p : ℕ) (st : Node) (l : Letter) → is_apt s p st l ≡ true → node_row s p st l ≡ row s p st l.from.0 l.body
+apt_row s p st l apt = rw apt refl
+
+wide_apt_row : (s : ScriptData) (p : ℕ) (st : Node) (l : Letter) → is_widely_apt s p st l ≡ true
+    → wide_node_row s p st l ≡ row s p st l.from.0 l.body
+wide_apt_row s p st l apt = rw apt refl
+
+same_by : (s : ScriptData) (p : ℕ) (st : Node) (l : Letter) → EachItem (IsFrom st.turns.low.0) st.items → is_apt s p st l ≡ true
+    → wide_node_row s p st l ≡ node_row s p st l
+same_by s p st l from apt = wide_apt_row s p st l (widely_apt s p st l from apt) ∙ sym (apt_row s p st l apt)
+
+-- Each letter under way is apt: an entry of its addressee's row may follow.
+abbrev entry_with : ScriptData → List Entry → Entry → Out Node → Entry
+entry_with s past e out = record {
+  stamp = record { 0 = length past + 1 };
+  actor = e.actor;
+  took = e.took;
+  sent = out.sent;
+  acts = out.acts;
+}
+
+-- both tables say the same of a letter under way to a node
+same_row : (s : ScriptData) (past : List Entry) (e : Entry) → Sound s → StepRun s past → e.actor.0 < s.nodes
+    → find_id e.took.id (waiting s past) ≡ Some e.took → e.took.to.0 ≡ e.actor.0
+    → wide_node_row s e.actor.0 (node_in s past e.actor.0) e.took ≡ node_row s e.actor.0 (node_in s past e.actor.0) e.took
+same_row s past e sound run lt waits to =
+    let p = e.actor.0 in
+    let st = node_in s past p in
+    let now = entry_with s past e (node_row s p st e.took) in
+    let follows : MayFollow s past now = record {
+      stamp = refl;
+      waits = waits;
+      addressee = to;
+      moves = AtNode lt (refl, refl);
+    } in
+    let more : StepRun s (now ∷ past) = (follows, run) in
+    let apt : is_apt s p st e.took ≡ true =
+    taken_is_apt s past now sound.valid sound.runnable more (in_time s (now ∷ past) sound more) lt in
+    same_by s p st e.took (sees_run s past sound run (in_time s past sound run) p lt).from apt
+
+same_at : (s : ScriptData) (past : List Entry) (e : Entry) (p : ℕ) → Sound s → StepRun s past → MayFollow s past e → p < s.nodes
+    → (e.actor.0 == p) ≡ true → wide_node_row s p (node_in s past p) e.took ≡ node_row s p (node_in s past p) e.took
+same_at s past e p sound run m lt is =
+    let at : e.actor.0 ≡ p = grind (arith, nat_tests) in
+    subst (λ (q : ℕ). wide_node_row s q (node_in s past q) e.took ≡ node_row s q (node_in s past q) e.took) at
+    (same_row s past e sound run (omega (arith, at, lt)) m.waits m.addressee)
+
+-- From the window to the wider aptness.
+state_by : (wide st : Node) (here : Node) (test : Bool) → (test ≡ true → wide ≡ here)
+    → (if test then wide else st) ≡ (if test then here else st)
+state_by wide st here true same = same refl
+state_by wide st here false same = refl
+
+-- a node's own entries lead to the same state
+wide_after : (s : ScriptData) (past : List Entry) (p : ℕ) → Sound s → StepRun s past → p < s.nodes
+    → after (wide_node_row s p) (start_node s p) (own p (reverse past)) ≡ node_in s past p
+wide_after s [] p sound run lt = refl
+wide_after s (e ∷ past) p sound run lt =
+    let st = node_in s past p in
+    state_more (wide_node_row s p) (start_node s p) p e past st (wide_after s past p sound run.1 lt)
+    ∙ state_by (wide_node_row s p st e.took).state st (node_row s p st e.took).state (e.actor.0 == p)
+    (λ is. ap (λ (o : Out Node). o.state) (same_at s past e p sound run.1 run.0 lt is))
+
+wide_nodes : (s : ScriptData) (past : List Entry) (p : ℕ) → Sound s → StepRun s past → p < s.nodes
+    → IsRunOf (wide_node_row s p) (start_node s p) (own p (reverse past))
+wide_nodes s [] p sound run lt = tt
+wide_nodes s (e ∷ past) p sound run lt =
+    run_more (wide_node_row s p) (start_node s p) p e past (node_in s past p) (wide_after s past p sound run.1 lt)
+    (wide_nodes s past p sound run.1 lt)
+    (λ is. subst (λ (o : Out Node). Says o e) (sym (same_at s past e p sound run.1 run.0 lt is)) (says_node s past e p run.0.moves lt is))
+
+wide_rows : (s : ScriptData) (past : List Entry) → Sound s → StepRun s past → RowsRun (wide_node_row s) s (reverse past)
+wide_rows s past sound run =
+    let tables = table_run_of s past run in
+    record {
+      postal = tables.postal;
+      nodes = λ p lt. wide_nodes s past p sound run lt;
+      coordinator = tables.coordinator;
+      client = tables.client;
+    }
+
+-- And back: by induction a shorter past is a run by the window, so the next letter is apt.
+wide_says : (s : ScriptData) (e : Entry) (past : List Entry) → Sound s → StepRun s past → RowsRun (wide_node_row s) s (reverse (e ∷ past))
+    → e.actor.0 < s.nodes → Says (node_row s e.actor.0 (node_in s past e.actor.0) e.took) e
+wide_says s e past sound run wide lt =
+    let p = e.actor.0 in
+    let says = (run_less (wide_node_row s p) (start_node s p) p e past (node_in s past p) (wide_after s past p sound run lt) (wide.nodes p lt)).1
+    (same_test p) in
+    subst (λ (o : Out Node). Says o e)
+    (same_row s past e sound run lt (waits_of s e past run wide.postal) (who_of s e past wide.postal).0) says
+
+wide_steps : (s : ScriptData) (past : List Entry) → Sound s → RowsRun (wide_node_row s) s (reverse past) → StepRun s past
+wide_steps s [] sound wide = tt
+wide_steps s (e ∷ past) sound wide =
+    let run = wide_steps s past sound (rows_less (wide_node_row s) s e past wide) in (
+      follows_by s e past run wide.postal
+          (moves_by s e past (λ lt. wide_says s e past sound run wide lt) wide.coordinator wide.client (who_of s e past wide.postal).1),
+      run,
+    )
+
+-- The two shapes.
+by_wider : (s : ScriptData) → IsTableOf s (wide_actor_row s) (wide_node_row s)
+by_wider s = record { node = λ p st l. refl; coordinator = λ a c l. refl; client = λ a c l. refl }
+
+pub widened : (s : ScriptData) (h : List Entry) → Sound s → WorldRun s h → WideRun s h
+widened s h sound world =
+    let wide : RowsRun (wide_node_row s) s h =
+    subst (λ (x : List Entry). RowsRun (wide_node_row s) s x) (reverse-reverse h) (wide_rows s (reverse h) sound (steps s h world)) in
+    record { postal = world.postal; actors = runs_of_rows (wide_actor_row s) (wide_node_row s) s h (by_wider s) wide }
+
+pub narrowed : (s : ScriptData) (h : List Entry) → Sound s → WideRun s h → WorldRun s h
+narrowed s h sound wide =
+    let rows : RowsRun (wide_node_row s) s (reverse (reverse h)) =
+    subst (λ (x : List Entry). RowsRun (wide_node_row s) s x) (sym (reverse-reverse h))
+    (rows_run (wide_actor_row s) (wide_node_row s) s h (by_wider s) wide.postal wide.actors) in
+    subst (λ (x : List Entry). WorldRun s x) (reverse-reverse h) (world_run s (reverse h) (wide_steps s (reverse h) sound rows))

@@ -1,0 +1,13 @@
+// The window of versions.
+ghost use Rattle.std.specs.Prelude.{◌↔◌, List};
+ghost use Rattle.letter_types.specs.declared.entries.Entry.{Entry};
+ghost use Rattle.tx_trees.specs.ScriptData.{ScriptData};
+ghost use Rattle.tx_trees.specs.Valid.{IsValid};
+ghost use Rattle.world_model.specs.Runs.{WideRun, WorldRun};
+ghost use Rattle.world_model.specs.Tables.{Runnable};
+
+/// The window of three versions refuses nothing that a node would do that keeps versions without end: the runs by the
+/// window are the runs by the wider aptness.
+pub fn the_window_refuses_nothing()
+    ensures { (s : ScriptData) (h : List Entry) → IsValid s → Runnable s → (WorldRun s h ↔ WideRun s h) }
+{}

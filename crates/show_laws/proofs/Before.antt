@@ -1,0 +1,57 @@
+-- An entry of a history, with what stood before it and what came later.
+use Rattle.std.proofs.Common.{◌≡◌, ℕ, ◌+◌, List, [], ◌∷◌, ◌++◌, length, take, reverse, refl, sym, ap, ◌∙◌, arith, inl, inr, true, Option, Some}
+use Rattle.std.specs.Prelude.{is_some, slice_get}
+use Rattle.std.proofs.lemmas.List.{take_all, length-reverse}
+use Rattle.tv_base.specs.declared.numbers.Version.{Version}
+use Rattle.tv_base.proofs.ByPlace.{slice_get_split}
+use Rattle.letter_types.specs.declared.entries.Entry.{Entry}
+use Rattle.board_model.specs.Histories.{places_at, places_of, version_in, version_of}
+use Rattle.world_model.proofs.Bridge.{reverse_more}
+use Rattle.board_laws.proofs.Histories.{earlier, places_more}
+use Rattle.board_laws.proofs.Versions.{version_stays}
+
+-- entry x stands at place n of the history of a past
+pub record Stands (past : List Entry) (n : ℕ) (x : Entry) : Type 0 where
+  pub later : List Entry
+  pub before : List Entry
+  pub is : past ≡ later ++ x ∷ before
+  pub first : take n (reverse past) ≡ reverse before
+  pub upto : take (n + 1) (reverse past) ≡ reverse (x ∷ before)
+
+stands_last : (e : Entry) (past : List Entry) (n : ℕ) (x : Entry) → n ≡ length (reverse past) → e ≡ x → Stands (e ∷ past) n x
+stands_last e past n x at same = record {
+  later = [];
+  before = past;
+  is = ap (λ (y : Entry). y ∷ past) same;
+  first = sym (earlier e past n (omega arith)) ∙ take_all n (reverse past) (omega arith);
+  upto = take_all (n + 1) (reverse (e ∷ past)) (omega (arith, length-reverse (e ∷ past), length-reverse past))
+      ∙ ap (λ (y : Entry). reverse (y ∷ past)) same;
+}
+
+pub stands : (past : List Entry) (n : ℕ) (x : Entry) → slice_get (reverse past) n ≡ Some x → Stands past n x
+stands [] n x here = absurd (cc here)
+stands (e ∷ past) n x here =
+    elim (slice_get_split (reverse past) e n x (rw (reverse_more e past) at here)) [
+      | inl p ↦
+          let old = stands past n x p.1 in
+          record {
+            later = e ∷ old.later;
+            before = old.before;
+            is = ap (λ (ys : List Entry). e ∷ ys) old.is;
+            first = sym (earlier e past n (omega (arith, p.0))) ∙ old.first;
+            upto = sym (earlier e past (n + 1) (omega (arith, p.0))) ∙ old.upto;
+          }
+      | inr p ↦ stands_last e past n x p.0 p.1
+    ]
+
+born_some : (found : Option Version) (w : Version) → found ≡ Some w → is_some found ≡ true
+born_some found w is = rw is refl
+
+-- a tree keeps its version
+pub version_kept : (past later : List Entry) (t : ℕ) (w : Version) → version_of (reverse past) t ≡ Some w
+    → version_of (reverse (later ++ past)) t ≡ Some w
+version_kept past [] t w born = born
+version_kept past (e ∷ later) t w born =
+    let old = version_kept past later t w born in
+    let xs = places_of (reverse (later ++ past)) in
+    ap (version_in t) (places_more e (later ++ past)) ∙ version_stays t xs (places_at e) (born_some (version_in t xs) w old) ∙ old
