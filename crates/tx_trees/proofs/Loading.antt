@@ -1,6 +1,5 @@
 -- Items' totals with the magnitudes of some operations and subtransactions added or taken off, one after the other.
-use Rattle.std.proofs.Common.{◌≡◌, ◌<◌, ◌≤◌, ◌+◌, ◌^◌, ◌∙◌, ◌∷◌, [], ℕ, suc, zero, List, length, drop, get_or, refl, sym, ap, subst, arith, add-one, drop-cons, inl, inr}
-use Rattle.std.specs.Prelude.{◌==◌, if◌then◌else◌}
+use Rattle.std.proofs.Common.{◌≡◌, ◌<◌, ◌≤◌, ◌+◌, ◌∷◌, ℕ, List, length, drop, get_or, refl, sym, arith, add-one, drop-cons, inl, inr}
 use Rattle.std.specs.List.{AllByRecursion}
 use Rattle.std.proofs.Math.ListN.{set}
 use Rattle.std.proofs.lemmas.Bool.{cases_eq}
@@ -10,7 +9,7 @@ use Rattle.tx_trees.specs.Inside.{OpWithin, SubWithin}
 use Rattle.tx_trees.specs.Valid.{ops_load, subs_load}
 use Rattle.tx_trees.specs.declared.parts.Sub.{Sub}
 use Rattle.tx_trees.specs.declared.parts.SubOp.{SubOp}
-use Rattle.tx_trees.proofs.Totals.{load_other, load_same, op_load}
+use Rattle.tx_trees.proofs.Totals.{load_other, load_same}
 
 -- the rest of a list, from one of its places on
 pub rest_at : {A : Type 0} (xs : List A) (i : ℕ) (d : A) → i < length xs → drop i xs ≡ get_or xs i d ∷ drop (i + 1) xs

@@ -1,6 +1,6 @@
 -- A script stays valid when its last tree fails and its undone form takes its place.
-use Rattle.std.proofs.Common.{◌≡◌, ◌<◌, ◌≤◌, ◌+◌, ◌*◌, ℕ, zero, suc, Bool, true, false, List, [], ◌∷◌, ◌++◌, length, map, get_or, refl, sym, ap, ◌∙◌, subst, arith, length-append, inl, inr}
-use Rattle.std.specs.Prelude.{◌==◌, ◌&&◌, ◌||◌, not, if◌then◌else◌, IsTrue, Option, Some, None, nat_lt, slice_get}
+use Rattle.std.proofs.Common.{◌≡◌, ◌<◌, ◌≤◌, ◌+◌, ◌*◌, ℕ, zero, suc, Bool, true, false, List, [], ◌∷◌, ◌++◌, length, map, get_or, refl, sym, ap, ◌∙◌, subst, arith, inl, inr}
+use Rattle.std.specs.Prelude.{◌==◌, ◌&&◌, ◌||◌, not, if◌then◌else◌, IsTrue, Option, Some, None, nat_lt}
 use Rattle.std.specs.List.{AllByRecursion, IsDistinct, list_any}
 use Rattle.std.specs.Str.{bytes_eq}
 use Rattle.std.proofs.lemmas.Bool.{cases_eq, or_from}
@@ -35,7 +35,7 @@ use Rattle.tx_trees.specs.declared.parts.TreeKind.{TreeKind}
 use Rattle.tx_trees.specs.declared.parts.TreeKind.TheVariants as trees
 use Rattle.tx_trees.specs.declared.parts.Written.{Written}
 use Rattle.tx_trees.proofs.Last.{last_at, last_subs_is, length-on_last, on_last_is}
-use Rattle.tx_trees.proofs.Lists.{IsSum, last_weight, all-last, all-on_last, all-weaker, last_of-on_last, last_of-seam, last_some, lt_not, not_lt, or_left, or_right, split_last, sum-replaced}
+use Rattle.tx_trees.proofs.Lists.{last_weight, all-last, all-on_last, all-weaker, last_of-on_last, last_of-seam, last_some, lt_not, not_lt, or_left, or_right, split_last, sum-replaced}
 use Rattle.tx_trees.proofs.Stays.{at_most, failed-last, last_written_is, most_amount-small, names-on_last, op_within}
 use Rattle.tx_trees.proofs.Totals.{all_subs-sum, load_total, op_load, op_total, put_total, strict-sum, update-sum}
 use Rattle.tx_trees.proofs.UndoneTrees.{undone_some, undone_valid}

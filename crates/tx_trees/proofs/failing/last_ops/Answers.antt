@@ -1,9 +1,8 @@
-use Rattle.std.proofs.Common.{◌≡◌, ◌-◌, length, arith, suc, ◌∙◌, ap, sym, List}
+use Rattle.std.proofs.Common.{◌≡◌, ◌-◌, length, arith, suc, ◌∙◌, ap, sym}
 use Rattle.tx_trees.specs.Adding.{last_tree_subs}
 use Rattle.tx_trees.specs.Counts.{subs_ops}
 use Rattle.tx_trees.proofs.Last.{last_at}
 use Rattle.tx_trees.proofs.Undoing.{last_tree_subs_is}
-use Rattle.tx_trees.specs.declared.parts.Sub.{Sub}
 use Rattle.tx_trees.specs.declared.parts.Tree.{Tree}
 use Rattle.tx_trees.proofs.failing.last_ops.Goals as goal
 

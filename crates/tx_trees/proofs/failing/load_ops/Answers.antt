@@ -1,4 +1,4 @@
-use Rattle.std.proofs.Common.{arith, subst, get_or, ◌<◌, ◌+◌, ◌≡◌, ap, drop, length, List, ◌∷◌, ℕ}
+use Rattle.std.proofs.Common.{arith, subst, get_or, List}
 use Rattle.tx_trees.specs.declared.parts.SubOp.{SubOp}
 use Rattle.tx_trees.proofs.Kept.{cell_is}
 use Rattle.tx_trees.proofs.Loading.{OpsLoaded, op_has_room, rest_at}

@@ -1,5 +1,5 @@
 use Rattle.std.proofs.Common.{◌≡◌, ◌-◌, true, suc, length, sym, ap, ◌∙◌, subst, arith}
-use Rattle.tx_trees.specs.Adding.{last_may_fail, may_fail}
+use Rattle.tx_trees.specs.Adding.{last_may_fail}
 use Rattle.tx_trees.specs.ScriptData.{ScriptData}
 use Rattle.tx_trees.proofs.Last.{last_at}
 use Rattle.tx_trees.proofs.Undoing.{last_may_fail_is}

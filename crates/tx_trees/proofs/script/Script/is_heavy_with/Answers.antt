@@ -1,4 +1,4 @@
-use Rattle.std.proofs.Common.{◌∙◌, ap, arith}
+use Rattle.std.proofs.Common.{◌∙◌, ap}
 use Rattle.tx_trees.specs.Adding.{with_failed}
 use Rattle.tx_trees.specs.Forms.{most_amount}
 use Rattle.tx_trees.specs.ScriptData.{ScriptData}

@@ -1,4 +1,4 @@
-use Rattle.std.proofs.Common.{◌≡◌, arith, ap, sym, ◌∙◌, subst, length}
+use Rattle.std.proofs.Common.{arith, ap, sym, ◌∙◌, subst, length}
 use Rattle.tx_trees.specs.Adding.{with_failed}
 use Rattle.tx_trees.specs.Counts.{all_ops, all_subs, update_subs}
 use Rattle.tx_trees.specs.Inside.{AreTotals}

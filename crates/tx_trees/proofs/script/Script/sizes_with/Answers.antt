@@ -1,5 +1,5 @@
-use Rattle.std.proofs.Common.{◌≡◌, ◌+◌, ℕ, arith, ap, subst, sym, ◌∙◌}
-use Rattle.tx_trees.specs.Adding.{last_ops, last_subs, last_tree_subs, with_failed}
+use Rattle.std.proofs.Common.{◌≡◌, arith, ap, subst, ◌∙◌}
+use Rattle.tx_trees.specs.Adding.{last_ops, last_subs}
 use Rattle.tx_trees.specs.Counts.{all_ops, all_subs, update_subs}
 use Rattle.tx_trees.specs.ScriptData.{ScriptData}
 use Rattle.tx_trees.specs.Valid.{IsValid}

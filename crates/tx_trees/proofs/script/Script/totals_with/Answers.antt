@@ -1,10 +1,9 @@
-use Rattle.std.proofs.Common.{◌≡◌, ◌<◌, ◌-◌, true, List, ℕ, suc, length, sym, ap, ◌∙◌, subst, arith}
+use Rattle.std.proofs.Common.{◌≡◌, ◌<◌, ◌-◌, true, List, ℕ, suc, length, sym, ◌∙◌, subst, arith}
 use Rattle.tx_trees.specs.Adding.{last_may_fail, last_subs, last_tree_subs, with_failed}
 use Rattle.tx_trees.specs.Inside.{AreTotals, IsReloaded, MayReload}
 use Rattle.tx_trees.specs.ScriptData.{ScriptData}
 use Rattle.tx_trees.specs.Undone.{undone}
 use Rattle.tx_trees.specs.declared.parts.Sub.{Sub}
-use Rattle.tx_trees.specs.declared.parts.Tree.{Tree}
 use Rattle.tx_trees.proofs.Last.{last_at}
 use Rattle.tx_trees.proofs.Undoing.{last_tree_subs_is, may_reload, reloaded_totals}
 use Rattle.tx_trees.proofs.script.Script.totals_with.Goals as goal
