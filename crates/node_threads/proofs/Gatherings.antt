@@ -23,7 +23,7 @@ use Rattle.world_model.proofs.Scripts.{get_some}
 use Rattle.node_threads.specs.Cells.{last_acts}
 use Rattle.node_threads.specs.Histories.{AllRun, IsLogOf, IsMerged, IsTold, joined_from}
 use Rattle.node_threads.proofs.Entries.{acts_more}
-use Rattle.node_threads.proofs.Merges.{at_map}
+use Rattle.node_threads.proofs.Merges.{at_map, some_is}
 
 joined_at : (n : ℕ) (rows : List (List Entry)) (a : ℕ) (es : List Entry) → slice_get rows a ≡ Some es
     → slice_get (joined_from n rows) a ≡ Some (joined_seat (n + a) (map posting_of es))
@@ -138,9 +138,6 @@ earlier : (client : ℕ) (log : List Posting) (k : ℕ) (p : Posting) → Postal
 earlier client log k p postal at (inl is) = omega (arith, ap (λ (l : Letter). l.id.stamp.0) is, postal.stamps k p at)
 earlier client log k p postal at (inr (j, f, lt, there, found)) =
     omega (arith, id_stamp f p.took found, postal.stamps j f there, postal.stamps k p at)
-
-some_is : {X : Type 0} (x y : X) → Some x ≡ Some y → x ≡ y
-some_is x y is = cc
 
 pub told : (s : ScriptData) (actors : ℕ) (rows : List (List Entry)) (receipts : List ReceiptData) (h : List Entry)
     (g : Gathers actors (joined_from 0 rows) (map receipt_joined receipts)) → AllRun s rows → length rows ≡ actors → 0 < actors → IsMerged g.log rows h

@@ -1,16 +1,18 @@
 -- The actors' entries, merged by stamp into one history.
-use Rattle.std.proofs.Common.{◌≡◌, ◌≢◌, ℕ, zero, suc, ◌+◌, ◌<◌, ◌≤◌, ◌==◌, Bool, true, false, List, [], ◌∷◌, ◌++◌, length, map, take, drop, get_or, refl, sym, ap, ◌∙◌, subst, arith, append_assoc, Some, ◌⊎◌, inl, inr}
+use Rattle.std.proofs.Common.{◌≡◌, ◌≢◌, ℕ, zero, suc, ◌+◌, ◌<◌, ◌≤◌, ◌==◌, Bool, true, false, List, [], ◌∷◌, ◌++◌, length, map, take, drop, get_or, option_map, refl, sym, ap, ◌∙◌, subst, arith, append_assoc, Some, ◌⊎◌, inl, inr}
 use Rattle.std.specs.Prelude.{if◌then◌else◌, slice_get, slice_set}
 use Rattle.std.proofs.lemmas.Bool.{cases_eq}
 use Rattle.std.proofs.lemmas.Bool.Decides.{nat_tests}
-use Rattle.std.proofs.lemmas.List.{length-set, map-append}
+use Rattle.std.proofs.lemmas.List.{append-nil, get_or-set_same, length-set, map-append, take_all}
+use Rattle.std.proofs.Math.ListN.{drop_of_length-le}
 use Rattle.std.proofs.lemmas.List.Elements.{filter-append}
-use Rattle.std.proofs.lemmas.Option.{slice_get_within}
+use Rattle.std.proofs.lemmas.Option.{slice_get-map, slice_get_within}
 use Rattle.letter_types.specs.declared.entries.Entry.{Entry}
 use Rattle.letter_types.specs.declared.entries.Posting.{Posting}
 use Rattle.letter_types.specs.Letters.{own}
 use Rattle.letter_types.specs.Postal.{posting_of}
 use Rattle.stamp_post.specs.Logs.{own_postings}
+use Rattle.quiet_laws.proofs.Waves.{set_other}
 use Rattle.world_model.proofs.Scripts.{get_some}
 use Rattle.node_threads.specs.Histories.{FirstHas, IsLogOf, IsMerged, Taken}
 
@@ -85,23 +87,17 @@ own_same : (a : ℕ) (all : List Entry) (e : Entry) → e.actor.0 ≢ a → own 
 own_same a all e other =
     let no' : (e.actor.0 == a) ≡ false = grind (arith, nat_tests) in
     filter-append (λ (x : Entry). x.actor.0 == a) all (e ∷ []) ∙ ap (λ (es : List Entry). own a all ++ es) (one_by (e.actor.0 == a) false e no')
-    ∙ nothing_more (own a all)
-  where
-    nothing_more : (es : List Entry) → es ++ [] ≡ es
-    nothing_more [] = refl
-    nothing_more (x ∷ es) = ap (λ (ys : List Entry). x ∷ ys) (nothing_more es)
+    ∙ append-nil (own a all)
 
-get_set_same : {X : Type 0} (xs : List X) (i : ℕ) (v : X) → i < length xs → slice_get (slice_set xs i v) i ≡ Some v
-get_set_same [] i v lt = absurd (omega arith)
-get_set_same (x ∷ xs) zero v lt = refl
-get_set_same (x ∷ xs) (suc i) v lt = get_set_same xs i v (omega arith)
+-- what a list has at a place
+pub at_place : {X : Type 0} (xs : List X) (i : ℕ) (x : X) → i < length xs → x ≡ get_or xs i x → slice_get xs i ≡ Some x
+at_place [] i x lt is = absurd (omega arith)
+at_place (y ∷ xs) zero x lt is = ap (λ (z : _). Some z) (sym is)
+at_place (y ∷ xs) (suc i) x lt is = at_place xs i x (omega arith) is
 
-get_set_other : {X : Type 0} (xs : List X) (i j : ℕ) (v : X) → i ≢ j → slice_get (slice_set xs i v) j ≡ slice_get xs j
-get_set_other [] i j v ne = refl
-get_set_other (x ∷ xs) zero zero v ne = absurd (ne refl)
-get_set_other (x ∷ xs) zero (suc j) v ne = refl
-get_set_other (x ∷ xs) (suc i) zero v ne = refl
-get_set_other (x ∷ xs) (suc i) (suc j) v ne = get_set_other xs i j v (λ is. ne (ap suc is))
+-- what was put is there
+set_there : {X : Type 0} (xs : List X) (i : ℕ) (v : X) → i < length xs → slice_get (slice_set xs i v) i ≡ Some v
+set_there xs i v lt = at_place (slice_set xs i v) i v (omega (arith, length-set xs i v)) (sym (get_or-set_same xs i v v lt))
 
 -- one actor, once k entries are in order: what is left of its entries
 pub record Row (log : List Posting) (k : ℕ) (all : List Entry) (first rows : List (List Entry)) (a : ℕ) : Type 0 where
@@ -133,7 +129,7 @@ starts log rows is = record {
   };
 }
 
-some_is : {X : Type 0} (x y : X) → Some x ≡ Some y → x ≡ y
+pub some_is : {X : Type 0} (x y : X) → Some x ≡ Some y → x ≡ y
 some_is x y is = cc
 
 row_more : (log : List Posting) (k : ℕ) (all : List Entry) (first rows : List (List Entry)) (b : ℕ) (e : Entry) (left : List Entry) (rest : List Posting)
@@ -146,7 +142,7 @@ row_more log k all first rows b e left rest there whole mine own_left after lt a
       begun = r.begun;
       left = left;
       was = r.was;
-      at = subst (λ (j : ℕ). slice_get (slice_set rows b left) j ≡ Some left) same (get_set_same rows b left lt);
+      at = subst (λ (j : ℕ). slice_get (slice_set rows b left) j ≡ Some left) same (set_there rows b left lt);
       next = sym own_left ∙ (λ i. own_postings (same i) (sym after i));
       whole = r.whole ∙ ap (λ (es : List Entry). own a all ++ es) eq ∙ sym (append_assoc (own a all) (e ∷ []) left)
           ∙ ap (λ (es : List Entry). es ++ left) (sym (own_last a all e (mine ∙ same)));
@@ -156,7 +152,7 @@ row_more log k all first rows b e left rest there whole mine own_left after lt a
       begun = r.begun;
       left = r.left;
       was = r.was;
-      at = get_set_other rows b a left ne ∙ r.at;
+      at = set_other rows b a left ne ∙ r.at;
       next = r.next ∙ ap (own_postings a) whole ∙ other_rest a b (posting_of e) rest mine ne ∙ ap (own_postings a) (sym after);
       whole = r.whole ∙ ap (λ (es : List Entry). es ++ r.left) (sym (own_same a all e (λ is. ne (sym mine ∙ is))));
     }
@@ -181,54 +177,25 @@ merges log k all first rows new e is t m =
           (row_more log k all first rows b e t.left n.rest t.at n.whole n.mine n.left after lt a (m.each a below) (cases_eq b a));
     }
 
-take_whole : (log : List Posting) → take (length log) log ≡ log
-take_whole [] = refl
-take_whole (p ∷ ps) = ap (λ l. p ∷ l) (take_whole ps)
-
-drop_whole : (log : List Posting) → drop (length log) log ≡ []
-drop_whole [] = refl
-drop_whole (p ∷ ps) = drop_whole ps
-
 none_left : (es : List Entry) → map posting_of es ≡ [] → es ≡ []
 none_left [] is = refl
 none_left (e ∷ es) is = absurd (cc is)
-
-append_nothing : (es : List Entry) → es ++ [] ≡ es
-append_nothing [] = refl
-append_nothing (x ∷ es) = ap (λ (ys : List Entry). x ∷ ys) (append_nothing es)
 
 -- all of them are in order
 pub ends : (log : List Posting) (k : ℕ) (all : List Entry) (first rows : List (List Entry)) → length log ≡ k → Merging log k all first rows
     → IsMerged log first all
 ends log k all first rows long m = record {
-  postings = m.front ∙ ap (λ (j : ℕ). take j log) (sym long) ∙ take_whole log;
+  postings = m.front ∙ ap (λ (j : ℕ). take j log) (sym long) ∙ take_all (length log) log (omega arith);
   own = λ a es at.
       let r = m.each a (slice_get_within first a es at) in
-      let none : r.left ≡ [] = none_left r.left (r.next ∙ ap (λ (j : ℕ). own_postings a (drop j log)) (sym long) ∙ ap (own_postings a) (drop_whole log)) in
+      let none : r.left ≡ [] = none_left r.left (r.next ∙ ap (λ (j : ℕ). own_postings a (drop j log)) (sym long) ∙ ap (own_postings a) (drop_of_length-le log (omega arith))) in
       let same : r.begun ≡ es = some_is r.begun es (sym r.was ∙ at) in
-      sym (append_nothing (own a all)) ∙ ap (λ (xs : List Entry). own a all ++ xs) (sym none) ∙ sym r.whole ∙ same;
+      sym (append-nil (own a all)) ∙ ap (λ (xs : List Entry). own a all ++ xs) (sym none) ∙ sym r.whole ∙ same;
 }
 
--- what a list has at a place
-pub at_place : {X : Type 0} (xs : List X) (i : ℕ) (x : X) → i < length xs → x ≡ get_or xs i x → slice_get xs i ≡ Some x
-at_place [] i x lt is = absurd (omega arith)
-at_place (y ∷ xs) zero x lt is = ap (λ (z : _). Some z) (sym is)
-at_place (y ∷ xs) (suc i) x lt is = at_place xs i x (omega arith) is
-
 pub at_map : {X Y : Type 0} (f : X → Y) (xs : List X) (i : ℕ) (x : X) → slice_get xs i ≡ Some x → slice_get (map f xs) i ≡ Some (f x)
-at_map f [] i x at = absurd (cc at)
-at_map f (y ∷ xs) zero x at = let same : y ≡ x = cc at in ap (λ (z : _). Some (f z)) same
-at_map f (y ∷ xs) (suc i) x at = at_map f xs i x at
-
-pub map_set : {X Y : Type 0} (f : X → Y) (xs : List X) (i : ℕ) (x : X) → map f (slice_set xs i x) ≡ slice_set (map f xs) i (f x)
-map_set f [] i x = refl
-map_set f (y ∷ xs) zero x = refl
-map_set f (y ∷ xs) (suc i) x = ap (λ ys. f y ∷ ys) (map_set f xs i x)
+at_map f xs i x at = slice_get-map f xs i ∙ ap (option_map f) at
 
 -- the first of a list
-pub first_has : (es : List Entry) (e : Entry) (stamp : ℕ) → 0 < length es → e ≡ get_or es 0 e → e.stamp.0 ≡ stamp → FirstHas stamp es
-first_has [] e stamp lt is at = absurd (omega arith)
-first_has (x ∷ es) e stamp lt is at = ap (λ (y : Entry). y.stamp.0) (sym is) ∙ at
-
 pub first_of : (es : List Entry) (e : Entry) (left : List Entry) (stamp : ℕ) → es ≡ e ∷ left → FirstHas stamp es → e.stamp.0 ≡ stamp
 first_of es e left stamp is h = subst (FirstHas stamp) is h

@@ -169,8 +169,8 @@ impl<K: ClusterName> Cluster<K> {
         &self.post
     }
 
-    /// Hands an envelope to its addressee, under that one's lock alone, past the gate. After want of memory the envelope
-    /// comes back.
+    /// Hands an envelope to its addressee, under that one's lock alone, past the gate. After want of memory the
+    /// envelope comes back.
     pub fn deliver<R: Wait, G: Gate>(
         &self,
         rt: &R,
@@ -200,7 +200,8 @@ impl<K: ClusterName> Cluster<K> {
     pub fn finish(self, alloc: Global, receipts: Receipts) -> Result<History, NoMemory>
         requires { All (λ r. r.post ≡ K.post) receipts }
         ensures run { IfOk result (λ h. WorldRun K.script h) }
-        ensures told { IfOk result (λ h. (k : ℕ) (r : ReceiptData) → slice_get receipts k ≡ Some r → IsTold K.script h r) }
+        ensures told { IfOk result (λ h. (k : ℕ) (r : ReceiptData) → slice_get receipts k ≡ Some r
+            → IsTold K.script h r) }
     {
         let Cluster {
             post,

@@ -1,9 +1,10 @@
 use Rattle.std.proofs.Common.{◌≡◌, List, ◌∷◌, map, get_or, sym, ap, ◌∙◌, subst, length, ◌<◌, rules, Global, Some}
 use Rattle.std.specs.Prelude.{slice_get, slice_set}
 use Rattle.std.specs.declared.collections.VecDeque.{VecDeque}
+use Rattle.std.proofs.lemmas.List.{map-set}
 use Rattle.letter_types.specs.declared.entries.Entry.{Entry}
 use Rattle.node_threads.specs.Histories.{FirstHas}
-use Rattle.node_threads.proofs.Merges.{at_map, at_place, first_of, map_set}
+use Rattle.node_threads.proofs.Merges.{at_map, at_place, first_of}
 use Rattle.node_threads.proofs.merge.taken_out.Goals as goal
 
 pub returns-then-is_first : goal.returns-then-is_first
@@ -25,6 +26,6 @@ returns-then-is_first c =
       actor = a;
       left = c.pop_front.new.self.items;
       at = subst (λ (l : List (VecDeque Entry Global)). slice_get (map items_of l) a ≡ Some d.items) same row ∙ ap (λ (l : List Entry). Some l) popped;
-      set = map_set items_of old a c.pop_front.new.self ∙ ap (λ (l : List (VecDeque Entry Global)). slice_set (map items_of l) a c.pop_front.new.self.items) same;
+      set = map-set items_of old a c.pop_front.new.self ∙ ap (λ (l : List (VecDeque Entry Global)). slice_set (map items_of l) a c.pop_front.new.self.items) same;
       stamp_is = first_of d.items c.in_ok-entry.entry c.pop_front.new.self.items c.args.stamp.0 popped has;
     }
