@@ -6,6 +6,9 @@ use std::alloc::Global;
 use std::marker::Model;
 use std::mem;
 
+/// The length from which on a list grows by more than it needs at once.
+const SHORT: usize = 4;
+
 /// A list of at most `MOST` items that grows at its end, seen by contracts as the list of its items.
 #[derive(Drop)]
 pub struct Seq<T, const MOST: usize> {
@@ -55,6 +58,10 @@ impl<T, const MOST: usize> Seq<T, MOST> {
         ensures err { OnErr result (self.new ≡ self.old) }
     {
         if MOST <= self.inner.len() {
+            return Err((NoMemory, one));
+        }
+        // A short list has no place to spare: most lists of a run stay as short as they are made.
+        if self.inner.len() < SHORT && self.inner.reserve_exact(1).is_err() {
             return Err((NoMemory, one));
         }
         match self.inner.push(one) {
