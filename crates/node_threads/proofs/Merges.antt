@@ -5,7 +5,8 @@ use Rattle.std.proofs.lemmas.Bool.{cases_eq}
 use Rattle.std.proofs.lemmas.Bool.Decides.{nat_tests}
 use Rattle.std.proofs.lemmas.List.{length-set, map-append}
 use Rattle.std.proofs.lemmas.List.Elements.{filter-append}
-use Rattle.std.proofs.lemmas.Option.{slice_get_within}
+use Rattle.std.proofs.lemmas.Option.{same_Some, slice_get_within}
+use Rattle.tv_base.proofs.ByPlace.{get_set_other, get_set_same}
 use Rattle.letter_types.specs.declared.entries.Entry.{Entry}
 use Rattle.letter_types.specs.declared.entries.Posting.{Posting}
 use Rattle.letter_types.specs.Letters.{own}
@@ -91,18 +92,6 @@ own_same a all e other =
     nothing_more [] = refl
     nothing_more (x ∷ es) = ap (λ (ys : List Entry). x ∷ ys) (nothing_more es)
 
-get_set_same : {X : Type 0} (xs : List X) (i : ℕ) (v : X) → i < length xs → slice_get (slice_set xs i v) i ≡ Some v
-get_set_same [] i v lt = absurd (omega arith)
-get_set_same (x ∷ xs) zero v lt = refl
-get_set_same (x ∷ xs) (suc i) v lt = get_set_same xs i v (omega arith)
-
-get_set_other : {X : Type 0} (xs : List X) (i j : ℕ) (v : X) → i ≢ j → slice_get (slice_set xs i v) j ≡ slice_get xs j
-get_set_other [] i j v ne = refl
-get_set_other (x ∷ xs) zero zero v ne = absurd (ne refl)
-get_set_other (x ∷ xs) zero (suc j) v ne = refl
-get_set_other (x ∷ xs) (suc i) zero v ne = refl
-get_set_other (x ∷ xs) (suc i) (suc j) v ne = get_set_other xs i j v (λ is. ne (ap suc is))
-
 -- one actor, once k entries are in order: what is left of its entries
 pub record Row (log : List Posting) (k : ℕ) (all : List Entry) (first rows : List (List Entry)) (a : ℕ) : Type 0 where
   pub begun : List Entry
@@ -133,15 +122,12 @@ starts log rows is = record {
   };
 }
 
-some_is : {X : Type 0} (x y : X) → Some x ≡ Some y → x ≡ y
-some_is x y is = cc
-
 row_more : (log : List Posting) (k : ℕ) (all : List Entry) (first rows : List (List Entry)) (b : ℕ) (e : Entry) (left : List Entry) (rest : List Posting)
     → slice_get rows b ≡ Some (e ∷ left) → drop k log ≡ posting_of e ∷ rest → e.actor.0 ≡ b → own_postings b rest ≡ map posting_of left
     → drop (k + 1) log ≡ rest → b < length rows → (a : ℕ) → Row log k all first rows a → (b ≡ a) ⊎ (b ≢ a)
     → Row log (k + 1) (all ++ e ∷ []) first (slice_set rows b left) a
 row_more log k all first rows b e left rest there whole mine own_left after lt a r (inl same) =
-    let eq : r.left ≡ e ∷ left = some_is r.left (e ∷ left) (sym r.at ∙ subst (λ (j : ℕ). slice_get rows j ≡ Some (e ∷ left)) same there) in
+    let eq : r.left ≡ e ∷ left = same_Some r.left (e ∷ left) (sym r.at ∙ subst (λ (j : ℕ). slice_get rows j ≡ Some (e ∷ left)) same there) in
     record {
       begun = r.begun;
       left = left;
@@ -168,7 +154,7 @@ merges log k all first rows new e is t m =
     let b = t.actor in
     let lt : b < length rows = slice_get_within rows b (e ∷ t.left) t.at in
     let r = m.each b (omega (arith, m.long)) in
-    let eq : r.left ≡ e ∷ t.left = some_is r.left (e ∷ t.left) (sym r.at ∙ t.at) in
+    let eq : r.left ≡ e ∷ t.left = same_Some r.left (e ∷ t.left) (sym r.at ∙ t.at) in
     let from : From (k + 1) (drop k log) = subst (λ (n : ℕ). From n (drop k log)) (omega arith) (from_drop k 1 log (from_of 1 log (λ j p at. is.stamps j p at ∙ omega arith))) in
     let n = next b (k + 1) (drop k log) (posting_of e) (map posting_of t.left) from (sym r.next ∙ ap (map posting_of) eq) t.stamp_is in
     let d = drop_next k log (posting_of e) n.rest n.whole in
@@ -205,7 +191,7 @@ ends log k all first rows long m = record {
   own = λ a es at.
       let r = m.each a (slice_get_within first a es at) in
       let none : r.left ≡ [] = none_left r.left (r.next ∙ ap (λ (j : ℕ). own_postings a (drop j log)) (sym long) ∙ ap (own_postings a) (drop_whole log)) in
-      let same : r.begun ≡ es = some_is r.begun es (sym r.was ∙ at) in
+      let same : r.begun ≡ es = same_Some r.begun es (sym r.was ∙ at) in
       sym (append_nothing (own a all)) ∙ ap (λ (xs : List Entry). own a all ++ xs) (sym none) ∙ sym r.whole ∙ same;
 }
 
