@@ -1,5 +1,5 @@
 -- The script while it is generated. Only the code of the generator cites it.
-use Rattle.std.specs.Prelude.{◌≡◌, ◌<◌, ◌≤◌, ℕ, suc, ◌*◌, true, false, List, [], ◌∷◌, ◌++◌, length}
+use Rattle.std.specs.Prelude.{◌≡◌, ◌<◌, ◌≤◌, ℕ, suc, ◌*◌, true, false, List, [], ◌∷◌, ◌++◌, length, None}
 use Rattle.tx_trees.specs.Adding.{all_ops, all_subs, names_tree, with_row}
 use Rattle.tx_trees.specs.Counts.{strict_trees, trees_puts}
 use Rattle.tx_trees.specs.ScriptData.{ScriptData}
@@ -51,6 +51,7 @@ bare_tree j x n = record {
   kind = kind_by (given (next_draw x));
   subs = subs_up_to (kind_by (given (next_draw x))) (home_by (given (next_draw x))) (next_draw x) n
       ++ bare_sub (home_by (given (next_draw x))) n (given (after_draws (suc n) (next_draw x))) ∷ [];
+  written = None;
 }
 
 -- the script with one more tree, which is tree j and is begun
