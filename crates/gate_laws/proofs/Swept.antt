@@ -42,7 +42,6 @@ use Rattle.board_laws.proofs.Versions.{placed}
 use Rattle.gate_laws.proofs.Stays.{any_more}
 
 -- What was collected, with more acts.
-
 swept_more : (p v : ℕ) (xs ys : List Place) → was_swept p v xs ≡ true → was_swept p v (xs ++ ys) ≡ true
 swept_more p v xs ys is = any_more (λ (x : Place). (x.node == p) && sweeps_to v x.act) xs ys is
 

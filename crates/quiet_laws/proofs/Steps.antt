@@ -99,7 +99,6 @@ step_in s past e laws run timely =
     (outcome_in s past e laws run timely)
 
 -- The numbers of nodes, by place.
-
 numbers_last : (n : ℕ) (f : ℕ → ℕ) → slice_index (numbers_of n f ++ f n ∷ []) n ≡ f n
 numbers_last n f = let len = length_numbers n f in grind (arith, common_steps)
 
