@@ -16,7 +16,7 @@ use Rattle.item_versions.proofs.Order.{IsHeld-collected}
 use Rattle.item_versions.proofs.Seen.{seen-collected}
 use Rattle.version_collect.specs.Collecting.{collected_all}
 use Rattle.tv_base.specs.declared.numbers.ItemNo.{ItemNo}
-use Rattle.tv_base.proofs.Truths.{left_true}
+use Rattle.tv_base.proofs.Truths.{at_most}
 use Rattle.node_versions.specs.declared.turns.Turns.{Turns}
 use Rattle.node_versions.specs.Turns.{raised}
 use Rattle.node_step.specs.Advancing.{turn_row, show_row, sweep_row}
@@ -274,10 +274,6 @@ turn_fold : (s : ScriptData) (h : List Entry) (x u v : ℕ) (raises : Bool) (w :
 turn_fold s h x u v true w = refl
 turn_fold s h x u v false w = refl
 
--- a letter that sweeps names no version below the low one
-pub swept_above : (low v : ℕ) (rest : Bool) → (nat_le low v && rest) ≡ true → low ≤ v
-swept_above low v rest is = let first : nat_le low v ≡ true = left_true (nat_le low v) rest is in grind (arith, nat_tests)
-
 order_sees : (s : ScriptData) (past : List Entry) (e : Entry) (p : ℕ) (out : Out Node) → AreVersioned s past
     → is_timely s (node_in s past p) e.took.body ≡ true → e.actor.0 ≡ p
     → Order s (node_in s past p) e.took.body out → Made s past e p out → Sees s past p (node_in s past p)
@@ -300,7 +296,7 @@ order_sees s past e p out are timely at (Shows v is row) made sees =
 order_sees s past e p out are timely at (Sweeps v is row) made sees =
     let st = node_in s past p in
     let test : is_timely s st (Sweep v) ≡ true = subst (λ (b : Body). is_timely s st b ≡ true) is timely in
-    let above : st.turns.low.0 ≤ v.0 = swept_above st.turns.low.0 v.0 (nat_le v.0 st.turns.read.0 && nat_le v.0 st.turns.update.0) test in
+    let above : st.turns.low.0 ≤ v.0 = at_most st.turns.low.0 v.0 (nat_le v.0 st.turns.read.0 && nat_le v.0 st.turns.update.0) test in
     subst (λ (o : Out Node). Sees s (e ∷ past) p o.state) (sym row)
     (own_step s past e p (sweep_row s v st).acts (sweep_row s v st).state are at (made.acts ∙ ap (λ (o : Out Node). o.acts) row)
     (collected_from v st.turns.low.0 st.items sees.from)

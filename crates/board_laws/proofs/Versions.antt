@@ -70,9 +70,6 @@ some_or None b is = absurd (cc is)
 pub version_stays : (t : ℕ) (xs ys : List Place) → is_some (version_in t xs) ≡ true → version_in t (xs ++ ys) ≡ version_in t xs
 version_stays t xs ys is = version_in-append t xs ys ∙ some_or (version_in t xs) (version_in t ys) is
 
-pub born_by : (found : Option Version) (v : Version) → found ≡ Some v → is_some found ≡ true
-born_by found v is = rw is refl
-
 -- a tree without births isn't born
 unborn_at : (t : ℕ) (found : Option Version) (rest : Option Version) → one_if (is_some found) ≡ 0 → rest ≡ None → option_or found rest ≡ None
 unborn_at t None rest none is = is
@@ -99,7 +96,7 @@ deed_stays xs ys Finished is = tt
 deed_stays xs ys _ is = tt
 
 letter_stays : (xs ys : List Place) (b : Body) → HasVersion xs b → HasVersion (xs ++ ys) b
-letter_stays xs ys (SubLetter t k v) is = version_stays t.0 xs ys (born_by (version_in t.0 xs) v is) ∙ is
+letter_stays xs ys (SubLetter t k v) is = version_stays t.0 xs ys (ap is_some is) ∙ is
 letter_stays xs ys Go is = tt
 letter_stays xs ys _ is = tt
 
@@ -197,7 +194,7 @@ root_next s past e t v effect c sound good m are is work made =
     let answer = answer_noted t (record { 0 = 0 }) effect.values (begun t (length (subs_at s t.0)) v st.homes) in
     more s past e are
     (subst (λ (acts : List Act). Each (λ (x : Place). IsOfBorn xs x.act) (placed e.actor.0 acts)) (sym made.acts)
-    (tt, (born_by (version_in t.0 xs) v version, tt)))
+    (tt, (ap is_some version, tt)))
     (subst (λ (os : List Outgoing). SentVersioned xs os) (sym made.sent)
     (sent_append xs (sub_letters t.0 v.0 0 0 (subs_at s t.0)) (reply_letters (client_of s) answer)
     (children_versioned xs t.0 v.0 0 0 (subs_at s t.0) version) (replies_versioned xs (client_of s) answer)))
@@ -215,7 +212,7 @@ pub sub_version : (s : ScriptData) (past : List Entry) (e : Entry) (t : TreeNo) 
     → MayFollow s past e → e.took.body ≡ SubLetter t k v → version_in t.0 (places_of (reverse past) ++ places_at e) ≡ Some v
 sub_version s past e t k v are m is =
     let old = taken_version s past e t k v are m is in
-    version_stays t.0 (places_of (reverse past)) (places_at e) (born_by (version_in t.0 (places_of (reverse past))) v old) ∙ old
+    version_stays t.0 (places_of (reverse past)) (places_at e) (ap is_some old) ∙ old
 
 turned_deeds : (xs : List Place) (node v : ℕ) (raises : Bool) (acts : List Act) → Each (λ (x : Place). IsOfBorn xs x.act) (placed node acts)
     → Each (λ (x : Place). IsOfBorn xs x.act) (placed node (turned_if raises v ++ acts))
@@ -232,7 +229,7 @@ sub_next s past e t k v raises effect m are is made =
     let own = Did t k effect.values ∷ [] in
     more s past e are
     (subst (λ (acts : List Act). Each (λ (x : Place). IsOfBorn xs x.act) (placed e.actor.0 acts)) (sym made.acts)
-    (turned_deeds xs e.actor.0 v.0 raises own (born_by (version_in t.0 xs) v version, tt)))
+    (turned_deeds xs e.actor.0 v.0 raises own (ap is_some version, tt)))
     (subst (λ (os : List Outgoing). SentVersioned xs os) (sym made.sent)
     (sent_append xs (sub_letters t.0 v.0 k.0 0 (subs_at s t.0)) (done_letter (home_of s t.0) t.0 k.0 v.0 effect.values ∷ [])
     (children_versioned xs t.0 v.0 k.0 0 (subs_at s t.0) version) ((λ i. tt), tt)))

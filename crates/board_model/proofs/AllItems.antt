@@ -5,6 +5,7 @@ use Rattle.std.specs.Option.{option_map}
 use Rattle.std.proofs.lemmas.Bool.Decides.{nat_tests}
 use Rattle.std.proofs.lemmas.Option.{slice_get-get_or}
 use Rattle.std.proofs.lemmas.Bool.{and_from}
+use Rattle.std.proofs.Math.Bool.{or-false}
 use Rattle.tv_base.proofs.Truths.{same_test, left_true, right_true}
 use Rattle.commute_ops.specs.declared.value.Value.{Value}
 use Rattle.letter_types.specs.declared.entries.Entry.{Entry}
@@ -207,10 +208,6 @@ all_may s ts valid apart =
     (λ (x : ℕ) (w : Value) (e : slice_get (first_values s.items) x ≡ Some w).
     subst (λ (one : Value). IsTrue (trees_may s x ts one)) (first_is (slice_get s.items x) w (sym (first_get s.items x) ∙ e)) (worth_may s x ts valid apart))
 
-or_false : (b : Bool) → b ≡ (b || false)
-or_false true = refl
-or_false false = refl
-
 or_true : (b : Bool) → true ≡ (b || true)
 or_true true = refl
 or_true false = refl
@@ -248,7 +245,7 @@ set_marks y [] x = refl
 set_marks zero (m ∷ ms) zero = ap (λ (b : Bool). Some b) (or_true m)
 set_marks zero (m ∷ ms) (suc x) =
     map_or_false (slice_get ms x) ∙ ap (λ (c : Bool). option_map (λ (b : Bool). b || c) (slice_get ms x)) (zero_suc x)
-set_marks (suc y) (m ∷ ms) zero = ap (λ (b : Bool). Some b) (or_false m) ∙ ap (λ (c : Bool). Some (m || c)) (suc_zero y)
+set_marks (suc y) (m ∷ ms) zero = ap (λ (b : Bool). Some b) (sym (or-false m)) ∙ ap (λ (c : Bool). Some (m || c)) (suc_zero y)
 set_marks (suc y) (m ∷ ms) (suc x) = set_marks y ms x ∙ ap (λ (c : Bool). option_map (λ (b : Bool). b || c) (slice_get ms x)) (suc_suc y x)
 
 and_comm : (a b : Bool) → (a && b) ≡ (b && a)

@@ -6,7 +6,7 @@ use Rattle.std.specs.Option.{option_map, option_or}
 use Rattle.std.proofs.lemmas.Bool.Decides.{nat_tests}
 use Rattle.std.proofs.lemmas.List.{length-replicate, length-set, reverse-append}
 use Rattle.std.proofs.lemmas.Bool.{and_left}
-use Rattle.std.proofs.Math.Bool.{and-false}
+use Rattle.std.proofs.Math.Bool.{and-false, or-false}
 use Rattle.tv_base.specs.declared.numbers.ItemNo.{ItemNo}
 use Rattle.tv_base.specs.declared.numbers.SubNo.{SubNo}
 use Rattle.tv_base.specs.declared.numbers.TreeNo.{TreeNo}
@@ -98,10 +98,6 @@ one_changed zero u t f xs x (row ∷ rows) e change keep h =
 one_changed (suc d) u t f xs x (row ∷ rows) e change keep h =
     let no : (u == t) ≡ false = grind (arith, nat_tests) in
     (keep t row no h.0, one_changed d u (t + 1) f xs x rows (omega arith) change keep h.1)
-
-or_false : (b : Bool) → (b || false) ≡ b
-or_false true = refl
-or_false false = refl
 
 or_comm : (a b : Bool) → (a || b) ≡ (b || a)
 or_comm true true = refl
@@ -461,7 +457,7 @@ standing_get s h k (tree ∷ ts) (suc i) =
     standing_get s h (k + 1) ts i ∙ ap (λ (n : ℕ). option_map (λ (one : Tree). standing_of s h n) (slice_get ts i)) e
 
 kind_settled : (kind : TreeKind) (st : Standing) → counts_by kind st ≡ ((is_update kind && st.whole) || (is_strict kind && st.committed))
-kind_settled Update st = sym (or_false st.whole)
+kind_settled Update st = sym (or-false st.whole)
 kind_settled Read st = refl
 kind_settled Strict st = refl
 

@@ -5,7 +5,7 @@ use Rattle.std.specs.List.{list_any}
 use Rattle.std.proofs.lemmas.Bool.Decides.{nat_tests}
 use Rattle.std.proofs.lemmas.List.Folds.{list_any-append}
 use Rattle.std.proofs.lemmas.Map.Views.{any-filter_same}
-use Rattle.std.proofs.lemmas.Bool.{or_from, or_left}
+use Rattle.std.proofs.lemmas.Bool.{or_from, or_left, or_right}
 use Rattle.tv_base.proofs.Truths.{same_test}
 use Rattle.tx_trees.specs.ScriptData.{ScriptData}
 use Rattle.board_model.specs.Histories.{Place}
@@ -113,10 +113,7 @@ self_in : (t : ℕ) (ts : List ℕ) → is_in t (t ∷ ts) ≡ true
 self_in t ts = or_left (t == t) (is_in t ts) (same_test t)
 
 later_in : (t u : ℕ) (ts : List ℕ) → is_in t ts ≡ true → is_in t (u ∷ ts) ≡ true
-later_in t u ts h = or_right (u == t) (is_in t ts) h where
-  or_right : (a b : Bool) → b ≡ true → (a || b) ≡ true
-  or_right true b e = refl
-  or_right false b e = e
+later_in t u ts h = or_right (u == t) (is_in t ts) h
 
 pub append_apart : (a b : List ℕ) → AreApart a → AreApart b
     → ((t : ℕ) → is_in t a ≡ true → is_in t b ≡ false) → AreApart (a ++ b)

@@ -1,8 +1,8 @@
 -- A tree that is whole stays whole with more acts, and a gate that is open stays open.
-use Rattle.std.proofs.Common.{◌≡◌, ℕ, zero, suc, ◌+◌, ◌==◌, ◌&&◌, ◌||◌, Bool, true, false, List, [], ◌∷◌, ◌++◌, length, refl, ap, ◌∙◌}
+use Rattle.std.proofs.Common.{◌≡◌, ℕ, zero, suc, ◌+◌, ◌==◌, ◌&&◌, Bool, true, false, List, [], ◌∷◌, ◌++◌, length, refl, ap, ◌∙◌}
 use Rattle.std.specs.Prelude.{if◌then◌else◌, is_some}
 use Rattle.std.specs.List.{list_any}
-use Rattle.std.proofs.lemmas.Bool.{and_from, and_parts}
+use Rattle.std.proofs.lemmas.Bool.{and_from, and_parts, or_left}
 use Rattle.std.proofs.lemmas.List.Folds.{list_any-append}
 use Rattle.tx_trees.specs.ScriptData.{ScriptData, subs_at}
 use Rattle.tx_trees.specs.declared.parts.Sub.{Sub}
@@ -10,9 +10,6 @@ use Rattle.board_model.specs.Gates.{IsOpen, sweeps_to}
 use Rattle.board_model.specs.Histories.{Place, all_applied, all_done, applies, does, is_strict_tree, is_through, was_applied, was_done}
 use Rattle.board_model.specs.Moves.{is_whole_in, was_born}
 use Rattle.board_laws.proofs.Versions.{version_stays}
-
-or_left : (a b : Bool) → a ≡ true → (a || b) ≡ true
-or_left a b is = rw is refl
 
 -- what is among the first acts is among all
 pub any_more : (test : Place → Bool) (xs ys : List Place) → list_any test xs ≡ true → list_any test (xs ++ ys) ≡ true

@@ -164,9 +164,6 @@ raised_up : (raises : Bool) (v : ℕ) (turns : Turns) → raises ≡ nat_lt turn
 raised_up true v turns is = (grind (arith, nat_tests), omega arith, refl)
 raised_up false v turns is = (omega arith, grind (arith, nat_tests), refl)
 
-unraised : (raises : Bool) (v : ℕ) (turns : Turns) → raises ≡ false → raised_if raises v turns ≡ turns
-unraised raises v turns is = rw is refl
-
 -- the items of a node whose versions are these
 abbrev KeepsBy : ScriptData → List Entry → Entry → ℕ → Turns → Table → Type 0
 KeepsBy s past e p turns items =
@@ -205,7 +202,7 @@ sub_keeps_by s past e t k v raises effect c version low acts keeps (SubReads rea
     of_acts s past e x w (turned_if raises v.0 ++ Did t k effect.values ∷ []) acts
     ∙ sub_writes s (with_entry past e) x w e.actor.0 raises v.0 t k effect.values
     ∙ did_reads s (with_entry past e) x w t k effect.values (reads_alone s t.0 k.0 c read) in
-    rw (unraised raises v.0 st.turns turn, made) (
+    rw (ap (λ (b : Bool). raised_if b v.0 st.turns) turn, made) (
       keeps.kept,
       λ x w r at node above.
           keeps.holds x w r at node above ∙ or_false (written s past x w) (some_write s (with_entry past e) x w (places_at e)) (none x w),

@@ -3,6 +3,7 @@ use Rattle.std.proofs.Common.{◌≡◌, ◌≢◌, ℕ, ◌==◌, ◌&&◌, ◌
 use Rattle.std.specs.Prelude.{slice_get}
 use Rattle.std.specs.List.{AllByRecursion}
 use Rattle.std.proofs.lemmas.Bool.Decides.{nat_tests}
+use Rattle.std.proofs.Math.Bool.{or-false}
 use Rattle.tv_base.specs.declared.numbers.SubNo.{SubNo}
 use Rattle.tv_base.specs.declared.numbers.TreeNo.{TreeNo}
 use Rattle.tv_base.specs.declared.numbers.Version.{Version}
@@ -86,19 +87,15 @@ pub did_reads : (s : ScriptData) (xs : List Place) (x w : ℕ) (t : TreeNo) (k :
     → act_writes s xs x w (Did t k values) ≡ false
 did_reads s xs x w t k values other = rw other refl
 
-one_or : (b : Bool) → (b || false) ≡ b
-one_or true = refl
-one_or false = refl
-
 -- the acts of a root, and of another subtransaction
 pub root_writes : (s : ScriptData) (xs : List Place) (x w : ℕ) (node : ℕ) (t : TreeNo) (v : Version) (k : SubNo) (values : Gets)
     → some_write s xs x w (placed node (Born t v ∷ Did t k values ∷ [])) ≡ act_writes s xs x w (Did t k values)
-root_writes s xs x w node t v k values = one_or (act_writes s xs x w (Did t k values))
+root_writes s xs x w node t v k values = or-false (act_writes s xs x w (Did t k values))
 
 pub sub_writes : (s : ScriptData) (xs : List Place) (x w : ℕ) (node : ℕ) (raises : Bool) (v : ℕ) (t : TreeNo) (k : SubNo) (values : Gets)
     → some_write s xs x w (placed node (turned_if raises v ++ Did t k values ∷ [])) ≡ act_writes s xs x w (Did t k values)
-sub_writes s xs x w node true v t k values = one_or (act_writes s xs x w (Did t k values))
-sub_writes s xs x w node false v t k values = one_or (act_writes s xs x w (Did t k values))
+sub_writes s xs x w node true v t k values = or-false (act_writes s xs x w (Did t k values))
+sub_writes s xs x w node false v t k values = or-false (act_writes s xs x w (Did t k values))
 
 -- a raised version writes nothing, nor does an end
 pub turn_writes : (s : ScriptData) (xs : List Place) (x w : ℕ) (node : ℕ) (raises : Bool) (v : ℕ)

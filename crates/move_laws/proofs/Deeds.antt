@@ -23,7 +23,7 @@ use Rattle.tree_laws.proofs.Acts.{any_counted, of_act}
 use Rattle.tree_laws.proofs.Counts.{not_done, one_here, was_asked}
 use Rattle.tree_laws.proofs.Good.{Good}
 use Rattle.tree_laws.proofs.Whole.{births_in, did_marks, dids_in, none_strict, was_done_of}
-use Rattle.board_laws.proofs.Versions.{AreVersioned, born_by, born_here, not_both, taken_version, unborn, version_stays}
+use Rattle.board_laws.proofs.Versions.{AreVersioned, born_here, not_both, taken_version, unborn, version_stays}
 use Rattle.run_laws.proofs.Wholes.{root_turn}
 use Rattle.move_laws.proofs.Raised.{Stand}
 
@@ -95,7 +95,7 @@ root_deed s past e t v effect c good stand is at lt work =
     let none = none_done s past e t.0 0 c good stand (ap (asks t.0 0) is ∙ one_here t.0 0) in
     let old = unborn t.0 xs (omega (arith, births_in past t.0, good.born t.0, none)) in
     record {
-      born = born_by (version_in t.0 (xs ++ born ∷ [])) v (born_here t v e.actor.0 xs [] old);
+      born = ap is_some (born_here t v e.actor.0 xs [] old);
       asked = root_asked s t.0 (λ (j : ℕ). was_done t.0 j (xs ++ born ∷ [])) c;
       once = undone_more t.0 0 xs born (undone past t.0 0 none) refl;
       node = (omega (arith, at, lt), sym at);
@@ -126,7 +126,7 @@ sub_deed s past e t k v raises effect ys c later good are stand is at lt work no
     was_done_of t.0 parent xs (omega (arith, dids_in past t.0 parent, good.subs t.0 k.0 c later, some)) in
     let version = taken_version s past e t k v are stand.follows is in
     record {
-      born = born_more t.0 xs ys (born_by (version_in t.0 xs) v version);
+      born = born_more t.0 xs ys (ap is_some version);
       asked = sub_asked s t.0 k.0 (λ (j : ℕ). was_done t.0 j (xs ++ ys)) c (done_more t.0 parent xs ys done);
       once = was_done-append t.0 k.0 xs ys ∙ rw (undone past t.0 k.0 none) none_new;
       node = (omega (arith, at, lt), sym at);

@@ -3,7 +3,7 @@ use Rattle.std.proofs.Common.{if◌then◌else◌, ◌≡◌, ℕ, ◌+◌, ◌<
 use Rattle.std.specs.Prelude.{length, nat_le}
 use Rattle.std.proofs.lemmas.Bool.Decides.{nat_tests}
 use Rattle.std.proofs.lemmas.List.{reverse-reverse}
-use Rattle.tv_base.proofs.Truths.{same_test}
+use Rattle.tv_base.proofs.Truths.{at_most, same_test}
 use Rattle.tv_base.specs.declared.numbers.Version.{Version}
 use Rattle.item_versions.specs.Item.{Held}
 use Rattle.item_versions.specs.Table.{Table}
@@ -27,7 +27,7 @@ use Rattle.world_model.proofs.Bridge.{run_less, state_more}
 use Rattle.world_model.proofs.Posts.{follows_by, moves_by, rows_less, steps, waits_of, who_of}
 use Rattle.world_model.proofs.Scripts.{Sound}
 use Rattle.tree_laws.proofs.Aptness.{taken_is_apt}
-use Rattle.board_laws.proofs.OwnDeeds.{sees_run, swept_above}
+use Rattle.board_laws.proofs.OwnDeeds.{sees_run}
 use Rattle.board_laws.proofs.Seen.{IsFrom}
 use Rattle.run_laws.proofs.InTime.{in_time}
 
@@ -44,7 +44,7 @@ widely_timely : (s : ScriptData) (st : Node) (b : Body) → EachItem (IsFrom st.
     → is_widely_timely s st b ≡ true
 widely_timely s st (Sweep v) from timely =
     may_all st.turns.low.0 v st.items
-    (swept_above st.turns.low.0 v.0 (nat_le v.0 st.turns.read.0 && nat_le v.0 st.turns.update.0) timely) from
+    (at_most st.turns.low.0 v.0 (nat_le v.0 st.turns.read.0 && nat_le v.0 st.turns.update.0) timely) from
 widely_timely s st Go from timely = refl
 widely_timely s st _ from timely = refl
 

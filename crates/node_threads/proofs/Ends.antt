@@ -1,6 +1,7 @@
 -- An entry with the client's end is one of a history that has finished.
-use Rattle.std.proofs.Common.{◌≡◌, ℕ, zero, suc, ◌<◌, ◌||◌, Bool, true, false, List, [], ◌∷◌, length, get_or, map, refl, sym, ap, ◌∙◌, arith}
+use Rattle.std.proofs.Common.{◌≡◌, ℕ, zero, suc, ◌<◌, ◌||◌, Bool, true, false, List, [], ◌∷◌, ◌++◌, length, get_or, map, refl, sym, ap, ◌∙◌, subst, arith}
 use Rattle.std.specs.List.{list_any}
+use Rattle.std.proofs.lemmas.Bool.{or_left, or_right}
 use Rattle.letter_types.specs.declared.acts.Act.{Act}
 use Rattle.letter_types.specs.declared.entries.Entry.{Entry}
 use Rattle.board_model.specs.Histories.{Place, places_at, places_of}
@@ -11,20 +12,12 @@ acts_end : (n : ℕ) (acts : List Act) → list_any (λ (x : Place). finishes x.
 acts_end n [] = refl
 acts_end n (a ∷ acts) = ap (λ (b : Bool). finishes a || b) (acts_end n acts)
 
-left_or : (b c : Bool) → b ≡ true → (b || c) ≡ true
-left_or true c is = refl
-left_or false c is = absurd (cc is)
-
-right_or : (b c : Bool) → c ≡ true → (b || c) ≡ true
-right_or true c is = refl
-right_or false c is = is
-
 pub ends_there : (h : List Entry) (k : ℕ) (e : Entry) → k < length h → e ≡ get_or h k e → list_any finishes e.acts ≡ true
     → has_finished (places_of h) ≡ true
 ends_there [] k e lt is at = absurd (omega arith)
 ends_there (x ∷ h) zero e lt is at =
     has_finished-append (places_at x) (places_of h)
-    ∙ left_or (has_finished (places_at x)) (has_finished (places_of h)) (acts_end x.actor.0 x.acts ∙ ap (λ (y : Entry). list_any finishes y.acts) (sym is) ∙ at)
+    ∙ or_left (has_finished (places_at x)) (has_finished (places_of h)) (acts_end x.actor.0 x.acts ∙ ap (λ (y : Entry). list_any finishes y.acts) (sym is) ∙ at)
 ends_there (x ∷ h) (suc k) e lt is at =
     has_finished-append (places_at x) (places_of h)
-    ∙ right_or (has_finished (places_at x)) (has_finished (places_of h)) (ends_there h k e (omega arith) is at)
+    ∙ or_right (has_finished (places_at x)) (has_finished (places_of h)) (ends_there h k e (omega arith) is at)

@@ -3,6 +3,7 @@ use Rattle.std.proofs.Common.{◌≡◌, ℕ, zero, suc, ◌+◌, ◌-◌, ◌<�
 use Rattle.std.specs.Prelude.{if◌then◌else◌, slice_get}
 use Rattle.std.proofs.lemmas.Bool.Decides.{nat_tests}
 use Rattle.std.proofs.lemmas.List.{map-append}
+use Rattle.std.proofs.lemmas.Option.{same_Some}
 use Rattle.tv_base.proofs.ByPlace.{slice_get_split}
 use Rattle.letter_types.specs.declared.entries.Entry.{Entry}
 use Rattle.letter_types.specs.declared.entries.Letter.{Letter}
@@ -23,7 +24,7 @@ use Rattle.world_model.proofs.Scripts.{get_some}
 use Rattle.node_threads.specs.Cells.{last_acts}
 use Rattle.node_threads.specs.Histories.{AllRun, IsLogOf, IsMerged, IsTold, joined_from}
 use Rattle.node_threads.proofs.Entries.{acts_more}
-use Rattle.node_threads.proofs.Merges.{at_map, some_is}
+use Rattle.node_threads.proofs.Merges.{at_map}
 
 joined_at : (n : ℕ) (rows : List (List Entry)) (a : ℕ) (es : List Entry) → slice_get rows a ≡ Some es
     → slice_get (joined_from n rows) a ≡ Some (joined_seat (n + a) (map posting_of es))
@@ -170,7 +171,7 @@ told s actors rows receipts h g runs long some_there merged k r at =
           let in_history = left (λ (e : Entry). e.actor.0) r.number h c.front c.entry c.back (merged.own r.number row.0 row.1 ∙ c.whole) in
           let stamp : c.entry.stamp.0 ≡ place + 1 = ap (λ (p : Posting). p.stamp.0) c.entry_is ∙ stands.2 in
           let here : in_history.place ≡ place = once in_history.place c.entry in_history.at stamp in
-          let same : c.entry ≡ there.0 = some_is c.entry there.0 (sym in_history.at ∙ ap (slice_get h) here ∙ there.1) in
+          let same : c.entry ≡ there.0 = same_Some c.entry there.0 (sym in_history.at ∙ ap (slice_get h) here ∙ there.1) in
           let run = subst (λ (es : List Entry). IsRunOf (actor_row s r.number) (start_actor s r.number) es) c.whole (runs r.number row.0 row.1) in
           let postings : map posting_of (c.front ++ c.entry ∷ []) ≡ r.own =
           map-append posting_of c.front (c.entry ∷ []) ∙ (λ i. c.front_is i ++ c.entry_is i ∷ []) ∙ sym own_is in

@@ -6,7 +6,8 @@ use Rattle.std.proofs.lemmas.Bool.Decides.{nat_tests}
 use Rattle.std.proofs.lemmas.List.{append-nil, get_or-set_same, length-set, map-append, take_all}
 use Rattle.std.proofs.Math.ListN.{drop_of_length-le}
 use Rattle.std.proofs.lemmas.List.Elements.{filter-append}
-use Rattle.std.proofs.lemmas.Option.{slice_get-map, slice_get_within}
+use Rattle.std.proofs.lemmas.Option.{same_Some, slice_get-map, slice_get_within}
+use Rattle.tv_base.proofs.ByPlace.{get_set_other, get_set_same}
 use Rattle.letter_types.specs.declared.entries.Entry.{Entry}
 use Rattle.letter_types.specs.declared.entries.Posting.{Posting}
 use Rattle.letter_types.specs.Letters.{own}
@@ -20,6 +21,12 @@ use Rattle.node_threads.specs.Histories.{FirstHas, IsLogOf, IsMerged, Taken}
 abbrev From : ℕ → List Posting → Type 0
 From m [] = Unit {0}
 From m (p ∷ ps) = (p.stamp.0 ≡ m) × From (m + 1) ps
+
+-- what a list has at a place
+pub at_place : {X : Type 0} (xs : List X) (i : ℕ) (x : X) → i < length xs → x ≡ get_or xs i x → slice_get xs i ≡ Some x
+at_place [] i x lt is = absurd (omega arith)
+at_place (y ∷ xs) zero x lt is = ap (λ (z : _). Some z) (sym is)
+at_place (y ∷ xs) (suc i) x lt is = at_place xs i x (omega arith) is
 
 from_of : (m : ℕ) (log : List Posting) → ((k : ℕ) (p : Posting) → slice_get log k ≡ Some p → p.stamp.0 ≡ m + k) → From m log
 from_of m [] h = tt
@@ -89,16 +96,6 @@ own_same a all e other =
     filter-append (λ (x : Entry). x.actor.0 == a) all (e ∷ []) ∙ ap (λ (es : List Entry). own a all ++ es) (one_by (e.actor.0 == a) false e no')
     ∙ append-nil (own a all)
 
--- what a list has at a place
-pub at_place : {X : Type 0} (xs : List X) (i : ℕ) (x : X) → i < length xs → x ≡ get_or xs i x → slice_get xs i ≡ Some x
-at_place [] i x lt is = absurd (omega arith)
-at_place (y ∷ xs) zero x lt is = ap (λ (z : _). Some z) (sym is)
-at_place (y ∷ xs) (suc i) x lt is = at_place xs i x (omega arith) is
-
--- what was put is there
-set_there : {X : Type 0} (xs : List X) (i : ℕ) (v : X) → i < length xs → slice_get (slice_set xs i v) i ≡ Some v
-set_there xs i v lt = at_place (slice_set xs i v) i v (omega (arith, length-set xs i v)) (sym (get_or-set_same xs i v v lt))
-
 -- one actor, once k entries are in order: what is left of its entries
 pub record Row (log : List Posting) (k : ℕ) (all : List Entry) (first rows : List (List Entry)) (a : ℕ) : Type 0 where
   pub begun : List Entry
@@ -129,20 +126,17 @@ starts log rows is = record {
   };
 }
 
-pub some_is : {X : Type 0} (x y : X) → Some x ≡ Some y → x ≡ y
-some_is x y is = cc
-
 row_more : (log : List Posting) (k : ℕ) (all : List Entry) (first rows : List (List Entry)) (b : ℕ) (e : Entry) (left : List Entry) (rest : List Posting)
     → slice_get rows b ≡ Some (e ∷ left) → drop k log ≡ posting_of e ∷ rest → e.actor.0 ≡ b → own_postings b rest ≡ map posting_of left
     → drop (k + 1) log ≡ rest → b < length rows → (a : ℕ) → Row log k all first rows a → (b ≡ a) ⊎ (b ≢ a)
     → Row log (k + 1) (all ++ e ∷ []) first (slice_set rows b left) a
 row_more log k all first rows b e left rest there whole mine own_left after lt a r (inl same) =
-    let eq : r.left ≡ e ∷ left = some_is r.left (e ∷ left) (sym r.at ∙ subst (λ (j : ℕ). slice_get rows j ≡ Some (e ∷ left)) same there) in
+    let eq : r.left ≡ e ∷ left = same_Some r.left (e ∷ left) (sym r.at ∙ subst (λ (j : ℕ). slice_get rows j ≡ Some (e ∷ left)) same there) in
     record {
       begun = r.begun;
       left = left;
       was = r.was;
-      at = subst (λ (j : ℕ). slice_get (slice_set rows b left) j ≡ Some left) same (set_there rows b left lt);
+      at = subst (λ (j : ℕ). slice_get (slice_set rows b left) j ≡ Some left) same (get_set_same rows b left lt);
       next = sym own_left ∙ (λ i. own_postings (same i) (sym after i));
       whole = r.whole ∙ ap (λ (es : List Entry). own a all ++ es) eq ∙ sym (append_assoc (own a all) (e ∷ []) left)
           ∙ ap (λ (es : List Entry). es ++ left) (sym (own_last a all e (mine ∙ same)));
@@ -164,7 +158,7 @@ merges log k all first rows new e is t m =
     let b = t.actor in
     let lt : b < length rows = slice_get_within rows b (e ∷ t.left) t.at in
     let r = m.each b (omega (arith, m.long)) in
-    let eq : r.left ≡ e ∷ t.left = some_is r.left (e ∷ t.left) (sym r.at ∙ t.at) in
+    let eq : r.left ≡ e ∷ t.left = same_Some r.left (e ∷ t.left) (sym r.at ∙ t.at) in
     let from : From (k + 1) (drop k log) = subst (λ (n : ℕ). From n (drop k log)) (omega arith) (from_drop k 1 log (from_of 1 log (λ j p at. is.stamps j p at ∙ omega arith))) in
     let n = next b (k + 1) (drop k log) (posting_of e) (map posting_of t.left) from (sym r.next ∙ ap (map posting_of) eq) t.stamp_is in
     let d = drop_next k log (posting_of e) n.rest n.whole in
@@ -189,7 +183,7 @@ ends log k all first rows long m = record {
   own = λ a es at.
       let r = m.each a (slice_get_within first a es at) in
       let none : r.left ≡ [] = none_left r.left (r.next ∙ ap (λ (j : ℕ). own_postings a (drop j log)) (sym long) ∙ ap (own_postings a) (drop_of_length-le log (omega arith))) in
-      let same : r.begun ≡ es = some_is r.begun es (sym r.was ∙ at) in
+      let same : r.begun ≡ es = same_Some r.begun es (sym r.was ∙ at) in
       sym (append-nil (own a all)) ∙ ap (λ (xs : List Entry). own a all ++ xs) (sym none) ∙ sym r.whole ∙ same;
 }
 

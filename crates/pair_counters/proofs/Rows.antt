@@ -1,5 +1,5 @@
 -- What the rows count after a change.
-use Rattle.std.proofs.Common.{◌≡◌, ℕ, zero, suc, ◌+◌, ◌-◌, ◌%◌, ◌<◌, ◌≤◌, true, false, List, [], ◌∷◌, length, get_or, set, cond, eqb, min, refl, ap, sym, ◌∙◌, arith, ◌⊎◌, inl, inr, replicate, Option}
+use Rattle.std.proofs.Common.{◌≡◌, ℕ, zero, suc, ◌+◌, ◌-◌, ◌%◌, ◌<◌, ◌≤◌, true, false, List, [], ◌∷◌, ◌++◌, length, length-append, get_or, set, cond, eqb, min, refl, ap, sym, ◌∙◌, arith, ◌⊎◌, inl, inr, replicate, Option}
 use Rattle.std.specs.Prelude.{slice_get}
 use Rattle.std.proofs.Math.Path.{fun_ext}
 use Rattle.std.proofs.lemmas.Bool.{cases_eq, cases_lt, eq-eqb, ne_eqb, lt-ltb, le-ltb}
@@ -7,7 +7,7 @@ use Rattle.std.proofs.lemmas.Bool.Decides.{nat_tests}
 use Rattle.std.proofs.lemmas.List.{get_or-set_same, get_or-set_other}
 use Rattle.std.proofs.lemmas.Option.{slice_get-get_or}
 use Rattle.pair_counters.specs.declared.counters.CounterRow.{CounterRow}
-use Rattle.pair_counters.specs.Numbers.{more_at, from_version}
+use Rattle.pair_counters.specs.Numbers.{more_at, from_version, numbers_of}
 use Rattle.pair_counters.specs.Counts.{CountsThree}
 use Rattle.pair_counters.specs.Rows.{CounterRows, is_kept, number_of, number_in, counts_of}
 
@@ -240,3 +240,8 @@ pub counts-are : (n m low low' : ℕ) (rs : List CounterRow) (a d : ℕ → ℕ 
     ≡ record { nodes = m; low = low'; numbers = record { asked = a; done = d } }
 counts-are n m low low' rs a d nodes same asked done =
     λ i. record { nodes = nodes i; low = same i; numbers = record { asked = asked i; done = done i } }
+
+-- a row has a number for each node
+pub length_numbers : (n : ℕ) (f : ℕ → ℕ) → length (numbers_of n f) ≡ n
+length_numbers zero f = refl
+length_numbers (suc n) f = omega (arith, length-append (numbers_of n f) (f n ∷ []), length_numbers n f)

@@ -5,6 +5,7 @@ use Rattle.std.specs.Prelude.{slice_get, slice_index, slice_set}
 use Rattle.std.proofs.lemmas.Bool.{cases_eq}
 use Rattle.std.proofs.lemmas.Bool.Decides.{nat_tests}
 use Rattle.std.proofs.lemmas.List.{length-set}
+use Rattle.tv_base.proofs.ByPlace.{get_set_other}
 use Rattle.letter_types.specs.declared.bodies.Body.{Body}
 use Rattle.letter_types.specs.declared.bodies.Body.TheVariants.{AskDone, AskAsked, DoneRow, AskedRow}
 use Rattle.letter_types.specs.declared.entries.Entry.{Entry}
@@ -37,7 +38,7 @@ use Rattle.quiet_laws.proofs.Balance.{balanced_at}
 use Rattle.quiet_laws.proofs.Sending.{IsApart, Sending, SendsApart, SendsDone, SendsAsked, SendsOrders, sending}
 use Rattle.quiet_laws.proofs.Silence.{Closed, asked_grows, done_grows, silent_or_not, silent_stays}
 use Rattle.quiet_laws.proofs.Steps.{Fresh, RoundStep, Keeps, Leaves, Begins, TakesDone, TakesRequests, RowBody, fresh, numbers_at, row_later, rows_true, step_in}
-use Rattle.quiet_laws.proofs.Waves.{NoRow, asks_once, first_none, first_wave, flow_of, going, in_at, is_first, is_in, is_in_most, is_second, leaving, missing_before, no_first, no_second, none_in, none_kept, not_in, plain_none, second_none, second_wave, set_get, set_other, wave_kept}
+use Rattle.quiet_laws.proofs.Waves.{NoRow, asks_once, first_none, first_wave, flow_of, going, in_at, is_first, is_in, is_in_most, is_second, leaving, missing_before, no_first, no_second, none_in, none_kept, not_in, plain_none, second_none, second_wave, set_get, wave_kept}
 
 -- no root is born in the version, and no node has left it
 pub record Open (s : ScriptData) (past : List Entry) (v : ℕ) : Type 0 where
@@ -317,7 +318,7 @@ once_by s past e r v k row q t was bd ks lq flow (inl eq) =
     omega (arith, took, flow, was.once q lq, is_in_most (slice_get (slice_set r.dones e.took.from.0 (Some row)) q))
 once_by s past e r v k row q t was bd ks lq flow (inr ne) =
     let same : is_in (slice_get (slice_set r.dones e.took.from.0 (Some row)) q) ≡ is_in (slice_get r.dones q) =
-    ap is_in (set_other r.dones e.took.from.0 q (Some row) ne) in
+    ap is_in (get_set_other r.dones e.took.from.0 q (Some row) ne) in
     omega (arith, same, flow, was.once q lq)
 
 -- what is sent of the second wave, where a row is missing still

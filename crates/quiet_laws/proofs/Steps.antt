@@ -1,7 +1,8 @@
 -- What a step of the coordinator does with the present round, and that no letter is of a later round.
-use Rattle.std.proofs.Common.{if◌then◌else◌, ◌≡◌, ◌≢◌, ◌⊎◌, inl, inr, ℕ, zero, suc, ◌+◌, ◌<◌, ◌≤◌, Bool, true, false, List, [], ◌∷◌, ◌++◌, length, refl, sym, ap, subst, ◌∙◌, arith, length-append}
+use Rattle.std.proofs.Common.{if◌then◌else◌, ◌≡◌, ◌≢◌, ◌⊎◌, inl, inr, ℕ, zero, suc, ◌+◌, ◌<◌, ◌≤◌, Bool, true, false, List, [], ◌∷◌, ◌++◌, refl, sym, ap, subst, ◌∙◌, arith}
 use Rattle.std.specs.Prelude.{slice_index}
 use Rattle.std.proofs.lemmas.Grind.{common_steps}
+use Rattle.pair_counters.proofs.Rows.{length_numbers}
 use Rattle.letter_types.specs.declared.bodies.Body.{Body}
 use Rattle.letter_types.specs.declared.bodies.Body.TheVariants.{Turn, Show, Sweep, AskDone, AskAsked, DoneRow, AskedRow}
 use Rattle.letter_types.specs.declared.entries.Entry.{Entry}
@@ -98,10 +99,6 @@ step_in s past e laws run timely =
     (outcome_in s past e laws run timely)
 
 -- The numbers of nodes, by place.
-pub length_numbers : (n : ℕ) (f : ℕ → ℕ) → length (numbers_of n f) ≡ n
-length_numbers zero f = refl
-length_numbers (suc n) f = omega (arith, length-append (numbers_of n f) (f n ∷ []), length_numbers n f)
-
 numbers_last : (n : ℕ) (f : ℕ → ℕ) → slice_index (numbers_of n f ++ f n ∷ []) n ≡ f n
 numbers_last n f = let len = length_numbers n f in grind (arith, common_steps)
 

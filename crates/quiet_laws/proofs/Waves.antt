@@ -224,13 +224,6 @@ set_get (y ∷ xs) (suc i) zero a x at = inr at
 set_get (y ∷ xs) (suc i) (suc j) a x at =
     elim (set_get xs i j a x at) [ inl same ↦ inl (omega (arith, same.0), same.1) | inr rest ↦ inr rest ]
 
-pub set_other : {X : Type 0} (xs : List X) (i j : ℕ) (a : X) → i ≢ j → slice_get (slice_set xs i a) j ≡ slice_get xs j
-set_other [] i j a ne = refl
-set_other (y ∷ xs) zero zero a ne = absurd (ne refl)
-set_other (y ∷ xs) zero (suc j) a ne = refl
-set_other (y ∷ xs) (suc i) zero a ne = refl
-set_other (y ∷ xs) (suc i) (suc j) a ne = set_other xs i j a (λ eq. ne (ap suc eq))
-
 pub is_in_most : (o : Option (Option (List ℕ))) → is_in o ≤ 1
 is_in_most (Some (Some row)) = omega arith
 is_in_most (Some None) = omega arith

@@ -2,6 +2,7 @@
 use Rattle.std.proofs.Common.{◌≡◌, ◌+◌, ◌/◌, ◌%◌, ◌<◌, ◌≤◌, ◌∙◌, ◌∷◌, ◌++◌, [], List, Bool, true, false, ℕ, zero, suc, refl, ap, arith}
 use Rattle.std.specs.Prelude.{◌==◌, nat_le, Ok}
 use Rattle.std.proofs.lemmas.Bool.Decides.{nat_tests}
+use Rattle.tx_trees.proofs.Stays.{advances-settle}
 use Rattle.tx_trees.specs.Adding.{adds_advance, advances_in, with_row}
 use Rattle.tx_trees.specs.ScriptData.{ScriptData}
 use Rattle.tx_trees.specs.declared.parts.ScriptRow.{ScriptRow}
@@ -42,13 +43,9 @@ few_behind seed j s now t few has made =
     = advances_in-append s.rows (rows.Tree (record { 0 = j }) ∷ []) in
     omega (arith, ap (λ (z : ScriptData). advances_in z.rows) made, all, few_in seed j s (omega arith) has)
 
--- a settle row asks for no advancement
-settle_same : (rs : List ScriptRow) → advances_in (rs ++ rows.Settle ∷ []) ≡ advances_in rs
-settle_same rs = let all : advances_in (rs ++ rows.Settle ∷ []) ≡ advances_in rs + 0 = advances_in-append rs (rows.Settle ∷ []) in omega (arith, all)
-
 -- after it, one more advancement is taken
 pub advance_taken : (s t : ScriptData) → advances_in s.rows < 100 → t ≡ with_row s rows.Settle → adds_advance t ≡ Ok (with_row t rows.Advance)
 advance_taken s t few e =
-    let count : advances_in t.rows ≡ advances_in s.rows = ap (λ (z : ScriptData). advances_in z.rows) e ∙ settle_same s.rows in
+    let count : advances_in t.rows ≡ advances_in s.rows = ap (λ (z : ScriptData). advances_in z.rows) e ∙ advances-settle s.rows in
     let less : nat_le 100 (advances_in t.rows) ≡ false = le_not 100 (advances_in t.rows) (omega (arith, count, few)) in
     rw less refl

@@ -1,8 +1,9 @@
 -- All items are taken, and each is found by its name. There are 32, so it is computed for each of them.
-use Rattle.std.proofs.Common.{◌≡◌, ◌<◌, ◌%◌, ◌∙◌, Bool, true, false, ℕ, zero, suc, length, refl, ap, arith}
+use Rattle.std.proofs.Common.{◌≡◌, ◌<◌, ◌%◌, Bool, true, false, ℕ, length, refl, ap, arith}
 use Rattle.std.specs.Prelude.{◌&&◌, ◌==◌, not, nat_le, Option, Some, None, is_some}
 use Rattle.std.specs.Fmt.{digits}
 use Rattle.std.proofs.lemmas.Bool.Decides.{nat_tests}
+use Rattle.std.proofs.lemmas.Bool.{agree_below, agree_below_at}
 use Rattle.tv_base.proofs.Truths.{left_true, right_true}
 use Rattle.tx_trees.specs.Adding.{place_of}
 use Rattle.tx_trees.specs.Names.{is_name}
@@ -11,18 +12,6 @@ use Rattle.tx_trees.specs.Ranges.{may_start}
 use Rattle.tx_trees.specs.declared.parts.Form.TheVariants as forms
 use Rattle.script_gen.specs.Generated.{item_name, item_row, items_up_to}
 use Rattle.script_gen.specs.Within.{with_items}
-
--- a test of each number below n
-abbrev all_below : ℕ → (ℕ → Bool) → Bool
-all_below zero f = true
-all_below (suc n) f = f n && all_below n f
-
-below_is : (n k : ℕ) (f : ℕ → Bool) → all_below n f ≡ true → k < n → f k ≡ true
-below_is zero k f all lt = absurd (omega arith)
-below_is (suc n) k f all lt = by (k == n) refl (λ less. below_is n k f (right_true (f n) (all_below n f) all) less) where
-  by : (b : Bool) → (k == n) ≡ b → (k < n → f k ≡ true) → f k ≡ true
-  by true e rest = let same : k ≡ n = grind (arith, nat_tests) in ap f same ∙ left_true (f n) (all_below n f) all
-  by false e rest = let less : k < n = grind (arith, nat_tests) in rest less
 
 not_true : (b : Bool) → not b ≡ true → b ≡ false
 not_true true e = absurd (cc e)
@@ -46,18 +35,18 @@ at_is (Some x) k e = let same : x ≡ k = grind (arith, nat_tests) in ap Some sa
 abbrev stands : ℕ → Bool
 stands k = is_at (place_of (item_name k) (items_up_to 32)) k
 
-all_pass : all_below 32 passes ≡ true
+all_pass : agree_below passes (λ k. true) 32 ≡ true
 unfolding digits
 all_pass = refl
 
-all_stand : all_below 32 stands ≡ true
+all_stand : agree_below stands (λ k. true) 32 ≡ true
 unfolding digits
 all_stand = refl
 
 -- item k is taken behind those before it
 pub item_may : (k : ℕ) → k < 32 → MayAddItem (with_items k) (item_row k)
 item_may k lt =
-    let all = below_is 32 k passes all_pass lt in
+    let all = agree_below_at passes (λ k. true) 32 k all_pass lt in
     let a : Bool = not (nat_le 4 (k % 4)) in
     let b : Bool = may_start forms.One (item_row k).kind (item_row k).initial in
     let c : Bool = is_name (item_name k) in
@@ -76,4 +65,4 @@ item_may k lt =
 
 -- item k is found by its name
 pub item_found : (k : ℕ) → k < 32 → place_of (item_name k) (items_up_to 32) ≡ Some k
-item_found k lt = at_is (place_of (item_name k) (items_up_to 32)) k (below_is 32 k stands all_stand lt)
+item_found k lt = at_is (place_of (item_name k) (items_up_to 32)) k (agree_below_at stands (λ k. true) 32 k all_stand lt)

@@ -6,6 +6,8 @@ use Rattle.std.proofs.lemmas.Bool.{le-leb}
 use Rattle.std.proofs.lemmas.Bool.Decides.{nat_tests}
 use Rattle.std.proofs.lemmas.Int.{ints}
 use Rattle.std.proofs.lemmas.List.Folds.{list_any-append}
+use Rattle.tx_trees.proofs.Rebuilding.{kind_row, node_row}
+use Rattle.tv_base.proofs.ByPlace.{slice_get-old}
 use Rattle.tv_base.specs.declared.numbers.NodeNo.{NodeNo}
 use Rattle.tv_base.specs.declared.numbers.SubNo.{SubNo}
 use Rattle.commute_ops.specs.declared.kinds.Kind.{Kind}
@@ -28,7 +30,7 @@ use Rattle.tx_trees.specs.declared.parts.Tree.{Tree}
 use Rattle.tx_trees.specs.declared.parts.TreeKind.{TreeKind}
 use Rattle.tx_trees.specs.declared.parts.TreeKind.TheVariants as kinds
 use Rattle.tx_trees.proofs.Last.{last_count_is, last_kind_is, last_node_is, last_sub_is, last_subs_is}
-use Rattle.tx_trees.proofs.Lists.{last_of-seam, le_not, lt_not, on_last-seam, slice_get-old, slice_get-seam, sum-push}
+use Rattle.tx_trees.proofs.Lists.{last_of-seam, le_not, lt_not, on_last-seam, slice_get-seam, sum-push}
 use Rattle.tx_trees.proofs.Totals.{all_subs-sum, load_total, op_total, put_total, strict-sum}
 use Rattle.script_gen.specs.Draws.{after_draws, given}
 use Rattle.tv_base.specs.Draws.{next_draw}
@@ -184,12 +186,6 @@ item_at (suc n) k less = by (k == n) refl (λ small. item_at n k small) where
 first_small : (b : Bool) (k : ℕ) → is_top k ≡ b → unsigned_abs (item_row k).initial ≤ 1000
 first_small true k e = rw e (omega (arith, ints))
 first_small false k e = rw e (omega (arith, ints))
-
-node_row : (items : List ItemRow) (k : ℕ) (row : ItemRow) → slice_get items k ≡ Some row → node_at k items ≡ row.node.0
-node_row items k row e = rw (e, node_at) refl
-
-kind_row : (items : List ItemRow) (k : ℕ) (row : ItemRow) → slice_get items k ≡ Some row → kind_at k items ≡ row.kind
-kind_row items k row e = rw (e, kind_at) refl
 
 load_row : (items : List ItemRow) (k : ℕ) (row : ItemRow) → slice_get items k ≡ Some row → initial_load (slice_get items k) ≡ unsigned_abs row.initial
 load_row items k row e = rw e refl

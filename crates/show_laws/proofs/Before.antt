@@ -1,5 +1,5 @@
 -- An entry of a history, with what stood before it and what came later.
-use Rattle.std.proofs.Common.{◌≡◌, ℕ, ◌+◌, List, [], ◌∷◌, ◌++◌, length, take, reverse, refl, sym, ap, ◌∙◌, arith, inl, inr, true, Option, Some}
+use Rattle.std.proofs.Common.{◌≡◌, ℕ, ◌+◌, List, [], ◌∷◌, ◌++◌, length, take, reverse, sym, ap, ◌∙◌, arith, inl, inr, Some}
 use Rattle.std.specs.Prelude.{is_some, slice_get}
 use Rattle.std.proofs.lemmas.List.{take_all, length-reverse}
 use Rattle.tv_base.specs.declared.numbers.Version.{Version}
@@ -44,9 +44,6 @@ stands (e ∷ past) n x here =
       | inr p ↦ stands_last e past n x p.0 p.1
     ]
 
-born_some : (found : Option Version) (w : Version) → found ≡ Some w → is_some found ≡ true
-born_some found w is = rw is refl
-
 -- a tree keeps its version
 pub version_kept : (past later : List Entry) (t : ℕ) (w : Version) → version_of (reverse past) t ≡ Some w
     → version_of (reverse (later ++ past)) t ≡ Some w
@@ -54,4 +51,4 @@ version_kept past [] t w born = born
 version_kept past (e ∷ later) t w born =
     let old = version_kept past later t w born in
     let xs = places_of (reverse (later ++ past)) in
-    ap (version_in t) (places_more e (later ++ past)) ∙ version_stays t xs (places_at e) (born_some (version_in t xs) w old) ∙ old
+    ap (version_in t) (places_more e (later ++ past)) ∙ version_stays t xs (places_at e) (ap is_some old) ∙ old

@@ -2,6 +2,8 @@
 use Rattle.std.proofs.Common.{if◌then◌else◌, ◌≡◌, ◌≢◌, ◌⊎◌, inl, inr, ℕ, zero, suc, ◌+◌, ◌<◌, ◌≤◌, ◌==◌, ◌&&◌, not, Bool, true, false, List, [], ◌∷◌, length, replicate, set, refl, sym, ap, subst, ◌∙◌, arith, Option, Some, None}
 use Rattle.std.specs.Prelude.{nat_lt}
 use Rattle.std.proofs.lemmas.Bool.Decides.{nat_tests}
+use Rattle.std.proofs.lemmas.Bool.{eqb-true}
+use Rattle.pair_counters.proofs.Rows.{length_numbers}
 use Rattle.tv_base.specs.declared.numbers.Version.{Version}
 use Rattle.phase_out.specs.Rounds.{Kept, RoundData, all_in, is_of}
 use Rattle.pair_counters.specs.Numbers.{numbers_of}
@@ -27,7 +29,6 @@ use Rattle.phase_laws.proofs.Current.{IsCurrent, current}
 use Rattle.phase_laws.proofs.Outcomes.{asked_kept, round_begun}
 use Rattle.phase_laws.proofs.Small.{outcome_in}
 use Rattle.stall_laws.proofs.Course.{Course, Leaves, Starts, Holds, Lasts, TakesDone, TakesMore, Denies, NoDone, Refused, course, outside_counting}
-use Rattle.quiet_laws.proofs.Steps.{length_numbers}
 use Rattle.quiet_laws.proofs.Silence.{below_or_at}
 
 -- the first wave's or the second wave's question to node q, or q's answer
@@ -248,16 +249,13 @@ heard_holds s past e c d nodes was same refused flow =
 other_row : (a b c d : Bool) (q from : ℕ) → (from == q) ≡ false → one_if (a && (b && (c && ((from == q) && d)))) ≡ 0
 other_row a b c d q from ne = grind (arith, nat_tests)
 
-same_by : (a b : ℕ) → (a == b) ≡ true → a ≡ b
-same_by a b is = grind (arith, nat_tests)
-
 -- a row that is kept
 kept_first : (v r q from t t' m : ℕ) (w : Version) (k : ℕ) (row : List ℕ) (ks : Kept) (n : ℕ) → from < length ks
     → (b : Bool) → (from == q) ≡ b → 1 ≤ t + is_kept ks q
     → t' + wave false v r q n from m (DoneRow w k row) ≡ t + 0 → 1 ≤ t' + is_kept (set ks from (Some row)) q
 kept_first v r q from t t' m w k row ks n lt true is was goes =
     let here : is_kept (set ks from (Some row)) q ≡ 1 =
-    subst (λ (x : ℕ). is_kept (set ks from (Some row)) x ≡ 1) (same_by from q is) (put_there ks from row lt) in
+    subst (λ (x : ℕ). is_kept (set ks from (Some row)) x ≡ 1) (eqb-true from q is) (put_there ks from row lt) in
     omega (arith, here)
 kept_first v r q from t t' m w k row ks n lt false is was goes =
     omega (arith, was, goes, put_more ks from row q, other_row true (w.0 == v) (k == r) (length row == n) q from is)
@@ -267,7 +265,7 @@ kept_second : (v r q from t t' m : ℕ) (w : Version) (k : ℕ) (row : List ℕ)
     → t' + wave true v r q n from m (AskedRow w k row) ≡ t + 0 → 1 ≤ t' + is_kept (set ks from (Some row)) q
 kept_second v r q from t t' m w k row ks n lt true is was goes =
     let here : is_kept (set ks from (Some row)) q ≡ 1 =
-    subst (λ (x : ℕ). is_kept (set ks from (Some row)) x ≡ 1) (same_by from q is) (put_there ks from row lt) in
+    subst (λ (x : ℕ). is_kept (set ks from (Some row)) x ≡ 1) (eqb-true from q is) (put_there ks from row lt) in
     omega (arith, here)
 kept_second v r q from t t' m w k row ks n lt false is was goes =
     omega (arith, was, goes, put_more ks from row q, other_row true (w.0 == v) (k == r) (length row == n) q from is)

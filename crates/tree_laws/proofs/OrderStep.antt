@@ -1,7 +1,8 @@
 -- An entry of the coordinator, or one in which a node obeys it, keeps what holds.
-use Rattle.std.proofs.Common.{◌≡◌, ◌≢◌, ◌⊎◌, inl, inr, ℕ, zero, suc, ◌<◌, Bool, true, false, List, [], ◌∷◌, length, refl, sym, ap, subst, ◌∙◌, arith, length-append}
+use Rattle.std.proofs.Common.{◌≡◌, ◌≢◌, ◌⊎◌, inl, inr, ℕ, ◌<◌, Bool, true, false, List, ◌∷◌, length, refl, sym, ap, subst, ◌∙◌, arith}
 use Rattle.std.proofs.lemmas.Bool.{cases_eq}
 use Rattle.std.specs.Prelude.{nat_lt}
+use Rattle.pair_counters.proofs.Rows.{length_numbers}
 use Rattle.tv_base.specs.declared.numbers.Version.{Version}
 use Rattle.item_versions.specs.Table.{Table}
 use Rattle.letter_types.specs.declared.acts.Act.{Act}
@@ -222,11 +223,6 @@ turn_acts : (f : Act → ℕ) → ActsOfNone f → (raises : Bool) (v : ℕ) →
 turn_acts f h true v = omega (arith, h.turned (record { 0 = v }))
 turn_acts f h false v = refl
 
--- a row has a number for each node
-pub row_places : (n : ℕ) (f : ℕ → ℕ) → length (numbers_of n f) ≡ n
-row_places zero f = refl
-row_places (suc n) f = omega (arith, length-append (numbers_of n f) (f n ∷ []), row_places n f)
-
 answers : (s : ScriptData) (p : ℕ) (st : Node) (body : Body) (out : Out Node) → Order s st body out → Answers s p st body out
 answers s p st body out (Turns v is row) = subst (λ (o : Out Node). Answers s p st body o) (sym row) (record {
   took = λ f h. ap f is ∙ h.turn v;
@@ -258,7 +254,7 @@ answers s p st body out (TellsDone v k is row) = subst (λ (o : Out Node). Answe
   acts = λ f h. refl;
   homes = refl;
   items = λ most ok. ok;
-  fits = λ from lt. ((λ i. (lt, refl, row_places s.nodes (st.counts.done v.0))), tt);
+  fits = λ from lt. ((λ i. (lt, refl, length_numbers s.nodes (st.counts.done v.0))), tt);
 })
 answers s p st body out (TellsAsked v k is row) = subst (λ (o : Out Node). Answers s p st body o) (sym row) (record {
   took = λ f h. ap f is ∙ h.ask_asked v k;
@@ -266,7 +262,7 @@ answers s p st body out (TellsAsked v k is row) = subst (λ (o : Out Node). Answ
   acts = λ f h. refl;
   homes = refl;
   items = λ most ok. ok;
-  fits = λ from lt. ((λ i. (lt, refl, row_places s.nodes (st.counts.asked v.0))), tt);
+  fits = λ from lt. ((λ i. (lt, refl, length_numbers s.nodes (st.counts.asked v.0))), tt);
 })
 
 obeys_items : (s : ScriptData) (past : List Entry) (e : Entry) (p : ℕ) (out : Out Node) → e.actor.0 ≡ p → Made s past e p out

@@ -167,9 +167,6 @@ raises_none s t k st v raises effect first most (SubUpdates up is can made) =
     is ∙ above_none st.turns.update.0 v.0 (ap (λ (u : Turns). u.update.0) first) most
 raises_none s t k st v raises effect first most (SubReads up is can made) = is
 
-raised_same : (raises : Bool) (v : ℕ) (turns : Turns) → raises ≡ false → raised_if raises v turns ≡ turns
-raised_same raises v turns none = rw none refl
-
 -- while the coordinator has nothing to do, a nudge changes nothing
 idle_row : (s : ScriptData) (past : List Entry) (e : Entry) → coordinator_in s past ≡ start_coordinator s.nodes → e.took.body ≡ Nudge
     → coordinator_table (coordinator_in s past) e.took ≡ still (start_coordinator s.nodes)
@@ -259,7 +256,8 @@ sub_keeps : (s : ScriptData) (past : List Entry) (e : Entry) (t : TreeNo) (k : S
 sub_keeps s past e t k v raises effect calm most at lt work made =
     let p = node_of s t.0 k.0 in
     let st = node_in s past p in
-    let same = raised_same raises v.0 st.turns (raises_none s t.0 k.0 st v raises effect (calm.turns p lt) most work) in
+    let same : raised_if raises v.0 st.turns ≡ st.turns =
+        ap (λ (b : Bool). raised_if b v.0 st.turns) (raises_none s t.0 k.0 st v raises effect (calm.turns p lt) most work) in
     record {
       sent = subst (λ os. CalmSent os) (sym made.sent)
           (each_append (λ (o : Outgoing). (i : LetterId) → CalmBody o.body) (sub_letters t.0 v.0 k.0 0 (subs_at s t.0))

@@ -1,6 +1,6 @@
 -- Tests that hold: of a number and itself, and each of two where both do.
-use Rattle.std.proofs.Common.{◌≡◌, ◌==◌, ◌&&◌, ℕ, Bool, true, refl}
-use Rattle.std.proofs.lemmas.Bool.{and_parts, eq-eqb}
+use Rattle.std.proofs.Common.{◌≡◌, ◌≤◌, ◌==◌, ◌&&◌, nat_le, ℕ, Bool, true, refl}
+use Rattle.std.proofs.lemmas.Bool.{and_parts, eq-eqb, leb-true}
 
 pub same_test : (n : ℕ) → (n == n) ≡ true
 same_test n = eq-eqb n n refl
@@ -10,3 +10,7 @@ left_true a b is = (and_parts a b is).0
 
 pub right_true : (a b : Bool) → (a && b) ≡ true → b ≡ true
 right_true a b is = (and_parts a b is).1
+
+-- the first of two tests, of a number that is at most another
+pub at_most : (m most : ℕ) (b : Bool) → (nat_le m most && b) ≡ true → m ≤ most
+at_most m most b is = leb-true m most (left_true (nat_le m most) b is)

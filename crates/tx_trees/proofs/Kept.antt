@@ -7,6 +7,7 @@ use Rattle.std.proofs.Math.ListN.{set, get_or-append}
 use Rattle.std.proofs.Math.Seq.{get_or-append_seam}
 use Rattle.std.proofs.lemmas.List.{get_or-set_other, get_or-set_same, get_or_default, length-set, map-append}
 use Rattle.std.proofs.lemmas.Bool.{cases_eq, cases_lt}
+use Rattle.tv_base.proofs.ByPlace.{slice_get-old}
 use Rattle.tv_base.specs.declared.numbers.NodeNo.{NodeNo}
 use Rattle.tv_base.specs.declared.numbers.TreeNo.{TreeNo}
 use Rattle.commute_ops.specs.declared.kinds.Op.TheVariants as ops
@@ -29,7 +30,7 @@ use Rattle.tx_trees.specs.Inside.{IsKept, data_of}
 use Rattle.tx_trees.specs.Passing.{MayAddItem, MayAddOp, MayAddSub, MayAddTree}
 use Rattle.tx_trees.specs.ScriptData.{ScriptData}
 use Rattle.tx_trees.specs.Valid.{IsValid, initial_load, item_names, load, tree_names, trees_load}
-use Rattle.tx_trees.proofs.Lists.{slice_get-old, slice_get-seam, sum-push}
+use Rattle.tx_trees.proofs.Lists.{slice_get-seam, sum-push}
 use Rattle.tx_trees.proofs.Stays.{advances-advance, advances-lose, advances-settle, advances-tree, loses-push, names-on_last, some_last_subs, trees_before, valid_item, valid_op, valid_row, valid_sub, valid_tree, valid_upgraded}
 use Rattle.tx_trees.proofs.Totals.{all_subs-sum, load_other, load_same, load_total, op_total, put_other, put_same, put_total, strict-op, strict-sub, strict-sum, subs-op, subs-sub, total-op, total-sub, total-tree, update-op, update-sub, update-sum}
 

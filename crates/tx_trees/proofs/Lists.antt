@@ -1,8 +1,7 @@
 -- Lists that grow at their end, or whose last is changed: what holds of all, what is distinct, and what is a sum.
-use Rattle.std.proofs.Common.{◌≡◌, ◌<◌, ◌≤◌, ◌+◌, ℕ, Bool, true, false, List, [], ◌∷◌, ◌++◌, length, refl, sym, ap, ◌∙◌, subst, arith, length-append}
+use Rattle.std.proofs.Common.{◌≡◌, ◌<◌, ◌≤◌, ◌+◌, ℕ, Bool, true, false, List, [], ◌∷◌, ◌++◌, length, refl, ap, ◌∙◌, subst, arith, length-append}
 use Rattle.std.specs.Prelude.{◌||◌, nat_le, nat_lt, Option, Some, None, slice_get}
 use Rattle.std.specs.List.{AllByRecursion, IsDistinct, list_any}
-use Rattle.std.proofs.Math.ListN.{get_or-append}
 use Rattle.std.proofs.Math.Seq.{get_or-append_seam}
 use Rattle.std.proofs.lemmas.Option.{slice_get-get_or}
 use Rattle.std.proofs.lemmas.Grind.{common_steps}
@@ -32,12 +31,6 @@ pub lt_not : (a b : ℕ) → b ≤ a → nat_lt a b ≡ false
 lt_not a b le = grind (arith, common_steps)
 
 -- places
-
-pub slice_get-old : {A : Type 0} (xs ys : List A) (k : ℕ) → k < length xs → slice_get (xs ++ ys) k ≡ slice_get xs k
-slice_get-old [] ys k lt = absurd (omega arith)
-slice_get-old (x ∷ xs) ys k lt =
-    let more : k < length (x ∷ xs ++ ys) = omega (arith, length-append (x ∷ xs) ys) in
-    slice_get-get_or (x ∷ xs ++ ys) k x more ∙ ap Some (get_or-append (x ∷ xs) ys x k lt) ∙ sym (slice_get-get_or (x ∷ xs) k x lt)
 
 pub slice_get-seam : {A : Type 0} (xs ys : List A) (y : A) → slice_get (xs ++ y ∷ ys) (length xs) ≡ Some y
 slice_get-seam xs ys y =

@@ -130,11 +130,11 @@ row_of : (kind : TreeKind) (node : ℕ) (o : SubOp) (found : Option ItemRow) →
 row_of kind node o None h = absurd h
 row_of kind node o (Some row) h = (row, (refl, h.0, h.1))
 
-node_is : (items : List ItemRow) (k : ℕ) (row : ItemRow) → slice_get items k ≡ Some row → node_at k items ≡ row.node.0
-node_is items k row e = rw (e, node_at) refl
+pub node_row : (items : List ItemRow) (k : ℕ) (row : ItemRow) → slice_get items k ≡ Some row → node_at k items ≡ row.node.0
+node_row items k row e = rw (e, node_at) refl
 
-kind_is : (items : List ItemRow) (k : ℕ) (row : ItemRow) → slice_get items k ≡ Some row → kind_at k items ≡ row.kind
-kind_is items k row e = rw (e, kind_at) refl
+pub kind_row : (items : List ItemRow) (k : ℕ) (row : ItemRow) → slice_get items k ≡ Some row → kind_at k items ≡ row.kind
+kind_row items k row e = rw (e, kind_at) refl
 
 name_is : (items : List ItemRow) (k : ℕ) (row : ItemRow) → slice_get items k ≡ Some row → name_at k items ≡ row.name
 name_is items k row e = rw (e, name_at) refl
@@ -194,8 +194,8 @@ module _ (s : ScriptData) (h : IsValid s) where
       let within = op_within s.items kind x.node.0 o here in
       let last : last_of ts ≡ Some u = last_of-seam T u in
       let its_sub : last_sub ts ≡ Some (cut x O) = last_sub_is ts u (cut x O) last (last_of-seam S (cut x O)) in
-      let node : node_at k s.items ≡ last_node ts = node_is s.items k row.0 row.1.0 ∙ row.1.1 ∙ sym (last_node_is ts (cut x O) its_sub) in
-      let its_kind = kind_is s.items k row.0 row.1.0 in
+      let node : node_at k s.items ≡ last_node ts = node_row s.items k row.0 row.1.0 ∙ row.1.1 ∙ sym (last_node_is ts (cut x O) its_sub) in
+      let its_kind = kind_row s.items k row.0 row.1.0 in
       let fits : deed_fits (last_kind ts) (kind_at k s.items) o.deed ≡ true =
       ap (λ (q : TreeKind). deed_fits q (kind_at k s.items) o.deed) (last_kind_is ts u last) ∙ ap (λ (q : Kind). deed_fits kind q o.deed) its_kind ∙ row.1.2 in
       let count = last_count_is ts (cut x O) its_sub in

@@ -1,13 +1,15 @@
 -- A script stays valid when a record that meets no condition of refusal is added.
 use Rattle.std.proofs.Common.{◌≡◌, ◌<◌, ◌≤◌, ◌+◌, ◌*◌, ℕ, Bool, true, false, List, [], ◌∷◌, ◌++◌, length, map, refl, sym, ap, ◌∙◌, subst, arith, length-append, inl, inr, append_assoc}
-use Rattle.std.specs.Prelude.{◌==◌, ◌&&◌, ◌||◌, not, if◌then◌else◌, IsTrue, Option, Some, None, nat_eq, nat_le, nat_lt, slice_get, unsigned_abs}
+use Rattle.std.specs.Prelude.{◌&&◌, ◌||◌, not, if◌then◌else◌, IsTrue, Option, Some, None, nat_eq, nat_le, nat_lt, slice_get, unsigned_abs}
 use Rattle.std.specs.List.{AllByRecursion, IsDistinct, list_any}
 use Rattle.std.specs.Str.{bytes_eq}
-use Rattle.std.proofs.lemmas.Bool.{cases_eq, cases_lt}
+use Rattle.std.proofs.lemmas.Bool.{cases_eq, cases_lt, eqb-true}
 use Rattle.std.proofs.lemmas.Cmp.{nat_eq_equiv, nat_list_eq_equiv}
 use Rattle.std.proofs.lemmas.Grind.{common_steps}
 use Rattle.std.proofs.lemmas.List.{append-nil, map-append}
 use Rattle.std.proofs.lemmas.Option.{slice_get_cases}
+use Rattle.tv_base.proofs.ByPlace.{slice_get-old}
+use Rattle.tv_base.proofs.Truths.{at_most}
 use Rattle.commute_ops.specs.declared.kinds.Kind.{Kind}
 use Rattle.commute_ops.specs.declared.kinds.Kind.TheVariants as kinds
 use Rattle.commute_ops.specs.declared.kinds.TheConstants.{MOST_AMOUNT}
@@ -34,7 +36,7 @@ use Rattle.tx_trees.specs.declared.parts.TreeKind.{TreeKind}
 use Rattle.tx_trees.specs.declared.parts.TreeKind.TheVariants as trees
 use Rattle.tx_trees.specs.declared.parts.Written.{Written}
 use Rattle.tx_trees.proofs.Last.{last_count_is, last_kind_is, last_node_is, last_sub_is, last_subs_is, length-on_last}
-use Rattle.tx_trees.proofs.Lists.{all-last, all-on_last, all-push, all-weaker, distinct-push, last_of-on_last, last_of-seam, last_some, not_le, not_lt, on_last-seam, or_left, or_right, slice_get-old, slice_get-seam, split_last, sum-push}
+use Rattle.tx_trees.proofs.Lists.{all-last, all-on_last, all-push, all-weaker, distinct-push, last_of-on_last, last_of-seam, last_some, not_le, not_lt, on_last-seam, or_left, or_right, slice_get-seam, split_last, sum-push}
 use Rattle.tx_trees.proofs.Named.{any-map, has_item, has_tree}
 use Rattle.tx_trees.proofs.Totals.{all_subs-sum, load_other, load_same, load_total, op_total, put_other, put_same, put_total, strict-op, strict-sub, strict-sum, subs-op, subs-sub, total-op, total-sub, total-tree, update-op, update-sub, update-sum}
 
@@ -278,9 +280,6 @@ most_amount-small forms.Two = omega arith
 pub most_nodes-small : (f : Form) → most_nodes f ≤ 64
 most_nodes-small forms.One = omega arith
 most_nodes-small forms.Two = omega arith
-
-pub at_most : (m most : ℕ) (b : Bool) → (nat_le m most && b) ≡ true → m ≤ most
-at_most m most b e = grind (arith, common_steps)
 
 and_so : (m most : ℕ) (b : Bool) → most ≤ MOST_AMOUNT → (nat_le m most && b) ≡ true → (nat_le m MOST_AMOUNT && b) ≡ true
 and_so m most b le e = grind (arith, common_steps)
@@ -534,9 +533,6 @@ untouched_strict kind b e h = subst (λ (k : TreeKind). (is_strict k && b) ≡ f
 same_item : (k : ℕ) (ss : List Sub) → list_any (nat_eq k) (items_of ss) ≡ touch k ss
 same_item k ss = any-map (nat_eq k) (λ (o : SubOp). o.item.0) (λ o. nat_eq o.item.0 k) (λ o. nat_eq_equiv.symm k o.item.0) (ops_in ss)
 
-is_same : (a b : ℕ) → (a == b) ≡ true → a ≡ b
-is_same a b e = grind (arith, common_steps)
-
 -- what is in a form's range is in the wider one
 wider : (f : Form) (deed : Deed) → is_in_range f deed ≡ true → is_in_range forms.Two deed ≡ true
 wider f deed e = and_so (magnitude deed) (most_amount f) (not (draws_negative deed)) (most_amount-small f) e
@@ -546,7 +542,7 @@ valid_op s k deed may h =
     let o : SubOp = record { item = record { 0 = k }; deed = deed } in
     let some = h.begun may.begun in
     let left = ops_left k deed s.trees may.room in
-    let node = is_same (node_at k s.items) (last_node s.trees) may.node in
+    let node = eqb-true (node_at k s.items) (last_node s.trees) may.node in
     let small = not_lt (most_amount s.form) (load k s + magnitude deed) may.load in
     let root = some_last_subs s.nodes s.items s.trees h.trees some in
     let len = length-on_last (on_last_sub (push_op o)) s.trees in

@@ -1,10 +1,11 @@
 -- A script stays valid when its last tree fails and its undone form takes its place.
-use Rattle.std.proofs.Common.{◌≡◌, ◌<◌, ◌≤◌, ◌+◌, ◌*◌, ℕ, zero, suc, Bool, true, false, List, [], ◌∷◌, ◌++◌, length, map, get_or, refl, sym, ap, ◌∙◌, subst, arith, inl, inr}
-use Rattle.std.specs.Prelude.{◌==◌, ◌&&◌, ◌||◌, not, if◌then◌else◌, IsTrue, Option, Some, None, nat_lt}
+use Rattle.std.proofs.Common.{◌≡◌, ◌<◌, ◌≤◌, ◌+◌, ◌*◌, ℕ, zero, suc, Bool, true, false, List, [], ◌∷◌, ◌++◌, length, map, get_or, refl, sym, ap, ◌∙◌, subst, arith, length-append, inl, inr}
+use Rattle.std.specs.Prelude.{◌==◌, ◌||◌, not, if◌then◌else◌, IsTrue, Option, Some, None, nat_lt, slice_get}
 use Rattle.std.specs.List.{AllByRecursion, IsDistinct, list_any}
 use Rattle.std.specs.Str.{bytes_eq}
-use Rattle.std.proofs.lemmas.Bool.{cases_eq, or_from}
+use Rattle.std.proofs.lemmas.Bool.{and_from, cases_eq, or_from}
 use Rattle.std.proofs.lemmas.Grind.{common_steps}
+use Rattle.tv_base.proofs.Truths.{at_most, left_true, right_true}
 use Rattle.commute_ops.specs.declared.kinds.Op.TheVariants as ops
 use Rattle.tx_trees.specs.Adding.{any_from, are_crowded, are_many, failed_tree, is_heavy, last_may_fail, last_of, last_subs, last_tree_subs, may_fail, on_last, with_failed}
 use Rattle.tx_trees.specs.Counts.{all_ops, all_subs, if_update, one_put, one_strict, ops_puts, strict_trees, subs_ops, subs_puts, trees_puts, update_subs}
@@ -35,24 +36,12 @@ use Rattle.tx_trees.specs.declared.parts.TreeKind.{TreeKind}
 use Rattle.tx_trees.specs.declared.parts.TreeKind.TheVariants as trees
 use Rattle.tx_trees.specs.declared.parts.Written.{Written}
 use Rattle.tx_trees.proofs.Last.{last_at, last_subs_is, length-on_last, on_last_is}
-use Rattle.tx_trees.proofs.Lists.{last_weight, all-last, all-on_last, all-weaker, last_of-on_last, last_of-seam, last_some, lt_not, not_lt, or_left, or_right, split_last, sum-replaced}
-use Rattle.tx_trees.proofs.Stays.{at_most, failed-last, last_written_is, most_amount-small, names-on_last, op_within}
+use Rattle.tx_trees.proofs.Lists.{IsSum, last_weight, all-last, all-on_last, all-weaker, last_of-on_last, last_of-seam, last_some, lt_not, not_lt, or_left, or_right, split_last, sum-replaced}
+use Rattle.tx_trees.proofs.Stays.{failed-last, last_written_is, most_amount-small, names-on_last, op_within}
 use Rattle.tx_trees.proofs.Totals.{all_subs-sum, load_total, op_load, op_total, put_total, strict-sum, update-sum}
 use Rattle.tx_trees.proofs.UndoneTrees.{undone_some, undone_valid}
 
 -- tests
-
-and_front : (a b : Bool) → (a && b) ≡ true → a ≡ true
-and_front true b e = refl
-and_front false b e = absurd cc
-
-and_back : (a b : Bool) → (a && b) ≡ true → b ≡ true
-and_back true b e = e
-and_back false b e = absurd cc
-
-and_both : (a b : Bool) → a ≡ true → b ≡ true → (a && b) ≡ true
-and_both true b e f = f
-and_both false b e f = absurd cc
 
 -- of numbers from k on none passes a test, or each fails it
 pub any_none : (p : ℕ → Bool) (k n i : ℕ) → any_from p k n ≡ false → k ≤ i → i < k + n → p i ≡ false
@@ -83,18 +72,18 @@ pub last_tree_subs_is : (ts : List Tree) (t : Tree) → last_of ts ≡ Some t �
 last_tree_subs_is ts t e = rw (e, last_tree_subs) refl
 
 pub may_fail_is : (t : Tree) → t.kind ≡ trees.Update → subs_add t.subs ≡ true → may_fail t ≡ true
-may_fail_is t e adds = and_both (is_update t.kind) (subs_add t.subs) (ap is_update e) adds
+may_fail_is t e adds = and_from (is_update t.kind) (subs_add t.subs) (ap is_update e) adds
 
-only_update : (k : TreeKind) → is_update k ≡ true → k ≡ trees.Update
+pub only_update : (k : TreeKind) → is_update k ≡ true → k ≡ trees.Update
 only_update trees.Update e = refl
 only_update trees.Read e = absurd cc
 only_update trees.Strict e = absurd cc
 
 pub fails_update : (t : Tree) → may_fail t ≡ true → t.kind ≡ trees.Update
-fails_update t e = only_update t.kind (and_front (is_update t.kind) (subs_add t.subs) e)
+fails_update t e = only_update t.kind (left_true (is_update t.kind) (subs_add t.subs) e)
 
 pub fails_adds : (t : Tree) → may_fail t ≡ true → subs_add t.subs ≡ true
-fails_adds t e = and_back (is_update t.kind) (subs_add t.subs) e
+fails_adds t e = right_true (is_update t.kind) (subs_add t.subs) e
 
 -- limits
 
@@ -141,15 +130,15 @@ none_here false n e = refl
 ops_no_put : (x : ℕ) (os : List SubOp) → ops_add os ≡ true → ops_puts x os ≡ 0
 ops_no_put x [] e = refl
 ops_no_put x (o ∷ os) e =
-    omega (arith, none_here (o.item.0 == x) (one_put o.deed) (add_no_put o.deed (and_front (is_add o.deed) (ops_add os) e)), ops_no_put x os (and_back (is_add o.deed) (ops_add os) e))
+    omega (arith, none_here (o.item.0 == x) (one_put o.deed) (add_no_put o.deed (left_true (is_add o.deed) (ops_add os) e)), ops_no_put x os (right_true (is_add o.deed) (ops_add os) e))
 
 pub subs_no_put : (x : ℕ) (ss : List Sub) → subs_add ss ≡ true → subs_puts x ss ≡ 0
 subs_no_put x [] e = refl
-subs_no_put x (s ∷ ss) e = omega (arith, ops_no_put x s.ops (and_front (ops_add s.ops) (subs_add ss) e), subs_no_put x ss (and_back (ops_add s.ops) (subs_add ss) e))
+subs_no_put x (s ∷ ss) e = omega (arith, ops_no_put x s.ops (left_true (ops_add s.ops) (subs_add ss) e), subs_no_put x ss (right_true (ops_add s.ops) (subs_add ss) e))
 
 adds-append : (xs ys : List Sub) → subs_add xs ≡ true → subs_add ys ≡ true → subs_add (xs ++ ys) ≡ true
 adds-append [] ys e f = f
-adds-append (x ∷ xs) ys e f = and_both (ops_add x.ops) (subs_add (xs ++ ys)) (and_front (ops_add x.ops) (subs_add xs) e) (adds-append xs ys (and_back (ops_add x.ops) (subs_add xs) e) f)
+adds-append (x ∷ xs) ys e f = and_from (ops_add x.ops) (subs_add (xs ++ ys)) (left_true (ops_add x.ops) (subs_add xs) e) (adds-append xs ys (right_true (ops_add x.ops) (subs_add xs) e) f)
 
 negated_adds : (d : Deed) → is_add d ≡ true → is_add (negated_deed d) ≡ true
 negated_adds (deeds.Apply (ops.Add a)) e = refl
@@ -162,7 +151,7 @@ negated_adds (deeds.Draw a) e = e
 all_negated : (os : List SubOp) → ops_add os ≡ true → ops_add (map negated os) ≡ true
 all_negated [] e = refl
 all_negated (o ∷ os) e =
-    and_both (is_add (negated_deed o.deed)) (ops_add (map negated os)) (negated_adds o.deed (and_front (is_add o.deed) (ops_add os) e)) (all_negated os (and_back (is_add o.deed) (ops_add os) e))
+    and_from (is_add (negated_deed o.deed)) (ops_add (map negated os)) (negated_adds o.deed (left_true (is_add o.deed) (ops_add os) e)) (all_negated os (right_true (is_add o.deed) (ops_add os) e))
 
 left_adds : (b : Bool) (os : List SubOp) → ops_add os ≡ true → ops_add (if b then [] else os) ≡ true
 left_adds true os e = refl
@@ -170,25 +159,25 @@ left_adds false os e = e
 
 if_none : (b : Bool) (x : Sub) → ops_add x.ops ≡ true → subs_add (if b then [] else x ∷ []) ≡ true
 if_none true x e = refl
-if_none false x e = and_both (ops_add x.ops) true e refl
+if_none false x e = and_from (ops_add x.ops) true e refl
 
 if_some : (b : Bool) (x : Sub) → ops_add x.ops ≡ true → subs_add (if b then x ∷ [] else []) ≡ true
-if_some true x e = and_both (ops_add x.ops) true e refl
+if_some true x e = and_from (ops_add x.ops) true e refl
 if_some false x e = refl
 
 staying_adds : (failed : ℕ) (goes : List Bool) (k : ℕ) (ss : List Sub) → subs_add ss ≡ true → subs_add (staying_from failed goes k ss) ≡ true
 staying_adds failed goes k [] e = refl
 staying_adds failed goes k (s ∷ ss) e =
     adds-append (stays failed goes k s) (staying_from failed goes (k + 1) ss)
-    (if_none (get_or goes k false) (staying failed goes k s) (left_adds (k == failed) s.ops (and_front (ops_add s.ops) (subs_add ss) e)))
-    (staying_adds failed goes (k + 1) ss (and_back (ops_add s.ops) (subs_add ss) e))
+    (if_none (get_or goes k false) (staying failed goes k s) (left_adds (k == failed) s.ops (left_true (ops_add s.ops) (subs_add ss) e)))
+    (staying_adds failed goes (k + 1) ss (right_true (ops_add s.ops) (subs_add ss) e))
 
 inverses_add : (failed : ℕ) (goes : List Bool) (k : ℕ) (ss : List Sub) → subs_add ss ≡ true → subs_add (inverses_from failed goes k ss) ≡ true
 inverses_add failed goes k [] e = refl
 inverses_add failed goes k (s ∷ ss) e =
     adds-append (undoes failed goes k s) (inverses_from failed goes (k + 1) ss)
-    (if_some (is_undone failed goes k s) (inverse failed goes s) (all_negated s.ops (and_front (ops_add s.ops) (subs_add ss) e)))
-    (inverses_add failed goes (k + 1) ss (and_back (ops_add s.ops) (subs_add ss) e))
+    (if_some (is_undone failed goes k s) (inverse failed goes s) (all_negated s.ops (left_true (ops_add s.ops) (subs_add ss) e)))
+    (inverses_add failed goes (k + 1) ss (right_true (ops_add s.ops) (subs_add ss) e))
 
 pub undone_adds : (ss : List Sub) (failed : ℕ) → subs_add ss ≡ true → subs_add (undone ss failed) ≡ true
 undone_adds ss failed e =

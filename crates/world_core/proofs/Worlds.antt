@@ -1,10 +1,12 @@
 -- A step of an actor makes the next world.
-use Rattle.std.proofs.Common.{◌≡◌, ◌≢◌, ℕ, suc, zero, ◌+◌, ◌*◌, ◌<◌, ◌≤◌, ◌==◌, Bool, true, false, List, [], ◌∷◌, ◌++◌, length, reverse, Some, refl, sym, ap, ◌∙◌, subst, arith}
+use Rattle.std.proofs.Common.{◌≡◌, ◌≢◌, ℕ, ◌+◌, ◌*◌, ◌<◌, ◌≤◌, ◌==◌, Bool, true, false, List, [], ◌∷◌, ◌++◌, length, reverse, Some, refl, sym, ap, ◌∙◌, subst, arith}
 use Rattle.std.specs.Prelude.{nat_lt, slice_get, slice_set}
 use Rattle.std.specs.List.{remove}
 use Rattle.std.proofs.lemmas.Bool.Decides.{nat_tests}
 use Rattle.std.proofs.lemmas.List.{length-reverse, reverse-append}
 use Rattle.std.proofs.Math.ListN.{length-set}
+use Rattle.std.proofs.lemmas.Option.{same_Some}
+use Rattle.tv_base.proofs.ByPlace.{get_set_other, get_set_same}
 use Rattle.tv_base.proofs.Truths.{same_test}
 use Rattle.letter_types.specs.declared.acts.Act.{Act}
 use Rattle.letter_types.specs.declared.bodies.Body.{Body}
@@ -117,21 +119,6 @@ others_by s past e a false true is at lt ne =
     let no : (e.actor.0 == s.nodes) ≡ false = grind (arith, nat_tests) in rw (is, at, no) refl
 others_by s past e a false false is at lt ne = let no : (e.actor.0 == client_of s) ≡ false = grind (arith, nat_tests) in rw (is, at, no) refl
 
-get_set_same : {X : Type 0} (xs : List X) (i : ℕ) (v : X) → i < length xs → slice_get (slice_set xs i v) i ≡ Some v
-get_set_same [] i v lt = absurd (omega arith)
-get_set_same (x ∷ xs) zero v lt = refl
-get_set_same (x ∷ xs) (suc i) v lt = get_set_same xs i v (omega arith)
-
-get_set_other : {X : Type 0} (xs : List X) (i j : ℕ) (v : X) → i ≢ j → slice_get (slice_set xs i v) j ≡ slice_get xs j
-get_set_other [] i j v ne = refl
-get_set_other (x ∷ xs) zero zero v ne = absurd (ne refl)
-get_set_other (x ∷ xs) zero (suc j) v ne = refl
-get_set_other (x ∷ xs) (suc i) zero v ne = refl
-get_set_other (x ∷ xs) (suc i) (suc j) v ne = get_set_other xs i j v (λ is. ne (ap suc is))
-
-some_is : {X : Type 0} (x y : X) → Some x ≡ Some y → x ≡ y
-some_is x y is = cc
-
 -- what a step takes and gives: the addressee's state before and after, what it sent and did, and the bag then
 pub record Stepped (s : ScriptData) (w : WorldData) (k : ℕ) (l : Letter) (out : StepOut) (next : List ActorState) (left : List Letter) : Type 0 where
   pub letter : slice_get w.bag k ≡ Some l
@@ -178,7 +165,7 @@ state_next s past l stamp sent acts old after st a count to states row script at
     let eq : l.to.0 ≡ a = grind (arith, nat_tests) in
     let here : slice_get (slice_set old l.to.0 after) a ≡ Some after =
     subst (λ (n : ℕ). slice_get (slice_set old l.to.0 after) n ≡ Some after) eq (get_set_same old l.to.0 after (omega arith)) in
-    let same : after ≡ st = some_is after st (sym here ∙ at) in
+    let same : after ≡ st = same_Some after st (sym here ∙ at) in
     subst (λ (y : ActorState). IsStateOf s (entry_of stamp l sent acts ∷ past) a y) same (record {
       seen = subst (λ (n : ℕ). data_of after ≡ actor_in s (entry_of stamp l sent acts ∷ past) n) eq
           (row ∙ state_by s past l stamp sent acts (nat_lt l.to.0 s.nodes) (l.to.0 == s.nodes) refl refl to);

@@ -2,6 +2,7 @@
 use Rattle.std.proofs.Common.{◌≡◌, ◌⊎◌, inl, inr, ℕ, zero, suc, ◌+◌, ◌<◌, ◌≤◌, true, false, List, [], ◌∷◌, length, refl, ap, subst, arith, Some}
 use Rattle.std.specs.Prelude.{IsTrue, slice_get, unsigned_abs}
 use Rattle.std.specs.List.{AllByRecursion}
+use Rattle.tx_trees.proofs.Undoing.{only_update}
 use Rattle.commute_ops.specs.declared.kinds.TheConstants.{MOST_AMOUNT}
 use Rattle.tx_trees.specs.ScriptData.{ScriptData, subs_at, sub_at, node_of, ops_of, updates, is_update, reads, is_read}
 use Rattle.tx_trees.specs.Valid.{IsValid, IsTree, IsSub, AreSubs, IsOp, trees_load}
@@ -63,10 +64,6 @@ pub tree_below : (s : ScriptData) (t k : ℕ) → SubAt s t k → t < length s.t
 tree_below s t k c = get_below s.trees t c.tree c.at
 
 -- What is valid.
-is_update_of : (kind : TreeKind) → is_update kind ≡ true → kind ≡ trees.Update
-is_update_of trees.Update is = refl
-is_update_of trees.Read is = absurd (cc is)
-is_update_of trees.Strict is = absurd (cc is)
 
 is_read_of : (kind : TreeKind) → is_read kind ≡ true → kind ≡ trees.Read
 is_read_of trees.Update is = absurd (cc is)
@@ -85,7 +82,7 @@ tree_kind s t k c sound =
 
 -- an update tree is of its kind
 pub updates_kind : (s : ScriptData) (t k : ℕ) (c : SubAt s t k) → updates s t ≡ true → c.tree.kind ≡ trees.Update
-updates_kind s t k c up = is_update_of c.tree.kind (rw (c.at, updates) at up)
+updates_kind s t k c up = only_update c.tree.kind (rw (c.at, updates) at up)
 
 -- and a read tree of its own
 pub reads_kind : (s : ScriptData) (t k : ℕ) (c : SubAt s t k) → reads s t ≡ true → c.tree.kind ≡ trees.Read
