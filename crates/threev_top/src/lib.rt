@@ -12,3 +12,5 @@ pub use upgraded::upgraded_scripts_have_the_same_runs;
 
 #[cfg(test)]
 mod tests;
+#[cfg(test)]
+mod thread_tests;
