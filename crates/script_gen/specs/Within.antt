@@ -1,6 +1,6 @@
 -- The script while it is generated. Only the code of the generator cites it.
 use Rattle.std.specs.Prelude.{◌≡◌, ◌<◌, ◌≤◌, ℕ, suc, ◌*◌, true, false, List, [], ◌∷◌, ◌++◌, length, None}
-use Rattle.tx_trees.specs.Adding.{all_ops, all_subs, names_tree, with_row}
+use Rattle.tx_trees.specs.Adding.{all_ops, all_subs, names_tree, with_op, with_row}
 use Rattle.tx_trees.specs.Counts.{strict_trees, trees_puts}
 use Rattle.tx_trees.specs.ScriptData.{ScriptData}
 use Rattle.tx_trees.specs.Valid.{trees_load}
