@@ -13,7 +13,6 @@ use Rattle.letter_types.specs.declared.entries.Posting.{Posting}
 use Rattle.letter_types.specs.Letters.{own}
 use Rattle.letter_types.specs.Postal.{posting_of}
 use Rattle.stamp_post.specs.Logs.{own_postings}
-use Rattle.quiet_laws.proofs.Waves.{set_other}
 use Rattle.world_model.proofs.Scripts.{get_some}
 use Rattle.node_threads.specs.Histories.{FirstHas, IsLogOf, IsMerged, Taken}
 
@@ -146,7 +145,7 @@ row_more log k all first rows b e left rest there whole mine own_left after lt a
       begun = r.begun;
       left = r.left;
       was = r.was;
-      at = set_other rows b a left ne ∙ r.at;
+      at = get_set_other rows b a left ne ∙ r.at;
       next = r.next ∙ ap (own_postings a) whole ∙ other_rest a b (posting_of e) rest mine ne ∙ ap (own_postings a) (sym after);
       whole = r.whole ∙ ap (λ (es : List Entry). es ++ r.left) (sym (own_same a all e (λ is. ne (sym mine ∙ is))));
     }

@@ -17,9 +17,9 @@ plain_digits : (ds : List ℕ) → list_all is_ascii_digit ds ≡ true → list_
 plain_digits [] all = refl
 plain_digits (b ∷ bs) all =
     and_from (is_name_byte b) (list_all is_name_byte bs) (plain b (left_true (is_ascii_digit b) (list_all is_ascii_digit bs) all))
-      (plain_digits bs (right_true (is_ascii_digit b) (list_all is_ascii_digit bs) all)) where
-  plain : (b : ℕ) → is_ascii_digit b ≡ true → is_name_byte b ≡ true
-  plain b is = grind (arith, nat_tests)
+    (plain_digits bs (right_true (is_ascii_digit b) (list_all is_ascii_digit bs) all)) where
+      plain : (b : ℕ) → is_ascii_digit b ≡ true → is_name_byte b ≡ true
+      plain b is = grind (arith, nat_tests)
 
 -- a number of up to five digits
 pub short_number : (n : ℕ) → n < 100000 → length (decimal n) ≤ 5

@@ -257,7 +257,7 @@ sub_keeps s past e t k v raises effect calm most at lt work made =
     let p = node_of s t.0 k.0 in
     let st = node_in s past p in
     let same : raised_if raises v.0 st.turns ≡ st.turns =
-        ap (λ (b : Bool). raised_if b v.0 st.turns) (raises_none s t.0 k.0 st v raises effect (calm.turns p lt) most work) in
+    ap (λ (b : Bool). raised_if b v.0 st.turns) (raises_none s t.0 k.0 st v raises effect (calm.turns p lt) most work) in
     record {
       sent = subst (λ os. CalmSent os) (sym made.sent)
           (each_append (λ (o : Outgoing). (i : LetterId) → CalmBody o.body) (sub_letters t.0 v.0 k.0 0 (subs_at s t.0))

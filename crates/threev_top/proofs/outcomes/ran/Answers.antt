@@ -1,0 +1,7 @@
+use Rattle.headline.proofs.Promised.{headline}
+use Rattle.threev_top.proofs.outcomes.ran.Goals as goal
+
+pub returns-clause-headline : goal.returns-clause-headline
+returns-clause-headline g c =
+    headline c.args.script.now c.in_ok-history.history c.nodes-valid.ensures.valid c.requires.runnable
+    c.in_ok-history.ensures.run c.in_ok-history.ensures.finished
