@@ -168,7 +168,7 @@ fn a_failed_tree_is_read_and_written(rt: HostRuntime) -> Result<(), Fail> {
 
 #[test]
 fn the_first_fault_is_told(rt: HostRuntime) -> Result<(), Fail> {
-    let table: [(&[u8], u32, Why); 41] = [
+    let table: [(&[u8], u32, Why); 40] = [
         (b"", 1, Why::NodesFirst),
         (b"\xEF\xBB\xBF", 1, Why::NodesFirst),
         (b"foo,1\n", 1, Why::UnknownRow),
