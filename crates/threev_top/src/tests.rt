@@ -55,7 +55,7 @@ fn call<R: Threads + Wait + Sync>(
         8,
         source_fails.to_vec(alloc)?,
     );
-    let mut out = MemSink::new(alloc, 2000, 16, sink_fails.to_vec(alloc)?)?;
+    let mut out = MemSink::new(alloc, 4000, 16, sink_fails.to_vec(alloc)?)?;
     let mut err = MemSink::new(alloc, err_room, 16, Vec::new(alloc))?;
     let ended = threev(rt, alloc, &words, &mut source, &mut out, &mut err, &NoGate);
     Ok(Seen {

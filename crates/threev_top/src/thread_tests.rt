@@ -38,6 +38,7 @@ fn none_held() -> [AtomicU64; 6] {
 }
 
 /// The first hold of node 0 and that of node 1 each wait until the other has begun. Both are counted, and all others.
+#[derive(Drop)]
 struct Meeting {
     held: [AtomicU64; 6],
 }
@@ -75,6 +76,7 @@ impl Gate for Meeting {
 }
 
 /// Every third hold of node 0 waits until node 1 was held once more, for a while.
+#[derive(Drop)]
 struct EveryThird {
     first: AtomicU64,
     second: AtomicU64,
