@@ -14,7 +14,7 @@ use std::sync::{Mutex, Wait};
 use std::test::Fail;
 use std::thread;
 use std::thread::{Threads, join};
-use tv_base::{ActorNo, Gate, Name, NoGate, NoMemory, NodeNo, Stamp};
+use tv_base::{Name, NoGate, NoMemory, NodeNo, Stamp};
 use tx_trees::{Deed, Form, ItemRow, Refusal, Script, ScriptRow, Tree, TreeKind, Why};
 
 const BAD_CALL: Refusal = Refusal::Why(Why::NotBuilt);
@@ -81,18 +81,6 @@ fn one_tree(alloc: Global) -> Result<Script, Refusal> {
     Ok(script)
 }
 
-// Two items at two nodes, and a tree at each node.
-fn two_trees(alloc: Global) -> Result<Script, Refusal> {
-    let mut script = Script::new(alloc, Form::One, 2);
-    add_item(&mut script, b"a", 0, 0)?;
-    add_item(&mut script, b"b", 1, 0)?;
-    add_update(&mut script, b"t", 0)?;
-    add_amount(&mut script, b"a", 1)?;
-    add_update(&mut script, b"u", 1)?;
-    add_amount(&mut script, b"b", 1)?;
-    Ok(script)
-}
-
 fn is_update(tree: &Tree) -> bool
     ensures { result ≡ true → is_run tree.now.kind ≡ true }
 {
@@ -122,17 +110,6 @@ fn may_run(script: &Script) -> bool
     trees && rows
 }
 
-// How many entries the history has of an actor.
-fn entries_of(history: &History, actor: u8) -> u64 {
-    let mut count: u64 = 0;
-    for entry in history.items() {
-        if entry.actor.0 == actor {
-            count = count.wrapping_add(1);
-        }
-    }
-    count
-}
-
 // How many entries the history has at a stamp.
 fn entries_at(history: &History, stamp: Stamp) -> u64 {
     let mut count: u64 = 0;
@@ -152,65 +129,6 @@ fn has_end(history: &History) -> bool {
         .any(|act| matches!(act, Act::Finished)))
 }
 
-// A node's first hold sets its flag and waits for the other node's flag. Each hold is counted.
-#[derive(Drop)]
-struct Meeting {
-    came: [AtomicU64; 2],
-    held: [AtomicU64; 4],
-}
-
-impl Meeting {
-    fn new() -> Meeting {
-        Meeting {
-            came: [AtomicU64::new(0), AtomicU64::new(0)],
-            held: [
-                AtomicU64::new(0),
-                AtomicU64::new(0),
-                AtomicU64::new(0),
-                AtomicU64::new(0),
-            ],
-        }
-    }
-
-    // Sets the flag of a node. Whether this is its first hold.
-    fn comes(&self, node: usize) -> bool
-        requires { node < 2 }
-    {
-        self.came[node].swap(1, Ordering::SeqCst) == 0
-    }
-
-    fn has_come(&self, node: usize) -> bool
-        requires { node < 2 }
-    {
-        self.came[node].load(Ordering::SeqCst) != 0
-    }
-
-    fn waits_for(&self, node: usize)
-        requires { node < 2 }
-    {
-        for _turn in 0..TURNS {
-            if self.has_come(node) {
-                return;
-            }
-            thread::yield_now();
-        }
-    }
-}
-
-impl Gate for Meeting {
-    fn hold(&self, actor: ActorNo) {
-        if actor.0 < 4 {
-            self.held[actor.0 as usize].fetch_add(1, Ordering::SeqCst);
-        }
-        if actor.0 == 0 && self.comes(0) {
-            self.waits_for(1);
-        }
-        if actor.0 == 1 && self.comes(1) {
-            self.waits_for(0);
-        }
-    }
-}
-
 #[test]
 fn workers_run_a_script_to_its_end(rt: HostRuntime) -> Result<(), Fail> {
     let script = one_tree(rt.alloc()).ok().ok_or("a valid script")?;
@@ -226,23 +144,6 @@ fn workers_run_a_script_to_its_end(rt: HostRuntime) -> Result<(), Fail> {
     let four = run(&rt, rt.alloc(), &script, 4, &NoGate)?;
     assert_eq!(rt; four.items().len(), 6);
     assert!(rt; has_end(&four));
-    Ok(())
-}
-
-#[test]
-fn two_nodes_step_at_once(rt: HostRuntime) -> Result<(), Fail> {
-    let script = two_trees(rt.alloc()).ok().ok_or("a valid script")?;
-    if !may_run(&script) {
-        return Err("a script that is run".into());
-    }
-    let gate = Meeting::new();
-    let history = run(&rt, rt.alloc(), &script, 4, &gate)?;
-    assert!(rt; gate.has_come(0) && gate.has_come(1));
-    assert!(rt; has_end(&history));
-    for actor in 0..4u8 {
-        let held = gate.held[actor as usize].load(Ordering::SeqCst);
-        assert_eq!(rt; held, entries_of(&history, actor));
-    }
     Ok(())
 }
 

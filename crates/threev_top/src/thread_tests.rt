@@ -26,24 +26,28 @@ const WHOLE_ADVANCEMENT: &str =
 const WHOLE_ADVANCEMENT_TEXT: &str =
     "tree t version 1\nread r version 1 b=7 a=15\nnode 0 update 2 read 1\nnode 1 update 2 read 1\nitem a 1:15\nitem b 1:7\n";
 
-fn none_held() -> [AtomicU64; 6] {
-    [
-        AtomicU64::new(0),
-        AtomicU64::new(0),
-        AtomicU64::new(0),
-        AtomicU64::new(0),
-        AtomicU64::new(0),
-        AtomicU64::new(0),
-    ]
-}
-
-/// The first hold of node 0 and that of node 1 each wait until the other has begun. Both are counted, and all others.
+/// The first hold of node 0 and that of node 1 each wait until the other has begun, or are missed. All are counted.
 #[derive(Drop)]
 struct Meeting {
     held: [AtomicU64; 6],
+    missed: AtomicU64,
 }
 
 impl Meeting {
+    fn new() -> Meeting {
+        Meeting {
+            held: [
+                AtomicU64::new(0),
+                AtomicU64::new(0),
+                AtomicU64::new(0),
+                AtomicU64::new(0),
+                AtomicU64::new(0),
+                AtomicU64::new(0),
+            ],
+            missed: AtomicU64::new(0),
+        }
+    }
+
     fn times(&self, actor: usize) -> u64
         requires { actor < 6 }
     {
@@ -59,6 +63,7 @@ impl Meeting {
             }
             thread::yield_now();
         }
+        self.missed.fetch_add(1, Ordering::SeqCst);
     }
 }
 
@@ -148,7 +153,7 @@ fn entries_of(history: &History, actor: u8) -> u64 {
     count
 }
 
-/// Both nodes came to their first steps side by side, and each actor was held as often as it has entries.
+/// Both nodes made their first steps side by side, and each actor was held as often as it has entries.
 fn met(gate: &Meeting, history: &History, actors: u8) -> bool
     requires { actors ≤ 6 }
 {
@@ -157,12 +162,12 @@ fn met(gate: &Meeting, history: &History, actors: u8) -> bool
             return false;
         }
     }
-    gate.times(0) > 0 && gate.times(1) > 0
+    gate.times(0) > 0 && gate.times(1) > 0 && gate.missed.load(Ordering::SeqCst) == 0
 }
 
 #[test]
 fn two_nodes_step_side_by_side(rt: HostRuntime) -> Result<(), Fail> {
-    let gate = Meeting { held: none_held() };
+    let gate = Meeting::new();
     let words = ["threev", "--mode", "run", "--workers", "4"];
     let ran = call(&rt, rt.alloc(), &words, TWO_TREES, &gate)?;
     assert_eq!(rt; ran.status, 0);
@@ -173,7 +178,7 @@ fn two_nodes_step_side_by_side(rt: HostRuntime) -> Result<(), Fail> {
 
 #[test]
 fn a_generated_run_steps_side_by_side(rt: HostRuntime) -> Result<(), Fail> {
-    let gate = Meeting { held: none_held() };
+    let gate = Meeting::new();
     let words = [
         "threev",
         "--mode=soak",
