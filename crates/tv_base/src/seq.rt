@@ -43,6 +43,14 @@ impl<T, const MOST: usize> Seq<T, MOST> {
         self.inner.as_slice()
     }
 
+    /// The list of these items, which takes no memory.
+    pub fn from_vec(items: Vec<T>) -> Seq<T, MOST>
+        requires { length items.items ≤ MOST }
+        ensures { result ≡ items.items }
+    {
+        Seq { inner: items }
+    }
+
     /// The items, by value.
     pub fn into_vec(self) -> Vec<T>
         ensures items { result.items ≡ self }
