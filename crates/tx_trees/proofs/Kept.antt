@@ -11,28 +11,28 @@ use Rattle.tv_base.proofs.ByPlace.{slice_get-old}
 use Rattle.tv_base.specs.declared.numbers.NodeNo.{NodeNo}
 use Rattle.tv_base.specs.declared.numbers.TreeNo.{TreeNo}
 use Rattle.commute_ops.specs.declared.kinds.Op.TheVariants as ops
-use Rattle.tx_trees.specs.declared.parts.Deed.{Deed}
-use Rattle.tx_trees.specs.declared.parts.Deed.TheVariants as deeds
-use Rattle.tx_trees.specs.declared.parts.Form.TheVariants as forms
-use Rattle.tx_trees.specs.declared.parts.ItemRow.{ItemRow}
-use Rattle.tx_trees.specs.declared.parts.ScriptRow.{ScriptRow}
-use Rattle.tx_trees.specs.declared.parts.ScriptRow.TheVariants as rows
-use Rattle.tx_trees.specs.declared.parts.Sub.{Sub}
-use Rattle.tx_trees.specs.declared.parts.SubOp.{SubOp}
-use Rattle.tx_trees.specs.declared.parts.Tree.{Tree}
-use Rattle.tx_trees.specs.declared.parts.TreeKind.{TreeKind}
-use Rattle.tx_trees.specs.declared.parts.TreeKind.TheVariants as trees
+use Rattle.script_parts.specs.declared.parts.Deed.{Deed}
+use Rattle.script_parts.specs.declared.parts.Deed.TheVariants as deeds
+use Rattle.script_parts.specs.declared.parts.Form.TheVariants as forms
+use Rattle.script_parts.specs.declared.parts.ItemRow.{ItemRow}
+use Rattle.script_parts.specs.declared.parts.ScriptRow.{ScriptRow}
+use Rattle.script_parts.specs.declared.parts.ScriptRow.TheVariants as rows
+use Rattle.script_parts.specs.declared.parts.Sub.{Sub}
+use Rattle.script_parts.specs.declared.parts.SubOp.{SubOp}
+use Rattle.script_parts.specs.declared.parts.Tree.{Tree}
+use Rattle.script_parts.specs.declared.parts.TreeKind.{TreeKind}
+use Rattle.script_parts.specs.declared.parts.TreeKind.TheVariants as trees
 use Rattle.tx_trees.specs.declared.script.Script.TheInside.{Inside}
-use Rattle.tx_trees.specs.Adding.{last_kind, on_last, on_last_sub, push_op, push_sub, rooted}
-use Rattle.tx_trees.specs.Amounts.{magnitude}
-use Rattle.tx_trees.specs.Counts.{advances_in, all_ops, all_subs, loses_in, if_update, one_put, one_strict, strict_trees, trees_puts, update_subs}
+use Rattle.script_parts.specs.Adding.{last_kind, on_last, on_last_sub, push_op, push_sub, rooted}
+use Rattle.script_parts.specs.Amounts.{magnitude}
+use Rattle.script_parts.specs.Counts.{advances_in, all_ops, all_subs, loses_in, if_update, one_put, one_strict, strict_trees, trees_puts, update_subs}
 use Rattle.tx_trees.specs.Inside.{IsKept, data_of}
-use Rattle.tx_trees.specs.Passing.{MayAddItem, MayAddOp, MayAddSub, MayAddTree}
-use Rattle.tx_trees.specs.ScriptData.{ScriptData}
-use Rattle.tx_trees.specs.Valid.{IsValid, initial_load, item_names, load, tree_names, trees_load}
-use Rattle.tx_trees.proofs.Lists.{slice_get-seam, sum-push}
+use Rattle.script_parts.specs.Passing.{MayAddItem, MayAddOp, MayAddSub, MayAddTree}
+use Rattle.script_parts.specs.ScriptData.{ScriptData}
+use Rattle.script_parts.specs.Valid.{IsValid, initial_load, item_names, load, tree_names, trees_load}
+use Rattle.script_parts.proofs.Lists.{slice_get-seam, sum-push}
 use Rattle.tx_trees.proofs.Stays.{advances-advance, advances-lose, advances-settle, advances-tree, loses-push, names-on_last, some_last_subs, trees_before, valid_item, valid_op, valid_row, valid_sub, valid_tree, valid_upgraded}
-use Rattle.tx_trees.proofs.Totals.{all_subs-sum, load_other, load_same, load_total, op_total, put_other, put_same, put_total, strict-op, strict-sub, strict-sum, subs-op, subs-sub, total-op, total-sub, total-tree, update-op, update-sub, update-sum}
+use Rattle.script_parts.proofs.Totals.{all_subs-sum, load_other, load_same, load_total, op_total, put_other, put_same, put_total, strict-op, strict-sub, strict-sum, subs-op, subs-sub, total-op, total-sub, total-tree, update-op, update-sub, update-sum}
 
 -- numbers beside the items, where one is added or changed
 
@@ -59,9 +59,6 @@ cells-set cells j v n f g len within old other here k lt = elim (cases_eq k j) [
 pub pushed_is : {A T E : Type 0} (r : Result T E) (new old : List A) (x : A) → IsOk r → new ≡ (if is_ok r then old ++ x ∷ [] else old) → new ≡ old ++ x ∷ []
 pushed_is (Ok t) new old x ok e = e
 pushed_is (Err f) new old x ok e = absurd cc
-
-pub cell_is : (xs : List ℕ) (k x : ℕ) → k < length xs → x ≡ get_or xs k x → x ≡ get_or xs k 0
-cell_is xs k x lt e = e ∙ get_or_default xs k x 0 lt
 
 at_most : (kind : TreeKind) (n : ℕ) → if_update kind n ≤ n
 at_most trees.Update n = omega arith

@@ -2,13 +2,13 @@
 use Rattle.std.proofs.Common.{◌≡◌, ◌<◌, ℕ, true, false, List, refl}
 use Rattle.std.specs.Prelude.{Some, Ok}
 use Rattle.tv_base.specs.declared.numbers.NodeNo.{NodeNo}
-use Rattle.tx_trees.specs.Adding.{adds_fail, are_crowded, is_heavy, last_may_fail, last_subs, with_failed, adds_item, adds_op, adds_sub, adds_tree, place_of, with_item, with_op, with_sub, with_tree}
-use Rattle.tx_trees.proofs.Lists.{le_not}
-use Rattle.tx_trees.specs.Passing.{MayAddItem, MayAddOp, MayAddSub, MayAddTree}
-use Rattle.tx_trees.specs.ScriptData.{ScriptData}
-use Rattle.tx_trees.specs.declared.parts.Deed.{Deed}
-use Rattle.tx_trees.specs.declared.parts.ItemRow.{ItemRow}
-use Rattle.tx_trees.specs.declared.parts.TreeKind.{TreeKind}
+use Rattle.script_parts.specs.Adding.{adds_fail, are_crowded, is_heavy, last_may_fail, last_subs, with_failed, adds_item, adds_op, adds_sub, adds_tree, place_of, with_item, with_op, with_sub, with_tree}
+use Rattle.script_parts.proofs.Lists.{le_not}
+use Rattle.script_parts.specs.Passing.{MayAddItem, MayAddOp, MayAddSub, MayAddTree}
+use Rattle.script_parts.specs.ScriptData.{ScriptData}
+use Rattle.script_parts.specs.declared.parts.Deed.{Deed}
+use Rattle.script_parts.specs.declared.parts.ItemRow.{ItemRow}
+use Rattle.script_parts.specs.declared.parts.TreeKind.{TreeKind}
 
 pub item_passes : (s : ScriptData) (r : ItemRow) → MayAddItem s r → adds_item s r ≡ Ok (with_item s r)
 item_passes s r m = rw (m.place, m.start, m.plain, m.free, m.room) refl

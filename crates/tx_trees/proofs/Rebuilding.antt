@@ -13,35 +13,35 @@ use Rattle.commute_ops.specs.declared.kinds.Kind.{Kind}
 use Rattle.commute_ops.specs.declared.kinds.Kind.TheVariants as kinds
 use Rattle.commute_ops.specs.declared.kinds.TheConstants.{MOST_AMOUNT}
 use Rattle.tv_base.specs.declared.numbers.TreeNo.{TreeNo}
-use Rattle.tx_trees.specs.Adding.{adds_advance, adds_lose, are_crowded, failed_tree, fresh, is_heavy, may_fail, has_touched, kind_at, last_count, last_kind, last_node, last_of, last_sub, last_subs, node_at, on_last, on_last_sub, place_of, push_op, push_sub, touch}
-use Rattle.tx_trees.specs.Amounts.{magnitude}
-use Rattle.tx_trees.specs.Forms.{most_amount}
-use Rattle.tx_trees.specs.Counts.{advances_in, all_ops, all_subs, loses_in, if_update, one_put, one_strict, ops_in, strict_trees, subs_ops, trees_puts, update_subs}
-use Rattle.tx_trees.specs.Passing.{MayAddItem, MayAddOp, MayAddSub, MayAddTree}
-use Rattle.tx_trees.specs.Ranges.{draws_negative, is_in_range, may_start}
-use Rattle.tx_trees.specs.Rebuilt.{RebuiltAs, fail_added, items_added, name_at, ops_added, picks_added, rebuilt, rooted_added, row_added, rows_added, subs_added, then_more, tree_added}
-use Rattle.tx_trees.specs.ScriptData.{ScriptData, is_strict}
-use Rattle.tx_trees.specs.Valid.{AreSubs, IsItem, IsOp, IsSub, HasFailed, IsTree, IsValid, MayAllHaveFailed, MayHaveFailed, NamesInOrder, OpAt, as_written, deed_fits, initial_load, item_names, items_of, load, subs_load, tree_names, trees_load}
-use Rattle.tx_trees.specs.declared.parts.Deed.{Deed}
-use Rattle.tx_trees.specs.declared.parts.Form.{Form}
-use Rattle.tx_trees.specs.declared.parts.Form.TheVariants as forms
-use Rattle.tx_trees.specs.declared.parts.ItemRow.{ItemRow}
-use Rattle.tx_trees.specs.declared.parts.ScriptRow.{ScriptRow}
-use Rattle.tx_trees.specs.declared.parts.ScriptRow.TheVariants as rows
-use Rattle.tx_trees.specs.declared.parts.Sub.{Sub}
-use Rattle.tx_trees.specs.declared.parts.SubOp.{SubOp}
-use Rattle.tx_trees.specs.declared.parts.Tree.{Tree}
-use Rattle.tx_trees.specs.declared.parts.TreeKind.{TreeKind}
-use Rattle.tx_trees.specs.declared.parts.TreeKind.TheVariants as trees
-use Rattle.tx_trees.specs.declared.parts.Written.{Written}
-use Rattle.tx_trees.specs.declared.why.Why.{Why}
-use Rattle.tx_trees.proofs.Last.{last_count_is, last_kind_is, last_node_is, last_sub_is, last_subs_is}
-use Rattle.tx_trees.proofs.Lists.{all-before, all-push, all-seam, distinct-before, distinct-front, last_of-seam, le_not, lt_not, on_last-seam, or_left, or_right, slice_get-seam, sum-append, sum-push}
-use Rattle.tx_trees.proofs.Named.{any-map, has_item, has_tree}
+use Rattle.script_parts.specs.Adding.{adds_advance, adds_lose, are_crowded, failed_tree, fresh, is_heavy, may_fail, has_touched, kind_at, last_count, last_kind, last_node, last_of, last_sub, last_subs, node_at, on_last, on_last_sub, place_of, push_op, push_sub, touch}
+use Rattle.script_parts.specs.Amounts.{magnitude}
+use Rattle.script_parts.specs.Forms.{most_amount}
+use Rattle.script_parts.specs.Counts.{advances_in, all_ops, all_subs, loses_in, if_update, one_put, one_strict, ops_in, strict_trees, subs_ops, trees_puts, update_subs}
+use Rattle.script_parts.specs.Passing.{MayAddItem, MayAddOp, MayAddSub, MayAddTree}
+use Rattle.script_parts.specs.Ranges.{draws_negative, is_in_range, may_start}
+use Rattle.script_parts.specs.Rebuilt.{RebuiltAs, fail_added, items_added, name_at, ops_added, picks_added, rebuilt, rooted_added, row_added, rows_added, subs_added, then_more, tree_added}
+use Rattle.script_parts.specs.ScriptData.{ScriptData, is_strict}
+use Rattle.script_parts.specs.Valid.{AreSubs, IsItem, IsOp, IsSub, HasFailed, IsTree, IsValid, MayAllHaveFailed, MayHaveFailed, NamesInOrder, OpAt, as_written, deed_fits, initial_load, item_names, items_of, load, subs_load, tree_names, trees_load}
+use Rattle.script_parts.specs.declared.parts.Deed.{Deed}
+use Rattle.script_parts.specs.declared.parts.Form.{Form}
+use Rattle.script_parts.specs.declared.parts.Form.TheVariants as forms
+use Rattle.script_parts.specs.declared.parts.ItemRow.{ItemRow}
+use Rattle.script_parts.specs.declared.parts.ScriptRow.{ScriptRow}
+use Rattle.script_parts.specs.declared.parts.ScriptRow.TheVariants as rows
+use Rattle.script_parts.specs.declared.parts.Sub.{Sub}
+use Rattle.script_parts.specs.declared.parts.SubOp.{SubOp}
+use Rattle.script_parts.specs.declared.parts.Tree.{Tree}
+use Rattle.script_parts.specs.declared.parts.TreeKind.{TreeKind}
+use Rattle.script_parts.specs.declared.parts.TreeKind.TheVariants as trees
+use Rattle.script_parts.specs.declared.parts.Written.{Written}
+use Rattle.script_parts.specs.declared.why.Why.{Why}
+use Rattle.script_parts.proofs.Last.{last_count_is, last_kind_is, last_node_is, last_sub_is, last_subs_is}
+use Rattle.script_parts.proofs.Lists.{all-before, all-push, all-seam, distinct-before, distinct-front, last_of-seam, le_not, lt_not, on_last-seam, or_left, or_right, slice_get-seam, sum-append, sum-push}
+use Rattle.script_parts.proofs.Named.{any-map, has_item, has_tree}
 use Rattle.tx_trees.proofs.Undoing.{crowded_not, last_may_fail_is, may_fail_is, none_any}
 use Rattle.tx_trees.proofs.Passes.{fail_passes, item_passes, op_passes, sub_passes, tree_passes}
 use Rattle.tx_trees.proofs.Stays.{failed-front, failed-push, failed-seam, last_written_is, op_within}
-use Rattle.tx_trees.proofs.Totals.{all_subs-sum, load_same, load_total, op_load, op_put, op_total, put_same, put_total, strict-sum, total-part, update-sum}
+use Rattle.script_parts.proofs.Totals.{all_subs-sum, load_same, load_total, op_load, op_put, op_total, put_same, put_total, strict-sum, total-part, update-sum}
 
 -- what is taken goes on
 taken : (r : Result ScriptData Why) (t : ScriptData) (more : ScriptData → Result ScriptData Why) → r ≡ Ok t → then_more r more ≡ more t

@@ -15,30 +15,30 @@ use Rattle.commute_ops.specs.declared.kinds.Kind.TheVariants as kinds
 use Rattle.commute_ops.specs.declared.kinds.TheConstants.{MOST_AMOUNT}
 use Rattle.tv_base.specs.declared.numbers.NodeNo.{NodeNo}
 use Rattle.tv_base.specs.declared.numbers.TreeNo.{TreeNo}
-use Rattle.tx_trees.specs.Adding.{are_many, are_spread, has_no_op_left, has_no_sub_left, has_no_tree_left, has_touched, kind_at, last_count, last_kind, last_node, last_of, last_subs, node_at, on_last, on_last_sub, push_op, push_sub, rooted, touch, upgraded, with_item, with_op, with_row, with_sub, with_tree}
-use Rattle.tx_trees.specs.Amounts.{magnitude}
-use Rattle.tx_trees.specs.Counts.{advances_in, all_ops, all_subs, is_lose, loses_in, if_update, one_put, one_strict, ops_in, ops_puts, strict_trees, subs_puts, trees_puts, update_subs}
-use Rattle.tx_trees.specs.Forms.{most_amount, most_nodes}
-use Rattle.tx_trees.specs.Passing.{MayAddItem, MayAddOp, MayAddSub, MayAddTree}
-use Rattle.tx_trees.specs.Ranges.{draws_negative, is_in_range, may_start, starts_full}
-use Rattle.tx_trees.specs.ScriptData.{ScriptData, is_strict}
-use Rattle.tx_trees.specs.Valid.{AreSubs, AreWithin, HasFailed, IsItem, IsOp, IsSub, IsTree, IsValid, MayAllHaveFailed, MayHaveFailed, NamesInOrder, as_written, last_written, OpAt, deed_fits, initial_load, item_names, items_of, load, ops_load, subs_load, tree_names, trees_load}
-use Rattle.tx_trees.specs.declared.parts.Deed.{Deed}
-use Rattle.tx_trees.specs.declared.parts.Form.{Form}
-use Rattle.tx_trees.specs.declared.parts.Form.TheVariants as forms
-use Rattle.tx_trees.specs.declared.parts.ItemRow.{ItemRow}
-use Rattle.tx_trees.specs.declared.parts.ScriptRow.{ScriptRow}
-use Rattle.tx_trees.specs.declared.parts.ScriptRow.TheVariants as rows
-use Rattle.tx_trees.specs.declared.parts.Sub.{Sub}
-use Rattle.tx_trees.specs.declared.parts.SubOp.{SubOp}
-use Rattle.tx_trees.specs.declared.parts.Tree.{Tree}
-use Rattle.tx_trees.specs.declared.parts.TreeKind.{TreeKind}
-use Rattle.tx_trees.specs.declared.parts.TreeKind.TheVariants as trees
-use Rattle.tx_trees.specs.declared.parts.Written.{Written}
-use Rattle.tx_trees.proofs.Last.{last_count_is, last_kind_is, last_node_is, last_sub_is, last_subs_is, length-on_last}
-use Rattle.tx_trees.proofs.Lists.{all-last, all-on_last, all-push, all-weaker, distinct-push, last_of-on_last, last_of-seam, last_some, not_le, not_lt, on_last-seam, or_left, or_right, slice_get-seam, split_last, sum-push}
-use Rattle.tx_trees.proofs.Named.{any-map, has_item, has_tree}
-use Rattle.tx_trees.proofs.Totals.{all_subs-sum, load_other, load_same, load_total, op_total, put_other, put_same, put_total, strict-op, strict-sub, strict-sum, subs-op, subs-sub, total-op, total-sub, total-tree, update-op, update-sub, update-sum}
+use Rattle.script_parts.specs.Adding.{are_many, are_spread, has_no_op_left, has_no_sub_left, has_no_tree_left, has_touched, kind_at, last_count, last_kind, last_node, last_of, last_subs, node_at, on_last, on_last_sub, push_op, push_sub, rooted, touch, upgraded, with_item, with_op, with_row, with_sub, with_tree}
+use Rattle.script_parts.specs.Amounts.{magnitude}
+use Rattle.script_parts.specs.Counts.{advances_in, all_ops, all_subs, is_lose, loses_in, if_update, one_put, one_strict, ops_in, ops_puts, strict_trees, subs_puts, trees_puts, update_subs}
+use Rattle.script_parts.specs.Forms.{most_amount, most_nodes}
+use Rattle.script_parts.specs.Passing.{MayAddItem, MayAddOp, MayAddSub, MayAddTree}
+use Rattle.script_parts.specs.Ranges.{draws_negative, is_in_range, may_start, starts_full}
+use Rattle.script_parts.specs.ScriptData.{ScriptData, is_strict}
+use Rattle.script_parts.specs.Valid.{AreSubs, AreWithin, HasFailed, IsItem, IsOp, IsSub, IsTree, IsValid, MayAllHaveFailed, MayHaveFailed, NamesInOrder, as_written, last_written, OpAt, deed_fits, initial_load, item_names, items_of, load, ops_load, subs_load, tree_names, trees_load}
+use Rattle.script_parts.specs.declared.parts.Deed.{Deed}
+use Rattle.script_parts.specs.declared.parts.Form.{Form}
+use Rattle.script_parts.specs.declared.parts.Form.TheVariants as forms
+use Rattle.script_parts.specs.declared.parts.ItemRow.{ItemRow}
+use Rattle.script_parts.specs.declared.parts.ScriptRow.{ScriptRow}
+use Rattle.script_parts.specs.declared.parts.ScriptRow.TheVariants as rows
+use Rattle.script_parts.specs.declared.parts.Sub.{Sub}
+use Rattle.script_parts.specs.declared.parts.SubOp.{SubOp}
+use Rattle.script_parts.specs.declared.parts.Tree.{Tree}
+use Rattle.script_parts.specs.declared.parts.TreeKind.{TreeKind}
+use Rattle.script_parts.specs.declared.parts.TreeKind.TheVariants as trees
+use Rattle.script_parts.specs.declared.parts.Written.{Written}
+use Rattle.script_parts.proofs.Last.{last_count_is, last_kind_is, last_node_is, last_sub_is, last_subs_is, length-on_last}
+use Rattle.script_parts.proofs.Lists.{all-last, all-on_last, all-push, all-weaker, distinct-push, last_of-on_last, last_of-seam, last_some, not_le, not_lt, on_last-seam, or_left, or_right, slice_get-seam, split_last, sum-push}
+use Rattle.script_parts.proofs.Named.{any-map, has_item, has_tree}
+use Rattle.script_parts.proofs.Totals.{all_subs-sum, load_other, load_same, load_total, op_total, put_other, put_same, put_total, strict-op, strict-sub, strict-sum, subs-op, subs-sub, total-op, total-sub, total-tree, update-op, update-sub, update-sum}
 
 -- operations are on items that are there
 

@@ -4,12 +4,12 @@ use Rattle.std.specs.Prelude.{All, slice_get}
 use Rattle.std.specs.List.{AllByRecursion}
 use Rattle.std.proofs.lemmas.List.Elements.{All-from_recursion}
 use Rattle.commute_ops.specs.declared.kinds.TheConstants.{MOST_AMOUNT}
-use Rattle.tx_trees.specs.declared.parts.ItemRow.{ItemRow}
-use Rattle.tx_trees.specs.declared.parts.Sub.{Sub}
-use Rattle.tx_trees.specs.declared.parts.Tree.{Tree}
-use Rattle.tx_trees.specs.declared.parts.TreeKind.{TreeKind}
-use Rattle.tx_trees.specs.ScriptData.{ScriptData, subs_at}
-use Rattle.tx_trees.specs.Valid.{IsValid, IsTree, AreSubs, load}
+use Rattle.script_parts.specs.declared.parts.ItemRow.{ItemRow}
+use Rattle.script_parts.specs.declared.parts.Sub.{Sub}
+use Rattle.script_parts.specs.declared.parts.Tree.{Tree}
+use Rattle.script_parts.specs.declared.parts.TreeKind.{TreeKind}
+use Rattle.script_parts.specs.ScriptData.{ScriptData, subs_at}
+use Rattle.script_parts.specs.Valid.{IsValid, IsTree, AreSubs, load}
 use Rattle.tx_trees.proofs.Stays.{most_amount-small, most_nodes-small}
 
 -- what holds of each holds at each place

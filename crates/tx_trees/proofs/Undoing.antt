@@ -7,38 +7,39 @@ use Rattle.std.proofs.lemmas.Bool.{and_from, cases_eq, or_from}
 use Rattle.std.proofs.lemmas.Grind.{common_steps}
 use Rattle.tv_base.proofs.Truths.{at_most, left_true, right_true}
 use Rattle.commute_ops.specs.declared.kinds.Op.TheVariants as ops
-use Rattle.tx_trees.specs.Adding.{any_from, are_crowded, are_many, failed_tree, is_heavy, last_may_fail, last_of, last_subs, last_tree_subs, may_fail, on_last, with_failed}
-use Rattle.tx_trees.specs.Counts.{all_ops, all_subs, if_update, one_put, one_strict, ops_puts, strict_trees, subs_ops, subs_puts, trees_puts, update_subs}
+use Rattle.script_parts.specs.Adding.{any_from, are_crowded, are_many, failed_tree, is_heavy, last_may_fail, last_of, last_subs, last_tree_subs, may_fail, on_last, with_failed}
+use Rattle.script_parts.specs.Counts.{all_ops, all_subs, if_update, one_put, one_strict, ops_puts, strict_trees, subs_ops, subs_puts, trees_puts, update_subs}
 use Rattle.commute_ops.specs.declared.kinds.TheConstants.{MOST_AMOUNT}
-use Rattle.tx_trees.specs.Amounts.{magnitude}
-use Rattle.tx_trees.specs.Forms.{most_amount}
-use Rattle.tx_trees.specs.Ranges.{draws_negative, is_in_range}
-use Rattle.tx_trees.specs.Inside.{AreTotals, IsKept, IsReloaded, MayReload, OpWithin, SubWithin, data_of}
-use Rattle.tx_trees.specs.Names.{is_name}
-use Rattle.tx_trees.specs.Rebuilt.{written_subs}
-use Rattle.tx_trees.specs.Passing.{MayFail}
-use Rattle.tx_trees.specs.ScriptData.{ScriptData, is_update}
-use Rattle.tx_trees.specs.Undone.{goes_from, inverse, inverses_from, is_add, is_undone, negated, negated_deed, ops_add, staying, staying_from, stays, subs_add, undoes, undone}
-use Rattle.tx_trees.specs.Valid.{AreSubs, AreWithin, HasFailed, IsOp, IsTree, IsValid, MayAllHaveFailed, MayHaveFailed, as_written, load, ops_load, subs_load, tree_names, trees_load}
+use Rattle.script_parts.specs.Amounts.{magnitude}
+use Rattle.script_parts.specs.Forms.{most_amount}
+use Rattle.script_parts.specs.Ranges.{draws_negative, is_in_range}
+use Rattle.tx_trees.specs.Inside.{IsKept, data_of}
+use Rattle.script_parts.specs.Loads.{AreTotals, IsReloaded, MayReload, OpWithin, SubWithin}
+use Rattle.script_parts.specs.Names.{is_name}
+use Rattle.script_parts.specs.Rebuilt.{written_subs}
+use Rattle.script_parts.specs.Passing.{MayFail}
+use Rattle.script_parts.specs.ScriptData.{ScriptData, is_update}
+use Rattle.script_parts.specs.Undone.{goes_from, inverse, inverses_from, is_add, is_undone, negated, negated_deed, ops_add, staying, staying_from, stays, subs_add, undoes, undone}
+use Rattle.script_parts.specs.Valid.{AreSubs, AreWithin, HasFailed, IsOp, IsTree, IsValid, MayAllHaveFailed, MayHaveFailed, as_written, load, ops_load, subs_load, tree_names, trees_load}
 use Rattle.std.specs.Global.{Vec}
 use Rattle.tv_base.specs.declared.numbers.SubNo.{SubNo}
 use Rattle.tx_trees.specs.declared.script.Script.TheInside.{Inside}
 use Rattle.std.proofs.Math.ListN.{set}
-use Rattle.tx_trees.specs.declared.parts.Deed.{Deed}
-use Rattle.tx_trees.specs.declared.parts.Deed.TheVariants as deeds
-use Rattle.tx_trees.specs.declared.parts.Form.{Form}
-use Rattle.tx_trees.specs.declared.parts.Form.TheVariants as forms
-use Rattle.tx_trees.specs.declared.parts.ItemRow.{ItemRow}
-use Rattle.tx_trees.specs.declared.parts.Sub.{Sub}
-use Rattle.tx_trees.specs.declared.parts.SubOp.{SubOp}
-use Rattle.tx_trees.specs.declared.parts.Tree.{Tree}
-use Rattle.tx_trees.specs.declared.parts.TreeKind.{TreeKind}
-use Rattle.tx_trees.specs.declared.parts.TreeKind.TheVariants as trees
-use Rattle.tx_trees.specs.declared.parts.Written.{Written}
-use Rattle.tx_trees.proofs.Last.{last_at, last_subs_is, length-on_last, on_last_is}
-use Rattle.tx_trees.proofs.Lists.{IsSum, last_weight, all-last, all-on_last, all-weaker, last_of-on_last, last_of-seam, last_some, lt_not, not_lt, or_left, or_right, split_last, sum-replaced}
+use Rattle.script_parts.specs.declared.parts.Deed.{Deed}
+use Rattle.script_parts.specs.declared.parts.Deed.TheVariants as deeds
+use Rattle.script_parts.specs.declared.parts.Form.{Form}
+use Rattle.script_parts.specs.declared.parts.Form.TheVariants as forms
+use Rattle.script_parts.specs.declared.parts.ItemRow.{ItemRow}
+use Rattle.script_parts.specs.declared.parts.Sub.{Sub}
+use Rattle.script_parts.specs.declared.parts.SubOp.{SubOp}
+use Rattle.script_parts.specs.declared.parts.Tree.{Tree}
+use Rattle.script_parts.specs.declared.parts.TreeKind.{TreeKind}
+use Rattle.script_parts.specs.declared.parts.TreeKind.TheVariants as trees
+use Rattle.script_parts.specs.declared.parts.Written.{Written}
+use Rattle.script_parts.proofs.Last.{last_at, last_subs_is, last_tree_subs_is, length-on_last}
+use Rattle.script_parts.proofs.Lists.{IsSum, last_weight, all-last, all-on_last, all-weaker, last_of-on_last, last_of-seam, last_some, lt_not, not_lt, or_left, or_right, split_last, sum-replaced}
 use Rattle.tx_trees.proofs.Stays.{failed-last, last_written_is, most_amount-small, names-on_last, op_within}
-use Rattle.tx_trees.proofs.Totals.{all_subs-sum, load_total, op_load, op_total, put_total, strict-sum, update-sum}
+use Rattle.script_parts.proofs.Totals.{all_subs-sum, load_total, op_load, op_total, put_total, strict-sum, update-sum}
 use Rattle.tx_trees.proofs.UndoneTrees.{undone_some, undone_valid}
 
 -- tests
@@ -67,9 +68,6 @@ any_cells p f (c ∷ cs) k are =
 
 pub last_may_fail_is : (ts : List Tree) (t : Tree) → last_of ts ≡ Some t → last_may_fail ts ≡ may_fail t
 last_may_fail_is ts t e = rw (e, last_may_fail) refl
-
-pub last_tree_subs_is : (ts : List Tree) (t : Tree) → last_of ts ≡ Some t → last_tree_subs ts ≡ t.subs
-last_tree_subs_is ts t e = rw (e, last_tree_subs) refl
 
 pub may_fail_is : (t : Tree) → t.kind ≡ trees.Update → subs_add t.subs ≡ true → may_fail t ≡ true
 may_fail_is t e adds = and_from (is_update t.kind) (subs_add t.subs) (ap is_update e) adds
@@ -481,17 +479,6 @@ kept_failed s its totals k n o u is t n_is o_is u_is may h =
       strict = h.strict ∙ sym (ap strict_trees is ∙ failed_strict s.trees.items k f.tree f.last);
       update_subs = u_is ∙ sym (ap update_subs is);
     }
-
--- the last of some trees, in its place
-pub fail_last_is : (ts : List Tree) (k : ℕ) (t : Tree) (failed : SubNo) (was now : List Sub) → suc k ≡ length ts → t ≡ get_or ts k t → was ≡ t.subs → now ≡ undone (last_tree_subs ts) failed.0
-    → set ts k (let u : Tree = record { name = t.name; kind = t.kind; subs = now; written = Some (record { failed = failed; subs = was }) } in u) ≡ on_last (failed_tree failed.0) ts
-fail_last_is ts k t failed was now e at was_is now_is =
-    let last = last_at ts k t e at in
-    let undone_now : now ≡ undone t.subs failed.0 = now_is ∙ ap (λ (x : List Sub). undone x failed.0) (last_tree_subs_is ts t last) in
-    ap (λ (x : List Sub). set ts k (let u : Tree = record { name = t.name; kind = t.kind; subs = x; written = Some (record { failed = failed; subs = was }) } in u)) undone_now
-    ∙ ap (λ (x : List Sub). set ts k (let u : Tree = record { name = t.name; kind = t.kind; subs = undone t.subs failed.0; written = Some (record { failed = failed; subs = x }) } in u)) was_is
-    ∙ ap (λ (u : Tree). set ts k (failed_tree failed.0 u)) at
-    ∙ on_last_is (failed_tree failed.0) ts k t e
 
 pub strict_failed : (ts : List Tree) (k m : ℕ) → m < last_subs ts → strict_trees (on_last (failed_tree k) ts) ≡ strict_trees ts
 strict_failed ts k m lt =

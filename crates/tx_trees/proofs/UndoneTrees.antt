@@ -13,16 +13,16 @@ use Rattle.commute_ops.specs.declared.kinds.Kind.{Kind}
 use Rattle.commute_ops.specs.declared.kinds.Kind.TheVariants as kinds
 use Rattle.commute_ops.specs.declared.kinds.Op.TheVariants as ops
 use Rattle.commute_ops.specs.declared.kinds.TheConstants.{MOST_AMOUNT}
-use Rattle.tx_trees.specs.Ranges.{is_in_range}
-use Rattle.tx_trees.specs.Valid.{AreSubs, IsOp, IsSub, OpAt, deed_fits}
-use Rattle.tx_trees.specs.declared.parts.Deed.{Deed}
-use Rattle.tx_trees.specs.declared.parts.Deed.TheVariants as deeds
-use Rattle.tx_trees.specs.declared.parts.Form.TheVariants as forms
-use Rattle.tx_trees.specs.declared.parts.ItemRow.{ItemRow}
-use Rattle.tx_trees.specs.declared.parts.Sub.{Sub}
-use Rattle.tx_trees.specs.declared.parts.SubOp.{SubOp}
-use Rattle.tx_trees.specs.declared.parts.TreeKind.TheVariants as trees
-use Rattle.tx_trees.specs.Undone.{goes_from, goes_next, inverse, inverses_from, is_undone, negated, negated_deed, new_number, staying, staying_from, stays, undone}
+use Rattle.script_parts.specs.Ranges.{is_in_range}
+use Rattle.script_parts.specs.Valid.{AreSubs, IsOp, IsSub, OpAt, deed_fits}
+use Rattle.script_parts.specs.declared.parts.Deed.{Deed}
+use Rattle.script_parts.specs.declared.parts.Deed.TheVariants as deeds
+use Rattle.script_parts.specs.declared.parts.Form.TheVariants as forms
+use Rattle.script_parts.specs.declared.parts.ItemRow.{ItemRow}
+use Rattle.script_parts.specs.declared.parts.Sub.{Sub}
+use Rattle.script_parts.specs.declared.parts.SubOp.{SubOp}
+use Rattle.script_parts.specs.declared.parts.TreeKind.TheVariants as trees
+use Rattle.script_parts.specs.Undone.{goes_from, goes_next, inverse, inverses_from, is_undone, negated, negated_deed, new_number, staying, staying_from, stays, undone}
 
 -- marks
 

@@ -1,11 +1,8 @@
 -- A script's fields, as what it holds, and the numbers that are kept beside it.
-use Rattle.std.specs.Prelude.{ℕ, ◌≡◌, ◌<◌, ◌≤◌, ◌+◌, ◌^◌, List, length, get_or}
-use Rattle.std.specs.List.{AllByRecursion}
-use Rattle.tx_trees.specs.ScriptData.{ScriptData}
-use Rattle.tx_trees.specs.Valid.{IsValid, item_names, load, subs_load, tree_names}
-use Rattle.tx_trees.specs.Counts.{advances_in, all_ops, all_subs, loses_in, strict_trees, trees_puts, update_subs}
-use Rattle.tx_trees.specs.declared.parts.Sub.{Sub}
-use Rattle.tx_trees.specs.declared.parts.SubOp.{SubOp}
+use Rattle.std.specs.Prelude.{ℕ, ◌≡◌, ◌<◌, List, length, get_or}
+use Rattle.script_parts.specs.ScriptData.{ScriptData}
+use Rattle.script_parts.specs.Valid.{IsValid, item_names, load, tree_names}
+use Rattle.script_parts.specs.Counts.{advances_in, all_ops, all_subs, loses_in, strict_trees, trees_puts, update_subs}
 use Rattle.tx_trees.specs.declared.script.Script.TheInside.{Inside}
 
 abbrev pub data_of : Inside → ScriptData
@@ -18,30 +15,6 @@ data_of s = record {
   picks = s.picks.items;
   begun = s.begun;
 }
-
--- subtransactions have operations on the first n items alone
-abbrev pub OpWithin : ℕ → SubOp → Type 0
-OpWithin n o = o.item.0 < n
-
-abbrev pub SubWithin : ℕ → Sub → Type 0
-SubWithin n s = AllByRecursion (OpWithin n) s.ops
-
--- the magnitudes of some subtransactions can be taken off the items' totals, and those of others added
-pub record MayReload (totals : List ℕ) (off on : List Sub) : Type 0 where
-  pub off_within : AllByRecursion (SubWithin (length totals)) off
-  pub on_within : AllByRecursion (SubWithin (length totals)) on
-  pub enough : (k : ℕ) → k < length totals → subs_load k off ≤ get_or totals k 0
-  pub room : (k : ℕ) → k < length totals → get_or totals k 0 + subs_load k on < 2 ^ 128
-
--- the magnitudes of some subtransactions were taken off the items' totals, and those of others added
-pub record IsReloaded (was now : List ℕ) (off on : List Sub) : Type 0 where
-  pub len : length now ≡ length was
-  pub loads : (k : ℕ) → k < length was → get_or now k 0 + subs_load k off ≡ get_or was k 0 + subs_load k on
-
--- the magnitudes of each item of a script, all together
-pub record AreTotals (cells : List ℕ) (s : ScriptData) : Type 0 where
-  pub len : length cells ≡ length s.items
-  pub loads : (k : ℕ) → k < length s.items → get_or cells k 0 ≡ load k s
 
 -- valid, with the name and the totals of each item beside the items, the name of each tree beside the trees, and how
 -- many there are of what is limited

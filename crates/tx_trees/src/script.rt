@@ -2,31 +2,31 @@
 ghost use Rattle.std.specs.Prelude.{ℕ, true, false, ◌≡◌, ◌<◌, ◌≤◌, ◌+◌, ◌==◌, length, is_some, nat_lt, IfOk, IfSome, IsNone, OnErr, OnOk};
 ghost use Rattle.std.specs.List.{AllByRecursion};
 ghost use Rattle.commute_ops.specs.declared.kinds.TheConstants.{MOST_AMOUNT};
-ghost use Rattle.tx_trees.specs.Adding.{Steps, adds_advance, adds_item, adds_lose, adds_op, adds_pick, adds_settle, adds_sub, adds_tree, are_crowded, fresh, has_no_op_left, has_no_sub_left, has_no_tree_left, is_heavy, kind_at, last_kind, last_may_fail, last_node, last_subs, last_tree_subs, names_tree, node_at, place_of, puts_undone, with_failed, with_item, with_op, with_sub, with_tree, upgraded};
-ghost use Rattle.tx_trees.specs.Amounts.{magnitude};
-ghost use Rattle.tx_trees.specs.Counts.{advances_in, all_ops, all_subs, update_subs};
-ghost use Rattle.tx_trees.specs.Forms.{most_amount, most_nodes};
-ghost use Rattle.tx_trees.specs.Undone.{undone};
-ghost use Rattle.tx_trees.specs.Passing.{MayFail, MayAddItem, MayAddOp, MayAddSub, MayAddTree};
-ghost use Rattle.tx_trees.specs.Same.{same_script};
-ghost use Rattle.tx_trees.specs.SameFacts.{script_laws};
-ghost use Rattle.tx_trees.specs.ScriptData.{is_child, subs_at, visits};
-ghost use Rattle.tx_trees.specs.Valid.{IsValid, deed_fits, load};
+ghost use Rattle.script_parts.specs.Adding.{Steps, adds_advance, adds_item, adds_lose, adds_op, adds_pick, adds_settle, adds_sub, adds_tree, are_crowded, fresh, has_no_op_left, has_no_sub_left, has_no_tree_left, is_heavy, kind_at, last_kind, last_may_fail, last_node, last_subs, last_tree_subs, names_tree, node_at, place_of, puts_undone, with_failed, with_item, with_op, with_sub, with_tree, upgraded};
+ghost use Rattle.script_parts.specs.Amounts.{magnitude};
+ghost use Rattle.script_parts.specs.Counts.{advances_in, all_ops, all_subs, update_subs};
+ghost use Rattle.script_parts.specs.Forms.{most_amount, most_nodes};
+ghost use Rattle.script_parts.specs.Undone.{undone};
+ghost use Rattle.script_parts.specs.Passing.{MayFail, MayAddItem, MayAddOp, MayAddSub, MayAddTree};
+ghost use Rattle.script_parts.specs.Same.{same_script};
+ghost use Rattle.script_parts.specs.SameFacts.{script_laws};
+ghost use Rattle.script_parts.specs.ScriptData.{is_child, subs_at, visits};
+ghost use Rattle.script_parts.specs.Valid.{IsValid, deed_fits, load};
 
-use crate::children::{next_child, visits};
-use crate::counts::{
+use crate::name_index::NameIndex;
+use script_parts::children::{next_child, visits};
+use script_parts::counts::{
     are_many, are_spread, has_touched, last_kind, one_put, one_strict, one_update,
 };
-use crate::failing::{are_heavy, count_ops, fail_last, last_ops, may_fail, reloaded};
-use crate::lookups::{
+use script_parts::failing::{are_heavy, count_ops, fail_last, last_ops, may_fail, reloaded};
+use script_parts::is_plain_name;
+use script_parts::lookups::{
     deed_fits, empty_sub, kind_at, last_subs, node_at, place_of_last, push_op, push_sub, rooted,
 };
-use crate::name_index::NameIndex;
-use crate::names::is_plain_name;
-use crate::parts::{Deed, Form, ItemRow, ScriptRow, Sub, SubOp, Subs, Tree, TreeKind};
-use crate::ranges::{initial_size, is_in_range, magnitude, may_start};
-use crate::same::same_form;
-use crate::why::{Refusal, Why};
+use script_parts::parts::{Deed, Form, ItemRow, ScriptRow, Sub, SubOp, Subs, Tree, TreeKind};
+use script_parts::ranges::{initial_size, is_in_range, magnitude, may_start};
+use script_parts::same::same_form;
+use script_parts::why::{Refusal, Why};
 use std::alloc::Global;
 use std::marker::Model;
 use tv_base::{ItemNo, Name, NoMemory, NodeNo, SubNo, TreeNo};
@@ -84,7 +84,7 @@ struct Sizes {
 }
 
 impl Model for Script {
-    ghost use Rattle.tx_trees.specs.ScriptData.{ScriptData};
+    ghost use Rattle.script_parts.specs.ScriptData.{ScriptData};
 
     ghost Value = { ScriptData };
 
@@ -144,7 +144,7 @@ impl PartialEq for Script {
 }
 
 impl Script {
-    ghost use Rattle.tx_trees.specs.Inside.{AreTotals};
+    ghost use Rattle.script_parts.specs.Loads.{AreTotals};
 
     /// A script of this form and of so many nodes, 1 to 16, or 1 to 64 of the second form, with nothing in it.
     pub fn new(alloc: Global, form: Form, nodes: u8) -> Script

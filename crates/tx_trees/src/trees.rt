@@ -1,33 +1,12 @@
 // A script's trees by number.
 ghost use Rattle.std.specs.Prelude.{◌≡◌, ◌<◌, ◌≤◌, All, length, slice_get};
 ghost use Rattle.std.specs.Option.{option_copied};
-ghost use Rattle.tx_trees.specs.ScriptData.{home_of, is_read, is_update, reads, subs_at, updates};
+ghost use Rattle.script_parts.specs.ScriptData.{home_of, reads, subs_at, updates};
 
-use crate::parts::{Sub, Tree, TreeKind};
 use crate::script::Script;
+use script_parts::kinds::{is_read, is_update};
+use script_parts::parts::{Sub, Tree};
 use tv_base::TreeNo;
-
-/// Whether a tree's kind is that of update trees.
-pub(crate) fn is_update(kind: TreeKind) -> bool
-    ensures { result ≡ is_update kind }
-{
-    match kind {
-        TreeKind::Update => true,
-        TreeKind::Read => false,
-        TreeKind::Strict => false,
-    }
-}
-
-/// Whether a tree's kind is that of read trees.
-fn is_read(kind: TreeKind) -> bool
-    ensures { result ≡ is_read kind }
-{
-    match kind {
-        TreeKind::Update => false,
-        TreeKind::Read => true,
-        TreeKind::Strict => false,
-    }
-}
 
 /// A tree by number. None exactly where it isn't there.
 fn find(trees: &[Tree], tree: TreeNo) -> Option<&Tree>

@@ -1,5 +1,5 @@
 use Rattle.std.proofs.Common.{arith, refl, ap, ◌∙◌}
-use Rattle.tx_trees.specs.ScriptData.{ScriptData}
+use Rattle.script_parts.specs.ScriptData.{ScriptData}
 use Rattle.tx_trees.proofs.Kept.{kept_lose}
 use Rattle.tx_trees.proofs.script.Script.add_lose.Goals as goal
 

@@ -1,7 +1,7 @@
 use Rattle.std.proofs.Common.{◌≡◌, ◌-◌, true, suc, length, sym, ap, ◌∙◌, subst, arith}
-use Rattle.tx_trees.specs.Adding.{last_may_fail}
-use Rattle.tx_trees.specs.ScriptData.{ScriptData}
-use Rattle.tx_trees.proofs.Last.{last_at}
+use Rattle.script_parts.specs.Adding.{last_may_fail}
+use Rattle.script_parts.specs.ScriptData.{ScriptData}
+use Rattle.script_parts.proofs.Last.{last_at}
 use Rattle.tx_trees.proofs.Undoing.{last_may_fail_is}
 use Rattle.tx_trees.proofs.script.Script.begun_may_fail.Goals as goal
 

@@ -1,6 +1,6 @@
 use Rattle.std.proofs.Common.{◌≡◌, ◌-◌, true, suc, length, sym, ap, ◌∙◌, subst, arith}
-use Rattle.tx_trees.specs.Adding.{last_subs, last_tree_subs}
-use Rattle.tx_trees.specs.ScriptData.{ScriptData}
+use Rattle.script_parts.specs.Adding.{last_subs, last_tree_subs}
+use Rattle.script_parts.specs.ScriptData.{ScriptData}
 use Rattle.tx_trees.specs.Inside.{data_of}
 use Rattle.tx_trees.proofs.Undoing.{last_subs_here}
 use Rattle.tx_trees.proofs.script.Script.begun_subs.Goals as goal

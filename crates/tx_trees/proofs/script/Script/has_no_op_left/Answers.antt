@@ -1,7 +1,8 @@
 use Rattle.std.proofs.Common.{◌≡◌, ◌<◌, length, ap, subst, sym, arith, true}
-use Rattle.tx_trees.specs.ScriptData.{ScriptData}
-use Rattle.tx_trees.specs.Adding.{last_subs}
-use Rattle.tx_trees.proofs.Kept.{cell_is, one_put_small}
+use Rattle.script_parts.specs.ScriptData.{ScriptData}
+use Rattle.script_parts.specs.Adding.{last_subs}
+use Rattle.script_parts.proofs.Lists.{cell_is}
+use Rattle.tx_trees.proofs.Kept.{one_put_small}
 use Rattle.tx_trees.proofs.Stays.{some_last_subs}
 use Rattle.tx_trees.proofs.script.Script.has_no_op_left.Goals as goal
 

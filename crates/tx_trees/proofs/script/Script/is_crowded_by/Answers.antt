@@ -1,7 +1,7 @@
 use Rattle.std.proofs.Common.{◌≡◌, ℕ, arith, ap, sym, ◌∙◌}
-use Rattle.tx_trees.specs.Adding.{are_many, with_failed}
-use Rattle.tx_trees.specs.Counts.{strict_trees}
-use Rattle.tx_trees.specs.ScriptData.{ScriptData}
+use Rattle.script_parts.specs.Adding.{are_many, with_failed}
+use Rattle.script_parts.specs.Counts.{strict_trees}
+use Rattle.script_parts.specs.ScriptData.{ScriptData}
 use Rattle.tx_trees.proofs.Undoing.{crowded_last, crowded_tree, failed_count, strict_failed}
 use Rattle.tx_trees.proofs.script.Script.is_crowded_by.Goals as goal
 

@@ -1,7 +1,7 @@
 use Rattle.std.proofs.Common.{◌∙◌, ap}
-use Rattle.tx_trees.specs.Adding.{with_failed}
-use Rattle.tx_trees.specs.Forms.{most_amount}
-use Rattle.tx_trees.specs.ScriptData.{ScriptData}
+use Rattle.script_parts.specs.Adding.{with_failed}
+use Rattle.script_parts.specs.Forms.{most_amount}
+use Rattle.script_parts.specs.ScriptData.{ScriptData}
 use Rattle.tx_trees.proofs.Undoing.{heavy_is}
 use Rattle.tx_trees.proofs.script.Script.is_heavy_with.Goals as goal
 

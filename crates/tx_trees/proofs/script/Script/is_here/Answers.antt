@@ -1,6 +1,6 @@
 use Rattle.std.proofs.Common.{◌≡◌, ap, subst, sym, arith, true}
-use Rattle.tx_trees.specs.ScriptData.{ScriptData}
-use Rattle.tx_trees.specs.Adding.{last_subs}
+use Rattle.script_parts.specs.ScriptData.{ScriptData}
+use Rattle.script_parts.specs.Adding.{last_subs}
 use Rattle.tx_trees.proofs.Stays.{some_last_subs}
 use Rattle.tx_trees.proofs.script.Script.is_here.Goals as goal
 

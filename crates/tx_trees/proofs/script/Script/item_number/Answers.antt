@@ -1,9 +1,9 @@
 use Rattle.std.proofs.Common.{◌∙◌, ap}
 use Rattle.std.specs.Prelude.{position}
 use Rattle.std.specs.Str.{bytes_eq}
-use Rattle.tx_trees.specs.ScriptData.{ScriptData}
-use Rattle.tx_trees.specs.Adding.{place_of}
-use Rattle.tx_trees.proofs.Named.{place_is}
+use Rattle.script_parts.specs.ScriptData.{ScriptData}
+use Rattle.script_parts.specs.Adding.{place_of}
+use Rattle.script_parts.proofs.Named.{place_is}
 use Rattle.tx_trees.proofs.script.Script.item_number.Goals as goal
 
 pub returns-clause-number : goal.returns-clause-number

@@ -1,9 +1,9 @@
 use Rattle.std.proofs.Common.{◌∙◌, ap}
 use Rattle.std.specs.List.{list_any}
 use Rattle.std.specs.Str.{bytes_eq}
-use Rattle.tx_trees.specs.ScriptData.{ScriptData}
-use Rattle.tx_trees.specs.Adding.{names_tree}
-use Rattle.tx_trees.proofs.Named.{has_tree}
+use Rattle.script_parts.specs.ScriptData.{ScriptData}
+use Rattle.script_parts.specs.Adding.{names_tree}
+use Rattle.script_parts.proofs.Named.{has_tree}
 use Rattle.tx_trees.proofs.script.Script.names_tree.Goals as goal
 
 pub returns : goal.returns

@@ -2,12 +2,12 @@ use Rattle.std.proofs.Common.{arith, ◌∙◌, ap, List, ℕ, ◌++◌, ◌∷�
 use Rattle.std.specs.Prelude.{is_some}
 use Rattle.std.specs.List.{list_any}
 use Rattle.std.specs.Str.{bytes_eq}
-use Rattle.tx_trees.specs.declared.parts.ItemRow.{ItemRow}
-use Rattle.tx_trees.specs.ScriptData.{ScriptData}
-use Rattle.tx_trees.specs.Adding.{place_of}
-use Rattle.tx_trees.specs.Passing.{MayAddItem}
+use Rattle.script_parts.specs.declared.parts.ItemRow.{ItemRow}
+use Rattle.script_parts.specs.ScriptData.{ScriptData}
+use Rattle.script_parts.specs.Adding.{place_of}
+use Rattle.script_parts.specs.Passing.{MayAddItem}
 use Rattle.tx_trees.proofs.Kept.{kept_item, pushed_is}
-use Rattle.tx_trees.proofs.Named.{has_item}
+use Rattle.script_parts.proofs.Named.{has_item}
 use Rattle.tx_trees.proofs.script.Script.put_item.Goals as goal
 
 pub add-requires : goal.add-requires

@@ -1,9 +1,10 @@
 use Rattle.std.proofs.Common.{arith, length, get_or, ◌≡◌, ◌<◌, ◌+◌, sym, refl, subst}
-use Rattle.tx_trees.specs.ScriptData.{ScriptData}
-use Rattle.tx_trees.specs.Amounts.{magnitude}
-use Rattle.tx_trees.specs.Counts.{one_put}
-use Rattle.tx_trees.specs.Passing.{MayAddOp}
-use Rattle.tx_trees.proofs.Kept.{cell_is, kept_op}
+use Rattle.script_parts.specs.ScriptData.{ScriptData}
+use Rattle.script_parts.specs.Amounts.{magnitude}
+use Rattle.script_parts.specs.Counts.{one_put}
+use Rattle.script_parts.specs.Passing.{MayAddOp}
+use Rattle.script_parts.proofs.Lists.{cell_is}
+use Rattle.tx_trees.proofs.Kept.{kept_op}
 use Rattle.tx_trees.proofs.Stays.{some_last_subs}
 use Rattle.tx_trees.proofs.script.Script.put_op.Goals as goal
 

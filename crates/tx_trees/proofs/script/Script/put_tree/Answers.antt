@@ -1,14 +1,14 @@
 use Rattle.std.proofs.Common.{arith, length, ◌∙◌, ap, List, ℕ, ◌+◌, ◌++◌, ◌∷◌, [], ◌≡◌, subst, sym, refl}
 use Rattle.std.specs.List.{list_any}
 use Rattle.std.specs.Str.{bytes_eq}
-use Rattle.tx_trees.specs.ScriptData.{ScriptData}
-use Rattle.tx_trees.specs.declared.parts.ScriptRow.{ScriptRow}
-use Rattle.tx_trees.specs.declared.parts.ScriptRow.TheVariants as rows
-use Rattle.tx_trees.specs.declared.parts.Tree.{Tree}
-use Rattle.tx_trees.specs.Adding.{names_tree, rooted}
-use Rattle.tx_trees.specs.Passing.{MayAddTree}
+use Rattle.script_parts.specs.ScriptData.{ScriptData}
+use Rattle.script_parts.specs.declared.parts.ScriptRow.{ScriptRow}
+use Rattle.script_parts.specs.declared.parts.ScriptRow.TheVariants as rows
+use Rattle.script_parts.specs.declared.parts.Tree.{Tree}
+use Rattle.script_parts.specs.Adding.{names_tree, rooted}
+use Rattle.script_parts.specs.Passing.{MayAddTree}
 use Rattle.tx_trees.proofs.Kept.{few_updates, kept_room, kept_tree, one_update_small, pushed_is}
-use Rattle.tx_trees.proofs.Named.{has_tree}
+use Rattle.script_parts.proofs.Named.{has_tree}
 use Rattle.tx_trees.proofs.script.Script.put_tree.Goals as goal
 
 pub add-requires : goal.add-requires

@@ -1,6 +1,6 @@
 use Rattle.std.proofs.Common.{◌≡◌, false, sym, ap, ◌∙◌, length, List, arith}
-use Rattle.tx_trees.specs.Adding.{are_crowded, with_failed}
-use Rattle.tx_trees.specs.declared.parts.Sub.{Sub}
+use Rattle.script_parts.specs.Adding.{are_crowded, with_failed}
+use Rattle.script_parts.specs.declared.parts.Sub.{Sub}
 use Rattle.tx_trees.proofs.Undoing.{failed_count, room_left}
 use Rattle.tx_trees.proofs.script.Script.put_undone.Goals as goal
 

@@ -1,8 +1,8 @@
 use Rattle.std.proofs.Common.{◌≡◌, arith, ap, subst, ◌∙◌}
-use Rattle.tx_trees.specs.Adding.{last_ops, last_subs}
-use Rattle.tx_trees.specs.Counts.{all_ops, all_subs, update_subs}
-use Rattle.tx_trees.specs.ScriptData.{ScriptData}
-use Rattle.tx_trees.specs.Valid.{IsValid}
+use Rattle.script_parts.specs.Adding.{last_ops, last_subs}
+use Rattle.script_parts.specs.Counts.{all_ops, all_subs, update_subs}
+use Rattle.script_parts.specs.ScriptData.{ScriptData}
+use Rattle.script_parts.specs.Valid.{IsValid}
 use Rattle.tx_trees.proofs.Kept.{few_updates}
 use Rattle.tx_trees.proofs.Undoing.{sizes_are}
 use Rattle.tx_trees.proofs.script.Script.sizes_with.Goals as goal

@@ -1,11 +1,12 @@
 use Rattle.std.proofs.Common.{◌≡◌, ◌<◌, ◌-◌, true, List, ℕ, suc, length, sym, ◌∙◌, subst, arith}
-use Rattle.tx_trees.specs.Adding.{last_may_fail, last_subs, last_tree_subs, with_failed}
-use Rattle.tx_trees.specs.Inside.{AreTotals, IsReloaded, MayReload}
-use Rattle.tx_trees.specs.ScriptData.{ScriptData}
-use Rattle.tx_trees.specs.Undone.{undone}
-use Rattle.tx_trees.specs.declared.parts.Sub.{Sub}
-use Rattle.tx_trees.proofs.Last.{last_at}
-use Rattle.tx_trees.proofs.Undoing.{last_tree_subs_is, may_reload, reloaded_totals}
+use Rattle.script_parts.specs.Adding.{last_may_fail, last_subs, last_tree_subs, with_failed}
+use Rattle.script_parts.specs.Loads.{AreTotals, IsReloaded, MayReload}
+use Rattle.script_parts.specs.ScriptData.{ScriptData}
+use Rattle.script_parts.specs.Undone.{undone}
+use Rattle.script_parts.specs.declared.parts.Sub.{Sub}
+use Rattle.script_parts.proofs.Last.{last_at}
+use Rattle.script_parts.proofs.Last.{last_tree_subs_is}
+use Rattle.tx_trees.proofs.Undoing.{may_reload, reloaded_totals}
 use Rattle.tx_trees.proofs.script.Script.totals_with.Goals as goal
 
 pub reloaded-requires : goal.reloaded-requires

@@ -1,0 +1,6 @@
+pub mod AsciiNames
+pub mod Last
+pub mod Lists
+pub mod Loading
+pub mod Named
+pub mod Totals

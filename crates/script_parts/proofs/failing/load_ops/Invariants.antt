@@ -1,0 +1,6 @@
+use Rattle.std.proofs.Common.{drop}
+use Rattle.script_parts.proofs.Loading.{OpsLoaded}
+use Rattle.script_parts.proofs.failing.load_ops.Given as goal
+
+abbrev pub invariant-loop-op : goal.invariant-loop-op
+invariant-loop-op l = OpsLoaded l.fn.totals.items l.totals.items l.ops (drop l.op-index l.ops)

@@ -1,0 +1,17 @@
+pub mod Adding
+pub mod Amounts
+pub mod AsciiNames
+pub mod Built
+pub mod Counts
+pub mod Forms
+pub mod Loads
+pub mod Names
+pub mod Passing
+pub mod Ranges
+pub mod Rebuilt
+pub mod Same
+pub mod SameFacts
+pub mod ScriptData
+pub mod Undone
+pub mod Valid
+pub mod Why

@@ -1,0 +1,31 @@
+// What a script's form allows.
+ghost use Rattle.std.specs.Prelude.{◌≡◌, ◌≤◌};
+ghost use Rattle.commute_ops.specs.declared.kinds.TheConstants.{MOST_AMOUNT};
+ghost use Rattle.script_parts.specs.Forms.{most_amount, most_nodes};
+
+use crate::parts::Form;
+use commute_ops::MOST_AMOUNT;
+
+impl Form {
+    /// The greatest number of nodes: 16, or 64 of the second form.
+    pub fn most_nodes(self) -> u8
+        ensures { result ≡ most_nodes self }
+    {
+        match self {
+            Form::One => 16,
+            Form::Two => 64,
+        }
+    }
+
+    /// The greatest magnitude of an amount, of an initial value, and of what an item's magnitudes add up to: 10^15, or
+    /// 10^30 of the second form.
+    pub fn most_amount(self) -> u128
+        ensures most { result ≡ most_amount self }
+        ensures small { result ≤ MOST_AMOUNT }
+    {
+        match self {
+            Form::One => 1_000_000_000_000_000,
+            Form::Two => MOST_AMOUNT,
+        }
+    }
+}

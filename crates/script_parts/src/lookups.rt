@@ -1,0 +1,154 @@
+// Look-ups in the parts of a script, and changes at their end.
+ghost use Rattle.std.specs.Prelude.{◌≡◌, ◌<◌, [], length, OnOk, OnErr, IfOk};
+ghost use Rattle.script_parts.specs.Valid.{deed_fits, op_fits};
+ghost use Rattle.script_parts.specs.Adding.{kind_at, last_count, last_kind, last_node, last_subs, node_at, on_last, on_last_sub, push_op, push_sub, rooted};
+
+use crate::parts::{Deed, ItemRow, Sub, SubOp, Subs, Tree, TreeKind};
+use commute_ops::{Kind, Op};
+use std::alloc::Global;
+use tv_base::{Name, NoMemory, NodeNo, Seq, SubNo};
+
+// Where the next operation goes.
+#[derive(Clone, Copy)]
+pub struct LastPlace {
+    pub kind: TreeKind,
+    pub node: NodeNo,
+    pub ops: usize,
+}
+
+// The node of an item.
+pub fn node_at(items: &[ItemRow], item: usize) -> NodeNo
+    requires { item < length items.now }
+    ensures { result.0 ≡ node_at item items.now }
+{
+    items[item].node
+}
+
+// The kind of an item.
+pub fn kind_at(items: &[ItemRow], item: usize) -> Kind
+    requires { item < length items.now }
+    ensures { result ≡ kind_at item items.now }
+{
+    items[item].kind
+}
+
+// Whether a tree of this kind may have this operation on an item of that kind.
+pub fn deed_fits(tree: TreeKind, kind: Kind, deed: Deed) -> bool
+    ensures { result ≡ deed_fits tree kind deed }
+{
+    match (tree, kind, deed) {
+        (TreeKind::Update, _, Deed::Apply(op)) => op_fits(kind, op),
+        (TreeKind::Read, _, Deed::Get) => true,
+        (TreeKind::Strict, _, Deed::Get) => true,
+        (TreeKind::Strict, Kind::Sum, Deed::Set(_)) => true,
+        (TreeKind::Strict, Kind::Top, Deed::Set(_)) => true,
+        (TreeKind::Strict, Kind::Sum, Deed::Draw(_)) => true,
+        _ => false,
+    }
+}
+
+// Whether the operation is of the kind.
+fn op_fits(kind: Kind, op: Op) -> bool
+    ensures { result ≡ op_fits kind op }
+{
+    match (kind, op) {
+        (Kind::Sum, Op::Add(_)) => true,
+        (Kind::Top, Op::Top(_)) => true,
+        (Kind::Bag, Op::Put(_)) => true,
+        _ => false,
+    }
+}
+
+// How many subtransactions the last tree has.
+pub fn last_subs(trees: &[Tree]) -> usize
+    requires { 0 < length trees.now }
+    ensures { result ≡ last_subs trees.now }
+{
+    trees[trees.len() - 1].subs.items().len()
+}
+
+// The last subtransaction of the last tree.
+pub fn place_of_last(trees: &[Tree]) -> LastPlace
+    requires trees { 0 < length trees.now }
+    requires subs { 0 < last_subs trees.now }
+    ensures kind { result.kind ≡ last_kind trees.now }
+    ensures node { result.node.0 ≡ last_node trees.now }
+    ensures ops { result.ops ≡ last_count trees.now }
+{
+    let tree = &trees[trees.len() - 1];
+    let subs = tree.subs.items();
+    let sub = &subs[subs.len() - 1];
+    LastPlace {
+        kind: tree.kind,
+        node: sub.node,
+        ops: sub.ops.items().len(),
+    }
+}
+
+// A subtransaction with no operation.
+pub fn empty_sub(alloc: Global, parent: SubNo, node: NodeNo) -> Sub
+    ensures { result ≡ record { parent = parent; node = node; ops = [] } }
+{
+    Sub {
+        parent,
+        node,
+        ops: Seq::new(alloc),
+    }
+}
+
+// A tree with its root alone.
+pub fn rooted(alloc: Global, name: Name, kind: TreeKind, node: NodeNo) -> Result<Tree, NoMemory>
+    ensures { IfOk result (λ t. t ≡ rooted name kind node) }
+{
+    let mut subs = Seq::new(alloc);
+    subs.push(empty_sub(alloc, SubNo(0), node))?;
+    Ok(Tree {
+        name,
+        kind,
+        subs,
+        written: None,
+    })
+}
+
+// Puts a subtransaction behind those of the last tree.
+pub fn push_sub(trees: &mut Vec<Tree>, sub: Sub) -> Result<(), NoMemory>
+    requires { 0 < length trees.old.items }
+    ensures ok { OnOk result (trees.new.items ≡ on_last (push_sub sub) trees.old.items) }
+    ensures err { OnErr result (trees.new.items ≡ trees.old.items) }
+{
+    let last = trees.len() - 1;
+    let tree = &mut trees[last];
+    if let Err((none, _)) = tree.subs.push(sub) {
+        return Err(none);
+    }
+    Ok(())
+}
+
+// Puts an operation behind those of the last subtransaction.
+fn push_to_last(alloc: Global, subs: &mut Subs, op: SubOp) -> Result<(), NoMemory>
+    requires { 0 < length subs.old }
+    ensures ok { OnOk result (subs.new ≡ on_last (push_op op) subs.old) }
+    ensures err { OnErr result (subs.new ≡ subs.old) }
+{
+    let last = subs.items().len() - 1;
+    let spare = empty_sub(alloc, SubNo(0), NodeNo(0));
+    let mut sub = subs.put(last, spare);
+    let pushed = sub.ops.push(op);
+    let _ = subs.put(last, sub);
+    if let Err((none, _)) = pushed {
+        return Err(none);
+    }
+    Ok(())
+}
+
+// Puts an operation behind those of the last subtransaction of the last tree.
+pub fn push_op(alloc: Global, trees: &mut Vec<Tree>, op: SubOp) -> Result<(), NoMemory>
+    requires trees { 0 < length trees.old.items }
+    requires subs { 0 < last_subs trees.old.items }
+    ensures ok { OnOk result (trees.new.items ≡ on_last (on_last_sub (push_op op)) trees.old.items) }
+    ensures err { OnErr result (trees.new.items ≡ trees.old.items) }
+{
+    let last = trees.len() - 1;
+    let tree = &mut trees[last];
+    push_to_last(alloc, &mut tree.subs, op)
+}

@@ -1,6 +1,0 @@
-use Rattle.std.proofs.Common.{◌≡◌, drop}
-use Rattle.tx_trees.specs.Adding.{touch}
-use Rattle.tx_trees.proofs.counts.touch.Given as goal
-
-abbrev pub invariant-loop-sub : goal.invariant-loop-sub
-invariant-loop-sub l = touch l.item l.subs ≡ touch l.item (drop l.sub-index l.subs)

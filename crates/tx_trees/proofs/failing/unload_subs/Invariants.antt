@@ -1,6 +1,0 @@
-use Rattle.std.proofs.Common.{drop}
-use Rattle.tx_trees.proofs.Loading.{SubsUnloaded}
-use Rattle.tx_trees.proofs.failing.unload_subs.Given as goal
-
-abbrev pub invariant-loop-sub : goal.invariant-loop-sub
-invariant-loop-sub l = SubsUnloaded l.fn.totals.items l.totals.items l.subs (drop l.sub-index l.subs)
