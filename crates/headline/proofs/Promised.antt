@@ -3,15 +3,15 @@ use Rattle.std.proofs.Common.{List, reverse, subst, sym}
 use Rattle.std.proofs.lemmas.List.{reverse-reverse}
 use Rattle.board_laws.proofs.Waits.{no_wait}
 use Rattle.board_model.specs.Right.{HasFinished}
-use Rattle.gate_laws.proofs.Fitting.{fits_run}
+use Rattle.headline.proofs.Fitting.{fits_run}
 use Rattle.headline.specs.Headline.{HasHeadline}
-use Rattle.hold_laws.proofs.Few.{held_three}
-use Rattle.hold_laws.proofs.Settled.{settled}
+use Rattle.headline.proofs.Few.{held_three}
+use Rattle.headline.proofs.Settled.{settled}
 use Rattle.letter_types.specs.declared.entries.Entry.{Entry}
-use Rattle.move_laws.proofs.BoardRuns.{board_run}
+use Rattle.headline.proofs.BoardRuns.{board_run}
 use Rattle.run_laws.proofs.InTime.{in_time}
-use Rattle.show_laws.proofs.Staying.{reads_right, stay_right, updates_first}
-use Rattle.show_laws.proofs.Undone.{nothing_undone}
+use Rattle.headline.proofs.Staying.{reads_right, stay_right, updates_first}
+use Rattle.headline.proofs.Undone.{nothing_undone}
 use Rattle.tree_laws.proofs.Whole.{whole}
 use Rattle.tx_trees.specs.ScriptData.{ScriptData}
 use Rattle.tx_trees.specs.Valid.{IsValid}

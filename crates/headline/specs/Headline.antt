@@ -12,9 +12,9 @@ use Rattle.board_model.specs.Histories.{IsWhole}
 use Rattle.board_model.specs.Moves.{IsBoardRun}
 use Rattle.board_model.specs.Right.{HasFinished, IsAtOnce, IsRight}
 use Rattle.world_model.specs.Runs.{WorldRun}
-use Rattle.show_laws.specs.Reads.{ReadsStayRight, UpdatesComeFirst}
-use Rattle.show_laws.specs.Undone.{ShowsNothingUndone}
-use Rattle.hold_laws.specs.Held.{HasHeldThree, IsSettled}
+use Rattle.headline.specs.Reads.{ReadsStayRight, UpdatesComeFirst}
+use Rattle.headline.specs.Undone.{ShowsNothingUndone}
+use Rattle.headline.specs.Held.{HasHeldThree, IsSettled}
 
 -- The headline of a script and a history, with a field a phrase, in its order. That its report was written is said beside
 -- it, where there is something that is written to.

@@ -1,1 +1,5 @@
+pub mod Ended
 pub mod Headline
+pub mod Held
+pub mod Reads
+pub mod Undone

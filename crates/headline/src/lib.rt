@@ -1,18 +1,19 @@
-//! The headline of a run whose client has finished, as one record.
+//! What is promised of every run. Laws of the Board and its gates, of what reads show and of what nodes hold, each for
+//! every run; and the headline of a run whose client has finished, as one record of them.
 #![tactic(auto)]
 
-ghost use Rattle.std.specs.Prelude.{List};
-ghost use Rattle.board_model.specs.Right.{HasFinished};
-ghost use Rattle.headline.specs.Headline.{HasHeadline};
-ghost use Rattle.letter_types.specs.declared.entries.Entry.{Entry};
-ghost use Rattle.tx_trees.specs.ScriptData.{ScriptData};
-ghost use Rattle.tx_trees.specs.Valid.{IsValid};
-ghost use Rattle.world_model.specs.Runs.{WorldRun};
-ghost use Rattle.world_model.specs.Tables.{Runnable};
+mod board;
+mod gates;
+mod held;
+mod promise;
+mod reads;
+mod window;
 
-/// Every run by the tables in which the client has finished has the headline, whoever made it: letters may still be under
-/// way in it.
-pub fn every_finished_run_has_the_headline()
-    ensures { (s : ScriptData) (h : List Entry) → IsValid s → Runnable s → WorldRun s h → HasFinished h
-        → HasHeadline s h }
-{}
+pub use board::every_run_is_a_board_run;
+pub use gates::{every_run_keeps_to_its_rows, open_gates_stay_open};
+pub use held::{no_item_has_held_more_than_three, nodes_hold_the_balances};
+pub use promise::{every_finished_run_has_the_headline, every_run_without_letters_has_ended};
+pub use reads::{
+    every_read_is_right, no_read_shows_what_was_undone, reads_stay_right, updates_come_first,
+};
+pub use window::the_window_refuses_nothing;

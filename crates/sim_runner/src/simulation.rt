@@ -1,6 +1,6 @@
 // Runs on one thread.
 ghost use Rattle.std.specs.Prelude.{◌≡◌, ◌≤◌, ◌^◌, IfOk, length};
-ghost use Rattle.sim_runner.specs.Finished.{HasEnded};
+ghost use Rattle.headline.specs.Ended.{HasEnded};
 ghost use Rattle.sim_runner.specs.Pickers.{IsPickedBy, picker_at};
 ghost use Rattle.world_model.specs.Scheduled.{IsScheduled};
 ghost use Rattle.world_model.specs.Tables.{Runnable};

@@ -25,7 +25,7 @@ use Rattle.headline.specs.Headline.{HasHeadline}
 use Rattle.history_text.specs.History.{history_lines_of}
 use Rattle.script_gen.specs.Generated.{generated}
 use Rattle.report_text.specs.Summary.{summary_of}
-use Rattle.sim_runner.specs.Finished.{HasEnded}
+use Rattle.headline.specs.Ended.{HasEnded}
 use Rattle.threev_top.specs.declared.outcomes.Mode.{Mode}
 use Rattle.threev_top.specs.declared.outcomes.Mode.TheVariants as modes
 use Rattle.threev_top.specs.declared.outcomes.Stop.{Stop}

@@ -10,7 +10,7 @@ ghost use Rattle.script_reader.specs.declared.reading.ScriptFault.{ScriptFault};
 ghost use Rattle.world_model.specs.Scheduled.{IsScheduled};
 ghost use Rattle.world_model.specs.Tables.{Runnable};
 ghost use Rattle.headline.specs.Headline.{HasHeadline};
-ghost use Rattle.sim_runner.specs.Finished.{HasEnded};
+ghost use Rattle.headline.specs.Ended.{HasEnded};
 ghost use Rattle.threev_top.specs.Calls.{HasWorkers, is_before_writing, IsByBytes, IsStop, IsText, IsTextOf, IsWritten, reading_stop, Refuses, report_with, script_stop, WritesFront, WritesText, Wrote, WroteFront};
 
 use history_text::history_lines;

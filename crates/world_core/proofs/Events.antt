@@ -11,7 +11,7 @@ use Rattle.letter_types.specs.Letters.{sealed}
 use Rattle.letter_types.specs.Steps.{Out}
 use Rattle.tx_trees.specs.ScriptData.{ScriptData}
 use Rattle.world_model.proofs.Scripts.{Sound, get_some}
-use Rattle.quiet_laws.specs.Balance.{MOST_COUNTED}
+use Rattle.run_laws.specs.Balance.{MOST_COUNTED}
 use Rattle.tree_step.specs.Children.{MOST_SENT}
 use Rattle.world_core.specs.declared.actor.ActorState.{ActorState}
 use Rattle.world_model.specs.Tables.{ActorData}

@@ -18,7 +18,7 @@ use Rattle.letter_types.specs.declared.entries.StepOut.{StepOut}
 use Rattle.letter_types.specs.Letters.{find_id, sealed}
 use Rattle.letter_types.specs.Steps.{Out, made}
 use Rattle.pair_counters.specs.Numbers.{AllBelow, Numbers}
-use Rattle.quiet_laws.specs.Balance.{MOST_COUNTED}
+use Rattle.run_laws.specs.Balance.{MOST_COUNTED}
 use Rattle.tx_trees.specs.ScriptData.{ScriptData, client_of}
 use Rattle.world_model.specs.Counts.{Each}
 use Rattle.world_model.specs.Runs.{StepRun, MayFollow, Moves, AtNode, AtCoordinator, AtClient, node_in, waiting}
@@ -26,8 +26,8 @@ use Rattle.world_model.proofs.Every.{each_found}
 use Rattle.world_model.proofs.Gone.{unique}
 use Rattle.world_model.proofs.Fits.{Fit}
 use Rattle.world_model.proofs.Scripts.{Sound, get_below, has_root, node_below, sub_there}
-use Rattle.tree_laws.proofs.Goods.{good_run}
-use Rattle.quiet_laws.specs.Quiet.{IsGivenInQuiet}
+use Rattle.run_laws.proofs.Goods.{good_run}
+use Rattle.run_laws.specs.Quiet.{IsGivenInQuiet}
 use Rattle.run_laws.proofs.InTime.{counts_small, given_run, in_time}
 use Rattle.world_core.specs.declared.actor.ActorState.{ActorState}
 use Rattle.world_model.specs.Tables.{ActorData, actor_row}

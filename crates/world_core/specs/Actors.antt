@@ -9,7 +9,7 @@ use Rattle.letter_types.specs.Steps.{made}
 use Rattle.pair_counters.specs.Numbers.{AllBelow}
 use Rattle.tree_step.specs.Node.{IsOf, data_of as node_data}
 use Rattle.tx_trees.specs.ScriptData.{ScriptData}
-use Rattle.quiet_laws.specs.Quiet.{IsGivenInQuiet}
+use Rattle.run_laws.specs.Quiet.{IsGivenInQuiet}
 use Rattle.world_model.specs.Counts.{Each}
 use Rattle.world_model.specs.Tables.{ActorData, NodeData, CoordinatorData, ClientData, actor_row}
 use Rattle.world_model.specs.Runs.{StepRun, waiting, node_in, coordinator_in, client_in}

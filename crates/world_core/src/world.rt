@@ -3,7 +3,7 @@ ghost use Rattle.std.specs.Prelude.{◌≡◌, ◌<◌, ◌≤◌, ◌+◌, ◌-
 ghost use Rattle.std.specs.List.{remove};
 ghost use Rattle.letter_types.specs.Letters.{go, sealed};
 ghost use Rattle.world_model.specs.Tables.{Runnable};
-ghost use Rattle.quiet_laws.specs.Balance.{Balanced};
+ghost use Rattle.run_laws.specs.Balance.{Balanced};
 ghost use Rattle.tx_trees.specs.ScriptData.{ScriptData};
 ghost use Rattle.world_model.specs.Runs.{actor_after};
 ghost use Rattle.world_core.specs.Actors.{Acted, AreStatesOf, data_of, GaveInQuiet, IsWorldOf, MayTake, MOST_ENTRIES, TookLetter, world_of};

@@ -1,6 +1,6 @@
 use Rattle.std.proofs.Common.{◌≡◌, ◌≤◌, ◌%◌, ◌∙◌, ℕ, ap, sym, subst, length, List, arith}
 use Rattle.letter_types.specs.declared.entries.Entry.{Entry}
-use Rattle.sim_runner.specs.Finished.{HasEnded}
+use Rattle.headline.specs.Ended.{HasEnded}
 use Rattle.sim_runner.specs.Pickers.{IsPickedBy}
 use Rattle.sim_runner.proofs.Ends.{has_ended}
 use Rattle.sim_runner.proofs.Picked.{IsAfter, picked_more, picked_none, picker_first, picker_more}

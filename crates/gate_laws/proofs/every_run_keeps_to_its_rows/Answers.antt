@@ -1,8 +1,0 @@
-use Rattle.world_model.proofs.Scripts.{Sound}
-use Rattle.run_laws.proofs.InTime.{in_time}
-use Rattle.gate_laws.proofs.Fitting.{fits_run}
-use Rattle.gate_laws.proofs.every_run_keeps_to_its_rows.Goals as goal
-
-pub returns : goal.returns
-returns c = λ s past valid runnable run.
-    let sound : Sound s = record { valid = valid; runnable = runnable } in fits_run s past sound run (in_time s past sound run)

@@ -1,0 +1,98 @@
+-- Of each item at most three versions are held, after each part of a history.
+use Rattle.std.proofs.Common.{◌≡◌, inl, inr, ℕ, ◌+◌, ◌-◌, ◌<◌, ◌≤◌, List, [], ◌∷◌, length, take, drop, reverse, refl, ap, ◌∙◌, arith, Option, Some, None}
+use Rattle.std.specs.Prelude.{slice_get}
+use Rattle.std.proofs.lemmas.Bool.{cases_lt}
+use Rattle.std.proofs.lemmas.List.{length-reverse, take_all}
+use Rattle.commute_ops.specs.declared.value.Value.{Value}
+use Rattle.tv_base.specs.declared.numbers.Version.{Version}
+use Rattle.item_versions.specs.Item.{Held, seen}
+use Rattle.item_versions.specs.Table.{item_in}
+use Rattle.item_versions.proofs.Tables.{each-item}
+use Rattle.item_versions.proofs.Window.{few-above}
+use Rattle.letter_types.specs.declared.entries.Entry.{Entry}
+use Rattle.node_versions.specs.declared.turns.Turns.{Turns}
+use Rattle.tx_trees.specs.ScriptData.{ScriptData}
+use Rattle.tx_trees.specs.Valid.{IsItem}
+use Rattle.tx_trees.specs.declared.parts.ItemRow.{ItemRow}
+use Rattle.tx_trees.proofs.SubsOf.{all_at}
+use Rattle.world_model.specs.Runs.{StepRun, actor_after, node_in}
+use Rattle.world_model.specs.Tables.{ActorData}
+use Rattle.world_model.proofs.Back.{node_leads}
+use Rattle.world_model.proofs.Scripts.{Sound}
+use Rattle.tree_laws.proofs.Nudges.{lawful}
+use Rattle.phase_laws.proofs.Levels.{versions_in_phase}
+use Rattle.board_laws.proofs.Histories.{first_of, run_before}
+use Rattle.board_laws.proofs.OwnDeeds.{sees_own}
+use Rattle.run_laws.proofs.InTime.{in_time}
+use Rattle.headline.specs.Held.{HasHeldThree, HoldsThree, held_after, items_of, turns_of}
+use Rattle.headline.proofs.Kept.{IsKept}
+use Rattle.headline.proofs.Keeping.{keeps_run}
+
+-- strictly ascending numbers from low to at most two above it are at most three
+three : (turns : Turns) (h : Held) → turns.update.0 ≤ turns.low.0 + 2 → IsKept turns.low.0 turns.update.0 h → HoldsThree h turns
+three turns [] near kept = absurd kept.order
+three turns (x ∷ xs) near kept = record {
+  few = omega (arith, kept.least.1, few-above x.0.0 turns.update.0 xs kept.most.0 kept.order kept.most.1);
+  some = kept.least.0;
+  least = kept.least.1;
+  most = kept.most;
+  update = near;
+}
+
+-- what is seen is held
+found_by : (v : Version) (w : Value) (found : Option Held) → (elim found [ None ↦ None | Some h ↦ seen v h ]) ≡ Some w
+    → (h : Held) × (found ≡ Some h)
+found_by v w None is = absurd (cc is)
+found_by v w (Some h) is = (h, refl)
+
+-- each item is at a node of the script
+pub item_node : (s : ScriptData) (x : ℕ) (r : ItemRow) → Sound s → slice_get s.items x ≡ Some r → r.node.0 < s.nodes
+item_node s x r sound at = (all_at (IsItem s.nodes) s.items x r sound.valid.items at).node
+
+-- what the node of an item holds of it
+pub record HeldAt (s : ScriptData) (past : List Entry) (x : ℕ) (r : ItemRow) : Type 0 where
+  pub held : Held
+  pub is : item_in (record { 0 = x }) (node_in s past r.node.0).items ≡ Some held
+  pub kept : IsKept (node_in s past r.node.0).turns.low.0 (node_in s past r.node.0).turns.update.0 held
+  pub after : held_after s (reverse past) r.node.0 x ≡ held
+
+pub held_at : (s : ScriptData) (past : List Entry) (x : ℕ) (r : ItemRow) → Sound s → StepRun s past → slice_get s.items x ≡ Some r
+    → HeldAt s past x r
+held_at s past x r sound run at =
+    let p = r.node.0 in
+    let lt = item_node s x r sound at in
+    let st = node_in s past p in
+    let timely = in_time s past sound run in
+    let low = st.turns.low.0 in
+    let sees = sees_own s past sound run timely p x low r lt at refl (omega arith) in
+    let found = found_by (record { 0 = low }) _ (item_in (record { 0 = x }) st.items) sees in
+    record {
+      held = found.0;
+      is = found.1;
+      kept = each-item (IsKept low st.turns.update.0) (record { 0 = x }) st.items found.0 found.1 (keeps_run s past sound run timely p lt).kept;
+      after = ap (λ (d : ActorData). elim (item_in (record { 0 = x }) (items_of d)) [ Some held ↦ held | None ↦ [] ]) (node_leads s past p lt)
+          ∙ ap (λ (o : Option Held). elim o [ Some held ↦ held | None ↦ [] ]) found.1;
+    }
+
+-- in every run
+three_at : (s : ScriptData) (past : List Entry) (x : ℕ) (r : ItemRow) → Sound s → StepRun s past → slice_get s.items x ≡ Some r
+    → HoldsThree (held_after s (reverse past) r.node.0 x) (turns_of (actor_after s (reverse past) r.node.0))
+three_at s past x r sound run at =
+    let p = r.node.0 in
+    let lt = item_node s x r sound at in
+    let held = held_at s past x r sound run at in
+    let near = (versions_in_phase s past (lawful s sound) run (in_time s past sound run) p lt).update_near in
+    rw (held.after, node_leads s past p lt) (three (node_in s past p).turns held.held near held.kept)
+
+-- a part of a history is the history of a shorter past
+front : (past : List Entry) (n : ℕ) → (k : ℕ) × (take n (reverse past) ≡ reverse (drop k past))
+front past n =
+    elim (cases_lt (length past) n) [
+      | inl more ↦ (0, take_all n (reverse past) (omega (arith, length-reverse past)))
+      | inr less ↦ (length past - n, first_of past n less)
+    ]
+
+pub held_three : (s : ScriptData) (past : List Entry) → Sound s → StepRun s past → HasHeldThree s (reverse past)
+held_three s past sound run = λ n x r at.
+    let (k, is) = front past n in
+    rw is (three_at s (drop k past) x r sound (run_before s past k run) at)

@@ -1,0 +1,176 @@
+-- What a node's own deeds make of an item, and what the item is worth, are each one fold over subtransactions.
+use Rattle.std.proofs.Common.{◌≡◌, ◌≢◌, ℕ, zero, suc, ◌+◌, ◌==◌, Bool, true, false, List, [], ◌∷◌, ◌++◌, refl, sym, ap, subst, ◌∙◌, arith, Option, Some, None}
+use Rattle.std.specs.Prelude.{if◌then◌else◌, fold, slice_get}
+use Rattle.std.specs.List.{AllByRecursion}
+use Rattle.std.proofs.lemmas.Bool.Decides.{nat_tests}
+use Rattle.std.proofs.lemmas.List.Sums.{fold-append}
+use Rattle.commute_ops.specs.Ops.{applied}
+use Rattle.commute_ops.specs.declared.value.Value.{Value}
+use Rattle.letter_types.specs.declared.acts.Act.{Act}
+use Rattle.letter_types.specs.declared.acts.Act.TheVariants.{Did, Finished}
+use Rattle.letter_types.specs.declared.entries.Entry.{Entry}
+use Rattle.tx_trees.specs.ScriptData.{ScriptData, node_of, ops_of, sub_at, subs_at}
+use Rattle.tx_trees.specs.Valid.{IsOp, OpAt}
+use Rattle.tx_trees.specs.declared.parts.ItemRow.{ItemRow}
+use Rattle.tx_trees.specs.declared.parts.Sub.{Sub}
+use Rattle.tx_trees.specs.declared.parts.SubOp.{SubOp}
+use Rattle.tx_trees.specs.declared.parts.TreeKind.{TreeKind}
+use Rattle.board_model.specs.Histories.{Place}
+use Rattle.board_model.specs.Worth.{after_deed, after_ops, after_subs, after_tree}
+use Rattle.board_model.proofs.AnyOrder.{OpsCommute, SubsCommute, after_ops_is, exchanged, ops_on, tree_commutes}
+use Rattle.board_laws.specs.OwnValues.{after_act, own_acts, updates_to}
+use Rattle.world_model.proofs.Scripts.{Sound, SubAt, ops_fit}
+use Rattle.tree_laws.proofs.Whole.{none_strict}
+use Rattle.headline.proofs.Placed.{ArePlaced, DidAt}
+
+-- the value of item x after subtransaction k of tree t, as a pair
+abbrev pub after_sub : ScriptData → ℕ → Value → (ℕ × ℕ) → Value
+after_sub s x w q = after_ops x (ops_of s q.0 q.1) w
+
+-- Two of them may change places.
+sub_commutes : (ks : List Sub) (k : ℕ) → SubsCommute ks → (found : Option Sub) → slice_get ks k ≡ found
+    → OpsCommute (elim found [ Some sub ↦ sub.ops | None ↦ [] ])
+sub_commutes ks k all None is = tt
+sub_commutes [] k all (Some sub) is = absurd (cc is)
+sub_commutes (y ∷ ks) zero all (Some sub) is =
+    let same : y ≡ sub = cc is in subst (λ (z : Sub). OpsCommute z.ops) same all.0
+sub_commutes (y ∷ ks) (suc k) all (Some sub) is = sub_commutes ks k all.1 (Some sub) is
+
+ops_commute : (s : ScriptData) (t k : ℕ) → Sound s → OpsCommute (ops_of s t k)
+ops_commute s t k sound =
+    sub_commutes (subs_at s t) k (tree_commutes s t sound.valid (none_strict s t sound)) (sub_at s t k) refl
+
+pub subs_exchanged : (s : ScriptData) (x : ℕ) → Sound s → (w : Value) (a b : ℕ × ℕ)
+    → after_sub s x (after_sub s x w a) b ≡ after_sub s x (after_sub s x w b) a
+subs_exchanged s x sound w a b =
+    let os : List SubOp = ops_of s a.0 a.1 in
+    let us : List SubOp = ops_of s b.0 b.1 in
+    let p = ops_on x os in
+    let q = ops_on x us in
+    let one = ops_commute s a.0 a.1 sound in
+    let two = ops_commute s b.0 b.1 sound in
+    after_ops_is x us (after_ops x os w) two
+    ∙ ap (λ (z : Value). fold applied z q) (after_ops_is x os w one)
+    ∙ exchanged p q w
+    ∙ sym (ap (λ (z : Value). fold applied z p) (after_ops_is x us w two))
+    ∙ sym (after_ops_is x os (after_ops x us w) one)
+
+-- What own deeds make.
+
+-- the subtransaction that an act does, where its tree is an update tree of version at most v
+abbrev pub deed_of : ScriptData → List Entry → ℕ → Act → List (ℕ × ℕ)
+deed_of s h v (Did t k values) = if updates_to s h v t.0 then (t.0, k.0) ∷ [] else []
+deed_of s h v Finished = []
+deed_of s h v _ = []
+
+-- those of all nodes, in order
+abbrev pub deeds_in : ScriptData → List Entry → ℕ → List Place → List (ℕ × ℕ)
+deeds_in s h v [] = []
+deeds_in s h v (y ∷ ys) = deed_of s h v y.act ++ deeds_in s h v ys
+
+did_is : (s : ScriptData) (x t k : ℕ) (w : Value) (test : Bool)
+    → (if test then after_ops x (ops_of s t k) w else w) ≡ fold (after_sub s x) w (if test then (t, k) ∷ [] else [])
+did_is s x t k w true = refl
+did_is s x t k w false = refl
+
+act_is : (s : ScriptData) (h : List Entry) (x v : ℕ) (w : Value) (a : Act)
+    → after_act s h x v w a ≡ fold (after_sub s x) w (deed_of s h v a)
+act_is s h x v w (Did t k values) = did_is s x t.0 k.0 w (updates_to s h v t.0)
+act_is s h x v w Finished = refl
+act_is s h x v w _ = refl
+
+-- operations at a node leave an item of another node
+apart_by : (items : List ItemRow) (kind : TreeKind) (node x y : ℕ) (r : ItemRow) (o : SubOp) → slice_get items x ≡ Some r → r.node.0 ≢ node
+    → OpAt kind node o (slice_get items y) → y ≢ x
+apart_by items kind node x y r o at ne op = λ is.
+    let there : slice_get items y ≡ Some r = ap (slice_get items) is ∙ at in
+    let fits : OpAt kind node o (Some r) = subst (λ (found : Option ItemRow). OpAt kind node o found) there op in
+    ne fits.0
+
+pub ops_apart : (items : List ItemRow) (kind : TreeKind) (node x : ℕ) (r : ItemRow) (os : List SubOp) (w : Value)
+    → slice_get items x ≡ Some r → r.node.0 ≢ node → AllByRecursion (IsOp items kind node) os → after_ops x os w ≡ w
+ops_apart items kind node x r [] w at ne ops = refl
+ops_apart items kind node x r (o ∷ os) w at ne ops =
+    let other = apart_by items kind node x o.item.0 r o at ne ops.0 in
+    let no : (o.item.0 == x) ≡ false = grind (arith, nat_tests) in
+    ap (λ (b : Bool). after_ops x os (if b then after_deed o.deed w else w)) no
+    ∙ ops_apart items kind node x r os w at ne ops.1
+
+sub_apart : (s : ScriptData) (t k x : ℕ) (r : ItemRow) (w : Value) → Sound s → SubAt s t k → slice_get s.items x ≡ Some r
+    → r.node.0 ≢ node_of s t k → after_ops x (ops_of s t k) w ≡ w
+sub_apart s t k x r w sound c at ne =
+    ops_apart s.items c.tree.kind (node_of s t k) x r (ops_of s t k) w at ne (ops_fit s t k c.tree.kind c sound refl)
+
+did_apart : (s : ScriptData) (x t k : ℕ) (w : Value) → after_ops x (ops_of s t k) w ≡ w → (test : Bool)
+    → fold (after_sub s x) w (if test then (t, k) ∷ [] else []) ≡ w
+did_apart s x t k w same true = same
+did_apart s x t k w same false = refl
+
+act_apart : (s : ScriptData) (h : List Entry) (p x v : ℕ) (r : ItemRow) (w : Value) (node : ℕ) (a : Act) → Sound s
+    → slice_get s.items x ≡ Some r → r.node.0 ≡ p → node ≢ p → DidAt s node a → fold (after_sub s x) w (deed_of s h v a) ≡ w
+act_apart s h p x v r w node (Did t k values) sound at here ne did =
+    did_apart s x t.0 k.0 w
+    (sub_apart s t.0 k.0 x r w sound did.0 at (λ is. ne (did.1 ∙ sym is ∙ here))) (updates_to s h v t.0)
+act_apart s h p x v r w node Finished sound at here ne did = refl
+act_apart s h p x v r w node _ sound at here ne did = refl
+
+own_by : (s : ScriptData) (h : List Entry) (p x v : ℕ) (r : ItemRow) (w : Value) (y : Place) (ys : List Place) → Sound s
+    → slice_get s.items x ≡ Some r → r.node.0 ≡ p → DidAt s y.node y.act
+    → ((u : Value) → fold (after_act s h x v) u (own_acts p ys) ≡ fold (after_sub s x) u (deeds_in s h v ys))
+    → (test : Bool) → (y.node == p) ≡ test
+    → fold (after_act s h x v) w (own_acts p (y ∷ ys)) ≡ fold (after_sub s x) w (deeds_in s h v (y ∷ ys))
+own_by s h p x v r w y ys sound at here did rest true is =
+    rw is (
+    rest (after_act s h x v w y.act)
+    ∙ ap (λ (u : Value). fold (after_sub s x) u (deeds_in s h v ys)) (act_is s h x v w y.act)
+    ∙ sym (fold-append (after_sub s x) w (deed_of s h v y.act) (deeds_in s h v ys))
+    )
+own_by s h p x v r w y ys sound at here did rest false is =
+    let ne : y.node ≢ p = grind (arith, nat_tests) in
+    rw is (
+    rest w
+    ∙ ap (λ (u : Value). fold (after_sub s x) u (deeds_in s h v ys)) (sym (act_apart s h p x v r w y.node y.act sound at here ne did))
+    ∙ sym (fold-append (after_sub s x) w (deed_of s h v y.act) (deeds_in s h v ys))
+    )
+
+-- a node's own deeds make of its item what those of all nodes do
+pub own_folded : (s : ScriptData) (h : List Entry) (p x v : ℕ) (r : ItemRow) (w : Value) (ys : List Place) → Sound s
+    → slice_get s.items x ≡ Some r → r.node.0 ≡ p → ArePlaced s ys
+    → fold (after_act s h x v) w (own_acts p ys) ≡ fold (after_sub s x) w (deeds_in s h v ys)
+own_folded s h p x v r w [] sound at here did = refl
+own_folded s h p x v r w (y ∷ ys) sound at here did =
+    own_by s h p x v r w y ys sound at here did.0 (λ u. own_folded s h p x v r u ys sound at here did.1) (y.node == p) refl
+
+-- What trees make.
+
+-- the subtransactions of tree t from number i on
+abbrev pub numbered : ℕ → ℕ → List Sub → List (ℕ × ℕ)
+numbered t i [] = []
+numbered t i (k ∷ ks) = (t, i) ∷ numbered t (i + 1) ks
+
+-- those of these trees, in order
+abbrev pub trees_in : ScriptData → List ℕ → List (ℕ × ℕ)
+trees_in s [] = []
+trees_in s (t ∷ ts) = numbered t 0 (subs_at s t) ++ trees_in s ts
+
+found_ops : (s : ScriptData) (t i : ℕ) (k : Sub) → sub_at s t i ≡ Some k → ops_of s t i ≡ k.ops
+found_ops s t i k is = rw (is, ops_of) refl
+
+subs_folded : (s : ScriptData) (x t i : ℕ) (ks : List Sub) (w : Value) → ((n : ℕ) → sub_at s t (i + n) ≡ slice_get ks n)
+    → after_subs x ks w ≡ fold (after_sub s x) w (numbered t i ks)
+subs_folded s x t i [] w same = refl
+subs_folded s x t i (k ∷ ks) w same =
+    let first : i + 0 ≡ i = omega arith in
+    let here : sub_at s t i ≡ Some k = ap (sub_at s t) (sym first) ∙ same 0 in
+    let ops : k.ops ≡ ops_of s t i = sym (found_ops s t i k here) in
+    ap (λ (os : List SubOp). after_subs x ks (after_ops x os w)) ops
+    ∙ subs_folded s x t (i + 1) ks (after_ops x (ops_of s t i) w)
+    (λ n. let next : i + 1 + n ≡ i + suc n = omega arith in ap (sub_at s t) next ∙ same (suc n))
+
+pub trees_folded : (s : ScriptData) (x : ℕ) (ts : List ℕ) (w : Value) → fold (after_tree s x) w ts ≡ fold (after_sub s x) w (trees_in s ts)
+trees_folded s x [] w = refl
+trees_folded s x (t ∷ ts) w =
+    trees_folded s x ts (after_tree s x w t)
+    ∙ ap (λ (u : Value). fold (after_sub s x) u (trees_in s ts))
+    (subs_folded s x t 0 (subs_at s t) w (λ n. let same : 0 + n ≡ n = omega arith in ap (sub_at s t) same))
+    ∙ sym (fold-append (after_sub s x) w (numbered t 0 (subs_at s t)) (trees_in s ts))

@@ -1,0 +1,94 @@
+-- The gate of each row that the client has submitted, and of the one that it stands at, is open.
+use Rattle.std.proofs.Common.{◌≡◌, ℕ, zero, suc, ◌+◌, ◌<◌, ◌≤◌, Bool, true, false, List, [], ◌∷◌, length, reverse, get_or, take, ap, subst, arith, Some}
+use Rattle.std.specs.Prelude.{if◌then◌else◌, nat_le, slice_get}
+use Rattle.std.specs.List.{list_any}
+use Rattle.std.proofs.lemmas.Bool.{and_parts, leb-true}
+use Rattle.tv_base.specs.declared.numbers.TreeNo.{TreeNo}
+use Rattle.letter_types.specs.declared.entries.Entry.{Entry}
+use Rattle.tx_trees.specs.Counts.{advances_in}
+use Rattle.tx_trees.specs.ScriptData.{ScriptData}
+use Rattle.tx_trees.specs.declared.parts.ScriptRow.{ScriptRow}
+use Rattle.tx_trees.specs.declared.parts.ScriptRow.TheVariants.{Tree as TreeRow, Advance as AdvanceRow, Settle as SettleRow, Lose as LoseRow}
+use Rattle.board_model.specs.Gates.{IsOpen, awaited, before_settle, is_settle}
+use Rattle.board_model.specs.Histories.{IsWhole, places_of}
+use Rattle.client_rows.specs.Client.{all_answered}
+use Rattle.world_model.specs.Counts.{Each, one_if}
+use Rattle.world_model.specs.Runs.{StepRun, client_in}
+use Rattle.world_model.specs.Timely.{AllTimely}
+use Rattle.world_model.proofs.Fits.{RowFits, each_take, rows_fit}
+use Rattle.world_model.proofs.Scripts.{Sound}
+use Rattle.tree_laws.proofs.Finishes.{stage_done}
+use Rattle.tree_laws.proofs.Goods.{good_run}
+use Rattle.tree_laws.proofs.Nudges.{lawful}
+use Rattle.tree_laws.proofs.Whole.{whole_done}
+use Rattle.phase_laws.proofs.Levels.{versions_in_phase}
+use Rattle.phase_laws.proofs.Small.{advances_kept}
+use Rattle.headline.proofs.Passes.{passed_run}
+use Rattle.headline.proofs.Swept.{swept_run}
+
+-- What holds of each row holds of those before the last settle row, and of one of them.
+each_before_by : (P : ScriptRow → Type 0) (r : ScriptRow) (rs : List ScriptRow) (test : Bool) → P r → Each P (before_settle rs)
+    → Each P (if test then r ∷ before_settle rs else [])
+each_before_by P r rs true one rest = (one, rest)
+each_before_by P r rs false one rest = tt
+
+each_before : (P : ScriptRow → Type 0) (rows : List ScriptRow) → Each P rows → Each P (before_settle rows)
+each_before P [] all = tt
+each_before P (r ∷ rs) all = each_before_by P r rs (list_any is_settle rs) all.0 (each_before P rs all.1)
+
+each_at : {X : Type 0} (P : X → Type 0) (xs : List X) (j : ℕ) (x : X) → Each P xs → slice_get xs j ≡ Some x → P x
+each_at P [] j x all here = absurd (cc here)
+each_at P (y ∷ xs) zero x all here = let same : y ≡ x = cc here in subst P same all.0
+each_at P (y ∷ xs) (suc j) x all here = each_at P xs j x all.1 here
+
+-- a tree for which a row waits is one of the script
+tree_there : (s : ScriptData) (i j t : ℕ) → Sound s → slice_get (awaited s i) j ≡ Some (TreeRow (record { 0 = t })) → t < length s.trees
+tree_there s i j t sound here =
+    each_at (RowFits s) (awaited s i) j (TreeRow (record { 0 = t }))
+    (each_before (RowFits s) (take i s.rows) (each_take (RowFits s) i s.rows (rows_fit s sound))) here
+
+-- Where all trees of these rows are answered, each is.
+answered_at : (answered : List Bool) (j t : ℕ) (rows : List ScriptRow) → all_answered answered rows ≡ true
+    → slice_get rows j ≡ Some (TreeRow (record { 0 = t })) → get_or answered t false ≡ true
+answered_at answered j t [] all here = absurd (cc here)
+answered_at answered zero t (TreeRow u ∷ rows) all here =
+    let parts = and_parts (get_or answered u.0 false) (all_answered answered rows) all in
+    let tree : u ≡ record { 0 = t } = cc here in
+    let same : u.0 ≡ t = ap (λ (x : TreeNo). x.0) tree in
+    subst (λ (n : ℕ). get_or answered n false ≡ true) same parts.0
+answered_at answered zero t (AdvanceRow ∷ rows) all here = absurd (cc here)
+answered_at answered zero t (SettleRow ∷ rows) all here = absurd (cc here)
+answered_at answered zero t (LoseRow ∷ rows) all here = absurd (cc here)
+answered_at answered (suc j) t (TreeRow u ∷ rows) all here =
+    answered_at answered j t rows (and_parts (get_or answered u.0 false) (all_answered answered rows) all).1 here
+answered_at answered (suc j) t (AdvanceRow ∷ rows) all here = answered_at answered j t rows all here
+answered_at answered (suc j) t (SettleRow ∷ rows) all here = answered_at answered j t rows all here
+answered_at answered (suc j) t (LoseRow ∷ rows) all here = answered_at answered j t rows all here
+
+-- a tree that the client knows to be answered is whole
+answered_whole : (s : ScriptData) (past : List Entry) (t : ℕ) → Sound s → StepRun s past → AllTimely s past → t < length s.trees
+    → get_or (client_in s past).answered t false ≡ true → IsWhole s (reverse past) t
+answered_whole s past t sound run timely lt is =
+    let good = good_run s past sound run timely in
+    let heard : one_if (get_or (client_in s past).answered t false) ≡ 1 = ap one_if is in
+    whole_done s past t sound run timely lt (stage_done s past t (omega (arith, good.heard t lt, heard)) (good.stages t lt))
+
+-- in every run
+pub open_run : (s : ScriptData) (past : List Entry) (i : ℕ) → Sound s → StepRun s past → AllTimely s past → i ≤ (client_in s past).next
+    → IsOpen s (places_of (reverse past)) i
+open_run s past i sound run timely le =
+    let c = client_in s past in
+    let rows = awaited s i in
+    let parts = and_parts (all_answered c.answered rows) (nat_le (advances_in rows) c.ended) (passed_run s past sound run timely i le) in
+    let ended = leb-true (advances_in rows) c.ended parts.1 in
+    record {
+      trees = λ j t here.
+          answered_whole s past t sound run timely (tree_there s i j t sound here) (answered_at c.answered j t rows parts.0 here);
+      advances = λ a p lt pl. swept_run s past p sound run timely pl (a + 1) (omega arith) (omega (
+        arith,
+        lt,
+        ended,
+        (advances_kept s past (lawful s sound) run timely).ended,
+        (versions_in_phase s past (lawful s sound) run timely p pl).low_from,
+      ));
+    }

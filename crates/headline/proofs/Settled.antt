@@ -1,0 +1,152 @@
+-- Once the client has finished, each node holds of its items their worth in the last version that was shown, and in the
+-- next one where that is written.
+use Rattle.std.proofs.Common.{◌≡◌, ℕ, ◌+◌, ◌<◌, ◌≤◌, ◌==◌, ◌||◌, Bool, true, false, List, [], ◌∷◌, reverse, refl, sym, ap, subst, ◌∙◌, arith, Option, Some, None}
+use Rattle.std.specs.Prelude.{if◌then◌else◌, nat_le, slice_get}
+use Rattle.std.proofs.lemmas.Bool.{and_parts, leb-true}
+use Rattle.std.proofs.lemmas.Bool.Decides.{nat_tests}
+use Rattle.tv_base.specs.declared.numbers.Version.{Version}
+use Rattle.commute_ops.specs.declared.value.Value.{Value}
+use Rattle.item_versions.specs.Item.{Held, holds, seen}
+use Rattle.item_versions.specs.Table.{item_in}
+use Rattle.letter_types.specs.declared.entries.Entry.{Entry}
+use Rattle.node_versions.specs.declared.turns.Turns.{Turns}
+use Rattle.tx_trees.specs.Counts.{advances_in}
+use Rattle.tx_trees.specs.ScriptData.{ScriptData}
+use Rattle.tx_trees.specs.declared.parts.ItemRow.{ItemRow}
+use Rattle.advance_coord.specs.declared.phase.Phase.{Phase}
+use Rattle.advance_coord.specs.declared.phase.Phase.TheVariants.{Idle, Turning, Counting, Paused, Showing, Sweeping}
+use Rattle.client_rows.specs.Client.{all_answered}
+use Rattle.board_model.specs.Right.{HasFinished}
+use Rattle.board_model.specs.Worth.{is_written, worth}
+use Rattle.board_laws.specs.OwnValues.{seen_at}
+use Rattle.board_laws.proofs.OwnDeeds.{sees_own}
+use Rattle.world_model.specs.Runs.{StepRun, client_in, coordinator_in, node_in}
+use Rattle.world_model.specs.Timely.{AllTimely}
+use Rattle.world_model.proofs.Scripts.{Sound, tree_below}
+use Rattle.phase_laws.specs.Advances.{running}
+use Rattle.phase_laws.specs.Phases.{IsInPhase}
+use Rattle.phase_laws.proofs.Levels.{versions_in_phase}
+use Rattle.phase_laws.proofs.Small.{asked_most, small}
+use Rattle.tree_laws.proofs.Client.{at_rest}
+use Rattle.tree_laws.proofs.Finishes.{done_then, finished_by}
+use Rattle.tree_laws.proofs.Nudges.{lawful}
+use Rattle.tree_laws.proofs.Whole.{whole}
+use Rattle.run_laws.specs.Shown.{UpdatesAreWhole}
+use Rattle.run_laws.proofs.Closed.{update_there}
+use Rattle.run_laws.proofs.InTime.{in_time}
+use Rattle.headline.proofs.OwnWorth.{own_is_worth}
+use Rattle.headline.specs.Held.{IsSettled}
+use Rattle.headline.proofs.AtEnd.{written_at_end}
+use Rattle.headline.proofs.Few.{held_at, item_node}
+use Rattle.headline.proofs.Keeping.{keeps_run}
+use Rattle.headline.proofs.Kept.{IsKept, holds_of}
+
+-- What is held of an item from version a to at most the next one.
+
+-- a version with its value, by its number
+version_is : (x : Version × Value) (n : ℕ) (v : Value) → x.0.0 ≡ n → x.1 ≡ v → x ≡ (record { 0 = n }, v)
+version_is x n v number value = λ i. (record { 0 = number i }, value i)
+
+two_held : (a : ℕ) (va vb : Value) (h : Held) (test : Bool) → IsKept a (a + 1) h → holds (record { 0 = a + 1 }) h ≡ test
+    → seen (record { 0 = a }) h ≡ Some va → seen (record { 0 = a + 1 }) h ≡ Some vb
+    → h ≡ (record { 0 = a }, va) ∷ (if test then (record { 0 = a + 1 }, vb) ∷ [] else [])
+two_held a va vb [] test kept is now next = absurd kept.order
+two_held a va vb (x ∷ []) test kept is now next =
+    let first : x.0.0 ≡ a = kept.least.1 in
+    let one : x ≡ (record { 0 = a }, va) = version_is x a va first (cc now) in
+    let none : (x.0.0 == a + 1 || false) ≡ false = grind (arith, nat_tests) in
+    let no : test ≡ false = sym is ∙ none in
+    rw no (ap (λ (z : Version × Value). z ∷ []) one)
+two_held a va vb (x ∷ y ∷ []) test kept is now next =
+    let first : x.0.0 ≡ a = kept.least.1 in
+    let second : y.0.0 ≡ a + 1 = omega (arith, kept.order.0, kept.most.1.0, first) in
+    let later : nat_le y.0.0 a ≡ false = grind (arith, nat_tests) in
+    let there : nat_le y.0.0 (a + 1) ≡ true = grind (arith, nat_tests) in
+    let old : Some x.1 ≡ Some va = rw later at now in
+    let new : Some y.1 ≡ Some vb = rw there at next in
+    let one : x ≡ (record { 0 = a }, va) = version_is x a va first (cc old) in
+    let two : y ≡ (record { 0 = a + 1 }, vb) = version_is y (a + 1) vb second (cc new) in
+    let both : (x.0.0 == a + 1 || (y.0.0 == a + 1 || false)) ≡ true = grind (arith, nat_tests) in
+    let held : test ≡ true = sym is ∙ both in
+    rw held (λ i. one i ∷ two i ∷ [])
+two_held a va vb (x ∷ y ∷ z ∷ zs) test kept is now next =
+    absurd (omega (arith, kept.least.1, kept.order.0, kept.order.1.0, kept.most.1.1.0))
+
+-- Where the client has finished, all advancements have ended.
+idle_of : (phase : Phase) → running phase ≡ 0 → phase ≡ Idle
+idle_of Idle is = refl
+idle_of Turning is = absurd (omega (arith, is))
+idle_of (Counting reads) is = absurd (omega (arith, is))
+idle_of (Paused reads) is = absurd (omega (arith, is))
+idle_of Showing is = absurd (omega (arith, is))
+idle_of Sweeping is = absurd (omega (arith, is))
+
+-- every node's low version is the last one shown, and its update version the next
+record Stands (s : ScriptData) (turns : Turns) : Type 0 where
+  pub low : turns.low.0 ≡ advances_in s.rows
+  pub update : turns.update.0 ≡ advances_in s.rows + 1
+
+stands_by : (s : ScriptData) (u : ℕ) (phase : Phase) (turns : Turns) → phase ≡ Idle → u ≡ advances_in s.rows + 1 → IsInPhase phase u turns
+    → Stands s turns
+stands_by s u phase turns idle is in_phase =
+    let now : IsInPhase Idle u turns = subst (λ (q : Phase). IsInPhase q u turns) idle in_phase in
+    record {
+      low = omega (arith, is, now.low_from, now.low_to);
+      update = omega (arith, is, now.update_from, now.update_to);
+    }
+
+stands : (s : ScriptData) (past : List Entry) (p : ℕ) → Sound s → StepRun s past → AllTimely s past → (client_in s past).finished ≡ true
+    → p < s.nodes → Stands s (node_in s past p).turns
+stands s past p sound run timely finished lt =
+    let c = coordinator_in s past in
+    let laws = lawful s sound in
+    let over = (at_rest s past sound run timely).over finished in
+    let parts = and_parts (all_answered (client_in s past).answered s.rows) (nat_le (advances_in s.rows) (client_in s past).ended) over.ended in
+    let numbers = small s past laws run timely in
+    let most = asked_most (client_in s past).next s.rows in
+    let ended = leb-true (advances_in s.rows) (client_in s past).ended parts.1 in
+    let update : c.update ≡ advances_in s.rows + 1 = omega (arith, numbers.asked, numbers.ended, most, ended) in
+    let none : running c.phase ≡ 0 = omega (arith, numbers.asked, numbers.ended, most, ended) in
+    stands_by s c.update c.phase (node_in s past p).turns (idle_of c.phase none) update (versions_in_phase s past laws run timely p lt)
+
+-- every update tree is whole
+all_whole : (s : ScriptData) (past : List Entry) (v : ℕ) → Sound s → StepRun s past → AllTimely s past → HasFinished (reverse past)
+    → UpdatesAreWhole s (reverse past) v
+all_whole s past v sound run timely finished = λ t w up born le.
+    whole s past t sound.valid sound.runnable run timely finished (update_there s t (slice_get s.trees t) refl up)
+
+-- what a node sees of its item is what the item is worth
+worth_seen : (s : ScriptData) (past : List Entry) (x v : ℕ) (r : ItemRow) (h : Held) → Sound s → StepRun s past → AllTimely s past
+    → HasFinished (reverse past) → slice_get s.items x ≡ Some r → (node_in s past r.node.0).turns.low.0 ≤ v
+    → item_in (record { 0 = x }) (node_in s past r.node.0).items ≡ Some h
+    → seen (record { 0 = v }) h ≡ Some (worth s (reverse past) x v)
+worth_seen s past x v r h sound run timely finished at low is =
+    let p = r.node.0 in
+    let lt = item_node s x r sound at in
+    let found : seen_at s past p x v ≡ seen (record { 0 = v }) h =
+    ap (λ (o : Option Held). elim o [ None ↦ None | Some g ↦ seen (record { 0 = v }) g ]) is in
+    sym found ∙ sees_own s past sound run timely p x v r lt at refl low
+    ∙ ap (λ (u : Value). Some u) (own_is_worth s past p x v r sound run lt at refl (all_whole s past v sound run timely finished))
+
+pub settled : (s : ScriptData) (past : List Entry) → Sound s → StepRun s past → HasFinished (reverse past) → IsSettled s (reverse past)
+settled s past sound run finished = λ x r at.
+    let p = r.node.0 in
+    let a = advances_in s.rows in
+    let h = reverse past in
+    let lt = item_node s x r sound at in
+    let st = node_in s past p in
+    let timely = in_time s past sound run in
+    let over = finished_by s past sound run timely finished in
+    let now = stands s past p sound run timely over lt in
+    let there = held_at s past x r sound run at in
+    let kept : IsKept a (a + 1) there.held =
+    subst (λ (n : ℕ). IsKept a n there.held) now.update (subst (λ (n : ℕ). IsKept n st.turns.update.0 there.held) now.low there.kept) in
+    let holds' : holds (record { 0 = a + 1 }) there.held ≡ is_written s h x (a + 1) =
+    sym (ap (holds_of (record { 0 = a + 1 })) there.is)
+    ∙ (keeps_run s past sound run timely p lt).holds x (a + 1) r at refl (omega (arith, now.low))
+    ∙ written_at_end s past x (a + 1) sound
+    (λ t k c. omega (arith, done_then s past t sound run timely over (tree_below s t k c) k c)) in
+    there.after
+    ∙ two_held a (worth s h x a) (worth s h x (a + 1)) there.held (is_written s h x (a + 1)) kept holds'
+    (worth_seen s past x a r there.held sound run timely finished at (omega (arith, now.low)) there.is)
+    (worth_seen s past x (a + 1) r there.held sound run timely finished at (omega (arith, now.low)) there.is)

@@ -1,0 +1,194 @@
+-- Every read is right, all update trees of its version and older ones were whole before, and it stays right.
+use Rattle.std.proofs.Common.{◌≡◌, ℕ, ◌+◌, ◌<◌, ◌≤◌, ◌==◌, ◌&&◌, Bool, true, false, List, [], ◌∷◌, ◌++◌, reverse, refl, sym, ap, subst, ◌∙◌, arith, Option, Some, None}
+use Rattle.std.specs.Prelude.{nat_le, take}
+use Rattle.std.specs.List.{AllByRecursion}
+use Rattle.std.proofs.lemmas.Bool.Decides.{nat_tests}
+use Rattle.tv_base.specs.declared.numbers.Version.{Version}
+use Rattle.commute_ops.specs.declared.value.Value.{Value}
+use Rattle.letter_types.specs.declared.acts.Act.{Act}
+use Rattle.letter_types.specs.declared.acts.Act.TheVariants.{Did, Voted, Finished}
+use Rattle.letter_types.specs.declared.entries.Entry.{Entry}
+use Rattle.tx_trees.specs.ScriptData.{ScriptData, ops_of, updates}
+use Rattle.tx_trees.specs.Valid.{IsValid}
+use Rattle.tx_trees.specs.declared.parts.SubOp.{SubOp}
+use Rattle.board_model.specs.Histories.{version_of}
+use Rattle.board_model.specs.Right.{IsRight, IsRightAct, IsShown}
+use Rattle.board_model.specs.Serial.{is_in, serial_to}
+use Rattle.board_model.specs.Worth.{worth}
+use Rattle.board_model.proofs.AnyOrder.{worth_of_trees}
+use Rattle.board_model.proofs.Closings.{AreApart}
+use Rattle.board_model.proofs.SerialOrder.{serial_to_apart}
+use Rattle.board_laws.specs.OwnValues.{is_up_to}
+use Rattle.board_laws.proofs.Seen.{valued}
+use Rattle.world_model.specs.Counts.{one_if}
+use Rattle.world_model.specs.Runs.{StepRun}
+use Rattle.world_model.specs.Tables.{Runnable}
+use Rattle.world_model.proofs.Scripts.{Sound}
+use Rattle.tree_laws.proofs.Nudges.{lawful}
+use Rattle.tree_laws.proofs.Whole.{none_strict}
+use Rattle.run_laws.specs.Shown.{NoUpdateCame}
+use Rattle.run_laws.proofs.Closed.{rises, rises_on, run_before, timely_before}
+use Rattle.run_laws.proofs.InTime.{in_time}
+use Rattle.run_laws.proofs.Reached.{now_below}
+use Rattle.headline.specs.Reads.{AreWholeBefore, ComesAfterUpdates, ReadsStayRight, StaysRight, UpdatesComeFirst}
+use Rattle.headline.proofs.Before.{Stands, stands, version_kept}
+use Rattle.headline.proofs.Counted.{numbers_equal, permutes, times}
+use Rattle.headline.proofs.Early.{none_comes, whole_to}
+use Rattle.headline.proofs.OwnWorth.{stands_exactly}
+use Rattle.headline.proofs.RightReads.{ReadsAt, entry_reads, shown_valued}
+
+-- what follows for each of a list
+pub acts_map : (P Q : Act → Type 0) (acts : List Act) → ((a : Act) → P a → Q a) → AllByRecursion P acts → AllByRecursion Q acts
+acts_map P Q [] step all = tt
+acts_map P Q (a ∷ acts) step all = (step a all.0, acts_map P Q acts step all.1)
+
+-- Right.
+right_act : (s : ScriptData) (past b : List Entry) (e : Entry) (a : Act) → ReadsAt s past e a → IsRightAct s b (reverse (e ∷ past)) a
+right_act s past b e (Did t k values) reads_at = λ read.
+    let r = reads_at read in
+    subst (λ (o : Option Version). IsShown s (reverse (e ∷ past)) (ops_of s t.0 k.0) values o) (sym r.version) r.right
+right_act s past b e (Voted t k vote) reads_at = absurd reads_at
+right_act s past b e Finished reads_at = tt
+right_act s past b e _ reads_at = tt
+
+right_at : (s : ScriptData) (past : List Entry) (n : ℕ) (e : Entry) → Sound s → StepRun s past → Stands past n e
+    → AllByRecursion (IsRightAct s (take n (reverse past)) (take (n + 1) (reverse past))) e.acts
+right_at s past n e sound run at =
+    let whole : StepRun s (at.later ++ e ∷ at.before) = subst (StepRun s) at.is run in
+    let now : StepRun s (e ∷ at.before) = run_before s (e ∷ at.before) at.later whole in
+    let b = take n (reverse past) in
+    subst (λ (h : List Entry). AllByRecursion (IsRightAct s b h) e.acts) (sym at.upto)
+    (acts_map (ReadsAt s at.before e) (IsRightAct s b (reverse (e ∷ at.before))) e.acts (λ a is. right_act s at.before b e a is)
+    (entry_reads s at.before e sound now (in_time s (e ∷ at.before) sound now)))
+
+pub reads_right : (s : ScriptData) (past : List Entry) → IsValid s → Runnable s → StepRun s past → IsRight s (reverse past)
+reads_right s past valid runnable run = λ n e here.
+    right_at s past n e (record { valid = valid; runnable = runnable }) run (stands past n e here)
+
+-- Updates come first.
+came_before : (s : ScriptData) (past later : List Entry) (e : Entry) (v : ℕ) → Sound s → StepRun s (later ++ e ∷ past)
+    → v < now_below false s past → NoUpdateCame s (reverse past) (reverse (later ++ e ∷ past)) v
+came_before s past later e v sound run early = λ t w up born le.
+    let timely = in_time s (later ++ e ∷ past) sound run in
+    let more = run_before s (e ∷ past) later run in
+    let on_time = timely_before s (e ∷ past) later timely in
+    let rise = rises false s past e (lawful s sound) more.1 on_time.1 ((lawful s sound).next past e more on_time) in
+    let now : v < now_below false s (e ∷ past) = omega (arith, early, rise) in
+    none_comes s past (e ∷ []) v sound more on_time early t w up (none_comes s (e ∷ past) later v sound run timely now t w up born le) le
+
+first_act : (s : ScriptData) (past later : List Entry) (e : Entry) (a : Act) → Sound s → StepRun s (later ++ e ∷ past)
+    → ReadsAt s past e a → ComesAfterUpdates s (reverse (later ++ e ∷ past)) (reverse past) a
+first_act s past later e (Did t k values) sound run reads_at = λ read.
+    let r = reads_at read in
+    let h = reverse (later ++ e ∷ past) in
+    let version : version_of h t.0 ≡ Some r.v = version_kept (e ∷ past) later t.0 r.v r.version in
+    let before = (run_before s (e ∷ past) later run).1 in
+    subst (λ (o : Option Version). AreWholeBefore s h (reverse past) o) (sym version)
+    (λ u w up born le.
+    whole_to s past r.v.0 sound before (in_time s past sound before) r.early u w up
+    (came_before s past later e r.v.0 sound run r.early u w up born le) le)
+first_act s past later e Finished sound run reads_at = tt
+first_act s past later e _ sound run reads_at = tt
+
+first_at : (s : ScriptData) (past : List Entry) (n : ℕ) (e : Entry) → Sound s → StepRun s past → Stands past n e
+    → AllByRecursion (ComesAfterUpdates s (reverse past) (take n (reverse past))) e.acts
+first_at s past n e sound run at =
+    let whole : StepRun s (at.later ++ e ∷ at.before) = subst (StepRun s) at.is run in
+    let now : StepRun s (e ∷ at.before) = run_before s (e ∷ at.before) at.later whole in
+    subst (λ (b : List Entry). AllByRecursion (ComesAfterUpdates s (reverse past) b) e.acts) (sym at.first)
+    (subst (λ (xs : List Entry). AllByRecursion (ComesAfterUpdates s (reverse xs) (reverse at.before)) e.acts) (sym at.is)
+    (acts_map (ReadsAt s at.before e) (ComesAfterUpdates s (reverse (at.later ++ e ∷ at.before)) (reverse at.before)) e.acts
+    (λ a is. first_act s at.before at.later e a sound whole is)
+    (entry_reads s at.before e sound now (in_time s (e ∷ at.before) sound now))))
+
+pub updates_first : (s : ScriptData) (past : List Entry) → IsValid s → Runnable s → StepRun s past → UpdatesComeFirst s (reverse past)
+updates_first s past valid runnable run = λ n e here.
+    first_at s past n e (record { valid = valid; runnable = runnable }) run (stands past n e here)
+
+-- Reads stay right: the trees up to a version that is shown stay the same, so what items are worth there does too.
+times_is : (t : ℕ) (ts : List ℕ) → AreApart ts → times (λ (a b : ℕ). a == b) t ts ≡ one_if (is_in t ts)
+times_is t [] apart = refl
+times_is t (u ∷ ts) apart = times_by t u ts apart.0 (times_is t ts apart.1) (u == t) refl where
+  times_by : (t u : ℕ) (ts : List ℕ) → is_in u ts ≡ false → times (λ (a b : ℕ). a == b) t ts ≡ one_if (is_in t ts)
+      → (test : Bool) → (u == t) ≡ test → one_if (u == t) + times (λ (a b : ℕ). a == b) t ts ≡ one_if (is_in t (u ∷ ts))
+  times_by t u ts once rest true is =
+      let same : u ≡ t = grind (arith, nat_tests) in
+      let none : one_if (is_in t ts) ≡ 0 = ap (λ (n : ℕ). one_if (is_in n ts)) (sym same) ∙ ap one_if once in
+      rw is (omega (arith, rest, none))
+  times_by t u ts once rest false is = rw is (omega (arith, rest))
+
+up_to_same : (v : ℕ) (old new : Option Version) → ((w : Version) → old ≡ Some w → new ≡ Some w)
+    → ((w : Version) → new ≡ Some w → w.0 ≤ v → old ≡ Some w) → is_up_to v old ≡ is_up_to v new
+up_to_same v (Some w) new stays none = ap (is_up_to v) (sym (stays w refl))
+up_to_same v None None stays none = refl
+up_to_same v None (Some w) stays none = late v w (none w refl) (nat_le w.0 v) refl where
+  late : (v : ℕ) (w : Version) → (w.0 ≤ v → None ≡ Some w) → (test : Bool) → nat_le w.0 v ≡ test → false ≡ nat_le w.0 v
+  late v w none true is = let le : w.0 ≤ v = grind (arith, nat_tests) in let no = none le in absurd (cc no)
+  late v w none false is = sym is
+
+updates_same : (s : ScriptData) (h more : List Entry) (v t : ℕ) → ((w : Version) → version_of h t ≡ Some w → version_of more t ≡ Some w)
+    → NoUpdateCame s h more v → (b : Bool) → updates s t ≡ b → (b && is_up_to v (version_of h t)) ≡ (b && is_up_to v (version_of more t))
+updates_same s h more v t stays none true is =
+    up_to_same v (version_of h t) (version_of more t) stays (λ w born le. none t w is born le)
+updates_same s h more v t stays none false is = refl
+
+trees_same : (s : ScriptData) (past later : List Entry) (v t : ℕ) → Sound s → StepRun s (later ++ past) → v < now_below false s past
+    → is_in t (serial_to s (reverse past) v) ≡ is_in t (serial_to s (reverse (later ++ past)) v)
+trees_same s past later v t sound run early =
+    let timely = in_time s (later ++ past) sound run in
+    let h = reverse past in
+    let more = reverse (later ++ past) in
+    let before = run_before s past later run in
+    let rise = rises_on false s past later (lawful s sound) run timely in
+    stands_exactly s h v t sound (whole_to s past v sound before (in_time s past sound before) early)
+    ∙ updates_same s h more v t (λ w born. version_kept past later t w born) (none_comes s past later v sound run timely early) (updates s t) refl
+    ∙ sym (stands_exactly s more v t sound (whole_to s (later ++ past) v sound run timely (omega (arith, early, rise))))
+
+-- what an item is worth at a version that was shown stays
+pub worth_stays : (s : ScriptData) (past later : List Entry) (x v : ℕ) → Sound s → StepRun s (later ++ past) → v < now_below false s past
+    → worth s (reverse past) x v ≡ worth s (reverse (later ++ past)) x v
+worth_stays s past later x v sound run early =
+    let old = serial_to s (reverse past) v in
+    let new = serial_to s (reverse (later ++ past)) v in
+    sym (worth_of_trees s (reverse past) x v new sound.valid (λ t. none_strict s t sound)
+    (permutes (λ (a b : ℕ). a == b) old new numbers_equal (λ t.
+    times_is t old (serial_to_apart s (reverse past) v)
+    ∙ ap one_if (trees_same s past later v t sound run early)
+    ∙ sym (times_is t new (serial_to_apart s (reverse (later ++ past)) v)))))
+
+valued_same : (f g : ℕ → Value) (os : List SubOp) → ((x : ℕ) → f x ≡ g x) → valued f os ≡ valued g os
+valued_same f g [] same = refl
+valued_same f g (o ∷ os) same = let one = same o.item.0 in let rest = valued_same f g os same in cc
+
+stays_act : (s : ScriptData) (past later : List Entry) (e : Entry) (a : Act) → Sound s → StepRun s (later ++ e ∷ past)
+    → ReadsAt s past e a → StaysRight s (reverse (later ++ e ∷ past)) a
+stays_act s past later e (Did t k values) sound run reads_at = λ read.
+    let r = reads_at read in
+    let h = reverse (later ++ e ∷ past) in
+    let os = ops_of s t.0 k.0 in
+    let version : version_of h t.0 ≡ Some r.v = version_kept (e ∷ past) later t.0 r.v r.version in
+    let more = run_before s (e ∷ past) later run in
+    let on_time = in_time s (e ∷ past) sound more in
+    let rise = rises false s past e (lawful s sound) more.1 on_time.1 ((lawful s sound).next past e more on_time) in
+    let now : r.v.0 < now_below false s (e ∷ past) = omega (arith, r.early, rise) in
+    subst (λ (o : Option Version). IsShown s h os values o) (sym version)
+    (r.right ∙ shown_valued s (reverse (e ∷ past)) r.v.0 os
+    ∙ valued_same (λ x. worth s (reverse (e ∷ past)) x r.v.0) (λ x. worth s h x r.v.0) os
+    (λ x. worth_stays s (e ∷ past) later x r.v.0 sound run now)
+    ∙ sym (shown_valued s h r.v.0 os))
+stays_act s past later e Finished sound run reads_at = tt
+stays_act s past later e _ sound run reads_at = tt
+
+stays_at : (s : ScriptData) (past : List Entry) (n : ℕ) (e : Entry) → Sound s → StepRun s past → Stands past n e
+    → AllByRecursion (StaysRight s (reverse past)) e.acts
+stays_at s past n e sound run at =
+    let whole : StepRun s (at.later ++ e ∷ at.before) = subst (StepRun s) at.is run in
+    let now : StepRun s (e ∷ at.before) = run_before s (e ∷ at.before) at.later whole in
+    subst (λ (xs : List Entry). AllByRecursion (StaysRight s (reverse xs)) e.acts) (sym at.is)
+    (acts_map (ReadsAt s at.before e) (StaysRight s (reverse (at.later ++ e ∷ at.before))) e.acts
+    (λ a is. stays_act s at.before at.later e a sound whole is)
+    (entry_reads s at.before e sound now (in_time s (e ∷ at.before) sound now)))
+
+pub stay_right : (s : ScriptData) (past : List Entry) → IsValid s → Runnable s → StepRun s past → ReadsStayRight s (reverse past)
+stay_right s past valid runnable run = λ n e here.
+    stays_at s past n e (record { valid = valid; runnable = runnable }) run (stands past n e here)

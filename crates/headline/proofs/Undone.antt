@@ -1,0 +1,169 @@
+-- No read shows any part of a tree that was undone. Such a tree's operations are all `add`, so they change a sum by what
+-- they add up to and leave every other value; and what an undone tree adds to an item adds up to nothing. So each value
+-- stays when the undone trees are left out of the serial order.
+use Rattle.std.proofs.Common.{◌≡◌, ℕ, zero, suc, ◌==◌, Bool, true, false, List, [], ◌∷◌, ◌++◌, reverse, refl, sym, ap, subst, ◌∙◌, arith, Option, Some, None}
+use Rattle.std.specs.Prelude.{if◌then◌else◌, cond, filter, fold, not, is_some, slice_get, ℤ, pos, ◌+ℤ◌}
+use Rattle.std.proofs.lemmas.Int.{ints}
+use Rattle.tv_base.specs.declared.numbers.ItemNo.{ItemNo}
+use Rattle.tv_base.specs.declared.numbers.Version.{Version}
+use Rattle.tv_base.proofs.Truths.{left_true, right_true}
+use Rattle.commute_ops.specs.declared.kinds.Op.TheVariants as ops
+use Rattle.commute_ops.specs.declared.value.Value.{Value}
+use Rattle.commute_ops.specs.declared.value.Value.TheVariants.{Sum, Top, Bag}
+use Rattle.letter_types.specs.declared.acts.Act.{Act}
+use Rattle.letter_types.specs.declared.acts.Act.TheVariants.{Did, Finished}
+use Rattle.letter_types.specs.declared.entries.Entry.{Entry}
+use Rattle.tx_trees.specs.ScriptData.{ScriptData, ops_of}
+use Rattle.tx_trees.specs.Undone.{is_add, ops_add, subs_add, undone}
+use Rattle.tx_trees.specs.Valid.{IsValid, MayAllHaveFailed, MayHaveFailed}
+use Rattle.tx_trees.specs.declared.parts.Deed.{Deed}
+use Rattle.tx_trees.specs.declared.parts.Deed.TheVariants as deeds
+use Rattle.tx_trees.specs.declared.parts.Form.{Form}
+use Rattle.tx_trees.specs.declared.parts.ItemRow.{ItemRow}
+use Rattle.tx_trees.specs.declared.parts.Sub.{Sub}
+use Rattle.tx_trees.specs.declared.parts.SubOp.{SubOp}
+use Rattle.tx_trees.specs.declared.parts.Tree.{Tree}
+use Rattle.tx_trees.specs.declared.parts.Written.{Written}
+use Rattle.tx_trees.proofs.SubsOf.{found_subs}
+use Rattle.tx_trees.proofs.Undoing.{undone_adds}
+use Rattle.tree_undo.specs.Balance.{added, ops_added, subs_added}
+use Rattle.tree_undo.proofs.Sums.{undone_even}
+use Rattle.board_model.specs.Histories.{version_of}
+use Rattle.board_model.specs.Right.{IsShown, shown}
+use Rattle.board_model.specs.Serial.{serial_to}
+use Rattle.board_model.specs.Worth.{after_deed, after_ops, after_subs, after_tree, first_value, worth}
+use Rattle.world_model.specs.Runs.{StepRun}
+use Rattle.world_model.specs.Tables.{Runnable}
+use Rattle.headline.specs.Reads.{StaysRight}
+use Rattle.headline.specs.Undone.{HasNothingUndone, IsShownKept, ShowsNothingUndone, is_undone, shown_kept, worth_kept}
+use Rattle.headline.proofs.Staying.{acts_map, stay_right}
+
+-- What `add` operations make of a value.
+
+-- the value with this added, where it is a sum
+abbrev raised : ℤ → Value → Value
+raised n (Sum a) = Sum (record { 0 = a.0 +ℤ n })
+raised n (Top a) = Top a
+raised n (Bag ns) = Bag ns
+
+raised_none : (n : ℤ) (w : Value) → n ≡ pos 0 → raised n w ≡ w
+raised_none n (Sum a) is = let same : a.0 +ℤ n ≡ a.0 = omega (arith, ints, is) in ap (λ (m : ℤ). Sum (record { 0 = m })) same
+raised_none n (Top a) is = refl
+raised_none n (Bag ns) is = refl
+
+raised_twice : (m n : ℤ) (w : Value) → raised n (raised m w) ≡ raised (m +ℤ n) w
+raised_twice m n (Sum a) =
+    let same : a.0 +ℤ m +ℤ n ≡ a.0 +ℤ (m +ℤ n) = omega (arith, ints) in ap (λ (k : ℤ). Sum (record { 0 = k })) same
+raised_twice m n (Top a) = refl
+raised_twice m n (Bag ns) = refl
+
+deed_raises : (d : Deed) (w : Value) → is_add d ≡ true → after_deed d w ≡ raised (added d) w
+deed_raises (deeds.Apply (ops.Add a)) (Sum n) is = refl
+deed_raises (deeds.Apply (ops.Add a)) (Top n) is = refl
+deed_raises (deeds.Apply (ops.Add a)) (Bag ns) is = refl
+deed_raises (deeds.Apply (ops.Top a)) w is = absurd (cc is)
+deed_raises (deeds.Apply (ops.Put a)) w is = absurd (cc is)
+deed_raises deeds.Get w is = absurd (cc is)
+deed_raises (deeds.Set a) w is = absurd (cc is)
+deed_raises (deeds.Draw a) w is = absurd (cc is)
+
+op_raises : (d : Deed) (w : Value) (here : Bool) → is_add d ≡ true
+    → (if here then after_deed d w else w) ≡ raised (if here then added d else pos 0) w
+op_raises d w true is = deed_raises d w is
+op_raises d w false is = sym (raised_none (pos 0) w refl)
+
+ops_raise : (x : ℕ) (os : List SubOp) (w : Value) → ops_add os ≡ true → after_ops x os w ≡ raised (ops_added x os) w
+ops_raise x [] w is = sym (raised_none (pos 0) w refl)
+ops_raise x (o ∷ os) w is =
+    let n : ℤ = if o.item.0 == x then added o.deed else pos 0 in
+    ap (after_ops x os) (op_raises o.deed w (o.item.0 == x) (left_true (is_add o.deed) (ops_add os) is))
+    ∙ ops_raise x os (raised n w) (right_true (is_add o.deed) (ops_add os) is)
+    ∙ raised_twice n (ops_added x os) w
+
+subs_raise : (x : ℕ) (ks : List Sub) (w : Value) → subs_add ks ≡ true → after_subs x ks w ≡ raised (subs_added x ks) w
+subs_raise x [] w is = sym (raised_none (pos 0) w refl)
+subs_raise x (k ∷ ks) w is =
+    ap (after_subs x ks) (ops_raise x k.ops w (left_true (ops_add k.ops) (subs_add ks) is))
+    ∙ subs_raise x ks (raised (ops_added x k.ops) w) (right_true (ops_add k.ops) (subs_add ks) is)
+    ∙ raised_twice (ops_added x k.ops) (subs_added x ks) w
+
+-- An undone tree leaves every value as it is.
+
+undone_leaves : (x : ℕ) (ks : List Sub) (failed : ℕ) (w : Value) → subs_add ks ≡ true
+    → after_subs x (undone ks failed) w ≡ w
+undone_leaves x ks failed w is =
+    subs_raise x (undone ks failed) w (undone_adds ks failed is)
+    ∙ raised_none (subs_added x (undone ks failed)) w (undone_even ks failed x)
+
+-- the same of a tree of a valid script
+tree_leaves : (form : Form) (nodes : ℕ) (items : List ItemRow) (front : List Tree) (x : ℕ) (tree : Tree) (w : Value)
+    (written : Option Written) → is_some written ≡ true → MayHaveFailed form nodes items front tree written
+    → after_subs x tree.subs w ≡ w
+tree_leaves form nodes items front x tree w None is failed = absurd (cc is)
+tree_leaves form nodes items front x tree w (Some u) is failed =
+    ap (λ (ks : List Sub). after_subs x ks w) failed.subs ∙ undone_leaves x u.subs u.failed.0 w failed.adds
+
+trees_leave : (form : Form) (nodes : ℕ) (items : List ItemRow) (front ts : List Tree) (t x : ℕ) (tree : Tree) (w : Value)
+    → MayAllHaveFailed form nodes items front ts → slice_get ts t ≡ Some tree → is_some tree.written ≡ true
+    → after_subs x tree.subs w ≡ w
+trees_leave form nodes items front [] t x tree w all at is = absurd (cc at)
+trees_leave form nodes items front (y ∷ ts) zero x tree w all at is =
+    let same : y ≡ tree = cc at in
+    subst (λ (z : Tree). is_some z.written ≡ true → after_subs x z.subs w ≡ w) same
+    (λ some. tree_leaves form nodes items front x y w y.written some all.0) is
+trees_leave form nodes items front (y ∷ ts) (suc t) x tree w all at is =
+    trees_leave form nodes items (front ++ y ∷ []) ts t x tree w all.1 at is
+
+leaves_by : (s : ScriptData) (t x : ℕ) (w : Value) → IsValid s → (found : Option Tree) → slice_get s.trees t ≡ found
+    → is_undone s t ≡ true → after_tree s x w t ≡ w
+leaves_by s t x w valid None at is = absurd (let no : is_undone s t ≡ false = rw (at, is_undone) refl in cc (no, is))
+leaves_by s t x w valid (Some tree) at is =
+    let same : is_undone s t ≡ is_some tree.written = rw (at, is_undone) refl in
+    ap (λ (ks : List Sub). after_subs x ks w) (found_subs s t tree at)
+    ∙ trees_leave s.form s.nodes s.items [] s.trees t x tree w valid.failed at (sym same ∙ is)
+
+-- an undone tree of a valid script leaves item x as it is
+pub undone_tree_leaves : (s : ScriptData) (t x : ℕ) (w : Value) → IsValid s → is_undone s t ≡ true
+    → after_tree s x w t ≡ w
+undone_tree_leaves s t x w valid is = leaves_by s t x w valid (slice_get s.trees t) refl is
+
+-- So nothing is worth more or less without them.
+
+fold_by : (f : Value → ℕ → Value) (w : Value) (t : ℕ) (ts kept : List ℕ) (gone : Bool)
+    → (gone ≡ true → f w t ≡ w) → ((u : Value) → fold f u ts ≡ fold f u kept)
+    → fold f (f w t) ts ≡ fold f w (cond (not gone) (t ∷ kept) kept)
+fold_by f w t ts kept true leaves rest = ap (λ (u : Value). fold f u ts) (leaves refl) ∙ rest w
+fold_by f w t ts kept false leaves rest = rest (f w t)
+
+fold_kept : (f : Value → ℕ → Value) (p : ℕ → Bool) (w : Value) (ts : List ℕ)
+    → ((t : ℕ) (u : Value) → p t ≡ true → f u t ≡ u) → fold f w ts ≡ fold f w (filter (λ (t : ℕ). not (p t)) ts)
+fold_kept f p w [] leaves = refl
+fold_kept f p w (t ∷ ts) leaves =
+    fold_by f w t ts (filter (λ (u : ℕ). not (p u)) ts) (p t) (leaves t w) (λ u. fold_kept f p u ts leaves)
+
+pub worth_is_kept : (s : ScriptData) (h : List Entry) (x v : ℕ) → IsValid s → worth s h x v ≡ worth_kept s h x v
+worth_is_kept s h x v valid =
+    fold_kept (after_tree s x) (is_undone s) (first_value (slice_get s.items x)) (serial_to s h v)
+    (λ t u is. undone_tree_leaves s t x u valid is)
+
+pub shown_is_kept : (s : ScriptData) (h : List Entry) (v : ℕ) (os : List SubOp) → IsValid s
+    → shown s h v os ≡ shown_kept s h v os
+shown_is_kept s h v [] valid = refl
+shown_is_kept s h v (o ∷ os) valid =
+    let one = worth_is_kept s h o.item.0 v valid in let rest = shown_is_kept s h v os valid in cc
+
+shown_at : (s : ScriptData) (h : List Entry) (os : List SubOp) (values : List (ItemNo × Value)) (born : Option Version)
+    → IsValid s → IsShown s h os values born → IsShownKept s h os values born
+shown_at s h os values None valid is = is
+shown_at s h os values (Some v) valid is = is ∙ shown_is_kept s h v.0 os valid
+
+act_shows : (s : ScriptData) (h : List Entry) (a : Act) → IsValid s → StaysRight s h a → HasNothingUndone s h a
+act_shows s h (Did t k values) valid right = λ read. shown_at s h (ops_of s t.0 k.0) values (version_of h t.0) valid (right read)
+act_shows s h Finished valid right = tt
+act_shows s h _ valid right = tt
+
+pub nothing_undone : (s : ScriptData) (past : List Entry) → IsValid s → Runnable s → StepRun s past
+    → ShowsNothingUndone s (reverse past)
+nothing_undone s past valid runnable run = λ n e here.
+    acts_map (StaysRight s (reverse past)) (HasNothingUndone s (reverse past)) e.acts (λ a right. act_shows s (reverse past) a valid right)
+    (stay_right s past valid runnable run n e here)

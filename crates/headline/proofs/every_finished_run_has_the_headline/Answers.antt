@@ -1,5 +1,0 @@
-use Rattle.headline.proofs.Promised.{headline}
-use Rattle.headline.proofs.every_finished_run_has_the_headline.Goals as goal
-
-pub returns : goal.returns
-returns c = λ s h valid runnable run finished. headline s h valid runnable run finished

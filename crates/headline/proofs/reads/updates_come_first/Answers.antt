@@ -1,0 +1,5 @@
+use Rattle.headline.proofs.Staying.{updates_first}
+use Rattle.headline.proofs.reads.updates_come_first.Goals as goal
+
+pub returns : goal.returns
+returns c = updates_first

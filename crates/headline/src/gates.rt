@@ -1,0 +1,22 @@
+// The law of gates: every run keeps to the rows of its script.
+ghost use Rattle.std.specs.Prelude.{◌++◌, ℕ, List, reverse};
+ghost use Rattle.board_model.specs.Gates.{Fits, IsOpen};
+ghost use Rattle.board_model.specs.Histories.{Place};
+ghost use Rattle.letter_types.specs.declared.entries.Entry.{Entry};
+ghost use Rattle.tx_trees.specs.ScriptData.{ScriptData};
+ghost use Rattle.tx_trees.specs.Valid.{IsValid};
+ghost use Rattle.world_model.specs.Runs.{StepRun};
+ghost use Rattle.world_model.specs.Tables.{Runnable};
+
+/// Every run keeps to the rows of its script: a tree is born, and a node's update version is raised, only when the gate
+/// of the row that asks for it is open; and the client finishes once, when every tree is whole and every node has gone
+/// through all advancements. The gate of a row is open when each tree before the last `settle` row above it is whole,
+/// and every node has collected to the version of each advancement there.
+pub fn every_run_keeps_to_its_rows()
+    ensures { (s : ScriptData) (past : List Entry) → IsValid s → Runnable s → StepRun s past → Fits s (reverse past) }
+{}
+
+/// A gate that is open stays open, whatever comes.
+pub fn open_gates_stay_open()
+    ensures { (s : ScriptData) (xs ys : List Place) (i : ℕ) → IsOpen s xs i → IsOpen s (xs ++ ys) i }
+{}

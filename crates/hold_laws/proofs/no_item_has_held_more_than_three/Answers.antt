@@ -1,5 +1,0 @@
-use Rattle.hold_laws.proofs.Few.{held_three}
-use Rattle.hold_laws.proofs.no_item_has_held_more_than_three.Goals as goal
-
-pub returns : goal.returns
-returns c = λ s past valid runnable run. held_three s past (record { valid = valid; runnable = runnable }) run

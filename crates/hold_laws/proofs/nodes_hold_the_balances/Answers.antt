@@ -1,5 +1,0 @@
-use Rattle.hold_laws.proofs.Settled.{settled}
-use Rattle.hold_laws.proofs.nodes_hold_the_balances.Goals as goal
-
-pub returns : goal.returns
-returns c = λ s past valid runnable run finished. settled s past (record { valid = valid; runnable = runnable }) run finished

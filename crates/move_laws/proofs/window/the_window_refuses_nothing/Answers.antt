@@ -1,7 +1,0 @@
-use Rattle.world_model.proofs.Scripts.{Sound}
-use Rattle.move_laws.proofs.WideRuns.{narrowed, widened}
-use Rattle.move_laws.proofs.window.the_window_refuses_nothing.Goals as goal
-
-pub returns : goal.returns
-returns c = λ s h valid runnable.
-    let sound : Sound s = record { valid = valid; runnable = runnable } in ((λ world. widened s h sound world), (λ wide. narrowed s h sound wide))
