@@ -9,7 +9,7 @@ use Rattle.tx_trees.specs.ScriptData.{ScriptData}
 use Rattle.board_model.specs.Histories.{Place, places_at, places_of}
 use Rattle.board_model.specs.Moves.{AtEachAct, OneByOne}
 use Rattle.board_model.proofs.Places.{places_of-append}
-use Rattle.world_model.specs.Runs.{StepRun}
+use Rattle.world_model.specs.Runs.{IsStepRun}
 use Rattle.world_model.proofs.Bridge.{reverse_more}
 
 -- the acts of a history, with those of one entry more
@@ -62,7 +62,7 @@ at_each_act_more P e past old new n x here =
     ]
 
 -- without its last entries, a run is a run
-pub run_before : (s : ScriptData) (past : List Entry) (n : ℕ) → StepRun s past → StepRun s (drop n past)
+pub run_before : (s : ScriptData) (past : List Entry) (n : ℕ) → IsStepRun s past → IsStepRun s (drop n past)
 run_before s past zero run = run
 run_before s [] (suc n) run = tt
 run_before s (e ∷ past) (suc n) run = run_before s past n run.1

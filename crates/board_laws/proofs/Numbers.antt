@@ -20,11 +20,11 @@ use Rattle.tree_step.specs.Node.{Node}
 use Rattle.tx_trees.specs.ScriptData.{ScriptData, home_of, node_of}
 use Rattle.board_model.specs.Histories.{Place, places_at, places_of}
 use Rattle.board_model.specs.Moves.{low_after, number_after, read_after, showed_to, swept_to, turned_to, update_after, version_or}
-use Rattle.world_model.specs.Runs.{StepRun, node_in}
+use Rattle.world_model.specs.Runs.{IsStepRun, node_in}
 use Rattle.world_model.specs.Timely.{AllTimely}
 use Rattle.world_model.proofs.Every.{node_kept}
 use Rattle.world_model.proofs.Nexts.{Made, Next, Begins, Hears, Ends, Coordinates, DoesRoot, DoesSub, Notes, Obeys, Order, Turns as TurnsTo, Shows, Sweeps, TellsDone, TellsAsked}
-use Rattle.world_model.proofs.Scripts.{Sound}
+use Rattle.world_model.proofs.Scripts.{IsSound}
 use Rattle.tree_laws.proofs.Goods.{next_of}
 use Rattle.board_laws.proofs.Histories.{places_more}
 use Rattle.board_laws.proofs.Versions.{placed}
@@ -168,21 +168,21 @@ numbers_next s past e are (Obeys h out at there order made) = λ p lt.
     at_node s past e h p out at made (order_leads s (node_in s past h) e.took.body out order) there lt are (cases_eq h p)
 
 -- in every run
-pub numbers_run : (s : ScriptData) (past : List Entry) → Sound s → StepRun s past → AllTimely s past
+pub numbers_run : (s : ScriptData) (past : List Entry) → IsSound s → IsStepRun s past → AllTimely s past
     → (p : ℕ) → p < s.nodes → AreNumbers past p (node_in s past p).turns
 numbers_run s [] sound run timely = λ p lt. record { update = refl; read = refl; low = refl }
 numbers_run s (e ∷ past) sound run timely =
     numbers_next s past e (numbers_run s past sound run.1 timely.1) (next_of s past e sound run timely)
 
 -- each of the three
-pub update_is : (s : ScriptData) (past : List Entry) (p : ℕ) → Sound s → StepRun s past → AllTimely s past → p < s.nodes
+pub update_is : (s : ScriptData) (past : List Entry) (p : ℕ) → IsSound s → IsStepRun s past → AllTimely s past → p < s.nodes
     → update_after (places_of (reverse past)) p ≡ (node_in s past p).turns.update.0
 update_is s past p sound run timely lt = (numbers_run s past sound run timely p lt).update
 
-pub read_is : (s : ScriptData) (past : List Entry) (p : ℕ) → Sound s → StepRun s past → AllTimely s past → p < s.nodes
+pub read_is : (s : ScriptData) (past : List Entry) (p : ℕ) → IsSound s → IsStepRun s past → AllTimely s past → p < s.nodes
     → read_after (places_of (reverse past)) p ≡ (node_in s past p).turns.read.0
 read_is s past p sound run timely lt = (numbers_run s past sound run timely p lt).read
 
-pub low_is : (s : ScriptData) (past : List Entry) (p : ℕ) → Sound s → StepRun s past → AllTimely s past → p < s.nodes
+pub low_is : (s : ScriptData) (past : List Entry) (p : ℕ) → IsSound s → IsStepRun s past → AllTimely s past → p < s.nodes
     → low_after (places_of (reverse past)) p ≡ (node_in s past p).turns.low.0
 low_is s past p sound run timely lt = (numbers_run s past sound run timely p lt).low

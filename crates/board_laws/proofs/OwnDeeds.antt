@@ -38,15 +38,15 @@ use Rattle.board_model.specs.Histories.{Place, places_at, places_of, version_in,
 use Rattle.board_model.specs.Worth.{after_ops as value_after, first_value}
 use Rattle.board_laws.specs.OwnValues.{after_act, is_up_to, own_acts, own_value, SeesOwn}
 use Rattle.world_model.specs.Counts.{Each}
-use Rattle.world_model.specs.Runs.{MayFollow, StepRun, node_in}
+use Rattle.world_model.specs.Runs.{MayFollow, IsStepRun, node_in}
 use Rattle.world_model.specs.Tables.{items_at, start_node}
 use Rattle.world_model.specs.Timely.{AllTimely, WasTimely}
 use Rattle.world_model.proofs.Every.{node_kept}
-use Rattle.tree_laws.proofs.Good.{Good}
+use Rattle.tree_laws.proofs.Good.{IsGood}
 use Rattle.world_model.proofs.Nexts.{Made, RootWork, RootUpdates, RootReads, SubWork, SubUpdates, SubReads, Next, Begins, Hears, Ends, Coordinates, DoesRoot, DoesSub, Notes, Obeys, Order, Turns as TurnsBy, Shows, Sweeps, TellsDone, TellsAsked}
 use Rattle.tree_laws.proofs.Goods.{good_run, next_of}
 use Rattle.tree_laws.proofs.Steps.{timely_at}
-use Rattle.world_model.proofs.Scripts.{Sound, SubAt, reads_alone}
+use Rattle.world_model.proofs.Scripts.{IsSound, SubAt, reads_alone}
 use Rattle.board_laws.proofs.Histories.{places_more}
 use Rattle.board_laws.proofs.Seen.{IsFrom, from_ops, seen_ops}
 use Rattle.board_laws.proofs.Versions.{AreVersioned, IsOfBorn, placed, root_version, sub_version, version_stays, versioned_run}
@@ -173,8 +173,8 @@ root_shows s h t x u v effect st w c from low is (RootUpdates up turn can made) 
 root_shows s h t x u v effect st w c from low is (RootReads read turn can made) seen =
     rw made (seen ∙ ap (λ (y : Value). Some y) (did_reads s h x u t (record { 0 = 0 }) effect.values w (reads_alone s t.0 0 c read)))
 
-root_sees : (s : ScriptData) (past : List Entry) (e : Entry) (t : TreeNo) (v : Version) (effect : Effect) → SubAt s t.0 0 → Sound s
-    → Good s past → MayFollow s past e → AreVersioned s past → e.took.body ≡ Root t → e.actor.0 ≡ home_of s t.0
+root_sees : (s : ScriptData) (past : List Entry) (e : Entry) (t : TreeNo) (v : Version) (effect : Effect) → SubAt s t.0 0 → IsSound s
+    → IsGood s past → MayFollow s past e → AreVersioned s past → e.took.body ≡ Root t → e.actor.0 ≡ home_of s t.0
     → RootWork s t.0 (node_in s past (home_of s t.0)) v effect
     → Made s past e (home_of s t.0) (root_done s (home_of s t.0) t.0 v.0 effect (node_in s past (home_of s t.0)))
     → Sees s past (home_of s t.0) (node_in s past (home_of s t.0)) → Sees s (e ∷ past) (home_of s t.0) (node_in s (e ∷ past) (home_of s t.0))
@@ -333,7 +333,7 @@ sees_outside s past e p are lt outside sees =
     let ne : e.actor.0 ≢ p = λ is. omega arith in
     subst (λ (n : Node). Sees s (e ∷ past) p n) (sym (node_kept s past e p ne)) (kept s past e p (node_in s past p) are ne sees)
 
-sees_next : (s : ScriptData) (past : List Entry) (e : Entry) → Sound s → Good s past → MayFollow s past e → AreVersioned s past
+sees_next : (s : ScriptData) (past : List Entry) (e : Entry) → IsSound s → IsGood s past → MayFollow s past e → AreVersioned s past
     → ((p : ℕ) → p < s.nodes → Sees s past p (node_in s past p)) → Next s past e → WasTimely s past e
     → (p : ℕ) → p < s.nodes → Sees s (e ∷ past) p (node_in s (e ∷ past) p)
 sees_next s past e sound good m are sees (Begins is at made) was p lt = sees_outside s past e p are lt (omega arith) (sees p lt)
@@ -404,11 +404,11 @@ start_sees s p = record {
 }
 
 -- in every run
-pub sees_run : (s : ScriptData) (past : List Entry) → Sound s → StepRun s past → AllTimely s past → (p : ℕ) → p < s.nodes → Sees s past p (node_in s past p)
+pub sees_run : (s : ScriptData) (past : List Entry) → IsSound s → IsStepRun s past → AllTimely s past → (p : ℕ) → p < s.nodes → Sees s past p (node_in s past p)
 sees_run s [] sound run timely p lt = start_sees s p
 sees_run s (e ∷ past) sound run timely p lt =
     sees_next s past e sound (good_run s past sound run.1 timely.1) run.0 (versioned_run s past sound run.1 timely.1)
     (λ q less. sees_run s past sound run.1 timely.1 q less) (next_of s past e sound run timely) timely.0 p lt
 
-pub sees_own : (s : ScriptData) (past : List Entry) → Sound s → StepRun s past → AllTimely s past → SeesOwn s past
+pub sees_own : (s : ScriptData) (past : List Entry) → IsSound s → IsStepRun s past → AllTimely s past → SeesOwn s past
 sees_own s past sound run timely = λ p x v r lt at node low. (sees_run s past sound run timely p lt).shows x v r at node low

@@ -29,18 +29,18 @@ use Rattle.tx_trees.specs.declared.parts.Sub.{Sub}
 use Rattle.board_model.specs.Histories.{Place, born_as, places_at, places_of, version_in}
 use Rattle.board_model.proofs.Places.{version_in-append}
 use Rattle.world_model.specs.Counts.{Each, one_if, tally}
-use Rattle.world_model.specs.Runs.{MayFollow, StepRun, client_in, node_in, waiting}
+use Rattle.world_model.specs.Runs.{MayFollow, IsStepRun, client_in, node_in, waiting}
 use Rattle.world_model.proofs.Every.{each_append, each_map, each_step, each_taken}
 use Rattle.tree_laws.specs.Dids.{asks, is_born}
 use Rattle.tree_laws.proofs.Acts.{of_act}
 use Rattle.tree_laws.proofs.Counts.{not_done, one_here, was_asked}
-use Rattle.tree_laws.proofs.Good.{Good}
+use Rattle.tree_laws.proofs.Good.{IsGood}
 use Rattle.tree_laws.proofs.Goods.{good_run, next_of}
 use Rattle.world_model.proofs.Nexts.{Made, RootWork, Next, Begins, Hears, Ends, Coordinates, DoesRoot, DoesSub, Notes, Obeys, Order, Turns, Shows, Sweeps, TellsDone, TellsAsked}
 use Rattle.world_model.specs.Timely.{AllTimely}
 use Rattle.world_model.proofs.Orders.{OfOrders, of}
 use Rattle.tree_laws.proofs.OrderStep.{coordinator_sends}
-use Rattle.world_model.proofs.Scripts.{Sound, SubAt, reads_alone}
+use Rattle.world_model.proofs.Scripts.{IsSound, SubAt, reads_alone}
 use Rattle.tree_laws.proofs.Whole.{births_in}
 use Rattle.board_laws.proofs.Histories.{places_more}
 
@@ -173,8 +173,8 @@ born_here t v node xs ys none =
     version_in-append t.0 xs (record { node = node; act = Born t v } ∷ ys) ∙ rw none (rw itself refl)
 
 -- the version of a tree whose root an entry does, in the history with it
-pub root_version : (s : ScriptData) (past : List Entry) (e : Entry) (t : TreeNo) (v : Version) (effect : Effect) → SubAt s t.0 0 → Sound s
-    → Good s past → MayFollow s past e → e.took.body ≡ Root t
+pub root_version : (s : ScriptData) (past : List Entry) (e : Entry) (t : TreeNo) (v : Version) (effect : Effect) → SubAt s t.0 0 → IsSound s
+    → IsGood s past → MayFollow s past e → e.took.body ≡ Root t
     → Made s past e (home_of s t.0) (root_done s (home_of s t.0) t.0 v.0 effect (node_in s past (home_of s t.0)))
     → version_in t.0 (places_of (reverse past) ++ places_at e) ≡ Some v
 root_version s past e t v effect c sound good m is made =
@@ -182,8 +182,8 @@ root_version s past e t v effect c sound good m is made =
     let old = unborn t.0 (places_of (reverse past)) (omega (arith, births_in past t.0, good.born t.0, none)) in
     rw made.acts (born_here t v e.actor.0 (places_of (reverse past)) (placed e.actor.0 (Did t (record { 0 = 0 }) effect.values ∷ [])) old)
 
-root_next : (s : ScriptData) (past : List Entry) (e : Entry) (t : TreeNo) (v : Version) (effect : Effect) → SubAt s t.0 0 → Sound s
-    → Good s past → MayFollow s past e → AreVersioned s past → e.took.body ≡ Root t
+root_next : (s : ScriptData) (past : List Entry) (e : Entry) (t : TreeNo) (v : Version) (effect : Effect) → SubAt s t.0 0 → IsSound s
+    → IsGood s past → MayFollow s past e → AreVersioned s past → e.took.body ≡ Root t
     → RootWork s t.0 (node_in s past (home_of s t.0)) v effect
     → Made s past e (home_of s t.0) (root_done s (home_of s t.0) t.0 v.0 effect (node_in s past (home_of s t.0)))
     → AreVersioned s (e ∷ past)
@@ -274,7 +274,7 @@ order_deeds xs node s st b out (Sweeps v is row) = rw row (tt, tt)
 order_deeds xs node s st b out (TellsDone v k is row) = rw row tt
 order_deeds xs node s st b out (TellsAsked v k is row) = rw row tt
 
-versioned_next : (s : ScriptData) (past : List Entry) (e : Entry) → Sound s → Good s past → MayFollow s past e → AreVersioned s past
+versioned_next : (s : ScriptData) (past : List Entry) (e : Entry) → IsSound s → IsGood s past → MayFollow s past e → AreVersioned s past
     → Next s past e → AreVersioned s (e ∷ past)
 versioned_next s past e sound good m are (Begins is at made) = client_next s past e (client_in s past) [] are made.sent made.acts tt
 versioned_next s past e sound good m are (Hears t v answer is at lt made) =
@@ -302,7 +302,7 @@ versioned_next s past e sound good m are (Notes t k v values is c later from at 
     (subst (λ (os : List Outgoing). SentVersioned xs os) (sym made.sent) (replies_versioned xs (client_of s) answer))
 
 -- in every run in which each letter came in time
-pub versioned_run : (s : ScriptData) (past : List Entry) → Sound s → StepRun s past → AllTimely s past → AreVersioned s past
+pub versioned_run : (s : ScriptData) (past : List Entry) → IsSound s → IsStepRun s past → AllTimely s past → AreVersioned s past
 versioned_run s [] sound run timely = record { deeds = tt; letters = (tt, tt) }
 versioned_run s (e ∷ past) sound run timely =
     versioned_next s past e sound (good_run s past sound run.1 timely.1) run.0 (versioned_run s past sound run.1 timely.1)

@@ -17,14 +17,14 @@ use Rattle.std.proofs.lemmas.Bool.{or_right}
 use Rattle.board_model.specs.Histories.{Place, places_at, was_done}
 use Rattle.board_model.specs.Right.{IsDoneAtOnce, IsAtOnce}
 use Rattle.board_model.proofs.Places.{was_done-append}
-use Rattle.world_model.specs.Runs.{node_in, StepRun}
-use Rattle.world_model.specs.Tables.{Runnable}
+use Rattle.world_model.specs.Runs.{node_in, IsStepRun}
+use Rattle.world_model.specs.Tables.{IsRunnable}
 use Rattle.world_model.proofs.Nexts.{Next, Begins, Hears, Ends, Coordinates, DoesRoot, DoesSub, Notes, Obeys, Order, Turns, Shows, Sweeps, TellsDone, TellsAsked, Tells}
 use Rattle.world_model.specs.Timely.{AllTimely}
 use Rattle.letter_types.specs.Steps.{Out}
 use Rattle.tree_step.specs.Done.{turned_if}
 use Rattle.tree_step.specs.Node.{Node}
-use Rattle.world_model.proofs.Scripts.{Sound}
+use Rattle.world_model.proofs.Scripts.{IsSound}
 use Rattle.tree_laws.proofs.Goods.{next_of}
 use Rattle.board_laws.proofs.Histories.{one_more}
 use Rattle.board_laws.proofs.Versions.{placed}
@@ -75,12 +75,12 @@ at_once s past e (Notes t k v values is sub later from at lt misses made) =
     at_once_of s e (Done t k v (DidNotice values)) e.acts is refl tt
 
 -- each entry of a history
-all_at_once : (s : ScriptData) (past : List Entry) → Sound s → StepRun s past → AllTimely s past → IsAtOnce s (reverse past)
+all_at_once : (s : ScriptData) (past : List Entry) → IsSound s → IsStepRun s past → AllTimely s past → IsAtOnce s (reverse past)
 all_at_once s [] sound run timely = λ n e here. absurd (cc here)
 all_at_once s (e ∷ past) sound run timely =
     one_more (λ (h : List Entry) (x : Entry). IsDoneAtOnce s x.took.body (places_at x)) e past (all_at_once s past sound run.1 timely.1)
     (at_once s past e (next_of s past e sound run timely))
 
 -- nothing waits
-pub no_wait : (s : ScriptData) (past : List Entry) → IsValid s → Runnable s → StepRun s past → AllTimely s past → IsAtOnce s (reverse past)
+pub no_wait : (s : ScriptData) (past : List Entry) → IsValid s → IsRunnable s → IsStepRun s past → AllTimely s past → IsAtOnce s (reverse past)
 no_wait s past valid runnable run timely = all_at_once s past (record { valid = valid; runnable = runnable }) run timely

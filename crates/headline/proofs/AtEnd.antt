@@ -20,7 +20,7 @@ use Rattle.board_model.specs.Serial.{is_version}
 use Rattle.board_model.specs.Worth.{is_written, may_write, ops_change, subs_change, trees_write, writes}
 use Rattle.world_model.specs.Counts.{one_if, tally}
 use Rattle.world_model.specs.Tables.{is_run}
-use Rattle.world_model.proofs.Scripts.{Sound, SubAt, ops_here}
+use Rattle.world_model.proofs.Scripts.{IsSound, SubAt, ops_here}
 use Rattle.tree_laws.specs.Dids.{dids, is_did}
 use Rattle.tree_laws.proofs.Acts.{of_act}
 use Rattle.tree_laws.proofs.Counts.{zero_or}
@@ -159,14 +159,14 @@ some_here s xs x w t k (z ∷ zs) up version change some =
       | inr one ↦ or_left (act_writes s xs x w z.act) (some_write s xs x w zs) (act_here s xs x w t k z.act up version change one)
     ]
 
-update_there : (s : ScriptData) (h : List Entry) (t : ℕ) (tree : Tree) → Sound s → slice_get s.trees t ≡ Some tree
+update_there : (s : ScriptData) (h : List Entry) (t : ℕ) (tree : Tree) → IsSound s → slice_get s.trees t ≡ Some tree
     → may_write h t tree.kind ≡ true → updates s t ≡ true
 update_there s h t tree sound at may =
     let run = all_at (λ (z : Tree). IsTrue (is_run z.kind)) s.trees t tree sound.runnable.trees at in
     rw (at, updates) (update_of h t tree.kind run may)
 
 -- a tree that writes has a Did that does, where each subtransaction was done
-tree_from : (s : ScriptData) (past : List Entry) (x w t : ℕ) (tree : Tree) → Sound s → ((k : ℕ) → SubAt s t k → 1 ≤ dids past t k)
+tree_from : (s : ScriptData) (past : List Entry) (x w t : ℕ) (tree : Tree) → IsSound s → ((k : ℕ) → SubAt s t k → 1 ≤ dids past t k)
     → slice_get s.trees t ≡ Some tree → writes (reverse past) x w t tree ≡ true → written s past x w ≡ true
 tree_from s past x w t tree sound done at is =
     let h = reverse past in
@@ -178,7 +178,7 @@ tree_from s past x w t tree sound done at is =
     some_here s (places_of h) x w t k (places_of h) (update_there s h t tree sound at two.1) two.0 changes
     (omega (arith, dids_in past t k, done k c))
 
-some_from : (s : ScriptData) (past : List Entry) (x w : ℕ) → Sound s → ((t k : ℕ) → SubAt s t k → 1 ≤ dids past t k)
+some_from : (s : ScriptData) (past : List Entry) (x w : ℕ) → IsSound s → ((t k : ℕ) → SubAt s t k → 1 ≤ dids past t k)
     → is_written s (reverse past) x w ≡ true → written s past x w ≡ true
 some_from s past x w sound done is =
     let (t, tree, at, here) = tree_that_writes (reverse past) x w 0 s.trees is in
@@ -186,7 +186,7 @@ some_from s past x w sound done is =
     tree_from s past x w t tree sound (done t) at (subst (λ (n : ℕ). writes (reverse past) x w n tree ≡ true) number here)
 
 -- both
-pub written_at_end : (s : ScriptData) (past : List Entry) (x w : ℕ) → Sound s → ((t k : ℕ) → SubAt s t k → 1 ≤ dids past t k)
+pub written_at_end : (s : ScriptData) (past : List Entry) (x w : ℕ) → IsSound s → ((t k : ℕ) → SubAt s t k → 1 ≤ dids past t k)
     → written s past x w ≡ is_written s (reverse past) x w
 written_at_end s past x w sound done =
     same_tests (written s past x w) (is_written s (reverse past) x w)

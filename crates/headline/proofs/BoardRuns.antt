@@ -16,11 +16,11 @@ use Rattle.tree_step.specs.Node.{Effect, Node}
 use Rattle.tx_trees.specs.ScriptData.{ScriptData, node_of}
 use Rattle.board_model.specs.Histories.{Place, places_at, places_of}
 use Rattle.board_model.specs.Moves.{IsBoardRun, IsMove, IsTurn, OneByOne}
-use Rattle.world_model.specs.Runs.{StepRun, client_in, node_in}
+use Rattle.world_model.specs.Runs.{IsStepRun, client_in, node_in}
 use Rattle.world_model.specs.Timely.{AllTimely}
 use Rattle.world_model.proofs.Nexts.{Next, Begins, Hears, Ends, Coordinates, DoesRoot, DoesSub, Notes, Obeys, Order, Turns as TurnsTo, Shows, Sweeps, TellsDone, TellsAsked, SubWork, SubUpdates, SubReads}
-use Rattle.world_model.proofs.Scripts.{Sound, SubAt}
-use Rattle.tree_laws.proofs.Good.{Good}
+use Rattle.world_model.proofs.Scripts.{IsSound, SubAt}
+use Rattle.tree_laws.proofs.Good.{IsGood}
 use Rattle.tree_laws.proofs.Goods.{good_run, next_of}
 use Rattle.tree_laws.proofs.Nudges.{lawful}
 use Rattle.phase_laws.proofs.Levels.{levels}
@@ -70,7 +70,7 @@ raised_turn s past e t k v raises effect stand is at lt (SubUpdates up raise can
 raised_turn s past e t k v raises effect stand is at lt (SubReads read raise can made) yields = absurd (cc (raise, yields))
 
 sub_moves : (s : ScriptData) (past : List Entry) (e : Entry) (t : TreeNo) (k : SubNo) (v : Version) (raises : Bool) (effect : Effect)
-    → SubAt s t.0 k.0 → 0 < k.0 → Good s past → AreVersioned s past → Stand s past e → e.took.body ≡ SubLetter t k v
+    → SubAt s t.0 k.0 → 0 < k.0 → IsGood s past → AreVersioned s past → Stand s past e → e.took.body ≡ SubLetter t k v
     → e.actor.0 ≡ node_of s t.0 k.0 → node_of s t.0 k.0 < s.nodes → SubWork s t.0 k.0 (node_in s past (node_of s t.0 k.0)) v raises effect
     → (raises ≡ true → IsTurn s (places_of (reverse past)) e.actor.0 v.0)
     → AreMoves s past e (turned_if raises v.0 ++ Did t k effect.values ∷ [])
@@ -84,7 +84,7 @@ sub_moves s past e t k v false effect c later good are stand is at lt work turn 
 )
 
 -- every entry
-moves_next : (s : ScriptData) (past : List Entry) (e : Entry) → Good s past → AreVersioned s past → Stand s past e → Next s past e
+moves_next : (s : ScriptData) (past : List Entry) (e : Entry) → IsGood s past → AreVersioned s past → Stand s past e → Next s past e
     → OneByOne (IsMove s (reverse past)) (places_of (reverse past)) (places_at e)
 moves_next s past e good are stand (Begins is at made) =
     by_acts s past e _ made.acts (end_moves s past e (finishes s (next_after s (client_in s past)) (client_in s past)))
@@ -107,7 +107,7 @@ moves_next s past e good are stand (Obeys p out at lt order made) =
     by_acts s past e out.acts made.acts (order_moves s past e p out stand at lt order)
 
 -- in every run
-pub board_run : (s : ScriptData) (past : List Entry) → Sound s → StepRun s past → AllTimely s past → IsBoardRun s (reverse past)
+pub board_run : (s : ScriptData) (past : List Entry) → IsSound s → IsStepRun s past → AllTimely s past → IsBoardRun s (reverse past)
 board_run s [] sound run timely = λ n e here. absurd (cc here)
 board_run s (e ∷ past) sound run timely =
     let stand : Stand s past e = record {

@@ -21,7 +21,7 @@ use Rattle.world_model.proofs.Scripts.{SubAt, sub_here}
 use Rattle.tree_laws.specs.Dids.{asks, dids, is_did}
 use Rattle.tree_laws.proofs.Acts.{any_counted, of_act}
 use Rattle.tree_laws.proofs.Counts.{not_done, one_here, was_asked}
-use Rattle.tree_laws.proofs.Good.{Good}
+use Rattle.tree_laws.proofs.Good.{IsGood}
 use Rattle.tree_laws.proofs.Whole.{births_in, did_marks, dids_in, none_strict, was_done_of}
 use Rattle.board_laws.proofs.Versions.{AreVersioned, born_here, not_both, taken_version, unborn, version_stays}
 use Rattle.run_laws.proofs.Wholes.{root_turn}
@@ -29,12 +29,12 @@ use Rattle.headline.proofs.Raised.{Stand}
 
 -- Births.
 -- a letter that asks for what isn't done yet
-none_done : (s : ScriptData) (past : List Entry) (e : Entry) (t k : ℕ) → SubAt s t k → Good s past → Stand s past e
+none_done : (s : ScriptData) (past : List Entry) (e : Entry) (t k : ℕ) → SubAt s t k → IsGood s past → Stand s past e
     → asks t k e.took.body ≡ 1 → dids past t k ≡ 0
 none_done s past e t k c good stand one = not_done s past t k c stand.sound good (was_asked s past e t k stand.follows one)
 
 pub birth_is : (s : ScriptData) (past : List Entry) (e : Entry) (t : TreeNo) (v : Version) (effect : Effect) → SubAt s t.0 0
-    → Good s past → Stand s past e → e.took.body ≡ Root t → e.actor.0 ≡ home_of s t.0 → home_of s t.0 < s.nodes
+    → IsGood s past → Stand s past e → e.took.body ≡ Root t → e.actor.0 ≡ home_of s t.0 → home_of s t.0 < s.nodes
     → RootWork s t.0 (node_in s past (home_of s t.0)) v effect → IsBirth s (places_of (reverse past)) e.actor.0 t.0 v.0
 birth_is s past e t v effect c good stand is at lt work =
     let p = home_of s t.0 in
@@ -86,7 +86,7 @@ root_asked : (s : ScriptData) (t : ℕ) (had : ℕ → Bool) → SubAt s t 0 →
 root_asked s t had c = subst (λ (found : Option Sub). IsAskedBy had 0 found) (sym (sub_here s t 0 c)) refl
 
 pub root_deed : (s : ScriptData) (past : List Entry) (e : Entry) (t : TreeNo) (v : Version) (effect : Effect) → SubAt s t.0 0
-    → Good s past → Stand s past e → e.took.body ≡ Root t → e.actor.0 ≡ home_of s t.0 → home_of s t.0 < s.nodes
+    → IsGood s past → Stand s past e → e.took.body ≡ Root t → e.actor.0 ≡ home_of s t.0 → home_of s t.0 < s.nodes
     → RootWork s t.0 (node_in s past (home_of s t.0)) v effect
     → IsDeed s (places_of (reverse past) ++ record { node = e.actor.0; act = Born t v } ∷ []) e.actor.0 t.0 0 effect.values
 root_deed s past e t v effect c good stand is at lt work =
@@ -112,7 +112,7 @@ sub_asked s t k had c done =
 
 -- after no act of its entry, or after a turn
 pub sub_deed : (s : ScriptData) (past : List Entry) (e : Entry) (t : TreeNo) (k : SubNo) (v : Version) (raises : Bool) (effect : Effect)
-    (ys : List Place) → SubAt s t.0 k.0 → 0 < k.0 → Good s past → AreVersioned s past → Stand s past e → e.took.body ≡ SubLetter t k v
+    (ys : List Place) → SubAt s t.0 k.0 → 0 < k.0 → IsGood s past → AreVersioned s past → Stand s past e → e.took.body ≡ SubLetter t k v
     → e.actor.0 ≡ node_of s t.0 k.0 → node_of s t.0 k.0 < s.nodes → SubWork s t.0 k.0 (node_in s past (node_of s t.0 k.0)) v raises effect
     → was_done t.0 k.0 ys ≡ false
     → IsDeed s (places_of (reverse past) ++ ys) e.actor.0 t.0 k.0 effect.values

@@ -7,9 +7,9 @@ use Rattle.advance_coord.specs.declared.phase.Phase.TheVariants.{Idle, Turning, 
 use Rattle.letter_types.specs.declared.entries.Entry.{Entry}
 use Rattle.tx_trees.specs.ScriptData.{ScriptData, reads}
 use Rattle.board_model.specs.Histories.{places_at, places_of, version_in}
-use Rattle.world_model.specs.Runs.{StepRun, coordinator_in, node_in}
+use Rattle.world_model.specs.Runs.{IsStepRun, coordinator_in, node_in}
 use Rattle.world_model.specs.Timely.{AllTimely}
-use Rattle.world_model.proofs.Scripts.{Sound}
+use Rattle.world_model.proofs.Scripts.{IsSound}
 use Rattle.tree_laws.proofs.Nudges.{lawful}
 use Rattle.phase_laws.specs.Phases.{most_read}
 use Rattle.phase_laws.proofs.Levels.{levels}
@@ -30,14 +30,14 @@ read_within (Paused false) u one = omega arith
 read_within Showing u one = omega arith
 read_within Sweeping u one = omega arith
 
-pub read_below : (s : ScriptData) (past : List Entry) (p : ℕ) → Sound s → StepRun s past → AllTimely s past → p < s.nodes
+pub read_below : (s : ScriptData) (past : List Entry) (p : ℕ) → IsSound s → IsStepRun s past → AllTimely s past → p < s.nodes
     → (node_in s past p).turns.read.0 < now_below false s past
 read_below s past p sound run timely lt =
     let c = coordinator_in s past in
     let all = levels s past (lawful s sound) run timely in
     omega (arith, (all.node p lt).read_to, read_within c.phase c.update all.first)
 
-below_by : (s : ScriptData) (past : List Entry) (e : Entry) (t : ℕ) (w : Version) → Sound s → StepRun s (e ∷ past)
+below_by : (s : ScriptData) (past : List Entry) (e : Entry) (t : ℕ) (w : Version) → IsSound s → IsStepRun s (e ∷ past)
     → AllTimely s (e ∷ past) → reads s t ≡ true → (born_with past t ≡ Some w → w.0 < now_below false s past)
     → (born_with past t ≡ Some w) ⊎ (version_in t (places_at e) ≡ Some w) → w.0 < now_below false s (e ∷ past)
 below_by s past e t w sound run timely read before (inl old) =
@@ -54,7 +54,7 @@ below_by s past e t w sound run timely read before (inr new) =
     )
 
 -- so with the version of each read tree
-pub born_below : (s : ScriptData) (past : List Entry) (t : ℕ) (w : Version) → Sound s → StepRun s past → AllTimely s past
+pub born_below : (s : ScriptData) (past : List Entry) (t : ℕ) (w : Version) → IsSound s → IsStepRun s past → AllTimely s past
     → reads s t ≡ true → born_with past t ≡ Some w → w.0 < now_below false s past
 born_below s [] t w sound run timely read born = absurd (cc born)
 born_below s (e ∷ past) t w sound run timely read born =
@@ -63,14 +63,14 @@ born_below s (e ∷ past) t w sound run timely read born =
     (born_split t (places_of (reverse past)) (places_at e) w (sym (ap (version_in t) (places_more e past)) ∙ born))
 
 -- up to such a version update trees are whole
-pub whole_to : (s : ScriptData) (past : List Entry) (v : ℕ) → Sound s → StepRun s past → AllTimely s past → v < now_below false s past
+pub whole_to : (s : ScriptData) (past : List Entry) (v : ℕ) → IsSound s → IsStepRun s past → AllTimely s past → v < now_below false s past
     → UpdatesAreWhole s (reverse past) v
 whole_to s past v sound run timely early = λ t w up born le.
     is_whole_of s past t sound run timely (update_there s t (slice_get s.trees t) refl up)
     (whole_run false s past sound run timely t w up born (omega (arith, early, le)))
 
 -- and none comes later
-pub none_comes : (s : ScriptData) (past later : List Entry) (v : ℕ) → Sound s → StepRun s (later ++ past) → AllTimely s (later ++ past)
+pub none_comes : (s : ScriptData) (past later : List Entry) (v : ℕ) → IsSound s → IsStepRun s (later ++ past) → AllTimely s (later ++ past)
     → v < now_below false s past → NoUpdateCame s (reverse past) (reverse (later ++ past)) v
 none_comes s past later v sound run timely early = λ t w up born le.
     none_came false s past later t w (lawful s sound) run timely up (omega (arith, early, le)) born

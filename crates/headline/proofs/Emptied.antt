@@ -5,10 +5,10 @@ use Rattle.letter_types.specs.declared.entries.Entry.{Entry}
 use Rattle.advance_coord.specs.Coordinator.{Coordinator}
 use Rattle.tx_trees.specs.ScriptData.{ScriptData}
 use Rattle.tx_trees.specs.Valid.{IsValid}
-use Rattle.world_model.specs.Runs.{StepRun, waiting}
-use Rattle.world_model.specs.Tables.{Runnable}
+use Rattle.world_model.specs.Runs.{IsStepRun, waiting}
+use Rattle.world_model.specs.Tables.{IsRunnable}
 use Rattle.world_model.proofs.Bridge.{coordinator_after}
-use Rattle.world_model.proofs.Scripts.{Sound}
+use Rattle.world_model.proofs.Scripts.{IsSound}
 use Rattle.phase_laws.proofs.Small.{rounds_by_trees}
 use Rattle.tree_laws.proofs.Entries.{no_round}
 use Rattle.tree_laws.proofs.Nudges.{lawful}
@@ -18,10 +18,10 @@ use Rattle.stall_laws.proofs.Entries.{entries_counted}
 use Rattle.headline.proofs.Promised.{headline_past}
 use Rattle.headline.specs.Ended.{HasEnded}
 
-pub ended_past : (s : ScriptData) (past : List Entry) → StepRun s past → IsValid s → Runnable s → waiting s past ≡ []
+pub ended_past : (s : ScriptData) (past : List Entry) → IsStepRun s past → IsValid s → IsRunnable s → waiting s past ≡ []
     → HasEnded s (reverse past)
 ended_past s past run valid runnable left =
-    let sound : Sound s = record { valid = valid; runnable = runnable } in
+    let sound : IsSound s = record { valid = valid; runnable = runnable } in
     record {
       headline = headline_past s past sound run (no_run_stalls s past sound run left).1;
       left = ap (waiting s) (reverse-reverse past) ∙ left;

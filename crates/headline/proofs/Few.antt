@@ -15,10 +15,10 @@ use Rattle.tx_trees.specs.ScriptData.{ScriptData}
 use Rattle.tx_trees.specs.Valid.{IsItem}
 use Rattle.tx_trees.specs.declared.parts.ItemRow.{ItemRow}
 use Rattle.tx_trees.proofs.SubsOf.{all_at}
-use Rattle.world_model.specs.Runs.{StepRun, actor_after, node_in}
+use Rattle.world_model.specs.Runs.{IsStepRun, actor_after, node_in}
 use Rattle.world_model.specs.Tables.{ActorData}
 use Rattle.world_model.proofs.Back.{node_leads}
-use Rattle.world_model.proofs.Scripts.{Sound}
+use Rattle.world_model.proofs.Scripts.{IsSound}
 use Rattle.tree_laws.proofs.Nudges.{lawful}
 use Rattle.phase_laws.proofs.Levels.{versions_in_phase}
 use Rattle.board_laws.proofs.Histories.{first_of, run_before}
@@ -46,7 +46,7 @@ found_by v w None is = absurd (cc is)
 found_by v w (Some h) is = (h, refl)
 
 -- each item is at a node of the script
-pub item_node : (s : ScriptData) (x : ℕ) (r : ItemRow) → Sound s → slice_get s.items x ≡ Some r → r.node.0 < s.nodes
+pub item_node : (s : ScriptData) (x : ℕ) (r : ItemRow) → IsSound s → slice_get s.items x ≡ Some r → r.node.0 < s.nodes
 item_node s x r sound at = (all_at (IsItem s.nodes) s.items x r sound.valid.items at).node
 
 -- what the node of an item holds of it
@@ -56,7 +56,7 @@ pub record HeldAt (s : ScriptData) (past : List Entry) (x : ℕ) (r : ItemRow) :
   pub kept : IsKept (node_in s past r.node.0).turns.low.0 (node_in s past r.node.0).turns.update.0 held
   pub after : held_after s (reverse past) r.node.0 x ≡ held
 
-pub held_at : (s : ScriptData) (past : List Entry) (x : ℕ) (r : ItemRow) → Sound s → StepRun s past → slice_get s.items x ≡ Some r
+pub held_at : (s : ScriptData) (past : List Entry) (x : ℕ) (r : ItemRow) → IsSound s → IsStepRun s past → slice_get s.items x ≡ Some r
     → HeldAt s past x r
 held_at s past x r sound run at =
     let p = r.node.0 in
@@ -75,7 +75,7 @@ held_at s past x r sound run at =
     }
 
 -- in every run
-three_at : (s : ScriptData) (past : List Entry) (x : ℕ) (r : ItemRow) → Sound s → StepRun s past → slice_get s.items x ≡ Some r
+three_at : (s : ScriptData) (past : List Entry) (x : ℕ) (r : ItemRow) → IsSound s → IsStepRun s past → slice_get s.items x ≡ Some r
     → HoldsThree (held_after s (reverse past) r.node.0 x) (turns_of (actor_after s (reverse past) r.node.0))
 three_at s past x r sound run at =
     let p = r.node.0 in
@@ -92,7 +92,7 @@ front past n =
       | inr less ↦ (length past - n, first_of past n less)
     ]
 
-pub held_three : (s : ScriptData) (past : List Entry) → Sound s → StepRun s past → HasHeldThree s (reverse past)
+pub held_three : (s : ScriptData) (past : List Entry) → IsSound s → IsStepRun s past → HasHeldThree s (reverse past)
 held_three s past sound run = λ n x r at.
     let (k, is) = front past n in
     rw is (three_at s (drop k past) x r sound (run_before s past k run) at)

@@ -4,13 +4,13 @@ use Rattle.letter_types.specs.declared.entries.Entry.{Entry}
 use Rattle.tx_trees.specs.ScriptData.{ScriptData}
 use Rattle.board_model.specs.Gates.{Fits, KeepsTo}
 use Rattle.board_model.specs.Histories.{Place}
-use Rattle.world_model.specs.Runs.{StepRun}
+use Rattle.world_model.specs.Runs.{IsStepRun}
 use Rattle.world_model.specs.Timely.{AllTimely}
-use Rattle.world_model.proofs.Scripts.{Sound}
+use Rattle.world_model.proofs.Scripts.{IsSound}
 use Rattle.board_laws.proofs.Histories.{at_each_act_more}
 use Rattle.headline.proofs.Keeps.{entry_keeps}
 
-pub fits_run : (s : ScriptData) (past : List Entry) → Sound s → StepRun s past → AllTimely s past → Fits s (reverse past)
+pub fits_run : (s : ScriptData) (past : List Entry) → IsSound s → IsStepRun s past → AllTimely s past → Fits s (reverse past)
 fits_run s [] sound run timely = λ n e here. absurd (cc here)
 fits_run s (e ∷ past) sound run timely =
     at_each_act_more (λ (before : List Entry) (xs : List Place) (x : Place). KeepsTo s xs x.act) e past

@@ -19,7 +19,7 @@ use Rattle.board_model.specs.Histories.{Place}
 use Rattle.board_model.specs.Worth.{after_deed, after_ops, after_subs, after_tree}
 use Rattle.board_model.proofs.AnyOrder.{OpsCommute, SubsCommute, after_ops_is, exchanged, ops_on, tree_commutes}
 use Rattle.board_laws.specs.OwnValues.{after_act, own_acts, updates_to}
-use Rattle.world_model.proofs.Scripts.{Sound, SubAt, ops_fit}
+use Rattle.world_model.proofs.Scripts.{IsSound, SubAt, ops_fit}
 use Rattle.tree_laws.proofs.Whole.{none_strict}
 use Rattle.headline.proofs.Placed.{ArePlaced, DidAt}
 
@@ -36,11 +36,11 @@ sub_commutes (y ∷ ks) zero all (Some sub) is =
     let same : y ≡ sub = cc is in subst (λ (z : Sub). OpsCommute z.ops) same all.0
 sub_commutes (y ∷ ks) (suc k) all (Some sub) is = sub_commutes ks k all.1 (Some sub) is
 
-ops_commute : (s : ScriptData) (t k : ℕ) → Sound s → OpsCommute (ops_of s t k)
+ops_commute : (s : ScriptData) (t k : ℕ) → IsSound s → OpsCommute (ops_of s t k)
 ops_commute s t k sound =
     sub_commutes (subs_at s t) k (tree_commutes s t sound.valid (none_strict s t sound)) (sub_at s t k) refl
 
-pub subs_exchanged : (s : ScriptData) (x : ℕ) → Sound s → (w : Value) (a b : ℕ × ℕ)
+pub subs_exchanged : (s : ScriptData) (x : ℕ) → IsSound s → (w : Value) (a b : ℕ × ℕ)
     → after_sub s x (after_sub s x w a) b ≡ after_sub s x (after_sub s x w b) a
 subs_exchanged s x sound w a b =
     let os : List SubOp = ops_of s a.0 a.1 in
@@ -96,7 +96,7 @@ ops_apart items kind node x r (o ∷ os) w at ne ops =
     ap (λ (b : Bool). after_ops x os (if b then after_deed o.deed w else w)) no
     ∙ ops_apart items kind node x r os w at ne ops.1
 
-sub_apart : (s : ScriptData) (t k x : ℕ) (r : ItemRow) (w : Value) → Sound s → SubAt s t k → slice_get s.items x ≡ Some r
+sub_apart : (s : ScriptData) (t k x : ℕ) (r : ItemRow) (w : Value) → IsSound s → SubAt s t k → slice_get s.items x ≡ Some r
     → r.node.0 ≢ node_of s t k → after_ops x (ops_of s t k) w ≡ w
 sub_apart s t k x r w sound c at ne =
     ops_apart s.items c.tree.kind (node_of s t k) x r (ops_of s t k) w at ne (ops_fit s t k c.tree.kind c sound refl)
@@ -106,7 +106,7 @@ did_apart : (s : ScriptData) (x t k : ℕ) (w : Value) → after_ops x (ops_of s
 did_apart s x t k w same true = same
 did_apart s x t k w same false = refl
 
-act_apart : (s : ScriptData) (h : List Entry) (p x v : ℕ) (r : ItemRow) (w : Value) (node : ℕ) (a : Act) → Sound s
+act_apart : (s : ScriptData) (h : List Entry) (p x v : ℕ) (r : ItemRow) (w : Value) (node : ℕ) (a : Act) → IsSound s
     → slice_get s.items x ≡ Some r → r.node.0 ≡ p → node ≢ p → DidAt s node a → fold (after_sub s x) w (deed_of s h v a) ≡ w
 act_apart s h p x v r w node (Did t k values) sound at here ne did =
     did_apart s x t.0 k.0 w
@@ -114,7 +114,7 @@ act_apart s h p x v r w node (Did t k values) sound at here ne did =
 act_apart s h p x v r w node Finished sound at here ne did = refl
 act_apart s h p x v r w node _ sound at here ne did = refl
 
-own_by : (s : ScriptData) (h : List Entry) (p x v : ℕ) (r : ItemRow) (w : Value) (y : Place) (ys : List Place) → Sound s
+own_by : (s : ScriptData) (h : List Entry) (p x v : ℕ) (r : ItemRow) (w : Value) (y : Place) (ys : List Place) → IsSound s
     → slice_get s.items x ≡ Some r → r.node.0 ≡ p → DidAt s y.node y.act
     → ((u : Value) → fold (after_act s h x v) u (own_acts p ys) ≡ fold (after_sub s x) u (deeds_in s h v ys))
     → (test : Bool) → (y.node == p) ≡ test
@@ -134,7 +134,7 @@ own_by s h p x v r w y ys sound at here did rest false is =
     )
 
 -- a node's own deeds make of its item what those of all nodes do
-pub own_folded : (s : ScriptData) (h : List Entry) (p x v : ℕ) (r : ItemRow) (w : Value) (ys : List Place) → Sound s
+pub own_folded : (s : ScriptData) (h : List Entry) (p x v : ℕ) (r : ItemRow) (w : Value) (ys : List Place) → IsSound s
     → slice_get s.items x ≡ Some r → r.node.0 ≡ p → ArePlaced s ys
     → fold (after_act s h x v) w (own_acts p ys) ≡ fold (after_sub s x) w (deeds_in s h v ys)
 own_folded s h p x v r w [] sound at here did = refl

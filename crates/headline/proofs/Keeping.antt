@@ -28,13 +28,13 @@ use Rattle.tx_trees.specs.ScriptData.{ScriptData, home_of, node_of, ops_of, upda
 use Rattle.tx_trees.specs.declared.parts.ItemRow.{ItemRow}
 use Rattle.board_model.specs.Histories.{Place, places_at, version_in}
 use Rattle.board_model.specs.Worth.{ops_change}
-use Rattle.world_model.specs.Runs.{MayFollow, StepRun, client_in, node_in}
+use Rattle.world_model.specs.Runs.{MayFollow, IsStepRun, client_in, node_in}
 use Rattle.world_model.specs.Tables.{items_at, start_node}
 use Rattle.world_model.specs.Timely.{AllTimely, WasTimely}
 use Rattle.world_model.proofs.Every.{node_kept}
 use Rattle.world_model.proofs.Nexts.{Made, RootWork, RootUpdates, RootReads, SubWork, SubUpdates, SubReads, Next, Begins, Hears, Ends, Coordinates, DoesRoot, DoesSub, Notes, Obeys, Order, Turns as TurnsBy, Shows, Sweeps, TellsDone, TellsAsked}
-use Rattle.world_model.proofs.Scripts.{Sound, SubAt, reads_alone}
-use Rattle.tree_laws.proofs.Good.{Good}
+use Rattle.world_model.proofs.Scripts.{IsSound, SubAt, reads_alone}
+use Rattle.tree_laws.proofs.Good.{IsGood}
 use Rattle.tree_laws.proofs.Goods.{good_run, next_of}
 use Rattle.tree_laws.proofs.Steps.{timely_at}
 use Rattle.tree_laws.proofs.Nudges.{lawful}
@@ -146,8 +146,8 @@ root_keeps_by s past e t v effect c are version low acts keeps (RootReads read t
     ∙ did_reads s (with_entry past e) x w t (record { 0 = 0 }) effect.values (reads_alone s t.0 0 c read))
     (λ x w r at node above. rw made (keeps.holds x w r at node above))
 
-root_keeps : (s : ScriptData) (past : List Entry) (e : Entry) (t : TreeNo) (v : Version) (effect : Effect) → SubAt s t.0 0 → Sound s
-    → Good s past → MayFollow s past e → AreVersioned s past
+root_keeps : (s : ScriptData) (past : List Entry) (e : Entry) (t : TreeNo) (v : Version) (effect : Effect) → SubAt s t.0 0 → IsSound s
+    → IsGood s past → MayFollow s past e → AreVersioned s past
     → (node_in s past (home_of s t.0)).turns.low.0 ≤ (node_in s past (home_of s t.0)).turns.update.0 → e.took.body ≡ Root t
     → RootWork s t.0 (node_in s past (home_of s t.0)) v effect
     → Made s past e (home_of s t.0) (root_done s (home_of s t.0) t.0 v.0 effect (node_in s past (home_of s t.0)))
@@ -309,7 +309,7 @@ keeps_outside s past e p are lt outside none keeps =
     subst (λ (n : Node). Keeps s (e ∷ past) p n) (sym (node_kept s past e p ne))
     (same_keeps s past e p (node_in s past p) are (λ x w r at node. none x w) keeps)
 
-keeps_next : (s : ScriptData) (past : List Entry) (e : Entry) → Sound s → Good s past → MayFollow s past e → AreVersioned s past
+keeps_next : (s : ScriptData) (past : List Entry) (e : Entry) → IsSound s → IsGood s past → MayFollow s past e → AreVersioned s past
     → ((p : ℕ) → p < s.nodes → (node_in s past p).turns.low.0 ≤ (node_in s past p).turns.update.0)
     → ((p : ℕ) → p < s.nodes → Keeps s past p (node_in s past p)) → WasTimely s past e → Next s past e
     → (p : ℕ) → p < s.nodes → Keeps s (e ∷ past) p (node_in s (e ∷ past) p)
@@ -385,7 +385,7 @@ first_keeps s p = record {
 }
 
 -- in every run
-pub keeps_run : (s : ScriptData) (past : List Entry) → Sound s → StepRun s past → AllTimely s past → (p : ℕ) → p < s.nodes
+pub keeps_run : (s : ScriptData) (past : List Entry) → IsSound s → IsStepRun s past → AllTimely s past → (p : ℕ) → p < s.nodes
     → Keeps s past p (node_in s past p)
 keeps_run s [] sound run timely p lt = first_keeps s p
 keeps_run s (e ∷ past) sound run timely p lt =

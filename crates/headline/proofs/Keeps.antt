@@ -27,11 +27,11 @@ use Rattle.board_model.specs.Moves.{OneByOne}
 use Rattle.board_model.specs.Right.{finishes as finishes_act, has_finished}
 use Rattle.client_rows.specs.Client.{all_answered, finishes, next_after, with_answer, with_end}
 use Rattle.world_model.specs.Counts.{one_if, tally}
-use Rattle.world_model.specs.Runs.{MayFollow, StepRun, client_in, coordinator_in, node_in}
+use Rattle.world_model.specs.Runs.{MayFollow, IsStepRun, client_in, coordinator_in, node_in}
 use Rattle.world_model.specs.Timely.{AllTimely}
 use Rattle.world_model.proofs.Every.{each_taken, node_kept}
 use Rattle.world_model.proofs.Nexts.{Next, Begins, Hears, Ends, Coordinates, DoesRoot, DoesSub, Notes, Obeys, Order, Turns, Shows, Sweeps, TellsDone, TellsAsked}
-use Rattle.world_model.proofs.Scripts.{Sound, SubAt, tree_below}
+use Rattle.world_model.proofs.Scripts.{IsSound, SubAt, tree_below}
 use Rattle.tree_laws.specs.Dids.{asks, is_did, rooted}
 use Rattle.tree_laws.specs.Ends.{is_finish}
 use Rattle.tree_laws.proofs.Acts.{any_counted, finish_marks, of_act}
@@ -109,7 +109,7 @@ advance_row k (suc n) (SettleRow ∷ rows) lt = passes_by k n SettleRow rows k (
 advance_row k (suc n) (LoseRow ∷ rows) lt = passes_by k n LoseRow rows k (omega arith) (advance_row k n rows (omega (arith, lt)))
 
 -- A tree whose root is asked for is born by its row.
-born : (s : ScriptData) (past : List Entry) (e : Entry) (t : TreeNo) → SubAt s t.0 0 → Sound s → StepRun s past → AllTimely s past
+born : (s : ScriptData) (past : List Entry) (e : Entry) (t : TreeNo) → SubAt s t.0 0 → IsSound s → IsStepRun s past → AllTimely s past
     → MayFollow s past e → e.took.body ≡ Root t → IsBornByItsRow s (places_of (reverse past)) t.0
 born s past e t c sound run timely m is =
     let next = (client_in s past).next in
@@ -126,7 +126,7 @@ turns_in Idle u update v from lt le = absurd (omega (arith, from, lt, le))
 turns_in Turning u update v from lt le = (refl, omega (arith, from, lt, le))
 turns_in _ u update v from lt le = absurd (omega (arith, from, lt, le))
 
-turned : (s : ScriptData) (past : List Entry) (p v : ℕ) → Sound s → StepRun s past → AllTimely s past → p < s.nodes
+turned : (s : ScriptData) (past : List Entry) (p v : ℕ) → IsSound s → IsStepRun s past → AllTimely s past → p < s.nodes
     → (node_in s past p).turns.update.0 < v → v ≤ most_update (coordinator_in s past).phase (coordinator_in s past).update
     → IsTurnedByItsRow s (places_of (reverse past)) v
 turned s past p v sound run timely pl lt le =
@@ -166,7 +166,7 @@ not_finished past true is none =
     absurd (omega (arith, some, none))
 not_finished past false is none = refl
 
-finished : (s : ScriptData) (past : List Entry) (e : Entry) → Sound s → StepRun s (e ∷ past) → AllTimely s (e ∷ past)
+finished : (s : ScriptData) (past : List Entry) (e : Entry) → IsSound s → IsStepRun s (e ∷ past) → AllTimely s (e ∷ past)
     → e.actor.0 ≡ client_of s → e.acts ≡ Finished ∷ [] → IsEnd s (places_of (reverse past))
 finished s past e sound run timely at acts =
     let c = client_in s (e ∷ past) in
@@ -203,7 +203,7 @@ by_acts : (s : ScriptData) (past : List Entry) (e : Entry) (acts : List Act) →
     → KeepAll s (places_of (reverse past)) (placed e.actor.0 acts) → KeepAll s (places_of (reverse past)) (places_at e)
 by_acts s past e acts is keep = subst (λ (xs : List Act). KeepAll s (places_of (reverse past)) (placed e.actor.0 xs)) (sym is) keep
 
-client_keeps : (s : ScriptData) (past : List Entry) (e : Entry) (test : Bool) → Sound s → StepRun s (e ∷ past) → AllTimely s (e ∷ past)
+client_keeps : (s : ScriptData) (past : List Entry) (e : Entry) (test : Bool) → IsSound s → IsStepRun s (e ∷ past) → AllTimely s (e ∷ past)
     → e.actor.0 ≡ client_of s → e.acts ≡ (if test then Finished ∷ [] else []) → KeepAll s (places_of (reverse past)) (places_at e)
 client_keeps s past e true sound run timely at acts =
     by_acts s past e (Finished ∷ []) acts (finished s past e sound run timely at acts, tt)
@@ -223,7 +223,7 @@ lt_of : (a b : ℕ) → nat_lt a b ≡ true → a < b
 lt_of a b is = grind (arith, nat_tests)
 
 -- an order
-obeys : (s : ScriptData) (past : List Entry) (e : Entry) (p : ℕ) (out : Out Node) → Sound s → StepRun s past → AllTimely s past
+obeys : (s : ScriptData) (past : List Entry) (e : Entry) (p : ℕ) (out : Out Node) → IsSound s → IsStepRun s past → AllTimely s past
     → MayFollow s past e → p < s.nodes → Order s (node_in s past p) e.took.body out
     → KeepAll s (places_of (reverse past)) (placed e.actor.0 out.acts)
 obeys s past e p out sound run timely m lt (Turns v bd is) =
@@ -247,7 +247,7 @@ obeys s past e p out sound run timely m lt (TellsDone v k bd is) =
 obeys s past e p out sound run timely m lt (TellsAsked v k bd is) =
     subst (λ (o : Out Node). KeepAll s (places_of (reverse past)) (placed e.actor.0 o.acts)) (sym is) tt
 
-keeps_next : (s : ScriptData) (past : List Entry) (e : Entry) → Sound s → StepRun s (e ∷ past) → AllTimely s (e ∷ past) → Next s past e
+keeps_next : (s : ScriptData) (past : List Entry) (e : Entry) → IsSound s → IsStepRun s (e ∷ past) → AllTimely s (e ∷ past) → Next s past e
     → KeepAll s (places_of (reverse past)) (places_at e)
 keeps_next s past e sound run timely (Begins is at made) =
     let c = client_in s past in client_keeps s past e (finishes s (next_after s c) c) sound run timely at made.acts
@@ -274,6 +274,6 @@ keeps_next s past e sound run timely (Obeys p out at lt order made) =
     by_acts s past e out.acts made.acts (obeys s past e p out sound run.1 timely.1 run.0 lt order)
 
 -- the acts of the last entry of a run
-pub entry_keeps : (s : ScriptData) (past : List Entry) (e : Entry) → Sound s → StepRun s (e ∷ past) → AllTimely s (e ∷ past)
+pub entry_keeps : (s : ScriptData) (past : List Entry) (e : Entry) → IsSound s → IsStepRun s (e ∷ past) → AllTimely s (e ∷ past)
     → KeepAll s (places_of (reverse past)) (places_at e)
 entry_keeps s past e sound run timely = keeps_next s past e sound run timely (next_of s past e sound run timely)

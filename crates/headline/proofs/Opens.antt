@@ -13,10 +13,10 @@ use Rattle.board_model.specs.Gates.{IsOpen, awaited, before_settle, is_settle}
 use Rattle.board_model.specs.Histories.{IsWhole, places_of}
 use Rattle.client_rows.specs.Client.{all_answered}
 use Rattle.world_model.specs.Counts.{Each, one_if}
-use Rattle.world_model.specs.Runs.{StepRun, client_in}
+use Rattle.world_model.specs.Runs.{IsStepRun, client_in}
 use Rattle.world_model.specs.Timely.{AllTimely}
 use Rattle.world_model.proofs.Fits.{RowFits, each_take, rows_fit}
-use Rattle.world_model.proofs.Scripts.{Sound}
+use Rattle.world_model.proofs.Scripts.{IsSound}
 use Rattle.tree_laws.proofs.Finishes.{stage_done}
 use Rattle.tree_laws.proofs.Goods.{good_run}
 use Rattle.tree_laws.proofs.Nudges.{lawful}
@@ -42,7 +42,7 @@ each_at P (y ∷ xs) zero x all here = let same : y ≡ x = cc here in subst P s
 each_at P (y ∷ xs) (suc j) x all here = each_at P xs j x all.1 here
 
 -- a tree for which a row waits is one of the script
-tree_there : (s : ScriptData) (i j t : ℕ) → Sound s → slice_get (awaited s i) j ≡ Some (TreeRow (record { 0 = t })) → t < length s.trees
+tree_there : (s : ScriptData) (i j t : ℕ) → IsSound s → slice_get (awaited s i) j ≡ Some (TreeRow (record { 0 = t })) → t < length s.trees
 tree_there s i j t sound here =
     each_at (RowFits s) (awaited s i) j (TreeRow (record { 0 = t }))
     (each_before (RowFits s) (take i s.rows) (each_take (RowFits s) i s.rows (rows_fit s sound))) here
@@ -66,7 +66,7 @@ answered_at answered (suc j) t (SettleRow ∷ rows) all here = answered_at answe
 answered_at answered (suc j) t (LoseRow ∷ rows) all here = answered_at answered j t rows all here
 
 -- a tree that the client knows to be answered is whole
-answered_whole : (s : ScriptData) (past : List Entry) (t : ℕ) → Sound s → StepRun s past → AllTimely s past → t < length s.trees
+answered_whole : (s : ScriptData) (past : List Entry) (t : ℕ) → IsSound s → IsStepRun s past → AllTimely s past → t < length s.trees
     → get_or (client_in s past).answered t false ≡ true → IsWhole s (reverse past) t
 answered_whole s past t sound run timely lt is =
     let good = good_run s past sound run timely in
@@ -74,7 +74,7 @@ answered_whole s past t sound run timely lt is =
     whole_done s past t sound run timely lt (stage_done s past t (omega (arith, good.heard t lt, heard)) (good.stages t lt))
 
 -- in every run
-pub open_run : (s : ScriptData) (past : List Entry) (i : ℕ) → Sound s → StepRun s past → AllTimely s past → i ≤ (client_in s past).next
+pub open_run : (s : ScriptData) (past : List Entry) (i : ℕ) → IsSound s → IsStepRun s past → AllTimely s past → i ≤ (client_in s past).next
     → IsOpen s (places_of (reverse past)) i
 open_run s past i sound run timely le =
     let c = client_in s past in

@@ -20,11 +20,11 @@ use Rattle.board_model.proofs.Closings.{AreApart}
 use Rattle.board_model.proofs.SerialOrder.{done_of, serial_to_apart, stands_up_to, stands_whole, whole_stands}
 use Rattle.board_laws.specs.OwnValues.{is_up_to, own_value, updates_to}
 use Rattle.world_model.specs.Counts.{one_if, tally}
-use Rattle.world_model.specs.Runs.{StepRun}
+use Rattle.world_model.specs.Runs.{IsStepRun}
 use Rattle.world_model.specs.Timely.{AllTimely}
 use Rattle.world_model.proofs.Bags.{tally-append}
 use Rattle.world_model.proofs.Every.{each_map, each_none}
-use Rattle.world_model.proofs.Scripts.{Sound, SubAt, has_root, sub_below, sub_there}
+use Rattle.world_model.proofs.Scripts.{IsSound, SubAt, has_root, sub_below, sub_there}
 use Rattle.tree_laws.specs.Dids.{is_did}
 use Rattle.tree_laws.proofs.Acts.{any_counted, of_act}
 use Rattle.tree_laws.proofs.Counts.{at_most_once}
@@ -167,7 +167,7 @@ version_to : (v : ℕ) (found : Option Version) → is_up_to v found ≡ true �
 version_to v None is = absurd (cc is)
 version_to v (Some w) is = (w, refl, grind (arith, nat_tests))
 
-done_once : (s : ScriptData) (past : List Entry) (t k : ℕ) → SubAt s t k → Sound s → StepRun s past → AllTimely s past
+done_once : (s : ScriptData) (past : List Entry) (t k : ℕ) → SubAt s t k → IsSound s → IsStepRun s past → AllTimely s past
     → was_done t k (places_of (reverse past)) ≡ true → tally (of_act (is_did t k)) (places_of (reverse past)) ≡ 1
 done_once s past t k c sound run timely done =
     omega (
@@ -178,7 +178,7 @@ done_once s past t k c sound run timely done =
     )
 
 -- each subtransaction of a whole tree was done
-pub whole_was_done : (s : ScriptData) (h : List Entry) (t k : ℕ) → Sound s → IsWhole s h t → k < length (subs_at s t)
+pub whole_was_done : (s : ScriptData) (h : List Entry) (t k : ℕ) → IsSound s → IsWhole s h t → k < length (subs_at s t)
     → was_done t k (places_of h) ≡ true
 whole_was_done s h t k sound whole lt =
     let xs = places_of h in
@@ -187,7 +187,7 @@ whole_was_done s h t k sound whole lt =
     let all : all_done t (length (subs_at s t)) xs ≡ true = grind (arith, commuting, through) in
     done_of t (length (subs_at s t)) k xs lt all
 
-stands_by : (s : ScriptData) (h : List Entry) (v t : ℕ) → Sound s → UpdatesAreWhole s h v → (b : Bool) → updates_to s h v t ≡ b
+stands_by : (s : ScriptData) (h : List Entry) (v t : ℕ) → IsSound s → UpdatesAreWhole s h v → (b : Bool) → updates_to s h v t ≡ b
     → (c : Bool) → is_in t (serial_to s h v) ≡ c → c ≡ b
 stands_by s h v t sound whole true is c at =
     let up : updates s t ≡ true = left_true (updates s t) (is_up_to v (version_of h t)) is in
@@ -203,11 +203,11 @@ stands_by s h v t sound whole false is true at =
     sym both ∙ is
 
 -- the serial order has just the update trees of version at most v
-pub stands_exactly : (s : ScriptData) (h : List Entry) (v t : ℕ) → Sound s → UpdatesAreWhole s h v
+pub stands_exactly : (s : ScriptData) (h : List Entry) (v t : ℕ) → IsSound s → UpdatesAreWhole s h v
     → is_in t (serial_to s h v) ≡ updates_to s h v t
 stands_exactly s h v t sound whole = stands_by s h v t sound whole (updates_to s h v t) refl (is_in t (serial_to s h v)) refl
 
-same_inside : (s : ScriptData) (past : List Entry) (v t k : ℕ) → Sound s → StepRun s past → AllTimely s past
+same_inside : (s : ScriptData) (past : List Entry) (v t k : ℕ) → IsSound s → IsStepRun s past → AllTimely s past
     → UpdatesAreWhole s (reverse past) v → k < length (subs_at s t) → (b : Bool) → updates_to s (reverse past) v t ≡ b
     → one_if b ≡ (if b then tally (of_act (is_did t k)) (places_of (reverse past)) else 0)
 same_inside s past v t k sound run timely whole lt true is =
@@ -220,7 +220,7 @@ same_inside s past v t k sound run timely whole lt true is =
     sym (done_once s past t k (sub_there s t k there lt) sound run timely done)
 same_inside s past v t k sound run timely whole lt false is = refl
 
-same_by : (s : ScriptData) (past : List Entry) (v t k : ℕ) → Sound s → StepRun s past → AllTimely s past
+same_by : (s : ScriptData) (past : List Entry) (v t k : ℕ) → IsSound s → IsStepRun s past → AllTimely s past
     → UpdatesAreWhole s (reverse past) v → (k < length (subs_at s t)) ⊎ (length (subs_at s t) ≤ k)
     → times same_pair (t, k) (trees_in s (serial_to s (reverse past) v))
     ≡ (if updates_to s (reverse past) v t then tally (of_act (is_did t k)) (places_of (reverse past)) else 0)
@@ -236,7 +236,7 @@ same_by s past v t k sound run timely whole (inr le) =
     outside s t k (serial_to s (reverse past) v) le
     ∙ if_none (updates_to s (reverse past) v t) (tally (of_act (is_did t k)) xs) none
 
-same_times : (s : ScriptData) (past : List Entry) (v : ℕ) (q : ℕ × ℕ) → Sound s → StepRun s past → AllTimely s past
+same_times : (s : ScriptData) (past : List Entry) (v : ℕ) (q : ℕ × ℕ) → IsSound s → IsStepRun s past → AllTimely s past
     → UpdatesAreWhole s (reverse past) v
     → times same_pair q (trees_in s (serial_to s (reverse past) v))
     ≡ times same_pair q (deeds_in s (reverse past) v (places_of (reverse past)))
@@ -245,7 +245,7 @@ same_times s past v q sound run timely whole =
     ∙ sym (deeds_times s (reverse past) v q.0 q.1 (places_of (reverse past)))
 
 -- what a node's own deeds of version at most v make of its item is what it is worth at v
-pub own_is_worth : (s : ScriptData) (past : List Entry) (p x v : ℕ) (r : ItemRow) → Sound s → StepRun s past → p < s.nodes
+pub own_is_worth : (s : ScriptData) (past : List Entry) (p x v : ℕ) (r : ItemRow) → IsSound s → IsStepRun s past → p < s.nodes
     → slice_get s.items x ≡ Some r → r.node.0 ≡ p → UpdatesAreWhole s (reverse past) v
     → own_value s (reverse past) p x v ≡ worth s (reverse past) x v
 own_is_worth s past p x v r sound run lt at here whole =

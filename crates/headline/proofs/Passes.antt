@@ -13,11 +13,11 @@ use Rattle.tx_trees.specs.declared.parts.ScriptRow.{ScriptRow}
 use Rattle.tx_trees.specs.declared.parts.ScriptRow.TheVariants.{Tree as TreeRow, Advance as AdvanceRow, Settle as SettleRow, Lose as LoseRow}
 use Rattle.board_model.specs.Gates.{awaited, before_settle, is_settle}
 use Rattle.client_rows.specs.Client.{Client, all_answered, have_ended, nudge, submit, submitted, with_answer, with_end}
-use Rattle.world_model.specs.Runs.{StepRun, client_in}
+use Rattle.world_model.specs.Runs.{IsStepRun, client_in}
 use Rattle.world_model.specs.Timely.{AllTimely}
 use Rattle.world_model.proofs.Flows.{client_kept}
 use Rattle.world_model.proofs.Nexts.{Next, Begins, Hears, Ends, Coordinates, DoesRoot, DoesSub, Notes, Obeys, MadeByClient}
-use Rattle.world_model.proofs.Scripts.{Sound}
+use Rattle.world_model.proofs.Scripts.{IsSound}
 use Rattle.tree_laws.proofs.Client.{answers_grow, at_rest, end_grows}
 use Rattle.tree_laws.proofs.Goods.{next_of}
 
@@ -144,7 +144,7 @@ passed_next s past e small passed (Obeys p out at lt order made) = others s past
 first_passed : (s : ScriptData) (i : ℕ) → i ≡ 0 → have_ended (client_in s []) (awaited s i) ≡ true
 first_passed s i is = subst (λ (n : ℕ). have_ended (client_in s []) (awaited s n) ≡ true) (sym is) refl
 
-pub passed_run : (s : ScriptData) (past : List Entry) → Sound s → StepRun s past → AllTimely s past → Passed s (client_in s past)
+pub passed_run : (s : ScriptData) (past : List Entry) → IsSound s → IsStepRun s past → AllTimely s past → Passed s (client_in s past)
 passed_run s [] sound run timely = λ i le. first_passed s i (omega (arith, le))
 passed_run s (e ∷ past) sound run timely =
     passed_next s past e (at_rest s past sound run.1 timely.1).small (passed_run s past sound run.1 timely.1)

@@ -12,11 +12,11 @@ use Rattle.tree_step.specs.Node.{Node}
 use Rattle.tx_trees.specs.ScriptData.{ScriptData, node_of}
 use Rattle.board_model.specs.Histories.{Place, places_at, places_of}
 use Rattle.world_model.specs.Counts.{Each}
-use Rattle.world_model.specs.Runs.{StepRun, client_in, node_in}
+use Rattle.world_model.specs.Runs.{IsStepRun, client_in, node_in}
 use Rattle.world_model.specs.Timely.{AllTimely}
 use Rattle.world_model.proofs.Every.{each_append}
 use Rattle.world_model.proofs.Nexts.{Next, Begins, Hears, Ends, Coordinates, DoesRoot, DoesSub, Notes, Obeys, Order, Turns, Shows, Sweeps, TellsDone, TellsAsked}
-use Rattle.world_model.proofs.Scripts.{Sound, SubAt}
+use Rattle.world_model.proofs.Scripts.{IsSound, SubAt}
 use Rattle.std.specs.Prelude.{nat_lt}
 use Rattle.tree_laws.proofs.Goods.{next_of}
 use Rattle.board_laws.proofs.Histories.{places_more}
@@ -69,7 +69,7 @@ entry_placed s past e (Obeys p out at lt order made) =
     (order_placed s e.actor.0 (node_in s past p) e.took.body out order)
 
 -- in every run in which each letter came in time
-pub placed_run : (s : ScriptData) (past : List Entry) → Sound s → StepRun s past → AllTimely s past → ArePlaced s (places_of (reverse past))
+pub placed_run : (s : ScriptData) (past : List Entry) → IsSound s → IsStepRun s past → AllTimely s past → ArePlaced s (places_of (reverse past))
 placed_run s [] sound run timely = tt
 placed_run s (e ∷ past) sound run timely =
     subst (λ (xs : List Place). ArePlaced s xs) (sym (places_more e past))

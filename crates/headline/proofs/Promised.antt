@@ -17,12 +17,12 @@ use Rattle.tx_trees.specs.ScriptData.{ScriptData}
 use Rattle.tx_trees.specs.Valid.{IsValid}
 use Rattle.world_model.proofs.Back.{world_run}
 use Rattle.world_model.proofs.Posts.{steps}
-use Rattle.world_model.proofs.Scripts.{Sound}
-use Rattle.world_model.specs.Runs.{StepRun, WorldRun}
-use Rattle.world_model.specs.Tables.{Runnable}
+use Rattle.world_model.proofs.Scripts.{IsSound}
+use Rattle.world_model.specs.Runs.{IsStepRun, IsWorldRun}
+use Rattle.world_model.specs.Tables.{IsRunnable}
 
 -- of a run by steps
-pub headline_past : (s : ScriptData) (past : List Entry) → Sound s → StepRun s past → HasFinished (reverse past)
+pub headline_past : (s : ScriptData) (past : List Entry) → IsSound s → IsStepRun s past → HasFinished (reverse past)
     → HasHeadline s (reverse past)
 headline_past s past sound run finished =
     let timely = in_time s past sound run in
@@ -42,7 +42,7 @@ headline_past s past sound run finished =
     }
 
 -- of a run by the tables
-pub headline : (s : ScriptData) (h : List Entry) → IsValid s → Runnable s → WorldRun s h → HasFinished h → HasHeadline s h
+pub headline : (s : ScriptData) (h : List Entry) → IsValid s → IsRunnable s → IsWorldRun s h → HasFinished h → HasHeadline s h
 headline s h valid runnable run finished =
     subst (HasHeadline s) (reverse-reverse h)
     (headline_past s (reverse h) (record { valid = valid; runnable = runnable }) (steps s h run)

@@ -16,11 +16,11 @@ use Rattle.advance_coord.specs.declared.phase.Phase.TheVariants.{Idle, Turning, 
 use Rattle.board_model.specs.Histories.{is_strict_tree, places_of}
 use Rattle.board_model.specs.Moves.{IsShowing, IsSweeping, IsTurn}
 use Rattle.world_model.specs.Counts.{one_if}
-use Rattle.world_model.specs.Runs.{MayFollow, StepRun, coordinator_in, node_in, waiting}
+use Rattle.world_model.specs.Runs.{MayFollow, IsStepRun, coordinator_in, node_in, waiting}
 use Rattle.world_model.specs.Timely.{AllTimely}
 use Rattle.world_model.proofs.Bags.{tally-drop}
 use Rattle.world_model.proofs.Every.{each_taken}
-use Rattle.world_model.proofs.Scripts.{Sound}
+use Rattle.world_model.proofs.Scripts.{IsSound}
 use Rattle.tree_laws.proofs.Nudges.{lawful}
 use Rattle.tree_laws.proofs.Whole.{none_strict}
 use Rattle.phase_laws.specs.Phases.{Stage, TurnStage, ShowStage, SweepStage, most_update}
@@ -44,8 +44,8 @@ level_in phase s past p is level =
 
 -- what is known where a node of a run takes a letter
 pub record Stand (s : ScriptData) (past : List Entry) (e : Entry) : Type 0 where
-  pub sound : Sound s
-  pub run : StepRun s past
+  pub sound : IsSound s
+  pub run : IsStepRun s past
   pub timely : AllTimely s past
   pub levels : Levels s past
   pub numbers : (p : ℕ) → p < s.nodes → AreNumbers past p (node_in s past p).turns

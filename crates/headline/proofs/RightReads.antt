@@ -31,10 +31,10 @@ use Rattle.board_laws.proofs.Histories.{places_more}
 use Rattle.board_laws.proofs.OwnDeeds.{Sees, sees_run}
 use Rattle.board_laws.proofs.Seen.{gets_valued, valued}
 use Rattle.board_laws.proofs.Versions.{not_both, root_version, sub_version, taken_version, versioned_run}
-use Rattle.world_model.specs.Runs.{StepRun, client_in, node_in}
+use Rattle.world_model.specs.Runs.{IsStepRun, client_in, node_in}
 use Rattle.world_model.specs.Timely.{AllTimely}
 use Rattle.world_model.proofs.Nexts.{Made, Next, Begins, Hears, Ends, Coordinates, DoesRoot, DoesSub, Notes, Obeys, Order, Turns, Shows, Sweeps, TellsDone, TellsAsked, RootWork, RootUpdates, RootReads, SubWork, SubUpdates, SubReads}
-use Rattle.world_model.proofs.Scripts.{Sound, SubAt, ops_fit, reads_kind}
+use Rattle.world_model.proofs.Scripts.{IsSound, SubAt, ops_fit, reads_kind}
 use Rattle.tree_laws.proofs.Goods.{good_run, next_of}
 use Rattle.tree_laws.proofs.Nudges.{lawful}
 use Rattle.tree_laws.proofs.Steps.{timely_at}
@@ -51,7 +51,7 @@ shown_valued s h v [] = refl
 shown_valued s h v (o ∷ os) = ap (λ (rest : Gets). (o.item, worth s h o.item.0 v) ∷ rest) (shown_valued s h v os)
 
 -- a read's items are at its node, which sees what its own deeds have made of them, and so what they are worth
-gets_seen : (s : ScriptData) (past : List Entry) (p : ℕ) (v : Version) (st : Node) (os : List SubOp) → Sound s → StepRun s past
+gets_seen : (s : ScriptData) (past : List Entry) (p : ℕ) (v : Version) (st : Node) (os : List SubOp) → IsSound s → IsStepRun s past
     → p < s.nodes → Sees s past p st → st.turns.low.0 ≤ v.0 → UpdatesAreWhole s (reverse past) v.0
     → AllByRecursion (IsOp s.items trees.Read p) os
     → AllByRecursion (λ (o : SubOp). seen_in v o.item st.items ≡ Some (worth s (reverse past) o.item.0 v.0)) os
@@ -66,7 +66,7 @@ gets_seen s past p v st (o ∷ os) sound run lt sees low whole ops =
           ∙ ap Some (own_is_worth s past p o.item.0 v.0 r sound run lt is at.0 whole)
 
 -- so it gets what is shown
-gets_right : (s : ScriptData) (past : List Entry) (t k : ℕ) (v : Version) (st : Node) → SubAt s t k → Sound s → StepRun s past
+gets_right : (s : ScriptData) (past : List Entry) (t k : ℕ) (v : Version) (st : Node) → SubAt s t k → IsSound s → IsStepRun s past
     → node_of s t k < s.nodes → reads s t ≡ true → Sees s past (node_of s t k) st → st.turns.low.0 ≤ v.0
     → UpdatesAreWhole s (reverse past) v.0 → can_get v (ops_of s t k) st.items ≡ true
     → gets v (ops_of s t k) st.items ≡ shown s (reverse past) v.0 (ops_of s t k)
@@ -93,8 +93,8 @@ ReadsAt s past e (Voted t k vote) = ⊥
 ReadsAt s past e _ = Unit {0}
 
 -- the entry
-root_reads : (s : ScriptData) (past : List Entry) (e : Entry) (t : ℕ) (v : Version) (effect : Effect) → SubAt s t 0 → Sound s
-    → StepRun s (e ∷ past) → AllTimely s (e ∷ past) → Next s past e → home_of s t < s.nodes
+root_reads : (s : ScriptData) (past : List Entry) (e : Entry) (t : ℕ) (v : Version) (effect : Effect) → SubAt s t 0 → IsSound s
+    → IsStepRun s (e ∷ past) → AllTimely s (e ∷ past) → Next s past e → home_of s t < s.nodes
     → version_of (reverse (e ∷ past)) t ≡ Some v
     → RootWork s t (node_in s past (home_of s t)) v effect
     → Made s past e (home_of s t) (root_done s (home_of s t) t v.0 effect (node_in s past (home_of s t)))
@@ -123,7 +123,7 @@ root_reads s past e t v effect c sound run timely next lt version (RootReads rea
     }
 
 sub_reads : (s : ScriptData) (past : List Entry) (e : Entry) (t k from : ℕ) (v : Version) (raises : Bool) (effect : Effect)
-    → SubAt s t k → Sound s → StepRun s (e ∷ past) → AllTimely s (e ∷ past) → Next s past e → node_of s t k < s.nodes
+    → SubAt s t k → IsSound s → IsStepRun s (e ∷ past) → AllTimely s (e ∷ past) → Next s past e → node_of s t k < s.nodes
     → version_of (reverse past) t ≡ Some v → version_of (reverse (e ∷ past)) t ≡ Some v
     → (node_in s past (node_of s t k)).turns.low.0 ≤ v.0
     → SubWork s t k (node_in s past (node_of s t k)) v raises effect
@@ -178,7 +178,7 @@ acts_read : (s : ScriptData) (past : List Entry) (e : Entry) (acts : List Act) �
     → AllByRecursion (ReadsAt s past e) e.acts
 acts_read s past e acts is all = subst (λ (xs : List Act). AllByRecursion (ReadsAt s past e) xs) (sym is) all
 
-entry_by : (s : ScriptData) (past : List Entry) (e : Entry) → Sound s → StepRun s (e ∷ past) → AllTimely s (e ∷ past) → Next s past e
+entry_by : (s : ScriptData) (past : List Entry) (e : Entry) → IsSound s → IsStepRun s (e ∷ past) → AllTimely s (e ∷ past) → Next s past e
     → AllByRecursion (ReadsAt s past e) e.acts
 entry_by s past e sound run timely (Begins is at made) =
     acts_read s past e _ made.acts (end_reads s past e (finishes s (next_after s (client_in s past)) (client_in s past)))
@@ -214,6 +214,6 @@ entry_by s past e sound run timely (Obeys p out at lt order made) =
     acts_read s past e out.acts made.acts (order_reads s past e (node_in s past p) e.took.body out order)
 
 -- each entry of a run
-pub entry_reads : (s : ScriptData) (past : List Entry) (e : Entry) → Sound s → StepRun s (e ∷ past) → AllTimely s (e ∷ past)
+pub entry_reads : (s : ScriptData) (past : List Entry) (e : Entry) → IsSound s → IsStepRun s (e ∷ past) → AllTimely s (e ∷ past)
     → AllByRecursion (ReadsAt s past e) e.acts
 entry_reads s past e sound run timely = entry_by s past e sound run timely (next_of s past e sound run timely)

@@ -20,9 +20,9 @@ use Rattle.board_model.specs.Right.{HasFinished}
 use Rattle.board_model.specs.Worth.{is_written, worth}
 use Rattle.board_laws.specs.OwnValues.{seen_at}
 use Rattle.board_laws.proofs.OwnDeeds.{sees_own}
-use Rattle.world_model.specs.Runs.{StepRun, client_in, coordinator_in, node_in}
+use Rattle.world_model.specs.Runs.{IsStepRun, client_in, coordinator_in, node_in}
 use Rattle.world_model.specs.Timely.{AllTimely}
-use Rattle.world_model.proofs.Scripts.{Sound, tree_below}
+use Rattle.world_model.proofs.Scripts.{IsSound, tree_below}
 use Rattle.phase_laws.specs.Advances.{running}
 use Rattle.phase_laws.specs.Phases.{IsInPhase}
 use Rattle.phase_laws.proofs.Levels.{versions_in_phase}
@@ -95,7 +95,7 @@ stands_by s u phase turns idle is in_phase =
       update = omega (arith, is, now.update_from, now.update_to);
     }
 
-stands : (s : ScriptData) (past : List Entry) (p : ℕ) → Sound s → StepRun s past → AllTimely s past → (client_in s past).finished ≡ true
+stands : (s : ScriptData) (past : List Entry) (p : ℕ) → IsSound s → IsStepRun s past → AllTimely s past → (client_in s past).finished ≡ true
     → p < s.nodes → Stands s (node_in s past p).turns
 stands s past p sound run timely finished lt =
     let c = coordinator_in s past in
@@ -110,13 +110,13 @@ stands s past p sound run timely finished lt =
     stands_by s c.update c.phase (node_in s past p).turns (idle_of c.phase none) update (versions_in_phase s past laws run timely p lt)
 
 -- every update tree is whole
-all_whole : (s : ScriptData) (past : List Entry) (v : ℕ) → Sound s → StepRun s past → AllTimely s past → HasFinished (reverse past)
+all_whole : (s : ScriptData) (past : List Entry) (v : ℕ) → IsSound s → IsStepRun s past → AllTimely s past → HasFinished (reverse past)
     → UpdatesAreWhole s (reverse past) v
 all_whole s past v sound run timely finished = λ t w up born le.
     whole s past t sound.valid sound.runnable run timely finished (update_there s t (slice_get s.trees t) refl up)
 
 -- what a node sees of its item is what the item is worth
-worth_seen : (s : ScriptData) (past : List Entry) (x v : ℕ) (r : ItemRow) (h : Held) → Sound s → StepRun s past → AllTimely s past
+worth_seen : (s : ScriptData) (past : List Entry) (x v : ℕ) (r : ItemRow) (h : Held) → IsSound s → IsStepRun s past → AllTimely s past
     → HasFinished (reverse past) → slice_get s.items x ≡ Some r → (node_in s past r.node.0).turns.low.0 ≤ v
     → item_in (record { 0 = x }) (node_in s past r.node.0).items ≡ Some h
     → seen (record { 0 = v }) h ≡ Some (worth s (reverse past) x v)
@@ -128,7 +128,7 @@ worth_seen s past x v r h sound run timely finished at low is =
     sym found ∙ sees_own s past sound run timely p x v r lt at refl low
     ∙ ap (λ (u : Value). Some u) (own_is_worth s past p x v r sound run lt at refl (all_whole s past v sound run timely finished))
 
-pub settled : (s : ScriptData) (past : List Entry) → Sound s → StepRun s past → HasFinished (reverse past) → IsSettled s (reverse past)
+pub settled : (s : ScriptData) (past : List Entry) → IsSound s → IsStepRun s past → HasFinished (reverse past) → IsSettled s (reverse past)
 settled s past sound run finished = λ x r at.
     let p = r.node.0 in
     let a = advances_in s.rows in

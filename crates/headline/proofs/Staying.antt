@@ -21,9 +21,9 @@ use Rattle.board_model.proofs.SerialOrder.{serial_to_apart}
 use Rattle.board_laws.specs.OwnValues.{is_up_to}
 use Rattle.board_laws.proofs.Seen.{valued}
 use Rattle.world_model.specs.Counts.{one_if}
-use Rattle.world_model.specs.Runs.{StepRun}
-use Rattle.world_model.specs.Tables.{Runnable}
-use Rattle.world_model.proofs.Scripts.{Sound}
+use Rattle.world_model.specs.Runs.{IsStepRun}
+use Rattle.world_model.specs.Tables.{IsRunnable}
+use Rattle.world_model.proofs.Scripts.{IsSound}
 use Rattle.tree_laws.proofs.Nudges.{lawful}
 use Rattle.tree_laws.proofs.Whole.{none_strict}
 use Rattle.run_laws.specs.Shown.{NoUpdateCame}
@@ -51,22 +51,22 @@ right_act s past b e (Voted t k vote) reads_at = absurd reads_at
 right_act s past b e Finished reads_at = tt
 right_act s past b e _ reads_at = tt
 
-right_at : (s : ScriptData) (past : List Entry) (n : ℕ) (e : Entry) → Sound s → StepRun s past → Stands past n e
+right_at : (s : ScriptData) (past : List Entry) (n : ℕ) (e : Entry) → IsSound s → IsStepRun s past → Stands past n e
     → AllByRecursion (IsRightAct s (take n (reverse past)) (take (n + 1) (reverse past))) e.acts
 right_at s past n e sound run at =
-    let whole : StepRun s (at.later ++ e ∷ at.before) = subst (StepRun s) at.is run in
-    let now : StepRun s (e ∷ at.before) = run_before s (e ∷ at.before) at.later whole in
+    let whole : IsStepRun s (at.later ++ e ∷ at.before) = subst (IsStepRun s) at.is run in
+    let now : IsStepRun s (e ∷ at.before) = run_before s (e ∷ at.before) at.later whole in
     let b = take n (reverse past) in
     subst (λ (h : List Entry). AllByRecursion (IsRightAct s b h) e.acts) (sym at.upto)
     (acts_map (ReadsAt s at.before e) (IsRightAct s b (reverse (e ∷ at.before))) e.acts (λ a is. right_act s at.before b e a is)
     (entry_reads s at.before e sound now (in_time s (e ∷ at.before) sound now)))
 
-pub reads_right : (s : ScriptData) (past : List Entry) → IsValid s → Runnable s → StepRun s past → IsRight s (reverse past)
+pub reads_right : (s : ScriptData) (past : List Entry) → IsValid s → IsRunnable s → IsStepRun s past → IsRight s (reverse past)
 reads_right s past valid runnable run = λ n e here.
     right_at s past n e (record { valid = valid; runnable = runnable }) run (stands past n e here)
 
 -- Updates come first.
-came_before : (s : ScriptData) (past later : List Entry) (e : Entry) (v : ℕ) → Sound s → StepRun s (later ++ e ∷ past)
+came_before : (s : ScriptData) (past later : List Entry) (e : Entry) (v : ℕ) → IsSound s → IsStepRun s (later ++ e ∷ past)
     → v < now_below false s past → NoUpdateCame s (reverse past) (reverse (later ++ e ∷ past)) v
 came_before s past later e v sound run early = λ t w up born le.
     let timely = in_time s (later ++ e ∷ past) sound run in
@@ -76,7 +76,7 @@ came_before s past later e v sound run early = λ t w up born le.
     let now : v < now_below false s (e ∷ past) = omega (arith, early, rise) in
     none_comes s past (e ∷ []) v sound more on_time early t w up (none_comes s (e ∷ past) later v sound run timely now t w up born le) le
 
-first_act : (s : ScriptData) (past later : List Entry) (e : Entry) (a : Act) → Sound s → StepRun s (later ++ e ∷ past)
+first_act : (s : ScriptData) (past later : List Entry) (e : Entry) (a : Act) → IsSound s → IsStepRun s (later ++ e ∷ past)
     → ReadsAt s past e a → ComesAfterUpdates s (reverse (later ++ e ∷ past)) (reverse past) a
 first_act s past later e (Did t k values) sound run reads_at = λ read.
     let r = reads_at read in
@@ -90,18 +90,18 @@ first_act s past later e (Did t k values) sound run reads_at = λ read.
 first_act s past later e Finished sound run reads_at = tt
 first_act s past later e _ sound run reads_at = tt
 
-first_at : (s : ScriptData) (past : List Entry) (n : ℕ) (e : Entry) → Sound s → StepRun s past → Stands past n e
+first_at : (s : ScriptData) (past : List Entry) (n : ℕ) (e : Entry) → IsSound s → IsStepRun s past → Stands past n e
     → AllByRecursion (ComesAfterUpdates s (reverse past) (take n (reverse past))) e.acts
 first_at s past n e sound run at =
-    let whole : StepRun s (at.later ++ e ∷ at.before) = subst (StepRun s) at.is run in
-    let now : StepRun s (e ∷ at.before) = run_before s (e ∷ at.before) at.later whole in
+    let whole : IsStepRun s (at.later ++ e ∷ at.before) = subst (IsStepRun s) at.is run in
+    let now : IsStepRun s (e ∷ at.before) = run_before s (e ∷ at.before) at.later whole in
     subst (λ (b : List Entry). AllByRecursion (ComesAfterUpdates s (reverse past) b) e.acts) (sym at.first)
     (subst (λ (xs : List Entry). AllByRecursion (ComesAfterUpdates s (reverse xs) (reverse at.before)) e.acts) (sym at.is)
     (acts_map (ReadsAt s at.before e) (ComesAfterUpdates s (reverse (at.later ++ e ∷ at.before)) (reverse at.before)) e.acts
     (λ a is. first_act s at.before at.later e a sound whole is)
     (entry_reads s at.before e sound now (in_time s (e ∷ at.before) sound now))))
 
-pub updates_first : (s : ScriptData) (past : List Entry) → IsValid s → Runnable s → StepRun s past → UpdatesComeFirst s (reverse past)
+pub updates_first : (s : ScriptData) (past : List Entry) → IsValid s → IsRunnable s → IsStepRun s past → UpdatesComeFirst s (reverse past)
 updates_first s past valid runnable run = λ n e here.
     first_at s past n e (record { valid = valid; runnable = runnable }) run (stands past n e here)
 
@@ -132,7 +132,7 @@ updates_same s h more v t stays none true is =
     up_to_same v (version_of h t) (version_of more t) stays (λ w born le. none t w is born le)
 updates_same s h more v t stays none false is = refl
 
-trees_same : (s : ScriptData) (past later : List Entry) (v t : ℕ) → Sound s → StepRun s (later ++ past) → v < now_below false s past
+trees_same : (s : ScriptData) (past later : List Entry) (v t : ℕ) → IsSound s → IsStepRun s (later ++ past) → v < now_below false s past
     → is_in t (serial_to s (reverse past) v) ≡ is_in t (serial_to s (reverse (later ++ past)) v)
 trees_same s past later v t sound run early =
     let timely = in_time s (later ++ past) sound run in
@@ -145,7 +145,7 @@ trees_same s past later v t sound run early =
     ∙ sym (stands_exactly s more v t sound (whole_to s (later ++ past) v sound run timely (omega (arith, early, rise))))
 
 -- what an item is worth at a version that was shown stays
-pub worth_stays : (s : ScriptData) (past later : List Entry) (x v : ℕ) → Sound s → StepRun s (later ++ past) → v < now_below false s past
+pub worth_stays : (s : ScriptData) (past later : List Entry) (x v : ℕ) → IsSound s → IsStepRun s (later ++ past) → v < now_below false s past
     → worth s (reverse past) x v ≡ worth s (reverse (later ++ past)) x v
 worth_stays s past later x v sound run early =
     let old = serial_to s (reverse past) v in
@@ -160,7 +160,7 @@ valued_same : (f g : ℕ → Value) (os : List SubOp) → ((x : ℕ) → f x ≡
 valued_same f g [] same = refl
 valued_same f g (o ∷ os) same = let one = same o.item.0 in let rest = valued_same f g os same in cc
 
-stays_act : (s : ScriptData) (past later : List Entry) (e : Entry) (a : Act) → Sound s → StepRun s (later ++ e ∷ past)
+stays_act : (s : ScriptData) (past later : List Entry) (e : Entry) (a : Act) → IsSound s → IsStepRun s (later ++ e ∷ past)
     → ReadsAt s past e a → StaysRight s (reverse (later ++ e ∷ past)) a
 stays_act s past later e (Did t k values) sound run reads_at = λ read.
     let r = reads_at read in
@@ -179,16 +179,16 @@ stays_act s past later e (Did t k values) sound run reads_at = λ read.
 stays_act s past later e Finished sound run reads_at = tt
 stays_act s past later e _ sound run reads_at = tt
 
-stays_at : (s : ScriptData) (past : List Entry) (n : ℕ) (e : Entry) → Sound s → StepRun s past → Stands past n e
+stays_at : (s : ScriptData) (past : List Entry) (n : ℕ) (e : Entry) → IsSound s → IsStepRun s past → Stands past n e
     → AllByRecursion (StaysRight s (reverse past)) e.acts
 stays_at s past n e sound run at =
-    let whole : StepRun s (at.later ++ e ∷ at.before) = subst (StepRun s) at.is run in
-    let now : StepRun s (e ∷ at.before) = run_before s (e ∷ at.before) at.later whole in
+    let whole : IsStepRun s (at.later ++ e ∷ at.before) = subst (IsStepRun s) at.is run in
+    let now : IsStepRun s (e ∷ at.before) = run_before s (e ∷ at.before) at.later whole in
     subst (λ (xs : List Entry). AllByRecursion (StaysRight s (reverse xs)) e.acts) (sym at.is)
     (acts_map (ReadsAt s at.before e) (StaysRight s (reverse (at.later ++ e ∷ at.before))) e.acts
     (λ a is. stays_act s at.before at.later e a sound whole is)
     (entry_reads s at.before e sound now (in_time s (e ∷ at.before) sound now)))
 
-pub stay_right : (s : ScriptData) (past : List Entry) → IsValid s → Runnable s → StepRun s past → ReadsStayRight s (reverse past)
+pub stay_right : (s : ScriptData) (past : List Entry) → IsValid s → IsRunnable s → IsStepRun s past → ReadsStayRight s (reverse past)
 stay_right s past valid runnable run = λ n e here.
     stays_at s past n e (record { valid = valid; runnable = runnable }) run (stands past n e here)

@@ -24,13 +24,13 @@ use Rattle.advance_coord.specs.declared.phase.Phase.TheVariants.{Sweeping}
 use Rattle.board_model.specs.Gates.{sweeps_to, was_swept}
 use Rattle.board_model.specs.Histories.{Place, places_at, places_of}
 use Rattle.world_model.specs.Counts.{one_if}
-use Rattle.world_model.specs.Runs.{MayFollow, StepRun, coordinator_in, node_in, waiting}
+use Rattle.world_model.specs.Runs.{MayFollow, IsStepRun, coordinator_in, node_in, waiting}
 use Rattle.world_model.specs.Timely.{AllTimely}
 use Rattle.world_model.proofs.Bags.{one_if_same, tally-drop}
 use Rattle.world_model.proofs.Every.{each_taken, node_kept}
 use Rattle.world_model.proofs.Flows.{same_part}
 use Rattle.world_model.proofs.Nexts.{Made, Next, Begins, Hears, Ends, Coordinates, DoesRoot, DoesSub, Notes, Obeys, Order, Turns, Shows, Sweeps, TellsDone, TellsAsked}
-use Rattle.world_model.proofs.Scripts.{Sound}
+use Rattle.world_model.proofs.Scripts.{IsSound}
 use Rattle.tree_laws.proofs.Goods.{next_of}
 use Rattle.tree_laws.proofs.Nudges.{lawful}
 use Rattle.phase_laws.specs.Phases.{SweepStage, most_low}
@@ -58,7 +58,7 @@ sweep_order s past e p v m at is =
     ap (λ (b : Body). tell SweepStage p e.took.to.0 b) is ∙ ap (λ (q : ℕ). one_if (q == p)) to ∙ one_if_same p in
     omega (arith, one, tally-drop (λ (l : Letter). tell SweepStage p l.to.0 l.body) e.took.id (waiting s past) e.took m.waits)
 
-sweep_next : (s : ScriptData) (past : List Entry) (e : Entry) (p : ℕ) (v : Version) → Sound s → StepRun s past → AllTimely s past
+sweep_next : (s : ScriptData) (past : List Entry) (e : Entry) (p : ℕ) (v : Version) → IsSound s → IsStepRun s past → AllTimely s past
     → MayFollow s past e → p < s.nodes → e.actor.0 ≡ p → e.took.body ≡ Sweep v → v.0 ≡ (node_in s past p).turns.low.0 + 1
 sweep_next s past e p v sound run timely m lt at is =
     let c = coordinator_in s past in
@@ -125,7 +125,7 @@ swept_at s past e h p v made at next swept (inl is) = swept_by s past e h p v ma
 swept_at s past e h p v made at next swept (inr ne) = elsewhere s past e p (λ is. ne (sym at ∙ is)) swept
 
 -- an order
-obeys : (s : ScriptData) (past : List Entry) (e : Entry) (h p : ℕ) (out : Out Node) → Sound s → StepRun s past → AllTimely s past
+obeys : (s : ScriptData) (past : List Entry) (e : Entry) (h p : ℕ) (out : Out Node) → IsSound s → IsStepRun s past → AllTimely s past
     → MayFollow s past e → e.actor.0 ≡ h → h < s.nodes → Order s (node_in s past h) e.took.body out → Made s past e h out
     → SweptTo s past p → SweptTo s (e ∷ past) p
 obeys s past e h p out sound run timely m at lt (Turns v bd is) made swept =
@@ -142,7 +142,7 @@ obeys s past e h p out sound run timely m at lt (TellsDone v k bd is) made swept
 obeys s past e h p out sound run timely m at lt (TellsAsked v k bd is) made swept =
     at_node s past e h p out made at (ap (λ (o : Out Node). o.state.turns.low.0) is) swept
 
-swept_next : (s : ScriptData) (past : List Entry) (e : Entry) (p : ℕ) → Sound s → StepRun s past → AllTimely s past → MayFollow s past e
+swept_next : (s : ScriptData) (past : List Entry) (e : Entry) (p : ℕ) → IsSound s → IsStepRun s past → AllTimely s past → MayFollow s past e
     → p < s.nodes → SweptTo s past p → Next s past e → SweptTo s (e ∷ past) p
 swept_next s past e p sound run timely m pl swept (Begins is at made) = elsewhere s past e p (omega (arith, at, pl)) swept
 swept_next s past e p sound run timely m pl swept (Hears t v answer is at lt made) = elsewhere s past e p (omega (arith, at, pl)) swept
@@ -160,7 +160,7 @@ swept_next s past e p sound run timely m pl swept (Obeys h out at lt order made)
     obeys s past e h p out sound run timely m at lt order made swept
 
 -- in every run
-pub swept_run : (s : ScriptData) (past : List Entry) (p : ℕ) → Sound s → StepRun s past → AllTimely s past → p < s.nodes → SweptTo s past p
+pub swept_run : (s : ScriptData) (past : List Entry) (p : ℕ) → IsSound s → IsStepRun s past → AllTimely s past → p < s.nodes → SweptTo s past p
 swept_run s [] p sound run timely lt = λ v one le. absurd (omega (arith, one, le))
 swept_run s (e ∷ past) p sound run timely lt =
     swept_next s past e p sound run.1 timely.1 run.0 lt (swept_run s past p sound run.1 timely.1 lt) (next_of s past e sound run timely)

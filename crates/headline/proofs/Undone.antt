@@ -32,8 +32,8 @@ use Rattle.board_model.specs.Histories.{version_of}
 use Rattle.board_model.specs.Right.{IsShown, shown}
 use Rattle.board_model.specs.Serial.{serial_to}
 use Rattle.board_model.specs.Worth.{after_deed, after_ops, after_subs, after_tree, first_value, worth}
-use Rattle.world_model.specs.Runs.{StepRun}
-use Rattle.world_model.specs.Tables.{Runnable}
+use Rattle.world_model.specs.Runs.{IsStepRun}
+use Rattle.world_model.specs.Tables.{IsRunnable}
 use Rattle.headline.specs.Reads.{StaysRight}
 use Rattle.headline.specs.Undone.{HasNothingUndone, IsShownKept, ShowsNothingUndone, is_undone, shown_kept, worth_kept}
 use Rattle.headline.proofs.Staying.{acts_map, stay_right}
@@ -162,7 +162,7 @@ act_shows s h (Did t k values) valid right = λ read. shown_at s h (ops_of s t.0
 act_shows s h Finished valid right = tt
 act_shows s h _ valid right = tt
 
-pub nothing_undone : (s : ScriptData) (past : List Entry) → IsValid s → Runnable s → StepRun s past
+pub nothing_undone : (s : ScriptData) (past : List Entry) → IsValid s → IsRunnable s → IsStepRun s past
     → ShowsNothingUndone s (reverse past)
 nothing_undone s past valid runnable run = λ n e here.
     acts_map (StaysRight s (reverse past)) (HasNothingUndone s (reverse past)) e.acts (λ a right. act_shows s (reverse past) a valid right)

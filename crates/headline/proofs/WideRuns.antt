@@ -19,13 +19,13 @@ use Rattle.tx_trees.specs.ScriptData.{ScriptData}
 use Rattle.tree_step.specs.Apt.{is_named, is_new, is_timely}
 use Rattle.tree_step.specs.Node.{Node}
 use Rattle.node_step.specs.Apt.{can_make, is_apt, is_widely_apt, is_widely_timely, node_row, row, wide_node_row}
-use Rattle.world_model.specs.Runs.{IsRunOf, MayFollow, AtNode, Says, StepRun, WideRun, WorldRun, after, node_in, waiting}
+use Rattle.world_model.specs.Runs.{IsRunOf, MayFollow, AtNode, Says, IsStepRun, IsWideRun, IsWorldRun, after, node_in, waiting}
 use Rattle.world_model.specs.Tables.{start_node, wide_actor_row}
 use Rattle.world_model.proofs.Actors.{IsTableOf, RowsRun, rows_run, runs_of_rows}
 use Rattle.world_model.proofs.Back.{run_more, says_node, table_run_of, world_run}
 use Rattle.world_model.proofs.Bridge.{run_less, state_more}
 use Rattle.world_model.proofs.Posts.{follows_by, moves_by, rows_less, steps, waits_of, who_of}
-use Rattle.world_model.proofs.Scripts.{Sound}
+use Rattle.world_model.proofs.Scripts.{IsSound}
 use Rattle.tree_laws.proofs.Aptness.{taken_is_apt}
 use Rattle.board_laws.proofs.OwnDeeds.{sees_run}
 use Rattle.board_laws.proofs.Seen.{IsFrom}
@@ -84,7 +84,7 @@ entry_with s past e out = record {
 }
 
 -- both tables say the same of a letter under way to a node
-same_row : (s : ScriptData) (past : List Entry) (e : Entry) → Sound s → StepRun s past → e.actor.0 < s.nodes
+same_row : (s : ScriptData) (past : List Entry) (e : Entry) → IsSound s → IsStepRun s past → e.actor.0 < s.nodes
     → find_id e.took.id (waiting s past) ≡ Some e.took → e.took.to.0 ≡ e.actor.0
     → wide_node_row s e.actor.0 (node_in s past e.actor.0) e.took ≡ node_row s e.actor.0 (node_in s past e.actor.0) e.took
 same_row s past e sound run lt waits to =
@@ -97,12 +97,12 @@ same_row s past e sound run lt waits to =
       addressee = to;
       moves = AtNode lt (refl, refl);
     } in
-    let more : StepRun s (now ∷ past) = (follows, run) in
+    let more : IsStepRun s (now ∷ past) = (follows, run) in
     let apt : is_apt s p st e.took ≡ true =
     taken_is_apt s past now sound.valid sound.runnable more (in_time s (now ∷ past) sound more) lt in
     same_by s p st e.took (sees_run s past sound run (in_time s past sound run) p lt).from apt
 
-same_at : (s : ScriptData) (past : List Entry) (e : Entry) (p : ℕ) → Sound s → StepRun s past → MayFollow s past e → p < s.nodes
+same_at : (s : ScriptData) (past : List Entry) (e : Entry) (p : ℕ) → IsSound s → IsStepRun s past → MayFollow s past e → p < s.nodes
     → (e.actor.0 == p) ≡ true → wide_node_row s p (node_in s past p) e.took ≡ node_row s p (node_in s past p) e.took
 same_at s past e p sound run m lt is =
     let at : e.actor.0 ≡ p = grind (arith, nat_tests) in
@@ -116,7 +116,7 @@ state_by wide st here true same = same refl
 state_by wide st here false same = refl
 
 -- a node's own entries lead to the same state
-wide_after : (s : ScriptData) (past : List Entry) (p : ℕ) → Sound s → StepRun s past → p < s.nodes
+wide_after : (s : ScriptData) (past : List Entry) (p : ℕ) → IsSound s → IsStepRun s past → p < s.nodes
     → after (wide_node_row s p) (start_node s p) (own p (reverse past)) ≡ node_in s past p
 wide_after s [] p sound run lt = refl
 wide_after s (e ∷ past) p sound run lt =
@@ -125,7 +125,7 @@ wide_after s (e ∷ past) p sound run lt =
     ∙ state_by (wide_node_row s p st e.took).state st (node_row s p st e.took).state (e.actor.0 == p)
     (λ is. ap (λ (o : Out Node). o.state) (same_at s past e p sound run.1 run.0 lt is))
 
-wide_nodes : (s : ScriptData) (past : List Entry) (p : ℕ) → Sound s → StepRun s past → p < s.nodes
+wide_nodes : (s : ScriptData) (past : List Entry) (p : ℕ) → IsSound s → IsStepRun s past → p < s.nodes
     → IsRunOf (wide_node_row s p) (start_node s p) (own p (reverse past))
 wide_nodes s [] p sound run lt = tt
 wide_nodes s (e ∷ past) p sound run lt =
@@ -133,7 +133,7 @@ wide_nodes s (e ∷ past) p sound run lt =
     (wide_nodes s past p sound run.1 lt)
     (λ is. subst (λ (o : Out Node). Says o e) (sym (same_at s past e p sound run.1 run.0 lt is)) (says_node s past e p run.0.moves lt is))
 
-wide_rows : (s : ScriptData) (past : List Entry) → Sound s → StepRun s past → RowsRun (wide_node_row s) s (reverse past)
+wide_rows : (s : ScriptData) (past : List Entry) → IsSound s → IsStepRun s past → RowsRun (wide_node_row s) s (reverse past)
 wide_rows s past sound run =
     let tables = table_run_of s past run in
     record {
@@ -144,7 +144,7 @@ wide_rows s past sound run =
     }
 
 -- And back: by induction a shorter past is a run by the window, so the next letter is apt.
-wide_says : (s : ScriptData) (e : Entry) (past : List Entry) → Sound s → StepRun s past → RowsRun (wide_node_row s) s (reverse (e ∷ past))
+wide_says : (s : ScriptData) (e : Entry) (past : List Entry) → IsSound s → IsStepRun s past → RowsRun (wide_node_row s) s (reverse (e ∷ past))
     → e.actor.0 < s.nodes → Says (node_row s e.actor.0 (node_in s past e.actor.0) e.took) e
 wide_says s e past sound run wide lt =
     let p = e.actor.0 in
@@ -153,7 +153,7 @@ wide_says s e past sound run wide lt =
     subst (λ (o : Out Node). Says o e)
     (same_row s past e sound run lt (waits_of s e past run wide.postal) (who_of s e past wide.postal).0) says
 
-wide_steps : (s : ScriptData) (past : List Entry) → Sound s → RowsRun (wide_node_row s) s (reverse past) → StepRun s past
+wide_steps : (s : ScriptData) (past : List Entry) → IsSound s → RowsRun (wide_node_row s) s (reverse past) → IsStepRun s past
 wide_steps s [] sound wide = tt
 wide_steps s (e ∷ past) sound wide =
     let run = wide_steps s past sound (rows_less (wide_node_row s) s e past wide) in (
@@ -166,15 +166,15 @@ wide_steps s (e ∷ past) sound wide =
 by_wider : (s : ScriptData) → IsTableOf s (wide_actor_row s) (wide_node_row s)
 by_wider s = record { node = λ p st l. refl; coordinator = λ a c l. refl; client = λ a c l. refl }
 
-pub widened : (s : ScriptData) (h : List Entry) → Sound s → WorldRun s h → WideRun s h
+pub widened : (s : ScriptData) (h : List Entry) → IsSound s → IsWorldRun s h → IsWideRun s h
 widened s h sound world =
     let wide : RowsRun (wide_node_row s) s h =
     subst (λ (x : List Entry). RowsRun (wide_node_row s) s x) (reverse-reverse h) (wide_rows s (reverse h) sound (steps s h world)) in
     record { postal = world.postal; actors = runs_of_rows (wide_actor_row s) (wide_node_row s) s h (by_wider s) wide }
 
-pub narrowed : (s : ScriptData) (h : List Entry) → Sound s → WideRun s h → WorldRun s h
+pub narrowed : (s : ScriptData) (h : List Entry) → IsSound s → IsWideRun s h → IsWorldRun s h
 narrowed s h sound wide =
     let rows : RowsRun (wide_node_row s) s (reverse (reverse h)) =
     subst (λ (x : List Entry). RowsRun (wide_node_row s) s x) (sym (reverse-reverse h))
     (rows_run (wide_actor_row s) (wide_node_row s) s h (by_wider s) wide.postal wide.actors) in
-    subst (λ (x : List Entry). WorldRun s x) (reverse-reverse h) (world_run s (reverse h) (wide_steps s (reverse h) sound rows))
+    subst (λ (x : List Entry). IsWorldRun s x) (reverse-reverse h) (world_run s (reverse h) (wide_steps s (reverse h) sound rows))

@@ -22,7 +22,7 @@ use Rattle.board_model.specs.Histories.{Place, places_at, places_of, version_in}
 use Rattle.board_model.specs.Serial.{is_version}
 use Rattle.board_model.specs.Worth.{changes, ops_change}
 use Rattle.world_model.specs.Counts.{Each}
-use Rattle.world_model.proofs.Scripts.{Sound, SubAt, ops_fit, updates_kind}
+use Rattle.world_model.proofs.Scripts.{IsSound, SubAt, ops_fit, updates_kind}
 use Rattle.board_laws.proofs.Histories.{places_more}
 use Rattle.board_laws.proofs.Versions.{AreVersioned, IsOfBorn, placed, version_stays}
 
@@ -119,7 +119,7 @@ ops_elsewhere items kind node x [] r at ne fits = refl
 ops_elsewhere items kind node x (o ∷ os) r at ne fits =
     rw (item_elsewhere items kind node x o r at ne (o.item.0 == x) refl fits.0) (ops_elsewhere items kind node x os r at ne fits.1)
 
-elsewhere_by : (s : ScriptData) (xs : List Place) (x w : ℕ) (t : TreeNo) (k : SubNo) (values : Gets) (r : ItemRow) → SubAt s t.0 k.0 → Sound s
+elsewhere_by : (s : ScriptData) (xs : List Place) (x w : ℕ) (t : TreeNo) (k : SubNo) (values : Gets) (r : ItemRow) → SubAt s t.0 k.0 → IsSound s
     → slice_get s.items x ≡ Some r → node_of s t.0 k.0 ≢ r.node.0 → (test : Bool) → updates s t.0 ≡ test
     → (test && (is_version w (version_in t.0 xs) && ops_change x (ops_of s t.0 k.0))) ≡ false
 elsewhere_by s xs x w t k values r c sound at ne true up =
@@ -129,5 +129,5 @@ elsewhere_by s xs x w t k values r c sound at ne false up = refl
 
 -- a Did at another node writes nothing of an item
 pub did_elsewhere : (s : ScriptData) (xs : List Place) (x w : ℕ) (t : TreeNo) (k : SubNo) (values : Gets) (r : ItemRow) → SubAt s t.0 k.0
-    → Sound s → slice_get s.items x ≡ Some r → node_of s t.0 k.0 ≢ r.node.0 → act_writes s xs x w (Did t k values) ≡ false
+    → IsSound s → slice_get s.items x ≡ Some r → node_of s t.0 k.0 ≢ r.node.0 → act_writes s xs x w (Did t k values) ≡ false
 did_elsewhere s xs x w t k values r c sound at ne = elsewhere_by s xs x w t k values r c sound at ne (updates s t.0) refl

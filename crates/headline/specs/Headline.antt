@@ -11,7 +11,7 @@ use Rattle.board_model.specs.Gates.{Fits}
 use Rattle.board_model.specs.Histories.{IsWhole}
 use Rattle.board_model.specs.Moves.{IsBoardRun}
 use Rattle.board_model.specs.Right.{HasFinished, IsAtOnce, IsRight}
-use Rattle.world_model.specs.Runs.{WorldRun}
+use Rattle.world_model.specs.Runs.{IsWorldRun}
 use Rattle.headline.specs.Reads.{ReadsStayRight, UpdatesComeFirst}
 use Rattle.headline.specs.Undone.{ShowsNothingUndone}
 use Rattle.headline.specs.Held.{HasHeldThree, IsSettled}
@@ -21,7 +21,7 @@ use Rattle.headline.specs.Held.{HasHeldThree, IsSettled}
 pub record HasHeadline (s : ScriptData) (h : List Entry) : Type 0 where
   -- whatever order the nodes' steps and the letters' arrivals take: each actor went by its table, and letters went as
   -- letters do
-  pub run : WorldRun s h
+  pub run : IsWorldRun s h
   -- a run that ends: the client has finished, and every tree is whole
   pub finished : HasFinished h
   pub whole : (t : ℕ) → t < length s.trees → IsWhole s h t

@@ -7,32 +7,32 @@ ghost use Rattle.headline.specs.Reads.{ReadsStayRight, UpdatesComeFirst};
 ghost use Rattle.headline.specs.Undone.{ShowsNothingUndone};
 ghost use Rattle.tx_trees.specs.ScriptData.{ScriptData};
 ghost use Rattle.tx_trees.specs.Valid.{IsValid};
-ghost use Rattle.world_model.specs.Runs.{StepRun};
-ghost use Rattle.world_model.specs.Tables.{Runnable};
+ghost use Rattle.world_model.specs.Runs.{IsStepRun};
+ghost use Rattle.world_model.specs.Tables.{IsRunnable};
 
 /// In every run of a valid script of update and read trees, with advancements too, each read shows what its items are
 /// worth at its tree's version in the history up to there.
 pub fn every_read_is_right()
-    ensures { (s : ScriptData) (past : List Entry) → IsValid s → Runnable s → StepRun s past
+    ensures { (s : ScriptData) (past : List Entry) → IsValid s → IsRunnable s → IsStepRun s past
         → IsRight s (reverse past) }
 {}
 
 /// Before any step of a read tree of version v, each update tree that the whole history gives a version of at most v is
 /// whole.
 pub fn updates_come_first()
-    ensures { (s : ScriptData) (past : List Entry) → IsValid s → Runnable s → StepRun s past
+    ensures { (s : ScriptData) (past : List Entry) → IsValid s → IsRunnable s → IsStepRun s past
         → UpdatesComeFirst s (reverse past) }
 {}
 
 /// What a step of a read tree gave is also what its items are worth at the tree's version in the whole history.
 pub fn reads_stay_right()
-    ensures { (s : ScriptData) (past : List Entry) → IsValid s → Runnable s → StepRun s past
+    ensures { (s : ScriptData) (past : List Entry) → IsValid s → IsRunnable s → IsStepRun s past
         → ReadsStayRight s (reverse past) }
 {}
 
 /// What a step of a read tree gave is also what its items are worth at the tree's version by the trees alone that weren't
 /// undone: no read shows any part of a tree that was undone.
 pub fn no_read_shows_what_was_undone()
-    ensures { (s : ScriptData) (past : List Entry) → IsValid s → Runnable s → StepRun s past
+    ensures { (s : ScriptData) (past : List Entry) → IsValid s → IsRunnable s → IsStepRun s past
         → ShowsNothingUndone s (reverse past) }
 {}

@@ -15,7 +15,7 @@ letters_sent p = sealed p.stamp.0 p.actor.0 0 p.sent
 
 -- stamps count from 1; each letter that was taken is Go or was sent by an earlier posting under its id; none is taken
 -- twice; each is taken by its addressee, which is one of the actors up to the client
-pub record Postal (client : ℕ) (h : List Posting) : Type 0 where
+pub record IsPostal (client : ℕ) (h : List Posting) : Type 0 where
   pub stamps : (k : ℕ) (e : Posting) → slice_get h k ≡ Some e → e.stamp.0 ≡ k + 1
   pub sent : (k : ℕ) (e : Posting) → slice_get h k ≡ Some e
       → (e.took ≡ go client)

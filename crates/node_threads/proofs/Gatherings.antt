@@ -9,7 +9,7 @@ use Rattle.letter_types.specs.declared.entries.Entry.{Entry}
 use Rattle.letter_types.specs.declared.entries.Letter.{Letter}
 use Rattle.letter_types.specs.declared.entries.Posting.{Posting}
 use Rattle.letter_types.specs.Letters.{find_id, go}
-use Rattle.letter_types.specs.Postal.{Postal, letters_sent, posting_of}
+use Rattle.letter_types.specs.Postal.{IsPostal, letters_sent, posting_of}
 use Rattle.letter_types.specs.Steps.{Out}
 use Rattle.stamp_post.specs.declared.rule.JoinedReceipt.{JoinedReceipt}
 use Rattle.stamp_post.specs.declared.rule.JoinedSeat.{JoinedSeat}
@@ -17,7 +17,7 @@ use Rattle.stamp_post.specs.Logs.{own_postings}
 use Rattle.stamp_post.specs.Shown.{Gathers, ReceiptData, joined_seat, receipt_joined}
 use Rattle.stamp_post.proofs.Claims.{id_stamp}
 use Rattle.tx_trees.specs.ScriptData.{ScriptData, client_of}
-use Rattle.world_model.specs.Runs.{IsRunOf, WorldRun, after}
+use Rattle.world_model.specs.Runs.{IsRunOf, IsWorldRun, after}
 use Rattle.world_model.specs.Tables.{actor_row, start_actor}
 use Rattle.world_model.proofs.Actors.{entry_at}
 use Rattle.world_model.proofs.Scripts.{get_some}
@@ -68,10 +68,10 @@ is_log actors rows receipts g = record {
       g.own a (joined_seat (0 + a) (map posting_of es)) (joined_at 0 rows a es at) ∙ ap (λ (n : ℕ). own_postings n g.log) here;
 }
 
-pub world_run : (s : ScriptData) (rows : List (List Entry)) (log : List Posting) (h : List Entry) → Postal (client_of s) log → AllRun s rows
-    → length rows ≡ s.nodes + 2 → IsMerged log rows h → WorldRun s h
+pub world_run : (s : ScriptData) (rows : List (List Entry)) (log : List Posting) (h : List Entry) → IsPostal (client_of s) log → AllRun s rows
+    → length rows ≡ s.nodes + 2 → IsMerged log rows h → IsWorldRun s h
 world_run s rows log h postal runs long merged = record {
-  postal = subst (λ (ps : List Posting). Postal (client_of s) ps) (sym merged.postings) postal;
+  postal = subst (λ (ps : List Posting). IsPostal (client_of s) ps) (sym merged.postings) postal;
   actors = λ a lt.
       let row = get_some rows a (omega arith) in
       subst (λ (es : List Entry). IsRunOf (actor_row s a) (start_actor s a) es) (sym (merged.own a row.0 row.1)) (runs a row.0 row.1);
@@ -133,7 +133,7 @@ acts_there row st [] e ys run = run.1
 acts_there row st (x ∷ xs) e ys run = acts_there row (row st x.took).state xs e ys run.2
 
 -- the letter that a posting took has a smaller stamp
-earlier : (client : ℕ) (log : List Posting) (k : ℕ) (p : Posting) → Postal client log → slice_get log k ≡ Some p
+earlier : (client : ℕ) (log : List Posting) (k : ℕ) (p : Posting) → IsPostal client log → slice_get log k ≡ Some p
     → (p.took ≡ go client) ⊎ ((j : ℕ) × (f : Posting) × (j < k) × (slice_get log j ≡ Some f) × (find_id p.took.id (letters_sent f) ≡ Some p.took))
     → p.took.id.stamp.0 < p.stamp.0
 earlier client log k p postal at (inl is) = omega (arith, ap (λ (l : Letter). l.id.stamp.0) is, postal.stamps k p at)
@@ -187,12 +187,12 @@ pub finishes_as : (s : ScriptData) (actors n count : ℕ) (seats : List JoinedSe
     → n ≡ actors → seats ≡ joined_from 0 rows → ((g : Gathers n seats (map receipt_joined receipts)) × (length g.log ≡ count))
     → AllRun s rows → length rows ≡ actors → actors ≡ s.nodes + 2
     → ((log : List Posting) → IsLogOf log rows → length log ≡ count → IsMerged log rows h)
-    → WorldRun s h × ((k : ℕ) (r : ReceiptData) → slice_get receipts k ≡ Some r → IsTold s h r)
+    → IsWorldRun s h × ((k : ℕ) (r : ReceiptData) → slice_get receipts k ≡ Some r → IsTold s h r)
 finishes_as s actors n count seats rows receipts h same joined gathered runs long all merges =
     let g : (g : Gathers actors (joined_from 0 rows) (map receipt_joined receipts)) × (length g.log ≡ count) =
     subst (λ (z : ℕ × List JoinedSeat). (g : Gathers z.0 z.1 (map receipt_joined receipts)) × (length g.log ≡ count)) (λ k. (same k, joined k)) gathered in
     let merged : IsMerged g.0.log rows h = merges g.0.log (is_log actors rows (map receipt_joined receipts) g.0) g.1 in
     let client : actors - 1 ≡ client_of s = omega arith in (
-      world_run s rows g.0.log h (subst (λ (m : ℕ). Postal m g.0.log) client g.0.postal) runs (long ∙ all) merged,
+      world_run s rows g.0.log h (subst (λ (m : ℕ). IsPostal m g.0.log) client g.0.postal) runs (long ∙ all) merged,
       told s actors rows receipts h g.0 runs long (omega arith) merged,
     )

@@ -1,7 +1,7 @@
 // Cells behind locks.
 ghost use Rattle.std.specs.Prelude.{◌≡◌, ◌+◌, ◌<◌, ℕ, All, length, map, slice_get, IfOk, MatchResult, Some};
 ghost use Rattle.stamp_post.specs.Shown.{ReceiptData, new_seats, seat_joined};
-ghost use Rattle.world_model.specs.Runs.{WorldRun};
+ghost use Rattle.world_model.specs.Runs.{IsWorldRun};
 ghost use Rattle.node_threads.specs.Cells.{Delivered};
 ghost use Rattle.node_threads.specs.Histories.{AllRun, IsTold, joined_from};
 
@@ -199,7 +199,7 @@ impl<K: ClusterName> Cluster<K> {
     /// All entries by stamp. They are a run of the script, and each receipt's entry is one of them.
     pub fn finish(self, alloc: Global, receipts: Receipts) -> Result<History, NoMemory>
         requires { All (λ r. r.post ≡ K.post) receipts }
-        ensures run { IfOk result (λ h. WorldRun K.script h) }
+        ensures run { IfOk result (λ h. IsWorldRun K.script h) }
         ensures told { IfOk result (λ h. (k : ℕ) (r : ReceiptData) → slice_get receipts k ≡ Some r
             → IsTold K.script h r) }
     {

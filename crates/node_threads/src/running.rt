@@ -2,8 +2,8 @@
 ghost use Rattle.std.specs.Prelude.{◌≡◌, ◌+◌, ◌≤◌, true, IfOk};
 ghost use Rattle.board_model.specs.Right.{HasFinished};
 ghost use Rattle.stamp_post.specs.Shown.{new_seats};
-ghost use Rattle.world_model.specs.Runs.{WorldRun};
-ghost use Rattle.world_model.specs.Tables.{Runnable};
+ghost use Rattle.world_model.specs.Runs.{IsWorldRun};
+ghost use Rattle.world_model.specs.Tables.{IsRunnable};
 
 use crate::cluster::Cluster;
 use crate::name::ClusterName;
@@ -94,7 +94,7 @@ fn run_named<K: ClusterName + Send + Sync, R: Threads + Wait + Sync, G: Gate + S
     requires gatherer { parts.gatherer ≡ K.post }
     requires seats { parts.seats ≡ new_seats K.post 0 K.post.actors }
     requires first { parts.first.post ≡ K.post }
-    ensures run { IfOk result (λ h. WorldRun K.script h) }
+    ensures run { IfOk result (λ h. IsWorldRun K.script h) }
     ensures finished { IfOk result (λ h. HasFinished h) }
 {
     let (cluster, first) = Cluster::<K>::start(alloc, script, parts)?;
@@ -117,9 +117,9 @@ pub fn run<R: Threads + Wait + Sync, G: Gate + Sync>(
     workers: u32,
     gate: &G,
 ) -> Result<History, NoMemory>
-    requires runnable { Runnable script.now }
+    requires runnable { IsRunnable script.now }
     requires workers { (1 ≤ workers) × (workers ≤ 32) }
-    ensures run { IfOk result (λ h. WorldRun script.now h) }
+    ensures run { IfOk result (λ h. IsWorldRun script.now h) }
     ensures finished { IfOk result (λ h. HasFinished h) }
 {
     let parts = Post::start(alloc, script.nodes() + 2)?;

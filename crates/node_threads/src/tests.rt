@@ -1,7 +1,7 @@
 ghost use Rattle.std.specs.Prelude.{◌≡◌, ◌+◌, ◌<◌, ◌≤◌, All, IfSome, true, unsigned_abs};
 ghost use Rattle.commute_ops.specs.declared.kinds.TheConstants.{MOST_AMOUNT};
 ghost use Rattle.stamp_post.specs.Shown.{new_seats};
-ghost use Rattle.world_model.specs.Tables.{Runnable, is_run, is_run_row};
+ghost use Rattle.world_model.specs.Tables.{IsRunnable, is_run, is_run_row};
 
 use super::*;
 use commute_ops::{Amount, Kind, Op};
@@ -95,7 +95,7 @@ fn is_tree_row(row: &ScriptRow) -> bool
 
 // Whether the script may be run, for scripts of one or two update trees and no other row.
 fn may_run(script: &Script) -> bool
-    ensures { result ≡ true → Runnable script.now }
+    ensures { result ≡ true → IsRunnable script.now }
 {
     let trees = match script.trees() {
         [one] => is_update(one),

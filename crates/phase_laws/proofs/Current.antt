@@ -8,10 +8,10 @@ use Rattle.tx_trees.specs.ScriptData.{ScriptData}
 use Rattle.advance_coord.specs.Coordinator.{Coordinator, counted, coordinator_row, end_count}
 use Rattle.advance_coord.specs.declared.phase.Phase.{Phase}
 use Rattle.advance_coord.specs.declared.phase.Phase.TheVariants.{Idle, Turning, Counting, Paused, Showing, Sweeping}
-use Rattle.world_model.specs.Runs.{StepRun, coordinator_in}
+use Rattle.world_model.specs.Runs.{IsStepRun, coordinator_in}
 use Rattle.world_model.specs.Timely.{AllTimely}
 use Rattle.world_model.proofs.Every.{coordinator_kept}
-use Rattle.world_model.proofs.Lawful.{Lawful}
+use Rattle.world_model.proofs.Lawful.{IsLawful}
 use Rattle.world_model.proofs.Nexts.{Next, Begins, Hears, Ends, Coordinates, DoesRoot, DoesSub, Notes, Obeys}
 use Rattle.phase_laws.proofs.Outcomes.{Outcome, Rests, Queues, Flags, Turns, Acks, LastTurned, LastShown, Finishes, GoesOn, Resumes, KeepsDone, KeepsAsked, Agrees, Recounts, Pauses, asked_kept, round_begun}
 use Rattle.phase_laws.proofs.Small.{outcome_in}
@@ -127,7 +127,7 @@ counts_kept : (s : ScriptData) (past : List Entry) (e : Entry) → e.actor.0 ≢
 counts_kept s past e away was = subst (λ (c : Coordinator). CountsNow c) (sym (coordinator_kept s past e away)) was
 
 -- and so does every entry
-counts_next : (s : ScriptData) (past : List Entry) (e : Entry) → Lawful s → StepRun s past → AllTimely s past
+counts_next : (s : ScriptData) (past : List Entry) (e : Entry) → IsLawful s → IsStepRun s past → AllTimely s past
     → CountsNow (coordinator_in s past) → Next s past e → CountsNow (coordinator_in s (e ∷ past))
 counts_next s past e laws run timely was (Begins bd at made) = counts_kept s past e (omega (arith, at)) was
 counts_next s past e laws run timely was (Hears t v answer bd at lt made) = counts_kept s past e (omega (arith, at)) was
@@ -146,7 +146,7 @@ counts_next s past e laws run timely was (Notes t k v values bd sub pos from at 
 counts_next s past e laws run timely was (Obeys p out at lt order made) = counts_kept s past e (omega (arith, at, lt)) was
 
 -- in every run, while it counts
-pub current : (s : ScriptData) (past : List Entry) → Lawful s → StepRun s past → AllTimely s past
+pub current : (s : ScriptData) (past : List Entry) → IsLawful s → IsStepRun s past → AllTimely s past
     → CountsNow (coordinator_in s past)
 current s [] laws run timely = counts_else (coordinator_in s []) tt
 current s (e ∷ past) laws run timely =

@@ -25,11 +25,11 @@ use Rattle.advance_coord.specs.declared.phase.Phase.{Phase}
 use Rattle.advance_coord.specs.declared.phase.Phase.TheVariants.{Idle, Turning, Counting, Showing, Sweeping}
 use Rattle.client_rows.specs.Client.{Client, rows_letters, submit, submitted, with_answer, with_end, nudge}
 use Rattle.world_model.specs.Counts.{Each, tally}
-use Rattle.world_model.specs.Runs.{StepRun, client_in, coordinator_in, node_in, waiting}
+use Rattle.world_model.specs.Runs.{IsStepRun, client_in, coordinator_in, node_in, waiting}
 use Rattle.world_model.specs.Timely.{AllTimely}
 use Rattle.world_model.proofs.Bags.{tally-drop}
 use Rattle.world_model.proofs.Every.{coordinator_kept, each_append, each_both, each_drop, each_left, each_map, each_step, each_taken, each_zero}
-use Rattle.world_model.proofs.Lawful.{Lawful}
+use Rattle.world_model.proofs.Lawful.{IsLawful}
 use Rattle.world_model.proofs.Nexts.{Next, Begins, Hears, Ends, Coordinates, DoesRoot, DoesSub, Notes, Obeys, Order, Turns as TurnsTo, Shows as ShowsTo, Sweeps as SweepsTo, TellsDone, TellsAsked, RootWork, RootUpdates, RootReads}
 use Rattle.world_model.proofs.Orders.{coordinator_nodes, of, to_nodes_each}
 use Rattle.world_model.proofs.Scripts.{SubAt, reads_alone}
@@ -182,8 +182,8 @@ level_further s to u (SubLetter t k v) a b c le right = λ is. let most = right 
 level_further s to u _ a b c le right = tt
 
 -- an advancement ends, where the letter taken was its last token
-letters_ended : (s : ScriptData) (past : List Entry) (e : Entry) (v : Version) (out : Out Coordinator) → Lawful s
-    → StepRun s (e ∷ past)
+letters_ended : (s : ScriptData) (past : List Entry) (e : Entry) (v : Version) (out : Out Coordinator) → IsLawful s
+    → IsStepRun s (e ∷ past)
     → AllTimely s past → LettersAt s past (coordinator_in s past) → (coordinator_in s past).phase ≡ Sweeping
     → e.took.body ≡ Swept v → ((coordinator_in s past).acks + 1 == (coordinator_in s past).nodes) ≡ true
     → coordinator_in s (e ∷ past) ≡ out.state → e.sent ≡ out.sent → out.state.update ≡ (coordinator_in s past).update + 1
@@ -218,8 +218,8 @@ letters_ended s past e v out laws run timely was at bd last moved is next most r
     (subst (λ (n : ℕ). Each (λ (l : Letter). LevelBody s out.state.phase n l.body) (waiting s (e ∷ past))) (sym next) after)
 
 -- every step of the coordinator leaves the letters right
-outcome_letters : (s : ScriptData) (past : List Entry) (e : Entry) (out : Out Coordinator) → Lawful s
-    → StepRun s (e ∷ past) → AllTimely s past
+outcome_letters : (s : ScriptData) (past : List Entry) (e : Entry) (out : Out Coordinator) → IsLawful s
+    → IsStepRun s (e ∷ past) → AllTimely s past
     → LettersAt s past (coordinator_in s past) → coordinator_in s (e ∷ past) ≡ out.state → e.sent ≡ out.sent
     → Outcome (coordinator_in s past) e.took.from.0 e.took.body out → LettersAt s (e ∷ past) (coordinator_in s (e ∷ past))
 outcome_letters s past e out laws run timely was moved is (Rests phase at ignored eq) =
@@ -306,7 +306,7 @@ submit_level s phase u c first right =
     each_append (of (InLevel s phase u)) first (rows_letters s rest) right (rows_level s phase u rest)
 
 -- the versions in letters after an entry
-pub letters_next : (s : ScriptData) (past : List Entry) (e : Entry) → Lawful s → StepRun s (e ∷ past) → AllTimely s past
+pub letters_next : (s : ScriptData) (past : List Entry) (e : Entry) → IsLawful s → IsStepRun s (e ∷ past) → AllTimely s past
     → Levels s past → Next s past e → LettersAt s (e ∷ past) (coordinator_in s (e ∷ past))
 letters_next s past e laws run timely was (Begins bd at made) =
     let c = coordinator_in s past in

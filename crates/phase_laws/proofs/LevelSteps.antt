@@ -21,12 +21,12 @@ use Rattle.advance_coord.specs.declared.phase.Phase.{Phase}
 use Rattle.advance_coord.specs.declared.phase.Phase.TheVariants.{Idle, Turning, Counting, Paused, Showing, Sweeping}
 use Rattle.client_rows.specs.Client.{Client, submit, with_answer, with_end, nudge}
 use Rattle.world_model.specs.Counts.{one_if, tally}
-use Rattle.world_model.specs.Runs.{MayFollow, StepRun, client_in, coordinator_in, node_in, waiting}
+use Rattle.world_model.specs.Runs.{MayFollow, IsStepRun, client_in, coordinator_in, node_in, waiting}
 use Rattle.world_model.specs.Timely.{AllTimely}
 use Rattle.world_model.proofs.Bags.{one_if_most, one_if_same, sealed_tally, tally-append, tally_step}
 use Rattle.world_model.proofs.Every.{coordinator_kept, each_taken, node_kept}
 use Rattle.world_model.proofs.Flows.{submit_none}
-use Rattle.world_model.proofs.Lawful.{Lawful}
+use Rattle.world_model.proofs.Lawful.{IsLawful}
 use Rattle.world_model.proofs.Nexts.{Next, Begins, Hears, Ends, Coordinates, DoesRoot, DoesSub, Notes, Obeys, Made, MadeByClient, MadeByCoordinator, Order, Turns as TurnsTo, Shows as ShowsTo, Sweeps as SweepsTo, TellsDone, TellsAsked, SubWork, SubUpdates, SubReads}
 use Rattle.world_model.proofs.Orders.{coordinator_nodes}
 use Rattle.world_model.proofs.Sends.{on}
@@ -72,7 +72,7 @@ within_zero SweepStage Sweeping n none = absurd (omega (arith, none))
 within_zero SweepStage _ n none = refl
 
 -- outside a stage's phase none of its orders is under way
-tells_none : (g : Stage) (s : ScriptData) (past : List Entry) (p : ℕ) → Lawful s → StepRun s past → AllTimely s past
+tells_none : (g : Stage) (s : ScriptData) (past : List Entry) (p : ℕ) → IsLawful s → IsStepRun s past → AllTimely s past
     → within g (coordinator_in s past).phase 1 ≡ 0 → tells s past g p ≡ 0
 tells_none g s past p laws run timely none =
     omega (
@@ -553,7 +553,7 @@ level_by_client s past e c first m at made quiet was q here =
     level_stays s past e q m (omega (arith, at)) (omega (arith, at, here)) (λ g. sent_none g q e.sent (sent g)) (was q here)
 
 -- the coordinator
-level_by_coordinator : (s : ScriptData) (past : List Entry) (e : Entry) → Lawful s → StepRun s (e ∷ past)
+level_by_coordinator : (s : ScriptData) (past : List Entry) (e : Entry) → IsLawful s → IsStepRun s (e ∷ past)
     → AllTimely s (e ∷ past)
     → e.actor.0 ≡ s.nodes → MadeByCoordinator s past e → Levels s past → (q : ℕ) → q < s.nodes → LevelAt s (e ∷ past) q
 level_by_coordinator s past e laws run timely at made was q here =
@@ -643,7 +643,7 @@ sub_raises s phase u t k st v raises effect (SubUpdates up is can made) right mo
 sub_raises s phase u t k st v raises effect (SubReads up is can made) right more = absurd (cc (is, more))
 
 -- every node's level after an entry
-pub level_next : (s : ScriptData) (past : List Entry) (e : Entry) → Lawful s → StepRun s (e ∷ past)
+pub level_next : (s : ScriptData) (past : List Entry) (e : Entry) → IsLawful s → IsStepRun s (e ∷ past)
     → AllTimely s (e ∷ past) → Levels s past → Next s past e → (q : ℕ) → q < s.nodes → LevelAt s (e ∷ past) q
 level_next s past e laws run timely was (Begins bd at made) =
     level_by_client s past e (client_in s past) [] run.0 at made (λ g. refl) was.node

@@ -15,10 +15,10 @@ use Rattle.tree_step.specs.Apt.{is_timely}
 use Rattle.tree_step.specs.Node.{Node}
 use Rattle.advance_coord.specs.declared.phase.Phase.{Phase}
 use Rattle.advance_coord.specs.declared.phase.Phase.TheVariants.{Idle, Turning, Counting, Paused, Showing, Sweeping}
-use Rattle.world_model.specs.Runs.{MayFollow, StepRun, coordinator_in, node_in}
+use Rattle.world_model.specs.Runs.{MayFollow, IsStepRun, coordinator_in, node_in}
 use Rattle.world_model.specs.Timely.{AllTimely}
 use Rattle.world_model.proofs.Every.{each_taken}
-use Rattle.world_model.proofs.Lawful.{Lawful}
+use Rattle.world_model.proofs.Lawful.{IsLawful}
 use Rattle.phase_laws.specs.Phases.{TurnStage, ShowStage, SweepStage, IsInPhase, PhasesHaveTheirLetters, VersionsKeepToThePhase}
 use Rattle.phase_laws.proofs.Small.{small}
 use Rattle.phase_laws.proofs.Tokens.{PhaseFor, phase_for, told}
@@ -28,14 +28,14 @@ use Rattle.phase_laws.proofs.LevelSteps.{LevelOf, level_next}
 use Rattle.phase_laws.proofs.LevelLetters.{letters_next}
 
 -- In every run the levels are those of the phase. That the version is at least 1 follows from the bounds.
-first_in : (s : ScriptData) (past : List Entry) → Lawful s → StepRun s past → AllTimely s past
+first_in : (s : ScriptData) (past : List Entry) → IsLawful s → IsStepRun s past → AllTimely s past
     → 1 ≤ (coordinator_in s past).update
 first_in s past laws run timely = omega (arith, (small s past laws run timely).ended)
 
 levels_first : (s : ScriptData) (p : ℕ) → LevelAt s [] p
 levels_first s p = omega arith
 
-pub levels : (s : ScriptData) (past : List Entry) → Lawful s → StepRun s past → AllTimely s past → Levels s past
+pub levels : (s : ScriptData) (past : List Entry) → IsLawful s → IsStepRun s past → AllTimely s past → Levels s past
 levels s [] laws run timely = record { first = omega arith; node = λ p lt. levels_first s p; letters = (tt, tt) }
 levels s (e ∷ past) laws run timely =
     let was = levels s past laws run.1 timely.1 in
@@ -58,14 +58,14 @@ phased Showing u turns t1 t2 t3 one was = omega (arith, was, one)
 phased Sweeping u turns t1 t2 t3 one was = omega (arith, was, one)
 
 -- in every run
-pub versions_in_phase : (s : ScriptData) (past : List Entry) → Lawful s → StepRun s past → AllTimely s past
+pub versions_in_phase : (s : ScriptData) (past : List Entry) → IsLawful s → IsStepRun s past → AllTimely s past
     → VersionsKeepToThePhase s past
 versions_in_phase s past laws run timely = λ p lt.
     let all = levels s past laws run timely in
     phased (coordinator_in s past).phase (coordinator_in s past).update (node_in s past p).turns
     (tells s past TurnStage p) (tells s past ShowStage p) (tells s past SweepStage p) all.first (all.node p lt)
 
-pub letters_in_phase : (s : ScriptData) (past : List Entry) → Lawful s → StepRun s past → AllTimely s past
+pub letters_in_phase : (s : ScriptData) (past : List Entry) → IsLawful s → IsStepRun s past → AllTimely s past
     → PhasesHaveTheirLetters s past
 letters_in_phase s past laws run timely = λ g. told g s past laws run timely
 
@@ -115,7 +115,7 @@ order_timely_by s phase u st t1 t2 t3 (AskAsked v k) one was at right is = refl
 order_timely_by s phase u st t1 t2 t3 body one was at right is = absurd is
 
 -- each order is timely where it is taken
-pub order_timely : (s : ScriptData) (past : List Entry) (e : Entry) (body : Body) (p : ℕ) → Lawful s → StepRun s past
+pub order_timely : (s : ScriptData) (past : List Entry) (e : Entry) (body : Body) (p : ℕ) → IsLawful s → IsStepRun s past
     → AllTimely s past
     → MayFollow s past e → p < s.nodes → e.took.body ≡ body → IsOrder body → is_timely s (node_in s past p) body ≡ true
 order_timely s past e body p laws run timely m lt bd is =
@@ -128,7 +128,7 @@ order_timely s past e body p laws run timely m lt bd is =
     (subst (λ (b : Body). LevelBody s c.phase c.update b) bd right) is
 
 -- a letter that sweeps doesn't lower the low version
-pub sweeps_rise : (s : ScriptData) (past : List Entry) (e : Entry) (v : Version) (p : ℕ) → Lawful s → StepRun s past
+pub sweeps_rise : (s : ScriptData) (past : List Entry) (e : Entry) (v : Version) (p : ℕ) → IsLawful s → IsStepRun s past
     → AllTimely s past
     → MayFollow s past e → p < s.nodes → e.took.body ≡ Sweep v → (node_in s past p).turns.low.0 ≤ v.0
 sweeps_rise s past e v p laws run timely m lt bd =

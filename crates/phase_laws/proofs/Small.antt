@@ -19,11 +19,11 @@ use Rattle.advance_coord.specs.declared.phase.Phase.{Phase}
 use Rattle.advance_coord.specs.declared.phase.Phase.TheVariants.{Idle, Turning, Counting, Paused, Showing, Sweeping}
 use Rattle.client_rows.specs.Client.{Client, rows_letters, submit, submitted, with_answer, with_end, nudge}
 use Rattle.world_model.specs.Counts.{tally, one_if}
-use Rattle.world_model.specs.Runs.{StepRun, MayFollow, client_in, coordinator_in}
+use Rattle.world_model.specs.Runs.{IsStepRun, MayFollow, client_in, coordinator_in}
 use Rattle.world_model.proofs.Bags.{tally-append}
 use Rattle.world_model.proofs.Every.{coordinator_kept}
 use Rattle.world_model.proofs.Flows.{flow, client_kept}
-use Rattle.world_model.proofs.Lawful.{Lawful, is_nudge, nudged}
+use Rattle.world_model.proofs.Lawful.{IsLawful, is_nudge, nudged}
 use Rattle.world_model.proofs.Nexts.{Next, Begins, Hears, Ends, Coordinates, DoesRoot, DoesSub, Notes, Obeys, MadeByClient, MadeByCoordinator, Tells}
 use Rattle.world_model.proofs.Sends.{on}
 use Rattle.world_model.specs.Timely.{AllTimely}
@@ -78,7 +78,7 @@ asked_most n rows =
     omega (arith, all, advances_in-append (take n rows) (drop n rows))
 
 -- then the numbers can still grow
-pub has_room : (s : ScriptData) (past : List Entry) → Lawful s → StepRun s past → AllTimely s past → IsSmall s past
+pub has_room : (s : ScriptData) (past : List Entry) → IsLawful s → IsStepRun s past → AllTimely s past → IsSmall s past
     → HasRoom (coordinator_in s past)
 has_room s past laws run timely small =
     let most : asked_for s past ≤ 100 =
@@ -433,7 +433,7 @@ told_advanced : (body : Body) → Tells body → is_advanced body ≡ 0
 told_advanced (Advanced v) tells = absurd tells
 told_advanced _ tells = refl
 
-by_coordinator : (s : ScriptData) (past : List Entry) (e : Entry) → Lawful s → StepRun s (e ∷ past) → AllTimely s past
+by_coordinator : (s : ScriptData) (past : List Entry) (e : Entry) → IsLawful s → IsStepRun s (e ∷ past) → AllTimely s past
     → IsSmall s past → Tells e.took.body → e.actor.0 ≡ s.nodes → MadeByCoordinator s past e → IsSmall s (e ∷ past)
 by_coordinator s past e laws run timely was told at made =
     let c = coordinator_in s past in
@@ -459,7 +459,7 @@ by_coordinator s past e laws run timely was told at made =
     subst (λ (d : Coordinator). Numbers s (e ∷ past) d) (sym made.state) after
 
 -- after any entry
-small_next : (s : ScriptData) (past : List Entry) (e : Entry) → Lawful s → StepRun s (e ∷ past) → AllTimely s past
+small_next : (s : ScriptData) (past : List Entry) (e : Entry) → IsLawful s → IsStepRun s (e ∷ past) → AllTimely s past
     → IsSmall s past → Next s past e → IsSmall s (e ∷ past)
 small_next s past e laws run timely was (Begins bd at made) =
     by_client s past e (client_in s past) [] run.0 was at made refl refl refl (ap is_advance bd)
@@ -483,7 +483,7 @@ small_next s past e laws run timely was (Obeys p out at lt order made) =
     by_node s past e run.0 (omega (arith, at, lt)) was (Obeys p out at lt order made)
 
 -- in every run the coordinator's numbers are small
-pub small : (s : ScriptData) (past : List Entry) → Lawful s → StepRun s past → AllTimely s past → IsSmall s past
+pub small : (s : ScriptData) (past : List Entry) → IsLawful s → IsStepRun s past → AllTimely s past → IsSmall s past
 small s [] laws run timely = record {
   nodes = refl;
   acks = omega (arith, laws.sound.valid.some_nodes);
@@ -496,14 +496,14 @@ small s (e ∷ past) laws run timely =
     small_next s past e laws run timely.1 (small s past laws run.1 timely.1) (laws.next past e run timely)
 
 -- so each step of the coordinator is one of its outcomes
-pub outcome_in : (s : ScriptData) (past : List Entry) (e : Entry) → Lawful s → StepRun s past → AllTimely s past
+pub outcome_in : (s : ScriptData) (past : List Entry) (e : Entry) → IsLawful s → IsStepRun s past → AllTimely s past
     → Outcome (coordinator_in s past) e.took.from.0 e.took.body
     (coordinator_row (coordinator_in s past) e.took.from.0 e.took.body)
 outcome_in s past e laws run timely =
     outcome (coordinator_in s past) e.took.from.0 e.took.body (has_room s past laws run timely (small s past laws run timely))
 
 -- What follows for rounds: two for each advancement that was asked for and one for each nudge, at most.
-pub rounds_most : (s : ScriptData) (past : List Entry) → Lawful s → StepRun s past → AllTimely s past
+pub rounds_most : (s : ScriptData) (past : List Entry) → IsLawful s → IsStepRun s past → AllTimely s past
     → (coordinator_in s past).round ≤ 2 * advances_in s.rows + nudged past
 rounds_most s past laws run timely =
     let now = small s past laws run timely in
@@ -511,12 +511,12 @@ rounds_most s past laws run timely =
     omega (arith, asked, now.asked, now.rounds, rounds_running (coordinator_in s past).phase)
 
 -- nudges are at most as many as trees
-pub rounds_by_trees : (s : ScriptData) (past : List Entry) → Lawful s → StepRun s past → AllTimely s past
+pub rounds_by_trees : (s : ScriptData) (past : List Entry) → IsLawful s → IsStepRun s past → AllTimely s past
     → RoundsAreFew s past
 rounds_by_trees s past laws run timely = omega (arith, rounds_most s past laws run timely, laws.nudges past run timely)
 
 -- and no advancement is lost
-pub advances_kept : (s : ScriptData) (past : List Entry) → Lawful s → StepRun s past → AllTimely s past → AdvancesAreKept s past
+pub advances_kept : (s : ScriptData) (past : List Entry) → IsLawful s → IsStepRun s past → AllTimely s past → AdvancesAreKept s past
 advances_kept s past laws run timely =
     let now = small s past laws run timely in
     record { asked = now.asked; ended = now.ended }

@@ -14,11 +14,11 @@ use Rattle.advance_coord.specs.declared.phase.Phase.{Phase}
 use Rattle.advance_coord.specs.declared.phase.Phase.TheVariants.{Idle, Turning, Counting, Paused, Showing, Sweeping}
 use Rattle.client_rows.specs.Client.{Client, submit, with_answer, with_end, nudge}
 use Rattle.world_model.specs.Counts.{tally}
-use Rattle.world_model.specs.Runs.{MayFollow, StepRun, client_in, coordinator_in, waiting}
+use Rattle.world_model.specs.Runs.{MayFollow, IsStepRun, client_in, coordinator_in, waiting}
 use Rattle.world_model.proofs.Bags.{tally-drop}
 use Rattle.world_model.proofs.Every.{coordinator_kept}
 use Rattle.world_model.proofs.Flows.{flow, flow_same, submit_none}
-use Rattle.world_model.proofs.Lawful.{Lawful}
+use Rattle.world_model.proofs.Lawful.{IsLawful}
 use Rattle.world_model.proofs.Nexts.{Next, Begins, Hears, Ends, Coordinates, DoesRoot, DoesSub, Notes, Obeys, MadeByClient, MadeByCoordinator, Tells}
 use Rattle.world_model.proofs.Orders.{coordinator_nodes}
 use Rattle.world_model.proofs.Sends.{on}
@@ -371,7 +371,7 @@ told_by_node : (g : Stage) (s : ScriptData) (past : List Entry) (e : Entry) → 
 told_by_node g s past e m node next was =
     kept_told g s past e (omega (arith, node)) was (node_keeps (token g) (token_passes g) s past e m node next)
 
-told_by_coordinator : (g : Stage) (s : ScriptData) (past : List Entry) (e : Entry) → Lawful s → StepRun s (e ∷ past)
+told_by_coordinator : (g : Stage) (s : ScriptData) (past : List Entry) (e : Entry) → IsLawful s → IsStepRun s (e ∷ past)
     → AllTimely s past → Tells e.took.body → MadeByCoordinator s past e → Told s past g → Told s (e ∷ past) g
 told_by_coordinator g s past e laws run timely tells made was =
     let c = coordinator_in s past in
@@ -389,7 +389,7 @@ told_by_coordinator g s past e laws run timely tells made was =
     (sym made.state)
     (after ∙ ap (λ (n : ℕ). within g out.state.phase n) nodes)
 
-told_next : (g : Stage) (s : ScriptData) (past : List Entry) (e : Entry) → Lawful s → StepRun s (e ∷ past)
+told_next : (g : Stage) (s : ScriptData) (past : List Entry) (e : Entry) → IsLawful s → IsStepRun s (e ∷ past)
     → AllTimely s past → Told s past g → Next s past e → Told s (e ∷ past) g
 told_next g s past e laws run timely was (Begins bd at made) =
     told_by_client g s past e (client_in s past) [] run.0 at made was refl (apart_by e.took.body Go bd go_apart g)
@@ -417,7 +417,7 @@ told_first ShowStage s = refl
 told_first SweepStage s = refl
 
 -- in every run each node has its order, its answer or its acknowledgement
-pub told : (g : Stage) (s : ScriptData) (past : List Entry) → Lawful s → StepRun s past → AllTimely s past → Told s past g
+pub told : (g : Stage) (s : ScriptData) (past : List Entry) → IsLawful s → IsStepRun s past → AllTimely s past → Told s past g
 told g s [] laws run timely = told_first g s
 told g s (e ∷ past) laws run timely =
     told_next g s past e laws run timely.1 (told g s past laws run.1 timely.1) (laws.next past e run timely)
@@ -447,7 +447,7 @@ token_there : (g : Stage) (s : ScriptData) (past : List Entry) (e : Entry) → M
     → token g e.took.body ≤ under_way (token g) s past
 token_there g s past e m = omega (arith, tally-drop (λ (l : Letter). token g l.body) e.took.id (waiting s past) e.took m.waits)
 
-pub phase_for : (s : ScriptData) (past : List Entry) (e : Entry) (body : Body) → Lawful s → StepRun s past
+pub phase_for : (s : ScriptData) (past : List Entry) (e : Entry) (body : Body) → IsLawful s → IsStepRun s past
     → AllTimely s past → MayFollow s past e → e.took.body ≡ body → PhaseFor body (coordinator_in s past).phase
 phase_for s past e (Turn v) laws run timely m bd =
     let one : token TurnStage e.took.body ≡ 1 = ap (token TurnStage) bd in

@@ -25,20 +25,20 @@ use Rattle.std.proofs.lemmas.Bool.Decides.{nat_tests}
 use Rattle.pair_counters.specs.Numbers.{from_version}
 use Rattle.node_step.specs.Advancing.{turn_row, show_row, sweep_row, done_row, asked_row}
 use Rattle.world_model.proofs.Every.{node_kept}
-use Rattle.world_model.specs.Runs.{node_in, MayFollow, StepRun}
+use Rattle.world_model.specs.Runs.{node_in, MayFollow, IsStepRun}
 use Rattle.world_model.proofs.Bags.{sealed_tally, tally_step, tally-append, one_if_most}
 use Rattle.world_model.proofs.Every.{each_append}
 use Rattle.quiet_laws.specs.Balance.{MOST_COUNTED, version_is, goes_from, out}
 use Rattle.world_model.proofs.Nexts.{Next, Begins, Hears, Ends, Coordinates, DoesRoot, DoesSub, Notes, Obeys, Made, Order, Turns as TurnsTo, Shows as ShowsTo, Sweeps as SweepsTo, TellsDone, TellsAsked, Tells}
-use Rattle.world_model.proofs.Scripts.{Sound, SubAt, is_tree, subs_here}
+use Rattle.world_model.proofs.Scripts.{IsSound, SubAt, is_tree, subs_here}
 use Rattle.phase_laws.proofs.Levels.{sweeps_rise}
-use Rattle.world_model.proofs.Lawful.{Lawful}
+use Rattle.world_model.proofs.Lawful.{IsLawful}
 use Rattle.world_model.specs.Timely.{AllTimely}
 use Rattle.quiet_laws.proofs.Counters.{AreOf, children_few, children_of, counted, more_is, replies_uncounted, root_asked, root_completed, sub_asked, sub_completed}
 use Rattle.quiet_laws.proofs.Moves.{Counts, RowCounts, apart, by_node, sent_on}
 
 -- a tree has at most 64 subtransactions
-few_subs : (s : ScriptData) (t k : ℕ) → Sound s → SubAt s t k → length (subs_at s t) ≤ 64
+few_subs : (s : ScriptData) (t k : ℕ) → IsSound s → SubAt s t k → length (subs_at s t) ≤ 64
 few_subs s t k sound sub = rw (subs_here s t k sub) (is_tree s t sub.tree sound sub.at).few
 
 -- a root counts one of its version with itself, and its children
@@ -192,7 +192,7 @@ tells_uncounted v (Decided t w) tells = absurd tells
 tells_uncounted v _ tells = refl
 
 -- each kind of entry
-counts_by : (s : ScriptData) (past : List Entry) (e : Entry) (v : ℕ) → Sound s → e.took.to.0 ≡ e.actor.0 → Next s past e
+counts_by : (s : ScriptData) (past : List Entry) (e : Entry) (v : ℕ) → IsSound s → e.took.to.0 ≡ e.actor.0 → Next s past e
     → Counts s past e v
 counts_by s past e v sound to (Begins is at made) =
     apart s past e v to (omega arith) (uncounted v e.took.body Go is refl)
@@ -229,7 +229,7 @@ counts_by s past e v sound to (Notes t k w values is sub later from at lt misses
     (note_row s h v e.took.from.0 t k w values st answer refl))
 
 -- each entry of a run
-pub counts_of : (s : ScriptData) (past : List Entry) (e : Entry) (v : ℕ) → Lawful s → StepRun s (e ∷ past)
+pub counts_of : (s : ScriptData) (past : List Entry) (e : Entry) (v : ℕ) → IsLawful s → IsStepRun s (e ∷ past)
     → AllTimely s (e ∷ past)
     → Counts s past e v
 counts_of s past e v laws run timely = counts_by s past e v laws.sound run.0.addressee (laws.next past e run timely)
@@ -280,7 +280,7 @@ rises_apart : (s : ScriptData) (past : List Entry) (e : Entry) (q : ℕ) → s.n
 rises_apart s past e q outside lt =
     let same = ap (λ (st : Node). st.turns.low.0) (node_kept s past e q (omega arith)) in omega (arith, same)
 
-low_rises_by : (s : ScriptData) (past : List Entry) (e : Entry) (q : ℕ) → Lawful s → StepRun s (e ∷ past)
+low_rises_by : (s : ScriptData) (past : List Entry) (e : Entry) (q : ℕ) → IsLawful s → IsStepRun s (e ∷ past)
     → AllTimely s past
     → q < s.nodes → Next s past e → (node_in s past q).turns.low.0 ≤ (node_in s (e ∷ past) q).turns.low.0
 low_rises_by s past e q laws run timely lt (Begins is at made) = rises_apart s past e q (omega arith) lt
@@ -300,19 +300,19 @@ low_rises_by s past e q laws run timely lt (Obeys h out at node order made) =
     (λ w bd. sweeps_rise s past e w h laws run.1 timely run.0 node bd))
     q (cases_eq h q)
 
-pub low_rises : (s : ScriptData) (past : List Entry) (e : Entry) (q : ℕ) → Lawful s → StepRun s (e ∷ past)
+pub low_rises : (s : ScriptData) (past : List Entry) (e : Entry) (q : ℕ) → IsLawful s → IsStepRun s (e ∷ past)
     → AllTimely s (e ∷ past)
     → q < s.nodes → (node_in s past q).turns.low.0 ≤ (node_in s (e ∷ past) q).turns.low.0
 low_rises s past e q laws run timely lt = low_rises_by s past e q laws run timely.1 lt (laws.next past e run timely)
 
 -- the same at one version and pair
-abbrev BalancedAt : ScriptData → List Entry → ℕ → ℕ → ℕ → Type 0
-BalancedAt s past v p q = (node_in s past p).counts.asked v q ≡ (node_in s past q).counts.done v p + out s past v p q
+abbrev IsBalancedAt : ScriptData → List Entry → ℕ → ℕ → ℕ → Type 0
+IsBalancedAt s past v p q = (node_in s past p).counts.asked v q ≡ (node_in s past q).counts.done v p + out s past v p q
 
 -- in every run: with one entry more the two sides grow alike
-pub balanced_at : (s : ScriptData) (past : List Entry) (v p q : ℕ) → Lawful s → StepRun s past → AllTimely s past
+pub balanced_at : (s : ScriptData) (past : List Entry) (v p q : ℕ) → IsLawful s → IsStepRun s past → AllTimely s past
     → p < s.nodes → q < s.nodes → (node_in s past p).turns.low.0 ≤ v → (node_in s past q).turns.low.0 ≤ v
-    → BalancedAt s past v p q
+    → IsBalancedAt s past v p q
 balanced_at s [] v p q laws run timely lp lq low_p low_q = refl
 balanced_at s (e ∷ past) v p q laws run timely lp lq low_p low_q =
     let counts = counts_of s past e v laws run timely in
@@ -327,7 +327,7 @@ balanced_at s (e ∷ past) v p q laws run timely lp lq low_p low_q =
     )
 
 -- Counters are small: each entry adds no more than it counts at most.
-small_at : (s : ScriptData) (past : List Entry) (p v q : ℕ) → Lawful s → StepRun s past → AllTimely s past → p < s.nodes
+small_at : (s : ScriptData) (past : List Entry) (p v q : ℕ) → IsLawful s → IsStepRun s past → AllTimely s past → p < s.nodes
     → ((node_in s past p).counts.asked v q < MOST_COUNTED * length past + 1)
     × ((node_in s past p).counts.done v q < MOST_COUNTED * length past + 1)
 small_at s [] p v q laws run timely lt = (omega arith, omega arith)
@@ -344,6 +344,6 @@ small_at s (e ∷ past) p v q laws run timely lt =
       ),
     )
 
-pub small : (s : ScriptData) (past : List Entry) → Lawful s → StepRun s past → AllTimely s past → (p : ℕ) → p < s.nodes
+pub small : (s : ScriptData) (past : List Entry) → IsLawful s → IsStepRun s past → AllTimely s past → (p : ℕ) → p < s.nodes
     → AllBelow (MOST_COUNTED * length past + 1) (node_in s past p).counts
 small s past laws run timely p lt = λ v q. small_at s past p v q laws run timely lt

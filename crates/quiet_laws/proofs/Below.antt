@@ -9,15 +9,15 @@ use Rattle.tx_trees.specs.ScriptData.{ScriptData}
 use Rattle.advance_coord.specs.Coordinator.{Coordinator, end_count, with_asked, coordinator_row}
 use Rattle.advance_coord.specs.declared.phase.Phase.{Phase}
 use Rattle.advance_coord.specs.declared.phase.Phase.TheVariants.{Idle, Turning, Counting, Paused, Showing, Sweeping}
-use Rattle.world_model.specs.Runs.{coordinator_in, node_in, StepRun}
+use Rattle.world_model.specs.Runs.{coordinator_in, node_in, IsStepRun}
 use Rattle.world_model.specs.Timely.{AllTimely}
 use Rattle.world_model.proofs.Every.{coordinator_kept}
-use Rattle.world_model.proofs.Lawful.{Lawful}
+use Rattle.world_model.proofs.Lawful.{IsLawful}
 use Rattle.phase_laws.proofs.Levels.{Level, Levels, levels, most_low, tells}
 use Rattle.phase_laws.proofs.Outcomes.{Outcome, Rests, Queues, Flags, Turns, Acks, LastTurned, LastShown, Finishes, GoesOn, Resumes, KeepsDone, KeepsAsked, Agrees, Recounts, Pauses, TakesAsked, asked_kept}
 use Rattle.phase_laws.proofs.Small.{outcome_in}
 use Rattle.phase_laws.proofs.Tokens.{TurnStage, ShowStage, SweepStage}
-use Rattle.quiet_laws.specs.Balance.{Balanced, HasLeft, out}
+use Rattle.quiet_laws.specs.Balance.{IsBalanced, HasLeft, out}
 use Rattle.quiet_laws.specs.Quiet.{IsSilent}
 use Rattle.quiet_laws.proofs.Balance.{balanced_at}
 use Rattle.quiet_laws.proofs.Rounds.{agrees_silent}
@@ -127,7 +127,7 @@ closed_counted s past w all at lt = λ p lp.
 abbrev pub IsSilentBelow : ScriptData → List Entry → Coordinator → Type 0
 IsSilentBelow s past c = (w : ℕ) → w < floor c → IsSilent s past w
 
-below_kept : (s : ScriptData) (past : List Entry) (e : Entry) (d : Coordinator) → Lawful s → StepRun s (e ∷ past)
+below_kept : (s : ScriptData) (past : List Entry) (e : Entry) (d : Coordinator) → IsLawful s → IsStepRun s (e ∷ past)
     → AllTimely s (e ∷ past)
     → IsSilentBelow s past (coordinator_in s past) → floor d ≡ floor (coordinator_in s past)
     → IsSilentBelow s (e ∷ past) d
@@ -139,8 +139,8 @@ below_kept s past e d laws run timely was same = λ w lt.
 last_or_less : (w u : ℕ) → w < u → (w ≡ u - 1) ⊎ (w < u - 1)
 last_or_less w u lt = grind arith
 
-raised_silent : (s : ScriptData) (past : List Entry) (e : Entry) (o : Out Coordinator) (w : ℕ) → Lawful s
-    → StepRun s (e ∷ past) → AllTimely s past
+raised_silent : (s : ScriptData) (past : List Entry) (e : Entry) (o : Out Coordinator) (w : ℕ) → IsLawful s
+    → IsStepRun s (e ∷ past) → AllTimely s past
     → IsSilentBelow s past (coordinator_in s past) → Raises (coordinator_in s past) e.took.from.0 e.took.body o
     → (w ≡ (coordinator_in s past).update - 1) ⊎ (w < (coordinator_in s past).update - 1) → IsSilent s past w
 raised_silent s past e o w laws run timely was raises (inl is) =
@@ -149,7 +149,7 @@ raised_silent s past e o w laws run timely was raises (inl is) =
 raised_silent s past e o w laws run timely was raises (inr lt) =
     was w (omega (arith, lt, floor_at (coordinator_in s past) (Counting true) raises.takes.phase))
 
-below_by : (s : ScriptData) (past : List Entry) (e : Entry) (o : Out Coordinator) → Lawful s → StepRun s (e ∷ past)
+below_by : (s : ScriptData) (past : List Entry) (e : Entry) (o : Out Coordinator) → IsLawful s → IsStepRun s (e ∷ past)
     → AllTimely s (e ∷ past)
     → IsSilentBelow s past (coordinator_in s past)
     → (floor o.state ≡ floor (coordinator_in s past)) ⊎ Raises (coordinator_in s past) e.took.from.0 e.took.body o
@@ -161,7 +161,7 @@ below_by s past e o laws run timely was (inr raises) = λ w lt.
     (raised_silent s past e o w laws run timely.1 was raises (last_or_less w (coordinator_in s past).update less))
     (closed_counted s past w (levels s past laws run.1 timely.1) raises.takes.phase less)
 
-below_next : (s : ScriptData) (past : List Entry) (e : Entry) → Lawful s → StepRun s (e ∷ past) → AllTimely s (e ∷ past)
+below_next : (s : ScriptData) (past : List Entry) (e : Entry) → IsLawful s → IsStepRun s (e ∷ past) → AllTimely s (e ∷ past)
     → IsSilentBelow s past (coordinator_in s past) → Sending s past e
     → IsSilentBelow s (e ∷ past) (coordinator_in s (e ∷ past))
 below_next s past e laws run timely was (SendsApart away plain all) =
@@ -179,28 +179,28 @@ below_next s past e laws run timely was (SendsOrders tells at made) =
     (below_by s past e row laws run timely was
     (floor_next c e.took.from.0 e.took.body row (outcome_in s past e laws run.1 timely.1)))
 
-pub silent_below : (s : ScriptData) (past : List Entry) → Lawful s → StepRun s past → AllTimely s past
+pub silent_below : (s : ScriptData) (past : List Entry) → IsLawful s → IsStepRun s past → AllTimely s past
     → IsSilentBelow s past (coordinator_in s past)
 silent_below s [] laws run timely = λ w lt. absurd (omega (arith, lt))
 silent_below s (e ∷ past) laws run timely =
     below_next s past e laws run timely (silent_below s past laws run.1 timely.1) (sending s past e laws run timely)
 
 -- of a version that a node has left nothing is under way
-pub left_silent : (s : ScriptData) (past : List Entry) (v p : ℕ) → Lawful s → StepRun s past → AllTimely s past
+pub left_silent : (s : ScriptData) (past : List Entry) (v p : ℕ) → IsLawful s → IsStepRun s past → AllTimely s past
     → p < s.nodes
     → HasLeft s past v p → IsSilent s past v
 left_silent s past v p laws run timely lt left =
     let level = (levels s past laws run timely).node p lt in
     silent_below s past laws run timely v (omega (arith, level.low_to, left))
 
-none_left : (s : ScriptData) (past : List Entry) (v p q : ℕ) → Lawful s → StepRun s past → AllTimely s past
+none_left : (s : ScriptData) (past : List Entry) (v p q : ℕ) → IsLawful s → IsStepRun s past → AllTimely s past
     → p < s.nodes → q < s.nodes
     → HasLeft s past v p ⊎ HasLeft s past v q → out s past v p q ≡ 0
 none_left s past v p q laws run timely lp lq (inl left) = left_silent s past v p laws run timely lp left p q lp lq
 none_left s past v p q laws run timely lp lq (inr left) = left_silent s past v q laws run timely lq left p q lp lq
 
 -- requests are completions and letters
-pub balanced : (s : ScriptData) (past : List Entry) → Lawful s → StepRun s past → AllTimely s past → Balanced s past
+pub balanced : (s : ScriptData) (past : List Entry) → IsLawful s → IsStepRun s past → AllTimely s past → IsBalanced s past
 balanced s past laws run timely = record {
   equal = λ v p q lp lq low_p low_q. balanced_at s past v p q laws run timely lp lq low_p low_q;
   none = λ v p q lp lq left. none_left s past v p q laws run timely lp lq left;

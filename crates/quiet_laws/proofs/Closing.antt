@@ -25,12 +25,12 @@ use Rattle.advance_coord.specs.declared.phase.Phase.{Phase}
 use Rattle.advance_coord.specs.declared.phase.Phase.TheVariants.{Idle, Turning, Counting, Paused, Showing, Sweeping}
 use Rattle.client_rows.specs.Client.{Client, rows_letters, submit, submitted, with_answer, with_end, nudge}
 use Rattle.world_model.specs.Counts.{Each}
-use Rattle.world_model.specs.Runs.{client_in, coordinator_in, node_in, waiting, MayFollow, StepRun}
+use Rattle.world_model.specs.Runs.{client_in, coordinator_in, node_in, waiting, MayFollow, IsStepRun}
 use Rattle.world_model.specs.Timely.{AllTimely}
 use Rattle.world_model.proofs.Bags.{tally-drop}
 use Rattle.world_model.proofs.Every.{coordinator_kept, each_append, each_map, each_step, each_taken}
-use Rattle.world_model.proofs.Fits.{Fit}
-use Rattle.world_model.proofs.Lawful.{Lawful}
+use Rattle.world_model.proofs.Fits.{IsFit}
+use Rattle.world_model.proofs.Lawful.{IsLawful}
 use Rattle.world_model.proofs.Nexts.{Next, Begins, Hears, Ends, Coordinates, DoesRoot, DoesSub, Notes, Obeys, Order, Turns, Shows, Sweeps, TellsDone, TellsAsked, RootWork, RootUpdates, RootReads}
 use Rattle.world_model.proofs.Orders.{coordinator_each}
 use Rattle.phase_laws.proofs.Levels.{Levels, levels, most_read, order_timely}
@@ -178,7 +178,7 @@ one_of : (m n : ℕ) → (m ≡ n) ⊎ (m ≡ n + 1) → n ≤ m
 one_of m n (inl is) = omega (arith, is)
 one_of m n (inr is) = omega (arith, is)
 
-update_rises : (s : ScriptData) (past : List Entry) (e : Entry) → Lawful s → StepRun s (e ∷ past) → AllTimely s past
+update_rises : (s : ScriptData) (past : List Entry) (e : Entry) → IsLawful s → IsStepRun s (e ∷ past) → AllTimely s past
     → Sending s past e
     → (coordinator_in s past).update ≤ (coordinator_in s (e ∷ past)).update
 update_rises s past e laws run timely (SendsApart away plain all) =
@@ -197,7 +197,7 @@ update_rises s past e laws run timely (SendsOrders tells at made) =
     omega (arith, same, rise)
 
 -- every letter of a tree under way is of a version at most one above the coordinator's
-pub letters_up_to : (s : ScriptData) (past : List Entry) → Lawful s → StepRun s past → AllTimely s past
+pub letters_up_to : (s : ScriptData) (past : List Entry) → IsLawful s → IsStepRun s past → AllTimely s past
     → Each (λ (l : Letter). tree_version l.body ≤ (coordinator_in s past).update + 1) (waiting s past)
 letters_up_to s [] laws run timely = (omega arith, tt)
 letters_up_to s (e ∷ past) laws run timely =
@@ -215,7 +215,7 @@ letters_up_to s (e ∷ past) laws run timely =
     (λ o le i. omega (arith, le i, rise))
     (sent_up_to s past e (levels s past laws run.1 timely.1) took (laws.next past e run timely)))
 
-not_left : (s : ScriptData) (past : List Entry) (e : Entry) (v : ℕ) → Lawful s → StepRun s past → AllTimely s past
+not_left : (s : ScriptData) (past : List Entry) (e : Entry) (v : ℕ) → IsLawful s → IsStepRun s past → AllTimely s past
     → MayFollow s past e
     → e.took.from.0 < s.nodes → e.actor.0 < s.nodes → version_is v e.took.body ≡ true
     → ((node_in s past e.actor.0).turns.low.0 ≤ v) ⊎ (v < (node_in s past e.actor.0).turns.low.0)
@@ -229,7 +229,7 @@ not_left s past e v laws run timely m from lt is (inr left) =
       tally-drop (goes_from v e.took.from.0 e.actor.0) e.took.id (waiting s past) e.took m.waits,
     ))
 
-pub tree_letter_near : (s : ScriptData) (past : List Entry) (e : Entry) (v : ℕ) → Lawful s → StepRun s past
+pub tree_letter_near : (s : ScriptData) (past : List Entry) (e : Entry) (v : ℕ) → IsLawful s → IsStepRun s past
     → AllTimely s past
     → MayFollow s past e → e.took.from.0 < s.nodes → e.actor.0 < s.nodes → version_is v e.took.body ≡ true
     → tree_version e.took.body ≡ v
@@ -243,9 +243,9 @@ tree_letter_near s past e v laws run timely m from lt is ver =
     )
 
 -- Each letter that a node takes is timely there.
-timely_by : (s : ScriptData) (past : List Entry) (e : Entry) (body : Body) → Lawful s → StepRun s past
+timely_by : (s : ScriptData) (past : List Entry) (e : Entry) (body : Body) → IsLawful s → IsStepRun s past
     → AllTimely s past → MayFollow s past e
-    → e.actor.0 < s.nodes → e.took.body ≡ body → Fit s e.took.from.0 e.took.to.0 body
+    → e.actor.0 < s.nodes → e.took.body ≡ body → IsFit s e.took.from.0 e.took.to.0 body
     → is_timely s (node_in s past e.actor.0) body ≡ true
 timely_by s past e (SubLetter t k v) laws run timely m lt bd fit =
     let here : version_is v.0 e.took.body ≡ true = ap (version_is v.0) bd ∙ same_test v.0 in
@@ -265,15 +265,15 @@ timely_by s past e (Decide t v commit) laws run timely m lt bd fit = absurd fit
 timely_by s past e (Decided t v) laws run timely m lt bd fit = absurd fit
 timely_by s past e _ laws run timely m lt bd fit = refl
 
-pub letter_timely : (s : ScriptData) (past : List Entry) (e : Entry) → Lawful s → StepRun s (e ∷ past)
+pub letter_timely : (s : ScriptData) (past : List Entry) (e : Entry) → IsLawful s → IsStepRun s (e ∷ past)
     → AllTimely s past
     → e.actor.0 < s.nodes → is_timely s (node_in s past e.actor.0) e.took.body ≡ true
 letter_timely s past e laws run timely lt =
-    let fit = each_taken (λ (l : Letter). Fit s l.from.0 l.to.0 l.body) s past e run.0 (laws.fits past run.1 timely) in
+    let fit = each_taken (λ (l : Letter). IsFit s l.from.0 l.to.0 l.body) s past e run.0 (laws.fits past run.1 timely) in
     timely_by s past e e.took.body laws run.1 timely run.0 lt refl fit
 
 -- so every run of a lawful script is one in which each letter came in time
-pub all_timely : (s : ScriptData) (past : List Entry) → Lawful s → StepRun s past → AllTimely s past
+pub all_timely : (s : ScriptData) (past : List Entry) → IsLawful s → IsStepRun s past → AllTimely s past
 all_timely s [] laws run = tt
 all_timely s (e ∷ past) laws run =
     let before = all_timely s past laws run.1 in

@@ -21,11 +21,11 @@ use Rattle.advance_coord.specs.Coordinator.{Coordinator, to_nodes, counted, keep
 use Rattle.advance_coord.specs.declared.phase.Phase.{Phase}
 use Rattle.advance_coord.specs.declared.phase.Phase.TheVariants.{Idle, Counting}
 use Rattle.world_model.specs.Counts.{Each, one_if, tally}
-use Rattle.world_model.specs.Runs.{coordinator_in, node_in, waiting, MayFollow, StepRun}
+use Rattle.world_model.specs.Runs.{coordinator_in, node_in, waiting, MayFollow, IsStepRun}
 use Rattle.world_model.specs.Timely.{AllTimely}
 use Rattle.world_model.proofs.Bags.{tally-drop}
 use Rattle.world_model.proofs.Every.{coordinator_kept, each_map, each_step, each_taken, each_zero}
-use Rattle.world_model.proofs.Lawful.{Lawful}
+use Rattle.world_model.proofs.Lawful.{IsLawful}
 use Rattle.world_model.proofs.Nexts.{MadeByCoordinator}
 use Rattle.world_model.proofs.Orders.{coordinator_each, coordinator_nodes}
 use Rattle.phase_laws.proofs.Levels.{Level, Levels, levels, tells}
@@ -74,14 +74,14 @@ abbrev LowIn : ScriptData → List Entry → ℕ → Type 0
 LowIn s past v = (p : ℕ) → p < s.nodes → (node_in s past p).turns.low.0 ≤ v
 
 -- while a round is counted, its version is open
-pub open_in : (s : ScriptData) (past : List Entry) (reads : Bool) → Lawful s → StepRun s past → AllTimely s past
+pub open_in : (s : ScriptData) (past : List Entry) (reads : Bool) → IsLawful s → IsStepRun s past → AllTimely s past
     → (coordinator_in s past).phase ≡ Counting reads → Open s past (coordinator_in s past).current.version.0
 open_in s past reads laws run timely at =
     subst (Open s past) (sym (ap (λ (v : Version). v.0) (current s past laws run timely reads at).version))
     (open_by s past reads (levels s past laws run timely) at)
 
 -- so no node has left it, where this is the coordinator
-low_in : (s : ScriptData) (past : List Entry) (c : Coordinator) (reads : Bool) → Lawful s → StepRun s past
+low_in : (s : ScriptData) (past : List Entry) (c : Coordinator) (reads : Bool) → IsLawful s → IsStepRun s past
     → AllTimely s past → coordinator_in s past ≡ c → c.phase ≡ Counting reads → LowIn s past c.current.version.0
 low_in s past c reads laws run timely is at =
     subst (λ (d : Coordinator). LowIn s past d.current.version.0) is
@@ -155,8 +155,8 @@ sent_at_least s past e number v p q b lt now (SendsAsked w k node bd sent same) 
 sent_at_least s past e number v p q b lt now (SendsOrders tells at made) = orders_at_least s past e number v p q b made
 
 -- a pair that differs does so after any entry, with these rows of requests
-differs_goes : (s : ScriptData) (past : List Entry) (e : Entry) (r : RoundData) (ks : Kept) → Lawful s
-    → StepRun s (e ∷ past) → AllTimely s (e ∷ past)
+differs_goes : (s : ScriptData) (past : List Entry) (e : Entry) (r : RoundData) (ks : Kept) → IsLawful s
+    → IsStepRun s (e ∷ past) → AllTimely s (e ∷ past)
     → LowIn s (e ∷ past) r.version.0 → (x : Differs s past r)
     → ((row : List ℕ) → slice_get ks x.p ≡ Some (Some row) → x.b ≤ slice_index row x.q)
     → Differs s (e ∷ past) (record r { askeds = ks })
@@ -173,8 +173,8 @@ differs_goes s past e r ks laws run timely low x kept = record {
   kept = kept;
 }
 
-found_goes : (s : ScriptData) (past : List Entry) (e : Entry) (r : RoundData) (ks : Kept) → Lawful s
-    → StepRun s (e ∷ past) → AllTimely s (e ∷ past)
+found_goes : (s : ScriptData) (past : List Entry) (e : Entry) (r : RoundData) (ks : Kept) → IsLawful s
+    → IsStepRun s (e ∷ past) → AllTimely s (e ∷ past)
     → Closed s past r.version.0 → LowIn s (e ∷ past) r.version.0
     → ((x : Differs s past r) (row : List ℕ) → slice_get ks x.p ≡ Some (Some row) → x.b ≤ slice_index row x.q)
     → IsSilent s past r.version.0 ⊎ Differs s past r
@@ -185,8 +185,8 @@ found_goes s past e r ks laws run timely closed low kept (inr x) =
     inr (differs_goes s past e r ks laws run timely low x (kept x))
 
 -- a round goes on, with these rows of requests
-round_goes : (s : ScriptData) (past : List Entry) (e : Entry) (r : RoundData) (ks : Kept) → Lawful s
-    → StepRun s (e ∷ past) → AllTimely s (e ∷ past)
+round_goes : (s : ScriptData) (past : List Entry) (e : Entry) (r : RoundData) (ks : Kept) → IsLawful s
+    → IsStepRun s (e ∷ past) → AllTimely s (e ∷ past)
     → Closed s past r.version.0 → LowIn s (e ∷ past) r.version.0
     → ((q : ℕ) → going (first_wave r.number q) s (e ∷ past) ≤ going (first_wave r.number q) s past)
     → going (second_wave r.number) s (e ∷ past) ≤ going (second_wave r.number) s past
@@ -254,7 +254,7 @@ clean_letter number v p q b from to (AskedRow w k row) none = λ ks ws is. absur
 clean_letter number v p q b from to _ none = tt
 
 -- once all completions are in: the version is silent, or a pair has a letter under way, and differs
-at_last : (s : ScriptData) (past : List Entry) (r : RoundData) → Lawful s → StepRun s past → AllTimely s past
+at_last : (s : ScriptData) (past : List Entry) (r : RoundData) → IsLawful s → IsStepRun s past → AllTimely s past
     → LowIn s past r.version.0
     → ((q : ℕ) (row : List ℕ) → q < s.nodes → slice_get r.dones q ≡ Some (Some row) → (p : ℕ) → p < s.nodes
     → slice_index row p ≤ (node_in s past q).counts.done r.version.0 p)
@@ -284,7 +284,7 @@ at_last s past r laws run timely low rows letters clear (inr (p, q, lp, lq, some
 -- the rows of completions that are kept then
 row_kept_by : (s : ScriptData) (past : List Entry) (e : Entry) (r : RoundData) (v : Version) (k : ℕ) (row : List ℕ)
     (q : ℕ) (row' : List ℕ)
-    → Lawful s → StepRun s (e ∷ past) → AllTimely s (e ∷ past) → LowIn s (e ∷ past) r.version.0 → Round s past r
+    → IsLawful s → IsStepRun s (e ∷ past) → AllTimely s (e ∷ past) → LowIn s (e ∷ past) r.version.0 → Round s past r
     → e.took.body ≡ DoneRow v k row
     → v.0 ≡ r.version.0 → q < s.nodes
     → ((e.took.from.0 ≡ q) × (Some row ≡ Some row')) ⊎ (slice_get r.dones q ≡ Some (Some row')) → (p : ℕ) → p < s.nodes
@@ -340,7 +340,7 @@ done_found s past e r v k row false m was places bd ks lt rest missing = rest mi
 -- the round takes a row of completions
 round_takes : (s : ScriptData) (past : List Entry) (e : Entry) (r : RoundData) (n : ℕ) (v : Version) (k : ℕ)
     (row : List ℕ)
-    → Lawful s → StepRun s (e ∷ past) → AllTimely s (e ∷ past) → LowIn s (e ∷ past) r.version.0 → Round s past r
+    → IsLawful s → IsStepRun s (e ∷ past) → AllTimely s (e ∷ past) → LowIn s (e ∷ past) r.version.0 → Round s past r
     → length r.dones ≡ s.nodes → e.took.body ≡ DoneRow v k row → v.0 ≡ r.version.0 → k ≡ r.number
     → e.took.from.0 < s.nodes → MadeByCoordinator s past e
     → e.sent ≡ (if all_in (slice_set r.dones e.took.from.0 (Some row)) && not (all_in r.dones) then to_nodes n
@@ -451,7 +451,7 @@ asked_at_least s past e r v k row row' x m bd vs ks at =
 abbrev pub Rounds : ScriptData → List Entry → Coordinator → Type 0
 Rounds s past c = (reads : Bool) → c.phase ≡ Counting reads → Round s past c.current
 
-rounds_away : (s : ScriptData) (past : List Entry) (e : Entry) → Lawful s → StepRun s (e ∷ past)
+rounds_away : (s : ScriptData) (past : List Entry) (e : Entry) → IsLawful s → IsStepRun s (e ∷ past)
     → AllTimely s (e ∷ past) → e.actor.0 ≢ s.nodes → Rounds s past (coordinator_in s past)
     → Rounds s (e ∷ past) (coordinator_in s (e ∷ past))
 rounds_away s past e laws run timely away was =
@@ -468,7 +468,7 @@ rounds_away s past e laws run timely away was =
     (λ missing none. none) (λ x row at'. x.kept row at') (was reads at))
 
 -- what the coordinator's step makes of its round
-rounds_by : (s : ScriptData) (past : List Entry) (e : Entry) (o : Out Coordinator) → Lawful s → StepRun s (e ∷ past)
+rounds_by : (s : ScriptData) (past : List Entry) (e : Entry) (o : Out Coordinator) → IsLawful s → IsStepRun s (e ∷ past)
     → AllTimely s (e ∷ past) → MadeByCoordinator s past e → coordinator_in s (e ∷ past) ≡ o.state → e.sent ≡ o.sent
     → Rounds s past (coordinator_in s past) → RoundStep (coordinator_in s past) e.took.from.0 e.took.body o
     → Rounds s (e ∷ past) o.state
@@ -524,7 +524,7 @@ rounds_by s past e o laws run timely made now sent was (TakesRequests reads v k 
     (λ missing clear. absurd (cc (missing, takes.after_dones)))
     (λ x row' at''. asked_at_least s past e r v k row row' x run.0 takes.body_is parts.0 parts.1 at'') (was other at'))
 
-rounds_next : (s : ScriptData) (past : List Entry) (e : Entry) → Lawful s → StepRun s (e ∷ past)
+rounds_next : (s : ScriptData) (past : List Entry) (e : Entry) → IsLawful s → IsStepRun s (e ∷ past)
     → AllTimely s (e ∷ past)
     → Rounds s past (coordinator_in s past) → Sending s past e → Rounds s (e ∷ past) (coordinator_in s (e ∷ past))
 rounds_next s past e laws run timely was (SendsApart away plain all) = rounds_away s past e laws run timely away was
@@ -538,7 +538,7 @@ rounds_next s past e laws run timely was (SendsOrders tells at made) =
     laws run timely made made.state made.sent was
     (step_in s past e laws run.1 timely.1))
 
-pub rounds : (s : ScriptData) (past : List Entry) → Lawful s → StepRun s past → AllTimely s past
+pub rounds : (s : ScriptData) (past : List Entry) → IsLawful s → IsStepRun s past → AllTimely s past
     → Rounds s past (coordinator_in s past)
 rounds s [] laws run timely = λ reads at. absurd (counts_not Idle reads tt at)
 rounds s (e ∷ past) laws run timely =
@@ -592,7 +592,7 @@ silent_by s past e r v k row m bd vs ks nodes places verdict (inr x) =
 
 -- where the verdict is given that all pairs agree, the version is silent
 pub agrees_silent : (s : ScriptData) (past : List Entry) (e : Entry) (reads : Bool) (v : Version) (k : ℕ) (row : List ℕ)
-    → Lawful s → StepRun s (e ∷ past) → AllTimely s past
+    → IsLawful s → IsStepRun s (e ∷ past) → AllTimely s past
     → TakesAsked (coordinator_in s past) e.took.from.0 e.took.body reads v k row
     → verdict_of (with_asked e.took.from.0 row (coordinator_in s past).current) ≡ Some true
     → IsSilent s past (counted reads (coordinator_in s past)).0

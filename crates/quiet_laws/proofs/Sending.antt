@@ -24,10 +24,10 @@ use Rattle.tx_trees.specs.declared.parts.Sub.{Sub}
 use Rattle.node_step.specs.Advancing.{to_coordinator}
 use Rattle.client_rows.specs.Client.{Client, rows_letters, submit, submitted, with_answer, with_end, nudge}
 use Rattle.world_model.specs.Counts.{Each, tally}
-use Rattle.world_model.specs.Runs.{client_in, node_in, StepRun}
+use Rattle.world_model.specs.Runs.{client_in, node_in, IsStepRun}
 use Rattle.world_model.specs.Timely.{AllTimely}
 use Rattle.world_model.proofs.Every.{each_append, each_map, each_none}
-use Rattle.world_model.proofs.Lawful.{Lawful}
+use Rattle.world_model.proofs.Lawful.{IsLawful}
 use Rattle.world_model.proofs.Nexts.{Next, Begins, Hears, Ends, Coordinates, DoesRoot, DoesSub, Notes, Obeys, Made, MadeByCoordinator, Order, Turns, Shows, Sweeps, TellsDone, TellsAsked, Tells}
 
 -- no letter of a round
@@ -167,7 +167,7 @@ sending_by s past e (Obeys p out at lt order made) =
     (subst (λ (n : ℕ). Made s past e n out) (sym at) made)
 
 -- each entry of a run
-pub sending : (s : ScriptData) (past : List Entry) (e : Entry) → Lawful s → StepRun s (e ∷ past)
+pub sending : (s : ScriptData) (past : List Entry) (e : Entry) → IsLawful s → IsStepRun s (e ∷ past)
     → AllTimely s (e ∷ past)
     → Sending s past e
 sending s past e laws run timely = sending_by s past e (laws.next past e run timely)

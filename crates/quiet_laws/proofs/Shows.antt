@@ -12,10 +12,10 @@ use Rattle.advance_coord.specs.Coordinator.{Coordinator, version, to_nodes, coun
 use Rattle.advance_coord.specs.declared.phase.Phase.{Phase}
 use Rattle.advance_coord.specs.declared.phase.Phase.TheVariants.{Counting}
 use Rattle.world_model.specs.Counts.{Each}
-use Rattle.world_model.specs.Runs.{coordinator_in, node_in, StepRun}
+use Rattle.world_model.specs.Runs.{coordinator_in, node_in, IsStepRun}
 use Rattle.world_model.specs.Timely.{AllTimely}
 use Rattle.world_model.proofs.Every.{each_map}
-use Rattle.world_model.proofs.Lawful.{Lawful}
+use Rattle.world_model.proofs.Lawful.{IsLawful}
 use Rattle.world_model.proofs.Orders.{to_nodes_each}
 use Rattle.phase_laws.proofs.Levels.{Level, Levels, levels, tells}
 use Rattle.phase_laws.proofs.Outcomes.{Outcome, Rests, Queues, Flags, Turns, Acks, LastTurned, LastShown, Finishes, GoesOn, Resumes, KeepsDone, KeepsAsked, Agrees, Recounts, Pauses, asked_kept}
@@ -66,7 +66,7 @@ end_given s past true d all up at silent =
       above = λ p lt. let level = level_in s past p (Counting true) all lt at in omega (arith, level, up);
     })
 
-given_by : (s : ScriptData) (past : List Entry) (e : Entry) (out : Out Coordinator) → Lawful s → StepRun s (e ∷ past)
+given_by : (s : ScriptData) (past : List Entry) (e : Entry) (out : Out Coordinator) → IsLawful s → IsStepRun s (e ∷ past)
     → AllTimely s past
     → Outcome (coordinator_in s past) e.took.from.0 e.took.body out → Given s past out.sent
 given_by s past e out laws run timely (Rests phase at ignored is) =
@@ -123,7 +123,7 @@ apart_given s past (Show v) apart = absurd apart
 apart_given s past (Sweep v) apart = absurd apart
 apart_given s past _ apart = tt
 
-given_next : (s : ScriptData) (past : List Entry) (e : Entry) → Lawful s → StepRun s (e ∷ past) → AllTimely s past
+given_next : (s : ScriptData) (past : List Entry) (e : Entry) → IsLawful s → IsStepRun s (e ∷ past) → AllTimely s past
     → Sending s past e
     → Given s past e.sent
 given_next s past e laws run timely (SendsApart away plain all) =
@@ -137,7 +137,7 @@ given_next s past e laws run timely (SendsOrders tells at made) =
     (outcome_in s past e laws run.1 timely))
 
 -- in every run
-pub given_in_quiet : (s : ScriptData) (past : List Entry) (e : Entry) → Lawful s → StepRun s (e ∷ past)
+pub given_in_quiet : (s : ScriptData) (past : List Entry) (e : Entry) → IsLawful s → IsStepRun s (e ∷ past)
     → AllTimely s (e ∷ past)
     → Each (λ (o : Outgoing). IsGivenInQuiet s past o.body) e.sent
 given_in_quiet s past e laws run timely = given_next s past e laws run timely.1 (sending s past e laws run timely)

@@ -18,11 +18,11 @@ use Rattle.tx_trees.specs.declared.parts.ScriptRow.{ScriptRow}
 use Rattle.tx_trees.specs.declared.parts.ScriptRow.TheVariants.{Tree as TreeRow, Advance as AdvanceRow, Settle as SettleRow, Lose as LoseRow}
 use Rattle.client_rows.specs.Client.{Client, rows_letters, submit, submitted, with_answer, with_end, nudge}
 use Rattle.world_model.specs.Counts.{Each, tally}
-use Rattle.world_model.specs.Runs.{client_in, coordinator_in, node_in, waiting, MayFollow, StepRun}
+use Rattle.world_model.specs.Runs.{client_in, coordinator_in, node_in, waiting, MayFollow, IsStepRun}
 use Rattle.world_model.specs.Timely.{AllTimely}
 use Rattle.world_model.proofs.Bags.{tally-drop}
 use Rattle.world_model.proofs.Every.{each_append, each_map, each_none}
-use Rattle.world_model.proofs.Lawful.{Lawful}
+use Rattle.world_model.proofs.Lawful.{IsLawful}
 use Rattle.world_model.proofs.Nexts.{Next, Begins, Hears, Ends, Coordinates, DoesRoot, DoesSub, Notes, Obeys, Order, Turns, Shows, Sweeps, TellsDone, TellsAsked, RootWork, RootUpdates, RootReads}
 use Rattle.world_model.proofs.Orders.{coordinator_each}
 use Rattle.quiet_laws.specs.Balance.{version_is, goes_from, out}
@@ -162,7 +162,7 @@ uncounted : (a v p q : ℕ) (o : Outgoing) → version_is v o.body ≡ false →
 uncounted a v p q o is = rw is refl
 
 -- a silent version that is closed stays silent
-pub silent_stays : (s : ScriptData) (past : List Entry) (e : Entry) (v : ℕ) → Lawful s → StepRun s (e ∷ past)
+pub silent_stays : (s : ScriptData) (past : List Entry) (e : Entry) (v : ℕ) → IsLawful s → IsStepRun s (e ∷ past)
     → AllTimely s (e ∷ past)
     → IsSilent s past v → Closed s past v → IsSilent s (e ∷ past) v
 silent_stays s past e v laws run timely silent closed = λ p q lp lq.
@@ -174,14 +174,14 @@ silent_stays s past e v laws run timely silent closed = λ p q lp lq.
     omega (arith, flow s past e v p q run.0, silent p q lp lq, sent)
 
 -- Counters only grow, but for what is swept.
-pub done_grows : (s : ScriptData) (past : List Entry) (e : Entry) (q v p : ℕ) → Lawful s → StepRun s (e ∷ past)
+pub done_grows : (s : ScriptData) (past : List Entry) (e : Entry) (q v p : ℕ) → IsLawful s → IsStepRun s (e ∷ past)
     → AllTimely s (e ∷ past)
     → q < s.nodes → (node_in s (e ∷ past) q).turns.low.0 ≤ v
     → (node_in s past q).counts.done v p ≤ (node_in s (e ∷ past) q).counts.done v p
 done_grows s past e q v p laws run timely lt low =
     let counts = counts_of s past e v laws run timely in omega (arith, counts.done p q lt low)
 
-pub asked_grows : (s : ScriptData) (past : List Entry) (e : Entry) (p v q : ℕ) → Lawful s → StepRun s (e ∷ past)
+pub asked_grows : (s : ScriptData) (past : List Entry) (e : Entry) (p v q : ℕ) → IsLawful s → IsStepRun s (e ∷ past)
     → AllTimely s (e ∷ past)
     → p < s.nodes → (node_in s (e ∷ past) p).turns.low.0 ≤ v
     → (node_in s past p).counts.asked v q ≤ (node_in s (e ∷ past) p).counts.asked v q

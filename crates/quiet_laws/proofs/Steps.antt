@@ -18,10 +18,10 @@ use Rattle.tree_step.specs.Node.{Node}
 use Rattle.advance_coord.specs.Coordinator.{Coordinator, version, to_nodes, counted, end_count, keep_done, coordinator_row}
 use Rattle.advance_coord.specs.declared.phase.Phase.TheVariants.{Counting}
 use Rattle.world_model.specs.Counts.{Each}
-use Rattle.world_model.specs.Runs.{coordinator_in, node_in, waiting, StepRun}
+use Rattle.world_model.specs.Runs.{coordinator_in, node_in, waiting, IsStepRun}
 use Rattle.world_model.specs.Timely.{AllTimely}
 use Rattle.world_model.proofs.Every.{coordinator_kept, each_map, each_step, each_taken}
-use Rattle.world_model.proofs.Lawful.{Lawful}
+use Rattle.world_model.proofs.Lawful.{IsLawful}
 use Rattle.world_model.proofs.Orders.{coordinator_each, to_nodes_each}
 use Rattle.phase_laws.proofs.Outcomes.{Outcome, Rests, Queues, Flags, Turns, Acks, LastTurned, LastShown, Finishes, GoesOn, Resumes, KeepsDone, KeepsAsked, Agrees, Recounts, Pauses, TakesAsked, asked_kept, round_begun}
 use Rattle.phase_laws.proofs.Current.{IsElse}
@@ -90,7 +90,7 @@ round_step c from body out (Pauses reads v k row takes verdict flag is) =
     subst (λ (o : Out Coordinator). RoundStep c from body o) (sym is) (Leaves tt refl refl tt)
 
 -- the step of an entry of the coordinator
-pub step_in : (s : ScriptData) (past : List Entry) (e : Entry) → Lawful s → StepRun s past → AllTimely s past
+pub step_in : (s : ScriptData) (past : List Entry) (e : Entry) → IsLawful s → IsStepRun s past → AllTimely s past
     → RoundStep (coordinator_in s past) e.took.from.0 e.took.body
     (coordinator_row (coordinator_in s past) e.took.from.0 e.took.body)
 step_in s past e laws run timely =
@@ -122,8 +122,8 @@ RowBody s past q (DoneRow w k row) =
     → slice_index row p ≤ (node_in s past q).counts.done w.0 p
 RowBody s past q _ = Unit {0}
 
-pub row_later : (s : ScriptData) (past : List Entry) (e : Entry) (q : ℕ) (body : Body) → Lawful s
-    → StepRun s (e ∷ past) → AllTimely s (e ∷ past)
+pub row_later : (s : ScriptData) (past : List Entry) (e : Entry) (q : ℕ) (body : Body) → IsLawful s
+    → IsStepRun s (e ∷ past) → AllTimely s (e ∷ past)
     → RowBody s past q body → RowBody s (e ∷ past) q body
 row_later s past e q (DoneRow w k row) laws run timely ok = λ hq p hp low.
     let rise = low_rises s past e q laws run timely hq in
@@ -163,7 +163,7 @@ rows_sent s past e (SendsOrders tells at made) =
       advanced = λ v i. tt;
     }) e.took.from.0 e.took.body)
 
-pub rows_true : (s : ScriptData) (past : List Entry) → Lawful s → StepRun s past → AllTimely s past
+pub rows_true : (s : ScriptData) (past : List Entry) → IsLawful s → IsStepRun s past → AllTimely s past
     → Each (λ (l : Letter). RowBody s past l.from.0 l.body) (waiting s past)
 rows_true s [] laws run timely = (tt, tt)
 rows_true s (e ∷ past) laws run timely =
@@ -248,7 +248,7 @@ fresh_kept s past e away was sent =
       letters = each_step (λ (l : Letter). round_of l.body ≤ (coordinator_in s past).round) s past e was.letters sent;
     })
 
-fresh_next : (s : ScriptData) (past : List Entry) (e : Entry) → Lawful s → StepRun s (e ∷ past) → AllTimely s past
+fresh_next : (s : ScriptData) (past : List Entry) (e : Entry) → IsLawful s → IsStepRun s (e ∷ past) → AllTimely s past
     → Fresh s past (coordinator_in s past) → Sending s past e → Fresh s (e ∷ past) (coordinator_in s (e ∷ past))
 fresh_next s past e laws run timely was (SendsApart away plain all) =
     fresh_kept s past e away was (plain_up_to (coordinator_in s past).round e.sent
@@ -279,7 +279,7 @@ fresh_next s past e laws run timely was (SendsOrders tells at made) =
           (subst (UpTo out.state.round) (sym made.sent) next.sent);
     })
 
-pub fresh : (s : ScriptData) (past : List Entry) → Lawful s → StepRun s past → AllTimely s past
+pub fresh : (s : ScriptData) (past : List Entry) → IsLawful s → IsStepRun s past → AllTimely s past
     → Fresh s past (coordinator_in s past)
 fresh s [] laws run timely = record { number = omega arith; letters = (omega arith, tt) }
 fresh s (e ∷ past) laws run timely =

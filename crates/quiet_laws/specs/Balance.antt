@@ -31,7 +31,7 @@ HasLeft s past v p = v < (node_in s past p).turns.low.0
 
 -- in a version that both still count, the requests of p to q are the completions of q from p and the counted letters
 -- under way; in a version that one of them has left, no counted letter is under way
-pub record Balanced (s : ScriptData) (past : List Entry) : Type 0 where
+pub record IsBalanced (s : ScriptData) (past : List Entry) : Type 0 where
   pub equal : (v p q : ℕ) → p < s.nodes → q < s.nodes
       → (node_in s past p).turns.low.0 ≤ v → (node_in s past q).turns.low.0 ≤ v
       → (node_in s past p).counts.asked v q ≡ (node_in s past q).counts.done v p + out s past v p q

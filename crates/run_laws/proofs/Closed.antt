@@ -12,12 +12,12 @@ use Rattle.tx_trees.specs.ScriptData.{ScriptData, is_read, is_update}
 use Rattle.tx_trees.specs.declared.parts.Tree.{Tree}
 use Rattle.board_model.specs.Histories.{IsWhole, places_at, places_of, version_in}
 use Rattle.world_model.specs.Counts.{Each, tally}
-use Rattle.world_model.specs.Runs.{StepRun, coordinator_in, waiting}
+use Rattle.world_model.specs.Runs.{IsStepRun, coordinator_in, waiting}
 use Rattle.world_model.specs.Timely.{AllTimely}
 use Rattle.world_model.proofs.Every.{coordinator_kept, each_both, each_map}
-use Rattle.world_model.proofs.Lawful.{Lawful}
+use Rattle.world_model.proofs.Lawful.{IsLawful}
 use Rattle.world_model.proofs.Nexts.{Next, Begins, Hears, Ends, Coordinates, DoesRoot, DoesSub, Notes, Obeys}
-use Rattle.world_model.proofs.Scripts.{Sound, SubAt, get_below}
+use Rattle.world_model.proofs.Scripts.{IsSound, SubAt, get_below}
 use Rattle.tree_laws.specs.Dids.{dids}
 use Rattle.tree_laws.proofs.Counts.{at_most_once}
 use Rattle.tree_laws.proofs.Goods.{good_run}
@@ -33,7 +33,7 @@ use Rattle.run_laws.proofs.Reached.{Reaches, Same, Closes, now_below, step_reach
 use Rattle.run_laws.proofs.Wholes.{born_by, born_split, born_with, is_of_kind}
 
 -- a tree all of whose subtransactions are done is whole
-pub is_whole_of : (s : ScriptData) (past : List Entry) (t : ℕ) → Sound s → StepRun s past → AllTimely s past → t < length s.trees
+pub is_whole_of : (s : ScriptData) (past : List Entry) (t : ℕ) → IsSound s → IsStepRun s past → AllTimely s past → t < length s.trees
     → ((k : ℕ) → SubAt s t k → 1 ≤ dids past t k) → IsWhole s (reverse past) t
 is_whole_of s past t sound run timely lt done =
     let good = good_run s past sound run timely in
@@ -66,7 +66,7 @@ Bounds s past (Sweep v) = now_below true s past ≡ v.0
 Bounds s past Go = Unit {0}
 Bounds s past _ = Unit {0}
 
-bounds_of : (s : ScriptData) (past : List Entry) (b : Body) → Lawful s → StepRun s past → AllTimely s past
+bounds_of : (s : ScriptData) (past : List Entry) (b : Body) → IsLawful s → IsStepRun s past → AllTimely s past
     → LevelBody s (coordinator_in s past).phase (coordinator_in s past).update b
     → token ShowStage b ≤ under_way (token ShowStage) s past → token SweepStage b ≤ under_way (token SweepStage) s past → Bounds s past b
 bounds_of s past (Show v) laws run timely level shows sweeps =
@@ -83,7 +83,7 @@ bounds_of s past Go laws run timely level shows sweeps = tt
 bounds_of s past _ laws run timely level shows sweeps = tt
 
 -- each letter under way
-all_bounds : (s : ScriptData) (past : List Entry) → Lawful s → StepRun s past → AllTimely s past
+all_bounds : (s : ScriptData) (past : List Entry) → IsLawful s → IsStepRun s past → AllTimely s past
     → Each (λ (l : Letter). Bounds s past l.body) (waiting s past)
 all_bounds s past laws run timely =
     let c = coordinator_in s past in
@@ -96,7 +96,7 @@ all_bounds s past laws run timely =
     (λ (l : Letter). token SweepStage l.body ≤ under_way (token SweepStage) s past) (waiting s past) shows sweeps))
 
 -- so the trees behind it are whole
-backed : (s : ScriptData) (past : List Entry) (b : Body) → Sound s → StepRun s past → AllTimely s past → Bounds s past b
+backed : (s : ScriptData) (past : List Entry) (b : Body) → IsSound s → IsStepRun s past → AllTimely s past → Bounds s past b
     → IsBackedBy s (reverse past) b
 backed s past (Show v) sound run timely bound = λ t w up born le.
     is_whole_of s past t sound run timely (update_there s t (slice_get s.trees t) refl up)
@@ -107,7 +107,7 @@ backed s past (Sweep v) sound run timely bound = λ t w read born lt.
 backed s past Go sound run timely bound = tt
 backed s past _ sound run timely bound = tt
 
-pub shown_is_backed : (s : ScriptData) (past : List Entry) → Sound s → StepRun s past → AllTimely s past
+pub shown_is_backed : (s : ScriptData) (past : List Entry) → IsSound s → IsStepRun s past → AllTimely s past
     → Each (λ (l : Letter). IsBackedBy s (reverse past) l.body) (waiting s past)
 shown_is_backed s past sound run timely =
     each_map (λ (l : Letter). Bounds s past l.body) (λ (l : Letter). IsBackedBy s (reverse past) l.body) (waiting s past)
@@ -131,7 +131,7 @@ kept_level kind s past e same =
     omega (arith, eq)
 
 -- it never falls
-pub rises : (kind : Bool) (s : ScriptData) (past : List Entry) (e : Entry) → Lawful s → StepRun s past → AllTimely s past → Next s past e
+pub rises : (kind : Bool) (s : ScriptData) (past : List Entry) (e : Entry) → IsLawful s → IsStepRun s past → AllTimely s past → Next s past e
     → now_below kind s past ≤ now_below kind s (e ∷ past)
 rises kind s past e laws run timely (Coordinates tells at made) =
     step_rises kind s past e (now_below kind s (e ∷ past)) refl (step_reaches kind s past e laws run timely made)
@@ -148,7 +148,7 @@ rises kind s past e laws run timely (Notes t k v values is c later from at lt mi
 rises kind s past e laws run timely (Obeys p out at lt order made) =
     kept_level kind s past e (coordinator_kept s past e (omega (arith, at, lt)))
 
-pub rises_on : (kind : Bool) (s : ScriptData) (past later : List Entry) → Lawful s → StepRun s (later ++ past) → AllTimely s (later ++ past)
+pub rises_on : (kind : Bool) (s : ScriptData) (past later : List Entry) → IsLawful s → IsStepRun s (later ++ past) → AllTimely s (later ++ past)
     → now_below kind s past ≤ now_below kind s (later ++ past)
 rises_on kind s past [] laws run timely = omega arith
 rises_on kind s past (e ∷ later) laws run timely =
@@ -158,8 +158,8 @@ rises_on kind s past (e ∷ later) laws run timely =
       rises kind s (later ++ past) e laws run.1 timely.1 (laws.next (later ++ past) e run timely),
     )
 
-came_by : (kind : Bool) (s : ScriptData) (past later : List Entry) (e : Entry) (t : ℕ) (w : Version) → Lawful s
-    → StepRun s (e ∷ later ++ past) → AllTimely s (e ∷ later ++ past) → is_of_kind kind s t ≡ true → w.0 < now_below kind s past
+came_by : (kind : Bool) (s : ScriptData) (past later : List Entry) (e : Entry) (t : ℕ) (w : Version) → IsLawful s
+    → IsStepRun s (e ∷ later ++ past) → AllTimely s (e ∷ later ++ past) → is_of_kind kind s t ≡ true → w.0 < now_below kind s past
     → (born_with (later ++ past) t ≡ Some w → born_with past t ≡ Some w)
     → (born_with (later ++ past) t ≡ Some w) ⊎ (version_in t (places_at e) ≡ Some w) → born_with past t ≡ Some w
 came_by kind s past later e t w laws run timely of lt before (inl old) = before old
@@ -175,7 +175,7 @@ came_by kind s past later e t w laws run timely of lt before (inr new) =
     ))
 
 -- no tree of the kind comes to a version below it
-pub none_came : (kind : Bool) (s : ScriptData) (past later : List Entry) (t : ℕ) (w : Version) → Lawful s → StepRun s (later ++ past)
+pub none_came : (kind : Bool) (s : ScriptData) (past later : List Entry) (t : ℕ) (w : Version) → IsLawful s → IsStepRun s (later ++ past)
     → AllTimely s (later ++ past) → is_of_kind kind s t ≡ true → w.0 < now_below kind s past → born_with (later ++ past) t ≡ Some w
     → born_with past t ≡ Some w
 none_came kind s past [] t w laws run timely of lt born = born
@@ -184,7 +184,7 @@ none_came kind s past (e ∷ later) t w laws run timely of lt born =
     (λ old. none_came kind s past later t w laws run.1 timely.1 of lt old)
     (born_split t (places_of (reverse (later ++ past))) (places_at e) w (sym (ap (version_in t) (places_more e (later ++ past))) ∙ born))
 
-closed_by : (s : ScriptData) (past later : List Entry) (b : Body) → Lawful s → StepRun s (later ++ past) → AllTimely s (later ++ past)
+closed_by : (s : ScriptData) (past later : List Entry) (b : Body) → IsLawful s → IsStepRun s (later ++ past) → AllTimely s (later ++ past)
     → Bounds s past b → IsClosedBy s (reverse past) (reverse (later ++ past)) b
 closed_by s past later (Show v) laws run timely bound = λ t w up born le.
     none_came false s past later t w laws run timely up (omega (arith, bound, le)) born
@@ -193,7 +193,7 @@ closed_by s past later (Sweep v) laws run timely bound = λ t w read born lt.
 closed_by s past later Go laws run timely bound = tt
 closed_by s past later _ laws run timely bound = tt
 
-pub run_before : (s : ScriptData) (past later : List Entry) → StepRun s (later ++ past) → StepRun s past
+pub run_before : (s : ScriptData) (past later : List Entry) → IsStepRun s (later ++ past) → IsStepRun s past
 run_before s past [] run = run
 run_before s past (e ∷ later) run = run_before s past later run.1
 
@@ -201,7 +201,7 @@ pub timely_before : (s : ScriptData) (past later : List Entry) → AllTimely s (
 timely_before s past [] timely = timely
 timely_before s past (e ∷ later) timely = timely_before s past later timely.1
 
-pub shown_is_closed : (s : ScriptData) (past later : List Entry) → Sound s → StepRun s (later ++ past) → AllTimely s (later ++ past)
+pub shown_is_closed : (s : ScriptData) (past later : List Entry) → IsSound s → IsStepRun s (later ++ past) → AllTimely s (later ++ past)
     → Each (λ (l : Letter). IsClosedBy s (reverse past) (reverse (later ++ past)) l.body) (waiting s past)
 shown_is_closed s past later sound run timely =
     let laws = lawful s sound in

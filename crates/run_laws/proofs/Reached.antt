@@ -11,12 +11,12 @@ use Rattle.phase_out.specs.Rounds.{verdict_of}
 use Rattle.advance_coord.specs.Coordinator.{with_asked}
 use Rattle.tx_trees.specs.ScriptData.{ScriptData}
 use Rattle.board_model.specs.Histories.{Place, places_at, places_of, version_in}
-use Rattle.world_model.specs.Runs.{StepRun, coordinator_in, node_in}
+use Rattle.world_model.specs.Runs.{IsStepRun, coordinator_in, node_in}
 use Rattle.world_model.specs.Timely.{AllTimely}
 use Rattle.world_model.proofs.Every.{coordinator_kept}
-use Rattle.world_model.proofs.Lawful.{Lawful}
+use Rattle.world_model.proofs.Lawful.{IsLawful}
 use Rattle.world_model.proofs.Nexts.{Next, Begins, Hears, Ends, Coordinates, DoesRoot, DoesSub, Notes, Obeys, MadeByCoordinator}
-use Rattle.world_model.proofs.Scripts.{Sound, SubAt}
+use Rattle.world_model.proofs.Scripts.{IsSound, SubAt}
 use Rattle.tree_laws.specs.Dids.{dids}
 use Rattle.tree_laws.proofs.Goods.{good_run}
 use Rattle.tree_laws.proofs.Nudges.{lawful}
@@ -175,7 +175,7 @@ reaches kind c from body out one (Pauses reads v k row takes differs flag is) =
     Same (ap (BelowOut kind) is ∙ sym (to_counting kind reads c.update) ∙ sym (at_phase kind c (Counting reads) takes.phase))
 
 -- the coordinator's step in a run
-pub step_reaches : (kind : Bool) (s : ScriptData) (past : List Entry) (e : Entry) → Lawful s → StepRun s past → AllTimely s past
+pub step_reaches : (kind : Bool) (s : ScriptData) (past : List Entry) (e : Entry) → IsLawful s → IsStepRun s past → AllTimely s past
     → MadeByCoordinator s past e
     → Reaches kind (coordinator_in s past) e.took.from.0 e.took.body (coordinator_row (coordinator_in s past) e.took.from.0 e.took.body)
 step_reaches kind s past e laws run timely made =
@@ -183,8 +183,8 @@ step_reaches kind s past e laws run timely made =
     (levels s past laws run timely).first (outcome_in s past e laws run timely)
 
 -- trees of the version of a round that says yes are whole
-closing : (kind : Bool) (s : ScriptData) (past : List Entry) (e : Entry) (v : Version) (k : ℕ) (row : List ℕ) → Sound s
-    → StepRun s (e ∷ past) → AllTimely s (e ∷ past) → e.actor.0 ≡ s.nodes
+closing : (kind : Bool) (s : ScriptData) (past : List Entry) (e : Entry) (v : Version) (k : ℕ) (row : List ℕ) → IsSound s
+    → IsStepRun s (e ∷ past) → AllTimely s (e ∷ past) → e.actor.0 ≡ s.nodes
     → TakesAsked (coordinator_in s past) e.took.from.0 e.took.body kind v k row
     → verdict_of (with_asked e.took.from.0 row (coordinator_in s past).current) ≡ Some true
     → whole_below kind (coordinator_in s past).phase (coordinator_in s past).update ≡ (counted kind (coordinator_in s past)).0
@@ -214,7 +214,7 @@ no_births s past e t w none born = born_before t (places_of (reverse past)) (pla
       born_before t xs ys w is (inl old) = old
       born_before t xs ys w is (inr new) = absurd (let no = rw is at new in cc no)
 
-coordinates_whole : (kind : Bool) (s : ScriptData) (past : List Entry) (e : Entry) → Sound s → StepRun s (e ∷ past) → AllTimely s (e ∷ past)
+coordinates_whole : (kind : Bool) (s : ScriptData) (past : List Entry) (e : Entry) → IsSound s → IsStepRun s (e ∷ past) → AllTimely s (e ∷ past)
     → e.actor.0 ≡ s.nodes → MadeByCoordinator s past e → AreWhole kind s past (now_below kind s past)
     → Reaches kind (coordinator_in s past) e.took.from.0 e.took.body (coordinator_row (coordinator_in s past) e.took.from.0 e.took.body)
     → AreWhole kind s (e ∷ past) (now_below kind s (e ∷ past))
@@ -237,7 +237,7 @@ others_whole kind s past e all next same whole =
     subst (λ (n : ℕ). AreWhole kind s (e ∷ past) n) (sym (ap (λ (c : Coordinator). whole_below kind c.phase c.update) same))
     (kept kind s past e all next whole)
 
-whole_next : (kind : Bool) (s : ScriptData) (past : List Entry) (e : Entry) → Sound s → StepRun s (e ∷ past) → AllTimely s (e ∷ past)
+whole_next : (kind : Bool) (s : ScriptData) (past : List Entry) (e : Entry) → IsSound s → IsStepRun s (e ∷ past) → AllTimely s (e ∷ past)
     → AreWhole kind s past (now_below kind s past) → (next : Next s past e) → AreWhole kind s (e ∷ past) (now_below kind s (e ∷ past))
 whole_next kind s past e sound run timely whole (Coordinates tells at made) =
     coordinates_whole kind s past e sound run timely at made whole
@@ -265,7 +265,7 @@ first_none : (kind : Bool) (s : ScriptData) → AreWhole kind s [] (now_below ki
 first_none kind s = λ t w of born lt k c. let clash : born_with [] t ≡ None = refl in let no : None ≡ Some w = sym clash ∙ born in absurd (cc no)
 
 -- in every past
-pub whole_run : (kind : Bool) (s : ScriptData) (past : List Entry) → Sound s → StepRun s past → AllTimely s past
+pub whole_run : (kind : Bool) (s : ScriptData) (past : List Entry) → IsSound s → IsStepRun s past → AllTimely s past
     → AreWhole kind s past (now_below kind s past)
 whole_run kind s [] sound run timely = first_none kind s
 whole_run kind s (e ∷ past) sound run timely =

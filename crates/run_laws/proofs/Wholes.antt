@@ -21,12 +21,12 @@ use Rattle.board_model.specs.Histories.{Place, born_as, places_at, places_of, ve
 use Rattle.board_model.proofs.Places.{version_in-append}
 use Rattle.world_model.specs.Counts.{Each, one_if, tally}
 use Rattle.world_model.specs.Runs.{client_in, node_in, waiting}
-use Rattle.world_model.proofs.Fits.{Fit}
+use Rattle.world_model.proofs.Fits.{IsFit}
 use Rattle.world_model.proofs.Nexts.{Next, Begins, Hears, Ends, Coordinates, DoesRoot, DoesSub, Notes, Obeys, Order, Turns, Shows, Sweeps, TellsDone, TellsAsked, RootWork, RootUpdates, RootReads}
-use Rattle.world_model.proofs.Scripts.{Sound, SubAt, node_below, sub_there}
+use Rattle.world_model.proofs.Scripts.{IsSound, SubAt, node_below, sub_there}
 use Rattle.tree_laws.specs.Dids.{asks, asked, births, dids}
 use Rattle.tree_laws.proofs.Finishes.{done_below}
-use Rattle.tree_laws.proofs.Good.{Good}
+use Rattle.tree_laws.proofs.Good.{IsGood}
 use Rattle.tree_laws.proofs.Whole.{births_in}
 use Rattle.quiet_laws.specs.Balance.{goes_from, out, version_is}
 use Rattle.quiet_laws.specs.Quiet.{IsSilent}
@@ -70,8 +70,8 @@ asks_by n xs t j u i v w l is born has from to none true at =
     absurd (omega (arith, counted_here v.0 l test, none l.from.0 l.to.0 from to))
 
 -- a letter that asks for a subtransaction of a tree of version v is counted in v
-asks_none_here : (s : ScriptData) (xs : List Place) (t j : ℕ) (v : Version) (l : Letter) (b : Body) → Sound s → l.body ≡ b → 0 < j
-    → version_in t xs ≡ Some v → HasVersion xs b → Fit s l.from.0 l.to.0 b
+asks_none_here : (s : ScriptData) (xs : List Place) (t j : ℕ) (v : Version) (l : Letter) (b : Body) → IsSound s → l.body ≡ b → 0 < j
+    → version_in t xs ≡ Some v → HasVersion xs b → IsFit s l.from.0 l.to.0 b
     → ((p q : ℕ) → p < s.nodes → q < s.nodes → goes_from v.0 p q l ≡ 0) → asks t j b ≡ 0
 asks_none_here s xs t j v l (Root u) sound is more born has fit none = grind (arith, nat_tests)
 asks_none_here s xs t j v l (SubLetter u i w) sound is more born has fit none =
@@ -81,8 +81,8 @@ asks_none_here s xs t j v l Go sound is more born has fit none = refl
 asks_none_here s xs t j v l _ sound is more born has fit none = refl
 
 -- so where none is, none of its trees has a subtransaction asked for
-asks_none : (s : ScriptData) (xs : List Place) (t j : ℕ) (v : Version) (ls : List Letter) → Sound s → 0 < j → version_in t xs ≡ Some v
-    → Each (λ (l : Letter). HasVersion xs l.body) ls → Each (λ (l : Letter). Fit s l.from.0 l.to.0 l.body) ls
+asks_none : (s : ScriptData) (xs : List Place) (t j : ℕ) (v : Version) (ls : List Letter) → IsSound s → 0 < j → version_in t xs ≡ Some v
+    → Each (λ (l : Letter). HasVersion xs l.body) ls → Each (λ (l : Letter). IsFit s l.from.0 l.to.0 l.body) ls
     → ((p q : ℕ) → p < s.nodes → q < s.nodes → tally (goes_from v.0 p q) ls ≡ 0) → tally (λ (l : Letter). asks t j l.body) ls ≡ 0
 asks_none s xs t j v [] sound more born has fits none = refl
 asks_none s xs t j v (l ∷ ls) sound more born has fits none =
@@ -101,7 +101,7 @@ born_once s past t zero v born is =
 born_once s past t (suc n) v born is = omega arith
 
 -- a tree of a version of which nothing is under way is done whole
-pub whole_when_silent : (s : ScriptData) (past : List Entry) (t : ℕ) (v : Version) → Sound s → Good s past → AreVersioned s past
+pub whole_when_silent : (s : ScriptData) (past : List Entry) (t : ℕ) (v : Version) → IsSound s → IsGood s past → AreVersioned s past
     → IsSilent s past v.0 → born_with past t ≡ Some v → (k : ℕ) → SubAt s t k → 1 ≤ dids past t k
 whole_when_silent s past t v sound good are silent born k c =
     let quiet : (j : ℕ) → 0 < j → asked s past t j ≡ 0 = λ j more.

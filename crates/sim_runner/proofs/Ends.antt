@@ -5,7 +5,7 @@ use Rattle.letter_types.specs.declared.entries.Letter.{Letter}
 use Rattle.tx_trees.specs.ScriptData.{ScriptData}
 use Rattle.tx_trees.specs.Valid.{IsValid}
 use Rattle.world_model.specs.Runs.{waiting}
-use Rattle.world_model.specs.Tables.{Runnable}
+use Rattle.world_model.specs.Tables.{IsRunnable}
 use Rattle.headline.proofs.Emptied.{ended_past}
 use Rattle.world_core.specs.Actors.{IsWorldOf, WorldData}
 use Rattle.headline.specs.Ended.{HasEnded}
@@ -18,7 +18,7 @@ none_left (x ∷ xs) le = absurd (omega arith)
 pub bag_is_empty : (s : ScriptData) (w : WorldData) → IsWorldOf s w → length w.bag ≤ 0 → waiting s (reverse w.history) ≡ []
 bag_is_empty s w world none = sym world.bag ∙ none_left w.bag none
 
-pub has_ended : (s : ScriptData) (w : WorldData) → IsWorldOf s w → IsValid s → Runnable s → length w.bag ≤ 0 → HasEnded s w.history
+pub has_ended : (s : ScriptData) (w : WorldData) → IsWorldOf s w → IsValid s → IsRunnable s → length w.bag ≤ 0 → HasEnded s w.history
 has_ended s w world valid runnable none =
     subst (HasEnded s) (reverse-reverse w.history)
     (ended_past s (reverse w.history) world.run valid runnable (bag_is_empty s w world none))

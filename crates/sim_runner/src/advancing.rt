@@ -1,7 +1,7 @@
 // Whole runs of scripts whose versions advance, each letter taken as a picker chooses.
 ghost use Rattle.std.specs.Prelude.{◌≡◌, ◌≤◌, true};
 ghost use Rattle.world_core.specs.Actors.{IsWorldOf};
-ghost use Rattle.world_model.specs.Tables.{Runnable};
+ghost use Rattle.world_model.specs.Tables.{IsRunnable};
 
 use crate::{Hold, Newest, Picker, Picks, Starve, simulate_by};
 use commute_ops::{Amount, Kind, Op, Value};
@@ -152,7 +152,7 @@ fn script_of(alloc: Global, nodes: u8, rows: &[Row]) -> Result<Script, Refusal>
 
 /// Whether the script may be run.
 fn may_run(script: &Script) -> bool
-    ensures { result ≡ true → Runnable script.now }
+    ensures { result ≡ true → IsRunnable script.now }
 {
     let trees = script.trees();
     let rows = script.rows();
@@ -169,7 +169,7 @@ fn take<P: Picker>(
     picker: &mut P,
     most: u32,
 ) -> Result<(), NoMemory>
-    requires runnable { Runnable script.now }
+    requires runnable { IsRunnable script.now }
     requires world { IsWorldOf script.now world.old }
     ensures world { IsWorldOf script.now world.new }
 {

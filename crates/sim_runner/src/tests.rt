@@ -1,5 +1,5 @@
 ghost use Rattle.std.specs.Prelude.{◌≡◌, true};
-ghost use Rattle.world_model.specs.Tables.{Runnable};
+ghost use Rattle.world_model.specs.Tables.{IsRunnable};
 
 use super::*;
 use letter_types::{History, LetterId};
@@ -32,7 +32,7 @@ fn two_trees(alloc: Global, picks: &[u32]) -> Result<Script, Refusal> {
 
 /// Whether the script may be run, for scripts of two trees and two rows.
 fn may_run(script: &Script) -> bool
-    ensures { result ≡ true → Runnable script.now }
+    ensures { result ≡ true → IsRunnable script.now }
 {
     let trees = match script.trees() {
         [first, second] => {

@@ -5,10 +5,10 @@ use Rattle.letter_types.specs.declared.bodies.Body.TheVariants.{Go, Sub as SubLe
 use Rattle.letter_types.specs.declared.entries.Entry.{Entry}
 use Rattle.letter_types.specs.declared.entries.Letter.{Letter}
 use Rattle.tx_trees.specs.ScriptData.{ScriptData}
-use Rattle.world_model.specs.Runs.{node_in, waiting, StepRun}
+use Rattle.world_model.specs.Runs.{node_in, waiting, IsStepRun}
 use Rattle.world_model.specs.Timely.{AllTimely}
 use Rattle.world_model.proofs.Every.{each_map, each_none, each_zero}
-use Rattle.world_model.proofs.Lawful.{Lawful}
+use Rattle.world_model.proofs.Lawful.{IsLawful}
 use Rattle.phase_laws.specs.Phases.{under_way}
 use Rattle.quiet_laws.specs.Balance.{goes_from, out, version_is}
 use Rattle.quiet_laws.proofs.Balance.{balanced_at}
@@ -31,7 +31,7 @@ out_none s past v p q none =
     (λ l quiet. uncounted_goes v p q l (not_counted v l.body quiet)) (each_zero (λ (l : Letter). of_trees l.body) (waiting s past) none))
 
 -- then requests are completions in each version that both nodes still count
-pub balances : (s : ScriptData) (past : List Entry) (laws : Lawful s) (run : StepRun s past) (timely : AllTimely s past) → under_way of_trees s past ≡ 0
+pub balances : (s : ScriptData) (past : List Entry) (laws : IsLawful s) (run : IsStepRun s past) (timely : AllTimely s past) → under_way of_trees s past ≡ 0
     → (v p q : ℕ) → p < s.nodes → q < s.nodes → (node_in s past p).turns.low.0 ≤ v → (node_in s past q).turns.low.0 ≤ v
     → (node_in s past p).counts.asked v q ≡ (node_in s past q).counts.done v p
 balances s past laws run timely none v p q lp lq low_p low_q =

@@ -5,10 +5,10 @@ use Rattle.advance_coord.specs.declared.phase.Phase.{Phase}
 use Rattle.advance_coord.specs.declared.phase.Phase.TheVariants.{Idle, Turning, Counting, Paused, Showing, Sweeping}
 use Rattle.tx_trees.specs.Counts.{advances_in, all_subs}
 use Rattle.tx_trees.specs.ScriptData.{ScriptData, subs_at}
-use Rattle.world_model.specs.Runs.{client_in, coordinator_in, StepRun}
+use Rattle.world_model.specs.Runs.{client_in, coordinator_in, IsStepRun}
 use Rattle.world_model.specs.Timely.{AllTimely}
-use Rattle.world_model.proofs.Lawful.{Lawful}
-use Rattle.world_model.proofs.Scripts.{Sound, has_root, sub_below, sub_there}
+use Rattle.world_model.proofs.Lawful.{IsLawful}
+use Rattle.world_model.proofs.Scripts.{IsSound, has_root, sub_below, sub_there}
 use Rattle.phase_laws.specs.Advances.{asked_for, running}
 use Rattle.phase_laws.proofs.Small.{asked_most, rounds_by_trees, small}
 use Rattle.tree_laws.specs.Dids.{asks, dids, replies_to}
@@ -49,7 +49,7 @@ over_twice i f g h (x ∷ xs) each =
     omega (arith, each i (omega arith) (omega arith), over_twice (i + 1) f g h xs (λ k le lt. each k (omega (arith, le)) (omega (arith, lt))))
 
 -- What is taken.
-tree_most : (s : ScriptData) (past : List Entry) (t : ℕ) (laws : Lawful s) (run : StepRun s past) (timely : AllTimely s past) → t < length s.trees
+tree_most : (s : ScriptData) (past : List Entry) (t : ℕ) (laws : IsLawful s) (run : IsStepRun s past) (timely : AllTimely s past) → t < length s.trees
     → 2 * taken_in (asks_in s t) past + 1 ≤ taken_in (asks t 0) past + 2 * length (subs_at s t)
 tree_most s past t laws run timely lt =
     let good = good_run s past laws.sound run timely in
@@ -62,7 +62,7 @@ tree_most s past t laws run timely lt =
     omega (arith, root, below, taken_over (asks t) (subs_at s t) past)
 
 -- a tree has a root, and at most one entry for each of its subtransactions
-works_most : (s : ScriptData) (past : List Entry) (laws : Lawful s) (run : StepRun s past) (timely : AllTimely s past)
+works_most : (s : ScriptData) (past : List Entry) (laws : IsLawful s) (run : IsStepRun s past) (timely : AllTimely s past)
     → 2 * taken_in is_work past + length s.trees ≤ taken_in is_root past + 2 * all_subs s.trees
 works_most s past laws run timely =
     let works = taken_same is_work (λ b. over 0 (λ t. asks_in s t b) s.trees) s past laws run timely (work_by_tree s laws.sound)
@@ -73,7 +73,7 @@ works_most s past laws run timely =
     (λ t le lt. tree_most s past t laws run timely (omega (arith, lt))) in
     omega (arith, works, roots, sums, all_subs_here s)
 
-replies_most : (s : ScriptData) (past : List Entry) (laws : Lawful s) (run : StepRun s past) (timely : AllTimely s past)
+replies_most : (s : ScriptData) (past : List Entry) (laws : IsLawful s) (run : IsStepRun s past) (timely : AllTimely s past)
     → taken_in is_reply past ≤ length s.trees
 replies_most s past laws run timely =
     let good = good_run s past laws.sound run timely in
@@ -106,7 +106,7 @@ apart_most n a t u run stage round asked x is up most few rounds =
     let three : 4 * n * round ≤ 4 * n * (2 * a + t) = mul_le (4 * n) round (2 * a + t) rounds in
     omega (arith, is, one, two, three, most)
 
-aparts_most : (s : ScriptData) (past : List Entry) (laws : Lawful s) (run : StepRun s past) (timely : AllTimely s past)
+aparts_most : (s : ScriptData) (past : List Entry) (laws : IsLawful s) (run : IsStepRun s past) (timely : AllTimely s past)
     → taken_in is_apart past ≤ advances_in s.rows * (2 + 6 * s.nodes) + 4 * s.nodes * (2 * advances_in s.rows + length s.trees)
 aparts_most s past laws run timely =
     let c = coordinator_in s past in
@@ -116,7 +116,7 @@ aparts_most s past laws run timely =
     (omega (arith, paid s past laws run timely)) (omega (arith, now.asked, most)) most (stages_most c.phase) (rounds_by_trees s past laws run timely)
 
 -- The law.
-pub entries_few : (s : ScriptData) (past : List Entry) → Sound s → StepRun s past
+pub entries_few : (s : ScriptData) (past : List Entry) → IsSound s → IsStepRun s past
     → length past ≤ entries_of s (2 * advances_in s.rows + length s.trees)
 entries_few s past sound run =
     let laws = lawful s sound in

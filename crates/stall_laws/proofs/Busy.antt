@@ -12,19 +12,19 @@ use Rattle.tx_trees.specs.declared.parts.ScriptRow.{ScriptRow}
 use Rattle.tx_trees.specs.declared.parts.ScriptRow.TheVariants.{Tree as TreeRow, Advance as AdvanceRow, Settle as SettleRow, Lose as LoseRow}
 use Rattle.client_rows.specs.Client.{Client, submit, submitted, with_answer, with_end, nudge}
 use Rattle.world_model.specs.Counts.{Each, tally, one_if}
-use Rattle.world_model.specs.Runs.{client_in, waiting, MayFollow, StepRun}
+use Rattle.world_model.specs.Runs.{client_in, waiting, MayFollow, IsStepRun}
 use Rattle.world_model.specs.Timely.{AllTimely}
 use Rattle.world_model.proofs.Every.{each_both, each_map, each_none, each_taken, each_zero}
-use Rattle.world_model.proofs.Fits.{Fit}
+use Rattle.world_model.proofs.Fits.{IsFit}
 use Rattle.world_model.proofs.Flows.{client_kept, flow}
-use Rattle.world_model.proofs.Lawful.{Lawful}
+use Rattle.world_model.proofs.Lawful.{IsLawful}
 use Rattle.world_model.proofs.Nexts.{Next, Begins, Hears, Ends, Coordinates, DoesRoot, DoesSub, Notes, Obeys, MadeByClient}
-use Rattle.world_model.proofs.Scripts.{Sound, SubAt, has_root, sub_there, tree_below}
+use Rattle.world_model.proofs.Scripts.{IsSound, SubAt, has_root, sub_there, tree_below}
 use Rattle.world_model.proofs.Sends.{on}
 use Rattle.phase_laws.specs.Phases.{under_way}
 use Rattle.tree_laws.specs.Dids.{asked, asks, answers, dids, is_row_of, notices, rooted, tells_done}
 use Rattle.tree_laws.proofs.Counts.{below_root, one_here, parent_at, root_most, zero_or}
-use Rattle.tree_laws.proofs.Good.{Good, TreeAt, Unborn, Gathers, Answered}
+use Rattle.tree_laws.proofs.Good.{IsGood, TreeAt, Unborn, Gathers, Answered}
 use Rattle.tree_laws.proofs.Goods.{good_run}
 use Rattle.tree_laws.proofs.Sent.{rooted_once, tally_take_le, tally_take_more}
 use Rattle.stall_laws.proofs.Measures.{busy, left, nudges, of_trees, unanswered}
@@ -57,7 +57,7 @@ answer_less answered t (AdvanceRow ∷ rows) = omega (arith, answer_less answere
 answer_less answered t (SettleRow ∷ rows) = omega (arith, answer_less answered t rows)
 answer_less answered t (LoseRow ∷ rows) = omega (arith, answer_less answered t rows)
 
-with_answer_less : (s : ScriptData) (c : Client) (t : ℕ) → Sound s → t < length s.trees → left s c ≤ left s (with_answer t c) + 1
+with_answer_less : (s : ScriptData) (c : Client) (t : ℕ) → IsSound s → t < length s.trees → left s c ≤ left s (with_answer t c) + 1
 with_answer_less s c t sound lt =
     omega (
       arith,
@@ -79,7 +79,7 @@ submits_busy s past e c m same made =
     let after : left s (client_in s (e ∷ past)) ≡ left s (submit s c []).state = ap (left s) made.state in
     omega (arith, flow nudges s past e m, after, same, submit_more s c [])
 
-hears_busy : (s : ScriptData) (past : List Entry) (e : Entry) (t : ℕ) → Sound s → MayFollow s past e → t < length s.trees
+hears_busy : (s : ScriptData) (past : List Entry) (e : Entry) (t : ℕ) → IsSound s → MayFollow s past e → t < length s.trees
     → MadeByClient s past e (submit s (with_answer t (client_in s past)) (nudge s ∷ []))
     → busy s past ≤ busy s (e ∷ past) + nudges e.took.body
 hears_busy s past e t sound m lt made =
@@ -88,7 +88,7 @@ hears_busy s past e t sound m lt made =
     let sent : tally (on nudges) e.sent ≡ tally (on nudges) (submit s c (nudge s ∷ [])).sent = ap (λ (os : List Outgoing). tally (on nudges) os) made.sent in
     omega (arith, flow nudges s past e m, after, sent, submit_more s c (nudge s ∷ []), with_answer_less s (client_in s past) t sound lt)
 
-busy_next : (s : ScriptData) (past : List Entry) (e : Entry) → Sound s → MayFollow s past e → Next s past e
+busy_next : (s : ScriptData) (past : List Entry) (e : Entry) → IsSound s → MayFollow s past e → Next s past e
     → busy s past ≤ busy s (e ∷ past) + nudges e.took.body
 busy_next s past e sound m (Begins bd at made) = submits_busy s past e (client_in s past) m refl made
 busy_next s past e sound m (Hears t v answer bd at lt made) = hears_busy s past e t.0 sound m lt made
@@ -102,19 +102,19 @@ busy_next s past e sound m (Notes t k v values bd sub pos from at lt missed made
 busy_next s past e sound m (Obeys p out at lt order made) = kept_busy s past e m (client_kept s past e (omega (arith, at, lt)))
 
 -- busyness falls only by a nudge that is taken
-pub busy_step : (s : ScriptData) (past : List Entry) (e : Entry) → Lawful s → StepRun s (e ∷ past) → AllTimely s (e ∷ past)
+pub busy_step : (s : ScriptData) (past : List Entry) (e : Entry) → IsLawful s → IsStepRun s (e ∷ past) → AllTimely s (e ∷ past)
     → busy s past ≤ busy s (e ∷ past) + nudges e.took.body
 busy_step s past e laws run timely = busy_next s past e laws.sound run.0 (laws.next past e run timely)
 
 -- a nudge is for the coordinator
-nudge_at : (s : ScriptData) (from to : ℕ) (body : Body) → Fit s from to body → to ≢ s.nodes → nudges body ≡ 0
+nudge_at : (s : ScriptData) (from to : ℕ) (body : Body) → IsFit s from to body → to ≢ s.nodes → nudges body ≡ 0
 nudge_at s from to Nudge fit ne = absurd (ne fit)
 nudge_at s from to _ fit ne = refl
 
-pub no_nudge : (s : ScriptData) (past : List Entry) (e : Entry) → Lawful s → StepRun s past → AllTimely s past → MayFollow s past e
+pub no_nudge : (s : ScriptData) (past : List Entry) (e : Entry) → IsLawful s → IsStepRun s past → AllTimely s past → MayFollow s past e
     → e.actor.0 ≢ s.nodes → nudges e.took.body ≡ 0
 no_nudge s past e laws run timely m ne =
-    let fit = each_taken (λ (l : Letter). Fit s l.from.0 l.to.0 l.body) s past e m (laws.fits past run timely) in
+    let fit = each_taken (λ (l : Letter). IsFit s l.from.0 l.to.0 l.body) s past e m (laws.fits past run timely) in
     nudge_at s e.took.from.0 e.took.to.0 e.took.body fit (λ is. ne (sym m.addressee ∙ is))
 
 -- Where nothing is left.
@@ -147,7 +147,7 @@ record Rests (s : ScriptData) (past : List Entry) (t k : ℕ) : Type 0 where
   told : notices s past t k ≡ 0
 
 -- a tree that is submitted is answered
-submitted_answered : (s : ScriptData) (past : List Entry) (t : ℕ) → Good s past → left s (client_in s past) ≡ 0 → t < length s.trees
+submitted_answered : (s : ScriptData) (past : List Entry) (t : ℕ) → IsGood s past → left s (client_in s past) ≡ 0 → t < length s.trees
     → 1 ≤ rooted t (take (client_in s past).next s.rows) → 1 ≤ answers past t
 submitted_answered s past t good none lt some =
     let is = answered_row (client_in s past).answered t (take (client_in s past).next s.rows) some none in
@@ -155,7 +155,7 @@ submitted_answered s past t good none lt some =
     omega (arith, good.heard t lt, one)
 
 -- a tree that isn't born is asked for nothing
-unborn_asked : (s : ScriptData) (past : List Entry) (t k : ℕ) (c : SubAt s t k) → Sound s → Good s past → left s (client_in s past) ≡ 0
+unborn_asked : (s : ScriptData) (past : List Entry) (t k : ℕ) (c : SubAt s t k) → IsSound s → IsGood s past → left s (client_in s past) ≡ 0
     → dids past t 0 ≡ 0 → answers past t ≡ 0 → (k ≡ 0) ⊎ (0 < k) → asked s past t k ≡ 0
 unborn_asked s past t k c sound good none unborn silent (inl is) =
     let lt = tree_below s t k c in
@@ -167,7 +167,7 @@ unborn_asked s past t k c sound good none unborn silent (inl is) =
 unborn_asked s past t k c sound good none unborn silent (inr more) =
     omega (arith, good.subs t k c more, below_root s past t c.sub.parent.0 (parent_at s t k c sound more) sound good, unborn)
 
-answered_asked : (s : ScriptData) (past : List Entry) (t k : ℕ) (c : SubAt s t k) → Sound s → Good s past
+answered_asked : (s : ScriptData) (past : List Entry) (t k : ℕ) (c : SubAt s t k) → IsSound s → IsGood s past
     → ((j : ℕ) → SubAt s t j → dids past t j ≡ 1) → (k ≡ 0) ⊎ (0 < k) → asked s past t k ≡ 0
 answered_asked s past t k c sound good done (inl is) =
     let lt = tree_below s t k c in
@@ -176,7 +176,7 @@ answered_asked s past t k c sound good done (inl is) =
 answered_asked s past t k c sound good done (inr more) =
     omega (arith, good.subs t k c more, done k c, done c.sub.parent.0 (parent_at s t k c sound more))
 
-rests_at : (s : ScriptData) (past : List Entry) (t k : ℕ) → SubAt s t k → Sound s → Good s past → left s (client_in s past) ≡ 0
+rests_at : (s : ScriptData) (past : List Entry) (t k : ℕ) → SubAt s t k → IsSound s → IsGood s past → left s (client_in s past) ≡ 0
     → TreeAt s past t → Rests s past t k
 rests_at s past t k c sound good none (Unborn unborn home silent notes) =
     record { asked = unborn_asked s past t k c sound good none unborn silent (zero_or k); told = notes k }
@@ -195,7 +195,7 @@ each_of A B (x ∷ xs) all = ((λ t k a. (all t k a).0), each_of A B xs (λ t k 
 abbrev Quiet : ScriptData → Body → Type 0
 Quiet s body = (t k : ℕ) → SubAt s t k → (asks t k body ≡ 0) × (tells_done t k body ≡ 0)
 
-quiet_body : (s : ScriptData) (from to : ℕ) (body : Body) → Sound s → Fit s from to body → Quiet s body → of_trees body ≡ 0
+quiet_body : (s : ScriptData) (from to : ℕ) (body : Body) → IsSound s → IsFit s from to body → Quiet s body → of_trees body ≡ 0
 quiet_body s from to (Root t) sound fit quiet =
     absurd (omega (arith, (quiet t.0 0 (has_root s t.0 sound fit.0)).0, one_here t.0 0))
 quiet_body s from to (SubLetter t k v) sound fit quiet =
@@ -207,7 +207,7 @@ quiet_body s from to (Decided t v) sound fit quiet = absurd fit
 quiet_body s from to _ sound fit quiet = refl
 
 -- where nothing is left, no letter of a tree is under way
-pub trees_rest : (s : ScriptData) (past : List Entry) → Sound s → StepRun s past → AllTimely s past → left s (client_in s past) ≡ 0
+pub trees_rest : (s : ScriptData) (past : List Entry) → IsSound s → IsStepRun s past → AllTimely s past → left s (client_in s past) ≡ 0
     → under_way of_trees s past ≡ 0
 trees_rest s past sound run timely none =
     let good = good_run s past sound run timely in
@@ -218,6 +218,6 @@ trees_rest s past sound run timely none =
     (each_zero (λ (l : Letter). asks t k l.body) (waiting s past) rests.asked)
     (each_zero (λ (l : Letter). tells_done t k l.body) (waiting s past) rests.told)) in
     each_none (λ (l : Letter). of_trees l.body) (waiting s past)
-    (each_map (λ (l : Letter). Fit s l.from.0 l.to.0 l.body × Quiet s l.body) (λ (l : Letter). of_trees l.body ≡ 0) (waiting s past)
+    (each_map (λ (l : Letter). IsFit s l.from.0 l.to.0 l.body × Quiet s l.body) (λ (l : Letter). of_trees l.body ≡ 0) (waiting s past)
     (λ l both. quiet_body s l.from.0 l.to.0 l.body sound both.0 both.1)
-    (each_both (λ (l : Letter). Fit s l.from.0 l.to.0 l.body) (λ (l : Letter). Quiet s l.body) (waiting s past) good.letters quiet))
+    (each_both (λ (l : Letter). IsFit s l.from.0 l.to.0 l.body) (λ (l : Letter). Quiet s l.body) (waiting s past) good.letters quiet))

@@ -18,12 +18,12 @@ use Rattle.advance_coord.specs.Coordinator.{Coordinator, coordinator_row, counte
 use Rattle.advance_coord.specs.declared.phase.Phase.{Phase}
 use Rattle.advance_coord.specs.declared.phase.Phase.TheVariants.{Idle, Turning, Counting, Paused, Showing, Sweeping}
 use Rattle.world_model.specs.Counts.{tally}
-use Rattle.world_model.specs.Runs.{client_in, coordinator_in, node_in, MayFollow, StepRun}
+use Rattle.world_model.specs.Runs.{client_in, coordinator_in, node_in, MayFollow, IsStepRun}
 use Rattle.world_model.specs.Timely.{AllTimely}
 use Rattle.world_model.proofs.Bags.{tally-append}
 use Rattle.world_model.proofs.Every.{coordinator_kept}
 use Rattle.world_model.proofs.Flows.{client_kept, flow}
-use Rattle.world_model.proofs.Lawful.{Lawful}
+use Rattle.world_model.proofs.Lawful.{IsLawful}
 use Rattle.world_model.proofs.Nexts.{Next, Begins, Hears, Ends, Coordinates, DoesRoot, DoesSub, Notes, Obeys, MadeByClient, MadeByCoordinator, Order, Turns as TurnsTo, Shows, Sweeps, TellsDone, TellsAsked, Tells}
 use Rattle.world_model.proofs.Orders.{coordinator_nodes}
 use Rattle.world_model.proofs.Sends.{on}
@@ -285,7 +285,7 @@ tells_cost (DoneRow v k row) tells = refl
 tells_cost (AskedRow v k row) tells = refl
 tells_cost _ tells = absurd tells
 
-paid_told : (s : ScriptData) (past : List Entry) (e : Entry) (laws : Lawful s) (run : StepRun s (e ∷ past)) (timely : AllTimely s past) → Paid s past
+paid_told : (s : ScriptData) (past : List Entry) (e : Entry) (laws : IsLawful s) (run : IsStepRun s (e ∷ past)) (timely : AllTimely s past) → Paid s past
     → Tells e.took.body → e.actor.0 ≡ s.nodes → MadeByCoordinator s past e → Paid s (e ∷ past)
 paid_told s past e laws run timely paid tells at made =
     let c = coordinator_in s past in
@@ -298,7 +298,7 @@ paid_told s past e laws run timely paid tells at made =
     ap (λ (x : Client). advances_in (take x.next s.rows)) (client_kept s past e (omega (arith, at))) in
     omega (arith, paid, pays, pends, spends, sent, asked, tells_cost e.took.body tells, flow cost s past e run.0)
 
-paid_next : (s : ScriptData) (past : List Entry) (e : Entry) (laws : Lawful s) (run : StepRun s (e ∷ past)) (timely : AllTimely s past) → Paid s past
+paid_next : (s : ScriptData) (past : List Entry) (e : Entry) (laws : IsLawful s) (run : IsStepRun s (e ∷ past)) (timely : AllTimely s past) → Paid s past
     → Next s past e → Paid s (e ∷ past)
 paid_next s past e laws run timely paid (Begins bd at made) =
     paid_client s past e (client_in s past) [] run.0 paid at refl refl (omega (arith, ap cost bd, ap is_apart bd)) made
@@ -324,7 +324,7 @@ paid_next s past e laws run timely paid (Obeys p out at lt order made) =
     paid_node s past e run.0 paid (omega (arith, at, lt)) (omega (arith, sent, order_pays s (node_in s past p) e.took.body out order))
 
 -- the letters of advancements that were taken, and what those under way cost, by what was asked for and begun
-pub paid : (s : ScriptData) (past : List Entry) (laws : Lawful s) (run : StepRun s past) (timely : AllTimely s past) → Paid s past
+pub paid : (s : ScriptData) (past : List Entry) (laws : IsLawful s) (run : IsStepRun s past) (timely : AllTimely s past) → Paid s past
 paid s [] laws run timely = omega arith
 paid s (e ∷ past) laws run timely =
     paid_next s past e laws run timely.1 (paid s past laws run.1 timely.1) (laws.next past e run timely)

@@ -17,12 +17,12 @@ use Rattle.client_rows.specs.Client.{all_answered, have_ended}
 use Rattle.advance_coord.specs.declared.phase.Phase.{Phase}
 use Rattle.advance_coord.specs.declared.phase.Phase.TheVariants.{Idle, Turning, Counting, Paused, Showing, Sweeping}
 use Rattle.world_model.specs.Counts.{tally, one_if}
-use Rattle.world_model.specs.Runs.{client_in, coordinator_in, waiting, StepRun}
+use Rattle.world_model.specs.Runs.{client_in, coordinator_in, waiting, IsStepRun}
 use Rattle.world_model.specs.Timely.{AllTimely}
 use Rattle.world_model.proofs.Bags.{one_if_same}
-use Rattle.world_model.proofs.Lawful.{Lawful}
+use Rattle.world_model.proofs.Lawful.{IsLawful}
 use Rattle.world_model.proofs.Orders.{coordinator_nodes}
-use Rattle.world_model.proofs.Scripts.{Sound}
+use Rattle.world_model.proofs.Scripts.{IsSound}
 use Rattle.phase_laws.specs.Advances.{asked_for, is_advance, is_advanced, running}
 use Rattle.phase_laws.specs.Phases.{Stage, TurnStage, ShowStage, SweepStage, token, within}
 use Rattle.phase_laws.proofs.Current.{current}
@@ -58,7 +58,7 @@ left_none answered (SettleRow ∷ rows) all = omega (arith, left_none answered r
 left_none answered (LoseRow ∷ rows) all = omega (arith, left_none answered rows (λ u some. all u (omega (arith, some))))
 
 -- nothing is busy
-pub none_busy : (s : ScriptData) (past : List Entry) (laws : Lawful s) (run : StepRun s past) (timely : AllTimely s past) → waiting s past ≡ []
+pub none_busy : (s : ScriptData) (past : List Entry) (laws : IsLawful s) (run : IsStepRun s past) (timely : AllTimely s past) → waiting s past ≡ []
     → busy s past ≡ 0
 none_busy s past laws run timely empty =
     let c = client_in s past in
@@ -75,7 +75,7 @@ stage_ends : (phase : Phase) (g : Stage) (acks n : ℕ) → within g phase acks 
     → 0 + within g phase acks ≡ within g phase n → ⊥
 stage_ends phase g acks n a b less is = absurd (omega (arith, a, b, less, is))
 
-not_telling : (s : ScriptData) (past : List Entry) (laws : Lawful s) (run : StepRun s past) (timely : AllTimely s past) (g : Stage) (phase : Phase)
+not_telling : (s : ScriptData) (past : List Entry) (laws : IsLawful s) (run : IsStepRun s past) (timely : AllTimely s past) (g : Stage) (phase : Phase)
     → waiting s past ≡ [] → (coordinator_in s past).phase ≡ phase → ((k : ℕ) → within g phase k ≡ k) → ⊥
 not_telling s past laws run timely g phase empty at fills =
     let c = coordinator_in s past in
@@ -86,7 +86,7 @@ not_telling s past laws run timely g phase empty at fills =
     absurd (omega (arith, all, none, acks, nodes, (small s past laws run timely).acks))
 
 -- a round that counts has a letter under way
-not_counting : (s : ScriptData) (past : List Entry) (laws : Lawful s) (run : StepRun s past) (timely : AllTimely s past) (reads : Bool)
+not_counting : (s : ScriptData) (past : List Entry) (laws : IsLawful s) (run : IsStepRun s past) (timely : AllTimely s past) (reads : Bool)
     → waiting s past ≡ [] → (coordinator_in s past).phase ≡ Counting reads → ⊥
 not_counting s past laws run timely reads empty at =
     let r = (coordinator_in s past).current in
@@ -102,12 +102,12 @@ not_counting s past laws run timely reads empty at =
     let clash : true ≡ false = sym askeds ∙ waved.misses in
     cc clash
 
-not_paused : (s : ScriptData) (past : List Entry) (laws : Lawful s) (run : StepRun s past) (timely : AllTimely s past) (reads : Bool)
+not_paused : (s : ScriptData) (past : List Entry) (laws : IsLawful s) (run : IsStepRun s past) (timely : AllTimely s past) (reads : Bool)
     → waiting s past ≡ [] → (coordinator_in s past).phase ≡ Paused reads → ⊥
 not_paused s past laws run timely reads empty at =
     absurd (omega (arith, (bound s past laws run timely).pausing reads at, none_busy s past laws run timely empty))
 
-idle_by : (s : ScriptData) (past : List Entry) (laws : Lawful s) (run : StepRun s past) (timely : AllTimely s past) → waiting s past ≡ []
+idle_by : (s : ScriptData) (past : List Entry) (laws : IsLawful s) (run : IsStepRun s past) (timely : AllTimely s past) → waiting s past ≡ []
     → (phase : Phase) → (coordinator_in s past).phase ≡ phase → running (coordinator_in s past).phase ≡ 0
 idle_by s past laws run timely empty Idle at = ap running at
 idle_by s past laws run timely empty Turning at = absurd (not_telling s past laws run timely TurnStage Turning empty at (λ k. refl))
@@ -117,13 +117,13 @@ idle_by s past laws run timely empty (Counting reads) at = absurd (not_counting 
 idle_by s past laws run timely empty (Paused reads) at = absurd (not_paused s past laws run timely reads empty at)
 
 -- no advancement is under way
-pub idle : (s : ScriptData) (past : List Entry) (laws : Lawful s) (run : StepRun s past) (timely : AllTimely s past) → waiting s past ≡ []
+pub idle : (s : ScriptData) (past : List Entry) (laws : IsLawful s) (run : IsStepRun s past) (timely : AllTimely s past) → waiting s past ≡ []
     → running (coordinator_in s past).phase ≡ 0
 idle s past laws run timely empty = idle_by s past laws run timely empty (coordinator_in s past).phase refl
 
 -- The client.
 -- each advancement that was asked for has ended
-pub ended_all : (s : ScriptData) (past : List Entry) (laws : Lawful s) (run : StepRun s past) (timely : AllTimely s past) → waiting s past ≡ []
+pub ended_all : (s : ScriptData) (past : List Entry) (laws : IsLawful s) (run : IsStepRun s past) (timely : AllTimely s past) → waiting s past ≡ []
     → (client_in s past).ended ≡ asked_for s past
 ended_all s past laws run timely empty =
     let rests = idle s past laws run timely empty in
@@ -142,7 +142,7 @@ same_most : (n m : ℕ) → m ≡ n → nat_le n m ≡ true
 same_most n m same = grind (arith, nat_tests)
 
 -- all that was submitted has ended
-ended_now : (s : ScriptData) (past : List Entry) (laws : Lawful s) (run : StepRun s past) (timely : AllTimely s past) → waiting s past ≡ []
+ended_now : (s : ScriptData) (past : List Entry) (laws : IsLawful s) (run : IsStepRun s past) (timely : AllTimely s past) → waiting s past ≡ []
     → have_ended (client_in s past) (take (client_in s past).next s.rows) ≡ true
 ended_now s past laws run timely empty =
     let c = client_in s past in
@@ -152,19 +152,19 @@ ended_now s past laws run timely empty =
     (same_most (advances_in (take c.next s.rows)) c.ended (ended_all s past laws run timely empty))
 
 -- all rows are submitted
-pub all_submitted : (s : ScriptData) (past : List Entry) (laws : Lawful s) (run : StepRun s past) (timely : AllTimely s past)
+pub all_submitted : (s : ScriptData) (past : List Entry) (laws : IsLawful s) (run : IsStepRun s past) (timely : AllTimely s past)
     → waiting s past ≡ [] → (client_in s past).next ≡ length s.rows
 all_submitted s past laws run timely empty =
     at_end s (client_in s past) ((at_rest s past laws.sound run timely).stops (none_left (λ (l : Letter). is_go l.body) s past empty))
     (ended_now s past laws run timely empty)
 
-pub all_rows : (s : ScriptData) (past : List Entry) (laws : Lawful s) (run : StepRun s past) (timely : AllTimely s past)
+pub all_rows : (s : ScriptData) (past : List Entry) (laws : IsLawful s) (run : IsStepRun s past) (timely : AllTimely s past)
     → waiting s past ≡ [] → take (client_in s past).next s.rows ≡ s.rows
 all_rows s past laws run timely empty =
     ap (λ (n : ℕ). take n s.rows) (all_submitted s past laws run timely empty) ∙ take-length s.rows
 
 -- the client has finished
-pub finished : (s : ScriptData) (past : List Entry) (laws : Lawful s) (run : StepRun s past) (timely : AllTimely s past)
+pub finished : (s : ScriptData) (past : List Entry) (laws : IsLawful s) (run : IsStepRun s past) (timely : AllTimely s past)
     → waiting s past ≡ [] → (client_in s past).finished ≡ true
 finished s past laws run timely empty =
     (at_rest s past laws.sound run timely).finishes (none_left (λ (l : Letter). is_go l.body) s past empty)
@@ -173,7 +173,7 @@ finished s past laws run timely empty =
     (ended_now s past laws run timely empty))
 
 -- and its history says so
-has_finished : (s : ScriptData) (past : List Entry) → Sound s → StepRun s past → AllTimely s past → (client_in s past).finished ≡ true
+has_finished : (s : ScriptData) (past : List Entry) → IsSound s → IsStepRun s past → AllTimely s past → (client_in s past).finished ≡ true
     → HasFinished (reverse past)
 has_finished s past sound run timely is =
     let one : one_if (client_in s past).finished ≡ 1 = ap one_if is in
@@ -181,7 +181,7 @@ has_finished s past sound run timely is =
     (omega (arith, one, (at_rest s past sound run timely).once, finishes_of past))
 
 -- where no letter is left, the client has finished, and its history says so
-pub no_run_stalls : (s : ScriptData) (past : List Entry) → Sound s → StepRun s past → waiting s past ≡ []
+pub no_run_stalls : (s : ScriptData) (past : List Entry) → IsSound s → IsStepRun s past → waiting s past ≡ []
     → ((client_in s past).finished ≡ true) × HasFinished (reverse past)
 no_run_stalls s past sound run empty =
     let laws = lawful s sound in

@@ -16,16 +16,16 @@ use Rattle.tx_trees.specs.Counts.{advances_in, all_subs}
 use Rattle.tx_trees.specs.ScriptData.{ScriptData, client_of, home_of, subs_at}
 use Rattle.tx_trees.specs.declared.parts.ScriptRow.{ScriptRow}
 use Rattle.world_model.specs.Counts.{one_if, tally}
-use Rattle.world_model.specs.Runs.{client_in, coordinator_in, node_in, waiting, StepRun}
+use Rattle.world_model.specs.Runs.{client_in, coordinator_in, node_in, waiting, IsStepRun}
 use Rattle.world_model.specs.Timely.{AllTimely}
 use Rattle.world_model.proofs.Bridge.{coordinator_after}
 use Rattle.world_model.proofs.Every.{each_none, each_taken}
-use Rattle.world_model.proofs.Fits.{Fit}
+use Rattle.world_model.proofs.Fits.{IsFit}
 use Rattle.world_model.proofs.Flows.{finish_none, flow}
-use Rattle.world_model.proofs.Lawful.{Lawful}
+use Rattle.world_model.proofs.Lawful.{IsLawful}
 use Rattle.world_model.proofs.Nexts.{Next, Begins, Hears, Ends, Coordinates, DoesRoot, DoesSub, Notes, Obeys, Order, Turns, Shows, Sweeps, TellsDone, TellsAsked, Tells}
 use Rattle.world_model.proofs.Orders.{OfOrders}
-use Rattle.world_model.proofs.Scripts.{Sound, has_root, sub_below, sub_there}
+use Rattle.world_model.proofs.Scripts.{IsSound, has_root, sub_below, sub_there}
 use Rattle.world_model.proofs.Sends.{on, replies_none, subs_none}
 use Rattle.phase_laws.specs.Advances.{asked_for, is_advanced, running}
 use Rattle.phase_laws.proofs.Small.{small}
@@ -110,7 +110,7 @@ weighs s past e (Obeys p out at lt order made) =
     (order_weighs s (node_in s past p) e.took.body out order)
 
 -- the entries and the other letters under way, by what was taken
-pub counted : (s : ScriptData) (past : List Entry) (laws : Lawful s) (run : StepRun s past) (timely : AllTimely s past)
+pub counted : (s : ScriptData) (past : List Entry) (laws : IsLawful s) (run : IsStepRun s past) (timely : AllTimely s past)
     → length past + tally (λ (l : Letter). is_other l.body) (waiting s past) + taken_in is_root past
     ≡ 1 + 2 * taken_in is_work past + 2 * taken_in is_reply past + taken_in is_apart past
 counted s [] laws run timely = omega arith
@@ -118,26 +118,26 @@ counted s (e ∷ past) laws run timely =
     omega (arith, counted s past laws run.1 timely.1, weighs s past e (laws.next past e run timely), flow is_other s past e run.0)
 
 -- What is taken, by trees.
-pub taken_same : (f g : Body → ℕ) (s : ScriptData) (past : List Entry) (laws : Lawful s) (run : StepRun s past) (timely : AllTimely s past)
-    → ((from to : ℕ) (b : Body) → Fit s from to b → f b ≡ g b) → taken_in f past ≡ taken_in g past
+pub taken_same : (f g : Body → ℕ) (s : ScriptData) (past : List Entry) (laws : IsLawful s) (run : IsStepRun s past) (timely : AllTimely s past)
+    → ((from to : ℕ) (b : Body) → IsFit s from to b → f b ≡ g b) → taken_in f past ≡ taken_in g past
 taken_same f g s [] laws run timely same = refl
 taken_same f g s (e ∷ past) laws run timely same =
-    let fit = each_taken (λ (l : Letter). Fit s l.from.0 l.to.0 l.body) s past e run.0 (laws.fits past run.1 timely.1) in
+    let fit = each_taken (λ (l : Letter). IsFit s l.from.0 l.to.0 l.body) s past e run.0 (laws.fits past run.1 timely.1) in
     omega (arith, same e.took.from.0 e.took.to.0 e.took.body fit, taken_same f g s past laws run.1 timely.1 same)
 
-pub root_by_tree : (s : ScriptData) (from to : ℕ) (b : Body) → Fit s from to b → is_root b ≡ over 0 (λ t. asks t 0 b) s.trees
+pub root_by_tree : (s : ScriptData) (from to : ℕ) (b : Body) → IsFit s from to b → is_root b ≡ over 0 (λ t. asks t 0 b) s.trees
 root_by_tree s from to (Root u) fit =
     sym (over_same 0 (λ t. asks t 0 (Root u)) (λ t. one_if (u.0 == t)) s.trees (λ t le lt. root_here u.0 t) ∙ over_hit 0 u.0 s.trees (omega arith) (omega (arith, fit.0)))
 root_by_tree s from to (SubLetter u j v) fit = sym (over_none 0 (λ t. asks t 0 (SubLetter u j v)) s.trees (λ t. no_birth u.0 t j.0 fit.2))
 root_by_tree s from to Go fit = sym (over_none 0 (λ t. 0) s.trees (λ t. refl))
 root_by_tree s from to _ fit = sym (over_none 0 (λ t. 0) s.trees (λ t. refl))
 
-pub reply_by_tree : (s : ScriptData) (from to : ℕ) (b : Body) → Fit s from to b → is_reply b ≡ over 0 (λ t. replies_to t b) s.trees
+pub reply_by_tree : (s : ScriptData) (from to : ℕ) (b : Body) → IsFit s from to b → is_reply b ≡ over 0 (λ t. replies_to t b) s.trees
 reply_by_tree s from to (Reply u v answer) fit = sym (over_hit 0 u.0 s.trees (omega arith) (omega (arith, fit.0)))
 reply_by_tree s from to Go fit = sym (over_none 0 (λ t. 0) s.trees (λ t. refl))
 reply_by_tree s from to _ fit = sym (over_none 0 (λ t. 0) s.trees (λ t. refl))
 
-pub work_by_tree : (s : ScriptData) → Sound s → (from to : ℕ) (b : Body) → Fit s from to b → is_work b ≡ over 0 (λ t. asks_in s t b) s.trees
+pub work_by_tree : (s : ScriptData) → IsSound s → (from to : ℕ) (b : Body) → IsFit s from to b → is_work b ≡ over 0 (λ t. asks_in s t b) s.trees
 work_by_tree s sound from to (Root u) fit = sym (work_hit s u.0 0 fit.0 (sub_below s u.0 0 (has_root s u.0 sound fit.0)))
 work_by_tree s sound from to (SubLetter u j v) fit = sym (work_hit s u.0 j.0 fit.0 fit.1)
 work_by_tree s sound from to Go fit = sym (work_none s)
@@ -168,7 +168,7 @@ does_asked s past e t k (Obeys p out at lt order made) =
     let aside = obeys_aside s past e p out at lt order made in
     omega (arith, aside.took (asks t k) (asks_trees t k), aside.acts (is_did t k) (did_none t k))
 
-pub taken_asks : (s : ScriptData) (past : List Entry) (t k : ℕ) (laws : Lawful s) (run : StepRun s past) (timely : AllTimely s past)
+pub taken_asks : (s : ScriptData) (past : List Entry) (t k : ℕ) (laws : IsLawful s) (run : IsStepRun s past) (timely : AllTimely s past)
     → taken_in (asks t k) past ≡ dids past t k
 taken_asks s [] t k laws run timely = refl
 taken_asks s (e ∷ past) t k laws run timely =
@@ -178,14 +178,14 @@ taken_asks s (e ∷ past) t k laws run timely =
 abbrev AllDone : ScriptData → List Entry → Type 0
 AllDone s past = (t : ℕ) → t < length s.trees → TreeDone s past t
 
-all_done : (s : ScriptData) (past : List Entry) (laws : Lawful s) (run : StepRun s past) (timely : AllTimely s past) → waiting s past ≡ [] → AllDone s past
+all_done : (s : ScriptData) (past : List Entry) (laws : IsLawful s) (run : IsStepRun s past) (timely : AllTimely s past) → waiting s past ≡ [] → AllDone s past
 all_done s past laws run timely empty = λ t lt.
     let once = rooted_once (length s.trees) t s.rows laws.sound.valid.rows lt in
     let rows : rooted t (take (client_in s past).next s.rows) ≡ rooted t s.rows =
     ap (λ (xs : List ScriptRow). rooted t xs) (all_rows s past laws run timely empty) in
     tree_done s past t laws.sound (good_run s past laws.sound run timely) empty lt (omega (arith, once, rows))
 
-roots_taken : (s : ScriptData) (past : List Entry) (laws : Lawful s) (run : StepRun s past) (timely : AllTimely s past) → AllDone s past
+roots_taken : (s : ScriptData) (past : List Entry) (laws : IsLawful s) (run : IsStepRun s past) (timely : AllTimely s past) → AllDone s past
     → taken_in is_root past ≡ length s.trees
 roots_taken s past laws run timely done =
     taken_same is_root (λ b. over 0 (λ t. asks t 0 b) s.trees) s past laws run timely (root_by_tree s)
@@ -193,7 +193,7 @@ roots_taken s past laws run timely done =
     ∙ over_ones 0 (λ t. taken_in (asks t 0) past) s.trees (λ t le lt.
     taken_asks s past t 0 laws run timely ∙ (done t (omega (arith, lt))).done 0 (has_root s t laws.sound (omega (arith, lt)))))
 
-replies_taken : (s : ScriptData) (past : List Entry) (laws : Lawful s) (run : StepRun s past) (timely : AllTimely s past) → AllDone s past
+replies_taken : (s : ScriptData) (past : List Entry) (laws : IsLawful s) (run : IsStepRun s past) (timely : AllTimely s past) → AllDone s past
     → waiting s past ≡ [] → taken_in is_reply past ≡ length s.trees
 replies_taken s past laws run timely done empty =
     let unheard : (t : ℕ) → replies s past t ≡ 0 = λ t. none_left (λ (l : Letter). replies_to t l.body) s past empty in
@@ -202,14 +202,14 @@ replies_taken s past laws run timely done empty =
     ∙ over_ones 0 (λ t. taken_in (replies_to t) past) s.trees (λ t le lt.
     omega (arith, taken_replies s past t run, unheard t, (done t (omega (arith, lt))).answered)))
 
-tree_taken : (s : ScriptData) (past : List Entry) (t : ℕ) (laws : Lawful s) (run : StepRun s past) (timely : AllTimely s past) → AllDone s past
+tree_taken : (s : ScriptData) (past : List Entry) (t : ℕ) (laws : IsLawful s) (run : IsStepRun s past) (timely : AllTimely s past) → AllDone s past
     → t < length s.trees → taken_in (asks_in s t) past ≡ length (subs_at s t)
 tree_taken s past t laws run timely done lt =
     taken_over (asks t) (subs_at s t) past
     ∙ over_ones 0 (λ k. taken_in (asks t k) past) (subs_at s t) (λ k le kt.
     taken_asks s past t k laws run timely ∙ (done t lt).done k (sub_there s t k lt (omega (arith, kt))))
 
-works_taken : (s : ScriptData) (past : List Entry) (laws : Lawful s) (run : StepRun s past) (timely : AllTimely s past) → AllDone s past
+works_taken : (s : ScriptData) (past : List Entry) (laws : IsLawful s) (run : IsStepRun s past) (timely : AllTimely s past) → AllDone s past
     → taken_in is_work past ≡ all_subs s.trees
 works_taken s past laws run timely done =
     taken_same is_work (λ b. over 0 (λ t. asks_in s t b) s.trees) s past laws run timely (work_by_tree s laws.sound)
@@ -233,7 +233,7 @@ apart_by n a u x stage round up none is =
     let two : 2 * n * stage ≡ 2 * n * 0 = ap (λ (k : ℕ). 2 * n * k) none in
     omega (arith, one, two, is)
 
-aparts_taken : (s : ScriptData) (past : List Entry) (laws : Lawful s) (run : StepRun s past) (timely : AllTimely s past) → waiting s past ≡ []
+aparts_taken : (s : ScriptData) (past : List Entry) (laws : IsLawful s) (run : IsStepRun s past) (timely : AllTimely s past) → waiting s past ≡ []
     → taken_in is_apart past ≡ advances_in s.rows * (2 + 6 * s.nodes) + 4 * s.nodes * (coordinator_in s past).round
 aparts_taken s past laws run timely empty =
     let c = coordinator_in s past in
@@ -246,7 +246,7 @@ aparts_taken s past laws run timely empty =
     (omega (arith, paid s past laws run timely, none_left (λ (l : Letter). cost l.body) s past empty, calm.0, all))
 
 -- The law.
-pub entries_counted : (s : ScriptData) (past : List Entry) → Sound s → StepRun s past → waiting s past ≡ []
+pub entries_counted : (s : ScriptData) (past : List Entry) → IsSound s → IsStepRun s past → waiting s past ≡ []
     → length past ≡ entries_of s (rounds_in s (reverse past))
 entries_counted s past sound run empty =
     let laws = lawful s sound in

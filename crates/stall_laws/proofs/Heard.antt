@@ -18,11 +18,11 @@ use Rattle.tree_step.specs.Node.{Node}
 use Rattle.advance_coord.specs.Coordinator.{Coordinator, coordinator_row, keep_done, to_nodes}
 use Rattle.advance_coord.specs.declared.phase.Phase.TheVariants.{Counting}
 use Rattle.world_model.specs.Counts.{tally, one_if}
-use Rattle.world_model.specs.Runs.{coordinator_in, node_in, waiting, MayFollow, StepRun}
+use Rattle.world_model.specs.Runs.{coordinator_in, node_in, waiting, MayFollow, IsStepRun}
 use Rattle.world_model.specs.Timely.{AllTimely}
 use Rattle.world_model.proofs.Bags.{tally-append, tally_step, sealed_tally}
 use Rattle.world_model.proofs.Every.{coordinator_kept}
-use Rattle.world_model.proofs.Lawful.{Lawful}
+use Rattle.world_model.proofs.Lawful.{IsLawful}
 use Rattle.world_model.proofs.Nexts.{Next, Begins, Hears, Ends, Coordinates, DoesRoot, DoesSub, Notes, Obeys, Order, Turns, Shows, Sweeps, TellsDone, TellsAsked, MadeByCoordinator}
 use Rattle.world_model.proofs.Orders.{coordinator_nodes}
 use Rattle.phase_laws.proofs.Current.{IsCurrent, current}
@@ -382,7 +382,7 @@ heard_away s past e m away next was =
     subst (λ (c : Coordinator). Heard s (e ∷ past) c) (sym (coordinator_kept s past e away))
     (heard_same s past e (coordinator_in s past) was (λ two v r q. waves_stay s past e two v r q m away next))
 
-heard_told : (s : ScriptData) (past : List Entry) (e : Entry) → Lawful s → StepRun s (e ∷ past) → AllTimely s past → e.actor.0 ≡ s.nodes
+heard_told : (s : ScriptData) (past : List Entry) (e : Entry) → IsLawful s → IsStepRun s (e ∷ past) → AllTimely s past → e.actor.0 ≡ s.nodes
     → MadeByCoordinator s past e → Heard s past (coordinator_in s past) → Heard s (e ∷ past) (coordinator_in s (e ∷ past))
 heard_told s past e laws run timely at made was =
     let c = coordinator_in s past in
@@ -398,7 +398,7 @@ heard_told s past e laws run timely at made was =
     (heard_out s past e c out laws.sound.valid.some_nodes (coordinator_nodes s past) (current s past laws run.1 timely) was flow
     (course c e.took.from.0 e.took.body out (outcome_in s past e laws run.1 timely)))
 
-heard_next : (s : ScriptData) (past : List Entry) (e : Entry) → Lawful s → StepRun s (e ∷ past) → AllTimely s past → Next s past e
+heard_next : (s : ScriptData) (past : List Entry) (e : Entry) → IsLawful s → IsStepRun s (e ∷ past) → AllTimely s past → Next s past e
     → Heard s past (coordinator_in s past) → Heard s (e ∷ past) (coordinator_in s (e ∷ past))
 heard_next s past e laws run timely (Coordinates tells at made) was = heard_told s past e laws run timely at made was
 heard_next s past e laws run timely (Begins bd at made) was = heard_away s past e run.0 (omega (arith, at)) (Begins bd at made) was
@@ -415,7 +415,7 @@ heard_next s past e laws run timely (Obeys p out at lt order made) was =
     heard_away s past e run.0 (omega (arith, at, lt)) (Obeys p out at lt order made) was
 
 -- in every run both waves are heard
-pub heard : (s : ScriptData) (past : List Entry) (laws : Lawful s) (run : StepRun s past) (timely : AllTimely s past)
+pub heard : (s : ScriptData) (past : List Entry) (laws : IsLawful s) (run : IsStepRun s past) (timely : AllTimely s past)
     → Heard s past (coordinator_in s past)
 heard s [] laws run timely = λ reads at. absurd (cc at)
 heard s (e ∷ past) laws run timely =

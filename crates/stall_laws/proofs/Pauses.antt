@@ -15,12 +15,12 @@ use Rattle.client_rows.specs.Client.{nudge, with_answer, with_end}
 use Rattle.advance_coord.specs.Coordinator.{Coordinator, coordinator_row, counted, in_phase, keep_done, with_asked}
 use Rattle.advance_coord.specs.declared.phase.Phase.{Phase}
 use Rattle.advance_coord.specs.declared.phase.Phase.TheVariants.{Counting, Paused, Sweeping}
-use Rattle.world_model.specs.Runs.{client_in, coordinator_in, node_in, waiting, MayFollow, StepRun}
+use Rattle.world_model.specs.Runs.{client_in, coordinator_in, node_in, waiting, MayFollow, IsStepRun}
 use Rattle.world_model.specs.Timely.{AllTimely}
 use Rattle.world_model.proofs.Bags.{found_none}
 use Rattle.world_model.proofs.Every.{coordinator_kept, each_map, each_step}
 use Rattle.world_model.proofs.Flows.{same_part}
-use Rattle.world_model.proofs.Lawful.{Lawful}
+use Rattle.world_model.proofs.Lawful.{IsLawful}
 use Rattle.world_model.proofs.Nexts.{Next, Begins, Hears, Ends, Coordinates, DoesRoot, DoesSub, Notes, Obeys, MadeByCoordinator}
 use Rattle.world_model.proofs.Orders.{coordinator_nodes}
 use Rattle.phase_laws.specs.Phases.{most_low, under_way}
@@ -49,7 +49,7 @@ at_least_one zero none = absurd (none refl)
 at_least_one (suc n) none = omega arith
 
 -- where nothing was busy before, no letter of a tree was under way
-none_of_trees : (s : ScriptData) (past : List Entry) (laws : Lawful s) (run : StepRun s past) (timely : AllTimely s past) → busy s past ≡ 0
+none_of_trees : (s : ScriptData) (past : List Entry) (laws : IsLawful s) (run : IsStepRun s past) (timely : AllTimely s past) → busy s past ≡ 0
     → under_way of_trees s past ≡ 0
 none_of_trees s past laws run timely none = trees_rest s past laws.sound run timely (omega (arith, none))
 
@@ -60,7 +60,7 @@ later_exact s past v r k from (AskedRow w j row) lt le = λ ws ks. absurd (omega
 later_exact s past v r k from Go lt le = tt
 later_exact s past v r k from _ lt le = tt
 
-starts_exact : (s : ScriptData) (past : List Entry) (e : Entry) (reads : Bool) (d : Coordinator) (laws : Lawful s) (run : StepRun s past)
+starts_exact : (s : ScriptData) (past : List Entry) (e : Entry) (reads : Bool) (d : Coordinator) (laws : IsLawful s) (run : IsStepRun s past)
     (timely : AllTimely s past) → MadeByCoordinator s past e
     → Exact s (e ∷ past) (round_begun reads ((coordinator_in s past).round + 1) d).state.current
 starts_exact s past e reads d laws run timely made =
@@ -140,7 +140,7 @@ low_counted phase true u low at le =
 low_counted phase false u low at le =
     let is : most_low phase u ≡ u - 1 = ap (λ (p : Phase). most_low p u) at in omega (arith, le, is)
 
-low_at : (s : ScriptData) (past : List Entry) (reads : Bool) (p : ℕ) (laws : Lawful s) (run : StepRun s past) (timely : AllTimely s past)
+low_at : (s : ScriptData) (past : List Entry) (reads : Bool) (p : ℕ) (laws : IsLawful s) (run : IsStepRun s past) (timely : AllTimely s past)
     → p < s.nodes → (coordinator_in s past).phase ≡ Counting reads
     → (node_in s past p).turns.low.0 ≤ (coordinator_in s past).current.version.0
 low_at s past reads p laws run timely lt at =
@@ -149,8 +149,8 @@ low_at s past reads p laws run timely lt at =
     let le = low_counted c.phase reads c.update (node_in s past p).turns.low.0 at (versions_in_phase s past laws run timely p lt).low_to in
     subst (λ (n : ℕ). (node_in s past p).turns.low.0 ≤ n) (sym is) le
 
-exact_agrees : (s : ScriptData) (past : List Entry) (e : Entry) (reads : Bool) (v : Version) (k : ℕ) (row : List ℕ) (laws : Lawful s)
-    (run : StepRun s past) (timely : AllTimely s past) → MayFollow s past e → busy s past ≡ 0
+exact_agrees : (s : ScriptData) (past : List Entry) (e : Entry) (reads : Bool) (v : Version) (k : ℕ) (row : List ℕ) (laws : IsLawful s)
+    (run : IsStepRun s past) (timely : AllTimely s past) → MayFollow s past e → busy s past ≡ 0
     → TakesAsked (coordinator_in s past) e.took.from.0 e.took.body reads v k row
     → all_in (set (coordinator_in s past).current.askeds e.took.from.0 (Some row)) ≡ true
     → Exact s past (coordinator_in s past).current
@@ -173,8 +173,8 @@ exact_agrees s past e reads v k row laws run timely m none takes full exact =
     (low_at s past reads p laws run timely lp takes.phase) (low_at s past reads q laws run timely lq takes.phase) in
     asked ∙ same ∙ sym done)
 
-bound_denies : (s : ScriptData) (past : List Entry) (e : Entry) (reads : Bool) (v : Version) (k : ℕ) (row : List ℕ) (laws : Lawful s)
-    (run : StepRun s past) (timely : AllTimely s past) → MayFollow s past e
+bound_denies : (s : ScriptData) (past : List Entry) (e : Entry) (reads : Bool) (v : Version) (k : ℕ) (row : List ℕ) (laws : IsLawful s)
+    (run : IsStepRun s past) (timely : AllTimely s past) → MayFollow s past e
     → busy s past ≤ busy s (e ∷ past) + nudges e.took.body → Bound s past (coordinator_in s past)
     → TakesAsked (coordinator_in s past) e.took.from.0 e.took.body reads v k row
     → verdict_of (with_asked e.took.from.0 row (coordinator_in s past).current) ≡ Some false → (coordinator_in s past).flag ≡ false
@@ -197,7 +197,7 @@ bound_denies s past e reads v k row laws run timely m step was takes verdict cle
           cc clash);
     }
 
-bound_out : (s : ScriptData) (past : List Entry) (e : Entry) (out : Out Coordinator) (laws : Lawful s) (run : StepRun s (e ∷ past))
+bound_out : (s : ScriptData) (past : List Entry) (e : Entry) (out : Out Coordinator) (laws : IsLawful s) (run : IsStepRun s (e ∷ past))
     (timely : AllTimely s (e ∷ past)) → Bound s past (coordinator_in s past) → Frozen s past e → MadeByCoordinator s past e
     → Course (coordinator_in s past) e.took.from.0 e.took.body out → Bound s (e ∷ past) out.state
 bound_out s past e out laws run timely was frozen made (Leaves away) = record {
@@ -239,7 +239,7 @@ no_tree s past e body m none bd one =
     let took : of_trees e.took.body ≡ of_trees body = ap of_trees bd in
     absurd (omega (arith, one, took, found_none (λ (l : Letter). of_trees l.body) e.took.id (waiting s past) e.took m.waits none))
 
-stands : (s : ScriptData) (past : List Entry) (e : Entry) (reads : Bool) (laws : Lawful s) (run : StepRun s past) (timely : AllTimely s past)
+stands : (s : ScriptData) (past : List Entry) (e : Entry) (reads : Bool) (laws : IsLawful s) (run : IsStepRun s past) (timely : AllTimely s past)
     → MayFollow s past e → under_way of_trees s past ≡ 0 → (coordinator_in s past).phase ≡ Counting reads → e.actor.0 ≢ s.nodes
     → Next s past e → Stands s past e
 stands s past e reads laws run timely m none at away (Begins bd here made) = record {
@@ -274,7 +274,7 @@ stands s past e reads laws run timely m none at away (Obeys p out here lt order 
           (order_exact s past e v r p e.took.body out frozen order));
     }
 
-bound_away : (s : ScriptData) (past : List Entry) (e : Entry) (laws : Lawful s) (run : StepRun s (e ∷ past)) (timely : AllTimely s (e ∷ past))
+bound_away : (s : ScriptData) (past : List Entry) (e : Entry) (laws : IsLawful s) (run : IsStepRun s (e ∷ past)) (timely : AllTimely s (e ∷ past))
     → e.actor.0 ≢ s.nodes → Next s past e → Bound s past (coordinator_in s past) → Bound s (e ∷ past) (coordinator_in s (e ∷ past))
 bound_away s past e laws run timely away next was =
     let c = coordinator_in s past in
@@ -290,7 +290,7 @@ bound_away s past e laws run timely away next was =
       pausing = λ reads at. omega (arith, was.pausing reads at, step, calm);
     })
 
-bound_next : (s : ScriptData) (past : List Entry) (e : Entry) (laws : Lawful s) (run : StepRun s (e ∷ past)) (timely : AllTimely s (e ∷ past))
+bound_next : (s : ScriptData) (past : List Entry) (e : Entry) (laws : IsLawful s) (run : IsStepRun s (e ∷ past)) (timely : AllTimely s (e ∷ past))
     → Next s past e → Bound s past (coordinator_in s past) → Bound s (e ∷ past) (coordinator_in s (e ∷ past))
 bound_next s past e laws run timely (Coordinates tells at made) was =
     let c = coordinator_in s past in
@@ -314,7 +314,7 @@ bound_next s past e laws run timely (Obeys p out at lt order made) was =
     bound_away s past e laws run timely (omega (arith, at, lt)) (Obeys p out at lt order made) was
 
 -- in every run
-pub bound : (s : ScriptData) (past : List Entry) (laws : Lawful s) (run : StepRun s past) (timely : AllTimely s past)
+pub bound : (s : ScriptData) (past : List Entry) (laws : IsLawful s) (run : IsStepRun s past) (timely : AllTimely s past)
     → Bound s past (coordinator_in s past)
 bound s [] laws run timely = record { counts = λ x at. absurd (cc at); pausing = λ x at. absurd (cc at) }
 bound s (e ∷ past) laws run timely =

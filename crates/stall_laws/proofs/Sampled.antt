@@ -15,11 +15,11 @@ use Rattle.tx_trees.specs.Valid.{IsValid, load}
 use Rattle.tx_trees.specs.declared.parts.ScriptRow.TheVariants.{Advance}
 use Rattle.node_step.specs.Apt.{node_row}
 use Rattle.world_model.specs.Counts.{Each}
-use Rattle.world_model.specs.Runs.{waiting, client_in, coordinator_in, node_in, AtNode, AtCoordinator, AtClient, MayFollow, StepRun}
+use Rattle.world_model.specs.Runs.{waiting, client_in, coordinator_in, node_in, AtNode, AtCoordinator, AtClient, MayFollow, IsStepRun}
 use Rattle.world_model.specs.Sample.{entry_by, next_of, sample, small}
 use Rattle.world_model.specs.Tables.{client_table, coordinator_table}
-use Rattle.world_model.proofs.Fits.{Fit}
-use Rattle.world_model.proofs.Scripts.{Sound, has_root, node_below, sub_there}
+use Rattle.world_model.proofs.Fits.{IsFit}
+use Rattle.world_model.proofs.Scripts.{IsSound, has_root, node_below, sub_there}
 use Rattle.tree_laws.specs.Entries.{entries_of}
 use Rattle.tree_laws.proofs.Goods.{good_run}
 use Rattle.tree_laws.proofs.Nudges.{lawful}
@@ -42,7 +42,7 @@ finished = refl
 
 -- It is a run.
 -- letters are for a node, the coordinator or the client
-someone : (s : ScriptData) (from to : ℕ) (body : Body) → Sound s → Fit s from to body → to ≤ s.nodes + 1
+someone : (s : ScriptData) (from to : ℕ) (body : Body) → IsSound s → IsFit s from to body → to ≤ s.nodes + 1
 someone s from to Go sound fit = omega (arith, fit)
 someone s from to (Root t) sound fit = omega (arith, fit.1, node_below s t.0 0 (has_root s t.0 sound fit.0) sound)
 someone s from to (SubLetter t k v) sound fit = omega (arith, fit.3, node_below s t.0 k.0 (sub_there s t.0 k.0 fit.0 fit.1) sound)
@@ -77,16 +77,16 @@ follows s past l found le false true node at =
 follows s past l found le false false node at =
     record { stamp = refl; waits = found; addressee = refl; moves = AtClient (grind (arith, nat_tests)) (refl, refl) }
 
-next_run : (s : ScriptData) (past : List Entry) (ls : List Letter) → Sound s → StepRun s past → waiting s past ≡ ls → StepRun s (next_of s past ls)
+next_run : (s : ScriptData) (past : List Entry) (ls : List Letter) → IsSound s → IsStepRun s past → waiting s past ≡ ls → IsStepRun s (next_of s past ls)
 next_run s past [] sound run at = run
 next_run s past (l ∷ ls) sound run at =
     let letters = (good_run s past sound run (all_timely s past (lawful s sound) run)).letters in
-    let fit = (subst (λ (xs : List Letter). Each (λ (x : Letter). Fit s x.from.0 x.to.0 x.body) xs) at letters).0 in
+    let fit = (subst (λ (xs : List Letter). Each (λ (x : Letter). IsFit s x.from.0 x.to.0 x.body) xs) at letters).0 in
     let found : find_id l.id (waiting s past) ≡ Some l = ap (λ (xs : List Letter). find_id l.id xs) at ∙ first_found l ls in
     (follows s past l found (someone s l.from.0 l.to.0 l.body sound fit) (nat_lt l.to.0 s.nodes) (l.to.0 == s.nodes) refl refl, run)
 
 -- each sample is one
-pub sample_run : (s : ScriptData) (n : ℕ) → Sound s → StepRun s (sample s n)
+pub sample_run : (s : ScriptData) (n : ℕ) → IsSound s → IsStepRun s (sample s n)
 sample_run s zero sound = tt
 sample_run s (suc n) sound = next_run s (sample s n) (waiting s (sample s n)) sound (sample_run s n sound) refl
 
@@ -124,7 +124,7 @@ valid = record {
   failed = (tt, tt);
 }
 
-pub sound : Sound advanced
+pub sound : IsSound advanced
 sound = record { valid = valid; runnable = record { trees = (refl, tt); rows = (refl, (refl, tt)) } }
 
 pub ends : HasFinished (reverse (sample advanced 44))

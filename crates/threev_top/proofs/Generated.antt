@@ -8,7 +8,7 @@ use Rattle.tx_trees.specs.declared.parts.ScriptRow.TheVariants as rows
 use Rattle.tx_trees.specs.declared.parts.Tree.{Tree}
 use Rattle.tx_trees.specs.declared.parts.TreeKind.TheVariants.{Update, Read}
 use Rattle.script_gen.specs.Generated.{advances_behind, after_trees, generated, generated_tree, kind_by, rows_up_to, trees_up_to}
-use Rattle.world_model.specs.Tables.{is_run, is_run_row, Runnable}
+use Rattle.world_model.specs.Tables.{is_run, is_run_row, IsRunnable}
 
 abbrev RunTrees : List Tree → Type 0
 RunTrees ts = AllByRecursion (λ (t : Tree). IsTrue (is_run t.kind)) ts
@@ -42,12 +42,12 @@ rows_run zero = tt
 rows_run (suc j) =
     rows_more (rows_up_to j) (rows.Tree (record { 0 = j }) ∷ advances_behind j) (rows_run j) (refl, behind_runs _)
 
-pub generated_runs : (seed n : ℕ) → Runnable (generated seed n)
+pub generated_runs : (seed n : ℕ) → IsRunnable (generated seed n)
 generated_runs seed n = record {
   trees = trees_run seed n;
   rows = rows_more (rows_up_to n) (rows.Settle ∷ rows.Advance ∷ rows.Settle ∷ []) (rows_run n) (refl, (refl, (refl, tt)));
 }
 
 -- and so may one that is equal to it
-pub is_runnable : (s : ScriptData) (seed n : ℕ) → s ≡ generated seed n → Runnable s
-is_runnable s seed n is = subst Runnable (sym is) (generated_runs seed n)
+pub is_runnable : (s : ScriptData) (seed n : ℕ) → s ≡ generated seed n → IsRunnable s
+is_runnable s seed n is = subst IsRunnable (sym is) (generated_runs seed n)

@@ -12,7 +12,7 @@ use Rattle.tx_trees.specs.declared.parts.TreeKind.TheVariants.{Update, Read, Str
 use Rattle.script_reader.specs.Reading.{read_of}
 use Rattle.script_reader.specs.Builds.{Builds}
 use Rattle.script_reader.proofs.Builds.{reads_built}
-use Rattle.world_model.specs.Tables.{is_run, is_run_row, Runnable}
+use Rattle.world_model.specs.Tables.{is_run, is_run_row, IsRunnable}
 
 row_runs : (r : ScriptRow) → IsBuiltRow r → IsTrue (is_run_row r)
 row_runs (TreeRow t) built = refl
@@ -34,7 +34,7 @@ trees_run [] built = tt
 trees_run (t ∷ ts) built = (kind_runs t.kind built.0, trees_run ts built.1)
 
 -- what is read runs
-pub reads_runnable : (bytes : List ℕ) (s : ScriptData) → read_of bytes ≡ Ok s → Runnable s
+pub reads_runnable : (bytes : List ℕ) (s : ScriptData) → read_of bytes ≡ Ok s → IsRunnable s
 reads_runnable bytes s is =
     let builds : Builds s = reads_built bytes s is in
     record { trees = trees_run s.trees builds.trees; rows = rows_run s.rows builds.rows }

@@ -8,7 +8,7 @@ ghost use Rattle.script_reader.specs.Written.{written};
 ghost use Rattle.tx_trees.specs.Adding.{upgraded};
 ghost use Rattle.script_reader.specs.declared.reading.ScriptFault.{ScriptFault};
 ghost use Rattle.world_model.specs.Scheduled.{IsScheduled};
-ghost use Rattle.world_model.specs.Tables.{Runnable};
+ghost use Rattle.world_model.specs.Tables.{IsRunnable};
 ghost use Rattle.headline.specs.Headline.{HasHeadline};
 ghost use Rattle.headline.specs.Ended.{HasEnded};
 ghost use Rattle.threev_top.specs.Calls.{HasWorkers, is_before_writing, IsByBytes, IsStop, IsText, IsTextOf, IsWritten, reading_stop, Refuses, report_with, script_stop, WritesFront, WritesText, Wrote, WroteFront};
@@ -113,7 +113,7 @@ fn simulated(
     seed: Option<u64>,
     lines: bool,
 ) -> Result<Made, NoMemory>
-    requires { Runnable script.now }
+    requires { IsRunnable script.now }
     ensures ended { IfOk result (λ made. HasEnded script.now made.history) }
     ensures scheduled { IfOk result (λ made. IsScheduled script.now seed made.history) }
     ensures text { IfOk result (λ made. made.text ≡ report_with lines script.now made.history) }
@@ -132,7 +132,7 @@ fn ran<R: Threads + Wait + Sync, G: Gate + Sync>(
     lines: bool,
     gate: &G,
 ) -> Result<Made, NoMemory>
-    requires runnable { Runnable script.now }
+    requires runnable { IsRunnable script.now }
     requires workers { (1 ≤ workers) × (workers ≤ 32) }
     ensures headline { IfOk result (λ made. HasHeadline script.now made.history) }
     ensures text { IfOk result (λ made. made.text ≡ report_with lines script.now made.history) }
@@ -177,7 +177,7 @@ fn text_of<R: Threads + Wait + Sync, G: Gate + Sync>(
     script: Script,
     gate: &G,
 ) -> Result<Made, NoMemory>
-    requires runnable { Runnable script }
+    requires runnable { IsRunnable script }
     requires workers { HasWorkers mode }
     ensures { IfOk result (λ made. IsText mode script made.history made.text) }
 {
@@ -197,7 +197,7 @@ fn made_by<R: Threads + Wait + Sync, G: Gate + Sync>(
     script: Script,
     gate: &G,
 ) -> Result<Made, Stop>
-    requires runnable { Runnable script }
+    requires runnable { IsRunnable script }
     requires workers { HasWorkers mode }
     ensures made { IfOk result (λ made. IsText mode script made.history made.text) }
     ensures stop { IfErr result (λ stop. stop ≡ Stop.NoMemory) }

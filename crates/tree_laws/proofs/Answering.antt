@@ -11,7 +11,7 @@ use Rattle.tree_step.specs.Notices.{answer_noted, reply_letters}
 use Rattle.tx_trees.specs.ScriptData.{ScriptData, client_of}
 use Rattle.world_model.specs.Counts.{tally, one_if}
 use Rattle.tree_laws.specs.Dids.{replies_to}
-use Rattle.world_model.proofs.Fits.{SentFit}
+use Rattle.world_model.proofs.Fits.{IsSentFit}
 use Rattle.tree_laws.proofs.Noting.{Noting, More, Last, noting}
 use Rattle.world_model.proofs.Sends.{on}
 use Rattle.tree_laws.proofs.Sent.{not_here}
@@ -63,7 +63,7 @@ replies_apart client u t k values hs ne miss = apart_by client u t k values hs n
 
 -- an answer is meant for the client
 fits_by : (s : ScriptData) (from : ℕ) (t : TreeNo) (k : SubNo) (values : Gets) (hs : OpenTrees) → t.0 < length s.trees → misses t k hs ≡ true
-    → Noting t k values hs → SentFit s from (reply_letters (client_of s) (answer_noted t k values hs))
+    → Noting t k values hs → IsSentFit s from (reply_letters (client_of s) (answer_noted t k values hs))
 fits_by s from t k values hs lt miss (More is answer some) = rw answer tt
 fits_by s from t k values hs lt miss (Last a is answer here none) =
     let its = ap (λ (x : TreeNo). x.0) (answers_tree t k values hs a miss here) in
@@ -71,5 +71,5 @@ fits_by s from t k values hs lt miss (Last a is answer here none) =
 
 -- an answer is meant for the client
 pub answer_fits : (s : ScriptData) (from : ℕ) (t : TreeNo) (k : SubNo) (values : Gets) (hs : OpenTrees) → t.0 < length s.trees
-    → misses t k hs ≡ true → SentFit s from (reply_letters (client_of s) (answer_noted t k values hs))
+    → misses t k hs ≡ true → IsSentFit s from (reply_letters (client_of s) (answer_noted t k values hs))
 answer_fits s from t k values hs lt miss = fits_by s from t k values hs lt miss (noting t k values hs miss)

@@ -16,12 +16,12 @@ use Rattle.tree_home.specs.Homes.{home_in}
 use Rattle.tx_trees.specs.ScriptData.{ScriptData, node_of, home_of, ops_of}
 use Rattle.tx_trees.specs.Valid.{IsValid}
 use Rattle.update_step.specs.Rows.{can_touch}
-use Rattle.world_model.specs.Runs.{MayFollow, StepRun, node_in}
-use Rattle.world_model.specs.Tables.{Runnable}
-use Rattle.tree_laws.proofs.Good.{Good}
+use Rattle.world_model.specs.Runs.{MayFollow, IsStepRun, node_in}
+use Rattle.world_model.specs.Tables.{IsRunnable}
+use Rattle.tree_laws.proofs.Good.{IsGood}
 use Rattle.tree_laws.proofs.Goods.{good_run, next_of}
 use Rattle.world_model.proofs.Nexts.{Next, Begins, Hears, Ends, Coordinates, DoesRoot, DoesSub, Notes, Obeys, Order, Turns, Shows, Sweeps, TellsDone, TellsAsked, RootWork, RootUpdates, RootReads, SubWork, SubUpdates, SubReads}
-use Rattle.world_model.proofs.Scripts.{Sound, SubAt, not_strict, read_kind_at, sub_below, update_kind_at}
+use Rattle.world_model.proofs.Scripts.{IsSound, SubAt, not_strict, read_kind_at, sub_below, update_kind_at}
 use Rattle.tree_laws.proofs.Steps.{timely_at, turns_by, shows_by, sweeps_by, tells_done_by, tells_asked_by}
 use Rattle.world_model.specs.Timely.{AllTimely, WasTimely}
 
@@ -62,7 +62,7 @@ obeys_apt s past e p out was at lt (Sweeps v is row) =
 obeys_apt s past e p out was at lt (TellsDone v k is row) = (tells_done_by s p (node_in s past p) e.took v k is).0
 obeys_apt s past e p out was at lt (TellsAsked v k is row) = (tells_asked_by s p (node_in s past p) e.took v k is).0
 
-apt_by : (s : ScriptData) (past : List Entry) (e : Entry) → Sound s → Good s past → MayFollow s past e → WasTimely s past e → e.actor.0 < s.nodes
+apt_by : (s : ScriptData) (past : List Entry) (e : Entry) → IsSound s → IsGood s past → MayFollow s past e → WasTimely s past e → e.actor.0 < s.nodes
     → Next s past e → IsApt s past e e.actor.0
 apt_by s past e sound good m was node (Begins is at made) = absurd (omega arith)
 apt_by s past e sound good m was node (Hears t v answer is at lt made) = absurd (omega arith)
@@ -80,8 +80,8 @@ apt_by s past e sound good m was node (Notes t k v values is c later from at lt 
     at_actor s past e (home_of s t.0) at
     (notice_apt s st e.took t k v values is (not_strict s t.0 k.0 c sound) (sub_below s t.0 k.0 c) from near)
 
-pub taken_is_apt : (s : ScriptData) (past : List Entry) (e : Entry) → IsValid s → Runnable s → StepRun s (e ∷ past)
+pub taken_is_apt : (s : ScriptData) (past : List Entry) (e : Entry) → IsValid s → IsRunnable s → IsStepRun s (e ∷ past)
     → AllTimely s (e ∷ past) → e.actor.0 < s.nodes → is_apt s e.actor.0 (node_in s past e.actor.0) e.took ≡ true
 taken_is_apt s past e valid runs run timely node =
-    let sound : Sound s = record { valid = valid; runnable = runs } in
+    let sound : IsSound s = record { valid = valid; runnable = runs } in
     apt_by s past e sound (good_run s past sound run.1 timely.1) run.0 timely.0 node (next_of s past e sound run timely)

@@ -19,7 +19,7 @@ use Rattle.tx_trees.specs.declared.parts.ScriptRow.{ScriptRow}
 use Rattle.tx_trees.specs.declared.parts.ScriptRow.TheVariants.{Tree as TreeRow, Advance as AdvanceRow, Settle as SettleRow, Lose as LoseRow}
 use Rattle.client_rows.specs.Client.{Client, all_answered, have_ended, submitted, next_after, finishes, submit, with_answer, with_end, nudge}
 use Rattle.world_model.specs.Counts.{tally, one_if}
-use Rattle.world_model.specs.Runs.{client_in, node_in, MayFollow, StepRun}
+use Rattle.world_model.specs.Runs.{client_in, node_in, MayFollow, IsStepRun}
 use Rattle.tree_laws.specs.Dids.{is_go, goes}
 use Rattle.tree_laws.specs.Ends.{is_finish}
 use Rattle.tree_laws.proofs.Goods.{next_of}
@@ -27,7 +27,7 @@ use Rattle.tree_laws.proofs.Doing.{sub_acts}
 use Rattle.world_model.proofs.Flows.{flow, client_kept}
 use Rattle.world_model.proofs.Nexts.{Next, Begins, Hears, Ends, Coordinates, DoesRoot, DoesSub, Notes, Obeys, MadeByClient, Order, Turns, Shows, Sweeps, TellsDone, TellsAsked, Tells}
 use Rattle.world_model.specs.Timely.{AllTimely}
-use Rattle.world_model.proofs.Scripts.{Sound, get_below}
+use Rattle.world_model.proofs.Scripts.{IsSound, get_below}
 
 -- How far the client submits.
 
@@ -292,7 +292,7 @@ next_rest s past e m rest (Notes t k v values is sub later from at lt misses mad
     kept_rest s past e m rest (omega (arith, at, lt)) (ap is_go is) (ap (λ (xs : List Act). tally is_finish xs) made.acts)
 
 -- in every run
-pub at_rest : (s : ScriptData) (past : List Entry) → Sound s → StepRun s past → AllTimely s past → AtRest s past
+pub at_rest : (s : ScriptData) (past : List Entry) → IsSound s → IsStepRun s past → AllTimely s past → AtRest s past
 at_rest s [] sound run timely = record {
   most = omega arith;
   small = omega arith;

@@ -21,13 +21,13 @@ use Rattle.world_model.specs.Runs.{client_in, MayFollow}
 use Rattle.world_model.proofs.Bags.{tally-append, one_if_same}
 use Rattle.world_model.proofs.Every.{each_append, node_kept}
 use Rattle.tree_laws.specs.Dids.{asks, tells_done, replies_to, replies, answers, is_did, is_born, is_row_of, rooted}
-use Rattle.world_model.proofs.Fits.{Fit, SentFit, rows_fit, each_take, each_drop, roots_fit, RowFits}
+use Rattle.world_model.proofs.Fits.{IsFit, IsSentFit, rows_fit, each_take, each_drop, roots_fit, RowFits}
 use Rattle.world_model.proofs.Flows.{flow, submit_none, finish_none}
 use Rattle.tree_laws.proofs.Flows.{letters_next}
-use Rattle.tree_laws.proofs.Good.{Good, TreeAt, Unborn, Gathers, Answered}
+use Rattle.tree_laws.proofs.Good.{IsGood, TreeAt, Unborn, Gathers, Answered}
 use Rattle.tree_laws.proofs.Kept.{Idle, idle_roots, idle_subs, idle_born, idle_items, heard_same, stay_in}
 use Rattle.world_model.proofs.Nexts.{MadeByClient}
-use Rattle.world_model.proofs.Scripts.{Sound, has_root, node_below}
+use Rattle.world_model.proofs.Scripts.{IsSound, has_root, node_below}
 use Rattle.world_model.proofs.Sends.{on}
 use Rattle.tree_laws.proofs.Sent.{roots_alone, roots_of_rows, tally_take_more, not_here}
 use Rattle.tree_laws.proofs.Staging.{Apart, stays}
@@ -37,7 +37,7 @@ pub record Submits (s : ScriptData) (past : List Entry) (e : Entry) (c : Client)
   pub at : e.actor.0 ≡ client_of s
   pub made : MadeByClient s past e (submit s c first)
   pub next : c.next ≡ (client_in s past).next
-  pub fits : SentFit s e.actor.0 first
+  pub fits : IsSentFit s e.actor.0 first
   pub no_asks : (u i : ℕ) → tally (on (asks u i)) first ≡ 0
   pub no_notes : (u i : ℕ) → tally (on (tells_done u i)) first ≡ 0
   pub no_answers : (u : ℕ) → tally (on (replies_to u)) first ≡ 0
@@ -85,7 +85,7 @@ submits_idle s past e c first sub = record {
   items = λ p lt. let at = sub.at in stay_in s past e p (ap (λ n. n.items) (node_kept s past e p (omega arith)));
 }
 
-submits_apart : (s : ScriptData) (past : List Entry) (e : Entry) (c : Client) (first : List Outgoing) → Sound s → Submits s past e c first
+submits_apart : (s : ScriptData) (past : List Entry) (e : Entry) (c : Client) (first : List Outgoing) → IsSound s → Submits s past e c first
     → (t : ℕ) → t < length s.trees → Apart s past e t
 submits_apart s past e c first sound sub t lt =
     let below = node_below s t 0 (has_root s t sound lt) sound in
@@ -98,20 +98,20 @@ submits_apart s past e c first sound sub t lt =
       notes = λ k. sent_none (tells_done t k) s past e c first sub (sub.no_notes t k) (λ u. refl) refl;
     }
 
-submits_fit : (s : ScriptData) (past : List Entry) (e : Entry) (c : Client) (first : List Outgoing) → Sound s → Submits s past e c first
-    → SentFit s e.actor.0 e.sent
+submits_fit : (s : ScriptData) (past : List Entry) (e : Entry) (c : Client) (first : List Outgoing) → IsSound s → Submits s past e c first
+    → IsSentFit s e.actor.0 e.sent
 submits_fit s past e c first sound sub =
     let k = submitted c (take c.next s.rows) (drop c.next s.rows) in
     let rows = each_take (RowFits s) k (drop c.next s.rows) (each_drop (RowFits s) c.next s.rows (rows_fit s sound)) in
-    subst (λ os. SentFit s e.actor.0 os) (sym sub.made.sent)
-    (each_append (λ (o : Outgoing). (i : LetterId) → Fit s e.actor.0 o.to.0 o.body) first (rows_letters s (new_rows s c)) sub.fits
+    subst (λ os. IsSentFit s e.actor.0 os) (sym sub.made.sent)
+    (each_append (λ (o : Outgoing). (i : LetterId) → IsFit s e.actor.0 o.to.0 o.body) first (rows_letters s (new_rows s c)) sub.fits
     (roots_fit s e.actor.0 (new_rows s c) rows))
 
 -- whatever the client hears, if its answers are right
-submits_good : (s : ScriptData) (past : List Entry) (e : Entry) (c : Client) (first : List Outgoing) → Sound s → Good s past → MayFollow s past e
+submits_good : (s : ScriptData) (past : List Entry) (e : Entry) (c : Client) (first : List Outgoing) → IsSound s → IsGood s past → MayFollow s past e
     → Submits s past e c first
     → ((t : ℕ) → t < length s.trees → answers (e ∷ past) t ≡ replies s (e ∷ past) t + one_if (get_or (client_in s (e ∷ past)).answered t false))
-    → Good s (e ∷ past)
+    → IsGood s (e ∷ past)
 submits_good s past e c first sound good m sub heard =
     let idle = submits_idle s past e c first sub in
     record {
@@ -125,8 +125,8 @@ submits_good s past e c first sound good m sub heard =
     }
 
 -- the client begins
-pub begins_good : (s : ScriptData) (past : List Entry) (e : Entry) → Sound s → Good s past → MayFollow s past e → e.took.body ≡ Go
-    → e.actor.0 ≡ client_of s → MadeByClient s past e (submit s (client_in s past) []) → Good s (e ∷ past)
+pub begins_good : (s : ScriptData) (past : List Entry) (e : Entry) → IsSound s → IsGood s past → MayFollow s past e → e.took.body ≡ Go
+    → e.actor.0 ≡ client_of s → MadeByClient s past e (submit s (client_in s past) []) → IsGood s (e ∷ past)
 begins_good s past e sound good m is at made =
     let sub : Submits s past e (client_in s past) [] = record {
       at = at;
@@ -143,9 +143,9 @@ begins_good s past e sound good m is at made =
     (λ t lt. heard_same s past e good m t lt (rw is refl) (ap (λ (x : Client). get_or x.answered t false) made.state))
 
 -- the client hears that an advancement has ended
-pub ends_good : (s : ScriptData) (past : List Entry) (e : Entry) (v : Version) → Sound s → Good s past → MayFollow s past e
+pub ends_good : (s : ScriptData) (past : List Entry) (e : Entry) (v : Version) → IsSound s → IsGood s past → MayFollow s past e
     → e.took.body ≡ Advanced v → e.actor.0 ≡ client_of s → MadeByClient s past e (submit s (with_end (client_in s past)) [])
-    → Good s (e ∷ past)
+    → IsGood s (e ∷ past)
 ends_good s past e v sound good m is at made =
     let sub : Submits s past e (with_end (client_in s past)) [] = record {
       at = at;
@@ -196,7 +196,7 @@ heard_other : (answered : List Bool) (t u a b : ℕ) → u ≢ t → a ≡ b + o
     → a ≡ b + one_if (get_or (set answered t true) u false)
 heard_other answered t u a b ne is = rw (get_or-set_other answered t u true false ne) is
 
-hears_by : (s : ScriptData) (past : List Entry) (e : Entry) (t : ℕ) → Good s past → MayFollow s past e → t < length s.trees
+hears_by : (s : ScriptData) (past : List Entry) (e : Entry) (t : ℕ) → IsGood s past → MayFollow s past e → t < length s.trees
     → ((u : ℕ) → replies_to u e.took.body ≡ one_if (t == u)) → ((u : ℕ) → tally (on (replies_to u)) e.sent ≡ 0)
     → (u : ℕ) → u < length s.trees → (u ≡ t) ⊎ (u ≢ t)
     → answers (e ∷ past) u ≡ replies s (e ∷ past) u + one_if (get_or (set (client_in s past).answered t true) u false)
@@ -212,9 +212,9 @@ hears_by s past e t good m lt took sent u ut (inr ne) =
     (omega (arith, good.heard u ut, flow (replies_to u) s past e m, took u, not_here u t (λ is. ne (sym is)), sent u))
 
 -- the client hears an answer
-pub hears_good : (s : ScriptData) (past : List Entry) (e : Entry) (t : TreeNo) (v : Version) (answer : Answer) → Sound s → Good s past
+pub hears_good : (s : ScriptData) (past : List Entry) (e : Entry) (t : TreeNo) (v : Version) (answer : Answer) → IsSound s → IsGood s past
     → MayFollow s past e → e.took.body ≡ Reply t v answer → e.actor.0 ≡ client_of s → t.0 < length s.trees
-    → MadeByClient s past e (submit s (with_answer t.0 (client_in s past)) (nudge s ∷ [])) → Good s (e ∷ past)
+    → MadeByClient s past e (submit s (with_answer t.0 (client_in s past)) (nudge s ∷ [])) → IsGood s (e ∷ past)
 hears_good s past e t v answer sound good m is at lt made =
     let c = with_answer t.0 (client_in s past) in
     let sub : Submits s past e c (nudge s ∷ []) = record {

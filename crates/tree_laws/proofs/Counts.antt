@@ -14,9 +14,9 @@ use Rattle.world_model.specs.Runs.{client_in, waiting, MayFollow}
 use Rattle.world_model.proofs.Bags.{tally-drop}
 use Rattle.tree_laws.specs.Dids.{asks, asked, dids, is_row_of}
 use Rattle.tree_laws.proofs.Loads.{trees_done, trees_most, trees_more}
-use Rattle.world_model.proofs.Scripts.{Sound, SubAt, tree_below, is_sub, get_some, get_below, ops_here}
+use Rattle.world_model.proofs.Scripts.{IsSound, SubAt, tree_below, is_sub, get_some, get_below, ops_here}
 use Rattle.tree_laws.proofs.Sent.{other_sub, other_tree, rooted_once, tally_take_le}
-use Rattle.tree_laws.proofs.Good.{Good, bound}
+use Rattle.tree_laws.proofs.Good.{IsGood, bound}
 use Rattle.tree_laws.proofs.Tables.{bounds_after}
 
 -- Each subtransaction is done at most once.
@@ -24,30 +24,30 @@ pub zero_or : (k : ℕ) → (k ≡ 0) ⊎ (0 < k)
 zero_or k = grind arith
 
 -- a parent is a subtransaction of its tree
-pub parent_at : (s : ScriptData) (t k : ℕ) (c : SubAt s t k) → Sound s → 0 < k → SubAt s t c.sub.parent.0
+pub parent_at : (s : ScriptData) (t k : ℕ) (c : SubAt s t k) → IsSound s → 0 < k → SubAt s t c.sub.parent.0
 parent_at s t k c sound lt =
     let up : c.sub.parent.0 < k = (is_sub s t k c sound).parent lt in
     let sub = get_some c.tree.subs c.sub.parent.0 (omega (arith, up, get_below c.tree.subs k c.sub c.here)) in
     record { tree = c.tree; at = c.at; sub = sub.0; here = sub.1 }
 
-below_by : (s : ScriptData) (past : List Entry) (n t k : ℕ) (c : SubAt s t k) → Sound s → Good s past → k < suc n
+below_by : (s : ScriptData) (past : List Entry) (n t k : ℕ) (c : SubAt s t k) → IsSound s → IsGood s past → k < suc n
     → ((j : ℕ) → j < n → SubAt s t j → dids past t j ≤ dids past t 0) → (k ≡ 0) ⊎ (0 < k) → dids past t k ≤ dids past t 0
 below_by s past n t k c sound good lt ih (inl is) = subst (λ (j : ℕ). dids past t j ≤ dids past t 0) (sym is) (omega arith)
 below_by s past n t k c sound good lt ih (inr more) =
     let up : c.sub.parent.0 < k = (is_sub s t k c sound).parent more in
     omega (arith, good.subs t k c more, ih c.sub.parent.0 (omega arith) (parent_at s t k c sound more))
 
-below : (s : ScriptData) (past : List Entry) (n t k : ℕ) (c : SubAt s t k) → Sound s → Good s past → k < n → dids past t k ≤ dids past t 0
+below : (s : ScriptData) (past : List Entry) (n t k : ℕ) (c : SubAt s t k) → IsSound s → IsGood s past → k < n → dids past t k ≤ dids past t 0
 below s past zero t k c sound good lt = absurd (omega arith)
 below s past (suc n) t k c sound good lt =
     below_by s past n t k c sound good lt (λ j less sub. below s past n t j sub sound good less) (zero_or k)
 
 -- a subtransaction is done no more often than its root
-pub below_root : (s : ScriptData) (past : List Entry) (t k : ℕ) → SubAt s t k → Sound s → Good s past → dids past t k ≤ dids past t 0
+pub below_root : (s : ScriptData) (past : List Entry) (t k : ℕ) → SubAt s t k → IsSound s → IsGood s past → dids past t k ≤ dids past t 0
 below_root s past t k c sound good = below s past (k + 1) t k c sound good (omega arith)
 
 -- a root is asked for or done at most once
-pub root_most : (s : ScriptData) (past : List Entry) (t : ℕ) → Sound s → Good s past → t < length s.trees
+pub root_most : (s : ScriptData) (past : List Entry) (t : ℕ) → IsSound s → IsGood s past → t < length s.trees
     → asked s past t 0 + dids past t 0 ≤ 1
 root_most s past t sound good lt =
     omega (
@@ -58,7 +58,7 @@ root_most s past t sound good lt =
     )
 
 -- each subtransaction is done at most once
-pub at_most_once : (s : ScriptData) (past : List Entry) (t k : ℕ) → SubAt s t k → Sound s → Good s past → dids past t k ≤ 1
+pub at_most_once : (s : ScriptData) (past : List Entry) (t k : ℕ) → SubAt s t k → IsSound s → IsGood s past → dids past t k ≤ 1
 at_most_once s past t k c sound good =
     omega (arith, below_root s past t k c sound good, root_most s past t sound good (tree_below s t k c))
 
@@ -67,7 +67,7 @@ pub was_asked : (s : ScriptData) (past : List Entry) (e : Entry) (t k : ℕ) →
     → 1 ≤ asked s past t k
 was_asked s past e t k m one = omega (arith, one, tally-drop (λ (l : Letter). asks t k l.body) e.took.id (waiting s past) e.took m.waits)
 
-not_done_by : (s : ScriptData) (past : List Entry) (t k : ℕ) (c : SubAt s t k) → Sound s → Good s past → 1 ≤ asked s past t k
+not_done_by : (s : ScriptData) (past : List Entry) (t k : ℕ) (c : SubAt s t k) → IsSound s → IsGood s past → 1 ≤ asked s past t k
     → (k ≡ 0) ⊎ (0 < k) → dids past t k ≡ 0
 not_done_by s past t k c sound good some (inl is) =
     let here : 1 ≤ asked s past t 0 = subst (λ (j : ℕ). 1 ≤ asked s past t j) is some in
@@ -76,7 +76,7 @@ not_done_by s past t k c sound good some (inr more) =
     omega (arith, good.subs t k c more, at_most_once s past t c.sub.parent.0 (parent_at s t k c sound more) sound good)
 
 -- what is asked for isn't done
-pub not_done : (s : ScriptData) (past : List Entry) (t k : ℕ) → SubAt s t k → Sound s → Good s past → 1 ≤ asked s past t k → dids past t k ≡ 0
+pub not_done : (s : ScriptData) (past : List Entry) (t k : ℕ) → SubAt s t k → IsSound s → IsGood s past → 1 ≤ asked s past t k → dids past t k ≡ 0
 not_done s past t k c sound good some = not_done_by s past t k c sound good some (zero_or k)
 
 -- Loads.
@@ -95,7 +95,7 @@ load_more s past t k x c =
     (λ j ne. omega (arith, other_sub t t j k (λ is. ne (sym is)))) (λ u j ne. omega (arith, other_tree u t j k (λ is. ne (sym is)))) in
     rw (ops_here s t k c) more
 
-once_more : (s : ScriptData) (past : List Entry) (t k u i : ℕ) → SubAt s u i → Sound s → Good s past → dids past t k ≡ 0 → (test : Bool)
+once_more : (s : ScriptData) (past : List Entry) (t k u i : ℕ) → SubAt s u i → IsSound s → IsGood s past → dids past t k ≡ 0 → (test : Bool)
     → ((t == u) && (k == i)) ≡ test
     → with_one s past t k u i ≤ 1
 once_more s past t k u i c sound good none true is =
@@ -105,7 +105,7 @@ once_more s past t k u i c sound good none true is =
     rw is (omega (arith, zero_here))
 once_more s past t k u i c sound good none false is = rw is (omega (arith, at_most_once s past u i c sound good))
 
-load_most : (s : ScriptData) (past : List Entry) (t k x : ℕ) (c : SubAt s t k) → Sound s → Good s past → dids past t k ≡ 0
+load_most : (s : ScriptData) (past : List Entry) (t k x : ℕ) (c : SubAt s t k) → IsSound s → IsGood s past → dids past t k ≡ 0
     → trees_done (dids past) x 0 s.trees + ops_load x (ops_of s t k) ≤ trees_load x s.trees
 load_most s past t k x c sound good none =
     let all : trees_done (with_one s past t k) x 0 s.trees ≤ trees_load x s.trees =
@@ -120,7 +120,7 @@ abbrev pub bounds_with : ScriptData → List Entry → ℕ → ℕ → ℕ → �
 bounds_with s past t k = bounds_after (bound s past) (ops_of s t k)
 
 -- an item that a subtransaction that is not done touches keeps to what is allowed
-pub within_most : (s : ScriptData) (past : List Entry) (t k x : ℕ) (r : ItemRow) (c : SubAt s t k) → Sound s → Good s past → dids past t k ≡ 0
+pub within_most : (s : ScriptData) (past : List Entry) (t k x : ℕ) (r : ItemRow) (c : SubAt s t k) → IsSound s → IsGood s past → dids past t k ≡ 0
     → slice_get s.items x ≡ Some r
     → bound s past x + ops_load x (ops_of s t k) ≤ MOST_AMOUNT
 within_most s past t k x r c sound good none at =

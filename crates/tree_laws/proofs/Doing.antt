@@ -22,10 +22,10 @@ use Rattle.world_model.specs.Runs.{node_in}
 use Rattle.world_model.proofs.Bags.{tally-append}
 use Rattle.tree_laws.specs.Dids.{asks, is_did, is_born, dids}
 use Rattle.world_model.proofs.Flows.{client_kept}
-use Rattle.tree_laws.proofs.Good.{Good}
+use Rattle.tree_laws.proofs.Good.{IsGood}
 use Rattle.tree_laws.proofs.Kept.{Does}
 use Rattle.world_model.proofs.Nexts.{Made, RootWork, SubWork}
-use Rattle.world_model.proofs.Scripts.{Sound, SubAt, node_below}
+use Rattle.world_model.proofs.Scripts.{IsSound, SubAt, node_below}
 use Rattle.world_model.proofs.Sends.{on, replies_none}
 use Rattle.tree_laws.proofs.Works.{root_in_bounds, sub_in_bounds}
 
@@ -50,7 +50,7 @@ root_sends f s past e t v effect made =
 
 -- a root that is done is a subtransaction that is done
 pub root_does : (s : ScriptData) (past : List Entry) (e : Entry) (t : TreeNo) (v : Version) (effect : Effect) → SubAt s t.0 0
-    → Sound s → Good s past → dids past t.0 0 ≡ 0 → e.took.body ≡ Root t → e.actor.0 ≡ home_of s t.0
+    → IsSound s → IsGood s past → dids past t.0 0 ≡ 0 → e.took.body ≡ Root t → e.actor.0 ≡ home_of s t.0
     → RootWork s t.0 (node_in s past (home_of s t.0)) v effect
     → Made s past e (home_of s t.0) (root_done s (home_of s t.0) t.0 v.0 effect (node_in s past (home_of s t.0)))
     → Does s past e t.0 0
@@ -95,7 +95,7 @@ sub_acts f s past e t k v raises effect work made none =
     omega (arith, parts, quiet, tally-append f (turned_if raises v.0) (Did t k effect.values ∷ []))
 
 -- the same of another subtransaction
-pub sub_does : (s : ScriptData) (past : List Entry) (e : Entry) (t : TreeNo) (k : SubNo) (v : Version) (raises : Bool) (effect : Effect) → SubAt s t.0 k.0 → 0 < k.0 → Sound s → Good s past → dids past t.0 k.0 ≡ 0
+pub sub_does : (s : ScriptData) (past : List Entry) (e : Entry) (t : TreeNo) (k : SubNo) (v : Version) (raises : Bool) (effect : Effect) → SubAt s t.0 k.0 → 0 < k.0 → IsSound s → IsGood s past → dids past t.0 k.0 ≡ 0
     → e.took.body ≡ SubLetter t k v → e.actor.0 ≡ node_of s t.0 k.0
     → SubWork s t.0 k.0 (node_in s past (node_of s t.0 k.0)) v raises effect
     → Made s past e (node_of s t.0 k.0) (sub_done s e.took.from.0 t.0 k.0 v.0 raises effect (node_in s past (node_of s t.0 k.0)))

@@ -14,8 +14,8 @@ use Rattle.tx_trees.specs.Valid.{IsValid, IsTree}
 use Rattle.tx_trees.specs.declared.parts.ItemRow.{ItemRow}
 use Rattle.tx_trees.specs.declared.parts.Tree.{Tree}
 use Rattle.world_model.specs.Counts.{tally, one_if}
-use Rattle.world_model.specs.Runs.{StepRun}
-use Rattle.world_model.specs.Tables.{Runnable}
+use Rattle.world_model.specs.Runs.{IsStepRun}
+use Rattle.world_model.specs.Tables.{IsRunnable}
 use Rattle.world_model.proofs.Bags.{tally-append}
 use Rattle.tree_laws.specs.Dids.{asks, replies_to, replies, answers}
 use Rattle.advance_coord.specs.Coordinator.{Coordinator}
@@ -25,7 +25,7 @@ use Rattle.world_model.proofs.Flows.{flow}
 use Rattle.tree_laws.proofs.Unadvanced.{unadvanced}
 use Rattle.world_model.proofs.Sends.{on, roots_none}
 use Rattle.tree_laws.proofs.Sums.{over, over_add, over_same, over_none, over_hit, row_hit}
-use Rattle.world_model.proofs.Scripts.{Sound}
+use Rattle.world_model.proofs.Scripts.{IsSound}
 
 -- What is counted.
 
@@ -93,7 +93,7 @@ work_hit s u j ut jt =
 pub work_none : (s : ScriptData) → over 0 (λ t. over 0 (λ k. 0) (subs_at s t)) s.trees ≡ 0
 work_none s = over_none 0 (λ t. over 0 (λ k. 0) (subs_at s t)) s.trees (λ t. over_none 0 (λ k. 0) (subs_at s t) (λ k. refl))
 
-pub taken_replies : (s : ScriptData) (past : List Entry) (t : ℕ) → StepRun s past
+pub taken_replies : (s : ScriptData) (past : List Entry) (t : ℕ) → IsStepRun s past
     → taken_in (replies_to t) past + replies s past t ≡ answers past t
 taken_replies s [] t run = refl
 taken_replies s (e ∷ past) t run = omega (arith, taken_replies s past t run.1, flow (replies_to t) s past e run.0)
@@ -124,8 +124,8 @@ some_subs nodes items [] all = omega arith
 some_subs nodes items (t ∷ ts) all = omega (arith, all.0.root, some_subs nodes items ts all.1)
 
 -- The law.
-pub no_round : (s : ScriptData) (past : List Entry) → IsValid s → Runnable s → advances_in s.rows ≡ 0 → StepRun s past
+pub no_round : (s : ScriptData) (past : List Entry) → IsValid s → IsRunnable s → advances_in s.rows ≡ 0 → IsStepRun s past
     → rounds_in s (reverse past) ≡ 0
 no_round s past valid runnable none run =
-    let sound : Sound s = record { valid = valid; runnable = runnable } in
+    let sound : IsSound s = record { valid = valid; runnable = runnable } in
     ap (λ (c : Coordinator). c.round) (coordinator_after s past ∙ (unadvanced s past sound none run).1.coordinator)

@@ -16,8 +16,8 @@ use Rattle.tx_trees.specs.declared.parts.ScriptRow.{ScriptRow}
 use Rattle.tx_trees.specs.declared.parts.ScriptRow.TheVariants.{Tree as TreeRow, Advance as AdvanceRow, Settle as SettleRow, Lose as LoseRow}
 use Rattle.tx_trees.proofs.Rebuilding.{names_end}
 use Rattle.world_model.specs.Counts.{tally, one_if}
-use Rattle.world_model.specs.Runs.{client_in, waiting, StepRun}
-use Rattle.world_model.specs.Tables.{Runnable}
+use Rattle.world_model.specs.Runs.{client_in, waiting, IsStepRun}
+use Rattle.world_model.specs.Tables.{IsRunnable}
 use Rattle.world_model.proofs.Bags.{one_if_most, one_if_same}
 use Rattle.tree_laws.specs.Dids.{dids, asked, asks, tells_done, replies_to, answers, is_row_of, rooted}
 use Rattle.tree_laws.specs.Ends.{is_finish, finishes_in}
@@ -26,9 +26,9 @@ use Rattle.tree_laws.proofs.Goods.{good_run}
 use Rattle.tree_laws.proofs.Client.{IsStopped, at_rest, finish_count}
 use Rattle.tree_laws.proofs.Counts.{zero_or, parent_at}
 use Rattle.tree_laws.proofs.Sent.{rooted_once, tally_take_le}
-use Rattle.tree_laws.proofs.Good.{Good, TreeAt, Unborn, Gathers, Answered, is_noted}
+use Rattle.tree_laws.proofs.Good.{IsGood, TreeAt, Unborn, Gathers, Answered, is_noted}
 use Rattle.world_model.specs.Timely.{AllTimely}
-use Rattle.world_model.proofs.Scripts.{Sound, SubAt, sub_there, is_sub}
+use Rattle.world_model.proofs.Scripts.{IsSound, SubAt, sub_there, is_sub}
 
 -- What is done where no letter is under way.
 
@@ -37,7 +37,7 @@ pub none_left : (f : Letter → ℕ) (s : ScriptData) (past : List Entry) → wa
 none_left f s past empty = ap (λ (ls : List Letter). tally f ls) empty
 
 -- one more subtransaction of a tree whose root was done
-done_by : (s : ScriptData) (past : List Entry) (n t k : ℕ) (c : SubAt s t k) → Sound s → Good s past
+done_by : (s : ScriptData) (past : List Entry) (n t k : ℕ) (c : SubAt s t k) → IsSound s → IsGood s past
     → ((j : ℕ) → 0 < j → asked s past t j ≡ 0)
     → 1 ≤ dids past t 0 → k < suc n → ((j : ℕ) → j < n → SubAt s t j → 1 ≤ dids past t j) → (k ≡ 0) ⊎ (0 < k) → 1 ≤ dids past t k
 done_by s past n t k c sound good quiet root lt ih (inl is) = subst (λ (j : ℕ). 1 ≤ dids past t j) (sym is) root
@@ -46,7 +46,7 @@ done_by s past n t k c sound good quiet root lt ih (inr more) =
     omega (arith, good.subs t k c more, quiet k more, ih c.sub.parent.0 (omega (arith, up)) (parent_at s t k c sound more))
 
 -- each subtransaction of a tree whose root was done, where none is asked for any more
-pub done_below : (s : ScriptData) (past : List Entry) (n t k : ℕ) (c : SubAt s t k) → Sound s → Good s past
+pub done_below : (s : ScriptData) (past : List Entry) (n t k : ℕ) (c : SubAt s t k) → IsSound s → IsGood s past
     → ((j : ℕ) → 0 < j → asked s past t j ≡ 0) → 1 ≤ dids past t 0 → k < n → 1 ≤ dids past t k
 done_below s past zero t k c sound good quiet root lt = absurd (omega arith)
 done_below s past (suc n) t k c sound good quiet root lt =
@@ -64,7 +64,7 @@ pub record TreeDone (s : ScriptData) (past : List Entry) (t : ℕ) : Type 0 wher
   pub done : (k : ℕ) → SubAt s t k → dids past t k ≡ 1
 
 -- by how far the tree has come at its home
-tree_done_by : (s : ScriptData) (past : List Entry) (t : ℕ) → Sound s → Good s past → waiting s past ≡ [] → t < length s.trees
+tree_done_by : (s : ScriptData) (past : List Entry) (t : ℕ) → IsSound s → IsGood s past → waiting s past ≡ [] → t < length s.trees
     → 1 ≤ dids past t 0 → TreeAt s past t → TreeDone s past t
 tree_done_by s past t sound good empty lt root (Unborn none gone unanswered untold) = absurd (omega (arith, root, none))
 tree_done_by s past t sound good empty lt root (Gathers h one here same missing unanswered noted) =
@@ -76,7 +76,7 @@ tree_done_by s past t sound good empty lt root (Gathers h one here same missing 
 tree_done_by s past t sound good empty lt root (Answered gone one untold done) = record { answered = one; done = done }
 
 -- a tree whose row is submitted is done
-pub tree_done : (s : ScriptData) (past : List Entry) (t : ℕ) → Sound s → Good s past → waiting s past ≡ [] → t < length s.trees
+pub tree_done : (s : ScriptData) (past : List Entry) (t : ℕ) → IsSound s → IsGood s past → waiting s past ≡ [] → t < length s.trees
     → 1 ≤ rooted t (take (client_in s past).next s.rows) → TreeDone s past t
 tree_done s past t sound good empty lt row =
     let root : 1 ≤ dids past t 0 = omega (arith, row, good.roots t lt, none_left (λ (l : Letter). asks t 0 l.body) s past empty) in
@@ -121,7 +121,7 @@ all_answered_of answered (LoseRow ∷ rows) each = all_answered_of answered rows
 
 -- Where no letter is under way.
 -- a tree whose row is submitted is answered at the client
-pub answered_now : (s : ScriptData) (past : List Entry) (t : ℕ) → Sound s → Good s past → waiting s past ≡ []
+pub answered_now : (s : ScriptData) (past : List Entry) (t : ℕ) → IsSound s → IsGood s past → waiting s past ≡ []
     → 1 ≤ rooted t (take (client_in s past).next s.rows) → get_or (client_in s past).answered t false ≡ true
 answered_now s past t sound good empty row =
     let next = (client_in s past).next in
@@ -142,7 +142,7 @@ finishes_of (e ∷ past) = omega (arith, acts_more is_finish past e, finishes_of
 -- Where the client has finished.
 
 -- a history that says so
-pub finished_by : (s : ScriptData) (past : List Entry) → Sound s → StepRun s past → AllTimely s past → HasFinished (reverse past)
+pub finished_by : (s : ScriptData) (past : List Entry) → IsSound s → IsStepRun s past → AllTimely s past → HasFinished (reverse past)
     → (client_in s past).finished ≡ true
 finished_by s past sound run timely finished =
     let some = any_counted (of_act is_finish) (λ (x : Place). finishes x.act) (places_of (reverse past)) (λ x. finish_marks x.act) finished in
@@ -166,7 +166,7 @@ stage_done s past t some (Gathers h one here same missing unanswered noted) = ab
 stage_done s past t some (Answered gone one untold done) = done
 
 -- so each subtransaction of each tree is done, once
-pub done_then : (s : ScriptData) (past : List Entry) (t : ℕ) → Sound s → StepRun s past → AllTimely s past → (client_in s past).finished ≡ true
+pub done_then : (s : ScriptData) (past : List Entry) (t : ℕ) → IsSound s → IsStepRun s past → AllTimely s past → (client_in s past).finished ≡ true
     → t < length s.trees → (k : ℕ) → SubAt s t k → dids past t k ≡ 1
 done_then s past t sound run timely finished lt =
     let over = (at_rest s past sound run timely).over finished in
@@ -180,7 +180,7 @@ done_then s past t sound run timely finished lt =
 -- The laws.
 
 -- the client finishes at most once
-pub run_finishes_once : (s : ScriptData) (past : List Entry) → IsValid s → Runnable s → StepRun s past → AllTimely s past → finishes_in (reverse past) ≤ 1
+pub run_finishes_once : (s : ScriptData) (past : List Entry) → IsValid s → IsRunnable s → IsStepRun s past → AllTimely s past → finishes_in (reverse past) ≤ 1
 run_finishes_once s past valid runnable run timely =
-    let sound : Sound s = record { valid = valid; runnable = runnable } in
+    let sound : IsSound s = record { valid = valid; runnable = runnable } in
     omega (arith, one_if_most (client_in s past).finished, (at_rest s past sound run timely).once, finishes_of past)

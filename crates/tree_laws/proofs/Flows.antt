@@ -9,14 +9,14 @@ use Rattle.tx_trees.specs.ScriptData.{ScriptData, subs_at}
 use Rattle.world_model.specs.Counts.{one_if, Each}
 use Rattle.world_model.specs.Runs.{waiting}
 use Rattle.world_model.proofs.Every.{each_map, each_none, each_step}
-use Rattle.world_model.proofs.Fits.{Fit, SentFit}
+use Rattle.world_model.proofs.Fits.{IsFit, IsSentFit}
 use Rattle.tree_laws.specs.Dids.{tells_done, notices}
-use Rattle.tree_laws.proofs.Good.{Good}
+use Rattle.tree_laws.proofs.Good.{IsGood}
 
 -- every letter under way is meant for its addressee
-pub letters_next : (s : ScriptData) (past : List Entry) (e : Entry) → Good s past → SentFit s e.actor.0 e.sent
-    → Each (λ (l : Letter). Fit s l.from.0 l.to.0 l.body) (waiting s (e ∷ past))
-letters_next s past e good sent = each_step (λ (l : Letter). Fit s l.from.0 l.to.0 l.body) s past e good.letters sent
+pub letters_next : (s : ScriptData) (past : List Entry) (e : Entry) → IsGood s past → IsSentFit s e.actor.0 e.sent
+    → Each (λ (l : Letter). IsFit s l.from.0 l.to.0 l.body) (waiting s (e ∷ past))
+letters_next s past e good sent = each_step (λ (l : Letter). IsFit s l.from.0 l.to.0 l.body) s past e good.letters sent
 
 -- No notice is of a subtransaction past its tree's end.
 past_at : (s : ScriptData) (t i u k : ℕ) → k < length (subs_at s u) → length (subs_at s t) ≤ i → (a b : Bool) → (u == t) ≡ a → (k == i) ≡ b
@@ -29,15 +29,15 @@ past_at s t i u k lt le true true is at =
     let lt' : k < length (subs_at s t) = subst (λ (w : ℕ). k < length (subs_at s w)) ut lt in
     absurd (omega arith)
 
-past_end : (s : ScriptData) (t i from to : ℕ) (b : Body) → length (subs_at s t) ≤ i → Fit s from to b → tells_done t i b ≡ 0
+past_end : (s : ScriptData) (t i from to : ℕ) (b : Body) → length (subs_at s t) ≤ i → IsFit s from to b → tells_done t i b ≡ 0
 past_end s t i from to (Done u k v notice) le fit = past_at s t i u.0 k.0 fit.1 le (u.0 == t) (k.0 == i) refl refl
 past_end s t i from to Go le fit = refl
 past_end s t i from to _ le fit = refl
 
 -- no notice under way is of a subtransaction past its tree's end
-pub no_notice : (s : ScriptData) (past : List Entry) (t i : ℕ) → Each (λ (l : Letter). Fit s l.from.0 l.to.0 l.body) (waiting s past)
+pub no_notice : (s : ScriptData) (past : List Entry) (t i : ℕ) → Each (λ (l : Letter). IsFit s l.from.0 l.to.0 l.body) (waiting s past)
     → length (subs_at s t) ≤ i → notices s past t i ≡ 0
 no_notice s past t i letters le =
     each_none (λ (l : Letter). tells_done t i l.body) (waiting s past)
-    (each_map (λ (l : Letter). Fit s l.from.0 l.to.0 l.body) (λ (l : Letter). tells_done t i l.body ≡ 0) (waiting s past)
+    (each_map (λ (l : Letter). IsFit s l.from.0 l.to.0 l.body) (λ (l : Letter). tells_done t i l.body ≡ 0) (waiting s past)
     (λ l fit. past_end s t i l.from.0 l.to.0 l.body le fit) letters)

@@ -15,11 +15,11 @@ use Rattle.world_model.specs.Runs.{client_in, node_in, MayFollow}
 use Rattle.world_model.proofs.Every.{each_append, node_kept}
 use Rattle.tree_laws.specs.Dids.{asks, asked, is_did, is_born, dids, births, replies_to, replies, answers, rooted}
 use Rattle.tree_laws.proofs.Counts.{bounds_with, with_one, load_more}
-use Rattle.world_model.proofs.Fits.{Fit, SentFit, children_fit}
+use Rattle.world_model.proofs.Fits.{IsFit, IsSentFit, children_fit}
 use Rattle.world_model.proofs.Flows.{flow}
-use Rattle.tree_laws.proofs.Good.{Good, bound}
+use Rattle.tree_laws.proofs.Good.{IsGood, bound}
 use Rattle.tree_laws.proofs.Loads.{trees_same}
-use Rattle.world_model.proofs.Scripts.{Sound, SubAt, is_sub, subs_here, node_below, tree_below}
+use Rattle.world_model.proofs.Scripts.{IsSound, SubAt, is_sub, subs_here, node_below, tree_below}
 use Rattle.world_model.proofs.Sends.{on}
 use Rattle.tree_laws.proofs.Sent.{children, children_apart, no_root, other_tree}
 use Rattle.tree_laws.proofs.Tables.{TableIn, table_more}
@@ -41,17 +41,17 @@ pub stay_in : (s : ScriptData) (past : List Entry) (e : Entry) (p : ℕ) → (no
 stay_in s past e p same most ok = subst (λ (t : Table). TableIn s.items p most t) (sym same) ok
 
 -- the fields of what holds, where no subtransaction is done
-pub idle_roots : (s : ScriptData) (past : List Entry) (e : Entry) → Good s past → MayFollow s past e → Idle s past e → (t : ℕ)
+pub idle_roots : (s : ScriptData) (past : List Entry) (e : Entry) → IsGood s past → MayFollow s past e → Idle s past e → (t : ℕ)
     → t < length s.trees → rooted t (take (client_in s (e ∷ past)).next s.rows) ≡ asked s (e ∷ past) t 0 + dids (e ∷ past) t 0
 idle_roots s past e good m idle t lt =
     omega (arith, good.roots t lt, flow (asks t 0) s past e m, idle.took t 0, idle.did t 0, idle.rows t)
 
-pub idle_subs : (s : ScriptData) (past : List Entry) (e : Entry) → Good s past → MayFollow s past e → Idle s past e → (t k : ℕ)
+pub idle_subs : (s : ScriptData) (past : List Entry) (e : Entry) → IsGood s past → MayFollow s past e → Idle s past e → (t k : ℕ)
     (c : SubAt s t k) → 0 < k → dids (e ∷ past) t c.sub.parent.0 ≡ asked s (e ∷ past) t k + dids (e ∷ past) t k
 idle_subs s past e good m idle t k c lt =
     omega (arith, good.subs t k c lt, flow (asks t k) s past e m, idle.took t k, idle.sends t k lt, idle.did t k, idle.did t c.sub.parent.0)
 
-pub idle_born : (s : ScriptData) (past : List Entry) (e : Entry) → Good s past → Idle s past e → (t : ℕ)
+pub idle_born : (s : ScriptData) (past : List Entry) (e : Entry) → IsGood s past → Idle s past e → (t : ℕ)
     → births (e ∷ past) t ≡ dids (e ∷ past) t 0
 idle_born s past e good idle t = omega (arith, good.born t, idle.born t, idle.did t 0)
 
@@ -59,14 +59,14 @@ idle_bound : (s : ScriptData) (past : List Entry) (e : Entry) → Idle s past e 
 idle_bound s past e idle x =
     omega (arith, trees_same (dids past) (dids (e ∷ past)) x 0 s.trees (λ u j le. omega (arith, idle.did u j)))
 
-pub idle_items : (s : ScriptData) (past : List Entry) (e : Entry) → Good s past → Idle s past e → (p : ℕ) → p < s.nodes
+pub idle_items : (s : ScriptData) (past : List Entry) (e : Entry) → IsGood s past → Idle s past e → (p : ℕ) → p < s.nodes
     → TableIn s.items p (bound s (e ∷ past)) (node_in s (e ∷ past) p).items
 idle_items s past e good idle p lt =
     table_more s.items p (bound s past) (bound s (e ∷ past)) (node_in s (e ∷ past) p).items (λ x r at. idle_bound s past e idle x)
     (idle.items p lt (bound s past) (good.items p lt))
 
 -- an answer that is neither heard nor forgotten
-pub heard_same : (s : ScriptData) (past : List Entry) (e : Entry) → Good s past → MayFollow s past e → (t : ℕ) → t < length s.trees
+pub heard_same : (s : ScriptData) (past : List Entry) (e : Entry) → IsGood s past → MayFollow s past e → (t : ℕ) → t < length s.trees
     → replies_to t e.took.body ≡ 0
     → get_or (client_in s (e ∷ past)).answered t false ≡ get_or (client_in s past).answered t false
     → answers (e ∷ past) t ≡ replies s (e ∷ past) t + one_if (get_or (client_in s (e ∷ past)).answered t false)
@@ -96,13 +96,13 @@ asked_by s t v k u i c lt true is =
     children u i t v k c.sub (subs_at s t) here lt
 
 -- the fields of what holds, where one is done
-pub does_roots : (s : ScriptData) (past : List Entry) (e : Entry) (t k : ℕ) → Good s past → MayFollow s past e → Does s past e t k → (u : ℕ)
+pub does_roots : (s : ScriptData) (past : List Entry) (e : Entry) (t k : ℕ) → IsGood s past → MayFollow s past e → Does s past e t k → (u : ℕ)
     → u < length s.trees → rooted u (take (client_in s (e ∷ past)).next s.rows) ≡ asked s (e ∷ past) u 0 + dids (e ∷ past) u 0
 does_roots s past e t k good m does u lt =
     let rows = ap (λ c. rooted u (take c.next s.rows)) does.client in
     omega (arith, rows, good.roots u lt, flow (asks u 0) s past e m, does.took u 0, does.did u 0, does.sends u 0, no_root u t does.version k (subs_at s t))
 
-pub does_subs : (s : ScriptData) (past : List Entry) (e : Entry) (t k : ℕ) → Sound s → Good s past → MayFollow s past e → Does s past e t k
+pub does_subs : (s : ScriptData) (past : List Entry) (e : Entry) (t k : ℕ) → IsSound s → IsGood s past → MayFollow s past e → Does s past e t k
     → (u i : ℕ) (c : SubAt s u i) → 0 < i → dids (e ∷ past) u c.sub.parent.0 ≡ asked s (e ∷ past) u i + dids (e ∷ past) u i
 does_subs s past e t k sound good m does u i c lt =
     let up = (is_sub s u i c sound).parent lt in
@@ -117,7 +117,7 @@ does_subs s past e t k sound good m does u i c lt =
       asked_by s t does.version k u i c up (t == u) refl,
     )
 
-pub does_born : (s : ScriptData) (past : List Entry) (e : Entry) (t k : ℕ) → Good s past → Does s past e t k → (u : ℕ)
+pub does_born : (s : ScriptData) (past : List Entry) (e : Entry) (t k : ℕ) → IsGood s past → Does s past e t k → (u : ℕ)
     → births (e ∷ past) u ≡ dids (e ∷ past) u 0
 does_born s past e t k good does u = omega (arith, good.born u, does.born u, does.did u 0)
 
@@ -130,7 +130,7 @@ bound_next s past e t k does x =
       trees_same (dids (e ∷ past)) (with_one s past t k) x 0 s.trees (λ u j le. omega (arith, does.did u j)),
     )
 
-does_items_by : (s : ScriptData) (past : List Entry) (e : Entry) (t k : ℕ) → Good s past → Does s past e t k → (p : ℕ) → p < s.nodes
+does_items_by : (s : ScriptData) (past : List Entry) (e : Entry) (t k : ℕ) → IsGood s past → Does s past e t k → (p : ℕ) → p < s.nodes
     → (node_of s t k ≡ p) ⊎ (node_of s t k ≢ p) → TableIn s.items p (bound s (e ∷ past)) (node_in s (e ∷ past) p).items
 does_items_by s past e t k good does p lt (inl is) =
     subst (λ (q : ℕ). TableIn s.items q (bound s (e ∷ past)) (node_in s (e ∷ past) q).items) is
@@ -141,21 +141,21 @@ does_items_by s past e t k good does p lt (inr ne) =
     (table_more s.items p (bound s past) (bound s (e ∷ past)) (node_in s past p).items
     (λ x r here. omega (arith, bound_next s past e t k does x)) (good.items p lt))
 
-pub does_items : (s : ScriptData) (past : List Entry) (e : Entry) (t k : ℕ) → Good s past → Does s past e t k → (p : ℕ) → p < s.nodes
+pub does_items : (s : ScriptData) (past : List Entry) (e : Entry) (t k : ℕ) → IsGood s past → Does s past e t k → (p : ℕ) → p < s.nodes
     → TableIn s.items p (bound s (e ∷ past)) (node_in s (e ∷ past) p).items
 does_items s past e t k good does p lt = does_items_by s past e t k good does p lt (cases_eq (node_of s t k) p)
 
 -- what is sent to children is meant for them
-pub children_sent : (s : ScriptData) (past : List Entry) (e : Entry) (t k : ℕ) (v : ℕ) → Sound s → SubAt s t k → e.actor.0 ≡ node_of s t k
-    → SentFit s e.actor.0 (sub_letters t v k 0 (subs_at s t))
+pub children_sent : (s : ScriptData) (past : List Entry) (e : Entry) (t k : ℕ) (v : ℕ) → IsSound s → SubAt s t k → e.actor.0 ≡ node_of s t k
+    → IsSentFit s e.actor.0 (sub_letters t v k 0 (subs_at s t))
 children_sent s past e t k v sound c at =
     children_fit s t v k e.actor.0 0 (subs_at s t) (tree_below s t k c) (omega (arith, at, node_below s t k c sound))
     (λ n x here. subst (λ (i : ℕ). slice_get (subs_at s t) i ≡ Some x) (omega arith) here)
 
 -- letters of two lists are meant for their addressees
-pub both_fit : (s : ScriptData) (from : ℕ) (xs ys os : List Outgoing) → os ≡ xs ++ ys → SentFit s from xs → SentFit s from ys → SentFit s from os
+pub both_fit : (s : ScriptData) (from : ℕ) (xs ys os : List Outgoing) → os ≡ xs ++ ys → IsSentFit s from xs → IsSentFit s from ys → IsSentFit s from os
 both_fit s from xs ys os is a b =
-    subst (λ zs. SentFit s from zs) (sym is) (each_append (λ (o : Outgoing). (i : LetterId) → Fit s from o.to.0 o.body) xs ys a b)
+    subst (λ zs. IsSentFit s from zs) (sym is) (each_append (λ (o : Outgoing). (i : LetterId) → IsFit s from o.to.0 o.body) xs ys a b)
 
 -- the client stays, and so does what it has heard
 pub same_heard : (s : ScriptData) (past : List Entry) (e : Entry) → client_in s (e ∷ past) ≡ client_in s past → (t : ℕ)

@@ -22,10 +22,10 @@ use Rattle.world_model.proofs.Bags.{tally-drop}
 use Rattle.world_model.proofs.Every.{each_taken}
 use Rattle.tree_laws.specs.Dids.{asks, tells_done, notices, dids}
 use Rattle.tree_laws.proofs.Counts.{at_most_once, not_done, one_here, was_asked}
-use Rattle.world_model.proofs.Fits.{Fit}
-use Rattle.tree_laws.proofs.Good.{Good}
+use Rattle.world_model.proofs.Fits.{IsFit}
+use Rattle.tree_laws.proofs.Good.{IsGood}
 use Rattle.world_model.proofs.Nexts.{Next, Begins, Hears, Ends, Coordinates, DoesRoot, DoesSub, Notes, Obeys, Turns, Shows, Sweeps, TellsDone, TellsAsked, RootUpdates, RootReads, SubUpdates, SubReads}
-use Rattle.world_model.proofs.Scripts.{Sound, SubAt, has_root, sub_there, sub_below, tree_below, tree_kind, node_below, not_strict, update_kind_at, read_kind_at}
+use Rattle.world_model.proofs.Scripts.{IsSound, SubAt, has_root, sub_there, sub_below, tree_below, tree_kind, node_below, not_strict, update_kind_at, read_kind_at}
 use Rattle.tree_laws.proofs.Stages.{no_home, misses_notice}
 use Rattle.node_step.proofs.Apts.{update_root_row, read_root_row, update_sub_row, read_sub_row, notice_row}
 use Rattle.tree_laws.proofs.Steps.{made, made_by_client, made_by_coordinator, hear_row, timely_at, turns_by, shows_by, sweeps_by, tells_done_by, tells_asked_by}
@@ -33,12 +33,12 @@ use Rattle.world_model.specs.Timely.{WasTimely}
 use Rattle.tree_laws.proofs.Works.{update_can, read_can}
 
 -- the letter taken asks for subtransaction k of tree t
-taken_asks : (s : ScriptData) (past : List Entry) (e : Entry) (t k : ℕ) (b : Body) → SubAt s t k → Sound s → Good s past → MayFollow s past e
+taken_asks : (s : ScriptData) (past : List Entry) (e : Entry) (t k : ℕ) (b : Body) → SubAt s t k → IsSound s → IsGood s past → MayFollow s past e
     → e.took.body ≡ b → asks t k b ≡ 1 → dids past t k ≡ 0
 taken_asks s past e t k b c sound good m is one = not_done s past t k c sound good (was_asked s past e t k m (ap (asks t k) is ∙ one))
 
 -- A root.
-root_next : (s : ScriptData) (past : List Entry) (e : Entry) (t : TreeNo) → SubAt s t.0 0 → Sound s → Good s past → MayFollow s past e
+root_next : (s : ScriptData) (past : List Entry) (e : Entry) (t : TreeNo) → SubAt s t.0 0 → IsSound s → IsGood s past → MayFollow s past e
     → e.took.body ≡ Root t → e.actor.0 ≡ home_of s t.0 → (updates s t.0 ≡ true) ⊎ (reads s t.0 ≡ true) → Next s past e
 root_next s past e t c sound good m is at (inl up) =
     let st = node_in s past (home_of s t.0) in
@@ -62,8 +62,8 @@ root_next s past e t c sound good m is at (inr up) =
     (read_root_row s st e.took t is (read_kind_at s t.0 0 c up) new can))
 
 -- Another subtransaction.
-sub_next : (s : ScriptData) (past : List Entry) (e : Entry) (t : TreeNo) (k : SubNo) (v : Version) → SubAt s t.0 k.0 → 0 < k.0 → Sound s
-    → Good s past → MayFollow s past e → e.took.body ≡ SubLetter t k v → e.actor.0 ≡ node_of s t.0 k.0 → e.took.from.0 < s.nodes → is_near (node_in s past (node_of s t.0 k.0)) v ≡ true
+sub_next : (s : ScriptData) (past : List Entry) (e : Entry) (t : TreeNo) (k : SubNo) (v : Version) → SubAt s t.0 k.0 → 0 < k.0 → IsSound s
+    → IsGood s past → MayFollow s past e → e.took.body ≡ SubLetter t k v → e.actor.0 ≡ node_of s t.0 k.0 → e.took.from.0 < s.nodes → is_near (node_in s past (node_of s t.0 k.0)) v ≡ true
     → (updates s t.0 ≡ true) ⊎ (reads s t.0 ≡ true) → Next s past e
 sub_next s past e t k v c later sound good m is at from near (inl up) =
     let st = node_in s past (node_of s t.0 k.0) in
@@ -90,7 +90,7 @@ was_told s past e t k m one =
     omega (arith, one, tally-drop (λ (l : Letter). tells_done t k l.body) e.took.id (waiting s past) e.took m.waits)
 
 note_next : (s : ScriptData) (past : List Entry) (e : Entry) (t : TreeNo) (k : SubNo) (v : Version) (notice : Notice) → SubAt s t.0 k.0 → 0 < k.0
-    → Sound s → Good s past → MayFollow s past e → e.took.body ≡ Done t k v notice → e.actor.0 ≡ home_of s t.0 → e.took.from.0 < s.nodes
+    → IsSound s → IsGood s past → MayFollow s past e → e.took.body ≡ Done t k v notice → e.actor.0 ≡ home_of s t.0 → e.took.from.0 < s.nodes
     → is_near (node_in s past (home_of s t.0)) v ≡ true → is_did notice ≡ true → Next s past e
 note_next s past e t k v (Yes values) c later sound good m is at from near did = absurd (cc did)
 note_next s past e t k v (No cause) c later sound good m is at from near did = absurd (cc did)
@@ -105,8 +105,8 @@ note_next s past e t k v (Did values) c later sound good m is at from near did =
     (notice_row s st e.took t k v values is (not_strict s t.0 k.0 c sound) (sub_below s t.0 k.0 c) from
     near))
 
-next_by : (s : ScriptData) (past : List Entry) (e : Entry) → Sound s → Good s past → MayFollow s past e → WasTimely s past e → (b : Body)
-    → e.took.body ≡ b → Fit s e.took.from.0 e.actor.0 b → Next s past e
+next_by : (s : ScriptData) (past : List Entry) (e : Entry) → IsSound s → IsGood s past → MayFollow s past e → WasTimely s past e → (b : Body)
+    → e.took.body ≡ b → IsFit s e.took.from.0 e.actor.0 b → Next s past e
 next_by s past e sound good m was Go is fit =
     Begins is fit (made_by_client s past e Go (submit s (client_in s past) []) fit m is refl)
 next_by s past e sound good m was (Root t) is fit =
@@ -155,7 +155,7 @@ next_by s past e sound good m was (AskAsked v k) is fit =
 next_by s past e sound good m was _ is fit = absurd fit
 
 -- an entry that may follow, with a letter in time, is one of these
-pub next : (s : ScriptData) (past : List Entry) (e : Entry) → Sound s → Good s past → MayFollow s past e → WasTimely s past e → Next s past e
+pub next : (s : ScriptData) (past : List Entry) (e : Entry) → IsSound s → IsGood s past → MayFollow s past e → WasTimely s past e → Next s past e
 next s past e sound good m was =
-    let fit = each_taken (λ (l : Letter). Fit s l.from.0 l.to.0 l.body) s past e m good.letters in
-    next_by s past e sound good m was e.took.body refl (subst (λ (n : ℕ). Fit s e.took.from.0 n e.took.body) m.addressee fit)
+    let fit = each_taken (λ (l : Letter). IsFit s l.from.0 l.to.0 l.body) s past e m good.letters in
+    next_by s past e sound good m was e.took.body refl (subst (λ (n : ℕ). IsFit s e.took.from.0 n e.took.body) m.addressee fit)

@@ -19,14 +19,14 @@ use Rattle.world_model.specs.Runs.{client_in, node_in, MayFollow}
 use Rattle.tree_laws.specs.Dids.{asks, is_did, is_born, tells_done, replies_to, rooted}
 use Rattle.tree_laws.proofs.Answering.{answer_fits, replies_apart}
 use Rattle.tree_laws.proofs.Counts.{at_most_once}
-use Rattle.world_model.proofs.Fits.{SentFit}
+use Rattle.world_model.proofs.Fits.{IsSentFit}
 use Rattle.world_model.proofs.Flows.{same_part, client_kept}
 use Rattle.tree_laws.proofs.Flows.{letters_next, no_notice}
-use Rattle.tree_laws.proofs.Good.{Good, TreeAt}
+use Rattle.tree_laws.proofs.Good.{IsGood, TreeAt}
 use Rattle.tree_laws.proofs.Kept.{Idle, idle_roots, idle_subs, idle_born, idle_items, heard_same, same_heard, stay_in}
 use Rattle.world_model.proofs.Nexts.{Made}
 use Rattle.tree_laws.proofs.Noting.{noted_keeps_others}
-use Rattle.world_model.proofs.Scripts.{Sound, SubAt, tree_below}
+use Rattle.world_model.proofs.Scripts.{IsSound, SubAt, tree_below}
 use Rattle.world_model.proofs.Sends.{on, replies_none}
 use Rattle.tree_laws.proofs.Sent.{other_tree}
 use Rattle.tree_laws.proofs.Staging.{Apart, stays, Notes, notes_stage}
@@ -87,12 +87,12 @@ note_apart s past e t k v values idle is at miss made u ne =
     }
 
 note_fits : (s : ScriptData) (past : List Entry) (e : Entry) (t : TreeNo) (k : SubNo) (v : Version) (values : Gets) → t.0 < length s.trees
-    → misses t k (node_in s past (home_of s t.0)).homes ≡ true → NoteMade s past e t k v values → SentFit s e.actor.0 e.sent
+    → misses t k (node_in s past (home_of s t.0)).homes ≡ true → NoteMade s past e t k v values → IsSentFit s e.actor.0 e.sent
 note_fits s past e t k v values lt miss made =
-    subst (λ os. SentFit s e.actor.0 os) (sym made.sent) (answer_fits s e.actor.0 t k values (node_in s past (home_of s t.0)).homes lt miss)
+    subst (λ os. IsSentFit s e.actor.0 os) (sym made.sent) (answer_fits s e.actor.0 t k values (node_in s past (home_of s t.0)).homes lt miss)
 
 note_notes : (s : ScriptData) (past : List Entry) (e : Entry) (t : TreeNo) (k : SubNo) (v : Version) (values : Gets)
-    → t.0 < length s.trees → Good s past → Idle s past e → e.took.body ≡ Done t k v (DidNotice values)
+    → t.0 < length s.trees → IsGood s past → Idle s past e → e.took.body ≡ Done t k v (DidNotice values)
     → misses t k (node_in s past (home_of s t.0)).homes ≡ true → NoteMade s past e t k v values
     → Notes s past e t k values (node_in s past (home_of s t.0)).homes
 note_notes s past e t k v values lt good idle is miss made = record {
@@ -105,7 +105,7 @@ note_notes s past e t k v values lt good idle is miss made = record {
 }
 
 note_stage : (s : ScriptData) (past : List Entry) (e : Entry) (t : TreeNo) (k : SubNo) (v : Version) (values : Gets) → SubAt s t.0 k.0
-    → Sound s → Good s past → MayFollow s past e → Idle s past e → e.took.body ≡ Done t k v (DidNotice values) → e.actor.0 ≡ home_of s t.0
+    → IsSound s → IsGood s past → MayFollow s past e → Idle s past e → e.took.body ≡ Done t k v (DidNotice values) → e.actor.0 ≡ home_of s t.0
     → home_of s t.0 < s.nodes → misses t k (node_in s past (home_of s t.0)).homes ≡ true → NoteMade s past e t k v values
     → (u : ℕ) → u < length s.trees → (t.0 ≡ u) ⊎ (t.0 ≢ u) → TreeAt s (e ∷ past) u
 note_stage s past e t k v values c sound good m idle is at below miss made u lt (inl same) =
@@ -117,9 +117,9 @@ note_stage s past e t k v values c sound good m idle is at below miss made u lt 
     stays s past e u m (note_apart s past e t k v values idle is at miss made u ne) (good.stages u lt)
 
 -- a home takes down a notice
-pub note_good : (s : ScriptData) (past : List Entry) (e : Entry) (t : TreeNo) (k : SubNo) (v : Version) (values : Gets) → Sound s → Good s past
+pub note_good : (s : ScriptData) (past : List Entry) (e : Entry) (t : TreeNo) (k : SubNo) (v : Version) (values : Gets) → IsSound s → IsGood s past
     → MayFollow s past e → e.took.body ≡ Done t k v (DidNotice values) → SubAt s t.0 k.0 → e.actor.0 ≡ home_of s t.0 → home_of s t.0 < s.nodes
-    → misses t k (node_in s past (home_of s t.0)).homes ≡ true → NoteMade s past e t k v values → Good s (e ∷ past)
+    → misses t k (node_in s past (home_of s t.0)).homes ≡ true → NoteMade s past e t k v values → IsGood s (e ∷ past)
 note_good s past e t k v values sound good m is c at below miss made =
     let same = client_kept s past e (omega arith) in
     let idle = note_idle s past e t k v values same is at made in

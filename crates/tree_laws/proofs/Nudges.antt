@@ -13,20 +13,20 @@ use Rattle.tx_trees.specs.ScriptData.{ScriptData, client_of, home_of, subs_at}
 use Rattle.tree_step.specs.Node.{Node}
 use Rattle.client_rows.specs.Client.{Client, rows_letters, submit, submitted, with_answer, with_end, nudge}
 use Rattle.world_model.specs.Counts.{tally, one_if}
-use Rattle.world_model.specs.Runs.{client_in, waiting, MayFollow, StepRun}
+use Rattle.world_model.specs.Runs.{client_in, waiting, MayFollow, IsStepRun}
 use Rattle.world_model.specs.Timely.{AllTimely}
 use Rattle.world_model.proofs.Bags.{one_if_same, tally-append, tally-drop}
 use Rattle.world_model.proofs.Every.{each_none}
 use Rattle.world_model.proofs.Flows.{client_kept, flow, submit_none}
-use Rattle.world_model.proofs.Lawful.{Lawful, is_nudge, nudged}
+use Rattle.world_model.proofs.Lawful.{IsLawful, is_nudge, nudged}
 use Rattle.world_model.proofs.Nexts.{Next, Begins, Hears, Ends, Coordinates, DoesRoot, DoesSub, Notes, Obeys, MadeByClient, Order, Turns, Shows, Sweeps, TellsDone, TellsAsked}
 use Rattle.world_model.proofs.Orders.{OfOrders}
-use Rattle.world_model.proofs.Scripts.{Sound}
+use Rattle.world_model.proofs.Scripts.{IsSound}
 use Rattle.world_model.proofs.Sends.{on, roots_none, subs_none, replies_none}
 use Rattle.tree_laws.specs.Dids.{replies, replies_to, answers}
 use Rattle.tree_laws.proofs.ClientStep.{answered_places, answers_most}
 use Rattle.tree_laws.proofs.Doing.{root_answer, root_sends, sub_sends}
-use Rattle.tree_laws.proofs.Good.{Good}
+use Rattle.tree_laws.proofs.Good.{IsGood}
 use Rattle.tree_laws.proofs.Goods.{good_run, next_of}
 use Rattle.tree_laws.proofs.OrderStep.{coordinator_sends}
 
@@ -79,7 +79,7 @@ nudge_sent s c =
     let rows = take (submitted c (take c.next s.rows) (drop c.next s.rows)) (drop c.next s.rows) in
     omega (arith, tally-append (on is_nudge) (nudge s ∷ []) (rows_letters s rows), roots_none is_nudge s rows (λ t. refl) refl)
 
-hears_even : (s : ScriptData) (past : List Entry) (e : Entry) (t : TreeNo) (v : Version) (answer : Answer) → Good s past → MayFollow s past e
+hears_even : (s : ScriptData) (past : List Entry) (e : Entry) (t : TreeNo) (v : Version) (answer : Answer) → IsGood s past → MayFollow s past e
     → Evened s past → e.took.body ≡ Reply t v answer → t.0 < length s.trees
     → MadeByClient s past e (submit s (with_answer t.0 (client_in s past)) (nudge s ∷ [])) → Evened s (e ∷ past)
 hears_even s past e t v answer good m even is lt made =
@@ -115,7 +115,7 @@ orders_none n = record {
   advanced = λ v. refl;
 }
 
-next_even : (s : ScriptData) (past : List Entry) (e : Entry) → Good s past → MayFollow s past e → Evened s past → Next s past e
+next_even : (s : ScriptData) (past : List Entry) (e : Entry) → IsGood s past → MayFollow s past e → Evened s past → Next s past e
     → Evened s (e ∷ past)
 next_even s past e good m even (Begins is at made) = submit_even s past e (client_in s past) m even refl made
 next_even s past e good m even (Hears t v answer is at lt made) = hears_even s past e t v answer good m even is lt made
@@ -142,13 +142,13 @@ next_even s past e good m even (Obeys p out at lt order made) =
     (ap (λ os. tally (on is_nudge) os) made.sent ∙ obeys_none s _ e.took.body out order)
 
 -- in every run in which each letter came in time
-pub evened : (s : ScriptData) (past : List Entry) → Sound s → StepRun s past → AllTimely s past → Evened s past
+pub evened : (s : ScriptData) (past : List Entry) → IsSound s → IsStepRun s past → AllTimely s past → Evened s past
 evened s [] sound run timely = omega (arith, unheard_first (length s.trees))
 evened s (e ∷ past) sound run timely =
     next_even s past e (good_run s past sound run.1 timely.1) run.0 (evened s past sound run.1 timely.1) (next_of s past e sound run timely)
 
 -- what the laws of phases need of the trees of a sound script
-pub lawful : (s : ScriptData) → Sound s → Lawful s
+pub lawful : (s : ScriptData) → IsSound s → IsLawful s
 lawful s sound = record {
   sound = sound;
   fits = λ past run timely. (good_run s past sound run timely).letters;

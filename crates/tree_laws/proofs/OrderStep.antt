@@ -22,15 +22,15 @@ use Rattle.node_step.specs.Advancing.{done_row, asked_row}
 use Rattle.world_model.specs.Counts.{tally, Each}
 use Rattle.world_model.specs.Runs.{client_in, coordinator_in, node_in, MayFollow}
 use Rattle.world_model.proofs.Every.{each_map, each_none, node_kept}
-use Rattle.world_model.proofs.Fits.{Fit, SentFit}
+use Rattle.world_model.proofs.Fits.{IsFit, IsSentFit}
 use Rattle.world_model.proofs.Flows.{client_kept, same_part}
 use Rattle.world_model.proofs.Nexts.{Made, MadeByCoordinator, Order, Turns, Shows, Sweeps, TellsDone, TellsAsked, Tells}
 use Rattle.world_model.proofs.Orders.{OfOrders, coordinator_each, coordinator_nodes, of}
-use Rattle.world_model.proofs.Scripts.{Sound, has_root, node_below}
+use Rattle.world_model.proofs.Scripts.{IsSound, has_root, node_below}
 use Rattle.world_model.proofs.Sends.{on}
 use Rattle.tree_laws.specs.Dids.{asks, is_did, is_born, tells_done, replies_to}
 use Rattle.tree_laws.proofs.Flows.{letters_next}
-use Rattle.tree_laws.proofs.Good.{Good}
+use Rattle.tree_laws.proofs.Good.{IsGood}
 use Rattle.tree_laws.proofs.Kept.{Idle, idle_roots, idle_subs, idle_born, idle_items, heard_same, same_heard, stay_in}
 use Rattle.tree_laws.proofs.NoteStep.{rows_same}
 use Rattle.tree_laws.proofs.Staging.{Apart, stays}
@@ -118,7 +118,7 @@ pub record Aside (s : ScriptData) (past : List Entry) (e : Entry) : Type 0 where
   pub homes : (p : ℕ) → p < s.nodes → (node_in s (e ∷ past) p).homes ≡ (node_in s past p).homes
   pub items : (p : ℕ) → p < s.nodes → (most : ℕ → ℕ) → TableIn s.items p most (node_in s past p).items
       → TableIn s.items p most (node_in s (e ∷ past) p).items
-  pub fits : SentFit s e.actor.0 e.sent
+  pub fits : IsSentFit s e.actor.0 e.sent
 
 aside_idle : (s : ScriptData) (past : List Entry) (e : Entry) → Aside s past e → Idle s past e
 aside_idle s past e a = record {
@@ -130,7 +130,7 @@ aside_idle s past e a = record {
   items = a.items;
 }
 
-aside_apart : (s : ScriptData) (past : List Entry) (e : Entry) (t : ℕ) → Sound s → Aside s past e → t < length s.trees → Apart s past e t
+aside_apart : (s : ScriptData) (past : List Entry) (e : Entry) (t : ℕ) → IsSound s → Aside s past e → t < length s.trees → Apart s past e t
 aside_apart s past e t sound a lt =
     let below = node_below s t 0 (has_root s t sound lt) sound in
     record {
@@ -142,8 +142,8 @@ aside_apart s past e t sound a lt =
     }
 
 -- it keeps what holds
-pub aside_good : (s : ScriptData) (past : List Entry) (e : Entry) → Sound s → Good s past → MayFollow s past e → Aside s past e
-    → Good s (e ∷ past)
+pub aside_good : (s : ScriptData) (past : List Entry) (e : Entry) → IsSound s → IsGood s past → MayFollow s past e → Aside s past e
+    → IsGood s (e ∷ past)
 aside_good s past e sound good m a =
     let idle = aside_idle s past e a in
     record {
@@ -177,7 +177,7 @@ orders_none f n h = record {
   advanced = λ v. h.advanced v;
 }
 
-orders_fit : (s : ScriptData) (from : ℕ) → OfOrders (λ (to : ℕ) (b : Body). Fit s from to b) s.nodes
+orders_fit : (s : ScriptData) (from : ℕ) → OfOrders (λ (to : ℕ) (b : Body). IsFit s from to b) s.nodes
 orders_fit s from = record {
   turn = λ to v lt. lt;
   show = λ to v lt. lt;
@@ -204,8 +204,8 @@ coordinates_aside s past e tells at made = record {
   client = client_kept s past e (omega (arith, at));
   homes = λ p lt. ap (λ (st : Node). st.homes) (node_kept s past e p (omega (arith, at)));
   items = λ p lt. stay_in s past e p (ap (λ (st : Node). st.items) (node_kept s past e p (omega (arith, at))));
-  fits = each_map (of (λ (to : ℕ) (b : Body). Fit s e.actor.0 to b)) (λ (o : Outgoing). (i : LetterId) → Fit s e.actor.0 o.to.0 o.body) e.sent
-      (λ o fit i. fit) (coordinator_sends (λ (to : ℕ) (b : Body). Fit s e.actor.0 to b) s past e made (orders_fit s e.actor.0));
+  fits = each_map (of (λ (to : ℕ) (b : Body). IsFit s e.actor.0 to b)) (λ (o : Outgoing). (i : LetterId) → IsFit s e.actor.0 o.to.0 o.body) e.sent
+      (λ o fit i. fit) (coordinator_sends (λ (to : ℕ) (b : Body). IsFit s e.actor.0 to b) s past e made (orders_fit s e.actor.0));
 }
 
 -- A node that obeys.
@@ -217,7 +217,7 @@ record Answers (s : ScriptData) (p : ℕ) (st : Node) (body : Body) (out : Out N
   pub acts : (f : Act → ℕ) → ActsOfNone f → tally f out.acts ≡ 0
   pub homes : out.state.homes ≡ st.homes
   pub items : (most : ℕ → ℕ) → TableIn s.items p most st.items → TableIn s.items p most out.state.items
-  pub fits : (from : ℕ) → from < s.nodes → SentFit s from out.sent
+  pub fits : (from : ℕ) → from < s.nodes → IsSentFit s from out.sent
 
 turn_acts : (f : Act → ℕ) → ActsOfNone f → (raises : Bool) (v : ℕ) → tally f (turned_if raises v) ≡ 0
 turn_acts f h true v = omega (arith, h.turned (record { 0 = v }))
@@ -287,5 +287,5 @@ obeys_aside s past e p out at lt order made =
       client = client_kept s past e (omega (arith, at, lt));
       homes = λ q qlt. same_part (λ (st : Node). st.homes) s past e p out made at a.homes q;
       items = λ q qlt most ok. obeys_items s past e p out at made a q (cases_eq p q) most ok;
-      fits = subst (λ (os : List Outgoing). SentFit s e.actor.0 os) (sym made.sent) (a.fits e.actor.0 (omega (arith, at, lt)));
+      fits = subst (λ (os : List Outgoing). IsSentFit s e.actor.0 os) (sym made.sent) (a.fits e.actor.0 (omega (arith, at, lt)));
     }

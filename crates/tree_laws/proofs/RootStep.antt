@@ -17,14 +17,14 @@ use Rattle.tree_laws.specs.Dids.{asks, dids, tells_done, replies_to}
 use Rattle.tree_laws.proofs.Answering.{answer_fits, replies_apart}
 use Rattle.tree_laws.proofs.Counts.{below_root, not_done, one_here, was_asked}
 use Rattle.tree_laws.proofs.Doing.{root_answer, root_sends, root_does}
-use Rattle.world_model.proofs.Fits.{SentFit}
+use Rattle.world_model.proofs.Fits.{IsSentFit}
 use Rattle.world_model.proofs.Flows.{same_part}
 use Rattle.tree_laws.proofs.Flows.{letters_next}
-use Rattle.tree_laws.proofs.Good.{Good, TreeAt}
+use Rattle.tree_laws.proofs.Good.{IsGood, TreeAt}
 use Rattle.tree_laws.proofs.Kept.{Does, does_roots, does_subs, does_born, does_items, heard_same, same_heard, both_fit, children_sent}
 use Rattle.world_model.proofs.Nexts.{Made, RootWork}
 use Rattle.tree_laws.proofs.Noting.{misses_root, root_keeps_others}
-use Rattle.world_model.proofs.Scripts.{Sound, SubAt, node_below, sub_below, tree_below}
+use Rattle.world_model.proofs.Scripts.{IsSound, SubAt, node_below, sub_below, tree_below}
 use Rattle.world_model.proofs.Sends.{on, replies_none, subs_none}
 use Rattle.tree_laws.proofs.Sent.{other_tree}
 use Rattle.tree_laws.proofs.Staging.{Apart, stays, Begins, begins_stage}
@@ -34,8 +34,8 @@ abbrev RootMade : ScriptData → List Entry → Entry → TreeNo → Version →
 RootMade s past e t v effect =
     Made s past e (home_of s t.0) (root_done s (home_of s t.0) t.0 v.0 effect (node_in s past (home_of s t.0)))
 
-root_fits : (s : ScriptData) (past : List Entry) (e : Entry) (t : TreeNo) (v : Version) (effect : Effect) → SubAt s t.0 0 → Sound s
-    → e.actor.0 ≡ home_of s t.0 → RootMade s past e t v effect → SentFit s e.actor.0 e.sent
+root_fits : (s : ScriptData) (past : List Entry) (e : Entry) (t : TreeNo) (v : Version) (effect : Effect) → SubAt s t.0 0 → IsSound s
+    → e.actor.0 ≡ home_of s t.0 → RootMade s past e t v effect → IsSentFit s e.actor.0 e.sent
 root_fits s past e t v effect c sound at made =
     let hs = begun t (length (subs_at s t.0)) v (node_in s past (home_of s t.0)).homes in
     let miss = misses_root t (record { 0 = 0 }) (length (subs_at s t.0)) v (node_in s past (home_of s t.0)).homes (sub_below s t.0 0 c) in
@@ -95,7 +95,7 @@ root_begins s past e t v effect does is new made = record {
 }
 
 root_stage : (s : ScriptData) (past : List Entry) (e : Entry) (t : TreeNo) (v : Version) (effect : Effect) → SubAt s t.0 0
-    → Sound s → Good s past → MayFollow s past e → dids past t.0 0 ≡ 0 → Does s past e t.0 0 → e.took.body ≡ Root t
+    → IsSound s → IsGood s past → MayFollow s past e → dids past t.0 0 ≡ 0 → Does s past e t.0 0 → e.took.body ≡ Root t
     → home_in t (node_in s past (home_of s t.0)).homes ≡ None → RootMade s past e t v effect → (u : ℕ) → u < length s.trees
     → (t.0 ≡ u) ⊎ (t.0 ≢ u) → TreeAt s (e ∷ past) u
 root_stage s past e t v effect c sound good m none does is new made u lt (inl same) =
@@ -106,10 +106,10 @@ root_stage s past e t v effect c sound good m none does is new made u lt (inr ne
     stays s past e u m (root_apart s past e t v effect c does is made u ne) (good.stages u lt)
 
 -- a root is done
-pub root_good : (s : ScriptData) (past : List Entry) (e : Entry) (t : TreeNo) (v : Version) (effect : Effect) → Sound s
-    → Good s past → MayFollow s past e → e.took.body ≡ Root t → SubAt s t.0 0 → e.actor.0 ≡ home_of s t.0
+pub root_good : (s : ScriptData) (past : List Entry) (e : Entry) (t : TreeNo) (v : Version) (effect : Effect) → IsSound s
+    → IsGood s past → MayFollow s past e → e.took.body ≡ Root t → SubAt s t.0 0 → e.actor.0 ≡ home_of s t.0
     → home_in t (node_in s past (home_of s t.0)).homes ≡ None → RootWork s t.0 (node_in s past (home_of s t.0)) v effect
-    → RootMade s past e t v effect → Good s (e ∷ past)
+    → RootMade s past e t v effect → IsGood s (e ∷ past)
 root_good s past e t v effect sound good m is c at new work made =
     let none = not_done s past t.0 0 c sound good (was_asked s past e t.0 0 m (ap (asks t.0 0) is ∙ one_here t.0 0)) in
     let does = root_does s past e t v effect c sound good none is at work made in

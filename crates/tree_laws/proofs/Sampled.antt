@@ -5,9 +5,9 @@ use Rattle.std.specs.Str.{bytes_eq}
 use Rattle.tx_trees.specs.Counts.{trees_puts}
 use Rattle.tx_trees.specs.Forms.{most_amount}
 use Rattle.tx_trees.specs.Valid.{IsLimited, IsValid, item_names, load, tree_names}
-use Rattle.world_model.specs.Runs.{StepRun, AtNode, AtCoordinator, AtClient}
+use Rattle.world_model.specs.Runs.{IsStepRun, AtNode, AtCoordinator, AtClient}
 use Rattle.world_model.specs.Sample.{sample, small, with_read}
-use Rattle.world_model.specs.Tables.{Runnable}
+use Rattle.world_model.specs.Tables.{IsRunnable}
 
 small_loads : (x : ℕ) → x < 2 → load x small ≤ most_amount small.form
 small_loads zero lt = omega arith
@@ -78,11 +78,11 @@ small_valid = record {
   failed = (tt, tt);
 }
 
-pub small_runnable : Runnable small
+pub small_runnable : IsRunnable small
 small_runnable = record { trees = (refl, tt); rows = (refl, tt) }
 
 -- the run of the small script
-pub small_run : StepRun small (sample small 6)
+pub small_run : IsStepRun small (sample small 6)
 small_run = (
   record { stamp = refl; waits = refl; addressee = refl; moves = AtCoordinator refl (refl, refl) },
   (
@@ -156,11 +156,11 @@ read_valid = record {
   failed = (tt, (tt, tt));
 }
 
-pub read_runnable : Runnable with_read
+pub read_runnable : IsRunnable with_read
 read_runnable = record { trees = (refl, (refl, tt)); rows = (refl, (refl, (refl, tt))) }
 
 -- the run of the script with a read
-pub read_run : StepRun with_read (sample with_read 11)
+pub read_run : IsStepRun with_read (sample with_read 11)
 read_run = (
   record { stamp = refl; waits = refl; addressee = refl; moves = AtCoordinator refl (refl, refl) },
   (

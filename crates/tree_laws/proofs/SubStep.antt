@@ -16,13 +16,13 @@ use Rattle.world_model.specs.Runs.{node_in, MayFollow}
 use Rattle.tree_laws.specs.Dids.{asks, asked, dids, tells_done, replies_to}
 use Rattle.tree_laws.proofs.Counts.{below_root, not_done, one_here, was_asked, parent_at}
 use Rattle.tree_laws.proofs.Doing.{sub_sends, sub_does}
-use Rattle.world_model.proofs.Fits.{SentFit}
+use Rattle.world_model.proofs.Fits.{IsSentFit}
 use Rattle.world_model.proofs.Flows.{same_part}
 use Rattle.tree_laws.proofs.Flows.{letters_next}
-use Rattle.tree_laws.proofs.Good.{Good, TreeAt}
+use Rattle.tree_laws.proofs.Good.{IsGood, TreeAt}
 use Rattle.tree_laws.proofs.Kept.{Does, does_roots, does_subs, does_born, does_items, heard_same, same_heard, both_fit, children_sent}
 use Rattle.world_model.proofs.Nexts.{Made, SubWork}
-use Rattle.world_model.proofs.Scripts.{Sound, SubAt, node_below, sub_below, tree_below}
+use Rattle.world_model.proofs.Scripts.{IsSound, SubAt, node_below, sub_below, tree_below}
 use Rattle.world_model.proofs.Sends.{on, subs_none}
 use Rattle.tree_laws.proofs.Sent.{other_tree, other_sub}
 use Rattle.tree_laws.proofs.Staging.{Apart, stays, Adds, adds}
@@ -31,8 +31,8 @@ abbrev SubMade : ScriptData → List Entry → Entry → TreeNo → SubNo → Ve
 SubMade s past e t k v raises effect =
     Made s past e (node_of s t.0 k.0) (sub_done s e.took.from.0 t.0 k.0 v.0 raises effect (node_in s past (node_of s t.0 k.0)))
 
-sub_fits : (s : ScriptData) (past : List Entry) (e : Entry) (t : TreeNo) (k : SubNo) (v : Version) (raises : Bool) (effect : Effect) → SubAt s t.0 k.0 → 0 < k.0 → Sound s → e.actor.0 ≡ node_of s t.0 k.0 → SubMade s past e t k v raises effect
-    → SentFit s e.actor.0 e.sent
+sub_fits : (s : ScriptData) (past : List Entry) (e : Entry) (t : TreeNo) (k : SubNo) (v : Version) (raises : Bool) (effect : Effect) → SubAt s t.0 k.0 → 0 < k.0 → IsSound s → e.actor.0 ≡ node_of s t.0 k.0 → SubMade s past e t k v raises effect
+    → IsSentFit s e.actor.0 e.sent
 sub_fits s past e t k v raises effect c later sound at made =
     let node = node_below s t.0 k.0 c sound in
     both_fit s e.actor.0 (sub_letters t.0 v.0 k.0 0 (subs_at s t.0)) (done_letter (home_of s t.0) t.0 k.0 v.0 effect.values ∷ []) e.sent made.sent
@@ -84,12 +84,12 @@ sub_adds s past e t k v raises effect later does is made = record {
 }
 
 -- the root of what is asked for was done
-root_was : (s : ScriptData) (past : List Entry) (t k : ℕ) (c : SubAt s t k) → 0 < k → Sound s → Good s past → 1 ≤ asked s past t k
+root_was : (s : ScriptData) (past : List Entry) (t k : ℕ) (c : SubAt s t k) → 0 < k → IsSound s → IsGood s past → 1 ≤ asked s past t k
     → 1 ≤ dids past t 0
 root_was s past t k c later sound good some =
     omega (arith, good.subs t k c later, below_root s past t c.sub.parent.0 (parent_at s t k c sound later) sound good)
 
-sub_stage : (s : ScriptData) (past : List Entry) (e : Entry) (t : TreeNo) (k : SubNo) (v : Version) (raises : Bool) (effect : Effect) → SubAt s t.0 k.0 → 0 < k.0 → Sound s → Good s past → MayFollow s past e → dids past t.0 k.0 ≡ 0
+sub_stage : (s : ScriptData) (past : List Entry) (e : Entry) (t : TreeNo) (k : SubNo) (v : Version) (raises : Bool) (effect : Effect) → SubAt s t.0 k.0 → 0 < k.0 → IsSound s → IsGood s past → MayFollow s past e → dids past t.0 k.0 ≡ 0
     → 1 ≤ dids past t.0 0 → Does s past e t.0 k.0 → e.took.body ≡ SubLetter t k v → SubMade s past e t k v raises effect
     → (u : ℕ) → u < length s.trees → (t.0 ≡ u) ⊎ (t.0 ≢ u) → TreeAt s (e ∷ past) u
 sub_stage s past e t k v raises effect c later sound good m none root does is made u lt (inl same) =
@@ -100,9 +100,9 @@ sub_stage s past e t k v raises effect c later sound good m none root does is ma
     stays s past e u m (sub_apart s past e t k v raises effect does is made u ne) (good.stages u lt)
 
 -- another subtransaction is done
-pub sub_good : (s : ScriptData) (past : List Entry) (e : Entry) (t : TreeNo) (k : SubNo) (v : Version) (raises : Bool) (effect : Effect) → Sound s → Good s past → MayFollow s past e → e.took.body ≡ SubLetter t k v → SubAt s t.0 k.0
+pub sub_good : (s : ScriptData) (past : List Entry) (e : Entry) (t : TreeNo) (k : SubNo) (v : Version) (raises : Bool) (effect : Effect) → IsSound s → IsGood s past → MayFollow s past e → e.took.body ≡ SubLetter t k v → SubAt s t.0 k.0
     → 0 < k.0 → e.actor.0 ≡ node_of s t.0 k.0 → SubWork s t.0 k.0 (node_in s past (node_of s t.0 k.0)) v raises effect
-    → SubMade s past e t k v raises effect → Good s (e ∷ past)
+    → SubMade s past e t k v raises effect → IsGood s (e ∷ past)
 sub_good s past e t k v raises effect sound good m is c later at work made =
     let asked = was_asked s past e t.0 k.0 m (ap (asks t.0 k.0) is ∙ one_here t.0 k.0) in
     let none = not_done s past t.0 k.0 c sound good asked in

@@ -31,16 +31,16 @@ use Rattle.tree_step.specs.Notices.{answer_noted, reply_letters}
 use Rattle.advance_coord.specs.Coordinator.{Coordinator, coordinator_row, start_coordinator}
 use Rattle.client_rows.specs.Client.{Client, nudge, rows_letters, submit, submitted, with_answer}
 use Rattle.world_model.specs.Counts.{Each}
-use Rattle.world_model.specs.Runs.{client_in, coordinator_in, node_in, waiting, MayFollow, StepRun}
+use Rattle.world_model.specs.Runs.{client_in, coordinator_in, node_in, waiting, MayFollow, IsStepRun}
 use Rattle.world_model.specs.Tables.{coordinator_table}
 use Rattle.world_model.proofs.Every.{coordinator_kept, each_append, each_step, each_taken, node_kept}
 use Rattle.world_model.proofs.Fits.{each_drop, each_take}
 use Rattle.world_model.proofs.Flows.{same_part}
 use Rattle.world_model.proofs.Nexts.{Next, Begins as AnyBegins, Hears as AnyHears, Ends, Coordinates, DoesRoot as AnyRoot, DoesSub as AnySub, Notes as AnyNotes, Obeys, Made, MadeByClient, MadeByCoordinator, Order, Turns as TurnsBy, Shows, Sweeps, TellsDone, TellsAsked, Tells, RootWork, RootUpdates, RootReads, SubWork, SubUpdates, SubReads}
-use Rattle.world_model.proofs.Scripts.{Sound, SubAt}
+use Rattle.world_model.proofs.Scripts.{IsSound, SubAt}
 use Rattle.world_model.specs.Timely.{AllTimely, WasTimely}
 use Rattle.tree_laws.proofs.Doing.{root_answer}
-use Rattle.tree_laws.proofs.Good.{Good}
+use Rattle.tree_laws.proofs.Good.{IsGood}
 use Rattle.tree_laws.proofs.Goods.{good_run, next_of}
 
 -- a letter of a script without advancements: it is of no advancement, and its version is one of the first
@@ -287,7 +287,7 @@ start_calm : (s : ScriptData) → Calm s []
 start_calm s = record { letters = (tt, tt); turns = λ p lt. refl; coordinator = refl }
 
 -- without advancements each letter comes in time, and all this holds
-pub unadvanced : (s : ScriptData) (past : List Entry) → Sound s → advances_in s.rows ≡ 0 → StepRun s past → AllTimely s past × Calm s past
+pub unadvanced : (s : ScriptData) (past : List Entry) → IsSound s → advances_in s.rows ≡ 0 → IsStepRun s past → AllTimely s past × Calm s past
 unadvanced s [] sound none run = (tt, start_calm s)
 unadvanced s (e ∷ past) sound none run =
     let before = unadvanced s past sound none run.1 in
@@ -297,15 +297,15 @@ unadvanced s (e ∷ past) sound none run =
     (timely, keeps_calm s past e before.1 (calm_keeps s past e none before.1 took kind))
 
 -- what the last entry of such a run does
-pub calm_next_of : (s : ScriptData) (past : List Entry) (e : Entry) → Sound s → advances_in s.rows ≡ 0 → StepRun s (e ∷ past)
+pub calm_next_of : (s : ScriptData) (past : List Entry) (e : Entry) → IsSound s → advances_in s.rows ≡ 0 → IsStepRun s (e ∷ past)
     → CalmNext s past e
 calm_next_of s past e sound none run =
     let before = unadvanced s past sound none run.1 in
     calm_next s past e before.1 (taken_calm s past e before.1 run.0) (next_of s past e sound run (unadvanced s (e ∷ past) sound none run).0)
 
 -- what holds of a past of such a run
-pub calm_run : (s : ScriptData) (past : List Entry) → Sound s → advances_in s.rows ≡ 0 → StepRun s past → Calm s past
+pub calm_run : (s : ScriptData) (past : List Entry) → IsSound s → advances_in s.rows ≡ 0 → IsStepRun s past → Calm s past
 calm_run s past sound none run = (unadvanced s past sound none run).1
 
-pub calm_good : (s : ScriptData) (past : List Entry) → Sound s → advances_in s.rows ≡ 0 → StepRun s past → Good s past
+pub calm_good : (s : ScriptData) (past : List Entry) → IsSound s → advances_in s.rows ≡ 0 → IsStepRun s past → IsGood s past
 calm_good s past sound none run = good_run s past sound run (unadvanced s past sound none run).0

@@ -13,14 +13,14 @@ use Rattle.tx_trees.specs.ScriptData.{ScriptData, is_strict, subs_at, updates, r
 use Rattle.tx_trees.specs.Valid.{IsValid}
 use Rattle.tx_trees.specs.declared.parts.Tree.{Tree}
 use Rattle.world_model.specs.Counts.{tally, one_if}
-use Rattle.world_model.specs.Runs.{StepRun}
-use Rattle.world_model.specs.Tables.{Runnable}
+use Rattle.world_model.specs.Runs.{IsStepRun}
+use Rattle.world_model.specs.Tables.{IsRunnable}
 use Rattle.tree_laws.specs.Dids.{is_did, is_born, dids, births}
 use Rattle.tree_laws.proofs.Acts.{of_act, acts_more, counted_any}
 use Rattle.tree_laws.proofs.Finishes.{done_then, finished_by}
 use Rattle.tree_laws.proofs.Goods.{good_run}
 use Rattle.world_model.specs.Timely.{AllTimely}
-use Rattle.world_model.proofs.Scripts.{Sound, SubAt, get_below, has_root, reads_kind, sub_there, tree_kind, updates_kind}
+use Rattle.world_model.proofs.Scripts.{IsSound, SubAt, get_below, has_root, reads_kind, sub_there, tree_kind, updates_kind}
 
 -- A history counts as its past does.
 pub dids_in : (past : List Entry) (t k : ℕ) → tally (of_act (is_did t k)) (places_of (reverse past)) ≡ dids past t k
@@ -71,10 +71,10 @@ no_strict_by s t k c (inl up) = rw (c.at, is_strict_tree) (ap is_strict (updates
 no_strict_by s t k c (inr up) = rw (c.at, is_strict_tree) (ap is_strict (reads_kind s t k c up))
 
 -- no tree of the script is strict
-pub no_strict : (s : ScriptData) (t k : ℕ) (c : SubAt s t k) → Sound s → is_strict_tree s t ≡ false
+pub no_strict : (s : ScriptData) (t k : ℕ) (c : SubAt s t k) → IsSound s → is_strict_tree s t ≡ false
 no_strict s t k c sound = no_strict_by s t k c (tree_kind s t k c sound)
 
-strict_of : (s : ScriptData) (t : ℕ) → Sound s → (found : Option Tree) → slice_get s.trees t ≡ found
+strict_of : (s : ScriptData) (t : ℕ) → IsSound s → (found : Option Tree) → slice_get s.trees t ≡ found
     → (elim found [ Some tree ↦ is_strict tree.kind | None ↦ false ]) ≡ false
 strict_of s t sound None is = refl
 strict_of s t sound (Some tree) is =
@@ -82,14 +82,14 @@ strict_of s t sound (Some tree) is =
     sym (ap (λ (o : Option Tree). elim o [ Some x ↦ is_strict x.kind | None ↦ false ]) is) ∙ no_strict s t 0 c sound
 
 -- whatever its number
-pub none_strict : (s : ScriptData) (t : ℕ) → Sound s → is_strict_tree s t ≡ false
+pub none_strict : (s : ScriptData) (t : ℕ) → IsSound s → is_strict_tree s t ≡ false
 none_strict s t sound = strict_of s t sound (slice_get s.trees t) refl
 
 whole_by : (a b c : Bool) → a ≡ true → b ≡ false → c ≡ true → (d : Bool) → (a && (if b then d else c)) ≡ true
 whole_by a b c p q r d = rw (p, q, r) refl
 
 -- a tree whose subtransactions are all done is whole
-pub whole_done : (s : ScriptData) (past : List Entry) (t : ℕ) → Sound s → StepRun s past → AllTimely s past → t < length s.trees
+pub whole_done : (s : ScriptData) (past : List Entry) (t : ℕ) → IsSound s → IsStepRun s past → AllTimely s past → t < length s.trees
     → ((k : ℕ) → SubAt s t k → dids past t k ≡ 1) → IsWhole s (reverse past) t
 whole_done s past t sound run timely lt done =
     let xs = places_of (reverse past) in
@@ -100,8 +100,8 @@ whole_done s past t sound run timely lt done =
     (all_done_of t (length (subs_at s t)) xs (λ k kt. was_done_of t k xs (omega (arith, dids_in past t k, done k (sub_there s t k lt kt))))) _
 
 -- where the client has finished, every tree is whole
-pub whole : (s : ScriptData) (past : List Entry) (t : ℕ) → IsValid s → Runnable s → StepRun s past → AllTimely s past → HasFinished (reverse past)
+pub whole : (s : ScriptData) (past : List Entry) (t : ℕ) → IsValid s → IsRunnable s → IsStepRun s past → AllTimely s past → HasFinished (reverse past)
     → t < length s.trees → IsWhole s (reverse past) t
 whole s past t valid runnable run timely finished lt =
-    let sound : Sound s = record { valid = valid; runnable = runnable } in
+    let sound : IsSound s = record { valid = valid; runnable = runnable } in
     whole_done s past t sound run timely lt (done_then s past t sound run timely (finished_by s past sound run timely finished) lt)

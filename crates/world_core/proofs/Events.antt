@@ -10,7 +10,7 @@ use Rattle.letter_types.specs.declared.entries.Entry.{Entry}
 use Rattle.letter_types.specs.Letters.{sealed}
 use Rattle.letter_types.specs.Steps.{Out}
 use Rattle.tx_trees.specs.ScriptData.{ScriptData}
-use Rattle.world_model.proofs.Scripts.{Sound, get_some}
+use Rattle.world_model.proofs.Scripts.{IsSound, get_some}
 use Rattle.run_laws.specs.Balance.{MOST_COUNTED}
 use Rattle.tree_step.specs.Children.{MOST_SENT}
 use Rattle.world_core.specs.declared.actor.ActorState.{ActorState}
@@ -27,12 +27,12 @@ if_some_of : {X : Type 0} (P : X → Type 0) (o : Option X) (x : X) → o ≡ So
 if_some_of P o x is h = rw is h
 
 -- the addressee is there
-pub is_here : (s : ScriptData) (w : WorldData) (k : ℕ) (l : Letter) → IsWorldOf s w → Sound s
+pub is_here : (s : ScriptData) (w : WorldData) (k : ℕ) (l : Letter) → IsWorldOf s w → IsSound s
     → slice_get w.bag k ≡ Some l → l.to.0 < length w.actors
 is_here s w k l world sound at = omega (arith, below s w k l world sound at, world.count)
 
 -- a state there may take the letter, while the history is short
-state_may : (s : ScriptData) (w : WorldData) (m : ℕ) (l : Letter) (st : ActorState) → IsWorldOf s w → Sound s
+state_may : (s : ScriptData) (w : WorldData) (m : ℕ) (l : Letter) (st : ActorState) → IsWorldOf s w → IsSound s
     → MOST_COUNTED * length w.history + 1 ≤ m
     → slice_get w.actors l.to.0 ≡ Some st → MayTake s l m st
 state_may s w m l st world sound le there =
@@ -44,14 +44,14 @@ state_may s w m l st world sound le there =
           (small_counts s (reverse w.history) l.to.0 m sound world.run (omega (arith, length-reverse w.history)));
     }
 
-pub may_take : (s : ScriptData) (w : WorldData) (k m : ℕ) (l : Letter) → IsWorldOf s w → Sound s
+pub may_take : (s : ScriptData) (w : WorldData) (k m : ℕ) (l : Letter) → IsWorldOf s w → IsSound s
     → MOST_COUNTED * length w.history + 1 ≤ m → slice_get w.bag k ≡ Some l
     → IfSome (slice_get w.actors l.to.0) (MayTake s l m)
 may_take s w k m l world sound le at =
     let found = get_some w.actors l.to.0 (is_here s w k l world sound at) in
     if_some_of (MayTake s l m) (slice_get w.actors l.to.0) found.0 found.1 (state_may s w m l found.0 world sound le found.1)
 
-pub has_room : (s : ScriptData) (w : WorldData) (l : Letter) (new : List ActorState) (out : StepOut) → IsWorldOf s w → Sound s
+pub has_room : (s : ScriptData) (w : WorldData) (l : Letter) (new : List ActorState) (out : StepOut) → IsWorldOf s w → IsSound s
     → Acted s l w.actors new out → length out.sent ≤ length s.rows + MOST_SENT
 has_room s w l new out world sound acted =
     let past = reverse w.history in
@@ -89,7 +89,7 @@ history_is s w k l given kept stamp x next e =
     ∙ ap (λ (out : StepOut). w.history ++ entry_made l out stamp ∷ []) e.same
     ∙ ap (λ (n : ℕ). w.history ++ entry_of n l given.sent given.acts ∷ []) e.stamp_is
 
-pub event_world : (s : ScriptData) (w : WorldData) (k : ℕ) (l : Letter) (given kept : StepOut) (stamp : Stamp) (x : Entry) (next : WorldData) → IsWorldOf s w → Sound s
+pub event_world : (s : ScriptData) (w : WorldData) (k : ℕ) (l : Letter) (given kept : StepOut) (stamp : Stamp) (x : Entry) (next : WorldData) → IsWorldOf s w → IsSound s
     → Event s w k l given kept stamp x next → IsWorldOf s next
 event_world s w k l given kept stamp x next world sound e =
     let bag : next.bag ≡ remove w.bag k ++ sealed stamp.0 l.to.0 0 given.sent = if_some (λ m. next.bag ≡ remove w.bag k ++ sealed stamp.0 m.to.0 0 given.sent) (slice_get w.bag k) l e.letter e.bag in

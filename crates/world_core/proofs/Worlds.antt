@@ -21,11 +21,11 @@ use Rattle.pair_counters.specs.Numbers.{AllBelow, Numbers}
 use Rattle.run_laws.specs.Balance.{MOST_COUNTED}
 use Rattle.tx_trees.specs.ScriptData.{ScriptData, client_of}
 use Rattle.world_model.specs.Counts.{Each}
-use Rattle.world_model.specs.Runs.{StepRun, MayFollow, Moves, AtNode, AtCoordinator, AtClient, node_in, waiting}
+use Rattle.world_model.specs.Runs.{IsStepRun, MayFollow, Moves, AtNode, AtCoordinator, AtClient, node_in, waiting}
 use Rattle.world_model.proofs.Every.{each_found}
 use Rattle.world_model.proofs.Gone.{unique}
-use Rattle.world_model.proofs.Fits.{Fit}
-use Rattle.world_model.proofs.Scripts.{Sound, get_below, has_root, node_below, sub_there}
+use Rattle.world_model.proofs.Fits.{IsFit}
+use Rattle.world_model.proofs.Scripts.{IsSound, get_below, has_root, node_below, sub_there}
 use Rattle.run_laws.proofs.Goods.{good_run}
 use Rattle.run_laws.specs.Quiet.{IsGivenInQuiet}
 use Rattle.run_laws.proofs.InTime.{counts_small, given_run, in_time}
@@ -39,7 +39,7 @@ abbrev pub entry_of : ℕ → Letter → List Outgoing → List Act → Entry
 entry_of stamp l sent acts = record { stamp = record { 0 = stamp }; actor = l.to; took = l; sent = sent; acts = acts }
 
 -- each letter under way is for one of the actors
-fit_below : (s : ScriptData) (from to : ℕ) (body : Body) → Sound s → Fit s from to body → to < s.nodes + 2
+fit_below : (s : ScriptData) (from to : ℕ) (body : Body) → IsSound s → IsFit s from to body → to < s.nodes + 2
 fit_below s from to Go sound fit = omega (arith, fit)
 fit_below s from to (Root t) sound fit = omega (arith, fit.1, node_below s t.0 0 (has_root s t.0 sound fit.0) sound)
 fit_below s from to (SubLetter t k v) sound fit = omega (arith, fit.3, node_below s t.0 k.0 (sub_there s t.0 k.0 fit.0 fit.1) sound)
@@ -60,10 +60,10 @@ fit_below s from to (AskAsked v k) sound fit = omega (arith, fit)
 fit_below s from to (Advanced v) sound fit = omega (arith, fit)
 fit_below s from to _ sound fit = absurd fit
 
-pub addressed : (s : ScriptData) (past : List Entry) (l : Letter) → Sound s → StepRun s past
+pub addressed : (s : ScriptData) (past : List Entry) (l : Letter) → IsSound s → IsStepRun s past
     → find_id l.id (waiting s past) ≡ Some l → l.to.0 < s.nodes + 2
 addressed s past l sound run at =
-    fit_below s l.from.0 l.to.0 l.body sound (each_found (λ (x : Letter). Fit s x.from.0 x.to.0 x.body) l.id (waiting s past) l (good_run s past sound run (in_time s past sound run)).letters at)
+    fit_below s l.from.0 l.to.0 l.body sound (each_found (λ (x : Letter). IsFit s x.from.0 x.to.0 x.body) l.id (waiting s past) l (good_run s past sound run (in_time s past sound run)).letters at)
 
 -- the letter of a step may be taken by its addressee
 asks_by : (s : ScriptData) (past : List Entry) (l : Letter) (b c : Bool) → nat_lt l.to.0 s.nodes ≡ b
@@ -86,7 +86,7 @@ small_by s past a m false false small is at = rw (is, at) tt
 below_more : (m n : ℕ) (counts : Numbers) → m ≤ n → AllBelow m counts → AllBelow n counts
 below_more m n counts le all v q = let both = all v q in (omega (arith, both.0), omega (arith, both.1))
 
-pub small_counts : (s : ScriptData) (past : List Entry) (a m : ℕ) → Sound s → StepRun s past → MOST_COUNTED * length past + 1 ≤ m
+pub small_counts : (s : ScriptData) (past : List Entry) (a m : ℕ) → IsSound s → IsStepRun s past → MOST_COUNTED * length past + 1 ≤ m
     → CountsBelow m (actor_in s past a)
 small_counts s past a m sound run le =
     small_by s past a m (nat_lt a s.nodes) (a == s.nodes)
@@ -131,7 +131,7 @@ found_in s w k l world at =
     found_at (waiting s (reverse w.history)) k l (unique s (reverse w.history) l.id world.run)
     (subst (λ (ls : List Letter). slice_get ls k ≡ Some l) world.bag at)
 
-pub below : (s : ScriptData) (w : WorldData) (k : ℕ) (l : Letter) → IsWorldOf s w → Sound s
+pub below : (s : ScriptData) (w : WorldData) (k : ℕ) (l : Letter) → IsWorldOf s w → IsSound s
     → slice_get w.bag k ≡ Some l → l.to.0 < s.nodes + 2
 below s w k l world sound at = addressed s (reverse w.history) l sound world.run (found_in s w k l world at).found
 
@@ -143,7 +143,7 @@ row_is s past l old next out states a = a.row
     ∙ ap (λ (d : ActorData). actor_row s l.to.0 d l) (states l.to.0 a.before a.there).seen
 
 may_follow : (s : ScriptData) (w : WorldData) (k : ℕ) (l : Letter) (sent : List Outgoing) (acts : List Act)
-    → IsWorldOf s w → Sound s
+    → IsWorldOf s w → IsSound s
     → slice_get w.bag k ≡ Some l
     → sent ≡ (actor_row s l.to.0 (actor_in s (reverse w.history) l.to.0) l).sent
     → acts ≡ (actor_row s l.to.0 (actor_in s (reverse w.history) l.to.0) l).acts
@@ -182,7 +182,7 @@ state_next s past l stamp sent acts old after st a count to states row script at
     }
 
 pub next_world : (s : ScriptData) (w : WorldData) (k : ℕ) (l : Letter) (out : StepOut) (actors : List ActorState) (bag : List Letter)
-    → IsWorldOf s w → Sound s → Stepped s w k l out actors bag
+    → IsWorldOf s w → IsSound s → Stepped s w k l out actors bag
     → IsWorldOf s (record { actors = actors; bag = bag; history = w.history ++ entry_of (length w.history + 1) l out.sent out.acts ∷ [] })
 next_world s w k l out actors bag world sound step =
     let past = reverse w.history in
@@ -200,8 +200,8 @@ next_world s w k l out actors bag world sound step =
     }
 
 -- the entry that a step makes sends in quiet
-pub given_step : (s : ScriptData) (old new : List Entry) → Sound s → StepRun s (reverse new) → (e : Entry) → new ≡ old ++ e ∷ []
+pub given_step : (s : ScriptData) (old new : List Entry) → IsSound s → IsStepRun s (reverse new) → (e : Entry) → new ≡ old ++ e ∷ []
     → Each (λ (o : Outgoing). IsGivenInQuiet s (reverse old) o.body) e.sent
 given_step s old new sound run e is =
     let more : reverse new ≡ e ∷ reverse old = ap reverse is ∙ reverse-append old (e ∷ []) in
-    given_run s (reverse old) e sound (subst (StepRun s) more run)
+    given_run s (reverse old) e sound (subst (IsStepRun s) more run)

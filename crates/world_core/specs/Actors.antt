@@ -12,7 +12,7 @@ use Rattle.tx_trees.specs.ScriptData.{ScriptData}
 use Rattle.run_laws.specs.Quiet.{IsGivenInQuiet}
 use Rattle.world_model.specs.Counts.{Each}
 use Rattle.world_model.specs.Tables.{ActorData, NodeData, CoordinatorData, ClientData, actor_row}
-use Rattle.world_model.specs.Runs.{StepRun, waiting, node_in, coordinator_in, client_in}
+use Rattle.world_model.specs.Runs.{IsStepRun, waiting, node_in, coordinator_in, client_in}
 use Rattle.world_core.specs.declared.actor.ActorState.{ActorState}
 use Rattle.world_core.specs.declared.actor.ActorState.TheVariants.{Node, Coordinator, Client}
 
@@ -67,7 +67,7 @@ world_of actors bag history = record { actors = actors; bag = bag; history = his
 
 -- the world is one of the script: its history goes step by step, and its actors and its bag are what follows from it
 pub record IsWorldOf (s : ScriptData) (w : WorldData) : Type 0 where
-  pub run : StepRun s (reverse w.history)
+  pub run : IsStepRun s (reverse w.history)
   pub count : length w.actors ≡ s.nodes + 2
   pub actors : AreStatesOf s (reverse w.history) w.actors
   pub bag : w.bag ≡ waiting s (reverse w.history)

@@ -1,6 +1,6 @@
 ghost use Rattle.std.specs.Prelude.{◌≡◌, ◌≤◌, true, unsigned_abs};
 ghost use Rattle.commute_ops.specs.declared.kinds.TheConstants.{MOST_AMOUNT};
-ghost use Rattle.world_model.specs.Tables.{Runnable};
+ghost use Rattle.world_model.specs.Tables.{IsRunnable};
 ghost use Rattle.world_core.specs.Actors.{IsWorldOf};
 
 use super::*;
@@ -85,7 +85,7 @@ fn one_read(alloc: Global) -> Result<Script, Refusal> {
 
 /// Whether the script may be run, for scripts of at most one tree and one row.
 fn may_run(script: &Script) -> bool
-    ensures { result ≡ true → Runnable script.now }
+    ensures { result ≡ true → IsRunnable script.now }
 {
     let trees = match script.trees() {
         [] => true,
@@ -102,7 +102,7 @@ fn may_run(script: &Script) -> bool
 
 /// Lets the oldest letter be taken, if one is under way.
 fn take_oldest(script: &Script, world: &mut World) -> Result<(), NoMemory>
-    requires runnable { Runnable script.now }
+    requires runnable { IsRunnable script.now }
     requires world { IsWorldOf script.now world.old }
     ensures world { IsWorldOf script.now world.new }
 {
@@ -114,7 +114,7 @@ fn take_oldest(script: &Script, world: &mut World) -> Result<(), NoMemory>
 
 /// Lets up to two letters be taken, the oldest first.
 fn take_two(script: &Script, world: &mut World) -> Result<(), NoMemory>
-    requires runnable { Runnable script.now }
+    requires runnable { IsRunnable script.now }
     requires world { IsWorldOf script.now world.old }
     ensures world { IsWorldOf script.now world.new }
 {

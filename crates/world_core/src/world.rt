@@ -2,8 +2,8 @@
 ghost use Rattle.std.specs.Prelude.{◌≡◌, ◌<◌, ◌≤◌, ◌+◌, ◌-◌, ◌^◌, ◌++◌, [], length, reverse, slice_get, slice_set, IfOk, IfSome, OnOk, OnErr, Some};
 ghost use Rattle.std.specs.List.{remove};
 ghost use Rattle.letter_types.specs.Letters.{go, sealed};
-ghost use Rattle.world_model.specs.Tables.{Runnable};
-ghost use Rattle.run_laws.specs.Balance.{Balanced};
+ghost use Rattle.world_model.specs.Tables.{IsRunnable};
+ghost use Rattle.run_laws.specs.Balance.{IsBalanced};
 ghost use Rattle.tx_trees.specs.ScriptData.{ScriptData};
 ghost use Rattle.world_model.specs.Runs.{actor_after};
 ghost use Rattle.world_core.specs.Actors.{Acted, AreStatesOf, data_of, GaveInQuiet, IsWorldOf, MayTake, MOST_ENTRIES, TookLetter, world_of};
@@ -169,7 +169,7 @@ fn advance(
 ) -> Result<Stamp, NoMemory>
     // What the caller knows.
     requires waits { k < length bag.old.items }
-    requires runnable { Runnable script.now }
+    requires runnable { IsRunnable script.now }
     requires world { IsWorldOf script.now (world_of actors.old.items bag.old.items history.old) }
     // What came.
     ensures world { OnOk result (IsWorldOf script.now (world_of actors.new.items bag.new.items history.new)) }
@@ -248,11 +248,11 @@ impl World {
     pub fn step(&mut self, script: &Script, k: usize) -> Result<Stamp, NoMemory>
         // What the caller knows.
         requires waits { k < length self.old.bag }
-        requires runnable { Runnable script.now }
+        requires runnable { IsRunnable script.now }
         requires world { IsWorldOf script.now self.old }
         // What is a world's, and what came.
         ensures world { IsWorldOf script.now self.new }
-        ensures balanced { Balanced script.now (reverse self.new.history) }
+        ensures balanced { IsBalanced script.now (reverse self.new.history) }
         ensures took { OnOk result (TookLetter k self.old self.new) }
         ensures quiet { OnOk result (GaveInQuiet script.now self.old self.new) }
         ensures stamp { IfOk result (λ stamp. stamp.0 ≡ length self.new.history) }

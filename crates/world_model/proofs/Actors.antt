@@ -6,7 +6,7 @@ use Rattle.letter_types.specs.declared.entries.Letter.{Letter}
 use Rattle.letter_types.specs.declared.entries.Entry.{Entry}
 use Rattle.letter_types.specs.declared.entries.Posting.{Posting}
 use Rattle.letter_types.specs.Letters.{go, own, find_id, letters_of}
-use Rattle.letter_types.specs.Postal.{Postal, posting_of, letters_sent}
+use Rattle.letter_types.specs.Postal.{IsPostal, posting_of, letters_sent}
 use Rattle.letter_types.specs.Steps.{Out}
 use Rattle.tx_trees.specs.ScriptData.{ScriptData, client_of}
 use Rattle.tree_step.specs.Node.{Node}
@@ -14,10 +14,10 @@ use Rattle.node_step.specs.Apt.{node_row}
 use Rattle.advance_coord.specs.Coordinator.{start_coordinator}
 use Rattle.client_rows.specs.Client.{start_client}
 use Rattle.world_model.specs.Tables.{ActorData, NodeData, CoordinatorData, ClientData, start_node, start_actor, as_actor, actor_row, coordinator_table, client_table}
-use Rattle.world_model.specs.Runs.{IsRunOf, after, WorldRun}
+use Rattle.world_model.specs.Runs.{IsRunOf, after, IsWorldRun}
 
 -- The letters of a history of entries went as letters do.
-pub record EntryPostal (client : ℕ) (h : List Entry) : Type 0 where
+pub record IsPostalEntry (client : ℕ) (h : List Entry) : Type 0 where
   pub stamps : (k : ℕ) (e : Entry) → slice_get h k ≡ Some e → e.stamp.0 ≡ k + 1
   pub sent : (k : ℕ) (e : Entry) → slice_get h k ≡ Some e
       → (e.took ≡ go client)
@@ -57,7 +57,7 @@ came_posted client h k l (inl is) = inl is
 came_posted client h k l (inr (j, f, lt, at, found)) = inr (j, posting_of f, lt, posting_at h j f at, found)
 
 -- by entries
-pub entry_postal : (client : ℕ) (h : List Entry) → Postal client (map posting_of h) → EntryPostal client h
+pub entry_postal : (client : ℕ) (h : List Entry) → IsPostal client (map posting_of h) → IsPostalEntry client h
 entry_postal client h p = record {
   stamps = λ k e at. p.stamps k (posting_of e) (posting_at h k e at);
   sent = λ k e at. came_entry client h k e.took (p.sent k (posting_of e) (posting_at h k e at));
@@ -66,19 +66,19 @@ entry_postal client h p = record {
   known = λ k e at. p.known k (posting_of e) (posting_at h k e at);
 }
 
-stamp_posted : (client : ℕ) (h : List Entry) → EntryPostal client h → (k : ℕ) (f : Posting) → slice_get (map posting_of h) k ≡ Some f
+stamp_posted : (client : ℕ) (h : List Entry) → IsPostalEntry client h → (k : ℕ) (f : Posting) → slice_get (map posting_of h) k ≡ Some f
     → f.stamp.0 ≡ k + 1
 stamp_posted client h p k f at =
     let there = entry_at h k f at in
     subst (λ (x : Posting). x.stamp.0 ≡ k + 1) there.2 (p.stamps k there.0 there.1)
 
-sent_posted : (client : ℕ) (h : List Entry) → EntryPostal client h → (k : ℕ) (f : Posting) → slice_get (map posting_of h) k ≡ Some f
+sent_posted : (client : ℕ) (h : List Entry) → IsPostalEntry client h → (k : ℕ) (f : Posting) → slice_get (map posting_of h) k ≡ Some f
     → CamePosted client h k f.took
 sent_posted client h p k f at =
     let there = entry_at h k f at in
     subst (λ (x : Posting). CamePosted client h k x.took) there.2 (came_posted client h k there.0.took (p.sent k there.0 there.1))
 
-once_posted : (client : ℕ) (h : List Entry) → EntryPostal client h → (j k : ℕ) (f g : Posting) → j < k
+once_posted : (client : ℕ) (h : List Entry) → IsPostalEntry client h → (j k : ℕ) (f g : Posting) → j < k
     → slice_get (map posting_of h) j ≡ Some f → slice_get (map posting_of h) k ≡ Some g → f.took.id ≡ g.took.id → ⊥
 once_posted client h p j k f g lt a b =
     let one = entry_at h j f a in
@@ -86,14 +86,14 @@ once_posted client h p j k f g lt a b =
     subst (λ (x : Posting). x.took.id ≡ g.took.id → ⊥) one.2
     (subst (λ (x : Posting). one.0.took.id ≡ x.took.id → ⊥) two.2 (p.once j k one.0 two.0 lt one.1 two.1))
 
-ends_posted : (client : ℕ) (h : List Entry) → EntryPostal client h → (k : ℕ) (f : Posting) → slice_get (map posting_of h) k ≡ Some f
+ends_posted : (client : ℕ) (h : List Entry) → IsPostalEntry client h → (k : ℕ) (f : Posting) → slice_get (map posting_of h) k ≡ Some f
     → (f.took.to.0 ≡ f.actor.0) × (f.actor.0 < client + 1)
 ends_posted client h p k f at =
     let there = entry_at h k f at in
     subst (λ (x : Posting). (x.took.to.0 ≡ x.actor.0) × (x.actor.0 < client + 1)) there.2 (p.addressee k there.0 there.1, p.known k there.0 there.1)
 
 -- by postings
-pub postal_of : (client : ℕ) (h : List Entry) → EntryPostal client h → Postal client (map posting_of h)
+pub postal_of : (client : ℕ) (h : List Entry) → IsPostalEntry client h → IsPostal client (map posting_of h)
 postal_of client h p = record {
   stamps = λ k f at. stamp_posted client h p k f at;
   sent = λ k f at. sent_posted client h p k f at;
@@ -146,14 +146,14 @@ starts_client s =
 
 -- A run by tables, actor by actor, where the nodes go by these rows.
 pub record RowsRun (row : ℕ → Node → Letter → Out Node) (s : ScriptData) (h : List Entry) : Type 0 where
-  pub postal : EntryPostal (client_of s) h
+  pub postal : IsPostalEntry (client_of s) h
   pub nodes : (p : ℕ) → p < s.nodes → IsRunOf (row p) (start_node s p) (own p h)
   pub coordinator : IsRunOf coordinator_table (start_coordinator s.nodes) (own s.nodes h)
   pub client : IsRunOf (client_table s) (start_client s) (own (client_of s) h)
 
 -- where they go by the window of versions
-abbrev pub TableRun : ScriptData → List Entry → Type 0
-TableRun s h = RowsRun (node_row s) s h
+abbrev pub IsTableRun : ScriptData → List Entry → Type 0
+IsTableRun s h = RowsRun (node_row s) s h
 
 -- one table for all actors that is made of these rows, and of the coordinator's and the client's tables
 pub record IsTableOf (s : ScriptData) (big : ℕ → ActorData → Letter → Out ActorData) (row : ℕ → Node → Letter → Out Node) : Type 0 where
@@ -166,7 +166,7 @@ abbrev pub AreRunsOf : (ℕ → ActorData → Letter → Out ActorData) → Scri
 AreRunsOf big s h = (a : ℕ) → a < s.nodes + 2 → IsRunOf (big a) (start_actor s a) (own a h)
 
 pub rows_run : (big : ℕ → ActorData → Letter → Out ActorData) (row : ℕ → Node → Letter → Out Node) (s : ScriptData) (h : List Entry)
-    → IsTableOf s big row → Postal (client_of s) (map posting_of h) → AreRunsOf big s h → RowsRun row s h
+    → IsTableOf s big row → IsPostal (client_of s) (map posting_of h) → AreRunsOf big s h → RowsRun row s h
 rows_run big row s h is postal actors = record {
   postal = entry_postal (client_of s) h postal;
   nodes = λ p lt.
@@ -183,7 +183,7 @@ rows_run big row s h is postal actors = record {
 by_window : (s : ScriptData) → IsTableOf s (actor_row s) (node_row s)
 by_window s = record { node = λ p st l. refl; coordinator = λ a c l. refl; client = λ a c l. refl }
 
-pub table_run : (s : ScriptData) (h : List Entry) → WorldRun s h → TableRun s h
+pub table_run : (s : ScriptData) (h : List Entry) → IsWorldRun s h → IsTableRun s h
 table_run s h w = rows_run (actor_row s) (node_row s) s h (by_window s) w.postal w.actors
 
 -- an actor is a node, the coordinator or the client
@@ -222,7 +222,7 @@ pub runs_of_rows : (big : ℕ → ActorData → Letter → Out ActorData) (row :
     → IsTableOf s big row → RowsRun row s h → AreRunsOf big s h
 runs_of_rows big row s h is run = λ a lt. actor_run big row s h a is run (who s a lt)
 
-pub world_of_tables : (s : ScriptData) (h : List Entry) → TableRun s h → WorldRun s h
+pub world_of_tables : (s : ScriptData) (h : List Entry) → IsTableRun s h → IsWorldRun s h
 world_of_tables s h run = record {
   postal = postal_of (client_of s) h run.postal;
   actors = runs_of_rows (actor_row s) (node_row s) s h (by_window s) run;

@@ -12,11 +12,11 @@ use Rattle.tx_trees.specs.ScriptData.{ScriptData, client_of}
 use Rattle.node_step.specs.Apt.{node_row}
 use Rattle.advance_coord.specs.Coordinator.{start_coordinator}
 use Rattle.world_model.specs.Tables.{NodeData, CoordinatorData, ClientData, start_node, client_table, coordinator_table}
-use Rattle.world_model.specs.Runs.{IsRunOf, after, actor_after, WorldRun, waiting, node_in, coordinator_in, client_in, Says, Moves, AtNode, AtCoordinator, AtClient, MayFollow, StepRun}
+use Rattle.world_model.specs.Runs.{IsRunOf, after, actor_after, IsWorldRun, waiting, node_in, coordinator_in, client_in, Says, Moves, AtNode, AtCoordinator, AtClient, MayFollow, IsStepRun}
 use Rattle.world_model.specs.Counts.{tally, one_if}
 use Rattle.world_model.proofs.Bags.{tally-drop}
 use Rattle.world_model.proofs.Bridge.{reverse_more, own_more, node_after, coordinator_after, client_after}
-use Rattle.world_model.proofs.Actors.{TableRun, world_of_tables, node_data_after, coordinator_data_after, client_data_after}
+use Rattle.world_model.proofs.Actors.{IsTableRun, world_of_tables, node_data_after, coordinator_data_after, client_data_after}
 use Rattle.world_model.proofs.Gone.{apart_from, same_is, of_id, found_one, Gone, gone_now, gone}
 use Rattle.letter_types.specs.Steps.{Out}
 use Rattle.letter_types.proofs.Ids.{same_id-self}
@@ -73,7 +73,7 @@ go_only s l true is at = let eq : go (client_of s) ≡ l = grind arith in sym eq
 go_only s l false is at = absurd (grind arith)
 
 -- what waits after an entry isn't what it took
-not_the_taken : (s : ScriptData) (past : List Entry) (e : Entry) (l : Letter) → StepRun s (e ∷ past)
+not_the_taken : (s : ScriptData) (past : List Entry) (e : Entry) (l : Letter) → IsStepRun s (e ∷ past)
     → find_id l.id (waiting s (e ∷ past)) ≡ Some l → (b : Bool) → same_id l.id e.took.id ≡ b → same_id l.id e.took.id ≡ false
 not_the_taken s past e l run at false is = is
 not_the_taken s past e l run at true is =
@@ -81,7 +81,7 @@ not_the_taken s past e l run at true is =
     let one : of_id l.id l ≡ 1 = ap one_if (found_one l.id (waiting s (e ∷ past)) l at) in
     absurd (omega (arith, tally-drop (of_id l.id) l.id (waiting s (e ∷ past)) l at))
 
-came : (s : ScriptData) (past : List Entry) (l : Letter) → StepRun s past → find_id l.id (waiting s past) ≡ Some l → Came s (reverse past) l
+came : (s : ScriptData) (past : List Entry) (l : Letter) → IsStepRun s past → find_id l.id (waiting s past) ≡ Some l → Came s (reverse past) l
 came s [] l run at = inl (go_only s l (same_id l.id (go (client_of s)).id) refl at)
 came s (e ∷ past) l run at =
     elim (find_either l.id (drop_id e.took.id (waiting s past)) (letters_of e) l at) [
@@ -90,7 +90,7 @@ came s (e ∷ past) l run at =
     ]
 
 -- postal
-stamps_of : (s : ScriptData) (past : List Entry) (k : ℕ) (f : Entry) → StepRun s past → slice_get (reverse past) k ≡ Some f
+stamps_of : (s : ScriptData) (past : List Entry) (k : ℕ) (f : Entry) → IsStepRun s past → slice_get (reverse past) k ≡ Some f
     → f.stamp.0 ≡ k + 1
 stamps_of s [] k f run at = absurd (grind arith)
 stamps_of s (e ∷ past) k f run at =
@@ -104,7 +104,7 @@ actor_below s past e (AtNode node says) = omega arith
 actor_below s past e (AtCoordinator at says) = omega arith
 actor_below s past e (AtClient at says) = omega arith
 
-addressed : (s : ScriptData) (past : List Entry) (k : ℕ) (f : Entry) → StepRun s past → slice_get (reverse past) k ≡ Some f
+addressed : (s : ScriptData) (past : List Entry) (k : ℕ) (f : Entry) → IsStepRun s past → slice_get (reverse past) k ≡ Some f
     → (f.took.to.0 ≡ f.actor.0) × (f.actor.0 < client_of s + 1)
 addressed s [] k f run at = absurd (grind arith)
 addressed s (e ∷ past) k f run at =
@@ -125,7 +125,7 @@ before_last : (s : ScriptData) (h : List Entry) (e : Entry) (k : ℕ) → k ≡ 
 before_last s h e k at (inl is) = inl is
 before_last s h e k at (inr (j, g, lt, here, found)) = inr (j, g, omega arith, slice_get_left h (e ∷ []) j g here, found)
 
-sent_before : (s : ScriptData) (past : List Entry) (k : ℕ) (f : Entry) → StepRun s past → slice_get (reverse past) k ≡ Some f
+sent_before : (s : ScriptData) (past : List Entry) (k : ℕ) (f : Entry) → IsStepRun s past → slice_get (reverse past) k ≡ Some f
     → SentBefore s (reverse past) k f
 sent_before s [] k f run at = absurd (grind arith)
 sent_before s (e ∷ past) k f run at =
@@ -141,7 +141,7 @@ gone_apart s past id e m g = λ same.
     let one : of_id e.took.id e.took ≡ 1 = ap one_if (same_id-self e.took.id) in
     omega (arith, tally-drop (of_id e.took.id) e.took.id (waiting s past) e.took m.waits)
 
-once_by : (s : ScriptData) (past : List Entry) (e : Entry) (j k : ℕ) (f g : Entry) → StepRun s (e ∷ past) → j < k
+once_by : (s : ScriptData) (past : List Entry) (e : Entry) (j k : ℕ) (f g : Entry) → IsStepRun s (e ∷ past) → j < k
     → ((j < length (reverse past)) × (slice_get (reverse past) j ≡ Some f)) ⊎ ((j ≡ length (reverse past)) × (e ≡ f))
     → ((k < length (reverse past)) × (slice_get (reverse past) k ≡ Some g)) ⊎ ((k ≡ length (reverse past)) × (e ≡ g))
     → (slice_get (reverse past) j ≡ Some f → slice_get (reverse past) k ≡ Some g → f.took.id ≢ g.took.id) → f.took.id ≢ g.took.id
@@ -151,7 +151,7 @@ once_by s past e j k f g run lt (inl a) (inr b) rest =
 once_by s past e j k f g run lt (inr a) (inl b) rest = absurd (omega arith)
 once_by s past e j k f g run lt (inr a) (inr b) rest = absurd (omega arith)
 
-taken_once : (s : ScriptData) (past : List Entry) (j k : ℕ) (f g : Entry) → StepRun s past → j < k → slice_get (reverse past) j ≡ Some f
+taken_once : (s : ScriptData) (past : List Entry) (j k : ℕ) (f g : Entry) → IsStepRun s past → j < k → slice_get (reverse past) j ≡ Some f
     → slice_get (reverse past) k ≡ Some g → f.took.id ≢ g.took.id
 taken_once s [] j k f g run lt a b = absurd (grind arith)
 taken_once s (e ∷ past) j k f g run lt a b =
@@ -193,24 +193,24 @@ says_client s past e (AtNode node says) is = let eq : e.actor.0 ≡ client_of s 
 says_client s past e (AtCoordinator at says) is = let eq : e.actor.0 ≡ client_of s = grind (arith, nat_tests) in absurd (omega arith)
 says_client s past e (AtClient at says) is = says
 
-node_runs : (s : ScriptData) (past : List Entry) (p : ℕ) → p < s.nodes → StepRun s past
+node_runs : (s : ScriptData) (past : List Entry) (p : ℕ) → p < s.nodes → IsStepRun s past
     → IsRunOf (node_row s p) (start_node s p) (own p (reverse past))
 node_runs s [] p lt run = tt
 node_runs s (e ∷ past) p lt run =
     run_more (node_row s p) (start_node s p) p e past (node_in s past p) (node_after s past p) (node_runs s past p lt run.1) (says_node s past e p run.0.moves lt)
 
-coordinator_runs : (s : ScriptData) (past : List Entry) → StepRun s past → IsRunOf coordinator_table (start_coordinator s.nodes) (own s.nodes (reverse past))
+coordinator_runs : (s : ScriptData) (past : List Entry) → IsStepRun s past → IsRunOf coordinator_table (start_coordinator s.nodes) (own s.nodes (reverse past))
 coordinator_runs s [] run = tt
 coordinator_runs s (e ∷ past) run =
     run_more coordinator_table (start_coordinator s.nodes) s.nodes e past (coordinator_in s past) (coordinator_after s past) (coordinator_runs s past run.1) (says_coordinator s past e run.0.moves)
 
-client_runs : (s : ScriptData) (past : List Entry) → StepRun s past
+client_runs : (s : ScriptData) (past : List Entry) → IsStepRun s past
     → IsRunOf (client_table s) (start_client s) (own (client_of s) (reverse past))
 client_runs s [] run = tt
 client_runs s (e ∷ past) run =
     run_more (client_table s) (start_client s) (client_of s) e past (client_in s past) (client_after s past) (client_runs s past run.1) (says_client s past e run.0.moves)
 
-pub table_run_of : (s : ScriptData) (past : List Entry) → StepRun s past → TableRun s (reverse past)
+pub table_run_of : (s : ScriptData) (past : List Entry) → IsStepRun s past → IsTableRun s (reverse past)
 table_run_of s past run = record {
   postal = record {
     stamps = λ k e at. stamps_of s past k e run at;
@@ -224,7 +224,7 @@ table_run_of s past run = record {
   client = client_runs s past run;
 }
 
-pub world_run : (s : ScriptData) (past : List Entry) → StepRun s past → WorldRun s (reverse past)
+pub world_run : (s : ScriptData) (past : List Entry) → IsStepRun s past → IsWorldRun s (reverse past)
 world_run s past run = world_of_tables s (reverse past) (table_run_of s past run)
 
 -- The state to which an actor's own entries lead is the one after the past.

@@ -14,7 +14,7 @@ use Rattle.node_step.specs.Apt.{node_row}
 use Rattle.advance_coord.specs.Coordinator.{start_coordinator}
 use Rattle.world_model.specs.Tables.{client_table, coordinator_table}
 use Rattle.world_model.specs.Runs.{IsRunOf, after, node_in, coordinator_in, client_in, Says}
-use Rattle.world_model.proofs.Actors.{EntryPostal}
+use Rattle.world_model.proofs.Actors.{IsPostalEntry}
 use Rattle.letter_types.specs.Steps.{Out}
 use Rattle.client_rows.specs.Client.{start_client}
 
@@ -84,7 +84,7 @@ sent_less s e h k f lt (inr (j, g, jk, at, found)) =
     elim (slice_get_split h e j g at) [ inl p ↦ inr (j, g, jk, p.1, found) | inr p ↦ absurd (omega arith) ]
 
 -- postal, one entry less
-pub postal_less : (s : ScriptData) (e : Entry) (h : List Entry) → EntryPostal (client_of s) (h ++ e ∷ []) → EntryPostal (client_of s) h
+pub postal_less : (s : ScriptData) (e : Entry) (h : List Entry) → IsPostalEntry (client_of s) (h ++ e ∷ []) → IsPostalEntry (client_of s) h
 postal_less s e h post = record {
   stamps = λ k f at. post.stamps k f (slice_get_left h (e ∷ []) k f at);
   sent = λ k f at. sent_less s e h k f (slice_get_within h k f at) (post.sent k f (slice_get_left h (e ∷ []) k f at));

@@ -15,7 +15,7 @@ use Rattle.tx_trees.specs.declared.parts.Sub.{Sub}
 use Rattle.tx_trees.proofs.Rebuilding.{names_end}
 use Rattle.world_model.specs.Counts.{Each}
 use Rattle.client_rows.specs.Client.{rows_letters}
-use Rattle.world_model.proofs.Scripts.{Sound, get_below}
+use Rattle.world_model.proofs.Scripts.{IsSound, get_below}
 use Rattle.tree_step.specs.Apt.{is_did}
 use Rattle.tree_step.specs.Children.{sub_letters}
 use Rattle.world_model.specs.Tables.{is_run_row}
@@ -23,38 +23,38 @@ use Rattle.world_model.specs.Tables.{is_run_row}
 -- a letter goes from the client to itself, or is for a subtransaction of the script and goes to its node, or brings the
 -- notice of one to its tree's home, or answers a tree to the client; or it is for the coordinator, from a node where it
 -- answers an order; or it is an order to a node; or it tells the client that an advancement has ended
-abbrev pub Fit : ScriptData → ℕ → ℕ → Body → Type 0
-Fit s from to Go = to ≡ client_of s
-Fit s from to (Root t) = (t.0 < length s.trees) × (to ≡ home_of s t.0)
-Fit s from to (SubLetter t k v) =
+abbrev pub IsFit : ScriptData → ℕ → ℕ → Body → Type 0
+IsFit s from to Go = to ≡ client_of s
+IsFit s from to (Root t) = (t.0 < length s.trees) × (to ≡ home_of s t.0)
+IsFit s from to (SubLetter t k v) =
     (t.0 < length s.trees) × (k.0 < length (subs_at s t.0)) × (0 < k.0) × (to ≡ node_of s t.0 k.0) × (from < s.nodes)
-Fit s from to (Done t k v notice) =
+IsFit s from to (Done t k v notice) =
     (t.0 < length s.trees) × (k.0 < length (subs_at s t.0)) × (0 < k.0) × (to ≡ home_of s t.0) × (from < s.nodes)
     × (is_did notice ≡ true)
-Fit s from to (Reply t v answer) = (t.0 < length s.trees) × (to ≡ client_of s)
-Fit s from to Nudge = to ≡ s.nodes
-Fit s from to AdvanceLetter = to ≡ s.nodes
-Fit s from to (Turned v) = (from < s.nodes) × (to ≡ s.nodes)
-Fit s from to (Shown v) = (from < s.nodes) × (to ≡ s.nodes)
-Fit s from to (Swept v) = (from < s.nodes) × (to ≡ s.nodes)
-Fit s from to (DoneRow v k row) = (from < s.nodes) × (to ≡ s.nodes) × (length row ≡ s.nodes)
-Fit s from to (AskedRow v k row) = (from < s.nodes) × (to ≡ s.nodes) × (length row ≡ s.nodes)
-Fit s from to (Turn v) = to < s.nodes
-Fit s from to (Show v) = to < s.nodes
-Fit s from to (Sweep v) = to < s.nodes
-Fit s from to (AskDone v k) = to < s.nodes
-Fit s from to (AskAsked v k) = to < s.nodes
-Fit s from to (Advanced v) = to ≡ client_of s
-Fit s from to _ = ⊥
+IsFit s from to (Reply t v answer) = (t.0 < length s.trees) × (to ≡ client_of s)
+IsFit s from to Nudge = to ≡ s.nodes
+IsFit s from to AdvanceLetter = to ≡ s.nodes
+IsFit s from to (Turned v) = (from < s.nodes) × (to ≡ s.nodes)
+IsFit s from to (Shown v) = (from < s.nodes) × (to ≡ s.nodes)
+IsFit s from to (Swept v) = (from < s.nodes) × (to ≡ s.nodes)
+IsFit s from to (DoneRow v k row) = (from < s.nodes) × (to ≡ s.nodes) × (length row ≡ s.nodes)
+IsFit s from to (AskedRow v k row) = (from < s.nodes) × (to ≡ s.nodes) × (length row ≡ s.nodes)
+IsFit s from to (Turn v) = to < s.nodes
+IsFit s from to (Show v) = to < s.nodes
+IsFit s from to (Sweep v) = to < s.nodes
+IsFit s from to (AskDone v k) = to < s.nodes
+IsFit s from to (AskAsked v k) = to < s.nodes
+IsFit s from to (Advanced v) = to ≡ client_of s
+IsFit s from to _ = ⊥
 
 -- all that an actor sends
-abbrev pub SentFit : ScriptData → ℕ → List Outgoing → Type 0
-SentFit s from os = Each (λ (o : Outgoing). (i : LetterId) → Fit s from o.to.0 o.body) os
+abbrev pub IsSentFit : ScriptData → ℕ → List Outgoing → Type 0
+IsSentFit s from os = Each (λ (o : Outgoing). (i : LetterId) → IsFit s from o.to.0 o.body) os
 
 child_fits : (s : ScriptData) (t v parent from i : ℕ) (x : Sub) (xs : List Sub) → t < length s.trees → from < s.nodes
     → slice_get (subs_at s t) i ≡ Some x
-    → SentFit s from (sub_letters t v parent (i + 1) xs) → (test : Bool) → (nat_lt parent i && (x.parent.0 == parent)) ≡ test
-    → SentFit s from (sub_letters t v parent i (x ∷ xs))
+    → IsSentFit s from (sub_letters t v parent (i + 1) xs) → (test : Bool) → (nat_lt parent i && (x.parent.0 == parent)) ≡ test
+    → IsSentFit s from (sub_letters t v parent i (x ∷ xs))
 child_fits s t v parent from i x xs lt node at rest true is =
     let there : node_of s t i ≡ x.node.0 = rw (at, sub_at, node_of) refl in
     let later : 0 < i = grind (arith, nat_tests) in
@@ -64,7 +64,7 @@ child_fits s t v parent from i x xs lt node at rest false is = rw is rest
 -- the letters to children
 pub children_fit : (s : ScriptData) (t v parent from i : ℕ) (xs : List Sub) → t < length s.trees → from < s.nodes
     → ((n : ℕ) (x : Sub) → slice_get xs n ≡ Some x → slice_get (subs_at s t) (i + n) ≡ Some x)
-    → SentFit s from (sub_letters t v parent i xs)
+    → IsSentFit s from (sub_letters t v parent i xs)
 children_fit s t v parent from i [] lt node at = tt
 children_fit s t v parent from i (x ∷ xs) lt node at =
     child_fits s t v parent from i x xs lt node (subst (λ (n : ℕ). slice_get (subs_at s t) n ≡ Some x) (omega arith) (at 0 x refl))
@@ -88,7 +88,7 @@ rows_fit_from s i (Lose ∷ rows) names built = absurd (cc built.0)
 rows_fit_from s i (Settle ∷ rows) names built = (tt, rows_fit_from s i rows names built.1)
 
 -- each row of a sound script fits
-pub rows_fit : (s : ScriptData) → Sound s → Each (RowFits s) s.rows
+pub rows_fit : (s : ScriptData) → IsSound s → Each (RowFits s) s.rows
 rows_fit s sound = rows_fit_from s 0 s.rows sound.valid.rows sound.runnable.rows
 
 -- what holds of each holds of a front and of a rest
@@ -103,7 +103,7 @@ each_drop P (suc n) [] all = tt
 each_drop P (suc n) (x ∷ xs) all = each_drop P n xs all.1
 
 -- the letters of rows
-pub roots_fit : (s : ScriptData) (from : ℕ) (rows : List ScriptRow) → Each (RowFits s) rows → SentFit s from (rows_letters s rows)
+pub roots_fit : (s : ScriptData) (from : ℕ) (rows : List ScriptRow) → Each (RowFits s) rows → IsSentFit s from (rows_letters s rows)
 roots_fit s from [] all = tt
 roots_fit s from (TreeRow t ∷ rows) all = ((λ id. (all.0, refl)), roots_fit s from rows all.1)
 roots_fit s from (Advance ∷ rows) all = ((λ id. refl), roots_fit s from rows all.1)

@@ -6,10 +6,10 @@ use Rattle.letter_types.specs.declared.entries.Entry.{Entry}
 use Rattle.letter_types.specs.declared.entries.Letter.{Letter}
 use Rattle.tx_trees.specs.ScriptData.{ScriptData}
 use Rattle.world_model.specs.Counts.{Each}
-use Rattle.world_model.specs.Runs.{StepRun, waiting}
-use Rattle.world_model.proofs.Fits.{Fit}
+use Rattle.world_model.specs.Runs.{IsStepRun, waiting}
+use Rattle.world_model.proofs.Fits.{IsFit}
 use Rattle.world_model.proofs.Nexts.{Next}
-use Rattle.world_model.proofs.Scripts.{Sound}
+use Rattle.world_model.proofs.Scripts.{IsSound}
 use Rattle.world_model.specs.Timely.{AllTimely}
 
 abbrev pub is_nudge : Body → ℕ
@@ -24,9 +24,9 @@ nudged (e ∷ past) = is_nudge e.took.body + nudged past
 
 -- of every run of a script in which each letter came in time: letters are meant for their addressees, each entry is of
 -- one of the kinds, and nudges are at most as many as trees
-pub record Lawful (s : ScriptData) : Type 0 where
-  pub sound : Sound s
-  pub fits : (past : List Entry) → StepRun s past → AllTimely s past
-      → Each (λ (l : Letter). Fit s l.from.0 l.to.0 l.body) (waiting s past)
-  pub next : (past : List Entry) (e : Entry) → StepRun s (e ∷ past) → AllTimely s (e ∷ past) → Next s past e
-  pub nudges : (past : List Entry) → StepRun s past → AllTimely s past → nudged past ≤ length s.trees
+pub record IsLawful (s : ScriptData) : Type 0 where
+  pub sound : IsSound s
+  pub fits : (past : List Entry) → IsStepRun s past → AllTimely s past
+      → Each (λ (l : Letter). IsFit s l.from.0 l.to.0 l.body) (waiting s past)
+  pub next : (past : List Entry) (e : Entry) → IsStepRun s (e ∷ past) → AllTimely s (e ∷ past) → Next s past e
+  pub nudges : (past : List Entry) → IsStepRun s past → AllTimely s past → nudged past ≤ length s.trees

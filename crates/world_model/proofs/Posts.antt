@@ -17,10 +17,10 @@ use Rattle.tree_step.specs.Node.{Node}
 use Rattle.node_step.specs.Apt.{node_row}
 use Rattle.advance_coord.specs.Coordinator.{start_coordinator}
 use Rattle.world_model.specs.Tables.{start_node, client_table, coordinator_table}
-use Rattle.world_model.specs.Runs.{IsRunOf, after, WorldRun, waiting, node_in, coordinator_in, client_in, Says, Moves, AtNode, AtCoordinator, AtClient, MayFollow, StepRun}
+use Rattle.world_model.specs.Runs.{IsRunOf, after, IsWorldRun, waiting, node_in, coordinator_in, client_in, Says, Moves, AtNode, AtCoordinator, AtClient, MayFollow, IsStepRun}
 use Rattle.world_model.proofs.Gone.{apart_from, same_is}
 use Rattle.world_model.proofs.Bridge.{reverse_more, postal_less, run_less, node_after, coordinator_after, client_after}
-use Rattle.world_model.proofs.Actors.{EntryPostal, RowsRun, TableRun, table_run}
+use Rattle.world_model.proofs.Actors.{IsPostalEntry, RowsRun, IsTableRun, table_run}
 use Rattle.client_rows.specs.Client.{start_client}
 
 find_left_at : (id : LetterId) (x : Letter) (xs ys : List Letter) (l : Letter) (b : Bool) → same_id id x.id ≡ b
@@ -81,7 +81,7 @@ sealed_stamp : (id : LetterId) (stamp actor place : ℕ) (os : List Outgoing) (l
 sealed_stamp id stamp actor place os l at = sealed_stamp_at id stamp actor place os l at (id.stamp.0 == stamp) refl
 
 -- a letter under way is no newer than the last entry
-none_newer : (s : ScriptData) (past : List Entry) (id : LetterId) → StepRun s past → length past < id.stamp.0
+none_newer : (s : ScriptData) (past : List Entry) (id : LetterId) → IsStepRun s past → length past < id.stamp.0
     → find_id id (waiting s past) ≡ None
 none_newer s [] id run lt =
     let no : same_id id (go (client_of s)).id ≡ false = grind (arith, nat_tests) in
@@ -102,7 +102,7 @@ abbrev pub NotTaken : List Entry → LetterId → Type 0
 NotTaken [] id = Unit {0}
 NotTaken (e ∷ past) id = (same_id id e.took.id ≡ false) × NotTaken past id
 
-present : (s : ScriptData) (past : List Entry) (l : Letter) → StepRun s past → SentIn s past l → NotTaken past l.id
+present : (s : ScriptData) (past : List Entry) (l : Letter) → IsStepRun s past → SentIn s past l → NotTaken past l.id
     → find_id l.id (waiting s past) ≡ Some l
 present s [] l run sent free = subst (λ (m : Letter). find_id m.id (go (client_of s) ∷ []) ≡ Some m) (sym sent) refl
 present s (e ∷ past) l run (inl here) free =
@@ -164,7 +164,7 @@ moves_by s e past node coordinator client (inr (inl at)) =
 moves_by s e past node coordinator client (inr (inr at)) =
     AtClient at ((run_less (client_table s) (start_client s) (client_of s) e past (client_in s past) (client_after s past) client).1 (rw at (same_test (client_of s))))
 
-node_says : (s : ScriptData) (e : Entry) (past : List Entry) → TableRun s (reverse (e ∷ past)) → e.actor.0 < s.nodes
+node_says : (s : ScriptData) (e : Entry) (past : List Entry) → IsTableRun s (reverse (e ∷ past)) → e.actor.0 < s.nodes
     → Says (node_row s e.actor.0 (node_in s past e.actor.0) e.took) e
 node_says s e past world lt =
     (run_less (node_row s e.actor.0) (start_node s e.actor.0) e.actor.0 e past (node_in s past e.actor.0) (node_after s past e.actor.0) (world.nodes e.actor.0 lt)).1
@@ -174,7 +174,7 @@ who : (a n : ℕ) → a < n + 2 → (a < n) ⊎ ((a ≡ n) ⊎ (a ≡ n + 1))
 who a n lt = grind arith
 
 -- the letter that the last entry took was under way
-pub waits_of : (s : ScriptData) (e : Entry) (past : List Entry) → StepRun s past → EntryPostal (client_of s) (reverse (e ∷ past))
+pub waits_of : (s : ScriptData) (e : Entry) (past : List Entry) → IsStepRun s past → IsPostalEntry (client_of s) (reverse (e ∷ past))
     → find_id e.took.id (waiting s past) ≡ Some e.took
 waits_of s e past run postal =
     let last : slice_get (reverse past ++ e ∷ []) (length (reverse past)) ≡ Some e = slice_get_last (reverse past) e in
@@ -183,7 +183,7 @@ waits_of s e past run postal =
     (not_taken past e.took.id (λ j f at. post.once j (length (reverse past)) f e (slice_get_within (reverse past) j f at) (slice_get_left (reverse past) (e ∷ []) j f at) last))
 
 -- the actor of the last entry
-pub who_of : (s : ScriptData) (e : Entry) (past : List Entry) → EntryPostal (client_of s) (reverse (e ∷ past))
+pub who_of : (s : ScriptData) (e : Entry) (past : List Entry) → IsPostalEntry (client_of s) (reverse (e ∷ past))
     → (e.took.to.0 ≡ e.actor.0) × ((e.actor.0 < s.nodes) ⊎ ((e.actor.0 ≡ s.nodes) ⊎ (e.actor.0 ≡ client_of s)))
 who_of s e past postal =
     let last : slice_get (reverse past ++ e ∷ []) (length (reverse past)) ≡ Some e = slice_get_last (reverse past) e in
@@ -191,7 +191,7 @@ who_of s e past postal =
     (post.addressee (length (reverse past)) e last, who e.actor.0 s.nodes (omega (arith, post.known (length (reverse past)) e last)))
 
 -- it may come next
-pub follows_by : (s : ScriptData) (e : Entry) (past : List Entry) → StepRun s past → EntryPostal (client_of s) (reverse (e ∷ past))
+pub follows_by : (s : ScriptData) (e : Entry) (past : List Entry) → IsStepRun s past → IsPostalEntry (client_of s) (reverse (e ∷ past))
     → Moves s past e → MayFollow s past e
 follows_by s e past run postal moves =
     let last : slice_get (reverse past ++ e ∷ []) (length (reverse past)) ≡ Some e = slice_get_last (reverse past) e in
@@ -203,7 +203,7 @@ follows_by s e past run postal moves =
       moves = moves;
     }
 
-may_follow : (s : ScriptData) (e : Entry) (past : List Entry) → StepRun s past → TableRun s (reverse (e ∷ past)) → MayFollow s past e
+may_follow : (s : ScriptData) (e : Entry) (past : List Entry) → IsStepRun s past → IsTableRun s (reverse (e ∷ past)) → MayFollow s past e
 may_follow s e past run world =
     follows_by s e past run world.postal
     (moves_by s e past (node_says s e past world) world.coordinator world.client (who_of s e past world.postal).1)
@@ -219,12 +219,12 @@ rows_less row s e past world = record {
   client = (run_less (client_table s) (start_client s) (client_of s) e past (client_in s past) (client_after s past) world.client).0;
 }
 
-step_run : (s : ScriptData) (past : List Entry) → TableRun s (reverse past) → StepRun s past
+step_run : (s : ScriptData) (past : List Entry) → IsTableRun s (reverse past) → IsStepRun s past
 step_run s [] world = tt
 step_run s (e ∷ past) world =
     let run = step_run s past (rows_less (node_row s) s e past world) in
     (may_follow s e past run world, run)
 
-pub steps : (s : ScriptData) (history : List Entry) → WorldRun s history → StepRun s (reverse history)
+pub steps : (s : ScriptData) (history : List Entry) → IsWorldRun s history → IsStepRun s (reverse history)
 steps s history world =
-    step_run s (reverse history) (subst (λ h. TableRun s h) (sym (reverse-reverse history)) (table_run s history world))
+    step_run s (reverse history) (subst (λ h. IsTableRun s h) (sym (reverse-reverse history)) (table_run s history world))

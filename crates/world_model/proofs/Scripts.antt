@@ -13,12 +13,12 @@ use Rattle.tx_trees.specs.declared.parts.TreeKind.{TreeKind}
 use Rattle.tx_trees.specs.declared.parts.TreeKind.TheVariants as trees
 use Rattle.tx_trees.proofs.SubsOf.{all_at, small_load}
 use Rattle.tree_step.specs.Apt.{kind_at, is_strict_at}
-use Rattle.world_model.specs.Tables.{Runnable, is_run}
+use Rattle.world_model.specs.Tables.{IsRunnable, is_run}
 
 -- a script that is valid, and that the world runs
-pub record Sound (s : ScriptData) : Type 0 where
+pub record IsSound (s : ScriptData) : Type 0 where
   pub valid : IsValid s
-  pub runnable : Runnable s
+  pub runnable : IsRunnable s
 
 -- subtransaction k of tree t
 pub record SubAt (s : ScriptData) (t k : ℕ) : Type 0 where
@@ -76,7 +76,7 @@ run_of trees.Read is = inr refl
 run_of trees.Strict is = absurd (cc is)
 
 -- a tree updates or reads
-pub tree_kind : (s : ScriptData) (t k : ℕ) (c : SubAt s t k) → Sound s → (updates s t ≡ true) ⊎ (reads s t ≡ true)
+pub tree_kind : (s : ScriptData) (t k : ℕ) (c : SubAt s t k) → IsSound s → (updates s t ≡ true) ⊎ (reads s t ≡ true)
 tree_kind s t k c sound =
     rw (c.at, updates, reads) (run_of c.tree.kind (all_at (λ (x : Tree). IsTrue (is_run x.kind)) s.trees t c.tree sound.runnable.trees c.at))
 
@@ -100,14 +100,14 @@ not_strict_by s t k c (inl up) = rw (update_kind_at s t k c up, is_strict_at) re
 not_strict_by s t k c (inr up) = rw (read_kind_at s t k c up, is_strict_at) refl
 
 -- no tree is strict
-pub not_strict : (s : ScriptData) (t k : ℕ) (c : SubAt s t k) → Sound s → is_strict_at s t ≡ false
+pub not_strict : (s : ScriptData) (t k : ℕ) (c : SubAt s t k) → IsSound s → is_strict_at s t ≡ false
 not_strict s t k c sound = not_strict_by s t k c (tree_kind s t k c sound)
 
 -- a read tree is no update tree
 pub reads_alone : (s : ScriptData) (t k : ℕ) (c : SubAt s t k) → reads s t ≡ true → updates s t ≡ false
 reads_alone s t k c up = rw (c.at, updates) (ap is_update (reads_kind s t k c up))
 
-pub is_tree : (s : ScriptData) (t : ℕ) (tree : Tree) → Sound s → slice_get s.trees t ≡ Some tree → IsTree s.nodes s.items tree
+pub is_tree : (s : ScriptData) (t : ℕ) (tree : Tree) → IsSound s → slice_get s.trees t ≡ Some tree → IsTree s.nodes s.items tree
 is_tree s t tree sound at = all_at (IsTree s.nodes s.items) s.trees t tree sound.valid.trees at
 
 sub_of_all : (nodes : ℕ) (items : List ItemRow) (kind : TreeKind) (i k n : ℕ) (subs : List Sub) (sub : Sub)
@@ -121,28 +121,28 @@ sub_of_all nodes items kind i k zero (y ∷ subs) sub all at is =
 sub_of_all nodes items kind i k (suc n) (y ∷ subs) sub all at is = sub_of_all nodes items kind (i + 1) k n subs sub all.1 at (omega arith)
 
 -- a subtransaction is valid for its tree's kind
-pub is_sub : (s : ScriptData) (t k : ℕ) (c : SubAt s t k) → Sound s → IsSub s.nodes s.items c.tree.kind k c.sub
+pub is_sub : (s : ScriptData) (t k : ℕ) (c : SubAt s t k) → IsSound s → IsSub s.nodes s.items c.tree.kind k c.sub
 is_sub s t k c sound =
     sub_of_all s.nodes s.items c.tree.kind 0 k k c.tree.subs c.sub (is_tree s t c.tree sound c.at).subs c.here (omega arith)
 
 -- the operations of a subtransaction fit its tree's kind
-pub ops_fit : (s : ScriptData) (t k : ℕ) (kind : TreeKind) (c : SubAt s t k) → Sound s → c.tree.kind ≡ kind
+pub ops_fit : (s : ScriptData) (t k : ℕ) (kind : TreeKind) (c : SubAt s t k) → IsSound s → c.tree.kind ≡ kind
     → AllByRecursion (IsOp s.items kind (node_of s t k)) (ops_of s t k)
 ops_fit s t k kind c sound is =
     rw (node_here s t k c, ops_here s t k c)
     (subst (λ (x : TreeKind). AllByRecursion (IsOp s.items x c.sub.node.0) c.sub.ops) is (is_sub s t k c sound).ops)
 
 -- the node of a subtransaction is one of the nodes
-pub node_below : (s : ScriptData) (t k : ℕ) (c : SubAt s t k) → Sound s → node_of s t k < s.nodes
+pub node_below : (s : ScriptData) (t k : ℕ) (c : SubAt s t k) → IsSound s → node_of s t k < s.nodes
 node_below s t k c sound = rw (node_here s t k c) (is_sub s t k c sound).node
 
 -- each tree has a root
-pub has_root : (s : ScriptData) (t : ℕ) → Sound s → t < length s.trees → SubAt s t 0
+pub has_root : (s : ScriptData) (t : ℕ) → IsSound s → t < length s.trees → SubAt s t 0
 has_root s t sound lt =
     let tree = get_some s.trees t lt in
     let sub = get_some tree.0.subs 0 (is_tree s t tree.0 sound tree.1).root in
     record { tree = tree.0; at = tree.1; sub = sub.0; here = sub.1 }
 
-pub item_load : (s : ScriptData) (x : ℕ) (r : ItemRow) → Sound s → slice_get s.items x ≡ Some r
+pub item_load : (s : ScriptData) (x : ℕ) (r : ItemRow) → IsSound s → slice_get s.items x ≡ Some r
     → unsigned_abs r.initial + trees_load x s.trees ≤ MOST_AMOUNT
 item_load s x r sound at = let most = small_load s x sound.valid (get_below s.items x r at) in rw at at most

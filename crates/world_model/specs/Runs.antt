@@ -4,7 +4,7 @@ use Rattle.letter_types.specs.declared.entries.Letter.{Letter}
 use Rattle.letter_types.specs.declared.entries.Entry.{Entry}
 use Rattle.letter_types.specs.Letters.{find_id, own}
 use Rattle.letter_types.specs.Letters.{waiting as waiting_for}
-use Rattle.letter_types.specs.Postal.{Postal, posting_of}
+use Rattle.letter_types.specs.Postal.{IsPostal, posting_of}
 use Rattle.letter_types.specs.Steps.{Out}
 use Rattle.tx_trees.specs.ScriptData.{ScriptData, client_of}
 use Rattle.tree_step.specs.Node.{Node}
@@ -30,13 +30,13 @@ after row st (e ∷ es) = after row (row st e.took).state es
 abbrev pub IsActorRun : ScriptData → List Entry → ℕ → Type 0
 IsActorRun s h a = IsRunOf (actor_row s a) (start_actor s a) (own a h)
 
-pub record WorldRun (s : ScriptData) (h : List Entry) : Type 0 where
-  pub postal : Postal (client_of s) (map posting_of h)
+pub record IsWorldRun (s : ScriptData) (h : List Entry) : Type 0 where
+  pub postal : IsPostal (client_of s) (map posting_of h)
   pub actors : (a : ℕ) → a < s.nodes + 2 → IsActorRun s h a
 
 -- the same by the wider aptness
-pub record WideRun (s : ScriptData) (h : List Entry) : Type 0 where
-  pub postal : Postal (client_of s) (map posting_of h)
+pub record IsWideRun (s : ScriptData) (h : List Entry) : Type 0 where
+  pub postal : IsPostal (client_of s) (map posting_of h)
   pub actors : (a : ℕ) → a < s.nodes + 2 → IsRunOf (wide_actor_row s a) (start_actor s a) (own a h)
 
 -- the state to which actor a's own entries lead
@@ -80,6 +80,6 @@ pub record MayFollow (s : ScriptData) (past : List Entry) (e : Entry) : Type 0 w
   pub addressee : e.took.to.0 ≡ e.actor.0
   pub moves : Moves s past e
 
-abbrev pub StepRun : ScriptData → List Entry → Type 0
-StepRun s [] = Unit {0}
-StepRun s (e ∷ past) = MayFollow s past e × StepRun s past
+abbrev pub IsStepRun : ScriptData → List Entry → Type 0
+IsStepRun s [] = Unit {0}
+IsStepRun s (e ∷ past) = MayFollow s past e × IsStepRun s past

@@ -79,6 +79,6 @@ is_run_row AdvanceRow = true
 is_run_row LoseRow = false
 
 -- the scripts that the world runs: no strict tree, and no row that makes the coordinator forget
-pub record Runnable (s : ScriptData) : Type 0 where
+pub record IsRunnable (s : ScriptData) : Type 0 where
   pub trees : AllByRecursion (λ (t : Tree). IsTrue (is_run t.kind)) s.trees
   pub rows : AllByRecursion (λ (r : ScriptRow). IsTrue (is_run_row r)) s.rows

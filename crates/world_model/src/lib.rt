@@ -4,14 +4,14 @@
 ghost use Rattle.std.specs.Prelude.{List, reverse};
 ghost use Rattle.letter_types.specs.declared.entries.Entry.{Entry};
 ghost use Rattle.tx_trees.specs.ScriptData.{ScriptData};
-ghost use Rattle.world_model.specs.Runs.{StepRun, WorldRun};
+ghost use Rattle.world_model.specs.Runs.{IsStepRun, IsWorldRun};
 
 /// A history that goes step by step is one whose letters went as letters do and whose actors each follow their table.
 pub fn steps_follow_the_tables()
-    ensures { (s : ScriptData) (past : List Entry) → StepRun s past → WorldRun s (reverse past) }
+    ensures { (s : ScriptData) (past : List Entry) → IsStepRun s past → IsWorldRun s (reverse past) }
 {}
 
 /// A history whose letters went as letters do and whose actors each follow their table is one that goes step by step.
 pub fn goes_step_by_step()
-    ensures { (s : ScriptData) (history : List Entry) → WorldRun s history → StepRun s (reverse history) }
+    ensures { (s : ScriptData) (history : List Entry) → IsWorldRun s history → IsStepRun s (reverse history) }
 {}
