@@ -9,12 +9,20 @@ use Rattle.tx_trees.specs.declared.parts.Tree.{Tree}
 use Rattle.tx_trees.specs.declared.parts.TreeKind.{TreeKind}
 use Rattle.tx_trees.specs.declared.parts.TreeKind.TheVariants.{Update, Read, Strict}
 use Rattle.board_model.specs.declared.standings.Standing.{Standing}
+use Rattle.board_model.specs.declared.tallies.News.{News}
+use Rattle.board_model.specs.declared.tallies.News.TheVariants as news
 use Rattle.board_model.specs.declared.tallies.Tally.{Tally}
+use Rattle.board_model.specs.declared.tallies.TheConstants.{MOST_NODES, MOST_SUBS}
 use Rattle.board_model.specs.Histories.{Place}
 
 -- nothing is known of the tree yet
 abbrev pub blank : Tally
-blank = record { born = None; done = replicate 64 false; applied = replicate 64 false; committed = false }
+blank = record {
+  born = None;
+  done = replicate MOST_SUBS false;
+  applied = replicate MOST_NODES false;
+  committed = false;
+}
 
 abbrev pub with_born : Version → Tally → Tally
 with_born v row = record row { born = Some v }
@@ -27,6 +35,13 @@ with_decided commit row = record row { committed = commit || row.committed }
 
 abbrev pub with_applied : ℕ → Tally → Tally
 with_applied p row = record row { applied = slice_set row.applied p true }
+
+-- a row with what is noted on it
+abbrev pub with_news : News → Tally → Tally
+with_news (news.Born v) = with_born v
+with_news (news.Done k) = with_done k.0
+with_news (news.Decided commit) = with_decided commit
+with_news (news.Applied p) = with_applied p.0
 
 -- the row of tree t changed, where it is there
 abbrev pub on_row : ℕ → (Tally → Tally) → List Tally → List Tally

@@ -1,6 +1,6 @@
 // What is kept of each tree while a history is gone over from its end.
-ghost use Rattle.std.specs.Prelude.{◌≡◌, IfOk, false, get_or, length, replicate};
-ghost use Rattle.board_model.specs.Tallies.{all_marked, all_met, blank, is_through_by, noted, on_row, standing_by, stood_by, with_applied, with_born, with_decided, with_done};
+ghost use Rattle.std.specs.Prelude.{◌≡◌, IfOk, false, get_or, length, replicate, slice_set, true};
+ghost use Rattle.board_model.specs.Tallies.{all_marked, all_met, blank, is_through_by, noted, on_row, standing_by, stood_by, with_news};
 
 use crate::standings::{Standing, Standings};
 use letter_types::Act;
@@ -8,15 +8,28 @@ use std::alloc::Global;
 use tv_base::{ActorNo, NoMemory, SubNo, TreeNo, Version};
 use tx_trees::{Sub, Tree, TreeKind};
 
+// The most subtransactions of a tree, and the most nodes of a script.
+const MOST_SUBS: usize = 64;
+
+const MOST_NODES: usize = 64;
+
 // What the acts gone over so far say of one tree: the version that the earliest Born gives, which of its
-// subtransactions were done, at which nodes what was decided of it was applied, and whether it was decided to commit. A
-// tree of a script has at most 64 subtransactions, and a script at most 64 nodes.
+// subtransactions were done, at which nodes what was decided of it was applied, and whether it was decided to commit.
 #[derive(Clone, Copy)]
 pub(crate) struct Tally {
     pub(crate) born: Option<Version>,
-    pub(crate) done: [bool; 64],
-    pub(crate) applied: [bool; 64],
+    pub(crate) done: [bool; MOST_SUBS],
+    pub(crate) applied: [bool; MOST_NODES],
     pub(crate) committed: bool,
+}
+
+// What an act says of a tree.
+#[derive(Clone, Copy)]
+pub(crate) enum News {
+    Born(Version),
+    Done(SubNo),
+    Decided(bool),
+    Applied(ActorNo),
 }
 
 // So many rows of which nothing is known.
@@ -25,8 +38,8 @@ pub(crate) fn blank_rows(alloc: Global, count: usize) -> Result<Vec<Tally>, NoMe
 {
     let row = Tally {
         born: None,
-        done: [false; 64],
-        applied: [false; 64],
+        done: [false; MOST_SUBS],
+        applied: [false; MOST_NODES],
         committed: false,
     };
     Ok(vec![in alloc; row; count]?)
@@ -37,129 +50,51 @@ pub(crate) fn note(rows: &mut Vec<Tally>, actor: ActorNo, act: &Act)
     ensures { rows.new.items ≡ noted actor.0 act.now rows.old.items }
 {
     match act {
-        Act::Born { tree, version } => note_born(rows, *tree, *version),
+        Act::Born { tree, version } => note_on(rows, *tree, News::Born(*version)),
         Act::Did {
             tree,
             sub,
             values: _,
-        } => note_done(rows, *tree, *sub),
-        Act::Decided { tree, commit } => note_decided(rows, *tree, *commit),
-        Act::Applied { tree, commit: _ } => note_applied(rows, *tree, actor),
+        } => note_on(rows, *tree, News::Done(*sub)),
+        Act::Decided { tree, commit } => note_on(rows, *tree, News::Decided(*commit)),
+        Act::Applied { tree, commit: _ } => note_on(rows, *tree, News::Applied(actor)),
         _ => {}
     }
 }
 
-// Notes that the tree was born with the version.
+// Notes it on the row of the tree, if it is there.
 #[tactic(auto, using(crate::proofs::Rows::on_rows))]
-fn note_born(rows: &mut Vec<Tally>, tree: TreeNo, version: Version)
-    ensures { rows.new.items ≡ on_row tree.0 (with_born version) rows.old.items }
+fn note_on(rows: &mut Vec<Tally>, tree: TreeNo, news: News)
+    ensures { rows.new.items ≡ on_row tree.0 (with_news news) rows.old.items }
 {
     let place = tree.0 as usize;
     if place < rows.len() {
-        let row = with_born(rows[place], version);
+        let row = with_news(rows[place], news);
         rows[place] = row;
     }
 }
 
-// Notes that the subtransaction was done.
-#[tactic(auto, using(crate::proofs::Rows::on_rows))]
-fn note_done(rows: &mut Vec<Tally>, tree: TreeNo, sub: SubNo)
-    ensures { rows.new.items ≡ on_row tree.0 (with_done sub.0) rows.old.items }
+// The row with what is noted: the version in place of a later one, a mark, or whether it commits.
+fn with_news(row: Tally, news: News) -> Tally
+    ensures { result ≡ with_news news row }
 {
-    let place = tree.0 as usize;
-    if place < rows.len() {
-        let row = with_done(rows[place], sub);
-        rows[place] = row;
+    let mut row = row;
+    match news {
+        News::Born(version) => row.born = Some(version),
+        News::Done(sub) => mark(&mut row.done, sub.0 as usize),
+        News::Decided(commit) => row.committed = commit || row.committed,
+        News::Applied(node) => mark(&mut row.applied, node.0 as usize),
     }
+    row
 }
 
-// Notes what was decided of the tree.
-#[tactic(auto, using(crate::proofs::Rows::on_rows))]
-fn note_decided(rows: &mut Vec<Tally>, tree: TreeNo, commit: bool)
-    ensures { rows.new.items ≡ on_row tree.0 (with_decided commit) rows.old.items }
-{
-    let place = tree.0 as usize;
-    if place < rows.len() {
-        let row = with_decided(rows[place], commit);
-        rows[place] = row;
-    }
-}
-
-// Notes that what was decided of the tree was applied at the node.
-#[tactic(auto, using(crate::proofs::Rows::on_rows))]
-fn note_applied(rows: &mut Vec<Tally>, tree: TreeNo, node: ActorNo)
-    ensures { rows.new.items ≡ on_row tree.0 (with_applied node.0) rows.old.items }
-{
-    let place = tree.0 as usize;
-    if place < rows.len() {
-        let row = with_applied(rows[place], node);
-        rows[place] = row;
-    }
-}
-
-// The row with the version, in place of a later one.
-fn with_born(row: Tally, version: Version) -> Tally
-    ensures { result ≡ with_born version row }
-{
-    let done = row.done;
-    let applied = row.applied;
-    Tally {
-        born: Some(version),
-        done,
-        applied,
-        committed: row.committed,
-    }
-}
-
-// The row with the subtransaction done, if it is one of 64.
+// Marks the place, if it is there.
 #[tactic(auto, using(crate::proofs::Rows::set_beyond))]
-fn with_done(row: Tally, sub: SubNo) -> Tally
-    ensures { result ≡ with_done sub.0 row }
+fn mark(marks: &mut [bool], place: usize)
+    ensures { marks.new ≡ slice_set marks.old place true }
 {
-    let mut done = row.done;
-    let place = sub.0 as usize;
-    if place < 64 {
-        done[place] = true;
-    }
-    let applied = row.applied;
-    Tally {
-        born: row.born,
-        done,
-        applied,
-        committed: row.committed,
-    }
-}
-
-// The row of a tree that was decided to commit, or not.
-fn with_decided(row: Tally, commit: bool) -> Tally
-    ensures { result ≡ with_decided commit row }
-{
-    let done = row.done;
-    let applied = row.applied;
-    Tally {
-        born: row.born,
-        done,
-        applied,
-        committed: commit || row.committed,
-    }
-}
-
-// The row with the node marked, if it is one of 64.
-#[tactic(auto, using(crate::proofs::Rows::set_beyond))]
-fn with_applied(row: Tally, node: ActorNo) -> Tally
-    ensures { result ≡ with_applied node.0 row }
-{
-    let mut applied = row.applied;
-    let place = node.0 as usize;
-    if place < 64 {
-        applied[place] = true;
-    }
-    let done = row.done;
-    Tally {
-        born: row.born,
-        done,
-        applied,
-        committed: row.committed,
+    if place < marks.len() {
+        marks[place] = true;
     }
 }
 

@@ -20,7 +20,8 @@ is_undone s t = elim (slice_get s.trees t) [ Some tree ↦ is_some tree.written 
 -- what item x is worth at version v by the trees that weren't undone: the others are left out of the serial order
 abbrev pub worth_kept : ScriptData → List Entry → ℕ → ℕ → Value
 worth_kept s h x v =
-    fold (after_tree s x) (first_value (slice_get s.items x)) (filter (λ (t : ℕ). not (is_undone s t)) (serial_to s h v))
+    fold (after_tree s x) (first_value (slice_get s.items x))
+    (filter (λ (t : ℕ). not (is_undone s t)) (serial_to s h v))
 
 -- the items of these operations with what they are worth by such trees at version v, in order
 abbrev pub shown_kept : ScriptData → List Entry → ℕ → List SubOp → List (ItemNo × Value)

@@ -13,7 +13,8 @@ ghost use Rattle.world_model.specs.Tables.{IsRunnable};
 /// through all advancements. The gate of a row is open when each tree before the last `settle` row above it is whole,
 /// and every node has collected to the version of each advancement there.
 pub fn every_run_keeps_to_its_rows()
-    ensures { (s : ScriptData) (past : List Entry) → IsValid s → IsRunnable s → IsStepRun s past → Fits s (reverse past) }
+    ensures { (s : ScriptData) (past : List Entry) → IsValid s → IsRunnable s → IsStepRun s past
+        → Fits s (reverse past) }
 {}
 
 /// A gate that is open stays open, whatever comes.

@@ -89,7 +89,9 @@ trees_text s h t [] = []
 trees_text s h t (tree ∷ ts) = tree_line s h tree tree.kind (version_of h t) ++ trees_text s h (t + 1) ts
 
 abbrev pub node_line : ℕ → ℕ → List ℕ
-node_line a p = codes "node " ++ (decimal p ++ (codes " update " ++ (decimal (a + 1) ++ (codes " read " ++ (decimal a ++ codes "\n")))))
+node_line a p =
+    codes "node " ++ (decimal p
+    ++ (codes " update " ++ (decimal (a + 1) ++ (codes " read " ++ (decimal a ++ codes "\n")))))
 
 -- the lines of nodes 0 to n - 1
 abbrev pub nodes_text : ℕ → ℕ → List ℕ

@@ -57,14 +57,17 @@ AreTold s h asks n texts =
     → slice_get texts (slice_index_or asks i d).tree.0 ≡ Some (values_of s h (slice_index_or asks i d).tree.0)
 
 -- so many were asked for, the others are of the version that was reached or of later ones
-pub record IsServed (s : ScriptData) (h : List Entry) (serial asks : List Member) (texts : List (List ℕ)) (r : Served) : Type 0 where
+pub record IsServed (s : ScriptData) (h : List Entry) (serial asks : List Member) (texts : List (List ℕ))
+    (r : Served) : Type 0 where
   pub place : r.place ≤ length asks
   pub carried : IsCarried s serial r.carried
-  pub ahead : (i : ℕ) (d : Member) → r.place ≤ i → i < length asks → r.carried.version.0 ≤ (slice_index_or asks i d).version.0
+  pub ahead : (i : ℕ) (d : Member) → r.place ≤ i → i < length asks
+      → r.carried.version.0 ≤ (slice_index_or asks i d).version.0
   pub count : length texts ≡ length s.trees
   pub told : AreTold s h asks r.place texts
 
 -- what each read tree shows stands by tree number
 pub record AreRead (s : ScriptData) (h : List Entry) (texts : List (List ℕ)) : Type 0 where
   pub count : length texts ≡ length s.trees
-  pub each : (t : ℕ) (v : Version) → reads s t ≡ true → version_of h t ≡ Some v → slice_get texts t ≡ Some (gets_text s h v.0 (subs_at s t))
+  pub each : (t : ℕ) (v : Version) → reads s t ≡ true → version_of h t ≡ Some v
+      → slice_get texts t ≡ Some (gets_text s h v.0 (subs_at s t))

@@ -99,7 +99,8 @@ fn push_found(
     item: ItemNo,
 ) -> Result<(), NoMemory>
     requires { AreAsciiItems rows.now }
-    ensures { OnOk result (text.new ≡ text.old ++ found_text (slice_get rows.now item.0) (slice_get values.now item.0)) }
+    ensures { OnOk result
+        (text.new ≡ text.old ++ found_text (slice_get rows.now item.0) (slice_get values.now item.0)) }
 {
     let Some(row) = rows.get(item.0 as usize) else {
         return Ok(());

@@ -39,8 +39,10 @@ pub(crate) fn shown_of(
     requires serial { IsSerial run.script.now run.history.now run.serial.now }
     requires stood { standings.now ≡ standings_of run.script.now run.history.now }
     ensures reads { IfOk result (λ shown. AreRead run.entry.script.now run.entry.history.now shown.reads) }
-    ensures balances { IfOk result (λ shown. shown.balances ≡ worths run.entry.script.now run.entry.history.now advances) }
-    ensures later { IfOk result (λ shown. shown.later ≡ worths run.entry.script.now run.entry.history.now (advances + 1)) }
+    ensures balances { IfOk result (λ shown.
+        shown.balances ≡ worths run.entry.script.now run.entry.history.now advances) }
+    ensures later { IfOk result (λ shown.
+        shown.later ≡ worths run.entry.script.now run.entry.history.now (advances + 1)) }
 {
     let trees = run.script.trees();
     let found = asks_of(alloc, trees, standings)?;
@@ -122,9 +124,11 @@ fn serve_one(
     requires asks { AreAsked run.script.now run.history.now asks.now }
     requires served { IsServed run.script.now run.history.now run.serial.now asks.now reads.old served }
     requires more { served.place < length asks.now }
-    ensures served { IfOk result (λ r. IsServed run.entry.script.now run.entry.history.now run.entry.serial.now asks.now reads.new r) }
+    ensures served { IfOk result
+        (IsServed run.entry.script.now run.entry.history.now run.entry.serial.now asks.now reads.new) }
     ensures place { IfOk result (λ r. r.place ≡ served.place + 1) }
-    ensures version { IfOk result (λ r. (d : Member) → r.carried.version ≡ (slice_index_or asks.now served.place d).version) }
+    ensures version { IfOk result (λ r. (d : Member)
+        → r.carried.version ≡ (slice_index_or asks.now served.place d).version) }
 {
     let rows = run.script.items();
     let trees = run.script.trees();
@@ -156,7 +160,8 @@ fn serve_to(
     requires asks { AreAsked run.script.now run.history.now asks.now }
     requires served { IsServed run.script.now run.history.now run.serial.now asks.now reads.old served }
     requires later { served.carried.version.0 ≤ version.0 }
-    ensures served { IfOk result (λ r. IsServed run.entry.script.now run.entry.history.now run.entry.serial.now asks.now reads.new r) }
+    ensures served { IfOk result
+        (IsServed run.entry.script.now run.entry.history.now run.entry.serial.now asks.now reads.new) }
     ensures version { IfOk result (λ r. r.carried.version ≡ version) }
     ensures worths { IfOk result (λ r. r.carried.values ≡ worths run.entry.script.now run.entry.history.now version.0) }
 {
@@ -189,7 +194,8 @@ fn serve_rest(
     requires asks { AreAsked run.script.now run.history.now asks.now }
     requires served { IsServed run.script.now run.history.now run.serial.now asks.now reads.old served }
     ensures count { OnOk result (length reads.new ≡ length run.entry.script.now.trees) }
-    ensures told { OnOk result (AreTold run.entry.script.now run.entry.history.now asks.now (length asks.now) reads.new) }
+    ensures told { OnOk result
+        (AreTold run.entry.script.now run.entry.history.now asks.now (length asks.now) reads.new) }
 {
     let list = asks.items();
     let mut now = served;

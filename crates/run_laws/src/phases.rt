@@ -34,7 +34,8 @@ pub fn versions_keep_to_the_phase()
 /// Each advancement that was asked for is in a letter, waits, is under way or has ended, and of each that has ended the
 /// client hears once.
 pub fn advances_are_kept()
-    ensures { (s : ScriptData) (past : List Entry) → IsValid s → IsRunnable s → IsStepRun s past → AdvancesAreKept s past }
+    ensures { (s : ScriptData) (past : List Entry) → IsValid s → IsRunnable s → IsStepRun s past
+        → AdvancesAreKept s past }
 {}
 
 /// There are at most two rounds for each advancement and one for each tree.

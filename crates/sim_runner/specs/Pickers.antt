@@ -18,10 +18,12 @@ picker_at after s p h zero = p
 picker_at after s p h (suc k) = after (picker_at after s p h k) (waiting_at s h k)
 
 -- the number that the picker names for entry k
-abbrev pub picked_at : {P : Type 0} → (P → List Letter → ℕ) → (P → List Letter → P) → ScriptData → P → List Entry → ℕ → ℕ
+abbrev pub picked_at : {P : Type 0} → (P → List Letter → ℕ) → (P → List Letter → P) → ScriptData → P → List Entry → ℕ
+    → ℕ
 picked_at place after s p h k = place (picker_at after s p h k) (waiting_at s h k)
 
 -- each entry took the letter at the place that the picker named, modulo as many as were under way
-abbrev pub IsPickedBy : {P : Type 0} → (P → List Letter → ℕ) → (P → List Letter → P) → ScriptData → P → List Entry → Type 0
+abbrev pub IsPickedBy : {P : Type 0} → (P → List Letter → ℕ) → (P → List Letter → P) → ScriptData → P → List Entry
+    → Type 0
 IsPickedBy place after s p h = (k : ℕ) (e : Entry) → slice_get h k ≡ Some e
     → slice_get (waiting_at s h k) (picked_at place after s p h k % length (waiting_at s h k)) ≡ Some e.took

@@ -117,9 +117,11 @@ WroteFrontBy (Some (lines.Run workers shows)) left now written after history =
     WroteFront (modes.Run workers shows) left now written after history
 WroteFrontBy (Some (lines.Soak workers seed trees)) left now written after history =
     WroteSummaryFront seed trees written after history
-WroteFrontBy (Some lines.Upgrade) left now written after history = WroteFront modes.Upgrade left now written after history
+WroteFrontBy (Some lines.Upgrade) left now written after history =
+    WroteFront modes.Upgrade left now written after history
 WroteFrontBy (Some lines.Help) left now written after history = AppendsFront written after HELP.now × (history ≡ [])
-WroteFrontBy (Some lines.Version) left now written after history = AppendsFront written after VERSION.now × (history ≡ [])
+WroteFrontBy (Some lines.Version) left now written after history =
+    AppendsFront written after VERSION.now × (history ≡ [])
 WroteFrontBy None left now written after history = ⊥
 
 -- for this line the source is left alone, at every status

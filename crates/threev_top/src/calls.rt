@@ -290,13 +290,17 @@ pub fn threev<R: Threads + Wait + Sync, S: Source, K: Sink, E: Sink, G: Gate + S
         → result.status ≤ 1 }
     // What standard error is told.
     ensures quiet { result.status ≡ 0 → err.new ≡ err.old }
-    ensures told_memory { result.status ≡ 1 → Tells (E.written err.old) (E.written err.new) (E.faults err.old) (E.faults err.new)
+    ensures told_memory { result.status ≡ 1
+        → Tells (E.written err.old) (E.written err.new) (E.faults err.old) (E.faults err.new)
         (codes "threev: out of memory\n") }
-    ensures told_words { result.status ≡ 2 → Tells (E.written err.old) (E.written err.new) (E.faults err.old) (E.faults err.new)
+    ensures told_words { result.status ≡ 2
+        → Tells (E.written err.old) (E.written err.new) (E.faults err.old) (E.faults err.new)
         (codes "threev: the words are not a command line of this program\n") }
-    ensures told_reading { result.status ≡ 4 → Tells (E.written err.old) (E.written err.new) (E.faults err.old) (E.faults err.new)
+    ensures told_reading { result.status ≡ 4
+        → Tells (E.written err.old) (E.written err.new) (E.faults err.old) (E.faults err.new)
         (codes "threev: reading failed\n") }
-    ensures told_writing { result.status ≡ 5 → Tells (E.written err.old) (E.written err.new) (E.faults err.old) (E.faults err.new)
+    ensures told_writing { result.status ≡ 5
+        → Tells (E.written err.old) (E.written err.new) (E.faults err.old) (E.faults err.new)
         (codes "threev: writing failed\n") }
 {
     let Outcome { stop, history } = after_words(rt, alloc, words, source, out, gate);

@@ -19,7 +19,8 @@ pub use run_ends::{no_round_without_advancements, the_client_finishes_once};
 /// In every run of a valid script of update and read trees in which each letter came in time and the client has
 /// finished, every tree is whole.
 pub fn every_tree_is_whole()
-    ensures { (s : ScriptData) (past : List Entry) (t : ℕ) → IsValid s → IsRunnable s → IsStepRun s past → AllTimely s past
+    ensures { (s : ScriptData) (past : List Entry) (t : ℕ) → IsValid s → IsRunnable s → IsStepRun s past
+        → AllTimely s past
         → HasFinished (reverse past) → t < length s.trees → IsWhole s (reverse past) t }
 {}
 

@@ -20,6 +20,7 @@ pub fn the_client_finishes_once()
 
 /// No run of such a script without advancements begins a round.
 pub fn no_round_without_advancements()
-    ensures { (s : ScriptData) (past : List Entry) → IsValid s → IsRunnable s → advances_in s.rows ≡ 0 → IsStepRun s past
+    ensures { (s : ScriptData) (past : List Entry) → IsValid s → IsRunnable s → advances_in s.rows ≡ 0
+        → IsStepRun s past
         → rounds_in s (reverse past) ≡ 0 }
 {}
