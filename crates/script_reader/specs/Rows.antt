@@ -1,10 +1,12 @@
 -- What each row does to a script, with its conditions in the order of their numbers.
-use Rattle.std.specs.Prelude.{ℕ, ℤ, Bool, true, false, not, ◌≡◌, ◌==◌, ◌&&◌, ◌||◌, nat_le, List, [], ◌∷◌, length, get_or, Option, Some, None, is_some, Result, Ok, Err, if◌then◌else◌, unsigned_abs, ⊤}
+use Rattle.std.specs.Prelude.{ℕ, ℤ, Bool, true, false, not, ◌≡◌, ◌==◌, ◌&&◌, ◌||◌, nat_le, List, [], ◌∷◌, length, get_or}
+use Rattle.std.specs.Prelude.{Option, Some, None, is_some, Result, Ok, Err, if◌then◌else◌, unsigned_abs, ⊤}
 use Rattle.commute_ops.specs.declared.kinds.Kind.{Kind}
 use Rattle.commute_ops.specs.declared.kinds.Op.TheVariants as applied
 use Rattle.tv_base.specs.declared.numbers.NodeNo.{NodeNo}
 use Rattle.tx_trees.specs.ScriptData.{ScriptData}
-use Rattle.tx_trees.specs.Adding.{adds_advance, adds_fail, adds_item, adds_lose, adds_op, adds_pick, adds_settle, adds_sub, adds_tree, fresh, place_of}
+use Rattle.tx_trees.specs.Adding.{adds_advance, adds_fail, adds_item, adds_lose, adds_op}
+use Rattle.tx_trees.specs.Adding.{adds_pick, adds_settle, adds_sub, adds_tree, fresh, place_of}
 use Rattle.tx_trees.specs.Forms.{most_amount, most_nodes}
 use Rattle.tx_trees.specs.Names.{has_name_len, is_name}
 use Rattle.tx_trees.specs.Ranges.{is_in_range, may_start}
