@@ -1,6 +1,6 @@
 -- What each row does to a script, with its conditions in the order of their numbers.
-use Rattle.std.specs.Prelude.{ℕ, ℤ, Bool, true, false, not, ◌≡◌, ◌==◌, ◌&&◌, ◌||◌, nat_le, List, [], ◌∷◌, length, get_or}
-use Rattle.std.specs.Prelude.{Option, Some, None, is_some, Result, Ok, Err, if◌then◌else◌, unsigned_abs, ⊤}
+use Rattle.std.specs.Prelude.{ℕ, ℤ, Bool, true, false, not, ◌≡◌, ◌==◌, ◌&&◌, ◌||◌, nat_le, List, [], ◌∷◌, length}
+use Rattle.std.specs.Prelude.{get_or, Option, Some, None, is_some, Result, Ok, Err, if◌then◌else◌, unsigned_abs, ⊤}
 use Rattle.commute_ops.specs.declared.kinds.Kind.{Kind}
 use Rattle.commute_ops.specs.declared.kinds.Op.TheVariants as applied
 use Rattle.tv_base.specs.declared.numbers.NodeNo.{NodeNo}
@@ -27,10 +27,11 @@ use Rattle.script_reader.specs.declared.words.RowWord.{RowWord}
 use Rattle.script_reader.specs.declared.words.RowWord.TheVariants as words
 use Rattle.tx_trees.specs.Built.{is_built}
 
--- which rows are read: those of every form, also of one that isn't run yet, or those of the built forms alone
+-- rows of every form are read, also of one that isn't run yet
 abbrev pub every_form : Bool
 every_form = true
 
+-- rows of the built forms alone are read
 abbrev pub built_forms : Bool
 built_forms = false
 

@@ -23,8 +23,9 @@ use tx_trees::{Deed, Form, ItemRow, Script, ScriptRow, Sub, SubOp, Tree, TreeKin
 /// built: no strict tree, and no row that makes the coordinator forget.
 pub fn write_script(alloc: Global, script: &Script) -> Result<Text, NoMemory>
     ensures text { IfOk result (λ text. text ≡ written script.now) }
-    ensures every { IfOk result (λ t. length t ≤ 8388608 → IsReadAs (read_every t) script.now) }
-    ensures read { IfOk result (λ t. length t ≤ 8388608 → Builds script.now → IsReadAs (read_of t) script.now) }
+    ensures every { IfOk result (λ text. length text ≤ 8388608 → IsReadAs (read_every text) script.now) }
+    ensures read { IfOk result (λ text. length text ≤ 8388608 → Builds script.now
+        → IsReadAs (read_of text) script.now) }
 {
     let mut text = Text::new(alloc);
     push_form(&mut text, script.form())?;

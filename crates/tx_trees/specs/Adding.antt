@@ -66,7 +66,12 @@ adds_item s row =
 
 -- a tree with its root alone
 abbrev pub rooted : List ℕ → TreeKind → NodeNo → Tree
-rooted name kind node = record { name = name; kind = kind; subs = record { parent = record { 0 = 0 }; node = node; ops = [] } ∷ []; written = None }
+rooted name kind node = record {
+  name = name;
+  kind = kind;
+  subs = record { parent = record { 0 = 0 }; node = node; ops = [] } ∷ [];
+  written = None;
+}
 
 abbrev pub with_tree : ScriptData → List ℕ → TreeKind → NodeNo → ScriptData
 with_tree s name kind node = record s {
@@ -86,7 +91,8 @@ are_spread nodes trees = nat_lt 320000 (nodes * trees)
 -- with one more tree of this kind a limit would be passed
 abbrev pub has_no_tree_left : ℕ → TreeKind → List Tree → Bool
 has_no_tree_left nodes kind ts =
-    nat_le 20000 (length ts) || are_spread nodes (length ts + 1) || nat_le 100000 (all_subs ts) || nat_lt 1000 (strict_trees ts + one_strict kind)
+    nat_le 20000 (length ts) || are_spread nodes (length ts + 1) || nat_le 100000 (all_subs ts)
+    || nat_lt 1000 (strict_trees ts + one_strict kind)
     || are_many (strict_trees ts + one_strict kind) (update_subs ts + if_update kind 1)
 
 abbrev pub adds_tree : ScriptData → List ℕ → TreeKind → NodeNo → Result ScriptData Why
@@ -121,7 +127,8 @@ with_sub s parent node = record s {
 -- with one more subtransaction of the last tree a limit would be passed
 abbrev pub has_no_sub_left : List Tree → Bool
 has_no_sub_left ts =
-    nat_le 64 (last_subs ts) || nat_le 100000 (all_subs ts) || are_many (strict_trees ts) (update_subs ts + if_update (last_kind ts) 1)
+    nat_le 64 (last_subs ts) || nat_le 100000 (all_subs ts)
+    || are_many (strict_trees ts) (update_subs ts + if_update (last_kind ts) 1)
 
 abbrev pub adds_sub : ScriptData → ℕ → NodeNo → Result ScriptData Why
 adds_sub s parent node =
@@ -161,7 +168,8 @@ kind_at k items = elim (slice_get items k) [ None ↦ SumKind | Some row ↦ row
 
 -- with one more operation on item k a limit would be passed
 abbrev pub has_no_op_left : ℕ → Deed → List Tree → Bool
-has_no_op_left k deed ts = nat_le 16 (last_count ts) || nat_le 200000 (all_ops ts) || nat_lt 64 (trees_puts k ts + one_put deed)
+has_no_op_left k deed ts =
+    nat_le 16 (last_count ts) || nat_le 200000 (all_ops ts) || nat_lt 64 (trees_puts k ts + one_put deed)
 
 -- the subtransactions have an operation on item k
 abbrev pub touch : ℕ → List Sub → Bool
@@ -215,7 +223,8 @@ with_failed s k = record s { trees = on_last (failed_tree k) s.trees; begun = fa
 -- trees pass a limit, where the last one has changed
 abbrev pub are_crowded : List Tree → Bool
 are_crowded ts =
-    nat_lt 64 (last_subs ts) || nat_lt 100000 (all_subs ts) || nat_lt 200000 (all_ops ts) || are_many (strict_trees ts) (update_subs ts)
+    nat_lt 64 (last_subs ts) || nat_lt 100000 (all_subs ts) || nat_lt 200000 (all_ops ts)
+    || are_many (strict_trees ts) (update_subs ts)
 
 -- one of n numbers from k on passes the test
 abbrev pub any_from : (ℕ → Bool) → ℕ → ℕ → Bool

@@ -1,5 +1,5 @@
--- A script that is built again from its own rows: its form, its nodes, its items, each row, a tree's row with its whole tree, and
--- its picks, in this order.
+-- A script that is built again from its own rows: its form, its nodes, its items, each row, a tree's row with its whole
+-- tree, and its picks, in this order.
 use Rattle.std.specs.Prelude.{ℕ, ◌≡◌, List, [], ◌∷◌, Option, Some, None, Result, Ok, Err, slice_get}
 use Rattle.tx_trees.specs.Adding.{adds_advance, adds_fail, adds_item, adds_lose, adds_op, adds_pick, adds_settle, adds_sub, adds_tree, fresh}
 use Rattle.tx_trees.specs.ScriptData.{ScriptData}

@@ -78,10 +78,12 @@ same_written _ _ = false
 
 abbrev pub same_tree : Tree → Tree → Bool
 same_tree t u =
-    bytes_eq t.name u.name && same_tree_kind t.kind u.kind && pointwise same_sub t.subs u.subs && same_written t.written u.written
+    bytes_eq t.name u.name && same_tree_kind t.kind u.kind && pointwise same_sub t.subs u.subs
+    && same_written t.written u.written
 
 -- all but what the last record was
 abbrev pub same_script : ScriptData → ScriptData → Bool
 same_script s t =
-    same_form s.form t.form && s.nodes == t.nodes && pointwise same_item s.items t.items && pointwise same_tree s.trees t.trees && pointwise same_row s.rows t.rows
+    same_form s.form t.form && s.nodes == t.nodes && pointwise same_item s.items t.items
+    && pointwise same_tree s.trees t.trees && pointwise same_row s.rows t.rows
     && pointwise nat_eq s.picks t.picks

@@ -147,7 +147,8 @@ pub record AreWithin (form : Form) (items : List ItemRow) (ts : List Tree) : Typ
 
 -- a tree behind these that was written as w and then failed: what was written is an update tree of `add` operations,
 -- which passed no limit when it stood behind them, and the tree is its undone form
-pub record HasFailed (form : Form) (nodes : ℕ) (items : List ItemRow) (front : List Tree) (t : Tree) (w : Written) : Type 0 where
+pub record HasFailed (form : Form) (nodes : ℕ) (items : List ItemRow) (front : List Tree) (t : Tree)
+    (w : Written) : Type 0 where
   pub second : form ≡ forms.Two
   pub update : t.kind ≡ trees.Update
   pub adds : IsTrue (subs_add w.subs)

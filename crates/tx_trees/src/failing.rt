@@ -70,7 +70,8 @@ fn load_ops(totals: &mut Vec<u128>, ops: &[SubOp])
     requires within { AllByRecursion (λ o. o.item.0 < length totals.old.items) ops.now }
     requires room { (k : ℕ) → k < length totals.old.items → get_or totals.old.items k 0 + ops_load k ops.now < 2 ^ 128 }
     ensures len { length totals.new.items ≡ length totals.old.items }
-    ensures loaded { (k : ℕ) → k < length totals.old.items → get_or totals.new.items k 0 ≡ get_or totals.old.items k 0 + ops_load k ops.now }
+    ensures loaded { (k : ℕ) → k < length totals.old.items
+        → get_or totals.new.items k 0 ≡ get_or totals.old.items k 0 + ops_load k ops.now }
 {
     for op in ops {
         totals[op.item.0 as usize] += magnitude(op.deed);
@@ -82,7 +83,8 @@ fn unload_ops(totals: &mut Vec<u128>, ops: &[SubOp])
     requires within { AllByRecursion (λ o. o.item.0 < length totals.old.items) ops.now }
     requires loaded { (k : ℕ) → k < length totals.old.items → ops_load k ops.now ≤ get_or totals.old.items k 0 }
     ensures len { length totals.new.items ≡ length totals.old.items }
-    ensures unloaded { (k : ℕ) → k < length totals.old.items → get_or totals.new.items k 0 + ops_load k ops.now ≡ get_or totals.old.items k 0 }
+    ensures unloaded { (k : ℕ) → k < length totals.old.items
+        → get_or totals.new.items k 0 + ops_load k ops.now ≡ get_or totals.old.items k 0 }
 {
     for op in ops {
         totals[op.item.0 as usize] -= magnitude(op.deed);
@@ -92,9 +94,11 @@ fn unload_ops(totals: &mut Vec<u128>, ops: &[SubOp])
 // Adds the magnitudes of the subtransactions' operations to the items' totals.
 fn load_subs(totals: &mut Vec<u128>, subs: &[Sub])
     requires within { AllByRecursion (λ s. AllByRecursion (λ o. o.item.0 < length totals.old.items) s.ops) subs.now }
-    requires room { (k : ℕ) → k < length totals.old.items → get_or totals.old.items k 0 + subs_load k subs.now < 2 ^ 128 }
+    requires room { (k : ℕ) → k < length totals.old.items
+        → get_or totals.old.items k 0 + subs_load k subs.now < 2 ^ 128 }
     ensures len { length totals.new.items ≡ length totals.old.items }
-    ensures loaded { (k : ℕ) → k < length totals.old.items → get_or totals.new.items k 0 ≡ get_or totals.old.items k 0 + subs_load k subs.now }
+    ensures loaded { (k : ℕ) → k < length totals.old.items
+        → get_or totals.new.items k 0 ≡ get_or totals.old.items k 0 + subs_load k subs.now }
 {
     for sub in subs {
         load_ops(totals, sub.ops.items());
@@ -106,7 +110,8 @@ fn unload_subs(totals: &mut Vec<u128>, subs: &[Sub])
     requires within { AllByRecursion (λ s. AllByRecursion (λ o. o.item.0 < length totals.old.items) s.ops) subs.now }
     requires loaded { (k : ℕ) → k < length totals.old.items → subs_load k subs.now ≤ get_or totals.old.items k 0 }
     ensures len { length totals.new.items ≡ length totals.old.items }
-    ensures unloaded { (k : ℕ) → k < length totals.old.items → get_or totals.new.items k 0 + subs_load k subs.now ≡ get_or totals.old.items k 0 }
+    ensures unloaded { (k : ℕ) → k < length totals.old.items
+        → get_or totals.new.items k 0 + subs_load k subs.now ≡ get_or totals.old.items k 0 }
 {
     for sub in subs {
         unload_ops(totals, sub.ops.items());

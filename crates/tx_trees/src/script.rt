@@ -237,7 +237,8 @@ impl Script {
         requires { tree.0 < length self.now.trees }
         ensures above { IfSome result (λ k. after.0 < k.0) }
         ensures child { IfSome result (λ k. is_child (subs_at self.now tree.0) parent.0 k.0 ≡ true) }
-        ensures least { IfSome result (λ k. (j : ℕ) → after.0 < j → j < k.0 → is_child (subs_at self.now tree.0) parent.0 j ≡ false) }
+        ensures least { IfSome result (λ k. (j : ℕ) → after.0 < j → j < k.0
+            → is_child (subs_at self.now tree.0) parent.0 j ≡ false) }
         ensures none { IsNone result → (j : ℕ) → after.0 < j → is_child (subs_at self.now tree.0) parent.0 j ≡ false }
     {
         next_child(self.subs_of(tree), parent, after)
