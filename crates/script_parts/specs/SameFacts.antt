@@ -152,7 +152,8 @@ exact_row : IsExact same_row
 exact_row = record { equal = equal; itself = itself }
   where
     equal : (a b : ScriptRow) → same_row a b ≡ true → a ≡ b
-    equal (rows.Tree t) (rows.Tree u) e = ap (λ (k : ℕ). let r : ScriptRow = rows.Tree (record { 0 = k }) in r) (exact_number.equal t.0 u.0 e)
+    equal (rows.Tree t) (rows.Tree u) e =
+        ap (λ (k : ℕ). let r : ScriptRow = rows.Tree (record { 0 = k }) in r) (exact_number.equal t.0 u.0 e)
     equal rows.Advance rows.Advance e = refl
     equal rows.Settle rows.Settle e = refl
     equal rows.Lose rows.Lose e = refl
@@ -169,7 +170,8 @@ exact_sub_op = record {
   equal = λ o p e.
       let item = exact_number.equal o.item.0 p.item.0 (and_first _ _ e) in
       let deed = exact_deed.equal o.deed p.deed (and_second (o.item.0 == p.item.0) _ e) in
-      ap (λ (k : ℕ). let x : SubOp = record { item = record { 0 = k }; deed = o.deed } in x) item ∙ ap (λ (d : Deed). let x : SubOp = record { item = p.item; deed = d } in x) deed;
+      ap (λ (k : ℕ). let x : SubOp = record { item = record { 0 = k }; deed = o.deed } in x) item
+      ∙ ap (λ (d : Deed). let x : SubOp = record { item = p.item; deed = d } in x) deed;
   itself = λ o. and_both _ _ (exact_number.itself o.item.0) (exact_deed.itself o.deed);
 }
 
@@ -185,14 +187,19 @@ exact_item = record {
       (exact_number.equal r.node.0 q.node.0 (and_second (bytes_eq r.name q.name) _ names_and_nodes))
       (exact_kind.equal r.kind q.kind (and_second first _ front))
       (exact_amount.equal r.initial q.initial (and_second second _ e));
-  itself = λ r. and_both _ _ (and_both _ _ (and_both _ _ (exact_name.itself r.name) (exact_number.itself r.node.0)) (exact_kind.itself r.kind)) (exact_amount.itself r.initial);
+  itself = λ r.
+      and_both _ _
+      (and_both _ _ (and_both _ _ (exact_name.itself r.name) (exact_number.itself r.node.0)) (exact_kind.itself r.kind))
+      (exact_amount.itself r.initial);
 }
   where
     item_is : (r q : ItemRow) → r.name ≡ q.name → r.node.0 ≡ q.node.0 → r.kind ≡ q.kind → r.initial ≡ q.initial → r ≡ q
     item_is r q a b d e =
         ap (λ (x : List ℕ). let y : ItemRow = record r { name = x } in y) a
-        ∙ ap (λ (x : ℕ). let y : ItemRow = record { name = q.name; node = record { 0 = x }; kind = r.kind; initial = r.initial } in y) b
-        ∙ ap (λ (x : Kind). let y : ItemRow = record { name = q.name; node = q.node; kind = x; initial = r.initial } in y) d
+        ∙ ap (λ (x : ℕ).
+        let y : ItemRow = record { name = q.name; node = record { 0 = x }; kind = r.kind; initial = r.initial } in y) b
+        ∙ ap (λ (x : Kind).
+        let y : ItemRow = record { name = q.name; node = q.node; kind = x; initial = r.initial } in y) d
         ∙ ap (λ (x : ℤ). let y : ItemRow = record { name = q.name; node = q.node; kind = q.kind; initial = x } in y) e
 
 exact_sub : IsExact same_sub
@@ -205,7 +212,9 @@ exact_sub = record {
       ap (λ (k : ℕ). let z : Sub = record { parent = record { 0 = k }; node = x.node; ops = x.ops } in z) parent
       ∙ ap (λ (k : ℕ). let z : Sub = record { parent = y.parent; node = record { 0 = k }; ops = x.ops } in z) node
       ∙ ap (λ (os : List SubOp). let z : Sub = record { parent = y.parent; node = y.node; ops = os } in z) ops;
-  itself = λ x. and_both _ _ (and_both _ _ (exact_number.itself x.parent.0) (exact_number.itself x.node.0)) ((exact_list same_sub_op exact_sub_op).itself x.ops);
+  itself = λ x.
+      and_both _ _ (and_both _ _ (exact_number.itself x.parent.0) (exact_number.itself x.node.0))
+      ((exact_list same_sub_op exact_sub_op).itself x.ops);
 }
 
 exact_written_as : IsExact same_written_as
@@ -242,10 +251,17 @@ exact_tree = record {
       let subs = (exact_list same_sub exact_sub).equal t.subs u.subs (and_second front _ less) in
       let written = exact_written.equal t.written u.written (and_second most _ e) in
       ap (λ (n : List ℕ). let z : Tree = record t { name = n } in z) name
-      ∙ ap (λ (k : TreeKind). let z : Tree = record { name = u.name; kind = k; subs = t.subs; written = t.written } in z) kind
-      ∙ ap (λ (ss : List Sub). let z : Tree = record { name = u.name; kind = u.kind; subs = ss; written = t.written } in z) subs
-      ∙ ap (λ (w : Option Written). let z : Tree = record { name = u.name; kind = u.kind; subs = u.subs; written = w } in z) written;
-  itself = λ t. and_both _ _ (and_both _ _ (and_both _ _ (exact_name.itself t.name) (exact_tree_kind.itself t.kind)) ((exact_list same_sub exact_sub).itself t.subs)) (exact_written.itself t.written);
+      ∙ ap (λ (k : TreeKind).
+      let z : Tree = record { name = u.name; kind = k; subs = t.subs; written = t.written } in z) kind
+      ∙ ap (λ (ss : List Sub).
+      let z : Tree = record { name = u.name; kind = u.kind; subs = ss; written = t.written } in z) subs
+      ∙ ap (λ (w : Option Written).
+      let z : Tree = record { name = u.name; kind = u.kind; subs = u.subs; written = w } in z) written;
+  itself = λ t.
+      and_both _ _
+      (and_both _ _ (and_both _ _ (exact_name.itself t.name) (exact_tree_kind.itself t.kind))
+      ((exact_list same_sub exact_sub).itself t.subs))
+      (exact_written.itself t.written);
 }
 
 -- two scripts compare equal exactly where they are the same
@@ -286,25 +302,44 @@ same_exactly s t = (to, from)
     from h =
         let form = subst (λ (x : Form). same_form s.form x ≡ true) h.form (exact_form.itself s.form) in
         let nodes = subst (λ (x : ℕ). (s.nodes == x) ≡ true) h.nodes (exact_number.itself s.nodes) in
-        let its_items = subst (λ (x : List ItemRow). pointwise same_item s.items x ≡ true) h.items (items.itself s.items) in
-        let its_trees = subst (λ (x : List Tree). pointwise same_tree s.trees x ≡ true) h.trees (trees_exact.itself s.trees) in
-        let its_rows = subst (λ (x : List ScriptRow). pointwise same_row s.rows x ≡ true) h.rows (rows_exact.itself s.rows) in
+        let its_items =
+        subst (λ (x : List ItemRow). pointwise same_item s.items x ≡ true) h.items (items.itself s.items) in
+        let its_trees =
+        subst (λ (x : List Tree). pointwise same_tree s.trees x ≡ true) h.trees (trees_exact.itself s.trees) in
+        let its_rows =
+        subst (λ (x : List ScriptRow). pointwise same_row s.rows x ≡ true) h.rows (rows_exact.itself s.rows) in
         let its_picks = subst (λ (x : List ℕ). pointwise nat_eq s.picks x ≡ true) h.picks (picks.itself s.picks) in
-        and_both _ _ (and_both _ _ (and_both _ _ (and_both _ _ (and_both _ _ form nodes) its_items) its_trees) its_rows) its_picks
+        and_both _ _
+        (and_both _ _ (and_both _ _ (and_both _ _ (and_both _ _ form nodes) its_items) its_trees) its_rows) its_picks
 
 pub script_laws : IsPartialEquivalence same_script
 script_laws = record { symm = symm; trans = trans }
   where
     turned : (s t : ScriptData) → SameScript s t → SameScript t s
-    turned s t h = record { form = sym h.form; nodes = sym h.nodes; items = sym h.items; trees = sym h.trees; rows = sym h.rows; picks = sym h.picks }
+    turned s t h = record {
+      form = sym h.form;
+      nodes = sym h.nodes;
+      items = sym h.items;
+      trees = sym h.trees;
+      rows = sym h.rows;
+      picks = sym h.picks;
+    }
 
     joined : (s t u : ScriptData) → SameScript s t → SameScript t u → SameScript s u
-    joined s t u h i = record { form = h.form ∙ i.form; nodes = h.nodes ∙ i.nodes; items = h.items ∙ i.items; trees = h.trees ∙ i.trees; rows = h.rows ∙ i.rows; picks = h.picks ∙ i.picks }
+    joined s t u h i = record {
+      form = h.form ∙ i.form;
+      nodes = h.nodes ∙ i.nodes;
+      items = h.items ∙ i.items;
+      trees = h.trees ∙ i.trees;
+      rows = h.rows ∙ i.rows;
+      picks = h.picks ∙ i.picks;
+    }
 
     symm : (s t : ScriptData) → same_script s t ≡ same_script t s
     symm s t =
         let d = same_exactly t s in
-        same_from_decides (same_script s t) (same_script t s) (same_exactly s t) (λ e. turned t s (d.0 e), λ h. d.1 (turned s t h))
+        same_from_decides (same_script s t) (same_script t s) (same_exactly s t)
+        (λ e. turned t s (d.0 e), λ h. d.1 (turned s t h))
 
     trans : (s t u : ScriptData) → same_script s t ≡ true → same_script t u ≡ true → same_script s u ≡ true
     trans s t u e f = (same_exactly s u).1 (joined s t u ((same_exactly s t).0 e) ((same_exactly t u).0 f))

@@ -2,7 +2,7 @@
 use Rattle.std.proofs.Common.{◌≡◌, ◌++◌, ◌∷◌, [], ℕ, Bool, true, false, List, Option, Some, None, Result, Ok, Err, refl, arith}
 use Rattle.std.specs.Prelude.{if◌then◌else◌, nat_le, not}
 use Rattle.tv_base.specs.declared.numbers.NodeNo.{NodeNo}
-use Rattle.tx_trees.specs.Adding.{adds_advance, adds_fail, are_crowded, is_heavy, judged, last_may_fail, last_subs, with_failed, adds_item, adds_op, adds_op_at, adds_pick, adds_settle, adds_sub, adds_tree, place_of, with_item, with_op, with_row, with_sub, with_tree}
+use Rattle.tx_trees.specs.Adding.{adds_advance, adds_fail, are_crowded, is_heavy, judged, last_may_fail, last_subs, with_failed, adds_item, adds_lose, adds_op, adds_op_at, adds_pick, adds_settle, adds_sub, adds_tree, place_of, with_item, with_op, with_row, with_sub, with_tree}
 use Rattle.tx_trees.specs.Ranges.{is_in_range}
 use Rattle.tx_trees.specs.ScriptData.{ScriptData}
 use Rattle.tx_trees.specs.declared.parts.Deed.{Deed}
@@ -53,6 +53,9 @@ fail_is s t k is =
 -- a row that waits stands last
 pub advance_is : (s t : ScriptData) → adds_advance s ≡ Ok t → with_row s rows.Advance ≡ t
 advance_is s t is = grind arith
+
+pub lose_is : (s t : ScriptData) → adds_lose s ≡ Ok t → with_row s rows.Lose ≡ t
+lose_is s t is = grind arith
 
 pub settle_is : (s t : ScriptData) → adds_settle s ≡ Ok t → with_row s rows.Settle ≡ t
 settle_is s t is = cc is

@@ -1,15 +1,19 @@
 -- What is read is a script of built forms alone.
-use Rattle.std.proofs.Common.{◌≡◌, ◌+◌, ℕ, Bool, true, false, List, [], ◌∷◌, length, Option, Some, None, Result, Ok, Err, refl, subst, arith}
-use Rattle.std.specs.Prelude.{ℤ, if◌then◌else◌, not, ◌&&◌, ◌==◌, IsTrue, nat_lt}
+use Rattle.std.proofs.Common.{◌≡◌, ◌+◌, ℕ, Bool, true, false, List, [], ◌∷◌, length, Option, Some, None, Result, Ok, Err, ◌∙◌, ap, refl, subst, sym, arith}
+use Rattle.std.specs.List.{AllByRecursion}
+use Rattle.std.specs.Prelude.{ℤ, if◌then◌else◌, not, ◌&&◌, ◌||◌, ◌==◌, IsTrue, nat_le, nat_lt}
 use Rattle.commute_ops.specs.declared.kinds.Kind.{Kind}
 use Rattle.tv_base.specs.declared.numbers.NodeNo.{NodeNo}
-use Rattle.tx_trees.proofs.Lists.{all-on_last, all-push}
-use Rattle.tx_trees.specs.Adding.{adds_advance, adds_fail, failed_tree, with_failed, adds_lose, adds_op, adds_pick, adds_sub, adds_tree, fresh, on_last_sub, push_op, push_sub, rooted, with_op, with_row, with_sub, with_tree}
+use Rattle.tx_trees.proofs.Lists.{all-before, all-on_last, all-push, all-seam}
+use Rattle.tx_trees.specs.Adding.{adds_fail, failed_tree, with_failed, with_item, adds_lose, adds_op, adds_pick, adds_sub, adds_tree, fresh, on_last, on_last_sub, push_op, push_sub, rooted, with_op, with_row, with_sub, with_tree}
 use Rattle.tx_trees.specs.ScriptData.{ScriptData}
 use Rattle.tx_trees.specs.declared.parts.Deed.{Deed}
 use Rattle.tx_trees.specs.declared.parts.Deed.TheVariants as deeds
 use Rattle.tx_trees.specs.declared.parts.Form.{Form}
 use Rattle.tx_trees.specs.declared.parts.Form.TheVariants as forms
+use Rattle.tx_trees.specs.Names.{is_name}
+use Rattle.tx_trees.specs.declared.parts.ItemRow.{ItemRow}
+use Rattle.tx_trees.specs.declared.parts.ScriptRow.{ScriptRow}
 use Rattle.tx_trees.specs.declared.parts.ScriptRow.TheVariants as rows
 use Rattle.tx_trees.specs.declared.parts.Tree.{Tree}
 use Rattle.tx_trees.specs.declared.parts.TreeKind.{TreeKind}
@@ -19,52 +23,81 @@ use Rattle.script_reader.specs.Builds.{Builds}
 use Rattle.script_reader.specs.Numbers.{amount_value, decimal_value, is_amount, is_number}
 use Rattle.script_reader.specs.Reading.{after_first, read_of, read_rows, rows_from, second_rows, then_rows}
 use Rattle.script_reader.specs.Records.{records_in}
-use Rattle.script_reader.specs.Rows.{adds_item_of, amount_row, begun, by_word, deed_of, field, first_form, first_row, if_built, item_of, item_row, later_form, later_row, node_no, nodes_row, op_row, pick_row, second_form, second_row, sub_row, tree_row, unless}
+use Rattle.script_reader.specs.Rows.{adds_item_of, amount_row, begun, built_forms, by_word, deed_of, field, first_form, first_row, if_built, item_of, item_row, later_form, later_row, lose_row, node_no, nodes_row, op_row, pick_row, second_form, second_row, sub_row, tree_row, unless}
 use Rattle.script_reader.specs.Words.{first_word, kind_of, later_word, len_fits}
 use Rattle.script_reader.specs.declared.reading.ScriptFault.{ScriptFault}
 use Rattle.script_reader.specs.declared.words.OpWord.{OpWord}
 use Rattle.script_reader.specs.declared.words.RowWord.{RowWord}
 use Rattle.script_reader.specs.declared.words.RowWord.TheVariants as words
-use Rattle.script_reader.proofs.Added.{advance_is, fail_is, item_is, op_taken, pick_is, settle_is, sub_is, tree_is}
+use Rattle.script_reader.proofs.Added.{advance_is, fail_is, item_is, lose_is, op_taken, pick_is, settle_is, sub_is, tree_is}
 use Rattle.tx_trees.specs.Built.{is_built, IsBuiltRow}
 
 -- a tree of a built kind
 abbrev IsBuiltTree : Tree → Type 0
 IsBuiltTree t = IsTrue (is_built t.kind)
 
--- what each call adds
+-- a script, and the same with one record more
 
--- a tree of a built kind keeps it
-tree_builds : (s : ScriptData) (name : List ℕ) (kind : TreeKind) (node : NodeNo) → is_built kind ≡ true → Builds s → Builds (with_tree s name kind node)
-tree_builds s name kind node built b = record {
-  trees = all-push IsBuiltTree s.trees (rooted name kind node) b.trees built;
-  rows = all-push IsBuiltRow s.rows (rows.Tree (record { 0 = length s.trees })) b.rows tt;
+-- both are of built forms, or neither
+record Even (s t : ScriptData) : Type 0 where
+  there : Builds s → Builds t
+  back : Builds t → Builds s
+
+-- what holds of all, where the last has changed, held before
+all-before_last : {A : Type 0} (P : A → Type 0) (f : A → A) → ((x : A) → P (f x) → P x) → (xs : List A) → AllByRecursion P (on_last f xs) → AllByRecursion P xs
+all-before_last P f step [] h = tt
+all-before_last P f step (x ∷ []) h = (step x h.0, tt)
+all-before_last P f step (x ∷ y ∷ ys) h = (h.0, all-before_last P f step (y ∷ ys) h.1)
+
+-- the last tree has changed, and keeps its kind
+last_even : (f : Tree → Tree) → ((t : Tree) → (f t).kind ≡ t.kind) → (s t : ScriptData) → t.trees ≡ on_last f s.trees → t.rows ≡ s.rows → Even s t
+last_even f keeps s t now_trees now_rows = record {
+  there = λ b. record {
+    trees = subst (AllByRecursion IsBuiltTree) (sym now_trees) (all-on_last IsBuiltTree f s.trees b.trees (λ x last h. ap is_built (keeps x) ∙ h));
+    rows = subst (AllByRecursion IsBuiltRow) (sym now_rows) b.rows;
+  };
+  back = λ b. record {
+    trees = all-before_last IsBuiltTree f (λ x h. sym (ap is_built (keeps x)) ∙ h) s.trees (subst (AllByRecursion IsBuiltTree) now_trees b.trees);
+    rows = subst (AllByRecursion IsBuiltRow) now_rows b.rows;
+  };
 }
 
--- a subtransaction keeps it
-sub_builds : (s : ScriptData) (parent : ℕ) (node : NodeNo) → Builds s → Builds (with_sub s parent node)
-sub_builds s parent node b = record {
-  trees = all-on_last IsBuiltTree (push_sub (record { parent = record { 0 = parent }; node = node; ops = [] })) s.trees b.trees (λ t last h. h);
-  rows = b.rows;
+-- a row of a built form more
+row_even : (s : ScriptData) (row : ScriptRow) → IsBuiltRow row → Even s (with_row s row)
+row_even s row built = record {
+  there = λ b. record { trees = b.trees; rows = all-push IsBuiltRow s.rows row b.rows built };
+  back = λ b. record { trees = b.trees; rows = all-before IsBuiltRow s.rows (row ∷ []) b.rows };
 }
 
--- an operation keeps it
-op_builds : (s : ScriptData) (k : ℕ) (deed : Deed) → Builds s → Builds (with_op s k deed)
-op_builds s k deed b = record {
-  trees = all-on_last IsBuiltTree (on_last_sub (push_op (record { item = record { 0 = k }; deed = deed }))) s.trees b.trees (λ t last h. h);
-  rows = b.rows;
+-- neither trees nor rows have changed
+same_even : (s t : ScriptData) → t.trees ≡ s.trees → t.rows ≡ s.rows → Even s t
+same_even s t now_trees now_rows = record {
+  there = λ b. record { trees = subst (AllByRecursion IsBuiltTree) (sym now_trees) b.trees; rows = subst (AllByRecursion IsBuiltRow) (sym now_rows) b.rows };
+  back = λ b. record { trees = subst (AllByRecursion IsBuiltTree) now_trees b.trees; rows = subst (AllByRecursion IsBuiltRow) now_rows b.rows };
 }
 
--- a tree that fails keeps it
-fail_builds : (s : ScriptData) (k : ℕ) → Builds s → Builds (with_failed s k)
-fail_builds s k b = record { trees = all-on_last IsBuiltTree (failed_tree k) s.trees b.trees (λ t last h. h); rows = b.rows }
+-- a subtransaction more
+sub_even : (s : ScriptData) (parent : ℕ) (node : NodeNo) → Even s (with_sub s parent node)
+sub_even s parent node = last_even (push_sub (record { parent = record { 0 = parent }; node = node; ops = [] })) (λ t. refl) s (with_sub s parent node) refl refl
 
--- a row that asks for an advancement keeps it, and so does one that waits
-advance_builds : (s : ScriptData) → Builds s → Builds (with_row s rows.Advance)
-advance_builds s b = record { trees = b.trees; rows = all-push IsBuiltRow s.rows rows.Advance b.rows tt }
+-- an operation more
+op_even : (s : ScriptData) (k : ℕ) (deed : Deed) → Even s (with_op s k deed)
+op_even s k deed = last_even (on_last_sub (push_op (record { item = record { 0 = k }; deed = deed }))) (λ t. refl) s (with_op s k deed) refl refl
 
-settle_builds : (s : ScriptData) → Builds s → Builds (with_row s rows.Settle)
-settle_builds s b = record { trees = b.trees; rows = all-push IsBuiltRow s.rows rows.Settle b.rows tt }
+-- a tree that fails
+fail_even : (s : ScriptData) (k : ℕ) → Even s (with_failed s k)
+fail_even s k = last_even (failed_tree k) (λ t. refl) s (with_failed s k) refl refl
+
+-- a record was taken: by the built forms alone a script stays of built forms; and one that is so by every form was so
+-- before, and the record is taken by the built forms alone
+pub record Taken (every : Bool) (s t : ScriptData) (built : Result ScriptData Why) : Type 0 where
+  pub there : every ≡ false → Builds s → Builds t
+  pub back : Builds t → Builds s
+  pub same : Builds t → built ≡ Ok t
+
+-- a record of a form that is always read
+taken_even : (every : Bool) (s t : ScriptData) (made : Result ScriptData Why) → made ≡ Ok t → Even s t → Taken every s t made
+taken_even every s t made is even = record { there = λ _. even.there; back = even.back; same = λ _. is }
 
 -- each row
 
@@ -72,6 +105,13 @@ settle_builds s b = record { trees = b.trees; rows = all-push IsBuiltRow s.rows 
 unless_one : {A : Type 0} (b : Bool) (w : Why) (r : Result A Why) (t : A) → unless ((b, w) ∷ []) r ≡ Ok t → r ≡ Ok t
 unless_one true w r t is = absurd (cc is)
 unless_one false w r t is = is
+
+-- what is taken passes its three conditions
+passes_three : {A : Type 0} (a b c : Bool) (w x y : Why) (r : Result A Why) (t : A) → unless ((a, w) ∷ (b, x) ∷ (c, y) ∷ []) r ≡ Ok t → r ≡ Ok t
+passes_three true b c w x y r t is = absurd (cc is)
+passes_three false true c w x y r t is = absurd (cc is)
+passes_three false false true w x y r t is = absurd (cc is)
+passes_three false false false w x y r t is = is
 
 -- an item row that is taken has numbers
 item_some : (s t : ScriptData) (name node kind initial : List ℕ) → item_row s name node kind initial ≡ Ok t → item_of s name (decimal_value node) (kind_of kind) (amount_value initial) ≡ Ok t
@@ -82,10 +122,12 @@ item_some s t name node kind initial is =
 item_of_some : (s t : ScriptData) (name : List ℕ) (node : ℕ) (kind : Option Kind) (initial : ℤ) → item_of s name node kind initial ≡ Ok t → adds_item_of s name node kind initial ≡ Ok t
 item_of_some s t name node kind initial is = grind arith
 
--- an item row keeps it
-item_row_builds : (s t : ScriptData) (name : List ℕ) (node : ℕ) (kind : Option Kind) (initial : ℤ) → Builds s → adds_item_of s name node kind initial ≡ Ok t → Builds t
-item_row_builds s t name node None initial b is = absurd (cc is)
-item_row_builds s t name node (Some kind) initial b is = subst Builds (item_is s t (record { name = name; node = node_no node; kind = kind; initial = initial }) is) (record { trees = b.trees; rows = b.rows })
+-- an item row
+item_row_even : (s t : ScriptData) (name : List ℕ) (node : ℕ) (kind : Option Kind) (initial : ℤ) → adds_item_of s name node kind initial ≡ Ok t → Even s t
+item_row_even s t name node None initial is = absurd (cc is)
+item_row_even s t name node (Some kind) initial is =
+    let r : ItemRow = record { name = name; node = node_no node; kind = kind; initial = initial } in
+    subst (Even s) (item_is s t r is) (same_even s (with_item s r) refl refl)
 
 -- a form that is taken is built
 if_built_is : (built : Bool) (r : Result ScriptData Why) (t : ScriptData) → if_built built r ≡ Ok t → (built ≡ true) × (r ≡ Ok t)
@@ -94,14 +136,43 @@ if_built_is false (Ok s) t is = absurd (cc is)
 if_built_is built (Err w) t is = absurd (cc is)
 
 -- a tree row that is taken passes its conditions
-tree_some : (s t : ScriptData) (kind : TreeKind) (name node : List ℕ) → tree_row s kind name node ≡ Ok t → if_built (is_built kind) (adds_tree s name kind (node_no (decimal_value node))) ≡ Ok t
-tree_some s t kind name node is = grind arith
+tree_some : (every : Bool) (s t : ScriptData) (kind : TreeKind) (name node : List ℕ) → tree_row every s kind name node ≡ Ok t → if_built (every || is_built kind) (adds_tree s name kind (node_no (decimal_value node))) ≡ Ok t
+tree_some every s t kind name node is = passes_three (not (is_number node)) (nat_le s.nodes (decimal_value node)) (not (is_name name)) _ _ _ _ t is
 
--- a tree row keeps it
-tree_row_builds : (s t : ScriptData) (kind : TreeKind) (name node : List ℕ) → Builds s → tree_row s kind name node ≡ Ok t → Builds t
-tree_row_builds s t kind name node b is =
-    let made = if_built_is (is_built kind) (adds_tree s name kind (node_no (decimal_value node))) t (tree_some s t kind name node is) in
-    subst Builds (tree_is s t name kind (node_no (decimal_value node)) made.1) (tree_builds s name kind (node_no (decimal_value node)) made.0 b)
+-- of two tests that one holds, the second does where the first doesn't
+second_holds : (a b : Bool) → (a || b) ≡ true → a ≡ false → b ≡ true
+second_holds true b either fails = absurd (cc fails)
+second_holds false b either fails = either
+
+-- a script with one tree more was of built forms
+tree_back : (s : ScriptData) (name : List ℕ) (kind : TreeKind) (node : NodeNo) → Builds (with_tree s name kind node) → Builds s
+tree_back s name kind node b = record {
+  trees = all-before IsBuiltTree s.trees (rooted name kind node ∷ []) b.trees;
+  rows = all-before IsBuiltRow s.rows (rows.Tree (record { 0 = length s.trees }) ∷ []) b.rows;
+}
+
+-- a tree row by another test that comes out the same
+tree_same : (s : ScriptData) (kind : TreeKind) (name node : List ℕ) (b : Bool) → is_built kind ≡ b
+    → tree_row built_forms s kind name node ≡ unless ((not (is_number node), why.BadNumber) ∷ (nat_le s.nodes (decimal_value node), why.OutOfRange) ∷ (not (is_name name), why.BadName) ∷ []) (if_built b (adds_tree s name kind (node_no (decimal_value node))))
+tree_same s kind name node b e =
+    ap (λ (x : Bool). unless ((not (is_number node), why.BadNumber) ∷ (nat_le s.nodes (decimal_value node), why.OutOfRange) ∷ (not (is_name name), why.BadName) ∷ []) (if_built x (adds_tree s name kind (node_no (decimal_value node))))) e
+
+-- a tree row
+tree_taken : (every : Bool) (s t : ScriptData) (kind : TreeKind) (name node : List ℕ) → tree_row every s kind name node ≡ Ok t → Taken every s t (tree_row built_forms s kind name node)
+tree_taken every s t kind name node is =
+    let at = node_no (decimal_value node) in
+    let made = if_built_is (every || is_built kind) (adds_tree s name kind at) t (tree_some every s t kind name node is) in
+    let added : with_tree s name kind at ≡ t = tree_is s t name kind at made.1 in
+    let row = rows.Tree (record { 0 = length s.trees }) in
+    let same : Builds (with_tree s name kind at) → is_built kind ≡ true = λ b. all-seam IsBuiltTree s.trees [] (rooted name kind at) b.trees in
+    record {
+      there = λ alone b. subst Builds added (record {
+        trees = all-push IsBuiltTree s.trees (rooted name kind at) b.trees (second_holds every (is_built kind) made.0 alone);
+        rows = all-push IsBuiltRow s.rows row b.rows tt;
+      });
+      back = λ b. tree_back s name kind at (subst Builds (sym added) b);
+      same = λ b. tree_same s kind name node (every || is_built kind) (same (subst Builds (sym added) b) ∙ sym made.0) ∙ is;
+    }
 
 -- a `sub` row that is taken passes its conditions
 sub_some : (s t : ScriptData) (parent node : List ℕ) → sub_row s parent node ≡ Ok t → adds_sub s (decimal_value parent) (node_no (decimal_value node)) ≡ Ok t
@@ -111,9 +182,9 @@ sub_some s t parent node is = grind arith
 op_some : (s t : ScriptData) (item : List ℕ) (deed : Deed) → op_row s item deed ≡ Ok t → adds_op s item deed ≡ Ok t
 op_some s t item deed is = grind arith
 
--- an operation row keeps it
-op_row_builds : (s t : ScriptData) (item : List ℕ) (deed : Deed) → Builds s → op_row s item deed ≡ Ok t → Builds t
-op_row_builds s t item deed b is = let taken = op_taken s t item deed (op_some s t item deed is) in subst Builds taken.is (op_builds s taken.item deed b)
+-- an operation row
+op_row_even : (s t : ScriptData) (item : List ℕ) (deed : Deed) → op_row s item deed ≡ Ok t → Even s t
+op_row_even s t item deed is = let taken = op_taken s t item deed (op_some s t item deed is) in subst (Even s) taken.is (op_even s taken.item deed)
 
 -- an operation row that is taken has an amount
 amount_some : (s t : ScriptData) (word : OpWord) (item amount : List ℕ) → amount_row s word item amount ≡ Ok t → op_row s item (deed_of word (amount_value amount)) ≡ Ok t
@@ -123,36 +194,64 @@ amount_some s t word item amount is = grind arith
 pick_some : (s t : ScriptData) (place : List ℕ) → pick_row s place ≡ Ok t → adds_pick s (decimal_value place) ≡ Ok t
 pick_some s t place is = grind arith
 
--- a pick keeps it
-pick_builds : (s t : ScriptData) (k : ℕ) → Builds s → adds_pick s k ≡ Ok t → Builds t
-pick_builds s t k b is = subst Builds (pick_is s t k is) (record { trees = b.trees; rows = b.rows })
+-- a pick
+pick_even : (s t : ScriptData) (k : ℕ) → adds_pick s k ≡ Ok t → Even s t
+pick_even s t k is = subst (Even s) (pick_is s t k is) (same_even s _ refl refl)
 
--- a form that is not built is never taken
-never : (r : Result ScriptData Why) (t : ScriptData) → if_built false r ≡ Ok t → ⊥
-never (Ok s) t is = cc is
-never (Err w) t is = cc is
+-- a row that makes the coordinator forget
+lose_taken : (every : Bool) (s t : ScriptData) → lose_row every s ≡ Ok t → Taken every s t (lose_row built_forms s)
+lose_taken every s t is =
+    let made = if_built_is every (adds_lose s) t is in
+    let added : with_row s rows.Lose ≡ t = lose_is s t made.1 in
+    record {
+      there = λ alone b. absurd (cc (made.0, alone));
+      back = λ b. let c = subst Builds (sym added) b in record { trees = c.trees; rows = all-before IsBuiltRow s.rows (rows.Lose ∷ []) c.rows };
+      same = λ b. let c = subst Builds (sym added) b in absurd (all-seam IsBuiltRow s.rows [] rows.Lose c.rows);
+    }
 
--- each later row keeps it
-form_builds : (s t : ScriptData) (fields : List (List ℕ)) (w : RowWord) → Builds s → later_form s fields w ≡ Ok t → Builds t
-form_builds s t fields words.Form b is = absurd (cc is)
-form_builds s t fields words.Nodes b is = absurd (cc is)
-form_builds s t fields words.Item b is =
-    item_row_builds s t (field fields 1) (decimal_value (field fields 2)) (kind_of (field fields 3)) (amount_value (field fields 4)) b
-    (item_of_some s t (field fields 1) (decimal_value (field fields 2)) (kind_of (field fields 3)) (amount_value (field fields 4)) (item_some s t (field fields 1) (field fields 2) (field fields 3) (field fields 4) is))
-form_builds s t fields (words.Tree kind) b is = tree_row_builds s t kind (field fields 1) (field fields 2) b is
-form_builds s t fields words.Sub b is =
-    subst Builds (sub_is s t (decimal_value (field fields 1)) (node_no (decimal_value (field fields 2))) (sub_some s t (field fields 1) (field fields 2) is))
-    (sub_builds s (decimal_value (field fields 1)) (node_no (decimal_value (field fields 2))) b)
-form_builds s t fields (words.Op word) b is =
-    op_row_builds s t (field fields 1) (deed_of word (amount_value (field fields 2))) b (amount_some s t word (field fields 1) (field fields 2) is)
-form_builds s t fields words.Get b is = op_row_builds s t (field fields 1) deeds.Get b is
-form_builds s t fields words.Advance b is = subst Builds (advance_is s t is) (advance_builds s b)
-form_builds s t fields words.Settle b is = subst Builds (settle_is s t is) (settle_builds s b)
-form_builds s t fields words.Pick b is = pick_builds s t (decimal_value (field fields 1)) b (pick_some s t (field fields 1) is)
-form_builds s t fields words.Lose b is = absurd (never (adds_lose s) t is)
-form_builds s t fields words.Fail b is =
+-- each later row, by its word
+form_taken : (every : Bool) (s t : ScriptData) (fields : List (List ℕ)) (w : RowWord) → later_form every s fields w ≡ Ok t → Taken every s t (later_form built_forms s fields w)
+form_taken every s t fields words.Form is = absurd (cc is)
+form_taken every s t fields words.Nodes is = absurd (cc is)
+form_taken every s t fields words.Item is =
+    taken_even every s t _ is (item_row_even s t (field fields 1) (decimal_value (field fields 2)) (kind_of (field fields 3)) (amount_value (field fields 4))
+    (item_of_some s t (field fields 1) (decimal_value (field fields 2)) (kind_of (field fields 3)) (amount_value (field fields 4)) (item_some s t (field fields 1) (field fields 2) (field fields 3) (field fields 4) is)))
+form_taken every s t fields (words.Tree kind) is = tree_taken every s t kind (field fields 1) (field fields 2) is
+form_taken every s t fields words.Sub is =
+    let parent = decimal_value (field fields 1) in
+    let node = node_no (decimal_value (field fields 2)) in
+    taken_even every s t _ is (subst (Even s) (sub_is s t parent node (sub_some s t (field fields 1) (field fields 2) is)) (sub_even s parent node))
+form_taken every s t fields (words.Op word) is =
+    taken_even every s t _ is (op_row_even s t (field fields 1) (deed_of word (amount_value (field fields 2))) (amount_some s t word (field fields 1) (field fields 2) is))
+form_taken every s t fields words.Get is = taken_even every s t _ is (op_row_even s t (field fields 1) deeds.Get is)
+form_taken every s t fields words.Advance is = taken_even every s t _ is (subst (Even s) (advance_is s t is) (row_even s rows.Advance tt))
+form_taken every s t fields words.Settle is = taken_even every s t _ is (subst (Even s) (settle_is s t is) (row_even s rows.Settle tt))
+form_taken every s t fields words.Pick is = taken_even every s t _ is (pick_even s t (decimal_value (field fields 1)) (pick_some s t (field fields 1) is))
+form_taken every s t fields words.Lose is = lose_taken every s t is
+form_taken every s t fields words.Fail is =
     let k = decimal_value (field fields 1) in
-    subst Builds (fail_is s t k (unless_one (not (is_number (field fields 1))) why.BadNumber (adds_fail s k) t is)) (fail_builds s k b)
+    taken_even every s t _ is (subst (Even s) (fail_is s t k (unless_one (not (is_number (field fields 1))) why.BadNumber (adds_fail s k) t is)) (fail_even s k))
+
+-- a condition that what is taken passes is passed again
+unless_again : {A : Type 0} (b : Bool) (w : Why) (x y : Result A Why) (t : A) → unless ((b, w) ∷ []) x ≡ Ok t → y ≡ Ok t → unless ((b, w) ∷ []) y ≡ Ok t
+unless_again true w x y t is e = absurd (cc is)
+unless_again false w x y t is e = e
+
+-- the same of a word that may not be there
+word_taken : (every : Bool) (s t : ScriptData) (fields : List (List ℕ)) (w : Option RowWord) → by_word fields w (later_form every s fields) ≡ Ok t → Taken every s t (by_word fields w (later_form built_forms s fields))
+word_taken every s t fields None is = absurd (cc is)
+word_taken every s t fields (Some v) is =
+    let wrong = not (len_fits v (length fields)) in
+    let form = form_taken every s t fields v (unless_one wrong why.WrongFields (later_form every s fields v) t is) in
+    record {
+      there = form.there;
+      back = form.back;
+      same = λ b. unless_again wrong why.WrongFields (later_form every s fields v) (later_form built_forms s fields v) t is (form.same b);
+    }
+
+-- each later row
+pub row_taken : (every : Bool) (s t : ScriptData) (fields : List (List ℕ)) → later_row every s fields ≡ Ok t → Taken every s t (later_row built_forms s fields)
+row_taken every s t fields is = word_taken every s t fields (later_word s.form (field fields 0)) is
 
 -- the `nodes` row makes an empty script
 nodes_is : (f : Form) (t : ScriptData) (nodes : List ℕ) → nodes_row f nodes ≡ Ok t → fresh f (decimal_value nodes) ≡ t
@@ -197,38 +296,38 @@ then_builds t row (Ok s) more h k is = k s (h s refl) is
 then_builds t row (Err w) more h k is = absurd (cc is)
 
 -- all later rows keep it
-from_builds : (s t : ScriptData) (row : ℕ) (rs : List (List (List ℕ))) → Builds s → rows_from s row rs ≡ Ok t → Builds t
+from_builds : (s t : ScriptData) (row : ℕ) (rs : List (List (List ℕ))) → Builds s → rows_from built_forms s row rs ≡ Ok t → Builds t
 unfolding rows_from
 from_builds s t row [] b is = let same : s ≡ t = cc is in subst Builds same b
 from_builds s t row (x ∷ xs) b is =
-    then_builds t row (later_row s x) (λ u. rows_from u (row + 1) xs) (λ u at. by_word_builds (Builds u) u x (later_word s.form (field x 0)) (later_form s x) (λ w. form_builds s u x w b) at)
+    then_builds t row (later_row built_forms s x) (λ u. rows_from built_forms u (row + 1) xs) (λ u at. (row_taken built_forms s u x at).there refl b)
     (λ u h at. from_builds u t (row + 1) xs h at) is
 
 -- all rows behind one that names the second form
-second_builds : (t : ScriptData) (rs : List (List (List ℕ))) → second_rows rs ≡ Ok t → Builds t
+second_builds : (t : ScriptData) (rs : List (List (List ℕ))) → second_rows built_forms rs ≡ Ok t → Builds t
 second_builds t [] is = absurd (cc is)
 second_builds t (x ∷ xs) is =
-    then_builds t 2 (second_row x) (λ u. rows_from u 3 xs)
+    then_builds t 2 (second_row x) (λ u. rows_from built_forms u 3 xs)
     (λ u at. by_word_builds (Builds u) u x (later_word forms.Two (field x 0)) (second_form x) (second_form_builds u x) at)
     (λ u h at. from_builds u t 3 xs h at) is
 
 -- all rows behind the first
-after_builds : (t : ScriptData) (first : Result (Option ScriptData) Why) (rs : List (List (List ℕ))) → ((s : ScriptData) → first ≡ Ok (Some s) → Builds s) → after_first first rs ≡ Ok t → Builds t
+after_builds : (t : ScriptData) (first : Result (Option ScriptData) Why) (rs : List (List (List ℕ))) → ((s : ScriptData) → first ≡ Ok (Some s) → Builds s) → after_first built_forms first rs ≡ Ok t → Builds t
 after_builds t (Err w) rs h is = absurd (cc is)
 after_builds t (Ok None) rs h is = second_builds t rs is
 after_builds t (Ok (Some s)) rs h is = from_builds s t 2 rs (h s refl) is
 
 -- all rows
-read_builds : (t : ScriptData) (rs : List (List (List ℕ))) → read_rows rs ≡ Ok t → Builds t
+read_builds : (t : ScriptData) (rs : List (List (List ℕ))) → read_rows built_forms rs ≡ Ok t → Builds t
 read_builds t [] is = absurd (cc is)
 read_builds t (x ∷ xs) is =
     after_builds t (first_row x) xs (λ u at. by_word_builds (Builds u) (Some u) x (first_word (field x 0)) (first_form x) (first_form_builds u x) at) is
 
 -- a text that is taken is not too long
-bytes_is : (t : ScriptData) (b : Bool) (e : ScriptFault) (r : Result ScriptData ScriptFault) → (if b then Err e else r) ≡ Ok t → r ≡ Ok t
+pub bytes_is : (t : ScriptData) (b : Bool) (e : ScriptFault) (r : Result ScriptData ScriptFault) → (if b then Err e else r) ≡ Ok t → r ≡ Ok t
 bytes_is t true e r is = absurd (cc is)
 bytes_is t false e r is = is
 
 -- what bytes are read as is of built forms alone
 pub reads_built : (bytes : List ℕ) (s : ScriptData) → read_of bytes ≡ Ok s → Builds s
-reads_built bytes s is = read_builds s (records_in bytes) (bytes_is s (nat_lt 8388608 (length bytes)) _ (read_rows (records_in bytes)) is)
+reads_built bytes s is = read_builds s (records_in bytes) (bytes_is s (nat_lt 8388608 (length bytes)) _ (read_rows built_forms (records_in bytes)) is)

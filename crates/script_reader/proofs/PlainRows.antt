@@ -16,7 +16,7 @@ use Rattle.tx_trees.specs.Names.{has_name_len, is_name, is_name_byte}
 use Rattle.tx_trees.specs.Ranges.{draws_negative, is_in_range}
 use Rattle.tx_trees.specs.Rebuilt.{name_at, written_subs}
 use Rattle.tx_trees.specs.ScriptData.{ScriptData}
-use Rattle.tx_trees.specs.Valid.{AreSubs, IsItem, IsOp, IsTree, IsValid, OpAt}
+use Rattle.tx_trees.specs.Valid.{AreSubs, IsItem, IsOp, IsValid, OpAt}
 use Rattle.tx_trees.specs.declared.parts.Deed.{Deed}
 use Rattle.tx_trees.specs.declared.parts.Deed.TheVariants as deeds
 use Rattle.tx_trees.specs.declared.parts.Form.{Form}

@@ -8,12 +8,13 @@ use Rattle.csv.specs.Reading.{default_config, records_from, strip_bom}
 use Rattle.csv.specs.declared.parser.State.TheVariants as st
 use Rattle.tx_trees.proofs.Rebuilding.{is_rebuilt}
 use Rattle.tx_trees.proofs.SubsOf.{few_nodes}
-use Rattle.tx_trees.specs.Adding.{adds_advance, adds_item, adds_op, adds_pick, adds_settle, adds_sub, adds_tree, fresh}
+use Rattle.tx_trees.specs.Adding.{adds_advance, adds_item, adds_lose, adds_op, adds_pick, adds_settle, adds_sub, adds_tree, fresh}
+use Rattle.tx_trees.specs.Counts.{loses_in}
 use Rattle.tx_trees.specs.Forms.{most_nodes}
 use Rattle.tx_trees.specs.Ranges.{is_in_range}
-use Rattle.tx_trees.specs.Rebuilt.{fail_added, written_subs, items_added, name_at, ops_added, picks_added, rebuilt, rooted_added, rows_added, subs_added, then_more, tree_added}
+use Rattle.tx_trees.specs.Rebuilt.{fail_added, written_subs, items_added, name_at, SameScript, ops_added, picks_added, rebuilt, rooted_added, rows_added, subs_added, then_more, tree_added}
 use Rattle.tx_trees.specs.ScriptData.{ScriptData}
-use Rattle.tx_trees.specs.Valid.{AreSubs, IsItem, IsOp, IsTree, IsValid}
+use Rattle.tx_trees.specs.Valid.{AreSubs, IsItem, IsOp, IsValid}
 use Rattle.tx_trees.specs.declared.parts.Form.{Form}
 use Rattle.tx_trees.specs.declared.parts.Form.TheVariants as forms
 use Rattle.tx_trees.specs.declared.parts.ItemRow.{ItemRow}
@@ -29,35 +30,36 @@ use Rattle.tx_trees.specs.declared.why.Why.{Why}
 use Rattle.script_reader.specs.Builds.{Builds}
 use Rattle.script_reader.specs.Numbers.{AreSmall}
 use Rattle.script_reader.specs.ReadBack.{IsReadAs}
-use Rattle.script_reader.specs.Reading.{after_first, read_of, read_rows, rows_from, then_rows}
+use Rattle.script_reader.specs.Reading.{after_first, read_every, read_of, read_rows, rows_from, then_rows}
 use Rattle.script_reader.specs.Records.{records_in}
-use Rattle.script_reader.specs.Rows.{later_row}
+use Rattle.script_reader.specs.Rows.{every_form, later_row}
 use Rattle.script_reader.specs.Written.{fail_fields, fail_rows, form_rows, lines, item_fields, nodes_fields, op_fields, ops_rows, pick_fields, rows_of, rows_of_rows, rows_of_tree, sub_fields, subs_rows, tree_fields, tree_rows, written}
-use Rattle.script_reader.proofs.Added.{advance_is, fail_is, item_is, op_in_range, op_taken, settle_is, sub_is, tree_is}
+use Rattle.script_reader.proofs.Added.{advance_is, fail_is, item_is, lose_is, op_in_range, op_taken, settle_is, sub_is, tree_is}
 use Rattle.script_reader.proofs.Lines.{few_lines, lines_read}
 use Rattle.script_reader.proofs.PlainRows.{all_plain, op_named, small_deed}
-use Rattle.script_reader.proofs.RowsBack.{deed_back, fail_back, item_back, nodes_back, pick_back, second_nodes_back, sub_back, tree_back}
+use Rattle.script_reader.proofs.RowsBack.{deed_back, fail_back, item_back, lose_back, nodes_back, pick_back, second_nodes_back, sub_back, tree_back}
+use Rattle.script_reader.proofs.Alike.{both_read}
 use Rattle.script_reader.proofs.Script.{ends, goes_on}
 use Rattle.tx_trees.specs.Built.{is_built, IsBuiltRow}
 
 -- these rows, read from script u on, give v, whatever row comes next
 abbrev Reads : ScriptData → List (List (List ℕ)) → ScriptData → Type 0
-Reads u rs v = (at : ℕ) (more : List (List (List ℕ))) → (k : ℕ) × (rows_from u at (rs ++ more) ≡ rows_from v k more)
+Reads u rs v = (at : ℕ) (more : List (List (List ℕ))) → (k : ℕ) × (rows_from every_form u at (rs ++ more) ≡ rows_from every_form v k more)
 
 -- no rows
 reads_none : (u v : ScriptData) → u ≡ v → Reads u [] v
-reads_none u v h at more = (at, ap (λ (w : ScriptData). rows_from w at more) h)
+reads_none u v h at more = (at, ap (λ (w : ScriptData). rows_from every_form w at more) h)
 
 -- one row before others
-reads_one : (u v w : ScriptData) (r : List (List ℕ)) (rs : List (List (List ℕ))) → later_row u r ≡ Ok v → Reads v rs w → Reads u (r ∷ rs) w
-reads_one u v w r rs one rest at more = let next = rest (at + 1) more in (next.0, goes_on u v at (r ∷ (rs ++ more)) r (rs ++ more) refl one ∙ next.1)
+reads_one : (u v w : ScriptData) (r : List (List ℕ)) (rs : List (List (List ℕ))) → later_row every_form u r ≡ Ok v → Reads v rs w → Reads u (r ∷ rs) w
+reads_one u v w r rs one rest at more = let next = rest (at + 1) more in (next.0, goes_on every_form u v at (r ∷ (rs ++ more)) r (rs ++ more) refl one ∙ next.1)
 
 -- rows before others
 reads_both : (u v w : ScriptData) (xs ys : List (List (List ℕ))) → Reads u xs v → Reads v ys w → Reads u (xs ++ ys) w
 reads_both u v w xs ys first second at more =
     let a = first at (ys ++ more) in
     let b = second a.0 more in
-    (b.0, ap (rows_from u at) (append_assoc xs ys more) ∙ a.1 ∙ b.1)
+    (b.0, ap (rows_from every_form u at) (append_assoc xs ys more) ∙ a.1 ∙ b.1)
 
 -- a row that was taken, and then the others
 record Goes (x : Result ScriptData Why) (more : ScriptData → Result ScriptData Why) (v : ScriptData) : Type 0 where
@@ -126,14 +128,14 @@ subs_back n items kind k (x ∷ xs) u v few some room all subs same h =
     }
 
 -- a tree with its root and the others
-rooted_back : (n : ℕ) (items : List ItemRow) (t : Tree) (xs : List Sub) (u v : ScriptData) → n ≤ 64 → length xs ≤ 64 → AllByRecursion (IsItem n) items → AreSubs n items t.kind 0 xs → IsTrue (is_built t.kind) → u.items ≡ items
+rooted_back : (n : ℕ) (items : List ItemRow) (t : Tree) (xs : List Sub) (u v : ScriptData) → n ≤ 64 → length xs ≤ 64 → AllByRecursion (IsItem n) items → AreSubs n items t.kind 0 xs → u.items ≡ items
     → rooted_added u t.name t.kind xs ≡ Ok v → Gives items u (tree_rows items t.kind t.name xs) v
-rooted_back n items t [] u v few room all subs built same h = absurd (cc h)
-rooted_back n items t (x ∷ xs) u v few room all subs built same h =
+rooted_back n items t [] u v few room all subs same h = absurd (cc h)
+rooted_back n items t (x ∷ xs) u v few room all subs same h =
     let g = goes (adds_tree u t.name t.kind x.node) (λ w. then_more (ops_added w x.ops) (λ z. subs_added z xs)) v h in
     let f = goes (ops_added g.first x.ops) (λ w. subs_added w xs) v g.rest in
     let stays : g.first.items ≡ items = sym (ap (λ (w : ScriptData). w.items) (tree_is u g.first t.name t.kind x.node g.is)) ∙ same in
-    let row = tree_back u t.kind t.name x.node (omega (arith, subs.0.node, few)) built in
+    let row = tree_back u t.kind t.name x.node (omega (arith, subs.0.node, few)) in
     let ops = ops_back n items t.kind x.node.0 x.ops g.first f.first (record { all = all; ops = subs.0.ops; amounts = subs.0.amounts }) stays f.is in
     let rest = subs_back n items t.kind 1 xs f.first v few (omega arith) (omega (arith, room)) all subs.1 ops.items_stay f.rest in
     record {
@@ -159,39 +161,54 @@ fail_rows_back f items (Some w) u v fails at same h =
     }
 
 -- a tree by its number
-tree_at_back : (f : Form) (n : ℕ) (items : List ItemRow) (ts : List Tree) (i : ℕ) (u v : ScriptData) → n ≤ 64 → AllByRecursion (IsItem n) items → AllByRecursion (WrittenTree f n items) ts → AllByRecursion (λ (t : Tree). IsTrue (is_built t.kind)) ts
+tree_at_back : (f : Form) (n : ℕ) (items : List ItemRow) (ts : List Tree) (i : ℕ) (u v : ScriptData) → n ≤ 64 → AllByRecursion (IsItem n) items → AllByRecursion (WrittenTree f n items) ts
     → u.form ≡ f → u.items ≡ items → tree_added u (slice_get ts i) ≡ Ok v → Gives items u (rows_of_tree items (slice_get ts i)) v
-tree_at_back f n items [] i u v few all trees built at same h = absurd (cc h)
-tree_at_back f n items (t ∷ ts) zero u v few all trees built at same h =
+tree_at_back f n items [] i u v few all trees at same h = absurd (cc h)
+tree_at_back f n items (t ∷ ts) zero u v few all trees at same h =
     let g = goes (rooted_added u t.name t.kind (written_subs t)) (λ w. fail_added w t.written) v h in
-    let tree = rooted_back n items t (written_subs t) u g.first few trees.0.few all trees.0.subs built.0 same g.is in
+    let tree = rooted_back n items t (written_subs t) u g.first few trees.0.few all trees.0.subs same g.is in
     let row = fail_rows_back f items t.written g.first v trees.0.fails (tree.form_stays ∙ at) tree.items_stay g.rest in
     record {
       reads = reads_both u g.first v (tree_rows items t.kind t.name (written_subs t)) (fail_rows t.written) tree.reads row.reads;
       items_stay = row.items_stay;
       form_stays = row.form_stays ∙ tree.form_stays;
     }
-tree_at_back f n items (t ∷ ts) (suc i) u v few all trees built at same h = tree_at_back f n items ts i u v few all trees.1 built.1 at same h
+tree_at_back f n items (t ∷ ts) (suc i) u v few all trees at same h = tree_at_back f n items ts i u v few all trees.1 at same h
 
--- all rows with their trees
+-- what the first form has none of, but is there, is of the second
+second_if : (f : Form) (k : ℕ) → (f ≡ forms.One → 1 + k ≡ 0) → f ≡ forms.Two
+second_if forms.Two k h = refl
+second_if forms.One k h = absurd (omega (arith, h refl))
+
+not_first : (f : Form) (k : ℕ) → f ≡ forms.Two → f ≡ forms.One → k ≡ 0
+not_first f k second first = absurd (cc (sym first ∙ second))
+
+-- all rows with their trees, of which those of the second form alone make the coordinator forget
 rows_back : (f : Form) (n : ℕ) (items : List ItemRow) (ts : List Tree) (rs : List ScriptRow) (u v : ScriptData) → n ≤ 64 → AllByRecursion (IsItem n) items → AllByRecursion (WrittenTree f n items) ts
-    → AllByRecursion (λ (t : Tree). IsTrue (is_built t.kind)) ts → AllByRecursion IsBuiltRow rs → u.form ≡ f → u.items ≡ items → rows_added ts u rs ≡ Ok v → Reads u (rows_of_rows items ts rs) v
-rows_back f n items ts [] u v few all trees built rows at same h = reads_none u v (cc h)
-rows_back f n items ts (rows.Tree i ∷ rs) u v few all trees built row at same h =
+    → (f ≡ forms.One → loses_in rs ≡ 0) → u.form ≡ f → u.items ≡ items → rows_added ts u rs ≡ Ok v → Reads u (rows_of_rows items ts rs) v
+rows_back f n items ts [] u v few all trees loses at same h = reads_none u v (cc h)
+rows_back f n items ts (rows.Tree i ∷ rs) u v few all trees loses at same h =
     let g = goes (tree_added u (slice_get ts i.0)) (λ w. rows_added ts w rs) v h in
-    let tree = tree_at_back f n items ts i.0 u g.first few all trees built at same g.is in
-    reads_both u g.first v (rows_of_tree items (slice_get ts i.0)) (rows_of_rows items ts rs) tree.reads (rows_back f n items ts rs g.first v few all trees built row.1 (tree.form_stays ∙ at) tree.items_stay g.rest)
-rows_back f n items ts (rows.Advance ∷ rs) u v few all trees built row at same h =
+    let tree = tree_at_back f n items ts i.0 u g.first few all trees at same g.is in
+    reads_both u g.first v (rows_of_tree items (slice_get ts i.0)) (rows_of_rows items ts rs) tree.reads
+    (rows_back f n items ts rs g.first v few all trees (λ e. omega (arith, loses e)) (tree.form_stays ∙ at) tree.items_stay g.rest)
+rows_back f n items ts (rows.Advance ∷ rs) u v few all trees loses at same h =
     let g = goes (adds_advance u) (λ w. rows_added ts w rs) v h in
     let stays : g.first.items ≡ items = sym (ap (λ (w : ScriptData). w.items) (advance_is u g.first g.is)) ∙ same in
     let form : g.first.form ≡ f = sym (ap (λ (w : ScriptData). w.form) (advance_is u g.first g.is)) ∙ at in
-    reads_one u g.first v _ (rows_of_rows items ts rs) g.is (rows_back f n items ts rs g.first v few all trees built row.1 form stays g.rest)
-rows_back f n items ts (rows.Lose ∷ rs) u v few all trees built row at same h = absurd row.0
-rows_back f n items ts (rows.Settle ∷ rs) u v few all trees built row at same h =
+    reads_one u g.first v _ (rows_of_rows items ts rs) g.is (rows_back f n items ts rs g.first v few all trees (λ e. omega (arith, loses e)) form stays g.rest)
+rows_back f n items ts (rows.Lose ∷ rs) u v few all trees loses at same h =
+    let g = goes (adds_lose u) (λ w. rows_added ts w rs) v h in
+    let second : f ≡ forms.Two = second_if f (loses_in rs) loses in
+    let stays : g.first.items ≡ items = sym (ap (λ (w : ScriptData). w.items) (lose_is u g.first g.is)) ∙ same in
+    let form : g.first.form ≡ f = sym (ap (λ (w : ScriptData). w.form) (lose_is u g.first g.is)) ∙ at in
+    reads_one u g.first v _ (rows_of_rows items ts rs) (lose_back u (at ∙ second) ∙ g.is)
+    (rows_back f n items ts rs g.first v few all trees (not_first f (loses_in rs) second) form stays g.rest)
+rows_back f n items ts (rows.Settle ∷ rs) u v few all trees loses at same h =
     let g = goes (adds_settle u) (λ w. rows_added ts w rs) v h in
     let stays : g.first.items ≡ items = sym (ap (λ (w : ScriptData). w.items) (settle_is u g.first g.is)) ∙ same in
     let form : g.first.form ≡ f = sym (ap (λ (w : ScriptData). w.form) (settle_is u g.first g.is)) ∙ at in
-    reads_one u g.first v _ (rows_of_rows items ts rs) g.is (rows_back f n items ts rs g.first v few all trees built row.1 form stays g.rest)
+    reads_one u g.first v _ (rows_of_rows items ts rs) g.is (rows_back f n items ts rs g.first v few all trees (λ e. omega (arith, loses e)) form stays g.rest)
 
 -- what is written begins with no byte order mark
 no_mark : (f : Form) (n : ℕ) (rs : List (List (List ℕ))) → strip_bom (lines (form_rows f ++ nodes_fields n ∷ rs)) ≡ lines (form_rows f ++ nodes_fields n ∷ rs)
@@ -228,39 +245,50 @@ picks_back (k ∷ ks) u v small h =
     reads_one u g.first v (pick_fields k) (map pick_fields ks) (pick_back u k (small 0) ∙ g.is) (picks_back ks g.first v (λ i. small (suc i)) g.rest)
 
 -- from the `nodes` row on, behind the row of the second form where it is there
-nodes_then : (f : Form) (n : ℕ) (u : ScriptData) (rs : List (List (List ℕ))) → 1 ≤ n → n ≤ most_nodes f → Reads (fresh f n) rs u → read_rows (form_rows f ++ nodes_fields n ∷ rs) ≡ Ok u
+nodes_then : (f : Form) (n : ℕ) (u : ScriptData) (rs : List (List (List ℕ))) → 1 ≤ n → n ≤ most_nodes f → Reads (fresh f n) rs u → read_rows every_form (form_rows f ++ nodes_fields n ∷ rs) ≡ Ok u
 nodes_then forms.One n u rs some few reads =
-    let start = ap (λ (x : Result (Option ScriptData) Why). after_first x rs) (nodes_back n some few) in
+    let start = ap (λ (x : Result (Option ScriptData) Why). after_first every_form x rs) (nodes_back n some few) in
     let rest = reads 2 [] in
-    start ∙ ap (rows_from (fresh forms.One n) 2) (sym (append-nil rs)) ∙ rest.1 ∙ ends u rest.0 [] refl
+    start ∙ ap (rows_from every_form (fresh forms.One n) 2) (sym (append-nil rs)) ∙ rest.1 ∙ ends every_form u rest.0 [] refl
 nodes_then forms.Two n u rs some few reads =
-    let start = ap (λ (x : Result ScriptData Why). then_rows 2 x (λ t. rows_from t 3 rs)) (second_nodes_back n some few) in
+    let start = ap (λ (x : Result ScriptData Why). then_rows 2 x (λ t. rows_from every_form t 3 rs)) (second_nodes_back n some few) in
     let rest = reads 3 [] in
-    start ∙ ap (rows_from (fresh forms.Two n) 3) (sym (append-nil rs)) ∙ rest.1 ∙ ends u rest.0 [] refl
+    start ∙ ap (rows_from every_form (fresh forms.Two n) 3) (sym (append-nil rs)) ∙ rest.1 ∙ ends every_form u rest.0 [] refl
 
 -- what builds a script again reads its rows
-rows_read : (s u : ScriptData) → IsValid s → Builds s → AreSmall s.picks → rebuilt s ≡ Ok u → read_rows (rows_of s) ≡ Ok u
-rows_read s u h b small is =
+rows_read : (s u : ScriptData) → IsValid s → AreSmall s.picks → rebuilt s ≡ Ok u → read_rows every_form (rows_of s) ≡ Ok u
+rows_read s u h small is =
     let g = goes (items_added (fresh s.form s.nodes) s.items) (λ t. then_more (rows_added s.trees t s.rows) (λ w. picks_added w s.picks)) u is in
     let f = goes (rows_added s.trees g.first s.rows) (λ w. picks_added w s.picks) u g.rest in
     let few = few_nodes s h in
     let items = items_back s.nodes s.items (fresh s.form s.nodes) g.first few h.items g.is in
     let stays : g.first.items ≡ s.items = items_stand s.items (fresh s.form s.nodes) g.first g.is in
     let form : g.first.form ≡ s.form = items_form s.items (fresh s.form s.nodes) g.first g.is in
-    let rows = rows_back s.form s.nodes s.items s.trees s.rows g.first f.first few h.items (written_trees s.form s.nodes s.items [] s.trees h.trees h.failed) b.trees b.rows form stays f.is in
+    let rows = rows_back s.form s.nodes s.items s.trees s.rows g.first f.first few h.items (written_trees s.form s.nodes s.items [] s.trees h.trees h.failed) h.first_form form stays f.is in
     let picks = picks_back s.picks f.first u small f.rest in
     nodes_then s.form s.nodes u (map item_fields s.items ++ (rows_of_rows s.items s.trees s.rows ++ map pick_fields s.picks)) h.some_nodes h.few_nodes
     (reads_both (fresh s.form s.nodes) g.first u (map item_fields s.items) (rows_of_rows s.items s.trees s.rows ++ map pick_fields s.picks) items
     (reads_both g.first f.first u (rows_of_rows s.items s.trees s.rows) (map pick_fields s.picks) rows picks))
 
--- what is written of a script of built forms is read as the same script
-read_back : (s : ScriptData) → IsValid s → AreSmall s.picks → length (written s) ≤ 8388608 → Builds s → IsReadAs (written s) s
-read_back s h small few b =
+-- what is written of a script is read as the same script
+read_back : (s : ScriptData) → IsValid s → AreSmall s.picks → length (written s) ≤ 8388608 → IsReadAs (read_every (written s)) s
+read_back s h small few =
     let again = is_rebuilt s h in
     let short : nat_lt 8388608 (length (written s)) ≡ false = lt-leb 8388609 (length (written s)) (omega (arith, few)) in
-    let read : read_of (written s) ≡ read_rows (records_in (written s)) = rw short refl in
-    (again.0, read ∙ ap read_rows (written_rows s h small) ∙ rows_read s again.0 h b small again.1, again.2)
+    let read : read_every (written s) ≡ read_rows every_form (records_in (written s)) = rw short refl in
+    (again.0, read ∙ ap (read_rows every_form) (written_rows s h small) ∙ rows_read s again.0 h small again.1, again.2)
 
 -- the same of a text that is equal to what is written
-pub text_read : (s : ScriptData) (text : List ℕ) → IsValid s → AreSmall s.picks → text ≡ written s → length text ≤ 8388608 → Builds s → IsReadAs text s
-text_read s text h small is few b = subst (λ (x : List ℕ). IsReadAs x s) (sym is) (read_back s h small (subst (λ (x : List ℕ). length x ≤ 8388608) is few) b)
+pub every_read : (s : ScriptData) (text : List ℕ) → IsValid s → AreSmall s.picks → text ≡ written s → length text ≤ 8388608 → IsReadAs (read_every text) s
+every_read s text h small is few = subst (λ (x : List ℕ). IsReadAs (read_every x) s) (sym is) (read_back s h small (subst (λ (x : List ℕ). length x ≤ 8388608) is few))
+
+-- a script that is the same is of the built forms too
+same_builds : (t s : ScriptData) → SameScript t s → Builds s → Builds t
+same_builds t s same b = record {
+  trees = subst (AllByRecursion (λ (x : Tree). IsTrue (is_built x.kind))) (sym same.trees) b.trees;
+  rows = subst (AllByRecursion IsBuiltRow) (sym same.rows) b.rows;
+}
+
+-- where the script is of built forms these alone are enough
+pub text_read : (s : ScriptData) (text : List ℕ) → IsReadAs (read_every text) s → Builds s → IsReadAs (read_of text) s
+text_read s text every b = (every.0, (both_read text).built every.0 (same_builds every.0 s every.2 b) every.1, every.2)

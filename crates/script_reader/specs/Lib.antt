@@ -8,3 +8,4 @@ pub mod Rows
 pub mod Reading
 pub mod Written
 pub mod ReadBack
+pub mod BothReadings

@@ -1,5 +1,6 @@
 -- Numbers and amounts as their digits.
-use Rattle.std.specs.Prelude.{ℕ, Bool, false, ◌+◌, ◌*◌, ◌-◌, ◌&&◌, ◌==◌, ◌<◌, ◌^◌, nat_le, ℤ, pos, ◌-ℤ◌, List, [], ◌∷◌, length, fold, Option, Some, None, if◌then◌else◌, slice_index}
+use Rattle.std.specs.Prelude.{ℕ, Bool, false, ◌+◌, ◌*◌, ◌-◌, ◌&&◌, ◌==◌, ◌<◌, ◌^◌, nat_le, ℤ, pos, ◌-ℤ◌}
+use Rattle.std.specs.Prelude.{List, [], ◌∷◌, length, fold, Option, Some, None, if◌then◌else◌, slice_index}
 use Rattle.std.specs.List.{list_all}
 
 -- a decimal digit

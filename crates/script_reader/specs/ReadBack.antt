@@ -1,9 +1,9 @@
 -- What is written of a script is read as the same script.
-use Rattle.std.specs.Prelude.{◌≡◌, ℕ, List, Ok}
+use Rattle.std.specs.Prelude.{◌≡◌, Result, Ok}
 use Rattle.tx_trees.specs.Rebuilt.{SameScript}
 use Rattle.tx_trees.specs.ScriptData.{ScriptData}
-use Rattle.script_reader.specs.Reading.{read_of}
+use Rattle.script_reader.specs.declared.reading.ScriptFault.{ScriptFault}
 
--- these bytes are read as a script that is equal to s
-abbrev pub IsReadAs : List ℕ → ScriptData → Type 0
-IsReadAs bytes s = (t : ScriptData) × (read_of bytes ≡ Ok t) × SameScript t s
+-- what reading gave is a script that is equal to s
+abbrev pub IsReadAs : Result ScriptData ScriptFault → ScriptData → Type 0
+IsReadAs read s = (t : ScriptData) × (read ≡ Ok t) × SameScript t s

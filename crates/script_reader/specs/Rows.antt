@@ -1,10 +1,12 @@
 -- What each row does to a script, with its conditions in the order of their numbers.
-use Rattle.std.specs.Prelude.{ℕ, ℤ, Bool, false, not, ◌≡◌, ◌==◌, ◌&&◌, ◌||◌, nat_le, List, [], ◌∷◌, length, get_or, Option, Some, None, is_some, Result, Ok, Err, if◌then◌else◌, unsigned_abs, ⊤}
+use Rattle.std.specs.Prelude.{ℕ, ℤ, Bool, true, false, not, ◌≡◌, ◌==◌, ◌&&◌, ◌||◌, nat_le, List, [], ◌∷◌, length}
+use Rattle.std.specs.Prelude.{get_or, Option, Some, None, is_some, Result, Ok, Err, if◌then◌else◌, unsigned_abs, ⊤}
 use Rattle.commute_ops.specs.declared.kinds.Kind.{Kind}
 use Rattle.commute_ops.specs.declared.kinds.Op.TheVariants as applied
 use Rattle.tv_base.specs.declared.numbers.NodeNo.{NodeNo}
 use Rattle.tx_trees.specs.ScriptData.{ScriptData}
-use Rattle.tx_trees.specs.Adding.{adds_advance, adds_fail, adds_item, adds_lose, adds_op, adds_pick, adds_settle, adds_sub, adds_tree, fresh, place_of}
+use Rattle.tx_trees.specs.Adding.{adds_advance, adds_fail, adds_item, adds_lose, adds_op}
+use Rattle.tx_trees.specs.Adding.{adds_pick, adds_settle, adds_sub, adds_tree, fresh, place_of}
 use Rattle.tx_trees.specs.Forms.{most_amount, most_nodes}
 use Rattle.tx_trees.specs.Names.{has_name_len, is_name}
 use Rattle.tx_trees.specs.Ranges.{is_in_range, may_start}
@@ -25,12 +27,20 @@ use Rattle.script_reader.specs.declared.words.RowWord.{RowWord}
 use Rattle.script_reader.specs.declared.words.RowWord.TheVariants as words
 use Rattle.tx_trees.specs.Built.{is_built}
 
+-- rows of every form are read, also of one that isn't run yet
+abbrev pub every_form : Bool
+every_form = true
+
+-- rows of the built forms alone are read
+abbrev pub built_forms : Bool
+built_forms = false
+
 -- the first condition that holds gives its reason; where none holds, what comes next
 abbrev pub unless : {A : Type 0} → List (Bool × Why) → Result A Why → Result A Why
 unless [] next = next
 unless (c ∷ cs) next = if c.0 then Err c.1 else unless cs next
 
--- a form that isn't built yet is refused for that where there is no other reason
+-- a form that is left out, since it isn't built yet, is refused for that where there is no other reason
 abbrev pub if_built : Bool → Result ScriptData Why → Result ScriptData Why
 if_built built (Ok s) = if built then Ok s else Err why.NotBuilt
 if_built built (Err w) = Err w
@@ -95,12 +105,12 @@ item_row s name node kind initial =
     (item_of s name (decimal_value node) (kind_of kind) (amount_value initial))
 
 -- `update,NAME,NODE`, and the same of `read` and `strict`
-abbrev pub tree_row : ScriptData → TreeKind → List ℕ → List ℕ → Result ScriptData Why
-tree_row s kind name node =
+abbrev pub tree_row : Bool → ScriptData → TreeKind → List ℕ → List ℕ → Result ScriptData Why
+tree_row every s kind name node =
     unless ((not (is_number node), why.BadNumber)
     ∷ (nat_le s.nodes (decimal_value node), why.OutOfRange)
     ∷ (not (is_name name), why.BadName) ∷ [])
-    (if_built (is_built kind) (adds_tree s name kind (node_no (decimal_value node))))
+    (if_built (every || is_built kind) (adds_tree s name kind (node_no (decimal_value node))))
 
 -- `sub,PARENT,NODE`
 abbrev pub sub_row : ScriptData → List ℕ → List ℕ → Result ScriptData Why
@@ -141,8 +151,8 @@ pick_row s place =
     (adds_pick s (decimal_value place))
 
 -- `lose`
-abbrev pub lose_row : ScriptData → Result ScriptData Why
-lose_row s = if_built false (adds_lose s)
+abbrev pub lose_row : Bool → ScriptData → Result ScriptData Why
+lose_row every s = if_built every (adds_lose s)
 
 -- `fail,SUB`
 abbrev pub fail_row : ScriptData → List ℕ → Result ScriptData Why
@@ -174,19 +184,19 @@ second_form fields words.Nodes = nodes_row forms.Two (field fields 1)
 second_form fields _ = Err why.NodesFirst
 
 -- a later record, by its word
-abbrev pub later_form : ScriptData → List (List ℕ) → RowWord → Result ScriptData Why
-later_form s fields words.Form = Err why.UnknownRow
-later_form s fields words.Nodes = Err why.NodesTwice
-later_form s fields words.Item = item_row s (field fields 1) (field fields 2) (field fields 3) (field fields 4)
-later_form s fields (words.Tree kind) = tree_row s kind (field fields 1) (field fields 2)
-later_form s fields words.Sub = sub_row s (field fields 1) (field fields 2)
-later_form s fields (words.Op op) = amount_row s op (field fields 1) (field fields 2)
-later_form s fields words.Get = op_row s (field fields 1) deeds.Get
-later_form s fields words.Advance = advance_row s
-later_form s fields words.Settle = adds_settle s
-later_form s fields words.Pick = pick_row s (field fields 1)
-later_form s fields words.Lose = lose_row s
-later_form s fields words.Fail = fail_row s (field fields 1)
+abbrev pub later_form : Bool → ScriptData → List (List ℕ) → RowWord → Result ScriptData Why
+later_form every s fields words.Form = Err why.UnknownRow
+later_form every s fields words.Nodes = Err why.NodesTwice
+later_form every s fields words.Item = item_row s (field fields 1) (field fields 2) (field fields 3) (field fields 4)
+later_form every s fields (words.Tree kind) = tree_row every s kind (field fields 1) (field fields 2)
+later_form every s fields words.Sub = sub_row s (field fields 1) (field fields 2)
+later_form every s fields (words.Op op) = amount_row s op (field fields 1) (field fields 2)
+later_form every s fields words.Get = op_row s (field fields 1) deeds.Get
+later_form every s fields words.Advance = advance_row s
+later_form every s fields words.Settle = adds_settle s
+later_form every s fields words.Pick = pick_row s (field fields 1)
+later_form every s fields words.Lose = lose_row every s
+later_form every s fields words.Fail = fail_row s (field fields 1)
 
 -- the first record
 abbrev pub first_row : List (List ℕ) → Result (Option ScriptData) Why
@@ -197,5 +207,5 @@ abbrev pub second_row : List (List ℕ) → Result ScriptData Why
 second_row fields = by_word fields (later_word forms.Two (field fields 0)) (second_form fields)
 
 -- a later record
-abbrev pub later_row : ScriptData → List (List ℕ) → Result ScriptData Why
-later_row s fields = by_word fields (later_word s.form (field fields 0)) (later_form s fields)
+abbrev pub later_row : Bool → ScriptData → List (List ℕ) → Result ScriptData Why
+later_row every s fields = by_word fields (later_word s.form (field fields 0)) (later_form every s fields)

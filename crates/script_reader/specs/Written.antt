@@ -116,7 +116,8 @@ rows_of_rows items ts (r ∷ rs) = rows_of_row items ts r ++ rows_of_rows items 
 
 -- the number of nodes, all items, all rows with their trees, and then all picks
 abbrev pub rows_behind : ScriptData → List (List (List ℕ))
-rows_behind s = nodes_fields s.nodes ∷ (map item_fields s.items ++ (rows_of_rows s.items s.trees s.rows ++ map pick_fields s.picks))
+rows_behind s =
+    nodes_fields s.nodes ∷ (map item_fields s.items ++ (rows_of_rows s.items s.trees s.rows ++ map pick_fields s.picks))
 
 -- the same, behind the row of the second form where it is of that
 abbrev pub rows_of : ScriptData → List (List (List ℕ))

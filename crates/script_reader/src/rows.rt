@@ -3,7 +3,7 @@ ghost use Rattle.std.specs.Prelude.{◌≡◌, ◌<◌, ◌^◌, true, unsigned_
 ghost use Rattle.csv.specs.Records.{fields_of};
 ghost use Rattle.tx_trees.specs.Adding.{last_may_fail, last_subs, puts_undone};
 ghost use Rattle.tx_trees.specs.Built.{is_built};
-ghost use Rattle.script_reader.specs.Rows.{Begins, Leaves, Makes, advance_row, amount_row, begun, deed_of, fail_row, first_row, form_row, item_of, item_row, later_row, lose_row, nodes_row, op_row, pick_row, second_row, starts, sub_row, tree_row};
+ghost use Rattle.script_reader.specs.Rows.{Begins, Leaves, Makes, advance_row, amount_row, begun, built_forms, deed_of, fail_row, first_row, form_row, item_of, item_row, later_row, lose_row, nodes_row, op_row, pick_row, second_row, starts, sub_row, tree_row};
 
 use crate::numbers::{amount, number};
 use crate::records::field;
@@ -116,7 +116,7 @@ fn is_built(kind: TreeKind) -> bool
 }
 
 fn tree_row_of(script: &mut Script, kind: TreeKind, name: &[u8], node: &[u8]) -> Result<(), Refusal>
-    ensures { Leaves (tree_row script.old kind name.now node.now) result script.new }
+    ensures { Leaves (tree_row built_forms script.old kind name.now node.now) result script.new }
 {
     let Some(node) = number(node) else {
         return Err(Refusal::Why(Why::BadNumber));
@@ -213,7 +213,7 @@ fn pick_row_of(script: &mut Script, place: &[u8]) -> Result<(), Refusal>
 
 fn lose_row_of(script: &mut Script) -> Result<(), Refusal>
     requires { script.old.form ≡ Form.Two }
-    ensures { Leaves (lose_row script.old) result script.new }
+    ensures { Leaves (lose_row built_forms script.old) result script.new }
 {
     script.add_lose()?;
     Err(Refusal::Why(Why::NotBuilt))
@@ -299,7 +299,7 @@ pub(crate) fn take_later(
     script: &mut Script,
     row: &ByteRecord,
 ) -> Result<(), Refusal>
-    ensures { Leaves (later_row script.old (fields_of row.now)) result script.new }
+    ensures { Leaves (later_row built_forms script.old (fields_of row.now)) result script.new }
 {
     let Some(word) = later_word(script.form(), field(row, 0)) else {
         return Err(Refusal::Why(Why::UnknownRow));

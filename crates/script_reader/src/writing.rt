@@ -5,6 +5,7 @@ ghost use Rattle.std.specs.Str.{IsAscii};
 ghost use Rattle.tx_trees.specs.Rebuilt.{name_at};
 ghost use Rattle.script_reader.specs.Builds.{Builds};
 ghost use Rattle.script_reader.specs.ReadBack.{IsReadAs};
+ghost use Rattle.script_reader.specs.Reading.{read_every, read_of};
 ghost use Rattle.script_reader.specs.Numbers.{AreSmall};
 ghost use Rattle.script_reader.specs.Words.{kind_word, tree_word};
 ghost use Rattle.tx_trees.specs.AsciiNames.{AreAsciiItems, AreAsciiTrees};
@@ -17,12 +18,14 @@ use tv_base::{ItemNo, NoMemory, NodeNo, SubNo, Text};
 use tx_trees::{Deed, Form, ItemRow, Script, ScriptRow, Sub, SubOp, Tree, TreeKind};
 
 /// The text of a script: the row of the second form, if it is of that, the `nodes` row, all items, all rows with their
-/// trees, and then all picks, each as a line. Only want of memory is an error. A text of at most 8,388,608 bytes is read
-/// as an equal script, if the script has nothing that isn't built: no strict tree, no advancement, and no row that makes
-/// the coordinator forget.
+/// trees, and then all picks, each as a line. Only want of memory is an error. A text of at most 8,388,608 bytes is an
+/// equal script, where rows of every form are read. `read_script` reads it so too, if the script has nothing that isn't
+/// built: no strict tree, and no row that makes the coordinator forget.
 pub fn write_script(alloc: Global, script: &Script) -> Result<Text, NoMemory>
     ensures text { IfOk result (λ text. text ≡ written script.now) }
-    ensures read { IfOk result (λ text. length text ≤ 8388608 → Builds script.now → IsReadAs text script.now) }
+    ensures every { IfOk result (λ text. length text ≤ 8388608 → IsReadAs (read_every text) script.now) }
+    ensures read { IfOk result (λ text. length text ≤ 8388608 → Builds script.now
+        → IsReadAs (read_of text) script.now) }
 {
     let mut text = Text::new(alloc);
     push_form(&mut text, script.form())?;
