@@ -19,8 +19,9 @@ use Rattle.tx_trees.specs.declared.parts.Tree.{Tree}
 use Rattle.tx_trees.specs.declared.parts.TreeKind.{TreeKind}
 use Rattle.tx_trees.specs.declared.parts.TreeKind.TheVariants.{Update, Read, Strict}
 use Rattle.board_model.specs.declared.standings.Standing.{Standing}
-use Rattle.board_model.specs.Balances.{all_after_op, all_after_ops, all_after_subs, all_after_tree, by_number, first_values, mark_op, mark_ops, mark_subs, mark_trees, may_write_by, no_marks, on_item, worths, writes_by, written_items}
-use Rattle.board_model.specs.May.{all_op_may, all_ops_may, all_subs_may, all_trees_may, deed_may, deed_may_at, ops_may, subs_may, trees_may}
+use Rattle.board_model.specs.Balances.{all_after_op, all_after_ops, all_after_subs, all_after_tree, by_number, first_values, on_item, worths, written_items}
+use Rattle.board_model.specs.inside.Balances.{mark_op, mark_ops, mark_subs, mark_trees, may_write_by, no_marks, writes_by}
+use Rattle.board_model.specs.inside.May.{all_op_may, all_ops_may, all_subs_may, all_trees_may, deed_may, deed_may_at, ops_may, subs_may, trees_may}
 use Rattle.board_model.specs.Histories.{places_of, version_of, was_committed}
 use Rattle.board_model.specs.Serial.{is_version, serial_to}
 use Rattle.board_model.specs.Standings.{standings_from, standings_of}

@@ -27,12 +27,14 @@ use Rattle.tx_trees.specs.declared.parts.TreeKind.TheVariants.{Update, Read, Str
 use Rattle.board_model.specs.declared.serial.Member.{Member}
 use Rattle.board_model.specs.declared.standings.Standing.{Standing}
 use Rattle.board_model.specs.declared.tallies.Tally.{Tally}
-use Rattle.board_model.specs.Closed.{Closed, after_act, closed_back, none_closed, with_tree}
+use Rattle.board_model.specs.Closed.{Closed, after_act, none_closed, with_tree}
+use Rattle.board_model.specs.inside.Closed.{closed_back}
 use Rattle.board_model.specs.Histories.{Place, all_applied, all_done, applies, born_as, commits, does, is_strict_tree, is_through, places_at, places_of, version_in, version_of, was_applied, was_committed, was_done}
 use Rattle.board_model.specs.Serial.{closes, closings, is_in, is_member, is_settled, is_version, members, with_closed}
-use Rattle.board_model.specs.SerialList.{counted_at, counts_by, found_back, is_of, member_of, trees_of, with_version}
+use Rattle.board_model.specs.SerialList.{is_of, trees_of}
+use Rattle.board_model.specs.inside.SerialList.{counted_at, counts_by, found_back, member_of, with_version}
 use Rattle.board_model.specs.Standings.{standing_of, standings_from, standings_of}
-use Rattle.board_model.specs.Tallies.{all_marked, all_met, blank, is_through_by, noted, noted_back, on_row, standing_by, stood_by, with_applied, with_born, with_decided, with_done}
+use Rattle.board_model.specs.inside.Tallies.{all_marked, all_met, blank, is_through_by, noted, noted_back, on_row, standing_by, stood_by, with_applied, with_born, with_decided, with_done}
 use Rattle.board_model.proofs.Walk.{opened}
 
 pub noted_back-append : (a b : List Place) (rows : List Tally) → noted_back (a ++ b) rows ≡ noted_back a (noted_back b rows)

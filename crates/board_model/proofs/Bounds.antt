@@ -27,7 +27,7 @@ use Rattle.tx_trees.specs.declared.parts.SubOp.{SubOp}
 use Rattle.tx_trees.specs.declared.parts.Tree.{Tree}
 use Rattle.tx_trees.specs.declared.parts.TreeKind.{TreeKind}
 use Rattle.tx_trees.specs.declared.parts.TreeKind.TheVariants.{Update, Read, Strict}
-use Rattle.board_model.specs.May.{deed_may, ops_may, subs_may, trees_may}
+use Rattle.board_model.specs.inside.May.{deed_may, ops_may, subs_may, trees_may}
 use Rattle.board_model.specs.Serial.{is_in}
 use Rattle.board_model.specs.Worth.{after_deed, after_ops, after_subs, after_tree, first_value}
 use Rattle.board_model.proofs.Closings.{AreApart}

@@ -12,7 +12,7 @@ use Rattle.tx_trees.specs.Valid.{IsValid}
 use Rattle.board_model.specs.declared.serial.Member.{Member}
 use Rattle.board_model.specs.Balances.{all_after_tree, first_values, worths}
 use Rattle.board_model.specs.Carried.{after_members}
-use Rattle.board_model.specs.May.{all_subs_may, all_trees_may}
+use Rattle.board_model.specs.inside.May.{all_subs_may, all_trees_may}
 use Rattle.board_model.specs.SerialList.{IsSerial, is_below, trees_of}
 use Rattle.board_model.proofs.AllItems.{all_may, worth_all}
 use Rattle.board_model.proofs.ByVersion.{cut, version_no}

@@ -2,7 +2,7 @@
 use Rattle.std.proofs.Common.{◌≡◌, ℕ, zero, suc, ◌<◌, ◌≤◌, Bool, false, List, [], ◌∷◌, length, refl, ap, slice_set, get_or, arith}
 use Rattle.std.proofs.lemmas.Bool.Decides.{nat_tests}
 use Rattle.board_model.specs.declared.tallies.Tally.{Tally}
-use Rattle.board_model.specs.Tallies.{all_marked, on_row}
+use Rattle.board_model.specs.inside.Tallies.{all_marked, on_row}
 
 pub on_row_there : (t : ℕ) (f : Tally → Tally) (rows : List Tally) (d : Tally) → t < length rows → slice_set rows t (f (get_or rows t d)) ≡ on_row t f rows
 on_row_there t f [] d small = absurd (omega arith)

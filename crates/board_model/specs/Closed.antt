@@ -5,7 +5,7 @@ use Rattle.tv_base.specs.declared.numbers.TreeNo.{TreeNo}
 use Rattle.letter_types.specs.declared.acts.Act.{Act}
 use Rattle.letter_types.specs.declared.acts.Act.TheVariants.{Did, Decided, Finished}
 use Rattle.tx_trees.specs.ScriptData.{ScriptData, updates}
-use Rattle.board_model.specs.Histories.{Place, is_strict_tree}
+use Rattle.board_model.specs.Histories.{is_strict_tree}
 
 -- a mark for each tree that was closed, and these trees, the last one first
 pub record Closed : Type 0 where
@@ -25,8 +25,3 @@ after_act s (Did t k values) c = if updates s t.0 then with_tree t c else c
 after_act s (Decided t commit) c = if is_strict_tree s t.0 && commit then with_tree t c else c
 after_act s Finished c = c
 after_act s _ c = c
-
--- after acts that are noted from the last one
-abbrev pub closed_back : ScriptData → List Place → Closed → Closed
-closed_back s [] c = c
-closed_back s (x ∷ xs) c = after_act s x.act (closed_back s xs c)

@@ -3,12 +3,11 @@ pub mod Serial
 pub mod Worth
 pub mod Right
 pub mod Standings
-pub mod Tallies
 pub mod Closed
 pub mod Balances
-pub mod May
 pub mod SerialList
 pub mod Carried
 pub mod Stands
 pub mod Moves
 pub mod Gates
+pub mod inside

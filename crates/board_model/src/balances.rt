@@ -1,7 +1,8 @@
 // What all items are worth after trees, and which of them are written.
 ghost use Rattle.std.specs.Prelude.{◌≡◌, IfOk, IsTrue, length, slice_get, slice_set, true, unwrap_or};
-ghost use Rattle.board_model.specs.Balances.{all_after_op, all_after_ops, all_after_subs, first_values, mark_op, mark_ops, mark_subs, mark_trees, no_marks, subs_in, writes_by, written_items};
-ghost use Rattle.board_model.specs.May.{all_op_may, all_ops_may, all_subs_may, deed_may, draw_may};
+ghost use Rattle.board_model.specs.Balances.{all_after_op, all_after_ops, all_after_subs, first_values, written_items};
+ghost use Rattle.board_model.specs.inside.Balances.{mark_op, mark_ops, mark_subs, mark_trees, no_marks, subs_in, writes_by};
+ghost use Rattle.board_model.specs.inside.May.{all_op_may, all_ops_may, all_subs_may, deed_may, draw_may};
 ghost use Rattle.board_model.specs.Standings.{standings_of};
 ghost use Rattle.board_model.specs.Worth.{after_deed, changes, first_value, with_drawn, with_set};
 

@@ -1,10 +1,11 @@
 // The serial order of a history, and what the history says of each tree.
 ghost use Rattle.std.specs.Prelude.{◌≡◌, IfOk, OnOk};
-ghost use Rattle.board_model.specs.Closed.{closed_back};
+ghost use Rattle.board_model.specs.inside.Closed.{closed_back};
 ghost use Rattle.board_model.specs.Histories.{places_of};
-ghost use Rattle.board_model.specs.SerialList.{IsByVersion, IsSerial, counted, counts_by, found_back, member_of, placed};
+ghost use Rattle.board_model.specs.SerialList.{IsByVersion, IsSerial};
+ghost use Rattle.board_model.specs.inside.SerialList.{counted, counts_by, found_back, member_of, placed};
 ghost use Rattle.board_model.specs.Standings.{standings_of};
-ghost use Rattle.board_model.specs.Tallies.{noted_back};
+ghost use Rattle.board_model.specs.inside.Tallies.{noted_back};
 
 use crate::closed_trees::Closings;
 use crate::standings::{Standing, Standings};

@@ -1,6 +1,6 @@
 // What is kept of each tree while a history is gone over from its end.
 ghost use Rattle.std.specs.Prelude.{◌≡◌, IfOk, false, get_or, length, replicate, slice_set, true};
-ghost use Rattle.board_model.specs.Tallies.{all_marked, all_met, blank, is_through_by, noted, on_row, standing_by, stood_by, with_news};
+ghost use Rattle.board_model.specs.inside.Tallies.{all_marked, all_met, blank, is_through_by, noted, on_row, standing_by, stood_by, with_news};
 
 use crate::standings::{Standing, Standings};
 use letter_types::Act;

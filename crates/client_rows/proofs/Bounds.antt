@@ -7,7 +7,7 @@ use Rattle.tx_trees.specs.declared.parts.ScriptRow.TheVariants.{Tree as TreeRow,
 use Rattle.letter_types.specs.declared.bodies.Body.{Body}
 use Rattle.client_rows.specs.Client.{Client, have_ended, submitted, rows_letters, next_after, client_row, start_client}
 use Rattle.client_rows.specs.Kept.{IsKeptOf, kept_of}
-use Rattle.client_rows.specs.News.{news_of, answered_after, told, sent_first}
+use Rattle.client_rows.specs.inside.News.{news_of, answered_after, told, sent_first}
 use Rattle.client_rows.specs.declared.news.News.{News}
 use Rattle.client_rows.specs.declared.news.News.TheVariants.{Begun, Answered, Ended}
 use Rattle.client_rows.proofs.Submits.{heard, row-heard}

@@ -6,7 +6,7 @@ use Rattle.tx_trees.specs.declared.parts.ScriptRow.{ScriptRow}
 use Rattle.tx_trees.specs.declared.parts.ScriptRow.TheVariants.{Tree as TreeRow, Advance as AdvanceRow, Settle as SettleRow, Lose as LoseRow}
 use Rattle.tx_trees.proofs.Rebuilding.{advances_in-append}
 use Rattle.client_rows.specs.Kept.{trees_in, unanswered_in}
-use Rattle.client_rows.specs.Places.{place_at}
+use Rattle.client_rows.specs.inside.Places.{place_at}
 use Rattle.client_rows.specs.declared.places.Place.{Place}
 
 pub trees_in-append : (xs ys : List ScriptRow) → trees_in (xs ++ ys) ≡ trees_in xs + trees_in ys

@@ -8,7 +8,7 @@ use Rattle.tx_trees.specs.Valid.{NamesInOrder}
 use Rattle.tx_trees.specs.declared.parts.ScriptRow.{ScriptRow}
 use Rattle.tx_trees.specs.declared.parts.ScriptRow.TheVariants.{Tree as TreeRow, Advance as AdvanceRow, Settle as SettleRow, Lose as LoseRow}
 use Rattle.client_rows.specs.Kept.{trees_in, unanswered_in}
-use Rattle.client_rows.specs.Places.{place_at}
+use Rattle.client_rows.specs.inside.Places.{place_at}
 use Rattle.client_rows.specs.declared.places.Place.{Place}
 
 -- the rows before a place name their trees in order too

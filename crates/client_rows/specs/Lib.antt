@@ -1,5 +1,5 @@
 pub mod Client
 pub mod Kept
 pub mod Held
-pub mod News
 pub mod Places
+pub mod inside

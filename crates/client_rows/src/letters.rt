@@ -2,7 +2,7 @@
 ghost use Rattle.std.specs.Prelude.{if◌then◌else◌, ◌≡◌, ◌++◌, ◌∷◌, [], IfOk};
 ghost use Rattle.letter_types.specs.declared.acts.Act.TheVariants.{Finished};
 ghost use Rattle.client_rows.specs.Client.{rows_letters};
-ghost use Rattle.client_rows.specs.News.{sent_first};
+ghost use Rattle.client_rows.specs.inside.News.{sent_first};
 
 use crate::news::News;
 use letter_types::{Act, Acts, Body, Letters, Outgoing, Step, StepOut};

@@ -1,6 +1,6 @@
 // What a letter tells the client.
 ghost use Rattle.std.specs.Prelude.{◌≡◌, false, get_or};
-ghost use Rattle.client_rows.specs.News.{news_of, answered_after, ended_after};
+ghost use Rattle.client_rows.specs.inside.News.{news_of, answered_after, ended_after};
 
 use letter_types::Body;
 use tv_base::TreeNo;

@@ -1,8 +1,9 @@
 // How far the client is among the rows.
 ghost use Rattle.std.specs.Prelude.{◌≡◌, ◌+◌, ◌<◌, ◌≤◌, length};
 ghost use Rattle.tx_trees.specs.Valid.{NamesInOrder};
-ghost use Rattle.client_rows.specs.News.{answered_after};
-ghost use Rattle.client_rows.specs.Places.{place_at, is_over, furthest, waits};
+ghost use Rattle.client_rows.specs.inside.News.{answered_after};
+ghost use Rattle.client_rows.specs.Places.{is_over};
+ghost use Rattle.client_rows.specs.inside.Places.{place_at, furthest, waits};
 
 use crate::news::{News, is_answered};
 use tx_trees::ScriptRow;

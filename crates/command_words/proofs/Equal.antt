@@ -5,7 +5,8 @@ use Rattle.std.specs.Prelude.{map, ◌||◌}
 use Rattle.clap.proofs.WalkLemmas.{list_any-map}
 use Rattle.std.proofs.Common.{suc, arith}
 use Rattle.std.proofs.lemmas.Bool.{ne_eqb}
-use Rattle.command_words.specs.Parser.{IsParse, is_on, line_from, line_of_rows, the_app}
+use Rattle.command_words.specs.Parser.{IsParse, the_app}
+use Rattle.command_words.specs.inside.Parser.{is_on, line_from, line_of_rows}
 use Rattle.command_words.specs.declared.WordsError.{WordsError}
 use Rattle.command_words.specs.declared.WordsError.TheVariants as errors
 use Rattle.clap.specs.declared.parser.matches.ArgMatches.{ArgMatches}

@@ -9,7 +9,7 @@ use Rattle.clap.specs.Walk.{row_of}
 use Rattle.clap.proofs.WalkLemmas.{find_row}
 use Rattle.clap.specs.declared.parser.matches.ArgMatches.{ArgMatches}
 use Rattle.clap.specs.declared.parser.matches.Found.{Found}
-use Rattle.command_words.specs.Parser.{line_from, line_of_rows}
+use Rattle.command_words.specs.inside.Parser.{line_from, line_of_rows}
 
 first_text : (xs : List (Bor (List ℕ))) → option_map (λ s. s.now) (slice_get xs 0) ≡ slice_get (map (λ s. s.now) xs) 0
 first_text [] = refl

@@ -8,7 +8,8 @@ use Rattle.clap.specs.declared.parser.matches.ArgMatches.{ArgMatches}
 use Rattle.clap.proofs.OnLiterals.{clap_on_literals}
 use Rattle.command_words.specs.declared.WordsError.{WordsError}
 use Rattle.command_words.specs.declared.WordsError.TheVariants as errors
-use Rattle.command_words.specs.Parser.{IsParse, refusal_of, the_app}
+use Rattle.command_words.specs.Parser.{IsParse, the_app}
+use Rattle.command_words.specs.inside.Parser.{refusal_of}
 
 pub simple_free : is_simple_and_free the_app ≡ true
 unfolding clap_on_literals

@@ -22,7 +22,8 @@ use Rattle.std.specs.Prelude.{is_some}
 use Rattle.clap.specs.declared.parser.matches.ValueSource.TheVariants.{CommandLine, DefaultValue}
 use Rattle.clap.proofs.FaultLemmas.{leaf_fault}
 use Rattle.clap.proofs.OnLiterals.{clap_on_literals}
-use Rattle.command_words.specs.Parser.{history_rule, is_on, mode_rule, option_rule, the_app}
+use Rattle.command_words.specs.Parser.{history_rule, mode_rule, option_rule, the_app}
+use Rattle.command_words.specs.inside.Parser.{is_on}
 use Rattle.command_words.specs.Grammar.{Opt, mode, workers, seed, trees, option_of, Given, nothing_given, value_of, with_value}
 use Rattle.command_words.proofs.Plain.{name_of}
 

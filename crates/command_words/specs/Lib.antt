@@ -2,3 +2,4 @@ pub mod Numbers
 pub mod Lines
 pub mod Grammar
 pub mod Parser
+pub mod inside

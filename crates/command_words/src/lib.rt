@@ -6,7 +6,7 @@ ghost use Rattle.std.specs.List.{list_any};
 ghost use Rattle.std.specs.Str.{bytes_eq};
 ghost use Rattle.command_words.specs.Grammar.{asked as asked_in, asked_by as asked_in_word, line_of, line_of_options};
 ghost use Rattle.command_words.specs.Lines.{IsInRange, Tells, given_value, is_given_in, line_of_mode, mode_of};
-ghost use Rattle.command_words.specs.Parser.{is_on as is_on_text, line_from};
+ghost use Rattle.command_words.specs.inside.Parser.{is_on as is_on_text, line_from};
 
 mod numbers;
 mod parser;

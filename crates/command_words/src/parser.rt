@@ -1,7 +1,8 @@
 // The options as clap reads them.
 ghost use Rattle.std.specs.Prelude.{◌≡◌, IfOk, false, map, string_bytes};
 ghost use Rattle.clap.specs.Words.{app_of, kind_of, rule_of, with_rule};
-ghost use Rattle.command_words.specs.Parser.{IsParse, bare_app, history_rule, mode_rule, option_rule, refusal_of, the_app};
+ghost use Rattle.command_words.specs.Parser.{IsParse, bare_app, history_rule, mode_rule, option_rule, the_app};
+ghost use Rattle.command_words.specs.inside.Parser.{refusal_of};
 
 use crate::WordsError;
 use clap::error::ErrorKind;

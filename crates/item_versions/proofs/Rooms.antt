@@ -10,7 +10,7 @@ use Rattle.commute_ops.specs.declared.value.Value.{Value}
 use Rattle.commute_ops.specs.declared.kinds.Op.{Op}
 use Rattle.commute_ops.specs.Ops.{is_bag}
 use Rattle.item_versions.specs.declared.item.TheConstants.{MOST_VERSIONS}
-use Rattle.item_versions.specs.InPlace.{raised}
+use Rattle.item_versions.specs.inside.InPlace.{raised}
 use Rattle.item_versions.specs.Item.{Held, AscendsAbove, IsHeld, below, above, applied_to_all, seen, seen_after, holds, has_room, has_bag}
 use Rattle.item_versions.proofs.Order.{below-nil}
 use Rattle.item_versions.proofs.Seen.{above-later}

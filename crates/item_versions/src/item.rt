@@ -1,6 +1,6 @@
 ghost use Rattle.std.specs.Prelude.{◌≡◌, ◌+◌, ◌++◌, ◌∷◌, ◌<◌, ◌≤◌, [], drop, length, IfOk, OnOk, OnErr, Some, IsTrue};
 ghost use Rattle.arrayvec.specs.ArrayVec.{array_vec_len};
-ghost use Rattle.item_versions.specs.InPlace.{raised};
+ghost use Rattle.item_versions.specs.inside.InPlace.{raised};
 ghost use Rattle.item_versions.specs.Item.{IsHeld, seen, below, above, applied_to_all, touched, collected, up_to, may_apply_above, may_touch, holds, has_room, has_bag, put_value, CanCollect};
 
 use arrayvec::ArrayVec;

@@ -1,7 +1,6 @@
 -- What a node does with the coordinator's letters.
-use Rattle.std.specs.Prelude.{ℕ, List, [], ◌∷◌, nat_lt, Option, Some}
+use Rattle.std.specs.Prelude.{ℕ, List, [], ◌∷◌, nat_lt}
 use Rattle.tv_base.specs.declared.numbers.Version.{Version}
-use Rattle.letter_types.specs.declared.acts.Act.{Act}
 use Rattle.letter_types.specs.declared.acts.Act.TheVariants as acts
 use Rattle.letter_types.specs.declared.bodies.Body.{Body}
 use Rattle.letter_types.specs.declared.bodies.Body.TheVariants.{Turned, Shown, Swept, DoneRow, AskedRow}
@@ -17,11 +16,6 @@ use Rattle.tree_step.specs.Node.{Node}
 -- a letter to the coordinator, whose number follows those of the nodes
 abbrev pub to_coordinator : ScriptData → Body → List Outgoing
 to_coordinator s body = record { to = record { 0 = s.nodes }; body = body } ∷ []
-
--- the act of a step that has at most one
-abbrev pub acts_if : Option Act → List Act
-acts_if (Some act) = act ∷ []
-acts_if _ = []
 
 -- the update version is raised to v if it is less
 abbrev pub turn_row : ScriptData → Version → Node → Out Node

@@ -6,7 +6,8 @@ ghost use Rattle.letter_types.specs.declared.bodies.Body.TheVariants.{Sweep};
 ghost use Rattle.tree_step.specs.Apt.{is_timely};
 ghost use Rattle.tree_step.specs.Done.{turned_if};
 ghost use Rattle.tree_step.specs.Node.{data_of, IsInWindow, IsOf};
-ghost use Rattle.node_step.specs.Advancing.{acts_if, asked_row, done_row, show_row, sweep_row, to_coordinator, turn_row};
+ghost use Rattle.node_step.specs.Advancing.{asked_row, done_row, show_row, sweep_row, to_coordinator, turn_row};
+ghost use Rattle.node_step.specs.inside.Advancing.{acts_if};
 
 use letter_types::{Act, Acts, Body, Letters, Outgoing, Step, StepOut};
 use node_versions::Turns;

@@ -5,7 +5,7 @@ use Rattle.tx_trees.specs.ScriptData.{ScriptData}
 use Rattle.tx_trees.specs.declared.parts.ItemRow.{ItemRow}
 use Rattle.board_model.specs.Balances.{by_number, worths, written_items}
 use Rattle.board_model.specs.Worth.{is_written, worth}
-use Rattle.report_text.specs.Lines.{rows_lines}
+use Rattle.report_text.specs.inside.Lines.{rows_lines}
 use Rattle.report_text.specs.Report.{item_line, items_text}
 
 length-by_number : {A : Type 0} (f : ℕ → A) (x : ℕ) (rows : List ItemRow) → length (by_number f x rows) ≡ length rows

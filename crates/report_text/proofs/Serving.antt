@@ -25,9 +25,9 @@ use Rattle.board_model.specs.Standings.{standings_from, standings_of}
 use Rattle.board_model.specs.declared.carried.Carried.{Carried}
 use Rattle.board_model.specs.declared.serial.Member.{Member}
 use Rattle.report_text.specs.declared.served.Served.{Served}
-use Rattle.report_text.specs.Lines.{subs_texts}
+use Rattle.report_text.specs.inside.Lines.{subs_texts}
 use Rattle.report_text.specs.Report.{gets_text}
-use Rattle.report_text.specs.Served.{AreAsked, AreRead, AreTold, IsServed, ask_at, asks_from, read_version, values_at, values_of}
+use Rattle.report_text.specs.inside.Served.{AreAsked, AreRead, AreTold, IsServed, ask_at, asks_from, read_version, values_at, values_of}
 use Rattle.report_text.proofs.TreeLines.{subs_text}
 
 -- a text put at its place

@@ -18,7 +18,7 @@ use Rattle.board_model.specs.Worth.{worth}
 use Rattle.board_model.proofs.Bounds.{IsHeld, OfKind, worth_held}
 use Rattle.board_model.proofs.SerialOrder.{serial_to_apart}
 use Rattle.report_text.specs.Summary.{kind_worth, number_of, part_of}
-use Rattle.report_text.specs.Totals.{AreSmall, kind_total}
+use Rattle.report_text.specs.inside.Totals.{AreSmall, kind_total}
 
 -- a value of the kind
 kind_small : (kind : Kind) (w : Value) → OfKind kind w 0 → unsigned_abs (number_of w) ≤ MOST_AMOUNT

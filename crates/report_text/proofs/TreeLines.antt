@@ -19,8 +19,8 @@ use Rattle.board_model.specs.Right.{shown}
 use Rattle.board_model.specs.Standings.{standings_from, standings_of}
 use Rattle.board_model.specs.Worth.{worth}
 use Rattle.board_model.proofs.AllItems.{length-standings_from}
-use Rattle.report_text.specs.Lines.{born_line, found_text, ops_texts, subs_texts, trees_lines}
-use Rattle.report_text.specs.Served.{AreRead}
+use Rattle.report_text.specs.inside.Lines.{born_line, found_text, ops_texts, subs_texts, trees_lines}
+use Rattle.report_text.specs.inside.Served.{AreRead}
 use Rattle.report_text.specs.Report.{get_text, gets_of, gets_text, item_name, read_line, tree_line, trees_text, values_text}
 
 -- the value of an item that is there, by number

@@ -4,9 +4,9 @@ use Rattle.letter_types.specs.declared.entries.Entry.{Entry}
 use Rattle.tx_trees.specs.ScriptData.{ScriptData}
 use Rattle.board_model.specs.Balances.{worths, written_items}
 use Rattle.board_model.specs.Standings.{standings_of}
-use Rattle.report_text.specs.Lines.{rows_lines, trees_lines}
+use Rattle.report_text.specs.inside.Lines.{rows_lines, trees_lines}
 use Rattle.report_text.specs.Report.{advances, items_text, nodes_text, report_of, trees_text}
-use Rattle.report_text.specs.Served.{AreRead}
+use Rattle.report_text.specs.inside.Served.{AreRead}
 use Rattle.report_text.proofs.ItemLines.{items_all}
 use Rattle.report_text.proofs.TreeLines.{lines_all}
 

@@ -1,5 +1,4 @@
 pub mod Report
 pub mod Lines
-pub mod Served
 pub mod Summary
-pub mod Totals
+pub mod inside

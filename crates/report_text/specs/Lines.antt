@@ -1,59 +1,9 @@
 -- Parts of the report over the standings of the trees and the values of the items, and the line of a script that was read.
 -- Only the code of the report cites them, but for `check_line_of`.
-use Rattle.std.specs.Prelude.{if◌then◌else◌, ℕ, ◌+◌, Bool, List, [], ◌∷◌, ◌++◌, length, codes, decimal, Option, Some, None, slice_get}
-use Rattle.tv_base.specs.declared.numbers.Version.{Version}
-use Rattle.commute_ops.specs.declared.value.Value.{Value}
+use Rattle.std.specs.Prelude.{ℕ, ◌+◌, List, ◌++◌, length, codes, decimal}
 use Rattle.tx_trees.specs.Adding.{all_subs}
 use Rattle.tx_trees.specs.ScriptData.{ScriptData}
-use Rattle.tx_trees.specs.declared.parts.ItemRow.{ItemRow}
-use Rattle.tx_trees.specs.declared.parts.Sub.{Sub}
-use Rattle.tx_trees.specs.declared.parts.SubOp.{SubOp}
-use Rattle.tx_trees.specs.declared.parts.Tree.{Tree}
-use Rattle.tx_trees.specs.declared.parts.TreeKind.{TreeKind}
-use Rattle.tx_trees.specs.declared.parts.TreeKind.TheVariants.{Update, Read}
-use Rattle.board_model.specs.declared.standings.Standing.{Standing}
-use Rattle.report_text.specs.Report.{advances, balance, get_text, read_line, update_line}
-
--- a value behind the name of its item, where both are there
-abbrev pub found_text : Option ItemRow → Option Value → List ℕ
-found_text None w = []
-found_text (Some row) (Some w) = get_text row.name w
-found_text (Some row) _ = []
-
--- the values of the operations' items among these values of all items
-abbrev pub ops_texts : List ItemRow → List Value → List SubOp → List ℕ
-ops_texts rows ws [] = []
-ops_texts rows ws (o ∷ os) = found_text (slice_get rows o.item.0) (slice_get ws o.item.0) ++ ops_texts rows ws os
-
--- the same for the operations of subtransactions
-abbrev pub subs_texts : List ItemRow → List Value → List Sub → List ℕ
-subs_texts rows ws [] = []
-subs_texts rows ws (k ∷ ks) = ops_texts rows ws k.ops ++ subs_texts rows ws ks
-
--- the line of a tree that is born, by the text of its values
-abbrev pub born_line : Tree → TreeKind → Option Version → List ℕ → List ℕ
-born_line tree Update (Some v) values = update_line tree.name v.0 tree.written
-born_line tree Read (Some v) values = read_line tree.name v.0 values
-born_line tree _ _ values = []
-
--- the lines of the trees of these standings and texts
-abbrev pub trees_lines : List Tree → List Standing → List (List ℕ) → List ℕ
-trees_lines (t ∷ ts) (st ∷ sts) (r ∷ rs) = born_line t t.kind st.born r ++ trees_lines ts sts rs
-trees_lines [] sts rs = []
-trees_lines _ _ _ = []
-
--- a value at version a, and one at the next if that is written
-abbrev pub two_balances : ℕ → Value → Value → Bool → List ℕ
-two_balances a shown next written = balance a shown ++ (if written then balance (a + 1) next else [])
-
--- the line of an item of these values
-abbrev pub row_line : ℕ → ItemRow → Value → Value → Bool → List ℕ
-row_line a row shown next written = codes "item " ++ (row.name ++ (two_balances a shown next written ++ codes "\n"))
-
--- the lines of the items of these values
-abbrev pub rows_lines : ℕ → List ItemRow → List Value → List Value → List Bool → List ℕ
-rows_lines a (row ∷ rows) (w ∷ ws) (n ∷ ns) (b ∷ bs) = row_line a row w n b ++ rows_lines a rows ws ns bs
-rows_lines a _ _ _ _ = []
+use Rattle.report_text.specs.Report.{advances}
 
 -- a word and a number
 abbrev pub count_text : List ℕ → ℕ → List ℕ

@@ -1,7 +1,7 @@
 // The lines of items.
 ghost use Rattle.std.specs.Prelude.{◌≡◌, ◌++◌, ◌+◌, OnOk, codes, length};
 ghost use Rattle.std.specs.Str.{IsAscii};
-ghost use Rattle.report_text.specs.Lines.{row_line, rows_lines, two_balances};
+ghost use Rattle.report_text.specs.inside.Lines.{row_line, rows_lines, two_balances};
 ghost use Rattle.tx_trees.specs.AsciiNames.{AreAsciiItems};
 
 use crate::values::push_balance;

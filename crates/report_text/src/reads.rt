@@ -1,8 +1,8 @@
 // The values of read trees.
 ghost use Rattle.std.specs.Prelude.{◌≡◌, ◌++◌, IfOk, OnOk, length, slice_get};
 ghost use Rattle.std.specs.Str.{IsAscii};
-ghost use Rattle.board_model.specs.Balances.{subs_in};
-ghost use Rattle.report_text.specs.Lines.{found_text, ops_texts, subs_texts};
+ghost use Rattle.board_model.specs.inside.Balances.{subs_in};
+ghost use Rattle.report_text.specs.inside.Lines.{found_text, ops_texts, subs_texts};
 ghost use Rattle.tx_trees.specs.AsciiNames.{AreAsciiItems};
 ghost use Rattle.report_text.specs.Report.{get_text};
 

@@ -5,7 +5,7 @@ ghost use Rattle.tx_trees.specs.Adding.{all_subs};
 ghost use Rattle.tx_trees.specs.Counts.{if_update};
 ghost use Rattle.board_model.specs.Balances.{worths};
 ghost use Rattle.report_text.specs.Summary.{counts_line, number_of, one_read, kind_worth, part_of, read_trees, summary_of, totals_line, trees_counts, update_trees};
-ghost use Rattle.report_text.specs.Totals.{AreSmall, kind_total};
+ghost use Rattle.report_text.specs.inside.Totals.{AreSmall, kind_total};
 
 use crate::check_text::count_subs;
 use crate::parts::{push_amount, push_count};

@@ -4,7 +4,7 @@ ghost use Rattle.board_model.specs.Balances.{worths};
 ghost use Rattle.board_model.specs.SerialList.{IsSerial};
 ghost use Rattle.board_model.specs.Standings.{standings_of};
 ghost use Rattle.board_model.specs.declared.serial.Member.{Member};
-ghost use Rattle.report_text.specs.Served.{AreAsked, AreRead, AreTold, IsServed, ask_at, asks_from, read_version};
+ghost use Rattle.report_text.specs.inside.Served.{AreAsked, AreRead, AreTold, IsServed, ask_at, asks_from, read_version};
 
 use crate::reads::{Reads, no_texts, values_of};
 use crate::run::Run;

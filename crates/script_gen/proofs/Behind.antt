@@ -11,7 +11,7 @@ use Rattle.tx_trees.specs.declared.parts.Tree.{Tree}
 use Rattle.tx_trees.proofs.Lists.{le_not}
 use Rattle.tx_trees.proofs.Rebuilding.{advances_in-append}
 use Rattle.script_gen.specs.Generated.{advances_behind, rows_up_to}
-use Rattle.script_gen.specs.Within.{HasTrees, with_begun}
+use Rattle.script_gen.specs.inside.Within.{HasTrees, with_begun}
 
 behind_by : (b : Bool) (j : ℕ) → ((j + 1) % 250 == 0) ≡ b → suc j / 250 ≡ j / 250 + advances_in (advances_behind j)
 behind_by true j e =

@@ -11,7 +11,7 @@ use Rattle.tx_trees.specs.Passing.{MayAddItem}
 use Rattle.tx_trees.specs.Ranges.{may_start}
 use Rattle.tx_trees.specs.declared.parts.Form.TheVariants as forms
 use Rattle.script_gen.specs.Generated.{item_name, item_row, items_up_to}
-use Rattle.script_gen.specs.Within.{with_items}
+use Rattle.script_gen.specs.inside.Within.{with_items}
 
 not_true : (b : Bool) → not b ≡ true → b ≡ false
 not_true true e = absurd (cc e)

@@ -10,7 +10,7 @@ use Rattle.tx_trees.specs.declared.parts.TreeKind.{TreeKind}
 use Rattle.script_gen.specs.Draws.{after_draws, given}
 use Rattle.tv_base.specs.Draws.{next_draw}
 use Rattle.script_gen.specs.Generated.{amount_by, deed_by, home_by, item_by, item_name, kind_by, node_by, own_draw, parent_by, tree_name, tree_with}
-use Rattle.script_gen.specs.Within.{HasRoom, bare_tree, with_begun}
+use Rattle.script_gen.specs.inside.Within.{HasRoom, bare_tree, with_begun}
 use Rattle.script_gen.proofs.Items.{item_found}
 use Rattle.script_gen.proofs.Trees.{item_less, next_op_may, next_sub_may, node_is, op_added, parent_is, sub_added, tree_begun, tree_may}
 

@@ -35,7 +35,7 @@ use Rattle.tx_trees.proofs.Totals.{all_subs-sum, load_total, op_total, put_total
 use Rattle.script_gen.specs.Draws.{after_draws, given}
 use Rattle.tv_base.specs.Draws.{next_draw}
 use Rattle.script_gen.specs.Generated.{after_trees, amount_by, deed_by, generated_tree, home_by, is_top, item_by, item_row, items_up_to, kind_by, node_by, parent_by, subs_up_to, tree_name, tree_with, trees_up_to}
-use Rattle.script_gen.specs.Within.{HasRoom, HasTrees, bare_sub, bare_tree, with_begun}
+use Rattle.script_gen.specs.inside.Within.{HasRoom, HasTrees, bare_sub, bare_tree, with_begun}
 use Rattle.script_gen.proofs.Names.{name_plain, names_apart}
 use Rattle.script_gen.proofs.Totals.{all_ops_most, all_subs_most, deed_small, length-subs, length-trees, load_most, no_put, not_strict, puts_none, strict_none, subs_load_most, subs_ops_most, subs_puts_none}
 

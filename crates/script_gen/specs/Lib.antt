@@ -1,3 +1,3 @@
 pub mod Draws
 pub mod Generated
-pub mod Within
+pub mod inside

@@ -2,7 +2,7 @@
 ghost use Rattle.std.specs.Prelude.{◌≡◌, ◌<◌, ◌≤◌, IfOk, OnOk};
 ghost use Rattle.tx_trees.specs.Adding.{advances_in};
 ghost use Rattle.script_gen.specs.Generated.{generated};
-ghost use Rattle.script_gen.specs.Within.{with_end};
+ghost use Rattle.script_gen.specs.inside.Within.{with_end};
 
 use crate::items_made::add_items;
 use crate::taking::{take_advance, take_settle};

@@ -1,7 +1,7 @@
 // The items.
 ghost use Rattle.std.specs.Prelude.{◌≡◌, ◌<◌, ◌+◌, OnOk};
 ghost use Rattle.script_gen.specs.Generated.{is_top, item_row};
-ghost use Rattle.script_gen.specs.Within.{with_items};
+ghost use Rattle.script_gen.specs.inside.Within.{with_items};
 
 use crate::naming::name_of;
 use crate::taking::take_item;

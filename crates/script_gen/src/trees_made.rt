@@ -3,7 +3,7 @@ ghost use Rattle.std.specs.Prelude.{◌≡◌, ◌<◌, ◌≤◌, ◌/◌, ◌%
 ghost use Rattle.tx_trees.specs.Adding.{advances_in, place_of, with_tree};
 ghost use Rattle.tx_trees.specs.Passing.{MayAddOp, MayAddTree};
 ghost use Rattle.script_gen.specs.Generated.{advances_behind, after_tree, amount_by, deed_by, generated_tree, home_by, item_by, item_name, kind_by, more_by, tree_name};
-ghost use Rattle.script_gen.specs.Within.{Follows, HasRoom, HasTrees, with_begun, with_op_by};
+ghost use Rattle.script_gen.specs.inside.Within.{Follows, HasRoom, HasTrees, with_begun, with_op_by};
 
 use crate::draws::{given, next_draw};
 use crate::items_made::is_top;

@@ -4,7 +4,7 @@ use Rattle.std.specs.List.{AllByRecursion, list_all}
 use Rattle.std.specs.Str.{IsAscii}
 use Rattle.std.proofs.lemmas.Bool.Decides.{nat_tests}
 use Rattle.tv_base.proofs.Truths.{right_true}
-use Rattle.script_parts.specs.AsciiNames.{AreAsciiItems, AreAsciiTrees}
+use Rattle.script_parts.specs.inside.AsciiNames.{AreAsciiItems, AreAsciiTrees}
 use Rattle.script_parts.specs.Names.{has_name_len, is_name, is_name_byte}
 use Rattle.script_parts.specs.Valid.{IsItem, IsTree}
 use Rattle.script_parts.specs.declared.parts.ItemRow.{ItemRow}

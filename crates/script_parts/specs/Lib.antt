@@ -1,6 +1,5 @@
 pub mod Adding
 pub mod Amounts
-pub mod AsciiNames
 pub mod Built
 pub mod Counts
 pub mod Forms
@@ -15,3 +14,4 @@ pub mod ScriptData
 pub mod Undone
 pub mod Valid
 pub mod Why
+pub mod inside

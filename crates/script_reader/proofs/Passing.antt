@@ -24,8 +24,10 @@ use Rattle.tx_trees.specs.declared.why.Why.{Why}
 use Rattle.tx_trees.specs.declared.why.Why.TheVariants as why
 use Rattle.tx_trees.specs.declared.why.Refusal.{Refusal}
 use Rattle.tx_trees.specs.declared.why.Refusal.TheVariants as refusals
-use Rattle.script_reader.specs.Numbers.{amount_of, amount_value, decimal_value, is_amount, is_number, number_of}
-use Rattle.script_reader.specs.Rows.{Leaves, adds_item_of, amount_row, by_word, deed_of, fail_row, field, if_built, item_of, item_row, later_form, later_row, node_no, op_row, starts, sub_row, tree_row}
+use Rattle.script_reader.specs.Numbers.{amount_value, decimal_value, is_amount, is_number}
+use Rattle.script_reader.specs.inside.Numbers.{amount_of, number_of}
+use Rattle.script_reader.specs.Rows.{adds_item_of, amount_row, by_word, deed_of, fail_row, field, if_built, item_of, item_row, later_form, later_row, node_no, op_row, starts, sub_row, tree_row}
+use Rattle.script_reader.specs.inside.Rows.{Leaves}
 use Rattle.script_reader.specs.Words.{if_word, kind_of, later_word, len_fits, may_follow, word_of}
 use Rattle.script_reader.specs.declared.words.OpWord.{OpWord}
 use Rattle.script_reader.specs.declared.words.RowWord.{RowWord}

@@ -31,7 +31,8 @@ use Rattle.tx_trees.specs.declared.parts.TreeKind.{TreeKind}
 use Rattle.tx_trees.specs.declared.parts.Written.{Written}
 use Rattle.tx_trees.proofs.Undoing.{WrittenTree, written_trees}
 use Rattle.tx_trees.specs.declared.parts.TreeKind.TheVariants as trees
-use Rattle.script_reader.specs.Numbers.{AreSmall, is_digit}
+use Rattle.script_reader.specs.Numbers.{is_digit}
+use Rattle.script_reader.specs.inside.Numbers.{AreSmall}
 use Rattle.script_reader.specs.Words.{kind_word}
 use Rattle.script_reader.specs.Written.{deed_fields, fail_rows, form_rows, pick_fields, rows_behind, rows_of, item_fields, nodes_fields, ops_rows, rows_of_rows, rows_of_tree, sub_fields, subs_rows, tree_fields, tree_rows}
 use Rattle.script_reader.proofs.Decimals.{digits_read}

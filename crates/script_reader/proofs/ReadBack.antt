@@ -28,7 +28,7 @@ use Rattle.tx_trees.specs.declared.parts.Written.{Written}
 use Rattle.tx_trees.proofs.Undoing.{WrittenTree, written_trees}
 use Rattle.tx_trees.specs.declared.why.Why.{Why}
 use Rattle.script_reader.specs.Builds.{Builds}
-use Rattle.script_reader.specs.Numbers.{AreSmall}
+use Rattle.script_reader.specs.inside.Numbers.{AreSmall}
 use Rattle.script_reader.specs.ReadBack.{IsReadAs}
 use Rattle.script_reader.specs.Reading.{after_first, read_every, read_of, read_rows, rows_from, then_rows}
 use Rattle.script_reader.specs.Records.{records_in}

@@ -26,7 +26,7 @@ use Rattle.tx_trees.specs.declared.parts.TreeKind.{TreeKind}
 use Rattle.tx_trees.specs.declared.parts.TreeKind.TheVariants as trees
 use Rattle.tx_trees.specs.declared.why.Why.{Why}
 use Rattle.tx_trees.specs.declared.why.Why.TheVariants as why
-use Rattle.script_reader.specs.Numbers.{amount_of, number_of}
+use Rattle.script_reader.specs.inside.Numbers.{amount_of, number_of}
 use Rattle.script_reader.specs.Rows.{amount_row, begun, by_word, deed_of, every_form, fail_row, field, later_form, first_row, if_built, item_row, later_row, nodes_row, op_row, pick_row, second_row, sub_row, tree_row, unless}
 use Rattle.script_reader.specs.Words.{kind_of, kind_word, later_word}
 use Rattle.script_reader.specs.Written.{deed_fields, fail_fields, item_fields, nodes_fields, pick_fields, sub_fields, tree_fields}

@@ -3,7 +3,8 @@ use Rattle.std.proofs.Common.{◌≡◌, ◌+◌, ℕ, Bool, true, false, List, 
 use Rattle.tx_trees.specs.ScriptData.{ScriptData}
 use Rattle.tx_trees.specs.declared.why.Why.{Why}
 use Rattle.script_reader.specs.declared.reading.ScriptFault.{ScriptFault}
-use Rattle.script_reader.specs.Rows.{Leaves, later_row}
+use Rattle.script_reader.specs.Rows.{later_row}
+use Rattle.script_reader.specs.inside.Rows.{Leaves}
 use Rattle.tx_trees.specs.declared.why.Refusal.{Refusal}
 use Rattle.tx_trees.specs.declared.why.Refusal.TheVariants as refusals
 use Rattle.script_reader.specs.declared.reading.ScriptRefusal.{ScriptRefusal}

@@ -9,3 +9,4 @@ pub mod Reading
 pub mod Written
 pub mod ReadBack
 pub mod BothReadings
+pub mod inside

@@ -1,6 +1,6 @@
 -- Numbers and amounts as their digits.
-use Rattle.std.specs.Prelude.{ℕ, Bool, false, ◌+◌, ◌*◌, ◌-◌, ◌&&◌, ◌==◌, ◌<◌, ◌^◌, nat_le, ℤ, pos, ◌-ℤ◌}
-use Rattle.std.specs.Prelude.{List, [], ◌∷◌, length, fold, Option, Some, None, if◌then◌else◌, slice_index}
+use Rattle.std.specs.Prelude.{ℕ, Bool, false, ◌+◌, ◌*◌, ◌-◌, ◌&&◌, ◌==◌, nat_le, ℤ, pos, ◌-ℤ◌}
+use Rattle.std.specs.Prelude.{List, [], ◌∷◌, length, fold, if◌then◌else◌}
 use Rattle.std.specs.List.{list_all}
 
 -- a decimal digit
@@ -14,10 +14,6 @@ decimal_value digits = fold (λ value b. value * 10 + (b - 48)) 0 digits
 -- 1 to 32 decimal digits
 abbrev pub is_number : List ℕ → Bool
 is_number bytes = nat_le 1 (length bytes) && nat_le (length bytes) 32 && list_all is_digit bytes
-
--- the number that bytes spell, if they do
-abbrev pub number_of : List ℕ → Option ℕ
-number_of bytes = if is_number bytes then Some (decimal_value bytes) else None
 
 -- an amount begins with a minus sign, which is the byte 45, or with its digits
 abbrev pub is_negative : List ℕ → Bool
@@ -44,11 +40,3 @@ signed negative size = if negative then pos 0 -ℤ pos size else pos size
 -- the value of an amount
 abbrev pub amount_value : List ℕ → ℤ
 amount_value bytes = signed (is_negative bytes) (size_of bytes)
-
--- the amount that bytes spell, if they do
-abbrev pub amount_of : List ℕ → Option ℤ
-amount_of bytes = if is_amount bytes then Some (amount_value bytes) else None
-
--- numbers of 32 bits
-abbrev pub AreSmall : List ℕ → Type 0
-AreSmall ks = (i : ℕ) → slice_index ks i < 2 ^ 32

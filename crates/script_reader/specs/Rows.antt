@@ -1,6 +1,6 @@
 -- What each row does to a script, with its conditions in the order of their numbers.
-use Rattle.std.specs.Prelude.{ℕ, ℤ, Bool, true, false, not, ◌≡◌, ◌==◌, ◌&&◌, ◌||◌, nat_le, List, [], ◌∷◌, length}
-use Rattle.std.specs.Prelude.{get_or, Option, Some, None, is_some, Result, Ok, Err, if◌then◌else◌, unsigned_abs, ⊤}
+use Rattle.std.specs.Prelude.{ℕ, ℤ, Bool, true, false, not, ◌==◌, ◌&&◌, ◌||◌, nat_le, List, [], ◌∷◌, length}
+use Rattle.std.specs.Prelude.{get_or, Option, Some, None, is_some, Result, Ok, Err, if◌then◌else◌, unsigned_abs}
 use Rattle.commute_ops.specs.declared.kinds.Kind.{Kind}
 use Rattle.commute_ops.specs.declared.kinds.Op.TheVariants as applied
 use Rattle.tv_base.specs.declared.numbers.NodeNo.{NodeNo}
@@ -17,8 +17,6 @@ use Rattle.tx_trees.specs.declared.parts.Form.TheVariants as forms
 use Rattle.tx_trees.specs.declared.parts.TreeKind.{TreeKind}
 use Rattle.tx_trees.specs.declared.why.Why.{Why}
 use Rattle.tx_trees.specs.declared.why.Why.TheVariants as why
-use Rattle.tx_trees.specs.declared.why.Refusal.{Refusal}
-use Rattle.tx_trees.specs.declared.why.Refusal.TheVariants as refusals
 use Rattle.script_reader.specs.Numbers.{amount_value, decimal_value, is_amount, is_number}
 use Rattle.script_reader.specs.Words.{first_word, kind_of, later_word, len_fits}
 use Rattle.script_reader.specs.declared.words.OpWord.{OpWord}
@@ -44,24 +42,6 @@ unless (c ∷ cs) next = if c.0 then Err c.1 else unless cs next
 abbrev pub if_built : Bool → Result ScriptData Why → Result ScriptData Why
 if_built built (Ok s) = if built then Ok s else Err why.NotBuilt
 if_built built (Err w) = Err w
-
--- what a call made, or why it did not
-abbrev pub Makes : Result ScriptData Why → Result ScriptData Refusal → Type 0
-Makes made (Ok s) = made ≡ Ok s
-Makes made (Err (refusals.Why w)) = made ≡ Err w
-Makes made (Err refusals.NoMemory) = ⊤
-
--- what the first record made: a script, or, where it names the second form, none yet
-abbrev pub Begins : Result (Option ScriptData) Why → Result (Option ScriptData) Refusal → Type 0
-Begins begun (Ok s) = begun ≡ Ok s
-Begins begun (Err (refusals.Why w)) = begun ≡ Err w
-Begins begun (Err refusals.NoMemory) = ⊤
-
--- what a call made of a script that it was lent, or why it did not
-abbrev pub Leaves : {T : Type 0} → Result ScriptData Why → Result T Refusal → ScriptData → Type 0
-Leaves made (Ok done) new = made ≡ Ok new
-Leaves made (Err (refusals.Why w)) new = made ≡ Err w
-Leaves made (Err refusals.NoMemory) new = ⊤
 
 -- a node by its number
 abbrev pub node_no : ℕ → NodeNo

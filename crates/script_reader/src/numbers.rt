@@ -1,7 +1,8 @@
 // Numbers of 1 to 32 decimal digits, and amounts, which may have a minus sign.
 ghost use Rattle.std.specs.Prelude.{◌≡◌, ◌≤◌, ◌<◌, ◌^◌, length, unsigned_abs, IfSome};
 ghost use Rattle.std.specs.List.{list_all};
-ghost use Rattle.script_reader.specs.Numbers.{amount_of, decimal_value, digits_of, is_digit, is_negative, number_of, signed};
+ghost use Rattle.script_reader.specs.Numbers.{decimal_value, digits_of, is_digit, is_negative, signed};
+ghost use Rattle.script_reader.specs.inside.Numbers.{amount_of, number_of};
 
 use commute_ops::Amount;
 

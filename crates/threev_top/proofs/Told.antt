@@ -2,9 +2,10 @@
 use Rattle.std.proofs.Common.{◌≡◌, ◌≤◌, ◌⊎◌, inl, inr, ℕ, List, Some, sym, ap, arith}
 use Rattle.std.specs.Prelude.{IsTrue}
 use Rattle.script_reader.specs.declared.reading.ScriptFault.{ScriptFault}
-use Rattle.threev_top.specs.Calls.{is_refusal}
+use Rattle.threev_top.specs.inside.Calls.{is_refusal}
 use Rattle.tx_trees.specs.Why.{why_name}
-use Rattle.threev_top.specs.Texts.{line_of, row_line, status_of}
+use Rattle.threev_top.specs.Texts.{row_line}
+use Rattle.threev_top.specs.inside.Texts.{line_of, status_of}
 use Rattle.threev_top.specs.declared.outcomes.Stop.{Stop}
 use Rattle.threev_top.specs.declared.outcomes.Stop.TheVariants as stops
 

@@ -1,14 +1,10 @@
 -- What the top call reads and writes.
-use Rattle.std.specs.Prelude.{ℕ, Bool, true, false, ◌≡◌, ◌≤◌, ◌++◌, ◌⊎◌, List, [], Option, Some, None, Ok, Err, ⊤}
+use Rattle.std.specs.Prelude.{ℕ, Bool, true, false, ◌≡◌, ◌++◌, ◌⊎◌, List, [], Option, Some, None, Ok, Err, ⊤}
 use Rattle.std.specs.Io.KnownBytes.{Appends, Consumes, IsAtEnd}
 use Rattle.tv_base.specs.Outside.{AppendsFront, HasMoreThan, Rose}
-use Rattle.tv_base.specs.declared.moving.ReadEnd.{ReadEnd}
-use Rattle.tv_base.specs.declared.moving.ReadEnd.TheVariants as ends
 use Rattle.tv_base.specs.declared.moving.TheConstants.{MOST_BYTES}
 use Rattle.command_words.specs.declared.Line.{Line}
 use Rattle.command_words.specs.declared.Line.TheVariants as lines
-use Rattle.command_words.specs.declared.WordsError.{WordsError}
-use Rattle.command_words.specs.declared.WordsError.TheVariants as errors
 use Rattle.letter_types.specs.declared.entries.Entry.{Entry}
 use Rattle.tx_trees.specs.ScriptData.{ScriptData}
 use Rattle.tx_trees.specs.declared.why.Why.TheVariants as why
@@ -16,8 +12,6 @@ use Rattle.script_reader.specs.Reading.{fault, read_of}
 use Rattle.script_reader.specs.Written.{written}
 use Rattle.tx_trees.specs.Adding.{upgraded}
 use Rattle.script_reader.specs.declared.reading.ScriptFault.{ScriptFault}
-use Rattle.script_reader.specs.declared.reading.ScriptRefusal.{ScriptRefusal}
-use Rattle.script_reader.specs.declared.reading.ScriptRefusal.TheVariants as refusals
 use Rattle.report_text.specs.Report.{report_of}
 use Rattle.report_text.specs.Lines.{check_line_of}
 use Rattle.world_model.specs.Scheduled.{IsScheduled}
@@ -44,11 +38,6 @@ IsText modes.Check s h text = (h ≡ []) × (text ≡ check_line_of s)
 IsText (modes.Sim seed lines) s h text = HasEnded s h × IsScheduled s seed h × (text ≡ report_with lines s h)
 IsText (modes.Run workers lines) s h text = HasHeadline s h × (text ≡ report_with lines s h)
 IsText modes.Upgrade s h text = (h ≡ []) × (text ≡ written (upgraded s))
-
--- a mode that runs threads has from 1 to 32 workers
-abbrev pub HasWorkers : Mode → Type 0
-HasWorkers (modes.Run workers lines) = (1 ≤ workers) × (workers ≤ 32)
-HasWorkers _ = Unit {0}
 
 -- the bytes are a script, and this is its text and history in this mode
 pub record IsTextOf (mode : Mode) (bytes : List ℕ) (history : List Entry) (text : List ℕ) : Type 0 where
@@ -150,58 +139,8 @@ Refuses left now f = ReadRefused left now f ⊎ ((f ≡ fault 0 why.TooLong) × 
 abbrev pub Tells : Option (List ℕ) → Option (List ℕ) → ℕ → ℕ → List ℕ → Type 0
 Tells written after before now line = Appends written after line ⊎ (AppendsFront written after line × Rose before now)
 
--- why the bytes give no text
-abbrev pub IsStop : List ℕ → Stop → Type 0
-IsStop bytes (stops.Script f) = read_of bytes ≡ Err f
-IsStop bytes stops.NoMemory = ⊤
-IsStop bytes stops.Words = ⊥
-IsStop bytes stops.Reading = ⊥
-IsStop bytes stops.Writing = ⊥
-
-abbrev pub script_stop : ScriptRefusal → Stop
-script_stop (refusals.Fault f) = stops.Script f
-script_stop refusals.NoMemory = stops.NoMemory
-
-abbrev pub words_stop : WordsError → Stop
-words_stop errors.Refused = stops.Words
-words_stop errors.NoMemory = stops.NoMemory
-
-abbrev pub is_refusal : Stop → Bool
-is_refusal (stops.Script f) = true
-is_refusal stops.NoMemory = false
-is_refusal stops.Words = false
-is_refusal stops.Reading = false
-is_refusal stops.Writing = false
-
-abbrev pub reading_stop : ReadEnd → Stop
-reading_stop ends.TooLong = stops.Script (fault 0 why.TooLong)
-reading_stop ends.Failed = stops.Reading
-reading_stop ends.NoMemory = stops.NoMemory
-
 -- the text was written whole, or writing failed
 abbrev pub IsWritten : Option Stop → Type 0
 IsWritten None = ⊤
 IsWritten (Some stops.Writing) = ⊤
 IsWritten _ = ⊥
-
--- the same, or there was no memory
-abbrev pub IsWrittenOrNoMemory : Option Stop → Type 0
-IsWrittenOrNoMemory None = ⊤
-IsWrittenOrNoMemory (Some stops.Writing) = ⊤
-IsWrittenOrNoMemory (Some stops.NoMemory) = ⊤
-IsWrittenOrNoMemory _ = ⊥
-
--- what stops may come once there are bytes
-abbrev pub IsByBytes : List ℕ → Option Stop → Type 0
-IsByBytes bytes None = ⊤
-IsByBytes bytes (Some stops.Writing) = ⊤
-IsByBytes bytes (Some stop) = IsStop bytes stop
-
--- nothing was written to out
-abbrev pub is_before_writing : Option Stop → Bool
-is_before_writing None = false
-is_before_writing (Some stops.Writing) = false
-is_before_writing (Some stops.NoMemory) = true
-is_before_writing (Some stops.Words) = true
-is_before_writing (Some (stops.Script f)) = true
-is_before_writing (Some stops.Reading) = true

@@ -1,3 +1,4 @@
 pub mod Texts
 pub mod Upgraded
 pub mod Calls
+pub mod inside

@@ -1,24 +1,5 @@
 -- The program's own texts.
 use Rattle.std.specs.Prelude.{ℕ, List, ◌++◌, codes, decimal}
-use Rattle.tx_trees.specs.Why.{why_name}
-use Rattle.threev_top.specs.declared.outcomes.Stop.{Stop}
-use Rattle.threev_top.specs.declared.outcomes.Stop.TheVariants as stops
 
 abbrev pub row_line : ℕ → List ℕ → List ℕ
 row_line row name = codes "threev: row " ++ (decimal row ++ (codes ": " ++ (name ++ codes "\n")))
-
--- the status of an end before the text was written whole
-abbrev pub status_of : Stop → ℕ
-status_of stops.NoMemory = 1
-status_of stops.Words = 2
-status_of (stops.Script f) = 3
-status_of stops.Reading = 4
-status_of stops.Writing = 5
-
--- its line on standard error
-abbrev pub line_of : Stop → List ℕ
-line_of stops.NoMemory = codes "threev: out of memory\n"
-line_of stops.Words = codes "threev: the words are not a command line of this program\n"
-line_of (stops.Script f) = row_line f.row (why_name f.why)
-line_of stops.Reading = codes "threev: reading failed\n"
-line_of stops.Writing = codes "threev: writing failed\n"

@@ -10,7 +10,7 @@ use Rattle.tree_home.specs.Homes.{Gets, OpenTrees, after_notice, answer_in, answ
 use Rattle.tree_home.specs.declared.homes.Answered.{Answered}
 use Rattle.tree_home.specs.declared.homes.OpenTree.{OpenTree}
 use Rattle.tree_step.specs.Notices.{answer_noted, homes_noted}
-use Rattle.tree_step.specs.Opening.{root_answer}
+use Rattle.tree_step.specs.inside.Opening.{root_answer}
 use Rattle.tree_home.proofs.Always.{all-missing, misses-begun, begun-there, forgotten-begun}
 
 abbrev root_no : SubNo

@@ -5,4 +5,4 @@ pub mod Done
 pub mod Asked
 pub mod Apt
 pub mod Due
-pub mod Opening
+pub mod inside

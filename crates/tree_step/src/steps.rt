@@ -10,7 +10,7 @@ ghost use Rattle.tree_step.specs.Children.{done_letter, sub_letters};
 ghost use Rattle.tree_step.specs.Done.{raised_if, root_done, sub_done};
 ghost use Rattle.tree_step.specs.Node.{data_of, effect_on, IsInWindow, IsOf, IsReady};
 ghost use Rattle.tree_step.specs.Notices.{homes_noted, reply_letters};
-ghost use Rattle.tree_step.specs.Opening.{root_answer};
+ghost use Rattle.tree_step.specs.inside.Opening.{root_answer};
 
 use crate::counting::{count_root, count_sub};
 use crate::letters::{root_out, sub_letters, sub_out};

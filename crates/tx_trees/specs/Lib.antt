@@ -1,7 +1,7 @@
 pub mod Inside
 pub use Rattle.script_parts.specs.Adding
 pub use Rattle.script_parts.specs.Amounts
-pub use Rattle.script_parts.specs.AsciiNames
+pub use Rattle.script_parts.specs.inside.AsciiNames
 pub use Rattle.script_parts.specs.Built
 pub use Rattle.script_parts.specs.Counts
 pub use Rattle.script_parts.specs.Forms

@@ -1,5 +1,5 @@
 use Rattle.std.proofs.Common.{◌≡◌, drop, IsTrue}
-use Rattle.board_model.specs.May.{all_ops_may}
+use Rattle.board_model.specs.inside.May.{all_ops_may}
 use Rattle.board_model.specs.Balances.{all_after_ops}
 use Rattle.board_model.proofs.balances.all_after_ops.Given as goal
 

@@ -1,5 +1,5 @@
 use Rattle.std.proofs.Common.{◌≡◌, drop, IsTrue}
-use Rattle.board_model.specs.May.{all_subs_may}
+use Rattle.board_model.specs.inside.May.{all_subs_may}
 use Rattle.board_model.specs.Balances.{all_after_subs}
 use Rattle.board_model.proofs.balances.all_after_subs.Given as goal
 

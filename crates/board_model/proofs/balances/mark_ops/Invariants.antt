@@ -1,5 +1,5 @@
 use Rattle.std.proofs.Common.{◌≡◌, drop}
-use Rattle.board_model.specs.Balances.{mark_ops}
+use Rattle.board_model.specs.inside.Balances.{mark_ops}
 use Rattle.board_model.proofs.balances.mark_ops.Given as goal
 
 abbrev pub invariant-loop-op : goal.invariant-loop-op

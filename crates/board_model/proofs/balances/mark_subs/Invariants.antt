@@ -1,5 +1,5 @@
 use Rattle.std.proofs.Common.{◌≡◌, drop}
-use Rattle.board_model.specs.Balances.{mark_subs}
+use Rattle.board_model.specs.inside.Balances.{mark_subs}
 use Rattle.board_model.proofs.balances.mark_subs.Given as goal
 
 abbrev pub invariant-loop-sub : goal.invariant-loop-sub

@@ -1,5 +1,5 @@
 use Rattle.std.proofs.Common.{◌≡◌, drop}
-use Rattle.board_model.specs.Balances.{mark_trees}
+use Rattle.board_model.specs.inside.Balances.{mark_trees}
 use Rattle.board_model.proofs.balances.mark_trees.Given as goal
 
 abbrev pub invariant-loop-t : goal.invariant-loop-t

@@ -1,5 +1,5 @@
 use Rattle.std.proofs.Common.{◌≡◌, ◌++◌, drop}
-use Rattle.board_model.specs.Balances.{no_marks}
+use Rattle.board_model.specs.inside.Balances.{no_marks}
 use Rattle.board_model.proofs.balances.no_marks.Given as goal
 
 abbrev pub invariant-loop-item : goal.invariant-loop-item

@@ -3,8 +3,8 @@ use Rattle.letter_types.specs.declared.entries.Entry.{Entry}
 use Rattle.tx_trees.specs.ScriptData.{ScriptData}
 use Rattle.tx_trees.specs.declared.parts.Tree.{Tree}
 use Rattle.board_model.specs.declared.serial.Member.{Member}
-use Rattle.board_model.specs.Balances.{subs_in}
-use Rattle.board_model.specs.May.{all_subs_may}
+use Rattle.board_model.specs.inside.Balances.{subs_in}
+use Rattle.board_model.specs.inside.May.{all_subs_may}
 use Rattle.board_model.specs.SerialList.{IsSerial}
 use Rattle.board_model.proofs.Carrying.{above, member_may, stops}
 use Rattle.board_model.proofs.carried.carry.Goals as goal

@@ -1,7 +1,7 @@
 use Rattle.std.proofs.Common.{◌≡◌, ◌-◌, drop}
-use Rattle.board_model.specs.Closed.{closed_back}
-use Rattle.board_model.specs.SerialList.{placed}
-use Rattle.board_model.specs.Tallies.{noted_back}
+use Rattle.board_model.specs.inside.Closed.{closed_back}
+use Rattle.board_model.specs.inside.SerialList.{placed}
+use Rattle.board_model.specs.inside.Tallies.{noted_back}
 use Rattle.board_model.proofs.serial.note_acts.Given as goal
 
 abbrev pub invariant-loop-k : goal.invariant-loop-k

@@ -1,11 +1,12 @@
 use Rattle.std.proofs.Common.{◌-◌, List, length, drop, refl, ap, sym, ◌∙◌, arith}
 use Rattle.letter_types.specs.declared.acts.Act.{Act}
 use Rattle.letter_types.specs.declared.entries.Entry.{Entry}
-use Rattle.board_model.specs.Closed.{Closed, closed_back}
+use Rattle.board_model.specs.Closed.{Closed}
+use Rattle.board_model.specs.inside.Closed.{closed_back}
 use Rattle.board_model.specs.Histories.{Place, places_at, places_of}
-use Rattle.board_model.specs.SerialList.{placed}
+use Rattle.board_model.specs.inside.SerialList.{placed}
 use Rattle.board_model.specs.declared.tallies.Tally.{Tally}
-use Rattle.board_model.specs.Tallies.{noted_back}
+use Rattle.board_model.specs.inside.Tallies.{noted_back}
 use Rattle.board_model.proofs.Back.{closed_back-append, entry_back, noted_back-append}
 use Rattle.board_model.proofs.serial.note_entries.Goals as goal
 

@@ -7,11 +7,13 @@ use Rattle.tx_trees.specs.declared.parts.Tree.{Tree}
 use Rattle.board_model.specs.declared.serial.Member.{Member}
 use Rattle.board_model.specs.declared.standings.Standing.{Standing}
 use Rattle.board_model.specs.declared.tallies.Tally.{Tally}
-use Rattle.board_model.specs.Closed.{Closed, closed_back, none_closed}
+use Rattle.board_model.specs.Closed.{Closed, none_closed}
+use Rattle.board_model.specs.inside.Closed.{closed_back}
 use Rattle.board_model.specs.Histories.{places_of}
-use Rattle.board_model.specs.SerialList.{found_back, is_of, trees_of}
+use Rattle.board_model.specs.SerialList.{is_of, trees_of}
+use Rattle.board_model.specs.inside.SerialList.{found_back}
 use Rattle.board_model.specs.Standings.{standings_of}
-use Rattle.board_model.specs.Tallies.{blank, noted_back, stood_by}
+use Rattle.board_model.specs.inside.Tallies.{blank, noted_back, stood_by}
 use Rattle.board_model.proofs.Back.{found_all, length-noted_back, stood_all}
 use Rattle.board_model.proofs.ByVersion.{is_serial}
 use Rattle.board_model.proofs.serial.outcomes_of.Goals as goal

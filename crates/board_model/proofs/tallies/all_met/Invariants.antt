@@ -1,5 +1,5 @@
 use Rattle.std.proofs.Common.{◌≡◌, drop}
-use Rattle.board_model.specs.Tallies.{all_met}
+use Rattle.board_model.specs.inside.Tallies.{all_met}
 use Rattle.board_model.proofs.tallies.all_met.Given as goal
 
 abbrev pub invariant-loop-sub : goal.invariant-loop-sub

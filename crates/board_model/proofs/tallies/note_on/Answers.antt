@@ -1,6 +1,6 @@
 use Rattle.std.proofs.Common.{◌≡◌, ap, ◌∙◌, slice_set, get_or, arith}
 use Rattle.board_model.specs.declared.tallies.Tally.{Tally}
-use Rattle.board_model.specs.Tallies.{with_news}
+use Rattle.board_model.specs.inside.Tallies.{with_news}
 use Rattle.board_model.proofs.Rows.{on_row_there}
 use Rattle.board_model.proofs.tallies.note_on.Goals as goal
 

@@ -1,5 +1,5 @@
 use Rattle.std.proofs.Common.{◌≡◌, ◌++◌, drop}
-use Rattle.board_model.specs.Tallies.{stood_by}
+use Rattle.board_model.specs.inside.Tallies.{stood_by}
 use Rattle.board_model.proofs.tallies.stood_by.Given as goal
 
 abbrev pub invariant-loop-t : goal.invariant-loop-t

@@ -1,6 +1,6 @@
 use Rattle.std.proofs.Common.{◌≡◌, ◌≤◌, length, ap, arith, length-append}
 use Rattle.item_versions.specs.declared.item.TheConstants.{MOST_VERSIONS}
-use Rattle.item_versions.specs.InPlace.{raised}
+use Rattle.item_versions.specs.inside.InPlace.{raised}
 use Rattle.item_versions.specs.Item.{Held, above}
 use Rattle.item_versions.proofs.Rooms.{places_enough, length-raised}
 use Rattle.item_versions.proofs.item.touch_places.Goals as goal

@@ -1,5 +1,5 @@
 use Rattle.std.proofs.Common.{◌≡◌, ◌++◌, drop}
-use Rattle.report_text.specs.Lines.{rows_lines}
+use Rattle.report_text.specs.inside.Lines.{rows_lines}
 use Rattle.tx_trees.specs.AsciiNames.{AreAsciiItems}
 use Rattle.report_text.proofs.items.push_rows.Given as goal
 

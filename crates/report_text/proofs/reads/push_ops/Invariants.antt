@@ -1,5 +1,5 @@
 use Rattle.std.proofs.Common.{◌≡◌, ◌++◌, drop}
-use Rattle.report_text.specs.Lines.{ops_texts}
+use Rattle.report_text.specs.inside.Lines.{ops_texts}
 use Rattle.report_text.proofs.reads.push_ops.Given as goal
 
 abbrev pub invariant-loop-op : goal.invariant-loop-op

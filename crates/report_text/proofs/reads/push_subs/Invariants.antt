@@ -1,5 +1,5 @@
 use Rattle.std.proofs.Common.{◌≡◌, ◌++◌, drop}
-use Rattle.report_text.specs.Lines.{subs_texts}
+use Rattle.report_text.specs.inside.Lines.{subs_texts}
 use Rattle.report_text.proofs.reads.push_subs.Given as goal
 
 abbrev pub invariant-loop-sub : goal.invariant-loop-sub

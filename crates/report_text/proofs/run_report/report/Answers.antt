@@ -7,7 +7,7 @@ use Rattle.tx_trees.specs.declared.parts.Tree.{Tree}
 use Rattle.board_model.specs.declared.standings.Standing.{Standing}
 use Rattle.board_model.specs.Balances.{worths, written_items}
 use Rattle.board_model.specs.Standings.{standings_of}
-use Rattle.report_text.specs.Lines.{rows_lines, trees_lines}
+use Rattle.report_text.specs.inside.Lines.{rows_lines, trees_lines}
 use Rattle.tx_trees.specs.AsciiNames.{AreAsciiItems, AreAsciiTrees}
 use Rattle.report_text.specs.Report.{advances, nodes_text}
 use Rattle.report_text.proofs.ItemLines.{length-worths, length-written}

@@ -1,7 +1,7 @@
 use Rattle.std.proofs.Common.{◌≡◌, ◌≤◌, ◌*◌, drop}
 use Rattle.std.specs.Prelude.{◌+ℤ◌, unsigned_abs}
 use Rattle.commute_ops.specs.declared.kinds.TheConstants.{MOST_AMOUNT}
-use Rattle.report_text.specs.Totals.{AreSmall, kind_total}
+use Rattle.report_text.specs.inside.Totals.{AreSmall, kind_total}
 use Rattle.report_text.proofs.run_summary.total_of.Given as goal
 
 abbrev pub invariant-loop-item : goal.invariant-loop-item

@@ -7,7 +7,7 @@ use Rattle.tx_trees.specs.ScriptData.{ScriptData}
 use Rattle.tx_trees.specs.declared.parts.ItemRow.{ItemRow}
 use Rattle.board_model.specs.Balances.{worths}
 use Rattle.report_text.specs.Summary.{kind_worth}
-use Rattle.report_text.specs.Totals.{AreSmall, kind_total}
+use Rattle.report_text.specs.inside.Totals.{AreSmall, kind_total}
 use Rattle.report_text.proofs.ItemLines.{length-worths}
 use Rattle.report_text.proofs.SmallWorths.{total_all, worths_small}
 use Rattle.report_text.proofs.run_summary.totals_at.Goals as goal

@@ -1,5 +1,5 @@
 use Rattle.std.proofs.Common.{◌≡◌, ◌++◌, drop}
-use Rattle.report_text.specs.Served.{asks_from}
+use Rattle.report_text.specs.inside.Served.{asks_from}
 use Rattle.report_text.proofs.served.asks_of.Given as goal
 
 abbrev pub invariant-loop-t : goal.invariant-loop-t

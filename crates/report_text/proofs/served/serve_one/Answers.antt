@@ -4,12 +4,13 @@ use Rattle.letter_types.specs.declared.entries.Entry.{Entry}
 use Rattle.tx_trees.specs.ScriptData.{ScriptData, subs_at}
 use Rattle.tx_trees.specs.declared.parts.ItemRow.{ItemRow}
 use Rattle.tx_trees.specs.declared.parts.Tree.{Tree}
-use Rattle.board_model.specs.Balances.{subs_in, worths}
+use Rattle.board_model.specs.Balances.{worths}
+use Rattle.board_model.specs.inside.Balances.{subs_in}
 use Rattle.board_model.specs.declared.serial.Member.{Member}
 use Rattle.report_text.specs.declared.served.Served.{Served}
-use Rattle.report_text.specs.Lines.{subs_texts}
+use Rattle.report_text.specs.inside.Lines.{subs_texts}
 use Rattle.tx_trees.specs.AsciiNames.{AreAsciiItems}
-use Rattle.report_text.specs.Served.{AreAsked, IsServed}
+use Rattle.report_text.specs.inside.Served.{AreAsked, IsServed}
 use Rattle.tx_trees.proofs.AsciiNames.{items_ascii}
 use Rattle.report_text.proofs.Serving.{served_more}
 use Rattle.report_text.proofs.served.serve_one.Goals as goal

@@ -1,5 +1,5 @@
 use Rattle.std.proofs.Common.{◌-◌, length}
-use Rattle.report_text.specs.Served.{IsServed}
+use Rattle.report_text.specs.inside.Served.{IsServed}
 use Rattle.report_text.proofs.served.serve_rest.Given as goal
 
 abbrev pub invariant-loop-now : goal.invariant-loop-now

@@ -6,7 +6,7 @@ use Rattle.board_model.specs.declared.serial.Member.{Member}
 use Rattle.board_model.specs.declared.standings.Standing.{Standing}
 use Rattle.board_model.specs.SerialList.{IsByVersion}
 use Rattle.board_model.specs.Standings.{standings_of}
-use Rattle.report_text.specs.Served.{AreAsked, asks_from}
+use Rattle.report_text.specs.inside.Served.{AreAsked, asks_from}
 use Rattle.report_text.proofs.Serving.{all_read, asked_of}
 use Rattle.report_text.proofs.TreeLines.{length-standings_of}
 use Rattle.report_text.proofs.served.shown_of.Goals as goal

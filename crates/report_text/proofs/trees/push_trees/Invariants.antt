@@ -1,5 +1,5 @@
 use Rattle.std.proofs.Common.{◌≡◌, ◌++◌, drop}
-use Rattle.report_text.specs.Lines.{trees_lines}
+use Rattle.report_text.specs.inside.Lines.{trees_lines}
 use Rattle.tx_trees.specs.AsciiNames.{AreAsciiTrees}
 use Rattle.report_text.proofs.trees.push_trees.Given as goal
 

@@ -2,7 +2,7 @@ use Rattle.std.proofs.Common.{sym, subst}
 use Rattle.tx_trees.specs.Passing.{MayAddItem}
 use Rattle.tx_trees.specs.ScriptData.{ScriptData}
 use Rattle.tx_trees.specs.declared.parts.ItemRow.{ItemRow}
-use Rattle.script_gen.specs.Within.{with_items}
+use Rattle.script_gen.specs.inside.Within.{with_items}
 use Rattle.script_gen.proofs.Items.{item_may}
 use Rattle.script_gen.proofs.items_made.add_item.Goals as goal
 

@@ -2,7 +2,7 @@ use Rattle.std.proofs.Common.{◌≡◌, ◌+◌, ◌<◌, ◌≤◌, ◌∙◌,
 use Rattle.script_gen.specs.Draws.{after_draws, given}
 use Rattle.tv_base.specs.Draws.{next_draw}
 use Rattle.script_gen.specs.Generated.{home_by, kind_by, tree_with}
-use Rattle.script_gen.specs.Within.{with_begun}
+use Rattle.script_gen.specs.inside.Within.{with_begun}
 use Rattle.script_gen.proofs.Stages.{begin_may, begun, op_made, op_may_now, op_named, sub_made, sub_may_now}
 use Rattle.script_gen.proofs.Trees.{node_is}
 use Rattle.script_gen.proofs.trees_made.add_tree.Goals as goal

@@ -2,7 +2,7 @@ use Rattle.std.proofs.Common.{◌≡◌}
 use Rattle.script_gen.specs.Draws.{after_draws}
 use Rattle.tv_base.specs.Draws.{next_draw}
 use Rattle.script_gen.specs.Generated.{tree_with}
-use Rattle.script_gen.specs.Within.{with_begun}
+use Rattle.script_gen.specs.inside.Within.{with_begun}
 use Rattle.script_gen.proofs.trees_made.add_tree.Given as goal
 
 abbrev pub invariant-loop-k : goal.invariant-loop-k

@@ -1,6 +1,6 @@
 use Rattle.std.proofs.Common.{◌≡◌}
 use Rattle.script_gen.specs.Generated.{after_trees}
-use Rattle.script_gen.specs.Within.{HasTrees}
+use Rattle.script_gen.specs.inside.Within.{HasTrees}
 use Rattle.script_gen.proofs.trees_made.add_trees.Given as goal
 
 abbrev pub invariant-loop-j : goal.invariant-loop-j

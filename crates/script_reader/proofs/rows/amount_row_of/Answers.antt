@@ -1,7 +1,8 @@
 use Rattle.std.proofs.Common.{ap, sym, subst, Result, ◌∙◌}
 use Rattle.tx_trees.specs.ScriptData.{ScriptData}
 use Rattle.tx_trees.specs.declared.why.Why.{Why}
-use Rattle.script_reader.specs.Rows.{Leaves, deed_of}
+use Rattle.script_reader.specs.Rows.{deed_of}
+use Rattle.script_reader.specs.inside.Rows.{Leaves}
 use Rattle.script_reader.proofs.Passing.{amount_row_is, passed_as}
 use Rattle.script_reader.proofs.rows.amount_row_of.Goals as goal
 

@@ -1,7 +1,8 @@
 use Rattle.std.proofs.Common.{sym, subst, Result, ℤ}
 use Rattle.tx_trees.specs.ScriptData.{ScriptData}
 use Rattle.tx_trees.specs.declared.why.Why.{Why}
-use Rattle.script_reader.specs.Rows.{Leaves, item_of}
+use Rattle.script_reader.specs.Rows.{item_of}
+use Rattle.script_reader.specs.inside.Rows.{Leaves}
 use Rattle.script_reader.proofs.Passing.{item_row_is, passed_as}
 use Rattle.script_reader.proofs.rows.item_row_of.Goals as goal
 

@@ -2,7 +2,8 @@ use Rattle.std.proofs.Common.{sym, subst, Result, ◌∙◌}
 use Rattle.csv.specs.Records.{fields_of}
 use Rattle.tx_trees.specs.ScriptData.{ScriptData}
 use Rattle.tx_trees.specs.declared.why.Why.{Why}
-use Rattle.script_reader.specs.Rows.{Leaves, built_forms}
+use Rattle.script_reader.specs.Rows.{built_forms}
+use Rattle.script_reader.specs.inside.Rows.{Leaves}
 use Rattle.script_reader.proofs.Passing.{amount_form_is, fail_form_is, get_form_is, item_form_is, later_is, later_wrong, second_fails, second_loses, sub_form_is, tree_form_is}
 use Rattle.script_reader.proofs.rows.take_later.Goals as goal
 

@@ -5,7 +5,7 @@ use Rattle.tx_trees.specs.declared.parts.ItemRow.{ItemRow}
 use Rattle.tx_trees.specs.AsciiNames.{AreAsciiItems, AreAsciiTrees}
 use Rattle.tx_trees.proofs.AsciiNames.{items_ascii, trees_ascii}
 use Rattle.script_reader.proofs.Pushed.{all_pushed, rows_are}
-use Rattle.script_reader.specs.Numbers.{AreSmall}
+use Rattle.script_reader.specs.inside.Numbers.{AreSmall}
 use Rattle.script_reader.proofs.ReadBack.{every_read, text_read}
 use Rattle.script_reader.proofs.writing.write_script.Goals as goal
 

@@ -5,7 +5,7 @@ use Rattle.letter_types.specs.Steps.{made}
 use Rattle.client_rows.specs.Client.{Client, client_row, rows_letters}
 use Rattle.client_rows.specs.Kept.{Kept}
 use Rattle.client_rows.specs.Held.{kept_here}
-use Rattle.client_rows.specs.News.{news_of, answered_after, sent_first}
+use Rattle.client_rows.specs.inside.News.{news_of, answered_after, sent_first}
 use Rattle.client_rows.specs.declared.places.Place.{Place}
 use Rattle.client_rows.proofs.Submits.{Submission, heard, row-heard, same_place, same_finish, submission-row}
 use Rattle.client_rows.proofs.client.Client.on.Goals as goal

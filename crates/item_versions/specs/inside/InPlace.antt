@@ -1,4 +1,4 @@
--- An item that is changed in place.
+-- An item that is changed in place. Private code alone cites these definitions.
 use Rattle.std.specs.Prelude.{[], ◌∷◌}
 use Rattle.tv_base.specs.declared.numbers.Version.{Version}
 use Rattle.commute_ops.specs.declared.kinds.Op.{Op}

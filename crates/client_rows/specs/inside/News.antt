@@ -1,4 +1,4 @@
--- What a letter tells the client, and what the client knows then.
+-- What a letter tells the client, and what the client knows then. Private code alone cites these definitions.
 use Rattle.std.specs.Prelude.{if◌then◌else◌, ℕ, Bool, true, ◌+◌, ◌-◌, ◌^◌, min, nat_lt, List, [], ◌∷◌, slice_set, Option, Some, None}
 use Rattle.tx_trees.specs.ScriptData.{ScriptData}
 use Rattle.letter_types.specs.declared.bodies.Body.{Body}

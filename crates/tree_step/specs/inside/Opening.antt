@@ -1,4 +1,5 @@
--- A tree whose root is done: it is answered at once where it has no other subtransaction.
+-- A tree whose root is done: it is answered at once where it has no other subtransaction. Private code alone cites
+-- these definitions.
 use Rattle.std.specs.Prelude.{if◌then◌else◌, ℕ, ◌==◌, Option, Some, None}
 use Rattle.tv_base.specs.declared.numbers.TreeNo.{TreeNo}
 use Rattle.tv_base.specs.declared.numbers.Version.{Version}

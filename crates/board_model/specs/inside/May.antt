@@ -1,5 +1,5 @@
--- Whether deeds may be done one after another: on one item, and on all items side by side. Only the code of the report
--- cites it.
+-- Whether deeds may be done one after another: on one item, and on all items side by side. Only the code of the
+-- report cites it.
 use Rattle.std.specs.Prelude.{if◌then◌else◌, ℕ, ℤ, Bool, true, ◌==◌, ◌&&◌, List, [], ◌∷◌, Option, Some, None, slice_get}
 use Rattle.commute_ops.specs.declared.value.Value.{Value}
 use Rattle.commute_ops.specs.declared.value.Value.TheVariants.{Sum, Top, Bag}

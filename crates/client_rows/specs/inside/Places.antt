@@ -1,0 +1,32 @@
+-- How far the client is among the rows. These are the definitions that private code alone cites.
+use Rattle.std.specs.Prelude.{ℕ, Bool, false, ◌+◌, not, List, take, drop}
+use Rattle.tx_trees.specs.Adding.{advances_in}
+use Rattle.tx_trees.specs.declared.parts.ScriptRow.{ScriptRow}
+use Rattle.tx_trees.specs.declared.parts.ScriptRow.TheVariants.{Tree as TreeRow, Settle as SettleRow}
+use Rattle.client_rows.specs.Client.{Client, submitted}
+use Rattle.client_rows.specs.Kept.{trees_in, unanswered_in}
+use Rattle.client_rows.specs.declared.places.Place.{Place}
+use Rattle.client_rows.specs.Places.{is_over}
+
+-- the place with so many rows submitted and these trees answered
+abbrev pub place_at : List ScriptRow → List Bool → ℕ → Place
+place_at rows answered next = record {
+  next = next;
+  sent = trees_in (take next rows);
+  unanswered = unanswered_in answered (take next rows);
+  asked = advances_in (take next rows);
+}
+
+-- whether the client waits at a row: at a settle row, until all before it has ended
+abbrev pub waits : Place → ℕ → ScriptRow → Bool
+waits at ended (TreeRow t) = false
+waits at ended SettleRow = not (is_over at ended)
+waits at ended _ = false
+
+-- a state that knows these trees answered and so many advancements ended
+abbrev pub knowing : List Bool → ℕ → Client
+knowing answered ended = record { next = 0; answered = answered; ended = ended; finished = false }
+
+-- how many rows are submitted in the end, where so many are by now
+abbrev pub furthest : List Bool → ℕ → List ScriptRow → ℕ → ℕ
+furthest answered ended rows next = next + submitted (knowing answered ended) (take next rows) (drop next rows)

@@ -1,0 +1,26 @@
+-- What each row does to a script, with its conditions in the order of their numbers. These are the definitions that
+-- private code alone cites.
+use Rattle.std.specs.Prelude.{◌≡◌}
+use Rattle.std.specs.Prelude.{Option, Result, Ok, Err, ⊤}
+use Rattle.tx_trees.specs.ScriptData.{ScriptData}
+use Rattle.tx_trees.specs.declared.why.Why.{Why}
+use Rattle.tx_trees.specs.declared.why.Refusal.{Refusal}
+use Rattle.tx_trees.specs.declared.why.Refusal.TheVariants as refusals
+
+-- what a call made, or why it did not
+abbrev pub Makes : Result ScriptData Why → Result ScriptData Refusal → Type 0
+Makes made (Ok s) = made ≡ Ok s
+Makes made (Err (refusals.Why w)) = made ≡ Err w
+Makes made (Err refusals.NoMemory) = ⊤
+
+-- what the first record made: a script, or, where it names the second form, none yet
+abbrev pub Begins : Result (Option ScriptData) Why → Result (Option ScriptData) Refusal → Type 0
+Begins begun (Ok s) = begun ≡ Ok s
+Begins begun (Err (refusals.Why w)) = begun ≡ Err w
+Begins begun (Err refusals.NoMemory) = ⊤
+
+-- what a call made of a script that it was lent, or why it did not
+abbrev pub Leaves : {T : Type 0} → Result ScriptData Why → Result T Refusal → ScriptData → Type 0
+Leaves made (Ok done) new = made ≡ Ok new
+Leaves made (Err (refusals.Why w)) new = made ≡ Err w
+Leaves made (Err refusals.NoMemory) new = ⊤
