@@ -1,8 +1,8 @@
 -- What is gathered of all actors is a run of the script, in which each receipt's entry stands.
-use Rattle.std.proofs.Common.{◌≡◌, ℕ, zero, suc, ◌+◌, ◌-◌, ◌<◌, ◌==◌, Bool, true, false, List, [], ◌∷◌, ◌++◌, length, map, filter, refl, sym, ap, ◌∙◌, subst, arith, append_assoc, Some, ◌⊎◌, inl, inr}
-use Rattle.std.specs.Prelude.{if◌then◌else◌, slice_get}
+use Rattle.std.proofs.Common.{◌≡◌, ℕ, zero, suc, ◌+◌, ◌-◌, ◌<◌, ◌==◌, Bool, true, false, List, [], ◌∷◌, ◌++◌, length, map, filter, refl, sym, ap, ◌∙◌, subst, arith, append_assoc, None, Some, ◌⊎◌, inl, inr}
+use Rattle.std.specs.Prelude.{if◌then◌else◌, slice_get, sum_by}
 use Rattle.std.proofs.lemmas.Bool.Decides.{nat_tests}
-use Rattle.std.proofs.lemmas.List.{map-append}
+use Rattle.std.proofs.lemmas.List.{length-map, map-append}
 use Rattle.std.proofs.lemmas.Option.{same_Some}
 use Rattle.tv_base.proofs.ByPlace.{slice_get_split}
 use Rattle.letter_types.specs.declared.entries.Entry.{Entry}
@@ -14,17 +14,18 @@ use Rattle.letter_types.specs.Steps.{Out}
 use Rattle.stamp_post.specs.declared.rule.JoinedReceipt.{JoinedReceipt}
 use Rattle.stamp_post.specs.declared.rule.JoinedSeat.{JoinedSeat}
 use Rattle.stamp_post.specs.Logs.{own_postings}
-use Rattle.stamp_post.specs.Shown.{Gathers, ReceiptData, joined_seat, receipt_joined}
+use Rattle.stamp_post.specs.Shown.{Gathers, PostId, ReceiptData, SeatData, joined_seat, receipt_joined, seat_data, seat_joined}
 use Rattle.stamp_post.proofs.Claims.{id_stamp}
 use Rattle.tx_trees.specs.ScriptData.{ScriptData, client_of}
 use Rattle.world_model.specs.Runs.{IsRunOf, IsWorldRun, after}
 use Rattle.world_model.specs.Tables.{actor_row, start_actor}
 use Rattle.world_model.proofs.Actors.{entry_at}
 use Rattle.world_model.proofs.Scripts.{get_some}
-use Rattle.node_threads.specs.Cells.{last_acts}
-use Rattle.node_threads.specs.Histories.{AllRun, IsLogOf, IsMerged, IsTold, joined_from}
+use Rattle.node_threads.specs.Cells.{CellData, last_acts}
+use Rattle.node_threads.specs.Histories.{AllRun, IsLogOf, IsMerged, IsTold, IsWholeLog, joined_from}
 use Rattle.node_threads.proofs.Entries.{acts_more}
 use Rattle.node_threads.proofs.Merges.{at_map}
+use Rattle.node_threads.proofs.Parts.{rows_together, sum_rows}
 
 joined_at : (n : ℕ) (rows : List (List Entry)) (a : ℕ) (es : List Entry) → slice_get rows a ≡ Some es
     → slice_get (joined_from n rows) a ≡ Some (joined_seat (n + a) (map posting_of es))
@@ -44,6 +45,16 @@ joined_more n (x ∷ rows) es =
     let there : (n + 1) + length rows ≡ n + suc (length rows) = omega arith in
     ap (λ (ss : List JoinedSeat). joined_seat n (map posting_of x) ∷ ss)
     (joined_more (n + 1) rows es ∙ ap (λ (m : ℕ). joined_from (n + 1) rows ++ joined_seat m (map posting_of es) ∷ []) there)
+
+-- the seat of one actor more
+pub seats_more : (post : PostId) (n : ℕ) (seats : List SeatData) (seat : SeatData) (rows : List (List Entry)) (es : List Entry) → n ≡ length rows
+    → seat ≡ seat_data post n (map posting_of es) None None → map seat_joined seats ≡ joined_from 0 rows
+    → map seat_joined (seats ++ seat ∷ []) ≡ joined_from 0 (rows ++ es ∷ [])
+seats_more post n seats seat rows es long is joined =
+    let number : n ≡ 0 + length rows = omega arith in
+    map-append seat_joined seats (seat ∷ [])
+    ∙ (λ k. joined k ++ joined_seat ((ap (λ (x : SeatData). x.number) is ∙ number) k) ((ap (λ (x : SeatData). x.own) is) k) ∷ [])
+    ∙ sym (joined_more 0 rows es)
 
 runs_by : (s : ScriptData) (rows : List (List Entry)) (es : List Entry) (a : ℕ) (xs : List Entry) → AllRun s rows
     → IsRunOf (actor_row s (length rows)) (start_actor s (length rows)) es
@@ -182,6 +193,37 @@ told s actors rows receipts h g runs long some_there merged k r at =
       later = earlier (actors - 1) g.log place r.posting g.postal stands.1 (g.postal.sent place r.posting stands.1);
     }
 
+-- what is gathered of seats that are the rows'
+of_rows : (actors n count : ℕ) (seats : List JoinedSeat) (rows : List (List Entry)) (receipts : List JoinedReceipt) → n ≡ actors → seats ≡ joined_from 0 rows
+    → ((g : Gathers n seats receipts) × (length g.log ≡ count)) → (g : Gathers actors (joined_from 0 rows) receipts) × (length g.log ≡ count)
+of_rows actors n count seats rows receipts same joined gathered =
+    subst (λ (z : ℕ × List JoinedSeat). (g : Gathers z.0 z.1 receipts) × (length g.log ≡ count)) (λ k. (same k, joined k)) gathered
+
+-- its log is the whole log of the rows
+pub whole_log : (actors n count : ℕ) (seats : List JoinedSeat) (rows : List (List Entry)) (receipts : List JoinedReceipt) → n ≡ actors → seats ≡ joined_from 0 rows
+    → ((g : Gathers n seats receipts) × (length g.log ≡ count)) → length rows ≡ actors → 0 < actors → (log : List Posting) × IsWholeLog count log rows
+whole_log actors n count seats rows receipts same joined gathered long some_there =
+    let g = of_rows actors n count seats rows receipts same joined gathered in (
+      g.0.log,
+      record {
+        log_of = is_log actors rows receipts g.0;
+        long = g.1;
+        known = λ k p at. omega (arith, g.0.postal.known k p at, long);
+      },
+    )
+
+as_many : (count : ℕ) (log : List Posting) (rows : List (List Entry)) → IsWholeLog count log rows → sum_by (length {A = Entry}) rows ≡ count
+as_many count log rows is =
+    rows_together (λ (p : Posting). p.actor.0) rows log
+    (λ a es at. sym (length-map es posting_of) ∙ ap (length {A = Posting}) (is.log_of.own a es at)) is.known
+    ∙ is.long
+
+-- there are as many postings as the cells have entries
+pub all_counted : (count : ℕ) (rows : List (List Entry)) (cells : List CellData) → ((log : List Posting) × IsWholeLog count log rows)
+    → rows ≡ map (λ c. c.entries) cells → count ≡ sum_by (λ c. length c.entries) cells
+all_counted count rows cells (log, is) same =
+    sym (as_many count log rows is) ∙ ap (sum_by (length {A = Entry})) same ∙ sum_rows (λ (c : CellData). c.entries) cells
+
 -- what is said once all is gathered and merged
 pub finishes_as : (s : ScriptData) (actors n count : ℕ) (seats : List JoinedSeat) (rows : List (List Entry)) (receipts : List ReceiptData) (h : List Entry)
     → n ≡ actors → seats ≡ joined_from 0 rows → ((g : Gathers n seats (map receipt_joined receipts)) × (length g.log ≡ count))
@@ -189,8 +231,7 @@ pub finishes_as : (s : ScriptData) (actors n count : ℕ) (seats : List JoinedSe
     → ((log : List Posting) → IsLogOf log rows → length log ≡ count → IsMerged log rows h)
     → IsWorldRun s h × ((k : ℕ) (r : ReceiptData) → slice_get receipts k ≡ Some r → IsTold s h r)
 finishes_as s actors n count seats rows receipts h same joined gathered runs long all merges =
-    let g : (g : Gathers actors (joined_from 0 rows) (map receipt_joined receipts)) × (length g.log ≡ count) =
-    subst (λ (z : ℕ × List JoinedSeat). (g : Gathers z.0 z.1 (map receipt_joined receipts)) × (length g.log ≡ count)) (λ k. (same k, joined k)) gathered in
+    let g = of_rows actors n count seats rows (map receipt_joined receipts) same joined gathered in
     let merged : IsMerged g.0.log rows h = merges g.0.log (is_log actors rows (map receipt_joined receipts) g.0) g.1 in
     let client : actors - 1 ≡ client_of s = omega arith in (
       world_run s rows g.0.log h (subst (λ (m : ℕ). IsPostal m g.0.log) client g.0.postal) runs (long ∙ all) merged,

@@ -3,7 +3,7 @@ use Rattle.std.proofs.Common.{◌≡◌, ◌≢◌, ℕ, zero, suc, ◌+◌, ◌
 use Rattle.std.specs.Prelude.{if◌then◌else◌, slice_get, slice_set}
 use Rattle.std.proofs.lemmas.Bool.{cases_eq}
 use Rattle.std.proofs.lemmas.Bool.Decides.{nat_tests}
-use Rattle.std.proofs.lemmas.List.{append-nil, get_or-set_same, length-set, map-append, take_all}
+use Rattle.std.proofs.lemmas.List.{append-nil, length-set, map-append, take_all}
 use Rattle.std.proofs.Math.ListN.{drop_of_length-le}
 use Rattle.std.proofs.lemmas.List.Elements.{filter-append}
 use Rattle.std.proofs.lemmas.Option.{same_Some, slice_get-map, slice_get_within}
@@ -14,7 +14,7 @@ use Rattle.letter_types.specs.Letters.{own}
 use Rattle.letter_types.specs.Postal.{posting_of}
 use Rattle.stamp_post.specs.Logs.{own_postings}
 use Rattle.world_model.proofs.Scripts.{get_some}
-use Rattle.node_threads.specs.Histories.{FirstHas, IsLogOf, IsMerged, Taken}
+use Rattle.node_threads.specs.Histories.{FirstHas, IsLogOf, IsMerged, IsWholeLog, NoneHas, Taken}
 
 -- The stamps are m, m + 1 and on.
 abbrev From : ℕ → List Posting → Type 0
@@ -174,6 +174,35 @@ none_left : (es : List Entry) → map posting_of es ≡ [] → es ≡ []
 none_left [] is = refl
 none_left (e ∷ es) is = absurd (cc is)
 
+drop_at : (k : ℕ) (log : List Posting) (p : Posting) → slice_get log k ≡ Some p → drop k log ≡ p ∷ drop (suc k) log
+drop_at k [] p at = absurd (cc at)
+drop_at zero (x ∷ log) p at = let same : x ≡ p = cc at in ap (λ y. y ∷ log) same
+drop_at (suc k) (x ∷ log) p at = drop_at k log p at
+
+own_first : (p : Posting) (rest : List Posting) → own_postings p.actor.0 (p ∷ rest) ≡ p ∷ own_postings p.actor.0 rest
+own_first p rest =
+    let mine : (p.actor.0 == p.actor.0) ≡ true = grind (arith, nat_tests) in
+    first_by (p.actor.0 == p.actor.0) p (own_postings p.actor.0 rest) mine
+  where
+    first_by : (b : Bool) (p : Posting) (ps : List Posting) → b ≡ true → (if b then p ∷ ps else ps) ≡ p ∷ ps
+    first_by b p ps is = rw is refl
+
+first_has : (es : List Entry) (p : Posting) (ps : List Posting) → map posting_of es ≡ p ∷ ps → FirstHas p.stamp.0 es
+first_has [] p ps is = absurd (cc is)
+first_has (e ∷ es) p ps is = let same : posting_of e ≡ p = cc is in ap (λ (x : Posting). x.stamp.0) same
+
+-- while a posting is left, the first entry of its actor has its stamp
+pub goes_on : (count : ℕ) (log : List Posting) (k : ℕ) (all : List Entry) (first rows : List (List Entry)) → IsWholeLog count log first
+    → k < count → Merging log k all first rows → ¬ NoneHas (k + 1) rows
+goes_on count log k all first rows is lt m none =
+    let there = get_some log k (omega (arith, is.long)) in
+    let p = there.0 in
+    let r = m.each p.actor.0 (is.known k p there.1) in
+    let left : map posting_of r.left ≡ p ∷ own_postings p.actor.0 (drop (suc k) log) =
+    r.next ∙ ap (own_postings p.actor.0) (drop_at k log p there.1) ∙ own_first p (drop (suc k) log) in
+    none p.actor.0 r.left r.at
+    (subst (λ (n : ℕ). FirstHas n r.left) (is.log_of.stamps k p there.1) (first_has r.left p (own_postings p.actor.0 (drop (suc k) log)) left))
+
 -- all of them are in order
 pub ends : (log : List Posting) (k : ℕ) (all : List Entry) (first rows : List (List Entry)) → length log ≡ k → Merging log k all first rows
     → IsMerged log first all
@@ -192,3 +221,16 @@ at_map f xs i x at = slice_get-map f xs i ∙ ap (option_map f) at
 -- the first of a list
 pub first_of : (es : List Entry) (e : Entry) (left : List Entry) (stamp : ℕ) → es ≡ e ∷ left → FirstHas stamp es → e.stamp.0 ≡ stamp
 first_of es e left stamp is h = subst (FirstHas stamp) is h
+
+more_by : (stamp a : ℕ) (rows : List (List Entry)) (d : List Entry) (b : ℕ) (es : List Entry)
+    → ((c : ℕ) (xs : List Entry) → c < a → slice_get rows c ≡ Some xs → ¬ FirstHas stamp xs) → slice_get rows a ≡ Some d → ¬ FirstHas stamp d
+    → b < a + 1 → slice_get rows b ≡ Some es → (b ≡ a) ⊎ (b ≢ a) → ¬ FirstHas stamp es
+more_by stamp a rows d b es none there no' lt at (inl same) has =
+    no' (subst (FirstHas stamp) (same_Some es d (sym at ∙ ap (slice_get rows) same ∙ there)) has)
+more_by stamp a rows d b es none there no' lt at (inr ne) has = none b es (omega arith) at has
+
+-- no first entry has this stamp, one actor further
+pub none_more : (stamp a : ℕ) (rows : List (List Entry)) (d : List Entry)
+    → ((c : ℕ) (xs : List Entry) → c < a → slice_get rows c ≡ Some xs → ¬ FirstHas stamp xs) → slice_get rows a ≡ Some d → ¬ FirstHas stamp d
+    → (b : ℕ) (es : List Entry) → b < a + 1 → slice_get rows b ≡ Some es → ¬ FirstHas stamp es
+none_more stamp a rows d none there no' b es lt at = more_by stamp a rows d b es none there no' lt at (cases_eq b a)

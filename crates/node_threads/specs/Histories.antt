@@ -1,5 +1,5 @@
 -- One history of all actors' entries, and what it says of a receipt.
-use Rattle.std.specs.Prelude.{◌≡◌, ◌+◌, ◌<◌, ℕ, List, [], ◌∷◌, ◌++◌, map, slice_get, slice_set, Some}
+use Rattle.std.specs.Prelude.{◌≡◌, ◌+◌, ◌<◌, ℕ, List, [], ◌∷◌, ◌++◌, length, map, slice_get, slice_set, Some}
 use Rattle.letter_types.specs.declared.entries.Entry.{Entry}
 use Rattle.letter_types.specs.declared.entries.Posting.{Posting}
 use Rattle.letter_types.specs.Letters.{own}
@@ -26,6 +26,12 @@ pub record IsLogOf (log : List Posting) (rows : List (List Entry)) : Type 0 wher
   pub stamps : (k : ℕ) (p : Posting) → slice_get log k ≡ Some p → p.stamp.0 ≡ k + 1
   pub own : (a : ℕ) (es : List Entry) → slice_get rows a ≡ Some es → map posting_of es ≡ own_postings a log
 
+-- the log is one of these entries, it has so many postings, and each is one of these actors'
+pub record IsWholeLog (count : ℕ) (log : List Posting) (rows : List (List Entry)) : Type 0 where
+  pub log_of : IsLogOf log rows
+  pub long : length log ≡ count
+  pub known : (k : ℕ) (p : Posting) → slice_get log k ≡ Some p → p.actor.0 < length rows
+
 -- the history has the postings of the log, and each actor's entries, in order
 pub record IsMerged (log : List Posting) (rows : List (List Entry)) (h : List Entry) : Type 0 where
   pub postings : map posting_of h ≡ log
@@ -43,6 +49,10 @@ pub record Taken (stamp : ℕ) (old new : List (List Entry)) (e : Entry) : Type 
 abbrev pub FirstHas : ℕ → List Entry → Type 0
 FirstHas stamp [] = ⊥
 FirstHas stamp (e ∷ es) = e.stamp.0 ≡ stamp
+
+-- no actor's first entry has this stamp
+abbrev pub NoneHas : ℕ → List (List Entry) → Type 0
+NoneHas stamp rows = (a : ℕ) (es : List Entry) → slice_get rows a ≡ Some es → ¬ FirstHas stamp es
 
 -- just one entry of the history has the receipt's stamp. It took the letter of that delivery, sent its letters and did
 -- its acts, which are those of the last of the actor's postings up to it; and the letter has a smaller stamp

@@ -1,5 +1,5 @@
 // What lies under an actor's lock.
-ghost use Rattle.std.specs.Prelude.{◌≡◌, ◌+◌, ◌<◌, [], IfOk, MatchResult, None, map};
+ghost use Rattle.std.specs.Prelude.{◌≡◌, ◌+◌, ◌<◌, [], IfOk, MatchResult, None, length, map};
 ghost use Rattle.letter_types.specs.Postal.{posting_of};
 ghost use Rattle.stamp_post.specs.Shown.{seat_data};
 ghost use Rattle.world_model.specs.Runs.{IsRunOf};
@@ -83,6 +83,13 @@ impl<K: ClusterName> ActorCell<K> {
         ensures { result.0 ≡ self.now.number }
     {
         ActorNo(self.number)
+    }
+
+    /// How many entries it has.
+    pub(crate) fn count(&self) -> usize
+        ensures { result ≡ length self.now.entries }
+    {
+        self.entries.len()
     }
 
     /// Makes the actor's step for a letter that is addressed to it: all memory first, and then it takes the letter,

@@ -1,19 +1,21 @@
 // Cells behind locks.
-ghost use Rattle.std.specs.Prelude.{◌≡◌, ◌+◌, ◌<◌, ℕ, All, length, map, slice_get, IfOk, MatchResult, Some};
-ghost use Rattle.stamp_post.specs.Shown.{ReceiptData, new_seats, seat_joined};
+ghost use Rattle.std.specs.Prelude.{◌≡◌, ◌+◌, ◌≤◌, ℕ, All, length, slice_get, IfErr, IfOk, MatchResult, Some};
+ghost use Rattle.stamp_post.specs.Shown.{ReceiptData, new_seats};
 ghost use Rattle.world_model.specs.Runs.{IsWorldRun};
 ghost use Rattle.node_threads.specs.Cells.{Delivered};
-ghost use Rattle.node_threads.specs.Histories.{AllRun, IsTold, joined_from};
+ghost use Rattle.node_threads.specs.Histories.{IsTold};
 
 use crate::cell::{ActorCell, Sent};
+use crate::finishing::{
+    Apart, closed_again, opened, room_for_cells, room_for_entries, taken_apart,
+};
 use crate::merge::merged;
 use crate::name::ClusterName;
 use crossbeam_utils::CachePadded;
-use letter_types::{Entry, History};
+use letter_types::History;
 use message_bag::Bag;
 use stamp_post::{Envelope, Gatherer, Post, PostParts, Receipts, Seats};
 use std::alloc::Global;
-use std::collections::VecDeque;
 use std::marker::PhantomData;
 use std::sync::{Condvar, Mutex, Wait};
 use tv_base::{Gate, NoMemory};
@@ -50,13 +52,7 @@ pub struct Cluster<K: ClusterName> {
     ghost has_cells: { length cells.items ≡ K.post.actors },
     ghost has_bags: { length bags.items ≡ K.post.actors },
     ghost has_actors: { K.post.actors ≡ K.script.nodes + 2 },
-}
-
-// What actors have: their seats and their entries, by number.
-#[derive(Drop)]
-struct Apart {
-    seats: Seats,
-    lists: Vec<VecDeque<Entry>>,
+    ghost has_few: { K.post.actors ≤ 255 },
 }
 
 // A cell for each actor.
@@ -95,31 +91,6 @@ fn bags_of<K: ClusterName>(
         bags.push(CachePadded::new(Mutex::new(Bag::new(alloc))))?;
     }
     Ok(bags)
-}
-
-// The actors' seats and entries, out of their cells.
-fn taken_apart<K: ClusterName>(
-    alloc: Global,
-    cells: Vec<CachePadded<Mutex<ActorCell<K>>>>,
-) -> Result<Apart, NoMemory>
-    ensures seats { IfOk result (λ a. All (λ s. s.post ≡ K.post) a.seats) }
-    ensures joined { IfOk result (λ a. map seat_joined a.seats ≡ joined_from 0 (map (λ v. v.items) a.lists.items)) }
-    ensures runs { IfOk result (λ a. AllRun K.script (map (λ v. v.items) a.lists.items)) }
-    ensures count { IfOk result (λ a. length a.lists.items ≡ length cells.items) }
-{
-    let mut seats = Seats::new(alloc);
-    let mut lists = Vec::new(alloc);
-    for padded in cells {
-        let cell = padded.into_inner().into_inner();
-        // No clause ties a lock's place to what lies under it.
-        if cell.number().0 as usize != lists.len() {
-            return Err(NoMemory);
-        }
-        let (entries, seat) = cell.into_parts();
-        seats.push(seat)?;
-        lists.push(VecDeque::from(entries))?;
-    }
-    Ok(Apart { seats, lists })
 }
 
 impl<K: ClusterName> Cluster<K> {
@@ -197,24 +168,47 @@ impl<K: ClusterName> Cluster<K> {
     }
 
     /// All entries by stamp. They are a run of the script, and each receipt's entry is one of them.
-    pub fn finish(self, alloc: Global, receipts: Receipts) -> Result<History, NoMemory>
+    ///
+    /// After want of memory the cluster and the receipts come back, so that it can be asked again: the cluster's cells
+    /// have the entries that they had, and its bags the letters. No clause says so of cells and bags, since what lies
+    /// under a lock is known by its type alone.
+    pub fn finish(
+        self,
+        alloc: Global,
+        receipts: Receipts,
+    ) -> Result<History, (NoMemory, Cluster<K>, Receipts)>
         requires { All (λ r. r.post ≡ K.post) receipts }
         ensures run { IfOk result (λ h. IsWorldRun K.script h) }
         ensures told { IfOk result (λ h. (k : ℕ) (r : ReceiptData) → slice_get receipts k ≡ Some r
             → IsTold K.script h r) }
+        ensures receipts { IfErr result (λ e. e.2 ≡ receipts) }
     {
+        let Ok(room) = room_for_cells::<K>(alloc, self.cells.len()) else {
+            return Err((NoMemory, self, receipts));
+        };
         let Cluster {
             post,
             keeper,
             cells,
-            bags: _,
-            moves: _,
-            moved: _,
+            bags,
+            moves,
+            moved,
         } = self;
+        let cells = opened(cells, room.opened);
+        let Ok(entries) = room_for_entries(alloc, cells.as_slice()) else {
+            let cluster = Cluster {
+                post,
+                keeper,
+                cells: closed_again(cells, room.closed),
+                bags,
+                moves,
+                moved,
+            };
+            return Err((NoMemory, cluster, receipts));
+        };
         let Keeper { gatherer, name: _ } = keeper.into_inner();
-        let Apart { seats, lists } = taken_apart::<K>(alloc, cells)?;
+        let Apart { seats, lists } = taken_apart(cells, room.seats, room.lists);
         let gathered = post.gather(gatherer, seats, receipts);
-        let history = merged(alloc, lists, gathered.count)?;
-        Ok(history)
+        Ok(merged(lists, entries, gathered.count))
     }
 }

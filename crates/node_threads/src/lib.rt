@@ -3,6 +3,7 @@
 
 mod cell;
 mod cluster;
+mod finishing;
 mod merge;
 mod name;
 mod running;

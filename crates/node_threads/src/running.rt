@@ -101,7 +101,9 @@ fn run_named<K: ClusterName + Send + Sync, R: Threads + Wait + Sync, G: Gate + S
     cluster.put(rt, first)?;
     work_all(rt, alloc, &cluster, script, workers, gate);
     deliver_rest(rt, alloc, &cluster, script, gate)?;
-    let history = cluster.finish(alloc, Receipts::new(alloc))?;
+    let Ok(history) = cluster.finish(alloc, Receipts::new(alloc)) else {
+        return Err(NoMemory);
+    };
     if !has_finished(&history) {
         return Err(NoMemory);
     }

@@ -231,6 +231,24 @@ fn stamps_of(alloc: Global, receipts: &Receipts) -> Result<Vec<Stamp>, NoMemory>
     Ok(stamps)
 }
 
+// The history, at the second call where the first found no memory.
+fn finish_at_last<K: ClusterName>(
+    alloc: Global,
+    cluster: Cluster<K>,
+    receipts: Receipts,
+) -> Result<History, NoMemory>
+    requires { All (λ r. r.post ≡ K.post) receipts }
+{
+    let (cluster, receipts) = match cluster.finish(alloc, receipts) {
+        Ok(history) => return Ok(history),
+        Err((NoMemory, cluster, receipts)) => (cluster, receipts),
+    };
+    match cluster.finish(alloc, receipts) {
+        Ok(history) => Ok(history),
+        Err((NoMemory, _cluster, _receipts)) => Err(NoMemory),
+    }
+}
+
 // A cluster to which two threads deliver. The history, and the stamps of the receipts.
 fn by_two<K: ClusterName + Send + Sync, R: Threads + Wait + Sync>(
     rt: &R,
@@ -264,7 +282,7 @@ fn by_two<K: ClusterName + Send + Sync, R: Threads + Wait + Sync>(
     let other = other.ok_or("other")?;
     let receipts = joined::<K>(one, other).ok_or("memory")?;
     let stamps = stamps_of(alloc, &receipts)?;
-    let history = cluster.finish(alloc, receipts)?;
+    let history = finish_at_last(alloc, cluster, receipts)?;
     Ok((history, stamps))
 }
 

@@ -1,9 +1,14 @@
-use Rattle.std.proofs.Common.{List, map}
+use Rattle.std.proofs.Common.{◌≡◌, ◌≤◌, List, length, map}
+use Rattle.std.specs.Prelude.{vec_capacity}
 use Rattle.letter_types.specs.declared.entries.Posting.{Posting}
 use Rattle.node_threads.specs.Histories.{IsLogOf}
 use Rattle.node_threads.proofs.Merges.{Merging}
 use Rattle.node_threads.proofs.merge.merged.Given as goal
 
 abbrev pub invariant-loop-before : goal.invariant-loop-before
-invariant-loop-before l = (log : List Posting) → IsLogOf log (map (λ v. v.items) l.fn.lists.items)
-    → Merging log l.before l.history (map (λ v. v.items) l.fn.lists.items) (map (λ v. v.items) l.left.items)
+invariant-loop-before l = record {
+  merging : (log : List Posting) → IsLogOf log (map (λ v. v.items) l.fn.lists.items)
+      → Merging log l.before l.history.items (map (λ v. v.items) l.fn.lists.items) (map (λ v. v.items) l.left.items);
+  length : length l.history.items ≡ l.before;
+  room : l.count ≤ vec_capacity l.history;
+}

@@ -1,0 +1,149 @@
+// What a cluster is taken apart into when it finishes, and how its cells are put back.
+ghost use Rattle.std.specs.Prelude.{◌≡◌, ◌≤◌, true, All, length, map, sum_by, IfOk, IfSome};
+ghost use Rattle.stamp_post.specs.Shown.{seat_joined};
+ghost use Rattle.node_threads.specs.Finishing.{HasRoom, NumberedFrom};
+ghost use Rattle.node_threads.specs.Histories.{AllRun, joined_from};
+
+use crate::cell::ActorCell;
+use crate::merge::LONGEST_HISTORY;
+use crate::name::ClusterName;
+use crossbeam_utils::CachePadded;
+use letter_types::Entry;
+use stamp_post::{ActorSeat, Seats};
+use std::alloc::Global;
+use std::collections::VecDeque;
+use std::sync::Mutex;
+use tv_base::NoMemory;
+
+// Room for the cells outside their locks, for putting them back under locks, and for what they are taken apart into.
+#[derive(Drop)]
+pub(crate) struct Room<K: ClusterName> {
+    pub(crate) opened: Vec<ActorCell<K>>,
+    pub(crate) closed: Vec<CachePadded<Mutex<ActorCell<K>>>>,
+    pub(crate) seats: Vec<ActorSeat>,
+    pub(crate) lists: Vec<VecDeque<Entry>>,
+}
+
+// What actors have: their seats and their entries, by number.
+#[derive(Drop)]
+pub(crate) struct Apart {
+    pub(crate) seats: Seats,
+    pub(crate) lists: Vec<VecDeque<Entry>>,
+}
+
+// Room for so many cells.
+pub(crate) fn room_for_cells<K: ClusterName>(
+    alloc: Global,
+    count: usize,
+) -> Result<Room<K>, NoMemory>
+    ensures cells { IfOk result (λ r. HasRoom count r.opened × HasRoom count r.closed) }
+    ensures parts { IfOk result (λ r. HasRoom count r.seats × HasRoom count r.lists) }
+{
+    Ok(Room {
+        opened: Vec::with_capacity(alloc, count)?,
+        closed: Vec::with_capacity(alloc, count)?,
+        seats: Vec::with_capacity(alloc, count)?,
+        lists: Vec::with_capacity(alloc, count)?,
+    })
+}
+
+// The cells out of their locks, in order.
+pub(crate) fn opened<K: ClusterName>(
+    cells: Vec<CachePadded<Mutex<ActorCell<K>>>>,
+    room: Vec<ActorCell<K>>,
+) -> Vec<ActorCell<K>>
+    requires { HasRoom (length cells.items) room }
+    ensures { length result.items ≡ length cells.items }
+{
+    let mut opened = room;
+    for padded in cells {
+        opened.push_reserved(padded.into_inner().into_inner());
+    }
+    opened
+}
+
+// The cells under locks again, in order.
+pub(crate) fn closed_again<K: ClusterName>(
+    cells: Vec<ActorCell<K>>,
+    room: Vec<CachePadded<Mutex<ActorCell<K>>>>,
+) -> Vec<CachePadded<Mutex<ActorCell<K>>>>
+    requires { HasRoom (length cells.items) room }
+    ensures { length result.items ≡ length cells.items }
+{
+    let mut closed = room;
+    for cell in cells {
+        closed.push_reserved(CachePadded::new(Mutex::new(cell)));
+    }
+    closed
+}
+
+// Whether each cell's number is its place: no clause ties a lock's place to what lies under it.
+fn are_in_order<K: ClusterName>(cells: &[ActorCell<K>]) -> bool
+    ensures { result ≡ true → NumberedFrom 0 cells.now }
+{
+    for (place, cell) in cells.iter().enumerate() {
+        if cell.number().0 as usize != place {
+            return false;
+        }
+    }
+    true
+}
+
+// How many entries the cells have together. None where that is past the largest number.
+fn count_entries<K: ClusterName>(cells: &[ActorCell<K>]) -> Option<usize>
+    ensures { IfSome result (λ count. count ≡ sum_by (λ c. length c.entries) cells.now) }
+{
+    let mut count: usize = 0;
+    for cell in cells {
+        count = count.checked_add(cell.count())?;
+    }
+    Some(count)
+}
+
+// Room for all entries of the cells. None is found where the cells aren't in order, or have more entries than a history
+// takes.
+pub(crate) fn room_for_entries<K: ClusterName>(
+    alloc: Global,
+    cells: &[ActorCell<K>],
+) -> Result<Vec<Entry>, NoMemory>
+    ensures order { IfOk result (λ _. NumberedFrom 0 cells.now) }
+    ensures room { IfOk result (λ room. HasRoom (sum_by (λ c. length c.entries) cells.now) room) }
+    ensures few { IfOk result (λ _. sum_by (λ c. length c.entries) cells.now ≤ LONGEST_HISTORY) }
+{
+    if !are_in_order(cells) {
+        return Err(NoMemory);
+    }
+    let count = count_entries(cells).ok_or(NoMemory)?;
+    if count > LONGEST_HISTORY {
+        return Err(NoMemory);
+    }
+    let room = Vec::with_capacity(alloc, count)?;
+    Ok(room)
+}
+
+// The actors' seats and entries, out of their cells, in the room for them.
+pub(crate) fn taken_apart<K: ClusterName>(
+    cells: Vec<ActorCell<K>>,
+    seats: Vec<ActorSeat>,
+    lists: Vec<VecDeque<Entry>>,
+) -> Apart
+    requires order { NumberedFrom 0 cells.items }
+    requires room { HasRoom (length cells.items) seats × HasRoom (length cells.items) lists }
+    requires few { length cells.items ≤ 255 }
+    ensures seats { All (λ s. s.post ≡ K.post) result.seats }
+    ensures joined { map seat_joined result.seats ≡ joined_from 0 (map (λ v. v.items) result.lists.items) }
+    ensures runs { AllRun K.script (map (λ v. v.items) result.lists.items) }
+    ensures entries { map (λ v. v.items) result.lists.items ≡ map (λ c. c.entries) cells.items }
+{
+    let mut seats = seats;
+    let mut lists = lists;
+    for cell in cells {
+        let (entries, seat) = cell.into_parts();
+        seats.push_reserved(seat);
+        lists.push_reserved(VecDeque::from(entries));
+    }
+    Apart {
+        seats: Seats::from_vec(seats),
+        lists,
+    }
+}
