@@ -11,6 +11,3 @@ mod writing;
 
 pub use reading::{ScriptFault, ScriptRefusal, read_script};
 pub use writing::write_script;
-
-#[cfg(test)]
-mod tests;

@@ -25,6 +25,3 @@ pub use rebuilt::a_script_is_rebuilt_from_its_rows;
 pub use same::equal_scripts_are_the_same;
 pub use script::Script;
 pub use why::{Refusal, Why};
-
-#[cfg(test)]
-mod tests;
