@@ -12,6 +12,3 @@ pub use balances::{Balances, Marks, written_at};
 pub use carried::{Carried, carry, start};
 pub use serial::{Member, Members, Outcomes, by_version, outcomes_of};
 pub use standings::{Standing, Standings};
-
-#[cfg(test)]
-mod tests;

@@ -294,6 +294,3 @@ pub fn read_words(alloc: Global, words: &[String]) -> Result<Line, WordsError>
         None => line_by_options(alloc, words),
     }
 }
-
-#[cfg(test)]
-mod tests;

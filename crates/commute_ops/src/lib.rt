@@ -12,6 +12,3 @@ pub use kinds::{Amount, Commute, Kind, MOST_AMOUNT, Op, SumValue, TopValue};
 pub use laws::{any_order_gives_the_same, any_order_of_operations};
 pub use value::Value;
 pub use values::{Values, copy_values};
-
-#[cfg(test)]
-mod tests;

@@ -8,6 +8,3 @@ mod naming;
 mod votes_text;
 
 pub use history_lines_text::history_lines;
-
-#[cfg(test)]
-mod tests;

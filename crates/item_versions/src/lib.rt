@@ -8,6 +8,3 @@ mod table;
 pub use item::{Item, MOST_VERSIONS};
 pub use laws::any_updates_and_collections;
 pub use table::{ItemTable, Staged};
-
-#[cfg(test)]
-mod tests;

@@ -7,6 +7,3 @@ mod block;
 mod blocks;
 
 pub use bag::Bag;
-
-#[cfg(test)]
-mod tests;

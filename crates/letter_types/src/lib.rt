@@ -10,6 +10,3 @@ pub use acts::{Act, Acts};
 pub use bodies::{Answer, Body, Notice, Row, What, copy_row};
 pub use entries::{Entry, History, Letter, LetterId, Letters, Outgoing, Posting, Step, StepOut};
 pub use votes::{Cause, Vote};
-
-#[cfg(test)]
-mod tests;

@@ -4,6 +4,3 @@
 mod turns;
 
 pub use turns::Turns;
-
-#[cfg(test)]
-mod tests;

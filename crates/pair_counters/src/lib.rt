@@ -4,6 +4,3 @@
 mod counters;
 
 pub use counters::{Counters, Row};
-
-#[cfg(test)]
-mod tests;

@@ -4,6 +4,3 @@
 mod round;
 
 pub use round::Round;
-
-#[cfg(test)]
-mod tests;

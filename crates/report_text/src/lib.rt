@@ -17,6 +17,3 @@ pub use parts::{push_amount, push_count, push_number};
 pub use run_report::report;
 pub use run_summary::summary;
 pub use values::push_value;
-
-#[cfg(test)]
-mod tests;

@@ -9,6 +9,3 @@ mod taking;
 mod trees_made;
 
 pub use generating::generate;
-
-#[cfg(test)]
-mod tests;

@@ -13,6 +13,3 @@ mod writing;
 pub use both_readings::both_readings_agree;
 pub use reading::{ScriptFault, ScriptRefusal, read_script};
 pub use writing::write_script;
-
-#[cfg(test)]
-mod tests;

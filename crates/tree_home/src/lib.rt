@@ -9,6 +9,3 @@ pub use laws::{
     a_tree_comes_and_goes, answered_when_none_is_missing, entries_are_their_trees,
     other_trees_stay, what_is_missing,
 };
-
-#[cfg(test)]
-mod tests;

@@ -8,6 +8,3 @@ mod undoing;
 
 pub use laws::{an_undone_tree_adds_up_to_nothing, an_undone_tree_is_a_tree};
 pub use undoing::expand;
-
-#[cfg(test)]
-mod tests;

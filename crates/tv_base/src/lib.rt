@@ -18,6 +18,3 @@ pub use numbers::{ActorNo, ItemNo, NoMemory, NodeNo, Stamp, SubNo, TreeNo, Versi
 pub use outside::{Gate, NoGate, ReadStep, Sink, Source, WriteStep};
 pub use seq::Seq;
 pub use text::Text;
-
-#[cfg(test)]
-mod tests;

@@ -15,6 +15,3 @@ pub use script_parts::parts::{
 pub use script_parts::ranges::{is_in_range, may_start};
 pub use script_parts::why::{Refusal, Why};
 pub use script_parts::{equal_scripts_are_the_same, is_plain_name, parts, why};
-
-#[cfg(test)]
-mod tests;

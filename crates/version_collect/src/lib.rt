@@ -4,6 +4,3 @@
 mod collect;
 
 pub use collect::{collect_table, may_collect};
-
-#[cfg(test)]
-mod tests;

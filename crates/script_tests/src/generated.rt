@@ -1,6 +1,5 @@
-use super::*;
-use crate::draws::{given, next_draw};
 use commute_ops::{Amount, Kind, Op};
+use script_gen::generate;
 use std::alloc::Global;
 use std::test::Fail;
 use tv_base::{ItemNo, NodeNo, SubNo};
@@ -62,14 +61,18 @@ fn made(alloc: Global, seed: u64, trees: u32) -> Result<Script, Fail> {
     Ok(script)
 }
 
+// The first draw of the seed 0 is 167951807.
 #[test]
-fn draws_are_made_from_seeds(rt: HostRuntime) -> Result<(), Fail> {
-    assert_eq!(rt; given(next_draw(0)), 167_951_807);
-    let first = next_draw(1);
-    let second = next_draw(first);
-    assert_eq!(rt; given(first), 908_834_774);
-    assert_eq!(rt; given(second), 1_093_944_153);
-    assert_eq!(rt; given(next_draw(second)), 1_392_341_196);
+fn the_first_draw_says_what_a_tree_is(rt: HostRuntime) -> Result<(), Fail> {
+    let script = made(rt.alloc(), 0, 1)?;
+    let [tree] = script.trees() else {
+        return Err("another number of trees".into());
+    };
+    assert!(rt; tree.kind == TreeKind::Update);
+    let [root, _, _, _] = tree.subs.items() else {
+        return Err("another number of subtransactions".into());
+    };
+    assert_eq!(rt; root.node, NodeNo(3));
     Ok(())
 }
 

@@ -2,10 +2,9 @@ ghost use Rattle.std.specs.Prelude.{◌≡◌, ◌≤◌, unsigned_abs};
 ghost use Rattle.commute_ops.specs.declared.kinds.TheConstants.{MOST_AMOUNT};
 ghost use Rattle.tx_trees.specs.Valid.{magnitude};
 
-use super::*;
-use crate::values::push_balance;
 use commute_ops::{Amount, Kind, Op, SumValue, Value, Values};
 use letter_types::{Act, Acts, Body, Entry, History, Letter, LetterId, Letters};
+use report_text::{check_line, push_value, report, summary};
 use std::alloc::Global;
 use std::test::Fail;
 use tv_base::{ActorNo, Name, NoMemory, NodeNo, Stamp, SubNo, Text, TreeNo, Version};
@@ -221,7 +220,7 @@ fn with_numbers(alloc: Global, numbers: &[Amount]) -> Result<Value, Fail> {
 
 fn shown(alloc: Global, value: &Value) -> Result<Text, NoMemory> {
     let mut text = Text::new(alloc);
-    push_balance(&mut text, Version(3), value)?;
+    push_value(&mut text, value)?;
     Ok(text)
 }
 
@@ -281,12 +280,12 @@ fn a_run_is_summed_up(rt: HostRuntime) -> Result<(), Fail> {
 fn values_are_shown(rt: HostRuntime) -> Result<(), Fail> {
     let alloc = rt.alloc();
     let five = shown(alloc, &Value::Sum(SumValue(5)))?;
-    assert_eq!(rt; five.bytes(), b" 3:5".as_slice());
+    assert_eq!(rt; five.bytes(), b"5".as_slice());
     let less = shown(alloc, &Value::Sum(SumValue(-7)))?;
-    assert_eq!(rt; less.bytes(), b" 3:-7".as_slice());
+    assert_eq!(rt; less.bytes(), b"-7".as_slice());
     let empty = shown(alloc, &with_numbers(alloc, &[])?)?;
-    assert_eq!(rt; empty.bytes(), b" 3:{}".as_slice());
+    assert_eq!(rt; empty.bytes(), b"{}".as_slice());
     let bag = shown(alloc, &with_numbers(alloc, &[40, 12])?)?;
-    assert_eq!(rt; bag.bytes(), b" 3:{12,40}".as_slice());
+    assert_eq!(rt; bag.bytes(), b"{12,40}".as_slice());
     Ok(())
 }

@@ -2,7 +2,7 @@ ghost use Rattle.std.specs.Prelude.{◌≤◌, unsigned_abs};
 ghost use Rattle.commute_ops.specs.declared.kinds.TheConstants.{MOST_AMOUNT};
 ghost use Rattle.tx_trees.specs.Valid.{magnitude};
 
-use super::*;
+use board_model::{Member, Standing, carry, outcomes_of, start, written_at};
 use commute_ops::{Amount, Kind, Op, Value, Values};
 use letter_types::{Act, Acts, Body, Entry, History, Letter, LetterId, Letters};
 use std::alloc::Global;

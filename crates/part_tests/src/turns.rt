@@ -1,4 +1,4 @@
-use super::*;
+use node_versions::Turns;
 use std::test::Fail;
 use tv_base::Version;
 

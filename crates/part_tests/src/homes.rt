@@ -1,7 +1,7 @@
-use super::*;
 use commute_ops::{SumValue, Value, Values};
 use std::alloc::Global;
 use std::test::Fail;
+use tree_home::{Answered, Homes, Noted};
 use tv_base::{ItemNo, NoMemory, SubNo, TreeNo, Version};
 
 /// One value, of the item of this number.

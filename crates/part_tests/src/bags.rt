@@ -1,4 +1,4 @@
-use crate::Bag;
+use letter_bag::Bag;
 use std::alloc::Global;
 use std::test::Fail;
 

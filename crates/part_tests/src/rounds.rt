@@ -1,5 +1,5 @@
-use super::*;
 use pair_counters::Row;
+use phase_out::Round;
 use std::alloc::Global;
 use std::test::Fail;
 use tv_base::{NoMemory, NodeNo, Version};

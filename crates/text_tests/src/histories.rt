@@ -1,5 +1,5 @@
-use super::*;
 use commute_ops::{Kind, Op, SumValue, Value, Values};
+use history_text::history_lines;
 use letter_types::{
     Act, Acts, Answer, Body, Cause, Entry, History, Letter, LetterId, Letters, Notice, Outgoing,
     Row, Vote, What,

@@ -1,7 +1,10 @@
-use super::*;
 use commute_ops::{Amount, Kind, Op};
 use std::test::Fail;
 use tv_base::{ItemNo, Name, NodeNo, SubNo, TreeNo};
+use tx_trees::{
+    Deed, Form, ItemRow, Refusal, Script, ScriptRow, SubOp, TreeKind, Why, is_in_range,
+    is_plain_name, may_start,
+};
 
 // A text that is no name at all: no call is made.
 const NO_CALL: Refusal = Refusal::Why(Why::NotBuilt);

@@ -1,4 +1,5 @@
-use super::*;
+use command_words::{Line, WordsError, read_words};
+use std::alloc::{AllocError, Global};
 use std::test::Fail;
 
 fn words(alloc: Global, list: &[&str]) -> Result<Vec<String>, AllocError> {

@@ -1,5 +1,5 @@
-use super::*;
 use commute_ops::{Amount, Kind, Op, SumValue, Value};
+use item_versions::{Item, ItemTable, Staged};
 use std::alloc::Global;
 use std::test::Fail;
 use tv_base::{ItemNo, Version};

@@ -1,4 +1,4 @@
-use super::*;
+use pair_counters::Counters;
 use std::test::Fail;
 use tv_base::{NodeNo, Version};
 

@@ -1,4 +1,4 @@
-use super::*;
+use commute_ops::{Amount, Commute, Kind, Op, SumValue, TopValue, Value};
 use std::alloc::Global;
 use std::test::Fail;
 
@@ -57,7 +57,9 @@ fn each_kind_applies(rt: HostRuntime) -> Result<(), Fail> {
     let alloc = rt.alloc();
     assert_eq!(rt; SumValue(5).apply(alloc, &3)?, SumValue(8));
     assert_eq!(rt; TopValue(5).apply(alloc, &3)?, TopValue(5));
-    let mut bag = BagValue::new(alloc);
+    let Value::Bag(mut bag) = Value::start(alloc, Kind::Bag, 0) else {
+        return Err("another kind".into());
+    };
     for number in [8, 3, 8, -1] {
         bag = bag.apply(alloc, &number)?;
     }

@@ -1,9 +1,9 @@
-use super::*;
 use commute_ops::{Amount, Op, SumValue, Value};
 use item_versions::{ItemTable, Staged};
 use std::alloc::Global;
 use std::test::Fail;
 use tv_base::{ItemNo, Version};
+use version_collect::{collect_table, may_collect};
 
 // The number that is seen of an item, or -1.
 fn seen(items: &ItemTable, place: usize, v: u64) -> Amount {

@@ -1,7 +1,7 @@
-use super::*;
 use commute_ops::Op;
 use std::alloc::Global;
 use std::test::Fail;
+use tree_undo::expand;
 use tv_base::{ItemNo, NoMemory, NodeNo, SubNo};
 use tx_trees::{Deed, Sub, SubOp, SubOps, Subs};
 

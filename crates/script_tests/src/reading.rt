@@ -1,5 +1,5 @@
-use super::*;
 use commute_ops::{Amount, Kind, Op};
+use script_reader::{ScriptFault, ScriptRefusal, read_script, write_script};
 use std::alloc::Global;
 use std::test::Fail;
 use tv_base::{Name, NodeNo};

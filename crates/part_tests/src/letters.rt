@@ -1,5 +1,5 @@
-use super::*;
 use commute_ops::{Amount, SumValue, Value, Values};
+use letter_types::{Act, Answer, Body, Notice, Row};
 use std::alloc::Global;
 use std::test::Fail;
 use tv_base::{ItemNo, NoMemory, SubNo, TreeNo, Version};

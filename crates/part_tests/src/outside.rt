@@ -1,7 +1,10 @@
-use super::*;
 use std::io;
 use std::io::{Read, Write};
 use std::test::Fail;
+use tv_base::{
+    ActorNo, Gate, MemSink, MemSource, Name, NoGate, NoMemory, ReadEnd, ReadStep, ReaderSource,
+    Seq, Sink, Source, Text, WriteFailed, WriteStep, WriterSink, read_all, write_all,
+};
 
 // A reader that gives one byte and then only fails.
 #[derive(Drop)]
