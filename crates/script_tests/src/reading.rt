@@ -109,16 +109,6 @@ fn the_second_form_is_read_and_written(rt: HostRuntime) -> Result<(), Fail> {
     let script = read_script(rt.alloc(), text)?;
     let written = write_script(rt.alloc(), &script).map_err(|_| "no memory")?;
     assert_eq!(rt; written.bytes(), wanted);
-    for (text, row, why) in [
-        (b"threev,2\nnodes,1\nlose\n".as_slice(), 3, Why::NotBuilt),
-        (b"threev,2\nlose\n".as_slice(), 2, Why::NodesFirst),
-        (b"lose\n".as_slice(), 1, Why::UnknownRow),
-    ] {
-        match read_script(rt.alloc(), text) {
-            Ok(_) => assert!(rt; false),
-            Err(refusal) => assert_eq!(rt; refusal, ScriptRefusal::Fault(ScriptFault { row, why })),
-        }
-    }
     Ok(())
 }
 
@@ -133,181 +123,19 @@ fn a_failed_tree_is_read_and_written(rt: HostRuntime) -> Result<(), Fail> {
     assert_eq!(rt; written.bytes(), FAILED);
     let tree = script.trees().get(0).ok_or("a tree")?;
     assert_eq!(rt; tree.subs.items().len(), 3);
-    for (text, row, why) in [
-        (
-            b"nodes,1\nupdate,t,0\nfail,0\n".as_slice(),
-            3,
-            Why::UnknownRow,
-        ),
-        (b"threev,2\nfail,0\n".as_slice(), 2, Why::NodesFirst),
-        (b"threev,2\nnodes,1\nfail,x\n".as_slice(), 3, Why::BadNumber),
-        (b"threev,2\nnodes,1\nfail,0\n".as_slice(), 3, Why::NoTree),
-        (
-            b"threev,2\nnodes,1\nupdate,t,0\nfail,1\n".as_slice(),
-            4,
-            Why::BadParent,
-        ),
-        (
-            b"threev,2\nnodes,1\nread,t,0\nfail,0\n".as_slice(),
-            4,
-            Why::WrongKind,
-        ),
-        (
-            b"threev,2\nnodes,1\nupdate,t,0\nfail,0\nsub,0,0\n".as_slice(),
-            5,
-            Why::NoTree,
-        ),
-    ] {
-        match read_script(rt.alloc(), text) {
-            Ok(_) => assert!(rt; false),
-            Err(refusal) => assert_eq!(rt; refusal, ScriptRefusal::Fault(ScriptFault { row, why })),
-        }
-    }
     Ok(())
 }
 
+// Scripts with each reason are cases of the built program.
 #[test]
-fn the_first_fault_is_told(rt: HostRuntime) -> Result<(), Fail> {
-    let table: [(&[u8], u32, Why); 40] = [
-        (b"", 1, Why::NodesFirst),
-        (b"\xEF\xBB\xBF", 1, Why::NodesFirst),
-        (b"foo,1\n", 1, Why::UnknownRow),
-        (b"\"\"\n", 1, Why::UnknownRow),
-        (b"nodes\n", 1, Why::WrongFields),
-        (b"advance\n", 1, Why::NodesFirst),
-        (b"nodes,1\nnodes,1\n", 2, Why::NodesTwice),
-        (b"nodes,x\n", 1, Why::BadNumber),
-        (b"nodes,17\n", 1, Why::OutOfRange),
-        (b"nodes,1\nitem,a b,0,sum,1\n", 2, Why::BadName),
-        (b"nodes,1\nitem,\"a\nb\",0,sum,1\n", 2, Why::BadName),
-        (
-            b"nodes,1\nitem,a,0,sum,1\nitem,a,0,sum,1\n",
-            3,
-            Why::NameTaken,
-        ),
-        (
-            b"nodes,1\nitem,a,0,sum,-0\nitem,a,0,old,1\n",
-            3,
-            Why::NameTaken,
-        ),
-        (b"nodes,1\nitem,a,0,old,1\n", 2, Why::WrongKind),
-        (b"nodes,1\nitem,a,0,bag,1\n", 2, Why::OutOfRange),
-        (
-            b"nodes,1\nitem,a,0,old,1000000000000001\n",
-            2,
-            Why::OutOfRange,
-        ),
-        (b"nodes,1\nitem,a,1,sum,+1\n", 2, Why::BadNumber),
-        (
-            b"nodes,1\nitem,a,0,sum,000000000000000000000000000000001\n",
-            2,
-            Why::BadNumber,
-        ),
-        (b"nodes,1\nupdate,t,0\nadd,a,1\n", 3, Why::UnknownItem),
-        (b"nodes,1\nupdate,t,0\nadd,,1\n", 3, Why::UnknownItem),
-        (
-            b"nodes,1\nupdate,t,0\nadd,,-1000000000000001\n",
-            3,
-            Why::OutOfRange,
-        ),
-        (b"nodes,1\nupdate,t,0\ndraw,a,-1\n", 3, Why::OutOfRange),
-        (
-            b"nodes,1\nitem,a,0,sum,1\nupdate,t,0\ndraw,a,1\n",
-            4,
-            Why::WrongKind,
-        ),
-        (
-            b"nodes,1\nitem,a,0,sum,1\nread,t,0\nset,a,1\n",
-            4,
-            Why::WrongKind,
-        ),
-        (b"nodes,1\nsub,0,0\n", 2, Why::NoTree),
-        (b"nodes,1\nupdate,t,0\nsettle\nsub,0,0\n", 4, Why::NoTree),
-        (b"nodes,1\nupdate,t,0\nsub,1,0\n", 3, Why::BadParent),
-        (
-            b"nodes,1\nupdate,t,0\nsub,4294967296,0\n",
-            3,
-            Why::BadParent,
-        ),
-        (b"nodes,1\nupdate,t,0\nsub,1,1\n", 3, Why::OutOfRange),
-        (
-            b"nodes,2\nitem,a,1,sum,0\nupdate,t,0\nadd,a,1\n",
-            4,
-            Why::WrongNode,
-        ),
-        (
-            b"nodes,1\nitem,a,0,sum,0\nupdate,t,0\nget,a\n",
-            4,
-            Why::WrongKind,
-        ),
-        (b"nodes,1\nitem,\"a", 2, Why::WrongFields),
-        (b"nodes,1\nadvance,1\n", 2, Why::WrongFields),
-        (b"nodes,1\npick,-1\n", 2, Why::BadNumber),
-        (b"nodes,1\npick,4294967296\n", 2, Why::OutOfRange),
-        (b"nodes,1\nstrict,k,0\n", 2, Why::NotBuilt),
-        (b"nodes,1\nstrict,k,1\n", 2, Why::OutOfRange),
-        (b"nodes,1\nread,k,0\nstrict,k,0\n", 3, Why::NameTaken),
-        (
-            b"nodes,1\nitem,a,0,sum,999999999999999\nupdate,t,0\nadd,a,1\nadd,a,1\n",
-            5,
-            Why::TooMuch,
-        ),
-        (
-            b"nodes,1\nitem,a,0,sum,999999999999999\nupdate,t,0\nadd,a,1\nadd,a,-1\n",
-            5,
-            Why::TooMuch,
-        ),
-    ];
-    for (text, row, why) in table {
-        match read_script(rt.alloc(), text) {
-            Ok(_) => assert!(rt; false),
-            Err(refusal) => assert_eq!(rt; refusal, ScriptRefusal::Fault(ScriptFault { row, why })),
-        }
-    }
-    Ok(())
-}
-
-// A path of so many subtransactions, each the child of the one before it.
-fn path(alloc: Global, subs: u32) -> Result<String, Fail> {
-    let mut text = format!(in alloc; "nodes,1\nupdate,t,0\n")?;
-    for parent in 1..subs {
-        let row = format!(in alloc; "sub,{},0\n", parent - 1)?;
-        text.push_str(row.as_str())?;
-    }
-    Ok(text)
-}
-
-#[test]
-fn limits_are_met(rt: HostRuntime) -> Result<(), Fail> {
-    let greatest = b"nodes,1\nitem,a,0,sum,999999999999999\nupdate,t,0\nadd,a,1\n";
-    let script = read_script(rt.alloc(), greatest)?;
-    assert_eq!(rt; script.items().len(), 1);
-    let longest = path(rt.alloc(), 64)?;
-    let script = read_script(rt.alloc(), longest.as_bytes())?;
-    let tree = script.trees().first().ok_or("a tree")?;
-    assert_eq!(rt; tree.subs.items().len(), 64);
-    let longer = path(rt.alloc(), 65)?;
-    match read_script(rt.alloc(), longer.as_bytes()) {
+fn a_fault_is_told(rt: HostRuntime) -> Result<(), Fail> {
+    let fault = ScriptFault {
+        row: 2,
+        why: Why::NoTree,
+    };
+    match read_script(rt.alloc(), b"nodes,1\nsub,0,0\n") {
         Ok(_) => assert!(rt; false),
-        Err(refusal) => assert_eq!(rt;
-            refusal,
-            ScriptRefusal::Fault(ScriptFault {
-                row: 66,
-                why: Why::TooMany
-            })
-        ),
-    }
-    let mut bytes = Vec::new(rt.alloc());
-    bytes.resize(8_388_609, b'\n')?;
-    match read_script(rt.alloc(), &bytes) {
-        Ok(_) => assert!(rt; false),
-        Err(refusal) => assert_eq!(rt;
-            refusal,
-            ScriptRefusal::Fault(ScriptFault {
-                row: 0,
-                why: Why::TooLong
-            })
-        ),
+        Err(refusal) => assert_eq!(rt; refusal, ScriptRefusal::Fault(fault)),
     }
     Ok(())
 }
