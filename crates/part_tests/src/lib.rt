@@ -4,22 +4,8 @@
 #[cfg(test)]
 mod bags;
 #[cfg(test)]
-mod collecting;
-#[cfg(test)]
-mod counters;
-#[cfg(test)]
-mod homes;
-#[cfg(test)]
 mod items;
 #[cfg(test)]
-mod letters;
-#[cfg(test)]
 mod outside;
-#[cfg(test)]
-mod rounds;
-#[cfg(test)]
-mod turns;
-#[cfg(test)]
-mod values;
 #[cfg(test)]
 mod words;
