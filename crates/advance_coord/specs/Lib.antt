@@ -1,2 +1,2 @@
 pub mod Coordinator
-pub mod Sent
+pub mod inside

@@ -6,7 +6,7 @@ ghost use Rattle.letter_types.specs.declared.bodies.Body.TheVariants.{Turn};
 ghost use Rattle.phase_out.specs.Rounds.{verdict_of, all_in};
 ghost use Rattle.advance_coord.specs.declared.phase.Phase.TheVariants.{Turning, Paused};
 ghost use Rattle.advance_coord.specs.Coordinator.{start_coordinator, coordinator_row, begin_phase, begin_round, counted, in_phase, version, acknowledged, ask_requests, keep_done, keep_asked, judged, end_count, end_advance};
-ghost use Rattle.advance_coord.specs.Sent.{letters_alone};
+ghost use Rattle.advance_coord.specs.inside.Sent.{letters_alone};
 
 use crate::letters::{tell_nodes, tell_one, tell_one_and_nodes};
 use crate::phase::Phase;

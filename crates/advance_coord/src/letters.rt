@@ -2,7 +2,7 @@
 ghost use Rattle.std.specs.Prelude.{◌≡◌, ◌∷◌, ◌++◌, [], IfOk};
 ghost use Rattle.letter_types.specs.declared.entries.Outgoing.{Outgoing};
 ghost use Rattle.advance_coord.specs.Coordinator.{to_nodes};
-ghost use Rattle.advance_coord.specs.Sent.{letters_alone};
+ghost use Rattle.advance_coord.specs.inside.Sent.{letters_alone};
 
 use letter_types::{Acts, Body, Letters, Outgoing, Step, StepOut};
 use std::alloc::Global;

@@ -27,7 +27,7 @@ use Rattle.tx_trees.specs.declared.parts.TreeKind.TheVariants.{Update, Read, Str
 use Rattle.board_model.specs.declared.serial.Member.{Member}
 use Rattle.board_model.specs.declared.standings.Standing.{Standing}
 use Rattle.board_model.specs.declared.tallies.Tally.{Tally}
-use Rattle.board_model.specs.Closed.{Closed, after_act, none_closed, with_tree}
+use Rattle.board_model.specs.inside.Closed.{Closed, after_act, none_closed, with_tree}
 use Rattle.board_model.specs.inside.Closed.{closed_back}
 use Rattle.board_model.specs.Histories.{Place, all_applied, all_done, applies, born_as, commits, does, is_strict_tree, is_through, places_at, places_of, version_in, version_of, was_applied, was_committed, was_done}
 use Rattle.board_model.specs.Serial.{closes, closings, is_in, is_member, is_settled, is_version, members, with_closed}

@@ -3,7 +3,6 @@ pub mod Serial
 pub mod Worth
 pub mod Right
 pub mod Standings
-pub mod Closed
 pub mod Balances
 pub mod SerialList
 pub mod Carried

@@ -1,10 +1,10 @@
 -- The serial order of a history: its whole update trees and committed strict trees by version, and within a version by
 -- their last closing act.
-use Rattle.std.specs.Prelude.{if◌then◌else◌, ℕ, zero, suc, Bool, false, ◌==◌, ◌&&◌, ◌||◌, max, List, [], ◌∷◌, ◌++◌, filter, Option, Some, None}
+use Rattle.std.specs.Prelude.{if◌then◌else◌, ℕ, zero, suc, Bool, false, ◌==◌, ◌&&◌, ◌||◌, List, [], ◌∷◌, ◌++◌, filter, Option, Some, None}
 use Rattle.std.specs.List.{list_any}
 use Rattle.tv_base.specs.declared.numbers.Version.{Version}
 use Rattle.letter_types.specs.declared.acts.Act.{Act}
-use Rattle.letter_types.specs.declared.acts.Act.TheVariants.{Born, Did, Decided, Finished}
+use Rattle.letter_types.specs.declared.acts.Act.TheVariants.{Did, Decided, Finished}
 use Rattle.letter_types.specs.declared.entries.Entry.{Entry}
 use Rattle.tx_trees.specs.ScriptData.{ScriptData, updates}
 use Rattle.board_model.specs.Histories.{Place, is_strict_tree, is_whole, places_of, version_of, was_committed}
@@ -51,18 +51,3 @@ members s h v = filter (is_member s h v) (closings s (places_of h))
 abbrev pub serial_to : ScriptData → List Entry → ℕ → List ℕ
 serial_to s h zero = members s h zero
 serial_to s h (suc v) = serial_to s h v ++ members s h (suc v)
-
--- the version with which the act bears a tree, else 0
-abbrev pub birth : Act → ℕ
-birth (Born t v) = v.0
-birth Finished = 0
-birth _ = 0
-
--- the greatest version with which a tree was born
-abbrev pub last_birth : List Place → ℕ
-last_birth [] = 0
-last_birth (x ∷ xs) = max (birth x.act) (last_birth xs)
-
--- all of them, in serial order
-abbrev pub serial : ScriptData → List Entry → List ℕ
-serial s h = serial_to s h (last_birth (places_of h))

@@ -1,7 +1,7 @@
 // The trees in the order in which they were closed, made while a history is gone over from its end.
 ghost use Rattle.std.specs.Prelude.{◌≡◌, IfOk, OnOk};
 ghost use Rattle.tx_trees.specs.ScriptData.{updates};
-ghost use Rattle.board_model.specs.Closed.{Closed, after_act, none_closed, with_tree};
+ghost use Rattle.board_model.specs.inside.Closed.{Closed, after_act, none_closed, with_tree};
 ghost use Rattle.board_model.specs.Histories.{is_strict_tree};
 
 use letter_types::Act;
@@ -18,7 +18,7 @@ pub(crate) struct Closings {
 }
 
 impl Model for Closings {
-    ghost use Rattle.board_model.specs.Closed.{Closed};
+    ghost use Rattle.board_model.specs.inside.Closed.{Closed};
 
     ghost Value = { Closed };
 

@@ -8,7 +8,7 @@ use Rattle.tx_trees.specs.declared.parts.ScriptRow.{ScriptRow}
 use Rattle.tx_trees.specs.declared.parts.ScriptRow.TheVariants.{Tree as TreeRow, Advance as AdvanceRow, Settle as SettleRow, Lose as LoseRow}
 use Rattle.client_rows.specs.Client.{Client, all_answered, have_ended, submitted}
 use Rattle.client_rows.specs.Kept.{unanswered_in}
-use Rattle.client_rows.specs.Places.{is_over}
+use Rattle.client_rows.specs.inside.Places.{is_over}
 use Rattle.client_rows.specs.inside.Places.{place_at, waits, knowing, furthest}
 use Rattle.client_rows.specs.declared.places.Place.{Place}
 

@@ -15,7 +15,7 @@ use Rattle.letter_types.specs.declared.entries.StepOut.{StepOut}
 use Rattle.letter_types.specs.Steps.{Out, still, made}
 use Rattle.client_rows.specs.Client.{Client, have_ended, submitted, rows_letters, next_after, finishes, submit, client_row}
 use Rattle.client_rows.specs.inside.News.{news_of, answered_after, ended_after, told, sent_first}
-use Rattle.client_rows.specs.Places.{is_over}
+use Rattle.client_rows.specs.inside.Places.{is_over}
 use Rattle.client_rows.specs.inside.Places.{place_at, knowing, furthest}
 use Rattle.client_rows.specs.declared.news.News.{News}
 use Rattle.client_rows.specs.declared.news.News.TheVariants.{Answered}

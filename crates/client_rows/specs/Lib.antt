@@ -1,5 +1,4 @@
 pub mod Client
 pub mod Kept
 pub mod Held
-pub mod Places
 pub mod inside

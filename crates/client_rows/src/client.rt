@@ -3,7 +3,7 @@ ghost use Rattle.std.specs.Prelude.{◌≡◌, ◌==◌, ◌&&◌, length, not, 
 ghost use Rattle.letter_types.specs.Steps.{made};
 ghost use Rattle.client_rows.specs.Client.{client_row, start_client};
 ghost use Rattle.client_rows.specs.Kept.{IsKeptOf, kept_of};
-ghost use Rattle.client_rows.specs.Places.{is_over};
+ghost use Rattle.client_rows.specs.inside.Places.{is_over};
 
 use crate::letters;
 use crate::news::{ended_after, mark, news_of};

@@ -2,7 +2,7 @@
 ghost use Rattle.std.specs.Prelude.{◌≡◌, ◌+◌, ◌<◌, ◌≤◌, length};
 ghost use Rattle.tx_trees.specs.Valid.{NamesInOrder};
 ghost use Rattle.client_rows.specs.inside.News.{answered_after};
-ghost use Rattle.client_rows.specs.Places.{is_over};
+ghost use Rattle.client_rows.specs.inside.Places.{is_over};
 ghost use Rattle.client_rows.specs.inside.Places.{place_at, furthest, waits};
 
 use crate::news::{News, is_answered};

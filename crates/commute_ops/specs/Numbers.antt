@@ -1,5 +1,5 @@
 -- Numbers of the values, and numbers in order.
-use Rattle.std.specs.Prelude.{ℕ, Bool, ◌+◌, nat_le, ℤ, ◌≤ℤ◌, List, [], ◌∷◌, if◌then◌else◌, int_le, unsigned_abs}
+use Rattle.std.specs.Prelude.{Bool, ◌+◌, nat_le, ℤ, ◌≤ℤ◌, List, [], ◌∷◌, if◌then◌else◌, int_le, unsigned_abs}
 use Rattle.std.specs.List.{AllPairs}
 use Rattle.commute_ops.specs.declared.kinds.TheConstants.{MOST_AMOUNT}
 
@@ -15,8 +15,3 @@ IsAscending xs = AllPairs (λ x y. x ≤ℤ y) xs
 abbrev pub with_number : ℤ → List ℤ → List ℤ
 with_number n [] = n ∷ []
 with_number n (x ∷ xs) = if int_le n x then n ∷ x ∷ xs else x ∷ with_number n xs
-
--- how many numbers of an ascending list are below a number
-abbrev pub place_of : ℤ → List ℤ → ℕ
-place_of n [] = 0
-place_of n (x ∷ xs) = if int_le n x then 0 else place_of n xs + 1

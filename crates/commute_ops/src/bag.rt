@@ -1,6 +1,7 @@
 ghost use Rattle.std.specs.Prelude.{◌≡◌, [], IfOk, ⊤};
 ghost use Rattle.std.proofs.Common.{ap};
-ghost use Rattle.commute_ops.specs.Numbers.{IsAscending, with_number, place_of};
+ghost use Rattle.commute_ops.specs.Numbers.{IsAscending, with_number};
+ghost use Rattle.commute_ops.specs.inside.Ranks.{rank};
 ghost use Rattle.commute_ops.specs.Laws.{with_number-comm};
 
 use crate::kinds::{Amount, Commute};
@@ -84,7 +85,7 @@ fn with_number(alloc: Global, numbers: &[Amount], number: Amount) -> Result<Vec<
 
 /// How many of the numbers, which ascend, are below `number`.
 fn place(numbers: &[Amount], number: Amount) -> usize
-    ensures { result ≡ place_of number numbers.now }
+    ensures { result ≡ rank number numbers.now }
 {
     for (i, x) in numbers.iter().enumerate() {
         if number <= *x {

@@ -18,9 +18,9 @@ use Rattle.stall_laws.proofs.Entries.{entries_counted}
 use Rattle.headline.proofs.Promised.{headline_past}
 use Rattle.headline.specs.Ended.{HasEnded}
 
-pub ended_past : (s : ScriptData) (past : List Entry) → IsStepRun s past → IsValid s → IsRunnable s → waiting s past ≡ []
+pub ended_past : (s : ScriptData) (past : List Entry) → IsValid s → IsRunnable s → IsStepRun s past → waiting s past ≡ []
     → HasEnded s (reverse past)
-ended_past s past run valid runnable left =
+ended_past s past valid runnable run left =
     let sound : IsSound s = record { valid = valid; runnable = runnable } in
     record {
       headline = headline_past s past sound run (no_run_stalls s past sound run left).1;

@@ -19,6 +19,6 @@ pub fn every_finished_run_has_the_headline()
 /// Every run in which no letter is left has ended: it has the headline, and as many entries as the script and the rounds
 /// of its advancements make.
 pub fn every_run_without_letters_has_ended()
-    ensures { (s : ScriptData) (past : List Entry) → IsStepRun s past → IsValid s → IsRunnable s → waiting s past ≡ []
+    ensures { (s : ScriptData) (past : List Entry) → IsValid s → IsRunnable s → IsStepRun s past → waiting s past ≡ []
         → HasEnded s (reverse past) }
 {}

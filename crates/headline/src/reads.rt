@@ -10,8 +10,8 @@ ghost use Rattle.tx_trees.specs.Valid.{IsValid};
 ghost use Rattle.world_model.specs.Runs.{IsStepRun};
 ghost use Rattle.world_model.specs.Tables.{IsRunnable};
 
-/// In every run of a valid script of update and read trees, with advancements too, each read shows what its items are
-/// worth at its tree's version in the history up to there.
+/// In every run of a valid script of update and read trees, whether versions advance in it or not, each read shows what
+/// its items are worth at its tree's version in the history up to there.
 pub fn every_read_is_right()
     ensures { (s : ScriptData) (past : List Entry) → IsValid s → IsRunnable s → IsStepRun s past
         → IsRight s (reverse past) }

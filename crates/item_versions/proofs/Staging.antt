@@ -9,7 +9,8 @@ use Rattle.tv_base.specs.declared.numbers.Version.{Version}
 use Rattle.commute_ops.specs.declared.kinds.Op.{Op}
 use Rattle.commute_ops.specs.declared.value.Value.{Value}
 use Rattle.item_versions.specs.Item.{Held, touched, may_touch, has_room, put_value}
-use Rattle.item_versions.specs.Table.{Table, item_in, place_of, replaced, pending, touched_in, may_touch_in, has_room_in, put_value_in}
+use Rattle.item_versions.specs.Table.{Table, item_in, replaced, pending, touched_in, may_touch_in, has_room_in, put_value_in}
+use Rattle.item_versions.specs.inside.Places.{item_place}
 use Rattle.item_versions.proofs.Tables.{pending-with_item, pending-staged, item_in-pending_absent, item_in-pending_none, set-place_of_with, with_item-absent}
 
 -- an item that may be updated is there; and one that has room
@@ -34,8 +35,8 @@ pub room-there : (v : Version) (n : ItemNo) (t : Table) → has_room_in v n t �
 room-there v n t room = room-of v n t (item_in n t) refl room
 
 -- what lies at the place of an item
-at-place : (n : ItemNo) (s : Table) → place_of n s < length s
-    → (k : Held) × (slice_get s (place_of n s) ≡ Some (n, k)) × (item_in n s ≡ Some k)
+at-place : (n : ItemNo) (s : Table) → item_place n s < length s
+    → (k : Held) × (slice_get s (item_place n s) ≡ Some (n, k)) × (item_in n s ≡ Some k)
 at-place n [] lt = absurd (omega arith)
 at-place n (e ∷ es) lt =
     elim (cases_eq e.0.0 n.0) [
@@ -44,7 +45,7 @@ at-place n (e ∷ es) lt =
           let here : Some e ≡ Some (n, e.1) = ap (λ (m : ItemNo). Some (m, e.1)) same in
           rw (eq-eqb e.0.0 n.0 eq) (e.1, here, refl)
       | inr ne ↦
-          let within : place_of n es < length es = let less = rw (ne_eqb e.0.0 n.0 ne) at lt in omega arith in
+          let within : item_place n es < length es = let less = rw (ne_eqb e.0.0 n.0 ne) at lt in omega arith in
           rw (ne_eqb e.0.0 n.0 ne, add-one) (at-place n es within)
     ]
 
@@ -54,8 +55,8 @@ there-of n s t h None is now = let none = item_in-pending_absent n s t is in cc
 there-of n s t h (Some k) is now = (k, is)
 
 -- what is pending of an item that is staged lies at its place
-pub staged-there : (n : ItemNo) (s t : Table) (h : Held) → item_in n (pending s t) ≡ Some h → place_of n s < length s
-    → slice_get s (place_of n s) ≡ Some (n, h)
+pub staged-there : (n : ItemNo) (s t : Table) (h : Held) → item_in n (pending s t) ≡ Some h → item_place n s < length s
+    → slice_get s (item_place n s) ≡ Some (n, h)
 staged-there n s t h now lt =
     let (k, at, is) = at-place n s lt in
     let (k', there) = there-of n s t h (item_in n t) refl now in
@@ -64,12 +65,12 @@ staged-there n s t h now lt =
     at ∙ ap (λ (z : Held). Some (n, z)) (sym same)
 
 -- what is put at its place is pending
-pub pending-set : (n : ItemNo) (s t : Table) (h : Held) → place_of n s < length s
-    → pending (set s (place_of n s) (n, h)) t ≡ replaced n h (pending s t)
+pub pending-set : (n : ItemNo) (s t : Table) (h : Held) → item_place n s < length s
+    → pending (set s (item_place n s) (n, h)) t ≡ replaced n h (pending s t)
 pending-set n s t h lt = ap (λ (z : Table). pending z t) (set-place_of_with n h s lt) ∙ pending-with_item n h s t
 
 -- what is put at the end is pending
-pub pending-last : (n : ItemNo) (s t : Table) (h : Held) → length s ≤ place_of n s
+pub pending-last : (n : ItemNo) (s t : Table) (h : Held) → length s ≤ item_place n s
     → pending (s ++ (n, h) ∷ []) t ≡ replaced n h (pending s t)
 pending-last n s t h le = ap (λ (z : Table). pending z t) (sym (with_item-absent n h s le)) ∙ pending-with_item n h s t
 
@@ -79,16 +80,16 @@ on_ok (Err e) f p = tt
 
 -- an item that is staged, and may be updated, is updated at its place p
 module _ (v : Version) (n : ItemNo) (s u t : Table) (p : ℕ)
-    (same : s ≡ u) (at : p ≡ place_of n s) (lt : p < length s) where
+    (same : s ≡ u) (at : p ≡ item_place n s) (lt : p < length s) where
   lies : (h : Held) → item_in n (pending u t) ≡ Some h → slice_get s p ≡ Some (n, h)
   lies h now =
       let now' : item_in n (pending s t) ≡ Some h = rw same now in
-      let lt' : place_of n s < length s = omega arith in
+      let lt' : item_place n s < length s = omega arith in
       rw at (staged-there n s t h now' lt')
 
   put-there : (h : Held) (s' : Table) → s' ≡ set s p (n, h) → pending s' t ≡ replaced n h (pending u t)
   put-there h s' put =
-      let lt' : place_of n s < length s = omega arith in
+      let lt' : item_place n s < length s = omega arith in
       ap (λ (z : Table). pending z t) (put ∙ ap (λ (k : ℕ). set s k (n, h)) at)
       ∙ pending-set n s t h lt' ∙ ap (λ (z : Table). replaced n h (pending z t)) same
 
@@ -115,13 +116,13 @@ module _ (v : Version) (n : ItemNo) (s u t : Table) (p : ℕ)
       let put' : s' ≡ set s p (n, put_value v w h) = rw (lies h now) at put in
       put-there (put_value v w h) s' put' ∙ rw now refl
 
-absent : (n : ItemNo) (s : Table) → length s ≤ place_of n s → item_in n s ≡ None
+absent : (n : ItemNo) (s : Table) → length s ≤ item_place n s → item_in n s ≡ None
 absent n [] le = refl
 absent n (e ∷ es) le =
-    let rest : length es ≤ place_of n es → item_in n es ≡ None = absent n es in grind (arith, nat_tests)
+    let rest : length es ≤ item_place n es → item_in n es ≡ None = absent n es in grind (arith, nat_tests)
 
 -- what is pending of an item that is not staged is the table's
-pub pending-absent : (n : ItemNo) (s t : Table) → length s ≤ place_of n s → item_in n (pending s t) ≡ item_in n t
+pub pending-absent : (n : ItemNo) (s t : Table) → length s ≤ item_place n s → item_in n (pending s t) ≡ item_in n t
 pending-absent n s t le = item_in-pending_none n s t (absent n s le)
 
 pub ruleset staging = (pending-last, pending-absent)

@@ -6,30 +6,31 @@ use Rattle.std.proofs.lemmas.Bool.Decides.{nat_tests}
 use Rattle.std.proofs.lemmas.Grind.{common_steps}
 use Rattle.tv_base.specs.declared.numbers.ItemNo.{ItemNo}
 use Rattle.item_versions.specs.Item.{Held}
-use Rattle.item_versions.specs.Table.{Table, item_in, place_of, replaced, with_item, pending}
+use Rattle.item_versions.specs.Table.{Table, item_in, replaced, with_item, pending}
+use Rattle.item_versions.specs.inside.Places.{item_place}
 
-pub place_of-le : (n : ItemNo) (t : Table) → place_of n t ≤ length t
-place_of-le n [] = omega arith
-place_of-le n (e ∷ es) = let h = place_of-le n es in grind (arith, nat_tests)
+pub item_place-le : (n : ItemNo) (t : Table) → item_place n t ≤ length t
+item_place-le n [] = omega arith
+item_place-le n (e ∷ es) = let h = item_place-le n es in grind (arith, nat_tests)
 
-pub set-place_of : (n : ItemNo) (h : Held) (t : Table) → set t (place_of n t) (n, h) ≡ replaced n h t
-set-place_of n h [] = refl
-set-place_of n h (e ∷ es) = let rest = set-place_of n h es in grind (arith, nat_tests, common_steps)
+pub set-item_place : (n : ItemNo) (h : Held) (t : Table) → set t (item_place n t) (n, h) ≡ replaced n h t
+set-item_place n h [] = refl
+set-item_place n h (e ∷ es) = let rest = set-item_place n h es in grind (arith, nat_tests, common_steps)
 
-pub set-place_of_with : (n : ItemNo) (h : Held) (t : Table) → place_of n t < length t → set t (place_of n t) (n, h) ≡ with_item n h t
+pub set-place_of_with : (n : ItemNo) (h : Held) (t : Table) → item_place n t < length t → set t (item_place n t) (n, h) ≡ with_item n h t
 set-place_of_with n h [] lt = absurd (omega arith)
 set-place_of_with n h (e ∷ es) lt =
-    let rest : place_of n es < length es → set es (place_of n es) (n, h) ≡ with_item n h es = set-place_of_with n h es in grind (arith, nat_tests, common_steps)
+    let rest : item_place n es < length es → set es (item_place n es) (n, h) ≡ with_item n h es = set-place_of_with n h es in grind (arith, nat_tests, common_steps)
 
-pub replaced-absent : (n : ItemNo) (h : Held) (t : Table) → length t ≤ place_of n t → replaced n h t ≡ t
+pub replaced-absent : (n : ItemNo) (h : Held) (t : Table) → length t ≤ item_place n t → replaced n h t ≡ t
 replaced-absent n h [] le = refl
 replaced-absent n h (e ∷ es) le =
-    let rest : length es ≤ place_of n es → replaced n h es ≡ es = replaced-absent n h es in grind (arith, nat_tests, common_steps)
+    let rest : length es ≤ item_place n es → replaced n h es ≡ es = replaced-absent n h es in grind (arith, nat_tests, common_steps)
 
-pub with_item-absent : (n : ItemNo) (h : Held) (t : Table) → length t ≤ place_of n t → with_item n h t ≡ t ++ (n, h) ∷ []
+pub with_item-absent : (n : ItemNo) (h : Held) (t : Table) → length t ≤ item_place n t → with_item n h t ≡ t ++ (n, h) ∷ []
 with_item-absent n h [] le = refl
 with_item-absent n h (e ∷ es) le =
-    let rest : length es ≤ place_of n es → with_item n h es ≡ es ++ (n, h) ∷ [] = with_item-absent n h es in grind (arith, nat_tests, common_steps)
+    let rest : length es ≤ item_place n es → with_item n h es ≡ es ++ (n, h) ∷ [] = with_item-absent n h es in grind (arith, nat_tests, common_steps)
 
 -- one item put in place twice, and two items put in place in either order
 replaced-same : (n m : ItemNo) (h k : Held) (t : Table) → m.0 ≡ n.0 → replaced n h (replaced m k t) ≡ replaced n h t

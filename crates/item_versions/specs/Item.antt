@@ -86,8 +86,3 @@ collected f (x ∷ xs) = (f, seen_after x.1 f xs) ∷ above f (x ∷ xs)
 abbrev pub CanCollect : Version → Held → Type 0
 CanCollect f [] = ⊥
 CanCollect f (x ∷ xs) = x.0.0 ≤ f.0
-
--- how many versions come before the first above f
-abbrev pub up_to : Version → Held → ℕ
-up_to f [] = 0
-up_to f (x ∷ xs) = if nat_lt f.0 x.0.0 then 0 else up_to f xs + 1

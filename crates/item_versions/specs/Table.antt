@@ -1,5 +1,5 @@
 -- What a table holds: items by number.
-use Rattle.std.specs.Prelude.{ℕ, ◌+◌, ◌<◌, Bool, false, List, [], ◌∷◌, if◌then◌else◌, ◌==◌, Option, Some, None}
+use Rattle.std.specs.Prelude.{◌<◌, Bool, false, List, [], ◌∷◌, if◌then◌else◌, ◌==◌, Option, Some, None}
 use Rattle.std.specs.List.{All, AllByRecursion, AllPairs}
 use Rattle.tv_base.specs.declared.numbers.ItemNo.{ItemNo}
 use Rattle.tv_base.specs.declared.numbers.Version.{Version}
@@ -32,11 +32,6 @@ IsAfter n t = All (λ e. e.0.0 < n.0) t
 abbrev pub item_in : ItemNo → Table → Option Held
 item_in n [] = None
 item_in n (e ∷ es) = if e.0.0 == n.0 then Some e.1 else item_in n es
-
--- the place of an item, or the number of items where it is not there
-abbrev pub place_of : ItemNo → Table → ℕ
-place_of n [] = 0
-place_of n (e ∷ es) = if e.0.0 == n.0 then 0 else place_of n es + 1
 
 -- the item is put in place of what the table holds of it
 abbrev pub replaced : ItemNo → Held → Table → Table

@@ -1,7 +1,8 @@
 ghost use Rattle.std.specs.Prelude.{◌≡◌, ◌+◌, ◌++◌, ◌∷◌, ◌<◌, ◌≤◌, [], drop, length, IfOk, OnOk, OnErr, Some, IsTrue};
 ghost use Rattle.arrayvec.specs.ArrayVec.{array_vec_len};
 ghost use Rattle.item_versions.specs.inside.InPlace.{raised};
-ghost use Rattle.item_versions.specs.Item.{IsHeld, seen, below, above, applied_to_all, touched, collected, up_to, may_apply_above, may_touch, holds, has_room, has_bag, put_value, CanCollect};
+ghost use Rattle.item_versions.specs.Item.{IsHeld, seen, below, above, applied_to_all, touched, collected, may_apply_above, may_touch, holds, has_room, has_bag, put_value, CanCollect};
+ghost use Rattle.item_versions.specs.inside.Counted.{up_to};
 
 use arrayvec::ArrayVec;
 use commute_ops::{Op, Value};

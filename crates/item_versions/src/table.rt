@@ -2,7 +2,8 @@ ghost use Rattle.std.specs.Prelude.{◌≡◌, ◌++◌, ◌∷◌, ◌<◌, [],
 ghost use Rattle.std.specs.Option.{option_copied};
 ghost use Rattle.std.specs.List.{All};
 ghost use Rattle.item_versions.specs.Item.{CanCollect, collected, has_room, may_touch, put_value, touched};
-ghost use Rattle.item_versions.specs.Table.{IsAscending, IsAfter, IsHeldTable, item_in, place_of, replaced, pending, touched_in, may_touch_in, has_room_in, put_value_in};
+ghost use Rattle.item_versions.specs.Table.{IsAscending, IsAfter, IsHeldTable, item_in, replaced, pending, touched_in, may_touch_in, has_room_in, put_value_in};
+ghost use Rattle.item_versions.specs.inside.Places.{item_place};
 
 use crate::item::Item;
 use commute_ops::{Op, Value};
@@ -279,7 +280,7 @@ fn find(entries: &[(ItemNo, Item)], item: ItemNo) -> Option<&Item>
 
 /// The place of an item, or the number of entries where it is not there, searched from end to end.
 fn staged_place(entries: &[(ItemNo, Item)], item: ItemNo) -> usize
-    ensures { result ≡ place_of item entries.now }
+    ensures { result ≡ item_place item entries.now }
 {
     for (i, entry) in entries.iter().enumerate() {
         if entry.0 == item {

@@ -22,7 +22,8 @@ use Rattle.world_model.specs.Tables.{actor_row, start_actor}
 use Rattle.world_model.proofs.Actors.{entry_at}
 use Rattle.world_model.proofs.Scripts.{get_some}
 use Rattle.node_threads.specs.Cells.{CellData, last_acts}
-use Rattle.node_threads.specs.Histories.{AllRun, IsLogOf, IsMerged, IsTold, IsWholeLog, joined_from}
+use Rattle.node_threads.specs.Histories.{IsTold}
+use Rattle.node_threads.specs.inside.Merging.{AllRun, IsLogOf, IsMerged, IsWholeLog, joined_from}
 use Rattle.node_threads.proofs.Entries.{acts_more}
 use Rattle.node_threads.proofs.Merges.{at_map}
 use Rattle.node_threads.proofs.Parts.{rows_together, sum_rows}

@@ -14,7 +14,7 @@ use Rattle.letter_types.specs.Letters.{own}
 use Rattle.letter_types.specs.Postal.{posting_of}
 use Rattle.stamp_post.specs.Logs.{own_postings}
 use Rattle.world_model.proofs.Scripts.{get_some}
-use Rattle.node_threads.specs.Histories.{FirstHas, IsLogOf, IsMerged, IsWholeLog, NoneHas, Taken}
+use Rattle.node_threads.specs.inside.Merging.{FirstHas, IsLogOf, IsMerged, IsWholeLog, NoneHas, Taken}
 
 -- The stamps are m, m + 1 and on.
 abbrev From : ℕ → List Posting → Type 0

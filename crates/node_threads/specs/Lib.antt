@@ -1,3 +1,3 @@
 pub mod Cells
-pub mod Finishing
 pub mod Histories
+pub mod inside

@@ -1,8 +1,8 @@
 // What a cluster is taken apart into when it finishes, and how its cells are put back.
 ghost use Rattle.std.specs.Prelude.{◌≡◌, ◌≤◌, true, All, length, map, sum_by, IfOk, IfSome};
 ghost use Rattle.stamp_post.specs.Shown.{seat_joined};
-ghost use Rattle.node_threads.specs.Finishing.{HasRoom, NumberedFrom};
-ghost use Rattle.node_threads.specs.Histories.{AllRun, joined_from};
+ghost use Rattle.node_threads.specs.inside.Finishing.{HasRoom, NumberedFrom};
+ghost use Rattle.node_threads.specs.inside.Merging.{AllRun, joined_from};
 
 use crate::cell::ActorCell;
 use crate::merge::LONGEST_HISTORY;

@@ -13,6 +13,3 @@ pub use cell::{ActorCell, Sent};
 pub use cluster::Cluster;
 pub use name::ClusterName;
 pub use running::run;
-
-#[cfg(test)]
-mod tests;

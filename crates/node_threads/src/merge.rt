@@ -1,8 +1,8 @@
 // The actors' entries, merged into one history.
 ghost use Rattle.std.specs.Prelude.{◌≡◌, ◌+◌, ◌≤◌, ◌↔◌, true, List, length, map, IfSome, IsNone};
 ghost use Rattle.letter_types.specs.declared.entries.Posting.{Posting};
-ghost use Rattle.node_threads.specs.Finishing.{HasRoom};
-ghost use Rattle.node_threads.specs.Histories.{FirstHas, IsLogOf, IsMerged, IsWholeLog, NoneHas, Taken};
+ghost use Rattle.node_threads.specs.inside.Finishing.{HasRoom};
+ghost use Rattle.node_threads.specs.inside.Merging.{FirstHas, IsLogOf, IsMerged, IsWholeLog, NoneHas, Taken};
 
 use letter_types::{Entry, History};
 use std::collections::VecDeque;

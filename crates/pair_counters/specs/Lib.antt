@@ -1,3 +1,4 @@
 pub mod Numbers
 pub mod Counts
 pub mod Rows
+pub mod inside

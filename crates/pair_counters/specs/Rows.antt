@@ -1,5 +1,5 @@
 -- What is kept of the numbers: three rows, used in turn.
-use Rattle.std.specs.Prelude.{ℕ, Bool, ◌+◌, ◌%◌, ◌&&◌, nat_le, List, Option, Some, None, if◌then◌else◌, slice_index, slice_get, replicate}
+use Rattle.std.specs.Prelude.{ℕ, Bool, ◌+◌, ◌%◌, ◌&&◌, nat_le, List, Option, Some, None, if◌then◌else◌, slice_index, slice_get}
 use Rattle.pair_counters.specs.declared.counters.CounterRow.{CounterRow}
 use Rattle.pair_counters.specs.Counts.{Counts}
 
@@ -28,10 +28,6 @@ asked_in low rs = number_in (λ r. r.asked) low rs
 
 abbrev pub done_in : ℕ → List CounterRow → ℕ → ℕ → ℕ
 done_in low rs = number_in (λ r. r.done) low rs
-
--- a row with nothing counted
-abbrev pub no_numbers : CounterRow
-no_numbers = record { asked = replicate 64 0; done = replicate 64 0 }
 
 -- what the rows count
 abbrev pub counts_of : CounterRows → Counts

@@ -1,7 +1,8 @@
 ghost use Rattle.std.specs.Prelude.{ℕ, ◌≡◌, ◌+◌, ◌%◌, ◌<◌, ◌≤◌, ◌^◌, length, slice_get, IfOk};
 ghost use Rattle.pair_counters.specs.Numbers.{asked_one, done_one, more_at, numbers_of, from_version};
 ghost use Rattle.pair_counters.specs.Counts.{no_counts, dropped_below, CountsThree};
-ghost use Rattle.pair_counters.specs.Rows.{counts_of, is_kept, number_of, asked_in, done_in, no_numbers};
+ghost use Rattle.pair_counters.specs.Rows.{counts_of, is_kept, number_of, asked_in, done_in};
+ghost use Rattle.pair_counters.specs.inside.NoNumbers.{no_numbers};
 
 use std::alloc::Global;
 use std::marker::Model;

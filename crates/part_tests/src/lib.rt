@@ -1,11 +1,7 @@
-//! Tests of the parts that actors are made of, and of the command line.
+//! Tests of the parts below the scripts: sources and sinks, lists, and what no run of the program calls yet.
 #![tactic(auto)]
 
-#[cfg(test)]
-mod bags;
 #[cfg(test)]
 mod items;
 #[cfg(test)]
 mod outside;
-#[cfg(test)]
-mod words;

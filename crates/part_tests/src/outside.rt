@@ -2,8 +2,8 @@ use std::io;
 use std::io::{Read, Write};
 use std::test::Fail;
 use tv_base::{
-    ActorNo, Gate, MemSink, MemSource, Name, NoGate, NoMemory, ReadEnd, ReadStep, ReaderSource,
-    Seq, Sink, Source, Text, WriteFailed, WriteStep, WriterSink, read_all, write_all,
+    MemSink, MemSource, NoMemory, ReadEnd, ReadStep, ReaderSource, Seq, Sink, Source, WriteFailed,
+    WriteStep, WriterSink, read_all, write_all,
 };
 
 // A reader that gives one byte and then only fails.
@@ -75,18 +75,6 @@ fn a_sink_takes_pieces_and_fails_where_listed_and_full(rt: HostRuntime) -> Resul
 }
 
 #[test]
-fn all_is_read_and_written(rt: HostRuntime) -> Result<(), Fail> {
-    let alloc = rt.alloc();
-    let mut source = MemSource::new(b"abcdefg".to_vec(alloc)?, 3, Vec::new(alloc));
-    let bytes = read_all(alloc, &mut source)?;
-    assert_eq!(rt; bytes.as_slice(), b"abcdefg".as_slice());
-    let mut sink = MemSink::new(alloc, 7, 2, Vec::new(alloc))?;
-    write_all(&mut sink, &bytes)?;
-    assert_eq!(rt; sink.bytes(), b"abcdefg".as_slice());
-    Ok(())
-}
-
-#[test]
 fn a_fault_ends_the_moving(rt: HostRuntime) -> Result<(), Fail> {
     let alloc = rt.alloc();
     let mut source = MemSource::new(b"abcdefg".to_vec(alloc)?, 3, [2].to_vec(alloc)?);
@@ -124,21 +112,6 @@ fn a_writer_is_a_sink(rt: HostRuntime) -> Result<(), Fail> {
 }
 
 #[test]
-fn names_have_up_to_32_bytes(rt: HostRuntime) -> Result<(), Fail> {
-    let bytes = b"abcdefghijklmnopqrstuvwxyz0123456";
-    for (len, fits) in [(0, false), (1, true), (32, true), (33, false)] {
-        let front = bytes.get(..len).ok_or("a length")?;
-        let name = Name::new(front);
-        assert_eq!(rt; name.is_some(), fits, "at {len} bytes");
-        if let Some(name) = name {
-            assert_eq!(rt; name.bytes(), front);
-        }
-    }
-    NoGate.hold(ActorNo(3));
-    Ok(())
-}
-
-#[test]
 fn lists_grow_at_the_end(rt: HostRuntime) -> Result<(), Fail> {
     let alloc = rt.alloc();
     let mut seq: Seq<u8, 3> = Seq::new(alloc);
@@ -153,17 +126,5 @@ fn lists_grow_at_the_end(rt: HostRuntime) -> Result<(), Fail> {
     assert_eq!(rt; seq.items(), [9, 7].as_slice());
     assert_eq!(rt; (seq.pop(), seq.pop(), seq.pop()), (Some(7), Some(9), None));
     assert_eq!(rt; seq.take_first(), None);
-    Ok(())
-}
-
-#[test]
-fn texts_grow_at_the_end(rt: HostRuntime) -> Result<(), Fail> {
-    let alloc = rt.alloc();
-    let mut text = Text::new(alloc);
-    text.push(b'a')?;
-    text.push_all(b"bc")?;
-    assert_eq!(rt; text.bytes(), b"abc".as_slice());
-    assert_eq!(rt; text.take_first(), Some(b'a'));
-    assert_eq!(rt; text.items(), b"bc".as_slice());
     Ok(())
 }

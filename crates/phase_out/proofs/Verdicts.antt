@@ -3,7 +3,7 @@ use Rattle.std.proofs.Common.{◌≡◌, ℕ, zero, suc, ◌<◌, Bool, true, fa
 use Rattle.std.specs.Prelude.{◌↔◌, IsNone, IsTrue}
 use Rattle.std.proofs.lemmas.Bool.{cases_eq, eq-eqb, ne_eqb}
 use Rattle.std.proofs.lemmas.Bool.Decides.{nat_tests}
-use Rattle.phase_out.specs.Rounds.{Kept, RoundData, all_in, IsMissing, MissesRow, PairDiffers, pair_agrees, kept_number, all_below, agrees, verdict_of}
+use Rattle.phase_out.specs.Rounds.{NodeRows, RoundData, all_in, IsMissing, MissesRow, PairDiffers, pair_agrees, kept_number, all_below, agrees, verdict_of}
 
 -- a test that fails at one number below n fails
 pub all_below-false : (n k : ℕ) (f : ℕ → Bool) → k < n → f k ≡ false → all_below n f ≡ false
@@ -33,12 +33,12 @@ pub holds-below : (n k : ℕ) (f : ℕ → Bool) → all_below n f ≡ true → 
 holds-below n k f all lt = holds-at n k f all lt (f k) refl
 
 -- where a row is missing, and where none is
-pub missing-somewhere : (ks : Kept) → all_in ks ≡ false → (p : ℕ) × IsMissing ks p
+pub missing-somewhere : (ks : NodeRows) → all_in ks ≡ false → (p : ℕ) × IsMissing ks p
 missing-somewhere [] fails = absurd (let h = fails in cc)
 missing-somewhere (None ∷ ks) fails = (0, refl)
 missing-somewhere (Some row ∷ ks) fails = let (p, missing) = missing-somewhere ks fails in (suc p, missing)
 
-pub missing-nowhere : (ks : Kept) (p : ℕ) → all_in ks ≡ true → IsMissing ks p → ⊥
+pub missing-nowhere : (ks : NodeRows) (p : ℕ) → all_in ks ≡ true → IsMissing ks p → ⊥
 missing-nowhere [] p all missing = cc
 missing-nowhere (None ∷ ks) p all missing = cc
 missing-nowhere (Some row ∷ ks) zero all missing = cc
@@ -94,11 +94,11 @@ pub verdict-differs : (r : RoundData) → (verdict_of r ≡ Some false) ↔ ((Mi
 verdict-differs r = differs-when r (all_in r.dones) (all_in r.askeds) (agrees r.nodes r.askeds r.dones) refl refl refl
 
 -- all are in exactly where none is missing
-in-when : (ks : Kept) (b : Bool) → all_in ks ≡ b → IsTrue (all_in ks) ↔ ((p : ℕ) → IsMissing ks p → ⊥)
+in-when : (ks : NodeRows) (b : Bool) → all_in ks ≡ b → IsTrue (all_in ks) ↔ ((p : ℕ) → IsMissing ks p → ⊥)
 in-when ks true all = rw all ((λ _ p missing. missing-nowhere ks p all missing), (λ _. refl))
 in-when ks false fails =
     let (p, missing) = missing-somewhere ks fails in
     rw fails ((λ h. absurd (let e = h in cc)), (λ none. absurd (none p missing)))
 
-pub in-each : (ks : Kept) → IsTrue (all_in ks) ↔ ((p : ℕ) → IsMissing ks p → ⊥)
+pub in-each : (ks : NodeRows) → IsTrue (all_in ks) ↔ ((p : ℕ) → IsMissing ks p → ⊥)
 in-each ks = in-when ks (all_in ks) refl

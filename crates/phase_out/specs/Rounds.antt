@@ -4,16 +4,16 @@ use Rattle.std.specs.List.{All}
 use Rattle.tv_base.specs.declared.numbers.Version.{Version}
 
 -- a row for each node, or none where it is missing
-abbrev pub Kept : Type 0
-Kept = List (Option (List ℕ))
+abbrev pub NodeRows : Type 0
+NodeRows = List (Option (List ℕ))
 
 -- the version whose numbers are compared, the round's number, and the rows of completions and of requests
 pub record RoundData : Type 0 where
   pub version : Version
   pub number : ℕ
   pub nodes : ℕ
-  pub dones : Kept
-  pub askeds : Kept
+  pub dones : NodeRows
+  pub askeds : NodeRows
 
 -- a round that misses every row
 abbrev pub new_round : Version → ℕ → ℕ → RoundData
@@ -21,7 +21,7 @@ new_round v k n =
     record { version = v; number = k; nodes = n; dones = replicate n None; askeds = replicate n None }
 
 -- a place for each of n nodes, and each row has a number for each of them
-pub record AreRows (n : ℕ) (ks : Kept) : Type 0 where
+pub record AreRows (n : ℕ) (ks : NodeRows) : Type 0 where
   pub places : length ks ≡ n
   pub numbers : All (λ k. IfSome k (λ row. length row ≡ n)) ks
 
@@ -31,7 +31,7 @@ abbrev pub is_of : ℕ → Version → ℕ → List ℕ → RoundData → Bool
 is_of from v k row r = (v.0 == r.version.0) && ((k == r.number) && (nat_lt from r.nodes && (length row == r.nodes)))
 
 -- no row is missing
-abbrev pub all_in : Kept → Bool
+abbrev pub all_in : NodeRows → Bool
 all_in [] = true
 all_in (None ∷ ks) = false
 all_in (Some row ∷ ks) = all_in ks
@@ -42,11 +42,11 @@ number_at (Some (Some row)) q = slice_index row q
 number_at _ q = 0
 
 -- the number at place q of node p's row
-abbrev pub kept_number : Kept → ℕ → ℕ → ℕ
+abbrev pub kept_number : NodeRows → ℕ → ℕ → ℕ
 kept_number ks p q = number_at (slice_get ks p) q
 
 -- the requests of p to q are as many as the completions that q has from p
-abbrev pub pair_agrees : Kept → Kept → ℕ → ℕ → Bool
+abbrev pub pair_agrees : NodeRows → NodeRows → ℕ → ℕ → Bool
 pair_agrees askeds dones p q = kept_number askeds p q == kept_number dones q p
 
 -- a test of each number below n
@@ -55,18 +55,18 @@ all_below zero f = true
 all_below (suc n) f = all_below n f && f n
 
 -- every pair of n nodes agrees
-abbrev pub agrees : ℕ → Kept → Kept → Bool
+abbrev pub agrees : ℕ → NodeRows → NodeRows → Bool
 agrees n askeds dones = all_below n (λ p. all_below n (pair_agrees askeds dones p))
 
 -- what the rows of n nodes say, once all are in
-abbrev pub verdict_by : ℕ → Kept → Kept → Option Bool
+abbrev pub verdict_by : ℕ → NodeRows → NodeRows → Option Bool
 verdict_by n dones askeds = if all_in dones && all_in askeds then Some (agrees n askeds dones) else None
 
 abbrev pub verdict_of : RoundData → Option Bool
 verdict_of r = verdict_by r.nodes r.dones r.askeds
 
 -- node p's row is missing
-abbrev pub IsMissing : Kept → ℕ → Type 0
+abbrev pub IsMissing : NodeRows → ℕ → Type 0
 IsMissing ks p = slice_get ks p ≡ Some None
 
 -- a row of some node is missing

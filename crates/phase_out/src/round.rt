@@ -7,7 +7,7 @@ use std::marker::Model;
 use tv_base::{NoMemory, NodeNo, Seq, Version};
 
 /// A row for each node, or None where it is missing.
-type Kept = Seq<Option<Row>, 0xff>;
+type NodeRows = Seq<Option<Row>, 0xff>;
 
 /// A round: the rows of numbers of one version that the nodes have sent, first those of completions, then those of
 /// requests.
@@ -16,8 +16,8 @@ pub struct Round {
     version: Version,
     number: u64,
     nodes: u8,
-    dones: Kept,
-    askeds: Kept,
+    dones: NodeRows,
+    askeds: NodeRows,
 }
 
 impl Model for Round {
@@ -154,7 +154,7 @@ impl Round {
 
 /// No row of any node.
 #[tactic(auto, using(std::proofs::lemmas::Grind::replicate_next))]
-fn no_rows(alloc: Global, nodes: u8) -> Result<Kept, NoMemory>
+fn no_rows(alloc: Global, nodes: u8) -> Result<NodeRows, NoMemory>
     ensures rows { IfOk result (λ kept. kept ≡ replicate nodes None) }
 {
     let mut kept = Seq::new(alloc);

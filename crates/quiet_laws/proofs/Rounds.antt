@@ -14,7 +14,7 @@ use Rattle.letter_types.specs.declared.entries.LetterId.{LetterId}
 use Rattle.letter_types.specs.declared.entries.Outgoing.{Outgoing}
 use Rattle.letter_types.specs.Steps.{Out}
 use Rattle.tv_base.specs.declared.numbers.Version.{Version}
-use Rattle.phase_out.specs.Rounds.{Kept, RoundData, agrees, all_in, is_of, kept_number, new_round, number_at, verdict_of}
+use Rattle.phase_out.specs.Rounds.{NodeRows, RoundData, agrees, all_in, is_of, kept_number, new_round, number_at, verdict_of}
 use Rattle.phase_out.proofs.Verdicts.{differs-none}
 use Rattle.tx_trees.specs.ScriptData.{ScriptData}
 use Rattle.advance_coord.specs.Coordinator.{Coordinator, to_nodes, counted, keep_done, with_asked, with_done, coordinator_row}
@@ -155,7 +155,7 @@ sent_at_least s past e number v p q b lt now (SendsAsked w k node bd sent same) 
 sent_at_least s past e number v p q b lt now (SendsOrders tells at made) = orders_at_least s past e number v p q b made
 
 -- a pair that differs does so after any entry, with these rows of requests
-differs_goes : (s : ScriptData) (past : List Entry) (e : Entry) (r : RoundData) (ks : Kept) → IsLawful s
+differs_goes : (s : ScriptData) (past : List Entry) (e : Entry) (r : RoundData) (ks : NodeRows) → IsLawful s
     → IsStepRun s (e ∷ past) → AllTimely s (e ∷ past)
     → LowIn s (e ∷ past) r.version.0 → (x : Differs s past r)
     → ((row : List ℕ) → slice_get ks x.p ≡ Some (Some row) → x.b ≤ slice_index row x.q)
@@ -173,7 +173,7 @@ differs_goes s past e r ks laws run timely low x kept = record {
   kept = kept;
 }
 
-found_goes : (s : ScriptData) (past : List Entry) (e : Entry) (r : RoundData) (ks : Kept) → IsLawful s
+found_goes : (s : ScriptData) (past : List Entry) (e : Entry) (r : RoundData) (ks : NodeRows) → IsLawful s
     → IsStepRun s (e ∷ past) → AllTimely s (e ∷ past)
     → Closed s past r.version.0 → LowIn s (e ∷ past) r.version.0
     → ((x : Differs s past r) (row : List ℕ) → slice_get ks x.p ≡ Some (Some row) → x.b ≤ slice_index row x.q)
@@ -185,7 +185,7 @@ found_goes s past e r ks laws run timely closed low kept (inr x) =
     inr (differs_goes s past e r ks laws run timely low x (kept x))
 
 -- a round goes on, with these rows of requests
-round_goes : (s : ScriptData) (past : List Entry) (e : Entry) (r : RoundData) (ks : Kept) → IsLawful s
+round_goes : (s : ScriptData) (past : List Entry) (e : Entry) (r : RoundData) (ks : NodeRows) → IsLawful s
     → IsStepRun s (e ∷ past) → AllTimely s (e ∷ past)
     → Closed s past r.version.0 → LowIn s (e ∷ past) r.version.0
     → ((q : ℕ) → going (first_wave r.number q) s (e ∷ past) ≤ going (first_wave r.number q) s past)

@@ -9,7 +9,7 @@ use Rattle.letter_types.specs.declared.entries.Entry.{Entry}
 use Rattle.letter_types.specs.declared.entries.Letter.{Letter}
 use Rattle.letter_types.specs.declared.entries.Outgoing.{Outgoing}
 use Rattle.tv_base.specs.declared.numbers.Version.{Version}
-use Rattle.phase_out.specs.Rounds.{Kept, all_in}
+use Rattle.phase_out.specs.Rounds.{NodeRows, all_in}
 use Rattle.tx_trees.specs.ScriptData.{ScriptData}
 use Rattle.advance_coord.specs.Coordinator.{to_nodes}
 use Rattle.pair_counters.specs.Numbers.{numbers_of}
@@ -212,7 +212,7 @@ is_in (Some (Some row)) = 1
 is_in _ = 0
 
 -- no row is kept
-abbrev pub NoRow : Kept → Type 0
+abbrev pub NoRow : NodeRows → Type 0
 NoRow ks = (p : ℕ) (row : List ℕ) → slice_get ks p ≡ Some (Some row) → ⊥
 
 pub set_get : {X : Type 0} (xs : List X) (i j : ℕ) (a x : X) → slice_get (slice_set xs i a) j ≡ Some x
@@ -230,14 +230,14 @@ is_in_most (Some None) = omega arith
 is_in_most None = omega arith
 
 -- what is all in has a row at each place
-pub in_at : (ks : Kept) (q : ℕ) → all_in ks ≡ true → q < length ks → (row : List ℕ) × (slice_get ks q ≡ Some (Some row))
+pub in_at : (ks : NodeRows) (q : ℕ) → all_in ks ≡ true → q < length ks → (row : List ℕ) × (slice_get ks q ≡ Some (Some row))
 in_at [] q all lt = absurd (omega (arith, lt))
 in_at (None ∷ ks) q all lt = absurd (cc all)
 in_at (Some row ∷ ks) zero all lt = (row, refl)
 in_at (Some row ∷ ks) (suc q) all lt = in_at ks q all (omega (arith, lt))
 
 -- one more row doesn't make a row missing
-pub missing_before : (ks : Kept) (i : ℕ) (row : List ℕ) → all_in (slice_set ks i (Some row)) ≡ false → all_in ks ≡ false
+pub missing_before : (ks : NodeRows) (i : ℕ) (row : List ℕ) → all_in (slice_set ks i (Some row)) ≡ false → all_in ks ≡ false
 missing_before [] i row missing = missing
 missing_before (None ∷ ks) i row missing = refl
 missing_before (Some r ∷ ks) zero row missing = missing

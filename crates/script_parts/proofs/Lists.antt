@@ -56,6 +56,12 @@ pub all-weaker : {A : Type 0} (P Q : A → Type 0) → ((x : A) → P x → Q x)
 all-weaker P Q f [] h = tt
 all-weaker P Q f (x ∷ xs) h = (f x h.0, all-weaker P Q f xs h.1)
 
+-- what holds of all, where the last has changed, held before
+pub all-before_last : {A : Type 0} (P : A → Type 0) (f : A → A) → ((x : A) → P (f x) → P x) → (xs : List A) → AllByRecursion P (on_last f xs) → AllByRecursion P xs
+all-before_last P f step [] h = tt
+all-before_last P f step (x ∷ []) h = (step x h.0, tt)
+all-before_last P f step (x ∷ y ∷ ys) h = (h.0, all-before_last P f step (y ∷ ys) h.1)
+
 pub all-on_last : {A : Type 0} (P : A → Type 0) (f : A → A) (xs : List A) → AllByRecursion P xs → ((x : A) → last_of xs ≡ Some x → P x → P (f x)) → AllByRecursion P (on_last f xs)
 all-on_last P f [] h step = tt
 all-on_last P f (x ∷ []) h step = (step x refl h.0, tt)

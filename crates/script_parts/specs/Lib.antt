@@ -5,7 +5,6 @@ pub mod Counts
 pub mod Forms
 pub mod Loads
 pub mod Names
-pub mod Passing
 pub mod Ranges
 pub mod Rebuilt
 pub mod Same

@@ -1,8 +1,7 @@
 -- Items' totals: the magnitudes of what a script has on each item, and what changes in them.
 use Rattle.std.specs.Prelude.{ℕ, ◌≡◌, ◌<◌, ◌≤◌, ◌+◌, ◌^◌, List, length, get_or}
 use Rattle.std.specs.List.{AllByRecursion}
-use Rattle.script_parts.specs.ScriptData.{ScriptData}
-use Rattle.script_parts.specs.Valid.{load, subs_load}
+use Rattle.script_parts.specs.Valid.{subs_load}
 use Rattle.script_parts.specs.declared.parts.Sub.{Sub}
 use Rattle.script_parts.specs.declared.parts.SubOp.{SubOp}
 
@@ -24,8 +23,3 @@ pub record MayReload (totals : List ℕ) (off on : List Sub) : Type 0 where
 pub record IsReloaded (was now : List ℕ) (off on : List Sub) : Type 0 where
   pub len : length now ≡ length was
   pub loads : (k : ℕ) → k < length was → get_or now k 0 + subs_load k off ≡ get_or was k 0 + subs_load k on
-
--- the magnitudes of each item of a script, all together
-pub record AreTotals (cells : List ℕ) (s : ScriptData) : Type 0 where
-  pub len : length cells ≡ length s.items
-  pub loads : (k : ℕ) → k < length s.items → get_or cells k 0 ≡ load k s

@@ -1,1 +1,3 @@
 pub mod AsciiNames
+pub mod Passing
+pub mod Totals

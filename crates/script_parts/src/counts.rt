@@ -14,21 +14,21 @@ const MOST_PAIRS: u64 = 1_000_000;
 // The greatest number of nodes times trees.
 const MOST_PLACES: u64 = 320_000;
 
-// Whether so many strict trees beside so many subtransactions of update trees are too many.
+/// Whether so many strict trees beside so many subtransactions of update trees are too many.
 pub fn are_many(strict: u32, subs: u32) -> bool
     ensures { result ≡ are_many strict subs }
 {
     strict as u64 * subs as u64 > MOST_PAIRS
 }
 
-// Whether so many trees are too many for so many nodes.
+/// Whether so many trees are too many for so many nodes.
 pub fn are_spread(nodes: u8, trees: u32) -> bool
     ensures { result ≡ are_spread nodes trees }
 {
     nodes as u64 * trees as u64 > MOST_PLACES
 }
 
-// How many strict trees a tree of this kind is.
+/// How many strict trees a tree of this kind is.
 pub fn one_strict(kind: TreeKind) -> u32
     ensures { result ≡ one_strict kind }
 {
@@ -39,7 +39,7 @@ pub fn one_strict(kind: TreeKind) -> u32
     }
 }
 
-// How many subtransactions of update trees one subtransaction of a tree of this kind is.
+/// How many subtransactions of update trees one subtransaction of a tree of this kind is.
 pub fn one_update(kind: TreeKind) -> u32
     ensures { result ≡ if_update kind 1 }
 {
@@ -50,7 +50,7 @@ pub fn one_update(kind: TreeKind) -> u32
     }
 }
 
-// How many `put` operations an operation is.
+/// How many `put` operations an operation is.
 pub fn one_put(deed: Deed) -> u64
     ensures { result ≡ one_put deed }
 {
@@ -60,7 +60,7 @@ pub fn one_put(deed: Deed) -> u64
     }
 }
 
-// The kind of the last tree.
+/// The kind of the last tree.
 pub fn last_kind(trees: &[Tree]) -> TreeKind
     requires { 0 < length trees.now }
     ensures { result ≡ last_kind trees.now }
@@ -87,7 +87,7 @@ fn touch(subs: &[Sub], item: usize) -> bool
     false
 }
 
-// Whether the last tree is strict, and has an operation on the item.
+/// Whether the last tree is strict, and has an operation on the item.
 pub fn has_touched(trees: &[Tree], item: usize) -> bool
     requires { 0 < length trees.now }
     ensures { result ≡ has_touched item trees.now }

@@ -46,14 +46,14 @@ fn subs_add(subs: &[Sub]) -> bool
     true
 }
 
-// Whether a tree may fail: it is an update tree, and all its operations are `add`.
+/// Whether a tree may fail: it is an update tree, and all its operations are `add`.
 pub fn may_fail(tree: &Tree) -> bool
     ensures { result ≡ may_fail tree.now }
 {
     is_update(tree.kind) && subs_add(tree.subs.items())
 }
 
-// How many operations the subtransactions have.
+/// How many operations the subtransactions have.
 pub fn count_ops(subs: &[Sub]) -> u32
     requires { subs_ops subs.now ≤ 4294967295 }
     ensures { result ≡ subs_ops subs.now }
@@ -128,7 +128,7 @@ fn copied(alloc: Global, totals: &[u128]) -> Result<Vec<u128>, NoMemory>
     Ok(out)
 }
 
-// The items' totals with some subtransactions in the place of others.
+/// The items' totals with some subtransactions in the place of others.
 pub fn reloaded(
     alloc: Global,
     totals: &[u128],
@@ -144,14 +144,14 @@ pub fn reloaded(
     Ok(out)
 }
 
-// Whether one of the totals is too great.
+/// Whether one of the totals is too great.
 pub fn are_heavy(totals: &[u128], most: u128) -> bool
     ensures { result ≡ list_any (λ t. nat_lt most t) totals.now }
 {
     totals.iter().any(|total| *total > most)
 }
 
-// How many operations the last tree has.
+/// How many operations the last tree has.
 pub fn last_ops(trees: &[Tree]) -> u32
     requires some { 0 < length trees.now }
     requires few { last_ops trees.now ≤ 4294967295 }
@@ -160,7 +160,7 @@ pub fn last_ops(trees: &[Tree]) -> u32
     count_ops(trees[trees.len() - 1].subs.items())
 }
 
-// Puts the undone form in the place of the last tree's subtransactions, which are kept as what it was written with.
+/// Puts the undone form in the place of the last tree's subtransactions, which are kept as what it was written with.
 pub fn fail_last(trees: &mut Vec<Tree>, failed: SubNo, expanded: Subs)
     requires some { 0 < length trees.old.items }
     requires undone { expanded ≡ undone (last_tree_subs trees.old.items) failed.0 }

@@ -16,7 +16,7 @@ pub struct LastPlace {
     pub ops: usize,
 }
 
-// The node of an item.
+/// The node of an item.
 pub fn node_at(items: &[ItemRow], item: usize) -> NodeNo
     requires { item < length items.now }
     ensures { result.0 ≡ node_at item items.now }
@@ -24,7 +24,7 @@ pub fn node_at(items: &[ItemRow], item: usize) -> NodeNo
     items[item].node
 }
 
-// The kind of an item.
+/// The kind of an item.
 pub fn kind_at(items: &[ItemRow], item: usize) -> Kind
     requires { item < length items.now }
     ensures { result ≡ kind_at item items.now }
@@ -32,7 +32,7 @@ pub fn kind_at(items: &[ItemRow], item: usize) -> Kind
     items[item].kind
 }
 
-// Whether a tree of this kind may have this operation on an item of that kind.
+/// Whether a tree of this kind may have this operation on an item of that kind.
 pub fn deed_fits(tree: TreeKind, kind: Kind, deed: Deed) -> bool
     ensures { result ≡ deed_fits tree kind deed }
 {
@@ -59,7 +59,7 @@ fn op_fits(kind: Kind, op: Op) -> bool
     }
 }
 
-// How many subtransactions the last tree has.
+/// How many subtransactions the last tree has.
 pub fn last_subs(trees: &[Tree]) -> usize
     requires { 0 < length trees.now }
     ensures { result ≡ last_subs trees.now }
@@ -67,7 +67,7 @@ pub fn last_subs(trees: &[Tree]) -> usize
     trees[trees.len() - 1].subs.items().len()
 }
 
-// The last subtransaction of the last tree.
+/// The last subtransaction of the last tree.
 pub fn place_of_last(trees: &[Tree]) -> LastPlace
     requires trees { 0 < length trees.now }
     requires subs { 0 < last_subs trees.now }
@@ -85,7 +85,7 @@ pub fn place_of_last(trees: &[Tree]) -> LastPlace
     }
 }
 
-// A subtransaction with no operation.
+/// A subtransaction with no operation.
 pub fn empty_sub(alloc: Global, parent: SubNo, node: NodeNo) -> Sub
     ensures { result ≡ record { parent = parent; node = node; ops = [] } }
 {
@@ -96,7 +96,7 @@ pub fn empty_sub(alloc: Global, parent: SubNo, node: NodeNo) -> Sub
     }
 }
 
-// A tree with its root alone.
+/// A tree with its root alone.
 pub fn rooted(alloc: Global, name: Name, kind: TreeKind, node: NodeNo) -> Result<Tree, NoMemory>
     ensures { IfOk result (λ t. t ≡ rooted name kind node) }
 {
@@ -110,7 +110,7 @@ pub fn rooted(alloc: Global, name: Name, kind: TreeKind, node: NodeNo) -> Result
     })
 }
 
-// Puts a subtransaction behind those of the last tree.
+/// Puts a subtransaction behind those of the last tree.
 pub fn push_sub(trees: &mut Vec<Tree>, sub: Sub) -> Result<(), NoMemory>
     requires { 0 < length trees.old.items }
     ensures ok { OnOk result (trees.new.items ≡ on_last (push_sub sub) trees.old.items) }
@@ -141,7 +141,7 @@ fn push_to_last(alloc: Global, subs: &mut Subs, op: SubOp) -> Result<(), NoMemor
     Ok(())
 }
 
-// Puts an operation behind those of the last subtransaction of the last tree.
+/// Puts an operation behind those of the last subtransaction of the last tree.
 pub fn push_op(alloc: Global, trees: &mut Vec<Tree>, op: SubOp) -> Result<(), NoMemory>
     requires trees { 0 < length trees.old.items }
     requires subs { 0 < last_subs trees.old.items }

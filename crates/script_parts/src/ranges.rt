@@ -17,7 +17,7 @@ fn op_magnitude(op: Op) -> u128
     }
 }
 
-// The magnitude of the amount that an operation names.
+/// The magnitude of the amount that an operation names.
 pub fn magnitude(deed: Deed) -> u128
     ensures { result ≡ magnitude deed }
 {
@@ -47,7 +47,7 @@ pub fn is_in_range(form: Form, deed: Deed) -> bool
     magnitude(deed) <= form.most_amount() && !draws_negative(deed)
 }
 
-// The magnitude of an item's initial value.
+/// The magnitude of an item's initial value.
 pub fn initial_size(row: &ItemRow) -> u128
     ensures { result ≡ unsigned_abs row.now.initial }
 {

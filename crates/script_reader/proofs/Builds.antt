@@ -4,7 +4,7 @@ use Rattle.std.specs.List.{AllByRecursion}
 use Rattle.std.specs.Prelude.{ℤ, if◌then◌else◌, not, ◌&&◌, ◌||◌, ◌==◌, IsTrue, nat_le, nat_lt}
 use Rattle.commute_ops.specs.declared.kinds.Kind.{Kind}
 use Rattle.tv_base.specs.declared.numbers.NodeNo.{NodeNo}
-use Rattle.tx_trees.proofs.Lists.{all-before, all-on_last, all-push, all-seam}
+use Rattle.tx_trees.proofs.Lists.{all-before, all-before_last, all-on_last, all-push, all-seam}
 use Rattle.tx_trees.specs.Adding.{adds_fail, failed_tree, with_failed, with_item, adds_lose, adds_op, adds_pick, adds_sub, adds_tree, fresh, on_last, on_last_sub, push_op, push_sub, rooted, with_op, with_row, with_sub, with_tree}
 use Rattle.tx_trees.specs.ScriptData.{ScriptData}
 use Rattle.tx_trees.specs.declared.parts.Deed.{Deed}
@@ -42,12 +42,6 @@ IsBuiltTree t = IsTrue (is_built t.kind)
 record Even (s t : ScriptData) : Type 0 where
   there : Builds s → Builds t
   back : Builds t → Builds s
-
--- what holds of all, where the last has changed, held before
-all-before_last : {A : Type 0} (P : A → Type 0) (f : A → A) → ((x : A) → P (f x) → P x) → (xs : List A) → AllByRecursion P (on_last f xs) → AllByRecursion P xs
-all-before_last P f step [] h = tt
-all-before_last P f step (x ∷ []) h = (step x h.0, tt)
-all-before_last P f step (x ∷ y ∷ ys) h = (h.0, all-before_last P f step (y ∷ ys) h.1)
 
 -- the last tree has changed, and keeps its kind
 last_even : (f : Tree → Tree) → ((t : Tree) → (f t).kind ≡ t.kind) → (s t : ScriptData) → t.trees ≡ on_last f s.trees → t.rows ≡ s.rows → Even s t

@@ -8,8 +8,9 @@ use Rattle.script_reader.specs.inside.Rows.{Leaves}
 use Rattle.tx_trees.specs.declared.why.Refusal.{Refusal}
 use Rattle.tx_trees.specs.declared.why.Refusal.TheVariants as refusals
 use Rattle.script_reader.specs.declared.reading.ScriptRefusal.{ScriptRefusal}
-use Rattle.script_reader.specs.Records.{Takes}
-use Rattle.script_reader.specs.Reading.{Gives, fault, refused_at, rows_from, then_rows}
+use Rattle.script_reader.specs.inside.Records.{Takes}
+use Rattle.script_reader.specs.Reading.{Gives, fault, rows_from, then_rows}
+use Rattle.script_reader.specs.inside.Reading.{refused_at}
 
 -- a row that is taken
 pub goes_on : (every : Bool) (s t : ScriptData) (at : ℕ) (rows : List (List (List ℕ))) (r : List (List ℕ)) (rs : List (List (List ℕ))) → rows ≡ r ∷ rs → later_row every s r ≡ Ok t → rows_from every s at rows ≡ rows_from every t (at + 1) rs

@@ -6,7 +6,7 @@ use Rattle.csv.specs.Reading.{NextIs, ReadRecord, ReadsNext, Ready, default_conf
 use Rattle.csv.specs.declared.parser.State.{State}
 use Rattle.csv.specs.declared.reader.Reader.{Reader}
 use Rattle.csv.specs.declared.reader.Trim.TheVariants as trim
-use Rattle.script_reader.specs.Readers.{IsReading, ReadsRow, of_bytes, rows_left}
+use Rattle.script_reader.specs.inside.Readers.{IsReading, ReadsRow, of_bytes, rows_left}
 
 -- no turn is left
 pub no_more : (s : State) (k : Option (List ℕ)) → of_bytes zero s k ≡ []

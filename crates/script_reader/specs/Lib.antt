@@ -1,5 +1,4 @@
 pub mod Records
-pub mod Readers
 pub mod RecordsInside
 pub mod Numbers
 pub mod Words

@@ -4,8 +4,6 @@ use Rattle.std.specs.Prelude.{Result, Ok, Err, if◌then◌else◌, ⊤}
 use Rattle.tx_trees.specs.ScriptData.{ScriptData}
 use Rattle.tx_trees.specs.declared.why.Why.{Why}
 use Rattle.tx_trees.specs.declared.why.Why.TheVariants as why
-use Rattle.tx_trees.specs.declared.why.Refusal.{Refusal}
-use Rattle.tx_trees.specs.declared.why.Refusal.TheVariants as refusals
 use Rattle.script_reader.specs.Records.{records_in}
 use Rattle.script_reader.specs.Rows.{built_forms, every_form, first_row, later_row, second_row}
 use Rattle.script_reader.specs.declared.reading.ScriptFault.{ScriptFault}
@@ -15,11 +13,6 @@ use Rattle.script_reader.specs.declared.reading.ScriptRefusal.TheVariants as end
 -- the reason of a row
 abbrev pub fault : ℕ → Why → ScriptFault
 fault row why = record { row = row; why = why }
-
--- a refusal, with its row
-abbrev pub refused_at : ℕ → Refusal → ScriptRefusal
-refused_at row (refusals.Why w) = ends.Fault (fault row w)
-refused_at row refusals.NoMemory = ends.NoMemory
 
 -- a record, and the records after it
 abbrev pub then_rows : ℕ → Result ScriptData Why → (ScriptData → Result ScriptData ScriptFault)

@@ -1,6 +1,6 @@
 -- The records that a reader has left.
 use Rattle.std.specs.Prelude.{◌≡◌, ℕ, List, ◌⊎◌}
-use Rattle.script_reader.specs.Readers.{IsReading, rows_left}
+use Rattle.script_reader.specs.inside.Readers.{IsReading, rows_left}
 use Rattle.script_reader.specs.declared.records.Records.TheInside.{Inside}
 
 -- the records that are left

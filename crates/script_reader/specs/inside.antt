@@ -1,2 +1,5 @@
 pub mod Numbers
+pub mod Readers
+pub mod Reading
+pub mod Records
 pub mod Rows

@@ -1,6 +1,7 @@
 // A whole script, record by record.
 ghost use Rattle.std.specs.Prelude.{◌≡◌, ◌≤◌, ◌+◌, length};
-ghost use Rattle.script_reader.specs.Reading.{Gives, read_of, read_rows, refused_at, rows_from, second_rows};
+ghost use Rattle.script_reader.specs.Reading.{Gives, read_of, read_rows, rows_from, second_rows};
+ghost use Rattle.script_reader.specs.inside.Reading.{refused_at};
 ghost use Rattle.script_reader.specs.Records.{AreAllRecords, records_in};
 ghost use Rattle.script_reader.specs.Rows.{built_forms};
 

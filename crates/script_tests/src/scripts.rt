@@ -1,4 +1,6 @@
 use commute_ops::{Amount, Kind, Op};
+use script_reader::write_script;
+use std::alloc::Global;
 use std::test::Fail;
 use tv_base::{ItemNo, Name, NodeNo, SubNo, TreeNo};
 use tx_trees::{Deed, Form, ItemRow, Refusal, Script, TreeKind, Why};
@@ -122,5 +124,40 @@ fn a_script_is_upgraded(rt: HostRuntime) -> Result<(), Fail> {
     assert_eq!(rt; one == two, false);
     one.upgrade();
     assert_eq!(rt; one == two, true);
+    Ok(())
+}
+
+/// Each kind of item, deed, tree and row, but those of the second form.
+fn every_form(alloc: Global) -> Result<Script, Refusal> {
+    let mut script = Script::new(alloc, Form::One, 2);
+    item(&mut script, b"a", 0, 5)?;
+    item_of(&mut script, b"b", 1, Kind::Top, -3)?;
+    item_of(&mut script, b"c", 0, Kind::Bag, 0)?;
+    tree(&mut script, b"t", 0)?;
+    op(&mut script, b"a", Deed::Apply(Op::Add(-2)))?;
+    op(&mut script, b"c", Deed::Apply(Op::Put(9)))?;
+    sub(&mut script, 0, 1)?;
+    op(&mut script, b"b", Deed::Apply(Op::Top(7)))?;
+    script.add_settle()?;
+    tree_of(&mut script, b"r", TreeKind::Read, 0)?;
+    op(&mut script, b"a", Deed::Get)?;
+    tree_of(&mut script, b"k", TreeKind::Strict, 0)?;
+    op(&mut script, b"a", Deed::Draw(1))?;
+    sub(&mut script, 0, 1)?;
+    op(&mut script, b"b", Deed::Set(8))?;
+    script.add_advance()?;
+    script.add_pick(4_294_967_295)?;
+    script.add_pick(0)?;
+    Ok(script)
+}
+
+#[test]
+fn every_form_is_written(rt: HostRuntime) -> Result<(), Fail> {
+    let script = every_form(rt.alloc())?;
+    let text = write_script(rt.alloc(), &script).map_err(|_| "no memory")?;
+    let wanted: &[u8] = b"nodes,2\nitem,a,0,sum,5\nitem,b,1,top,-3\nitem,c,0,bag,0\n\
+        update,t,0\nadd,a,-2\nput,c,9\nsub,0,1\ntop,b,7\nsettle\nread,r,0\nget,a\n\
+        strict,k,0\ndraw,a,1\nsub,0,1\nset,b,8\nadvance\npick,4294967295\npick,0\n";
+    assert_eq!(rt; text.bytes(), wanted);
     Ok(())
 }

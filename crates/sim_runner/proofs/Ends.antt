@@ -21,4 +21,4 @@ bag_is_empty s w world none = sym world.bag ∙ none_left w.bag none
 pub has_ended : (s : ScriptData) (w : WorldData) → IsWorldOf s w → IsValid s → IsRunnable s → length w.bag ≤ 0 → HasEnded s w.history
 has_ended s w world valid runnable none =
     subst (HasEnded s) (reverse-reverse w.history)
-    (ended_past s (reverse w.history) world.run valid runnable (bag_is_empty s w world none))
+    (ended_past s (reverse w.history) valid runnable world.run (bag_is_empty s w world none))

@@ -1,2 +1,3 @@
 pub mod Picks
 pub mod Pickers
+pub mod inside

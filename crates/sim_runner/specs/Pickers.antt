@@ -1,16 +1,9 @@
 -- Histories whose letters were taken as a picker chose.
-use Rattle.std.specs.Prelude.{ℕ, zero, suc, ◌%◌, ◌≡◌, Bool, List, length, Some, position, slice_get, unwrap_or}
+use Rattle.std.specs.Prelude.{ℕ, zero, suc, ◌%◌, ◌≡◌, List, length, Some, slice_get}
 use Rattle.letter_types.specs.declared.entries.Entry.{Entry}
 use Rattle.letter_types.specs.declared.entries.Letter.{Letter}
 use Rattle.tx_trees.specs.ScriptData.{ScriptData}
 use Rattle.world_model.specs.Scheduled.{waiting_at}
-
--- the place of the oldest letter that passes a test, or 0 where none does
-abbrev pub oldest_where : (Letter → Bool) → List Letter → ℕ
-oldest_where test ls = unwrap_or (position test ls) 0
-
--- A picker has two meanings, both functions of itself and the letters that wait: the number of the place that it names,
--- and what it is afterwards.
 
 -- the picker before entry k of a history
 abbrev pub picker_at : {P : Type 0} → (P → List Letter → P) → ScriptData → P → List Entry → ℕ → P

@@ -2,7 +2,7 @@
 use Rattle.std.proofs.Common.{if◌then◌else◌, ◌≡◌, ◌≢◌, ℕ, zero, suc, ◌+◌, ◌*◌, ◌<◌, ◌≤◌, ◌&&◌, not, Bool, true, false, List, [], ◌∷◌, ◌++◌, replicate, set, take, drop, refl, sym, ap, subst, ◌∙◌, arith, Some, None}
 use Rattle.std.proofs.Math.Seq.{take-add}
 use Rattle.tx_trees.proofs.Rebuilding.{advances_in-append}
-use Rattle.phase_out.specs.Rounds.{Kept, all_in}
+use Rattle.phase_out.specs.Rounds.{NodeRows, all_in}
 use Rattle.letter_types.specs.declared.bodies.Body.{Body}
 use Rattle.letter_types.specs.declared.bodies.Body.TheVariants.{Go, Nudge, Advance, Advanced, Turn, Show, Sweep, Turned, Shown, Swept, AskDone, AskAsked, DoneRow, AskedRow}
 use Rattle.letter_types.specs.declared.entries.Entry.{Entry}
@@ -78,7 +78,7 @@ stages Showing = 2
 stages Sweeping = 3
 
 -- the second wave of questions, while it hasn't begun
-abbrev pub unasked : ℕ → Phase → Kept → ℕ
+abbrev pub unasked : ℕ → Phase → NodeRows → ℕ
 unasked n (Counting reads) dones = if all_in dones then 0 else 2 * n
 unasked n Idle dones = 0
 unasked n _ dones = 0
@@ -102,7 +102,7 @@ to_nodes_cost (suc n) body two =
 pays_by : (n : ℕ) (c : Coordinator) (out next : Out Coordinator) → out ≡ next → Pays n c next → Pays n c out
 pays_by n c out next is pays = subst (λ (o : Out Coordinator). Pays n c o) (sym is) pays
 
-unasked_all : (n : ℕ) (phase : Phase) (dones : Kept) → all_in dones ≡ true → unasked n phase dones ≡ 0
+unasked_all : (n : ℕ) (phase : Phase) (dones : NodeRows) → all_in dones ≡ true → unasked n phase dones ≡ 0
 unasked_all n (Counting reads) dones all = rw all refl
 unasked_all n Idle dones all = refl
 unasked_all n Turning dones all = refl
@@ -155,7 +155,7 @@ done_pays n m true false body nodes two grows =
 done_pays n m false true body nodes two grows = let clash : false ≡ true = grows refl in absurd (cc clash)
 done_pays n m false false body nodes two grows = omega arith
 
-put_all : (ks : Kept) (f : ℕ) (row : List ℕ) → all_in ks ≡ true → all_in (set ks f (Some row)) ≡ true
+put_all : (ks : NodeRows) (f : ℕ) (row : List ℕ) → all_in ks ≡ true → all_in (set ks f (Some row)) ≡ true
 put_all [] f row all = refl
 put_all (None ∷ ks) f row all = absurd (cc all)
 put_all (Some old ∷ ks) zero row all = all
@@ -175,7 +175,7 @@ pays_done n reads from row c nodes at =
 pays_next : (n u : ℕ) → (u + 1) * (6 * n + 1) ≡ u * (6 * n + 1) + 6 * n + 1
 pays_next n u = omega arith
 
-calm_pend : (n : ℕ) (c : Coordinator) (phase : Phase) → c.phase ≡ phase → ((dones : Kept) → unasked n phase dones ≡ 0) → pend n c ≡ 0
+calm_pend : (n : ℕ) (c : Coordinator) (phase : Phase) → c.phase ≡ phase → ((dones : NodeRows) → unasked n phase dones ≡ 0) → pend n c ≡ 0
 calm_pend n c phase at none = pend_at n c phase at ∙ none c.current.dones
 
 full_pend : (n : ℕ) (c : Coordinator) → all_in c.current.dones ≡ true → pend n c ≡ 0

@@ -6,7 +6,7 @@ use Rattle.letter_types.specs.declared.bodies.Notice.TheVariants.{Did as DidNoti
 use Rattle.letter_types.specs.declared.entries.Entry.{Entry}
 use Rattle.letter_types.specs.declared.entries.Letter.{Letter}
 use Rattle.letter_types.specs.Steps.{Out}
-use Rattle.phase_out.specs.Rounds.{Kept}
+use Rattle.phase_out.specs.Rounds.{NodeRows}
 use Rattle.advance_coord.specs.Coordinator.{Coordinator}
 use Rattle.advance_coord.specs.declared.phase.Phase.{Phase}
 use Rattle.advance_coord.specs.declared.phase.Phase.TheVariants.{Idle, Turning, Counting, Paused, Showing, Sweeping}
@@ -218,7 +218,7 @@ works_taken s past laws run timely done =
     (λ t le lt. tree_taken s past t laws run timely done (omega (arith, lt))) ∙ all_subs_here s))
 
 -- Where no letter is under way, so many letters of advancements were taken.
-idle_pend : (n : ℕ) (phase : Phase) (dones : Kept) → running phase ≡ 0 → (unasked n phase dones ≡ 0) × (stages phase ≡ 0)
+idle_pend : (n : ℕ) (phase : Phase) (dones : NodeRows) → running phase ≡ 0 → (unasked n phase dones ≡ 0) × (stages phase ≡ 0)
 idle_pend n Idle dones rests = (refl, refl)
 idle_pend n Turning dones rests = absurd (omega (arith, rests))
 idle_pend n (Counting reads) dones rests = absurd (omega (arith, rests))

@@ -4,7 +4,7 @@ use Rattle.std.specs.Prelude.{nat_lt, slice_get, slice_index}
 use Rattle.std.proofs.lemmas.Bool.{cases_eq}
 use Rattle.std.proofs.lemmas.Bool.Decides.{nat_tests}
 use Rattle.tv_base.specs.declared.numbers.Version.{Version}
-use Rattle.phase_out.specs.Rounds.{Kept, RoundData, agrees, all_below, all_in, is_of, kept_number, number_at, pair_agrees}
+use Rattle.phase_out.specs.Rounds.{NodeRows, RoundData, agrees, all_below, all_in, is_of, kept_number, number_at, pair_agrees}
 use Rattle.pair_counters.specs.Numbers.{Numbers}
 use Rattle.letter_types.specs.declared.bodies.Body.{Body}
 use Rattle.letter_types.specs.declared.bodies.Body.TheVariants.{Go, Sweep, DoneRow, AskedRow}
@@ -157,7 +157,7 @@ coordinator_exact s past e v r made =
     (coordinator_each (λ to body. LetterId → ExactBody s (e ∷ past) v r e.actor.0 body) c (orders_exact s (e ∷ past) v r e.actor.0 c.nodes) e.took.from.0 e.took.body)
 
 -- 3. A verdict on exact rows is yes.
-pub kept_is : (ks : Kept) (p q n : ℕ) → all_in ks ≡ true → p < length ks
+pub kept_is : (ks : NodeRows) (p q n : ℕ) → all_in ks ≡ true → p < length ks
     → ((row : List ℕ) → slice_get ks p ≡ Some (Some row) → slice_index row q ≡ n) → kept_number ks p q ≡ n
 kept_is ks p q n all lt is =
     let (row, at) = in_at ks p all lt in ap (λ (o : Option (Option (List ℕ))). number_at o q) at ∙ is row at
@@ -169,14 +169,14 @@ below_all (suc n) f all = rw (below_all n f (λ k lt. all k (omega (arith, lt)))
 eq_test : (a b : ℕ) → a ≡ b → (a == b) ≡ true
 eq_test a b eq = grind (arith, nat_tests)
 
-pub all_agree : (n : ℕ) (askeds dones : Kept) → ((p q : ℕ) → p < n → q < n → kept_number askeds p q ≡ kept_number dones q p)
+pub all_agree : (n : ℕ) (askeds dones : NodeRows) → ((p q : ℕ) → p < n → q < n → kept_number askeds p q ≡ kept_number dones q p)
     → agrees n askeds dones ≡ true
 all_agree n askeds dones same =
     below_all n (λ p. all_below n (pair_agrees askeds dones p)) (λ p lp.
     below_all n (pair_agrees askeds dones p) (λ q lq. eq_test (kept_number askeds p q) (kept_number dones q p) (same p q lp lq)))
 
 -- 4. A row that is put.
-put_by : (ks : Kept) (f q : ℕ) (row row' : List ℕ) (P : ℕ → List ℕ → Type 0) → (f ≡ q) ⊎ (f ≢ q) → slice_get (set ks f (Some row)) q ≡ Some (Some row')
+put_by : (ks : NodeRows) (f q : ℕ) (row row' : List ℕ) (P : ℕ → List ℕ → Type 0) → (f ≡ q) ⊎ (f ≢ q) → slice_get (set ks f (Some row)) q ≡ Some (Some row')
     → P f row → (slice_get ks q ≡ Some (Some row') → P q row') → P q row'
 put_by [] f q row row' P which at new old = absurd (cc at)
 put_by (k ∷ ks) zero zero row row' P which at new old = let same : row ≡ row' = cc at in subst (P 0) same new

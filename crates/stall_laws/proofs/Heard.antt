@@ -5,7 +5,7 @@ use Rattle.std.proofs.lemmas.Bool.Decides.{nat_tests}
 use Rattle.std.proofs.lemmas.Bool.{eqb-true}
 use Rattle.pair_counters.proofs.Rows.{length_numbers}
 use Rattle.tv_base.specs.declared.numbers.Version.{Version}
-use Rattle.phase_out.specs.Rounds.{Kept, RoundData, all_in, is_of}
+use Rattle.phase_out.specs.Rounds.{NodeRows, RoundData, all_in, is_of}
 use Rattle.pair_counters.specs.Numbers.{numbers_of}
 use Rattle.letter_types.specs.declared.bodies.Body.{Body}
 use Rattle.letter_types.specs.declared.bodies.Body.TheVariants.{Go, AskDone, AskAsked, DoneRow, AskedRow}
@@ -53,7 +53,7 @@ held None = 0
 held (Some row) = 1
 
 -- the row of node q is kept
-abbrev pub is_kept : Kept → ℕ → ℕ
+abbrev pub is_kept : NodeRows → ℕ → ℕ
 is_kept [] q = 0
 is_kept (k ∷ ks) zero = held k
 is_kept (k ∷ ks) (suc q) = is_kept ks q
@@ -69,7 +69,7 @@ abbrev pub Heard : ScriptData → List Entry → Coordinator → Type 0
 Heard s past c = (reads : Bool) → c.phase ≡ Counting reads → Waved s past c.current
 
 -- Rows that are kept.
-put_more : (ks : Kept) (f : ℕ) (row : List ℕ) (q : ℕ) → is_kept ks q ≤ is_kept (set ks f (Some row)) q
+put_more : (ks : NodeRows) (f : ℕ) (row : List ℕ) (q : ℕ) → is_kept ks q ≤ is_kept (set ks f (Some row)) q
 put_more [] f row q = omega arith
 put_more (None ∷ ks) zero row zero = omega arith
 put_more (Some old ∷ ks) zero row zero = omega arith
@@ -77,13 +77,13 @@ put_more (k ∷ ks) zero row (suc q) = omega arith
 put_more (k ∷ ks) (suc f) row zero = omega arith
 put_more (k ∷ ks) (suc f) row (suc q) = put_more ks f row q
 
-put_there : (ks : Kept) (f : ℕ) (row : List ℕ) → f < length ks → is_kept (set ks f (Some row)) f ≡ 1
+put_there : (ks : NodeRows) (f : ℕ) (row : List ℕ) → f < length ks → is_kept (set ks f (Some row)) f ≡ 1
 put_there [] f row lt = absurd (omega (arith, lt))
 put_there (k ∷ ks) zero row lt = refl
 put_there (k ∷ ks) (suc f) row lt = put_there ks f row (omega (arith, lt))
 
 -- where each row is kept, none is missing
-pub all_of : (ks : Kept) → ((q : ℕ) → q < length ks → 1 ≤ is_kept ks q) → all_in ks ≡ true
+pub all_of : (ks : NodeRows) → ((q : ℕ) → q < length ks → 1 ≤ is_kept ks q) → all_in ks ≡ true
 all_of [] all = refl
 all_of (None ∷ ks) all = absurd (omega (arith, all 0 (omega arith)))
 all_of (Some row ∷ ks) all = all_of ks (λ q lt. all (suc q) (omega (arith, lt)))
@@ -250,7 +250,7 @@ other_row : (a b c d : Bool) (q from : ℕ) → (from == q) ≡ false → one_if
 other_row a b c d q from ne = grind (arith, nat_tests)
 
 -- a row that is kept
-kept_first : (v r q from t t' m : ℕ) (w : Version) (k : ℕ) (row : List ℕ) (ks : Kept) (n : ℕ) → from < length ks
+kept_first : (v r q from t t' m : ℕ) (w : Version) (k : ℕ) (row : List ℕ) (ks : NodeRows) (n : ℕ) → from < length ks
     → (b : Bool) → (from == q) ≡ b → 1 ≤ t + is_kept ks q
     → t' + wave false v r q n from m (DoneRow w k row) ≡ t + 0 → 1 ≤ t' + is_kept (set ks from (Some row)) q
 kept_first v r q from t t' m w k row ks n lt true is was goes =
@@ -260,7 +260,7 @@ kept_first v r q from t t' m w k row ks n lt true is was goes =
 kept_first v r q from t t' m w k row ks n lt false is was goes =
     omega (arith, was, goes, put_more ks from row q, other_row true (w.0 == v) (k == r) (length row == n) q from is)
 
-kept_second : (v r q from t t' m : ℕ) (w : Version) (k : ℕ) (row : List ℕ) (ks : Kept) (n : ℕ) → from < length ks
+kept_second : (v r q from t t' m : ℕ) (w : Version) (k : ℕ) (row : List ℕ) (ks : NodeRows) (n : ℕ) → from < length ks
     → (b : Bool) → (from == q) ≡ b → 1 ≤ t + is_kept ks q
     → t' + wave true v r q n from m (AskedRow w k row) ≡ t + 0 → 1 ≤ t' + is_kept (set ks from (Some row)) q
 kept_second v r q from t t' m w k row ks n lt true is was goes =

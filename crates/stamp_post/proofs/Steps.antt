@@ -19,7 +19,7 @@ use Rattle.stamp_post.specs.declared.rule.JoinedReceipt.{JoinedReceipt}
 use Rattle.stamp_post.specs.declared.rule.View.{View}
 use Rattle.stamp_post.specs.declared.rule.View.TheVariants.{Gathering, Acting, Sending, Carrying, Spent}
 use Rattle.stamp_post.specs.Logs.{most, own_postings, posting, Stands, Begins, WasSent}
-use Rattle.stamp_post.specs.Rules.{HoldsGo, HoldsTaken, HoldsUnsent, Fits, Kept, Ruled}
+use Rattle.stamp_post.specs.Rules.{HoldsGo, HoldsTaken, HoldsUnsent, Fits, KeepsLog, Ruled}
 use Rattle.stamp_post.specs.Moves.{Stamped}
 use Rattle.stamp_post.specs.Shown.{joined_seat, joined_receipt, Gathers}
 use Rattle.stamp_post.proofs.Lists.{view_split, own_here, own_other, IsByMade, none_by, log_bounded, sent_as, put_at, put_here, put_else}
@@ -76,7 +76,7 @@ no_postings client = record {
 }
 
 -- the table at the start
-pub begins : (actors : ℕ) → actors < 256 → Kept actors (0 ∷ 0 ∷ []) (Gathering 0 (Some (go (actors - 1))) [] [] ∷ [])
+pub begins : (actors : ℕ) → actors < 256 → KeepsLog actors (0 ∷ 0 ∷ []) (Gathering 0 (Some (go (actors - 1))) [] [] ∷ [])
 begins actors small = record {
   log = [];
   owner = λ a. 0;

@@ -56,7 +56,7 @@ module _ (client : ℕ) (log : List Posting) (owner : ℕ → ℕ) (made : ℕ) 
   Fits Spent = Unit {0}
 
 -- there is one log, which went as letters do, and the second word is its length
-pub record Kept (actors : ℕ) (words : List ℕ) (views : List View) : Type 0 where
+pub record KeepsLog (actors : ℕ) (words : List ℕ) (views : List View) : Type 0 where
   pub log : List Posting
   pub owner : ℕ → ℕ
   pub made : ℕ
@@ -71,7 +71,7 @@ pub record Kept (actors : ℕ) (words : List ℕ) (views : List View) : Type 0 w
   pub fits : (id : ℕ) (v : View) → get_elem? views id ≡ some v → Fits (actors - 1) log owner made holder id v
 
 abbrev pub Ruled : ℕ → State (Unit {0}) View → Type 0
-Ruled actors s = Kept actors s.words s.views
+Ruled actors s = KeepsLog actors s.words s.views
 
 -- no actor was made, and Go is here
 abbrev pub first_view : ℕ → View

@@ -1,116 +1,27 @@
-ghost use Rattle.std.specs.Prelude.{◌≤◌, unsigned_abs};
-ghost use Rattle.commute_ops.specs.declared.kinds.TheConstants.{MOST_AMOUNT};
-ghost use Rattle.tx_trees.specs.Valid.{magnitude};
-
+use crate::entries::{act, enter};
 use board_model::{Member, Standing, carry, outcomes_of, start, written_at};
-use commute_ops::{Amount, Kind, Op, Value, Values};
-use letter_types::{Act, Acts, Body, Entry, History, Letter, LetterId, Letters};
+use commute_ops::{Amount, Value, Values};
+use letter_types::{Act, Acts, History, Letters};
+use script_reader::read_script;
 use std::alloc::Global;
 use std::test::Fail;
-use tv_base::{ActorNo, Name, NoMemory, NodeNo, Stamp, SubNo, TreeNo, Version};
-use tx_trees::{Deed, Form, ItemRow, Refusal, Script, TreeKind, Why};
-
-const BAD_CALL: Refusal = Refusal::Why(Why::NotBuilt);
-
-fn add_item(script: &mut Script, name: &[u8], node: u8, initial: Amount) -> Result<(), Refusal>
-    requires { unsigned_abs initial ≤ MOST_AMOUNT }
-{
-    let Some(name) = Name::new(name) else {
-        return Err(BAD_CALL);
-    };
-    if node >= script.nodes() {
-        return Err(BAD_CALL);
-    }
-    let kind = Kind::Sum;
-    let row = ItemRow {
-        name,
-        node: NodeNo(node),
-        kind,
-        initial,
-    };
-    script.add_item(row)?;
-    Ok(())
-}
-
-fn add_tree(script: &mut Script, name: &[u8], node: u8) -> Result<(), Refusal> {
-    let Some(name) = Name::new(name) else {
-        return Err(BAD_CALL);
-    };
-    if node >= script.nodes() {
-        return Err(BAD_CALL);
-    }
-    script.add_tree(name, TreeKind::Update, NodeNo(node))?;
-    Ok(())
-}
-
-fn add_child(script: &mut Script, node: u8) -> Result<(), Refusal> {
-    if node >= script.nodes() {
-        return Err(BAD_CALL);
-    }
-    script.add_sub(0, NodeNo(node))?;
-    Ok(())
-}
-
-fn add_amount(script: &mut Script, name: &[u8], amount: Amount) -> Result<(), Refusal>
-    requires { unsigned_abs amount ≤ MOST_AMOUNT }
-{
-    let Some(name) = Name::new(name) else {
-        return Err(BAD_CALL);
-    };
-    script.add_op(&name, Deed::Apply(Op::Add(amount)))
-}
+use tv_base::{NoMemory, SubNo, TreeNo, Version};
 
 /// Two items, 10 at node 0 and 0 at node 1; a tree that adds 5 and 7 to them, and one that adds 100 to the first.
-fn two_trees(alloc: Global) -> Result<Script, Refusal> {
-    let mut script = Script::new(alloc, Form::One, 2);
-    add_item(&mut script, b"a", 0, 10)?;
-    add_item(&mut script, b"b", 1, 0)?;
-    add_tree(&mut script, b"t", 0)?;
-    add_amount(&mut script, b"a", 5)?;
-    add_child(&mut script, 1)?;
-    add_amount(&mut script, b"b", 7)?;
-    add_tree(&mut script, b"u", 0)?;
-    add_amount(&mut script, b"a", 100)?;
-    Ok(script)
-}
-
-fn took(alloc: Global, history: &mut History, acts: Acts) -> Result<(), NoMemory> {
-    let id = LetterId {
-        stamp: Stamp(0),
-        place: 0,
-    };
-    let letter = Letter {
-        id,
-        from: ActorNo(3),
-        to: ActorNo(0),
-        body: Body::Nudge,
-    };
-    let entry = Entry {
-        stamp: Stamp(1),
-        actor: ActorNo(0),
-        took: letter,
-        sent: Letters::new(alloc),
-        acts,
-    };
-    history.push(entry)?;
-    Ok(())
-}
+const TWO_TREES: &[u8] = b"nodes,2\nitem,a,0,sum,10\nitem,b,1,sum,0\n\
+    update,t,0\nadd,a,5\nsub,0,1\nadd,b,7\nupdate,u,0\nadd,a,100\n";
 
 fn born(acts: &mut Acts, tree: u32, version: u64) -> Result<(), NoMemory> {
-    acts.push(Act::Born {
-        tree: TreeNo(tree),
-        version: Version(version),
-    })?;
-    Ok(())
+    let tree = TreeNo(tree);
+    let version = Version(version);
+    act(acts, Act::Born { tree, version })
 }
 
 fn did(alloc: Global, acts: &mut Acts, tree: u32, sub: u32) -> Result<(), NoMemory> {
-    acts.push(Act::Did {
-        tree: TreeNo(tree),
-        sub: SubNo(sub),
-        values: Values::new(alloc),
-    })?;
-    Ok(())
+    let tree = TreeNo(tree);
+    let sub = SubNo(sub);
+    let values = Values::new(alloc);
+    act(acts, Act::Did { tree, sub, values })
 }
 
 /// The first tree is born with version 1 and whole, though born once more; the second is born with version 1 only.
@@ -120,11 +31,11 @@ fn one_whole(alloc: Global) -> Result<History, NoMemory> {
     born(&mut acts, 0, 1)?;
     did(alloc, &mut acts, 0, 0)?;
     born(&mut acts, 1, 1)?;
-    took(alloc, &mut history, acts)?;
+    enter(&mut history, Letters::new(alloc), acts)?;
     let mut later = Acts::new(alloc);
     born(&mut later, 0, 2)?;
     did(alloc, &mut later, 0, 1)?;
-    took(alloc, &mut history, later)?;
+    enter(&mut history, Letters::new(alloc), later)?;
     Ok(history)
 }
 
@@ -138,7 +49,7 @@ fn number(value: &Value) -> Amount {
 #[test]
 fn whole_trees_count_from_their_first_version(rt: HostRuntime) -> Result<(), Fail> {
     let alloc = rt.alloc();
-    let script = two_trees(alloc)?;
+    let script = read_script(alloc, TWO_TREES)?;
     let history = one_whole(alloc)?;
     let outcomes = outcomes_of(alloc, &script, &history)?;
     let first = Standing {

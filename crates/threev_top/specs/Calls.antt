@@ -1,5 +1,5 @@
 -- What the top call reads and writes.
-use Rattle.std.specs.Prelude.{ℕ, Bool, true, false, ◌≡◌, ◌++◌, ◌⊎◌, List, [], Option, Some, None, Ok, Err, ⊤}
+use Rattle.std.specs.Prelude.{ℕ, Bool, true, false, ◌≡◌, ◌++◌, ◌⊎◌, List, [], Option, Some, None, Ok, Err}
 use Rattle.std.specs.Io.KnownBytes.{Appends, Consumes, IsAtEnd}
 use Rattle.tv_base.specs.Outside.{AppendsFront, HasMoreThan, Rose}
 use Rattle.tv_base.specs.declared.moving.TheConstants.{MOST_BYTES}
@@ -22,8 +22,6 @@ use Rattle.report_text.specs.Summary.{summary_of}
 use Rattle.headline.specs.Ended.{HasEnded}
 use Rattle.threev_top.specs.declared.outcomes.Mode.{Mode}
 use Rattle.threev_top.specs.declared.outcomes.Mode.TheVariants as modes
-use Rattle.threev_top.specs.declared.outcomes.Stop.{Stop}
-use Rattle.threev_top.specs.declared.outcomes.Stop.TheVariants as stops
 use Rattle.threev_top.specs.declared.texts.TheConstants.{HELP, VERSION}
 
 -- the report of a history, and its lines behind it where they are asked for
@@ -138,9 +136,3 @@ Refuses left now f = ReadRefused left now f ⊎ ((f ≡ fault 0 why.TooLong) × 
 -- the line was written, or a front of it where a fault was counted
 abbrev pub Tells : Option (List ℕ) → Option (List ℕ) → ℕ → ℕ → List ℕ → Type 0
 Tells written after before now line = Appends written after line ⊎ (AppendsFront written after line × Rose before now)
-
--- the text was written whole, or writing failed
-abbrev pub IsWritten : Option Stop → Type 0
-IsWritten None = ⊤
-IsWritten (Some stops.Writing) = ⊤
-IsWritten _ = ⊥

@@ -9,8 +9,3 @@ mod upgraded;
 pub use calls::{Ended, threev};
 pub use outcomes::{Mode, Stop};
 pub use upgraded::upgraded_scripts_have_the_same_runs;
-
-#[cfg(test)]
-mod tests;
-#[cfg(test)]
-mod thread_tests;

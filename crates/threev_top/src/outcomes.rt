@@ -11,7 +11,8 @@ ghost use Rattle.world_model.specs.Scheduled.{IsScheduled};
 ghost use Rattle.world_model.specs.Tables.{IsRunnable};
 ghost use Rattle.headline.specs.Headline.{HasHeadline};
 ghost use Rattle.headline.specs.Ended.{HasEnded};
-ghost use Rattle.threev_top.specs.Calls.{IsText, IsTextOf, IsWritten, Refuses, report_with, WritesFront, WritesText, Wrote, WroteFront};
+ghost use Rattle.threev_top.specs.Calls.{IsText, IsTextOf, Refuses, report_with, WritesFront, WritesText, Wrote, WroteFront};
+ghost use Rattle.threev_top.specs.inside.Calls.{IsWritten};
 ghost use Rattle.threev_top.specs.inside.Calls.{HasWorkers, is_before_writing, IsByBytes, IsStop, reading_stop, script_stop};
 
 use history_text::history_lines;

@@ -27,7 +27,7 @@ use Rattle.script_parts.specs.Adding.{last_kind, on_last, on_last_sub, push_op, 
 use Rattle.script_parts.specs.Amounts.{magnitude}
 use Rattle.script_parts.specs.Counts.{advances_in, all_ops, all_subs, loses_in, if_update, one_put, one_strict, strict_trees, trees_puts, update_subs}
 use Rattle.tx_trees.specs.Inside.{IsKept, data_of}
-use Rattle.script_parts.specs.Passing.{MayAddItem, MayAddOp, MayAddSub, MayAddTree}
+use Rattle.script_parts.specs.inside.Passing.{MayAddItem, MayAddOp, MayAddSub, MayAddTree}
 use Rattle.script_parts.specs.ScriptData.{ScriptData}
 use Rattle.script_parts.specs.Valid.{IsValid, initial_load, item_names, load, tree_names, trees_load}
 use Rattle.script_parts.proofs.Lists.{slice_get-seam, sum-push}

@@ -4,7 +4,7 @@ use Rattle.std.specs.Prelude.{Some, Ok}
 use Rattle.tv_base.specs.declared.numbers.NodeNo.{NodeNo}
 use Rattle.script_parts.specs.Adding.{adds_fail, are_crowded, is_heavy, last_may_fail, last_subs, with_failed, adds_item, adds_op, adds_sub, adds_tree, place_of, with_item, with_op, with_sub, with_tree}
 use Rattle.script_parts.proofs.Lists.{le_not}
-use Rattle.script_parts.specs.Passing.{MayAddItem, MayAddOp, MayAddSub, MayAddTree}
+use Rattle.script_parts.specs.inside.Passing.{MayAddItem, MayAddOp, MayAddSub, MayAddTree}
 use Rattle.script_parts.specs.ScriptData.{ScriptData}
 use Rattle.script_parts.specs.declared.parts.Deed.{Deed}
 use Rattle.script_parts.specs.declared.parts.ItemRow.{ItemRow}

@@ -17,7 +17,7 @@ use Rattle.script_parts.specs.Adding.{adds_advance, adds_lose, are_crowded, fail
 use Rattle.script_parts.specs.Amounts.{magnitude}
 use Rattle.script_parts.specs.Forms.{most_amount}
 use Rattle.script_parts.specs.Counts.{advances_in, all_ops, all_subs, loses_in, if_update, one_put, one_strict, ops_in, strict_trees, subs_ops, trees_puts, update_subs}
-use Rattle.script_parts.specs.Passing.{MayAddItem, MayAddOp, MayAddSub, MayAddTree}
+use Rattle.script_parts.specs.inside.Passing.{MayAddItem, MayAddOp, MayAddSub, MayAddTree}
 use Rattle.script_parts.specs.Ranges.{draws_negative, is_in_range, may_start}
 use Rattle.script_parts.specs.Rebuilt.{RebuiltAs, fail_added, items_added, name_at, ops_added, picks_added, rebuilt, rooted_added, row_added, rows_added, subs_added, then_more, tree_added}
 use Rattle.script_parts.specs.ScriptData.{ScriptData, is_strict}

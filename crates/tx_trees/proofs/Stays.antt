@@ -19,7 +19,7 @@ use Rattle.script_parts.specs.Adding.{are_many, are_spread, has_no_op_left, has_
 use Rattle.script_parts.specs.Amounts.{magnitude}
 use Rattle.script_parts.specs.Counts.{advances_in, all_ops, all_subs, is_lose, loses_in, if_update, one_put, one_strict, ops_in, ops_puts, strict_trees, subs_puts, trees_puts, update_subs}
 use Rattle.script_parts.specs.Forms.{most_amount, most_nodes}
-use Rattle.script_parts.specs.Passing.{MayAddItem, MayAddOp, MayAddSub, MayAddTree}
+use Rattle.script_parts.specs.inside.Passing.{MayAddItem, MayAddOp, MayAddSub, MayAddTree}
 use Rattle.script_parts.specs.Ranges.{draws_negative, is_in_range, may_start, starts_full}
 use Rattle.script_parts.specs.ScriptData.{ScriptData, is_strict}
 use Rattle.script_parts.specs.Valid.{AreSubs, AreWithin, HasFailed, IsItem, IsOp, IsSub, IsTree, IsValid, MayAllHaveFailed, MayHaveFailed, NamesInOrder, as_written, last_written, OpAt, deed_fits, initial_load, item_names, items_of, load, ops_load, subs_load, tree_names, trees_load}

@@ -14,10 +14,11 @@ use Rattle.script_parts.specs.Amounts.{magnitude}
 use Rattle.script_parts.specs.Forms.{most_amount}
 use Rattle.script_parts.specs.Ranges.{draws_negative, is_in_range}
 use Rattle.tx_trees.specs.Inside.{IsKept, data_of}
-use Rattle.script_parts.specs.Loads.{AreTotals, IsReloaded, MayReload, OpWithin, SubWithin}
+use Rattle.script_parts.specs.Loads.{IsReloaded, MayReload, OpWithin, SubWithin}
+use Rattle.script_parts.specs.inside.Totals.{AreTotals}
 use Rattle.script_parts.specs.Names.{is_name}
 use Rattle.script_parts.specs.Rebuilt.{written_subs}
-use Rattle.script_parts.specs.Passing.{MayFail}
+use Rattle.script_parts.specs.inside.Passing.{MayFail}
 use Rattle.script_parts.specs.ScriptData.{ScriptData, is_update}
 use Rattle.script_parts.specs.Undone.{goes_from, inverse, inverses_from, is_add, is_undone, negated, negated_deed, ops_add, staying, staying_from, stays, subs_add, undoes, undone}
 use Rattle.script_parts.specs.Valid.{AreSubs, AreWithin, HasFailed, IsOp, IsTree, IsValid, MayAllHaveFailed, MayHaveFailed, as_written, load, ops_load, subs_load, tree_names, trees_load}

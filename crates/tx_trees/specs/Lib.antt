@@ -7,7 +7,8 @@ pub use Rattle.script_parts.specs.Counts
 pub use Rattle.script_parts.specs.Forms
 pub use Rattle.script_parts.specs.Loads
 pub use Rattle.script_parts.specs.Names
-pub use Rattle.script_parts.specs.Passing
+pub use Rattle.script_parts.specs.inside.Passing
+pub use Rattle.script_parts.specs.inside.Totals
 pub use Rattle.script_parts.specs.Ranges
 pub use Rattle.script_parts.specs.Rebuilt
 pub use Rattle.script_parts.specs.Same

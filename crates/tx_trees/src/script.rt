@@ -7,7 +7,7 @@ ghost use Rattle.script_parts.specs.Amounts.{magnitude};
 ghost use Rattle.script_parts.specs.Counts.{advances_in, all_ops, all_subs, update_subs};
 ghost use Rattle.script_parts.specs.Forms.{most_amount, most_nodes};
 ghost use Rattle.script_parts.specs.Undone.{undone};
-ghost use Rattle.script_parts.specs.Passing.{MayFail, MayAddItem, MayAddOp, MayAddSub, MayAddTree};
+ghost use Rattle.script_parts.specs.inside.Passing.{MayFail, MayAddItem, MayAddOp, MayAddSub, MayAddTree};
 ghost use Rattle.script_parts.specs.Same.{same_script};
 ghost use Rattle.script_parts.specs.SameFacts.{script_laws};
 ghost use Rattle.script_parts.specs.ScriptData.{is_child, subs_at, visits};
@@ -144,7 +144,7 @@ impl PartialEq for Script {
 }
 
 impl Script {
-    ghost use Rattle.script_parts.specs.Loads.{AreTotals};
+    ghost use Rattle.script_parts.specs.inside.Totals.{AreTotals};
 
     /// A script of this form and of so many nodes, 1 to 16, or 1 to 64 of the second form, with nothing in it.
     pub fn new(alloc: Global, form: Form, nodes: u8) -> Script

@@ -12,10 +12,11 @@ use Rattle.letter_types.specs.Steps.{Out}
 use Rattle.tx_trees.specs.ScriptData.{ScriptData}
 use Rattle.world_model.proofs.Scripts.{IsSound, get_some}
 use Rattle.run_laws.specs.Balance.{MOST_COUNTED}
-use Rattle.tree_step.specs.Children.{MOST_SENT}
+use Rattle.tree_step.specs.inside.Sent.{MOST_SENT}
 use Rattle.world_core.specs.declared.actor.ActorState.{ActorState}
 use Rattle.world_model.specs.Tables.{ActorData}
-use Rattle.world_core.specs.Actors.{Acted, CountsBelow, IsAddressed, IsWorldOf, MayTake, TookLetter, WorldData}
+use Rattle.world_core.specs.Actors.{CountsBelow, IsAddressed, IsWorldOf, TookLetter, WorldData}
+use Rattle.world_core.specs.inside.Actors.{Acted, MayTake}
 use Rattle.world_core.proofs.Few.{few_sent}
 use Rattle.world_core.proofs.Worlds.{asks, below, entry_of, next_world, row_is, small_counts}
 

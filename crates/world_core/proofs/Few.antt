@@ -21,7 +21,8 @@ use Rattle.tree_home.specs.Homes.{Gets}
 use Rattle.tree_home.specs.declared.homes.Answered.{Answered}
 use Rattle.tree_step.specs.Apt.{is_did, kind_at}
 use Rattle.tree_step.specs.Asked.{asked_ops, asked_version, tree_done}
-use Rattle.tree_step.specs.Children.{sub_letters, done_letter, MOST_SENT}
+use Rattle.tree_step.specs.Children.{sub_letters, done_letter}
+use Rattle.tree_step.specs.inside.Sent.{MOST_SENT}
 use Rattle.tree_step.specs.Done.{note_done, root_done, sub_done, with_tree}
 use Rattle.tree_step.specs.Node.{Effect, Node}
 use Rattle.tree_step.specs.Notices.{answer_noted, reply_letters}

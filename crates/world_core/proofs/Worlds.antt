@@ -31,7 +31,8 @@ use Rattle.run_laws.specs.Quiet.{IsGivenInQuiet}
 use Rattle.run_laws.proofs.InTime.{counts_small, given_run, in_time}
 use Rattle.world_core.specs.declared.actor.ActorState.{ActorState}
 use Rattle.world_model.specs.Tables.{ActorData, actor_row}
-use Rattle.world_core.specs.Actors.{Acted, AreStatesOf, CountsBelow, IsAddressed, IsFor, IsStateOf, IsWorldOf, WorldData, actor_in, data_of}
+use Rattle.world_core.specs.Actors.{AreStatesOf, CountsBelow, IsAddressed, IsFor, IsStateOf, IsWorldOf, WorldData, actor_in, data_of}
+use Rattle.world_core.specs.inside.Actors.{Acted}
 use Rattle.world_core.proofs.Bag.{Found, found_at}
 
 -- the entry that a step makes

@@ -1,17 +1,15 @@
 -- The actors' states by their tables, and what a world keeps.
-use Rattle.std.specs.Prelude.{if◌then◌else◌, ℕ, ◌==◌, ◌+◌, ◌^◌, ◌<◌, ◌≡◌, nat_lt, List, [], ◌∷◌, ◌++◌, length, reverse, Some, slice_get, slice_set}
+use Rattle.std.specs.Prelude.{if◌then◌else◌, ℕ, ◌==◌, ◌+◌, ◌^◌, ◌<◌, ◌≡◌, nat_lt, List, [], ◌∷◌, ◌++◌, length, reverse, Some, slice_get}
 use Rattle.client_rows.specs.Kept.{IsKeptOf}
 use Rattle.letter_types.specs.declared.entries.Letter.{Letter}
 use Rattle.letter_types.specs.declared.entries.Entry.{Entry}
 use Rattle.letter_types.specs.declared.entries.Outgoing.{Outgoing}
-use Rattle.letter_types.specs.declared.entries.StepOut.{StepOut}
-use Rattle.letter_types.specs.Steps.{made}
 use Rattle.pair_counters.specs.Numbers.{AllBelow}
 use Rattle.tree_step.specs.Node.{IsOf, data_of as node_data}
 use Rattle.tx_trees.specs.ScriptData.{ScriptData}
 use Rattle.run_laws.specs.Quiet.{IsGivenInQuiet}
 use Rattle.world_model.specs.Counts.{Each}
-use Rattle.world_model.specs.Tables.{ActorData, NodeData, CoordinatorData, ClientData, actor_row}
+use Rattle.world_model.specs.Tables.{ActorData, NodeData, CoordinatorData, ClientData}
 use Rattle.world_model.specs.Runs.{IsStepRun, waiting, node_in, coordinator_in, client_in}
 use Rattle.world_core.specs.declared.actor.ActorState.{ActorState}
 use Rattle.world_core.specs.declared.actor.ActorState.TheVariants.{Node, Coordinator, Client}
@@ -62,9 +60,6 @@ pub record WorldData : Type 0 where
   pub bag : List Letter
   pub history : List Entry
 
-abbrev pub world_of : List ActorState → List Letter → List Entry → WorldData
-world_of actors bag history = record { actors = actors; bag = bag; history = history }
-
 -- the world is one of the script: its history goes step by step, and its actors and its bag are what follows from it
 pub record IsWorldOf (s : ScriptData) (w : WorldData) : Type 0 where
   pub run : IsStepRun s (reverse w.history)
@@ -80,18 +75,3 @@ GaveInQuiet s old new = (e : Entry) → new.history ≡ old.history ++ e ∷ []
 -- letter k of the bag was taken: there is one entry more, and it took this letter
 abbrev pub TookLetter : ℕ → WorldData → WorldData → Type 0
 TookLetter k old new = (e : Entry) × (new.history ≡ old.history ++ e ∷ []) × (slice_get old.bag k ≡ Some e.took)
-
--- an actor may take a letter: it is addressed to it, of its script, and the numbers that it counts are small
-pub record MayTake (s : ScriptData) (l : Letter) (m : ℕ) (st : ActorState) : Type 0 where
-  pub addressed : IsAddressed s l (data_of st)
-  pub script : IsFor s st
-  pub small : CountsBelow m (data_of st)
-
--- the addressee of a letter made its step, with these letters and acts, and the other actors stay
-pub record Acted (s : ScriptData) (l : Letter) (old new : List ActorState) (out : StepOut) : Type 0 where
-  pub before : ActorState
-  pub after : ActorState
-  pub there : slice_get old l.to.0 ≡ Some before
-  pub set : new ≡ slice_set old l.to.0 after
-  pub row : made (data_of after) out ≡ actor_row s l.to.0 (data_of before) l
-  pub script : IsFor s after

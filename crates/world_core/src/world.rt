@@ -6,7 +6,8 @@ ghost use Rattle.world_model.specs.Tables.{IsRunnable};
 ghost use Rattle.run_laws.specs.Balance.{IsBalanced};
 ghost use Rattle.tx_trees.specs.ScriptData.{ScriptData};
 ghost use Rattle.world_model.specs.Runs.{actor_after};
-ghost use Rattle.world_core.specs.Actors.{Acted, AreStatesOf, data_of, GaveInQuiet, IsWorldOf, MayTake, MOST_ENTRIES, TookLetter, world_of};
+ghost use Rattle.world_core.specs.Actors.{AreStatesOf, data_of, GaveInQuiet, IsWorldOf, MOST_ENTRIES, TookLetter};
+ghost use Rattle.world_core.specs.inside.Actors.{Acted, MayTake, world_of};
 ghost use Rattle.pair_counters.specs.Numbers.{MOST_COUNT};
 
 use crate::actor::{ActorState, actor_step};

@@ -1,12 +1,15 @@
 -- How far the client is among the rows. These are the definitions that private code alone cites.
-use Rattle.std.specs.Prelude.{ℕ, Bool, false, ◌+◌, not, List, take, drop}
+use Rattle.std.specs.Prelude.{ℕ, Bool, false, ◌+◌, not, List, take, drop, ◌==◌, ◌&&◌, nat_le}
 use Rattle.tx_trees.specs.Adding.{advances_in}
 use Rattle.tx_trees.specs.declared.parts.ScriptRow.{ScriptRow}
 use Rattle.tx_trees.specs.declared.parts.ScriptRow.TheVariants.{Tree as TreeRow, Settle as SettleRow}
 use Rattle.client_rows.specs.Client.{Client, submitted}
 use Rattle.client_rows.specs.Kept.{trees_in, unanswered_in}
 use Rattle.client_rows.specs.declared.places.Place.{Place}
-use Rattle.client_rows.specs.Places.{is_over}
+
+-- all that was submitted up to a place has ended
+abbrev pub is_over : Place → ℕ → Bool
+is_over at ended = (at.unanswered == 0) && nat_le at.asked ended
 
 -- the place with so many rows submitted and these trees answered
 abbrev pub place_at : List ScriptRow → List Bool → ℕ → Place

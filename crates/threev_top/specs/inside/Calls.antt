@@ -12,6 +12,13 @@ use Rattle.threev_top.specs.declared.outcomes.Mode.{Mode}
 use Rattle.threev_top.specs.declared.outcomes.Mode.TheVariants as modes
 use Rattle.threev_top.specs.declared.outcomes.Stop.{Stop}
 use Rattle.threev_top.specs.declared.outcomes.Stop.TheVariants as stops
+use Rattle.command_words.specs.declared.Line.TheVariants as lines
+
+-- the text was written whole, or writing failed
+abbrev pub IsWritten : Option Stop → Type 0
+IsWritten None = ⊤
+IsWritten (Some stops.Writing) = ⊤
+IsWritten _ = ⊥
 
 -- a mode that runs threads has from 1 to 32 workers
 abbrev pub HasWorkers : Mode → Type 0

@@ -1,7 +1,7 @@
 use Rattle.std.proofs.Common.{◌-◌, List, length, drop, refl, ap, sym, ◌∙◌, arith}
 use Rattle.letter_types.specs.declared.acts.Act.{Act}
 use Rattle.letter_types.specs.declared.entries.Entry.{Entry}
-use Rattle.board_model.specs.Closed.{Closed}
+use Rattle.board_model.specs.inside.Closed.{Closed}
 use Rattle.board_model.specs.inside.Closed.{closed_back}
 use Rattle.board_model.specs.Histories.{Place, places_at, places_of}
 use Rattle.board_model.specs.inside.SerialList.{placed}

@@ -7,7 +7,7 @@ use Rattle.tx_trees.specs.declared.parts.Tree.{Tree}
 use Rattle.board_model.specs.declared.serial.Member.{Member}
 use Rattle.board_model.specs.declared.standings.Standing.{Standing}
 use Rattle.board_model.specs.declared.tallies.Tally.{Tally}
-use Rattle.board_model.specs.Closed.{Closed, none_closed}
+use Rattle.board_model.specs.inside.Closed.{Closed, none_closed}
 use Rattle.board_model.specs.inside.Closed.{closed_back}
 use Rattle.board_model.specs.Histories.{places_of}
 use Rattle.board_model.specs.SerialList.{is_of, trees_of}

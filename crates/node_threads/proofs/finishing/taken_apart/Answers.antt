@@ -8,8 +8,8 @@ use Rattle.stamp_post.specs.Shown.{SeatData, seat_data, seat_joined}
 use Rattle.world_model.specs.Runs.{IsRunOf}
 use Rattle.world_model.specs.Tables.{actor_row, start_actor}
 use Rattle.node_threads.specs.Cells.{CellData}
-use Rattle.node_threads.specs.Finishing.{NumberedFrom}
-use Rattle.node_threads.specs.Histories.{AllRun, joined_from}
+use Rattle.node_threads.specs.inside.Finishing.{NumberedFrom}
+use Rattle.node_threads.specs.inside.Merging.{AllRun, joined_from}
 use Rattle.node_threads.proofs.Gatherings.{runs_more, seats_more}
 use Rattle.node_threads.proofs.finishing.taken_apart.Goals as goal
 

@@ -1,8 +1,8 @@
 use Rattle.std.proofs.Common.{◌≡◌, ◌+◌, ◌++◌, ◌≤◌, length, map, All}
 use Rattle.std.specs.Prelude.{vec_capacity}
 use Rattle.stamp_post.specs.Shown.{seat_joined}
-use Rattle.node_threads.specs.Finishing.{NumberedFrom}
-use Rattle.node_threads.specs.Histories.{AllRun, joined_from}
+use Rattle.node_threads.specs.inside.Finishing.{NumberedFrom}
+use Rattle.node_threads.specs.inside.Merging.{AllRun, joined_from}
 use Rattle.node_threads.proofs.finishing.taken_apart.Given as goal
 
 abbrev pub invariant-loop-cell : goal.invariant-loop-cell

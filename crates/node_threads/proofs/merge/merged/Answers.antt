@@ -1,6 +1,6 @@
 use Rattle.std.proofs.Common.{◌≡◌, ◌+◌, List, [], ◌∷◌, ◌++◌, map, refl, sym, ◌∙◌, subst, rules}
 use Rattle.letter_types.specs.declared.entries.Entry.{Entry}
-use Rattle.node_threads.specs.Histories.{IsMerged}
+use Rattle.node_threads.specs.inside.Merging.{IsMerged}
 use Rattle.node_threads.proofs.Merges.{Merging, ends, goes_on, merges, starts}
 use Rattle.node_threads.proofs.merge.merged.Goals as goal
 

@@ -1,7 +1,7 @@
 use Rattle.std.proofs.Common.{◌≡◌, ◌≤◌, List, length, map}
 use Rattle.std.specs.Prelude.{vec_capacity}
 use Rattle.letter_types.specs.declared.entries.Posting.{Posting}
-use Rattle.node_threads.specs.Histories.{IsLogOf}
+use Rattle.node_threads.specs.inside.Merging.{IsLogOf}
 use Rattle.node_threads.proofs.Merges.{Merging}
 use Rattle.node_threads.proofs.merge.merged.Given as goal
 

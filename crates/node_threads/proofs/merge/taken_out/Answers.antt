@@ -4,7 +4,7 @@ use Rattle.std.specs.declared.collections.VecDeque.{VecDeque}
 use Rattle.std.proofs.lemmas.List.{length-map, map-set}
 use Rattle.std.proofs.lemmas.Option.{slice_get_within}
 use Rattle.letter_types.specs.declared.entries.Entry.{Entry}
-use Rattle.node_threads.specs.Histories.{FirstHas}
+use Rattle.node_threads.specs.inside.Merging.{FirstHas}
 use Rattle.node_threads.proofs.Merges.{at_map, at_place, first_of, none_more}
 use Rattle.node_threads.proofs.merge.taken_out.Goals as goal
 

@@ -1,7 +1,7 @@
 use Rattle.std.proofs.Common.{◌≡◌, ◌<◌, ℕ, List, map, Some}
 use Rattle.std.specs.Prelude.{slice_get}
 use Rattle.letter_types.specs.declared.entries.Entry.{Entry}
-use Rattle.node_threads.specs.Histories.{FirstHas}
+use Rattle.node_threads.specs.inside.Merging.{FirstHas}
 use Rattle.node_threads.proofs.merge.taken_out.Given as goal
 
 abbrev pub invariant-loop-actor : goal.invariant-loop-actor

@@ -6,8 +6,8 @@ use Rattle.letter_types.specs.Letters.{sealed}
 use Rattle.letter_types.specs.declared.entries.Letter.{Letter}
 use Rattle.letter_types.specs.declared.entries.Entry.{Entry}
 use Rattle.tx_trees.specs.declared.parts.ScriptRow.{ScriptRow}
-use Rattle.tree_step.specs.Children.{MOST_SENT}
-use Rattle.world_core.specs.Actors.{world_of}
+use Rattle.tree_step.specs.inside.Sent.{MOST_SENT}
+use Rattle.world_core.specs.inside.Actors.{world_of}
 use Rattle.world_core.proofs.Events.{is_here, may_take, has_room, Event, event_world, event_took, event_count}
 use Rattle.world_core.proofs.world.advance.Goals as goal
 

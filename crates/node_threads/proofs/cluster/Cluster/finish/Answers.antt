@@ -6,7 +6,7 @@ use Rattle.letter_types.specs.declared.entries.Entry.{Entry}
 use Rattle.letter_types.specs.declared.entries.Posting.{Posting}
 use Rattle.stamp_post.specs.Shown.{receipt_joined, seat_joined}
 use Rattle.node_threads.specs.Cells.{CellData}
-use Rattle.node_threads.specs.Histories.{IsWholeLog}
+use Rattle.node_threads.specs.inside.Merging.{IsWholeLog}
 use Rattle.node_threads.proofs.Gatherings.{all_counted, finishes_as, whole_log}
 use Rattle.node_threads.proofs.cluster.Cluster.finish.Given.{Over}
 use Rattle.node_threads.proofs.cluster.Cluster.finish.Goals as goal

@@ -1,8 +1,8 @@
 use Rattle.std.proofs.Common.{arith, ap, sym, ◌∙◌, subst, length}
 use Rattle.script_parts.specs.Adding.{with_failed}
 use Rattle.script_parts.specs.Counts.{all_ops, all_subs, update_subs}
-use Rattle.script_parts.specs.Loads.{AreTotals}
-use Rattle.script_parts.specs.Passing.{MayFail}
+use Rattle.script_parts.specs.inside.Totals.{AreTotals}
+use Rattle.script_parts.specs.inside.Passing.{MayFail}
 use Rattle.script_parts.specs.ScriptData.{ScriptData}
 use Rattle.tx_trees.proofs.Undoing.{failed_count, kept_failed, room_left}
 use Rattle.tx_trees.proofs.script.Script.put_failed.Goals as goal

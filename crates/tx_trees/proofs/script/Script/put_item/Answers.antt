@@ -5,7 +5,7 @@ use Rattle.std.specs.Str.{bytes_eq}
 use Rattle.script_parts.specs.declared.parts.ItemRow.{ItemRow}
 use Rattle.script_parts.specs.ScriptData.{ScriptData}
 use Rattle.script_parts.specs.Adding.{place_of}
-use Rattle.script_parts.specs.Passing.{MayAddItem}
+use Rattle.script_parts.specs.inside.Passing.{MayAddItem}
 use Rattle.tx_trees.proofs.Kept.{kept_item, pushed_is}
 use Rattle.script_parts.proofs.Named.{has_item}
 use Rattle.tx_trees.proofs.script.Script.put_item.Goals as goal

@@ -2,7 +2,7 @@ use Rattle.std.proofs.Common.{arith, length, get_or, ◌≡◌, ◌<◌, ◌+◌
 use Rattle.script_parts.specs.ScriptData.{ScriptData}
 use Rattle.script_parts.specs.Amounts.{magnitude}
 use Rattle.script_parts.specs.Counts.{one_put}
-use Rattle.script_parts.specs.Passing.{MayAddOp}
+use Rattle.script_parts.specs.inside.Passing.{MayAddOp}
 use Rattle.script_parts.proofs.Lists.{cell_is}
 use Rattle.tx_trees.proofs.Kept.{kept_op}
 use Rattle.tx_trees.proofs.Stays.{some_last_subs}

@@ -2,7 +2,7 @@ use Rattle.std.proofs.Common.{arith, ℕ, ap, ◌≡◌, ◌+◌, subst, sym, re
 use Rattle.script_parts.specs.ScriptData.{ScriptData}
 use Rattle.script_parts.specs.Adding.{last_kind}
 use Rattle.script_parts.specs.Counts.{if_update}
-use Rattle.script_parts.specs.Passing.{MayAddSub}
+use Rattle.script_parts.specs.inside.Passing.{MayAddSub}
 use Rattle.script_parts.specs.declared.parts.TreeKind.{TreeKind}
 use Rattle.tx_trees.proofs.Kept.{few_updates, one_update_small, kept_sub}
 use Rattle.tx_trees.proofs.script.Script.put_sub.Goals as goal

@@ -6,7 +6,7 @@ use Rattle.script_parts.specs.declared.parts.ScriptRow.{ScriptRow}
 use Rattle.script_parts.specs.declared.parts.ScriptRow.TheVariants as rows
 use Rattle.script_parts.specs.declared.parts.Tree.{Tree}
 use Rattle.script_parts.specs.Adding.{names_tree, rooted}
-use Rattle.script_parts.specs.Passing.{MayAddTree}
+use Rattle.script_parts.specs.inside.Passing.{MayAddTree}
 use Rattle.tx_trees.proofs.Kept.{few_updates, kept_room, kept_tree, one_update_small, pushed_is}
 use Rattle.script_parts.proofs.Named.{has_tree}
 use Rattle.tx_trees.proofs.script.Script.put_tree.Goals as goal

@@ -1,6 +1,7 @@
 use Rattle.std.proofs.Common.{◌≡◌, ◌<◌, ◌-◌, true, List, ℕ, suc, length, sym, ◌∙◌, subst, arith}
 use Rattle.script_parts.specs.Adding.{last_may_fail, last_subs, last_tree_subs, with_failed}
-use Rattle.script_parts.specs.Loads.{AreTotals, IsReloaded, MayReload}
+use Rattle.script_parts.specs.Loads.{IsReloaded, MayReload}
+use Rattle.script_parts.specs.inside.Totals.{AreTotals}
 use Rattle.script_parts.specs.ScriptData.{ScriptData}
 use Rattle.script_parts.specs.Undone.{undone}
 use Rattle.script_parts.specs.declared.parts.Sub.{Sub}

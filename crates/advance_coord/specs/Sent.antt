@@ -1,8 +1,0 @@
--- What goes out where an actor doesn't act.
-use Rattle.std.specs.Prelude.{List, []}
-use Rattle.letter_types.specs.declared.entries.Outgoing.{Outgoing}
-use Rattle.letter_types.specs.declared.entries.StepOut.{StepOut}
-
--- these letters, and no act
-abbrev pub letters_alone : List Outgoing → StepOut
-letters_alone sent = record { sent = sent; acts = [] }

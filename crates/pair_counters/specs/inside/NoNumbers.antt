@@ -1,0 +1,7 @@
+-- A row with nothing counted. These are the definitions that private code alone cites.
+use Rattle.std.specs.Prelude.{replicate}
+use Rattle.pair_counters.specs.declared.counters.CounterRow.{CounterRow}
+
+-- a row with nothing counted
+abbrev pub no_numbers : CounterRow
+no_numbers = record { asked = replicate 64 0; done = replicate 64 0 }
