@@ -1,14 +1,18 @@
--- Items' totals with the magnitudes of some operations and subtransactions added or taken off, one after the other.
-use Rattle.std.proofs.Common.{◌≡◌, ◌<◌, ◌≤◌, ◌+◌, ◌∷◌, ℕ, List, length, drop, get_or, refl, sym, arith, add-one, drop-cons, inl, inr}
+-- Items' totals with the magnitudes of some operations and subtransactions added or taken off, one after the other, and
+-- whether one is too great then.
+use Rattle.std.proofs.Common.{◌≡◌, ◌<◌, ◌≤◌, ◌+◌, [], ◌∷◌, ℕ, false, List, length, drop, get_or, refl, sym, subst, arith, add-one, drop-cons, inl, inr}
+use Rattle.std.specs.Prelude.{nat_lt}
 use Rattle.std.specs.List.{AllByRecursion}
 use Rattle.std.proofs.Math.ListN.{set}
-use Rattle.std.proofs.lemmas.Bool.{cases_eq}
+use Rattle.std.proofs.lemmas.Bool.{cases_eq, cases_lt, or_from}
+use Rattle.std.proofs.lemmas.Grind.{same_number_lists}
 use Rattle.std.proofs.lemmas.List.{get_or-set_other, get_or-set_same, length-set}
 use Rattle.script_parts.specs.Amounts.{magnitude}
-use Rattle.script_parts.specs.Loads.{OpWithin, SubWithin}
+use Rattle.script_parts.specs.Loads.{IsReloaded, MayReload, OpWithin, SubWithin, ops_heavy, subs_heavy}
 use Rattle.script_parts.specs.Valid.{ops_load, subs_load}
 use Rattle.script_parts.specs.declared.parts.Sub.{Sub}
 use Rattle.script_parts.specs.declared.parts.SubOp.{SubOp}
+use Rattle.script_parts.proofs.Lists.{lt_not, not_lt, or_left, or_right}
 use Rattle.script_parts.proofs.Totals.{load_other, load_same}
 
 -- the rest of a list, from one of its places on
@@ -89,3 +93,66 @@ op_has_room was now all rest o n h room = omega (arith, h.loads o.item.0 h.withi
 -- there is enough for one more operation to be taken off
 pub op_has_enough : (was now : List ℕ) (all rest : List SubOp) (o : SubOp) → OpsUnloaded was now all (o ∷ rest) → magnitude o.deed ≤ get_or now o.item.0 0
 op_has_enough was now all rest o h = omega (arith, h.enough o.item.0 h.within.0, load_same o o.item.0 refl)
+
+-- the same, by what the code has in the place of each
+pub for_same : (P : List Sub → List Sub → Type 0) (a b x y : List Sub) → a ≡ b → x ≡ y → P a x → P b y
+for_same P a b x y e f h = subst (λ (l : List Sub). P l y) e (subst (λ (l : List Sub). P a l) f h)
+
+pub still_within : (m n : ℕ) (a b : List Sub) → m ≡ n → a ≡ b → AllByRecursion (SubWithin n) b → AllByRecursion (SubWithin m) a
+still_within m n a b e f h = subst (λ (x : ℕ). AllByRecursion (SubWithin x) a) (sym e) (subst (λ (l : List Sub). AllByRecursion (SubWithin n) l) (sym f) h)
+
+-- what was put in the place of others may be taken out again, and then all is as it was
+
+pub may_reload_back : (was now : List ℕ) (off on : List Sub) → MayReload was off on → IsReloaded was now off on → MayReload now on off
+may_reload_back was now off on h r = record {
+  off_within = subst (λ (n : ℕ). AllByRecursion (SubWithin n) on) (sym r.len) h.on_within;
+  on_within = subst (λ (n : ℕ). AllByRecursion (SubWithin n) off) (sym r.len) h.off_within;
+  enough = λ k lt. omega (arith, r.loads k (omega (arith, r.len)), h.enough k (omega (arith, r.len)));
+  room = λ k lt. omega (arith, r.loads k (omega (arith, r.len)), h.room k (omega (arith, r.len)));
+}
+
+pub reloaded_back : (was now back : List ℕ) (off on : List Sub) → IsReloaded was now off on → IsReloaded now back on off → back ≡ was
+reloaded_back was now back off on r q =
+    same_number_lists back was (omega (arith, r.len, q.len)) (λ k lt. omega (arith, r.loads k (omega (arith, r.len, q.len)), q.loads k (omega (arith, q.len))))
+
+-- where no item that the operations are on is heavy, an item is light or has none of them
+
+ops_light : (most : ℕ) (totals : List ℕ) (k : ℕ) (os : List SubOp) → ops_heavy most totals os ≡ false → 0 < ops_load k os → get_or totals k 0 ≤ most
+ops_light most totals k [] light some = absurd (omega arith)
+ops_light most totals k (o ∷ os) light some =
+    let one = not_lt most (get_or totals o.item.0 0) (or_left (nat_lt most (get_or totals o.item.0 0)) (ops_heavy most totals os) light) in
+    let rest = or_right (nat_lt most (get_or totals o.item.0 0)) (ops_heavy most totals os) light in
+    elim (cases_eq o.item.0 k) [
+      | inl e ↦ subst (λ (j : ℕ). get_or totals j 0 ≤ most) e one
+      | inr ne ↦ ops_light most totals k os rest (omega (arith, load_other o k ne))
+    ]
+
+subs_light : (most : ℕ) (totals : List ℕ) (k : ℕ) (ss : List Sub) → subs_heavy most totals ss ≡ false → 0 < subs_load k ss → get_or totals k 0 ≤ most
+subs_light most totals k [] light some = absurd (omega arith)
+subs_light most totals k (s ∷ ss) light some =
+    let one = or_left (ops_heavy most totals s.ops) (subs_heavy most totals ss) light in
+    let rest = or_right (ops_heavy most totals s.ops) (subs_heavy most totals ss) light in
+    elim (cases_lt 0 (ops_load k s.ops)) [
+      | inl here ↦ ops_light most totals k s.ops one here
+      | inr none ↦ subs_light most totals k ss rest (omega arith)
+    ]
+
+-- where all totals were small, and none of those that the new operations are on is too great, all are small
+pub all_light : (was now : List ℕ) (off on : List Sub) (most : ℕ) → IsReloaded was now off on → ((k : ℕ) → k < length was → get_or was k 0 ≤ most) → subs_heavy most now on ≡ false
+    → (k : ℕ) → k < length was → get_or now k 0 ≤ most
+all_light was now off on most r small light k lt = elim (cases_lt 0 (subs_load k on)) [
+  | inl some ↦ subs_light most now k on light some
+  | inr none ↦ omega (arith, r.loads k lt, small k lt)
+]
+
+-- and where all totals are small, none of those is too great
+
+ops_not_heavy : (most : ℕ) (totals : List ℕ) (os : List SubOp) → AllByRecursion (OpWithin (length totals)) os → ((k : ℕ) → k < length totals → get_or totals k 0 ≤ most) → ops_heavy most totals os ≡ false
+ops_not_heavy most totals [] within small = refl
+ops_not_heavy most totals (o ∷ os) within small =
+    or_from (nat_lt most (get_or totals o.item.0 0)) (ops_heavy most totals os) (lt_not most (get_or totals o.item.0 0) (small o.item.0 within.0)) (ops_not_heavy most totals os within.1 small)
+
+pub not_heavy : (most : ℕ) (totals : List ℕ) (ss : List Sub) → AllByRecursion (SubWithin (length totals)) ss → ((k : ℕ) → k < length totals → get_or totals k 0 ≤ most) → subs_heavy most totals ss ≡ false
+not_heavy most totals [] within small = refl
+not_heavy most totals (s ∷ ss) within small =
+    or_from (ops_heavy most totals s.ops) (subs_heavy most totals ss) (ops_not_heavy most totals s.ops within.0 small) (not_heavy most totals ss within.1 small)

@@ -1,6 +1,6 @@
 -- Items' totals: the magnitudes of what a script has on each item, and what changes in them.
-use Rattle.std.specs.Prelude.{ℕ, ◌≡◌, ◌<◌, ◌≤◌, ◌+◌, ◌^◌, List, length, get_or}
-use Rattle.std.specs.List.{AllByRecursion}
+use Rattle.std.specs.Prelude.{ℕ, Bool, ◌≡◌, ◌<◌, ◌≤◌, ◌+◌, ◌^◌, nat_lt, List, length, get_or}
+use Rattle.std.specs.List.{AllByRecursion, list_any}
 use Rattle.script_parts.specs.Valid.{subs_load}
 use Rattle.script_parts.specs.declared.parts.Sub.{Sub}
 use Rattle.script_parts.specs.declared.parts.SubOp.{SubOp}
@@ -23,3 +23,10 @@ pub record MayReload (totals : List ℕ) (off on : List Sub) : Type 0 where
 pub record IsReloaded (was now : List ℕ) (off on : List Sub) : Type 0 where
   pub len : length now ≡ length was
   pub loads : (k : ℕ) → k < length was → get_or now k 0 + subs_load k off ≡ get_or was k 0 + subs_load k on
+
+-- an item that one of the operations is on has a total above this
+abbrev pub ops_heavy : ℕ → List ℕ → List SubOp → Bool
+ops_heavy most totals os = list_any (λ o. nat_lt most (get_or totals o.item.0 0)) os
+
+abbrev pub subs_heavy : ℕ → List ℕ → List Sub → Bool
+subs_heavy most totals ss = list_any (λ s. ops_heavy most totals s.ops) ss

@@ -1,9 +1,9 @@
 // What changes where the last tree fails and is undone.
-ghost use Rattle.std.specs.Prelude.{◌≡◌, ◌<◌, ◌≤◌, ◌+◌, ◌^◌, ℕ, IfOk, get_or, length, nat_lt};
-ghost use Rattle.std.specs.List.{AllByRecursion, list_any};
+ghost use Rattle.std.specs.Prelude.{◌≡◌, ◌<◌, ◌≤◌, ◌+◌, ◌^◌, ℕ, get_or, length};
+ghost use Rattle.std.specs.List.{AllByRecursion};
 ghost use Rattle.script_parts.specs.Adding.{failed_tree, last_ops, last_tree_subs, may_fail, on_last};
 ghost use Rattle.script_parts.specs.Counts.{subs_ops};
-ghost use Rattle.script_parts.specs.Loads.{IsReloaded, MayReload};
+ghost use Rattle.script_parts.specs.Loads.{IsReloaded, MayReload, ops_heavy, subs_heavy};
 ghost use Rattle.script_parts.specs.Undone.{is_add, ops_add, subs_add, undone};
 ghost use Rattle.script_parts.specs.Valid.{ops_load, subs_load};
 
@@ -11,9 +11,8 @@ use crate::kinds::is_update;
 use crate::parts::{Deed, Sub, SubOp, Subs, Tree, Written};
 use crate::ranges::magnitude;
 use commute_ops::Op;
-use std::alloc::Global;
 use std::mem;
-use tv_base::{NoMemory, SubNo};
+use tv_base::SubNo;
 
 fn is_add(deed: Deed) -> bool
     ensures { result ≡ is_add deed }
@@ -118,37 +117,38 @@ fn unload_subs(totals: &mut Vec<u128>, subs: &[Sub])
     }
 }
 
-fn copied(alloc: Global, totals: &[u128]) -> Result<Vec<u128>, NoMemory>
-    ensures { IfOk result (λ out. out.items ≡ totals.now) }
+/// Takes the magnitudes of some subtransactions off the items' totals, and adds those of others.
+pub fn reload(totals: &mut Vec<u128>, off: &[Sub], on: &[Sub])
+    requires { MayReload totals.old.items off.now on.now }
+    ensures { IsReloaded totals.old.items totals.new.items off.now on.now }
 {
-    let mut out = Vec::new(alloc);
-    for total in totals {
-        out.push(*total)?;
+    unload_subs(totals, off);
+    load_subs(totals, on);
+}
+
+fn ops_heavy(totals: &[u128], ops: &[SubOp], most: u128) -> bool
+    requires { AllByRecursion (λ o. o.item.0 < length totals.now) ops.now }
+    ensures { result ≡ ops_heavy most totals.now ops.now }
+{
+    for op in ops {
+        if totals[op.item.0 as usize] > most {
+            return true;
+        }
     }
-    Ok(out)
+    false
 }
 
-/// The items' totals with some subtransactions in the place of others.
-pub fn reloaded(
-    alloc: Global,
-    totals: &[u128],
-    off: &[Sub],
-    on: &[Sub],
-) -> Result<Vec<u128>, NoMemory>
-    requires { MayReload totals.now off.now on.now }
-    ensures { IfOk result (λ out. IsReloaded totals.now out.items off.now on.now) }
+/// Whether the total of an item that the subtransactions have operations on is too great. No other item is looked at.
+pub fn has_heavy(totals: &[u128], subs: &[Sub], most: u128) -> bool
+    requires { AllByRecursion (λ s. AllByRecursion (λ o. o.item.0 < length totals.now) s.ops) subs.now }
+    ensures { result ≡ subs_heavy most totals.now subs.now }
 {
-    let mut out = copied(alloc, totals)?;
-    unload_subs(&mut out, off);
-    load_subs(&mut out, on);
-    Ok(out)
-}
-
-/// Whether one of the totals is too great.
-pub fn are_heavy(totals: &[u128], most: u128) -> bool
-    ensures { result ≡ list_any (λ t. nat_lt most t) totals.now }
-{
-    totals.iter().any(|total| *total > most)
+    for sub in subs {
+        if ops_heavy(totals, sub.ops.items(), most) {
+            return true;
+        }
+    }
+    false
 }
 
 /// How many operations the last tree has.

@@ -1,7 +1,7 @@
 -- A script stays valid when its last tree fails and its undone form takes its place.
-use Rattle.std.proofs.Common.{◌≡◌, ◌<◌, ◌≤◌, ◌+◌, ◌*◌, ℕ, zero, suc, Bool, true, false, List, [], ◌∷◌, ◌++◌, length, map, get_or, refl, sym, ap, ◌∙◌, subst, arith, length-append, inl, inr}
-use Rattle.std.specs.Prelude.{◌==◌, ◌||◌, not, if◌then◌else◌, IsTrue, Option, Some, None, nat_lt, slice_get}
-use Rattle.std.specs.List.{AllByRecursion, IsDistinct, list_any}
+use Rattle.std.proofs.Common.{◌≡◌, ◌<◌, ◌≤◌, ◌+◌, ◌-◌, ◌*◌, ℕ, zero, suc, Bool, true, false, List, [], ◌∷◌, ◌++◌, length, map, get_or, refl, sym, ap, ◌∙◌, subst, arith, inl, inr}
+use Rattle.std.specs.Prelude.{◌==◌, ◌||◌, not, if◌then◌else◌, IsTrue, Option, Some, None, nat_lt}
+use Rattle.std.specs.List.{AllByRecursion, IsDistinct}
 use Rattle.std.specs.Str.{bytes_eq}
 use Rattle.std.proofs.lemmas.Bool.{and_from, cases_eq, or_from}
 use Rattle.std.proofs.lemmas.Grind.{common_steps}
@@ -14,7 +14,7 @@ use Rattle.script_parts.specs.Amounts.{magnitude}
 use Rattle.script_parts.specs.Forms.{most_amount}
 use Rattle.script_parts.specs.Ranges.{draws_negative, is_in_range}
 use Rattle.tx_trees.specs.Inside.{IsKept, data_of}
-use Rattle.script_parts.specs.Loads.{IsReloaded, MayReload, OpWithin, SubWithin}
+use Rattle.script_parts.specs.Loads.{IsReloaded, MayReload, OpWithin, SubWithin, subs_heavy}
 use Rattle.script_parts.specs.inside.Totals.{AreTotals}
 use Rattle.script_parts.specs.Names.{is_name}
 use Rattle.script_parts.specs.Rebuilt.{written_subs}
@@ -23,9 +23,7 @@ use Rattle.script_parts.specs.ScriptData.{ScriptData, is_update}
 use Rattle.script_parts.specs.Undone.{goes_from, inverse, inverses_from, is_add, is_undone, negated, negated_deed, ops_add, staying, staying_from, stays, subs_add, undoes, undone}
 use Rattle.script_parts.specs.Valid.{AreSubs, AreWithin, HasFailed, IsOp, IsTree, IsValid, MayAllHaveFailed, MayHaveFailed, as_written, load, ops_load, subs_load, tree_names, trees_load}
 use Rattle.std.specs.Global.{Vec}
-use Rattle.tv_base.specs.declared.numbers.SubNo.{SubNo}
 use Rattle.tx_trees.specs.declared.script.Script.TheInside.{Inside}
-use Rattle.std.proofs.Math.ListN.{set}
 use Rattle.script_parts.specs.declared.parts.Deed.{Deed}
 use Rattle.script_parts.specs.declared.parts.Deed.TheVariants as deeds
 use Rattle.script_parts.specs.declared.parts.Form.{Form}
@@ -38,8 +36,9 @@ use Rattle.script_parts.specs.declared.parts.TreeKind.{TreeKind}
 use Rattle.script_parts.specs.declared.parts.TreeKind.TheVariants as trees
 use Rattle.script_parts.specs.declared.parts.Written.{Written}
 use Rattle.script_parts.proofs.Last.{last_at, last_subs_is, last_tree_subs_is, length-on_last}
-use Rattle.script_parts.proofs.Lists.{IsSum, last_weight, all-last, all-on_last, all-weaker, last_of-on_last, last_of-seam, last_some, lt_not, not_lt, or_left, or_right, split_last, sum-replaced}
+use Rattle.script_parts.proofs.Lists.{last_weight, all-last, all-on_last, all-weaker, last_of-on_last, last_of-seam, last_some, lt_not, not_lt, or_left, or_right, split_last, sum-replaced}
 use Rattle.tx_trees.proofs.Stays.{failed-last, last_written_is, most_amount-small, names-on_last, op_within}
+use Rattle.script_parts.proofs.Loading.{all_light, not_heavy}
 use Rattle.script_parts.proofs.Totals.{all_subs-sum, load_total, op_load, op_total, put_total, strict-sum, update-sum}
 use Rattle.tx_trees.proofs.UndoneTrees.{undone_some, undone_valid}
 
@@ -57,13 +56,11 @@ pub none_any : (p : ℕ → Bool) (k n : ℕ) → ((i : ℕ) → k ≤ i → i <
 none_any p k zero none = refl
 none_any p k (suc n) none = or_from (p k) (any_from p (suc k) n) (none k (omega arith) (omega arith)) (none_any p (suc k) n (λ i from lt. none i (omega arith) (omega arith)))
 
--- the same test of numbers in a list
-pub any_cells : (p : ℕ → Bool) (f : ℕ → ℕ) (cells : List ℕ) (k : ℕ) → ((j : ℕ) → j < length cells → get_or cells j 0 ≡ f (k + j)) → list_any p cells ≡ any_from (λ x. p (f x)) k (length cells)
-any_cells p f [] k are = refl
-any_cells p f (c ∷ cs) k are =
-    let first : c ≡ f k = are 0 (omega arith) ∙ ap f (let same : k + 0 ≡ k = omega arith in same) in
-    let rest = any_cells p f cs (suc k) (λ j lt. are (suc j) (omega arith) ∙ ap f (let same : k + suc j ≡ suc k + j = omega arith in same)) in
-    ap (λ (x : ℕ). p x || list_any p cs) first ∙ ap (λ (b : Bool). p (f k) || b) rest
+-- two tests that fail together
+same_answer : (a b : Bool) → (a ≡ false → b ≡ false) → (b ≡ false → a ≡ false) → a ≡ b
+same_answer false b f g = sym (f refl)
+same_answer true true f g = refl
+same_answer true false f g = g refl
 
 -- what the last tree is
 
@@ -423,41 +420,91 @@ sizes_are s k expanded begun may earlier is few h =
       updates = omega (arith, failed_updates s.trees k t f.last f.update, f.count, len);
     }
 
+-- the last tree of a script is to fail: it may, and no number of its undone form passes a limit
+pub record IsFailing (s : Inside) (k : ℕ) (expanded : List Sub) : Type 0 where
+  pub kept : IsKept s
+  pub begun : s.begun ≡ true
+  pub may : last_may_fail s.trees.items ≡ true
+  pub earlier : k < last_subs s.trees.items
+  pub is : expanded ≡ undone (last_tree_subs s.trees.items) k
+  pub few : length expanded ≤ 64
+
+-- the same, by what a script is seen as
+pub failing_is : (s : Inside) (d : ScriptData) (k : ℕ) (expanded : List Sub) → data_of s ≡ d → IsKept s → d.begun ≡ true → last_may_fail d.trees ≡ true → k < last_subs d.trees
+    → expanded ≡ undone (last_tree_subs d.trees) k → are_crowded (with_failed d k).trees ≡ false → IsFailing s k expanded
+failing_is s d k expanded view h begun may earlier is room = record {
+  kept = h;
+  begun = subst (λ (x : ScriptData). x.begun ≡ true) (sym view) begun;
+  may = subst (λ (x : ScriptData). last_may_fail x.trees ≡ true) (sym view) may;
+  earlier = subst (λ (x : ScriptData). k < last_subs x.trees) (sym view) earlier;
+  is = subst (λ (x : ScriptData). expanded ≡ undone (last_tree_subs x.trees) k) (sym view) is;
+  few = omega (arith, (room_left (with_failed d k).trees room).tree, failed_count d.trees k k expanded earlier is);
+}
+
 -- the totals with the undone form
-module _ (s : Inside) (h : IsKept s) (k : ℕ) (expanded : List Sub) (begun : s.begun ≡ true) (may : last_may_fail s.trees.items ≡ true) (earlier : k < last_subs s.trees.items)
-    (is : expanded ≡ undone (last_tree_subs s.trees.items) k) (few : length expanded ≤ 64) where
+module _ (s : Inside) (k : ℕ) (expanded : List Sub) (q : IsFailing s k expanded) where
   pub may_reload : MayReload s.totals.items (last_tree_subs s.trees.items) expanded
   may_reload =
       let d = data_of s in
-      let f = last_fails d k begun may earlier h.valid in
+      let h = q.kept in
+      let f = last_fails d k q.begun q.may q.earlier h.valid in
       let t = f.tree in
-      let same : expanded ≡ undone t.subs k = is ∙ ap (λ (x : List Sub). undone x k) f.same_subs in
+      let same : expanded ≡ undone t.subs k = q.is ∙ ap (λ (x : List Sub). undone x k) f.same_subs in
       let before = subst (λ (x : List Sub). AreSubs d.nodes d.items trees.Update 0 x) (sym f.same_subs) f.before in
       let after = subst (λ (x : List Sub). AreSubs d.nodes d.items trees.Update 0 x) (sym same) f.after in
       record {
         off_within = subst (λ (n : ℕ). AllByRecursion (SubWithin n) (last_tree_subs s.trees.items)) (sym h.len) (subs_within d.nodes d.items trees.Update 0 (last_tree_subs s.trees.items) before);
         on_within = subst (λ (n : ℕ). AllByRecursion (SubWithin n) expanded) (sym h.len) (subs_within d.nodes d.items trees.Update 0 expanded after);
         enough = λ x lt. omega (arith, h.totals x (omega (arith, h.len)), last_weight (λ (u : Tree). subs_load x u.subs) (trees_load x) (load_total x).trees s.trees.items t f.last, ap (subs_load x) f.same_subs);
-        room = λ x lt. omega (arith, h.totals x (omega (arith, h.len)), h.valid.loads x (omega (arith, h.len)), most_amount-small d.form, small_subs d.nodes d.items trees.Update 0 x expanded after, few);
+        room = λ x lt. omega (arith, h.totals x (omega (arith, h.len)), h.valid.loads x (omega (arith, h.len)), most_amount-small d.form, small_subs d.nodes d.items trees.Update 0 x expanded after, q.few);
       }
 
   pub reloaded_totals : (now : List ℕ) → IsReloaded s.totals.items now (last_tree_subs s.trees.items) expanded → AreTotals now (with_failed (data_of s) k)
   reloaded_totals now r =
       let d = data_of s in
-      let f = last_fails d k begun may earlier h.valid in
+      let h = q.kept in
+      let f = last_fails d k q.begun q.may q.earlier h.valid in
       let t = f.tree in
-      let same : expanded ≡ undone t.subs k = is ∙ ap (λ (x : List Sub). undone x k) f.same_subs in
+      let same : expanded ≡ undone t.subs k = q.is ∙ ap (λ (x : List Sub). undone x k) f.same_subs in
       record {
         len = omega (arith, r.len, h.len);
         loads = λ x lt. omega (arith, r.loads x (omega (arith, h.len)), h.totals x lt, failed_loads s.trees.items k t f.last x, ap (subs_load x) f.same_subs, ap (subs_load x) same);
       }
 
--- whether an item is too heavy, by the totals
-pub heavy_is : (s : ScriptData) (cells : List ℕ) (most : ℕ) → AreTotals cells s → most ≡ most_amount s.form → list_any (λ (n : ℕ). nat_lt most n) cells ≡ is_heavy s
-heavy_is s cells most h is =
-    ap (λ (m : ℕ). list_any (λ (n : ℕ). nat_lt m n) cells) is
-    ∙ any_cells (λ (n : ℕ). nat_lt (most_amount s.form) n) (λ (x : ℕ). load x s) cells 0 (λ j lt. h.loads j (omega (arith, h.len)) ∙ ap (λ (x : ℕ). load x s) (let same : j ≡ 0 + j = omega arith in same))
-    ∙ ap (any_from (λ (x : ℕ). nat_lt (most_amount s.form) (load x s)) 0) h.len
+  -- an item is too heavy just where one is that the undone form has operations on
+  pub heavy_is : (now : List ℕ) → IsReloaded s.totals.items now (last_tree_subs s.trees.items) expanded → subs_heavy (most_amount s.form) now expanded ≡ is_heavy (with_failed (data_of s) k)
+  heavy_is now r =
+      let h = q.kept in
+      let d = with_failed (data_of s) k in
+      let most = most_amount s.form in
+      let t = reloaded_totals now r in
+      let within = subst (λ (n : ℕ). AllByRecursion (SubWithin n) expanded) (sym r.len) may_reload.on_within in
+      let small : (x : ℕ) → x < length s.totals.items → get_or s.totals.items x 0 ≤ most = λ x lt. omega (arith, h.totals x (omega (arith, h.len)), h.valid.loads x (omega (arith, h.len))) in
+      same_answer (subs_heavy most now expanded) (is_heavy d)
+      (λ light.
+      none_any (λ (x : ℕ). nat_lt most (load x d)) 0 (length s.items.items) (λ x from lt. lt_not most (load x d)
+      (omega (arith, t.loads x (omega arith), all_light s.totals.items now (last_tree_subs s.trees.items) expanded most r small light x (omega (arith, h.len))))))
+      (λ light.
+      not_heavy most now expanded within (λ x lt.
+      let here : x < length s.items.items = omega (arith, t.len) in
+      omega (arith, t.loads x here, not_lt most (load x d) (any_none (λ (y : ℕ). nat_lt most (load y d)) 0 (length s.items.items) x light (omega arith) (omega (arith, here))))))
+
+  -- the same, by what the code has in the place of each
+  pub heavy_by : (d : ScriptData) (now cells : List ℕ) (most : ℕ) (subs : List Sub) (b : Bool) → data_of s ≡ d → IsReloaded s.totals.items now (last_tree_subs s.trees.items) expanded → most ≡ most_amount s.form → cells ≡ now → subs ≡ expanded
+      → b ≡ subs_heavy most cells subs → b ≡ is_heavy (with_failed d k)
+  heavy_by d now cells most subs b view r most_is cells_are subs_are is =
+      is
+      ∙ ap (λ (m : ℕ). subs_heavy m cells subs) most_is
+      ∙ ap (λ (x : List ℕ). subs_heavy (most_amount s.form) x subs) cells_are
+      ∙ ap (subs_heavy (most_amount s.form) now) subs_are
+      ∙ heavy_is now r
+      ∙ ap (λ (x : ScriptData). is_heavy (with_failed x k)) view
+
+  -- the subtransactions at the end of the trees are those of the last tree
+  pub last_subs_at : (n : ℕ) (t : Tree) (subs : List Sub) → n ≡ length s.trees.items → t ≡ get_or s.trees.items (n - 1) t → subs ≡ t.subs → subs ≡ last_tree_subs s.trees.items
+  last_subs_at n t subs len at is =
+      let some = q.kept.valid.begun q.begun in
+      is ∙ sym (last_tree_subs_is s.trees.items t (last_at s.trees.items (n - 1) t (omega (arith, len, some)) at))
 
 -- what a script keeps beside what it holds, where its last tree fails
 pub kept_failed : (s : Inside) (its : Vec Tree) (totals : Vec ℕ) (k n o u : ℕ) → its.items ≡ on_last (failed_tree k) s.trees.items → AreTotals totals.items (with_failed (data_of s) k)
@@ -517,3 +564,21 @@ written_tree form nodes items front t (Some w) is th h =
 pub written_trees : (form : Form) (nodes : ℕ) (items : List ItemRow) (front ts : List Tree) → AllByRecursion (IsTree nodes items) ts → MayAllHaveFailed form nodes items front ts → AllByRecursion (WrittenTree form nodes items) ts
 written_trees form nodes items front [] all h = tt
 written_trees form nodes items front (t ∷ ts) all h = (written_tree form nodes items front t t.written refl all.0 h.0, written_trees form nodes items (front ++ t ∷ []) ts all.1 h.1)
+
+-- the totals may be changed and put back
+pub kept_back : (s : Inside) (totals : Vec ℕ) → totals.items ≡ s.totals.items → IsKept s → IsKept (record s { totals = totals })
+kept_back s totals same h = record {
+  valid = h.valid;
+  item_names = h.item_names;
+  tree_names = h.tree_names;
+  len = ap (λ (x : List ℕ). length x) same ∙ h.len;
+  totals = λ k lt. ap (λ (x : List ℕ). get_or x k 0) same ∙ h.totals k lt;
+  puts_len = h.puts_len;
+  puts = h.puts;
+  subs = h.subs;
+  ops = h.ops;
+  advances = h.advances;
+  loses = h.loses;
+  strict = h.strict;
+  update_subs = h.update_subs;
+}

@@ -1,5 +1,5 @@
 // A script, which is valid whatever was added.
-ghost use Rattle.std.specs.Prelude.{ℕ, true, false, ◌≡◌, ◌<◌, ◌≤◌, ◌+◌, ◌==◌, length, is_some, nat_lt, IfOk, IfSome, IsNone, OnErr, OnOk};
+ghost use Rattle.std.specs.Prelude.{ℕ, true, false, not, if◌then◌else◌, ◌≡◌, ◌<◌, ◌≤◌, ◌+◌, ◌==◌, length, is_some, nat_lt, IfOk, IfSome, IsNone, OnErr, OnOk};
 ghost use Rattle.std.specs.List.{AllByRecursion};
 ghost use Rattle.commute_ops.specs.declared.kinds.TheConstants.{MOST_AMOUNT};
 ghost use Rattle.script_parts.specs.Adding.{Steps, adds_advance, adds_item, adds_lose, adds_op, adds_pick, adds_settle, adds_sub, adds_tree, are_crowded, fresh, has_no_op_left, has_no_sub_left, has_no_tree_left, is_heavy, kind_at, last_kind, last_may_fail, last_node, last_subs, last_tree_subs, names_tree, node_at, place_of, puts_undone, with_failed, with_item, with_op, with_sub, with_tree, upgraded};
@@ -18,7 +18,7 @@ use script_parts::children::{next_child, visits};
 use script_parts::counts::{
     are_many, are_spread, has_touched, last_kind, one_put, one_strict, one_update,
 };
-use script_parts::failing::{are_heavy, count_ops, fail_last, last_ops, may_fail, reloaded};
+use script_parts::failing::{count_ops, fail_last, has_heavy, last_ops, may_fail, reload};
 use script_parts::is_plain_name;
 use script_parts::lookups::{
     deed_fits, empty_sub, kind_at, last_subs, node_at, place_of_last, push_op, push_sub, rooted,
@@ -577,33 +577,10 @@ impl Script {
         }
     }
 
-    // Each item's magnitudes with the undone form in the place of what the last tree was written with.
-    fn totals_with(&self, failed: SubNo, expanded: &[Sub]) -> Result<Vec<u128>, NoMemory>
-        requires begun { self.now.begun ≡ true }
-        requires adds { last_may_fail self.now.trees ≡ true }
-        requires earlier { failed.0 < last_subs self.now.trees }
-        requires undone { expanded.now ≡ undone (last_tree_subs self.now.trees) failed.0 }
-        requires few { length expanded.now ≤ 64 }
-        ensures { IfOk result (λ t. AreTotals t.items (with_failed self.now failed.0)) }
-    {
-        let last = &self.trees[self.trees.len() - 1];
-        let totals = reloaded(self.alloc, &self.totals, last.subs.items(), expanded)?;
-        Ok(totals)
-    }
-
-    // Whether an item's magnitudes are too great with the undone form in the place of what the last tree was written
-    // with.
-    fn is_heavy_with(&self, failed: SubNo, totals: &[u128]) -> bool
-        requires { AreTotals totals.now (with_failed self.now failed.0) }
-        ensures { result ≡ is_heavy (with_failed self.now failed.0) }
-    {
-        are_heavy(totals, self.form.most_amount())
-    }
-
     /// Makes the tree that is begun fail: its undone form takes the place of its subtransactions, which are kept as
     /// what it was written with. A refusal is `TooMany` (64 subtransactions of the tree, 100,000 of all, 200,000
     /// operations, or 1,000,000 strict trees times subtransactions of update trees) or `TooMuch` (an item's magnitudes),
-    /// the first that holds; it, and want of memory, leave the script as it was. Afterwards no tree is begun.
+    /// the first that holds; it leaves the script as it was. No memory is wanted. Afterwards no tree is begun.
     pub fn put_undone(&mut self, failed: SubNo, expanded: Subs) -> Result<(), Refusal>
         requires second { self.old.form ≡ Form.Two }
         requires begun { self.old.begun ≡ true }
@@ -615,28 +592,38 @@ impl Script {
         if self.is_crowded_by(failed, expanded.items()) {
             return Err(Refusal::Why(Why::TooMany));
         }
-        let totals = self.totals_with(failed, expanded.items())?;
-        if self.is_heavy_with(failed, &totals) {
+        if !self.put_failed(failed, expanded) {
             return Err(Refusal::Why(Why::TooMuch));
         }
-        self.put_failed(failed, expanded, totals);
         Ok(())
     }
 
-    // Puts the undone form, to which nothing is opposed, in the place of what the last tree was written with.
-    fn put_failed(&mut self, failed: SubNo, expanded: Subs, totals: Vec<u128>)
-        requires may { MayFail self.old failed.0 }
+    // Puts the undone form, by which nothing is crowded, in the place of what the last tree was written with, unless an
+    // item's magnitudes are too great then. Whether it did; the script is as it was where it didn't.
+    fn put_failed(&mut self, failed: SubNo, expanded: Subs) -> bool
+        requires second { self.old.form ≡ Form.Two }
+        requires begun { self.old.begun ≡ true }
+        requires adds { last_may_fail self.old.trees ≡ true }
+        requires earlier { failed.0 < last_subs self.old.trees }
         requires undone { expanded ≡ undone (last_tree_subs self.old.trees) failed.0 }
-        requires totals { AreTotals totals.items (with_failed self.old failed.0) }
-        ensures { self.new ≡ with_failed self.old failed.0 }
+        requires room { are_crowded (with_failed self.old failed.0).trees ≡ false }
+        ensures light { result ≡ not (is_heavy (with_failed self.old failed.0)) }
+        ensures put { self.new ≡ (if result then with_failed self.old failed.0 else self.old) }
     {
         let sizes = self.sizes_with(failed, expanded.items());
+        let most = self.form.most_amount();
+        let subs = self.trees[self.trees.len() - 1].subs.items();
+        reload(&mut self.totals, subs, expanded.items());
+        if has_heavy(&self.totals, expanded.items(), most) {
+            reload(&mut self.totals, expanded.items(), subs);
+            return false;
+        }
         fail_last(&mut self.trees, failed, expanded);
-        self.totals = totals;
         self.subs = sizes.subs;
         self.ops = sizes.ops;
         self.update_subs = sizes.update_subs;
         self.begun = false;
+        true
     }
 
     /// Asks for one more advancement. The one refusal is `TooMany` (100 advancements); it, and want of memory, leave
