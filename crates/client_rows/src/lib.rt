@@ -7,6 +7,3 @@ mod news;
 mod places;
 
 pub use client::Client;
-
-#[cfg(test)]
-mod tests;

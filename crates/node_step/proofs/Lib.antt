@@ -1,4 +1,3 @@
 pub mod Dues
 pub mod Apts
-pub mod Fresh
 pub mod Ordered

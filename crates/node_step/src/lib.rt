@@ -5,6 +5,3 @@ mod node;
 mod orders;
 
 pub use node::step_node;
-
-#[cfg(test)]
-mod tests;

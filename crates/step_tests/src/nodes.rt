@@ -1,12 +1,11 @@
-ghost use Rattle.std.specs.Prelude.{◌≡◌, ◌<◌, IfOk};
-ghost use Rattle.pair_counters.specs.Rows.{counts_of};
-ghost use Rattle.tree_step.specs.Node.{IsInWindow, IsOf, IsReady};
+ghost use Rattle.std.specs.Prelude.{◌<◌, ◌≤◌, IfOk};
+ghost use Rattle.tree_step.specs.Node.{IsReady};
 
-use super::*;
-use crate::orders::sweep;
-use commute_ops::{Kind, Op, SumValue, Value, Values};
+use crate::builders::{letter, script_of};
+use commute_ops::{SumValue, Value, Values};
 use item_versions::ItemTable;
-use letter_types::{Act, Answer, Body, Letter, LetterId, Notice, Outgoing, Step};
+use letter_types::{Answer, Body, Letter, Notice, Outgoing, Step};
+use node_step::step_node;
 use node_versions::Turns;
 use pair_counters::Counters;
 use read_step::run_read;
@@ -14,90 +13,61 @@ use std::alloc::Global;
 use std::test::Fail;
 use tree_home::Homes;
 use tree_step::{NodeParts, is_due};
-use tv_base::{ActorNo, ItemNo, Name, NoMemory, NodeNo, Stamp, SubNo, TreeNo, Version};
-use tx_trees::{Deed, Form, ItemRow, Script, TreeKind};
+use tv_base::{ActorNo, ItemNo, NoMemory, NodeNo, SubNo, TreeNo, Version};
+use tx_trees::Script;
 use update_step::run_update;
 
-fn named(name: &[u8]) -> Result<Name, Fail> {
-    match Name::new(name) {
-        Some(found) => Ok(found),
-        None => Err("no name".into()),
-    }
-}
-
-fn add_item(script: &mut Script, name: &[u8], node: u8) -> Result<(), Fail> {
-    let name = named(name)?;
-    script.add_item(ItemRow {
-        name,
-        node: NodeNo(node),
-        kind: Kind::Sum,
-        initial: 10,
-    })?;
-    Ok(())
-}
-
 // Tree 0 is an update tree with a child at node 1, tree 1 a read tree without one.
-fn two_trees(alloc: Global) -> Result<Script, Fail> {
-    let mut script = Script::new(alloc, Form::One, 2);
-    add_item(&mut script, b"a", 0)?;
-    add_item(&mut script, b"b", 1)?;
-    script.add_tree(named(b"t")?, TreeKind::Update, NodeNo(0))?;
-    script.add_op(&named(b"a")?, Deed::Apply(Op::Add(5)))?;
-    script.add_sub(0, NodeNo(1))?;
-    script.add_op(&named(b"b")?, Deed::Apply(Op::Add(7)))?;
-    script.add_tree(named(b"r")?, TreeKind::Read, NodeNo(0))?;
-    script.add_op(&named(b"a")?, Deed::Get)?;
-    Ok(script)
-}
+const TWO_TREES: &[u8] =
+    b"nodes,2\nitem,a,0,sum,10\nitem,b,1,sum,10\nupdate,t,0\nadd,a,5\nsub,0,1\nadd,b,7\nread,r,0\nget,a\n";
 
-fn ten() -> Value {
-    Value::Sum(SumValue(10))
-}
-
-// A node as a run begins, with one item.
-fn fresh(
+// A node with its item at 10, which shows this version. It has counted one completion of version 0 from node 1.
+fn counting_node(
     alloc: Global,
     script: &Script,
-    at: u8,
-    item: ItemNo,
-    value: Value,
+    at: ActorNo,
+    read: Version,
 ) -> Result<NodeParts, NoMemory>
-    requires { at < script.now.nodes }
-    ensures { IfOk result (λ node. IsReady script.now at node) }
+    requires there { at.0 < script.now.nodes }
+    requires other { 1 < script.now.nodes }
+    requires near { read.0 ≤ 2 }
+    ensures { IfOk result (λ node. IsReady script.now at.0 node) }
 {
     let mut items = ItemTable::new(alloc);
-    items.add(item, value)?;
+    items.add(ItemNo(at.0 as u32), Value::Sum(SumValue(10)))?;
+    let mut counters = Counters::new(script.nodes());
+    counters.done(Version(0), NodeNo(1));
+    let turns = Turns {
+        update: Version(1),
+        read,
+        low: Version(0),
+    };
     Ok(NodeParts {
-        turns: Turns::start(),
+        turns,
         items,
-        counters: Counters::new(script.nodes()),
+        counters,
         homes: Homes::new(alloc),
     })
 }
 
-fn letter(from: u8, to: u8, body: Body) -> Letter {
-    Letter {
-        id: LetterId {
-            stamp: Stamp(0),
-            place: 0,
-        },
-        from: ActorNo(from),
-        to: ActorNo(to),
-        body,
+// The node that a letter goes to.
+fn node_for(alloc: Global, script: &Script, letter: &Letter, read: u64) -> Result<NodeParts, Fail>
+    ensures { IfOk result (λ node. IsReady script.now letter.now.to.0 node) }
+{
+    if letter.to.0 >= script.nodes() || script.nodes() < 2 || read > 2 {
+        return Err("not to one of two nodes".into());
     }
+    Ok(counting_node(alloc, script, letter.to, Version(read))?)
 }
 
-// A letter is taken by a node as a run begins.
+// A letter is taken by a node that shows this version.
 fn take(
     alloc: Global,
     script: &Script,
-    item: u32,
+    read: u64,
     letter: &Letter,
 ) -> Result<(NodeParts, Step), Fail> {
-    if letter.to.0 >= script.nodes() {
-        return Err("not to a node".into());
-    }
-    let mut node = fresh(alloc, script, letter.to.0, ItemNo(item), ten())?;
+    let mut node = node_for(alloc, script, letter, read)?;
     let step = step_node(alloc, &mut node, letter, script)?;
     Ok((node, step))
 }
@@ -109,10 +79,7 @@ fn take_apart(
     updates: bool,
     letter: &Letter,
 ) -> Result<(NodeParts, Step), Fail> {
-    if letter.to.0 >= script.nodes() {
-        return Err("not to a node".into());
-    }
-    let mut node = fresh(alloc, script, letter.to.0, ItemNo(0), ten())?;
+    let mut node = node_for(alloc, script, letter, 0)?;
     if !is_due(&node, letter, script) {
         return Err("not due".into());
     }
@@ -169,7 +136,7 @@ fn values_in(outgoing: &Outgoing) -> Option<&Values> {
 #[test]
 fn a_root_is_done(rt: HostRuntime) -> Result<(), Fail> {
     let alloc = rt.alloc();
-    let script = two_trees(alloc)?;
+    let script = script_of(alloc, TWO_TREES)?;
     let root = letter(3, 0, Body::Root { tree: TreeNo(0) });
     let (node, step) = take(alloc, &script, 0, &root)?;
     assert_eq!(rt; (seen(&node, 0, 0), seen(&node, 0, 1)), (10, 15));
@@ -186,17 +153,17 @@ fn a_root_is_done(rt: HostRuntime) -> Result<(), Fail> {
 #[test]
 fn another_subtransaction_raises_the_update_version(rt: HostRuntime) -> Result<(), Fail> {
     let alloc = rt.alloc();
-    let script = two_trees(alloc)?;
+    let script = script_of(alloc, TWO_TREES)?;
     let sub = |version| Body::Sub {
         tree: TreeNo(0),
         sub: SubNo(1),
         version: Version(version),
     };
-    let (node, step) = take(alloc, &script, 1, &letter(0, 1, sub(2)))?;
+    let (node, step) = take(alloc, &script, 0, &letter(0, 1, sub(2)))?;
     assert_eq!(rt; node.turns.update, Version(2));
     assert_eq!(rt; (seen(&node, 1, 1), seen(&node, 1, 2)), (10, 17));
     assert_eq!(rt; step.given.acts.items().len(), 2);
-    let (node, step) = take(alloc, &script, 1, &letter(0, 1, sub(3)))?;
+    let (node, step) = take(alloc, &script, 0, &letter(0, 1, sub(3)))?;
     assert_eq!(rt; node.turns.update, Version(1));
     assert!(rt; step.given.sent.items().is_empty());
     Ok(())
@@ -205,7 +172,7 @@ fn another_subtransaction_raises_the_update_version(rt: HostRuntime) -> Result<(
 #[test]
 fn a_read_tree_is_answered_at_once(rt: HostRuntime) -> Result<(), Fail> {
     let alloc = rt.alloc();
-    let script = two_trees(alloc)?;
+    let script = script_of(alloc, TWO_TREES)?;
     let root = letter(3, 0, Body::Root { tree: TreeNo(1) });
     let (node, step) = take(alloc, &script, 0, &root)?;
     assert!(rt; !node.homes.has(TreeNo(1)));
@@ -223,7 +190,7 @@ fn a_read_tree_is_answered_at_once(rt: HostRuntime) -> Result<(), Fail> {
 #[test]
 fn a_notice_is_counted(rt: HostRuntime) -> Result<(), Fail> {
     let alloc = rt.alloc();
-    let script = two_trees(alloc)?;
+    let script = script_of(alloc, TWO_TREES)?;
     let done = Body::Done {
         tree: TreeNo(0),
         sub: SubNo(1),
@@ -233,6 +200,7 @@ fn a_notice_is_counted(rt: HostRuntime) -> Result<(), Fail> {
     let (node, step) = take(alloc, &script, 0, &letter(1, 0, done))?;
     assert!(rt; step.given.sent.items().is_empty());
     assert!(rt; !node.homes.has(TreeNo(0)));
+    assert!(rt; matches!(node.counters.done_row(alloc, Version(0))?.items(), [0, 1]));
     assert!(rt; matches!(node.counters.done_row(alloc, Version(1))?.items(), [0, 1]));
     Ok(())
 }
@@ -274,7 +242,7 @@ fn turns(update: u64, read: u64, low: u64) -> Turns {
 #[test]
 fn a_node_turns(rt: HostRuntime) -> Result<(), Fail> {
     let alloc = rt.alloc();
-    let script = two_trees(alloc)?;
+    let script = script_of(alloc, TWO_TREES)?;
     let (now, sent, acts) = turns_after(alloc, &script, turned(2))?;
     assert_eq!(rt; (now, sent, acts), (turns(2, 0, 0), 1, 1));
     let (now, sent, acts) = turns_after(alloc, &script, turned(1))?;
@@ -287,7 +255,7 @@ fn a_node_turns(rt: HostRuntime) -> Result<(), Fail> {
 #[test]
 fn a_node_shows(rt: HostRuntime) -> Result<(), Fail> {
     let alloc = rt.alloc();
-    let script = two_trees(alloc)?;
+    let script = script_of(alloc, TWO_TREES)?;
     let (now, sent, acts) = turns_after(alloc, &script, shown(1))?;
     assert_eq!(rt; (now, sent, acts), (turns(1, 1, 0), 1, 1));
     Ok(())
@@ -296,24 +264,12 @@ fn a_node_shows(rt: HostRuntime) -> Result<(), Fail> {
 #[test]
 fn what_is_still_read_is_not_swept(rt: HostRuntime) -> Result<(), Fail> {
     let alloc = rt.alloc();
-    let script = two_trees(alloc)?;
+    let script = script_of(alloc, TWO_TREES)?;
     let (now, sent, acts) = turns_after(alloc, &script, swept(1))?;
     assert_eq!(rt; (now, sent, acts), (turns(1, 0, 0), 0, 0));
     let (now, sent, acts) = turns_after(alloc, &script, swept(0))?;
     assert_eq!(rt; (now, sent, acts), (turns(1, 0, 0), 1, 1));
     Ok(())
-}
-
-// One completion from node 1 in version 0, where it may be counted.
-fn complete(counters: &mut Counters)
-    ensures nodes { (counts_of counters.new).nodes ≡ (counts_of counters.old).nodes }
-    ensures low { (counts_of counters.new).low ≡ (counts_of counters.old).low }
-{
-    if counters.low().0 == 0 && counters.nodes() > 1 {
-        if counters.done_at(Version(0), NodeNo(1)) < 100 {
-            counters.done(Version(0), NodeNo(1));
-        }
-    }
 }
 
 // The first version of item 0.
@@ -322,45 +278,11 @@ fn first_held(node: &NodeParts) -> Option<u64> {
     Some(version.0)
 }
 
-// A node sweeps to this version, where the letter is due.
-fn sweep_due(alloc: Global, script: &Script, node: &mut NodeParts, version: u64) -> Result<(), Fail>
-    requires script { IsOf script.now node.old }
-    requires window { IsInWindow node.old }
-{
-    let order = letter(2, 0, swept(version));
-    if !is_due(node, &order, script) {
-        return Err("not due".into());
-    }
-    if let Body::Sweep { version } = &order.body {
-        sweep(alloc, node, script, *version)?;
-    }
-    Ok(())
-}
-
-// A node that has counted one completion of version 0, and shows version 1.
-fn counting_node(alloc: Global, script: &Script) -> Result<NodeParts, NoMemory>
-    requires { 0 < script.now.nodes }
-    ensures script { IfOk result (λ node. IsOf script.now node) }
-    ensures window { IfOk result (λ node. IsInWindow node) }
-{
-    let mut node = fresh(alloc, script, 0, ItemNo(0), ten())?;
-    complete(&mut node.counters);
-    if node.turns.low.0 == 0 {
-        node.turns.show(Version(1));
-    }
-    Ok(node)
-}
-
 #[test]
 fn a_node_sweeps(rt: HostRuntime) -> Result<(), Fail> {
     let alloc = rt.alloc();
-    let script = two_trees(alloc)?;
-    if script.nodes() == 0 {
-        return Err("no node".into());
-    }
-    let mut node = counting_node(alloc, &script)?;
-    assert!(rt; matches!(node.counters.done_row(alloc, Version(0))?.items(), [0, 1]));
-    sweep_due(alloc, &script, &mut node, 1)?;
+    let script = script_of(alloc, TWO_TREES)?;
+    let (node, _) = take(alloc, &script, 1, &letter(2, 0, swept(1)))?;
     assert_eq!(rt; node.turns, turns(1, 1, 1));
     // Version 0 has become version 1, and what was counted of it has gone.
     assert_eq!(rt; first_held(&node), Some(1));
@@ -369,7 +291,7 @@ fn a_node_sweeps(rt: HostRuntime) -> Result<(), Fail> {
     Ok(())
 }
 
-// The numbers of a row that are told, and the round that is answered.
+// The round that is answered, 100 more where requests are told, and how many numbers are told.
 fn told(step: &Step) -> (u64, usize) {
     match step.given.sent.items().first() {
         Some(sent) => match &sent.body {
@@ -384,7 +306,7 @@ fn told(step: &Step) -> (u64, usize) {
 #[test]
 fn a_node_tells_its_rows(rt: HostRuntime) -> Result<(), Fail> {
     let alloc = rt.alloc();
-    let script = two_trees(alloc)?;
+    let script = script_of(alloc, TWO_TREES)?;
     let version = Version(1);
     let done = letter(2, 0, Body::AskDone { version, round: 7 });
     let (_, step) = take(alloc, &script, 0, &done)?;
@@ -395,7 +317,7 @@ fn a_node_tells_its_rows(rt: HostRuntime) -> Result<(), Fail> {
 #[test]
 fn a_node_tells_its_requests(rt: HostRuntime) -> Result<(), Fail> {
     let alloc = rt.alloc();
-    let script = two_trees(alloc)?;
+    let script = script_of(alloc, TWO_TREES)?;
     let version = Version(1);
     let asked = letter(2, 0, Body::AskAsked { version, round: 7 });
     let (_, step) = take(alloc, &script, 0, &asked)?;
