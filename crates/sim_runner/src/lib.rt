@@ -8,8 +8,3 @@ mod simulation;
 pub use pickers::{Hold, Newest, Picker, Starve};
 pub use picks::Picks;
 pub use simulation::{simulate, simulate_by};
-
-#[cfg(test)]
-mod advancing;
-#[cfg(test)]
-mod tests;

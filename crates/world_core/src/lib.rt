@@ -8,6 +8,3 @@ mod world;
 pub use actor::{ActorState, actor_step};
 pub use node::NodeState;
 pub use world::World;
-
-#[cfg(test)]
-mod tests;

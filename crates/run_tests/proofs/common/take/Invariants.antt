@@ -1,5 +1,5 @@
 use Rattle.world_core.specs.Actors.{IsWorldOf}
-use Rattle.sim_runner.proofs.advancing.take.Given as goal
+use Rattle.run_tests.proofs.common.take.Given as goal
 
 abbrev pub invariant-loop : goal.invariant-loop
 invariant-loop g l = IsWorldOf l.script l.world

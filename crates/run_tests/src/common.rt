@@ -1,0 +1,88 @@
+// Scripts that may be run, letters taken as a picker chooses, and what a node holds.
+ghost use Rattle.std.specs.Prelude.{◌≡◌, true, IfOk};
+ghost use Rattle.world_core.specs.Actors.{IsWorldOf};
+ghost use Rattle.world_model.specs.Tables.{IsRunnable};
+
+use commute_ops::{Amount, Value};
+use script_reader::read_script;
+use sim_runner::Picker;
+use std::alloc::Global;
+use std::test::Fail;
+use tv_base::{ActorNo, ItemNo, NoMemory};
+use tx_trees::{Script, ScriptRow, TreeKind};
+use world_core::{ActorState, NodeState, World};
+
+/// Whether the script may be run.
+pub(crate) fn may_run(script: &Script) -> bool
+    ensures { result ≡ true → IsRunnable script.now }
+{
+    let trees = script.trees();
+    let rows = script.rows();
+    trees
+        .iter()
+        .all(|tree| !matches!(tree.kind, TreeKind::Strict))
+        && rows.iter().all(|row| !matches!(row, ScriptRow::Lose))
+}
+
+/// The script of a text, where it may be run.
+pub(crate) fn script_of(alloc: Global, text: &[u8]) -> Result<Script, Fail>
+    ensures { IfOk result IsRunnable }
+{
+    let script = read_script(alloc, text)?;
+    if !may_run(&script) {
+        return Err("a script that may not be run".into());
+    }
+    Ok(script)
+}
+
+/// Takes at most so many letters of a world, as a picker chooses.
+pub(crate) fn take<P: Picker>(
+    script: &Script,
+    world: &mut World,
+    picker: &mut P,
+    most: u32,
+) -> Result<(), NoMemory>
+    requires runnable { IsRunnable script.now }
+    requires world { IsWorldOf script.now world.old }
+    ensures world { IsWorldOf script.now world.new }
+{
+    for _ in 0..most {
+        if world.waiting() == 0 {
+            break;
+        }
+        let place = picker.choose(world) % world.waiting();
+        world.step(script, place)?;
+    }
+    Ok(())
+}
+
+/// The state of a node, where there is one of this number.
+pub(crate) fn node_at<'a>(script: &Script, world: &'a World, node: u8) -> Option<&'a NodeState>
+    requires { IsWorldOf script.now world.now }
+{
+    if node >= script.nodes() {
+        return None;
+    }
+    match world.actor(ActorNo(node)) {
+        ActorState::Node(state) => Some(state),
+        _ => None,
+    }
+}
+
+/// The version and the value at a place of an item of a node, where it is a sum.
+pub(crate) fn held_at(
+    script: &Script,
+    world: &World,
+    node: u8,
+    item: u32,
+    place: usize,
+) -> Option<(u64, Amount)>
+    requires { IsWorldOf script.now world.now }
+{
+    let items = node_at(script, world, node)?.items();
+    let entry = items.item(ItemNo(item))?.held().get(place)?;
+    match &entry.1 {
+        Value::Sum(sum) => Some((entry.0.0, sum.0)),
+        _ => None,
+    }
+}
