@@ -7,8 +7,8 @@ use Rattle.tv_base.proofs.ByPlace.{slice_get_split}
 use Rattle.letter_types.specs.declared.entries.Entry.{Entry}
 use Rattle.board_model.specs.Histories.{places_at, places_of, version_in, version_of}
 use Rattle.world_model.proofs.Bridge.{reverse_more}
-use Rattle.board_laws.proofs.Histories.{earlier, places_more}
-use Rattle.board_laws.proofs.Versions.{version_stays}
+use Rattle.tree_laws.proofs.Histories.{earlier, places_more}
+use Rattle.tree_laws.proofs.Versions.{version_stays}
 
 -- entry x stands at place n of the history of a past
 pub record Stands (past : List Entry) (n : ℕ) (x : Entry) : Type 0 where

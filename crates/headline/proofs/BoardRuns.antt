@@ -24,10 +24,10 @@ use Rattle.tree_laws.proofs.Good.{IsGood}
 use Rattle.tree_laws.proofs.Goods.{good_run, next_of}
 use Rattle.tree_laws.proofs.Nudges.{lawful}
 use Rattle.phase_laws.proofs.Levels.{levels}
-use Rattle.board_laws.proofs.Histories.{at_each_act_more}
-use Rattle.board_laws.proofs.Versions.{AreVersioned, placed, versioned_run}
+use Rattle.tree_laws.proofs.Histories.{at_each_act_more}
+use Rattle.tree_laws.proofs.Versions.{AreVersioned, placed, versioned_run}
 use Rattle.headline.proofs.Deeds.{birth_is, root_deed, sub_deed}
-use Rattle.board_laws.proofs.Numbers.{numbers_run}
+use Rattle.tree_laws.proofs.Numbers.{numbers_run}
 use Rattle.headline.proofs.Raised.{Stand, shows_next, sweeps_next, turn_by_order, turn_by_sub}
 
 -- these acts of an entry are moves, one after the other

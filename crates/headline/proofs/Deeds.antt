@@ -23,7 +23,7 @@ use Rattle.tree_laws.proofs.Acts.{any_counted, of_act}
 use Rattle.tree_laws.proofs.Counts.{not_done, one_here, was_asked}
 use Rattle.tree_laws.proofs.Good.{IsGood}
 use Rattle.tree_laws.proofs.Whole.{births_in, did_marks, dids_in, none_strict, was_done_of}
-use Rattle.board_laws.proofs.Versions.{AreVersioned, born_here, not_both, taken_version, unborn, version_stays}
+use Rattle.tree_laws.proofs.Versions.{AreVersioned, born_here, not_both, taken_version, unborn, version_stays}
 use Rattle.run_laws.proofs.Wholes.{root_turn}
 use Rattle.headline.proofs.Raised.{Stand}
 

@@ -13,7 +13,7 @@ use Rattle.world_model.proofs.Scripts.{IsSound}
 use Rattle.tree_laws.proofs.Nudges.{lawful}
 use Rattle.phase_laws.specs.Phases.{most_read}
 use Rattle.phase_laws.proofs.Levels.{levels}
-use Rattle.board_laws.proofs.Histories.{places_more}
+use Rattle.tree_laws.proofs.Histories.{places_more}
 use Rattle.run_laws.specs.Shown.{NoUpdateCame, UpdatesAreWhole}
 use Rattle.run_laws.proofs.Closed.{is_whole_of, none_came, rises, update_there}
 use Rattle.run_laws.proofs.Reached.{now_below, whole_below, whole_run}

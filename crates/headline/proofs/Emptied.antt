@@ -13,8 +13,8 @@ use Rattle.phase_laws.proofs.Small.{rounds_by_trees}
 use Rattle.tree_laws.proofs.Entries.{no_round}
 use Rattle.tree_laws.proofs.Nudges.{lawful}
 use Rattle.run_laws.proofs.InTime.{in_time}
-use Rattle.stall_laws.proofs.Ends.{no_run_stalls}
-use Rattle.stall_laws.proofs.Entries.{entries_counted}
+use Rattle.run_laws.proofs.Ends.{no_run_stalls}
+use Rattle.run_laws.proofs.Entries.{entries_counted}
 use Rattle.headline.proofs.Promised.{headline_past}
 use Rattle.headline.specs.Ended.{HasEnded}
 

@@ -21,8 +21,8 @@ use Rattle.world_model.proofs.Back.{node_leads}
 use Rattle.world_model.proofs.Scripts.{IsSound}
 use Rattle.tree_laws.proofs.Nudges.{lawful}
 use Rattle.phase_laws.proofs.Levels.{versions_in_phase}
-use Rattle.board_laws.proofs.Histories.{first_of, run_before}
-use Rattle.board_laws.proofs.OwnDeeds.{sees_own}
+use Rattle.tree_laws.proofs.Histories.{first_of, run_before}
+use Rattle.tree_laws.proofs.OwnDeeds.{sees_own}
 use Rattle.run_laws.proofs.InTime.{in_time}
 use Rattle.headline.specs.Held.{HasHeldThree, HoldsThree, held_after, items_of, turns_of}
 use Rattle.headline.proofs.Kept.{IsKept}

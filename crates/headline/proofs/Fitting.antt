@@ -7,7 +7,7 @@ use Rattle.board_model.specs.Histories.{Place}
 use Rattle.world_model.specs.Runs.{IsStepRun}
 use Rattle.world_model.specs.Timely.{AllTimely}
 use Rattle.world_model.proofs.Scripts.{IsSound}
-use Rattle.board_laws.proofs.Histories.{at_each_act_more}
+use Rattle.tree_laws.proofs.Histories.{at_each_act_more}
 use Rattle.headline.proofs.Keeps.{entry_keeps}
 
 pub fits_run : (s : ScriptData) (past : List Entry) → IsSound s → IsStepRun s past → AllTimely s past → Fits s (reverse past)

@@ -18,7 +18,7 @@ use Rattle.tx_trees.specs.declared.parts.TreeKind.{TreeKind}
 use Rattle.board_model.specs.Histories.{Place}
 use Rattle.board_model.specs.Worth.{after_deed, after_ops, after_subs, after_tree}
 use Rattle.board_model.proofs.AnyOrder.{OpsCommute, SubsCommute, after_ops_is, exchanged, ops_on, tree_commutes}
-use Rattle.board_laws.specs.OwnValues.{after_act, own_acts, updates_to}
+use Rattle.tree_laws.specs.OwnValues.{after_act, own_acts, updates_to}
 use Rattle.world_model.proofs.Scripts.{IsSound, SubAt, ops_fit}
 use Rattle.tree_laws.proofs.Whole.{none_strict}
 use Rattle.headline.proofs.Placed.{ArePlaced, DidAt}

@@ -39,7 +39,7 @@ use Rattle.tree_laws.proofs.Goods.{good_run, next_of}
 use Rattle.tree_laws.proofs.Steps.{timely_at}
 use Rattle.tree_laws.proofs.Nudges.{lawful}
 use Rattle.phase_laws.proofs.Levels.{versions_in_phase}
-use Rattle.board_laws.proofs.Versions.{AreVersioned, placed, root_version, sub_version, versioned_run}
+use Rattle.tree_laws.proofs.Versions.{AreVersioned, placed, root_version, sub_version, versioned_run}
 use Rattle.headline.proofs.Kept.{IsKept, collected_hold, collected_kept, holds_in, kept_ops, kept_table, ops_hold}
 use Rattle.headline.proofs.Written.{act_writes, did_elsewhere, did_reads, did_writes, root_writes, some_write, sub_writes, turn_writes, with_entry, written, written_more}
 

@@ -48,8 +48,8 @@ use Rattle.phase_laws.proofs.LevelSteps.{sub_raises}
 use Rattle.phase_laws.proofs.Levels.{levels, versions_in_phase}
 use Rattle.phase_laws.proofs.Small.{advances_kept, asked_most}
 use Rattle.phase_laws.proofs.Tokens.{phase_for}
-use Rattle.board_laws.proofs.Numbers.{low_is, read_is, update_is}
-use Rattle.board_laws.proofs.Versions.{placed}
+use Rattle.tree_laws.proofs.Numbers.{low_is, read_is, update_is}
+use Rattle.tree_laws.proofs.Versions.{placed}
 use Rattle.headline.proofs.Opens.{open_run}
 
 -- The row of a tree, and that of an advancement.

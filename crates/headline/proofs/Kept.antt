@@ -21,7 +21,7 @@ use Rattle.update_step.specs.Rows.{after_deed, after_ops, can_touch, may_make}
 use Rattle.version_collect.specs.Collecting.{collected_all}
 use Rattle.board_model.specs.Worth.{changes, ops_change}
 use Rattle.tree_laws.proofs.Tables.{replaced_other, replaced_same}
-use Rattle.board_laws.proofs.Seen.{same_item}
+use Rattle.tree_laws.proofs.Seen.{same_item}
 
 -- the versions held ascend, the first is low, and none is above up
 pub record IsKept (low up : ℕ) (h : Held) : Type 0 where

@@ -18,7 +18,7 @@ use Rattle.board_model.specs.Serial.{is_in, serial_to}
 use Rattle.board_model.specs.Worth.{first_value, worth}
 use Rattle.board_model.proofs.Closings.{AreApart}
 use Rattle.board_model.proofs.SerialOrder.{done_of, serial_to_apart, stands_up_to, stands_whole, whole_stands}
-use Rattle.board_laws.specs.OwnValues.{is_up_to, own_value, updates_to}
+use Rattle.tree_laws.specs.OwnValues.{is_up_to, own_value, updates_to}
 use Rattle.world_model.specs.Counts.{one_if, tally}
 use Rattle.world_model.specs.Runs.{IsStepRun}
 use Rattle.world_model.specs.Timely.{AllTimely}

@@ -19,8 +19,8 @@ use Rattle.world_model.proofs.Nexts.{Next, Begins, Hears, Ends, Coordinates, Doe
 use Rattle.world_model.proofs.Scripts.{IsSound, SubAt}
 use Rattle.std.specs.Prelude.{nat_lt}
 use Rattle.tree_laws.proofs.Goods.{next_of}
-use Rattle.board_laws.proofs.Histories.{places_more}
-use Rattle.board_laws.proofs.Versions.{placed}
+use Rattle.tree_laws.proofs.Histories.{places_more}
+use Rattle.tree_laws.proofs.Versions.{placed}
 
 -- a Did at a node is of a subtransaction there
 abbrev pub DidAt : ScriptData → ℕ → Act → Type 0

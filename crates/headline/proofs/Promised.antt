@@ -1,7 +1,7 @@
 -- Every run by the tables whose client has finished has the headline: the laws put together.
 use Rattle.std.proofs.Common.{List, reverse, subst, sym}
 use Rattle.std.proofs.lemmas.List.{reverse-reverse}
-use Rattle.board_laws.proofs.Waits.{no_wait}
+use Rattle.tree_laws.proofs.Waits.{no_wait}
 use Rattle.board_model.specs.Right.{HasFinished}
 use Rattle.headline.proofs.Fitting.{fits_run}
 use Rattle.headline.specs.Headline.{HasHeadline}

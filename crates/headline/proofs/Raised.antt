@@ -28,7 +28,7 @@ use Rattle.phase_laws.proofs.LevelAt.{Level, LevelAt, LevelBody, Levels, tell, t
 use Rattle.phase_laws.proofs.Tokens.{phase_for}
 use Rattle.run_laws.specs.Shown.{IsBackedBy}
 use Rattle.run_laws.proofs.Closed.{shown_is_backed}
-use Rattle.board_laws.proofs.Numbers.{AreNumbers}
+use Rattle.tree_laws.proofs.Numbers.{AreNumbers}
 
 -- a node's versions at a level of a known phase
 abbrev LevelIn : Phase → ScriptData → List Entry → ℕ → Type 0

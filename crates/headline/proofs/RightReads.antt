@@ -27,10 +27,10 @@ use Rattle.tx_trees.specs.declared.parts.TreeKind.TheVariants as trees
 use Rattle.board_model.specs.Histories.{version_in, version_of}
 use Rattle.board_model.specs.Right.{shown}
 use Rattle.board_model.specs.Worth.{worth}
-use Rattle.board_laws.proofs.Histories.{places_more}
-use Rattle.board_laws.proofs.OwnDeeds.{Sees, sees_run}
-use Rattle.board_laws.proofs.Seen.{gets_valued, valued}
-use Rattle.board_laws.proofs.Versions.{not_both, root_version, sub_version, taken_version, versioned_run}
+use Rattle.tree_laws.proofs.Histories.{places_more}
+use Rattle.tree_laws.proofs.OwnDeeds.{Sees, sees_run}
+use Rattle.tree_laws.proofs.Seen.{gets_valued, valued}
+use Rattle.tree_laws.proofs.Versions.{not_both, root_version, sub_version, taken_version, versioned_run}
 use Rattle.world_model.specs.Runs.{IsStepRun, client_in, node_in}
 use Rattle.world_model.specs.Timely.{AllTimely}
 use Rattle.world_model.proofs.Nexts.{Made, Next, Begins, Hears, Ends, Coordinates, DoesRoot, DoesSub, Notes, Obeys, Order, Turns, Shows, Sweeps, TellsDone, TellsAsked, RootWork, RootUpdates, RootReads, SubWork, SubUpdates, SubReads}

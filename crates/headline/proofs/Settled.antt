@@ -18,8 +18,8 @@ use Rattle.advance_coord.specs.declared.phase.Phase.TheVariants.{Idle, Turning, 
 use Rattle.client_rows.specs.Client.{all_answered}
 use Rattle.board_model.specs.Right.{HasFinished}
 use Rattle.board_model.specs.Worth.{is_written, worth}
-use Rattle.board_laws.specs.OwnValues.{seen_at}
-use Rattle.board_laws.proofs.OwnDeeds.{sees_own}
+use Rattle.tree_laws.specs.OwnValues.{seen_at}
+use Rattle.tree_laws.proofs.OwnDeeds.{sees_own}
 use Rattle.world_model.specs.Runs.{IsStepRun, client_in, coordinator_in, node_in}
 use Rattle.world_model.specs.Timely.{AllTimely}
 use Rattle.world_model.proofs.Scripts.{IsSound, tree_below}

@@ -18,8 +18,8 @@ use Rattle.board_model.specs.Worth.{worth}
 use Rattle.board_model.proofs.AnyOrder.{worth_of_trees}
 use Rattle.board_model.proofs.Closings.{AreApart}
 use Rattle.board_model.proofs.SerialOrder.{serial_to_apart}
-use Rattle.board_laws.specs.OwnValues.{is_up_to}
-use Rattle.board_laws.proofs.Seen.{valued}
+use Rattle.tree_laws.specs.OwnValues.{is_up_to}
+use Rattle.tree_laws.proofs.Seen.{valued}
 use Rattle.world_model.specs.Counts.{one_if}
 use Rattle.world_model.specs.Runs.{IsStepRun}
 use Rattle.world_model.specs.Tables.{IsRunnable}

@@ -9,7 +9,7 @@ use Rattle.tx_trees.specs.declared.parts.Sub.{Sub}
 use Rattle.board_model.specs.Gates.{IsOpen, sweeps_to}
 use Rattle.board_model.specs.Histories.{Place, all_applied, all_done, applies, does, is_strict_tree, is_through, was_applied, was_done}
 use Rattle.board_model.specs.Moves.{is_whole_in, was_born}
-use Rattle.board_laws.proofs.Versions.{version_stays}
+use Rattle.tree_laws.proofs.Versions.{version_stays}
 
 -- what is among the first acts is among all
 pub any_more : (test : Place → Bool) (xs ys : List Place) → list_any test xs ≡ true → list_any test (xs ++ ys) ≡ true

@@ -37,8 +37,8 @@ use Rattle.phase_laws.specs.Phases.{SweepStage, most_low}
 use Rattle.phase_laws.proofs.LevelAt.{LevelBody, tell, tells}
 use Rattle.phase_laws.proofs.Levels.{levels}
 use Rattle.phase_laws.proofs.Tokens.{phase_for}
-use Rattle.board_laws.proofs.Histories.{places_more}
-use Rattle.board_laws.proofs.Versions.{placed}
+use Rattle.tree_laws.proofs.Histories.{places_more}
+use Rattle.tree_laws.proofs.Versions.{placed}
 use Rattle.headline.proofs.Stays.{any_more}
 
 -- What was collected, with more acts.

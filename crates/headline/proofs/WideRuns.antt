@@ -27,8 +27,8 @@ use Rattle.world_model.proofs.Bridge.{run_less, state_more}
 use Rattle.world_model.proofs.Posts.{follows_by, moves_by, rows_less, steps, waits_of, who_of}
 use Rattle.world_model.proofs.Scripts.{IsSound}
 use Rattle.tree_laws.proofs.Aptness.{taken_is_apt}
-use Rattle.board_laws.proofs.OwnDeeds.{sees_run}
-use Rattle.board_laws.proofs.Seen.{IsFrom}
+use Rattle.tree_laws.proofs.OwnDeeds.{sees_run}
+use Rattle.tree_laws.proofs.Seen.{IsFrom}
 use Rattle.run_laws.proofs.InTime.{in_time}
 
 -- An apt letter is widely apt.

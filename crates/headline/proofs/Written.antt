@@ -23,8 +23,8 @@ use Rattle.board_model.specs.Serial.{is_version}
 use Rattle.board_model.specs.Worth.{changes, ops_change}
 use Rattle.world_model.specs.Counts.{Each}
 use Rattle.world_model.proofs.Scripts.{IsSound, SubAt, ops_fit, updates_kind}
-use Rattle.board_laws.proofs.Histories.{places_more}
-use Rattle.board_laws.proofs.Versions.{AreVersioned, IsOfBorn, placed, version_stays}
+use Rattle.tree_laws.proofs.Histories.{places_more}
+use Rattle.tree_laws.proofs.Versions.{AreVersioned, IsOfBorn, placed, version_stays}
 
 -- the act is a Did of an update tree that these acts bear in version w, and changes item x
 abbrev pub act_writes : ScriptData → List Place → ℕ → ℕ → Act → Bool

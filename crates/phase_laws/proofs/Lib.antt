@@ -7,3 +7,15 @@ pub mod LevelSteps
 pub mod LevelLetters
 pub mod Levels
 pub mod Current
+pub mod Counters
+pub mod Moves
+pub mod Balance
+pub mod Sending
+pub mod Silence
+pub mod Steps
+pub mod Waves
+pub mod Rounds
+pub mod Shows
+pub mod Below
+pub mod Closing
+pub mod Sampled

@@ -1,2 +1,4 @@
 pub mod Phases
 pub mod Advances
+pub mod Balance
+pub mod Quiet

@@ -27,7 +27,7 @@ use Rattle.phase_laws.specs.Phases.{ShowStage, SweepStage, token, under_way}
 use Rattle.phase_laws.proofs.Tokens.{told, showing_phase, sweeping_phase}
 use Rattle.phase_laws.proofs.Levels.{levels}
 use Rattle.phase_laws.proofs.LevelAt.{LevelBody}
-use Rattle.board_laws.proofs.Histories.{places_more}
+use Rattle.tree_laws.proofs.Histories.{places_more}
 use Rattle.run_laws.specs.Shown.{IsBackedBy, IsClosedBy}
 use Rattle.run_laws.proofs.Reached.{Reaches, Same, Closes, now_below, step_reaches, turn_above, whole_below, whole_run}
 use Rattle.run_laws.proofs.Wholes.{born_by, born_split, born_with, is_of_kind}

@@ -9,12 +9,12 @@ use Rattle.world_model.specs.Runs.{IsStepRun, node_in}
 use Rattle.world_model.specs.Timely.{AllTimely}
 use Rattle.world_model.proofs.Scripts.{IsSound}
 use Rattle.tree_laws.proofs.Nudges.{lawful}
-use Rattle.quiet_laws.specs.Balance.{IsBalanced, MOST_COUNTED}
-use Rattle.quiet_laws.specs.Quiet.{IsGivenInQuiet}
-use Rattle.quiet_laws.proofs.Below.{balanced}
-use Rattle.quiet_laws.proofs.Balance.{small}
-use Rattle.quiet_laws.proofs.Closing.{all_timely}
-use Rattle.quiet_laws.proofs.Shows.{given_in_quiet}
+use Rattle.phase_laws.specs.Balance.{IsBalanced, MOST_COUNTED}
+use Rattle.phase_laws.specs.Quiet.{IsGivenInQuiet}
+use Rattle.phase_laws.proofs.Below.{balanced}
+use Rattle.phase_laws.proofs.Balance.{small}
+use Rattle.phase_laws.proofs.Closing.{all_timely}
+use Rattle.phase_laws.proofs.Shows.{given_in_quiet}
 
 pub in_time : (s : ScriptData) (past : List Entry) → IsSound s → IsStepRun s past → AllTimely s past
 in_time s past sound run = all_timely s past (lawful s sound) run

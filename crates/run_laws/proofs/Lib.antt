@@ -3,3 +3,15 @@ pub mod Reached
 pub mod Closed
 pub mod InTime
 pub use Rattle.tree_laws.proofs.Goods
+pub mod Measures
+pub mod Busy
+pub mod Balancing
+pub mod Course
+pub mod Heard
+pub mod Exacts
+pub mod Pauses
+pub mod Ends
+pub mod Costs
+pub mod Entries
+pub mod Bounds
+pub mod Sampled

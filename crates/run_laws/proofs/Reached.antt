@@ -25,10 +25,10 @@ use Rattle.phase_laws.proofs.Small.{outcome_in}
 use Rattle.phase_laws.specs.Phases.{least_read, least_update}
 use Rattle.phase_laws.proofs.LevelAt.{LevelAt, Levels}
 use Rattle.phase_laws.proofs.Levels.{levels}
-use Rattle.board_laws.proofs.Histories.{places_more}
-use Rattle.board_laws.proofs.Versions.{versioned_run}
-use Rattle.quiet_laws.specs.Quiet.{IsSilent}
-use Rattle.quiet_laws.proofs.Rounds.{agrees_silent}
+use Rattle.tree_laws.proofs.Histories.{places_more}
+use Rattle.tree_laws.proofs.Versions.{versioned_run}
+use Rattle.phase_laws.specs.Quiet.{IsSilent}
+use Rattle.phase_laws.proofs.Rounds.{agrees_silent}
 use Rattle.run_laws.proofs.Wholes.{AreWhole, BornAt, born_by, born_split, born_with, is_of_kind, turn_of, whole_when_silent}
 
 -- the version up to which trees of the kind are whole, in a phase of an advancement from version u: update trees up to

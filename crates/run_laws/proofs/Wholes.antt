@@ -28,9 +28,9 @@ use Rattle.tree_laws.specs.Dids.{asks, asked, births, dids}
 use Rattle.tree_laws.proofs.Finishes.{done_below}
 use Rattle.tree_laws.proofs.Good.{IsGood}
 use Rattle.tree_laws.proofs.Whole.{births_in}
-use Rattle.quiet_laws.specs.Balance.{goes_from, out, version_is}
-use Rattle.quiet_laws.specs.Quiet.{IsSilent}
-use Rattle.board_laws.proofs.Versions.{AreVersioned, HasVersion, not_both, placed, unborn}
+use Rattle.phase_laws.specs.Balance.{goes_from, out, version_is}
+use Rattle.phase_laws.specs.Quiet.{IsSilent}
+use Rattle.tree_laws.proofs.Versions.{AreVersioned, HasVersion, not_both, placed, unborn}
 
 -- Trees of one kind: read trees, or update trees.
 abbrev pub is_of_kind : Bool → ScriptData → ℕ → Bool

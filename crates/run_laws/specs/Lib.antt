@@ -1,3 +1,3 @@
 pub mod Shown
-pub use Rattle.quiet_laws.specs.Balance
-pub use Rattle.quiet_laws.specs.Quiet
+pub use Rattle.phase_laws.specs.Balance
+pub use Rattle.phase_laws.specs.Quiet

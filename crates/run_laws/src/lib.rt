@@ -1,9 +1,10 @@
 //! Laws of every run of update and read trees with advancements: each letter comes in time, phases have their letters and
-//! versions, counters are balanced, and a version is shown only when it is quiet, and then for good.
+//! versions, counters are balanced, a version is shown only when it is quiet, and then for good; and no run stalls.
 #![tactic(auto)]
 
 mod phases;
 mod shown;
+mod stalls;
 
 pub use phases::{
     advances_are_kept, counts_are_small, every_letter_comes_in_time, phases_have_their_letters,
@@ -12,3 +13,4 @@ pub use phases::{
 pub use shown::{
     nothing_comes_to_what_is_shown, orders_are_given_in_quiet, what_is_shown_is_whole,
 };
+pub use stalls::{entries_are_counted, entries_are_few, no_run_stalls};

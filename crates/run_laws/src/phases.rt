@@ -4,7 +4,7 @@ ghost use Rattle.letter_types.specs.declared.entries.Entry.{Entry};
 ghost use Rattle.pair_counters.specs.Numbers.{AllBelow};
 ghost use Rattle.phase_laws.specs.Advances.{AdvancesAreKept, RoundsAreFew};
 ghost use Rattle.phase_laws.specs.Phases.{PhasesHaveTheirLetters, VersionsKeepToThePhase};
-ghost use Rattle.quiet_laws.specs.Balance.{IsBalanced, MOST_COUNTED};
+ghost use Rattle.phase_laws.specs.Balance.{IsBalanced, MOST_COUNTED};
 ghost use Rattle.tx_trees.specs.ScriptData.{ScriptData};
 ghost use Rattle.tx_trees.specs.Valid.{IsValid};
 ghost use Rattle.world_model.specs.Runs.{node_in, IsStepRun};

@@ -3,7 +3,7 @@ ghost use Rattle.std.specs.Prelude.{◌∷◌, ◌++◌, List, reverse};
 ghost use Rattle.letter_types.specs.declared.entries.Entry.{Entry};
 ghost use Rattle.letter_types.specs.declared.entries.Letter.{Letter};
 ghost use Rattle.letter_types.specs.declared.entries.Outgoing.{Outgoing};
-ghost use Rattle.quiet_laws.specs.Quiet.{IsGivenInQuiet};
+ghost use Rattle.phase_laws.specs.Quiet.{IsGivenInQuiet};
 ghost use Rattle.run_laws.specs.Shown.{IsBackedBy, IsClosedBy};
 ghost use Rattle.tx_trees.specs.ScriptData.{ScriptData};
 ghost use Rattle.tx_trees.specs.Valid.{IsValid};

@@ -32,3 +32,10 @@ pub mod Sums
 pub mod Entries
 pub mod SampledEnds
 pub mod Sampled
+pub mod Histories
+pub mod Versions
+pub mod Seen
+pub mod OwnDeeds
+pub mod Waits
+pub mod SampledReads
+pub mod Numbers

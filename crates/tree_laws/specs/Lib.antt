@@ -1,3 +1,4 @@
 pub mod Dids
 pub mod Ends
 pub mod Entries
+pub mod OwnValues

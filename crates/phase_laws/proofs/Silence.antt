@@ -1,0 +1,237 @@
+-- A version of which no counted letter is under way, and in which no root is born, stays so.
+use Rattle.std.proofs.Common.{◌≡◌, ◌≢◌, ◌⊎◌, inl, inr, ℕ, zero, suc, ◌<◌, ◌≤◌, ◌==◌, Bool, true, false, List, [], ◌∷◌, ◌++◌, length, refl, sym, ap, subst, ◌∙◌, arith, take, drop, Option, Some, None}
+use Rattle.std.proofs.lemmas.Bool.Decides.{nat_tests}
+use Rattle.letter_types.specs.declared.bodies.Body.{Body}
+use Rattle.letter_types.specs.declared.entries.Entry.{Entry}
+use Rattle.letter_types.specs.declared.entries.Letter.{Letter}
+use Rattle.letter_types.specs.declared.entries.Outgoing.{Outgoing}
+use Rattle.letter_types.specs.Steps.{Out}
+use Rattle.tv_base.specs.declared.numbers.Version.{Version}
+use Rattle.tree_home.specs.Homes.{Gets, begun}
+use Rattle.tree_home.specs.declared.homes.Answered.{Answered}
+use Rattle.tree_step.specs.Children.{sub_letters, done_letter}
+use Rattle.tree_step.specs.Done.{note_done, root_done, sub_done}
+use Rattle.tree_step.specs.Node.{Effect, Node}
+use Rattle.tree_step.specs.Notices.{answer_noted, reply_letters}
+use Rattle.tx_trees.specs.ScriptData.{ScriptData, client_of, home_of, node_of, subs_at}
+use Rattle.tx_trees.specs.declared.parts.ScriptRow.{ScriptRow}
+use Rattle.tx_trees.specs.declared.parts.ScriptRow.TheVariants.{Tree as TreeRow, Advance as AdvanceRow, Settle as SettleRow, Lose as LoseRow}
+use Rattle.client_rows.specs.Client.{Client, rows_letters, submit, submitted, with_answer, with_end, nudge}
+use Rattle.world_model.specs.Counts.{Each, tally}
+use Rattle.world_model.specs.Runs.{client_in, coordinator_in, node_in, waiting, MayFollow, IsStepRun}
+use Rattle.world_model.specs.Timely.{AllTimely}
+use Rattle.world_model.proofs.Bags.{tally-drop}
+use Rattle.world_model.proofs.Every.{each_append, each_map, each_none}
+use Rattle.world_model.proofs.Lawful.{IsLawful}
+use Rattle.world_model.proofs.Nexts.{Next, Begins, Hears, Ends, Coordinates, DoesRoot, DoesSub, Notes, Obeys, Order, Turns, Shows, Sweeps, TellsDone, TellsAsked, RootWork, RootUpdates, RootReads}
+use Rattle.world_model.proofs.Orders.{coordinator_each}
+use Rattle.phase_laws.specs.Balance.{version_is, goes_from, out}
+use Rattle.phase_laws.specs.Quiet.{IsSilent}
+use Rattle.phase_laws.proofs.Balance.{counts_of, flow}
+use Rattle.phase_laws.proofs.Counters.{children_of}
+use Rattle.phase_laws.proofs.Moves.{sent_on}
+
+-- no root is born in version v
+abbrev pub Closed : ScriptData → List Entry → ℕ → Type 0
+Closed s past v =
+    (p : ℕ) → p < s.nodes → ((node_in s past p).turns.update.0 ≢ v) × ((node_in s past p).turns.read.0 ≢ v)
+
+-- no counted letter of version v
+abbrev NoneOf : ℕ → List Outgoing → Type 0
+NoneOf v os = Each (λ (o : Outgoing). version_is v o.body ≡ false) os
+
+none_append : (v : ℕ) (xs ys : List Outgoing) → NoneOf v xs → NoneOf v ys → NoneOf v (xs ++ ys)
+none_append v xs ys a b = each_append (λ (o : Outgoing). version_is v o.body ≡ false) xs ys a b
+
+replies_none : (v client : ℕ) (o : Option Answered) → NoneOf v (reply_letters client o)
+replies_none v client None = tt
+replies_none v client (Some a) = (refl, tt)
+
+rows_none : (v : ℕ) (s : ScriptData) (rows : List ScriptRow) → NoneOf v (rows_letters s rows)
+rows_none v s [] = tt
+rows_none v s (TreeRow t ∷ rows) = (refl, rows_none v s rows)
+rows_none v s (AdvanceRow ∷ rows) = (refl, rows_none v s rows)
+rows_none v s (SettleRow ∷ rows) = rows_none v s rows
+rows_none v s (LoseRow ∷ rows) = rows_none v s rows
+
+submit_none : (v : ℕ) (s : ScriptData) (c : Client) (first : List Outgoing) → NoneOf v first
+    → NoneOf v (submit s c first).sent
+submit_none v s c first all =
+    let rows = take (submitted c (take c.next s.rows) (drop c.next s.rows)) (drop c.next s.rows) in
+    none_append v first (rows_letters s rows) all (rows_none v s rows)
+
+-- the children of a subtransaction of another version
+children_none : (t w v parent k : ℕ) (s : ScriptData) → (w == v) ≡ false
+    → NoneOf v (sub_letters t w parent k (subs_at s t))
+children_none t w v parent k s ne =
+    each_map (λ (o : Outgoing). (x : ℕ) → version_is x o.body ≡ (w == x))
+    (λ (o : Outgoing). version_is v o.body ≡ false)
+    (sub_letters t w parent k (subs_at s t)) (λ o is. is v ∙ ne) (children_of t w parent k (subs_at s t))
+
+root_none : (s : ScriptData) (p t w v : ℕ) (effect : Effect) (st : Node) → (w == v) ≡ false
+    → NoneOf v (root_done s p t w effect st).sent
+root_none s p t w v effect st ne =
+    none_append v (sub_letters t w 0 0 (subs_at s t)) _ (children_none t w v 0 0 s ne)
+    (replies_none v (client_of s)
+    (answer_noted (record { 0 = t }) (record { 0 = 0 }) effect.values
+    (begun (record { 0 = t }) (length (subs_at s t)) (record { 0 = w }) st.homes)))
+
+sub_none : (s : ScriptData) (q t k w v : ℕ) (raises : Bool) (effect : Effect) (st : Node) → (w == v) ≡ false
+    → NoneOf v (sub_done s q t k w raises effect st).sent
+sub_none s q t k w v raises effect st ne =
+    none_append v (sub_letters t w k 0 (subs_at s t)) (done_letter (home_of s t) t k w effect.values ∷ [])
+    (children_none t w v k 0 s ne) (ne, tt)
+
+note_none : (s : ScriptData) (q t k w v : ℕ) (values : Gets) (st : Node) → NoneOf v (note_done s q t k w values st).sent
+note_none s q t k w v values st =
+    replies_none v (client_of s) (answer_noted (record { 0 = t }) (record { 0 = k }) values st.homes)
+
+order_none : (s : ScriptData) (v : ℕ) (st : Node) (body : Body) (out : Out Node) → Order s st body out
+    → NoneOf v out.sent
+order_none s v st body out (Turns w bd is) = subst (λ (o : Out Node). NoneOf v o.sent) (sym is) (refl, tt)
+order_none s v st body out (Shows w bd is) = subst (λ (o : Out Node). NoneOf v o.sent) (sym is) (refl, tt)
+order_none s v st body out (Sweeps w bd is) = subst (λ (o : Out Node). NoneOf v o.sent) (sym is) (refl, tt)
+order_none s v st body out (TellsDone w k bd is) = subst (λ (o : Out Node). NoneOf v o.sent) (sym is) (refl, tt)
+order_none s v st body out (TellsAsked w k bd is) = subst (λ (o : Out Node). NoneOf v o.sent) (sym is) (refl, tt)
+
+apart_by : (w v : ℕ) → w ≢ v → (w == v) ≡ false
+apart_by w v ne = grind (arith, nat_tests)
+
+-- a root takes another version than one that is closed
+root_version : (s : ScriptData) (t v : ℕ) (st : Node) (w : Version) (effect : Effect) → RootWork s t st w effect
+    → (st.turns.update.0 ≢ v) × (st.turns.read.0 ≢ v) → (w.0 == v) ≡ false
+root_version s t v st w effect (RootUpdates up is can made) closed =
+    apart_by w.0 v (λ eq. closed.0 (ap (λ (x : Version). x.0) (sym is) ∙ eq))
+root_version s t v st w effect (RootReads up is can made) closed =
+    apart_by w.0 v (λ eq. closed.1 (ap (λ (x : Version). x.0) (sym is) ∙ eq))
+
+pub goes_itself : (v p q : ℕ) (l : Letter) → version_is v l.body ≡ true → l.from.0 ≡ p → l.to.0 ≡ q
+    → goes_from v p q l ≡ 1
+goes_itself v p q l is a b = grind (arith, nat_tests)
+
+-- in silence no counted letter of the version is taken
+not_taken : (s : ScriptData) (past : List Entry) (e : Entry) (v : ℕ) (b : Bool) → MayFollow s past e
+    → IsSilent s past v → e.took.from.0 < s.nodes
+    → e.actor.0 < s.nodes → version_is v e.took.body ≡ b → version_is v e.took.body ≡ false
+not_taken s past e v false m silent from lt is = is
+not_taken s past e v true m silent from lt is =
+    absurd (omega (
+      arith,
+      silent e.took.from.0 e.actor.0 from lt,
+      goes_itself v e.took.from.0 e.actor.0 e.took is refl m.addressee,
+      tally-drop (goes_from v e.took.from.0 e.actor.0) e.took.id (waiting s past) e.took m.waits,
+    ))
+
+by_sent : (v : ℕ) (e : Entry) (os : List Outgoing) → e.sent ≡ os → NoneOf v os → NoneOf v e.sent
+by_sent v e os is all = subst (NoneOf v) (sym is) all
+
+none_sent : (s : ScriptData) (past : List Entry) (e : Entry) (v : ℕ) → MayFollow s past e → IsSilent s past v
+    → Closed s past v
+    → Next s past e → NoneOf v e.sent
+none_sent s past e v m silent closed (Begins bd at made) =
+    by_sent v e _ made.sent (submit_none v s (client_in s past) [] tt)
+none_sent s past e v m silent closed (Hears t w answer bd at lt made) =
+    by_sent v e _ made.sent (submit_none v s (with_answer t.0 (client_in s past)) (nudge s ∷ []) (refl, tt))
+none_sent s past e v m silent closed (Ends w bd at made) =
+    by_sent v e _ made.sent (submit_none v s (with_end (client_in s past)) [] tt)
+none_sent s past e v m silent closed (Coordinates tells at made) =
+    by_sent v e _ made.sent (coordinator_each (λ to body. version_is v body ≡ false) (coordinator_in s past) (record {
+      turn = λ to w lt. refl;
+      show = λ to w lt. refl;
+      sweep = λ to w lt. refl;
+      ask_done = λ to w k lt. refl;
+      ask_asked = λ to w k lt. refl;
+      advanced = λ w. refl;
+    }) e.took.from.0 e.took.body)
+none_sent s past e v m silent closed (DoesRoot t w effect bd sub at lt new work made) =
+    let p = home_of s t.0 in
+    by_sent v e _ made.sent
+    (root_none s p t.0 w.0 v effect (node_in s past p)
+    (root_version s t.0 v (node_in s past p) w effect work (closed p lt)))
+none_sent s past e v m silent closed (DoesSub t k w raises effect bd sub pos from at lt work made) =
+    let none = not_taken s past e v (version_is v e.took.body) m silent from (omega (arith, at, lt)) refl in
+    let other : (w.0 == v) ≡ false = subst (λ (b : Body). version_is v b ≡ false) bd none in
+    by_sent v e _ made.sent
+    (sub_none s e.took.from.0 t.0 k.0 w.0 v raises effect (node_in s past (node_of s t.0 k.0)) other)
+none_sent s past e v m silent closed (Notes t k w values bd sub pos from at lt missed made) =
+    by_sent v e _ made.sent (note_none s e.took.from.0 t.0 k.0 w.0 v values (node_in s past (home_of s t.0)))
+none_sent s past e v m silent closed (Obeys p out at lt order made) =
+    by_sent v e _ made.sent (order_none s v (node_in s past p) e.took.body out order)
+
+uncounted : (a v p q : ℕ) (o : Outgoing) → version_is v o.body ≡ false → sent_on a v p q o ≡ 0
+uncounted a v p q o is = rw is refl
+
+-- a silent version that is closed stays silent
+pub silent_stays : (s : ScriptData) (past : List Entry) (e : Entry) (v : ℕ) → IsLawful s → IsStepRun s (e ∷ past)
+    → AllTimely s (e ∷ past)
+    → IsSilent s past v → Closed s past v → IsSilent s (e ∷ past) v
+silent_stays s past e v laws run timely silent closed = λ p q lp lq.
+    let none = none_sent s past e v run.0 silent closed (laws.next past e run timely) in
+    let sent : tally (sent_on e.actor.0 v p q) e.sent ≡ 0 =
+    each_none (sent_on e.actor.0 v p q) e.sent
+    (each_map (λ (o : Outgoing). version_is v o.body ≡ false) (λ (o : Outgoing). sent_on e.actor.0 v p q o ≡ 0) e.sent
+    (uncounted e.actor.0 v p q) none) in
+    omega (arith, flow s past e v p q run.0, silent p q lp lq, sent)
+
+-- Counters only grow, but for what is swept.
+pub done_grows : (s : ScriptData) (past : List Entry) (e : Entry) (q v p : ℕ) → IsLawful s → IsStepRun s (e ∷ past)
+    → AllTimely s (e ∷ past)
+    → q < s.nodes → (node_in s (e ∷ past) q).turns.low.0 ≤ v
+    → (node_in s past q).counts.done v p ≤ (node_in s (e ∷ past) q).counts.done v p
+done_grows s past e q v p laws run timely lt low =
+    let counts = counts_of s past e v laws run timely in omega (arith, counts.done p q lt low)
+
+pub asked_grows : (s : ScriptData) (past : List Entry) (e : Entry) (p v q : ℕ) → IsLawful s → IsStepRun s (e ∷ past)
+    → AllTimely s (e ∷ past)
+    → p < s.nodes → (node_in s (e ∷ past) p).turns.low.0 ≤ v
+    → (node_in s past p).counts.asked v q ≤ (node_in s (e ∷ past) p).counts.asked v q
+asked_grows s past e p v q laws run timely lt low =
+    let counts = counts_of s past e v laws run timely in omega (arith, counts.asked p q lt low)
+
+-- Either a version is silent or a pair has a letter of it under way.
+-- a number of pairs is 0 for each pair below, or not for one
+abbrev NoPair : (ℕ → ℕ → ℕ) → ℕ → ℕ → Type 0
+NoPair f k m = (p q : ℕ) → p < k → q < m → f p q ≡ 0
+
+abbrev SomePair : (ℕ → ℕ → ℕ) → ℕ → ℕ → Type 0
+SomePair f k m = (p : ℕ) × (q : ℕ) × (p < k) × (q < m) × (1 ≤ f p q)
+
+pub below_or_at : (q m : ℕ) → q < suc m → (q < m) ⊎ (q ≡ m)
+below_or_at q m lt = grind arith
+
+none_or_some : (n : ℕ) → (n ≡ 0) ⊎ (1 ≤ n)
+none_or_some n = grind arith
+
+last_in_row : (f : ℕ → ℕ) (m q : ℕ) → ((r : ℕ) → r < m → f r ≡ 0) → f m ≡ 0 → (q < m) ⊎ (q ≡ m) → f q ≡ 0
+last_in_row f m q all none (inl lt) = all q lt
+last_in_row f m q all none (inr is) = ap f is ∙ none
+
+row_next : (f : ℕ → ℕ) (m : ℕ) → ((r : ℕ) → r < m → f r ≡ 0) ⊎ ((r : ℕ) × (r < m) × (1 ≤ f r)) → (f m ≡ 0) ⊎ (1 ≤ f m)
+    → ((r : ℕ) → r < suc m → f r ≡ 0) ⊎ ((r : ℕ) × (r < suc m) × (1 ≤ f r))
+row_next f m (inr (r, lt, some)) any = inr (r, omega (arith, lt), some)
+row_next f m (inl all) (inl none) = inl (λ r lt. last_in_row f m r all none (below_or_at r m lt))
+row_next f m (inl all) (inr some) = inr (m, omega arith, some)
+
+row_or : (f : ℕ → ℕ) (m : ℕ) → ((r : ℕ) → r < m → f r ≡ 0) ⊎ ((r : ℕ) × (r < m) × (1 ≤ f r))
+row_or f zero = inl (λ r lt. absurd (omega (arith, lt)))
+row_or f (suc m) = row_next f m (row_or f m) (none_or_some (f m))
+
+last_row : (f : ℕ → ℕ → ℕ) (k m p q : ℕ) → NoPair f k m → ((r : ℕ) → r < m → f k r ≡ 0) → q < m → (p < k) ⊎ (p ≡ k)
+    → f p q ≡ 0
+last_row f k m p q all row lt (inl less) = all p q less lt
+last_row f k m p q all row lt (inr is) = ap (λ (n : ℕ). f n q) is ∙ row q lt
+
+all_next : (f : ℕ → ℕ → ℕ) (k m : ℕ) → NoPair f k m ⊎ SomePair f k m
+    → ((r : ℕ) → r < m → f k r ≡ 0) ⊎ ((r : ℕ) × (r < m) × (1 ≤ f k r))
+    → NoPair f (suc k) m ⊎ SomePair f (suc k) m
+all_next f k m (inr (p, q, lp, lq, some)) row = inr (p, q, omega (arith, lp), lq, some)
+all_next f k m (inl all) (inr (q, lq, some)) = inr (k, q, omega arith, lq, some)
+all_next f k m (inl all) (inl row) = inl (λ p q lp lq. last_row f k m p q all row lq (below_or_at p k lp))
+
+all_or : (f : ℕ → ℕ → ℕ) (k m : ℕ) → NoPair f k m ⊎ SomePair f k m
+all_or f zero m = inl (λ p q lp lq. absurd (omega (arith, lp)))
+all_or f (suc k) m = all_next f k m (all_or f k m) (row_or (f k) m)
+
+pub silent_or_not : (s : ScriptData) (past : List Entry) (v : ℕ)
+    → IsSilent s past v ⊎ ((p : ℕ) × (q : ℕ) × (p < s.nodes) × (q < s.nodes) × (1 ≤ out s past v p q))
+silent_or_not s past v = all_or (out s past v) s.nodes s.nodes

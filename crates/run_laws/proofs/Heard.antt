@@ -1,0 +1,422 @@
+-- While a round counts, of each node the question, the answer under way or the row that is kept is there.
+use Rattle.std.proofs.Common.{if◌then◌else◌, ◌≡◌, ◌≢◌, ◌⊎◌, inl, inr, ℕ, zero, suc, ◌+◌, ◌<◌, ◌≤◌, ◌==◌, ◌&&◌, not, Bool, true, false, List, [], ◌∷◌, length, replicate, set, refl, sym, ap, subst, ◌∙◌, arith, Option, Some, None}
+use Rattle.std.specs.Prelude.{nat_lt}
+use Rattle.std.proofs.lemmas.Bool.Decides.{nat_tests}
+use Rattle.std.proofs.lemmas.Bool.{eqb-true}
+use Rattle.pair_counters.proofs.Rows.{length_numbers}
+use Rattle.tv_base.specs.declared.numbers.Version.{Version}
+use Rattle.phase_out.specs.Rounds.{NodeRows, RoundData, all_in, is_of}
+use Rattle.pair_counters.specs.Numbers.{numbers_of}
+use Rattle.letter_types.specs.declared.bodies.Body.{Body}
+use Rattle.letter_types.specs.declared.bodies.Body.TheVariants.{Go, AskDone, AskAsked, DoneRow, AskedRow}
+use Rattle.letter_types.specs.declared.entries.Entry.{Entry}
+use Rattle.letter_types.specs.declared.entries.Letter.{Letter}
+use Rattle.letter_types.specs.declared.entries.Outgoing.{Outgoing}
+use Rattle.letter_types.specs.Steps.{Out, still}
+use Rattle.tx_trees.specs.ScriptData.{ScriptData}
+use Rattle.tree_step.specs.Node.{Node}
+use Rattle.advance_coord.specs.Coordinator.{Coordinator, coordinator_row, keep_done, to_nodes}
+use Rattle.advance_coord.specs.declared.phase.Phase.TheVariants.{Counting}
+use Rattle.world_model.specs.Counts.{tally, one_if}
+use Rattle.world_model.specs.Runs.{coordinator_in, node_in, waiting, MayFollow, IsStepRun}
+use Rattle.world_model.specs.Timely.{AllTimely}
+use Rattle.world_model.proofs.Bags.{tally-append, tally_step, sealed_tally}
+use Rattle.world_model.proofs.Every.{coordinator_kept}
+use Rattle.world_model.proofs.Lawful.{IsLawful}
+use Rattle.world_model.proofs.Nexts.{Next, Begins, Hears, Ends, Coordinates, DoesRoot, DoesSub, Notes, Obeys, Order, Turns, Shows, Sweeps, TellsDone, TellsAsked, MadeByCoordinator}
+use Rattle.world_model.proofs.Orders.{coordinator_nodes}
+use Rattle.phase_laws.proofs.Current.{IsCurrent, current}
+use Rattle.phase_laws.proofs.Outcomes.{asked_kept, round_begun}
+use Rattle.phase_laws.proofs.Small.{outcome_in}
+use Rattle.run_laws.proofs.Course.{Course, Leaves, Starts, Holds, Lasts, TakesDone, TakesMore, Denies, NoDone, Refused, course, outside_counting}
+use Rattle.phase_laws.proofs.Silence.{below_or_at}
+
+-- the first wave's or the second wave's question to node q, or q's answer
+abbrev pub wave : Bool → ℕ → ℕ → ℕ → ℕ → ℕ → ℕ → Body → ℕ
+wave two v r q n from to (AskDone w k) = one_if (not two && ((w.0 == v) && ((k == r) && (to == q))))
+wave two v r q n from to (DoneRow w k row) = one_if (not two && ((w.0 == v) && ((k == r) && ((from == q) && (length row == n)))))
+wave two v r q n from to (AskAsked w k) = one_if (two && ((w.0 == v) && ((k == r) && (to == q))))
+wave two v r q n from to (AskedRow w k row) = one_if (two && ((w.0 == v) && ((k == r) && ((from == q) && (length row == n)))))
+wave two v r q n from to Go = 0
+wave two v r q n from to _ = 0
+
+-- how many of them are under way
+abbrev pub waves : ScriptData → List Entry → Bool → ℕ → ℕ → ℕ → ℕ
+waves s past two v r q = tally (λ (l : Letter). wave two v r q s.nodes l.from.0 l.to.0 l.body) (waiting s past)
+
+-- and of what actor a sends
+abbrev sends : Bool → ℕ → ℕ → ℕ → ℕ → ℕ → Outgoing → ℕ
+sends two v r q n a o = wave two v r q n a o.to.0 o.body
+
+abbrev pub held : Option (List ℕ) → ℕ
+held None = 0
+held (Some row) = 1
+
+-- the row of node q is kept
+abbrev pub is_kept : NodeRows → ℕ → ℕ
+is_kept [] q = 0
+is_kept (k ∷ ks) zero = held k
+is_kept (k ∷ ks) (suc q) = is_kept ks q
+
+-- of each node the first wave's question or answer is under way, or its row is kept; the same of the second wave once all
+-- rows of the first are kept; and a row of the second is missing
+pub record Waved (s : ScriptData) (past : List Entry) (r : RoundData) : Type 0 where
+  pub first : (q : ℕ) → q < s.nodes → 1 ≤ waves s past false r.version.0 r.number q + is_kept r.dones q
+  pub second : all_in r.dones ≡ true → (q : ℕ) → q < s.nodes → 1 ≤ waves s past true r.version.0 r.number q + is_kept r.askeds q
+  pub misses : all_in r.askeds ≡ false
+
+abbrev pub Heard : ScriptData → List Entry → Coordinator → Type 0
+Heard s past c = (reads : Bool) → c.phase ≡ Counting reads → Waved s past c.current
+
+-- Rows that are kept.
+put_more : (ks : NodeRows) (f : ℕ) (row : List ℕ) (q : ℕ) → is_kept ks q ≤ is_kept (set ks f (Some row)) q
+put_more [] f row q = omega arith
+put_more (None ∷ ks) zero row zero = omega arith
+put_more (Some old ∷ ks) zero row zero = omega arith
+put_more (k ∷ ks) zero row (suc q) = omega arith
+put_more (k ∷ ks) (suc f) row zero = omega arith
+put_more (k ∷ ks) (suc f) row (suc q) = put_more ks f row q
+
+put_there : (ks : NodeRows) (f : ℕ) (row : List ℕ) → f < length ks → is_kept (set ks f (Some row)) f ≡ 1
+put_there [] f row lt = absurd (omega (arith, lt))
+put_there (k ∷ ks) zero row lt = refl
+put_there (k ∷ ks) (suc f) row lt = put_there ks f row (omega (arith, lt))
+
+-- where each row is kept, none is missing
+pub all_of : (ks : NodeRows) → ((q : ℕ) → q < length ks → 1 ≤ is_kept ks q) → all_in ks ≡ true
+all_of [] all = refl
+all_of (None ∷ ks) all = absurd (omega (arith, all 0 (omega arith)))
+all_of (Some row ∷ ks) all = all_of ks (λ q lt. all (suc q) (omega (arith, lt)))
+
+none_in : (n : ℕ) → 1 ≤ n → all_in (replicate n None) ≡ false
+none_in zero some = absurd (omega (arith, some))
+none_in (suc n) some = refl
+
+-- Letters.
+wave_flow : (s : ScriptData) (past : List Entry) (e : Entry) (two : Bool) (v r q : ℕ) → MayFollow s past e
+    → waves s (e ∷ past) two v r q + wave two v r q s.nodes e.took.from.0 e.actor.0 e.took.body
+    ≡ waves s past two v r q + tally (sends two v r q s.nodes e.actor.0) e.sent
+wave_flow s past e two v r q m =
+    let at : wave two v r q s.nodes e.took.from.0 e.took.to.0 e.took.body ≡ wave two v r q s.nodes e.took.from.0 e.actor.0 e.took.body =
+    ap (λ (n : ℕ). wave two v r q s.nodes e.took.from.0 n e.took.body) m.addressee in
+    omega (
+      arith,
+      at,
+      tally_step (λ (l : Letter). wave two v r q s.nodes l.from.0 l.to.0 l.body) s past e m,
+      sealed_tally (λ (l : Letter). wave two v r q s.nodes l.from.0 l.to.0 l.body) (sends two v r q s.nodes e.actor.0) e.stamp.0 e.actor.0 0 e.sent (λ i o. refl),
+    )
+
+full_row : (a b c d : Bool) (n m : ℕ) → n ≡ m → one_if (a && (b && (c && (d && (n == m))))) ≡ one_if (a && (b && (c && d)))
+full_row a b c d n m eq = grind (arith, nat_tests)
+
+-- a node answers each question
+order_waves : (s : ScriptData) (two : Bool) (v r q from p : ℕ) (st : Node) (body : Body) (out : Out Node) → Order s st body out
+    → wave two v r q s.nodes from p body ≤ tally (sends two v r q s.nodes p) out.sent
+order_waves s two v r q from p st body out (Turns w bd is) = omega (arith, ap (λ (b : Body). wave two v r q s.nodes from p b) bd)
+order_waves s two v r q from p st body out (Shows w bd is) = omega (arith, ap (λ (b : Body). wave two v r q s.nodes from p b) bd)
+order_waves s two v r q from p st body out (Sweeps w bd is) = omega (arith, ap (λ (b : Body). wave two v r q s.nodes from p b) bd)
+order_waves s two v r q from p st body out (TellsDone w k bd is) =
+    let row = numbers_of s.nodes (st.counts.done w.0) in
+    omega (
+      arith,
+      ap (λ (b : Body). wave two v r q s.nodes from p b) bd,
+      ap (λ (o : Out Node). tally (sends two v r q s.nodes p) o.sent) is,
+      full_row (not two) (w.0 == v) (k == r) (p == q) (length row) s.nodes (length_numbers s.nodes (st.counts.done w.0)),
+    )
+order_waves s two v r q from p st body out (TellsAsked w k bd is) =
+    let row = numbers_of s.nodes (st.counts.asked w.0) in
+    omega (
+      arith,
+      ap (λ (b : Body). wave two v r q s.nodes from p b) bd,
+      ap (λ (o : Out Node). tally (sends two v r q s.nodes p) o.sent) is,
+      full_row two (w.0 == v) (k == r) (p == q) (length row) s.nodes (length_numbers s.nodes (st.counts.asked w.0)),
+    )
+
+-- so no other actor than the coordinator takes one away
+waves_stay : (s : ScriptData) (past : List Entry) (e : Entry) (two : Bool) (v r q : ℕ) → MayFollow s past e → e.actor.0 ≢ s.nodes
+    → Next s past e → waves s past two v r q ≤ waves s (e ∷ past) two v r q
+waves_stay s past e two v r q m away (Begins bd at made) =
+    omega (arith, wave_flow s past e two v r q m, ap (λ (b : Body). wave two v r q s.nodes e.took.from.0 e.actor.0 b) bd)
+waves_stay s past e two v r q m away (Hears t w answer bd at lt made) =
+    omega (arith, wave_flow s past e two v r q m, ap (λ (b : Body). wave two v r q s.nodes e.took.from.0 e.actor.0 b) bd)
+waves_stay s past e two v r q m away (Ends w bd at made) =
+    omega (arith, wave_flow s past e two v r q m, ap (λ (b : Body). wave two v r q s.nodes e.took.from.0 e.actor.0 b) bd)
+waves_stay s past e two v r q m away (Coordinates tells at made) = absurd (away at)
+waves_stay s past e two v r q m away (DoesRoot t w effect bd sub at lt new work made) =
+    omega (arith, wave_flow s past e two v r q m, ap (λ (b : Body). wave two v r q s.nodes e.took.from.0 e.actor.0 b) bd)
+waves_stay s past e two v r q m away (DoesSub t k w raises effect bd sub pos from at lt work made) =
+    omega (arith, wave_flow s past e two v r q m, ap (λ (b : Body). wave two v r q s.nodes e.took.from.0 e.actor.0 b) bd)
+waves_stay s past e two v r q m away (Notes t k w values bd sub pos from at lt missed made) =
+    omega (arith, wave_flow s past e two v r q m, ap (λ (b : Body). wave two v r q s.nodes e.took.from.0 e.actor.0 b) bd)
+waves_stay s past e two v r q m away (Obeys p out at lt order made) =
+    let took : wave two v r q s.nodes e.took.from.0 e.actor.0 e.took.body ≡ wave two v r q s.nodes e.took.from.0 p e.took.body =
+    ap (λ (n : ℕ). wave two v r q s.nodes e.took.from.0 n e.took.body) at in
+    let sent : tally (sends two v r q s.nodes e.actor.0) e.sent ≡ tally (sends two v r q s.nodes p) out.sent =
+    ap (λ (os : List Outgoing). tally (sends two v r q s.nodes e.actor.0) os) made.sent
+    ∙ ap (λ (n : ℕ). tally (sends two v r q s.nodes n) out.sent) at in
+    omega (arith, wave_flow s past e two v r q m, took, sent, order_waves s two v r q e.took.from.0 p (node_in s past p) e.took.body out order)
+
+-- A question to all nodes.
+asked_here : (v r n q : ℕ) → n ≡ q → one_if (true && ((v == v) && ((r == r) && (n == q)))) ≡ 1
+asked_here v r n q eq = grind (arith, nat_tests)
+
+asks_by : (two : Bool) (body : Body) (v : Version) (r q m a n : ℕ) → wave two v.0 r q m a n body ≡ one_if (true && ((v.0 == v.0) && ((r == r) && (n == q))))
+    → (q < n) ⊎ (q ≡ n) → (q < n → 1 ≤ tally (sends two v.0 r q m a) (to_nodes n body)) → 1 ≤ tally (sends two v.0 r q m a) (to_nodes (suc n) body)
+asks_by two body v r q m a n here (inl lt) rest =
+    omega (arith, rest lt, tally-append (sends two v.0 r q m a) (to_nodes n body) (record { to = record { 0 = n }; body = body } ∷ []))
+asks_by two body v r q m a n here (inr eq) rest =
+    omega (arith, here, asked_here v.0 r n q (sym eq), tally-append (sends two v.0 r q m a) (to_nodes n body) (record { to = record { 0 = n }; body = body } ∷ []))
+
+asks_done : (v : Version) (r q m a n : ℕ) → q < n → 1 ≤ tally (sends false v.0 r q m a) (to_nodes n (AskDone v r))
+asks_done v r q m a zero lt = absurd (omega (arith, lt))
+asks_done v r q m a (suc n) lt = asks_by false (AskDone v r) v r q m a n refl (below_or_at q n lt) (λ less. asks_done v r q m a n less)
+
+asks_asked : (v : Version) (r q m a n : ℕ) → q < n → 1 ≤ tally (sends true v.0 r q m a) (to_nodes n (AskAsked v r))
+asks_asked v r q m a zero lt = absurd (omega (arith, lt))
+asks_asked v r q m a (suc n) lt = asks_by true (AskAsked v r) v r q m a n refl (below_or_at q n lt) (λ less. asks_asked v r q m a n less)
+
+-- What the coordinator takes and doesn't keep is no answer.
+refused_row : (w v k r f q n len m : ℕ) → m ≡ n → ((w == v) && ((k == r) && (nat_lt f m && (len == m)))) ≡ false → q < n
+    → one_if (true && ((w == v) && ((k == r) && ((f == q) && (len == n))))) ≡ 0
+refused_row w v k r f q n len m same none lt = grind (arith, nat_tests)
+
+far_question : (b c d : Bool) (n q : ℕ) → q < n → one_if (b && (c && (d && (n == q)))) ≡ 0
+far_question b c d n q lt = grind (arith, nat_tests)
+
+and_keep : (a b : Bool) → (a && b) ≡ false → b ≡ true → a ≡ false
+and_keep true b is at = absurd (cc (is, at))
+and_keep false b is at = refl
+
+refused_done : (n : ℕ) (c : Coordinator) (from q : ℕ) (body : Body) → c.current.nodes ≡ n → q < n → Refused body from c
+    → wave false c.current.version.0 c.current.number q n from n body ≡ 0
+refused_done n c from q (DoneRow w k row) same lt refused =
+    refused_row w.0 c.current.version.0 k c.current.number from q n (length row) c.current.nodes same refused lt
+refused_done n c from q (AskDone w k) same lt refused = far_question true (w.0 == c.current.version.0) (k == c.current.number) n q lt
+refused_done n c from q (AskedRow w k row) same lt refused = refl
+refused_done n c from q (AskAsked w k) same lt refused = refl
+refused_done n c from q _ same lt refused = refl
+
+refused_asked : (n : ℕ) (c : Coordinator) (from q : ℕ) (body : Body) → c.current.nodes ≡ n → q < n → Refused body from c
+    → all_in c.current.dones ≡ true → wave true c.current.version.0 c.current.number q n from n body ≡ 0
+refused_asked n c from q (AskedRow w k row) same lt refused full =
+    refused_row w.0 c.current.version.0 k c.current.number from q n (length row) c.current.nodes same
+    (and_keep (is_of from w k row c.current) (all_in c.current.dones) refused full) lt
+refused_asked n c from q (AskAsked w k) same lt refused full = far_question true (w.0 == c.current.version.0) (k == c.current.number) n q lt
+refused_asked n c from q (DoneRow w k row) same lt refused full = refl
+refused_asked n c from q (AskDone w k) same lt refused full = refl
+refused_asked n c from q _ same lt refused full = refl
+
+-- The coordinator's steps: the letters before and after, for every version, round and node.
+abbrev Flows : ScriptData → List Entry → Entry → Out Coordinator → Type 0
+Flows s past e out = (two : Bool) (v r q : ℕ) → waves s (e ∷ past) two v r q + wave two v r q s.nodes e.took.from.0 s.nodes e.took.body
+    ≡ waves s past two v r q + tally (sends two v r q s.nodes s.nodes) out.sent
+
+no_done_wave : (v r q n from : ℕ) (body : Body) → q < n → NoDone body → wave false v r q n from n body ≡ 0
+no_done_wave v r q n from (DoneRow w k row) lt none = absurd none
+no_done_wave v r q n from (AskDone w k) lt none = far_question true (w.0 == v) (k == r) n q lt
+no_done_wave v r q n from (AskAsked w k) lt none = refl
+no_done_wave v r q n from (AskedRow w k row) lt none = refl
+no_done_wave v r q n from _ lt none = refl
+
+heard_starts : (s : ScriptData) (past : List Entry) (e : Entry) (reads : Bool) (k : ℕ) (d : Coordinator) → 1 ≤ s.nodes → d.nodes ≡ s.nodes
+    → NoDone e.took.body → Flows s past e (round_begun reads k d) → Waved s (e ∷ past) (round_begun reads k d).state.current
+heard_starts s past e reads k d some nodes none flow =
+    let r = (round_begun reads k d).state.current in
+    let missing : all_in (replicate d.nodes None) ≡ false = none_in d.nodes (omega (arith, some, nodes)) in
+    record {
+      first = λ q lt. omega (
+        arith,
+        flow false r.version.0 k q,
+        no_done_wave r.version.0 k q s.nodes e.took.from.0 e.took.body lt none,
+        asks_done r.version k q s.nodes s.nodes d.nodes (omega (arith, lt, nodes)),
+      );
+      second = λ full. absurd (cc (full, missing));
+      misses = missing;
+    }
+
+heard_holds : (s : ScriptData) (past : List Entry) (e : Entry) (c d : Coordinator) → c.current.nodes ≡ s.nodes → Waved s past c.current
+    → d.current ≡ c.current → Refused e.took.body e.took.from.0 c → Flows s past e (still d) → Waved s (e ∷ past) d.current
+heard_holds s past e c d nodes was same refused flow =
+    let r = c.current in
+    subst (λ (x : RoundData). Waved s (e ∷ past) x) (sym same) (record {
+      first = λ q lt.
+          omega (arith, was.first q lt, flow false r.version.0 r.number q, refused_done s.nodes c e.took.from.0 q e.took.body nodes lt refused);
+      second = λ full q lt.
+          omega (arith, was.second full q lt, flow true r.version.0 r.number q, refused_asked s.nodes c e.took.from.0 q e.took.body nodes lt refused full);
+      misses = was.misses;
+    })
+
+other_row : (a b c d : Bool) (q from : ℕ) → (from == q) ≡ false → one_if (a && (b && (c && ((from == q) && d)))) ≡ 0
+other_row a b c d q from ne = grind (arith, nat_tests)
+
+-- a row that is kept
+kept_first : (v r q from t t' m : ℕ) (w : Version) (k : ℕ) (row : List ℕ) (ks : NodeRows) (n : ℕ) → from < length ks
+    → (b : Bool) → (from == q) ≡ b → 1 ≤ t + is_kept ks q
+    → t' + wave false v r q n from m (DoneRow w k row) ≡ t + 0 → 1 ≤ t' + is_kept (set ks from (Some row)) q
+kept_first v r q from t t' m w k row ks n lt true is was goes =
+    let here : is_kept (set ks from (Some row)) q ≡ 1 =
+    subst (λ (x : ℕ). is_kept (set ks from (Some row)) x ≡ 1) (eqb-true from q is) (put_there ks from row lt) in
+    omega (arith, here)
+kept_first v r q from t t' m w k row ks n lt false is was goes =
+    omega (arith, was, goes, put_more ks from row q, other_row true (w.0 == v) (k == r) (length row == n) q from is)
+
+kept_second : (v r q from t t' m : ℕ) (w : Version) (k : ℕ) (row : List ℕ) (ks : NodeRows) (n : ℕ) → from < length ks
+    → (b : Bool) → (from == q) ≡ b → 1 ≤ t + is_kept ks q
+    → t' + wave true v r q n from m (AskedRow w k row) ≡ t + 0 → 1 ≤ t' + is_kept (set ks from (Some row)) q
+kept_second v r q from t t' m w k row ks n lt true is was goes =
+    let here : is_kept (set ks from (Some row)) q ≡ 1 =
+    subst (λ (x : ℕ). is_kept (set ks from (Some row)) x ≡ 1) (eqb-true from q is) (put_there ks from row lt) in
+    omega (arith, here)
+kept_second v r q from t t' m w k row ks n lt false is was goes =
+    omega (arith, was, goes, put_more ks from row q, other_row true (w.0 == v) (k == r) (length row == n) q from is)
+
+-- the second wave begins with the last row of the first, or it has begun
+begun : (w : Version) (r q n m t t' kept : ℕ) (new old : Bool) → new ≡ true → q < m → (old ≡ true → 1 ≤ t + kept)
+    → t' ≡ t + tally (sends true w.0 r q n n) (if new && not old then to_nodes m (AskAsked w r) else []) → 1 ≤ t' + kept
+begun w r q n m t t' kept true true is lt was goes = omega (arith, was refl, goes)
+begun w r q n m t t' kept true false is lt was goes = omega (arith, goes, asks_asked w r q n n m lt)
+begun w r q n m t t' kept false old is lt was goes = absurd (cc is)
+
+-- the first wave has no question for requests
+no_first : (w : Version) (r v k q n m : ℕ) (b : Bool) → tally (sends false v k q n n) (if b then to_nodes m (AskAsked w r) else []) ≡ 0
+no_first w r v k q n m true = asks_none m
+  where
+    asks_none : (m : ℕ) → tally (sends false v k q n n) (to_nodes m (AskAsked w r)) ≡ 0
+    asks_none zero = refl
+    asks_none (suc m) =
+        omega (arith, asks_none m, tally-append (sends false v k q n n) (to_nodes m (AskAsked w r)) (record { to = record { 0 = m }; body = AskAsked w r } ∷ []))
+no_first w r v k q n m false = refl
+
+heard_done : (s : ScriptData) (past : List Entry) (e : Entry) (c : Coordinator) (v : Version) (k : ℕ) (row : List ℕ) → c.nodes ≡ s.nodes
+    → e.took.from.0 < length c.current.dones → Waved s past c.current → e.took.body ≡ DoneRow v k row
+    → Flows s past e (keep_done e.took.from.0 row c) → Waved s (e ∷ past) (keep_done e.took.from.0 row c).state.current
+heard_done s past e c v k row nodes from was bd flow =
+    let r = c.current in
+    let f = e.took.from.0 in
+    let out = keep_done f row c in
+    let flow' : (two : Bool) (q : ℕ) → waves s (e ∷ past) two r.version.0 r.number q + wave two r.version.0 r.number q s.nodes f s.nodes (DoneRow v k row)
+    ≡ waves s past two r.version.0 r.number q + tally (sends two r.version.0 r.number q s.nodes s.nodes) out.sent =
+    λ two q. subst (λ (b : Body). waves s (e ∷ past) two r.version.0 r.number q + wave two r.version.0 r.number q s.nodes f s.nodes b
+    ≡ waves s past two r.version.0 r.number q + tally (sends two r.version.0 r.number q s.nodes s.nodes) out.sent) bd (flow two r.version.0 r.number q) in
+    let new = all_in (set r.dones f (Some row)) in
+    record {
+      first = λ q lt.
+          let none = no_first r.version r.number r.version.0 r.number q s.nodes c.nodes (new && not (all_in r.dones)) in
+          kept_first r.version.0 r.number q f (waves s past false r.version.0 r.number q) (waves s (e ∷ past) false r.version.0 r.number q)
+          s.nodes v k row r.dones s.nodes from (f == q) refl (was.first q lt) (omega (arith, flow' false q, none));
+      second = λ full q lt.
+          begun r.version r.number q s.nodes c.nodes (waves s past true r.version.0 r.number q) (waves s (e ∷ past) true r.version.0 r.number q)
+          (is_kept r.askeds q) new (all_in r.dones) full (omega (arith, lt, nodes)) (λ old. was.second old q lt) (omega (arith, flow' true q));
+      misses = was.misses;
+    }
+
+-- a verdict that is none, with all completions there, misses a request
+none_misses : (a b : Bool) (x : Bool) → a ≡ true → (if a && b then Some x else None) ≡ None → b ≡ false
+none_misses true true x full is = absurd (cc is)
+none_misses true false x full is = refl
+none_misses false b x full is = absurd (cc full)
+
+heard_asked : (s : ScriptData) (past : List Entry) (e : Entry) (c : Coordinator) (v : Version) (k : ℕ) (row : List ℕ)
+    → e.took.from.0 < length c.current.askeds → Waved s past c.current → e.took.body ≡ AskedRow v k row → all_in c.current.dones ≡ true
+    → all_in (set c.current.askeds e.took.from.0 (Some row)) ≡ false
+    → Flows s past e (still (asked_kept e.took.from.0 row c)) → Waved s (e ∷ past) (asked_kept e.took.from.0 row c).current
+heard_asked s past e c v k row from was bd full more flow =
+    let r = c.current in
+    let f = e.took.from.0 in
+    let flow' : (two : Bool) (q : ℕ) → waves s (e ∷ past) two r.version.0 r.number q + wave two r.version.0 r.number q s.nodes f s.nodes (AskedRow v k row)
+    ≡ waves s past two r.version.0 r.number q + 0 =
+    λ two q. subst (λ (b : Body). waves s (e ∷ past) two r.version.0 r.number q + wave two r.version.0 r.number q s.nodes f s.nodes b
+    ≡ waves s past two r.version.0 r.number q + 0) bd (flow two r.version.0 r.number q) in
+    record {
+      first = λ q lt. omega (arith, was.first q lt, flow' false q);
+      second = λ all q lt.
+          kept_second r.version.0 r.number q f (waves s past true r.version.0 r.number q) (waves s (e ∷ past) true r.version.0 r.number q)
+          s.nodes v k row r.askeds s.nodes from (f == q) refl (was.second full q lt) (flow' true q);
+      misses = more;
+    }
+
+-- a row of the round is of a node
+pub row_from : (from : ℕ) (v : Version) (k : ℕ) (row : List ℕ) (r : RoundData) → is_of from v k row r ≡ true → from < r.nodes
+row_from from v k row r here = by (v.0 == r.version.0) (k == r.number) (length row == r.nodes) from r.nodes here
+  where
+    by : (a b d : Bool) (x n : ℕ) → (a && (b && (nat_lt x n && d))) ≡ true → x < n
+    by a b d x n is = grind (arith, nat_tests)
+
+heard_out : (s : ScriptData) (past : List Entry) (e : Entry) (c : Coordinator) (out : Out Coordinator) → 1 ≤ s.nodes → c.nodes ≡ s.nodes
+    → ((reads : Bool) → c.phase ≡ Counting reads → IsCurrent reads c) → Heard s past c → Flows s past e out
+    → Course c e.took.from.0 e.took.body out → Heard s (e ∷ past) out.state
+heard_out s past e c out some nodes now was flow (Leaves away) = λ reads at. absurd (outside_counting out.state.phase reads away at)
+heard_out s past e c out some nodes now was flow (Starts reads d round same none is) =
+    rw is (λ x at. heard_starts s past e reads (c.round + 1) d some (same ∙ nodes) none (subst (λ (o : Out Coordinator). Flows s past e o) is flow))
+heard_out s past e c out some nodes now was flow (Holds reads d at alike un refused is) =
+    rw is (λ x here. heard_holds s past e c d ((now reads at).nodes ∙ nodes) (was reads at) alike.current refused (subst (λ (o : Out Coordinator). Flows s past e o) is flow))
+heard_out s past e c out some nodes now was flow (Lasts reads d at alike none is) =
+    rw is (λ x here. let bad = sym at ∙ (sym alike.phase ∙ here) in absurd (cc bad))
+heard_out s past e c out some nodes now was flow (TakesDone reads v k row at bd here is) =
+    let cur = now reads at in
+    let from : e.took.from.0 < length c.current.dones =
+    omega (arith, row_from e.took.from.0 v k row c.current here, cur.nodes, cur.dones) in
+    rw is (λ x there. heard_done s past e c v k row nodes from (was reads at) bd (subst (λ (o : Out Coordinator). Flows s past e o) is flow))
+heard_out s past e c out some nodes now was flow (TakesMore reads v k row takes verdict is) =
+    let cur = now reads takes.phase in
+    let from : e.took.from.0 < length c.current.askeds =
+    omega (arith, row_from e.took.from.0 v k row c.current takes.here, cur.nodes, cur.askeds) in
+    let more = none_misses (all_in c.current.dones) (all_in (set c.current.askeds e.took.from.0 (Some row))) _ takes.after_dones verdict in
+    rw is (λ x there. heard_asked s past e c v k row from (was reads takes.phase) takes.body_is takes.after_dones more (subst (λ (o : Out Coordinator). Flows s past e o) is flow))
+heard_out s past e c out some nodes now was flow (Denies reads v k row takes verdict clear is) = rw is (λ x at. absurd (cc at))
+
+heard_same : (s : ScriptData) (past : List Entry) (e : Entry) (c : Coordinator) → Heard s past c
+    → ((two : Bool) (v r q : ℕ) → waves s past two v r q ≤ waves s (e ∷ past) two v r q) → Heard s (e ∷ past) c
+heard_same s past e c was more = λ reads at.
+    let now = was reads at in
+    let r = c.current in
+    record {
+      first = λ q lt. omega (arith, now.first q lt, more false r.version.0 r.number q);
+      second = λ full q lt. omega (arith, now.second full q lt, more true r.version.0 r.number q);
+      misses = now.misses;
+    }
+
+heard_away : (s : ScriptData) (past : List Entry) (e : Entry) → MayFollow s past e → e.actor.0 ≢ s.nodes → Next s past e
+    → Heard s past (coordinator_in s past) → Heard s (e ∷ past) (coordinator_in s (e ∷ past))
+heard_away s past e m away next was =
+    subst (λ (c : Coordinator). Heard s (e ∷ past) c) (sym (coordinator_kept s past e away))
+    (heard_same s past e (coordinator_in s past) was (λ two v r q. waves_stay s past e two v r q m away next))
+
+heard_told : (s : ScriptData) (past : List Entry) (e : Entry) → IsLawful s → IsStepRun s (e ∷ past) → AllTimely s past → e.actor.0 ≡ s.nodes
+    → MadeByCoordinator s past e → Heard s past (coordinator_in s past) → Heard s (e ∷ past) (coordinator_in s (e ∷ past))
+heard_told s past e laws run timely at made was =
+    let c = coordinator_in s past in
+    let out = coordinator_row c e.took.from.0 e.took.body in
+    let flow : Flows s past e out = λ two v r q.
+    let took : wave two v r q s.nodes e.took.from.0 e.actor.0 e.took.body ≡ wave two v r q s.nodes e.took.from.0 s.nodes e.took.body =
+    ap (λ (n : ℕ). wave two v r q s.nodes e.took.from.0 n e.took.body) at in
+    let sent : tally (sends two v r q s.nodes e.actor.0) e.sent ≡ tally (sends two v r q s.nodes s.nodes) out.sent =
+    ap (λ (os : List Outgoing). tally (sends two v r q s.nodes e.actor.0) os) made.sent
+    ∙ ap (λ (n : ℕ). tally (sends two v r q s.nodes n) out.sent) at in
+    omega (arith, wave_flow s past e two v r q run.0, took, sent) in
+    subst (λ (d : Coordinator). Heard s (e ∷ past) d) (sym made.state)
+    (heard_out s past e c out laws.sound.valid.some_nodes (coordinator_nodes s past) (current s past laws run.1 timely) was flow
+    (course c e.took.from.0 e.took.body out (outcome_in s past e laws run.1 timely)))
+
+heard_next : (s : ScriptData) (past : List Entry) (e : Entry) → IsLawful s → IsStepRun s (e ∷ past) → AllTimely s past → Next s past e
+    → Heard s past (coordinator_in s past) → Heard s (e ∷ past) (coordinator_in s (e ∷ past))
+heard_next s past e laws run timely (Coordinates tells at made) was = heard_told s past e laws run timely at made was
+heard_next s past e laws run timely (Begins bd at made) was = heard_away s past e run.0 (omega (arith, at)) (Begins bd at made) was
+heard_next s past e laws run timely (Hears t v answer bd at lt made) was =
+    heard_away s past e run.0 (omega (arith, at)) (Hears t v answer bd at lt made) was
+heard_next s past e laws run timely (Ends v bd at made) was = heard_away s past e run.0 (omega (arith, at)) (Ends v bd at made) was
+heard_next s past e laws run timely (DoesRoot t v effect bd sub at lt new work made) was =
+    heard_away s past e run.0 (omega (arith, at, lt)) (DoesRoot t v effect bd sub at lt new work made) was
+heard_next s past e laws run timely (DoesSub t k v raises effect bd sub pos from at lt work made) was =
+    heard_away s past e run.0 (omega (arith, at, lt)) (DoesSub t k v raises effect bd sub pos from at lt work made) was
+heard_next s past e laws run timely (Notes t k v values bd sub pos from at lt missed made) was =
+    heard_away s past e run.0 (omega (arith, at, lt)) (Notes t k v values bd sub pos from at lt missed made) was
+heard_next s past e laws run timely (Obeys p out at lt order made) was =
+    heard_away s past e run.0 (omega (arith, at, lt)) (Obeys p out at lt order made) was
+
+-- in every run both waves are heard
+pub heard : (s : ScriptData) (past : List Entry) (laws : IsLawful s) (run : IsStepRun s past) (timely : AllTimely s past)
+    → Heard s past (coordinator_in s past)
+heard s [] laws run timely = λ reads at. absurd (cc at)
+heard s (e ∷ past) laws run timely =
+    heard_next s past e laws run timely.1 (laws.next past e run timely) (heard s past laws run.1 timely.1)

@@ -1,0 +1,29 @@
+// The end of every run: no run stalls, a run to its end has so many entries, and no run has more than so many.
+ghost use Rattle.std.specs.Prelude.{◌≡◌, ◌≤◌, ◌+◌, ◌*◌, List, [], length, true, reverse};
+ghost use Rattle.board_model.specs.Right.{HasFinished};
+ghost use Rattle.letter_types.specs.declared.entries.Entry.{Entry};
+ghost use Rattle.tree_laws.specs.Entries.{entries_of, rounds_in};
+ghost use Rattle.tx_trees.specs.Counts.{advances_in};
+ghost use Rattle.tx_trees.specs.ScriptData.{ScriptData};
+ghost use Rattle.tx_trees.specs.Valid.{IsValid};
+ghost use Rattle.world_model.specs.Runs.{client_in, waiting, IsStepRun};
+ghost use Rattle.world_model.specs.Tables.{IsRunnable};
+
+/// No run stalls: where no letter is under way any more, every tree is answered, every advancement has ended, and the
+/// client has finished.
+pub fn no_run_stalls()
+    ensures { (s : ScriptData) (past : List Entry) → IsValid s → IsRunnable s → IsStepRun s past → waiting s past ≡ []
+        → ((client_in s past).finished ≡ true) × HasFinished (reverse past) }
+{}
+
+/// A run in which no letter is under way any more has as many entries as its trees, advancements and rounds take.
+pub fn entries_are_counted()
+    ensures { (s : ScriptData) (past : List Entry) → IsValid s → IsRunnable s → IsStepRun s past → waiting s past ≡ []
+        → length past ≡ entries_of s (rounds_in s (reverse past)) }
+{}
+
+/// A run has at most as many entries as two rounds for each advancement and one for each tree would bring it to.
+pub fn entries_are_few()
+    ensures { (s : ScriptData) (past : List Entry) → IsValid s → IsRunnable s → IsStepRun s past
+        → length past ≤ entries_of s (2 * advances_in s.rows + length s.trees) }
+{}

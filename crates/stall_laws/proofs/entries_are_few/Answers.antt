@@ -1,5 +1,0 @@
-use Rattle.stall_laws.proofs.Bounds.{entries_few}
-use Rattle.stall_laws.proofs.entries_are_few.Goals as goal
-
-pub returns : goal.returns
-returns c = λ s past valid runnable run. entries_few s past (record { valid = valid; runnable = runnable }) run
