@@ -1,10 +1,15 @@
 // Whole runs of scripts whose versions advance, each letter taken as a picker chooses.
+ghost use Rattle.std.specs.Prelude.{IfOk};
+ghost use Rattle.world_model.specs.Tables.{IsRunnable};
+
 use crate::common::{held_at, may_run, script_of, take};
 use letter_types::LetterId;
 use report_text::report;
 use sim_runner::{Hold, Newest, Picks, Starve, simulate_by};
+use std::alloc::Global;
 use std::test::Fail;
 use tv_base::{ActorNo, Stamp};
+use tx_trees::Script;
 use world_core::World;
 
 const WHOLE_ADVANCEMENT: &[u8] =
@@ -33,13 +38,8 @@ fn a_late_older_step_writes_the_newer_version_too(rt: HostRuntime) -> Result<(),
     let mut world = World::start(rt.alloc(), &script)?;
     let mut picks = Picks::new(script.picks(), None);
     take(&script, &mut world, &mut picks, 6)?;
-    for (place, want) in [(0, (0, 0)), (1, (1, 7)), (2, (2, 10))] {
-        assert_eq!(rt;
-            held_at(&script, &world, 1, 1, place),
-            Some(want),
-            "at {place}"
-        );
-    }
+    let want = [Some((0, 0)), Some((1, 7)), Some((2, 10))];
+    assert_eq!(rt; held_at(&script, &world, 1, 1), want);
     Ok(())
 }
 
@@ -101,15 +101,23 @@ node 14 update 101 read 100
 node 15 update 101 read 100
 ";
 
-#[test]
-fn a_hundred_advancements_of_sixteen_nodes(rt: HostRuntime) -> Result<(), Fail> {
-    let mut script = script_of(rt.alloc(), b"nodes,16\n")?;
+/// A script of sixteen nodes with a hundred advancements, and nothing else.
+fn hundred_advancements(alloc: Global) -> Result<Script, Fail>
+    ensures { IfOk result IsRunnable }
+{
+    let mut script = script_of(alloc, b"nodes,16\n")?;
     for _ in 0..100 {
         script.add_advance()?;
     }
     if !may_run(&script) {
         return Err("a script that may not be run".into());
     }
+    Ok(script)
+}
+
+#[test]
+fn a_hundred_advancements_of_sixteen_nodes(rt: HostRuntime) -> Result<(), Fail> {
+    let script = hundred_advancements(rt.alloc())?;
     let history = simulate_by(rt.alloc(), &script, &mut Newest)?;
     assert_eq!(rt; history.items().len(), 22_601);
     let text = report(rt.alloc(), &script, &history)?;

@@ -70,19 +70,29 @@ pub(crate) fn node_at<'a>(script: &Script, world: &'a World, node: u8) -> Option
 }
 
 /// The version and the value at a place of an item of a node, where it is a sum.
+fn sum_at(state: &NodeState, item: u32, place: usize) -> Option<(u64, Amount)> {
+    let entry = state.items().item(ItemNo(item))?.held().get(place)?;
+    match &entry.1 {
+        Value::Sum(sum) => Some((entry.0.0, sum.0)),
+        _ => None,
+    }
+}
+
+/// The first three versions of an item of a node, each with its value.
 pub(crate) fn held_at(
     script: &Script,
     world: &World,
     node: u8,
     item: u32,
-    place: usize,
-) -> Option<(u64, Amount)>
+) -> [Option<(u64, Amount)>; 3]
     requires { IsWorldOf script.now world.now }
 {
-    let items = node_at(script, world, node)?.items();
-    let entry = items.item(ItemNo(item))?.held().get(place)?;
-    match &entry.1 {
-        Value::Sum(sum) => Some((entry.0.0, sum.0)),
-        _ => None,
-    }
+    let Some(state) = node_at(script, world, node) else {
+        return [None; 3];
+    };
+    [
+        sum_at(state, item, 0),
+        sum_at(state, item, 1),
+        sum_at(state, item, 2),
+    ]
 }

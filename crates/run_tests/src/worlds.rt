@@ -37,6 +37,18 @@ fn pair(script: &Script, world: &World, from: u8, to: u8) -> Option<(u64, u64)>
     Some((asked, done))
 }
 
+/// The pairs of both nodes: from node 0 to itself, from 0 to 1, from 1 to 0, and from 1 to itself.
+fn pairs(script: &Script, world: &World) -> [Option<(u64, u64)>; 4]
+    requires { IsWorldOf script.now world.now }
+{
+    [
+        pair(script, world, 0, 0),
+        pair(script, world, 0, 1),
+        pair(script, world, 1, 0),
+        pair(script, world, 1, 1),
+    ]
+}
+
 /// Whether the client has finished.
 fn has_finished(script: &Script, world: &World) -> bool
     requires { IsWorldOf script.now world.now }
@@ -54,35 +66,19 @@ fn a_tree_is_run_to_its_end(rt: HostRuntime) -> Result<(), Fail> {
     let mut world = World::start(rt.alloc(), &script)?;
     let mut oldest = Picks::new(&[], None);
     take(&script, &mut world, &mut oldest, 2)?;
-    assert_eq!(rt; pair(&script, &world, 0, 0), Some((1, 1)));
-    assert_eq!(rt; pair(&script, &world, 0, 1), Some((1, 0)));
-    assert_eq!(rt; pair(&script, &world, 1, 0), Some((0, 0)));
+    let want = [Some((1, 1)), Some((1, 0)), Some((0, 0)), Some((0, 0))];
+    assert_eq!(rt; pairs(&script, &world), want);
     take(&script, &mut world, &mut oldest, 2)?;
-    for (from, to, count) in [(0, 0, 1), (0, 1, 1), (1, 0, 1), (1, 1, 0)] {
-        assert_eq!(rt;
-            pair(&script, &world, from, to),
-            Some((count, count)),
-            "from {from} to {to}"
-        );
-    }
+    let want = [Some((1, 1)), Some((1, 1)), Some((1, 1)), Some((0, 0))];
+    assert_eq!(rt; pairs(&script, &world), want);
     assert!(rt; !has_finished(&script, &world));
     take(&script, &mut world, &mut oldest, 2)?;
     assert!(rt; has_finished(&script, &world));
     assert_eq!(rt; world.waiting(), 0);
-    for (node, item, place, want) in [
-        (0, 0, 0, Some((0, 10))),
-        (0, 0, 1, Some((1, 15))),
-        (0, 0, 2, None),
-        (1, 1, 0, Some((0, 0))),
-        (1, 1, 1, Some((1, 7))),
-        (1, 1, 2, None),
-    ] {
-        assert_eq!(rt;
-            held_at(&script, &world, node, item, place),
-            want,
-            "item {item} at {place}"
-        );
-    }
+    let want = [Some((0, 10)), Some((1, 15)), None];
+    assert_eq!(rt; held_at(&script, &world, 0, 0), want);
+    let want = [Some((0, 0)), Some((1, 7)), None];
+    assert_eq!(rt; held_at(&script, &world, 1, 1), want);
     Ok(())
 }
 
@@ -94,7 +90,8 @@ fn go_alone_is_taken_where_there_is_no_tree(rt: HostRuntime) -> Result<(), Fail>
     take(&script, &mut world, &mut Picks::new(&[], None), 2)?;
     assert_eq!(rt; world.waiting(), 0);
     assert!(rt; has_finished(&script, &world));
-    assert_eq!(rt; held_at(&script, &world, 0, 0, 0), Some((0, 10)));
+    let want = [Some((0, 10)), None, None];
+    assert_eq!(rt; held_at(&script, &world, 0, 0), want);
     assert_eq!(rt; world.into_history().items().len(), 1);
     Ok(())
 }
