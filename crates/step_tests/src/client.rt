@@ -45,12 +45,17 @@ fn root_at(step: &Step, place: usize) -> Option<(ActorNo, TreeNo)> {
     }
 }
 
+// What the client does at Go.
+fn first_step(alloc: Global, script: &Script) -> Result<Step, NoMemory> {
+    let mut client = Client::new(alloc, script)?;
+    client.on(alloc, &go(), script)
+}
+
 #[test]
 fn at_go_trees_go_to_their_homes(rt: HostRuntime) -> Result<(), Fail> {
     let alloc = rt.alloc();
     let script = script_of(alloc, TWO_TREES)?;
-    let mut client = Client::new(alloc, &script)?;
-    let step = client.on(alloc, &go(), &script)?;
+    let step = first_step(alloc, &script)?;
     assert_eq!(rt; root_at(&step, 0), Some((ActorNo(1), TreeNo(0))));
     assert_eq!(rt; root_at(&step, 1), Some((ActorNo(0), TreeNo(1))));
     assert_eq!(rt; step.given.sent.items().len(), 2);
@@ -59,12 +64,12 @@ fn at_go_trees_go_to_their_homes(rt: HostRuntime) -> Result<(), Fail> {
 }
 
 // What the client does at a letter.
-#[derive(Clone, Copy, Debug, PartialEq, Eq)]
+#[derive(Clone, Copy, Debug, PartialEq)]
 enum Seen {
     Nothing,
     Nudge,
     NudgeAndFinished,
-    Root(ActorNo, TreeNo),
+    SecondRoot,
     Other,
 }
 
@@ -73,7 +78,7 @@ fn seen_in(step: &Step) -> Seen {
     match step.given.sent.items() {
         [] if acts.is_empty() => Seen::Nothing,
         [only] => match (&only.body, acts) {
-            (Body::Root { tree }, []) => Seen::Root(only.to, *tree),
+            (Body::Root { tree: TreeNo(1) }, []) if only.to == ActorNo(0) => Seen::SecondRoot,
             (Body::Nudge, []) if only.to == ActorNo(2) => Seen::Nudge,
             (Body::Nudge, [Act::Finished]) if only.to == ActorNo(2) => Seen::NudgeAndFinished,
             _ => Seen::Other,
@@ -87,12 +92,12 @@ fn hear(
     alloc: Global,
     script: &Script,
     client: &mut Client,
-    letter: &Letter,
+    letter: Letter,
 ) -> Result<Seen, NoMemory>
     requires { IsKeptOf script.now client.old }
     ensures { OnOk result (IsKeptOf script.now client.new) }
 {
-    let step = client.on(alloc, letter, script)?;
+    let step = client.on(alloc, &letter, script)?;
     Ok(seen_in(&step))
 }
 
@@ -101,22 +106,22 @@ fn the_last_answer_finishes_once(rt: HostRuntime) -> Result<(), Fail> {
     let alloc = rt.alloc();
     let script = script_of(alloc, TWO_TREES)?;
     let mut client = Client::new(alloc, &script)?;
-    hear(alloc, &script, &mut client, &go())?;
+    hear(alloc, &script, &mut client, go())?;
     assert_eq!(rt;
-        hear(alloc, &script, &mut client, &reply(alloc, 1))?,
+        hear(alloc, &script, &mut client, reply(alloc, 1))?,
         Seen::Nudge
     );
     assert_eq!(rt;
-        hear(alloc, &script, &mut client, &reply(alloc, 0))?,
+        hear(alloc, &script, &mut client, reply(alloc, 0))?,
         Seen::NudgeAndFinished
     );
     assert!(rt; client.finished());
     assert_eq!(rt;
-        hear(alloc, &script, &mut client, &reply(alloc, 0))?,
+        hear(alloc, &script, &mut client, reply(alloc, 0))?,
         Seen::Nudge
     );
     assert_eq!(rt;
-        hear(alloc, &script, &mut client, &reply(alloc, 2))?,
+        hear(alloc, &script, &mut client, reply(alloc, 2))?,
         Seen::Nothing
     );
     Ok(())
@@ -127,20 +132,20 @@ fn a_settle_row_waits_for_answers_and_ends(rt: HostRuntime) -> Result<(), Fail> 
     let alloc = rt.alloc();
     let script = script_of(alloc, SETTLED_TWICE)?;
     let mut client = Client::new(alloc, &script)?;
-    hear(alloc, &script, &mut client, &go())?;
+    hear(alloc, &script, &mut client, go())?;
     assert_eq!(rt; client.next(), 2);
     assert_eq!(rt;
-        hear(alloc, &script, &mut client, &reply(alloc, 0))?,
+        hear(alloc, &script, &mut client, reply(alloc, 0))?,
         Seen::Nudge
     );
     assert_eq!(rt; client.next(), 2);
     assert_eq!(rt;
-        hear(alloc, &script, &mut client, &advanced())?,
-        Seen::Root(ActorNo(0), TreeNo(1))
+        hear(alloc, &script, &mut client, advanced())?,
+        Seen::SecondRoot
     );
     assert_eq!(rt; client.next(), 4);
     assert_eq!(rt;
-        hear(alloc, &script, &mut client, &reply(alloc, 1))?,
+        hear(alloc, &script, &mut client, reply(alloc, 1))?,
         Seen::NudgeAndFinished
     );
     assert_eq!(rt; client.next(), 5);
@@ -152,17 +157,17 @@ fn a_settle_row_holds_back_the_rows_behind_it(rt: HostRuntime) -> Result<(), Fai
     let alloc = rt.alloc();
     let script = script_of(alloc, SETTLED_TWICE)?;
     let mut client = Client::new(alloc, &script)?;
-    hear(alloc, &script, &mut client, &go())?;
+    hear(alloc, &script, &mut client, go())?;
     assert_eq!(rt;
-        hear(alloc, &script, &mut client, &advanced())?,
+        hear(alloc, &script, &mut client, advanced())?,
         Seen::Nothing
     );
     assert_eq!(rt;
-        hear(alloc, &script, &mut client, &reply(alloc, 1))?,
+        hear(alloc, &script, &mut client, reply(alloc, 1))?,
         Seen::Nudge
     );
     assert_eq!(rt; client.next(), 2);
-    hear(alloc, &script, &mut client, &reply(alloc, 0))?;
+    hear(alloc, &script, &mut client, reply(alloc, 0))?;
     assert_eq!(rt; client.next(), 5);
     assert!(rt; client.finished());
     Ok(())

@@ -4,7 +4,7 @@ ghost use Rattle.tree_step.specs.Node.{IsReady};
 use crate::builders::{letter, script_of};
 use commute_ops::{SumValue, Value, Values};
 use item_versions::ItemTable;
-use letter_types::{Answer, Body, Letter, Notice, Outgoing, Step};
+use letter_types::{Answer, Body, Letter, Notice, Step};
 use node_step::step_node;
 use node_versions::Turns;
 use pair_counters::Counters;
@@ -72,28 +72,65 @@ fn take(
     Ok((node, step))
 }
 
-// The same over its parts: of an update, or of a read.
-fn take_apart(
-    alloc: Global,
-    script: &Script,
-    updates: bool,
-    letter: &Letter,
-) -> Result<(NodeParts, Step), Fail> {
+// What is seen of an item's sum in a version, or 0.
+fn sum(node: &NodeParts, item: u32, version: u64) -> i128 {
+    match node.items.item(ItemNo(item)) {
+        Some(found) => match found.seen(Version(version)) {
+            Value::Sum(sum) => sum.0,
+            _ => 0,
+        },
+        None => 0,
+    }
+}
+
+// What is seen of a node with one item, and of its step.
+#[derive(Clone, Copy)]
+struct Seen {
+    turns: Turns,
+    // The item's numbers in versions 0, 1 and 2.
+    sums: (i128, i128, i128),
+    sent: usize,
+    acts: usize,
+}
+
+fn seen_in(node: &NodeParts, item: u32, step: &Step) -> Seen {
+    Seen {
+        turns: node.turns,
+        sums: (sum(node, item, 0), sum(node, item, 1), sum(node, item, 2)),
+        sent: step.given.sent.items().len(),
+        acts: step.given.acts.items().len(),
+    }
+}
+
+// What is seen after a letter.
+fn after(alloc: Global, script: &Script, letter: &Letter) -> Result<Seen, Fail> {
+    let (node, step) = take(alloc, script, 0, letter)?;
+    Ok(seen_in(&node, letter.to.0 as u32, &step))
+}
+
+// The same where an update is made over a node's parts.
+fn after_update(alloc: Global, script: &Script, letter: &Letter) -> Result<Seen, Fail> {
     let mut node = node_for(alloc, script, letter, 0)?;
     if !is_due(&node, letter, script) {
         return Err("not due".into());
     }
-    if updates {
-        let step = run_update(
-            alloc,
-            &mut node.turns,
-            &mut node.items,
-            &mut node.counters,
-            &mut node.homes,
-            letter,
-            script,
-        )?;
-        return Ok((node, step));
+    let step = run_update(
+        alloc,
+        &mut node.turns,
+        &mut node.items,
+        &mut node.counters,
+        &mut node.homes,
+        letter,
+        script,
+    )?;
+    Ok(seen_in(&node, letter.to.0 as u32, &step))
+}
+
+// The same where a read is made over them.
+fn after_read(alloc: Global, script: &Script, letter: &Letter) -> Result<Seen, Fail> {
+    let mut node = node_for(alloc, script, letter, 0)?;
+    if !is_due(&node, letter, script) {
+        return Err("not due".into());
     }
     let step = run_read(
         alloc,
@@ -104,31 +141,27 @@ fn take_apart(
         letter,
         script,
     )?;
-    Ok((node, step))
+    Ok(seen_in(&node, letter.to.0 as u32, &step))
 }
 
-// What is seen of an item's sum, or 0.
-fn seen(node: &NodeParts, item: u32, version: u64) -> i128 {
-    match node.items.item(ItemNo(item)) {
-        Some(found) => match found.seen(Version(version)) {
-            Value::Sum(sum) => sum.0,
-            _ => 0,
-        },
-        None => 0,
+// The completions of a version, from node 0 and from node 1.
+fn counted(node: &NodeParts, version: u64) -> (u64, u64) {
+    let version = Version(version);
+    if node.counters.nodes() < 2 {
+        return (0, 0);
     }
+    let first = node.counters.done_at(version, NodeNo(0));
+    (first, node.counters.done_at(version, NodeNo(1)))
 }
 
-// The values that a letter brings.
-fn values_in(outgoing: &Outgoing) -> Option<&Values> {
-    match &outgoing.body {
+// To whom the first letter goes, and how many values it brings, if it is a reply.
+fn replied(step: &Step) -> Option<(ActorNo, usize)> {
+    let sent = step.given.sent.items().first()?;
+    match &sent.body {
         Body::Reply {
             answer: Answer::Whole(values),
             ..
-        } => Some(values),
-        Body::Done {
-            notice: Notice::Did(values),
-            ..
-        } => Some(values),
+        } => Some((sent.to, values.items().len())),
         _ => None,
     }
 }
@@ -138,34 +171,47 @@ fn a_root_is_done(rt: HostRuntime) -> Result<(), Fail> {
     let alloc = rt.alloc();
     let script = script_of(alloc, TWO_TREES)?;
     let root = letter(3, 0, Body::Root { tree: TreeNo(0) });
-    let (node, step) = take(alloc, &script, 0, &root)?;
-    assert_eq!(rt; (seen(&node, 0, 0), seen(&node, 0, 1)), (10, 15));
+    let whole = after(alloc, &script, &root)?;
+    assert_eq!(rt; whole.sums, (10, 15, 15));
+    assert_eq!(rt; (whole.sent, whole.acts), (1, 2));
+    let parts = after_update(alloc, &script, &root)?;
+    assert_eq!(rt; parts.sums, (10, 15, 15));
+    assert_eq!(rt; (parts.sent, parts.acts), (1, 2));
+    Ok(())
+}
+
+#[test]
+fn a_root_waits_for_its_child(rt: HostRuntime) -> Result<(), Fail> {
+    let alloc = rt.alloc();
+    let script = script_of(alloc, TWO_TREES)?;
+    let root = letter(3, 0, Body::Root { tree: TreeNo(0) });
+    let (node, _) = take(alloc, &script, 0, &root)?;
     assert!(rt; node.homes.misses(TreeNo(0), SubNo(1)));
     assert!(rt; !node.homes.misses(TreeNo(0), SubNo(0)));
-    assert_eq!(rt; step.given.sent.items().len(), 1);
-    assert_eq!(rt; step.given.acts.items().len(), 2);
-    let (node, step) = take_apart(alloc, &script, true, &root)?;
-    assert_eq!(rt; (seen(&node, 0, 0), seen(&node, 0, 1)), (10, 15));
-    assert_eq!(rt; step.given.sent.items().len(), 1);
     Ok(())
+}
+
+// The child of tree 0 in this version.
+fn child(version: u64) -> Letter {
+    let body = Body::Sub {
+        tree: TreeNo(0),
+        sub: SubNo(1),
+        version: Version(version),
+    };
+    letter(0, 1, body)
 }
 
 #[test]
 fn another_subtransaction_raises_the_update_version(rt: HostRuntime) -> Result<(), Fail> {
     let alloc = rt.alloc();
     let script = script_of(alloc, TWO_TREES)?;
-    let sub = |version| Body::Sub {
-        tree: TreeNo(0),
-        sub: SubNo(1),
-        version: Version(version),
-    };
-    let (node, step) = take(alloc, &script, 0, &letter(0, 1, sub(2)))?;
-    assert_eq!(rt; node.turns.update, Version(2));
-    assert_eq!(rt; (seen(&node, 1, 1), seen(&node, 1, 2)), (10, 17));
-    assert_eq!(rt; step.given.acts.items().len(), 2);
-    let (node, step) = take(alloc, &script, 0, &letter(0, 1, sub(3)))?;
-    assert_eq!(rt; node.turns.update, Version(1));
-    assert!(rt; step.given.sent.items().is_empty());
+    let near = after(alloc, &script, &child(2))?;
+    assert_eq!(rt; near.turns.update, Version(2));
+    assert_eq!(rt; near.sums, (10, 10, 17));
+    assert_eq!(rt; near.acts, 2);
+    let far = after(alloc, &script, &child(3))?;
+    assert_eq!(rt; far.turns.update, Version(1));
+    assert_eq!(rt; far.sent, 0);
     Ok(())
 }
 
@@ -174,16 +220,11 @@ fn a_read_tree_is_answered_at_once(rt: HostRuntime) -> Result<(), Fail> {
     let alloc = rt.alloc();
     let script = script_of(alloc, TWO_TREES)?;
     let root = letter(3, 0, Body::Root { tree: TreeNo(1) });
+    let parts = after_read(alloc, &script, &root)?;
+    assert_eq!(rt; parts.sent, 1);
     let (node, step) = take(alloc, &script, 0, &root)?;
     assert!(rt; !node.homes.has(TreeNo(1)));
-    let reply = step.given.sent.items().first().ok_or("a reply")?;
-    assert_eq!(rt; reply.to, ActorNo(3));
-    assert_eq!(rt;
-        values_in(reply).map(|values| values.items().len()),
-        Some(1)
-    );
-    let (_, step) = take_apart(alloc, &script, false, &root)?;
-    assert_eq!(rt; step.given.sent.items().len(), 1);
+    assert_eq!(rt; replied(&step), Some((ActorNo(3), 1)));
     Ok(())
 }
 
@@ -200,17 +241,15 @@ fn a_notice_is_counted(rt: HostRuntime) -> Result<(), Fail> {
     let (node, step) = take(alloc, &script, 0, &letter(1, 0, done))?;
     assert!(rt; step.given.sent.items().is_empty());
     assert!(rt; !node.homes.has(TreeNo(0)));
-    assert!(rt; matches!(node.counters.done_row(alloc, Version(0))?.items(), [0, 1]));
-    assert!(rt; matches!(node.counters.done_row(alloc, Version(1))?.items(), [0, 1]));
+    assert_eq!(rt; counted(&node, 0), (0, 1));
+    assert_eq!(rt; counted(&node, 1), (0, 1));
     Ok(())
 }
 
 // A node's versions after a letter of this body, and how many letters it sent and acts it made.
 fn turns_after(alloc: Global, script: &Script, body: Body) -> Result<(Turns, usize, usize), Fail> {
-    let (node, step) = take(alloc, script, 0, &letter(2, 0, body))?;
-    let sent = step.given.sent.items().len();
-    let acts = step.given.acts.items().len();
-    Ok((node.turns, sent, acts))
+    let seen = after(alloc, script, &letter(2, 0, body))?;
+    Ok((seen.turns, seen.sent, seen.acts))
 }
 
 fn turned(version: u64) -> Body {
@@ -286,13 +325,19 @@ fn a_node_sweeps(rt: HostRuntime) -> Result<(), Fail> {
     assert_eq!(rt; node.turns, turns(1, 1, 1));
     // Version 0 has become version 1, and what was counted of it has gone.
     assert_eq!(rt; first_held(&node), Some(1));
-    assert_eq!(rt; seen(&node, 0, 1), 10);
-    assert!(rt; matches!(node.counters.done_row(alloc, Version(0))?.items(), [0, 0]));
+    assert_eq!(rt; sum(&node, 0, 1), 10);
+    assert_eq!(rt; counted(&node, 0), (0, 0));
     Ok(())
 }
 
-// The round that is answered, 100 more where requests are told, and how many numbers are told.
-fn told(step: &Step) -> (u64, usize) {
+// The round that a node answers to a letter of this body, 100 more where it tells requests, and how many numbers it
+// tells.
+fn told(alloc: Global, script: &Script, body: Body) -> Result<(u64, usize), Fail> {
+    let (_, step) = take(alloc, script, 0, &letter(2, 0, body))?;
+    Ok(told_in(&step))
+}
+
+fn told_in(step: &Step) -> (u64, usize) {
     match step.given.sent.items().first() {
         Some(sent) => match &sent.body {
             Body::DoneRow { round, row, .. } => (*round, row.items().len()),
@@ -308,19 +353,9 @@ fn a_node_tells_its_rows(rt: HostRuntime) -> Result<(), Fail> {
     let alloc = rt.alloc();
     let script = script_of(alloc, TWO_TREES)?;
     let version = Version(1);
-    let done = letter(2, 0, Body::AskDone { version, round: 7 });
-    let (_, step) = take(alloc, &script, 0, &done)?;
-    assert_eq!(rt; told(&step), (7, 2));
-    Ok(())
-}
-
-#[test]
-fn a_node_tells_its_requests(rt: HostRuntime) -> Result<(), Fail> {
-    let alloc = rt.alloc();
-    let script = script_of(alloc, TWO_TREES)?;
-    let version = Version(1);
-    let asked = letter(2, 0, Body::AskAsked { version, round: 7 });
-    let (_, step) = take(alloc, &script, 0, &asked)?;
-    assert_eq!(rt; told(&step), (107, 2));
+    let done = told(alloc, &script, Body::AskDone { version, round: 7 })?;
+    assert_eq!(rt; done, (7, 2));
+    let asked = told(alloc, &script, Body::AskAsked { version, round: 7 })?;
+    assert_eq!(rt; asked, (107, 2));
     Ok(())
 }
