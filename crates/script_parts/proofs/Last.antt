@@ -7,7 +7,6 @@ use Rattle.std.proofs.lemmas.Option.{get_or_from_slice_get}
 use Rattle.script_parts.specs.declared.parts.Sub.{Sub}
 use Rattle.script_parts.specs.declared.parts.SubOp.{SubOp}
 use Rattle.script_parts.specs.declared.parts.Tree.{Tree}
-use Rattle.script_parts.specs.declared.parts.Written.{Written}
 use Rattle.script_parts.specs.Adding.{failed_tree, last_count, last_kind, last_node, last_of, last_sub, last_subs, last_tree_subs, on_last, on_last_sub, push_op, push_sub}
 use Rattle.script_parts.specs.Undone.{undone}
 use Rattle.tv_base.specs.declared.numbers.SubNo.{SubNo}
@@ -80,6 +79,10 @@ on_err P (Err e) p = p
 
 pub last_tree_subs_is : (ts : List Tree) (t : Tree) → last_of ts ≡ Some t → last_tree_subs ts ≡ t.subs
 last_tree_subs_is ts t e = rw (e, last_tree_subs) refl
+
+-- the subtransactions at the last place are those of the last tree
+pub subs_at_last : (ts : List Tree) (k : ℕ) (t : Tree) (subs : List Sub) → suc k ≡ length ts → t ≡ get_or ts k t → subs ≡ t.subs → subs ≡ last_tree_subs ts
+subs_at_last ts k t subs e at is = is ∙ sym (last_tree_subs_is ts t (last_at ts k t e at))
 
 -- the last of some trees, in its place
 pub fail_last_is : (ts : List Tree) (k : ℕ) (t : Tree) (failed : SubNo) (was now : List Sub) → suc k ≡ length ts → t ≡ get_or ts k t → was ≡ t.subs → now ≡ undone (last_tree_subs ts) failed.0

@@ -1,14 +1,13 @@
 -- Items' totals with the magnitudes of some operations and subtransactions added or taken off, one after the other, and
 -- whether one is too great then.
-use Rattle.std.proofs.Common.{◌≡◌, ◌<◌, ◌≤◌, ◌+◌, [], ◌∷◌, ℕ, false, List, length, drop, get_or, refl, sym, subst, arith, add-one, drop-cons, inl, inr}
-use Rattle.std.specs.Prelude.{nat_lt}
+use Rattle.std.proofs.Common.{◌≡◌, ◌<◌, ◌≤◌, ◌+◌, [], ◌∷◌, ℕ, Bool, true, false, List, length, drop, get_or, refl, sym, ap, ◌∙◌, subst, arith, add-one, drop-cons, inl, inr}
+use Rattle.std.specs.Prelude.{if◌then◌else◌, nat_lt}
 use Rattle.std.specs.List.{AllByRecursion}
 use Rattle.std.proofs.Math.ListN.{set}
 use Rattle.std.proofs.lemmas.Bool.{cases_eq, cases_lt, or_from}
-use Rattle.std.proofs.lemmas.Grind.{same_number_lists}
 use Rattle.std.proofs.lemmas.List.{get_or-set_other, get_or-set_same, length-set}
 use Rattle.script_parts.specs.Amounts.{magnitude}
-use Rattle.script_parts.specs.Loads.{IsReloaded, MayReload, OpWithin, SubWithin, ops_heavy, subs_heavy}
+use Rattle.script_parts.specs.Loads.{IsReloaded, Reloads, OpWithin, SubWithin, ops_heavy, subs_heavy}
 use Rattle.script_parts.specs.Valid.{ops_load, subs_load}
 use Rattle.script_parts.specs.declared.parts.Sub.{Sub}
 use Rattle.script_parts.specs.declared.parts.SubOp.{SubOp}
@@ -94,27 +93,6 @@ op_has_room was now all rest o n h room = omega (arith, h.loads o.item.0 h.withi
 pub op_has_enough : (was now : List ℕ) (all rest : List SubOp) (o : SubOp) → OpsUnloaded was now all (o ∷ rest) → magnitude o.deed ≤ get_or now o.item.0 0
 op_has_enough was now all rest o h = omega (arith, h.enough o.item.0 h.within.0, load_same o o.item.0 refl)
 
--- the same, by what the code has in the place of each
-pub for_same : (P : List Sub → List Sub → Type 0) (a b x y : List Sub) → a ≡ b → x ≡ y → P a x → P b y
-for_same P a b x y e f h = subst (λ (l : List Sub). P l y) e (subst (λ (l : List Sub). P a l) f h)
-
-pub still_within : (m n : ℕ) (a b : List Sub) → m ≡ n → a ≡ b → AllByRecursion (SubWithin n) b → AllByRecursion (SubWithin m) a
-still_within m n a b e f h = subst (λ (x : ℕ). AllByRecursion (SubWithin x) a) (sym e) (subst (λ (l : List Sub). AllByRecursion (SubWithin n) l) (sym f) h)
-
--- what was put in the place of others may be taken out again, and then all is as it was
-
-pub may_reload_back : (was now : List ℕ) (off on : List Sub) → MayReload was off on → IsReloaded was now off on → MayReload now on off
-may_reload_back was now off on h r = record {
-  off_within = subst (λ (n : ℕ). AllByRecursion (SubWithin n) on) (sym r.len) h.on_within;
-  on_within = subst (λ (n : ℕ). AllByRecursion (SubWithin n) off) (sym r.len) h.off_within;
-  enough = λ k lt. omega (arith, r.loads k (omega (arith, r.len)), h.enough k (omega (arith, r.len)));
-  room = λ k lt. omega (arith, r.loads k (omega (arith, r.len)), h.room k (omega (arith, r.len)));
-}
-
-pub reloaded_back : (was now back : List ℕ) (off on : List Sub) → IsReloaded was now off on → IsReloaded now back on off → back ≡ was
-reloaded_back was now back off on r q =
-    same_number_lists back was (omega (arith, r.len, q.len)) (λ k lt. omega (arith, r.loads k (omega (arith, r.len, q.len)), q.loads k (omega (arith, q.len))))
-
 -- where no item that the operations are on is heavy, an item is light or has none of them
 
 ops_light : (most : ℕ) (totals : List ℕ) (k : ℕ) (os : List SubOp) → ops_heavy most totals os ≡ false → 0 < ops_load k os → get_or totals k 0 ≤ most
@@ -156,3 +134,8 @@ pub not_heavy : (most : ℕ) (totals : List ℕ) (ss : List Sub) → AllByRecurs
 not_heavy most totals [] within small = refl
 not_heavy most totals (s ∷ ss) within small =
     or_from (ops_heavy most totals s.ops) (subs_heavy most totals ss) (ops_not_heavy most totals s.ops within.0 small) (not_heavy most totals ss within.1 small)
+
+-- the totals where others took their place
+pub new_totals : (most : ℕ) (was now : List ℕ) (off on : List Sub) (done : Bool) → Reloads most was now off on done → done ≡ true → IsReloaded was now off on
+new_totals most was now off on done r e =
+    subst (λ (l : List ℕ). IsReloaded was l off on) (sym (r.put ∙ ap (λ (b : Bool). if b then r.totals else was) e)) r.reloaded

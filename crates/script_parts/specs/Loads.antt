@@ -1,5 +1,5 @@
 -- Items' totals: the magnitudes of what a script has on each item, and what changes in them.
-use Rattle.std.specs.Prelude.{ℕ, Bool, ◌≡◌, ◌<◌, ◌≤◌, ◌+◌, ◌^◌, nat_lt, List, length, get_or}
+use Rattle.std.specs.Prelude.{if◌then◌else◌, ℕ, Bool, not, ◌≡◌, ◌<◌, ◌≤◌, ◌+◌, ◌^◌, nat_lt, List, length, get_or}
 use Rattle.std.specs.List.{AllByRecursion, list_any}
 use Rattle.script_parts.specs.Valid.{subs_load}
 use Rattle.script_parts.specs.declared.parts.Sub.{Sub}
@@ -30,3 +30,11 @@ ops_heavy most totals os = list_any (λ o. nat_lt most (get_or totals o.item.0 0
 
 abbrev pub subs_heavy : ℕ → List ℕ → List Sub → Bool
 subs_heavy most totals ss = list_any (λ s. ops_heavy most totals s.ops) ss
+
+-- the magnitudes of some subtransactions were taken off and those of others added, unless one of the totals that these
+-- are on is above the most then: in that case all is as it was
+pub record Reloads (most : ℕ) (was now : List ℕ) (off on : List Sub) (done : Bool) : Type 0 where
+  pub totals : List ℕ
+  pub reloaded : IsReloaded was totals off on
+  pub light : done ≡ not (subs_heavy most totals on)
+  pub put : now ≡ (if done then totals else was)

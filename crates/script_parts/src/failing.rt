@@ -3,7 +3,7 @@ ghost use Rattle.std.specs.Prelude.{◌≡◌, ◌<◌, ◌≤◌, ◌+◌, ◌^
 ghost use Rattle.std.specs.List.{AllByRecursion};
 ghost use Rattle.script_parts.specs.Adding.{failed_tree, last_ops, last_tree_subs, may_fail, on_last};
 ghost use Rattle.script_parts.specs.Counts.{subs_ops};
-ghost use Rattle.script_parts.specs.Loads.{IsReloaded, MayReload, ops_heavy, subs_heavy};
+ghost use Rattle.script_parts.specs.Loads.{IsReloaded, MayReload, Reloads, ops_heavy, subs_heavy};
 ghost use Rattle.script_parts.specs.Undone.{is_add, ops_add, subs_add, undone};
 ghost use Rattle.script_parts.specs.Valid.{ops_load, subs_load};
 
@@ -117,8 +117,8 @@ fn unload_subs(totals: &mut Vec<u128>, subs: &[Sub])
     }
 }
 
-/// Takes the magnitudes of some subtransactions off the items' totals, and adds those of others.
-pub fn reload(totals: &mut Vec<u128>, off: &[Sub], on: &[Sub])
+// Takes the magnitudes of some subtransactions off the items' totals, and adds those of others.
+fn swap_loads(totals: &mut Vec<u128>, off: &[Sub], on: &[Sub])
     requires { MayReload totals.old.items off.now on.now }
     ensures { IsReloaded totals.old.items totals.new.items off.now on.now }
 {
@@ -138,8 +138,8 @@ fn ops_heavy(totals: &[u128], ops: &[SubOp], most: u128) -> bool
     false
 }
 
-/// Whether the total of an item that the subtransactions have operations on is too great. No other item is looked at.
-pub fn has_heavy(totals: &[u128], subs: &[Sub], most: u128) -> bool
+// Whether the total of an item that the subtransactions have operations on is too great. No other item is looked at.
+fn has_heavy(totals: &[u128], subs: &[Sub], most: u128) -> bool
     requires { AllByRecursion (λ s. AllByRecursion (λ o. o.item.0 < length totals.now) s.ops) subs.now }
     ensures { result ≡ subs_heavy most totals.now subs.now }
 {
@@ -149,6 +149,31 @@ pub fn has_heavy(totals: &[u128], subs: &[Sub], most: u128) -> bool
         }
     }
     false
+}
+
+// Takes the magnitudes of some subtransactions off the items' totals and adds those of others, unless one of the totals
+// that these are on is too great then. Whether it did; the totals are as they were where it didn't.
+fn reload(totals: &mut Vec<u128>, off: &[Sub], on: &[Sub], most: u128) -> bool
+    requires { MayReload totals.old.items off.now on.now }
+    ensures { Reloads most totals.old.items totals.new.items off.now on.now result }
+{
+    swap_loads(totals, off, on);
+    if has_heavy(totals, on, most) {
+        swap_loads(totals, on, off);
+        return false;
+    }
+    true
+}
+
+/// Takes the magnitudes of the last tree's operations off the items' totals and adds those of other subtransactions,
+/// unless one of the totals that these are on is above `most` then. Whether it did; the totals are as they were where it
+/// didn't. It takes time by the number of these operations alone.
+pub fn reload_last(totals: &mut Vec<u128>, trees: &[Tree], on: &[Sub], most: u128) -> bool
+    requires some { 0 < length trees.now }
+    requires may { MayReload totals.old.items (last_tree_subs trees.now) on.now }
+    ensures { Reloads most totals.old.items totals.new.items (last_tree_subs trees.now) on.now result }
+{
+    reload(totals, trees[trees.len() - 1].subs.items(), on, most)
 }
 
 /// How many operations the last tree has.

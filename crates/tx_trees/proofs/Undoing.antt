@@ -1,5 +1,5 @@
 -- A script stays valid when its last tree fails and its undone form takes its place.
-use Rattle.std.proofs.Common.{◌≡◌, ◌<◌, ◌≤◌, ◌+◌, ◌-◌, ◌*◌, ℕ, zero, suc, Bool, true, false, List, [], ◌∷◌, ◌++◌, length, map, get_or, refl, sym, ap, ◌∙◌, subst, arith, inl, inr}
+use Rattle.std.proofs.Common.{◌≡◌, ◌<◌, ◌≤◌, ◌+◌, ◌*◌, ℕ, zero, suc, Bool, true, false, List, [], ◌∷◌, ◌++◌, length, map, get_or, refl, sym, ap, ◌∙◌, subst, arith, inl, inr}
 use Rattle.std.specs.Prelude.{◌==◌, ◌||◌, not, if◌then◌else◌, IsTrue, Option, Some, None, nat_lt}
 use Rattle.std.specs.List.{AllByRecursion, IsDistinct}
 use Rattle.std.specs.Str.{bytes_eq}
@@ -14,11 +14,11 @@ use Rattle.script_parts.specs.Amounts.{magnitude}
 use Rattle.script_parts.specs.Forms.{most_amount}
 use Rattle.script_parts.specs.Ranges.{draws_negative, is_in_range}
 use Rattle.tx_trees.specs.Inside.{IsKept, data_of}
-use Rattle.script_parts.specs.Loads.{IsReloaded, MayReload, OpWithin, SubWithin, subs_heavy}
+use Rattle.script_parts.specs.Loads.{IsReloaded, MayReload, Reloads, OpWithin, SubWithin, subs_heavy}
 use Rattle.script_parts.specs.inside.Totals.{AreTotals}
 use Rattle.script_parts.specs.Names.{is_name}
 use Rattle.script_parts.specs.Rebuilt.{written_subs}
-use Rattle.script_parts.specs.inside.Passing.{MayFail}
+use Rattle.script_parts.specs.inside.Passing.{MayFail, MayUndo}
 use Rattle.script_parts.specs.ScriptData.{ScriptData, is_update}
 use Rattle.script_parts.specs.Undone.{goes_from, inverse, inverses_from, is_add, is_undone, negated, negated_deed, ops_add, staying, staying_from, stays, subs_add, undoes, undone}
 use Rattle.script_parts.specs.Valid.{AreSubs, AreWithin, HasFailed, IsOp, IsTree, IsValid, MayAllHaveFailed, MayHaveFailed, as_written, load, ops_load, subs_load, tree_names, trees_load}
@@ -420,25 +420,18 @@ sizes_are s k expanded begun may earlier is few h =
       updates = omega (arith, failed_updates s.trees k t f.last f.update, f.count, len);
     }
 
--- the last tree of a script is to fail: it may, and no number of its undone form passes a limit
+-- the last tree of a script is to be undone
 pub record IsFailing (s : Inside) (k : ℕ) (expanded : List Sub) : Type 0 where
   pub kept : IsKept s
-  pub begun : s.begun ≡ true
-  pub may : last_may_fail s.trees.items ≡ true
-  pub earlier : k < last_subs s.trees.items
-  pub is : expanded ≡ undone (last_tree_subs s.trees.items) k
+  pub may : MayUndo (data_of s) k expanded
   pub few : length expanded ≤ 64
 
 -- the same, by what a script is seen as
-pub failing_is : (s : Inside) (d : ScriptData) (k : ℕ) (expanded : List Sub) → data_of s ≡ d → IsKept s → d.begun ≡ true → last_may_fail d.trees ≡ true → k < last_subs d.trees
-    → expanded ≡ undone (last_tree_subs d.trees) k → are_crowded (with_failed d k).trees ≡ false → IsFailing s k expanded
-failing_is s d k expanded view h begun may earlier is room = record {
+pub failing_is : (s : Inside) (d : ScriptData) (k : ℕ) (expanded : List Sub) → data_of s ≡ d → IsKept s → MayUndo d k expanded → IsFailing s k expanded
+failing_is s d k expanded view h may = record {
   kept = h;
-  begun = subst (λ (x : ScriptData). x.begun ≡ true) (sym view) begun;
-  may = subst (λ (x : ScriptData). last_may_fail x.trees ≡ true) (sym view) may;
-  earlier = subst (λ (x : ScriptData). k < last_subs x.trees) (sym view) earlier;
-  is = subst (λ (x : ScriptData). expanded ≡ undone (last_tree_subs x.trees) k) (sym view) is;
-  few = omega (arith, (room_left (with_failed d k).trees room).tree, failed_count d.trees k k expanded earlier is);
+  may = subst (λ (x : ScriptData). MayUndo x k expanded) (sym view) may;
+  few = omega (arith, (room_left (with_failed d k).trees may.room).tree, failed_count d.trees k k expanded may.earlier may.undone);
 }
 
 -- the totals with the undone form
@@ -447,9 +440,9 @@ module _ (s : Inside) (k : ℕ) (expanded : List Sub) (q : IsFailing s k expande
   may_reload =
       let d = data_of s in
       let h = q.kept in
-      let f = last_fails d k q.begun q.may q.earlier h.valid in
+      let f = last_fails d k q.may.begun q.may.adds q.may.earlier h.valid in
       let t = f.tree in
-      let same : expanded ≡ undone t.subs k = q.is ∙ ap (λ (x : List Sub). undone x k) f.same_subs in
+      let same : expanded ≡ undone t.subs k = q.may.undone ∙ ap (λ (x : List Sub). undone x k) f.same_subs in
       let before = subst (λ (x : List Sub). AreSubs d.nodes d.items trees.Update 0 x) (sym f.same_subs) f.before in
       let after = subst (λ (x : List Sub). AreSubs d.nodes d.items trees.Update 0 x) (sym same) f.after in
       record {
@@ -463,9 +456,9 @@ module _ (s : Inside) (k : ℕ) (expanded : List Sub) (q : IsFailing s k expande
   reloaded_totals now r =
       let d = data_of s in
       let h = q.kept in
-      let f = last_fails d k q.begun q.may q.earlier h.valid in
+      let f = last_fails d k q.may.begun q.may.adds q.may.earlier h.valid in
       let t = f.tree in
-      let same : expanded ≡ undone t.subs k = q.is ∙ ap (λ (x : List Sub). undone x k) f.same_subs in
+      let same : expanded ≡ undone t.subs k = q.may.undone ∙ ap (λ (x : List Sub). undone x k) f.same_subs in
       record {
         len = omega (arith, r.len, h.len);
         loads = λ x lt. omega (arith, r.loads x (omega (arith, h.len)), h.totals x lt, failed_loads s.trees.items k t f.last x, ap (subs_load x) f.same_subs, ap (subs_load x) same);
@@ -489,22 +482,18 @@ module _ (s : Inside) (k : ℕ) (expanded : List Sub) (q : IsFailing s k expande
       let here : x < length s.items.items = omega (arith, t.len) in
       omega (arith, t.loads x here, not_lt most (load x d) (any_none (λ (y : ℕ). nat_lt most (load y d)) 0 (length s.items.items) x light (omega arith) (omega (arith, here))))))
 
-  -- the same, by what the code has in the place of each
-  pub heavy_by : (d : ScriptData) (now cells : List ℕ) (most : ℕ) (subs : List Sub) (b : Bool) → data_of s ≡ d → IsReloaded s.totals.items now (last_tree_subs s.trees.items) expanded → most ≡ most_amount s.form → cells ≡ now → subs ≡ expanded
-      → b ≡ subs_heavy most cells subs → b ≡ is_heavy (with_failed d k)
-  heavy_by d now cells most subs b view r most_is cells_are subs_are is =
-      is
-      ∙ ap (λ (m : ℕ). subs_heavy m cells subs) most_is
-      ∙ ap (λ (x : List ℕ). subs_heavy (most_amount s.form) x subs) cells_are
-      ∙ ap (subs_heavy (most_amount s.form) now) subs_are
-      ∙ heavy_is now r
-      ∙ ap (λ (x : ScriptData). is_heavy (with_failed x k)) view
+  -- what was done with the totals, by what a script keeps
+  pub own_totals : (most : ℕ) (off on : List Sub) (now : List ℕ) (b : Bool) → most ≡ most_amount s.form → off ≡ last_tree_subs s.trees.items → on ≡ expanded → Reloads most s.totals.items now off on b
+      → Reloads (most_amount s.form) s.totals.items now (last_tree_subs s.trees.items) expanded b
+  own_totals most off on now b most_is off_is on_is r =
+      subst (λ (m : ℕ). Reloads m s.totals.items now (last_tree_subs s.trees.items) expanded b) most_is
+      (subst (λ (x : List Sub). Reloads most s.totals.items now x expanded b) off_is
+      (subst (λ (x : List Sub). Reloads most s.totals.items now off x b) on_is r))
 
-  -- the subtransactions at the end of the trees are those of the last tree
-  pub last_subs_at : (n : ℕ) (t : Tree) (subs : List Sub) → n ≡ length s.trees.items → t ≡ get_or s.trees.items (n - 1) t → subs ≡ t.subs → subs ≡ last_tree_subs s.trees.items
-  last_subs_at n t subs len at is =
-      let some = q.kept.valid.begun q.begun in
-      is ∙ sym (last_tree_subs_is s.trees.items t (last_at s.trees.items (n - 1) t (omega (arith, len, some)) at))
+  -- the totals were put just where no item is too heavy
+  pub put_if_light : (d : ScriptData) (now : List ℕ) (b : Bool) → data_of s ≡ d → Reloads (most_amount s.form) s.totals.items now (last_tree_subs s.trees.items) expanded b
+      → b ≡ not (is_heavy (with_failed d k))
+  put_if_light d now b view r = r.light ∙ ap not (heavy_is r.totals r.reloaded) ∙ ap (λ (x : ScriptData). not (is_heavy (with_failed x k))) view
 
 -- what a script keeps beside what it holds, where its last tree fails
 pub kept_failed : (s : Inside) (its : Vec Tree) (totals : Vec ℕ) (k n o u : ℕ) → its.items ≡ on_last (failed_tree k) s.trees.items → AreTotals totals.items (with_failed (data_of s) k)
@@ -564,21 +553,3 @@ written_tree form nodes items front t (Some w) is th h =
 pub written_trees : (form : Form) (nodes : ℕ) (items : List ItemRow) (front ts : List Tree) → AllByRecursion (IsTree nodes items) ts → MayAllHaveFailed form nodes items front ts → AllByRecursion (WrittenTree form nodes items) ts
 written_trees form nodes items front [] all h = tt
 written_trees form nodes items front (t ∷ ts) all h = (written_tree form nodes items front t t.written refl all.0 h.0, written_trees form nodes items (front ++ t ∷ []) ts all.1 h.1)
-
--- the totals may be changed and put back
-pub kept_back : (s : Inside) (totals : Vec ℕ) → totals.items ≡ s.totals.items → IsKept s → IsKept (record s { totals = totals })
-kept_back s totals same h = record {
-  valid = h.valid;
-  item_names = h.item_names;
-  tree_names = h.tree_names;
-  len = ap (λ (x : List ℕ). length x) same ∙ h.len;
-  totals = λ k lt. ap (λ (x : List ℕ). get_or x k 0) same ∙ h.totals k lt;
-  puts_len = h.puts_len;
-  puts = h.puts;
-  subs = h.subs;
-  ops = h.ops;
-  advances = h.advances;
-  loses = h.loses;
-  strict = h.strict;
-  update_subs = h.update_subs;
-}

@@ -1,5 +1,5 @@
 -- A script's fields, as what it holds, and the numbers that are kept beside it.
-use Rattle.std.specs.Prelude.{ℕ, ◌≡◌, ◌<◌, List, length, get_or}
+use Rattle.std.specs.Prelude.{ℕ, ◌≡◌, ◌<◌, length, get_or}
 use Rattle.script_parts.specs.ScriptData.{ScriptData}
 use Rattle.script_parts.specs.Valid.{IsValid, item_names, load, tree_names}
 use Rattle.script_parts.specs.Counts.{advances_in, all_ops, all_subs, loses_in, strict_trees, trees_puts, update_subs}

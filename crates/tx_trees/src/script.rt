@@ -7,7 +7,7 @@ ghost use Rattle.script_parts.specs.Amounts.{magnitude};
 ghost use Rattle.script_parts.specs.Counts.{advances_in, all_ops, all_subs, update_subs};
 ghost use Rattle.script_parts.specs.Forms.{most_amount, most_nodes};
 ghost use Rattle.script_parts.specs.Undone.{undone};
-ghost use Rattle.script_parts.specs.inside.Passing.{MayFail, MayAddItem, MayAddOp, MayAddSub, MayAddTree};
+ghost use Rattle.script_parts.specs.inside.Passing.{MayAddItem, MayAddOp, MayAddSub, MayAddTree, MayUndo};
 ghost use Rattle.script_parts.specs.Same.{same_script};
 ghost use Rattle.script_parts.specs.SameFacts.{script_laws};
 ghost use Rattle.script_parts.specs.ScriptData.{is_child, subs_at, visits};
@@ -18,7 +18,7 @@ use script_parts::children::{next_child, visits};
 use script_parts::counts::{
     are_many, are_spread, has_touched, last_kind, one_put, one_strict, one_update,
 };
-use script_parts::failing::{count_ops, fail_last, has_heavy, last_ops, may_fail, reload};
+use script_parts::failing::{count_ops, fail_last, last_ops, may_fail, reload_last};
 use script_parts::is_plain_name;
 use script_parts::lookups::{
     deed_fits, empty_sub, kind_at, last_subs, node_at, place_of_last, push_op, push_sub, rooted,
@@ -601,21 +601,13 @@ impl Script {
     // Puts the undone form, by which nothing is crowded, in the place of what the last tree was written with, unless an
     // item's magnitudes are too great then. Whether it did; the script is as it was where it didn't.
     fn put_failed(&mut self, failed: SubNo, expanded: Subs) -> bool
-        requires second { self.old.form ≡ Form.Two }
-        requires begun { self.old.begun ≡ true }
-        requires adds { last_may_fail self.old.trees ≡ true }
-        requires earlier { failed.0 < last_subs self.old.trees }
-        requires undone { expanded ≡ undone (last_tree_subs self.old.trees) failed.0 }
-        requires room { are_crowded (with_failed self.old failed.0).trees ≡ false }
+        requires { MayUndo self.old failed.0 expanded }
         ensures light { result ≡ not (is_heavy (with_failed self.old failed.0)) }
         ensures put { self.new ≡ (if result then with_failed self.old failed.0 else self.old) }
     {
         let sizes = self.sizes_with(failed, expanded.items());
         let most = self.form.most_amount();
-        let subs = self.trees[self.trees.len() - 1].subs.items();
-        reload(&mut self.totals, subs, expanded.items());
-        if has_heavy(&self.totals, expanded.items(), most) {
-            reload(&mut self.totals, expanded.items(), subs);
+        if !reload_last(&mut self.totals, &self.trees, expanded.items(), most) {
             return false;
         }
         fail_last(&mut self.trees, failed, expanded);
