@@ -1,6 +1,6 @@
 -- Which locks stand at a place of a history, and why a subtransaction of a strict tree votes no: a look back over the
 -- acts. No tree of a run so far takes a lock.
-use Rattle.std.specs.Prelude.{if◌then◌else◌, ℕ, zero, suc, ℤ, Bool, true, false, ◌==◌, ◌&&◌, not, max, nat_lt, int_lt, List, [], ◌∷◌, ◌++◌, fold, filter, length, map, Option, Some, None}
+use Rattle.std.specs.Prelude.{if◌then◌else◌, ℕ, zero, suc, Bool, true, false, ◌==◌, ◌&&◌, not, max, nat_lt, int_lt, List, [], ◌∷◌, ◌++◌, fold, filter, length, map, Option, Some, None}
 use Rattle.std.specs.List.{list_any}
 use Rattle.std.specs.Option.{option_or}
 use Rattle.tv_base.specs.declared.numbers.ItemNo.{ItemNo}
@@ -17,7 +17,6 @@ use Rattle.letter_types.specs.declared.votes.Vote.TheVariants.{Yes, No}
 use Rattle.tx_trees.specs.ScriptData.{ScriptData, ops_of, subs_at, updates}
 use Rattle.tx_trees.specs.declared.parts.Deed.{Deed}
 use Rattle.tx_trees.specs.declared.parts.Deed.TheVariants as deeds
-use Rattle.tx_trees.specs.declared.parts.ItemRow.{ItemRow}
 use Rattle.tx_trees.specs.declared.parts.SubOp.{SubOp}
 use Rattle.board_model.specs.Histories.{Place, version_in}
 use Rattle.board_model.specs.Worth.{ops_change, subs_change, worth}

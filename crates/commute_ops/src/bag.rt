@@ -1,5 +1,4 @@
 ghost use Rattle.std.specs.Prelude.{◌≡◌, [], IfOk, ⊤};
-ghost use Rattle.std.proofs.Common.{ap};
 ghost use Rattle.commute_ops.specs.Numbers.{IsAscending, with_number};
 ghost use Rattle.commute_ops.specs.inside.Ranks.{rank};
 ghost use Rattle.commute_ops.specs.Laws.{with_number-comm};

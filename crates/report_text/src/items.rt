@@ -1,5 +1,5 @@
 // The lines of items.
-ghost use Rattle.std.specs.Prelude.{◌≡◌, ◌++◌, ◌+◌, OnOk, codes, length};
+ghost use Rattle.std.specs.Prelude.{◌≡◌, ◌++◌, ◌+◌, OnOk, length};
 ghost use Rattle.std.specs.Str.{IsAscii};
 ghost use Rattle.report_text.specs.inside.Lines.{row_line, rows_lines, two_balances};
 ghost use Rattle.tx_trees.specs.AsciiNames.{AreAsciiItems};

@@ -9,7 +9,7 @@ ghost use Rattle.script_reader.specs.Reading.{read_every, read_of};
 ghost use Rattle.script_reader.specs.inside.Numbers.{AreSmall};
 ghost use Rattle.script_reader.specs.Words.{kind_word, tree_word};
 ghost use Rattle.tx_trees.specs.AsciiNames.{AreAsciiItems, AreAsciiTrees};
-ghost use Rattle.script_reader.specs.Written.{deed_fields, fail_fields, form_rows, item_fields, line, lines, nodes_fields, op_fields, ops_rows, pick_fields, rows_of_row, rows_of_rows, rows_of_tree, sub_fields, subs_rows, tree_fields, tree_rows, written};
+ghost use Rattle.script_reader.specs.Written.{deed_fields, fail_fields, form_rows, item_fields, line, lines, nodes_fields, ops_rows, pick_fields, rows_of_row, rows_of_rows, rows_of_tree, sub_fields, subs_rows, tree_fields, tree_rows, written};
 
 use crate::text_fields::{end_row, push_amount, push_field, push_number};
 use commute_ops::{Amount, Kind, Op};

@@ -1,5 +1,5 @@
 // The numbers by which a schedule takes letters.
-ghost use Rattle.std.specs.Prelude.{◌≡◌, ◌<◌, ◌%◌, ◌/◌, ◌^◌, length};
+ghost use Rattle.std.specs.Prelude.{◌≡◌, ◌<◌, ◌%◌, ◌/◌, ◌^◌};
 ghost use Rattle.sim_runner.specs.Picks.{after_number, next_number};
 ghost use Rattle.tv_base.specs.Draws.{next_draw};
 

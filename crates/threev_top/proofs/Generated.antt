@@ -1,5 +1,5 @@
 -- A generated script may be run.
-use Rattle.std.proofs.Common.{◌≡◌, ℕ, zero, suc, ◌+◌, ◌%◌, ◌==◌, Bool, true, false, List, [], ◌∷◌, ◌++◌, refl, subst, sym}
+use Rattle.std.proofs.Common.{◌≡◌, ℕ, zero, suc, ◌+◌, Bool, true, false, List, [], ◌∷◌, ◌++◌, refl, subst, sym}
 use Rattle.std.specs.Prelude.{if◌then◌else◌, IsTrue}
 use Rattle.std.specs.List.{AllByRecursion}
 use Rattle.tx_trees.specs.ScriptData.{ScriptData}
@@ -7,7 +7,7 @@ use Rattle.tx_trees.specs.declared.parts.ScriptRow.{ScriptRow}
 use Rattle.tx_trees.specs.declared.parts.ScriptRow.TheVariants as rows
 use Rattle.tx_trees.specs.declared.parts.Tree.{Tree}
 use Rattle.tx_trees.specs.declared.parts.TreeKind.TheVariants.{Update, Read}
-use Rattle.script_gen.specs.Generated.{advances_behind, after_trees, generated, generated_tree, kind_by, rows_up_to, trees_up_to}
+use Rattle.script_gen.specs.Generated.{advances_behind, after_trees, generated, generated_tree, rows_up_to, trees_up_to}
 use Rattle.world_model.specs.Tables.{is_run, is_run_row, IsRunnable}
 
 abbrev RunTrees : List Tree → Type 0

@@ -1,5 +1,5 @@
 // A source and a sink in memory, which fail where they are told to.
-ghost use Rattle.std.specs.Prelude.{◌≡◌, ◌<◌, ◌≤◌, ◌↔◌, ℕ, List, length, Some, IfOk, IsTrue};
+ghost use Rattle.std.specs.Prelude.{◌≡◌, ◌<◌, ◌≤◌, ◌↔◌, ℕ, length, Some, IfOk, IsTrue};
 ghost use Rattle.tv_base.specs.Memory.{lists, source_of, read_fails, most_read, after_read, sink_of, write_fails, most_written, after_write};
 ghost use Rattle.tv_base.specs.Outside.{Reads, Rose, Writes};
 

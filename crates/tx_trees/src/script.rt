@@ -144,8 +144,6 @@ impl PartialEq for Script {
 }
 
 impl Script {
-    ghost use Rattle.script_parts.specs.inside.Totals.{AreTotals};
-
     /// A script of this form and of so many nodes, 1 to 16, or 1 to 64 of the second form, with nothing in it.
     pub fn new(alloc: Global, form: Form, nodes: u8) -> Script
         requires { (1 ≤ nodes) × (nodes ≤ most_nodes form) }

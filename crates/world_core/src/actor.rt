@@ -1,5 +1,5 @@
 // The actors as one, and their steps.
-ghost use Rattle.std.specs.Prelude.{◌≡◌, ◌<◌, ◌+◌, ◌^◌, [], IfOk, OnOk, OnErr};
+ghost use Rattle.std.specs.Prelude.{◌≡◌, ◌<◌, ◌+◌, [], IfOk, OnOk, OnErr};
 ghost use Rattle.letter_types.specs.Steps.{made};
 ghost use Rattle.world_model.specs.Tables.{actor_row};
 ghost use Rattle.world_core.specs.Actors.{CountsBelow, data_of, IsAddressed, IsFor, IsStateOf};

@@ -1,5 +1,5 @@
 -- A history whose letters were taken by a schedule: the script's picks, then the draws of a seed, then the oldest.
-use Rattle.std.specs.Prelude.{if◌then◌else◌, ℕ, zero, suc, ◌+◌, ◌/◌, ◌%◌, ◌^◌, ◌-◌, ◌≡◌, nat_lt, List, [], length, take, reverse, Option, Some, None, slice_get, slice_index}
+use Rattle.std.specs.Prelude.{if◌then◌else◌, ℕ, zero, suc, ◌/◌, ◌%◌, ◌^◌, ◌-◌, ◌≡◌, nat_lt, List, [], length, take, reverse, Option, Some, None, slice_get, slice_index}
 use Rattle.tv_base.specs.Draws.{next_draw}
 use Rattle.letter_types.specs.declared.entries.Entry.{Entry}
 use Rattle.letter_types.specs.declared.entries.Letter.{Letter}

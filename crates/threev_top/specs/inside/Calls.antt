@@ -12,7 +12,6 @@ use Rattle.threev_top.specs.declared.outcomes.Mode.{Mode}
 use Rattle.threev_top.specs.declared.outcomes.Mode.TheVariants as modes
 use Rattle.threev_top.specs.declared.outcomes.Stop.{Stop}
 use Rattle.threev_top.specs.declared.outcomes.Stop.TheVariants as stops
-use Rattle.command_words.specs.declared.Line.TheVariants as lines
 
 -- the text was written whole, or writing failed
 abbrev pub IsWritten : Option Stop → Type 0
