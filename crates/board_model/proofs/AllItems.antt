@@ -22,12 +22,12 @@ use Rattle.board_model.specs.declared.standings.Standing.{Standing}
 use Rattle.board_model.specs.Balances.{all_after_op, all_after_ops, all_after_subs, all_after_tree, by_number, first_values, on_item, worths, written_items}
 use Rattle.board_model.specs.inside.Balances.{mark_op, mark_ops, mark_subs, mark_trees, may_write_by, no_marks, writes_by}
 use Rattle.board_model.specs.inside.May.{all_op_may, all_ops_may, all_subs_may, all_trees_may, deed_may, deed_may_at, ops_may, subs_may, trees_may}
-use Rattle.board_model.specs.Histories.{places_of, version_of, was_committed}
-use Rattle.board_model.specs.Serial.{is_version, serial_to}
+use Rattle.board_rules.specs.Histories.{places_of, version_of, was_committed}
+use Rattle.board_rules.specs.Serial.{is_version, serial_to}
 use Rattle.board_model.specs.Standings.{standings_from, standings_of}
-use Rattle.board_model.specs.Worth.{after_deed, after_ops, after_subs, after_tree, changes, first_value, is_written, may_write, ops_change, subs_change, trees_write, worth, writes}
+use Rattle.board_rules.specs.Worth.{after_deed, after_ops, after_subs, after_tree, changes, first_value, is_written, may_write, ops_change, subs_change, trees_write, worth, writes}
 use Rattle.board_model.proofs.Bounds.{worth_may}
-use Rattle.board_model.proofs.Closings.{AreApart}
+use Rattle.board_rules.proofs.Closings.{AreApart}
 
 -- lists that agree at each place are equal
 same_gets : {A : Type 0} (xs ys : List A) → ((i : ℕ) → slice_get xs i ≡ slice_get ys i) → xs ≡ ys

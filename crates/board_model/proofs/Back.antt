@@ -27,23 +27,23 @@ use Rattle.tx_trees.specs.declared.parts.TreeKind.TheVariants.{Update, Read, Str
 use Rattle.board_model.specs.declared.serial.Member.{Member}
 use Rattle.board_model.specs.declared.standings.Standing.{Standing}
 use Rattle.board_model.specs.declared.tallies.Tally.{Tally}
-use Rattle.board_model.specs.inside.Closed.{Closed, after_act, none_closed, with_tree}
+use Rattle.board_model.specs.inside.Closed.{Closed, closed_after_act, none_closed, with_tree_closed}
 use Rattle.board_model.specs.inside.Closed.{closed_back}
-use Rattle.board_model.specs.Histories.{Place, all_applied, all_done, applies, born_as, commits, does, is_strict_tree, is_through, places_at, places_of, version_in, version_of, was_applied, was_committed, was_done}
-use Rattle.board_model.specs.Serial.{closes, closings, is_in, is_member, is_settled, is_version, members, with_closed}
-use Rattle.board_model.specs.SerialList.{is_of, trees_of}
+use Rattle.board_rules.specs.Histories.{Place, all_applied, all_done, applies, born_as, commits, does, is_strict_tree, is_through, places_at, places_of, version_in, version_of, was_applied, was_committed, was_done}
+use Rattle.board_rules.specs.Serial.{closes, closings, is_in, is_member, takes_effect, is_version, members, with_closed}
+use Rattle.board_model.specs.SerialList.{is_of_version, trees_of_members}
 use Rattle.board_model.specs.inside.SerialList.{counted_at, counts_by, found_back, member_of, with_version}
 use Rattle.board_model.specs.Standings.{standing_of, standings_from, standings_of}
-use Rattle.board_model.specs.inside.Tallies.{all_marked, all_met, blank, is_through_by, noted, noted_back, on_row, standing_by, stood_by, with_applied, with_born, with_decided, with_done}
+use Rattle.board_model.specs.inside.Tallies.{all_marked, all_met, blank, is_through_by, tallies_with_act, noted_back, on_row, standing_by, stood_by, with_applied, with_born, with_decided, with_sub_done}
 use Rattle.board_model.proofs.Walk.{opened}
 
 pub noted_back-append : (a b : List Place) (rows : List Tally) → noted_back (a ++ b) rows ≡ noted_back a (noted_back b rows)
 noted_back-append [] b rows = refl
-noted_back-append (x ∷ a) b rows = ap (λ (z : List Tally). noted x.node x.act z) (noted_back-append a b rows)
+noted_back-append (x ∷ a) b rows = ap (λ (z : List Tally). tallies_with_act x.node x.act z) (noted_back-append a b rows)
 
 pub closed_back-append : (s : ScriptData) (a b : List Place) (c : Closed) → closed_back s (a ++ b) c ≡ closed_back s a (closed_back s b c)
 closed_back-append s [] b c = refl
-closed_back-append s (x ∷ a) b c = ap (λ (z : Closed). after_act s x.act z) (closed_back-append s a b c)
+closed_back-append s (x ∷ a) b c = ap (λ (z : Closed). closed_after_act s x.act z) (closed_back-append s a b c)
 
 -- one entry more from the end
 pub entry_back : (es : List Entry) (n k : ℕ) (e : Entry) → n ≡ length es → k < n → e ≡ get_or es (n - 1 - k) e
@@ -157,7 +157,7 @@ untouched t x xs row bears did committed applied h =
     }
 
 did_told : (t p : ℕ) (u : TreeNo) (j : SubNo) (vs : List (ItemNo × Value)) (xs : List Place) (row : Tally) → u.0 ≡ t → Tells t xs row
-    → Tells t (record { node = p; act = Did u j vs } ∷ xs) (with_done j.0 row)
+    → Tells t (record { node = p; act = Did u j vs } ∷ xs) (with_sub_done j.0 row)
 did_told t p u j vs xs row e h =
     let yes : (u.0 == t) ≡ true = grind (arith, nat_tests) in
     record {
@@ -209,14 +209,14 @@ not_born b v e = cc
 
 -- the rows after one act more from the end
 noted_tells : (p : ℕ) (a : Act) (xs : List Place) (rows : List Tally) → AllTell 0 xs rows
-    → AllTell 0 (record { node = p; act = a } ∷ xs) (noted p a rows)
+    → AllTell 0 (record { node = p; act = a } ∷ xs) (tallies_with_act p a rows)
 noted_tells p (Born u v) xs rows h =
     let x : Place = record { node = p; act = Born u v } in
     one_changed u.0 u.0 0 (with_born v) xs x rows (omega arith) (λ (row : Tally) told. born_told u.0 v p u xs row refl told)
     (λ (t : ℕ) (row : Tally) no told. untouched t x xs row (not_born (u.0 == t) v no) (λ (k : ℕ). refl) refl refl told) h
 noted_tells p (Did u j vs) xs rows h =
     let x : Place = record { node = p; act = Did u j vs } in
-    one_changed u.0 u.0 0 (with_done j.0) xs x rows (omega arith) (λ (row : Tally) told. did_told u.0 p u j vs xs row refl told)
+    one_changed u.0 u.0 0 (with_sub_done j.0) xs x rows (omega arith) (λ (row : Tally) told. did_told u.0 p u j vs xs row refl told)
     (λ (t : ℕ) (row : Tally) no told. untouched t x xs row refl (λ (k : ℕ). and_left (u.0 == t) (j.0 == k) no) refl refl told) h
 noted_tells p (Decided u commit) xs rows h =
     let x : Place = record { node = p; act = Decided u commit } in
@@ -271,9 +271,9 @@ length-on_row t f [] = refl
 length-on_row zero f (row ∷ rows) = refl
 length-on_row (suc t) f (row ∷ rows) = let rest = length-on_row t f rows in grind arith
 
-length-noted : (p : ℕ) (a : Act) (rows : List Tally) → length (noted p a rows) ≡ length rows
+length-noted : (p : ℕ) (a : Act) (rows : List Tally) → length (tallies_with_act p a rows) ≡ length rows
 length-noted p (Born u v) rows = length-on_row u.0 (with_born v) rows
-length-noted p (Did u j vs) rows = length-on_row u.0 (with_done j.0) rows
+length-noted p (Did u j vs) rows = length-on_row u.0 (with_sub_done j.0) rows
 length-noted p (Decided u commit) rows = length-on_row u.0 (with_decided commit) rows
 length-noted p (Applied u commit) rows = length-on_row u.0 (with_applied p) rows
 length-noted p Finished rows = refl
@@ -361,13 +361,13 @@ the_tree t = record { 0 = t }
 
 abbrev after_close : Option ℕ → Closed → Closed
 after_close None c = c
-after_close (Some t) c = with_tree (the_tree t) c
+after_close (Some t) c = with_tree_closed (the_tree t) c
 
-choice_close : (b : Bool) (t : ℕ) (c : Closed) → (if b then with_tree (the_tree t) c else c) ≡ after_close (if b then Some t else None) c
+choice_close : (b : Bool) (t : ℕ) (c : Closed) → (if b then with_tree_closed (the_tree t) c else c) ≡ after_close (if b then Some t else None) c
 choice_close true t c = refl
 choice_close false t c = refl
 
-act_closes : (s : ScriptData) (a : Act) (c : Closed) → after_act s a c ≡ after_close (closes s a) c
+act_closes : (s : ScriptData) (a : Act) (c : Closed) → closed_after_act s a c ≡ after_close (closes s a) c
 act_closes s (Did t k vs) c = choice_close (updates s t.0) t.0 c
 act_closes s (Decided t commit) c = choice_close (is_strict_tree s t.0 && commit) t.0 c
 act_closes s (Born u v) c = refl
@@ -473,7 +473,7 @@ member_at None st t = refl
 member_at (Some tree) st t = ap (λ (b : Bool). if b then with_version st.born t else None) (kind_settled tree.kind st)
 
 member_is : (s : ScriptData) (h : List Entry) (t : ℕ)
-    → member_of s.trees (standings_of s h) (the_tree t) ≡ (if is_settled s h t then with_version (version_of h t) (the_tree t) else None)
+    → member_of s.trees (standings_of s h) (the_tree t) ≡ (if takes_effect s h t then with_version (version_of h t) (the_tree t) else None)
 unfolding settled_at
 member_is s h t =
     let e : 0 + t ≡ t = omega arith in
@@ -481,37 +481,37 @@ member_is s h t =
     (standing_get s h 0 s.trees t ∙ ap (λ (n : ℕ). option_map (λ (tree : Tree). standing_of s h n) (slice_get s.trees t)) e)
     ∙ member_at (slice_get s.trees t) (standing_of s h t) (the_tree t)
 
-trees_choice : (b : Bool) (m : Member) (ms : List Member) → trees_of (cond b (m ∷ ms) ms) ≡ cond b (m.tree.0 ∷ trees_of ms) (trees_of ms)
+trees_choice : (b : Bool) (m : Member) (ms : List Member) → trees_of_members (cond b (m ∷ ms) ms) ≡ cond b (m.tree.0 ∷ trees_of_members ms) (trees_of_members ms)
 trees_choice true m ms = refl
 trees_choice false m ms = refl
 
 one_member : (v t : ℕ) (o : Option Version) (b : Bool) (ms : List Member)
-    → trees_of (filter (is_of v) (cons_option (if b then with_version o (the_tree t) else None) ms))
-    ≡ cond (is_version v o && b) (t ∷ trees_of (filter (is_of v) ms)) (trees_of (filter (is_of v) ms))
+    → trees_of_members (filter (is_of_version v) (cons_option (if b then with_version o (the_tree t) else None) ms))
+    ≡ cond (is_version v o && b) (t ∷ trees_of_members (filter (is_of_version v) ms)) (trees_of_members (filter (is_of_version v) ms))
 one_member v t o false ms =
-    let rest : List ℕ = trees_of (filter (is_of v) ms) in
+    let rest : List ℕ = trees_of_members (filter (is_of_version v) ms) in
     sym (ap (λ (c : Bool). cond c (t ∷ rest) rest) (and-false (is_version v o)))
 one_member v t None true ms = refl
 one_member v t (Some w) true ms =
-    let f : List Member = filter (is_of v) ms in
+    let f : List Member = filter (is_of_version v) ms in
     trees_choice (w.0 == v) (record { version = w; tree = the_tree t }) f
-    ∙ ap (λ (c : Bool). cond c (t ∷ trees_of f) (trees_of f)) (and_true (w.0 == v))
+    ∙ ap (λ (c : Bool). cond c (t ∷ trees_of_members f) (trees_of_members f)) (and_true (w.0 == v))
 
 members_from : (s : ScriptData) (h : List Entry) (v : ℕ) (ts : List ℕ)
-    → trees_of (filter (is_of v) (filter_map (member_of s.trees (standings_of s h)) (map the_tree ts))) ≡ filter (is_member s h v) ts
+    → trees_of_members (filter (is_of_version v) (filter_map (member_of s.trees (standings_of s h)) (map the_tree ts))) ≡ filter (is_member s h v) ts
 members_from s h v [] = refl
 members_from s h v (t ∷ ts) =
     let f : TreeNo → Option Member = member_of s.trees (standings_of s h) in
     let rest : List Member = filter_map f (map the_tree ts) in
-    ap (λ (o : Option Member). trees_of (filter (is_of v) (cons_option o rest))) (member_is s h t)
-    ∙ one_member v t (version_of h t) (is_settled s h t) rest
+    ap (λ (o : Option Member). trees_of_members (filter (is_of_version v) (cons_option o rest))) (member_is s h t)
+    ∙ one_member v t (version_of h t) (takes_effect s h t) rest
     ∙ ap (λ (z : List ℕ). cond (is_member s h v t) (t ∷ z) z) (members_from s h v ts)
 
 -- the trees that were found, version by version
 pub found_all : (s : ScriptData) (h : List Entry) (v : ℕ)
-    → trees_of (filter (is_of v) (found_back s.trees (standings_of s h) (closed_back s (places_of h) (none_closed (length s.trees))).order))
+    → trees_of_members (filter (is_of_version v) (found_back s.trees (standings_of s h) (closed_back s (places_of h) (none_closed (length s.trees))).order))
     ≡ members s h v
 found_all s h v =
     let kept = all_kept_closed s (places_of h) in
-    ap (λ (z : List TreeNo). trees_of (filter (is_of v) (filter_map (member_of s.trees (standings_of s h)) z))) kept.order
+    ap (λ (z : List TreeNo). trees_of_members (filter (is_of_version v) (filter_map (member_of s.trees (standings_of s h)) z))) kept.order
     ∙ members_from s h v (closings s (places_of h))

@@ -15,7 +15,7 @@ use Rattle.commute_ops.specs.declared.kinds.Op.TheVariants.{Add, Top as Raise, P
 use Rattle.commute_ops.specs.declared.value.Value.{Value}
 use Rattle.commute_ops.specs.declared.value.Value.TheVariants.{Sum, Top, Bag}
 use Rattle.commute_ops.specs.Numbers.{is_within}
-use Rattle.commute_ops.specs.Ops.{applied, may_apply, start}
+use Rattle.commute_ops.specs.Ops.{applied, may_apply, value_start}
 use Rattle.tx_trees.proofs.SubsOf.{small_load}
 use Rattle.tx_trees.specs.ScriptData.{ScriptData, subs_at}
 use Rattle.tx_trees.specs.Valid.{AreSubs, IsItem, IsOp, IsTree, IsValid, OpAt, deed_fits, initial_load, magnitude, op_fits, op_magnitude, ops_load, subs_load, trees_load}
@@ -28,9 +28,9 @@ use Rattle.tx_trees.specs.declared.parts.Tree.{Tree}
 use Rattle.tx_trees.specs.declared.parts.TreeKind.{TreeKind}
 use Rattle.tx_trees.specs.declared.parts.TreeKind.TheVariants.{Update, Read, Strict}
 use Rattle.board_model.specs.inside.May.{deed_may, ops_may, subs_may, trees_may}
-use Rattle.board_model.specs.Serial.{is_in}
-use Rattle.board_model.specs.Worth.{after_deed, after_ops, after_subs, after_tree, first_value}
-use Rattle.board_model.proofs.Closings.{AreApart}
+use Rattle.board_rules.specs.Serial.{is_in}
+use Rattle.board_rules.specs.Worth.{after_deed, after_ops, after_subs, after_tree, first_value}
+use Rattle.board_rules.proofs.Closings.{AreApart}
 
 -- a value of the kind, which magnitudes that add up to `left` may still be added to
 abbrev pub OfKind : Kind → Value → ℕ → Type 0
@@ -266,7 +266,7 @@ loads_among s x (t ∷ ts) apart =
 pub loads_most : (s : ScriptData) (x : ℕ) (ts : List ℕ) → AreApart ts → loads_of s x ts ≤ trees_load x s.trees
 loads_most s x ts apart = omega (arith, loads_among s x ts apart, among_most x ts 0 s.trees)
 
-start_held : (kind : Kind) (n : ℤ) (left : ℕ) → unsigned_abs n + left ≤ MOST_AMOUNT → OfKind kind (start kind n) left
+start_held : (kind : Kind) (n : ℤ) (left : ℕ) → unsigned_abs n + left ≤ MOST_AMOUNT → OfKind kind (value_start kind n) left
 start_held SumKind n left h = h
 start_held TopKind n left h = h
 start_held BagKind n left h = tt

@@ -7,8 +7,8 @@ use Rattle.std.proofs.lemmas.List.{map-append}
 use Rattle.letter_types.specs.declared.entries.Entry.{Entry}
 use Rattle.tx_trees.specs.ScriptData.{ScriptData}
 use Rattle.board_model.specs.declared.serial.Member.{Member}
-use Rattle.board_model.specs.Serial.{members, serial_to}
-use Rattle.board_model.specs.SerialList.{IsByVersion, IsSerial, is_below, is_of, trees_of}
+use Rattle.board_rules.specs.Serial.{members, serial_to}
+use Rattle.board_model.specs.SerialList.{IsByVersion, IsSerial, is_below, is_of_version, trees_of_members}
 
 -- the version as a number
 abbrev pub version_no : Member → ℕ
@@ -29,11 +29,11 @@ tie_is m n = grind (arith, nat_tests)
 
 -- what a stable sort by version leaves in place
 pub stable_of : (xs ys : List Member) → IsStableByKey version_no nat_cmp xs ys
-    → (v : ℕ) → filter (is_of v) ys ≡ filter (is_of v) xs
+    → (v : ℕ) → filter (is_of_version v) ys ≡ filter (is_of_version v) xs
 stable_of xs ys stable v =
     let t : Member → Bool = ties (λ (a b : Member). is_lt (nat_cmp (version_no a) (version_no b))) (at_version v) in
-    let same : (m : Member) → t m ≡ is_of v m = λ (m : Member). tie_is v m.version.0 in
-    sym (filter_alike t (is_of v) ys same) ∙ stable (at_version v) ∙ filter_alike t (is_of v) xs same
+    let same : (m : Member) → t m ≡ is_of_version v m = λ (m : Member). tie_is v m.version.0 in
+    sym (filter_alike t (is_of_version v) ys same) ∙ stable (at_version v) ∙ filter_alike t (is_of_version v) xs same
 
 tail_ascends : (m : Member) (ms : List Member) → IsNonDecreasingBy version_no (m ∷ ms) → IsNonDecreasingBy version_no ms
 tail_ascends m ms asc i j d le lt = asc (suc i) (suc j) d (omega arith) (omega arith)
@@ -59,15 +59,15 @@ none_next v m (n ∷ ms) asc above =
 
 -- the next version stands behind
 below_next : (v : ℕ) (ms : List Member) → IsNonDecreasingBy version_no ms
-    → filter (is_below (suc v)) ms ≡ filter (is_below v) ms ++ filter (is_of (suc v)) ms
+    → filter (is_below (suc v)) ms ≡ filter (is_below v) ms ++ filter (is_of_version (suc v)) ms
 below_next v [] asc = refl
 below_next v (m ∷ ms) asc =
     let rest = below_next v ms (tail_ascends m ms asc) in
     by (nat_le m.version.0 v) (m.version.0 == suc v) refl refl rest where
       by : (low next : Bool) → nat_le m.version.0 v ≡ low → (m.version.0 == suc v) ≡ next
-          → filter (is_below (suc v)) ms ≡ filter (is_below v) ms ++ filter (is_of (suc v)) ms
+          → filter (is_below (suc v)) ms ≡ filter (is_below v) ms ++ filter (is_of_version (suc v)) ms
           → filter (is_below (suc v)) (m ∷ ms)
-          ≡ cond low (m ∷ filter (is_below v) ms) (filter (is_below v) ms) ++ cond next (m ∷ filter (is_of (suc v)) ms) (filter (is_of (suc v)) ms)
+          ≡ cond low (m ∷ filter (is_below v) ms) (filter (is_below v) ms) ++ cond next (m ∷ filter (is_of_version (suc v)) ms) (filter (is_of_version (suc v)) ms)
       by true true e f rest = absurd (grind (arith, nat_tests))
       by true false e f rest =
           let yes : nat_le m.version.0 (suc v) ≡ true = grind (arith, nat_tests) in
@@ -78,30 +78,30 @@ below_next v (m ∷ ms) asc =
           let above : v < m.version.0 = grind (arith, nat_tests) in
           let none = none_next v m ms asc above in
           ap (λ (b : Bool). cond b (m ∷ filter (is_below (suc v)) ms) (filter (is_below (suc v)) ms)) yes
-          ∙ ap (λ (z : List Member). m ∷ z) (rest ∙ ap (λ (z : List Member). z ++ filter (is_of (suc v)) ms) none)
-          ∙ sym (ap (λ (z : List Member). z ++ m ∷ filter (is_of (suc v)) ms) none)
+          ∙ ap (λ (z : List Member). m ∷ z) (rest ∙ ap (λ (z : List Member). z ++ filter (is_of_version (suc v)) ms) none)
+          ∙ sym (ap (λ (z : List Member). z ++ m ∷ filter (is_of_version (suc v)) ms) none)
       by false false e f rest =
           let no : nat_le m.version.0 (suc v) ≡ false = grind (arith, nat_tests) in
           ap (λ (b : Bool). cond b (m ∷ filter (is_below (suc v)) ms) (filter (is_below (suc v)) ms)) no ∙ rest
 
-zero_of : (m : Member) → is_below zero m ≡ is_of zero m
+zero_of : (m : Member) → is_below zero m ≡ is_of_version zero m
 zero_of m = zero_case m.version.0 where
   zero_case : (n : ℕ) → nat_le n zero ≡ (n == zero)
   zero_case n = grind (arith, nat_tests)
 
 -- where each version's trees are its members, the list is the serial order
 pub is_serial : (s : ScriptData) (h : List Entry) (xs ys : List Member) → IsByVersion xs ys
-    → ((v : ℕ) → trees_of (filter (is_of v) xs) ≡ members s h v) → IsSerial s h ys
+    → ((v : ℕ) → trees_of_members (filter (is_of_version v) xs) ≡ members s h v) → IsSerial s h ys
 is_serial s h xs ys by each = record { ascending = by.ascending; each = upto } where
-  one : (v : ℕ) → trees_of (filter (is_of v) ys) ≡ members s h v
-  one v = ap trees_of (by.stable v) ∙ each v
+  one : (v : ℕ) → trees_of_members (filter (is_of_version v) ys) ≡ members s h v
+  one v = ap trees_of_members (by.stable v) ∙ each v
 
-  upto : (v : ℕ) → trees_of (filter (is_below v) ys) ≡ serial_to s h v
-  upto zero = ap trees_of (filter_alike (is_below zero) (is_of zero) ys zero_of) ∙ one zero
+  upto : (v : ℕ) → trees_of_members (filter (is_below v) ys) ≡ serial_to s h v
+  upto zero = ap trees_of_members (filter_alike (is_below zero) (is_of_version zero) ys zero_of) ∙ one zero
   upto (suc v) =
-      ap trees_of (below_next v ys by.ascending)
-      ∙ map-append (λ (m : Member). m.tree.0) (filter (is_below v) ys) (filter (is_of (suc v)) ys)
-      ∙ ap (λ (z : List ℕ). z ++ trees_of (filter (is_of (suc v)) ys)) (upto v)
+      ap trees_of_members (below_next v ys by.ascending)
+      ∙ map-append (λ (m : Member). m.tree.0) (filter (is_below v) ys) (filter (is_of_version (suc v)) ys)
+      ∙ ap (λ (z : List ℕ). z ++ trees_of_members (filter (is_of_version (suc v)) ys)) (upto v)
       ∙ ap (λ (z : List ℕ). serial_to s h v ++ z) (one (suc v))
 
 -- a list cut where the versions pass v

@@ -13,11 +13,11 @@ use Rattle.board_model.specs.declared.serial.Member.{Member}
 use Rattle.board_model.specs.Balances.{all_after_tree, first_values, worths}
 use Rattle.board_model.specs.Carried.{after_members}
 use Rattle.board_model.specs.inside.May.{all_subs_may, all_trees_may}
-use Rattle.board_model.specs.SerialList.{IsSerial, is_below, trees_of}
+use Rattle.board_model.specs.SerialList.{IsSerial, is_below, trees_of_members}
 use Rattle.board_model.proofs.AllItems.{all_may, worth_all}
 use Rattle.board_model.proofs.ByVersion.{cut, version_no}
-use Rattle.board_model.proofs.Closings.{AreApart}
-use Rattle.board_model.proofs.SerialOrder.{serial_to_apart}
+use Rattle.board_rules.proofs.Closings.{AreApart}
+use Rattle.board_rules.proofs.SerialOrder.{serial_to_apart}
 
 -- a version that none passes
 greatest : (ms : List Member) → ℕ
@@ -33,10 +33,10 @@ all_below (m ∷ ms) v small =
     ∙ ap (λ (z : List Member). m ∷ z) (all_below ms v (omega arith))
 
 -- the trees of a serial order stand there once
-pub serial_apart : (s : ScriptData) (h : List Entry) (ms : List Member) → IsSerial s h ms → AreApart (trees_of ms)
+pub serial_apart : (s : ScriptData) (h : List Entry) (ms : List Member) → IsSerial s h ms → AreApart (trees_of_members ms)
 serial_apart s h ms serial =
     let v : ℕ = greatest ms in
-    subst AreApart (sym (serial.each v) ∙ ap trees_of (all_below ms v (omega arith))) (serial_to_apart s h v)
+    subst AreApart (sym (serial.each v) ∙ ap trees_of_members (all_below ms v (omega arith))) (serial_to_apart s h v)
 
 rest_may : (s : ScriptData) (a b : List ℕ) (ws : List Value) → IsTrue (all_trees_may s (a ++ b) ws)
     → IsTrue (all_trees_may s b (fold (all_after_tree s) ws a))
@@ -45,22 +45,22 @@ rest_may s (t ∷ a) b ws h =
     rest_may s a b (all_after_tree s ws t) (right_true (all_subs_may (subs_at s t) ws) (all_trees_may s (a ++ b) (all_after_tree s ws t)) h)
 
 -- a list at a place
-parts : (ms : List Member) (p : ℕ) (d : Member) → p < length ms → trees_of ms ≡ trees_of (take p ms) ++ (get_or ms p d).tree.0 ∷ trees_of (drop (p + 1) ms)
+parts : (ms : List Member) (p : ℕ) (d : Member) → p < length ms → trees_of_members ms ≡ trees_of_members (take p ms) ++ (get_or ms p d).tree.0 ∷ trees_of_members (drop (p + 1) ms)
 parts [] p d small = absurd (omega arith)
 parts (m ∷ ms) zero d small = refl
 parts (m ∷ ms) (suc p) d small =
     let e : suc (p + 1) ≡ suc p + 1 = omega arith in
     ap (λ (z : List ℕ). m.tree.0 ∷ z) (parts ms p d (omega arith))
-    ∙ ap (λ (k : ℕ). m.tree.0 ∷ (trees_of (take p ms) ++ (get_or ms p d).tree.0 ∷ trees_of (drop k (m ∷ ms)))) e
+    ∙ ap (λ (k : ℕ). m.tree.0 ∷ (trees_of_members (take p ms) ++ (get_or ms p d).tree.0 ∷ trees_of_members (drop k (m ∷ ms)))) e
 
 -- the deeds of the member at the place may be done
 pub member_may : (s : ScriptData) (h : List Entry) (ms : List Member) (p : ℕ) (d : Member) (ws : List Value) → IsValid s → IsSerial s h ms
     → p < length ms → ws ≡ after_members s ms p → IsTrue (all_subs_may (subs_at s (get_or ms p d).tree.0) ws)
 member_may s h ms p d ws valid serial small is =
     let t : ℕ = (get_or ms p d).tree.0 in
-    let front : List ℕ = trees_of (take p ms) in
-    let more : List ℕ = trees_of (drop (p + 1) ms) in
-    let all : IsTrue (all_trees_may s (trees_of ms) (first_values s.items)) = all_may s (trees_of ms) valid (serial_apart s h ms serial) in
+    let front : List ℕ = trees_of_members (take p ms) in
+    let more : List ℕ = trees_of_members (drop (p + 1) ms) in
+    let all : IsTrue (all_trees_may s (trees_of_members ms) (first_values s.items)) = all_may s (trees_of_members ms) valid (serial_apart s h ms serial) in
     let whole : IsTrue (all_trees_may s (front ++ t ∷ more) (first_values s.items))
     = subst (λ (z : List ℕ). IsTrue (all_trees_may s z (first_values s.items))) (parts ms p d small) all in
     subst (λ (z : List Value). IsTrue (all_subs_may (subs_at s t) z)) (sym is)
@@ -79,9 +79,9 @@ pub member_more : (s : ScriptData) (ms : List Member) (p : ℕ) (d : Member) (ws
     → all_after_tree s ws (get_or ms p d).tree.0 ≡ after_members s ms (p + 1)
 member_more s ms p d ws small is =
     ap (λ (z : List Value). all_after_tree s z (get_or ms p d).tree.0) is
-    ∙ sym (ap (λ (z : List Member). fold (all_after_tree s) (first_values s.items) (trees_of z)) (taken ms p d small)
+    ∙ sym (ap (λ (z : List Member). fold (all_after_tree s) (first_values s.items) (trees_of_members z)) (taken ms p d small)
     ∙ ap (λ (z : List ℕ). fold (all_after_tree s) (first_values s.items) z) (map-append (λ (m : Member). m.tree.0) (take p ms) (get_or ms p d ∷ []))
-    ∙ fold-append (all_after_tree s) (first_values s.items) (trees_of (take p ms)) ((get_or ms p d).tree.0 ∷ []))
+    ∙ fold-append (all_after_tree s) (first_values s.items) (trees_of_members (take p ms)) ((get_or ms p d).tree.0 ∷ []))
 
 -- where the pass stops, the values are those of the version
 pub stops : (s : ScriptData) (h : List Entry) (ms : List Member) (p v : ℕ) (ws : List Value) → IsSerial s h ms → ws ≡ after_members s ms p
@@ -89,7 +89,7 @@ pub stops : (s : ScriptData) (h : List Entry) (ms : List Member) (p v : ℕ) (ws
     → ((d : Member) → p < length ms → v < (get_or ms p d).version.0) → ws ≡ worths s h v
 stops s h ms p v ws serial is low high =
     is
-    ∙ ap (λ (z : List Member). fold (all_after_tree s) (first_values s.items) (trees_of z))
+    ∙ ap (λ (z : List Member). fold (all_after_tree s) (first_values s.items) (trees_of_members z))
     (cut v p ms serial.ascending (λ (i : ℕ) (d : Member) a b. low i d a) high)
     ∙ ap (λ (z : List ℕ). fold (all_after_tree s) (first_values s.items) z) (serial.each v)
     ∙ worth_all s h v

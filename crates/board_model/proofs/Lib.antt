@@ -1,10 +1,6 @@
 pub mod AllItems
-pub mod AnyOrder
 pub mod Bounds
-pub mod Closings
-pub mod Places
 pub mod Rows
-pub mod SerialOrder
 pub mod Walk
 pub mod Back
 pub mod ByVersion

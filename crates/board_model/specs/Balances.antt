@@ -7,7 +7,7 @@ use Rattle.tx_trees.specs.ScriptData.{ScriptData, subs_at}
 use Rattle.tx_trees.specs.declared.parts.ItemRow.{ItemRow}
 use Rattle.tx_trees.specs.declared.parts.Sub.{Sub}
 use Rattle.tx_trees.specs.declared.parts.SubOp.{SubOp}
-use Rattle.board_model.specs.Worth.{after_deed, first_value, is_written, worth}
+use Rattle.board_rules.specs.Worth.{after_deed, first_value, is_written, worth}
 
 -- f of the number of each item, where the list begins with item x
 abbrev pub by_number : {A : Type 0} → (ℕ → A) → ℕ → List ItemRow → List A

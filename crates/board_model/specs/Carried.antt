@@ -5,11 +5,11 @@ use Rattle.tx_trees.specs.ScriptData.{ScriptData}
 use Rattle.board_model.specs.declared.carried.Carried.{Carried}
 use Rattle.board_model.specs.declared.serial.Member.{Member}
 use Rattle.board_model.specs.Balances.{all_after_tree, first_values}
-use Rattle.board_model.specs.SerialList.{trees_of}
+use Rattle.board_model.specs.SerialList.{trees_of_members}
 
 -- the values after the first p members
 abbrev pub after_members : ScriptData → List Member → ℕ → List Value
-after_members s ms p = fold (all_after_tree s) (first_values s.items) (trees_of (take p ms))
+after_members s ms p = fold (all_after_tree s) (first_values s.items) (trees_of_members (take p ms))
 
 -- the values after the members up to a place, all of which are of at most the version that was reached
 pub record IsCarried (s : ScriptData) (ms : List Member) (c : Carried) : Type 0 where

@@ -1,12 +1,5 @@
-pub mod Histories
-pub mod Serial
-pub mod Worth
-pub mod Right
 pub mod Standings
 pub mod Balances
 pub mod SerialList
 pub mod Carried
-pub mod Stands
-pub mod Moves
-pub mod Gates
 pub mod inside

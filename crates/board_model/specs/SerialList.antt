@@ -4,10 +4,10 @@ use Rattle.std.specs.List.Sorted.{IsNonDecreasingBy, IsPermutation}
 use Rattle.letter_types.specs.declared.entries.Entry.{Entry}
 use Rattle.tx_trees.specs.ScriptData.{ScriptData}
 use Rattle.board_model.specs.declared.serial.Member.{Member}
-use Rattle.board_model.specs.Serial.{serial_to}
+use Rattle.board_rules.specs.Serial.{serial_to}
 
-abbrev pub is_of : ℕ → Member → Bool
-is_of v m = m.version.0 == v
+abbrev pub is_of_version : ℕ → Member → Bool
+is_of_version v m = m.version.0 == v
 
 abbrev pub is_below : ℕ → Member → Bool
 is_below v m = nat_le m.version.0 v
@@ -16,13 +16,13 @@ is_below v m = nat_le m.version.0 v
 pub record IsByVersion (xs ys : List Member) : Type 0 where
   pub same : IsPermutation xs ys
   pub ascending : IsNonDecreasingBy (λ (m : Member). m.version.0) ys
-  pub stable : (v : ℕ) → filter (is_of v) ys ≡ filter (is_of v) xs
+  pub stable : (v : ℕ) → filter (is_of_version v) ys ≡ filter (is_of_version v) xs
 
 -- the numbers of the trees
-abbrev pub trees_of : List Member → List ℕ
-trees_of ms = map (λ (m : Member). m.tree.0) ms
+abbrev pub trees_of_members : List Member → List ℕ
+trees_of_members ms = map (λ (m : Member). m.tree.0) ms
 
 -- by version, and those of version at most v are the serial order up to v
 pub record IsSerial (s : ScriptData) (h : List Entry) (ms : List Member) : Type 0 where
   pub ascending : IsNonDecreasingBy (λ (m : Member). m.version.0) ms
-  pub each : (v : ℕ) → trees_of (filter (is_below v) ms) ≡ serial_to s h v
+  pub each : (v : ℕ) → trees_of_members (filter (is_below v) ms) ≡ serial_to s h v

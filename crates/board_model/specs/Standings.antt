@@ -4,7 +4,7 @@ use Rattle.letter_types.specs.declared.entries.Entry.{Entry}
 use Rattle.tx_trees.specs.ScriptData.{ScriptData}
 use Rattle.tx_trees.specs.declared.parts.Tree.{Tree}
 use Rattle.board_model.specs.declared.standings.Standing.{Standing}
-use Rattle.board_model.specs.Histories.{is_whole, places_of, version_of, was_committed}
+use Rattle.board_rules.specs.Histories.{is_whole, places_of, version_of, was_committed}
 
 abbrev pub standing_of : ScriptData → List Entry → ℕ → Standing
 standing_of s h t = record { born = version_of h t; whole = is_whole s h t; committed = was_committed t (places_of h) }

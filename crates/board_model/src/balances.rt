@@ -4,7 +4,7 @@ ghost use Rattle.board_model.specs.Balances.{all_after_op, all_after_ops, all_af
 ghost use Rattle.board_model.specs.inside.Balances.{mark_op, mark_ops, mark_subs, mark_trees, no_marks, subs_in, writes_by};
 ghost use Rattle.board_model.specs.inside.May.{all_op_may, all_ops_may, all_subs_may, deed_may, draw_may};
 ghost use Rattle.board_model.specs.Standings.{standings_of};
-ghost use Rattle.board_model.specs.Worth.{after_deed, changes, first_value, with_drawn, with_set};
+ghost use Rattle.board_rules.specs.Worth.{after_deed, changes, first_value, with_drawn, with_set};
 
 use crate::standings::{Standing, Standings};
 use commute_ops::{Amount, Kind, SumValue, TopValue, Value};

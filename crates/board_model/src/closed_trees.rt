@@ -1,8 +1,8 @@
 // The trees in the order in which they were closed, made while a history is gone over from its end.
 ghost use Rattle.std.specs.Prelude.{◌≡◌, IfOk, OnOk};
 ghost use Rattle.tx_trees.specs.ScriptData.{updates};
-ghost use Rattle.board_model.specs.inside.Closed.{Closed, after_act, none_closed, with_tree};
-ghost use Rattle.board_model.specs.Histories.{is_strict_tree};
+ghost use Rattle.board_model.specs.inside.Closed.{Closed, closed_after_act, none_closed, with_tree_closed};
+ghost use Rattle.board_rules.specs.Histories.{is_strict_tree};
 
 use letter_types::Act;
 use std::alloc::Global;
@@ -38,7 +38,7 @@ impl Closings {
 
     // Notes an act, which stands before those noted so far.
     pub(crate) fn note(&mut self, script: &Script, act: &Act) -> Result<(), NoMemory>
-        ensures { OnOk result (self.new ≡ after_act script.now act.now self.old) }
+        ensures { OnOk result (self.new ≡ closed_after_act script.now act.now self.old) }
     {
         match act {
             Act::Did {
@@ -64,7 +64,7 @@ impl Closings {
     // A tree that was closed, before those that are there.
     #[tactic(auto, using(crate::proofs::Rows::set_beyond))]
     fn add(&mut self, tree: TreeNo) -> Result<(), NoMemory>
-        ensures { OnOk result (self.new ≡ with_tree tree self.old) }
+        ensures { OnOk result (self.new ≡ with_tree_closed tree self.old) }
     {
         let place = tree.0 as usize;
         if place < self.marks.len() && self.marks[place] {

@@ -1,9 +1,9 @@
 // The serial order of a history, and what the history says of each tree.
 ghost use Rattle.std.specs.Prelude.{◌≡◌, IfOk, OnOk};
 ghost use Rattle.board_model.specs.inside.Closed.{closed_back};
-ghost use Rattle.board_model.specs.Histories.{places_of};
+ghost use Rattle.board_rules.specs.Histories.{places_of};
 ghost use Rattle.board_model.specs.SerialList.{IsByVersion, IsSerial};
-ghost use Rattle.board_model.specs.inside.SerialList.{counted, counts_by, found_back, member_of, placed};
+ghost use Rattle.board_model.specs.inside.SerialList.{counted_member, counts_by, found_back, member_of, placed};
 ghost use Rattle.board_model.specs.Standings.{standings_of};
 ghost use Rattle.board_model.specs.inside.Tallies.{noted_back};
 
@@ -122,7 +122,7 @@ fn member_of(trees: &[Tree], standings: &[Standing], tree: TreeNo) -> Option<Mem
 
 // A tree of this kind and standing with its version, if its deeds count.
 fn counted(kind: TreeKind, standing: Standing, tree: TreeNo) -> Option<Member>
-    ensures { result ≡ counted kind standing tree }
+    ensures { result ≡ counted_member kind standing tree }
 {
     if !counts_by(kind, standing) {
         return None;

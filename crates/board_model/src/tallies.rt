@@ -1,6 +1,6 @@
 // What is kept of each tree while a history is gone over from its end.
 ghost use Rattle.std.specs.Prelude.{◌≡◌, IfOk, false, get_or, length, replicate, slice_set, true};
-ghost use Rattle.board_model.specs.inside.Tallies.{all_marked, all_met, blank, is_through_by, noted, on_row, standing_by, stood_by, with_news};
+ghost use Rattle.board_model.specs.inside.Tallies.{all_marked, all_met, blank, is_through_by, tallies_with_act, on_row, standing_by, stood_by, with_news};
 
 use crate::standings::{Standing, Standings};
 use letter_types::Act;
@@ -47,7 +47,7 @@ pub(crate) fn blank_rows(alloc: Global, count: usize) -> Result<Vec<Tally>, NoMe
 
 // Notes an act of this actor, which stands before those noted so far.
 pub(crate) fn note(rows: &mut Vec<Tally>, actor: ActorNo, act: &Act)
-    ensures { rows.new.items ≡ noted actor.0 act.now rows.old.items }
+    ensures { rows.new.items ≡ tallies_with_act actor.0 act.now rows.old.items }
 {
     match act {
         Act::Born { tree, version } => note_on(rows, *tree, News::Born(*version)),

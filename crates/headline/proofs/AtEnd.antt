@@ -15,13 +15,13 @@ use Rattle.tx_trees.specs.declared.parts.Tree.{Tree}
 use Rattle.tx_trees.specs.declared.parts.TreeKind.{TreeKind}
 use Rattle.tx_trees.specs.declared.parts.TreeKind.TheVariants as trees
 use Rattle.tx_trees.proofs.SubsOf.{all_at}
-use Rattle.board_model.specs.Histories.{Place, places_of, version_in, version_of}
-use Rattle.board_model.specs.Serial.{is_version}
-use Rattle.board_model.specs.Worth.{is_written, may_write, ops_change, subs_change, trees_write, writes}
+use Rattle.board_rules.specs.Histories.{Place, places_of, version_in, version_of}
+use Rattle.board_rules.specs.Serial.{is_version}
+use Rattle.board_rules.specs.Worth.{is_written, may_write, ops_change, subs_change, trees_write, writes}
 use Rattle.world_model.specs.Counts.{one_if, tally}
 use Rattle.world_model.specs.Tables.{is_run}
 use Rattle.world_model.proofs.Scripts.{IsSound, SubAt, ops_here}
-use Rattle.tree_laws.specs.Dids.{dids, is_did}
+use Rattle.tree_laws.specs.Dids.{dids, is_did_act}
 use Rattle.tree_laws.proofs.Acts.{of_act}
 use Rattle.tree_laws.proofs.Counts.{zero_or}
 use Rattle.tree_laws.proofs.Whole.{dids_in}
@@ -141,7 +141,7 @@ did_here s xs x w t k u j values up version change false is some = absurd (omega
 
 act_here : (s : ScriptData) (xs : List Place) (x w t k : ℕ) (a : Act) → updates s t ≡ true
     → is_version w (version_in t xs) ≡ true → ops_change x (ops_of s t k) ≡ true
-    → 1 ≤ is_did t k a → act_writes s xs x w a ≡ true
+    → 1 ≤ is_did_act t k a → act_writes s xs x w a ≡ true
 act_here s xs x w t k (Did u j values) up version change some =
     did_here s xs x w t k u j values up version change ((u.0 == t) && (j.0 == k)) refl some
 act_here s xs x w t k Finished up version change some = absurd (omega (arith, some))
@@ -149,10 +149,10 @@ act_here s xs x w t k _ up version change some = absurd (omega (arith, some))
 
 some_here : (s : ScriptData) (xs : List Place) (x w t k : ℕ) (zs : List Place) → updates s t ≡ true
     → is_version w (version_in t xs) ≡ true → ops_change x (ops_of s t k) ≡ true
-    → 1 ≤ tally (of_act (is_did t k)) zs → some_write s xs x w zs ≡ true
+    → 1 ≤ tally (of_act (is_did_act t k)) zs → some_write s xs x w zs ≡ true
 some_here s xs x w t k [] up version change some = absurd (omega arith)
 some_here s xs x w t k (z ∷ zs) up version change some =
-    elim (zero_or (is_did t k z.act)) [
+    elim (zero_or (is_did_act t k z.act)) [
       | inl none ↦
           or_right (act_writes s xs x w z.act) (some_write s xs x w zs)
           (some_here s xs x w t k zs up version change (omega (arith, some, none)))

@@ -1,11 +1,11 @@
 -- An entry of a history, with what stood before it and what came later.
-use Rattle.std.proofs.Common.{◌≡◌, ℕ, ◌+◌, List, [], ◌∷◌, ◌++◌, length, take, reverse, sym, ap, ◌∙◌, arith, inl, inr, Some}
+use Rattle.std.proofs.Common.{◌≡◌, ℕ, List, [], ◌∷◌, ◌++◌, length, take, reverse, sym, ap, ◌∙◌, arith, inl, inr, Some}
 use Rattle.std.specs.Prelude.{is_some, slice_get}
-use Rattle.std.proofs.lemmas.List.{take_all, length-reverse}
+use Rattle.std.proofs.lemmas.List.{take_all}
 use Rattle.tv_base.specs.declared.numbers.Version.{Version}
 use Rattle.tv_base.proofs.ByPlace.{slice_get_split}
 use Rattle.letter_types.specs.declared.entries.Entry.{Entry}
-use Rattle.board_model.specs.Histories.{places_at, places_of, version_in, version_of}
+use Rattle.board_rules.specs.Histories.{places_at, places_of, version_in, version_of}
 use Rattle.world_model.proofs.Bridge.{reverse_more}
 use Rattle.tree_laws.proofs.Histories.{earlier, places_more}
 use Rattle.tree_laws.proofs.Versions.{version_stays}
@@ -16,7 +16,6 @@ pub record Stands (past : List Entry) (n : ℕ) (x : Entry) : Type 0 where
   pub before : List Entry
   pub is : past ≡ later ++ x ∷ before
   pub first : take n (reverse past) ≡ reverse before
-  pub upto : take (n + 1) (reverse past) ≡ reverse (x ∷ before)
 
 stands_last : (e : Entry) (past : List Entry) (n : ℕ) (x : Entry) → n ≡ length (reverse past) → e ≡ x → Stands (e ∷ past) n x
 stands_last e past n x at same = record {
@@ -24,8 +23,6 @@ stands_last e past n x at same = record {
   before = past;
   is = ap (λ (y : Entry). y ∷ past) same;
   first = sym (earlier e past n (omega arith)) ∙ take_all n (reverse past) (omega arith);
-  upto = take_all (n + 1) (reverse (e ∷ past)) (omega (arith, length-reverse (e ∷ past), length-reverse past))
-      ∙ ap (λ (y : Entry). reverse (y ∷ past)) same;
 }
 
 pub stands : (past : List Entry) (n : ℕ) (x : Entry) → slice_get (reverse past) n ≡ Some x → Stands past n x
@@ -39,7 +36,6 @@ stands (e ∷ past) n x here =
             before = old.before;
             is = ap (λ (ys : List Entry). e ∷ ys) old.is;
             first = sym (earlier e past n (omega (arith, p.0))) ∙ old.first;
-            upto = sym (earlier e past (n + 1) (omega (arith, p.0))) ∙ old.upto;
           }
       | inr p ↦ stands_last e past n x p.0 p.1
     ]

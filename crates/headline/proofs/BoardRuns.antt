@@ -10,12 +10,12 @@ use Rattle.letter_types.specs.declared.acts.Act.TheVariants.{Born, Did, Turned, 
 use Rattle.letter_types.specs.declared.bodies.Body.TheVariants.{Sub as SubLetter}
 use Rattle.letter_types.specs.declared.entries.Entry.{Entry}
 use Rattle.letter_types.specs.Steps.{Out}
-use Rattle.client_rows.specs.Client.{finishes, next_after, with_answer, with_end}
-use Rattle.tree_step.specs.Done.{turned_if}
-use Rattle.tree_step.specs.Node.{Effect, Node}
+use Rattle.world_model.specs.Client.{client_finishes, next_after, with_answer, with_end}
+use Rattle.world_model.specs.Done.{turned_if}
+use Rattle.world_model.specs.Node.{Effect, Node}
 use Rattle.tx_trees.specs.ScriptData.{ScriptData, node_of}
-use Rattle.board_model.specs.Histories.{Place, places_at, places_of}
-use Rattle.board_model.specs.Moves.{IsBoardRun, IsMove, IsTurn, OneByOne}
+use Rattle.board_rules.specs.Histories.{Place, places_at, places_of}
+use Rattle.board_rules.specs.Moves.{IsBoardRun, IsMove, IsTurn, OneByOne}
 use Rattle.world_model.specs.Runs.{IsStepRun, client_in, node_in}
 use Rattle.world_model.specs.Timely.{AllTimely}
 use Rattle.world_model.proofs.Nexts.{Next, Begins, Hears, Ends, Coordinates, DoesRoot, DoesSub, Notes, Obeys, Order, Turns as TurnsTo, Shows, Sweeps, TellsDone, TellsAsked, SubWork, SubUpdates, SubReads}
@@ -87,13 +87,13 @@ sub_moves s past e t k v false effect c later good are stand is at lt work turn 
 moves_next : (s : ScriptData) (past : List Entry) (e : Entry) → IsGood s past → AreVersioned s past → Stand s past e → Next s past e
     → OneByOne (IsMove s (reverse past)) (places_of (reverse past)) (places_at e)
 moves_next s past e good are stand (Begins is at made) =
-    by_acts s past e _ made.acts (end_moves s past e (finishes s (next_after s (client_in s past)) (client_in s past)))
+    by_acts s past e _ made.acts (end_moves s past e (client_finishes s (next_after s (client_in s past)) (client_in s past)))
 moves_next s past e good are stand (Hears t v answer is at lt made) =
     let c = with_answer t.0 (client_in s past) in
-    by_acts s past e _ made.acts (end_moves s past e (finishes s (next_after s c) c))
+    by_acts s past e _ made.acts (end_moves s past e (client_finishes s (next_after s c) c))
 moves_next s past e good are stand (Ends v is at made) =
     let c = with_end (client_in s past) in
-    by_acts s past e _ made.acts (end_moves s past e (finishes s (next_after s c) c))
+    by_acts s past e _ made.acts (end_moves s past e (client_finishes s (next_after s c) c))
 moves_next s past e good are stand (Coordinates tells at made) = by_acts s past e [] made.acts tt
 moves_next s past e good are stand (DoesRoot t v effect is c at lt new work made) =
     by_acts s past e (Born t v ∷ Did t (record { 0 = 0 }) effect.values ∷ []) made.acts

@@ -8,17 +8,17 @@ use Rattle.tv_base.specs.declared.numbers.Version.{Version}
 use Rattle.letter_types.specs.declared.acts.Act.TheVariants.{Born}
 use Rattle.letter_types.specs.declared.bodies.Body.TheVariants.{Root, Sub as SubLetter}
 use Rattle.letter_types.specs.declared.entries.Entry.{Entry}
-use Rattle.tree_step.specs.Node.{Effect, Node}
+use Rattle.world_model.specs.Node.{Effect, Node}
 use Rattle.tx_trees.specs.ScriptData.{ScriptData, home_of, node_of, updates}
 use Rattle.tx_trees.specs.declared.parts.Sub.{Sub}
-use Rattle.board_model.specs.Histories.{Place, does, is_strict_tree, places_of, version_in, was_done}
-use Rattle.board_model.specs.Moves.{IsAsked, IsAskedBy, IsBirth, IsDeed}
-use Rattle.board_model.proofs.Places.{was_done-append}
+use Rattle.board_rules.specs.Histories.{Place, does, is_strict_tree, places_of, version_in, was_done}
+use Rattle.board_rules.specs.Moves.{IsAsked, IsAskedBy, IsBirth, IsDeed}
+use Rattle.board_rules.proofs.Places.{was_done-append}
 use Rattle.world_model.specs.Counts.{tally}
 use Rattle.world_model.specs.Runs.{node_in}
 use Rattle.world_model.proofs.Nexts.{RootWork, RootUpdates, RootReads, SubWork, SubUpdates, SubReads}
 use Rattle.world_model.proofs.Scripts.{SubAt, sub_here}
-use Rattle.tree_laws.specs.Dids.{asks, dids, is_did}
+use Rattle.tree_laws.specs.Dids.{asks, dids, is_did_act}
 use Rattle.tree_laws.proofs.Acts.{any_counted, of_act}
 use Rattle.tree_laws.proofs.Counts.{not_done, one_here, was_asked}
 use Rattle.tree_laws.proofs.Good.{IsGood}
@@ -51,10 +51,10 @@ birth_is s past e t v effect c good stand is at lt work =
 
 -- Deeds.
 -- what isn't counted wasn't done
-not_by : (t k : ℕ) (xs : List Place) (found : Bool) → was_done t k xs ≡ found → tally (of_act (is_did t k)) xs ≡ 0 → was_done t k xs ≡ false
+not_by : (t k : ℕ) (xs : List Place) (found : Bool) → was_done t k xs ≡ found → tally (of_act (is_did_act t k)) xs ≡ 0 → was_done t k xs ≡ false
 not_by t k xs false is none = is
 not_by t k xs true is none =
-    absurd (omega (arith, none, any_counted (of_act (is_did t k)) (λ (x : Place). does t k x.act) xs (λ x. did_marks t k x.act) is))
+    absurd (omega (arith, none, any_counted (of_act (is_did_act t k)) (λ (x : Place). does t k x.act) xs (λ x. did_marks t k x.act) is))
 
 undone : (past : List Entry) (t k : ℕ) → dids past t k ≡ 0 → was_done t k (places_of (reverse past)) ≡ false
 undone past t k none =

@@ -2,7 +2,7 @@
 use Rattle.std.proofs.Common.{◌≡◌, List, [], reverse, ap, ◌∙◌, arith}
 use Rattle.std.proofs.lemmas.List.{length-reverse, reverse-reverse}
 use Rattle.letter_types.specs.declared.entries.Entry.{Entry}
-use Rattle.advance_coord.specs.Coordinator.{Coordinator}
+use Rattle.world_model.specs.Coordinator.{Coordinator}
 use Rattle.tx_trees.specs.ScriptData.{ScriptData}
 use Rattle.tx_trees.specs.Valid.{IsValid}
 use Rattle.world_model.specs.Runs.{IsStepRun, waiting}

@@ -2,8 +2,8 @@
 use Rattle.std.proofs.Common.{List, [], ◌∷◌, reverse}
 use Rattle.letter_types.specs.declared.entries.Entry.{Entry}
 use Rattle.tx_trees.specs.ScriptData.{ScriptData}
-use Rattle.board_model.specs.Gates.{Fits, KeepsTo}
-use Rattle.board_model.specs.Histories.{Place}
+use Rattle.board_rules.specs.Gates.{Fits, KeepsTo}
+use Rattle.board_rules.specs.Histories.{Place}
 use Rattle.world_model.specs.Runs.{IsStepRun}
 use Rattle.world_model.specs.Timely.{AllTimely}
 use Rattle.world_model.proofs.Scripts.{IsSound}

@@ -15,10 +15,10 @@ use Rattle.tx_trees.specs.declared.parts.ItemRow.{ItemRow}
 use Rattle.tx_trees.specs.declared.parts.Sub.{Sub}
 use Rattle.tx_trees.specs.declared.parts.SubOp.{SubOp}
 use Rattle.tx_trees.specs.declared.parts.TreeKind.{TreeKind}
-use Rattle.board_model.specs.Histories.{Place}
-use Rattle.board_model.specs.Worth.{after_deed, after_ops, after_subs, after_tree}
-use Rattle.board_model.proofs.AnyOrder.{OpsCommute, SubsCommute, after_ops_is, exchanged, ops_on, tree_commutes}
-use Rattle.tree_laws.specs.OwnValues.{after_act, own_acts, updates_to}
+use Rattle.board_rules.specs.Histories.{Place}
+use Rattle.board_rules.specs.Worth.{after_deed, after_ops, after_subs, after_tree}
+use Rattle.board_rules.proofs.AnyOrder.{OpsCommute, SubsCommute, after_ops_is, exchanged, ops_on, tree_commutes}
+use Rattle.tree_laws.specs.OwnValues.{value_after_act, own_acts, updates_to}
 use Rattle.world_model.proofs.Scripts.{IsSound, SubAt, ops_fit}
 use Rattle.tree_laws.proofs.Whole.{none_strict}
 use Rattle.headline.proofs.Placed.{ArePlaced, DidAt}
@@ -74,7 +74,7 @@ did_is s x t k w true = refl
 did_is s x t k w false = refl
 
 act_is : (s : ScriptData) (h : List Entry) (x v : ℕ) (w : Value) (a : Act)
-    → after_act s h x v w a ≡ fold (after_sub s x) w (deed_of s h v a)
+    → value_after_act s h x v w a ≡ fold (after_sub s x) w (deed_of s h v a)
 act_is s h x v w (Did t k values) = did_is s x t.0 k.0 w (updates_to s h v t.0)
 act_is s h x v w Finished = refl
 act_is s h x v w _ = refl
@@ -116,12 +116,12 @@ act_apart s h p x v r w node _ sound at here ne did = refl
 
 own_by : (s : ScriptData) (h : List Entry) (p x v : ℕ) (r : ItemRow) (w : Value) (y : Place) (ys : List Place) → IsSound s
     → slice_get s.items x ≡ Some r → r.node.0 ≡ p → DidAt s y.node y.act
-    → ((u : Value) → fold (after_act s h x v) u (own_acts p ys) ≡ fold (after_sub s x) u (deeds_in s h v ys))
+    → ((u : Value) → fold (value_after_act s h x v) u (own_acts p ys) ≡ fold (after_sub s x) u (deeds_in s h v ys))
     → (test : Bool) → (y.node == p) ≡ test
-    → fold (after_act s h x v) w (own_acts p (y ∷ ys)) ≡ fold (after_sub s x) w (deeds_in s h v (y ∷ ys))
+    → fold (value_after_act s h x v) w (own_acts p (y ∷ ys)) ≡ fold (after_sub s x) w (deeds_in s h v (y ∷ ys))
 own_by s h p x v r w y ys sound at here did rest true is =
     rw is (
-    rest (after_act s h x v w y.act)
+    rest (value_after_act s h x v w y.act)
     ∙ ap (λ (u : Value). fold (after_sub s x) u (deeds_in s h v ys)) (act_is s h x v w y.act)
     ∙ sym (fold-append (after_sub s x) w (deed_of s h v y.act) (deeds_in s h v ys))
     )
@@ -136,7 +136,7 @@ own_by s h p x v r w y ys sound at here did rest false is =
 -- a node's own deeds make of its item what those of all nodes do
 pub own_folded : (s : ScriptData) (h : List Entry) (p x v : ℕ) (r : ItemRow) (w : Value) (ys : List Place) → IsSound s
     → slice_get s.items x ≡ Some r → r.node.0 ≡ p → ArePlaced s ys
-    → fold (after_act s h x v) w (own_acts p ys) ≡ fold (after_sub s x) w (deeds_in s h v ys)
+    → fold (value_after_act s h x v) w (own_acts p ys) ≡ fold (after_sub s x) w (deeds_in s h v ys)
 own_folded s h p x v r w [] sound at here did = refl
 own_folded s h p x v r w (y ∷ ys) sound at here did =
     own_by s h p x v r w y ys sound at here did.0 (λ u. own_folded s h p x v r u ys sound at here did.1) (y.node == p) refl

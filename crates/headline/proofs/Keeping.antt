@@ -19,15 +19,15 @@ use Rattle.letter_types.specs.declared.acts.Act.TheVariants.{Born, Did, Finished
 use Rattle.letter_types.specs.declared.bodies.Body.{Body}
 use Rattle.letter_types.specs.declared.bodies.Body.TheVariants.{Root, Sub as SubLetter, Sweep}
 use Rattle.letter_types.specs.declared.entries.Entry.{Entry}
-use Rattle.tree_step.specs.Apt.{is_timely}
-use Rattle.tree_step.specs.Done.{note_done, raised_if, root_done, sub_done, turned_if}
-use Rattle.tree_step.specs.Node.{Effect, Node}
-use Rattle.node_step.specs.Advancing.{show_row, sweep_row, turn_row}
-use Rattle.client_rows.specs.Client.{finishes, next_after, with_answer, with_end}
+use Rattle.world_model.specs.Named.{is_timely}
+use Rattle.world_model.specs.Done.{note_done, raised_if, root_done, sub_done, turned_if}
+use Rattle.world_model.specs.Node.{Effect, Node}
+use Rattle.world_model.specs.Advancing.{show_row, sweep_row, turn_row}
+use Rattle.world_model.specs.Client.{client_finishes, next_after, with_answer, with_end}
 use Rattle.tx_trees.specs.ScriptData.{ScriptData, home_of, node_of, ops_of, updates}
 use Rattle.tx_trees.specs.declared.parts.ItemRow.{ItemRow}
-use Rattle.board_model.specs.Histories.{Place, places_at, version_in}
-use Rattle.board_model.specs.Worth.{ops_change}
+use Rattle.board_rules.specs.Histories.{Place, places_at, version_in}
+use Rattle.board_rules.specs.Worth.{ops_change}
 use Rattle.world_model.specs.Runs.{MayFollow, IsStepRun, client_in, node_in}
 use Rattle.world_model.specs.Tables.{items_at, start_node}
 use Rattle.world_model.specs.Timely.{AllTimely, WasTimely}
@@ -316,15 +316,15 @@ keeps_next : (s : ScriptData) (past : List Entry) (e : Entry) → IsSound s → 
 keeps_next s past e sound good m are lows keeps was (Begins is at made) p lt =
     let c = client_in s past in
     keeps_outside s past e p are lt (omega arith)
-    (λ x w. of_acts s past e x w _ made.acts ∙ end_writes s (with_entry past e) x w e.actor.0 (finishes s (next_after s c) c)) (keeps p lt)
+    (λ x w. of_acts s past e x w _ made.acts ∙ end_writes s (with_entry past e) x w e.actor.0 (client_finishes s (next_after s c) c)) (keeps p lt)
 keeps_next s past e sound good m are lows keeps was (Hears t v answer is at there made) p lt =
     let c = with_answer t.0 (client_in s past) in
     keeps_outside s past e p are lt (omega arith)
-    (λ x w. of_acts s past e x w _ made.acts ∙ end_writes s (with_entry past e) x w e.actor.0 (finishes s (next_after s c) c)) (keeps p lt)
+    (λ x w. of_acts s past e x w _ made.acts ∙ end_writes s (with_entry past e) x w e.actor.0 (client_finishes s (next_after s c) c)) (keeps p lt)
 keeps_next s past e sound good m are lows keeps was (Ends v is at made) p lt =
     let c = with_end (client_in s past) in
     keeps_outside s past e p are lt (omega arith)
-    (λ x w. of_acts s past e x w _ made.acts ∙ end_writes s (with_entry past e) x w e.actor.0 (finishes s (next_after s c) c)) (keeps p lt)
+    (λ x w. of_acts s past e x w _ made.acts ∙ end_writes s (with_entry past e) x w e.actor.0 (client_finishes s (next_after s c) c)) (keeps p lt)
 keeps_next s past e sound good m are lows keeps was (Coordinates tells at made) p lt =
     keeps_outside s past e p are lt (omega arith) (λ x w. of_acts s past e x w [] made.acts) (keeps p lt)
 keeps_next s past e sound good m are lows keeps was (Obeys h out at below order made) p lt =

@@ -13,26 +13,26 @@ use Rattle.letter_types.specs.declared.entries.Entry.{Entry}
 use Rattle.letter_types.specs.declared.entries.Letter.{Letter}
 use Rattle.letter_types.specs.Steps.{Out}
 use Rattle.node_versions.specs.declared.turns.Turns.{Turns as TurnsOf}
-use Rattle.tree_step.specs.Done.{turned_if}
-use Rattle.tree_step.specs.Node.{Node}
+use Rattle.world_model.specs.Done.{turned_if}
+use Rattle.world_model.specs.Node.{Node}
 use Rattle.tx_trees.specs.Counts.{advances_in}
 use Rattle.tx_trees.specs.ScriptData.{ScriptData, client_of, node_of, updates}
 use Rattle.tx_trees.specs.declared.parts.ScriptRow.{ScriptRow}
 use Rattle.tx_trees.specs.declared.parts.ScriptRow.TheVariants.{Tree as TreeRow, Advance as AdvanceRow, Settle as SettleRow, Lose as LoseRow}
-use Rattle.advance_coord.specs.declared.phase.Phase.{Phase}
-use Rattle.advance_coord.specs.declared.phase.Phase.TheVariants.{Idle, Turning}
-use Rattle.board_model.specs.Gates.{IsBornByItsRow, IsEnd, IsTurnedByItsRow, KeepsTo}
-use Rattle.board_model.specs.Histories.{Place, places_at, places_of}
-use Rattle.board_model.specs.Moves.{OneByOne}
-use Rattle.board_model.specs.Right.{finishes as finishes_act, has_finished}
-use Rattle.client_rows.specs.Client.{all_answered, finishes, next_after, with_answer, with_end}
+use Rattle.world_model.specs.declared.phase.Phase.{Phase}
+use Rattle.world_model.specs.declared.phase.Phase.TheVariants.{Idle, Turning}
+use Rattle.board_rules.specs.Gates.{IsBornByItsRow, IsEnd, IsTurnedByItsRow, KeepsTo}
+use Rattle.board_rules.specs.Histories.{Place, places_at, places_of}
+use Rattle.board_rules.specs.Moves.{OneByOne}
+use Rattle.board_rules.specs.Right.{finishes as finishes_act, has_finished}
+use Rattle.world_model.specs.Client.{all_answered, client_finishes, next_after, with_answer, with_end}
 use Rattle.world_model.specs.Counts.{one_if, tally}
 use Rattle.world_model.specs.Runs.{MayFollow, IsStepRun, client_in, coordinator_in, node_in}
 use Rattle.world_model.specs.Timely.{AllTimely}
 use Rattle.world_model.proofs.Every.{each_taken, node_kept}
 use Rattle.world_model.proofs.Nexts.{Next, Begins, Hears, Ends, Coordinates, DoesRoot, DoesSub, Notes, Obeys, Order, Turns, Shows, Sweeps, TellsDone, TellsAsked}
 use Rattle.world_model.proofs.Scripts.{IsSound, SubAt, tree_below}
-use Rattle.tree_laws.specs.Dids.{asks, is_did, rooted}
+use Rattle.tree_laws.specs.Dids.{asks, is_did_act, roots_sent}
 use Rattle.tree_laws.specs.Ends.{is_finish}
 use Rattle.tree_laws.proofs.Acts.{any_counted, finish_marks, of_act}
 use Rattle.tree_laws.proofs.Client.{at_rest}
@@ -56,8 +56,8 @@ use Rattle.headline.proofs.Opens.{open_run}
 
 -- where the first rows send the root of a tree, one of them is its row
 tree_row_by : (t n : ℕ) (u : TreeNo) (rows : List ScriptRow) (test : Bool) → (u.0 == t) ≡ test
-    → (1 ≤ rooted t (take n rows) → (i : ℕ) × (i < n) × (slice_get rows i ≡ Some (TreeRow (record { 0 = t }))))
-    → 1 ≤ one_if (u.0 == t) + rooted t (take n rows)
+    → (1 ≤ roots_sent t (take n rows) → (i : ℕ) × (i < n) × (slice_get rows i ≡ Some (TreeRow (record { 0 = t }))))
+    → 1 ≤ one_if (u.0 == t) + roots_sent t (take n rows)
     → (i : ℕ) × (i < suc n) × (slice_get (TreeRow u ∷ rows) i ≡ Some (TreeRow (record { 0 = t })))
 tree_row_by t n u rows true is rest some =
     let same : u.0 ≡ t = grind (arith, nat_tests) in
@@ -70,7 +70,7 @@ row_behind : (n : ℕ) (r row : ScriptRow) (rows : List ScriptRow) → (i : ℕ)
     → (i : ℕ) × (i < suc n) × (slice_get (r ∷ rows) i ≡ Some row)
 row_behind n r row rows found = let (i, lt, at) = found in (suc i, omega (arith, lt), at)
 
-tree_row : (t n : ℕ) (rows : List ScriptRow) → 1 ≤ rooted t (take n rows)
+tree_row : (t n : ℕ) (rows : List ScriptRow) → 1 ≤ roots_sent t (take n rows)
     → (i : ℕ) × (i < n) × (slice_get rows i ≡ Some (TreeRow (record { 0 = t })))
 tree_row t zero rows some = absurd (omega (arith, some))
 tree_row t (suc n) [] some = absurd (omega (arith, some))
@@ -188,7 +188,7 @@ finished s past e sound run timely at acts =
     record {
       once = not_finished past (has_finished (places_of (reverse past))) refl (omega (arith, finishes_of past, rest.once, one, most));
       whole = λ t lt. whole_done s past t sound run.1 timely.1 lt (λ i sub.
-          let quiet : tally (is_did t i) e.acts ≡ 0 = ap (λ (xs : List Act). tally (is_did t i) xs) acts in
+          let quiet : tally (is_did_act t i) e.acts ≡ 0 = ap (λ (xs : List Act). tally (is_did_act t i) xs) acts in
           omega (arith, quiet, done_then s (e ∷ past) t sound run timely now lt i sub));
       update = λ p lt. omega (arith, update_is s past p sound run.1 timely.1 lt, (turns p lt).update, update);
       read = λ p lt. omega (arith, read_is s past p sound run.1 timely.1 lt, (turns p lt).read, update);
@@ -250,11 +250,11 @@ obeys s past e p out sound run timely m lt (TellsAsked v k bd is) =
 keeps_next : (s : ScriptData) (past : List Entry) (e : Entry) → IsSound s → IsStepRun s (e ∷ past) → AllTimely s (e ∷ past) → Next s past e
     → KeepAll s (places_of (reverse past)) (places_at e)
 keeps_next s past e sound run timely (Begins is at made) =
-    let c = client_in s past in client_keeps s past e (finishes s (next_after s c) c) sound run timely at made.acts
+    let c = client_in s past in client_keeps s past e (client_finishes s (next_after s c) c) sound run timely at made.acts
 keeps_next s past e sound run timely (Hears t v answer is at lt made) =
-    let c = with_answer t.0 (client_in s past) in client_keeps s past e (finishes s (next_after s c) c) sound run timely at made.acts
+    let c = with_answer t.0 (client_in s past) in client_keeps s past e (client_finishes s (next_after s c) c) sound run timely at made.acts
 keeps_next s past e sound run timely (Ends v is at made) =
-    let c = with_end (client_in s past) in client_keeps s past e (finishes s (next_after s c) c) sound run timely at made.acts
+    let c = with_end (client_in s past) in client_keeps s past e (client_finishes s (next_after s c) c) sound run timely at made.acts
 keeps_next s past e sound run timely (Coordinates tells at made) = by_acts s past e [] made.acts tt
 keeps_next s past e sound run timely (DoesRoot t v effect is c at lt new work made) =
     by_acts s past e (Born t v ∷ Did t (record { 0 = 0 }) effect.values ∷ []) made.acts

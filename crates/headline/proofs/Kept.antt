@@ -17,9 +17,9 @@ use Rattle.item_versions.proofs.Window.{AllUpTo, first-joined, up_to-append, up_
 use Rattle.tx_trees.specs.declared.parts.Deed.{Deed}
 use Rattle.tx_trees.specs.declared.parts.Deed.TheVariants.{Apply, Get, Set, Draw}
 use Rattle.tx_trees.specs.declared.parts.SubOp.{SubOp}
-use Rattle.update_step.specs.Rows.{after_deed, after_ops, can_touch, may_make}
-use Rattle.version_collect.specs.Collecting.{collected_all}
-use Rattle.board_model.specs.Worth.{changes, ops_change}
+use Rattle.world_model.specs.Updates.{table_after_deed, table_after_ops, can_touch, may_make}
+use Rattle.item_versions.specs.Collecting.{collected_all}
+use Rattle.board_rules.specs.Worth.{changes, ops_change}
 use Rattle.tree_laws.proofs.Tables.{replaced_other, replaced_same}
 use Rattle.tree_laws.proofs.Seen.{same_item}
 
@@ -98,7 +98,7 @@ touch_by w v n x op items (Some h) here may =
 
 -- an operation that may be made changes its item
 made_holds : (w v : Version) (n x : ItemNo) (deed : Deed) (items : Table) → may_make v n deed items ≡ true
-    → holds_in w x (after_deed v n deed items)
+    → holds_in w x (table_after_deed v n deed items)
     ≡ ((v.0 == w.0 && ops_change x.0 (record { item = n; deed = deed } ∷ [])) || holds_in w x items)
 made_holds w v n x (Apply op) items may =
     touch_by w v n x op items (item_in n items) refl may ∙ grind (arith, nat_tests)
@@ -111,11 +111,11 @@ join a b c d e = grind (arith, nat_tests)
 
 -- of the versions of an item operations in version v add v, where one of them is on the item
 pub ops_hold : (w v : Version) (x : ItemNo) (os : List SubOp) (items : Table) → can_touch v os items ≡ true
-    → holds_in w x (after_ops v os items) ≡ ((v.0 == w.0 && ops_change x.0 os) || holds_in w x items)
+    → holds_in w x (table_after_ops v os items) ≡ ((v.0 == w.0 && ops_change x.0 os) || holds_in w x items)
 ops_hold w v x [] items can = grind (arith, nat_tests)
 ops_hold w v x (o ∷ os) items can =
-    let parts = and_parts (may_make v o.item o.deed items) (can_touch v os (after_deed v o.item o.deed items)) can in
-    ops_hold w v x os (after_deed v o.item o.deed items) parts.1
+    let parts = and_parts (may_make v o.item o.deed items) (can_touch v os (table_after_deed v o.item o.deed items)) can in
+    ops_hold w v x os (table_after_deed v o.item o.deed items) parts.1
     ∙ ap (λ (b : Bool). (v.0 == w.0 && ops_change x.0 os) || b) (made_holds w v o.item x o.deed items parts.0)
     ∙ join (v.0 == w.0) (ops_change x.0 os) (o.item.0 == x.0) (changes o.deed) (holds_in w x items)
 
@@ -127,7 +127,7 @@ kept_updated low most v n op items (Some h) from to all here =
     (kept_touched low most v op h from to (each-item (IsKept low most) n items h here all)) all
 
 kept_deed : (low most : ℕ) (v : Version) (n : ItemNo) (deed : Deed) (items : Table) → low ≤ v.0 → v.0 ≤ most
-    → Each (IsKept low most) items → Each (IsKept low most) (after_deed v n deed items)
+    → Each (IsKept low most) items → Each (IsKept low most) (table_after_deed v n deed items)
 kept_deed low most v n (Apply op) items from to all = kept_updated low most v n op items (item_in n items) from to all refl
 kept_deed low most v n Get items from to all = all
 kept_deed low most v n (Set a) items from to all = all
@@ -135,10 +135,10 @@ kept_deed low most v n (Draw a) items from to all = all
 
 -- operations in a version from low to most keep each item there
 pub kept_ops : (low most : ℕ) (v : Version) (os : List SubOp) (items : Table) → low ≤ v.0 → v.0 ≤ most
-    → Each (IsKept low most) items → Each (IsKept low most) (after_ops v os items)
+    → Each (IsKept low most) items → Each (IsKept low most) (table_after_ops v os items)
 kept_ops low most v [] items from to all = all
 kept_ops low most v (o ∷ os) items from to all =
-    kept_ops low most v os (after_deed v o.item o.deed items) from to (kept_deed low most v o.item o.deed items from to all)
+    kept_ops low most v os (table_after_deed v o.item o.deed items) from to (kept_deed low most v o.item o.deed items from to all)
 
 pub kept_table : (low m n : ℕ) (items : Table) → m ≤ n → Each (IsKept low m) items → Each (IsKept low n) items
 kept_table low m n [] le all = tt

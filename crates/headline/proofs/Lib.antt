@@ -11,6 +11,7 @@ pub mod Folded
 pub mod Keeping
 pub mod Keeps
 pub mod Kept
+pub mod LastDids
 pub mod Opens
 pub mod OwnWorth
 pub mod Passes
@@ -21,6 +22,7 @@ pub mod RightReads
 pub mod SampledGates
 pub mod SampledHeld
 pub mod SampledMoves
+pub mod SampledOrder
 pub mod SampledReads
 pub mod Settled
 pub mod Staying

@@ -9,9 +9,9 @@ use Rattle.tx_trees.specs.Counts.{advances_in}
 use Rattle.tx_trees.specs.ScriptData.{ScriptData}
 use Rattle.tx_trees.specs.declared.parts.ScriptRow.{ScriptRow}
 use Rattle.tx_trees.specs.declared.parts.ScriptRow.TheVariants.{Tree as TreeRow, Advance as AdvanceRow, Settle as SettleRow, Lose as LoseRow}
-use Rattle.board_model.specs.Gates.{IsOpen, awaited, before_settle, is_settle}
-use Rattle.board_model.specs.Histories.{IsWhole, places_of}
-use Rattle.client_rows.specs.Client.{all_answered}
+use Rattle.board_rules.specs.Gates.{IsOpen, awaited, before_settle, is_settle_row}
+use Rattle.board_rules.specs.Histories.{IsWhole, places_of}
+use Rattle.world_model.specs.Client.{all_answered}
 use Rattle.world_model.specs.Counts.{Each, one_if}
 use Rattle.world_model.specs.Runs.{IsStepRun, client_in}
 use Rattle.world_model.specs.Timely.{AllTimely}
@@ -34,7 +34,7 @@ each_before_by P r rs false one rest = tt
 
 each_before : (P : ScriptRow → Type 0) (rows : List ScriptRow) → Each P rows → Each P (before_settle rows)
 each_before P [] all = tt
-each_before P (r ∷ rs) all = each_before_by P r rs (list_any is_settle rs) all.0 (each_before P rs all.1)
+each_before P (r ∷ rs) all = each_before_by P r rs (list_any is_settle_row rs) all.0 (each_before P rs all.1)
 
 each_at : {X : Type 0} (P : X → Type 0) (xs : List X) (j : ℕ) (x : X) → Each P xs → slice_get xs j ≡ Some x → P x
 each_at P [] j x all here = absurd (cc here)

@@ -13,11 +13,11 @@ use Rattle.letter_types.specs.declared.entries.Entry.{Entry}
 use Rattle.tx_trees.specs.ScriptData.{ScriptData, subs_at, updates}
 use Rattle.tx_trees.specs.declared.parts.ItemRow.{ItemRow}
 use Rattle.tx_trees.specs.declared.parts.Sub.{Sub}
-use Rattle.board_model.specs.Histories.{IsWhole, Place, all_done, does, is_through, places_of, version_of, was_done}
-use Rattle.board_model.specs.Serial.{is_in, serial_to}
-use Rattle.board_model.specs.Worth.{first_value, worth}
-use Rattle.board_model.proofs.Closings.{AreApart}
-use Rattle.board_model.proofs.SerialOrder.{done_of, serial_to_apart, stands_up_to, stands_whole, whole_stands}
+use Rattle.board_rules.specs.Histories.{IsWhole, Place, all_done, does, is_through, places_of, version_of, was_done}
+use Rattle.board_rules.specs.Serial.{is_in, serial_to}
+use Rattle.board_rules.specs.Worth.{first_value, worth}
+use Rattle.board_rules.proofs.Closings.{AreApart}
+use Rattle.board_rules.proofs.SerialOrder.{done_of, serial_to_apart, stands_up_to, stands_whole, whole_stands}
 use Rattle.tree_laws.specs.OwnValues.{is_up_to, own_value, updates_to}
 use Rattle.world_model.specs.Counts.{one_if, tally}
 use Rattle.world_model.specs.Runs.{IsStepRun}
@@ -25,7 +25,7 @@ use Rattle.world_model.specs.Timely.{AllTimely}
 use Rattle.world_model.proofs.Bags.{tally-append}
 use Rattle.world_model.proofs.Every.{each_map, each_none}
 use Rattle.world_model.proofs.Scripts.{IsSound, SubAt, has_root, sub_below, sub_there}
-use Rattle.tree_laws.specs.Dids.{is_did}
+use Rattle.tree_laws.specs.Dids.{is_did_act}
 use Rattle.tree_laws.proofs.Acts.{any_counted, of_act}
 use Rattle.tree_laws.proofs.Counts.{at_most_once}
 use Rattle.tree_laws.proofs.Goods.{good_run}
@@ -52,7 +52,7 @@ either_way true n = refl
 either_way false n = refl
 
 deed_times : (s : ScriptData) (h : List Entry) (v t k : ℕ) (a : Act)
-    → times same_pair (t, k) (deed_of s h v a) ≡ (if updates_to s h v t then is_did t k a else 0)
+    → times same_pair (t, k) (deed_of s h v a) ≡ (if updates_to s h v t then is_did_act t k a else 0)
 deed_times s h v t k (Did u j values) =
     marked (updates_to s h v u.0) (updates_to s h v t) ((u.0 == t) && (j.0 == k)) (u.0, j.0) (t, k) refl
     (λ is. let same : u.0 ≡ t = grind (arith, nat_tests) in ap (updates_to s h v) same)
@@ -64,13 +64,13 @@ both_or_none true m n = refl
 both_or_none false m n = refl
 
 deeds_times : (s : ScriptData) (h : List Entry) (v t k : ℕ) (ys : List Place)
-    → times same_pair (t, k) (deeds_in s h v ys) ≡ (if updates_to s h v t then tally (of_act (is_did t k)) ys else 0)
+    → times same_pair (t, k) (deeds_in s h v ys) ≡ (if updates_to s h v t then tally (of_act (is_did_act t k)) ys else 0)
 deeds_times s h v t k [] = either_way (updates_to s h v t) 0
 deeds_times s h v t k (y ∷ ys) =
     tally-append (λ q. one_if (same_pair q (t, k))) (deed_of s h v y.act) (deeds_in s h v ys)
     ∙ ap (λ (n : ℕ). n + times same_pair (t, k) (deeds_in s h v ys)) (deed_times s h v t k y.act)
-    ∙ ap (λ (n : ℕ). (if updates_to s h v t then is_did t k y.act else 0) + n) (deeds_times s h v t k ys)
-    ∙ both_or_none (updates_to s h v t) (is_did t k y.act) (tally (of_act (is_did t k)) ys)
+    ∙ ap (λ (n : ℕ). (if updates_to s h v t then is_did_act t k y.act else 0) + n) (deeds_times s h v t k ys)
+    ∙ both_or_none (updates_to s h v t) (is_did_act t k y.act) (tally (of_act (is_did_act t k)) ys)
 
 -- How often it stands among the subtransactions of trees.
 other_tree : (t k u i : ℕ) → u ≢ t → one_if (same_pair (u, i) (t, k)) ≡ 0
@@ -145,7 +145,7 @@ inside s t k (u ∷ ts) lt apart =
     ∙ inside_by s t k u ts lt apart.0 (inside s t k ts lt apart.1) (cases_eq u t)
 
 -- Both are the same.
-no_did : (s : ScriptData) (t k node : ℕ) (a : Act) → length (subs_at s t) ≤ k → DidAt s node a → is_did t k a ≡ 0
+no_did : (s : ScriptData) (t k node : ℕ) (a : Act) → length (subs_at s t) ≤ k → DidAt s node a → is_did_act t k a ≡ 0
 no_did s t k node (Did u j values) le did = no_did_by s t k u.0 j.0 le did.0 ((u.0 == t) && (j.0 == k)) refl where
   no_did_by : (s : ScriptData) (t k u j : ℕ) → length (subs_at s t) ≤ k → SubAt s u j → (test : Bool) → ((u == t) && (j == k)) ≡ test
       → one_if ((u == t) && (j == k)) ≡ 0
@@ -168,11 +168,11 @@ version_to v None is = absurd (cc is)
 version_to v (Some w) is = (w, refl, grind (arith, nat_tests))
 
 done_once : (s : ScriptData) (past : List Entry) (t k : ℕ) → SubAt s t k → IsSound s → IsStepRun s past → AllTimely s past
-    → was_done t k (places_of (reverse past)) ≡ true → tally (of_act (is_did t k)) (places_of (reverse past)) ≡ 1
+    → was_done t k (places_of (reverse past)) ≡ true → tally (of_act (is_did_act t k)) (places_of (reverse past)) ≡ 1
 done_once s past t k c sound run timely done =
     omega (
       arith,
-      any_counted (of_act (is_did t k)) (λ (x : Place). does t k x.act) (places_of (reverse past)) (λ x. did_marks t k x.act) done,
+      any_counted (of_act (is_did_act t k)) (λ (x : Place). does t k x.act) (places_of (reverse past)) (λ x. did_marks t k x.act) done,
       dids_in past t k,
       at_most_once s past t k c sound (good_run s past sound run timely),
     )
@@ -209,7 +209,7 @@ stands_exactly s h v t sound whole = stands_by s h v t sound whole (updates_to s
 
 same_inside : (s : ScriptData) (past : List Entry) (v t k : ℕ) → IsSound s → IsStepRun s past → AllTimely s past
     → UpdatesAreWhole s (reverse past) v → k < length (subs_at s t) → (b : Bool) → updates_to s (reverse past) v t ≡ b
-    → one_if b ≡ (if b then tally (of_act (is_did t k)) (places_of (reverse past)) else 0)
+    → one_if b ≡ (if b then tally (of_act (is_did_act t k)) (places_of (reverse past)) else 0)
 same_inside s past v t k sound run timely whole lt true is =
     let h = reverse past in
     let up : updates s t ≡ true = left_true (updates s t) (is_up_to v (version_of h t)) is in
@@ -223,18 +223,18 @@ same_inside s past v t k sound run timely whole lt false is = refl
 same_by : (s : ScriptData) (past : List Entry) (v t k : ℕ) → IsSound s → IsStepRun s past → AllTimely s past
     → UpdatesAreWhole s (reverse past) v → (k < length (subs_at s t)) ⊎ (length (subs_at s t) ≤ k)
     → times same_pair (t, k) (trees_in s (serial_to s (reverse past) v))
-    ≡ (if updates_to s (reverse past) v t then tally (of_act (is_did t k)) (places_of (reverse past)) else 0)
+    ≡ (if updates_to s (reverse past) v t then tally (of_act (is_did_act t k)) (places_of (reverse past)) else 0)
 same_by s past v t k sound run timely whole (inl lt) =
     inside s t k (serial_to s (reverse past) v) lt (serial_to_apart s (reverse past) v)
     ∙ ap one_if (stands_exactly s (reverse past) v t sound whole)
     ∙ same_inside s past v t k sound run timely whole lt (updates_to s (reverse past) v t) refl
 same_by s past v t k sound run timely whole (inr le) =
     let xs = places_of (reverse past) in
-    let none = each_none (of_act (is_did t k)) xs
-    (each_map (λ (x : Place). DidAt s x.node x.act) (λ (x : Place). of_act (is_did t k) x ≡ 0) xs (λ x did. no_did s t k x.node x.act le did)
+    let none = each_none (of_act (is_did_act t k)) xs
+    (each_map (λ (x : Place). DidAt s x.node x.act) (λ (x : Place). of_act (is_did_act t k) x ≡ 0) xs (λ x did. no_did s t k x.node x.act le did)
     (placed_run s past sound run timely)) in
     outside s t k (serial_to s (reverse past) v) le
-    ∙ if_none (updates_to s (reverse past) v t) (tally (of_act (is_did t k)) xs) none
+    ∙ if_none (updates_to s (reverse past) v t) (tally (of_act (is_did_act t k)) xs) none
 
 same_times : (s : ScriptData) (past : List Entry) (v : ℕ) (q : ℕ × ℕ) → IsSound s → IsStepRun s past → AllTimely s past
     → UpdatesAreWhole s (reverse past) v

@@ -11,8 +11,8 @@ use Rattle.tx_trees.specs.Counts.{advances_in}
 use Rattle.tx_trees.specs.ScriptData.{ScriptData}
 use Rattle.tx_trees.specs.declared.parts.ScriptRow.{ScriptRow}
 use Rattle.tx_trees.specs.declared.parts.ScriptRow.TheVariants.{Tree as TreeRow, Advance as AdvanceRow, Settle as SettleRow, Lose as LoseRow}
-use Rattle.board_model.specs.Gates.{awaited, before_settle, is_settle}
-use Rattle.client_rows.specs.Client.{Client, all_answered, have_ended, nudge, submit, submitted, with_answer, with_end}
+use Rattle.board_rules.specs.Gates.{awaited, before_settle, is_settle_row}
+use Rattle.world_model.specs.Client.{Client, all_answered, have_ended, nudge, submit, submitted, with_answer, with_end}
 use Rattle.world_model.specs.Runs.{IsStepRun, client_in}
 use Rattle.world_model.specs.Timely.{AllTimely}
 use Rattle.world_model.proofs.Flows.{client_kept}
@@ -22,7 +22,7 @@ use Rattle.tree_laws.proofs.Client.{answers_grow, at_rest, end_grows}
 use Rattle.tree_laws.proofs.Goods.{next_of}
 
 -- The rows before the last settle row, with one row more behind.
-settle_there : (xs : List ScriptRow) → list_any is_settle (xs ++ SettleRow ∷ []) ≡ true
+settle_there : (xs : List ScriptRow) → list_any is_settle_row (xs ++ SettleRow ∷ []) ≡ true
 settle_there [] = refl
 settle_there (TreeRow t ∷ xs) = settle_there xs
 settle_there (AdvanceRow ∷ xs) = settle_there xs
@@ -34,7 +34,7 @@ settle_ends : (xs : List ScriptRow) → before_settle (xs ++ SettleRow ∷ []) �
 settle_ends [] = refl
 settle_ends (x ∷ xs) = rw (settle_there xs) (ap (λ (rs : List ScriptRow). x ∷ rs) (settle_ends xs))
 
-settles_same : (xs : List ScriptRow) (r : ScriptRow) → is_settle r ≡ false → list_any is_settle (xs ++ r ∷ []) ≡ list_any is_settle xs
+settles_same : (xs : List ScriptRow) (r : ScriptRow) → is_settle_row r ≡ false → list_any is_settle_row (xs ++ r ∷ []) ≡ list_any is_settle_row xs
 settles_same [] r is = rw is refl
 settles_same (TreeRow t ∷ xs) r is = settles_same xs r is
 settles_same (AdvanceRow ∷ xs) r is = settles_same xs r is
@@ -42,7 +42,7 @@ settles_same (SettleRow ∷ xs) r is = refl
 settles_same (LoseRow ∷ xs) r is = settles_same xs r is
 
 -- another row leaves them
-row_ends : (xs : List ScriptRow) (r : ScriptRow) → is_settle r ≡ false → before_settle (xs ++ r ∷ []) ≡ before_settle xs
+row_ends : (xs : List ScriptRow) (r : ScriptRow) → is_settle_row r ≡ false → before_settle (xs ++ r ∷ []) ≡ before_settle xs
 row_ends [] r is = refl
 row_ends (x ∷ xs) r is = rw (settles_same xs r is, row_ends xs r is) refl
 
@@ -65,7 +65,7 @@ passed_at_settle c before rows j true is le rest =
     (rest (ap (λ (xs : List ScriptRow). have_ended c xs) (settle_ends before) ∙ is) (omega (arith, le)))
 passed_at_settle c before rows j false is le rest = absurd (omega (arith, le))
 
-passed_row : (c : Client) (before rows : List ScriptRow) (r : ScriptRow) (j : ℕ) → is_settle r ≡ false → HasPassed c before
+passed_row : (c : Client) (before rows : List ScriptRow) (r : ScriptRow) (j : ℕ) → is_settle_row r ≡ false → HasPassed c before
     → (HasPassed c (before ++ r ∷ []) → HasPassed c ((before ++ r ∷ []) ++ take j rows)) → HasPassed c (before ++ r ∷ take j rows)
 passed_row c before rows r j is base rest =
     passed_later c before r (take j rows) (rest (ap (λ (xs : List ScriptRow). have_ended c xs) (row_ends before r is) ∙ base))

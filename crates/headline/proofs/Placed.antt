@@ -6,11 +6,11 @@ use Rattle.letter_types.specs.declared.acts.Act.TheVariants.{Did, Finished}
 use Rattle.letter_types.specs.declared.bodies.Body.{Body}
 use Rattle.letter_types.specs.declared.entries.Entry.{Entry}
 use Rattle.letter_types.specs.Steps.{Out}
-use Rattle.client_rows.specs.Client.{finishes, next_after, with_answer, with_end}
-use Rattle.tree_step.specs.Done.{turned_if}
-use Rattle.tree_step.specs.Node.{Node}
+use Rattle.world_model.specs.Client.{client_finishes, next_after, with_answer, with_end}
+use Rattle.world_model.specs.Done.{turned_if}
+use Rattle.world_model.specs.Node.{Node}
 use Rattle.tx_trees.specs.ScriptData.{ScriptData, node_of}
-use Rattle.board_model.specs.Histories.{Place, places_at, places_of}
+use Rattle.board_rules.specs.Histories.{Place, places_at, places_of}
 use Rattle.world_model.specs.Counts.{Each}
 use Rattle.world_model.specs.Runs.{IsStepRun, client_in, node_in}
 use Rattle.world_model.specs.Timely.{AllTimely}
@@ -54,11 +54,11 @@ order_placed s node st b out (TellsAsked v k is row) = rw row tt
 -- the acts of one entry
 entry_placed : (s : ScriptData) (past : List Entry) (e : Entry) → Next s past e → ArePlaced s (places_at e)
 entry_placed s past e (Begins is at made) =
-    rw made.acts (end_placed s e.actor.0 (finishes s (next_after s (client_in s past)) (client_in s past)))
+    rw made.acts (end_placed s e.actor.0 (client_finishes s (next_after s (client_in s past)) (client_in s past)))
 entry_placed s past e (Hears t v answer is at lt made) =
-    let c = with_answer t.0 (client_in s past) in rw made.acts (end_placed s e.actor.0 (finishes s (next_after s c) c))
+    let c = with_answer t.0 (client_in s past) in rw made.acts (end_placed s e.actor.0 (client_finishes s (next_after s c) c))
 entry_placed s past e (Ends v is at made) =
-    let c = with_end (client_in s past) in rw made.acts (end_placed s e.actor.0 (finishes s (next_after s c) c))
+    let c = with_end (client_in s past) in rw made.acts (end_placed s e.actor.0 (client_finishes s (next_after s c) c))
 entry_placed s past e (Coordinates tells at made) = rw made.acts tt
 entry_placed s past e (DoesRoot t v effect is c at lt none work made) = rw made.acts (tt, ((c, at), tt))
 entry_placed s past e (DoesSub t k v raises effect is c later from at lt work made) =

@@ -2,7 +2,7 @@
 use Rattle.std.proofs.Common.{List, reverse, subst, sym}
 use Rattle.std.proofs.lemmas.List.{reverse-reverse}
 use Rattle.tree_laws.proofs.Waits.{no_wait}
-use Rattle.board_model.specs.Right.{HasFinished}
+use Rattle.board_rules.specs.Right.{HasFinished}
 use Rattle.headline.proofs.Fitting.{fits_run}
 use Rattle.headline.specs.Headline.{HasHeadline}
 use Rattle.headline.proofs.Few.{held_three}
@@ -10,6 +10,7 @@ use Rattle.headline.proofs.Settled.{settled}
 use Rattle.letter_types.specs.declared.entries.Entry.{Entry}
 use Rattle.headline.proofs.BoardRuns.{board_run}
 use Rattle.run_laws.proofs.InTime.{in_time}
+use Rattle.run_laws.proofs.Taken.{taken_run}
 use Rattle.headline.proofs.Staying.{reads_right, stay_right, updates_first}
 use Rattle.headline.proofs.Undone.{nothing_undone}
 use Rattle.tree_laws.proofs.Whole.{whole}
@@ -28,6 +29,7 @@ headline_past s past sound run finished =
     let timely = in_time s past sound run in
     record {
       run = world_run s past run;
+      apt = taken_run s past sound run;
       finished = finished;
       whole = λ t lt. whole s past t sound.valid sound.runnable run timely finished lt;
       settled = settled s past sound run finished;

@@ -11,10 +11,10 @@ use Rattle.letter_types.specs.declared.entries.Letter.{Letter}
 use Rattle.tv_base.specs.declared.numbers.SubNo.{SubNo}
 use Rattle.tv_base.specs.declared.numbers.TreeNo.{TreeNo}
 use Rattle.tx_trees.specs.ScriptData.{ScriptData, updates}
-use Rattle.advance_coord.specs.declared.phase.Phase.{Phase}
-use Rattle.advance_coord.specs.declared.phase.Phase.TheVariants.{Idle, Turning, Counting, Paused, Showing, Sweeping}
-use Rattle.board_model.specs.Histories.{is_strict_tree, places_of}
-use Rattle.board_model.specs.Moves.{IsShowing, IsSweeping, IsTurn}
+use Rattle.world_model.specs.declared.phase.Phase.{Phase}
+use Rattle.world_model.specs.declared.phase.Phase.TheVariants.{Idle, Turning, Counting, Paused, Showing, Sweeping}
+use Rattle.board_rules.specs.Histories.{is_strict_tree, places_of}
+use Rattle.board_rules.specs.Moves.{IsShowing, IsSweeping, IsTurn}
 use Rattle.world_model.specs.Counts.{one_if}
 use Rattle.world_model.specs.Runs.{MayFollow, IsStepRun, coordinator_in, node_in, waiting}
 use Rattle.world_model.specs.Timely.{AllTimely}

@@ -1,4 +1,4 @@
--- What a step of a read tree gives: what its items are worth at the tree's version, in the history up to there.
+-- What a step of a read tree gives: what its items are worth at the tree's version, in the history with its entry.
 use Rattle.std.proofs.Common.{◌≡◌, ℕ, ◌+◌, ◌<◌, ◌≤◌, Bool, true, false, List, [], ◌∷◌, ◌++◌, reverse, refl, sym, ap, subst, ◌∙◌, arith, Option, Some, None}
 use Rattle.std.specs.Prelude.{if◌then◌else◌, nat_le, nat_lt, slice_get}
 use Rattle.std.specs.List.{AllByRecursion}
@@ -13,23 +13,23 @@ use Rattle.letter_types.specs.declared.bodies.Body.{Body}
 use Rattle.letter_types.specs.declared.bodies.Body.TheVariants.{Sub as SubLetter}
 use Rattle.letter_types.specs.declared.entries.Entry.{Entry}
 use Rattle.letter_types.specs.Steps.{Out}
-use Rattle.client_rows.specs.Client.{finishes, next_after, with_answer, with_end}
-use Rattle.read_step.specs.Rows.{can_get, gets, seen_in}
+use Rattle.world_model.specs.Client.{client_finishes, next_after, with_answer, with_end}
+use Rattle.world_model.specs.Reads.{can_get, gets, seen_in}
 use Rattle.tree_home.specs.Homes.{Gets}
-use Rattle.tree_step.specs.Apt.{is_timely}
-use Rattle.tree_step.specs.Done.{root_done, sub_done, turned_if}
-use Rattle.tree_step.specs.Node.{Effect, Node}
+use Rattle.world_model.specs.Named.{is_timely}
+use Rattle.world_model.specs.Done.{root_done, sub_done, turned_if}
+use Rattle.world_model.specs.Node.{Effect, Node}
 use Rattle.tx_trees.specs.ScriptData.{ScriptData, home_of, node_of, ops_of, reads}
 use Rattle.tx_trees.specs.Valid.{IsOp, OpAt}
 use Rattle.tx_trees.specs.declared.parts.ItemRow.{ItemRow}
 use Rattle.tx_trees.specs.declared.parts.SubOp.{SubOp}
 use Rattle.tx_trees.specs.declared.parts.TreeKind.TheVariants as trees
-use Rattle.board_model.specs.Histories.{version_in, version_of}
-use Rattle.board_model.specs.Right.{shown}
-use Rattle.board_model.specs.Worth.{worth}
+use Rattle.board_rules.specs.Histories.{version_in, version_of}
+use Rattle.board_rules.specs.Right.{shown}
+use Rattle.board_rules.specs.Worth.{worth}
 use Rattle.tree_laws.proofs.Histories.{places_more}
 use Rattle.tree_laws.proofs.OwnDeeds.{Sees, sees_run}
-use Rattle.tree_laws.proofs.Seen.{gets_valued, valued}
+use Rattle.tree_laws.proofs.Seen.{gets_valued}
 use Rattle.tree_laws.proofs.Versions.{not_both, root_version, sub_version, taken_version, versioned_run}
 use Rattle.world_model.specs.Runs.{IsStepRun, client_in, node_in}
 use Rattle.world_model.specs.Timely.{AllTimely}
@@ -46,10 +46,6 @@ use Rattle.headline.proofs.Early.{born_below, read_below, whole_to}
 use Rattle.headline.proofs.OwnWorth.{own_is_worth}
 
 -- What gets give.
-pub shown_valued : (s : ScriptData) (h : List Entry) (v : ℕ) (os : List SubOp) → shown s h v os ≡ valued (λ x. worth s h x v) os
-shown_valued s h v [] = refl
-shown_valued s h v (o ∷ os) = ap (λ (rest : Gets). (o.item, worth s h o.item.0 v) ∷ rest) (shown_valued s h v os)
-
 -- a read's items are at its node, which sees what its own deeds have made of them, and so what they are worth
 gets_seen : (s : ScriptData) (past : List Entry) (p : ℕ) (v : Version) (st : Node) (os : List SubOp) → IsSound s → IsStepRun s past
     → p < s.nodes → Sees s past p st → st.turns.low.0 ≤ v.0 → UpdatesAreWhole s (reverse past) v.0
@@ -75,7 +71,6 @@ gets_right s past t k v st c sound run lt read sees low whole can =
     let os = ops_of s t k in
     let fit = ops_fit s t k trees.Read c sound (reads_kind s t k c read) in
     gets_valued (λ x. worth s (reverse past) x v.0) v os st.items can (gets_seen s past p v st os sound run lt sees low whole fit)
-    ∙ sym (shown_valued s (reverse past) v.0 os)
 
 -- What an entry that does a subtransaction of a read tree gives: the version is known, up to it all update trees were
 -- whole before, and the values are what is shown with the entry.
@@ -181,11 +176,11 @@ acts_read s past e acts is all = subst (λ (xs : List Act). AllByRecursion (Read
 entry_by : (s : ScriptData) (past : List Entry) (e : Entry) → IsSound s → IsStepRun s (e ∷ past) → AllTimely s (e ∷ past) → Next s past e
     → AllByRecursion (ReadsAt s past e) e.acts
 entry_by s past e sound run timely (Begins is at made) =
-    acts_read s past e _ made.acts (end_reads s past e (finishes s (next_after s (client_in s past)) (client_in s past)))
+    acts_read s past e _ made.acts (end_reads s past e (client_finishes s (next_after s (client_in s past)) (client_in s past)))
 entry_by s past e sound run timely (Hears t v answer is at lt made) =
-    let c = with_answer t.0 (client_in s past) in acts_read s past e _ made.acts (end_reads s past e (finishes s (next_after s c) c))
+    let c = with_answer t.0 (client_in s past) in acts_read s past e _ made.acts (end_reads s past e (client_finishes s (next_after s c) c))
 entry_by s past e sound run timely (Ends v is at made) =
-    let c = with_end (client_in s past) in acts_read s past e _ made.acts (end_reads s past e (finishes s (next_after s c) c))
+    let c = with_end (client_in s past) in acts_read s past e _ made.acts (end_reads s past e (client_finishes s (next_after s c) c))
 entry_by s past e sound run timely (Coordinates tells at made) = acts_read s past e [] made.acts tt
 entry_by s past e sound run timely (DoesRoot t v effect is c at lt new work made) =
     let good = good_run s past sound run.1 timely.1 in

@@ -5,9 +5,8 @@ use Rattle.std.specs.Prelude.{IsTrue, slice_get}
 use Rattle.tv_base.specs.declared.numbers.TreeNo.{TreeNo}
 use Rattle.tx_trees.specs.ScriptData.{ScriptData}
 use Rattle.tx_trees.specs.declared.parts.ScriptRow.TheVariants.{Tree, Advance, Settle}
-use Rattle.board_model.specs.Gates.{IsOpen, awaited, before_settle, was_swept}
-use Rattle.board_model.specs.Histories.{Place, places_of}
-use Rattle.board_model.specs.Moves.{is_whole_in}
+use Rattle.board_rules.specs.Gates.{IsOpen, awaited, before_settle, was_swept}
+use Rattle.board_rules.specs.Histories.{Place, is_whole_in, places_of}
 use Rattle.world_model.specs.Runs.{client_in}
 use Rattle.world_model.specs.Sample.{sample, with_read}
 

@@ -6,7 +6,7 @@ use Rattle.commute_ops.specs.declared.value.Value.TheVariants.{Sum}
 use Rattle.item_versions.specs.Item.{Held}
 use Rattle.tx_trees.specs.ScriptData.{ScriptData}
 use Rattle.tx_trees.specs.declared.parts.ScriptRow.TheVariants.{Advance}
-use Rattle.board_model.specs.Worth.{is_written}
+use Rattle.board_rules.specs.Worth.{is_written}
 use Rattle.world_model.specs.Sample.{sample, small}
 use Rattle.headline.specs.Held.{held_after, worth_at_end}
 

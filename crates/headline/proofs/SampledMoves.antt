@@ -4,8 +4,8 @@ use Rattle.std.proofs.Common.{◌≡◌, true, false, arith, [], ◌∷◌, ◌+
 use Rattle.letter_types.specs.declared.acts.Act.TheVariants.{Born}
 use Rattle.tx_trees.specs.ScriptData.{ScriptData}
 use Rattle.tx_trees.specs.declared.parts.ScriptRow.TheVariants.{Advance, Settle}
-use Rattle.board_model.specs.Histories.{places_of, was_done}
-use Rattle.board_model.specs.Moves.{IsDeed, IsShowing, IsTurn, is_whole_in, low_after, read_after, update_after}
+use Rattle.board_rules.specs.Histories.{is_whole_in, places_of, was_done}
+use Rattle.board_rules.specs.Moves.{IsDeed, IsShowing, IsTurn, low_after, read_after, update_after}
 use Rattle.world_model.specs.Runs.{waiting}
 use Rattle.world_model.specs.Sample.{sample, small}
 

@@ -1,6 +1,6 @@
 -- A small run with two update trees, of which the first is undone, and after an advancement a read. Both are whole and
 -- stand in the serial order; what the read is shown is the work of the second alone, with the first and without it.
-use Rattle.std.proofs.Common.{◌≡◌, true, List, [], ◌∷◌, reverse, refl, Some}
+use Rattle.std.proofs.Common.{◌≡◌, ℕ, true, List, [], ◌∷◌, reverse, refl, Some}
 use Rattle.std.specs.Prelude.{pos}
 use Rattle.commute_ops.specs.declared.value.Value.TheVariants.{Sum}
 use Rattle.letter_types.specs.declared.entries.Entry.{Entry}
@@ -10,11 +10,11 @@ use Rattle.tx_trees.specs.declared.parts.Form.TheVariants.{Two}
 use Rattle.tx_trees.specs.declared.parts.ScriptRow.TheVariants.{Tree, Advance, Settle}
 use Rattle.tx_trees.specs.declared.parts.Sub.{Sub}
 use Rattle.tx_trees.specs.declared.parts.TreeKind.TheVariants.{Update}
-use Rattle.board_model.specs.Histories.{is_whole, version_of}
-use Rattle.board_model.specs.Right.{shown}
-use Rattle.board_model.specs.Serial.{serial_to}
+use Rattle.board_rules.specs.Histories.{is_whole, version_of}
+use Rattle.board_rules.specs.Right.{shown, with_worths}
+use Rattle.board_rules.specs.Serial.{serial_to}
 use Rattle.world_model.specs.Sample.{sample, with_read}
-use Rattle.headline.specs.Undone.{is_undone, shown_kept}
+use Rattle.headline.specs.Undone.{is_undone, worth_kept}
 
 -- the small script with a read, and before its trees one that is undone, since its child that adds 7 to item b fails
 abbrev failing : ScriptData
@@ -49,5 +49,5 @@ read_in_next = refl
 shown_with : shown failing ran 1 (ops_of failing 2 1) ≡ (record { 0 = 0 }, Sum (record { 0 = pos 15 })) ∷ []
 shown_with = refl
 
-shown_without : shown_kept failing ran 1 (ops_of failing 2 1) ≡ (record { 0 = 0 }, Sum (record { 0 = pos 15 })) ∷ []
+shown_without : with_worths (λ (x : ℕ). worth_kept failing ran x 1) (ops_of failing 2 1) ≡ (record { 0 = 0 }, Sum (record { 0 = pos 15 })) ∷ []
 shown_without = refl

@@ -13,11 +13,11 @@ use Rattle.node_versions.specs.declared.turns.Turns.{Turns}
 use Rattle.tx_trees.specs.Counts.{advances_in}
 use Rattle.tx_trees.specs.ScriptData.{ScriptData}
 use Rattle.tx_trees.specs.declared.parts.ItemRow.{ItemRow}
-use Rattle.advance_coord.specs.declared.phase.Phase.{Phase}
-use Rattle.advance_coord.specs.declared.phase.Phase.TheVariants.{Idle, Turning, Counting, Paused, Showing, Sweeping}
-use Rattle.client_rows.specs.Client.{all_answered}
-use Rattle.board_model.specs.Right.{HasFinished}
-use Rattle.board_model.specs.Worth.{is_written, worth}
+use Rattle.world_model.specs.declared.phase.Phase.{Phase}
+use Rattle.world_model.specs.declared.phase.Phase.TheVariants.{Idle, Turning, Counting, Paused, Showing, Sweeping}
+use Rattle.world_model.specs.Client.{all_answered}
+use Rattle.board_rules.specs.Right.{HasFinished}
+use Rattle.board_rules.specs.Worth.{is_written, worth}
 use Rattle.tree_laws.specs.OwnValues.{seen_at}
 use Rattle.tree_laws.proofs.OwnDeeds.{sees_own}
 use Rattle.world_model.specs.Runs.{IsStepRun, client_in, coordinator_in, node_in}

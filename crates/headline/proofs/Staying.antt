@@ -1,7 +1,6 @@
 -- Every read is right, all update trees of its version and older ones were whole before, and it stays right.
 use Rattle.std.proofs.Common.{◌≡◌, ℕ, ◌+◌, ◌<◌, ◌≤◌, ◌==◌, ◌&&◌, Bool, true, false, List, [], ◌∷◌, ◌++◌, reverse, refl, sym, ap, subst, ◌∙◌, arith, Option, Some, None}
-use Rattle.std.specs.Prelude.{nat_le, take}
-use Rattle.std.specs.List.{AllByRecursion}
+use Rattle.std.specs.Prelude.{nat_le}
 use Rattle.std.proofs.lemmas.Bool.Decides.{nat_tests}
 use Rattle.tv_base.specs.declared.numbers.Version.{Version}
 use Rattle.commute_ops.specs.declared.value.Value.{Value}
@@ -11,15 +10,17 @@ use Rattle.letter_types.specs.declared.entries.Entry.{Entry}
 use Rattle.tx_trees.specs.ScriptData.{ScriptData, ops_of, updates}
 use Rattle.tx_trees.specs.Valid.{IsValid}
 use Rattle.tx_trees.specs.declared.parts.SubOp.{SubOp}
-use Rattle.board_model.specs.Histories.{version_of}
-use Rattle.board_model.specs.Right.{IsRight, IsRightAct, IsShown}
-use Rattle.board_model.specs.Serial.{is_in, serial_to}
-use Rattle.board_model.specs.Worth.{worth}
-use Rattle.board_model.proofs.AnyOrder.{worth_of_trees}
-use Rattle.board_model.proofs.Closings.{AreApart}
-use Rattle.board_model.proofs.SerialOrder.{serial_to_apart}
+use Rattle.board_rules.specs.Histories.{Place, is_whole_in, places_at, places_of, version_in, version_of}
+use Rattle.board_rules.specs.Moves.{AtEachAct, OneByOne}
+use Rattle.board_rules.specs.Right.{IsRight, IsRightAct, IsShown, with_worths}
+use Rattle.board_rules.specs.Serial.{is_in, serial_to}
+use Rattle.board_rules.specs.Worth.{worth, worth_in}
+use Rattle.board_rules.proofs.AnyOrder.{worth_of_trees}
+use Rattle.board_rules.proofs.Closings.{AreApart}
+use Rattle.board_rules.proofs.SerialOrder.{serial_to_apart}
 use Rattle.tree_laws.specs.OwnValues.{is_up_to}
-use Rattle.tree_laws.proofs.Seen.{valued}
+use Rattle.tree_laws.proofs.Goods.{next_of}
+use Rattle.tree_laws.proofs.Histories.{at_each_act_more}
 use Rattle.world_model.specs.Counts.{one_if}
 use Rattle.world_model.specs.Runs.{IsStepRun}
 use Rattle.world_model.specs.Tables.{IsRunnable}
@@ -30,40 +31,56 @@ use Rattle.run_laws.specs.Shown.{NoUpdateCame}
 use Rattle.run_laws.proofs.Closed.{rises, rises_on, run_before, timely_before}
 use Rattle.run_laws.proofs.InTime.{in_time}
 use Rattle.run_laws.proofs.Reached.{now_below}
-use Rattle.headline.specs.Reads.{AreWholeBefore, ComesAfterUpdates, ReadsStayRight, StaysRight, UpdatesComeFirst}
-use Rattle.headline.proofs.Before.{Stands, stands, version_kept}
+use Rattle.headline.specs.Reads.{AreWholeBefore, ComesAfterUpdates, ReadsStayRight, Shows, UpdatesComeFirst}
+use Rattle.headline.proofs.Before.{stands, version_kept}
 use Rattle.headline.proofs.Counted.{numbers_equal, permutes, times}
 use Rattle.headline.proofs.Early.{none_comes, whole_to}
+use Rattle.headline.proofs.LastDids.{IsPlaced, entry_places}
 use Rattle.headline.proofs.OwnWorth.{stands_exactly}
-use Rattle.headline.proofs.RightReads.{ReadsAt, entry_reads, shown_valued}
-
--- what follows for each of a list
-pub acts_map : (P Q : Act → Type 0) (acts : List Act) → ((a : Act) → P a → Q a) → AllByRecursion P acts → AllByRecursion Q acts
-acts_map P Q [] step all = tt
-acts_map P Q (a ∷ acts) step all = (step a all.0, acts_map P Q acts step all.1)
+use Rattle.headline.proofs.RightReads.{ReadsAt, entry_reads}
+use Rattle.headline.proofs.Stays.{whole_more}
 
 -- Right.
-right_act : (s : ScriptData) (past b : List Entry) (e : Entry) (a : Act) → ReadsAt s past e a → IsRightAct s b (reverse (e ∷ past)) a
-right_act s past b e (Did t k values) reads_at = λ read.
+right_act : (s : ScriptData) (past b : List Entry) (e : Entry) (xs ys : List Place) (a : Act)
+    → IsPlaced xs ys (places_of (reverse (e ∷ past))) (record { node = e.actor.0; act = a }) → ReadsAt s past e a
+    → IsRightAct s b (ys ++ record { node = e.actor.0; act = a } ∷ []) a
+right_act s past b e xs ys (Did t k values) at reads_at = λ read.
     let r = reads_at read in
-    subst (λ (o : Option Version). IsShown s (reverse (e ∷ past)) (ops_of s t.0 k.0) values o) (sym r.version) r.right
-right_act s past b e (Voted t k vote) reads_at = absurd reads_at
-right_act s past b e Finished reads_at = tt
-right_act s past b e _ reads_at = tt
+    let h = reverse (e ∷ past) in
+    let os = ops_of s t.0 k.0 in
+    subst (λ (zs : List Place). IsShown (worth_in s zs) os values (version_in t.0 zs)) (sym at.last)
+    (subst (λ (o : Option Version). IsShown (worth s h) os values o) (sym r.version) r.right)
+right_act s past b e xs ys (Voted t k vote) at reads_at = absurd reads_at
+right_act s past b e xs ys Finished at reads_at = tt
+right_act s past b e xs ys _ at reads_at = tt
 
-right_at : (s : ScriptData) (past : List Entry) (n : ℕ) (e : Entry) → IsSound s → IsStepRun s past → Stands past n e
-    → AllByRecursion (IsRightAct s (take n (reverse past)) (take (n + 1) (reverse past))) e.acts
-right_at s past n e sound run at =
-    let whole : IsStepRun s (at.later ++ e ∷ at.before) = subst (IsStepRun s) at.is run in
-    let now : IsStepRun s (e ∷ at.before) = run_before s (e ∷ at.before) at.later whole in
-    let b = take n (reverse past) in
-    subst (λ (h : List Entry). AllByRecursion (IsRightAct s b h) e.acts) (sym at.upto)
-    (acts_map (ReadsAt s at.before e) (IsRightAct s b (reverse (e ∷ at.before))) e.acts (λ a is. right_act s at.before b e a is)
-    (entry_reads s at.before e sound now (in_time s (e ∷ at.before) sound now)))
+right_run : (s : ScriptData) (past : List Entry) → IsSound s → IsStepRun s past → IsRight s (reverse past)
+right_run s [] sound run = λ n e here. absurd (cc here)
+right_run s (e ∷ past) sound run =
+    let timely = in_time s (e ∷ past) sound run in
+    let xs = places_of (reverse past) in
+    at_each_act_more (λ (b : List Entry) (ys : List Place) (y : Place). IsRightAct s b (ys ++ y ∷ []) y.act) e past
+    (right_run s past sound run.1)
+    (entry_places s past e (λ (ys : List Place) (y : Place). IsRightAct s (reverse past) (ys ++ y ∷ []) y.act) (ReadsAt s past e)
+    (next_of s past e sound run timely) (entry_reads s past e sound run timely)
+    (λ ys a at is. right_act s past (reverse past) e xs ys a at is))
 
 pub reads_right : (s : ScriptData) (past : List Entry) → IsValid s → IsRunnable s → IsStepRun s past → IsRight s (reverse past)
-reads_right s past valid runnable run = λ n e here.
-    right_at s past n e (record { valid = valid; runnable = runnable }) run (stands past n e here)
+reads_right s past valid runnable run = right_run s past (record { valid = valid; runnable = runnable }) run
+
+-- What holds of each act by the whole history, from what is known of it and from its place.
+each_act : (s : ScriptData) (past : List Entry) (P : List Place → Place → Type 0) → IsSound s → IsStepRun s past
+    → ((before later : List Entry) (e : Entry) (ys : List Place) (a : Act) → past ≡ later ++ e ∷ before
+    → IsPlaced (places_of (reverse before)) ys (places_of (reverse (e ∷ before))) (record { node = e.actor.0; act = a })
+    → ReadsAt s before e a → P ys (record { node = e.actor.0; act = a }))
+    → AtEachAct (λ (b : List Entry). P) (reverse past)
+each_act s past P sound run step = λ n e here.
+    let at = stands past n e here in
+    let now : IsStepRun s (e ∷ at.before) = run_before s (e ∷ at.before) at.later (subst (IsStepRun s) at.is run) in
+    let timely = in_time s (e ∷ at.before) sound now in
+    subst (λ (b : List Entry). OneByOne P (places_of b) (places_at e)) (sym at.first)
+    (entry_places s at.before e P (ReadsAt s at.before e) (next_of s at.before e sound now timely)
+    (entry_reads s at.before e sound now timely) (λ ys a placed is. step at.before at.later e ys a at.is placed is))
 
 -- Updates come first.
 came_before : (s : ScriptData) (past later : List Entry) (e : Entry) (v : ℕ) → IsSound s → IsStepRun s (later ++ e ∷ past)
@@ -76,34 +93,28 @@ came_before s past later e v sound run early = λ t w up born le.
     let now : v < now_below false s (e ∷ past) = omega (arith, early, rise) in
     none_comes s past (e ∷ []) v sound more on_time early t w up (none_comes s (e ∷ past) later v sound run timely now t w up born le) le
 
-first_act : (s : ScriptData) (past later : List Entry) (e : Entry) (a : Act) → IsSound s → IsStepRun s (later ++ e ∷ past)
-    → ReadsAt s past e a → ComesAfterUpdates s (reverse (later ++ e ∷ past)) (reverse past) a
-first_act s past later e (Did t k values) sound run reads_at = λ read.
+first_act : (s : ScriptData) (past later : List Entry) (e : Entry) (ys front : List Place) (a : Act) → IsSound s → IsStepRun s (later ++ e ∷ past)
+    → ys ≡ places_of (reverse past) ++ front → ReadsAt s past e a → ComesAfterUpdates s (reverse (later ++ e ∷ past)) ys a
+first_act s past later e ys front (Did t k values) sound run at reads_at = λ read.
     let r = reads_at read in
     let h = reverse (later ++ e ∷ past) in
     let version : version_of h t.0 ≡ Some r.v = version_kept (e ∷ past) later t.0 r.v r.version in
     let before = (run_before s (e ∷ past) later run).1 in
-    subst (λ (o : Option Version). AreWholeBefore s h (reverse past) o) (sym version)
-    (λ u w up born le.
-    whole_to s past r.v.0 sound before (in_time s past sound before) r.early u w up
-    (came_before s past later e r.v.0 sound run r.early u w up born le) le)
-first_act s past later e Finished sound run reads_at = tt
-first_act s past later e _ sound run reads_at = tt
-
-first_at : (s : ScriptData) (past : List Entry) (n : ℕ) (e : Entry) → IsSound s → IsStepRun s past → Stands past n e
-    → AllByRecursion (ComesAfterUpdates s (reverse past) (take n (reverse past))) e.acts
-first_at s past n e sound run at =
-    let whole : IsStepRun s (at.later ++ e ∷ at.before) = subst (IsStepRun s) at.is run in
-    let now : IsStepRun s (e ∷ at.before) = run_before s (e ∷ at.before) at.later whole in
-    subst (λ (b : List Entry). AllByRecursion (ComesAfterUpdates s (reverse past) b) e.acts) (sym at.first)
-    (subst (λ (xs : List Entry). AllByRecursion (ComesAfterUpdates s (reverse xs) (reverse at.before)) e.acts) (sym at.is)
-    (acts_map (ReadsAt s at.before e) (ComesAfterUpdates s (reverse (at.later ++ e ∷ at.before)) (reverse at.before)) e.acts
-    (λ a is. first_act s at.before at.later e a sound whole is)
-    (entry_reads s at.before e sound now (in_time s (e ∷ at.before) sound now))))
+    subst (λ (o : Option Version). AreWholeBefore s h ys o) (sym version) (λ u w up born le.
+    ap (λ (xs : List Place). is_whole_in s xs u) at
+    ∙ whole_more s (places_of (reverse past)) front u
+    (whole_to s past r.v.0 sound before (in_time s past sound before) r.early u w up
+    (came_before s past later e r.v.0 sound run r.early u w up born le) le))
+first_act s past later e ys front Finished sound run at reads_at = tt
+first_act s past later e ys front _ sound run at reads_at = tt
 
 pub updates_first : (s : ScriptData) (past : List Entry) → IsValid s → IsRunnable s → IsStepRun s past → UpdatesComeFirst s (reverse past)
-updates_first s past valid runnable run = λ n e here.
-    first_at s past n e (record { valid = valid; runnable = runnable }) run (stands past n e here)
+updates_first s past valid runnable run =
+    let sound : IsSound s = record { valid = valid; runnable = runnable } in
+    each_act s past (λ (ys : List Place) (y : Place). ComesAfterUpdates s (reverse past) ys y.act) sound run
+    (λ before later e ys a is placed reads_at.
+    subst (λ (xs : List Entry). ComesAfterUpdates s (reverse xs) ys a) (sym is)
+    (first_act s before later e ys placed.front a sound (subst (IsStepRun s) is run) placed.before reads_at))
 
 -- Reads stay right: the trees up to a version that is shown stay the same, so what items are worth there does too.
 times_is : (t : ℕ) (ts : List ℕ) → AreApart ts → times (λ (a b : ℕ). a == b) t ts ≡ one_if (is_in t ts)
@@ -156,12 +167,12 @@ worth_stays s past later x v sound run early =
     ∙ ap one_if (trees_same s past later v t sound run early)
     ∙ sym (times_is t new (serial_to_apart s (reverse (later ++ past)) v)))))
 
-valued_same : (f g : ℕ → Value) (os : List SubOp) → ((x : ℕ) → f x ≡ g x) → valued f os ≡ valued g os
+pub valued_same : (f g : ℕ → Value) (os : List SubOp) → ((x : ℕ) → f x ≡ g x) → with_worths f os ≡ with_worths g os
 valued_same f g [] same = refl
 valued_same f g (o ∷ os) same = let one = same o.item.0 in let rest = valued_same f g os same in cc
 
 stays_act : (s : ScriptData) (past later : List Entry) (e : Entry) (a : Act) → IsSound s → IsStepRun s (later ++ e ∷ past)
-    → ReadsAt s past e a → StaysRight s (reverse (later ++ e ∷ past)) a
+    → ReadsAt s past e a → Shows (worth s (reverse (later ++ e ∷ past))) s (reverse (later ++ e ∷ past)) a
 stays_act s past later e (Did t k values) sound run reads_at = λ read.
     let r = reads_at read in
     let h = reverse (later ++ e ∷ past) in
@@ -171,24 +182,17 @@ stays_act s past later e (Did t k values) sound run reads_at = λ read.
     let on_time = in_time s (e ∷ past) sound more in
     let rise = rises false s past e (lawful s sound) more.1 on_time.1 ((lawful s sound).next past e more on_time) in
     let now : r.v.0 < now_below false s (e ∷ past) = omega (arith, r.early, rise) in
-    subst (λ (o : Option Version). IsShown s h os values o) (sym version)
-    (r.right ∙ shown_valued s (reverse (e ∷ past)) r.v.0 os
+    subst (λ (o : Option Version). IsShown (worth s h) os values o) (sym version)
+    (r.right
     ∙ valued_same (λ x. worth s (reverse (e ∷ past)) x r.v.0) (λ x. worth s h x r.v.0) os
-    (λ x. worth_stays s (e ∷ past) later x r.v.0 sound run now)
-    ∙ sym (shown_valued s h r.v.0 os))
+    (λ x. worth_stays s (e ∷ past) later x r.v.0 sound run now))
 stays_act s past later e Finished sound run reads_at = tt
 stays_act s past later e _ sound run reads_at = tt
 
-stays_at : (s : ScriptData) (past : List Entry) (n : ℕ) (e : Entry) → IsSound s → IsStepRun s past → Stands past n e
-    → AllByRecursion (StaysRight s (reverse past)) e.acts
-stays_at s past n e sound run at =
-    let whole : IsStepRun s (at.later ++ e ∷ at.before) = subst (IsStepRun s) at.is run in
-    let now : IsStepRun s (e ∷ at.before) = run_before s (e ∷ at.before) at.later whole in
-    subst (λ (xs : List Entry). AllByRecursion (StaysRight s (reverse xs)) e.acts) (sym at.is)
-    (acts_map (ReadsAt s at.before e) (StaysRight s (reverse (at.later ++ e ∷ at.before))) e.acts
-    (λ a is. stays_act s at.before at.later e a sound whole is)
-    (entry_reads s at.before e sound now (in_time s (e ∷ at.before) sound now)))
-
 pub stay_right : (s : ScriptData) (past : List Entry) → IsValid s → IsRunnable s → IsStepRun s past → ReadsStayRight s (reverse past)
-stay_right s past valid runnable run = λ n e here.
-    stays_at s past n e (record { valid = valid; runnable = runnable }) run (stands past n e here)
+stay_right s past valid runnable run =
+    let sound : IsSound s = record { valid = valid; runnable = runnable } in
+    each_act s past (λ (ys : List Place) (y : Place). Shows (worth s (reverse past)) s (reverse past) y.act) sound run
+    (λ before later e ys a is placed reads_at.
+    subst (λ (xs : List Entry). Shows (worth s (reverse xs)) s (reverse xs) a) (sym is)
+    (stays_act s before later e a sound (subst (IsStepRun s) is run) reads_at))

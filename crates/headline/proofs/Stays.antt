@@ -6,9 +6,8 @@ use Rattle.std.proofs.lemmas.Bool.{and_from, and_parts, or_left}
 use Rattle.std.proofs.lemmas.List.Folds.{list_any-append}
 use Rattle.tx_trees.specs.ScriptData.{ScriptData, subs_at}
 use Rattle.tx_trees.specs.declared.parts.Sub.{Sub}
-use Rattle.board_model.specs.Gates.{IsOpen, sweeps_to}
-use Rattle.board_model.specs.Histories.{Place, all_applied, all_done, applies, does, is_strict_tree, is_through, was_applied, was_done}
-use Rattle.board_model.specs.Moves.{is_whole_in, was_born}
+use Rattle.board_rules.specs.Gates.{IsOpen, sweeps_to}
+use Rattle.board_rules.specs.Histories.{Place, all_applied, all_done, applies, does, is_strict_tree, is_through, is_whole_in, was_applied, was_born, was_done}
 use Rattle.tree_laws.proofs.Versions.{version_stays}
 
 -- what is among the first acts is among all

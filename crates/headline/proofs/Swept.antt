@@ -13,16 +13,16 @@ use Rattle.letter_types.specs.declared.bodies.Body.TheVariants.{Sweep}
 use Rattle.letter_types.specs.declared.entries.Entry.{Entry}
 use Rattle.letter_types.specs.declared.entries.Letter.{Letter}
 use Rattle.letter_types.specs.Steps.{Out}
-use Rattle.node_step.specs.Advancing.{sweep_row}
+use Rattle.world_model.specs.Advancing.{sweep_row}
 use Rattle.node_versions.specs.declared.turns.Turns.{Turns as TurnsOf}
 use Rattle.node_versions.specs.Turns.{raised}
-use Rattle.tree_step.specs.Done.{note_done, raised_if, root_done, sub_done}
-use Rattle.tree_step.specs.Node.{Node}
+use Rattle.world_model.specs.Done.{note_done, raised_if, root_done, sub_done}
+use Rattle.world_model.specs.Node.{Node}
 use Rattle.tx_trees.specs.ScriptData.{ScriptData, home_of, node_of}
-use Rattle.advance_coord.specs.declared.phase.Phase.{Phase}
-use Rattle.advance_coord.specs.declared.phase.Phase.TheVariants.{Sweeping}
-use Rattle.board_model.specs.Gates.{sweeps_to, was_swept}
-use Rattle.board_model.specs.Histories.{Place, places_at, places_of}
+use Rattle.world_model.specs.declared.phase.Phase.{Phase}
+use Rattle.world_model.specs.declared.phase.Phase.TheVariants.{Sweeping}
+use Rattle.board_rules.specs.Gates.{sweeps_to, was_swept}
+use Rattle.board_rules.specs.Histories.{Place, places_at, places_of}
 use Rattle.world_model.specs.Counts.{one_if}
 use Rattle.world_model.specs.Runs.{MayFollow, IsStepRun, coordinator_in, node_in, waiting}
 use Rattle.world_model.specs.Timely.{AllTimely}

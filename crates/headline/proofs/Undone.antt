@@ -26,17 +26,18 @@ use Rattle.tx_trees.specs.declared.parts.Tree.{Tree}
 use Rattle.tx_trees.specs.declared.parts.Written.{Written}
 use Rattle.tx_trees.proofs.SubsOf.{found_subs}
 use Rattle.tx_trees.proofs.Undoing.{undone_adds}
-use Rattle.tree_undo.specs.Balance.{added, ops_added, subs_added}
+use Rattle.tree_undo.specs.Balance.{added, sum_of_ops, sum_of_subs}
 use Rattle.tree_undo.proofs.Sums.{undone_even}
-use Rattle.board_model.specs.Histories.{version_of}
-use Rattle.board_model.specs.Right.{IsShown, shown}
-use Rattle.board_model.specs.Serial.{serial_to}
-use Rattle.board_model.specs.Worth.{after_deed, after_ops, after_subs, after_tree, first_value, worth}
+use Rattle.board_rules.specs.Histories.{Place, version_of}
+use Rattle.board_rules.specs.Right.{IsShown}
+use Rattle.board_rules.proofs.Places.{at_each_act_map}
+use Rattle.board_rules.specs.Serial.{serial_to}
+use Rattle.board_rules.specs.Worth.{after_deed, after_ops, after_subs, after_tree, first_value, worth}
 use Rattle.world_model.specs.Runs.{IsStepRun}
 use Rattle.world_model.specs.Tables.{IsRunnable}
-use Rattle.headline.specs.Reads.{StaysRight}
-use Rattle.headline.specs.Undone.{HasNothingUndone, IsShownKept, ShowsNothingUndone, is_undone, shown_kept, worth_kept}
-use Rattle.headline.proofs.Staying.{acts_map, stay_right}
+use Rattle.headline.specs.Reads.{Shows}
+use Rattle.headline.specs.Undone.{ShowsNothingUndone, is_undone, worth_kept}
+use Rattle.headline.proofs.Staying.{stay_right, valued_same}
 
 -- What `add` operations make of a value.
 
@@ -72,20 +73,20 @@ op_raises : (d : Deed) (w : Value) (here : Bool) → is_add d ≡ true
 op_raises d w true is = deed_raises d w is
 op_raises d w false is = sym (raised_none (pos 0) w refl)
 
-ops_raise : (x : ℕ) (os : List SubOp) (w : Value) → ops_add os ≡ true → after_ops x os w ≡ raised (ops_added x os) w
+ops_raise : (x : ℕ) (os : List SubOp) (w : Value) → ops_add os ≡ true → after_ops x os w ≡ raised (sum_of_ops x os) w
 ops_raise x [] w is = sym (raised_none (pos 0) w refl)
 ops_raise x (o ∷ os) w is =
     let n : ℤ = if o.item.0 == x then added o.deed else pos 0 in
     ap (after_ops x os) (op_raises o.deed w (o.item.0 == x) (left_true (is_add o.deed) (ops_add os) is))
     ∙ ops_raise x os (raised n w) (right_true (is_add o.deed) (ops_add os) is)
-    ∙ raised_twice n (ops_added x os) w
+    ∙ raised_twice n (sum_of_ops x os) w
 
-subs_raise : (x : ℕ) (ks : List Sub) (w : Value) → subs_add ks ≡ true → after_subs x ks w ≡ raised (subs_added x ks) w
+subs_raise : (x : ℕ) (ks : List Sub) (w : Value) → subs_add ks ≡ true → after_subs x ks w ≡ raised (sum_of_subs x ks) w
 subs_raise x [] w is = sym (raised_none (pos 0) w refl)
 subs_raise x (k ∷ ks) w is =
     ap (after_subs x ks) (ops_raise x k.ops w (left_true (ops_add k.ops) (subs_add ks) is))
-    ∙ subs_raise x ks (raised (ops_added x k.ops) w) (right_true (ops_add k.ops) (subs_add ks) is)
-    ∙ raised_twice (ops_added x k.ops) (subs_added x ks) w
+    ∙ subs_raise x ks (raised (sum_of_ops x k.ops) w) (right_true (ops_add k.ops) (subs_add ks) is)
+    ∙ raised_twice (sum_of_ops x k.ops) (sum_of_subs x ks) w
 
 -- An undone tree leaves every value as it is.
 
@@ -93,7 +94,7 @@ undone_leaves : (x : ℕ) (ks : List Sub) (failed : ℕ) (w : Value) → subs_ad
     → after_subs x (undone ks failed) w ≡ w
 undone_leaves x ks failed w is =
     subs_raise x (undone ks failed) w (undone_adds ks failed is)
-    ∙ raised_none (subs_added x (undone ks failed)) w (undone_even ks failed x)
+    ∙ raised_none (sum_of_subs x (undone ks failed)) w (undone_even ks failed x)
 
 -- the same of a tree of a valid script
 tree_leaves : (form : Form) (nodes : ℕ) (items : List ItemRow) (front : List Tree) (x : ℕ) (tree : Tree) (w : Value)
@@ -146,24 +147,21 @@ worth_is_kept s h x v valid =
     fold_kept (after_tree s x) (is_undone s) (first_value (slice_get s.items x)) (serial_to s h v)
     (λ t u is. undone_tree_leaves s t x u valid is)
 
-pub shown_is_kept : (s : ScriptData) (h : List Entry) (v : ℕ) (os : List SubOp) → IsValid s
-    → shown s h v os ≡ shown_kept s h v os
-shown_is_kept s h v [] valid = refl
-shown_is_kept s h v (o ∷ os) valid =
-    let one = worth_is_kept s h o.item.0 v valid in let rest = shown_is_kept s h v os valid in cc
-
 shown_at : (s : ScriptData) (h : List Entry) (os : List SubOp) (values : List (ItemNo × Value)) (born : Option Version)
-    → IsValid s → IsShown s h os values born → IsShownKept s h os values born
+    → IsValid s → IsShown (worth s h) os values born → IsShown (worth_kept s h) os values born
 shown_at s h os values None valid is = is
-shown_at s h os values (Some v) valid is = is ∙ shown_is_kept s h v.0 os valid
+shown_at s h os values (Some v) valid is =
+    is ∙ valued_same (λ x. worth s h x v.0) (λ x. worth_kept s h x v.0) os (λ x. worth_is_kept s h x v.0 valid)
 
-act_shows : (s : ScriptData) (h : List Entry) (a : Act) → IsValid s → StaysRight s h a → HasNothingUndone s h a
+act_shows : (s : ScriptData) (h : List Entry) (a : Act) → IsValid s → Shows (worth s h) s h a → Shows (worth_kept s h) s h a
 act_shows s h (Did t k values) valid right = λ read. shown_at s h (ops_of s t.0 k.0) values (version_of h t.0) valid (right read)
 act_shows s h Finished valid right = tt
 act_shows s h _ valid right = tt
 
 pub nothing_undone : (s : ScriptData) (past : List Entry) → IsValid s → IsRunnable s → IsStepRun s past
     → ShowsNothingUndone s (reverse past)
-nothing_undone s past valid runnable run = λ n e here.
-    acts_map (StaysRight s (reverse past)) (HasNothingUndone s (reverse past)) e.acts (λ a right. act_shows s (reverse past) a valid right)
-    (stay_right s past valid runnable run n e here)
+nothing_undone s past valid runnable run =
+    let h = reverse past in
+    at_each_act_map (λ (b : List Entry) (xs : List Place) (x : Place). Shows (worth s h) s h x.act)
+    (λ (b : List Entry) (xs : List Place) (x : Place). Shows (worth_kept s h) s h x.act) h
+    (λ b xs x right. act_shows s h x.act valid right) (stay_right s past valid runnable run)

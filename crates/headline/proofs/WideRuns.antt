@@ -8,7 +8,7 @@ use Rattle.tv_base.specs.declared.numbers.Version.{Version}
 use Rattle.item_versions.specs.Item.{Held}
 use Rattle.item_versions.specs.Table.{Table}
 use Rattle.item_versions.proofs.Tables.{Each as EachItem}
-use Rattle.version_collect.specs.Collecting.{may_collect, may_collect_all}
+use Rattle.item_versions.specs.Collecting.{may_collect, may_collect_all}
 use Rattle.letter_types.specs.declared.bodies.Body.{Body}
 use Rattle.letter_types.specs.declared.bodies.Body.TheVariants.{Go, Sweep}
 use Rattle.letter_types.specs.declared.entries.Entry.{Entry}
@@ -16,9 +16,9 @@ use Rattle.letter_types.specs.declared.entries.Letter.{Letter}
 use Rattle.letter_types.specs.Letters.{find_id, own}
 use Rattle.letter_types.specs.Steps.{Out}
 use Rattle.tx_trees.specs.ScriptData.{ScriptData}
-use Rattle.tree_step.specs.Apt.{is_named, is_new, is_timely}
-use Rattle.tree_step.specs.Node.{Node}
-use Rattle.node_step.specs.Apt.{can_make, is_apt, is_widely_apt, is_widely_timely, node_row, row, wide_node_row}
+use Rattle.world_model.specs.Named.{is_named, is_new, is_timely}
+use Rattle.world_model.specs.Node.{Node}
+use Rattle.world_model.specs.Apt.{can_make, is_apt, is_widely_apt, is_widely_timely, node_row, row, wide_node_row}
 use Rattle.world_model.specs.Runs.{IsRunOf, MayFollow, AtNode, Says, IsStepRun, IsWideRun, IsWorldRun, after, node_in, waiting}
 use Rattle.world_model.specs.Tables.{start_node, wide_actor_row}
 use Rattle.world_model.proofs.Actors.{IsTableOf, RowsRun, rows_run, runs_of_rows}

@@ -11,16 +11,16 @@ use Rattle.letter_types.specs.declared.acts.Act.{Act}
 use Rattle.letter_types.specs.declared.acts.Act.TheVariants.{Born, Did, Finished}
 use Rattle.letter_types.specs.declared.entries.Entry.{Entry}
 use Rattle.tree_home.specs.Homes.{Gets}
-use Rattle.tree_step.specs.Done.{turned_if}
+use Rattle.world_model.specs.Done.{turned_if}
 use Rattle.tx_trees.specs.ScriptData.{ScriptData, node_of, ops_of, updates}
 use Rattle.tx_trees.specs.Valid.{IsOp, OpAt}
 use Rattle.tx_trees.specs.declared.parts.ItemRow.{ItemRow}
 use Rattle.tx_trees.specs.declared.parts.SubOp.{SubOp}
 use Rattle.tx_trees.specs.declared.parts.TreeKind.{TreeKind}
 use Rattle.tx_trees.specs.declared.parts.TreeKind.TheVariants as trees
-use Rattle.board_model.specs.Histories.{Place, places_at, places_of, version_in}
-use Rattle.board_model.specs.Serial.{is_version}
-use Rattle.board_model.specs.Worth.{changes, ops_change}
+use Rattle.board_rules.specs.Histories.{Place, places_at, places_of, version_in}
+use Rattle.board_rules.specs.Serial.{is_version}
+use Rattle.board_rules.specs.Worth.{changes, ops_change}
 use Rattle.world_model.specs.Counts.{Each}
 use Rattle.world_model.proofs.Scripts.{IsSound, SubAt, ops_fit, updates_kind}
 use Rattle.tree_laws.proofs.Histories.{places_more}

@@ -7,11 +7,12 @@
 use Rattle.std.specs.Prelude.{ℕ, ◌<◌, List, length}
 use Rattle.letter_types.specs.declared.entries.Entry.{Entry}
 use Rattle.tx_trees.specs.ScriptData.{ScriptData}
-use Rattle.board_model.specs.Gates.{Fits}
-use Rattle.board_model.specs.Histories.{IsWhole}
-use Rattle.board_model.specs.Moves.{IsBoardRun}
-use Rattle.board_model.specs.Right.{HasFinished, IsAtOnce, IsRight}
+use Rattle.board_rules.specs.Gates.{Fits}
+use Rattle.board_rules.specs.Histories.{IsWhole}
+use Rattle.board_rules.specs.Moves.{IsBoardRun}
+use Rattle.board_rules.specs.Right.{HasFinished, IsAtOnce, IsRight}
 use Rattle.world_model.specs.Runs.{IsWorldRun}
+use Rattle.run_laws.specs.Taken.{TakesWhatIsApt}
 use Rattle.headline.specs.Reads.{ReadsStayRight, UpdatesComeFirst}
 use Rattle.headline.specs.Undone.{ShowsNothingUndone}
 use Rattle.headline.specs.Held.{HasHeldThree, IsSettled}
@@ -22,6 +23,8 @@ pub record HasHeadline (s : ScriptData) (h : List Entry) : Type 0 where
   -- whatever order the nodes' steps and the letters' arrivals take: each actor went by its table, and letters went as
   -- letters do
   pub run : IsWorldRun s h
+  -- and each letter that a node took was apt there, in the node's state at that moment: none was passed over
+  pub apt : TakesWhatIsApt s h
   -- a run that ends: the client has finished, and every tree is whole
   pub finished : HasFinished h
   pub whole : (t : ℕ) → t < length s.trees → IsWhole s h t

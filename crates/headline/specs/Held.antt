@@ -5,12 +5,12 @@ use Rattle.item_versions.specs.Item.{Held}
 use Rattle.item_versions.specs.Table.{Table, item_in}
 use Rattle.item_versions.specs.Window.{first_version}
 use Rattle.letter_types.specs.declared.entries.Entry.{Entry}
-use Rattle.node_versions.specs.Turns.{start as first_turns}
+use Rattle.node_versions.specs.Turns.{turns_start as first_turns}
 use Rattle.node_versions.specs.declared.turns.Turns.{Turns}
 use Rattle.tx_trees.specs.Counts.{advances_in}
 use Rattle.tx_trees.specs.ScriptData.{ScriptData}
 use Rattle.tx_trees.specs.declared.parts.ItemRow.{ItemRow}
-use Rattle.board_model.specs.Worth.{is_written, worth}
+use Rattle.board_rules.specs.Worth.{is_written, worth}
 use Rattle.world_model.specs.Runs.{actor_after}
 use Rattle.world_model.specs.Tables.{ActorData, NodeData, CoordinatorData, ClientData}
 

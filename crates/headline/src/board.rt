@@ -1,6 +1,6 @@
 // Runs as runs of the Board.
 ghost use Rattle.std.specs.Prelude.{List, reverse};
-ghost use Rattle.board_model.specs.Moves.{IsBoardRun};
+ghost use Rattle.board_rules.specs.Moves.{IsBoardRun};
 ghost use Rattle.letter_types.specs.declared.entries.Entry.{Entry};
 ghost use Rattle.tx_trees.specs.ScriptData.{ScriptData};
 ghost use Rattle.tx_trees.specs.Valid.{IsValid};

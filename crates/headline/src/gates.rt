@@ -1,7 +1,7 @@
 // The law of gates: every run keeps to the rows of its script.
 ghost use Rattle.std.specs.Prelude.{◌++◌, ℕ, List, reverse};
-ghost use Rattle.board_model.specs.Gates.{Fits, IsOpen};
-ghost use Rattle.board_model.specs.Histories.{Place};
+ghost use Rattle.board_rules.specs.Gates.{Fits, IsOpen};
+ghost use Rattle.board_rules.specs.Histories.{Place};
 ghost use Rattle.letter_types.specs.declared.entries.Entry.{Entry};
 ghost use Rattle.tx_trees.specs.ScriptData.{ScriptData};
 ghost use Rattle.tx_trees.specs.Valid.{IsValid};

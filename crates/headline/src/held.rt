@@ -1,6 +1,6 @@
 // Laws of items: at most three versions are held, and in the end the balances of the report.
 ghost use Rattle.std.specs.Prelude.{List, reverse};
-ghost use Rattle.board_model.specs.Right.{HasFinished};
+ghost use Rattle.board_rules.specs.Right.{HasFinished};
 ghost use Rattle.headline.specs.Held.{HasHeldThree, IsSettled};
 ghost use Rattle.letter_types.specs.declared.entries.Entry.{Entry};
 ghost use Rattle.tx_trees.specs.ScriptData.{ScriptData};

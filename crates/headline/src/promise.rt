@@ -1,6 +1,6 @@
 // The headline of a run whose client has finished, as one record.
 ghost use Rattle.std.specs.Prelude.{◌≡◌, List, [], reverse};
-ghost use Rattle.board_model.specs.Right.{HasFinished};
+ghost use Rattle.board_rules.specs.Right.{HasFinished};
 ghost use Rattle.headline.specs.Ended.{HasEnded};
 ghost use Rattle.headline.specs.Headline.{HasHeadline};
 ghost use Rattle.letter_types.specs.declared.entries.Entry.{Entry};

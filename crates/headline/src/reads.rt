@@ -1,7 +1,7 @@
 // Laws of reads: they show just the whole update trees of their version and older ones, nothing of a tree that was
 // undone, and stay right.
 ghost use Rattle.std.specs.Prelude.{List, reverse};
-ghost use Rattle.board_model.specs.Right.{IsRight};
+ghost use Rattle.board_rules.specs.Right.{IsRight};
 ghost use Rattle.letter_types.specs.declared.entries.Entry.{Entry};
 ghost use Rattle.headline.specs.Reads.{ReadsStayRight, UpdatesComeFirst};
 ghost use Rattle.headline.specs.Undone.{ShowsNothingUndone};
@@ -11,7 +11,8 @@ ghost use Rattle.world_model.specs.Runs.{IsStepRun};
 ghost use Rattle.world_model.specs.Tables.{IsRunnable};
 
 /// In every run of a valid script of update and read trees, whether versions advance in it or not, each read shows what
-/// its items are worth at its tree's version in the history up to there.
+/// its items are worth at its tree's version after the acts up to there: those of earlier entries, and the earlier ones
+/// of its own entry.
 pub fn every_read_is_right()
     ensures { (s : ScriptData) (past : List Entry) → IsValid s → IsRunnable s → IsStepRun s past
         → IsRight s (reverse past) }

@@ -10,10 +10,10 @@ use Rattle.node_versions.specs.declared.turns.Turns.{Turns}
 use Rattle.pair_counters.specs.Numbers.{AllBelow}
 use Rattle.tree_home.specs.Homes.{Gets, begun}
 use Rattle.tree_home.specs.declared.homes.Answered.{Answered}
-use Rattle.tree_step.specs.Children.{sub_letters, done_letter}
-use Rattle.tree_step.specs.Done.{note_done, root_done, sub_done, sub_sent}
-use Rattle.tree_step.specs.Node.{Effect, Node}
-use Rattle.tree_step.specs.Notices.{answer_noted, reply_letters}
+use Rattle.world_model.specs.Children.{sub_letters, done_letter}
+use Rattle.world_model.specs.Done.{note_done, root_done, sub_done, sub_sent}
+use Rattle.world_model.specs.Node.{Effect, Node}
+use Rattle.world_model.specs.Notices.{answer_noted, reply_letters}
 use Rattle.tv_base.specs.declared.numbers.SubNo.{SubNo}
 use Rattle.tv_base.specs.declared.numbers.TreeNo.{TreeNo}
 use Rattle.tv_base.specs.declared.numbers.Version.{Version}
@@ -23,12 +23,12 @@ use Rattle.std.specs.Prelude.{nat_lt, if◌then◌else◌}
 use Rattle.std.proofs.lemmas.Bool.{cases_eq}
 use Rattle.std.proofs.lemmas.Bool.Decides.{nat_tests}
 use Rattle.pair_counters.specs.Numbers.{from_version}
-use Rattle.node_step.specs.Advancing.{turn_row, show_row, sweep_row, done_row, asked_row}
+use Rattle.world_model.specs.Advancing.{turn_row, show_row, sweep_row, done_row, asked_row}
 use Rattle.world_model.proofs.Every.{node_kept}
 use Rattle.world_model.specs.Runs.{node_in, MayFollow, IsStepRun}
 use Rattle.world_model.proofs.Bags.{sealed_tally, tally_step, tally-append, one_if_most}
 use Rattle.world_model.proofs.Every.{each_append}
-use Rattle.phase_laws.specs.Balance.{MOST_COUNTED, version_is, goes_from, out}
+use Rattle.phase_laws.specs.Balance.{MOST_COUNTED, version_is, goes_between, out}
 use Rattle.world_model.proofs.Nexts.{Next, Begins, Hears, Ends, Coordinates, DoesRoot, DoesSub, Notes, Obeys, Made, Order, Turns as TurnsTo, Shows as ShowsTo, Sweeps as SweepsTo, TellsDone, TellsAsked, Tells}
 use Rattle.world_model.proofs.Scripts.{IsSound, SubAt, is_tree, subs_here}
 use Rattle.phase_laws.proofs.Levels.{sweeps_rise}
@@ -236,12 +236,12 @@ counts_of s past e v laws run timely = counts_by s past e v laws.sound run.0.add
 
 -- what an entry does to the counted letters under way
 pub flow : (s : ScriptData) (past : List Entry) (e : Entry) (v p q : ℕ) → MayFollow s past e
-    → out s (e ∷ past) v p q + goes_from v p q e.took ≡ out s past v p q + tally (sent_on e.actor.0 v p q) e.sent
+    → out s (e ∷ past) v p q + goes_between v p q e.took ≡ out s past v p q + tally (sent_on e.actor.0 v p q) e.sent
 flow s past e v p q m =
     omega (
       arith,
-      tally_step (goes_from v p q) s past e m,
-      sealed_tally (goes_from v p q) (sent_on e.actor.0 v p q) e.stamp.0 e.actor.0 0 e.sent (λ i o. refl),
+      tally_step (goes_between v p q) s past e m,
+      sealed_tally (goes_between v p q) (sent_on e.actor.0 v p q) e.stamp.0 e.actor.0 0 e.sent (λ i o. refl),
     )
 
 -- A low version never falls.

@@ -12,18 +12,18 @@ use Rattle.letter_types.specs.Steps.{Out}
 use Rattle.tv_base.specs.declared.numbers.Version.{Version}
 use Rattle.tree_home.specs.Homes.{begun}
 use Rattle.tree_home.specs.declared.homes.Answered.{Answered}
-use Rattle.tree_step.specs.Apt.{is_timely}
-use Rattle.tree_step.specs.Children.{sub_letters}
-use Rattle.tree_step.specs.Node.{Effect, Node}
-use Rattle.tree_step.specs.Notices.{answer_noted, reply_letters}
+use Rattle.world_model.specs.Named.{is_timely}
+use Rattle.world_model.specs.Children.{sub_letters}
+use Rattle.world_model.specs.Node.{Effect, Node}
+use Rattle.world_model.specs.Notices.{answer_noted, reply_letters}
 use Rattle.tx_trees.specs.ScriptData.{ScriptData, client_of, home_of, subs_at}
 use Rattle.tx_trees.specs.declared.parts.ScriptRow.{ScriptRow}
 use Rattle.tx_trees.specs.declared.parts.ScriptRow.TheVariants.{Tree as TreeRow, Advance as AdvanceRow, Settle as SettleRow, Lose as LoseRow}
 use Rattle.tx_trees.specs.declared.parts.Sub.{Sub}
-use Rattle.advance_coord.specs.Coordinator.{coordinator_row}
-use Rattle.advance_coord.specs.declared.phase.Phase.{Phase}
-use Rattle.advance_coord.specs.declared.phase.Phase.TheVariants.{Idle, Turning, Counting, Paused, Showing, Sweeping}
-use Rattle.client_rows.specs.Client.{Client, rows_letters, submit, submitted, with_answer, with_end, nudge}
+use Rattle.world_model.specs.Coordinator.{coordinator_row}
+use Rattle.world_model.specs.declared.phase.Phase.{Phase}
+use Rattle.world_model.specs.declared.phase.Phase.TheVariants.{Idle, Turning, Counting, Paused, Showing, Sweeping}
+use Rattle.world_model.specs.Client.{Client, rows_letters, submit, submitted, with_answer, with_end, nudge}
 use Rattle.world_model.specs.Counts.{Each}
 use Rattle.world_model.specs.Runs.{client_in, coordinator_in, node_in, waiting, MayFollow, IsStepRun}
 use Rattle.world_model.specs.Timely.{AllTimely}
@@ -36,7 +36,7 @@ use Rattle.world_model.proofs.Orders.{coordinator_each}
 use Rattle.phase_laws.proofs.Levels.{Levels, levels, most_read, order_timely}
 use Rattle.phase_laws.proofs.Outcomes.{update_next}
 use Rattle.phase_laws.proofs.Small.{outcome_in}
-use Rattle.phase_laws.specs.Balance.{version_is, goes_from}
+use Rattle.phase_laws.specs.Balance.{version_is, goes_between}
 use Rattle.phase_laws.proofs.Below.{left_silent}
 use Rattle.phase_laws.proofs.Sending.{Sending, SendsApart, SendsDone, SendsAsked, SendsOrders, sending}
 use Rattle.phase_laws.proofs.Silence.{goes_itself}
@@ -226,7 +226,7 @@ not_left s past e v laws run timely m from lt is (inr left) =
       arith,
       left_silent s past v e.actor.0 laws run timely lt left e.took.from.0 e.actor.0 from lt,
       goes_itself v e.took.from.0 e.actor.0 e.took is refl m.addressee,
-      tally-drop (goes_from v e.took.from.0 e.actor.0) e.took.id (waiting s past) e.took m.waits,
+      tally-drop (goes_between v e.took.from.0 e.actor.0) e.took.id (waiting s past) e.took m.waits,
     ))
 
 pub tree_letter_near : (s : ScriptData) (past : List Entry) (e : Entry) (v : ℕ) → IsLawful s → IsStepRun s past

@@ -5,10 +5,10 @@ use Rattle.std.proofs.lemmas.Bool.Decides.{nat_tests}
 use Rattle.letter_types.specs.declared.entries.Outgoing.{Outgoing}
 use Rattle.pair_counters.specs.Numbers.{Numbers, more_at, asked_one, asked_all}
 use Rattle.tree_home.specs.declared.homes.Answered.{Answered}
-use Rattle.tree_step.specs.Children.{sub_letters, addressees}
-use Rattle.tree_step.specs.Done.{counted_root, counted_sub}
-use Rattle.tree_step.specs.Notices.{reply_letters}
-use Rattle.tree_step.proofs.Requests.{done_kept}
+use Rattle.world_model.specs.Children.{sub_letters, addressees}
+use Rattle.world_model.specs.Done.{counted_root, counted_sub}
+use Rattle.world_model.specs.Notices.{reply_letters}
+use Rattle.world_model.proofs.Requests.{done_kept}
 use Rattle.tx_trees.specs.declared.parts.Sub.{Sub}
 use Rattle.world_model.specs.Counts.{tally, one_if, Each}
 use Rattle.world_model.proofs.Bags.{one_if_most}

@@ -5,9 +5,9 @@ use Rattle.letter_types.specs.declared.bodies.Body.{Body}
 use Rattle.letter_types.specs.declared.entries.Entry.{Entry}
 use Rattle.letter_types.specs.Steps.{Out}
 use Rattle.tx_trees.specs.ScriptData.{ScriptData}
-use Rattle.advance_coord.specs.Coordinator.{Coordinator, counted, coordinator_row, end_count}
-use Rattle.advance_coord.specs.declared.phase.Phase.{Phase}
-use Rattle.advance_coord.specs.declared.phase.Phase.TheVariants.{Idle, Turning, Counting, Paused, Showing, Sweeping}
+use Rattle.world_model.specs.Coordinator.{Coordinator, counted_version, coordinator_row, end_count}
+use Rattle.world_model.specs.declared.phase.Phase.{Phase}
+use Rattle.world_model.specs.declared.phase.Phase.TheVariants.{Idle, Turning, Counting, Paused, Showing, Sweeping}
 use Rattle.world_model.specs.Runs.{IsStepRun, coordinator_in}
 use Rattle.world_model.specs.Timely.{AllTimely}
 use Rattle.world_model.proofs.Every.{coordinator_kept}
@@ -18,7 +18,7 @@ use Rattle.phase_laws.proofs.Small.{outcome_in}
 
 -- the rows are of the version that is counted, of the last round's number, and have a place for each node
 pub record IsCurrent (reads : Bool) (c : Coordinator) : Type 0 where
-  pub version : c.current.version ≡ counted reads c
+  pub version : c.current.version ≡ counted_version reads c
   pub number : c.current.number ≡ c.round
   pub nodes : c.current.nodes ≡ c.nodes
   pub dones : length c.current.dones ≡ c.nodes

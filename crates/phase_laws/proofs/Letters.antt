@@ -14,11 +14,11 @@ use Rattle.letter_types.specs.Steps.{Out}
 use Rattle.tx_trees.specs.ScriptData.{ScriptData, client_of, home_of, node_of, subs_at}
 use Rattle.tree_home.specs.Homes.{Gets}
 use Rattle.pair_counters.specs.Numbers.{numbers_of}
-use Rattle.tree_step.specs.Children.{sub_letters, done_letter}
-use Rattle.tree_step.specs.Done.{note_done, root_done, sub_done, with_tree}
-use Rattle.tree_step.specs.Node.{Effect, Node}
-use Rattle.tree_step.specs.Notices.{answer_noted, reply_letters}
-use Rattle.advance_coord.specs.Coordinator.{Coordinator, to_nodes, keep_done}
+use Rattle.world_model.specs.Children.{sub_letters, done_letter}
+use Rattle.world_model.specs.Done.{note_done, root_done, sub_done, with_open_tree}
+use Rattle.world_model.specs.Node.{Effect, Node}
+use Rattle.world_model.specs.Notices.{answer_noted, reply_letters}
+use Rattle.world_model.specs.Coordinator.{Coordinator, to_nodes, keep_done}
 use Rattle.world_model.specs.Counts.{tally}
 use Rattle.world_model.specs.Runs.{MayFollow, node_in}
 use Rattle.world_model.proofs.Bags.{tally-append}
@@ -71,7 +71,7 @@ pub root_none : (f : Body → ℕ) (s : ScriptData) (p t v : ℕ) (effect : Effe
 root_none f s p t v effect st none =
     let subs = sub_letters t v 0 0 (subs_at s t) in
     let answer =
-    answer_noted (record { 0 = t }) (record { 0 = 0 }) effect.values (with_tree t (length (subs_at s t)) v st).homes in
+    answer_noted (record { 0 = t }) (record { 0 = 0 }) effect.values (with_open_tree t (length (subs_at s t)) v st).homes in
     omega (
       arith,
       tally-append (on f) subs (reply_letters (client_of s) answer),

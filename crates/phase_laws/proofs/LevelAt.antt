@@ -5,8 +5,8 @@ use Rattle.letter_types.specs.declared.bodies.Body.TheVariants.{Sub as SubLetter
 use Rattle.letter_types.specs.declared.entries.Entry.{Entry}
 use Rattle.letter_types.specs.declared.entries.Letter.{Letter}
 use Rattle.tx_trees.specs.ScriptData.{ScriptData, updates}
-use Rattle.advance_coord.specs.declared.phase.Phase.{Phase}
-use Rattle.advance_coord.specs.declared.phase.Phase.TheVariants.{Turning, Showing, Sweeping}
+use Rattle.world_model.specs.declared.phase.Phase.{Phase}
+use Rattle.world_model.specs.declared.phase.Phase.TheVariants.{Turning, Showing, Sweeping}
 use Rattle.world_model.specs.Counts.{Each, one_if, tally}
 use Rattle.world_model.specs.Runs.{coordinator_in, node_in, waiting}
 use Rattle.phase_laws.specs.Phases.{Stage, TurnStage, ShowStage, SweepStage, least_update, most_update, least_read, most_read, most_low}

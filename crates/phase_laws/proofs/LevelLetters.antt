@@ -16,14 +16,14 @@ use Rattle.tx_trees.specs.declared.parts.ScriptRow.{ScriptRow}
 use Rattle.tx_trees.specs.declared.parts.ScriptRow.TheVariants.{Tree as TreeRow, Advance as AdvanceRow, Settle as SettleRow, Lose as LoseRow}
 use Rattle.tx_trees.specs.declared.parts.Sub.{Sub}
 use Rattle.tree_home.specs.declared.homes.Answered.{Answered}
-use Rattle.tree_step.specs.Children.{done_letter, sub_letters}
-use Rattle.tree_step.specs.Done.{note_done, root_done, sub_done, with_tree}
-use Rattle.tree_step.specs.Node.{Effect, Node}
-use Rattle.tree_step.specs.Notices.{answer_noted, reply_letters}
-use Rattle.advance_coord.specs.Coordinator.{Coordinator, version, to_nodes, counted, end_count, coordinator_row}
-use Rattle.advance_coord.specs.declared.phase.Phase.{Phase}
-use Rattle.advance_coord.specs.declared.phase.Phase.TheVariants.{Idle, Turning, Counting, Showing, Sweeping}
-use Rattle.client_rows.specs.Client.{Client, rows_letters, submit, submitted, with_answer, with_end, nudge}
+use Rattle.world_model.specs.Children.{done_letter, sub_letters}
+use Rattle.world_model.specs.Done.{note_done, root_done, sub_done, with_open_tree}
+use Rattle.world_model.specs.Node.{Effect, Node}
+use Rattle.world_model.specs.Notices.{answer_noted, reply_letters}
+use Rattle.world_model.specs.Coordinator.{Coordinator, version, to_nodes, counted_version, end_count, coordinator_row}
+use Rattle.world_model.specs.declared.phase.Phase.{Phase}
+use Rattle.world_model.specs.declared.phase.Phase.TheVariants.{Idle, Turning, Counting, Showing, Sweeping}
+use Rattle.world_model.specs.Client.{Client, rows_letters, submit, submitted, with_answer, with_end, nudge}
 use Rattle.world_model.specs.Counts.{Each, tally}
 use Rattle.world_model.specs.Runs.{IsStepRun, client_in, coordinator_in, node_in, waiting}
 use Rattle.world_model.specs.Timely.{AllTimely}
@@ -156,7 +156,7 @@ round_right : (s : ScriptData) (c d : Coordinator) (reads : Bool) (k : ℕ) → 
 round_right s c d reads k same = record {
   same = same;
   higher = most_update_most c.phase c.update;
-  sent = to_nodes_each (InLevel s (Counting reads) c.update) d.nodes (AskDone (counted reads d) k) (λ to lt id. tt);
+  sent = to_nodes_each (InLevel s (Counting reads) c.update) d.nodes (AskDone (counted_version reads d) k) (λ to lt id. tt);
 }
 
 agrees_right : (s : ScriptData) (c : Coordinator) (reads : Bool) (from : ℕ) (row : List ℕ)
@@ -333,7 +333,7 @@ letters_next s past e laws run timely was (DoesRoot t v effect bd sub at lt new 
     let right = root_right s c.phase c.update t.0 st v effect sub work (was.node p lt).update_to in
     let answer =
     answer_noted (record { 0 = t.0 }) (record { 0 = 0 }) effect.values
-    (with_tree t.0 (length (subs_at s t.0)) v.0 st).homes in
+    (with_open_tree t.0 (length (subs_at s t.0)) v.0 st).homes in
     letters_kept s past e (root_done s p t.0 v.0 effect st).sent (omega (arith, at, lt)) was.letters made.sent
     (each_append (of (InLevel s c.phase c.update)) (sub_letters t.0 v.0 0 0 (subs_at s t.0))
     (reply_letters (client_of s) answer)

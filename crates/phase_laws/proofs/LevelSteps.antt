@@ -14,12 +14,12 @@ use Rattle.letter_types.specs.Steps.{Out}
 use Rattle.node_versions.specs.declared.turns.Turns.{Turns as TurnsOf}
 use Rattle.node_versions.specs.Turns.{raised}
 use Rattle.tx_trees.specs.ScriptData.{ScriptData, client_of, home_of, node_of, updates}
-use Rattle.tree_step.specs.Done.{note_done, raised_if, root_done, sub_done}
-use Rattle.tree_step.specs.Node.{Effect, Node}
-use Rattle.advance_coord.specs.Coordinator.{Coordinator, version, to_nodes, in_phase, begin_phase, counted, keep_done, end_count, coordinator_row}
-use Rattle.advance_coord.specs.declared.phase.Phase.{Phase}
-use Rattle.advance_coord.specs.declared.phase.Phase.TheVariants.{Idle, Turning, Counting, Paused, Showing, Sweeping}
-use Rattle.client_rows.specs.Client.{Client, submit, with_answer, with_end, nudge}
+use Rattle.world_model.specs.Done.{note_done, raised_if, root_done, sub_done}
+use Rattle.world_model.specs.Node.{Effect, Node}
+use Rattle.world_model.specs.Coordinator.{Coordinator, version, to_nodes, in_phase, begin_phase, counted_version, keep_done, end_count, coordinator_row}
+use Rattle.world_model.specs.declared.phase.Phase.{Phase}
+use Rattle.world_model.specs.declared.phase.Phase.TheVariants.{Idle, Turning, Counting, Paused, Showing, Sweeping}
+use Rattle.world_model.specs.Client.{Client, submit, with_answer, with_end, nudge}
 use Rattle.world_model.specs.Counts.{one_if, tally}
 use Rattle.world_model.specs.Runs.{MayFollow, IsStepRun, client_in, coordinator_in, node_in, waiting}
 use Rattle.world_model.specs.Timely.{AllTimely}
@@ -337,12 +337,12 @@ rises p c from body out lt one (LastTurned v at bd last is) =
     subst (λ (o : Out Coordinator). Rises p c o) (sym is)
     (rises_leads p c (round_begun false (c.round + 1) c).state (round_begun false (c.round + 1) c).sent Turning
     (Counting false) at refl refl tt tt
-    (asks_sent p c.nodes (counted false c) (c.round + 1)))
+    (asks_sent p c.nodes (counted_version false c) (c.round + 1)))
 rises p c from body out lt one (LastShown v at bd last is) =
     subst (λ (o : Out Coordinator). Rises p c o) (sym is)
     (rises_leads p c (round_begun true (c.round + 1) c).state (round_begun true (c.round + 1) c).sent Showing
     (Counting true) at refl refl tt tt
-    (asks_sent p c.nodes (counted true c) (c.round + 1)))
+    (asks_sent p c.nodes (counted_version true c) (c.round + 1)))
 rises p c from body out lt one (Finishes v at bd last none is) =
     subst (λ (o : Out Coordinator). Rises p c o) (sym is) (rises_finishes p c one at)
 rises p c from body out lt one (GoesOn v at bd last some is) =
@@ -351,7 +351,7 @@ rises p c from body out lt one (Resumes reads at bd is) =
     subst (λ (o : Out Coordinator). Rises p c o) (sym is)
     (rises_leads p c (round_begun reads (c.round + 1) c).state (round_begun reads (c.round + 1) c).sent (Paused reads)
     (Counting reads) at refl refl
-    (resumed reads) tt (asks_sent p c.nodes (counted reads c) (c.round + 1)))
+    (resumed reads) tt (asks_sent p c.nodes (counted_version reads c) (c.round + 1)))
 rises p c from body out lt one (KeepsDone reads v k row at bd here is) =
     subst (λ (o : Out Coordinator). Rises p c o) (sym is)
     (rises_still p c (keep_done from row c).state (keep_done from row c).sent refl refl (kept_sent p from row c))
@@ -364,7 +364,7 @@ rises p c from body out lt one (Recounts reads v k row takes verdict flag is) =
     subst (λ (o : Out Coordinator). Rises p c o) (sym is)
     (rises_leads p c (round_begun reads (c.round + 1) d).state (round_begun reads (c.round + 1) d).sent (Counting reads)
     (Counting reads) takes.phase refl refl
-    (recounted reads) tt (asks_sent p c.nodes (counted reads d) (c.round + 1)))
+    (recounted reads) tt (asks_sent p c.nodes (counted_version reads d) (c.round + 1)))
 rises p c from body out lt one (Pauses reads v k row takes verdict flag is) =
     subst (λ (o : Out Coordinator). Rises p c o) (sym is)
     (rises_leads p c (in_phase (Paused reads) (asked_kept from row c)) [] (Counting reads) (Paused reads)

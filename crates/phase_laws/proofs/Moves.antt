@@ -7,13 +7,13 @@ use Rattle.letter_types.specs.declared.entries.Entry.{Entry}
 use Rattle.letter_types.specs.declared.entries.Letter.{Letter}
 use Rattle.letter_types.specs.declared.entries.Outgoing.{Outgoing}
 use Rattle.letter_types.specs.Steps.{Out}
-use Rattle.tree_step.specs.Node.{Node}
+use Rattle.world_model.specs.Node.{Node}
 use Rattle.tx_trees.specs.ScriptData.{ScriptData}
 use Rattle.world_model.specs.Counts.{tally, one_if}
 use Rattle.world_model.specs.Runs.{node_in}
 use Rattle.world_model.proofs.Bags.{tally_same, tally_none, one_if_most}
 use Rattle.world_model.proofs.Every.{node_kept}
-use Rattle.phase_laws.specs.Balance.{MOST_COUNTED, version_is, goes_from}
+use Rattle.phase_laws.specs.Balance.{MOST_COUNTED, version_is, goes_between}
 use Rattle.world_model.proofs.Nexts.{Made}
 use Rattle.phase_laws.proofs.Counters.{counted}
 
@@ -30,13 +30,13 @@ pub record Counts (s : ScriptData) (past : List Entry) (e : Entry) (v : ℕ) : T
       ≡ (node_in s past p).counts.asked v q + self p q + tally (sent_on e.actor.0 v p q) e.sent
   pub done : (p q : ℕ) → q < s.nodes → (node_in s (e ∷ past) q).turns.low.0 ≤ v
       → (node_in s (e ∷ past) q).counts.done v p
-      ≡ (node_in s past q).counts.done v p + self p q + goes_from v p q e.took
+      ≡ (node_in s past q).counts.done v p + self p q + goes_between v p q e.took
   pub asked_most : (p q : ℕ) → p < s.nodes
       → (node_in s (e ∷ past) p).counts.asked v q
       ≤ (node_in s past p).counts.asked v q + self p q + tally (sent_on e.actor.0 v p q) e.sent
   pub done_most : (p q : ℕ) → q < s.nodes
       → (node_in s (e ∷ past) q).counts.done v p ≤
-      (node_in s past q).counts.done v p + self p q + goes_from v p q e.took
+      (node_in s past q).counts.done v p + self p q + goes_between v p q e.took
   pub little : (p q : ℕ) → self p q ≤ 1
   pub few : (p q : ℕ) → p < s.nodes → self p q + tally (sent_on e.actor.0 v p q) e.sent ≤ MOST_COUNTED
 
@@ -53,17 +53,17 @@ sent_elsewhere a v p q os ne =
     let is : (a == p) ≡ false = grind (arith, nat_tests) in
     tally_none (sent_on a v p q) os (λ o. rw is (and_false (version_is v o.body)))
 
-took_elsewhere : (v p q : ℕ) (l : Letter) → l.to.0 ≢ q → goes_from v p q l ≡ 0
+took_elsewhere : (v p q : ℕ) (l : Letter) → l.to.0 ≢ q → goes_between v p q l ≡ 0
 took_elsewhere v p q l ne =
     let is : (l.to.0 == q) ≡ false = grind (arith, nat_tests) in
     rw is (grind (arith, nat_tests))
 
 -- the letter taken has come to its addressee
-took_here : (v p q : ℕ) (l : Letter) → l.to.0 ≡ q → goes_from v p q l ≡ one_if (version_is v l.body && (l.from.0 == p))
+took_here : (v p q : ℕ) (l : Letter) → l.to.0 ≡ q → goes_between v p q l ≡ one_if (version_is v l.body && (l.from.0 == p))
 took_here v p q l eq = let is : (l.to.0 == q) ≡ true = grind (arith, nat_tests) in rw is (grind (arith, nat_tests))
 
 -- An entry that counts nothing.
-pub uncounted_goes : (v p q : ℕ) (l : Letter) → version_is v l.body ≡ false → goes_from v p q l ≡ 0
+pub uncounted_goes : (v p q : ℕ) (l : Letter) → version_is v l.body ≡ false → goes_between v p q l ≡ 0
 uncounted_goes v p q l is = rw is refl
 
 -- the entry of the coordinator or the client
@@ -121,7 +121,7 @@ AskedMore s past e v p q self =
 -- the completions of q from p, with so many more of its own
 abbrev DoneMore : ScriptData → List Entry → Entry → ℕ → ℕ → ℕ → ℕ → Type 0
 DoneMore s past e v p q self =
-    (node_in s (e ∷ past) q).counts.done v p ≡ (node_in s past q).counts.done v p + self + goes_from v p q e.took
+    (node_in s (e ∷ past) q).counts.done v p ≡ (node_in s past q).counts.done v p + self + goes_between v p q e.took
 
 -- what the actor sends is what its row says
 sent_by : (s : ScriptData) (past : List Entry) (e : Entry) (h v p q : ℕ) (row : Out Node) → Made s past e h row
@@ -179,7 +179,7 @@ AskedMost s past e v p q self =
 
 abbrev DoneMost : ScriptData → List Entry → Entry → ℕ → ℕ → ℕ → ℕ → Type 0
 DoneMost s past e v p q self =
-    (node_in s (e ∷ past) q).counts.done v p ≤ (node_in s past q).counts.done v p + self + goes_from v p q e.took
+    (node_in s (e ∷ past) q).counts.done v p ≤ (node_in s past q).counts.done v p + self + goes_between v p q e.took
 
 asked_most_by : (s : ScriptData) (past : List Entry) (e : Entry) (h v p q : ℕ) (row : Out Node) → Made s past e h row
     → e.actor.0 ≡ h

@@ -7,9 +7,9 @@ use Rattle.phase_out.specs.Rounds.{new_round, is_of, all_in, verdict_of}
 use Rattle.letter_types.specs.declared.bodies.Body.{Body}
 use Rattle.letter_types.specs.declared.bodies.Body.TheVariants.{Nudge, Advance, Turn, Turned, Shown, Swept, AskDone, DoneRow, AskedRow}
 use Rattle.letter_types.specs.Steps.{Out, still}
-use Rattle.advance_coord.specs.Coordinator.{Coordinator, version, to_nodes, in_phase, begin_phase, counted, begin_round, acknowledged, with_asked, keep_done, end_count, judged, keep_asked, advanced, end_advance, row_of, coordinator_row}
-use Rattle.advance_coord.specs.declared.phase.Phase.{Phase}
-use Rattle.advance_coord.specs.declared.phase.Phase.TheVariants.{Idle, Turning, Counting, Paused, Showing, Sweeping}
+use Rattle.world_model.specs.Coordinator.{Coordinator, version, to_nodes, in_phase, begin_phase, counted_version, begin_round, acknowledged, with_asked, keep_done, end_count, after_verdict, keep_asked, advanced, end_advance, row_of, coordinator_row}
+use Rattle.world_model.specs.declared.phase.Phase.{Phase}
+use Rattle.world_model.specs.declared.phase.Phase.TheVariants.{Idle, Turning, Counting, Paused, Showing, Sweeping}
 
 -- a number that isn't its type's last grows by one
 pub one_more_is : (n : ℕ) → n < 2 ^ 64 - 1 → one_more n ≡ n + 1
@@ -24,9 +24,9 @@ pub record HasRoom (c : Coordinator) : Type 0 where
 
 -- round k begins: it misses every row and asks every node for its completions
 abbrev pub round_begun : Bool → ℕ → Coordinator → Out Coordinator
-round_begun reads k c = begin_phase (Counting reads) (AskDone (counted reads c) k) (record c {
+round_begun reads k c = begin_phase (Counting reads) (AskDone (counted_version reads c) k) (record c {
   round = k;
-  current = new_round (counted reads c) k c.nodes;
+  current = new_round (counted_version reads c) k c.nodes;
   flag = false;
 })
 
@@ -173,7 +173,7 @@ done_out c reads from v k row at false is = Rests (Counting reads) at is (rw is 
 judged_out : (c : Coordinator) (reads : Bool) (from : ℕ) (v : Version) (k : ℕ) (row : List ℕ) → HasRoom c
     → TakesAsked c from (AskedRow v k row) reads v k row → (verdict : Option Bool)
     → verdict_of (with_asked from row c.current) ≡ verdict
-    → (flag : Bool) → c.flag ≡ flag → Outcome c from (AskedRow v k row) (judged reads verdict (asked_kept from row c))
+    → (flag : Bool) → c.flag ≡ flag → Outcome c from (AskedRow v k row) (after_verdict reads verdict (asked_kept from row c))
 judged_out c reads from v k row room takes None is flag fl = KeepsAsked reads v k row takes is refl
 judged_out c reads from v k row room takes (Some true) is flag fl = Agrees reads v k row takes is refl
 judged_out c reads from v k row room takes (Some false) is true fl =

@@ -17,9 +17,9 @@ use Rattle.tv_base.specs.declared.numbers.Version.{Version}
 use Rattle.phase_out.specs.Rounds.{NodeRows, RoundData, agrees, all_in, is_of, kept_number, new_round, number_at, verdict_of}
 use Rattle.phase_out.proofs.Verdicts.{differs-none}
 use Rattle.tx_trees.specs.ScriptData.{ScriptData}
-use Rattle.advance_coord.specs.Coordinator.{Coordinator, to_nodes, counted, keep_done, with_asked, with_done, coordinator_row}
-use Rattle.advance_coord.specs.declared.phase.Phase.{Phase}
-use Rattle.advance_coord.specs.declared.phase.Phase.TheVariants.{Idle, Counting}
+use Rattle.world_model.specs.Coordinator.{Coordinator, to_nodes, counted_version, keep_done, with_asked, with_done, coordinator_row}
+use Rattle.world_model.specs.declared.phase.Phase.{Phase}
+use Rattle.world_model.specs.declared.phase.Phase.TheVariants.{Idle, Counting}
 use Rattle.world_model.specs.Counts.{Each, one_if, tally}
 use Rattle.world_model.specs.Runs.{coordinator_in, node_in, waiting, MayFollow, IsStepRun}
 use Rattle.world_model.specs.Timely.{AllTimely}
@@ -47,7 +47,7 @@ pub record Open (s : ScriptData) (past : List Entry) (v : ℕ) : Type 0 where
 
 open_by : (s : ScriptData) (past : List Entry) (reads : Bool) → Levels s past
     → (coordinator_in s past).phase ≡ Counting reads
-    → Open s past (counted reads (coordinator_in s past)).0
+    → Open s past (counted_version reads (coordinator_in s past)).0
 open_by s past true all at =
     let level = λ (p : ℕ) (lt : p < s.nodes).
     subst (λ (phase : Phase). Level phase (coordinator_in s past).update
@@ -492,7 +492,7 @@ rounds_by s past e o laws run timely made now sent was (Keeps same round countin
 rounds_by s past e o laws run timely made now sent was (Begins reads d nodes is) =
     let c = coordinator_in s past in
     subst (λ (x : Out Coordinator). Rounds s (e ∷ past) x.state) (sym is) (λ other at.
-    round_begins s past e (counted reads d) (c.round + 1) c.round d.nodes run.0 (nodes ∙ coordinator_nodes s past)
+    round_begins s past e (counted_version reads d) (c.round + 1) c.round d.nodes run.0 (nodes ∙ coordinator_nodes s past)
     (omega arith) (fresh s past laws run.1 timely.1) refl (sent ∙ ap (λ (x : Out Coordinator). x.sent) is))
 rounds_by s past e o laws run timely made now sent was (TakesDone reads v k row at bd of is) =
     let c = coordinator_in s past in
@@ -595,7 +595,7 @@ pub agrees_silent : (s : ScriptData) (past : List Entry) (e : Entry) (reads : Bo
     → IsLawful s → IsStepRun s (e ∷ past) → AllTimely s past
     → TakesAsked (coordinator_in s past) e.took.from.0 e.took.body reads v k row
     → verdict_of (with_asked e.took.from.0 row (coordinator_in s past).current) ≡ Some true
-    → IsSilent s past (counted reads (coordinator_in s past)).0
+    → IsSilent s past (counted_version reads (coordinator_in s past)).0
 agrees_silent s past e reads v k row laws run timely takes verdict =
     let c = coordinator_in s past in
     let round = rounds s past laws run.1 timely reads takes.phase in

@@ -13,16 +13,16 @@ use Rattle.tv_base.specs.declared.numbers.Version.{Version}
 use Rattle.pair_counters.specs.Numbers.{numbers_of}
 use Rattle.tree_home.specs.Homes.{Gets, begun}
 use Rattle.tree_home.specs.declared.homes.Answered.{Answered}
-use Rattle.tree_step.specs.Children.{sub_letters, done_letter}
-use Rattle.tree_step.specs.Done.{note_done, root_done, sub_done}
-use Rattle.tree_step.specs.Node.{Effect, Node}
-use Rattle.tree_step.specs.Notices.{answer_noted, reply_letters}
+use Rattle.world_model.specs.Children.{sub_letters, done_letter}
+use Rattle.world_model.specs.Done.{note_done, root_done, sub_done}
+use Rattle.world_model.specs.Node.{Effect, Node}
+use Rattle.world_model.specs.Notices.{answer_noted, reply_letters}
 use Rattle.tx_trees.specs.ScriptData.{ScriptData, client_of, home_of, node_of, subs_at}
 use Rattle.tx_trees.specs.declared.parts.ScriptRow.{ScriptRow}
 use Rattle.tx_trees.specs.declared.parts.ScriptRow.TheVariants.{Tree as TreeRow, Advance as AdvanceRow, Settle as SettleRow, Lose as LoseRow}
 use Rattle.tx_trees.specs.declared.parts.Sub.{Sub}
-use Rattle.node_step.specs.Advancing.{to_coordinator}
-use Rattle.client_rows.specs.Client.{Client, rows_letters, submit, submitted, with_answer, with_end, nudge}
+use Rattle.world_model.specs.Advancing.{to_coordinator}
+use Rattle.world_model.specs.Client.{Client, rows_letters, submit, submitted, with_answer, with_end, nudge}
 use Rattle.world_model.specs.Counts.{Each, tally}
 use Rattle.world_model.specs.Runs.{client_in, node_in, IsStepRun}
 use Rattle.world_model.specs.Timely.{AllTimely}

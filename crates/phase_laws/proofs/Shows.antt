@@ -8,9 +8,9 @@ use Rattle.letter_types.specs.Steps.{Out}
 use Rattle.tv_base.specs.declared.numbers.Version.{Version}
 use Rattle.phase_out.specs.Rounds.{all_in}
 use Rattle.tx_trees.specs.ScriptData.{ScriptData}
-use Rattle.advance_coord.specs.Coordinator.{Coordinator, version, to_nodes, counted, end_count, with_done, coordinator_row}
-use Rattle.advance_coord.specs.declared.phase.Phase.{Phase}
-use Rattle.advance_coord.specs.declared.phase.Phase.TheVariants.{Counting}
+use Rattle.world_model.specs.Coordinator.{Coordinator, version, to_nodes, counted_version, end_count, with_done, coordinator_row}
+use Rattle.world_model.specs.declared.phase.Phase.{Phase}
+use Rattle.world_model.specs.declared.phase.Phase.TheVariants.{Counting}
 use Rattle.world_model.specs.Counts.{Each}
 use Rattle.world_model.specs.Runs.{coordinator_in, node_in, IsStepRun}
 use Rattle.world_model.specs.Timely.{AllTimely}
@@ -53,7 +53,7 @@ level_in s past p phase all lt at = subst (LevelIn s past p) at (all.node p lt)
 -- a count ends in quiet
 end_given : (s : ScriptData) (past : List Entry) (reads : Bool) (d : Coordinator) → Levels s past
     → d.update ≡ (coordinator_in s past).update
-    → (coordinator_in s past).phase ≡ Counting reads → IsSilent s past (counted reads (coordinator_in s past)).0
+    → (coordinator_in s past).phase ≡ Counting reads → IsSilent s past (counted_version reads (coordinator_in s past)).0
     → Given s past (end_count reads d).sent
 end_given s past false d all up at silent =
     given_nodes s past d.nodes (Show (version d.update)) (record {
@@ -84,11 +84,11 @@ given_by s past e out laws run timely (Turns at bd is) =
 given_by s past e out laws run timely (LastTurned v at bd last is) =
     let c = coordinator_in s past in
     subst (λ (o : Out Coordinator). Given s past o.sent) (sym is)
-    (given_nodes s past c.nodes (AskDone (counted false c) (c.round + 1)) tt)
+    (given_nodes s past c.nodes (AskDone (counted_version false c) (c.round + 1)) tt)
 given_by s past e out laws run timely (LastShown v at bd last is) =
     let c = coordinator_in s past in
     subst (λ (o : Out Coordinator). Given s past o.sent) (sym is)
-    (given_nodes s past c.nodes (AskDone (counted true c) (c.round + 1)) tt)
+    (given_nodes s past c.nodes (AskDone (counted_version true c) (c.round + 1)) tt)
 given_by s past e out laws run timely (Finishes v at bd last none is) =
     subst (λ (o : Out Coordinator). Given s past o.sent) (sym is) (tt, tt)
 given_by s past e out laws run timely (GoesOn v at bd last some is) =
@@ -98,7 +98,7 @@ given_by s past e out laws run timely (GoesOn v at bd last some is) =
 given_by s past e out laws run timely (Resumes reads at bd is) =
     let c = coordinator_in s past in
     subst (λ (o : Out Coordinator). Given s past o.sent) (sym is)
-    (given_nodes s past c.nodes (AskDone (counted reads c) (c.round + 1)) tt)
+    (given_nodes s past c.nodes (AskDone (counted_version reads c) (c.round + 1)) tt)
 given_by s past e out laws run timely (KeepsDone reads v k row at bd here is) =
     let c = coordinator_in s past in
     subst (λ (o : Out Coordinator). Given s past o.sent) (sym is)
@@ -114,7 +114,7 @@ given_by s past e out laws run timely (Agrees reads v k row takes verdict is) =
 given_by s past e out laws run timely (Recounts reads v k row takes verdict flag is) =
     let c = coordinator_in s past in
     subst (λ (o : Out Coordinator). Given s past o.sent) (sym is)
-    (given_nodes s past c.nodes (AskDone (counted reads c) (c.round + 1)) tt)
+    (given_nodes s past c.nodes (AskDone (counted_version reads c) (c.round + 1)) tt)
 given_by s past e out laws run timely (Pauses reads v k row takes verdict flag is) =
     subst (λ (o : Out Coordinator). Given s past o.sent) (sym is) tt
 

@@ -9,14 +9,14 @@ use Rattle.letter_types.specs.Steps.{Out}
 use Rattle.tv_base.specs.declared.numbers.Version.{Version}
 use Rattle.tree_home.specs.Homes.{Gets, begun}
 use Rattle.tree_home.specs.declared.homes.Answered.{Answered}
-use Rattle.tree_step.specs.Children.{sub_letters, done_letter}
-use Rattle.tree_step.specs.Done.{note_done, root_done, sub_done}
-use Rattle.tree_step.specs.Node.{Effect, Node}
-use Rattle.tree_step.specs.Notices.{answer_noted, reply_letters}
+use Rattle.world_model.specs.Children.{sub_letters, done_letter}
+use Rattle.world_model.specs.Done.{note_done, root_done, sub_done}
+use Rattle.world_model.specs.Node.{Effect, Node}
+use Rattle.world_model.specs.Notices.{answer_noted, reply_letters}
 use Rattle.tx_trees.specs.ScriptData.{ScriptData, client_of, home_of, node_of, subs_at}
 use Rattle.tx_trees.specs.declared.parts.ScriptRow.{ScriptRow}
 use Rattle.tx_trees.specs.declared.parts.ScriptRow.TheVariants.{Tree as TreeRow, Advance as AdvanceRow, Settle as SettleRow, Lose as LoseRow}
-use Rattle.client_rows.specs.Client.{Client, rows_letters, submit, submitted, with_answer, with_end, nudge}
+use Rattle.world_model.specs.Client.{Client, rows_letters, submit, submitted, with_answer, with_end, nudge}
 use Rattle.world_model.specs.Counts.{Each, tally}
 use Rattle.world_model.specs.Runs.{client_in, coordinator_in, node_in, waiting, MayFollow, IsStepRun}
 use Rattle.world_model.specs.Timely.{AllTimely}
@@ -25,7 +25,7 @@ use Rattle.world_model.proofs.Every.{each_append, each_map, each_none}
 use Rattle.world_model.proofs.Lawful.{IsLawful}
 use Rattle.world_model.proofs.Nexts.{Next, Begins, Hears, Ends, Coordinates, DoesRoot, DoesSub, Notes, Obeys, Order, Turns, Shows, Sweeps, TellsDone, TellsAsked, RootWork, RootUpdates, RootReads}
 use Rattle.world_model.proofs.Orders.{coordinator_each}
-use Rattle.phase_laws.specs.Balance.{version_is, goes_from, out}
+use Rattle.phase_laws.specs.Balance.{version_is, goes_between, out}
 use Rattle.phase_laws.specs.Quiet.{IsSilent}
 use Rattle.phase_laws.proofs.Balance.{counts_of, flow}
 use Rattle.phase_laws.proofs.Counters.{children_of}
@@ -106,7 +106,7 @@ root_version s t v st w effect (RootReads up is can made) closed =
     apart_by w.0 v (λ eq. closed.1 (ap (λ (x : Version). x.0) (sym is) ∙ eq))
 
 pub goes_itself : (v p q : ℕ) (l : Letter) → version_is v l.body ≡ true → l.from.0 ≡ p → l.to.0 ≡ q
-    → goes_from v p q l ≡ 1
+    → goes_between v p q l ≡ 1
 goes_itself v p q l is a b = grind (arith, nat_tests)
 
 -- in silence no counted letter of the version is taken
@@ -119,7 +119,7 @@ not_taken s past e v true m silent from lt is =
       arith,
       silent e.took.from.0 e.actor.0 from lt,
       goes_itself v e.took.from.0 e.actor.0 e.took is refl m.addressee,
-      tally-drop (goes_from v e.took.from.0 e.actor.0) e.took.id (waiting s past) e.took m.waits,
+      tally-drop (goes_between v e.took.from.0 e.actor.0) e.took.id (waiting s past) e.took m.waits,
     ))
 
 by_sent : (v : ℕ) (e : Entry) (os : List Outgoing) → e.sent ≡ os → NoneOf v os → NoneOf v e.sent

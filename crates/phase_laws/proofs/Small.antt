@@ -14,10 +14,10 @@ use Rattle.tx_trees.specs.declared.parts.ScriptRow.{ScriptRow}
 use Rattle.tx_trees.specs.declared.parts.ScriptRow.TheVariants.{Tree as TreeRow, Advance as AdvanceRow, Settle as SettleRow, Lose as LoseRow}
 use Rattle.tx_trees.proofs.Rebuilding.{advances_in-append}
 use Rattle.tx_trees.proofs.SubsOf.{few_nodes}
-use Rattle.advance_coord.specs.Coordinator.{Coordinator, version, in_phase, begin_phase, counted, end_count, coordinator_row}
-use Rattle.advance_coord.specs.declared.phase.Phase.{Phase}
-use Rattle.advance_coord.specs.declared.phase.Phase.TheVariants.{Idle, Turning, Counting, Paused, Showing, Sweeping}
-use Rattle.client_rows.specs.Client.{Client, rows_letters, submit, submitted, with_answer, with_end, nudge}
+use Rattle.world_model.specs.Coordinator.{Coordinator, version, in_phase, begin_phase, counted_version, end_count, coordinator_row}
+use Rattle.world_model.specs.declared.phase.Phase.{Phase}
+use Rattle.world_model.specs.declared.phase.Phase.TheVariants.{Idle, Turning, Counting, Paused, Showing, Sweeping}
+use Rattle.world_model.specs.Client.{Client, rows_letters, submit, submitted, with_answer, with_end, nudge}
 use Rattle.world_model.specs.Counts.{tally, one_if}
 use Rattle.world_model.specs.Runs.{IsStepRun, MayFollow, client_in, coordinator_in}
 use Rattle.world_model.proofs.Bags.{tally-append}
@@ -28,7 +28,7 @@ use Rattle.world_model.proofs.Nexts.{Next, Begins, Hears, Ends, Coordinates, Doe
 use Rattle.world_model.proofs.Sends.{on}
 use Rattle.world_model.specs.Timely.{AllTimely}
 use Rattle.phase_laws.specs.Phases.{under_way}
-pub use Rattle.phase_laws.specs.Advances.{AdvancesAreKept, RoundsAreFew, asked_for, is_advance, is_advanced, running}
+pub use Rattle.phase_laws.specs.Advances.{AdvancesAreKept, RoundsAreFew, asked_for, is_advance_letter, is_advanced, running}
 use Rattle.phase_laws.proofs.Letters.{Passes, keep_done_none, node_keeps, to_nodes_none}
 use Rattle.phase_laws.proofs.Outcomes.{HasRoom, Ignored, IsAnswer, IsRunning, Outcome, Rests, Queues, Flags, Turns, Acks, LastTurned, LastShown, Finishes, GoesOn, Resumes, KeepsDone, KeepsAsked, Agrees, Recounts, Pauses, asked_kept, one_more_is, outcome, round_begun}
 
@@ -52,7 +52,7 @@ pub record Numbers (s : ScriptData) (past : List Entry) (c : Coordinator) : Type
   pub nodes : c.nodes ≡ s.nodes
   pub acks : c.acks < s.nodes
   pub idle : running c.phase ≡ 0 → c.waits ≡ 0
-  pub asked : under_way is_advance s past + c.waits + running c.phase + c.update ≡ asked_for s past + 1
+  pub asked : under_way is_advance_letter s past + c.waits + running c.phase + c.update ≡ asked_for s past + 1
   pub ended : under_way is_advanced s past + (client_in s past).ended + 1 ≡ c.update
   pub rounds : c.round + remembered c.phase c.flag + 2 ≤ 2 * c.update + rounds_in c.phase + nudged past
 
@@ -96,18 +96,18 @@ pub record Costs (c : Coordinator) (body : Body) (out : Out Coordinator) : Type 
   pub nodes : out.state.nodes ≡ c.nodes
   pub acks : c.acks < c.nodes → out.state.acks < c.nodes
   pub idle : (running c.phase ≡ 0 → c.waits ≡ 0) → running out.state.phase ≡ 0 → out.state.waits ≡ 0
-  pub silent : tally (on is_advance) out.sent ≡ 0
-  pub asked : is_advance body + c.waits + running c.phase + c.update ≡ out.state.waits + running out.state.phase + out.state.update
+  pub silent : tally (on is_advance_letter) out.sent ≡ 0
+  pub asked : is_advance_letter body + c.waits + running c.phase + c.update ≡ out.state.waits + running out.state.phase + out.state.update
   pub ended : out.state.update ≡ c.update + tally (on is_advanced) out.sent
   pub rounds : out.state.round + remembered out.state.phase out.state.flag + rounds_in c.phase + 2 * c.update
       ≤ c.round + remembered c.phase c.flag + is_nudge body + rounds_in out.state.phase + 2 * out.state.update
 
 -- of what an ignored letter asks nothing is left to do
-ignored_advance : (body : Body) (phase : Phase) (from : ℕ) (c : Coordinator) → Ignored body phase from c → is_advance body ≡ 0
+ignored_advance : (body : Body) (phase : Phase) (from : ℕ) (c : Coordinator) → Ignored body phase from c → is_advance_letter body ≡ 0
 ignored_advance Advance phase from c ignored = absurd ignored
 ignored_advance _ phase from c ignored = refl
 
-answer_advance : (phase : Phase) (body : Body) → IsAnswer phase body → is_advance body ≡ 0
+answer_advance : (phase : Phase) (body : Body) → IsAnswer phase body → is_advance_letter body ≡ 0
 answer_advance Idle Advance answer = absurd answer
 answer_advance Turning Advance answer = absurd answer
 answer_advance (Counting reads) Advance answer = absurd answer
@@ -121,7 +121,7 @@ runs Idle is = absurd is
 runs _ is = refl
 
 still_costs : (c d : Coordinator) (body : Body) → d.nodes ≡ c.nodes → d.acks ≡ c.acks → d.phase ≡ c.phase → d.waits ≡ c.waits
-    → d.update ≡ c.update → d.round ≡ c.round → d.flag ≡ c.flag → is_advance body ≡ 0 → Costs c body (still d)
+    → d.update ≡ c.update → d.round ≡ c.round → d.flag ≡ c.flag → is_advance_letter body ≡ 0 → Costs c body (still d)
 still_costs c d body nodes acks phase waits update round flag took =
     let same : remembered d.phase d.flag ≡ remembered c.phase c.flag =
     ap (λ (p : Phase). remembered p d.flag) phase ∙ ap (λ (f : Bool). remembered c.phase f) flag in
@@ -138,7 +138,7 @@ still_costs c d body nodes acks phase waits update round flag took =
     }
 
 round_costs : (c d : Coordinator) (body : Body) (phase : Phase) (reads : Bool) → c.phase ≡ phase → d.nodes ≡ c.nodes
-    → d.waits ≡ c.waits → d.update ≡ c.update → running phase ≡ 1 → is_advance body ≡ 0
+    → d.waits ≡ c.waits → d.update ≡ c.update → running phase ≡ 1 → is_advance_letter body ≡ 0
     → rounds_in phase + 1 ≤ remembered phase c.flag + is_nudge body + rounds_in (Counting reads)
     → Costs c body (round_begun reads (c.round + 1) d)
 round_costs c d body phase reads at nodes waits update goes took rounds =
@@ -149,17 +149,17 @@ round_costs c d body phase reads at nodes waits update goes took rounds =
       nodes = nodes;
       acks = λ lt. omega (arith, lt);
       idle = λ was none. absurd (omega (arith, none));
-      silent = to_nodes_none is_advance d.nodes (AskDone (counted reads d) (c.round + 1)) refl;
+      silent = to_nodes_none is_advance_letter d.nodes (AskDone (counted_version reads d) (c.round + 1)) refl;
       asked = omega (arith, waits, going, update, took);
-      ended = omega (arith, update, to_nodes_none is_advanced d.nodes (AskDone (counted reads d) (c.round + 1)) refl);
+      ended = omega (arith, update, to_nodes_none is_advanced d.nodes (AskDone (counted_version reads d) (c.round + 1)) refl);
       rounds = omega (arith, begun, same, update, rounds);
     }
 
 -- a phase that doesn't count begins with an order to every node
 order_costs : (c d : Coordinator) (body order : Body) (phase next : Phase) → c.phase ≡ phase → d.nodes ≡ c.nodes
     → d.waits ≡ c.waits
-    → d.update ≡ c.update → d.round ≡ c.round → running next ≡ 1 → is_advance body + c.waits + running phase ≡ d.waits + 1
-    → is_advance order ≡ 0 → is_advanced order ≡ 0 → remembered next d.flag ≡ 0 → rounds_in phase ≡ rounds_in next
+    → d.update ≡ c.update → d.round ≡ c.round → running next ≡ 1 → is_advance_letter body + c.waits + running phase ≡ d.waits + 1
+    → is_advance_letter order ≡ 0 → is_advanced order ≡ 0 → remembered next d.flag ≡ 0 → rounds_in phase ≡ rounds_in next
     → Costs c body (begin_phase next order d)
 order_costs c d body order phase next at nodes waits update round goes took silent quiet calm rounds =
     let going : running c.phase ≡ running phase = ap running at in
@@ -168,14 +168,14 @@ order_costs c d body order phase next at nodes waits update round goes took sile
       nodes = nodes;
       acks = λ lt. omega (arith, lt);
       idle = λ was none. absurd (omega (arith, none, goes));
-      silent = to_nodes_none is_advance d.nodes order silent;
+      silent = to_nodes_none is_advance_letter d.nodes order silent;
       asked = omega (arith, waits, going, update, took, goes);
       ended = omega (arith, update, to_nodes_none is_advanced d.nodes order quiet);
       rounds = omega (arith, begun, rounds, update, round, calm);
     }
 
 agrees_costs : (c : Coordinator) (from : ℕ) (row : List ℕ) (body : Body) (reads : Bool) → c.phase ≡ Counting reads
-    → is_advance body ≡ 0 → Costs c body (end_count reads (asked_kept from row c))
+    → is_advance_letter body ≡ 0 → Costs c body (end_count reads (asked_kept from row c))
 agrees_costs c from row body false at took =
     order_costs c (asked_kept from row c) body (Show (version c.update)) (Counting false)
     Showing at refl refl refl refl refl (omega (arith, took)) refl refl refl refl
@@ -184,7 +184,7 @@ agrees_costs c from row body true at took =
     Sweeping at refl refl refl refl refl (omega (arith, took)) refl refl refl refl
 
 pauses_costs : (c : Coordinator) (from : ℕ) (row : List ℕ) (body : Body) (reads : Bool) → c.phase ≡ Counting reads
-    → is_advance body ≡ 0 → Costs c body (still (in_phase (Paused reads) (asked_kept from row c)))
+    → is_advance_letter body ≡ 0 → Costs c body (still (in_phase (Paused reads) (asked_kept from row c)))
 pauses_costs c from row body reads at took =
     let going : running c.phase ≡ 1 = ap running at in
     let begun : rounds_in c.phase ≡ rounds_in (Counting reads) = ap rounds_in at in
@@ -214,7 +214,7 @@ costs c from body out (Rests phase at ignored is) =
     (still_costs c c body refl refl refl refl refl refl refl (ignored_advance body phase from c ignored))
 costs c from body out (Queues phase at goes bd is) =
     let going : running c.phase ≡ 1 = ap running at ∙ runs phase goes in
-    let one : is_advance body ≡ 1 = ap is_advance bd in
+    let one : is_advance_letter body ≡ 1 = ap is_advance_letter bd in
     subst (λ (o : Out Coordinator). Costs c body o) (sym is) (record {
       nodes = refl;
       acks = λ lt. lt;
@@ -225,7 +225,7 @@ costs c from body out (Queues phase at goes bd is) =
       rounds = omega arith;
     })
 costs c from body out (Flags reads at bd is) =
-    let none : is_advance body ≡ 0 = ap is_advance bd in
+    let none : is_advance_letter body ≡ 0 = ap is_advance_letter bd in
     let one : is_nudge body ≡ 1 = ap is_nudge bd in
     let more : remembered c.phase true ≡ 1 = ap (λ (p : Phase). remembered p true) at in
     subst (λ (o : Out Coordinator). Costs c body o) (sym is) (record {
@@ -238,14 +238,14 @@ costs c from body out (Flags reads at bd is) =
       rounds = omega (arith, one, more);
     })
 costs c from body out (Turns at bd is) =
-    let one : is_advance body ≡ 1 = ap is_advance bd in
+    let one : is_advance_letter body ≡ 1 = ap is_advance_letter bd in
     let going : running c.phase ≡ 0 = ap running at in
     let begun : rounds_in c.phase ≡ 0 = ap rounds_in at in
     subst (λ (o : Out Coordinator). Costs c body o) (sym is) (record {
       nodes = refl;
       acks = λ lt. omega (arith, lt);
       idle = λ was none. absurd (omega (arith, none));
-      silent = to_nodes_none is_advance c.nodes (Turn (version (c.update + 1))) refl;
+      silent = to_nodes_none is_advance_letter c.nodes (Turn (version (c.update + 1))) refl;
       asked = omega (arith, one, going);
       ended = omega (arith, to_nodes_none is_advanced c.nodes (Turn (version (c.update + 1))) refl);
       rounds = omega (arith, begun);
@@ -262,12 +262,12 @@ costs c from body out (Acks phase at answer more is) =
     })
 costs c from body out (LastTurned v at bd last is) =
     subst (λ (o : Out Coordinator). Costs c body o) (sym is)
-    (round_costs c c body Turning false at refl refl refl refl (ap is_advance bd) (omega arith))
+    (round_costs c c body Turning false at refl refl refl refl (ap is_advance_letter bd) (omega arith))
 costs c from body out (LastShown v at bd last is) =
     subst (λ (o : Out Coordinator). Costs c body o) (sym is)
-    (round_costs c c body Showing true at refl refl refl refl (ap is_advance bd) (omega arith))
+    (round_costs c c body Showing true at refl refl refl refl (ap is_advance_letter bd) (omega arith))
 costs c from body out (Finishes v at bd last none is) =
-    let zero : is_advance body ≡ 0 = ap is_advance bd in
+    let zero : is_advance_letter body ≡ 0 = ap is_advance_letter bd in
     let going : running c.phase ≡ 1 = ap running at in
     let begun : rounds_in c.phase ≡ 2 = ap rounds_in at in
     subst (λ (o : Out Coordinator). Costs c body o) (sym is) (record {
@@ -280,49 +280,49 @@ costs c from body out (Finishes v at bd last none is) =
       rounds = omega (arith, begun);
     })
 costs c from body out (GoesOn v at bd last some is) =
-    let zero : is_advance body ≡ 0 = ap is_advance bd in
+    let zero : is_advance_letter body ≡ 0 = ap is_advance_letter bd in
     let going : running c.phase ≡ 1 = ap running at in
     let begun : rounds_in c.phase ≡ 2 = ap rounds_in at in
     subst (λ (o : Out Coordinator). Costs c body o) (sym is) (record {
       nodes = refl;
       acks = λ lt. omega (arith, lt);
       idle = λ was none. absurd (omega (arith, none));
-      silent = omega (arith, to_nodes_none is_advance c.nodes (Turn (version (c.update + 2))) refl);
+      silent = omega (arith, to_nodes_none is_advance_letter c.nodes (Turn (version (c.update + 2))) refl);
       asked = omega (arith, zero, going, some_are c.waits some);
       ended = omega (arith, to_nodes_none is_advanced c.nodes (Turn (version (c.update + 2))) refl);
       rounds = omega (arith, begun);
     })
 costs c from body out (Resumes reads at bd is) =
     subst (λ (o : Out Coordinator). Costs c body o) (sym is)
-    (round_costs c c body (Paused reads) reads at refl refl refl refl (ap is_advance bd) (omega (arith, ap is_nudge bd)))
+    (round_costs c c body (Paused reads) reads at refl refl refl refl (ap is_advance_letter bd) (omega (arith, ap is_nudge bd)))
 costs c from body out (KeepsDone reads v k row at bd here is) =
-    let none : is_advance body ≡ 0 = ap is_advance bd in
+    let none : is_advance_letter body ≡ 0 = ap is_advance_letter bd in
     subst (λ (o : Out Coordinator). Costs c body o) (sym is) (record {
       nodes = refl;
       acks = λ lt. lt;
       idle = λ was idle. was idle;
-      silent = keep_done_none is_advance from row c refl;
+      silent = keep_done_none is_advance_letter from row c refl;
       asked = omega (arith, none);
       ended = omega (arith, keep_done_none is_advanced from row c refl);
       rounds = omega arith;
     })
 costs c from body out (KeepsAsked reads v k row takes verdict is) =
     subst (λ (o : Out Coordinator). Costs c body o) (sym is)
-    (still_costs c (asked_kept from row c) body refl refl refl refl refl refl refl (ap is_advance takes.body_is))
+    (still_costs c (asked_kept from row c) body refl refl refl refl refl refl refl (ap is_advance_letter takes.body_is))
 costs c from body out (Agrees reads v k row takes verdict is) =
     subst (λ (o : Out Coordinator). Costs c body o) (sym is)
-    (agrees_costs c from row body reads takes.phase (ap is_advance takes.body_is))
+    (agrees_costs c from row body reads takes.phase (ap is_advance_letter takes.body_is))
 costs c from body out (Recounts reads v k row takes verdict flag is) =
     let one : one_if c.flag ≡ 1 = ap one_if flag in
     subst (λ (o : Out Coordinator). Costs c body o) (sym is)
     (round_costs c (asked_kept from row c) body (Counting reads) reads takes.phase refl refl refl refl
-    (ap is_advance takes.body_is) (omega (arith, one)))
+    (ap is_advance_letter takes.body_is) (omega (arith, one)))
 costs c from body out (Pauses reads v k row takes verdict flag is) =
     subst (λ (o : Out Coordinator). Costs c body o) (sym is)
-    (pauses_costs c from row body reads takes.phase (ap is_advance takes.body_is))
+    (pauses_costs c from row body reads takes.phase (ap is_advance_letter takes.body_is))
 
 -- What the client submits.
-rows_advances : (s : ScriptData) (rows : List ScriptRow) → tally (on is_advance) (rows_letters s rows) ≡ advances_in rows
+rows_advances : (s : ScriptData) (rows : List ScriptRow) → tally (on is_advance_letter) (rows_letters s rows) ≡ advances_in rows
 rows_advances s [] = refl
 rows_advances s (TreeRow t ∷ rows) = omega (arith, rows_advances s rows)
 rows_advances s (AdvanceRow ∷ rows) = omega (arith, rows_advances s rows)
@@ -338,8 +338,8 @@ rows_advanced s (LoseRow ∷ rows) = rows_advanced s rows
 
 -- an Advance for each advancement of the rows that are submitted
 submits : (s : ScriptData) (c : Client) (first : List Outgoing)
-    → tally (on is_advance) (submit s c first).sent + advances_in (take c.next s.rows)
-    ≡ tally (on is_advance) first + advances_in (take (submit s c first).state.next s.rows)
+    → tally (on is_advance_letter) (submit s c first).sent + advances_in (take c.next s.rows)
+    ≡ tally (on is_advance_letter) first + advances_in (take (submit s c first).state.next s.rows)
 submits s c first =
     let n = submitted c (take c.next s.rows) (drop c.next s.rows) in
     let rest = take n (drop c.next s.rows) in
@@ -349,7 +349,7 @@ submits s c first =
       arith,
       all,
       advances_in-append (take c.next s.rows) rest,
-      tally-append (on is_advance) first (rows_letters s rest),
+      tally-append (on is_advance_letter) first (rows_letters s rest),
       rows_advances s rest,
     )
 
@@ -361,7 +361,7 @@ submits_none s c first =
 
 -- The numbers after an entry of another actor than the coordinator.
 other_small : (s : ScriptData) (past : List Entry) (e : Entry) → e.actor.0 ≢ s.nodes → IsSmall s past
-    → under_way is_advance s (e ∷ past) + asked_for s past ≡ under_way is_advance s past + asked_for s (e ∷ past)
+    → under_way is_advance_letter s (e ∷ past) + asked_for s past ≡ under_way is_advance_letter s past + asked_for s (e ∷ past)
     → under_way is_advanced s (e ∷ past) + (client_in s (e ∷ past)).ended ≡ under_way is_advanced s past +
     (client_in s past).ended
     → IsSmall s (e ∷ past)
@@ -377,7 +377,7 @@ other_small s past e away was asked ended =
     subst (λ (c : Coordinator). Numbers s (e ∷ past) c) (sym (coordinator_kept s past e away)) after
 
 -- neither kind of letters is of trees, or goes between the coordinator and the nodes
-advance_passes : Passes is_advance is_advance
+advance_passes : Passes is_advance_letter is_advance_letter
 advance_passes = record {
   sent = record { root = λ t. refl; sub = λ t k v. refl; done = λ t k v notice. refl; reply = λ t v answer. refl };
   took = record { root = λ t. refl; sub = λ t k v. refl; done = λ t k v notice. refl; reply = λ t v answer. refl };
@@ -407,25 +407,25 @@ by_node s past e m node was next =
     let asked : asked_for s (e ∷ past) ≡ asked_for s past = ap (λ (c : Client). advances_in (take c.next s.rows)) kept in
     let ended : (client_in s (e ∷ past)).ended ≡ (client_in s past).ended = ap (λ (c : Client). c.ended) kept in
     other_small s past e (omega (arith, node)) was
-    (omega (arith, asked, node_keeps is_advance advance_passes s past e m node next))
+    (omega (arith, asked, node_keeps is_advance_letter advance_passes s past e m node next))
     (omega (arith, ended, node_keeps is_advanced advanced_passes s past e m node next))
 
 by_client : (s : ScriptData) (past : List Entry) (e : Entry) (c : Client) (first : List Outgoing) → MayFollow s past e
     → IsSmall s past
     → e.actor.0 ≡ client_of s → MadeByClient s past e (submit s c first) → c.next ≡ (client_in s past).next
-    → tally (on is_advance) first ≡ 0 → tally (on is_advanced) first ≡ 0 → is_advance e.took.body ≡ 0
+    → tally (on is_advance_letter) first ≡ 0 → tally (on is_advanced) first ≡ 0 → is_advance_letter e.took.body ≡ 0
     → c.ended ≡ (client_in s past).ended + is_advanced e.took.body → IsSmall s (e ∷ past)
 by_client s past e c first m was at made next quiet silent took ended =
     let more : asked_for s (e ∷ past) ≡ advances_in (take (submit s c first).state.next s.rows) =
     ap (λ (x : Client). advances_in (take x.next s.rows)) made.state in
     let before : advances_in (take c.next s.rows) ≡ asked_for s past = ap (λ (n : ℕ). advances_in (take n s.rows)) next in
     let heard : (client_in s (e ∷ past)).ended ≡ c.ended = ap (λ (x : Client). x.ended) made.state in
-    let asks : tally (on is_advance) e.sent ≡ tally (on is_advance) (submit s c first).sent =
-    ap (λ (os : List Outgoing). tally (on is_advance) os) made.sent in
+    let asks : tally (on is_advance_letter) e.sent ≡ tally (on is_advance_letter) (submit s c first).sent =
+    ap (λ (os : List Outgoing). tally (on is_advance_letter) os) made.sent in
     let tells : tally (on is_advanced) e.sent ≡ tally (on is_advanced) (submit s c first).sent =
     ap (λ (os : List Outgoing). tally (on is_advanced) os) made.sent in
     other_small s past e (omega (arith, at)) was
-    (omega (arith, flow is_advance s past e m, more, before, asks, submits s c first, quiet, took))
+    (omega (arith, flow is_advance_letter s past e m, more, before, asks, submits s c first, quiet, took))
     (omega (arith, flow is_advanced s past e m, heard, tells, submits_none s c first, silent, ended))
 
 -- the coordinator isn't told that an advancement has ended
@@ -443,15 +443,15 @@ by_coordinator s past e laws run timely was told at made =
     let kept : client_in s (e ∷ past) ≡ client_in s past = client_kept s past e (omega (arith, at)) in
     let asked : asked_for s (e ∷ past) ≡ asked_for s past = ap (λ (x : Client). advances_in (take x.next s.rows)) kept in
     let ended : (client_in s (e ∷ past)).ended ≡ (client_in s past).ended = ap (λ (x : Client). x.ended) kept in
-    let asks : tally (on is_advance) e.sent ≡ tally (on is_advance) out.sent =
-    ap (λ (os : List Outgoing). tally (on is_advance) os) made.sent in
+    let asks : tally (on is_advance_letter) e.sent ≡ tally (on is_advance_letter) out.sent =
+    ap (λ (os : List Outgoing). tally (on is_advance_letter) os) made.sent in
     let tells : tally (on is_advanced) e.sent ≡ tally (on is_advanced) out.sent =
     ap (λ (os : List Outgoing). tally (on is_advanced) os) made.sent in
     let after : Numbers s (e ∷ past) out.state = record {
       nodes = cost.nodes ∙ was.nodes;
       acks = omega (arith, cost.acks (omega (arith, was.acks, was.nodes)), was.nodes);
       idle = cost.idle was.idle;
-      asked = omega (arith, was.asked, flow is_advance s past e run.0, asks, cost.silent, cost.asked, asked);
+      asked = omega (arith, was.asked, flow is_advance_letter s past e run.0, asks, cost.silent, cost.asked, asked);
       ended =
           omega (arith, was.ended, flow is_advanced s past e run.0, tells, cost.ended, ended, told_advanced e.took.body told);
       rounds = omega (arith, was.rounds, cost.rounds);
@@ -462,15 +462,15 @@ by_coordinator s past e laws run timely was told at made =
 small_next : (s : ScriptData) (past : List Entry) (e : Entry) → IsLawful s → IsStepRun s (e ∷ past) → AllTimely s past
     → IsSmall s past → Next s past e → IsSmall s (e ∷ past)
 small_next s past e laws run timely was (Begins bd at made) =
-    by_client s past e (client_in s past) [] run.0 was at made refl refl refl (ap is_advance bd)
+    by_client s past e (client_in s past) [] run.0 was at made refl refl refl (ap is_advance_letter bd)
     (omega (arith, ap is_advanced bd))
 small_next s past e laws run timely was (Hears t v answer bd at lt made) =
     by_client s past e (with_answer t.0 (client_in s past)) (nudge s ∷ []) run.0 was at made refl refl refl
-    (ap is_advance bd) (omega (arith, ap is_advanced bd))
+    (ap is_advance_letter bd) (omega (arith, ap is_advanced bd))
 small_next s past e laws run timely was (Ends v bd at made) =
     let few : (client_in s past).ended < 2 ^ 64 - 1 =
     omega (arith, was.ended, (has_room s past laws run.1 timely was).update) in
-    by_client s past e (with_end (client_in s past)) [] run.0 was at made refl refl refl (ap is_advance bd)
+    by_client s past e (with_end (client_in s past)) [] run.0 was at made refl refl refl (ap is_advance_letter bd)
     (omega (arith, one_more_is (client_in s past).ended few, ap is_advanced bd))
 small_next s past e laws run timely was (Coordinates tells at made) = by_coordinator s past e laws run timely was tells at made
 small_next s past e laws run timely was (DoesRoot t v effect bd sub at lt new work made) =

@@ -14,9 +14,9 @@ use Rattle.tv_base.specs.declared.numbers.Version.{Version}
 use Rattle.pair_counters.specs.Numbers.{numbers_of}
 use Rattle.phase_out.specs.Rounds.{is_of}
 use Rattle.tx_trees.specs.ScriptData.{ScriptData}
-use Rattle.tree_step.specs.Node.{Node}
-use Rattle.advance_coord.specs.Coordinator.{Coordinator, version, to_nodes, counted, end_count, keep_done, coordinator_row}
-use Rattle.advance_coord.specs.declared.phase.Phase.TheVariants.{Counting}
+use Rattle.world_model.specs.Node.{Node}
+use Rattle.world_model.specs.Coordinator.{Coordinator, version, to_nodes, counted_version, end_count, keep_done, coordinator_row}
+use Rattle.world_model.specs.declared.phase.Phase.TheVariants.{Counting}
 use Rattle.world_model.specs.Counts.{Each}
 use Rattle.world_model.specs.Runs.{coordinator_in, node_in, waiting, IsStepRun}
 use Rattle.world_model.specs.Timely.{AllTimely}
@@ -228,7 +228,7 @@ later_step c from body out le (Begins reads d nodes is) =
       later = omega arith;
       number = omega arith;
       sent = to_nodes_each (λ to b. LetterId → round_of b ≤ c.round + 1) d.nodes
-          (AskDone (counted reads d) (c.round + 1)) (λ to lt i. omega arith);
+          (AskDone (counted_version reads d) (c.round + 1)) (λ to lt i. omega arith);
     })
 later_step c from body out le (TakesDone reads v k row at bd here is) =
     subst (λ (o : Out Coordinator). Later c o) (sym is) (record {

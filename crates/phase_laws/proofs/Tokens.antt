@@ -9,10 +9,10 @@ use Rattle.letter_types.specs.declared.entries.Letter.{Letter}
 use Rattle.letter_types.specs.declared.entries.Outgoing.{Outgoing}
 use Rattle.letter_types.specs.Steps.{Out, still}
 use Rattle.tx_trees.specs.ScriptData.{ScriptData, client_of}
-use Rattle.advance_coord.specs.Coordinator.{Coordinator, version, to_nodes, in_phase, counted, keep_done, end_count, advanced, coordinator_row}
-use Rattle.advance_coord.specs.declared.phase.Phase.{Phase}
-use Rattle.advance_coord.specs.declared.phase.Phase.TheVariants.{Idle, Turning, Counting, Paused, Showing, Sweeping}
-use Rattle.client_rows.specs.Client.{Client, submit, with_answer, with_end, nudge}
+use Rattle.world_model.specs.Coordinator.{Coordinator, version, to_nodes, in_phase, counted_version, keep_done, end_count, advanced, coordinator_row}
+use Rattle.world_model.specs.declared.phase.Phase.{Phase}
+use Rattle.world_model.specs.declared.phase.Phase.TheVariants.{Idle, Turning, Counting, Paused, Showing, Sweeping}
+use Rattle.world_model.specs.Client.{Client, submit, with_answer, with_end, nudge}
 use Rattle.world_model.specs.Counts.{tally}
 use Rattle.world_model.specs.Runs.{MayFollow, IsStepRun, client_in, coordinator_in, waiting}
 use Rattle.world_model.proofs.Bags.{tally-drop}
@@ -278,8 +278,8 @@ agrees_goes g c from row body true last =
 round_goes : (g : Stage) (c d : Coordinator) (body : Body) (reads : Bool) (k : ℕ) → d.nodes ≡ c.nodes → IsLast g c body
     → Goes g c body (round_begun reads k d)
 round_goes g c d body reads k same last =
-    begins g c (round_begun reads k d).state body (to_nodes d.nodes (AskDone (counted reads d) k)) last refl
-    (ask_fills g d.nodes (counted reads d) k reads ∙ ap (λ (n : ℕ). within g (Counting reads) n) same)
+    begins g c (round_begun reads k d).state body (to_nodes d.nodes (AskDone (counted_version reads d) k)) last refl
+    (ask_fills g d.nodes (counted_version reads d) k reads ∙ ap (λ (n : ℕ). within g (Counting reads) n) same)
 
 -- every step of the coordinator keeps the equation
 outcome_goes : (g : Stage) (c : Coordinator) (from : ℕ) (body : Body) (out : Out Coordinator) → Tells body

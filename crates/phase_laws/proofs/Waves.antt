@@ -11,7 +11,7 @@ use Rattle.letter_types.specs.declared.entries.Outgoing.{Outgoing}
 use Rattle.tv_base.specs.declared.numbers.Version.{Version}
 use Rattle.phase_out.specs.Rounds.{NodeRows, all_in}
 use Rattle.tx_trees.specs.ScriptData.{ScriptData}
-use Rattle.advance_coord.specs.Coordinator.{to_nodes}
+use Rattle.world_model.specs.Coordinator.{to_nodes}
 use Rattle.pair_counters.specs.Numbers.{numbers_of}
 use Rattle.world_model.specs.Counts.{Each, one_if, tally}
 use Rattle.world_model.specs.Runs.{node_in, waiting, MayFollow}

@@ -5,8 +5,8 @@ use Rattle.letter_types.specs.declared.bodies.Body.TheVariants.{Go, Advance, Adv
 use Rattle.letter_types.specs.declared.entries.Entry.{Entry}
 use Rattle.tx_trees.specs.Counts.{advances_in}
 use Rattle.tx_trees.specs.ScriptData.{ScriptData}
-use Rattle.advance_coord.specs.declared.phase.Phase.{Phase}
-use Rattle.advance_coord.specs.declared.phase.Phase.TheVariants.{Idle}
+use Rattle.world_model.specs.declared.phase.Phase.{Phase}
+use Rattle.world_model.specs.declared.phase.Phase.TheVariants.{Idle}
 use Rattle.world_model.specs.Runs.{client_in, coordinator_in}
 use Rattle.phase_laws.specs.Phases.{under_way}
 
@@ -16,10 +16,10 @@ running Idle = 0
 running _ = 1
 
 -- the letters that ask for an advancement
-abbrev pub is_advance : Body → ℕ
-is_advance Advance = 1
-is_advance Go = 0
-is_advance _ = 0
+abbrev pub is_advance_letter : Body → ℕ
+is_advance_letter Advance = 1
+is_advance_letter Go = 0
+is_advance_letter _ = 0
 
 -- the letters that tell that one has ended
 abbrev pub is_advanced : Body → ℕ
@@ -34,7 +34,7 @@ asked_for s past = advances_in (take (client_in s past).next s.rows)
 -- each is asked for in a letter, waits, is under way or has ended; and of each that has ended the client has heard, or will
 -- by a letter under way. The update version is one above the number of those that have ended
 pub record AdvancesAreKept (s : ScriptData) (past : List Entry) : Type 0 where
-  pub asked : under_way is_advance s past + (coordinator_in s past).waits + running (coordinator_in s past).phase
+  pub asked : under_way is_advance_letter s past + (coordinator_in s past).waits + running (coordinator_in s past).phase
       + (coordinator_in s past).update
       ≡ asked_for s past + 1
   pub ended : under_way is_advanced s past + (client_in s past).ended + 1 ≡ (coordinator_in s past).update

@@ -7,6 +7,7 @@ use Rattle.letter_types.specs.declared.entries.Letter.{Letter}
 use Rattle.tx_trees.specs.ScriptData.{ScriptData}
 use Rattle.world_model.specs.Counts.{tally, one_if}
 use Rattle.world_model.specs.Runs.{waiting, node_in}
+pub use Rattle.world_model.specs.Taking.{MOST_COUNTED}
 
 -- a counted letter of version v: a Sub, a Done, a Decide or a Decided
 abbrev pub version_is : ℕ → Body → Bool
@@ -18,12 +19,12 @@ version_is v Go = false
 version_is v _ = false
 
 -- 1 for a counted letter of version v from p to q
-abbrev pub goes_from : ℕ → ℕ → ℕ → Letter → ℕ
-goes_from v p q l = one_if (version_is v l.body && ((l.from.0 == p) && (l.to.0 == q)))
+abbrev pub goes_between : ℕ → ℕ → ℕ → Letter → ℕ
+goes_between v p q l = one_if (version_is v l.body && ((l.from.0 == p) && (l.to.0 == q)))
 
 -- how many counted letters of version v are under way from p to q
 abbrev pub out : ScriptData → List Entry → ℕ → ℕ → ℕ → ℕ
-out s past v p q = tally (goes_from v p q) (waiting s past)
+out s past v p q = tally (goes_between v p q) (waiting s past)
 
 -- node p has collected to a version above v
 abbrev pub HasLeft : ScriptData → List Entry → ℕ → ℕ → Type 0
@@ -36,8 +37,3 @@ pub record IsBalanced (s : ScriptData) (past : List Entry) : Type 0 where
       → (node_in s past p).turns.low.0 ≤ v → (node_in s past q).turns.low.0 ≤ v
       → (node_in s past p).counts.asked v q ≡ (node_in s past q).counts.done v p + out s past v p q
   pub none : (v p q : ℕ) → p < s.nodes → q < s.nodes → HasLeft s past v p ⊎ HasLeft s past v q → out s past v p q ≡ 0
-
--- how much an entry adds to a counter at most: a subtransaction's children and its notice, or a root's children and
--- itself
-abbrev pub MOST_COUNTED : ℕ
-MOST_COUNTED = 65

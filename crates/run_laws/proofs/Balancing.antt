@@ -10,7 +10,7 @@ use Rattle.world_model.specs.Timely.{AllTimely}
 use Rattle.world_model.proofs.Every.{each_map, each_none, each_zero}
 use Rattle.world_model.proofs.Lawful.{IsLawful}
 use Rattle.phase_laws.specs.Phases.{under_way}
-use Rattle.phase_laws.specs.Balance.{goes_from, out, version_is}
+use Rattle.phase_laws.specs.Balance.{goes_between, out, version_is}
 use Rattle.phase_laws.proofs.Balance.{balanced_at}
 use Rattle.run_laws.proofs.Measures.{of_trees}
 use Rattle.phase_laws.proofs.Moves.{uncounted_goes}
@@ -26,8 +26,8 @@ not_counted v _ none = refl
 
 out_none : (s : ScriptData) (past : List Entry) (v p q : ℕ) → under_way of_trees s past ≡ 0 → out s past v p q ≡ 0
 out_none s past v p q none =
-    each_none (goes_from v p q) (waiting s past)
-    (each_map (λ (l : Letter). of_trees l.body ≡ 0) (λ (l : Letter). goes_from v p q l ≡ 0) (waiting s past)
+    each_none (goes_between v p q) (waiting s past)
+    (each_map (λ (l : Letter). of_trees l.body ≡ 0) (λ (l : Letter). goes_between v p q l ≡ 0) (waiting s past)
     (λ l quiet. uncounted_goes v p q l (not_counted v l.body quiet)) (each_zero (λ (l : Letter). of_trees l.body) (waiting s past) none))
 
 -- then requests are completions in each version that both nodes still count

@@ -1,8 +1,8 @@
 -- How many entries a run has at most.
 use Rattle.std.proofs.Common.{ℕ, zero, suc, ◌+◌, ◌*◌, ◌<◌, ◌≤◌, true, false, List, [], ◌∷◌, length, ◌∙◌, arith}
 use Rattle.letter_types.specs.declared.entries.Entry.{Entry}
-use Rattle.advance_coord.specs.declared.phase.Phase.{Phase}
-use Rattle.advance_coord.specs.declared.phase.Phase.TheVariants.{Idle, Turning, Counting, Paused, Showing, Sweeping}
+use Rattle.world_model.specs.declared.phase.Phase.{Phase}
+use Rattle.world_model.specs.declared.phase.Phase.TheVariants.{Idle, Turning, Counting, Paused, Showing, Sweeping}
 use Rattle.tx_trees.specs.Counts.{advances_in, all_subs}
 use Rattle.tx_trees.specs.ScriptData.{ScriptData, subs_at}
 use Rattle.world_model.specs.Runs.{client_in, coordinator_in, IsStepRun}

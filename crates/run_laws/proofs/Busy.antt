@@ -10,7 +10,7 @@ use Rattle.letter_types.specs.declared.entries.Outgoing.{Outgoing}
 use Rattle.tx_trees.specs.ScriptData.{ScriptData}
 use Rattle.tx_trees.specs.declared.parts.ScriptRow.{ScriptRow}
 use Rattle.tx_trees.specs.declared.parts.ScriptRow.TheVariants.{Tree as TreeRow, Advance as AdvanceRow, Settle as SettleRow, Lose as LoseRow}
-use Rattle.client_rows.specs.Client.{Client, submit, submitted, with_answer, with_end, nudge}
+use Rattle.world_model.specs.Client.{Client, submit, submitted, with_answer, with_end, nudge}
 use Rattle.world_model.specs.Counts.{Each, tally, one_if}
 use Rattle.world_model.specs.Runs.{client_in, waiting, MayFollow, IsStepRun}
 use Rattle.world_model.specs.Timely.{AllTimely}
@@ -22,7 +22,7 @@ use Rattle.world_model.proofs.Nexts.{Next, Begins, Hears, Ends, Coordinates, Doe
 use Rattle.world_model.proofs.Scripts.{IsSound, SubAt, has_root, sub_there, tree_below}
 use Rattle.world_model.proofs.Sends.{on}
 use Rattle.phase_laws.specs.Phases.{under_way}
-use Rattle.tree_laws.specs.Dids.{asked, asks, answers, dids, is_row_of, notices, rooted, tells_done}
+use Rattle.tree_laws.specs.Dids.{letters_asking, asks, answers, dids, is_row_of, notices, roots_sent, tells_done}
 use Rattle.tree_laws.proofs.Counts.{below_root, one_here, parent_at, root_most, zero_or}
 use Rattle.tree_laws.proofs.Good.{IsGood, TreeAt, Unborn, Gathers, Answered}
 use Rattle.tree_laws.proofs.Goods.{good_run}
@@ -49,7 +49,7 @@ put_at answered t u false is =
 
 -- of the trees of these rows one fewer is left for each row of tree t
 answer_less : (answered : List Bool) (t : ℕ) (rows : List ScriptRow)
-    → tally (unanswered answered) rows ≤ tally (unanswered (set answered t true)) rows + rooted t rows
+    → tally (unanswered answered) rows ≤ tally (unanswered (set answered t true)) rows + roots_sent t rows
 answer_less answered t [] = omega arith
 answer_less answered t (TreeRow u ∷ rows) =
     omega (arith, put_at answered t u.0 (u.0 == t) refl, answer_less answered t rows)
@@ -131,11 +131,11 @@ answered_here answered t u true rest more is later some none =
 answered_here answered t u false rest more is later some none = later (omega (arith, some)) (omega (arith, none))
 
 -- a tree of these rows is answered
-answered_row : (answered : List Bool) (t : ℕ) (rows : List ScriptRow) → 1 ≤ rooted t rows → tally (unanswered answered) rows ≡ 0
+answered_row : (answered : List Bool) (t : ℕ) (rows : List ScriptRow) → 1 ≤ roots_sent t rows → tally (unanswered answered) rows ≡ 0
     → get_or answered t false ≡ true
 answered_row answered t [] some none = absurd (omega (arith, some))
 answered_row answered t (TreeRow u ∷ rows) some none =
-    answered_here answered t u.0 (u.0 == t) (rooted t rows) (tally (unanswered answered) rows) refl
+    answered_here answered t u.0 (u.0 == t) (roots_sent t rows) (tally (unanswered answered) rows) refl
     (λ more rest. answered_row answered t rows more rest) some none
 answered_row answered t (AdvanceRow ∷ rows) some none = answered_row answered t rows (omega (arith, some)) (omega (arith, none))
 answered_row answered t (SettleRow ∷ rows) some none = answered_row answered t rows (omega (arith, some)) (omega (arith, none))
@@ -143,12 +143,12 @@ answered_row answered t (LoseRow ∷ rows) some none = answered_row answered t r
 
 -- no letter under way asks for or brings a notice of a subtransaction
 record Rests (s : ScriptData) (past : List Entry) (t k : ℕ) : Type 0 where
-  asked : asked s past t k ≡ 0
+  asked : letters_asking s past t k ≡ 0
   told : notices s past t k ≡ 0
 
 -- a tree that is submitted is answered
 submitted_answered : (s : ScriptData) (past : List Entry) (t : ℕ) → IsGood s past → left s (client_in s past) ≡ 0 → t < length s.trees
-    → 1 ≤ rooted t (take (client_in s past).next s.rows) → 1 ≤ answers past t
+    → 1 ≤ roots_sent t (take (client_in s past).next s.rows) → 1 ≤ answers past t
 submitted_answered s past t good none lt some =
     let is = answered_row (client_in s past).answered t (take (client_in s past).next s.rows) some none in
     let one : one_if (get_or (client_in s past).answered t false) ≡ 1 = ap one_if is in
@@ -156,22 +156,22 @@ submitted_answered s past t good none lt some =
 
 -- a tree that isn't born is asked for nothing
 unborn_asked : (s : ScriptData) (past : List Entry) (t k : ℕ) (c : SubAt s t k) → IsSound s → IsGood s past → left s (client_in s past) ≡ 0
-    → dids past t 0 ≡ 0 → answers past t ≡ 0 → (k ≡ 0) ⊎ (0 < k) → asked s past t k ≡ 0
+    → dids past t 0 ≡ 0 → answers past t ≡ 0 → (k ≡ 0) ⊎ (0 < k) → letters_asking s past t k ≡ 0
 unborn_asked s past t k c sound good none unborn silent (inl is) =
     let lt = tree_below s t k c in
-    subst (λ (n : ℕ). asked s past t n ≡ 0) (sym is) (by (asked s past t 0) refl lt)
+    subst (λ (n : ℕ). letters_asking s past t n ≡ 0) (sym is) (by (letters_asking s past t 0) refl lt)
   where
-    by : (n : ℕ) → asked s past t 0 ≡ n → t < length s.trees → n ≡ 0
+    by : (n : ℕ) → letters_asking s past t 0 ≡ n → t < length s.trees → n ≡ 0
     by zero is lt = refl
     by (suc n) is lt = absurd (omega (arith, silent, submitted_answered s past t good none lt (omega (arith, is, good.roots t lt))))
 unborn_asked s past t k c sound good none unborn silent (inr more) =
     omega (arith, good.subs t k c more, below_root s past t c.sub.parent.0 (parent_at s t k c sound more) sound good, unborn)
 
 answered_asked : (s : ScriptData) (past : List Entry) (t k : ℕ) (c : SubAt s t k) → IsSound s → IsGood s past
-    → ((j : ℕ) → SubAt s t j → dids past t j ≡ 1) → (k ≡ 0) ⊎ (0 < k) → asked s past t k ≡ 0
+    → ((j : ℕ) → SubAt s t j → dids past t j ≡ 1) → (k ≡ 0) ⊎ (0 < k) → letters_asking s past t k ≡ 0
 answered_asked s past t k c sound good done (inl is) =
     let lt = tree_below s t k c in
-    subst (λ (n : ℕ). asked s past t n ≡ 0) (sym is)
+    subst (λ (n : ℕ). letters_asking s past t n ≡ 0) (sym is)
     (omega (arith, root_most s past t sound good lt, done 0 (has_root s t sound lt)))
 answered_asked s past t k c sound good done (inr more) =
     omega (arith, good.subs t k c more, done k c, done c.sub.parent.0 (parent_at s t k c sound more))

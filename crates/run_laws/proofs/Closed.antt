@@ -6,11 +6,11 @@ use Rattle.letter_types.specs.declared.bodies.Body.{Body}
 use Rattle.letter_types.specs.declared.bodies.Body.TheVariants.{Go, Show, Sweep}
 use Rattle.letter_types.specs.declared.entries.Entry.{Entry}
 use Rattle.letter_types.specs.declared.entries.Letter.{Letter}
-use Rattle.advance_coord.specs.Coordinator.{Coordinator, coordinator_row}
-use Rattle.advance_coord.specs.declared.phase.Phase.{Phase}
+use Rattle.world_model.specs.Coordinator.{Coordinator, coordinator_row}
+use Rattle.world_model.specs.declared.phase.Phase.{Phase}
 use Rattle.tx_trees.specs.ScriptData.{ScriptData, is_read, is_update}
 use Rattle.tx_trees.specs.declared.parts.Tree.{Tree}
-use Rattle.board_model.specs.Histories.{IsWhole, places_at, places_of, version_in}
+use Rattle.board_rules.specs.Histories.{IsWhole, places_at, places_of, version_in}
 use Rattle.world_model.specs.Counts.{Each, tally}
 use Rattle.world_model.specs.Runs.{IsStepRun, coordinator_in, waiting}
 use Rattle.world_model.specs.Timely.{AllTimely}

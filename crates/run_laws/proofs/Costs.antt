@@ -12,11 +12,11 @@ use Rattle.tx_trees.specs.Counts.{advances_in}
 use Rattle.tx_trees.specs.ScriptData.{ScriptData, client_of, home_of, node_of}
 use Rattle.tx_trees.specs.declared.parts.ScriptRow.{ScriptRow}
 use Rattle.tx_trees.specs.declared.parts.ScriptRow.TheVariants.{Tree as TreeRow, Advance as AdvanceRow, Settle as SettleRow, Lose as LoseRow}
-use Rattle.tree_step.specs.Node.{Node}
-use Rattle.client_rows.specs.Client.{Client, nudge, rows_letters, submit, submitted, with_answer, with_end}
-use Rattle.advance_coord.specs.Coordinator.{Coordinator, coordinator_row, counted, end_count, keep_done, to_nodes, version}
-use Rattle.advance_coord.specs.declared.phase.Phase.{Phase}
-use Rattle.advance_coord.specs.declared.phase.Phase.TheVariants.{Idle, Turning, Counting, Paused, Showing, Sweeping}
+use Rattle.world_model.specs.Node.{Node}
+use Rattle.world_model.specs.Client.{Client, nudge, rows_letters, submit, submitted, with_answer, with_end}
+use Rattle.world_model.specs.Coordinator.{Coordinator, coordinator_row, counted_version, end_count, keep_done, to_nodes, version}
+use Rattle.world_model.specs.declared.phase.Phase.{Phase}
+use Rattle.world_model.specs.declared.phase.Phase.TheVariants.{Idle, Turning, Counting, Paused, Showing, Sweeping}
 use Rattle.world_model.specs.Counts.{tally}
 use Rattle.world_model.specs.Runs.{client_in, coordinator_in, node_in, MayFollow, IsStepRun}
 use Rattle.world_model.specs.Timely.{AllTimely}
@@ -118,8 +118,8 @@ unasked_new n (suc m) reads some = refl
 pays_begun : (n : ℕ) (reads : Bool) (c d : Coordinator) → 1 ≤ n → d.nodes ≡ n → d.update ≡ c.update → pend n c ≡ 0 → stages c.phase ≡ stages (Counting reads)
     → Pays n c (round_begun reads (c.round + 1) d)
 pays_begun n reads c d some nodes update none stage =
-    let sent : tally (on cost) (to_nodes d.nodes (AskDone (counted reads d) (c.round + 1))) ≡ 2 * n =
-    to_nodes_cost d.nodes (AskDone (counted reads d) (c.round + 1)) refl ∙ ap (λ (m : ℕ). 2 * m) nodes in
+    let sent : tally (on cost) (to_nodes d.nodes (AskDone (counted_version reads d) (c.round + 1))) ≡ 2 * n =
+    to_nodes_cost d.nodes (AskDone (counted_version reads d) (c.round + 1)) refl ∙ ap (λ (m : ℕ). 2 * m) nodes in
     let new = unasked_new n d.nodes reads (omega (arith, some, nodes)) in
     let same : d.update * (6 * n + 1) ≡ c.update * (6 * n + 1) = ap (λ (u : ℕ). u * (6 * n + 1)) update in
     let at : 2 * n * stages c.phase ≡ 2 * n * stages (Counting reads) = ap (λ (k : ℕ). 2 * n * k) stage in

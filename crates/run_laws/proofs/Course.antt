@@ -5,9 +5,9 @@ use Rattle.phase_out.specs.Rounds.{all_in, is_of, verdict_of}
 use Rattle.letter_types.specs.declared.bodies.Body.{Body}
 use Rattle.letter_types.specs.declared.bodies.Body.TheVariants.{Go, Nudge, Advance, Turned, Shown, DoneRow, AskedRow}
 use Rattle.letter_types.specs.Steps.{Out, still}
-use Rattle.advance_coord.specs.Coordinator.{Coordinator, end_count, in_phase, keep_done, with_asked}
-use Rattle.advance_coord.specs.declared.phase.Phase.{Phase}
-use Rattle.advance_coord.specs.declared.phase.Phase.TheVariants.{Idle, Turning, Counting, Paused, Showing, Sweeping}
+use Rattle.world_model.specs.Coordinator.{Coordinator, end_count, in_phase, keep_done, with_asked}
+use Rattle.world_model.specs.declared.phase.Phase.{Phase}
+use Rattle.world_model.specs.declared.phase.Phase.TheVariants.{Idle, Turning, Counting, Paused, Showing, Sweeping}
 use Rattle.phase_laws.proofs.Outcomes.{Ignored, IsAnswer, TakesAsked, Outcome, Rests, Queues, Flags, Turns, Acks, LastTurned, LastShown, Finishes, GoesOn, Resumes, KeepsDone, KeepsAsked, Agrees, Recounts, Pauses, asked_kept, round_begun}
 use Rattle.run_laws.proofs.Measures.{nudges}
 

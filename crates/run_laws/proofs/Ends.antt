@@ -7,15 +7,15 @@ use Rattle.std.proofs.Math.Seq.{take-length}
 use Rattle.phase_out.specs.Rounds.{all_in}
 use Rattle.letter_types.specs.declared.entries.Entry.{Entry}
 use Rattle.letter_types.specs.declared.entries.Letter.{Letter}
-use Rattle.board_model.specs.Histories.{Place, places_of}
-use Rattle.board_model.specs.Right.{HasFinished, finishes}
+use Rattle.board_rules.specs.Histories.{Place, places_of}
+use Rattle.board_rules.specs.Right.{HasFinished, finishes}
 use Rattle.tx_trees.specs.Counts.{advances_in}
 use Rattle.tx_trees.specs.ScriptData.{ScriptData}
 use Rattle.tx_trees.specs.declared.parts.ScriptRow.{ScriptRow}
 use Rattle.tx_trees.specs.declared.parts.ScriptRow.TheVariants.{Tree as TreeRow, Advance as AdvanceRow, Settle as SettleRow, Lose as LoseRow}
-use Rattle.client_rows.specs.Client.{all_answered, have_ended}
-use Rattle.advance_coord.specs.declared.phase.Phase.{Phase}
-use Rattle.advance_coord.specs.declared.phase.Phase.TheVariants.{Idle, Turning, Counting, Paused, Showing, Sweeping}
+use Rattle.world_model.specs.Client.{all_answered, have_ended}
+use Rattle.world_model.specs.declared.phase.Phase.{Phase}
+use Rattle.world_model.specs.declared.phase.Phase.TheVariants.{Idle, Turning, Counting, Paused, Showing, Sweeping}
 use Rattle.world_model.specs.Counts.{tally, one_if}
 use Rattle.world_model.specs.Runs.{client_in, coordinator_in, waiting, IsStepRun}
 use Rattle.world_model.specs.Timely.{AllTimely}
@@ -23,12 +23,12 @@ use Rattle.world_model.proofs.Bags.{one_if_same}
 use Rattle.world_model.proofs.Lawful.{IsLawful}
 use Rattle.world_model.proofs.Orders.{coordinator_nodes}
 use Rattle.world_model.proofs.Scripts.{IsSound}
-use Rattle.phase_laws.specs.Advances.{asked_for, is_advance, is_advanced, running}
+use Rattle.phase_laws.specs.Advances.{asked_for, is_advance_letter, is_advanced, running}
 use Rattle.phase_laws.specs.Phases.{Stage, TurnStage, ShowStage, SweepStage, token, within}
 use Rattle.phase_laws.proofs.Current.{current}
 use Rattle.phase_laws.proofs.Small.{small}
 use Rattle.phase_laws.proofs.Tokens.{told}
-use Rattle.tree_laws.specs.Dids.{is_go, rooted}
+use Rattle.tree_laws.specs.Dids.{is_go, roots_sent}
 use Rattle.tree_laws.specs.Ends.{is_finish}
 use Rattle.tree_laws.proofs.Acts.{counted_any, finish_marks, of_act}
 use Rattle.tree_laws.proofs.Client.{at_rest}
@@ -44,7 +44,7 @@ use Rattle.run_laws.proofs.Pauses.{bound}
 none_unanswered : (b : Bool) → b ≡ true → one_if (not b) ≡ 0
 none_unanswered b is = ap (λ (x : Bool). one_if (not x)) is
 
-left_none : (answered : List Bool) (rows : List ScriptRow) → ((t : ℕ) → 1 ≤ rooted t rows → get_or answered t false ≡ true)
+left_none : (answered : List Bool) (rows : List ScriptRow) → ((t : ℕ) → 1 ≤ roots_sent t rows → get_or answered t false ≡ true)
     → tally (unanswered answered) rows ≡ 0
 left_none answered [] all = refl
 left_none answered (TreeRow t ∷ rows) all =
@@ -134,7 +134,7 @@ ended_all s past laws run timely empty =
       now.idle rests,
       now.asked,
       now.ended,
-      none_left (λ (l : Letter). is_advance l.body) s past empty,
+      none_left (λ (l : Letter). is_advance_letter l.body) s past empty,
       none_left (λ (l : Letter). is_advanced l.body) s past empty,
     )
 

@@ -7,11 +7,11 @@ use Rattle.letter_types.specs.declared.entries.Entry.{Entry}
 use Rattle.letter_types.specs.declared.entries.Letter.{Letter}
 use Rattle.letter_types.specs.Steps.{Out}
 use Rattle.phase_out.specs.Rounds.{NodeRows}
-use Rattle.advance_coord.specs.Coordinator.{Coordinator}
-use Rattle.advance_coord.specs.declared.phase.Phase.{Phase}
-use Rattle.advance_coord.specs.declared.phase.Phase.TheVariants.{Idle, Turning, Counting, Paused, Showing, Sweeping}
-use Rattle.client_rows.specs.Client.{finishes, next_after, nudge, with_answer, with_end}
-use Rattle.tree_step.specs.Node.{Node}
+use Rattle.world_model.specs.Coordinator.{Coordinator}
+use Rattle.world_model.specs.declared.phase.Phase.{Phase}
+use Rattle.world_model.specs.declared.phase.Phase.TheVariants.{Idle, Turning, Counting, Paused, Showing, Sweeping}
+use Rattle.world_model.specs.Client.{client_finishes, next_after, nudge, with_answer, with_end}
+use Rattle.world_model.specs.Node.{Node}
 use Rattle.tx_trees.specs.Counts.{advances_in, all_subs}
 use Rattle.tx_trees.specs.ScriptData.{ScriptData, client_of, home_of, subs_at}
 use Rattle.tx_trees.specs.declared.parts.ScriptRow.{ScriptRow}
@@ -29,7 +29,7 @@ use Rattle.world_model.proofs.Scripts.{IsSound, has_root, sub_below, sub_there}
 use Rattle.world_model.proofs.Sends.{on, replies_none, subs_none}
 use Rattle.phase_laws.specs.Advances.{asked_for, is_advanced, running}
 use Rattle.phase_laws.proofs.Small.{small}
-use Rattle.tree_laws.specs.Dids.{asks, dids, is_did, replies, replies_to, rooted}
+use Rattle.tree_laws.specs.Dids.{asks, dids, is_did_act, replies, replies_to, roots_sent}
 use Rattle.tree_laws.specs.Entries.{entries_of, rounds_in}
 use Rattle.tree_laws.proofs.Doing.{no_birth, root_answer, root_sends, sub_acts, sub_sends}
 use Rattle.tree_laws.proofs.Entries.{all_subs_here, asks_in, is_other, is_reply, is_root, is_work, root_here, some_subs, submit_other, taken_in, taken_over, taken_replies, work_hit, work_none}
@@ -143,30 +143,30 @@ work_by_tree s sound from to (SubLetter u j v) fit = sym (work_hit s u.0 j.0 fit
 work_by_tree s sound from to Go fit = sym (work_none s)
 work_by_tree s sound from to _ fit = sym (work_none s)
 
-did_none : (t k : ℕ) → ActsOfNone (is_did t k)
+did_none : (t k : ℕ) → ActsOfNone (is_did_act t k)
 did_none t k = record { turned = λ v. refl; showed = λ v. refl; swept = λ v. refl }
 
-does_asked : (s : ScriptData) (past : List Entry) (e : Entry) (t k : ℕ) → Next s past e → asks t k e.took.body ≡ tally (is_did t k) e.acts
+does_asked : (s : ScriptData) (past : List Entry) (e : Entry) (t k : ℕ) → Next s past e → asks t k e.took.body ≡ tally (is_did_act t k) e.acts
 does_asked s past e t k (Begins is at made) =
-    omega (arith, ap (asks t k) is, ap (λ acts. tally (is_did t k) acts) made.acts, finish_none (is_did t k) (finishes s (next_after s (client_in s past)) (client_in s past)) refl)
+    omega (arith, ap (asks t k) is, ap (λ acts. tally (is_did_act t k) acts) made.acts, finish_none (is_did_act t k) (client_finishes s (next_after s (client_in s past)) (client_in s past)) refl)
 does_asked s past e t k (Hears u v answer is at lt made) =
     let c = with_answer u.0 (client_in s past) in
-    omega (arith, ap (asks t k) is, ap (λ acts. tally (is_did t k) acts) made.acts, finish_none (is_did t k) (finishes s (next_after s c) c) refl)
+    omega (arith, ap (asks t k) is, ap (λ acts. tally (is_did_act t k) acts) made.acts, finish_none (is_did_act t k) (client_finishes s (next_after s c) c) refl)
 does_asked s past e t k (Ends v is at made) =
     let c = with_end (client_in s past) in
-    omega (arith, ap (asks t k) is, ap (λ acts. tally (is_did t k) acts) made.acts, finish_none (is_did t k) (finishes s (next_after s c) c) refl)
+    omega (arith, ap (asks t k) is, ap (λ acts. tally (is_did_act t k) acts) made.acts, finish_none (is_did_act t k) (client_finishes s (next_after s c) c) refl)
 does_asked s past e t k (Coordinates tells at made) =
     let aside = coordinates_aside s past e tells at made in
-    omega (arith, aside.took (asks t k) (asks_trees t k), aside.acts (is_did t k) (did_none t k))
+    omega (arith, aside.took (asks t k) (asks_trees t k), aside.acts (is_did_act t k) (did_none t k))
 does_asked s past e t k (DoesRoot u v effect is sub at lt new work made) =
-    omega (arith, ap (asks t k) is, ap (λ acts. tally (is_did t k) acts) made.acts)
+    omega (arith, ap (asks t k) is, ap (λ acts. tally (is_did_act t k) acts) made.acts)
 does_asked s past e t k (DoesSub u j v raises effect is sub later from at lt work made) =
-    omega (arith, ap (asks t k) is, sub_acts (is_did t k) s past e u j v raises effect work made (λ w. refl))
+    omega (arith, ap (asks t k) is, sub_acts (is_did_act t k) s past e u j v raises effect work made (λ w. refl))
 does_asked s past e t k (Notes u j v values is sub later from at lt misses made) =
-    omega (arith, ap (asks t k) is, ap (λ acts. tally (is_did t k) acts) made.acts)
+    omega (arith, ap (asks t k) is, ap (λ acts. tally (is_did_act t k) acts) made.acts)
 does_asked s past e t k (Obeys p out at lt order made) =
     let aside = obeys_aside s past e p out at lt order made in
-    omega (arith, aside.took (asks t k) (asks_trees t k), aside.acts (is_did t k) (did_none t k))
+    omega (arith, aside.took (asks t k) (asks_trees t k), aside.acts (is_did_act t k) (did_none t k))
 
 pub taken_asks : (s : ScriptData) (past : List Entry) (t k : ℕ) (laws : IsLawful s) (run : IsStepRun s past) (timely : AllTimely s past)
     → taken_in (asks t k) past ≡ dids past t k
@@ -181,8 +181,8 @@ AllDone s past = (t : ℕ) → t < length s.trees → TreeDone s past t
 all_done : (s : ScriptData) (past : List Entry) (laws : IsLawful s) (run : IsStepRun s past) (timely : AllTimely s past) → waiting s past ≡ [] → AllDone s past
 all_done s past laws run timely empty = λ t lt.
     let once = rooted_once (length s.trees) t s.rows laws.sound.valid.rows lt in
-    let rows : rooted t (take (client_in s past).next s.rows) ≡ rooted t s.rows =
-    ap (λ (xs : List ScriptRow). rooted t xs) (all_rows s past laws run timely empty) in
+    let rows : roots_sent t (take (client_in s past).next s.rows) ≡ roots_sent t s.rows =
+    ap (λ (xs : List ScriptRow). roots_sent t xs) (all_rows s past laws run timely empty) in
     tree_done s past t laws.sound (good_run s past laws.sound run timely) empty lt (omega (arith, once, rows))
 
 roots_taken : (s : ScriptData) (past : List Entry) (laws : IsLawful s) (run : IsStepRun s past) (timely : AllTimely s past) → AllDone s past

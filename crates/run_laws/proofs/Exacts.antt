@@ -16,10 +16,10 @@ use Rattle.letter_types.specs.Steps.{Out}
 use Rattle.tx_trees.specs.ScriptData.{ScriptData}
 use Rattle.tx_trees.specs.declared.parts.ScriptRow.{ScriptRow}
 use Rattle.tx_trees.specs.declared.parts.ScriptRow.TheVariants.{Tree as TreeRow, Advance as AdvanceRow, Settle as SettleRow, Lose as LoseRow}
-use Rattle.tree_step.specs.Node.{Node}
-use Rattle.client_rows.specs.Client.{Client, rows_letters, submit, submitted}
-use Rattle.advance_coord.specs.Coordinator.{Coordinator}
-use Rattle.advance_coord.specs.declared.phase.Phase.TheVariants.{Counting, Paused}
+use Rattle.world_model.specs.Node.{Node}
+use Rattle.world_model.specs.Client.{Client, rows_letters, submit, submitted}
+use Rattle.world_model.specs.Coordinator.{Coordinator}
+use Rattle.world_model.specs.declared.phase.Phase.TheVariants.{Counting, Paused}
 use Rattle.world_model.specs.Counts.{Each}
 use Rattle.world_model.specs.Runs.{coordinator_in, node_in, waiting, MayFollow}
 use Rattle.world_model.proofs.Every.{each_append, each_map, each_step, each_taken, node_kept}

@@ -14,9 +14,9 @@ use Rattle.letter_types.specs.declared.entries.Letter.{Letter}
 use Rattle.letter_types.specs.declared.entries.Outgoing.{Outgoing}
 use Rattle.letter_types.specs.Steps.{Out, still}
 use Rattle.tx_trees.specs.ScriptData.{ScriptData}
-use Rattle.tree_step.specs.Node.{Node}
-use Rattle.advance_coord.specs.Coordinator.{Coordinator, coordinator_row, keep_done, to_nodes}
-use Rattle.advance_coord.specs.declared.phase.Phase.TheVariants.{Counting}
+use Rattle.world_model.specs.Node.{Node}
+use Rattle.world_model.specs.Coordinator.{Coordinator, coordinator_row, keep_done, to_nodes}
+use Rattle.world_model.specs.declared.phase.Phase.TheVariants.{Counting}
 use Rattle.world_model.specs.Counts.{tally, one_if}
 use Rattle.world_model.specs.Runs.{coordinator_in, node_in, waiting, MayFollow, IsStepRun}
 use Rattle.world_model.specs.Timely.{AllTimely}

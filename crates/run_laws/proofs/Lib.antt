@@ -2,6 +2,7 @@ pub mod Wholes
 pub mod Reached
 pub mod Closed
 pub mod InTime
+pub mod Taken
 pub use Rattle.tree_laws.proofs.Goods
 pub mod Measures
 pub mod Busy

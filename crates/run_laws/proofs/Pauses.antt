@@ -10,11 +10,11 @@ use Rattle.letter_types.specs.declared.entries.Letter.{Letter}
 use Rattle.letter_types.specs.declared.entries.Outgoing.{Outgoing}
 use Rattle.letter_types.specs.Steps.{Out}
 use Rattle.tx_trees.specs.ScriptData.{ScriptData}
-use Rattle.tree_step.specs.Node.{Node}
-use Rattle.client_rows.specs.Client.{nudge, with_answer, with_end}
-use Rattle.advance_coord.specs.Coordinator.{Coordinator, coordinator_row, counted, in_phase, keep_done, with_asked}
-use Rattle.advance_coord.specs.declared.phase.Phase.{Phase}
-use Rattle.advance_coord.specs.declared.phase.Phase.TheVariants.{Counting, Paused, Sweeping}
+use Rattle.world_model.specs.Node.{Node}
+use Rattle.world_model.specs.Client.{nudge, with_answer, with_end}
+use Rattle.world_model.specs.Coordinator.{Coordinator, coordinator_row, counted_version, in_phase, keep_done, with_asked}
+use Rattle.world_model.specs.declared.phase.Phase.{Phase}
+use Rattle.world_model.specs.declared.phase.Phase.TheVariants.{Counting, Paused, Sweeping}
 use Rattle.world_model.specs.Runs.{client_in, coordinator_in, node_in, waiting, MayFollow, IsStepRun}
 use Rattle.world_model.specs.Timely.{AllTimely}
 use Rattle.world_model.proofs.Bags.{found_none}
@@ -65,7 +65,7 @@ starts_exact : (s : ScriptData) (past : List Entry) (e : Entry) (reads : Bool) (
     → Exact s (e ∷ past) (round_begun reads ((coordinator_in s past).round + 1) d).state.current
 starts_exact s past e reads d laws run timely made =
     let k = (coordinator_in s past).round + 1 in
-    let v = (counted reads d).0 in
+    let v = (counted_version reads d).0 in
     let r = (coordinator_in s past).round in
     let old = each_map (λ (l : Letter). round_of l.body ≤ r) (λ (l : Letter). ExactBody s (e ∷ past) v k l.from.0 l.body) (waiting s past)
     (λ l le. later_exact s (e ∷ past) v k r l.from.0 l.body (omega arith) le) (fresh s past laws run timely).letters in

@@ -4,13 +4,13 @@ use Rattle.tv_base.specs.declared.numbers.Version.{Version}
 use Rattle.letter_types.specs.declared.bodies.Body.{Body}
 use Rattle.letter_types.specs.declared.entries.Entry.{Entry}
 use Rattle.letter_types.specs.Steps.{Out}
-use Rattle.advance_coord.specs.Coordinator.{Coordinator, counted, coordinator_row, end_count}
-use Rattle.advance_coord.specs.declared.phase.Phase.{Phase}
-use Rattle.advance_coord.specs.declared.phase.Phase.TheVariants.{Idle, Turning, Counting, Paused, Showing, Sweeping}
+use Rattle.world_model.specs.Coordinator.{Coordinator, counted_version, coordinator_row, end_count}
+use Rattle.world_model.specs.declared.phase.Phase.{Phase}
+use Rattle.world_model.specs.declared.phase.Phase.TheVariants.{Idle, Turning, Counting, Paused, Showing, Sweeping}
 use Rattle.phase_out.specs.Rounds.{verdict_of}
-use Rattle.advance_coord.specs.Coordinator.{with_asked}
+use Rattle.world_model.specs.Coordinator.{with_asked}
 use Rattle.tx_trees.specs.ScriptData.{ScriptData}
-use Rattle.board_model.specs.Histories.{Place, places_at, places_of, version_in}
+use Rattle.board_rules.specs.Histories.{Place, places_at, places_of, version_in}
 use Rattle.world_model.specs.Runs.{IsStepRun, coordinator_in, node_in}
 use Rattle.world_model.specs.Timely.{AllTimely}
 use Rattle.world_model.proofs.Every.{coordinator_kept}
@@ -104,8 +104,8 @@ one_more kind s past r whole last = λ t w of born lt k c. more_by kind s past r
 pub data Reaches (kind : Bool) (c : Coordinator) (from : ℕ) (body : Body) (out : Out Coordinator) : Type 0 where
   Same : whole_below kind out.state.phase out.state.update ≡ whole_below kind c.phase c.update → Reaches kind c from body out
   Closes : (v : Version) (k : ℕ) (row : List ℕ) → TakesAsked c from body kind v k row → verdict_of (with_asked from row c.current) ≡ Some true
-      → whole_below kind c.phase c.update ≡ (counted kind c).0
-      → whole_below kind out.state.phase out.state.update ≡ (counted kind c).0 + 1 → Reaches kind c from body out
+      → whole_below kind c.phase c.update ≡ (counted_version kind c).0
+      → whole_below kind out.state.phase out.state.update ≡ (counted_version kind c).0 + 1 → Reaches kind c from body out
 
 -- what it is in a known phase
 at_phase : (kind : Bool) (c : Coordinator) (phase : Phase) → c.phase ≡ phase → whole_below kind c.phase c.update ≡ whole_below kind phase c.update
@@ -187,10 +187,10 @@ closing : (kind : Bool) (s : ScriptData) (past : List Entry) (e : Entry) (v : Ve
     → IsStepRun s (e ∷ past) → AllTimely s (e ∷ past) → e.actor.0 ≡ s.nodes
     → TakesAsked (coordinator_in s past) e.took.from.0 e.took.body kind v k row
     → verdict_of (with_asked e.took.from.0 row (coordinator_in s past).current) ≡ Some true
-    → whole_below kind (coordinator_in s past).phase (coordinator_in s past).update ≡ (counted kind (coordinator_in s past)).0
-    → AreWhole kind s past (now_below kind s past) → AreWhole kind s past ((counted kind (coordinator_in s past)).0 + 1)
+    → whole_below kind (coordinator_in s past).phase (coordinator_in s past).update ≡ (counted_version kind (coordinator_in s past)).0
+    → AreWhole kind s past (now_below kind s past) → AreWhole kind s past ((counted_version kind (coordinator_in s past)).0 + 1)
 closing kind s past e v k row sound run timely at takes agrees is whole =
-    let r = (counted kind (coordinator_in s past)).0 in
+    let r = (counted_version kind (coordinator_in s past)).0 in
     let silent : IsSilent s past r = agrees_silent s past e kind v k row (lawful s sound) run timely.1 takes agrees in
     let good = good_run s past sound run.1 timely.1 in
     let are = versioned_run s past sound run.1 timely.1 in
@@ -223,10 +223,10 @@ coordinates_whole kind s past e sound run timely at made whole (Same is) =
     subst (λ (n : ℕ). AreWhole kind s (e ∷ past) n) (sym now)
     (later kind s past e (now_below kind s past) whole (λ t w born. no_births s past e t w made.acts born))
 coordinates_whole kind s past e sound run timely at made whole (Closes v k row takes agrees old new) =
-    let now : now_below kind s (e ∷ past) ≡ (counted kind (coordinator_in s past)).0 + 1 =
+    let now : now_below kind s (e ∷ past) ≡ (counted_version kind (coordinator_in s past)).0 + 1 =
     ap (λ (c : Coordinator). whole_below kind c.phase c.update) made.state ∙ new in
     subst (λ (n : ℕ). AreWhole kind s (e ∷ past) n) (sym now)
-    (later kind s past e ((counted kind (coordinator_in s past)).0 + 1)
+    (later kind s past e ((counted_version kind (coordinator_in s past)).0 + 1)
     (closing kind s past e v k row sound run timely at takes agrees old whole) (λ t w born. no_births s past e t w made.acts born))
 
 -- an entry of another actor leaves the coordinator

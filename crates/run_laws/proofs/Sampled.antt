@@ -8,12 +8,12 @@ use Rattle.letter_types.specs.declared.entries.Entry.{Entry}
 use Rattle.letter_types.specs.declared.entries.Letter.{Letter}
 use Rattle.letter_types.specs.Letters.{find_id}
 use Rattle.letter_types.proofs.Ids.{same_id-self}
-use Rattle.board_model.specs.Right.{HasFinished}
+use Rattle.board_rules.specs.Right.{HasFinished}
 use Rattle.tx_trees.specs.ScriptData.{ScriptData}
 use Rattle.tx_trees.specs.Forms.{most_amount}
 use Rattle.tx_trees.specs.Valid.{IsValid, load}
 use Rattle.tx_trees.specs.declared.parts.ScriptRow.TheVariants.{Advance}
-use Rattle.node_step.specs.Apt.{node_row}
+use Rattle.world_model.specs.Apt.{node_row}
 use Rattle.world_model.specs.Counts.{Each}
 use Rattle.world_model.specs.Runs.{waiting, client_in, coordinator_in, node_in, AtNode, AtCoordinator, AtClient, MayFollow, IsStepRun}
 use Rattle.world_model.specs.Sample.{entry_by, next_of, sample, small}

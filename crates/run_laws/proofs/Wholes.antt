@@ -13,22 +13,22 @@ use Rattle.letter_types.specs.declared.bodies.Body.TheVariants.{Go, Root, Sub as
 use Rattle.letter_types.specs.declared.entries.Entry.{Entry}
 use Rattle.letter_types.specs.declared.entries.Letter.{Letter}
 use Rattle.letter_types.specs.Steps.{Out}
-use Rattle.client_rows.specs.Client.{finishes, next_after, with_answer, with_end}
-use Rattle.tree_step.specs.Done.{turned_if}
-use Rattle.tree_step.specs.Node.{Effect, Node}
+use Rattle.world_model.specs.Client.{client_finishes, next_after, with_answer, with_end}
+use Rattle.world_model.specs.Done.{turned_if}
+use Rattle.world_model.specs.Node.{Effect, Node}
 use Rattle.tx_trees.specs.ScriptData.{ScriptData, home_of, reads, updates}
-use Rattle.board_model.specs.Histories.{Place, born_as, places_at, places_of, version_in}
-use Rattle.board_model.proofs.Places.{version_in-append}
+use Rattle.board_rules.specs.Histories.{Place, born_as, places_at, places_of, version_in}
+use Rattle.board_rules.proofs.Places.{version_in-append}
 use Rattle.world_model.specs.Counts.{Each, one_if, tally}
 use Rattle.world_model.specs.Runs.{client_in, node_in, waiting}
 use Rattle.world_model.proofs.Fits.{IsFit}
 use Rattle.world_model.proofs.Nexts.{Next, Begins, Hears, Ends, Coordinates, DoesRoot, DoesSub, Notes, Obeys, Order, Turns, Shows, Sweeps, TellsDone, TellsAsked, RootWork, RootUpdates, RootReads}
 use Rattle.world_model.proofs.Scripts.{IsSound, SubAt, node_below, sub_there}
-use Rattle.tree_laws.specs.Dids.{asks, asked, births, dids}
+use Rattle.tree_laws.specs.Dids.{asks, letters_asking, births, dids}
 use Rattle.tree_laws.proofs.Finishes.{done_below}
 use Rattle.tree_laws.proofs.Good.{IsGood}
 use Rattle.tree_laws.proofs.Whole.{births_in}
-use Rattle.phase_laws.specs.Balance.{goes_from, out, version_is}
+use Rattle.phase_laws.specs.Balance.{goes_between, out, version_is}
 use Rattle.phase_laws.specs.Quiet.{IsSilent}
 use Rattle.tree_laws.proofs.Versions.{AreVersioned, HasVersion, not_both, placed, unborn}
 
@@ -54,12 +54,12 @@ AreWhole kind s past r =
 
 -- Where nothing counted of a version is under way.
 
-counted_here : (v : ℕ) (l : Letter) → version_is v l.body ≡ true → goes_from v l.from.0 l.to.0 l ≡ 1
+counted_here : (v : ℕ) (l : Letter) → version_is v l.body ≡ true → goes_between v l.from.0 l.to.0 l ≡ 1
 counted_here v l is = rw is (grind (arith, nat_tests))
 
 asks_by : (n : ℕ) (xs : List Place) (t j u i : ℕ) (v w : Version) (l : Letter) → version_is v.0 l.body ≡ (w.0 == v.0)
     → version_in t xs ≡ Some v → version_in u xs ≡ Some w → l.from.0 < n → l.to.0 < n
-    → ((p q : ℕ) → p < n → q < n → goes_from v.0 p q l ≡ 0) → (test : Bool) → ((u == t) && (i == j)) ≡ test
+    → ((p q : ℕ) → p < n → q < n → goes_between v.0 p q l ≡ 0) → (test : Bool) → ((u == t) && (i == j)) ≡ test
     → one_if ((u == t) && (i == j)) ≡ 0
 asks_by n xs t j u i v w l is born has from to none false at = ap one_if at
 asks_by n xs t j u i v w l is born has from to none true at =
@@ -72,7 +72,7 @@ asks_by n xs t j u i v w l is born has from to none true at =
 -- a letter that asks for a subtransaction of a tree of version v is counted in v
 asks_none_here : (s : ScriptData) (xs : List Place) (t j : ℕ) (v : Version) (l : Letter) (b : Body) → IsSound s → l.body ≡ b → 0 < j
     → version_in t xs ≡ Some v → HasVersion xs b → IsFit s l.from.0 l.to.0 b
-    → ((p q : ℕ) → p < s.nodes → q < s.nodes → goes_from v.0 p q l ≡ 0) → asks t j b ≡ 0
+    → ((p q : ℕ) → p < s.nodes → q < s.nodes → goes_between v.0 p q l ≡ 0) → asks t j b ≡ 0
 asks_none_here s xs t j v l (Root u) sound is more born has fit none = grind (arith, nat_tests)
 asks_none_here s xs t j v l (SubLetter u i w) sound is more born has fit none =
     let to : l.to.0 < s.nodes = omega (arith, fit.3, node_below s u.0 i.0 (sub_there s u.0 i.0 fit.0 fit.1) sound) in
@@ -83,7 +83,7 @@ asks_none_here s xs t j v l _ sound is more born has fit none = refl
 -- so where none is, none of its trees has a subtransaction asked for
 asks_none : (s : ScriptData) (xs : List Place) (t j : ℕ) (v : Version) (ls : List Letter) → IsSound s → 0 < j → version_in t xs ≡ Some v
     → Each (λ (l : Letter). HasVersion xs l.body) ls → Each (λ (l : Letter). IsFit s l.from.0 l.to.0 l.body) ls
-    → ((p q : ℕ) → p < s.nodes → q < s.nodes → tally (goes_from v.0 p q) ls ≡ 0) → tally (λ (l : Letter). asks t j l.body) ls ≡ 0
+    → ((p q : ℕ) → p < s.nodes → q < s.nodes → tally (goes_between v.0 p q) ls ≡ 0) → tally (λ (l : Letter). asks t j l.body) ls ≡ 0
 asks_none s xs t j v [] sound more born has fits none = refl
 asks_none s xs t j v (l ∷ ls) sound more born has fits none =
     omega (
@@ -104,7 +104,7 @@ born_once s past t (suc n) v born is = omega arith
 pub whole_when_silent : (s : ScriptData) (past : List Entry) (t : ℕ) (v : Version) → IsSound s → IsGood s past → AreVersioned s past
     → IsSilent s past v.0 → born_with past t ≡ Some v → (k : ℕ) → SubAt s t k → 1 ≤ dids past t k
 whole_when_silent s past t v sound good are silent born k c =
-    let quiet : (j : ℕ) → 0 < j → asked s past t j ≡ 0 = λ j more.
+    let quiet : (j : ℕ) → 0 < j → letters_asking s past t j ≡ 0 = λ j more.
     asks_none s (places_of (reverse past)) t j v (waiting s past) sound more born are.letters good.letters silent in
     done_below s past (k + 1) t k c sound good quiet (omega (arith, good.born t, born_once s past t (births past t) v born refl)) (omega arith)
 
@@ -183,13 +183,13 @@ root_born s past e t w u v effect c at lt work true is some =
 pub born_by : (s : ScriptData) (past : List Entry) (e : Entry) (t : ℕ) (w : Version) → Next s past e
     → version_in t (places_at e) ≡ Some w → BornAt s past e t w
 born_by s past e t w (Begins is at made) some =
-    none_some s past e t w (version_in t (places_at e)) (of_acts t e _ made.acts ∙ end_unborn t e.actor.0 (finishes s (next_after s (client_in s past)) (client_in s past))) some
+    none_some s past e t w (version_in t (places_at e)) (of_acts t e _ made.acts ∙ end_unborn t e.actor.0 (client_finishes s (next_after s (client_in s past)) (client_in s past))) some
 born_by s past e t w (Hears u v answer is at lt made) some =
     let c = with_answer u.0 (client_in s past) in
-    none_some s past e t w (version_in t (places_at e)) (of_acts t e _ made.acts ∙ end_unborn t e.actor.0 (finishes s (next_after s c) c)) some
+    none_some s past e t w (version_in t (places_at e)) (of_acts t e _ made.acts ∙ end_unborn t e.actor.0 (client_finishes s (next_after s c) c)) some
 born_by s past e t w (Ends v is at made) some =
     let c = with_end (client_in s past) in
-    none_some s past e t w (version_in t (places_at e)) (of_acts t e _ made.acts ∙ end_unborn t e.actor.0 (finishes s (next_after s c) c)) some
+    none_some s past e t w (version_in t (places_at e)) (of_acts t e _ made.acts ∙ end_unborn t e.actor.0 (client_finishes s (next_after s c) c)) some
 born_by s past e t w (Coordinates tells at made) some =
     none_some s past e t w (version_in t (places_at e)) (of_acts t e [] made.acts) some
 born_by s past e t w (DoesRoot u v effect is c at lt new work made) some =

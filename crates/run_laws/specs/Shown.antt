@@ -5,7 +5,7 @@ use Rattle.letter_types.specs.declared.bodies.Body.{Body}
 use Rattle.letter_types.specs.declared.bodies.Body.TheVariants.{Go, Show, Sweep}
 use Rattle.letter_types.specs.declared.entries.Entry.{Entry}
 use Rattle.tx_trees.specs.ScriptData.{ScriptData, reads, updates}
-use Rattle.board_model.specs.Histories.{IsWhole, version_of}
+use Rattle.board_rules.specs.Histories.{IsWhole, version_of}
 
 -- each update tree of version at most v that is born is whole
 abbrev pub UpdatesAreWhole : ScriptData → List Entry → ℕ → Type 0

@@ -1,5 +1,6 @@
-//! Laws of every run of update and read trees with advancements: each letter comes in time, phases have their letters and
-//! versions, counters are balanced, a version is shown only when it is quiet, and then for good; and no run stalls.
+//! Laws of every run of update and read trees with advancements: each letter comes in time and is apt, phases have their
+//! letters and versions, counters are balanced, a version is shown only when it is quiet, and then for good; and no run
+//! stalls.
 #![tactic(auto)]
 
 mod phases;
@@ -7,8 +8,9 @@ mod shown;
 mod stalls;
 
 pub use phases::{
-    advances_are_kept, counts_are_small, every_letter_comes_in_time, phases_have_their_letters,
-    requests_are_completions_and_letters, rounds_are_few, versions_keep_to_the_phase,
+    advances_are_kept, counts_are_small, every_letter_comes_in_time, every_letter_taken_is_apt,
+    phases_have_their_letters, requests_are_completions_and_letters, rounds_are_few,
+    versions_keep_to_the_phase,
 };
 pub use shown::{
     nothing_comes_to_what_is_shown, orders_are_given_in_quiet, what_is_shown_is_whole,

@@ -1,10 +1,11 @@
 // Phases of the coordinator, and counters.
-ghost use Rattle.std.specs.Prelude.{ℕ, ◌<◌, ◌+◌, ◌*◌, List, length};
+ghost use Rattle.std.specs.Prelude.{ℕ, ◌<◌, ◌+◌, ◌*◌, List, length, reverse};
 ghost use Rattle.letter_types.specs.declared.entries.Entry.{Entry};
 ghost use Rattle.pair_counters.specs.Numbers.{AllBelow};
 ghost use Rattle.phase_laws.specs.Advances.{AdvancesAreKept, RoundsAreFew};
 ghost use Rattle.phase_laws.specs.Phases.{PhasesHaveTheirLetters, VersionsKeepToThePhase};
 ghost use Rattle.phase_laws.specs.Balance.{IsBalanced, MOST_COUNTED};
+ghost use Rattle.run_laws.specs.Taken.{TakesWhatIsApt};
 ghost use Rattle.tx_trees.specs.ScriptData.{ScriptData};
 ghost use Rattle.tx_trees.specs.Valid.{IsValid};
 ghost use Rattle.world_model.specs.Runs.{node_in, IsStepRun};
@@ -15,6 +16,14 @@ ghost use Rattle.world_model.specs.Timely.{AllTimely};
 /// an order no earlier and no later than the node's versions allow. It is the premise of the laws of trees.
 pub fn every_letter_comes_in_time()
     ensures { (s : ScriptData) (past : List Entry) → IsValid s → IsRunnable s → IsStepRun s past → AllTimely s past }
+{}
+
+/// In every run each letter that a node took was apt there, in the node's state at that moment: what it names belongs to
+/// that node and has its form, a root is new, its version is one that the node can go by, and its operations may be
+/// made. So no node ever passes a letter over.
+pub fn every_letter_taken_is_apt()
+    ensures { (s : ScriptData) (past : List Entry) → IsValid s → IsRunnable s → IsStepRun s past
+        → TakesWhatIsApt s (reverse past) }
 {}
 
 /// In the phase of each stage its orders and answers under way and the acknowledgements are as many as nodes, and at

@@ -1,6 +1,6 @@
 // The end of every run: no run stalls, a run to its end has so many entries, and no run has more than so many.
 ghost use Rattle.std.specs.Prelude.{◌≡◌, ◌≤◌, ◌+◌, ◌*◌, List, [], length, true, reverse};
-ghost use Rattle.board_model.specs.Right.{HasFinished};
+ghost use Rattle.board_rules.specs.Right.{HasFinished};
 ghost use Rattle.letter_types.specs.declared.entries.Entry.{Entry};
 ghost use Rattle.tree_laws.specs.Entries.{entries_of, rounds_in};
 ghost use Rattle.tx_trees.specs.Counts.{advances_in};

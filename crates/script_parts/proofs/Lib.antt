@@ -3,4 +3,5 @@ pub mod Last
 pub mod Lists
 pub mod Loading
 pub mod Named
+pub mod SubsOf
 pub mod Totals

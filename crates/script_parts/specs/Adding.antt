@@ -32,9 +32,9 @@ use Rattle.script_parts.specs.declared.why.Refusal.{Refusal}
 use Rattle.script_parts.specs.declared.why.Refusal.TheVariants as refusals
 
 -- the first condition that holds gives its reason; where none holds the record is taken
-abbrev pub judged : {A : Type 0} → List (Bool × Why) → A → Result A Why
-judged [] new = Ok new
-judged (c ∷ cs) new = if c.0 then Err c.1 else judged cs new
+abbrev pub taken_unless : {A : Type 0} → List (Bool × Why) → A → Result A Why
+taken_unless [] new = Ok new
+taken_unless (c ∷ cs) new = if c.0 then Err c.1 else taken_unless cs new
 
 -- a call that took the record, refused it or found no memory
 abbrev pub Steps : {T : Type 0} → Result ScriptData Why → Result T Refusal → ScriptData → ScriptData → Type 0
@@ -59,7 +59,7 @@ with_item s row = record s { items = s.items ++ row ∷ []; begun = false }
 
 abbrev pub adds_item : ScriptData → ItemRow → Result ScriptData Why
 adds_item s row =
-    judged ((nat_le s.nodes row.node.0 || not (may_start s.form row.kind row.initial), why.OutOfRange)
+    taken_unless ((nat_le s.nodes row.node.0 || not (may_start s.form row.kind row.initial), why.OutOfRange)
     ∷ (not (is_name row.name), why.BadName)
     ∷ (is_some (place_of row.name s.items), why.NameTaken)
     ∷ (nat_le 10000 (length s.items), why.TooMany) ∷ []) (with_item s row)
@@ -97,7 +97,7 @@ has_no_tree_left nodes kind ts =
 
 abbrev pub adds_tree : ScriptData → List ℕ → TreeKind → NodeNo → Result ScriptData Why
 adds_tree s name kind node =
-    judged ((nat_le s.nodes node.0, why.OutOfRange)
+    taken_unless ((nat_le s.nodes node.0, why.OutOfRange)
     ∷ (not (is_name name), why.BadName)
     ∷ (names_tree name s.trees, why.NameTaken)
     ∷ (has_no_tree_left s.nodes kind s.trees, why.TooMany) ∷ []) (with_tree s name kind node)
@@ -132,7 +132,7 @@ has_no_sub_left ts =
 
 abbrev pub adds_sub : ScriptData → ℕ → NodeNo → Result ScriptData Why
 adds_sub s parent node =
-    judged ((nat_le s.nodes node.0, why.OutOfRange)
+    taken_unless ((nat_le s.nodes node.0, why.OutOfRange)
     ∷ (not s.begun, why.NoTree)
     ∷ (nat_le (last_subs s.trees) parent, why.BadParent)
     ∷ (has_no_sub_left s.trees, why.TooMany) ∷ []) (with_sub s parent node)
@@ -163,8 +163,8 @@ with_op s k deed = record s {
 abbrev pub node_at : ℕ → List ItemRow → ℕ
 node_at k items = elim (slice_get items k) [ None ↦ 0 | Some row ↦ row.node.0 ]
 
-abbrev pub kind_at : ℕ → List ItemRow → Kind
-kind_at k items = elim (slice_get items k) [ None ↦ SumKind | Some row ↦ row.kind ]
+abbrev pub item_kind_at : ℕ → List ItemRow → Kind
+item_kind_at k items = elim (slice_get items k) [ None ↦ SumKind | Some row ↦ row.kind ]
 
 -- with one more operation on item k a limit would be passed
 abbrev pub has_no_op_left : ℕ → Deed → List Tree → Bool
@@ -182,9 +182,9 @@ has_touched k ts = elim (last_of ts) [ None ↦ false | Some t ↦ is_strict t.k
 abbrev pub adds_op_at : ScriptData → Option ℕ → Deed → Result ScriptData Why
 adds_op_at s None deed = Err why.UnknownItem
 adds_op_at s (Some k) deed =
-    judged ((not s.begun, why.NoTree)
+    taken_unless ((not s.begun, why.NoTree)
     ∷ (not (node_at k s.items == last_node s.trees), why.WrongNode)
-    ∷ (not (deed_fits (last_kind s.trees) (kind_at k s.items) deed), why.WrongKind)
+    ∷ (not (deed_fits (last_kind s.trees) (item_kind_at k s.items) deed), why.WrongKind)
     ∷ (has_no_op_left k deed s.trees, why.TooMany)
     ∷ (nat_lt (most_amount s.form) (load k s + magnitude deed), why.TooMuch)
     ∷ (has_touched k s.trees, why.ItemTwice) ∷ []) (with_op s k deed)
@@ -238,12 +238,13 @@ is_heavy s = any_from (λ x. nat_lt (most_amount s.form) (load x s)) 0 (length s
 -- the last tree, which may fail, is undone, subtransaction k having failed
 abbrev pub puts_undone : ScriptData → ℕ → Result ScriptData Why
 puts_undone s k =
-    judged ((are_crowded (with_failed s k).trees, why.TooMany)
+    taken_unless ((are_crowded (with_failed s k).trees, why.TooMany)
     ∷ (is_heavy (with_failed s k), why.TooMuch) ∷ []) (with_failed s k)
 
+-- subtransaction k of the last tree fails: the same, where there is such a one and the tree may fail
 abbrev pub adds_fail : ScriptData → ℕ → Result ScriptData Why
 adds_fail s k =
-    judged ((not s.begun, why.NoTree)
+    taken_unless ((not s.begun, why.NoTree)
     ∷ (nat_le (last_subs s.trees) k, why.BadParent)
     ∷ (not (last_may_fail s.trees), why.WrongKind)
     ∷ (are_crowded (with_failed s k).trees, why.TooMany)
@@ -254,13 +255,13 @@ abbrev pub with_row : ScriptData → ScriptRow → ScriptData
 with_row s row = record s { rows = s.rows ++ row ∷ []; begun = false }
 
 abbrev pub adds_advance : ScriptData → Result ScriptData Why
-adds_advance s = judged ((nat_le 100 (advances_in s.rows), why.TooMany) ∷ []) (with_row s rows.Advance)
+adds_advance s = taken_unless ((nat_le 100 (advances_in s.rows), why.TooMany) ∷ []) (with_row s rows.Advance)
 
 abbrev pub adds_settle : ScriptData → Result ScriptData Why
 adds_settle s = Ok (with_row s rows.Settle)
 
 abbrev pub adds_lose : ScriptData → Result ScriptData Why
-adds_lose s = judged ((nat_le 100 (loses_in s.rows), why.TooMany) ∷ []) (with_row s rows.Lose)
+adds_lose s = taken_unless ((nat_le 100 (loses_in s.rows), why.TooMany) ∷ []) (with_row s rows.Lose)
 
 abbrev pub adds_pick : ScriptData → ℕ → Result ScriptData Why
 adds_pick s k = Ok (record s { picks = s.picks ++ k ∷ []; begun = false })

@@ -10,6 +10,7 @@ use Rattle.script_parts.specs.declared.parts.ScriptRow.{ScriptRow}
 use Rattle.script_parts.specs.declared.parts.TreeKind.{TreeKind}
 use Rattle.script_parts.specs.declared.parts.TreeKind.TheVariants.{Update, Read, Strict}
 
+-- a script: its items, its trees and their subtransactions are named by their places, from 0
 pub record ScriptData : Type 0 where
   pub form : Form
   pub nodes : ℕ

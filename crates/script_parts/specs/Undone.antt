@@ -64,12 +64,12 @@ inverse failed goes x = record {
 }
 
 -- a subtransaction has something to undo: it stays, isn't the failed one, and has an operation
-abbrev pub is_undone : ℕ → List Bool → ℕ → Sub → Bool
-is_undone failed goes k x = not (get_or goes k false) && (not (k == failed) && not (length x.ops == 0))
+abbrev pub is_undone_sub : ℕ → List Bool → ℕ → Sub → Bool
+is_undone_sub failed goes k x = not (get_or goes k false) && (not (k == failed) && not (length x.ops == 0))
 
 -- what undoes subtransaction k, if there is something to undo
 abbrev pub undoes : ℕ → List Bool → ℕ → Sub → List Sub
-undoes failed goes k x = if is_undone failed goes k x then inverse failed goes x ∷ [] else []
+undoes failed goes k x = if is_undone_sub failed goes k x then inverse failed goes x ∷ [] else []
 
 -- what undoes those from number k on, in order
 abbrev pub inverses_from : ℕ → List Bool → ℕ → List Sub → List Sub

@@ -90,8 +90,8 @@ AreSubs nodes items kind k [] = Unit {0}
 AreSubs nodes items kind k (s ∷ ss) = IsSub nodes items kind k s × AreSubs nodes items kind (k + 1) ss
 
 -- the items on which the subtransactions have operations, in order
-abbrev pub items_of : List Sub → List ℕ
-items_of ss = map (λ o. o.item.0) (ops_in ss)
+abbrev pub touched_items : List Sub → List ℕ
+touched_items ss = map (λ o. o.item.0) (ops_in ss)
 
 pub record IsTree (nodes : ℕ) (items : List ItemRow) (t : Tree) : Type 0 where
   pub root : 0 < length t.subs
@@ -99,7 +99,7 @@ pub record IsTree (nodes : ℕ) (items : List ItemRow) (t : Tree) : Type 0 where
   pub subs : AreSubs nodes items t.kind 0 t.subs
   pub name : IsTrue (is_name t.name)
   -- a strict tree has at most one operation on an item
-  pub once : t.kind ≡ trees.Strict → IsDistinct nat_eq (items_of t.subs)
+  pub once : t.kind ≡ trees.Strict → IsDistinct nat_eq (touched_items t.subs)
 
 -- an item is at a node of the script, and a bag starts empty; how much the form allows is said of all magnitudes
 pub record IsItem (nodes : ℕ) (r : ItemRow) : Type 0 where

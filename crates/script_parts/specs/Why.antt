@@ -3,6 +3,7 @@ use Rattle.std.specs.Prelude.{ℕ, List, codes}
 use Rattle.script_parts.specs.declared.why.Why.{Why}
 use Rattle.script_parts.specs.declared.why.Why.TheVariants as why
 
+-- the word that is printed for a reason
 abbrev pub why_name : Why → List ℕ
 why_name why.TooLong = codes "TooLong"
 why_name why.UnknownRow = codes "UnknownRow"

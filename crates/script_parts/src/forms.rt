@@ -5,6 +5,7 @@ ghost use Rattle.script_parts.specs.Forms.{most_amount, most_nodes};
 
 use crate::parts::Form;
 use commute_ops::MOST_AMOUNT;
+use tv_base::MOST_NODES;
 
 impl Form {
     /// The greatest number of nodes: 16, or 64 of the second form.
@@ -13,7 +14,7 @@ impl Form {
     {
         match self {
             Form::One => 16,
-            Form::Two => 64,
+            Form::Two => MOST_NODES as u8,
         }
     }
 

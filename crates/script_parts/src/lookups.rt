@@ -1,7 +1,7 @@
 // Look-ups in the parts of a script, and changes at their end.
 ghost use Rattle.std.specs.Prelude.{◌≡◌, ◌<◌, [], length, OnOk, OnErr, IfOk};
 ghost use Rattle.script_parts.specs.Valid.{deed_fits, op_fits};
-ghost use Rattle.script_parts.specs.Adding.{kind_at, last_count, last_kind, last_node, last_subs, node_at, on_last, on_last_sub, push_op, push_sub, rooted};
+ghost use Rattle.script_parts.specs.Adding.{item_kind_at, last_count, last_kind, last_node, last_subs, node_at, on_last, on_last_sub, push_op, push_sub, rooted};
 
 use crate::parts::{Deed, ItemRow, Sub, SubOp, Subs, Tree, TreeKind};
 use commute_ops::{Kind, Op};
@@ -27,7 +27,7 @@ pub fn node_at(items: &[ItemRow], item: usize) -> NodeNo
 /// The kind of an item.
 pub fn kind_at(items: &[ItemRow], item: usize) -> Kind
     requires { item < length items.now }
-    ensures { result ≡ kind_at item items.now }
+    ensures { result ≡ item_kind_at item items.now }
 {
     items[item].kind
 }

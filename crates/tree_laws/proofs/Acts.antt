@@ -5,9 +5,9 @@ use Rattle.std.specs.List.{list_any}
 use Rattle.letter_types.specs.declared.acts.Act.{Act}
 use Rattle.letter_types.specs.declared.acts.Act.TheVariants.{Born, Finished}
 use Rattle.letter_types.specs.declared.entries.Entry.{Entry}
-use Rattle.board_model.specs.Histories.{Place, places_at, places_of}
-use Rattle.board_model.specs.Right.{finishes}
-use Rattle.board_model.proofs.Places.{places_of-append}
+use Rattle.board_rules.specs.Histories.{Place, places_at, places_of}
+use Rattle.board_rules.specs.Right.{finishes}
+use Rattle.board_rules.proofs.Places.{places_of-append}
 use Rattle.world_model.specs.Counts.{tally, one_if}
 use Rattle.world_model.proofs.Bags.{tally-append}
 use Rattle.world_model.proofs.Bridge.{reverse_more}

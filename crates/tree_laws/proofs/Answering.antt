@@ -7,7 +7,7 @@ use Rattle.tree_home.specs.declared.homes.OpenTree.{OpenTree}
 use Rattle.tree_home.specs.declared.homes.Answered.{Answered}
 use Rattle.tree_home.specs.Homes.{answer_in, Gets, home_in, misses, OpenTrees}
 use Rattle.tree_home.proofs.Always.{answer-is}
-use Rattle.tree_step.specs.Notices.{answer_noted, reply_letters}
+use Rattle.world_model.specs.Notices.{answer_noted, reply_letters}
 use Rattle.tx_trees.specs.ScriptData.{ScriptData, client_of}
 use Rattle.world_model.specs.Counts.{tally, one_if}
 use Rattle.tree_laws.specs.Dids.{replies_to}

@@ -6,16 +6,16 @@ use Rattle.tv_base.specs.declared.numbers.Version.{Version}
 use Rattle.letter_types.specs.declared.bodies.Body.TheVariants.{Root, Sub as SubLetter, Done, Turn, Show, Sweep}
 use Rattle.letter_types.specs.declared.bodies.Notice.TheVariants.{Did}
 use Rattle.letter_types.specs.declared.entries.Entry.{Entry}
-use Rattle.node_step.specs.Apt.{is_apt}
-use Rattle.node_step.proofs.Apts.{update_root_apt, read_root_apt, update_sub_apt, read_sub_apt, notice_apt}
-use Rattle.read_step.specs.Rows.{can_get}
-use Rattle.tree_step.specs.Apt.{is_near}
+use Rattle.world_model.specs.Apt.{is_apt}
+use Rattle.world_model.proofs.Apts.{update_root_apt, read_root_apt, update_sub_apt, read_sub_apt, notice_apt}
+use Rattle.world_model.specs.Reads.{can_get}
+use Rattle.world_model.specs.Named.{is_near}
 use Rattle.letter_types.specs.Steps.{Out}
-use Rattle.tree_step.specs.Node.{Effect, Node}
+use Rattle.world_model.specs.Node.{Effect, Node}
 use Rattle.tree_home.specs.Homes.{home_in}
 use Rattle.tx_trees.specs.ScriptData.{ScriptData, node_of, home_of, ops_of}
 use Rattle.tx_trees.specs.Valid.{IsValid}
-use Rattle.update_step.specs.Rows.{can_touch}
+use Rattle.world_model.specs.Updates.{can_touch}
 use Rattle.world_model.specs.Runs.{MayFollow, IsStepRun, node_in}
 use Rattle.world_model.specs.Tables.{IsRunnable}
 use Rattle.tree_laws.proofs.Good.{IsGood}

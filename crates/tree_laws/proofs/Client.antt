@@ -9,15 +9,15 @@ use Rattle.letter_types.specs.declared.acts.Act.TheVariants.{Finished}
 use Rattle.letter_types.specs.declared.bodies.Body.{Body}
 use Rattle.letter_types.specs.declared.bodies.Body.TheVariants.{Go}
 use Rattle.letter_types.specs.Steps.{Out}
-use Rattle.tree_step.specs.Done.{turned_if}
-use Rattle.tree_step.specs.Node.{Node}
+use Rattle.world_model.specs.Done.{turned_if}
+use Rattle.world_model.specs.Node.{Node}
 use Rattle.letter_types.specs.declared.entries.Entry.{Entry}
 use Rattle.letter_types.specs.declared.entries.Outgoing.{Outgoing}
 use Rattle.tx_trees.specs.Adding.{advances_in}
 use Rattle.tx_trees.specs.ScriptData.{ScriptData, client_of}
 use Rattle.tx_trees.specs.declared.parts.ScriptRow.{ScriptRow}
 use Rattle.tx_trees.specs.declared.parts.ScriptRow.TheVariants.{Tree as TreeRow, Advance as AdvanceRow, Settle as SettleRow, Lose as LoseRow}
-use Rattle.client_rows.specs.Client.{Client, all_answered, have_ended, submitted, next_after, finishes, submit, with_answer, with_end, nudge}
+use Rattle.world_model.specs.Client.{Client, all_answered, have_ended, submitted, next_after, client_finishes, submit, with_answer, with_end, nudge}
 use Rattle.world_model.specs.Counts.{tally, one_if}
 use Rattle.world_model.specs.Runs.{client_in, node_in, MayFollow, IsStepRun}
 use Rattle.tree_laws.specs.Dids.{is_go, goes}
@@ -110,7 +110,7 @@ finishes_by false false a b is = refl
 pub finishes_once : (s : ScriptData) (c : Client) (first : List Outgoing)
     → tally is_finish (submit s c first).acts + one_if c.finished ≡ one_if (submit s c first).state.finished
 finishes_once s c first =
-    finishes_by c.finished (finishes s (next_after s c) c) (next_after s c == length s.rows) (have_ended c s.rows) refl
+    finishes_by c.finished (client_finishes s (next_after s c) c) (next_after s c == length s.rows) (have_ended c s.rows) refl
 
 -- all rows are submitted, and all that they asked for has ended
 pub record IsOver (s : ScriptData) (c : Client) : Type 0 where

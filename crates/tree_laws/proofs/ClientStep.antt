@@ -15,12 +15,12 @@ use Rattle.tree_home.specs.Homes.{home_in}
 use Rattle.letter_types.specs.Steps.{still}
 use Rattle.tx_trees.specs.ScriptData.{ScriptData, client_of, home_of}
 use Rattle.tx_trees.specs.declared.parts.ScriptRow.{ScriptRow}
-use Rattle.client_rows.specs.Client.{Client, client_row, next_after, finishes, submitted, rows_letters, submit, with_answer, with_end, nudge}
+use Rattle.world_model.specs.Client.{Client, client_row, next_after, client_finishes, submitted, rows_letters, submit, with_answer, with_end, nudge}
 use Rattle.world_model.specs.Counts.{tally, one_if}
 use Rattle.world_model.specs.Runs.{client_in, MayFollow}
 use Rattle.world_model.proofs.Bags.{tally-append, one_if_same}
 use Rattle.world_model.proofs.Every.{each_append, node_kept}
-use Rattle.tree_laws.specs.Dids.{asks, tells_done, replies_to, replies, answers, is_did, is_born, is_row_of, rooted}
+use Rattle.tree_laws.specs.Dids.{asks, tells_done, replies_to, replies, answers, is_did_act, is_born, is_row_of, roots_sent}
 use Rattle.world_model.proofs.Fits.{IsFit, IsSentFit, rows_fit, each_take, each_drop, roots_fit, RowFits}
 use Rattle.world_model.proofs.Flows.{flow, submit_none, finish_none}
 use Rattle.tree_laws.proofs.Flows.{letters_next}
@@ -59,12 +59,12 @@ sent_none : (f : Body → ℕ) (s : ScriptData) (past : List Entry) (e : Entry) 
 sent_none f s past e c first sub quiet none never = ap (λ os. tally (on f) os) sub.made.sent ∙ submit_none f s c first quiet none never
 
 rows_next : (s : ScriptData) (past : List Entry) (e : Entry) (c : Client) (first : List Outgoing) → Submits s past e c first → (u : ℕ)
-    → rooted u (take (client_in s (e ∷ past)).next s.rows)
-    ≡ rooted u (take (client_in s past).next s.rows) + tally (on (asks u 0)) e.sent
+    → roots_sent u (take (client_in s (e ∷ past)).next s.rows)
+    ≡ roots_sent u (take (client_in s past).next s.rows) + tally (on (asks u 0)) e.sent
 rows_next s past e c first sub u =
-    let after : rooted u (take (client_in s (e ∷ past)).next s.rows) ≡ rooted u (take (next_after s c) s.rows) =
-    ap (λ (x : Client). rooted u (take x.next s.rows)) sub.made.state in
-    let before : rooted u (take c.next s.rows) ≡ rooted u (take (client_in s past).next s.rows) = ap (λ (n : ℕ). rooted u (take n s.rows)) sub.next in
+    let after : roots_sent u (take (client_in s (e ∷ past)).next s.rows) ≡ roots_sent u (take (next_after s c) s.rows) =
+    ap (λ (x : Client). roots_sent u (take x.next s.rows)) sub.made.state in
+    let before : roots_sent u (take c.next s.rows) ≡ roots_sent u (take (client_in s past).next s.rows) = ap (λ (n : ℕ). roots_sent u (take n s.rows)) sub.next in
     omega (
       arith,
       after,
@@ -77,8 +77,8 @@ rows_next s past e c first sub u =
 
 submits_idle : (s : ScriptData) (past : List Entry) (e : Entry) (c : Client) (first : List Outgoing) → Submits s past e c first → Idle s past e
 submits_idle s past e c first sub = record {
-  did = λ u i. ap (λ xs. tally (is_did u i) xs) sub.made.acts ∙ finish_none (is_did u i) (finishes s (next_after s c) c) refl;
-  born = λ u. ap (λ xs. tally (is_born u) xs) sub.made.acts ∙ finish_none (is_born u) (finishes s (next_after s c) c) refl;
+  did = λ u i. ap (λ xs. tally (is_did_act u i) xs) sub.made.acts ∙ finish_none (is_did_act u i) (client_finishes s (next_after s c) c) refl;
+  born = λ u. ap (λ xs. tally (is_born u) xs) sub.made.acts ∙ finish_none (is_born u) (client_finishes s (next_after s c) c) refl;
   took = sub.took;
   sends = λ u i lt. omega (arith, sent_parts (asks u i) s past e c first sub, sub.no_asks u i, roots_alone s u i (new_rows s c) lt);
   rows = rows_next s past e c first sub;

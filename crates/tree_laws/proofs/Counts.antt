@@ -12,7 +12,7 @@ use Rattle.tx_trees.specs.declared.parts.ItemRow.{ItemRow}
 use Rattle.world_model.specs.Counts.{one_if}
 use Rattle.world_model.specs.Runs.{client_in, waiting, MayFollow}
 use Rattle.world_model.proofs.Bags.{tally-drop}
-use Rattle.tree_laws.specs.Dids.{asks, asked, dids, is_row_of}
+use Rattle.tree_laws.specs.Dids.{asks, letters_asking, dids, is_row_of}
 use Rattle.tree_laws.proofs.Loads.{trees_done, trees_most, trees_more}
 use Rattle.world_model.proofs.Scripts.{IsSound, SubAt, tree_below, is_sub, get_some, get_below, ops_here}
 use Rattle.tree_laws.proofs.Sent.{other_sub, other_tree, rooted_once, tally_take_le}
@@ -48,7 +48,7 @@ below_root s past t k c sound good = below s past (k + 1) t k c sound good (omeg
 
 -- a root is asked for or done at most once
 pub root_most : (s : ScriptData) (past : List Entry) (t : ℕ) → IsSound s → IsGood s past → t < length s.trees
-    → asked s past t 0 + dids past t 0 ≤ 1
+    → letters_asking s past t 0 + dids past t 0 ≤ 1
 root_most s past t sound good lt =
     omega (
       arith,
@@ -64,19 +64,19 @@ at_most_once s past t k c sound good =
 
 -- What is asked for by a letter that is taken was not done.
 pub was_asked : (s : ScriptData) (past : List Entry) (e : Entry) (t k : ℕ) → MayFollow s past e → asks t k e.took.body ≡ 1
-    → 1 ≤ asked s past t k
+    → 1 ≤ letters_asking s past t k
 was_asked s past e t k m one = omega (arith, one, tally-drop (λ (l : Letter). asks t k l.body) e.took.id (waiting s past) e.took m.waits)
 
-not_done_by : (s : ScriptData) (past : List Entry) (t k : ℕ) (c : SubAt s t k) → IsSound s → IsGood s past → 1 ≤ asked s past t k
+not_done_by : (s : ScriptData) (past : List Entry) (t k : ℕ) (c : SubAt s t k) → IsSound s → IsGood s past → 1 ≤ letters_asking s past t k
     → (k ≡ 0) ⊎ (0 < k) → dids past t k ≡ 0
 not_done_by s past t k c sound good some (inl is) =
-    let here : 1 ≤ asked s past t 0 = subst (λ (j : ℕ). 1 ≤ asked s past t j) is some in
+    let here : 1 ≤ letters_asking s past t 0 = subst (λ (j : ℕ). 1 ≤ letters_asking s past t j) is some in
     subst (λ (j : ℕ). dids past t j ≡ 0) (sym is) (omega (arith, root_most s past t sound good (tree_below s t k c)))
 not_done_by s past t k c sound good some (inr more) =
     omega (arith, good.subs t k c more, at_most_once s past t c.sub.parent.0 (parent_at s t k c sound more) sound good)
 
 -- what is asked for isn't done
-pub not_done : (s : ScriptData) (past : List Entry) (t k : ℕ) → SubAt s t k → IsSound s → IsGood s past → 1 ≤ asked s past t k → dids past t k ≡ 0
+pub not_done : (s : ScriptData) (past : List Entry) (t k : ℕ) → SubAt s t k → IsSound s → IsGood s past → 1 ≤ letters_asking s past t k → dids past t k ≡ 0
 not_done s past t k c sound good some = not_done_by s past t k c sound good some (zero_or k)
 
 -- Loads.

@@ -12,15 +12,15 @@ use Rattle.letter_types.specs.declared.bodies.Body.TheVariants.{Root, Sub as Sub
 use Rattle.letter_types.specs.declared.bodies.Notice.TheVariants.{Did as DidNotice}
 use Rattle.letter_types.specs.declared.entries.Entry.{Entry}
 use Rattle.tx_trees.specs.ScriptData.{ScriptData, subs_at, node_of, home_of, client_of}
-use Rattle.tree_step.specs.Children.{sub_letters, done_letter}
-use Rattle.tree_step.specs.Done.{root_done, sub_done, turned_if}
-use Rattle.tree_step.specs.Node.{Effect}
+use Rattle.world_model.specs.Children.{sub_letters, done_letter}
+use Rattle.world_model.specs.Done.{root_done, sub_done, turned_if}
+use Rattle.world_model.specs.Node.{Effect}
 use Rattle.tree_home.specs.declared.homes.Answered.{Answered}
-use Rattle.tree_step.specs.Notices.{answer_noted, reply_letters}
+use Rattle.world_model.specs.Notices.{answer_noted, reply_letters}
 use Rattle.world_model.specs.Counts.{tally, one_if}
 use Rattle.world_model.specs.Runs.{node_in}
 use Rattle.world_model.proofs.Bags.{tally-append}
-use Rattle.tree_laws.specs.Dids.{asks, is_did, is_born, dids}
+use Rattle.tree_laws.specs.Dids.{asks, is_did_act, is_born, dids}
 use Rattle.world_model.proofs.Flows.{client_kept}
 use Rattle.tree_laws.proofs.Good.{IsGood}
 use Rattle.tree_laws.proofs.Kept.{Does}
@@ -106,7 +106,7 @@ sub_does s past e t k v raises effect c later sound good none is at work made =
       sub = c;
       at = at;
       version = v.0;
-      did = λ u i. sub_acts (is_did u i) s past e t k v raises effect work made (λ w. refl);
+      did = λ u i. sub_acts (is_did_act u i) s past e t k v raises effect work made (λ w. refl);
       born = λ u. sub_acts (is_born u) s past e t k v raises effect work made (λ w. refl) ∙ sym (no_birth t.0 u k.0 later);
       took = λ u i. rw is refl;
       sends = λ u i. omega (arith, sub_sends (asks u i) s past e t k v raises effect made);

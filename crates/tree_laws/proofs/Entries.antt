@@ -7,7 +7,7 @@ use Rattle.letter_types.specs.declared.bodies.Body.{Body}
 use Rattle.letter_types.specs.declared.bodies.Body.TheVariants.{Go, Root, Sub as SubLetter, Done, Reply, Nudge}
 use Rattle.letter_types.specs.declared.entries.Entry.{Entry}
 use Rattle.letter_types.specs.declared.entries.Outgoing.{Outgoing}
-use Rattle.client_rows.specs.Client.{Client, submitted, rows_letters, submit}
+use Rattle.world_model.specs.Client.{Client, submitted, rows_letters, submit}
 use Rattle.tx_trees.specs.Adding.{advances_in, all_subs}
 use Rattle.tx_trees.specs.ScriptData.{ScriptData, subs_at}
 use Rattle.tx_trees.specs.Valid.{IsValid, IsTree}
@@ -18,7 +18,7 @@ use Rattle.world_model.specs.Runs.{IsStepRun}
 use Rattle.world_model.specs.Tables.{IsRunnable}
 use Rattle.world_model.proofs.Bags.{tally-append}
 use Rattle.tree_laws.specs.Dids.{asks, replies_to, replies, answers}
-use Rattle.advance_coord.specs.Coordinator.{Coordinator}
+use Rattle.world_model.specs.Coordinator.{Coordinator}
 use Rattle.world_model.proofs.Bridge.{coordinator_after}
 use Rattle.tree_laws.specs.Entries.{rounds_in}
 use Rattle.world_model.proofs.Flows.{flow}

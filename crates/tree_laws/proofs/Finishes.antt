@@ -5,21 +5,21 @@ use Rattle.std.proofs.lemmas.Bool.Decides.{nat_tests}
 use Rattle.std.proofs.lemmas.Bool.{and_from, and_parts}
 use Rattle.letter_types.specs.declared.entries.Entry.{Entry}
 use Rattle.letter_types.specs.declared.entries.Letter.{Letter}
-use Rattle.board_model.specs.Histories.{Place, places_of}
-use Rattle.board_model.specs.Right.{HasFinished, finishes}
-use Rattle.client_rows.specs.Client.{Client, all_answered, have_ended}
+use Rattle.board_rules.specs.Histories.{Place, places_of}
+use Rattle.board_rules.specs.Right.{HasFinished, finishes}
+use Rattle.world_model.specs.Client.{Client, all_answered, have_ended}
 use Rattle.tree_home.specs.Homes.{Gets, missing_count}
 use Rattle.tx_trees.specs.Adding.{advances_in}
 use Rattle.tx_trees.specs.ScriptData.{ScriptData}
 use Rattle.tx_trees.specs.Valid.{IsValid, NamesInOrder}
 use Rattle.tx_trees.specs.declared.parts.ScriptRow.{ScriptRow}
 use Rattle.tx_trees.specs.declared.parts.ScriptRow.TheVariants.{Tree as TreeRow, Advance as AdvanceRow, Settle as SettleRow, Lose as LoseRow}
-use Rattle.tx_trees.proofs.Rebuilding.{names_end}
+use Rattle.tx_trees.proofs.SubsOf.{names_end}
 use Rattle.world_model.specs.Counts.{tally, one_if}
 use Rattle.world_model.specs.Runs.{client_in, waiting, IsStepRun}
 use Rattle.world_model.specs.Tables.{IsRunnable}
 use Rattle.world_model.proofs.Bags.{one_if_most, one_if_same}
-use Rattle.tree_laws.specs.Dids.{dids, asked, asks, tells_done, replies_to, answers, is_row_of, rooted}
+use Rattle.tree_laws.specs.Dids.{dids, letters_asking, asks, tells_done, replies_to, answers, is_row_of, roots_sent}
 use Rattle.tree_laws.specs.Ends.{is_finish, finishes_in}
 use Rattle.tree_laws.proofs.Acts.{acts_more, any_counted, finish_marks, of_act}
 use Rattle.tree_laws.proofs.Goods.{good_run}
@@ -38,7 +38,7 @@ none_left f s past empty = ap (λ (ls : List Letter). tally f ls) empty
 
 -- one more subtransaction of a tree whose root was done
 done_by : (s : ScriptData) (past : List Entry) (n t k : ℕ) (c : SubAt s t k) → IsSound s → IsGood s past
-    → ((j : ℕ) → 0 < j → asked s past t j ≡ 0)
+    → ((j : ℕ) → 0 < j → letters_asking s past t j ≡ 0)
     → 1 ≤ dids past t 0 → k < suc n → ((j : ℕ) → j < n → SubAt s t j → 1 ≤ dids past t j) → (k ≡ 0) ⊎ (0 < k) → 1 ≤ dids past t k
 done_by s past n t k c sound good quiet root lt ih (inl is) = subst (λ (j : ℕ). 1 ≤ dids past t j) (sym is) root
 done_by s past n t k c sound good quiet root lt ih (inr more) =
@@ -47,7 +47,7 @@ done_by s past n t k c sound good quiet root lt ih (inr more) =
 
 -- each subtransaction of a tree whose root was done, where none is asked for any more
 pub done_below : (s : ScriptData) (past : List Entry) (n t k : ℕ) (c : SubAt s t k) → IsSound s → IsGood s past
-    → ((j : ℕ) → 0 < j → asked s past t j ≡ 0) → 1 ≤ dids past t 0 → k < n → 1 ≤ dids past t k
+    → ((j : ℕ) → 0 < j → letters_asking s past t j ≡ 0) → 1 ≤ dids past t 0 → k < n → 1 ≤ dids past t k
 done_below s past zero t k c sound good quiet root lt = absurd (omega arith)
 done_below s past (suc n) t k c sound good quiet root lt =
     done_by s past n t k c sound good quiet root lt (λ j less sub. done_below s past n t j sub sound good quiet root less) (zero_or k)
@@ -77,7 +77,7 @@ tree_done_by s past t sound good empty lt root (Answered gone one untold done) =
 
 -- a tree whose row is submitted is done
 pub tree_done : (s : ScriptData) (past : List Entry) (t : ℕ) → IsSound s → IsGood s past → waiting s past ≡ [] → t < length s.trees
-    → 1 ≤ rooted t (take (client_in s past).next s.rows) → TreeDone s past t
+    → 1 ≤ roots_sent t (take (client_in s past).next s.rows) → TreeDone s past t
 tree_done s past t sound good empty lt row =
     let root : 1 ≤ dids past t 0 = omega (arith, row, good.roots t lt, none_left (λ (l : Letter). asks t 0 l.body) s past empty) in
     tree_done_by s past t sound good empty lt root (good.stages t lt)
@@ -89,10 +89,10 @@ rooted_here t u i n rest true is at lt later some = grind (arith, nat_tests)
 rooted_here t u i n rest false is at lt later some = later (omega arith)
 
 -- a row names a tree of the script
-rooted_below : (t i n : ℕ) (rows : List ScriptRow) → NamesInOrder i n rows → 1 ≤ rooted t rows → t < n
+rooted_below : (t i n : ℕ) (rows : List ScriptRow) → NamesInOrder i n rows → 1 ≤ roots_sent t rows → t < n
 rooted_below t i n [] names some = absurd (omega arith)
 rooted_below t i n (TreeRow u ∷ rows) names some =
-    rooted_here t u.0 i n (rooted t rows) (u.0 == t) refl names.0 (omega (arith, names_end (i + 1) n rows names.1)) (rooted_below t (i + 1) n rows names.1) some
+    rooted_here t u.0 i n (roots_sent t rows) (u.0 == t) refl names.0 (omega (arith, names_end (i + 1) n rows names.1)) (rooted_below t (i + 1) n rows names.1) some
 rooted_below t i n (AdvanceRow ∷ rows) names some = rooted_below t i n rows names (omega (arith, some))
 rooted_below t i n (SettleRow ∷ rows) names some = rooted_below t i n rows names (omega (arith, some))
 rooted_below t i n (LoseRow ∷ rows) names some = rooted_below t i n rows names (omega (arith, some))
@@ -109,7 +109,7 @@ is_true_of true some = refl
 is_true_of false some = absurd (omega arith)
 
 -- the trees of rows are answered where each of them is
-pub all_answered_of : (answered : List Bool) (rows : List ScriptRow) → ((t : ℕ) → 1 ≤ rooted t rows → get_or answered t false ≡ true)
+pub all_answered_of : (answered : List Bool) (rows : List ScriptRow) → ((t : ℕ) → 1 ≤ roots_sent t rows → get_or answered t false ≡ true)
     → all_answered answered rows ≡ true
 all_answered_of answered [] each = refl
 all_answered_of answered (TreeRow t ∷ rows) each =
@@ -122,7 +122,7 @@ all_answered_of answered (LoseRow ∷ rows) each = all_answered_of answered rows
 -- Where no letter is under way.
 -- a tree whose row is submitted is answered at the client
 pub answered_now : (s : ScriptData) (past : List Entry) (t : ℕ) → IsSound s → IsGood s past → waiting s past ≡ []
-    → 1 ≤ rooted t (take (client_in s past).next s.rows) → get_or (client_in s past).answered t false ≡ true
+    → 1 ≤ roots_sent t (take (client_in s past).next s.rows) → get_or (client_in s past).answered t false ≡ true
 answered_now s past t sound good empty row =
     let next = (client_in s past).next in
     let lt : t < length s.trees = rooted_below t 0 (length s.trees) s.rows sound.valid.rows (omega (arith, row, tally_take_le (is_row_of t) next s.rows)) in
@@ -149,12 +149,12 @@ finished_by s past sound run timely finished =
     is_true_of (client_in s past).finished (omega (arith, some, finishes_of past, (at_rest s past sound run timely).once))
 
 -- the trees of rows that are all answered
-answered_in : (answered : List Bool) (t : ℕ) (rows : List ScriptRow) → all_answered answered rows ≡ true → 1 ≤ rooted t rows
+answered_in : (answered : List Bool) (t : ℕ) (rows : List ScriptRow) → all_answered answered rows ≡ true → 1 ≤ roots_sent t rows
     → get_or answered t false ≡ true
 answered_in answered t [] all some = absurd (omega arith)
 answered_in answered t (TreeRow u ∷ rows) all some =
     let parts = and_parts (get_or answered u.0 false) (all_answered answered rows) all in
-    answered_here answered t u.0 (rooted t rows) (u.0 == t) refl parts.0 (answered_in answered t rows parts.1) some
+    answered_here answered t u.0 (roots_sent t rows) (u.0 == t) refl parts.0 (answered_in answered t rows parts.1) some
 answered_in answered t (AdvanceRow ∷ rows) all some = answered_in answered t rows all (omega (arith, some))
 answered_in answered t (SettleRow ∷ rows) all some = answered_in answered t rows all (omega (arith, some))
 answered_in answered t (LoseRow ∷ rows) all some = answered_in answered t rows all (omega (arith, some))

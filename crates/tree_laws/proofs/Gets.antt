@@ -14,7 +14,7 @@ use Rattle.tx_trees.specs.declared.parts.Deed.TheVariants.{Apply, Get, Set, Draw
 use Rattle.tx_trees.specs.declared.parts.ItemRow.{ItemRow}
 use Rattle.tx_trees.specs.declared.parts.SubOp.{SubOp}
 use Rattle.tx_trees.specs.declared.parts.TreeKind.TheVariants as trees
-use Rattle.read_step.specs.Rows.{seen_in, got_by_deed, can_get}
+use Rattle.world_model.specs.Reads.{seen_in, got_by_deed, can_get}
 use Rattle.tree_laws.proofs.Tables.{ItemIn, TableIn}
 
 -- an item that is there is seen in any version

@@ -9,7 +9,7 @@ use Rattle.tx_trees.specs.ScriptData.{ScriptData, subs_at, home_of}
 use Rattle.tx_trees.specs.Valid.{initial_load}
 use Rattle.world_model.specs.Counts.{one_if, Each}
 use Rattle.world_model.specs.Runs.{client_in, node_in, waiting}
-use Rattle.tree_laws.specs.Dids.{asked, dids, births, notices, replies, answers, rooted}
+use Rattle.tree_laws.specs.Dids.{letters_asking, dids, births, notices, replies, answers, roots_sent}
 use Rattle.world_model.proofs.Fits.{IsFit}
 use Rattle.tree_laws.proofs.Loads.{trees_done}
 use Rattle.world_model.proofs.Scripts.{SubAt}
@@ -41,8 +41,8 @@ bound s past x = initial_load (slice_get s.items x) + trees_done (dids past) x 0
 -- the items of each node keep to their bounds
 pub record IsGood (s : ScriptData) (past : List Entry) : Type 0 where
   pub letters : Each (λ (l : Letter). IsFit s l.from.0 l.to.0 l.body) (waiting s past)
-  pub roots : (t : ℕ) → t < length s.trees → rooted t (take (client_in s past).next s.rows) ≡ asked s past t 0 + dids past t 0
-  pub subs : (t k : ℕ) (c : SubAt s t k) → 0 < k → dids past t c.sub.parent.0 ≡ asked s past t k + dids past t k
+  pub roots : (t : ℕ) → t < length s.trees → roots_sent t (take (client_in s past).next s.rows) ≡ letters_asking s past t 0 + dids past t 0
+  pub subs : (t k : ℕ) (c : SubAt s t k) → 0 < k → dids past t c.sub.parent.0 ≡ letters_asking s past t k + dids past t k
   pub born : (t : ℕ) → births past t ≡ dids past t 0
   pub stages : (t : ℕ) → t < length s.trees → TreeAt s past t
   pub heard : (t : ℕ) → t < length s.trees → answers past t ≡ replies s past t + one_if (get_or (client_in s past).answered t false)

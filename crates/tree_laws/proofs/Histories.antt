@@ -6,9 +6,9 @@ use Rattle.std.proofs.lemmas.List.{take-append-le, take_all, append-nil, length-
 use Rattle.tv_base.proofs.ByPlace.{slice_get_split}
 use Rattle.letter_types.specs.declared.entries.Entry.{Entry}
 use Rattle.tx_trees.specs.ScriptData.{ScriptData}
-use Rattle.board_model.specs.Histories.{Place, places_at, places_of}
-use Rattle.board_model.specs.Moves.{AtEachAct, OneByOne}
-use Rattle.board_model.proofs.Places.{places_of-append}
+use Rattle.board_rules.specs.Histories.{Place, places_at, places_of}
+use Rattle.board_rules.specs.Moves.{AtEachAct, OneByOne}
+use Rattle.board_rules.proofs.Places.{places_of-append}
 use Rattle.world_model.specs.Runs.{IsStepRun}
 use Rattle.world_model.proofs.Bridge.{reverse_more}
 
@@ -48,18 +48,23 @@ before_last : (e : Entry) (past : List Entry) (n : ℕ) → n ≡ length (revers
 before_last e past n is =
     sym (take_all n (reverse past) (omega (arith, is))) ∙ earlier e past n (omega (arith, is))
 
+-- what holds of each entry and the history before it, with one entry more
+pub before_more : (P : List Entry → Entry → Type 0) (e : Entry) (past : List Entry)
+    → ((n : ℕ) (x : Entry) → slice_get (reverse past) n ≡ Some x → P (take n (reverse past)) x) → P (reverse past) e
+    → (n : ℕ) (x : Entry) → slice_get (reverse (e ∷ past)) n ≡ Some x → P (take n (reverse (e ∷ past))) x
+before_more P e past old new n x here =
+    elim (slice_get_split (reverse past) e n x (rw (reverse_more e past) at here)) [
+      | inl p ↦ subst (λ (h : List Entry). P h x) (earlier e past n (omega (arith, p.0))) (old n x p.1)
+      | inr p ↦ subst (λ (y : Entry). P (take n (reverse (e ∷ past))) y) p.1
+          (subst (λ (h : List Entry). P h e) (before_last e past n p.0) new)
+    ]
+
 -- what holds of each act and the history before its entry, with one entry more
 pub at_each_act_more : (P : List Entry → List Place → Place → Type 0) (e : Entry) (past : List Entry)
     → AtEachAct P (reverse past) → OneByOne (P (reverse past)) (places_of (reverse past)) (places_at e)
     → AtEachAct P (reverse (e ∷ past))
-at_each_act_more P e past old new n x here =
-    elim (slice_get_split (reverse past) e n x (rw (reverse_more e past) at here)) [
-      | inl p ↦ subst (λ (h : List Entry). OneByOne (P h) (places_of h) (places_at x)) (earlier e past n (omega (arith, p.0)))
-          (old n x p.1)
-      | inr p ↦ subst (λ (y : Entry). OneByOne (P (take n (reverse (e ∷ past)))) (places_of (take n (reverse (e ∷ past)))) (places_at y))
-          p.1
-          (subst (λ (h : List Entry). OneByOne (P h) (places_of h) (places_at e)) (before_last e past n p.0) new)
-    ]
+at_each_act_more P e past old new =
+    before_more (λ (h : List Entry) (x : Entry). OneByOne (P h) (places_of h) (places_at x)) e past old new
 
 -- without its last entries, a run is a run
 pub run_before : (s : ScriptData) (past : List Entry) (n : ℕ) → IsStepRun s past → IsStepRun s (drop n past)

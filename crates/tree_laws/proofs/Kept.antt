@@ -8,12 +8,12 @@ use Rattle.letter_types.specs.declared.entries.LetterId.{LetterId}
 use Rattle.letter_types.specs.declared.entries.Outgoing.{Outgoing}
 use Rattle.item_versions.specs.Table.{Table}
 use Rattle.tx_trees.specs.ScriptData.{ScriptData, subs_at, node_of}
-use Rattle.client_rows.specs.Client.{Client}
-use Rattle.tree_step.specs.Children.{sub_letters}
+use Rattle.world_model.specs.Client.{Client}
+use Rattle.world_model.specs.Children.{sub_letters}
 use Rattle.world_model.specs.Counts.{tally, one_if}
 use Rattle.world_model.specs.Runs.{client_in, node_in, MayFollow}
 use Rattle.world_model.proofs.Every.{each_append, node_kept}
-use Rattle.tree_laws.specs.Dids.{asks, asked, is_did, is_born, dids, births, replies_to, replies, answers, rooted}
+use Rattle.tree_laws.specs.Dids.{asks, letters_asking, is_did_act, is_born, dids, births, replies_to, replies, answers, roots_sent}
 use Rattle.tree_laws.proofs.Counts.{bounds_with, with_one, load_more}
 use Rattle.world_model.proofs.Fits.{IsFit, IsSentFit, children_fit}
 use Rattle.world_model.proofs.Flows.{flow}
@@ -27,11 +27,11 @@ use Rattle.tree_laws.proofs.Tables.{TableIn, table_more}
 -- no subtransaction is done and no child asked for; roots are asked for as rows are submitted; the items keep to the
 -- bounds that they kept to
 pub record Idle (s : ScriptData) (past : List Entry) (e : Entry) : Type 0 where
-  pub did : (u i : ℕ) → tally (is_did u i) e.acts ≡ 0
+  pub did : (u i : ℕ) → tally (is_did_act u i) e.acts ≡ 0
   pub born : (u : ℕ) → tally (is_born u) e.acts ≡ 0
   pub took : (u i : ℕ) → asks u i e.took.body ≡ 0
   pub sends : (u i : ℕ) → 0 < i → tally (on (asks u i)) e.sent ≡ 0
-  pub rows : (u : ℕ) → rooted u (take (client_in s (e ∷ past)).next s.rows) ≡ rooted u (take (client_in s past).next s.rows) + tally (on (asks u 0)) e.sent
+  pub rows : (u : ℕ) → roots_sent u (take (client_in s (e ∷ past)).next s.rows) ≡ roots_sent u (take (client_in s past).next s.rows) + tally (on (asks u 0)) e.sent
   pub items : (p : ℕ) → p < s.nodes → (most : ℕ → ℕ) → TableIn s.items p most (node_in s past p).items
       → TableIn s.items p most (node_in s (e ∷ past) p).items
 
@@ -42,12 +42,12 @@ stay_in s past e p same most ok = subst (λ (t : Table). TableIn s.items p most 
 
 -- the fields of what holds, where no subtransaction is done
 pub idle_roots : (s : ScriptData) (past : List Entry) (e : Entry) → IsGood s past → MayFollow s past e → Idle s past e → (t : ℕ)
-    → t < length s.trees → rooted t (take (client_in s (e ∷ past)).next s.rows) ≡ asked s (e ∷ past) t 0 + dids (e ∷ past) t 0
+    → t < length s.trees → roots_sent t (take (client_in s (e ∷ past)).next s.rows) ≡ letters_asking s (e ∷ past) t 0 + dids (e ∷ past) t 0
 idle_roots s past e good m idle t lt =
     omega (arith, good.roots t lt, flow (asks t 0) s past e m, idle.took t 0, idle.did t 0, idle.rows t)
 
 pub idle_subs : (s : ScriptData) (past : List Entry) (e : Entry) → IsGood s past → MayFollow s past e → Idle s past e → (t k : ℕ)
-    (c : SubAt s t k) → 0 < k → dids (e ∷ past) t c.sub.parent.0 ≡ asked s (e ∷ past) t k + dids (e ∷ past) t k
+    (c : SubAt s t k) → 0 < k → dids (e ∷ past) t c.sub.parent.0 ≡ letters_asking s (e ∷ past) t k + dids (e ∷ past) t k
 idle_subs s past e good m idle t k c lt =
     omega (arith, good.subs t k c lt, flow (asks t k) s past e m, idle.took t k, idle.sends t k lt, idle.did t k, idle.did t c.sub.parent.0)
 
@@ -78,7 +78,7 @@ pub record Does (s : ScriptData) (past : List Entry) (e : Entry) (t k : ℕ) : T
   pub sub : SubAt s t k
   pub at : e.actor.0 ≡ node_of s t k
   pub version : ℕ
-  pub did : (u i : ℕ) → tally (is_did u i) e.acts ≡ one_if ((t == u) && (k == i))
+  pub did : (u i : ℕ) → tally (is_did_act u i) e.acts ≡ one_if ((t == u) && (k == i))
   pub born : (u : ℕ) → tally (is_born u) e.acts ≡ one_if ((t == u) && (k == 0))
   pub took : (u i : ℕ) → asks u i e.took.body ≡ one_if ((t == u) && (k == i))
   pub sends : (u i : ℕ) → tally (on (asks u i)) e.sent ≡ tally (on (asks u i)) (sub_letters t version k 0 (subs_at s t))
@@ -97,13 +97,13 @@ asked_by s t v k u i c lt true is =
 
 -- the fields of what holds, where one is done
 pub does_roots : (s : ScriptData) (past : List Entry) (e : Entry) (t k : ℕ) → IsGood s past → MayFollow s past e → Does s past e t k → (u : ℕ)
-    → u < length s.trees → rooted u (take (client_in s (e ∷ past)).next s.rows) ≡ asked s (e ∷ past) u 0 + dids (e ∷ past) u 0
+    → u < length s.trees → roots_sent u (take (client_in s (e ∷ past)).next s.rows) ≡ letters_asking s (e ∷ past) u 0 + dids (e ∷ past) u 0
 does_roots s past e t k good m does u lt =
-    let rows = ap (λ c. rooted u (take c.next s.rows)) does.client in
+    let rows = ap (λ c. roots_sent u (take c.next s.rows)) does.client in
     omega (arith, rows, good.roots u lt, flow (asks u 0) s past e m, does.took u 0, does.did u 0, does.sends u 0, no_root u t does.version k (subs_at s t))
 
 pub does_subs : (s : ScriptData) (past : List Entry) (e : Entry) (t k : ℕ) → IsSound s → IsGood s past → MayFollow s past e → Does s past e t k
-    → (u i : ℕ) (c : SubAt s u i) → 0 < i → dids (e ∷ past) u c.sub.parent.0 ≡ asked s (e ∷ past) u i + dids (e ∷ past) u i
+    → (u i : ℕ) (c : SubAt s u i) → 0 < i → dids (e ∷ past) u c.sub.parent.0 ≡ letters_asking s (e ∷ past) u i + dids (e ∷ past) u i
 does_subs s past e t k sound good m does u i c lt =
     let up = (is_sub s u i c sound).parent lt in
     omega (

@@ -11,12 +11,12 @@ use Rattle.letter_types.specs.declared.bodies.Notice.TheVariants.{Did, Yes, No}
 use Rattle.letter_types.specs.declared.entries.Entry.{Entry}
 use Rattle.letter_types.specs.declared.entries.Letter.{Letter}
 use Rattle.tx_trees.specs.ScriptData.{ScriptData, node_of, home_of, ops_of, updates, reads}
-use Rattle.tree_step.specs.Apt.{is_did, is_near}
-use Rattle.node_step.specs.Advancing.{turn_row, show_row, sweep_row, done_row, asked_row}
-use Rattle.tree_step.specs.Done.{note_done, root_done, sub_done}
-use Rattle.update_step.specs.Rows.{touching}
-use Rattle.read_step.specs.Rows.{getting}
-use Rattle.client_rows.specs.Client.{submit, with_answer, with_end, nudge}
+use Rattle.world_model.specs.Named.{is_did, is_near}
+use Rattle.world_model.specs.Advancing.{turn_row, show_row, sweep_row, done_row, asked_row}
+use Rattle.world_model.specs.Done.{note_done, root_done, sub_done}
+use Rattle.world_model.specs.Updates.{touching}
+use Rattle.world_model.specs.Reads.{getting}
+use Rattle.world_model.specs.Client.{submit, with_answer, with_end, nudge}
 use Rattle.world_model.specs.Runs.{client_in, node_in, MayFollow, waiting}
 use Rattle.world_model.proofs.Bags.{tally-drop}
 use Rattle.world_model.proofs.Every.{each_taken}
@@ -27,7 +27,7 @@ use Rattle.tree_laws.proofs.Good.{IsGood}
 use Rattle.world_model.proofs.Nexts.{Next, Begins, Hears, Ends, Coordinates, DoesRoot, DoesSub, Notes, Obeys, Turns, Shows, Sweeps, TellsDone, TellsAsked, RootUpdates, RootReads, SubUpdates, SubReads}
 use Rattle.world_model.proofs.Scripts.{IsSound, SubAt, has_root, sub_there, sub_below, tree_below, tree_kind, node_below, not_strict, update_kind_at, read_kind_at}
 use Rattle.tree_laws.proofs.Stages.{no_home, misses_notice}
-use Rattle.node_step.proofs.Apts.{update_root_row, read_root_row, update_sub_row, read_sub_row, notice_row}
+use Rattle.world_model.proofs.Apts.{update_root_row, read_root_row, update_sub_row, read_sub_row, notice_row}
 use Rattle.tree_laws.proofs.Steps.{made, made_by_client, made_by_coordinator, hear_row, timely_at, turns_by, shows_by, sweeps_by, tells_done_by, tells_asked_by}
 use Rattle.world_model.specs.Timely.{WasTimely}
 use Rattle.tree_laws.proofs.Works.{update_can, read_can}

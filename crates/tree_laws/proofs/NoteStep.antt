@@ -10,13 +10,13 @@ use Rattle.letter_types.specs.declared.bodies.Body.TheVariants.{Done}
 use Rattle.letter_types.specs.declared.bodies.Notice.TheVariants.{Did as DidNotice}
 use Rattle.letter_types.specs.declared.entries.Entry.{Entry}
 use Rattle.tx_trees.specs.ScriptData.{ScriptData, home_of, client_of}
-use Rattle.tree_step.specs.Node.{Node}
-use Rattle.tree_step.specs.Notices.{answer_noted, reply_letters}
-use Rattle.client_rows.specs.Client.{Client}
+use Rattle.world_model.specs.Node.{Node}
+use Rattle.world_model.specs.Notices.{answer_noted, reply_letters}
+use Rattle.world_model.specs.Client.{Client}
 use Rattle.world_model.specs.Counts.{tally}
-use Rattle.tree_step.specs.Done.{note_done}
+use Rattle.world_model.specs.Done.{note_done}
 use Rattle.world_model.specs.Runs.{client_in, node_in, MayFollow}
-use Rattle.tree_laws.specs.Dids.{asks, is_did, is_born, tells_done, replies_to, rooted}
+use Rattle.tree_laws.specs.Dids.{asks, is_did_act, is_born, tells_done, replies_to, roots_sent}
 use Rattle.tree_laws.proofs.Answering.{answer_fits, replies_apart}
 use Rattle.tree_laws.proofs.Counts.{at_most_once}
 use Rattle.world_model.proofs.Fits.{IsSentFit}
@@ -34,8 +34,8 @@ use Rattle.tree_laws.proofs.Staging.{Apart, stays, Notes, notes_stage}
 -- where nothing is asked for, and the client isn't moved, the rows stay
 pub rows_same : (s : ScriptData) (past : List Entry) (e : Entry) → client_in s (e ∷ past) ≡ client_in s past → (u : ℕ)
     → tally (on (asks u 0)) e.sent ≡ 0
-    → rooted u (take (client_in s (e ∷ past)).next s.rows) ≡ rooted u (take (client_in s past).next s.rows) + tally (on (asks u 0)) e.sent
-rows_same s past e same u none = let rows = ap (λ (c : Client). rooted u (take c.next s.rows)) same in omega (arith, rows, none)
+    → roots_sent u (take (client_in s (e ∷ past)).next s.rows) ≡ roots_sent u (take (client_in s past).next s.rows) + tally (on (asks u 0)) e.sent
+rows_same s past e same u none = let rows = ap (λ (c : Client). roots_sent u (take c.next s.rows)) same in omega (arith, rows, none)
 
 -- A notice.
 abbrev NoteMade : ScriptData → List Entry → Entry → TreeNo → SubNo → Version → Gets → Type 0
@@ -56,7 +56,7 @@ note_idle s past e t k v values same is at made =
     note_sends (asks u i) s past e t k v values made
     ∙ replies_none (asks u i) (client_of s) (answer_noted t k values (node_in s past (home_of s t.0)).homes) (λ w x answer. refl) in
     record {
-      did = λ u i. ap (λ xs. tally (is_did u i) xs) made.acts;
+      did = λ u i. ap (λ xs. tally (is_did_act u i) xs) made.acts;
       born = λ u. ap (λ xs. tally (is_born u) xs) made.acts;
       took = λ u i. rw is refl;
       sends = λ u i lt. none u i;

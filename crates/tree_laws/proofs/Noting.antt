@@ -8,7 +8,7 @@ use Rattle.tv_base.specs.declared.numbers.Version.{Version}
 use Rattle.tree_home.specs.declared.homes.Answered.{Answered}
 use Rattle.tree_home.specs.Homes.{answer_in, begun, forgotten, Gets, home_in, misses, missing_count, missing_in, noted, OpenTrees}
 use Rattle.tree_home.proofs.Always.{begun-others, noted-others, forgotten-others, misses-begun, answered-exactly}
-use Rattle.tree_step.specs.Notices.{homes_noted, answer_noted}
+use Rattle.world_model.specs.Notices.{homes_noted, answer_noted}
 use Rattle.tree_laws.proofs.Counts.{zero_or}
 use Rattle.tree_laws.proofs.Good.{is_noted}
 

@@ -15,11 +15,11 @@ use Rattle.letter_types.specs.Steps.{Out}
 use Rattle.node_versions.specs.declared.turns.Turns.{Turns}
 use Rattle.node_versions.specs.Turns.{raised}
 use Rattle.tree_home.specs.Homes.{Gets}
-use Rattle.tree_step.specs.Done.{note_done, raised_if, root_done, sub_done, turned_if}
-use Rattle.tree_step.specs.Node.{Node}
+use Rattle.world_model.specs.Done.{note_done, raised_if, root_done, sub_done, turned_if}
+use Rattle.world_model.specs.Node.{Node}
 use Rattle.tx_trees.specs.ScriptData.{ScriptData, home_of, node_of}
-use Rattle.board_model.specs.Histories.{Place, places_at, places_of}
-use Rattle.board_model.specs.Moves.{low_after, number_after, read_after, showed_to, swept_to, turned_to, update_after, version_or}
+use Rattle.board_rules.specs.Histories.{Place, places_at, places_of}
+use Rattle.board_rules.specs.Moves.{low_after, number_after, read_after, showed_to, swept_to, turned_to, update_after, version_or}
 use Rattle.world_model.specs.Runs.{IsStepRun, node_in}
 use Rattle.world_model.specs.Timely.{AllTimely}
 use Rattle.world_model.proofs.Every.{node_kept}

@@ -16,9 +16,9 @@ use Rattle.letter_types.specs.Steps.{Out}
 use Rattle.pair_counters.specs.Numbers.{numbers_of}
 use Rattle.tx_trees.specs.ScriptData.{ScriptData, home_of}
 use Rattle.tree_home.specs.Homes.{home_in, OpenTrees}
-use Rattle.tree_step.specs.Done.{turned_if}
-use Rattle.tree_step.specs.Node.{Node}
-use Rattle.node_step.specs.Advancing.{done_row, asked_row}
+use Rattle.world_model.specs.Done.{turned_if}
+use Rattle.world_model.specs.Node.{Node}
+use Rattle.world_model.specs.Advancing.{done_row, asked_row}
 use Rattle.world_model.specs.Counts.{tally, Each}
 use Rattle.world_model.specs.Runs.{client_in, coordinator_in, node_in, MayFollow}
 use Rattle.world_model.proofs.Every.{each_map, each_none, node_kept}
@@ -28,7 +28,7 @@ use Rattle.world_model.proofs.Nexts.{Made, MadeByCoordinator, Order, Turns, Show
 use Rattle.world_model.proofs.Orders.{OfOrders, coordinator_each, coordinator_nodes, of}
 use Rattle.world_model.proofs.Scripts.{IsSound, has_root, node_below}
 use Rattle.world_model.proofs.Sends.{on}
-use Rattle.tree_laws.specs.Dids.{asks, is_did, is_born, tells_done, replies_to}
+use Rattle.tree_laws.specs.Dids.{asks, is_did_act, is_born, tells_done, replies_to}
 use Rattle.tree_laws.proofs.Flows.{letters_next}
 use Rattle.tree_laws.proofs.Good.{IsGood}
 use Rattle.tree_laws.proofs.Kept.{Idle, idle_roots, idle_subs, idle_born, idle_items, heard_same, same_heard, stay_in}
@@ -122,7 +122,7 @@ pub record Aside (s : ScriptData) (past : List Entry) (e : Entry) : Type 0 where
 
 aside_idle : (s : ScriptData) (past : List Entry) (e : Entry) → Aside s past e → Idle s past e
 aside_idle s past e a = record {
-  did = λ u i. a.acts (is_did u i) (record { turned = λ v. refl; showed = λ v. refl; swept = λ v. refl });
+  did = λ u i. a.acts (is_did_act u i) (record { turned = λ v. refl; showed = λ v. refl; swept = λ v. refl });
   born = λ u. a.acts (is_born u) (record { turned = λ v. refl; showed = λ v. refl; swept = λ v. refl });
   took = λ u i. a.took (asks u i) (asks_trees u i);
   sends = λ u i lt. a.sent (asks u i) (asks_trees u i);

@@ -9,18 +9,18 @@ use Rattle.std.proofs.lemmas.List.Sums.{fold-append}
 use Rattle.tv_base.specs.declared.numbers.SubNo.{SubNo}
 use Rattle.tv_base.specs.declared.numbers.TreeNo.{TreeNo}
 use Rattle.tv_base.specs.declared.numbers.Version.{Version}
-use Rattle.commute_ops.specs.Ops.{start}
+use Rattle.commute_ops.specs.Ops.{value_start}
 use Rattle.commute_ops.specs.declared.value.Value.{Value}
 use Rattle.item_versions.specs.Item.{Held, collected, seen}
 use Rattle.item_versions.proofs.Order.{IsHeld-collected}
 use Rattle.item_versions.proofs.Seen.{seen-collected}
-use Rattle.version_collect.specs.Collecting.{collected_all}
+use Rattle.item_versions.specs.Collecting.{collected_all}
 use Rattle.tv_base.specs.declared.numbers.ItemNo.{ItemNo}
 use Rattle.tv_base.proofs.Truths.{at_most}
 use Rattle.node_versions.specs.declared.turns.Turns.{Turns}
 use Rattle.node_versions.specs.Turns.{raised}
-use Rattle.node_step.specs.Advancing.{turn_row, show_row, sweep_row}
-use Rattle.tree_step.specs.Apt.{is_timely}
+use Rattle.world_model.specs.Advancing.{turn_row, show_row, sweep_row}
+use Rattle.world_model.specs.Named.{is_timely}
 use Rattle.item_versions.specs.Table.{Table}
 use Rattle.item_versions.proofs.Tables.{Each as EachItem}
 use Rattle.letter_types.specs.declared.acts.Act.{Act}
@@ -29,14 +29,14 @@ use Rattle.letter_types.specs.declared.bodies.Body.{Body}
 use Rattle.letter_types.specs.declared.bodies.Body.TheVariants.{Root, Sub as SubLetter, Sweep}
 use Rattle.letter_types.specs.declared.entries.Entry.{Entry}
 use Rattle.letter_types.specs.Steps.{Out}
-use Rattle.read_step.specs.Rows.{seen_in}
-use Rattle.tree_step.specs.Done.{note_done, raised_if, root_done, sub_done, turned_if}
-use Rattle.tree_step.specs.Node.{Effect, Node}
+use Rattle.world_model.specs.Reads.{seen_in}
+use Rattle.world_model.specs.Done.{note_done, raised_if, root_done, sub_done, turned_if}
+use Rattle.world_model.specs.Node.{Effect, Node}
 use Rattle.tx_trees.specs.ScriptData.{ScriptData, home_of, node_of, ops_of, updates}
 use Rattle.tx_trees.specs.declared.parts.ItemRow.{ItemRow}
-use Rattle.board_model.specs.Histories.{Place, places_at, places_of, version_in, version_of}
-use Rattle.board_model.specs.Worth.{after_ops as value_after, first_value}
-use Rattle.tree_laws.specs.OwnValues.{after_act, is_up_to, own_acts, own_value, SeesOwn}
+use Rattle.board_rules.specs.Histories.{Place, places_at, places_of, version_in, version_of}
+use Rattle.board_rules.specs.Worth.{after_ops as value_after, first_value}
+use Rattle.tree_laws.specs.OwnValues.{value_after_act, is_up_to, own_acts, own_value, SeesOwn}
 use Rattle.world_model.specs.Counts.{Each}
 use Rattle.world_model.specs.Runs.{MayFollow, IsStepRun, node_in}
 use Rattle.world_model.specs.Tables.{items_at, start_node}
@@ -67,7 +67,7 @@ own_elsewhere p node (a ∷ acts) is = rw is (own_elsewhere p node acts is)
 
 -- an old deed makes the same with more acts, since its tree's version stays
 same_act : (s : ScriptData) (h more : List Entry) (x v : ℕ) (xs ys : List Place) (a : Act) (w : Value)
-    → places_of h ≡ xs → places_of more ≡ xs ++ ys → IsOfBorn xs a → after_act s more x v w a ≡ after_act s h x v w a
+    → places_of h ≡ xs → places_of more ≡ xs ++ ys → IsOfBorn xs a → value_after_act s more x v w a ≡ value_after_act s h x v w a
 same_act s h more x v xs ys (Did t k values) w was now is =
     let old : version_of h t.0 ≡ version_in t.0 xs = ap (λ (zs : List Place). version_in t.0 zs) was in
     let new : version_of more t.0 ≡ version_in t.0 xs = ap (λ (zs : List Place). version_in t.0 zs) now ∙ version_stays t.0 xs ys is in
@@ -77,19 +77,19 @@ same_act s h more x v xs ys _ w was now is = refl
 
 same_here : (s : ScriptData) (h more : List Entry) (p x v : ℕ) (xs ys : List Place) (place : Place) (rest : List Place) (w : Value)
     → places_of h ≡ xs → places_of more ≡ xs ++ ys → IsOfBorn xs place.act
-    → ((u : Value) → fold (after_act s more x v) u (own_acts p rest) ≡ fold (after_act s h x v) u (own_acts p rest))
+    → ((u : Value) → fold (value_after_act s more x v) u (own_acts p rest) ≡ fold (value_after_act s h x v) u (own_acts p rest))
     → (test : Bool) → (place.node == p) ≡ test
-    → fold (after_act s more x v) w (own_acts p (place ∷ rest)) ≡ fold (after_act s h x v) w (own_acts p (place ∷ rest))
+    → fold (value_after_act s more x v) w (own_acts p (place ∷ rest)) ≡ fold (value_after_act s h x v) w (own_acts p (place ∷ rest))
 same_here s h more p x v xs ys place rest w was now is others true at =
     rw at (
-    ap (λ (u : Value). fold (after_act s more x v) u (own_acts p rest)) (same_act s h more x v xs ys place.act w was now is)
-    ∙ others (after_act s h x v w place.act)
+    ap (λ (u : Value). fold (value_after_act s more x v) u (own_acts p rest)) (same_act s h more x v xs ys place.act w was now is)
+    ∙ others (value_after_act s h x v w place.act)
     )
 same_here s h more p x v xs ys place rest w was now is others false at = rw at (others w)
 
 same_fold : (s : ScriptData) (h more : List Entry) (p x v : ℕ) (xs ys zs : List Place) (w : Value)
     → places_of h ≡ xs → places_of more ≡ xs ++ ys → Each (λ (place : Place). IsOfBorn xs place.act) zs
-    → fold (after_act s more x v) w (own_acts p zs) ≡ fold (after_act s h x v) w (own_acts p zs)
+    → fold (value_after_act s more x v) w (own_acts p zs) ≡ fold (value_after_act s h x v) w (own_acts p zs)
 same_fold s h more p x v xs ys [] w was now all = refl
 same_fold s h more p x v xs ys (place ∷ zs) w was now all =
     same_here s h more p x v xs ys place zs w was now all.0 (λ u. same_fold s h more p x v xs ys zs u was now all.1) (place.node == p) refl
@@ -97,15 +97,15 @@ same_fold s h more p x v xs ys (place ∷ zs) w was now all =
 -- the value with one entry more
 value_more : (s : ScriptData) (past : List Entry) (e : Entry) (p x v : ℕ) → AreVersioned s past
     → own_value s (reverse (e ∷ past)) p x v
-    ≡ fold (after_act s (reverse (e ∷ past)) x v) (own_value s (reverse past) p x v) (own_acts p (places_at e))
+    ≡ fold (value_after_act s (reverse (e ∷ past)) x v) (own_value s (reverse past) p x v) (own_acts p (places_at e))
 value_more s past e p x v are =
     let h = reverse past in
     let more = reverse (e ∷ past) in
     let first = first_value (slice_get s.items x) in
-    ap (λ (zs : List Place). fold (after_act s more x v) first (own_acts p zs)) (places_more e past)
-    ∙ ap (λ (acts : List Act). fold (after_act s more x v) first acts) (own_more p (places_of h) (places_at e))
-    ∙ fold-append (after_act s more x v) first (own_acts p (places_of h)) (own_acts p (places_at e))
-    ∙ ap (λ (w : Value). fold (after_act s more x v) w (own_acts p (places_at e)))
+    ap (λ (zs : List Place). fold (value_after_act s more x v) first (own_acts p zs)) (places_more e past)
+    ∙ ap (λ (acts : List Act). fold (value_after_act s more x v) first acts) (own_more p (places_of h) (places_at e))
+    ∙ fold-append (value_after_act s more x v) first (own_acts p (places_of h)) (own_acts p (places_at e))
+    ∙ ap (λ (w : Value). fold (value_after_act s more x v) w (own_acts p (places_at e)))
     (same_fold s h more p x v (places_of h) (places_at e) (places_of h) first refl (places_more e past) are.deeds)
 
 -- What holds of each node.
@@ -125,7 +125,7 @@ kept s past e p st are ne sees = record {
       let none : (e.actor.0 == p) ≡ false = grind (arith, nat_tests) in
       let same : own_value s (reverse (e ∷ past)) p x v ≡ own_value s (reverse past) p x v =
       value_more s past e p x v are
-      ∙ ap (λ (acts : List Act). fold (after_act s (reverse (e ∷ past)) x v) (own_value s (reverse past) p x v) acts) (own_elsewhere p e.actor.0 e.acts none) in
+      ∙ ap (λ (acts : List Act). fold (value_after_act s (reverse (e ∷ past)) x v) (own_value s (reverse past) p x v) acts) (own_elsewhere p e.actor.0 e.acts none) in
       sees.shows x v r at node low ∙ ap (λ (w : Value). Some w) (sym same);
 }
 
@@ -134,27 +134,27 @@ own_step : (s : ScriptData) (past : List Entry) (e : Entry) (p : ℕ) (acts : Li
     → e.acts ≡ acts → EachItem (IsFrom st.turns.low.0) st.items
     → ((x v : ℕ) (r : ItemRow) → slice_get s.items x ≡ Some r → r.node.0 ≡ p → st.turns.low.0 ≤ v
     → seen_in (record { 0 = v }) (record { 0 = x }) st.items
-    ≡ Some (fold (after_act s (reverse (e ∷ past)) x v) (own_value s (reverse past) p x v) acts))
+    ≡ Some (fold (value_after_act s (reverse (e ∷ past)) x v) (own_value s (reverse past) p x v) acts))
     → Sees s (e ∷ past) p st
 own_step s past e p acts st are at is from shows = record {
   from = from;
   shows = λ x v r there node low.
       let here : (e.actor.0 == p) ≡ true = grind (arith, nat_tests) in
       let same : own_value s (reverse (e ∷ past)) p x v
-      ≡ fold (after_act s (reverse (e ∷ past)) x v) (own_value s (reverse past) p x v) acts =
+      ≡ fold (value_after_act s (reverse (e ∷ past)) x v) (own_value s (reverse past) p x v) acts =
       value_more s past e p x v are
-      ∙ ap (λ (acts : List Act). fold (after_act s (reverse (e ∷ past)) x v) (own_value s (reverse past) p x v) acts) (own_here p e.actor.0 e.acts here ∙ is) in
+      ∙ ap (λ (acts : List Act). fold (value_after_act s (reverse (e ∷ past)) x v) (own_value s (reverse past) p x v) acts) (own_here p e.actor.0 e.acts here ∙ is) in
       shows x v r there node low ∙ ap (λ (w : Value). Some w) (sym same);
 }
 
 -- What a deed makes of a value.
 did_updates : (s : ScriptData) (h : List Entry) (x u : ℕ) (t : TreeNo) (k : SubNo) (v : Version) (w : Value) → updates s t.0 ≡ true
     → version_of h t.0 ≡ Some v
-    → (if nat_le v.0 u then value_after x (ops_of s t.0 k.0) w else w) ≡ after_act s h x u w (Did t k [])
+    → (if nat_le v.0 u then value_after x (ops_of s t.0 k.0) w else w) ≡ value_after_act s h x u w (Did t k [])
 did_updates s h x u t k v w up is = rw (up, is) refl
 
 did_reads : (s : ScriptData) (h : List Entry) (x u : ℕ) (t : TreeNo) (k : SubNo) (values : _) (w : Value) → updates s t.0 ≡ false
-    → w ≡ after_act s h x u w (Did t k values)
+    → w ≡ value_after_act s h x u w (Did t k values)
 did_reads s h x u t k values w other = rw other refl
 
 -- a root
@@ -166,7 +166,7 @@ root_from s t v effect st from (RootReads read turn can made) = rw made from
 root_shows : (s : ScriptData) (h : List Entry) (t : TreeNo) (x u : ℕ) (v : Version) (effect : Effect) (st : Node) (w : Value)
     → SubAt s t.0 0 → EachItem (IsFrom st.turns.low.0) st.items → st.turns.low.0 ≤ u → version_of h t.0 ≡ Some v → RootWork s t.0 st v effect
     → seen_in (record { 0 = u }) (record { 0 = x }) st.items ≡ Some w
-    → seen_in (record { 0 = u }) (record { 0 = x }) effect.items ≡ Some (after_act s h x u w (Did t (record { 0 = 0 }) effect.values))
+    → seen_in (record { 0 = u }) (record { 0 = x }) effect.items ≡ Some (value_after_act s h x u w (Did t (record { 0 = 0 }) effect.values))
 root_shows s h t x u v effect st w c from low is (RootUpdates up turn can made) seen =
     rw made (seen_ops st.turns.low.0 (record { 0 = u }) v (record { 0 = x }) (ops_of s t.0 0) st.items w from low can seen
     ∙ ap (λ (y : Value). Some y) (did_updates s h x u t (record { 0 = 0 }) v w up is))
@@ -198,7 +198,7 @@ sub_from s t k v raises effect st from (SubReads read turn can made) = rw made f
 sub_shows : (s : ScriptData) (h : List Entry) (t : TreeNo) (k : SubNo) (x u : ℕ) (v : Version) (raises : Bool) (effect : Effect) (st : Node)
     (w : Value) → SubAt s t.0 k.0 → EachItem (IsFrom st.turns.low.0) st.items → st.turns.low.0 ≤ u → version_of h t.0 ≡ Some v → SubWork s t.0 k.0 st v raises effect
     → seen_in (record { 0 = u }) (record { 0 = x }) st.items ≡ Some w
-    → seen_in (record { 0 = u }) (record { 0 = x }) effect.items ≡ Some (after_act s h x u w (Did t k effect.values))
+    → seen_in (record { 0 = u }) (record { 0 = x }) effect.items ≡ Some (value_after_act s h x u w (Did t k effect.values))
 sub_shows s h t k x u v raises effect st w c from low is (SubUpdates up turn can made) seen =
     rw made (seen_ops st.turns.low.0 (record { 0 = u }) v (record { 0 = x }) (ops_of s t.0 k.0) st.items w from low can seen
     ∙ ap (λ (y : Value). Some y) (did_updates s h x u t k v w up is))
@@ -212,7 +212,7 @@ raised_low false v turns = refl
 
 -- raising is no deed
 turned_fold : (s : ScriptData) (h : List Entry) (x u v : ℕ) (raises : Bool) (acts : List Act) (w : Value)
-    → fold (after_act s h x u) w (turned_if raises v ++ acts) ≡ fold (after_act s h x u) w acts
+    → fold (value_after_act s h x u) w (turned_if raises v ++ acts) ≡ fold (value_after_act s h x u) w acts
 turned_fold s h x u v true acts w = refl
 turned_fold s h x u v false acts w = refl
 
@@ -270,7 +270,7 @@ raised_keeps : (v : Version) (turns : Turns) (test : Bool) → nat_lt turns.upda
 raised_keeps v turns true is = rw is refl
 raised_keeps v turns false is = rw is refl
 
-turn_fold : (s : ScriptData) (h : List Entry) (x u v : ℕ) (raises : Bool) (w : Value) → fold (after_act s h x u) w (turned_if raises v) ≡ w
+turn_fold : (s : ScriptData) (h : List Entry) (x u v : ℕ) (raises : Bool) (w : Value) → fold (value_after_act s h x u) w (turned_if raises v) ≡ w
 turn_fold s h x u v true w = refl
 turn_fold s h x u v false w = refl
 
@@ -368,8 +368,8 @@ start_at s p i x v zero r q rows at node here is later true test =
     let same : q ≡ r = cc here in
     let first : (i == x) ≡ true = grind (arith, nat_tests) in
     rw test (
-    first_seen (record { 0 = v }) i x (start q.kind q.initial) (items_at p (i + 1) rows) first
-    ∙ ap (λ (y : ItemRow). Some (start y.kind y.initial)) same
+    first_seen (record { 0 = v }) i x (value_start q.kind q.initial) (items_at p (i + 1) rows) first
+    ∙ ap (λ (y : ItemRow). Some (value_start y.kind y.initial)) same
     )
 start_at s p i x v zero r q rows at node here is later false test =
     let same : q ≡ r = cc here in

@@ -7,10 +7,10 @@ use Rattle.tree_home.specs.Homes.{home_in, begun}
 use Rattle.letter_types.specs.declared.bodies.Body.TheVariants.{Root}
 use Rattle.letter_types.specs.declared.entries.Entry.{Entry}
 use Rattle.tx_trees.specs.ScriptData.{ScriptData, subs_at, home_of, client_of}
-use Rattle.tree_step.specs.Node.{Effect, Node}
-use Rattle.tree_step.specs.Children.{sub_letters}
-use Rattle.tree_step.specs.Done.{root_done}
-use Rattle.tree_step.specs.Notices.{reply_letters}
+use Rattle.world_model.specs.Node.{Effect, Node}
+use Rattle.world_model.specs.Children.{sub_letters}
+use Rattle.world_model.specs.Done.{root_done}
+use Rattle.world_model.specs.Notices.{reply_letters}
 use Rattle.world_model.specs.Counts.{tally}
 use Rattle.world_model.specs.Runs.{node_in, MayFollow}
 use Rattle.tree_laws.specs.Dids.{asks, dids, tells_done, replies_to}

@@ -3,9 +3,9 @@ use Rattle.std.proofs.Common.{◌≡◌, true, [], ◌∷◌, reverse, refl, Som
 use Rattle.std.specs.Prelude.{pos}
 use Rattle.commute_ops.specs.declared.value.Value.TheVariants.{Sum}
 use Rattle.tx_trees.specs.ScriptData.{ops_of}
-use Rattle.board_model.specs.Histories.{is_whole, version_of}
-use Rattle.board_model.specs.Right.{shown}
-use Rattle.board_model.specs.Worth.{worth}
+use Rattle.board_rules.specs.Histories.{is_whole, version_of}
+use Rattle.board_rules.specs.Right.{shown}
+use Rattle.board_rules.specs.Worth.{worth}
 use Rattle.world_model.specs.Sample.{sample, with_read}
 
 pub update_is_whole : is_whole with_read (reverse (sample with_read 20)) 0 ≡ true

@@ -14,13 +14,14 @@ use Rattle.item_versions.specs.Table.{Table, item_in, may_touch_in, replaced, up
 use Rattle.item_versions.proofs.Order.{IsHeld-touched}
 use Rattle.item_versions.proofs.Seen.{seen-touched_below, seen-touched_from}
 use Rattle.item_versions.proofs.Tables.{Each, each-item, each-replaced}
-use Rattle.read_step.specs.Rows.{can_get, gets, got_by_deed, seen_in, with_get}
+use Rattle.world_model.specs.Reads.{can_get, gets, got_by_deed, seen_in, with_get}
 use Rattle.tree_home.specs.Homes.{Gets}
 use Rattle.tx_trees.specs.declared.parts.Deed.{Deed}
 use Rattle.tx_trees.specs.declared.parts.Deed.TheVariants.{Apply, Get, Set, Draw}
 use Rattle.tx_trees.specs.declared.parts.SubOp.{SubOp}
-use Rattle.update_step.specs.Rows.{after_deed, after_ops, can_touch, may_make}
-use Rattle.board_model.specs.Worth.{after_deed as value_after_deed, after_ops as value_after}
+use Rattle.world_model.specs.Updates.{table_after_deed, table_after_ops, can_touch, may_make}
+use Rattle.board_rules.specs.Right.{with_worths}
+use Rattle.board_rules.specs.Worth.{after_deed as value_after_deed, after_ops as value_after}
 use Rattle.tree_laws.proofs.Tables.{replaced_other, replaced_same}
 
 -- the versions held ascend, and the first is at most low
@@ -107,7 +108,7 @@ turned false false y z = refl
 -- an operation that may be made
 made_by : (low : ℕ) (u v : Version) (n x : ItemNo) (deed : Deed) (items : Table) (w : Value) → Each (IsFrom low) items → low ≤ u.0
     → may_make v n deed items ≡ true → seen_in u x items ≡ Some w
-    → seen_in u x (after_deed v n deed items)
+    → seen_in u x (table_after_deed v n deed items)
     ≡ Some (if nat_le v.0 u.0 then (if n.0 == x.0 then value_after_deed deed w else w) else w)
 made_by low u v n x (Apply op) items w all le may is =
     touch_by low u v n x op items w (item_in n items) all le refl may is
@@ -123,16 +124,16 @@ from_by low v n op items (Some held) all here =
     each-replaced (IsFrom low) n (touched v op held) items (from_touched low v op held (each-item (IsFrom low) n items held here all)) all
 
 from_deed : (low : ℕ) (v : Version) (n : ItemNo) (deed : Deed) (items : Table) → Each (IsFrom low) items
-    → Each (IsFrom low) (after_deed v n deed items)
+    → Each (IsFrom low) (table_after_deed v n deed items)
 from_deed low v n (Apply op) items all = from_by low v n op items (item_in n items) all refl
 from_deed low v n Get items all = all
 from_deed low v n (Set a) items all = all
 from_deed low v n (Draw a) items all = all
 
 -- operations keep the order of versions, and the first of them
-pub from_ops : (low : ℕ) (v : Version) (os : List SubOp) (items : Table) → Each (IsFrom low) items → Each (IsFrom low) (after_ops v os items)
+pub from_ops : (low : ℕ) (v : Version) (os : List SubOp) (items : Table) → Each (IsFrom low) items → Each (IsFrom low) (table_after_ops v os items)
 from_ops low v [] items all = all
-from_ops low v (o ∷ os) items all = from_ops low v os (after_deed v o.item o.deed items) (from_deed low v o.item o.deed items all)
+from_ops low v (o ∷ os) items all = from_ops low v os (table_after_deed v o.item o.deed items) (from_deed low v o.item o.deed items all)
 
 rest_by : (x : ℕ) (os : List SubOp) (y w : Value) (test : Bool)
     → (if test then value_after x os (if test then y else w) else (if test then y else w)) ≡ (if test then value_after x os y else w)
@@ -146,22 +147,17 @@ both_same w false = refl
 -- what is seen of an item after operations in version v: in v and later ones, with those on the item
 pub seen_ops : (low : ℕ) (u v : Version) (x : ItemNo) (os : List SubOp) (items : Table) (w : Value) → Each (IsFrom low) items → low ≤ u.0
     → can_touch v os items ≡ true → seen_in u x items ≡ Some w
-    → seen_in u x (after_ops v os items) ≡ Some (if nat_le v.0 u.0 then value_after x.0 os w else w)
+    → seen_in u x (table_after_ops v os items) ≡ Some (if nat_le v.0 u.0 then value_after x.0 os w else w)
 seen_ops low u v x [] items w all le can is = is ∙ both_same w (nat_le v.0 u.0)
 seen_ops low u v x (o ∷ os) items w all le can is =
-    let parts = and_parts (may_make v o.item o.deed items) (can_touch v os (after_deed v o.item o.deed items)) can in
+    let parts = and_parts (may_make v o.item o.deed items) (can_touch v os (table_after_deed v o.item o.deed items)) can in
     let y = if o.item.0 == x.0 then value_after_deed o.deed w else w in
     let one = made_by low u v o.item x o.deed items w all le parts.0 is in
     let more = from_deed low v o.item o.deed items all in
-    seen_ops low u v x os (after_deed v o.item o.deed items) (if nat_le v.0 u.0 then y else w) more le parts.1 one
+    seen_ops low u v x os (table_after_deed v o.item o.deed items) (if nat_le v.0 u.0 then y else w) more le parts.1 one
     ∙ ap (λ (z : Value). Some z) (rest_by x.0 os y w (nat_le v.0 u.0))
 
 -- Gets.
--- the items of operations with these values
-abbrev pub valued : (ℕ → Value) → List SubOp → Gets
-valued f [] = []
-valued f (o ∷ os) = (o.item, f o.item.0) ∷ valued f os
-
 got : (v : Version) (x : ItemNo) (deed : Deed) (items : Table) (w : Value) → seen_in v x items ≡ Some w
     → is_some (got_by_deed v x deed items) ≡ true → got_by_deed v x deed items ≡ Some w
 got v x Get items w is some = is
@@ -175,9 +171,9 @@ with_got x found w rest more is same = rw (is, same) refl
 
 -- gets that find these values give them
 pub gets_valued : (f : ℕ → Value) (v : Version) (os : List SubOp) (items : Table) → can_get v os items ≡ true
-    → AllByRecursion (λ (o : SubOp). seen_in v o.item items ≡ Some (f o.item.0)) os → gets v os items ≡ valued f os
+    → AllByRecursion (λ (o : SubOp). seen_in v o.item items ≡ Some (f o.item.0)) os → gets v os items ≡ with_worths f os
 gets_valued f v [] items can all = refl
 gets_valued f v (o ∷ os) items can all =
     let parts = and_parts (is_some (got_by_deed v o.item o.deed items)) (can_get v os items) can in
-    with_got o.item (got_by_deed v o.item o.deed items) (f o.item.0) (gets v os items) (valued f os)
+    with_got o.item (got_by_deed v o.item o.deed items) (f o.item.0) (gets v os items) (with_worths f os)
     (got v o.item o.deed items (f o.item.0) all.0 parts.0) (gets_valued f v os items parts.1 all.1)

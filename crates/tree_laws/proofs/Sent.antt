@@ -10,10 +10,10 @@ use Rattle.tx_trees.specs.declared.parts.ScriptRow.TheVariants.{Tree as TreeRow,
 use Rattle.tx_trees.specs.declared.parts.Sub.{Sub}
 use Rattle.world_model.specs.Counts.{tally, one_if}
 use Rattle.world_model.proofs.Bags.{tally-append}
-use Rattle.tree_step.specs.Children.{sub_letters}
-use Rattle.client_rows.specs.Client.{rows_letters}
+use Rattle.world_model.specs.Children.{sub_letters}
+use Rattle.world_model.specs.Client.{rows_letters}
 use Rattle.world_model.proofs.Sends.{on, roots_none}
-use Rattle.tree_laws.specs.Dids.{asks, rooted}
+use Rattle.tree_laws.specs.Dids.{asks, roots_sent}
 
 -- The children of a subtransaction.
 pub other_tree : (t u k i : ℕ) → u ≢ t → one_if ((u == t) && (i == k)) ≡ 0
@@ -134,14 +134,14 @@ root_here : (t u : ℕ) → one_if ((u == t) && (0 == 0)) ≡ one_if (u == t)
 root_here t u = grind (arith, nat_tests)
 
 -- the letters of rows ask for a tree's root as often as the rows do
-pub roots_of_rows : (s : ScriptData) (t : ℕ) (rows : List ScriptRow) → tally (on (asks t 0)) (rows_letters s rows) ≡ rooted t rows
+pub roots_of_rows : (s : ScriptData) (t : ℕ) (rows : List ScriptRow) → tally (on (asks t 0)) (rows_letters s rows) ≡ roots_sent t rows
 roots_of_rows s t [] = refl
 roots_of_rows s t (TreeRow u ∷ rows) = omega (arith, root_here t u.0, roots_of_rows s t rows)
 roots_of_rows s t (Advance ∷ rows) = omega (arith, roots_of_rows s t rows)
 roots_of_rows s t (Settle ∷ rows) = omega (arith, roots_of_rows s t rows)
 roots_of_rows s t (Lose ∷ rows) = omega (arith, roots_of_rows s t rows)
 
-rooted_before : (t i n : ℕ) (rows : List ScriptRow) → NamesInOrder i n rows → t < i → rooted t rows ≡ 0
+rooted_before : (t i n : ℕ) (rows : List ScriptRow) → NamesInOrder i n rows → t < i → roots_sent t rows ≡ 0
 rooted_before t i n [] names lt = refl
 rooted_before t i n (TreeRow u ∷ rows) names lt =
     let none : one_if (u.0 == t) ≡ 0 = not_here t u.0 (omega (arith, names.0)) in
@@ -151,7 +151,7 @@ rooted_before t i n (Settle ∷ rows) names lt = omega (arith, rooted_before t i
 rooted_before t i n (Lose ∷ rows) names lt = omega (arith, rooted_before t i n rows names lt)
 
 rooted_at : (t i n u : ℕ) (rows : List ScriptRow) → NamesInOrder (i + 1) n rows → u ≡ i → (test : Bool) → (u == t) ≡ test
-    → (i < t → rooted t rows ≡ 1) → i ≤ t → one_if (u == t) + rooted t rows ≡ 1
+    → (i < t → roots_sent t rows ≡ 1) → i ≤ t → one_if (u == t) + roots_sent t rows ≡ 1
 rooted_at t i n u rows names ui true is rest le =
     let eq : u ≡ t = grind (arith, nat_tests) in
     rw is (omega (arith, rooted_before t (i + 1) n rows names (omega arith)))
@@ -159,7 +159,7 @@ rooted_at t i n u rows names ui false is rest le =
     let ne : u ≢ t = grind (arith, nat_tests) in
     rw is (omega (arith, rest (omega arith)))
 
-rooted_from : (t i n : ℕ) (rows : List ScriptRow) → NamesInOrder i n rows → i ≤ t → t < n → rooted t rows ≡ 1
+rooted_from : (t i n : ℕ) (rows : List ScriptRow) → NamesInOrder i n rows → i ≤ t → t < n → roots_sent t rows ≡ 1
 rooted_from t i n [] names le lt = absurd (omega (arith, names))
 rooted_from t i n (TreeRow u ∷ rows) names le lt =
     rooted_at t i n u.0 rows names.1 names.0 (u.0 == t) refl (λ less. rooted_from t (i + 1) n rows names.1 (omega arith) lt) le
@@ -168,7 +168,7 @@ rooted_from t i n (Settle ∷ rows) names le lt = omega (arith, rooted_from t i 
 rooted_from t i n (Lose ∷ rows) names le lt = omega (arith, rooted_from t i n rows names le lt)
 
 -- the rows ask for each tree's root once
-pub rooted_once : (n t : ℕ) (rows : List ScriptRow) → NamesInOrder 0 n rows → t < n → rooted t rows ≡ 1
+pub rooted_once : (n t : ℕ) (rows : List ScriptRow) → NamesInOrder 0 n rows → t < n → roots_sent t rows ≡ 1
 rooted_once n t rows names lt = rooted_from t 0 n rows names (omega arith) lt
 
 -- Rows that are submitted one after the other.

@@ -11,12 +11,12 @@ use Rattle.tree_home.specs.declared.homes.OpenTree.{OpenTree}
 use Rattle.tree_home.specs.Homes.{begun, Gets, home_in, misses, missing_count, new_tree, OpenTrees, with_notice}
 use Rattle.tree_home.proofs.Always.{begun-there, forgotten-begun, forgotten-gone, all-missing}
 use Rattle.tree_home.proofs.Gathered.{home_in-noted, missing_in-noted}
-use Rattle.tree_step.specs.Notices.{homes_noted, answer_noted, reply_letters}
+use Rattle.world_model.specs.Notices.{homes_noted, answer_noted, reply_letters}
 use Rattle.letter_types.specs.declared.entries.Entry.{Entry}
 use Rattle.tx_trees.specs.ScriptData.{ScriptData, subs_at, home_of, client_of}
 use Rattle.world_model.specs.Counts.{tally, one_if}
 use Rattle.world_model.specs.Runs.{node_in, MayFollow}
-use Rattle.tree_laws.specs.Dids.{is_did, dids, tells_done, notices, replies_to, answers}
+use Rattle.tree_laws.specs.Dids.{is_did_act, dids, tells_done, notices, replies_to, answers}
 use Rattle.tree_laws.proofs.Answering.{answers_tree, reply_one}
 use Rattle.world_model.proofs.Flows.{flow}
 use Rattle.tree_laws.proofs.Good.{TreeAt, Unborn, Gathers, Answered, is_noted}
@@ -30,7 +30,7 @@ home_now s past t = home_in (record { 0 = t }) (node_in s past (home_of s t)).ho
 
 -- the entry has nothing to do with tree t
 pub record Apart (s : ScriptData) (past : List Entry) (e : Entry) (t : ℕ) : Type 0 where
-  pub did : (k : ℕ) → tally (is_did t k) e.acts ≡ 0
+  pub did : (k : ℕ) → tally (is_did_act t k) e.acts ≡ 0
   pub home : home_now s (e ∷ past) t ≡ home_now s past t
   pub answers : tally (on (replies_to t)) e.sent ≡ 0
   pub told : (k : ℕ) → tells_done t k e.took.body ≡ 0
@@ -51,11 +51,11 @@ stays s past e t m a (Answered home one notes all) =
 
 -- a subtransaction of tree t other than its root is done, and its notice is sent
 pub record Adds (s : ScriptData) (past : List Entry) (e : Entry) (t : ℕ) : Type 0 where
-  pub root : tally (is_did t 0) e.acts ≡ 0
+  pub root : tally (is_did_act t 0) e.acts ≡ 0
   pub home : home_now s (e ∷ past) t ≡ home_now s past t
   pub answers : tally (on (replies_to t)) e.sent ≡ 0
   pub told : (k : ℕ) → tells_done t k e.took.body ≡ 0
-  pub notes : (k : ℕ) → tally (on (tells_done t k)) e.sent ≡ tally (is_did t k) e.acts
+  pub notes : (k : ℕ) → tally (on (tells_done t k)) e.sent ≡ tally (is_did_act t k) e.acts
 
 -- a tree that gathers gathers on
 pub adds : (s : ScriptData) (past : List Entry) (e : Entry) (t k : ℕ) → SubAt s t k → dids past t k ≡ 0 → 1 ≤ dids past t 0
@@ -68,7 +68,7 @@ adds s past e t k c new root m a (Answered home one notes all) = absurd (omega (
 
 -- Tree t's root is done: all of it is missing but the root.
 pub record Begins (s : ScriptData) (past : List Entry) (e : Entry) (t : TreeNo) (v : Version) (values : Gets) (hs : OpenTrees) : Type 0 where
-  pub did : (k : ℕ) → tally (is_did t.0 k) e.acts ≡ one_if ((t.0 == t.0) && (0 == k))
+  pub did : (k : ℕ) → tally (is_did_act t.0 k) e.acts ≡ one_if ((t.0 == t.0) && (0 == k))
   pub home : home_now s (e ∷ past) t.0 ≡ home_in t (homes_noted t (record { 0 = 0 }) values (begun t (length (subs_at s t.0)) v hs))
   pub answers : tally (on (replies_to t.0)) e.sent
       ≡ tally (on (replies_to t.0)) (reply_letters (client_of s) (answer_noted t (record { 0 = 0 }) values (begun t (length (subs_at s t.0)) v hs)))
@@ -139,7 +139,7 @@ begins_by s past e t v values hs c undone notes quiet m b miss (Last a is answer
 
 -- Tree t takes down the notice of subtransaction k.
 pub record Notes (s : ScriptData) (past : List Entry) (e : Entry) (t : TreeNo) (k : SubNo) (values : Gets) (hs : OpenTrees) : Type 0 where
-  pub did : (i : ℕ) → tally (is_did t.0 i) e.acts ≡ 0
+  pub did : (i : ℕ) → tally (is_did_act t.0 i) e.acts ≡ 0
   pub home : home_now s (e ∷ past) t.0 ≡ home_in t (homes_noted t k values hs)
   pub answers : tally (on (replies_to t.0)) e.sent
       ≡ tally (on (replies_to t.0)) (reply_letters (client_of s) (answer_noted t k values hs))

@@ -12,11 +12,11 @@ use Rattle.letter_types.specs.declared.entries.Entry.{Entry}
 use Rattle.letter_types.specs.declared.entries.Letter.{Letter}
 use Rattle.letter_types.specs.Steps.{Out}
 use Rattle.tx_trees.specs.ScriptData.{ScriptData, client_of}
-use Rattle.tree_step.specs.Node.{Node}
-use Rattle.tree_step.specs.Apt.{is_timely}
-use Rattle.node_step.specs.Apt.{is_apt, node_row}
-use Rattle.node_step.specs.Advancing.{turn_row, show_row, sweep_row, done_row, asked_row}
-use Rattle.client_rows.specs.Client.{Client, client_row, submit, with_answer, nudge}
+use Rattle.world_model.specs.Node.{Node}
+use Rattle.world_model.specs.Named.{is_timely}
+use Rattle.world_model.specs.Apt.{is_apt, node_row}
+use Rattle.world_model.specs.Advancing.{turn_row, show_row, sweep_row, done_row, asked_row}
+use Rattle.world_model.specs.Client.{Client, client_row, submit, with_answer, nudge}
 use Rattle.world_model.specs.Tables.{client_table, coordinator_table}
 use Rattle.world_model.specs.Runs.{client_in, coordinator_in, node_in, Says, Moves, AtNode, AtCoordinator, AtClient, MayFollow}
 use Rattle.world_model.proofs.Every.{NodeNext, Stays, Moved, node_next}

@@ -8,12 +8,12 @@ use Rattle.tree_home.specs.Homes.{home_in}
 use Rattle.letter_types.specs.declared.bodies.Body.TheVariants.{Sub as SubLetter}
 use Rattle.letter_types.specs.declared.entries.Entry.{Entry}
 use Rattle.tx_trees.specs.ScriptData.{ScriptData, subs_at, node_of, home_of}
-use Rattle.tree_step.specs.Node.{Effect, Node}
-use Rattle.tree_step.specs.Children.{sub_letters, done_letter}
-use Rattle.tree_step.specs.Done.{sub_done}
+use Rattle.world_model.specs.Node.{Effect, Node}
+use Rattle.world_model.specs.Children.{sub_letters, done_letter}
+use Rattle.world_model.specs.Done.{sub_done}
 use Rattle.world_model.specs.Counts.{tally, one_if}
 use Rattle.world_model.specs.Runs.{node_in, MayFollow}
-use Rattle.tree_laws.specs.Dids.{asks, asked, dids, tells_done, replies_to}
+use Rattle.tree_laws.specs.Dids.{asks, letters_asking, dids, tells_done, replies_to}
 use Rattle.tree_laws.proofs.Counts.{below_root, not_done, one_here, was_asked, parent_at}
 use Rattle.tree_laws.proofs.Doing.{sub_sends, sub_does}
 use Rattle.world_model.proofs.Fits.{IsSentFit}
@@ -84,7 +84,7 @@ sub_adds s past e t k v raises effect later does is made = record {
 }
 
 -- the root of what is asked for was done
-root_was : (s : ScriptData) (past : List Entry) (t k : ℕ) (c : SubAt s t k) → 0 < k → IsSound s → IsGood s past → 1 ≤ asked s past t k
+root_was : (s : ScriptData) (past : List Entry) (t k : ℕ) (c : SubAt s t k) → 0 < k → IsSound s → IsGood s past → 1 ≤ letters_asking s past t k
     → 1 ≤ dids past t 0
 root_was s past t k c later sound good some =
     omega (arith, good.subs t k c later, below_root s past t c.sub.parent.0 (parent_at s t k c sound later) sound good)
@@ -104,9 +104,9 @@ pub sub_good : (s : ScriptData) (past : List Entry) (e : Entry) (t : TreeNo) (k 
     → 0 < k.0 → e.actor.0 ≡ node_of s t.0 k.0 → SubWork s t.0 k.0 (node_in s past (node_of s t.0 k.0)) v raises effect
     → SubMade s past e t k v raises effect → IsGood s (e ∷ past)
 sub_good s past e t k v raises effect sound good m is c later at work made =
-    let asked = was_asked s past e t.0 k.0 m (ap (asks t.0 k.0) is ∙ one_here t.0 k.0) in
-    let none = not_done s past t.0 k.0 c sound good asked in
-    let root = root_was s past t.0 k.0 c later sound good asked in
+    let letters_asking = was_asked s past e t.0 k.0 m (ap (asks t.0 k.0) is ∙ one_here t.0 k.0) in
+    let none = not_done s past t.0 k.0 c sound good letters_asking in
+    let root = root_was s past t.0 k.0 c later sound good letters_asking in
     let does = sub_does s past e t k v raises effect c later sound good none is at work made in
     let p = node_of s t.0 k.0 in
     let below = node_below s t.0 k.0 c sound in

@@ -6,7 +6,7 @@ use Rattle.std.proofs.lemmas.Bool.Decides.{nat_tests}
 use Rattle.std.proofs.lemmas.Bool.{and_from}
 use Rattle.tv_base.specs.declared.numbers.ItemNo.{ItemNo}
 use Rattle.tv_base.specs.declared.numbers.Version.{Version}
-use Rattle.commute_ops.specs.Ops.{start}
+use Rattle.commute_ops.specs.Ops.{value_start}
 use Rattle.commute_ops.specs.declared.kinds.Kind.{Kind}
 use Rattle.commute_ops.specs.declared.kinds.Op.{Op}
 use Rattle.commute_ops.specs.declared.kinds.TheConstants.{MOST_AMOUNT}
@@ -19,9 +19,9 @@ use Rattle.tx_trees.specs.declared.parts.ItemRow.{ItemRow}
 use Rattle.tx_trees.specs.declared.parts.SubOp.{SubOp}
 use Rattle.tx_trees.specs.declared.parts.TreeKind.TheVariants as trees
 use Rattle.world_model.specs.Tables.{items_at}
-use Rattle.version_collect.specs.Collecting.{collected_all}
+use Rattle.item_versions.specs.Collecting.{collected_all}
 use Rattle.tree_laws.proofs.Values.{HeldIn, collected_held, held_more, held_may, touched_held, start_value, value_more}
-use Rattle.update_step.specs.Rows.{may_make, after_deed, can_touch, after_ops}
+use Rattle.world_model.specs.Updates.{may_make, table_after_deed, can_touch, table_after_ops}
 
 -- the item is there, and its values keep to the bound
 abbrev pub ItemIn : Kind → ℕ → Option Held → Type 0
@@ -63,7 +63,7 @@ bound_after bound n m x = bound x + (if n == x then m else 0)
 
 -- an operation may be made, and the items keep to their bounds after it
 abbrev Makes : List ItemRow → ℕ → (ℕ → ℕ) → Version → ItemNo → Deed → Table → Type 0
-Makes rows p bound v n deed items = (may_make v n deed items ≡ true) × TableIn rows p bound (after_deed v n deed items)
+Makes rows p bound v n deed items = (may_make v n deed items ≡ true) × TableIn rows p bound (table_after_deed v n deed items)
 
 same_row : (x y : ItemRow) → Some x ≡ Some y → x ≡ y
 same_row x y is = cc is
@@ -157,14 +157,14 @@ pub touched_table : (rows : List ItemRow) (p : ℕ) (bound : ℕ → ℕ) (v : V
     → AllByRecursion (IsOp rows trees.Update p) os
     → ((x : ℕ) (r : ItemRow) → slice_get rows x ≡ Some r → bound x + ops_load x os ≤ MOST_AMOUNT)
     → TableIn rows p bound items
-    → (can_touch v os items ≡ true) × TableIn rows p (bounds_after bound os) (after_ops v os items)
+    → (can_touch v os items ≡ true) × TableIn rows p (bounds_after bound os) (table_after_ops v os items)
 touched_table rows p bound v [] items ops most all = (refl, table_same rows p bound (bounds_after bound []) items (λ x. omega arith) all)
 touched_table rows p bound v (o ∷ os) items ops most all =
     let first = bound_after bound o.item.0 (magnitude o.deed) in
     let one = one_of rows p bound v o items (slice_get rows o.item.0) refl ops.0 (first_load rows p bound o os (slice_get rows o.item.0) refl ops.0 most) all in
-    let rest = touched_table rows p first v os (after_deed v o.item o.deed items) ops.1 (λ x r at. omega (arith, most x r at)) one.1 in (
-      and_from (may_make v o.item o.deed items) (can_touch v os (after_deed v o.item o.deed items)) one.0 rest.0,
-      table_same rows p (bounds_after first os) (bounds_after bound (o ∷ os)) (after_ops v os (after_deed v o.item o.deed items)) (λ x. omega arith) rest.1,
+    let rest = touched_table rows p first v os (table_after_deed v o.item o.deed items) ops.1 (λ x r at. omega (arith, most x r at)) one.1 in (
+      and_from (may_make v o.item o.deed items) (can_touch v os (table_after_deed v o.item o.deed items)) one.0 rest.0,
+      table_same rows p (bounds_after first os) (bounds_after bound (o ∷ os)) (table_after_ops v os (table_after_deed v o.item o.deed items)) (λ x. omega arith) rest.1,
     )
 
 -- At the start.
@@ -176,8 +176,8 @@ start_same_at : (p i x : ℕ) (bound : ℕ → ℕ) (r q : ItemRow) (rows : List
     → (test : Bool) → (r.node.0 == p) ≡ test → ItemIn q.kind (bound x) (item_in (record { 0 = x }) (items_at p i (r ∷ rows)))
 start_same_at p i x bound r q rows rq node ix most true is =
     let here : (i == x) ≡ true = grind (arith, nat_tests) in
-    let good : HeldIn q.kind (bound x) ((record { 0 = 0 }, start q.kind q.initial) ∷ []) = (value_more q.kind (unsigned_abs q.initial) (bound x) (start q.kind q.initial) most (start_value q.kind q.initial), tt) in
-    rw is (rw here (subst (λ (z : ItemRow). HeldIn q.kind (bound x) ((record { 0 = 0 }, start z.kind z.initial) ∷ [])) (sym rq) good))
+    let good : HeldIn q.kind (bound x) ((record { 0 = 0 }, value_start q.kind q.initial) ∷ []) = (value_more q.kind (unsigned_abs q.initial) (bound x) (value_start q.kind q.initial) most (start_value q.kind q.initial), tt) in
+    rw is (rw here (subst (λ (z : ItemRow). HeldIn q.kind (bound x) ((record { 0 = 0 }, value_start z.kind z.initial) ∷ [])) (sym rq) good))
 start_same_at p i x bound r q rows rq node ix most false is =
     let at : r.node.0 ≡ p = ap (λ (z : ItemRow). z.node.0) rq ∙ node in
     absurd (omega (arith, other_node r.node.0 p is))

@@ -6,7 +6,7 @@ use Rattle.tv_base.specs.declared.numbers.SubNo.{SubNo}
 use Rattle.tv_base.specs.declared.numbers.TreeNo.{TreeNo}
 use Rattle.tv_base.specs.declared.numbers.Version.{Version}
 use Rattle.node_versions.specs.declared.turns.Turns.{Turns}
-use Rattle.node_versions.specs.Turns.{start as first_turns}
+use Rattle.node_versions.specs.Turns.{turns_start as first_turns}
 use Rattle.letter_types.specs.declared.bodies.Answer.{Answer}
 use Rattle.letter_types.specs.declared.bodies.Notice.TheVariants.{Did as DidNotice}
 use Rattle.tree_home.specs.Homes.{Gets, home_in, misses}
@@ -23,13 +23,13 @@ use Rattle.tx_trees.specs.declared.parts.ScriptRow.{ScriptRow}
 use Rattle.tx_trees.specs.declared.parts.ScriptRow.TheVariants.{Tree as TreeRow, Advance as AdvanceRow, Settle as SettleRow, Lose as LoseRow}
 use Rattle.tx_trees.specs.declared.parts.Sub.{Sub}
 use Rattle.tree_home.specs.declared.homes.Answered.{Answered}
-use Rattle.tree_step.specs.Apt.{is_timely}
-use Rattle.tree_step.specs.Children.{sub_letters, done_letter}
-use Rattle.tree_step.specs.Done.{note_done, raised_if, root_done, sub_done}
-use Rattle.tree_step.specs.Node.{Effect, Node}
-use Rattle.tree_step.specs.Notices.{answer_noted, reply_letters}
-use Rattle.advance_coord.specs.Coordinator.{Coordinator, coordinator_row, start_coordinator}
-use Rattle.client_rows.specs.Client.{Client, nudge, rows_letters, submit, submitted, with_answer}
+use Rattle.world_model.specs.Named.{is_timely}
+use Rattle.world_model.specs.Children.{sub_letters, done_letter}
+use Rattle.world_model.specs.Done.{note_done, raised_if, root_done, sub_done}
+use Rattle.world_model.specs.Node.{Effect, Node}
+use Rattle.world_model.specs.Notices.{answer_noted, reply_letters}
+use Rattle.world_model.specs.Coordinator.{Coordinator, coordinator_row, start_coordinator}
+use Rattle.world_model.specs.Client.{Client, nudge, rows_letters, submit, submitted, with_answer}
 use Rattle.world_model.specs.Counts.{Each}
 use Rattle.world_model.specs.Runs.{client_in, coordinator_in, node_in, waiting, MayFollow, IsStepRun}
 use Rattle.world_model.specs.Tables.{coordinator_table}

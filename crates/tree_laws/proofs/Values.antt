@@ -4,9 +4,10 @@ use Rattle.std.specs.Prelude.{ℤ, ◌+ℤ◌, if◌then◌else◌, nat_le, nat_
 use Rattle.std.specs.List.{filter}
 use Rattle.std.proofs.lemmas.Bool.Decides.{nat_tests}
 use Rattle.std.proofs.lemmas.Bool.{and_from, or_right}
+use Rattle.std.proofs.lemmas.Int.{ints}
 use Rattle.tv_base.specs.declared.numbers.Version.{Version}
 use Rattle.commute_ops.specs.Numbers.{is_within}
-use Rattle.commute_ops.specs.Ops.{applied, may_apply, start}
+use Rattle.commute_ops.specs.Ops.{applied, may_apply, value_start}
 use Rattle.commute_ops.specs.declared.kinds.Kind.{Kind}
 use Rattle.commute_ops.specs.declared.kinds.Kind.TheVariants.{Sum as SumKind, Top as TopKind, Bag as BagKind}
 use Rattle.commute_ops.specs.declared.kinds.Op.{Op}
@@ -14,7 +15,6 @@ use Rattle.commute_ops.specs.declared.kinds.Op.TheVariants.{Add, Top as Raise, P
 use Rattle.commute_ops.specs.declared.kinds.TheConstants.{MOST_AMOUNT}
 use Rattle.commute_ops.specs.declared.value.Value.{Value}
 use Rattle.commute_ops.specs.declared.value.Value.TheVariants.{Sum, Top, Bag}
-use Rattle.board_model.proofs.Bounds.{abs_add}
 use Rattle.item_versions.specs.Item.{Held, seen_after, below, above, applied_to_all, collected, touched, may_apply_above, may_touch}
 use Rattle.tx_trees.specs.Valid.{op_fits, op_magnitude}
 use Rattle.world_model.specs.Counts.{Each}
@@ -62,7 +62,7 @@ may_apply_value BagKind op b (Sum z) fit ok most = absurd ok
 may_apply_value BagKind op b (Top z) fit ok most = absurd ok
 
 sum_more : (z a : ℤ) (b : ℕ) → unsigned_abs z ≤ b → unsigned_abs (z +ℤ a) ≤ b + unsigned_abs a
-sum_more z a b le = omega (arith, abs_add z a)
+sum_more z a b le = omega (arith, ints)
 
 pub applied_value : (kind : Kind) (op : Op) (b : ℕ) (w : Value) → op_fits kind op ≡ true → ValueIn kind b w
     → ValueIn kind (b + op_magnitude op) (applied w op)
@@ -82,7 +82,7 @@ applied_value TopKind op b (Bag zs) fit ok = absurd ok
 applied_value BagKind op b (Sum z) fit ok = absurd ok
 applied_value BagKind op b (Top z) fit ok = absurd ok
 
-pub start_value : (kind : Kind) (n : ℤ) → ValueIn kind (unsigned_abs n) (start kind n)
+pub start_value : (kind : Kind) (n : ℤ) → ValueIn kind (unsigned_abs n) (value_start kind n)
 start_value SumKind n = omega arith
 start_value TopKind n = tt
 start_value BagKind n = tt

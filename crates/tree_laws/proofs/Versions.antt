@@ -14,20 +14,20 @@ use Rattle.letter_types.specs.declared.entries.Entry.{Entry}
 use Rattle.letter_types.specs.declared.entries.Letter.{Letter}
 use Rattle.letter_types.specs.declared.entries.LetterId.{LetterId}
 use Rattle.letter_types.specs.declared.entries.Outgoing.{Outgoing}
-use Rattle.client_rows.specs.Client.{Client, finishes, next_after, nudge, rows_letters, submit, submitted, with_answer, with_end}
+use Rattle.world_model.specs.Client.{Client, client_finishes, next_after, nudge, rows_letters, submit, submitted, with_answer, with_end}
 use Rattle.tree_home.specs.declared.homes.Answered.{Answered}
 use Rattle.tree_home.specs.Homes.{begun}
-use Rattle.tree_step.specs.Children.{sub_letters, done_letter}
-use Rattle.tree_step.specs.Done.{root_done, sub_done, turned_if}
+use Rattle.world_model.specs.Children.{sub_letters, done_letter}
+use Rattle.world_model.specs.Done.{root_done, sub_done, turned_if}
 use Rattle.letter_types.specs.Steps.{Out}
-use Rattle.tree_step.specs.Node.{Effect, Node}
-use Rattle.tree_step.specs.Notices.{answer_noted, reply_letters}
+use Rattle.world_model.specs.Node.{Effect, Node}
+use Rattle.world_model.specs.Notices.{answer_noted, reply_letters}
 use Rattle.tx_trees.specs.ScriptData.{ScriptData, client_of, home_of, node_of, reads, subs_at, updates}
 use Rattle.tx_trees.specs.declared.parts.ScriptRow.{ScriptRow}
 use Rattle.tx_trees.specs.declared.parts.ScriptRow.TheVariants.{Tree as TreeRow, Advance, Settle, Lose}
 use Rattle.tx_trees.specs.declared.parts.Sub.{Sub}
-use Rattle.board_model.specs.Histories.{Place, born_as, places_at, places_of, version_in}
-use Rattle.board_model.proofs.Places.{version_in-append}
+use Rattle.board_rules.specs.Histories.{Place, born_as, places_at, places_of, version_in}
+use Rattle.board_rules.proofs.Places.{version_in-append}
 use Rattle.world_model.specs.Counts.{Each, one_if, tally}
 use Rattle.world_model.specs.Runs.{MayFollow, IsStepRun, client_in, node_in, waiting}
 use Rattle.world_model.proofs.Every.{each_append, each_map, each_step, each_taken}
@@ -239,7 +239,7 @@ client_next : (s : ScriptData) (past : List Entry) (e : Entry) (c : Client) (fir
     → SentVersioned (places_of (reverse past) ++ places_at e) first → AreVersioned s (e ∷ past)
 client_next s past e c first are sent acts one =
     let xs = places_of (reverse past) ++ places_at e in
-    let test = finishes s (next_after s c) c in
+    let test = client_finishes s (next_after s c) c in
     more s past e are
     (subst (λ (acts : List Act). Each (λ (x : Place). IsOfBorn xs x.act) (placed e.actor.0 acts)) (sym acts) (end_deeds xs e.actor.0 test))
     (subst (λ (os : List Outgoing). SentVersioned xs os) (sym sent) (submit_versioned xs s c first one))

@@ -14,16 +14,16 @@ use Rattle.letter_types.specs.declared.entries.Entry.{Entry}
 use Rattle.tx_trees.specs.ScriptData.{ScriptData}
 use Rattle.tx_trees.specs.Valid.{IsValid}
 use Rattle.std.proofs.lemmas.Bool.{or_right}
-use Rattle.board_model.specs.Histories.{Place, places_at, was_done}
-use Rattle.board_model.specs.Right.{IsDoneAtOnce, IsAtOnce}
-use Rattle.board_model.proofs.Places.{was_done-append}
+use Rattle.board_rules.specs.Histories.{Place, places_at, was_done}
+use Rattle.board_rules.specs.Right.{IsDoneAtOnce, IsAtOnce}
+use Rattle.board_rules.proofs.Places.{was_done-append}
 use Rattle.world_model.specs.Runs.{node_in, IsStepRun}
 use Rattle.world_model.specs.Tables.{IsRunnable}
 use Rattle.world_model.proofs.Nexts.{Next, Begins, Hears, Ends, Coordinates, DoesRoot, DoesSub, Notes, Obeys, Order, Turns, Shows, Sweeps, TellsDone, TellsAsked, Tells}
 use Rattle.world_model.specs.Timely.{AllTimely}
 use Rattle.letter_types.specs.Steps.{Out}
-use Rattle.tree_step.specs.Done.{turned_if}
-use Rattle.tree_step.specs.Node.{Node}
+use Rattle.world_model.specs.Done.{turned_if}
+use Rattle.world_model.specs.Node.{Node}
 use Rattle.world_model.proofs.Scripts.{IsSound}
 use Rattle.tree_laws.proofs.Goods.{next_of}
 use Rattle.tree_laws.proofs.Histories.{one_more}

@@ -7,15 +7,15 @@ use Rattle.tv_base.specs.declared.numbers.Version.{Version}
 use Rattle.letter_types.specs.declared.acts.Act.{Act}
 use Rattle.letter_types.specs.declared.acts.Act.TheVariants.{Born, Did, Finished}
 use Rattle.letter_types.specs.declared.entries.Entry.{Entry}
-use Rattle.board_model.specs.Histories.{Place, places_of, born_as, does, version_in, was_done, all_done as all_done_in, is_strict_tree, version_of, IsWhole}
-use Rattle.board_model.specs.Right.{HasFinished}
+use Rattle.board_rules.specs.Histories.{Place, places_of, born_as, does, version_in, was_done, all_done as all_done_in, is_strict_tree, version_of, IsWhole}
+use Rattle.board_rules.specs.Right.{HasFinished}
 use Rattle.tx_trees.specs.ScriptData.{ScriptData, is_strict, subs_at, updates, reads}
 use Rattle.tx_trees.specs.Valid.{IsValid}
 use Rattle.tx_trees.specs.declared.parts.Tree.{Tree}
 use Rattle.world_model.specs.Counts.{tally, one_if}
 use Rattle.world_model.specs.Runs.{IsStepRun}
 use Rattle.world_model.specs.Tables.{IsRunnable}
-use Rattle.tree_laws.specs.Dids.{is_did, is_born, dids, births}
+use Rattle.tree_laws.specs.Dids.{is_did_act, is_born, dids, births}
 use Rattle.tree_laws.proofs.Acts.{of_act, acts_more, counted_any}
 use Rattle.tree_laws.proofs.Finishes.{done_then, finished_by}
 use Rattle.tree_laws.proofs.Goods.{good_run}
@@ -23,22 +23,22 @@ use Rattle.world_model.specs.Timely.{AllTimely}
 use Rattle.world_model.proofs.Scripts.{IsSound, SubAt, get_below, has_root, reads_kind, sub_there, tree_kind, updates_kind}
 
 -- A history counts as its past does.
-pub dids_in : (past : List Entry) (t k : ℕ) → tally (of_act (is_did t k)) (places_of (reverse past)) ≡ dids past t k
+pub dids_in : (past : List Entry) (t k : ℕ) → tally (of_act (is_did_act t k)) (places_of (reverse past)) ≡ dids past t k
 dids_in [] t k = refl
-dids_in (e ∷ past) t k = omega (arith, acts_more (is_did t k) past e, dids_in past t k)
+dids_in (e ∷ past) t k = omega (arith, acts_more (is_did_act t k) past e, dids_in past t k)
 
 pub births_in : (past : List Entry) (t : ℕ) → tally (of_act (is_born t)) (places_of (reverse past)) ≡ births past t
 births_in [] t = refl
 births_in (e ∷ past) t = omega (arith, acts_more (is_born t) past e, births_in past t)
 
 -- What was counted was done.
-pub did_marks : (t k : ℕ) (a : Act) → is_did t k a ≡ one_if (does t k a)
+pub did_marks : (t k : ℕ) (a : Act) → is_did_act t k a ≡ one_if (does t k a)
 did_marks t k (Did u j values) = refl
 did_marks t k Finished = refl
 did_marks t k _ = refl
 
-pub was_done_of : (t k : ℕ) (xs : List Place) → 1 ≤ tally (of_act (is_did t k)) xs → was_done t k xs ≡ true
-was_done_of t k xs some = counted_any (of_act (is_did t k)) (λ (x : Place). does t k x.act) xs (λ x. did_marks t k x.act) some
+pub was_done_of : (t k : ℕ) (xs : List Place) → 1 ≤ tally (of_act (is_did_act t k)) xs → was_done t k xs ≡ true
+was_done_of t k xs some = counted_any (of_act (is_did_act t k)) (λ (x : Place). does t k x.act) xs (λ x. did_marks t k x.act) some
 
 birth_by : (t u : ℕ) (v : Version) (test : Bool) → (u == t) ≡ test → one_if (u == t) ≡ one_if (is_some (if u == t then Some v else None))
 birth_by t u v true is = rw is refl

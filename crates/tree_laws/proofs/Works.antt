@@ -4,9 +4,9 @@ use Rattle.tv_base.specs.declared.numbers.Version.{Version}
 use Rattle.letter_types.specs.declared.entries.Entry.{Entry}
 use Rattle.tx_trees.specs.ScriptData.{ScriptData, node_of, home_of, ops_of, updates, reads}
 use Rattle.tx_trees.specs.declared.parts.TreeKind.TheVariants as trees
-use Rattle.tree_step.specs.Node.{Effect}
-use Rattle.read_step.specs.Rows.{can_get}
-use Rattle.update_step.specs.Rows.{can_touch, after_ops}
+use Rattle.world_model.specs.Node.{Effect}
+use Rattle.world_model.specs.Reads.{can_get}
+use Rattle.world_model.specs.Updates.{can_touch, table_after_ops}
 use Rattle.world_model.specs.Runs.{node_in}
 use Rattle.tree_laws.specs.Dids.{dids}
 use Rattle.tree_laws.proofs.Counts.{bounds_with, within_most}
@@ -20,7 +20,7 @@ use Rattle.tree_laws.proofs.Tables.{TableIn, touched_table, table_more}
 touched_fits : (s : ScriptData) (past : List Entry) (t k : ℕ) (v : Version) (c : SubAt s t k) → IsSound s → IsGood s past
     → dids past t k ≡ 0 → updates s t ≡ true
     → (can_touch v (ops_of s t k) (node_in s past (node_of s t k)).items ≡ true)
-    × TableIn s.items (node_of s t k) (bounds_with s past t k) (after_ops v (ops_of s t k) (node_in s past (node_of s t k)).items)
+    × TableIn s.items (node_of s t k) (bounds_with s past t k) (table_after_ops v (ops_of s t k) (node_in s past (node_of s t k)).items)
 touched_fits s past t k v c sound good none up =
     let p = node_of s t k in
     touched_table s.items p (bound s past) v (ops_of s t k) (node_in s past p).items (ops_fit s t k trees.Update c sound (updates_kind s t k c up))

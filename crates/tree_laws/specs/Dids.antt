@@ -26,10 +26,10 @@ is_go Nudge = 0
 is_go _ = 0
 
 -- the act of doing subtransaction k of tree t
-abbrev pub is_did : ℕ → ℕ → Act → ℕ
-is_did t k (Did u j values) = one_if ((u.0 == t) && (j.0 == k))
-is_did t k Finished = 0
-is_did t k _ = 0
+abbrev pub is_did_act : ℕ → ℕ → Act → ℕ
+is_did_act t k (Did u j values) = one_if ((u.0 == t) && (j.0 == k))
+is_did_act t k Finished = 0
+is_did_act t k _ = 0
 
 -- the act of bearing tree t
 abbrev pub is_born : ℕ → Act → ℕ
@@ -38,8 +38,8 @@ is_born t Finished = 0
 is_born t _ = 0
 
 -- how many letters under way ask for subtransaction k of tree t
-abbrev pub asked : ScriptData → List Entry → ℕ → ℕ → ℕ
-asked s past t k = tally (λ (l : Letter). asks t k l.body) (waiting s past)
+abbrev pub letters_asking : ScriptData → List Entry → ℕ → ℕ → ℕ
+letters_asking s past t k = tally (λ (l : Letter). asks t k l.body) (waiting s past)
 
 -- how many letters under way are Go
 abbrev pub goes : ScriptData → List Entry → ℕ
@@ -48,7 +48,7 @@ goes s past = tally (λ (l : Letter). is_go l.body) (waiting s past)
 -- how often subtransaction k of tree t was done
 abbrev pub dids : List Entry → ℕ → ℕ → ℕ
 dids [] t k = 0
-dids (e ∷ past) t k = tally (is_did t k) e.acts + dids past t k
+dids (e ∷ past) t k = tally (is_did_act t k) e.acts + dids past t k
 
 -- how often tree t was born
 abbrev pub births : List Entry → ℕ → ℕ
@@ -87,5 +87,5 @@ is_row_of t SettleRow = 0
 is_row_of t _ = 0
 
 -- how many of these rows send the root of tree t
-abbrev pub rooted : ℕ → List ScriptRow → ℕ
-rooted t rows = tally (is_row_of t) rows
+abbrev pub roots_sent : ℕ → List ScriptRow → ℕ
+roots_sent t rows = tally (is_row_of t) rows

@@ -3,7 +3,7 @@ use Rattle.std.specs.Prelude.{ℕ, List}
 use Rattle.letter_types.specs.declared.acts.Act.{Act}
 use Rattle.letter_types.specs.declared.acts.Act.TheVariants.{Born, Finished}
 use Rattle.letter_types.specs.declared.entries.Entry.{Entry}
-use Rattle.board_model.specs.Histories.{Place, places_of}
+use Rattle.board_rules.specs.Histories.{Place, places_of}
 use Rattle.world_model.specs.Counts.{tally}
 
 -- the act of finishing

@@ -4,7 +4,7 @@ use Rattle.letter_types.specs.declared.entries.Entry.{Entry}
 use Rattle.letter_types.specs.Letters.{own}
 use Rattle.tx_trees.specs.Adding.{advances_in, all_subs}
 use Rattle.tx_trees.specs.ScriptData.{ScriptData}
-use Rattle.advance_coord.specs.Coordinator.{start_coordinator}
+use Rattle.world_model.specs.Coordinator.{start_coordinator}
 use Rattle.world_model.specs.Runs.{after}
 use Rattle.world_model.specs.Tables.{coordinator_table}
 

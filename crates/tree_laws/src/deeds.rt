@@ -1,7 +1,7 @@
 // Nothing waits, and nodes see what their own deeds have made.
 ghost use Rattle.std.specs.Prelude.{List, reverse};
 ghost use Rattle.tree_laws.specs.OwnValues.{SeesOwn};
-ghost use Rattle.board_model.specs.Right.{IsAtOnce};
+ghost use Rattle.board_rules.specs.Right.{IsAtOnce};
 ghost use Rattle.letter_types.specs.declared.entries.Entry.{Entry};
 ghost use Rattle.tx_trees.specs.ScriptData.{ScriptData};
 ghost use Rattle.tx_trees.specs.Valid.{IsValid};

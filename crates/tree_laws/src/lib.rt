@@ -5,10 +5,10 @@ mod deeds;
 mod run_ends;
 
 ghost use Rattle.std.specs.Prelude.{◌<◌, ◌∷◌, ℕ, IsTrue, List, length, reverse};
-ghost use Rattle.board_model.specs.Histories.{IsWhole};
-ghost use Rattle.board_model.specs.Right.{HasFinished};
+ghost use Rattle.board_rules.specs.Histories.{IsWhole};
+ghost use Rattle.board_rules.specs.Right.{HasFinished};
 ghost use Rattle.letter_types.specs.declared.entries.Entry.{Entry};
-ghost use Rattle.node_step.specs.Apt.{is_apt};
+ghost use Rattle.world_model.specs.Apt.{is_apt};
 ghost use Rattle.tx_trees.specs.ScriptData.{ScriptData};
 ghost use Rattle.tx_trees.specs.Valid.{IsValid};
 ghost use Rattle.world_model.specs.Runs.{node_in, IsStepRun};

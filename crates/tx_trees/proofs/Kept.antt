@@ -26,7 +26,7 @@ use Rattle.tx_trees.specs.declared.script.Script.TheInside.{Inside}
 use Rattle.script_parts.specs.Adding.{last_kind, on_last, on_last_sub, push_op, push_sub, rooted}
 use Rattle.script_parts.specs.Amounts.{magnitude}
 use Rattle.script_parts.specs.Counts.{advances_in, all_ops, all_subs, loses_in, if_update, one_put, one_strict, strict_trees, trees_puts, update_subs}
-use Rattle.tx_trees.specs.Inside.{IsKept, data_of}
+use Rattle.tx_trees.specs.Inside.{IsKept, script_data}
 use Rattle.script_parts.specs.inside.Passing.{MayAddItem, MayAddOp, MayAddSub, MayAddTree}
 use Rattle.script_parts.specs.ScriptData.{ScriptData}
 use Rattle.script_parts.specs.Valid.{IsValid, initial_load, item_names, load, tree_names, trees_load}
@@ -82,23 +82,23 @@ one_put_small (deeds.Draw a) = omega arith
 
 -- one more item
 pub kept_item : (s : Inside) (items : Vec ItemRow) (names : List (List ℕ)) (totals puts : Vec ℕ) (r : ItemRow) → names ≡ s.item_names ++ r.name ∷ [] → items.items ≡ s.items.items ++ r ∷ []
-    → totals.items ≡ s.totals.items ++ unsigned_abs r.initial ∷ [] → puts.items ≡ s.puts.items ++ 0 ∷ [] → MayAddItem (data_of s) r → IsKept s
+    → totals.items ≡ s.totals.items ++ unsigned_abs r.initial ∷ [] → puts.items ≡ s.puts.items ++ 0 ∷ [] → MayAddItem (script_data s) r → IsKept s
     → IsKept (record s { items = items; item_names = names; totals = totals; puts = puts; begun = false })
 kept_item s items names totals puts r names_are is totals_are puts_are may h =
     let n : ℕ = length s.items.items in
     let len : length items.items ≡ n + 1 = ap length is ∙ omega (arith, length-append s.items.items (r ∷ [])) in
     let idle = trees_before s.nodes s.items.items s.trees.items h.valid.trees in
-    let new : ScriptData = record (data_of s) { items = s.items.items ++ r ∷ []; begun = false } in
+    let new : ScriptData = record (script_data s) { items = s.items.items ++ r ∷ []; begun = false } in
     let fresh : load n new ≡ unsigned_abs r.initial = omega (arith, ap initial_load (slice_get-seam s.items.items [] r), idle.0) in
-    let same : (k : ℕ) → k < n → load k new ≡ load k (data_of s) = λ k lt. omega (arith, ap initial_load (slice_get-old s.items.items (r ∷ []) k lt)) in
-    let loads = cells-push s.totals.items totals.items (unsigned_abs r.initial) n (λ k. load k (data_of s)) (λ k. load k new) totals_are h.len h.totals same fresh in
+    let same : (k : ℕ) → k < n → load k new ≡ load k (script_data s) = λ k lt. omega (arith, ap initial_load (slice_get-old s.items.items (r ∷ []) k lt)) in
+    let loads = cells-push s.totals.items totals.items (unsigned_abs r.initial) n (λ k. load k (script_data s)) (λ k. load k new) totals_are h.len h.totals same fresh in
     let counts = cells-push s.puts.items puts.items 0 n (λ k. trees_puts k s.trees.items) (λ k. trees_puts k s.trees.items) puts_are h.puts_len h.puts (λ k lt. refl) idle.1 in
     record {
-      valid = subst (λ (xs : List ItemRow). IsValid (record (data_of s) { items = xs; begun = false })) (sym is) (valid_item (data_of s) r may h.valid);
+      valid = subst (λ (xs : List ItemRow). IsValid (record (script_data s) { items = xs; begun = false })) (sym is) (valid_item (script_data s) r may h.valid);
       item_names = names_are ∙ ap (λ (x : List (List ℕ)). x ++ r.name ∷ []) h.item_names ∙ sym (ap item_names is ∙ map-append (λ (x : ItemRow). x.name) s.items.items (r ∷ []));
       tree_names = h.tree_names;
       len = omega (arith, h.len, ap length totals_are, length-append s.totals.items (unsigned_abs r.initial ∷ []));
-      totals = λ k lt. loads k (omega arith) ∙ sym (ap (λ (xs : List ItemRow). load k (record (data_of s) { items = xs; begun = false })) is);
+      totals = λ k lt. loads k (omega arith) ∙ sym (ap (λ (xs : List ItemRow). load k (record (script_data s) { items = xs; begun = false })) is);
       puts_len = omega (arith, h.puts_len, ap length puts_are, length-append s.puts.items (0 ∷ []));
       puts = λ k lt. counts k (omega arith);
       subs = h.subs;
@@ -112,16 +112,16 @@ kept_item s items names totals puts r names_are is totals_are puts_are may h =
 -- one more tree, with its root alone
 pub kept_tree : (s : Inside) (trees : Vec Tree) (names : List (List ℕ)) (rs : Vec ScriptRow) (n strict updates : ℕ) (name : List ℕ) (kind : TreeKind) (node : NodeNo)
     → names ≡ s.tree_names ++ name ∷ [] → trees.items ≡ s.trees.items ++ rooted name kind node ∷ [] → rs.items ≡ s.rows.items ++ rows.Tree (record { 0 = length s.trees.items }) ∷ []
-    → n ≡ s.subs + 1 → strict ≡ s.strict + one_strict kind → updates ≡ s.update_subs + if_update kind 1 → MayAddTree (data_of s) name kind node → IsKept s
+    → n ≡ s.subs + 1 → strict ≡ s.strict + one_strict kind → updates ≡ s.update_subs + if_update kind 1 → MayAddTree (script_data s) name kind node → IsKept s
     → IsKept (record s { trees = trees; tree_names = names; rows = rs; begun = true; subs = n; strict = strict; update_subs = updates })
 kept_tree s trees names rs n strict updates name kind node names_are is rows_are n_is strict_is updates_are may h =
     let t : Tree = rooted name kind node in
     let x : Sub = record { parent = record { 0 = 0 }; node = node; ops = [] } in
     let number : TreeNo = record { 0 = length s.trees.items } in
-    let valid = valid_tree (data_of s) name kind node may h.valid in
-    let with_trees = subst (λ (ts : List Tree). IsValid (record (data_of s) { trees = ts; rows = s.rows.items ++ rows.Tree number ∷ []; begun = true })) (sym is) valid in
+    let valid = valid_tree (script_data s) name kind node may h.valid in
+    let with_trees = subst (λ (ts : List Tree). IsValid (record (script_data s) { trees = ts; rows = s.rows.items ++ rows.Tree number ∷ []; begun = true })) (sym is) valid in
     record {
-      valid = subst (λ (xs : List ScriptRow). IsValid (record (data_of s) { trees = trees.items; rows = xs; begun = true })) (sym rows_are) with_trees;
+      valid = subst (λ (xs : List ScriptRow). IsValid (record (script_data s) { trees = trees.items; rows = xs; begun = true })) (sym rows_are) with_trees;
       item_names = h.item_names;
       tree_names = names_are ∙ ap (λ (ns : List (List ℕ)). ns ++ name ∷ []) h.tree_names ∙ sym (ap tree_names is ∙ map-append (λ (u : Tree). u.name) s.trees.items (t ∷ []));
       len = h.len;
@@ -138,13 +138,13 @@ kept_tree s trees names rs n strict updates name kind node names_are is rows_are
 
 -- one more subtransaction of the last tree
 pub kept_sub : (s : Inside) (trees : Vec Tree) (n updates parent : ℕ) (node : NodeNo) (x : Sub) → x ≡ record { parent = record { 0 = parent }; node = node; ops = [] }
-    → trees.items ≡ on_last (push_sub x) s.trees.items → n ≡ s.subs + 1 → updates ≡ s.update_subs + if_update (last_kind s.trees.items) 1 → MayAddSub (data_of s) parent node → IsKept s
+    → trees.items ≡ on_last (push_sub x) s.trees.items → n ≡ s.subs + 1 → updates ≡ s.update_subs + if_update (last_kind s.trees.items) 1 → MayAddSub (script_data s) parent node → IsKept s
     → IsKept (record s { trees = trees; subs = n; update_subs = updates })
 kept_sub s trees n updates parent node x x_is was n_is updates_are may h =
     let y : Sub = record { parent = record { 0 = parent }; node = node; ops = [] } in
     let is : trees.items ≡ on_last (push_sub y) s.trees.items = subst (λ (z : Sub). trees.items ≡ on_last (push_sub z) s.trees.items) x_is was in
     let some = h.valid.begun may.begun in
-    let valid = subst (λ (ts : List Tree). IsValid (record (data_of s) { trees = ts; begun = true })) (sym is) (valid_sub (data_of s) parent node may h.valid) in
+    let valid = subst (λ (ts : List Tree). IsValid (record (script_data s) { trees = ts; begun = true })) (sym is) (valid_sub (script_data s) parent node may h.valid) in
     record {
       valid = rw may.begun valid;
       item_names = h.item_names;
@@ -163,15 +163,15 @@ kept_sub s trees n updates parent node x x_is was n_is updates_are may h =
 
 -- one more operation of the last subtransaction
 pub kept_op : (s : Inside) (trees : Vec Tree) (k v p n : ℕ) (deed : Deed) → trees.items ≡ on_last (on_last_sub (push_op (record { item = record { 0 = k }; deed = deed }))) s.trees.items
-    → v ≡ get_or s.totals.items k 0 + magnitude deed → p ≡ get_or s.puts.items k 0 + one_put deed → n ≡ s.ops + 1 → MayAddOp (data_of s) k deed → IsKept s
+    → v ≡ get_or s.totals.items k 0 + magnitude deed → p ≡ get_or s.puts.items k 0 + one_put deed → n ≡ s.ops + 1 → MayAddOp (script_data s) k deed → IsKept s
     → IsKept (record s { trees = trees; totals = with_cell s.totals k v; puts = with_cell s.puts k p; ops = n })
 kept_op s trees k v p n deed is v_is p_is n_is may h =
     let o : SubOp = record { item = record { 0 = k }; deed = deed } in
     let some = h.valid.begun may.begun in
     let root = some_last_subs s.nodes s.items.items s.trees.items h.valid.trees some in
-    let new : ScriptData = record (data_of s) { trees = trees.items } in
-    let valid = subst (λ (ts : List Tree). IsValid (record (data_of s) { trees = ts; begun = true })) (sym is) (valid_op (data_of s) k deed may h.valid) in
-    let other : (j : ℕ) → (j ≡ k → ⊥) → load j new ≡ load j (data_of s) = λ j ne.
+    let new : ScriptData = record (script_data s) { trees = trees.items } in
+    let valid = subst (λ (ts : List Tree). IsValid (record (script_data s) { trees = ts; begun = true })) (sym is) (valid_op (script_data s) k deed may h.valid) in
+    let other : (j : ℕ) → (j ≡ k → ⊥) → load j new ≡ load j (script_data s) = λ j ne.
     omega (arith, ap (trees_load j) is, total-op (load_total j) s.trees.items o some root, load_other o j (λ q. ne (sym q))) in
     let here : load k new ≡ v = omega (arith, ap (trees_load k) is, total-op (load_total k) s.trees.items o some root, load_same o k refl, h.totals k may.item) in
     let other_puts : (j : ℕ) → (j ≡ k → ⊥) → trees_puts j trees.items ≡ trees_puts j s.trees.items = λ j ne.
@@ -182,7 +182,7 @@ kept_op s trees k v p n deed is v_is p_is n_is may h =
       item_names = h.item_names;
       tree_names = h.tree_names ∙ sym (ap tree_names is ∙ names-on_last (on_last_sub (push_op o)) s.trees.items (λ t. refl));
       len = omega (arith, h.len, length-set {A = ℕ} s.totals.items k v);
-      totals = cells-set s.totals.items k v (length s.items.items) (λ j. load j (data_of s)) (λ j. load j new) h.len may.item h.totals other here;
+      totals = cells-set s.totals.items k v (length s.items.items) (λ j. load j (script_data s)) (λ j. load j new) h.len may.item h.totals other here;
       puts_len = omega (arith, h.puts_len, length-set {A = ℕ} s.puts.items k p);
       puts = cells-set s.puts.items k p (length s.items.items) (λ j. trees_puts j s.trees.items) (λ j. trees_puts j trees.items) h.puts_len may.item h.puts other_puts here_puts;
       subs = omega (arith, ap all_subs is, subs-op s.trees.items o some, h.subs);
@@ -199,8 +199,8 @@ pub kept_advance : (s : Inside) (rs : Vec ScriptRow) (n : ℕ) → rs.items ≡ 
 kept_advance s rs n is n_is few h =
     let more = advances-advance s.rows.items in
     record {
-      valid = subst (λ (xs : List ScriptRow). IsValid (record (data_of s) { rows = xs; begun = false })) (sym is)
-          (valid_row (data_of s) rows.Advance refl (omega (arith, h.advances)) (omega (arith, h.valid.limited.loses, loses-push s.rows.items rows.Advance)) (λ e. refl) h.valid);
+      valid = subst (λ (xs : List ScriptRow). IsValid (record (script_data s) { rows = xs; begun = false })) (sym is)
+          (valid_row (script_data s) rows.Advance refl (omega (arith, h.advances)) (omega (arith, h.valid.limited.loses, loses-push s.rows.items rows.Advance)) (λ e. refl) h.valid);
       item_names = h.item_names;
       tree_names = h.tree_names;
       len = h.len;
@@ -220,8 +220,8 @@ pub kept_settle : (s : Inside) (rs : Vec ScriptRow) → rs.items ≡ s.rows.item
 kept_settle s rs is h =
     let more = advances-settle s.rows.items in
     record {
-      valid = subst (λ (xs : List ScriptRow). IsValid (record (data_of s) { rows = xs; begun = false })) (sym is)
-          (valid_row (data_of s) rows.Settle refl (omega (arith, h.valid.limited.advances)) (omega (arith, h.valid.limited.loses, loses-push s.rows.items rows.Settle)) (λ e. refl) h.valid);
+      valid = subst (λ (xs : List ScriptRow). IsValid (record (script_data s) { rows = xs; begun = false })) (sym is)
+          (valid_row (script_data s) rows.Settle refl (omega (arith, h.valid.limited.advances)) (omega (arith, h.valid.limited.loses, loses-push s.rows.items rows.Settle)) (λ e. refl) h.valid);
       item_names = h.item_names;
       tree_names = h.tree_names;
       len = h.len;
@@ -243,8 +243,8 @@ kept_lose s rs n is n_is few second h =
     let more = loses-push s.rows.items rows.Lose in
     let same = advances-lose s.rows.items in
     record {
-      valid = subst (λ (xs : List ScriptRow). IsValid (record (data_of s) { rows = xs; begun = false })) (sym is)
-          (valid_row (data_of s) rows.Lose refl (omega (arith, h.valid.limited.advances)) (omega (arith, h.loses)) (λ e. absurd (cc (e, second))) h.valid);
+      valid = subst (λ (xs : List ScriptRow). IsValid (record (script_data s) { rows = xs; begun = false })) (sym is)
+          (valid_row (script_data s) rows.Lose refl (omega (arith, h.valid.limited.advances)) (omega (arith, h.loses)) (λ e. absurd (cc (e, second))) h.valid);
       item_names = h.item_names;
       tree_names = h.tree_names;
       len = h.len;
@@ -262,7 +262,7 @@ kept_lose s rs n is n_is few second h =
 -- the second form
 pub kept_upgraded : (s : Inside) → IsKept s → IsKept (record s { form = forms.Two })
 kept_upgraded s h = record {
-  valid = valid_upgraded (data_of s) h.valid;
+  valid = valid_upgraded (script_data s) h.valid;
   item_names = h.item_names;
   tree_names = h.tree_names;
   len = h.len;
@@ -281,9 +281,9 @@ kept_upgraded s h = record {
 pub kept_room : (s : Inside) (trees : Vec Tree) (rs : Vec ScriptRow) (names : List (List ℕ)) → trees.items ≡ s.trees.items → rs.items ≡ s.rows.items → names ≡ s.tree_names → IsKept s
     → IsKept (record s { trees = trees; rows = rs; tree_names = names })
 kept_room s trees rs names is rows_are names_are h =
-    let with_trees = subst (λ (ts : List Tree). IsValid (record (data_of s) { trees = ts })) (sym is) h.valid in
+    let with_trees = subst (λ (ts : List Tree). IsValid (record (script_data s) { trees = ts })) (sym is) h.valid in
     record {
-      valid = subst (λ (xs : List ScriptRow). IsValid (record (data_of s) { trees = trees.items; rows = xs })) (sym rows_are) with_trees;
+      valid = subst (λ (xs : List ScriptRow). IsValid (record (script_data s) { trees = trees.items; rows = xs })) (sym rows_are) with_trees;
       item_names = h.item_names;
       tree_names = names_are ∙ h.tree_names ∙ sym (ap tree_names is);
       len = h.len;

@@ -2,10 +2,10 @@ pub mod Kept
 pub mod Passes
 pub mod Rebuilding
 pub mod Stays
-pub mod SubsOf
 pub mod Undoing
 pub mod UndoneTrees
 pub use Rattle.script_parts.proofs.AsciiNames
 pub use Rattle.script_parts.proofs.Last
 pub use Rattle.script_parts.proofs.Lists
+pub use Rattle.script_parts.proofs.SubsOf
 pub use Rattle.script_parts.proofs.Totals

@@ -13,7 +13,7 @@ use Rattle.commute_ops.specs.declared.kinds.Kind.{Kind}
 use Rattle.commute_ops.specs.declared.kinds.Kind.TheVariants as kinds
 use Rattle.commute_ops.specs.declared.kinds.TheConstants.{MOST_AMOUNT}
 use Rattle.tv_base.specs.declared.numbers.TreeNo.{TreeNo}
-use Rattle.script_parts.specs.Adding.{adds_advance, adds_lose, are_crowded, failed_tree, fresh, is_heavy, may_fail, has_touched, kind_at, last_count, last_kind, last_node, last_of, last_sub, last_subs, node_at, on_last, on_last_sub, place_of, push_op, push_sub, touch}
+use Rattle.script_parts.specs.Adding.{adds_advance, adds_lose, are_crowded, failed_tree, fresh, is_heavy, may_fail, has_touched, item_kind_at, last_count, last_kind, last_node, last_of, last_sub, last_subs, node_at, on_last, on_last_sub, place_of, push_op, push_sub, touch}
 use Rattle.script_parts.specs.Amounts.{magnitude}
 use Rattle.script_parts.specs.Forms.{most_amount}
 use Rattle.script_parts.specs.Counts.{advances_in, all_ops, all_subs, loses_in, if_update, one_put, one_strict, ops_in, strict_trees, subs_ops, trees_puts, update_subs}
@@ -21,7 +21,7 @@ use Rattle.script_parts.specs.inside.Passing.{MayAddItem, MayAddOp, MayAddSub, M
 use Rattle.script_parts.specs.Ranges.{draws_negative, is_in_range, may_start}
 use Rattle.script_parts.specs.Rebuilt.{RebuiltAs, fail_added, items_added, name_at, ops_added, picks_added, rebuilt, rooted_added, row_added, rows_added, subs_added, then_more, tree_added}
 use Rattle.script_parts.specs.ScriptData.{ScriptData, is_strict}
-use Rattle.script_parts.specs.Valid.{AreSubs, IsItem, IsOp, IsSub, HasFailed, IsTree, IsValid, MayAllHaveFailed, MayHaveFailed, NamesInOrder, OpAt, as_written, deed_fits, initial_load, item_names, items_of, load, subs_load, tree_names, trees_load}
+use Rattle.script_parts.specs.Valid.{AreSubs, IsItem, IsOp, IsSub, HasFailed, IsTree, IsValid, MayAllHaveFailed, MayHaveFailed, NamesInOrder, OpAt, as_written, deed_fits, initial_load, item_names, touched_items, load, subs_load, tree_names, trees_load}
 use Rattle.script_parts.specs.declared.parts.Deed.{Deed}
 use Rattle.script_parts.specs.declared.parts.Form.{Form}
 use Rattle.script_parts.specs.declared.parts.Form.TheVariants as forms
@@ -38,6 +38,7 @@ use Rattle.script_parts.specs.declared.why.Why.{Why}
 use Rattle.script_parts.proofs.Last.{last_count_is, last_kind_is, last_node_is, last_sub_is, last_subs_is}
 use Rattle.script_parts.proofs.Lists.{all-before, all-push, all-seam, distinct-before, distinct-front, last_of-seam, le_not, lt_not, on_last-seam, or_left, or_right, slice_get-seam, sum-append, sum-push}
 use Rattle.script_parts.proofs.Named.{any-map, has_item, has_tree}
+use Rattle.script_parts.proofs.SubsOf.{names_end}
 use Rattle.tx_trees.proofs.Undoing.{crowded_not, last_may_fail_is, may_fail_is, none_any}
 use Rattle.tx_trees.proofs.Passes.{fail_passes, item_passes, op_passes, sub_passes, tree_passes}
 use Rattle.tx_trees.proofs.Stays.{failed-front, failed-push, failed-seam, last_written_is, op_within}
@@ -133,8 +134,8 @@ row_of kind node o (Some row) h = (row, (refl, h.0, h.1))
 pub node_row : (items : List ItemRow) (k : ℕ) (row : ItemRow) → slice_get items k ≡ Some row → node_at k items ≡ row.node.0
 node_row items k row e = rw (e, node_at) refl
 
-pub kind_row : (items : List ItemRow) (k : ℕ) (row : ItemRow) → slice_get items k ≡ Some row → kind_at k items ≡ row.kind
-kind_row items k row e = rw (e, kind_at) refl
+pub kind_row : (items : List ItemRow) (k : ℕ) (row : ItemRow) → slice_get items k ≡ Some row → item_kind_at k items ≡ row.kind
+kind_row items k row e = rw (e, item_kind_at) refl
 
 name_is : (items : List ItemRow) (k : ℕ) (row : ItemRow) → slice_get items k ≡ Some row → name_at k items ≡ row.name
 name_is items k row e = rw (e, name_at) refl
@@ -196,8 +197,8 @@ module _ (s : ScriptData) (h : IsValid s) where
       let its_sub : last_sub ts ≡ Some (cut x O) = last_sub_is ts u (cut x O) last (last_of-seam S (cut x O)) in
       let node : node_at k s.items ≡ last_node ts = node_row s.items k row.0 row.1.0 ∙ row.1.1 ∙ sym (last_node_is ts (cut x O) its_sub) in
       let its_kind = kind_row s.items k row.0 row.1.0 in
-      let fits : deed_fits (last_kind ts) (kind_at k s.items) o.deed ≡ true =
-      ap (λ (q : TreeKind). deed_fits q (kind_at k s.items) o.deed) (last_kind_is ts u last) ∙ ap (λ (q : Kind). deed_fits kind q o.deed) its_kind ∙ row.1.2 in
+      let fits : deed_fits (last_kind ts) (item_kind_at k s.items) o.deed ≡ true =
+      ap (λ (q : TreeKind). deed_fits q (item_kind_at k s.items) o.deed) (last_kind_is ts u last) ∙ ap (λ (q : Kind). deed_fits kind q o.deed) its_kind ∙ row.1.2 in
       let count = last_count_is ts (cut x O) its_sub in
       let some : length x.ops ≡ length O + suc (length os) = ap length (sym f) ∙ omega (arith, length-append O (o ∷ os)) in
       let ops : all_ops ts + 1 ≤ all_ops s.trees = subst (λ (z : List Tree). all_ops ts + 1 ≤ all_ops z) e (total-part op_total T Ts t u S X x (cut x O) O os o refl refl (sym f) refl) in
@@ -207,9 +208,9 @@ module _ (s : ScriptData) (h : IsValid s) where
       subst (λ (z : List Tree). trees_load k ts + op_load k o ≤ trees_load k z) e (total-part (load_total k) T Ts t u S X x (cut x O) O os o refl refl (sym f) refl) in
       let touched : kind ≡ trees.Strict → touch k u.subs ≡ false = λ strict.
       let all : ops_in t.subs ≡ ops_in u.subs ++ o ∷ (os ++ ops_in X) = all_ops_of S X x O os o f in
-      let numbers : items_of t.subs ≡ items_of u.subs ++ k ∷ map (λ (p : SubOp). p.item.0) (os ++ ops_in X) =
+      let numbers : touched_items t.subs ≡ touched_items u.subs ++ k ∷ map (λ (p : SubOp). p.item.0) (os ++ ops_in X) =
       ap (map (λ (p : SubOp). p.item.0)) all ∙ map-append (λ (p : SubOp). p.item.0) (ops_in u.subs) (o ∷ (os ++ ops_in X)) in
-      let new = distinct-front nat_eq nat_eq_equiv.symm (items_of u.subs) (map (λ (p : SubOp). p.item.0) (os ++ ops_in X)) k (subst (IsDistinct nat_eq) numbers (tree.once strict)) in
+      let new = distinct-front nat_eq nat_eq_equiv.symm (touched_items u.subs) (map (λ (p : SubOp). p.item.0) (os ++ ops_in X)) k (subst (IsDistinct nat_eq) numbers (tree.once strict)) in
       sym (any-map (nat_eq k) (λ (p : SubOp). p.item.0) (λ p. nat_eq p.item.0 k) (λ p. nat_eq_equiv.symm k p.item.0) (ops_in u.subs)) ∙ new in
       let once : has_touched k ts ≡ false = rw (last, has_touched) (untouched kind (touch k u.subs) touched) in
       record {
@@ -348,13 +349,6 @@ module _ (s : ScriptData) (h : IsValid s) where
       rooted_as x e = ap (λ (p : ℕ). let y : Sub = record { parent = record { 0 = p }; node = x.node; ops = [] } in y) (sym e)
 
 -- rows
-
-pub names_end : (k n : ℕ) (rs : List ScriptRow) → NamesInOrder k n rs → k ≤ n
-names_end k n [] names = omega arith
-names_end k n (rows.Tree t ∷ rs) names = omega (arith, names_end (k + 1) n rs names.1)
-names_end k n (rows.Advance ∷ rs) names = names_end k n rs names
-names_end k n (rows.Settle ∷ rs) names = names_end k n rs names
-names_end k n (rows.Lose ∷ rs) names = names_end k n rs names
 
 pub advances_in-append : (xs ys : List ScriptRow) → advances_in (xs ++ ys) ≡ advances_in xs + advances_in ys
 advances_in-append [] ys = omega arith

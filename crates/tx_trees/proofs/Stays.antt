@@ -15,14 +15,14 @@ use Rattle.commute_ops.specs.declared.kinds.Kind.TheVariants as kinds
 use Rattle.commute_ops.specs.declared.kinds.TheConstants.{MOST_AMOUNT}
 use Rattle.tv_base.specs.declared.numbers.NodeNo.{NodeNo}
 use Rattle.tv_base.specs.declared.numbers.TreeNo.{TreeNo}
-use Rattle.script_parts.specs.Adding.{are_many, are_spread, has_no_op_left, has_no_sub_left, has_no_tree_left, has_touched, kind_at, last_count, last_kind, last_node, last_of, last_subs, node_at, on_last, on_last_sub, push_op, push_sub, rooted, touch, upgraded, with_item, with_op, with_row, with_sub, with_tree}
+use Rattle.script_parts.specs.Adding.{are_many, are_spread, has_no_op_left, has_no_sub_left, has_no_tree_left, has_touched, item_kind_at, last_count, last_kind, last_node, last_of, last_subs, node_at, on_last, on_last_sub, push_op, push_sub, rooted, touch, upgraded, with_item, with_op, with_row, with_sub, with_tree}
 use Rattle.script_parts.specs.Amounts.{magnitude}
 use Rattle.script_parts.specs.Counts.{advances_in, all_ops, all_subs, is_lose, loses_in, if_update, one_put, one_strict, ops_in, ops_puts, strict_trees, subs_puts, trees_puts, update_subs}
 use Rattle.script_parts.specs.Forms.{most_amount, most_nodes}
 use Rattle.script_parts.specs.inside.Passing.{MayAddItem, MayAddOp, MayAddSub, MayAddTree}
 use Rattle.script_parts.specs.Ranges.{draws_negative, is_in_range, may_start, starts_full}
 use Rattle.script_parts.specs.ScriptData.{ScriptData, is_strict}
-use Rattle.script_parts.specs.Valid.{AreSubs, AreWithin, HasFailed, IsItem, IsOp, IsSub, IsTree, IsValid, MayAllHaveFailed, MayHaveFailed, NamesInOrder, as_written, last_written, OpAt, deed_fits, initial_load, item_names, items_of, load, ops_load, subs_load, tree_names, trees_load}
+use Rattle.script_parts.specs.Valid.{AreSubs, AreWithin, HasFailed, IsItem, IsOp, IsSub, IsTree, IsValid, MayAllHaveFailed, MayHaveFailed, NamesInOrder, as_written, last_written, OpAt, deed_fits, initial_load, item_names, touched_items, load, ops_load, subs_load, tree_names, trees_load}
 use Rattle.script_parts.specs.declared.parts.Deed.{Deed}
 use Rattle.script_parts.specs.declared.parts.Form.{Form}
 use Rattle.script_parts.specs.declared.parts.Form.TheVariants as forms
@@ -38,6 +38,7 @@ use Rattle.script_parts.specs.declared.parts.Written.{Written}
 use Rattle.script_parts.proofs.Last.{last_count_is, last_kind_is, last_node_is, last_sub_is, last_subs_is, length-on_last}
 use Rattle.script_parts.proofs.Lists.{all-last, all-on_last, all-push, all-weaker, distinct-push, last_of-on_last, last_of-seam, last_some, not_le, not_lt, on_last-seam, or_left, or_right, slice_get-seam, split_last, sum-push}
 use Rattle.script_parts.proofs.Named.{any-map, has_item, has_tree}
+use Rattle.script_parts.proofs.SubsOf.{most_amount-small, most_nodes-small}
 use Rattle.script_parts.proofs.Totals.{all_subs-sum, load_other, load_same, load_total, op_total, put_other, put_same, put_total, strict-op, strict-sub, strict-sum, subs-op, subs-sub, total-op, total-sub, total-tree, update-op, update-sub, update-sum}
 
 -- operations are on items that are there
@@ -273,14 +274,6 @@ ops-op (s ∷ t ∷ ts) o some = ap (λ (os : List SubOp). s.ops ++ os) (ops-op 
 
 -- what a form allows
 
-pub most_amount-small : (f : Form) → most_amount f ≤ MOST_AMOUNT
-most_amount-small forms.One = omega arith
-most_amount-small forms.Two = omega arith
-
-pub most_nodes-small : (f : Form) → most_nodes f ≤ 64
-most_nodes-small forms.One = omega arith
-most_nodes-small forms.Two = omega arith
-
 and_so : (m most : ℕ) (b : Bool) → most ≤ MOST_AMOUNT → (nat_le m most && b) ≡ true → (nat_le m MOST_AMOUNT && b) ≡ true
 and_so m most b le e = grind (arith, common_steps)
 
@@ -514,7 +507,7 @@ abbrev kind_in : Option ItemRow → Kind
 kind_in o = elim o [ None ↦ kinds.Sum | Some row ↦ row.kind ]
 
 -- an operation on the item of this number fits the last subtransaction
-op_new : (items : List ItemRow) (kind : TreeKind) (node : ℕ) (o : SubOp) → o.item.0 < length items → node_at o.item.0 items ≡ node → deed_fits kind (kind_at o.item.0 items) o.deed ≡ true → IsOp items kind node o
+op_new : (items : List ItemRow) (kind : TreeKind) (node : ℕ) (o : SubOp) → o.item.0 < length items → node_at o.item.0 items ≡ node → deed_fits kind (item_kind_at o.item.0 items) o.deed ≡ true → IsOp items kind node o
 op_new items kind node o lt at fits = elim (slice_get_cases items o.item.0).1 [
   | inl found ↦
       let is : slice_get items o.item.0 ≡ Some found.0 = found.2 in
@@ -530,7 +523,7 @@ untouched k ts t e h = let same : has_touched k ts ≡ (is_strict t.kind && touc
 untouched_strict : (kind : TreeKind) (b : Bool) → kind ≡ trees.Strict → (is_strict kind && b) ≡ false → b ≡ false
 untouched_strict kind b e h = subst (λ (k : TreeKind). (is_strict k && b) ≡ false) e h
 
-same_item : (k : ℕ) (ss : List Sub) → list_any (nat_eq k) (items_of ss) ≡ touch k ss
+same_item : (k : ℕ) (ss : List Sub) → list_any (nat_eq k) (touched_items ss) ≡ touch k ss
 same_item k ss = any-map (nat_eq k) (λ (o : SubOp). o.item.0) (λ o. nat_eq o.item.0 k) (λ o. nat_eq_equiv.symm k o.item.0) (ops_in ss)
 
 -- what is in a form's range is in the wider one
@@ -557,7 +550,7 @@ valid_op s k deed may h =
     let last = last_sub_is s.trees t x e f in
     let count = last_count_is s.trees x last in
     let its_node : node_at k s.items ≡ x.node.0 = node ∙ last_node_is s.trees x last in
-    let its_kind : deed_fits t.kind (kind_at k s.items) deed ≡ true = sym (ap (λ (q : TreeKind). deed_fits q (kind_at k s.items) deed) (last_kind_is s.trees t e)) ∙ may.kind in
+    let its_kind : deed_fits t.kind (item_kind_at k s.items) deed ≡ true = sym (ap (λ (q : TreeKind). deed_fits q (item_kind_at k s.items) deed) (last_kind_is s.trees t e)) ∙ may.kind in
     record {
       root = xh.root;
       parent = xh.parent;
@@ -566,7 +559,7 @@ valid_op s k deed may h =
       ops = all-push (IsOp s.items t.kind x.node.0) x.ops o xh.ops (op_new s.items t.kind x.node.0 o may.item its_node its_kind);
       amounts = all-push (λ (p : SubOp). IsTrue (is_in_range forms.Two p.deed)) x.ops o xh.amounts (wider s.form deed may.range);
     } in
-    let items : items_of (on_last (push_op o) t.subs) ≡ items_of t.subs ++ k ∷ [] =
+    let items : touched_items (on_last (push_op o) t.subs) ≡ touched_items t.subs ++ k ∷ [] =
     ap (map (λ (p : SubOp). p.item.0)) (ops-op t.subs o th.root) ∙ map-append (λ (p : SubOp). p.item.0) (ops_in t.subs) (o ∷ []) in
     record {
       root = omega (arith, th.root);
@@ -574,8 +567,8 @@ valid_op s k deed may h =
       subs = subs-on_last s.nodes s.items t.kind (push_op o) 0 t.subs th.subs new;
       name = th.name;
       once = λ strict.
-          let other : list_any (nat_eq k) (items_of t.subs) ≡ false = same_item k t.subs ∙ untouched_strict t.kind (touch k t.subs) strict (untouched k s.trees t e may.once) in
-          subst (IsDistinct nat_eq) (sym items) (distinct-push nat_eq nat_eq_equiv.symm (items_of t.subs) k (th.once strict) other);
+          let other : list_any (nat_eq k) (touched_items t.subs) ≡ false = same_item k t.subs ∙ untouched_strict t.kind (touch k t.subs) strict (untouched k s.trees t e may.once) in
+          subst (IsDistinct nat_eq) (sym items) (distinct-push nat_eq nat_eq_equiv.symm (touched_items t.subs) k (th.once strict) other);
     } in
     record {
       some_nodes = h.some_nodes;

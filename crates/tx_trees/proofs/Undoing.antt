@@ -13,14 +13,14 @@ use Rattle.commute_ops.specs.declared.kinds.TheConstants.{MOST_AMOUNT}
 use Rattle.script_parts.specs.Amounts.{magnitude}
 use Rattle.script_parts.specs.Forms.{most_amount}
 use Rattle.script_parts.specs.Ranges.{draws_negative, is_in_range}
-use Rattle.tx_trees.specs.Inside.{IsKept, data_of}
+use Rattle.tx_trees.specs.Inside.{IsKept, script_data}
 use Rattle.script_parts.specs.Loads.{IsReloaded, MayReload, Reloads, OpWithin, SubWithin, subs_heavy}
 use Rattle.script_parts.specs.inside.Totals.{AreTotals}
 use Rattle.script_parts.specs.Names.{is_name}
 use Rattle.script_parts.specs.Rebuilt.{written_subs}
 use Rattle.script_parts.specs.inside.Passing.{MayFail, MayUndo}
 use Rattle.script_parts.specs.ScriptData.{ScriptData, is_update}
-use Rattle.script_parts.specs.Undone.{goes_from, inverse, inverses_from, is_add, is_undone, negated, negated_deed, ops_add, staying, staying_from, stays, subs_add, undoes, undone}
+use Rattle.script_parts.specs.Undone.{goes_from, inverse, inverses_from, is_add, is_undone_sub, negated, negated_deed, ops_add, staying, staying_from, stays, subs_add, undoes, undone}
 use Rattle.script_parts.specs.Valid.{AreSubs, AreWithin, HasFailed, IsOp, IsTree, IsValid, MayAllHaveFailed, MayHaveFailed, as_written, load, ops_load, subs_load, tree_names, trees_load}
 use Rattle.std.specs.Global.{Vec}
 use Rattle.tx_trees.specs.declared.script.Script.TheInside.{Inside}
@@ -37,7 +37,8 @@ use Rattle.script_parts.specs.declared.parts.TreeKind.TheVariants as trees
 use Rattle.script_parts.specs.declared.parts.Written.{Written}
 use Rattle.script_parts.proofs.Last.{last_at, last_subs_is, last_tree_subs_is, length-on_last}
 use Rattle.script_parts.proofs.Lists.{last_weight, all-last, all-on_last, all-weaker, last_of-on_last, last_of-seam, last_some, lt_not, not_lt, or_left, or_right, split_last, sum-replaced}
-use Rattle.tx_trees.proofs.Stays.{failed-last, last_written_is, most_amount-small, names-on_last, op_within}
+use Rattle.script_parts.proofs.SubsOf.{most_amount-small, only_update}
+use Rattle.tx_trees.proofs.Stays.{failed-last, last_written_is, names-on_last, op_within}
 use Rattle.script_parts.proofs.Loading.{all_light, not_heavy}
 use Rattle.script_parts.proofs.Totals.{all_subs-sum, load_total, op_load, op_total, put_total, strict-sum, update-sum}
 use Rattle.tx_trees.proofs.UndoneTrees.{undone_some, undone_valid}
@@ -69,11 +70,6 @@ last_may_fail_is ts t e = rw (e, last_may_fail) refl
 
 pub may_fail_is : (t : Tree) → t.kind ≡ trees.Update → subs_add t.subs ≡ true → may_fail t ≡ true
 may_fail_is t e adds = and_from (is_update t.kind) (subs_add t.subs) (ap is_update e) adds
-
-pub only_update : (k : TreeKind) → is_update k ≡ true → k ≡ trees.Update
-only_update trees.Update e = refl
-only_update trees.Read e = absurd cc
-only_update trees.Strict e = absurd cc
 
 pub fails_update : (t : Tree) → may_fail t ≡ true → t.kind ≡ trees.Update
 fails_update t e = only_update t.kind (left_true (is_update t.kind) (subs_add t.subs) e)
@@ -172,7 +168,7 @@ inverses_add : (failed : ℕ) (goes : List Bool) (k : ℕ) (ss : List Sub) → s
 inverses_add failed goes k [] e = refl
 inverses_add failed goes k (s ∷ ss) e =
     adds-append (undoes failed goes k s) (inverses_from failed goes (k + 1) ss)
-    (if_some (is_undone failed goes k s) (inverse failed goes s) (all_negated s.ops (left_true (ops_add s.ops) (subs_add ss) e)))
+    (if_some (is_undone_sub failed goes k s) (inverse failed goes s) (all_negated s.ops (left_true (ops_add s.ops) (subs_add ss) e)))
     (inverses_add failed goes (k + 1) ss (right_true (ops_add s.ops) (subs_add ss) e))
 
 pub undone_adds : (ss : List Sub) (failed : ℕ) → subs_add ss ≡ true → subs_add (undone ss failed) ≡ true
@@ -423,11 +419,11 @@ sizes_are s k expanded begun may earlier is few h =
 -- the last tree of a script is to be undone
 pub record IsFailing (s : Inside) (k : ℕ) (expanded : List Sub) : Type 0 where
   pub kept : IsKept s
-  pub may : MayUndo (data_of s) k expanded
+  pub may : MayUndo (script_data s) k expanded
   pub few : length expanded ≤ 64
 
 -- the same, by what a script is seen as
-pub failing_is : (s : Inside) (d : ScriptData) (k : ℕ) (expanded : List Sub) → data_of s ≡ d → IsKept s → MayUndo d k expanded → IsFailing s k expanded
+pub failing_is : (s : Inside) (d : ScriptData) (k : ℕ) (expanded : List Sub) → script_data s ≡ d → IsKept s → MayUndo d k expanded → IsFailing s k expanded
 failing_is s d k expanded view h may = record {
   kept = h;
   may = subst (λ (x : ScriptData). MayUndo x k expanded) (sym view) may;
@@ -438,7 +434,7 @@ failing_is s d k expanded view h may = record {
 module _ (s : Inside) (k : ℕ) (expanded : List Sub) (q : IsFailing s k expanded) where
   pub may_reload : MayReload s.totals.items (last_tree_subs s.trees.items) expanded
   may_reload =
-      let d = data_of s in
+      let d = script_data s in
       let h = q.kept in
       let f = last_fails d k q.may.begun q.may.adds q.may.earlier h.valid in
       let t = f.tree in
@@ -452,9 +448,9 @@ module _ (s : Inside) (k : ℕ) (expanded : List Sub) (q : IsFailing s k expande
         room = λ x lt. omega (arith, h.totals x (omega (arith, h.len)), h.valid.loads x (omega (arith, h.len)), most_amount-small d.form, small_subs d.nodes d.items trees.Update 0 x expanded after, q.few);
       }
 
-  pub reloaded_totals : (now : List ℕ) → IsReloaded s.totals.items now (last_tree_subs s.trees.items) expanded → AreTotals now (with_failed (data_of s) k)
+  pub reloaded_totals : (now : List ℕ) → IsReloaded s.totals.items now (last_tree_subs s.trees.items) expanded → AreTotals now (with_failed (script_data s) k)
   reloaded_totals now r =
-      let d = data_of s in
+      let d = script_data s in
       let h = q.kept in
       let f = last_fails d k q.may.begun q.may.adds q.may.earlier h.valid in
       let t = f.tree in
@@ -465,10 +461,10 @@ module _ (s : Inside) (k : ℕ) (expanded : List Sub) (q : IsFailing s k expande
       }
 
   -- an item is too heavy just where one is that the undone form has operations on
-  pub heavy_is : (now : List ℕ) → IsReloaded s.totals.items now (last_tree_subs s.trees.items) expanded → subs_heavy (most_amount s.form) now expanded ≡ is_heavy (with_failed (data_of s) k)
+  pub heavy_is : (now : List ℕ) → IsReloaded s.totals.items now (last_tree_subs s.trees.items) expanded → subs_heavy (most_amount s.form) now expanded ≡ is_heavy (with_failed (script_data s) k)
   heavy_is now r =
       let h = q.kept in
-      let d = with_failed (data_of s) k in
+      let d = with_failed (script_data s) k in
       let most = most_amount s.form in
       let t = reloaded_totals now r in
       let within = subst (λ (n : ℕ). AllByRecursion (SubWithin n) expanded) (sym r.len) may_reload.on_within in
@@ -491,22 +487,22 @@ module _ (s : Inside) (k : ℕ) (expanded : List Sub) (q : IsFailing s k expande
       (subst (λ (x : List Sub). Reloads most s.totals.items now off x b) on_is r))
 
   -- the totals were put just where no item is too heavy
-  pub put_if_light : (d : ScriptData) (now : List ℕ) (b : Bool) → data_of s ≡ d → Reloads (most_amount s.form) s.totals.items now (last_tree_subs s.trees.items) expanded b
+  pub put_if_light : (d : ScriptData) (now : List ℕ) (b : Bool) → script_data s ≡ d → Reloads (most_amount s.form) s.totals.items now (last_tree_subs s.trees.items) expanded b
       → b ≡ not (is_heavy (with_failed d k))
   put_if_light d now b view r = r.light ∙ ap not (heavy_is r.totals r.reloaded) ∙ ap (λ (x : ScriptData). not (is_heavy (with_failed x k))) view
 
 -- what a script keeps beside what it holds, where its last tree fails
-pub kept_failed : (s : Inside) (its : Vec Tree) (totals : Vec ℕ) (k n o u : ℕ) → its.items ≡ on_last (failed_tree k) s.trees.items → AreTotals totals.items (with_failed (data_of s) k)
-    → n ≡ all_subs (with_failed (data_of s) k).trees → o ≡ all_ops (with_failed (data_of s) k).trees → u ≡ update_subs (with_failed (data_of s) k).trees → MayFail (data_of s) k → IsKept s
+pub kept_failed : (s : Inside) (its : Vec Tree) (totals : Vec ℕ) (k n o u : ℕ) → its.items ≡ on_last (failed_tree k) s.trees.items → AreTotals totals.items (with_failed (script_data s) k)
+    → n ≡ all_subs (with_failed (script_data s) k).trees → o ≡ all_ops (with_failed (script_data s) k).trees → u ≡ update_subs (with_failed (script_data s) k).trees → MayFail (script_data s) k → IsKept s
     → IsKept (record s { trees = its; totals = totals; subs = n; ops = o; update_subs = u; begun = false })
 kept_failed s its totals k n o u is t n_is o_is u_is may h =
-    let f = last_fails (data_of s) k may.begun may.adds may.earlier h.valid in
+    let f = last_fails (script_data s) k may.begun may.adds may.earlier h.valid in
     record {
-      valid = subst (λ (ts : List Tree). IsValid (record (data_of s) { trees = ts; begun = false })) (sym is) (valid_failed (data_of s) k may h.valid);
+      valid = subst (λ (ts : List Tree). IsValid (record (script_data s) { trees = ts; begun = false })) (sym is) (valid_failed (script_data s) k may h.valid);
       item_names = h.item_names;
       tree_names = h.tree_names ∙ sym (ap tree_names is ∙ names-on_last (failed_tree k) s.trees.items (λ v. refl));
       len = t.len;
-      totals = λ j lt. t.loads j lt ∙ sym (ap (λ (ts : List Tree). load j (record (data_of s) { trees = ts; begun = false })) is);
+      totals = λ j lt. t.loads j lt ∙ sym (ap (λ (ts : List Tree). load j (record (script_data s) { trees = ts; begun = false })) is);
       puts_len = h.puts_len;
       puts = λ j lt. h.puts j lt ∙ sym (ap (trees_puts j) is ∙ failed_puts s.trees.items k f.tree f.last j f.adds);
       subs = n_is ∙ sym (ap all_subs is);

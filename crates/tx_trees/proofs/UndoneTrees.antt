@@ -22,7 +22,7 @@ use Rattle.script_parts.specs.declared.parts.ItemRow.{ItemRow}
 use Rattle.script_parts.specs.declared.parts.Sub.{Sub}
 use Rattle.script_parts.specs.declared.parts.SubOp.{SubOp}
 use Rattle.script_parts.specs.declared.parts.TreeKind.TheVariants as trees
-use Rattle.script_parts.specs.Undone.{goes_from, goes_next, inverse, inverses_from, is_undone, negated, negated_deed, new_number, staying, staying_from, stays, undone}
+use Rattle.script_parts.specs.Undone.{goes_from, goes_next, inverse, inverses_from, is_undone_sub, negated, negated_deed, new_number, staying, staying_from, stays, undone}
 
 -- marks
 
@@ -228,7 +228,7 @@ module _ (nodes : ℕ) (items : List ItemRow) (failed : ℕ) (final : List Bool)
   inverses_valid : (j k : ℕ) (ss : List Sub) → new_number final failed < j → AreAt nodes items k ss → AreAt nodes items j (inverses_from failed final k ss)
   inverses_valid j k [] early h = tt
   inverses_valid j k (x ∷ xs) early h =
-      with_rest j k x xs (is_undone failed final k x) (inverse_valid j k x early h.0) (inverses_valid (j + 1) (k + 1) xs (omega (arith, early)) h.1) (inverses_valid j (k + 1) xs early h.1)
+      with_rest j k x xs (is_undone_sub failed final k x) (inverse_valid j k x early h.0) (inverses_valid (j + 1) (k + 1) xs (omega (arith, early)) h.1) (inverses_valid j (k + 1) xs early h.1)
 
 -- none up to the failed one goes
 none_goes : (nodes : ℕ) (items : List ItemRow) (failed : ℕ) (goes : List Bool) (ss : List Sub) → AreAt nodes items (length goes) ss → ((j : ℕ) → j < length goes → j ≤ failed → get_or goes j false ≡ false)

@@ -1,8 +1,9 @@
 // A script, which is valid whatever was added.
 ghost use Rattle.std.specs.Prelude.{ℕ, true, false, not, if◌then◌else◌, ◌≡◌, ◌<◌, ◌≤◌, ◌+◌, ◌==◌, length, is_some, nat_lt, IfOk, IfSome, IsNone, OnErr, OnOk};
 ghost use Rattle.std.specs.List.{AllByRecursion};
+ghost use Rattle.tv_base.specs.declared.numbers.TheConstants.{MOST_SUBS_OF_TREE};
 ghost use Rattle.commute_ops.specs.declared.kinds.TheConstants.{MOST_AMOUNT};
-ghost use Rattle.script_parts.specs.Adding.{Steps, adds_advance, adds_item, adds_lose, adds_op, adds_pick, adds_settle, adds_sub, adds_tree, are_crowded, fresh, has_no_op_left, has_no_sub_left, has_no_tree_left, is_heavy, kind_at, last_kind, last_may_fail, last_node, last_subs, last_tree_subs, names_tree, node_at, place_of, puts_undone, with_failed, with_item, with_op, with_sub, with_tree, upgraded};
+ghost use Rattle.script_parts.specs.Adding.{Steps, adds_advance, adds_item, adds_lose, adds_op, adds_pick, adds_settle, adds_sub, adds_tree, are_crowded, fresh, has_no_op_left, has_no_sub_left, has_no_tree_left, is_heavy, item_kind_at, last_kind, last_may_fail, last_node, last_subs, last_tree_subs, names_tree, node_at, place_of, puts_undone, with_failed, with_item, with_op, with_sub, with_tree, upgraded};
 ghost use Rattle.script_parts.specs.Amounts.{magnitude};
 ghost use Rattle.script_parts.specs.Counts.{advances_in, all_ops, all_subs, update_subs};
 ghost use Rattle.script_parts.specs.Forms.{most_amount, most_nodes};
@@ -29,7 +30,7 @@ use script_parts::same::same_form;
 use script_parts::why::{Refusal, Why};
 use std::alloc::Global;
 use std::marker::Model;
-use tv_base::{ItemNo, Name, NoMemory, NodeNo, SubNo, TreeNo};
+use tv_base::{ItemNo, MOST_SUBS_OF_TREE, Name, NoMemory, NodeNo, SubNo, TreeNo};
 
 const MOST_ITEMS: usize = 10_000;
 
@@ -38,8 +39,6 @@ const MOST_TREES: usize = 20_000;
 const MOST_SUBS: u32 = 100_000;
 
 const MOST_OPS: u32 = 200_000;
-
-const MOST_SUBS_OF_TREE: usize = 64;
 
 const MOST_OPS_OF_SUB: usize = 16;
 
@@ -88,9 +87,9 @@ impl Model for Script {
 
     ghost Value = { ScriptData };
 
-    ghost use Rattle.tx_trees.specs.Inside.{data_of, IsKept};
+    ghost use Rattle.tx_trees.specs.Inside.{script_data, IsKept};
 
-    ghost view = { data_of };
+    ghost view = { script_data };
 
     ghost invariant = { IsKept };
 }
@@ -471,7 +470,7 @@ impl Script {
     fn fits(&self, item: usize, deed: Deed) -> bool
         requires item { item < length self.now.items }
         requires begun { self.now.begun ≡ true }
-        ensures { result ≡ deed_fits (last_kind self.now.trees) (kind_at item self.now.items) deed }
+        ensures { result ≡ deed_fits (last_kind self.now.trees) (item_kind_at item self.now.items) deed }
     {
         deed_fits(last_kind(&self.trees), kind_at(&self.items, item), deed)
     }
@@ -523,7 +522,7 @@ impl Script {
         requires { self.now.begun ≡ true }
         ensures subs { result.now ≡ last_tree_subs self.now.trees }
         ensures count { length result.now ≡ last_subs self.now.trees }
-        ensures few { length result.now ≤ 64 }
+        ensures few { length result.now ≤ MOST_SUBS_OF_TREE }
         ensures small { AllByRecursion (λ s. AllByRecursion (λ o. magnitude o.deed ≤ MOST_AMOUNT) s.ops) result.now }
     {
         &self.trees[self.trees.len() - 1].subs
@@ -559,7 +558,7 @@ impl Script {
         requires adds { last_may_fail self.now.trees ≡ true }
         requires earlier { failed.0 < last_subs self.now.trees }
         requires undone { expanded.now ≡ undone (last_tree_subs self.now.trees) failed.0 }
-        requires few { length expanded.now ≤ 64 }
+        requires few { length expanded.now ≤ MOST_SUBS_OF_TREE }
         ensures subs { result.subs ≡ all_subs (with_failed self.now failed.0).trees }
         ensures ops { result.ops ≡ all_ops (with_failed self.now failed.0).trees }
         ensures update_subs { result.update_subs ≡ update_subs (with_failed self.now failed.0).trees }

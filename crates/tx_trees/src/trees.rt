@@ -1,6 +1,7 @@
 // A script's trees by number.
 ghost use Rattle.std.specs.Prelude.{◌≡◌, ◌<◌, ◌≤◌, All, length, slice_get};
 ghost use Rattle.std.specs.Option.{option_copied};
+ghost use Rattle.tv_base.specs.declared.numbers.TheConstants.{MOST_SUBS_OF_TREE};
 ghost use Rattle.script_parts.specs.ScriptData.{home_of, reads, subs_at, updates};
 
 use crate::script::Script;
@@ -17,10 +18,10 @@ fn find(trees: &[Tree], tree: TreeNo) -> Option<&Tree>
 
 impl Script {
     /// The subtransactions of a tree by number, of which there are none where the tree isn't there.
-    #[tactic(auto, using(crate::proofs::SubsOf::subs_of))]
+    #[tactic(auto, using(script_parts::proofs::SubsOf::subs_of))]
     pub fn subs_of(&self, tree: TreeNo) -> &[Sub]
         ensures subs { result.now ≡ subs_at self.now tree.0 }
-        ensures few { length result.now ≤ 64 }
+        ensures few { length result.now ≤ MOST_SUBS_OF_TREE }
         ensures nodes { All (λ s. s.node.0 < self.now.nodes) result.now }
     {
         match find(self.trees(), tree) {

@@ -8,11 +8,11 @@ use Rattle.letter_types.specs.declared.entries.Posting.{Posting}
 use Rattle.letter_types.specs.Letters.{go, own, find_id, letters_of}
 use Rattle.letter_types.specs.Postal.{IsPostal, posting_of, letters_sent}
 use Rattle.letter_types.specs.Steps.{Out}
-use Rattle.tx_trees.specs.ScriptData.{ScriptData, client_of}
-use Rattle.tree_step.specs.Node.{Node}
-use Rattle.node_step.specs.Apt.{node_row}
-use Rattle.advance_coord.specs.Coordinator.{start_coordinator}
-use Rattle.client_rows.specs.Client.{start_client}
+use Rattle.script_parts.specs.ScriptData.{ScriptData, client_of}
+use Rattle.world_model.specs.Node.{Node}
+use Rattle.world_model.specs.Apt.{node_row}
+use Rattle.world_model.specs.Coordinator.{start_coordinator}
+use Rattle.world_model.specs.Client.{start_client}
 use Rattle.world_model.specs.Tables.{ActorData, NodeData, CoordinatorData, ClientData, start_node, start_actor, as_actor, actor_row, coordinator_table, client_table}
 use Rattle.world_model.specs.Runs.{IsRunOf, after, IsWorldRun}
 

@@ -1,6 +1,6 @@
 -- A history that goes step by step is one whose actors each follow their table.
 use Rattle.std.proofs.Common.{◌≡◌, ◌≢◌, ◌⊎◌, inl, inr, ℕ, ◌+◌, ◌<◌, ◌==◌, Bool, true, false, List, [], ◌∷◌, ◌++◌, length, refl, ap, sym, ◌∙◌, subst, arith, Some, reverse}
-use Rattle.std.specs.Prelude.{if◌then◌else◌, slice_get}
+use Rattle.std.specs.Prelude.{if◌then◌else◌, nat_lt, slice_get}
 use Rattle.std.proofs.lemmas.Bool.Decides.{nat_tests}
 use Rattle.std.proofs.lemmas.List.{length-reverse}
 use Rattle.tv_base.proofs.ByPlace.{slice_get_left, slice_get_last, slice_get_split}
@@ -8,11 +8,11 @@ use Rattle.letter_types.specs.declared.entries.LetterId.{LetterId}
 use Rattle.letter_types.specs.declared.entries.Letter.{Letter}
 use Rattle.letter_types.specs.declared.entries.Entry.{Entry}
 use Rattle.letter_types.specs.Letters.{go, own, same_id, find_id, drop_id, letters_of}
-use Rattle.tx_trees.specs.ScriptData.{ScriptData, client_of}
-use Rattle.node_step.specs.Apt.{node_row}
-use Rattle.advance_coord.specs.Coordinator.{start_coordinator}
+use Rattle.script_parts.specs.ScriptData.{ScriptData, client_of}
+use Rattle.world_model.specs.Apt.{node_row}
+use Rattle.world_model.specs.Coordinator.{start_coordinator}
 use Rattle.world_model.specs.Tables.{NodeData, CoordinatorData, ClientData, start_node, client_table, coordinator_table}
-use Rattle.world_model.specs.Runs.{IsRunOf, after, actor_after, IsWorldRun, waiting, node_in, coordinator_in, client_in, Says, Moves, AtNode, AtCoordinator, AtClient, MayFollow, IsStepRun}
+use Rattle.world_model.specs.Runs.{IsRunOf, after, actor_after, IsWorldRun, waiting, node_in, coordinator_in, client_in, actor_in, Says, Moves, AtNode, AtCoordinator, AtClient, MayFollow, IsStepRun}
 use Rattle.world_model.specs.Counts.{tally, one_if}
 use Rattle.world_model.proofs.Bags.{tally-drop}
 use Rattle.world_model.proofs.Bridge.{reverse_more, own_more, node_after, coordinator_after, client_after}
@@ -20,7 +20,7 @@ use Rattle.world_model.proofs.Actors.{IsTableRun, world_of_tables, node_data_aft
 use Rattle.world_model.proofs.Gone.{apart_from, same_is, of_id, found_one, Gone, gone_now, gone}
 use Rattle.letter_types.specs.Steps.{Out}
 use Rattle.letter_types.proofs.Ids.{same_id-self}
-use Rattle.client_rows.specs.Client.{start_client}
+use Rattle.world_model.specs.Client.{start_client}
 
 -- where a letter under way comes from
 abbrev Came : ScriptData → List Entry → Letter → Type 0
@@ -237,3 +237,29 @@ coordinator_leads s past = coordinator_data_after s (own s.nodes (reverse past))
 
 pub client_leads : (s : ScriptData) (past : List Entry) → actor_after s (reverse past) (client_of s) ≡ ClientData (client_in s past)
 client_leads s past = client_data_after s (own (client_of s) (reverse past)) ∙ ap ClientData (client_after s past)
+
+-- which actor it is
+is_node : (s : ScriptData) (past : List Entry) (a : ℕ) → nat_lt a s.nodes ≡ true → actor_in s past a ≡ NodeData (node_in s past a)
+is_node s past a is = rw is refl
+
+is_coordinator : (s : ScriptData) (past : List Entry) (a : ℕ) → nat_lt a s.nodes ≡ false → (a == s.nodes) ≡ true
+    → actor_in s past a ≡ CoordinatorData (coordinator_in s past)
+is_coordinator s past a is at = rw (is, at) refl
+
+is_client : (s : ScriptData) (past : List Entry) (a : ℕ) → nat_lt a s.nodes ≡ false → (a == s.nodes) ≡ false
+    → actor_in s past a ≡ ClientData (client_in s past)
+is_client s past a is at = rw (is, at) refl
+
+leads_by : (s : ScriptData) (past : List Entry) (a : ℕ) (b c : Bool) → nat_lt a s.nodes ≡ b → (a == s.nodes) ≡ c
+    → a < s.nodes + 2 → actor_in s past a ≡ actor_after s (reverse past) a
+leads_by s past a true c is at lt = is_node s past a is ∙ sym (node_leads s past a (grind (arith, nat_tests)))
+leads_by s past a false true is at lt =
+    let eq : a ≡ s.nodes = grind (arith, nat_tests) in
+    is_coordinator s past a is at ∙ sym (coordinator_leads s past) ∙ ap (actor_after s (reverse past)) (sym eq)
+leads_by s past a false false is at lt =
+    let eq : a ≡ client_of s = grind (arith, nat_tests) in
+    is_client s past a is at ∙ sym (client_leads s past) ∙ ap (actor_after s (reverse past)) (sym eq)
+
+-- an actor's own entries lead to what it is after the past
+pub actor_leads : (s : ScriptData) (past : List Entry) (a : ℕ) → a < s.nodes + 2 → actor_in s past a ≡ actor_after s (reverse past) a
+actor_leads s past a lt = leads_by s past a (nat_lt a s.nodes) (a == s.nodes) refl refl lt

@@ -6,7 +6,7 @@ use Rattle.letter_types.specs.declared.entries.Letter.{Letter}
 use Rattle.letter_types.specs.declared.entries.Outgoing.{Outgoing}
 use Rattle.letter_types.specs.declared.entries.Entry.{Entry}
 use Rattle.letter_types.specs.Letters.{same_id, find_id, drop_id, sealed, letters_of}
-use Rattle.tx_trees.specs.ScriptData.{ScriptData}
+use Rattle.script_parts.specs.ScriptData.{ScriptData}
 use Rattle.world_model.specs.Runs.{waiting, MayFollow}
 use Rattle.world_model.specs.Counts.{tally, one_if}
 

@@ -8,15 +8,15 @@ use Rattle.tv_base.proofs.ByPlace.{slice_get_left, slice_get_split}
 use Rattle.letter_types.specs.declared.entries.Letter.{Letter}
 use Rattle.letter_types.specs.declared.entries.Entry.{Entry}
 use Rattle.letter_types.specs.Letters.{go, own, find_id, letters_of}
-use Rattle.tx_trees.specs.ScriptData.{ScriptData, client_of}
+use Rattle.script_parts.specs.ScriptData.{ScriptData, client_of}
 use Rattle.world_model.specs.Tables.{start_node}
-use Rattle.node_step.specs.Apt.{node_row}
-use Rattle.advance_coord.specs.Coordinator.{start_coordinator}
+use Rattle.world_model.specs.Apt.{node_row}
+use Rattle.world_model.specs.Coordinator.{start_coordinator}
 use Rattle.world_model.specs.Tables.{client_table, coordinator_table}
 use Rattle.world_model.specs.Runs.{IsRunOf, after, node_in, coordinator_in, client_in, Says}
 use Rattle.world_model.proofs.Actors.{IsPostalEntry}
 use Rattle.letter_types.specs.Steps.{Out}
-use Rattle.client_rows.specs.Client.{start_client}
+use Rattle.world_model.specs.Client.{start_client}
 
 pub reverse_more : (e : Entry) (past : List Entry) → reverse (e ∷ past) ≡ reverse past ++ e ∷ []
 reverse_more e past = reverse-append (e ∷ []) past

@@ -6,8 +6,8 @@ use Rattle.letter_types.specs.declared.entries.Letter.{Letter}
 use Rattle.letter_types.specs.declared.entries.Outgoing.{Outgoing}
 use Rattle.letter_types.specs.declared.entries.Entry.{Entry}
 use Rattle.letter_types.specs.Letters.{same_id, find_id, drop_id, sealed, letters_of}
-use Rattle.tx_trees.specs.ScriptData.{ScriptData}
-use Rattle.node_step.specs.Apt.{node_row}
+use Rattle.script_parts.specs.ScriptData.{ScriptData}
+use Rattle.world_model.specs.Apt.{node_row}
 use Rattle.world_model.specs.Runs.{waiting, coordinator_in, node_in, Says, Moves, AtNode, AtCoordinator, AtClient, MayFollow}
 use Rattle.world_model.specs.Counts.{tally, Each}
 

@@ -7,17 +7,17 @@ use Rattle.letter_types.specs.declared.bodies.Body.TheVariants.{Go, Root, Sub as
 use Rattle.letter_types.specs.declared.entries.LetterId.{LetterId}
 use Rattle.letter_types.specs.declared.entries.Outgoing.{Outgoing}
 use Rattle.std.proofs.lemmas.Bool.Decides.{nat_tests}
-use Rattle.tx_trees.specs.ScriptData.{ScriptData, subs_at, sub_at, node_of, home_of, client_of}
-use Rattle.tx_trees.specs.Valid.{NamesInOrder}
-use Rattle.tx_trees.specs.declared.parts.ScriptRow.{ScriptRow}
-use Rattle.tx_trees.specs.declared.parts.ScriptRow.TheVariants.{Tree as TreeRow, Advance, Settle, Lose}
-use Rattle.tx_trees.specs.declared.parts.Sub.{Sub}
-use Rattle.tx_trees.proofs.Rebuilding.{names_end}
+use Rattle.script_parts.specs.ScriptData.{ScriptData, subs_at, sub_at, node_of, home_of, client_of}
+use Rattle.script_parts.specs.Valid.{NamesInOrder}
+use Rattle.script_parts.specs.declared.parts.ScriptRow.{ScriptRow}
+use Rattle.script_parts.specs.declared.parts.ScriptRow.TheVariants.{Tree as TreeRow, Advance, Settle, Lose}
+use Rattle.script_parts.specs.declared.parts.Sub.{Sub}
+use Rattle.script_parts.proofs.SubsOf.{names_end}
 use Rattle.world_model.specs.Counts.{Each}
-use Rattle.client_rows.specs.Client.{rows_letters}
+use Rattle.world_model.specs.Client.{rows_letters}
 use Rattle.world_model.proofs.Scripts.{IsSound, get_below}
-use Rattle.tree_step.specs.Apt.{is_did}
-use Rattle.tree_step.specs.Children.{sub_letters}
+use Rattle.world_model.specs.Named.{is_did}
+use Rattle.world_model.specs.Children.{sub_letters}
 use Rattle.world_model.specs.Tables.{is_run_row}
 
 -- a letter goes from the client to itself, or is for a subtransaction of the script and goes to its node, or brings the

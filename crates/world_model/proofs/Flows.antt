@@ -12,9 +12,9 @@ use Rattle.letter_types.specs.declared.entries.Letter.{Letter}
 use Rattle.letter_types.specs.declared.entries.Outgoing.{Outgoing}
 use Rattle.letter_types.specs.Steps.{Out}
 use Rattle.tv_base.specs.declared.numbers.TreeNo.{TreeNo}
-use Rattle.tx_trees.specs.ScriptData.{ScriptData, client_of}
-use Rattle.tree_step.specs.Node.{Node}
-use Rattle.client_rows.specs.Client.{Client, submit, submitted, rows_letters}
+use Rattle.script_parts.specs.ScriptData.{ScriptData, client_of}
+use Rattle.world_model.specs.Node.{Node}
+use Rattle.world_model.specs.Client.{Client, submit, submitted, rows_letters}
 use Rattle.world_model.specs.Counts.{tally}
 use Rattle.world_model.specs.Runs.{client_in, node_in, waiting, MayFollow}
 use Rattle.world_model.proofs.Bags.{tally-append, tally_step, sealed_tally}

@@ -8,7 +8,7 @@ use Rattle.letter_types.specs.declared.entries.Letter.{Letter}
 use Rattle.letter_types.specs.declared.entries.Outgoing.{Outgoing}
 use Rattle.letter_types.specs.declared.entries.Entry.{Entry}
 use Rattle.letter_types.specs.Letters.{go, same_id, find_id, sealed}
-use Rattle.tx_trees.specs.ScriptData.{ScriptData, client_of}
+use Rattle.script_parts.specs.ScriptData.{ScriptData, client_of}
 use Rattle.world_model.specs.Runs.{waiting, IsStepRun}
 use Rattle.world_model.specs.Counts.{tally, one_if}
 use Rattle.world_model.proofs.Bags.{tally_step, tally-drop, one_if_most}

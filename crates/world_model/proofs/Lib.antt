@@ -13,3 +13,8 @@ pub mod Sends
 pub mod Flows
 pub mod Orders
 pub mod Lawful
+pub mod Addressed
+pub mod Requests
+pub mod Apts
+pub mod SmallCounts
+pub mod Addressees

@@ -11,13 +11,13 @@ use Rattle.letter_types.specs.declared.bodies.Body.TheVariants.{Go, Root, Sub as
 use Rattle.letter_types.specs.declared.bodies.Notice.TheVariants.{Did as DidNotice}
 use Rattle.letter_types.specs.declared.entries.Entry.{Entry}
 use Rattle.letter_types.specs.Steps.{Out}
-use Rattle.tx_trees.specs.ScriptData.{ScriptData, client_of, node_of, home_of, ops_of, updates, reads}
-use Rattle.tree_step.specs.Node.{Effect, Node}
-use Rattle.tree_step.specs.Done.{note_done, root_done, sub_done}
-use Rattle.update_step.specs.Rows.{can_touch, touching}
-use Rattle.read_step.specs.Rows.{can_get, getting}
-use Rattle.node_step.specs.Advancing.{turn_row, show_row, sweep_row, done_row, asked_row}
-use Rattle.client_rows.specs.Client.{Client, submit, with_answer, with_end, nudge}
+use Rattle.script_parts.specs.ScriptData.{ScriptData, client_of, node_of, home_of, ops_of, updates, reads}
+use Rattle.world_model.specs.Node.{Effect, Node}
+use Rattle.world_model.specs.Done.{note_done, root_done, sub_done}
+use Rattle.world_model.specs.Updates.{can_touch, touching}
+use Rattle.world_model.specs.Reads.{can_get, getting}
+use Rattle.world_model.specs.Advancing.{turn_row, show_row, sweep_row, done_row, asked_row}
+use Rattle.world_model.specs.Client.{Client, submit, with_answer, with_end, nudge}
 use Rattle.world_model.specs.Runs.{client_in, coordinator_in, node_in}
 use Rattle.world_model.specs.Tables.{coordinator_table}
 use Rattle.world_model.proofs.Scripts.{SubAt}

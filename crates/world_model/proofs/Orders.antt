@@ -9,10 +9,10 @@ use Rattle.letter_types.specs.declared.bodies.Body.TheVariants.{Nudge, Advance, 
 use Rattle.letter_types.specs.declared.entries.Entry.{Entry}
 use Rattle.letter_types.specs.declared.entries.Outgoing.{Outgoing}
 use Rattle.letter_types.specs.Steps.{Out}
-use Rattle.tx_trees.specs.ScriptData.{ScriptData}
-use Rattle.advance_coord.specs.declared.phase.Phase.{Phase}
-use Rattle.advance_coord.specs.declared.phase.Phase.TheVariants.{Idle, Turning, Counting, Paused, Showing, Sweeping}
-use Rattle.advance_coord.specs.Coordinator.{Coordinator, ask_requests, begin_round, counted, coordinator_row, end_advance, end_count, judged, keep_done, row_of, to_nodes, version, with_asked, with_done}
+use Rattle.script_parts.specs.ScriptData.{ScriptData}
+use Rattle.world_model.specs.declared.phase.Phase.{Phase}
+use Rattle.world_model.specs.declared.phase.Phase.TheVariants.{Idle, Turning, Counting, Paused, Showing, Sweeping}
+use Rattle.world_model.specs.Coordinator.{Coordinator, ask_requests, begin_round, counted_version, coordinator_row, end_advance, end_count, after_verdict, keep_done, row_of, to_nodes, version, with_asked, with_done}
 use Rattle.world_model.specs.Counts.{Each}
 use Rattle.world_model.specs.Runs.{coordinator_in}
 use Rattle.world_model.specs.Tables.{coordinator_table}
@@ -42,7 +42,7 @@ SendsOf P out = Each (of P) out.sent
 
 round_each : (P : ℕ → Body → Type 0) (reads : Bool) (c : Coordinator) → OfOrders P c.nodes → SendsOf P (begin_round reads c)
 round_each P reads c h =
-    to_nodes_each P c.nodes (AskDone (counted reads c) (one_more c.round)) (λ to lt. h.ask_done to (counted reads c) (one_more c.round) lt)
+    to_nodes_each P c.nodes (AskDone (counted_version reads c) (one_more c.round)) (λ to lt. h.ask_done to (counted_version reads c) (one_more c.round) lt)
 
 ends_each : (P : ℕ → Body → Type 0) (reads : Bool) (c : Coordinator) → OfOrders P c.nodes → SendsOf P (end_count reads c)
 ends_each P false c h = to_nodes_each P c.nodes (Show (version c.update)) (λ to lt. h.show to (version c.update) lt)
@@ -57,7 +57,7 @@ pick_list P true xs all = all
 pick_list P false xs all = tt
 
 judged_each : (P : ℕ → Body → Type 0) (reads : Bool) (verdict : Option Bool) (c : Coordinator) → OfOrders P c.nodes
-    → SendsOf P (judged reads verdict c)
+    → SendsOf P (after_verdict reads verdict c)
 judged_each P reads None c h = tt
 judged_each P reads (Some true) c h = ends_each P reads c h
 judged_each P reads (Some false) c h = pick_each P c.flag _ _ (round_each P reads c h) tt
@@ -110,7 +110,7 @@ ends_plain : (reads : Bool) (c d : Coordinator) → d.nodes ≡ c.nodes → Plai
 ends_plain false c d is = same c _ refl is
 ends_plain true c d is = same c _ refl is
 
-judged_plain : (reads : Bool) (verdict : Option Bool) (c d : Coordinator) → d.nodes ≡ c.nodes → Plain c (judged reads verdict d)
+judged_plain : (reads : Bool) (verdict : Option Bool) (c d : Coordinator) → d.nodes ≡ c.nodes → Plain c (after_verdict reads verdict d)
 judged_plain reads None c d is = same c _ refl is
 judged_plain reads (Some true) c d is = ends_plain reads c d is
 judged_plain reads (Some false) c d is = pick_plain c d.flag _ _ (same c _ refl is) (same c _ refl is)

@@ -12,16 +12,16 @@ use Rattle.letter_types.specs.declared.entries.Outgoing.{Outgoing}
 use Rattle.letter_types.specs.declared.entries.Entry.{Entry}
 use Rattle.letter_types.specs.Letters.{go, own, same_id, find_id, drop_id, sealed, letters_of}
 use Rattle.letter_types.specs.Steps.{Out}
-use Rattle.tx_trees.specs.ScriptData.{ScriptData, client_of}
-use Rattle.tree_step.specs.Node.{Node}
-use Rattle.node_step.specs.Apt.{node_row}
-use Rattle.advance_coord.specs.Coordinator.{start_coordinator}
+use Rattle.script_parts.specs.ScriptData.{ScriptData, client_of}
+use Rattle.world_model.specs.Node.{Node}
+use Rattle.world_model.specs.Apt.{node_row}
+use Rattle.world_model.specs.Coordinator.{start_coordinator}
 use Rattle.world_model.specs.Tables.{start_node, client_table, coordinator_table}
 use Rattle.world_model.specs.Runs.{IsRunOf, after, IsWorldRun, waiting, node_in, coordinator_in, client_in, Says, Moves, AtNode, AtCoordinator, AtClient, MayFollow, IsStepRun}
 use Rattle.world_model.proofs.Gone.{apart_from, same_is}
 use Rattle.world_model.proofs.Bridge.{reverse_more, postal_less, run_less, node_after, coordinator_after, client_after}
 use Rattle.world_model.proofs.Actors.{IsPostalEntry, RowsRun, IsTableRun, table_run}
-use Rattle.client_rows.specs.Client.{start_client}
+use Rattle.world_model.specs.Client.{start_client}
 
 find_left_at : (id : LetterId) (x : Letter) (xs ys : List Letter) (l : Letter) (b : Bool) → same_id id x.id ≡ b
     → find_id id (x ∷ xs) ≡ Some l

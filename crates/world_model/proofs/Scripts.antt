@@ -2,17 +2,17 @@
 use Rattle.std.proofs.Common.{◌≡◌, ◌⊎◌, inl, inr, ℕ, zero, suc, ◌+◌, ◌<◌, ◌≤◌, true, false, List, [], ◌∷◌, length, refl, ap, subst, arith, Some}
 use Rattle.std.specs.Prelude.{IsTrue, slice_get, unsigned_abs}
 use Rattle.std.specs.List.{AllByRecursion}
-use Rattle.tx_trees.proofs.Undoing.{only_update}
+use Rattle.script_parts.proofs.SubsOf.{only_update}
 use Rattle.commute_ops.specs.declared.kinds.TheConstants.{MOST_AMOUNT}
-use Rattle.tx_trees.specs.ScriptData.{ScriptData, subs_at, sub_at, node_of, ops_of, updates, is_update, reads, is_read}
-use Rattle.tx_trees.specs.Valid.{IsValid, IsTree, IsSub, AreSubs, IsOp, trees_load}
-use Rattle.tx_trees.specs.declared.parts.ItemRow.{ItemRow}
-use Rattle.tx_trees.specs.declared.parts.Sub.{Sub}
-use Rattle.tx_trees.specs.declared.parts.Tree.{Tree}
-use Rattle.tx_trees.specs.declared.parts.TreeKind.{TreeKind}
-use Rattle.tx_trees.specs.declared.parts.TreeKind.TheVariants as trees
-use Rattle.tx_trees.proofs.SubsOf.{all_at, small_load}
-use Rattle.tree_step.specs.Apt.{kind_at, is_strict_at}
+use Rattle.script_parts.specs.ScriptData.{ScriptData, subs_at, sub_at, node_of, ops_of, updates, is_update, reads, is_read}
+use Rattle.script_parts.specs.Valid.{IsValid, IsTree, IsSub, AreSubs, IsOp, trees_load}
+use Rattle.script_parts.specs.declared.parts.ItemRow.{ItemRow}
+use Rattle.script_parts.specs.declared.parts.Sub.{Sub}
+use Rattle.script_parts.specs.declared.parts.Tree.{Tree}
+use Rattle.script_parts.specs.declared.parts.TreeKind.{TreeKind}
+use Rattle.script_parts.specs.declared.parts.TreeKind.TheVariants as trees
+use Rattle.script_parts.proofs.SubsOf.{all_at, small_load}
+use Rattle.world_model.specs.Named.{tree_kind_at, is_strict_at}
 use Rattle.world_model.specs.Tables.{IsRunnable, is_run}
 
 -- a script that is valid, and that the world runs
@@ -89,11 +89,11 @@ pub reads_kind : (s : ScriptData) (t k : ℕ) (c : SubAt s t k) → reads s t �
 reads_kind s t k c up = is_read_of c.tree.kind (rw (c.at, reads) at up)
 
 -- the kind that a node asks for
-pub update_kind_at : (s : ScriptData) (t k : ℕ) (c : SubAt s t k) → updates s t ≡ true → kind_at s t ≡ Some trees.Update
-update_kind_at s t k c up = rw (c.at, kind_at) (ap (λ (x : TreeKind). Some x) (updates_kind s t k c up))
+pub update_kind_at : (s : ScriptData) (t k : ℕ) (c : SubAt s t k) → updates s t ≡ true → tree_kind_at s t ≡ Some trees.Update
+update_kind_at s t k c up = rw (c.at, tree_kind_at) (ap (λ (x : TreeKind). Some x) (updates_kind s t k c up))
 
-pub read_kind_at : (s : ScriptData) (t k : ℕ) (c : SubAt s t k) → reads s t ≡ true → kind_at s t ≡ Some trees.Read
-read_kind_at s t k c up = rw (c.at, kind_at) (ap (λ (x : TreeKind). Some x) (reads_kind s t k c up))
+pub read_kind_at : (s : ScriptData) (t k : ℕ) (c : SubAt s t k) → reads s t ≡ true → tree_kind_at s t ≡ Some trees.Read
+read_kind_at s t k c up = rw (c.at, tree_kind_at) (ap (λ (x : TreeKind). Some x) (reads_kind s t k c up))
 
 not_strict_by : (s : ScriptData) (t k : ℕ) (c : SubAt s t k) → (updates s t ≡ true) ⊎ (reads s t ≡ true) → is_strict_at s t ≡ false
 not_strict_by s t k c (inl up) = rw (update_kind_at s t k c up, is_strict_at) refl

@@ -9,14 +9,14 @@ use Rattle.letter_types.specs.declared.bodies.Answer.TheVariants.{Whole}
 use Rattle.letter_types.specs.declared.bodies.Body.{Body}
 use Rattle.letter_types.specs.declared.bodies.Body.TheVariants.{Root, Sub as SubLetter, Reply, Advance as AdvanceLetter}
 use Rattle.letter_types.specs.declared.entries.Outgoing.{Outgoing}
-use Rattle.tx_trees.specs.ScriptData.{ScriptData}
-use Rattle.tx_trees.specs.declared.parts.ScriptRow.{ScriptRow}
-use Rattle.tx_trees.specs.declared.parts.ScriptRow.TheVariants.{Tree as TreeRow, Advance, Settle, Lose}
-use Rattle.tx_trees.specs.declared.parts.Sub.{Sub}
+use Rattle.script_parts.specs.ScriptData.{ScriptData}
+use Rattle.script_parts.specs.declared.parts.ScriptRow.{ScriptRow}
+use Rattle.script_parts.specs.declared.parts.ScriptRow.TheVariants.{Tree as TreeRow, Advance, Settle, Lose}
+use Rattle.script_parts.specs.declared.parts.Sub.{Sub}
 use Rattle.tree_home.specs.declared.homes.Answered.{Answered}
-use Rattle.tree_step.specs.Children.{sub_letters}
-use Rattle.tree_step.specs.Notices.{reply_letters}
-use Rattle.client_rows.specs.Client.{rows_letters}
+use Rattle.world_model.specs.Children.{sub_letters}
+use Rattle.world_model.specs.Notices.{reply_letters}
+use Rattle.world_model.specs.Client.{rows_letters}
 use Rattle.world_model.specs.Counts.{tally}
 
 -- what was sent, by a number of its body

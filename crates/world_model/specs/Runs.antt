@@ -1,17 +1,17 @@
 -- Histories that the tables allow.
-use Rattle.std.specs.Prelude.{if◌then◌else◌, ℕ, ◌==◌, ◌+◌, ◌<◌, ◌≡◌, List, [], ◌∷◌, length, map, Some}
+use Rattle.std.specs.Prelude.{if◌then◌else◌, ℕ, ◌==◌, ◌+◌, ◌<◌, ◌≡◌, nat_lt, List, [], ◌∷◌, length, map, Some}
 use Rattle.letter_types.specs.declared.entries.Letter.{Letter}
 use Rattle.letter_types.specs.declared.entries.Entry.{Entry}
 use Rattle.letter_types.specs.Letters.{find_id, own}
-use Rattle.letter_types.specs.Letters.{waiting as waiting_for}
+use Rattle.letter_types.specs.Letters.{waiting_after as waiting_for}
 use Rattle.letter_types.specs.Postal.{IsPostal, posting_of}
 use Rattle.letter_types.specs.Steps.{Out}
-use Rattle.tx_trees.specs.ScriptData.{ScriptData, client_of}
-use Rattle.tree_step.specs.Node.{Node}
-use Rattle.node_step.specs.Apt.{node_row}
-use Rattle.advance_coord.specs.Coordinator.{Coordinator, start_coordinator}
-use Rattle.client_rows.specs.Client.{Client, start_client}
-use Rattle.world_model.specs.Tables.{ActorData, start_node, start_actor, actor_row, wide_actor_row, coordinator_table, client_table}
+use Rattle.script_parts.specs.ScriptData.{ScriptData, client_of}
+use Rattle.world_model.specs.Node.{Node}
+use Rattle.world_model.specs.Apt.{node_row}
+use Rattle.world_model.specs.Coordinator.{Coordinator, start_coordinator}
+use Rattle.world_model.specs.Client.{Client, start_client}
+use Rattle.world_model.specs.Tables.{ActorData, NodeData, CoordinatorData, ClientData, start_node, start_actor, actor_row, wide_actor_row, coordinator_table, client_table}
 
 -- The public shape: the letters went as letters do, and each actor's own entries, in order, are a run of its table.
 
@@ -30,6 +30,7 @@ after row st (e ∷ es) = after row (row st e.took).state es
 abbrev pub IsActorRun : ScriptData → List Entry → ℕ → Type 0
 IsActorRun s h a = IsRunOf (actor_row s a) (start_actor s a) (own a h)
 
+-- a run by tables: letters went as letters do, and each actor's own entries are a run of its table
 pub record IsWorldRun (s : ScriptData) (h : List Entry) : Type 0 where
   pub postal : IsPostal (client_of s) (map posting_of h)
   pub actors : (a : ℕ) → a < s.nodes + 2 → IsActorRun s h a
@@ -46,6 +47,7 @@ actor_after s h a = after (actor_row s a) (start_actor s a) (own a h)
 -- The shape for proofs: one entry after the other. A past has the newest entry first, and the letters under way and
 -- the states are functions of it.
 
+-- the letters under way after a past
 abbrev pub waiting : ScriptData → List Entry → List Letter
 waiting s past = waiting_for (client_of s) past
 
@@ -62,6 +64,12 @@ abbrev pub client_in : ScriptData → List Entry → Client
 client_in s [] = start_client s
 client_in s (e ∷ past) =
     if e.actor.0 == client_of s then (client_table s (client_in s past) e.took).state else client_in s past
+
+-- actor a after a past: the nodes, then the coordinator, then the client
+abbrev pub actor_in : ScriptData → List Entry → ℕ → ActorData
+actor_in s past a =
+    if nat_lt a s.nodes then NodeData (node_in s past a)
+    else if a == s.nodes then CoordinatorData (coordinator_in s past) else ClientData (client_in s past)
 
 -- the table says these letters and these acts
 abbrev pub Says : {St : Type 0} → Out St → Entry → Type 0

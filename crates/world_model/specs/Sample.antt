@@ -2,15 +2,15 @@
 use Rattle.std.specs.Prelude.{if◌then◌else◌, ℕ, pos, false, ◌==◌, ◌+◌, nat_lt, List, [], ◌∷◌, ◌++◌, length, suc, zero, None}
 use Rattle.commute_ops.specs.declared.kinds.Kind.TheVariants.{Sum}
 use Rattle.commute_ops.specs.declared.kinds.Op.TheVariants.{Add}
-use Rattle.tx_trees.specs.ScriptData.{ScriptData}
-use Rattle.tx_trees.specs.declared.parts.Deed.TheVariants.{Apply, Get}
-use Rattle.tx_trees.specs.declared.parts.Form.TheVariants.{One}
-use Rattle.tx_trees.specs.declared.parts.ScriptRow.TheVariants.{Tree, Settle}
-use Rattle.tx_trees.specs.declared.parts.TreeKind.TheVariants.{Update, Read}
+use Rattle.script_parts.specs.ScriptData.{ScriptData}
+use Rattle.script_parts.specs.declared.parts.Deed.TheVariants.{Apply, Get}
+use Rattle.script_parts.specs.declared.parts.Form.TheVariants.{One}
+use Rattle.script_parts.specs.declared.parts.ScriptRow.TheVariants.{Tree, Settle}
+use Rattle.script_parts.specs.declared.parts.TreeKind.TheVariants.{Update, Read}
 use Rattle.letter_types.specs.declared.entries.Letter.{Letter}
 use Rattle.letter_types.specs.declared.entries.Entry.{Entry}
 use Rattle.letter_types.specs.Steps.{Out}
-use Rattle.node_step.specs.Apt.{node_row}
+use Rattle.world_model.specs.Apt.{node_row}
 use Rattle.world_model.specs.Tables.{client_table, coordinator_table}
 use Rattle.world_model.specs.Runs.{waiting, node_in, coordinator_in, client_in}
 

@@ -3,7 +3,7 @@ use Rattle.std.specs.Prelude.{if◌then◌else◌, ℕ, zero, suc, ◌/◌, ◌%
 use Rattle.tv_base.specs.Draws.{next_draw}
 use Rattle.letter_types.specs.declared.entries.Entry.{Entry}
 use Rattle.letter_types.specs.declared.entries.Letter.{Letter}
-use Rattle.tx_trees.specs.ScriptData.{ScriptData}
+use Rattle.script_parts.specs.ScriptData.{ScriptData}
 use Rattle.world_model.specs.Runs.{waiting}
 
 -- the number after the first k + 1 draws from a seed

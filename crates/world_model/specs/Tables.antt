@@ -1,31 +1,31 @@
 -- How each actor begins, and what it does with a letter: one table for all of them.
 use Rattle.std.specs.Prelude.{if◌then◌else◌, ℕ, Bool, true, false, ◌==◌, ◌+◌, nat_lt, List, [], ◌∷◌, IsTrue}
 use Rattle.std.specs.List.{AllByRecursion}
-use Rattle.commute_ops.specs.Ops.{start}
+use Rattle.commute_ops.specs.Ops.{value_start}
 use Rattle.item_versions.specs.Table.{Table}
-use Rattle.node_versions.specs.Turns.{start as first_turns}
+use Rattle.node_versions.specs.Turns.{turns_start as first_turns}
 use Rattle.pair_counters.specs.Numbers.{none}
 use Rattle.tree_home.specs.Homes.{no_trees}
-use Rattle.tx_trees.specs.ScriptData.{ScriptData}
-use Rattle.tx_trees.specs.declared.parts.ItemRow.{ItemRow}
-use Rattle.tx_trees.specs.declared.parts.ScriptRow.{ScriptRow}
-use Rattle.tx_trees.specs.declared.parts.ScriptRow.TheVariants.{Tree as TreeRow, Settle as SettleRow, Advance as AdvanceRow, Lose as LoseRow}
-use Rattle.tx_trees.specs.declared.parts.Tree.{Tree}
-use Rattle.tx_trees.specs.declared.parts.TreeKind.{TreeKind}
-use Rattle.tx_trees.specs.declared.parts.TreeKind.TheVariants.{Update, Read, Strict}
+use Rattle.script_parts.specs.ScriptData.{ScriptData}
+use Rattle.script_parts.specs.declared.parts.ItemRow.{ItemRow}
+use Rattle.script_parts.specs.declared.parts.ScriptRow.{ScriptRow}
+use Rattle.script_parts.specs.declared.parts.ScriptRow.TheVariants.{Tree as TreeRow, Settle as SettleRow, Advance as AdvanceRow, Lose as LoseRow}
+use Rattle.script_parts.specs.declared.parts.Tree.{Tree}
+use Rattle.script_parts.specs.declared.parts.TreeKind.{TreeKind}
+use Rattle.script_parts.specs.declared.parts.TreeKind.TheVariants.{Update, Read, Strict}
 use Rattle.letter_types.specs.declared.entries.Letter.{Letter}
 use Rattle.letter_types.specs.Steps.{Out}
-use Rattle.tree_step.specs.Node.{Node}
-use Rattle.node_step.specs.Apt.{node_row, wide_node_row}
-use Rattle.advance_coord.specs.Coordinator.{Coordinator, start_coordinator, coordinator_row}
-use Rattle.client_rows.specs.Client.{Client, start_client, client_row}
+use Rattle.world_model.specs.Node.{Node}
+use Rattle.world_model.specs.Apt.{node_row, wide_node_row}
+use Rattle.world_model.specs.Coordinator.{Coordinator, start_coordinator, coordinator_row}
+use Rattle.world_model.specs.Client.{Client, start_client, client_row}
 
 -- the items at node p, where the list begins with item x: each in version 0 with its initial value
 abbrev pub items_at : ℕ → ℕ → List ItemRow → Table
 items_at p x [] = []
 items_at p x (r ∷ rs) =
     if r.node.0 == p
-    then (record { 0 = x }, (record { 0 = 0 }, start r.kind r.initial) ∷ []) ∷ items_at p (x + 1) rs
+    then (record { 0 = x }, (record { 0 = 0 }, value_start r.kind r.initial) ∷ []) ∷ items_at p (x + 1) rs
     else items_at p (x + 1) rs
 
 abbrev pub start_node : ScriptData → ℕ → Node

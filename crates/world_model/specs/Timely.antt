@@ -1,8 +1,8 @@
 -- A run in which each letter came in time.
 use Rattle.std.specs.Prelude.{◌≡◌, ◌<◌, true, List, [], ◌∷◌}
 use Rattle.letter_types.specs.declared.entries.Entry.{Entry}
-use Rattle.tx_trees.specs.ScriptData.{ScriptData}
-use Rattle.tree_step.specs.Apt.{is_timely}
+use Rattle.script_parts.specs.ScriptData.{ScriptData}
+use Rattle.world_model.specs.Named.{is_timely}
 use Rattle.world_model.specs.Runs.{node_in}
 
 -- the letter of an entry was timely at its node, if it was taken by one

@@ -3,8 +3,12 @@
 
 ghost use Rattle.std.specs.Prelude.{List, reverse};
 ghost use Rattle.letter_types.specs.declared.entries.Entry.{Entry};
-ghost use Rattle.tx_trees.specs.ScriptData.{ScriptData};
+ghost use Rattle.script_parts.specs.ScriptData.{ScriptData};
 ghost use Rattle.world_model.specs.Runs.{IsStepRun, IsWorldRun};
+
+mod phase;
+
+pub use phase::Phase;
 
 /// A history that goes step by step is one whose letters went as letters do and whose actors each follow their table.
 pub fn steps_follow_the_tables()

@@ -8,8 +8,8 @@ use Rattle.tx_trees.specs.declared.parts.Tree.{Tree}
 use Rattle.tx_trees.specs.declared.parts.TreeKind.{TreeKind}
 use Rattle.tx_trees.specs.declared.parts.TreeKind.TheVariants.{Update, Read, Strict}
 use Rattle.board_model.specs.declared.standings.Standing.{Standing}
-use Rattle.board_model.specs.Serial.{is_version}
-use Rattle.board_model.specs.Worth.{changes}
+use Rattle.board_rules.specs.Serial.{is_version}
+use Rattle.board_rules.specs.Worth.{changes}
 
 -- the subtransactions of tree t of these
 abbrev pub subs_in : List Tree → ℕ → List Sub

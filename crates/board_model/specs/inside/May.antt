@@ -11,7 +11,7 @@ use Rattle.tx_trees.specs.declared.parts.Deed.TheVariants as deeds
 use Rattle.tx_trees.specs.declared.parts.SubOp.{SubOp}
 use Rattle.tx_trees.specs.declared.parts.Sub.{Sub}
 use Rattle.board_model.specs.Balances.{all_after_op, all_after_ops, all_after_tree}
-use Rattle.board_model.specs.Worth.{after_deed, after_ops, after_tree}
+use Rattle.board_rules.specs.Worth.{after_deed, after_ops, after_tree}
 
 -- a sum may be lowered: the two magnitudes add up to no more than is allowed
 abbrev pub draw_may : ℤ → Value → Bool

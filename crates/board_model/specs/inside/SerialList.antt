@@ -9,7 +9,7 @@ use Rattle.tx_trees.specs.declared.parts.TreeKind.{TreeKind}
 use Rattle.tx_trees.specs.declared.parts.TreeKind.TheVariants.{Update, Read, Strict}
 use Rattle.board_model.specs.declared.serial.Member.{Member}
 use Rattle.board_model.specs.declared.standings.Standing.{Standing}
-use Rattle.board_model.specs.Histories.{Place}
+use Rattle.board_rules.specs.Histories.{Place}
 
 -- acts at node p
 abbrev pub placed : ℕ → List Act → List Place
@@ -27,11 +27,11 @@ with_version None t = None
 with_version (Some v) t = Some (record { version = v; tree = t })
 
 -- the same of a tree of this kind and standing, if its deeds count
-abbrev pub counted : TreeKind → Standing → TreeNo → Option Member
-counted kind st t = if counts_by kind st then with_version st.born t else None
+abbrev pub counted_member : TreeKind → Standing → TreeNo → Option Member
+counted_member kind st t = if counts_by kind st then with_version st.born t else None
 
 abbrev pub counted_at : Option Tree → Option Standing → TreeNo → Option Member
-counted_at (Some tree) (Some st) t = counted tree.kind st t
+counted_at (Some tree) (Some st) t = counted_member tree.kind st t
 counted_at (Some tree) None t = None
 counted_at None st t = None
 

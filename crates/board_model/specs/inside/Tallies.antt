@@ -13,7 +13,7 @@ use Rattle.board_model.specs.declared.tallies.News.{News}
 use Rattle.board_model.specs.declared.tallies.News.TheVariants as news
 use Rattle.board_model.specs.declared.tallies.Tally.{Tally}
 use Rattle.board_model.specs.declared.tallies.TheConstants.{MOST_NODES, MOST_SUBS}
-use Rattle.board_model.specs.Histories.{Place}
+use Rattle.board_rules.specs.Histories.{Place}
 
 -- nothing is known of the tree yet
 abbrev pub blank : Tally
@@ -27,8 +27,8 @@ blank = record {
 abbrev pub with_born : Version → Tally → Tally
 with_born v row = record row { born = Some v }
 
-abbrev pub with_done : ℕ → Tally → Tally
-with_done k row = record row { done = slice_set row.done k true }
+abbrev pub with_sub_done : ℕ → Tally → Tally
+with_sub_done k row = record row { done = slice_set row.done k true }
 
 abbrev pub with_decided : Bool → Tally → Tally
 with_decided commit row = record row { committed = commit || row.committed }
@@ -39,7 +39,7 @@ with_applied p row = record row { applied = slice_set row.applied p true }
 -- a row with what is noted on it
 abbrev pub with_news : News → Tally → Tally
 with_news (news.Born v) = with_born v
-with_news (news.Done k) = with_done k.0
+with_news (news.Done k) = with_sub_done k.0
 with_news (news.Decided commit) = with_decided commit
 with_news (news.Applied p) = with_applied p.0
 
@@ -50,18 +50,18 @@ on_row zero f (row ∷ rows) = f row ∷ rows
 on_row (suc t) f (row ∷ rows) = row ∷ on_row t f rows
 
 -- an act at node p, in front of those noted
-abbrev pub noted : ℕ → Act → List Tally → List Tally
-noted p (Born t v) rows = on_row t.0 (with_born v) rows
-noted p (Did t k values) rows = on_row t.0 (with_done k.0) rows
-noted p (Decided t commit) rows = on_row t.0 (with_decided commit) rows
-noted p (Applied t commit) rows = on_row t.0 (with_applied p) rows
-noted p Finished rows = rows
-noted p _ rows = rows
+abbrev pub tallies_with_act : ℕ → Act → List Tally → List Tally
+tallies_with_act p (Born t v) rows = on_row t.0 (with_born v) rows
+tallies_with_act p (Did t k values) rows = on_row t.0 (with_sub_done k.0) rows
+tallies_with_act p (Decided t commit) rows = on_row t.0 (with_decided commit) rows
+tallies_with_act p (Applied t commit) rows = on_row t.0 (with_applied p) rows
+tallies_with_act p Finished rows = rows
+tallies_with_act p _ rows = rows
 
 -- the rows after acts that are noted from the last one
 abbrev pub noted_back : List Place → List Tally → List Tally
 noted_back [] rows = rows
-noted_back (x ∷ xs) rows = noted x.node x.act (noted_back xs rows)
+noted_back (x ∷ xs) rows = tallies_with_act x.node x.act (noted_back xs rows)
 
 -- each of the first n subtransactions was done
 abbrev pub all_marked : ℕ → List Bool → Bool

@@ -2,7 +2,7 @@
 -- private code alone cites.
 use Rattle.std.specs.Prelude.{ℕ, true, false, ◌≡◌, ◌<◌, ◌+◌, ◌==◌, List, length, is_some, nat_le, nat_lt}
 use Rattle.tv_base.specs.declared.numbers.NodeNo.{NodeNo}
-use Rattle.script_parts.specs.Adding.{are_crowded, has_no_op_left, has_no_sub_left, has_no_tree_left, has_touched, is_heavy, kind_at, last_kind, last_may_fail, last_node, last_subs, last_tree_subs, names_tree, node_at, place_of, with_failed}
+use Rattle.script_parts.specs.Adding.{are_crowded, has_no_op_left, has_no_sub_left, has_no_tree_left, has_touched, is_heavy, item_kind_at, last_kind, last_may_fail, last_node, last_subs, last_tree_subs, names_tree, node_at, place_of, with_failed}
 use Rattle.script_parts.specs.Amounts.{magnitude}
 use Rattle.script_parts.specs.Forms.{most_amount}
 use Rattle.script_parts.specs.Names.{is_name}
@@ -57,7 +57,7 @@ pub record MayAddOp (s : ScriptData) (k : ℕ) (deed : Deed) : Type 0 where
   pub item : k < length s.items
   pub begun : s.begun ≡ true
   pub node : (node_at k s.items == last_node s.trees) ≡ true
-  pub kind : deed_fits (last_kind s.trees) (kind_at k s.items) deed ≡ true
+  pub kind : deed_fits (last_kind s.trees) (item_kind_at k s.items) deed ≡ true
   pub room : has_no_op_left k deed s.trees ≡ false
   pub load : nat_lt (most_amount s.form) (load k s + magnitude deed) ≡ false
   pub once : has_touched k s.trees ≡ false

@@ -3,7 +3,7 @@ use Rattle.letter_types.specs.declared.acts.Act.{Act}
 use Rattle.letter_types.specs.declared.entries.Entry.{Entry}
 use Rattle.board_model.specs.inside.Closed.{Closed}
 use Rattle.board_model.specs.inside.Closed.{closed_back}
-use Rattle.board_model.specs.Histories.{Place, places_at, places_of}
+use Rattle.board_rules.specs.Histories.{Place, places_at, places_of}
 use Rattle.board_model.specs.inside.SerialList.{placed}
 use Rattle.board_model.specs.declared.tallies.Tally.{Tally}
 use Rattle.board_model.specs.inside.Tallies.{noted_back}

@@ -1,6 +1,6 @@
 use Rattle.std.proofs.Common.{◌≡◌, ◌-◌, drop}
 use Rattle.board_model.specs.inside.Closed.{closed_back}
-use Rattle.board_model.specs.Histories.{places_of}
+use Rattle.board_rules.specs.Histories.{places_of}
 use Rattle.board_model.specs.inside.Tallies.{noted_back}
 use Rattle.board_model.proofs.serial.note_entries.Given as goal
 

@@ -9,8 +9,8 @@ use Rattle.board_model.specs.declared.standings.Standing.{Standing}
 use Rattle.board_model.specs.declared.tallies.Tally.{Tally}
 use Rattle.board_model.specs.inside.Closed.{Closed, none_closed}
 use Rattle.board_model.specs.inside.Closed.{closed_back}
-use Rattle.board_model.specs.Histories.{places_of}
-use Rattle.board_model.specs.SerialList.{is_of, trees_of}
+use Rattle.board_rules.specs.Histories.{places_of}
+use Rattle.board_model.specs.SerialList.{is_of_version, trees_of_members}
 use Rattle.board_model.specs.inside.SerialList.{found_back}
 use Rattle.board_model.specs.Standings.{standings_of}
 use Rattle.board_model.specs.inside.Tallies.{blank, noted_back, stood_by}
@@ -59,4 +59,4 @@ returns-clause-serial c =
     ∙ ap (λ (z : List Standing). found_back s.trees z c.order.result.now) standings
     ∙ ap (λ (z : List TreeNo). found_back s.trees (standings_of s h) z) order in
     is_serial s h c.in_ok-members.members.items c.in_ok-serial.serial c.in_ok-serial.ensures
-    (λ (v : ℕ). ap (λ (z : List Member). trees_of (filter (is_of v) z)) found ∙ found_all s h v)
+    (λ (v : ℕ). ap (λ (z : List Member). trees_of_members (filter (is_of_version v) z)) found ∙ found_all s h v)

@@ -10,19 +10,19 @@ use Rattle.commute_ops.specs.declared.value.Value.{Value}
 use Rattle.commute_ops.specs.Ops.{applied}
 use Rattle.commute_ops.proofs.Orders.{is_free_of_order, values_are_free_of_order}
 use Rattle.letter_types.specs.declared.entries.Entry.{Entry}
-use Rattle.tx_trees.specs.ScriptData.{ScriptData, is_strict, subs_at}
-use Rattle.tx_trees.specs.Valid.{AreSubs, IsOp, IsTree, IsValid, OpAt, deed_fits}
-use Rattle.tx_trees.specs.declared.parts.Deed.{Deed}
-use Rattle.tx_trees.specs.declared.parts.Deed.TheVariants.{Apply, Get, Set, Draw}
-use Rattle.tx_trees.specs.declared.parts.ItemRow.{ItemRow}
-use Rattle.tx_trees.specs.declared.parts.Sub.{Sub}
-use Rattle.tx_trees.specs.declared.parts.SubOp.{SubOp}
-use Rattle.tx_trees.specs.declared.parts.Tree.{Tree}
-use Rattle.tx_trees.specs.declared.parts.TreeKind.{TreeKind}
-use Rattle.tx_trees.specs.declared.parts.TreeKind.TheVariants.{Update, Read, Strict}
-use Rattle.board_model.specs.Histories.{is_strict_tree}
-use Rattle.board_model.specs.Serial.{serial_to}
-use Rattle.board_model.specs.Worth.{after_deed, after_ops, after_subs, after_tree, first_value, worth}
+use Rattle.script_parts.specs.ScriptData.{ScriptData, is_strict, subs_at}
+use Rattle.script_parts.specs.Valid.{AreSubs, IsOp, IsTree, IsValid, OpAt, deed_fits}
+use Rattle.script_parts.specs.declared.parts.Deed.{Deed}
+use Rattle.script_parts.specs.declared.parts.Deed.TheVariants.{Apply, Get, Set, Draw}
+use Rattle.script_parts.specs.declared.parts.ItemRow.{ItemRow}
+use Rattle.script_parts.specs.declared.parts.Sub.{Sub}
+use Rattle.script_parts.specs.declared.parts.SubOp.{SubOp}
+use Rattle.script_parts.specs.declared.parts.Tree.{Tree}
+use Rattle.script_parts.specs.declared.parts.TreeKind.{TreeKind}
+use Rattle.script_parts.specs.declared.parts.TreeKind.TheVariants.{Update, Read, Strict}
+use Rattle.board_rules.specs.Histories.{is_strict_tree}
+use Rattle.board_rules.specs.Serial.{serial_to}
+use Rattle.board_rules.specs.Worth.{after_deed, after_ops, after_subs, after_tree, first_value, worth}
 
 -- the commuting operation that a deed is; other deeds are none
 abbrev pub op_of : Deed → List Op

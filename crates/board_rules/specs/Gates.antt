@@ -4,23 +4,24 @@ use Rattle.std.specs.List.{list_any}
 use Rattle.letter_types.specs.declared.acts.Act.{Act}
 use Rattle.letter_types.specs.declared.acts.Act.TheVariants.{Born, Turned, Swept, Finished}
 use Rattle.letter_types.specs.declared.entries.Entry.{Entry}
-use Rattle.tx_trees.specs.Counts.{advances_in}
-use Rattle.tx_trees.specs.ScriptData.{ScriptData}
-use Rattle.tx_trees.specs.declared.parts.ScriptRow.{ScriptRow}
-use Rattle.tx_trees.specs.declared.parts.ScriptRow.TheVariants.{Tree as TreeRow, Advance as AdvanceRow, Settle as SettleRow}
-use Rattle.board_model.specs.Histories.{Place}
-use Rattle.board_model.specs.Moves.{AtEachAct, is_whole_in, low_after, read_after, update_after}
-use Rattle.board_model.specs.Right.{has_finished}
+use Rattle.script_parts.specs.Counts.{advances_in}
+use Rattle.script_parts.specs.ScriptData.{ScriptData}
+use Rattle.script_parts.specs.declared.parts.ScriptRow.{ScriptRow}
+use Rattle.script_parts.specs.declared.parts.ScriptRow.TheVariants.{Tree as TreeRow, Advance as AdvanceRow, Settle as SettleRow}
+use Rattle.board_rules.specs.Histories.{Place, is_whole_in}
+use Rattle.board_rules.specs.Moves.{AtEachAct, low_after, read_after, update_after}
+use Rattle.board_rules.specs.Right.{has_finished}
 
-abbrev pub is_settle : ScriptRow → Bool
-is_settle SettleRow = true
-is_settle (TreeRow t) = false
-is_settle _ = false
+-- the row is a `settle`
+abbrev pub is_settle_row : ScriptRow → Bool
+is_settle_row SettleRow = true
+is_settle_row (TreeRow t) = false
+is_settle_row _ = false
 
 -- the rows before the last `settle` among these; there are none where none is among them
 abbrev pub before_settle : List ScriptRow → List ScriptRow
 before_settle [] = []
-before_settle (r ∷ rs) = if list_any is_settle rs then r ∷ before_settle rs else []
+before_settle (r ∷ rs) = if list_any is_settle_row rs then r ∷ before_settle rs else []
 
 -- the rows for which row i waits
 abbrev pub awaited : ScriptData → ℕ → List ScriptRow

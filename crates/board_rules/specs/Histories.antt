@@ -6,8 +6,8 @@ use Rattle.tv_base.specs.declared.numbers.Version.{Version}
 use Rattle.letter_types.specs.declared.acts.Act.{Act}
 use Rattle.letter_types.specs.declared.acts.Act.TheVariants.{Born, Did, Decided, Applied, Finished}
 use Rattle.letter_types.specs.declared.entries.Entry.{Entry}
-use Rattle.tx_trees.specs.ScriptData.{ScriptData, is_strict, subs_at}
-use Rattle.tx_trees.specs.declared.parts.Sub.{Sub}
+use Rattle.script_parts.specs.ScriptData.{ScriptData, is_strict, subs_at}
+use Rattle.script_parts.specs.declared.parts.Sub.{Sub}
 
 -- an act, and its entry's actor
 pub record Place : Type 0 where
@@ -87,9 +87,17 @@ is_strict_tree s t = elim (slice_get s.trees t) [ Some tree ↦ is_strict tree.k
 abbrev pub is_through : ScriptData → List Place → ℕ → Bool
 is_through s xs t = if is_strict_tree s t then all_applied t (subs_at s t) xs else all_done t (length (subs_at s t)) xs
 
--- tree t is whole: it is born, and all that is to come of it has come
+-- tree t is born in these acts
+abbrev pub was_born : List Place → ℕ → Bool
+was_born xs t = is_some (version_in t xs)
+
+-- tree t is whole after these acts: it is born, and all that is to come of it has come
+abbrev pub is_whole_in : ScriptData → List Place → ℕ → Bool
+is_whole_in s xs t = was_born xs t && is_through s xs t
+
+-- tree t is whole in a history
 abbrev pub is_whole : ScriptData → List Entry → ℕ → Bool
-is_whole s h t = is_some (version_of h t) && is_through s (places_of h) t
+is_whole s h t = is_whole_in s (places_of h) t
 
 abbrev pub IsWhole : ScriptData → List Entry → ℕ → Type 0
 IsWhole s h t = IsTrue (is_whole s h t)

@@ -14,12 +14,12 @@ use Rattle.letter_types.specs.declared.votes.Cause.{Cause}
 use Rattle.letter_types.specs.declared.votes.Cause.TheVariants.{Conflict, Newer, Short}
 use Rattle.letter_types.specs.declared.votes.Vote.{Vote}
 use Rattle.letter_types.specs.declared.votes.Vote.TheVariants.{Yes, No}
-use Rattle.tx_trees.specs.ScriptData.{ScriptData, ops_of, subs_at, updates}
-use Rattle.tx_trees.specs.declared.parts.Deed.{Deed}
-use Rattle.tx_trees.specs.declared.parts.Deed.TheVariants as deeds
-use Rattle.tx_trees.specs.declared.parts.SubOp.{SubOp}
-use Rattle.board_model.specs.Histories.{Place, version_in}
-use Rattle.board_model.specs.Worth.{ops_change, subs_change, worth}
+use Rattle.script_parts.specs.ScriptData.{ScriptData, ops_of, subs_at, updates}
+use Rattle.script_parts.specs.declared.parts.Deed.{Deed}
+use Rattle.script_parts.specs.declared.parts.Deed.TheVariants as deeds
+use Rattle.script_parts.specs.declared.parts.SubOp.{SubOp}
+use Rattle.board_rules.specs.Histories.{Place, version_in}
+use Rattle.board_rules.specs.Worth.{ops_change, subs_change, worth}
 
 -- how a tree has an item: marked by a commuting operation, looked at by a get, held by a set or a draw
 pub data LockMode : Type 0 where
@@ -27,11 +27,11 @@ pub data LockMode : Type 0 where
   Look : LockMode
   Hold : LockMode
 
-abbrev pub mode_of : Deed → LockMode
-mode_of (deeds.Apply op) = Mark
-mode_of deeds.Get = Look
-mode_of (deeds.Set n) = Hold
-mode_of (deeds.Draw n) = Hold
+abbrev pub lock_mode_of : Deed → LockMode
+lock_mode_of (deeds.Apply op) = Mark
+lock_mode_of deeds.Get = Look
+lock_mode_of (deeds.Set n) = Hold
+lock_mode_of (deeds.Draw n) = Hold
 
 -- a mark goes with a mark and a look with a look; every other pair conflicts
 abbrev pub conflicts : LockMode → LockMode → Bool
@@ -57,7 +57,7 @@ lets_go k _ = false
 
 -- the modes on item x among those of these operations
 abbrev pub modes_on : ℕ → List SubOp → List LockMode
-modes_on x os = map (λ (o : SubOp). mode_of o.deed) (filter (λ (o : SubOp). o.item.0 == x) os)
+modes_on x os = map (λ (o : SubOp). lock_mode_of o.deed) (filter (λ (o : SubOp). o.item.0 == x) os)
 
 -- the modes in which tree k has item x, which is at node p, after an act and after these acts
 abbrev pub modes_after : ScriptData → ℕ → ℕ → ℕ → List LockMode → Place → List LockMode
@@ -89,7 +89,7 @@ conflict_with x (Some k) = Some (Conflict x (record { 0 = k }))
 abbrev pub conflict_of : ScriptData → List Place → ℕ → ℕ → List SubOp → Option Cause
 conflict_of s xs p t [] = None
 conflict_of s xs p t (o ∷ os) =
-    option_or (conflict_with o.item (holder_of s xs p t o.item.0 (mode_of o.deed))) (conflict_of s xs p t os)
+    option_or (conflict_with o.item (holder_of s xs p t o.item.0 (lock_mode_of o.deed))) (conflict_of s xs p t os)
 
 -- the version of the tree by whose act item x was written, else 0: an update tree's Did writes, and the Applied of a
 -- commit at the item's node

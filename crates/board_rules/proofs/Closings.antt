@@ -7,9 +7,9 @@ use Rattle.std.proofs.lemmas.List.Folds.{list_any-append}
 use Rattle.std.proofs.lemmas.Map.Views.{any-filter_same}
 use Rattle.std.proofs.lemmas.Bool.{or_from, or_left, or_right}
 use Rattle.tv_base.proofs.Truths.{same_test}
-use Rattle.tx_trees.specs.ScriptData.{ScriptData}
-use Rattle.board_model.specs.Histories.{Place}
-use Rattle.board_model.specs.Serial.{closes, closings, is_in, with_closed}
+use Rattle.script_parts.specs.ScriptData.{ScriptData}
+use Rattle.board_rules.specs.Histories.{Place}
+use Rattle.board_rules.specs.Serial.{closes, closings, is_in, with_closed}
 
 pub is_in-append : (t : ℕ) (a b : List ℕ) → is_in t (a ++ b) ≡ (is_in t a || is_in t b)
 is_in-append t a b = list_any-append (λ (u : ℕ). u == t) a b

@@ -1,5 +1,5 @@
 -- The Board: the three version numbers of each node, and the acts so far. Which acts are moves of it.
-use Rattle.std.specs.Prelude.{if◌then◌else◌, ℕ, Bool, true, false, ◌≡◌, ◌≤◌, ◌<◌, ◌==◌, ◌+◌, ◌&&◌, ◌||◌, List, [], ◌∷◌, ◌++◌, fold, length, take, Option, Some, None, IsTrue, is_some, not, slice_get}
+use Rattle.std.specs.Prelude.{if◌then◌else◌, ℕ, Bool, true, false, ◌≡◌, ◌≤◌, ◌<◌, ◌==◌, ◌+◌, ◌&&◌, ◌||◌, List, [], ◌∷◌, ◌++◌, fold, length, take, Option, Some, None, IsTrue, not, slice_get}
 use Rattle.std.specs.List.{list_any}
 use Rattle.tv_base.specs.declared.numbers.ItemNo.{ItemNo}
 use Rattle.tv_base.specs.declared.numbers.Version.{Version}
@@ -8,10 +8,10 @@ use Rattle.letter_types.specs.declared.acts.Act.{Act}
 use Rattle.letter_types.specs.declared.acts.Act.TheVariants.{Born, Did, Turned, Showed, Swept, Finished, Waits, Parked, Voted, Freed, Decided, Applied}
 use Rattle.letter_types.specs.declared.entries.Entry.{Entry}
 use Rattle.letter_types.specs.declared.votes.Vote.{Vote}
-use Rattle.tx_trees.specs.ScriptData.{ScriptData, home_of, node_of, ops_of, reads, sub_at, subs_at, updates, visits}
-use Rattle.tx_trees.specs.declared.parts.Sub.{Sub}
-use Rattle.board_model.specs.Histories.{Place, is_strict_tree, is_through, places_at, places_of, version_in, was_applied, was_done}
-use Rattle.board_model.specs.Stands.{cause_of, refusal_in, voted_yes, was_freed, was_voted}
+use Rattle.script_parts.specs.ScriptData.{ScriptData, home_of, node_of, ops_of, reads, sub_at, subs_at, updates, visits}
+use Rattle.script_parts.specs.declared.parts.Sub.{Sub}
+use Rattle.board_rules.specs.Histories.{Place, is_strict_tree, is_whole_in, places_at, places_of, version_in, was_applied, was_born, was_done}
+use Rattle.board_rules.specs.Stands.{cause_of, refusal_in, voted_yes, was_freed, was_voted}
 
 -- The numbers of a node: 1, 0 and 0 at first, and then what its last act of the kind says.
 
@@ -50,14 +50,6 @@ abbrev pub low_after : List Place → ℕ → ℕ
 low_after xs p = fold (number_after swept_to p) 0 xs
 
 -- The moves at node p, after the acts xs.
-
--- tree t is born
-abbrev pub was_born : List Place → ℕ → Bool
-was_born xs t = is_some (version_in t xs)
-
--- tree t is whole after these acts
-abbrev pub is_whole_in : ScriptData → List Place → ℕ → Bool
-is_whole_in s xs t = was_born xs t && is_through s xs t
 
 -- each of these trees that is born in a version at most v, or below v, is whole
 abbrev pub AllWholeTo : (ℕ → Bool) → ScriptData → List Place → ℕ → Type 0

@@ -2,19 +2,19 @@
 use Rattle.std.specs.Prelude.{if◌then◌else◌, ℕ, Bool, true, false, ◌==◌, ◌&&◌, ◌||◌, ◌+◌, ℤ, ◌-ℤ◌, pos, List, [], ◌∷◌, fold, Option, Some, None, slice_get}
 use Rattle.commute_ops.specs.declared.value.Value.{Value}
 use Rattle.commute_ops.specs.declared.value.Value.TheVariants.{Sum, Top, Bag}
-use Rattle.commute_ops.specs.Ops.{applied, start}
+use Rattle.commute_ops.specs.Ops.{applied, value_start}
 use Rattle.letter_types.specs.declared.entries.Entry.{Entry}
-use Rattle.tx_trees.specs.ScriptData.{ScriptData, subs_at}
-use Rattle.tx_trees.specs.declared.parts.Deed.{Deed}
-use Rattle.tx_trees.specs.declared.parts.Deed.TheVariants as deeds
-use Rattle.tx_trees.specs.declared.parts.ItemRow.{ItemRow}
-use Rattle.tx_trees.specs.declared.parts.Sub.{Sub}
-use Rattle.tx_trees.specs.declared.parts.SubOp.{SubOp}
-use Rattle.tx_trees.specs.declared.parts.Tree.{Tree}
-use Rattle.tx_trees.specs.declared.parts.TreeKind.{TreeKind}
-use Rattle.tx_trees.specs.declared.parts.TreeKind.TheVariants.{Update, Read, Strict}
-use Rattle.board_model.specs.Histories.{places_of, version_of, was_committed}
-use Rattle.board_model.specs.Serial.{is_version, serial_to}
+use Rattle.script_parts.specs.ScriptData.{ScriptData, subs_at}
+use Rattle.script_parts.specs.declared.parts.Deed.{Deed}
+use Rattle.script_parts.specs.declared.parts.Deed.TheVariants as deeds
+use Rattle.script_parts.specs.declared.parts.ItemRow.{ItemRow}
+use Rattle.script_parts.specs.declared.parts.Sub.{Sub}
+use Rattle.script_parts.specs.declared.parts.SubOp.{SubOp}
+use Rattle.script_parts.specs.declared.parts.Tree.{Tree}
+use Rattle.script_parts.specs.declared.parts.TreeKind.{TreeKind}
+use Rattle.script_parts.specs.declared.parts.TreeKind.TheVariants.{Update, Read, Strict}
+use Rattle.board_rules.specs.Histories.{Place, places_of, version_of, was_committed}
+use Rattle.board_rules.specs.Serial.{is_version, serial_in}
 
 -- the number of a sum or a top set to n; a bag stays
 abbrev pub with_set : ℤ → Value → Value
@@ -51,11 +51,19 @@ after_tree s x w t = after_subs x (subs_at s t) w
 -- the initial value of an item
 abbrev pub first_value : Option ItemRow → Value
 first_value None = Sum (record { 0 = pos 0 })
-first_value (Some row) = start row.kind row.initial
+first_value (Some row) = value_start row.kind row.initial
 
--- what item x is worth at version v
+-- what item x is worth after these trees, in order
+abbrev pub worth_after : ScriptData → ℕ → List ℕ → Value
+worth_after s x ts = fold (after_tree s x) (first_value (slice_get s.items x)) ts
+
+-- what item x is worth at version v after these acts
+abbrev pub worth_in : ScriptData → List Place → ℕ → ℕ → Value
+worth_in s xs x v = worth_after s x (serial_in s xs v)
+
+-- the same of a history
 abbrev pub worth : ScriptData → List Entry → ℕ → ℕ → Value
-worth s h x v = fold (after_tree s x) (first_value (slice_get s.items x)) (serial_to s h v)
+worth s h x v = worth_in s (places_of h) x v
 
 -- the deed changes its item
 abbrev pub changes : Deed → Bool

@@ -1,5 +1,6 @@
--- A valid script's nodes are few, its items' magnitudes and its trees are small, and its trees run at its nodes.
-use Rattle.std.proofs.Common.{◌≡◌, ℕ, ◌+◌, ◌<◌, ◌≤◌, List, [], ◌∷◌, length, Option, Some, None, zero, suc, refl, sym, subst, arith}
+-- A valid script's nodes are few, its items' magnitudes and its trees are small, its trees run at its nodes, and its rows
+-- name them in order.
+use Rattle.std.proofs.Common.{◌≡◌, ℕ, ◌+◌, ◌<◌, ◌≤◌, true, List, [], ◌∷◌, length, Option, Some, None, zero, suc, refl, sym, subst, arith}
 use Rattle.std.specs.Prelude.{All, slice_get}
 use Rattle.std.specs.List.{AllByRecursion}
 use Rattle.std.proofs.lemmas.List.Elements.{All-from_recursion}
@@ -8,9 +9,36 @@ use Rattle.script_parts.specs.declared.parts.ItemRow.{ItemRow}
 use Rattle.script_parts.specs.declared.parts.Sub.{Sub}
 use Rattle.script_parts.specs.declared.parts.Tree.{Tree}
 use Rattle.script_parts.specs.declared.parts.TreeKind.{TreeKind}
-use Rattle.script_parts.specs.ScriptData.{ScriptData, subs_at}
-use Rattle.script_parts.specs.Valid.{IsValid, IsTree, AreSubs, load}
-use Rattle.tx_trees.proofs.Stays.{most_amount-small, most_nodes-small}
+use Rattle.script_parts.specs.Forms.{most_amount, most_nodes}
+use Rattle.script_parts.specs.declared.parts.Form.{Form}
+use Rattle.script_parts.specs.declared.parts.Form.TheVariants as forms
+use Rattle.script_parts.specs.declared.parts.ScriptRow.{ScriptRow}
+use Rattle.script_parts.specs.declared.parts.ScriptRow.TheVariants as rows
+use Rattle.script_parts.specs.declared.parts.TreeKind.TheVariants as trees
+use Rattle.script_parts.specs.ScriptData.{ScriptData, is_update, subs_at}
+use Rattle.script_parts.specs.Valid.{AreSubs, IsTree, IsValid, NamesInOrder, load}
+
+-- whatever its form allows is bounded
+pub most_amount-small : (f : Form) → most_amount f ≤ MOST_AMOUNT
+most_amount-small forms.One = omega arith
+most_amount-small forms.Two = omega arith
+
+pub most_nodes-small : (f : Form) → most_nodes f ≤ 64
+most_nodes-small forms.One = omega arith
+most_nodes-small forms.Two = omega arith
+
+-- rows that name trees in order name no more than there are
+pub names_end : (k n : ℕ) (rs : List ScriptRow) → NamesInOrder k n rs → k ≤ n
+names_end k n [] names = omega arith
+names_end k n (rows.Tree t ∷ rs) names = omega (arith, names_end (k + 1) n rs names.1)
+names_end k n (rows.Advance ∷ rs) names = names_end k n rs names
+names_end k n (rows.Settle ∷ rs) names = names_end k n rs names
+names_end k n (rows.Lose ∷ rs) names = names_end k n rs names
+
+pub only_update : (k : TreeKind) → is_update k ≡ true → k ≡ trees.Update
+only_update trees.Update e = refl
+only_update trees.Read e = absurd cc
+only_update trees.Strict e = absurd cc
 
 -- what holds of each holds at each place
 pub all_at : {X : Type 0} (P : X → Type 0) (xs : List X) (k : ℕ) (x : X) → AllByRecursion P xs → slice_get xs k ≡ Some x → P x

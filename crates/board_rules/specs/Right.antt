@@ -1,6 +1,6 @@
 -- What reads show, and which steps did at once what they were asked for.
-use Rattle.std.specs.Prelude.{ℕ, Bool, true, false, ◌≡◌, ◌+◌, ◌||◌, List, [], ◌∷◌, filter, take, Option, Some, None, IsTrue, slice_get}
-use Rattle.std.specs.List.{AllByRecursion, list_any}
+use Rattle.std.specs.Prelude.{ℕ, Bool, true, false, ◌≡◌, ◌||◌, List, [], ◌∷◌, ◌++◌, filter, Option, Some, None, IsTrue, slice_get}
+use Rattle.std.specs.List.{list_any}
 use Rattle.tv_base.specs.declared.numbers.ItemNo.{ItemNo}
 use Rattle.tv_base.specs.declared.numbers.Version.{Version}
 use Rattle.commute_ops.specs.declared.value.Value.{Value}
@@ -11,22 +11,27 @@ use Rattle.letter_types.specs.declared.bodies.Body.TheVariants.{Go, Root, Sub as
 use Rattle.letter_types.specs.declared.entries.Entry.{Entry}
 use Rattle.letter_types.specs.declared.votes.Vote.{Vote}
 use Rattle.letter_types.specs.declared.votes.Vote.TheVariants.{Yes, No}
-use Rattle.tx_trees.specs.ScriptData.{ScriptData, ops_of, reads, updates}
-use Rattle.tx_trees.specs.declared.parts.Deed.{Deed}
-use Rattle.tx_trees.specs.declared.parts.Deed.TheVariants.{Apply, Get}
-use Rattle.tx_trees.specs.declared.parts.SubOp.{SubOp}
-use Rattle.board_model.specs.Histories.{Place, is_strict_tree, places_at, places_of, version_of, was_done}
-use Rattle.board_model.specs.Worth.{worth}
+use Rattle.script_parts.specs.ScriptData.{ScriptData, ops_of, reads, updates}
+use Rattle.script_parts.specs.declared.parts.Deed.{Deed}
+use Rattle.script_parts.specs.declared.parts.Deed.TheVariants.{Apply, Get}
+use Rattle.script_parts.specs.declared.parts.SubOp.{SubOp}
+use Rattle.board_rules.specs.Histories.{Place, is_strict_tree, places_at, places_of, version_in, was_done}
+use Rattle.board_rules.specs.Moves.{AtEachAct}
+use Rattle.board_rules.specs.Worth.{worth, worth_in}
 
--- the items of these operations with what they are worth at version v, in order
+-- the items of these operations with these values, in order
+abbrev pub with_worths : (ℕ → Value) → List SubOp → List (ItemNo × Value)
+with_worths of [] = []
+with_worths of (o ∷ os) = (o.item, of o.item.0) ∷ with_worths of os
+
+-- the items of these operations with what they are worth at version v of a history, in order
 abbrev pub shown : ScriptData → List Entry → ℕ → List SubOp → List (ItemNo × Value)
-shown s h v [] = []
-shown s h v (o ∷ os) = (o.item, worth s h o.item.0 v) ∷ shown s h v os
+shown s h v os = with_worths (λ (x : ℕ). worth s h x v) os
 
--- these values are what is shown at a version that is there
-abbrev pub IsShown : ScriptData → List Entry → List SubOp → List (ItemNo × Value) → Option Version → Type 0
-IsShown s h ops values None = ⊥
-IsShown s h ops values (Some v) = values ≡ shown s h v.0 ops
+-- these values are what the items of these operations are worth, by item and version, at a version that is there
+abbrev pub IsShown : (ℕ → ℕ → Value) → List SubOp → List (ItemNo × Value) → Option Version → Type 0
+IsShown worth_at ops values None = ⊥
+IsShown worth_at ops values (Some v) = values ≡ with_worths (λ (x : ℕ). worth_at x v.0) ops
 
 -- the operation reads its item
 abbrev pub is_get : Deed → Bool
@@ -37,25 +42,27 @@ is_get _ = false
 abbrev pub gets_among : List SubOp → List SubOp
 gets_among os = filter (λ (o : SubOp). is_get o.deed) os
 
--- a yes vote shows what its gets are worth, in the history before its entry, at the tree's version
+-- a yes vote shows what its gets are worth at the tree's version, in the history before its entry
 abbrev pub IsRightVote : ScriptData → List Entry → List SubOp → Option Version → Vote → Type 0
-IsRightVote s before ops born (Yes values) = IsShown s before (gets_among ops) values born
+IsRightVote s before ops born (Yes values) = IsShown (worth s before) (gets_among ops) values born
 IsRightVote s before ops born (No cause) = Unit {0}
 
--- a subtransaction of a read tree shows what its items are worth at the tree's version, in the history up to and with
--- its entry; a strict tree's vote is right
-abbrev pub IsRightAct : ScriptData → List Entry → List Entry → Act → Type 0
+-- a subtransaction of a read tree shows what its items are worth at the tree's version after these acts, of which its
+-- own is the last; a strict tree's vote is right in the history before its entry
+abbrev pub IsRightAct : ScriptData → List Entry → List Place → Act → Type 0
 IsRightAct s before upto (Did t k values) =
-    IsTrue (reads s t.0) → IsShown s upto (ops_of s t.0 k.0) values (version_of upto t.0)
+    IsTrue (reads s t.0) → IsShown (worth_in s upto) (ops_of s t.0 k.0) values (version_in t.0 upto)
 IsRightAct s before upto (Voted t k vote) =
-    IsTrue (is_strict_tree s t.0) → IsRightVote s before (ops_of s t.0 k.0) (version_of upto t.0) vote
+    IsTrue (is_strict_tree s t.0) → IsRightVote s before (ops_of s t.0 k.0) (version_in t.0 upto) vote
 IsRightAct s before upto Finished = Unit {0}
 IsRightAct s before upto _ = Unit {0}
 
--- each read shows what was worth at its version
+-- Each read shows what was worth at its version up to its place: the acts of all entries before, and of its own entry
+-- those up to and with its Did. Whether the Did itself is among them makes no difference, since a read tree's Did
+-- changes no worth.
 abbrev pub IsRight : ScriptData → List Entry → Type 0
 IsRight s h =
-    (n : ℕ) (e : Entry) → slice_get h n ≡ Some e → AllByRecursion (IsRightAct s (take n h) (take (n + 1) h)) e.acts
+    AtEachAct (λ (before : List Entry) (xs : List Place) (x : Place). IsRightAct s before (xs ++ x ∷ []) x.act) h
 
 -- tree t is there, and is an update or a read tree
 abbrev pub commutes : ScriptData → ℕ → Bool

@@ -1,12 +1,13 @@
--- The places of two histories, one behind the other.
-use Rattle.std.proofs.Common.{◌≡◌, ℕ, zero, suc, ◌<◌, false, List, [], ◌∷◌, ◌++◌, refl, ap, sym, ◌∙◌, append_assoc, arith}
+-- The places of two histories, one behind the other, and what holds of each act.
+use Rattle.std.proofs.Common.{◌≡◌, ℕ, zero, suc, ◌<◌, false, take, List, [], ◌∷◌, ◌++◌, refl, ap, sym, ◌∙◌, append_assoc, arith}
 use Rattle.std.specs.Prelude.{◌||◌, ◌&&◌, ◌==◌, Option, Some, None}
 use Rattle.std.specs.Option.{option_or}
 use Rattle.std.proofs.lemmas.Bool.Decides.{nat_tests}
 use Rattle.std.proofs.lemmas.List.Folds.{list_any-append}
 use Rattle.letter_types.specs.declared.entries.Entry.{Entry}
-use Rattle.board_model.specs.Histories.{Place, all_done, applies, born_as, commits, does, places_at, places_of, version_in, was_applied, was_committed, was_done}
-use Rattle.board_model.specs.Right.{finishes, has_finished}
+use Rattle.board_rules.specs.Histories.{Place, all_done, applies, born_as, commits, does, places_at, places_of, version_in, was_applied, was_committed, was_done}
+use Rattle.board_rules.specs.Moves.{AtEachAct, OneByOne}
+use Rattle.board_rules.specs.Right.{finishes, has_finished}
 
 pub places_of-append : (a b : List Entry) → places_of (a ++ b) ≡ places_of a ++ places_of b
 places_of-append [] b = refl
@@ -44,3 +45,14 @@ all_done_not t zero k xs small h = absurd (omega arith)
 all_done_not t (suc n) k xs small h =
     let rest : k < n → was_done t k xs ≡ false → all_done t n xs ≡ false = all_done_not t n k xs in
     grind (arith, nat_tests)
+
+-- What holds of each act, and what follows for it.
+pub one_by_one_map : (P Q : List Place → Place → Type 0) (xs ys : List Place) → ((zs : List Place) (y : Place) → P zs y → Q zs y)
+    → OneByOne P xs ys → OneByOne Q xs ys
+one_by_one_map P Q xs [] step all = tt
+one_by_one_map P Q xs (y ∷ ys) step all = (step xs y all.0, one_by_one_map P Q (xs ++ y ∷ []) ys step all.1)
+
+pub at_each_act_map : (P Q : List Entry → List Place → Place → Type 0) (h : List Entry)
+    → ((before : List Entry) (xs : List Place) (x : Place) → P before xs x → Q before xs x) → AtEachAct P h → AtEachAct Q h
+at_each_act_map P Q h step all = λ n e here.
+    one_by_one_map (P (take n h)) (Q (take n h)) (places_of (take n h)) (places_at e) (step (take n h)) (all n e here)

@@ -9,10 +9,10 @@ use Rattle.tv_base.proofs.Truths.{left_true, right_true}
 use Rattle.letter_types.specs.declared.acts.Act.{Act}
 use Rattle.letter_types.specs.declared.acts.Act.TheVariants.{Born, Did, Turned, Showed, Swept, Finished, Waits, Parked, Voted, Freed, Decided, Applied}
 use Rattle.letter_types.specs.declared.entries.Entry.{Entry}
-use Rattle.tx_trees.specs.ScriptData.{ScriptData, subs_at, updates}
-use Rattle.board_model.specs.Histories.{Place, all_done, does, is_strict_tree, is_through, is_whole, places_of, version_of, was_committed, was_done}
-use Rattle.board_model.specs.Serial.{closes, closings, is_in, is_member, is_settled, is_version, members, serial_to}
-use Rattle.board_model.proofs.Closings.{AreApart, append_apart, closings_apart, filter_apart, is_in-append, is_in-closings, is_in-filter, is_tree}
+use Rattle.script_parts.specs.ScriptData.{ScriptData, subs_at, updates}
+use Rattle.board_rules.specs.Histories.{Place, all_done, does, is_strict_tree, is_through, is_whole, places_of, version_of, was_committed, was_done}
+use Rattle.board_rules.specs.Serial.{closes, closings, is_in, is_member, takes_effect, is_version, members, serial_to}
+use Rattle.board_rules.proofs.Closings.{AreApart, append_apart, closings_apart, filter_apart, is_in-append, is_in-closings, is_in-filter, is_tree}
 
 -- a version that is there, and at most v
 abbrev pub is_up_to : ℕ → Option Version → Bool
@@ -45,18 +45,18 @@ is_in-members s h v t = is_in-filter (is_member s h v) t (closings s (places_of 
 
 -- a tree stands in the order where it is settled, is of version at most v, and has been closed
 pub is_in-serial_to : (s : ScriptData) (h : List Entry) (v t : ℕ)
-    → is_in t (serial_to s h v) ≡ ((is_up_to v (version_of h t) && is_settled s h t) && is_in t (closings s (places_of h)))
+    → is_in t (serial_to s h v) ≡ ((is_up_to v (version_of h t) && takes_effect s h t) && is_in t (closings s (places_of h)))
 is_in-serial_to s h zero t =
     is_in-members s h zero t
-    ∙ ap (λ (b : Bool). (b && is_settled s h t) && is_in t (closings s (places_of h))) (at_zero (version_of h t))
+    ∙ ap (λ (b : Bool). (b && takes_effect s h t) && is_in t (closings s (places_of h))) (at_zero (version_of h t))
 is_in-serial_to s h (suc v) t =
     let c : Bool = is_in t (closings s (places_of h)) in
     let o : Option Version = version_of h t in
     is_in-append t (serial_to s h v) (members s h (suc v))
     ∙ ap (λ (b : Bool). b || is_in t (members s h (suc v))) (is_in-serial_to s h v t)
-    ∙ ap (λ (b : Bool). ((is_up_to v o && is_settled s h t) && c) || b) (is_in-members s h (suc v) t)
-    ∙ or_and (is_up_to v o) (is_version (suc v) o) (is_settled s h t) c
-    ∙ ap (λ (b : Bool). (b && is_settled s h t) && c) (at_next v o)
+    ∙ ap (λ (b : Bool). ((is_up_to v o && takes_effect s h t) && c) || b) (is_in-members s h (suc v) t)
+    ∙ or_and (is_up_to v o) (is_version (suc v) o) (takes_effect s h t) c
+    ∙ ap (λ (b : Bool). (b && takes_effect s h t) && c) (at_next v o)
 
 -- a version isn't both at most v and the next one
 not_next : (v : ℕ) (o : Option Version) → is_up_to v o ≡ true → is_version (suc v) o ≡ false
@@ -73,25 +73,25 @@ serial_to_apart s h (suc v) =
     let o : Option Version = version_of h t in
     let all = sym (is_in-serial_to s h v t) ∙ here in
     let up : is_up_to v o ≡ true
-    = left_true (is_up_to v o) (is_settled s h t) (left_true (is_up_to v o && is_settled s h t) (is_in t (closings s (places_of h))) all) in
+    = left_true (is_up_to v o) (takes_effect s h t) (left_true (is_up_to v o && takes_effect s h t) (is_in t (closings s (places_of h))) all) in
     is_in-members s h (suc v) t
     ∙ and_left (is_member s h (suc v) t) (is_in t (closings s (places_of h)))
-    (and_left (is_version (suc v) o) (is_settled s h t) (not_next v o up)))
+    (and_left (is_version (suc v) o) (takes_effect s h t) (not_next v o up)))
 
 -- what stands there is of version at most v, and settled
 pub stands_up_to : (s : ScriptData) (h : List Entry) (v t : ℕ) → is_in t (serial_to s h v) ≡ true
     → is_up_to v (version_of h t) ≡ true
 stands_up_to s h v t here =
     let o : Option Version = version_of h t in
-    left_true (is_up_to v o) (is_settled s h t)
-    (left_true (is_up_to v o && is_settled s h t) (is_in t (closings s (places_of h))) (sym (is_in-serial_to s h v t) ∙ here))
+    left_true (is_up_to v o) (takes_effect s h t)
+    (left_true (is_up_to v o && takes_effect s h t) (is_in t (closings s (places_of h))) (sym (is_in-serial_to s h v t) ∙ here))
 
 pub stands_settled : (s : ScriptData) (h : List Entry) (v t : ℕ) → is_in t (serial_to s h v) ≡ true
-    → is_settled s h t ≡ true
+    → takes_effect s h t ≡ true
 stands_settled s h v t here =
     let o : Option Version = version_of h t in
-    right_true (is_up_to v o) (is_settled s h t)
-    (left_true (is_up_to v o && is_settled s h t) (is_in t (closings s (places_of h))) (sym (is_in-serial_to s h v t) ∙ here))
+    right_true (is_up_to v o) (takes_effect s h t)
+    (left_true (is_up_to v o && takes_effect s h t) (is_in t (closings s (places_of h))) (sym (is_in-serial_to s h v t) ∙ here))
 
 not_strict : (a b : Bool) (c d : Bool) → c ≡ false → ((a && b) || (c && d)) ≡ true → (a && b) ≡ true
 not_strict true true c d e h = refl

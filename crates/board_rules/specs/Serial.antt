@@ -1,4 +1,4 @@
--- The serial order of a history: its whole update trees and committed strict trees by version, and within a version by
+-- The serial order of acts and of a history: the whole update trees and committed strict trees by version, and within a version by
 -- their last closing act.
 use Rattle.std.specs.Prelude.{if◌then◌else◌, ℕ, zero, suc, Bool, false, ◌==◌, ◌&&◌, ◌||◌, List, [], ◌∷◌, ◌++◌, filter, Option, Some, None}
 use Rattle.std.specs.List.{list_any}
@@ -6,8 +6,8 @@ use Rattle.tv_base.specs.declared.numbers.Version.{Version}
 use Rattle.letter_types.specs.declared.acts.Act.{Act}
 use Rattle.letter_types.specs.declared.acts.Act.TheVariants.{Did, Decided, Finished}
 use Rattle.letter_types.specs.declared.entries.Entry.{Entry}
-use Rattle.tx_trees.specs.ScriptData.{ScriptData, updates}
-use Rattle.board_model.specs.Histories.{Place, is_strict_tree, is_whole, places_of, version_of, was_committed}
+use Rattle.script_parts.specs.ScriptData.{ScriptData, updates}
+use Rattle.board_rules.specs.Histories.{Place, is_strict_tree, is_whole_in, places_of, version_in, was_committed}
 
 -- the tree that the act may close: a Did is one of an update tree, and a decision to commit one of a strict tree
 abbrev pub closes : ScriptData → Act → Option ℕ
@@ -35,19 +35,32 @@ abbrev pub is_version : ℕ → Option Version → Bool
 is_version v None = false
 is_version v (Some w) = w.0 == v
 
--- tree t is a whole update tree, or a strict tree that was decided to commit
-abbrev pub is_settled : ScriptData → List Entry → ℕ → Bool
-is_settled s h t = (updates s t && is_whole s h t) || (is_strict_tree s t && was_committed t (places_of h))
+-- tree t is a whole update tree, or a strict tree that was decided to commit, after these acts
+abbrev pub is_settled_in : ScriptData → List Place → ℕ → Bool
+is_settled_in s xs t = (updates s t && is_whole_in s xs t) || (is_strict_tree s t && was_committed t xs)
 
 -- tree t is such a tree of version v
-abbrev pub is_member : ScriptData → List Entry → ℕ → ℕ → Bool
-is_member s h v t = is_version v (version_of h t) && is_settled s h t
+abbrev pub is_member_in : ScriptData → List Place → ℕ → ℕ → Bool
+is_member_in s xs v t = is_version v (version_in t xs) && is_settled_in s xs t
 
 -- those of version v, in serial order
-abbrev pub members : ScriptData → List Entry → ℕ → List ℕ
-members s h v = filter (is_member s h v) (closings s (places_of h))
+abbrev pub members_in : ScriptData → List Place → ℕ → List ℕ
+members_in s xs v = filter (is_member_in s xs v) (closings s xs)
 
 -- those of version at most v, in serial order
+abbrev pub serial_in : ScriptData → List Place → ℕ → List ℕ
+serial_in s xs zero = members_in s xs zero
+serial_in s xs (suc v) = serial_in s xs v ++ members_in s xs (suc v)
+
+-- the same of a history
+abbrev pub takes_effect : ScriptData → List Entry → ℕ → Bool
+takes_effect s h t = is_settled_in s (places_of h) t
+
+abbrev pub is_member : ScriptData → List Entry → ℕ → ℕ → Bool
+is_member s h v t = is_member_in s (places_of h) v t
+
+abbrev pub members : ScriptData → List Entry → ℕ → List ℕ
+members s h v = members_in s (places_of h) v
+
 abbrev pub serial_to : ScriptData → List Entry → ℕ → List ℕ
-serial_to s h zero = members s h zero
-serial_to s h (suc v) = serial_to s h v ++ members s h (suc v)
+serial_to s h v = serial_in s (places_of h) v

@@ -1,0 +1,38 @@
+-- Each letter that a node takes in a run is apt there.
+use Rattle.std.proofs.Common.{◌≡◌, ℕ, List, [], ◌∷◌, reverse, sym, subst, ◌∙◌, ap}
+use Rattle.letter_types.specs.declared.entries.Entry.{Entry}
+use Rattle.tx_trees.specs.ScriptData.{ScriptData, client_of}
+use Rattle.world_model.specs.Runs.{IsStepRun, actor_after, AtNode, AtCoordinator, AtClient, Moves}
+use Rattle.world_model.specs.Tables.{ActorData}
+use Rattle.world_model.proofs.Back.{client_leads, coordinator_leads, node_leads}
+use Rattle.world_model.proofs.Scripts.{IsSound}
+use Rattle.tree_laws.proofs.Aptness.{taken_is_apt}
+use Rattle.tree_laws.proofs.Histories.{before_more}
+use Rattle.run_laws.specs.Taken.{IsAptFor, TakesWhatIsApt}
+use Rattle.run_laws.proofs.InTime.{in_time}
+
+-- the letter of an entry is apt for its actor
+abbrev IsAptEntry : ScriptData → List Entry → Entry → Type 0
+IsAptEntry s before e = IsAptFor s e.actor.0 (actor_after s before e.actor.0) e.took
+
+-- where the actor is this one, and is in this state
+in_state : (s : ScriptData) (before : List Entry) (e : Entry) (a : ℕ) (state : ActorData) → e.actor.0 ≡ a
+    → actor_after s before a ≡ state → IsAptFor s e.actor.0 state e.took → IsAptEntry s before e
+in_state s before e a state at is apt =
+    subst (λ (d : ActorData). IsAptFor s e.actor.0 d e.took) (sym is ∙ sym (ap (actor_after s before) at)) apt
+
+taken_by : (s : ScriptData) (past : List Entry) (e : Entry) → IsSound s → IsStepRun s (e ∷ past) → Moves s past e
+    → IsAptEntry s (reverse past) e
+taken_by s past e sound run (AtNode lt says) =
+    subst (λ (d : ActorData). IsAptFor s e.actor.0 d e.took) (sym (node_leads s past e.actor.0 lt))
+    (taken_is_apt s past e sound.valid sound.runnable run (in_time s (e ∷ past) sound run) lt)
+taken_by s past e sound run (AtCoordinator at says) =
+    in_state s (reverse past) e s.nodes _ at (coordinator_leads s past) tt
+taken_by s past e sound run (AtClient at says) =
+    in_state s (reverse past) e (client_of s) _ at (client_leads s past) tt
+
+-- in every run
+pub taken_run : (s : ScriptData) (past : List Entry) → IsSound s → IsStepRun s past → TakesWhatIsApt s (reverse past)
+taken_run s [] sound run = λ n e here. absurd (cc here)
+taken_run s (e ∷ past) sound run =
+    before_more (IsAptEntry s) e past (taken_run s past sound run.1) (taken_by s past e sound run run.0.moves)

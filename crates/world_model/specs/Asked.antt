@@ -1,0 +1,27 @@
+-- What a letter asks of a node: which operations in which version, and the row once their effect is known.
+use Rattle.std.specs.Prelude.{ℕ, Bool, List, []}
+use Rattle.tv_base.specs.declared.numbers.Version.{Version}
+use Rattle.letter_types.specs.declared.bodies.Body.{Body}
+use Rattle.letter_types.specs.declared.bodies.Body.TheVariants.{Root, Sub as SubLetter}
+use Rattle.letter_types.specs.Steps.{Out, still}
+use Rattle.script_parts.specs.ScriptData.{ScriptData, ops_of}
+use Rattle.script_parts.specs.declared.parts.SubOp.{SubOp}
+use Rattle.world_model.specs.Node.{Effect, Node}
+use Rattle.world_model.specs.Done.{root_done, sub_done}
+
+-- the version that a letter asks for, where a root takes version v
+abbrev pub asked_version : Version → Body → Version
+asked_version v (SubLetter t k w) = w
+asked_version v _ = v
+
+-- the operations that a letter asks for
+abbrev pub asked_ops : ScriptData → Body → List SubOp
+asked_ops s (Root t) = ops_of s t.0 0
+asked_ops s (SubLetter t k v) = ops_of s t.0 k.0
+asked_ops s _ = []
+
+-- the row of a subtransaction in version v with this effect, which may raise the node's update version to v
+abbrev pub tree_done : ScriptData → ℕ → ℕ → Version → Bool → Effect → Body → Node → Out Node
+tree_done s p from v raises e (Root t) st = root_done s p t.0 v.0 e st
+tree_done s p from v raises e (SubLetter t k w) st = sub_done s from t.0 k.0 v.0 raises e st
+tree_done s p from v raises e _ st = still st

@@ -1,0 +1,89 @@
+-- The client's table.
+use Rattle.std.specs.Prelude.{if◌then◌else◌, ℕ, Bool, true, false, not, ◌==◌, ◌&&◌, ◌||◌, ◌+◌, ◌-◌, ◌^◌, min, nat_le, nat_lt, List, [], ◌∷◌, ◌++◌, length, take, drop, replicate, slice_set, get_or}
+use Rattle.script_parts.specs.ScriptData.{ScriptData, home_of}
+use Rattle.script_parts.specs.Adding.{advances_in}
+use Rattle.script_parts.specs.declared.parts.ScriptRow.{ScriptRow}
+use Rattle.script_parts.specs.declared.parts.ScriptRow.TheVariants.{Tree as TreeRow, Advance as AdvanceRow, Settle as SettleRow}
+use Rattle.letter_types.specs.declared.acts.Act.TheVariants.{Finished}
+use Rattle.letter_types.specs.declared.bodies.Body.{Body}
+use Rattle.letter_types.specs.declared.bodies.Body.TheVariants.{Go, Root, Reply, Nudge, Advance, Advanced}
+use Rattle.letter_types.specs.declared.entries.Outgoing.{Outgoing}
+use Rattle.letter_types.specs.Steps.{Out, still}
+
+-- how many rows are submitted, which trees are answered, how many advancements have ended, whether all is finished
+pub record Client : Type 0 where
+  pub next : ℕ
+  pub answered : List Bool
+  pub ended : ℕ
+  pub finished : Bool
+
+abbrev pub start_client : ScriptData → Client
+start_client s = record { next = 0; answered = replicate (length s.trees) false; ended = 0; finished = false }
+
+-- each tree of these rows is answered
+abbrev pub all_answered : List Bool → List ScriptRow → Bool
+all_answered answered [] = true
+all_answered answered (TreeRow t ∷ rows) = get_or answered t.0 false && all_answered answered rows
+all_answered answered (AdvanceRow ∷ rows) = all_answered answered rows
+all_answered answered (_ ∷ rows) = all_answered answered rows
+
+-- all that these rows asked for has ended
+abbrev pub have_ended : Client → List ScriptRow → Bool
+have_ended c rows = all_answered c.answered rows && nat_le (advances_in rows) c.ended
+
+-- how many of the rows from here on are submitted, after those before them: a settle row waits until all before it has
+-- ended
+abbrev pub submitted : Client → List ScriptRow → List ScriptRow → ℕ
+submitted c before [] = 0
+submitted c before (SettleRow ∷ rows) =
+    if have_ended c before then submitted c (before ++ SettleRow ∷ []) rows + 1 else 0
+submitted c before (row ∷ rows) = submitted c (before ++ row ∷ []) rows + 1
+
+-- a Root to its home for each tree, an Advance to the coordinator for each advancement; for a row that makes the
+-- coordinator forget nothing yet, since no script that has one is run
+abbrev pub rows_letters : ScriptData → List ScriptRow → List Outgoing
+rows_letters s [] = []
+rows_letters s (TreeRow t ∷ rows) = record { to = record { 0 = home_of s t.0 }; body = Root t } ∷ rows_letters s rows
+rows_letters s (AdvanceRow ∷ rows) = record { to = record { 0 = s.nodes }; body = Advance } ∷ rows_letters s rows
+rows_letters s (_ ∷ rows) = rows_letters s rows
+
+-- how many rows are submitted once the client has submitted what it may
+abbrev pub next_after : ScriptData → Client → ℕ
+next_after s c = c.next + submitted c (take c.next s.rows) (drop c.next s.rows)
+
+-- with so many rows submitted, everything has ended, and the client hasn't finished
+abbrev pub client_finishes : ScriptData → ℕ → Client → Bool
+client_finishes s next c = (next == length s.rows) && (have_ended c s.rows && not c.finished)
+
+-- the client submits what it may, behind the letters that are sent first, and finishes if all is over
+abbrev pub submit : ScriptData → Client → List Outgoing → Out Client
+submit s c first = record {
+  state = record {
+    next = next_after s c;
+    answered = c.answered;
+    ended = c.ended;
+    finished = c.finished || client_finishes s (next_after s c) c;
+  };
+  sent = first ++ rows_letters s (take (submitted c (take c.next s.rows) (drop c.next s.rows)) (drop c.next s.rows));
+  acts = if client_finishes s (next_after s c) c then Finished ∷ [] else [];
+}
+
+-- tree t is answered
+abbrev pub with_answer : ℕ → Client → Client
+with_answer t c = record c { answered = slice_set c.answered t true }
+
+-- one more advancement has ended; the number stays at its type's end
+abbrev pub with_end : Client → Client
+with_end c = record c { ended = min (c.ended + 1) (2 ^ 64 - 1) }
+
+-- the coordinator hears that a tree was answered
+abbrev pub nudge : ScriptData → Outgoing
+nudge s = record { to = record { 0 = s.nodes }; body = Nudge }
+
+-- what the client does with a letter of this body
+abbrev pub client_row : ScriptData → Client → Body → Out Client
+client_row s c Go = submit s c []
+client_row s c (Reply t v answer) =
+    if nat_lt t.0 (length s.trees) then submit s (with_answer t.0 c) (nudge s ∷ []) else still c
+client_row s c (Advanced v) = submit s (with_end c) []
+client_row s c _ = still c

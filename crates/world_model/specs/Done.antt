@@ -1,0 +1,82 @@
+-- A subtransaction is done: what its node keeps, sends and acts, whatever kind of tree it is of. What its operations
+-- make of the items, and the values of its gets, are given.
+use Rattle.std.specs.Prelude.{ℕ, Bool, if◌then◌else◌, List, [], ◌∷◌, ◌++◌, length}
+use Rattle.node_versions.specs.declared.turns.Turns.{Turns}
+use Rattle.pair_counters.specs.Numbers.{Numbers, asked_one, asked_all, done_one}
+use Rattle.tree_home.specs.Homes.{Gets, begun}
+use Rattle.script_parts.specs.ScriptData.{ScriptData, client_of, subs_at, home_of}
+use Rattle.letter_types.specs.declared.acts.Act.{Act}
+use Rattle.letter_types.specs.declared.acts.Act.TheVariants.{Born, Did, Turned}
+use Rattle.letter_types.specs.declared.entries.Outgoing.{Outgoing}
+use Rattle.letter_types.specs.Steps.{Out}
+use Rattle.world_model.specs.Node.{Effect, Node}
+use Rattle.world_model.specs.Children.{sub_letters, done_letter, addressees}
+use Rattle.world_model.specs.Notices.{homes_noted, answer_noted, reply_letters}
+
+-- a root at node p: one request and one completion of p with itself, and a request to each child's node
+abbrev pub counted_root : ℕ → ℕ → List Outgoing → Numbers → Numbers
+counted_root v p children n = done_one v p (asked_all v (addressees children) (asked_one v p n))
+
+-- a subtransaction that q asked for: a request to the addressee of each letter, and a completion from q
+abbrev pub counted_sub : ℕ → ℕ → List Outgoing → Numbers → Numbers
+counted_sub v q letters n = done_one v q (asked_all v (addressees letters) n)
+
+-- the root of tree t at node p in version v, with this effect, where its home has begun the tree: its children are
+-- asked for, and its home takes down its notice
+abbrev pub root_noted : ScriptData → ℕ → ℕ → ℕ → Effect → Node → Out Node
+root_noted s p t v e st = record {
+  state = record {
+    turns = st.turns;
+    items = e.items;
+    counts = counted_root v p (sub_letters t v 0 0 (subs_at s t)) st.counts;
+    homes = homes_noted (record { 0 = t }) (record { 0 = 0 }) e.values st.homes;
+  };
+  sent = sub_letters t v 0 0 (subs_at s t)
+      ++ reply_letters (client_of s) (answer_noted (record { 0 = t }) (record { 0 = 0 }) e.values st.homes);
+  acts = Born (record { 0 = t }) (record { 0 = v }) ∷ Did (record { 0 = t }) (record { 0 = 0 }) e.values ∷ [];
+}
+
+-- a tree of so many subtransactions has begun at its home
+abbrev pub with_open_tree : ℕ → ℕ → ℕ → Node → Node
+with_open_tree t n v st = record st { homes = begun (record { 0 = t }) n (record { 0 = v }) st.homes }
+
+-- the same where the home doesn't have the tree: the tree is born
+abbrev pub root_done : ScriptData → ℕ → ℕ → ℕ → Effect → Node → Out Node
+root_done s p t v e st = root_noted s p t v e (with_open_tree t (length (subs_at s t)) v st)
+
+-- what subtransaction k of tree t sends in version v: a Sub to each child, and its notice to the home
+abbrev pub sub_sent : ScriptData → ℕ → ℕ → ℕ → Gets → List Outgoing
+sub_sent s t k v values = sub_letters t v k 0 (subs_at s t) ++ done_letter (home_of s t) t k v values ∷ []
+
+-- the update version where a subtransaction raises it, and the act of that
+abbrev pub raised_if : Bool → ℕ → Turns → Turns
+raised_if raises v turns = if raises then record turns { update = record { 0 = v } } else turns
+
+abbrev pub turned_if : Bool → ℕ → List Act
+turned_if raises v = if raises then Turned (record { 0 = v }) ∷ [] else []
+
+-- subtransaction k of tree t, which node q asked for, in version v, with this effect
+abbrev pub sub_done : ScriptData → ℕ → ℕ → ℕ → ℕ → Bool → Effect → Node → Out Node
+sub_done s q t k v raises e st = record {
+  state = record {
+    turns = raised_if raises v st.turns;
+    items = e.items;
+    counts = counted_sub v q (sub_sent s t k v e.values) st.counts;
+    homes = st.homes;
+  };
+  sent = sub_sent s t k v e.values;
+  acts = turned_if raises v ++ Did (record { 0 = t }) (record { 0 = k }) e.values ∷ [];
+}
+
+-- a tree's home takes a notice from node q: it counts the completion, and answers the client if none is missing any more
+abbrev pub note_done : ScriptData → ℕ → ℕ → ℕ → ℕ → Gets → Node → Out Node
+note_done s q t k v values st = record {
+  state = record {
+    turns = st.turns;
+    items = st.items;
+    counts = done_one v q st.counts;
+    homes = homes_noted (record { 0 = t }) (record { 0 = k }) values st.homes;
+  };
+  sent = reply_letters (client_of s) (answer_noted (record { 0 = t }) (record { 0 = k }) values st.homes);
+  acts = [];
+}

@@ -1,0 +1,21 @@
+-- What has to hold of an actor's state so that it may take a letter, and how much a letter adds to what it counts.
+use Rattle.std.specs.Prelude.{ℕ, ◌<◌}
+use Rattle.letter_types.specs.declared.entries.Letter.{Letter}
+use Rattle.pair_counters.specs.Numbers.{AllBelow}
+use Rattle.script_parts.specs.ScriptData.{ScriptData}
+use Rattle.world_model.specs.Tables.{ActorData, NodeData}
+
+-- a letter for a node is addressed to one of the script's
+abbrev pub IsAddressed : ScriptData → Letter → ActorData → Type 0
+IsAddressed s l (NodeData st) = l.to.0 < s.nodes
+IsAddressed s l _ = Unit {0}
+
+-- each number that a node counts is below m
+abbrev pub CountsBelow : ℕ → ActorData → Type 0
+CountsBelow m (NodeData st) = AllBelow m st.counts
+CountsBelow m _ = Unit {0}
+
+-- how much an entry adds to a counter at most: a subtransaction's children and its notice, or a root's children and
+-- itself
+abbrev pub MOST_COUNTED : ℕ
+MOST_COUNTED = 65
