@@ -10,10 +10,10 @@ use Rattle.commute_ops.specs.declared.value.Value.{Value}
 use Rattle.commute_ops.specs.declared.value.Value.TheVariants.{Sum, Top, Bag}
 
 -- the value of a new item
-abbrev pub start : Kind → ℤ → Value
-start KindSum n = Sum (record { 0 = n })
-start KindTop n = Top (record { 0 = n })
-start KindBag _ = Bag []
+abbrev pub value_start : Kind → ℤ → Value
+value_start KindSum n = Sum (record { 0 = n })
+value_start KindTop n = Top (record { 0 = n })
+value_start KindBag _ = Bag []
 
 -- the value is a multiset, which lies in memory of its own
 abbrev pub is_bag : Value → Bool

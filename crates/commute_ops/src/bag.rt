@@ -9,7 +9,7 @@ use std::marker::Model;
 use tv_base::NoMemory;
 
 /// A multiset of numbers, in ascending order.
-#[derive(Drop)]
+#[derive(Clone, Drop)]
 pub struct BagValue {
     numbers: Vec<Amount>,
 }
@@ -44,12 +44,10 @@ impl BagValue {
     }
 
     /// An equal bag.
-    pub fn copy(&self, alloc: Global) -> Result<BagValue, NoMemory>
+    pub fn copy(&self, _alloc: Global) -> Result<BagValue, NoMemory>
         ensures { IfOk result (λ b. b ≡ self.now) }
     {
-        Ok(BagValue {
-            numbers: Vec::from_slice(alloc, &self.numbers)?,
-        })
+        Ok(self.clone()?)
     }
 }
 

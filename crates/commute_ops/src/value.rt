@@ -1,6 +1,6 @@
 ghost use Rattle.std.specs.Prelude.{◌≡◌, IfOk, IsTrue, OnErr, pos};
 ghost use Rattle.commute_ops.specs.Numbers.{is_within};
-ghost use Rattle.commute_ops.specs.Ops.{fits, is_bag, may_apply, applied, start};
+ghost use Rattle.commute_ops.specs.Ops.{fits, is_bag, may_apply, applied, value_start};
 
 use crate::bag::BagValue;
 use crate::kinds::{Amount, Commute, Kind, MOST_AMOUNT, Op, SumValue, TopValue};
@@ -8,7 +8,7 @@ use std::alloc::Global;
 use tv_base::NoMemory;
 
 /// A value of an item.
-#[derive(Drop)]
+#[derive(Clone, Drop)]
 pub enum Value {
     /// A number that amounts are added to.
     Sum(SumValue),
@@ -22,7 +22,7 @@ impl Value {
     /// The value of a new item. A bag starts empty.
     pub fn start(alloc: Global, kind: Kind, initial: Amount) -> Value
         requires { kind ≡ Kind.Bag → initial ≡ pos 0 }
-        ensures { result ≡ start kind initial }
+        ensures { result ≡ value_start kind initial }
     {
         match kind {
             Kind::Sum => Value::Sum(SumValue(initial)),
@@ -71,15 +71,11 @@ impl Value {
     }
 
     /// An equal value. Only a bag wants memory.
-    pub fn copy(&self, alloc: Global) -> Result<Value, NoMemory>
+    pub fn copy(&self, _alloc: Global) -> Result<Value, NoMemory>
         ensures copied { IfOk result (λ v. v ≡ self.now) }
         ensures only_bags { OnErr result (IsTrue (is_bag self.now)) }
     {
-        match self {
-            Value::Sum(sum) => Ok(Value::Sum(*sum)),
-            Value::Top(top) => Ok(Value::Top(*top)),
-            Value::Bag(bag) => Ok(Value::Bag(bag.copy(alloc)?)),
-        }
+        Ok(self.clone()?)
     }
 }
 

@@ -8,12 +8,8 @@ use tv_base::{ItemNo, NoMemory, Seq};
 pub type Values = Seq<(ItemNo, Value), 0xffff_ffff>;
 
 /// An equal list of values.
-pub fn copy_values(alloc: Global, values: &Values) -> Result<Values, NoMemory>
+pub fn copy_values(_alloc: Global, values: &Values) -> Result<Values, NoMemory>
     ensures { IfOk result (λ copy. copy ≡ values.now) }
 {
-    let mut copy = Values::new(alloc);
-    for entry in values.items() {
-        copy.push((entry.0, entry.1.copy(alloc)?))?;
-    }
-    Ok(copy)
+    Ok(values.clone()?)
 }

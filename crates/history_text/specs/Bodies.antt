@@ -6,7 +6,7 @@ use Rattle.letter_types.specs.declared.bodies.What.{What}
 use Rattle.letter_types.specs.declared.bodies.What.TheVariants as whats
 use Rattle.tx_trees.specs.ScriptData.{ScriptData}
 use Rattle.report_text.specs.Lines.{count_text}
-use Rattle.history_text.specs.Names.{answer_text, commit_word, notice_text, sub_word, tree_word}
+use Rattle.history_text.specs.Names.{answer_text, commit_word, notice_text, sub_word, word_and_tree}
 
 -- a version behind its word
 abbrev pub at_version : ℕ → List ℕ
@@ -37,10 +37,10 @@ order_text word e what v = count_text word e ++ count_text (what_word what) v
 
 abbrev pub body_text : ScriptData → Body → List ℕ
 body_text s Go = codes "go"
-body_text s (Root t) = tree_word s (codes "root ") t.0
+body_text s (Root t) = word_and_tree s (codes "root ") t.0
 body_text s (Sub t k v) = sub_word s (codes "sub ") t.0 k.0 ++ at_version v.0
 body_text s (Done t k v notice) = sub_word s (codes "done ") t.0 k.0 ++ (at_version v.0 ++ notice_text s notice)
-body_text s (Reply t v answer) = tree_word s (codes "reply ") t.0 ++ (at_version v.0 ++ answer_text s t.0 answer)
+body_text s (Reply t v answer) = word_and_tree s (codes "reply ") t.0 ++ (at_version v.0 ++ answer_text s t.0 answer)
 body_text s Nudge = codes "nudge"
 body_text s Advance = codes "advance"
 body_text s (Turn v) = count_text (codes "turn ") v.0
@@ -54,9 +54,9 @@ body_text s (AskAsked v k) = round_text (codes "askasked ") v.0 k
 body_text s (DoneRow v k row) = round_text (codes "donerow ") v.0 k ++ numbers_text row
 body_text s (AskedRow v k row) = round_text (codes "askedrow ") v.0 k ++ numbers_text row
 body_text s (Advanced v) = count_text (codes "advanced ") v.0
-body_text s (Decide t v commit) = tree_word s (codes "decide ") t.0 ++ (at_version v.0 ++ commit_word commit)
-body_text s (Decided t v) = tree_word s (codes "decided ") t.0 ++ at_version v.0
-body_text s (Release t) = tree_word s (codes "release ") t.0
+body_text s (Decide t v commit) = word_and_tree s (codes "decide ") t.0 ++ (at_version v.0 ++ commit_word commit)
+body_text s (Decided t v) = word_and_tree s (codes "decided ") t.0 ++ at_version v.0
+body_text s (Release t) = word_and_tree s (codes "release ") t.0
 body_text s (Wake t k) = sub_word s (codes "wake ") t.0 k.0
 body_text s Lose = codes "lose"
 body_text s (AdvanceNo i) = count_text (codes "advance ") i

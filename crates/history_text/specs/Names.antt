@@ -31,12 +31,12 @@ abbrev pub item_text : ScriptData → ℕ → List ℕ
 item_text s x = elim (slice_get s.items x) [ Some row ↦ row.name | None ↦ decimal x ]
 
 -- a word and a tree
-abbrev pub tree_word : ScriptData → List ℕ → ℕ → List ℕ
-tree_word s word t = word ++ tree_text s t
+abbrev pub word_and_tree : ScriptData → List ℕ → ℕ → List ℕ
+word_and_tree s word t = word ++ tree_text s t
 
 -- a word, a tree and a subtransaction
 abbrev pub sub_word : ScriptData → List ℕ → ℕ → ℕ → List ℕ
-sub_word s word t k = tree_word s word t ++ count_text (codes " ") k
+sub_word s word t k = word_and_tree s word t ++ count_text (codes " ") k
 
 -- a word, and an item behind it
 abbrev pub item_word : ScriptData → List ℕ → ℕ → List ℕ
@@ -48,7 +48,7 @@ got_text s [] = []
 got_text s (got ∷ more) = get_text (item_text s got.0.0) got.1 ++ got_text s more
 
 abbrev pub cause_text : ScriptData → Cause → List ℕ
-cause_text s (Conflict x t) = item_word s (codes "conflict ") x.0 ++ tree_word s (codes " ") t.0
+cause_text s (Conflict x t) = item_word s (codes "conflict ") x.0 ++ word_and_tree s (codes " ") t.0
 cause_text s (Newer x v) = item_word s (codes "newer ") x.0 ++ count_text (codes " ") v.0
 cause_text s (Short x n) = item_word s (codes "short ") x.0 ++ (codes " " ++ signed_decimal n)
 

@@ -1,9 +1,10 @@
 // Actors, trees and items by name. What the script doesn't have is printed by its number.
 ghost use Rattle.std.specs.Prelude.{◌≡◌, ◌++◌, OnOk};
 ghost use Rattle.std.specs.Str.{IsAscii};
-ghost use Rattle.history_text.specs.Names.{actor_text, item_text, item_word, sub_word, tree_text, tree_word};
+ghost use Rattle.history_text.specs.Names.{actor_text, item_text, item_word, sub_word, tree_text, word_and_tree};
 
-use report_text::{push_count, push_number};
+use commute_ops::push_number;
+use report_text::push_count;
 use tv_base::{ActorNo, ItemNo, NoMemory, SubNo, Text, TreeNo};
 use tx_trees::Script;
 
@@ -51,7 +52,7 @@ pub(crate) fn push_tree_word(
     tree: TreeNo,
 ) -> Result<(), NoMemory>
     requires { IsAscii word.now }
-    ensures { OnOk result (text.new ≡ text.old ++ tree_word script.now word.now tree.0) }
+    ensures { OnOk result (text.new ≡ text.old ++ word_and_tree script.now word.now tree.0) }
 {
     text.push_all(word)?;
     push_tree(text, script, tree)

@@ -5,9 +5,9 @@ ghost use Rattle.report_text.specs.Report.{get_text};
 ghost use Rattle.history_text.specs.Names.{answer_text, cause_text, cause_word, commit_word, got_text, item_text, notice_text, vote_text, whole_word, yes_text};
 
 use crate::naming::{push_item, push_item_word, push_tree_word};
-use commute_ops::{Value, Values};
+use commute_ops::{Value, Values, push_amount};
 use letter_types::{Answer, Cause, Notice, Vote};
-use report_text::{push_amount, push_count, push_value};
+use report_text::{push_count, push_value};
 use tv_base::{ItemNo, NoMemory, Text, TreeNo};
 use tx_trees::{Script, TreeKind};
 

@@ -7,7 +7,7 @@ use Rattle.commute_ops.specs.declared.value.Value.{Value}
 use Rattle.commute_ops.specs.declared.kinds.Op.{Op}
 use Rattle.commute_ops.specs.Ops.{applied}
 use Rattle.item_versions.specs.Item.{Held, IsHeld, below, above, applied_to_all, touched, holds, collected, seen, seen_after}
-use Rattle.item_versions.specs.History.{Step, touch, collect, new_held, held_after, CanRun, low_after, ops_up_to, applied_each, touches, SeesUpdates, HoldsUpdated, StaysHeld}
+use Rattle.item_versions.specs.History.{Step, touch, collect, new_held, held_after_steps, CanRun, low_after_steps, ops_up_to, applied_each, touches, SeesUpdates, HoldsUpdated, StaysHeld}
 use Rattle.item_versions.proofs.Order.{IsHeld-touched, IsHeld-collected, below-nil}
 use Rattle.item_versions.proofs.Rooms.{holds-later}
 use Rattle.item_versions.proofs.Seen.{seen-touched_from, seen-touched_below, seen-collected}
@@ -23,7 +23,7 @@ LowestIs-touched f v op x xs held low le =
       | inr more ↦ rw (le-ltb x.0.0 v.0 more, below-nil v x.0.0 xs more held) (omega arith)
     ]
 
-low-grows : (steps : List Step) (f : Version) (h : Held) → IsHeld h → LowestIs f h → CanRun f steps h → f.0 ≤ (low_after f steps).0
+low-grows : (steps : List Step) (f : Version) (h : Held) → IsHeld h → LowestIs f h → CanRun f steps h → f.0 ≤ (low_after_steps f steps).0
 low-grows steps f [] held low can = absurd low
 low-grows [] f (x ∷ xs) held low can = omega arith
 low-grows (touch v op ∷ steps) f (x ∷ xs) held low can =
@@ -31,7 +31,7 @@ low-grows (touch v op ∷ steps) f (x ∷ xs) held low can =
 low-grows (collect g ∷ steps) f (x ∷ xs) held low can =
     let rest = low-grows steps g (collected g (x ∷ xs)) (IsHeld-collected g (x ∷ xs) held) refl can.1 in omega (arith, can.0, low)
 
-seen-after : (v : Version) (steps : List Step) (f : Version) (h : Held) (w : Value) → IsHeld h → LowestIs f h → CanRun f steps h → (low_after f steps).0 ≤ v.0 → seen v h ≡ Some w → seen v (held_after steps h) ≡ Some (applied_each w (ops_up_to v steps))
+seen-after : (v : Version) (steps : List Step) (f : Version) (h : Held) (w : Value) → IsHeld h → LowestIs f h → CanRun f steps h → (low_after_steps f steps).0 ≤ v.0 → seen v h ≡ Some w → seen v (held_after_steps steps h) ≡ Some (applied_each w (ops_up_to v steps))
 seen-after v steps f [] w held low can le is = absurd low
 seen-after v [] f (x ∷ xs) w held low can le is = is
 seen-after v (touch u op ∷ steps) f (x ∷ xs) w held low can le is =
@@ -54,7 +54,7 @@ seen-after v (collect g ∷ steps) f (x ∷ xs) w held low can le is =
 pub sees_updates : SeesUpdates
 sees_updates w steps v can le = seen-after v steps (record { 0 = 0 }) (new_held w) w tt refl can le refl
 
-stays_held_from : (steps : List Step) (h : Held) → IsHeld h → IsHeld (held_after steps h)
+stays_held_from : (steps : List Step) (h : Held) → IsHeld h → IsHeld (held_after_steps steps h)
 stays_held_from [] h held = held
 stays_held_from (touch v op ∷ steps) h held = stays_held_from steps (touched v op h) (IsHeld-touched v op h held)
 stays_held_from (collect f ∷ steps) h held = stays_held_from steps (collected f h) (IsHeld-collected f h held)
@@ -88,7 +88,7 @@ holds-touched n v op x xs =
     let upper = holds-above n v (x ∷ xs) in
     joined ∙ (let e : (holds n (below v (x ∷ xs)) || (v.0 == n.0 || holds n (applied_to_all op (above v (x ∷ xs))))) ≡ (v.0 == n.0 || holds n (x ∷ xs)) = rw (lower, all, upper) (grind (arith, nat_tests)) in e)
 
-holds-run : (n : Version) (steps : List Step) (f : Version) (h : Held) → IsHeld h → LowestIs f h → CanRun f steps h → holds n (held_after steps h) ≡ ((low_after f steps).0 == n.0 || (ltb (low_after f steps).0 n.0 && (holds n h || touches n steps)))
+holds-run : (n : Version) (steps : List Step) (f : Version) (h : Held) → IsHeld h → LowestIs f h → CanRun f steps h → holds n (held_after_steps steps h) ≡ ((low_after_steps f steps).0 == n.0 || (ltb (low_after_steps f steps).0 n.0 && (holds n h || touches n steps)))
 holds-run n steps f [] held low can = absurd low
 holds-run n [] f (x ∷ xs) held low can =
     let later : n.0 ≤ x.0.0 → holds n xs ≡ false = λ le. holds-later n x.0.0 xs le held in grind (arith, nat_tests)

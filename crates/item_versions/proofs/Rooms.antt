@@ -10,7 +10,7 @@ use Rattle.commute_ops.specs.declared.value.Value.{Value}
 use Rattle.commute_ops.specs.declared.kinds.Op.{Op}
 use Rattle.commute_ops.specs.Ops.{is_bag}
 use Rattle.item_versions.specs.declared.item.TheConstants.{MOST_VERSIONS}
-use Rattle.item_versions.specs.inside.InPlace.{raised}
+use Rattle.item_versions.specs.inside.InPlace.{raised_from}
 use Rattle.item_versions.specs.Item.{Held, AscendsAbove, IsHeld, below, above, applied_to_all, seen, seen_after, holds, has_room, has_bag}
 use Rattle.item_versions.proofs.Order.{below-nil}
 use Rattle.item_versions.proofs.Seen.{above-later}
@@ -107,7 +107,7 @@ without-none v (x ∷ xs) held is = none-first v x xs held (without-none_above v
 
 -- after an update, version v and those above it are there
 pub length-raised : (v : Version) (op : Op) (xs : Held) → IsHeld xs
-    → length (raised v op xs) ≡ 1 + length (above v xs)
+    → length (raised_from v op xs) ≡ 1 + length (above v xs)
 length-raised v op [] held = absurd held
 length-raised v op (x ∷ xs) held =
     let same : length (applied_to_all op (above v (x ∷ xs))) ≡ length (above v (x ∷ xs)) = simp length-map in

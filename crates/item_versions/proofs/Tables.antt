@@ -6,7 +6,7 @@ use Rattle.std.proofs.lemmas.Bool.Decides.{nat_tests}
 use Rattle.std.proofs.lemmas.Grind.{common_steps}
 use Rattle.tv_base.specs.declared.numbers.ItemNo.{ItemNo}
 use Rattle.item_versions.specs.Item.{Held}
-use Rattle.item_versions.specs.Table.{Table, item_in, replaced, with_item, pending}
+use Rattle.item_versions.specs.Table.{Table, item_in, replaced, table_with_item, pending}
 use Rattle.item_versions.specs.inside.Places.{item_place}
 
 pub item_place-le : (n : ItemNo) (t : Table) → item_place n t ≤ length t
@@ -17,20 +17,20 @@ pub set-item_place : (n : ItemNo) (h : Held) (t : Table) → set t (item_place n
 set-item_place n h [] = refl
 set-item_place n h (e ∷ es) = let rest = set-item_place n h es in grind (arith, nat_tests, common_steps)
 
-pub set-place_of_with : (n : ItemNo) (h : Held) (t : Table) → item_place n t < length t → set t (item_place n t) (n, h) ≡ with_item n h t
+pub set-place_of_with : (n : ItemNo) (h : Held) (t : Table) → item_place n t < length t → set t (item_place n t) (n, h) ≡ table_with_item n h t
 set-place_of_with n h [] lt = absurd (omega arith)
 set-place_of_with n h (e ∷ es) lt =
-    let rest : item_place n es < length es → set es (item_place n es) (n, h) ≡ with_item n h es = set-place_of_with n h es in grind (arith, nat_tests, common_steps)
+    let rest : item_place n es < length es → set es (item_place n es) (n, h) ≡ table_with_item n h es = set-place_of_with n h es in grind (arith, nat_tests, common_steps)
 
 pub replaced-absent : (n : ItemNo) (h : Held) (t : Table) → length t ≤ item_place n t → replaced n h t ≡ t
 replaced-absent n h [] le = refl
 replaced-absent n h (e ∷ es) le =
     let rest : length es ≤ item_place n es → replaced n h es ≡ es = replaced-absent n h es in grind (arith, nat_tests, common_steps)
 
-pub with_item-absent : (n : ItemNo) (h : Held) (t : Table) → length t ≤ item_place n t → with_item n h t ≡ t ++ (n, h) ∷ []
+pub with_item-absent : (n : ItemNo) (h : Held) (t : Table) → length t ≤ item_place n t → table_with_item n h t ≡ t ++ (n, h) ∷ []
 with_item-absent n h [] le = refl
 with_item-absent n h (e ∷ es) le =
-    let rest : length es ≤ item_place n es → with_item n h es ≡ es ++ (n, h) ∷ [] = with_item-absent n h es in grind (arith, nat_tests, common_steps)
+    let rest : length es ≤ item_place n es → table_with_item n h es ≡ es ++ (n, h) ∷ [] = with_item-absent n h es in grind (arith, nat_tests, common_steps)
 
 -- one item put in place twice, and two items put in place in either order
 replaced-same : (n m : ItemNo) (h k : Held) (t : Table) → m.0 ≡ n.0 → replaced n h (replaced m k t) ≡ replaced n h t
@@ -56,7 +56,7 @@ item_in-replaced_none n m h (e ∷ es) is =
     let rest : item_in n es ≡ None → item_in n (replaced m h es) ≡ None = item_in-replaced_none n m h es in grind (arith, nat_tests)
 
 -- what is pending after one more item
-pub pending-with_item : (n : ItemNo) (h : Held) (s t : Table) → pending (with_item n h s) t ≡ replaced n h (pending s t)
+pub pending-with_item : (n : ItemNo) (h : Held) (s t : Table) → pending (table_with_item n h s) t ≡ replaced n h (pending s t)
 pending-with_item n h [] t = refl
 pending-with_item n h (e ∷ es) t =
     elim (cases_eq e.0.0 n.0) [

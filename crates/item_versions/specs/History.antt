@@ -16,10 +16,10 @@ abbrev pub new_held : Value → Held
 new_held w = (record { 0 = 0 }, w) ∷ []
 
 -- what is held after the steps
-abbrev pub held_after : List Step → Held → Held
-held_after [] h = h
-held_after (touch v op ∷ steps) h = held_after steps (touched v op h)
-held_after (collect f ∷ steps) h = held_after steps (collected f h)
+abbrev pub held_after_steps : List Step → Held → Held
+held_after_steps [] h = h
+held_after_steps (touch v op ∷ steps) h = held_after_steps steps (touched v op h)
+held_after_steps (collect f ∷ steps) h = held_after_steps steps (collected f h)
 
 -- each step may be made, and no update is in a version below the last collected to, which is f before the first step
 abbrev pub CanRun : Version → List Step → Held → Type 0
@@ -29,10 +29,10 @@ CanRun f (touch v op ∷ steps) h =
 CanRun f (collect g ∷ steps) h = CanCollect g h × CanRun g steps (collected g h)
 
 -- the version last collected to, or the one given where there is no collection
-abbrev pub low_after : Version → List Step → Version
-low_after f [] = f
-low_after f (touch v op ∷ steps) = low_after f steps
-low_after f (collect g ∷ steps) = low_after g steps
+abbrev pub low_after_steps : Version → List Step → Version
+low_after_steps f [] = f
+low_after_steps f (touch v op ∷ steps) = low_after_steps f steps
+low_after_steps f (collect g ∷ steps) = low_after_steps g steps
 
 -- the operations of the updates in versions up to v, in order
 abbrev pub ops_up_to : Version → List Step → List Op
@@ -55,17 +55,17 @@ touches v (collect f ∷ steps) = touches v steps
 abbrev pub SeesUpdates : Type 0
 SeesUpdates =
     (w : Value) (steps : List Step) (v : Version)
-    → CanRun (record { 0 = 0 }) steps (new_held w) → (low_after (record { 0 = 0 }) steps).0 ≤ v.0
-    → seen v (held_after steps (new_held w)) ≡ Some (applied_each w (ops_up_to v steps))
+    → CanRun (record { 0 = 0 }) steps (new_held w) → (low_after_steps (record { 0 = 0 }) steps).0 ≤ v.0
+    → seen v (held_after_steps steps (new_held w)) ≡ Some (applied_each w (ops_up_to v steps))
 
 -- the versions held are the one last collected to, and those above it that have an update
 abbrev pub HoldsUpdated : Type 0
 HoldsUpdated =
     (w : Value) (steps : List Step) (v : Version) → CanRun (record { 0 = 0 }) steps (new_held w)
-    → holds v (held_after steps (new_held w))
-    ≡ ((low_after (record { 0 = 0 }) steps).0 == v.0
-    || (nat_lt (low_after (record { 0 = 0 }) steps).0 v.0 && touches v steps))
+    → holds v (held_after_steps steps (new_held w))
+    ≡ ((low_after_steps (record { 0 = 0 }) steps).0 == v.0
+    || (nat_lt (low_after_steps (record { 0 = 0 }) steps).0 v.0 && touches v steps))
 
 -- what is held always ascends
 abbrev pub StaysHeld : Type 0
-StaysHeld = (w : Value) (steps : List Step) → IsHeld (held_after steps (new_held w))
+StaysHeld = (w : Value) (steps : List Step) → IsHeld (held_after_steps steps (new_held w))

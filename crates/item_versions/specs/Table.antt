@@ -12,8 +12,8 @@ abbrev pub Table : Type 0
 Table = List (ItemNo × Held)
 
 -- the numbers ascend
-abbrev pub IsAscending : Table → Type 0
-IsAscending t = AllPairs (λ a b. a.0.0 < b.0.0) t
+abbrev pub HasAscendingItems : Table → Type 0
+HasAscendingItems t = AllPairs (λ a b. a.0.0 < b.0.0) t
 
 -- of each item at least one version is held, and its versions ascend
 abbrev pub IsHeldTable : Table → Type 0
@@ -21,7 +21,7 @@ IsHeldTable t = AllByRecursion (λ e. IsHeld e.1) t
 
 -- what a table always keeps: its numbers ascend, and so do the versions of each item
 pub record IsTable (t : Table) : Type 0 where
-  pub ascending : IsAscending t
+  pub ascending : HasAscendingItems t
   pub held : IsHeldTable t
 
 -- the number is greater than every number of the table
@@ -39,9 +39,9 @@ replaced n h [] = []
 replaced n h (e ∷ es) = if e.0.0 == n.0 then (n, h) ∷ es else e ∷ replaced n h es
 
 -- the same, and where the item is not there it comes last
-abbrev pub with_item : ItemNo → Held → Table → Table
-with_item n h [] = (n, h) ∷ []
-with_item n h (e ∷ es) = if e.0.0 == n.0 then (n, h) ∷ es else e ∷ with_item n h es
+abbrev pub table_with_item : ItemNo → Held → Table → Table
+table_with_item n h [] = (n, h) ∷ []
+table_with_item n h (e ∷ es) = if e.0.0 == n.0 then (n, h) ∷ es else e ∷ table_with_item n h es
 
 -- the table with every item of a list in its place; the first counts
 abbrev pub pending : Table → Table → Table

@@ -1,6 +1,6 @@
 ghost use Rattle.std.specs.Prelude.{◌≡◌, ◌+◌, ◌++◌, ◌∷◌, ◌<◌, ◌≤◌, [], drop, length, IfOk, OnOk, OnErr, Some, IsTrue};
 ghost use Rattle.arrayvec.specs.ArrayVec.{array_vec_len};
-ghost use Rattle.item_versions.specs.inside.InPlace.{raised};
+ghost use Rattle.item_versions.specs.inside.InPlace.{raised_from};
 ghost use Rattle.item_versions.specs.Item.{IsHeld, seen, below, above, applied_to_all, touched, collected, may_apply_above, may_touch, holds, has_room, has_bag, put_value, CanCollect};
 ghost use Rattle.item_versions.specs.inside.Counted.{up_to};
 
@@ -229,7 +229,7 @@ fn push_raised(
     requires held { IsHeld items.now }
     requires may { IsTrue (may_touch v op.now items.now) }
     requires room { array_vec_len held.old + (1 + length (above v items.now)) ≤ MOST_VERSIONS }
-    ensures ok { OnOk result (held.new.items ≡ held.old.items ++ raised v op.now items.now) }
+    ensures ok { OnOk result (held.new.items ≡ held.old.items ++ raised_from v op.now items.now) }
     ensures only_bags { OnErr result (IsTrue (has_bag items.now)) }
 {
     let base = seen_in(items, v);

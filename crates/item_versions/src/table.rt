@@ -2,7 +2,7 @@ ghost use Rattle.std.specs.Prelude.{◌≡◌, ◌++◌, ◌∷◌, ◌<◌, [],
 ghost use Rattle.std.specs.Option.{option_copied};
 ghost use Rattle.std.specs.List.{All};
 ghost use Rattle.item_versions.specs.Item.{CanCollect, collected, has_room, may_touch, put_value, touched};
-ghost use Rattle.item_versions.specs.Table.{IsAscending, IsAfter, IsHeldTable, item_in, replaced, pending, touched_in, may_touch_in, has_room_in, put_value_in};
+ghost use Rattle.item_versions.specs.Table.{HasAscendingItems, IsAfter, IsHeldTable, item_in, replaced, pending, touched_in, may_touch_in, has_room_in, put_value_in};
 ghost use Rattle.item_versions.specs.inside.Places.{item_place};
 
 use crate::item::Item;
@@ -80,7 +80,7 @@ impl ItemTable {
     /// How many items there are.
     pub fn count(&self) -> usize
         ensures count { result ≡ length self.now }
-        ensures ascending { IsAscending self.now }
+        ensures ascending { HasAscendingItems self.now }
         ensures held { IsHeldTable self.now }
     {
         self.entries.len()
@@ -222,7 +222,7 @@ impl ItemTable {
 /// The place of an item, found by halving.
 #[tactic(auto, using(crate::proofs::Halving::halving))]
 fn place(entries: &[(ItemNo, Item)], item: ItemNo) -> Option<usize>
-    requires { IsAscending entries.now }
+    requires { HasAscendingItems entries.now }
     ensures found { IfSome result (λ p. (p < length entries.now)
         × ((d : _) → (slice_index_or entries.now p d).0 ≡ item)) }
     ensures none { IfNone result (All (λ e. e.0.0 ≡ item.0 → ⊥) entries.now) }
@@ -258,7 +258,7 @@ fn collect_entry(entries: &mut Vec<(ItemNo, Item)>, place: usize, f: Version)
 /// Puts the item in place of what the entries, whose numbers ascend, have of it.
 #[tactic(auto, using(crate::proofs::Halving::replacing))]
 fn replace(entries: &mut Vec<(ItemNo, Item)>, item: ItemNo, next: Item)
-    requires { IsAscending entries.old.items }
+    requires { HasAscendingItems entries.old.items }
     ensures { entries.new.items ≡ replaced item next entries.old.items }
 {
     if let Some(place) = place(entries, item) {

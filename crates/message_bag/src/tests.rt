@@ -1,5 +1,5 @@
 ghost use Rattle.std.specs.Prelude.{◌≡◌, ◌<◌, ◌≤◌, All, length, IfOk, IfSome};
-ghost use Rattle.stamp_post.specs.Shown.{IsAddressed, new_seats};
+ghost use Rattle.stamp_post.specs.Shown.{AreToActors, new_seats};
 
 use super::*;
 use letter_types::{Body, Letter, Letters, Outgoing};
@@ -54,7 +54,7 @@ fn passed_on(to: u8, hops: u64) -> Outgoing
 
 // One letter to each actor.
 fn to_all(alloc: Global, actors: u8) -> Result<Letters, NoMemory>
-    ensures { IfOk result (λ sent. IsAddressed actors sent) }
+    ensures { IfOk result (λ sent. AreToActors actors sent) }
 {
     let mut sent = Letters::new(alloc);
     for to in 0..actors {
@@ -66,7 +66,7 @@ fn to_all(alloc: Global, actors: u8) -> Result<Letters, NoMemory>
 // One letter.
 fn to_one(alloc: Global, to: u8, hops: u64, actors: u8) -> Result<Letters, NoMemory>
     requires { to < actors }
-    ensures { IfOk result (λ sent. IsAddressed actors sent) }
+    ensures { IfOk result (λ sent. AreToActors actors sent) }
 {
     let mut sent = Letters::new(alloc);
     sent.push(passed_on(to, hops))?;
@@ -83,7 +83,7 @@ fn next_actor(actor: u8, actors: u8) -> u8
 // One letter to each actor for the first, and a letter to the next actor for each that is to be passed on.
 fn answers(alloc: Global, letter: &Letter, actors: u8) -> Result<Letters, NoMemory>
     requires { 0 < actors }
-    ensures { IfOk result (λ sent. IsAddressed actors sent) }
+    ensures { IfOk result (λ sent. AreToActors actors sent) }
 {
     match &letter.body {
         Body::Go => to_all(alloc, actors),

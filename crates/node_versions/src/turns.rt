@@ -1,5 +1,5 @@
 ghost use Rattle.std.specs.Prelude.{◌≡◌, ◌<◌, ◌↔◌, IsTrue};
-ghost use Rattle.node_versions.specs.Turns.{raised, start};
+ghost use Rattle.node_versions.specs.Turns.{raised, turns_start};
 
 use tv_base::Version;
 
@@ -17,7 +17,7 @@ pub struct Turns {
 impl Turns {
     /// Update version 1, read version 0, low version 0.
     pub fn start() -> Turns
-        ensures { result ≡ start }
+        ensures { result ≡ turns_start }
     {
         Turns {
             update: Version(1),

@@ -9,7 +9,7 @@ use Rattle.std.proofs.lemmas.Option.{slice_get-get_or}
 use Rattle.pair_counters.specs.declared.counters.CounterRow.{CounterRow}
 use Rattle.pair_counters.specs.Numbers.{more_at, from_version, numbers_of}
 use Rattle.pair_counters.specs.Counts.{CountsThree}
-use Rattle.pair_counters.specs.Rows.{CounterRows, is_kept, number_of, number_in, counts_of}
+use Rattle.pair_counters.specs.Rows.{CounterRows, is_kept, number_in_row, number_in, counts_of}
 
 -- which versions are kept
 pub kept : (low v : ℕ) → low ≤ v → v ≤ low + 2 → is_kept low v ≡ true
@@ -32,7 +32,7 @@ where_of low v =
 
 -- the numbers of a kept version are those of its row, and those of any other are 0
 pub number-kept : (f : CounterRow → List ℕ) (low v q : ℕ) (rs : List CounterRow) → low ≤ v → v ≤ low + 2
-    → number_in f low rs v q ≡ number_of f q (slice_get rs (v % 3))
+    → number_in f low rs v q ≡ number_in_row f q (slice_get rs (v % 3))
 number-kept f low v q rs from up_to = rw (kept low v from up_to) refl
 
 pub number-outside : (f : CounterRow → List ℕ) (low v q : ℕ) (rs : List CounterRow) → (v < low) ⊎ (low + 2 < v)
@@ -45,11 +45,11 @@ counts-three c v q out =
 
 -- the row at a place
 number-row : (f : CounterRow → List ℕ) (p q : ℕ) (rs : List CounterRow) (d : CounterRow) → p < length rs
-    → number_of f q (slice_get rs p) ≡ get_or (f (get_or rs p d)) q 0
-number-row f p q rs d lt = ap (λ (o : Option CounterRow). number_of f q o) (slice_get-get_or rs p d lt)
+    → number_in_row f q (slice_get rs p) ≡ get_or (f (get_or rs p d)) q 0
+number-row f p q rs d lt = ap (λ (o : Option CounterRow). number_in_row f q o) (slice_get-get_or rs p d lt)
 
 row-same : (f : CounterRow → List ℕ) (p q : ℕ) (rs : List CounterRow) (y : CounterRow) → p < length rs
-    → number_of f q (slice_get (set rs p y) p) ≡ get_or (f y) q 0
+    → number_in_row f q (slice_get (set rs p y) p) ≡ get_or (f y) q 0
 row-same f p q [] y lt = absurd (omega arith)
 row-same f zero q (r ∷ rs) y lt = refl
 row-same f (suc p) q (r ∷ rs) y lt = row-same f p q rs y (omega arith)
@@ -82,7 +82,7 @@ set-number f low v rs y three from up_to w q =
             | inr ne ↦
                 let apart : w % 3 ≡ v % 3 → ⊥ = λ eq. ne (rows-apart low v w from up_to from' up_to' eq) in
                 number-kept f low w q (set rs (v % 3) y) from' up_to'
-                ∙ ap (λ (o : Option CounterRow). number_of f q o) (row-other rs (v % 3) (w % 3) y apart)
+                ∙ ap (λ (o : Option CounterRow). number_in_row f q o) (row-other rs (v % 3) (w % 3) y apart)
                 ∙ sym (number-kept f low w q rs from' up_to')
                 ∙ rw (ne_eqb w v ne) refl
           ]
@@ -146,13 +146,13 @@ zeros-at (suc n) (suc q) = zeros-at n q
 
 -- with three rows of zeros nothing is counted
 none-of : (f : CounterRow → List ℕ) (n : ℕ) (x y z : CounterRow) → f x ≡ replicate n 0 → f y ≡ replicate n 0
-    → f z ≡ replicate n 0 → (p q : ℕ) → number_of f q (slice_get (x ∷ y ∷ z ∷ []) p) ≡ 0
+    → f z ≡ replicate n 0 → (p q : ℕ) → number_in_row f q (slice_get (x ∷ y ∷ z ∷ []) p) ≡ 0
 none-of f n x y z e e' e'' zero q = ap (λ (l : List ℕ). get_or l q 0) e ∙ zeros-at n q
 none-of f n x y z e e' e'' (suc zero) q = ap (λ (l : List ℕ). get_or l q 0) e' ∙ zeros-at n q
 none-of f n x y z e e' e'' (suc (suc zero)) q = ap (λ (l : List ℕ). get_or l q 0) e'' ∙ zeros-at n q
 none-of f n x y z e e' e'' (suc (suc (suc p))) q = refl
 
-none-in : (f : CounterRow → List ℕ) (low : ℕ) (rs : List CounterRow) → ((p q : ℕ) → number_of f q (slice_get rs p) ≡ 0)
+none-in : (f : CounterRow → List ℕ) (low : ℕ) (rs : List CounterRow) → ((p q : ℕ) → number_in_row f q (slice_get rs p) ≡ 0)
     → (v q : ℕ) → number_in f low rs v q ≡ 0
 none-in f low rs none v q =
     elim (where_of low v) [
@@ -215,7 +215,7 @@ moved-on_at f low v g rs further others before w q =
                 ap (λ (h : ℕ → ℕ → ℕ). h (earlier low w) q) before
                 ∙ rw (lt-ltb (earlier low w) (low + min (v - low) 3) (omega arith)) refl in
                 number-kept f v w q rs from up_to
-                ∙ ap (λ (p : ℕ). number_of f q (slice_get rs p)) (sym (earlier-row low w (omega arith)))
+                ∙ ap (λ (p : ℕ). number_in_row f q (slice_get rs p)) (sym (earlier-row low w (omega arith)))
                 ∙ sym (number-kept f low (earlier low w) q rs ge le) ∙ dropped
                 ∙ rw (le-ltb w v from) (sym (others w q (inr more)))
             | inr few ↦

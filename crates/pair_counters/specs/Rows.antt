@@ -14,13 +14,13 @@ abbrev pub is_kept : ℕ → ℕ → Bool
 is_kept low v = nat_le low v && nat_le v (low + 2)
 
 -- a row's number at a node: the numbers of the row are those that f gives
-abbrev pub number_of : (CounterRow → List ℕ) → ℕ → Option CounterRow → ℕ
-number_of f q None = 0
-number_of f q (Some r) = slice_index (f r) q
+abbrev pub number_in_row : (CounterRow → List ℕ) → ℕ → Option CounterRow → ℕ
+number_in_row f q None = 0
+number_in_row f q (Some r) = slice_index (f r) q
 
 -- a version's number at a node
 abbrev pub number_in : (CounterRow → List ℕ) → ℕ → List CounterRow → ℕ → ℕ → ℕ
-number_in f low rs v q = if is_kept low v then number_of f q (slice_get rs (v % 3)) else 0
+number_in f low rs v q = if is_kept low v then number_in_row f q (slice_get rs (v % 3)) else 0
 
 -- the requests to a node, and the completions from it
 abbrev pub asked_in : ℕ → List CounterRow → ℕ → ℕ → ℕ

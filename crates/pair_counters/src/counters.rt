@@ -1,12 +1,13 @@
 ghost use Rattle.std.specs.Prelude.{ℕ, ◌≡◌, ◌+◌, ◌%◌, ◌<◌, ◌≤◌, ◌^◌, length, slice_get, IfOk};
+ghost use Rattle.tv_base.specs.declared.numbers.TheConstants.{MOST_NODES};
 ghost use Rattle.pair_counters.specs.Numbers.{asked_one, done_one, more_at, numbers_of, from_version};
-ghost use Rattle.pair_counters.specs.Counts.{no_counts, dropped_below, CountsThree};
-ghost use Rattle.pair_counters.specs.Rows.{counts_of, is_kept, number_of, asked_in, done_in};
+ghost use Rattle.pair_counters.specs.Counts.{no_counts, dropped_below};
+ghost use Rattle.pair_counters.specs.Rows.{counts_of, is_kept, number_in_row, asked_in, done_in};
 ghost use Rattle.pair_counters.specs.inside.NoNumbers.{no_numbers};
 
 use std::alloc::Global;
 use std::marker::Model;
-use tv_base::{NoMemory, NodeNo, Seq, Version};
+use tv_base::{MOST_NODES, NoMemory, NodeNo, Seq, Version};
 
 /// How many versions are counted at a time.
 const VERSIONS: u64 = 3;
@@ -17,12 +18,13 @@ pub type Row = Seq<u64, 0xffff_ffff>;
 /// The numbers of one version, by node. The places from the number of nodes on are not read.
 #[derive(Drop)]
 pub struct CounterRow {
-    pub asked: [u64; 64],
-    pub done: [u64; 64],
+    pub asked: [u64; MOST_NODES],
+    pub done: [u64; MOST_NODES],
 }
 
 /// The requests to other nodes, and the completions from them, that a node counts by version: for the low version and
-/// the two after it. Three rows are used in turn, that of version `v` is `v` mod 3.
+/// the two after it. The low version is the greatest that was given to `drop_below`, 0 at first. Three rows are used in
+/// turn, that of version `v` is `v` mod 3.
 #[derive(Drop)]
 pub struct Counters {
     nodes: u8,
@@ -32,19 +34,20 @@ pub struct Counters {
 
 impl Model for Counters {
     ghost use Rattle.std.specs.Prelude.{◌≤◌};
+    ghost use Rattle.tv_base.specs.declared.numbers.TheConstants.{MOST_NODES};
     ghost use Rattle.pair_counters.specs.Rows.{CounterRows};
 
     ghost Value = { CounterRows };
 
     ghost view = { λ c. record { nodes = c.nodes; low = c.low.0; rows = c.rows } };
 
-    ghost invariant = { λ c. c.nodes ≤ 64 };
+    ghost invariant = { λ c. c.nodes ≤ MOST_NODES };
 }
 
 impl Counters {
-    /// Counters for so many nodes, at most 64, with nothing counted. The low version is 0.
+    /// Counters for so many nodes, at most `MOST_NODES`, with nothing counted. The low version is 0.
     pub fn new(nodes: u8) -> Counters
-        requires { nodes ≤ 64 }
+        requires { nodes ≤ MOST_NODES }
         ensures { counts_of result ≡ no_counts nodes }
     {
         Counters {
@@ -57,18 +60,9 @@ impl Counters {
     /// The number of nodes.
     pub fn nodes(&self) -> u8
         ensures nodes { result ≡ (counts_of self.now).nodes }
-        ensures most { result ≤ 64 }
+        ensures most { result ≤ MOST_NODES }
     {
         self.nodes
-    }
-
-    /// The low version: the greatest that was given to `drop_below`, 0 at first. It and the two after it are counted,
-    /// the numbers of all others are 0.
-    pub fn low(&self) -> Version
-        ensures low { result.0 ≡ (counts_of self.now).low }
-        ensures three { CountsThree (counts_of self.now) }
-    {
-        self.low
     }
 
     /// Sees to it that version `v` can be counted. All numbers stay. Wants no memory, since the rows are there.
@@ -159,8 +153,8 @@ fn no_numbers() -> CounterRow
     ensures { result ≡ no_numbers }
 {
     CounterRow {
-        asked: [0; 64],
-        done: [0; 64],
+        asked: [0; MOST_NODES],
+        done: [0; MOST_NODES],
     }
 }
 
@@ -174,8 +168,8 @@ fn is_kept(low: Version, v: Version) -> bool
 /// Counts one more request of the version to a node.
 fn count_asked(rows: &mut [CounterRow], v: Version, to: NodeNo)
     requires three { length rows.old ≡ 3 }
-    requires node { to.0 < 64 }
-    requires below { number_of (λ r. r.asked) to.0 (slice_get rows.old (v.0 % 3)) < 2 ^ 63 }
+    requires node { to.0 < MOST_NODES }
+    requires below { number_in_row (λ r. r.asked) to.0 (slice_get rows.old (v.0 % 3)) < 2 ^ 63 }
     ensures asked { (low : ℕ) → low ≤ v.0 → v.0 ≤ low + 2
         → asked_in low rows.new ≡ more_at v.0 to.0 (asked_in low rows.old) }
     ensures done { (low : ℕ) → low ≤ v.0 → v.0 ≤ low + 2 → done_in low rows.new ≡ done_in low rows.old }
@@ -188,8 +182,8 @@ fn count_asked(rows: &mut [CounterRow], v: Version, to: NodeNo)
 /// Counts one more completion of the version from a node.
 fn count_done(rows: &mut [CounterRow], v: Version, from: NodeNo)
     requires three { length rows.old ≡ 3 }
-    requires node { from.0 < 64 }
-    requires below { number_of (λ r. r.done) from.0 (slice_get rows.old (v.0 % 3)) < 2 ^ 63 }
+    requires node { from.0 < MOST_NODES }
+    requires below { number_in_row (λ r. r.done) from.0 (slice_get rows.old (v.0 % 3)) < 2 ^ 63 }
     ensures asked { (low : ℕ) → low ≤ v.0 → v.0 ≤ low + 2 → asked_in low rows.new ≡ asked_in low rows.old }
     ensures done { (low : ℕ) → low ≤ v.0 → v.0 ≤ low + 2
         → done_in low rows.new ≡ more_at v.0 from.0 (done_in low rows.old) }
@@ -202,7 +196,7 @@ fn count_done(rows: &mut [CounterRow], v: Version, from: NodeNo)
 /// The requests of the version to a node.
 fn asked_number(rows: &[CounterRow], low: Version, v: Version, to: NodeNo) -> u64
     requires three { length rows.now ≡ 3 }
-    requires node { to.0 < 64 }
+    requires node { to.0 < MOST_NODES }
     ensures { result ≡ asked_in low.0 rows.now v.0 to.0 }
 {
     if !is_kept(low, v) {
@@ -214,7 +208,7 @@ fn asked_number(rows: &[CounterRow], low: Version, v: Version, to: NodeNo) -> u6
 /// The completions of the version from a node.
 fn done_number(rows: &[CounterRow], low: Version, v: Version, from: NodeNo) -> u64
     requires three { length rows.now ≡ 3 }
-    requires node { from.0 < 64 }
+    requires node { from.0 < MOST_NODES }
     ensures { result ≡ done_in low.0 rows.now v.0 from.0 }
 {
     if !is_kept(low, v) {

@@ -2,5 +2,7 @@
 #![tactic(auto)]
 
 mod counters;
+mod laws;
 
 pub use counters::{Counters, Row};
+pub use laws::three_versions_are_counted;

@@ -1,5 +1,6 @@
-use commute_ops::{Amount, SumValue, Value};
+use commute_ops::{Amount, Op, SumValue, Value};
 use item_versions::{Item, ItemTable, Staged};
+use std::alloc::Global;
 use std::test::Fail;
 use tv_base::{ItemNo, Version};
 
@@ -21,6 +22,41 @@ fn put(table: &ItemTable, staged: &mut Staged, v: u64, amount: Amount) -> Result
         return Err("there is no room".into());
     }
     table.stage_value(staged, Version(v), ItemNo(4), sum(amount))?;
+    Ok(())
+}
+
+/// Adds an amount to the item in version `v`.
+fn touch(alloc: Global, item: &mut Item, v: u64, amount: Amount) -> Result<(), Fail> {
+    let op = Op::Add(amount);
+    if !item.may_touch(Version(v), &op) || !item.has_room(Version(v)) {
+        return Err("the item may not be touched".into());
+    }
+    item.touch(alloc, Version(v), &op)?;
+    Ok(())
+}
+
+/// Collects the item to version `f`, where it has a version that is at most `f`.
+fn collect(item: &mut Item, f: u64) -> Result<(), Fail> {
+    if item.held()[0].0 > Version(f) {
+        return Err("no version is that low".into());
+    }
+    item.collect(Version(f));
+    Ok(())
+}
+
+#[test]
+fn an_item_is_touched_and_collected(rt: HostRuntime) -> Result<(), Fail> {
+    let alloc = rt.alloc();
+    let mut item = Item::new(sum(1));
+    touch(alloc, &mut item, 1, 1)?;
+    touch(alloc, &mut item, 2, 2)?;
+    assert!(rt; holds(&item, &[(0, 1), (1, 2), (2, 4)]));
+    touch(alloc, &mut item, 1, 8)?;
+    assert!(rt; holds(&item, &[(0, 1), (1, 10), (2, 12)]));
+    collect(&mut item, 1)?;
+    assert!(rt; holds(&item, &[(1, 10), (2, 12)]));
+    touch(alloc, &mut item, 3, 8)?;
+    assert!(rt; holds(&item, &[(1, 10), (2, 12), (3, 20)]));
     Ok(())
 }
 

@@ -4,7 +4,7 @@ use Rattle.letter_types.specs.declared.entries.Entry.{Entry}
 use Rattle.tx_trees.specs.ScriptData.{ScriptData}
 use Rattle.tx_trees.specs.declared.parts.ItemRow.{ItemRow}
 use Rattle.board_model.specs.Balances.{by_number, worths, written_items}
-use Rattle.board_model.specs.Worth.{is_written, worth}
+use Rattle.board_rules.specs.Worth.{is_written, worth}
 use Rattle.report_text.specs.inside.Lines.{rows_lines}
 use Rattle.report_text.specs.Report.{item_line, items_text}
 

@@ -18,8 +18,8 @@ use Rattle.tx_trees.specs.declared.parts.TreeKind.{TreeKind}
 use Rattle.tx_trees.specs.declared.parts.TreeKind.TheVariants.{Update, Read, Strict}
 use Rattle.board_model.specs.Balances.{worths}
 use Rattle.board_model.specs.Carried.{IsCarried}
-use Rattle.board_model.specs.Histories.{version_of}
-use Rattle.board_model.specs.Serial.{is_version}
+use Rattle.board_rules.specs.Histories.{version_of}
+use Rattle.board_rules.specs.Serial.{is_version}
 use Rattle.board_model.specs.SerialList.{IsByVersion}
 use Rattle.board_model.specs.Standings.{standings_from, standings_of}
 use Rattle.board_model.specs.declared.carried.Carried.{Carried}
@@ -27,7 +27,7 @@ use Rattle.board_model.specs.declared.serial.Member.{Member}
 use Rattle.report_text.specs.declared.served.Served.{Served}
 use Rattle.report_text.specs.inside.Lines.{subs_texts}
 use Rattle.report_text.specs.Report.{gets_text}
-use Rattle.report_text.specs.inside.Served.{AreAsked, AreRead, AreTold, IsServed, ask_at, asks_from, read_version, values_at, values_of}
+use Rattle.report_text.specs.inside.Served.{AreAsked, AreRead, AreTold, IsServed, ask_at, asks_from, read_version, values_at, values_of_tree}
 use Rattle.report_text.proofs.TreeLines.{subs_text}
 
 -- a text put at its place
@@ -81,7 +81,7 @@ served_more s h serial asks texts r carried text d valid asked served small at v
     let ask : Member = get_or asks r.place d in
     let t : ℕ = ask.tree.0 in
     let there : t < length texts = omega (arith, asked.there r.place d small, served.count) in
-    let right : text ≡ values_of s h t
+    let right : text ≡ values_of_tree s h t
     = is ∙ text_is s h ask.version.0 t valid ∙ sym (ap (λ (o : Option Version). values_at s h o (subs_at s t)) (asked.right r.place d small)) in
     record {
       place = omega arith;
@@ -97,21 +97,21 @@ served_more s h serial asks texts r carried text d valid asked served small at v
       same_at (m ∷ ms) (suc p) d e lt = same_at ms p d e (omega arith)
 
       told_at : (i : ℕ) (e : Member) (b : Bool) → (i == r.place) ≡ b → i < r.place + 1 → (get_or asks r.place d).tree.0 < length texts
-          → text ≡ values_of s h (get_or asks r.place d).tree.0
-          → slice_get (slice_set texts (get_or asks r.place d).tree.0 text) (get_or asks i e).tree.0 ≡ Some (values_of s h (get_or asks i e).tree.0)
+          → text ≡ values_of_tree s h (get_or asks r.place d).tree.0
+          → slice_get (slice_set texts (get_or asks r.place d).tree.0 text) (get_or asks i e).tree.0 ≡ Some (values_of_tree s h (get_or asks i e).tree.0)
       told_at i e true eq lt there right =
           let same : r.place ≡ i = grind (arith, nat_tests) in
           let one : (get_or asks r.place d).tree.0 ≡ (get_or asks i e).tree.0
           = ap (λ (m : Member). m.tree.0) (same_at asks r.place d e small) ∙ ap (λ (k : ℕ). (get_or asks k e).tree.0) same in
-          subst (λ (k : ℕ). slice_get (slice_set texts (get_or asks r.place d).tree.0 text) k ≡ Some (values_of s h k)) one
+          subst (λ (k : ℕ). slice_get (slice_set texts (get_or asks r.place d).tree.0 text) k ≡ Some (values_of_tree s h k)) one
           (put_same texts (get_or asks r.place d).tree.0 text there ∙ ap Some right)
       told_at i e false eq lt there right =
           let before : i < r.place = grind (arith, nat_tests) in
-          put_told texts (get_or asks r.place d).tree.0 (get_or asks i e).tree.0 text (values_of s h) there right (served.told i e before)
+          put_told texts (get_or asks r.place d).tree.0 (get_or asks i e).tree.0 text (values_of_tree s h) there right (served.told i e before)
 
       told_by : (i : ℕ) (e : Member) → i < r.place + 1 → (get_or asks r.place d).tree.0 < length texts
-          → text ≡ values_of s h (get_or asks r.place d).tree.0
-          → slice_get (slice_set texts (get_or asks r.place d).tree.0 text) (get_or asks i e).tree.0 ≡ Some (values_of s h (get_or asks i e).tree.0)
+          → text ≡ values_of_tree s h (get_or asks r.place d).tree.0
+          → slice_get (slice_set texts (get_or asks r.place d).tree.0 text) (get_or asks i e).tree.0 ≡ Some (values_of_tree s h (get_or asks i e).tree.0)
       told_by i e lt there right = told_at i e (i == r.place) refl lt there right
 
 -- carried on, before the next one
@@ -283,7 +283,7 @@ all_read s h asks texts asked count told =
       each = λ (t : ℕ) (v : Version) r born.
           at_place t asks none (slice_get texts t ≡ Some (gets_text s h v.0 (subs_at s t))) (asked.all t v r born)
           (λ (i : ℕ) lt same.
-          subst (λ (k : ℕ). slice_get texts k ≡ Some (values_of s h k)) same (told i none lt)
+          subst (λ (k : ℕ). slice_get texts k ≡ Some (values_of_tree s h k)) same (told i none lt)
           ∙ ap (λ (o : Option Version). Some (values_at s h o (subs_at s t))) born);
     } where
       none : Member

@@ -13,12 +13,12 @@ use Rattle.tx_trees.specs.ScriptData.{ScriptData}
 use Rattle.tx_trees.specs.Valid.{IsValid}
 use Rattle.tx_trees.specs.declared.parts.ItemRow.{ItemRow}
 use Rattle.board_model.specs.Balances.{by_number, worths}
-use Rattle.board_model.specs.Serial.{serial_to}
-use Rattle.board_model.specs.Worth.{worth}
+use Rattle.board_rules.specs.Serial.{serial_to}
+use Rattle.board_rules.specs.Worth.{worth}
 use Rattle.board_model.proofs.Bounds.{IsHeld, OfKind, worth_held}
-use Rattle.board_model.proofs.SerialOrder.{serial_to_apart}
+use Rattle.board_rules.proofs.SerialOrder.{serial_to_apart}
 use Rattle.report_text.specs.Summary.{kind_worth, number_of, part_of}
-use Rattle.report_text.specs.inside.Totals.{AreSmall, kind_total}
+use Rattle.report_text.specs.inside.Totals.{AreAmounts, kind_total}
 
 -- a value of the kind
 kind_small : (kind : Kind) (w : Value) → OfKind kind w 0 → unsigned_abs (number_of w) ≤ MOST_AMOUNT
@@ -42,7 +42,7 @@ worth_small s h v x row valid e =
 
 small_from : (s : ScriptData) (h : List Entry) (v k : ℕ) (rows : List ItemRow) → IsValid s
     → ((i : ℕ) (row : ItemRow) → slice_get rows i ≡ Some row → slice_get s.items (k + i) ≡ Some row)
-    → AreSmall (by_number (λ (x : ℕ). worth s h x v) k rows)
+    → AreAmounts (by_number (λ (x : ℕ). worth s h x v) k rows)
 small_from s h v k [] valid there = tt
 small_from s h v k (row ∷ rows) valid there = (
   worth_small s h v k row valid (at_zero k (there 0 row refl)),
@@ -54,7 +54,7 @@ small_from s h v k (row ∷ rows) valid there = (
   at_next : (i k : ℕ) (one : ItemRow) → slice_get s.items (k + suc i) ≡ Some one → slice_get s.items (k + 1 + i) ≡ Some one
   at_next i k one e = let same : k + 1 + i ≡ k + suc i = omega arith in ap (λ (n : ℕ). slice_get s.items n) same ∙ e
 
-pub worths_small : (s : ScriptData) (h : List Entry) (v : ℕ) → IsValid s → AreSmall (worths s h v)
+pub worths_small : (s : ScriptData) (h : List Entry) (v : ℕ) → IsValid s → AreAmounts (worths s h v)
 worths_small s h v valid =
     small_from s h v 0 s.items valid
     (λ (i : ℕ) (row : ItemRow) e. let same : 0 + i ≡ i = omega arith in ap (λ (n : ℕ). slice_get s.items n) same ∙ e)

@@ -14,10 +14,10 @@ use Rattle.tx_trees.specs.declared.parts.Tree.{Tree}
 use Rattle.tx_trees.specs.declared.parts.TreeKind.{TreeKind}
 use Rattle.tx_trees.specs.declared.parts.TreeKind.TheVariants.{Update, Read, Strict}
 use Rattle.board_model.specs.Balances.{by_number, worths}
-use Rattle.board_model.specs.Histories.{version_of}
-use Rattle.board_model.specs.Right.{shown}
+use Rattle.board_rules.specs.Histories.{version_of}
+use Rattle.board_rules.specs.Right.{shown}
 use Rattle.board_model.specs.Standings.{standings_from, standings_of}
-use Rattle.board_model.specs.Worth.{worth}
+use Rattle.board_rules.specs.Worth.{worth}
 use Rattle.board_model.proofs.AllItems.{length-standings_from}
 use Rattle.report_text.specs.inside.Lines.{born_line, found_text, ops_texts, subs_texts, trees_lines}
 use Rattle.report_text.specs.inside.Served.{AreRead}

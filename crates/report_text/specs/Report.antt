@@ -15,9 +15,9 @@ use Rattle.tx_trees.specs.declared.parts.Tree.{Tree}
 use Rattle.tx_trees.specs.declared.parts.TreeKind.{TreeKind}
 use Rattle.tx_trees.specs.declared.parts.TreeKind.TheVariants.{Update, Read}
 use Rattle.tx_trees.specs.declared.parts.Written.{Written}
-use Rattle.board_model.specs.Histories.{version_of}
-use Rattle.board_model.specs.Right.{shown}
-use Rattle.board_model.specs.Worth.{worth, is_written}
+use Rattle.board_rules.specs.Histories.{version_of}
+use Rattle.board_rules.specs.Right.{shown}
+use Rattle.board_rules.specs.Worth.{worth, is_written}
 
 -- numbers in order, each behind a comma
 abbrev pub more_numbers : List ℤ → List ℕ

@@ -1,7 +1,7 @@
 // The lines of items.
 ghost use Rattle.std.specs.Prelude.{◌≡◌, ◌++◌, ◌+◌, OnOk, length};
 ghost use Rattle.std.specs.Str.{IsAscii};
-ghost use Rattle.report_text.specs.inside.Lines.{row_line, rows_lines, two_balances};
+ghost use Rattle.report_text.specs.inside.Lines.{values_line, rows_lines, two_balances};
 ghost use Rattle.tx_trees.specs.AsciiNames.{AreAsciiItems};
 
 use crate::values::push_balance;
@@ -47,7 +47,7 @@ fn push_row(
     written: bool,
 ) -> Result<(), NoMemory>
     requires { IsAscii row.now.name }
-    ensures { OnOk result (text.new ≡ text.old ++ row_line advances row.now shown.now later.now written) }
+    ensures { OnOk result (text.new ≡ text.old ++ values_line advances row.now shown.now later.now written) }
 {
     text.push_all(b"item ")?;
     text.push_all(row.name.bytes())?;

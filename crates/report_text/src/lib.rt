@@ -13,7 +13,7 @@ mod trees;
 mod values;
 
 pub use check_text::check_line;
-pub use parts::{push_amount, push_count, push_number};
+pub use parts::push_count;
 pub use run_report::report;
 pub use run_summary::summary;
 pub use values::push_value;

@@ -5,13 +5,13 @@ ghost use Rattle.tx_trees.specs.Adding.{all_subs};
 ghost use Rattle.tx_trees.specs.Counts.{if_update};
 ghost use Rattle.board_model.specs.Balances.{worths};
 ghost use Rattle.report_text.specs.Summary.{counts_line, number_of, one_read, kind_worth, part_of, read_trees, summary_of, totals_line, trees_counts, update_trees};
-ghost use Rattle.report_text.specs.inside.Totals.{AreSmall, kind_total};
+ghost use Rattle.report_text.specs.inside.Totals.{AreAmounts, kind_total};
 
 use crate::check_text::count_subs;
-use crate::parts::{push_amount, push_count};
+use crate::parts::push_count;
 use crate::run_report::advances;
 use board_model::{Balances, carry, outcomes_of, start};
-use commute_ops::{Amount, Kind, Value};
+use commute_ops::{Amount, Kind, Value, push_amount};
 use letter_types::History;
 use std::alloc::Global;
 use tv_base::{NoMemory, Text, Version};
@@ -81,7 +81,7 @@ fn worths_at(
 fn totals_of(rows: &[ItemRow], values: &[Value]) -> Totals
     requires each { length values.now ≡ length rows.now }
     requires few { length rows.now ≤ 10000 }
-    requires small { AreSmall values.now }
+    requires small { AreAmounts values.now }
     ensures sum { result.sum ≡ kind_total Kind.Sum rows.now values.now }
     ensures top { result.top ≡ kind_total Kind.Top rows.now values.now }
 {
@@ -94,7 +94,7 @@ fn totals_of(rows: &[ItemRow], values: &[Value]) -> Totals
 fn total_of(kind: Kind, rows: &[ItemRow], values: &[Value]) -> Amount
     requires each { length values.now ≡ length rows.now }
     requires few { length rows.now ≤ 10000 }
-    requires small { AreSmall values.now }
+    requires small { AreAmounts values.now }
     ensures { result ≡ kind_total kind rows.now values.now }
 {
     let mut total: Amount = 0;

@@ -5,8 +5,9 @@ ghost use Rattle.report_text.specs.inside.Lines.{born_line, trees_lines};
 ghost use Rattle.tx_trees.specs.AsciiNames.{AreAsciiTrees};
 ghost use Rattle.report_text.specs.Report.{node_line, nodes_text, read_line, undone_mark, update_line};
 
-use crate::parts::{push_number, push_version};
+use crate::parts::push_version;
 use board_model::Standing;
+use commute_ops::push_number;
 use tv_base::{Name, NoMemory, Text, Version};
 use tx_trees::{Tree, TreeKind, Written};
 

@@ -3,8 +3,7 @@ ghost use Rattle.std.specs.Prelude.{◌≡◌, ◌++◌, OnOk, ◌∷◌, codes,
 ghost use Rattle.std.specs.Fmt.{signed_decimal};
 ghost use Rattle.report_text.specs.Report.{bag_text, balance, more_numbers, value_text};
 
-use crate::parts::{push_amount, push_number};
-use commute_ops::{Amount, Value};
+use commute_ops::{Amount, Value, push_amount, push_number};
 use tv_base::{NoMemory, Text, Version};
 
 // A version and the value there.

@@ -9,7 +9,8 @@ use Rattle.std.proofs.lemmas.Fmt.{length-decimal-le_wide}
 use Rattle.std.proofs.lemmas.Slice.Eq.{bytes_eq-Decides}
 use Rattle.std.specs.Char.{is_ascii_digit}
 use Rattle.tv_base.proofs.Truths.{left_true, right_true}
-use Rattle.tv_base.proofs.Decimals.{spells, value_of}
+use Rattle.tv_base.specs.Digits.{decimal_value}
+use Rattle.tv_base.proofs.Decimals.{spells}
 use Rattle.tx_trees.specs.Names.{is_name, is_name_byte}
 
 -- digits are bytes of a name
@@ -42,4 +43,4 @@ same_rest b xs ys e = cc e
 pub names_apart : (b m n : ℕ) → m < 100000 → n < 100000 → bytes_eq (b ∷ decimal m) (b ∷ decimal n) ≡ true → m ≡ n
 names_apart b m n small less e =
     let same : decimal m ≡ decimal n = same_rest b (decimal m) (decimal n) ((bytes_eq-Decides (b ∷ decimal m) (b ∷ decimal n)).0 e) in
-    sym (spells m (omega arith)).value ∙ ap value_of same ∙ (spells n (omega arith)).value
+    sym (spells m (omega arith)).value ∙ ap decimal_value same ∙ (spells n (omega arith)).value

@@ -7,23 +7,23 @@ use Rattle.tx_trees.specs.Passing.{MayAddOp, MayAddSub, MayAddTree}
 use Rattle.tx_trees.specs.ScriptData.{ScriptData}
 use Rattle.tx_trees.specs.declared.parts.ItemRow.{ItemRow}
 use Rattle.tx_trees.specs.declared.parts.TreeKind.{TreeKind}
-use Rattle.script_gen.specs.Draws.{after_draws, given}
-use Rattle.tv_base.specs.Draws.{next_draw}
-use Rattle.script_gen.specs.Generated.{amount_by, deed_by, home_by, item_by, item_name, kind_by, node_by, own_draw, parent_by, tree_name, tree_with}
-use Rattle.script_gen.specs.inside.Within.{HasRoom, bare_tree, with_begun}
+use Rattle.script_gen.specs.Draws.{after_draws}
+use Rattle.tv_base.specs.Draws.{next_draw, upper_bits}
+use Rattle.script_gen.specs.Generated.{amount_by, deed_by, home_by, item_by, generated_item_name, kind_by, node_by, own_draw, parent_by, tree_name, tree_with}
+use Rattle.script_gen.specs.inside.Within.{HasRoomForTree, bare_tree, with_begun}
 use Rattle.script_gen.proofs.Items.{item_found}
 use Rattle.script_gen.proofs.Trees.{item_less, next_op_may, next_sub_may, node_is, op_added, parent_is, sub_added, tree_begun, tree_may}
 
 abbrev at_node : ℕ → NodeNo
 at_node n = record { 0 = n }
 
-pub begin_may : (s : ScriptData) (j x home : ℕ) (kind : TreeKind) → HasRoom j s → kind ≡ kind_by (own_draw x) → home ≡ home_by (own_draw x)
+pub begin_may : (s : ScriptData) (j x home : ℕ) (kind : TreeKind) → HasRoomForTree j s → kind ≡ kind_by (own_draw x) → home ≡ home_by (own_draw x)
     → MayAddTree s (tree_name j) kind (at_node home)
 begin_may s j x home kind room is at =
     subst (λ (k : TreeKind). MayAddTree s (tree_name j) k (at_node home)) (sym is)
     (subst (λ (n : ℕ). MayAddTree s (tree_name j) (kind_by (own_draw x)) (at_node n)) (sym at) (tree_may s j (own_draw x) room))
 
-pub begun : (s now : ScriptData) (j x home : ℕ) (kind : TreeKind) → HasRoom j s → kind ≡ kind_by (own_draw x) → home ≡ home_by (own_draw x)
+pub begun : (s now : ScriptData) (j x home : ℕ) (kind : TreeKind) → HasRoomForTree j s → kind ≡ kind_by (own_draw x) → home ≡ home_by (own_draw x)
     → now ≡ with_tree s (tree_name j) kind (at_node home) → now ≡ with_begun s j (bare_tree j x 0)
 begun s now j x home kind room is at made =
     made
@@ -31,8 +31,8 @@ begun s now j x home kind room is at made =
     ∙ ap (λ (n : ℕ). with_tree s (tree_name j) (kind_by (own_draw x)) (at_node n)) at
     ∙ tree_begun s j x room
 
-pub op_may_now : (s now : ScriptData) (j x n node e : ℕ) (kind : TreeKind) → HasRoom j s → n ≤ 3 → now ≡ with_begun s j (bare_tree j x n)
-    → kind ≡ kind_by (own_draw x) → node ≡ node_by (home_by (own_draw x)) n e → e ≡ given (after_draws (suc n) (next_draw x))
+pub op_may_now : (s now : ScriptData) (j x n node e : ℕ) (kind : TreeKind) → HasRoomForTree j s → n ≤ 3 → now ≡ with_begun s j (bare_tree j x n)
+    → kind ≡ kind_by (own_draw x) → node ≡ node_by (home_by (own_draw x)) n e → e ≡ upper_bits (after_draws (suc n) (next_draw x))
     → MayAddOp now (item_by node e) (deed_by kind (item_by node e) (amount_by e))
 op_may_now s now j x n node e kind room few made is at drawn =
     subst (λ (t : ScriptData). MayAddOp t (item_by node e) (deed_by kind (item_by node e) (amount_by e))) (sym made)
@@ -40,15 +40,15 @@ op_may_now s now j x n node e kind room few made is at drawn =
     (subst (λ (m : ℕ). MayAddOp (with_begun s j (bare_tree j x n)) (item_by m e) (deed_by (kind_by (own_draw x)) (item_by m e) (amount_by e))) (sym at)
     (next_op_may s j x n e room few drawn)))
 
-pub op_named : (s now : ScriptData) (j x n node e : ℕ) → HasRoom j s → now ≡ with_begun s j (bare_tree j x n) → node ≡ node_by (home_by (own_draw x)) n e
-    → place_of (item_name (item_by node e)) now.items ≡ Some (item_by node e)
+pub op_named : (s now : ScriptData) (j x n node e : ℕ) → HasRoomForTree j s → now ≡ with_begun s j (bare_tree j x n) → node ≡ node_by (home_by (own_draw x)) n e
+    → place_of (generated_item_name (item_by node e)) now.items ≡ Some (item_by node e)
 op_named s now j x n node e room made at =
-    ap (λ (t : ScriptData). place_of (item_name (item_by node e)) t.items) made
-    ∙ ap (λ (is : List ItemRow). place_of (item_name (item_by node e)) is) room.items
+    ap (λ (t : ScriptData). place_of (generated_item_name (item_by node e)) t.items) made
+    ∙ ap (λ (is : List ItemRow). place_of (generated_item_name (item_by node e)) is) room.items
     ∙ item_found (item_by node e) (subst (λ (m : ℕ). item_by m e < 32) (sym at) (item_less (own_draw x) n e))
 
 pub op_made : (s now new : ScriptData) (j x n node e : ℕ) (kind : TreeKind) → now ≡ with_begun s j (bare_tree j x n) → kind ≡ kind_by (own_draw x)
-    → node ≡ node_by (home_by (own_draw x)) n e → e ≡ given (after_draws (suc n) (next_draw x))
+    → node ≡ node_by (home_by (own_draw x)) n e → e ≡ upper_bits (after_draws (suc n) (next_draw x))
     → new ≡ with_op now (item_by node e) (deed_by kind (item_by node e) (amount_by e)) → new ≡ with_begun s j (tree_with j x (suc n))
 op_made s now new j x n node e kind made is at drawn added =
     added
@@ -57,7 +57,7 @@ op_made s now new j x n node e kind made is at drawn added =
     ∙ ap (λ (m : ℕ). with_op (with_begun s j (bare_tree j x n)) (item_by m e) (deed_by (kind_by (own_draw x)) (item_by m e) (amount_by e))) at
     ∙ op_added s j x n e drawn
 
-pub sub_may_now : (s now : ScriptData) (j x n node e : ℕ) → HasRoom j s → 0 < n → n ≤ 3 → now ≡ with_begun s j (tree_with j x n) → node ≡ e / 64 % 4
+pub sub_may_now : (s now : ScriptData) (j x n node e : ℕ) → HasRoomForTree j s → 0 < n → n ≤ 3 → now ≡ with_begun s j (tree_with j x n) → node ≡ e / 64 % 4
     → MayAddSub now (e % n) (at_node node)
 sub_may_now s now j x n node e room some few made at =
     subst (λ (t : ScriptData). MayAddSub t (e % n) (at_node node)) (sym made)
@@ -66,7 +66,7 @@ sub_may_now s now j x n node e room some few made at =
     (next_sub_may s j x n e room some few)))
 
 pub sub_made : (s now new : ScriptData) (j x n node e : ℕ) → 0 < n → now ≡ with_begun s j (tree_with j x n) → node ≡ e / 64 % 4
-    → e ≡ given (after_draws (suc n) (next_draw x)) → new ≡ with_sub now (e % n) (at_node node) → new ≡ with_begun s j (bare_tree j x n)
+    → e ≡ upper_bits (after_draws (suc n) (next_draw x)) → new ≡ with_sub now (e % n) (at_node node) → new ≡ with_begun s j (bare_tree j x n)
 sub_made s now new j x n node e some made at drawn added =
     added
     ∙ ap (λ (t : ScriptData). with_sub t (e % n) (at_node node)) made

@@ -13,8 +13,8 @@ use Rattle.tx_trees.specs.declared.parts.TreeKind.{TreeKind}
 use Rattle.tx_trees.specs.declared.parts.TreeKind.TheVariants as kinds
 use Rattle.tx_trees.proofs.Lists.{IsSum, all-push}
 use Rattle.tx_trees.proofs.Totals.{all_subs-sum, load_total, op_total, put_total, strict-sum}
-use Rattle.script_gen.specs.Draws.{after_draws, given}
-use Rattle.tv_base.specs.Draws.{next_draw}
+use Rattle.script_gen.specs.Draws.{after_draws}
+use Rattle.tv_base.specs.Draws.{next_draw, upper_bits}
 use Rattle.script_gen.specs.Generated.{after_trees, amount_by, deed_by, generated_sub, generated_tree, home_by, is_top, item_by, kind_by, node_by, size_after, subs_up_to, trees_up_to}
 
 -- a sum of what is at most b
@@ -56,12 +56,12 @@ if_most false n m h = omega arith
 all_subs_are : (P : Sub → Type 0) (kind : TreeKind) (home x : ℕ) → ((k e : ℕ) → P (generated_sub kind home k e)) → (n : ℕ) → AllByRecursion P (subs_up_to kind home x n)
 all_subs_are P kind home x each zero = tt
 all_subs_are P kind home x each (suc n) =
-    all-push P (subs_up_to kind home x n) (generated_sub kind home n (given (after_draws (suc n) x))) (all_subs_are P kind home x each n) (each n (given (after_draws (suc n) x)))
+    all-push P (subs_up_to kind home x n) (generated_sub kind home n (upper_bits (after_draws (suc n) x))) (all_subs_are P kind home x each n) (each n (upper_bits (after_draws (suc n) x)))
 
 pub length-subs : (kind : TreeKind) (home x n : ℕ) → length (subs_up_to kind home x n) ≡ n
 length-subs kind home x zero = refl
 length-subs kind home x (suc n) =
-    omega (arith, length-append (subs_up_to kind home x n) (generated_sub kind home n (given (after_draws (suc n) x)) ∷ []), length-subs kind home x n)
+    omega (arith, length-append (subs_up_to kind home x n) (generated_sub kind home n (upper_bits (after_draws (suc n) x)) ∷ []), length-subs kind home x n)
 
 pub subs_load_most : (y : ℕ) (kind : TreeKind) (home x n : ℕ) → subs_load y (subs_up_to kind home x n) ≤ 999 * n
 subs_load_most y kind home x n =
@@ -117,7 +117,7 @@ all_subs_most seed n =
       arith,
       length-trees seed n,
       sum_most _ all_subs 4 all_subs-sum (trees_up_to seed n)
-          (all_trees_are _ seed (λ (j x : ℕ). omega (arith, size_most x, length-subs (kind_by (given (next_draw x))) (home_by (given (next_draw x))) (next_draw x) (size_after x))) n),
+          (all_trees_are _ seed (λ (j x : ℕ). omega (arith, size_most x, length-subs (kind_by (upper_bits (next_draw x))) (home_by (upper_bits (next_draw x))) (next_draw x) (size_after x))) n),
     )
 
 pub all_ops_most : (seed n : ℕ) → all_ops (trees_up_to seed n) ≤ 4 * n
@@ -126,7 +126,7 @@ all_ops_most seed n =
       arith,
       length-trees seed n,
       sum_most _ all_ops 4 op_total.trees (trees_up_to seed n)
-          (all_trees_are _ seed (λ (j x : ℕ). omega (arith, size_most x, subs_ops_most (kind_by (given (next_draw x))) (home_by (given (next_draw x))) (next_draw x) (size_after x))) n),
+          (all_trees_are _ seed (λ (j x : ℕ). omega (arith, size_most x, subs_ops_most (kind_by (upper_bits (next_draw x))) (home_by (upper_bits (next_draw x))) (next_draw x) (size_after x))) n),
     )
 
 pub strict_none : (seed n : ℕ) → strict_trees (trees_up_to seed n) ≡ 0
@@ -135,7 +135,7 @@ strict_none seed n =
       arith,
       length-trees seed n,
       sum_most _ strict_trees 0 strict-sum (trees_up_to seed n)
-          (all_trees_are _ seed (λ (j x : ℕ). omega (arith, not_strict (given (next_draw x)))) n),
+          (all_trees_are _ seed (λ (j x : ℕ). omega (arith, not_strict (upper_bits (next_draw x)))) n),
     )
 
 pub puts_none : (y seed n : ℕ) → trees_puts y (trees_up_to seed n) ≡ 0
@@ -144,7 +144,7 @@ puts_none y seed n =
       arith,
       length-trees seed n,
       sum_most _ (trees_puts y) 0 (put_total y).trees (trees_up_to seed n)
-          (all_trees_are _ seed (λ (j x : ℕ). omega (arith, subs_puts_none y (kind_by (given (next_draw x))) (home_by (given (next_draw x))) (next_draw x) (size_after x))) n),
+          (all_trees_are _ seed (λ (j x : ℕ). omega (arith, subs_puts_none y (kind_by (upper_bits (next_draw x))) (home_by (upper_bits (next_draw x))) (next_draw x) (size_after x))) n),
     )
 
 pub load_most : (y seed n : ℕ) → trees_load y (trees_up_to seed n) ≤ 3996 * n
@@ -153,5 +153,5 @@ load_most y seed n =
       arith,
       length-trees seed n,
       sum_most _ (trees_load y) 3996 (load_total y).trees (trees_up_to seed n)
-          (all_trees_are _ seed (λ (j x : ℕ). omega (arith, size_most x, subs_load_most y (kind_by (given (next_draw x))) (home_by (given (next_draw x))) (next_draw x) (size_after x))) n),
+          (all_trees_are _ seed (λ (j x : ℕ). omega (arith, size_most x, subs_load_most y (kind_by (upper_bits (next_draw x))) (home_by (upper_bits (next_draw x))) (next_draw x) (size_after x))) n),
     )

@@ -13,11 +13,12 @@ use Rattle.tx_trees.specs.declared.parts.Sub.{Sub}
 use Rattle.tx_trees.specs.declared.parts.Tree.{Tree}
 use Rattle.tx_trees.specs.declared.parts.TreeKind.{TreeKind}
 use Rattle.tx_trees.specs.declared.parts.TreeKind.TheVariants as trees
-use Rattle.script_gen.specs.Draws.{after_draws, given}
-use Rattle.tv_base.specs.Draws.{next_draw}
+use Rattle.script_gen.specs.Draws.{after_draws}
+use Rattle.tv_base.specs.Draws.{next_draw, upper_bits}
 
-abbrev pub item_name : ℕ → List ℕ
-item_name k = codes "i" ++ decimal k
+-- the names of item k and of tree j
+abbrev pub generated_item_name : ℕ → List ℕ
+generated_item_name k = codes "i" ++ decimal k
 
 abbrev pub tree_name : ℕ → List ℕ
 tree_name j = codes "t" ++ decimal j
@@ -27,9 +28,9 @@ abbrev pub is_top : ℕ → Bool
 is_top k = k % 8 == 7
 
 -- item k: a top that begins with 0, or a sum that begins with 1000
-abbrev pub item_row : ℕ → ItemRow
-item_row k = record {
-  name = item_name k;
+abbrev pub generated_item_row : ℕ → ItemRow
+generated_item_row k = record {
+  name = generated_item_name k;
   node = record { 0 = k % 4 };
   kind = if is_top k then kinds.Top else kinds.Sum;
   initial = if is_top k then pos 0 else pos 1000;
@@ -38,7 +39,7 @@ item_row k = record {
 -- the first n items
 abbrev pub items_up_to : ℕ → List ItemRow
 items_up_to zero = []
-items_up_to (suc k) = items_up_to k ++ item_row k ∷ []
+items_up_to (suc k) = items_up_to k ++ generated_item_row k ∷ []
 
 -- by a tree's first draw: its kind, its home, and how many subtransactions it has beside the root
 abbrev pub kind_by : ℕ → TreeKind
@@ -85,11 +86,11 @@ generated_sub kind home k e = record {
 abbrev pub subs_up_to : TreeKind → ℕ → ℕ → ℕ → List Sub
 subs_up_to kind home x zero = []
 subs_up_to kind home x (suc k) =
-    subs_up_to kind home x k ++ generated_sub kind home k (given (after_draws (suc k) x)) ∷ []
+    subs_up_to kind home x k ++ generated_sub kind home k (upper_bits (after_draws (suc k) x)) ∷ []
 
 -- a tree's own draw, where its draws begin after x
 abbrev pub own_draw : ℕ → ℕ
-own_draw x = given (next_draw x)
+own_draw x = upper_bits (next_draw x)
 
 -- tree j with its first n subtransactions, by the draws after x, of which the first is the tree's own
 abbrev pub tree_with : ℕ → ℕ → ℕ → Tree
@@ -108,13 +109,13 @@ abbrev pub generated_tree : ℕ → ℕ → Tree
 generated_tree j x = tree_with j x (size_after x)
 
 -- the number after the draws of the tree whose draws begin after x
-abbrev pub after_tree : ℕ → ℕ
-after_tree x = after_draws (size_after x) (next_draw x)
+abbrev pub after_tree_draws : ℕ → ℕ
+after_tree_draws x = after_draws (size_after x) (next_draw x)
 
 -- the number after the draws of the first j trees
 abbrev pub after_trees : ℕ → ℕ → ℕ
 after_trees seed zero = seed
-after_trees seed (suc j) = after_tree (after_trees seed j)
+after_trees seed (suc j) = after_tree_draws (after_trees seed j)
 
 -- the first n trees
 abbrev pub trees_up_to : ℕ → ℕ → List Tree

@@ -2,7 +2,7 @@
 ghost use Rattle.std.specs.Prelude.{◌≡◌, ◌<◌, ◌≤◌, IfOk, OnOk};
 ghost use Rattle.tx_trees.specs.Adding.{advances_in};
 ghost use Rattle.script_gen.specs.Generated.{generated};
-ghost use Rattle.script_gen.specs.inside.Within.{with_end};
+ghost use Rattle.script_gen.specs.inside.Within.{with_last_rows};
 
 use crate::items_made::add_items;
 use crate::taking::{take_advance, take_settle};
@@ -30,7 +30,7 @@ pub fn generate(alloc: Global, seed: u64, trees: u32) -> Result<Script, NoMemory
 // Waits for all trees, asks for one more advancement, and waits for it.
 fn add_end(script: &mut Script) -> Result<(), NoMemory>
     requires { advances_in script.old.rows < 100 }
-    ensures { OnOk result (script.new ≡ with_end script.old) }
+    ensures { OnOk result (script.new ≡ with_last_rows script.old) }
 {
     take_settle(script)?;
     take_advance(script)?;

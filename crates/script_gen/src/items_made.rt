@@ -1,6 +1,6 @@
 // The items.
 ghost use Rattle.std.specs.Prelude.{◌≡◌, ◌<◌, ◌+◌, OnOk};
-ghost use Rattle.script_gen.specs.Generated.{is_top, item_row};
+ghost use Rattle.script_gen.specs.Generated.{is_top, generated_item_row};
 ghost use Rattle.script_gen.specs.inside.Within.{with_items};
 
 use crate::naming::name_of;
@@ -42,8 +42,8 @@ pub(crate) fn is_top(k: u32) -> bool
 
 // Item k, by its name.
 fn item_row(name: Name, k: u32) -> ItemRow
-    requires { name ≡ (item_row k).name }
-    ensures { result ≡ item_row k }
+    requires { name ≡ (generated_item_row k).name }
+    ensures { result ≡ generated_item_row k }
 {
     let node = NodeNo((k % 4) as u8);
     if is_top(k) {

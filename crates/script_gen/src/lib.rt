@@ -1,7 +1,6 @@
 //! Scripts that are made from a seed.
 #![tactic(auto)]
 
-mod draws;
 mod generating;
 mod items_made;
 mod naming;

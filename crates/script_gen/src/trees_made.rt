@@ -2,16 +2,15 @@
 ghost use Rattle.std.specs.Prelude.{◌≡◌, ◌<◌, ◌≤◌, ◌/◌, ◌%◌, IfOk, OnOk, Some};
 ghost use Rattle.tx_trees.specs.Adding.{advances_in, place_of, with_tree};
 ghost use Rattle.tx_trees.specs.Passing.{MayAddOp, MayAddTree};
-ghost use Rattle.script_gen.specs.Generated.{advances_behind, after_tree, amount_by, deed_by, generated_tree, home_by, item_by, item_name, kind_by, more_by, tree_name};
-ghost use Rattle.script_gen.specs.inside.Within.{Follows, HasRoom, HasTrees, with_begun, with_op_by};
+ghost use Rattle.script_gen.specs.Generated.{advances_behind, after_tree_draws, amount_by, deed_by, generated_tree, home_by, item_by, generated_item_name, kind_by, more_by, tree_name};
+ghost use Rattle.script_gen.specs.inside.Within.{Follows, HasRoomForTree, HasTrees, with_begun, with_op_by};
 
-use crate::draws::{given, next_draw};
 use crate::items_made::is_top;
 use crate::naming::name_of;
 use crate::taking::{take_advance, take_op, take_sub, take_tree};
 use commute_ops::{Amount, Op};
 use std::alloc::Global;
-use tv_base::NoMemory;
+use tv_base::{NoMemory, next_draw, upper_bits};
 use tx_trees::{Deed, Script, TreeKind};
 
 // Adds so many trees, by the draws of the seed, with their advancements.
@@ -47,20 +46,20 @@ fn add_behind(script: &mut Script, j: u32) -> Result<(), NoMemory>
 
 // Adds tree j by the draws after this number, and gives the number after them.
 fn add_tree(alloc: Global, script: &mut Script, j: u32, first: u64) -> Result<u64, NoMemory>
-    requires { HasRoom j script.old }
-    ensures next { IfOk result (λ next. next ≡ after_tree first) }
+    requires { HasRoomForTree j script.old }
+    ensures next { IfOk result (λ next. next ≡ after_tree_draws first) }
     ensures made { IfOk result (λ next. script.new ≡ with_begun script.old j (generated_tree j first)) }
 {
     let own = next_draw(first);
-    let drawn = given(own);
+    let drawn = upper_bits(own);
     let kind = kind_by(drawn);
     let home = home_by(drawn);
     begin_tree(alloc, script, j, kind, home)?;
     let mut number = next_draw(own);
-    add_op(alloc, script, kind, home, given(number))?;
+    add_op(alloc, script, kind, home, upper_bits(number))?;
     for k in 1..more_by(drawn) + 1 {
         number = next_draw(number);
-        let e = given(number);
+        let e = upper_bits(number);
         let node = node_by(e);
         take_sub(script, e % k, node)?;
         add_op(alloc, script, kind, node, e)?;
@@ -93,7 +92,7 @@ fn add_op(
     e: u32,
 ) -> Result<(), NoMemory>
     requires node { node < 4 }
-    requires named { place_of (item_name (item_by node e)) script.old.items ≡ Some (item_by node e) }
+    requires named { place_of (generated_item_name (item_by node e)) script.old.items ≡ Some (item_by node e) }
     requires may { MayAddOp script.old (item_by node e) (deed_by kind (item_by node e) (amount_by e)) }
     ensures { OnOk result (script.new ≡ with_op_by script.old kind node e) }
 {

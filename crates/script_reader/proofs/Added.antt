@@ -2,7 +2,7 @@
 use Rattle.std.proofs.Common.{◌≡◌, ◌++◌, ◌∷◌, [], ℕ, Bool, true, false, List, Option, Some, None, Result, Ok, Err, refl, arith}
 use Rattle.std.specs.Prelude.{if◌then◌else◌, nat_le, not}
 use Rattle.tv_base.specs.declared.numbers.NodeNo.{NodeNo}
-use Rattle.tx_trees.specs.Adding.{adds_advance, adds_fail, are_crowded, is_heavy, judged, last_may_fail, last_subs, with_failed, adds_item, adds_lose, adds_op, adds_op_at, adds_pick, adds_settle, adds_sub, adds_tree, place_of, with_item, with_op, with_row, with_sub, with_tree}
+use Rattle.tx_trees.specs.Adding.{adds_advance, adds_fail, are_crowded, is_heavy, taken_unless, last_may_fail, last_subs, with_failed, adds_item, adds_lose, adds_op, adds_op_at, adds_pick, adds_settle, adds_sub, adds_tree, place_of, with_item, with_op, with_row, with_sub, with_tree}
 use Rattle.tx_trees.specs.Ranges.{is_in_range}
 use Rattle.tx_trees.specs.ScriptData.{ScriptData}
 use Rattle.tx_trees.specs.declared.parts.Deed.{Deed}
@@ -29,7 +29,7 @@ pub op_at_is : (s t : ScriptData) (k : ℕ) (deed : Deed) → adds_op_at s (Some
 op_at_is s t k deed is = grind arith
 
 -- what met no condition
-first_passes : {A : Type 0} (b : Bool) (w : Why) (cs : List (Bool × Why)) (new t : A) → judged ((b, w) ∷ cs) new ≡ Ok t → judged cs new ≡ Ok t
+first_passes : {A : Type 0} (b : Bool) (w : Why) (cs : List (Bool × Why)) (new t : A) → taken_unless ((b, w) ∷ cs) new ≡ Ok t → taken_unless cs new ≡ Ok t
 first_passes true w cs new t is = absurd (cc is)
 first_passes false w cs new t is = is
 

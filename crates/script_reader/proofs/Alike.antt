@@ -9,7 +9,8 @@ use Rattle.tx_trees.specs.declared.why.Why.{Why}
 use Rattle.tx_trees.specs.declared.why.Why.TheVariants as why
 use Rattle.script_reader.specs.BothReadings.{BothRead}
 use Rattle.script_reader.specs.Builds.{Builds}
-use Rattle.script_reader.specs.Numbers.{decimal_value, is_number}
+use Rattle.script_reader.specs.Numbers.{is_number}
+use Rattle.tv_base.specs.Digits.{decimal_value}
 use Rattle.script_reader.specs.Reading.{after_first, fault, read_every, read_of, read_rows, rows_from, second_rows, then_rows}
 use Rattle.script_reader.specs.Records.{records_in}
 use Rattle.script_reader.specs.Rows.{built_forms, by_word, every_form, field, first_row, if_built, later_form, later_row, node_no, second_row, unless}

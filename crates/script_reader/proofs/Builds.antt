@@ -20,10 +20,11 @@ use Rattle.tx_trees.specs.declared.parts.TreeKind.{TreeKind}
 use Rattle.tx_trees.specs.declared.why.Why.{Why}
 use Rattle.tx_trees.specs.declared.why.Why.TheVariants as why
 use Rattle.script_reader.specs.Builds.{Builds}
-use Rattle.script_reader.specs.Numbers.{amount_value, decimal_value, is_amount, is_number}
+use Rattle.script_reader.specs.Numbers.{amount_value, is_amount, is_number}
+use Rattle.tv_base.specs.Digits.{decimal_value}
 use Rattle.script_reader.specs.Reading.{after_first, read_of, read_rows, rows_from, second_rows, then_rows}
 use Rattle.script_reader.specs.Records.{records_in}
-use Rattle.script_reader.specs.Rows.{adds_item_of, amount_row, begun, built_forms, by_word, deed_of, field, first_form, first_row, if_built, item_of, item_row, later_form, later_row, lose_row, node_no, nodes_row, op_row, pick_row, second_form, second_row, sub_row, tree_row, unless}
+use Rattle.script_reader.specs.Rows.{adds_item_of, amount_row, begun_script, built_forms, by_word, deed_of, field, first_form, first_row, if_built, item_of, item_row, later_form, later_row, lose_row, node_no, nodes_row, op_row, pick_row, second_form, second_row, sub_row, tree_row, unless}
 use Rattle.script_reader.specs.Words.{first_word, kind_of, later_word, len_fits}
 use Rattle.script_reader.specs.declared.reading.ScriptFault.{ScriptFault}
 use Rattle.script_reader.specs.declared.words.OpWord.{OpWord}
@@ -260,7 +261,7 @@ no_script true b w x t is = cc is
 no_script false true w x t is = cc is
 no_script false false w x t is = cc is
 
-begun_is : (r : Result ScriptData Why) (t : ScriptData) → begun r ≡ Ok (Some t) → r ≡ Ok t
+begun_is : (r : Result ScriptData Why) (t : ScriptData) → begun_script r ≡ Ok (Some t) → r ≡ Ok t
 begun_is (Ok s) t is = cc is
 begun_is (Err w) t is = absurd (cc is)
 

@@ -24,8 +24,9 @@ use Rattle.tx_trees.specs.declared.why.Why.{Why}
 use Rattle.tx_trees.specs.declared.why.Why.TheVariants as why
 use Rattle.tx_trees.specs.declared.why.Refusal.{Refusal}
 use Rattle.tx_trees.specs.declared.why.Refusal.TheVariants as refusals
-use Rattle.script_reader.specs.Numbers.{amount_value, decimal_value, is_amount, is_number}
-use Rattle.script_reader.specs.inside.Numbers.{amount_of, number_of}
+use Rattle.script_reader.specs.Numbers.{amount_value, is_amount, is_number}
+use Rattle.tv_base.specs.Digits.{decimal_value}
+use Rattle.script_reader.specs.inside.Numbers.{amount_of, number_spelled}
 use Rattle.script_reader.specs.Rows.{adds_item_of, amount_row, by_word, deed_of, fail_row, field, if_built, item_of, item_row, later_form, later_row, node_no, op_row, starts, sub_row, tree_row}
 use Rattle.script_reader.specs.inside.Rows.{Leaves}
 use Rattle.script_reader.specs.Words.{if_word, kind_of, later_word, len_fits, may_follow, word_of}
@@ -55,7 +56,7 @@ passed_on_built U made step built (refusals.Why w) (Err x) old new h is steps = 
 passed_on_built U made step built refusals.NoMemory (Err x) old new h is steps = rw h tt
 
 -- what the code read as a number is one
-number_is : (bytes : List ℕ) (n : ℕ) → number_of bytes ≡ Some n → (is_number bytes ≡ true) × (decimal_value bytes ≡ n)
+number_is : (bytes : List ℕ) (n : ℕ) → number_spelled bytes ≡ Some n → (is_number bytes ≡ true) × (decimal_value bytes ≡ n)
 number_is bytes n e = cond_some (is_number bytes) (decimal_value bytes) n e
 
 -- what the code read as an amount is one
@@ -78,7 +79,7 @@ item_of_is s name m n o k a kind low start named same free =
     passes ∙ rw (kind, same) refl
 
 -- an item row whose numbers are read
-pub item_row_is : (s : ScriptData) (name node kind initial : List ℕ) (n : ℕ) (k : Option Kind) (a : ℤ) → Some n ≡ number_of node → k ≡ kind_of kind → Some a ≡ amount_of initial
+pub item_row_is : (s : ScriptData) (name node kind initial : List ℕ) (n : ℕ) (k : Option Kind) (a : ℤ) → Some n ≡ number_spelled node → k ≡ kind_of kind → Some a ≡ amount_of initial
     → item_row s name node kind initial ≡ item_of s name n k a
 item_row_is s name node kind initial n k a hn hk ha =
     let b = number_is node n (sym hn) in
@@ -87,7 +88,7 @@ item_row_is s name node kind initial n k a hn hk ha =
     passes ∙ rw (b.1, d.1, hk) refl
 
 -- a tree row that passes its conditions begins a tree
-pub tree_row_is : (every : Bool) (s : ScriptData) (kind : TreeKind) (name node m : List ℕ) (n : ℕ) → Some n ≡ number_of node → n < s.nodes → is_name name ≡ true → m ≡ name
+pub tree_row_is : (every : Bool) (s : ScriptData) (kind : TreeKind) (name node m : List ℕ) (n : ℕ) → Some n ≡ number_spelled node → n < s.nodes → is_name name ≡ true → m ≡ name
     → tree_row every s kind name node ≡ if_built (every || is_built kind) (adds_tree s m kind (node_no n))
 tree_row_is every s kind name node m n hn low named same =
     let a = number_is node n (sym hn) in
@@ -116,7 +117,7 @@ clamped p q e = elim (cases_lt p 4294967296) [
 ]
 
 -- a `sub` row that passes its conditions adds one
-pub sub_row_is : (s : ScriptData) (parent node : List ℕ) (p n q : ℕ) → Some p ≡ number_of parent → Some n ≡ number_of node → n < s.nodes → IsValid s → (q ≡ p) ⊎ ((64 ≤ p) × (64 ≤ q))
+pub sub_row_is : (s : ScriptData) (parent node : List ℕ) (p n q : ℕ) → Some p ≡ number_spelled parent → Some n ≡ number_spelled node → n < s.nodes → IsValid s → (q ≡ p) ⊎ ((64 ≤ p) × (64 ≤ q))
     → sub_row s parent node ≡ adds_sub s q (node_no n)
 sub_row_is s parent node p n q hp hn low valid same =
     let a = number_is parent p (sym hp) in
@@ -210,27 +211,27 @@ pub fail_form_is : (every : Bool) (s : ScriptData) (fields : List (List ℕ)) (w
 fail_form_is every s fields w a is ha = rw (is, ha) refl
 
 -- a `fail` row that meets no condition but a limit undoes the tree
-pub fail_row_is : (s : ScriptData) (sub : List ℕ) (k : ℕ) → Some k ≡ number_of sub → s.begun ≡ true → k < last_subs s.trees → last_may_fail s.trees ≡ true → fail_row s sub ≡ puts_undone s k
+pub fail_row_is : (s : ScriptData) (sub : List ℕ) (k : ℕ) → Some k ≡ number_spelled sub → s.begun ≡ true → k < last_subs s.trees → last_may_fail s.trees ≡ true → fail_row s sub ≡ puts_undone s k
 fail_row_is s sub k hk begun earlier adds =
     let a = number_is sub k (sym hk) in
     let low : nat_le (last_subs s.trees) k ≡ false = lt-leb (last_subs s.trees) k earlier in
     rw (a.0, a.1, begun, low, adds) refl
 
 -- it has a number, and no tree is begun
-pub fail_no_tree : (s : ScriptData) (sub : List ℕ) (k : ℕ) → Some k ≡ number_of sub → s.begun ≡ false → fail_row s sub ≡ Err why.NoTree
+pub fail_no_tree : (s : ScriptData) (sub : List ℕ) (k : ℕ) → Some k ≡ number_spelled sub → s.begun ≡ false → fail_row s sub ≡ Err why.NoTree
 fail_no_tree s sub k hk begun =
     let a = number_is sub k (sym hk) in
     rw (a.0, begun) refl
 
 -- the tree has no such subtransaction
-pub fail_bad_parent : (s : ScriptData) (sub : List ℕ) (k : ℕ) → Some k ≡ number_of sub → s.begun ≡ true → last_subs s.trees ≤ k → fail_row s sub ≡ Err why.BadParent
+pub fail_bad_parent : (s : ScriptData) (sub : List ℕ) (k : ℕ) → Some k ≡ number_spelled sub → s.begun ≡ true → last_subs s.trees ≤ k → fail_row s sub ≡ Err why.BadParent
 fail_bad_parent s sub k hk begun over =
     let a = number_is sub k (sym hk) in
     let high : nat_le (last_subs s.trees) k ≡ true = le-leb (last_subs s.trees) k over in
     rw (a.0, a.1, begun, high) refl
 
 -- the tree may not fail
-pub fail_wrong_kind : (s : ScriptData) (sub : List ℕ) (k : ℕ) → Some k ≡ number_of sub → s.begun ≡ true → k < last_subs s.trees → last_may_fail s.trees ≡ false → fail_row s sub ≡ Err why.WrongKind
+pub fail_wrong_kind : (s : ScriptData) (sub : List ℕ) (k : ℕ) → Some k ≡ number_spelled sub → s.begun ≡ true → k < last_subs s.trees → last_may_fail s.trees ≡ false → fail_row s sub ≡ Err why.WrongKind
 fail_wrong_kind s sub k hk begun earlier adds =
     let a = number_is sub k (sym hk) in
     let low : nat_le (last_subs s.trees) k ≡ false = lt-leb (last_subs s.trees) k earlier in

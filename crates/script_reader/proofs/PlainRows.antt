@@ -2,6 +2,7 @@
 use Rattle.std.proofs.Common.{◌≡◌, ◌+◌, ◌<◌, ◌≤◌, ◌^◌, ◌&&◌, ◌∷◌, ◌++◌, [], List, Bool, true, false, ℕ, suc, zero, length, map, refl, arith}
 use Rattle.std.specs.Prelude.{Option, Some, None, not, ℤ, pos, negsuc, IsTrue, decimal, nat_le, slice_get, unsigned_abs}
 use Rattle.std.specs.Fmt.{signed_decimal}
+use Rattle.std.specs.Char.{is_ascii_digit}
 use Rattle.std.specs.List.{list_all, AllByRecursion}
 use Rattle.std.proofs.lemmas.Bool.Decides.{nat_tests}
 use Rattle.tv_base.proofs.Truths.{right_true}
@@ -31,15 +32,14 @@ use Rattle.tx_trees.specs.declared.parts.TreeKind.{TreeKind}
 use Rattle.tx_trees.specs.declared.parts.Written.{Written}
 use Rattle.tx_trees.proofs.Undoing.{WrittenTree, written_trees}
 use Rattle.tx_trees.specs.declared.parts.TreeKind.TheVariants as trees
-use Rattle.script_reader.specs.Numbers.{is_digit}
-use Rattle.script_reader.specs.inside.Numbers.{AreSmall}
+use Rattle.script_reader.specs.inside.Numbers.{AreOf32Bits}
 use Rattle.script_reader.specs.Words.{kind_word}
 use Rattle.script_reader.specs.Written.{deed_fields, fail_rows, form_rows, pick_fields, rows_behind, rows_of, item_fields, nodes_fields, ops_rows, rows_of_rows, rows_of_tree, sub_fields, subs_rows, tree_fields, tree_rows}
 use Rattle.script_reader.proofs.Decimals.{digits_read}
 use Rattle.script_reader.proofs.Lines.{IsPlain, IsPlainRow}
 
 -- a digit calls for no quotes
-digit_plain : (b : ℕ) (rest : Bool) → (is_digit b && rest) ≡ true → needs_byte default_writer b ≡ false
+digit_plain : (b : ℕ) (rest : Bool) → (is_ascii_digit b && rest) ≡ true → needs_byte default_writer b ≡ false
 digit_plain b rest h = grind (arith, nat_tests)
 
 -- a byte of a name calls for no quotes
@@ -47,9 +47,9 @@ name_byte_plain : (b : ℕ) (rest : Bool) → (is_name_byte b && rest) ≡ true 
 name_byte_plain b rest h = grind (arith, nat_tests)
 
 -- digits are plain
-digits_plain : (bs : List ℕ) → list_all is_digit bs ≡ true → IsPlain bs
+digits_plain : (bs : List ℕ) → list_all is_ascii_digit bs ≡ true → IsPlain bs
 digits_plain [] h = refl
-digits_plain (b ∷ bs) h = rw (digit_plain b (list_all is_digit bs) h) (digits_plain bs (right_true (is_digit b) (list_all is_digit bs) h))
+digits_plain (b ∷ bs) h = rw (digit_plain b (list_all is_ascii_digit bs) h) (digits_plain bs (right_true (is_ascii_digit b) (list_all is_ascii_digit bs) h))
 
 -- bytes of a name are plain
 bytes_plain : (bs : List ℕ) → list_all is_name_byte bs ≡ true → IsPlain bs
@@ -202,12 +202,12 @@ form_plain forms.One = tt
 form_plain forms.Two = (record { head = _; tail = _; is = refl; some = omega arith; first = refl; rest = (refl, tt) }, tt)
 
 -- all picks
-picks_plain : (ks : List ℕ) → AreSmall ks → ArePlain (map pick_fields ks)
+picks_plain : (ks : List ℕ) → AreOf32Bits ks → ArePlain (map pick_fields ks)
 picks_plain [] small = tt
 picks_plain (k ∷ ks) small = (pick_plain k (small 0), picks_plain ks (λ i. small (suc i)))
 
 -- all rows of a valid script
-pub all_plain : (s : ScriptData) → IsValid s → AreSmall s.picks → ArePlain (rows_of s)
+pub all_plain : (s : ScriptData) → IsValid s → AreOf32Bits s.picks → ArePlain (rows_of s)
 all_plain s h small =
     let few = few_nodes s h in
     let behind : ArePlain (rows_behind s) = (

@@ -28,7 +28,7 @@ use Rattle.tx_trees.specs.declared.parts.Written.{Written}
 use Rattle.tx_trees.proofs.Undoing.{WrittenTree, written_trees}
 use Rattle.tx_trees.specs.declared.why.Why.{Why}
 use Rattle.script_reader.specs.Builds.{Builds}
-use Rattle.script_reader.specs.inside.Numbers.{AreSmall}
+use Rattle.script_reader.specs.inside.Numbers.{AreOf32Bits}
 use Rattle.script_reader.specs.ReadBack.{IsReadAs}
 use Rattle.script_reader.specs.Reading.{after_first, read_every, read_of, read_rows, rows_from, then_rows}
 use Rattle.script_reader.specs.Records.{records_in}
@@ -217,7 +217,7 @@ no_mark forms.One n rs = refl
 no_mark forms.Two n rs = refl
 
 -- what is written is the rows, line by line
-written_rows : (s : ScriptData) → IsValid s → AreSmall s.picks → records_in (written s) ≡ rows_of s
+written_rows : (s : ScriptData) → IsValid s → AreOf32Bits s.picks → records_in (written s) ≡ rows_of s
 written_rows s h small =
     ap (records_from default_config (length (written s) + 1) st.StartRecord) (no_mark s.form s.nodes (map item_fields s.items ++ (rows_of_rows s.items s.trees s.rows ++ map pick_fields s.picks)))
     ∙ lines_read (length (written s) + 1) (rows_of s) (omega (arith, few_lines (rows_of s))) (all_plain s h small)
@@ -238,7 +238,7 @@ items_form (r ∷ rs) u v h =
     items_form rs g.first v g.rest ∙ sym (ap (λ (w : ScriptData). w.form) (item_is u g.first r g.is))
 
 -- all picks
-picks_back : (ks : List ℕ) (u v : ScriptData) → AreSmall ks → picks_added u ks ≡ Ok v → Reads u (map pick_fields ks) v
+picks_back : (ks : List ℕ) (u v : ScriptData) → AreOf32Bits ks → picks_added u ks ≡ Ok v → Reads u (map pick_fields ks) v
 picks_back [] u v small h = reads_none u v (cc h)
 picks_back (k ∷ ks) u v small h =
     let g = goes (adds_pick u k) (λ t. picks_added t ks) v h in
@@ -256,7 +256,7 @@ nodes_then forms.Two n u rs some few reads =
     start ∙ ap (rows_from every_form (fresh forms.Two n) 3) (sym (append-nil rs)) ∙ rest.1 ∙ ends every_form u rest.0 [] refl
 
 -- what builds a script again reads its rows
-rows_read : (s u : ScriptData) → IsValid s → AreSmall s.picks → rebuilt s ≡ Ok u → read_rows every_form (rows_of s) ≡ Ok u
+rows_read : (s u : ScriptData) → IsValid s → AreOf32Bits s.picks → rebuilt s ≡ Ok u → read_rows every_form (rows_of s) ≡ Ok u
 rows_read s u h small is =
     let g = goes (items_added (fresh s.form s.nodes) s.items) (λ t. then_more (rows_added s.trees t s.rows) (λ w. picks_added w s.picks)) u is in
     let f = goes (rows_added s.trees g.first s.rows) (λ w. picks_added w s.picks) u g.rest in
@@ -271,7 +271,7 @@ rows_read s u h small is =
     (reads_both g.first f.first u (rows_of_rows s.items s.trees s.rows) (map pick_fields s.picks) rows picks))
 
 -- what is written of a script is read as the same script
-read_back : (s : ScriptData) → IsValid s → AreSmall s.picks → length (written s) ≤ 8388608 → IsReadAs (read_every (written s)) s
+read_back : (s : ScriptData) → IsValid s → AreOf32Bits s.picks → length (written s) ≤ 8388608 → IsReadAs (read_every (written s)) s
 read_back s h small few =
     let again = is_rebuilt s h in
     let short : nat_lt 8388608 (length (written s)) ≡ false = lt-leb 8388609 (length (written s)) (omega (arith, few)) in
@@ -279,7 +279,7 @@ read_back s h small few =
     (again.0, read ∙ ap (read_rows every_form) (written_rows s h small) ∙ rows_read s again.0 h small again.1, again.2)
 
 -- the same of a text that is equal to what is written
-pub every_read : (s : ScriptData) (text : List ℕ) → IsValid s → AreSmall s.picks → text ≡ written s → length text ≤ 8388608 → IsReadAs (read_every text) s
+pub every_read : (s : ScriptData) (text : List ℕ) → IsValid s → AreOf32Bits s.picks → text ≡ written s → length text ≤ 8388608 → IsReadAs (read_every text) s
 every_read s text h small is few = subst (λ (x : List ℕ). IsReadAs (read_every x) s) (sym is) (read_back s h small (subst (λ (x : List ℕ). length x ≤ 8388608) is few))
 
 -- a script that is the same is of the built forms too

@@ -4,7 +4,7 @@ use Rattle.std.specs.Prelude.{ℤ, if◌then◌else◌, not, ◌&&◌, ◌||◌,
 use Rattle.commute_ops.specs.declared.kinds.Kind.{Kind}
 use Rattle.tv_base.specs.declared.numbers.NodeNo.{NodeNo}
 use Rattle.tv_base.proofs.Truths.{left_true, right_true}
-use Rattle.tx_trees.specs.Adding.{adds_advance, adds_fail, adds_item, adds_lose, adds_op, adds_op_at, adds_pick, adds_sub, adds_tree, are_crowded, fresh, has_no_op_left, has_no_sub_left, has_no_tree_left, has_touched, is_heavy, judged, kind_at, last_kind, last_may_fail, last_node, last_subs, names_tree, node_at, place_of, with_failed, with_item, with_op, with_row, with_sub, with_tree}
+use Rattle.tx_trees.specs.Adding.{adds_advance, adds_fail, adds_item, adds_lose, adds_op, adds_op_at, adds_pick, adds_sub, adds_tree, are_crowded, fresh, has_no_op_left, has_no_sub_left, has_no_tree_left, has_touched, is_heavy, taken_unless, item_kind_at, last_kind, last_may_fail, last_node, last_subs, names_tree, node_at, place_of, with_failed, with_item, with_op, with_row, with_sub, with_tree}
 use Rattle.tx_trees.specs.Amounts.{magnitude}
 use Rattle.tx_trees.specs.Counts.{advances_in, loses_in}
 use Rattle.tx_trees.specs.Forms.{most_amount, most_nodes}
@@ -21,10 +21,11 @@ use Rattle.tx_trees.specs.declared.parts.ScriptRow.TheVariants as rows
 use Rattle.tx_trees.specs.declared.parts.TreeKind.{TreeKind}
 use Rattle.tx_trees.specs.declared.why.Why.{Why}
 use Rattle.tx_trees.specs.declared.why.Why.TheVariants as why
-use Rattle.script_reader.specs.Numbers.{amount_value, decimal_value, is_amount, is_number}
+use Rattle.script_reader.specs.Numbers.{amount_value, is_amount, is_number}
+use Rattle.tv_base.specs.Digits.{decimal_value}
 use Rattle.script_reader.specs.Reading.{after_first, fault, read_every, read_rows, rows_from, second_rows, then_rows}
 use Rattle.script_reader.specs.Records.{records_in}
-use Rattle.script_reader.specs.Rows.{adds_item_of, amount_row, begun, by_word, deed_of, every_form, fail_row, field, first_form, first_row, form_row, if_built, item_of, item_row, later_form, later_row, node_no, nodes_row, op_row, pick_row, second_form, second_row, starts, sub_row, tree_row, unless}
+use Rattle.script_reader.specs.Rows.{adds_item_of, amount_row, begun_script, by_word, deed_of, every_form, fail_row, field, first_form, first_row, form_row, if_built, item_of, item_row, later_form, later_row, node_no, nodes_row, op_row, pick_row, second_form, second_row, starts, sub_row, tree_row, unless}
 use Rattle.script_reader.specs.Words.{first_word, kind_of, later_word, len_fits}
 use Rattle.script_reader.specs.declared.reading.ScriptFault.{ScriptFault}
 use Rattle.script_reader.specs.declared.words.OpWord.{OpWord}
@@ -53,9 +54,9 @@ unless_other : {A : Type 0} (cs : List (Bool × Why)) (next : Result A Why) → 
 unless_other [] next all h = h
 unless_other (c ∷ cs) next all h = either_other c.0 (Err c.1) (unless cs next) (left_true (is_other c.1) (all_other cs) all) (unless_other cs next (right_true (is_other c.1) (all_other cs) all) h)
 
-judged_other : {A : Type 0} (cs : List (Bool × Why)) (new : A) → IsTrue (all_other cs) → Otherwise (judged cs new)
+judged_other : {A : Type 0} (cs : List (Bool × Why)) (new : A) → IsTrue (all_other cs) → Otherwise (taken_unless cs new)
 judged_other [] new all = tt
-judged_other (c ∷ cs) new all = either_other c.0 (Err c.1) (judged cs new) (left_true (is_other c.1) (all_other cs) all) (judged_other cs new (right_true (is_other c.1) (all_other cs) all))
+judged_other (c ∷ cs) new all = either_other c.0 (Err c.1) (taken_unless cs new) (left_true (is_other c.1) (all_other cs) all) (judged_other cs new (right_true (is_other c.1) (all_other cs) all))
 
 every_other : (r : Result ScriptData Why) → Otherwise r → Otherwise (if_built true r)
 every_other (Ok s) h = tt
@@ -116,7 +117,7 @@ op_at_other s None deed = refl
 op_at_other s (Some k) deed =
     judged_other ((not s.begun, why.NoTree)
     ∷ (not (node_at k s.items == last_node s.trees), why.WrongNode)
-    ∷ (not (deed_fits (last_kind s.trees) (kind_at k s.items) deed), why.WrongKind)
+    ∷ (not (deed_fits (last_kind s.trees) (item_kind_at k s.items) deed), why.WrongKind)
     ∷ (has_no_op_left k deed s.trees, why.TooMany)
     ∷ (nat_lt (most_amount s.form) (load k s + magnitude deed), why.TooMuch)
     ∷ (has_touched k s.trees, why.ItemTwice) ∷ []) (with_op s k deed) refl
@@ -178,7 +179,7 @@ nodes_other f nodes =
     unless_other ((not (is_number nodes), why.BadNumber)
     ∷ (not (nat_le 1 n && nat_le n (most_nodes f)), why.OutOfRange) ∷ []) (Ok (fresh f n)) refl tt
 
-begun_other : (r : Result ScriptData Why) → Otherwise r → Otherwise (begun r)
+begun_other : (r : Result ScriptData Why) → Otherwise r → Otherwise (begun_script r)
 begun_other (Ok s) h = tt
 begun_other (Err w) h = h
 

@@ -9,7 +9,7 @@ use Rattle.commute_ops.specs.declared.kinds.Kind.TheVariants as kinds
 use Rattle.commute_ops.specs.declared.kinds.Op.TheVariants as applied
 use Rattle.tv_base.specs.declared.numbers.NodeNo.{NodeNo}
 use Rattle.tv_base.proofs.Truths.{left_true}
-use Rattle.tx_trees.specs.Adding.{adds_fail, adds_item, adds_lose, adds_op, adds_pick, adds_sub, adds_tree, fresh, has_no_sub_left, has_no_tree_left, judged, last_subs, names_tree, place_of, with_item, with_sub, with_tree}
+use Rattle.tx_trees.specs.Adding.{adds_fail, adds_item, adds_lose, adds_op, adds_pick, adds_sub, adds_tree, fresh, has_no_sub_left, has_no_tree_left, taken_unless, last_subs, names_tree, place_of, with_item, with_sub, with_tree}
 use Rattle.tx_trees.specs.Amounts.{magnitude}
 use Rattle.tx_trees.specs.Forms.{most_nodes}
 use Rattle.tx_trees.specs.Names.{has_name_len, is_name, is_name_byte}
@@ -26,8 +26,8 @@ use Rattle.tx_trees.specs.declared.parts.TreeKind.{TreeKind}
 use Rattle.tx_trees.specs.declared.parts.TreeKind.TheVariants as trees
 use Rattle.tx_trees.specs.declared.why.Why.{Why}
 use Rattle.tx_trees.specs.declared.why.Why.TheVariants as why
-use Rattle.script_reader.specs.inside.Numbers.{amount_of, number_of}
-use Rattle.script_reader.specs.Rows.{amount_row, begun, by_word, deed_of, every_form, fail_row, field, later_form, first_row, if_built, item_row, later_row, nodes_row, op_row, pick_row, second_row, sub_row, tree_row, unless}
+use Rattle.script_reader.specs.inside.Numbers.{amount_of, number_spelled}
+use Rattle.script_reader.specs.Rows.{amount_row, begun_script, by_word, deed_of, every_form, fail_row, field, later_form, first_row, if_built, item_row, later_row, nodes_row, op_row, pick_row, second_row, sub_row, tree_row, unless}
 use Rattle.script_reader.specs.Words.{kind_of, kind_word, later_word}
 use Rattle.script_reader.specs.Written.{deed_fields, fail_fields, item_fields, nodes_fields, pick_fields, sub_fields, tree_fields}
 use Rattle.script_reader.specs.declared.words.OpWord.{OpWord}
@@ -36,7 +36,7 @@ use Rattle.script_reader.proofs.Decimals.{amount_read, number_read, value_read}
 use Rattle.script_reader.proofs.Passing.{amount_row_is, item_row_is}
 
 -- a number that is written is read as itself
-number_back : (n : ℕ) → n < 10 ^ 32 → Some n ≡ number_of (decimal n)
+number_back : (n : ℕ) → n < 10 ^ 32 → Some n ≡ number_spelled (decimal n)
 number_back n h = rw (number_read n h, value_read n (omega arith)) refl
 
 -- and an amount
@@ -51,7 +51,7 @@ kind_back kinds.Bag = refl
 
 -- a condition that is tried twice
 tried_item : {A : Type 0} (a b c d : Bool) (w x y z : Why) (new : A)
-    → unless ((a, w) ∷ (b, x) ∷ (c, y) ∷ []) (judged ((a, w) ∷ (b, x) ∷ (c, y) ∷ (d, z) ∷ []) new) ≡ judged ((a, w) ∷ (b, x) ∷ (c, y) ∷ (d, z) ∷ []) new
+    → unless ((a, w) ∷ (b, x) ∷ (c, y) ∷ []) (taken_unless ((a, w) ∷ (b, x) ∷ (c, y) ∷ (d, z) ∷ []) new) ≡ taken_unless ((a, w) ∷ (b, x) ∷ (c, y) ∷ (d, z) ∷ []) new
 tried_item true b c d w x y z new = refl
 tried_item false true c d w x y z new = refl
 tried_item false false true d w x y z new = refl
@@ -64,7 +64,7 @@ any_built (Err w) = refl
 
 -- the same of a tree
 tried_tree : (a b c d : Bool) (w x y z : Why) (new : ScriptData)
-    → unless ((a, w) ∷ (b, x) ∷ []) (if_built true (judged ((a, w) ∷ (b, x) ∷ (c, y) ∷ (d, z) ∷ []) new)) ≡ judged ((a, w) ∷ (b, x) ∷ (c, y) ∷ (d, z) ∷ []) new
+    → unless ((a, w) ∷ (b, x) ∷ []) (if_built true (taken_unless ((a, w) ∷ (b, x) ∷ (c, y) ∷ (d, z) ∷ []) new)) ≡ taken_unless ((a, w) ∷ (b, x) ∷ (c, y) ∷ (d, z) ∷ []) new
 tried_tree true b c d w x y z new = refl
 tried_tree false true c d w x y z new = refl
 tried_tree false false true d w x y z new = refl
@@ -73,7 +73,7 @@ tried_tree false false false false w x y z new = refl
 
 -- the same of a subtransaction
 tried_sub : {A : Type 0} (a b c d : Bool) (w x y z : Why) (new : A)
-    → unless ((a, w) ∷ []) (judged ((a, w) ∷ (b, x) ∷ (c, y) ∷ (d, z) ∷ []) new) ≡ judged ((a, w) ∷ (b, x) ∷ (c, y) ∷ (d, z) ∷ []) new
+    → unless ((a, w) ∷ []) (taken_unless ((a, w) ∷ (b, x) ∷ (c, y) ∷ (d, z) ∷ []) new) ≡ taken_unless ((a, w) ∷ (b, x) ∷ (c, y) ∷ (d, z) ∷ []) new
 tried_sub true b c d w x y z new = refl
 tried_sub false b c d w x y z new = refl
 
@@ -87,8 +87,8 @@ nodes_row_back f n some few small =
 -- the `nodes` row, as the first record
 pub nodes_back : (n : ℕ) → 1 ≤ n → n ≤ 16 → first_row (nodes_fields n) ≡ Ok (Some (fresh forms.One n))
 nodes_back n some few =
-    let form : first_row (nodes_fields n) ≡ begun (nodes_row forms.One (decimal n)) = refl in
-    form ∙ ap begun (nodes_row_back forms.One n some few (omega arith))
+    let form : first_row (nodes_fields n) ≡ begun_script (nodes_row forms.One (decimal n)) = refl in
+    form ∙ ap begun_script (nodes_row_back forms.One n some few (omega arith))
 
 -- and as the second
 pub second_nodes_back : (n : ℕ) → 1 ≤ n → n ≤ 64 → second_row (nodes_fields n) ≡ Ok (fresh forms.Two n)

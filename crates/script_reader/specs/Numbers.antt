@@ -1,19 +1,13 @@
 -- Numbers and amounts as their digits.
-use Rattle.std.specs.Prelude.{ℕ, Bool, false, ◌+◌, ◌*◌, ◌-◌, ◌&&◌, ◌==◌, nat_le, ℤ, pos, ◌-ℤ◌}
-use Rattle.std.specs.Prelude.{List, [], ◌∷◌, length, fold, if◌then◌else◌}
+use Rattle.std.specs.Prelude.{ℕ, Bool, false, ◌&&◌, ◌==◌, nat_le, ℤ, pos, ◌-ℤ◌}
+use Rattle.std.specs.Prelude.{List, [], ◌∷◌, length, if◌then◌else◌}
+use Rattle.std.specs.Char.{is_ascii_digit}
 use Rattle.std.specs.List.{list_all}
-
--- a decimal digit
-abbrev pub is_digit : ℕ → Bool
-is_digit b = nat_le 48 b && nat_le b 57
-
--- the value of decimal digits
-abbrev pub decimal_value : List ℕ → ℕ
-decimal_value digits = fold (λ value b. value * 10 + (b - 48)) 0 digits
+use Rattle.tv_base.specs.Digits.{decimal_value}
 
 -- 1 to 32 decimal digits
 abbrev pub is_number : List ℕ → Bool
-is_number bytes = nat_le 1 (length bytes) && nat_le (length bytes) 32 && list_all is_digit bytes
+is_number bytes = nat_le 1 (length bytes) && nat_le (length bytes) 32 && list_all is_ascii_digit bytes
 
 -- an amount begins with a minus sign, which is the byte 45, or with its digits
 abbrev pub is_negative : List ℕ → Bool

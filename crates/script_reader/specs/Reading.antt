@@ -1,6 +1,7 @@
 -- The script that bytes are, or the first fault.
 use Rattle.std.specs.Prelude.{ℕ, Bool, ◌≡◌, ◌+◌, nat_lt, List, [], ◌∷◌, length, Option, Some, None}
 use Rattle.std.specs.Prelude.{Result, Ok, Err, if◌then◌else◌, ⊤}
+use Rattle.tv_base.specs.declared.moving.TheConstants.{MOST_BYTES}
 use Rattle.tx_trees.specs.ScriptData.{ScriptData}
 use Rattle.tx_trees.specs.declared.why.Why.{Why}
 use Rattle.tx_trees.specs.declared.why.Why.TheVariants as why
@@ -44,7 +45,7 @@ read_rows every (r ∷ rs) = after_first every (first_row r) rs
 -- all records of a text, unless it is too long
 abbrev pub read_text : Bool → List ℕ → Result ScriptData ScriptFault
 read_text every bytes =
-    if nat_lt 8388608 (length bytes) then Err (fault 0 why.TooLong) else read_rows every (records_in bytes)
+    if nat_lt MOST_BYTES (length bytes) then Err (fault 0 why.TooLong) else read_rows every (records_in bytes)
 
 -- the script that bytes are, or the first faulty record and the lowest of its reasons
 abbrev pub read_of : List ℕ → Result ScriptData ScriptFault

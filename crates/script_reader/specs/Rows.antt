@@ -17,7 +17,8 @@ use Rattle.tx_trees.specs.declared.parts.Form.TheVariants as forms
 use Rattle.tx_trees.specs.declared.parts.TreeKind.{TreeKind}
 use Rattle.tx_trees.specs.declared.why.Why.{Why}
 use Rattle.tx_trees.specs.declared.why.Why.TheVariants as why
-use Rattle.script_reader.specs.Numbers.{amount_value, decimal_value, is_amount, is_number}
+use Rattle.script_reader.specs.Numbers.{amount_value, is_amount, is_number}
+use Rattle.tv_base.specs.Digits.{decimal_value}
 use Rattle.script_reader.specs.Words.{first_word, kind_of, later_word, len_fits}
 use Rattle.script_reader.specs.declared.words.OpWord.{OpWord}
 use Rattle.script_reader.specs.declared.words.OpWord.TheVariants as ops
@@ -148,14 +149,14 @@ abbrev pub field : List (List ℕ) → ℕ → List ℕ
 field fields i = get_or fields i []
 
 -- a script that is begun
-abbrev pub begun : Result ScriptData Why → Result (Option ScriptData) Why
-begun (Ok s) = Ok (Some s)
-begun (Err w) = Err w
+abbrev pub begun_script : Result ScriptData Why → Result (Option ScriptData) Why
+begun_script (Ok s) = Ok (Some s)
+begun_script (Err w) = Err w
 
 -- the first record, by its word
 abbrev pub first_form : List (List ℕ) → RowWord → Result (Option ScriptData) Why
 first_form fields words.Form = form_row (field fields 1)
-first_form fields words.Nodes = begun (nodes_row forms.One (field fields 1))
+first_form fields words.Nodes = begun_script (nodes_row forms.One (field fields 1))
 first_form fields _ = Err why.NodesFirst
 
 -- the record behind one that names the second form, by its word

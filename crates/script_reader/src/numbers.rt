@@ -1,15 +1,17 @@
 // Numbers of 1 to 32 decimal digits, and amounts, which may have a minus sign.
 ghost use Rattle.std.specs.Prelude.{◌≡◌, ◌≤◌, ◌<◌, ◌^◌, length, unsigned_abs, IfSome};
+ghost use Rattle.std.specs.Char.{is_ascii_digit};
 ghost use Rattle.std.specs.List.{list_all};
-ghost use Rattle.script_reader.specs.Numbers.{decimal_value, digits_of, is_digit, is_negative, signed};
-ghost use Rattle.script_reader.specs.inside.Numbers.{amount_of, number_of};
+ghost use Rattle.script_reader.specs.Numbers.{digits_of, is_negative, signed};
+ghost use Rattle.tv_base.specs.Digits.{decimal_value};
+ghost use Rattle.script_reader.specs.inside.Numbers.{amount_of, number_spelled};
 
 use commute_ops::Amount;
 
 const MOST_DIGITS: usize = 32;
 
 fn all_digits(bytes: &[u8]) -> bool
-    ensures { result ≡ list_all is_digit bytes.now }
+    ensures { result ≡ list_all is_ascii_digit bytes.now }
 {
     bytes.iter().all(|b| b'0' <= *b && *b <= b'9')
 }
@@ -28,7 +30,7 @@ fn value(bytes: &[u8]) -> u128
 
 // The number that these bytes spell, if they are 1 to 32 decimal digits.
 pub(crate) fn number(bytes: &[u8]) -> Option<u128>
-    ensures value { result ≡ number_of bytes.now }
+    ensures value { result ≡ number_spelled bytes.now }
     ensures small { IfSome result (λ n. n < 10 ^ 34) }
 {
     if bytes.len() >= 1 && bytes.len() <= MOST_DIGITS && all_digits(bytes) {

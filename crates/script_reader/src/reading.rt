@@ -4,16 +4,15 @@ ghost use Rattle.script_reader.specs.Reading.{Gives, read_of, read_rows, rows_fr
 ghost use Rattle.script_reader.specs.inside.Reading.{refused_at};
 ghost use Rattle.script_reader.specs.Records.{AreAllRecords, records_in};
 ghost use Rattle.script_reader.specs.Rows.{built_forms};
+ghost use Rattle.tv_base.specs.declared.moving.TheConstants.{MOST_BYTES};
 
 use crate::records::Records;
 use crate::rows::{take_first, take_later, take_second};
 use csv::ByteRecord;
 use std::alloc::Global;
 use thiserror::Error;
-use tv_base::NoMemory;
+use tv_base::{MOST_BYTES, NoMemory};
 use tx_trees::{Refusal, Script, Why};
-
-const MOST_BYTES: usize = 8_388_608;
 
 /// The first faulty record, and the first of its reasons.
 #[derive(Clone, Copy, Debug, PartialEq, Eq, Error)]
@@ -74,7 +73,7 @@ pub fn read_script(alloc: Global, bytes: &[u8]) -> Result<Script, ScriptRefusal>
 
 // The records of a text that isn't too long.
 fn read_records(alloc: Global, bytes: &[u8]) -> Result<Script, ScriptRefusal>
-    requires { length bytes.now ≤ 8388608 }
+    requires { length bytes.now ≤ MOST_BYTES }
     ensures { Gives result (read_rows built_forms (records_in bytes.now)) }
 {
     let mut records = Records::new(alloc, bytes);
@@ -98,7 +97,7 @@ fn read_second(
     records: &mut Records,
     row: &mut ByteRecord,
 ) -> Result<Script, ScriptRefusal>
-    requires { length records.old ≤ 8388608 }
+    requires { length records.old ≤ MOST_BYTES }
     ensures { Gives result (second_rows built_forms records.old) }
 {
     if !records.next(row)? {

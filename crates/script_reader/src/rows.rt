@@ -3,8 +3,8 @@ ghost use Rattle.std.specs.Prelude.{◌≡◌, ◌<◌, ◌^◌, true, unsigned_
 ghost use Rattle.csv.specs.Records.{fields_of};
 ghost use Rattle.tx_trees.specs.Adding.{last_may_fail, last_subs, puts_undone};
 ghost use Rattle.tx_trees.specs.Built.{is_built};
-ghost use Rattle.script_reader.specs.Rows.{advance_row, amount_row, begun, built_forms, deed_of, fail_row, first_row, form_row, item_of, item_row, later_row, lose_row, nodes_row, op_row, pick_row, second_row, starts, sub_row, tree_row};
-ghost use Rattle.script_reader.specs.inside.Rows.{Begins, Leaves, Makes};
+ghost use Rattle.script_reader.specs.Rows.{advance_row, amount_row, begun_script, built_forms, deed_of, fail_row, first_row, form_row, item_of, item_row, later_row, lose_row, nodes_row, op_row, pick_row, second_row, starts, sub_row, tree_row};
+ghost use Rattle.script_reader.specs.inside.Rows.{HasBegunWith, Leaves, Makes};
 
 use crate::numbers::{amount, number};
 use crate::records::field;
@@ -18,7 +18,7 @@ use tx_trees::{Deed, Form, ItemRow, Refusal, Script, TreeKind, Why, is_in_range,
 
 // Nothing is begun yet where the second form is named.
 fn form_row_of(form: &[u8]) -> Result<Option<Script>, Refusal>
-    ensures { Begins (form_row form.now) result }
+    ensures { HasBegunWith (form_row form.now) result }
 {
     let Some(form) = number(form) else {
         return Err(Refusal::Why(Why::BadNumber));
@@ -253,7 +253,7 @@ fn fail(alloc: Global, script: &mut Script, failed: SubNo) -> Result<(), Refusal
 
 // The script of a `nodes` row in the first record.
 fn begin(alloc: Global, nodes: &[u8]) -> Result<Option<Script>, Refusal>
-    ensures { Begins (begun (nodes_row Form.One nodes.now)) result }
+    ensures { HasBegunWith (begun_script (nodes_row Form.One nodes.now)) result }
 {
     match nodes_row_of(alloc, Form::One, nodes) {
         Ok(script) => Ok(Some(script)),
@@ -263,7 +263,7 @@ fn begin(alloc: Global, nodes: &[u8]) -> Result<Option<Script>, Refusal>
 
 // The first record makes a script, or names the second form.
 pub(crate) fn take_first(alloc: Global, row: &ByteRecord) -> Result<Option<Script>, Refusal>
-    ensures { Begins (first_row (fields_of row.now)) result }
+    ensures { HasBegunWith (first_row (fields_of row.now)) result }
 {
     let Some(word) = first_word(field(row, 0)) else {
         return Err(Refusal::Why(Why::UnknownRow));

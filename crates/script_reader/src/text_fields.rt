@@ -4,7 +4,6 @@ ghost use Rattle.std.specs.Fmt.{signed_decimal};
 ghost use Rattle.std.specs.Str.{IsAscii};
 
 use commute_ops::Amount;
-use itoa::Buffer;
 use tv_base::{NoMemory, Text};
 
 pub(crate) fn push_field(text: &mut Text, field: &[u8]) -> Result<(), NoMemory>
@@ -18,15 +17,15 @@ pub(crate) fn push_field(text: &mut Text, field: &[u8]) -> Result<(), NoMemory>
 pub(crate) fn push_number(text: &mut Text, number: u64) -> Result<(), NoMemory>
     ensures { OnOk result (text.new ≡ text.old ++ 44 ∷ decimal number) }
 {
-    let mut buffer = Buffer::new();
-    push_field(text, buffer.format(number).as_bytes())
+    text.push_all(b",")?;
+    commute_ops::push_number(text, number)
 }
 
 pub(crate) fn push_amount(text: &mut Text, amount: &Amount) -> Result<(), NoMemory>
     ensures { OnOk result (text.new ≡ text.old ++ 44 ∷ signed_decimal amount.now) }
 {
-    let mut buffer = Buffer::new();
-    push_field(text, buffer.format(*amount).as_bytes())
+    text.push_all(b",")?;
+    commute_ops::push_amount(text, *amount)
 }
 
 pub(crate) fn end_row(text: &mut Text) -> Result<(), NoMemory>

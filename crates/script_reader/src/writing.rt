@@ -2,11 +2,12 @@
 ghost use Rattle.std.specs.Prelude.{◌≡◌, ◌≤◌, ◌++◌, ◌∷◌, [], OnOk, IfOk, map, codes, length};
 ghost use Rattle.std.specs.Fmt.{signed_decimal};
 ghost use Rattle.std.specs.Str.{IsAscii};
+ghost use Rattle.tv_base.specs.declared.moving.TheConstants.{MOST_BYTES};
 ghost use Rattle.tx_trees.specs.Rebuilt.{name_at};
 ghost use Rattle.script_reader.specs.Builds.{Builds};
 ghost use Rattle.script_reader.specs.ReadBack.{IsReadAs};
 ghost use Rattle.script_reader.specs.Reading.{read_every, read_of};
-ghost use Rattle.script_reader.specs.inside.Numbers.{AreSmall};
+ghost use Rattle.script_reader.specs.inside.Numbers.{AreOf32Bits};
 ghost use Rattle.script_reader.specs.Words.{kind_word, tree_word};
 ghost use Rattle.tx_trees.specs.AsciiNames.{AreAsciiItems, AreAsciiTrees};
 ghost use Rattle.script_reader.specs.Written.{deed_fields, fail_fields, form_rows, item_fields, line, lines, nodes_fields, ops_rows, pick_fields, rows_of_row, rows_of_rows, rows_of_tree, sub_fields, subs_rows, tree_fields, tree_rows, written};
@@ -23,8 +24,8 @@ use tx_trees::{Deed, Form, ItemRow, Script, ScriptRow, Sub, SubOp, Tree, TreeKin
 /// built: no strict tree, and no row that makes the coordinator forget.
 pub fn write_script(alloc: Global, script: &Script) -> Result<Text, NoMemory>
     ensures text { IfOk result (λ text. text ≡ written script.now) }
-    ensures every { IfOk result (λ text. length text ≤ 8388608 → IsReadAs (read_every text) script.now) }
-    ensures read { IfOk result (λ text. length text ≤ 8388608 → Builds script.now
+    ensures every { IfOk result (λ text. length text ≤ MOST_BYTES → IsReadAs (read_every text) script.now) }
+    ensures read { IfOk result (λ text. length text ≤ MOST_BYTES → Builds script.now
         → IsReadAs (read_of text) script.now) }
 {
     let mut text = Text::new(alloc);
@@ -273,7 +274,7 @@ fn push_get(text: &mut Text, item: &[u8]) -> Result<(), NoMemory>
 fn push_picks(text: &mut Text, picks: &[u32]) -> Result<(), NoMemory>
     ensures text { OnOk result (text.new ≡ text.old ++ lines (map pick_fields picks.now)) }
     // Picks have 32 bits.
-    ensures small { AreSmall picks.now }
+    ensures small { AreOf32Bits picks.now }
 {
     for pick in picks {
         push_pick(text, *pick)?;

@@ -15,7 +15,7 @@ use Rattle.letter_types.specs.Letters.{go, find_id}
 use Rattle.letter_types.specs.Postal.{IsPostal, letters_sent}
 use Rattle.stamp_post.specs.declared.rule.View.{View}
 use Rattle.stamp_post.specs.declared.rule.View.TheVariants.{Gathering, Acting, Sending, Carrying, Spent}
-use Rattle.stamp_post.specs.Logs.{Stands, Begins, WasSent}
+use Rattle.stamp_post.specs.Logs.{Stands, AreFirst, WasSent}
 use Rattle.stamp_post.specs.Rules.{Holds, HoldsGo, HoldsRest, HoldsTaken, HoldsUnsent, Fits}
 use Rattle.stamp_post.proofs.Lists.{same_there, own_here, own_other, found, finds, sent_as, choose}
 
@@ -108,8 +108,8 @@ was_taken client log k e postal at = elim (postal.sent k e at) [
   | inr s ↦ inr (s.1, (s.0, s.3, postal.stamps s.0 s.1 s.3), s.4)
 ]
 
-begins_if : (log : List Posting) (p : Posting) (n : ℕ) (own : List Posting) → Dec (p.actor.0 ≡ n) → Begins log n own
-    → Begins (log ++ p ∷ []) n own
+begins_if : (log : List Posting) (p : Posting) (n : ℕ) (own : List Posting) → Dec (p.actor.0 ≡ n) → AreFirst log n own
+    → AreFirst (log ++ p ∷ []) n own
 begins_if log p n own (yes same) b = (
   b.0 ++ p ∷ [],
   own_here n log p same
@@ -117,8 +117,8 @@ begins_if log p n own (yes same) b = (
 )
 begins_if log p n own (no apart) b = (b.0, own_other n log p apart ∙ b.1)
 
-begins_more : (log : List Posting) (p : Posting) (n : ℕ) (own : List Posting) → Begins log n own
-    → Begins (log ++ p ∷ []) n own
+begins_more : (log : List Posting) (p : Posting) (n : ℕ) (own : List Posting) → AreFirst log n own
+    → AreFirst (log ++ p ∷ []) n own
 begins_more log p n own b = begins_if log p n own (ℕ_discrete p.actor.0 n) b
 
 module _ (client : ℕ) (log : List Posting) (owner : ℕ → ℕ) (made : ℕ) (holder : ℕ → ℕ → ℕ) (id : ℕ) (p : Posting) where

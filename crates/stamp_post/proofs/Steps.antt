@@ -18,7 +18,7 @@ use Rattle.stamp_post.specs.declared.rule.JoinedSeat.{JoinedSeat}
 use Rattle.stamp_post.specs.declared.rule.JoinedReceipt.{JoinedReceipt}
 use Rattle.stamp_post.specs.declared.rule.View.{View}
 use Rattle.stamp_post.specs.declared.rule.View.TheVariants.{Gathering, Acting, Sending, Carrying, Spent}
-use Rattle.stamp_post.specs.Logs.{most, own_postings, posting, Stands, Begins, WasSent}
+use Rattle.stamp_post.specs.Logs.{most, own_postings, posting, Stands, AreFirst, WasSent}
 use Rattle.stamp_post.specs.Rules.{HoldsGo, HoldsTaken, HoldsUnsent, Fits, KeepsLog, Ruled}
 use Rattle.stamp_post.specs.Moves.{Stamped}
 use Rattle.stamp_post.specs.Shown.{joined_seat, joined_receipt, Gathers}
@@ -540,7 +540,7 @@ joins_receipt actors id m first seats receipts other n own p next s r at apart t
             f.3,
             (λ k x here. elim (slice_get_split receipts (joined_receipt n own p) k x here) [
               | inl t ↦ f.4 k x t.1
-              | inr t ↦ subst (λ (y : JoinedReceipt). Begins r.log y.number y.own × Stands r.log y.posting) t.1
+              | inr t ↦ subst (λ (y : JoinedReceipt). AreFirst r.log y.number y.own × Stands r.log y.posting) t.1
                   (h.0, h.1)
             ]),
           )

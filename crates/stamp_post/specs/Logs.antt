@@ -1,5 +1,6 @@
 -- Postings in order of stamp, and what was sent by them.
 use Rattle.std.specs.Prelude.{◌≡◌, ◌==◌, ◌+◌, ◌++◌, ◌⊎◌, ℕ, List, filter, slice_get, Some}
+use Rattle.tv_base.specs.declared.numbers.TheConstants.{MOST_ENTRIES}
 use Rattle.letter_types.specs.declared.entries.Letter.{Letter}
 use Rattle.letter_types.specs.declared.entries.Outgoing.{Outgoing}
 use Rattle.letter_types.specs.declared.entries.Posting.{Posting}
@@ -8,7 +9,7 @@ use Rattle.letter_types.specs.Postal.{letters_sent}
 
 -- the most postings of one actor
 abbrev pub most : ℕ
-most = 1099511627776
+most = MOST_ENTRIES
 
 -- the postings of one actor, in order
 abbrev pub own_postings : ℕ → List Posting → List Posting
@@ -24,8 +25,8 @@ abbrev pub Stands : List Posting → Posting → Type 0
 Stands log p = (k : ℕ) × (slice_get log k ≡ Some p) × (p.stamp.0 ≡ k + 1)
 
 -- the postings are the first ones of an actor
-abbrev pub Begins : List Posting → ℕ → List Posting → Type 0
-Begins log a own = (rest : List Posting) × (own_postings a log ≡ own ++ rest)
+abbrev pub AreFirst : List Posting → ℕ → List Posting → Type 0
+AreFirst log a own = (rest : List Posting) × (own_postings a log ≡ own ++ rest)
 
 -- the letter is Go, or a posting of the log sent it under its id
 abbrev pub WasSent : ℕ → List Posting → Letter → Type 0

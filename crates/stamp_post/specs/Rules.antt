@@ -12,7 +12,7 @@ use Rattle.stamp_post.specs.declared.rule.JoinedSeat.{JoinedSeat}
 use Rattle.stamp_post.specs.declared.rule.JoinedReceipt.{JoinedReceipt}
 use Rattle.stamp_post.specs.declared.rule.View.{View}
 use Rattle.stamp_post.specs.declared.rule.View.TheVariants.{Gathering, Acting, Sending, Carrying, Spent}
-use Rattle.stamp_post.specs.Logs.{most, own_postings, Stands, Begins, WasSent}
+use Rattle.stamp_post.specs.Logs.{most, own_postings, Stands, AreFirst, WasSent}
 
 -- `owner` says which seat has an actor, `made` how many actors there are, and `holder` which seat has a letter: the
 -- seat's number and one, or 0 where the letter was taken
@@ -47,11 +47,11 @@ module _ (client : ℕ) (log : List Posting) (owner : ℕ → ℕ) (made : ℕ) 
       × ((k : ℕ) (s : JoinedSeat) → slice_get seats k ≡ Some s
       → (owner s.number ≡ id) × (s.number < made) × (s.own ≡ own_postings s.number log))
       × HoldsGo first
-      × ((k : ℕ) (r : JoinedReceipt) → slice_get receipts k ≡ Some r → Begins log r.number r.own × Stands log r.posting)
+      × ((k : ℕ) (r : JoinedReceipt) → slice_get receipts k ≡ Some r → AreFirst log r.number r.own × Stands log r.posting)
   Fits (Acting n own taken unsent) =
       (n < made) × (owner n ≡ id) × (own ≡ own_postings n log) × HoldsTaken n taken × HoldsUnsent n unsent
       × ((l : Letter) (p : Posting) → taken ≡ Some l → unsent ≡ Some p → l.id.stamp.0 ≢ p.stamp.0)
-  Fits (Sending n own p next) = Begins log n own × Stands log p × (p.actor.0 ≡ n) × HoldsRest p next
+  Fits (Sending n own p next) = AreFirst log n own × Stands log p × (p.actor.0 ≡ n) × HoldsRest p next
   Fits (Carrying l) = Holds l
   Fits Spent = Unit {0}
 

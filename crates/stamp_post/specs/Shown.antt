@@ -7,7 +7,7 @@ use Rattle.letter_types.specs.declared.entries.Posting.{Posting}
 use Rattle.letter_types.specs.Postal.{IsPostal}
 use Rattle.stamp_post.specs.declared.rule.JoinedSeat.{JoinedSeat}
 use Rattle.stamp_post.specs.declared.rule.JoinedReceipt.{JoinedReceipt}
-use Rattle.stamp_post.specs.Logs.{own_postings, Stands, Begins}
+use Rattle.stamp_post.specs.Logs.{own_postings, Stands, AreFirst}
 
 -- which post it is, and how many actors it has
 pub record PostId : Type 0 where
@@ -65,8 +65,8 @@ new_seats post n zero = []
 new_seats post n (suc count) = seat_data post n [] None None ∷ new_seats post (n + 1) count
 
 -- the letters go to actors of the post
-abbrev pub IsAddressed : ℕ → List Outgoing → Type 0
-IsAddressed actors sent = All (λ o. o.to.0 < actors) sent
+abbrev pub AreToActors : ℕ → List Outgoing → Type 0
+AreToActors actors sent = All (λ o. o.to.0 < actors) sent
 
 -- the seat is of an actor of the post, the letter that it has taken is addressed to it, and its unsent posting is its
 -- own, with letters to actors of the post
@@ -74,7 +74,7 @@ abbrev pub IsSeat : ℕ → ℕ → Option Letter → Option Posting → Type 0
 IsSeat actors number taken unsent =
     (number < actors)
     × IfSome taken (λ l. l.to.0 ≡ number)
-    × IfSome unsent (λ p. (p.actor.0 ≡ number) × IsAddressed actors p.sent)
+    × IfSome unsent (λ p. (p.actor.0 ≡ number) × AreToActors actors p.sent)
 
 -- what is gathered of a seat and of a receipt
 abbrev pub joined_seat : ℕ → List Posting → JoinedSeat
@@ -96,7 +96,7 @@ pub record Gathers (actors : ℕ) (seats : List JoinedSeat) (receipts : List Joi
   pub postal : IsPostal (actors - 1) log
   pub own : (k : ℕ) (s : JoinedSeat) → slice_get seats k ≡ Some s → s.own ≡ own_postings s.number log
   pub stands : (k : ℕ) (r : JoinedReceipt) → slice_get receipts k ≡ Some r → Stands log r.posting
-  pub begins : (k : ℕ) (r : JoinedReceipt) → slice_get receipts k ≡ Some r → Begins log r.number r.own
+  pub begins : (k : ℕ) (r : JoinedReceipt) → slice_get receipts k ≡ Some r → AreFirst log r.number r.own
 
 -- a name for no post
 abbrev pub no_post : PostId

@@ -4,7 +4,7 @@ ghost use Rattle.letter_types.specs.declared.entries.Posting.{Posting};
 ghost use Rattle.letter_types.specs.Letters.{go};
 ghost use Rattle.letter_types.specs.Postal.{letters_sent};
 ghost use Rattle.stamp_post.specs.Logs.{most, posting};
-ghost use Rattle.stamp_post.specs.Shown.{seat_data, outbox_data, envelope_data, new_seats, seat_joined, receipt_joined, IsAddressed, Gathers};
+ghost use Rattle.stamp_post.specs.Shown.{seat_data, outbox_data, envelope_data, new_seats, seat_joined, receipt_joined, AreToActors, Gathers};
 ghost use Rattle.stamp_post.specs.Views.{first_data};
 
 use crate::first::FirstSeat;
@@ -182,7 +182,7 @@ impl Post {
         requires sends { sent.now ≡ S.sent }
         requires post { seat.old.post ≡ self.now }
         requires taken { seat.old.taken ≡ Some letter.now }
-        requires addressed { IsAddressed self.now.actors sent.now }
+        requires addressed { AreToActors self.now.actors sent.now }
         requires room { length seat.old.own < most }
         ensures { let p = posting result.0 seat.old.number letter.now sent.now in
             seat.new ≡ seat_data self.now seat.old.number (seat.old.own ++ p ∷ []) None (Some p) }
@@ -199,7 +199,7 @@ impl Post {
     pub fn stamp(&self, seat: &mut ActorSeat, letter: &Letter, sent: &Letters) -> Stamp
         requires post { seat.old.post ≡ self.now }
         requires taken { seat.old.taken ≡ Some letter.now }
-        requires addressed { IsAddressed self.now.actors sent.now }
+        requires addressed { AreToActors self.now.actors sent.now }
         requires room { length seat.old.own < most }
         ensures { let p = posting result.0 seat.old.number letter.now sent.now in
             seat.new ≡ seat_data self.now seat.old.number (seat.old.own ++ p ∷ []) None (Some p) }

@@ -1,6 +1,6 @@
 // What is handed about: actors' seats, outboxes, envelopes, receipts and the gatherer.
 ghost use Rattle.std.specs.Prelude.{◌≡◌, ◌<◌, ◌≤◌, length, MatchResult};
-ghost use Rattle.stamp_post.specs.Shown.{IsAddressed, receipt_data};
+ghost use Rattle.stamp_post.specs.Shown.{AreToActors, receipt_data};
 
 use crate::first::FirstSeat;
 use crate::rule::View;
@@ -8,7 +8,7 @@ use atomic_table::Seat;
 use letter_types::{Letter, Outgoing};
 use std::collections::VecDeque;
 use std::marker::Model;
-use tv_base::{Seq, Stamp};
+use tv_base::{MOST_ENTRIES, Seq, Stamp};
 
 /// The seat of one actor, which alone takes letters and stamps postings for it. Contracts see its post, its number, its
 /// postings so far, the letter that it has taken and not stamped, and its last posting while that one's outbox isn't
@@ -101,7 +101,7 @@ pub struct Outbox {
 impl Model for Outbox {
     ghost use Rattle.std.specs.Prelude.{◌≡◌, ◌≤◌, [], drop, length};
     ghost use Rattle.stamp_post.specs.declared.rule.View.TheVariants.{Sending};
-    ghost use Rattle.stamp_post.specs.Shown.{OutboxData, outbox_data, post_id, IsAddressed};
+    ghost use Rattle.stamp_post.specs.Shown.{OutboxData, outbox_data, post_id, AreToActors};
     ghost use Rattle.stamp_post.specs.Views.{own_in, posting_in};
 
     ghost Value = { OutboxData };
@@ -115,7 +115,7 @@ impl Model for Outbox {
         × ((posting_in o.seat.me.0).actor.0 ≡ o.number)
         × (o.left.items ≡ drop o.place (posting_in o.seat.me.0).sent)
         × (length (posting_in o.seat.me.0).sent ≤ 4294967295)
-        × IsAddressed o.actors o.left.items };
+        × AreToActors o.actors o.left.items };
 }
 
 impl Outbox {
@@ -190,5 +190,5 @@ impl Receipt {
     }
 }
 
-/// Receipts in any order. At most 2^40 of them: a growth past that finds no memory.
-pub type Receipts = Seq<Receipt, 0x100_0000_0000>;
+/// Receipts in any order. At most `MOST_ENTRIES` of them: a growth past that finds no memory.
+pub type Receipts = Seq<Receipt, MOST_ENTRIES>;

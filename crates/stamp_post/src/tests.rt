@@ -1,6 +1,6 @@
 ghost use Rattle.std.specs.Prelude.{◌≡◌, ◌<◌, All, [], ◌∷◌, length, IfOk, None};
 ghost use Rattle.stamp_post.specs.Logs.{most};
-ghost use Rattle.stamp_post.specs.Shown.{IsAddressed};
+ghost use Rattle.stamp_post.specs.Shown.{AreToActors};
 
 use super::*;
 use letter_types::{Body, Letters, Outgoing};
@@ -11,7 +11,7 @@ use tv_base::{ActorNo, NoMemory, Stamp};
 // The letters of a step that sends one.
 fn one_letter(alloc: Global, to: u8, actors: u8) -> Result<Letters, NoMemory>
     requires { to < actors }
-    ensures { IfOk result (λ sent. IsAddressed actors sent) }
+    ensures { IfOk result (λ sent. AreToActors actors sent) }
 {
     let mut sent = Letters::new(alloc);
     sent.push(Outgoing {
@@ -26,7 +26,7 @@ fn step(post: &Post, seat: &mut ActorSeat, envelope: Envelope, sent: Letters) ->
     requires post { (seat.old.post ≡ post.now) × (envelope.post ≡ post.now) }
     requires addressee { envelope.letter.to.0 ≡ seat.old.number }
     requires none { seat.old.taken ≡ None }
-    requires addressed { IsAddressed post.now.actors sent }
+    requires addressed { AreToActors post.now.actors sent }
     requires room { length seat.old.own < most }
     ensures seat { seat.new.post ≡ post.now }
     ensures outbox { result.post ≡ post.now }

@@ -11,11 +11,11 @@ use Rattle.std.proofs.lemmas.List.Elements.{All-head, All-tail}
 use Rattle.std.proofs.lemmas.Map.Keys.{Less-from_sorted}
 use Rattle.tv_base.specs.declared.numbers.TreeNo.{TreeNo}
 use Rattle.tree_home.specs.declared.homes.OpenTree.{OpenTree}
-use Rattle.tree_home.specs.Homes.{IsAscending, trees_of}
+use Rattle.tree_home.specs.Homes.{AreAscending, trees_of}
 
 -- a map's keys ascend
 pub ascends : (es : List (TreeNo × OpenTree)) → IsStrictlySortedBy (λ a b. nat_cmp a.0 b.0) (map (λ e. e.0) es)
-    → IsAscending es
+    → AreAscending es
 ascends es sorted i j d lt within =
     let key : (TreeNo × OpenTree) → TreeNo = λ e. e.0 in
     let before : i < length es = omega arith in
@@ -24,10 +24,10 @@ ascends es sorted i j d lt within =
     let less' = rw (get_or-map key es i d d.0 before, get_or-map key es j d d.0 within) at less in
     ranked (get_or es i d).0.0 (get_or es j d).0.0 _ (sym less')
 
-rest-ascends : (e : TreeNo × OpenTree) (es : List (TreeNo × OpenTree)) → IsAscending (e ∷ es) → IsAscending es
+rest-ascends : (e : TreeNo × OpenTree) (es : List (TreeNo × OpenTree)) → AreAscending (e ∷ es) → AreAscending es
 rest-ascends e es up = λ i j d lt within. up (suc i) (suc j) d (omega arith) (omega arith)
 
-first-least : (e : TreeNo × OpenTree) (es : List (TreeNo × OpenTree)) → IsAscending (e ∷ es)
+first-least : (e : TreeNo × OpenTree) (es : List (TreeNo × OpenTree)) → AreAscending (e ∷ es)
     → All (λ f. e.0.0 < f.0.0) es
 first-least e es up = λ k d within. up zero (suc k) d (omega arith) (omega arith)
 
@@ -43,7 +43,7 @@ first-is : (e : TreeNo × OpenTree) (es : List (TreeNo × OpenTree)) → trees_o
 first-is e es = rw (eq-eqb e.0.0 e.0.0 refl) refl
 
 -- below the first there is none
-none-below : (n : ℕ) (e : TreeNo × OpenTree) (es : List (TreeNo × OpenTree)) → IsAscending (e ∷ es) → n < e.0.0
+none-below : (n : ℕ) (e : TreeNo × OpenTree) (es : List (TreeNo × OpenTree)) → AreAscending (e ∷ es) → n < e.0.0
     → trees_of (e ∷ es) n ≡ None
 none-below n e es up less =
     let rest = none-above n e.0.0 es (omega arith) (first-least e es up) in
@@ -56,7 +56,7 @@ same-first e f number here =
     λ i. (ap of number i, tree i)
 
 -- the rest has the same trees
-same-rest : (e f : TreeNo × OpenTree) (es fs : List (TreeNo × OpenTree)) → IsAscending (e ∷ es) → IsAscending (f ∷ fs)
+same-rest : (e f : TreeNo × OpenTree) (es fs : List (TreeNo × OpenTree)) → AreAscending (e ∷ es) → AreAscending (f ∷ fs)
     → e.0.0 ≡ f.0.0 → (j : ℕ) → trees_of (e ∷ es) j ≡ trees_of (f ∷ fs) j → trees_of es j ≡ trees_of fs j
 same-rest e f es fs up up' number j same =
     elim (cases_eq e.0.0 j) [
@@ -68,7 +68,7 @@ same-rest e f es fs up up' number j same =
           rw (ne_eqb e.0.0 j ne, ne_eqb f.0.0 j ne') at same
     ]
 
-same-by : (es fs : List (TreeNo × OpenTree)) → IsAscending es → IsAscending fs
+same-by : (es fs : List (TreeNo × OpenTree)) → AreAscending es → AreAscending fs
     → ((j : ℕ) → trees_of es j ≡ trees_of fs j) → es ≡ fs
 same-by [] [] up up' same = refl
 same-by [] (f ∷ fs) up up' same = let no : None ≡ Some f.1 = same f.0.0 ∙ first-is f fs in cc
@@ -94,6 +94,6 @@ same-by (e ∷ es) (f ∷ fs) up up' same =
     ]
 
 -- entries that have the same trees are the same
-pub same_entries : (es fs : List (TreeNo × OpenTree)) → IsAscending es → IsAscending fs → trees_of es ≡ trees_of fs
+pub same_entries : (es fs : List (TreeNo × OpenTree)) → AreAscending es → AreAscending fs → trees_of es ≡ trees_of fs
     → es ≡ fs
 same_entries es fs up up' same = same-by es fs up up' (λ j. ap (λ (hs : ℕ → Option OpenTree). hs j) same)

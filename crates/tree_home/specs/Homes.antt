@@ -24,8 +24,8 @@ abbrev pub no_trees : OpenTrees
 no_trees t = None
 
 -- the numbers of a map's entries ascend
-abbrev pub IsAscending : List (TreeNo × OpenTree) → Type 0
-IsAscending es = AllPairs (λ a b. a.0.0 < b.0.0) es
+abbrev pub AreAscending : List (TreeNo × OpenTree) → Type 0
+AreAscending es = AllPairs (λ a b. a.0.0 < b.0.0) es
 
 -- the trees of the entries
 abbrev pub trees_of : List (TreeNo × OpenTree) → OpenTrees

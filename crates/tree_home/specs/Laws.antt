@@ -5,7 +5,7 @@ use Rattle.tv_base.specs.declared.numbers.SubNo.{SubNo}
 use Rattle.tv_base.specs.declared.numbers.Version.{Version}
 use Rattle.tree_home.specs.declared.homes.OpenTree.{OpenTree}
 use Rattle.tree_home.specs.declared.homes.Answered.{Answered}
-use Rattle.tree_home.specs.Homes.{Gets, OpenTrees, IsAscending, trees_of, home_in, new_tree, begun, with_notice, noted, forgotten, gathered, misses, missing_in, answer_in}
+use Rattle.tree_home.specs.Homes.{Gets, OpenTrees, AreAscending, trees_of, home_in, new_tree, begun, with_notice, noted, forgotten, gathered, misses, missing_in, answer_in}
 
 -- any other tree stays when a tree begins
 abbrev pub BegunKeepsOthers : Type 0
@@ -41,7 +41,7 @@ ForgottenTakesBack = (t : TreeNo) (n : ℕ) (v : Version) (hs : OpenTrees) → h
 
 -- entries of ascending numbers that have the same trees are the same
 abbrev pub EntriesAreTheirTrees : Type 0
-EntriesAreTheirTrees = (es fs : List (TreeNo × OpenTree)) → IsAscending es → IsAscending fs → trees_of es ≡ trees_of fs
+EntriesAreTheirTrees = (es fs : List (TreeNo × OpenTree)) → AreAscending es → AreAscending fs → trees_of es ≡ trees_of fs
     → es ≡ fs
 
 -- of a tree that has begun, the notices up to the number given are missing

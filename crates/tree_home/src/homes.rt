@@ -1,7 +1,7 @@
 ghost use Rattle.std.specs.Prelude.{◌≡◌, ◌++◌, ◌<◌, length, replicate, IfOk, IfErr, IsNone, IsSome, IsTrue, OnErr, OnOk, Some, None, slice_set, slice_get, ◌↔◌};
 ghost use Rattle.std.specs.Option.{option_copied, is_some};
 ghost use Rattle.tree_home.specs.Maps.{put_at};
-ghost use Rattle.tree_home.specs.Homes.{IsAscending, no_trees, trees_of, home_in, begun, with_notice, noted, forgotten, gathered, missing_count, missing_in, misses, is_missing, after_notice, answer_in, answer_of, outcome, MissesSome};
+ghost use Rattle.tree_home.specs.Homes.{AreAscending, no_trees, trees_of, home_in, begun, with_notice, noted, forgotten, gathered, missing_count, missing_in, misses, is_missing, after_notice, answer_in, answer_of, outcome, MissesSome};
 
 use commute_ops::{Value, Values};
 use std::alloc::Global;
@@ -55,11 +55,11 @@ impl Model for Homes {
 
     ghost Value = { List (TreeNo × OpenTree) };
 
-    ghost use Rattle.tree_home.specs.Homes.{IsAscending};
+    ghost use Rattle.tree_home.specs.Homes.{AreAscending};
 
     ghost view = { λ h. h.trees.entries };
 
-    ghost invariant = { λ h. IsAscending h.trees.entries };
+    ghost invariant = { λ h. AreAscending h.trees.entries };
 }
 
 impl Homes {
@@ -97,7 +97,7 @@ impl Homes {
         requires absent { home_in tree (trees_of self.old) ≡ None }
         ensures ok { OnOk result (trees_of self.new ≡ begun tree subs version (trees_of self.old)) }
         ensures err { OnErr result (self.new ≡ self.old) }
-        ensures was_ascending { IsAscending self.old }
+        ensures was_ascending { AreAscending self.old }
     {
         let notices = no_notices(self.alloc, subs)?;
         insert(&mut self.trees, tree, OpenTree { version, notices })
@@ -114,10 +114,10 @@ impl Homes {
         values: Values,
     ) -> Result<Noted, (NoMemory, Values)>
         requires { IsTrue (misses tree sub (trees_of self.old)) }
-        ensures noted { IfOk result (λ noted. noted ≡ outcome tree sub values (trees_of self.old)) }
-        ensures missing { IfOk result (λ noted. MissesSome noted) }
+        ensures noted { IfOk result (λ told. told ≡ outcome tree sub values (trees_of self.old)) }
+        ensures missing { IfOk result (λ told. MissesSome told) }
         ensures homes { IfOk result
-            (λ noted. trees_of self.new ≡ after_notice tree sub values (trees_of self.old) noted) }
+            (λ told. trees_of self.new ≡ after_notice tree sub values (trees_of self.old) told) }
         ensures refused { IfErr result (λ e. e.1 ≡ values) }
         ensures err { OnErr result (self.new ≡ self.old) }
     {
@@ -165,7 +165,7 @@ impl Homes {
     pub fn forget(&mut self, tree: TreeNo)
         requires { IsSome (home_in tree (trees_of self.old)) }
         ensures forgotten { trees_of self.new ≡ forgotten tree (trees_of self.old) }
-        ensures ascending { IsAscending self.new }
+        ensures ascending { AreAscending self.new }
     {
         remove(&mut self.trees, tree);
     }
@@ -208,7 +208,7 @@ fn insert(
 ) -> Result<(), NoMemory>
     ensures ok { OnOk result (trees_of trees.new.entries ≡ put_at tree.0 (Some opened) (trees_of trees.old.entries)) }
     ensures err { OnErr result (trees.new.entries ≡ trees.old.entries) }
-    ensures ascending { IsAscending trees.new.entries }
+    ensures ascending { AreAscending trees.new.entries }
 {
     trees.insert(tree, opened)?;
     Ok(())
@@ -217,7 +217,7 @@ fn insert(
 /// Takes a tree away.
 fn remove(trees: &mut BTreeMap<TreeNo, OpenTree>, tree: TreeNo)
     ensures forgotten { trees_of trees.new.entries ≡ forgotten tree (trees_of trees.old.entries) }
-    ensures ascending { IsAscending trees.new.entries }
+    ensures ascending { AreAscending trees.new.entries }
 {
     trees.remove(&tree);
 }
@@ -226,7 +226,7 @@ fn remove(trees: &mut BTreeMap<TreeNo, OpenTree>, tree: TreeNo)
 fn put(trees: &mut BTreeMap<TreeNo, OpenTree>, tree: TreeNo, sub: SubNo, values: Values)
     requires { IsTrue (misses tree sub (trees_of trees.old.entries)) }
     ensures noted { trees_of trees.new.entries ≡ noted tree sub values (trees_of trees.old.entries) }
-    ensures ascending { IsAscending trees.new.entries }
+    ensures ascending { AreAscending trees.new.entries }
 {
     let opened = trees.get_mut(&tree).unwrap();
     add_notice(opened, sub, values);

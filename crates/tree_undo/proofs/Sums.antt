@@ -10,7 +10,7 @@ use Rattle.tx_trees.specs.declared.parts.Deed.{Deed}
 use Rattle.tx_trees.specs.declared.parts.Deed.TheVariants as deeds
 use Rattle.tx_trees.specs.declared.parts.Sub.{Sub}
 use Rattle.tx_trees.specs.declared.parts.SubOp.{SubOp}
-use Rattle.tree_undo.specs.Balance.{added, ops_added, subs_added}
+use Rattle.tree_undo.specs.Balance.{added, sum_of_ops, sum_of_subs}
 use Rattle.tx_trees.specs.Undone.{goes_from, inverses_from, negated, negated_deed, new_number, staying_from, stays, undoes, undone}
 
 -- an amount with the other sign takes back what the amount adds
@@ -26,19 +26,19 @@ negated_here : (b : Bool) (d : Deed) → (if b then added (negated_deed d) else 
 negated_here true d = added_negated d
 negated_here false d = refl
 
-negated_all : (x : ℕ) (os : List SubOp) → ops_added x (map negated os) ≡ pos 0 -ℤ ops_added x os
+negated_all : (x : ℕ) (os : List SubOp) → sum_of_ops x (map negated os) ≡ pos 0 -ℤ sum_of_ops x os
 negated_all x [] = refl
 negated_all x (o ∷ os) = omega (arith, ints, negated_here (o.item.0 == x) o.deed, negated_all x os)
 
 -- no operation adds nothing
-nothing : (x : ℕ) (os : List SubOp) → (length os == 0) ≡ true → ops_added x os ≡ pos 0
+nothing : (x : ℕ) (os : List SubOp) → (length os == 0) ≡ true → sum_of_ops x os ≡ pos 0
 nothing x [] e = refl
 nothing x (o ∷ os) e = absurd (some (length os) e)
   where
     some : (n : ℕ) → (suc n == 0) ≡ true → ⊥
     some n e = grind (arith, nat_tests)
 
-added-append : (x : ℕ) (xs ys : List Sub) → subs_added x (xs ++ ys) ≡ subs_added x xs +ℤ subs_added x ys
+added-append : (x : ℕ) (xs ys : List Sub) → sum_of_subs x (xs ++ ys) ≡ sum_of_subs x xs +ℤ sum_of_subs x ys
 added-append x [] ys = omega (arith, ints)
 added-append x (s ∷ xs) ys = omega (arith, ints, added-append x xs ys)
 
@@ -48,17 +48,17 @@ with_ops p node os = record { parent = p; node = node; ops = os }
 
 -- what stays of a subtransaction, and what undoes it
 even : (x : ℕ) (p q : SubNo) (node : NodeNo) (os : List SubOp) (g f e : Bool) → (length os == 0) ≡ e
-    → subs_added x (if g then [] else with_ops p node (if f then [] else os) ∷ []) +ℤ subs_added x (if not g && (not f && not e) then with_ops q node (map negated os) ∷ [] else []) ≡ pos 0
+    → sum_of_subs x (if g then [] else with_ops p node (if f then [] else os) ∷ []) +ℤ sum_of_subs x (if not g && (not f && not e) then with_ops q node (map negated os) ∷ [] else []) ≡ pos 0
 even x p q node os true f e is = refl
 even x p q node os false true e is = refl
 even x p q node os false false true is = let none = nothing x os is in omega (arith, ints, none)
 even x p q node os false false false is = omega (arith, ints, negated_all x os)
 
 -- what stays, and what undoes it
-all_even : (failed : ℕ) (goes : List Bool) (k x : ℕ) (ss : List Sub) → subs_added x (staying_from failed goes k ss) +ℤ subs_added x (inverses_from failed goes k ss) ≡ pos 0
+all_even : (failed : ℕ) (goes : List Bool) (k x : ℕ) (ss : List Sub) → sum_of_subs x (staying_from failed goes k ss) +ℤ sum_of_subs x (inverses_from failed goes k ss) ≡ pos 0
 all_even failed goes k x [] = refl
 all_even failed goes k x (s ∷ ss) =
-    let here : subs_added x (stays failed goes k s) +ℤ subs_added x (undoes failed goes k s) ≡ pos 0 =
+    let here : sum_of_subs x (stays failed goes k s) +ℤ sum_of_subs x (undoes failed goes k s) ≡ pos 0 =
     even x (record { 0 = new_number goes s.parent.0 }) (record { 0 = new_number goes failed }) s.node s.ops (get_or goes k false) (k == failed) (length s.ops == 0) refl in
     omega (
       arith,
@@ -70,7 +70,7 @@ all_even failed goes k x (s ∷ ss) =
     )
 
 -- an undone tree adds up to nothing
-pub undone_even : (subs : List Sub) (failed x : ℕ) → subs_added x (undone subs failed) ≡ pos 0
+pub undone_even : (subs : List Sub) (failed x : ℕ) → sum_of_subs x (undone subs failed) ≡ pos 0
 undone_even subs failed x =
     let goes = goes_from failed [] subs in
     omega (arith, ints, added-append x (staying_from failed goes 0 subs) (inverses_from failed goes 0 subs), all_even failed goes 0 x subs)

@@ -12,11 +12,11 @@ added (deeds.Apply (ops.Add a)) = a
 added _ = pos 0
 
 -- what operations add to item x
-abbrev pub ops_added : ℕ → List SubOp → ℤ
-ops_added x [] = pos 0
-ops_added x (o ∷ os) = (if o.item.0 == x then added o.deed else pos 0) +ℤ ops_added x os
+abbrev pub sum_of_ops : ℕ → List SubOp → ℤ
+sum_of_ops x [] = pos 0
+sum_of_ops x (o ∷ os) = (if o.item.0 == x then added o.deed else pos 0) +ℤ sum_of_ops x os
 
 -- what subtransactions add to item x
-abbrev pub subs_added : ℕ → List Sub → ℤ
-subs_added x [] = pos 0
-subs_added x (s ∷ ss) = ops_added x s.ops +ℤ subs_added x ss
+abbrev pub sum_of_subs : ℕ → List Sub → ℤ
+sum_of_subs x [] = pos 0
+sum_of_subs x (s ∷ ss) = sum_of_ops x s.ops +ℤ sum_of_subs x ss

@@ -4,12 +4,12 @@ ghost use Rattle.tx_trees.specs.Valid.{AreSubs};
 ghost use Rattle.tx_trees.specs.declared.parts.ItemRow.{ItemRow};
 ghost use Rattle.tx_trees.specs.declared.parts.Sub.{Sub};
 ghost use Rattle.tx_trees.specs.declared.parts.TreeKind.TheVariants.{Update};
-ghost use Rattle.tree_undo.specs.Balance.{subs_added};
+ghost use Rattle.tree_undo.specs.Balance.{sum_of_subs};
 ghost use Rattle.tx_trees.specs.Undone.{undone};
 
 /// What the subtransactions of an undone tree add to an item adds up to nothing.
 pub fn an_undone_tree_adds_up_to_nothing()
-    ensures { (subs : List Sub) (failed x : ℕ) → subs_added x (undone subs failed) ≡ pos 0 }
+    ensures { (subs : List Sub) (failed x : ℕ) → sum_of_subs x (undone subs failed) ≡ pos 0 }
 {}
 
 /// Subtransactions of a valid update tree, of which one fails, are in their undone form such subtransactions again:

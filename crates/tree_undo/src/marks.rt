@@ -1,6 +1,7 @@
 // Which subtransactions go with the failed one, and the new numbers of those that stay.
 ghost use Rattle.std.specs.Prelude.{◌≡◌, ◌≤◌, ◌==◌, ◌&&◌, not, IfOk, [], false, get_or, length, count_by};
-ghost use Rattle.tx_trees.specs.Undone.{goes_from, goes_next, is_undone, new_number};
+ghost use Rattle.tv_base.specs.declared.numbers.TheConstants.{MOST_SUBS_OF_TREE};
+ghost use Rattle.tx_trees.specs.Undone.{goes_from, goes_next, is_undone_sub, new_number};
 
 use std::alloc::Global;
 use tv_base::{NoMemory, SubNo};
@@ -37,7 +38,7 @@ pub(crate) fn marks(alloc: Global, subs: &[Sub], failed: SubNo) -> Result<Vec<bo
 
 // The new number of a subtransaction: how many of those before it stay.
 pub(crate) fn new_number(goes: &[bool], k: SubNo) -> SubNo
-    requires { length goes.now ≤ 64 }
+    requires { length goes.now ≤ MOST_SUBS_OF_TREE }
     ensures { result.0 ≡ new_number goes.now k.0 }
 {
     let most = goes.len().min(k.0 as usize);
@@ -54,7 +55,7 @@ fn count(goes: &[bool]) -> usize
 
 // Whether a subtransaction has something to undo.
 pub(crate) fn is_undone(goes: &[bool], k: usize, sub: &Sub, failed: SubNo) -> bool
-    ensures { result ≡ is_undone failed.0 goes.now k sub.now }
+    ensures { result ≡ is_undone_sub failed.0 goes.now k sub.now }
 {
     !goes_at(goes, k) && k != failed.0 as usize && sub.ops.items().len() != 0
 }

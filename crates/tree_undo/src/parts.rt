@@ -1,6 +1,7 @@
 // A subtransaction that stays, and what undoes one.
 ghost use Rattle.std.specs.Prelude.{◌≡◌, ◌≤◌, ◌==◌, if◌then◌else◌, IfOk, [], length, map};
 ghost use Rattle.std.specs.List.{AllByRecursion};
+ghost use Rattle.tv_base.specs.declared.numbers.TheConstants.{MOST_SUBS_OF_TREE};
 ghost use Rattle.commute_ops.specs.declared.kinds.TheConstants.{MOST_AMOUNT};
 ghost use Rattle.tx_trees.specs.Amounts.{magnitude, op_magnitude};
 ghost use Rattle.tx_trees.specs.Undone.{inverse, negated, negated_deed, negated_op, staying};
@@ -77,7 +78,7 @@ pub(crate) fn staying(
     sub: &Sub,
     failed: SubNo,
 ) -> Result<Sub, NoMemory>
-    requires { length goes.now ≤ 64 }
+    requires { length goes.now ≤ MOST_SUBS_OF_TREE }
     ensures { IfOk result (λ out. out ≡ staying failed.0 goes.now k sub.now) }
 {
     let ops = staying_ops(alloc, k, sub, failed)?;
@@ -93,7 +94,7 @@ pub(crate) fn inverse(
     sub: &Sub,
     failed: SubNo,
 ) -> Result<Sub, NoMemory>
-    requires few { length goes.now ≤ 64 }
+    requires few { length goes.now ≤ MOST_SUBS_OF_TREE }
     requires small { AllByRecursion (λ o. magnitude o.deed ≤ MOST_AMOUNT) sub.now.ops }
     ensures { IfOk result (λ out. out ≡ inverse failed.0 goes.now sub.now) }
 {

@@ -1,6 +1,7 @@
 // The undone form of a tree.
 ghost use Rattle.std.specs.Prelude.{◌≡◌, ◌≤◌, ◌<◌, ◌++◌, OnOk, IfOk, length};
 ghost use Rattle.std.specs.List.{AllByRecursion};
+ghost use Rattle.tv_base.specs.declared.numbers.TheConstants.{MOST_SUBS_OF_TREE};
 ghost use Rattle.commute_ops.specs.declared.kinds.TheConstants.{MOST_AMOUNT};
 ghost use Rattle.tx_trees.specs.Amounts.{magnitude};
 ghost use Rattle.tx_trees.specs.Undone.{inverses_from, staying_from, stays, undoes, undone};
@@ -20,7 +21,7 @@ fn push_stays(
     sub: &Sub,
     failed: SubNo,
 ) -> Result<(), NoMemory>
-    requires { length goes.now ≤ 64 }
+    requires { length goes.now ≤ MOST_SUBS_OF_TREE }
     ensures { OnOk result (out.new ≡ out.old ++ stays failed.0 goes.now k sub.now) }
 {
     if goes_at(goes, k) {
@@ -39,7 +40,7 @@ fn push_staying(
     subs: &[Sub],
     failed: SubNo,
 ) -> Result<(), NoMemory>
-    requires { length goes.now ≤ 64 }
+    requires { length goes.now ≤ MOST_SUBS_OF_TREE }
     ensures { OnOk result (out.new ≡ out.old ++ staying_from failed.0 goes.now 0 subs.now) }
 {
     for (k, sub) in subs.iter().enumerate() {
@@ -57,7 +58,7 @@ fn push_undoes(
     sub: &Sub,
     failed: SubNo,
 ) -> Result<(), NoMemory>
-    requires few { length goes.now ≤ 64 }
+    requires few { length goes.now ≤ MOST_SUBS_OF_TREE }
     requires small { AllByRecursion (λ o. magnitude o.deed ≤ MOST_AMOUNT) sub.now.ops }
     ensures { OnOk result (out.new ≡ out.old ++ undoes failed.0 goes.now k sub.now) }
 {
@@ -77,7 +78,7 @@ fn push_inverses(
     subs: &[Sub],
     failed: SubNo,
 ) -> Result<(), NoMemory>
-    requires few { length goes.now ≤ 64 }
+    requires few { length goes.now ≤ MOST_SUBS_OF_TREE }
     requires small { AllByRecursion (λ s. AllByRecursion (λ o. magnitude o.deed ≤ MOST_AMOUNT) s.ops) subs.now }
     ensures { OnOk result (out.new ≡ out.old ++ inverses_from failed.0 goes.now 0 subs.now) }
 {
@@ -91,7 +92,7 @@ fn push_inverses(
 /// that these sent, don't run; the failed one does nothing; each other one is undone by a child of the failed one, at
 /// the same node, which adds its amounts with the other sign. Only want of memory is an error.
 pub fn expand(alloc: Global, subs: &Subs, failed: SubNo) -> Result<Subs, NoMemory>
-    requires few { length subs.now ≤ 64 }
+    requires few { length subs.now ≤ MOST_SUBS_OF_TREE }
     requires small { AllByRecursion (λ s. AllByRecursion (λ o. magnitude o.deed ≤ MOST_AMOUNT) s.ops) subs.now }
     ensures { IfOk result (λ out. out ≡ undone subs.now failed.0) }
 {

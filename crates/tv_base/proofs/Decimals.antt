@@ -1,22 +1,19 @@
 -- What is written of a number in decimal spells it.
 use Rattle.std.proofs.Common.{◌≡◌, ◌+◌, ◌*◌, ◌-◌, ◌/◌, ◌%◌, ◌<◌, ◌≤◌, ◌^◌, ◌∙◌, ◌∷◌, ◌++◌, [], List, true, ℕ, length, refl, arith, length-append}
-use Rattle.std.specs.Prelude.{decimal, fold, nat_le}
+use Rattle.std.specs.Prelude.{decimal, nat_le}
 use Rattle.std.specs.Char.{is_ascii_digit}
 use Rattle.std.specs.List.{list_all}
 use Rattle.std.proofs.lemmas.Bool.{le-leb}
 use Rattle.std.proofs.lemmas.Fmt.{decimal_by_steps_wide}
 use Rattle.std.proofs.lemmas.List.Folds.{list_all-append}
 use Rattle.std.proofs.lemmas.List.Sums.{fold-append}
-
--- the number that digits spell
-abbrev pub value_of : List ℕ → ℕ
-value_of ds = fold (λ value b. value * 10 + (b - 48)) 0 ds
+use Rattle.tv_base.specs.Digits.{decimal_value}
 
 -- the digits of n: they are digits, the first is there, and their value is n
 pub record Spells (n : ℕ) (ds : List ℕ) : Type 0 where
   pub digits : list_all is_ascii_digit ds ≡ true
   pub some : 1 ≤ length ds
-  pub value : value_of ds ≡ n
+  pub value : decimal_value ds ≡ n
 
 -- the byte of a digit is a digit
 is_digit_of : (d : ℕ) → d < 10 → is_ascii_digit (48 + d) ≡ true
@@ -33,7 +30,7 @@ one_digit n h = record { digits = rw (is_digit_of n h) refl; some = omega arith;
 more_digits : (n : ℕ) (ds : List ℕ) → 10 ≤ n → Spells (n / 10) ds → Spells n (ds ++ ((48 + n % 10) ∷ []))
 more_digits n ds h s =
     let d : is_ascii_digit (48 + n % 10) ≡ true = is_digit_of (n % 10) (omega arith) in
-    let v : value_of (ds ++ ((48 + n % 10) ∷ [])) ≡ value_of ds * 10 + (48 + n % 10 - 48) =
+    let v : decimal_value (ds ++ ((48 + n % 10) ∷ [])) ≡ decimal_value ds * 10 + (48 + n % 10 - 48) =
     fold-append (λ value b. value * 10 + (b - 48)) 0 ds ((48 + n % 10) ∷ []) in
     record {
       digits = list_all-append is_ascii_digit ds ((48 + n % 10) ∷ []) ∙ rw (s.digits, d) refl;

@@ -28,8 +28,8 @@ abbrev pub read_fails : FromMemory → Bool
 read_fails s = lists s.fails (one_more s.calls)
 
 -- the most that the read to come can give
-abbrev pub most_read : FromMemory → ℕ → ℕ
-most_read s room = min (min (length s.left) s.most) room
+abbrev pub most_given : FromMemory → ℕ → ℕ
+most_given s room = min (min (length s.left) s.most) room
 
 -- what a read leaves
 abbrev pub after_read : FromMemory → ReadStep → FromMemory

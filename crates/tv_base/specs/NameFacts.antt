@@ -4,7 +4,7 @@ use Rattle.std.specs.Prelude.{replicate}
 use Rattle.std.proofs.lemmas.List.{length-take, length-append, length-replicate, take_at, take-replicate, drop-replicate}
 use Rattle.std.proofs.Math.Seq.{take-append-add}
 use Rattle.tv_base.specs.declared.name.Name.TheInside.{Inside}
-use Rattle.tv_base.specs.Names.{shown, padded, held_as, IsPadded}
+use Rattle.tv_base.specs.Names.{name_bytes, padded, held_as, IsPadded}
 
 length_padded : (xs : List ℕ) → length (padded xs) ≡ 32
 length_padded xs =
@@ -17,11 +17,11 @@ with_parts held len = record { held = held; len = len }
 made : (n m : Inside) → n.held ≡ m.held → n.len ≡ m.len → n ≡ m
 made n m p q = ap (λ (h : List ℕ). with_parts h n.len) p ∙ ap (with_parts m.held) q
 
-pub held_as-shown : (n : Inside) → IsPadded n → held_as (shown n) ≡ n
+pub held_as-shown : (n : Inside) → IsPadded n → held_as (name_bytes n) ≡ n
 held_as-shown n h =
     let size : length n.held ≡ 32 = ap length h.zeros ∙ length_padded (take n.len n.held) in
     let len : length (take n.len n.held) ≡ n.len = omega (arith, length-take n.len n.held, h.small) in
-    made (held_as (shown n)) n (sym h.zeros) len
+    made (held_as (name_bytes n)) n (sym h.zeros) len
 
 padding : (w : ℕ) (bytes : List ℕ) → length bytes ≤ w → take w (bytes ++ replicate w 0) ≡ bytes ++ drop (length bytes) (replicate w 0)
 padding w bytes small =

@@ -3,8 +3,8 @@ use Rattle.std.specs.Prelude.{ℕ, ◌≡◌, ◌<◌, ◌≤◌, List, ◌++◌
 use Rattle.tv_base.specs.declared.name.Name.TheInside.{Inside}
 
 -- the bytes that count
-abbrev pub shown : Inside → List ℕ
-shown n = take n.len n.held
+abbrev pub name_bytes : Inside → List ℕ
+name_bytes n = take n.len n.held
 
 -- these bytes, and zeros up to 32
 abbrev pub padded : List ℕ → List ℕ

@@ -2,6 +2,7 @@
 #![tactic(auto)]
 
 mod adapters;
+mod draws;
 mod memory;
 mod moving;
 mod name;
@@ -11,10 +12,14 @@ mod seq;
 mod text;
 
 pub use adapters::{ReaderSource, WriterSink};
+pub use draws::{next_draw, upper_bits};
 pub use memory::{MemSink, MemSource};
 pub use moving::{MOST_BYTES, ReadEnd, WriteFailed, read_all, write_all};
 pub use name::Name;
-pub use numbers::{ActorNo, ItemNo, NoMemory, NodeNo, Stamp, SubNo, TreeNo, Version};
+pub use numbers::{
+    ActorNo, ItemNo, MOST_ENTRIES, MOST_NODES, MOST_SUBS_OF_TREE, NoMemory, NodeNo, Stamp, SubNo,
+    TreeNo, Version,
+};
 pub use outside::{Gate, NoGate, ReadStep, Sink, Source, WriteStep};
 pub use seq::Seq;
 pub use text::Text;

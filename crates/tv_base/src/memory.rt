@@ -1,6 +1,6 @@
 // A source and a sink in memory, which fail where they are told to.
 ghost use Rattle.std.specs.Prelude.{◌≡◌, ◌<◌, ◌≤◌, ◌↔◌, ℕ, length, Some, IfOk, IsTrue};
-ghost use Rattle.tv_base.specs.Memory.{lists, source_of, read_fails, most_read, after_read, sink_of, write_fails, most_written, after_write};
+ghost use Rattle.tv_base.specs.Memory.{lists, source_of, read_fails, most_given, after_read, sink_of, write_fails, most_written, after_write};
 ghost use Rattle.tv_base.specs.Outside.{Reads, Rose, Writes};
 
 use crate::numbers::NoMemory;
@@ -81,7 +81,7 @@ impl Source for MemSource {
         ensures later { self.old.faults ≤ self.new.faults }
         ensures cause { result ≡ ReadStep.Failed → Rose self.old.faults self.new.faults }
         ensures fails { IsTrue (read_fails self.old) ↔ (result ≡ ReadStep.Failed) }
-        ensures most { (n : ℕ) → result ≡ ReadStep.Got n → n ≡ most_read self.old (length buf.old) }
+        ensures most { (n : ℕ) → result ≡ ReadStep.Got n → n ≡ most_given self.old (length buf.old) }
         ensures state { self.new ≡ after_read self.old result }
     {
         self.calls = self.calls.saturating_add(1);

@@ -20,10 +20,10 @@ impl Model for Name {
 
     ghost Value = { List ℕ };
 
-    ghost use Rattle.tv_base.specs.Names.{shown, held_as, IsPadded};
+    ghost use Rattle.tv_base.specs.Names.{name_bytes, held_as, IsPadded};
     ghost use Rattle.tv_base.specs.NameFacts.{held_as-shown};
 
-    ghost view = { shown };
+    ghost view = { name_bytes };
 
     ghost inverse = { held_as };
 

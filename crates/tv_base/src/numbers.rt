@@ -1,6 +1,15 @@
 // Numbers with names of their own, and the one answer for want of memory.
 use std::alloc::{AllocError, AllocFailed};
 
+/// The most nodes that a script has, of any form.
+pub const MOST_NODES: usize = 64;
+
+/// The most subtransactions that a tree has.
+pub const MOST_SUBS_OF_TREE: usize = 64;
+
+/// The most entries that a history has: a growth past that finds no memory.
+pub const MOST_ENTRIES: usize = 0x100_0000_0000;
+
 /// A node, counted from 0.
 #[derive(Clone, Copy, Debug, PartialEq, Eq, PartialOrd, Ord, Hash)]
 pub struct NodeNo(pub u8);

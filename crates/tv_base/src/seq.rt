@@ -10,7 +10,7 @@ use std::mem;
 const SHORT: usize = 4;
 
 /// A list of at most `MOST` items that grows at its end, seen by contracts as the list of its items.
-#[derive(Drop)]
+#[derive(Clone, Drop)]
 pub struct Seq<T, const MOST: usize> {
     inner: Vec<T>,
 }

@@ -1,5 +1,5 @@
 -- A table that is collected item by item.
-use Rattle.std.proofs.Common.{◌≡◌, ℕ, Bool, true, ◌&&◌, zero, suc, ◌+◌, ◌<◌, ◌≤◌, List, [], ◌∷◌, ◌++◌, length, take, drop, set, refl, ap, sym, ◌∙◌, subst, add-one, arith, Option, Some, None}
+use Rattle.std.proofs.Common.{◌≡◌, ℕ, true, zero, suc, ◌+◌, ◌<◌, ◌≤◌, List, [], ◌∷◌, ◌++◌, length, take, drop, set, refl, ap, sym, ◌∙◌, subst, add-one, arith, Option, Some, None}
 use Rattle.std.specs.Prelude.{slice_get, IfSome}
 use Rattle.std.proofs.lemmas.Bool.Decides.{nat_tests}
 use Rattle.tv_base.specs.declared.numbers.ItemNo.{ItemNo}
@@ -12,7 +12,7 @@ use Rattle.item_versions.proofs.Holding.{none-past}
 use Rattle.item_versions.proofs.Order.{IsHeld-collected}
 use Rattle.item_versions.proofs.Seen.{seen-collected}
 use Rattle.item_versions.proofs.Window.{IsWindowed-collected, CanCollect-windowed}
-use Rattle.version_collect.specs.Collecting.{may_collect, may_collect_all, collected_all, seen_in, numbers_in}
+use Rattle.item_versions.specs.Collecting.{may_collect, may_collect_all, collected_all, items_seen_in, numbers_in}
 
 -- the next item is as it was
 pub next-item : (f : Version) (t : Table) (i : ℕ) → slice_get (collected_all f (take i t) ++ drop i t) i ≡ slice_get t i
@@ -53,16 +53,6 @@ pub can-next : (f : Version) (t now : Table) (i : ℕ) → may_collect_all f t �
 can-next f t now i may is =
     rw (is, next-item f t i) (can-at f t i may)
 
--- the test of the items from a place on
-drop-of : (f : Version) (t : Table) (i : ℕ) (o : Option (ItemNo × Held)) → slice_get t i ≡ o → i < length t → (b : Bool) → IfSome o (λ e. b ≡ may_collect f e.1) → may_collect_all f (drop i t) ≡ (b && may_collect_all f (drop (i + 1) t))
-drop-of f [] i o is lt b test = absurd (omega arith)
-drop-of f (x ∷ es) zero None is lt b test = cc
-drop-of f (x ∷ es) zero (Some e) is lt b test = let same : x ≡ e = cc in rw (test, ← same) refl
-drop-of f (x ∷ es) (suc i) o is lt b test = rw add-one (rw add-one at (drop-of f es i o is (omega arith) b test))
-
-pub may-next : (f : Version) (t : Table) (i : ℕ) (b : Bool) → i < length t → IfSome (slice_get t i) (λ e. b ≡ may_collect f e.1) → may_collect_all f (drop i t) ≡ (b && may_collect_all f (drop (i + 1) t))
-may-next f t i b lt test = drop-of f t i (slice_get t i) refl lt b test
-
 whole : (f : Version) (t : Table) (i : ℕ) → length t ≤ i → collected_all f (take i t) ++ drop i t ≡ collected_all f t
 whole f [] zero le = refl
 whole f [] (suc i) le = refl
@@ -74,7 +64,7 @@ pub walked : (f : Version) (t now : Table) (i : ℕ) → length t ≤ i → now 
 walked f t now i le is = is ∙ whole f t i le
 
 -- a collection changes nothing of what is seen from its version up
-pub seen-all : (f v : Version) (t : Table) → IsHeldTable t → f.0 ≤ v.0 → seen_in v (collected_all f t) ≡ seen_in v t
+pub seen-all : (f v : Version) (t : Table) → IsHeldTable t → f.0 ≤ v.0 → items_seen_in v (collected_all f t) ≡ items_seen_in v t
 seen-all f v [] held le = refl
 seen-all f v (e ∷ es) held le =
     let rest = seen-all f v es held.1 le in

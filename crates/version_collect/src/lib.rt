@@ -3,4 +3,4 @@
 
 mod collect;
 
-pub use collect::{collect_table, may_collect};
+pub use collect::collect_table;

@@ -6,6 +6,6 @@ use Rattle.commute_ops.specs.Ops.{applied}
 use Rattle.item_versions.specs.Item.{Held, above, applied_to_all, seen_after}
 
 -- the versions from v up, after an update in version v
-abbrev pub raised : Version → Op → Held → Held
-raised v op [] = []
-raised v op (x ∷ xs) = (v, applied (seen_after x.1 v xs) op) ∷ applied_to_all op (above v (x ∷ xs))
+abbrev pub raised_from : Version → Op → Held → Held
+raised_from v op [] = []
+raised_from v op (x ∷ xs) = (v, applied (seen_after x.1 v xs) op) ∷ applied_to_all op (above v (x ∷ xs))

@@ -45,10 +45,10 @@ abbrev pub two_balances : ℕ → Value → Value → Bool → List ℕ
 two_balances a shown next written = balance a shown ++ (if written then balance (a + 1) next else [])
 
 -- the line of an item of these values
-abbrev pub row_line : ℕ → ItemRow → Value → Value → Bool → List ℕ
-row_line a row shown next written = codes "item " ++ (row.name ++ (two_balances a shown next written ++ codes "\n"))
+abbrev pub values_line : ℕ → ItemRow → Value → Value → Bool → List ℕ
+values_line a row shown next written = codes "item " ++ (row.name ++ (two_balances a shown next written ++ codes "\n"))
 
 -- the lines of the items of these values
 abbrev pub rows_lines : ℕ → List ItemRow → List Value → List Value → List Bool → List ℕ
-rows_lines a (row ∷ rows) (w ∷ ws) (n ∷ ns) (b ∷ bs) = row_line a row w n b ++ rows_lines a rows ws ns bs
+rows_lines a (row ∷ rows) (w ∷ ws) (n ∷ ns) (b ∷ bs) = values_line a row w n b ++ rows_lines a rows ws ns bs
 rows_lines a _ _ _ _ = []

@@ -10,7 +10,7 @@ use Rattle.tx_trees.specs.declared.parts.Tree.{Tree}
 use Rattle.tx_trees.specs.declared.parts.TreeKind.{TreeKind}
 use Rattle.tx_trees.specs.declared.parts.TreeKind.TheVariants.{Update, Read, Strict}
 use Rattle.board_model.specs.Carried.{IsCarried}
-use Rattle.board_model.specs.Histories.{version_of}
+use Rattle.board_rules.specs.Histories.{version_of}
 use Rattle.board_model.specs.declared.serial.Member.{Member}
 use Rattle.board_model.specs.declared.standings.Standing.{Standing}
 use Rattle.report_text.specs.declared.served.Served.{Served}
@@ -47,14 +47,14 @@ values_at s h None ks = []
 values_at s h (Some v) ks = gets_text s h v.0 ks
 
 -- what tree t shows at its version
-abbrev pub values_of : ScriptData → List Entry → ℕ → List ℕ
-values_of s h t = values_at s h (version_of h t) (subs_at s t)
+abbrev pub values_of_tree : ScriptData → List Entry → ℕ → List ℕ
+values_of_tree s h t = values_at s h (version_of h t) (subs_at s t)
 
 -- what the first n that were asked for show stands by tree number
 abbrev pub AreTold : ScriptData → List Entry → List Member → ℕ → List (List ℕ) → Type 0
 AreTold s h asks n texts =
     (i : ℕ) (d : Member) → i < n
-    → slice_get texts (slice_index_or asks i d).tree.0 ≡ Some (values_of s h (slice_index_or asks i d).tree.0)
+    → slice_get texts (slice_index_or asks i d).tree.0 ≡ Some (values_of_tree s h (slice_index_or asks i d).tree.0)
 
 -- so many were asked for, the others are of the version that was reached or of later ones
 pub record IsServed (s : ScriptData) (h : List Entry) (serial asks : List Member) (texts : List (List ℕ))

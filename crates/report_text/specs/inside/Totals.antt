@@ -14,5 +14,5 @@ kind_total kind [] ws = pos 0
 kind_total kind _ _ = pos 0
 
 -- the number of each value keeps to the bound
-abbrev pub AreSmall : List Value → Type 0
-AreSmall ws = AllByRecursion (λ (w : Value). unsigned_abs (number_of w) ≤ MOST_AMOUNT) ws
+abbrev pub AreAmounts : List Value → Type 0
+AreAmounts ws = AllByRecursion (λ (w : Value). unsigned_abs (number_of w) ≤ MOST_AMOUNT) ws

@@ -10,8 +10,8 @@ use Rattle.tx_trees.specs.declared.parts.ScriptRow.TheVariants as rows
 use Rattle.tx_trees.specs.declared.parts.Sub.{Sub}
 use Rattle.tx_trees.specs.declared.parts.Tree.{Tree}
 use Rattle.tx_trees.specs.declared.parts.TreeKind.{TreeKind}
-use Rattle.script_gen.specs.Draws.{after_draws, given}
-use Rattle.tv_base.specs.Draws.{next_draw}
+use Rattle.script_gen.specs.Draws.{after_draws}
+use Rattle.tv_base.specs.Draws.{next_draw, upper_bits}
 use Rattle.script_gen.specs.Generated.{amount_by, deed_by, home_by, item_by, items_up_to, kind_by, node_by, own_draw, parent_by, rows_up_to, subs_up_to, tree_name, trees_up_to}
 
 -- the first n items
@@ -36,7 +36,7 @@ pub record HasTrees (seed j : ℕ) (s : ScriptData) : Type 0 where
   pub picks : s.picks ≡ []
 
 -- the script, which has j trees, has room for one more
-pub record HasRoom (j : ℕ) (s : ScriptData) : Type 0 where
+pub record HasRoomForTree (j : ℕ) (s : ScriptData) : Type 0 where
   pub form : s.form ≡ forms.One
   pub nodes : s.nodes ≡ 4
   pub items : s.items ≡ items_up_to 32
@@ -59,7 +59,7 @@ bare_tree j x n = record {
   name = tree_name j;
   kind = kind_by (own_draw x);
   subs = subs_up_to (kind_by (own_draw x)) (home_by (own_draw x)) (next_draw x) n
-      ++ bare_sub (home_by (own_draw x)) n (given (after_draws (suc n) (next_draw x))) ∷ [];
+      ++ bare_sub (home_by (own_draw x)) n (upper_bits (after_draws (suc n) (next_draw x))) ∷ [];
   written = None;
 }
 
@@ -85,5 +85,5 @@ pub record Follows (s t : ScriptData) (more : List ScriptRow) : Type 0 where
   pub picks : t.picks ≡ s.picks
 
 -- all trees are waited for, and then one more advancement
-abbrev pub with_end : ScriptData → ScriptData
-with_end s = with_row (with_row (with_row s rows.Settle) rows.Advance) rows.Settle
+abbrev pub with_last_rows : ScriptData → ScriptData
+with_last_rows s = with_row (with_row (with_row s rows.Settle) rows.Advance) rows.Settle

@@ -14,10 +14,10 @@ Makes made (Err (refusals.Why w)) = made ≡ Err w
 Makes made (Err refusals.NoMemory) = ⊤
 
 -- what the first record made: a script, or, where it names the second form, none yet
-abbrev pub Begins : Result (Option ScriptData) Why → Result (Option ScriptData) Refusal → Type 0
-Begins begun (Ok s) = begun ≡ Ok s
-Begins begun (Err (refusals.Why w)) = begun ≡ Err w
-Begins begun (Err refusals.NoMemory) = ⊤
+abbrev pub HasBegunWith : Result (Option ScriptData) Why → Result (Option ScriptData) Refusal → Type 0
+HasBegunWith begun (Ok s) = begun ≡ Ok s
+HasBegunWith begun (Err (refusals.Why w)) = begun ≡ Err w
+HasBegunWith begun (Err refusals.NoMemory) = ⊤
 
 -- what a call made of a script that it was lent, or why it did not
 abbrev pub Leaves : {T : Type 0} → Result ScriptData Why → Result T Refusal → ScriptData → Type 0

@@ -1,6 +1,6 @@
 use Rattle.std.proofs.Common.{◌≡◌, ◌≤◌, length, ap, arith, length-append}
 use Rattle.item_versions.specs.declared.item.TheConstants.{MOST_VERSIONS}
-use Rattle.item_versions.specs.inside.InPlace.{raised}
+use Rattle.item_versions.specs.inside.InPlace.{raised_from}
 use Rattle.item_versions.specs.Item.{Held, above}
 use Rattle.item_versions.proofs.Rooms.{places_enough, length-raised}
 use Rattle.item_versions.proofs.item.touch_places.Goals as goal
@@ -22,9 +22,9 @@ put_from-requires-clause-room c =
     let few : length xs ≤ MOST_VERSIONS = omega (arith, c.as_slice.ensures.fits, ap length c.as_slice.ensures.value) in
     let room = places_enough c.args.v xs c.requires.room few in
     let long = length-raised c.args.v c.args.op.now xs c.requires.held in
-    let same : length (raised c.args.v c.args.op.now c.as_slice.result.now)
-    ≡ length (raised c.args.v c.args.op.now xs) =
-    ap (λ (ys : Held). length (raised c.args.v c.args.op.now ys)) c.as_slice.ensures.value in
+    let same : length (raised_from c.args.v c.args.op.now c.as_slice.result.now)
+    ≡ length (raised_from c.args.v c.args.op.now xs) =
+    ap (λ (ys : Held). length (raised_from c.args.v c.args.op.now ys)) c.as_slice.ensures.value in
     let made = ap length c.in_ok-push_raised.ensures.ok in
-    let joined = length-append c.new-raised.result.items (raised c.args.v c.args.op.now c.as_slice.result.now) in
+    let joined = length-append c.new-raised.result.items (raised_from c.args.v c.args.op.now c.as_slice.result.now) in
     omega (arith, ap length c.new-raised.ensures, made, joined, same, long, room)

@@ -7,7 +7,7 @@ use Rattle.tx_trees.specs.ScriptData.{ScriptData}
 use Rattle.tx_trees.specs.declared.parts.ItemRow.{ItemRow}
 use Rattle.board_model.specs.Balances.{worths}
 use Rattle.report_text.specs.Summary.{kind_worth}
-use Rattle.report_text.specs.inside.Totals.{AreSmall, kind_total}
+use Rattle.report_text.specs.inside.Totals.{AreAmounts, kind_total}
 use Rattle.report_text.proofs.ItemLines.{length-worths}
 use Rattle.report_text.proofs.SmallWorths.{total_all, worths_small}
 use Rattle.report_text.proofs.run_summary.totals_at.Goals as goal
@@ -20,7 +20,7 @@ totals_of-totals-requires-clause-each c =
 
 pub totals_of-totals-requires-clause-small : goal.totals_of-totals-requires-clause-small
 totals_of-totals-requires-clause-small c =
-    subst AreSmall (sym (c.items-balances.ensures.items ∙ c.in_ok-values.ensures))
+    subst AreAmounts (sym (c.items-balances.ensures.items ∙ c.in_ok-values.ensures))
     (worths_small c.args.script.now c.args.history.now c.args.version.0 c.items-rows.ensures.valid)
 
 -- the total by what the code has is that of the summary

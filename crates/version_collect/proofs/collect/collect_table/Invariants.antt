@@ -1,5 +1,5 @@
 use Rattle.std.proofs.Common.{◌≡◌, ◌++◌, take, drop}
-use Rattle.version_collect.specs.Collecting.{collected_all}
+use Rattle.item_versions.specs.Collecting.{collected_all}
 use Rattle.version_collect.proofs.collect.collect_table.Given as goal
 
 -- the items up to this place are collected

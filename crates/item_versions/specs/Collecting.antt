@@ -21,8 +21,8 @@ abbrev pub collected_all : Version → Table → Table
 collected_all f t = map (λ e. (e.0, collected f e.1)) t
 
 -- what is seen of each item at version v
-abbrev pub seen_in : Version → Table → List (ItemNo × Option Value)
-seen_in v t = map (λ e. (e.0, seen v e.1)) t
+abbrev pub items_seen_in : Version → Table → List (ItemNo × Option Value)
+items_seen_in v t = map (λ e. (e.0, seen v e.1)) t
 
 -- the numbers of the items
 abbrev pub numbers_in : Table → List ItemNo
