@@ -45,9 +45,9 @@ drop_id id [] = []
 drop_id id (l ∷ ls) = if same_id id l.id then ls else l ∷ drop_id id ls
 
 -- the letters under way after a past, which has the newest entry first: in order of id, from Go on
-abbrev pub waiting : ℕ → List Entry → List Letter
-waiting client [] = go client ∷ []
-waiting client (e ∷ past) = drop_id e.took.id (waiting client past) ++ letters_of e
+abbrev pub waiting_after : ℕ → List Entry → List Letter
+waiting_after client [] = go client ∷ []
+waiting_after client (e ∷ past) = drop_id e.took.id (waiting_after client past) ++ letters_of e
 
 -- the entries of one actor, in order
 abbrev pub own : ℕ → List Entry → List Entry

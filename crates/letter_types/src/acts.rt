@@ -72,6 +72,18 @@ pub enum Act {
 /// Acts in order.
 pub type Acts = Seq<Act, 0xffff_ffff>;
 
+/// An equal list of acts, with room for just its length.
+pub fn copy_acts(alloc: Global, acts: &Acts) -> Result<Acts, NoMemory>
+    ensures { IfOk result (λ copy. copy ≡ acts.now) }
+{
+    let items = acts.items();
+    let mut copy = Vec::with_capacity(alloc, items.len())?;
+    for act in items {
+        copy.push(act.copy(alloc)?)?;
+    }
+    Ok(Acts::from_vec(copy))
+}
+
 impl Act {
     /// An equal act.
     pub fn copy(&self, alloc: Global) -> Result<Act, NoMemory>

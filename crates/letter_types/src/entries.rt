@@ -1,10 +1,10 @@
 // Letters, the steps that send them, and the entries that keep them.
-ghost use Rattle.std.specs.Prelude.{◌≡◌, []};
+ghost use Rattle.std.specs.Prelude.{◌≡◌, [], ◌∷◌, IfOk};
 
-use crate::acts::Acts;
+use crate::acts::{Acts, copy_acts};
 use crate::bodies::Body;
 use std::alloc::Global;
-use tv_base::{ActorNo, Seq, Stamp};
+use tv_base::{ActorNo, NoMemory, Seq, Stamp};
 
 /// A letter's identity: the stamp of the entry that sent it, and its place there from 0. Go has stamp 0 and place 0.
 #[derive(Clone, Copy, Debug, PartialEq, Eq)]
@@ -46,9 +46,43 @@ pub struct Step {
     pub kept: StepOut,
 }
 
+/// One letter of this body to an actor.
+pub fn one_letter(alloc: Global, to: ActorNo, body: Body) -> Result<Letters, NoMemory>
+    ensures { IfOk result (λ letters. letters ≡ record { to = to; body = body } ∷ []) }
+{
+    let mut letters = Letters::new(alloc);
+    letters.push(Outgoing { to, body })?;
+    Ok(letters)
+}
+
+/// An equal list of letters, with room for just its length.
+pub fn copy_letters(alloc: Global, letters: &Letters) -> Result<Letters, NoMemory>
+    ensures { IfOk result (λ copy. copy ≡ letters.now) }
+{
+    let items = letters.items();
+    let mut copy = Vec::with_capacity(alloc, items.len())?;
+    for letter in items {
+        let body = letter.body.copy(alloc)?;
+        copy.push(Outgoing {
+            to: letter.to,
+            body,
+        })?;
+    }
+    Ok(Letters::from_vec(copy))
+}
+
 impl StepOut {
+    /// An equal one.
+    pub fn copy(&self, alloc: Global) -> Result<StepOut, NoMemory>
+        ensures { IfOk result (λ copy. copy ≡ self.now) }
+    {
+        let sent = copy_letters(alloc, &self.sent)?;
+        let acts = copy_acts(alloc, &self.acts)?;
+        Ok(StepOut { sent, acts })
+    }
+
     /// Nothing is sent, and nothing is done.
-    fn still(alloc: Global) -> StepOut
+    pub fn still(alloc: Global) -> StepOut
         ensures sent { result.sent ≡ [] }
         ensures acts { result.acts ≡ [] }
     {

@@ -6,7 +6,10 @@ mod bodies;
 mod entries;
 mod votes;
 
-pub use acts::{Act, Acts};
+pub use acts::{Act, Acts, copy_acts};
 pub use bodies::{Answer, Body, Notice, Row, What, copy_row};
-pub use entries::{Entry, History, Letter, LetterId, Letters, Outgoing, Posting, Step, StepOut};
+pub use entries::{
+    Entry, History, Letter, LetterId, Letters, Outgoing, Posting, Step, StepOut, copy_letters,
+    one_letter,
+};
 pub use votes::{Cause, Vote};

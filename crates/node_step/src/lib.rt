@@ -1,7 +1,6 @@
-//! What a node does with a letter.
+//! What a node does with the coordinator's letters.
 #![tactic(auto)]
 
-mod node;
 mod orders;
 
-pub use node::step_node;
+pub use orders::{prepare_asked, prepare_done, prepare_show, prepare_sweep, prepare_turn};

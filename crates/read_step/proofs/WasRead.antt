@@ -18,14 +18,14 @@ use Rattle.tree_step.specs.declared.node.NodeParts.{NodeParts}
 use Rattle.tx_trees.specs.ScriptData.{ScriptData}
 use Rattle.tx_trees.specs.declared.parts.SubOp.{SubOp}
 use Rattle.tree_step.specs.Node.{Effect, Node, data_of, state_of}
-use Rattle.tree_step.specs.Asked.{asked_ops, asked_version, tree_done}
-use Rattle.read_step.specs.Rows.{can_get, can_read, getting, row_if_made}
+use Rattle.world_model.specs.Asked.{asked_ops, asked_version, tree_done}
+use Rattle.read_step.specs.Rows.{can_get, can_read, getting, read_if_made}
 
 pub was_read : (s : ScriptData) (p from : ℕ) (body : Body) (st : Node) (v : Version) (ops : List SubOp) (e : Effect)
     (out : Out Node)
     → v ≡ asked_version st.turns.read body → ops ≡ asked_ops s body → true ≡ can_get v ops st.items
     → e ≡ getting v ops st.items → out ≡ tree_done s p from v false e body st
-    → out ≡ row_if_made s p st from body
+    → out ≡ read_if_made s p st from body
 was_read s p from body st v ops e out at asked can got done =
     let may : can_read s st body ≡ true =
     sym (can ∙ ap (λ (os : List SubOp). can_get v os st.items) asked
@@ -89,7 +89,7 @@ pub read_face : (s : ScriptData) (p from : ℕ) (body : Body) (turns : Turns) (i
     → record { items = pending staged items; values = values } ≡ getting v ops items
     → IfOk r (λ step. made (data_of after) step.given ≡ tree_done s p from v false
     (record { items = pending staged []; values = values }) body (data_of (state_of turns [] counters homes)))
-    → IfOk r (λ step. made (data_of (state_of turns items after.counters after.homes)) step.given ≡ row_if_made s p
+    → IfOk r (λ step. made (data_of (state_of turns items after.counters after.homes)) step.given ≡ read_if_made s p
     (data_of (state_of turns items counters homes)) from body)
 read_face s p from body turns items counters homes v ops staged values after (Ok step) at asked can got row =
     was_read s p from body (data_of (state_of turns items counters homes)) v ops

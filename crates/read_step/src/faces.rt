@@ -1,8 +1,12 @@
-ghost use Rattle.std.specs.Prelude.{◌≡◌, IfOk, IsTrue, OnErr, OnOk};
+ghost use Rattle.std.specs.Prelude.{◌≡◌, false, IfOk, IsTrue, OnErr, OnOk};
+ghost use Rattle.item_versions.specs.Table.{pending};
+ghost use Rattle.item_versions.specs.Window.{in_window, IsWindowedTable};
 ghost use Rattle.letter_types.specs.Steps.{made};
+ghost use Rattle.world_model.specs.Asked.{tree_done};
+ghost use Rattle.tree_step.specs.Changes.{IsDoneTwice};
 ghost use Rattle.tree_step.specs.Due.{is_due};
-ghost use Rattle.tree_step.specs.Node.{data_of, IsInWindow, IsOf, IsReady, state_of};
-ghost use Rattle.read_step.specs.Rows.{row_if_made};
+ghost use Rattle.tree_step.specs.Node.{data_of, effect_on, IsInWindow, IsOf, IsReady, state_of};
+ghost use Rattle.read_step.specs.Rows.{read_if_made};
 
 use crate::steps::get_all;
 use item_versions::ItemTable;
@@ -12,9 +16,34 @@ use pair_counters::Counters;
 use std::alloc::Global;
 use std::mem;
 use tree_home::Homes;
-use tree_step::{NodeParts, asked_ops, asked_version, do_tree};
-use tv_base::NoMemory;
+use tree_step::{Effect, InVersion, NodeParts, asked_ops, asked_version, done_twice, prepare_tree};
+use tv_base::{NoMemory, Version};
 use tx_trees::Script;
+
+/// Prepares the subtransaction that a letter asks for and does it. Want of memory leaves the node as it was.
+fn step_read(
+    alloc: Global,
+    node: &mut NodeParts,
+    letter: &Letter,
+    script: &Script,
+    version: Version,
+    effect: Effect,
+) -> Result<Step, NoMemory>
+    requires ready { IsReady script.now letter.now.to.0 node.old }
+    requires due { IsTrue (is_due script.now letter.now.to.0 (data_of node.old) letter.now.from.0 letter.now.body) }
+    requires near { IsTrue (in_window node.old.turns.low.0 version.0) }
+    requires fits { IsWindowedTable node.old.turns.low.0 (pending effect.staged node.old.items) }
+    ensures { IsDoneTwice (tree_done script.now letter.now.to.0 letter.now.from.0 version false
+        (effect_on node.old.items effect) letter.now.body (data_of node.old)) node.old node.new result }
+{
+    let within = InVersion {
+        version,
+        raises: false,
+    };
+    let prepared = prepare_tree(alloc, node, letter, script, within, effect)?;
+    let step = done_twice(alloc, node, prepared)?;
+    Ok(step)
+}
 
 /// The same over a node's parts, of which the turns and the items stay.
 pub fn run_read(
@@ -32,7 +61,7 @@ pub fn run_read(
         (data_of (state_of turns.now items.now counters.old homes.old)) letter.now.from.0 letter.now.body) }
     // What is made.
     ensures row { IfOk result (λ step. made (data_of (state_of turns.now items.now counters.new homes.new)) step.given
-        ≡ row_if_made script.now letter.now.to.0 (data_of (state_of turns.now items.now counters.old homes.old))
+        ≡ read_if_made script.now letter.now.to.0 (data_of (state_of turns.now items.now counters.old homes.old))
         letter.now.from.0 letter.now.body) }
     ensures kept { IfOk result (λ step. step.kept ≡ step.given) }
     // What stays, and what want of memory leaves.
@@ -51,7 +80,7 @@ pub fn run_read(
         counters: mem::replace(counters, Counters::new(0)),
         homes: mem::replace(homes, Homes::new(alloc)),
     };
-    let step = do_tree(alloc, &mut node, letter, script, version, false, effect);
+    let step = step_read(alloc, &mut node, letter, script, version, effect);
     *counters = node.counters;
     *homes = node.homes;
     step

@@ -1,15 +1,15 @@
-ghost use Rattle.std.specs.Prelude.{◌≡◌, [], is_some, IfOk, IfSome, IsTrue, OnErr, OnOk};
+ghost use Rattle.std.specs.Prelude.{◌≡◌, [], is_some, IfOk, IfSome, IsTrue};
 ghost use Rattle.std.specs.Option.{option_copied};
-ghost use Rattle.letter_types.specs.Steps.{made};
+ghost use Rattle.tree_step.specs.Changes.{IsNodeStepOf};
 ghost use Rattle.tree_step.specs.Due.{is_due};
-ghost use Rattle.tree_step.specs.Node.{data_of, effect_on, IsInWindow, IsOf, IsReady};
-ghost use Rattle.read_step.specs.Rows.{can_get, getting, got_by_deed, row_if_made};
+ghost use Rattle.tree_step.specs.Node.{data_of, effect_on, IsReady};
+ghost use Rattle.read_step.specs.Rows.{can_get, getting, got_by_deed, read_if_made};
 
 use commute_ops::{Value, Values};
 use item_versions::{ItemTable, Staged};
-use letter_types::{Letter, Step};
+use letter_types::Letter;
 use std::alloc::Global;
-use tree_step::{Effect, NodeParts, asked_ops, asked_version, do_tree};
+use tree_step::{Effect, InVersion, NodeParts, Prepared, asked_ops, asked_version, prepare_tree};
 use tv_base::{NoMemory, Version};
 use tx_trees::{Deed, Script, SubOp};
 
@@ -51,30 +51,27 @@ pub(crate) fn get_all(
     }))
 }
 
-/// What a node does with a letter that asks it for a subtransaction of a read tree (docs/ALGORITHM.md, "Nodes"). A
-/// letter whose operations may not be made changes and sends nothing. Want of memory leaves the node as it was.
-pub fn do_read(
+/// Prepares what a node does with a letter that asks it for a subtransaction of a read tree (docs/ALGORITHM.md,
+/// "Nodes"). A letter whose operations may not be made changes and sends nothing.
+pub fn prepare_read(
     alloc: Global,
-    node: &mut NodeParts,
+    node: &NodeParts,
     letter: &Letter,
     script: &Script,
-) -> Result<Step, NoMemory>
-    // What the caller knows.
-    requires ready { IsReady script.now letter.now.to.0 node.old }
-    requires due { IsTrue (is_due script.now letter.now.to.0 (data_of node.old) letter.now.from.0 letter.now.body) }
-    // What is made.
-    ensures row { IfOk result (λ step. made (data_of node.new) step.given
-        ≡ row_if_made script.now letter.now.to.0 (data_of node.old) letter.now.from.0 letter.now.body) }
-    ensures kept { IfOk result (λ step. step.kept ≡ step.given) }
-    // What stays, and what want of memory leaves.
-    ensures script { OnOk result (IsOf script.now node.new) }
-    ensures window { OnOk result (IsInWindow node.new) }
-    ensures err { OnErr result (node.new ≡ node.old) }
+) -> Result<Prepared, NoMemory>
+    requires ready { IsReady script.now letter.now.to.0 node.now }
+    requires due { IsTrue (is_due script.now letter.now.to.0 (data_of node.now) letter.now.from.0 letter.now.body) }
+    ensures { IfOk result (IsNodeStepOf
+        (read_if_made script.now letter.now.to.0 (data_of node.now) letter.now.from.0 letter.now.body) node.now) }
 {
     let version = asked_version(letter, node.turns.read);
     let Some(effect) = get_all(alloc, &node.items, version, asked_ops(letter, script))? else {
-        return Ok(Step::still(alloc));
+        return Ok(Prepared::still(alloc));
     };
-    let step = do_tree(alloc, node, letter, script, version, false, effect)?;
-    Ok(step)
+    let within = InVersion {
+        version,
+        raises: false,
+    };
+    let prepared = prepare_tree(alloc, node, letter, script, within, effect)?;
+    Ok(prepared)
 }

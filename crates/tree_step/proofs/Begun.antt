@@ -6,12 +6,12 @@ use Rattle.std.proofs.lemmas.List.{append-nil}
 use Rattle.tv_base.specs.declared.numbers.SubNo.{SubNo}
 use Rattle.tv_base.specs.declared.numbers.TreeNo.{TreeNo}
 use Rattle.tv_base.specs.declared.numbers.Version.{Version}
-use Rattle.tree_home.specs.Homes.{Gets, OpenTrees, after_notice, answer_in, answer_of, answer_with, begun, gathered, home_in, misses, missing_in, new_tree, noted, told}
+use Rattle.tree_home.specs.Homes.{Gets, OpenTrees, after_notice, answer_in, answer_of, answer_with, begun, gathered, misses, missing_in, new_tree, noted, told}
 use Rattle.tree_home.specs.declared.homes.Answered.{Answered}
 use Rattle.tree_home.specs.declared.homes.OpenTree.{OpenTree}
-use Rattle.tree_step.specs.Notices.{answer_noted, homes_noted}
+use Rattle.world_model.specs.Notices.{answer_noted, homes_noted}
 use Rattle.tree_step.specs.inside.Opening.{root_answer}
-use Rattle.tree_home.proofs.Always.{all-missing, misses-begun, begun-there, forgotten-begun}
+use Rattle.tree_home.proofs.Always.{all-missing, misses-begun, begun-there}
 
 abbrev root_no : SubNo
 root_no = record { 0 = 0 }
@@ -63,15 +63,6 @@ noted_root t n v values hs o some is =
     let answer = answer_begun t n v values hs some ∙ is in
     rw missed (ap (λ (a : Option Answered). after_notice t root_no values (begun t n v hs)
     (told (missing_in t (noted t root_no values (begun t n v hs))) a)) answer)
-
--- a tree of one subtransaction is answered, and the open trees are as before
-pub answered_at_once : (t : TreeNo) (n : ℕ) (v : Version) (values : Gets) (hs : OpenTrees) → n ≡ 1 → home_in t hs ≡ None
-    → hs ≡ homes_noted t (record { 0 = 0 }) values (begun t n v hs)
-answered_at_once t n v values hs one absent =
-    let some : 0 < n = omega arith in
-    let answered : root_answer n t v values ≡ Some (record { tree = t; version = v; values = values }) = rw one refl in
-    sym (noted_root t n v values hs (Some (record { tree = t; version = v; values = values })) some answered
-    ∙ forgotten-begun t n v hs absent)
 
 -- one of more misses the others
 no_answer : (n : ℕ) (t : TreeNo) (v : Version) (values : Gets) → 1 < n → root_answer n t v values ≡ None

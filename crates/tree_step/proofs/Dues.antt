@@ -8,7 +8,7 @@ use Rattle.letter_types.specs.declared.bodies.Body.{Body}
 use Rattle.letter_types.specs.declared.bodies.Body.TheVariants.{Sub as SubLetter}
 use Rattle.tx_trees.specs.ScriptData.{ScriptData, node_of}
 use Rattle.tree_step.specs.Node.{Node}
-use Rattle.tree_step.specs.Asked.{asked_version}
+use Rattle.world_model.specs.Asked.{asked_version}
 use Rattle.tree_step.specs.Due.{is_due}
 
 -- where the version that a root takes is near, so is the one that the letter asks for

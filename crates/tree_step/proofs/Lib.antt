@@ -1,9 +1,8 @@
 pub mod Sends
-pub mod Requests
-pub mod Addressed
 pub mod Begun
 pub mod Made
 pub mod Rooted
 pub mod Noted
 pub mod Dues
 pub mod KindsAt
+pub mod Ordered

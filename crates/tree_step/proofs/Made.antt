@@ -1,25 +1,39 @@
--- A step by its parts is the row.
-use Rattle.std.proofs.Common.{◌≡◌, ℕ, Bool, List, [], ◌∷◌, ◌++◌, length, ap, ◌∙◌, Option}
-use Rattle.item_versions.specs.Table.{Table}
+-- A step that was prepared, by its parts, is the row, and it may be counted.
+use Rattle.std.proofs.Common.{◌≡◌, ℕ, ◌+◌, ◌<◌, ◌≤◌, Bool, true, false, List, [], ◌∷◌, ◌++◌, length, take, ap, sym, subst, ◌∙◌, Option, arith}
+use Rattle.std.specs.Prelude.{All}
+use Rattle.std.proofs.Math.Seq.{take-append_seam, take-length}
+use Rattle.std.proofs.lemmas.List.{length-append}
+use Rattle.tv_base.specs.declared.numbers.NodeNo.{NodeNo}
+use Rattle.tv_base.specs.declared.numbers.SubNo.{SubNo}
+use Rattle.tv_base.specs.declared.numbers.Version.{Version}
+use Rattle.item_versions.specs.Window.{in_window}
+use Rattle.item_versions.proofs.Window.{in_window-low, in_window-high}
+use Rattle.tree_home.specs.Homes.{Gets}
+use Rattle.tree_step.specs.Changes.{home_after, MayCount, prepared_row}
+use Rattle.tree_step.specs.declared.change.Change.TheVariants.{Tree}
+use Rattle.tree_step.specs.declared.change.HomeChange.{HomeChange}
+use Rattle.tree_step.specs.declared.change.HomeChange.TheVariants.{Stay}
+use Rattle.tree_step.specs.inside.Noting.{noting}
+use Rattle.tree_step.specs.inside.Sent.{MOST_SENT}
+use Rattle.item_versions.specs.Table.{Table, pending}
 use Rattle.node_versions.specs.declared.turns.Turns.{Turns}
-use Rattle.pair_counters.specs.Rows.{CounterRows, counts_of}
-use Rattle.pair_counters.specs.Numbers.{Numbers}
+use Rattle.pair_counters.specs.Rows.{counts_of}
+use Rattle.pair_counters.specs.Numbers.{Numbers, done_one}
 use Rattle.tv_base.specs.declared.numbers.TreeNo.{TreeNo}
 use Rattle.tree_home.specs.Homes.{OpenTrees, begun, trees_of}
 use Rattle.tree_home.specs.declared.homes.Answered.{Answered}
-use Rattle.tree_home.specs.declared.homes.OpenTree.{OpenTree}
 use Rattle.tx_trees.specs.ScriptData.{ScriptData, client_of, subs_at, home_of}
 use Rattle.tx_trees.specs.declared.parts.Sub.{Sub}
 use Rattle.letter_types.specs.declared.acts.Act.{Act}
 use Rattle.letter_types.specs.declared.acts.Act.TheVariants.{Born, Did}
 use Rattle.letter_types.specs.declared.entries.Outgoing.{Outgoing}
 use Rattle.letter_types.specs.declared.entries.StepOut.{StepOut}
-use Rattle.letter_types.specs.Steps.{Out, made}
-use Rattle.tree_step.specs.Node.{Effect, Node, data_of, node_with}
+use Rattle.letter_types.specs.Steps.{Out}
+use Rattle.tree_step.specs.Node.{Node, IsReady, data_of}
 use Rattle.tree_step.specs.declared.node.NodeParts.{NodeParts}
-use Rattle.tree_step.specs.Children.{sub_letters, done_letter}
-use Rattle.tree_step.specs.Notices.{homes_noted, answer_noted, reply_letters}
-use Rattle.tree_step.specs.Done.{counted_root, counted_sub, raised_if, root_done, sub_done, sub_sent, turned_if}
+use Rattle.world_model.specs.Children.{sub_letters, done_letter}
+use Rattle.world_model.specs.Notices.{homes_noted, answer_noted, reply_letters}
+use Rattle.world_model.specs.Done.{counted_root, counted_sub, note_done, raised_if, root_done, sub_done, sub_sent, turned_if}
 
 -- a node with its numbers and homes, and what goes out
 abbrev out_of : Turns → Table → Numbers → OpenTrees → List Outgoing → List Act → Out Node
@@ -31,43 +45,99 @@ out_of turns items numbers homes sent acts =
           acts;
     }
 
--- a root by its parts
-pub root_made : (s : ScriptData) (p t v client : ℕ) (e : Effect) (answer : Option Answered) (more : Table)
-    (st : NodeParts) (next : CounterRows)
-    (after : List (TreeNo × OpenTree)) (out : StepOut) (xs : List Sub)
-    → xs ≡ subs_at s t → client ≡ client_of s → more ≡ e.items
-    → (counts_of next).numbers ≡ counted_root v p (sub_letters t v 0 0 xs) (counts_of st.counters).numbers
-    → trees_of after ≡ homes_noted (record { 0 = t }) (record { 0 = 0 }) e.values
-    (begun (record { 0 = t }) (length xs) (record { 0 = v }) (trees_of st.homes))
-    → answer ≡ answer_noted (record { 0 = t }) (record { 0 = 0 }) e.values
-    (begun (record { 0 = t }) (length xs) (record { 0 = v }) (trees_of st.homes))
-    → out.sent ≡ sub_letters t v 0 0 xs ++ reply_letters client answer
-    → out.acts ≡ Born (record { 0 = t }) (record { 0 = v }) ∷ Did (record { 0 = t }) (record { 0 = 0 }) e.values ∷ []
-    → made (node_with st.turns more next after) out ≡ root_done s p t v e (data_of st)
-root_made s p t v client e answer more st next after out xs is to put numbers homed told sent acts =
-    let n = numbers ∙ ap (λ (ys : List Sub). counted_root v p (sub_letters t v 0 0 ys)
-    (counts_of st.counters).numbers) is in
-    let h = homed ∙ ap (λ (ys : List Sub). homes_noted (record { 0 = t }) (record { 0 = 0 }) e.values
-    (begun (record { 0 = t }) (length ys) (record { 0 = v }) (trees_of st.homes))) is in
-    let a = told ∙ ap (λ (ys : List Sub). answer_noted (record { 0 = t }) (record { 0 = 0 }) e.values
-    (begun (record { 0 = t }) (length ys) (record { 0 = v }) (trees_of st.homes))) is in
-    let o = sent ∙ ap (λ (ys : List Sub). sub_letters t v 0 0 ys ++ reply_letters client answer) is
-    ∙ ap (λ (c : ℕ). sub_letters t v 0 0 (subs_at s t) ++ reply_letters c answer) to
-    ∙ ap (λ (b : Option Answered). sub_letters t v 0 0 (subs_at s t) ++ reply_letters (client_of s) b) a in
-    λ i. out_of st.turns (put i) (n i) (h i) (o i) (acts i)
+-- the requests among the letters of a step
+pub first_requests : (n : ℕ) (os asked more : List Outgoing) → os ≡ asked ++ more → n ≡ length asked → take n os ≡ asked
+first_requests n os asked more is count = rw (is, count) (take-append_seam asked more)
 
--- another subtransaction by its parts
-pub sub_made : (s : ScriptData) (q home t k v : ℕ) (raises : Bool) (e : Effect) (after : Turns) (more : Table)
-    (st : NodeParts) (next : CounterRows) (out : StepOut) (xs : List Sub)
-    → xs ≡ subs_at s t → home ≡ home_of s t → after ≡ raised_if raises v st.turns → more ≡ e.items
-    → (counts_of next).numbers ≡ counted_sub v q out.sent (counts_of st.counters).numbers
-    → out.sent ≡ sub_letters t v k 0 xs ++ done_letter home t k v e.values ∷ []
-    → out.acts ≡ turned_if raises v ++ Did (record { 0 = t }) (record { 0 = k }) e.values ∷ []
-    → made (node_with after more next st.homes) out ≡ sub_done s q t k v raises e (data_of st)
-sub_made s q home t k v raises e after more st next out xs is at turned put numbers sent acts =
-    let o : out.sent ≡ sub_sent s t k v e.values =
-    sent ∙ ap (λ (ys : List Sub). sub_letters t v k 0 ys ++ done_letter home t k v e.values ∷ []) is
-    ∙ ap (λ (h : ℕ). sub_letters t v k 0 (subs_at s t) ++ done_letter h t k v e.values ∷ []) at in
-    let n : (counts_of next).numbers ≡ counted_sub v q (sub_sent s t k v e.values) (counts_of st.counters).numbers =
-    numbers ∙ ap (λ (os : List Outgoing). counted_sub v q os (counts_of st.counters).numbers) o in
-    λ i. out_of (turned i) (put i) (n i) (trees_of st.homes) (o i) (acts i)
+pub all_requests : (n : ℕ) (os : List Outgoing) → n ≡ length os → take n os ≡ os
+all_requests n os count = rw count (take-length os)
+
+pub few_requests : (n : ℕ) (os asked more : List Outgoing) → os ≡ asked ++ more → n ≡ length asked → n ≤ length os
+few_requests n os asked more is count =
+    rw (is, count) (omega (arith, length-append asked more))
+
+-- a root that was prepared, by its parts
+pub root_ready : (s : ScriptData) (p : NodeNo) (t : TreeNo) (v : Version) (client n : ℕ) (values : Gets) (staged : Table)
+    (home : HomeChange) (answer : Option Answered) (st : NodeParts) (out : StepOut) (asked : List Outgoing)
+    (xs : List Sub)
+    → xs ≡ subs_at s t.0 → client ≡ client_of s → asked ≡ sub_letters t.0 v.0 0 0 xs → n ≡ length asked
+    → home_after home (trees_of st.homes)
+    ≡ homes_noted t (record { 0 = 0 }) values (begun t (length xs) v (trees_of st.homes))
+    → answer ≡ answer_noted t (record { 0 = 0 }) values (begun t (length xs) v (trees_of st.homes))
+    → out.sent ≡ asked ++ reply_letters client answer
+    → out.acts ≡ Born t v ∷ Did t (record { 0 = 0 }) values ∷ []
+    → prepared_row (record {
+      change = Tree (record {
+        raises = false;
+        staged = staged;
+        counting = record { version = v; root = true; from = p; asked = n };
+        home = home;
+      });
+      out = out;
+    }) (data_of st)
+    ≡ root_done s p.0 t.0 v.0 (record { items = pending staged st.items; values = values }) (data_of st)
+root_ready s p t v client n values staged home answer st out asked xs is to letters count homed told sent acts =
+    let own = letters ∙ ap (λ (ys : List Sub). sub_letters t.0 v.0 0 0 ys) is in
+    let numbers = ap (λ (os : List Outgoing). counted_root v.0 p.0 os (counts_of st.counters).numbers)
+    (first_requests n out.sent asked (reply_letters client answer) sent count ∙ own) in
+    let h = homed ∙ ap (λ (ys : List Sub). homes_noted t (record { 0 = 0 }) values
+    (begun t (length ys) v (trees_of st.homes))) is in
+    let a = told ∙ ap (λ (ys : List Sub). answer_noted t (record { 0 = 0 }) values
+    (begun t (length ys) v (trees_of st.homes))) is in
+    let o = sent ∙ ap (λ (ys : List Outgoing). ys ++ reply_letters client answer) own
+    ∙ ap (λ (c : ℕ). sub_letters t.0 v.0 0 0 (subs_at s t.0) ++ reply_letters c answer) to
+    ∙ ap (λ (b : Option Answered). sub_letters t.0 v.0 0 0 (subs_at s t.0) ++ reply_letters (client_of s) b) a in
+    λ i. out_of st.turns (pending staged st.items) (numbers i) (h i) (o i) (acts i)
+
+-- another subtransaction that was prepared, by its parts
+pub sub_ready : (s : ScriptData) (q : NodeNo) (t : TreeNo) (k : SubNo) (v : Version) (home n : ℕ) (raises : Bool)
+    (values : Gets) (staged : Table) (st : NodeParts) (out : StepOut) (xs : List Sub)
+    → xs ≡ subs_at s t.0 → home ≡ home_of s t.0 → n ≡ length out.sent
+    → out.sent ≡ sub_letters t.0 v.0 k.0 0 xs ++ done_letter home t.0 k.0 v.0 values ∷ []
+    → out.acts ≡ turned_if raises v.0 ++ Did t k values ∷ []
+    → prepared_row (record {
+      change = Tree (record {
+        raises = raises;
+        staged = staged;
+        counting = record { version = v; root = false; from = q; asked = n };
+        home = Stay;
+      });
+      out = out;
+    }) (data_of st)
+    ≡ sub_done s q.0 t.0 k.0 v.0 raises (record { items = pending staged st.items; values = values }) (data_of st)
+sub_ready s q t k v home n raises values staged st out xs is at count sent acts =
+    let o : out.sent ≡ sub_sent s t.0 k.0 v.0 values =
+    sent ∙ ap (λ (ys : List Sub). sub_letters t.0 v.0 k.0 0 ys ++ done_letter home t.0 k.0 v.0 values ∷ []) is
+    ∙ ap (λ (h : ℕ). sub_letters t.0 v.0 k.0 0 (subs_at s t.0) ++ done_letter h t.0 k.0 v.0 values ∷ []) at in
+    let numbers = ap (λ (os : List Outgoing). counted_sub v.0 q.0 os (counts_of st.counters).numbers)
+    (all_requests n out.sent count ∙ o) in
+    λ i. out_of (raised_if raises v.0 st.turns) (pending staged st.items) (numbers i) (trees_of st.homes) (o i) (acts i)
+
+-- a notice that was prepared, by its parts
+pub note_ready : (s : ScriptData) (q : NodeNo) (t : TreeNo) (k : SubNo) (v : Version) (client : ℕ) (values : Gets)
+    (st : NodeParts) (home : HomeChange) (answer : Option Answered) (out : StepOut)
+    → client ≡ client_of s
+    → home_after home (trees_of st.homes) ≡ homes_noted t k values (trees_of st.homes)
+    → answer ≡ answer_noted t k values (trees_of st.homes)
+    → out.sent ≡ reply_letters client answer → out.acts ≡ []
+    → prepared_row (noting q v home out) (data_of st) ≡ note_done s q.0 t.0 k.0 v.0 values (data_of st)
+note_ready s q t k v client values st home answer out to homed told sent acts =
+    let o = sent ∙ ap (λ (c : ℕ). reply_letters c answer) to
+    ∙ ap (λ (a : Option Answered). reply_letters (client_of s) a) told in
+    λ i. out_of st.turns st.items (done_one v.0 q.0 (counts_of st.counters).numbers) (homed i) (o i) (acts i)
+
+-- what was prepared may be counted
+pub may_count : (s : ScriptData) (n : NodeParts) (v : Version) (root : Bool) (from : NodeNo) (asked : ℕ)
+    (sent os : List Outgoing)
+    → IsReady s from.0 n → in_window n.turns.low.0 v.0 ≡ true → asked ≤ length sent → take asked sent ≡ os
+    → All (λ (o : Outgoing). o.to.0 < s.nodes) os → length os ≤ MOST_SENT
+    → MayCount (record { version = v; root = root; from = from; asked = asked }) sent (counts_of n.counters)
+may_count s n v root from asked sent os ready near le is all few = record {
+  from = subst (λ (l : ℕ). l ≤ v.0) (sym ready.window.counters) (in_window-low n.turns.low.0 v.0 near);
+  up_to = subst (λ (l : ℕ). v.0 ≤ l + 2) (sym ready.window.counters) (in_window-high n.turns.low.0 v.0 near);
+  node = subst (λ (k : ℕ). from.0 < k) (sym ready.script) ready.there;
+  there = le;
+  nodes = subst (λ (ys : List Outgoing). All (λ (o : Outgoing). o.to.0 < (counts_of n.counters).nodes) ys) (sym is)
+      (subst (λ (k : ℕ). All (λ (o : Outgoing). o.to.0 < k) os) (sym ready.script) all);
+  few = subst (λ (ys : List Outgoing). length ys ≤ MOST_SENT) (sym is) few;
+}

@@ -4,7 +4,7 @@ use Rattle.letter_types.specs.declared.bodies.Body.{Body}
 use Rattle.letter_types.specs.declared.bodies.Body.TheVariants.{Root, Sub as SubLetter, Done, Turn, Show, Sweep, AskDone, AskAsked}
 use Rattle.tx_trees.specs.ScriptData.{ScriptData}
 use Rattle.tree_step.specs.Node.{Node}
-use Rattle.tree_step.specs.Apt.{is_named, is_new, is_timely}
+use Rattle.world_model.specs.Named.{is_named, is_new, is_timely}
 
 -- the letters that have a row of their own
 abbrev pub has_row : Body → Bool

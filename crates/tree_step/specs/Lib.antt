@@ -1,8 +1,4 @@
 pub mod Node
-pub mod Children
-pub mod Notices
-pub mod Done
-pub mod Asked
-pub mod Apt
+pub mod Changes
 pub mod Due
 pub mod inside

@@ -1,23 +1,17 @@
--- What a node keeps.
+-- A node's parts, and what its table sees of them.
 use Rattle.std.specs.Prelude.{ℕ, ◌≡◌, ◌+◌, ◌<◌, ◌≤◌, List}
 use Rattle.tv_base.specs.declared.numbers.TreeNo.{TreeNo}
 use Rattle.item_versions.specs.Table.{Table, pending}
 use Rattle.item_versions.specs.Window.{IsWindowedTable}
 use Rattle.node_versions.specs.declared.turns.Turns.{Turns}
-use Rattle.pair_counters.specs.Numbers.{AllBelow, Numbers, MOST_COUNT}
+use Rattle.pair_counters.specs.Numbers.{AllBelow, MOST_COUNT}
 use Rattle.pair_counters.specs.Rows.{CounterRows, counts_of}
-use Rattle.tree_home.specs.Homes.{Gets, OpenTrees, trees_of}
+use Rattle.tree_home.specs.Homes.{trees_of}
 use Rattle.tree_home.specs.declared.homes.OpenTree.{OpenTree}
 use Rattle.tx_trees.specs.ScriptData.{ScriptData}
+pub use Rattle.world_model.specs.Node.{Effect, Node}
 use Rattle.tree_step.specs.declared.node.NodeParts.{NodeParts}
 use Rattle.tree_step.specs.declared.node.Effect.{Effect as Staging}
-
--- its versions, its items by number, its requests and completions, and the trees whose notices it gathers
-pub record Node : Type 0 where
-  pub turns : Turns
-  pub items : Table
-  pub counts : Numbers
-  pub homes : OpenTrees
 
 -- a node of these parts
 abbrev pub node_with : Turns → Table → CounterRows → List (TreeNo × OpenTree) → Node
@@ -49,10 +43,12 @@ pub record IsReady (s : ScriptData) (p : ℕ) (n : NodeParts) : Type 0 where
   pub small : AllBelow MOST_COUNT (counts_of n.counters).numbers
   pub window : IsInWindow n
 
--- what the operations of a subtransaction make: the items, and the values of gets
-pub record Effect : Type 0 where
-  pub items : Table
-  pub values : Gets
+-- this node is of the script and can take a step: its numbers are small enough to count on, and its versions are in
+-- their window
+pub record CanStep (s : ScriptData) (n : NodeParts) : Type 0 where
+  pub script : IsOf s n
+  pub small : AllBelow MOST_COUNT (counts_of n.counters).numbers
+  pub window : IsInWindow n
 
 -- what is staged, at these items
 abbrev pub effect_on : Table → Staging → Effect

@@ -1,18 +1,19 @@
 // What a letter asks of a node.
-ghost use Rattle.std.specs.Prelude.{◌≡◌, IfOk, IsTrue, OnErr, OnOk};
+ghost use Rattle.std.specs.Prelude.{◌≡◌, IfOk, IsTrue};
 ghost use Rattle.item_versions.specs.Table.{pending};
 ghost use Rattle.item_versions.specs.Window.{in_window, IsWindowedTable};
-ghost use Rattle.letter_types.specs.Steps.{made};
-ghost use Rattle.tree_step.specs.Asked.{asked_ops, asked_version, tree_done};
+ghost use Rattle.world_model.specs.Asked.{asked_ops, asked_version, tree_done};
+ghost use Rattle.tree_step.specs.Changes.{IsNodeStepOf};
 ghost use Rattle.tree_step.specs.Due.{is_due};
-ghost use Rattle.tree_step.specs.Node.{data_of, effect_on, IsInWindow, IsOf, IsReady};
+ghost use Rattle.tree_step.specs.Node.{data_of, effect_on, IsReady};
 
+use crate::change::Prepared;
 use crate::lookups::ops_of;
 use crate::node::{Effect, NodeParts};
-use crate::steps::{do_root, do_sub};
-use letter_types::{Body, Letter, Step};
+use crate::steps::{prepare_root, prepare_sub};
+use letter_types::{Body, Letter};
 use std::alloc::Global;
-use tv_base::{NoMemory, NodeNo, SubNo, Version};
+use tv_base::{NoMemory, NodeNo, SubNo, TreeNo, Version};
 use tx_trees::{Script, SubOp};
 
 /// The version that a letter asks for, where a root takes version `root`.
@@ -36,43 +37,61 @@ pub fn asked_ops<'a>(letter: &Letter, script: &'a Script) -> &'a [SubOp]
     }
 }
 
-/// The subtransaction that a letter asks for is done in this version, with this effect. `raises` says whether it
-/// raises the node's update version. Want of memory leaves the node as it was.
-pub fn do_tree(
+/// What a letter of a tree asks of a node: to do a subtransaction, or to take its notice down.
+#[derive(Clone, Copy)]
+pub struct Request {
+    pub tree: TreeNo,
+    /// The subtransaction, 0 for a root.
+    pub sub: SubNo,
+    /// The version in which the request is counted.
+    pub version: Version,
+    /// The node that counts the request: the sender, and for a root the node itself.
+    pub from: NodeNo,
+}
+
+/// The version in which a subtransaction is done.
+#[derive(Clone, Copy)]
+pub struct InVersion {
+    pub version: Version,
+    /// Whether the node's update version is raised to it before.
+    pub raises: bool,
+}
+
+/// Prepares the subtransaction that a letter asks for, in this version and with this effect.
+pub fn prepare_tree(
     alloc: Global,
-    node: &mut NodeParts,
+    node: &NodeParts,
     letter: &Letter,
     script: &Script,
-    version: Version,
-    raises: bool,
+    within: InVersion,
     effect: Effect,
-) -> Result<Step, NoMemory>
-    // What the caller knows.
-    requires ready { IsReady script.now letter.now.to.0 node.old }
-    requires due { IsTrue (is_due script.now letter.now.to.0 (data_of node.old) letter.now.from.0 letter.now.body) }
-    requires near { IsTrue (in_window node.old.turns.low.0 version.0) }
-    requires fits { IsWindowedTable node.old.turns.low.0 (pending effect.staged node.old.items) }
-    // What is made.
-    ensures row { IfOk result (λ step. made (data_of node.new) step.given
-        ≡ tree_done script.now letter.now.to.0 letter.now.from.0 version raises (effect_on node.old.items effect)
-        letter.now.body (data_of node.old)) }
-    ensures kept { IfOk result (λ step. step.kept ≡ step.given) }
-    // What stays, and what want of memory leaves.
-    ensures script { OnOk result (IsOf script.now node.new) }
-    ensures window { OnOk result (IsInWindow node.new) }
-    ensures err { OnErr result (node.new ≡ node.old) }
+) -> Result<Prepared, NoMemory>
+    requires ready { IsReady script.now letter.now.to.0 node.now }
+    requires due { IsTrue (is_due script.now letter.now.to.0 (data_of node.now) letter.now.from.0 letter.now.body) }
+    requires near { IsTrue (in_window node.now.turns.low.0 within.version.0) }
+    requires fits { IsWindowedTable node.now.turns.low.0 (pending effect.staged node.now.items) }
+    ensures { IfOk result (IsNodeStepOf (tree_done script.now letter.now.to.0 letter.now.from.0 within.version within.raises
+        (effect_on node.now.items effect) letter.now.body (data_of node.now)) node.now) }
 {
     match &letter.body {
         Body::Root { tree } => {
-            let at = NodeNo(letter.to.0);
-            do_root(alloc, node, script, at, *tree, version, effect)
+            let request = Request {
+                tree: *tree,
+                sub: SubNo(0),
+                version: within.version,
+                from: NodeNo(letter.to.0),
+            };
+            prepare_root(alloc, node, script, request, effect)
         }
         Body::Sub { tree, sub, .. } => {
-            let from = NodeNo(letter.from.0);
-            do_sub(
-                alloc, node, script, from, *tree, *sub, version, raises, effect,
-            )
+            let request = Request {
+                tree: *tree,
+                sub: *sub,
+                version: within.version,
+                from: NodeNo(letter.from.0),
+            };
+            prepare_sub(alloc, node, script, request, within.raises, effect)
         }
-        _ => Ok(Step::still(alloc)),
+        _ => Ok(Prepared::still(alloc)),
     }
 }

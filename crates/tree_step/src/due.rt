@@ -3,7 +3,7 @@ ghost use Rattle.std.specs.Prelude.{◌≡◌, ◌==◌, ◌&&◌, ◌+◌, not,
 ghost use Rattle.item_versions.specs.Window.{in_window};
 ghost use Rattle.tx_trees.specs.ScriptData.{home_of, node_of, subs_at};
 ghost use Rattle.tree_home.specs.Homes.{home_in, trees_of};
-ghost use Rattle.tree_step.specs.Apt.{is_did, is_strict_at, suits};
+ghost use Rattle.world_model.specs.Named.{is_did, is_strict_at, suits};
 ghost use Rattle.tree_step.specs.Due.{is_due};
 ghost use Rattle.tree_step.specs.Node.{data_of};
 

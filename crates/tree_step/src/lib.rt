@@ -2,6 +2,7 @@
 #![tactic(auto)]
 
 mod asked;
+mod change;
 mod counting;
 mod due;
 mod letters;
@@ -10,8 +11,10 @@ mod node;
 mod notices;
 mod steps;
 
-pub use asked::{asked_ops, asked_version, do_tree};
+pub use asked::{InVersion, Request, asked_ops, asked_version, prepare_tree};
+pub use change::{Change, HomeChange, Prepared, TreeChange, done, done_twice};
+pub use counting::Counting;
 pub use due::is_due;
 pub use lookups::kind_of;
 pub use node::{Effect, NodeParts};
-pub use notices::take_notice;
+pub use notices::prepare_notice;

@@ -2,14 +2,14 @@
 ghost use Rattle.std.specs.Prelude.{◌≡◌};
 ghost use Rattle.std.specs.Option.{option_copied};
 ghost use Rattle.tx_trees.specs.ScriptData.{node_of, ops_of, sub_at};
-ghost use Rattle.tree_step.specs.Apt.{kind_at};
+ghost use Rattle.world_model.specs.Named.{tree_kind_at};
 
 use tv_base::{SubNo, TreeNo};
 use tx_trees::{Script, Sub, SubOp, TreeKind};
 
 /// The kind of a tree. None exactly where it isn't there.
 pub fn kind_of(script: &Script, tree: TreeNo) -> Option<TreeKind>
-    ensures { result ≡ kind_at script.now tree.0 }
+    ensures { result ≡ tree_kind_at script.now tree.0 }
 {
     match script.trees().get(tree.0 as usize) {
         Some(found) => Some(found.kind),

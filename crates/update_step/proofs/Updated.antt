@@ -7,14 +7,14 @@ use Rattle.letter_types.specs.Steps.{Out}
 use Rattle.tx_trees.specs.ScriptData.{ScriptData}
 use Rattle.tx_trees.specs.declared.parts.SubOp.{SubOp}
 use Rattle.tree_step.specs.Node.{Effect, Node}
-use Rattle.tree_step.specs.Asked.{asked_ops, asked_version, tree_done}
-use Rattle.update_step.specs.Rows.{can_touch, can_update, row_if_made, touching}
+use Rattle.world_model.specs.Asked.{asked_ops, asked_version, tree_done}
+use Rattle.update_step.specs.Rows.{can_touch, can_update, update_if_made, touching}
 
 pub updated : (s : ScriptData) (p from : ℕ) (body : Body) (st : Node) (v : Version) (ops : List SubOp) (raises : Bool)
     (e : Effect) (out : Out Node)
     → v ≡ asked_version st.turns.update body → ops ≡ asked_ops s body → true ≡ can_touch v ops st.items
     → raises ≡ nat_lt st.turns.update.0 v.0 → e ≡ touching v ops st.items → out ≡ tree_done s p from v raises e body st
-    → out ≡ row_if_made s p st from body
+    → out ≡ update_if_made s p st from body
 updated s p from body st v ops raises e out at asked can test made done =
     let may : can_update s st body ≡ true =
     sym (can ∙ ap (λ (os : List SubOp). can_touch v os st.items) asked

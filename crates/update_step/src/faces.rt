@@ -1,10 +1,11 @@
 ghost use Rattle.std.specs.Prelude.{◌≡◌, IfOk, IsTrue, OnErr, OnOk};
 ghost use Rattle.letter_types.specs.Steps.{made};
+ghost use Rattle.tree_step.specs.Changes.{IsDoneTwice};
 ghost use Rattle.tree_step.specs.Due.{is_due};
 ghost use Rattle.tree_step.specs.Node.{data_of, IsInWindow, IsOf, IsReady, state_of};
-ghost use Rattle.update_step.specs.Rows.{row_if_made};
+ghost use Rattle.update_step.specs.Rows.{update_if_made};
 
-use crate::steps::do_update;
+use crate::steps::prepare_update;
 use item_versions::ItemTable;
 use letter_types::{Letter, Step};
 use node_versions::Turns;
@@ -12,9 +13,26 @@ use pair_counters::Counters;
 use std::alloc::Global;
 use std::mem;
 use tree_home::Homes;
-use tree_step::NodeParts;
+use tree_step::{NodeParts, done_twice};
 use tv_base::NoMemory;
 use tx_trees::Script;
+
+/// Prepares the step and does it. Want of memory leaves the node as it was.
+fn step_update(
+    alloc: Global,
+    node: &mut NodeParts,
+    letter: &Letter,
+    script: &Script,
+) -> Result<Step, NoMemory>
+    requires ready { IsReady script.now letter.now.to.0 node.old }
+    requires due { IsTrue (is_due script.now letter.now.to.0 (data_of node.old) letter.now.from.0 letter.now.body) }
+    ensures { IsDoneTwice (update_if_made script.now letter.now.to.0 (data_of node.old) letter.now.from.0 letter.now.body)
+        node.old node.new result }
+{
+    let prepared = prepare_update(alloc, node, letter, script)?;
+    let step = done_twice(alloc, node, prepared)?;
+    Ok(step)
+}
 
 /// The same over a node's parts.
 pub fn run_update(
@@ -32,7 +50,7 @@ pub fn run_update(
         (data_of (state_of turns.old items.old counters.old homes.old)) letter.now.from.0 letter.now.body) }
     // What is made.
     ensures row { IfOk result (λ step. made (data_of (state_of turns.new items.new counters.new homes.new)) step.given
-        ≡ row_if_made script.now letter.now.to.0 (data_of (state_of turns.old items.old counters.old homes.old))
+        ≡ update_if_made script.now letter.now.to.0 (data_of (state_of turns.old items.old counters.old homes.old))
         letter.now.from.0 letter.now.body) }
     ensures kept { IfOk result (λ step. step.kept ≡ step.given) }
     // What stays, and what want of memory leaves.
@@ -47,7 +65,7 @@ pub fn run_update(
         counters: mem::replace(counters, Counters::new(0)),
         homes: mem::replace(homes, Homes::new(alloc)),
     };
-    let step = do_update(alloc, &mut node, letter, script);
+    let step = step_update(alloc, &mut node, letter, script);
     let NodeParts {
         turns: turns_after,
         items: items_after,

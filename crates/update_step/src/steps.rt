@@ -1,17 +1,17 @@
-ghost use Rattle.std.specs.Prelude.{◌≡◌, is_some, nat_lt, IfOk, IfSome, IsTrue, OnErr, OnOk};
+ghost use Rattle.std.specs.Prelude.{◌≡◌, is_some, nat_lt, IfOk, IfSome, IsTrue};
 ghost use Rattle.item_versions.specs.Table.{pending};
 ghost use Rattle.item_versions.specs.Window.{in_window, IsWindowedTable};
-ghost use Rattle.letter_types.specs.Steps.{made};
+ghost use Rattle.tree_step.specs.Changes.{IsNodeStepOf};
 ghost use Rattle.tree_step.specs.Due.{is_due};
-ghost use Rattle.tree_step.specs.Node.{data_of, effect_on, IsInWindow, IsOf, IsReady};
-ghost use Rattle.update_step.specs.Rows.{can_touch, row_if_made, touching};
+ghost use Rattle.tree_step.specs.Node.{data_of, effect_on, IsReady};
+ghost use Rattle.update_step.specs.Rows.{can_touch, update_if_made, touching};
 
 use commute_ops::Values;
 use item_versions::Staged;
-use letter_types::{Letter, Step};
+use letter_types::Letter;
 use node_versions::Turns;
 use std::alloc::Global;
-use tree_step::{Effect, NodeParts, asked_ops, asked_version, do_tree};
+use tree_step::{Effect, InVersion, NodeParts, Prepared, asked_ops, asked_version, prepare_tree};
 use tv_base::{NoMemory, Version};
 use tx_trees::{Deed, Script, SubOp};
 
@@ -22,7 +22,7 @@ fn touch_all(
     v: Version,
     ops: &[SubOp],
 ) -> Result<Option<Effect>, NoMemory>
-    requires window { IsInWindow node.now }
+    requires items { IsWindowedTable node.now.turns.low.0 node.now.items }
     requires near { IsTrue (in_window node.now.turns.low.0 v.0) }
     ensures can { IfOk result (λ found. is_some found ≡ can_touch v ops.now node.now.items) }
     ensures effect { IfOk result (λ found. IfSome found
@@ -56,31 +56,25 @@ fn is_above(turns: &Turns, v: Version) -> bool
     turns.update.0 < v.0
 }
 
-/// What a node does with a letter that asks it for a subtransaction of an update tree (docs/ALGORITHM.md, "Nodes"). A
-/// letter whose operations may not be made changes and sends nothing. Want of memory leaves the node as it was.
-pub fn do_update(
+/// Prepares what a node does with a letter that asks it for a subtransaction of an update tree (docs/ALGORITHM.md,
+/// "Nodes"). A letter whose operations may not be made changes and sends nothing.
+pub fn prepare_update(
     alloc: Global,
-    node: &mut NodeParts,
+    node: &NodeParts,
     letter: &Letter,
     script: &Script,
-) -> Result<Step, NoMemory>
-    // What the caller knows.
-    requires ready { IsReady script.now letter.now.to.0 node.old }
-    requires due { IsTrue (is_due script.now letter.now.to.0 (data_of node.old) letter.now.from.0 letter.now.body) }
-    // What is made.
-    ensures row { IfOk result (λ step. made (data_of node.new) step.given
-        ≡ row_if_made script.now letter.now.to.0 (data_of node.old) letter.now.from.0 letter.now.body) }
-    ensures kept { IfOk result (λ step. step.kept ≡ step.given) }
-    // What stays, and what want of memory leaves.
-    ensures script { OnOk result (IsOf script.now node.new) }
-    ensures window { OnOk result (IsInWindow node.new) }
-    ensures err { OnErr result (node.new ≡ node.old) }
+) -> Result<Prepared, NoMemory>
+    requires ready { IsReady script.now letter.now.to.0 node.now }
+    requires due { IsTrue (is_due script.now letter.now.to.0 (data_of node.now) letter.now.from.0 letter.now.body) }
+    ensures { IfOk result (IsNodeStepOf
+        (update_if_made script.now letter.now.to.0 (data_of node.now) letter.now.from.0 letter.now.body) node.now) }
 {
     let version = asked_version(letter, node.turns.update);
     let Some(effect) = touch_all(alloc, node, version, asked_ops(letter, script))? else {
-        return Ok(Step::still(alloc));
+        return Ok(Prepared::still(alloc));
     };
     let raises = is_above(&node.turns, version);
-    let step = do_tree(alloc, node, letter, script, version, raises, effect)?;
-    Ok(step)
+    let within = InVersion { version, raises };
+    let prepared = prepare_tree(alloc, node, letter, script, within, effect)?;
+    Ok(prepared)
 }

@@ -1,3 +1,0 @@
-pub mod Dues
-pub mod Apts
-pub mod Ordered

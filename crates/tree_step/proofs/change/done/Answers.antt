@@ -1,0 +1,31 @@
+use Rattle.std.proofs.Common.{ap}
+use Rattle.pair_counters.specs.Counts.{Counts}
+use Rattle.tree_home.specs.Homes.{trees_of}
+use Rattle.tree_step.proofs.Ordered.{left_may_collect, swept_window}
+use Rattle.tree_step.proofs.change.done.Goals as goal
+
+pub returns-in-Tree : goal.returns-in-Tree
+returns-in-Tree c = rw c.in-Tree.is c.change_tree.ensures
+
+pub collect_table-requires : goal.collect_table-requires
+collect_table-requires c =
+    left_may_collect c.args.node.now c.in-Sweep.version c.requires.window (rw c.in-Sweep.is at c.requires.fits)
+
+pub returns-in-Sweep : goal.returns-in-Sweep
+returns-in-Sweep c = rw c.in-Sweep.is (record {
+  row = λ i. record {
+    state = record {
+      turns = c.sweep.ensures i;
+      items = c.collect_table.ensures.items i;
+      counts = (c.drop_below.ensures i).numbers;
+      homes = trees_of c.args.node.now.homes;
+    };
+    sent = c.args.prepared.out.sent;
+    acts = c.args.prepared.out.acts;
+  };
+  nodes = ap (λ (k : Counts). k.nodes) c.drop_below.ensures;
+  window = swept_window c.args.node.now c.in-Sweep.version c.sweep.new.self c.collect_table.new.items
+      c.drop_below.new.self c.requires.window (rw c.in-Sweep.is at c.requires.fits) c.sweep.ensures
+      c.collect_table.ensures.items c.drop_below.ensures;
+  err = tt;
+})

@@ -1,0 +1,127 @@
+-- How a node changes in a step that was prepared, and when it may.
+use Rattle.std.specs.Prelude.{◌≡◌, ◌<◌, ◌≤◌, ◌+◌, ◌&&◌, ⊤, if◌then◌else◌, List, length, take, nat_le, All, IfOk, IsTrue, IsSome, None, OnErr, OnOk, Result}
+use Rattle.tv_base.specs.declared.numbers.NoMemory.{NoMemory}
+use Rattle.item_versions.specs.Table.{pending}
+use Rattle.item_versions.specs.Window.{in_window, IsWindowedTable}
+use Rattle.letter_types.specs.declared.entries.Outgoing.{Outgoing}
+use Rattle.letter_types.specs.declared.entries.Step.{Step}
+use Rattle.letter_types.specs.declared.entries.StepOut.{StepOut}
+use Rattle.letter_types.specs.Steps.{Out, made}
+use Rattle.node_versions.specs.Turns.{raised}
+use Rattle.pair_counters.specs.Numbers.{AllBelow, Numbers, from_version, MOST_COUNT}
+use Rattle.pair_counters.specs.Counts.{Counts}
+use Rattle.pair_counters.specs.Rows.{counts_of}
+use Rattle.tree_home.specs.Homes.{OpenTrees, begun, forgotten, home_in, misses, missing_in, noted, trees_of}
+use Rattle.item_versions.specs.Collecting.{collected_all}
+use Rattle.world_model.specs.Done.{counted_root, counted_sub, raised_if}
+use Rattle.tree_step.specs.Node.{IsInWindow, Node, data_of}
+use Rattle.tree_step.specs.declared.node.NodeParts.{NodeParts}
+use Rattle.tree_step.specs.declared.counting.Counting.{Counting}
+use Rattle.tree_step.specs.declared.change.HomeChange.{HomeChange}
+use Rattle.tree_step.specs.declared.change.HomeChange.TheVariants.{Stay, Open, Note, Forget}
+use Rattle.tree_step.specs.declared.change.TreeChange.{TreeChange}
+use Rattle.tree_step.specs.declared.change.Change.{Change}
+use Rattle.tree_step.specs.declared.change.Change.TheVariants.{Still, Tree, Turn, Show, Sweep}
+use Rattle.tree_step.specs.declared.change.Prepared.{Prepared}
+use Rattle.tree_step.specs.inside.Sent.{MOST_SENT}
+
+-- the open trees afterwards
+abbrev pub home_after : HomeChange → OpenTrees → OpenTrees
+home_after Stay hs = hs
+home_after (Open t n v values) hs = noted t (record { 0 = 0 }) values (begun t n v hs)
+home_after (Note t k values) hs = noted t k values hs
+home_after (Forget t) hs = forgotten t hs
+
+-- what is opened isn't open yet and has more than one subtransaction, what is noted is missing beside another, and
+-- what is forgotten is open
+abbrev pub MayHome : HomeChange → OpenTrees → Type 0
+MayHome Stay hs = ⊤
+MayHome (Open t n v values) hs = (1 < n) × (home_in t hs ≡ None)
+MayHome (Note t k values) hs = IsTrue (misses t k hs) × (1 < missing_in t hs)
+MayHome (Forget t) hs = IsSome (home_in t hs)
+
+-- the requests that are counted: the first letters that are sent
+abbrev pub requests : Counting → List Outgoing → List Outgoing
+requests c sent = take c.asked sent
+
+-- what is counted afterwards
+abbrev pub counted : Counting → List Outgoing → Numbers → Numbers
+counted c sent n =
+    if c.root then counted_root c.version.0 c.from.0 (requests c sent) n
+    else counted_sub c.version.0 c.from.0 (requests c sent) n
+
+-- it is counted in a version that has rows, from a node and to nodes, and not of too many
+pub record MayCount (c : Counting) (sent : List Outgoing) (k : Counts) : Type 0 where
+  pub from : k.low ≤ c.version.0
+  pub up_to : c.version.0 ≤ k.low + 2
+  pub node : c.from.0 < k.nodes
+  pub there : c.asked ≤ length sent
+  pub nodes : All (λ (o : Outgoing). o.to.0 < k.nodes) (requests c sent)
+  pub few : length (requests c sent) ≤ MOST_SENT
+
+-- a node after a subtransaction or a notice
+abbrev pub after_tree_change : TreeChange → List Outgoing → Node → Node
+after_tree_change c sent st = record {
+  turns = raised_if c.raises c.counting.version.0 st.turns;
+  items = pending c.staged st.items;
+  counts = counted c.counting sent st.counts;
+  homes = home_after c.home st.homes;
+}
+
+-- what is counted, staged and noted for a subtransaction fits the node
+pub record MayChangeTree (c : TreeChange) (sent : List Outgoing) (n : NodeParts) : Type 0 where
+  pub counting : MayCount c.counting sent (counts_of n.counters)
+  pub items : IsWindowedTable n.turns.low.0 (pending c.staged n.items)
+  pub home : MayHome c.home (trees_of n.homes)
+
+-- a node after a step
+abbrev pub after_change : Change → List Outgoing → Node → Node
+after_change Still sent st = st
+after_change (Tree c) sent st = after_tree_change c sent st
+after_change (Turn v) sent st = record st { turns = raised v st.turns }
+after_change (Show v) sent st = record st { turns = record st.turns { read = v } }
+after_change (Sweep v) sent st = record st {
+  turns = record st.turns { low = v };
+  items = collected_all v st.items;
+  counts = record { asked = from_version v.0 st.counts.asked; done = from_version v.0 st.counts.done };
+}
+
+-- a change that fits the node: it leaves the node's versions in their window
+abbrev pub MayChange : Change → List Outgoing → NodeParts → Type 0
+MayChange Still sent n = ⊤
+MayChange (Tree c) sent n = MayChangeTree c sent n
+MayChange (Turn v) sent n = IsTrue (nat_le v.0 (n.turns.low.0 + 2))
+MayChange (Show v) sent n = IsTrue (in_window n.turns.low.0 v.0)
+MayChange (Sweep v) sent n =
+    IsTrue (nat_le n.turns.low.0 v.0 && (nat_le v.0 n.turns.read.0 && nat_le v.0 n.turns.update.0))
+
+-- a node may make a change beside which these letters go out
+pub record MayDo (c : Change) (sent : List Outgoing) (n : NodeParts) : Type 0 where
+  pub fits : MayChange c sent n
+  pub small : AllBelow MOST_COUNT (counts_of n.counters).numbers
+  pub window : IsInWindow n
+
+-- a node, and what goes out, after a step that was prepared, as a table's row
+abbrev pub prepared_row : Prepared → Node → Out Node
+prepared_row p st = made (after_change p.change p.out.sent st) p.out
+
+-- a step that was prepared is this row of a node, and the node may do it
+pub record IsNodeStepOf (o : Out Node) (n : NodeParts) (p : Prepared) : Type 0 where
+  pub row : prepared_row p (data_of n) ≡ o
+  pub may : MayDo p.change p.out.sent n
+
+-- what came of a step of a node: it was done, and the node afterwards and what goes out are this row; or no memory was
+-- found, and the node is as it was. The node counts by as many nodes as before, and its versions are in their window
+pub record IsDone (o : Out Node) (old new : NodeParts) (r : Result StepOut NoMemory) : Type 0 where
+  pub row : IfOk r (λ out. made (data_of new) out ≡ o)
+  pub nodes : OnOk r ((counts_of new.counters).nodes ≡ (counts_of old.counters).nodes)
+  pub window : OnOk r (IsInWindow new)
+  pub err : OnErr r (new ≡ old)
+
+-- the same, where an equal copy of what goes out is kept
+pub record IsDoneTwice (o : Out Node) (old new : NodeParts) (r : Result Step NoMemory) : Type 0 where
+  pub row : IfOk r (λ step. made (data_of new) step.given ≡ o)
+  pub kept : IfOk r (λ step. step.kept ≡ step.given)
+  pub nodes : OnOk r ((counts_of new.counters).nodes ≡ (counts_of old.counters).nodes)
+  pub window : OnOk r (IsInWindow new)
+  pub err : OnErr r (new ≡ old)
