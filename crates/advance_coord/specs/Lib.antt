@@ -1,2 +1,2 @@
-pub mod Coordinator
+pub mod Changes
 pub mod inside

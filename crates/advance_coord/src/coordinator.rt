@@ -1,20 +1,20 @@
 // The coordinator: what it keeps, and its row for each letter.
-ghost use Rattle.std.specs.Prelude.{◌≡◌, ◌<◌, ◌≤◌, ◌==◌, ◌&&◌, [], not, length, if◌then◌else◌, IfOk, OnErr, true, false};
+ghost use Rattle.std.specs.Prelude.{◌≡◌, ◌<◌, ◌≤◌, ◌==◌, ◌&&◌, [], false, true, not, length, if◌then◌else◌, IfOk, OnErr};
 ghost use Rattle.tv_base.specs.Outside.{one_more};
-ghost use Rattle.letter_types.specs.Steps.{made, still};
+ghost use Rattle.letter_types.specs.Steps.{made};
 ghost use Rattle.letter_types.specs.declared.bodies.Body.TheVariants.{Turn};
-ghost use Rattle.phase_out.specs.Rounds.{verdict_of, all_in};
-ghost use Rattle.advance_coord.specs.declared.phase.Phase.TheVariants.{Turning, Paused};
-ghost use Rattle.advance_coord.specs.Coordinator.{start_coordinator, coordinator_row, begin_phase, begin_round, counted, in_phase, version, acknowledged, ask_requests, keep_done, keep_asked, judged, end_count, end_advance};
-ghost use Rattle.advance_coord.specs.inside.Sent.{letters_alone};
+ghost use Rattle.world_model.specs.declared.phase.Phase.TheVariants.{Turning};
+ghost use Rattle.advance_coord.specs.Changes.{IsCoordinatorStepOf, CoordinatorMayDo, MayKeep, after_coordinator_change, after_next_phase, with_kept_row};
+ghost use Rattle.world_model.specs.Coordinator.{start_coordinator, coordinator_row, begin_phase, begin_round, counted_version, in_phase, version, acknowledged, ask_requests, keep_done, keep_asked, after_verdict, end_count, end_advance};
 
-use crate::letters::{tell_nodes, tell_one, tell_one_and_nodes};
-use crate::phase::Phase;
-use letter_types::{Body, Letter, Row, Step, copy_row};
+use crate::change::{CoordinatorPrepared, Next, RowChange};
+use crate::letters::{to_nodes, with_nodes};
+use letter_types::{Body, Letter, Letters, Row, Step, StepOut, copy_row, one_letter};
 use phase_out::Round;
 use std::alloc::Global;
 use std::marker::Model;
 use tv_base::{ActorNo, NoMemory, NodeNo, Version};
+use world_model::Phase;
 
 /// The greatest number of nodes of a coordinator.
 pub const MOST_NODES: u8 = 64;
@@ -29,12 +29,12 @@ pub struct Coordinator {
     phase: Phase,
     acks: u64,
     current: Round,
-    flag: bool,
+    nudged: bool,
 }
 
 impl Model for Coordinator {
     ghost use Rattle.std.specs.Prelude.{◌≤◌};
-    ghost use Rattle.advance_coord.specs.Coordinator.{Coordinator};
+    ghost use Rattle.world_model.specs.Coordinator.{Coordinator};
 
     ghost Value = { Coordinator };
 
@@ -46,7 +46,7 @@ impl Model for Coordinator {
       phase = c.phase;
       acks = c.acks;
       current = c.current;
-      flag = c.flag;
+      flag = c.nudged;
     } };
 
     ghost invariant = { λ c. c.nodes ≤ 64 };
@@ -66,22 +66,33 @@ impl Coordinator {
             phase: Phase::Idle,
             acks: 0,
             current: Round::empty(alloc),
-            flag: false,
+            nudged: false,
         }
     }
 
-    /// What the coordinator does with a letter: its row of the coordinator's table. After want of memory the
-    /// coordinator is as it was.
+    /// What the coordinator does with a letter: its row of the coordinator's table. What goes out is given, and an
+    /// equal copy kept. After want of memory the coordinator is as it was.
     pub fn on(&mut self, alloc: Global, letter: &Letter) -> Result<Step, NoMemory>
         ensures row { IfOk result
             (λ step. made self.new step.given ≡ coordinator_row self.old letter.now.from.0 letter.now.body) }
         ensures kept { IfOk result (λ step. step.kept ≡ step.given) }
         ensures err { OnErr result (self.new ≡ self.old) }
     {
+        let prepared = self.prepare(alloc, letter)?;
+        let kept = prepared.out().copy(alloc)?;
+        let given = self.done(prepared);
+        Ok(Step { given, kept })
+    }
+
+    /// Prepares what the coordinator does with a letter: its row of the coordinator's table. It takes all memory that
+    /// the step wants, and changes nothing.
+    pub fn prepare(&self, alloc: Global, letter: &Letter) -> Result<CoordinatorPrepared, NoMemory>
+        ensures { IfOk result (IsCoordinatorStepOf (coordinator_row self.now letter.now.from.0 letter.now.body) self.now) }
+    {
         let from = NodeNo(letter.from.0);
         match (&letter.body, self.phase) {
             (Body::Advance, Phase::Idle) => self.turn(alloc),
-            (Body::Advance, _) => Ok(self.wait(alloc)),
+            (Body::Advance, _) => Ok(CoordinatorPrepared::silent(alloc, Next::Wait)),
             (Body::Turned { .. }, Phase::Turning) => self.on_turned(alloc),
             (
                 Body::DoneRow {
@@ -103,59 +114,104 @@ impl Coordinator {
             ) if self.current.is_of(from, *version, *round, row) && self.current.all_done() => {
                 self.keep_asked(alloc, reads, from, row)
             }
-            (Body::Nudge, Phase::Counting { .. }) => Ok(self.set_flag(alloc)),
+            (Body::Nudge, Phase::Counting { .. }) => {
+                Ok(CoordinatorPrepared::silent(alloc, Next::Nudge))
+            }
             (Body::Nudge, Phase::Paused { reads }) => self.begin_round(alloc, reads),
             (Body::Shown { .. }, Phase::Showing) => self.on_shown(alloc),
             (Body::Swept { .. }, Phase::Sweeping) => self.on_swept(alloc),
-            _ => Ok(Step::still(alloc)),
+            _ => Ok(CoordinatorPrepared::silent(alloc, Next::Stay)),
         }
     }
 
-    /// One more advance waits.
-    fn wait(&mut self, alloc: Global) -> Step
-        ensures row { made self.new result.given ≡ still (record self.old { waits = one_more self.old.waits }) }
-        ensures kept { result.kept ≡ result.given }
+    /// Does a step that was prepared, and gives what goes out. Wants no memory.
+    pub fn done(&mut self, prepared: CoordinatorPrepared) -> StepOut
+        requires { CoordinatorMayDo prepared.change self.old }
+        ensures after { self.new ≡ after_coordinator_change prepared.change self.old }
+        ensures out { result ≡ prepared.out }
     {
-        self.waits = self.waits.saturating_add(1);
-        Step::still(alloc)
+        let CoordinatorPrepared { change, out } = prepared;
+        self.keep(change.row);
+        self.go_on(change.next);
+        out
     }
 
-    /// Marks that a tree was answered since the round began.
-    fn set_flag(&mut self, alloc: Global) -> Step
-        ensures row { made self.new result.given ≡ still (record self.old { flag = true }) }
-        ensures kept { result.kept ≡ result.given }
+    /// Gives the round its row.
+    fn keep(&mut self, row: RowChange)
+        requires { MayKeep row self.old.current }
+        ensures { self.new ≡ with_kept_row row self.old }
     {
-        self.flag = true;
-        Step::still(alloc)
+        match row {
+            RowChange::NoRow => {}
+            RowChange::Done { from, row } => self.current.take_done(from, row),
+            RowChange::Asked { from, row } => self.current.take_asked(from, row),
+        }
+    }
+
+    /// Does what comes next.
+    fn go_on(&mut self, next: Next)
+        ensures { self.new ≡ after_next_phase next self.old }
+    {
+        match next {
+            Next::Stay => {}
+            Next::Wait => self.waits = self.waits.saturating_add(1),
+            Next::Nudge => self.nudged = true,
+            Next::Acknowledge => self.acks = self.acks.saturating_add(1),
+            Next::Begin(phase) => self.enter(phase),
+            Next::Count { reads, round } => {
+                self.round = round.number();
+                self.current = round;
+                self.nudged = false;
+                self.enter(Phase::Counting { reads });
+            }
+            Next::GoOn { phase, waits } => {
+                self.update = self.update.saturating_add(1);
+                self.waits = waits;
+                self.enter(phase);
+            }
+        }
+    }
+
+    /// A phase begins: it misses every acknowledgement.
+    fn enter(&mut self, phase: Phase)
+        ensures { self.new ≡ in_phase phase self.old }
+    {
+        self.phase = phase;
+        self.acks = 0;
     }
 
     /// A phase begins with a letter to every node.
-    fn begin_phase(&mut self, alloc: Global, phase: Phase, body: &Body) -> Result<Step, NoMemory>
-        ensures row { IfOk result (λ step. made self.new step.given ≡ begin_phase phase body.now self.old) }
-        ensures kept { IfOk result (λ step. step.kept ≡ step.given) }
-        ensures err { OnErr result (self.new ≡ self.old) }
+    fn begin_phase(
+        &self,
+        alloc: Global,
+        row: RowChange,
+        phase: Phase,
+        body: &Body,
+    ) -> Result<CoordinatorPrepared, NoMemory>
+        requires { MayKeep row self.now.current }
+        ensures { IfOk result (IsCoordinatorStepOf (begin_phase phase body.now (with_kept_row row self.now)) self.now) }
     {
-        let step = tell_nodes(alloc, self.nodes, body)?;
-        self.phase = phase;
-        self.acks = 0;
-        Ok(step)
+        let sent = to_nodes(alloc, self.nodes, body)?;
+        Ok(CoordinatorPrepared::sending(alloc, row, Next::Begin(phase), sent))
     }
 
     /// An advancement begins: every node is to turn.
-    fn turn(&mut self, alloc: Global) -> Result<Step, NoMemory>
-        ensures row { IfOk result
-            (λ step. made self.new step.given
-            ≡ begin_phase Turning (Turn (version (one_more self.old.update))) self.old) }
-        ensures kept { IfOk result (λ step. step.kept ≡ step.given) }
-        ensures err { OnErr result (self.new ≡ self.old) }
+    fn turn(&self, alloc: Global) -> Result<CoordinatorPrepared, NoMemory>
+        ensures { IfOk result (IsCoordinatorStepOf
+            (begin_phase Turning (Turn (version (one_more self.now.update))) self.now) self.now) }
     {
         let version = Version(self.update.saturating_add(1));
-        self.begin_phase(alloc, Phase::Turning, &Body::Turn { version })
+        self.begin_phase(
+            alloc,
+            RowChange::NoRow,
+            Phase::Turning,
+            &Body::Turn { version },
+        )
     }
 
     /// The version that a round counts.
     fn counted(&self, reads: bool) -> Version
-        ensures { result ≡ counted reads self.now }
+        ensures { result ≡ counted_version reads self.now }
     {
         if reads {
             Version(self.update.saturating_sub(1))
@@ -164,22 +220,24 @@ impl Coordinator {
         }
     }
 
-    /// A round begins: it is made before the last one goes, and every node is asked for its completions.
-    fn begin_round(&mut self, alloc: Global, reads: bool) -> Result<Step, NoMemory>
-        ensures row { IfOk result (λ step. made self.new step.given ≡ begin_round reads self.old) }
-        ensures kept { IfOk result (λ step. step.kept ≡ step.given) }
-        ensures err { OnErr result (self.new ≡ self.old) }
+    /// A round begins: every node is asked for its completions.
+    fn begin_round(&self, alloc: Global, reads: bool) -> Result<CoordinatorPrepared, NoMemory>
+        ensures { IfOk result (IsCoordinatorStepOf (begin_round reads self.now) self.now) }
     {
         let version = self.counted(reads);
-        let round = self.round.saturating_add(1);
-        let begun = Round::new(alloc, version, round, self.nodes)?;
-        let step = tell_nodes(alloc, self.nodes, &Body::AskDone { version, round })?;
-        self.round = round;
-        self.phase = Phase::Counting { reads };
-        self.acks = 0;
-        self.current = begun;
-        self.flag = false;
-        Ok(step)
+        let number = self.round.saturating_add(1);
+        let round = Round::new(alloc, version, number, self.nodes)?;
+        let body = Body::AskDone {
+            version,
+            round: number,
+        };
+        let sent = to_nodes(alloc, self.nodes, &body)?;
+        Ok(CoordinatorPrepared::sending(
+            alloc,
+            RowChange::NoRow,
+            Next::Count { reads, round },
+            sent,
+        ))
     }
 
     /// Whether the next acknowledgement is the phase's last.
@@ -189,187 +247,156 @@ impl Coordinator {
         self.acks.saturating_add(1) == u64::from(self.nodes)
     }
 
-    /// One acknowledgement more.
-    fn acknowledge(&mut self, alloc: Global) -> Step
-        ensures row { made self.new result.given ≡ still (record self.old { acks = one_more self.old.acks }) }
-        ensures kept { result.kept ≡ result.given }
-    {
-        self.acks = self.acks.saturating_add(1);
-        Step::still(alloc)
-    }
-
     /// A node has turned, in phase turning.
-    fn on_turned(&mut self, alloc: Global) -> Result<Step, NoMemory>
-        ensures row { IfOk result (λ step. made self.new step.given
-            ≡ acknowledged (begin_round false self.old) self.old) }
-        ensures kept { IfOk result (λ step. step.kept ≡ step.given) }
-        ensures err { OnErr result (self.new ≡ self.old) }
+    fn on_turned(&self, alloc: Global) -> Result<CoordinatorPrepared, NoMemory>
+        ensures { IfOk result (IsCoordinatorStepOf (acknowledged (begin_round false self.now) self.now) self.now) }
     {
         if self.is_last() {
             return self.begin_round(alloc, false);
         }
-        Ok(self.acknowledge(alloc))
+        Ok(CoordinatorPrepared::silent(alloc, Next::Acknowledge))
     }
 
     /// A node shows the update version, in phase showing.
-    fn on_shown(&mut self, alloc: Global) -> Result<Step, NoMemory>
-        ensures row { IfOk result (λ step. made self.new step.given
-            ≡ acknowledged (begin_round true self.old) self.old) }
-        ensures kept { IfOk result (λ step. step.kept ≡ step.given) }
-        ensures err { OnErr result (self.new ≡ self.old) }
+    fn on_shown(&self, alloc: Global) -> Result<CoordinatorPrepared, NoMemory>
+        ensures { IfOk result (IsCoordinatorStepOf (acknowledged (begin_round true self.now) self.now) self.now) }
     {
         if self.is_last() {
             return self.begin_round(alloc, true);
         }
-        Ok(self.acknowledge(alloc))
+        Ok(CoordinatorPrepared::silent(alloc, Next::Acknowledge))
     }
 
     /// A node has swept, in phase sweeping.
-    fn on_swept(&mut self, alloc: Global) -> Result<Step, NoMemory>
-        ensures row { IfOk result (λ step. made self.new step.given ≡ acknowledged (end_advance self.old) self.old) }
-        ensures kept { IfOk result (λ step. step.kept ≡ step.given) }
-        ensures err { OnErr result (self.new ≡ self.old) }
+    fn on_swept(&self, alloc: Global) -> Result<CoordinatorPrepared, NoMemory>
+        ensures { IfOk result (IsCoordinatorStepOf (acknowledged (end_advance self.now) self.now) self.now) }
     {
         if self.is_last() {
             return self.end_advance(alloc);
         }
-        Ok(self.acknowledge(alloc))
+        Ok(CoordinatorPrepared::silent(alloc, Next::Acknowledge))
     }
 
     /// An advancement has ended, and the next begins if one waits.
-    fn end_advance(&mut self, alloc: Global) -> Result<Step, NoMemory>
-        ensures row { IfOk result (λ step. made self.new step.given ≡ end_advance self.old) }
-        ensures kept { IfOk result (λ step. step.kept ≡ step.given) }
-        ensures err { OnErr result (self.new ≡ self.old) }
+    fn end_advance(&self, alloc: Global) -> Result<CoordinatorPrepared, NoMemory>
+        ensures { IfOk result (IsCoordinatorStepOf (end_advance self.now) self.now) }
     {
         let client = ActorNo(self.nodes + 1);
         let ended = Body::Advanced {
             version: Version(self.update),
         };
-        let update = self.update.saturating_add(1);
+        let told = one_letter(alloc, client, ended)?;
         if self.waits == 0 {
-            let step = tell_one(alloc, client, &ended)?;
-            self.go_on(Phase::Idle, update, 0);
-            return Ok(step);
+            let next = Next::GoOn {
+                phase: Phase::Idle,
+                waits: 0,
+            };
+            return Ok(CoordinatorPrepared::sending(alloc, RowChange::NoRow, next, told));
         }
+        let update = self.update.saturating_add(1);
         let turn = Body::Turn {
             version: Version(update.saturating_add(1)),
         };
-        let step = tell_one_and_nodes(alloc, client, &ended, self.nodes, &turn)?;
-        self.go_on(Phase::Turning, update, self.waits - 1);
-        Ok(step)
+        let sent = with_nodes(alloc, told, self.nodes, &turn)?;
+        let next = Next::GoOn {
+            phase: Phase::Turning,
+            waits: self.waits - 1,
+        };
+        Ok(CoordinatorPrepared::sending(alloc, RowChange::NoRow, next, sent))
     }
 
-    /// Goes on with the next update version, and with so many advances that wait.
-    fn go_on(&mut self, phase: Phase, update: u64, waits: u64)
-        ensures { self.new ≡ in_phase phase (record self.old { update = update; waits = waits }) }
+    /// A row of completions of this round is kept, and the requests are asked for if it fills the last missing place.
+    fn keep_done(
+        &self,
+        alloc: Global,
+        from: NodeNo,
+        row: &Row,
+    ) -> Result<CoordinatorPrepared, NoMemory>
+        requires node { from.0 < self.now.current.nodes }
+        requires numbers { length row.now ≡ self.now.current.nodes }
+        ensures { IfOk result (IsCoordinatorStepOf (keep_done from.0 row.now self.now) self.now) }
     {
-        self.update = update;
-        self.waits = waits;
-        self.phase = phase;
-        self.acks = 0;
-    }
-
-    /// Keeps a row of completions of this round, and asks for the requests if it fills the last missing place.
-    fn keep_done(&mut self, alloc: Global, from: NodeNo, row: &Row) -> Result<Step, NoMemory>
-        requires node { from.0 < self.old.current.nodes }
-        requires numbers { length row.now ≡ self.old.current.nodes }
-        ensures row { IfOk result (λ step. made self.new step.given ≡ keep_done from.0 row.now self.old) }
-        ensures kept { IfOk result (λ step. step.kept ≡ step.given) }
-        ensures err { OnErr result (self.new ≡ self.old) }
-    {
-        let row = copy_row(alloc, row)?;
+        let are_in = self.current.all_done_with(from);
         let were_in = self.current.all_done();
-        let before = self.current.put_done(from, Some(row));
-        match self.ask_requests(alloc, were_in) {
-            Ok(step) => Ok(step),
-            Err(NoMemory) => {
-                self.current.put_done(from, before);
-                Err(NoMemory)
-            }
-        }
+        let sent = self.ask_requests(alloc, are_in, were_in)?;
+        let row = RowChange::Done {
+            from,
+            row: copy_row(alloc, row)?,
+        };
+        Ok(CoordinatorPrepared::sending(alloc, row, Next::Stay, sent))
     }
 
-    /// Asks every node for its requests, if all completions are in and weren't before.
-    fn ask_requests(&self, alloc: Global, were_in: bool) -> Result<Step, NoMemory>
-        ensures given { IfOk result
-            (λ step. step.given
-            ≡ letters_alone
-            (if all_in self.now.current.dones && not were_in then ask_requests self.now else [])) }
-        ensures kept { IfOk result (λ step. step.kept ≡ step.given) }
+    /// Every node is asked for its requests, if all completions are in and weren't before.
+    fn ask_requests(&self, alloc: Global, are_in: bool, were_in: bool) -> Result<Letters, NoMemory>
+        ensures { IfOk result (λ sent. sent ≡ (if are_in && not were_in then ask_requests self.now else [])) }
     {
-        if self.current.all_done() && !were_in {
+        if are_in && !were_in {
             let body = Body::AskAsked {
                 version: self.current.version(),
                 round: self.current.number(),
             };
-            return tell_nodes(alloc, self.nodes, &body);
+            return to_nodes(alloc, self.nodes, &body);
         }
-        Ok(Step::still(alloc))
+        Ok(Letters::new(alloc))
     }
 
-    /// Keeps a row of requests of this round, and does what the verdict asks for if all are in.
+    /// A row of requests of this round is kept, and what the verdict asks for is done if all are in.
     fn keep_asked(
-        &mut self,
+        &self,
         alloc: Global,
         reads: bool,
         from: NodeNo,
         row: &Row,
-    ) -> Result<Step, NoMemory>
-        requires node { from.0 < self.old.current.nodes }
-        requires numbers { length row.now ≡ self.old.current.nodes }
-        ensures row { IfOk result (λ step. made self.new step.given ≡ keep_asked reads from.0 row.now self.old) }
-        ensures kept { IfOk result (λ step. step.kept ≡ step.given) }
-        ensures err { OnErr result (self.new ≡ self.old) }
+    ) -> Result<CoordinatorPrepared, NoMemory>
+        requires node { from.0 < self.now.current.nodes }
+        requires numbers { length row.now ≡ self.now.current.nodes }
+        ensures { IfOk result (IsCoordinatorStepOf (keep_asked reads from.0 row.now self.now) self.now) }
     {
-        let row = copy_row(alloc, row)?;
-        let before = self.current.put_asked(from, Some(row));
-        match self.judge(alloc, reads) {
-            Ok(step) => Ok(step),
-            Err(NoMemory) => {
-                self.current.put_asked(from, before);
-                Err(NoMemory)
-            }
-        }
+        let verdict = self.current.verdict_with(from, row);
+        let row = RowChange::Asked {
+            from,
+            row: copy_row(alloc, row)?,
+        };
+        let prepared = self.judge(alloc, reads, row, verdict)?;
+        Ok(prepared)
     }
 
-    /// Does what the verdict asks for.
-    fn judge(&mut self, alloc: Global, reads: bool) -> Result<Step, NoMemory>
-        ensures row { IfOk result (λ step. made self.new step.given
-            ≡ judged reads (verdict_of self.old.current) self.old) }
-        ensures kept { IfOk result (λ step. step.kept ≡ step.given) }
-        ensures err { OnErr result (self.new ≡ self.old) }
+    /// What the verdict asks for is done, where this row is kept.
+    fn judge(
+        &self,
+        alloc: Global,
+        reads: bool,
+        row: RowChange,
+        verdict: Option<bool>,
+    ) -> Result<CoordinatorPrepared, NoMemory>
+        requires { MayKeep row self.now.current }
+        ensures { IfOk result (IsCoordinatorStepOf (after_verdict reads verdict (with_kept_row row self.now)) self.now) }
     {
-        match self.current.verdict() {
-            None => Ok(Step::still(alloc)),
-            Some(true) => self.end_count(alloc, reads),
-            Some(false) if self.flag => self.begin_round(alloc, reads),
-            Some(false) => Ok(self.pause(alloc, reads)),
-        }
+        let next = match verdict {
+            None => Next::Stay,
+            Some(true) => return self.end_count(alloc, reads, row),
+            Some(false) if self.nudged => return self.begin_round(alloc, reads),
+            Some(false) => Next::Begin(Phase::Paused { reads }),
+        };
+        Ok(CoordinatorPrepared::sending(alloc, row, next, Letters::new(alloc)))
     }
 
     /// The counted version is quiet.
-    fn end_count(&mut self, alloc: Global, reads: bool) -> Result<Step, NoMemory>
-        ensures row { IfOk result (λ step. made self.new step.given ≡ end_count reads self.old) }
-        ensures kept { IfOk result (λ step. step.kept ≡ step.given) }
-        ensures err { OnErr result (self.new ≡ self.old) }
+    fn end_count(
+        &self,
+        alloc: Global,
+        reads: bool,
+        row: RowChange,
+    ) -> Result<CoordinatorPrepared, NoMemory>
+        requires { MayKeep row self.now.current }
+        ensures { IfOk result (IsCoordinatorStepOf (end_count reads (with_kept_row row self.now)) self.now) }
     {
         let version = Version(self.update);
         if reads {
-            self.begin_phase(alloc, Phase::Sweeping, &Body::Sweep { version })
+            self.begin_phase(alloc, row, Phase::Sweeping, &Body::Sweep { version })
         } else {
-            self.begin_phase(alloc, Phase::Showing, &Body::Show { version })
+            self.begin_phase(alloc, row, Phase::Showing, &Body::Show { version })
         }
-    }
-
-    /// The next round waits for a nudge.
-    fn pause(&mut self, alloc: Global, reads: bool) -> Step
-        ensures row { made self.new result.given ≡ still (in_phase (Paused reads) self.old) }
-        ensures kept { result.kept ≡ result.given }
-    {
-        self.phase = Phase::Paused { reads };
-        self.acks = 0;
-        Step::still(alloc)
     }
 }
 

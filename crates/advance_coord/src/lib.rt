@@ -2,9 +2,10 @@
 //! lets every node show it, counts until what reads have left is quiet, and lets every node sweep it.
 #![tactic(auto)]
 
+mod change;
 mod coordinator;
 mod letters;
-mod phase;
 
+pub use change::{CoordinatorChange, CoordinatorPrepared, Next, RowChange};
 pub use coordinator::{Coordinator, MOST_NODES};
-pub use phase::Phase;
+pub use world_model::Phase;

@@ -1,16 +1,21 @@
 -- What every row of the client's table keeps, and how much it sends.
-use Rattle.std.proofs.Common.{if◌then◌else◌, ◌≡◌, ℕ, ◌+◌, ◌≤◌, Bool, true, false, List, [], ◌∷◌, ◌++◌, length, take, drop, Option, Some, None, refl, ◌∙◌, arith, length-append}
+use Rattle.std.proofs.Common.{if◌then◌else◌, ◌≡◌, ℕ, ◌+◌, ◌≤◌, Bool, true, false, List, [], ◌∷◌, ◌++◌, length, take, drop, Option, Some, None, refl, sym, ◌∙◌, ap, arith, length-append}
 use Rattle.std.proofs.lemmas.List.{length-set, length-take, length-drop, length-replicate}
 use Rattle.tx_trees.specs.ScriptData.{ScriptData}
 use Rattle.tx_trees.specs.declared.parts.ScriptRow.{ScriptRow}
 use Rattle.tx_trees.specs.declared.parts.ScriptRow.TheVariants.{Tree as TreeRow, Advance as AdvanceRow, Settle as SettleRow, Lose as LoseRow}
 use Rattle.letter_types.specs.declared.bodies.Body.{Body}
-use Rattle.client_rows.specs.Client.{Client, have_ended, submitted, rows_letters, next_after, client_row, start_client}
-use Rattle.client_rows.specs.Kept.{IsKeptOf, kept_of}
-use Rattle.client_rows.specs.inside.News.{news_of, answered_after, told, sent_first}
+use Rattle.world_model.specs.Client.{Client, have_ended, submitted, rows_letters, next_after, client_row, start_client}
+use Rattle.letter_types.specs.declared.entries.StepOut.{StepOut}
+use Rattle.client_rows.specs.Changes.{IsClientStepOf}
+use Rattle.client_rows.specs.declared.change.ClientChange.TheVariants.{Submit}
+use Rattle.client_rows.specs.Kept.{Kept, IsKeptOf, kept_of}
+use Rattle.client_rows.specs.inside.Places.{place_at}
+use Rattle.client_rows.specs.declared.places.Place.{Place}
+use Rattle.client_rows.specs.News.{news_of, answered_after, client_with_news, sent_first}
 use Rattle.client_rows.specs.declared.news.News.{News}
 use Rattle.client_rows.specs.declared.news.News.TheVariants.{Begun, Answered, Ended}
-use Rattle.client_rows.proofs.Submits.{heard, row-heard}
+use Rattle.client_rows.proofs.Submits.{Submission, heard, row-heard, state_after, submission-row}
 
 -- where the client waits it submits fewer
 fewer : (b : Bool) (n m : ℕ) → n ≤ m → (if b then n else 0) ≤ m
@@ -45,7 +50,7 @@ pub record IsWithinScript (s : ScriptData) (c : Client) : Type 0 where
 heard_within : (s : ScriptData) (c : Client) (news : Option News) → IsWithinScript s c → IsWithinScript s (heard s c news).state
 heard_within s c None within = within
 heard_within s c (Some news) within = record {
-  next = next_within s (told news c) within.next;
+  next = next_within s (client_with_news news c) within.next;
   answered = length-answered_after news c.answered ∙ within.answered;
 }
 
@@ -73,7 +78,7 @@ few_first s Ended = omega arith
 few_heard : (s : ScriptData) (c : Client) (news : Option News) → length (heard s c news).sent ≤ length s.rows + 1
 few_heard s c None = omega arith
 few_heard s c (Some news) =
-    let after : Client = told news c in
+    let after : Client = client_with_news news c in
     let many : ℕ = submitted after (take c.next s.rows) (drop c.next s.rows) in
     let rows : List ScriptRow = take many (drop c.next s.rows) in
     rw (length-append (sent_first s news) (rows_letters s rows))
@@ -92,3 +97,23 @@ kept_first s = (omega arith, length-replicate (length s.trees) false)
 pub kept_of-kept : (s : ScriptData) (c : Client) → c.next ≤ length s.rows → length c.answered ≡ length s.trees
     → IsKeptOf s (kept_of s c)
 kept_of-kept s c next answered = record { numbers = refl; next = next; answered = answered }
+
+-- what is prepared at news is the client's row, and keeps the client
+pub submission-step : (s : ScriptData) (k : Kept) (body : Body) (news : News) (at : Place) (ends : Bool) (out : StepOut)
+    → IsKeptOf s k → Some news ≡ news_of (length s.trees) body → at.next ≤ length s.rows
+    → Submission s news k.client at ends out
+    → IsClientStepOf s (client_row s k.client body) k (record { change = Submit news at ends; out = out })
+submission-step s k body news at ends out kept client_with_news within made_here =
+    let known : List Bool = answered_after news k.client.answered in
+    let here : at ≡ place_at s.rows known at.next =
+    made_here.place ∙ ap (place_at s.rows known) (sym (ap (λ (p : Place). p.next) made_here.place)) in
+    let held : Place → Kept = λ (p : Place).
+    record { client = state_after news k.client at ends; sent = p.sent; unanswered = p.unanswered; asked = p.asked } in
+    record {
+      row = submission-row s news k.client at ends out made_here ∙ ap (heard s k.client) client_with_news ∙ sym (row-heard s k.client body);
+      still_kept = record {
+        numbers = ap held here;
+        next = within;
+        answered = length-answered_after news k.client.answered ∙ kept.answered;
+      };
+    }

@@ -6,7 +6,7 @@ use Rattle.std.proofs.lemmas.Bool.Decides.{nat_tests}
 use Rattle.tx_trees.specs.Adding.{advances_in}
 use Rattle.tx_trees.specs.declared.parts.ScriptRow.{ScriptRow}
 use Rattle.tx_trees.specs.declared.parts.ScriptRow.TheVariants.{Tree as TreeRow, Advance as AdvanceRow, Settle as SettleRow, Lose as LoseRow}
-use Rattle.client_rows.specs.Client.{Client, all_answered, have_ended, submitted}
+use Rattle.world_model.specs.Client.{Client, all_answered, have_ended, submitted}
 use Rattle.client_rows.specs.Kept.{unanswered_in}
 use Rattle.client_rows.specs.inside.Places.{is_over}
 use Rattle.client_rows.specs.inside.Places.{place_at, waits, knowing, furthest}

@@ -13,8 +13,8 @@ use Rattle.letter_types.specs.declared.bodies.Body.TheVariants.{Go, Reply, Advan
 use Rattle.letter_types.specs.declared.entries.Outgoing.{Outgoing}
 use Rattle.letter_types.specs.declared.entries.StepOut.{StepOut}
 use Rattle.letter_types.specs.Steps.{Out, still, made}
-use Rattle.client_rows.specs.Client.{Client, have_ended, submitted, rows_letters, next_after, finishes, submit, client_row}
-use Rattle.client_rows.specs.inside.News.{news_of, answered_after, ended_after, told, sent_first}
+use Rattle.world_model.specs.Client.{Client, have_ended, submitted, rows_letters, next_after, client_finishes, submit, client_row}
+use Rattle.client_rows.specs.News.{news_of, answered_after, ended_after, client_with_news, sent_first}
 use Rattle.client_rows.specs.inside.Places.{is_over}
 use Rattle.client_rows.specs.inside.Places.{place_at, knowing, furthest}
 use Rattle.client_rows.specs.declared.news.News.{News}
@@ -25,13 +25,13 @@ use Rattle.client_rows.proofs.Further.{over-ended}
 -- what the client does with the news that it has, if any
 abbrev pub heard : ScriptData → Client → Option News → Out Client
 heard s c None = still c
-heard s c (Some news) = submit s (told news c) (sent_first s news)
+heard s c (Some news) = submit s (client_with_news news c) (sent_first s news)
 
 -- each row of the table submits at its news, or does nothing
 pub row-heard : (s : ScriptData) (c : Client) (body : Body) → client_row s c body ≡ heard s c (news_of (length s.trees) body)
 row-heard s c Go = refl
 row-heard s c (Reply t v answer) = elim (nat_lt t.0 (length s.trees)) as (λ (b : Bool).
-    (if b then submit s (told (Answered t) c) (sent_first s (Answered t)) else still c)
+    (if b then submit s (client_with_news (Answered t) c) (sent_first s (Answered t)) else still c)
     ≡ heard s c (if b then Some (Answered t) else None)) [ true ↦ refl | false ↦ refl ]
 row-heard s c (Advanced v) = refl
 row-heard s c _ = refl
@@ -53,7 +53,7 @@ next_after-furthest s c = ap (λ (n : ℕ). c.next + n) (submitted-knowing c (ta
 -- the numbers of a place say whether the client finishes there
 finishes-place : (s : ScriptData) (c : Client) (at : Place) → at ≡ place_at s.rows c.answered at.next
     → (last : Bool) → (at.next == length s.rows) ≡ last
-    → ((at.next == length s.rows) && (is_over at c.ended && not c.finished)) ≡ finishes s at.next c
+    → ((at.next == length s.rows) && (is_over at c.ended && not c.finished)) ≡ client_finishes s at.next c
 finishes-place s c at here false is = rw is refl
 finishes-place s c at here true is =
     let end : length s.rows ≤ at.next = grind (arith, nat_tests) in
@@ -91,18 +91,18 @@ state_after news c at ends = record {
 pub submission-row : (s : ScriptData) (news : News) (c : Client) (at : Place) (ends : Bool) (out : StepOut)
     → Submission s news c at ends out → made (state_after news c at ends) out ≡ heard s c (Some news)
 submission-row s news c at ends out made_here =
-    let after : Client = told news c in
+    let after : Client = client_with_news news c in
     let next : at.next ≡ next_after s after = ap (λ (p : Place). p.next) made_here.place ∙ sym (next_after-furthest s after) in
     let here : at ≡ place_at s.rows after.answered at.next =
     made_here.place ∙ ap (place_at s.rows after.answered) (sym (ap (λ (p : Place). p.next) made_here.place)) in
-    let finish : ends ≡ finishes s (next_after s after) after =
+    let finish : ends ≡ client_finishes s (next_after s after) after =
     made_here.finish ∙ finishes-place s after at here (at.next == length s.rows) refl
-    ∙ ap (λ (n : ℕ). finishes s n after) next in
+    ∙ ap (λ (n : ℕ). client_finishes s n after) next in
     let many : at.next - c.next ≡ submitted after (take c.next s.rows) (drop c.next s.rows) = omega (arith, next) in
     same_row (answered_after news c.answered) (ended_after news c.ended) at.next (next_after s after)
-    (c.finished || ends) (c.finished || finishes s (next_after s after) after)
+    (c.finished || ends) (c.finished || client_finishes s (next_after s after) after)
     out.sent (sent_first s news ++ rows_letters s (take (submitted after (take c.next s.rows) (drop c.next s.rows)) (drop c.next s.rows)))
-    out.acts (if finishes s (next_after s after) after then Finished ∷ [] else [])
+    out.acts (if client_finishes s (next_after s after) after then Finished ∷ [] else [])
     next (ap (λ (b : Bool). c.finished || b) finish)
     (made_here.sent ∙ ap (λ (n : ℕ). sent_first s news ++ rows_letters s (take n (drop c.next s.rows))) many)
     (made_here.acts ∙ ap (λ (b : Bool). if b then Finished ∷ [] else []) finish)

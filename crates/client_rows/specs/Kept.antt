@@ -4,7 +4,7 @@ use Rattle.tx_trees.specs.ScriptData.{ScriptData}
 use Rattle.tx_trees.specs.Adding.{advances_in}
 use Rattle.tx_trees.specs.declared.parts.ScriptRow.{ScriptRow}
 use Rattle.tx_trees.specs.declared.parts.ScriptRow.TheVariants.{Tree as TreeRow, Advance as AdvanceRow}
-use Rattle.client_rows.specs.Client.{Client}
+use Rattle.world_model.specs.Client.{Client}
 
 -- how many of these rows are trees
 abbrev pub trees_in : List ScriptRow → ℕ

@@ -1,4 +1,5 @@
-pub mod Client
 pub mod Kept
 pub mod Held
+pub mod News
+pub mod Changes
 pub mod inside

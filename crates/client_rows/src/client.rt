@@ -1,14 +1,16 @@
 // The client: it submits the script's rows.
 ghost use Rattle.std.specs.Prelude.{◌≡◌, ◌==◌, ◌&&◌, length, not, IfOk, OnOk, OnErr};
 ghost use Rattle.letter_types.specs.Steps.{made};
-ghost use Rattle.client_rows.specs.Client.{client_row, start_client};
+ghost use Rattle.world_model.specs.Client.{client_row, start_client};
+ghost use Rattle.client_rows.specs.Changes.{IsClientStepOf, after_client_change};
 ghost use Rattle.client_rows.specs.Kept.{IsKeptOf, kept_of};
 ghost use Rattle.client_rows.specs.inside.Places.{is_over};
 
+use crate::change::{ClientChange, ClientPrepared};
 use crate::letters;
 use crate::news::{ended_after, mark, news_of};
 use crate::places::{Place, furthest, is_over, with_news};
-use letter_types::{Letter, Step};
+use letter_types::{Letter, Step, StepOut};
 use std::alloc::Global;
 use std::marker::Model;
 use tv_base::NoMemory;
@@ -76,8 +78,8 @@ impl Client {
     }
 
     /// What the client does with a letter: its row of the client's table. The script is the one that the client was
-    /// made with. It takes time for the rows that are submitted, and not for those before them. After want of memory
-    /// the client is as it was.
+    /// made with. It takes time for the rows that are submitted, and not for those before them. What goes out is given,
+    /// and an equal copy kept. After want of memory the client is as it was.
     pub fn on(&mut self, alloc: Global, letter: &Letter, script: &Script) -> Result<Step, NoMemory>
         requires { IsKeptOf script.now self.old }
         ensures row { IfOk result
@@ -86,19 +88,61 @@ impl Client {
         ensures still_kept { OnOk result (IsKeptOf script.now self.new) }
         ensures err { OnErr result (self.new ≡ self.old) }
     {
+        let prepared = self.prepare(alloc, letter, script)?;
+        let kept = prepared.out().copy(alloc)?;
+        let given = self.done(prepared);
+        Ok(Step { given, kept })
+    }
+
+    /// Prepares what the client does with a letter: its row of the client's table. It takes all memory that the step
+    /// wants, and changes nothing. It takes time for the rows that are submitted, and not for those before them.
+    pub fn prepare(
+        &self,
+        alloc: Global,
+        letter: &Letter,
+        script: &Script,
+    ) -> Result<ClientPrepared, NoMemory>
+        requires { IsKeptOf script.now self.now }
+        ensures { IfOk result
+            (IsClientStepOf script.now (client_row script.now self.now.client letter.now.body) self.now) }
+    {
         let Some(news) = news_of(script.trees().len(), &letter.body) else {
-            return Ok(Step::still(alloc));
+            return Ok(ClientPrepared::still(alloc));
         };
         let rows = script.rows();
         let ended = ended_after(news, self.ended);
         let known = with_news(rows, &self.answered, news, self.at);
         let at = furthest(rows, &self.answered, news, ended, known);
         let finishes = finishes(rows, at, ended, self.finished);
-        let step = letters::step(alloc, script, news, &rows[self.at.next..at.next], finishes)?;
-        mark(&mut self.answered, news);
-        self.at = at;
-        self.ended = ended;
-        self.finished |= finishes;
-        Ok(step)
+        let out = letters::out(alloc, script, news, &rows[self.at.next..at.next], finishes)?;
+        Ok(ClientPrepared {
+            change: ClientChange::Submit { news, at, finishes },
+            out,
+        })
+    }
+
+    /// Does a step that was prepared, and gives what goes out. Wants no memory.
+    pub fn done(&mut self, prepared: ClientPrepared) -> StepOut
+        ensures after { self.new ≡ after_client_change prepared.change self.old }
+        ensures out { result ≡ prepared.out }
+    {
+        let ClientPrepared { change, out } = prepared;
+        self.go_on(change);
+        out
+    }
+
+    /// Does what is to be done.
+    fn go_on(&mut self, change: ClientChange)
+        ensures { self.new ≡ after_client_change change self.old }
+    {
+        match change {
+            ClientChange::Still => {}
+            ClientChange::Submit { news, at, finishes } => {
+                mark(&mut self.answered, news);
+                self.at = at;
+                self.ended = ended_after(news, self.ended);
+                self.finished |= finishes;
+            }
+        }
     }
 }

@@ -1,11 +1,11 @@
-// What the client sends and does, made twice over: once to go out, once to stay.
+// What the client sends and does.
 ghost use Rattle.std.specs.Prelude.{if◌then◌else◌, ◌≡◌, ◌++◌, ◌∷◌, [], IfOk};
 ghost use Rattle.letter_types.specs.declared.acts.Act.TheVariants.{Finished};
-ghost use Rattle.client_rows.specs.Client.{rows_letters};
-ghost use Rattle.client_rows.specs.inside.News.{sent_first};
+ghost use Rattle.world_model.specs.Client.{rows_letters};
+ghost use Rattle.client_rows.specs.News.{sent_first};
 
 use crate::news::News;
-use letter_types::{Act, Acts, Body, Letters, Outgoing, Step, StepOut};
+use letter_types::{Act, Acts, Body, Letters, Outgoing, StepOut};
 use std::alloc::Global;
 use tv_base::{ActorNo, NoMemory};
 use tx_trees::{Script, ScriptRow};
@@ -63,7 +63,7 @@ fn acts(alloc: Global, finishes: bool) -> Result<Acts, NoMemory>
 }
 
 /// What the client sends and does as it submits these rows.
-fn out(
+pub(crate) fn out(
     alloc: Global,
     script: &Script,
     news: News,
@@ -76,22 +76,4 @@ fn out(
     let sent = letters(alloc, script, news, rows)?;
     let acts = acts(alloc, finishes)?;
     Ok(StepOut { sent, acts })
-}
-
-/// The same, twice over.
-pub(crate) fn step(
-    alloc: Global,
-    script: &Script,
-    news: News,
-    rows: &[ScriptRow],
-    finishes: bool,
-) -> Result<Step, NoMemory>
-    ensures sent { IfOk result (λ step. step.given.sent
-        ≡ sent_first script.now news ++ rows_letters script.now rows.now) }
-    ensures acts { IfOk result (λ step. step.given.acts ≡ (if finishes then Finished ∷ [] else [])) }
-    ensures kept { IfOk result (λ step. step.kept ≡ step.given) }
-{
-    let given = out(alloc, script, news, rows, finishes)?;
-    let kept = out(alloc, script, news, rows, finishes)?;
-    Ok(Step { given, kept })
 }

@@ -1,9 +1,13 @@
 //! The client, which submits a script's rows.
 #![tactic(auto)]
 
+mod change;
 mod client;
 mod letters;
 mod news;
 mod places;
 
+pub use change::{ClientChange, ClientPrepared};
 pub use client::Client;
+pub use news::News;
+pub use places::Place;

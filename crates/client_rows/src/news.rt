@@ -1,13 +1,13 @@
 // What a letter tells the client.
 ghost use Rattle.std.specs.Prelude.{◌≡◌, false, get_or};
-ghost use Rattle.client_rows.specs.inside.News.{news_of, answered_after, ended_after};
+ghost use Rattle.client_rows.specs.News.{news_of, answered_after, ended_after};
 
 use letter_types::Body;
 use tv_base::TreeNo;
 
 /// What a letter tells the client.
 #[derive(Clone, Copy)]
-pub(crate) enum News {
+pub enum News {
     /// The run begins.
     Begun,
     /// This tree, which is one of the script's, is answered.

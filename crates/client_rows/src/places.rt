@@ -1,7 +1,7 @@
 // How far the client is among the rows.
 ghost use Rattle.std.specs.Prelude.{◌≡◌, ◌+◌, ◌<◌, ◌≤◌, length};
 ghost use Rattle.tx_trees.specs.Valid.{NamesInOrder};
-ghost use Rattle.client_rows.specs.inside.News.{answered_after};
+ghost use Rattle.client_rows.specs.News.{answered_after};
 ghost use Rattle.client_rows.specs.inside.Places.{is_over};
 ghost use Rattle.client_rows.specs.inside.Places.{place_at, furthest, waits};
 
@@ -10,15 +10,15 @@ use tx_trees::ScriptRow;
 
 /// How far the client is among the script's rows.
 #[derive(Clone, Copy)]
-pub(crate) struct Place {
+pub struct Place {
     /// How many rows are submitted.
-    pub(crate) next: usize,
+    pub next: usize,
     /// How many of them are trees.
-    pub(crate) sent: usize,
+    pub sent: usize,
     /// How many of these trees aren't answered.
-    pub(crate) unanswered: usize,
+    pub unanswered: usize,
     /// How many of the rows ask for an advancement.
-    pub(crate) asked: u64,
+    pub asked: u64,
 }
 
 /// Whether all that was submitted up to a place has ended.

@@ -1,2 +1,2 @@
-pub mod Backs
 pub mod Verdicts
+pub mod With

@@ -1,4 +1,4 @@
-ghost use Rattle.std.specs.Prelude.{ℕ, ◌≡◌, ◌<◌, ◌↔◌, length, replicate, slice_get, slice_set, false, true, IfOk, IfSome, IsNone, IsTrue, Some, None};
+ghost use Rattle.std.specs.Prelude.{ℕ, ◌≡◌, ◌<◌, ◌↔◌, List, length, replicate, slice_set, false, IfOk, IsNone, IsTrue, Some, None};
 ghost use Rattle.phase_out.specs.Rounds.{AreRows, MissesRow, PairDiffers, IsMissing, new_round, is_of, all_in, number_at, kept_number, pair_agrees, all_below, agrees, verdict_of, verdict_by};
 
 use pair_counters::Row;
@@ -99,7 +99,7 @@ impl Round {
         requires numbers { length row ≡ self.old.nodes }
         ensures { self.new ≡ record self.old { dones = slice_set self.old.dones from.0 (Some row) } }
     {
-        self.put_done(from, Some(row));
+        self.dones.put(from.0 as usize, Some(row));
     }
 
     /// Keeps a node's row of requests, in place of an earlier one. Wants no memory.
@@ -108,29 +108,7 @@ impl Round {
         requires numbers { length row ≡ self.old.nodes }
         ensures { self.new ≡ record self.old { askeds = slice_set self.old.askeds from.0 (Some row) } }
     {
-        self.put_asked(from, Some(row));
-    }
-
-    /// Puts a row, or none, in place of what is kept of a node's completions, and gives what was kept. Wants no memory.
-    pub fn put_done(&mut self, from: NodeNo, row: Option<Row>) -> Option<Row>
-        requires node { from.0 < self.old.nodes }
-        requires numbers { IfSome row (λ numbers. length numbers ≡ self.old.nodes) }
-        ensures put { self.new ≡ record self.old { dones = slice_set self.old.dones from.0 row } }
-        ensures was { slice_get self.old.dones from.0 ≡ Some result }
-        ensures were_numbers { IfSome result (λ numbers. length numbers ≡ self.old.nodes) }
-    {
-        self.dones.put(from.0 as usize, row)
-    }
-
-    /// Puts a row, or none, in place of what is kept of a node's requests, and gives what was kept. Wants no memory.
-    pub fn put_asked(&mut self, from: NodeNo, row: Option<Row>) -> Option<Row>
-        requires node { from.0 < self.old.nodes }
-        requires numbers { IfSome row (λ numbers. length numbers ≡ self.old.nodes) }
-        ensures put { self.new ≡ record self.old { askeds = slice_set self.old.askeds from.0 row } }
-        ensures was { slice_get self.old.askeds from.0 ≡ Some result }
-        ensures were_numbers { IfSome result (λ numbers. length numbers ≡ self.old.nodes) }
-    {
-        self.askeds.put(from.0 as usize, row)
+        self.askeds.put(from.0 as usize, Some(row));
     }
 
     /// Whether each node's row of completions is in.
@@ -141,6 +119,14 @@ impl Round {
         all_in(self.dones.items())
     }
 
+    /// Whether each node's row of completions would be in with one of this node, whatever its numbers are.
+    pub fn all_done_with(&self, from: NodeNo) -> bool
+        requires { from.0 < self.now.nodes }
+        ensures { (row : List ℕ) → result ≡ all_in (slice_set self.now.dones from.0 (Some row)) }
+    {
+        all_others_in(self.dones.items(), from.0 as usize)
+    }
+
     /// Whether every pair of nodes agrees: the requests of the one to the other, and the completions that the other has
     /// from the one, are equal numbers. None exactly where a row is missing.
     pub fn verdict(&self) -> Option<bool>
@@ -148,7 +134,65 @@ impl Round {
         ensures missing { IsNone result ↔ MissesRow self.now }
         ensures differs { (result ≡ Some false) ↔ ((MissesRow self.now → ⊥) × PairDiffers self.now) }
     {
-        verdict(self.dones.items(), self.askeds.items(), self.nodes)
+        match self.askeds.items().first() {
+            None => Some(true),
+            Some(None) => None,
+            // The row of node 0 in place of itself.
+            Some(Some(row)) => self.verdict_with(NodeNo(0), row),
+        }
+    }
+
+    /// The verdict as it would be with this row of requests of a node, in place of an earlier one.
+    pub fn verdict_with(&self, from: NodeNo, row: &Row) -> Option<bool>
+        requires { from.0 < self.now.nodes }
+        ensures { result
+            ≡ verdict_of (record self.now { askeds = slice_set self.now.askeds from.0 (Some row.now) }) }
+    {
+        let askeds = AskedRows {
+            kept: self.askeds.items(),
+            from: from.0,
+            row: row.items(),
+        };
+        verdict(self.dones.items(), &askeds, self.nodes)
+    }
+}
+
+/// Rows of requests, with one that isn't kept yet in place of what is kept of its node.
+#[derive(Drop)]
+struct AskedRows<'a> {
+    kept: &'a [Option<Row>],
+    from: u8,
+    row: &'a [u64],
+}
+
+impl<'a> Model for AskedRows<'a> {
+    ghost use Rattle.std.specs.Prelude.{◌<◌, length, slice_set, Some};
+    ghost use Rattle.phase_out.specs.Rounds.{NodeRows};
+
+    ghost Value = { NodeRows };
+
+    ghost view = { λ a. slice_set a.kept.now a.from (Some a.row.now) };
+
+    ghost invariant = { λ a. a.from < length a.kept.now };
+}
+
+impl<'a> AskedRows<'a> {
+    /// Whether no row is missing.
+    fn all_in(&self) -> bool
+        ensures { result ≡ all_in self.now }
+    {
+        all_others_in(self.kept, self.from as usize)
+    }
+
+    /// The number at a place of a node's row, or 0 where it is missing.
+    fn number(&self, node: u8, place: u8) -> u64
+        ensures { result ≡ kept_number self.now node place }
+    {
+        if node == self.from {
+            in_row(self.row, place)
+        } else {
+            number(self.kept, node, place)
+        }
     }
 }
 
@@ -177,6 +221,14 @@ fn all_in(kept: &[Option<Row>]) -> bool
     true
 }
 
+/// Whether no row but that of a node is missing.
+fn all_others_in(kept: &[Option<Row>], node: usize) -> bool
+    requires { node < length kept.now }
+    ensures { (row : List ℕ) → result ≡ all_in (slice_set kept.now node (Some row)) }
+{
+    all_in(&kept[..node]) && all_in(&kept[node + 1..])
+}
+
 /// The number at a place of a node's row, or 0 where it is missing.
 fn number(kept: &[Option<Row>], node: u8, place: u8) -> u64
     ensures { result ≡ kept_number kept.now node place }
@@ -198,14 +250,14 @@ fn in_row(row: &[u64], place: u8) -> u64
 }
 
 /// Whether the requests of a node to another are as many as the completions that the other has from it.
-fn pair_agrees(askeds: &[Option<Row>], dones: &[Option<Row>], node: u8, other: u8) -> bool
+fn pair_agrees(askeds: &AskedRows, dones: &[Option<Row>], node: u8, other: u8) -> bool
     ensures { result ≡ pair_agrees askeds.now dones.now node other }
 {
-    number(askeds, node, other) == number(dones, other, node)
+    askeds.number(node, other) == number(dones, other, node)
 }
 
 /// Whether a node agrees with each of so many nodes.
-fn node_agrees(askeds: &[Option<Row>], dones: &[Option<Row>], nodes: u8, node: u8) -> bool
+fn node_agrees(askeds: &AskedRows, dones: &[Option<Row>], nodes: u8, node: u8) -> bool
     ensures { result ≡ all_below nodes (pair_agrees askeds.now dones.now node) }
 {
     for other in 0..nodes {
@@ -217,20 +269,20 @@ fn node_agrees(askeds: &[Option<Row>], dones: &[Option<Row>], nodes: u8, node: u
 }
 
 /// The verdict of the rows of so many nodes.
-fn verdict(dones: &[Option<Row>], askeds: &[Option<Row>], nodes: u8) -> Option<bool>
+fn verdict(dones: &[Option<Row>], askeds: &AskedRows, nodes: u8) -> Option<bool>
     ensures { result ≡ verdict_by nodes dones.now askeds.now }
 {
     if !all_in(dones) {
         return None;
     }
-    if !all_in(askeds) {
+    if !askeds.all_in() {
         return None;
     }
     Some(agrees(askeds, dones, nodes))
 }
 
 /// Whether every pair of so many nodes agrees.
-fn agrees(askeds: &[Option<Row>], dones: &[Option<Row>], nodes: u8) -> bool
+fn agrees(askeds: &AskedRows, dones: &[Option<Row>], nodes: u8) -> bool
     ensures { result ≡ agrees nodes askeds.now dones.now }
 {
     for node in 0..nodes {

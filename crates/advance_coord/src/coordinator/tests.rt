@@ -201,7 +201,7 @@ fn numbers_stop_at_their_greatest(rt: HostRuntime) -> Result<(), Fail> {
         phase: Phase::Paused { reads: true },
         acks: 0,
         current: Round::empty(alloc),
-        flag: false,
+        nudged: false,
     };
     let most = u64::MAX;
     assert_eq!(rt;

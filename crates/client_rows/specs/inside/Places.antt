@@ -3,7 +3,7 @@ use Rattle.std.specs.Prelude.{ℕ, Bool, false, ◌+◌, not, List, take, drop, 
 use Rattle.tx_trees.specs.Adding.{advances_in}
 use Rattle.tx_trees.specs.declared.parts.ScriptRow.{ScriptRow}
 use Rattle.tx_trees.specs.declared.parts.ScriptRow.TheVariants.{Tree as TreeRow, Settle as SettleRow}
-use Rattle.client_rows.specs.Client.{Client, submitted}
+use Rattle.world_model.specs.Client.{Client, submitted}
 use Rattle.client_rows.specs.Kept.{trees_in, unanswered_in}
 use Rattle.client_rows.specs.declared.places.Place.{Place}
 

@@ -1,5 +1,5 @@
 use Rattle.std.proofs.Common.{◌≡◌, ◌++◌}
-use Rattle.advance_coord.specs.Coordinator.{to_nodes}
+use Rattle.world_model.specs.Coordinator.{to_nodes}
 use Rattle.advance_coord.proofs.letters.with_nodes.Given as goal
 
 abbrev pub invariant-loop-node : goal.invariant-loop-node

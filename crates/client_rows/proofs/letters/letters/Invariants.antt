@@ -1,6 +1,6 @@
 use Rattle.std.proofs.Common.{◌≡◌, ◌++◌, drop}
-use Rattle.client_rows.specs.Client.{rows_letters}
-use Rattle.client_rows.specs.inside.News.{sent_first}
+use Rattle.world_model.specs.Client.{rows_letters}
+use Rattle.client_rows.specs.News.{sent_first}
 use Rattle.client_rows.proofs.letters.letters.Given as goal
 
 -- the letters so far, and those of the rows that are left, are all of them

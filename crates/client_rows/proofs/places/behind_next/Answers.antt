@@ -1,6 +1,6 @@
 use Rattle.std.proofs.Common.{◌+◌, Fits, w64, arith, rules, sym}
 use Rattle.std.proofs.Math.Facts.{Fits-le}
-use Rattle.client_rows.specs.inside.News.{answered_after}
+use Rattle.client_rows.specs.News.{answered_after}
 use Rattle.client_rows.proofs.Counts.{IsWithin, below_next, place_behind}
 use Rattle.client_rows.proofs.places.behind_next.Goals as goal
 

@@ -1,5 +1,5 @@
 use Rattle.std.proofs.Common.{◌≡◌, ◌+◌, ◌∙◌, sym, ap, arith}
-use Rattle.client_rows.specs.inside.News.{answered_after}
+use Rattle.client_rows.specs.News.{answered_after}
 use Rattle.client_rows.specs.inside.Places.{place_at}
 use Rattle.client_rows.specs.declared.places.Place.{Place}
 use Rattle.client_rows.proofs.Further.{furthest-goes, furthest-waits}

@@ -1,5 +1,5 @@
 use Rattle.std.proofs.Common.{◌≡◌, ◌≤◌, ◌-◌, length}
-use Rattle.client_rows.specs.inside.News.{answered_after}
+use Rattle.client_rows.specs.News.{answered_after}
 use Rattle.client_rows.specs.inside.Places.{place_at, furthest}
 use Rattle.client_rows.proofs.places.furthest.Given as goal
 

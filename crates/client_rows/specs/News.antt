@@ -1,10 +1,10 @@
--- What a letter tells the client, and what the client knows then. Private code alone cites these definitions.
+-- What a letter tells the client, and what the client knows then.
 use Rattle.std.specs.Prelude.{if◌then◌else◌, ℕ, Bool, true, ◌+◌, ◌-◌, ◌^◌, min, nat_lt, List, [], ◌∷◌, slice_set, Option, Some, None}
 use Rattle.tx_trees.specs.ScriptData.{ScriptData}
 use Rattle.letter_types.specs.declared.bodies.Body.{Body}
 use Rattle.letter_types.specs.declared.bodies.Body.TheVariants.{Go, Reply, Advanced}
 use Rattle.letter_types.specs.declared.entries.Outgoing.{Outgoing}
-use Rattle.client_rows.specs.Client.{Client, nudge}
+use Rattle.world_model.specs.Client.{Client, nudge}
 use Rattle.client_rows.specs.declared.news.News.{News}
 use Rattle.client_rows.specs.declared.news.News.TheVariants.{Begun, Answered, Ended}
 
@@ -28,8 +28,8 @@ ended_after Ended ended = min (ended + 1) (2 ^ 64 - 1)
 ended_after _ ended = ended
 
 -- the client's state with the news, before it submits
-abbrev pub told : News → Client → Client
-told news c = record c { answered = answered_after news c.answered; ended = ended_after news c.ended }
+abbrev pub client_with_news : News → Client → Client
+client_with_news news c = record c { answered = answered_after news c.answered; ended = ended_after news c.ended }
 
 -- what is sent before the rows
 abbrev pub sent_first : ScriptData → News → List Outgoing

@@ -1,0 +1,88 @@
+// How the coordinator changes in a step, once the step is prepared.
+ghost use Rattle.std.specs.Prelude.{◌≡◌, []};
+ghost use Rattle.advance_coord.specs.declared.change.RowChange.TheVariants.{NoRow};
+ghost use Rattle.advance_coord.specs.inside.Sent.{letters_alone};
+
+use letter_types::{Acts, Letters, Row, StepOut};
+use phase_out::Round;
+use std::alloc::Global;
+use tv_base::NodeNo;
+use world_model::Phase;
+
+/// Which row the round is given.
+#[derive(Drop)]
+pub enum RowChange {
+    /// None.
+    NoRow,
+    /// A node's row of completions, in place of an earlier one.
+    Done { from: NodeNo, row: Row },
+    /// A node's row of requests, in place of an earlier one.
+    Asked { from: NodeNo, row: Row },
+}
+
+/// What comes next.
+#[derive(Drop)]
+pub enum Next {
+    /// All else stays.
+    Stay,
+    /// One more advance waits.
+    Wait,
+    /// A tree was answered since the round began.
+    Nudge,
+    /// One acknowledgement more.
+    Acknowledge,
+    /// A phase begins.
+    Begin(Phase),
+    /// A round begins.
+    Count { reads: bool, round: Round },
+    /// The next update version, in the phase in which its advancement is, and so many advances wait.
+    GoOn { phase: Phase, waits: u64 },
+}
+
+/// What the coordinator does: it keeps a row, and then comes what comes next.
+#[derive(Drop)]
+pub struct CoordinatorChange {
+    pub row: RowChange,
+    pub next: Next,
+}
+
+/// A step of the coordinator that is prepared: what it does, and what goes out.
+#[derive(Drop)]
+pub struct CoordinatorPrepared {
+    pub change: CoordinatorChange,
+    pub out: StepOut,
+}
+
+impl CoordinatorPrepared {
+    /// What goes out.
+    pub fn out(&self) -> &StepOut
+        ensures { result.now ≡ self.now.out }
+    {
+        &self.out
+    }
+
+    /// A change with these letters, and no act.
+    pub(crate) fn sending(
+        alloc: Global,
+        row: RowChange,
+        next: Next,
+        sent: Letters,
+    ) -> CoordinatorPrepared
+        ensures { result ≡ record { change = record { row = row; next = next }; out = letters_alone sent } }
+    {
+        CoordinatorPrepared {
+            change: CoordinatorChange { row, next },
+            out: StepOut {
+                sent,
+                acts: Acts::new(alloc),
+            },
+        }
+    }
+
+    /// What comes next, with no row and no letter.
+    pub(crate) fn silent(alloc: Global, next: Next) -> CoordinatorPrepared
+        ensures { result ≡ record { change = record { row = NoRow; next = next }; out = letters_alone [] } }
+    {
+        CoordinatorPrepared::sending(alloc, RowChange::NoRow, next, Letters::new(alloc))
+    }
+}

@@ -1,0 +1,30 @@
+-- How the client changes in a step that is prepared.
+use Rattle.std.specs.Prelude.{◌≡◌, ◌||◌}
+use Rattle.tx_trees.specs.ScriptData.{ScriptData}
+use Rattle.letter_types.specs.Steps.{Out, made}
+use Rattle.world_model.specs.Client.{Client}
+use Rattle.client_rows.specs.Kept.{Kept, IsKeptOf}
+use Rattle.client_rows.specs.News.{answered_after, ended_after}
+use Rattle.client_rows.specs.declared.change.ClientChange.{ClientChange}
+use Rattle.client_rows.specs.declared.change.ClientChange.TheVariants.{Still, Submit}
+use Rattle.client_rows.specs.declared.change.ClientPrepared.{ClientPrepared}
+
+-- the client after a step
+abbrev pub after_client_change : ClientChange → Kept → Kept
+after_client_change Still k = k
+after_client_change (Submit news at finishes) k = record {
+  client = record {
+    next = at.next;
+    answered = answered_after news k.client.answered;
+    ended = ended_after news k.client.ended;
+    finished = k.client.finished || finishes;
+  };
+  sent = at.sent;
+  unanswered = at.unanswered;
+  asked = at.asked;
+}
+
+-- a step that is prepared is this row of the client, which stays this script's
+pub record IsClientStepOf (s : ScriptData) (o : Out Client) (k : Kept) (p : ClientPrepared) : Type 0 where
+  pub row : made (after_client_change p.change k).client p.out ≡ o
+  pub still_kept : IsKeptOf s (after_client_change p.change k)
