@@ -2,3 +2,4 @@ pub mod Ends
 pub mod Picked
 pub mod PickNumbers
 pub mod OldestPlaces
+pub mod Quiet

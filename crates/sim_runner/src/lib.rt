@@ -1,10 +1,13 @@
-//! Runs on one thread: which letter is taken next is chosen by a script's picks and a seed, or by any picker.
+//! Runs on one thread: which letter is taken next is chosen by a script's picks and a seed, or by any picker. What laws of
+//! all runs say of a world.
 #![tactic(auto)]
 
+mod laws;
 mod pickers;
 mod picks;
 mod simulation;
 
+pub use laws::{worlds_are_balanced, worlds_give_in_quiet};
 pub use pickers::{Hold, Newest, Picker, Starve};
 pub use picks::Picks;
 pub use simulation::{simulate, simulate_by};

@@ -1,10 +1,10 @@
 // The numbers by which a schedule takes letters.
-ghost use Rattle.std.specs.Prelude.{◌≡◌, ◌<◌, ◌%◌, ◌/◌, ◌^◌};
+ghost use Rattle.std.specs.Prelude.{◌≡◌, ◌<◌, ◌%◌};
 ghost use Rattle.sim_runner.specs.Picks.{after_number, next_number};
-ghost use Rattle.tv_base.specs.Draws.{next_draw};
 
 use crate::pickers::Picker;
 use std::marker::Model;
+use tv_base::{next_draw, upper_bits};
 use world_core::World;
 
 /// Numbers one after the other: those that are given, then with a seed its draws, and without a seed 0.
@@ -20,21 +20,6 @@ impl<'a> Model for Picks<'a> {
     ghost Value = { PicksData };
 
     ghost view = { λ p. record { given = p.given.now; seed = p.seed } };
-}
-
-/// The number that a draw makes of the one before (docs/ALGORITHM.md, "Schedules").
-fn next_draw(seed: u64) -> u64
-    ensures { result ≡ next_draw seed }
-{
-    seed.wrapping_mul(6_364_136_223_846_793_005)
-        .wrapping_add(1_442_695_040_888_963_407)
-}
-
-/// What a draw gives: the upper 31 bits.
-fn drawn(number: u64) -> u32
-    ensures { result ≡ number / 2 ^ 33 }
-{
-    (number / (1 << 33)) as u32
 }
 
 impl<'a> Picks<'a> {
@@ -68,7 +53,7 @@ impl<'a> Picks<'a> {
         };
         let number = next_draw(seed);
         self.seed = Some(number);
-        drawn(number)
+        upper_bits(number)
     }
 }
 

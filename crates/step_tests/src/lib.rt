@@ -1,9 +1,11 @@
-//! Tests of actors' steps: what a node and the client do with a letter.
+//! Tests of actors' steps: what a node and the client do with a letter, and a home with a notice.
 #![tactic(auto)]
 
 #[cfg(test)]
 mod builders;
 #[cfg(test)]
 mod client;
+#[cfg(test)]
+mod homes;
 #[cfg(test)]
 mod nodes;

@@ -5,17 +5,17 @@ use crate::builders::{letter, script_of};
 use commute_ops::{SumValue, Value, Values};
 use item_versions::ItemTable;
 use letter_types::{Answer, Body, Letter, Notice, Step};
-use node_step::step_node;
 use node_versions::Turns;
 use pair_counters::Counters;
 use read_step::run_read;
 use std::alloc::Global;
 use std::test::Fail;
 use tree_home::Homes;
-use tree_step::{NodeParts, is_due};
+use tree_step::{NodeParts, done_twice, is_due};
 use tv_base::{ActorNo, ItemNo, NoMemory, NodeNo, SubNo, TreeNo, Version};
 use tx_trees::Script;
 use update_step::run_update;
+use world_core::prepare_node;
 
 // Tree 0 is an update tree with a child at node 1, tree 1 a read tree without one.
 const TWO_TREES: &[u8] =
@@ -68,7 +68,8 @@ fn take(
     letter: &Letter,
 ) -> Result<(NodeParts, Step), Fail> {
     let mut node = node_for(alloc, script, letter, read)?;
-    let step = step_node(alloc, &mut node, letter, script)?;
+    let prepared = prepare_node(alloc, &node, letter, script)?;
+    let step = done_twice(alloc, &mut node, prepared)?;
     Ok((node, step))
 }
 

@@ -5,7 +5,7 @@ use Rattle.std.proofs.lemmas.Bool.Decides.{nat_tests}
 use Rattle.tv_base.proofs.ByPlace.{slice_get_split}
 use Rattle.letter_types.specs.declared.entries.Entry.{Entry}
 use Rattle.letter_types.specs.Letters.{go}
-use Rattle.node_versions.specs.Turns.{start as first_turns}
+use Rattle.node_versions.specs.Turns.{turns_start as first_turns}
 use Rattle.item_versions.specs.Window.{IsWindowedTable}
 use Rattle.node_versions.specs.declared.turns.Turns.{Turns}
 use Rattle.pair_counters.specs.Counts.{Counts, no_counts}

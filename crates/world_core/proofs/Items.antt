@@ -4,7 +4,7 @@ use Rattle.std.specs.Prelude.{slice_index_or}
 use Rattle.std.proofs.lemmas.List.Elements.{All-append, All-from_recursion}
 use Rattle.std.proofs.lemmas.List.{drop_more}
 use Rattle.tv_base.specs.declared.numbers.ItemNo.{ItemNo}
-use Rattle.commute_ops.specs.Ops.{start}
+use Rattle.commute_ops.specs.Ops.{value_start}
 use Rattle.item_versions.specs.Item.{Held}
 use Rattle.item_versions.specs.Table.{Table, IsAfter}
 use Rattle.tx_trees.specs.declared.parts.ItemRow.{ItemRow}
@@ -12,7 +12,7 @@ use Rattle.world_model.specs.Tables.{items_at}
 
 -- an item as it begins
 abbrev pub first_entry : ℕ → ItemRow → ItemNo × Held
-first_entry x r = (record { 0 = x }, (record { 0 = 0 }, start r.kind r.initial) ∷ [])
+first_entry x r = (record { 0 = x }, (record { 0 = 0 }, value_start r.kind r.initial) ∷ [])
 
 open_true : (p x : ℕ) (r : ItemRow) (rs : List ItemRow) → (r.node.0 == p) ≡ true → items_at p x (r ∷ rs) ≡ first_entry x r ∷ items_at p (x + 1) rs
 open_true p x r rs is = rw is refl

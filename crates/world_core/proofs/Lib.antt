@@ -1,8 +1,8 @@
 pub mod Items
 pub mod Sealed
 pub mod Bag
-pub mod Stepped
-pub mod Few
+pub mod Dues
+pub mod Doing
 pub mod First
 pub mod Worlds
 pub mod Leads

@@ -1,5 +1,5 @@
 -- A step of an actor makes the next world.
-use Rattle.std.proofs.Common.{◌≡◌, ◌≢◌, ℕ, ◌+◌, ◌*◌, ◌<◌, ◌≤◌, ◌==◌, Bool, true, false, List, [], ◌∷◌, ◌++◌, length, reverse, Some, refl, sym, ap, ◌∙◌, subst, arith}
+use Rattle.std.proofs.Common.{◌≡◌, ◌≢◌, ℕ, ◌+◌, ◌<◌, ◌==◌, Bool, true, false, List, [], ◌∷◌, ◌++◌, length, reverse, Some, refl, sym, ap, ◌∙◌, subst, arith}
 use Rattle.std.specs.Prelude.{nat_lt, slice_get, slice_set}
 use Rattle.std.specs.List.{remove}
 use Rattle.std.proofs.lemmas.Bool.Decides.{nat_tests}
@@ -9,89 +9,27 @@ use Rattle.std.proofs.lemmas.Option.{same_Some}
 use Rattle.tv_base.proofs.ByPlace.{get_set_other, get_set_same}
 use Rattle.tv_base.proofs.Truths.{same_test}
 use Rattle.letter_types.specs.declared.acts.Act.{Act}
-use Rattle.letter_types.specs.declared.bodies.Body.{Body}
-use Rattle.letter_types.specs.declared.bodies.Body.TheVariants.{Go, Root, Sub as SubLetter, Done, Reply, Nudge, Advance, Turn, Show, Sweep, Turned, Shown, Swept, AskDone, AskAsked, DoneRow, AskedRow, Advanced}
 use Rattle.letter_types.specs.declared.entries.Letter.{Letter}
 use Rattle.letter_types.specs.declared.entries.Outgoing.{Outgoing}
 use Rattle.letter_types.specs.declared.entries.Entry.{Entry}
 use Rattle.letter_types.specs.declared.entries.StepOut.{StepOut}
-use Rattle.letter_types.specs.Letters.{find_id, sealed}
+use Rattle.letter_types.specs.Letters.{sealed}
 use Rattle.letter_types.specs.Steps.{Out, made}
-use Rattle.pair_counters.specs.Numbers.{AllBelow, Numbers}
-use Rattle.run_laws.specs.Balance.{MOST_COUNTED}
 use Rattle.tx_trees.specs.ScriptData.{ScriptData, client_of}
-use Rattle.world_model.specs.Counts.{Each}
-use Rattle.world_model.specs.Runs.{IsStepRun, MayFollow, Moves, AtNode, AtCoordinator, AtClient, node_in, waiting}
-use Rattle.world_model.proofs.Every.{each_found}
+use Rattle.tx_trees.specs.Valid.{IsValid}
+use Rattle.world_model.specs.Runs.{MayFollow, Moves, AtNode, AtCoordinator, AtClient, actor_in, waiting}
 use Rattle.world_model.proofs.Gone.{unique}
-use Rattle.world_model.proofs.Fits.{IsFit}
-use Rattle.world_model.proofs.Scripts.{IsSound, get_below, has_root, node_below, sub_there}
-use Rattle.run_laws.proofs.Goods.{good_run}
-use Rattle.run_laws.specs.Quiet.{IsGivenInQuiet}
-use Rattle.run_laws.proofs.InTime.{counts_small, given_run, in_time}
+use Rattle.world_model.proofs.Addressees.{addressed}
+use Rattle.world_model.proofs.Scripts.{get_below}
 use Rattle.world_core.specs.declared.actor.ActorState.{ActorState}
 use Rattle.world_model.specs.Tables.{ActorData, actor_row}
-use Rattle.world_core.specs.Actors.{AreStatesOf, CountsBelow, IsAddressed, IsFor, IsStateOf, IsWorldOf, WorldData, actor_in, data_of}
-use Rattle.world_core.specs.inside.Actors.{Acted}
+use Rattle.world_core.specs.Actors.{AreStatesOf, IsFor, IsStateOf, IsWorldOf, WorldData, actor_data}
+use Rattle.world_core.proofs.Doing.{IsRow}
 use Rattle.world_core.proofs.Bag.{Found, found_at}
 
 -- the entry that a step makes
 abbrev pub entry_of : ℕ → Letter → List Outgoing → List Act → Entry
 entry_of stamp l sent acts = record { stamp = record { 0 = stamp }; actor = l.to; took = l; sent = sent; acts = acts }
-
--- each letter under way is for one of the actors
-fit_below : (s : ScriptData) (from to : ℕ) (body : Body) → IsSound s → IsFit s from to body → to < s.nodes + 2
-fit_below s from to Go sound fit = omega (arith, fit)
-fit_below s from to (Root t) sound fit = omega (arith, fit.1, node_below s t.0 0 (has_root s t.0 sound fit.0) sound)
-fit_below s from to (SubLetter t k v) sound fit = omega (arith, fit.3, node_below s t.0 k.0 (sub_there s t.0 k.0 fit.0 fit.1) sound)
-fit_below s from to (Done t k v notice) sound fit = omega (arith, fit.3, node_below s t.0 0 (has_root s t.0 sound fit.0) sound)
-fit_below s from to (Reply t v answer) sound fit = omega (arith, fit.1)
-fit_below s from to Nudge sound fit = omega (arith, fit)
-fit_below s from to Advance sound fit = omega (arith, fit)
-fit_below s from to (Turned v) sound fit = omega (arith, fit.1)
-fit_below s from to (Shown v) sound fit = omega (arith, fit.1)
-fit_below s from to (Swept v) sound fit = omega (arith, fit.1)
-fit_below s from to (DoneRow v k row) sound fit = omega (arith, fit.1)
-fit_below s from to (AskedRow v k row) sound fit = omega (arith, fit.1)
-fit_below s from to (Turn v) sound fit = omega (arith, fit)
-fit_below s from to (Show v) sound fit = omega (arith, fit)
-fit_below s from to (Sweep v) sound fit = omega (arith, fit)
-fit_below s from to (AskDone v k) sound fit = omega (arith, fit)
-fit_below s from to (AskAsked v k) sound fit = omega (arith, fit)
-fit_below s from to (Advanced v) sound fit = omega (arith, fit)
-fit_below s from to _ sound fit = absurd fit
-
-pub addressed : (s : ScriptData) (past : List Entry) (l : Letter) → IsSound s → IsStepRun s past
-    → find_id l.id (waiting s past) ≡ Some l → l.to.0 < s.nodes + 2
-addressed s past l sound run at =
-    fit_below s l.from.0 l.to.0 l.body sound (each_found (λ (x : Letter). IsFit s x.from.0 x.to.0 x.body) l.id (waiting s past) l (good_run s past sound run (in_time s past sound run)).letters at)
-
--- the letter of a step may be taken by its addressee
-asks_by : (s : ScriptData) (past : List Entry) (l : Letter) (b c : Bool) → nat_lt l.to.0 s.nodes ≡ b
-    → (l.to.0 == s.nodes) ≡ c → IsAddressed s l (actor_in s past l.to.0)
-asks_by s past l true c is at = rw is (grind (arith, nat_tests))
-asks_by s past l false true is at = rw (is, at) tt
-asks_by s past l false false is at = rw (is, at) tt
-
-pub asks : (s : ScriptData) (past : List Entry) (l : Letter) → IsAddressed s l (actor_in s past l.to.0)
-asks s past l = asks_by s past l (nat_lt l.to.0 s.nodes) (l.to.0 == s.nodes) refl refl
-
--- what an actor counts is small while the history is short
-small_by : (s : ScriptData) (past : List Entry) (a m : ℕ) (b c : Bool)
-    → ((p : ℕ) → p < s.nodes → AllBelow m (node_in s past p).counts)
-    → nat_lt a s.nodes ≡ b → (a == s.nodes) ≡ c → CountsBelow m (actor_in s past a)
-small_by s past a m true c small is at = rw is (small a (grind (arith, nat_tests)))
-small_by s past a m false true small is at = rw (is, at) tt
-small_by s past a m false false small is at = rw (is, at) tt
-
-below_more : (m n : ℕ) (counts : Numbers) → m ≤ n → AllBelow m counts → AllBelow n counts
-below_more m n counts le all v q = let both = all v q in (omega (arith, both.0), omega (arith, both.1))
-
-pub small_counts : (s : ScriptData) (past : List Entry) (a m : ℕ) → IsSound s → IsStepRun s past → MOST_COUNTED * length past + 1 ≤ m
-    → CountsBelow m (actor_in s past a)
-small_counts s past a m sound run le =
-    small_by s past a m (nat_lt a s.nodes) (a == s.nodes)
-    (λ p lt. below_more (MOST_COUNTED * length past + 1) m (node_in s past p).counts le (counts_small s past sound run p lt)) refl refl
 
 -- whose step it is
 moves_by : (s : ScriptData) (past : List Entry) (l : Letter) (stamp : ℕ) (sent : List Outgoing) (acts : List Act) (b c : Bool)
@@ -120,10 +58,18 @@ others_by s past e a false true is at lt ne =
     let no : (e.actor.0 == s.nodes) ≡ false = grind (arith, nat_tests) in rw (is, at, no) refl
 others_by s past e a false false is at lt ne = let no : (e.actor.0 == client_of s) ≡ false = grind (arith, nat_tests) in rw (is, at, no) refl
 
+-- the addressee of a letter made its row of it, this goes out, and the other actors stay
+pub record Took (s : ScriptData) (l : Letter) (old new : List ActorState) (out : StepOut) : Type 0 where
+  pub before : ActorState
+  pub after : ActorState
+  pub there : slice_get old l.to.0 ≡ Some before
+  pub set : new ≡ slice_set old l.to.0 after
+  pub is : IsRow s l before after out
+
 -- what a step takes and gives: the addressee's state before and after, what it sent and did, and the bag then
 pub record Stepped (s : ScriptData) (w : WorldData) (k : ℕ) (l : Letter) (out : StepOut) (next : List ActorState) (left : List Letter) : Type 0 where
   pub letter : slice_get w.bag k ≡ Some l
-  pub acted : Acted s l w.actors next out
+  pub took : Took s l w.actors next out
   pub bag : left ≡ remove w.bag k ++ sealed (length w.history + 1) l.to.0 0 out.sent
 
 pub found_in : (s : ScriptData) (w : WorldData) (k : ℕ) (l : Letter) → IsWorldOf s w → slice_get w.bag k ≡ Some l
@@ -132,34 +78,34 @@ found_in s w k l world at =
     found_at (waiting s (reverse w.history)) k l (unique s (reverse w.history) l.id world.run)
     (subst (λ (ls : List Letter). slice_get ls k ≡ Some l) world.bag at)
 
-pub below : (s : ScriptData) (w : WorldData) (k : ℕ) (l : Letter) → IsWorldOf s w → IsSound s
+pub below : (s : ScriptData) (w : WorldData) (k : ℕ) (l : Letter) → IsWorldOf s w → IsValid s
     → slice_get w.bag k ≡ Some l → l.to.0 < s.nodes + 2
-below s w k l world sound at = addressed s (reverse w.history) l sound world.run (found_in s w k l world at).found
+below s w k l world valid at = addressed s (reverse w.history) l valid world.run (found_in s w k l world at).found
 
 -- the step is the row of what the past says of its addressee
 pub row_is : (s : ScriptData) (past : List Entry) (l : Letter) (old next : List ActorState) (out : StepOut)
-    → AreStatesOf s past old → (a : Acted s l old next out)
-    → made (data_of a.after) out ≡ actor_row s l.to.0 (actor_in s past l.to.0) l
-row_is s past l old next out states a = a.row
+    → AreStatesOf s past old → (a : Took s l old next out)
+    → made (actor_data a.after) out ≡ actor_row s l.to.0 (actor_in s past l.to.0) l
+row_is s past l old next out states a = a.is.row
     ∙ ap (λ (d : ActorData). actor_row s l.to.0 d l) (states l.to.0 a.before a.there).seen
 
 may_follow : (s : ScriptData) (w : WorldData) (k : ℕ) (l : Letter) (sent : List Outgoing) (acts : List Act)
-    → IsWorldOf s w → IsSound s
+    → IsWorldOf s w → IsValid s
     → slice_get w.bag k ≡ Some l
     → sent ≡ (actor_row s l.to.0 (actor_in s (reverse w.history) l.to.0) l).sent
     → acts ≡ (actor_row s l.to.0 (actor_in s (reverse w.history) l.to.0) l).acts
     → MayFollow s (reverse w.history) (entry_of (length w.history + 1) l sent acts)
-may_follow s w k l sent acts world sound at a b = record {
+may_follow s w k l sent acts world valid at a b = record {
   stamp = omega (arith, length-reverse w.history);
   waits = (found_in s w k l world at).found;
   addressee = refl;
-  moves = moves_by s (reverse w.history) l (length w.history + 1) sent acts (nat_lt l.to.0 s.nodes) (l.to.0 == s.nodes) refl refl (below s w k l world sound at) a b;
+  moves = moves_by s (reverse w.history) l (length w.history + 1) sent acts (nat_lt l.to.0 s.nodes) (l.to.0 == s.nodes) refl refl (below s w k l world valid at) a b;
 }
 
 -- each actor's next state
 state_next : (s : ScriptData) (past : List Entry) (l : Letter) (stamp : ℕ) (sent : List Outgoing) (acts : List Act) (old : List ActorState) (after st : ActorState) (a : ℕ)
     → length old ≡ s.nodes + 2 → l.to.0 < s.nodes + 2 → AreStatesOf s past old
-    → data_of after ≡ (actor_row s l.to.0 (actor_in s past l.to.0) l).state → IsFor s after
+    → actor_data after ≡ (actor_row s l.to.0 (actor_in s past l.to.0) l).state → IsFor s after
     → slice_get (slice_set old l.to.0 after) a ≡ Some st → (b : Bool) → (l.to.0 == a) ≡ b
     → IsStateOf s (entry_of stamp l sent acts ∷ past) a st
 state_next s past l stamp sent acts old after st a count to states row script at true is =
@@ -168,7 +114,7 @@ state_next s past l stamp sent acts old after st a count to states row script at
     subst (λ (n : ℕ). slice_get (slice_set old l.to.0 after) n ≡ Some after) eq (get_set_same old l.to.0 after (omega arith)) in
     let same : after ≡ st = same_Some after st (sym here ∙ at) in
     subst (λ (y : ActorState). IsStateOf s (entry_of stamp l sent acts ∷ past) a y) same (record {
-      seen = subst (λ (n : ℕ). data_of after ≡ actor_in s (entry_of stamp l sent acts ∷ past) n) eq
+      seen = subst (λ (n : ℕ). actor_data after ≡ actor_in s (entry_of stamp l sent acts ∷ past) n) eq
           (row ∙ state_by s past l stamp sent acts (nat_lt l.to.0 s.nodes) (l.to.0 == s.nodes) refl refl to);
       script = script;
     })
@@ -183,26 +129,19 @@ state_next s past l stamp sent acts old after st a count to states row script at
     }
 
 pub next_world : (s : ScriptData) (w : WorldData) (k : ℕ) (l : Letter) (out : StepOut) (actors : List ActorState) (bag : List Letter)
-    → IsWorldOf s w → IsSound s → Stepped s w k l out actors bag
+    → IsWorldOf s w → IsValid s → Stepped s w k l out actors bag
     → IsWorldOf s (record { actors = actors; bag = bag; history = w.history ++ entry_of (length w.history + 1) l out.sent out.acts ∷ [] })
-next_world s w k l out actors bag world sound step =
+next_world s w k l out actors bag world valid step =
     let past = reverse w.history in
     let e = entry_of (length w.history + 1) l out.sent out.acts in
-    let to : l.to.0 < s.nodes + 2 = below s w k l world sound step.letter in
-    let acted = step.acted in
-    let row : made (data_of acted.after) out ≡ actor_row s l.to.0 (actor_in s past l.to.0) l = row_is s past l w.actors actors out world.actors acted in
+    let to : l.to.0 < s.nodes + 2 = below s w k l world valid step.letter in
+    let acted = step.took in
+    let row : made (actor_data acted.after) out ≡ actor_row s l.to.0 (actor_in s past l.to.0) l = row_is s past l w.actors actors out world.actors acted in
     let back : reverse (w.history ++ e ∷ []) ≡ e ∷ past = reverse-append w.history (e ∷ []) in
     record {
-      run = rw back (may_follow s w k l out.sent out.acts world sound step.letter (ap (λ (o : Out ActorData). o.sent) row) (ap (λ (o : Out ActorData). o.acts) row), world.run);
+      run = rw back (may_follow s w k l out.sent out.acts world valid step.letter (ap (λ (o : Out ActorData). o.sent) row) (ap (λ (o : Out ActorData). o.acts) row), world.run);
       count = ap (length {A = ActorState}) acted.set ∙ length-set w.actors l.to.0 acted.after ∙ world.count;
       actors = rw (back, acted.set) (λ a st at. state_next s past l (length w.history + 1) out.sent out.acts w.actors acted.after st a world.count to world.actors
-          (ap (λ (o : Out ActorData). o.state) row) acted.script at (l.to.0 == a) refl);
+          (ap (λ (o : Out ActorData). o.state) row) acted.is.script at (l.to.0 == a) refl);
       bag = step.bag ∙ rw (back, world.bag, (found_in s w k l world step.letter).left) refl;
     }
-
--- the entry that a step makes sends in quiet
-pub given_step : (s : ScriptData) (old new : List Entry) → IsSound s → IsStepRun s (reverse new) → (e : Entry) → new ≡ old ++ e ∷ []
-    → Each (λ (o : Outgoing). IsGivenInQuiet s (reverse old) o.body) e.sent
-given_step s old new sound run e is =
-    let more : reverse new ≡ e ∷ reverse old = ap reverse is ∙ reverse-append old (e ∷ []) in
-    given_run s (reverse old) e sound (subst (IsStepRun s) more run)

@@ -1,15 +1,18 @@
 // The actors as one, and their steps.
-ghost use Rattle.std.specs.Prelude.{◌≡◌, ◌<◌, ◌+◌, [], IfOk, OnOk, OnErr};
+ghost use Rattle.std.specs.Prelude.{◌≡◌, ◌<◌, ◌+◌, [], IfOk, MatchResult, OnOk, OnErr};
 ghost use Rattle.letter_types.specs.Steps.{made};
 ghost use Rattle.world_model.specs.Tables.{actor_row};
-ghost use Rattle.world_core.specs.Actors.{CountsBelow, data_of, IsAddressed, IsFor, IsStateOf};
+ghost use Rattle.world_model.specs.Taking.{CountsBelow, IsAddressed};
+ghost use Rattle.world_core.specs.Actors.{actor_data, IsFor, IsStateOf};
+ghost use Rattle.world_core.specs.Prepared.{IsActorDone, IsActorStepOf, ActorMayDo, MayTake, out_of};
 ghost use Rattle.pair_counters.specs.Numbers.{MOST_COUNT};
 
 use crate::node::NodeState;
-use advance_coord::Coordinator;
-use client_rows::Client;
-use letter_types::{Letter, Step};
+use advance_coord::{Coordinator, CoordinatorPrepared};
+use client_rows::{Client, ClientPrepared};
+use letter_types::{Letter, Step, StepOut};
 use std::alloc::Global;
+use tree_step::Prepared;
 use tv_base::{ActorNo, NoMemory, NodeNo};
 use tx_trees::Script;
 
@@ -22,6 +25,30 @@ pub enum ActorState {
     Coordinator(Coordinator),
     /// The client, which submits the script.
     Client(Client),
+}
+
+/// A step of an actor that is prepared: what it does, and what goes out.
+#[derive(Drop)]
+pub enum ActorPrepared {
+    /// A node's step.
+    Node(Prepared),
+    /// The coordinator's step.
+    Coordinator(CoordinatorPrepared),
+    /// The client's step.
+    Client(ClientPrepared),
+}
+
+impl ActorPrepared {
+    /// What goes out.
+    pub fn out(&self) -> &StepOut
+        ensures { result.now ≡ out_of self.now }
+    {
+        match self {
+            ActorPrepared::Node(prepared) => &prepared.out,
+            ActorPrepared::Coordinator(prepared) => prepared.out(),
+            ActorPrepared::Client(prepared) => prepared.out(),
+        }
+    }
 }
 
 impl ActorState {
@@ -41,26 +68,76 @@ impl ActorState {
     }
 }
 
-/// What an actor does with a letter that is addressed to it: its row of its table. A letter that isn't apt changes and
-/// sends nothing. After want of memory the actor is as it was.
+/// Prepares what an actor does with a letter that is addressed to it: its row of its table. A letter that isn't apt
+/// changes and sends nothing. It changes nothing, and takes all memory that the step wants, but for what a node takes to
+/// open a tree at its home.
+pub fn actor_prepare(
+    alloc: Global,
+    state: &ActorState,
+    letter: &Letter,
+    script: &Script,
+) -> Result<ActorPrepared, NoMemory>
+    requires { MayTake script.now letter.now MOST_COUNT state.now }
+    ensures { IfOk result (IsActorStepOf script.now letter.now state.now) }
+{
+    match state {
+        ActorState::Node(node) => {
+            let prepared = node.prepare(alloc, letter, script)?;
+            Ok(ActorPrepared::Node(prepared))
+        }
+        ActorState::Coordinator(coordinator) => {
+            let prepared = coordinator.prepare(alloc, letter)?;
+            Ok(ActorPrepared::Coordinator(prepared))
+        }
+        ActorState::Client(client) => {
+            let prepared = client.prepare(alloc, letter, script)?;
+            Ok(ActorPrepared::Client(prepared))
+        }
+    }
+}
+
+/// Does a step that was prepared for this actor, and gives what goes out. Only to open a tree at its home may want
+/// memory; then the actor is as it was.
+pub fn actor_done(state: &mut ActorState, prepared: ActorPrepared) -> Result<StepOut, NoMemory>
+    requires { ActorMayDo prepared state.old }
+    ensures { MatchResult result (IsActorDone prepared state.old state.new) (λ _. state.new ≡ state.old) }
+{
+    match prepared {
+        ActorPrepared::Node(prepared) => match state {
+            ActorState::Node(node) => node.done(prepared),
+            _ => unreachable!(),
+        },
+        ActorPrepared::Coordinator(prepared) => match state {
+            ActorState::Coordinator(coordinator) => Ok(coordinator.done(prepared)),
+            _ => unreachable!(),
+        },
+        ActorPrepared::Client(prepared) => match state {
+            ActorState::Client(client) => Ok(client.done(prepared)),
+            _ => unreachable!(),
+        },
+    }
+}
+
+/// What an actor does with a letter that is addressed to it, prepared and done: its row of its table. A letter that isn't
+/// apt changes and sends nothing. What goes out is given, and an equal copy kept. After want of memory the actor is as it
+/// was.
 pub fn actor_step(
     alloc: Global,
     state: &mut ActorState,
     letter: &Letter,
     script: &Script,
 ) -> Result<Step, NoMemory>
-    requires addressed { IsAddressed script.now letter.now (data_of state.old) }
+    requires addressed { IsAddressed script.now letter.now (actor_data state.old) }
     requires script { IsFor script.now state.old }
-    requires small { CountsBelow MOST_COUNT (data_of state.old) }
-    ensures row { IfOk result (λ step. made (data_of state.new) step.given
-        ≡ actor_row script.now letter.now.to.0 (data_of state.old) letter.now) }
+    requires small { CountsBelow MOST_COUNT (actor_data state.old) }
+    ensures row { IfOk result (λ step. made (actor_data state.new) step.given
+        ≡ actor_row script.now letter.now.to.0 (actor_data state.old) letter.now) }
     ensures kept { IfOk result (λ step. step.kept ≡ step.given) }
     ensures script { OnOk result (IsFor script.now state.new) }
     ensures err { OnErr result (state.new ≡ state.old) }
 {
-    match state {
-        ActorState::Node(node) => node.step(alloc, letter, script),
-        ActorState::Coordinator(coordinator) => coordinator.on(alloc, letter),
-        ActorState::Client(client) => client.on(alloc, letter, script),
-    }
+    let prepared = actor_prepare(alloc, state, letter, script)?;
+    let kept = prepared.out().copy(alloc)?;
+    let given = actor_done(state, prepared)?;
+    Ok(Step { given, kept })
 }

@@ -1,26 +1,26 @@
 // A node's state: its parts, and what its type keeps of them.
-ghost use Rattle.std.specs.Prelude.{◌≡◌, ◌<◌, ◌^◌, length, IfOk, OnOk, OnErr, unsigned_abs};
+ghost use Rattle.std.specs.Prelude.{◌≡◌, ◌<◌, ◌^◌, length, IfOk, unsigned_abs};
 ghost use Rattle.std.specs.List.{AllByRecursion};
-ghost use Rattle.commute_ops.specs.Ops.{start};
+ghost use Rattle.commute_ops.specs.Ops.{value_start};
 ghost use Rattle.item_versions.specs.Window.{IsWindowedTable};
-ghost use Rattle.letter_types.specs.Steps.{made};
-ghost use Rattle.node_step.specs.Apt.{node_row};
+ghost use Rattle.world_model.specs.Apt.{node_row};
 ghost use Rattle.pair_counters.specs.Numbers.{AllBelow, MOST_COUNT};
 ghost use Rattle.pair_counters.specs.Rows.{counts_of};
+ghost use Rattle.tree_step.specs.Changes.{IsDone, IsNodeStepOf, MayDo, prepared_row};
 ghost use Rattle.tree_step.specs.Node.{data_of, IsOf};
 ghost use Rattle.tx_trees.specs.Valid.{IsItem};
 ghost use Rattle.world_model.specs.Tables.{items_at, start_node};
 
+use crate::dispatch::prepare_node;
 use commute_ops::{Kind, Value};
 use item_versions::ItemTable;
-use letter_types::{Letter, Step};
-use node_step::step_node;
+use letter_types::{Letter, StepOut};
 use node_versions::Turns;
 use pair_counters::Counters;
 use std::alloc::Global;
 use std::marker::Model;
 use tree_home::Homes;
-use tree_step::NodeParts;
+use tree_step::{NodeParts, Prepared, done};
 use tv_base::{ItemNo, NoMemory, NodeNo};
 use tx_trees::{ItemRow, Script};
 
@@ -45,7 +45,7 @@ impl Model for NodeState {
 /// An item's initial value.
 fn first_value(alloc: Global, row: &ItemRow) -> Value
     requires { row.now.kind ≡ Kind.Bag → unsigned_abs row.now.initial ≡ 0 }
-    ensures { result ≡ start row.now.kind row.now.initial }
+    ensures { result ≡ value_start row.now.kind row.now.initial }
 {
     Value::start(alloc, row.kind, row.initial)
 }
@@ -118,24 +118,27 @@ impl NodeState {
         &self.parts.homes
     }
 
-    /// What the node does with a letter: its row of the node's table. After want of memory the node is as it was.
-    pub(crate) fn step(
-        &mut self,
+    /// Prepares what the node does with a letter: its row of the node's table. It changes nothing.
+    pub(crate) fn prepare(
+        &self,
         alloc: Global,
         letter: &Letter,
         script: &Script,
-    ) -> Result<Step, NoMemory>
-        // What the caller knows.
+    ) -> Result<Prepared, NoMemory>
         requires node { letter.now.to.0 < script.now.nodes }
-        requires script { IsOf script.now self.old }
-        requires below { AllBelow MOST_COUNT (counts_of self.old.counters).numbers }
-        // What is made, what stays, and what want of memory leaves.
-        ensures row { IfOk result (λ step. made (data_of self.new) step.given
-            ≡ node_row script.now letter.now.to.0 (data_of self.old) letter.now) }
-        ensures kept { IfOk result (λ step. step.kept ≡ step.given) }
-        ensures script { OnOk result (IsOf script.now self.new) }
-        ensures err { OnErr result (self.new ≡ self.old) }
+        requires script { IsOf script.now self.now }
+        requires below { AllBelow MOST_COUNT (counts_of self.now.counters).numbers }
+        ensures { IfOk result (IsNodeStepOf (node_row script.now letter.now.to.0 (data_of self.now) letter.now) self.now) }
     {
-        step_node(alloc, &mut self.parts, letter, script)
+        prepare_node(alloc, &self.parts, letter, script)
+    }
+
+    /// Does a step that was prepared, and gives what goes out. Only to open a tree at its home may want memory; then the
+    /// node is as it was.
+    pub(crate) fn done(&mut self, prepared: Prepared) -> Result<StepOut, NoMemory>
+        requires { MayDo prepared.change prepared.out.sent self.old }
+        ensures { IsDone (prepared_row prepared (data_of self.old)) self.old self.new result }
+    {
+        done(&mut self.parts, prepared)
     }
 }

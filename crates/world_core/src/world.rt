@@ -1,25 +1,21 @@
 // A world: all actors, the letters under way, and the history so far.
-ghost use Rattle.std.specs.Prelude.{◌≡◌, ◌<◌, ◌≤◌, ◌+◌, ◌-◌, ◌^◌, ◌++◌, [], length, reverse, slice_get, slice_set, IfOk, IfSome, OnOk, OnErr, Some};
+ghost use Rattle.std.specs.Prelude.{◌≡◌, ◌<◌, ◌≤◌, ◌+◌, ◌-◌, ◌^◌, ◌++◌, [], length, slice_get, slice_set, IfOk, IfSome, MatchResult, OnOk, OnErr, Some};
 ghost use Rattle.std.specs.List.{remove};
 ghost use Rattle.letter_types.specs.Letters.{go, sealed};
-ghost use Rattle.world_model.specs.Tables.{IsRunnable};
-ghost use Rattle.run_laws.specs.Balance.{IsBalanced};
 ghost use Rattle.tx_trees.specs.ScriptData.{ScriptData};
 ghost use Rattle.world_model.specs.Runs.{actor_after};
-ghost use Rattle.world_core.specs.Actors.{AreStatesOf, data_of, GaveInQuiet, IsWorldOf, MOST_ENTRIES, TookLetter};
-ghost use Rattle.world_core.specs.inside.Actors.{Acted, MayTake, world_of};
+ghost use Rattle.world_core.specs.Actors.{AreStatesOf, actor_data, IsWorldOf, MOST_ENTRIES, TookLetter};
+ghost use Rattle.world_core.specs.Prepared.{IsActorStepOf, ActorMayDo, MayTake};
+ghost use Rattle.world_core.specs.inside.Actors.{Acted, world_of};
 ghost use Rattle.pair_counters.specs.Numbers.{MOST_COUNT};
 
-use crate::actor::{ActorState, actor_step};
+use crate::actor::{ActorPrepared, ActorState, actor_done, actor_prepare};
 use letter_bag::Bag;
-use letter_types::{Acts, Body, Entry, History, Letter, LetterId, Letters, Step, StepOut};
+use letter_types::{Acts, Body, Entry, History, Letter, LetterId, Letters, StepOut, copy_letters};
 use std::alloc::Global;
 use std::marker::Model;
 use tv_base::{ActorNo, NoMemory, Stamp};
 use tx_trees::Script;
-
-/// The most letters that a node sends in a step: a Sub to each other subtransaction of a tree, and a Done or a Reply.
-const MOST_SENT: usize = 65;
 
 /// All actors of a script, the letters under way in order of their ids, and the history so far.
 #[derive(Drop)]
@@ -94,41 +90,70 @@ fn send(bag: &mut Bag<Letter>, stamp: Stamp, actor: ActorNo, sent: Letters)
     }
 }
 
-/// Lets the addressee of a letter make its step.
-fn act(
-    alloc: Global,
-    script: &Script,
-    actors: &mut Vec<ActorState>,
-    letter: &Letter,
-) -> Result<Step, NoMemory>
-    requires here { letter.now.to.0 < length actors.old.items }
-    requires may { IfSome (slice_get actors.old.items letter.now.to.0) (MayTake script.now letter.now MOST_COUNT) }
-    ensures acted { IfOk result (λ step. Acted script.now letter.now actors.old.items actors.new.items step.given) }
-    ensures kept { IfOk result (λ step. step.kept ≡ step.given) }
-    ensures err { OnErr result (actors.new.items ≡ actors.old.items) }
+/// The state of an actor.
+fn state_at(actors: &Vec<ActorState>, actor: ActorNo) -> &ActorState
+    requires { actor.0 < length actors.now.items }
+    ensures { slice_get actors.now.items actor.0 ≡ Some result.now }
 {
-    let place = letter.to.0 as usize;
-    let state = &mut actors[place];
-    actor_step(alloc, state, letter, script)
+    &actors[actor.0 as usize]
 }
 
-/// Takes letter `k` out of the bag, sends what the step sent, and puts the entry in the last place of the history.
-fn finish(bag: &mut Bag<Letter>, history: &mut History, stamp: Stamp, k: usize, step: Step)
+/// Prepares what the addressee of a letter does with it.
+fn prepare(
+    alloc: Global,
+    script: &Script,
+    actors: &Vec<ActorState>,
+    letter: &Letter,
+) -> Result<ActorPrepared, NoMemory>
+    requires here { letter.now.to.0 < length actors.now.items }
+    requires may { IfSome (slice_get actors.now.items letter.now.to.0) (MayTake script.now letter.now MOST_COUNT) }
+    ensures { IfOk result (λ prepared. IfSome (slice_get actors.now.items letter.now.to.0)
+        (λ state. IsActorStepOf script.now letter.now state prepared)) }
+{
+    let state = state_at(actors, letter.to);
+    let prepared = actor_prepare(alloc, state, letter, script)?;
+    Ok(prepared)
+}
+
+/// Lets an actor do a step that was prepared.
+fn act(
+    actors: &mut Vec<ActorState>,
+    actor: ActorNo,
+    prepared: ActorPrepared,
+) -> Result<StepOut, NoMemory>
+    requires here { actor.0 < length actors.old.items }
+    requires may { IfSome (slice_get actors.old.items actor.0) (ActorMayDo prepared) }
+    ensures { MatchResult result (Acted actor.0 prepared actors.old.items actors.new.items)
+        (λ _. actors.new.items ≡ actors.old.items) }
+{
+    let place = actor.0 as usize;
+    let state = &mut actors[place];
+    actor_done(state, prepared)
+}
+
+/// Takes letter `k` out of the bag, sends an equal copy of what the step sent, and puts the entry in the last place of
+/// the history.
+fn finish(
+    bag: &mut Bag<Letter>,
+    history: &mut History,
+    stamp: Stamp,
+    k: usize,
+    copy: Letters,
+    out: StepOut,
+)
     requires waits { k < length bag.old.items }
-    requires room { length step.given.sent ≤ bag.old.room }
+    requires room { length copy ≤ bag.old.room }
     requires place { 0 < length history.old }
     ensures bag { IfSome (slice_get bag.old.items k) (λ l. bag.new.items
-        ≡ remove bag.old.items k ++ sealed stamp.0 l.to.0 0 step.given.sent) }
+        ≡ remove bag.old.items k ++ sealed stamp.0 l.to.0 0 copy) }
     ensures history { IfSome (slice_get bag.old.items k) (λ l. history.new
         ≡ slice_set history.old (length history.old - 1)
-        (record { stamp = stamp; actor = l.to; took = l; sent = step.kept.sent; acts = step.kept.acts })) }
+        (record { stamp = stamp; actor = l.to; took = l; sent = out.sent; acts = out.acts })) }
 {
-    let Step { given, kept } = step;
-    let StepOut { sent: out, acts: _ } = given;
-    let StepOut { sent, acts } = kept;
+    let StepOut { sent, acts } = out;
     let took = bag.take(k);
     let actor = took.to;
-    send(bag, stamp, actor, out);
+    send(bag, stamp, actor, copy);
     let last = history.items().len() - 1;
     let _placeholder = history.put(
         last,
@@ -151,14 +176,6 @@ fn make_room(bag: &mut Bag<Letter>, room: usize) -> Result<(), NoMemory>
     Ok(())
 }
 
-/// The state of an actor.
-fn state_at(actors: &Vec<ActorState>, actor: ActorNo) -> &ActorState
-    requires { actor.0 < length actors.now.items }
-    ensures { slice_get actors.now.items actor.0 ≡ Some result.now }
-{
-    &actors[actor.0 as usize]
-}
-
 /// One event over the parts of a world.
 fn advance(
     alloc: Global,
@@ -170,7 +187,6 @@ fn advance(
 ) -> Result<Stamp, NoMemory>
     // What the caller knows.
     requires waits { k < length bag.old.items }
-    requires runnable { IsRunnable script.now }
     requires world { IsWorldOf script.now (world_of actors.old.items bag.old.items history.old) }
     // What came.
     ensures world { OnOk result (IsWorldOf script.now (world_of actors.new.items bag.new.items history.new)) }
@@ -184,12 +200,15 @@ fn advance(
 {
     let _valid = script.nodes();
     let stamp = Stamp(history.items().len() as u64 + 1);
-    let room = script.rows().len() + MOST_SENT;
-    make_room(bag, room)?;
+    let letter = bag.at(k);
+    let actor = letter.to;
+    let prepared = prepare(alloc, script, actors, letter)?;
+    let copy = copy_letters(alloc, &prepared.out().sent)?;
+    make_room(bag, copy.items().len())?;
     history.push(placeholder(alloc, stamp))?;
-    match act(alloc, script, actors, bag.at(k)) {
-        Ok(step) => {
-            finish(bag, history, stamp, k, step);
+    match act(actors, actor, prepared) {
+        Ok(out) => {
+            finish(bag, history, stamp, k, copy, out);
             Ok(stamp)
         }
         Err(refused) => {
@@ -237,29 +256,25 @@ impl World {
         requires { actor.0 < length self.now.actors }
         ensures here { slice_get self.now.actors actor.0 ≡ Some result.now }
         ensures leads { (s : ScriptData) → IsWorldOf s self.now
-            → data_of result.now ≡ actor_after s self.now.history actor.0 }
+            → actor_data result.now ≡ actor_after s self.now.history actor.0 }
     {
         state_at(&self.actors, actor)
     }
 
     /// One event: letter `k` of those under way is taken by its addressee, whose step is appended to the history, and
     /// what it sends goes to the end. Gives the stamp of the new entry. After want of memory the world is as it was.
-    /// The counters stay balanced: what one node asked of another is what that one did for it and what is under way.
-    /// A version is shown, or swept to, only when nothing of the versions before it is under way or can come.
+    /// Either way it stays a world of its script, whose history goes step by step by the tables: every law of runs is of
+    /// it too.
     pub fn step(&mut self, script: &Script, k: usize) -> Result<Stamp, NoMemory>
         // What the caller knows.
         requires waits { k < length self.old.bag }
-        requires runnable { IsRunnable script.now }
         requires world { IsWorldOf script.now self.old }
         // What is a world's, and what came.
         ensures world { IsWorldOf script.now self.new }
-        ensures balanced { IsBalanced script.now (reverse self.new.history) }
         ensures took { OnOk result (TookLetter k self.old self.new) }
-        ensures quiet { OnOk result (GaveInQuiet script.now self.old self.new) }
         ensures stamp { IfOk result (λ stamp. stamp.0 ≡ length self.new.history) }
         ensures err { OnErr result (self.new ≡ self.old) }
     {
-        let _valid = script.nodes();
         let stamp = advance(
             self.alloc,
             script,

@@ -1,6 +1,6 @@
 use Rattle.std.proofs.Common.{◌≡◌, ◌∙◌, sym, ap, subst, ◌+◌, ◌++◌, ◌∷◌, []}
 use Rattle.commute_ops.specs.declared.value.Value.{Value}
-use Rattle.commute_ops.specs.Ops.{start}
+use Rattle.commute_ops.specs.Ops.{value_start}
 use Rattle.item_versions.specs.Table.{Table, IsAfter}
 use Rattle.item_versions.specs.Window.{IsWindowedTable}
 use Rattle.item_versions.proofs.Window.{IsWindowedTable-added}
@@ -19,7 +19,7 @@ loop-x-preserved c = elim c.if-eq.branch [
             (sym c.eq.ensures ∙ w.if-eq.true) new c.loop-x.invariant.so_far;
         after = subst (λ (t : Table). IsAfter (record { 0 = c.loop-x.x + 1 }) t) (sym new) (after_pushed c.loop-x.x _ c.loop-x.table c.loop-x.invariant.after);
         window = subst (λ (t : Table). IsWindowedTable 0 t) (sym new)
-            (IsWindowedTable-added (record { 0 = c.loop-x.x }) (start row.kind row.initial) c.loop-x.table c.loop-x.invariant.window);
+            (IsWindowedTable-added (record { 0 = c.loop-x.x }) (value_start row.kind row.initial) c.loop-x.table c.loop-x.invariant.window);
       }
   | else-eq w ↦
       let kept : c.if-eq.table ≡ c.loop-x.table = w.table-is in

@@ -1,0 +1,17 @@
+-- The entry that a world's step makes sends in quiet.
+use Rattle.std.proofs.Common.{◌≡◌, List, [], ◌∷◌, ◌++◌, reverse, ap, ◌∙◌, subst}
+use Rattle.std.proofs.lemmas.List.{reverse-append}
+use Rattle.letter_types.specs.declared.entries.Entry.{Entry}
+use Rattle.letter_types.specs.declared.entries.Outgoing.{Outgoing}
+use Rattle.run_laws.proofs.InTime.{given_run}
+use Rattle.run_laws.specs.Quiet.{IsGivenInQuiet}
+use Rattle.tx_trees.specs.ScriptData.{ScriptData}
+use Rattle.world_model.specs.Counts.{Each}
+use Rattle.world_model.specs.Runs.{IsStepRun}
+use Rattle.world_model.proofs.Scripts.{IsSound}
+
+pub given_step : (s : ScriptData) (old new : List Entry) → IsSound s → IsStepRun s (reverse new) → (e : Entry) → new ≡ old ++ e ∷ []
+    → Each (λ (o : Outgoing). IsGivenInQuiet s (reverse old) o.body) e.sent
+given_step s old new sound run e is =
+    let more : reverse new ≡ e ∷ reverse old = ap reverse is ∙ reverse-append old (e ∷ []) in
+    given_run s (reverse old) e sound (subst (IsStepRun s) more run)

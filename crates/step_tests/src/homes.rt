@@ -1,0 +1,43 @@
+use commute_ops::{SumValue, Value, Values};
+use std::alloc::Global;
+use std::test::Fail;
+use tree_home::{Homes, Noted};
+use tv_base::{ItemNo, NoMemory, SubNo, TreeNo, Version};
+
+// A home at which tree 0 has begun, of two subtransactions.
+fn begun_home(alloc: Global) -> Result<Homes, NoMemory> {
+    let mut homes = Homes::new(alloc);
+    homes.begin(TreeNo(0), 2, Version(1))?;
+    Ok(homes)
+}
+
+// The value of one get.
+fn one_value(alloc: Global) -> Result<Values, NoMemory> {
+    let mut values = Values::new(alloc);
+    values.push((ItemNo(0), Value::Sum(SumValue(1))))?;
+    Ok(values)
+}
+
+// How many notices of tree 0 are missing once that of a subtransaction is taken down, and with how many values the tree
+// is answered.
+fn noted(homes: &mut Homes, sub: SubNo, values: Values) -> Result<(u32, usize), Fail> {
+    if !homes.misses(TreeNo(0), sub) {
+        return Err("not missing".into());
+    }
+    match homes.note(TreeNo(0), sub, values) {
+        Ok(Noted::Missing(count)) => Ok((count, 0)),
+        Ok(Noted::Answered(answered)) => Ok((0, answered.values.items().len())),
+        Err(_) => Err("no memory".into()),
+    }
+}
+
+#[test]
+fn a_home_notes_until_it_answers(rt: HostRuntime) -> Result<(), Fail> {
+    let alloc = rt.alloc();
+    let mut homes = begun_home(alloc)?;
+    let first = noted(&mut homes, SubNo(1), one_value(alloc)?)?;
+    let last = noted(&mut homes, SubNo(0), one_value(alloc)?)?;
+    assert_eq!(rt; (first, last), ((1, 0), (0, 2)));
+    assert!(rt; !homes.has(TreeNo(0)));
+    Ok(())
+}

@@ -1,0 +1,92 @@
+-- A step of an actor that was prepared and done is its row.
+use Rattle.std.proofs.Common.{◌≡◌, ◌<◌, ℕ, List, length, get_or, refl, ap, ◌∙◌, subst, sym, Result, Ok, Err}
+use Rattle.std.specs.Prelude.{MatchResult, slice_set}
+use Rattle.std.proofs.lemmas.List.{set-get_or}
+use Rattle.std.proofs.lemmas.Option.{slice_get_read}
+use Rattle.tv_base.specs.declared.numbers.NoMemory.{NoMemory}
+use Rattle.letter_types.specs.declared.entries.Letter.{Letter}
+use Rattle.letter_types.specs.declared.entries.StepOut.{StepOut}
+use Rattle.letter_types.specs.Steps.{made}
+use Rattle.client_rows.specs.Kept.{Kept, IsKeptOf}
+use Rattle.tx_trees.specs.ScriptData.{ScriptData}
+use Rattle.world_model.specs.Tables.{NodeData, CoordinatorData, ClientData, actor_row, as_actor}
+use Rattle.world_core.specs.declared.actor.ActorState.{ActorState}
+use Rattle.world_core.specs.declared.actor.ActorState.TheVariants.{Node, Coordinator, Client}
+use Rattle.world_core.specs.declared.actor.ActorPrepared.{ActorPrepared}
+use Rattle.world_core.specs.declared.actor.ActorPrepared.TheVariants.{Node as NodeStep, Coordinator as CoordinatorStep, Client as ClientStep}
+use Rattle.world_core.specs.Actors.{IsFor, actor_data}
+use Rattle.world_core.specs.Prepared.{IsActorDone, IsActorStepOf, ActorMayDo, out_of}
+use Rattle.world_core.specs.inside.Actors.{Acted}
+
+-- the row that it is says that the actor may do it
+pub may_do : (s : ScriptData) (l : Letter) (st : ActorState) (p : ActorPrepared) → IsActorStepOf s l st p → ActorMayDo p st
+may_do s l (Node n) (NodeStep p) is = is.may
+may_do s l (Coordinator c) (CoordinatorStep p) is = is.may
+may_do s l (Client k) (ClientStep p) is = tt
+may_do s l (Node n) (CoordinatorStep p) is = absurd is
+may_do s l (Node n) (ClientStep p) is = absurd is
+may_do s l (Coordinator c) (NodeStep p) is = absurd is
+may_do s l (Coordinator c) (ClientStep p) is = absurd is
+may_do s l (Client k) (NodeStep p) is = absurd is
+may_do s l (Client k) (CoordinatorStep p) is = absurd is
+
+-- an actor made its row of a letter, is of the script still, and this goes out
+pub record IsRow (s : ScriptData) (l : Letter) (old new : ActorState) (out : StepOut) : Type 0 where
+  pub row : made (actor_data new) out ≡ actor_row s l.to.0 (actor_data old) l
+  pub script : IsFor s new
+
+-- what is done is the row
+pub is_row : (s : ScriptData) (l : Letter) (old new : ActorState) (p : ActorPrepared) (out : StepOut) → IsFor s old
+    → IsActorStepOf s l old p → IsActorDone p old new out → IsRow s l old new out
+is_row s l (Node n) (Node m) (NodeStep p) out for is done =
+    record { row = ap (as_actor NodeData) (done.0 ∙ is.row); script = done.1 ∙ for }
+is_row s l (Coordinator c) (Coordinator d) (CoordinatorStep p) out for is done =
+    record { row = (λ i. made (CoordinatorData (done.0 i)) (done.1 i)) ∙ ap (as_actor CoordinatorData) is.row; script = tt }
+is_row s l (Client k) (Client m) (ClientStep p) out for is done = record {
+  row = (λ i. made (ClientData (done.0 i).client) (done.1 i)) ∙ ap (as_actor ClientData) is.row;
+  script = subst (λ (x : Kept). IsKeptOf s x) (sym done.0) is.still_kept;
+}
+is_row s l (Node n) (Coordinator d) (NodeStep p) out for is done = absurd done
+is_row s l (Node n) (Client m) (NodeStep p) out for is done = absurd done
+is_row s l (Coordinator c) (Node m) (CoordinatorStep p) out for is done = absurd done
+is_row s l (Coordinator c) (Client m) (CoordinatorStep p) out for is done = absurd done
+is_row s l (Client k) (Node m) (ClientStep p) out for is done = absurd done
+is_row s l (Client k) (Coordinator d) (ClientStep p) out for is done = absurd done
+is_row s l (Node n) new (CoordinatorStep p) out for is done = absurd is
+is_row s l (Node n) new (ClientStep p) out for is done = absurd is
+is_row s l (Coordinator c) new (NodeStep p) out for is done = absurd is
+is_row s l (Coordinator c) new (ClientStep p) out for is done = absurd is
+is_row s l (Client k) new (NodeStep p) out for is done = absurd is
+is_row s l (Client k) new (CoordinatorStep p) out for is done = absurd is
+
+-- what goes out is what was prepared
+pub out_is : (p : ActorPrepared) (old new : ActorState) (out : StepOut) → IsActorDone p old new out → out ≡ out_of p
+out_is (NodeStep p) (Node n) (Node m) out done = λ i. record { sent = (done.0 i).sent; acts = (done.0 i).acts }
+out_is (CoordinatorStep p) (Coordinator c) (Coordinator d) out done = done.1
+out_is (ClientStep p) (Client k) (Client m) out done = done.1
+out_is (NodeStep p) (Node n) (Coordinator d) out done = absurd done
+out_is (NodeStep p) (Node n) (Client m) out done = absurd done
+out_is (NodeStep p) (Coordinator c) new out done = absurd done
+out_is (NodeStep p) (Client k) new out done = absurd done
+out_is (CoordinatorStep p) (Coordinator c) (Node m) out done = absurd done
+out_is (CoordinatorStep p) (Coordinator c) (Client m) out done = absurd done
+out_is (CoordinatorStep p) (Node n) new out done = absurd done
+out_is (CoordinatorStep p) (Client k) new out done = absurd done
+out_is (ClientStep p) (Client k) (Node m) out done = absurd done
+out_is (ClientStep p) (Client k) (Coordinator d) out done = absurd done
+out_is (ClientStep p) (Node n) new out done = absurd done
+out_is (ClientStep p) (Coordinator c) new out done = absurd done
+
+-- the actor at a place did it, and the others stay
+pub acted_at : (a : ℕ) (p : ActorPrepared) (old : List ActorState) (before after : ActorState) (r : Result StepOut NoMemory)
+    → a < length old → before ≡ get_or old a before → MatchResult r (IsActorDone p before after) (λ _. after ≡ before)
+    → MatchResult r (Acted a p old (slice_set old a after)) (λ _. slice_set old a after ≡ old)
+acted_at a p old before after (Ok out) lt at done = record {
+  before = before;
+  after = after;
+  there = slice_get_read old (length old) a before refl lt at;
+  set = refl;
+  done = done;
+}
+acted_at a p old before after (Err e) lt at same =
+    ap (λ (st : ActorState). slice_set old a st) (same ∙ at) ∙ set-get_or old a before
