@@ -4,9 +4,9 @@ use Rattle.std.specs.List.{list_any}
 use Rattle.std.proofs.lemmas.Bool.{or_left, or_right}
 use Rattle.letter_types.specs.declared.acts.Act.{Act}
 use Rattle.letter_types.specs.declared.entries.Entry.{Entry}
-use Rattle.board_model.specs.Histories.{Place, places_at, places_of}
-use Rattle.board_model.specs.Right.{finishes, has_finished}
-use Rattle.board_model.proofs.Places.{has_finished-append}
+use Rattle.board_rules.specs.Histories.{Place, places_at, places_of}
+use Rattle.board_rules.specs.Right.{finishes, has_finished}
+use Rattle.board_rules.proofs.Places.{has_finished-append}
 
 acts_end : (n : ℕ) (acts : List Act) → list_any (λ (x : Place). finishes x.act) (map (λ (a : Act). record { node = n; act = a }) acts) ≡ list_any finishes acts
 acts_end n [] = refl

@@ -15,7 +15,7 @@ use Rattle.tx_trees.specs.ScriptData.{ScriptData}
 use Rattle.world_model.specs.Runs.{IsRunOf, after}
 use Rattle.world_model.specs.Tables.{ActorData, actor_row, start_actor}
 use Rattle.world_core.specs.declared.actor.ActorState.{ActorState}
-use Rattle.world_core.specs.Actors.{IsFor, data_of}
+use Rattle.world_core.specs.Actors.{IsFor, actor_data}
 use Rattle.node_threads.specs.Cells.{LeadsTo, last_acts, last_acts_from}
 
 run_more : {St : Type 0} (row : St → Letter → Out St) (st : St) (es : List Entry) (e : Entry) → IsRunOf row st es
@@ -40,7 +40,7 @@ postings_more es e = map-append posting_of es (e ∷ [])
 -- what a step says of the actor that made it
 pub record Stepped (s : ScriptData) (a : ℕ) (es : List Entry) (before now : ActorState) (e : Entry) (out : StepOut) : Type 0 where
   pub leads : LeadsTo s a es before
-  pub row : made (data_of now) out ≡ actor_row s e.took.to.0 (data_of before) e.took
+  pub row : made (actor_data now) out ≡ actor_row s e.took.to.0 (actor_data before) e.took
   pub script : IsFor s now
   pub home : e.took.to.0 ≡ a
   pub sent : e.sent ≡ out.sent
@@ -49,7 +49,7 @@ pub record Stepped (s : ScriptData) (a : ℕ) (es : List Entry) (before now : Ac
 -- the step is the row where the entries lead
 row_there : (s : ScriptData) (a : ℕ) (es : List Entry) (before now : ActorState) (e : Entry) (out : StepOut)
     → Stepped s a es before now e out
-    → made (data_of now) out ≡ actor_row s a (after (actor_row s a) (start_actor s a) es) e.took
+    → made (actor_data now) out ≡ actor_row s a (after (actor_row s a) (start_actor s a) es) e.took
 row_there s a es before now e out is =
     is.row ∙ (λ k. actor_row s (is.home k) (is.leads.state k) e.took)
 

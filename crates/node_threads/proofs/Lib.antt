@@ -1,5 +1,4 @@
-pub mod Bounds
-pub mod Sends
+pub mod Seats
 pub mod Entries
 pub mod Merges
 pub mod Parts

@@ -10,7 +10,7 @@ use Rattle.tx_trees.specs.declared.parts.Form.TheVariants.{One}
 use Rattle.tx_trees.specs.ScriptData.{ScriptData}
 use Rattle.stamp_post.specs.Shown.{PostId, outbox_data}
 use Rattle.world_core.specs.declared.actor.ActorState.{ActorState}
-use Rattle.world_core.specs.Actors.{IsFor, data_of}
+use Rattle.world_core.specs.Actors.{IsFor, actor_data}
 use Rattle.world_model.specs.Runs.{IsRunOf, after}
 use Rattle.world_model.specs.Tables.{actor_row, start_actor}
 use Rattle.node_threads.specs.declared.cell.Sent.{Sent}
@@ -26,7 +26,7 @@ cell_data number entries = record { number = number; entries = entries }
 -- actor a's entries are a run of its table from its start, and lead to this state
 pub record LeadsTo (s : ScriptData) (a : ℕ) (es : List Entry) (st : ActorState) : Type 0 where
   pub run : IsRunOf (actor_row s a) (start_actor s a) es
-  pub state : data_of st ≡ after (actor_row s a) (start_actor s a) es
+  pub state : actor_data st ≡ after (actor_row s a) (start_actor s a) es
   pub script : IsFor s st
 
 -- the actor took the letter: it has one entry more, with the stamp, the acts and the letters that came out

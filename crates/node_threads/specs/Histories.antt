@@ -1,5 +1,5 @@
 -- One history of all actors' entries, and what it says of a receipt.
-use Rattle.std.specs.Prelude.{◌≡◌, ◌+◌, ◌<◌, ℕ, List, [], ◌∷◌, ◌++◌, slice_get, Some}
+use Rattle.std.specs.Prelude.{◌≡◌, ◌+◌, ◌<◌, ℕ, List, [], ◌∷◌, ◌++◌, length, slice_get, sum_by, Some}
 use Rattle.letter_types.specs.declared.entries.Entry.{Entry}
 use Rattle.letter_types.specs.declared.entries.Posting.{Posting}
 use Rattle.letter_types.specs.Letters.{own}
@@ -19,3 +19,7 @@ pub record IsTold (s : ScriptData) (h : List Entry) (r : ReceiptData) : Type 0 w
   pub posting : posting_of entry ≡ r.posting
   pub acts : (before : List Posting) → r.own ≡ before ++ r.posting ∷ [] → entry.acts ≡ last_acts s r.number r.own
   pub later : r.posting.took.id.stamp.0 < r.posting.stamp.0
+
+-- every letter was taken: there are as many entries as letters, which are Go and those that entries sent
+abbrev pub HasTakenAll : List Entry → Type 0
+HasTakenAll h = length h ≡ sum_by (λ e. length e.sent) h + 1

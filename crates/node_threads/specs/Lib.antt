@@ -1,3 +1,4 @@
 pub mod Cells
 pub mod Histories
+pub mod Stops
 pub mod inside

@@ -1,2 +1,3 @@
 pub mod Finishing
+pub mod Holding
 pub mod Merging

@@ -11,6 +11,7 @@ use crate::finishing::{
 };
 use crate::merge::merged;
 use crate::name::ClusterName;
+use crate::stop::RunStop;
 use crossbeam_utils::CachePadded;
 use letter_types::History;
 use message_bag::Bag;
@@ -29,25 +30,29 @@ struct Keeper<K: ClusterName> {
     ghost gatherer_is: { gatherer ≡ K.post },
 }
 
-// What workers tell one another: how often an envelope was put or something ended, whether the client has finished, and
-// whether memory was wanting.
+// What workers tell one another: how often an envelope was put, whether the client has finished, and why a worker has
+// stopped.
 #[derive(Clone, Copy)]
 pub(crate) struct Moves {
     pub(crate) count: u64,
     pub(crate) finished: bool,
-    pub(crate) failed: bool,
+    pub(crate) stopped: Option<RunStop>,
 }
 
 /// The actors of the script that `K` names, on the post that it names. Each has a cell, and a bag of the letters that
-/// are under way to it, each under a lock of its own.
+/// are under way to it, each under a lock of its own. Actors are held at the gate.
 #[derive(Drop)]
-pub struct Cluster<K: ClusterName> {
+pub struct Cluster<'a, K: ClusterName, G: Gate> {
+    pub(crate) alloc: Global,
+    script: &'a Script,
+    gate: &'a G,
     post: Post,
     keeper: Mutex<Keeper<K>>,
     cells: Vec<CachePadded<Mutex<ActorCell<K>>>>,
     pub(crate) bags: Vec<CachePadded<Mutex<Bag<K>>>>,
     pub(crate) moves: Mutex<Moves>,
     pub(crate) moved: Condvar,
+    ghost script_is: { script.now ≡ K.script },
     ghost post_is: { post ≡ K.post },
     ghost has_cells: { length cells.items ≡ K.post.actors },
     ghost has_bags: { length bags.items ≡ K.post.actors },
@@ -71,7 +76,7 @@ fn cells_of<K: ClusterName>(
     let mut cells = Vec::new(alloc);
     for number in 0..actors {
         let Some(seat) = left.take_first() else {
-            return Err(NoMemory);
+            unreachable!()
         };
         let cell = ActorCell::<K>::start(alloc, script, number, seat)?;
         cells.push(CachePadded::new(Mutex::new(cell)))?;
@@ -93,13 +98,14 @@ fn bags_of<K: ClusterName>(
     Ok(bags)
 }
 
-impl<K: ClusterName> Cluster<K> {
+impl<'a, K: ClusterName, G: Gate> Cluster<'a, K, G> {
     /// A cluster of a new post for the script's actors, and Go.
     pub fn start(
         alloc: Global,
-        script: &Script,
+        script: &'a Script,
+        gate: &'a G,
         parts: PostParts,
-    ) -> Result<(Cluster<K>, Envelope), NoMemory>
+    ) -> Result<(Cluster<'a, K, G>, Envelope), NoMemory>
         requires script { script.now ≡ K.script }
         requires post { (parts.post ≡ K.post) × (K.post.actors ≡ K.script.nodes + 2) }
         requires gatherer { parts.gatherer ≡ K.post }
@@ -116,6 +122,9 @@ impl<K: ClusterName> Cluster<K> {
         let cells = cells_of::<K>(alloc, script, seats, actors)?;
         let bags = bags_of::<K>(alloc, actors)?;
         let cluster = Cluster {
+            alloc,
+            script,
+            gate,
             post,
             keeper: Mutex::new(Keeper {
                 gatherer,
@@ -126,7 +135,7 @@ impl<K: ClusterName> Cluster<K> {
             moves: Mutex::new(Moves {
                 count: 0,
                 finished: false,
-                failed: false,
+                stopped: None,
             }),
             moved: Condvar::new(),
         };
@@ -140,18 +149,10 @@ impl<K: ClusterName> Cluster<K> {
         &self.post
     }
 
-    /// Hands an envelope to its addressee, under that one's lock alone, past the gate. After want of memory the
-    /// envelope comes back.
-    pub fn deliver<R: Wait, G: Gate>(
-        &self,
-        rt: &R,
-        alloc: Global,
-        envelope: Envelope,
-        script: &Script,
-        gate: &G,
-    ) -> Result<Sent, (NoMemory, Envelope)>
-        requires script { script.now ≡ K.script }
-        requires envelope { envelope.post ≡ K.post }
+    /// Hands an envelope to its addressee, under that one's lock alone, past the gate. Where it isn't taken, for want of
+    /// memory or since another actor lies under the lock, the envelope comes back and no actor has changed.
+    pub fn deliver<R: Wait>(&self, rt: &R, envelope: Envelope) -> Result<Sent, (RunStop, Envelope)>
+        requires { envelope.post ≡ K.post }
         ensures { MatchResult result
             (λ sent. Delivered K.post K.script envelope.letter sent)
             (λ e. e.1 ≡ envelope) }
@@ -159,34 +160,39 @@ impl<K: ClusterName> Cluster<K> {
         let to = envelope.letter().to;
         let lock: &Mutex<ActorCell<K>> = &self.cells[to.0 as usize];
         let mut cell = lock.lock(rt);
-        gate.hold(to);
+        self.gate.hold(to);
         // No clause ties a lock's place to what lies under it.
         if cell.number() != to {
-            return Err((NoMemory, envelope));
+            return Err((RunStop::Misplaced, envelope));
         }
-        cell.handle(alloc, &self.post, envelope, script)
+        match cell.handle(self.alloc, &self.post, envelope, self.script) {
+            Ok(sent) => Ok(sent),
+            Err((NoMemory, envelope)) => Err((RunStop::NoMemory, envelope)),
+        }
     }
 
     /// All entries by stamp. They are a run of the script, and each receipt's entry is one of them.
     ///
-    /// After want of memory the cluster and the receipts come back, so that it can be asked again: the cluster's cells
-    /// have the entries that they had, and its bags the letters. No clause says so of cells and bags, since what lies
-    /// under a lock is known by its type alone.
+    /// Where memory is wanting, or another actor lies under a lock, the cluster and the receipts come back, so that it
+    /// can be asked again: the cluster's cells have the entries that they had, and its bags the letters. No clause says
+    /// so of cells and bags, since what lies under a lock is known by its type alone.
     pub fn finish(
         self,
-        alloc: Global,
         receipts: Receipts,
-    ) -> Result<History, (NoMemory, Cluster<K>, Receipts)>
+    ) -> Result<History, (RunStop, Cluster<'a, K, G>, Receipts)>
         requires { All (λ r. r.post ≡ K.post) receipts }
         ensures run { IfOk result (λ h. IsWorldRun K.script h) }
         ensures told { IfOk result (λ h. (k : ℕ) (r : ReceiptData) → slice_get receipts k ≡ Some r
             → IsTold K.script h r) }
         ensures receipts { IfErr result (λ e. e.2 ≡ receipts) }
     {
-        let Ok(room) = room_for_cells::<K>(alloc, self.cells.len()) else {
-            return Err((NoMemory, self, receipts));
+        let Ok(room) = room_for_cells::<K>(self.alloc, self.cells.len()) else {
+            return Err((RunStop::NoMemory, self, receipts));
         };
         let Cluster {
+            alloc,
+            script,
+            gate,
             post,
             keeper,
             cells,
@@ -195,16 +201,22 @@ impl<K: ClusterName> Cluster<K> {
             moved,
         } = self;
         let cells = opened(cells, room.opened);
-        let Ok(entries) = room_for_entries(alloc, cells.as_slice()) else {
-            let cluster = Cluster {
-                post,
-                keeper,
-                cells: closed_again(cells, room.closed),
-                bags,
-                moves,
-                moved,
-            };
-            return Err((NoMemory, cluster, receipts));
+        let entries = match room_for_entries(alloc, cells.as_slice()) {
+            Ok(entries) => entries,
+            Err(stop) => {
+                let cluster = Cluster {
+                    alloc,
+                    script,
+                    gate,
+                    post,
+                    keeper,
+                    cells: closed_again(cells, room.closed),
+                    bags,
+                    moves,
+                    moved,
+                };
+                return Err((stop, cluster, receipts));
+            }
         };
         let Keeper { gatherer, name: _ } = keeper.into_inner();
         let Apart { seats, lists } = taken_apart(cells, room.seats, room.lists);

@@ -7,6 +7,7 @@ ghost use Rattle.node_threads.specs.inside.Merging.{AllRun, joined_from};
 use crate::cell::ActorCell;
 use crate::merge::LONGEST_HISTORY;
 use crate::name::ClusterName;
+use crate::stop::RunStop;
 use crossbeam_utils::CachePadded;
 use letter_types::Entry;
 use stamp_post::{ActorSeat, Seats};
@@ -100,22 +101,22 @@ fn count_entries<K: ClusterName>(cells: &[ActorCell<K>]) -> Option<usize>
     Some(count)
 }
 
-// Room for all entries of the cells. None is found where the cells aren't in order, or have more entries than a history
+// Room for all entries of the cells, which must be in order. None is found where they have more entries than a history
 // takes.
 pub(crate) fn room_for_entries<K: ClusterName>(
     alloc: Global,
     cells: &[ActorCell<K>],
-) -> Result<Vec<Entry>, NoMemory>
+) -> Result<Vec<Entry>, RunStop>
     ensures order { IfOk result (λ _. NumberedFrom 0 cells.now) }
     ensures room { IfOk result (λ room. HasRoom (sum_by (λ c. length c.entries) cells.now) room) }
     ensures few { IfOk result (λ _. sum_by (λ c. length c.entries) cells.now ≤ LONGEST_HISTORY) }
 {
     if !are_in_order(cells) {
-        return Err(NoMemory);
+        return Err(RunStop::Misplaced);
     }
-    let count = count_entries(cells).ok_or(NoMemory)?;
+    let count = count_entries(cells).ok_or(RunStop::NoMemory)?;
     if count > LONGEST_HISTORY {
-        return Err(NoMemory);
+        return Err(RunStop::NoMemory);
     }
     let room = Vec::with_capacity(alloc, count)?;
     Ok(room)

@@ -7,9 +7,11 @@ mod finishing;
 mod merge;
 mod name;
 mod running;
+mod stop;
 mod workers;
 
 pub use cell::{ActorCell, Sent};
 pub use cluster::Cluster;
 pub use name::ClusterName;
 pub use running::run;
+pub use stop::{Held, RunStop, Stopped};

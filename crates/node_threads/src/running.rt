@@ -1,12 +1,14 @@
 // A script run by workers in threads of their own.
-ghost use Rattle.std.specs.Prelude.{◌≡◌, ◌+◌, ◌≤◌, true, IfOk};
-ghost use Rattle.board_model.specs.Right.{HasFinished};
+ghost use Rattle.std.specs.Prelude.{◌≡◌, ◌+◌, ◌≤◌, true, length, sum_by, IfOk, IfSome};
+ghost use Rattle.board_rules.specs.Right.{HasFinished};
 ghost use Rattle.stamp_post.specs.Shown.{new_seats};
 ghost use Rattle.world_model.specs.Runs.{IsWorldRun};
 ghost use Rattle.world_model.specs.Tables.{IsRunnable};
+ghost use Rattle.node_threads.specs.Histories.{HasTakenAll};
 
 use crate::cluster::Cluster;
 use crate::name::ClusterName;
+use crate::stop::{RunStop, Stopped};
 use crate::workers::ends;
 use letter_types::History;
 use stamp_post::{Post, PostParts, Receipts};
@@ -30,52 +32,70 @@ fn has_finished(history: &History) -> bool
     false
 }
 
-// The workers, each in a thread of its own. One for which no thread is found is run here.
-fn work_all<'x, K: ClusterName + Send + Sync, R: Threads + Wait + Sync, G: Gate + Sync>(
-    rt: &'x R,
-    alloc: Global,
-    cluster: &'x Cluster<K>,
-    script: &'x Script,
-    workers: u32,
-    gate: &'x G,
-)
-    requires { script.now ≡ K.script }
+// How many letters the entries sent. None where that is past the largest number.
+fn count_sent(history: &History) -> Option<usize>
+    ensures { IfSome result (λ count. count ≡ sum_by (λ e. length e.sent) history.now) }
 {
-    thread::scope(
-        thread::scope_env(),
+    let mut count: usize = 0;
+    for entry in history.items() {
+        count = count.checked_add(entry.sent.items().len())?;
+    }
+    Some(count)
+}
+
+// Whether every letter was taken.
+fn has_taken_all(history: &History) -> bool
+    ensures { result ≡ true → HasTakenAll history.now }
+{
+    match count_sent(history) {
+        Some(sent) => history.items().len().checked_sub(1) == Some(sent),
+        None => false,
+    }
+}
+
+// The history, where it goes to its end.
+fn ended(history: History) -> Result<History, RunStop>
+    ensures same { IfOk result (λ h. h ≡ history) }
+    ensures finished { IfOk result (λ h. HasFinished h) }
+    ensures taken { IfOk result (λ h. HasTakenAll h) }
+{
+    if !has_finished(&history) {
+        return Err(RunStop::Unfinished);
+    }
+    if !has_taken_all(&history) {
+        return Err(RunStop::Unfinished);
+    }
+    Ok(history)
+}
+
+// The workers, each in a thread of its own where one is found, else one after another. Where one stops, this is why.
+fn work_all<K: ClusterName + Send + Sync, R: Threads + Wait + Sync, G: Gate + Sync>(
+    rt: &R,
+    cluster: &Cluster<'_, K, G>,
+    workers: u32,
+) -> Result<(), RunStop> {
+    let all = thread::map_indices(
         rt,
-        move |scope|
-            requires { script.now ≡ K.script }
-        {
-            for worker in 0..workers {
-                let spawned = scope.spawn(
-                    move ||
-                        requires { script.now ≡ K.script }
-                    { cluster.serve(rt, alloc, worker, script, gate).is_ok() },
-                );
-                if spawned.is_err() {
-                    let _ended = cluster.serve(rt, alloc, worker, script, gate);
-                }
-            }
-        },
-    );
+        cluster.alloc,
+        workers as usize,
+        &|worker| { cluster.serve(rt, worker as u32) },
+    )?;
+    for served in all {
+        served?;
+    }
+    Ok(())
 }
 
 // Delivers what is under way until nothing is.
 fn deliver_rest<K: ClusterName, R: Wait, G: Gate>(
     rt: &R,
-    alloc: Global,
-    cluster: &Cluster<K>,
-    script: &Script,
-    gate: &G,
-) -> Result<(), NoMemory>
-    requires { script.now ≡ K.script }
-{
+    cluster: &Cluster<'_, K, G>,
+) -> Result<(), Stopped> {
     for _ in rt.forever() {
         let Some(envelope) = cluster.find(rt, 0) else {
             break;
         };
-        let _finished = cluster.pass_on(rt, alloc, envelope, script, gate)?;
+        let _finished = cluster.pass_on(rt, envelope)?;
     }
     Ok(())
 }
@@ -88,7 +108,7 @@ fn run_named<K: ClusterName + Send + Sync, R: Threads + Wait + Sync, G: Gate + S
     parts: PostParts,
     workers: u32,
     gate: &G,
-) -> Result<History, NoMemory>
+) -> Result<History, RunStop>
     requires script { script.now ≡ K.script }
     requires post { (parts.post ≡ K.post) × (K.post.actors ≡ K.script.nodes + 2) }
     requires gatherer { parts.gatherer ≡ K.post }
@@ -96,22 +116,25 @@ fn run_named<K: ClusterName + Send + Sync, R: Threads + Wait + Sync, G: Gate + S
     requires first { parts.first.post ≡ K.post }
     ensures run { IfOk result (λ h. IsWorldRun K.script h) }
     ensures finished { IfOk result (λ h. HasFinished h) }
+    ensures taken { IfOk result (λ h. HasTakenAll h) }
 {
-    let (cluster, first) = Cluster::<K>::start(alloc, script, parts)?;
-    cluster.put(rt, first)?;
-    work_all(rt, alloc, &cluster, script, workers, gate);
-    deliver_rest(rt, alloc, &cluster, script, gate)?;
-    let Ok(history) = cluster.finish(alloc, Receipts::new(alloc)) else {
-        return Err(NoMemory);
-    };
-    if !has_finished(&history) {
-        return Err(NoMemory);
+    let (cluster, first) = Cluster::<K, G>::start(alloc, script, gate, parts)?;
+    if cluster.put(rt, first).is_err() {
+        return Err(RunStop::NoMemory);
     }
-    Ok(history)
+    work_all(rt, &cluster, workers)?;
+    deliver_rest(rt, &cluster)?;
+    match cluster.finish(Receipts::new(alloc)) {
+        Ok(history) => ended(history),
+        Err((stop, _cluster, _receipts)) => Err(stop),
+    }
 }
 
 /// Runs a script by so many workers, each in a thread of its own where one is found. Actors are held at the gate. The
-/// history is a run of the script to its end, in the order in which the entries were stamped.
+/// history is a run of the script to its end, in the order in which the entries were stamped: the client has finished,
+/// and every letter was taken.
+///
+/// The answer is want of memory too where the run stopped for another cause of `RunStop`, which no run comes to.
 pub fn run<R: Threads + Wait + Sync, G: Gate + Sync>(
     rt: &R,
     alloc: Global,
@@ -123,7 +146,11 @@ pub fn run<R: Threads + Wait + Sync, G: Gate + Sync>(
     requires workers { (1 ≤ workers) × (workers ≤ 32) }
     ensures run { IfOk result (λ h. IsWorldRun script.now h) }
     ensures finished { IfOk result (λ h. HasFinished h) }
+    ensures taken { IfOk result (λ h. HasTakenAll h) }
 {
     let parts = Post::start(alloc, script.nodes() + 2)?;
-    run_named::<Brand, R, G>(rt, alloc, script, parts, workers, gate)
+    match run_named::<Brand, R, G>(rt, alloc, script, parts, workers, gate) {
+        Ok(history) => Ok(history),
+        Err(_stop) => Err(NoMemory),
+    }
 }

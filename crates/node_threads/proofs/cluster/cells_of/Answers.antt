@@ -1,7 +1,13 @@
-use Rattle.std.proofs.Common.{◌≡◌, ◌+◌, ◌-◌, ap, sym, ◌∙◌, arith, rules}
+use Rattle.std.proofs.Common.{◌≡◌, ◌+◌, ◌-◌, refl, ap, sym, ◌∙◌, arith, rules}
 use Rattle.stamp_post.specs.Shown.{new_seats}
 use Rattle.stamp_post.proofs.Known.{new_seats_first}
+use Rattle.node_threads.proofs.Seats.{no_seats}
 use Rattle.node_threads.proofs.cluster.cells_of.Goals as goal
+
+pub unreachable-requires : goal.unreachable-requires
+unreachable-requires g c =
+    let n = c.loop-number.number in
+    no_seats g.K.PostName.post n (c.args.actors - n) (sym c.loop-number.invariant.seats ∙ c.in_default.ensures.none.0 refl) (omega (arith, c.loop-number-test.true))
 
 pub start-requires-clause-seat : goal.start-requires-clause-seat
 start-requires-clause-seat g c =

@@ -1,6 +1,6 @@
 use Rattle.std.proofs.Common.{List, sym, ◌∙◌, subst}
 use Rattle.letter_types.specs.declared.entries.Entry.{Entry}
-use Rattle.board_model.specs.Right.{HasFinished}
+use Rattle.board_rules.specs.Right.{HasFinished}
 use Rattle.node_threads.proofs.Ends.{ends_there}
 use Rattle.node_threads.proofs.running.has_finished.Goals as goal
 

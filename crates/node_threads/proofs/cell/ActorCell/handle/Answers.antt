@@ -9,12 +9,13 @@ use Rattle.stamp_post.specs.Logs.{posting}
 use Rattle.stamp_post.specs.Shown.{OutboxData, SeatData, outbox_data, seat_data}
 use Rattle.tx_trees.specs.ScriptData.{ScriptData}
 use Rattle.tx_trees.specs.Valid.{IsValid}
-use Rattle.world_core.specs.Actors.{data_of, IsAddressed as MayReach, IsFor}
+use Rattle.world_core.specs.Actors.{actor_data, IsFor}
 use Rattle.world_model.specs.Tables.{ActorData, actor_row}
 use Rattle.node_threads.specs.Cells.{CellData, LeadsTo, last_acts}
-use Rattle.node_threads.proofs.Bounds.{few_counted, is_addressed}
+use Rattle.world_model.specs.Taking.{IsAddressed as MayReach}
+use Rattle.world_model.proofs.Addressees.{is_addressed, sent_addressed}
+use Rattle.world_model.proofs.SmallCounts.{few_counted}
 use Rattle.node_threads.proofs.Entries.{Stepped, acts_are, leads_more, postings_more, seat_stamped}
-use Rattle.node_threads.proofs.Sends.{sent_addressed}
 use Rattle.node_threads.proofs.cell.ActorCell.handle.Given.{Over}
 use Rattle.node_threads.proofs.cell.ActorCell.handle.Goals as goal
 
@@ -26,15 +27,15 @@ actor_step-requires-clause-addressed g c =
     let post = ap (λ p. p.actors) c.requires.post.1 in
     let lt : st.number < g.K.ClusterName.script.nodes + 2 =
     omega (arith, c.letter.ensures.addressed, post, c.self.invariant.2, number, c.requires.addressee) in
-    subst (λ (s : ScriptData). MayReach s c.letter.result.now (data_of st.state)) (sym c.requires.script)
-    (is_addressed g.K.ClusterName.script st.number st.entries.items c.letter.result.now (data_of st.state) c.self.invariant.1.state to lt)
+    subst (λ (s : ScriptData). MayReach s c.letter.result.now (actor_data st.state)) (sym c.requires.script)
+    (is_addressed g.K.ClusterName.script st.number st.entries.items c.letter.result.now (actor_data st.state) c.self.invariant.1.state to lt)
 
 pub actor_step-requires-clause-small : goal.actor_step-requires-clause-small
 actor_step-requires-clause-small g c =
     let st = c.self.inside in
     let few : length st.entries.items < 1099511627776 = search rules in
     let valid = subst IsValid c.requires.script c.nodes-valid.ensures.valid in
-    few_counted g.K.ClusterName.script st.number (2 ^ 62) st.entries.items (data_of st.state) valid c.self.invariant.1.state (omega arith)
+    few_counted g.K.ClusterName.script st.number (2 ^ 62) st.entries.items (actor_data st.state) valid c.self.invariant.1.state (omega arith)
 
 -- the new entry, and what its step says of the actor
 abbrev new_entry : (g : Over) (c : goal.After-push_reserved g) → Entry
@@ -56,7 +57,7 @@ stepped g c =
     let number : c.self.inside.number ≡ c.args.self.now.number = ap (λ (x : CellData). x.number) c.self.view_is in
     record {
       leads = c.self.invariant.1;
-      row = c.in-Ok.ensures.row ∙ (λ k. actor_row (c.requires.script k) (letter k).to.0 (data_of c.self.inside.state) (letter k));
+      row = c.in-Ok.ensures.row ∙ (λ k. actor_row (c.requires.script k) (letter k).to.0 (actor_data c.self.inside.state) (letter k));
       script = subst (λ (s : ScriptData). IsFor s c.actor_step.new.state) c.requires.script c.in-Ok.ensures.script;
       home = ap (λ (l : Letter). l.to.0) c.take-took.ensures.letter ∙ c.requires.addressee ∙ sym number;
       sent = ap (λ (o : StepOut). o.sent) c.in-Ok.ensures.kept;
@@ -71,8 +72,8 @@ stamp-stamp-requires-clause-addressed g c =
     let number : st.number ≡ c.args.self.now.number = ap (λ (x : CellData). x.number) c.self.view_is in
     let to : c.letter.result.now.to.0 ≡ st.number = ap (λ (l : Letter). l.to.0) c.letter.ensures.letter ∙ c.requires.addressee ∙ sym number in
     let actors = ap (λ p. p.actors) c.requires.post.0 ∙ c.self.invariant.2 in
-    let sent = ap (λ (o : StepOut). o.sent) c.in-Ok.ensures.kept ∙ ap (λ (o : Out ActorData). o.sent) (c.in-Ok.ensures.row ∙ (λ k. actor_row (c.requires.script k) (to k) (data_of st.state) c.letter.result.now)) in
-    sent_addressed s st.number c.args.post.now.actors st.entries.items (data_of st.state) c.letter.result.now c.in-Ok.step.kept.sent valid c.self.invariant.1.state sent actors
+    let sent = ap (λ (o : StepOut). o.sent) c.in-Ok.ensures.kept ∙ ap (λ (o : Out ActorData). o.sent) (c.in-Ok.ensures.row ∙ (λ k. actor_row (c.requires.script k) (to k) (actor_data st.state) c.letter.result.now)) in
+    sent_addressed s st.number c.args.post.now.actors st.entries.items (actor_data st.state) c.letter.result.now c.in-Ok.step.kept.sent valid c.self.invariant.1.state sent actors
 
 -- the seat once the letter was taken, and once the entry was stamped
 took : (g : Over) (c : goal.After-push_reserved g)

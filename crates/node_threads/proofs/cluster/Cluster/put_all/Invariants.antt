@@ -2,7 +2,10 @@ use Rattle.std.proofs.Common.{◌≡◌, ◌-◌, length}
 use Rattle.node_threads.proofs.cluster.Cluster.put_all.Given as goal
 
 abbrev pub invariant-loop-envelope : goal.invariant-loop-envelope
-invariant-loop-envelope g l = l.out.post ≡ g.K.PostName.post
+invariant-loop-envelope g l = record {
+  post : l.left.post ≡ g.K.PostName.post;
+  posting : l.left.posting ≡ l.fn.out.posting;
+}
 
 abbrev pub decreases-loop-envelope : goal.decreases-loop-envelope
-decreases-loop-envelope g l = length l.out.posting.sent - l.out.next
+decreases-loop-envelope g l = length l.left.posting.sent - l.left.next
