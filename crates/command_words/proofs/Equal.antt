@@ -12,7 +12,7 @@ use Rattle.command_words.specs.declared.WordsError.TheVariants as errors
 use Rattle.clap.specs.declared.parser.matches.ArgMatches.{ArgMatches}
 use Rattle.command_words.proofs.Getters.{same_line}
 use Rattle.std.proofs.Common.{Ok, Err}
-use Rattle.command_words.specs.Lines.{Tells}
+use Rattle.command_words.specs.Lines.{HasReadLine}
 use Rattle.command_words.specs.declared.Line.{Line}
 use Rattle.std.specs.Prelude.{drop, length, is_some, option_and_then, slice_get, ◌==◌, if◌then◌else◌}
 use Rattle.std.specs.Str.{bytes_eq, chars}
@@ -373,7 +373,7 @@ own_taken words clean none = plain_line words ∙ lines_agree words clean ∙ (l
 abbrev pub dashes_in : List Text → Bool
 dashes_in words = list_any (λ w. bytes_eq w (codes "--")) (drop 1 words)
 
-pub refused_tells : (words : List Text) (e : WordsError) → dashes_in words ≡ false → IsParse (Err e) words → Tells (line_of_options words) (Err e)
+pub refused_tells : (words : List Text) (e : WordsError) → dashes_in words ≡ false → IsParse (Err e) words → HasReadLine (line_of_options words) (Err e)
 refused_tells words errors.NoMemory clean h = tt
 refused_tells words errors.Refused clean h = own_refused words clean h
 

@@ -6,10 +6,10 @@ use Rattle.std.specs.Str.{bytes_eq, chars}
 use Rattle.std.proofs.lemmas.Bool.{eqb-true}
 use Rattle.clap.specs.Lexer.{long_of, short_of}
 use Rattle.clap.specs.Words.{Text}
-use Rattle.command_words.specs.Numbers.{is_number}
+use Rattle.command_words.specs.Numbers.{is_option_number}
 use Rattle.command_words.specs.Lines.{is_given_in, line_with, mode_of}
 use Rattle.command_words.specs.declared.Line.{Line}
-use Rattle.command_words.specs.declared.Mode.{Mode}
+use Rattle.command_words.specs.declared.ModeName.{ModeName}
 use Rattle.command_words.specs.Grammar.{Given, Opt, by_option, given, line_of_given, line_of_options, mode, nothing_given, option_in, option_of, put, put_history, seed, trees, value_of, with_value, workers}
 
 abbrev pub name_of : Opt → Text
@@ -42,7 +42,7 @@ line_in o = option_and_then line_of_given o
 -- ---- a word that begins with a hyphen meets no form
 record BadForm (x : Text) : Type 0 where
   no_mode : mode_of x ≡ None
-  no_number : is_number x ≡ false
+  no_number : is_option_number x ≡ false
 
 last_false : (a b : Bool) → (a && b && false) ≡ false
 last_false true true = refl
@@ -83,7 +83,7 @@ forms g = is_given_in 1 32 g.workers_given && is_given_in 0 18446744073709551615
 no_line : (g : Given) → forms g ≡ false → line_of_given g ≡ None
 no_line g e = by g.mode_given refl
   where
-    by_mode : (m : Option Mode) → line_with m g.workers_given g.seed_given g.trees_given g.history_given ≡ None
+    by_mode : (m : Option ModeName) → line_with m g.workers_given g.seed_given g.trees_given g.history_given ≡ None
     by_mode None = refl
     by_mode (Some m) = rw e refl
 

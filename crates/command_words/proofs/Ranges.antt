@@ -3,13 +3,14 @@ use Rattle.std.proofs.Common.{◌≡◌, ◌≤◌, ℕ, Bool, true, false, List
 use Rattle.std.specs.Prelude.{unwrap_or, option_and_then, Result, Ok, Err, IfOk}
 use Rattle.std.proofs.lemmas.Bool.Decides.{nat_tests}
 use Rattle.clap.specs.Words.{Text}
-use Rattle.command_words.specs.Numbers.{decimal_value}
+use Rattle.tv_base.specs.Digits.{decimal_value}
 use Rattle.command_words.specs.Grammar.{Given, given, line_by_mode, line_of_given, line_of_options, nothing_given}
-use Rattle.command_words.specs.Lines.{IsInRange, Tells, given_value, is_given_in, line_of_mode, line_with}
+use Rattle.command_words.specs.Lines.{IsInRange, HasReadLine, given_value, is_given_in, line_of_mode, line_with}
 use Rattle.command_words.specs.declared.Line.{Line}
 use Rattle.command_words.specs.declared.Line.TheVariants as lines
-use Rattle.command_words.specs.declared.Mode.{Mode}
 use Rattle.command_words.specs.declared.Mode.TheVariants as modes
+use Rattle.command_words.specs.declared.ModeName.{ModeName}
+use Rattle.command_words.specs.declared.ModeName.TheVariants as names
 use Rattle.command_words.specs.declared.WordsError.{WordsError}
 
 -- a number that is given is in its range, and so is one in its place
@@ -22,37 +23,37 @@ taken : (l m : Line) → IsInRange l → Some l ≡ Some m → IsInRange m
 taken l m here is = let same : l ≡ m = cc is in subst IsInRange same here
 
 -- the line of a mode whose numbers are in their ranges
-mode_line : (m : Mode) (w s t : Option Text) (history : Bool) (l : Line) → is_given_in 1 32 w ≡ true
+mode_line : (m : ModeName) (w s t : Option Text) (history : Bool) (l : Line) → is_given_in 1 32 w ≡ true
     → is_given_in 1 20000 t ≡ true → line_of_mode m (given_value w) (given_value s) (given_value t) history ≡ Some l
     → IsInRange l
-mode_line modes.Check None None None false l few some is = taken lines.Check l tt is
-mode_line modes.Check None None None true l few some is = absurd (cc is)
-mode_line modes.Check (Some w) s t history l few some is = absurd (cc is)
-mode_line modes.Check None (Some s) t history l few some is = absurd (cc is)
-mode_line modes.Check None None (Some t) history l few some is = absurd (cc is)
-mode_line modes.Sim None s None history l few some is = taken (lines.Sim (given_value s) history) l tt is
-mode_line modes.Sim (Some w) s t history l few some is = absurd (cc is)
-mode_line modes.Sim None s (Some t) history l few some is = absurd (cc is)
-mode_line modes.Run w None None history l few some is =
-    taken (lines.Run (unwrap_or (given_value w) 4) history) l (or_in 1 32 4 w few (omega arith) (omega arith)) is
-mode_line modes.Run w (Some s) t history l few some is = absurd (cc is)
-mode_line modes.Run w None (Some t) history l few some is = absurd (cc is)
-mode_line modes.Soak w (Some s) (Some t) false l few some is =
+mode_line names.Check None None None false l few some is = taken (lines.OfScript modes.Check) l tt is
+mode_line names.Check None None None true l few some is = absurd (cc is)
+mode_line names.Check (Some w) s t history l few some is = absurd (cc is)
+mode_line names.Check None (Some s) t history l few some is = absurd (cc is)
+mode_line names.Check None None (Some t) history l few some is = absurd (cc is)
+mode_line names.Sim None s None history l few some is = taken (lines.OfScript (modes.Sim (given_value s) history)) l tt is
+mode_line names.Sim (Some w) s t history l few some is = absurd (cc is)
+mode_line names.Sim None s (Some t) history l few some is = absurd (cc is)
+mode_line names.Run w None None history l few some is =
+    taken (lines.OfScript (modes.Run (unwrap_or (given_value w) 4) history)) l (or_in 1 32 4 w few (omega arith) (omega arith)) is
+mode_line names.Run w (Some s) t history l few some is = absurd (cc is)
+mode_line names.Run w None (Some t) history l few some is = absurd (cc is)
+mode_line names.Soak w (Some s) (Some t) false l few some is =
     let workers = or_in 1 32 4 w few (omega arith) (omega arith) in
     let trees = or_in 1 20000 1 (Some t) some (omega arith) (omega arith) in
     taken (lines.Soak (unwrap_or (given_value w) 4) (decimal_value s) (decimal_value t)) l
     (workers.0, workers.1, trees.0, trees.1) is
-mode_line modes.Soak w (Some s) (Some t) true l few some is = absurd (cc is)
-mode_line modes.Soak w None t history l few some is = absurd (cc is)
-mode_line modes.Soak w (Some s) None history l few some is = absurd (cc is)
-mode_line modes.Upgrade None None None false l few some is = taken lines.Upgrade l tt is
-mode_line modes.Upgrade None None None true l few some is = absurd (cc is)
-mode_line modes.Upgrade (Some w) s t history l few some is = absurd (cc is)
-mode_line modes.Upgrade None (Some s) t history l few some is = absurd (cc is)
-mode_line modes.Upgrade None None (Some t) history l few some is = absurd (cc is)
+mode_line names.Soak w (Some s) (Some t) true l few some is = absurd (cc is)
+mode_line names.Soak w None t history l few some is = absurd (cc is)
+mode_line names.Soak w (Some s) None history l few some is = absurd (cc is)
+mode_line names.Upgrade None None None false l few some is = taken (lines.OfScript modes.Upgrade) l tt is
+mode_line names.Upgrade None None None true l few some is = absurd (cc is)
+mode_line names.Upgrade (Some w) s t history l few some is = absurd (cc is)
+mode_line names.Upgrade None (Some s) t history l few some is = absurd (cc is)
+mode_line names.Upgrade None None (Some t) history l few some is = absurd (cc is)
 
 -- where the three tests are passed
-tested_line : (m : Mode) (w s t : Option Text) (history : Bool) (l : Line) (a b c : Bool) → is_given_in 1 32 w ≡ a
+tested_line : (m : ModeName) (w s t : Option Text) (history : Bool) (l : Line) (a b c : Bool) → is_given_in 1 32 w ≡ a
     → is_given_in 0 18446744073709551615 s ≡ b → is_given_in 1 20000 t ≡ c
     → line_with (Some m) w s t history ≡ Some l → IsInRange l
 tested_line m w s t history l true true true few number some is =
@@ -61,7 +62,7 @@ tested_line m w s t history l true true false few number some is = absurd (cc (r
 tested_line m w s t history l true false c few number some is = absurd (cc (rw (few, number) at is))
 tested_line m w s t history l false b c few number some is = absurd (cc (rw few at is))
 
-with_line : (m : Option Mode) (w s t : Option Text) (history : Bool) (l : Line) → line_with m w s t history ≡ Some l
+with_line : (m : Option ModeName) (w s t : Option Text) (history : Bool) (l : Line) → line_with m w s t history ≡ Some l
     → IsInRange l
 with_line None w s t history l is = absurd (cc is)
 with_line (Some m) w s t history l is = tested_line m w s t history l _ _ _ refl refl refl is
@@ -79,7 +80,7 @@ options_line [] l is = absurd (cc is)
 options_line (name ∷ rest) l is = found_line (given nothing_given None rest) l is
 
 -- so are those of a line that a call tells
-pub told_by_options : (words : List Text) (r : Result Line WordsError) → Tells (line_of_options words) r
+pub told_by_options : (words : List Text) (r : Result Line WordsError) → HasReadLine (line_of_options words) r
     → IfOk r IsInRange
 told_by_options words (Ok l) is = options_line words l is
 told_by_options words (Err e) is = tt

@@ -5,7 +5,7 @@ ghost use Rattle.std.specs.Prelude.{◌≡◌, IfOk, MatchResult, codes, drop, f
 ghost use Rattle.std.specs.List.{list_any};
 ghost use Rattle.std.specs.Str.{bytes_eq};
 ghost use Rattle.command_words.specs.Grammar.{asked as asked_in, asked_by as asked_in_word, line_of, line_of_options};
-ghost use Rattle.command_words.specs.Lines.{IsInRange, Tells, given_value, is_given_in, line_of_mode, mode_of};
+ghost use Rattle.command_words.specs.Lines.{IsInRange, HasReadLine, given_value, is_given_in, line_of_mode, mode_of};
 ghost use Rattle.command_words.specs.inside.Parser.{is_on as is_on_text, line_from};
 
 mod numbers;
@@ -14,8 +14,7 @@ mod parser;
 use crate::numbers::number;
 use crate::parser::parsed;
 use std::alloc::{AllocError, Global};
-use std::error::Error;
-use std::fmt;
+use thiserror::Error;
 
 // The number of workers where none is given.
 const DEFAULT_WORKERS: u32 = 4;
@@ -24,26 +23,36 @@ const MOST_WORKERS: u32 = 32;
 // The most trees.
 const MOST_TREES: u32 = 20_000;
 
+/// What is made of a script that is read.
+#[derive(Clone, Copy, Debug, PartialEq, Eq)]
+pub enum Mode {
+    /// Mode `check`, with no other option: the line that counts the script's parts.
+    Check,
+    /// Mode `sim`: a run on one thread, and its report. The letters are taken by the script's picks, then with a seed
+    /// by its draws, and without one the oldest first.
+    Sim {
+        /// The number of `--seed`, 0 to 2^64 - 1, if it is given: the draws are made from it.
+        seed: Option<u64>,
+        /// Whether `--history` is given: the lines of the history follow the report.
+        history: bool,
+    },
+    /// Mode `run`: a run on threads, and its report. The script's picks aren't used.
+    Run {
+        /// The number of `--workers`, 1 to 32, 4 where it isn't given: so many threads work at once.
+        workers: u32,
+        /// Whether `--history` is given: the lines of the history follow the report.
+        history: bool,
+    },
+    /// Mode `upgrade`, with no other option: the script in the second form.
+    Upgrade,
+}
+
 /// What a command line asks for.
 #[derive(Clone, Copy, Debug, PartialEq, Eq)]
 pub enum Line {
-    /// Mode `check`, with no other option.
-    Check,
-    /// Mode `sim`.
-    Sim {
-        /// The number of `--seed`, 0 to 2^64 - 1, if it is given.
-        seed: Option<u64>,
-        /// Whether `--history` is given.
-        history: bool,
-    },
-    /// Mode `run`.
-    Run {
-        /// The number of `--workers`, 1 to 32; 4 where it isn't given.
-        workers: u32,
-        /// Whether `--history` is given.
-        history: bool,
-    },
-    /// Mode `soak`.
+    /// A script is read, and this is made of it.
+    OfScript(Mode),
+    /// Mode `soak`: a script is made from a seed, run on threads and summed up. Nothing is read.
     Soak {
         /// The number of `--workers`, 1 to 32; 4 where it isn't given.
         workers: u32,
@@ -52,8 +61,6 @@ pub enum Line {
         /// The number of `--trees`, 1 to 20,000.
         trees: u32,
     },
-    /// Mode `upgrade`, with no other option.
-    Upgrade,
     /// `--help` alone.
     Help,
     /// `--version` alone.
@@ -61,11 +68,13 @@ pub enum Line {
 }
 
 /// Why words were not read as a line.
-#[derive(Clone, Copy, Debug, PartialEq, Eq)]
+#[derive(Clone, Copy, Debug, PartialEq, Eq, Error)]
 pub enum WordsError {
     /// The words are no line of the program.
+    #[error("the words are no line of the program")]
     Refused,
     /// There was no memory to read them; they may be a line.
+    #[error("out of memory")]
     NoMemory,
 }
 
@@ -79,20 +88,9 @@ impl From<AllocError> for WordsError {
     }
 }
 
-impl fmt::Display for WordsError {
-    fn fmt<W: fmt::Write>(&self, f: &mut fmt::Formatter<W>) -> fmt::Result {
-        match self {
-            WordsError::Refused => f.write_str("the words are no line of the program"),
-            WordsError::NoMemory => f.write_str("no memory to read the words"),
-        }
-    }
-}
-
-impl Error for WordsError {}
-
 // What `--mode` names.
 #[derive(Clone, Copy)]
-enum Mode {
+enum ModeName {
     Check,
     Sim,
     Run,
@@ -100,15 +98,16 @@ enum Mode {
     Upgrade,
 }
 
-fn mode_by_word(word: &str) -> Option<Mode>
+// The mode that a word names.
+fn mode_by_word(word: &str) -> Option<ModeName>
     ensures { result ≡ mode_of word.now }
 {
     match word {
-        "check" => Some(Mode::Check),
-        "sim" => Some(Mode::Sim),
-        "run" => Some(Mode::Run),
-        "soak" => Some(Mode::Soak),
-        "upgrade" => Some(Mode::Upgrade),
+        "check" => Some(ModeName::Check),
+        "sim" => Some(ModeName::Sim),
+        "run" => Some(ModeName::Run),
+        "soak" => Some(ModeName::Soak),
+        "upgrade" => Some(ModeName::Upgrade),
         _ => None,
     }
 }
@@ -124,42 +123,25 @@ fn given(low: u64, high: u64, text: Option<&str>) -> Result<Option<u64>, WordsEr
         return Ok(None);
     };
     match number(text.as_bytes()) {
-        Some(n) => {
-            if low as u128 <= n && n <= high as u128 {
-                Ok(Some(n as u64))
-            } else {
-                Err(WordsError::Refused)
-            }
-        }
-        None => Err(WordsError::Refused),
+        Some(n) if low as u128 <= n && n <= high as u128 => Ok(Some(n as u64)),
+        _ => Err(WordsError::Refused),
     }
 }
 
-// A number from 1 on, if it is given.
-fn given_count(high: u32, text: Option<&str>) -> Result<Option<u32>, WordsError>
+// A count of 1 or more, if it is given.
+fn given_count(most: u32, text: Option<&str>) -> Result<Option<u32>, WordsError>
     ensures { MatchResult result
-        (λ v. (is_given_in 1 high (option_map (λ t. t.now) text.entry) ≡ true)
+        (λ v. (is_given_in 1 most (option_map (λ t. t.now) text.entry) ≡ true)
         × (v ≡ given_value (option_map (λ t. t.now) text.entry)))
-        (λ e. (e ≡ WordsError.Refused) × (is_given_in 1 high (option_map (λ t. t.now) text.entry) ≡ false)) }
+        (λ e. (e ≡ WordsError.Refused) × (is_given_in 1 most (option_map (λ t. t.now) text.entry) ≡ false)) }
 {
-    let Some(text) = text else {
-        return Ok(None);
-    };
-    match number(text.as_bytes()) {
-        Some(n) => {
-            if 1 <= n && n <= high as u128 {
-                Ok(Some(n as u32))
-            } else {
-                Err(WordsError::Refused)
-            }
-        }
-        None => Err(WordsError::Refused),
-    }
+    let count = given(1, most as u64, text)?;
+    Ok(count.map(|n| n as u32))
 }
 
 // What goes with each mode.
 fn line_by_mode(
-    mode: Mode,
+    mode: ModeName,
     workers: Option<u32>,
     seed: Option<u64>,
     trees: Option<u32>,
@@ -168,23 +150,26 @@ fn line_by_mode(
     ensures { result ≡ line_of_mode mode workers seed trees history }
 {
     match (mode, workers, seed, trees, history) {
-        (Mode::Check, None, None, None, false) => Some(Line::Check),
-        (Mode::Sim, None, seed, None, history) => Some(Line::Sim { seed, history }),
-        (Mode::Run, workers, None, None, history) => Some(Line::Run {
+        (ModeName::Check, None, None, None, false) => Some(Line::OfScript(Mode::Check)),
+        (ModeName::Sim, None, seed, None, history) => {
+            Some(Line::OfScript(Mode::Sim { seed, history }))
+        }
+        (ModeName::Run, workers, None, None, history) => Some(Line::OfScript(Mode::Run {
             workers: workers.unwrap_or(DEFAULT_WORKERS),
             history,
-        }),
-        (Mode::Soak, workers, Some(seed), Some(trees), false) => Some(Line::Soak {
+        })),
+        (ModeName::Soak, workers, Some(seed), Some(trees), false) => Some(Line::Soak {
             workers: workers.unwrap_or(DEFAULT_WORKERS),
             seed,
             trees,
         }),
-        (Mode::Upgrade, None, None, None, false) => Some(Line::Upgrade),
+        (ModeName::Upgrade, None, None, None, false) => Some(Line::OfScript(Mode::Upgrade)),
         _ => None,
     }
 }
 
-fn mode_by_value(text: Option<&str>) -> Option<Mode>
+// The mode that the value of `--mode` names.
+fn mode_by_value(text: Option<&str>) -> Option<ModeName>
     ensures { result ≡ option_and_then mode_of (option_map (λ t. t.now) text.entry) }
 {
     match text {
@@ -201,7 +186,7 @@ fn line_by_values<'a>(
     trees: Option<&'a str>,
     history: Option<&'a str>,
 ) -> Result<Line, WordsError>
-    ensures { Tells (line_from (option_map (λ t. t.now) mode.entry) (option_map (λ t. t.now) workers.entry)
+    ensures { HasReadLine (line_from (option_map (λ t. t.now) mode.entry) (option_map (λ t. t.now) workers.entry)
         (option_map (λ t. t.now) seed.entry) (option_map (λ t. t.now) trees.entry)
         (option_map (λ t. t.now) history.entry)) result }
 {
@@ -244,7 +229,7 @@ fn dashed(words: &[String]) -> bool
 
 // The line of the options.
 fn line_by_options(alloc: Global, words: &[String]) -> Result<Line, WordsError>
-    ensures { Tells (line_of_options (map string_bytes words.now)) result }
+    ensures { HasReadLine (line_of_options (map string_bytes words.now)) result }
 {
     if dashed(words) {
         return Err(WordsError::Refused);
@@ -286,7 +271,7 @@ fn asked(words: &[String]) -> Option<Line>
 /// `Refused` comes only where the words are no line, and a line only where they are that line.
 /// `NoMemory` tells nothing of the words.
 pub fn read_words(alloc: Global, words: &[String]) -> Result<Line, WordsError>
-    ensures told { Tells (line_of (map string_bytes words.now)) result }
+    ensures told { HasReadLine (line_of (map string_bytes words.now)) result }
     ensures range { IfOk result IsInRange }
 {
     match asked(words) {

@@ -1,7 +1,8 @@
 // Numbers of 1 to 20 decimal digits.
 ghost use Rattle.std.specs.Prelude.{◌≡◌, ◌≤◌, length};
 ghost use Rattle.std.specs.List.{list_all};
-ghost use Rattle.command_words.specs.Numbers.{decimal_value, is_digit, number_of};
+ghost use Rattle.command_words.specs.Numbers.{is_digit, option_number};
+ghost use Rattle.tv_base.specs.Digits.{decimal_value};
 
 const MOST_DIGITS: usize = 20;
 
@@ -24,7 +25,7 @@ fn value(bytes: &[u8]) -> u128
 
 /// The number that these bytes spell, if they are 1 to 20 decimal digits.
 pub fn number(bytes: &[u8]) -> Option<u128>
-    ensures { result ≡ number_of bytes.now }
+    ensures { result ≡ option_number bytes.now }
 {
     if bytes.len() >= 1 && bytes.len() <= MOST_DIGITS && all_digits(bytes) {
         Some(value(bytes))

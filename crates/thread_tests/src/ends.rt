@@ -4,7 +4,7 @@ use std::sync::Wait;
 use std::test::Fail;
 use std::thread::Threads;
 use threev_top::threev;
-use tv_base::{MemSink, MemSource, NoGate};
+use tv_base::{MemSink, MemSource, NoGate, ReaderSource};
 
 const FIRST: &str =
     "nodes,2\nitem,a,0,sum,10\nitem,b,1,sum,0\nupdate,t,0\nadd,a,5\nsub,0,1\nadd,b,7\n";
@@ -16,6 +16,17 @@ const READ_TEXT: &str =
     "tree t version 1\nread r version 0 b=0 a=10\nnode 0 update 1 read 0\nnode 1 update 1 read 0\nitem a 0:10 1:15\nitem b 0:0 1:7\n";
 
 const SMALL: &str = "nodes,1\nitem,a,0,sum,10";
+
+/// The same, broken off before its last byte: it is a script too.
+const BROKEN_OFF: &str = "nodes,1\nitem,a,0,sum,1";
+
+const SOAK: [&str; 5] = [
+    "threev",
+    "--mode=soak",
+    "--seed=7",
+    "--trees=1",
+    "--workers=2",
+];
 
 /// What a call gave and left.
 #[derive(Drop)]
@@ -120,6 +131,47 @@ fn a_source_that_fails_leaves_out_empty(rt: HostRuntime) -> Result<(), Fail> {
         assert_eq!(rt; seen.out.bytes().len(), 0);
         assert_eq!(rt; seen.err.bytes(), b"threev: reading failed\n".as_slice());
     }
+    Ok(())
+}
+
+// The fourth read finds the end of these 22 bytes, and a fifth isn't made.
+#[test]
+fn what_broke_off_is_read_only_where_the_source_ends(rt: HostRuntime) -> Result<(), Fail> {
+    for (fault, status, text) in [(4, 4, ""), (5, 0, "threev,2\nnodes,1\nitem,a,0,sum,1\n")] {
+        let seen = call(
+            &rt,
+            rt.alloc(),
+            &["threev", "--mode", "upgrade"],
+            BROKEN_OFF,
+            &[fault],
+            &[],
+            100,
+        )?;
+        assert_eq!(rt; seen.status, status);
+        assert_eq!(rt; seen.out.bytes(), text.as_bytes());
+    }
+    Ok(())
+}
+
+#[test]
+fn a_soak_reads_nothing_of_an_empty_source(rt: HostRuntime) -> Result<(), Fail> {
+    let seen = call(&rt, rt.alloc(), &SOAK, "", &[], &[], 100)?;
+    assert_eq!(rt; seen.status, 0);
+    assert_eq!(rt; seen.reads, 0);
+    assert!(rt; seen.entries > 0);
+    Ok(())
+}
+
+// Standard input is a source that tells nothing of its bytes.
+#[test]
+fn a_soak_ends_over_a_source_that_tells_nothing(rt: HostRuntime) -> Result<(), Fail> {
+    let alloc = rt.alloc();
+    let words = words_of(alloc, &SOAK)?;
+    let mut source = ReaderSource::new(rt.stdin());
+    let mut out = MemSink::new(alloc, 4000, 16, Vec::new(alloc))?;
+    let mut err = MemSink::new(alloc, 100, 16, Vec::new(alloc))?;
+    let ended = threev(&rt, alloc, &words, &mut source, &mut out, &mut err, &NoGate);
+    assert_eq!(rt; ended.status, 0);
     Ok(())
 }
 

@@ -1,65 +1,130 @@
-// Letters that are delivered by hand and by two workers, with a receipt.
+// Letters that two threads of a test's own hand each other, with a receipt of each delivery.
 ghost use Rattle.std.specs.Prelude.{◌≡◌, ◌+◌, All, IfSome};
 ghost use Rattle.stamp_post.specs.Shown.{new_seats};
 
-use letter_types::{Act, History};
+use letter_types::{Act, Acts, Entry, History};
+use message_bag::Bag;
 use node_threads::{Cluster, ClusterName, Sent};
 use script_reader::read_script;
 use stamp_post::{Envelope, Post, PostParts, Receipt, Receipts};
-use std::alloc::Global;
-use std::marker::Brand;
-use std::sync::Wait;
+use std::alloc::{AllocError, Global};
+use std::marker::{Brand, PhantomData};
+use std::sync::atomic::{AtomicU64, Ordering};
+use std::sync::{Mutex, Wait};
 use std::test::Fail;
-use std::thread::{Threads, join};
-use tv_base::{NoGate, NoMemory, Stamp};
+use std::thread::{self, Threads, join};
+use tv_base::{NoGate, Stamp};
 use tx_trees::Script;
 
 // Two items, and a tree with a child that adds to both.
 const ONE_TREE: &[u8] =
     b"nodes,2\nitem,a,0,sum,10\nitem,b,1,sum,0\nupdate,t,0\nadd,a,5\nsub,0,1\nadd,b,7\n";
 
-// How many entries the history has at a stamp.
-fn entries_at(history: &History, stamp: Stamp) -> usize {
-    let mut count: usize = 0;
-    for entry in history.items() {
-        if entry.stamp == stamp {
-            count = count.wrapping_add(1);
-        }
+// The actors and acts of its entries: each sends one letter, but for the last, so no schedule changes them.
+const ENTRIES_TEXT: &str = "3\n0 born 0 1 did 0 0\n1 did 0 1\n0\n3 finished\n2\n";
+
+// How many entries these are.
+const ENTRIES: u64 = 6;
+
+// How often a thread looks into its bag, at most.
+const TURNS: u32 = 0x400_0000;
+
+// A delivery: its receipt, and the acts that `deliver` returned.
+#[derive(Drop)]
+struct Delivery<K: ClusterName> {
+    receipt: Receipt,
+    acts: Acts,
+    name: PhantomData<K>,
+    ghost receipt_is: { receipt.post ≡ K.post },
+}
+
+// What is told of a delivery.
+#[derive(Drop)]
+struct Told {
+    stamp: Stamp,
+    acts: Acts,
+}
+
+fn delivery_of<K: ClusterName>(receipt: Receipt, acts: Acts) -> Delivery<K>
+    requires { receipt.post ≡ K.post }
+{
+    Delivery {
+        receipt,
+        acts,
+        name: PhantomData,
     }
-    count
 }
 
-fn has_end(history: &History) -> bool {
-    history.items().iter().any(|entry| entry
-        .acts
-        .items()
-        .iter()
-        .any(|act| matches!(act, Act::Finished)))
-}
-
-// Delivers an envelope, puts what comes out into the bags, and gives the receipt.
+// Delivers an envelope, and puts what comes out into the other's bag.
 fn hand_over<K: ClusterName, R: Wait>(
     rt: &R,
-    alloc: Global,
-    cluster: &Cluster<K>,
+    cluster: &Cluster<'_, K, NoGate>,
     envelope: Envelope,
-    script: &Script,
-) -> Option<Receipt>
-    requires script { script.now ≡ K.script }
-    requires envelope { envelope.post ≡ K.post }
-    ensures { IfSome result (λ r. r.post ≡ K.post) }
+    other: &Mutex<Bag<K>>,
+) -> Option<Delivery<K>>
+    requires { envelope.post ≡ K.post }
 {
-    let sent = cluster.deliver(rt, alloc, envelope, script, &NoGate).ok()?;
+    let sent = cluster.deliver(rt, envelope).ok()?;
     let Sent {
         stamp: _,
-        acts: _,
+        acts,
         out,
     } = sent;
     let mut out = out;
     while let Some(envelope) = out.next(cluster.post()) {
-        cluster.put(rt, envelope).ok()?;
+        other.lock(rt).put(envelope).ok()?;
     }
-    out.receipt().ok()
+    let receipt = out.receipt().ok()?;
+    Some(delivery_of(receipt, acts))
+}
+
+// Hands over what lies in a thread's own bag, until all entries are made.
+fn work<K: ClusterName, R: Wait>(
+    rt: &R,
+    alloc: Global,
+    cluster: &Cluster<'_, K, NoGate>,
+    own: &Mutex<Bag<K>>,
+    other: &Mutex<Bag<K>>,
+    made: &AtomicU64,
+) -> Option<Vec<Delivery<K>>> {
+    let mut deliveries = Vec::new(alloc);
+    for _turn in 0..TURNS {
+        if made.load(Ordering::SeqCst) >= ENTRIES {
+            return Some(deliveries);
+        }
+        let taken = own.lock(rt).take(0);
+        match taken {
+            Some(envelope) => {
+                let delivery = hand_over(rt, cluster, envelope, other)?;
+                deliveries.push(delivery).ok()?;
+                made.fetch_add(1, Ordering::SeqCst);
+            }
+            None => thread::yield_now(),
+        }
+    }
+    None
+}
+
+// Two threads hand each other the envelopes. What each has delivered.
+fn by_two<K: ClusterName + Send + Sync, R: Threads + Wait + Sync>(
+    rt: &R,
+    alloc: Global,
+    cluster: &Cluster<'_, K, NoGate>,
+    first: Envelope,
+) -> Option<(Vec<Delivery<K>>, Vec<Delivery<K>>)>
+    requires { first.post ≡ K.post }
+{
+    let mut bag = Bag::new(alloc);
+    bag.put(first).ok()?;
+    let one = Mutex::new(bag);
+    let two = Mutex::new(Bag::new(alloc));
+    let made = AtomicU64::new(0);
+    let (by_one, by_other) = join(
+        rt,
+        || work(rt, alloc, cluster, &one, &two, &made),
+        || work(rt, alloc, cluster, &two, &one, &made),
+    );
+    Some((by_one?, by_other?))
 }
 
 // One receipt more.
@@ -72,59 +137,114 @@ fn keep<K: ClusterName>(receipts: &mut Receipts, receipt: Receipt) -> Option<()>
     Some(())
 }
 
-// Two workers serve until the client has finished.
-fn serve_both<K: ClusterName + Send + Sync, R: Threads + Wait + Sync>(
-    rt: &R,
-    alloc: Global,
-    cluster: &Cluster<K>,
-    script: &Script,
-) -> Result<(), NoMemory>
-    requires { script.now ≡ K.script }
+// The receipts of deliveries, and what is told of them.
+fn keep_all<K: ClusterName>(
+    receipts: &mut Receipts,
+    told: &mut Vec<Told>,
+    deliveries: Vec<Delivery<K>>,
+) -> Option<()>
+    requires { All (λ r. r.post ≡ K.post) receipts.old }
+    ensures { IfSome result (λ _. All (λ r. r.post ≡ K.post) receipts.new) }
 {
-    let (one, other) = join(
-        rt,
-        move || -> Result<(), NoMemory>
-            requires { script.now ≡ K.script }
-        { cluster.serve(rt, alloc, 0, script, &NoGate) },
-        move || -> Result<(), NoMemory>
-            requires { script.now ≡ K.script }
-        { cluster.serve(rt, alloc, 1, script, &NoGate) },
-    );
-    one?;
-    other
+    for delivery in deliveries {
+        let Delivery {
+            receipt,
+            acts,
+            name: _,
+        } = delivery;
+        let stamp = receipt.stamp();
+        told.push(Told { stamp, acts }).ok()?;
+        keep::<K>(receipts, receipt)?;
+    }
+    Some(())
 }
 
-// The history where the first letter is delivered by hand and the rest by two workers, and the stamp of its receipt.
-fn by_two<K: ClusterName + Send + Sync, R: Threads + Wait + Sync>(
+// The history, and what was told of its deliveries. Each thread delivers every other letter.
+fn ran<K: ClusterName + Send + Sync, R: Threads + Wait + Sync>(
     rt: &R,
     alloc: Global,
     script: &Script,
     parts: PostParts,
-) -> Result<(History, Stamp), Fail>
+) -> Result<(History, Vec<Told>), Fail>
     requires script { script.now ≡ K.script }
     requires post { (parts.post ≡ K.post) × (K.post.actors ≡ K.script.nodes + 2) }
     requires gatherer { parts.gatherer ≡ K.post }
     requires seats { parts.seats ≡ new_seats K.post 0 K.post.actors }
     requires first { parts.first.post ≡ K.post }
 {
-    let (cluster, first) = Cluster::<K>::start(alloc, script, parts)?;
-    let receipt = hand_over(rt, alloc, &cluster, first, script).ok_or("memory")?;
-    let stamp = receipt.stamp();
+    let (cluster, first) = Cluster::<K, NoGate>::start(alloc, script, &NoGate, parts)?;
+    let (by_one, by_other) = by_two(rt, alloc, &cluster, first).ok_or("no delivery")?;
+    if by_one.len() != 3 || by_other.len() != 3 {
+        return Err("one thread alone".into());
+    }
     let mut receipts = Receipts::new(alloc);
-    keep::<K>(&mut receipts, receipt).ok_or("memory")?;
-    serve_both(rt, alloc, &cluster, script)?;
-    match cluster.finish(alloc, receipts) {
-        Ok(history) => Ok((history, stamp)),
-        Err(_) => Err("memory".into()),
+    let mut told = Vec::new(alloc);
+    keep_all::<K>(&mut receipts, &mut told, by_one).ok_or("memory")?;
+    keep_all::<K>(&mut receipts, &mut told, by_other).ok_or("memory")?;
+    match cluster.finish(receipts) {
+        Ok(history) => Ok((history, told)),
+        Err(_) => Err("no history".into()),
     }
 }
 
+fn act_text(alloc: Global, act: &Act) -> Result<String, AllocError> {
+    match act {
+        Act::Born { tree, version } => format!(in alloc; " born {} {}", tree.0, version.0),
+        Act::Did {
+            tree,
+            sub,
+            values: _,
+        } => format!(in alloc; " did {} {}", tree.0, sub.0),
+        Act::Finished => format!(in alloc; " finished"),
+        _ => format!(in alloc; " another"),
+    }
+}
+
+fn acts_text(alloc: Global, acts: &Acts) -> Result<String, AllocError> {
+    let mut text = String::new(alloc);
+    for act in acts.items() {
+        text.push_str(&act_text(alloc, act)?)?;
+    }
+    Ok(text)
+}
+
+fn entry_text(alloc: Global, entry: &Entry) -> Result<String, AllocError> {
+    let acts = acts_text(alloc, &entry.acts)?;
+    format!(in alloc; "{}{}\n", entry.actor.0, acts)
+}
+
+fn history_text(alloc: Global, history: &History) -> Result<String, AllocError> {
+    let mut text = String::new(alloc);
+    for entry in history.items() {
+        text.push_str(&entry_text(alloc, entry)?)?;
+    }
+    Ok(text)
+}
+
+// Whether just one entry of the history has the stamp that was told, and it has the acts that were told.
+fn is_told(alloc: Global, history: &History, told: &Told) -> Result<bool, AllocError> {
+    let acts = acts_text(alloc, &told.acts)?;
+    let mut count: u32 = 0;
+    let mut alike = false;
+    for entry in history.items() {
+        if entry.stamp == told.stamp {
+            count = count.wrapping_add(1);
+            alike = acts_text(alloc, &entry.acts)? == acts;
+        }
+    }
+    Ok(count == 1 && alike)
+}
+
 #[test]
-fn two_threads_serve(rt: HostRuntime) -> Result<(), Fail> {
-    let script = read_script(rt.alloc(), ONE_TREE)?;
-    let parts = Post::start(rt.alloc(), script.nodes() + 2)?;
-    let (history, stamp) = by_two::<Brand, _>(&rt, rt.alloc(), &script, parts)?;
-    assert!(rt; has_end(&history));
-    assert_eq!(rt; entries_at(&history, stamp), 1);
+fn two_threads_hand_each_other_the_letters(rt: HostRuntime) -> Result<(), Fail> {
+    let alloc = rt.alloc();
+    let script = read_script(alloc, ONE_TREE)?;
+    let parts = Post::start(alloc, script.nodes() + 2)?;
+    let (history, told) = ran::<Brand, _>(&rt, alloc, &script, parts)?;
+    assert_eq!(rt; history_text(alloc, &history)?.as_str(), ENTRIES_TEXT);
+    assert_eq!(rt; told.len(), 6);
+    for one in &told {
+        assert!(rt; is_told(alloc, &history, one)?);
+    }
     Ok(())
 }

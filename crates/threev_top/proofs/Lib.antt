@@ -1,3 +1,4 @@
 pub mod ReadRuns
-pub mod Told
+pub mod Causes
+pub mod Ends
 pub mod Generated

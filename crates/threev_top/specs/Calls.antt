@@ -1,10 +1,12 @@
 -- What the top call reads and writes.
-use Rattle.std.specs.Prelude.{ℕ, Bool, true, false, ◌≡◌, ◌++◌, ◌⊎◌, List, [], Option, Some, None, Ok, Err}
+use Rattle.std.specs.Prelude.{ℕ, Bool, true, false, ◌≡◌, ◌≢◌, ◌+◌, ◌++◌, ◌⊎◌, List, [], Option, Some, None, Ok, Err, IsTrue, ⊤}
 use Rattle.std.specs.Io.KnownBytes.{Appends, Consumes, IsAtEnd}
-use Rattle.tv_base.specs.Outside.{AppendsFront, HasMoreThan, Rose}
+use Rattle.tv_base.specs.Outside.{AppendsFront, HasMoreThan, HasTaken, Rose}
 use Rattle.tv_base.specs.declared.moving.TheConstants.{MOST_BYTES}
 use Rattle.command_words.specs.declared.Line.{Line}
 use Rattle.command_words.specs.declared.Line.TheVariants as lines
+use Rattle.command_words.specs.declared.Mode.{Mode}
+use Rattle.command_words.specs.declared.Mode.TheVariants as modes
 use Rattle.letter_types.specs.declared.entries.Entry.{Entry}
 use Rattle.tx_trees.specs.ScriptData.{ScriptData}
 use Rattle.tx_trees.specs.declared.why.Why.TheVariants as why
@@ -20,119 +22,97 @@ use Rattle.history_text.specs.History.{history_lines_of}
 use Rattle.script_gen.specs.Generated.{generated}
 use Rattle.report_text.specs.Summary.{summary_of}
 use Rattle.headline.specs.Ended.{HasEnded}
-use Rattle.threev_top.specs.declared.outcomes.Mode.{Mode}
-use Rattle.threev_top.specs.declared.outcomes.Mode.TheVariants as modes
+use Rattle.threev_top.specs.Texts.{line_told, status_of}
+use Rattle.threev_top.specs.declared.stops.Stop.{Stop}
+use Rattle.threev_top.specs.declared.stops.Stop.TheVariants as stops
 use Rattle.threev_top.specs.declared.texts.TheConstants.{HELP, VERSION}
+
+-- these are all the bytes that the source had, and they were read to their end
+abbrev pub ReadsAll : Option (List ℕ) → Option (List ℕ) → List ℕ → Type 0
+ReadsAll left now bytes = Consumes left now bytes × IsAtEnd now
 
 -- the report of a history, and its lines behind it where they are asked for
 abbrev pub report_with : Bool → ScriptData → List Entry → List ℕ
 report_with false s h = report_of s h
 report_with true s h = report_of s h ++ history_lines_of s h
 
--- what a mode writes of a script, and the history that it gives: a run has the headline; on one thread letters are taken
--- by the script's picks, and then by the draws of a seed, or without one the oldest first
+-- what a mode writes of a script, and the history that it gives: a run has the headline; on one thread letters are
+-- taken by the script's picks, and then by the draws of a seed, or without one the oldest first
 abbrev pub IsText : Mode → ScriptData → List Entry → List ℕ → Type 0
 IsText modes.Check s h text = (h ≡ []) × (text ≡ check_line_of s)
 IsText (modes.Sim seed lines) s h text = HasEnded s h × IsScheduled s seed h × (text ≡ report_with lines s h)
 IsText (modes.Run workers lines) s h text = HasHeadline s h × (text ≡ report_with lines s h)
 IsText modes.Upgrade s h text = (h ≡ []) × (text ≡ written (upgraded s))
 
--- the bytes are a script, and this is its text and history in this mode
-pub record IsTextOf (mode : Mode) (bytes : List ℕ) (history : List Entry) (text : List ℕ) : Type 0 where
+-- all bytes that the source had are a script, and this is its history and text in this mode
+pub record IsTextOf (mode : Mode) (left now : Option (List ℕ)) (history : List Entry) (text : List ℕ) : Type 0 where
+  pub bytes : List ℕ
+  pub all : ReadsAll left now bytes
   pub script : ScriptData
   pub read : read_of bytes ≡ Ok script
   pub is_text : IsText mode script history text
 
--- the text of the script that the bytes are was written, whole or a front of it
-abbrev pub WritesText : Mode → List ℕ → Option (List ℕ) → Option (List ℕ) → List Entry → Type 0
-WritesText mode bytes written after history = (text : List ℕ) × IsTextOf mode bytes history text
-    × Appends written after text
+-- the history and the text of a line: a mode's, of the script that the source had; the summary of a run of the script
+-- that a seed makes, which has the headline; the help or the version
+abbrev pub IsTextBy : Line → Option (List ℕ) → Option (List ℕ) → List Entry → List ℕ → Type 0
+IsTextBy (lines.OfScript mode) left now history text = IsTextOf mode left now history text
+IsTextBy (lines.Soak workers seed trees) left now history text =
+    HasHeadline (generated seed trees) history × (text ≡ summary_of (generated seed trees) history seed)
+IsTextBy lines.Help left now history text = (history ≡ []) × (text ≡ HELP.now)
+IsTextBy lines.Version left now history text = (history ≡ []) × (text ≡ VERSION.now)
 
-abbrev pub WritesFront : Mode → List ℕ → Option (List ℕ) → Option (List ℕ) → List Entry → Type 0
-WritesFront mode bytes written after history = (text : List ℕ) × IsTextOf mode bytes history text
-    × AppendsFront written after text
+-- the words are a line, and its text has been received, as `receives` says of a text: whole, or a front of it
+abbrev pub WroteBy : (List ℕ → Type 0) → Option Line → Option (List ℕ) → Option (List ℕ) → List Entry → Type 0
+WroteBy receives None left now history = ⊥
+WroteBy receives (Some line) left now history = (text : List ℕ) × IsTextBy line left now history text × receives text
 
--- all bytes that the source had were read to their end, and out has received the text of their script
-pub record Wrote (mode : Mode) (left now : Option (List ℕ)) (written after : Option (List ℕ))
-    (history : List Entry) : Type 0 where
-  pub bytes : List ℕ
-  pub consumed : Consumes left now bytes
-  pub at_end : IsAtEnd now
-  pub writes : WritesText mode bytes written after history
+-- this line reads a script; for all others the source is left alone
+abbrev pub reads_script : Option Line → Bool
+reads_script (Some (lines.OfScript mode)) = true
+reads_script _ = false
 
--- the same, but that out has received a front of the text
-pub record WroteFront (mode : Mode) (left now : Option (List ℕ)) (written after : Option (List ℕ))
-    (history : List Entry) : Type 0 where
-  pub bytes : List ℕ
-  pub consumed : Consumes left now bytes
-  pub at_end : IsAtEnd now
-  pub writes : WritesFront mode bytes written after history
-
--- the run of the script that a seed makes has the headline, and out has received its summary, whole or a front of it
-abbrev pub WroteSummary : ℕ → ℕ → Option (List ℕ) → Option (List ℕ) → List Entry → Type 0
-WroteSummary seed trees written after history =
-    HasHeadline (generated seed trees) history
-    × Appends written after (summary_of (generated seed trees) history seed)
-
-abbrev pub WroteSummaryFront : ℕ → ℕ → Option (List ℕ) → Option (List ℕ) → List Entry → Type 0
-WroteSummaryFront seed trees written after history =
-    HasHeadline (generated seed trees) history
-    × AppendsFront written after (summary_of (generated seed trees) history seed)
-
--- what a line of the words writes: a mode's text of the script that was read; or a summary, the help or the version, for
--- which nothing is read
-abbrev pub WroteBy : Option Line → Option (List ℕ) → Option (List ℕ) → Option (List ℕ) → Option (List ℕ)
-    → List Entry → Type 0
-WroteBy (Some lines.Check) left now written after history = Wrote modes.Check left now written after history
-WroteBy (Some (lines.Sim seed shows)) left now written after history =
-    Wrote (modes.Sim seed shows) left now written after history
-WroteBy (Some (lines.Run workers shows)) left now written after history =
-    Wrote (modes.Run workers shows) left now written after history
-WroteBy (Some (lines.Soak workers seed trees)) left now written after history =
-    WroteSummary seed trees written after history
-WroteBy (Some lines.Upgrade) left now written after history = Wrote modes.Upgrade left now written after history
-WroteBy (Some lines.Help) left now written after history = Appends written after HELP.now × (history ≡ [])
-WroteBy (Some lines.Version) left now written after history = Appends written after VERSION.now × (history ≡ [])
-WroteBy None left now written after history = ⊥
-
-abbrev pub WroteFrontBy : Option Line → Option (List ℕ) → Option (List ℕ) → Option (List ℕ) → Option (List ℕ)
-    → List Entry → Type 0
-WroteFrontBy (Some lines.Check) left now written after history = WroteFront modes.Check left now written after history
-WroteFrontBy (Some (lines.Sim seed shows)) left now written after history =
-    WroteFront (modes.Sim seed shows) left now written after history
-WroteFrontBy (Some (lines.Run workers shows)) left now written after history =
-    WroteFront (modes.Run workers shows) left now written after history
-WroteFrontBy (Some (lines.Soak workers seed trees)) left now written after history =
-    WroteSummaryFront seed trees written after history
-WroteFrontBy (Some lines.Upgrade) left now written after history =
-    WroteFront modes.Upgrade left now written after history
-WroteFrontBy (Some lines.Help) left now written after history = AppendsFront written after HELP.now × (history ≡ [])
-WroteFrontBy (Some lines.Version) left now written after history =
-    AppendsFront written after VERSION.now × (history ≡ [])
-WroteFrontBy None left now written after history = ⊥
-
--- for this line the source is left alone, at every status
-abbrev pub leaves_source : Option Line → Bool
-leaves_source None = true
-leaves_source (Some lines.Help) = true
-leaves_source (Some lines.Version) = true
-leaves_source (Some (lines.Soak workers seed trees)) = true
-leaves_source (Some lines.Check) = false
-leaves_source (Some (lines.Sim seed shows)) = false
-leaves_source (Some (lines.Run workers shows)) = false
-leaves_source (Some lines.Upgrade) = false
-
--- all bytes were read to their end, and reading refuses them with this fault
-pub record ReadRefused (left now : Option (List ℕ)) (f : ScriptFault) : Type 0 where
-  pub bytes : List ℕ
-  pub consumed : Consumes left now bytes
-  pub at_end : IsAtEnd now
-  pub refused : read_of bytes ≡ Err f
-
--- the same, or more bytes came than a script may have
+-- all bytes of the source are refused with this fault, or more bytes came than a script may have
 abbrev pub Refuses : Option (List ℕ) → Option (List ℕ) → ScriptFault → Type 0
-Refuses left now f = ReadRefused left now f ⊎ ((f ≡ fault 0 why.TooLong) × HasMoreThan MOST_BYTES left)
+Refuses left now f = ((bytes : List ℕ) × ReadsAll left now bytes × (read_of bytes ≡ Err f))
+    ⊎ ((f ≡ fault 0 why.TooLong) × HasMoreThan MOST_BYTES left)
+
+-- what must be so for a call to stop so: want of memory may always come; the words are no line; the script that the
+-- line reads is refused, or its source failed; the output failed
+abbrev pub HasCause : Option Line → Option (List ℕ) → Option (List ℕ) → Type 0 → Type 0 → Stop → Type 0
+HasCause line left now source_failed out_failed stops.NoMemory = ⊤
+HasCause line left now source_failed out_failed stops.Words = line ≡ None
+HasCause line left now source_failed out_failed (stops.Script f) = IsTrue (reads_script line) × Refuses left now f
+HasCause line left now source_failed out_failed stops.Reading = IsTrue (reads_script line) × source_failed
+HasCause line left now source_failed out_failed stops.Writing = out_failed
+
+-- how a call with this line ends, with a stop or without one, and what it leaves of its source and its output
+pub record EndsAs {S K : Type 0} (left : S → Option (List ℕ)) (read_faults : S → ℕ) (source source' : S)
+    (received : K → Option (List ℕ)) (write_faults : K → ℕ) (out out' : K)
+    (line : Option Line) (stop : Option Stop) (history : List Entry) : Type 0 where
+  -- without a stop the output has received the text of the line
+  pub wrote : stop ≡ None
+      → WroteBy (Appends (received out) (received out')) line (left source) (left source') history
+  -- where writing failed it has received a front of that text
+  pub front : stop ≡ Some stops.Writing
+      → WroteBy (AppendsFront (received out) (received out')) line (left source) (left source') history
+  -- each stop has its cause
+  pub cause : (s : Stop) → stop ≡ Some s → HasCause line (left source) (left source')
+      (Rose (read_faults source) (read_faults source')) (Rose (write_faults out) (write_faults out')) s
+  -- every other stop comes before writing: the output is left alone, and there is no history
+  pub nothing : (s : Stop) → stop ≡ Some s → s ≢ stops.Writing → (out' ≡ out) × (history ≡ [])
+  -- a line that reads no script leaves the source alone
+  pub unread : reads_script line ≡ false → source' ≡ source
+  -- at most one byte more is taken than a script may have
+  pub taken : HasTaken (MOST_BYTES + 1) (left source) (left source')
 
 -- the line was written, or a front of it where a fault was counted
 abbrev pub Tells : Option (List ℕ) → Option (List ℕ) → ℕ → ℕ → List ℕ → Type 0
 Tells written after before now line = Appends written after line ⊎ (AppendsFront written after line × Rose before now)
+
+-- how the end of a call is told: by its status, and on standard error, which is left alone where there was no stop
+pub record TellsEnd {E : Type 0} (received : E → Option (List ℕ)) (faults : E → ℕ) (err err' : E)
+    (stop : Option Stop) (status : ℕ) : Type 0 where
+  pub number : status ≡ status_of stop
+  pub quiet : stop ≡ None → err' ≡ err
+  pub line : (s : Stop) → stop ≡ Some s
+      → Tells (received err) (received err') (faults err) (faults err') (line_told s)

@@ -2,10 +2,12 @@
 #![tactic(auto)]
 
 mod calls;
-mod outcomes;
+mod making;
+mod modes;
+mod stops;
 mod texts;
 mod upgraded;
 
-pub use calls::{Ended, threev};
-pub use outcomes::{Mode, Stop};
+pub use calls::{Ended, end_without_words, threev};
+pub use stops::Stop;
 pub use upgraded::upgraded_scripts_have_the_same_runs;

@@ -1,6 +1,6 @@
 use Rattle.std.proofs.Common.{map, subst, sym, ◌∙◌, string_bytes, Option}
 use Rattle.std.proofs.lemmas.Result.{err_from_is_err_and}
-use Rattle.command_words.specs.Lines.{Tells}
+use Rattle.command_words.specs.Lines.{HasReadLine}
 use Rattle.command_words.specs.declared.Line.{Line}
 use Rattle.command_words.proofs.Equal.{dashes_are, own_dashed, refused_tells, taken_line}
 use Rattle.command_words.proofs.line_by_options.Goals as goal
@@ -12,7 +12,7 @@ pub returns : goal.returns
 returns c =
     let clean = sym (dashes_are string_bytes c.args.words.now) ∙ (sym c.dashed.ensures ∙ c.if-dashed.false) in
     let e = taken_line (map string_bytes c.args.words.now) c.in_ok-matches.matches _ _ _ _ _ clean c.in_ok-matches.ensures c.get_str.ensures c.get_str-2.ensures c.get_str-3.ensures c.get_str-4.ensures c.get_str-5.ensures in
-    subst (λ (l : Option Line). Tells l c.line_by_values.result) (sym e) c.line_by_values.ensures
+    subst (λ (l : Option Line). HasReadLine l c.line_by_values.result) (sym e) c.line_by_values.ensures
 
 pub returns-in_err-matches : goal.returns-in_err-matches
 returns-in_err-matches c =

@@ -1,5 +1,5 @@
 -- The options as clap knows them, and what its parse tells. These are the definitions that private code alone cites.
-use Rattle.std.specs.Prelude.{Bool, true, false, List, Option, Some, None, codes}
+use Rattle.std.specs.Prelude.{Bool, false, List, Option, Some, None, codes}
 use Rattle.std.specs.Str.{bytes_eq}
 use Rattle.command_words.specs.Lines.{line_with, mode_of}
 use Rattle.command_words.specs.declared.Line.{Line}

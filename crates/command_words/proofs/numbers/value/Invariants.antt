@@ -1,5 +1,5 @@
 use Rattle.std.proofs.Common.{◌≡◌, ◌+◌, ◌*◌, ◌≤◌, ◌^◌, take}
-use Rattle.command_words.specs.Numbers.{decimal_value}
+use Rattle.tv_base.specs.Digits.{decimal_value}
 use Rattle.command_words.proofs.numbers.value.Given as goal
 
 abbrev pub invariant-loop-b : goal.invariant-loop-b

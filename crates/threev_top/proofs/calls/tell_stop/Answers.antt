@@ -1,4 +1,4 @@
-use Rattle.threev_top.proofs.calls.tell.Goals as goal
+use Rattle.threev_top.proofs.calls.tell_stop.Goals as goal
 
 pub returns-in-NoMemory-clause-told : goal.returns-in-NoMemory-clause-told
 returns-in-NoMemory-clause-told g c = rw c.in-NoMemory.is c.tell_line.ensures

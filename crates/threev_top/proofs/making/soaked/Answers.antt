@@ -3,7 +3,7 @@ use Rattle.headline.proofs.Promised.{headline}
 use Rattle.headline.specs.Headline.{HasHeadline}
 use Rattle.tx_trees.specs.ScriptData.{ScriptData}
 use Rattle.threev_top.proofs.Generated.{is_runnable}
-use Rattle.threev_top.proofs.calls.soaked.Goals as goal
+use Rattle.threev_top.proofs.making.soaked.Goals as goal
 
 pub run-requires-clause-runnable : goal.run-requires-clause-runnable
 run-requires-clause-runnable g c =

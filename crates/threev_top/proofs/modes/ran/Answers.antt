@@ -1,5 +1,5 @@
 use Rattle.headline.proofs.Promised.{headline}
-use Rattle.threev_top.proofs.outcomes.ran.Goals as goal
+use Rattle.threev_top.proofs.modes.ran.Goals as goal
 
 pub returns-clause-headline : goal.returns-clause-headline
 returns-clause-headline g c =

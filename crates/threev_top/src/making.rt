@@ -1,0 +1,121 @@
+// What a command line asks for is made, before anything is written.
+ghost use Rattle.std.specs.Prelude.{◌≡◌, ◌≤◌, ◌+◌, false, map, string_bytes, IfOk, IfErr, Some};
+ghost use Rattle.command_words.specs.Grammar.{line_of};
+ghost use Rattle.command_words.specs.Lines.{HasWorkers, IsInRange};
+ghost use Rattle.command_words.specs.declared.Line.TheVariants as lines;
+ghost use Rattle.headline.specs.Headline.{HasHeadline};
+ghost use Rattle.report_text.specs.Summary.{summary_of};
+ghost use Rattle.script_gen.specs.Generated.{generated};
+ghost use Rattle.threev_top.specs.Calls.{HasCause, IsTextBy, IsTextOf, reads_script, WroteBy};
+ghost use Rattle.threev_top.specs.inside.Calls.{bytes_of};
+ghost use Rattle.tv_base.specs.Outside.{HasTaken, Rose};
+ghost use Rattle.tv_base.specs.declared.moving.TheConstants.{MOST_BYTES};
+
+use crate::modes::{Made, Output, made_of_script};
+use crate::stops::Stop;
+use command_words::{Line, Mode, read_words};
+use node_threads::run;
+use report_text::summary;
+use script_gen::generate;
+use script_reader::read_script;
+use std::alloc::Global;
+use std::sync::Wait;
+use std::thread::Threads;
+use tv_base::{Gate, NoMemory, Source, read_all};
+
+/// The run of the script that a seed makes, on threads, and its summary.
+fn soaked<R: Threads + Wait + Sync, G: Gate + Sync>(
+    rt: &R,
+    alloc: Global,
+    workers: u32,
+    seed: u64,
+    trees: u32,
+    gate: &G,
+) -> Result<Made, NoMemory>
+    requires workers { (1 ≤ workers) × (workers ≤ 32) }
+    requires trees { trees ≤ 20000 }
+    ensures headline { IfOk result (λ made. HasHeadline (generated seed trees) made.history) }
+    ensures text { IfOk result (λ made. bytes_of made.output ≡ summary_of (generated seed trees) made.history seed) }
+{
+    let script = generate(alloc, seed, trees)?;
+    // (read for its clause, that the script is valid)
+    let _valid = script.nodes();
+    let history = run(rt, alloc, &script, workers, gate)?;
+    let text = summary(alloc, &script, &history, seed)?;
+    Ok(Made {
+        history,
+        output: Output::Text(text),
+    })
+}
+
+/// What a mode makes of the script that the source has.
+fn made_of_source<R: Threads + Wait + Sync, S: Source, G: Gate + Sync>(
+    rt: &R,
+    alloc: Global,
+    mode: Mode,
+    source: &mut S,
+    gate: &G,
+) -> Result<Made, Stop>
+    requires { HasWorkers mode }
+    ensures made { IfOk result (λ made. IsTextOf mode (S.left source.old) (S.left source.new) made.history
+        (bytes_of made.output)) }
+    ensures cause { IfErr result (λ stop. HasCause (Some (lines.OfScript mode)) (S.left source.old) (S.left source.new)
+        (Rose (S.faults source.old) (S.faults source.new)) ⊥ stop) }
+    ensures taken { HasTaken (MOST_BYTES + 1) (S.left source.old) (S.left source.new) }
+{
+    let bytes = read_all(alloc, source)?;
+    let script = read_script(alloc, &bytes)?;
+    let made = made_of_script(rt, alloc, mode, script, gate)?;
+    Ok(made)
+}
+
+/// What a line asks for. Before writing, no stop comes of that.
+fn made_by_line<R: Threads + Wait + Sync, S: Source, G: Gate + Sync>(
+    rt: &R,
+    alloc: Global,
+    line: Line,
+    source: &mut S,
+    gate: &G,
+) -> Result<Made, Stop>
+    requires { IsInRange line }
+    ensures made { IfOk result (λ made. IsTextBy line (S.left source.old) (S.left source.new) made.history
+        (bytes_of made.output)) }
+    ensures cause { IfErr result (λ stop. HasCause (Some line) (S.left source.old) (S.left source.new)
+        (Rose (S.faults source.old) (S.faults source.new)) ⊥ stop) }
+    ensures unread { reads_script (Some line) ≡ false → source.new ≡ source.old }
+    ensures taken { HasTaken (MOST_BYTES + 1) (S.left source.old) (S.left source.new) }
+{
+    match line {
+        Line::OfScript(mode) => made_of_source(rt, alloc, mode, source, gate),
+        Line::Soak {
+            workers,
+            seed,
+            trees,
+        } => {
+            let made = soaked(rt, alloc, workers, seed, trees, gate)?;
+            Ok(made)
+        }
+        Line::Help => Ok(Made::without_run(alloc, Output::Help)),
+        Line::Version => Ok(Made::without_run(alloc, Output::Version)),
+    }
+}
+
+/// What the words ask for.
+pub(crate) fn made_by_words<R: Threads + Wait + Sync, S: Source, G: Gate + Sync>(
+    rt: &R,
+    alloc: Global,
+    words: &[String],
+    source: &mut S,
+    gate: &G,
+) -> Result<Made, Stop>
+    ensures made { IfOk result (λ made. WroteBy (λ text. text ≡ bytes_of made.output)
+        (line_of (map string_bytes words.now)) (S.left source.old) (S.left source.new) made.history) }
+    ensures cause { IfErr result (λ stop. HasCause (line_of (map string_bytes words.now)) (S.left source.old)
+        (S.left source.new) (Rose (S.faults source.old) (S.faults source.new)) ⊥ stop) }
+    ensures unread { reads_script (line_of (map string_bytes words.now)) ≡ false → source.new ≡ source.old }
+    ensures taken { HasTaken (MOST_BYTES + 1) (S.left source.old) (S.left source.new) }
+{
+    let line = read_words(alloc, words)?;
+    let made = made_by_line(rt, alloc, line, source, gate)?;
+    Ok(made)
+}

@@ -1,0 +1,91 @@
+// Why a call of the program stops.
+ghost use Rattle.std.specs.Prelude.{◌≡◌, Some};
+ghost use Rattle.threev_top.specs.Texts.{status_of};
+
+use command_words::WordsError;
+use script_reader::{ScriptFault, ScriptRefusal};
+use tv_base::{NoMemory, ReadEnd};
+use tx_trees::Why;
+
+/// Why the text was not written whole.
+#[derive(Clone, Copy, Debug, PartialEq, Eq)]
+pub enum Stop {
+    /// Want of memory.
+    NoMemory,
+    /// The words are not a command line.
+    Words,
+    /// The script was refused.
+    Script(ScriptFault),
+    /// The source failed.
+    Reading,
+    /// The output failed.
+    Writing,
+}
+
+impl From<NoMemory> for Stop {
+    ghost use Rattle.threev_top.specs.declared.stops.Stop.TheVariants as stops;
+
+    ghost from_gives = { λ _ stop. stop ≡ stops.NoMemory };
+
+    fn from(_: NoMemory) -> Self {
+        Stop::NoMemory
+    }
+}
+
+impl From<WordsError> for Stop {
+    ghost use Rattle.threev_top.specs.inside.Calls.{words_stop};
+
+    ghost from_gives = { λ refusal stop. stop ≡ words_stop refusal };
+
+    fn from(refusal: WordsError) -> Self {
+        match refusal {
+            WordsError::Refused => Stop::Words,
+            WordsError::NoMemory => Stop::NoMemory,
+        }
+    }
+}
+
+impl From<ReadEnd> for Stop {
+    ghost use Rattle.threev_top.specs.inside.Calls.{reading_stop};
+
+    ghost from_gives = { λ end stop. stop ≡ reading_stop end };
+
+    fn from(end: ReadEnd) -> Self {
+        match end {
+            ReadEnd::TooLong => Stop::Script(ScriptFault {
+                row: 0,
+                why: Why::TooLong,
+            }),
+            ReadEnd::Failed => Stop::Reading,
+            ReadEnd::NoMemory => Stop::NoMemory,
+        }
+    }
+}
+
+impl From<ScriptRefusal> for Stop {
+    ghost use Rattle.threev_top.specs.inside.Calls.{script_stop};
+
+    ghost from_gives = { λ refusal stop. stop ≡ script_stop refusal };
+
+    fn from(refusal: ScriptRefusal) -> Self {
+        match refusal {
+            ScriptRefusal::Fault(fault) => Stop::Script(fault),
+            ScriptRefusal::NoMemory => Stop::NoMemory,
+        }
+    }
+}
+
+impl Stop {
+    /// The status of a call that stops so.
+    pub(crate) fn status(self) -> u8
+        ensures { result ≡ status_of (Some self) }
+    {
+        match self {
+            Stop::NoMemory => 1,
+            Stop::Words => 2,
+            Stop::Script(_) => 3,
+            Stop::Reading => 4,
+            Stop::Writing => 5,
+        }
+    }
+}
