@@ -1,0 +1,8 @@
+//! Votes of strict trees, and what a node makes of the decision on one.
+#![tactic(auto)]
+
+mod decisions;
+mod votes;
+
+pub use decisions::{Decision, apply_decision, may_apply_decision, stage_decision};
+pub use votes::{vote, wanted_by};

@@ -1,0 +1,213 @@
+// How a subtransaction of a strict tree votes.
+ghost use Rattle.std.specs.Prelude.{◌≡◌, IfOk, Some};
+ghost use Rattle.std.specs.Option.{option_copied};
+ghost use Rattle.letter_types.specs.declared.votes.Vote.TheVariants.{No};
+ghost use Rattle.world_model.specs.Reads.{gets, got_by_deed, seen_in};
+ghost use Rattle.board_rules.specs.Stands.{overwrites, short_by};
+ghost use Rattle.nc_commit.specs.Votes.{greatest_version, mode_wanted, newer_at, newer_by, newer_in, short_at, short_in, vote_of, wanted_by};
+
+use commute_ops::{Value, Values};
+use item_versions::{Item, ItemTable};
+use letter_types::{Boxed, Cause, Vote};
+use nc_locks::{Locks, Mode};
+use std::alloc::Global;
+use tv_base::{ItemNo, NoMemory, TreeNo, Version};
+use tx_trees::{Deed, Sub, SubOp};
+
+/// How a subtransaction of a strict tree votes in version `version`. It looks at its operations in order, three times:
+/// for a lock of another tree that conflicts with the one that it needs, then for a set or a draw of an item that is
+/// held in a version above its own, then for a draw of more than is seen in its version. The first that is found makes
+/// the vote a no; else it is a yes, with what its gets show. Nothing is changed, and no lock is taken.
+pub fn vote(
+    alloc: Global,
+    locks: &Locks,
+    items: &ItemTable,
+    tree: TreeNo,
+    version: Version,
+    sub: &Sub,
+) -> Result<Vote, NoMemory>
+    ensures { IfOk result (λ vote. vote ≡ vote_of locks.now items.now tree version sub.now.ops) }
+{
+    let ops = sub.ops.items();
+    let wanted = wanted_by(alloc, ops)?;
+    if let Some(met) = locks.met(tree, &wanted) {
+        let cause = Cause::Conflict {
+            item: met.item,
+            holder: met.holder,
+        };
+        return no(alloc, cause);
+    }
+    if let Some(cause) = newer(items, version, ops) {
+        return no(alloc, cause);
+    }
+    if let Some(cause) = short(items, version, ops) {
+        return no(alloc, cause);
+    }
+    let values = got(alloc, items, version, ops)?;
+    Ok(Vote::Yes(values))
+}
+
+/// A no for this cause.
+fn no(alloc: Global, cause: Cause) -> Result<Vote, NoMemory>
+    ensures { IfOk result (λ vote. vote ≡ No cause) }
+{
+    let cause = Boxed::new(alloc, cause)?;
+    Ok(Vote::No(cause))
+}
+
+/// The locks that the operations of a strict tree want: a get looks at its item, and a set or a draw holds it.
+pub fn wanted_by(alloc: Global, ops: &[SubOp]) -> Result<Vec<(ItemNo, Mode)>, NoMemory>
+    ensures { IfOk result (λ wanted. wanted.items ≡ wanted_by ops.now) }
+{
+    let mut wanted = Vec::new(alloc);
+    for op in ops {
+        wanted.push((op.item, mode_wanted(&op.deed)))?;
+    }
+    Ok(wanted)
+}
+
+fn mode_wanted(deed: &Deed) -> Mode
+    ensures { result ≡ mode_wanted deed.now }
+{
+    match deed {
+        Deed::Apply(_) => Mode::Mark,
+        Deed::Get => Mode::Look,
+        Deed::Set(_) => Mode::Hold,
+        Deed::Draw(_) => Mode::Hold,
+    }
+}
+
+/// Whether the operation is a set or a draw.
+pub(crate) fn overwrites(deed: &Deed) -> bool
+    ensures { result ≡ overwrites deed.now }
+{
+    match deed {
+        Deed::Set(_) => true,
+        Deed::Draw(_) => true,
+        Deed::Get => false,
+        Deed::Apply(_) => false,
+    }
+}
+
+/// The first of the operations that writes an item which is held in a version above `v`, as a cause.
+fn newer(items: &ItemTable, v: Version, ops: &[SubOp]) -> Option<Cause>
+    ensures { result ≡ newer_in v ops.now items.now }
+{
+    for op in ops {
+        let cause = newer_at(items, v, op);
+        if cause.is_some() {
+            return cause;
+        }
+    }
+    None
+}
+
+fn newer_at(items: &ItemTable, v: Version, op: &SubOp) -> Option<Cause>
+    ensures { result ≡ newer_at v op.now items.now }
+{
+    if !overwrites(&op.deed) {
+        return None;
+    }
+    match items.item(op.item) {
+        Some(item) => newer_by(op.item, v, item),
+        None => None,
+    }
+}
+
+/// An item that is held in a version above `v`, as a cause.
+fn newer_by(item: ItemNo, v: Version, held: &Item) -> Option<Cause>
+    ensures { result ≡ newer_by item v (Some held.now) }
+{
+    let greatest = greatest_version(held.held());
+    if v.0 < greatest {
+        return Some(Cause::Newer {
+            item,
+            version: Version(greatest),
+        });
+    }
+    None
+}
+
+fn greatest_version(held: &[(Version, Value)]) -> u64
+    ensures { result ≡ greatest_version held.now }
+{
+    let mut greatest = 0;
+    for entry in held {
+        greatest = greatest.max(entry.0.0);
+    }
+    greatest
+}
+
+/// What is seen of an item in version `v`. None where it isn't there.
+pub(crate) fn seen_in(items: &ItemTable, v: Version, item: ItemNo) -> Option<&Value>
+    ensures { option_copied result ≡ seen_in v item items.now }
+{
+    match items.item(item) {
+        Some(item) => Some(item.seen(v)),
+        None => None,
+    }
+}
+
+/// The first of the operations that draws more than is seen of its item in version `v`, as a cause.
+fn short(items: &ItemTable, v: Version, ops: &[SubOp]) -> Option<Cause>
+    ensures { result ≡ short_in v ops.now items.now }
+{
+    for op in ops {
+        let cause = short_at(items, v, op);
+        if cause.is_some() {
+            return cause;
+        }
+    }
+    None
+}
+
+fn short_at(items: &ItemTable, v: Version, op: &SubOp) -> Option<Cause>
+    ensures { result ≡ short_at v op.now items.now }
+{
+    match seen_in(items, v, op.item) {
+        Some(value) => short_by(op.item, &op.deed, value),
+        None => None,
+    }
+}
+
+/// A value that is less than what is drawn, as a cause.
+fn short_by(item: ItemNo, deed: &Deed, value: &Value) -> Option<Cause>
+    ensures { result ≡ short_by item deed.now value.now }
+{
+    match (deed, value) {
+        (Deed::Draw(amount), Value::Sum(found)) => {
+            if found.0 < *amount {
+                Some(Cause::Short {
+                    item,
+                    found: found.0,
+                })
+            } else {
+                None
+            }
+        }
+        _ => None,
+    }
+}
+
+/// What the gets show in version `v`, in order.
+fn got(alloc: Global, items: &ItemTable, v: Version, ops: &[SubOp]) -> Result<Values, NoMemory>
+    ensures { IfOk result (λ values. values ≡ gets v ops.now items.now) }
+{
+    let mut values = Values::new(alloc);
+    for op in ops {
+        if let Some(value) = shown(items, v, op) {
+            values.push((op.item, value.copy(alloc)?))?;
+        }
+    }
+    Ok(values)
+}
+
+/// What a get shows in version `v`. None where the operation isn't one, or its item isn't there.
+fn shown<'a>(items: &'a ItemTable, v: Version, op: &SubOp) -> Option<&'a Value>
+    ensures { option_copied result ≡ got_by_deed v op.now.item op.now.deed items.now }
+{
+    let Deed::Get = op.deed else {
+        return None;
+    };
+    seen_in(items, v, op.item)
+}

@@ -1,0 +1,4 @@
+pub mod Modes
+pub mod Locks
+pub mod Laws
+pub mod inside

@@ -1,0 +1,16 @@
+-- The modes in which trees have items, and which of them go together.
+use Rattle.std.specs.Prelude.{ℕ, Bool, true, false}
+use Rattle.nc_locks.specs.declared.modes.Mode.{Mode}
+use Rattle.nc_locks.specs.declared.modes.Mode.TheVariants.{Mark, Look, Hold}
+
+-- a mark goes with a mark and a look with a look; every other pair conflicts
+abbrev pub modes_conflict : Mode → Mode → Bool
+modes_conflict Mark Mark = false
+modes_conflict Look Look = false
+modes_conflict _ _ = true
+
+-- the place of a mode in the order of the modes
+abbrev pub mode_rank : Mode → ℕ
+mode_rank Mark = 0
+mode_rank Look = 1
+mode_rank Hold = 2
