@@ -1,6 +1,6 @@
--- The places of two histories, one behind the other, and what holds of each act.
-use Rattle.std.proofs.Common.{◌≡◌, ℕ, zero, suc, ◌<◌, false, take, List, [], ◌∷◌, ◌++◌, refl, ap, sym, ◌∙◌, append_assoc, arith}
-use Rattle.std.specs.Prelude.{◌||◌, ◌&&◌, ◌==◌, Option, Some, None}
+-- The places of two histories, one after the other, and what holds of each act.
+use Rattle.std.proofs.Common.{◌≡◌, ℕ, zero, suc, ◌<◌, true, false, take, List, [], ◌∷◌, ◌++◌, refl, ap, sym, ◌∙◌, append_assoc, arith}
+use Rattle.std.specs.Prelude.{◌||◌, ◌&&◌, ◌==◌, Option, Some, None, is_some}
 use Rattle.std.specs.Option.{option_or}
 use Rattle.std.proofs.lemmas.Bool.Decides.{nat_tests}
 use Rattle.std.proofs.lemmas.List.Folds.{list_any-append}
@@ -24,6 +24,14 @@ version_in-append t [] b = refl
 version_in-append t (x ∷ a) b =
     ap (λ o. option_or (born_as t x.act) o) (version_in-append t a b)
     ∙ sym (option_or_assoc (born_as t x.act) (version_in t a) (version_in t b))
+
+some_or : {T : Type 0} (a b : Option T) → is_some a ≡ true → option_or a b ≡ a
+some_or None b is = absurd (cc is)
+some_or (Some x) b is = refl
+
+-- the version of a tree that is born stays
+pub version_stays : (t : ℕ) (xs ys : List Place) → is_some (version_in t xs) ≡ true → version_in t (xs ++ ys) ≡ version_in t xs
+version_stays t xs ys is = version_in-append t xs ys ∙ some_or (version_in t xs) (version_in t ys) is
 
 pub was_done-append : (t k : ℕ) (a b : List Place) → was_done t k (a ++ b) ≡ (was_done t k a || was_done t k b)
 was_done-append t k a b = list_any-append (λ (x : Place). does t k x.act) a b

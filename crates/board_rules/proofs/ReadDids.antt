@@ -46,7 +46,7 @@ or_and_false true b = refl
 or_and_false false true = refl
 or_and_false false false = refl
 
--- the Did of tree t, behind these acts
+-- the Did of tree t, after these acts
 abbrev with_did : List Place → ℕ → TreeNo → SubNo → List (ItemNo × Value) → List Place
 with_did xs node t k values = xs ++ record { node = node; act = Did t k values } ∷ []
 

@@ -1,5 +1,5 @@
--- The serial order of acts and of a history: the whole update trees and committed strict trees by version, and within a version by
--- their last closing act.
+-- The serial order of acts and of a history: the whole update trees and committed strict trees by version, and within a
+-- version by their last closing act.
 use Rattle.std.specs.Prelude.{if◌then◌else◌, ℕ, zero, suc, Bool, false, ◌==◌, ◌&&◌, ◌||◌, List, [], ◌∷◌, ◌++◌, filter, Option, Some, None}
 use Rattle.std.specs.List.{list_any}
 use Rattle.tv_base.specs.declared.numbers.Version.{Version}
@@ -20,7 +20,7 @@ closes s _ = None
 abbrev pub is_in : ℕ → List ℕ → Bool
 is_in t ts = list_any (λ (u : ℕ). u == t) ts
 
--- a tree in front of those that were closed later, unless it is one of them
+-- a tree before those that were closed later, unless it is one of them
 abbrev pub with_closed : Option ℕ → List ℕ → List ℕ
 with_closed None ts = ts
 with_closed (Some t) ts = if is_in t ts then ts else t ∷ ts

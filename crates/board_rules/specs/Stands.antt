@@ -1,4 +1,4 @@
--- Which locks stand at a place of a history, and why a subtransaction of a strict tree votes no: a look back over the
+-- Which locks are at a place of a history, and why a subtransaction of a strict tree votes no: a look back over the
 -- acts. No tree of a run so far takes a lock.
 use Rattle.std.specs.Prelude.{if◌then◌else◌, ℕ, zero, suc, Bool, true, false, ◌==◌, ◌&&◌, not, max, nat_lt, int_lt, List, [], ◌∷◌, ◌++◌, fold, filter, length, map, Option, Some, None}
 use Rattle.std.specs.List.{list_any}

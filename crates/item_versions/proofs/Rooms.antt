@@ -1,4 +1,4 @@
--- Why an item's places are enough, what is below a version, and which value wanted memory.
+-- Why an item's places are enough, what is below a version, and which value needed memory.
 use Rattle.std.specs.Prelude.{IsTrue, ◌||◌, if◌then◌else◌, Some}
 use Rattle.std.specs.List.{remove}
 use Rattle.std.proofs.Common.{◌≡◌, ℕ, ◌+◌, ◌<◌, ◌≤◌, true, false, [], ◌∷◌, ◌++◌, length, take, leb, refl, ap, ◌∙◌, arith}

@@ -73,9 +73,9 @@ impl Item {
         holds(self.held.as_slice(), v) || self.held.len() < MOST_VERSIONS
     }
 
-    /// An update in version `v`: `op` is applied to what is seen in version `v`, which then is the value of
-    /// version `v`, and to the value of every version above `v`. Versions below `v` stay. Only a bag wants memory:
-    /// where none is found the item is unchanged.
+    /// An update in version `v`: `op` is applied to what is seen in version `v`, which then is the value of version
+    /// `v`, and to the value of every version above `v`. Versions below `v` stay. Only a bag needs memory: where none
+    /// is found the item is unchanged.
     ///
     /// Sums and tops are changed in the item itself. Of the bags, each from version `v` up is copied once, and none
     /// below it.
@@ -101,7 +101,7 @@ impl Item {
         Ok(Item { held })
     }
 
-    /// An equal item. Only a bag wants memory.
+    /// An equal item. Only a bag needs memory.
     pub(crate) fn copy(&self, alloc: Global) -> Result<Item, NoMemory>
         ensures { IfOk result (λ i. i ≡ self.now) }
     {
@@ -109,7 +109,7 @@ impl Item {
         Ok(Item { held })
     }
 
-    /// Gives version `v` this value. All other versions stay. Wants no memory.
+    /// Gives version `v` this value. All other versions stay. Needs no memory.
     #[tactic(auto, using(crate::proofs::Order::kept))]
     pub(crate) fn put_value(&mut self, v: Version, value: Value)
         requires { IsTrue (has_room v self.old) }
@@ -167,7 +167,7 @@ fn holds(items: &[(Version, Value)], v: Version) -> bool
     false
 }
 
-/// An update in version `v`. All that wants memory is made first, so an error leaves the places as they were.
+/// An update in version `v`. All that needs memory is made first, so an error leaves the places as they were.
 fn touch_places(held: &mut Places, alloc: Global, v: Version, op: &Op) -> Result<(), NoMemory>
     requires held { IsHeld held.old.items }
     requires may { IsTrue (may_touch v op.now held.old.items) }

@@ -1,4 +1,4 @@
-ghost use Rattle.std.specs.Prelude.{◌≡◌, ◌++◌, ◌∷◌, ◌<◌, [], length, slice_get, slice_set, slice_index_or, IfSome, IfNone, IsTrue, OnOk, OnErr, Some};
+ghost use Rattle.std.specs.Prelude.{◌≡◌, ◌++◌, ◌∷◌, ◌<◌, [], length, slice_get, slice_set, slice_index_or, IfOk, IfSome, IfNone, IsTrue, OnOk, OnErr, Some};
 ghost use Rattle.std.specs.Option.{option_copied};
 ghost use Rattle.std.specs.List.{All};
 ghost use Rattle.item_versions.specs.Item.{CanCollect, collected, has_room, may_touch, put_value, touched};
@@ -50,6 +50,14 @@ impl Staged {
         Staged {
             entries: Vec::new(alloc),
         }
+    }
+
+    /// Nothing staged, with room for so many items.
+    pub fn with_capacity(alloc: Global, room: usize) -> Result<Staged, NoMemory>
+        ensures { IfOk result (λ staged. staged ≡ []) }
+    {
+        let entries = Vec::with_capacity(alloc, room)?;
+        Ok(Staged { entries })
     }
 }
 
@@ -150,8 +158,8 @@ impl ItemTable {
     /// Stages an update of one item in version `v`, made to the item as it is with what is staged. The table stays
     /// as it is. Where no memory is found, so does what is staged.
     ///
-    /// An item that is staged already is changed in place, and wants memory only for bags: each from version `v` up
-    /// is copied once. Any other is copied.
+    /// An item that is staged already is changed in place, and needs memory only for bags: each from version `v` up is
+    /// copied once. Any other is copied.
     #[tactic(auto, using(crate::proofs::Staging::staging))]
     pub fn stage(
         &self,
@@ -179,7 +187,7 @@ impl ItemTable {
     /// Stages that version `v` of one item has this value. All other versions stay as they are with what is staged.
     /// The table stays as it is. Where no memory is found, so does what is staged, and the value is let go.
     ///
-    /// An item that is staged already is changed in place, and wants no memory. Any other is copied.
+    /// An item that is staged already is changed in place, and needs no memory. Any other is copied.
     #[tactic(auto, using(crate::proofs::Staging::staging))]
     pub fn stage_value(
         &self,
@@ -205,7 +213,7 @@ impl ItemTable {
         Ok(())
     }
 
-    /// Puts every staged item in its place. Wants no memory.
+    /// Puts every staged item in its place. Needs no memory.
     #[tactic(auto, using(crate::proofs::Holding::putting))]
     pub fn put_staged(&mut self, staged: Staged)
         ensures { self.new ≡ pending staged self.old }

@@ -1,4 +1,4 @@
--- Where an item stands in a table. These are the definitions that private code alone cites.
+-- Where an item is in a table. These are the definitions that private code alone cites.
 use Rattle.std.specs.Prelude.{ℕ, ◌+◌, [], ◌∷◌, if◌then◌else◌, ◌==◌}
 use Rattle.tv_base.specs.declared.numbers.ItemNo.{ItemNo}
 use Rattle.item_versions.specs.Table.{Table}
