@@ -1,8 +1,7 @@
 -- A node as the tests have it is ready for a letter.
-use Rattle.std.proofs.Common.{◌≡◌, ◌∙◌, ℕ, ◌+◌, ◌<◌, ◌≤◌, ◌^◌, ◌==◌, ◌&&◌, Bool, true, false, List, [], ◌∷◌, ◌++◌, ap, sym, subst, arith}
+use Rattle.std.proofs.Common.{◌≡◌, ◌∙◌, ℕ, ◌+◌, ◌<◌, ◌≤◌, ◌^◌, ◌==◌, ◌&&◌, Bool, true, false, [], ◌∷◌, ◌++◌, ap, sym, subst, arith}
 use Rattle.std.specs.Prelude.{if◌then◌else◌}
 use Rattle.tv_base.specs.declared.numbers.ItemNo.{ItemNo}
-use Rattle.tv_base.specs.declared.numbers.TreeNo.{TreeNo}
 use Rattle.tv_base.specs.declared.numbers.Version.{Version}
 use Rattle.commute_ops.specs.declared.value.Value.{Value}
 use Rattle.item_versions.specs.Table.{Table}
@@ -13,7 +12,7 @@ use Rattle.node_versions.specs.declared.turns.Turns.{Turns}
 use Rattle.pair_counters.specs.Counts.{Counts, no_counts}
 use Rattle.pair_counters.specs.Numbers.{AllBelow, done_one, none, MOST_COUNT}
 use Rattle.pair_counters.specs.Rows.{CounterRows, counts_of}
-use Rattle.tree_home.specs.declared.homes.OpenTree.{OpenTree}
+use Rattle.tree_home.specs.Homes.{HomesData}
 use Rattle.tx_trees.specs.ScriptData.{ScriptData}
 use Rattle.tree_step.specs.Node.{IsInWindow, IsReady, state_of}
 
@@ -40,7 +39,7 @@ all_small v q = (omega arith, one_small ((v == 0) && (q == 1)))
 abbrev pub showing : Version → Turns
 showing v = record { update = record { 0 = 1 }; read = v; low = record { 0 = 0 } }
 
-first_window : (v : Version) (items : Table) (c : CounterRows) (homes : List (TreeNo × OpenTree)) → v.0 ≤ 2
+first_window : (v : Version) (items : Table) (c : CounterRows) (homes : HomesData) → v.0 ≤ 2
     → IsWindowedTable 0 items → (counts_of c).low ≡ 0 → IsInWindow (state_of (showing v) items c homes)
 first_window v items c homes near fits low = record {
   low_read = omega arith;
@@ -53,7 +52,7 @@ first_window v items c homes near fits low = record {
 
 -- with items in version 0 alone, and one completion counted
 pub counting_ready : (s : ScriptData) (p : ℕ) (v : Version) (items : Table) (c : CounterRows)
-    (homes : List (TreeNo × OpenTree)) → p < s.nodes → v.0 ≤ 2 → IsWindowedTable 0 items
+    (homes : HomesData) → p < s.nodes → v.0 ≤ 2 → IsWindowedTable 0 items
     → counts_of c ≡ one_counted s.nodes → IsReady s p (state_of (showing v) items c homes)
 counting_ready s p v items c homes there near fits counted = record {
   there = there;

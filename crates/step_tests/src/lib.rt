@@ -1,4 +1,4 @@
-//! Tests of actors' steps: what a node and the client do with a letter, and a home with a notice.
+//! Tests of actors' steps: what a node and the client do with a letter, and a home with a notice or an acknowledgement.
 #![tactic(auto)]
 
 #[cfg(test)]

@@ -1,6 +1,5 @@
--- The notices of trees that are open at their home.
-use Rattle.std.specs.Prelude.{ℕ, ◌+◌, ◌<◌, Bool, true, false, List, [], ◌∷◌, ◌++◌, ◌==◌, if◌then◌else◌, replicate, slice_set, slice_get, ⊤, Option, Some, None}
-use Rattle.std.specs.List.{AllPairs}
+-- What a home keeps, and the notices of trees that are open there.
+use Rattle.std.specs.Prelude.{ℕ, ◌+◌, ◌<◌, Bool, true, false, List, [], ◌∷◌, ◌++◌, replicate, slice_set, slice_get, ⊤, Option, Some, None}
 use Rattle.tv_base.specs.declared.numbers.TreeNo.{TreeNo}
 use Rattle.tv_base.specs.declared.numbers.SubNo.{SubNo}
 use Rattle.tv_base.specs.declared.numbers.ItemNo.{ItemNo}
@@ -8,9 +7,10 @@ use Rattle.tv_base.specs.declared.numbers.Version.{Version}
 use Rattle.commute_ops.specs.declared.value.Value.{Value}
 use Rattle.tree_home.specs.declared.homes.OpenTree.{OpenTree}
 use Rattle.tree_home.specs.declared.homes.Answered.{Answered}
+use Rattle.tree_home.specs.declared.homes.Held.{Held}
 use Rattle.tree_home.specs.declared.homes.Noted.{Noted}
 use Rattle.tree_home.specs.declared.homes.Noted.TheVariants.{Missing, Answered as WasAnswered}
-use Rattle.tree_home.specs.Maps.{put_at}
+use Rattle.tree_home.specs.Maps.{AreAscending, by_tree, put_at}
 
 -- the values of gets, in order
 abbrev pub Gets : Type 0
@@ -23,14 +23,23 @@ OpenTrees = ℕ → Option OpenTree
 abbrev pub no_trees : OpenTrees
 no_trees t = None
 
--- the numbers of a map's entries ascend
-abbrev pub AreAscending : List (TreeNo × OpenTree) → Type 0
-AreAscending es = AllPairs (λ a b. a.0.0 < b.0.0) es
+-- what a home keeps: the open trees and the held answers, each as the entries of a map
+pub record HomesData : Type 0 where
+  pub opened : List (TreeNo × OpenTree)
+  pub held : List (TreeNo × Held)
 
--- the trees of the entries
-abbrev pub trees_of : List (TreeNo × OpenTree) → OpenTrees
-trees_of [] t = None
-trees_of (e ∷ es) t = if e.0.0 == t then Some e.1 else trees_of es t
+-- the numbers of both maps ascend
+pub record AreMaps (h : HomesData) : Type 0 where
+  pub opened : AreAscending h.opened
+  pub held : AreAscending h.held
+
+-- a home that keeps nothing
+abbrev pub no_homes : HomesData
+no_homes = record { opened = []; held = [] }
+
+-- the trees that are open at a home
+abbrev pub open_trees : HomesData → OpenTrees
+open_trees h = by_tree h.opened
 
 -- what is open of a tree
 abbrev pub home_in : TreeNo → OpenTrees → Option OpenTree

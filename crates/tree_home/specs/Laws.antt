@@ -5,7 +5,8 @@ use Rattle.tv_base.specs.declared.numbers.SubNo.{SubNo}
 use Rattle.tv_base.specs.declared.numbers.Version.{Version}
 use Rattle.tree_home.specs.declared.homes.OpenTree.{OpenTree}
 use Rattle.tree_home.specs.declared.homes.Answered.{Answered}
-use Rattle.tree_home.specs.Homes.{Gets, OpenTrees, AreAscending, trees_of, home_in, new_tree, begun, with_notice, noted, forgotten, gathered, misses, missing_in, answer_in}
+use Rattle.tree_home.specs.Maps.{AreAscending, by_tree}
+use Rattle.tree_home.specs.Homes.{Gets, OpenTrees, home_in, new_tree, begun, with_notice, noted, forgotten, gathered, misses, missing_in, answer_in}
 
 -- any other tree stays when a tree begins
 abbrev pub BegunKeepsOthers : Type 0
@@ -39,9 +40,9 @@ abbrev pub ForgottenTakesBack : Type 0
 ForgottenTakesBack = (t : TreeNo) (n : ℕ) (v : Version) (hs : OpenTrees) → home_in t hs ≡ None
     → forgotten t (begun t n v hs) ≡ hs
 
--- entries of ascending numbers that have the same trees are the same
-abbrev pub EntriesAreTheirTrees : Type 0
-EntriesAreTheirTrees = (es fs : List (TreeNo × OpenTree)) → AreAscending es → AreAscending fs → trees_of es ≡ trees_of fs
+-- entries of ascending numbers that have the same for each tree are the same
+abbrev pub EntriesAreTheirTrees : Type 0 → Type 0
+EntriesAreTheirTrees X = (es fs : List (TreeNo × X)) → AreAscending es → AreAscending fs → by_tree es ≡ by_tree fs
     → es ≡ fs
 
 -- of a tree that has begun, the notices up to the number given are missing

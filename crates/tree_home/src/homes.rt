@@ -1,8 +1,10 @@
-ghost use Rattle.std.specs.Prelude.{◌≡◌, ◌++◌, ◌<◌, length, replicate, IfOk, IfErr, IsNone, IsSome, IsTrue, OnErr, OnOk, Some, None, slice_set, slice_get, ◌↔◌};
+ghost use Rattle.std.specs.Prelude.{◌≡◌, ◌++◌, ◌-◌, ◌<◌, length, replicate, IfOk, IfErr, IsNone, IsSome, IsTrue, OnErr, OnOk, Some, None, slice_set, slice_get, ◌↔◌};
 ghost use Rattle.std.specs.Option.{option_copied, is_some};
-ghost use Rattle.tree_home.specs.Maps.{put_at};
-ghost use Rattle.tree_home.specs.Homes.{AreAscending, no_trees, trees_of, home_in, begun, with_notice, noted, forgotten, gathered, missing_count, missing_in, misses, is_missing, after_notice, answer_in, answer_of, outcome, MissesSome};
+ghost use Rattle.tree_home.specs.Maps.{AreAscending, by_tree, put_at};
+ghost use Rattle.tree_home.specs.HeldAnswers.{acked, answer_when_acked, held_answers, held_for, held_in, holding, waits_for_more};
+ghost use Rattle.tree_home.specs.Homes.{no_homes, open_trees, home_in, begun, with_notice, noted, forgotten, gathered, missing_count, missing_in, misses, is_missing, after_notice, answer_in, answer_of, outcome, MissesSome};
 
+use crate::tree_map::{find, insert, remove};
 use commute_ops::{Value, Values};
 use std::alloc::Global;
 use std::collections::BTreeMap;
@@ -40,49 +42,58 @@ pub enum Noted {
     Answered(Answered),
 }
 
-/// The trees that have their home here and aren't answered yet, by number. To begin, note and forget one takes time by
-/// the logarithm of how many there are.
+/// The answer of a tree that waits until each node that the tree visited has acknowledged the decision.
+#[derive(Drop)]
+pub struct Held {
+    pub answered: Answered,
+    /// How many acknowledgements are missing, at least 1.
+    pub waits: u32,
+}
+
+/// The trees that have their home here and aren't answered yet, and the answers that are held here, by tree number. To
+/// begin, note and forget a tree, to hold an answer and to take an acknowledgement down takes time by the logarithm of
+/// how many there are.
 #[derive(Drop)]
 pub struct Homes {
     alloc: Global,
     trees: BTreeMap<TreeNo, OpenTree>,
+    held: BTreeMap<TreeNo, Held>,
 }
 
 impl Model for Homes {
-    ghost use Rattle.std.specs.Prelude.{List};
-    ghost use Rattle.tv_base.specs.declared.numbers.TreeNo.{TreeNo};
-    ghost use Rattle.tree_home.specs.declared.homes.OpenTree.{OpenTree};
+    ghost use Rattle.tree_home.specs.Homes.{HomesData};
 
-    ghost Value = { List (TreeNo × OpenTree) };
+    ghost Value = { HomesData };
 
-    ghost use Rattle.tree_home.specs.Homes.{AreAscending};
+    ghost use Rattle.tree_home.specs.Homes.{AreMaps};
 
-    ghost view = { λ h. h.trees.entries };
+    ghost view = { λ h. record { opened = h.trees.entries; held = h.held.entries } };
 
-    ghost invariant = { λ h. AreAscending h.trees.entries };
+    ghost invariant = { λ h. AreMaps (record { opened = h.trees.entries; held = h.held.entries }) };
 }
 
 impl Homes {
-    /// No tree.
+    /// No tree is open, and no answer is held.
     pub fn new(alloc: Global) -> Homes
-        ensures { trees_of result ≡ no_trees }
+        ensures { result ≡ no_homes }
     {
         Homes {
             alloc,
             trees: BTreeMap::new(alloc),
+            held: BTreeMap::new(alloc),
         }
     }
 
     /// Whether the tree is there.
     pub fn has(&self, tree: TreeNo) -> bool
-        ensures { result ≡ is_some (home_in tree (trees_of self.now)) }
+        ensures { result ≡ is_some (home_in tree (open_trees self.now)) }
     {
         find(&self.trees, tree).is_some()
     }
 
     /// Whether the tree is there, `sub` is one of its subtransactions, and the notice of `sub` is missing.
     pub fn misses(&self, tree: TreeNo, sub: SubNo) -> bool
-        ensures { result ≡ misses tree sub (trees_of self.now) }
+        ensures { result ≡ misses tree sub (open_trees self.now) }
     {
         match find(&self.trees, tree) {
             Some(opened) => is_missing(opened.notices.items(), sub),
@@ -90,21 +101,23 @@ impl Homes {
         }
     }
 
-    /// Adds a tree of `subs` subtransactions, whose notices are all missing. Where no memory is found the trees are
+    /// Adds a tree of `subs` subtransactions, whose notices are all missing. Where no memory is found the homes are
     /// unchanged.
     pub fn begin(&mut self, tree: TreeNo, subs: u32, version: Version) -> Result<(), NoMemory>
         requires some { 0 < subs }
-        requires absent { home_in tree (trees_of self.old) ≡ None }
-        ensures ok { OnOk result (trees_of self.new ≡ begun tree subs version (trees_of self.old)) }
+        requires absent { home_in tree (open_trees self.old) ≡ None }
+        ensures ok { OnOk result (open_trees self.new ≡ begun tree subs version (open_trees self.old)) }
+        ensures held { self.new.held ≡ self.old.held }
         ensures err { OnErr result (self.new ≡ self.old) }
-        ensures was_ascending { AreAscending self.old }
+        ensures was_ascending { AreAscending self.old.opened }
     {
         let notices = no_notices(self.alloc, subs)?;
-        insert(&mut self.trees, tree, OpenTree { version, notices })
+        insert(&mut self.trees, tree, OpenTree { version, notices })?;
+        Ok(())
     }
 
     /// Takes the values of `sub` down as its notice. Where that was the last that was missing, the tree is gone and
-    /// its answer is given. The other trees stay. Where no memory is found the trees are unchanged and the values
+    /// its answer is given. The other trees stay. Where no memory is found the homes are unchanged and the values
     /// come back.
     #[tactic(auto, using(crate::proofs::Gathered::telling))]
     pub fn note(
@@ -113,11 +126,12 @@ impl Homes {
         sub: SubNo,
         values: Values,
     ) -> Result<Noted, (NoMemory, Values)>
-        requires { IsTrue (misses tree sub (trees_of self.old)) }
-        ensures noted { IfOk result (λ told. told ≡ outcome tree sub values (trees_of self.old)) }
+        requires { IsTrue (misses tree sub (open_trees self.old)) }
+        ensures noted { IfOk result (λ told. told ≡ outcome tree sub values (open_trees self.old)) }
         ensures missing { IfOk result (λ told. MissesSome told) }
         ensures homes { IfOk result
-            (λ told. trees_of self.new ≡ after_notice tree sub values (trees_of self.old) told) }
+            (λ told. open_trees self.new ≡ after_notice tree sub values (open_trees self.old) told) }
+        ensures held { self.new.held ≡ self.old.held }
         ensures refused { IfErr result (λ e. e.1 ≡ values) }
         ensures err { OnErr result (self.new ≡ self.old) }
     {
@@ -143,9 +157,9 @@ impl Homes {
         sub: SubNo,
         values: &Values,
     ) -> Result<Option<Answered>, NoMemory>
-        requires { IsTrue (misses tree sub (trees_of self.now)) }
-        ensures answer { IfOk result (λ answer. answer ≡ answer_in tree sub values.now (trees_of self.now)) }
-        ensures none { IfOk result (λ answer. IsNone answer ↔ (1 < missing_in tree (trees_of self.now))) }
+        requires { IsTrue (misses tree sub (open_trees self.now)) }
+        ensures answer { IfOk result (λ answer. answer ≡ answer_in tree sub values.now (open_trees self.now)) }
+        ensures none { IfOk result (λ answer. IsNone answer ↔ (1 < missing_in tree (open_trees self.now))) }
     {
         let opened = find(&self.trees, tree).unwrap();
         answer(self.alloc, tree, opened, sub, values.items())
@@ -153,7 +167,7 @@ impl Homes {
 
     /// How many notices of the tree are missing, 0 where the tree isn't there.
     fn still_missing(&self, tree: TreeNo) -> u32
-        ensures { result ≡ missing_in tree (trees_of self.now) }
+        ensures { result ≡ missing_in tree (open_trees self.now) }
     {
         match find(&self.trees, tree) {
             Some(opened) => count_missing(&opened.notices),
@@ -161,23 +175,58 @@ impl Homes {
         }
     }
 
-    /// Takes a tree away. The others stay. Wants no memory.
+    /// Takes a tree away. The others stay. Needs no memory.
     pub fn forget(&mut self, tree: TreeNo)
-        requires { IsSome (home_in tree (trees_of self.old)) }
-        ensures forgotten { trees_of self.new ≡ forgotten tree (trees_of self.old) }
-        ensures ascending { AreAscending self.new }
+        requires { IsSome (home_in tree (open_trees self.old)) }
+        ensures forgotten { open_trees self.new ≡ forgotten tree (open_trees self.old) }
+        ensures held { self.new.held ≡ self.old.held }
+        ensures ascending { AreAscending self.new.opened }
     {
         remove(&mut self.trees, tree);
     }
 
-    /// Takes the values of `sub` down as its notice, where another notice of the tree is missing too. Wants no
-    /// memory.
+    /// Takes the values of `sub` down as its notice, where another notice of the tree is missing too. Needs no memory.
     pub fn put_notice(&mut self, tree: TreeNo, sub: SubNo, values: Values)
-        requires misses { IsTrue (misses tree sub (trees_of self.old)) }
-        requires another { 1 < missing_in tree (trees_of self.old) }
-        ensures { trees_of self.new ≡ noted tree sub values (trees_of self.old) }
+        requires misses { IsTrue (misses tree sub (open_trees self.old)) }
+        requires another { 1 < missing_in tree (open_trees self.old) }
+        ensures noted { open_trees self.new ≡ noted tree sub values (open_trees self.old) }
+        ensures held { self.new.held ≡ self.old.held }
     {
         put(&mut self.trees, tree, sub, values);
+    }
+
+    /// Holds an answer until so many acknowledgements have come. The open trees and the other answers stay. Where no
+    /// memory is found the homes are unchanged and the answer comes back.
+    pub fn hold(&mut self, answered: Answered, waits: u32) -> Result<(), (NoMemory, Answered)>
+        requires some { 0 < waits }
+        requires absent { held_in answered.tree (held_answers self.old) ≡ None }
+        ensures ok { OnOk result (held_answers self.new ≡ holding answered waits (held_answers self.old)) }
+        ensures opened { self.new.opened ≡ self.old.opened }
+        ensures refused { IfErr result (λ e. e.1 ≡ answered) }
+        ensures err { OnErr result (self.new ≡ self.old) }
+        ensures was_ascending { AreAscending self.old.held }
+    {
+        hold_answer(&mut self.held, answered, waits)
+    }
+
+    /// Takes an acknowledgement of a tree down whose answer is held. None exactly where another is still missing after
+    /// it: then one fewer is missing. Else the answer that was held is given, and is held no more. The open trees and
+    /// the other answers stay. Needs no memory.
+    pub fn acked(&mut self, tree: TreeNo) -> Option<Answered>
+        requires { IsSome (held_in tree (held_answers self.old)) }
+        ensures answer { result ≡ answer_when_acked tree (held_answers self.old) }
+        ensures held { held_answers self.new ≡ acked tree (held_answers self.old) }
+        ensures opened { self.new.opened ≡ self.old.opened }
+        ensures ascending { AreAscending self.new.held }
+    {
+        acknowledge(&mut self.held, tree)
+    }
+
+    /// The answer of a tree that is held, and how many acknowledgements it misses. None exactly where none is held.
+    pub fn held(&self, tree: TreeNo) -> Option<&Held>
+        ensures { option_copied result ≡ held_in tree (held_answers self.now) }
+    {
+        find(&self.held, tree)
     }
 }
 
@@ -186,50 +235,85 @@ impl Homes {
 fn no_notices(alloc: Global, subs: u32) -> Result<Notices, NoMemory>
     ensures { IfOk result (λ notices. notices ≡ replicate subs None) }
 {
-    let mut notices = Seq::new(alloc);
+    let mut notices = Seq::with_capacity(alloc, subs as usize)?;
     for _ in 0..subs {
         notices.push(None)?;
     }
     Ok(notices)
 }
 
-/// What is open of a tree.
-fn find(trees: &BTreeMap<TreeNo, OpenTree>, tree: TreeNo) -> Option<&OpenTree>
-    ensures { option_copied result ≡ home_in tree (trees_of trees.now.entries) }
-{
-    trees.get(&tree)
-}
-
-/// Puts what is open of a tree under its number. Where no memory is found the trees are unchanged.
-fn insert(
-    trees: &mut BTreeMap<TreeNo, OpenTree>,
-    tree: TreeNo,
-    opened: OpenTree,
-) -> Result<(), NoMemory>
-    ensures ok { OnOk result (trees_of trees.new.entries ≡ put_at tree.0 (Some opened) (trees_of trees.old.entries)) }
-    ensures err { OnErr result (trees.new.entries ≡ trees.old.entries) }
-    ensures ascending { AreAscending trees.new.entries }
-{
-    trees.insert(tree, opened)?;
-    Ok(())
-}
-
-/// Takes a tree away.
-fn remove(trees: &mut BTreeMap<TreeNo, OpenTree>, tree: TreeNo)
-    ensures forgotten { trees_of trees.new.entries ≡ forgotten tree (trees_of trees.old.entries) }
-    ensures ascending { AreAscending trees.new.entries }
-{
-    trees.remove(&tree);
-}
-
 /// Puts the values of `sub` at the place of its notice, in what is open of its tree.
 fn put(trees: &mut BTreeMap<TreeNo, OpenTree>, tree: TreeNo, sub: SubNo, values: Values)
-    requires { IsTrue (misses tree sub (trees_of trees.old.entries)) }
-    ensures noted { trees_of trees.new.entries ≡ noted tree sub values (trees_of trees.old.entries) }
+    requires { IsTrue (misses tree sub (by_tree trees.old.entries)) }
+    ensures noted { by_tree trees.new.entries ≡ noted tree sub values (by_tree trees.old.entries) }
     ensures ascending { AreAscending trees.new.entries }
 {
     let opened = trees.get_mut(&tree).unwrap();
     add_notice(opened, sub, values);
+}
+
+/// Puts an answer under its tree's number. Where no memory is found the map is unchanged and the answer comes back.
+fn hold_answer(
+    held: &mut BTreeMap<TreeNo, Held>,
+    answered: Answered,
+    waits: u32,
+) -> Result<(), (NoMemory, Answered)>
+    ensures ok { OnOk result (by_tree held.new.entries ≡ holding answered waits (by_tree held.old.entries)) }
+    ensures refused { IfErr result (λ e. e.1 ≡ answered) }
+    ensures err { OnErr result (held.new.entries ≡ held.old.entries) }
+    ensures ascending { AreAscending held.new.entries }
+    ensures was_ascending { AreAscending held.old.entries }
+{
+    match insert(held, answered.tree, Held { answered, waits }) {
+        Ok(()) => Ok(()),
+        Err((e, refused)) => Err((e, refused.answered)),
+    }
+}
+
+/// Whether another acknowledgement of a tree is missing beside the next.
+fn waits_for_more(held: &BTreeMap<TreeNo, Held>, tree: TreeNo) -> bool
+    ensures { result ≡ waits_for_more (held_in tree (by_tree held.now.entries)) }
+{
+    match find(held, tree) {
+        Some(found) => 1 < found.waits,
+        None => false,
+    }
+}
+
+/// Makes one acknowledgement of a tree fewer missing, where another is missing beside it.
+fn count_down(held: &mut BTreeMap<TreeNo, Held>, tree: TreeNo)
+    requires { IsTrue (waits_for_more (held_in tree (by_tree held.old.entries))) }
+    ensures acked { by_tree held.new.entries ≡ acked tree (by_tree held.old.entries) }
+    ensures ascending { AreAscending held.new.entries }
+{
+    let found = held.get_mut(&tree).unwrap();
+    one_fewer(found);
+}
+
+/// One acknowledgement fewer is missing.
+fn one_fewer(found: &mut Held)
+    requires { 1 < found.old.waits }
+    ensures { found.new ≡ held_for (found.old.waits - 1) found.old.answered }
+{
+    found.waits -= 1;
+}
+
+/// Takes an acknowledgement of a tree down, and gives the answer where none is missing after it.
+#[tactic(auto, using(crate::proofs::Holding::acking))]
+fn acknowledge(held: &mut BTreeMap<TreeNo, Held>, tree: TreeNo) -> Option<Answered>
+    requires { IsSome (held_in tree (by_tree held.old.entries)) }
+    ensures answer { result ≡ answer_when_acked tree (by_tree held.old.entries) }
+    ensures acked { by_tree held.new.entries ≡ acked tree (by_tree held.old.entries) }
+    ensures ascending { AreAscending held.new.entries }
+{
+    if waits_for_more(held, tree) {
+        count_down(held, tree);
+        return None;
+    }
+    match remove(held, tree) {
+        Some(found) => Some(found.answered),
+        None => None,
+    }
 }
 
 /// Whether there is a place for the notice of `sub`, and it is missing.

@@ -1,3 +1,6 @@
+ghost use Rattle.tree_home.specs.declared.homes.Held.{Held};
+ghost use Rattle.tree_home.specs.declared.homes.OpenTree.{OpenTree};
+ghost use Rattle.tree_home.specs.HeldLaws.{AckedCountsDown, AckedKeepsOthers, AckedWaits, HeldForOneComesBack, HeldIsThere, HoldingKeepsOthers, HoldingWaits, LastSetsFree};
 ghost use Rattle.tree_home.specs.Laws.{BegunKeepsOthers, NotedKeepsOthers, ForgottenKeepsOthers, BegunIsThere, NotedIsThere, ForgottenIsGone, ForgottenTakesBack, EntriesAreTheirTrees, MissesWhenBegun, AllMissing, MissesOthers, OneFewer, AnsweredExactly, AnswerIsTheTrees, GatheredInOrder};
 
 /// The home of any other tree stays as it is when a tree begins, has a notice, or goes. It does nothing: its contract
@@ -17,10 +20,12 @@ pub fn a_tree_comes_and_goes()
     ensures back { ForgottenTakesBack }
 {}
 
-/// What is kept is no more than the trees: where the trees are the same, it is the same. So a tree that begins and is
-/// forgotten leaves what was there before. It does nothing: its contract is the law.
+/// What is kept is no more than the trees and the answers: where these are the same, it is the same. So a tree that
+/// begins and is forgotten leaves what was there before, and so does an answer that is held and set free. It does
+/// nothing: its contract is the law.
 pub fn entries_are_their_trees()
-    ensures { EntriesAreTheirTrees }
+    ensures opened { EntriesAreTheirTrees OpenTree }
+    ensures held { EntriesAreTheirTrees Held }
 {}
 
 /// When a tree begins, the notices of all its subtransactions are missing and of none besides. A notice that is taken
@@ -40,4 +45,27 @@ pub fn answered_when_none_is_missing()
     ensures exactly { AnsweredExactly }
     ensures answer { AnswerIsTheTrees }
     ensures order { GatheredInOrder }
+{}
+
+/// What is held of any other tree stays as it is when an answer is held, and at an acknowledgement. It does nothing:
+/// its contract is the law.
+pub fn other_answers_stay()
+    ensures holding { HoldingKeepsOthers }
+    ensures acked { AckedKeepsOthers }
+{}
+
+/// An answer that is held is there, with its acknowledgements missing. Each one makes one fewer missing, and the last
+/// sets the answer free: then nothing is held of its tree. So an answer that is held for one acknowledgement comes with
+/// it, and what is held is as before. It does nothing: its contract is the law.
+pub fn held_answers_come_and_go()
+    ensures there { HeldIsThere }
+    ensures fewer { AckedCountsDown }
+    ensures last { LastSetsFree }
+    ensures back { HeldForOneComesBack }
+{}
+
+/// Of each answer that is held at least one acknowledgement is missing. It does nothing: its contract is the law.
+pub fn a_held_answer_waits()
+    ensures holding { HoldingWaits }
+    ensures acked { AckedWaits }
 {}

@@ -1,11 +1,14 @@
-//! Trees at their home: the notices of a tree's subtransactions are gathered until the tree can be answered.
+//! Trees at their home: the notices of a tree's subtransactions are gathered until the tree can be answered, and an
+//! answer is held where it has to wait for acknowledgements.
 #![tactic(auto)]
 
 mod homes;
 mod laws;
+mod tree_map;
 
-pub use homes::{Answered, Homes, Noted, Notices, OpenTree};
+pub use homes::{Answered, Held, Homes, Noted, Notices, OpenTree};
 pub use laws::{
-    a_tree_comes_and_goes, answered_when_none_is_missing, entries_are_their_trees,
-    other_trees_stay, what_is_missing,
+    a_held_answer_waits, a_tree_comes_and_goes, answered_when_none_is_missing,
+    entries_are_their_trees, held_answers_come_and_go, other_answers_stay, other_trees_stay,
+    what_is_missing,
 };

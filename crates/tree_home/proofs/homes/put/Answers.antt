@@ -1,8 +1,8 @@
 use Rattle.std.proofs.Common.{◌≡◌, ◌∙◌, Some, Option, ap, sym, subst}
 use Rattle.std.specs.Prelude.{IsSome}
 use Rattle.tree_home.specs.declared.homes.OpenTree.{OpenTree}
-use Rattle.tree_home.specs.Maps.{put_at}
-use Rattle.tree_home.specs.Homes.{trees_of, noted_of}
+use Rattle.tree_home.specs.Maps.{by_tree, put_at}
+use Rattle.tree_home.specs.Homes.{noted_of}
 use Rattle.tree_home.proofs.Ascending.{ascends}
 use Rattle.tree_home.proofs.Entries.{found, changed, lent-some, lent-here}
 use Rattle.tree_home.proofs.Gathered.{misses-there, misses-here, missing-lt}
@@ -11,21 +11,21 @@ use Rattle.tree_home.proofs.homes.put.Goals as goal
 pub unwrap-opened-requires : goal.unwrap-opened-requires
 unwrap-opened-requires c =
     let es = c.args.trees.now.entries in
-    let there = misses-there c.args.tree c.args.sub (trees_of es) c.requires in
-    lent-some c.get_mut.result (trees_of es c.args.tree.0) (c.get_mut.ensures.value ∙ found c.args.tree es) there
+    let there = misses-there c.args.tree c.args.sub (by_tree es) c.requires in
+    lent-some c.get_mut.result (by_tree es c.args.tree.0) (c.get_mut.ensures.value ∙ found c.args.tree es) there
 
 pub add_notice-requires : goal.add_notice-requires
 add_notice-requires c =
     let es = c.args.trees.now.entries in
     let x = c.unwrap-opened.result in
     let is = c.get_mut.ensures.value ∙ found c.args.tree es in
-    let here = lent-here c.get_mut.result x (trees_of es c.args.tree.0) is c.unwrap-opened.ensures in
-    missing-lt x.now.notices c.args.sub.0 (misses-here c.args.tree c.args.sub (trees_of es) x.now c.requires here)
+    let here = lent-here c.get_mut.result x (by_tree es c.args.tree.0) is c.unwrap-opened.ensures in
+    missing-lt x.now.notices c.args.sub.0 (misses-here c.args.tree c.args.sub (by_tree es) x.now c.requires here)
 
 pub returns-clause-noted : goal.returns-clause-noted
 returns-clause-noted c =
     let es = c.args.trees.now.entries in
-    let hs = trees_of es in
+    let hs = by_tree es in
     let x = c.unwrap-opened.result in
     let w = c.add_notice.new.opened in
     let is = c.get_mut.ensures.value ∙ found c.args.tree es in
