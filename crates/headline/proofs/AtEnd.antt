@@ -18,6 +18,7 @@ use Rattle.tx_trees.proofs.SubsOf.{all_at}
 use Rattle.board_rules.specs.Histories.{Place, places_of, version_in, version_of}
 use Rattle.board_rules.specs.Serial.{is_version}
 use Rattle.board_rules.specs.Worth.{is_written, may_write, ops_change, subs_change, trees_write, writes}
+use Rattle.board_rules.proofs.Once.{same_tests}
 use Rattle.world_model.specs.Counts.{one_if, tally}
 use Rattle.world_model.specs.Tables.{is_run}
 use Rattle.world_model.proofs.Scripts.{IsSound, SubAt, ops_here}
@@ -26,12 +27,6 @@ use Rattle.tree_laws.proofs.Acts.{of_act}
 use Rattle.tree_laws.proofs.Counts.{zero_or}
 use Rattle.tree_laws.proofs.Whole.{dids_in}
 use Rattle.headline.proofs.Written.{act_writes, some_write, written}
-
--- tests that hold together are the same
-same_tests : (a b : Bool) → (a ≡ true → b ≡ true) → (b ≡ true → a ≡ true) → a ≡ b
-same_tests true b to from = sym (to refl)
-same_tests false true to from = from refl
-same_tests false false to from = refl
 
 -- From a Did to its tree.
 -- subtransactions of which one changes the item

@@ -1,4 +1,4 @@
--- An entry of a history, with what stood before it and what came later.
+-- An entry of a history, with what was before it and what came later.
 use Rattle.std.proofs.Common.{◌≡◌, ℕ, List, [], ◌∷◌, ◌++◌, length, take, reverse, sym, ap, ◌∙◌, arith, inl, inr, Some}
 use Rattle.std.specs.Prelude.{is_some, slice_get}
 use Rattle.std.proofs.lemmas.List.{take_all}
@@ -6,11 +6,11 @@ use Rattle.tv_base.specs.declared.numbers.Version.{Version}
 use Rattle.tv_base.proofs.ByPlace.{slice_get_split}
 use Rattle.letter_types.specs.declared.entries.Entry.{Entry}
 use Rattle.board_rules.specs.Histories.{places_at, places_of, version_in, version_of}
+use Rattle.board_rules.proofs.Places.{version_stays}
 use Rattle.world_model.proofs.Bridge.{reverse_more}
 use Rattle.tree_laws.proofs.Histories.{earlier, places_more}
-use Rattle.tree_laws.proofs.Versions.{version_stays}
 
--- entry x stands at place n of the history of a past
+-- entry x is at place n of the history of a past
 pub record Stands (past : List Entry) (n : ℕ) (x : Entry) : Type 0 where
   pub later : List Entry
   pub before : List Entry

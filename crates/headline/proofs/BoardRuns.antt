@@ -18,8 +18,10 @@ use Rattle.board_rules.specs.Histories.{Place, places_at, places_of}
 use Rattle.board_rules.specs.Moves.{IsBoardRun, IsMove, IsTurn, OneByOne}
 use Rattle.world_model.specs.Runs.{IsStepRun, client_in, node_in}
 use Rattle.world_model.specs.Timely.{AllTimely}
-use Rattle.world_model.proofs.Nexts.{Next, Begins, Hears, Ends, Coordinates, DoesRoot, DoesSub, Notes, Obeys, Order, Turns as TurnsTo, Shows, Sweeps, TellsDone, TellsAsked, SubWork, SubUpdates, SubReads}
+use Rattle.world_model.proofs.Nexts.{Next, Begins, Hears, Ends, Coordinates, DoesRoot, DoesSub, Notes, Obeys, Order, Turns as TurnsTo, Shows, Sweeps, TellsDone, TellsAsked, SubWork, SubUpdates, SubReads, DoesBody}
 use Rattle.world_model.proofs.Scripts.{IsSound, SubAt}
+use Rattle.world_model.specs.Notices.{values_of}
+use Rattle.world_model.proofs.Worked.{root_did, sub_did}
 use Rattle.tree_laws.proofs.Good.{IsGood}
 use Rattle.tree_laws.proofs.Goods.{good_run, next_of}
 use Rattle.tree_laws.proofs.Nudges.{lawful}
@@ -62,7 +64,7 @@ order_moves s past e p out stand at lt (TellsAsked v k bd is) = subst (λ (o : O
 
 -- a subtransaction that isn't a root
 raised_turn : (s : ScriptData) (past : List Entry) (e : Entry) (t : TreeNo) (k : SubNo) (v : Version) (raises : Bool) (effect : Effect)
-    → Stand s past e → e.took.body ≡ SubLetter t k v → e.actor.0 ≡ node_of s t.0 k.0 → node_of s t.0 k.0 < s.nodes
+    → Stand s past e → DoesBody s past e (SubLetter t k v) → e.actor.0 ≡ node_of s t.0 k.0 → node_of s t.0 k.0 < s.nodes
     → SubWork s t.0 k.0 (node_in s past (node_of s t.0 k.0)) v raises effect → raises ≡ true
     → IsTurn s (places_of (reverse past)) e.actor.0 v.0
 raised_turn s past e t k v raises effect stand is at lt (SubUpdates up raise can made) yields =
@@ -70,14 +72,14 @@ raised_turn s past e t k v raises effect stand is at lt (SubUpdates up raise can
 raised_turn s past e t k v raises effect stand is at lt (SubReads read raise can made) yields = absurd (cc (raise, yields))
 
 sub_moves : (s : ScriptData) (past : List Entry) (e : Entry) (t : TreeNo) (k : SubNo) (v : Version) (raises : Bool) (effect : Effect)
-    → SubAt s t.0 k.0 → 0 < k.0 → IsGood s past → AreVersioned s past → Stand s past e → e.took.body ≡ SubLetter t k v
+    → SubAt s t.0 k.0 → 0 < k.0 → IsGood s past → AreVersioned s past → Stand s past e → DoesBody s past e (SubLetter t k v)
     → e.actor.0 ≡ node_of s t.0 k.0 → node_of s t.0 k.0 < s.nodes → SubWork s t.0 k.0 (node_in s past (node_of s t.0 k.0)) v raises effect
     → (raises ≡ true → IsTurn s (places_of (reverse past)) e.actor.0 v.0)
-    → AreMoves s past e (turned_if raises v.0 ++ Did t k effect.values ∷ [])
+    → AreMoves s past e (turned_if raises v.0 ++ Did t k (values_of effect.notice) ∷ [])
 sub_moves s past e t k v true effect c later good are stand is at lt work turn =
     (turn refl, (sub_deed s past e t k v true effect (record { node = e.actor.0; act = Turned v } ∷ []) c later good are stand is at lt work refl, tt))
 sub_moves s past e t k v false effect c later good are stand is at lt work turn = (
-  subst (λ (xs : List Place). IsMove s (reverse past) xs (record { node = e.actor.0; act = Did t k effect.values }))
+  subst (λ (xs : List Place). IsMove s (reverse past) xs (record { node = e.actor.0; act = Did t k (values_of effect.notice) }))
       (append-nil (places_of (reverse past)))
       (sub_deed s past e t k v false effect [] c later good are stand is at lt work refl),
   tt,
@@ -96,10 +98,10 @@ moves_next s past e good are stand (Ends v is at made) =
     by_acts s past e _ made.acts (end_moves s past e (client_finishes s (next_after s c) c))
 moves_next s past e good are stand (Coordinates tells at made) = by_acts s past e [] made.acts tt
 moves_next s past e good are stand (DoesRoot t v effect is c at lt new work made) =
-    by_acts s past e (Born t v ∷ Did t (record { 0 = 0 }) effect.values ∷ []) made.acts
+    by_acts s past e (Born t v ∷ Did t (record { 0 = 0 }) (values_of effect.notice) ∷ []) (root_did s past e t v effect work made)
     (birth_is s past e t v effect c good stand is at lt work, (root_deed s past e t v effect c good stand is at lt work, tt))
 moves_next s past e good are stand (DoesSub t k v raises effect is c later from at lt work made) =
-    by_acts s past e (turned_if raises v.0 ++ Did t k effect.values ∷ []) made.acts
+    by_acts s past e (turned_if raises v.0 ++ Did t k (values_of effect.notice) ∷ []) (sub_did s past e t k v raises effect work made)
     (sub_moves s past e t k v raises effect c later good are stand is at lt work
     (λ yields. raised_turn s past e t k v raises effect stand is at lt work yields))
 moves_next s past e good are stand (Notes t k v values is c later from at lt misses made) = by_acts s past e [] made.acts tt

@@ -1,27 +1,20 @@
--- Two lists in which everything stands equally often are the same but for the order.
-use Rattle.std.proofs.Common.{◌≡◌, ℕ, ◌+◌, ◌≤◌, ◌==◌, ◌&&◌, Bool, true, false, List, [], ◌∷◌, ◌++◌, refl, sym, ap, subst, arith}
+-- Two lists in which everything occurs equally often are the same but for the order.
+use Rattle.std.proofs.Common.{◌≡◌, ℕ, ◌+◌, ◌≤◌, Bool, true, false, List, [], ◌∷◌, ◌++◌, refl, sym, ap, subst, arith}
 use Rattle.std.specs.Prelude.{IsPermutation}
 use Rattle.std.proofs.lemmas.List.Sorted.{IsPermutation-cons, IsPermutation-middle, IsPermutation-refl, IsPermutation-sym, IsPermutation-trans}
-use Rattle.std.proofs.lemmas.Bool.{and_from}
-use Rattle.std.proofs.lemmas.Bool.Decides.{nat_tests}
-use Rattle.tv_base.proofs.Truths.{same_test}
+use Rattle.board_rules.proofs.Once.{IsEquality}
 use Rattle.world_model.specs.Counts.{one_if, tally}
 use Rattle.world_model.proofs.Bags.{tally-append}
 
--- how often x stands in a list, by a test of equality
+-- how often x occurs in a list, by a test of equality
 abbrev pub times : {X : Type 0} → (X → X → Bool) → X → List X → ℕ
 times same x xs = tally (λ y. one_if (same y x)) xs
 
--- a list in which x stands, cut there
+-- a list in which x occurs, cut there
 record Cut {X : Type 0} (x : X) (ys : List X) : Type 0 where
   before : List X
   after : List X
   is : ys ≡ before ++ x ∷ after
-
--- the test tells equals alone, and each of them
-pub record IsEquality {X : Type 0} (same : X → X → Bool) : Type 0 where
-  pub sound : (x y : X) → same x y ≡ true → x ≡ y
-  pub itself : (x : X) → same x x ≡ true
 
 cut_at : {X : Type 0} (same : X → X → Bool) (x y : X) (ys : List X) → IsEquality same → 1 ≤ one_if (same y x) + times same x ys
     → (1 ≤ times same x ys → Cut x ys) → (test : Bool) → same y x ≡ test → Cut x (y ∷ ys)
@@ -59,22 +52,3 @@ permutes {X} same (x ∷ xs) ys equal all =
     (IsPermutation-trans (x ∷ xs) (x ∷ (c.before ++ c.after)) (c.before ++ x ∷ c.after)
     (IsPermutation-cons x xs (c.before ++ c.after) (permutes same xs (c.before ++ c.after) equal rest))
     (IsPermutation-sym (c.before ++ x ∷ c.after) (x ∷ (c.before ++ c.after)) (IsPermutation-middle c.before x c.after)))
-
--- the tests of numbers and of pairs of numbers
-pub numbers_equal : IsEquality (λ (a b : ℕ). a == b)
-numbers_equal = record { sound = λ a b is. grind (arith, nat_tests); itself = λ a. same_test a }
-
-abbrev pub same_pair : (ℕ × ℕ) → (ℕ × ℕ) → Bool
-same_pair a b = (a.0 == b.0) && (a.1 == b.1)
-
-pairs_sound : (a b : ℕ × ℕ) → same_pair a b ≡ true → a ≡ b
-pairs_sound a b is =
-    let one : a.0 ≡ b.0 = grind (arith, nat_tests) in
-    let two : a.1 ≡ b.1 = grind (arith, nat_tests) in
-    λ i. (one i, two i)
-
-pub pairs_equal : IsEquality same_pair
-pairs_equal = record {
-  sound = pairs_sound;
-  itself = λ a. and_from (a.0 == a.0) (a.1 == a.1) (same_test a.0) (same_test a.1);
-}

@@ -1,59 +1,34 @@
--- What a node's own deeds make of an item, and what the item is worth, are each one fold over subtransactions.
-use Rattle.std.proofs.Common.{◌≡◌, ◌≢◌, ℕ, zero, suc, ◌+◌, ◌==◌, Bool, true, false, List, [], ◌∷◌, ◌++◌, refl, sym, ap, subst, ◌∙◌, arith, Option, Some, None}
+-- What a node's own deeds make of an item is one fold over subtransactions.
+use Rattle.std.proofs.Common.{◌≡◌, ◌≢◌, ℕ, ◌==◌, Bool, true, false, List, [], ◌∷◌, ◌++◌, refl, sym, ap, subst, ◌∙◌, arith, Option, Some}
 use Rattle.std.specs.Prelude.{if◌then◌else◌, fold, slice_get}
 use Rattle.std.specs.List.{AllByRecursion}
+use Rattle.std.proofs.lemmas.Bool.{or_from}
 use Rattle.std.proofs.lemmas.Bool.Decides.{nat_tests}
 use Rattle.std.proofs.lemmas.List.Sums.{fold-append}
-use Rattle.commute_ops.specs.Ops.{applied}
 use Rattle.commute_ops.specs.declared.value.Value.{Value}
 use Rattle.letter_types.specs.declared.acts.Act.{Act}
 use Rattle.letter_types.specs.declared.acts.Act.TheVariants.{Did, Finished}
 use Rattle.letter_types.specs.declared.entries.Entry.{Entry}
-use Rattle.tx_trees.specs.ScriptData.{ScriptData, node_of, ops_of, sub_at, subs_at}
+use Rattle.tx_trees.specs.ScriptData.{ScriptData, node_of, ops_of}
 use Rattle.tx_trees.specs.Valid.{IsOp, OpAt}
 use Rattle.tx_trees.specs.declared.parts.ItemRow.{ItemRow}
-use Rattle.tx_trees.specs.declared.parts.Sub.{Sub}
 use Rattle.tx_trees.specs.declared.parts.SubOp.{SubOp}
 use Rattle.tx_trees.specs.declared.parts.TreeKind.{TreeKind}
-use Rattle.board_rules.specs.Histories.{Place}
-use Rattle.board_rules.specs.Worth.{after_deed, after_ops, after_subs, after_tree}
-use Rattle.board_rules.proofs.AnyOrder.{OpsCommute, SubsCommute, after_ops_is, exchanged, ops_on, tree_commutes}
+use Rattle.board_rules.specs.Histories.{Place, is_strict_tree}
+use Rattle.board_rules.specs.Worth.{after_deed, after_ops}
+use Rattle.board_rules.proofs.Effects.{did_folded}
+use Rattle.board_rules.proofs.TreeSubs.{after_sub, subs_exchanged}
 use Rattle.tree_laws.specs.OwnValues.{value_after_act, own_acts, updates_to}
 use Rattle.world_model.proofs.Scripts.{IsSound, SubAt, ops_fit}
 use Rattle.tree_laws.proofs.Whole.{none_strict}
 use Rattle.headline.proofs.Placed.{ArePlaced, DidAt}
 
--- the value of item x after subtransaction k of tree t, as a pair
-abbrev pub after_sub : ScriptData → ℕ → Value → (ℕ × ℕ) → Value
-after_sub s x w q = after_ops x (ops_of s q.0 q.1) w
-
--- Two of them may change places.
-sub_commutes : (ks : List Sub) (k : ℕ) → SubsCommute ks → (found : Option Sub) → slice_get ks k ≡ found
-    → OpsCommute (elim found [ Some sub ↦ sub.ops | None ↦ [] ])
-sub_commutes ks k all None is = tt
-sub_commutes [] k all (Some sub) is = absurd (cc is)
-sub_commutes (y ∷ ks) zero all (Some sub) is =
-    let same : y ≡ sub = cc is in subst (λ (z : Sub). OpsCommute z.ops) same all.0
-sub_commutes (y ∷ ks) (suc k) all (Some sub) is = sub_commutes ks k all.1 (Some sub) is
-
-ops_commute : (s : ScriptData) (t k : ℕ) → IsSound s → OpsCommute (ops_of s t k)
-ops_commute s t k sound =
-    sub_commutes (subs_at s t) k (tree_commutes s t sound.valid (none_strict s t sound)) (sub_at s t k) refl
-
-pub subs_exchanged : (s : ScriptData) (x : ℕ) → IsSound s → (w : Value) (a b : ℕ × ℕ)
+-- Two of them may change places, since no tree is strict.
+pub updates_exchanged : (s : ScriptData) (x : ℕ) → IsSound s → (w : Value) (a b : ℕ × ℕ)
     → after_sub s x (after_sub s x w a) b ≡ after_sub s x (after_sub s x w b) a
-subs_exchanged s x sound w a b =
-    let os : List SubOp = ops_of s a.0 a.1 in
-    let us : List SubOp = ops_of s b.0 b.1 in
-    let p = ops_on x os in
-    let q = ops_on x us in
-    let one = ops_commute s a.0 a.1 sound in
-    let two = ops_commute s b.0 b.1 sound in
-    after_ops_is x us (after_ops x os w) two
-    ∙ ap (λ (z : Value). fold applied z q) (after_ops_is x os w one)
-    ∙ exchanged p q w
-    ∙ sym (ap (λ (z : Value). fold applied z p) (after_ops_is x us w two))
-    ∙ sym (after_ops_is x os (after_ops x us w) one)
+updates_exchanged s x sound w a b =
+    subs_exchanged s x sound.valid w a b
+    (or_from (is_strict_tree s b.0) (is_strict_tree s a.0) (none_strict s b.0 sound) (none_strict s a.0 sound))
 
 -- What own deeds make.
 
@@ -68,14 +43,9 @@ abbrev pub deeds_in : ScriptData → List Entry → ℕ → List Place → List 
 deeds_in s h v [] = []
 deeds_in s h v (y ∷ ys) = deed_of s h v y.act ++ deeds_in s h v ys
 
-did_is : (s : ScriptData) (x t k : ℕ) (w : Value) (test : Bool)
-    → (if test then after_ops x (ops_of s t k) w else w) ≡ fold (after_sub s x) w (if test then (t, k) ∷ [] else [])
-did_is s x t k w true = refl
-did_is s x t k w false = refl
-
 act_is : (s : ScriptData) (h : List Entry) (x v : ℕ) (w : Value) (a : Act)
     → value_after_act s h x v w a ≡ fold (after_sub s x) w (deed_of s h v a)
-act_is s h x v w (Did t k values) = did_is s x t.0 k.0 w (updates_to s h v t.0)
+act_is s h x v w (Did t k values) = did_folded s x t.0 k.0 w (updates_to s h v t.0)
 act_is s h x v w Finished = refl
 act_is s h x v w _ = refl
 
@@ -140,37 +110,3 @@ pub own_folded : (s : ScriptData) (h : List Entry) (p x v : ℕ) (r : ItemRow) (
 own_folded s h p x v r w [] sound at here did = refl
 own_folded s h p x v r w (y ∷ ys) sound at here did =
     own_by s h p x v r w y ys sound at here did.0 (λ u. own_folded s h p x v r u ys sound at here did.1) (y.node == p) refl
-
--- What trees make.
-
--- the subtransactions of tree t from number i on
-abbrev pub numbered : ℕ → ℕ → List Sub → List (ℕ × ℕ)
-numbered t i [] = []
-numbered t i (k ∷ ks) = (t, i) ∷ numbered t (i + 1) ks
-
--- those of these trees, in order
-abbrev pub trees_in : ScriptData → List ℕ → List (ℕ × ℕ)
-trees_in s [] = []
-trees_in s (t ∷ ts) = numbered t 0 (subs_at s t) ++ trees_in s ts
-
-found_ops : (s : ScriptData) (t i : ℕ) (k : Sub) → sub_at s t i ≡ Some k → ops_of s t i ≡ k.ops
-found_ops s t i k is = rw (is, ops_of) refl
-
-subs_folded : (s : ScriptData) (x t i : ℕ) (ks : List Sub) (w : Value) → ((n : ℕ) → sub_at s t (i + n) ≡ slice_get ks n)
-    → after_subs x ks w ≡ fold (after_sub s x) w (numbered t i ks)
-subs_folded s x t i [] w same = refl
-subs_folded s x t i (k ∷ ks) w same =
-    let first : i + 0 ≡ i = omega arith in
-    let here : sub_at s t i ≡ Some k = ap (sub_at s t) (sym first) ∙ same 0 in
-    let ops : k.ops ≡ ops_of s t i = sym (found_ops s t i k here) in
-    ap (λ (os : List SubOp). after_subs x ks (after_ops x os w)) ops
-    ∙ subs_folded s x t (i + 1) ks (after_ops x (ops_of s t i) w)
-    (λ n. let next : i + 1 + n ≡ i + suc n = omega arith in ap (sub_at s t) next ∙ same (suc n))
-
-pub trees_folded : (s : ScriptData) (x : ℕ) (ts : List ℕ) (w : Value) → fold (after_tree s x) w ts ≡ fold (after_sub s x) w (trees_in s ts)
-trees_folded s x [] w = refl
-trees_folded s x (t ∷ ts) w =
-    trees_folded s x ts (after_tree s x w t)
-    ∙ ap (λ (u : Value). fold (after_sub s x) u (trees_in s ts))
-    (subs_folded s x t 0 (subs_at s t) w (λ n. let same : 0 + n ≡ n = omega arith in ap (sub_at s t) same))
-    ∙ sym (fold-append (after_sub s x) w (numbered t 0 (subs_at s t)) (trees_in s ts))

@@ -1,5 +1,5 @@
--- In every run the versions of a node's items are from its low version to its update version, and those above the low one
--- are those in which one of its own Dids changes the item.
+-- In every run the versions of a node's items are from its low version to its update version, and those above the low
+-- one are those in which one of its own Dids changes the item.
 use Rattle.std.proofs.Common.{◌≡◌, ◌≢◌, ◌⊎◌, inl, inr, ℕ, ◌+◌, ◌<◌, ◌≤◌, ◌==◌, ◌&&◌, ◌||◌, Bool, true, false, List, [], ◌∷◌, ◌++◌, refl, sym, ap, subst, ◌∙◌, arith, Some}
 use Rattle.std.specs.Prelude.{if◌then◌else◌, nat_le, nat_lt, slice_get}
 use Rattle.std.proofs.Math.Bool.{or_comm}
@@ -32,8 +32,11 @@ use Rattle.world_model.specs.Runs.{MayFollow, IsStepRun, client_in, node_in}
 use Rattle.world_model.specs.Tables.{items_at, start_node}
 use Rattle.world_model.specs.Timely.{AllTimely, WasTimely}
 use Rattle.world_model.proofs.Every.{node_kept}
-use Rattle.world_model.proofs.Nexts.{Made, RootWork, RootUpdates, RootReads, SubWork, SubUpdates, SubReads, Next, Begins, Hears, Ends, Coordinates, DoesRoot, DoesSub, Notes, Obeys, Order, Turns as TurnsBy, Shows, Sweeps, TellsDone, TellsAsked}
+use Rattle.world_model.proofs.Nexts.{Made, RootWork, RootUpdates, RootReads, SubWork, SubUpdates, SubReads, Next, Begins, Hears, Ends, Coordinates, DoesRoot, DoesSub, Notes, Obeys, Order, Turns as TurnsBy, Shows, Sweeps, TellsDone, TellsAsked, DoesBody}
 use Rattle.world_model.proofs.Scripts.{IsSound, SubAt, reads_alone}
+use Rattle.world_model.specs.Notices.{values_of}
+use Rattle.world_model.proofs.Worked.{root_did, sub_did, took_body}
+use Rattle.world_model.specs.Kept.{done_by}
 use Rattle.tree_laws.proofs.Good.{IsGood}
 use Rattle.tree_laws.proofs.Goods.{good_run, next_of}
 use Rattle.tree_laws.proofs.Steps.{timely_at}
@@ -120,7 +123,7 @@ held_more s past e p st t k v x w r values up version acts new is old =
 root_keeps_by : (s : ScriptData) (past : List Entry) (e : Entry) (t : TreeNo) (v : Version) (effect : Effect) → SubAt s t.0 0
     → AreVersioned s past → version_in t.0 (with_entry past e) ≡ Some v
     → (node_in s past (home_of s t.0)).turns.low.0 ≤ (node_in s past (home_of s t.0)).turns.update.0
-    → e.acts ≡ Born t v ∷ Did t (record { 0 = 0 }) effect.values ∷ []
+    → e.acts ≡ Born t v ∷ Did t (record { 0 = 0 }) (values_of effect.notice) ∷ []
     → Keeps s past (home_of s t.0) (node_in s past (home_of s t.0)) → RootWork s t.0 (node_in s past (home_of s t.0)) v effect
     → Keeps s (e ∷ past) (home_of s t.0) (root_done s (home_of s t.0) t.0 v.0 effect (node_in s past (home_of s t.0))).state
 root_keeps_by s past e t v effect c are version low acts keeps (RootUpdates up turn can made) =
@@ -131,9 +134,9 @@ root_keeps_by s past e t v effect c are version low acts keeps (RootUpdates up t
     step s past e p (root_done s p t.0 v.0 effect st).state are
     (rw made (kept_ops st.turns.low.0 st.turns.update.0 v (ops_of s t.0 0) st.items low_v v_up keeps.kept))
     (λ x w r at node above.
-    held_more s past e p st t (record { 0 = 0 }) v x w r effect.values up version
-    (of_acts s past e x w (Born t v ∷ Did t (record { 0 = 0 }) effect.values ∷ []) acts
-    ∙ root_writes s (with_entry past e) x w e.actor.0 t v (record { 0 = 0 }) effect.values)
+    held_more s past e p st t (record { 0 = 0 }) v x w r (values_of effect.notice) up version
+    (of_acts s past e x w (Born t v ∷ Did t (record { 0 = 0 }) (values_of effect.notice) ∷ []) acts
+    ∙ root_writes s (with_entry past e) x w e.actor.0 t v (record { 0 = 0 }) (values_of effect.notice))
     (holds_in (record { 0 = w }) (record { 0 = x }) effect.items)
     (rw made (ops_hold (record { 0 = w }) v (record { 0 = x }) (ops_of s t.0 0) st.items can)) (keeps.holds x w r at node above))
 root_keeps_by s past e t v effect c are version low acts keeps (RootReads read turn can made) =
@@ -141,21 +144,21 @@ root_keeps_by s past e t v effect c are version low acts keeps (RootReads read t
     let st = node_in s past p in
     quiet_step s past e p (root_done s p t.0 v.0 effect st).state are (rw made keeps.kept)
     (λ x w r at node.
-    of_acts s past e x w (Born t v ∷ Did t (record { 0 = 0 }) effect.values ∷ []) acts
-    ∙ root_writes s (with_entry past e) x w e.actor.0 t v (record { 0 = 0 }) effect.values
-    ∙ did_reads s (with_entry past e) x w t (record { 0 = 0 }) effect.values (reads_alone s t.0 0 c read))
+    of_acts s past e x w (Born t v ∷ Did t (record { 0 = 0 }) (values_of effect.notice) ∷ []) acts
+    ∙ root_writes s (with_entry past e) x w e.actor.0 t v (record { 0 = 0 }) (values_of effect.notice)
+    ∙ did_reads s (with_entry past e) x w t (record { 0 = 0 }) (values_of effect.notice) (reads_alone s t.0 0 c read))
     (λ x w r at node above. rw made (keeps.holds x w r at node above))
 
 root_keeps : (s : ScriptData) (past : List Entry) (e : Entry) (t : TreeNo) (v : Version) (effect : Effect) → SubAt s t.0 0 → IsSound s
     → IsGood s past → MayFollow s past e → AreVersioned s past
-    → (node_in s past (home_of s t.0)).turns.low.0 ≤ (node_in s past (home_of s t.0)).turns.update.0 → e.took.body ≡ Root t
+    → (node_in s past (home_of s t.0)).turns.low.0 ≤ (node_in s past (home_of s t.0)).turns.update.0 → DoesBody s past e (Root t)
     → RootWork s t.0 (node_in s past (home_of s t.0)) v effect
     → Made s past e (home_of s t.0) (root_done s (home_of s t.0) t.0 v.0 effect (node_in s past (home_of s t.0)))
     → Keeps s past (home_of s t.0) (node_in s past (home_of s t.0))
     → Keeps s (e ∷ past) (home_of s t.0) (node_in s (e ∷ past) (home_of s t.0))
 root_keeps s past e t v effect c sound good m are low is work made keeps =
     subst (λ (n : Node). Keeps s (e ∷ past) (home_of s t.0) n) (sym made.state)
-    (root_keeps_by s past e t v effect c are (root_version s past e t v effect c sound good m is made) low made.acts keeps work)
+    (root_keeps_by s past e t v effect c are (root_version s past e t v effect c sound good m is made) low (root_did s past e t v effect work made) keeps work)
 
 -- A node that does another subtransaction.
 raised_up : (raises : Bool) (v : ℕ) (turns : Turns) → raises ≡ nat_lt turns.update.0 v
@@ -175,7 +178,7 @@ KeepsBy s past e p turns items =
 sub_keeps_by : (s : ScriptData) (past : List Entry) (e : Entry) (t : TreeNo) (k : SubNo) (v : Version) (raises : Bool) (effect : Effect)
     → SubAt s t.0 k.0 → version_in t.0 (with_entry past e) ≡ Some v
     → (node_in s past (node_of s t.0 k.0)).turns.low.0 ≤ v.0
-    → e.acts ≡ turned_if raises v.0 ++ Did t k effect.values ∷ []
+    → e.acts ≡ turned_if raises v.0 ++ Did t k (values_of effect.notice) ∷ []
     → Keeps s past (node_of s t.0 k.0) (node_in s past (node_of s t.0 k.0))
     → SubWork s t.0 k.0 (node_in s past (node_of s t.0 k.0)) v raises effect
     → KeepsBy s past e (node_of s t.0 k.0) (raised_if raises v.0 (node_in s past (node_of s t.0 k.0)).turns) effect.items
@@ -187,9 +190,9 @@ sub_keeps_by s past e t k v raises effect c version low acts keeps (SubUpdates u
           (kept_ops st.turns.low.0 (raised_if raises v.0 st.turns).update.0 v (ops_of s t.0 k.0) st.items low more.1
           (kept_table st.turns.low.0 st.turns.update.0 (raised_if raises v.0 st.turns).update.0 st.items more.0 keeps.kept)),
       λ x w r at node above.
-          held_more s past e p st t k v x w r effect.values up version
-          (of_acts s past e x w (turned_if raises v.0 ++ Did t k effect.values ∷ []) acts
-          ∙ sub_writes s (with_entry past e) x w e.actor.0 raises v.0 t k effect.values)
+          held_more s past e p st t k v x w r (values_of effect.notice) up version
+          (of_acts s past e x w (turned_if raises v.0 ++ Did t k (values_of effect.notice) ∷ []) acts
+          ∙ sub_writes s (with_entry past e) x w e.actor.0 raises v.0 t k (values_of effect.notice))
           (holds_in (record { 0 = w }) (record { 0 = x }) effect.items)
           (rw made (ops_hold (record { 0 = w }) v (record { 0 = x }) (ops_of s t.0 k.0) st.items can))
           (keeps.holds x w r at node (omega (arith, above, more.2))),
@@ -199,9 +202,9 @@ sub_keeps_by s past e t k v raises effect c version low acts keeps (SubReads rea
     let st = node_in s past p in
     let none : (x w : ℕ) → some_write s (with_entry past e) x w (places_at e) ≡ false =
     λ x w.
-    of_acts s past e x w (turned_if raises v.0 ++ Did t k effect.values ∷ []) acts
-    ∙ sub_writes s (with_entry past e) x w e.actor.0 raises v.0 t k effect.values
-    ∙ did_reads s (with_entry past e) x w t k effect.values (reads_alone s t.0 k.0 c read) in
+    of_acts s past e x w (turned_if raises v.0 ++ Did t k (values_of effect.notice) ∷ []) acts
+    ∙ sub_writes s (with_entry past e) x w e.actor.0 raises v.0 t k (values_of effect.notice)
+    ∙ did_reads s (with_entry past e) x w t k (values_of effect.notice) (reads_alone s t.0 k.0 c read) in
     rw (ap (λ (b : Bool). raised_if b v.0 st.turns) turn, made) (
       keeps.kept,
       λ x w r at node above.
@@ -209,10 +212,10 @@ sub_keeps_by s past e t k v raises effect c version low acts keeps (SubReads rea
     )
 
 sub_keeps : (s : ScriptData) (past : List Entry) (e : Entry) (t : TreeNo) (k : SubNo) (v : Version) (raises : Bool) (effect : Effect)
-    → SubAt s t.0 k.0 → MayFollow s past e → AreVersioned s past → e.took.body ≡ SubLetter t k v
+    → SubAt s t.0 k.0 → MayFollow s past e → AreVersioned s past → DoesBody s past e (SubLetter t k v)
     → is_timely s (node_in s past (node_of s t.0 k.0)) (SubLetter t k v) ≡ true
     → SubWork s t.0 k.0 (node_in s past (node_of s t.0 k.0)) v raises effect
-    → Made s past e (node_of s t.0 k.0) (sub_done s e.took.from.0 t.0 k.0 v.0 raises effect (node_in s past (node_of s t.0 k.0)))
+    → Made s past e (node_of s t.0 k.0) (sub_done s (done_by s past e).from.0 t.0 k.0 v.0 raises effect (node_in s past (node_of s t.0 k.0)))
     → Keeps s past (node_of s t.0 k.0) (node_in s past (node_of s t.0 k.0))
     → Keeps s (e ∷ past) (node_of s t.0 k.0) (node_in s (e ∷ past) (node_of s t.0 k.0))
 sub_keeps s past e t k v raises effect c m are is timely work made keeps =
@@ -220,9 +223,9 @@ sub_keeps s past e t k v raises effect c m are is timely work made keeps =
     let st = node_in s past p in
     let parts =
     sub_keeps_by s past e t k v raises effect c (sub_version s past e t k v are m is)
-    (in_window-low st.turns.low.0 v.0 timely) made.acts keeps work in
+    (in_window-low st.turns.low.0 v.0 timely) (sub_did s past e t k v raises effect work made) keeps work in
     subst (λ (n : Node). Keeps s (e ∷ past) p n) (sym made.state)
-    (step s past e p (sub_done s e.took.from.0 t.0 k.0 v.0 raises effect st).state are parts.0 parts.1)
+    (step s past e p (sub_done s (done_by s past e).from.0 t.0 k.0 v.0 raises effect st).state are parts.0 parts.1)
 
 -- A node whose items and versions stay.
 same_keeps : (s : ScriptData) (past : List Entry) (e : Entry) (p : ℕ) (st : Node) → AreVersioned s past
@@ -337,18 +340,18 @@ keeps_next s past e sound good m are lows keeps was (DoesRoot t v effect is c at
     let h = home_of s t.0 in
     keeps_at s past e h p are at (root_keeps s past e t v effect c sound good m are (lows h below) is work made (keeps h below))
     (λ ne x w r there node.
-    of_acts s past e x w (Born t v ∷ Did t (record { 0 = 0 }) effect.values ∷ []) made.acts
-    ∙ root_writes s (with_entry past e) x w e.actor.0 t v (record { 0 = 0 }) effect.values
-    ∙ did_elsewhere s (with_entry past e) x w t (record { 0 = 0 }) effect.values r c sound there (λ same. ne (same ∙ node)))
+    of_acts s past e x w (Born t v ∷ Did t (record { 0 = 0 }) (values_of effect.notice) ∷ []) (root_did s past e t v effect work made)
+    ∙ root_writes s (with_entry past e) x w e.actor.0 t v (record { 0 = 0 }) (values_of effect.notice)
+    ∙ did_elsewhere s (with_entry past e) x w t (record { 0 = 0 }) (values_of effect.notice) r c sound there (λ same. ne (same ∙ node)))
     (keeps p lt) (cases_eq h p)
 keeps_next s past e sound good m are lows keeps was (DoesSub t k v raises effect is c later from at below work made) p lt =
     let h = node_of s t.0 k.0 in
     keeps_at s past e h p are at
-    (sub_keeps s past e t k v raises effect c m are is (timely_at s past e h (SubLetter t k v) was at below is) work made (keeps h below))
+    (sub_keeps s past e t k v raises effect c m are is (timely_at s past e h (SubLetter t k v) was at below (took_body s past e (SubLetter t k v) is)) work made (keeps h below))
     (λ ne x w r there node.
-    of_acts s past e x w (turned_if raises v.0 ++ Did t k effect.values ∷ []) made.acts
-    ∙ sub_writes s (with_entry past e) x w e.actor.0 raises v.0 t k effect.values
-    ∙ did_elsewhere s (with_entry past e) x w t k effect.values r c sound there (λ same. ne (same ∙ node)))
+    of_acts s past e x w (turned_if raises v.0 ++ Did t k (values_of effect.notice) ∷ []) (sub_did s past e t k v raises effect work made)
+    ∙ sub_writes s (with_entry past e) x w e.actor.0 raises v.0 t k (values_of effect.notice)
+    ∙ did_elsewhere s (with_entry past e) x w t k (values_of effect.notice) r c sound there (λ same. ne (same ∙ node)))
     (keeps p lt) (cases_eq h p)
 keeps_next s past e sound good m are lows keeps was (Notes t k v values is c later from at below misses made) p lt =
     let h = home_of s t.0 in

@@ -1,5 +1,5 @@
--- Each act of an entry keeps to the script: what is born or turned comes of a row that the client has submitted, and the
--- client finishes when all is over.
+-- Each act of an entry keeps to the script: what is born or turned comes of a row that the client has submitted, and
+-- the client finishes when all is over.
 use Rattle.std.proofs.Common.{◌≡◌, ℕ, zero, suc, ◌+◌, ◌-◌, ◌<◌, ◌≤◌, ◌==◌, Bool, true, false, List, [], ◌∷◌, ◌++◌, reverse, take, refl, sym, ap, subst, ◌∙◌, arith, Some}
 use Rattle.std.specs.Prelude.{if◌then◌else◌, nat_le, nat_lt, slice_get}
 use Rattle.std.proofs.lemmas.Bool.{and_parts, leb-true}
@@ -29,9 +29,12 @@ use Rattle.world_model.specs.Client.{all_answered, client_finishes, next_after, 
 use Rattle.world_model.specs.Counts.{one_if, tally}
 use Rattle.world_model.specs.Runs.{MayFollow, IsStepRun, client_in, coordinator_in, node_in}
 use Rattle.world_model.specs.Timely.{AllTimely}
-use Rattle.world_model.proofs.Every.{each_taken, node_kept}
-use Rattle.world_model.proofs.Nexts.{Next, Begins, Hears, Ends, Coordinates, DoesRoot, DoesSub, Notes, Obeys, Order, Turns, Shows, Sweeps, TellsDone, TellsAsked}
+use Rattle.world_model.proofs.Every.{node_kept}
+use Rattle.world_model.proofs.Nexts.{Next, Begins, Hears, Ends, Coordinates, DoesRoot, DoesSub, Notes, Obeys, Order, Turns, Shows, Sweeps, TellsDone, TellsAsked, DoesBody}
 use Rattle.world_model.proofs.Scripts.{IsSound, SubAt, tree_below}
+use Rattle.world_model.specs.Notices.{values_of}
+use Rattle.world_model.proofs.Worked.{root_did, sub_did}
+use Rattle.world_model.proofs.EachOutstanding.{each_took, each_done}
 use Rattle.tree_laws.specs.Dids.{asks, is_did_act, roots_sent}
 use Rattle.tree_laws.specs.Ends.{is_finish}
 use Rattle.tree_laws.proofs.Acts.{any_counted, finish_marks, of_act}
@@ -110,16 +113,16 @@ advance_row k (suc n) (LoseRow ∷ rows) lt = passes_by k n LoseRow rows k (omeg
 
 -- A tree whose root is asked for is born by its row.
 born : (s : ScriptData) (past : List Entry) (e : Entry) (t : TreeNo) → SubAt s t.0 0 → IsSound s → IsStepRun s past → AllTimely s past
-    → MayFollow s past e → e.took.body ≡ Root t → IsBornByItsRow s (places_of (reverse past)) t.0
+    → MayFollow s past e → DoesBody s past e (Root t) → IsBornByItsRow s (places_of (reverse past)) t.0
 born s past e t c sound run timely m is =
     let next = (client_in s past).next in
-    let some = was_asked s past e t.0 0 m (ap (asks t.0 0) is ∙ one_here t.0 0) in
+    let some = was_asked s past e t.0 0 m (ap (asks t.0 0) is.body ∙ one_here t.0 0) in
     let good = good_run s past sound run timely in
     let (i, lt, at) = tree_row t.0 next s.rows (omega (arith, some, good.roots t.0 (tree_below s t.0 0 c))) in
     record { row = i; there = at; gate = open_run s past i sound run timely (omega (arith, lt)) }
 
 -- A node turns by the row of an advancement.
--- a node turns while an advancement is under way, to the version after the coordinator's
+-- a node turns while an advancement is in progress, to the version after the coordinator's
 turns_in : (phase : Phase) (u update v : ℕ) → least_update phase u ≤ update → update < v → v ≤ most_update phase u
     → (running phase ≡ 1) × (v ≡ u + 1)
 turns_in Idle u update v from lt le = absurd (omega (arith, from, lt, le))
@@ -144,7 +147,7 @@ turned s past p v sound run timely pl lt le =
     }
 
 -- The client finishes when all is over.
--- where no advancement is under way, a node's versions are the coordinator's
+-- where no advancement is in progress, a node's versions are the coordinator's
 record AreAtRest (u : ℕ) (turns : TurnsOf) : Type 0 where
   update : turns.update.0 ≡ u
   read : turns.read.0 ≡ u - 1
@@ -232,7 +235,7 @@ obeys s past e p out sound run timely m lt (Turns v bd is) =
     let update = (node_in s past p).turns.update.0 in
     let version : v.0 ≡ c.update + 1 =
     subst (λ (b : Body). LevelBody s c.phase c.update b) bd
-    (each_taken (λ (l : Letter). LevelBody s c.phase c.update l.body) s past e m (levels s past (lawful s sound) run timely).letters) in
+    (each_took (λ (l : Letter). LevelBody s c.phase c.update l.body) s past e m (levels s past (lawful s sound) run timely).letters) in
     let phase : c.phase ≡ Turning = phase_for s past e (Turn v) (lawful s sound) run timely m bd in
     let most : most_update c.phase c.update ≡ c.update + 1 = ap (λ (q : Phase). most_update q c.update) phase in
     subst (λ (o : Out Node). KeepAll s xs (placed e.actor.0 o.acts)) (sym is)
@@ -257,16 +260,16 @@ keeps_next s past e sound run timely (Ends v is at made) =
     let c = with_end (client_in s past) in client_keeps s past e (client_finishes s (next_after s c) c) sound run timely at made.acts
 keeps_next s past e sound run timely (Coordinates tells at made) = by_acts s past e [] made.acts tt
 keeps_next s past e sound run timely (DoesRoot t v effect is c at lt new work made) =
-    by_acts s past e (Born t v ∷ Did t (record { 0 = 0 }) effect.values ∷ []) made.acts
+    by_acts s past e (Born t v ∷ Did t (record { 0 = 0 }) (values_of effect.notice) ∷ []) (root_did s past e t v effect work made)
     (born s past e t c sound run.1 timely.1 run.0 is, (tt, tt))
 keeps_next s past e sound run timely (DoesSub t k v raises effect is c later from at lt work made) =
     let p = node_of s t.0 k.0 in
     let q = coordinator_in s past in
     let right : updates s t.0 ≡ true → v.0 ≤ most_update q.phase q.update =
-    subst (λ (b : Body). LevelBody s q.phase q.update b) is
-    (each_taken (λ (l : Letter). LevelBody s q.phase q.update l.body) s past e run.0 (levels s past (lawful s sound) run.1 timely.1).letters) in
-    by_acts s past e (turned_if raises v.0 ++ Did t k effect.values ∷ []) made.acts
-    (sub_keeps s (places_of (reverse past)) e.actor.0 v.0 raises (Did t k effect.values) (λ ys. tt) (λ more.
+    subst (λ (b : Body). LevelBody s q.phase q.update b) is.body
+    (each_done (λ (l : Letter). LevelBody s q.phase q.update l.body) s past e run.0 (levels s past (lawful s sound) run.1 timely.1).letters) in
+    by_acts s past e (turned_if raises v.0 ++ Did t k (values_of effect.notice) ∷ []) (sub_did s past e t k v raises effect work made)
+    (sub_keeps s (places_of (reverse past)) e.actor.0 v.0 raises (Did t k (values_of effect.notice)) (λ ys. tt) (λ more.
     let parts = sub_raises s q.phase q.update t.0 k.0 (node_in s past p) v raises effect work right more in
     turned s past p v.0 sound run.1 timely.1 lt parts.0 parts.1))
 keeps_next s past e sound run timely (Notes t k v values is c later from at lt misses made) = by_acts s past e [] made.acts tt

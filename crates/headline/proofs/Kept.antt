@@ -1,5 +1,5 @@
--- The versions of an item after the operations of a subtransaction and after a collection: they ascend from the low version
--- to at most one that is given, and those above the low one are those in which an update touched the item.
+-- The versions of an item after the operations of a subtransaction and after a collection: they ascend from the low
+-- version to at most one that is given, and those above the low one are those in which an update touched the item.
 use Rattle.std.proofs.Common.{◌≡◌, ℕ, ◌<◌, ◌≤◌, ◌==◌, ◌&&◌, ◌||◌, Bool, true, false, List, [], ◌∷◌, length, ltb, refl, sym, ap, ◌∙◌, arith, Option, Some, None}
 use Rattle.std.proofs.lemmas.Bool.{and_parts}
 use Rattle.std.proofs.lemmas.Bool.Decides.{nat_tests}

@@ -15,6 +15,8 @@ use Rattle.board_rules.specs.Histories.{Place, places_at, places_of}
 use Rattle.board_rules.specs.Moves.{OneByOne}
 use Rattle.world_model.specs.Runs.{client_in, node_in}
 use Rattle.world_model.proofs.Nexts.{Next, Begins, Hears, Ends, Coordinates, DoesRoot, DoesSub, Notes, Obeys, Order, Turns, Shows, Sweeps, TellsDone, TellsAsked}
+use Rattle.world_model.specs.Notices.{values_of}
+use Rattle.world_model.proofs.Worked.{root_did, sub_did}
 use Rattle.tree_laws.proofs.Histories.{places_more}
 use Rattle.tree_laws.proofs.Versions.{placed}
 
@@ -29,7 +31,7 @@ where_did (Did t k values) T U step is = step is
 where_did Finished T U step is = tt
 where_did _ T U step is = tt
 
--- no act of these stands behind a Did
+-- no act of these comes after a Did
 abbrev pub DidsAreLast : List Act → Type 0
 DidsAreLast [] = Unit {0}
 DidsAreLast (a ∷ acts) = WhereDid a (acts ≡ []) × DidsAreLast acts
@@ -65,9 +67,9 @@ dids_last s past e (Hears t v answer is at lt made) =
 dids_last s past e (Ends v is at made) =
     let c = with_end (client_in s past) in these e _ made.acts (end_last (client_finishes s (next_after s c) c))
 dids_last s past e (Coordinates tells at made) = these e [] made.acts tt
-dids_last s past e (DoesRoot t v effect is c at lt new work made) = these e _ made.acts (tt, (refl, tt))
+dids_last s past e (DoesRoot t v effect is c at lt new work made) = these e _ (root_did s past e t v effect work made) (tt, (refl, tt))
 dids_last s past e (DoesSub t k v raises effect is c later from at lt work made) =
-    these e _ made.acts (turned_did_last v.0 raises (Did t k effect.values) (refl, tt))
+    these e _ (sub_did s past e t k v raises effect work made) (turned_did_last v.0 raises (Did t k (values_of effect.notice)) (refl, tt))
 dids_last s past e (Notes t k v values is c later from at lt misses made) = these e [] made.acts tt
 dids_last s past e (Obeys p out at lt order made) =
     these e out.acts made.acts (order_last s (node_in s past p) e.took.body out order)

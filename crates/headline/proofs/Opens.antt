@@ -1,4 +1,4 @@
--- The gate of each row that the client has submitted, and of the one that it stands at, is open.
+-- The gate of each row that the client has submitted, and of the one that it is at, is open.
 use Rattle.std.proofs.Common.{◌≡◌, ℕ, zero, suc, ◌+◌, ◌<◌, ◌≤◌, Bool, true, false, List, [], ◌∷◌, length, reverse, get_or, take, ap, subst, arith, Some}
 use Rattle.std.specs.Prelude.{if◌then◌else◌, nat_le, slice_get}
 use Rattle.std.specs.List.{list_any}

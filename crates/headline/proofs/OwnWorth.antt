@@ -18,6 +18,8 @@ use Rattle.board_rules.specs.Serial.{is_in, serial_to}
 use Rattle.board_rules.specs.Worth.{first_value, worth}
 use Rattle.board_rules.proofs.Closings.{AreApart}
 use Rattle.board_rules.proofs.SerialOrder.{done_of, serial_to_apart, stands_up_to, stands_whole, whole_stands}
+use Rattle.board_rules.proofs.TreeSubs.{after_sub, numbered, trees_folded, trees_in}
+use Rattle.board_rules.proofs.Once.{pairs_equal, same_pair}
 use Rattle.tree_laws.specs.OwnValues.{is_up_to, own_value, updates_to}
 use Rattle.world_model.specs.Counts.{one_if, tally}
 use Rattle.world_model.specs.Runs.{IsStepRun}
@@ -33,11 +35,11 @@ use Rattle.tree_laws.proofs.Whole.{did_marks, dids_in, none_strict}
 use Rattle.run_laws.specs.Shown.{UpdatesAreWhole}
 use Rattle.run_laws.proofs.Closed.{update_there}
 use Rattle.run_laws.proofs.InTime.{in_time}
-use Rattle.headline.proofs.Counted.{pairs_equal, permutes, same_pair, times}
-use Rattle.headline.proofs.Folded.{after_sub, deed_of, deeds_in, numbered, own_folded, subs_exchanged, trees_folded, trees_in}
+use Rattle.headline.proofs.Counted.{permutes, times}
+use Rattle.headline.proofs.Folded.{deed_of, deeds_in, own_folded, updates_exchanged}
 use Rattle.headline.proofs.Placed.{DidAt, placed_run}
 
--- How often a subtransaction stands among the deeds of update trees of version at most v.
+-- How often a subtransaction occurs among the deeds of update trees of version at most v.
 marked : (b c m : Bool) (q r : ℕ × ℕ) → same_pair q r ≡ m → (m ≡ true → b ≡ c)
     → times same_pair r (if b then q ∷ [] else []) ≡ (if c then one_if m else 0)
 marked true true m q r is same = omega (arith, ap one_if is)
@@ -72,7 +74,7 @@ deeds_times s h v t k (y ∷ ys) =
     ∙ ap (λ (n : ℕ). (if updates_to s h v t then is_did_act t k y.act else 0) + n) (deeds_times s h v t k ys)
     ∙ both_or_none (updates_to s h v t) (is_did_act t k y.act) (tally (of_act (is_did_act t k)) ys)
 
--- How often it stands among the subtransactions of trees.
+-- How often it occurs among the subtransactions of trees.
 other_tree : (t k u i : ℕ) → u ≢ t → one_if (same_pair (u, i) (t, k)) ≡ 0
 other_tree t k u i ne = grind (arith, nat_tests)
 
@@ -255,6 +257,6 @@ own_is_worth s past p x v r sound run lt at here whole =
     let serial = trees_in s (serial_to s h v) in
     let deeds = deeds_in s h v (places_of h) in
     own_folded s h p x v r first (places_of h) sound at here (placed_run s past sound run timely)
-    ∙ is_free_of_order (after_sub s x) (subs_exchanged s x sound) serial deeds
+    ∙ is_free_of_order (after_sub s x) (updates_exchanged s x sound) serial deeds
     (permutes same_pair serial deeds pairs_equal (λ q. same_times s past v q sound run timely whole)) first
     ∙ sym (trees_folded s x (serial_to s h v) first)

@@ -1,5 +1,5 @@
 -- The client passes a settle row only when all before it has ended. So for each row that it has submitted, and for the
--- one that it stands at, all for which the row waits has ended at the client.
+-- one that it is at, all for which the row waits has ended at the client.
 use Rattle.std.proofs.Common.{◌≡◌, ℕ, zero, suc, ◌+◌, ◌-◌, ◌≤◌, Bool, true, false, List, [], ◌∷◌, ◌++◌, take, drop, refl, sym, ap, subst, ◌∙◌, arith, append_assoc, append-nil, set, inl, inr}
 use Rattle.std.specs.Prelude.{if◌then◌else◌, ◌^◌, min, nat_le}
 use Rattle.std.specs.List.{list_any}
@@ -21,7 +21,7 @@ use Rattle.world_model.proofs.Scripts.{IsSound}
 use Rattle.tree_laws.proofs.Client.{answers_grow, at_rest, end_grows}
 use Rattle.tree_laws.proofs.Goods.{next_of}
 
--- The rows before the last settle row, with one row more behind.
+-- The rows before the last settle row, with one row more after.
 settle_there : (xs : List ScriptRow) → list_any is_settle_row (xs ++ SettleRow ∷ []) ≡ true
 settle_there [] = refl
 settle_there (TreeRow t ∷ xs) = settle_there xs
@@ -29,7 +29,7 @@ settle_there (AdvanceRow ∷ xs) = settle_there xs
 settle_there (SettleRow ∷ xs) = refl
 settle_there (LoseRow ∷ xs) = settle_there xs
 
--- behind a settle row they are all before it
+-- after a settle row they are all before it
 settle_ends : (xs : List ScriptRow) → before_settle (xs ++ SettleRow ∷ []) ≡ xs
 settle_ends [] = refl
 settle_ends (x ∷ xs) = rw (settle_there xs) (ap (λ (rs : List ScriptRow). x ∷ rs) (settle_ends xs))

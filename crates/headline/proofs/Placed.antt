@@ -17,6 +17,8 @@ use Rattle.world_model.specs.Timely.{AllTimely}
 use Rattle.world_model.proofs.Every.{each_append}
 use Rattle.world_model.proofs.Nexts.{Next, Begins, Hears, Ends, Coordinates, DoesRoot, DoesSub, Notes, Obeys, Order, Turns, Shows, Sweeps, TellsDone, TellsAsked}
 use Rattle.world_model.proofs.Scripts.{IsSound, SubAt}
+use Rattle.world_model.specs.Notices.{values_of}
+use Rattle.world_model.proofs.Worked.{root_did, sub_did}
 use Rattle.std.specs.Prelude.{nat_lt}
 use Rattle.tree_laws.proofs.Goods.{next_of}
 use Rattle.tree_laws.proofs.Histories.{places_more}
@@ -60,9 +62,9 @@ entry_placed s past e (Hears t v answer is at lt made) =
 entry_placed s past e (Ends v is at made) =
     let c = with_end (client_in s past) in rw made.acts (end_placed s e.actor.0 (client_finishes s (next_after s c) c))
 entry_placed s past e (Coordinates tells at made) = rw made.acts tt
-entry_placed s past e (DoesRoot t v effect is c at lt none work made) = rw made.acts (tt, ((c, at), tt))
+entry_placed s past e (DoesRoot t v effect is c at lt none work made) = rw (root_did s past e t v effect work made) (tt, ((c, at), tt))
 entry_placed s past e (DoesSub t k v raises effect is c later from at lt work made) =
-    rw made.acts (turned_placed s e.actor.0 v.0 raises (Did t k effect.values ∷ []) ((c, at), tt))
+    rw (sub_did s past e t k v raises effect work made) (turned_placed s e.actor.0 v.0 raises (Did t k (values_of effect.notice) ∷ []) ((c, at), tt))
 entry_placed s past e (Notes t k v values is c later from at lt misses made) = rw made.acts tt
 entry_placed s past e (Obeys p out at lt order made) =
     subst (λ (acts : List Act). ArePlaced s (placed e.actor.0 acts)) (sym made.acts)

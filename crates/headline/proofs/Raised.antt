@@ -21,6 +21,8 @@ use Rattle.world_model.specs.Timely.{AllTimely}
 use Rattle.world_model.proofs.Bags.{tally-drop}
 use Rattle.world_model.proofs.Every.{each_taken}
 use Rattle.world_model.proofs.Scripts.{IsSound}
+use Rattle.world_model.proofs.EachOutstanding.{each_took, each_done}
+use Rattle.world_model.proofs.Nexts.{DoesBody}
 use Rattle.tree_laws.proofs.Nudges.{lawful}
 use Rattle.tree_laws.proofs.Whole.{none_strict}
 use Rattle.phase_laws.specs.Phases.{Stage, TurnStage, ShowStage, SweepStage, most_update}
@@ -51,7 +53,7 @@ pub record Stand (s : ScriptData) (past : List Entry) (e : Entry) : Type 0 where
   pub numbers : (p : ℕ) → p < s.nodes → AreNumbers past p (node_in s past p).turns
   pub follows : MayFollow s past e
 
--- the order that is taken is one of those under way to the node
+-- the order that is taken is one of those in flight to the node
 told_here : (g : Stage) (s : ScriptData) (past : List Entry) (e : Entry) (b : Body) (p : ℕ) → MayFollow s past e → e.actor.0 ≡ p
     → e.took.body ≡ b → tell g p p b ≡ 1 → 1 ≤ tells s past g p
 told_here g s past e b p m at is one =
@@ -65,7 +67,7 @@ taken_level : (s : ScriptData) (past : List Entry) (e : Entry) (b : Body) → St
 taken_level s past e b stand is =
     let c = coordinator_in s past in
     subst (λ (x : Body). LevelBody s c.phase c.update x) is
-    (each_taken (λ (l : Letter). LevelBody s c.phase c.update l.body) s past e stand.follows stand.levels.letters)
+    (each_took (λ (l : Letter). LevelBody s c.phase c.update l.body) s past e stand.follows stand.levels.letters)
 
 -- A turn.
 -- a node turns to a version above its own only in the phase of turning
@@ -108,11 +110,15 @@ turn_by_order s past e p v stand at lt is test =
 
 -- by a subtransaction of an update tree
 pub turn_by_sub : (s : ScriptData) (past : List Entry) (e : Entry) (p : ℕ) (t : TreeNo) (k : SubNo) (v : Version) → Stand s past e
-    → e.actor.0 ≡ p → p < s.nodes → e.took.body ≡ SubLetter t k v → updates s t.0 ≡ true
+    → e.actor.0 ≡ p → p < s.nodes → DoesBody s past e (SubLetter t k v) → updates s t.0 ≡ true
     → nat_lt (node_in s past p).turns.update.0 v.0 ≡ true → IsTurn s (places_of (reverse past)) e.actor.0 v.0
 turn_by_sub s past e p t k v stand at lt is up test =
     let above : (node_in s past p).turns.update.0 < v.0 = grind (arith, nat_tests) in
-    turn_is s past e p v.0 stand at lt above (taken_level s past e (SubLetter t k v) stand is up)
+    let c = coordinator_in s past in
+    let level : LevelBody s c.phase c.update (SubLetter t k v) =
+    subst (λ (x : Body). LevelBody s c.phase c.update x) is.body
+    (each_done (λ (l : Letter). LevelBody s c.phase c.update l.body) s past e stand.follows stand.levels.letters) in
+    turn_is s past e p v.0 stand at lt above (level up)
 
 -- A version that is shown.
 kind_of : (a b : Bool) → b ≡ false → (a || b) ≡ true → a ≡ true

@@ -35,6 +35,9 @@ use Rattle.world_model.specs.Runs.{IsStepRun, client_in, node_in}
 use Rattle.world_model.specs.Timely.{AllTimely}
 use Rattle.world_model.proofs.Nexts.{Made, Next, Begins, Hears, Ends, Coordinates, DoesRoot, DoesSub, Notes, Obeys, Order, Turns, Shows, Sweeps, TellsDone, TellsAsked, RootWork, RootUpdates, RootReads, SubWork, SubUpdates, SubReads}
 use Rattle.world_model.proofs.Scripts.{IsSound, SubAt, ops_fit, reads_kind}
+use Rattle.world_model.specs.Notices.{values_of}
+use Rattle.world_model.proofs.Worked.{root_did, sub_did, took_body}
+use Rattle.world_model.specs.Kept.{done_by}
 use Rattle.tree_laws.proofs.Goods.{good_run, next_of}
 use Rattle.tree_laws.proofs.Nudges.{lawful}
 use Rattle.tree_laws.proofs.Steps.{timely_at}
@@ -93,7 +96,7 @@ root_reads : (s : ScriptData) (past : List Entry) (e : Entry) (t : ℕ) (v : Ver
     → version_of (reverse (e ∷ past)) t ≡ Some v
     → RootWork s t (node_in s past (home_of s t)) v effect
     → Made s past e (home_of s t) (root_done s (home_of s t) t v.0 effect (node_in s past (home_of s t)))
-    → reads s t ≡ true → ReadAt s past e t 0 effect.values
+    → reads s t ≡ true → ReadAt s past e t 0 (values_of effect.notice)
 root_reads s past e t v effect c sound run timely next lt version (RootUpdates up turn can made) made_so read =
     absurd (not_both s t 0 c up read)
 root_reads s past e t v effect c sound run timely next lt version (RootReads reading turn can made) made_so read =
@@ -113,7 +116,7 @@ root_reads s past e t v effect c sound run timely next lt version (RootReads rea
       v = v;
       version = version;
       early = early;
-      right = ap (λ (x : Effect). x.values) made ∙ ap (gets v os) items
+      right = ap (λ (x : Effect). values_of x.notice) made ∙ ap (gets v os) items
           ∙ gets_right s (e ∷ past) t 0 v out c sound run lt read sees (omega (arith, low, same)) (whole_to s (e ∷ past) v.0 sound run timely now) may;
     }
 
@@ -123,7 +126,7 @@ sub_reads : (s : ScriptData) (past : List Entry) (e : Entry) (t k from : ℕ) (v
     → (node_in s past (node_of s t k)).turns.low.0 ≤ v.0
     → SubWork s t k (node_in s past (node_of s t k)) v raises effect
     → Made s past e (node_of s t k) (sub_done s from t k v.0 raises effect (node_in s past (node_of s t k)))
-    → reads s t ≡ true → ReadAt s past e t k effect.values
+    → reads s t ≡ true → ReadAt s past e t k (values_of effect.notice)
 sub_reads s past e t k from v raises effect c sound run timely next lt old version low (SubUpdates up turn can made) made_so read =
     absurd (not_both s t k c up read)
 sub_reads s past e t k from v raises effect c sound run timely next lt old version low (SubReads reading turn can made) made_so read =
@@ -143,7 +146,7 @@ sub_reads s past e t k from v raises effect c sound run timely next lt old versi
       v = v;
       version = version;
       early = early;
-      right = ap (λ (x : Effect). x.values) made ∙ ap (gets v os) items
+      right = ap (λ (x : Effect). values_of x.notice) made ∙ ap (gets v os) items
           ∙ gets_right s (e ∷ past) t k v out c sound run lt read sees low (whole_to s (e ∷ past) v.0 sound run timely now) may;
     }
 
@@ -186,7 +189,7 @@ entry_by s past e sound run timely (DoesRoot t v effect is c at lt new work made
     let good = good_run s past sound run.1 timely.1 in
     let version : version_of (reverse (e ∷ past)) t.0 ≡ Some v =
     ap (version_in t.0) (places_more e past) ∙ root_version s past e t v effect c sound good run.0 is made in
-    acts_read s past e _ made.acts
+    acts_read s past e _ (root_did s past e t v effect work made)
     (tt, (root_reads s past e t.0 v effect c sound run timely (DoesRoot t v effect is c at lt new work made) lt version work made, tt))
 entry_by s past e sound run timely (DoesSub t k v raises effect is c later from at lt work made) =
     let p = node_of s t.0 k.0 in
@@ -194,11 +197,11 @@ entry_by s past e sound run timely (DoesSub t k v raises effect is c later from 
     let old = taken_version s past e t k v are run.0 is in
     let version : version_of (reverse (e ∷ past)) t.0 ≡ Some v =
     ap (version_in t.0) (places_more e past) ∙ sub_version s past e t k v are run.0 is in
-    let near : is_timely s (node_in s past p) (SubLetter t k v) ≡ true = timely_at s past e p (SubLetter t k v) timely.0 at lt is in
+    let near : is_timely s (node_in s past p) (SubLetter t k v) ≡ true = timely_at s past e p (SubLetter t k v) timely.0 at lt (took_body s past e (SubLetter t k v) is) in
     let low = low_of (node_in s past p).turns.low.0 v.0 near in
-    acts_read s past e _ made.acts
-    (all_append (ReadsAt s past e) (turned_if raises v.0) (Did t k effect.values ∷ []) (turned_reads s past e v.0 raises) (
-      sub_reads s past e t.0 k.0 e.took.from.0 v raises effect c sound run timely
+    acts_read s past e _ (sub_did s past e t k v raises effect work made)
+    (all_append (ReadsAt s past e) (turned_if raises v.0) (Did t k (values_of effect.notice) ∷ []) (turned_reads s past e v.0 raises) (
+      sub_reads s past e t.0 k.0 (done_by s past e).from.0 v raises effect c sound run timely
           (DoesSub t k v raises effect is c later from at lt work made) lt old version low work made,
       tt,
     )) where

@@ -1,5 +1,5 @@
 -- The gate of a row, computed: it is shut while a tree before the settle row isn't whole, or a node hasn't collected to
--- the version of the advancement there, and open then; and the client stands at the settle row so long.
+-- the version of the advancement there, and open then; and the client is at the settle row so long.
 use Rattle.std.proofs.Common.{◌≡◌, ℕ, zero, suc, ◌+◌, ◌<◌, true, false, List, [], ◌∷◌, reverse, refl, ap, sym, ◌∙◌, subst, arith, Some}
 use Rattle.std.specs.Prelude.{IsTrue, slice_get}
 use Rattle.tv_base.specs.declared.numbers.TreeNo.{TreeNo}
@@ -10,7 +10,7 @@ use Rattle.board_rules.specs.Histories.{Place, is_whole_in, places_of}
 use Rattle.world_model.specs.Runs.{client_in}
 use Rattle.world_model.specs.Sample.{sample, with_read}
 
--- a tree and an advancement, and behind a settle row a read tree and an advancement
+-- a tree and an advancement, and after a settle row a read tree and an advancement
 abbrev pub gated : ScriptData
 gated = record with_read { rows = Tree (record { 0 = 0 }) ∷ Advance ∷ Settle ∷ Tree (record { 0 = 1 }) ∷ Advance ∷ [] }
 

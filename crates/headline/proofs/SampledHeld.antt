@@ -1,5 +1,5 @@
 -- The small run, and what its nodes hold at its end: each item in version 0, which no advancement has left, and in
--- version 1, which the tree wrote. In the same run with an advancement behind the tree, version 1 alone is left.
+-- version 1, which the tree wrote. In the same run with an advancement after the tree, version 1 alone is left.
 use Rattle.std.proofs.Common.{◌≡◌, ℤ, true, [], ◌∷◌, ◌++◌, reverse, refl}
 use Rattle.std.specs.Prelude.{pos}
 use Rattle.commute_ops.specs.declared.value.Value.TheVariants.{Sum}
@@ -33,7 +33,7 @@ not_held_before = refl
 pub written_before : is_written small (reverse (sample small 2)) 1 1 ≡ true
 written_before = refl
 
--- an advancement behind the tree
+-- an advancement after the tree
 abbrev pub advanced : ScriptData
 advanced = record small { rows = small.rows ++ Advance ∷ [] }
 

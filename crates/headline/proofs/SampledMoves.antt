@@ -1,5 +1,5 @@
--- The acts of the small run, and of a run of the same script with an advancement at its end: the numbers that they give the
--- nodes, and which of their acts are moves.
+-- The acts of the small run, and of a run of the same script with an advancement at its end: the numbers that they give
+-- the nodes, and which of their acts are moves.
 use Rattle.std.proofs.Common.{◌≡◌, true, false, arith, [], ◌∷◌, ◌++◌, reverse, refl}
 use Rattle.letter_types.specs.declared.acts.Act.TheVariants.{Born}
 use Rattle.tx_trees.specs.ScriptData.{ScriptData}

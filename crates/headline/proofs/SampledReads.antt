@@ -1,5 +1,5 @@
 -- A small run with two update trees, of which the first is undone, and after an advancement a read. Both are whole and
--- stand in the serial order; what the read is shown is the work of the second alone, with the first and without it.
+-- are in the serial order; what the read is shown is the work of the second alone, with the first and without it.
 use Rattle.std.proofs.Common.{◌≡◌, ℕ, true, List, [], ◌∷◌, reverse, refl, Some}
 use Rattle.std.specs.Prelude.{pos}
 use Rattle.commute_ops.specs.declared.value.Value.TheVariants.{Sum}

@@ -18,6 +18,8 @@ use Rattle.board_rules.specs.Worth.{worth, worth_in}
 use Rattle.board_rules.proofs.AnyOrder.{worth_of_trees}
 use Rattle.board_rules.proofs.Closings.{AreApart}
 use Rattle.board_rules.proofs.SerialOrder.{serial_to_apart}
+use Rattle.board_rules.proofs.Wholes.{whole_more}
+use Rattle.board_rules.proofs.Once.{numbers_equal}
 use Rattle.tree_laws.specs.OwnValues.{is_up_to}
 use Rattle.tree_laws.proofs.Goods.{next_of}
 use Rattle.tree_laws.proofs.Histories.{at_each_act_more}
@@ -33,12 +35,11 @@ use Rattle.run_laws.proofs.InTime.{in_time}
 use Rattle.run_laws.proofs.Reached.{now_below}
 use Rattle.headline.specs.Reads.{AreWholeBefore, ComesAfterUpdates, ReadsStayRight, Shows, UpdatesComeFirst}
 use Rattle.headline.proofs.Before.{stands, version_kept}
-use Rattle.headline.proofs.Counted.{numbers_equal, permutes, times}
+use Rattle.headline.proofs.Counted.{permutes, times}
 use Rattle.headline.proofs.Early.{none_comes, whole_to}
 use Rattle.headline.proofs.LastDids.{IsPlaced, entry_places}
 use Rattle.headline.proofs.OwnWorth.{stands_exactly}
 use Rattle.headline.proofs.RightReads.{ReadsAt, entry_reads}
-use Rattle.headline.proofs.Stays.{whole_more}
 
 -- Right.
 right_act : (s : ScriptData) (past b : List Entry) (e : Entry) (xs ys : List Place) (a : Act)

@@ -27,10 +27,12 @@ use Rattle.world_model.specs.Counts.{one_if}
 use Rattle.world_model.specs.Runs.{MayFollow, IsStepRun, coordinator_in, node_in, waiting}
 use Rattle.world_model.specs.Timely.{AllTimely}
 use Rattle.world_model.proofs.Bags.{one_if_same, tally-drop}
-use Rattle.world_model.proofs.Every.{each_taken, node_kept}
+use Rattle.world_model.proofs.Every.{node_kept}
 use Rattle.world_model.proofs.Flows.{same_part}
 use Rattle.world_model.proofs.Nexts.{Made, Next, Begins, Hears, Ends, Coordinates, DoesRoot, DoesSub, Notes, Obeys, Order, Turns, Shows, Sweeps, TellsDone, TellsAsked}
 use Rattle.world_model.proofs.Scripts.{IsSound}
+use Rattle.world_model.proofs.EachOutstanding.{each_took}
+use Rattle.world_model.specs.Kept.{done_by}
 use Rattle.tree_laws.proofs.Goods.{next_of}
 use Rattle.tree_laws.proofs.Nudges.{lawful}
 use Rattle.phase_laws.specs.Phases.{SweepStage, most_low}
@@ -39,7 +41,7 @@ use Rattle.phase_laws.proofs.Levels.{levels}
 use Rattle.phase_laws.proofs.Tokens.{phase_for}
 use Rattle.tree_laws.proofs.Histories.{places_more}
 use Rattle.tree_laws.proofs.Versions.{placed}
-use Rattle.headline.proofs.Stays.{any_more}
+use Rattle.board_rules.proofs.Wholes.{any_more}
 
 -- What was collected, with more acts.
 swept_more : (p v : ℕ) (xs ys : List Place) → was_swept p v xs ≡ true → was_swept p v (xs ++ ys) ≡ true
@@ -67,7 +69,7 @@ sweep_next s past e p v sound run timely m lt at is =
     let most : most_low c.phase c.update ≡ c.update = ap (λ (q : Phase). most_low q c.update) phase in
     let version : v.0 ≡ c.update =
     subst (λ (b : Body). LevelBody s c.phase c.update b) is
-    (each_taken (λ (l : Letter). LevelBody s c.phase c.update l.body) s past e m all.letters) in
+    (each_took (λ (l : Letter). LevelBody s c.phase c.update l.body) s past e m all.letters) in
     omega (arith, (all.node p lt).low_from, (all.node p lt).low_to, most, version, all.first, sweep_order s past e p v m at is)
 
 -- node p has collected to each version up to its low one
@@ -152,7 +154,7 @@ swept_next s past e p sound run timely m pl swept (DoesRoot t v effect is c at l
     at_node s past e (home_of s t.0) p (root_done s (home_of s t.0) t.0 v.0 effect (node_in s past (home_of s t.0))) made at refl swept
 swept_next s past e p sound run timely m pl swept (DoesSub t k v raises effect is c later from at lt work made) =
     let h = node_of s t.0 k.0 in
-    at_node s past e h p (sub_done s e.took.from.0 t.0 k.0 v.0 raises effect (node_in s past h)) made at
+    at_node s past e h p (sub_done s (done_by s past e).from.0 t.0 k.0 v.0 raises effect (node_in s past h)) made at
     (raised_low raises v.0 (node_in s past h).turns) swept
 swept_next s past e p sound run timely m pl swept (Notes t k v values is c later from at lt misses made) =
     at_node s past e (home_of s t.0) p (note_done s e.took.from.0 t.0 k.0 v.0 values (node_in s past (home_of s t.0))) made at refl swept

@@ -1,4 +1,4 @@
--- A run by the wider aptness is a run by the window of versions: each letter under way is apt.
+-- A run by the wider aptness is a run by the window of versions: each letter in flight is apt.
 use Rattle.std.proofs.Common.{if◌then◌else◌, ◌≡◌, ℕ, ◌+◌, ◌<◌, ◌≤◌, ◌==◌, ◌&&◌, Bool, true, false, List, [], ◌∷◌, reverse, refl, sym, ap, subst, ◌∙◌, arith, Some}
 use Rattle.std.specs.Prelude.{length, nat_le}
 use Rattle.std.proofs.lemmas.Bool.Decides.{nat_tests}
@@ -73,7 +73,7 @@ same_by : (s : ScriptData) (p : ℕ) (st : Node) (l : Letter) → EachItem (IsFr
     → wide_node_row s p st l ≡ node_row s p st l
 same_by s p st l from apt = wide_apt_row s p st l (widely_apt s p st l from apt) ∙ sym (apt_row s p st l apt)
 
--- Each letter under way is apt: an entry of its addressee's row may follow.
+-- Each letter in flight is apt: an entry of its addressee's row may follow.
 abbrev entry_with : ScriptData → List Entry → Entry → Out Node → Entry
 entry_with s past e out = record {
   stamp = record { 0 = length past + 1 };
@@ -83,7 +83,7 @@ entry_with s past e out = record {
   acts = out.acts;
 }
 
--- both tables say the same of a letter under way to a node
+-- both tables say the same of a letter in flight to a node
 same_row : (s : ScriptData) (past : List Entry) (e : Entry) → IsSound s → IsStepRun s past → e.actor.0 < s.nodes
     → find_id e.took.id (waiting s past) ≡ Some e.took → e.took.to.0 ≡ e.actor.0
     → wide_node_row s e.actor.0 (node_in s past e.actor.0) e.took ≡ node_row s e.actor.0 (node_in s past e.actor.0) e.took

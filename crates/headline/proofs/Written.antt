@@ -21,10 +21,11 @@ use Rattle.tx_trees.specs.declared.parts.TreeKind.TheVariants as trees
 use Rattle.board_rules.specs.Histories.{Place, places_at, places_of, version_in}
 use Rattle.board_rules.specs.Serial.{is_version}
 use Rattle.board_rules.specs.Worth.{changes, ops_change}
+use Rattle.board_rules.proofs.Places.{version_stays}
 use Rattle.world_model.specs.Counts.{Each}
 use Rattle.world_model.proofs.Scripts.{IsSound, SubAt, ops_fit, updates_kind}
 use Rattle.tree_laws.proofs.Histories.{places_more}
-use Rattle.tree_laws.proofs.Versions.{AreVersioned, IsOfBorn, placed, version_stays}
+use Rattle.tree_laws.proofs.Versions.{AreVersioned, IsOfBorn, placed}
 
 -- the act is a Did of an update tree that these acts bear in version w, and changes item x
 abbrev pub act_writes : ScriptData → List Place → ℕ → ℕ → Act → Bool

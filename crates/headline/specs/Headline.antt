@@ -2,8 +2,8 @@
 --
 -- Whatever order the nodes' steps and the letters' arrivals take, a run that ends Ok has written the report of its own
 -- stored history, in which every read tree shows exactly the whole update trees of its version or older, all committed
--- trees are a serial run ordered by version, no item has held more than three versions, and no read or commuting step has
--- waited for version advancement. And no read shows any part of a tree that was undone.
+-- trees are a serial run ordered by version, no item has held more than three versions, and no read or commuting step
+-- has waited for version advancement. And no read shows any part of a tree that was undone.
 use Rattle.std.specs.Prelude.{ℕ, ◌<◌, List, length}
 use Rattle.letter_types.specs.declared.entries.Entry.{Entry}
 use Rattle.tx_trees.specs.ScriptData.{ScriptData}
@@ -17,8 +17,8 @@ use Rattle.headline.specs.Reads.{ReadsStayRight, UpdatesComeFirst}
 use Rattle.headline.specs.Undone.{ShowsNothingUndone}
 use Rattle.headline.specs.Held.{HasHeldThree, IsSettled}
 
--- The headline of a script and a history, with a field a phrase, in its order. That its report was written is said beside
--- it, where there is something that is written to.
+-- The headline of a script and a history, with a field a phrase, in its order. That its report was written is said
+-- beside it, where there is something that is written to.
 pub record HasHeadline (s : ScriptData) (h : List Entry) : Type 0 where
   -- whatever order the nodes' steps and the letters' arrivals take: each actor went by its table, and letters went as
   -- letters do
@@ -34,8 +34,8 @@ pub record HasHeadline (s : ScriptData) (h : List Entry) : Type 0 where
   -- every read tree shows exactly the whole update trees of its version or older
   pub right : IsRight s h
   pub updates_first : UpdatesComeFirst s h
-  -- all committed trees are a serial run ordered by version: what is worth is a fold over the serial order, and versions
-  -- and order are tied to the script by the Board and the gates
+  -- all committed trees are a serial run ordered by version: what is worth is a fold over the serial order, and
+  -- versions and order are tied to the script by the Board and the gates
   pub board : IsBoardRun s h
   pub fits : Fits s h
   -- no item has held more than three versions

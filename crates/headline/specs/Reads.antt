@@ -1,4 +1,4 @@
--- What stands behind the values that a read shows, and that they stay right.
+-- What comes before the values that a read shows, and that they stay right.
 use Rattle.std.specs.Prelude.{ℕ, ◌≡◌, ◌≤◌, List, Option, Some, None, IsTrue}
 use Rattle.tv_base.specs.declared.numbers.Version.{Version}
 use Rattle.commute_ops.specs.declared.value.Value.{Value}
@@ -24,13 +24,14 @@ ComesAfterUpdates s h before (Did t k values) = IsTrue (reads s t.0) → AreWhol
 ComesAfterUpdates s h before Finished = Unit {0}
 ComesAfterUpdates s h before _ = Unit {0}
 
--- after the acts before any Did of a read tree of version v, every update tree that the whole history gives a version of
--- at most v is whole: all its Dids come before that one, in an earlier entry or earlier in the same
+-- after the acts before any Did of a read tree of version v, every update tree that the whole history gives a version
+-- of at most v is whole: all its Dids come before that one, in an earlier entry or earlier in the same
 abbrev pub UpdatesComeFirst : ScriptData → List Entry → Type 0
 UpdatesComeFirst s h =
     AtEachAct (λ (before : List Entry) (xs : List Place) (x : Place). ComesAfterUpdates s h xs x.act) h
 
--- where the act is a Did of a read tree, its values are what its items are worth, so counted, at the tree's version in h
+-- where the act is a Did of a read tree, its values are what its items are worth, so counted, at the tree's version in
+-- h
 abbrev pub Shows : (ℕ → ℕ → Value) → ScriptData → List Entry → Act → Type 0
 Shows worth_at s h (Did t k values) =
     IsTrue (reads s t.0) → IsShown worth_at (ops_of s t.0 k.0) values (version_of h t.0)

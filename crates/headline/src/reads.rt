@@ -31,8 +31,8 @@ pub fn reads_stay_right()
         → ReadsStayRight s (reverse past) }
 {}
 
-/// What a step of a read tree gave is also what its items are worth at the tree's version by the trees alone that weren't
-/// undone: no read shows any part of a tree that was undone.
+/// What a step of a read tree gave is also what its items are worth at the tree's version by the trees alone that
+/// weren't undone: no read shows any part of a tree that was undone.
 pub fn no_read_shows_what_was_undone()
     ensures { (s : ScriptData) (past : List Entry) → IsValid s → IsRunnable s → IsStepRun s past
         → ShowsNothingUndone s (reverse past) }

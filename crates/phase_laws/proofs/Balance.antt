@@ -1,7 +1,8 @@
--- Requests are completions and the counted letters under way, and counters are small.
+-- Requests are completions and the counted letters that have still to be done, and counters are small.
 use Rattle.std.proofs.Common.{◌∙◌, ◌≡◌, ◌≢◌, ◌⊎◌, inl, inr, ap, ℕ, ◌+◌, ◌*◌, ◌<◌, ◌≤◌, ◌==◌, ◌&&◌, Bool, true, false, List, [], ◌∷◌, length, refl, sym, subst, arith, Option}
 use Rattle.letter_types.specs.declared.bodies.Body.{Body}
 use Rattle.letter_types.specs.declared.bodies.Body.TheVariants.{Go, Root, Sub as SubLetter, Done, Reply, Advanced, Turn, Show, Sweep, AskDone, AskAsked, Decide, Decided}
+use Rattle.letter_types.specs.declared.bodies.Notice.{Notice}
 use Rattle.letter_types.specs.declared.bodies.Notice.TheVariants.{Did}
 use Rattle.letter_types.specs.declared.entries.Entry.{Entry}
 use Rattle.letter_types.specs.declared.entries.Outgoing.{Outgoing}
@@ -13,7 +14,7 @@ use Rattle.tree_home.specs.declared.homes.Answered.{Answered}
 use Rattle.world_model.specs.Children.{sub_letters, done_letter}
 use Rattle.world_model.specs.Done.{note_done, root_done, sub_done, sub_sent}
 use Rattle.world_model.specs.Node.{Effect, Node}
-use Rattle.world_model.specs.Notices.{answer_noted, reply_letters}
+use Rattle.world_model.specs.Notices.{answer_noted, reply_letters, values_of}
 use Rattle.tv_base.specs.declared.numbers.SubNo.{SubNo}
 use Rattle.tv_base.specs.declared.numbers.TreeNo.{TreeNo}
 use Rattle.tv_base.specs.declared.numbers.Version.{Version}
@@ -25,17 +26,22 @@ use Rattle.std.proofs.lemmas.Bool.Decides.{nat_tests}
 use Rattle.pair_counters.specs.Numbers.{from_version}
 use Rattle.world_model.specs.Advancing.{turn_row, show_row, sweep_row, done_row, asked_row}
 use Rattle.world_model.proofs.Every.{node_kept}
+use Rattle.world_model.specs.Kept.{of_done, done_by}
 use Rattle.world_model.specs.Runs.{node_in, MayFollow, IsStepRun}
-use Rattle.world_model.proofs.Bags.{sealed_tally, tally_step, tally-append, one_if_most}
+use Rattle.world_model.proofs.Bags.{sealed_tally, tally-append, one_if_most}
+use Rattle.world_model.proofs.Outstanding.{NoWakes, done_most, outstanding_first, outstanding_step}
+use Rattle.world_model.proofs.EachOutstanding.{done_to}
+use Rattle.world_model.proofs.NothingKept.{of_done_is}
 use Rattle.world_model.proofs.Every.{each_append}
 use Rattle.phase_laws.specs.Balance.{MOST_COUNTED, version_is, goes_between, out}
-use Rattle.world_model.proofs.Nexts.{Next, Begins, Hears, Ends, Coordinates, DoesRoot, DoesSub, Notes, Obeys, Made, Order, Turns as TurnsTo, Shows as ShowsTo, Sweeps as SweepsTo, TellsDone, TellsAsked, Tells}
+use Rattle.world_model.proofs.Nexts.{Next, Begins, Hears, Ends, Coordinates, DoesRoot, DoesSub, Notes, Obeys, Made, Order, Turns as TurnsTo, Shows as ShowsTo, Sweeps as SweepsTo, TellsDone, TellsAsked, Tells, DoesBody}
 use Rattle.world_model.proofs.Scripts.{IsSound, SubAt, is_tree, subs_here}
 use Rattle.phase_laws.proofs.Levels.{sweeps_rise}
 use Rattle.world_model.proofs.Lawful.{IsLawful}
 use Rattle.world_model.specs.Timely.{AllTimely}
+use Rattle.world_model.proofs.Worked.{of_done_here}
 use Rattle.phase_laws.proofs.Counters.{AreOf, children_few, children_of, counted, more_is, replies_uncounted, root_asked, root_completed, sub_asked, sub_completed}
-use Rattle.phase_laws.proofs.Moves.{Counts, RowCounts, apart, by_node, sent_on}
+use Rattle.phase_laws.proofs.Moves.{Counts, DoesLetter, RowCounts, apart, by_node, sent_on, uncounted_goes}
 
 -- a tree has at most 64 subtransactions
 few_subs : (s : ScriptData) (t k : ℕ) → IsSound s → SubAt s t k → length (subs_at s t) ≤ 64
@@ -46,7 +52,7 @@ root_row : (s : ScriptData) (h t v w from : ℕ) (body : Body) (effect : Effect)
     (answer : Option Answered)
     → length (subs_at s t) ≤ 64 → version_is v body ≡ false
     → answer
-    ≡ answer_noted (record { 0 = t }) (record { 0 = 0 }) effect.values
+    ≡ answer_noted (record { 0 = t }) (record { 0 = 0 }) (values_of effect.notice)
     (begun (record { 0 = t }) (length (subs_at s t)) (record { 0 = w }) st.homes)
     → RowCounts h v from body st (root_done s h t w effect st)
 root_row s h t v w from body effect st answer few none is = record {
@@ -76,10 +82,10 @@ root_row s h t v w from body effect st answer few none is = record {
 }
 
 -- what a subtransaction sends is counted
-sent_of : (s : ScriptData) (t k w : ℕ) (values : Gets) → AreOf w (sub_sent s t k w values)
-sent_of s t k w values =
+sent_of : (s : ScriptData) (t k w : ℕ) (notice : Notice) → AreOf w (sub_sent s t k w notice)
+sent_of s t k w notice =
     each_append (λ (o : Outgoing). (v : ℕ) → version_is v o.body ≡ (w == v)) (sub_letters t w k 0 (subs_at s t))
-    (done_letter (home_of s t) t k w values ∷ []) (children_of t w k 0 (subs_at s t)) ((λ v. refl), tt)
+    (done_letter (home_of s t) t k w notice ∷ []) (children_of t w k 0 (subs_at s t)) ((λ v. refl), tt)
 
 -- another subtransaction counts its children and its notice, and the letter that asked for it
 sub_row : (s : ScriptData) (h v from : ℕ) (t : TreeNo) (k : SubNo) (w : Version) (raises : Bool) (effect : Effect)
@@ -90,20 +96,20 @@ sub_row s h v from t k w raises effect st few = record {
   own = false;
   asked = λ q low. omega (
     arith,
-    sub_asked w.0 from (sub_sent s t.0 k.0 w.0 effect.values) st.counts v q (sent_of s t.0 k.0 w.0 effect.values),
+    sub_asked w.0 from (sub_sent s t.0 k.0 w.0 effect.notice) st.counts v q (sent_of s t.0 k.0 w.0 effect.notice),
   );
-  done = λ p low. omega (arith, sub_completed w.0 from (sub_sent s t.0 k.0 w.0 effect.values) st.counts v p);
+  done = λ p low. omega (arith, sub_completed w.0 from (sub_sent s t.0 k.0 w.0 effect.notice) st.counts v p);
   asked_most = λ q. omega (
     arith,
-    sub_asked w.0 from (sub_sent s t.0 k.0 w.0 effect.values) st.counts v q (sent_of s t.0 k.0 w.0 effect.values),
+    sub_asked w.0 from (sub_sent s t.0 k.0 w.0 effect.notice) st.counts v q (sent_of s t.0 k.0 w.0 effect.notice),
   );
-  done_most = λ p. omega (arith, sub_completed w.0 from (sub_sent s t.0 k.0 w.0 effect.values) st.counts v p);
+  done_most = λ p. omega (arith, sub_completed w.0 from (sub_sent s t.0 k.0 w.0 effect.notice) st.counts v p);
   few = λ q. omega (
     arith,
     few,
     children_few t.0 w.0 k.0 0 v q (subs_at s t.0),
     tally-append (counted v q) (sub_letters t.0 w.0 k.0 0 (subs_at s t.0))
-        (done_letter (home_of s t.0) t.0 k.0 w.0 effect.values ∷ []),
+        (done_letter (home_of s t.0) t.0 k.0 w.0 effect.notice ∷ []),
     one_if_most ((w.0 == v) && (home_of s t.0 == q)),
   );
 }
@@ -191,40 +197,51 @@ tells_uncounted v (Decide t w commit) tells = absurd tells
 tells_uncounted v (Decided t w) tells = absurd tells
 tells_uncounted v _ tells = refl
 
+-- nothing is kept yet, so an entry does the letter that it took
+took_done : (s : ScriptData) (past : List Entry) (e : Entry) → e.took.to.0 ≡ e.actor.0 → DoesLetter s past e e.took
+took_done s past e to = record { is = λ f. of_done_is f s past e; to = to }
+
+-- the letter that asks for a root or another subtransaction
+does_letter : (s : ScriptData) (past : List Entry) (e : Entry) (b : Body) → IsStepRun s (e ∷ past) → DoesBody s past e b
+    → DoesLetter s past e (done_by s past e)
+does_letter s past e b run is = record { is = λ f. of_done_here f s past e b is; to = done_to s past e run }
+
 -- each kind of entry
-counts_by : (s : ScriptData) (past : List Entry) (e : Entry) (v : ℕ) → IsSound s → e.took.to.0 ≡ e.actor.0 → Next s past e
+counts_by : (s : ScriptData) (past : List Entry) (e : Entry) (v : ℕ) → IsSound s → IsStepRun s (e ∷ past) → Next s past e
     → Counts s past e v
-counts_by s past e v sound to (Begins is at made) =
-    apart s past e v to (omega arith) (uncounted v e.took.body Go is refl)
-counts_by s past e v sound to (Hears t w answer is at lt made) =
-    apart s past e v to (omega arith) (uncounted v e.took.body (Reply t w answer) is refl)
-counts_by s past e v sound to (Ends w is at made) =
-    apart s past e v to (omega arith) (uncounted v e.took.body (Advanced w) is refl)
-counts_by s past e v sound to (Coordinates tells at made) =
-    apart s past e v to (omega arith) (tells_uncounted v e.took.body tells)
-counts_by s past e v sound to (Obeys h out at lt order made) =
-    by_node s past e h v out made at to (order_row s h v e.took.from.0 e.took.body (node_in s past h) out order)
-counts_by s past e v sound to (DoesRoot t w effect is sub at lt none work made) =
+counts_by s past e v sound run (Begins is at made) =
+    apart s past e v run.0.addressee (omega arith) (uncounted v e.took.body Go is refl)
+counts_by s past e v sound run (Hears t w answer is at lt made) =
+    apart s past e v run.0.addressee (omega arith) (uncounted v e.took.body (Reply t w answer) is refl)
+counts_by s past e v sound run (Ends w is at made) =
+    apart s past e v run.0.addressee (omega arith) (uncounted v e.took.body (Advanced w) is refl)
+counts_by s past e v sound run (Coordinates tells at made) =
+    apart s past e v run.0.addressee (omega arith) (tells_uncounted v e.took.body tells)
+counts_by s past e v sound run (Obeys h out at lt order made) =
+    by_node s past e e.took h v out made at (took_done s past e run.0.addressee) (order_row s h v e.took.from.0 e.took.body (node_in s past h) out order)
+counts_by s past e v sound run (DoesRoot t w effect is sub at lt none work made) =
     let h = home_of s t.0 in
     let st = node_in s past h in
-    let answer = answer_noted t (record { 0 = 0 }) effect.values (begun t (length (subs_at s t.0)) w st.homes) in
-    by_node s past e h v (root_done s h t.0 w.0 effect st) made at to
-    (root_row s h t.0 v w.0 e.took.from.0 e.took.body effect st answer (few_subs s t.0 0 sound sub)
-    (uncounted v e.took.body (Root t) is refl) refl)
-counts_by s past e v sound to (DoesSub t k w raises effect is sub later from at lt work made) =
+    let answer = answer_noted t (record { 0 = 0 }) (values_of effect.notice) (begun t (length (subs_at s t.0)) w st.homes) in
+    let r = done_by s past e in
+    by_node s past e r h v (root_done s h t.0 w.0 effect st) made at (does_letter s past e (Root t) run is)
+    (root_row s h t.0 v w.0 r.from.0 r.body effect st answer (few_subs s t.0 0 sound sub)
+    (uncounted v r.body (Root t) is.body refl) refl)
+counts_by s past e v sound run (DoesSub t k w raises effect is sub later from at lt work made) =
     let h = node_of s t.0 k.0 in
     let st = node_in s past h in
-    let row = sub_done s e.took.from.0 t.0 k.0 w.0 raises effect st in
+    let row = sub_done s (done_by s past e).from.0 t.0 k.0 w.0 raises effect st in
     let few = few_subs s t.0 k.0 sound sub in
-    by_node s past e h v row made at to
-    (row_for h v e.took.from.0 e.took.body (SubLetter t k w) st row is
-    (sub_row s h v e.took.from.0 t k w raises effect st few))
-counts_by s past e v sound to (Notes t k w values is sub later from at lt misses made) =
+    let r = done_by s past e in
+    by_node s past e r h v row made at (does_letter s past e (SubLetter t k w) run is)
+    (row_for h v r.from.0 r.body (SubLetter t k w) st row is.body
+    (sub_row s h v r.from.0 t k w raises effect st few))
+counts_by s past e v sound run (Notes t k w values is sub later from at lt misses made) =
     let h = home_of s t.0 in
     let st = node_in s past h in
     let row = note_done s e.took.from.0 t.0 k.0 w.0 values st in
     let answer = answer_noted t k values st.homes in
-    by_node s past e h v row made at to
+    by_node s past e e.took h v row made at (took_done s past e run.0.addressee)
     (row_for h v e.took.from.0 e.took.body (Done t k w (Did values)) st row is
     (note_row s h v e.took.from.0 t k w values st answer refl))
 
@@ -232,15 +249,20 @@ counts_by s past e v sound to (Notes t k w values is sub later from at lt misses
 pub counts_of : (s : ScriptData) (past : List Entry) (e : Entry) (v : ℕ) → IsLawful s → IsStepRun s (e ∷ past)
     → AllTimely s (e ∷ past)
     → Counts s past e v
-counts_of s past e v laws run timely = counts_by s past e v laws.sound run.0.addressee (laws.next past e run timely)
+counts_of s past e v laws run timely = counts_by s past e v laws.sound run (laws.next past e run timely)
 
--- what an entry does to the counted letters under way
+-- a Wake isn't counted
+pub goes_no_wake : (v p q : ℕ) → NoWakes (goes_between v p q)
+goes_no_wake v p q l t k is = uncounted_goes v p q l (ap (version_is v) is)
+
+-- what an entry does to the counted letters that have still to be done
 pub flow : (s : ScriptData) (past : List Entry) (e : Entry) (v p q : ℕ) → MayFollow s past e
-    → out s (e ∷ past) v p q + goes_between v p q e.took ≡ out s past v p q + tally (sent_on e.actor.0 v p q) e.sent
+    → out s (e ∷ past) v p q + of_done (goes_between v p q) s past e
+    ≡ out s past v p q + tally (sent_on e.actor.0 v p q) e.sent
 flow s past e v p q m =
     omega (
       arith,
-      tally_step (goes_between v p q) s past e m,
+      outstanding_step (goes_between v p q) s past e (goes_no_wake v p q) m,
       sealed_tally (goes_between v p q) (sent_on e.actor.0 v p q) e.stamp.0 e.actor.0 0 e.sent (λ i o. refl),
     )
 
@@ -313,7 +335,7 @@ IsBalancedAt s past v p q = (node_in s past p).counts.asked v q ≡ (node_in s p
 pub balanced_at : (s : ScriptData) (past : List Entry) (v p q : ℕ) → IsLawful s → IsStepRun s past → AllTimely s past
     → p < s.nodes → q < s.nodes → (node_in s past p).turns.low.0 ≤ v → (node_in s past q).turns.low.0 ≤ v
     → IsBalancedAt s past v p q
-balanced_at s [] v p q laws run timely lp lq low_p low_q = refl
+balanced_at s [] v p q laws run timely lp lq low_p low_q = omega (arith, outstanding_first (goes_between v p q) s)
 balanced_at s (e ∷ past) v p q laws run timely lp lq low_p low_q =
     let counts = counts_of s past e v laws run timely in
     let rise_p = low_rises s past e p laws run timely lp in
@@ -340,7 +362,8 @@ small_at s (e ∷ past) p v q laws run timely lt =
         before.1,
         counts.done_most q p lt,
         counts.little q p,
-        one_if_most (version_is v e.took.body && ((e.took.from.0 == q) && (e.took.to.0 == p))),
+        done_most (goes_between v q p) s past e
+            (λ l. one_if_most (version_is v l.body && ((l.from.0 == q) && (l.to.0 == p)))),
       ),
     )
 

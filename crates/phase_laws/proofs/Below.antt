@@ -1,4 +1,4 @@
--- Below a low version nothing counted is under way.
+-- Below a low version nothing counted is in flight.
 use Rattle.std.proofs.Common.{◌≡◌, ◌⊎◌, inl, inr, ℕ, ◌+◌, ◌-◌, ◌<◌, ◌≤◌, Bool, true, false, List, [], ◌∷◌, sym, ap, subst, ◌∙◌, arith, Some}
 use Rattle.letter_types.specs.declared.bodies.Body.{Body}
 use Rattle.letter_types.specs.declared.entries.Entry.{Entry}
@@ -185,7 +185,7 @@ silent_below s [] laws run timely = λ w lt. absurd (omega (arith, lt))
 silent_below s (e ∷ past) laws run timely =
     below_next s past e laws run timely (silent_below s past laws run.1 timely.1) (sending s past e laws run timely)
 
--- of a version that a node has left nothing is under way
+-- of a version that a node has left nothing is in flight
 pub left_silent : (s : ScriptData) (past : List Entry) (v p : ℕ) → IsLawful s → IsStepRun s past → AllTimely s past
     → p < s.nodes
     → HasLeft s past v p → IsSilent s past v

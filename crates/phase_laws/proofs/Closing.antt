@@ -15,7 +15,7 @@ use Rattle.tree_home.specs.declared.homes.Answered.{Answered}
 use Rattle.world_model.specs.Named.{is_timely}
 use Rattle.world_model.specs.Children.{sub_letters}
 use Rattle.world_model.specs.Node.{Effect, Node}
-use Rattle.world_model.specs.Notices.{answer_noted, reply_letters}
+use Rattle.world_model.specs.Notices.{answer_noted, reply_letters, values_of}
 use Rattle.tx_trees.specs.ScriptData.{ScriptData, client_of, home_of, subs_at}
 use Rattle.tx_trees.specs.declared.parts.ScriptRow.{ScriptRow}
 use Rattle.tx_trees.specs.declared.parts.ScriptRow.TheVariants.{Tree as TreeRow, Advance as AdvanceRow, Settle as SettleRow, Lose as LoseRow}
@@ -25,10 +25,10 @@ use Rattle.world_model.specs.declared.phase.Phase.{Phase}
 use Rattle.world_model.specs.declared.phase.Phase.TheVariants.{Idle, Turning, Counting, Paused, Showing, Sweeping}
 use Rattle.world_model.specs.Client.{Client, rows_letters, submit, submitted, with_answer, with_end, nudge}
 use Rattle.world_model.specs.Counts.{Each}
-use Rattle.world_model.specs.Runs.{client_in, coordinator_in, node_in, waiting, MayFollow, IsStepRun}
+use Rattle.world_model.specs.Runs.{client_in, coordinator_in, node_in, MayFollow, IsStepRun}
 use Rattle.world_model.specs.Timely.{AllTimely}
-use Rattle.world_model.proofs.Bags.{tally-drop}
-use Rattle.world_model.proofs.Every.{coordinator_kept, each_append, each_map, each_step, each_taken}
+use Rattle.world_model.proofs.Outstanding.{took_outstanding}
+use Rattle.world_model.proofs.Every.{coordinator_kept, each_append, each_map}
 use Rattle.world_model.proofs.Fits.{IsFit}
 use Rattle.world_model.proofs.Lawful.{IsLawful}
 use Rattle.world_model.proofs.Nexts.{Next, Begins, Hears, Ends, Coordinates, DoesRoot, DoesSub, Notes, Obeys, Order, Turns, Shows, Sweeps, TellsDone, TellsAsked, RootWork, RootUpdates, RootReads}
@@ -42,6 +42,8 @@ use Rattle.phase_laws.proofs.Sending.{Sending, SendsApart, SendsDone, SendsAsked
 use Rattle.phase_laws.proofs.Silence.{goes_itself}
 use Rattle.phase_laws.proofs.LevelLetters.{most_update_most}
 use Rattle.world_model.proofs.Gone.{under_or}
+use Rattle.world_model.proofs.EachOutstanding.{each_took, each_first, each_outstanding, each_done}
+use Rattle.world_model.specs.Kept.{outstanding, done_by}
 use Rattle.tv_base.proofs.Truths.{same_test}
 
 -- the version of a letter of a tree
@@ -136,7 +138,7 @@ by_sent m e os is all = subst (SentUpTo m) (sym is) all
 
 -- so what is sent is, by each kind of entry
 sent_up_to : (s : ScriptData) (past : List Entry) (e : Entry) → Levels s past
-    → tree_version e.took.body ≤ (coordinator_in s past).update + 1
+    → tree_version (done_by s past e).body ≤ (coordinator_in s past).update + 1
     → Next s past e → SentUpTo ((coordinator_in s past).update + 1) e.sent
 sent_up_to s past e all took (Begins bd at made) = by_sent _ e _ made.sent (submit_up_to _ s (client_in s past) [] tt)
 sent_up_to s past e all took (Hears t v answer bd at lt made) =
@@ -161,10 +163,10 @@ sent_up_to s past e all took (DoesRoot t v effect bd sub at lt new work made) =
     by_sent m e _ made.sent (up_to_append m (sub_letters t.0 v.0 0 0 (subs_at s t.0)) _
     (children_up_to m t.0 v.0 0 0 (subs_at s t.0) (root_up_to s past t.0 p v effect all lt work))
     (reply_up_to m (client_of s)
-    (answer_noted t (record { 0 = 0 }) effect.values (begun t (length (subs_at s t.0)) v (node_in s past p).homes))))
+    (answer_noted t (record { 0 = 0 }) (values_of effect.notice) (begun t (length (subs_at s t.0)) v (node_in s past p).homes))))
 sent_up_to s past e all took (DoesSub t k v raises effect bd sub pos from at lt work made) =
     let m = (coordinator_in s past).update + 1 in
-    let le : v.0 ≤ m = subst (λ (b : Body). tree_version b ≤ m) bd took in
+    let le : v.0 ≤ m = subst (λ (b : Body). tree_version b ≤ m) bd.body took in
     by_sent m e _ made.sent (up_to_append m (sub_letters t.0 v.0 k.0 0 (subs_at s t.0)) _
     (children_up_to m t.0 v.0 k.0 0 (subs_at s t.0) le) ((λ i. le), tt))
 sent_up_to s past e all took (Notes t k v values bd sub pos from at lt missed made) =
@@ -196,19 +198,20 @@ update_rises s past e laws run timely (SendsOrders tells at made) =
     (update_next c e.took.from.0 e.took.body row (outcome_in s past e laws run.1 timely)) in
     omega (arith, same, rise)
 
--- every letter of a tree under way is of a version at most one above the coordinator's
+-- every letter of a tree that has still to be done is of a version at most one above the coordinator's
 pub letters_up_to : (s : ScriptData) (past : List Entry) → IsLawful s → IsStepRun s past → AllTimely s past
-    → Each (λ (l : Letter). tree_version l.body ≤ (coordinator_in s past).update + 1) (waiting s past)
-letters_up_to s [] laws run timely = (omega arith, tt)
+    → Each (λ (l : Letter). tree_version l.body ≤ (coordinator_in s past).update + 1) (outstanding s past)
+letters_up_to s [] laws run timely =
+    each_first (λ (l : Letter). tree_version l.body ≤ (coordinator_in s []).update + 1) s (omega arith, tt)
 letters_up_to s (e ∷ past) laws run timely =
     let u = (coordinator_in s past).update in
     let w = (coordinator_in s (e ∷ past)).update in
     let was = letters_up_to s past laws run.1 timely.1 in
     let rise = update_rises s past e laws run timely.1 (sending s past e laws run timely) in
-    let took = each_taken (λ (l : Letter). tree_version l.body ≤ u + 1) s past e run.0 was in
-    each_step (λ (l : Letter). tree_version l.body ≤ w + 1) s past e
+    let took = each_done (λ (l : Letter). tree_version l.body ≤ u + 1) s past e run.0 was in
+    each_outstanding (λ (l : Letter). tree_version l.body ≤ w + 1) s past e run.0
     (each_map (λ (l : Letter). tree_version l.body ≤ u + 1) (λ (l : Letter). tree_version l.body ≤ w + 1)
-    (waiting s past)
+    (outstanding s past)
     (λ l le. omega (arith, le, rise)) was)
     (each_map (λ (o : Outgoing). (i : LetterId) → tree_version o.body ≤ u + 1) (λ (o : Outgoing). (i : LetterId)
     → tree_version o.body ≤ w + 1) e.sent
@@ -226,7 +229,7 @@ not_left s past e v laws run timely m from lt is (inr left) =
       arith,
       left_silent s past v e.actor.0 laws run timely lt left e.took.from.0 e.actor.0 from lt,
       goes_itself v e.took.from.0 e.actor.0 e.took is refl m.addressee,
-      tally-drop (goes_between v e.took.from.0 e.actor.0) e.took.id (waiting s past) e.took m.waits,
+      took_outstanding s past e m (goes_between v e.took.from.0 e.actor.0),
     ))
 
 pub tree_letter_near : (s : ScriptData) (past : List Entry) (e : Entry) (v : ℕ) → IsLawful s → IsStepRun s past
@@ -236,7 +239,7 @@ pub tree_letter_near : (s : ScriptData) (past : List Entry) (e : Entry) (v : ℕ
     → ((node_in s past e.actor.0).turns.low.0 ≤ v) × (v ≤ (node_in s past e.actor.0).turns.low.0 + 2)
 tree_letter_near s past e v laws run timely m from lt is ver =
     let all = levels s past laws run timely in
-    let most = each_taken (λ (l : Letter). tree_version l.body ≤ (coordinator_in s past).update + 1) s past e m
+    let most = each_took (λ (l : Letter). tree_version l.body ≤ (coordinator_in s past).update + 1) s past e m
     (letters_up_to s past laws run timely) in (
       not_left s past e v laws run timely m from lt is (under_or (node_in s past e.actor.0).turns.low.0 v),
       omega (arith, most, ver, (all.node e.actor.0 lt).low_from, all.first),
@@ -269,7 +272,7 @@ pub letter_timely : (s : ScriptData) (past : List Entry) (e : Entry) → IsLawfu
     → AllTimely s past
     → e.actor.0 < s.nodes → is_timely s (node_in s past e.actor.0) e.took.body ≡ true
 letter_timely s past e laws run timely lt =
-    let fit = each_taken (λ (l : Letter). IsFit s l.from.0 l.to.0 l.body) s past e run.0 (laws.fits past run.1 timely) in
+    let fit = each_took (λ (l : Letter). IsFit s l.from.0 l.to.0 l.body) s past e run.0 (laws.fits past run.1 timely) in
     timely_by s past e e.took.body laws run.1 timely run.0 lt refl fit
 
 -- so every run of a lawful script is one in which each letter came in time

@@ -5,7 +5,7 @@ use Rattle.tv_base.specs.declared.numbers.TreeNo.{TreeNo}
 use Rattle.tv_base.specs.declared.numbers.Version.{Version}
 use Rattle.letter_types.specs.declared.bodies.Answer.{Answer}
 use Rattle.letter_types.specs.declared.bodies.Body.{Body}
-use Rattle.letter_types.specs.declared.bodies.Body.TheVariants.{Root, Sub as SubLetter, Done, Reply, Turn, Show, Sweep, Turned, Shown, Swept, AskDone, AskAsked, DoneRow, AskedRow}
+use Rattle.letter_types.specs.declared.bodies.Body.TheVariants.{Root, Sub as SubLetter, Done, Reply, Turn, Show, Sweep, Turned, Shown, Swept, AskDone, AskAsked, DoneRow, AskedRow, Wake}
 use Rattle.letter_types.specs.declared.bodies.Notice.{Notice}
 use Rattle.letter_types.specs.declared.bodies.Notice.TheVariants.{Did as DidNotice}
 use Rattle.letter_types.specs.declared.entries.Entry.{Entry}
@@ -17,7 +17,7 @@ use Rattle.pair_counters.specs.Numbers.{numbers_of}
 use Rattle.world_model.specs.Children.{sub_letters, done_letter}
 use Rattle.world_model.specs.Done.{note_done, root_done, sub_done, with_open_tree}
 use Rattle.world_model.specs.Node.{Effect, Node}
-use Rattle.world_model.specs.Notices.{answer_noted, reply_letters}
+use Rattle.world_model.specs.Notices.{answer_noted, reply_letters, values_of}
 use Rattle.world_model.specs.Coordinator.{Coordinator, to_nodes, keep_done}
 use Rattle.world_model.specs.Counts.{tally}
 use Rattle.world_model.specs.Runs.{MayFollow, node_in}
@@ -25,6 +25,8 @@ use Rattle.world_model.proofs.Bags.{tally-append}
 use Rattle.world_model.proofs.Flows.{flow}
 use Rattle.world_model.proofs.Nexts.{Next, Begins, Hears, Ends, Coordinates, DoesRoot, DoesSub, Notes, Obeys, Order, Turns, Shows, Sweeps, TellsDone, TellsAsked}
 use Rattle.world_model.proofs.Sends.{on, replies_none, subs_none}
+use Rattle.world_model.specs.Kept.{done_by}
+use Rattle.world_model.proofs.Worked.{took_none}
 use Rattle.phase_laws.specs.Phases.{under_way}
 
 -- a letter to each node counts as often as there are nodes, or not at all
@@ -65,13 +67,14 @@ pub record NoTrees (f : Body → ℕ) : Type 0 where
   pub sub : (t : TreeNo) (k : SubNo) (v : Version) → f (SubLetter t k v) ≡ 0
   pub done : (t : TreeNo) (k : SubNo) (v : Version) (notice : Notice) → f (Done t k v notice) ≡ 0
   pub reply : (t : TreeNo) (v : Version) (answer : Answer) → f (Reply t v answer) ≡ 0
+  pub wake : (t : TreeNo) (k : SubNo) → f (Wake t k) ≡ 0
 
 pub root_none : (f : Body → ℕ) (s : ScriptData) (p t v : ℕ) (effect : Effect) (st : Node) → NoTrees f
     → tally (on f) (root_done s p t v effect st).sent ≡ 0
 root_none f s p t v effect st none =
     let subs = sub_letters t v 0 0 (subs_at s t) in
     let answer =
-    answer_noted (record { 0 = t }) (record { 0 = 0 }) effect.values (with_open_tree t (length (subs_at s t)) v st).homes in
+    answer_noted (record { 0 = t }) (record { 0 = 0 }) (values_of effect.notice) (with_open_tree t (length (subs_at s t)) v st).homes in
     omega (
       arith,
       tally-append (on f) subs (reply_letters (client_of s) answer),
@@ -83,12 +86,12 @@ pub sub_none : (f : Body → ℕ) (s : ScriptData) (q t k v : ℕ) (raises : Boo
     → tally (on f) (sub_done s q t k v raises effect st).sent ≡ 0
 sub_none f s q t k v raises effect st none =
     let subs = sub_letters t v k 0 (subs_at s t) in
-    let notice = done_letter (home_of s t) t k v effect.values in
+    let notice = done_letter (home_of s t) t k v effect.notice in
     omega (
       arith,
       tally-append (on f) subs (notice ∷ []),
       subs_none f t v k 0 (subs_at s t) none.sub,
-      none.done (record { 0 = t }) (record { 0 = k }) (record { 0 = v }) (DidNotice effect.values),
+      none.done (record { 0 = t }) (record { 0 = k }) (record { 0 = v }) effect.notice,
     )
 
 pub note_none : (f : Body → ℕ) (s : ScriptData) (q t k v : ℕ) (values : Gets) (st : Node) → NoTrees f
@@ -132,12 +135,12 @@ node_passes f h passes s past e node (DoesRoot t v effect bd sub at lt new work 
     let sent : tally (on f) e.sent ≡ 0 =
     ap (λ (os : List Outgoing). tally (on f) os) made.sent
     ∙ root_none f s (home_of s t.0) t.0 v.0 effect (node_in s past (home_of s t.0)) passes.sent in
-    omega (arith, sent, ap h bd, passes.took.root t)
+    omega (arith, sent, took_none h s past e (Root t) bd (passes.took.root t) passes.took.wake)
 node_passes f h passes s past e node (DoesSub t k v raises effect bd sub pos from at lt work made) =
     let sent : tally (on f) e.sent ≡ 0 =
     ap (λ (os : List Outgoing). tally (on f) os) made.sent
-    ∙ sub_none f s e.took.from.0 t.0 k.0 v.0 raises effect (node_in s past (node_of s t.0 k.0)) passes.sent in
-    omega (arith, sent, ap h bd, passes.took.sub t k v)
+    ∙ sub_none f s (done_by s past e).from.0 t.0 k.0 v.0 raises effect (node_in s past (node_of s t.0 k.0)) passes.sent in
+    omega (arith, sent, took_none h s past e (SubLetter t k v) bd (passes.took.sub t k v) passes.took.wake)
 node_passes f h passes s past e node (Notes t k v values bd sub pos from at lt missed made) =
     let sent : tally (on f) e.sent ≡ 0 =
     ap (λ (os : List Outgoing). tally (on f) os) made.sent
@@ -146,7 +149,7 @@ node_passes f h passes s past e node (Notes t k v values bd sub pos from at lt m
 node_passes f h passes s past e node (Obeys p out at lt order made) =
     ap (λ (os : List Outgoing). tally (on f) os) made.sent ∙ order_passes f h passes s (node_in s past p) e.took.body out order
 
--- so a node's entry leaves the number over the letters under way
+-- so a node's entry leaves the number over the letters in flight
 pub node_keeps : (f : Body → ℕ) → Passes f f → (s : ScriptData) (past : List Entry) (e : Entry) → MayFollow s past e
     → e.actor.0 < s.nodes → Next s past e → under_way f s (e ∷ past) ≡ under_way f s past
 node_keeps f passes s past e m node next = omega (arith, flow f s past e m, node_passes f f passes s past e node next)

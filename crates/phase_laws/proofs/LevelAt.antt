@@ -1,4 +1,4 @@
--- The level of a node: its versions, and the orders under way to it, against the coordinator's phase.
+-- The level of a node: its versions, and the orders in flight to it, against the coordinator's phase.
 use Rattle.std.proofs.Common.{◌≡◌, ℕ, ◌+◌, ◌-◌, ◌<◌, ◌≤◌, ◌==◌, true, List}
 use Rattle.letter_types.specs.declared.bodies.Body.{Body}
 use Rattle.letter_types.specs.declared.bodies.Body.TheVariants.{Sub as SubLetter, Turn, Show, Sweep}
@@ -8,10 +8,11 @@ use Rattle.tx_trees.specs.ScriptData.{ScriptData, updates}
 use Rattle.world_model.specs.declared.phase.Phase.{Phase}
 use Rattle.world_model.specs.declared.phase.Phase.TheVariants.{Turning, Showing, Sweeping}
 use Rattle.world_model.specs.Counts.{Each, one_if, tally}
+use Rattle.world_model.specs.Kept.{outstanding}
 use Rattle.world_model.specs.Runs.{coordinator_in, node_in, waiting}
 use Rattle.phase_laws.specs.Phases.{Stage, TurnStage, ShowStage, SweepStage, least_update, most_update, least_read, most_read, most_low}
 
--- what a node comes to in a phase, now or by a letter that is under way
+-- what a node comes to in a phase, now or by a letter that is in flight
 abbrev pub due_update : Phase → ℕ → ℕ
 due_update Turning u = u + 1
 due_update _ u = 0
@@ -24,7 +25,7 @@ abbrev pub due_low : Phase → ℕ → ℕ
 due_low Sweeping u = u
 due_low _ u = 0
 
--- the versions of a node in a phase of an advancement from version u, with so many orders of each stage under way to it
+-- the versions of a node in a phase of an advancement from version u, with so many orders of each stage in flight to it
 pub record Level (phase : Phase) (u update read low turns shows sweeps : ℕ) : Type 0 where
   pub update_from : least_update phase u ≤ update
   pub update_to : update ≤ most_update phase u
@@ -43,7 +44,7 @@ tell ShowStage p to (Show v) = one_if (to == p)
 tell SweepStage p to (Sweep v) = one_if (to == p)
 tell g p to _ = 0
 
--- how many of them are under way
+-- how many of them are in flight
 abbrev pub tells : ScriptData → List Entry → Stage → ℕ → ℕ
 tells s past g p = tally (λ (l : Letter). tell g p l.to.0 l.body) (waiting s past)
 
@@ -63,9 +64,10 @@ LevelBody s phase u (Sweep v) = v.0 ≡ u
 LevelBody s phase u (SubLetter t k v) = updates s t.0 ≡ true → v.0 ≤ most_update phase u
 LevelBody s phase u _ = Unit {0}
 
--- the levels of all nodes, and the versions in all letters under way; the coordinator's version is at least 1
+-- the levels of all nodes, and the versions in all letters that have still to be done; the coordinator's version is at
+-- least 1
 pub record Levels (s : ScriptData) (past : List Entry) : Type 0 where
   pub first : 1 ≤ (coordinator_in s past).update
   pub node : (p : ℕ) → p < s.nodes → LevelAt s past p
   pub letters : Each (λ (l : Letter). LevelBody s (coordinator_in s past).phase (coordinator_in s past).update l.body)
-      (waiting s past)
+      (outstanding s past)

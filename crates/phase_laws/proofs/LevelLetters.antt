@@ -19,20 +19,23 @@ use Rattle.tree_home.specs.declared.homes.Answered.{Answered}
 use Rattle.world_model.specs.Children.{done_letter, sub_letters}
 use Rattle.world_model.specs.Done.{note_done, root_done, sub_done, with_open_tree}
 use Rattle.world_model.specs.Node.{Effect, Node}
-use Rattle.world_model.specs.Notices.{answer_noted, reply_letters}
+use Rattle.world_model.specs.Notices.{answer_noted, reply_letters, values_of}
 use Rattle.world_model.specs.Coordinator.{Coordinator, version, to_nodes, counted_version, end_count, coordinator_row}
 use Rattle.world_model.specs.declared.phase.Phase.{Phase}
 use Rattle.world_model.specs.declared.phase.Phase.TheVariants.{Idle, Turning, Counting, Showing, Sweeping}
 use Rattle.world_model.specs.Client.{Client, rows_letters, submit, submitted, with_answer, with_end, nudge}
 use Rattle.world_model.specs.Counts.{Each, tally}
-use Rattle.world_model.specs.Runs.{IsStepRun, client_in, coordinator_in, node_in, waiting}
+use Rattle.world_model.specs.Runs.{IsStepRun, client_in, coordinator_in, node_in, waiting, MayFollow}
 use Rattle.world_model.specs.Timely.{AllTimely}
 use Rattle.world_model.proofs.Bags.{tally-drop}
-use Rattle.world_model.proofs.Every.{coordinator_kept, each_append, each_both, each_drop, each_left, each_map, each_step, each_taken, each_zero}
+use Rattle.world_model.proofs.Every.{coordinator_kept, each_append, each_both, each_drop, each_left, each_map, each_zero}
 use Rattle.world_model.proofs.Lawful.{IsLawful}
 use Rattle.world_model.proofs.Nexts.{Next, Begins, Hears, Ends, Coordinates, DoesRoot, DoesSub, Notes, Obeys, Order, Turns as TurnsTo, Shows as ShowsTo, Sweeps as SweepsTo, TellsDone, TellsAsked, RootWork, RootUpdates, RootReads}
 use Rattle.world_model.proofs.Orders.{coordinator_nodes, of, to_nodes_each}
 use Rattle.world_model.proofs.Scripts.{SubAt, reads_alone}
+use Rattle.world_model.proofs.EachOutstanding.{each_waits, each_outstanding, each_done}
+use Rattle.world_model.proofs.NothingKept.{outstanding_is}
+use Rattle.world_model.specs.Kept.{outstanding, done_by}
 use Rattle.phase_laws.specs.Phases.{Stage, TurnStage, ShowStage, SweepStage, token, under_way, within, most_update}
 use Rattle.phase_laws.proofs.Outcomes.{Outcome, Rests, Queues, Flags, Turns, Acks, LastTurned, LastShown, Finishes, GoesOn, Resumes, KeepsDone, KeepsAsked, Agrees, Recounts, Pauses, asked_kept, finished, gone_on, round_begun}
 use Rattle.phase_laws.proofs.Small.{outcome_in}
@@ -93,21 +96,21 @@ order_level s phase u st body out (TellsDone v k bd is) =
 order_level s phase u st body out (TellsAsked v k bd is) =
     subst (λ (o : Out Node). Each (of (InLevel s phase u)) o.sent) (sym is) ((λ id. tt), tt)
 
--- every letter under way has a version of the coordinator's phase
+-- every letter that has still to be done has a version of the coordinator's phase
 abbrev pub LettersAt : ScriptData → List Entry → Coordinator → Type 0
-LettersAt s past c = Each (λ (l : Letter). LevelBody s c.phase c.update l.body) (waiting s past)
+LettersAt s past c = Each (λ (l : Letter). LevelBody s c.phase c.update l.body) (outstanding s past)
 
 -- an entry of another actor than the coordinator, which sends letters of the right versions
-letters_kept : (s : ScriptData) (past : List Entry) (e : Entry) (sent : List Outgoing) → e.actor.0 ≢ s.nodes
+letters_kept : (s : ScriptData) (past : List Entry) (e : Entry) (sent : List Outgoing) → MayFollow s past e → e.actor.0 ≢ s.nodes
     → LettersAt s past (coordinator_in s past) → e.sent ≡ sent
     → Each (of (InLevel s (coordinator_in s past).phase (coordinator_in s past).update)) sent
     → LettersAt s (e ∷ past) (coordinator_in s (e ∷ past))
-letters_kept s past e sent away was is right =
+letters_kept s past e sent m away was is right =
     let c = coordinator_in s past in
     let new : Each (of (InLevel s c.phase c.update)) e.sent =
     subst (λ (os : List Outgoing). Each (of (InLevel s c.phase c.update)) os) (sym is) right in
     subst (λ (d : Coordinator). LettersAt s (e ∷ past) d) (sym (coordinator_kept s past e away))
-    (each_step (λ (l : Letter). LevelBody s c.phase c.update l.body) s past e was new)
+    (each_outstanding (λ (l : Letter). LevelBody s c.phase c.update l.body) s past e m was new)
 
 -- a letter stays right where the greatest update version doesn't sink
 level_mono : (s : ScriptData) (from to : Phase) (u : ℕ) (body : Body) → most_update from u ≤ most_update to u
@@ -118,29 +121,29 @@ level_mono s from to u (Sweep v) le right = right
 level_mono s from to u (SubLetter t k v) le right = λ is. let most = right is in omega (arith, most, le)
 level_mono s from to u _ le right = tt
 
--- what a step of the coordinator leaves right: the letters under way, and those that it sends
+-- what a step of the coordinator leaves right: the letters in flight, and those that it sends
 record Right (s : ScriptData) (c : Coordinator) (out : Out Coordinator) : Type 0 where
   same : out.state.update ≡ c.update
   higher : most_update c.phase c.update ≤ most_update out.state.phase c.update
   sent : Each (of (InLevel s out.state.phase c.update)) out.sent
 
 -- so the letters are right after it
-letters_right : (s : ScriptData) (past : List Entry) (e : Entry) (out : Out Coordinator)
+letters_right : (s : ScriptData) (past : List Entry) (e : Entry) (out : Out Coordinator) → MayFollow s past e
     → LettersAt s past (coordinator_in s past)
     → coordinator_in s (e ∷ past) ≡ out.state → e.sent ≡ out.sent → Right s (coordinator_in s past) out
     → LettersAt s (e ∷ past) (coordinator_in s (e ∷ past))
-letters_right s past e out was moved is right =
+letters_right s past e out m was moved is right =
     let c = coordinator_in s past in
     let old =
     each_map (λ (l : Letter). LevelBody s c.phase c.update l.body)
-    (λ (l : Letter). LevelBody s out.state.phase c.update l.body) (waiting s past)
+    (λ (l : Letter). LevelBody s out.state.phase c.update l.body) (outstanding s past)
     (λ l here. level_mono s c.phase out.state.phase c.update l.body right.higher here) was in
     let new : Each (of (InLevel s out.state.phase c.update)) e.sent =
     subst (λ (os : List Outgoing). Each (of (InLevel s out.state.phase c.update)) os) (sym is) right.sent in
-    let all : Each (λ (l : Letter). LevelBody s out.state.phase c.update l.body) (waiting s (e ∷ past)) =
-    each_step (λ (l : Letter). LevelBody s out.state.phase c.update l.body) s past e old new in
+    let all : Each (λ (l : Letter). LevelBody s out.state.phase c.update l.body) (outstanding s (e ∷ past)) =
+    each_outstanding (λ (l : Letter). LevelBody s out.state.phase c.update l.body) s past e m old new in
     subst (λ (d : Coordinator). LettersAt s (e ∷ past) d) (sym moved)
-    (subst (λ (n : ℕ). Each (λ (l : Letter). LevelBody s out.state.phase n l.body) (waiting s (e ∷ past))) (sym right.same) all)
+    (subst (λ (n : ℕ). Each (λ (l : Letter). LevelBody s out.state.phase n l.body) (outstanding s (e ∷ past))) (sym right.same) all)
 
 pick_asks : (s : ScriptData) (phase : Phase) (u n : ℕ) (b : Bool) (v : Version) (k : ℕ)
     → Each (of (InLevel s phase u)) (if b then to_nodes n (AskAsked v k) else [])
@@ -206,7 +209,8 @@ letters_ended s past e v out laws run timely was at bd last moved is next most r
     (omega (arith, rest SweepStage, now SweepStage, one, full, coordinator_nodes s past)) in
     let old : Each (λ (l : Letter). LevelBody s Sweeping c.update l.body) left =
     each_drop (λ (l : Letter). LevelBody s Sweeping c.update l.body) e.took.id (waiting s past)
-    (subst (λ (q : Phase). Each (λ (l : Letter). LevelBody s q c.update l.body) (waiting s past)) at was) in
+    (subst (λ (q : Phase). Each (λ (l : Letter). LevelBody s q c.update l.body) (waiting s past)) at
+    (each_waits (λ (l : Letter). LevelBody s c.phase c.update l.body) s past was)) in
     let all = each_both _ _ left z1 (each_both _ _ left z2 (each_both _ _ left z3 old)) in
     let new : Each (of (InLevel s out.state.phase (c.update + 1))) e.sent =
     subst (λ (os : List Outgoing). Each (of (InLevel s out.state.phase (c.update + 1))) os) (sym is) right in
@@ -214,8 +218,10 @@ letters_ended s past e v out laws run timely was at bd last moved is next most r
     each_left (λ (l : Letter). LevelBody s out.state.phase (c.update + 1) l.body) s past e
     (each_map _ (λ (l : Letter). LevelBody s out.state.phase (c.update + 1) l.body) left
     (λ l here. level_further s out.state.phase c.update l.body here.0 here.1.0 here.1.1.0 most here.1.1.1) all) new in
+    let all_after : Each (λ (l : Letter). LevelBody s out.state.phase (c.update + 1) l.body) (outstanding s (e ∷ past)) =
+    subst (Each (λ (l : Letter). LevelBody s out.state.phase (c.update + 1) l.body)) (sym (outstanding_is s (e ∷ past))) after in
     subst (λ (d : Coordinator). LettersAt s (e ∷ past) d) (sym moved)
-    (subst (λ (n : ℕ). Each (λ (l : Letter). LevelBody s out.state.phase n l.body) (waiting s (e ∷ past))) (sym next) after)
+    (subst (λ (n : ℕ). Each (λ (l : Letter). LevelBody s out.state.phase n l.body) (outstanding s (e ∷ past))) (sym next) all_after)
 
 -- every step of the coordinator leaves the letters right
 outcome_letters : (s : ScriptData) (past : List Entry) (e : Entry) (out : Out Coordinator) → IsLawful s
@@ -223,36 +229,36 @@ outcome_letters : (s : ScriptData) (past : List Entry) (e : Entry) (out : Out Co
     → LettersAt s past (coordinator_in s past) → coordinator_in s (e ∷ past) ≡ out.state → e.sent ≡ out.sent
     → Outcome (coordinator_in s past) e.took.from.0 e.took.body out → LettersAt s (e ∷ past) (coordinator_in s (e ∷ past))
 outcome_letters s past e out laws run timely was moved is (Rests phase at ignored eq) =
-    letters_right s past e out was moved is
+    letters_right s past e out run.0 was moved is
     (subst (λ (o : Out Coordinator). Right s (coordinator_in s past) o) (sym eq)
     (record { same = refl; higher = omega arith; sent = tt }))
 outcome_letters s past e out laws run timely was moved is (Queues phase at goes bd eq) =
-    letters_right s past e out was moved is
+    letters_right s past e out run.0 was moved is
     (subst (λ (o : Out Coordinator). Right s (coordinator_in s past) o) (sym eq)
     (record { same = refl; higher = omega arith; sent = tt }))
 outcome_letters s past e out laws run timely was moved is (Flags reads at bd eq) =
-    letters_right s past e out was moved is
+    letters_right s past e out run.0 was moved is
     (subst (λ (o : Out Coordinator). Right s (coordinator_in s past) o) (sym eq)
     (record { same = refl; higher = omega arith; sent = tt }))
 outcome_letters s past e out laws run timely was moved is (Turns at bd eq) =
     let c = coordinator_in s past in
-    letters_right s past e out was moved is
+    letters_right s past e out run.0 was moved is
     (subst (λ (o : Out Coordinator). Right s c o) (sym eq) (record {
       same = refl;
       higher = most_update_most c.phase c.update;
       sent = to_nodes_each (InLevel s Turning c.update) c.nodes (Turn (version (c.update + 1))) (λ to lt id. refl);
     }))
 outcome_letters s past e out laws run timely was moved is (Acks phase at answer more eq) =
-    letters_right s past e out was moved is
+    letters_right s past e out run.0 was moved is
     (subst (λ (o : Out Coordinator). Right s (coordinator_in s past) o) (sym eq)
     (record { same = refl; higher = omega arith; sent = tt }))
 outcome_letters s past e out laws run timely was moved is (LastTurned v at bd last eq) =
     let c = coordinator_in s past in
-    letters_right s past e out was moved is
+    letters_right s past e out run.0 was moved is
     (subst (λ (o : Out Coordinator). Right s c o) (sym eq) (round_right s c c false (c.round + 1) refl))
 outcome_letters s past e out laws run timely was moved is (LastShown v at bd last eq) =
     let c = coordinator_in s past in
-    letters_right s past e out was moved is
+    letters_right s past e out run.0 was moved is
     (subst (λ (o : Out Coordinator). Right s c o) (sym eq) (round_right s c c true (c.round + 1) refl))
 outcome_letters s past e out laws run timely was moved is (Finishes v at bd last none eq) =
     let c = coordinator_in s past in
@@ -269,32 +275,32 @@ outcome_letters s past e out laws run timely was moved is (GoesOn v at bd last s
     )
 outcome_letters s past e out laws run timely was moved is (Resumes reads at bd eq) =
     let c = coordinator_in s past in
-    letters_right s past e out was moved is
+    letters_right s past e out run.0 was moved is
     (subst (λ (o : Out Coordinator). Right s c o) (sym eq) (round_right s c c reads (c.round + 1) refl))
 outcome_letters s past e out laws run timely was moved is (KeepsDone reads v k row at bd here eq) =
     let c = coordinator_in s past in
-    letters_right s past e out was moved is
+    letters_right s past e out run.0 was moved is
     (subst (λ (o : Out Coordinator). Right s c o) (sym eq) (record {
       same = refl;
       higher = omega arith;
       sent = pick_asks s c.phase c.update c.nodes _ c.current.version c.current.number;
     }))
 outcome_letters s past e out laws run timely was moved is (KeepsAsked reads v k row takes verdict eq) =
-    letters_right s past e out was moved is
+    letters_right s past e out run.0 was moved is
     (subst (λ (o : Out Coordinator). Right s (coordinator_in s past) o) (sym eq)
     (record { same = refl; higher = omega arith; sent = tt }))
 outcome_letters s past e out laws run timely was moved is (Agrees reads v k row takes verdict eq) =
     let c = coordinator_in s past in
-    letters_right s past e out was moved is
+    letters_right s past e out run.0 was moved is
     (subst (λ (o : Out Coordinator). Right s c o) (sym eq) (agrees_right s c reads e.took.from.0 row))
 outcome_letters s past e out laws run timely was moved is (Recounts reads v k row takes verdict flag eq) =
     let c = coordinator_in s past in
-    letters_right s past e out was moved is
+    letters_right s past e out run.0 was moved is
     (subst (λ (o : Out Coordinator). Right s c o) (sym eq)
     (round_right s c (asked_kept e.took.from.0 row c) reads (c.round + 1) refl))
 outcome_letters s past e out laws run timely was moved is (Pauses reads v k row takes verdict flag eq) =
     let c = coordinator_in s past in
-    letters_right s past e out was moved is
+    letters_right s past e out run.0 was moved is
     (subst (λ (o : Out Coordinator). Right s c o) (sym eq)
     (record { same = refl; higher = most_update_most c.phase c.update; sent = tt }))
 
@@ -310,17 +316,17 @@ pub letters_next : (s : ScriptData) (past : List Entry) (e : Entry) → IsLawful
     → Levels s past → Next s past e → LettersAt s (e ∷ past) (coordinator_in s (e ∷ past))
 letters_next s past e laws run timely was (Begins bd at made) =
     let c = coordinator_in s past in
-    letters_kept s past e (submit s (client_in s past) []).sent (omega (arith, at)) was.letters made.sent
+    letters_kept s past e (submit s (client_in s past) []).sent run.0 (omega (arith, at)) was.letters made.sent
     (submit_level s c.phase c.update (client_in s past) [] tt)
 letters_next s past e laws run timely was (Hears t v answer bd at lt made) =
     let c = coordinator_in s past in
     let client = with_answer t.0 (client_in s past) in
-    letters_kept s past e (submit s client (nudge s ∷ [])).sent (omega (arith, at)) was.letters made.sent
+    letters_kept s past e (submit s client (nudge s ∷ [])).sent run.0 (omega (arith, at)) was.letters made.sent
     (submit_level s c.phase c.update client (nudge s ∷ []) ((λ id. tt), tt))
 letters_next s past e laws run timely was (Ends v bd at made) =
     let c = coordinator_in s past in
     let client = with_end (client_in s past) in
-    letters_kept s past e (submit s client []).sent (omega (arith, at)) was.letters made.sent
+    letters_kept s past e (submit s client []).sent run.0 (omega (arith, at)) was.letters made.sent
     (submit_level s c.phase c.update client [] tt)
 letters_next s past e laws run timely was (Coordinates tells at made) =
     outcome_letters s past e (coordinator_row (coordinator_in s past) e.took.from.0 e.took.body)
@@ -332,9 +338,9 @@ letters_next s past e laws run timely was (DoesRoot t v effect bd sub at lt new 
     let st = node_in s past p in
     let right = root_right s c.phase c.update t.0 st v effect sub work (was.node p lt).update_to in
     let answer =
-    answer_noted (record { 0 = t.0 }) (record { 0 = 0 }) effect.values
+    answer_noted (record { 0 = t.0 }) (record { 0 = 0 }) (values_of effect.notice)
     (with_open_tree t.0 (length (subs_at s t.0)) v.0 st).homes in
-    letters_kept s past e (root_done s p t.0 v.0 effect st).sent (omega (arith, at, lt)) was.letters made.sent
+    letters_kept s past e (root_done s p t.0 v.0 effect st).sent run.0 (omega (arith, at, lt)) was.letters made.sent
     (each_append (of (InLevel s c.phase c.update)) (sub_letters t.0 v.0 0 0 (subs_at s t.0))
     (reply_letters (client_of s) answer)
     (subs_level s c.phase c.update t.0 v.0 0 0 (subs_at s t.0) right) (reply_level s c.phase c.update (client_of s) answer))
@@ -342,21 +348,21 @@ letters_next s past e laws run timely was (DoesSub t k v raises effect bd sub po
     let c = coordinator_in s past in
     let p = node_of s t.0 k.0 in
     let right : updates s t.0 ≡ true → v.0 ≤ most_update c.phase c.update =
-    subst (λ (b : Body). LevelBody s c.phase c.update b) bd
-    (each_taken (λ (l : Letter). LevelBody s c.phase c.update l.body) s past e run.0 was.letters) in
-    letters_kept s past e (sub_done s e.took.from.0 t.0 k.0 v.0 raises effect (node_in s past p)).sent
+    subst (λ (b : Body). LevelBody s c.phase c.update b) bd.body
+    (each_done (λ (l : Letter). LevelBody s c.phase c.update l.body) s past e run.0 was.letters) in
+    letters_kept s past e (sub_done s (done_by s past e).from.0 t.0 k.0 v.0 raises effect (node_in s past p)).sent run.0
     (omega (arith, at, lt)) was.letters made.sent
     (each_append (of (InLevel s c.phase c.update)) (sub_letters t.0 v.0 k.0 0 (subs_at s t.0))
-    (done_letter (home_of s t.0) t.0 k.0 v.0 effect.values ∷ [])
+    (done_letter (home_of s t.0) t.0 k.0 v.0 effect.notice ∷ [])
     (subs_level s c.phase c.update t.0 v.0 k.0 0 (subs_at s t.0) right) ((λ id. tt), tt))
 letters_next s past e laws run timely was (Notes t k v values bd sub pos from at lt missed made) =
     let c = coordinator_in s past in
     let p = home_of s t.0 in
-    letters_kept s past e (note_done s e.took.from.0 t.0 k.0 v.0 values (node_in s past p)).sent (omega (arith, at, lt))
+    letters_kept s past e (note_done s e.took.from.0 t.0 k.0 v.0 values (node_in s past p)).sent run.0 (omega (arith, at, lt))
     was.letters made.sent
     (reply_level s c.phase c.update (client_of s)
     (answer_noted (record { 0 = t.0 }) (record { 0 = k.0 }) values (node_in s past p).homes))
 letters_next s past e laws run timely was (Obeys p out at lt order made) =
     let c = coordinator_in s past in
-    letters_kept s past e out.sent (omega (arith, at, lt)) was.letters made.sent
+    letters_kept s past e out.sent run.0 (omega (arith, at, lt)) was.letters made.sent
     (order_level s c.phase c.update (node_in s past p) e.took.body out order)

@@ -5,7 +5,7 @@ use Rattle.std.proofs.lemmas.Bool.{cases_eq}
 use Rattle.std.proofs.lemmas.Bool.Decides.{nat_tests}
 use Rattle.tv_base.specs.declared.numbers.Version.{Version}
 use Rattle.letter_types.specs.declared.bodies.Body.{Body}
-use Rattle.letter_types.specs.declared.bodies.Body.TheVariants.{Turn, Show, Sweep, AskDone}
+use Rattle.letter_types.specs.declared.bodies.Body.TheVariants.{Turn, Show, Sweep, AskDone, Root, Sub as SubLetter}
 use Rattle.letter_types.specs.declared.bodies.Notice.TheVariants.{Did as DidNotice}
 use Rattle.letter_types.specs.declared.entries.Entry.{Entry}
 use Rattle.letter_types.specs.declared.entries.Letter.{Letter}
@@ -24,12 +24,15 @@ use Rattle.world_model.specs.Counts.{one_if, tally}
 use Rattle.world_model.specs.Runs.{MayFollow, IsStepRun, client_in, coordinator_in, node_in, waiting}
 use Rattle.world_model.specs.Timely.{AllTimely}
 use Rattle.world_model.proofs.Bags.{one_if_most, one_if_same, sealed_tally, tally-append, tally_step}
-use Rattle.world_model.proofs.Every.{coordinator_kept, each_taken, node_kept}
+use Rattle.world_model.proofs.Every.{coordinator_kept, node_kept}
 use Rattle.world_model.proofs.Flows.{submit_none}
 use Rattle.world_model.proofs.Lawful.{IsLawful}
 use Rattle.world_model.proofs.Nexts.{Next, Begins, Hears, Ends, Coordinates, DoesRoot, DoesSub, Notes, Obeys, Made, MadeByClient, MadeByCoordinator, Order, Turns as TurnsTo, Shows as ShowsTo, Sweeps as SweepsTo, TellsDone, TellsAsked, SubWork, SubUpdates, SubReads}
 use Rattle.world_model.proofs.Orders.{coordinator_nodes}
 use Rattle.world_model.proofs.Sends.{on}
+use Rattle.world_model.proofs.EachOutstanding.{each_took, each_done}
+use Rattle.world_model.specs.Kept.{done_by}
+use Rattle.world_model.proofs.Worked.{took_none}
 use Rattle.phase_laws.specs.Phases.{Stage, TurnStage, ShowStage, SweepStage, token, under_way, within, most_update}
 use Rattle.phase_laws.proofs.Letters.{NoTrees, Passes, keep_done_none, node_passes}
 use Rattle.phase_laws.proofs.Outcomes.{Outcome, Rests, Queues, Flags, Turns, Acks, LastTurned, LastShown, Finishes, GoesOn, Resumes, KeepsDone, KeepsAsked, Agrees, Recounts, Pauses, asked_kept, finished, gone_on, round_begun}
@@ -57,7 +60,7 @@ tally_most f g (x ∷ xs) le = omega (arith, le x, tally_most f g xs le)
 sent_none : (g : Stage) (p : ℕ) (os : List Outgoing) → tally (on (token g)) os ≡ 0 → tally (sent_to g p) os ≡ 0
 sent_none g p os none = omega (arith, none, tally_most (sent_to g p) (on (token g)) os (λ o. tell_most g p o.to.0 o.body))
 
--- where there are no tokens, no order is under way
+-- where there are no tokens, no order is in flight
 tells_most : (g : Stage) (s : ScriptData) (past : List Entry) (p : ℕ) → tells s past g p ≤ under_way (token g) s past
 tells_most g s past p =
     tally_most (λ (l : Letter). tell g p l.to.0 l.body) (λ (l : Letter). token g l.body) (waiting s past)
@@ -71,7 +74,7 @@ within_zero ShowStage _ n none = refl
 within_zero SweepStage Sweeping n none = absurd (omega (arith, none))
 within_zero SweepStage _ n none = refl
 
--- outside a stage's phase none of its orders is under way
+-- outside a stage's phase none of its orders is in flight
 tells_none : (g : Stage) (s : ScriptData) (past : List Entry) (p : ℕ) → IsLawful s → IsStepRun s past → AllTimely s past
     → within g (coordinator_in s past).phase 1 ≡ 0 → tells s past g p ≡ 0
 tells_none g s past p laws run timely none =
@@ -82,7 +85,7 @@ tells_none g s past p laws run timely none =
       within_zero g (coordinator_in s past).phase s.nodes none,
     )
 
--- what an entry does to the orders under way to node p
+-- what an entry does to the orders in flight to node p
 tell_flow : (g : Stage) (s : ScriptData) (past : List Entry) (e : Entry) (p : ℕ) → MayFollow s past e
     → tells s (e ∷ past) g p + tell g p e.actor.0 e.took.body ≡ tells s past g p + tally (sent_to g p) e.sent
 tell_flow g s past e p m =
@@ -185,7 +188,7 @@ kept_sent p from row c =
     }
 
 -- What a step of the coordinator makes of a node's level.
--- the orders under way to node p before, t1 to t3, and after, x1 to x3: none are left of a stage whose phase is over
+-- the orders in flight to node p before, t1 to t3, and after, x1 to x3: none are left of a stage whose phase is over
 record Flow (p : ℕ) (phase : Phase) (sent : List Outgoing) (t1 t2 t3 x1 x2 x3 : ℕ) : Type 0 where
   pub of_turns : x1 ≡ t1 + tally (sent_to TurnStage p) sent
   pub of_shows : x2 ≡ t2 + tally (sent_to ShowStage p) sent
@@ -244,7 +247,7 @@ paused : (reads : Bool) → LeadsOn (Counting reads) (Paused reads)
 paused true = tt
 paused false = tt
 
--- then no order is under way
+-- then no order is in flight
 level_leads : (from to : Phase) (u update read low : ℕ) → LeadsOn from to → Level from u update read low 0 0 0
     → Level to u update read low 0 0 0
 level_leads Turning (Counting false) u update read low leads was = omega (arith, was)
@@ -370,7 +373,7 @@ rises p c from body out lt one (Pauses reads v k row takes verdict flag is) =
     (rises_leads p c (in_phase (Paused reads) (asked_kept from row c)) [] (Counting reads) (Paused reads)
     takes.phase refl refl (paused reads) tt (nothing p))
 
--- What a step of a node makes of its own level, with t1 to t3 orders under way to it before and x1 to x3 after.
+-- What a step of a node makes of its own level, with t1 to t3 orders in flight to it before and x1 to x3 after.
 abbrev pub LevelOf : Phase → ℕ → TurnsOf → ℕ → ℕ → ℕ → Type 0
 LevelOf phase u turns x1 x2 x3 = Level phase u turns.update.0 turns.read.0 turns.low.0 x1 x2 x3
 
@@ -443,11 +446,11 @@ tell_order SweepStage p to (Sweep v) = one_if_most (to == p)
 tell_order SweepStage p to _ = omega arith
 
 no_trees : NoTrees never
-no_trees = record { root = λ t. refl; sub = λ t k v. refl; done = λ t k v notice. refl; reply = λ t v answer. refl }
+no_trees = record { root = λ t. refl; sub = λ t k v. refl; done = λ t k v notice. refl; reply = λ t v answer. refl; wake = λ t k. refl }
 
 orders_apart : (g : Stage) → Passes (order g) never
 orders_apart TurnStage = record {
-  sent = record { root = λ t. refl; sub = λ t k v. refl; done = λ t k v notice. refl; reply = λ t v answer. refl };
+  sent = record { root = λ t. refl; sub = λ t k v. refl; done = λ t k v notice. refl; reply = λ t v answer. refl; wake = λ t k. refl };
   took = no_trees;
   turned = λ v. refl;
   shown = λ v. refl;
@@ -456,7 +459,7 @@ orders_apart TurnStage = record {
   asked_row = λ v k row. refl;
 }
 orders_apart ShowStage = record {
-  sent = record { root = λ t. refl; sub = λ t k v. refl; done = λ t k v notice. refl; reply = λ t v answer. refl };
+  sent = record { root = λ t. refl; sub = λ t k v. refl; done = λ t k v notice. refl; reply = λ t v answer. refl; wake = λ t k. refl };
   took = no_trees;
   turned = λ v. refl;
   shown = λ v. refl;
@@ -465,7 +468,7 @@ orders_apart ShowStage = record {
   asked_row = λ v k row. refl;
 }
 orders_apart SweepStage = record {
-  sent = record { root = λ t. refl; sub = λ t k v. refl; done = λ t k v notice. refl; reply = λ t v answer. refl };
+  sent = record { root = λ t. refl; sub = λ t k v. refl; done = λ t k v notice. refl; reply = λ t v answer. refl; wake = λ t k. refl };
   took = no_trees;
   turned = λ v. refl;
   shown = λ v. refl;
@@ -659,17 +662,19 @@ level_next s past e laws run timely was (DoesRoot t v effect bd sub at lt new wo
     run.0 made at lt
     (DoesRoot t v effect bd sub at lt new work made) was.node
     (lifts_same c.phase c.update (home_of s t.0) e.took.body (node_in s past (home_of s t.0)).turns
-    (λ g. ap (token g) bd ∙ (token_passes g).sent.root t))
+    (λ g.
+    let none = (token_passes g).sent in took_none (token g) s past e (Root t) bd (none.root t) none.wake))
 level_next s past e laws run timely was (DoesSub t k v raises effect bd sub pos from at lt work made) =
     let c = coordinator_in s past in
     let p = node_of s t.0 k.0 in
     let right : updates s t.0 ≡ true → v.0 ≤ most_update c.phase c.update =
-    subst (λ (b : Body). LevelBody s c.phase c.update b) bd
-    (each_taken (λ (l : Letter). LevelBody s c.phase c.update l.body) s past e run.0 was.letters) in
-    level_made s past e p (sub_done s e.took.from.0 t.0 k.0 v.0 raises effect (node_in s past p)) run.0 made at lt
+    subst (λ (b : Body). LevelBody s c.phase c.update b) bd.body
+    (each_done (λ (l : Letter). LevelBody s c.phase c.update l.body) s past e run.0 was.letters) in
+    level_made s past e p (sub_done s (done_by s past e).from.0 t.0 k.0 v.0 raises effect (node_in s past p)) run.0 made at lt
     (DoesSub t k v raises effect bd sub pos from at lt work made) was.node
     (lifts_raised c.phase c.update p v.0 e.took.body (node_in s past p).turns raises
-    (λ g. ap (token g) bd ∙ (token_passes g).sent.sub t k v)
+    (λ g.
+    let none = (token_passes g).sent in took_none (token g) s past e (SubLetter t k v) bd (none.sub t k v) none.wake)
     (sub_raises s c.phase c.update t.0 k.0 (node_in s past p) v raises effect work right))
 level_next s past e laws run timely was (Notes t k v values bd sub pos from at lt missed made) =
     let c = coordinator_in s past in
@@ -682,4 +687,4 @@ level_next s past e laws run timely was (Obeys p out at lt order made) =
     let c = coordinator_in s past in
     level_made s past e p out run.0 made at lt (Obeys p out at lt order made) was.node
     (level_obeyed s past e p out was (phase_for s past e e.took.body laws run.1 timely.1 run.0 refl)
-    (each_taken (λ (l : Letter). LevelBody s c.phase c.update l.body) s past e run.0 was.letters) order)
+    (each_took (λ (l : Letter). LevelBody s c.phase c.update l.body) s past e run.0 was.letters) order)

@@ -17,8 +17,9 @@ use Rattle.world_model.specs.declared.phase.Phase.{Phase}
 use Rattle.world_model.specs.declared.phase.Phase.TheVariants.{Idle, Turning, Counting, Paused, Showing, Sweeping}
 use Rattle.world_model.specs.Runs.{MayFollow, IsStepRun, coordinator_in, node_in}
 use Rattle.world_model.specs.Timely.{AllTimely}
-use Rattle.world_model.proofs.Every.{each_taken}
 use Rattle.world_model.proofs.Lawful.{IsLawful}
+use Rattle.world_model.proofs.EachOutstanding.{each_took, each_first}
+use Rattle.phase_laws.proofs.LevelAt.{LevelBody}
 use Rattle.phase_laws.specs.Phases.{TurnStage, ShowStage, SweepStage, IsInPhase, PhasesHaveTheirLetters, VersionsKeepToThePhase}
 use Rattle.phase_laws.proofs.Small.{small}
 use Rattle.phase_laws.proofs.Tokens.{PhaseFor, phase_for, told}
@@ -36,7 +37,12 @@ levels_first : (s : ScriptData) (p : ℕ) → LevelAt s [] p
 levels_first s p = omega arith
 
 pub levels : (s : ScriptData) (past : List Entry) → IsLawful s → IsStepRun s past → AllTimely s past → Levels s past
-levels s [] laws run timely = record { first = omega arith; node = λ p lt. levels_first s p; letters = (tt, tt) }
+levels s [] laws run timely = record {
+  first = omega arith;
+  node = λ p lt. levels_first s p;
+  letters =
+      let c = coordinator_in s [] in each_first (λ (l : Letter). LevelBody s c.phase c.update l.body) s (tt, tt);
+}
 levels s (e ∷ past) laws run timely =
     let was = levels s past laws run.1 timely.1 in
     let next = laws.next past e run timely in
@@ -121,7 +127,7 @@ pub order_timely : (s : ScriptData) (past : List Entry) (e : Entry) (body : Body
 order_timely s past e body p laws run timely m lt bd is =
     let c = coordinator_in s past in
     let all = levels s past laws run timely in
-    let right = each_taken (λ (l : Letter). LevelBody s c.phase c.update l.body) s past e m all.letters in
+    let right = each_took (λ (l : Letter). LevelBody s c.phase c.update l.body) s past e m all.letters in
     order_timely_by s c.phase c.update (node_in s past p) (tells s past TurnStage p) (tells s past ShowStage p)
     (tells s past SweepStage p) body
     all.first (all.node p lt) (phase_for s past e body laws run timely m bd)

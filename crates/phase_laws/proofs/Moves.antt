@@ -10,9 +10,11 @@ use Rattle.letter_types.specs.Steps.{Out}
 use Rattle.world_model.specs.Node.{Node}
 use Rattle.tx_trees.specs.ScriptData.{ScriptData}
 use Rattle.world_model.specs.Counts.{tally, one_if}
+use Rattle.world_model.specs.Kept.{of_done}
 use Rattle.world_model.specs.Runs.{node_in}
 use Rattle.world_model.proofs.Bags.{tally_same, tally_none, one_if_most}
 use Rattle.world_model.proofs.Every.{node_kept}
+use Rattle.world_model.proofs.Outstanding.{done_apart}
 use Rattle.phase_laws.specs.Balance.{MOST_COUNTED, version_is, goes_between}
 use Rattle.world_model.proofs.Nexts.{Made}
 use Rattle.phase_laws.proofs.Counters.{counted}
@@ -21,8 +23,8 @@ use Rattle.phase_laws.proofs.Counters.{counted}
 abbrev pub sent_on : ℕ → ℕ → ℕ → ℕ → Outgoing → ℕ
 sent_on a v p q o = one_if (version_is v o.body && ((a == p) && (o.to.0 == q)))
 
--- an entry adds as much to both counters of a pair, but for the counted letters that the one sends and the other takes,
--- in a version that the nodes haven't left; in one that they have, no more
+-- an entry adds as much to both counters of a pair, but for the counted letters that the one sends and the one that the
+-- other does, in a version that the nodes haven't left; in one that they have, no more
 pub record Counts (s : ScriptData) (past : List Entry) (e : Entry) (v : ℕ) : Type 0 where
   pub self : ℕ → ℕ → ℕ
   pub asked : (p q : ℕ) → p < s.nodes → (node_in s (e ∷ past) p).turns.low.0 ≤ v
@@ -30,13 +32,13 @@ pub record Counts (s : ScriptData) (past : List Entry) (e : Entry) (v : ℕ) : T
       ≡ (node_in s past p).counts.asked v q + self p q + tally (sent_on e.actor.0 v p q) e.sent
   pub done : (p q : ℕ) → q < s.nodes → (node_in s (e ∷ past) q).turns.low.0 ≤ v
       → (node_in s (e ∷ past) q).counts.done v p
-      ≡ (node_in s past q).counts.done v p + self p q + goes_between v p q e.took
+      ≡ (node_in s past q).counts.done v p + self p q + of_done (goes_between v p q) s past e
   pub asked_most : (p q : ℕ) → p < s.nodes
       → (node_in s (e ∷ past) p).counts.asked v q
       ≤ (node_in s past p).counts.asked v q + self p q + tally (sent_on e.actor.0 v p q) e.sent
   pub done_most : (p q : ℕ) → q < s.nodes
       → (node_in s (e ∷ past) q).counts.done v p ≤
-      (node_in s past q).counts.done v p + self p q + goes_between v p q e.took
+      (node_in s past q).counts.done v p + self p q + of_done (goes_between v p q) s past e
   pub little : (p q : ℕ) → self p q ≤ 1
   pub few : (p q : ℕ) → p < s.nodes → self p q + tally (sent_on e.actor.0 v p q) e.sent ≤ MOST_COUNTED
 
@@ -73,10 +75,12 @@ apart s past e v to outside none = record {
   self = λ p q. 0;
   asked = λ p q lt low.
       rw (node_kept s past e p (omega arith)) (omega (arith, sent_elsewhere e.actor.0 v p q e.sent (omega arith)));
-  done = λ p q lt low. rw (node_kept s past e q (omega arith)) (omega (arith, uncounted_goes v p q e.took none));
+  done = λ p q lt low.
+      rw (node_kept s past e q (omega arith)) (omega (arith, done_apart (goes_between v p q) s past e outside, uncounted_goes v p q e.took none));
   asked_most = λ p q lt.
       rw (node_kept s past e p (omega arith)) (omega (arith, sent_elsewhere e.actor.0 v p q e.sent (omega arith)));
-  done_most = λ p q lt. rw (node_kept s past e q (omega arith)) (omega (arith, uncounted_goes v p q e.took none));
+  done_most = λ p q lt.
+      rw (node_kept s past e q (omega arith)) (omega (arith, done_apart (goes_between v p q) s past e outside, uncounted_goes v p q e.took none));
   little = λ p q. omega arith;
   few = λ p q lt. omega (arith, sent_elsewhere e.actor.0 v p q e.sent (omega arith));
 }
@@ -98,6 +102,11 @@ pub record RowCounts (h v from : ℕ) (body : Body) (st : Node) (row : Out Node)
       → row.state.counts.done v p ≤ st.counts.done v p + one_if (own && (h == p)) + one_if
       (version_is v body && (from == p))
   pub few : (q : ℕ) → one_if own + tally (counted v q) row.sent ≤ MOST_COUNTED
+
+-- an entry does letter r, which came to its actor
+pub record DoesLetter (s : ScriptData) (past : List Entry) (e : Entry) (r : Letter) : Type 0 where
+  pub is : (f : Letter → ℕ) → of_done f s past e ≡ f r
+  pub to : r.to.0 ≡ e.actor.0
 
 -- what a node counts with itself, seen from each end
 own_at : (own : Bool) (h p q : ℕ) → h ≡ p → one_if (own && ((h == p) && (h == q))) ≡ one_if (own && (h == q))
@@ -121,7 +130,7 @@ AskedMore s past e v p q self =
 -- the completions of q from p, with so many more of its own
 abbrev DoneMore : ScriptData → List Entry → Entry → ℕ → ℕ → ℕ → ℕ → Type 0
 DoneMore s past e v p q self =
-    (node_in s (e ∷ past) q).counts.done v p ≡ (node_in s past q).counts.done v p + self + goes_between v p q e.took
+    (node_in s (e ∷ past) q).counts.done v p ≡ (node_in s past q).counts.done v p + self + of_done (goes_between v p q) s past e
 
 -- what the actor sends is what its row says
 sent_by : (s : ScriptData) (past : List Entry) (e : Entry) (h v p q : ℕ) (row : Out Node) → Made s past e h row
@@ -140,36 +149,36 @@ low_of s past e h p v row made eq low =
     subst (λ (st : Node). st.turns.low.0 ≤ v) made.state there
 
 -- the requests of the actor and of the others
-asked_by : (s : ScriptData) (past : List Entry) (e : Entry) (h v p q : ℕ) (row : Out Node) → Made s past e h row
+asked_by : (s : ScriptData) (past : List Entry) (e : Entry) (r : Letter) (h v p q : ℕ) (row : Out Node) → Made s past e h row
     → e.actor.0 ≡ h
-    → (counts : RowCounts h v e.took.from.0 e.took.body (node_in s past h) row)
+    → (counts : RowCounts h v r.from.0 r.body (node_in s past h) row)
     → (h ≡ p) ⊎ (h ≢ p) → (node_in s (e ∷ past) p).turns.low.0 ≤ v
     → AskedMore s past e v p q (one_if (counts.own && ((h == p) && (h == q))))
-asked_by s past e h v p q row made at counts (inl eq) low =
+asked_by s past e r h v p q row made at counts (inl eq) low =
     let low' : row.state.turns.low.0 ≤ v = low_of s past e h p v row made eq low in
     let here : AskedMore s past e v h q (one_if (counts.own && (h == q))) =
     rw made.state (omega (arith, counts.asked q low', sent_by s past e h v h q row made at)) in
     let there = subst (λ (n : ℕ). AskedMore s past e v n q (one_if (counts.own && (h == q)))) eq here in
     rw (own_at counts.own h p q eq) there
-asked_by s past e h v p q row made at counts (inr ne) low =
+asked_by s past e r h v p q row made at counts (inr ne) low =
     rw (node_kept s past e p (λ is. ne (sym at ∙ is)))
     (omega (arith, own_not counts.own h p q ne, sent_elsewhere e.actor.0 v p q e.sent (λ is. ne (sym at ∙ is))))
 
 -- the completions at the actor and at the others
-done_by : (s : ScriptData) (past : List Entry) (e : Entry) (h v p q : ℕ) (row : Out Node) → Made s past e h row
+done_more : (s : ScriptData) (past : List Entry) (e : Entry) (r : Letter) (h v p q : ℕ) (row : Out Node) → Made s past e h row
     → e.actor.0 ≡ h
-    → e.took.to.0 ≡ e.actor.0 → (counts : RowCounts h v e.took.from.0 e.took.body (node_in s past h) row)
+    → DoesLetter s past e r → (counts : RowCounts h v r.from.0 r.body (node_in s past h) row)
     → (h ≡ q) ⊎ (h ≢ q) → (node_in s (e ∷ past) q).turns.low.0 ≤ v
     → DoneMore s past e v p q (one_if (counts.own && ((h == p) && (h == q))))
-done_by s past e h v p q row made at to counts (inl eq) low =
+done_more s past e r h v p q row made at does counts (inl eq) low =
     let low' : row.state.turns.low.0 ≤ v = low_of s past e h q v row made eq low in
     let here : DoneMore s past e v p h (one_if (counts.own && (h == p))) =
-    rw made.state (omega (arith, counts.done p low', took_here v p h e.took (to ∙ at))) in
+    rw made.state (omega (arith, counts.done p low', does.is (goes_between v p h), took_here v p h r (does.to ∙ at))) in
     let there = subst (λ (n : ℕ). DoneMore s past e v p n (one_if (counts.own && (h == p)))) eq here in
     rw (own_from counts.own h p q eq) there
-done_by s past e h v p q row made at to counts (inr ne) low =
+done_more s past e r h v p q row made at does counts (inr ne) low =
     rw (node_kept s past e q (λ is. ne (sym at ∙ is)))
-    (omega (arith, own_not_to counts.own h p q ne, took_elsewhere v p q e.took (λ is. ne (sym (to ∙ at) ∙ is))))
+    (omega (arith, own_not_to counts.own h p q ne, does.is (goes_between v p q), took_elsewhere v p q r (λ is. ne (sym (does.to ∙ at) ∙ is))))
 
 -- Of every version: no more than that.
 abbrev AskedMost : ScriptData → List Entry → Entry → ℕ → ℕ → ℕ → ℕ → Type 0
@@ -179,33 +188,33 @@ AskedMost s past e v p q self =
 
 abbrev DoneMost : ScriptData → List Entry → Entry → ℕ → ℕ → ℕ → ℕ → Type 0
 DoneMost s past e v p q self =
-    (node_in s (e ∷ past) q).counts.done v p ≤ (node_in s past q).counts.done v p + self + goes_between v p q e.took
+    (node_in s (e ∷ past) q).counts.done v p ≤ (node_in s past q).counts.done v p + self + of_done (goes_between v p q) s past e
 
-asked_most_by : (s : ScriptData) (past : List Entry) (e : Entry) (h v p q : ℕ) (row : Out Node) → Made s past e h row
+asked_most_by : (s : ScriptData) (past : List Entry) (e : Entry) (r : Letter) (h v p q : ℕ) (row : Out Node) → Made s past e h row
     → e.actor.0 ≡ h
-    → (counts : RowCounts h v e.took.from.0 e.took.body (node_in s past h) row)
+    → (counts : RowCounts h v r.from.0 r.body (node_in s past h) row)
     → (h ≡ p) ⊎ (h ≢ p) → AskedMost s past e v p q (one_if (counts.own && ((h == p) && (h == q))))
-asked_most_by s past e h v p q row made at counts (inl eq) =
+asked_most_by s past e r h v p q row made at counts (inl eq) =
     let here : AskedMost s past e v h q (one_if (counts.own && (h == q))) =
     rw made.state (omega (arith, counts.asked_most q, sent_by s past e h v h q row made at)) in
     let there = subst (λ (n : ℕ). AskedMost s past e v n q (one_if (counts.own && (h == q)))) eq here in
     rw (own_at counts.own h p q eq) there
-asked_most_by s past e h v p q row made at counts (inr ne) =
+asked_most_by s past e r h v p q row made at counts (inr ne) =
     rw (node_kept s past e p (λ is. ne (sym at ∙ is)))
     (omega (arith, own_not counts.own h p q ne, sent_elsewhere e.actor.0 v p q e.sent (λ is. ne (sym at ∙ is))))
 
-done_most_by : (s : ScriptData) (past : List Entry) (e : Entry) (h v p q : ℕ) (row : Out Node) → Made s past e h row
+done_most_by : (s : ScriptData) (past : List Entry) (e : Entry) (r : Letter) (h v p q : ℕ) (row : Out Node) → Made s past e h row
     → e.actor.0 ≡ h
-    → e.took.to.0 ≡ e.actor.0 → (counts : RowCounts h v e.took.from.0 e.took.body (node_in s past h) row)
+    → DoesLetter s past e r → (counts : RowCounts h v r.from.0 r.body (node_in s past h) row)
     → (h ≡ q) ⊎ (h ≢ q) → DoneMost s past e v p q (one_if (counts.own && ((h == p) && (h == q))))
-done_most_by s past e h v p q row made at to counts (inl eq) =
+done_most_by s past e r h v p q row made at does counts (inl eq) =
     let here : DoneMost s past e v p h (one_if (counts.own && (h == p))) =
-    rw made.state (omega (arith, counts.done_most p, took_here v p h e.took (to ∙ at))) in
+    rw made.state (omega (arith, counts.done_most p, does.is (goes_between v p h), took_here v p h r (does.to ∙ at))) in
     let there = subst (λ (n : ℕ). DoneMost s past e v p n (one_if (counts.own && (h == p)))) eq here in
     rw (own_from counts.own h p q eq) there
-done_most_by s past e h v p q row made at to counts (inr ne) =
+done_most_by s past e r h v p q row made at does counts (inr ne) =
     rw (node_kept s past e q (λ is. ne (sym at ∙ is)))
-    (omega (arith, own_not_to counts.own h p q ne, took_elsewhere v p q e.took (λ is. ne (sym (to ∙ at) ∙ is))))
+    (omega (arith, own_not_to counts.own h p q ne, does.is (goes_between v p q), took_elsewhere v p q r (λ is. ne (sym (does.to ∙ at) ∙ is))))
 
 and_most : (b c : Bool) → one_if (b && c) ≤ one_if b
 and_most true c = one_if_most c
@@ -222,15 +231,15 @@ few_by s past e h v p q row own c made few (inr ne) =
     omega (arith, one_if_most (own && c), sent_elsewhere e.actor.0 v p q e.sent ne)
 
 -- the entry of a node, by what its row counts
-pub by_node : (s : ScriptData) (past : List Entry) (e : Entry) (h v : ℕ) (row : Out Node) → Made s past e h row
+pub by_node : (s : ScriptData) (past : List Entry) (e : Entry) (r : Letter) (h v : ℕ) (row : Out Node) → Made s past e h row
     → e.actor.0 ≡ h
-    → e.took.to.0 ≡ e.actor.0 → RowCounts h v e.took.from.0 e.took.body (node_in s past h) row → Counts s past e v
-by_node s past e h v row made at to counts = record {
+    → DoesLetter s past e r → RowCounts h v r.from.0 r.body (node_in s past h) row → Counts s past e v
+by_node s past e r h v row made at does counts = record {
   self = λ p q. one_if (counts.own && ((h == p) && (h == q)));
-  asked = λ p q lt low. asked_by s past e h v p q row made at counts (cases_eq h p) low;
-  done = λ p q lt low. done_by s past e h v p q row made at to counts (cases_eq h q) low;
-  asked_most = λ p q lt. asked_most_by s past e h v p q row made at counts (cases_eq h p);
-  done_most = λ p q lt. done_most_by s past e h v p q row made at to counts (cases_eq h q);
+  asked = λ p q lt low. asked_by s past e r h v p q row made at counts (cases_eq h p) low;
+  done = λ p q lt low. done_more s past e r h v p q row made at does counts (cases_eq h q) low;
+  asked_most = λ p q lt. asked_most_by s past e r h v p q row made at counts (cases_eq h p);
+  done_most = λ p q lt. done_most_by s past e r h v p q row made at does counts (cases_eq h q);
   little = λ p q. one_if_most (counts.own && ((h == p) && (h == q)));
   few = λ p q lt. few_by s past e h v p q row counts.own ((h == p) && (h == q)) made (counts.few q)
       (cases_eq e.actor.0 p);

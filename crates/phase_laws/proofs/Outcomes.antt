@@ -57,7 +57,7 @@ IsAnswer Showing (Shown v) = Unit {0}
 IsAnswer Sweeping (Swept v) = Unit {0}
 IsAnswer _ _ = ⊥
 
--- an advancement is under way
+-- an advancement is in progress
 abbrev pub IsRunning : Phase → Type 0
 IsRunning Idle = ⊥
 IsRunning _ = Unit {0}

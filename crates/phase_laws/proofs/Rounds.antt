@@ -253,7 +253,7 @@ clean_letter : (number v p q b from to : ℕ) (body : Body) → second_wave numb
 clean_letter number v p q b from to (AskedRow w k row) none = λ ks ws is. absurd (grind (arith, nat_tests))
 clean_letter number v p q b from to _ none = tt
 
--- once all completions are in: the version is silent, or a pair has a letter under way, and differs
+-- once all completions are in: the version is silent, or a pair has a letter in flight, and differs
 at_last : (s : ScriptData) (past : List Entry) (r : RoundData) → IsLawful s → IsStepRun s past → AllTimely s past
     → LowIn s past r.version.0
     → ((q : ℕ) (row : List ℕ) → q < s.nodes → slice_get r.dones q ≡ Some (Some row) → (p : ℕ) → p < s.nodes
@@ -439,7 +439,7 @@ asked_by s past e r v k row row' x m bd vs ks (inl new) =
     subst (λ (y : List ℕ). x.b ≤ slice_index y x.q) (some_same row row' new.1)
     (taken_at_least s past e r v k row x m bd vs ks new.0)
 
--- every row of requests that is kept then is at least what a pair that differs wants
+-- every row of requests that is kept then is at least what a pair that differs needs
 asked_at_least : (s : ScriptData) (past : List Entry) (e : Entry) (r : RoundData) (v : Version) (k : ℕ)
     (row row' : List ℕ) (x : Differs s past r)
     → MayFollow s past e → e.took.body ≡ AskedRow v k row → v.0 ≡ r.version.0 → k ≡ r.number

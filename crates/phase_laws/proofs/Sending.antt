@@ -16,7 +16,7 @@ use Rattle.tree_home.specs.declared.homes.Answered.{Answered}
 use Rattle.world_model.specs.Children.{sub_letters, done_letter}
 use Rattle.world_model.specs.Done.{note_done, root_done, sub_done}
 use Rattle.world_model.specs.Node.{Effect, Node}
-use Rattle.world_model.specs.Notices.{answer_noted, reply_letters}
+use Rattle.world_model.specs.Notices.{answer_noted, reply_letters, values_of}
 use Rattle.tx_trees.specs.ScriptData.{ScriptData, client_of, home_of, node_of, subs_at}
 use Rattle.tx_trees.specs.declared.parts.ScriptRow.{ScriptRow}
 use Rattle.tx_trees.specs.declared.parts.ScriptRow.TheVariants.{Tree as TreeRow, Advance as AdvanceRow, Settle as SettleRow, Lose as LoseRow}
@@ -29,6 +29,8 @@ use Rattle.world_model.specs.Timely.{AllTimely}
 use Rattle.world_model.proofs.Every.{each_append, each_map, each_none}
 use Rattle.world_model.proofs.Lawful.{IsLawful}
 use Rattle.world_model.proofs.Nexts.{Next, Begins, Hears, Ends, Coordinates, DoesRoot, DoesSub, Notes, Obeys, Made, MadeByCoordinator, Order, Turns, Shows, Sweeps, TellsDone, TellsAsked, Tells}
+use Rattle.world_model.specs.Kept.{done_by}
+use Rattle.world_model.proofs.Worked.{took_by}
 
 -- no letter of a round
 abbrev pub IsPlain : Body → Type 0
@@ -106,13 +108,13 @@ root_apart : (s : ScriptData) (p t v : ℕ) (effect : Effect) (st : Node) → Al
 root_apart s p t v effect st =
     apart_append (sub_letters t v 0 0 (subs_at s t)) _ (children_apart t v 0 0 (subs_at s t))
     (reply_apart (client_of s)
-    (answer_noted (record { 0 = t }) (record { 0 = 0 }) effect.values
+    (answer_noted (record { 0 = t }) (record { 0 = 0 }) (values_of effect.notice)
     (begun (record { 0 = t }) (length (subs_at s t)) (record { 0 = v }) st.homes)))
 
 sub_apart : (s : ScriptData) (q t k v : ℕ) (raises : Bool) (effect : Effect) (st : Node)
     → AllApart (sub_done s q t k v raises effect st).sent
 sub_apart s q t k v raises effect st =
-    apart_append (sub_letters t v k 0 (subs_at s t)) (done_letter (home_of s t) t k v effect.values ∷ [])
+    apart_append (sub_letters t v k 0 (subs_at s t)) (done_letter (home_of s t) t k v effect.notice ∷ [])
     (children_apart t v k 0 (subs_at s t)) (tt, tt)
 
 note_apart : (s : ScriptData) (q t k v : ℕ) (values : Gets) (st : Node) → AllApart (note_done s q t k v values st).sent
@@ -153,11 +155,11 @@ sending_by s past e (Ends v bd at made) =
     (apart_by e _ made.sent (submit_apart s (with_end (client_in s past)) [] tt))
 sending_by s past e (Coordinates tells at made) = SendsOrders tells at made
 sending_by s past e (DoesRoot t v effect bd sub at lt new work made) =
-    SendsApart (λ eq. omega (arith, eq, at, lt)) (plain_by e (Root t) bd tt)
+    SendsApart (λ eq. omega (arith, eq, at, lt)) (took_by IsPlain s past e (Root t) bd tt (λ w j. tt))
     (apart_by e _ made.sent (root_apart s (home_of s t.0) t.0 v.0 effect (node_in s past (home_of s t.0))))
 sending_by s past e (DoesSub t k v raises effect bd sub pos from at lt work made) =
-    SendsApart (λ eq. omega (arith, eq, at, lt)) (plain_by e (SubLetter t k v) bd tt)
-    (apart_by e _ made.sent (sub_apart s e.took.from.0 t.0 k.0 v.0 raises effect (node_in s past (node_of s t.0 k.0))))
+    SendsApart (λ eq. omega (arith, eq, at, lt)) (took_by IsPlain s past e (SubLetter t k v) bd tt (λ w j. tt))
+    (apart_by e _ made.sent (sub_apart s (done_by s past e).from.0 t.0 k.0 v.0 raises effect (node_in s past (node_of s t.0 k.0))))
 sending_by s past e (Notes t k v values bd sub pos from at lt missed made) =
     SendsApart (λ eq. omega (arith, eq, at, lt)) (plain_by e (Done t k v (Did values)) bd tt)
     (apart_by e _ made.sent (note_apart s e.took.from.0 t.0 k.0 v.0 values (node_in s past (home_of s t.0))))

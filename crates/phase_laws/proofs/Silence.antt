@@ -1,4 +1,4 @@
--- A version of which no counted letter is under way, and in which no root is born, stays so.
+-- A version of which no counted letter is in flight, and in which no root is born, stays so.
 use Rattle.std.proofs.Common.{◌≡◌, ◌≢◌, ◌⊎◌, inl, inr, ℕ, zero, suc, ◌<◌, ◌≤◌, ◌==◌, Bool, true, false, List, [], ◌∷◌, ◌++◌, length, refl, sym, ap, subst, ◌∙◌, arith, take, drop, Option, Some, None}
 use Rattle.std.proofs.lemmas.Bool.Decides.{nat_tests}
 use Rattle.letter_types.specs.declared.bodies.Body.{Body}
@@ -12,19 +12,21 @@ use Rattle.tree_home.specs.declared.homes.Answered.{Answered}
 use Rattle.world_model.specs.Children.{sub_letters, done_letter}
 use Rattle.world_model.specs.Done.{note_done, root_done, sub_done}
 use Rattle.world_model.specs.Node.{Effect, Node}
-use Rattle.world_model.specs.Notices.{answer_noted, reply_letters}
+use Rattle.world_model.specs.Notices.{answer_noted, reply_letters, values_of}
 use Rattle.tx_trees.specs.ScriptData.{ScriptData, client_of, home_of, node_of, subs_at}
 use Rattle.tx_trees.specs.declared.parts.ScriptRow.{ScriptRow}
 use Rattle.tx_trees.specs.declared.parts.ScriptRow.TheVariants.{Tree as TreeRow, Advance as AdvanceRow, Settle as SettleRow, Lose as LoseRow}
 use Rattle.world_model.specs.Client.{Client, rows_letters, submit, submitted, with_answer, with_end, nudge}
 use Rattle.world_model.specs.Counts.{Each, tally}
-use Rattle.world_model.specs.Runs.{client_in, coordinator_in, node_in, waiting, MayFollow, IsStepRun}
+use Rattle.world_model.specs.Runs.{client_in, coordinator_in, node_in, IsStepRun}
 use Rattle.world_model.specs.Timely.{AllTimely}
-use Rattle.world_model.proofs.Bags.{tally-drop}
+use Rattle.world_model.proofs.EachOutstanding.{done_outstanding, done_to}
+use Rattle.world_model.proofs.Outstanding.{IsOutstanding}
 use Rattle.world_model.proofs.Every.{each_append, each_map, each_none}
 use Rattle.world_model.proofs.Lawful.{IsLawful}
 use Rattle.world_model.proofs.Nexts.{Next, Begins, Hears, Ends, Coordinates, DoesRoot, DoesSub, Notes, Obeys, Order, Turns, Shows, Sweeps, TellsDone, TellsAsked, RootWork, RootUpdates, RootReads}
 use Rattle.world_model.proofs.Orders.{coordinator_each}
+use Rattle.world_model.specs.Kept.{done_by}
 use Rattle.phase_laws.specs.Balance.{version_is, goes_between, out}
 use Rattle.phase_laws.specs.Quiet.{IsSilent}
 use Rattle.phase_laws.proofs.Balance.{counts_of, flow}
@@ -73,13 +75,13 @@ root_none : (s : ScriptData) (p t w v : ℕ) (effect : Effect) (st : Node) → (
 root_none s p t w v effect st ne =
     none_append v (sub_letters t w 0 0 (subs_at s t)) _ (children_none t w v 0 0 s ne)
     (replies_none v (client_of s)
-    (answer_noted (record { 0 = t }) (record { 0 = 0 }) effect.values
+    (answer_noted (record { 0 = t }) (record { 0 = 0 }) (values_of effect.notice)
     (begun (record { 0 = t }) (length (subs_at s t)) (record { 0 = w }) st.homes)))
 
 sub_none : (s : ScriptData) (q t k w v : ℕ) (raises : Bool) (effect : Effect) (st : Node) → (w == v) ≡ false
     → NoneOf v (sub_done s q t k w raises effect st).sent
 sub_none s q t k w v raises effect st ne =
-    none_append v (sub_letters t w k 0 (subs_at s t)) (done_letter (home_of s t) t k w effect.values ∷ [])
+    none_append v (sub_letters t w k 0 (subs_at s t)) (done_letter (home_of s t) t k w effect.notice ∷ [])
     (children_none t w v k 0 s ne) (ne, tt)
 
 note_none : (s : ScriptData) (q t k w v : ℕ) (values : Gets) (st : Node) → NoneOf v (note_done s q t k w values st).sent
@@ -109,32 +111,31 @@ pub goes_itself : (v p q : ℕ) (l : Letter) → version_is v l.body ≡ true �
     → goes_between v p q l ≡ 1
 goes_itself v p q l is a b = grind (arith, nat_tests)
 
--- in silence no counted letter of the version is taken
-not_taken : (s : ScriptData) (past : List Entry) (e : Entry) (v : ℕ) (b : Bool) → MayFollow s past e
-    → IsSilent s past v → e.took.from.0 < s.nodes
-    → e.actor.0 < s.nodes → version_is v e.took.body ≡ b → version_is v e.took.body ≡ false
-not_taken s past e v false m silent from lt is = is
-not_taken s past e v true m silent from lt is =
+-- in silence no letter that has still to be done is a counted one of the version
+not_there : (s : ScriptData) (past : List Entry) (r : Letter) (v : ℕ) (b : Bool) → IsOutstanding s past r
+    → IsSilent s past v → r.from.0 < s.nodes → r.to.0 < s.nodes → version_is v r.body ≡ b → version_is v r.body ≡ false
+not_there s past r v false there silent from to is = is
+not_there s past r v true there silent from to is =
     absurd (omega (
       arith,
-      silent e.took.from.0 e.actor.0 from lt,
-      goes_itself v e.took.from.0 e.actor.0 e.took is refl m.addressee,
-      tally-drop (goes_between v e.took.from.0 e.actor.0) e.took.id (waiting s past) e.took m.waits,
+      silent r.from.0 r.to.0 from to,
+      goes_itself v r.from.0 r.to.0 r is refl refl,
+      there (goes_between v r.from.0 r.to.0),
     ))
 
 by_sent : (v : ℕ) (e : Entry) (os : List Outgoing) → e.sent ≡ os → NoneOf v os → NoneOf v e.sent
 by_sent v e os is all = subst (NoneOf v) (sym is) all
 
-none_sent : (s : ScriptData) (past : List Entry) (e : Entry) (v : ℕ) → MayFollow s past e → IsSilent s past v
+none_sent : (s : ScriptData) (past : List Entry) (e : Entry) (v : ℕ) → IsStepRun s (e ∷ past) → IsSilent s past v
     → Closed s past v
     → Next s past e → NoneOf v e.sent
-none_sent s past e v m silent closed (Begins bd at made) =
+none_sent s past e v run silent closed (Begins bd at made) =
     by_sent v e _ made.sent (submit_none v s (client_in s past) [] tt)
-none_sent s past e v m silent closed (Hears t w answer bd at lt made) =
+none_sent s past e v run silent closed (Hears t w answer bd at lt made) =
     by_sent v e _ made.sent (submit_none v s (with_answer t.0 (client_in s past)) (nudge s ∷ []) (refl, tt))
-none_sent s past e v m silent closed (Ends w bd at made) =
+none_sent s past e v run silent closed (Ends w bd at made) =
     by_sent v e _ made.sent (submit_none v s (with_end (client_in s past)) [] tt)
-none_sent s past e v m silent closed (Coordinates tells at made) =
+none_sent s past e v run silent closed (Coordinates tells at made) =
     by_sent v e _ made.sent (coordinator_each (λ to body. version_is v body ≡ false) (coordinator_in s past) (record {
       turn = λ to w lt. refl;
       show = λ to w lt. refl;
@@ -143,19 +144,21 @@ none_sent s past e v m silent closed (Coordinates tells at made) =
       ask_asked = λ to w k lt. refl;
       advanced = λ w. refl;
     }) e.took.from.0 e.took.body)
-none_sent s past e v m silent closed (DoesRoot t w effect bd sub at lt new work made) =
+none_sent s past e v run silent closed (DoesRoot t w effect bd sub at lt new work made) =
     let p = home_of s t.0 in
     by_sent v e _ made.sent
     (root_none s p t.0 w.0 v effect (node_in s past p)
     (root_version s t.0 v (node_in s past p) w effect work (closed p lt)))
-none_sent s past e v m silent closed (DoesSub t k w raises effect bd sub pos from at lt work made) =
-    let none = not_taken s past e v (version_is v e.took.body) m silent from (omega (arith, at, lt)) refl in
-    let other : (w.0 == v) ≡ false = subst (λ (b : Body). version_is v b ≡ false) bd none in
+none_sent s past e v run silent closed (DoesSub t k w raises effect bd sub pos from at lt work made) =
+    let r = done_by s past e in
+    let none = not_there s past r v (version_is v r.body) (done_outstanding s past e run.0) silent from
+    (omega (arith, at, lt, done_to s past e run)) refl in
+    let other : (w.0 == v) ≡ false = subst (λ (b : Body). version_is v b ≡ false) bd.body none in
     by_sent v e _ made.sent
-    (sub_none s e.took.from.0 t.0 k.0 w.0 v raises effect (node_in s past (node_of s t.0 k.0)) other)
-none_sent s past e v m silent closed (Notes t k w values bd sub pos from at lt missed made) =
+    (sub_none s r.from.0 t.0 k.0 w.0 v raises effect (node_in s past (node_of s t.0 k.0)) other)
+none_sent s past e v run silent closed (Notes t k w values bd sub pos from at lt missed made) =
     by_sent v e _ made.sent (note_none s e.took.from.0 t.0 k.0 w.0 v values (node_in s past (home_of s t.0)))
-none_sent s past e v m silent closed (Obeys p out at lt order made) =
+none_sent s past e v run silent closed (Obeys p out at lt order made) =
     by_sent v e _ made.sent (order_none s v (node_in s past p) e.took.body out order)
 
 uncounted : (a v p q : ℕ) (o : Outgoing) → version_is v o.body ≡ false → sent_on a v p q o ≡ 0
@@ -166,7 +169,7 @@ pub silent_stays : (s : ScriptData) (past : List Entry) (e : Entry) (v : ℕ) �
     → AllTimely s (e ∷ past)
     → IsSilent s past v → Closed s past v → IsSilent s (e ∷ past) v
 silent_stays s past e v laws run timely silent closed = λ p q lp lq.
-    let none = none_sent s past e v run.0 silent closed (laws.next past e run timely) in
+    let none = none_sent s past e v run silent closed (laws.next past e run timely) in
     let sent : tally (sent_on e.actor.0 v p q) e.sent ≡ 0 =
     each_none (sent_on e.actor.0 v p q) e.sent
     (each_map (λ (o : Outgoing). version_is v o.body ≡ false) (λ (o : Outgoing). sent_on e.actor.0 v p q o ≡ 0) e.sent
@@ -188,7 +191,7 @@ pub asked_grows : (s : ScriptData) (past : List Entry) (e : Entry) (p v q : ℕ)
 asked_grows s past e p v q laws run timely lt low =
     let counts = counts_of s past e v laws run timely in omega (arith, counts.asked p q lt low)
 
--- Either a version is silent or a pair has a letter of it under way.
+-- Either a version is silent or a pair has a letter of it in flight.
 -- a number of pairs is 0 for each pair below, or not for one
 abbrev NoPair : (ℕ → ℕ → ℕ) → ℕ → ℕ → Type 0
 NoPair f k m = (p q : ℕ) → p < k → q < m → f p q ≡ 0

@@ -32,7 +32,7 @@ pub use Rattle.phase_laws.specs.Advances.{AdvancesAreKept, RoundsAreFew, asked_f
 use Rattle.phase_laws.proofs.Letters.{Passes, keep_done_none, node_keeps, to_nodes_none}
 use Rattle.phase_laws.proofs.Outcomes.{HasRoom, Ignored, IsAnswer, IsRunning, Outcome, Rests, Queues, Flags, Turns, Acks, LastTurned, LastShown, Finishes, GoesOn, Resumes, KeepsDone, KeepsAsked, Agrees, Recounts, Pauses, asked_kept, one_more_is, outcome, round_begun}
 
--- how many rounds the advancement under way has begun without a nudge, at most
+-- how many rounds the advancement in progress has begun without a nudge, at most
 abbrev pub rounds_in : Phase → ℕ
 rounds_in (Counting reads) = if reads then 2 else 1
 rounds_in (Paused reads) = if reads then 2 else 1
@@ -46,7 +46,7 @@ remembered (Counting reads) flag = one_if flag
 remembered _ flag = 0
 
 -- what bounds the coordinator's numbers: it has an acknowledgement less than nodes; no advance waits while it is idle;
--- each advancement that was asked for is in a letter, waits, is under way or has ended; of each that has ended the
+-- each advancement that was asked for is in a letter, waits, is in progress or has ended; of each that has ended the
 -- client has heard, or will by a letter; and rounds are two for each advancement and one for each nudge, at most
 pub record Numbers (s : ScriptData) (past : List Entry) (c : Coordinator) : Type 0 where
   pub nodes : c.nodes ≡ s.nodes
@@ -379,8 +379,8 @@ other_small s past e away was asked ended =
 -- neither kind of letters is of trees, or goes between the coordinator and the nodes
 advance_passes : Passes is_advance_letter is_advance_letter
 advance_passes = record {
-  sent = record { root = λ t. refl; sub = λ t k v. refl; done = λ t k v notice. refl; reply = λ t v answer. refl };
-  took = record { root = λ t. refl; sub = λ t k v. refl; done = λ t k v notice. refl; reply = λ t v answer. refl };
+  sent = record { root = λ t. refl; sub = λ t k v. refl; done = λ t k v notice. refl; reply = λ t v answer. refl; wake = λ t k. refl };
+  took = record { root = λ t. refl; sub = λ t k v. refl; done = λ t k v notice. refl; reply = λ t v answer. refl; wake = λ t k. refl };
   turned = λ v. refl;
   shown = λ v. refl;
   swept = λ v. refl;
@@ -390,8 +390,8 @@ advance_passes = record {
 
 advanced_passes : Passes is_advanced is_advanced
 advanced_passes = record {
-  sent = record { root = λ t. refl; sub = λ t k v. refl; done = λ t k v notice. refl; reply = λ t v answer. refl };
-  took = record { root = λ t. refl; sub = λ t k v. refl; done = λ t k v notice. refl; reply = λ t v answer. refl };
+  sent = record { root = λ t. refl; sub = λ t k v. refl; done = λ t k v notice. refl; reply = λ t v answer. refl; wake = λ t k. refl };
+  took = record { root = λ t. refl; sub = λ t k v. refl; done = λ t k v notice. refl; reply = λ t v answer. refl; wake = λ t k. refl };
   turned = λ v. refl;
   shown = λ v. refl;
   swept = λ v. refl;

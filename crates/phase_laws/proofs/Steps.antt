@@ -115,7 +115,7 @@ pub numbers_at : (n : ℕ) (f : ℕ → ℕ) (p : ℕ) → p < n → slice_index
 numbers_at zero f p lt = absurd (omega (arith, lt))
 numbers_at (suc n) f p lt = numbers_by n f p (below_or_at p n lt) (λ less. numbers_at n f p less)
 
--- A row of completions that is under way has at most the present numbers, where its node still counts them.
+-- A row of completions that is in flight has at most the present numbers, where its node still counts them.
 abbrev pub RowBody : ScriptData → List Entry → ℕ → Body → Type 0
 RowBody s past q (DoneRow w k row) =
     q < s.nodes → (p : ℕ) → p < s.nodes → (node_in s past q).turns.low.0 ≤ w.0

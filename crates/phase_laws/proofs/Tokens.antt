@@ -31,8 +31,8 @@ use Rattle.phase_laws.proofs.Small.{outcome_in}
 -- a node's answer counts as the order that it answers
 pub token_passes : (g : Stage) → Passes (token g) (token g)
 token_passes TurnStage = record {
-  sent = record { root = λ t. refl; sub = λ t k v. refl; done = λ t k v notice. refl; reply = λ t v answer. refl };
-  took = record { root = λ t. refl; sub = λ t k v. refl; done = λ t k v notice. refl; reply = λ t v answer. refl };
+  sent = record { root = λ t. refl; sub = λ t k v. refl; done = λ t k v notice. refl; reply = λ t v answer. refl; wake = λ t k. refl };
+  took = record { root = λ t. refl; sub = λ t k v. refl; done = λ t k v notice. refl; reply = λ t v answer. refl; wake = λ t k. refl };
   turned = λ v. refl;
   shown = λ v. refl;
   swept = λ v. refl;
@@ -40,8 +40,8 @@ token_passes TurnStage = record {
   asked_row = λ v k row. refl;
 }
 token_passes ShowStage = record {
-  sent = record { root = λ t. refl; sub = λ t k v. refl; done = λ t k v notice. refl; reply = λ t v answer. refl };
-  took = record { root = λ t. refl; sub = λ t k v. refl; done = λ t k v notice. refl; reply = λ t v answer. refl };
+  sent = record { root = λ t. refl; sub = λ t k v. refl; done = λ t k v notice. refl; reply = λ t v answer. refl; wake = λ t k. refl };
+  took = record { root = λ t. refl; sub = λ t k v. refl; done = λ t k v notice. refl; reply = λ t v answer. refl; wake = λ t k. refl };
   turned = λ v. refl;
   shown = λ v. refl;
   swept = λ v. refl;
@@ -49,8 +49,8 @@ token_passes ShowStage = record {
   asked_row = λ v k row. refl;
 }
 token_passes SweepStage = record {
-  sent = record { root = λ t. refl; sub = λ t k v. refl; done = λ t k v notice. refl; reply = λ t v answer. refl };
-  took = record { root = λ t. refl; sub = λ t k v. refl; done = λ t k v notice. refl; reply = λ t v answer. refl };
+  sent = record { root = λ t. refl; sub = λ t k v. refl; done = λ t k v notice. refl; reply = λ t v answer. refl; wake = λ t k. refl };
+  took = record { root = λ t. refl; sub = λ t k v. refl; done = λ t k v notice. refl; reply = λ t v answer. refl; wake = λ t k. refl };
   turned = λ v. refl;
   shown = λ v. refl;
   swept = λ v. refl;
@@ -442,7 +442,7 @@ pub sweeping_phase : (phase : Phase) (t a n : ℕ) → 1 ≤ t → t + within Sw
 sweeping_phase Sweeping t a n some is = refl
 sweeping_phase _ t a n some is = absurd (omega (arith, some, is))
 
--- the letter that is taken is one of those under way
+-- the letter that is taken is one of those in flight
 token_there : (g : Stage) (s : ScriptData) (past : List Entry) (e : Entry) → MayFollow s past e
     → token g e.took.body ≤ under_way (token g) s past
 token_there g s past e m = omega (arith, tally-drop (λ (l : Letter). token g l.body) e.took.id (waiting s past) e.took m.waits)

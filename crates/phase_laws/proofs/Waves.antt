@@ -1,4 +1,4 @@
--- The two waves of a round: how many letters of each are under way, and what an entry does to them.
+-- The two waves of a round: how many letters of each are in flight, and what an entry does to them.
 use Rattle.std.proofs.Common.{if◌then◌else◌, ◌≡◌, ◌≢◌, ◌⊎◌, inl, inr, ℕ, zero, suc, ◌+◌, ◌<◌, ◌≤◌, ◌==◌, ◌&&◌, Bool, true, false, List, [], ◌∷◌, length, refl, ap, arith, Option, Some, None, replicate}
 use Rattle.std.specs.Prelude.{slice_get, slice_set}
 use Rattle.std.proofs.lemmas.Bool.{cases_eq}
@@ -32,7 +32,7 @@ second_wave r from to (AskAsked v k) = one_if (k == r)
 second_wave r from to (AskedRow v k row) = one_if (k == r)
 second_wave r from to _ = 0
 
--- a number over the letters under way, by sender, addressee and body
+-- a number over the letters in flight, by sender, addressee and body
 abbrev pub going : (ℕ → ℕ → Body → ℕ) → ScriptData → List Entry → ℕ
 going f s past = tally (λ (l : Letter). f l.from.0 l.to.0 l.body) (waiting s past)
 

@@ -10,7 +10,7 @@ use Rattle.world_model.specs.declared.phase.Phase.TheVariants.{Idle}
 use Rattle.world_model.specs.Runs.{client_in, coordinator_in}
 use Rattle.phase_laws.specs.Phases.{under_way}
 
--- an advancement is under way
+-- an advancement is in progress
 abbrev pub running : Phase → ℕ
 running Idle = 0
 running _ = 1
@@ -31,8 +31,8 @@ is_advanced _ = 0
 abbrev pub asked_for : ScriptData → List Entry → ℕ
 asked_for s past = advances_in (take (client_in s past).next s.rows)
 
--- each is asked for in a letter, waits, is under way or has ended; and of each that has ended the client has heard, or will
--- by a letter under way. The update version is one above the number of those that have ended
+-- each is asked for in a letter, waits, is in progress or has ended; and of each that has ended the client has heard,
+-- or will by a letter in flight. The update version is one above the number of those that have ended
 pub record AdvancesAreKept (s : ScriptData) (past : List Entry) : Type 0 where
   pub asked : under_way is_advance_letter s past + (coordinator_in s past).waits + running (coordinator_in s past).phase
       + (coordinator_in s past).update

@@ -6,7 +6,8 @@ use Rattle.letter_types.specs.declared.entries.Entry.{Entry}
 use Rattle.letter_types.specs.declared.entries.Letter.{Letter}
 use Rattle.tx_trees.specs.ScriptData.{ScriptData}
 use Rattle.world_model.specs.Counts.{tally, one_if}
-use Rattle.world_model.specs.Runs.{waiting, node_in}
+use Rattle.world_model.specs.Kept.{outstanding}
+use Rattle.world_model.specs.Runs.{node_in}
 pub use Rattle.world_model.specs.Taking.{MOST_COUNTED}
 
 -- a counted letter of version v: a Sub, a Done, a Decide or a Decided
@@ -22,16 +23,16 @@ version_is v _ = false
 abbrev pub goes_between : ℕ → ℕ → ℕ → Letter → ℕ
 goes_between v p q l = one_if (version_is v l.body && ((l.from.0 == p) && (l.to.0 == q)))
 
--- how many counted letters of version v are under way from p to q
+-- how many counted letters of version v from p to q have still to be done: in flight, or kept by a node
 abbrev pub out : ScriptData → List Entry → ℕ → ℕ → ℕ → ℕ
-out s past v p q = tally (goes_between v p q) (waiting s past)
+out s past v p q = tally (goes_between v p q) (outstanding s past)
 
 -- node p has collected to a version above v
 abbrev pub HasLeft : ScriptData → List Entry → ℕ → ℕ → Type 0
 HasLeft s past v p = v < (node_in s past p).turns.low.0
 
 -- in a version that both still count, the requests of p to q are the completions of q from p and the counted letters
--- under way; in a version that one of them has left, no counted letter is under way
+-- that have still to be done; in a version that one of them has left there is no such letter
 pub record IsBalanced (s : ScriptData) (past : List Entry) : Type 0 where
   pub equal : (v p q : ℕ) → p < s.nodes → q < s.nodes
       → (node_in s past p).turns.low.0 ≤ v → (node_in s past q).turns.low.0 ≤ v

@@ -11,7 +11,7 @@ use Rattle.world_model.specs.declared.phase.Phase.TheVariants.{Idle, Turning, Co
 use Rattle.world_model.specs.Counts.{tally}
 use Rattle.world_model.specs.Runs.{coordinator_in, node_in, waiting}
 
--- a number over the bodies of the letters under way
+-- a number over the bodies of the letters in flight
 abbrev pub under_way : (Body → ℕ) → ScriptData → List Entry → ℕ
 under_way f s past = tally (λ (l : Letter). f l.body) (waiting s past)
 
@@ -38,7 +38,7 @@ within ShowStage Showing k = k
 within SweepStage Sweeping k = k
 within g phase k = 0
 
--- orders and answers under way and acknowledgements are as many as nodes in the stage's phase, and none at other times
+-- orders and answers in flight and acknowledgements are as many as nodes in the stage's phase, and none at other times
 abbrev pub Told : ScriptData → List Entry → Stage → Type 0
 Told s past g =
     under_way (token g) s past + within g (coordinator_in s past).phase (coordinator_in s past).acks
@@ -73,8 +73,8 @@ abbrev pub most_low : Phase → ℕ → ℕ
 most_low Sweeping u = u
 most_low _ u = u - 1
 
--- the versions of a node in a phase of an advancement from update version u: each between its least and its greatest, the
--- low version the least of the three, and none more than two above it
+-- the versions of a node in a phase of an advancement from update version u: each between its least and its greatest,
+-- the low version the least of the three, and none more than two above it
 pub record IsInPhase (phase : Phase) (u : ℕ) (turns : Turns) : Type 0 where
   pub update_from : least_update phase u ≤ turns.update.0
   pub update_to : turns.update.0 ≤ most_update phase u
@@ -88,8 +88,8 @@ pub record IsInPhase (phase : Phase) (u : ℕ) (turns : Turns) : Type 0 where
   pub read_near : turns.read.0 ≤ turns.low.0 + 2
 
 -- The laws' statements.
--- in the phase of each stage its orders and answers under way and the acknowledgements are as many as nodes, and at other
--- times there are none
+-- in the phase of each stage its orders and answers in flight and the acknowledgements are as many as nodes, and at
+-- other times there are none
 abbrev pub PhasesHaveTheirLetters : ScriptData → List Entry → Type 0
 PhasesHaveTheirLetters s past = (g : Stage) → Told s past g
 

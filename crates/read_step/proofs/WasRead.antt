@@ -3,17 +3,16 @@ use Rattle.std.proofs.Common.{◌≡◌, ℕ, true, false, List, [], ◌∷◌, 
 use Rattle.std.specs.Prelude.{IfOk}
 use Rattle.tv_base.specs.declared.numbers.NoMemory.{NoMemory}
 use Rattle.letter_types.specs.declared.entries.Step.{Step}
-use Rattle.tv_base.specs.declared.numbers.TreeNo.{TreeNo}
 use Rattle.tv_base.specs.declared.numbers.Version.{Version}
 use Rattle.letter_types.specs.declared.bodies.Body.{Body}
 use Rattle.letter_types.specs.declared.bodies.Body.TheVariants.{Root, Sub as SubLetter}
+use Rattle.letter_types.specs.declared.bodies.Notice.{Notice}
 use Rattle.letter_types.specs.declared.entries.StepOut.{StepOut}
 use Rattle.letter_types.specs.Steps.{Out, made}
 use Rattle.item_versions.specs.Table.{Table, pending, replaced}
 use Rattle.node_versions.specs.declared.turns.Turns.{Turns}
 use Rattle.pair_counters.specs.Rows.{CounterRows}
-use Rattle.tree_home.specs.Homes.{Gets}
-use Rattle.tree_home.specs.declared.homes.OpenTree.{OpenTree}
+use Rattle.tree_home.specs.Homes.{HomesData}
 use Rattle.tree_step.specs.declared.node.NodeParts.{NodeParts}
 use Rattle.tx_trees.specs.ScriptData.{ScriptData}
 use Rattle.tx_trees.specs.declared.parts.SubOp.{SubOp}
@@ -47,12 +46,12 @@ pending_none [] = refl
 pending_none (x ∷ xs) = ap (λ (t : Table). replaced x.0 x.1 t) (pending_none xs)
 
 -- the row doesn't look at the items, it only passes on those of its effect
-passes_on : (s : ScriptData) (p from : ℕ) (v : Version) (values : Gets) (body : Body) (none items : Table) (st : Node)
-    → with_items items (tree_done s p from v false (record { items = none; values = values }) body (with_table none st))
-    ≡ tree_done s p from v false (record { items = items; values = values }) body (with_table items st)
-passes_on s p from v values (Root t) none items st = refl
-passes_on s p from v values (SubLetter t k w) none items st = refl
-passes_on s p from v values _ none items st = refl
+passes_on : (s : ScriptData) (p from : ℕ) (v : Version) (notice : Notice) (body : Body) (none items : Table) (st : Node)
+    → with_items items (tree_done s p from v false (record { items = none; notice = notice }) body (with_table none st))
+    ≡ tree_done s p from v false (record { items = items; notice = notice }) body (with_table items st)
+passes_on s p from v notice (Root t) none items st = refl
+passes_on s p from v notice (SubLetter t k w) none items st = refl
+passes_on s p from v notice _ none items st = refl
 
 turns_stay : (s : ScriptData) (p from : ℕ) (v : Version) (e : Effect) (body : Body) (st : Node)
     → (tree_done s p from v false e body st).state.turns ≡ st.turns
@@ -62,39 +61,39 @@ turns_stay s p from v e _ st = refl
 
 -- a row that was made of a node without items is that of the node with its items
 pub read_apart : (s : ScriptData) (p from : ℕ) (v : Version) (body : Body) (turns : Turns) (items : Table)
-    (counters : CounterRows) (homes : List (TreeNo × OpenTree)) (staged : Table) (values : Gets)
+    (counters : CounterRows) (homes : HomesData) (staged : Table) (notice : Notice)
     (after : NodeParts) (out : StepOut)
-    → made (data_of after) out ≡ tree_done s p from v false (record { items = pending staged []; values = values })
+    → made (data_of after) out ≡ tree_done s p from v false (record { items = pending staged []; notice = notice })
     body (data_of (state_of turns [] counters homes))
     → made (data_of (state_of turns items after.counters after.homes)) out
-    ≡ tree_done s p from v false (record { items = items; values = values }) body
+    ≡ tree_done s p from v false (record { items = items; notice = notice }) body
     (data_of (state_of turns items counters homes))
-read_apart s p from v body turns items counters homes staged values after out row =
-    let none : made (data_of after) out ≡ tree_done s p from v false (record { items = []; values = values }) body
+read_apart s p from v body turns items counters homes staged notice after out row =
+    let none : made (data_of after) out ≡ tree_done s p from v false (record { items = []; notice = notice }) body
     (data_of (state_of turns [] counters homes)) =
-    row ∙ ap (λ (t : Table). tree_done s p from v false (record { items = t; values = values }) body
+    row ∙ ap (λ (t : Table). tree_done s p from v false (record { items = t; notice = notice }) body
     (data_of (state_of turns [] counters homes))) (pending_none staged) in
     let same : after.turns ≡ turns = ap (λ (o : Out Node). o.state.turns) none
-    ∙ turns_stay s p from v (record { items = []; values = values }) body
+    ∙ turns_stay s p from v (record { items = []; notice = notice }) body
     (data_of (state_of turns [] counters homes)) in
     ap (λ (t : Turns). made (data_of (state_of t items after.counters after.homes)) out) (sym same)
     ∙ ap (with_items items) none
-    ∙ passes_on s p from v values body [] items (data_of (state_of turns items counters homes))
+    ∙ passes_on s p from v notice body [] items (data_of (state_of turns items counters homes))
 
--- the same of a step that may want memory
+-- the same of a step that may need memory
 pub read_face : (s : ScriptData) (p from : ℕ) (body : Body) (turns : Turns) (items : Table) (counters : CounterRows)
-    (homes : List (TreeNo × OpenTree)) (v : Version) (ops : List SubOp)
-    (staged : Table) (values : Gets) (after : NodeParts) (r : Result Step NoMemory)
+    (homes : HomesData) (v : Version) (ops : List SubOp)
+    (staged : Table) (notice : Notice) (after : NodeParts) (r : Result Step NoMemory)
     → v ≡ asked_version turns.read body → ops ≡ asked_ops s body → true ≡ can_get v ops items
-    → record { items = pending staged items; values = values } ≡ getting v ops items
+    → record { items = pending staged items; notice = notice } ≡ getting v ops items
     → IfOk r (λ step. made (data_of after) step.given ≡ tree_done s p from v false
-    (record { items = pending staged []; values = values }) body (data_of (state_of turns [] counters homes)))
+    (record { items = pending staged []; notice = notice }) body (data_of (state_of turns [] counters homes)))
     → IfOk r (λ step. made (data_of (state_of turns items after.counters after.homes)) step.given ≡ read_if_made s p
     (data_of (state_of turns items counters homes)) from body)
-read_face s p from body turns items counters homes v ops staged values after (Ok step) at asked can got row =
+read_face s p from body turns items counters homes v ops staged notice after (Ok step) at asked can got row =
     was_read s p from body (data_of (state_of turns items counters homes)) v ops
-    (record { items = items; values = values }) (made (data_of (state_of turns items after.counters after.homes))
+    (record { items = items; notice = notice }) (made (data_of (state_of turns items after.counters after.homes))
     step.given)
-    at asked can (ap (λ (e : Effect). record { items = items; values = e.values }) got)
-    (read_apart s p from v body turns items counters homes staged values after step.given row)
-read_face s p from body turns items counters homes v ops staged values after (Err e) at asked can got row = tt
+    at asked can (ap (λ (e : Effect). record { items = items; notice = e.notice }) got)
+    (read_apart s p from v body turns items counters homes staged notice after step.given row)
+read_face s p from body turns items counters homes v ops staged notice after (Err e) at asked can got row = tt

@@ -20,7 +20,7 @@ use tree_step::{Effect, InVersion, NodeParts, asked_ops, asked_version, done_twi
 use tv_base::{NoMemory, Version};
 use tx_trees::Script;
 
-/// Prepares the subtransaction that a letter asks for and does it. Want of memory leaves the node as it was.
+/// Prepares the subtransaction that a letter asks for and does it. Running out of memory leaves the node as it was.
 fn step_read(
     alloc: Global,
     node: &mut NodeParts,
@@ -64,7 +64,8 @@ pub fn run_read(
         ≡ read_if_made script.now letter.now.to.0 (data_of (state_of turns.now items.now counters.old homes.old))
         letter.now.from.0 letter.now.body) }
     ensures kept { IfOk result (λ step. step.kept ≡ step.given) }
-    // What stays, and what want of memory leaves.
+    // What stays, and what running out of memory leaves.
+    ensures held { OnOk result (homes.new.held ≡ homes.old.held) }
     ensures script { OnOk result (IsOf script.now (state_of turns.now items.now counters.new homes.new)) }
     ensures window { OnOk result (IsInWindow (state_of turns.now items.now counters.new homes.new)) }
     ensures same_counts { OnErr result (counters.new ≡ counters.old) }

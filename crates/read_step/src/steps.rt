@@ -7,7 +7,7 @@ ghost use Rattle.read_step.specs.Rows.{can_get, getting, got_by_deed, read_if_ma
 
 use commute_ops::{Value, Values};
 use item_versions::{ItemTable, Staged};
-use letter_types::Letter;
+use letter_types::{Letter, Notice};
 use std::alloc::Global;
 use tree_step::{Effect, InVersion, NodeParts, Prepared, asked_ops, asked_version, prepare_tree};
 use tv_base::{NoMemory, Version};
@@ -47,7 +47,7 @@ pub(crate) fn get_all(
     }
     Ok(Some(Effect {
         staged: Staged::new(alloc),
-        values,
+        notice: Notice::Did(values),
     }))
 }
 

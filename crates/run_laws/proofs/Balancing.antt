@@ -1,5 +1,5 @@
--- Where no letter of a tree is under way, requests are completions.
-use Rattle.std.proofs.Common.{◌≡◌, ℕ, ◌<◌, ◌≤◌, false, List, refl, arith}
+-- Where no letter of a tree is in flight, requests are completions.
+use Rattle.std.proofs.Common.{◌≡◌, ℕ, ◌<◌, ◌≤◌, false, List, refl, ap, ◌∙◌, arith}
 use Rattle.letter_types.specs.declared.bodies.Body.{Body}
 use Rattle.letter_types.specs.declared.bodies.Body.TheVariants.{Go, Sub as SubLetter, Done, Decide, Decided}
 use Rattle.letter_types.specs.declared.entries.Entry.{Entry}
@@ -8,7 +8,9 @@ use Rattle.tx_trees.specs.ScriptData.{ScriptData}
 use Rattle.world_model.specs.Runs.{node_in, waiting, IsStepRun}
 use Rattle.world_model.specs.Timely.{AllTimely}
 use Rattle.world_model.proofs.Every.{each_map, each_none, each_zero}
+use Rattle.world_model.specs.Counts.{tally}
 use Rattle.world_model.proofs.Lawful.{IsLawful}
+use Rattle.world_model.proofs.NothingKept.{outstanding_is}
 use Rattle.phase_laws.specs.Phases.{under_way}
 use Rattle.phase_laws.specs.Balance.{goes_between, out, version_is}
 use Rattle.phase_laws.proofs.Balance.{balanced_at}
@@ -26,7 +28,8 @@ not_counted v _ none = refl
 
 out_none : (s : ScriptData) (past : List Entry) (v p q : ℕ) → under_way of_trees s past ≡ 0 → out s past v p q ≡ 0
 out_none s past v p q none =
-    each_none (goes_between v p q) (waiting s past)
+    ap (λ (ls : List Letter). tally (goes_between v p q) ls) (outstanding_is s past)
+    ∙ each_none (goes_between v p q) (waiting s past)
     (each_map (λ (l : Letter). of_trees l.body ≡ 0) (λ (l : Letter). goes_between v p q l ≡ 0) (waiting s past)
     (λ l quiet. uncounted_goes v p q l (not_counted v l.body quiet)) (each_zero (λ (l : Letter). of_trees l.body) (waiting s past) none))
 

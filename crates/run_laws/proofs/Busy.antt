@@ -1,4 +1,4 @@
--- Busyness falls only where a nudge is taken, and where nothing is busy no letter of a tree is under way.
+-- Busyness falls only where a nudge is taken, and where nothing is busy no letter of a tree is in flight.
 use Rattle.std.proofs.Common.{◌≡◌, ◌≢◌, ◌⊎◌, inl, inr, ℕ, zero, suc, ◌+◌, ◌<◌, ◌≤◌, ◌==◌, Bool, true, false, not, List, [], ◌∷◌, length, get_or, set, take, drop, refl, sym, ap, subst, ◌∙◌, arith}
 use Rattle.std.proofs.lemmas.Bool.Decides.{nat_tests}
 use Rattle.std.proofs.lemmas.List.{get_or-set_other}
@@ -14,13 +14,15 @@ use Rattle.world_model.specs.Client.{Client, submit, submitted, with_answer, wit
 use Rattle.world_model.specs.Counts.{Each, tally, one_if}
 use Rattle.world_model.specs.Runs.{client_in, waiting, MayFollow, IsStepRun}
 use Rattle.world_model.specs.Timely.{AllTimely}
-use Rattle.world_model.proofs.Every.{each_both, each_map, each_none, each_taken, each_zero}
+use Rattle.world_model.proofs.Every.{each_both, each_map, each_none, each_zero}
 use Rattle.world_model.proofs.Fits.{IsFit}
 use Rattle.world_model.proofs.Flows.{client_kept, flow}
 use Rattle.world_model.proofs.Lawful.{IsLawful}
 use Rattle.world_model.proofs.Nexts.{Next, Begins, Hears, Ends, Coordinates, DoesRoot, DoesSub, Notes, Obeys, MadeByClient}
 use Rattle.world_model.proofs.Scripts.{IsSound, SubAt, has_root, sub_there, tree_below}
 use Rattle.world_model.proofs.Sends.{on}
+use Rattle.world_model.proofs.EachOutstanding.{each_waits, each_took}
+use Rattle.world_model.specs.Kept.{outstanding}
 use Rattle.phase_laws.specs.Phases.{under_way}
 use Rattle.tree_laws.specs.Dids.{letters_asking, asks, answers, dids, is_row_of, notices, roots_sent, tells_done}
 use Rattle.tree_laws.proofs.Counts.{below_root, one_here, parent_at, root_most, zero_or}
@@ -114,7 +116,7 @@ nudge_at s from to _ fit ne = refl
 pub no_nudge : (s : ScriptData) (past : List Entry) (e : Entry) → IsLawful s → IsStepRun s past → AllTimely s past → MayFollow s past e
     → e.actor.0 ≢ s.nodes → nudges e.took.body ≡ 0
 no_nudge s past e laws run timely m ne =
-    let fit = each_taken (λ (l : Letter). IsFit s l.from.0 l.to.0 l.body) s past e m (laws.fits past run timely) in
+    let fit = each_took (λ (l : Letter). IsFit s l.from.0 l.to.0 l.body) s past e m (laws.fits past run timely) in
     nudge_at s e.took.from.0 e.took.to.0 e.took.body fit (λ is. ne (sym m.addressee ∙ is))
 
 -- Where nothing is left.
@@ -141,7 +143,7 @@ answered_row answered t (AdvanceRow ∷ rows) some none = answered_row answered 
 answered_row answered t (SettleRow ∷ rows) some none = answered_row answered t rows (omega (arith, some)) (omega (arith, none))
 answered_row answered t (LoseRow ∷ rows) some none = answered_row answered t rows (omega (arith, some)) (omega (arith, none))
 
--- no letter under way asks for or brings a notice of a subtransaction
+-- no letter in flight asks for or brings a notice of a subtransaction
 record Rests (s : ScriptData) (past : List Entry) (t k : ℕ) : Type 0 where
   asked : letters_asking s past t k ≡ 0
   told : notices s past t k ≡ 0
@@ -206,7 +208,7 @@ quiet_body s from to (Decide t v commit) sound fit quiet = absurd fit
 quiet_body s from to (Decided t v) sound fit quiet = absurd fit
 quiet_body s from to _ sound fit quiet = refl
 
--- where nothing is left, no letter of a tree is under way
+-- where nothing is left, no letter of a tree is in flight
 pub trees_rest : (s : ScriptData) (past : List Entry) → IsSound s → IsStepRun s past → AllTimely s past → left s (client_in s past) ≡ 0
     → under_way of_trees s past ≡ 0
 trees_rest s past sound run timely none =
@@ -215,9 +217,11 @@ trees_rest s past sound run timely none =
     each_of (SubAt s) (λ t k l. (asks t k l.body ≡ 0) × (tells_done t k l.body ≡ 0)) (waiting s past) (λ t k c.
     let rests = rests_at s past t k c sound good none (good.stages t (tree_below s t k c)) in
     each_both (λ (l : Letter). asks t k l.body ≡ 0) (λ (l : Letter). tells_done t k l.body ≡ 0) (waiting s past)
-    (each_zero (λ (l : Letter). asks t k l.body) (waiting s past) rests.asked)
+    (each_waits (λ (l : Letter). asks t k l.body ≡ 0) s past
+    (each_zero (λ (l : Letter). asks t k l.body) (outstanding s past) rests.asked))
     (each_zero (λ (l : Letter). tells_done t k l.body) (waiting s past) rests.told)) in
     each_none (λ (l : Letter). of_trees l.body) (waiting s past)
     (each_map (λ (l : Letter). IsFit s l.from.0 l.to.0 l.body × Quiet s l.body) (λ (l : Letter). of_trees l.body ≡ 0) (waiting s past)
     (λ l both. quiet_body s l.from.0 l.to.0 l.body sound both.0 both.1)
-    (each_both (λ (l : Letter). IsFit s l.from.0 l.to.0 l.body) (λ (l : Letter). Quiet s l.body) (waiting s past) good.letters quiet))
+    (each_both (λ (l : Letter). IsFit s l.from.0 l.to.0 l.body) (λ (l : Letter). Quiet s l.body) (waiting s past)
+    (each_waits (λ (l : Letter). IsFit s l.from.0 l.to.0 l.body) s past good.letters) quiet))

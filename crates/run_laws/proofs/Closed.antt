@@ -18,6 +18,7 @@ use Rattle.world_model.proofs.Every.{coordinator_kept, each_both, each_map}
 use Rattle.world_model.proofs.Lawful.{IsLawful}
 use Rattle.world_model.proofs.Nexts.{Next, Begins, Hears, Ends, Coordinates, DoesRoot, DoesSub, Notes, Obeys}
 use Rattle.world_model.proofs.Scripts.{IsSound, SubAt, get_below}
+use Rattle.world_model.proofs.EachOutstanding.{each_waits}
 use Rattle.tree_laws.specs.Dids.{dids}
 use Rattle.tree_laws.proofs.Counts.{at_most_once}
 use Rattle.tree_laws.proofs.Goods.{good_run}
@@ -50,7 +51,7 @@ read_there : (s : ScriptData) (t : ℕ) (found : Option Tree) → slice_get s.tr
 read_there s t None is read = absurd (cc read)
 read_there s t (Some tree) is read = get_below s.trees t tree is
 
--- What a letter under way says of the phase.
+-- What a letter in flight says of the phase.
 each_counted_by : {X : Type 0} (f : X → ℕ) (n : ℕ) (xs : List X) → tally f xs ≤ n → Each (λ (x : X). f x ≤ n) xs
 each_counted_by f n [] le = tt
 each_counted_by f n (x ∷ xs) le = (omega (arith, le), each_counted_by f n xs (omega (arith, le)))
@@ -59,7 +60,7 @@ each_counted_by f n (x ∷ xs) le = (omega (arith, le), each_counted_by f n xs (
 each_counted : {X : Type 0} (f : X → ℕ) (xs : List X) → Each (λ (x : X). f x ≤ tally f xs) xs
 each_counted f xs = each_counted_by f (tally f xs) xs (omega arith)
 
--- how far trees are whole where such a letter is under way
+-- how far trees are whole where such a letter is in flight
 abbrev Bounds : ScriptData → List Entry → Body → Type 0
 Bounds s past (Show v) = now_below false s past ≡ v.0 + 1
 Bounds s past (Sweep v) = now_below true s past ≡ v.0
@@ -82,7 +83,7 @@ bounds_of s past (Sweep v) laws run timely level shows sweeps =
 bounds_of s past Go laws run timely level shows sweeps = tt
 bounds_of s past _ laws run timely level shows sweeps = tt
 
--- each letter under way
+-- each letter in flight
 all_bounds : (s : ScriptData) (past : List Entry) → IsLawful s → IsStepRun s past → AllTimely s past
     → Each (λ (l : Letter). Bounds s past l.body) (waiting s past)
 all_bounds s past laws run timely =
@@ -91,11 +92,12 @@ all_bounds s past laws run timely =
     let sweeps = each_counted (λ (l : Letter). token SweepStage l.body) (waiting s past) in
     each_map _ (λ (l : Letter). Bounds s past l.body) (waiting s past)
     (λ l all. bounds_of s past l.body laws run timely all.0 all.1.0 all.1.1)
-    (each_both (λ (l : Letter). LevelBody s c.phase c.update l.body) _ (waiting s past) (levels s past laws run timely).letters
+    (each_both (λ (l : Letter). LevelBody s c.phase c.update l.body) _ (waiting s past)
+    (each_waits (λ (l : Letter). LevelBody s c.phase c.update l.body) s past (levels s past laws run timely).letters)
     (each_both (λ (l : Letter). token ShowStage l.body ≤ under_way (token ShowStage) s past)
     (λ (l : Letter). token SweepStage l.body ≤ under_way (token SweepStage) s past) (waiting s past) shows sweeps))
 
--- so the trees behind it are whole
+-- so the trees after it are whole
 backed : (s : ScriptData) (past : List Entry) (b : Body) → IsSound s → IsStepRun s past → AllTimely s past → Bounds s past b
     → IsBackedBy s (reverse past) b
 backed s past (Show v) sound run timely bound = λ t w up born le.

@@ -4,7 +4,7 @@ use Rattle.std.proofs.Math.Seq.{take-add}
 use Rattle.tx_trees.proofs.Rebuilding.{advances_in-append}
 use Rattle.phase_out.specs.Rounds.{NodeRows, all_in}
 use Rattle.letter_types.specs.declared.bodies.Body.{Body}
-use Rattle.letter_types.specs.declared.bodies.Body.TheVariants.{Go, Nudge, Advance, Advanced, Turn, Show, Sweep, Turned, Shown, Swept, AskDone, AskAsked, DoneRow, AskedRow}
+use Rattle.letter_types.specs.declared.bodies.Body.TheVariants.{Go, Nudge, Advance, Advanced, Turn, Show, Sweep, Turned, Shown, Swept, AskDone, AskAsked, DoneRow, AskedRow, Root, Sub as SubLetter}
 use Rattle.letter_types.specs.declared.entries.Entry.{Entry}
 use Rattle.letter_types.specs.declared.entries.Outgoing.{Outgoing}
 use Rattle.letter_types.specs.Steps.{Out}
@@ -27,6 +27,8 @@ use Rattle.world_model.proofs.Lawful.{IsLawful}
 use Rattle.world_model.proofs.Nexts.{Next, Begins, Hears, Ends, Coordinates, DoesRoot, DoesSub, Notes, Obeys, MadeByClient, MadeByCoordinator, Order, Turns as TurnsTo, Shows, Sweeps, TellsDone, TellsAsked, Tells}
 use Rattle.world_model.proofs.Orders.{coordinator_nodes}
 use Rattle.world_model.proofs.Sends.{on}
+use Rattle.world_model.specs.Kept.{done_by}
+use Rattle.world_model.proofs.Worked.{took_none}
 use Rattle.phase_laws.specs.Advances.{asked_for}
 use Rattle.phase_laws.specs.Phases.{under_way}
 use Rattle.phase_laws.proofs.Letters.{NoTrees, note_none, root_none, sub_none}
@@ -68,7 +70,7 @@ is_apart (Advanced v) = 1
 is_apart Go = 0
 is_apart _ = 0
 
--- how many stages of the advancement under way have begun
+-- how many stages of the advancement in progress have begun
 abbrev pub stages : Phase → ℕ
 stages Idle = 0
 stages Turning = 1
@@ -266,7 +268,7 @@ paid_node s past e m paid node goes =
     paid_away s past e m paid (omega (arith, node)) (omega (arith, goes, asked))
 
 cost_trees : NoTrees cost
-cost_trees = record { root = λ t. refl; sub = λ t k v. refl; done = λ t k v notice. refl; reply = λ t v answer. refl }
+cost_trees = record { root = λ t. refl; sub = λ t k v. refl; done = λ t k v notice. refl; reply = λ t v answer. refl; wake = λ t k. refl }
 
 order_pays : (s : ScriptData) (st : Node) (body : Body) (out : Out Node) → Order s st body out → cost body ≡ tally (on cost) out.sent + is_apart body
 order_pays s st body out (TurnsTo v bd is) = omega (arith, ap cost bd, ap is_apart bd, ap (λ (o : Out Node). tally (on cost) o.sent) is)
@@ -310,11 +312,21 @@ paid_next s past e laws run timely paid (Coordinates tells at made) = paid_told 
 paid_next s past e laws run timely paid (DoesRoot t v effect bd sub at lt new work made) =
     let sent : tally (on cost) e.sent ≡ 0 = ap (λ (os : List Outgoing). tally (on cost) os) made.sent
     ∙ root_none cost s (home_of s t.0) t.0 v.0 effect (node_in s past (home_of s t.0)) cost_trees in
-    paid_node s past e run.0 paid (omega (arith, at, lt)) (omega (arith, ap cost bd, ap is_apart bd, sent))
+    paid_node s past e run.0 paid (omega (arith, at, lt)) (omega (
+      arith,
+      took_none cost s past e (Root t) bd refl (λ w j. refl),
+      took_none is_apart s past e (Root t) bd refl (λ w j. refl),
+      sent,
+    ))
 paid_next s past e laws run timely paid (DoesSub t k v raises effect bd sub pos from at lt work made) =
     let sent : tally (on cost) e.sent ≡ 0 = ap (λ (os : List Outgoing). tally (on cost) os) made.sent
-    ∙ sub_none cost s e.took.from.0 t.0 k.0 v.0 raises effect (node_in s past (node_of s t.0 k.0)) cost_trees in
-    paid_node s past e run.0 paid (omega (arith, at, lt)) (omega (arith, ap cost bd, ap is_apart bd, sent))
+    ∙ sub_none cost s (done_by s past e).from.0 t.0 k.0 v.0 raises effect (node_in s past (node_of s t.0 k.0)) cost_trees in
+    paid_node s past e run.0 paid (omega (arith, at, lt)) (omega (
+      arith,
+      took_none cost s past e (SubLetter t k v) bd refl (λ w j. refl),
+      took_none is_apart s past e (SubLetter t k v) bd refl (λ w j. refl),
+      sent,
+    ))
 paid_next s past e laws run timely paid (Notes t k v values bd sub pos from at lt missed made) =
     let sent : tally (on cost) e.sent ≡ 0 = ap (λ (os : List Outgoing). tally (on cost) os) made.sent
     ∙ note_none cost s e.took.from.0 t.0 k.0 v.0 values (node_in s past (home_of s t.0)) cost_trees in
@@ -323,7 +335,7 @@ paid_next s past e laws run timely paid (Obeys p out at lt order made) =
     let sent : tally (on cost) e.sent ≡ tally (on cost) out.sent = ap (λ (os : List Outgoing). tally (on cost) os) made.sent in
     paid_node s past e run.0 paid (omega (arith, at, lt)) (omega (arith, sent, order_pays s (node_in s past p) e.took.body out order))
 
--- the letters of advancements that were taken, and what those under way cost, by what was asked for and begun
+-- the letters of advancements that were taken, and what those in flight cost, by what was asked for and begun
 pub paid : (s : ScriptData) (past : List Entry) (laws : IsLawful s) (run : IsStepRun s past) (timely : AllTimely s past) → Paid s past
 paid s [] laws run timely = omega arith
 paid s (e ∷ past) laws run timely =

@@ -40,8 +40,8 @@ pub record Unnudged (c d : Coordinator) (body : Body) : Type 0 where
   pub calm : d.flag ≡ false → c.flag ≡ false
   pub other : d.flag ≡ false → nudges body ≡ 0
 
--- the coordinator neither counts nor pauses then; a round begins; the round or the pause goes on; the round takes a row of
--- completions, or of requests, which isn't the last; or its rows differ and it pauses
+-- the coordinator neither counts nor pauses then; a round begins; the round or the pause goes on; the round takes a row
+-- of completions, or of requests, which isn't the last; or its rows differ and it pauses
 pub data Course (c : Coordinator) (from : ℕ) (body : Body) (out : Out Coordinator) : Type 0 where
   Leaves : Outside out.state.phase → Course c from body out
   Starts : (reads : Bool) (d : Coordinator) → d.round ≡ c.round → d.nodes ≡ c.nodes → NoDone body

@@ -1,4 +1,4 @@
--- Where no letter is under way, the coordinator is idle and the client has finished.
+-- Where no letter is in flight, the coordinator is idle and the client has finished.
 use Rattle.std.proofs.Common.{◌≡◌, ℕ, ◌+◌, ◌<◌, ◌≤◌, Bool, true, false, not, List, [], ◌∷◌, length, get_or, reverse, take, refl, sym, ap, subst, ◌∙◌, arith}
 use Rattle.std.specs.Prelude.{nat_le}
 use Rattle.std.proofs.lemmas.Bool.{and_from}
@@ -85,7 +85,7 @@ not_telling s past laws run timely g phase empty at fills =
     let nodes : within g c.phase s.nodes ≡ s.nodes = ap (λ (p : Phase). within g p s.nodes) at ∙ fills s.nodes in
     absurd (omega (arith, all, none, acks, nodes, (small s past laws run timely).acks))
 
--- a round that counts has a letter under way
+-- a round that counts has a letter in flight
 not_counting : (s : ScriptData) (past : List Entry) (laws : IsLawful s) (run : IsStepRun s past) (timely : AllTimely s past) (reads : Bool)
     → waiting s past ≡ [] → (coordinator_in s past).phase ≡ Counting reads → ⊥
 not_counting s past laws run timely reads empty at =
@@ -116,7 +116,7 @@ idle_by s past laws run timely empty Sweeping at = absurd (not_telling s past la
 idle_by s past laws run timely empty (Counting reads) at = absurd (not_counting s past laws run timely reads empty at)
 idle_by s past laws run timely empty (Paused reads) at = absurd (not_paused s past laws run timely reads empty at)
 
--- no advancement is under way
+-- no advancement is in progress
 pub idle : (s : ScriptData) (past : List Entry) (laws : IsLawful s) (run : IsStepRun s past) (timely : AllTimely s past) → waiting s past ≡ []
     → running (coordinator_in s past).phase ≡ 0
 idle s past laws run timely empty = idle_by s past laws run timely empty (coordinator_in s past).phase refl

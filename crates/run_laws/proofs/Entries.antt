@@ -19,7 +19,7 @@ use Rattle.world_model.specs.Counts.{one_if, tally}
 use Rattle.world_model.specs.Runs.{client_in, coordinator_in, node_in, waiting, IsStepRun}
 use Rattle.world_model.specs.Timely.{AllTimely}
 use Rattle.world_model.proofs.Bridge.{coordinator_after}
-use Rattle.world_model.proofs.Every.{each_none, each_taken}
+use Rattle.world_model.proofs.Every.{each_none}
 use Rattle.world_model.proofs.Fits.{IsFit}
 use Rattle.world_model.proofs.Flows.{finish_none, flow}
 use Rattle.world_model.proofs.Lawful.{IsLawful}
@@ -27,6 +27,9 @@ use Rattle.world_model.proofs.Nexts.{Next, Begins, Hears, Ends, Coordinates, Doe
 use Rattle.world_model.proofs.Orders.{OfOrders}
 use Rattle.world_model.proofs.Scripts.{IsSound, has_root, sub_below, sub_there}
 use Rattle.world_model.proofs.Sends.{on, replies_none, subs_none}
+use Rattle.world_model.specs.Notices.{values_of}
+use Rattle.world_model.proofs.Worked.{root_did, took_body}
+use Rattle.world_model.proofs.EachOutstanding.{each_took}
 use Rattle.phase_laws.specs.Advances.{asked_for, is_advanced, running}
 use Rattle.phase_laws.proofs.Small.{small}
 use Rattle.tree_laws.specs.Dids.{asks, dids, is_did_act, replies, replies_to, roots_sent}
@@ -97,11 +100,11 @@ weighs s past e (Coordinates tells at made) =
     (tells_weighs e.took.body tells)
 weighs s past e (DoesRoot t v effect is sub at lt new work made) =
     let children = subs_none is_other t.0 v.0 0 0 (subs_at s t.0) (λ u k w. refl) in
-    let answer = replies_none is_other (client_of s) (root_answer s t v effect.values (home_of s t.0) past) (λ u w a. refl) in
-    weighs_by e (Root t) 0 is (omega (arith, root_sends is_other s past e t v effect made, children, answer)) (omega arith)
+    let answer = replies_none is_other (client_of s) (root_answer s t v (values_of effect.notice) (home_of s t.0) past) (λ u w a. refl) in
+    weighs_by e (Root t) 0 (took_body s past e (Root t) is) (omega (arith, root_sends is_other s past e t v effect made, children, answer)) (omega arith)
 weighs s past e (DoesSub t k v raises effect is sub later from at lt work made) =
     let children = subs_none is_other t.0 v.0 k.0 0 (subs_at s t.0) (λ u j w. refl) in
-    weighs_by e (SubLetter t k v) 1 is (omega (arith, sub_sends is_other s past e t k v raises effect made, children)) (omega arith)
+    weighs_by e (SubLetter t k v) 1 (took_body s past e (SubLetter t k v) is) (omega (arith, sub_sends is_other s past e t k v raises effect made, children)) (omega arith)
 weighs s past e (Notes t k v values is sub later from at lt misses made) =
     let answer = replies_none is_other (client_of s) _ (λ u w a. refl) in
     weighs_by e (Done t k v (DidNotice values)) 0 is (ap (λ os. tally (on is_other) os) made.sent ∙ answer) (omega arith)
@@ -109,7 +112,7 @@ weighs s past e (Obeys p out at lt order made) =
     weighs_by e e.took.body (tally (on is_other) out.sent) refl (ap (λ os. tally (on is_other) os) made.sent)
     (order_weighs s (node_in s past p) e.took.body out order)
 
--- the entries and the other letters under way, by what was taken
+-- the entries and the other letters in flight, by what was taken
 pub counted : (s : ScriptData) (past : List Entry) (laws : IsLawful s) (run : IsStepRun s past) (timely : AllTimely s past)
     → length past + tally (λ (l : Letter). is_other l.body) (waiting s past) + taken_in is_root past
     ≡ 1 + 2 * taken_in is_work past + 2 * taken_in is_reply past + taken_in is_apart past
@@ -122,7 +125,7 @@ pub taken_same : (f g : Body → ℕ) (s : ScriptData) (past : List Entry) (laws
     → ((from to : ℕ) (b : Body) → IsFit s from to b → f b ≡ g b) → taken_in f past ≡ taken_in g past
 taken_same f g s [] laws run timely same = refl
 taken_same f g s (e ∷ past) laws run timely same =
-    let fit = each_taken (λ (l : Letter). IsFit s l.from.0 l.to.0 l.body) s past e run.0 (laws.fits past run.1 timely.1) in
+    let fit = each_took (λ (l : Letter). IsFit s l.from.0 l.to.0 l.body) s past e run.0 (laws.fits past run.1 timely.1) in
     omega (arith, same e.took.from.0 e.took.to.0 e.took.body fit, taken_same f g s past laws run.1 timely.1 same)
 
 pub root_by_tree : (s : ScriptData) (from to : ℕ) (b : Body) → IsFit s from to b → is_root b ≡ over 0 (λ t. asks t 0 b) s.trees
@@ -159,9 +162,11 @@ does_asked s past e t k (Coordinates tells at made) =
     let aside = coordinates_aside s past e tells at made in
     omega (arith, aside.took (asks t k) (asks_trees t k), aside.acts (is_did_act t k) (did_none t k))
 does_asked s past e t k (DoesRoot u v effect is sub at lt new work made) =
-    omega (arith, ap (asks t k) is, ap (λ acts. tally (is_did_act t k) acts) made.acts)
+    let took = took_body s past e (Root u) is in
+    omega (arith, ap (asks t k) took, ap (λ acts. tally (is_did_act t k) acts) (root_did s past e u v effect work made))
 does_asked s past e t k (DoesSub u j v raises effect is sub later from at lt work made) =
-    omega (arith, ap (asks t k) is, sub_acts (is_did_act t k) s past e u j v raises effect work made (λ w. refl))
+    let took = took_body s past e (SubLetter u j v) is in
+    omega (arith, ap (asks t k) took, sub_acts (is_did_act t k) s past e u j v raises effect work made (λ w. refl))
 does_asked s past e t k (Notes u j v values is sub later from at lt misses made) =
     omega (arith, ap (asks t k) is, ap (λ acts. tally (is_did_act t k) acts) made.acts)
 does_asked s past e t k (Obeys p out at lt order made) =
@@ -174,7 +179,7 @@ taken_asks s [] t k laws run timely = refl
 taken_asks s (e ∷ past) t k laws run timely =
     omega (arith, does_asked s past e t k (laws.next past e run timely), taken_asks s past t k laws run.1 timely.1)
 
--- Where no letter is under way, each tree is done.
+-- Where no letter is in flight, each tree is done.
 abbrev AllDone : ScriptData → List Entry → Type 0
 AllDone s past = (t : ℕ) → t < length s.trees → TreeDone s past t
 
@@ -217,7 +222,7 @@ works_taken s past laws run timely done =
     ∙ (over_same 0 (λ t. taken_in (asks_in s t) past) (λ t. length (subs_at s t)) s.trees
     (λ t le lt. tree_taken s past t laws run timely done (omega (arith, lt))) ∙ all_subs_here s))
 
--- Where no letter is under way, so many letters of advancements were taken.
+-- Where no letter is in flight, so many letters of advancements were taken.
 idle_pend : (n : ℕ) (phase : Phase) (dones : NodeRows) → running phase ≡ 0 → (unasked n phase dones ≡ 0) × (stages phase ≡ 0)
 idle_pend n Idle dones rests = (refl, refl)
 idle_pend n Turning dones rests = absurd (omega (arith, rests))

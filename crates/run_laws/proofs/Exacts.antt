@@ -39,7 +39,7 @@ ExactBody s past v r from (AskedRow w k row) = w.0 ≡ v → k ≡ r → from < 
 ExactBody s past v r from Go = Unit {0}
 ExactBody s past v r from _ = Unit {0}
 
--- every row of the round, kept or under way, has the present numbers of its node
+-- every row of the round, kept or in flight, has the present numbers of its node
 pub record Exact (s : ScriptData) (past : List Entry) (r : RoundData) : Type 0 where
   pub letters : Each (λ (l : Letter). ExactBody s past r.version.0 r.number l.from.0 l.body) (waiting s past)
   pub dones : (q : ℕ) (row : List ℕ) → q < s.nodes → slice_get r.dones q ≡ Some (Some row)
@@ -53,7 +53,7 @@ Counts s past c = (reads : Bool) → c.phase ≡ Counting reads → c.flag ≡ f
 abbrev pub Pausing : ScriptData → List Entry → Coordinator → Type 0
 Pausing s past c = (reads : Bool) → c.phase ≡ Paused reads → 1 ≤ busy s past
 
--- 1. Counters that stand still.
+-- 1. Counters that don't change.
 abbrev pub Frozen : ScriptData → List Entry → Entry → Type 0
 Frozen s past e = (p : ℕ) → p < s.nodes → (node_in s (e ∷ past) p).counts ≡ (node_in s past p).counts
 

@@ -1,4 +1,4 @@
--- While a round counts, of each node the question, the answer under way or the row that is kept is there.
+-- While a round counts, of each node the question, the answer in flight or the row that is kept is there.
 use Rattle.std.proofs.Common.{if◌then◌else◌, ◌≡◌, ◌≢◌, ◌⊎◌, inl, inr, ℕ, zero, suc, ◌+◌, ◌<◌, ◌≤◌, ◌==◌, ◌&&◌, not, Bool, true, false, List, [], ◌∷◌, length, replicate, set, refl, sym, ap, subst, ◌∙◌, arith, Option, Some, None}
 use Rattle.std.specs.Prelude.{nat_lt}
 use Rattle.std.proofs.lemmas.Bool.Decides.{nat_tests}
@@ -8,7 +8,7 @@ use Rattle.tv_base.specs.declared.numbers.Version.{Version}
 use Rattle.phase_out.specs.Rounds.{NodeRows, RoundData, all_in, is_of}
 use Rattle.pair_counters.specs.Numbers.{numbers_of}
 use Rattle.letter_types.specs.declared.bodies.Body.{Body}
-use Rattle.letter_types.specs.declared.bodies.Body.TheVariants.{Go, AskDone, AskAsked, DoneRow, AskedRow}
+use Rattle.letter_types.specs.declared.bodies.Body.TheVariants.{Go, AskDone, AskAsked, DoneRow, AskedRow, Root, Sub as SubLetter}
 use Rattle.letter_types.specs.declared.entries.Entry.{Entry}
 use Rattle.letter_types.specs.declared.entries.Letter.{Letter}
 use Rattle.letter_types.specs.declared.entries.Outgoing.{Outgoing}
@@ -25,6 +25,7 @@ use Rattle.world_model.proofs.Every.{coordinator_kept}
 use Rattle.world_model.proofs.Lawful.{IsLawful}
 use Rattle.world_model.proofs.Nexts.{Next, Begins, Hears, Ends, Coordinates, DoesRoot, DoesSub, Notes, Obeys, Order, Turns, Shows, Sweeps, TellsDone, TellsAsked, MadeByCoordinator}
 use Rattle.world_model.proofs.Orders.{coordinator_nodes}
+use Rattle.world_model.proofs.Worked.{took_none}
 use Rattle.phase_laws.proofs.Current.{IsCurrent, current}
 use Rattle.phase_laws.proofs.Outcomes.{asked_kept, round_begun}
 use Rattle.phase_laws.proofs.Small.{outcome_in}
@@ -40,7 +41,7 @@ wave two v r q n from to (AskedRow w k row) = one_if (two && ((w.0 == v) && ((k 
 wave two v r q n from to Go = 0
 wave two v r q n from to _ = 0
 
--- how many of them are under way
+-- how many of them are in flight
 abbrev pub waves : ScriptData → List Entry → Bool → ℕ → ℕ → ℕ → ℕ
 waves s past two v r q = tally (λ (l : Letter). wave two v r q s.nodes l.from.0 l.to.0 l.body) (waiting s past)
 
@@ -58,8 +59,8 @@ is_kept [] q = 0
 is_kept (k ∷ ks) zero = held k
 is_kept (k ∷ ks) (suc q) = is_kept ks q
 
--- of each node the first wave's question or answer is under way, or its row is kept; the same of the second wave once all
--- rows of the first are kept; and a row of the second is missing
+-- of each node the first wave's question or answer is in flight, or its row is kept; the same of the second wave once
+-- all rows of the first are kept; and a row of the second is missing
 pub record Waved (s : ScriptData) (past : List Entry) (r : RoundData) : Type 0 where
   pub first : (q : ℕ) → q < s.nodes → 1 ≤ waves s past false r.version.0 r.number q + is_kept r.dones q
   pub second : all_in r.dones ≡ true → (q : ℕ) → q < s.nodes → 1 ≤ waves s past true r.version.0 r.number q + is_kept r.askeds q
@@ -143,9 +144,9 @@ waves_stay s past e two v r q m away (Ends w bd at made) =
     omega (arith, wave_flow s past e two v r q m, ap (λ (b : Body). wave two v r q s.nodes e.took.from.0 e.actor.0 b) bd)
 waves_stay s past e two v r q m away (Coordinates tells at made) = absurd (away at)
 waves_stay s past e two v r q m away (DoesRoot t w effect bd sub at lt new work made) =
-    omega (arith, wave_flow s past e two v r q m, ap (λ (b : Body). wave two v r q s.nodes e.took.from.0 e.actor.0 b) bd)
+    omega (arith, wave_flow s past e two v r q m, took_none (λ (b : Body). wave two v r q s.nodes e.took.from.0 e.actor.0 b) s past e (Root t) bd refl (λ x j. refl))
 waves_stay s past e two v r q m away (DoesSub t k w raises effect bd sub pos from at lt work made) =
-    omega (arith, wave_flow s past e two v r q m, ap (λ (b : Body). wave two v r q s.nodes e.took.from.0 e.actor.0 b) bd)
+    omega (arith, wave_flow s past e two v r q m, took_none (λ (b : Body). wave two v r q s.nodes e.took.from.0 e.actor.0 b) s past e (SubLetter t k w) bd refl (λ x j. refl))
 waves_stay s past e two v r q m away (Notes t k w values bd sub pos from at lt missed made) =
     omega (arith, wave_flow s past e two v r q m, ap (λ (b : Body). wave two v r q s.nodes e.took.from.0 e.actor.0 b) bd)
 waves_stay s past e two v r q m away (Obeys p out at lt order made) =

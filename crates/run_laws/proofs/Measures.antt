@@ -37,6 +37,6 @@ of_trees (Decided t v) = 1
 of_trees Go = 0
 of_trees _ = 0
 
--- the nudges under way, and the trees that are submitted and not answered
+-- the nudges in flight, and the trees that are submitted and not answered
 abbrev pub busy : ScriptData → List Entry → ℕ
 busy s past = under_way nudges s past + left s (client_in s past)

@@ -23,6 +23,7 @@ use Rattle.world_model.proofs.Flows.{same_part}
 use Rattle.world_model.proofs.Lawful.{IsLawful}
 use Rattle.world_model.proofs.Nexts.{Next, Begins, Hears, Ends, Coordinates, DoesRoot, DoesSub, Notes, Obeys, MadeByCoordinator}
 use Rattle.world_model.proofs.Orders.{coordinator_nodes}
+use Rattle.world_model.proofs.Worked.{took_body}
 use Rattle.phase_laws.specs.Phases.{most_low, under_way}
 use Rattle.phase_laws.proofs.Current.{current}
 use Rattle.phase_laws.proofs.Levels.{versions_in_phase}
@@ -48,7 +49,7 @@ at_least_one : (n : ℕ) → (n ≡ 0 → ⊥) → 1 ≤ n
 at_least_one zero none = absurd (none refl)
 at_least_one (suc n) none = omega arith
 
--- where nothing was busy before, no letter of a tree was under way
+-- where nothing was busy before, no letter of a tree was in flight
 none_of_trees : (s : ScriptData) (past : List Entry) (laws : IsLawful s) (run : IsStepRun s past) (timely : AllTimely s past) → busy s past ≡ 0
     → under_way of_trees s past ≡ 0
 none_of_trees s past laws run timely none = trees_rest s past laws.sound run timely (omega (arith, none))
@@ -228,7 +229,7 @@ bound_out s past e out laws run timely was frozen made (Denies reads v k row tak
     (bound_denies s past e reads v k row laws run.1 timely.1 run.0 (busy_step s past e laws run timely) was takes verdict clear)
 
 -- Other actors.
--- the counters stand still, and what is sent is exact
+-- the counters don't change, and what is sent is exact
 record Stands (s : ScriptData) (past : List Entry) (e : Entry) : Type 0 where
   frozen : Frozen s past e
   sent : (v r : ℕ) → SentExact s (e ∷ past) v r e.actor.0 e.sent
@@ -256,9 +257,9 @@ stands s past e reads laws run timely m none at away (Ends w bd here made) = rec
 }
 stands s past e reads laws run timely m none at away (Coordinates tells here made) = absurd (away here)
 stands s past e reads laws run timely m none at away (DoesRoot t w effect bd sub here lt new work made) =
-    absurd (no_tree s past e (Root t) m none bd refl)
+    absurd (no_tree s past e (Root t) m none (took_body s past e (Root t) bd) refl)
 stands s past e reads laws run timely m none at away (DoesSub t k w raises effect bd sub pos from here lt work made) =
-    absurd (no_tree s past e (SubLetter t k w) m none bd refl)
+    absurd (no_tree s past e (SubLetter t k w) m none (took_body s past e (SubLetter t k w) bd) refl)
 stands s past e reads laws run timely m none at away (Notes t k w values bd sub pos from here lt missed made) =
     absurd (no_tree s past e _ m none bd refl)
 stands s past e reads laws run timely m none at away (Obeys p out here lt order made) =

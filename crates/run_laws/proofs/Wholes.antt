@@ -20,16 +20,19 @@ use Rattle.tx_trees.specs.ScriptData.{ScriptData, home_of, reads, updates}
 use Rattle.board_rules.specs.Histories.{Place, born_as, places_at, places_of, version_in}
 use Rattle.board_rules.proofs.Places.{version_in-append}
 use Rattle.world_model.specs.Counts.{Each, one_if, tally}
-use Rattle.world_model.specs.Runs.{client_in, node_in, waiting}
+use Rattle.world_model.specs.Runs.{client_in, node_in}
 use Rattle.world_model.proofs.Fits.{IsFit}
 use Rattle.world_model.proofs.Nexts.{Next, Begins, Hears, Ends, Coordinates, DoesRoot, DoesSub, Notes, Obeys, Order, Turns, Shows, Sweeps, TellsDone, TellsAsked, RootWork, RootUpdates, RootReads}
 use Rattle.world_model.proofs.Scripts.{IsSound, SubAt, node_below, sub_there}
+use Rattle.world_model.specs.Notices.{values_of}
+use Rattle.world_model.proofs.Worked.{root_did, sub_did}
 use Rattle.tree_laws.specs.Dids.{asks, letters_asking, births, dids}
 use Rattle.tree_laws.proofs.Finishes.{done_below}
 use Rattle.tree_laws.proofs.Good.{IsGood}
 use Rattle.tree_laws.proofs.Whole.{births_in}
 use Rattle.phase_laws.specs.Balance.{goes_between, out, version_is}
 use Rattle.phase_laws.specs.Quiet.{IsSilent}
+use Rattle.world_model.specs.Kept.{outstanding}
 use Rattle.tree_laws.proofs.Versions.{AreVersioned, HasVersion, not_both, placed, unborn}
 
 -- Trees of one kind: read trees, or update trees.
@@ -52,7 +55,7 @@ AreWhole kind s past r =
     (t : ℕ) (w : Version) → is_of_kind kind s t ≡ true → born_with past t ≡ Some w → w.0 < r
     → (k : ℕ) → SubAt s t k → 1 ≤ dids past t k
 
--- Where nothing counted of a version is under way.
+-- Where nothing counted of a version is in flight.
 
 counted_here : (v : ℕ) (l : Letter) → version_is v l.body ≡ true → goes_between v l.from.0 l.to.0 l ≡ 1
 counted_here v l is = rw is (grind (arith, nat_tests))
@@ -100,12 +103,12 @@ born_once s past t zero v born is =
     absurd (cc clash)
 born_once s past t (suc n) v born is = omega arith
 
--- a tree of a version of which nothing is under way is done whole
+-- a tree of a version of which nothing is in flight is done whole
 pub whole_when_silent : (s : ScriptData) (past : List Entry) (t : ℕ) (v : Version) → IsSound s → IsGood s past → AreVersioned s past
     → IsSilent s past v.0 → born_with past t ≡ Some v → (k : ℕ) → SubAt s t k → 1 ≤ dids past t k
 whole_when_silent s past t v sound good are silent born k c =
     let quiet : (j : ℕ) → 0 < j → letters_asking s past t j ≡ 0 = λ j more.
-    asks_none s (places_of (reverse past)) t j v (waiting s past) sound more born are.letters good.letters silent in
+    asks_none s (places_of (reverse past)) t j v (outstanding s past) sound more born are.letters good.letters silent in
     done_below s past (k + 1) t k c sound good quiet (omega (arith, good.born t, born_once s past t (births past t) v born refl)) (omega arith)
 
 -- Births.
@@ -194,10 +197,10 @@ born_by s past e t w (Coordinates tells at made) some =
     none_some s past e t w (version_in t (places_at e)) (of_acts t e [] made.acts) some
 born_by s past e t w (DoesRoot u v effect is c at lt new work made) some =
     root_born s past e t w u v effect c at lt work (u.0 == t) refl
-    (sym (of_acts t e (Born u v ∷ Did u (record { 0 = 0 }) effect.values ∷ []) made.acts) ∙ some)
+    (sym (of_acts t e (Born u v ∷ Did u (record { 0 = 0 }) (values_of effect.notice) ∷ []) (root_did s past e u v effect work made)) ∙ some)
 born_by s past e t w (DoesSub u k v raises effect is c later from at lt work made) some =
     none_some s past e t w (version_in t (places_at e))
-    (of_acts t e (turned_if raises v.0 ++ Did u k effect.values ∷ []) made.acts ∙ deed_unborn t e.actor.0 v.0 raises (Did u k effect.values) refl) some
+    (of_acts t e (turned_if raises v.0 ++ Did u k (values_of effect.notice) ∷ []) (sub_did s past e u k v raises effect work made) ∙ deed_unborn t e.actor.0 v.0 raises (Did u k (values_of effect.notice)) refl) some
 born_by s past e t w (Notes u k v values is c later from at lt misses made) some =
     none_some s past e t w (version_in t (places_at e)) (of_acts t e [] made.acts) some
 born_by s past e t w (Obeys p out at lt order made) some =

@@ -1,4 +1,4 @@
--- What stands behind a version that is shown, or that is swept to.
+-- What holds of a version that is shown, or that is swept to.
 use Rattle.std.specs.Prelude.{◌≡◌, ℕ, ◌<◌, ◌≤◌, true, List, Some}
 use Rattle.tv_base.specs.declared.numbers.Version.{Version}
 use Rattle.letter_types.specs.declared.bodies.Body.{Body}
@@ -15,7 +15,7 @@ UpdatesAreWhole s h v = (t : ℕ) (w : Version) → updates s t ≡ true → ver
 abbrev pub ReadsAreWhole : ScriptData → List Entry → ℕ → Type 0
 ReadsAreWhole s h v = (t : ℕ) (w : Version) → reads s t ≡ true → version_of h t ≡ Some w → w.0 < v → IsWhole s h t
 
--- where Show(v) is under way, the update trees of version at most v are whole; where Sweep(v) is, the read trees of
+-- where Show(v) is in flight, the update trees of version at most v are whole; where Sweep(v) is, the read trees of
 -- versions below v are
 abbrev pub IsBackedBy : ScriptData → List Entry → Body → Type 0
 IsBackedBy s h (Show v) = UpdatesAreWhole s h v.0
@@ -33,8 +33,8 @@ abbrev pub NoReadCame : ScriptData → List Entry → List Entry → ℕ → Typ
 NoReadCame s h later v =
     (t : ℕ) (w : Version) → reads s t ≡ true → version_of later t ≡ Some w → w.0 < v → version_of h t ≡ Some w
 
--- where Show(v) was under way, no update tree has come to a version at most v later; where Sweep(v) was, no read tree to
--- one below v
+-- where Show(v) was in flight, no update tree has come to a version at most v later; where Sweep(v) was, no read tree
+-- to one below v
 abbrev pub IsClosedBy : ScriptData → List Entry → List Entry → Body → Type 0
 IsClosedBy s h later (Show v) = NoUpdateCame s h later v.0
 IsClosedBy s h later (Sweep v) = NoReadCame s h later v.0

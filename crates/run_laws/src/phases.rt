@@ -18,15 +18,15 @@ pub fn every_letter_comes_in_time()
     ensures { (s : ScriptData) (past : List Entry) → IsValid s → IsRunnable s → IsStepRun s past → AllTimely s past }
 {}
 
-/// In every run each letter that a node took was apt there, in the node's state at that moment: what it names belongs to
-/// that node and has its form, a root is new, its version is one that the node can go by, and its operations may be
+/// In every run each letter that a node took was apt there, in the node's state at that moment: what it names belongs
+/// to that node and has its form, a root is new, its version is one that the node can go by, and its operations may be
 /// made. So no node ever passes a letter over.
 pub fn every_letter_taken_is_apt()
     ensures { (s : ScriptData) (past : List Entry) → IsValid s → IsRunnable s → IsStepRun s past
         → TakesWhatIsApt s (reverse past) }
 {}
 
-/// In the phase of each stage its orders and answers under way and the acknowledgements are as many as nodes, and at
+/// In the phase of each stage its orders and answers in flight and the acknowledgements are as many as nodes, and at
 /// other times there are none.
 pub fn phases_have_their_letters()
     ensures { (s : ScriptData) (past : List Entry) → IsValid s → IsRunnable s → IsStepRun s past
@@ -40,8 +40,8 @@ pub fn versions_keep_to_the_phase()
         → VersionsKeepToThePhase s past }
 {}
 
-/// Each advancement that was asked for is in a letter, waits, is under way or has ended, and of each that has ended the
-/// client hears once.
+/// Each advancement that was asked for is in a letter, waits, is in progress or has ended, and of each that has ended
+/// the client hears once.
 pub fn advances_are_kept()
     ensures { (s : ScriptData) (past : List Entry) → IsValid s → IsRunnable s → IsStepRun s past
         → AdvancesAreKept s past }
@@ -53,7 +53,7 @@ pub fn rounds_are_few()
 {}
 
 /// For every version that two nodes still count, the requests of the one to the other are the other's completions from
-/// it and the counted letters under way between them; and in a version that one has left, none is under way.
+/// it and the counted letters in flight between them; and in a version that one has left, none is in flight.
 pub fn requests_are_completions_and_letters()
     ensures { (s : ScriptData) (past : List Entry) → IsValid s → IsRunnable s → IsStepRun s past → IsBalanced s past }
 {}

@@ -9,14 +9,14 @@ ghost use Rattle.tx_trees.specs.Valid.{IsValid};
 ghost use Rattle.world_model.specs.Runs.{client_in, waiting, IsStepRun};
 ghost use Rattle.world_model.specs.Tables.{IsRunnable};
 
-/// No run stalls: where no letter is under way any more, every tree is answered, every advancement has ended, and the
+/// No run stalls: where no letter is in flight any more, every tree is answered, every advancement has ended, and the
 /// client has finished.
 pub fn no_run_stalls()
     ensures { (s : ScriptData) (past : List Entry) → IsValid s → IsRunnable s → IsStepRun s past → waiting s past ≡ []
         → ((client_in s past).finished ≡ true) × HasFinished (reverse past) }
 {}
 
-/// A run in which no letter is under way any more has as many entries as its trees, advancements and rounds take.
+/// A run in which no letter is in flight any more has as many entries as its trees, advancements and rounds take.
 pub fn entries_are_counted()
     ensures { (s : ScriptData) (past : List Entry) → IsValid s → IsRunnable s → IsStepRun s past → waiting s past ≡ []
         → length past ≡ entries_of s (rounds_in s (reverse past)) }

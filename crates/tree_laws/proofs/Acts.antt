@@ -13,7 +13,7 @@ use Rattle.world_model.proofs.Bags.{tally-append}
 use Rattle.world_model.proofs.Bridge.{reverse_more}
 use Rattle.tree_laws.specs.Ends.{is_finish}
 
--- a number of an act, wherever it stands
+-- a number of an act, wherever it is
 abbrev pub of_act : (Act → ℕ) → Place → ℕ
 of_act f x = f x.act
 

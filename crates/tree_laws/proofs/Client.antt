@@ -7,7 +7,7 @@ use Rattle.std.proofs.lemmas.Bool.{and_from, and_parts}
 use Rattle.letter_types.specs.declared.acts.Act.{Act}
 use Rattle.letter_types.specs.declared.acts.Act.TheVariants.{Finished}
 use Rattle.letter_types.specs.declared.bodies.Body.{Body}
-use Rattle.letter_types.specs.declared.bodies.Body.TheVariants.{Go}
+use Rattle.letter_types.specs.declared.bodies.Body.TheVariants.{Go, Root, Sub as SubLetter}
 use Rattle.letter_types.specs.Steps.{Out}
 use Rattle.world_model.specs.Done.{turned_if}
 use Rattle.world_model.specs.Node.{Node}
@@ -28,6 +28,7 @@ use Rattle.world_model.proofs.Flows.{flow, client_kept}
 use Rattle.world_model.proofs.Nexts.{Next, Begins, Hears, Ends, Coordinates, DoesRoot, DoesSub, Notes, Obeys, MadeByClient, Order, Turns, Shows, Sweeps, TellsDone, TellsAsked, Tells}
 use Rattle.world_model.specs.Timely.{AllTimely}
 use Rattle.world_model.proofs.Scripts.{IsSound, get_below}
+use Rattle.world_model.proofs.Worked.{root_did, took_none}
 
 -- How far the client submits.
 
@@ -284,9 +285,10 @@ next_rest s past e m rest (Obeys p out at lt order made) =
     kept_rest s past e m rest (omega (arith, at, lt)) (orders_no_go s (node_in s past p) e.took.body out order)
     (ap (λ (xs : List Act). tally is_finish xs) made.acts ∙ obeys_no_finish s (node_in s past p) e.took.body out order)
 next_rest s past e m rest (DoesRoot t v effect is sub at lt new work made) =
-    kept_rest s past e m rest (omega (arith, at, lt)) (ap is_go is) (ap (λ (xs : List Act). tally is_finish xs) made.acts)
+    kept_rest s past e m rest (omega (arith, at, lt)) (took_none is_go s past e (Root t) is refl (λ w j. refl))
+    (ap (λ (xs : List Act). tally is_finish xs) (root_did s past e t v effect work made))
 next_rest s past e m rest (DoesSub t k v raises effect is sub later from at lt work made) =
-    kept_rest s past e m rest (omega (arith, at, lt)) (ap is_go is)
+    kept_rest s past e m rest (omega (arith, at, lt)) (took_none is_go s past e (SubLetter t k v) is refl (λ w j. refl))
     (sub_acts is_finish s past e t k v raises effect work made (λ w. refl))
 next_rest s past e m rest (Notes t k v values is sub later from at lt misses made) =
     kept_rest s past e m rest (omega (arith, at, lt)) (ap is_go is) (ap (λ (xs : List Act). tally is_finish xs) made.acts)

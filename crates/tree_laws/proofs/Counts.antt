@@ -10,11 +10,12 @@ use Rattle.tx_trees.specs.ScriptData.{ScriptData, ops_of}
 use Rattle.tx_trees.specs.Valid.{ops_load, trees_load}
 use Rattle.tx_trees.specs.declared.parts.ItemRow.{ItemRow}
 use Rattle.world_model.specs.Counts.{one_if}
-use Rattle.world_model.specs.Runs.{client_in, waiting, MayFollow}
-use Rattle.world_model.proofs.Bags.{tally-drop}
+use Rattle.world_model.specs.Runs.{client_in, MayFollow}
+use Rattle.world_model.proofs.EachOutstanding.{done_outstanding}
 use Rattle.tree_laws.specs.Dids.{asks, letters_asking, dids, is_row_of}
 use Rattle.tree_laws.proofs.Loads.{trees_done, trees_most, trees_more}
 use Rattle.world_model.proofs.Scripts.{IsSound, SubAt, tree_below, is_sub, get_some, get_below, ops_here}
+use Rattle.world_model.specs.Kept.{done_by}
 use Rattle.tree_laws.proofs.Sent.{other_sub, other_tree, rooted_once, tally_take_le}
 use Rattle.tree_laws.proofs.Good.{IsGood, bound}
 use Rattle.tree_laws.proofs.Tables.{bounds_after}
@@ -62,10 +63,10 @@ pub at_most_once : (s : ScriptData) (past : List Entry) (t k : ℕ) → SubAt s 
 at_most_once s past t k c sound good =
     omega (arith, below_root s past t k c sound good, root_most s past t sound good (tree_below s t k c))
 
--- What is asked for by a letter that is taken was not done.
-pub was_asked : (s : ScriptData) (past : List Entry) (e : Entry) (t k : ℕ) → MayFollow s past e → asks t k e.took.body ≡ 1
+-- What is asked for by a letter that an entry does was not done before.
+pub was_asked : (s : ScriptData) (past : List Entry) (e : Entry) (t k : ℕ) → MayFollow s past e → asks t k (done_by s past e).body ≡ 1
     → 1 ≤ letters_asking s past t k
-was_asked s past e t k m one = omega (arith, one, tally-drop (λ (l : Letter). asks t k l.body) e.took.id (waiting s past) e.took m.waits)
+was_asked s past e t k m one = omega (arith, one, done_outstanding s past e m (λ (l : Letter). asks t k l.body))
 
 not_done_by : (s : ScriptData) (past : List Entry) (t k : ℕ) (c : SubAt s t k) → IsSound s → IsGood s past → 1 ≤ letters_asking s past t k
     → (k ≡ 0) ⊎ (0 < k) → dids past t k ≡ 0

@@ -1,4 +1,4 @@
--- Where no letter is under way any more, every tree is done and answered, and the client has finished.
+-- Where no letter is in flight any more, every tree is done and answered, and the client has finished.
 use Rattle.std.proofs.Common.{◌≡◌, ◌⊎◌, inl, inr, ℕ, zero, suc, ◌+◌, ◌<◌, ◌≤◌, ◌==◌, Bool, true, false, List, [], ◌∷◌, length, take, reverse, refl, sym, ap, subst, ◌∙◌, arith, Option, Some, None}
 use Rattle.std.specs.Prelude.{get_or, slice_get, nat_le}
 use Rattle.std.proofs.lemmas.Bool.Decides.{nat_tests}
@@ -29,12 +29,17 @@ use Rattle.tree_laws.proofs.Sent.{rooted_once, tally_take_le}
 use Rattle.tree_laws.proofs.Good.{IsGood, TreeAt, Unborn, Gathers, Answered, is_noted}
 use Rattle.world_model.specs.Timely.{AllTimely}
 use Rattle.world_model.proofs.Scripts.{IsSound, SubAt, sub_there, is_sub}
+use Rattle.world_model.proofs.NothingKept.{outstanding_is}
+use Rattle.world_model.specs.Kept.{outstanding}
 
--- What is done where no letter is under way.
+-- What is done where no letter is in flight.
 
--- nothing is counted among the letters under way
+-- nothing is counted among the letters in flight
 pub none_left : (f : Letter → ℕ) (s : ScriptData) (past : List Entry) → waiting s past ≡ [] → tally f (waiting s past) ≡ 0
 none_left f s past empty = ap (λ (ls : List Letter). tally f ls) empty
+
+pub none_asked : (f : Letter → ℕ) (s : ScriptData) (past : List Entry) → waiting s past ≡ [] → tally f (outstanding s past) ≡ 0
+none_asked f s past empty = ap (λ (ls : List Letter). tally f ls) (outstanding_is s past) ∙ none_left f s past empty
 
 -- one more subtransaction of a tree whose root was done
 done_by : (s : ScriptData) (past : List Entry) (n t k : ℕ) (c : SubAt s t k) → IsSound s → IsGood s past
@@ -71,7 +76,7 @@ tree_done_by s past t sound good empty lt root (Gathers h one here same missing 
     let (k, kt, at) = place_missing h.notices missing in
     let c : SubAt s t k = sub_there s t k lt (omega (arith, kt, same)) in
     let unnoted : is_noted (slice_get h.notices k) ≡ 0 = ap is_noted at in
-    let done = done_below s past (k + 1) t k c sound good (λ j more. none_left (λ (l : Letter). asks t j l.body) s past empty) root (omega arith) in
+    let done = done_below s past (k + 1) t k c sound good (λ j more. none_asked (λ (l : Letter). asks t j l.body) s past empty) root (omega arith) in
     absurd (omega (arith, noted k c, unnoted, done, none_left (λ (l : Letter). tells_done t k l.body) s past empty))
 tree_done_by s past t sound good empty lt root (Answered gone one untold done) = record { answered = one; done = done }
 
@@ -79,7 +84,7 @@ tree_done_by s past t sound good empty lt root (Answered gone one untold done) =
 pub tree_done : (s : ScriptData) (past : List Entry) (t : ℕ) → IsSound s → IsGood s past → waiting s past ≡ [] → t < length s.trees
     → 1 ≤ roots_sent t (take (client_in s past).next s.rows) → TreeDone s past t
 tree_done s past t sound good empty lt row =
-    let root : 1 ≤ dids past t 0 = omega (arith, row, good.roots t lt, none_left (λ (l : Letter). asks t 0 l.body) s past empty) in
+    let root : 1 ≤ dids past t 0 = omega (arith, row, good.roots t lt, none_asked (λ (l : Letter). asks t 0 l.body) s past empty) in
     tree_done_by s past t sound good empty lt root (good.stages t lt)
 
 -- The rows.
@@ -119,7 +124,7 @@ all_answered_of answered (AdvanceRow ∷ rows) each = all_answered_of answered r
 all_answered_of answered (SettleRow ∷ rows) each = all_answered_of answered rows (λ u some. each u (omega (arith, some)))
 all_answered_of answered (LoseRow ∷ rows) each = all_answered_of answered rows (λ u some. each u (omega (arith, some)))
 
--- Where no letter is under way.
+-- Where no letter is in flight.
 -- a tree whose row is submitted is answered at the client
 pub answered_now : (s : ScriptData) (past : List Entry) (t : ℕ) → IsSound s → IsGood s past → waiting s past ≡ []
     → 1 ≤ roots_sent t (take (client_in s past).next s.rows) → get_or (client_in s past).answered t false ≡ true

@@ -1,4 +1,4 @@
--- What an entry makes of the letters under way.
+-- What an entry makes of the letters in flight.
 use Rattle.std.proofs.Common.{◌≡◌, ℕ, ◌<◌, ◌≤◌, ◌==◌, ◌&&◌, Bool, true, false, List, ◌∷◌, length, refl, subst, arith}
 use Rattle.std.proofs.lemmas.Bool.Decides.{nat_tests}
 use Rattle.letter_types.specs.declared.bodies.Body.{Body}
@@ -7,16 +7,18 @@ use Rattle.letter_types.specs.declared.entries.Entry.{Entry}
 use Rattle.letter_types.specs.declared.entries.Letter.{Letter}
 use Rattle.tx_trees.specs.ScriptData.{ScriptData, subs_at}
 use Rattle.world_model.specs.Counts.{one_if, Each}
-use Rattle.world_model.specs.Runs.{waiting}
-use Rattle.world_model.proofs.Every.{each_map, each_none, each_step}
+use Rattle.world_model.specs.Kept.{outstanding}
+use Rattle.world_model.specs.Runs.{waiting, MayFollow}
+use Rattle.world_model.proofs.EachOutstanding.{each_outstanding}
+use Rattle.world_model.proofs.Every.{each_map, each_none}
 use Rattle.world_model.proofs.Fits.{IsFit, IsSentFit}
 use Rattle.tree_laws.specs.Dids.{tells_done, notices}
 use Rattle.tree_laws.proofs.Good.{IsGood}
 
--- every letter under way is meant for its addressee
-pub letters_next : (s : ScriptData) (past : List Entry) (e : Entry) → IsGood s past → IsSentFit s e.actor.0 e.sent
-    → Each (λ (l : Letter). IsFit s l.from.0 l.to.0 l.body) (waiting s (e ∷ past))
-letters_next s past e good sent = each_step (λ (l : Letter). IsFit s l.from.0 l.to.0 l.body) s past e good.letters sent
+-- every letter that has still to be done is meant for its addressee
+pub letters_next : (s : ScriptData) (past : List Entry) (e : Entry) → IsGood s past → MayFollow s past e → IsSentFit s e.actor.0 e.sent
+    → Each (λ (l : Letter). IsFit s l.from.0 l.to.0 l.body) (outstanding s (e ∷ past))
+letters_next s past e good m sent = each_outstanding (λ (l : Letter). IsFit s l.from.0 l.to.0 l.body) s past e m good.letters sent
 
 -- No notice is of a subtransaction past its tree's end.
 past_at : (s : ScriptData) (t i u k : ℕ) → k < length (subs_at s u) → length (subs_at s t) ≤ i → (a b : Bool) → (u == t) ≡ a → (k == i) ≡ b
@@ -34,7 +36,7 @@ past_end s t i from to (Done u k v notice) le fit = past_at s t i u.0 k.0 fit.1 
 past_end s t i from to Go le fit = refl
 past_end s t i from to _ le fit = refl
 
--- no notice under way is of a subtransaction past its tree's end
+-- no notice in flight is of a subtransaction past its tree's end
 pub no_notice : (s : ScriptData) (past : List Entry) (t i : ℕ) → Each (λ (l : Letter). IsFit s l.from.0 l.to.0 l.body) (waiting s past)
     → length (subs_at s t) ≤ i → notices s past t i ≡ 0
 no_notice s past t i letters le =

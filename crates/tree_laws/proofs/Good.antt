@@ -8,7 +8,8 @@ use Rattle.tree_home.specs.declared.homes.OpenTree.{OpenTree}
 use Rattle.tx_trees.specs.ScriptData.{ScriptData, subs_at, home_of}
 use Rattle.tx_trees.specs.Valid.{initial_load}
 use Rattle.world_model.specs.Counts.{one_if, Each}
-use Rattle.world_model.specs.Runs.{client_in, node_in, waiting}
+use Rattle.world_model.specs.Kept.{outstanding}
+use Rattle.world_model.specs.Runs.{client_in, node_in}
 use Rattle.tree_laws.specs.Dids.{letters_asking, dids, births, notices, replies, answers, roots_sent}
 use Rattle.world_model.proofs.Fits.{IsFit}
 use Rattle.tree_laws.proofs.Loads.{trees_done}
@@ -36,11 +37,11 @@ pub data TreeAt (s : ScriptData) (past : List Entry) (t : ℕ) : Type 0 where
 abbrev pub bound : ScriptData → List Entry → ℕ → ℕ
 bound s past x = initial_load (slice_get s.items x) + trees_done (dids past) x 0 s.trees
 
--- letters are meant for their addressees; a root is asked for or done where its row is submitted; each child of what was
--- done is asked for or done; a birth is the root's; each tree is at one of its stages; an answer is under way or heard;
--- the items of each node keep to their bounds
+-- letters are meant for their addressees; a root is asked for or done where its row is submitted; each child of what
+-- was done is asked for or done; a birth is the root's; each tree is at one of its stages; an answer is in flight or
+-- heard; the items of each node keep to their bounds
 pub record IsGood (s : ScriptData) (past : List Entry) : Type 0 where
-  pub letters : Each (λ (l : Letter). IsFit s l.from.0 l.to.0 l.body) (waiting s past)
+  pub letters : Each (λ (l : Letter). IsFit s l.from.0 l.to.0 l.body) (outstanding s past)
   pub roots : (t : ℕ) → t < length s.trees → roots_sent t (take (client_in s past).next s.rows) ≡ letters_asking s past t 0 + dids past t 0
   pub subs : (t k : ℕ) (c : SubAt s t k) → 0 < k → dids past t c.sub.parent.0 ≡ letters_asking s past t k + dids past t k
   pub born : (t : ℕ) → births past t ≡ dids past t 0

@@ -15,6 +15,11 @@ use Rattle.tree_laws.proofs.NoteStep.{note_good}
 use Rattle.tree_laws.proofs.OrderStep.{aside_good, coordinates_aside, obeys_aside}
 use Rattle.tree_laws.proofs.RootStep.{root_good}
 use Rattle.world_model.proofs.Scripts.{IsSound}
+use Rattle.world_model.proofs.EachOutstanding.{each_first}
+use Rattle.world_model.proofs.Outstanding.{outstanding_first}
+use Rattle.world_model.proofs.Fits.{IsFit}
+use Rattle.tree_laws.specs.Dids.{asks}
+use Rattle.letter_types.specs.declared.entries.Letter.{Letter}
 use Rattle.tree_laws.proofs.SubStep.{sub_good}
 use Rattle.tree_laws.proofs.Tables.{start_table}
 
@@ -28,9 +33,9 @@ none_heard (suc n) (suc t) = none_heard n t
 
 start_good : (s : ScriptData) → IsGood s []
 start_good s = record {
-  letters = (refl, tt);
-  roots = λ t lt. refl;
-  subs = λ t k c lt. refl;
+  letters = each_first (λ (l : Letter). IsFit s l.from.0 l.to.0 l.body) s (refl, tt);
+  roots = λ t lt. omega (arith, outstanding_first (λ (l : Letter). asks t 0 l.body) s);
+  subs = λ t k c lt. omega (arith, outstanding_first (λ (l : Letter). asks t k l.body) s);
   born = λ t. refl;
   stages = λ t lt. Unborn refl refl refl (λ k. refl);
   heard = λ t lt. omega (arith, none_heard (length s.trees) t);

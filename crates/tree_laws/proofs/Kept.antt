@@ -4,6 +4,7 @@ use Rattle.std.specs.Prelude.{get_or, slice_get}
 use Rattle.std.proofs.lemmas.Bool.{cases_eq}
 use Rattle.std.proofs.lemmas.Bool.Decides.{nat_tests}
 use Rattle.letter_types.specs.declared.entries.Entry.{Entry}
+use Rattle.letter_types.specs.declared.entries.Letter.{Letter}
 use Rattle.letter_types.specs.declared.entries.LetterId.{LetterId}
 use Rattle.letter_types.specs.declared.entries.Outgoing.{Outgoing}
 use Rattle.item_versions.specs.Table.{Table}
@@ -11,12 +12,14 @@ use Rattle.tx_trees.specs.ScriptData.{ScriptData, subs_at, node_of}
 use Rattle.world_model.specs.Client.{Client}
 use Rattle.world_model.specs.Children.{sub_letters}
 use Rattle.world_model.specs.Counts.{tally, one_if}
+use Rattle.world_model.specs.Kept.{of_done}
 use Rattle.world_model.specs.Runs.{client_in, node_in, MayFollow}
 use Rattle.world_model.proofs.Every.{each_append, node_kept}
 use Rattle.tree_laws.specs.Dids.{asks, letters_asking, is_did_act, is_born, dids, births, replies_to, replies, answers, roots_sent}
 use Rattle.tree_laws.proofs.Counts.{bounds_with, with_one, load_more}
 use Rattle.world_model.proofs.Fits.{IsFit, IsSentFit, children_fit}
-use Rattle.world_model.proofs.Flows.{flow}
+use Rattle.world_model.proofs.Flows.{flow, outstanding_flow}
+use Rattle.world_model.proofs.NothingKept.{of_done_is}
 use Rattle.tree_laws.proofs.Good.{IsGood, bound}
 use Rattle.tree_laws.proofs.Loads.{trees_same}
 use Rattle.world_model.proofs.Scripts.{IsSound, SubAt, is_sub, subs_here, node_below, tree_below}
@@ -24,12 +27,20 @@ use Rattle.world_model.proofs.Sends.{on}
 use Rattle.tree_laws.proofs.Sent.{children, children_apart, no_root, other_tree}
 use Rattle.tree_laws.proofs.Tables.{TableIn, table_more}
 
+-- whether the letter that an entry does asks for subtransaction i of tree u
+abbrev pub done_asks : ScriptData → List Entry → Entry → ℕ → ℕ → ℕ
+done_asks s past e u i = of_done (λ (l : Letter). asks u i l.body) s past e
+
+-- nothing is kept yet, so that is the letter that it took
+pub took_asks : (s : ScriptData) (past : List Entry) (e : Entry) (u i : ℕ) → done_asks s past e u i ≡ asks u i e.took.body
+took_asks s past e u i = of_done_is (λ (l : Letter). asks u i l.body) s past e
+
 -- no subtransaction is done and no child asked for; roots are asked for as rows are submitted; the items keep to the
 -- bounds that they kept to
 pub record Idle (s : ScriptData) (past : List Entry) (e : Entry) : Type 0 where
   pub did : (u i : ℕ) → tally (is_did_act u i) e.acts ≡ 0
   pub born : (u : ℕ) → tally (is_born u) e.acts ≡ 0
-  pub took : (u i : ℕ) → asks u i e.took.body ≡ 0
+  pub took : (u i : ℕ) → done_asks s past e u i ≡ 0
   pub sends : (u i : ℕ) → 0 < i → tally (on (asks u i)) e.sent ≡ 0
   pub rows : (u : ℕ) → roots_sent u (take (client_in s (e ∷ past)).next s.rows) ≡ roots_sent u (take (client_in s past).next s.rows) + tally (on (asks u 0)) e.sent
   pub items : (p : ℕ) → p < s.nodes → (most : ℕ → ℕ) → TableIn s.items p most (node_in s past p).items
@@ -44,12 +55,12 @@ stay_in s past e p same most ok = subst (λ (t : Table). TableIn s.items p most 
 pub idle_roots : (s : ScriptData) (past : List Entry) (e : Entry) → IsGood s past → MayFollow s past e → Idle s past e → (t : ℕ)
     → t < length s.trees → roots_sent t (take (client_in s (e ∷ past)).next s.rows) ≡ letters_asking s (e ∷ past) t 0 + dids (e ∷ past) t 0
 idle_roots s past e good m idle t lt =
-    omega (arith, good.roots t lt, flow (asks t 0) s past e m, idle.took t 0, idle.did t 0, idle.rows t)
+    omega (arith, good.roots t lt, outstanding_flow (asks t 0) s past e (λ w j. refl) m, idle.took t 0, idle.did t 0, idle.rows t)
 
 pub idle_subs : (s : ScriptData) (past : List Entry) (e : Entry) → IsGood s past → MayFollow s past e → Idle s past e → (t k : ℕ)
     (c : SubAt s t k) → 0 < k → dids (e ∷ past) t c.sub.parent.0 ≡ letters_asking s (e ∷ past) t k + dids (e ∷ past) t k
 idle_subs s past e good m idle t k c lt =
-    omega (arith, good.subs t k c lt, flow (asks t k) s past e m, idle.took t k, idle.sends t k lt, idle.did t k, idle.did t c.sub.parent.0)
+    omega (arith, good.subs t k c lt, outstanding_flow (asks t k) s past e (λ w j. refl) m, idle.took t k, idle.sends t k lt, idle.did t k, idle.did t c.sub.parent.0)
 
 pub idle_born : (s : ScriptData) (past : List Entry) (e : Entry) → IsGood s past → Idle s past e → (t : ℕ)
     → births (e ∷ past) t ≡ dids (e ∷ past) t 0
@@ -80,7 +91,7 @@ pub record Does (s : ScriptData) (past : List Entry) (e : Entry) (t k : ℕ) : T
   pub version : ℕ
   pub did : (u i : ℕ) → tally (is_did_act u i) e.acts ≡ one_if ((t == u) && (k == i))
   pub born : (u : ℕ) → tally (is_born u) e.acts ≡ one_if ((t == u) && (k == 0))
-  pub took : (u i : ℕ) → asks u i e.took.body ≡ one_if ((t == u) && (k == i))
+  pub took : (u i : ℕ) → done_asks s past e u i ≡ one_if ((t == u) && (k == i))
   pub sends : (u i : ℕ) → tally (on (asks u i)) e.sent ≡ tally (on (asks u i)) (sub_letters t version k 0 (subs_at s t))
   pub client : client_in s (e ∷ past) ≡ client_in s past
   pub items : TableIn s.items (node_of s t k) (bounds_with s past t k) (node_in s (e ∷ past) (node_of s t k)).items
@@ -100,7 +111,7 @@ pub does_roots : (s : ScriptData) (past : List Entry) (e : Entry) (t k : ℕ) �
     → u < length s.trees → roots_sent u (take (client_in s (e ∷ past)).next s.rows) ≡ letters_asking s (e ∷ past) u 0 + dids (e ∷ past) u 0
 does_roots s past e t k good m does u lt =
     let rows = ap (λ c. roots_sent u (take c.next s.rows)) does.client in
-    omega (arith, rows, good.roots u lt, flow (asks u 0) s past e m, does.took u 0, does.did u 0, does.sends u 0, no_root u t does.version k (subs_at s t))
+    omega (arith, rows, good.roots u lt, outstanding_flow (asks u 0) s past e (λ w j. refl) m, does.took u 0, does.did u 0, does.sends u 0, no_root u t does.version k (subs_at s t))
 
 pub does_subs : (s : ScriptData) (past : List Entry) (e : Entry) (t k : ℕ) → IsSound s → IsGood s past → MayFollow s past e → Does s past e t k
     → (u i : ℕ) (c : SubAt s u i) → 0 < i → dids (e ∷ past) u c.sub.parent.0 ≡ letters_asking s (e ∷ past) u i + dids (e ∷ past) u i
@@ -109,7 +120,7 @@ does_subs s past e t k sound good m does u i c lt =
     omega (
       arith,
       good.subs u i c lt,
-      flow (asks u i) s past e m,
+      outstanding_flow (asks u i) s past e (λ w j. refl) m,
       does.took u i,
       does.did u i,
       does.did u c.sub.parent.0,

@@ -1,5 +1,5 @@
 -- What an entry does where all that holds in a past holds.
-use Rattle.std.proofs.Common.{◌≡◌, ◌⊎◌, inl, inr, ℕ, ◌<◌, ◌≤◌, true, false, List, [], ◌∷◌, refl, ap, subst, ◌∙◌, arith}
+use Rattle.std.proofs.Common.{Bool, ◌≡◌, ◌⊎◌, inl, inr, ℕ, ◌<◌, ◌≤◌, true, false, List, [], ◌∷◌, refl, ap, subst, ◌∙◌, arith, sym}
 use Rattle.std.specs.Prelude.{nat_lt}
 use Rattle.tv_base.specs.declared.numbers.SubNo.{SubNo}
 use Rattle.tv_base.specs.declared.numbers.TreeNo.{TreeNo}
@@ -30,12 +30,17 @@ use Rattle.tree_laws.proofs.Stages.{no_home, misses_notice}
 use Rattle.world_model.proofs.Apts.{update_root_row, read_root_row, update_sub_row, read_sub_row, notice_row}
 use Rattle.tree_laws.proofs.Steps.{made, made_by_client, made_by_coordinator, hear_row, timely_at, turns_by, shows_by, sweeps_by, tells_done_by, tells_asked_by}
 use Rattle.world_model.specs.Timely.{WasTimely}
+use Rattle.world_model.proofs.EachOutstanding.{each_waits}
+use Rattle.world_model.proofs.NothingKept.{done_is}
+use Rattle.world_model.specs.Kept.{done_by}
+use Rattle.world_model.proofs.Worked.{does_body}
+use Rattle.world_model.specs.Node.{Effect, Node}
 use Rattle.tree_laws.proofs.Works.{update_can, read_can}
 
 -- the letter taken asks for subtransaction k of tree t
 taken_asks : (s : ScriptData) (past : List Entry) (e : Entry) (t k : ℕ) (b : Body) → SubAt s t k → IsSound s → IsGood s past → MayFollow s past e
     → e.took.body ≡ b → asks t k b ≡ 1 → dids past t k ≡ 0
-taken_asks s past e t k b c sound good m is one = not_done s past t k c sound good (was_asked s past e t k m (ap (asks t k) is ∙ one))
+taken_asks s past e t k b c sound good m is one = not_done s past t k c sound good (was_asked s past e t k m (ap (asks t k) (does_body s past e b is).body ∙ one))
 
 -- A root.
 root_next : (s : ScriptData) (past : List Entry) (e : Entry) (t : TreeNo) → SubAt s t.0 0 → IsSound s → IsGood s past → MayFollow s past e
@@ -47,7 +52,7 @@ root_next s past e t c sound good m is at (inl up) =
     let new = no_home s past t.0 none (good.stages t.0 (tree_below s t.0 0 c)) in
     let can = update_can s past t.0 0 st.turns.update c sound good none up in
     let effect = touching st.turns.update (ops_of s t.0 0) st.items in
-    DoesRoot t st.turns.update effect is c at lt new (RootUpdates up refl can refl)
+    DoesRoot t st.turns.update effect (does_body s past e (Root t) is) c at lt new (RootUpdates up refl can refl)
     (made s past e (home_of s t.0) (root_done s (home_of s t.0) t.0 st.turns.update.0 effect st) lt at m
     (update_root_row s st e.took t is (update_kind_at s t.0 0 c up) new can))
 root_next s past e t c sound good m is at (inr up) =
@@ -57,11 +62,21 @@ root_next s past e t c sound good m is at (inr up) =
     let new = no_home s past t.0 none (good.stages t.0 (tree_below s t.0 0 c)) in
     let can = read_can s past t.0 0 st.turns.read c sound good up in
     let effect = getting st.turns.read (ops_of s t.0 0) st.items in
-    DoesRoot t st.turns.read effect is c at lt new (RootReads up refl can refl)
+    DoesRoot t st.turns.read effect (does_body s past e (Root t) is) c at lt new (RootReads up refl can refl)
     (made s past e (home_of s t.0) (root_done s (home_of s t.0) t.0 st.turns.read.0 effect st) lt at m
     (read_root_row s st e.took t is (read_kind_at s t.0 0 c up) new can))
 
 -- Another subtransaction.
+
+-- nothing is kept yet, so the letter that is done came from whom that came which was taken
+done_from : (s : ScriptData) (past : List Entry) (e : Entry) → e.took.from.0 < s.nodes → (done_by s past e).from.0 < s.nodes
+done_from s past e from = subst (λ (l : Letter). l.from.0 < s.nodes) (sym (done_is s past e)) from
+
+sub_from : (s : ScriptData) (past : List Entry) (e : Entry) (t : TreeNo) (k : SubNo) (v : Version) (raises : Bool) (effect : Effect) (st : Node)
+    → sub_done s e.took.from.0 t.0 k.0 v.0 raises effect st ≡ sub_done s (done_by s past e).from.0 t.0 k.0 v.0 raises effect st
+sub_from s past e t k v raises effect st =
+    ap (λ (l : Letter). sub_done s l.from.0 t.0 k.0 v.0 raises effect st) (sym (done_is s past e))
+
 sub_next : (s : ScriptData) (past : List Entry) (e : Entry) (t : TreeNo) (k : SubNo) (v : Version) → SubAt s t.0 k.0 → 0 < k.0 → IsSound s
     → IsGood s past → MayFollow s past e → e.took.body ≡ SubLetter t k v → e.actor.0 ≡ node_of s t.0 k.0 → e.took.from.0 < s.nodes → is_near (node_in s past (node_of s t.0 k.0)) v ≡ true
     → (updates s t.0 ≡ true) ⊎ (reads s t.0 ≡ true) → Next s past e
@@ -72,17 +87,21 @@ sub_next s past e t k v c later sound good m is at from near (inl up) =
     let can = update_can s past t.0 k.0 v c sound good none up in
     let raises = nat_lt st.turns.update.0 v.0 in
     let effect = touching v (ops_of s t.0 k.0) st.items in
-    DoesSub t k v raises effect is c later from at lt (SubUpdates up refl can refl)
-    (made s past e (node_of s t.0 k.0) (sub_done s e.took.from.0 t.0 k.0 v.0 raises effect st) lt at m
-    (update_sub_row s st e.took t k v is (update_kind_at s t.0 k.0 c up) from near can))
+    DoesSub t k v raises effect (does_body s past e (SubLetter t k v) is) c later (done_from s past e from) at lt
+    (SubUpdates up refl can refl)
+    (made s past e (node_of s t.0 k.0) (sub_done s (done_by s past e).from.0 t.0 k.0 v.0 raises effect st) lt at m
+    (update_sub_row s st e.took t k v is (update_kind_at s t.0 k.0 c up) from near can
+    ∙ sub_from s past e t k v raises effect st))
 sub_next s past e t k v c later sound good m is at from near (inr up) =
     let st = node_in s past (node_of s t.0 k.0) in
     let lt = node_below s t.0 k.0 c sound in
     let can = read_can s past t.0 k.0 v c sound good up in
     let effect = getting v (ops_of s t.0 k.0) st.items in
-    DoesSub t k v false effect is c later from at lt (SubReads up refl can refl)
-    (made s past e (node_of s t.0 k.0) (sub_done s e.took.from.0 t.0 k.0 v.0 false effect st) lt at m
-    (read_sub_row s st e.took t k v is (read_kind_at s t.0 k.0 c up) from near can))
+    DoesSub t k v false effect (does_body s past e (SubLetter t k v) is) c later (done_from s past e from) at lt
+    (SubReads up refl can refl)
+    (made s past e (node_of s t.0 k.0) (sub_done s (done_by s past e).from.0 t.0 k.0 v.0 false effect st) lt at m
+    (read_sub_row s st e.took t k v is (read_kind_at s t.0 k.0 c up) from near can
+    ∙ sub_from s past e t k v false effect st))
 
 -- A notice.
 was_told : (s : ScriptData) (past : List Entry) (e : Entry) (t k : ℕ) → MayFollow s past e → tells_done t k e.took.body ≡ 1 → 1 ≤ notices s past t k
@@ -157,5 +176,5 @@ next_by s past e sound good m was _ is fit = absurd fit
 -- an entry that may follow, with a letter in time, is one of these
 pub next : (s : ScriptData) (past : List Entry) (e : Entry) → IsSound s → IsGood s past → MayFollow s past e → WasTimely s past e → Next s past e
 next s past e sound good m was =
-    let fit = each_taken (λ (l : Letter). IsFit s l.from.0 l.to.0 l.body) s past e m good.letters in
+    let fit = each_taken (λ (l : Letter). IsFit s l.from.0 l.to.0 l.body) s past e m (each_waits (λ (l : Letter). IsFit s l.from.0 l.to.0 l.body) s past good.letters) in
     next_by s past e sound good m was e.took.body refl (subst (λ (n : ℕ). IsFit s e.took.from.0 n e.took.body) m.addressee fit)

@@ -19,15 +19,17 @@ use Rattle.world_model.specs.Runs.{client_in, node_in, MayFollow}
 use Rattle.tree_laws.specs.Dids.{asks, is_did_act, is_born, tells_done, replies_to, roots_sent}
 use Rattle.tree_laws.proofs.Answering.{answer_fits, replies_apart}
 use Rattle.tree_laws.proofs.Counts.{at_most_once}
-use Rattle.world_model.proofs.Fits.{IsSentFit}
+use Rattle.world_model.proofs.Fits.{IsSentFit, IsFit}
 use Rattle.world_model.proofs.Flows.{same_part, client_kept}
 use Rattle.tree_laws.proofs.Flows.{letters_next, no_notice}
 use Rattle.tree_laws.proofs.Good.{IsGood, TreeAt}
-use Rattle.tree_laws.proofs.Kept.{Idle, idle_roots, idle_subs, idle_born, idle_items, heard_same, same_heard, stay_in}
+use Rattle.tree_laws.proofs.Kept.{Idle, idle_roots, idle_subs, idle_born, idle_items, heard_same, same_heard, stay_in, took_asks}
 use Rattle.world_model.proofs.Nexts.{Made}
 use Rattle.tree_laws.proofs.Noting.{noted_keeps_others}
 use Rattle.world_model.proofs.Scripts.{IsSound, SubAt, tree_below}
 use Rattle.world_model.proofs.Sends.{on, replies_none}
+use Rattle.world_model.proofs.EachOutstanding.{each_waits}
+use Rattle.letter_types.specs.declared.entries.Letter.{Letter}
 use Rattle.tree_laws.proofs.Sent.{other_tree}
 use Rattle.tree_laws.proofs.Staging.{Apart, stays, Notes, notes_stage}
 
@@ -58,7 +60,7 @@ note_idle s past e t k v values same is at made =
     record {
       did = λ u i. ap (λ xs. tally (is_did_act u i) xs) made.acts;
       born = λ u. ap (λ xs. tally (is_born u) xs) made.acts;
-      took = λ u i. rw is refl;
+      took = λ u i. took_asks s past e u i ∙ ap (asks u i) is;
       sends = λ u i lt. none u i;
       rows = λ u. rows_same s past e same u (none u 0);
       items = λ p lt. stay_in s past e p (same_part (λ (st : Node). st.items) s past e (home_of s t.0)
@@ -92,16 +94,18 @@ note_fits s past e t k v values lt miss made =
     subst (λ os. IsSentFit s e.actor.0 os) (sym made.sent) (answer_fits s e.actor.0 t k values (node_in s past (home_of s t.0)).homes lt miss)
 
 note_notes : (s : ScriptData) (past : List Entry) (e : Entry) (t : TreeNo) (k : SubNo) (v : Version) (values : Gets)
-    → t.0 < length s.trees → IsGood s past → Idle s past e → e.took.body ≡ Done t k v (DidNotice values)
+    → t.0 < length s.trees → IsGood s past → MayFollow s past e → Idle s past e → e.took.body ≡ Done t k v (DidNotice values)
     → misses t k (node_in s past (home_of s t.0)).homes ≡ true → NoteMade s past e t k v values
     → Notes s past e t k values (node_in s past (home_of s t.0)).homes
-note_notes s past e t k v values lt good idle is miss made = record {
+note_notes s past e t k v values lt good m idle is miss made = record {
   did = λ i. idle.did t.0 i;
   home = ap (λ (st : Node). home_in t st.homes) made.state;
   answers = note_sends (replies_to t.0) s past e t k v values made;
   told = λ i. rw is refl;
   notes = note_tells s past e t k v values made t.0;
-  past_end = λ i le. no_notice s (e ∷ past) t.0 i (letters_next s past e good (note_fits s past e t k v values lt miss made)) le;
+  past_end = λ i le.
+      no_notice s (e ∷ past) t.0 i (each_waits (λ (l : Letter). IsFit s l.from.0 l.to.0 l.body) s (e ∷ past)
+      (letters_next s past e good m (note_fits s past e t k v values lt miss made))) le;
 }
 
 note_stage : (s : ScriptData) (past : List Entry) (e : Entry) (t : TreeNo) (k : SubNo) (v : Version) (values : Gets) → SubAt s t.0 k.0
@@ -112,7 +116,7 @@ note_stage s past e t k v values c sound good m idle is at below miss made u lt 
     let here = tree_below s t.0 k.0 c in
     subst (λ (w : ℕ). TreeAt s (e ∷ past) w) same
     (notes_stage s past e t k values c (λ i d. at_most_once s past t.0 i d sound good) m
-    (note_notes s past e t k v values here good idle is miss made) miss (good.stages t.0 here))
+    (note_notes s past e t k v values here good m idle is miss made) miss (good.stages t.0 here))
 note_stage s past e t k v values c sound good m idle is at below miss made u lt (inr ne) =
     stays s past e u m (note_apart s past e t k v values idle is at miss made u ne) (good.stages u lt)
 
@@ -125,7 +129,7 @@ note_good s past e t k v values sound good m is c at below miss made =
     let idle = note_idle s past e t k v values same is at made in
     let p = home_of s t.0 in
     record {
-      letters = letters_next s past e good (note_fits s past e t k v values (tree_below s t.0 k.0 c) miss made);
+      letters = letters_next s past e good m (note_fits s past e t k v values (tree_below s t.0 k.0 c) miss made);
       roots = idle_roots s past e good m idle;
       subs = idle_subs s past e good m idle;
       born = idle_born s past e good idle;

@@ -22,6 +22,7 @@ use Rattle.world_model.proofs.Nexts.{Next, Begins, Hears, Ends, Coordinates, Doe
 use Rattle.world_model.proofs.Orders.{OfOrders}
 use Rattle.world_model.proofs.Scripts.{IsSound}
 use Rattle.world_model.proofs.Sends.{on, roots_none, subs_none, replies_none}
+use Rattle.world_model.specs.Notices.{values_of}
 use Rattle.tree_laws.specs.Dids.{replies, replies_to, answers}
 use Rattle.tree_laws.proofs.ClientStep.{answered_places, answers_most}
 use Rattle.tree_laws.proofs.Doing.{root_answer, root_sends, sub_sends}
@@ -44,7 +45,7 @@ unheard_less [] t lt is = absurd (omega arith)
 unheard_less (b ∷ bs) zero lt is = rw is (omega arith)
 unheard_less (b ∷ bs) (suc t) lt is = omega (arith, unheard_less bs t (omega arith) is)
 
--- nudges under way, nudges taken and trees whose answer the client hasn't heard
+-- nudges in flight, nudges taken and trees whose answer the client hasn't heard
 abbrev Evened : ScriptData → List Entry → Type 0
 Evened s past =
     tally (λ (l : Letter). is_nudge l.body) (waiting s past) + nudged past + unheard (client_in s past).answered ≡ length s.trees
@@ -67,12 +68,12 @@ submit_even s past e c m even same made =
     ap (λ os. tally (on is_nudge) os) made.sent ∙ submit_none is_nudge s c [] refl (λ t. refl) refl in
     omega (arith, even, left, none, flow is_nudge s past e m)
 
--- an answer that is under way was not heard
+-- an answer that is in flight was not heard
 not_heard : (answers replies : ℕ) (b : Bool) → answers ≤ 1 → 1 ≤ replies → answers ≡ replies + one_if b → b ≡ false
 not_heard a r true most some is = absurd (omega arith)
 not_heard a r false most some is = refl
 
--- behind a nudge the client sends no other
+-- after a nudge the client sends no other
 nudge_sent : (s : ScriptData) (c : Client) → tally (on is_nudge) (submit s c (nudge s ∷ [])).sent ≡ 1
 nudge_sent s c =
     let rows = take (submitted c (take c.next s.rows) (drop c.next s.rows)) (drop c.next s.rows) in
@@ -128,7 +129,7 @@ next_even s past e good m even (DoesRoot t v effect is c at lt new work made) =
       arith,
       root_sends is_nudge s past e t v effect made,
       subs_none is_nudge t.0 v.0 0 0 (subs_at s t.0) (λ u k w. refl),
-      replies_none is_nudge (client_of s) (root_answer s t v effect.values (home_of s t.0) past) (λ u w a. refl),
+      replies_none is_nudge (client_of s) (root_answer s t v (values_of effect.notice) (home_of s t.0) past) (λ u w a. refl),
     ))
 next_even s past e good m even (DoesSub t k v raises effect is c later from at lt work made) =
     kept_even s past e m even (client_kept s past e (omega (arith, at, lt)))

@@ -8,13 +8,14 @@ use Rattle.tv_base.specs.declared.numbers.SubNo.{SubNo}
 use Rattle.tv_base.specs.declared.numbers.TreeNo.{TreeNo}
 use Rattle.tv_base.specs.declared.numbers.Version.{Version}
 use Rattle.letter_types.specs.declared.acts.Act.{Act}
-use Rattle.letter_types.specs.declared.acts.Act.TheVariants.{Did}
+use Rattle.letter_types.specs.declared.acts.Act.TheVariants.{Born}
 use Rattle.letter_types.specs.declared.bodies.Body.{Body}
 use Rattle.letter_types.specs.declared.entries.Entry.{Entry}
 use Rattle.letter_types.specs.Steps.{Out}
 use Rattle.node_versions.specs.declared.turns.Turns.{Turns}
 use Rattle.node_versions.specs.Turns.{raised}
-use Rattle.tree_home.specs.Homes.{Gets}
+use Rattle.letter_types.specs.declared.bodies.Notice.{Notice}
+use Rattle.letter_types.specs.declared.bodies.Notice.TheVariants.{Did as DidNotice, Yes, No}
 use Rattle.world_model.specs.Done.{note_done, raised_if, root_done, sub_done, turned_if}
 use Rattle.world_model.specs.Node.{Node}
 use Rattle.tx_trees.specs.ScriptData.{ScriptData, home_of, node_of}
@@ -25,6 +26,8 @@ use Rattle.world_model.specs.Timely.{AllTimely}
 use Rattle.world_model.proofs.Every.{node_kept}
 use Rattle.world_model.proofs.Nexts.{Made, Next, Begins, Hears, Ends, Coordinates, DoesRoot, DoesSub, Notes, Obeys, Order, Turns as TurnsTo, Shows, Sweeps, TellsDone, TellsAsked}
 use Rattle.world_model.proofs.Scripts.{IsSound}
+use Rattle.world_model.specs.Notices.{act_of}
+use Rattle.world_model.specs.Kept.{done_by}
 use Rattle.tree_laws.proofs.Goods.{next_of}
 use Rattle.tree_laws.proofs.Histories.{places_more}
 use Rattle.tree_laws.proofs.Versions.{placed}
@@ -112,10 +115,20 @@ kept s past e p ne are =
     })
 
 -- What the rows of a node do to its versions.
-sub_leads : (raises : Bool) (v : ℕ) (t : TreeNo) (k : SubNo) (values : Gets) (was : Turns)
-    → Lead (turned_if raises v ++ Did t k values ∷ []) was (raised_if raises v was)
-sub_leads true v t k values was = record { update = refl; read = refl; low = refl }
-sub_leads false v t k values was = record { update = refl; read = refl; low = refl }
+root_leads : (t : TreeNo) (v : Version) (notice : Notice) (was : Turns)
+    → Lead (Born t v ∷ act_of t (record { 0 = 0 }) notice ∷ []) was was
+root_leads t v (DidNotice values) was = record { update = refl; read = refl; low = refl }
+root_leads t v (Yes values) was = record { update = refl; read = refl; low = refl }
+root_leads t v (No cause) was = record { update = refl; read = refl; low = refl }
+
+sub_leads : (raises : Bool) (v : ℕ) (t : TreeNo) (k : SubNo) (notice : Notice) (was : Turns)
+    → Lead (turned_if raises v ++ act_of t k notice ∷ []) was (raised_if raises v was)
+sub_leads true v t k (DidNotice values) was = record { update = refl; read = refl; low = refl }
+sub_leads true v t k (Yes values) was = record { update = refl; read = refl; low = refl }
+sub_leads true v t k (No cause) was = record { update = refl; read = refl; low = refl }
+sub_leads false v t k (DidNotice values) was = record { update = refl; read = refl; low = refl }
+sub_leads false v t k (Yes values) was = record { update = refl; read = refl; low = refl }
+sub_leads false v t k (No cause) was = record { update = refl; read = refl; low = refl }
 
 turn_leads : (v : Version) (was : Turns) (test : Bool) → nat_lt was.update.0 v.0 ≡ test → Lead (turned_if (nat_lt was.update.0 v.0) v.0) was (raised v was)
 turn_leads v was true is = rw is (record { update = refl; read = refl; low = refl })
@@ -155,11 +168,11 @@ numbers_next s past e are (Coordinates tells at made) = λ p lt. kept s past e p
 numbers_next s past e are (DoesRoot t v effect is c at there new work made) = λ p lt.
     let h = home_of s t.0 in
     at_node s past e h p (root_done s h t.0 v.0 effect (node_in s past h)) at made
-    (record { update = refl; read = refl; low = refl }) there lt are (cases_eq h p)
+    (root_leads t v effect.notice (node_in s past h).turns) there lt are (cases_eq h p)
 numbers_next s past e are (DoesSub t k v raises effect is c later from at there work made) = λ p lt.
     let h = node_of s t.0 k.0 in
-    at_node s past e h p (sub_done s e.took.from.0 t.0 k.0 v.0 raises effect (node_in s past h)) at made
-    (sub_leads raises v.0 t k effect.values (node_in s past h).turns) there lt are (cases_eq h p)
+    at_node s past e h p (sub_done s (done_by s past e).from.0 t.0 k.0 v.0 raises effect (node_in s past h)) at made
+    (sub_leads raises v.0 t k effect.notice (node_in s past h).turns) there lt are (cases_eq h p)
 numbers_next s past e are (Notes t k v values is c later from at there misses made) = λ p lt.
     let h = home_of s t.0 in
     at_node s past e h p (note_done s e.took.from.0 t.0 k.0 v.0 values (node_in s past h)) at made

@@ -18,7 +18,6 @@ use Rattle.tx_trees.specs.ScriptData.{ScriptData, home_of}
 use Rattle.tree_home.specs.Homes.{home_in, OpenTrees}
 use Rattle.world_model.specs.Done.{turned_if}
 use Rattle.world_model.specs.Node.{Node}
-use Rattle.world_model.specs.Advancing.{done_row, asked_row}
 use Rattle.world_model.specs.Counts.{tally, Each}
 use Rattle.world_model.specs.Runs.{client_in, coordinator_in, node_in, MayFollow}
 use Rattle.world_model.proofs.Every.{each_map, each_none, node_kept}
@@ -31,7 +30,7 @@ use Rattle.world_model.proofs.Sends.{on}
 use Rattle.tree_laws.specs.Dids.{asks, is_did_act, is_born, tells_done, replies_to}
 use Rattle.tree_laws.proofs.Flows.{letters_next}
 use Rattle.tree_laws.proofs.Good.{IsGood}
-use Rattle.tree_laws.proofs.Kept.{Idle, idle_roots, idle_subs, idle_born, idle_items, heard_same, same_heard, stay_in}
+use Rattle.tree_laws.proofs.Kept.{Idle, idle_roots, idle_subs, idle_born, idle_items, heard_same, same_heard, stay_in, took_asks}
 use Rattle.tree_laws.proofs.NoteStep.{rows_same}
 use Rattle.tree_laws.proofs.Staging.{Apart, stays}
 use Rattle.tree_laws.proofs.Tables.{TableIn, collected_table}
@@ -124,7 +123,7 @@ aside_idle : (s : ScriptData) (past : List Entry) (e : Entry) → Aside s past e
 aside_idle s past e a = record {
   did = λ u i. a.acts (is_did_act u i) (record { turned = λ v. refl; showed = λ v. refl; swept = λ v. refl });
   born = λ u. a.acts (is_born u) (record { turned = λ v. refl; showed = λ v. refl; swept = λ v. refl });
-  took = λ u i. a.took (asks u i) (asks_trees u i);
+  took = λ u i. took_asks s past e u i ∙ a.took (asks u i) (asks_trees u i);
   sends = λ u i lt. a.sent (asks u i) (asks_trees u i);
   rows = λ u. rows_same s past e a.client u (a.sent (asks u 0) (asks_trees u 0));
   items = a.items;
@@ -147,7 +146,7 @@ pub aside_good : (s : ScriptData) (past : List Entry) (e : Entry) → IsSound s 
 aside_good s past e sound good m a =
     let idle = aside_idle s past e a in
     record {
-      letters = letters_next s past e good a.fits;
+      letters = letters_next s past e good m a.fits;
       roots = idle_roots s past e good m idle;
       subs = idle_subs s past e good m idle;
       born = idle_born s past e good idle;

@@ -36,6 +36,7 @@ use Rattle.tx_trees.specs.ScriptData.{ScriptData, home_of, node_of, ops_of, upda
 use Rattle.tx_trees.specs.declared.parts.ItemRow.{ItemRow}
 use Rattle.board_rules.specs.Histories.{Place, places_at, places_of, version_in, version_of}
 use Rattle.board_rules.specs.Worth.{after_ops as value_after, first_value}
+use Rattle.board_rules.proofs.Places.{version_stays}
 use Rattle.tree_laws.specs.OwnValues.{value_after_act, is_up_to, own_acts, own_value, SeesOwn}
 use Rattle.world_model.specs.Counts.{Each}
 use Rattle.world_model.specs.Runs.{MayFollow, IsStepRun, node_in}
@@ -43,13 +44,16 @@ use Rattle.world_model.specs.Tables.{items_at, start_node}
 use Rattle.world_model.specs.Timely.{AllTimely, WasTimely}
 use Rattle.world_model.proofs.Every.{node_kept}
 use Rattle.tree_laws.proofs.Good.{IsGood}
-use Rattle.world_model.proofs.Nexts.{Made, RootWork, RootUpdates, RootReads, SubWork, SubUpdates, SubReads, Next, Begins, Hears, Ends, Coordinates, DoesRoot, DoesSub, Notes, Obeys, Order, Turns as TurnsBy, Shows, Sweeps, TellsDone, TellsAsked}
+use Rattle.world_model.proofs.Nexts.{Made, RootWork, RootUpdates, RootReads, SubWork, SubUpdates, SubReads, Next, Begins, Hears, Ends, Coordinates, DoesRoot, DoesSub, Notes, Obeys, Order, Turns as TurnsBy, Shows, Sweeps, TellsDone, TellsAsked, DoesBody}
 use Rattle.tree_laws.proofs.Goods.{good_run, next_of}
 use Rattle.tree_laws.proofs.Steps.{timely_at}
 use Rattle.world_model.proofs.Scripts.{IsSound, SubAt, reads_alone}
+use Rattle.world_model.specs.Notices.{values_of}
+use Rattle.world_model.proofs.Worked.{root_did, sub_did}
+use Rattle.world_model.specs.Kept.{done_by}
 use Rattle.tree_laws.proofs.Histories.{places_more}
 use Rattle.tree_laws.proofs.Seen.{IsFrom, from_ops, seen_ops}
-use Rattle.tree_laws.proofs.Versions.{AreVersioned, IsOfBorn, placed, root_version, sub_version, version_stays, versioned_run}
+use Rattle.tree_laws.proofs.Versions.{AreVersioned, IsOfBorn, placed, root_version, sub_version, versioned_run}
 
 -- Own acts of a history with one entry more.
 own_more : (p : ℕ) (xs ys : List Place) → own_acts p (xs ++ ys) ≡ own_acts p xs ++ own_acts p ys
@@ -166,15 +170,15 @@ root_from s t v effect st from (RootReads read turn can made) = rw made from
 root_shows : (s : ScriptData) (h : List Entry) (t : TreeNo) (x u : ℕ) (v : Version) (effect : Effect) (st : Node) (w : Value)
     → SubAt s t.0 0 → EachItem (IsFrom st.turns.low.0) st.items → st.turns.low.0 ≤ u → version_of h t.0 ≡ Some v → RootWork s t.0 st v effect
     → seen_in (record { 0 = u }) (record { 0 = x }) st.items ≡ Some w
-    → seen_in (record { 0 = u }) (record { 0 = x }) effect.items ≡ Some (value_after_act s h x u w (Did t (record { 0 = 0 }) effect.values))
+    → seen_in (record { 0 = u }) (record { 0 = x }) effect.items ≡ Some (value_after_act s h x u w (Did t (record { 0 = 0 }) (values_of effect.notice)))
 root_shows s h t x u v effect st w c from low is (RootUpdates up turn can made) seen =
     rw made (seen_ops st.turns.low.0 (record { 0 = u }) v (record { 0 = x }) (ops_of s t.0 0) st.items w from low can seen
     ∙ ap (λ (y : Value). Some y) (did_updates s h x u t (record { 0 = 0 }) v w up is))
 root_shows s h t x u v effect st w c from low is (RootReads read turn can made) seen =
-    rw made (seen ∙ ap (λ (y : Value). Some y) (did_reads s h x u t (record { 0 = 0 }) effect.values w (reads_alone s t.0 0 c read)))
+    rw made (seen ∙ ap (λ (y : Value). Some y) (did_reads s h x u t (record { 0 = 0 }) (values_of effect.notice) w (reads_alone s t.0 0 c read)))
 
 root_sees : (s : ScriptData) (past : List Entry) (e : Entry) (t : TreeNo) (v : Version) (effect : Effect) → SubAt s t.0 0 → IsSound s
-    → IsGood s past → MayFollow s past e → AreVersioned s past → e.took.body ≡ Root t → e.actor.0 ≡ home_of s t.0
+    → IsGood s past → MayFollow s past e → AreVersioned s past → DoesBody s past e (Root t) → e.actor.0 ≡ home_of s t.0
     → RootWork s t.0 (node_in s past (home_of s t.0)) v effect
     → Made s past e (home_of s t.0) (root_done s (home_of s t.0) t.0 v.0 effect (node_in s past (home_of s t.0)))
     → Sees s past (home_of s t.0) (node_in s past (home_of s t.0)) → Sees s (e ∷ past) (home_of s t.0) (node_in s (e ∷ past) (home_of s t.0))
@@ -185,7 +189,7 @@ root_sees s past e t v effect c sound good m are is at work made sees =
     let version : version_of more t.0 ≡ Some v =
     ap (λ (xs : List Place). version_in t.0 xs) (places_more e past) ∙ root_version s past e t v effect c sound good m is made in
     subst (λ (n : Node). Sees s (e ∷ past) p n) (sym made.state)
-    (own_step s past e p (Born t v ∷ Did t (record { 0 = 0 }) effect.values ∷ []) (root_done s p t.0 v.0 effect st).state are at made.acts
+    (own_step s past e p (Born t v ∷ Did t (record { 0 = 0 }) (values_of effect.notice) ∷ []) (root_done s p t.0 v.0 effect st).state are at (root_did s past e t v effect work made)
     (root_from s t.0 v effect st sees.from work)
     (λ x u r there node low. root_shows s more t x u v effect st (own_value s (reverse past) p x u) c sees.from low version work (sees.shows x u r there node low)))
 
@@ -198,12 +202,12 @@ sub_from s t k v raises effect st from (SubReads read turn can made) = rw made f
 sub_shows : (s : ScriptData) (h : List Entry) (t : TreeNo) (k : SubNo) (x u : ℕ) (v : Version) (raises : Bool) (effect : Effect) (st : Node)
     (w : Value) → SubAt s t.0 k.0 → EachItem (IsFrom st.turns.low.0) st.items → st.turns.low.0 ≤ u → version_of h t.0 ≡ Some v → SubWork s t.0 k.0 st v raises effect
     → seen_in (record { 0 = u }) (record { 0 = x }) st.items ≡ Some w
-    → seen_in (record { 0 = u }) (record { 0 = x }) effect.items ≡ Some (value_after_act s h x u w (Did t k effect.values))
+    → seen_in (record { 0 = u }) (record { 0 = x }) effect.items ≡ Some (value_after_act s h x u w (Did t k (values_of effect.notice)))
 sub_shows s h t k x u v raises effect st w c from low is (SubUpdates up turn can made) seen =
     rw made (seen_ops st.turns.low.0 (record { 0 = u }) v (record { 0 = x }) (ops_of s t.0 k.0) st.items w from low can seen
     ∙ ap (λ (y : Value). Some y) (did_updates s h x u t k v w up is))
 sub_shows s h t k x u v raises effect st w c from low is (SubReads read turn can made) seen =
-    rw made (seen ∙ ap (λ (y : Value). Some y) (did_reads s h x u t k effect.values w (reads_alone s t.0 k.0 c read)))
+    rw made (seen ∙ ap (λ (y : Value). Some y) (did_reads s h x u t k (values_of effect.notice) w (reads_alone s t.0 k.0 c read)))
 
 -- raising the update version leaves the low one
 raised_low : (raises : Bool) (v : ℕ) (turns : Turns) → (raised_if raises v turns).low.0 ≡ turns.low.0
@@ -217,9 +221,9 @@ turned_fold s h x u v true acts w = refl
 turned_fold s h x u v false acts w = refl
 
 sub_sees : (s : ScriptData) (past : List Entry) (e : Entry) (t : TreeNo) (k : SubNo) (v : Version) (raises : Bool) (effect : Effect)
-    → SubAt s t.0 k.0 → MayFollow s past e → AreVersioned s past → e.took.body ≡ SubLetter t k v → e.actor.0 ≡ node_of s t.0 k.0
+    → SubAt s t.0 k.0 → MayFollow s past e → AreVersioned s past → DoesBody s past e (SubLetter t k v) → e.actor.0 ≡ node_of s t.0 k.0
     → SubWork s t.0 k.0 (node_in s past (node_of s t.0 k.0)) v raises effect
-    → Made s past e (node_of s t.0 k.0) (sub_done s e.took.from.0 t.0 k.0 v.0 raises effect (node_in s past (node_of s t.0 k.0)))
+    → Made s past e (node_of s t.0 k.0) (sub_done s (done_by s past e).from.0 t.0 k.0 v.0 raises effect (node_in s past (node_of s t.0 k.0)))
     → Sees s past (node_of s t.0 k.0) (node_in s past (node_of s t.0 k.0))
     → Sees s (e ∷ past) (node_of s t.0 k.0) (node_in s (e ∷ past) (node_of s t.0 k.0))
 sub_sees s past e t k v raises effect c m are is at work made sees =
@@ -228,9 +232,9 @@ sub_sees s past e t k v raises effect c m are is at work made sees =
     let more = reverse (e ∷ past) in
     let version : version_of more t.0 ≡ Some v =
     ap (λ (xs : List Place). version_in t.0 xs) (places_more e past) ∙ sub_version s past e t k v are m is in
-    let own = Did t k effect.values ∷ [] in
+    let own = Did t k (values_of effect.notice) ∷ [] in
     subst (λ (n : Node). Sees s (e ∷ past) p n) (sym made.state)
-    (own_step s past e p (turned_if raises v.0 ++ own) (sub_done s e.took.from.0 t.0 k.0 v.0 raises effect st).state are at made.acts
+    (own_step s past e p (turned_if raises v.0 ++ own) (sub_done s (done_by s past e).from.0 t.0 k.0 v.0 raises effect st).state are at (sub_did s past e t k v raises effect work made)
     (subst (λ (n : ℕ). EachItem (IsFrom n) effect.items) (sym (raised_low raises v.0 st.turns)) (sub_from s t.0 k.0 v raises effect st sees.from work))
     (λ x u r there node above.
     let low : st.turns.low.0 ≤ u = omega (arith, above, raised_low raises v.0 st.turns) in

@@ -10,7 +10,7 @@ use Rattle.tx_trees.specs.ScriptData.{ScriptData, subs_at, home_of, client_of}
 use Rattle.world_model.specs.Node.{Effect, Node}
 use Rattle.world_model.specs.Children.{sub_letters}
 use Rattle.world_model.specs.Done.{root_done}
-use Rattle.world_model.specs.Notices.{reply_letters}
+use Rattle.world_model.specs.Notices.{reply_letters, values_of}
 use Rattle.world_model.specs.Counts.{tally}
 use Rattle.world_model.specs.Runs.{node_in, MayFollow}
 use Rattle.tree_laws.specs.Dids.{asks, dids, tells_done, replies_to}
@@ -22,10 +22,11 @@ use Rattle.world_model.proofs.Flows.{same_part}
 use Rattle.tree_laws.proofs.Flows.{letters_next}
 use Rattle.tree_laws.proofs.Good.{IsGood, TreeAt}
 use Rattle.tree_laws.proofs.Kept.{Does, does_roots, does_subs, does_born, does_items, heard_same, same_heard, both_fit, children_sent}
-use Rattle.world_model.proofs.Nexts.{Made, RootWork}
+use Rattle.world_model.proofs.Nexts.{Made, RootWork, DoesBody}
 use Rattle.tree_laws.proofs.Noting.{misses_root, root_keeps_others}
 use Rattle.world_model.proofs.Scripts.{IsSound, SubAt, node_below, sub_below, tree_below}
 use Rattle.world_model.proofs.Sends.{on, replies_none, subs_none}
+use Rattle.world_model.proofs.Worked.{took_none}
 use Rattle.tree_laws.proofs.Sent.{other_tree}
 use Rattle.tree_laws.proofs.Staging.{Apart, stays, Begins, begins_stage}
 
@@ -39,9 +40,9 @@ root_fits : (s : ScriptData) (past : List Entry) (e : Entry) (t : TreeNo) (v : V
 root_fits s past e t v effect c sound at made =
     let hs = begun t (length (subs_at s t.0)) v (node_in s past (home_of s t.0)).homes in
     let miss = misses_root t (record { 0 = 0 }) (length (subs_at s t.0)) v (node_in s past (home_of s t.0)).homes (sub_below s t.0 0 c) in
-    both_fit s e.actor.0 (sub_letters t.0 v.0 0 0 (subs_at s t.0)) (reply_letters (client_of s) (root_answer s t v effect.values (home_of s t.0) past)) e.sent
+    both_fit s e.actor.0 (sub_letters t.0 v.0 0 0 (subs_at s t.0)) (reply_letters (client_of s) (root_answer s t v (values_of effect.notice) (home_of s t.0) past)) e.sent
     made.sent (children_sent s past e t.0 0 v.0 sound c at)
-    (answer_fits s e.actor.0 t (record { 0 = 0 }) effect.values hs (tree_below s t.0 0 c) miss)
+    (answer_fits s e.actor.0 t (record { 0 = 0 }) (values_of effect.notice) hs (tree_below s t.0 0 c) miss)
 
 -- a root tells no notice
 root_tells : (s : ScriptData) (past : List Entry) (e : Entry) (t : TreeNo) (v : Version) (effect : Effect)
@@ -51,14 +52,14 @@ root_tells s past e t v effect made u k =
       arith,
       root_sends (tells_done u k) s past e t v effect made,
       subs_none (tells_done u k) t.0 v.0 0 0 (subs_at s t.0) (λ w i x. refl),
-      replies_none (tells_done u k) (client_of s) (root_answer s t v effect.values (home_of s t.0) past) (λ w x answer. refl),
+      replies_none (tells_done u k) (client_of s) (root_answer s t v (values_of effect.notice) (home_of s t.0) past) (λ w x answer. refl),
     )
 
 -- what a root answers
 root_answers : (s : ScriptData) (past : List Entry) (e : Entry) (t : TreeNo) (v : Version) (effect : Effect)
     → RootMade s past e t v effect → (u : ℕ)
     → tally (on (replies_to u)) e.sent
-    ≡ tally (on (replies_to u)) (reply_letters (client_of s) (root_answer s t v effect.values (home_of s t.0) past))
+    ≡ tally (on (replies_to u)) (reply_letters (client_of s) (root_answer s t v (values_of effect.notice) (home_of s t.0) past))
 root_answers s past e t v effect made u =
     omega (
       arith,
@@ -67,7 +68,7 @@ root_answers s past e t v effect made u =
     )
 
 root_apart : (s : ScriptData) (past : List Entry) (e : Entry) (t : TreeNo) (v : Version) (effect : Effect) → SubAt s t.0 0
-    → Does s past e t.0 0 → e.took.body ≡ Root t → RootMade s past e t v effect → (u : ℕ) → t.0 ≢ u → Apart s past e u
+    → Does s past e t.0 0 → DoesBody s past e (Root t) → RootMade s past e t v effect → (u : ℕ) → t.0 ≢ u → Apart s past e u
 root_apart s past e t v effect c does is made u ne =
     let n = length (subs_at s t.0) in
     let hs = (node_in s past (home_of s t.0)).homes in
@@ -76,50 +77,50 @@ root_apart s past e t v effect c does is made u ne =
       did = λ k. does.did u k ∙ other_tree u t.0 k 0 ne;
       home = same_part (λ (st : Node). home_in (record { 0 = u }) st.homes) s past e (home_of s t.0)
           (root_done s (home_of s t.0) t.0 v.0 effect (node_in s past (home_of s t.0))) made does.at
-          (root_keeps_others t (record { 0 = u }) (record { 0 = 0 }) effect.values n v hs (λ same. ne (sym same))) (home_of s u);
-      answers = root_answers s past e t v effect made u ∙ replies_apart (client_of s) u t (record { 0 = 0 }) effect.values (begun t n v hs) ne miss;
-      told = λ k. rw is refl;
+          (root_keeps_others t (record { 0 = u }) (record { 0 = 0 }) (values_of effect.notice) n v hs (λ same. ne (sym same))) (home_of s u);
+      answers = root_answers s past e t v effect made u ∙ replies_apart (client_of s) u t (record { 0 = 0 }) (values_of effect.notice) (begun t n v hs) ne miss;
+      told = λ k. took_none (tells_done u k) s past e (Root t) is refl (λ w j. refl);
       notes = root_tells s past e t v effect made u;
     }
 
 root_begins : (s : ScriptData) (past : List Entry) (e : Entry) (t : TreeNo) (v : Version) (effect : Effect)
-    → Does s past e t.0 0 → e.took.body ≡ Root t → home_in t (node_in s past (home_of s t.0)).homes ≡ None
-    → RootMade s past e t v effect → Begins s past e t v effect.values (node_in s past (home_of s t.0)).homes
+    → Does s past e t.0 0 → DoesBody s past e (Root t) → home_in t (node_in s past (home_of s t.0)).homes ≡ None
+    → RootMade s past e t v effect → Begins s past e t v (values_of effect.notice) (node_in s past (home_of s t.0)).homes
 root_begins s past e t v effect does is new made = record {
   did = λ k. does.did t.0 k;
   home = ap (λ (st : Node). home_in t st.homes) made.state;
   answers = root_answers s past e t v effect made t.0;
-  told = λ k. rw is refl;
+  told = λ k. took_none (tells_done t.0 k) s past e (Root t) is refl (λ w j. refl);
   notes = root_tells s past e t v effect made t.0;
   new = new;
 }
 
 root_stage : (s : ScriptData) (past : List Entry) (e : Entry) (t : TreeNo) (v : Version) (effect : Effect) → SubAt s t.0 0
-    → IsSound s → IsGood s past → MayFollow s past e → dids past t.0 0 ≡ 0 → Does s past e t.0 0 → e.took.body ≡ Root t
+    → IsSound s → IsGood s past → MayFollow s past e → dids past t.0 0 ≡ 0 → Does s past e t.0 0 → DoesBody s past e (Root t)
     → home_in t (node_in s past (home_of s t.0)).homes ≡ None → RootMade s past e t v effect → (u : ℕ) → u < length s.trees
     → (t.0 ≡ u) ⊎ (t.0 ≢ u) → TreeAt s (e ∷ past) u
 root_stage s past e t v effect c sound good m none does is new made u lt (inl same) =
     subst (λ (w : ℕ). TreeAt s (e ∷ past) w) same
-    (begins_stage s past e t v effect.values (node_in s past (home_of s t.0)).homes c (λ k d. omega (arith, none, below_root s past t.0 k d sound good)) m
+    (begins_stage s past e t v (values_of effect.notice) (node_in s past (home_of s t.0)).homes c (λ k d. omega (arith, none, below_root s past t.0 k d sound good)) m
     (root_begins s past e t v effect does is new made) (good.stages t.0 (tree_below s t.0 0 c)))
 root_stage s past e t v effect c sound good m none does is new made u lt (inr ne) =
     stays s past e u m (root_apart s past e t v effect c does is made u ne) (good.stages u lt)
 
 -- a root is done
 pub root_good : (s : ScriptData) (past : List Entry) (e : Entry) (t : TreeNo) (v : Version) (effect : Effect) → IsSound s
-    → IsGood s past → MayFollow s past e → e.took.body ≡ Root t → SubAt s t.0 0 → e.actor.0 ≡ home_of s t.0
+    → IsGood s past → MayFollow s past e → DoesBody s past e (Root t) → SubAt s t.0 0 → e.actor.0 ≡ home_of s t.0
     → home_in t (node_in s past (home_of s t.0)).homes ≡ None → RootWork s t.0 (node_in s past (home_of s t.0)) v effect
     → RootMade s past e t v effect → IsGood s (e ∷ past)
 root_good s past e t v effect sound good m is c at new work made =
-    let none = not_done s past t.0 0 c sound good (was_asked s past e t.0 0 m (ap (asks t.0 0) is ∙ one_here t.0 0)) in
+    let none = not_done s past t.0 0 c sound good (was_asked s past e t.0 0 m (ap (asks t.0 0) is.body ∙ one_here t.0 0)) in
     let does = root_does s past e t v effect c sound good none is at work made in
     let below = node_below s t.0 0 c sound in
     record {
-      letters = letters_next s past e good (root_fits s past e t v effect c sound at made);
+      letters = letters_next s past e good m (root_fits s past e t v effect c sound at made);
       roots = does_roots s past e t.0 0 good m does;
       subs = does_subs s past e t.0 0 sound good m does;
       born = does_born s past e t.0 0 good does;
       stages = λ u lt. root_stage s past e t v effect c sound good m none does is new made u lt (cases_eq t.0 u);
-      heard = λ u lt. heard_same s past e good m u lt (rw is refl) (same_heard s past e does.client u);
+      heard = λ u lt. heard_same s past e good m u lt (took_none (replies_to u) s past e (Root t) is refl (λ w j. refl)) (same_heard s past e does.client u);
       items = does_items s past e t.0 0 good does;
     }

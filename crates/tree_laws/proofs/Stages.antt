@@ -23,7 +23,7 @@ missing_at (None ∷ ns) zero lt none = refl
 missing_at (Some values ∷ ns) zero lt none = absurd (omega (arith, none))
 missing_at (n ∷ ns) (suc k) lt none = missing_at ns k (omega arith) none
 
--- a notice that is under way is missing at its tree's home
+-- a notice that is in flight is missing at its tree's home
 pub misses_notice : (s : ScriptData) (past : List Entry) (t k : ℕ) → SubAt s t k → dids past t k ≤ 1 → 1 ≤ notices s past t k → TreeAt s past t
     → misses (record { 0 = t }) (record { 0 = k }) (node_in s past (home_of s t)).homes ≡ true
 misses_notice s past t k c most some (Unborn new home answers notes) = absurd (omega (arith, notes k))

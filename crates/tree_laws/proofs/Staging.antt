@@ -153,7 +153,7 @@ told_one t k i is = grind (arith, nat_tests)
 told_none : (t k i : ℕ) → i ≢ k → one_if ((t == t) && (k == i)) ≡ 0
 told_none t k i ne = grind (arith, nat_tests)
 
--- each notice is under way or taken down
+-- each notice is in flight or taken down
 noted_count : (s : ScriptData) (past : List Entry) (e : Entry) (t : TreeNo) (k : SubNo) (values : Gets) (hs : OpenTrees) (h : OpenTree) (i : ℕ)
     → k.0 < length h.notices → MayFollow s past e → Notes s past e t k values hs
     → dids past t.0 i ≡ notices s past t.0 i + is_noted (slice_get h.notices i) → dids past t.0 i ≤ 1 → (i ≡ k.0) ⊎ (i ≢ k.0)

@@ -21,23 +21,26 @@ use Rattle.world_model.proofs.Flows.{same_part}
 use Rattle.tree_laws.proofs.Flows.{letters_next}
 use Rattle.tree_laws.proofs.Good.{IsGood, TreeAt}
 use Rattle.tree_laws.proofs.Kept.{Does, does_roots, does_subs, does_born, does_items, heard_same, same_heard, both_fit, children_sent}
-use Rattle.world_model.proofs.Nexts.{Made, SubWork}
+use Rattle.world_model.proofs.Nexts.{Made, SubWork, DoesBody}
 use Rattle.world_model.proofs.Scripts.{IsSound, SubAt, node_below, sub_below, tree_below}
 use Rattle.world_model.proofs.Sends.{on, subs_none}
+use Rattle.world_model.proofs.Worked.{sub_told, took_none}
+use Rattle.world_model.specs.Named.{is_did}
+use Rattle.world_model.specs.Kept.{done_by}
 use Rattle.tree_laws.proofs.Sent.{other_tree, other_sub}
 use Rattle.tree_laws.proofs.Staging.{Apart, stays, Adds, adds}
 
 abbrev SubMade : ScriptData → List Entry → Entry → TreeNo → SubNo → Version → Bool → Effect → Type 0
 SubMade s past e t k v raises effect =
-    Made s past e (node_of s t.0 k.0) (sub_done s e.took.from.0 t.0 k.0 v.0 raises effect (node_in s past (node_of s t.0 k.0)))
+    Made s past e (node_of s t.0 k.0) (sub_done s (done_by s past e).from.0 t.0 k.0 v.0 raises effect (node_in s past (node_of s t.0 k.0)))
 
-sub_fits : (s : ScriptData) (past : List Entry) (e : Entry) (t : TreeNo) (k : SubNo) (v : Version) (raises : Bool) (effect : Effect) → SubAt s t.0 k.0 → 0 < k.0 → IsSound s → e.actor.0 ≡ node_of s t.0 k.0 → SubMade s past e t k v raises effect
+sub_fits : (s : ScriptData) (past : List Entry) (e : Entry) (t : TreeNo) (k : SubNo) (v : Version) (raises : Bool) (effect : Effect) → SubAt s t.0 k.0 → 0 < k.0 → IsSound s → e.actor.0 ≡ node_of s t.0 k.0 → SubWork s t.0 k.0 (node_in s past (node_of s t.0 k.0)) v raises effect → SubMade s past e t k v raises effect
     → IsSentFit s e.actor.0 e.sent
-sub_fits s past e t k v raises effect c later sound at made =
+sub_fits s past e t k v raises effect c later sound at work made =
     let node = node_below s t.0 k.0 c sound in
-    both_fit s e.actor.0 (sub_letters t.0 v.0 k.0 0 (subs_at s t.0)) (done_letter (home_of s t.0) t.0 k.0 v.0 effect.values ∷ []) e.sent made.sent
+    both_fit s e.actor.0 (sub_letters t.0 v.0 k.0 0 (subs_at s t.0)) (done_letter (home_of s t.0) t.0 k.0 v.0 effect.notice ∷ []) e.sent made.sent
     (children_sent s past e t.0 k.0 v.0 sound c at)
-    ((λ id. (tree_below s t.0 k.0 c, sub_below s t.0 k.0 c, later, refl, omega arith, refl)), tt)
+    ((λ id. (tree_below s t.0 k.0 c, sub_below s t.0 k.0 c, later, refl, omega arith, ap is_did (sub_told s t.0 k.0 (node_in s past (node_of s t.0 k.0)) v raises effect work))), tt)
 
 -- its notice is sent, and no other
 sub_tells : (s : ScriptData) (past : List Entry) (e : Entry) (t : TreeNo) (k : SubNo) (v : Version) (raises : Bool) (effect : Effect) → SubMade s past e t k v raises effect → (u i : ℕ)
@@ -61,25 +64,25 @@ sub_home : (s : ScriptData) (past : List Entry) (e : Entry) (t : TreeNo) (k : Su
     → home_in (record { 0 = u }) (node_in s (e ∷ past) (home_of s u)).homes ≡ home_in (record { 0 = u }) (node_in s past (home_of s u)).homes
 sub_home s past e t k v raises effect at made u =
     same_part (λ (st : Node). home_in (record { 0 = u }) st.homes) s past e (node_of s t.0 k.0)
-    (sub_done s e.took.from.0 t.0 k.0 v.0 raises effect (node_in s past (node_of s t.0 k.0))) made at refl (home_of s u)
+    (sub_done s (done_by s past e).from.0 t.0 k.0 v.0 raises effect (node_in s past (node_of s t.0 k.0))) made at refl (home_of s u)
 
-sub_apart : (s : ScriptData) (past : List Entry) (e : Entry) (t : TreeNo) (k : SubNo) (v : Version) (raises : Bool) (effect : Effect) → Does s past e t.0 k.0 → e.took.body ≡ SubLetter t k v
+sub_apart : (s : ScriptData) (past : List Entry) (e : Entry) (t : TreeNo) (k : SubNo) (v : Version) (raises : Bool) (effect : Effect) → Does s past e t.0 k.0 → DoesBody s past e (SubLetter t k v)
     → SubMade s past e t k v raises effect → (u : ℕ) → t.0 ≢ u → Apart s past e u
 sub_apart s past e t k v raises effect does is made u ne = record {
   did = λ i. does.did u i ∙ other_tree u t.0 i k.0 ne;
   home = sub_home s past e t k v raises effect does.at made u;
   answers = sub_answers s past e t k v raises effect made u;
-  told = λ i. rw is refl;
+  told = λ i. took_none (tells_done u i) s past e (SubLetter t k v) is refl (λ w j. refl);
   notes = λ i. sub_tells s past e t k v raises effect made u i ∙ other_tree u t.0 i k.0 ne;
 }
 
-sub_adds : (s : ScriptData) (past : List Entry) (e : Entry) (t : TreeNo) (k : SubNo) (v : Version) (raises : Bool) (effect : Effect) → 0 < k.0 → Does s past e t.0 k.0 → e.took.body ≡ SubLetter t k v
+sub_adds : (s : ScriptData) (past : List Entry) (e : Entry) (t : TreeNo) (k : SubNo) (v : Version) (raises : Bool) (effect : Effect) → 0 < k.0 → Does s past e t.0 k.0 → DoesBody s past e (SubLetter t k v)
     → SubMade s past e t k v raises effect → Adds s past e t.0
 sub_adds s past e t k v raises effect later does is made = record {
   root = does.did t.0 0 ∙ other_sub t.0 t.0 0 k.0 (omega arith);
   home = sub_home s past e t k v raises effect does.at made t.0;
   answers = sub_answers s past e t k v raises effect made t.0;
-  told = λ i. rw is refl;
+  told = λ i. took_none (tells_done t.0 i) s past e (SubLetter t k v) is refl (λ w j. refl);
   notes = λ i. sub_tells s past e t k v raises effect made t.0 i ∙ sym (does.did t.0 i);
 }
 
@@ -90,7 +93,7 @@ root_was s past t k c later sound good some =
     omega (arith, good.subs t k c later, below_root s past t c.sub.parent.0 (parent_at s t k c sound later) sound good)
 
 sub_stage : (s : ScriptData) (past : List Entry) (e : Entry) (t : TreeNo) (k : SubNo) (v : Version) (raises : Bool) (effect : Effect) → SubAt s t.0 k.0 → 0 < k.0 → IsSound s → IsGood s past → MayFollow s past e → dids past t.0 k.0 ≡ 0
-    → 1 ≤ dids past t.0 0 → Does s past e t.0 k.0 → e.took.body ≡ SubLetter t k v → SubMade s past e t k v raises effect
+    → 1 ≤ dids past t.0 0 → Does s past e t.0 k.0 → DoesBody s past e (SubLetter t k v) → SubMade s past e t k v raises effect
     → (u : ℕ) → u < length s.trees → (t.0 ≡ u) ⊎ (t.0 ≢ u) → TreeAt s (e ∷ past) u
 sub_stage s past e t k v raises effect c later sound good m none root does is made u lt (inl same) =
     subst (λ (w : ℕ). TreeAt s (e ∷ past) w) same
@@ -100,22 +103,22 @@ sub_stage s past e t k v raises effect c later sound good m none root does is ma
     stays s past e u m (sub_apart s past e t k v raises effect does is made u ne) (good.stages u lt)
 
 -- another subtransaction is done
-pub sub_good : (s : ScriptData) (past : List Entry) (e : Entry) (t : TreeNo) (k : SubNo) (v : Version) (raises : Bool) (effect : Effect) → IsSound s → IsGood s past → MayFollow s past e → e.took.body ≡ SubLetter t k v → SubAt s t.0 k.0
+pub sub_good : (s : ScriptData) (past : List Entry) (e : Entry) (t : TreeNo) (k : SubNo) (v : Version) (raises : Bool) (effect : Effect) → IsSound s → IsGood s past → MayFollow s past e → DoesBody s past e (SubLetter t k v) → SubAt s t.0 k.0
     → 0 < k.0 → e.actor.0 ≡ node_of s t.0 k.0 → SubWork s t.0 k.0 (node_in s past (node_of s t.0 k.0)) v raises effect
     → SubMade s past e t k v raises effect → IsGood s (e ∷ past)
 sub_good s past e t k v raises effect sound good m is c later at work made =
-    let letters_asking = was_asked s past e t.0 k.0 m (ap (asks t.0 k.0) is ∙ one_here t.0 k.0) in
+    let letters_asking = was_asked s past e t.0 k.0 m (ap (asks t.0 k.0) is.body ∙ one_here t.0 k.0) in
     let none = not_done s past t.0 k.0 c sound good letters_asking in
     let root = root_was s past t.0 k.0 c later sound good letters_asking in
     let does = sub_does s past e t k v raises effect c later sound good none is at work made in
     let p = node_of s t.0 k.0 in
     let below = node_below s t.0 k.0 c sound in
     record {
-      letters = letters_next s past e good (sub_fits s past e t k v raises effect c later sound at made);
+      letters = letters_next s past e good m (sub_fits s past e t k v raises effect c later sound at work made);
       roots = does_roots s past e t.0 k.0 good m does;
       subs = does_subs s past e t.0 k.0 sound good m does;
       born = does_born s past e t.0 k.0 good does;
       stages = λ u lt. sub_stage s past e t k v raises effect c later sound good m none root does is made u lt (cases_eq t.0 u);
-      heard = λ u lt. heard_same s past e good m u lt (rw is refl) (same_heard s past e does.client u);
+      heard = λ u lt. heard_same s past e good m u lt (took_none (replies_to u) s past e (SubLetter t k v) is refl (λ w j. refl)) (same_heard s past e does.client u);
       items = does_items s past e t.0 k.0 good does;
     }

@@ -27,7 +27,7 @@ use Rattle.world_model.specs.Named.{is_timely}
 use Rattle.world_model.specs.Children.{sub_letters, done_letter}
 use Rattle.world_model.specs.Done.{note_done, raised_if, root_done, sub_done}
 use Rattle.world_model.specs.Node.{Effect, Node}
-use Rattle.world_model.specs.Notices.{answer_noted, reply_letters}
+use Rattle.world_model.specs.Notices.{answer_noted, reply_letters, values_of}
 use Rattle.world_model.specs.Coordinator.{Coordinator, coordinator_row, start_coordinator}
 use Rattle.world_model.specs.Client.{Client, nudge, rows_letters, submit, submitted, with_answer}
 use Rattle.world_model.specs.Counts.{Each}
@@ -36,9 +36,11 @@ use Rattle.world_model.specs.Tables.{coordinator_table}
 use Rattle.world_model.proofs.Every.{coordinator_kept, each_append, each_step, each_taken, node_kept}
 use Rattle.world_model.proofs.Fits.{each_drop, each_take}
 use Rattle.world_model.proofs.Flows.{same_part}
-use Rattle.world_model.proofs.Nexts.{Next, Begins as AnyBegins, Hears as AnyHears, Ends, Coordinates, DoesRoot as AnyRoot, DoesSub as AnySub, Notes as AnyNotes, Obeys, Made, MadeByClient, MadeByCoordinator, Order, Turns as TurnsBy, Shows, Sweeps, TellsDone, TellsAsked, Tells, RootWork, RootUpdates, RootReads, SubWork, SubUpdates, SubReads}
+use Rattle.world_model.proofs.Nexts.{Next, Begins as AnyBegins, Hears as AnyHears, Ends, Coordinates, DoesRoot as AnyRoot, DoesSub as AnySub, Notes as AnyNotes, Obeys, Made, MadeByClient, MadeByCoordinator, Order, Turns as TurnsBy, Shows, Sweeps, TellsDone, TellsAsked, Tells, RootWork, RootUpdates, RootReads, SubWork, SubUpdates, SubReads, DoesBody}
 use Rattle.world_model.proofs.Scripts.{IsSound, SubAt}
 use Rattle.world_model.specs.Timely.{AllTimely, WasTimely}
+use Rattle.world_model.specs.Kept.{done_by}
+use Rattle.world_model.proofs.Worked.{took_body}
 use Rattle.tree_laws.proofs.Doing.{root_answer}
 use Rattle.tree_laws.proofs.Good.{IsGood}
 use Rattle.tree_laws.proofs.Goods.{good_run, next_of}
@@ -181,14 +183,14 @@ pub data CalmNext (s : ScriptData) (past : List Entry) (e : Entry) : Type 0 wher
   Hears : (t : TreeNo) (v : Version) (answer : Answer) → e.took.body ≡ Reply t v answer → e.actor.0 ≡ client_of s → t.0 < length s.trees
       → MadeByClient s past e (submit s (with_answer t.0 (client_in s past)) (nudge s ∷ [])) → CalmNext s past e
   Rests : e.took.body ≡ Nudge → e.actor.0 ≡ s.nodes → e.sent ≡ [] → e.acts ≡ [] → CalmNext s past e
-  DoesRoot : (t : TreeNo) (v : Version) (effect : Effect) → e.took.body ≡ Root t → SubAt s t.0 0 → e.actor.0 ≡ home_of s t.0
+  DoesRoot : (t : TreeNo) (v : Version) (effect : Effect) → DoesBody s past e (Root t) → SubAt s t.0 0 → e.actor.0 ≡ home_of s t.0
       → home_of s t.0 < s.nodes → home_in t (node_in s past (home_of s t.0)).homes ≡ None
       → RootWork s t.0 (node_in s past (home_of s t.0)) v effect
       → Made s past e (home_of s t.0) (root_done s (home_of s t.0) t.0 v.0 effect (node_in s past (home_of s t.0))) → CalmNext s past e
   DoesSub : (t : TreeNo) (k : SubNo) (v : Version) (raises : Bool) (effect : Effect)
-      → e.took.body ≡ SubLetter t k v → SubAt s t.0 k.0 → 0 < k.0 → e.took.from.0 < s.nodes → e.actor.0 ≡ node_of s t.0 k.0
+      → DoesBody s past e (SubLetter t k v) → SubAt s t.0 k.0 → 0 < k.0 → (done_by s past e).from.0 < s.nodes → e.actor.0 ≡ node_of s t.0 k.0
       → node_of s t.0 k.0 < s.nodes → SubWork s t.0 k.0 (node_in s past (node_of s t.0 k.0)) v raises effect
-      → Made s past e (node_of s t.0 k.0) (sub_done s e.took.from.0 t.0 k.0 v.0 raises effect (node_in s past (node_of s t.0 k.0)))
+      → Made s past e (node_of s t.0 k.0) (sub_done s (done_by s past e).from.0 t.0 k.0 v.0 raises effect (node_in s past (node_of s t.0 k.0)))
       → CalmNext s past e
   Notes : (t : TreeNo) (k : SubNo) (v : Version) (values : Gets) → e.took.body ≡ Done t k v (DidNotice values) → SubAt s t.0 k.0 → 0 < k.0
       → e.took.from.0 < s.nodes → e.actor.0 ≡ home_of s t.0 → home_of s t.0 < s.nodes
@@ -242,8 +244,8 @@ root_keeps s past e t v effect calm at lt work made =
     record {
       sent = subst (λ os. CalmSent os) (sym made.sent)
           (each_append (λ (o : Outgoing). (i : LetterId) → CalmBody o.body) (sub_letters t.0 v.0 0 0 (subs_at s t.0))
-          (reply_letters (client_of s) (root_answer s t v effect.values (home_of s t.0) past)) (children_calm t.0 v.0 0 0 (subs_at s t.0) most)
-          (reply_calm (client_of s) (root_answer s t v effect.values (home_of s t.0) past)));
+          (reply_letters (client_of s) (root_answer s t v (values_of effect.notice) (home_of s t.0) past)) (children_calm t.0 v.0 0 0 (subs_at s t.0) most)
+          (reply_calm (client_of s) (root_answer s t v (values_of effect.notice) (home_of s t.0) past)));
       turns = λ p plt. same_part (λ (n : Node). n.turns) s past e (home_of s t.0) (root_done s (home_of s t.0) t.0 v.0 effect st) made at refl p;
       coordinator = coordinator_kept s past e (omega (arith, at, lt));
     }
@@ -251,7 +253,7 @@ root_keeps s past e t v effect calm at lt work made =
 sub_keeps : (s : ScriptData) (past : List Entry) (e : Entry) (t : TreeNo) (k : SubNo) (v : Version) (raises : Bool) (effect : Effect)
     → Calm s past → v.0 ≤ 1 → e.actor.0 ≡ node_of s t.0 k.0 → node_of s t.0 k.0 < s.nodes
     → SubWork s t.0 k.0 (node_in s past (node_of s t.0 k.0)) v raises effect
-    → Made s past e (node_of s t.0 k.0) (sub_done s e.took.from.0 t.0 k.0 v.0 raises effect (node_in s past (node_of s t.0 k.0)))
+    → Made s past e (node_of s t.0 k.0) (sub_done s (done_by s past e).from.0 t.0 k.0 v.0 raises effect (node_in s past (node_of s t.0 k.0)))
     → Keeps s past e
 sub_keeps s past e t k v raises effect calm most at lt work made =
     let p = node_of s t.0 k.0 in
@@ -261,8 +263,8 @@ sub_keeps s past e t k v raises effect calm most at lt work made =
     record {
       sent = subst (λ os. CalmSent os) (sym made.sent)
           (each_append (λ (o : Outgoing). (i : LetterId) → CalmBody o.body) (sub_letters t.0 v.0 k.0 0 (subs_at s t.0))
-          (done_letter (home_of s t.0) t.0 k.0 v.0 effect.values ∷ []) (children_calm t.0 v.0 k.0 0 (subs_at s t.0) most) ((λ id. most), tt));
-      turns = λ q qlt. same_part (λ (n : Node). n.turns) s past e p (sub_done s e.took.from.0 t.0 k.0 v.0 raises effect st) made at same q;
+          (done_letter (home_of s t.0) t.0 k.0 v.0 effect.notice ∷ []) (children_calm t.0 v.0 k.0 0 (subs_at s t.0) most) ((λ id. most), tt));
+      turns = λ q qlt. same_part (λ (n : Node). n.turns) s past e p (sub_done s (done_by s past e).from.0 t.0 k.0 v.0 raises effect st) made at same q;
       coordinator = coordinator_kept s past e (omega (arith, at, lt));
     }
 
@@ -274,7 +276,8 @@ calm_keeps s past e none calm took (Hears t v answer is at lt made) =
 calm_keeps s past e none calm took (Rests is at sent acts) = rests_keeps s past e calm is at sent
 calm_keeps s past e none calm took (DoesRoot t v effect is c at lt new work made) = root_keeps s past e t v effect calm at lt work made
 calm_keeps s past e none calm took (DoesSub t k v raises effect is c later from at lt work made) =
-    sub_keeps s past e t k v raises effect calm (subst (λ (x : Body). CalmBody x) is took) at lt work made
+    sub_keeps s past e t k v raises effect calm
+    (subst (λ (x : Body). CalmBody x) (took_body s past e (SubLetter t k v) is) took) at lt work made
 calm_keeps s past e none calm took (Notes t k v values is c later from at lt miss made) =
     let st = node_in s past (home_of s t.0) in
     record {

@@ -1,4 +1,4 @@
--- The versions of trees: of births, of letters under way, and of what was done.
+-- The versions of trees: of births, of letters in flight, and of what was done.
 use Rattle.std.proofs.Common.{◌≡◌, ℕ, ◌+◌, ◌==◌, ◌&&◌, Bool, true, false, List, [], ◌∷◌, ◌++◌, drop, reverse, refl, sym, ap, subst, ◌∙◌, arith, Option, Some, None}
 use Rattle.std.specs.Prelude.{if◌then◌else◌, nat_lt, is_some, length, map, take}
 use Rattle.std.specs.Option.{option_or}
@@ -21,26 +21,29 @@ use Rattle.world_model.specs.Children.{sub_letters, done_letter}
 use Rattle.world_model.specs.Done.{root_done, sub_done, turned_if}
 use Rattle.letter_types.specs.Steps.{Out}
 use Rattle.world_model.specs.Node.{Effect, Node}
-use Rattle.world_model.specs.Notices.{answer_noted, reply_letters}
+use Rattle.world_model.specs.Notices.{answer_noted, reply_letters, values_of, act_of}
 use Rattle.tx_trees.specs.ScriptData.{ScriptData, client_of, home_of, node_of, reads, subs_at, updates}
 use Rattle.tx_trees.specs.declared.parts.ScriptRow.{ScriptRow}
 use Rattle.tx_trees.specs.declared.parts.ScriptRow.TheVariants.{Tree as TreeRow, Advance, Settle, Lose}
 use Rattle.tx_trees.specs.declared.parts.Sub.{Sub}
 use Rattle.board_rules.specs.Histories.{Place, born_as, places_at, places_of, version_in}
-use Rattle.board_rules.proofs.Places.{version_in-append}
+use Rattle.board_rules.proofs.Places.{version_in-append, version_stays}
 use Rattle.world_model.specs.Counts.{Each, one_if, tally}
-use Rattle.world_model.specs.Runs.{MayFollow, IsStepRun, client_in, node_in, waiting}
-use Rattle.world_model.proofs.Every.{each_append, each_map, each_step, each_taken}
+use Rattle.world_model.specs.Runs.{MayFollow, IsStepRun, client_in, node_in}
+use Rattle.world_model.proofs.Every.{each_append, each_map}
 use Rattle.tree_laws.specs.Dids.{asks, is_born}
 use Rattle.tree_laws.proofs.Acts.{of_act}
 use Rattle.tree_laws.proofs.Counts.{not_done, one_here, was_asked}
 use Rattle.tree_laws.proofs.Good.{IsGood}
 use Rattle.tree_laws.proofs.Goods.{good_run, next_of}
-use Rattle.world_model.proofs.Nexts.{Made, RootWork, Next, Begins, Hears, Ends, Coordinates, DoesRoot, DoesSub, Notes, Obeys, Order, Turns, Shows, Sweeps, TellsDone, TellsAsked}
+use Rattle.world_model.proofs.Nexts.{Made, RootWork, SubWork, Next, Begins, Hears, Ends, Coordinates, DoesRoot, DoesSub, Notes, Obeys, Order, Turns, Shows, Sweeps, TellsDone, TellsAsked, DoesBody}
 use Rattle.world_model.specs.Timely.{AllTimely}
 use Rattle.world_model.proofs.Orders.{OfOrders, of}
 use Rattle.tree_laws.proofs.OrderStep.{coordinator_sends}
 use Rattle.world_model.proofs.Scripts.{IsSound, SubAt, reads_alone}
+use Rattle.world_model.proofs.Worked.{root_did, sub_did}
+use Rattle.world_model.proofs.EachOutstanding.{each_first, each_outstanding, each_done}
+use Rattle.world_model.specs.Kept.{outstanding, done_by}
 use Rattle.tree_laws.proofs.Whole.{births_in}
 use Rattle.tree_laws.proofs.Histories.{places_more}
 
@@ -56,20 +59,12 @@ HasVersion xs (SubLetter t k v) = version_in t.0 xs ≡ Some v
 HasVersion xs Go = Unit {0}
 HasVersion xs _ = Unit {0}
 
--- so with each deed and each letter under way
+-- so with each deed and each letter that has still to be done
 pub record AreVersioned (s : ScriptData) (past : List Entry) : Type 0 where
   pub deeds : Each (λ (x : Place). IsOfBorn (places_of (reverse past)) x.act) (places_of (reverse past))
-  pub letters : Each (λ (l : Letter). HasVersion (places_of (reverse past)) l.body) (waiting s past)
+  pub letters : Each (λ (l : Letter). HasVersion (places_of (reverse past)) l.body) (outstanding s past)
 
 -- Versions with more acts.
-some_or : (a b : Option Version) → is_some a ≡ true → option_or a b ≡ a
-some_or (Some v) b is = refl
-some_or None b is = absurd (cc is)
-
--- the version of a tree that is born stays
-pub version_stays : (t : ℕ) (xs ys : List Place) → is_some (version_in t xs) ≡ true → version_in t (xs ++ ys) ≡ version_in t xs
-version_stays t xs ys is = version_in-append t xs ys ∙ some_or (version_in t xs) (version_in t ys) is
-
 -- a tree without births isn't born
 unborn_at : (t : ℕ) (found : Option Version) (rest : Option Version) → one_if (is_some found) ≡ 0 → rest ≡ None → option_or found rest ≡ None
 unborn_at t None rest none is = is
@@ -145,19 +140,19 @@ end_deeds xs node true = (tt, tt)
 end_deeds xs node false = tt
 
 -- One entry more, by its acts and by what it sends.
-more : (s : ScriptData) (past : List Entry) (e : Entry) → AreVersioned s past
+more : (s : ScriptData) (past : List Entry) (e : Entry) → MayFollow s past e → AreVersioned s past
     → Each (λ (x : Place). IsOfBorn (places_of (reverse past) ++ places_at e) x.act) (places_at e)
     → SentVersioned (places_of (reverse past) ++ places_at e) e.sent → AreVersioned s (e ∷ past)
-more s past e are deeds sent =
+more s past e m are deeds sent =
     let old = places_of (reverse past) in
     let new = places_at e in
     record {
       deeds = subst (λ (xs : List Place). Each (λ (x : Place). IsOfBorn xs x.act) xs) (sym (places_more e past))
           (each_append (λ (x : Place). IsOfBorn (old ++ new) x.act) old new
           (each_map (λ (x : Place). IsOfBorn old x.act) (λ (x : Place). IsOfBorn (old ++ new) x.act) old (λ x is. deed_stays old new x.act is) are.deeds) deeds);
-      letters = subst (λ (xs : List Place). Each (λ (l : Letter). HasVersion xs l.body) (waiting s (e ∷ past))) (sym (places_more e past))
-          (each_step (λ (l : Letter). HasVersion (old ++ new) l.body) s past e
-          (each_map (λ (l : Letter). HasVersion old l.body) (λ (l : Letter). HasVersion (old ++ new) l.body) (waiting s past)
+      letters = subst (λ (xs : List Place). Each (λ (l : Letter). HasVersion xs l.body) (outstanding s (e ∷ past))) (sym (places_more e past))
+          (each_outstanding (λ (l : Letter). HasVersion (old ++ new) l.body) s past e m
+          (each_map (λ (l : Letter). HasVersion old l.body) (λ (l : Letter). HasVersion (old ++ new) l.body) (outstanding s past)
           (λ l is. letter_stays old new l.body is) are.letters) sent);
     }
 
@@ -174,16 +169,16 @@ born_here t v node xs ys none =
 
 -- the version of a tree whose root an entry does, in the history with it
 pub root_version : (s : ScriptData) (past : List Entry) (e : Entry) (t : TreeNo) (v : Version) (effect : Effect) → SubAt s t.0 0 → IsSound s
-    → IsGood s past → MayFollow s past e → e.took.body ≡ Root t
+    → IsGood s past → MayFollow s past e → DoesBody s past e (Root t)
     → Made s past e (home_of s t.0) (root_done s (home_of s t.0) t.0 v.0 effect (node_in s past (home_of s t.0)))
     → version_in t.0 (places_of (reverse past) ++ places_at e) ≡ Some v
 root_version s past e t v effect c sound good m is made =
-    let none = not_done s past t.0 0 c sound good (was_asked s past e t.0 0 m (ap (asks t.0 0) is ∙ one_here t.0 0)) in
+    let none = not_done s past t.0 0 c sound good (was_asked s past e t.0 0 m (ap (asks t.0 0) is.body ∙ one_here t.0 0)) in
     let old = unborn t.0 (places_of (reverse past)) (omega (arith, births_in past t.0, good.born t.0, none)) in
-    rw made.acts (born_here t v e.actor.0 (places_of (reverse past)) (placed e.actor.0 (Did t (record { 0 = 0 }) effect.values ∷ [])) old)
+    rw made.acts (born_here t v e.actor.0 (places_of (reverse past)) (placed e.actor.0 (act_of t (record { 0 = 0 }) effect.notice ∷ [])) old)
 
 root_next : (s : ScriptData) (past : List Entry) (e : Entry) (t : TreeNo) (v : Version) (effect : Effect) → SubAt s t.0 0 → IsSound s
-    → IsGood s past → MayFollow s past e → AreVersioned s past → e.took.body ≡ Root t
+    → IsGood s past → MayFollow s past e → AreVersioned s past → DoesBody s past e (Root t)
     → RootWork s t.0 (node_in s past (home_of s t.0)) v effect
     → Made s past e (home_of s t.0) (root_done s (home_of s t.0) t.0 v.0 effect (node_in s past (home_of s t.0)))
     → AreVersioned s (e ∷ past)
@@ -191,9 +186,9 @@ root_next s past e t v effect c sound good m are is work made =
     let xs = places_of (reverse past) ++ places_at e in
     let st = node_in s past (home_of s t.0) in
     let version = root_version s past e t v effect c sound good m is made in
-    let answer = answer_noted t (record { 0 = 0 }) effect.values (begun t (length (subs_at s t.0)) v st.homes) in
-    more s past e are
-    (subst (λ (acts : List Act). Each (λ (x : Place). IsOfBorn xs x.act) (placed e.actor.0 acts)) (sym made.acts)
+    let answer = answer_noted t (record { 0 = 0 }) (values_of effect.notice) (begun t (length (subs_at s t.0)) v st.homes) in
+    more s past e m are
+    (subst (λ (acts : List Act). Each (λ (x : Place). IsOfBorn xs x.act) (placed e.actor.0 acts)) (sym (root_did s past e t v effect work made))
     (tt, (ap is_some version, tt)))
     (subst (λ (os : List Outgoing). SentVersioned xs os) (sym made.sent)
     (sent_append xs (sub_letters t.0 v.0 0 0 (subs_at s t.0)) (reply_letters (client_of s) answer)
@@ -203,13 +198,13 @@ root_next s past e t v effect c sound good m are is work made =
 
 -- its letter has the version of its tree
 pub taken_version : (s : ScriptData) (past : List Entry) (e : Entry) (t : TreeNo) (k : SubNo) (v : Version) → AreVersioned s past
-    → MayFollow s past e → e.took.body ≡ SubLetter t k v → version_in t.0 (places_of (reverse past)) ≡ Some v
+    → MayFollow s past e → DoesBody s past e (SubLetter t k v) → version_in t.0 (places_of (reverse past)) ≡ Some v
 taken_version s past e t k v are m is =
-    subst (λ (b : Body). HasVersion (places_of (reverse past)) b) is
-    (each_taken (λ (l : Letter). HasVersion (places_of (reverse past)) l.body) s past e m are.letters)
+    subst (λ (b : Body). HasVersion (places_of (reverse past)) b) is.body
+    (each_done (λ (l : Letter). HasVersion (places_of (reverse past)) l.body) s past e m are.letters)
 
 pub sub_version : (s : ScriptData) (past : List Entry) (e : Entry) (t : TreeNo) (k : SubNo) (v : Version) → AreVersioned s past
-    → MayFollow s past e → e.took.body ≡ SubLetter t k v → version_in t.0 (places_of (reverse past) ++ places_at e) ≡ Some v
+    → MayFollow s past e → DoesBody s past e (SubLetter t k v) → version_in t.0 (places_of (reverse past) ++ places_at e) ≡ Some v
 sub_version s past e t k v are m is =
     let old = taken_version s past e t k v are m is in
     version_stays t.0 (places_of (reverse past)) (places_at e) (ap is_some old) ∙ old
@@ -220,27 +215,28 @@ turned_deeds xs node v true acts rest = (tt, rest)
 turned_deeds xs node v false acts rest = rest
 
 sub_next : (s : ScriptData) (past : List Entry) (e : Entry) (t : TreeNo) (k : SubNo) (v : Version) (raises : Bool) (effect : Effect)
-    → MayFollow s past e → AreVersioned s past → e.took.body ≡ SubLetter t k v
-    → Made s past e (node_of s t.0 k.0) (sub_done s e.took.from.0 t.0 k.0 v.0 raises effect (node_in s past (node_of s t.0 k.0)))
+    → MayFollow s past e → AreVersioned s past → DoesBody s past e (SubLetter t k v)
+    → SubWork s t.0 k.0 (node_in s past (node_of s t.0 k.0)) v raises effect
+    → Made s past e (node_of s t.0 k.0) (sub_done s (done_by s past e).from.0 t.0 k.0 v.0 raises effect (node_in s past (node_of s t.0 k.0)))
     → AreVersioned s (e ∷ past)
-sub_next s past e t k v raises effect m are is made =
+sub_next s past e t k v raises effect m are is work made =
     let xs = places_of (reverse past) ++ places_at e in
     let version = sub_version s past e t k v are m is in
-    let own = Did t k effect.values ∷ [] in
-    more s past e are
-    (subst (λ (acts : List Act). Each (λ (x : Place). IsOfBorn xs x.act) (placed e.actor.0 acts)) (sym made.acts)
+    let own = Did t k (values_of effect.notice) ∷ [] in
+    more s past e m are
+    (subst (λ (acts : List Act). Each (λ (x : Place). IsOfBorn xs x.act) (placed e.actor.0 acts)) (sym (sub_did s past e t k v raises effect work made))
     (turned_deeds xs e.actor.0 v.0 raises own (ap is_some version, tt)))
     (subst (λ (os : List Outgoing). SentVersioned xs os) (sym made.sent)
-    (sent_append xs (sub_letters t.0 v.0 k.0 0 (subs_at s t.0)) (done_letter (home_of s t.0) t.0 k.0 v.0 effect.values ∷ [])
+    (sent_append xs (sub_letters t.0 v.0 k.0 0 (subs_at s t.0)) (done_letter (home_of s t.0) t.0 k.0 v.0 effect.notice ∷ [])
     (children_versioned xs t.0 v.0 k.0 0 (subs_at s t.0) version) ((λ i. tt), tt)))
 
-client_next : (s : ScriptData) (past : List Entry) (e : Entry) (c : Client) (first : List Outgoing) → AreVersioned s past
+client_next : (s : ScriptData) (past : List Entry) (e : Entry) (c : Client) (first : List Outgoing) → MayFollow s past e → AreVersioned s past
     → e.sent ≡ (submit s c first).sent → e.acts ≡ (submit s c first).acts
     → SentVersioned (places_of (reverse past) ++ places_at e) first → AreVersioned s (e ∷ past)
-client_next s past e c first are sent acts one =
+client_next s past e c first m are sent acts one =
     let xs = places_of (reverse past) ++ places_at e in
     let test = client_finishes s (next_after s c) c in
-    more s past e are
+    more s past e m are
     (subst (λ (acts : List Act). Each (λ (x : Place). IsOfBorn xs x.act) (placed e.actor.0 acts)) (sym acts) (end_deeds xs e.actor.0 test))
     (subst (λ (os : List Outgoing). SentVersioned xs os) (sym sent) (submit_versioned xs s c first one))
 
@@ -276,34 +272,37 @@ order_deeds xs node s st b out (TellsAsked v k is row) = rw row tt
 
 versioned_next : (s : ScriptData) (past : List Entry) (e : Entry) → IsSound s → IsGood s past → MayFollow s past e → AreVersioned s past
     → Next s past e → AreVersioned s (e ∷ past)
-versioned_next s past e sound good m are (Begins is at made) = client_next s past e (client_in s past) [] are made.sent made.acts tt
+versioned_next s past e sound good m are (Begins is at made) = client_next s past e (client_in s past) [] m are made.sent made.acts tt
 versioned_next s past e sound good m are (Hears t v answer is at lt made) =
-    client_next s past e (with_answer t.0 (client_in s past)) (nudge s ∷ []) are made.sent made.acts ((λ i. tt), tt)
-versioned_next s past e sound good m are (Ends v is at made) = client_next s past e (with_end (client_in s past)) [] are made.sent made.acts tt
+    client_next s past e (with_answer t.0 (client_in s past)) (nudge s ∷ []) m are made.sent made.acts ((λ i. tt), tt)
+versioned_next s past e sound good m are (Ends v is at made) = client_next s past e (with_end (client_in s past)) [] m are made.sent made.acts tt
 versioned_next s past e sound good m are (Coordinates tells at made) =
     let xs = places_of (reverse past) ++ places_at e in
-    more s past e are (rw made.acts tt)
+    more s past e m are (rw made.acts tt)
     (each_map (of (λ (to : ℕ) (b : Body). HasVersion xs b)) (λ (o : Outgoing). (i : LetterId) → HasVersion xs o.body) e.sent (λ o is i. is)
     (coordinator_sends (λ (to : ℕ) (b : Body). HasVersion xs b) s past e made (orders_versioned xs s.nodes)))
 versioned_next s past e sound good m are (Obeys p out at lt order made) =
     let xs = places_of (reverse past) ++ places_at e in
-    more s past e are
+    more s past e m are
     (subst (λ (acts : List Act). Each (λ (x : Place). IsOfBorn xs x.act) (placed e.actor.0 acts)) (sym made.acts)
     (order_deeds xs e.actor.0 s (node_in s past p) e.took.body out order))
     (subst (λ (os : List Outgoing). SentVersioned xs os) (sym made.sent) (order_versioned xs s (node_in s past p) e.took.body out order))
 versioned_next s past e sound good m are (DoesRoot t v effect is c at lt none work made) =
     root_next s past e t v effect c sound good m are is work made
 versioned_next s past e sound good m are (DoesSub t k v raises effect is c later from at lt work made) =
-    sub_next s past e t k v raises effect m are is made
+    sub_next s past e t k v raises effect m are is work made
 versioned_next s past e sound good m are (Notes t k v values is c later from at lt misses made) =
     let xs = places_of (reverse past) ++ places_at e in
     let answer = answer_noted t k values (node_in s past (home_of s t.0)).homes in
-    more s past e are (rw made.acts tt)
+    more s past e m are (rw made.acts tt)
     (subst (λ (os : List Outgoing). SentVersioned xs os) (sym made.sent) (replies_versioned xs (client_of s) answer))
 
 -- in every run in which each letter came in time
 pub versioned_run : (s : ScriptData) (past : List Entry) → IsSound s → IsStepRun s past → AllTimely s past → AreVersioned s past
-versioned_run s [] sound run timely = record { deeds = tt; letters = (tt, tt) }
+versioned_run s [] sound run timely = record {
+  deeds = tt;
+  letters = each_first (λ (l : Letter). HasVersion (places_of (reverse [])) l.body) s (tt, tt);
+}
 versioned_run s (e ∷ past) sound run timely =
     versioned_next s past e sound (good_run s past sound run.1 timely.1) run.0 (versioned_run s past sound run.1 timely.1)
     (next_of s past e sound run timely)

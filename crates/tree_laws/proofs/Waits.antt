@@ -25,6 +25,8 @@ use Rattle.letter_types.specs.Steps.{Out}
 use Rattle.world_model.specs.Done.{turned_if}
 use Rattle.world_model.specs.Node.{Node}
 use Rattle.world_model.proofs.Scripts.{IsSound}
+use Rattle.world_model.specs.Notices.{values_of}
+use Rattle.world_model.proofs.Worked.{root_did, sub_did, took_body}
 use Rattle.tree_laws.proofs.Goods.{next_of}
 use Rattle.tree_laws.proofs.Histories.{one_more}
 use Rattle.tree_laws.proofs.Versions.{placed}
@@ -66,11 +68,11 @@ at_once s past e (Ends v is at made) = at_once_of s e (Advanced v) e.acts is ref
 at_once s past e (Coordinates tells at made) = told_at_once s (places_at e) e.took.body tells
 at_once s past e (Obeys p out at lt order made) = obeys_at_once s (node_in s past p) (places_at e) e.took.body out order
 at_once s past e (DoesRoot t v effect is sub at lt none work made) =
-    at_once_of s e (Root t) (Born t v ∷ Did t (record { 0 = 0 }) effect.values ∷ []) is made.acts
-    (λ commutes. last_did e.actor.0 t (record { 0 = 0 }) effect.values (Born t v ∷ []))
+    at_once_of s e (Root t) (Born t v ∷ Did t (record { 0 = 0 }) (values_of effect.notice) ∷ []) (took_body s past e (Root t) is) (root_did s past e t v effect work made)
+    (λ commutes. last_did e.actor.0 t (record { 0 = 0 }) (values_of effect.notice) (Born t v ∷ []))
 at_once s past e (DoesSub t k v raises effect is sub later from at lt work made) =
-    at_once_of s e (SubLetter t k v) (turned_if raises v.0 ++ Did t k effect.values ∷ []) is made.acts
-    (λ commutes. last_did e.actor.0 t k effect.values (turned_if raises v.0))
+    at_once_of s e (SubLetter t k v) (turned_if raises v.0 ++ Did t k (values_of effect.notice) ∷ []) (took_body s past e (SubLetter t k v) is) (sub_did s past e t k v raises effect work made)
+    (λ commutes. last_did e.actor.0 t k (values_of effect.notice) (turned_if raises v.0))
 at_once s past e (Notes t k v values is sub later from at lt misses made) =
     at_once_of s e (Done t k v (DidNotice values)) e.acts is refl tt
 

@@ -11,6 +11,7 @@ use Rattle.tx_trees.specs.ScriptData.{ScriptData}
 use Rattle.tx_trees.specs.declared.parts.ScriptRow.{ScriptRow}
 use Rattle.tx_trees.specs.declared.parts.ScriptRow.TheVariants.{Tree as TreeRow, Settle as SettleRow}
 use Rattle.world_model.specs.Counts.{tally, one_if}
+use Rattle.world_model.specs.Kept.{outstanding}
 use Rattle.world_model.specs.Runs.{waiting}
 
 -- a letter that asks for subtransaction k of tree t
@@ -37,11 +38,11 @@ is_born t (Born u v) = one_if (u.0 == t)
 is_born t Finished = 0
 is_born t _ = 0
 
--- how many letters under way ask for subtransaction k of tree t
+-- how many letters that have still to be done ask for subtransaction k of tree t
 abbrev pub letters_asking : ScriptData → List Entry → ℕ → ℕ → ℕ
-letters_asking s past t k = tally (λ (l : Letter). asks t k l.body) (waiting s past)
+letters_asking s past t k = tally (λ (l : Letter). asks t k l.body) (outstanding s past)
 
--- how many letters under way are Go
+-- how many letters in flight are Go
 abbrev pub goes : ScriptData → List Entry → ℕ
 goes s past = tally (λ (l : Letter). is_go l.body) (waiting s past)
 
@@ -67,11 +68,11 @@ replies_to t (Reply u v answer) = one_if (u.0 == t)
 replies_to t Go = 0
 replies_to t _ = 0
 
--- how many letters under way bring the notice of subtransaction k of tree t
+-- how many letters in flight bring the notice of subtransaction k of tree t
 abbrev pub notices : ScriptData → List Entry → ℕ → ℕ → ℕ
 notices s past t k = tally (λ (l : Letter). tells_done t k l.body) (waiting s past)
 
--- how many letters under way answer tree t
+-- how many letters in flight answer tree t
 abbrev pub replies : ScriptData → List Entry → ℕ → ℕ
 replies s past t = tally (λ (l : Letter). replies_to t l.body) (waiting s past)
 

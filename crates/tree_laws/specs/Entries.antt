@@ -14,8 +14,8 @@ rounds_in s h = (after coordinator_table (start_coordinator s.nodes) (own s.node
 
 -- the entries of a run to its end, with so many rounds: one takes Go; for each tree one does its root, one hears its
 -- answer and one hears the nudge; for each further subtransaction one does it and one takes down its notice; for each
--- advancement one asks for it and one hears its end, and each of its three phases tells every node and is told by it; in
--- each round every node is asked and tells twice
+-- advancement one asks for it and one hears its end, and each of its three phases tells every node and is told by it;
+-- in each round every node is asked and tells twice
 abbrev pub entries_of : ScriptData → ℕ → ℕ
 entries_of s rounds =
     1 + 3 * length s.trees + 2 * (all_subs s.trees - length s.trees)

@@ -1,4 +1,5 @@
-//! Laws of trees in runs: what is asked for is done, and once; nothing waits; nodes see their own deeds; how a run ends.
+//! Laws of trees in runs: what is asked for is done, and once; nothing waits; nodes see their own deeds; how a run
+//! ends.
 #![tactic(auto)]
 
 mod deeds;

@@ -20,26 +20,27 @@ use Rattle.node_versions.specs.declared.turns.Turns.{Turns}
 use Rattle.pair_counters.specs.Rows.{counts_of}
 use Rattle.pair_counters.specs.Numbers.{Numbers, done_one}
 use Rattle.tv_base.specs.declared.numbers.TreeNo.{TreeNo}
-use Rattle.tree_home.specs.Homes.{OpenTrees, begun, trees_of}
+use Rattle.tree_home.specs.Homes.{OpenTrees, begun, open_trees}
 use Rattle.tree_home.specs.declared.homes.Answered.{Answered}
 use Rattle.tx_trees.specs.ScriptData.{ScriptData, client_of, subs_at, home_of}
 use Rattle.tx_trees.specs.declared.parts.Sub.{Sub}
 use Rattle.letter_types.specs.declared.acts.Act.{Act}
-use Rattle.letter_types.specs.declared.acts.Act.TheVariants.{Born, Did}
+use Rattle.letter_types.specs.declared.acts.Act.TheVariants.{Born}
+use Rattle.letter_types.specs.declared.bodies.Notice.{Notice}
 use Rattle.letter_types.specs.declared.entries.Outgoing.{Outgoing}
 use Rattle.letter_types.specs.declared.entries.StepOut.{StepOut}
 use Rattle.letter_types.specs.Steps.{Out}
 use Rattle.tree_step.specs.Node.{Node, IsReady, data_of}
 use Rattle.tree_step.specs.declared.node.NodeParts.{NodeParts}
 use Rattle.world_model.specs.Children.{sub_letters, done_letter}
-use Rattle.world_model.specs.Notices.{homes_noted, answer_noted, reply_letters}
+use Rattle.world_model.specs.Notices.{act_of, homes_noted, answer_noted, reply_letters, values_of}
 use Rattle.world_model.specs.Done.{counted_root, counted_sub, note_done, raised_if, root_done, sub_done, sub_sent, turned_if}
 
--- a node with its numbers and homes, and what goes out
-abbrev out_of : Turns → Table → Numbers → OpenTrees → List Outgoing → List Act → Out Node
-out_of turns items numbers homes sent acts =
+-- this node with other parts, and what goes out
+abbrev out_of : Node → Turns → Table → Numbers → OpenTrees → List Outgoing → List Act → Out Node
+out_of st turns items numbers homes sent acts =
     record {
-      state = record { turns = turns; items = items; counts = numbers; homes = homes };
+      state = record st { turns = turns; items = items; counts = numbers; homes = homes };
       sent = sent;
       acts =
           acts;
@@ -57,15 +58,15 @@ few_requests n os asked more is count =
     rw (is, count) (omega (arith, length-append asked more))
 
 -- a root that was prepared, by its parts
-pub root_ready : (s : ScriptData) (p : NodeNo) (t : TreeNo) (v : Version) (client n : ℕ) (values : Gets) (staged : Table)
+pub root_ready : (s : ScriptData) (p : NodeNo) (t : TreeNo) (v : Version) (client n : ℕ) (notice : Notice) (staged : Table)
     (home : HomeChange) (answer : Option Answered) (st : NodeParts) (out : StepOut) (asked : List Outgoing)
     (xs : List Sub)
     → xs ≡ subs_at s t.0 → client ≡ client_of s → asked ≡ sub_letters t.0 v.0 0 0 xs → n ≡ length asked
-    → home_after home (trees_of st.homes)
-    ≡ homes_noted t (record { 0 = 0 }) values (begun t (length xs) v (trees_of st.homes))
-    → answer ≡ answer_noted t (record { 0 = 0 }) values (begun t (length xs) v (trees_of st.homes))
+    → home_after home (open_trees st.homes)
+    ≡ homes_noted t (record { 0 = 0 }) (values_of notice) (begun t (length xs) v (open_trees st.homes))
+    → answer ≡ answer_noted t (record { 0 = 0 }) (values_of notice) (begun t (length xs) v (open_trees st.homes))
     → out.sent ≡ asked ++ reply_letters client answer
-    → out.acts ≡ Born t v ∷ Did t (record { 0 = 0 }) values ∷ []
+    → out.acts ≡ Born t v ∷ act_of t (record { 0 = 0 }) notice ∷ []
     → prepared_row (record {
       change = Tree (record {
         raises = false;
@@ -75,26 +76,26 @@ pub root_ready : (s : ScriptData) (p : NodeNo) (t : TreeNo) (v : Version) (clien
       });
       out = out;
     }) (data_of st)
-    ≡ root_done s p.0 t.0 v.0 (record { items = pending staged st.items; values = values }) (data_of st)
-root_ready s p t v client n values staged home answer st out asked xs is to letters count homed told sent acts =
+    ≡ root_done s p.0 t.0 v.0 (record { items = pending staged st.items; notice = notice }) (data_of st)
+root_ready s p t v client n notice staged home answer st out asked xs is to letters count homed told sent acts =
     let own = letters ∙ ap (λ (ys : List Sub). sub_letters t.0 v.0 0 0 ys) is in
     let numbers = ap (λ (os : List Outgoing). counted_root v.0 p.0 os (counts_of st.counters).numbers)
     (first_requests n out.sent asked (reply_letters client answer) sent count ∙ own) in
-    let h = homed ∙ ap (λ (ys : List Sub). homes_noted t (record { 0 = 0 }) values
-    (begun t (length ys) v (trees_of st.homes))) is in
-    let a = told ∙ ap (λ (ys : List Sub). answer_noted t (record { 0 = 0 }) values
-    (begun t (length ys) v (trees_of st.homes))) is in
+    let h = homed ∙ ap (λ (ys : List Sub). homes_noted t (record { 0 = 0 }) (values_of notice)
+    (begun t (length ys) v (open_trees st.homes))) is in
+    let a = told ∙ ap (λ (ys : List Sub). answer_noted t (record { 0 = 0 }) (values_of notice)
+    (begun t (length ys) v (open_trees st.homes))) is in
     let o = sent ∙ ap (λ (ys : List Outgoing). ys ++ reply_letters client answer) own
     ∙ ap (λ (c : ℕ). sub_letters t.0 v.0 0 0 (subs_at s t.0) ++ reply_letters c answer) to
     ∙ ap (λ (b : Option Answered). sub_letters t.0 v.0 0 0 (subs_at s t.0) ++ reply_letters (client_of s) b) a in
-    λ i. out_of st.turns (pending staged st.items) (numbers i) (h i) (o i) (acts i)
+    λ i. out_of (data_of st) st.turns (pending staged st.items) (numbers i) (h i) (o i) (acts i)
 
 -- another subtransaction that was prepared, by its parts
 pub sub_ready : (s : ScriptData) (q : NodeNo) (t : TreeNo) (k : SubNo) (v : Version) (home n : ℕ) (raises : Bool)
-    (values : Gets) (staged : Table) (st : NodeParts) (out : StepOut) (xs : List Sub)
+    (notice : Notice) (staged : Table) (st : NodeParts) (out : StepOut) (xs : List Sub)
     → xs ≡ subs_at s t.0 → home ≡ home_of s t.0 → n ≡ length out.sent
-    → out.sent ≡ sub_letters t.0 v.0 k.0 0 xs ++ done_letter home t.0 k.0 v.0 values ∷ []
-    → out.acts ≡ turned_if raises v.0 ++ Did t k values ∷ []
+    → out.sent ≡ sub_letters t.0 v.0 k.0 0 xs ++ done_letter home t.0 k.0 v.0 notice ∷ []
+    → out.acts ≡ turned_if raises v.0 ++ act_of t k notice ∷ []
     → prepared_row (record {
       change = Tree (record {
         raises = raises;
@@ -104,27 +105,27 @@ pub sub_ready : (s : ScriptData) (q : NodeNo) (t : TreeNo) (k : SubNo) (v : Vers
       });
       out = out;
     }) (data_of st)
-    ≡ sub_done s q.0 t.0 k.0 v.0 raises (record { items = pending staged st.items; values = values }) (data_of st)
-sub_ready s q t k v home n raises values staged st out xs is at count sent acts =
-    let o : out.sent ≡ sub_sent s t.0 k.0 v.0 values =
-    sent ∙ ap (λ (ys : List Sub). sub_letters t.0 v.0 k.0 0 ys ++ done_letter home t.0 k.0 v.0 values ∷ []) is
-    ∙ ap (λ (h : ℕ). sub_letters t.0 v.0 k.0 0 (subs_at s t.0) ++ done_letter h t.0 k.0 v.0 values ∷ []) at in
+    ≡ sub_done s q.0 t.0 k.0 v.0 raises (record { items = pending staged st.items; notice = notice }) (data_of st)
+sub_ready s q t k v home n raises notice staged st out xs is at count sent acts =
+    let o : out.sent ≡ sub_sent s t.0 k.0 v.0 notice =
+    sent ∙ ap (λ (ys : List Sub). sub_letters t.0 v.0 k.0 0 ys ++ done_letter home t.0 k.0 v.0 notice ∷ []) is
+    ∙ ap (λ (h : ℕ). sub_letters t.0 v.0 k.0 0 (subs_at s t.0) ++ done_letter h t.0 k.0 v.0 notice ∷ []) at in
     let numbers = ap (λ (os : List Outgoing). counted_sub v.0 q.0 os (counts_of st.counters).numbers)
     (all_requests n out.sent count ∙ o) in
-    λ i. out_of (raised_if raises v.0 st.turns) (pending staged st.items) (numbers i) (trees_of st.homes) (o i) (acts i)
+    λ i. out_of (data_of st) (raised_if raises v.0 st.turns) (pending staged st.items) (numbers i) (open_trees st.homes) (o i) (acts i)
 
 -- a notice that was prepared, by its parts
 pub note_ready : (s : ScriptData) (q : NodeNo) (t : TreeNo) (k : SubNo) (v : Version) (client : ℕ) (values : Gets)
     (st : NodeParts) (home : HomeChange) (answer : Option Answered) (out : StepOut)
     → client ≡ client_of s
-    → home_after home (trees_of st.homes) ≡ homes_noted t k values (trees_of st.homes)
-    → answer ≡ answer_noted t k values (trees_of st.homes)
+    → home_after home (open_trees st.homes) ≡ homes_noted t k values (open_trees st.homes)
+    → answer ≡ answer_noted t k values (open_trees st.homes)
     → out.sent ≡ reply_letters client answer → out.acts ≡ []
     → prepared_row (noting q v home out) (data_of st) ≡ note_done s q.0 t.0 k.0 v.0 values (data_of st)
 note_ready s q t k v client values st home answer out to homed told sent acts =
     let o = sent ∙ ap (λ (c : ℕ). reply_letters c answer) to
     ∙ ap (λ (a : Option Answered). reply_letters (client_of s) a) told in
-    λ i. out_of st.turns st.items (done_one v.0 q.0 (counts_of st.counters).numbers) (homed i) (o i) (acts i)
+    λ i. out_of (data_of st) st.turns st.items (done_one v.0 q.0 (counts_of st.counters).numbers) (homed i) (o i) (acts i)
 
 -- what was prepared may be counted
 pub may_count : (s : ScriptData) (n : NodeParts) (v : Version) (root : Bool) (from : NodeNo) (asked : ℕ)

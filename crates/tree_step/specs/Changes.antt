@@ -11,7 +11,7 @@ use Rattle.node_versions.specs.Turns.{raised}
 use Rattle.pair_counters.specs.Numbers.{AllBelow, Numbers, from_version, MOST_COUNT}
 use Rattle.pair_counters.specs.Counts.{Counts}
 use Rattle.pair_counters.specs.Rows.{counts_of}
-use Rattle.tree_home.specs.Homes.{OpenTrees, begun, forgotten, home_in, misses, missing_in, noted, trees_of}
+use Rattle.tree_home.specs.Homes.{OpenTrees, begun, forgotten, home_in, misses, missing_in, noted, open_trees}
 use Rattle.item_versions.specs.Collecting.{collected_all}
 use Rattle.world_model.specs.Done.{counted_root, counted_sub, raised_if}
 use Rattle.tree_step.specs.Node.{IsInWindow, Node, data_of}
@@ -61,7 +61,7 @@ pub record MayCount (c : Counting) (sent : List Outgoing) (k : Counts) : Type 0 
 
 -- a node after a subtransaction or a notice
 abbrev pub after_tree_change : TreeChange → List Outgoing → Node → Node
-after_tree_change c sent st = record {
+after_tree_change c sent st = record st {
   turns = raised_if c.raises c.counting.version.0 st.turns;
   items = pending c.staged st.items;
   counts = counted c.counting sent st.counts;
@@ -72,7 +72,7 @@ after_tree_change c sent st = record {
 pub record MayChangeTree (c : TreeChange) (sent : List Outgoing) (n : NodeParts) : Type 0 where
   pub counting : MayCount c.counting sent (counts_of n.counters)
   pub items : IsWindowedTable n.turns.low.0 (pending c.staged n.items)
-  pub home : MayHome c.home (trees_of n.homes)
+  pub home : MayHome c.home (open_trees n.homes)
 
 -- a node after a step
 abbrev pub after_change : Change → List Outgoing → Node → Node
@@ -111,9 +111,11 @@ pub record IsNodeStepOf (o : Out Node) (n : NodeParts) (p : Prepared) : Type 0 w
   pub may : MayDo p.change p.out.sent n
 
 -- what came of a step of a node: it was done, and the node afterwards and what goes out are this row; or no memory was
--- found, and the node is as it was. The node counts by as many nodes as before, and its versions are in their window
+-- found, and the node is as it was. The answers that it holds stay, it counts by as many nodes as before, and its
+-- versions are in their window
 pub record IsDone (o : Out Node) (old new : NodeParts) (r : Result StepOut NoMemory) : Type 0 where
   pub row : IfOk r (λ out. made (data_of new) out ≡ o)
+  pub held : OnOk r (new.homes.held ≡ old.homes.held)
   pub nodes : OnOk r ((counts_of new.counters).nodes ≡ (counts_of old.counters).nodes)
   pub window : OnOk r (IsInWindow new)
   pub err : OnErr r (new ≡ old)
@@ -122,6 +124,7 @@ pub record IsDone (o : Out Node) (old new : NodeParts) (r : Result StepOut NoMem
 pub record IsDoneTwice (o : Out Node) (old new : NodeParts) (r : Result Step NoMemory) : Type 0 where
   pub row : IfOk r (λ step. made (data_of new) step.given ≡ o)
   pub kept : IfOk r (λ step. step.kept ≡ step.given)
+  pub held : OnOk r (new.homes.held ≡ old.homes.held)
   pub nodes : OnOk r ((counts_of new.counters).nodes ≡ (counts_of old.counters).nodes)
   pub window : OnOk r (IsInWindow new)
   pub err : OnErr r (new ≡ old)

@@ -1,22 +1,20 @@
 -- A node's parts, and what its table sees of them.
-use Rattle.std.specs.Prelude.{ℕ, ◌≡◌, ◌+◌, ◌<◌, ◌≤◌, List}
-use Rattle.tv_base.specs.declared.numbers.TreeNo.{TreeNo}
+use Rattle.std.specs.Prelude.{ℕ, ◌≡◌, ◌+◌, ◌<◌, ◌≤◌}
 use Rattle.item_versions.specs.Table.{Table, pending}
 use Rattle.item_versions.specs.Window.{IsWindowedTable}
 use Rattle.node_versions.specs.declared.turns.Turns.{Turns}
 use Rattle.pair_counters.specs.Numbers.{AllBelow, MOST_COUNT}
 use Rattle.pair_counters.specs.Rows.{CounterRows, counts_of}
-use Rattle.tree_home.specs.Homes.{trees_of}
-use Rattle.tree_home.specs.declared.homes.OpenTree.{OpenTree}
+use Rattle.tree_home.specs.Homes.{HomesData, open_trees}
 use Rattle.tx_trees.specs.ScriptData.{ScriptData}
 pub use Rattle.world_model.specs.Node.{Effect, Node}
 use Rattle.tree_step.specs.declared.node.NodeParts.{NodeParts}
 use Rattle.tree_step.specs.declared.node.Effect.{Effect as Staging}
 
--- a node of these parts
-abbrev pub node_with : Turns → Table → CounterRows → List (TreeNo × OpenTree) → Node
+-- a node of these parts: its table sees the open trees of its homes, and not the answers that are held there
+abbrev pub node_with : Turns → Table → CounterRows → HomesData → Node
 node_with turns items counters homes =
-    record { turns = turns; items = items; counts = (counts_of counters).numbers; homes = trees_of homes }
+    record { turns = turns; items = items; counts = (counts_of counters).numbers; homes = open_trees homes }
 
 -- a node's state as the table sees it
 abbrev pub data_of : NodeParts → Node
@@ -52,8 +50,8 @@ pub record CanStep (s : ScriptData) (n : NodeParts) : Type 0 where
 
 -- what is staged, at these items
 abbrev pub effect_on : Table → Staging → Effect
-effect_on items e = record { items = pending e.staged items; values = e.values }
+effect_on items e = record { items = pending e.staged items; notice = e.notice }
 
 -- a state of these parts
-abbrev pub state_of : Turns → Table → CounterRows → List (TreeNo × OpenTree) → NodeParts
+abbrev pub state_of : Turns → Table → CounterRows → HomesData → NodeParts
 state_of turns items counters homes = record { turns = turns; items = items; counters = counters; homes = homes }

@@ -1,7 +1,7 @@
 // How a node changes in a step, once the step is prepared.
 ghost use Rattle.std.specs.Prelude.{◌≡◌, [], MatchResult};
 ghost use Rattle.letter_types.specs.Steps.{made};
-ghost use Rattle.tree_home.specs.Homes.{trees_of};
+ghost use Rattle.tree_home.specs.Homes.{open_trees};
 ghost use Rattle.tree_step.specs.Changes.{after_tree_change, home_after, IsDone, IsDoneTwice, MayDo, MayHome, prepared_row};
 ghost use Rattle.tree_step.specs.declared.change.Change.TheVariants.{Still, Tree};
 ghost use Rattle.world_model.specs.Done.{raised_if};
@@ -88,11 +88,13 @@ impl Prepared {
     }
 }
 
-/// The home of a tree does this. Only to open a tree may want memory; then the open trees are as they were.
+/// The home of a tree does this, and the answers that are held there stay. Only to open a tree may need memory; then
+/// the homes are as they were.
 fn change_home(homes: &mut Homes, home: HomeChange) -> Result<(), NoMemory>
-    requires { MayHome home (trees_of homes.old) }
-    ensures { MatchResult result (λ _. trees_of homes.new ≡ home_after home (trees_of homes.old))
+    requires { MayHome home (open_trees homes.old) }
+    ensures trees { MatchResult result (λ _. open_trees homes.new ≡ home_after home (open_trees homes.old))
         (λ _. homes.new ≡ homes.old) }
+    ensures held { homes.new.held ≡ homes.old.held }
 {
     match home {
         HomeChange::Stay => Ok(()),
@@ -126,7 +128,7 @@ fn raise_if(turns: &mut Turns, raises: bool, v: Version)
     }
 }
 
-/// A subtransaction is done, or a notice is brought, and this goes out. Only to open a tree at its home may want
+/// A subtransaction is done, or a notice is brought, and this goes out. Only to open a tree at its home may need
 /// memory; then the node is as it was.
 fn change_tree(node: &mut NodeParts, change: TreeChange, out: StepOut) -> Result<StepOut, NoMemory>
     requires { MayDo (Tree change) out.sent node.old }
@@ -139,7 +141,7 @@ fn change_tree(node: &mut NodeParts, change: TreeChange, out: StepOut) -> Result
     Ok(out)
 }
 
-/// Does a step that was prepared, and gives what goes out. Only to open a tree at its home may want memory; then the
+/// Does a step that was prepared, and gives what goes out. Only to open a tree at its home may need memory; then the
 /// node is as it was.
 pub fn done(node: &mut NodeParts, prepared: Prepared) -> Result<StepOut, NoMemory>
     requires { MayDo prepared.change prepared.out.sent node.old }

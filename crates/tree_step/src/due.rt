@@ -2,7 +2,7 @@
 ghost use Rattle.std.specs.Prelude.{◌≡◌, ◌==◌, ◌&&◌, ◌+◌, not, is_some, nat_le, nat_lt, length};
 ghost use Rattle.item_versions.specs.Window.{in_window};
 ghost use Rattle.tx_trees.specs.ScriptData.{home_of, node_of, subs_at};
-ghost use Rattle.tree_home.specs.Homes.{home_in, trees_of};
+ghost use Rattle.tree_home.specs.Homes.{home_in, open_trees};
 ghost use Rattle.world_model.specs.Named.{is_did, is_strict_at, suits};
 ghost use Rattle.tree_step.specs.Due.{is_due};
 ghost use Rattle.tree_step.specs.Node.{data_of};
@@ -18,14 +18,14 @@ use tx_trees::{Script, TreeKind};
 /// How many versions a node goes by at a time.
 const VERSIONS: u64 = 3;
 
-/// Whether a tree's root stands at node `at`, which doesn't have the tree.
+/// Whether a tree's root is at node `at`, which doesn't have the tree.
 fn is_new_root(script: &Script, at: ActorNo, homes: &Homes, tree: TreeNo) -> bool
-    ensures { result ≡ (home_of script.now tree.0 == at.0) && not (is_some (home_in tree (trees_of homes.now))) }
+    ensures { result ≡ (home_of script.now tree.0 == at.0) && not (is_some (home_in tree (open_trees homes.now))) }
 {
     script.home_of(tree) == at.0 && !homes.has(tree)
 }
 
-/// Whether a subtransaction stands at node `at`, and was asked for by a node.
+/// Whether a subtransaction is at node `at`, and was asked for by a node.
 fn is_sub_at(script: &Script, at: ActorNo, from: ActorNo, tree: TreeNo, sub: SubNo) -> bool
     ensures { result ≡ (node_of script.now tree.0 sub.0 == at.0) && nat_lt from.0 script.now.nodes }
 {

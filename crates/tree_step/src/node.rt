@@ -1,6 +1,6 @@
 // What a node keeps.
-use commute_ops::Values;
 use item_versions::{ItemTable, Staged};
+use letter_types::Notice;
 use node_versions::Turns;
 use pair_counters::Counters;
 use tree_home::Homes;
@@ -14,9 +14,10 @@ pub struct NodeParts {
     pub homes: Homes,
 }
 
-/// What the operations of a subtransaction make: items that the table has yet to take, and the values of gets.
+/// What the operations of a subtransaction make: items that the table has yet to take, and what its tree's home is told
+/// of it.
 #[derive(Drop)]
 pub struct Effect {
     pub staged: Staged,
-    pub values: Values,
+    pub notice: Notice,
 }

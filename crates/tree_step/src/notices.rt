@@ -1,7 +1,7 @@
 // A notice at its tree's home.
 ghost use Rattle.std.specs.Prelude.{◌≡◌, ◌<◌, ◌↔◌, [], false, IfOk, IsNone, IsTrue};
 ghost use Rattle.item_versions.specs.Window.{in_window};
-ghost use Rattle.tree_home.specs.Homes.{after_notice, answer_in, misses, missing_in, outcome, trees_of};
+ghost use Rattle.tree_home.specs.Homes.{after_notice, answer_in, misses, missing_in, outcome, open_trees};
 ghost use Rattle.tree_step.specs.Changes.{home_after, IsNodeStepOf, MayHome};
 ghost use Rattle.world_model.specs.Done.{note_done};
 ghost use Rattle.tree_step.specs.Node.{data_of, IsReady};
@@ -28,12 +28,12 @@ fn notice_home(
     values: Values,
     answer: &Option<Answered>,
 ) -> HomeChange
-    requires misses { IsTrue (misses tree sub (trees_of homes.now)) }
-    requires answer { answer.now ≡ answer_in tree sub values (trees_of homes.now) }
-    requires none { IsNone answer.now ↔ (1 < missing_in tree (trees_of homes.now)) }
-    ensures after { home_after result (trees_of homes.now)
-        ≡ after_notice tree sub values (trees_of homes.now) (outcome tree sub values (trees_of homes.now)) }
-    ensures may { MayHome result (trees_of homes.now) }
+    requires misses { IsTrue (misses tree sub (open_trees homes.now)) }
+    requires answer { answer.now ≡ answer_in tree sub values (open_trees homes.now) }
+    requires none { IsNone answer.now ↔ (1 < missing_in tree (open_trees homes.now)) }
+    ensures after { home_after result (open_trees homes.now)
+        ≡ after_notice tree sub values (open_trees homes.now) (outcome tree sub values (open_trees homes.now)) }
+    ensures may { MayHome result (open_trees homes.now) }
 {
     match answer {
         None => HomeChange::Note { tree, sub, values },

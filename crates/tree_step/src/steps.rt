@@ -2,24 +2,36 @@
 ghost use Rattle.std.specs.Prelude.{◌≡◌, ◌<◌, length, IfOk, IsTrue, None};
 ghost use Rattle.item_versions.specs.Table.{pending};
 ghost use Rattle.item_versions.specs.Window.{in_window, IsWindowedTable};
-ghost use Rattle.tree_home.specs.Homes.{begun, home_in, trees_of};
+ghost use Rattle.tree_home.specs.Homes.{begun, home_in, open_trees};
 ghost use Rattle.tx_trees.specs.ScriptData.{subs_at};
 ghost use Rattle.tree_step.specs.Changes.{home_after, IsNodeStepOf, MayHome};
 ghost use Rattle.world_model.specs.Done.{root_done, sub_done};
 ghost use Rattle.tree_step.specs.Node.{data_of, effect_on, IsReady};
-ghost use Rattle.world_model.specs.Notices.{homes_noted};
+ghost use Rattle.world_model.specs.Notices.{homes_noted, values_of};
 ghost use Rattle.tree_step.specs.inside.Opening.{root_answer};
 
 use crate::asked::Request;
 use crate::change::{Change, HomeChange, Prepared, TreeChange};
 use crate::counting::Counting;
-use crate::letters::{root_out, sub_letters, sub_out};
+use crate::letters::{root_acts, root_out, sub_letters, sub_out};
 use crate::node::{Effect, NodeParts};
 use commute_ops::{Values, copy_values};
+use letter_types::Notice;
 use std::alloc::Global;
 use tree_home::{Answered, Homes};
 use tv_base::{ActorNo, NoMemory, NodeNo, SubNo, TreeNo, Version};
 use tx_trees::Script;
+
+/// The values that a notice brings.
+fn values_of(alloc: Global, notice: Notice) -> Values
+    ensures { result ≡ values_of notice }
+{
+    match notice {
+        Notice::Did(values) => values,
+        Notice::Yes(values) => values,
+        Notice::No(_) => Values::new(alloc),
+    }
+}
 
 /// The answer of a tree of so many subtransactions once its root is done: None exactly where it has another.
 fn root_answer(
@@ -46,10 +58,10 @@ fn root_answer(
 /// opened, since it is answered at once.
 fn root_home(homes: &Homes, tree: TreeNo, subs: u32, version: Version, values: Values) -> HomeChange
     requires some { 0 < subs }
-    requires absent { home_in tree (trees_of homes.now) ≡ None }
-    ensures after { home_after result (trees_of homes.now)
-        ≡ homes_noted tree (record { 0 = 0 }) values (begun tree subs version (trees_of homes.now)) }
-    ensures may { MayHome result (trees_of homes.now) }
+    requires absent { home_in tree (open_trees homes.now) ≡ None }
+    ensures after { home_after result (open_trees homes.now)
+        ≡ homes_noted tree (record { 0 = 0 }) values (begun tree subs version (open_trees homes.now)) }
+    ensures may { MayHome result (open_trees homes.now) }
 {
     if subs == 1 {
         return HomeChange::Stay;
@@ -73,7 +85,7 @@ pub(crate) fn prepare_root(
 ) -> Result<Prepared, NoMemory>
     requires ready { IsReady script.now request.from.0 node.now }
     requires there { 0 < length (subs_at script.now request.tree.0) }
-    requires absent { home_in request.tree (trees_of node.now.homes) ≡ None }
+    requires absent { home_in request.tree (open_trees node.now.homes) ≡ None }
     requires near { IsTrue (in_window node.now.turns.low.0 request.version.0) }
     requires fits { IsWindowedTable node.now.turns.low.0 (pending effect.staged node.now.items) }
     ensures { IfOk result (IsNodeStepOf (root_done script.now request.from.0 request.tree.0 request.version.0
@@ -88,11 +100,13 @@ pub(crate) fn prepare_root(
     let subs = script.subs_of(tree);
     let count = subs.len() as u32;
     let client = ActorNo(script.nodes() + 1);
-    let Effect { staged, values } = effect;
-    let requests = sub_letters(alloc, tree, version, SubNo(0), subs)?;
+    let Effect { staged, notice } = effect;
+    let requests = sub_letters(alloc, tree, version, SubNo(0), subs, 0)?;
     let asked = requests.items().len();
+    let acts = root_acts(alloc, tree, version, &notice)?;
+    let values = values_of(alloc, notice);
     let answer = root_answer(alloc, tree, count, version, &values)?;
-    let out = root_out(alloc, client, request, &values, answer, requests)?;
+    let out = root_out(client, answer, requests, acts)?;
     let home = root_home(&node.homes, tree, count, version, values);
     let counting = Counting {
         version,
@@ -131,8 +145,8 @@ pub(crate) fn prepare_sub(
 {
     let subs = script.subs_of(request.tree);
     let home = NodeNo(script.home_of(request.tree));
-    let Effect { staged, values } = effect;
-    let out = sub_out(alloc, home, request, &values, raises, subs)?;
+    let Effect { staged, notice } = effect;
+    let out = sub_out(alloc, home, request, &notice, raises, subs)?;
     let counting = Counting {
         version: request.version,
         root: false,

@@ -17,7 +17,7 @@ use tree_step::{NodeParts, done_twice};
 use tv_base::NoMemory;
 use tx_trees::Script;
 
-/// Prepares the step and does it. Want of memory leaves the node as it was.
+/// Prepares the step and does it. Running out of memory leaves the node as it was.
 fn step_update(
     alloc: Global,
     node: &mut NodeParts,
@@ -53,7 +53,8 @@ pub fn run_update(
         ≡ update_if_made script.now letter.now.to.0 (data_of (state_of turns.old items.old counters.old homes.old))
         letter.now.from.0 letter.now.body) }
     ensures kept { IfOk result (λ step. step.kept ≡ step.given) }
-    // What stays, and what want of memory leaves.
+    // What stays, and what running out of memory leaves.
+    ensures held { OnOk result (homes.new.held ≡ homes.old.held) }
     ensures script { OnOk result (IsOf script.now (state_of turns.new items.new counters.new homes.new)) }
     ensures window { OnOk result (IsInWindow (state_of turns.new items.new counters.new homes.new)) }
     ensures err { OnErr result (state_of turns.new items.new counters.new homes.new

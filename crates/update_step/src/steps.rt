@@ -8,7 +8,7 @@ ghost use Rattle.update_step.specs.Rows.{can_touch, update_if_made, touching};
 
 use commute_ops::Values;
 use item_versions::Staged;
-use letter_types::Letter;
+use letter_types::{Letter, Notice};
 use node_versions::Turns;
 use std::alloc::Global;
 use tree_step::{Effect, InVersion, NodeParts, Prepared, asked_ops, asked_version, prepare_tree};
@@ -33,7 +33,7 @@ fn touch_all(
     let items = &node.items;
     // The reader says that the versions of each item ascend.
     let _count = items.count();
-    let mut staged = Staged::new(alloc);
+    let mut staged = Staged::with_capacity(alloc, ops.len())?;
     for op in ops {
         let Deed::Apply(change) = &op.deed else {
             return Ok(None);
@@ -45,7 +45,7 @@ fn touch_all(
     }
     Ok(Some(Effect {
         staged,
-        values: Values::new(alloc),
+        notice: Notice::Did(Values::new(alloc)),
     }))
 }
 

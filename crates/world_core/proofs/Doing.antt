@@ -14,7 +14,7 @@ use Rattle.world_core.specs.declared.actor.ActorState.{ActorState}
 use Rattle.world_core.specs.declared.actor.ActorState.TheVariants.{Node, Coordinator, Client}
 use Rattle.world_core.specs.declared.actor.ActorPrepared.{ActorPrepared}
 use Rattle.world_core.specs.declared.actor.ActorPrepared.TheVariants.{Node as NodeStep, Coordinator as CoordinatorStep, Client as ClientStep}
-use Rattle.world_core.specs.Actors.{IsFor, actor_data}
+use Rattle.world_core.specs.Actors.{IsFor, actor_data, actor_held}
 use Rattle.world_core.specs.Prepared.{IsActorDone, IsActorStepOf, ActorMayDo, out_of}
 use Rattle.world_core.specs.inside.Actors.{Acted}
 
@@ -30,20 +30,26 @@ may_do s l (Coordinator c) (ClientStep p) is = absurd is
 may_do s l (Client k) (NodeStep p) is = absurd is
 may_do s l (Client k) (CoordinatorStep p) is = absurd is
 
--- an actor made its row of a letter, is of the script still, and this goes out
+-- an actor made its row of a letter, holds what it held, is of the script still, and this goes out
 pub record IsRow (s : ScriptData) (l : Letter) (old new : ActorState) (out : StepOut) : Type 0 where
   pub row : made (actor_data new) out ≡ actor_row s l.to.0 (actor_data old) l
+  pub held : actor_held new ≡ actor_held old
   pub script : IsFor s new
 
 -- what is done is the row
 pub is_row : (s : ScriptData) (l : Letter) (old new : ActorState) (p : ActorPrepared) (out : StepOut) → IsFor s old
     → IsActorStepOf s l old p → IsActorDone p old new out → IsRow s l old new out
 is_row s l (Node n) (Node m) (NodeStep p) out for is done =
-    record { row = ap (as_actor NodeData) (done.0 ∙ is.row); script = done.1 ∙ for }
+    record { row = ap (as_actor NodeData) (done.0 ∙ is.row); held = done.2; script = done.1 ∙ for }
 is_row s l (Coordinator c) (Coordinator d) (CoordinatorStep p) out for is done =
-    record { row = (λ i. made (CoordinatorData (done.0 i)) (done.1 i)) ∙ ap (as_actor CoordinatorData) is.row; script = tt }
+    record {
+      row = (λ i. made (CoordinatorData (done.0 i)) (done.1 i)) ∙ ap (as_actor CoordinatorData) is.row;
+      held = refl;
+      script = tt;
+    }
 is_row s l (Client k) (Client m) (ClientStep p) out for is done = record {
   row = (λ i. made (ClientData (done.0 i).client) (done.1 i)) ∙ ap (as_actor ClientData) is.row;
+  held = refl;
   script = subst (λ (x : Kept). IsKeptOf s x) (sym done.0) is.still_kept;
 }
 is_row s l (Node n) (Coordinator d) (NodeStep p) out for is done = absurd done

@@ -10,7 +10,7 @@ use Rattle.item_versions.specs.Window.{IsWindowedTable}
 use Rattle.node_versions.specs.declared.turns.Turns.{Turns}
 use Rattle.pair_counters.specs.Counts.{Counts, no_counts}
 use Rattle.pair_counters.specs.Rows.{counts_of}
-use Rattle.tree_home.specs.Homes.{no_trees, trees_of}
+use Rattle.tree_home.specs.Homes.{no_homes, open_trees}
 use Rattle.tree_step.specs.Node.{IsInWindow, IsOf, data_of}
 use Rattle.tree_step.specs.declared.node.NodeParts.{NodeParts}
 use Rattle.tx_trees.specs.ScriptData.{ScriptData, client_of}
@@ -21,9 +21,10 @@ use Rattle.world_core.specs.Actors.{AreStatesOf, IsStateOf, IsWorldOf, WorldData
 
 -- the first versions, the items as they begin, nothing counted, no tree
 pub starts : (s : ScriptData) (p : ℕ) (n : NodeParts)
-    → n.turns ≡ first_turns → n.items ≡ items_at p 0 s.items → counts_of n.counters ≡ no_counts s.nodes → trees_of n.homes ≡ no_trees
+    → n.turns ≡ first_turns → n.items ≡ items_at p 0 s.items → counts_of n.counters ≡ no_counts s.nodes → n.homes ≡ no_homes
     → data_of n ≡ start_node s p
-starts s p n turns items counts homes = λ i. record { turns = turns i; items = items i; counts = (counts i).numbers; homes = homes i }
+starts s p n turns items counts homes =
+    λ i. record { turns = turns i; items = items i; counts = (counts i).numbers; homes = open_trees (homes i) }
 
 -- it is in its window
 pub starts_in_window : (n : NodeParts) (nodes : ℕ) → n.turns ≡ first_turns → IsWindowedTable 0 n.items
@@ -42,11 +43,11 @@ starts_in_window n nodes turns items counts =
     }
 
 -- a node as a run begins
-pub first_node : (s : ScriptData) (a : ℕ) (n : NodeParts) → a < s.nodes → data_of n ≡ start_node s a → IsOf s n
-    → IsStateOf s [] a (Node n)
-first_node s a n lt is nodes =
+pub first_node : (s : ScriptData) (a : ℕ) (n : NodeParts) → a < s.nodes → data_of n ≡ start_node s a
+    → n.homes.held ≡ [] → IsOf s n → IsStateOf s [] a (Node n)
+first_node s a n lt is held nodes =
     let here : nat_lt a s.nodes ≡ true = grind (arith, nat_tests) in
-    record { seen = rw here (ap NodeData is); script = nodes }
+    record { seen = rw here (ap NodeData is); held = held; script = nodes }
 
 one_of : (s : ScriptData) (past : List Entry) (xs : List ActorState) (x : ActorState) (a : ℕ) (st : ActorState)
     → AreStatesOf s past xs → IsStateOf s past (length xs) x

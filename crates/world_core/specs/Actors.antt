@@ -1,8 +1,10 @@
 -- The actors' states by their tables, and what a world keeps.
 use Rattle.std.specs.Prelude.{ℕ, ◌+◌, ◌^◌, ◌≡◌, List, [], ◌∷◌, ◌++◌, length, reverse, Some, slice_get}
+use Rattle.tv_base.specs.declared.numbers.TreeNo.{TreeNo}
 use Rattle.client_rows.specs.Kept.{IsKeptOf}
 use Rattle.letter_types.specs.declared.entries.Letter.{Letter}
 use Rattle.letter_types.specs.declared.entries.Entry.{Entry}
+use Rattle.tree_home.specs.declared.homes.Held.{Held}
 use Rattle.tree_step.specs.Node.{IsOf, data_of as node_data}
 use Rattle.tx_trees.specs.ScriptData.{ScriptData}
 use Rattle.world_model.specs.Tables.{ActorData, NodeData, CoordinatorData, ClientData}
@@ -16,15 +18,21 @@ actor_data (Node n) = NodeData (node_data n)
 actor_data (Coordinator c) = CoordinatorData c
 actor_data (Client c) = ClientData c.client
 
+-- the answers that an actor holds, of which its table says nothing
+abbrev pub actor_held : ActorState → List (TreeNo × Held)
+actor_held (Node n) = n.homes.held
+actor_held _ = []
+
 -- a state of the script: a node counts by the script's nodes, and a client goes over its rows
 abbrev pub IsFor : ScriptData → ActorState → Type 0
 IsFor s (Node n) = IsOf s n
 IsFor s (Coordinator c) = Unit {0}
 IsFor s (Client c) = IsKeptOf s c
 
--- the state of actor a after a past
+-- the state of actor a after a past: it holds no answer
 pub record IsStateOf (s : ScriptData) (past : List Entry) (a : ℕ) (st : ActorState) : Type 0 where
   pub seen : actor_data st ≡ actor_in s past a
+  pub held : actor_held st ≡ []
   pub script : IsFor s st
 
 -- the states of the actors after a past, by number

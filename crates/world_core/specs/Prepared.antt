@@ -44,10 +44,11 @@ ActorMayDo (CoordinatorStep p) (Coordinator c) = MayKeep p.change.row c.current
 ActorMayDo (ClientStep p) (Client k) = ⊤
 ActorMayDo _ _ = ⊥
 
--- the actor before it was done and after it, and what goes out
+-- the actor before it was done and after it, and what goes out; the answers that a node holds stay
 abbrev pub IsActorDone : ActorPrepared → ActorState → ActorState → StepOut → Type 0
 IsActorDone (NodeStep p) (Node n) (Node m) out =
     (made (node_data m) out ≡ prepared_row p (node_data n)) × ((counts_of m.counters).nodes ≡ (counts_of n.counters).nodes)
+    × (m.homes.held ≡ n.homes.held)
 IsActorDone (CoordinatorStep p) (Coordinator c) (Coordinator d) out = (d ≡ coordinator_after p.change c) × (out ≡ p.out)
 IsActorDone (ClientStep p) (Client k) (Client m) out = (m ≡ client_after p.change k) × (out ≡ p.out)
 IsActorDone _ _ _ _ = ⊥

@@ -3,7 +3,7 @@ ghost use Rattle.std.specs.Prelude.{◌≡◌, ◌<◌, ◌+◌, [], IfOk, Match
 ghost use Rattle.letter_types.specs.Steps.{made};
 ghost use Rattle.world_model.specs.Tables.{actor_row};
 ghost use Rattle.world_model.specs.Taking.{CountsBelow, IsAddressed};
-ghost use Rattle.world_core.specs.Actors.{actor_data, IsFor, IsStateOf};
+ghost use Rattle.world_core.specs.Actors.{actor_data, actor_held, IsFor, IsStateOf};
 ghost use Rattle.world_core.specs.Prepared.{IsActorDone, IsActorStepOf, ActorMayDo, MayTake, out_of};
 ghost use Rattle.pair_counters.specs.Numbers.{MOST_COUNT};
 
@@ -69,8 +69,8 @@ impl ActorState {
 }
 
 /// Prepares what an actor does with a letter that is addressed to it: its row of its table. A letter that isn't apt
-/// changes and sends nothing. It changes nothing, and takes all memory that the step wants, but for what a node takes to
-/// open a tree at its home.
+/// changes and sends nothing. It changes nothing, and takes all memory that the step needs, but for what a node takes
+/// to open a tree at its home.
 pub fn actor_prepare(
     alloc: Global,
     state: &ActorState,
@@ -96,7 +96,7 @@ pub fn actor_prepare(
     }
 }
 
-/// Does a step that was prepared for this actor, and gives what goes out. Only to open a tree at its home may want
+/// Does a step that was prepared for this actor, and gives what goes out. Only to open a tree at its home may need
 /// memory; then the actor is as it was.
 pub fn actor_done(state: &mut ActorState, prepared: ActorPrepared) -> Result<StepOut, NoMemory>
     requires { ActorMayDo prepared state.old }
@@ -118,9 +118,9 @@ pub fn actor_done(state: &mut ActorState, prepared: ActorPrepared) -> Result<Ste
     }
 }
 
-/// What an actor does with a letter that is addressed to it, prepared and done: its row of its table. A letter that isn't
-/// apt changes and sends nothing. What goes out is given, and an equal copy kept. After want of memory the actor is as it
-/// was.
+/// What an actor does with a letter that is addressed to it, prepared and done: its row of its table. A letter that
+/// isn't apt changes and sends nothing. What goes out is given, and an equal copy kept. The answers that a node holds
+/// stay. If memory runs out, the actor is as it was.
 pub fn actor_step(
     alloc: Global,
     state: &mut ActorState,
@@ -133,6 +133,7 @@ pub fn actor_step(
     ensures row { IfOk result (λ step. made (actor_data state.new) step.given
         ≡ actor_row script.now letter.now.to.0 (actor_data state.old) letter.now) }
     ensures kept { IfOk result (λ step. step.kept ≡ step.given) }
+    ensures held { OnOk result (actor_held state.new ≡ actor_held state.old) }
     ensures script { OnOk result (IsFor script.now state.new) }
     ensures err { OnErr result (state.new ≡ state.old) }
 {

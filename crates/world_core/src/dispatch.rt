@@ -7,7 +7,8 @@ ghost use Rattle.tree_step.specs.Changes.{IsNodeStepOf};
 ghost use Rattle.world_model.specs.Done.{note_done};
 ghost use Rattle.tree_step.specs.Due.{is_due};
 ghost use Rattle.tree_step.specs.Node.{data_of, IsReady};
-ghost use Rattle.world_model.specs.Apt.{can_make_by, node_row, row_by_kind, values_of};
+ghost use Rattle.world_model.specs.Apt.{can_make_by, node_row, row_by_kind};
+ghost use Rattle.world_model.specs.Notices.{values_of};
 
 use letter_types::{Body, Letter, Notice};
 use node_step::{prepare_asked, prepare_done, prepare_show, prepare_sweep, prepare_turn};

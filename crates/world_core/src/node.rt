@@ -1,5 +1,5 @@
 // A node's state: its parts, and what its type keeps of them.
-ghost use Rattle.std.specs.Prelude.{◌≡◌, ◌<◌, ◌^◌, length, IfOk, unsigned_abs};
+ghost use Rattle.std.specs.Prelude.{◌≡◌, ◌<◌, ◌^◌, [], length, IfOk, unsigned_abs};
 ghost use Rattle.std.specs.List.{AllByRecursion};
 ghost use Rattle.commute_ops.specs.Ops.{value_start};
 ghost use Rattle.item_versions.specs.Window.{IsWindowedTable};
@@ -73,9 +73,10 @@ fn items_at(
 
 impl NodeState {
     /// Node `node` as a run of the script begins: the first versions, each of its items in version 0 with its initial
-    /// value, nothing counted and no tree's notices gathered.
+    /// value, nothing counted, no tree's notices gathered and no answer held.
     pub fn start(alloc: Global, script: &Script, node: NodeNo) -> Result<NodeState, NoMemory>
         ensures start { IfOk result (λ n. data_of n ≡ start_node script.now node.0) }
+        ensures held { IfOk result (λ n. n.homes.held ≡ []) }
         ensures script { IfOk result (λ n. IsOf script.now n) }
     {
         let nodes = script.nodes();
@@ -111,7 +112,7 @@ impl NodeState {
         &self.parts.counters
     }
 
-    /// The trees that have their home here and aren't answered yet.
+    /// The trees that have their home here and aren't answered yet, and the answers that are held here.
     pub fn homes(&self) -> &Homes
         ensures { result.now ≡ self.now.homes }
     {
@@ -133,8 +134,8 @@ impl NodeState {
         prepare_node(alloc, &self.parts, letter, script)
     }
 
-    /// Does a step that was prepared, and gives what goes out. Only to open a tree at its home may want memory; then the
-    /// node is as it was.
+    /// Does a step that was prepared, and gives what goes out. Only to open a tree at its home may need memory; then
+    /// the node is as it was.
     pub(crate) fn done(&mut self, prepared: Prepared) -> Result<StepOut, NoMemory>
         requires { MayDo prepared.change prepared.out.sent self.old }
         ensures { IsDone (prepared_row prepared (data_of self.old)) self.old self.new result }

@@ -1,4 +1,4 @@
-// A world: all actors, the letters under way, and the history so far.
+// A world: all actors, the letters in flight, and the history so far.
 ghost use Rattle.std.specs.Prelude.{◌≡◌, ◌<◌, ◌≤◌, ◌+◌, ◌-◌, ◌^◌, ◌++◌, [], length, slice_get, slice_set, IfOk, IfSome, MatchResult, OnOk, OnErr, Some};
 ghost use Rattle.std.specs.List.{remove};
 ghost use Rattle.letter_types.specs.Letters.{go, sealed};
@@ -17,7 +17,7 @@ use std::marker::Model;
 use tv_base::{ActorNo, NoMemory, Stamp};
 use tx_trees::Script;
 
-/// All actors of a script, the letters under way in order of their ids, and the history so far.
+/// All actors of a script, the letters in flight in order of their ids, and the history so far.
 #[derive(Drop)]
 pub struct World {
     alloc: Global,
@@ -193,7 +193,7 @@ fn advance(
     ensures took { OnOk result (TookLetter k (world_of actors.old.items bag.old.items history.old)
         (world_of actors.new.items bag.new.items history.new)) }
     ensures stamp { IfOk result (λ stamp. stamp.0 ≡ length history.new) }
-    // What want of memory leaves.
+    // What running out of memory leaves.
     ensures same_actors { OnErr result (actors.new.items ≡ actors.old.items) }
     ensures same_bag { OnErr result (bag.new.items ≡ bag.old.items) }
     ensures same_history { OnErr result (history.new ≡ history.old) }
@@ -219,7 +219,7 @@ fn advance(
 }
 
 impl World {
-    /// The world of a script as a run begins: Go is under way, and the history is empty.
+    /// The world of a script as a run begins: Go is in flight, and the history is empty.
     pub fn start(alloc: Global, script: &Script) -> Result<World, NoMemory>
         ensures world { IfOk result (λ w. IsWorldOf script.now w) }
         ensures history { IfOk result (λ w. w.history ≡ []) }
@@ -236,14 +236,14 @@ impl World {
         })
     }
 
-    /// How many letters are under way.
+    /// How many letters are in flight.
     pub fn waiting(&self) -> usize
         ensures { result ≡ length self.now.bag }
     {
         self.bag.len()
     }
 
-    /// Letter `k` of those under way, in order of their ids.
+    /// Letter `k` of those in flight, in order of their ids.
     pub fn letter(&self, k: usize) -> &Letter
         requires { k < length self.now.bag }
         ensures { slice_get self.now.bag k ≡ Some result.now }
@@ -261,10 +261,10 @@ impl World {
         state_at(&self.actors, actor)
     }
 
-    /// One event: letter `k` of those under way is taken by its addressee, whose step is appended to the history, and
-    /// what it sends goes to the end. Gives the stamp of the new entry. After want of memory the world is as it was.
-    /// Either way it stays a world of its script, whose history goes step by step by the tables: every law of runs is of
-    /// it too.
+    /// One event: letter `k` of those in flight is taken by its addressee, whose step is appended to the history, and
+    /// what it sends goes to the end. Gives the stamp of the new entry. If memory runs out, the world is as it was.
+    /// Either way it stays a world of its script, whose history goes step by step by the tables: every law of runs is
+    /// of it too.
     pub fn step(&mut self, script: &Script, k: usize) -> Result<Stamp, NoMemory>
         // What the caller knows.
         requires waits { k < length self.old.bag }

@@ -6,7 +6,7 @@ use Rattle.std.proofs.lemmas.List.{length-append}
 use Rattle.std.proofs.lemmas.List.Elements.{All-from_recursion, recursion_from_All, All-append}
 use Rattle.script_parts.specs.declared.parts.Sub.{Sub}
 use Rattle.letter_types.specs.declared.entries.Outgoing.{Outgoing}
-use Rattle.tree_home.specs.Homes.{Gets}
+use Rattle.letter_types.specs.declared.bodies.Notice.{Notice}
 use Rattle.world_model.specs.Children.{sub_letters, done_letter}
 
 few_by : (t v parent k : ℕ) (x : Sub) (xs : List Sub) (b : Bool) → (nat_lt parent k && (x.parent.0 == parent)) ≡ b
@@ -52,24 +52,24 @@ pub children_few : (t v parent m : ℕ) (xs : List Sub) (os : List Outgoing) →
 children_few t v parent m xs os is le =
     subst (λ (ys : List Outgoing). length ys ≤ m) (sym is) (omega (arith, few_children t v parent 0 xs))
 
--- the same with the notice to the home behind them
-pub sent_nodes : (t v k n home : ℕ) (values : Gets) (xs : List Sub) (os : List Outgoing)
-    → os ≡ sub_letters t v k 0 xs ++ done_letter home t k v values ∷ []
+-- the same with the notice to the home after them
+pub sent_nodes : (t v k n home : ℕ) (notice : Notice) (xs : List Sub) (os : List Outgoing)
+    → os ≡ sub_letters t v k 0 xs ++ done_letter home t k v notice ∷ []
     → home < n → All (λ (s : Sub). s.node.0 < n) xs → All (λ (o : Outgoing). o.to.0 < n) os
-sent_nodes t v k n home values xs os is lt all =
+sent_nodes t v k n home notice xs os is lt all =
     subst (λ (ys : List Outgoing). All (λ (o : Outgoing). o.to.0 < n) ys) (sym is)
-    (All-append (λ (o : Outgoing). o.to.0 < n) (sub_letters t v k 0 xs) (done_letter home t k v values ∷ [])
+    (All-append (λ (o : Outgoing). o.to.0 < n) (sub_letters t v k 0 xs) (done_letter home t k v notice ∷ [])
     (children_nodes t v k n xs (sub_letters t v k 0 xs) refl all)
-    (All-from_recursion (λ (o : Outgoing). o.to.0 < n) (done_letter home t k v values ∷ []) (lt, tt)))
+    (All-from_recursion (λ (o : Outgoing). o.to.0 < n) (done_letter home t k v notice ∷ []) (lt, tt)))
 
-pub sent_few : (t v k m home : ℕ) (values : Gets) (xs : List Sub) (os : List Outgoing)
-    → os ≡ sub_letters t v k 0 xs ++ done_letter home t k v values ∷ []
+pub sent_few : (t v k m home : ℕ) (notice : Notice) (xs : List Sub) (os : List Outgoing)
+    → os ≡ sub_letters t v k 0 xs ++ done_letter home t k v notice ∷ []
     → length xs ≤ m → length os ≤ m + 1
-sent_few t v k m home values xs os is le =
+sent_few t v k m home notice xs os is le =
     subst (λ (ys : List Outgoing). length ys ≤ m + 1) (sym is)
     (omega (
       arith,
       few_children t v k 0 xs,
       length-append (sub_letters t v k 0 xs)
-          (done_letter home t k v values ∷ []),
+          (done_letter home t k v notice ∷ []),
     ))

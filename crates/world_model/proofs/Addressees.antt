@@ -1,5 +1,5 @@
--- Whatever letters an actor takes, it sends letters to actors of the script. So each letter under way is for one of them.
--- No law of runs is needed.
+-- Whatever letters an actor takes, it sends letters to actors of the script. So each letter in flight is for one of
+-- them. No law of runs is needed.
 use Rattle.std.proofs.Common.{◌≡◌, ℕ, ◌+◌, ◌*◌, ◌<◌, ◌≤◌, Bool, true, false, List, [], ◌∷◌, length, reverse, take, drop, refl, sym, subst, arith, Option, Some, None}
 use Rattle.std.specs.Prelude.{if◌then◌else◌, nat_lt, All}
 use Rattle.tv_base.specs.declared.numbers.Version.{Version}
@@ -15,7 +15,7 @@ use Rattle.letter_types.specs.declared.entries.LetterId.{LetterId}
 use Rattle.letter_types.specs.declared.entries.Outgoing.{Outgoing}
 use Rattle.letter_types.specs.Letters.{find_id, own}
 use Rattle.letter_types.specs.Steps.{Out, still}
-use Rattle.world_model.specs.Apt.{is_apt, node_row, row, row_by_kind, values_of}
+use Rattle.world_model.specs.Apt.{is_apt, node_row, row, row_by_kind}
 use Rattle.world_model.specs.Reads.{getting}
 use Rattle.tree_home.specs.declared.homes.Answered.{Answered}
 use Rattle.world_model.specs.Named.{is_did, tree_kind_at}
@@ -23,7 +23,7 @@ use Rattle.world_model.specs.Asked.{asked_ops, asked_version, tree_done}
 use Rattle.world_model.specs.Children.{done_letter, sub_letters}
 use Rattle.world_model.specs.Done.{note_done, with_open_tree}
 use Rattle.world_model.specs.Node.{Effect, Node}
-use Rattle.world_model.specs.Notices.{answer_noted, reply_letters}
+use Rattle.world_model.specs.Notices.{answer_noted, reply_letters, values_of}
 use Rattle.world_model.proofs.Addressed.{children_nodes}
 use Rattle.script_parts.specs.ScriptData.{ScriptData, client_of, home_of, node_of, sub_at, subs_at}
 use Rattle.script_parts.specs.Valid.{IsValid}
@@ -79,12 +79,12 @@ replies_for s (Some a) = (omega arith, tt)
 done_for : (s : ScriptData) (p from : ℕ) (v : Version) (raises : Bool) (e : Effect) (body : Body) (st : Node) → IsValid s
     → For (s.nodes + 2) (tree_done s p from v raises e body st).sent
 done_for s p from v raises e (Root t) st valid =
-    let answer = answer_noted (record { 0 = t.0 }) (record { 0 = 0 }) e.values (with_open_tree t.0 (length (subs_at s t.0)) v.0 st).homes in
+    let answer = answer_noted (record { 0 = t.0 }) (record { 0 = 0 }) (values_of e.notice) (with_open_tree t.0 (length (subs_at s t.0)) v.0 st).homes in
     each_append (λ (o : Outgoing). o.to.0 < s.nodes + 2) (sub_letters t.0 v.0 0 0 (subs_at s t.0)) (reply_letters (client_of s) answer)
     (children_for s t.0 v.0 0 valid) (replies_for s answer)
 done_for s p from v raises e (SubLetter t k w) st valid =
     each_append (λ (o : Outgoing). o.to.0 < s.nodes + 2) (sub_letters t.0 v.0 k.0 0 (subs_at s t.0))
-    (done_letter (home_of s t.0) t.0 k.0 v.0 e.values ∷ []) (children_for s t.0 v.0 k.0 valid) (home_for s t.0 valid, tt)
+    (done_letter (home_of s t.0) t.0 k.0 v.0 e.notice ∷ []) (children_for s t.0 v.0 k.0 valid) (home_for s t.0 valid, tt)
 done_for s p from v raises e _ st valid = tt
 
 tree_for : (s : ScriptData) (p : ℕ) (st : Node) (from : ℕ) (body : Body) (kind : Option TreeKind) → IsValid s
@@ -182,7 +182,7 @@ entry_by s past e valid (AtCoordinator at says) =
 entry_by s past e valid (AtClient at says) =
     subst (For (s.nodes + 2)) (sym says.0) (client_for s (client_in s past) e.took.body valid)
 
--- each letter under way is for one of the actors
+-- each letter in flight is for one of the actors
 pub all_addressed : (s : ScriptData) (past : List Entry) → IsValid s → IsStepRun s past
     → Each (λ (l : Letter). l.to.0 < s.nodes + 2) (waiting s past)
 all_addressed s [] valid run = (omega arith, tt)

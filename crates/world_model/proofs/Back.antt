@@ -22,7 +22,7 @@ use Rattle.letter_types.specs.Steps.{Out}
 use Rattle.letter_types.proofs.Ids.{same_id-self}
 use Rattle.world_model.specs.Client.{start_client}
 
--- where a letter under way comes from
+-- where a letter in flight comes from
 abbrev Came : ScriptData → List Entry → Letter → Type 0
 Came s h l =
     (l ≡ go (client_of s)) ⊎ ((j : ℕ) × (f : Entry) × (j < length h) × (slice_get h j ≡ Some f) × (find_id l.id (letters_of f) ≡ Some l))

@@ -1,4 +1,4 @@
--- Sums over the letters under way.
+-- Sums over the letters in flight.
 use Rattle.std.proofs.Common.{◌≡◌, ℕ, ◌+◌, ◌≤◌, ◌==◌, Bool, true, false, List, [], ◌∷◌, ◌++◌, refl, ap, arith, Some}
 use Rattle.tv_base.proofs.Truths.{same_test}
 use Rattle.letter_types.specs.declared.entries.LetterId.{LetterId}
@@ -34,7 +34,7 @@ pub tally-drop : (f : Letter → ℕ) (id : LetterId) (xs : List Letter) (l : Le
 tally-drop f id [] l here = absurd (grind arith)
 tally-drop f id (x ∷ xs) l here = tally-drop_at f id x xs l (same_id id x.id) refl (tally-drop f id xs l) here
 
--- what an entry does to any sum over the letters under way
+-- what an entry does to any sum over the letters in flight
 pub tally_step : (f : Letter → ℕ) (s : ScriptData) (past : List Entry) (e : Entry) → MayFollow s past e
     → tally f (waiting s (e ∷ past)) + f e.took ≡ tally f (waiting s past) + tally f (letters_of e)
 tally_step f s past e m =

@@ -75,7 +75,7 @@ run_less row first a e past st is run =
     let last : IsRunOf row st (if e.actor.0 == a then e ∷ [] else []) = subst (λ x. IsRunOf row x (if e.actor.0 == a then e ∷ [] else [])) is parts.1 in
     (parts.0, λ here. let one = rw here at last in (one.0, one.1))
 
--- what was sent before a place stands in any list that is as long
+-- what was sent before a place is in any list that is as long
 sent_less : (s : ScriptData) (e : Entry) (h : List Entry) (k : ℕ) (f : Entry) → k < length h
     → (f.took ≡ go (client_of s)) ⊎ ((j : ℕ) × (g : Entry) × (j < k) × (slice_get (h ++ e ∷ []) j ≡ Some g) × (find_id f.took.id (letters_of g) ≡ Some f.took))
     → (f.took ≡ go (client_of s)) ⊎ ((j : ℕ) × (g : Entry) × (j < k) × (slice_get h j ≡ Some g) × (find_id f.took.id (letters_of g) ≡ Some f.took))

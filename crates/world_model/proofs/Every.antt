@@ -1,4 +1,4 @@
--- What holds of every letter under way, and how a state goes on.
+-- What holds of every letter in flight, and how a state goes on.
 use Rattle.std.proofs.Common.{◌≡◌, ◌≢◌, ℕ, ◌+◌, ◌<◌, ◌==◌, Bool, true, false, List, [], ◌∷◌, ◌++◌, refl, subst, arith, Some}
 use Rattle.std.proofs.lemmas.Bool.Decides.{nat_tests}
 use Rattle.letter_types.specs.declared.entries.LetterId.{LetterId}
@@ -49,7 +49,7 @@ each_sealed P stamp actor place [] a = tt
 each_sealed P stamp actor place (o ∷ os) a =
     (a.0 (record { stamp = record { 0 = stamp }; place = place }), each_sealed P stamp actor (place + 1) os a.1)
 
--- every letter under way after an entry
+-- every letter in flight after an entry
 pub each_step : (P : Letter → Type 0) (s : ScriptData) (past : List Entry) (e : Entry) → Each P (waiting s past)
     → Each (λ o. (i : LetterId) → P (record { id = i; from = record { 0 = e.actor.0 }; to = o.to; body = o.body })) e.sent
     → Each P (waiting s (e ∷ past))
@@ -96,7 +96,7 @@ pub each_both : {X : Type 0} (P Q : X → Type 0) (xs : List X) → Each P xs �
 each_both P Q [] a b = tt
 each_both P Q (x ∷ xs) a b = ((a.0, b.0), each_both P Q xs a.1 b.1)
 
--- every letter under way after an entry, from what is left without the letter taken
+-- every letter in flight after an entry, from what is left without the letter taken
 pub each_left : (P : Letter → Type 0) (s : ScriptData) (past : List Entry) (e : Entry) → Each P (drop_id e.took.id (waiting s past))
     → Each (λ o. (i : LetterId) → P (record { id = i; from = record { 0 = e.actor.0 }; to = o.to; body = o.body })) e.sent
     → Each P (waiting s (e ∷ past))

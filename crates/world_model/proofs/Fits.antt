@@ -91,7 +91,7 @@ rows_fit_from s i (Settle ∷ rows) names built = (tt, rows_fit_from s i rows na
 pub rows_fit : (s : ScriptData) → IsSound s → Each (RowFits s) s.rows
 rows_fit s sound = rows_fit_from s 0 s.rows sound.valid.rows sound.runnable.rows
 
--- what holds of each holds of a front and of a rest
+-- what holds of each holds of a prefix and of the rest
 pub each_take : {X : Type 0} (P : X → Type 0) (n : ℕ) (xs : List X) → Each P xs → Each P (take n xs)
 each_take P zero xs all = tt
 each_take P (suc n) [] all = tt

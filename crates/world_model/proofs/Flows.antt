@@ -1,4 +1,4 @@
--- What an entry makes of numbers over the letters under way, and what stays at a node.
+-- What an entry makes of numbers over the letters in flight, and what stays at a node.
 use Rattle.std.proofs.Common.{◌≡◌, ◌≢◌, ◌⊎◌, inl, inr, ℕ, ◌+◌, ◌==◌, Bool, true, false, List, [], ◌∷◌, refl, sym, ap, subst, ◌∙◌, arith, take, drop}
 use Rattle.std.specs.Prelude.{if◌then◌else◌}
 use Rattle.std.proofs.lemmas.Bool.{cases_eq}
@@ -6,20 +6,23 @@ use Rattle.std.proofs.lemmas.Bool.Decides.{nat_tests}
 use Rattle.letter_types.specs.declared.acts.Act.{Act}
 use Rattle.letter_types.specs.declared.acts.Act.TheVariants.{Finished}
 use Rattle.letter_types.specs.declared.bodies.Body.{Body}
-use Rattle.letter_types.specs.declared.bodies.Body.TheVariants.{Root, Advance}
+use Rattle.letter_types.specs.declared.bodies.Body.TheVariants.{Root, Advance, Wake}
 use Rattle.letter_types.specs.declared.entries.Entry.{Entry}
 use Rattle.letter_types.specs.declared.entries.Letter.{Letter}
 use Rattle.letter_types.specs.declared.entries.Outgoing.{Outgoing}
 use Rattle.letter_types.specs.Steps.{Out}
+use Rattle.tv_base.specs.declared.numbers.SubNo.{SubNo}
 use Rattle.tv_base.specs.declared.numbers.TreeNo.{TreeNo}
 use Rattle.script_parts.specs.ScriptData.{ScriptData, client_of}
 use Rattle.world_model.specs.Node.{Node}
 use Rattle.world_model.specs.Client.{Client, submit, submitted, rows_letters}
 use Rattle.world_model.specs.Counts.{tally}
+use Rattle.world_model.specs.Kept.{outstanding, of_done}
 use Rattle.world_model.specs.Runs.{client_in, node_in, waiting, MayFollow}
 use Rattle.world_model.proofs.Bags.{tally-append, tally_step, sealed_tally}
 use Rattle.world_model.proofs.Every.{node_kept}
 use Rattle.world_model.proofs.Nexts.{Made}
+use Rattle.world_model.proofs.Outstanding.{outstanding_step}
 use Rattle.world_model.proofs.Sends.{on, roots_none}
 
 -- what an entry does to a number of bodies
@@ -28,6 +31,18 @@ pub flow : (f : Body → ℕ) (s : ScriptData) (past : List Entry) (e : Entry) �
     ≡ tally (λ (l : Letter). f l.body) (waiting s past) + tally (on f) e.sent
 flow f s past e m =
     omega (arith, tally_step (λ (l : Letter). f l.body) s past e m, sealed_tally (λ (l : Letter). f l.body) (on f) e.stamp.0 e.actor.0 0 e.sent (λ i o. refl))
+
+-- the same of the letters that have still to be done, for a number that counts no Wake
+pub outstanding_flow : (f : Body → ℕ) (s : ScriptData) (past : List Entry) (e : Entry) → ((t : TreeNo) (k : SubNo) → f (Wake t k) ≡ 0)
+    → MayFollow s past e
+    → tally (λ (l : Letter). f l.body) (outstanding s (e ∷ past)) + of_done (λ (l : Letter). f l.body) s past e
+    ≡ tally (λ (l : Letter). f l.body) (outstanding s past) + tally (on f) e.sent
+outstanding_flow f s past e none m =
+    omega (
+      arith,
+      outstanding_step (λ (l : Letter). f l.body) s past e (λ l t k is. ap f is ∙ none t k) m,
+      sealed_tally (λ (l : Letter). f l.body) (on f) e.stamp.0 e.actor.0 0 e.sent (λ i o. refl),
+    )
 
 -- a number of bodies that an entry neither takes nor sends
 pub flow_same : (f : Body → ℕ) (s : ScriptData) (past : List Entry) (e : Entry) → MayFollow s past e → f e.took.body ≡ 0

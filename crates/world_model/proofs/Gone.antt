@@ -1,4 +1,4 @@
--- What was taken is under way no more.
+-- What was taken is in flight no more.
 use Rattle.std.proofs.Common.{◌≡◌, ◌≢◌, ◌⊎◌, inl, inr, ℕ, ◌+◌, ◌<◌, ◌≤◌, ◌==◌, Bool, true, false, List, [], ◌∷◌, length, refl, ap, ◌∙◌, subst, arith, Some, reverse}
 use Rattle.std.specs.Prelude.{slice_get}
 use Rattle.std.proofs.lemmas.Bool.Decides.{nat_tests}
@@ -103,7 +103,7 @@ not_later : (s : ScriptData) (past : List Entry) (id : LetterId) → IsStepRun s
     → id.stamp.0 ≤ length past
 not_later s past id run some = not_later_by s past id run some (under_or id.stamp.0 (length past))
 
--- what was taken is older than the last entry and under way no more
+-- what was taken is older than the last entry and in flight no more
 abbrev pub Gone : ScriptData → List Entry → LetterId → Type 0
 Gone s past id = (id.stamp.0 ≤ length past) × (tally (of_id id) (waiting s past) ≡ 0)
 

@@ -6,7 +6,8 @@ use Rattle.letter_types.specs.declared.entries.Entry.{Entry}
 use Rattle.letter_types.specs.declared.entries.Letter.{Letter}
 use Rattle.script_parts.specs.ScriptData.{ScriptData}
 use Rattle.world_model.specs.Counts.{Each}
-use Rattle.world_model.specs.Runs.{IsStepRun, waiting}
+use Rattle.world_model.specs.Kept.{outstanding}
+use Rattle.world_model.specs.Runs.{IsStepRun}
 use Rattle.world_model.proofs.Fits.{IsFit}
 use Rattle.world_model.proofs.Nexts.{Next}
 use Rattle.world_model.proofs.Scripts.{IsSound}
@@ -27,6 +28,6 @@ nudged (e ∷ past) = is_nudge e.took.body + nudged past
 pub record IsLawful (s : ScriptData) : Type 0 where
   pub sound : IsSound s
   pub fits : (past : List Entry) → IsStepRun s past → AllTimely s past
-      → Each (λ (l : Letter). IsFit s l.from.0 l.to.0 l.body) (waiting s past)
+      → Each (λ (l : Letter). IsFit s l.from.0 l.to.0 l.body) (outstanding s past)
   pub next : (past : List Entry) (e : Entry) → IsStepRun s (e ∷ past) → AllTimely s (e ∷ past) → Next s past e
   pub nudges : (past : List Entry) → IsStepRun s past → AllTimely s past → nudged past ≤ length s.trees

@@ -1,4 +1,8 @@
 pub mod Bags
+pub mod Outstanding
+pub mod EachOutstanding
+pub mod NothingKept
+pub mod Calls
 pub mod Every
 pub mod Actors
 pub mod Bridge
@@ -9,6 +13,7 @@ pub mod Sampled
 pub mod Scripts
 pub mod Fits
 pub mod Nexts
+pub mod Worked
 pub mod Sends
 pub mod Flows
 pub mod Orders

@@ -17,6 +17,7 @@ use Rattle.world_model.specs.Done.{note_done, root_done, sub_done}
 use Rattle.world_model.specs.Updates.{can_touch, touching}
 use Rattle.world_model.specs.Reads.{can_get, getting}
 use Rattle.world_model.specs.Advancing.{turn_row, show_row, sweep_row, done_row, asked_row}
+use Rattle.world_model.specs.Kept.{done_by, keeps_letter}
 use Rattle.world_model.specs.Client.{Client, submit, with_answer, with_end, nudge}
 use Rattle.world_model.specs.Runs.{client_in, coordinator_in, node_in}
 use Rattle.world_model.specs.Tables.{coordinator_table}
@@ -39,6 +40,11 @@ pub record MadeByCoordinator (s : ScriptData) (past : List Entry) (e : Entry) : 
   pub state : coordinator_in s (e ∷ past) ≡ (coordinator_table (coordinator_in s past) e.took).state
   pub sent : e.sent ≡ (coordinator_table (coordinator_in s past) e.took).sent
   pub acts : e.acts ≡ []
+
+-- the letter that an entry does has this body, and isn't kept
+pub record DoesBody (s : ScriptData) (past : List Entry) (e : Entry) (b : Body) : Type 0 where
+  pub now : keeps_letter s past e ≡ false
+  pub body : (done_by s past e).body ≡ b
 
 -- a letter that the coordinator is told something by
 abbrev pub Tells : Body → Type 0
@@ -83,14 +89,15 @@ pub data Next (s : ScriptData) (past : List Entry) (e : Entry) : Type 0 where
   Ends : (v : Version) → e.took.body ≡ Advanced v → e.actor.0 ≡ client_of s
       → MadeByClient s past e (submit s (with_end (client_in s past)) []) → Next s past e
   Coordinates : Tells e.took.body → e.actor.0 ≡ s.nodes → MadeByCoordinator s past e → Next s past e
-  DoesRoot : (t : TreeNo) (v : Version) (effect : Effect) → e.took.body ≡ Root t → SubAt s t.0 0 → e.actor.0 ≡ home_of s t.0
+  DoesRoot : (t : TreeNo) (v : Version) (effect : Effect) → DoesBody s past e (Root t) → SubAt s t.0 0 → e.actor.0 ≡ home_of s t.0
       → home_of s t.0 < s.nodes → home_in t (node_in s past (home_of s t.0)).homes ≡ None
       → RootWork s t.0 (node_in s past (home_of s t.0)) v effect
       → Made s past e (home_of s t.0) (root_done s (home_of s t.0) t.0 v.0 effect (node_in s past (home_of s t.0))) → Next s past e
   DoesSub : (t : TreeNo) (k : SubNo) (v : Version) (raises : Bool) (effect : Effect)
-      → e.took.body ≡ SubLetter t k v → SubAt s t.0 k.0 → 0 < k.0 → e.took.from.0 < s.nodes → e.actor.0 ≡ node_of s t.0 k.0
+      → DoesBody s past e (SubLetter t k v) → SubAt s t.0 k.0 → 0 < k.0 → (done_by s past e).from.0 < s.nodes
+      → e.actor.0 ≡ node_of s t.0 k.0
       → node_of s t.0 k.0 < s.nodes → SubWork s t.0 k.0 (node_in s past (node_of s t.0 k.0)) v raises effect
-      → Made s past e (node_of s t.0 k.0) (sub_done s e.took.from.0 t.0 k.0 v.0 raises effect (node_in s past (node_of s t.0 k.0)))
+      → Made s past e (node_of s t.0 k.0) (sub_done s (done_by s past e).from.0 t.0 k.0 v.0 raises effect (node_in s past (node_of s t.0 k.0)))
       → Next s past e
   Notes : (t : TreeNo) (k : SubNo) (v : Version) (values : Gets) → e.took.body ≡ Done t k v (DidNotice values) → SubAt s t.0 k.0 → 0 < k.0
       → e.took.from.0 < s.nodes → e.actor.0 ≡ home_of s t.0 → home_of s t.0 < s.nodes

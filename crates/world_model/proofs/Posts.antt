@@ -80,7 +80,7 @@ sealed_stamp : (id : LetterId) (stamp actor place : ℕ) (os : List Outgoing) (l
     → find_id id (sealed stamp actor place os) ≡ Some l → id.stamp.0 ≡ stamp
 sealed_stamp id stamp actor place os l at = sealed_stamp_at id stamp actor place os l at (id.stamp.0 == stamp) refl
 
--- a letter under way is no newer than the last entry
+-- a letter in flight is no newer than the last entry
 none_newer : (s : ScriptData) (past : List Entry) (id : LetterId) → IsStepRun s past → length past < id.stamp.0
     → find_id id (waiting s past) ≡ None
 none_newer s [] id run lt =
@@ -173,7 +173,7 @@ node_says s e past world lt =
 who : (a n : ℕ) → a < n + 2 → (a < n) ⊎ ((a ≡ n) ⊎ (a ≡ n + 1))
 who a n lt = grind arith
 
--- the letter that the last entry took was under way
+-- the letter that the last entry took was in flight
 pub waits_of : (s : ScriptData) (e : Entry) (past : List Entry) → IsStepRun s past → IsPostalEntry (client_of s) (reverse (e ∷ past))
     → find_id e.took.id (waiting s past) ≡ Some e.took
 waits_of s e past run postal =

@@ -78,7 +78,7 @@ requests_more v os more o first now new is eq next =
     ∙ ap (λ (n : Numbers). record first { numbers = n }) (sym (asked_more v os o first.numbers))
     ∙ ap (λ (xs : List Outgoing). with_requests v xs first) (sym next)
 
--- the front of a list with one element more
+-- the prefix of a list with one element more
 pub take_next : (i : ℕ) (x : Outgoing) (xs : List Outgoing) → i < length xs → x ≡ slice_index_or xs i x
     → take (i + 1) xs ≡ take i xs ++ x ∷ []
 take_next i x xs lt is = grind (arith, common_steps)

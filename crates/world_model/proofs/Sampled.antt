@@ -44,7 +44,7 @@ first_pair = refl
 pub second_pair : (node_in with_read (sample with_read 20) 1).counts.asked 1 0 ≡ 1
 second_pair = refl
 
--- while the child is under way, its request has no completion
+-- while the child is in flight, its request has no completion
 pub asked_before : (node_in small (sample small 2) 0).counts.asked 1 1 ≡ 1
 asked_before = refl
 

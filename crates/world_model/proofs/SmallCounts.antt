@@ -12,7 +12,8 @@ use Rattle.letter_types.specs.declared.entries.Letter.{Letter}
 use Rattle.letter_types.specs.declared.entries.Outgoing.{Outgoing}
 use Rattle.letter_types.specs.Letters.{own}
 use Rattle.letter_types.specs.Steps.{Out, still}
-use Rattle.world_model.specs.Apt.{is_apt, node_row, row, row_by_kind, values_of}
+use Rattle.world_model.specs.Apt.{is_apt, node_row, row, row_by_kind}
+use Rattle.world_model.specs.Notices.{values_of}
 use Rattle.pair_counters.specs.Numbers.{AllBelow, Numbers, asked_one, done_one, from_version}
 use Rattle.world_model.specs.Reads.{getting}
 use Rattle.world_model.specs.Named.{is_did, tree_kind_at}
@@ -83,12 +84,12 @@ done_grew s p from v raises e (Root t) st valid =
     root_grew v.0 p (sub_letters t.0 v.0 0 0 (subs_at s t.0)) st.counts
     (omega (arith, few_subs s t.0 valid, few_children t.0 v.0 0 0 (subs_at s t.0)))
 done_grew s p from v raises e (SubLetter t k w) st valid =
-    sub_grew v.0 from (sub_sent s t.0 k.0 v.0 e.values) st.counts
+    sub_grew v.0 from (sub_sent s t.0 k.0 v.0 e.notice) st.counts
     (omega (
       arith,
       few_subs s t.0 valid,
       few_children t.0 v.0 k.0 0 (subs_at s t.0),
-      length-append (sub_letters t.0 v.0 k.0 0 (subs_at s t.0)) (done_letter (home_of s t.0) t.0 k.0 v.0 e.values ∷ []),
+      length-append (sub_letters t.0 v.0 k.0 0 (subs_at s t.0)) (done_letter (home_of s t.0) t.0 k.0 v.0 e.notice ∷ []),
     ))
 done_grew s p from v raises e _ st valid = stays st.counts
 

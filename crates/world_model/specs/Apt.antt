@@ -1,18 +1,16 @@
 -- Which letters are apt at a node, and what the node does with a letter.
-use Rattle.std.specs.Prelude.{if◌then◌else◌, ℕ, Bool, true, false, ◌&&◌, [], Option, Some}
+use Rattle.std.specs.Prelude.{if◌then◌else◌, ℕ, Bool, true, false, ◌&&◌, Option, Some}
 use Rattle.letter_types.specs.declared.bodies.Body.{Body}
 use Rattle.letter_types.specs.declared.bodies.Body.TheVariants.{Root, Sub as SubLetter, Done, Turn, Show, Sweep, AskDone, AskAsked}
-use Rattle.letter_types.specs.declared.bodies.Notice.{Notice}
-use Rattle.letter_types.specs.declared.bodies.Notice.TheVariants.{Did, Yes, No}
 use Rattle.letter_types.specs.declared.entries.Letter.{Letter}
 use Rattle.letter_types.specs.Steps.{Out, still}
-use Rattle.tree_home.specs.Homes.{Gets}
 use Rattle.script_parts.specs.ScriptData.{ScriptData}
 use Rattle.script_parts.specs.declared.parts.TreeKind.{TreeKind}
 use Rattle.script_parts.specs.declared.parts.TreeKind.TheVariants.{Update, Read}
 use Rattle.world_model.specs.Node.{Node}
 use Rattle.world_model.specs.Named.{is_did, is_named, is_new, is_timely, tree_kind_at}
 use Rattle.world_model.specs.Done.{note_done}
+use Rattle.world_model.specs.Notices.{values_of}
 use Rattle.world_model.specs.Updates.{can_update, update_row}
 use Rattle.world_model.specs.Reads.{can_read, read_row}
 use Rattle.item_versions.specs.Collecting.{may_collect_all}
@@ -45,12 +43,6 @@ is_widely_timely s st _ = true
 abbrev pub is_widely_apt : ScriptData → ℕ → Node → Letter → Bool
 is_widely_apt s p st l =
     is_named s p l.from.0 l.body && (is_new s st l.body && (is_widely_timely s st l.body && can_make s st l.body))
-
--- the values that a notice brings
-abbrev pub values_of : Notice → Gets
-values_of (Did values) = values
-values_of (Yes values) = values
-values_of (No cause) = []
 
 -- the row of a letter that asks for a subtransaction of a tree of this kind
 abbrev pub row_by_kind : ScriptData → ℕ → Node → ℕ → Body → Option TreeKind → Out Node

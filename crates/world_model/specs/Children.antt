@@ -1,9 +1,8 @@
 -- The letters of a subtransaction to its children and to its tree's home.
 use Rattle.std.specs.Prelude.{if◌then◌else◌, ℕ, ◌==◌, ◌&&◌, ◌+◌, nat_lt, List, [], ◌∷◌, map}
-use Rattle.tree_home.specs.Homes.{Gets}
 use Rattle.script_parts.specs.declared.parts.Sub.{Sub}
 use Rattle.letter_types.specs.declared.bodies.Body.TheVariants.{Sub as SubLetter, Done}
-use Rattle.letter_types.specs.declared.bodies.Notice.TheVariants.{Did}
+use Rattle.letter_types.specs.declared.bodies.Notice.{Notice}
 use Rattle.letter_types.specs.declared.entries.Outgoing.{Outgoing}
 
 -- what asks node q for subtransaction k of tree t in version v
@@ -20,11 +19,11 @@ sub_letters t v parent k (x ∷ xs) =
     else sub_letters t v parent (k + 1) xs
 
 -- the notice of subtransaction k of tree t to its home
-abbrev pub done_letter : ℕ → ℕ → ℕ → ℕ → Gets → Outgoing
-done_letter home t k v values =
+abbrev pub done_letter : ℕ → ℕ → ℕ → ℕ → Notice → Outgoing
+done_letter home t k v notice =
     record {
       to = record { 0 = home };
-      body = Done (record { 0 = t }) (record { 0 = k }) (record { 0 = v }) (Did values);
+      body = Done (record { 0 = t }) (record { 0 = k }) (record { 0 = v }) notice;
     }
 
 -- to whom letters go

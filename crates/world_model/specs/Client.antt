@@ -55,7 +55,7 @@ next_after s c = c.next + submitted c (take c.next s.rows) (drop c.next s.rows)
 abbrev pub client_finishes : ScriptData → ℕ → Client → Bool
 client_finishes s next c = (next == length s.rows) && (have_ended c s.rows && not c.finished)
 
--- the client submits what it may, behind the letters that are sent first, and finishes if all is over
+-- the client submits what it may, after the letters that are sent first, and finishes if all is over
 abbrev pub submit : ScriptData → Client → List Outgoing → Out Client
 submit s c first = record {
   state = record {

@@ -4,14 +4,15 @@ use Rattle.std.specs.Prelude.{ℕ, Bool, if◌then◌else◌, List, [], ◌∷�
 use Rattle.node_versions.specs.declared.turns.Turns.{Turns}
 use Rattle.pair_counters.specs.Numbers.{Numbers, asked_one, asked_all, done_one}
 use Rattle.tree_home.specs.Homes.{Gets, begun}
+use Rattle.letter_types.specs.declared.bodies.Notice.{Notice}
 use Rattle.script_parts.specs.ScriptData.{ScriptData, client_of, subs_at, home_of}
 use Rattle.letter_types.specs.declared.acts.Act.{Act}
-use Rattle.letter_types.specs.declared.acts.Act.TheVariants.{Born, Did, Turned}
+use Rattle.letter_types.specs.declared.acts.Act.TheVariants.{Born, Turned}
 use Rattle.letter_types.specs.declared.entries.Outgoing.{Outgoing}
 use Rattle.letter_types.specs.Steps.{Out}
 use Rattle.world_model.specs.Node.{Effect, Node}
 use Rattle.world_model.specs.Children.{sub_letters, done_letter, addressees}
-use Rattle.world_model.specs.Notices.{homes_noted, answer_noted, reply_letters}
+use Rattle.world_model.specs.Notices.{act_of, homes_noted, answer_noted, reply_letters, values_of}
 
 -- a root at node p: one request and one completion of p with itself, and a request to each child's node
 abbrev pub counted_root : ℕ → ℕ → List Outgoing → Numbers → Numbers
@@ -25,15 +26,14 @@ counted_sub v q letters n = done_one v q (asked_all v (addressees letters) n)
 -- asked for, and its home takes down its notice
 abbrev pub root_noted : ScriptData → ℕ → ℕ → ℕ → Effect → Node → Out Node
 root_noted s p t v e st = record {
-  state = record {
-    turns = st.turns;
+  state = record st {
     items = e.items;
     counts = counted_root v p (sub_letters t v 0 0 (subs_at s t)) st.counts;
-    homes = homes_noted (record { 0 = t }) (record { 0 = 0 }) e.values st.homes;
+    homes = homes_noted (record { 0 = t }) (record { 0 = 0 }) (values_of e.notice) st.homes;
   };
   sent = sub_letters t v 0 0 (subs_at s t)
-      ++ reply_letters (client_of s) (answer_noted (record { 0 = t }) (record { 0 = 0 }) e.values st.homes);
-  acts = Born (record { 0 = t }) (record { 0 = v }) ∷ Did (record { 0 = t }) (record { 0 = 0 }) e.values ∷ [];
+      ++ reply_letters (client_of s) (answer_noted (record { 0 = t }) (record { 0 = 0 }) (values_of e.notice) st.homes);
+  acts = Born (record { 0 = t }) (record { 0 = v }) ∷ act_of (record { 0 = t }) (record { 0 = 0 }) e.notice ∷ [];
 }
 
 -- a tree of so many subtransactions has begun at its home
@@ -45,8 +45,8 @@ abbrev pub root_done : ScriptData → ℕ → ℕ → ℕ → Effect → Node �
 root_done s p t v e st = root_noted s p t v e (with_open_tree t (length (subs_at s t)) v st)
 
 -- what subtransaction k of tree t sends in version v: a Sub to each child, and its notice to the home
-abbrev pub sub_sent : ScriptData → ℕ → ℕ → ℕ → Gets → List Outgoing
-sub_sent s t k v values = sub_letters t v k 0 (subs_at s t) ++ done_letter (home_of s t) t k v values ∷ []
+abbrev pub sub_sent : ScriptData → ℕ → ℕ → ℕ → Notice → List Outgoing
+sub_sent s t k v notice = sub_letters t v k 0 (subs_at s t) ++ done_letter (home_of s t) t k v notice ∷ []
 
 -- the update version where a subtransaction raises it, and the act of that
 abbrev pub raised_if : Bool → ℕ → Turns → Turns
@@ -58,22 +58,20 @@ turned_if raises v = if raises then Turned (record { 0 = v }) ∷ [] else []
 -- subtransaction k of tree t, which node q asked for, in version v, with this effect
 abbrev pub sub_done : ScriptData → ℕ → ℕ → ℕ → ℕ → Bool → Effect → Node → Out Node
 sub_done s q t k v raises e st = record {
-  state = record {
+  state = record st {
     turns = raised_if raises v st.turns;
     items = e.items;
-    counts = counted_sub v q (sub_sent s t k v e.values) st.counts;
-    homes = st.homes;
+    counts = counted_sub v q (sub_sent s t k v e.notice) st.counts;
   };
-  sent = sub_sent s t k v e.values;
-  acts = turned_if raises v ++ Did (record { 0 = t }) (record { 0 = k }) e.values ∷ [];
+  sent = sub_sent s t k v e.notice;
+  acts = turned_if raises v ++ act_of (record { 0 = t }) (record { 0 = k }) e.notice ∷ [];
 }
 
--- a tree's home takes a notice from node q: it counts the completion, and answers the client if none is missing any more
+-- a tree's home takes a notice from node q: it counts the completion, and answers the client if none is missing any
+-- more
 abbrev pub note_done : ScriptData → ℕ → ℕ → ℕ → ℕ → Gets → Node → Out Node
 note_done s q t k v values st = record {
-  state = record {
-    turns = st.turns;
-    items = st.items;
+  state = record st {
     counts = done_one v q st.counts;
     homes = homes_noted (record { 0 = t }) (record { 0 = k }) values st.homes;
   };

@@ -1,4 +1,5 @@
 pub mod Tables
+pub mod Kept
 pub mod Taking
 pub mod Runs
 pub mod Scheduled

@@ -1,5 +1,5 @@
 -- What a node does with a subtransaction of a read tree.
-use Rattle.std.specs.Prelude.{if◌then◌else◌, ℕ, Bool, true, false, ◌&&◌, List, [], ◌∷◌, Option, Some, None, is_some}
+use Rattle.std.specs.Prelude.{ℕ, Bool, true, false, ◌&&◌, List, [], ◌∷◌, Option, Some, None, is_some}
 use Rattle.tv_base.specs.declared.numbers.ItemNo.{ItemNo}
 use Rattle.tv_base.specs.declared.numbers.Version.{Version}
 use Rattle.commute_ops.specs.declared.value.Value.{Value}
@@ -11,7 +11,8 @@ use Rattle.script_parts.specs.declared.parts.SubOp.{SubOp}
 use Rattle.script_parts.specs.declared.parts.Deed.{Deed}
 use Rattle.script_parts.specs.declared.parts.Deed.TheVariants.{Get}
 use Rattle.letter_types.specs.declared.bodies.Body.{Body}
-use Rattle.letter_types.specs.Steps.{Out, still}
+use Rattle.letter_types.specs.declared.bodies.Notice.TheVariants.{Did}
+use Rattle.letter_types.specs.Steps.{Out}
 use Rattle.world_model.specs.Node.{Effect, Node}
 use Rattle.world_model.specs.Asked.{asked_ops, asked_version, tree_done}
 
@@ -41,7 +42,7 @@ gets v (o ∷ os) items = with_get o.item (got_by_deed v o.item o.deed items) (g
 
 -- a read leaves the items
 abbrev pub getting : Version → List SubOp → Table → Effect
-getting v ops items = record { items = items; values = gets v ops items }
+getting v ops items = record { items = items; notice = Did (gets v ops items) }
 
 -- the operations that a letter asks for may be made; a root takes the node's read version
 abbrev pub can_read : ScriptData → Node → Body → Bool

@@ -44,10 +44,10 @@ pub record IsWideRun (s : ScriptData) (h : List Entry) : Type 0 where
 abbrev pub actor_after : ScriptData → List Entry → ℕ → ActorData
 actor_after s h a = after (actor_row s a) (start_actor s a) (own a h)
 
--- The shape for proofs: one entry after the other. A past has the newest entry first, and the letters under way and
--- the states are functions of it.
+-- The shape for proofs: one entry after the other. A past has the newest entry first, and the letters in flight and the
+-- states are functions of it.
 
--- the letters under way after a past
+-- the letters in flight after a past
 abbrev pub waiting : ScriptData → List Entry → List Letter
 waiting s past = waiting_for (client_of s) past
 

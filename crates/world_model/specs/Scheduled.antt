@@ -20,11 +20,11 @@ draw (Some x) k = drawn_from x k / 2 ^ 33
 abbrev pub number_for : List ℕ → Option ℕ → ℕ → ℕ
 number_for picks seed k = if nat_lt k (length picks) then slice_index picks k else draw seed (k - length picks)
 
--- the letters under way before entry k of a history, in order of id
+-- the letters in flight before entry k of a history, in order of id
 abbrev pub waiting_at : ScriptData → List Entry → ℕ → List Letter
 waiting_at s h k = waiting s (reverse (take k h))
 
--- each entry took the letter at the place of its number, modulo as many as were under way; and none is left in the end
+-- each entry took the letter at the place of its number, modulo as many as were in flight; and none is left in the end
 pub record IsScheduled (s : ScriptData) (seed : Option ℕ) (h : List Entry) : Type 0 where
   pub places : (k : ℕ) (e : Entry) → slice_get h k ≡ Some e
       → slice_get (waiting_at s h k) (number_for s.picks seed k % length (waiting_at s h k)) ≡ Some e.took

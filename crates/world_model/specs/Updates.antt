@@ -1,5 +1,5 @@
 -- What a node does with a subtransaction of an update tree.
-use Rattle.std.specs.Prelude.{if◌then◌else◌, ℕ, Bool, true, false, ◌&&◌, nat_lt, List, [], ◌∷◌}
+use Rattle.std.specs.Prelude.{ℕ, Bool, true, false, ◌&&◌, nat_lt, List, [], ◌∷◌}
 use Rattle.tv_base.specs.declared.numbers.ItemNo.{ItemNo}
 use Rattle.tv_base.specs.declared.numbers.Version.{Version}
 use Rattle.item_versions.specs.Table.{Table, touched_in, may_touch_in}
@@ -8,7 +8,8 @@ use Rattle.script_parts.specs.declared.parts.SubOp.{SubOp}
 use Rattle.script_parts.specs.declared.parts.Deed.{Deed}
 use Rattle.script_parts.specs.declared.parts.Deed.TheVariants.{Apply}
 use Rattle.letter_types.specs.declared.bodies.Body.{Body}
-use Rattle.letter_types.specs.Steps.{Out, still}
+use Rattle.letter_types.specs.declared.bodies.Notice.TheVariants.{Did}
+use Rattle.letter_types.specs.Steps.{Out}
 use Rattle.world_model.specs.Node.{Effect, Node}
 use Rattle.world_model.specs.Asked.{asked_ops, asked_version, tree_done}
 
@@ -34,7 +35,7 @@ table_after_ops v (o ∷ os) items = table_after_ops v os (table_after_deed v o.
 
 -- an update shows nothing
 abbrev pub touching : Version → List SubOp → Table → Effect
-touching v ops items = record { items = table_after_ops v ops items; values = [] }
+touching v ops items = record { items = table_after_ops v ops items; notice = Did [] }
 
 -- the operations that a letter asks for may be made; a root takes the node's update version
 abbrev pub can_update : ScriptData → Node → Body → Bool

@@ -1,7 +1,7 @@
 /// What the coordinator waits for.
 #[derive(Clone, Copy, Debug, PartialEq, Eq)]
 pub enum Phase {
-    /// An advance: none is under way.
+    /// An advance: none is in progress.
     Idle,
     /// Each node to have turned to the next update version.
     Turning,

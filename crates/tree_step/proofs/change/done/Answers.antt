@@ -1,6 +1,6 @@
-use Rattle.std.proofs.Common.{ap}
+use Rattle.std.proofs.Common.{ap, refl}
 use Rattle.pair_counters.specs.Counts.{Counts}
-use Rattle.tree_home.specs.Homes.{trees_of}
+use Rattle.tree_home.specs.Homes.{open_trees}
 use Rattle.tree_step.proofs.Ordered.{left_may_collect, swept_window}
 use Rattle.tree_step.proofs.change.done.Goals as goal
 
@@ -18,11 +18,12 @@ returns-in-Sweep c = rw c.in-Sweep.is (record {
       turns = c.sweep.ensures i;
       items = c.collect_table.ensures.items i;
       counts = (c.drop_below.ensures i).numbers;
-      homes = trees_of c.args.node.now.homes;
+      homes = open_trees c.args.node.now.homes;
     };
     sent = c.args.prepared.out.sent;
     acts = c.args.prepared.out.acts;
   };
+  held = refl;
   nodes = ap (λ (k : Counts). k.nodes) c.drop_below.ensures;
   window = swept_window c.args.node.now c.in-Sweep.version c.sweep.new.self c.collect_table.new.items
       c.drop_below.new.self c.requires.window (rw c.in-Sweep.is at c.requires.fits) c.sweep.ensures

@@ -1,5 +1,5 @@
 use Rattle.std.proofs.Common.{rules, ◌+◌, ◌∙◌, ℕ, ap, sym}
-use Rattle.tree_home.specs.Homes.{trees_of}
+use Rattle.tree_home.specs.Homes.{open_trees}
 use Rattle.tree_step.specs.Changes.{home_after, prepared_row}
 use Rattle.tree_step.specs.Node.{data_of}
 use Rattle.tree_step.specs.declared.change.Prepared.{Prepared}
@@ -18,10 +18,10 @@ returns c = record {
       ∙ note_ready c.args.script.now c.args.request.from c.args.request.tree c.args.request.sub c.args.request.version
       (c.nodes.result + 1) c.args.values.now c.args.node.now c.notice_home-home.result
       c.in_ok-answer.answer c.in_ok-out.out (ap (λ (n : ℕ). n + 1) c.nodes.ensures.nodes)
-      (is_noted c.args.request.tree c.args.request.sub c.args.values.now c.in_ok-taken.taken (trees_of c.args.node.now.homes)
-      (home_after c.notice_home-home.result (trees_of c.args.node.now.homes)) missed c.in_ok-taken.ensures
+      (is_noted c.args.request.tree c.args.request.sub c.args.values.now c.in_ok-taken.taken (open_trees c.args.node.now.homes)
+      (home_after c.notice_home-home.result (open_trees c.args.node.now.homes)) missed c.in_ok-taken.ensures
       c.notice_home-home.ensures.after)
-      (is_answered c.args.request.tree c.args.request.sub c.args.values.now (trees_of c.args.node.now.homes) c.in_ok-answer.answer
+      (is_answered c.args.request.tree c.args.request.sub c.args.values.now (open_trees c.args.node.now.homes) c.in_ok-answer.answer
       missed c.in_ok-answer.ensures.answer)
       c.in_ok-out.ensures.sent c.in_ok-out.ensures.acts;
   may = search rules;

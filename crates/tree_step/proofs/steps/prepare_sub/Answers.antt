@@ -12,7 +12,7 @@ returns c =
     c.subs_of-subs.ensures.nodes c.requires.there in
     record {
       row = sub_ready c.args.script.now c.args.request.from c.args.request.tree c.args.request.sub c.args.request.version c.home_of.result
-          (length c.items.result.now) c.args.raises c.args.effect.values c.args.effect.staged c.args.node.now
+          (length c.items.result.now) c.args.raises c.args.effect.notice c.args.effect.staged c.args.node.now
           c.in_ok-out.out c.subs_of-subs.result.now c.subs_of-subs.ensures.subs c.home_of.ensures count
           c.in_ok-out.ensures.sent c.in_ok-out.ensures.acts;
       may = record {
@@ -23,9 +23,9 @@ returns c =
               (omega (arith, count))
               (all_requests (length c.items.result.now) c.in_ok-out.out.sent count)
               (sent_nodes c.args.request.tree.0 c.args.request.version.0 c.args.request.sub.0 c.args.script.now.nodes
-              c.home_of.result c.args.effect.values c.subs_of-subs.result.now c.in_ok-out.out.sent
+              c.home_of.result c.args.effect.notice c.subs_of-subs.result.now c.in_ok-out.out.sent
               c.in_ok-out.ensures.sent (rw c.home_of.ensures home) c.subs_of-subs.ensures.nodes)
-              (sent_few c.args.request.tree.0 c.args.request.version.0 c.args.request.sub.0 64 c.home_of.result c.args.effect.values
+              (sent_few c.args.request.tree.0 c.args.request.version.0 c.args.request.sub.0 64 c.home_of.result c.args.effect.notice
               c.subs_of-subs.result.now c.in_ok-out.out.sent
               c.in_ok-out.ensures.sent c.subs_of-subs.ensures.few);
           items = c.requires.fits;
