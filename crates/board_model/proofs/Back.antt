@@ -326,7 +326,7 @@ standing_is s h t tree row few is here told =
     ∙ ap (λ (b : Bool). make (version_of h t) b row.committed) through
     ∙ ap (λ (c : Bool). make (version_of h t) (is_through s xs t) c) told.committed
 
--- the second list stands in the first from place t on
+-- the second list is in the first from place t on
 abbrev IsFrom : List Tree → ℕ → List Tree → Type 0
 IsFrom all t ts = (i : ℕ) → slice_get all (t + i) ≡ slice_get ts i
 

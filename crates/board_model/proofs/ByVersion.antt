@@ -38,7 +38,7 @@ stable_of xs ys stable v =
 tail_ascends : (m : Member) (ms : List Member) → IsNonDecreasingBy version_no (m ∷ ms) → IsNonDecreasingBy version_no ms
 tail_ascends m ms asc i j d le lt = asc (suc i) (suc j) d (omega arith) (omega arith)
 
--- behind a version above v there are none of at most v
+-- after a version above v there are none of at most v
 none_below : (v : ℕ) (m : Member) (ms : List Member) → IsNonDecreasingBy version_no (m ∷ ms) → v < m.version.0
     → filter (is_below v) (m ∷ ms) ≡ []
 none_below v m [] asc above =
@@ -57,7 +57,7 @@ none_next v m (n ∷ ms) asc above =
     let next : m.version.0 ≤ n.version.0 = asc 0 1 m (omega arith) (omega arith) in
     none_below v n ms (tail_ascends m (n ∷ ms) asc) (omega arith)
 
--- the next version stands behind
+-- the next version comes after
 below_next : (v : ℕ) (ms : List Member) → IsNonDecreasingBy version_no ms
     → filter (is_below (suc v)) ms ≡ filter (is_below v) ms ++ filter (is_of_version (suc v)) ms
 below_next v [] asc = refl

@@ -32,7 +32,7 @@ all_below (m ∷ ms) v small =
     ap (λ (b : Bool). cond b (m ∷ filter (is_below v) ms) (filter (is_below v) ms)) yes
     ∙ ap (λ (z : List Member). m ∷ z) (all_below ms v (omega arith))
 
--- the trees of a serial order stand there once
+-- the trees of a serial order occur there once
 pub serial_apart : (s : ScriptData) (h : List Entry) (ms : List Member) → IsSerial s h ms → AreApart (trees_of_members ms)
 serial_apart s h ms serial =
     let v : ℕ = greatest ms in
@@ -99,7 +99,7 @@ same_at [] p d e small = absurd (omega arith)
 same_at (m ∷ ms) zero d e small = refl
 same_at (m ∷ ms) (suc p) d e small = same_at ms p d e (omega arith)
 
--- the member at the place is of a later version, whatever stands past the end
+-- the member at the place is of a later version, whatever is past the end
 pub above : (ms : List Member) (p v : ℕ) (d e : Member) → p < length ms → v < (get_or ms p d).version.0 → v < (get_or ms p e).version.0
 above ms p v d e small later = omega (arith, ap version_no (same_at ms p d e small), later)
 

@@ -12,7 +12,7 @@ is_of_version v m = m.version.0 == v
 abbrev pub is_below : ℕ → Member → Bool
 is_below v m = nat_le m.version.0 v
 
--- the second list is the first by version, and those of one version stand as they stood
+-- the second list is the first by version, and those of one version keep their order
 pub record IsByVersion (xs ys : List Member) : Type 0 where
   pub same : IsPermutation xs ys
   pub ascending : IsNonDecreasingBy (λ (m : Member). m.version.0) ys

@@ -19,10 +19,10 @@ pub type Balances = Seq<Value, 0xffff_ffff>;
 /// Which items are written, by item number.
 pub type Marks = Seq<bool, 0xffff_ffff>;
 
-/// Which items of the script are written in a version: an update tree of it, whole or not, has an operation on the item,
-/// or a committed strict tree of it a set or a draw. `standings` are those of the history.
+/// Which items of the script are written in a version: an update tree of it, whole or not, has an operation on the
+/// item, or a committed strict tree of it a set or a draw. `standings` are those of the history.
 ///
-/// It goes over the trees once. Only want of memory is an error.
+/// It goes over the trees once. Running out of memory is the only error.
 #[tactic(auto, using(crate::proofs::AllItems::marks))]
 pub fn written_at(
     alloc: Global,

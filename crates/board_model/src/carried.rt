@@ -22,7 +22,7 @@ pub struct Carried {
     pub values: Balances,
 }
 
-/// The initial values, before all members. Only want of memory is an error.
+/// The initial values, before all members. Running out of memory is the only error.
 pub fn start(alloc: Global, script: &Script, serial: &Members) -> Result<Carried, NoMemory>
     ensures carried { IfOk result (λ c. IsCarried script.now serial.now c) }
     ensures version { IfOk result (λ c. c.version.0 ≡ 0) }
@@ -38,7 +38,7 @@ pub fn start(alloc: Global, script: &Script, serial: &Members) -> Result<Carried
 /// The values carried on to this version, which isn't below the one that was reached: what each item is worth there.
 /// `serial` is the serial order of the history.
 ///
-/// It goes on over the members up to this version. Only want of memory is an error.
+/// It goes on over the members up to this version. Running out of memory is the only error.
 #[tactic(auto, using(crate::proofs::Carrying::carrying))]
 pub fn carry(
     alloc: Global,

@@ -36,7 +36,7 @@ impl Closings {
         })
     }
 
-    // Notes an act, which stands before those noted so far.
+    // Notes an act, which is before those noted so far.
     pub(crate) fn note(&mut self, script: &Script, act: &Act) -> Result<(), NoMemory>
         ensures { OnOk result (self.new ≡ closed_after_act script.now act.now self.old) }
     {

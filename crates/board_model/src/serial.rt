@@ -36,8 +36,8 @@ pub struct Outcomes {
 
 /// What a history says of each tree of the script, and the serial order.
 ///
-/// It goes over the history once, from its end, and then over the trees; those that count are sorted by version. Only
-/// want of memory is an error.
+/// It goes over the history once, from its end, and then over the trees; those that count are sorted by version.
+/// Running out of memory is the only error.
 pub fn outcomes_of(alloc: Global, script: &Script, history: &History) -> Result<Outcomes, NoMemory>
     ensures standings { IfOk result (λ o. o.standings ≡ standings_of script.now history.now) }
     ensures serial { IfOk result (λ o. IsSerial script.now history.now o.serial) }
@@ -144,7 +144,7 @@ fn counts_by(kind: TreeKind, standing: Standing) -> bool
     }
 }
 
-/// The trees by version; those of one version stay in order. Only want of memory is an error.
+/// The trees by version; those of one version stay in order. Running out of memory is the only error.
 pub fn by_version(alloc: Global, members: Members) -> Result<Members, NoMemory>
     ensures { IfOk result (λ sorted. IsByVersion members sorted) }
 {

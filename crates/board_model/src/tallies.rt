@@ -5,20 +5,15 @@ ghost use Rattle.board_model.specs.inside.Tallies.{all_marked, all_met, blank, i
 use crate::standings::{Standing, Standings};
 use letter_types::Act;
 use std::alloc::Global;
-use tv_base::{ActorNo, NoMemory, SubNo, TreeNo, Version};
+use tv_base::{ActorNo, MOST_NODES, MOST_SUBS_OF_TREE, NoMemory, SubNo, TreeNo, Version};
 use tx_trees::{Sub, Tree, TreeKind};
-
-// The most subtransactions of a tree, and the most nodes of a script.
-const MOST_SUBS: usize = 64;
-
-const MOST_NODES: usize = 64;
 
 // What the acts gone over so far say of one tree: the version that the earliest Born gives, which of its
 // subtransactions were done, at which nodes what was decided of it was applied, and whether it was decided to commit.
 #[derive(Clone, Copy)]
 pub(crate) struct Tally {
     pub(crate) born: Option<Version>,
-    pub(crate) done: [bool; MOST_SUBS],
+    pub(crate) done: [bool; MOST_SUBS_OF_TREE],
     pub(crate) applied: [bool; MOST_NODES],
     pub(crate) committed: bool,
 }
@@ -38,14 +33,14 @@ pub(crate) fn blank_rows(alloc: Global, count: usize) -> Result<Vec<Tally>, NoMe
 {
     let row = Tally {
         born: None,
-        done: [false; MOST_SUBS],
+        done: [false; MOST_SUBS_OF_TREE],
         applied: [false; MOST_NODES],
         committed: false,
     };
     Ok(vec![in alloc; row; count]?)
 }
 
-// Notes an act of this actor, which stands before those noted so far.
+// Notes an act of this actor, which is before those noted so far.
 pub(crate) fn note(rows: &mut Vec<Tally>, actor: ActorNo, act: &Act)
     ensures { rows.new.items ≡ tallies_with_act actor.0 act.now rows.old.items }
 {

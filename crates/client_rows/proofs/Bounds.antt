@@ -1,4 +1,4 @@
--- What every row of the client's table keeps, and how much it sends.
+-- What every row of the client's table keeps.
 use Rattle.std.proofs.Common.{if◌then◌else◌, ◌≡◌, ℕ, ◌+◌, ◌≤◌, Bool, true, false, List, [], ◌∷◌, ◌++◌, length, take, drop, Option, Some, None, refl, sym, ◌∙◌, ap, arith, length-append}
 use Rattle.std.proofs.lemmas.List.{length-set, length-take, length-drop, length-replicate}
 use Rattle.tx_trees.specs.ScriptData.{ScriptData}
@@ -61,32 +61,6 @@ kept_more s c body next answered =
     let within : IsWithinScript s (heard s c (news_of (length s.trees) body)).state =
     heard_within s c (news_of (length s.trees) body) (record { next = next; answered = answered }) in
     rw (row-heard s c body) (within.next, within.answered)
-
--- a row sends one letter at most
-few_letters : (s : ScriptData) (rows : List ScriptRow) → length (rows_letters s rows) ≤ length rows
-few_letters s [] = omega arith
-few_letters s (TreeRow t ∷ rows) = omega (arith, few_letters s rows)
-few_letters s (AdvanceRow ∷ rows) = omega (arith, few_letters s rows)
-few_letters s (SettleRow ∷ rows) = omega (arith, few_letters s rows)
-few_letters s (LoseRow ∷ rows) = omega (arith, few_letters s rows)
-
-few_first : (s : ScriptData) (news : News) → length (sent_first s news) ≤ 1
-few_first s Begun = omega arith
-few_first s (Answered t) = omega arith
-few_first s Ended = omega arith
-
-few_heard : (s : ScriptData) (c : Client) (news : Option News) → length (heard s c news).sent ≤ length s.rows + 1
-few_heard s c None = omega arith
-few_heard s c (Some news) =
-    let after : Client = client_with_news news c in
-    let many : ℕ = submitted after (take c.next s.rows) (drop c.next s.rows) in
-    let rows : List ScriptRow = take many (drop c.next s.rows) in
-    rw (length-append (sent_first s news) (rows_letters s rows))
-    (omega (arith, few_first s news, few_letters s rows, length-take many (drop c.next s.rows), length-drop c.next s.rows))
-
--- the client sends at most a letter for each row, and a nudge
-pub few_sent_by_client : (s : ScriptData) (c : Client) (body : Body) → length (client_row s c body).sent ≤ length s.rows + 1
-few_sent_by_client s c body = rw (row-heard s c body) (few_heard s c (news_of (length s.trees) body))
 
 -- the client begins within the script
 pub kept_first : (s : ScriptData)

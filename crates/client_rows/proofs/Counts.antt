@@ -66,7 +66,7 @@ within rows answered next = record {
   asked = omega (arith, few_advances (take next rows), length-take next rows);
 }
 
--- the place behind one row more
+-- the place after one row more
 pub place_more : (rows : List ScriptRow) (answered : List Bool) (next : ℕ) (d row : ScriptRow) → next < length rows
     → get_or rows next d ≡ row
     → place_at rows answered (next + 1)
@@ -80,7 +80,7 @@ place_more rows answered next d row lt is =
     let more : take (next + 1) rows ≡ take next rows ++ row ∷ [] = take_more rows next d lt ∙ ap (λ (x : ScriptRow). take next rows ++ x ∷ []) is in
     rw more (rw (trees_in-append, unanswered_in-append, advances_in-append) refl)
 
--- a place whose numbers count one row more is the place behind it
+-- a place whose numbers count one row more is the place after it
 pub place_behind : (rows : List ScriptRow) (answered : List Bool) (at : Place) (d row : ScriptRow) (sent unanswered asked : ℕ)
     → at.next < length rows → get_or rows at.next d ≡ row → at ≡ place_at rows answered at.next
     → sent ≡ at.sent + trees_in (row ∷ []) → unanswered ≡ at.unanswered + unanswered_in answered (row ∷ [])

@@ -79,7 +79,7 @@ impl Client {
 
     /// What the client does with a letter: its row of the client's table. The script is the one that the client was
     /// made with. It takes time for the rows that are submitted, and not for those before them. What goes out is given,
-    /// and an equal copy kept. After want of memory the client is as it was.
+    /// and an equal copy kept. If memory runs out, the client is as it was.
     pub fn on(&mut self, alloc: Global, letter: &Letter, script: &Script) -> Result<Step, NoMemory>
         requires { IsKeptOf script.now self.old }
         ensures row { IfOk result
@@ -95,7 +95,7 @@ impl Client {
     }
 
     /// Prepares what the client does with a letter: its row of the client's table. It takes all memory that the step
-    /// wants, and changes nothing. It takes time for the rows that are submitted, and not for those before them.
+    /// needs, and changes nothing. It takes time for the rows that are submitted, and not for those before them.
     pub fn prepare(
         &self,
         alloc: Global,
@@ -121,7 +121,7 @@ impl Client {
         })
     }
 
-    /// Does a step that was prepared, and gives what goes out. Wants no memory.
+    /// Does a step that was prepared, and gives what goes out. Needs no memory.
     pub fn done(&mut self, prepared: ClientPrepared) -> StepOut
         ensures after { self.new ≡ after_client_change prepared.change self.old }
         ensures out { result ≡ prepared.out }

@@ -24,7 +24,7 @@ fn sent_first(alloc: Global, script: &Script, news: News) -> Result<Letters, NoM
     Ok(sent)
 }
 
-/// The letters of these rows, in order, behind those that are sent first.
+/// The letters of these rows, in order, after those that are sent first.
 fn letters(
     alloc: Global,
     script: &Script,

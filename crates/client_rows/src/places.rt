@@ -46,7 +46,7 @@ pub(crate) fn with_news(rows: &[ScriptRow], answered: &[bool], news: News, at: P
     }
 }
 
-/// The place behind the next row.
+/// The place after the next row.
 fn behind_next(rows: &[ScriptRow], answered: &[bool], news: News, at: Place) -> Place
     requires more { at.next < length rows.now }
     requires at { at ≡ place_at rows.now (answered_after news answered.now) at.next }
@@ -85,7 +85,7 @@ fn waits(row: ScriptRow, at: Place, ended: u64) -> bool
     }
 }
 
-/// The place behind the last row that may be submitted, from a place on.
+/// The place after the last row that may be submitted, from a place on.
 pub(crate) fn furthest(
     rows: &[ScriptRow],
     answered: &[bool],

@@ -56,7 +56,7 @@ impl Value {
         }
     }
 
-    /// The value after the operation. Only a bag wants memory.
+    /// The value after the operation. Only a bag needs memory.
     pub fn apply(&self, alloc: Global, op: &Op) -> Result<Value, NoMemory>
         requires { IsTrue (may_apply self.now op.now) }
         ensures applied { IfOk result (λ v. v ≡ applied self.now op.now) }
@@ -70,7 +70,7 @@ impl Value {
         }
     }
 
-    /// An equal value. Only a bag wants memory.
+    /// An equal value. Only a bag needs memory.
     pub fn copy(&self, _alloc: Global) -> Result<Value, NoMemory>
         ensures copied { IfOk result (λ v. v ≡ self.now) }
         ensures only_bags { OnErr result (IsTrue (is_bag self.now)) }

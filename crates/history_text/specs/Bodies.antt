@@ -8,7 +8,7 @@ use Rattle.tx_trees.specs.ScriptData.{ScriptData}
 use Rattle.report_text.specs.Lines.{count_text}
 use Rattle.history_text.specs.Names.{answer_text, commit_word, notice_text, sub_word, word_and_tree}
 
--- a version behind its word
+-- a version after its word
 abbrev pub at_version : ℕ → List ℕ
 at_version v = count_text (codes " version ") v
 
@@ -16,7 +16,7 @@ at_version v = count_text (codes " version ") v
 abbrev pub round_text : List ℕ → ℕ → ℕ → List ℕ
 round_text word v k = count_text word v ++ count_text (codes " round ") k
 
--- each number behind a space
+-- each number after a space
 abbrev pub numbers_text : List ℕ → List ℕ
 numbers_text [] = []
 numbers_text (n ∷ ns) = count_text (codes " ") n ++ numbers_text ns

@@ -38,11 +38,11 @@ word_and_tree s word t = word ++ tree_text s t
 abbrev pub sub_word : ScriptData → List ℕ → ℕ → ℕ → List ℕ
 sub_word s word t k = word_and_tree s word t ++ count_text (codes " ") k
 
--- a word, and an item behind it
+-- a word, and an item after it
 abbrev pub item_word : ScriptData → List ℕ → ℕ → List ℕ
 item_word s word x = word ++ item_text s x
 
--- each value behind the name of its item
+-- each value after the name of its item
 abbrev pub got_text : ScriptData → List (ItemNo × Value) → List ℕ
 got_text s [] = []
 got_text s (got ∷ more) = get_text (item_text s got.0.0) got.1 ++ got_text s more

@@ -44,7 +44,7 @@ pub(crate) fn push_act(text: &mut Text, script: &Script, act: &Act) -> Result<()
         }
         Act::Voted { tree, sub, vote } => {
             push_sub_word(text, script, b"voted ", *tree, *sub)?;
-            push_vote(text, script, vote)
+            push_vote(text, script, vote.get())
         }
         Act::Freed { tree } => push_tree_word(text, script, b"freed ", *tree),
         Act::Decided { tree, commit } => {

@@ -13,7 +13,7 @@ use tx_trees::Script;
 
 /// The lines of a history of the script: for each entry, in order, what it took, then a line for each letter that it
 /// sent, then a line for each act. Actors, trees and items are printed by name; one that the script doesn't have is
-/// printed by its number. Only want of memory is an error.
+/// printed by its number. Running out of memory is the only error.
 pub fn history_lines(alloc: Global, script: &Script, history: &History) -> Result<Text, NoMemory>
     ensures { IfOk result (λ text. text ≡ history_lines_of script.now history.now) }
 {

@@ -10,7 +10,7 @@ use report_text::push_count;
 use tv_base::{NoMemory, Text, Version};
 use tx_trees::Script;
 
-// A version behind its word.
+// A version after its word.
 pub(crate) fn push_version(text: &mut Text, version: Version) -> Result<(), NoMemory>
     ensures { OnOk result (text.new ≡ text.old ++ at_version version.0) }
 {
@@ -41,7 +41,7 @@ fn push_row(
     push_numbers(text, row.items())
 }
 
-// Numbers, each behind a space.
+// Numbers, each after a space.
 fn push_numbers(text: &mut Text, numbers: &[u64]) -> Result<(), NoMemory>
     ensures { OnOk result (text.new ≡ text.old ++ numbers_text numbers.now) }
 {

@@ -11,7 +11,7 @@ use report_text::{push_count, push_value};
 use tv_base::{ItemNo, NoMemory, Text, TreeNo};
 use tx_trees::{Script, TreeKind};
 
-// The values of gets, each behind the name of its item.
+// The values of gets, each after the name of its item.
 pub(crate) fn push_got(text: &mut Text, script: &Script, got: &Values) -> Result<(), NoMemory>
     ensures { OnOk result (text.new ≡ text.old ++ got_text script.now got.now) }
 {
@@ -28,7 +28,7 @@ fn push_values(text: &mut Text, script: &Script, got: &[(ItemNo, Value)]) -> Res
     Ok(())
 }
 
-// A value behind the name of its item.
+// A value after the name of its item.
 fn push_get(text: &mut Text, script: &Script, item: ItemNo, value: &Value) -> Result<(), NoMemory>
     ensures { OnOk result (text.new ≡ text.old ++ get_text (item_text script.now item.0) value.now) }
 {
@@ -87,7 +87,7 @@ pub(crate) fn push_vote(text: &mut Text, script: &Script, vote: &Vote) -> Result
 {
     match vote {
         Vote::Yes(got) => push_yes(text, script, got),
-        Vote::No(cause) => push_cause_word(text, script, b" no ", cause),
+        Vote::No(cause) => push_cause_word(text, script, b" no ", cause.get()),
     }
 }
 
@@ -98,7 +98,7 @@ pub(crate) fn push_notice(text: &mut Text, script: &Script, notice: &Notice) -> 
     match notice {
         Notice::Did(got) => push_got(text, script, got),
         Notice::Yes(got) => push_yes(text, script, got),
-        Notice::No(cause) => push_cause_word(text, script, b" no ", cause),
+        Notice::No(cause) => push_cause_word(text, script, b" no ", cause.get()),
     }
 }
 
@@ -130,7 +130,7 @@ pub(crate) fn push_answer(
             push_whole(text, script, tree)?;
             push_got(text, script, got)
         }
-        Answer::Aborted(cause) => push_cause_word(text, script, b" aborted ", cause),
+        Answer::Aborted(cause) => push_cause_word(text, script, b" aborted ", cause.get()),
     }
 }
 

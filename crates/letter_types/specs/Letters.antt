@@ -1,4 +1,4 @@
--- Letters under way.
+-- Letters in flight.
 use Rattle.std.specs.Prelude.{if◌then◌else◌, ℕ, Bool, ◌==◌, ◌&&◌, ◌+◌, List, [], ◌∷◌, ◌++◌, filter, Option, Some, None}
 use Rattle.letter_types.specs.declared.bodies.Body.TheVariants.{Go}
 use Rattle.letter_types.specs.declared.entries.LetterId.{LetterId}
@@ -44,7 +44,7 @@ abbrev pub drop_id : LetterId → List Letter → List Letter
 drop_id id [] = []
 drop_id id (l ∷ ls) = if same_id id l.id then ls else l ∷ drop_id id ls
 
--- the letters under way after a past, which has the newest entry first: in order of id, from Go on
+-- the letters in flight after a past, which has the newest entry first: in order of id, from Go on
 abbrev pub waiting_after : ℕ → List Entry → List Letter
 waiting_after client [] = go client ∷ []
 waiting_after client (e ∷ past) = drop_id e.took.id (waiting_after client past) ++ letters_of e

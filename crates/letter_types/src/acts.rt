@@ -1,6 +1,7 @@
 // What actors do beside sending letters.
 ghost use Rattle.std.specs.Prelude.{◌≡◌, IfOk};
 
+use crate::boxed::Boxed;
 use crate::votes::Vote;
 use commute_ops::{Values, copy_values};
 use std::alloc::Global;
@@ -51,7 +52,7 @@ pub enum Act {
     Voted {
         tree: TreeNo,
         sub: SubNo,
-        vote: Vote,
+        vote: Boxed<Vote>,
     },
     /// The marks of an update tree have gone.
     Freed {
@@ -122,7 +123,7 @@ impl Act {
             Act::Voted { tree, sub, vote } => Ok(Act::Voted {
                 tree: *tree,
                 sub: *sub,
-                vote: vote.copy(alloc)?,
+                vote: Boxed::new(alloc, vote.get().copy(alloc)?)?,
             }),
             Act::Freed { tree } => Ok(Act::Freed { tree: *tree }),
             Act::Decided { tree, commit } => Ok(Act::Decided {

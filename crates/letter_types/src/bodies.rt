@@ -1,6 +1,7 @@
 // What letters say.
 ghost use Rattle.std.specs.Prelude.{◌≡◌, IfOk};
 
+use crate::boxed::Boxed;
 use crate::votes::Cause;
 use commute_ops::{Values, copy_values};
 use std::alloc::Global;
@@ -17,7 +18,7 @@ pub enum Notice {
     /// It voted yes, and its gets gave these values. From a strict tree.
     Yes(Values),
     /// It voted no, for this cause. From a strict tree.
-    No(Cause),
+    No(Boxed<Cause>),
 }
 
 /// What the client is told of a tree.
@@ -26,7 +27,7 @@ pub enum Answer {
     /// All of it was done, and its gets gave these values, by subtransaction and then by operation.
     Whole(Values),
     /// A strict tree was aborted, for the cause of the no voter of the lowest number.
-    Aborted(Cause),
+    Aborted(Boxed<Cause>),
 }
 
 /// What a coordinator that has forgotten its state has a node do with a version.
@@ -197,7 +198,7 @@ impl Notice {
         match self {
             Notice::Did(values) => Ok(Notice::Did(copy_values(alloc, values)?)),
             Notice::Yes(values) => Ok(Notice::Yes(copy_values(alloc, values)?)),
-            Notice::No(cause) => Ok(Notice::No(*cause)),
+            Notice::No(cause) => Ok(Notice::No(Boxed::new(alloc, *cause.get())?)),
         }
     }
 }
@@ -209,7 +210,7 @@ impl Answer {
     {
         match self {
             Answer::Whole(values) => Ok(Answer::Whole(copy_values(alloc, values)?)),
-            Answer::Aborted(cause) => Ok(Answer::Aborted(*cause)),
+            Answer::Aborted(cause) => Ok(Answer::Aborted(Boxed::new(alloc, *cause.get())?)),
         }
     }
 }

@@ -1,9 +1,10 @@
 // Letters, the steps that send them, and the entries that keep them.
 ghost use Rattle.std.specs.Prelude.{◌≡◌, [], ◌∷◌, IfOk};
 
-use crate::acts::{Acts, copy_acts};
+use crate::acts::{Act, Acts, copy_acts};
 use crate::bodies::Body;
 use std::alloc::Global;
+use std::mem::size_of;
 use tv_base::{ActorNo, NoMemory, Seq, Stamp};
 
 /// A letter's identity: the stamp of the entry that sent it, and its place there from 0. Go has stamp 0 and place 0.
@@ -13,7 +14,7 @@ pub struct LetterId {
     pub place: u32,
 }
 
-/// A letter under way or taken.
+/// A letter in flight or taken.
 #[derive(Drop)]
 pub struct Letter {
     pub id: LetterId,
@@ -128,3 +129,13 @@ pub struct Posting {
 
 /// Entries by stamp. At most 2^40 of them: a growth past that finds no memory.
 pub type History = Seq<Entry, 0x100_0000_0000>;
+
+// What a history of a million entries takes depends on these: a letter has 80 bytes, one that is to be sent 64, an act
+// 40, and an entry 144 beside the letters and acts in its lists.
+const _: () = prove!(size_of::<Letter>() == 80);
+
+const _: () = prove!(size_of::<Outgoing>() == 64);
+
+const _: () = prove!(size_of::<Act>() == 40);
+
+const _: () = prove!(size_of::<Entry>() == 144);

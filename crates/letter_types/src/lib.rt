@@ -3,11 +3,13 @@
 
 mod acts;
 mod bodies;
+mod boxed;
 mod entries;
 mod votes;
 
 pub use acts::{Act, Acts, copy_acts};
 pub use bodies::{Answer, Body, Notice, Row, What, copy_row};
+pub use boxed::Boxed;
 pub use entries::{
     Entry, History, Letter, LetterId, Letters, Outgoing, Posting, Step, StepOut, copy_letters,
     one_letter,

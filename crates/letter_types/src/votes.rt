@@ -1,6 +1,7 @@
 // Votes of strict trees.
 ghost use Rattle.std.specs.Prelude.{◌≡◌, IfOk};
 
+use crate::boxed::Boxed;
 use commute_ops::{Amount, Values, copy_values};
 use std::alloc::Global;
 use tv_base::{ItemNo, NoMemory, TreeNo, Version};
@@ -8,7 +9,7 @@ use tv_base::{ItemNo, NoMemory, TreeNo, Version};
 /// Why a subtransaction of a strict tree votes no.
 #[derive(Clone, Copy, Debug, PartialEq, Eq)]
 pub enum Cause {
-    /// Another tree has a lock on the item that doesn't go with the one wanted.
+    /// Another tree has a lock on the item that conflicts with the one requested.
     Conflict { item: ItemNo, holder: TreeNo },
     /// The item is held in a version above the tree's; this is the greatest.
     Newer { item: ItemNo, version: Version },
@@ -22,7 +23,7 @@ pub enum Vote {
     /// It can be done, and its gets give these values.
     Yes(Values),
     /// It can't be done, for this cause.
-    No(Cause),
+    No(Boxed<Cause>),
 }
 
 impl Vote {
@@ -32,7 +33,7 @@ impl Vote {
     {
         match self {
             Vote::Yes(values) => Ok(Vote::Yes(copy_values(alloc, values)?)),
-            Vote::No(cause) => Ok(Vote::No(*cause)),
+            Vote::No(cause) => Ok(Vote::No(Boxed::new(alloc, *cause.get())?)),
         }
     }
 }

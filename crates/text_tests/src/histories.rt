@@ -2,7 +2,7 @@ use crate::entries::{act, enter};
 use commute_ops::{SumValue, Value, Values};
 use history_text::history_lines;
 use letter_types::{
-    Act, Acts, Answer, Body, Cause, History, Letters, Notice, Outgoing, Vote, What,
+    Act, Acts, Answer, Body, Boxed, Cause, History, Letters, Notice, Outgoing, Vote, What,
 };
 use script_reader::read_script;
 use std::alloc::Global;
@@ -77,7 +77,7 @@ fn send_votes(alloc: Global, letters: &mut Letters) -> Result<(), NoMemory> {
         item: ItemNo(1),
         holder: TreeNo(0),
     };
-    let notice = Notice::No(cause);
+    let notice = Notice::No(Boxed::new(alloc, cause)?);
     send(
         letters,
         0,
@@ -103,10 +103,11 @@ fn send_answers(alloc: Global, letters: &mut Letters) -> Result<(), NoMemory> {
             answer,
         },
     )?;
-    let answer = Answer::Aborted(Cause::Newer {
+    let cause = Cause::Newer {
         item: ItemNo(1),
         version: Version(2),
-    });
+    };
+    let answer = Answer::Aborted(Boxed::new(alloc, cause)?);
     send(
         letters,
         0,
@@ -228,12 +229,13 @@ fn wait_acts(acts: &mut Acts) -> Result<(), NoMemory> {
 fn vote_acts(alloc: Global, acts: &mut Acts) -> Result<(), NoMemory> {
     let tree = TreeNo(1);
     let sub = SubNo(0);
-    let vote = Vote::Yes(values(alloc)?);
+    let vote = Boxed::new(alloc, Vote::Yes(values(alloc)?))?;
     act(acts, Act::Voted { tree, sub, vote })?;
-    let vote = Vote::No(Cause::Short {
+    let cause = Cause::Short {
         item: ItemNo(0),
         found: -10,
-    });
+    };
+    let vote = Boxed::new(alloc, Vote::No(Boxed::new(alloc, cause)?))?;
     act(acts, Act::Voted { tree, sub, vote })?;
     act(acts, Act::Freed { tree })?;
     let commit = false;

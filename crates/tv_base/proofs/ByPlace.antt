@@ -7,7 +7,7 @@ slice_get_left [] ys k x at = absurd (grind arith)
 slice_get_left (y ∷ xs) ys zero x at = at
 slice_get_left (y ∷ xs) ys (suc k) x at = slice_get_left xs ys k x at
 
--- what stands at a place of the first of two lists
+-- what is at a place of the first of two lists
 pub slice_get-old : {A : Type 0} (xs ys : List A) (k : ℕ) → k < length xs → slice_get (xs ++ ys) k ≡ slice_get xs k
 slice_get-old [] ys k lt = absurd (omega arith)
 slice_get-old (x ∷ xs) ys zero lt = refl
@@ -17,7 +17,7 @@ pub slice_get_last : {X : Type 0} (xs : List X) (y : X) → slice_get (xs ++ y �
 slice_get_last [] y = refl
 slice_get_last (x ∷ xs) y = slice_get_last xs y
 
--- what stands in a list with one more stood there before, or is the one more
+-- what is in a list with one more was there before, or is the one more
 pub slice_get_split : {X : Type 0} (xs : List X) (y : X) (k : ℕ) (x : X) → slice_get (xs ++ y ∷ []) k ≡ Some x
     → ((k < length xs) × (slice_get xs k ≡ Some x)) ⊎ ((k ≡ length xs) × (y ≡ x))
 slice_get_split [] y zero x at = inr (refl, grind arith)
@@ -26,7 +26,7 @@ slice_get_split (z ∷ xs) y zero x at = inl (omega arith, at)
 slice_get_split (z ∷ xs) y (suc k) x at =
     elim (slice_get_split xs y k x at) [ inl p ↦ inl (omega (arith, p.0), p.1) | inr p ↦ inr (omega (arith, p.0), p.1) ]
 
--- what stands at a place where one was put, and at each other place
+-- what is at a place where one was put, and at each other place
 pub get_set_same : {X : Type 0} (xs : List X) (i : ℕ) (v : X) → i < length xs → slice_get (slice_set xs i v) i ≡ Some v
 get_set_same [] i v lt = absurd (omega arith)
 get_set_same (x ∷ xs) zero v lt = refl

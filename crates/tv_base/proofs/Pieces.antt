@@ -9,7 +9,7 @@ use Rattle.tv_base.specs.Outside.{HasTaken}
 rest_is : (d : ℕ) (t : List ℕ) → take (length t - d) (drop d t) ≡ drop d t
 rest_is d t = take_all (length t - d) (drop d t) (omega (arith, length-drop d t))
 
--- one more piece of the rest behind d
+-- one more piece of the rest after d
 pub appends_more : (a b c : Option (List ℕ)) (d n : ℕ) (t : List ℕ) → Appends a b (take d t) → Appends b c (take n (take (length t - d) (drop d t))) → Appends a c (take (d + n) t)
 appends_more None b c d n t p q = tt
 appends_more (Some x) None c d n t p q = absurd p

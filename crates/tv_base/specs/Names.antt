@@ -1,4 +1,4 @@
--- A name's bytes in a field of 32 bytes, with zeros behind them.
+-- A name's bytes in a field of 32 bytes, with zeros after them.
 use Rattle.std.specs.Prelude.{ℕ, ◌≡◌, ◌<◌, ◌≤◌, List, ◌++◌, length, take, replicate}
 use Rattle.tv_base.specs.declared.name.Name.TheInside.{Inside}
 

@@ -11,7 +11,7 @@ use Rattle.tv_base.specs.declared.outside.WriteStep.TheVariants as writes
 abbrev pub one_more : ℕ → ℕ
 one_more n = min (n + 1) (2 ^ 64 - 1)
 
--- a count went up, or stood at its type's end
+-- a count went up, or was at its type's end
 abbrev pub Rose : ℕ → ℕ → Type 0
 Rose before now = one_more before ≤ now
 
@@ -31,7 +31,7 @@ Reads old new (reads.Got n) buf = (0 < n) × (n ≤ length buf) × Consumes old 
 Reads old new reads.End buf = Keeps old new × IsAtEnd new
 Reads old new reads.Failed buf = Keeps old new
 
--- one write: the front of the piece was appended, or nothing
+-- one write: a prefix of the piece was appended, or nothing
 abbrev pub Writes : Option (List ℕ) → Option (List ℕ) → WriteStep → List ℕ → Type 0
 Writes old new (writes.Took n) piece = (0 < n) × (n ≤ length piece) × Appends old new (take n piece)
 Writes old new writes.Failed piece = Keeps old new
@@ -45,6 +45,6 @@ HasMoreThan n (Some xs) = n < length xs
 abbrev pub HasTaken : ℕ → Option (List ℕ) → Option (List ℕ) → Type 0
 HasTaken n old new = (xs : List ℕ) × (length xs ≤ n) × Consumes old new xs
 
--- a front of the text was appended
+-- a prefix of the text was appended
 abbrev pub AppendsFront : Option (List ℕ) → Option (List ℕ) → List ℕ → Type 0
 AppendsFront old new text = (n : ℕ) × (n ≤ length text) × Appends old new (take n text)

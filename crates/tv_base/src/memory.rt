@@ -124,8 +124,8 @@ impl Model for MemSink {
 }
 
 impl MemSink {
-    /// An empty sink with room for `room` bytes. A call takes at most `most` of them, which is at least 1, and the calls
-    /// whose numbers `fails` lists, counted from 1, fail, as do all where no room is left.
+    /// An empty sink with room for `room` bytes. A call takes at most `most` of them, which is at least 1, and the
+    /// calls whose numbers `fails` lists, counted from 1, fail, as do all where no room is left.
     pub fn new(
         alloc: Global,
         room: usize,

@@ -33,7 +33,7 @@ impl From<AllocError> for ReadEnd {
     }
 }
 
-/// The sink failed, and counted a fault. It holds a front of the text.
+/// The sink failed, and counted a fault. It holds a prefix of the text.
 #[derive(Clone, Copy, Debug, PartialEq, Eq)]
 pub struct WriteFailed;
 
@@ -67,7 +67,7 @@ pub fn read_all<S: Source>(alloc: Global, source: &mut S) -> Result<Vec<u8>, Rea
     }
 }
 
-/// Writes the whole text to the sink, or a front of it up to a fault.
+/// Writes the whole text to the sink, or a prefix of it up to a fault.
 pub fn write_all<K: Sink>(sink: &mut K, text: &[u8]) -> Result<(), WriteFailed>
     ensures whole { OnOk result (Appends (K.written sink.old) (K.written sink.new) text.now) }
     ensures front { OnErr result (AppendsFront (K.written sink.old) (K.written sink.new) text.now) }

@@ -1,4 +1,4 @@
-// Numbers with names of their own, and the one answer for want of memory.
+// Numbers with names of their own, and the one answer where memory runs out.
 use std::alloc::{AllocError, AllocFailed};
 
 /// The most nodes that a script has, of any form.
@@ -38,7 +38,7 @@ pub struct Version(pub u64);
 #[derive(Clone, Copy, Debug, Default, PartialEq, Eq, PartialOrd, Ord, Hash)]
 pub struct Stamp(pub u64);
 
-/// No memory was found. After this answer every value that the call was lent is unchanged.
+/// No memory was found. After it every borrowed value is unchanged.
 #[derive(Clone, Copy, Debug, PartialEq, Eq)]
 pub struct NoMemory;
 

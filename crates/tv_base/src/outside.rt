@@ -52,9 +52,10 @@ pub trait Sink {
     /// How many faults it has had.
     ghost faults: { Self → ℕ };
 
-    /// Writes a front of a piece that is not empty.
+    /// Writes a prefix of a piece that is not empty.
     ///
-    /// `Took` puts that front behind what was written. `Failed` comes only with one more fault counted, and writes nothing.
+    /// `Took` puts that prefix after what was written. `Failed` comes only with one more fault counted, and writes
+    /// nothing.
     fn write(&mut self, piece: &[u8]) -> WriteStep
         requires { 0 < length piece.now }
         ensures step { Writes (written self.old) (written self.new) result piece.now }

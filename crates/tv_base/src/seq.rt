@@ -1,5 +1,5 @@
 // The one list type of the public surface.
-ghost use Rattle.std.specs.Prelude.{◌≡◌, ◌+◌, ◌<◌, ◌≤◌, ◌↔◌, [], ◌∷◌, ◌++◌, length, slice_set, slice_get, Some, IsNone, OnOk, OnErr, IfErr, IfSome};
+ghost use Rattle.std.specs.Prelude.{◌≡◌, ◌+◌, ◌<◌, ◌≤◌, ◌↔◌, [], ◌∷◌, ◌++◌, length, slice_set, slice_get, Some, IsNone, OnOk, OnErr, IfErr, IfOk, IfSome};
 
 use crate::numbers::NoMemory;
 use std::alloc::Global;
@@ -33,6 +33,14 @@ impl<T, const MOST: usize> Seq<T, MOST> {
         Seq {
             inner: Vec::new(alloc),
         }
+    }
+
+    /// An empty list with room for so many items.
+    pub fn with_capacity(alloc: Global, room: usize) -> Result<Seq<T, MOST>, NoMemory>
+        ensures { IfOk result (λ s. s ≡ []) }
+    {
+        let inner = Vec::with_capacity(alloc, room)?;
+        Ok(Seq { inner })
     }
 
     /// The items, in order.
@@ -89,7 +97,7 @@ impl<T, const MOST: usize> Seq<T, MOST> {
 
     /// Takes the first item out and leaves the others in order. None exactly where the list is empty.
     ///
-    /// The items behind it move up, so a long list is better gone over by `items`.
+    /// The items after it move up, so a long list is better gone over by `items`.
     pub fn take_first(&mut self) -> Option<T>
         ensures none { IsNone result ↔ (self.old ≡ []) }
         ensures first { IfSome result (λ one. self.old ≡ one ∷ self.new) }

@@ -12,14 +12,14 @@ use Rattle.board_model.specs.declared.standings.Standing.{Standing}
 use Rattle.board_model.specs.declared.tallies.News.{News}
 use Rattle.board_model.specs.declared.tallies.News.TheVariants as news
 use Rattle.board_model.specs.declared.tallies.Tally.{Tally}
-use Rattle.board_model.specs.declared.tallies.TheConstants.{MOST_NODES, MOST_SUBS}
+use Rattle.tv_base.specs.declared.numbers.TheConstants.{MOST_NODES, MOST_SUBS_OF_TREE}
 use Rattle.board_rules.specs.Histories.{Place}
 
 -- nothing is known of the tree yet
 abbrev pub blank : Tally
 blank = record {
   born = None;
-  done = replicate MOST_SUBS false;
+  done = replicate MOST_SUBS_OF_TREE false;
   applied = replicate MOST_NODES false;
   committed = false;
 }
@@ -49,7 +49,7 @@ on_row t f [] = []
 on_row zero f (row ∷ rows) = f row ∷ rows
 on_row (suc t) f (row ∷ rows) = row ∷ on_row t f rows
 
--- an act at node p, in front of those noted
+-- an act at node p, before those noted
 abbrev pub tallies_with_act : ℕ → Act → List Tally → List Tally
 tallies_with_act p (Born t v) rows = on_row t.0 (with_born v) rows
 tallies_with_act p (Did t k values) rows = on_row t.0 (with_sub_done k.0) rows

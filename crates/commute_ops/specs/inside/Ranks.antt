@@ -1,4 +1,4 @@
--- Where a number stands in an ascending list. These are the definitions that private code alone cites.
+-- Where a number is in an ascending list. These are the definitions that private code alone cites.
 use Rattle.std.specs.Prelude.{ℕ, ◌+◌, ℤ, List, [], ◌∷◌, if◌then◌else◌, int_le}
 
 -- how many numbers of an ascending list are below a number

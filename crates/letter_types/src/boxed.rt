@@ -1,0 +1,36 @@
+// A value behind a pointer.
+ghost use Rattle.std.specs.Prelude.{◌≡◌, IfOk};
+
+use std::alloc::Global;
+use std::marker::Model;
+use tv_base::NoMemory;
+
+/// A value behind a pointer, which contracts see as the value. An enum of which one variant is large and rare holds that
+/// one so, and has no room for it in each of its values.
+#[derive(Drop)]
+pub struct Boxed<T> {
+    inner: Box<T>,
+}
+
+impl<T> Model for Boxed<T> {
+    ghost Value = { T };
+
+    ghost view = { λ b. b.inner.value };
+}
+
+impl<T: Drop> Boxed<T> {
+    /// The value behind a pointer.
+    pub fn new(alloc: Global, value: T) -> Result<Boxed<T>, NoMemory>
+        ensures { IfOk result (λ b. b ≡ value) }
+    {
+        let inner = Box::new(alloc, value)?;
+        Ok(Boxed { inner })
+    }
+
+    /// The value.
+    pub fn get(&self) -> &T
+        ensures { result.now ≡ self.now }
+    {
+        &self.inner
+    }
+}
