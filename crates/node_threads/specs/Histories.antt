@@ -2,7 +2,6 @@
 use Rattle.std.specs.Prelude.{◌≡◌, ◌+◌, ◌<◌, ℕ, List, [], ◌∷◌, ◌++◌, length, slice_get, sum_by, Some}
 use Rattle.letter_types.specs.declared.entries.Entry.{Entry}
 use Rattle.letter_types.specs.declared.entries.Posting.{Posting}
-use Rattle.letter_types.specs.Letters.{own}
 use Rattle.letter_types.specs.Postal.{posting_of}
 use Rattle.tx_trees.specs.ScriptData.{ScriptData}
 use Rattle.stamp_post.specs.Shown.{ReceiptData}

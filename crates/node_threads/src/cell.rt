@@ -93,8 +93,8 @@ impl<K: ClusterName> ActorCell<K> {
     }
 
     /// Makes the actor's step for a letter that is addressed to it: all memory first, and then it takes the letter,
-    /// stamps the entry and makes the outbox. After want of memory the cell is as it was, and the envelope comes back;
-    /// a cell that has 2^40 entries finds no memory.
+    /// stamps the entry and makes the outbox. If memory runs out, the cell is as it was, and the envelope comes back; a
+    /// cell that has 2^40 entries finds no memory.
     pub fn handle(
         &mut self,
         alloc: Global,

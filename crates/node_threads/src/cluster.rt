@@ -6,6 +6,7 @@ ghost use Rattle.node_threads.specs.Cells.{Delivered};
 ghost use Rattle.node_threads.specs.Histories.{IsTold};
 
 use crate::cell::{ActorCell, Sent};
+use crate::dispatch::Dispatch;
 use crate::finishing::{
     Apart, closed_again, opened, room_for_cells, room_for_entries, taken_apart,
 };
@@ -14,11 +15,10 @@ use crate::name::ClusterName;
 use crate::stop::RunStop;
 use crossbeam_utils::CachePadded;
 use letter_types::History;
-use message_bag::Bag;
 use stamp_post::{Envelope, Gatherer, Post, PostParts, Receipts, Seats};
 use std::alloc::Global;
 use std::marker::PhantomData;
-use std::sync::{Condvar, Mutex, Wait};
+use std::sync::{Mutex, Wait};
 use tv_base::{Gate, NoMemory};
 use tx_trees::Script;
 
@@ -30,17 +30,8 @@ struct Keeper<K: ClusterName> {
     ghost gatherer_is: { gatherer ≡ K.post },
 }
 
-// What workers tell one another: how often an envelope was put, whether the client has finished, and why a worker has
-// stopped.
-#[derive(Clone, Copy)]
-pub(crate) struct Moves {
-    pub(crate) count: u64,
-    pub(crate) finished: bool,
-    pub(crate) stopped: Option<RunStop>,
-}
-
-/// The actors of the script that `K` names, on the post that it names. Each has a cell, and a bag of the letters that
-/// are under way to it, each under a lock of its own. Actors are held at the gate.
+/// The actors of the script that `K` names, on the post that it names. Each has a cell, and a mailbox of the letters
+/// that are in flight to it, each under a lock of its own. Actors are held at the gate.
 #[derive(Drop)]
 pub struct Cluster<'a, K: ClusterName, G: Gate> {
     pub(crate) alloc: Global,
@@ -49,13 +40,10 @@ pub struct Cluster<'a, K: ClusterName, G: Gate> {
     post: Post,
     keeper: Mutex<Keeper<K>>,
     cells: Vec<CachePadded<Mutex<ActorCell<K>>>>,
-    pub(crate) bags: Vec<CachePadded<Mutex<Bag<K>>>>,
-    pub(crate) moves: Mutex<Moves>,
-    pub(crate) moved: Condvar,
+    pub(crate) dispatch: Dispatch<K>,
     ghost script_is: { script.now ≡ K.script },
     ghost post_is: { post ≡ K.post },
     ghost has_cells: { length cells.items ≡ K.post.actors },
-    ghost has_bags: { length bags.items ≡ K.post.actors },
     ghost has_actors: { K.post.actors ≡ K.script.nodes + 2 },
     ghost has_few: { K.post.actors ≤ 255 },
 }
@@ -84,20 +72,6 @@ fn cells_of<K: ClusterName>(
     Ok(cells)
 }
 
-// An empty bag for each actor.
-fn bags_of<K: ClusterName>(
-    alloc: Global,
-    actors: u8,
-) -> Result<Vec<CachePadded<Mutex<Bag<K>>>>, NoMemory>
-    ensures { IfOk result (λ bags. length bags.items ≡ actors) }
-{
-    let mut bags = Vec::new(alloc);
-    for _actor in 0..actors {
-        bags.push(CachePadded::new(Mutex::new(Bag::new(alloc))))?;
-    }
-    Ok(bags)
-}
-
 impl<'a, K: ClusterName, G: Gate> Cluster<'a, K, G> {
     /// A cluster of a new post for the script's actors, and Go.
     pub fn start(
@@ -120,7 +94,7 @@ impl<'a, K: ClusterName, G: Gate> Cluster<'a, K, G> {
         } = parts;
         let actors = script.nodes() + 2;
         let cells = cells_of::<K>(alloc, script, seats, actors)?;
-        let bags = bags_of::<K>(alloc, actors)?;
+        let dispatch = Dispatch::<K>::start(alloc, actors)?;
         let cluster = Cluster {
             alloc,
             script,
@@ -131,13 +105,7 @@ impl<'a, K: ClusterName, G: Gate> Cluster<'a, K, G> {
                 name: PhantomData,
             }),
             cells,
-            bags,
-            moves: Mutex::new(Moves {
-                count: 0,
-                finished: false,
-                stopped: None,
-            }),
-            moved: Condvar::new(),
+            dispatch,
         };
         Ok((cluster, first))
     }
@@ -149,8 +117,8 @@ impl<'a, K: ClusterName, G: Gate> Cluster<'a, K, G> {
         &self.post
     }
 
-    /// Hands an envelope to its addressee, under that one's lock alone, past the gate. Where it isn't taken, for want of
-    /// memory or since another actor lies under the lock, the envelope comes back and no actor has changed.
+    /// Hands an envelope to its addressee, under that one's lock alone, past the gate. Where it isn't taken, for lack
+    /// of memory or since another actor lies under the lock, the envelope comes back and no actor has changed.
     pub fn deliver<R: Wait>(&self, rt: &R, envelope: Envelope) -> Result<Sent, (RunStop, Envelope)>
         requires { envelope.post ≡ K.post }
         ensures { MatchResult result
@@ -174,8 +142,8 @@ impl<'a, K: ClusterName, G: Gate> Cluster<'a, K, G> {
     /// All entries by stamp. They are a run of the script, and each receipt's entry is one of them.
     ///
     /// Where memory is wanting, or another actor lies under a lock, the cluster and the receipts come back, so that it
-    /// can be asked again: the cluster's cells have the entries that they had, and its bags the letters. No clause says
-    /// so of cells and bags, since what lies under a lock is known by its type alone.
+    /// can be asked again: the cluster's cells have the entries that they had, and its mailboxes the letters. No clause
+    /// says so of cells and mailboxes, since what lies under a lock is known by its type alone.
     pub fn finish(
         self,
         receipts: Receipts,
@@ -196,9 +164,7 @@ impl<'a, K: ClusterName, G: Gate> Cluster<'a, K, G> {
             post,
             keeper,
             cells,
-            bags,
-            moves,
-            moved,
+            dispatch,
         } = self;
         let cells = opened(cells, room.opened);
         let entries = match room_for_entries(alloc, cells.as_slice()) {
@@ -211,9 +177,7 @@ impl<'a, K: ClusterName, G: Gate> Cluster<'a, K, G> {
                     post,
                     keeper,
                     cells: closed_again(cells, room.closed),
-                    bags,
-                    moves,
-                    moved,
+                    dispatch,
                 };
                 return Err((stop, cluster, receipts));
             }

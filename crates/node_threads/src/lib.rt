@@ -3,10 +3,12 @@
 
 mod cell;
 mod cluster;
+mod dispatch;
 mod finishing;
 mod merge;
 mod name;
 mod running;
+mod schedule;
 mod stop;
 mod workers;
 

@@ -1,4 +1,4 @@
-// The name of a cluster, for types that stand behind locks.
+// The name of a cluster, for types that are behind locks.
 use stamp_post::PostName;
 use std::marker::Brand;
 

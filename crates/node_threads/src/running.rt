@@ -20,12 +20,14 @@ use std::thread::Threads;
 use tv_base::{Gate, NoMemory};
 use tx_trees::Script;
 
-// Whether the client's end is one of the acts.
+// Whether the client's end is one of the acts. It is looked for from the end on, where it is.
 fn has_finished(history: &History) -> bool
     ensures { result ≡ true → HasFinished history.now }
 {
-    for entry in history.items() {
-        if ends(&entry.acts) {
+    let entries = history.items();
+    for later in 0..entries.len() {
+        let place = entries.len() - 1 - later;
+        if ends(&entries[place].acts) {
             return true;
         }
     }
@@ -86,13 +88,13 @@ fn work_all<K: ClusterName + Send + Sync, R: Threads + Wait + Sync, G: Gate + Sy
     Ok(())
 }
 
-// Delivers what is under way until nothing is.
+// Delivers what is in flight until nothing is.
 fn deliver_rest<K: ClusterName, R: Wait, G: Gate>(
     rt: &R,
     cluster: &Cluster<'_, K, G>,
 ) -> Result<(), Stopped> {
     for _ in rt.forever() {
-        let Some(envelope) = cluster.find(rt, 0) else {
+        let Some(envelope) = cluster.dispatch.take_any(rt) else {
             break;
         };
         let _finished = cluster.pass_on(rt, envelope)?;
@@ -134,7 +136,7 @@ fn run_named<K: ClusterName + Send + Sync, R: Threads + Wait + Sync, G: Gate + S
 /// history is a run of the script to its end, in the order in which the entries were stamped: the client has finished,
 /// and every letter was taken.
 ///
-/// The answer is want of memory too where the run stopped for another cause of `RunStop`, which no run comes to.
+/// The answer is `NoMemory` too where the run stopped for another cause of `RunStop`, which no run comes to.
 pub fn run<R: Threads + Wait + Sync, G: Gate + Sync>(
     rt: &R,
     alloc: Global,

@@ -10,7 +10,7 @@ pub enum RunStop {
     NoMemory,
     /// What lies under an actor's lock is another actor. No clause rules that out, and no run comes to it.
     Misplaced,
-    /// No letter lies in a bag any more, but the client hasn't finished, or a letter that was sent wasn't taken. No
+    /// No letter lies in a mailbox any more, but the client hasn't finished, or a letter that was sent wasn't taken. No
     /// clause rules that out, and no run comes to it.
     Unfinished,
 }
@@ -34,7 +34,7 @@ pub enum Held {
     Nothing,
     /// A letter that its addressee didn't take.
     Undelivered(Envelope),
-    /// A letter that found no room in its addressee's bag, and those of its outbox after it.
+    /// A letter that found no room in its addressee's mailbox, and those of its outbox after it.
     Unplaced(Envelope, Outbox),
 }
 

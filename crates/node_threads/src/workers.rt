@@ -6,14 +6,17 @@ ghost use Rattle.node_threads.specs.Stops.{AreOfPost};
 ghost use Rattle.node_threads.specs.inside.Holding.{KeepsLetter, KeepsRest};
 
 use crate::cell::Sent;
-use crate::cluster::{Cluster, Moves};
+use crate::cluster::Cluster;
+use crate::dispatch::Ending;
 use crate::name::ClusterName;
 use crate::stop::{Held, RunStop, Stopped};
 use letter_types::{Act, Acts};
-use message_bag::Bag;
 use stamp_post::{Envelope, Outbox};
-use std::sync::{Mutex, Wait};
+use std::sync::Wait;
 use tv_base::{Gate, NoMemory};
+
+// The most letters that a worker delivers to an actor before it looks for the next one.
+const TURN: u32 = 64;
 
 // Whether one of the acts is the client's end.
 pub(crate) fn ends(acts: &Acts) -> bool
@@ -29,83 +32,22 @@ fn is_end(act: &Act) -> bool
 }
 
 impl<'a, K: ClusterName, G: Gate> Cluster<'a, K, G> {
-    /// Puts an envelope into its addressee's bag. After want of memory it comes back.
+    /// Puts an envelope into its addressee's mailbox. It comes back if memory runs out.
     pub fn put<R: Wait>(&self, rt: &R, envelope: Envelope) -> Result<(), (NoMemory, Envelope)>
         requires { envelope.post ≡ K.post }
         ensures { IfErr result (λ e. e.1 ≡ envelope) }
     {
-        let to = envelope.letter().to;
-        let lock: &Mutex<Bag<K>> = &self.bags[to.0 as usize];
-        let put = lock.lock(rt).put(envelope);
-        self.tell(rt);
-        put
+        self.dispatch.put(rt, envelope, 0)
     }
 
-    // The oldest envelope of a bag.
-    fn take<R: Wait>(&self, rt: &R, bag: usize) -> Option<Envelope>
-        requires { bag < K.post.actors }
-        ensures { IfSome result (λ e. e.post ≡ K.post) }
-    {
-        let lock: &Mutex<Bag<K>> = &self.bags[bag];
-        lock.lock(rt).take(0)
-    }
-
-    // The next envelope for a worker: from the bag at its own place, or else from the others in cyclic order.
-    pub(crate) fn find<R: Wait>(&self, rt: &R, worker: u32) -> Option<Envelope>
-        ensures { IfSome result (λ e. e.post ≡ K.post) }
-    {
-        let count = self.bags.len();
-        for later in 0..count {
-            let bag = (worker as usize + later) % count;
-            let taken = self.take(rt, bag);
-            if taken.is_some() {
-                return taken;
-            }
-        }
-        None
-    }
-
-    // An envelope was put: whoever waits may look again.
-    fn tell<R: Wait>(&self, rt: &R) {
-        let mut moves = self.moves.lock(rt);
-        moves.count = moves.count.wrapping_add(1);
-        self.moved.notify_all();
-    }
-
-    // The client has finished.
-    fn tell_finished<R: Wait>(&self, rt: &R) {
-        let mut moves = self.moves.lock(rt);
-        moves.finished = true;
-        self.moved.notify_all();
-    }
-
-    // A worker has stopped.
-    fn tell_stopped<R: Wait>(&self, rt: &R, stop: RunStop) {
-        let mut moves = self.moves.lock(rt);
-        moves.stopped = Some(stop);
-        self.moved.notify_all();
-    }
-
-    // What was told so far.
-    fn told<R: Wait>(&self, rt: &R) -> Moves {
-        *self.moves.lock(rt)
-    }
-
-    // Waits until something was told since.
-    fn wait_past<R: Wait>(&self, rt: &R, seen: u64) {
-        let _moves = self.moved.wait_while(rt, self.moves.lock(rt), |moves| {
-            moves.count == seen && !moves.finished && moves.stopped.is_none()
-        });
-    }
-
-    // Puts all letters of an outbox into the bags. Where one finds no room, it is held with those after it.
+    // Puts all letters of an outbox into the mailboxes. Where one finds no room, it is held with those after it.
     fn put_all<R: Wait>(&self, rt: &R, out: Outbox) -> Result<(), Stopped>
         requires { out.post ≡ K.post }
         ensures { IfErr result (λ s. KeepsRest K.post out.posting s.held) }
     {
         let mut left = out;
         while let Some(envelope) = left.next(self.post()) {
-            if let Err((NoMemory, envelope)) = self.put(rt, envelope) {
+            if let Err((NoMemory, envelope)) = self.dispatch.put(rt, envelope, 1) {
                 return Err(Stopped {
                     stop: RunStop::NoMemory,
                     held: Held::Unplaced(envelope, left),
@@ -115,8 +57,8 @@ impl<'a, K: ClusterName, G: Gate> Cluster<'a, K, G> {
         Ok(())
     }
 
-    // Delivers an envelope and puts what comes out. Says whether the client has finished. Where it stops, the envelope is
-    // held, or what its addressee sent and no bag took.
+    // Delivers an envelope and puts what comes out. Says whether the client has finished. Where it stops, the envelope
+    // is held, or what its addressee sent and no mailbox took.
     pub(crate) fn pass_on<R: Wait>(&self, rt: &R, envelope: Envelope) -> Result<bool, Stopped>
         requires { envelope.post ≡ K.post }
         ensures { IfErr result (λ s. KeepsLetter K.post envelope s.held) }
@@ -139,45 +81,64 @@ impl<'a, K: ClusterName, G: Gate> Cluster<'a, K, G> {
         Ok(ends(&acts))
     }
 
-    // The same, and tells the others of the end, or of what stopped it.
+    // The same, and tells the others of the end, or of what stopped it. First it calls for help with what it leaves.
     fn work_on<R: Wait>(&self, rt: &R, envelope: Envelope) -> Result<(), Stopped>
         requires { envelope.post ≡ K.post }
         ensures { IfErr result (λ s. KeepsLetter K.post envelope s.held) }
     {
+        self.dispatch.call_help(rt);
         match self.pass_on(rt, envelope) {
             Ok(true) => {
-                self.tell_finished(rt);
+                self.dispatch.finish(rt);
                 Ok(())
             }
             Ok(false) => Ok(()),
             Err(stopped) => {
-                self.tell_stopped(rt, stopped.stop);
+                self.dispatch.stop(rt, stopped.stop);
                 Err(stopped)
             }
         }
     }
 
-    /// A worker: it takes letters from the bag at its own place, or else from the others in cyclic order, delivers them
-    /// and puts what comes out. With all bags empty it waits until an envelope is put. It ends once the client has
-    /// finished, or once any worker stops. What it had in hand when it stopped itself comes back; where another worker
-    /// stopped it has nothing in hand, and tells that one's cause.
+    // Serves an actor: a turn of letters, or all that lie in its mailbox. Where more may lie there, it is ready again.
+    fn take_turn<R: Wait>(&self, rt: &R, actor: u8) -> Result<(), Stopped>
+        requires { actor < K.post.actors }
+        ensures { IfErr result (λ s. AreOfPost K.post s.held) }
+    {
+        for _letter in 0..TURN {
+            let Some(envelope) = self.dispatch.take(rt, actor) else {
+                return Ok(());
+            };
+            self.work_on(rt, envelope)?;
+        }
+        self.dispatch.mark_ready(rt, actor, 1);
+        Ok(())
+    }
+
+    /// A worker: it serves the actor at its own place, or else the next in cyclic order of those for which a letter
+    /// lies in a mailbox and that no other worker serves. It delivers the oldest letters of that mailbox, a turn of
+    /// them at most, puts what comes out, and goes on with the next actor. Where there is none, it sleeps until an
+    /// envelope is put that nobody else is about to take. It ends once the client has finished, or once any worker
+    /// stops. What it had in hand when it stopped itself comes back; where another worker stopped it has nothing in
+    /// hand, and tells that one's cause.
     pub fn serve<R: Wait>(&self, rt: &R, worker: u32) -> Result<(), Stopped>
         ensures { IfErr result (λ s. AreOfPost K.post s.held) }
     {
+        let mut place = (worker % 256) as u8;
         for _ in rt.forever() {
-            let told = self.told(rt);
-            if let Some(stop) = told.stopped {
-                return Err(Stopped {
-                    stop,
-                    held: Held::Nothing,
-                });
-            }
-            if told.finished {
-                return Ok(());
-            }
-            match self.find(rt, worker) {
-                Some(envelope) => self.work_on(rt, envelope)?,
-                None => self.wait_past(rt, told.count),
+            match self.dispatch.next(rt, place) {
+                Ok(Some(actor)) => {
+                    self.take_turn(rt, actor)?;
+                    place = actor.wrapping_add(1);
+                }
+                Ok(None) => {}
+                Err(Ending::Finished) => return Ok(()),
+                Err(Ending::Stopped(stop)) => {
+                    return Err(Stopped {
+                        stop,
+                        held: Held::Nothing,
+                    });
+                }
             }
         }
         unreachable!()

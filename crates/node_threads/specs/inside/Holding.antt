@@ -4,7 +4,7 @@ use Rattle.letter_types.specs.declared.entries.Posting.{Posting}
 use Rattle.letter_types.specs.Postal.{letters_sent}
 use Rattle.stamp_post.specs.Shown.{EnvelopeData, PostId}
 use Rattle.node_threads.specs.declared.stop.Held.{Held}
-use Rattle.node_threads.specs.declared.stop.Held.TheVariants.{Nothing, Undelivered, Unplaced}
+use Rattle.node_threads.specs.declared.stop.Held.TheVariants.{Undelivered, Unplaced}
 
 -- a letter of the posting is held, and the outbox with all after it
 abbrev pub KeepsRest : PostId → Posting → Held → Type 0
