@@ -71,7 +71,7 @@ impl Coordinator {
     }
 
     /// What the coordinator does with a letter: its row of the coordinator's table. What goes out is given, and an
-    /// equal copy kept. After want of memory the coordinator is as it was.
+    /// equal copy kept. If memory runs out, the coordinator is as it was.
     pub fn on(&mut self, alloc: Global, letter: &Letter) -> Result<Step, NoMemory>
         ensures row { IfOk result
             (λ step. made self.new step.given ≡ coordinator_row self.old letter.now.from.0 letter.now.body) }
@@ -85,7 +85,7 @@ impl Coordinator {
     }
 
     /// Prepares what the coordinator does with a letter: its row of the coordinator's table. It takes all memory that
-    /// the step wants, and changes nothing.
+    /// the step needs, and changes nothing.
     pub fn prepare(&self, alloc: Global, letter: &Letter) -> Result<CoordinatorPrepared, NoMemory>
         ensures { IfOk result (IsCoordinatorStepOf (coordinator_row self.now letter.now.from.0 letter.now.body) self.now) }
     {
@@ -124,7 +124,7 @@ impl Coordinator {
         }
     }
 
-    /// Does a step that was prepared, and gives what goes out. Wants no memory.
+    /// Does a step that was prepared, and gives what goes out. Needs no memory.
     pub fn done(&mut self, prepared: CoordinatorPrepared) -> StepOut
         requires { CoordinatorMayDo prepared.change self.old }
         ensures after { self.new ≡ after_coordinator_change prepared.change self.old }

@@ -6,7 +6,7 @@ use letter_types::{Body, Letters, Outgoing};
 use std::alloc::Global;
 use tv_base::{ActorNo, NoMemory};
 
-/// These letters, and behind them one of this body to each node.
+/// These letters, and after them one of this body to each node.
 pub(crate) fn with_nodes(
     alloc: Global,
     first: Letters,

@@ -60,7 +60,7 @@ put o v g = if is_some (value_of o g) then None else Some (with_value o v g)
 abbrev pub put_history : Given → Option Given
 put_history g = if g.history_given then None else Some (record g { history_given = true })
 
--- `name` or `name=value`: what stands before the first `=` (61), and what stands after it where there is one
+-- `name` or `name=value`: what is before the first `=` (61), and what is after it where there is one
 abbrev pub name_and_value : Text → Text × Option Text
 name_and_value text = (
   before_first (λ x. x == 61) text,

@@ -60,7 +60,7 @@ IsInRange (lines.OfScript mode) = HasWorkers mode
 IsInRange (lines.Soak workers seed trees) = (1 ≤ workers) × (workers ≤ 32) × (1 ≤ trees) × (trees ≤ 20000)
 IsInRange _ = Unit {0}
 
--- what a call made of the words, but for want of memory
+-- what a call made of the words, unless memory runs out
 abbrev pub HasReadLine : Option Line → Result Line WordsError → Type 0
 HasReadLine line (Ok l) = line ≡ Some l
 HasReadLine line (Err errors.Refused) = line ≡ None

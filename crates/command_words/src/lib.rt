@@ -254,7 +254,7 @@ fn asked_by(word: &str) -> Option<Line>
     }
 }
 
-// What stands alone after the program's name.
+// What is alone after the program's name.
 fn asked(words: &[String]) -> Option<Line>
     ensures { result ≡ asked_in (map string_bytes words.now) }
 {

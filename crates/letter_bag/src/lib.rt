@@ -1,4 +1,4 @@
-//! The letters under way: a list that grows at its end, and from which the item at any place may be taken in time of
+//! The letters in flight: a list that grows at its end, and from which the item at any place may be taken in time of
 //! about the square root of its length.
 #![tactic(auto)]
 

@@ -1,4 +1,4 @@
-//! Bags of letters under way, which can lie behind a lock.
+//! Mailboxes of letters in flight, which can lie behind a lock.
 #![tactic(auto)]
 
 ghost use Rattle.std.specs.Prelude.{◌≡◌, ◌<◌, ◌%◌, ◌↔◌, [], ◌∷◌, ◌++◌, length, OnOk, OnErr, IfErr, IfSome, IsNone, Some, remove, slice_get};
@@ -28,7 +28,7 @@ impl<P: PostName> Model for Bag<P> {
 }
 
 impl<P: PostName> Bag<P> {
-    /// An empty bag.
+    /// An empty mailbox.
     pub fn new(alloc: Global) -> Bag<P>
         ensures { result ≡ [] }
     {
@@ -38,7 +38,7 @@ impl<P: PostName> Bag<P> {
         }
     }
 
-    /// Puts an envelope last. Where no memory is found the bag stays as it is and the envelope comes back.
+    /// Puts an envelope last. Where no memory is found the mailbox stays as it is and the envelope comes back.
     pub fn put(&mut self, envelope: Envelope) -> Result<(), (NoMemory, Envelope)>
         requires { envelope.post ≡ P.post }
         ensures ok { OnOk result (self.new ≡ self.old ++ envelope ∷ []) }
@@ -51,8 +51,8 @@ impl<P: PostName> Bag<P> {
         }
     }
 
-    /// Takes the envelope at `place` modulo the length out, and leaves the others in order. None exactly where the bag
-    /// is empty.
+    /// Takes the envelope at `place` modulo the length out, and leaves the others in order. None exactly where the
+    /// mailbox is empty.
     pub fn take(&mut self, place: usize) -> Option<Envelope>
         ensures none { IsNone result ↔ (self.old ≡ []) }
         ensures empty { IsNone result → self.new ≡ [] }

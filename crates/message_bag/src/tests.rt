@@ -180,7 +180,7 @@ fn seat_of<P: PostName>(cell: Mutex<Cell<P>>) -> ActorSeat
     seat
 }
 
-// Puts all letters of an outbox into the bag.
+// Puts all letters of an outbox into the mailbox.
 fn put_all<P: PostName, R: Wait>(rt: &R, shared: &Shared<P>, outbox: Outbox) -> Option<()>
     requires { outbox.post ≡ P.post }
 {

@@ -65,7 +65,7 @@ impl Counters {
         self.nodes
     }
 
-    /// Sees to it that version `v` can be counted. All numbers stay. Wants no memory, since the rows are there.
+    /// Sees to it that version `v` can be counted. All numbers stay. Needs no memory, since the rows are there.
     pub fn room(&mut self, v: Version)
         requires from { (counts_of self.old).low ≤ v.0 }
         requires up_to { v.0 ≤ (counts_of self.old).low + 2 }
@@ -137,7 +137,7 @@ impl Counters {
     }
 
     /// Lets the numbers of versions below `v` go. The other versions keep theirs. The low version is then `v`, or stays
-    /// where that isn't above it. Wants no memory.
+    /// where that isn't above it. Needs no memory.
     pub fn drop_below(&mut self, v: Version)
         ensures { counts_of self.new ≡ dropped_below v.0 (counts_of self.old) }
     {

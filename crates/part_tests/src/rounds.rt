@@ -16,8 +16,8 @@ fn row(alloc: Global, first: u64, second: u64) -> Result<Row, NoMemory>
     Ok(row)
 }
 
-// A round of two nodes, in which node 0 asked node 1 once. The verdict before node 1's requests are in, what it would be
-// with them, and what it is then.
+// A round of two nodes, in which node 0 asked node 1 once. The verdict before node 1's requests are in, what it would
+// be with them, and what it is then.
 fn verdicts(alloc: Global, completions: u64) -> Result<[Option<bool>; 3], NoMemory> {
     let mut round = Round::new(alloc, Version(1), 1, 2)?;
     round.take_done(NodeNo(0), row(alloc, 0, 0)?);

@@ -13,7 +13,7 @@ in-around (k ∷ ks) zero row lt = refl
 in-around (None ∷ ks) (suc p) row lt = refl
 in-around (Some kept ∷ ks) (suc p) row lt = in-around ks p row (omega (arith, lt))
 
--- the same, with what stands behind the place as a slice has it
+-- the same, with what comes after the place as a slice has it
 pub in-with : (ks : NodeRows) (p : ℕ) (row : List ℕ) → p < length ks
     → all_in (slice_set ks p (Some row)) ≡ (all_in (take p ks) && all_in (take (length ks - (p + 1)) (drop (p + 1) ks)))
 in-with ks p row lt =

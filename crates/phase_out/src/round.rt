@@ -46,7 +46,7 @@ impl Round {
         })
     }
 
-    /// A round of no nodes: no row is of it. Wants no memory.
+    /// A round of no nodes: no row is of it. Needs no memory.
     pub fn empty(alloc: Global) -> Round
         ensures { result ≡ new_round (record { 0 = 0 }) 0 0 }
     {
@@ -93,7 +93,7 @@ impl Round {
             && row.items().len() == self.nodes as usize
     }
 
-    /// Keeps a node's row of completions, in place of an earlier one. Wants no memory.
+    /// Keeps a node's row of completions, in place of an earlier one. Needs no memory.
     pub fn take_done(&mut self, from: NodeNo, row: Row)
         requires node { from.0 < self.old.nodes }
         requires numbers { length row ≡ self.old.nodes }
@@ -102,7 +102,7 @@ impl Round {
         self.dones.put(from.0 as usize, Some(row));
     }
 
-    /// Keeps a node's row of requests, in place of an earlier one. Wants no memory.
+    /// Keeps a node's row of requests, in place of an earlier one. Needs no memory.
     pub fn take_asked(&mut self, from: NodeNo, row: Row)
         requires node { from.0 < self.old.nodes }
         requires numbers { length row ≡ self.old.nodes }

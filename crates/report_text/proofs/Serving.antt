@@ -128,7 +128,7 @@ served_at s h serial asks texts r carried asked served at before =
       ahead = λ (i : ℕ) (d : Member) le lt. omega (arith, before d (omega arith), asked.ascending r.place i d le lt);
     }
 
--- the next one is of a later version, whatever stands past the end
+-- the next one is of a later version, whatever is past the end
 pub next_later : (ms ns : List Member) (p v w : ℕ) (d e : Member) → ms ≡ ns → w ≡ v → v < (get_or ms p d).version.0 → p < length ns
     → w ≤ (get_or ns p e).version.0
 next_later ms ns p v w d e same eq later small =

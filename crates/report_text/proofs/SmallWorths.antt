@@ -1,5 +1,5 @@
--- What each item is worth keeps to the bound on magnitudes, since in a valid script all that is done to it does; and the
--- total by the values of all items is that of the summary.
+-- What each item is worth keeps to the bound on magnitudes, since in a valid script all that is done to it does; and
+-- the total by the values of all items is that of the summary.
 use Rattle.std.proofs.Common.{◌≡◌, ℕ, suc, ◌+◌, ◌≤◌, ℤ, List, [], ◌∷◌, refl, ap, ◌∙◌, subst, arith}
 use Rattle.std.specs.Prelude.{◌+ℤ◌, unsigned_abs, Option, Some, slice_get}
 use Rattle.std.proofs.lemmas.Int.{ints}

@@ -19,7 +19,7 @@ use Rattle.board_rules.specs.Histories.{version_of}
 use Rattle.board_rules.specs.Right.{shown}
 use Rattle.board_rules.specs.Worth.{worth, is_written}
 
--- numbers in order, each behind a comma
+-- numbers in order, each after a comma
 abbrev pub more_numbers : List ℤ → List ℕ
 more_numbers [] = []
 more_numbers (n ∷ ns) = codes "," ++ (signed_decimal n ++ more_numbers ns)
@@ -42,7 +42,7 @@ advances s = advances_in s.rows
 abbrev pub item_name : List ItemRow → ℕ → List ℕ
 item_name rows x = elim (slice_get rows x) [ Some row ↦ row.name | None ↦ [] ]
 
--- a value behind the name of its item
+-- a value after the name of its item
 abbrev pub get_text : List ℕ → Value → List ℕ
 get_text name w = codes " " ++ (name ++ (codes "=" ++ value_text w))
 

@@ -10,7 +10,7 @@ use tv_base::{NoMemory, Text};
 use tx_trees::{Script, Tree};
 
 /// The line of a script that was read: how many nodes, items, trees, subtransactions (roots are among them) and
-/// advancements it has. Only want of memory is an error.
+/// advancements it has. Running out of memory is the only error.
 #[tactic(auto, using(crate::proofs::Counts::fits))]
 pub fn check_line(alloc: Global, script: &Script) -> Result<Text, NoMemory>
     ensures { IfOk result (λ text. text ≡ check_line_of script.now) }

@@ -90,7 +90,7 @@ fn push_ops(
     Ok(())
 }
 
-// The item's value behind its name, where both are there.
+// The item's value after its name, where both are there.
 #[tactic(auto, using(crate::proofs::Plain::item_ascii))]
 fn push_found(
     text: &mut Text,
@@ -111,7 +111,7 @@ fn push_found(
     push_get(text, &row.name, value)
 }
 
-// A value behind the name of its item.
+// A value after the name of its item.
 fn push_get(text: &mut Text, name: &Name, value: &Value) -> Result<(), NoMemory>
     requires { IsAscii name.now }
     ensures { OnOk result (text.new ≡ text.old ++ get_text name.now value.now) }

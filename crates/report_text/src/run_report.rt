@@ -20,7 +20,7 @@ use tx_trees::Script;
 /// One pass over the history gives the trees' versions, their wholeness and the serial order. One pass over the serial
 /// order carries the values of all items, version after version; what a read tree shows, and what the lines of items
 /// show, is taken when the version is reached. So the work grows with the history, with the script and with the text,
-/// and with the sorting of the trees by version. Only want of memory is an error.
+/// and with the sorting of the trees by version. Running out of memory is the only error.
 pub fn report(alloc: Global, script: &Script, history: &History) -> Result<Text, NoMemory>
     ensures { IfOk result (λ text. text ≡ report_of script.now history.now) }
 {

@@ -28,7 +28,8 @@ struct Totals {
 /// trees, subtransactions (roots are among them) and advancements; and a line that says what all items of kind `sum`
 /// and all of kind `top` are worth, added up, at the version that reads are shown after the script's advancements.
 ///
-/// One pass over the history, and one over the serial order up to that version. Only want of memory is an error.
+/// One pass over the history, and one over the serial order up to that version. Running out of memory is the only
+/// error.
 pub fn summary(
     alloc: Global,
     script: &Script,

@@ -47,7 +47,7 @@ fn push_some(text: &mut Text, first: Amount, more: &[Amount]) -> Result<(), NoMe
     text.push_all(b"}")
 }
 
-// Numbers in order, each behind a comma.
+// Numbers in order, each after a comma.
 fn push_more(text: &mut Text, numbers: &[Amount]) -> Result<(), NoMemory>
     ensures { OnOk result (text.new ≡ text.old ++ more_numbers numbers.now) }
 {
@@ -57,7 +57,7 @@ fn push_more(text: &mut Text, numbers: &[Amount]) -> Result<(), NoMemory>
     Ok(())
 }
 
-// A number behind a comma.
+// A number after a comma.
 fn push_next(text: &mut Text, number: Amount) -> Result<(), NoMemory>
     ensures { OnOk result (text.new ≡ text.old ++ (codes "," ++ signed_decimal number)) }
 {

@@ -31,7 +31,7 @@ at_is : (o : Option ℕ) (k : ℕ) → is_at o k ≡ true → o ≡ Some k
 at_is None k e = absurd (cc e)
 at_is (Some x) k e = let same : x ≡ k = grind (arith, nat_tests) in ap Some same
 
--- where its name, its node, its kind and its first value stand
+-- where its name, its node, its kind and its first value are
 abbrev stands : ℕ → Bool
 stands k = is_at (place_of (generated_item_name k) (items_up_to 32)) k
 
@@ -43,7 +43,7 @@ all_stand : agree_below stands (λ k. true) 32 ≡ true
 unfolding digits
 all_stand = refl
 
--- item k is taken behind those before it
+-- item k is taken after those before it
 pub item_may : (k : ℕ) → k < 32 → MayAddItem (with_items k) (generated_item_row k)
 item_may k lt =
     let all = agree_below_at passes (λ k. true) 32 k all_pass lt in

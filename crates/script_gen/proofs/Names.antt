@@ -1,4 +1,4 @@
--- What is written in decimal behind a letter is a name, and other numbers have other names.
+-- What is written in decimal after a letter is a name, and other numbers have other names.
 use Rattle.std.proofs.Common.{◌≡◌, ◌-◌, ◌<◌, ◌≤◌, ◌∙◌, ◌∷◌, [], List, true, ℕ, length, refl, sym, ap, arith}
 use Rattle.std.specs.Prelude.{decimal, nat_le}
 use Rattle.std.specs.List.{list_all}

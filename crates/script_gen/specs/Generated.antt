@@ -131,7 +131,7 @@ abbrev pub rows_up_to : ℕ → List ScriptRow
 rows_up_to zero = []
 rows_up_to (suc j) = rows_up_to j ++ (rows.Tree (record { 0 = j }) ∷ advances_behind j)
 
--- the whole script: behind the trees all of them are waited for, one more advancement is asked for and waited for
+-- the whole script: after the trees all of them are waited for, one more advancement is asked for and waited for
 abbrev pub generated : ℕ → ℕ → ScriptData
 generated seed n = record {
   form = forms.One;

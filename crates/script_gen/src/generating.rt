@@ -12,10 +12,10 @@ use tv_base::NoMemory;
 use tx_trees::{Form, Script};
 
 /// The script of so many trees, at most 20,000, that the seed makes: 4 nodes, 32 items, and update and read trees of
-/// one to four subtransactions with one operation each, all by the draws of the seed. An advancement is asked for
-/// behind every 250th tree, and one more when all before it has ended.
+/// one to four subtransactions with one operation each, all by the draws of the seed. An advancement is asked for after
+/// every 250th tree, and one more when all before it has ended.
 ///
-/// Such a script keeps to all limits and rules of scripts, so only want of memory is an error.
+/// Such a script keeps to all limits and rules of scripts, so running out of memory is the only error.
 pub fn generate(alloc: Global, seed: u64, trees: u32) -> Result<Script, NoMemory>
     requires { trees ≤ 20000 }
     ensures { IfOk result (λ script. script ≡ generated seed trees) }

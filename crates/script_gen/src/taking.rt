@@ -1,4 +1,4 @@
-// Records that a script takes, so that want of memory is the one refusal.
+// Records that a script takes, so that running out of memory is the one refusal.
 ghost use Rattle.std.specs.Prelude.{◌≡◌, Ok, OnOk, Some};
 ghost use Rattle.tx_trees.specs.Adding.{adds_advance, place_of, with_item, with_op, with_row, with_sub, with_tree};
 ghost use Rattle.tx_trees.specs.Passing.{MayAddItem, MayAddOp, MayAddSub, MayAddTree};

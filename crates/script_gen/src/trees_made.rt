@@ -32,7 +32,7 @@ pub(crate) fn add_trees(
     Ok(())
 }
 
-// Asks for an advancement behind every 250th tree.
+// Asks for an advancement after every 250th tree.
 fn add_behind(script: &mut Script, j: u32) -> Result<(), NoMemory>
     requires small { j < 20000 }
     requires few { advances_in script.old.rows < 100 }

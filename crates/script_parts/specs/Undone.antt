@@ -8,7 +8,7 @@ use Rattle.script_parts.specs.declared.parts.Deed.TheVariants as deeds
 use Rattle.script_parts.specs.declared.parts.Sub.{Sub}
 use Rattle.script_parts.specs.declared.parts.SubOp.{SubOp}
 
--- the subtransaction behind those of which this is known goes: it isn't the root, and its parent is the failed one or
+-- the subtransaction after those of which this is known goes: it isn't the root, and its parent is the failed one or
 -- goes itself
 abbrev pub goes_next : ℕ → List Bool → Sub → Bool
 goes_next failed goes x = not (length goes == 0) && (x.parent.0 == failed || get_or goes x.parent.0 false)

@@ -145,8 +145,8 @@ pub record AreWithin (form : Form) (items : List ItemRow) (ts : List Tree) : Typ
   pub loads : (x : ℕ) → x < length items → initial_load (slice_get items x) + trees_load x ts ≤ most_amount form
   pub pairs : strict_trees ts * update_subs ts ≤ 1000000
 
--- a tree behind these that was written as w and then failed: what was written is an update tree of `add` operations,
--- which passed no limit when it stood behind them, and the tree is its undone form
+-- a tree after these that was written as w and then failed: what was written is an update tree of `add` operations,
+-- which passed no limit when it came after them, and the tree is its undone form
 pub record HasFailed (form : Form) (nodes : ℕ) (items : List ItemRow) (front : List Tree) (t : Tree)
     (w : Written) : Type 0 where
   pub second : form ≡ forms.Two
@@ -161,7 +161,7 @@ abbrev pub MayHaveFailed : Form → ℕ → List ItemRow → List Tree → Tree 
 MayHaveFailed form nodes items front t None = Unit {0}
 MayHaveFailed form nodes items front t (Some w) = HasFailed form nodes items front t w
 
--- each tree that was written otherwise, of those behind these, has failed
+-- each tree that was written otherwise, of those after these, has failed
 abbrev pub MayAllHaveFailed : Form → ℕ → List ItemRow → List Tree → List Tree → Type 0
 MayAllHaveFailed form nodes items front [] = Unit {0}
 MayAllHaveFailed form nodes items front (t ∷ ts) =

@@ -166,8 +166,8 @@ fn reload(totals: &mut Vec<u128>, off: &[Sub], on: &[Sub], most: u128) -> bool
 }
 
 /// Takes the magnitudes of the last tree's operations off the items' totals and adds those of other subtransactions,
-/// unless one of the totals that these are on is above `most` then. Whether it did; the totals are as they were where it
-/// didn't. It takes time by the number of these operations alone.
+/// unless one of the totals that these are on is above `most` then. Whether it did; the totals are as they were where
+/// it didn't. It takes time by the number of these operations alone.
 pub fn reload_last(totals: &mut Vec<u128>, trees: &[Tree], on: &[Sub], most: u128) -> bool
     requires some { 0 < length trees.now }
     requires may { MayReload totals.old.items (last_tree_subs trees.now) on.now }

@@ -110,7 +110,7 @@ pub fn rooted(alloc: Global, name: Name, kind: TreeKind, node: NodeNo) -> Result
     })
 }
 
-/// Puts a subtransaction behind those of the last tree.
+/// Puts a subtransaction after those of the last tree.
 pub fn push_sub(trees: &mut Vec<Tree>, sub: Sub) -> Result<(), NoMemory>
     requires { 0 < length trees.old.items }
     ensures ok { OnOk result (trees.new.items ≡ on_last (push_sub sub) trees.old.items) }
@@ -124,7 +124,7 @@ pub fn push_sub(trees: &mut Vec<Tree>, sub: Sub) -> Result<(), NoMemory>
     Ok(())
 }
 
-// Puts an operation behind those of the last subtransaction.
+// Puts an operation after those of the last subtransaction.
 fn push_to_last(alloc: Global, subs: &mut Subs, op: SubOp) -> Result<(), NoMemory>
     requires { 0 < length subs.old }
     ensures ok { OnOk result (subs.new ≡ on_last (push_op op) subs.old) }
@@ -141,7 +141,7 @@ fn push_to_last(alloc: Global, subs: &mut Subs, op: SubOp) -> Result<(), NoMemor
     Ok(())
 }
 
-/// Puts an operation behind those of the last subtransaction of the last tree.
+/// Puts an operation after those of the last subtransaction of the last tree.
 pub fn push_op(alloc: Global, trees: &mut Vec<Tree>, op: SubOp) -> Result<(), NoMemory>
     requires trees { 0 < length trees.old.items }
     requires subs { 0 < last_subs trees.old.items }

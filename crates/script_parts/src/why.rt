@@ -99,7 +99,7 @@ pub enum Refusal {
     /// The first reason that holds.
     #[error("{0}")]
     Why(Why),
-    /// Want of memory.
+    /// Out of memory.
     #[error("out of memory")]
     NoMemory,
 }

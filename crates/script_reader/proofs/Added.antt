@@ -12,19 +12,19 @@ use Rattle.tx_trees.specs.declared.parts.TreeKind.{TreeKind}
 use Rattle.tx_trees.specs.declared.why.Why.{Why}
 use Rattle.tx_trees.specs.declared.why.Why.TheVariants as why
 
--- an item that was taken stands last
+-- an item that was taken is last
 pub item_is : (s t : ScriptData) (r : ItemRow) → adds_item s r ≡ Ok t → with_item s r ≡ t
 item_is s t r is = grind arith
 
--- a tree that was taken stands last
+-- a tree that was taken is last
 pub tree_is : (s t : ScriptData) (name : List ℕ) (kind : TreeKind) (node : NodeNo) → adds_tree s name kind node ≡ Ok t → with_tree s name kind node ≡ t
 tree_is s t name kind node is = grind arith
 
--- a subtransaction that was taken stands last in the last tree
+-- a subtransaction that was taken is last in the last tree
 pub sub_is : (s t : ScriptData) (parent : ℕ) (node : NodeNo) → adds_sub s parent node ≡ Ok t → with_sub s parent node ≡ t
 sub_is s t parent node is = grind arith
 
--- an operation that was taken stands last in the last subtransaction
+-- an operation that was taken is last in the last subtransaction
 pub op_at_is : (s t : ScriptData) (k : ℕ) (deed : Deed) → adds_op_at s (Some k) deed ≡ Ok t → with_op s k deed ≡ t
 op_at_is s t k deed is = grind arith
 
@@ -50,7 +50,7 @@ fail_is s t k is =
     let e = first_passes (is_heavy (with_failed s k)) why.TooMuch [] (with_failed s k) t d in
     ok_same (with_failed s k) t e
 
--- a row that waits stands last
+-- a row that waits is last
 pub advance_is : (s t : ScriptData) → adds_advance s ≡ Ok t → with_row s rows.Advance ≡ t
 advance_is s t is = grind arith
 
@@ -60,7 +60,7 @@ lose_is s t is = grind arith
 pub settle_is : (s t : ScriptData) → adds_settle s ≡ Ok t → with_row s rows.Settle ≡ t
 settle_is s t is = cc is
 
--- a pick that was taken stands last
+-- a pick that was taken is last
 pub pick_is : (s t : ScriptData) (k : ℕ) → adds_pick s k ≡ Ok t → record s { picks = s.picks ++ k ∷ []; begun = false } ≡ t
 pick_is s t k is = cc is
 

@@ -34,7 +34,7 @@ form_if_built true r = inl refl
 form_if_built false (Ok s) = inr (s, refl, refl)
 form_if_built false (Err w) = inl refl
 
--- behind the same condition
+-- after the same condition
 behind : (b : Bool) (w : Why) (x y : Result ScriptData Why) → Alike x y → Alike (if b then Err w else x) (if b then Err w else y)
 behind true w x y h = inl refl
 behind false w x y h = h
@@ -79,7 +79,7 @@ record LeavesOut (x y : Result ScriptData ScriptFault) : Type 0 where
 abbrev AreAlike : Result ScriptData ScriptFault → Result ScriptData ScriptFault → Type 0
 AreAlike x y = (x ≡ y) ⊎ LeavesOut x y
 
--- a fault stands at the row from which on it was looked for, or later
+-- a fault is at the row from which on it was looked for, or later
 then_late : (row : ℕ) (one : Result ScriptData Why) (more : ScriptData → Result ScriptData ScriptFault) (f : ScriptFault) → ((s : ScriptData) → more s ≡ Err f → row + 1 ≤ f.row) → then_rows row one more ≡ Err f
     → row ≤ f.row
 then_late row (Ok s) more f h is = omega (arith, h s is)
@@ -172,7 +172,7 @@ from_built s t row (x ∷ xs) b is =
     let one = row_taken every_form s g.first x g.is in
     (goes_on built_forms s g.first row (x ∷ xs) x xs refl (one.same rest.1) ∙ rest.0, one.back rest.1)
 
--- the same behind a record that both read alike
+-- the same after a record that both read alike
 then_built : (row : ℕ) (one : Result ScriptData Why) (f g : ScriptData → Result ScriptData ScriptFault) (t : ScriptData) → ((s : ScriptData) → f s ≡ Ok t → g s ≡ Ok t) → then_rows row one f ≡ Ok t
     → then_rows row one g ≡ Ok t
 then_built row (Ok s) f g t h is = h s is

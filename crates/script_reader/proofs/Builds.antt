@@ -271,7 +271,7 @@ first_form_builds t fields words.Form is = absurd (no_script (not (is_number (fi
 first_form_builds t fields words.Nodes is = nodes_builds forms.One t (field fields 1) (begun_is (nodes_row forms.One (field fields 1)) t is)
 first_form_builds t fields _ is = absurd (cc is)
 
--- and the second, behind one that names the second form
+-- and the second, after one that names the second form
 second_form_builds : (t : ScriptData) (fields : List (List ℕ)) (w : RowWord) → second_form fields w ≡ Ok t → Builds t
 second_form_builds t fields words.Nodes is = nodes_builds forms.Two t (field fields 1) is
 second_form_builds t fields _ is = absurd (cc is)
@@ -298,7 +298,7 @@ from_builds s t row (x ∷ xs) b is =
     then_builds t row (later_row built_forms s x) (λ u. rows_from built_forms u (row + 1) xs) (λ u at. (row_taken built_forms s u x at).there refl b)
     (λ u h at. from_builds u t (row + 1) xs h at) is
 
--- all rows behind one that names the second form
+-- all rows after one that names the second form
 second_builds : (t : ScriptData) (rs : List (List (List ℕ))) → second_rows built_forms rs ≡ Ok t → Builds t
 second_builds t [] is = absurd (cc is)
 second_builds t (x ∷ xs) is =
@@ -306,7 +306,7 @@ second_builds t (x ∷ xs) is =
     (λ u at. by_word_builds (Builds u) u x (later_word forms.Two (field x 0)) (second_form x) (second_form_builds u x) at)
     (λ u h at. from_builds u t 3 xs h at) is
 
--- all rows behind the first
+-- all rows after the first
 after_builds : (t : ScriptData) (first : Result (Option ScriptData) Why) (rs : List (List (List ℕ))) → ((s : ScriptData) → first ≡ Ok (Some s) → Builds s) → after_first built_forms first rs ≡ Ok t → Builds t
 after_builds t (Err w) rs h is = absurd (cc is)
 after_builds t (Ok None) rs h is = second_builds t rs is

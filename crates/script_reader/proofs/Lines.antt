@@ -26,7 +26,7 @@ pub record IsPlainRow (r : List (List ℕ)) : Type 0 where
 field_is : (f : List ℕ) → IsPlain f → field_text default_writer f ≡ f
 field_is f h = rw h refl
 
--- and plain fields behind the first
+-- and plain fields after the first
 more_is : (fs : List (List ℕ)) → AllByRecursion IsPlain fs → fields_text default_writer fs ++ (10 ∷ []) ≡ more_fields fs
 unfolding fields_text
 more_is [] h = refl

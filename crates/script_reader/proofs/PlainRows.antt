@@ -142,7 +142,7 @@ deed_plain name deeds.Get h small = record { head = _; tail = _; is = refl; some
 abbrev ArePlain : List (List (List ℕ)) → Type 0
 ArePlain rs = AllByRecursion IsPlainRow rs
 
--- rows behind rows
+-- rows after rows
 plain-append : (xs ys : List (List (List ℕ))) → ArePlain xs → ArePlain ys → ArePlain (xs ++ ys)
 plain-append [] ys h k = k
 plain-append (x ∷ xs) ys h k = (h.0, plain-append xs ys h.1 k)
@@ -159,7 +159,7 @@ ops_plain n items kind node [] all h small = tt
 ops_plain n items kind node (o ∷ os) all h small =
     (deed_plain (name_at o.item.0 items) o.deed (op_named n items o.item.0 kind node o all h.0) (small_deed o.deed small.0), ops_plain n items kind node os all h.1 small.1)
 
--- all subtransactions behind the root
+-- all subtransactions after the root
 subs_plain : (n : ℕ) (items : List ItemRow) (kind : TreeKind) (k : ℕ) (xs : List Sub) → n ≤ 64 → 0 < k → k + length xs ≤ 64 → AllByRecursion (IsItem n) items → AreSubs n items kind k xs → ArePlain (subs_rows items xs)
 subs_plain n items kind k [] few some room all h = tt
 subs_plain n items kind k (x ∷ xs) few some room all h = (

@@ -14,7 +14,7 @@ use Rattle.std.specs.Prelude.{Some}
 use Rattle.std.proofs.lemmas.List.{append-nil}
 use Rattle.script_reader.specs.Written.{fail_fields, fail_rows, rows_of_tree, form_rows, item_fields, line, lines, nodes_fields, ops_rows, pick_fields, rows_behind, rows_of_row, rows_of_rows, sub_fields, subs_rows, tree_fields, tree_rows, written}
 
--- the lines of rows behind rows
+-- the lines of rows after rows
 pub lines-append : (a b : List (List (List ℕ))) → lines (a ++ b) ≡ lines a ++ lines b
 lines-append [] b = refl
 lines-append (r ∷ rs) b = ap (λ (t : List ℕ). line r ++ t) (lines-append rs b) ∙ sym (append_assoc (line r) (lines rs) (lines b))
@@ -73,7 +73,7 @@ fail_pushed items t w subs a b c r is same hb h =
     on_ok r _ _ (λ e. e ∙ ap (λ (x : List ℕ). x ++ line (fail_fields w.failed.0)) before ∙ append_assoc a (lines rows) (line (fail_fields w.failed.0))
     ∙ ap (λ (x : List ℕ). a ++ (lines rows ++ x)) (sym (append-nil (line (fail_fields w.failed.0)))) ∙ ap (λ (x : List ℕ). a ++ x) (sym text)) h
 
--- all parts, one behind the other
+-- all parts, one after the other
 pub all_pushed : (s : ScriptData) (t f a b c d : List ℕ) → t ≡ [] → f ≡ t ++ lines (form_rows s.form) → a ≡ f ++ line (nodes_fields s.nodes) → b ≡ a ++ lines (map item_fields s.items) → c ≡ b ++ lines (rows_of_rows s.items s.trees s.rows)
     → d ≡ c ++ lines (map pick_fields s.picks) → d ≡ written s
 all_pushed s t f a b c d ht hf ha hb hc hd =

@@ -110,7 +110,7 @@ ops_back n items kind node (o ∷ os) u v a same h =
     let rest = ops_back n items kind node os g.first v (record { all = a.all; ops = a.ops.1; amounts = a.amounts.1 }) (op_items u g.first name o added ∙ same) g.rest in
     record { reads = reads_one u g.first v (op_fields items o) (ops_rows items os) (row ∙ added) rest.reads; items_stay = rest.items_stay; form_stays = rest.form_stays ∙ op_form u g.first name o added }
 
--- the subtransactions behind the root
+-- the subtransactions after the root
 subs_back : (n : ℕ) (items : List ItemRow) (kind : TreeKind) (k : ℕ) (xs : List Sub) (u v : ScriptData) → n ≤ 64 → 0 < k → k + length xs ≤ 64 → AllByRecursion (IsItem n) items → AreSubs n items kind k xs → u.items ≡ items
     → subs_added u xs ≡ Ok v → Gives items u (subs_rows items xs) v
 subs_back n items kind k [] u v few some room all subs same h = let e : u ≡ v = cc h in record { reads = reads_none u v e; items_stay = sym (ap (λ (w : ScriptData). w.items) e) ∙ same; form_stays = sym (ap (λ (w : ScriptData). w.form) e) }
@@ -222,7 +222,7 @@ written_rows s h small =
     ap (records_from default_config (length (written s) + 1) st.StartRecord) (no_mark s.form s.nodes (map item_fields s.items ++ (rows_of_rows s.items s.trees s.rows ++ map pick_fields s.picks)))
     ∙ lines_read (length (written s) + 1) (rows_of s) (omega (arith, few_lines (rows_of s))) (all_plain s h small)
 
--- what is added stands behind what is there
+-- what is added comes after what is there
 items_stand : (items : List ItemRow) (u v : ScriptData) → items_added u items ≡ Ok v → v.items ≡ u.items ++ items
 items_stand [] u v h = let e : u ≡ v = cc h in sym (ap (λ (w : ScriptData). w.items) e) ∙ sym (append-nil u.items)
 items_stand (r ∷ rs) u v h =
@@ -244,7 +244,7 @@ picks_back (k ∷ ks) u v small h =
     let g = goes (adds_pick u k) (λ t. picks_added t ks) v h in
     reads_one u g.first v (pick_fields k) (map pick_fields ks) (pick_back u k (small 0) ∙ g.is) (picks_back ks g.first v (λ i. small (suc i)) g.rest)
 
--- from the `nodes` row on, behind the row of the second form where it is there
+-- from the `nodes` row on, after the row of the second form where it is there
 nodes_then : (f : Form) (n : ℕ) (u : ScriptData) (rs : List (List (List ℕ))) → 1 ≤ n → n ≤ most_nodes f → Reads (fresh f n) rs u → read_rows every_form (form_rows f ++ nodes_fields n ∷ rs) ≡ Ok u
 nodes_then forms.One n u rs some few reads =
     let start = ap (λ (x : Result (Option ScriptData) Why). after_first every_form x rs) (nodes_back n some few) in

@@ -21,7 +21,7 @@ choose : (b : Bool) (x y : State × Action) → Ends x → Ends y → Ends (if b
 choose true x y h k = h
 choose false x y h k = k
 
--- behind an end the machine is between records
+-- after an end the machine is between records
 after_end_between : (t : Terminator) (c : ℕ) → ends_at_end (after_end t c) ≡ false
 after_end_between term.CRLF c = elim (c == carriage_return) as (λ b. ends_at_end (if b then st.AfterCr else st.StartRecord) ≡ false) [ true ↦ refl | false ↦ refl ]
 after_end_between (term.Any t) c = refl

@@ -15,7 +15,7 @@ pub record BothRead (bytes : List ℕ) : Type 0 where
   pub built : (s : ScriptData) → Builds s → read_every bytes ≡ Ok s → read_of bytes ≡ Ok s
   -- a fault other than NotBuilt is the fault by every form too
   pub refused : (f : ScriptFault) → read_of bytes ≡ Err f → (f.why ≡ why.NotBuilt) ⊎ (read_every bytes ≡ Err f)
-  -- NotBuilt is the last reason of its record: by every form no fault stands up to there
+  -- NotBuilt is the last reason of its record: by every form no fault is up to there
   pub later : (f g : ScriptFault) → read_of bytes ≡ Err f → f.why ≡ why.NotBuilt → read_every bytes ≡ Err g
       → f.row < g.row
   -- by every form nothing is refused as NotBuilt

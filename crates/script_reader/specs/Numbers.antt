@@ -14,7 +14,7 @@ abbrev pub is_negative : List ℕ → Bool
 is_negative [] = false
 is_negative (b ∷ bs) = b == 45
 
--- what stands behind the minus sign, if there is one
+-- what comes after the minus sign, if there is one
 abbrev pub digits_of : List ℕ → List ℕ
 digits_of [] = []
 digits_of (b ∷ bs) = if b == 45 then bs else b ∷ bs

@@ -26,12 +26,12 @@ unfoldable pub rows_from : Bool → ScriptData → ℕ → List (List (List ℕ)
 rows_from every s row [] = Ok s
 rows_from every s row (r ∷ rs) = then_rows row (later_row every s r) (λ t. rows_from every t (row + 1) rs)
 
--- the records behind one that names the second form: the first of them makes a script
+-- the records after one that names the second form: the first of them makes a script
 abbrev pub second_rows : Bool → List (List (List ℕ)) → Result ScriptData ScriptFault
 second_rows every [] = Err (fault 2 why.NodesFirst)
 second_rows every (r ∷ rs) = then_rows 2 (second_row r) (λ s. rows_from every s 3 rs)
 
--- the records behind the first
+-- the records after the first
 abbrev pub after_first : Bool → Result (Option ScriptData) Why → List (List (List ℕ)) → Result ScriptData ScriptFault
 after_first every (Err w) rs = Err (fault 1 w)
 after_first every (Ok None) rs = second_rows every rs

@@ -159,7 +159,7 @@ first_form fields words.Form = form_row (field fields 1)
 first_form fields words.Nodes = begun_script (nodes_row forms.One (field fields 1))
 first_form fields _ = Err why.NodesFirst
 
--- the record behind one that names the second form, by its word
+-- the record after one that names the second form, by its word
 abbrev pub second_form : List (List ℕ) → RowWord → Result ScriptData Why
 second_form fields words.Nodes = nodes_row forms.Two (field fields 1)
 second_form fields _ = Err why.NodesFirst
@@ -183,7 +183,7 @@ later_form every s fields words.Fail = fail_row s (field fields 1)
 abbrev pub first_row : List (List ℕ) → Result (Option ScriptData) Why
 first_row fields = by_word fields (first_word (field fields 0)) (first_form fields)
 
--- the record behind one that names the second form
+-- the record after one that names the second form
 abbrev pub second_row : List (List ℕ) → Result ScriptData Why
 second_row fields = by_word fields (later_word forms.Two (field fields 0)) (second_form fields)
 

@@ -76,7 +76,7 @@ may_follow form words.Lose = is_second form
 may_follow form words.Fail = is_second form
 may_follow form word = true
 
--- a row word that may stand here
+-- a row word that may be here
 abbrev pub if_word : (RowWord → Bool) → Option RowWord → Option RowWord
 if_word may None = None
 if_word may (Some word) = if may word then Some word else None

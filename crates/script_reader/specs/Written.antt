@@ -18,7 +18,7 @@ use Rattle.tx_trees.specs.declared.parts.TreeKind.{TreeKind}
 use Rattle.tx_trees.specs.declared.parts.Written.{Written}
 use Rattle.script_reader.specs.Words.{kind_word, tree_word}
 
--- the fields behind the first of a record, each behind a comma, and the line's end
+-- the fields after the first of a record, each after a comma, and the line's end
 abbrev pub more_fields : List (List ℕ) → List ℕ
 more_fields [] = 10 ∷ []
 more_fields (f ∷ fs) = 44 ∷ (f ++ more_fields fs)
@@ -87,7 +87,7 @@ fail_rows (Some w) = fail_fields w.failed.0 ∷ []
 abbrev pub ops_rows : List ItemRow → List SubOp → List (List (List ℕ))
 ops_rows items ops = map (op_fields items) ops
 
--- each subtransaction behind the root with its operations, by number
+-- each subtransaction after the root with its operations, by number
 abbrev pub subs_rows : List ItemRow → List Sub → List (List (List ℕ))
 subs_rows items [] = []
 subs_rows items (x ∷ xs) = sub_fields x ∷ (ops_rows items x.ops ++ subs_rows items xs)
@@ -119,7 +119,7 @@ abbrev pub rows_behind : ScriptData → List (List (List ℕ))
 rows_behind s =
     nodes_fields s.nodes ∷ (map item_fields s.items ++ (rows_of_rows s.items s.trees s.rows ++ map pick_fields s.picks))
 
--- the same, behind the row of the second form where it is of that
+-- the same, after the row of the second form where it is of that
 abbrev pub rows_of : ScriptData → List (List (List ℕ))
 rows_of s = form_rows s.form ++ rows_behind s
 

@@ -30,7 +30,7 @@ pub enum ScriptRefusal {
     /// A record is refused.
     #[error("{0}")]
     Fault(ScriptFault),
-    /// Want of memory, which says nothing of the text.
+    /// Out of memory, which says nothing of the text.
     #[error("out of memory")]
     NoMemory,
 }
@@ -91,7 +91,7 @@ fn read_records(alloc: Global, bytes: &[u8]) -> Result<Script, ScriptRefusal>
     }
 }
 
-// The records behind one that names the second form.
+// The records after one that names the second form.
 fn read_second(
     alloc: Global,
     records: &mut Records,

@@ -62,7 +62,7 @@ impl<'a> Records<'a> {
     }
 }
 
-// One read of csv: any error of it is want of memory, since the bytes are in memory.
+// One read of csv: any error of it is out of memory, since the bytes are in memory.
 fn read_row<'a>(reader: &mut Reader<&'a [u8]>, row: &mut ByteRecord) -> Result<bool, NoMemory>
     requires { IsReading reader.old }
     ensures { IfOk result (λ found. ReadsRow reader.old found (fields_of row.new) reader.new) }

@@ -1,4 +1,4 @@
-// Fields, each behind a comma, and the ends of rows.
+// Fields, each after a comma, and the ends of rows.
 ghost use Rattle.std.specs.Prelude.{◌≡◌, ◌++◌, ◌∷◌, [], OnOk, decimal};
 ghost use Rattle.std.specs.Fmt.{signed_decimal};
 ghost use Rattle.std.specs.Str.{IsAscii};

@@ -14,7 +14,7 @@ none_left : (xs : List Letter) → length xs ≤ 0 → xs ≡ []
 none_left [] le = refl
 none_left (x ∷ xs) le = absurd (omega arith)
 
--- a world without a letter under way
+-- a world without a letter in flight
 pub bag_is_empty : (s : ScriptData) (w : WorldData) → IsWorldOf s w → length w.bag ≤ 0 → waiting s (reverse w.history) ≡ []
 bag_is_empty s w world none = sym world.bag ∙ none_left w.bag none
 

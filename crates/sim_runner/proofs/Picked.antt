@@ -20,7 +20,7 @@ take_whole : (h : List Entry) → take (length h) h ≡ h
 take_whole [] = refl
 take_whole (e ∷ h) = ap (λ (xs : List Entry). e ∷ xs) (take_whole h)
 
--- the letters under way before an entry are told by the entries before it
+-- the letters in flight before an entry are told by the entries before it
 same_before : (s : ScriptData) (h t : List Entry) (k : ℕ) → k ≤ length h → waiting_at s (h ++ t) k ≡ waiting_at s h k
 same_before s h t k le = ap (λ (xs : List Entry). waiting s (reverse xs)) (take_front k h t le)
 

@@ -15,7 +15,7 @@ abbrev pub picked_at : {P : Type 0} → (P → List Letter → ℕ) → (P → L
     → ℕ
 picked_at place after s p h k = place (picker_at after s p h k) (waiting_at s h k)
 
--- each entry took the letter at the place that the picker named, modulo as many as were under way
+-- each entry took the letter at the place that the picker named, modulo as many as were in flight
 abbrev pub IsPickedBy : {P : Type 0} → (P → List Letter → ℕ) → (P → List Letter → P) → ScriptData → P → List Entry
     → Type 0
 IsPickedBy place after s p h = (k : ℕ) (e : Entry) → slice_get h k ≡ Some e

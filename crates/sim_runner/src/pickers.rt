@@ -8,7 +8,7 @@ use letter_types::{Letter, LetterId};
 use tv_base::ActorNo;
 use world_core::World;
 
-/// Chooses which of the letters under way is taken next. It takes no memory.
+/// Chooses which of the letters in flight is taken next. It takes no memory.
 pub trait Picker {
     /// The number of the place that it names where these letters wait. It is taken modulo how many they are.
     ghost place: { Self → List Letter → ℕ };

@@ -13,8 +13,8 @@ use tv_base::NoMemory;
 use tx_trees::Script;
 use world_core::World;
 
-/// Runs a script on one thread until no letter is under way. The letters are taken as the picker chooses, the place
-/// that it names being taken modulo how many letters wait. After want of memory nothing is said of the picker.
+/// Runs a script on one thread until no letter is in flight. The letters are taken as the picker chooses, the place
+/// that it names being taken modulo how many letters wait. If memory runs out, nothing is said of the picker.
 ///
 /// It always returns: a history has at most 2^40 entries, and a run that would pass that finds no memory.
 pub fn simulate_by<P: Picker>(
@@ -38,7 +38,7 @@ pub fn simulate_by<P: Picker>(
     Ok(world.into_history())
 }
 
-/// Runs a script on one thread until no letter is under way. The letters are taken by the script's picks, then with a
+/// Runs a script on one thread until no letter is in flight. The letters are taken by the script's picks, then with a
 /// seed by its draws, and without one the oldest first (docs/ALGORITHM.md, "Schedules"). It always returns.
 pub fn simulate(alloc: Global, script: &Script, seed: Option<u64>) -> Result<History, NoMemory>
     requires { IsRunnable script.now }

@@ -106,7 +106,7 @@ head_there [] (suc k) o rest e = absurd cc
 head_there (x ∷ os) zero o rest e = ap Some cc
 head_there (x ∷ os) (suc k) o rest e = head_there os k o rest e
 
--- and what is left behind it
+-- and what is left after it
 pub tail_there : (os : List Outgoing) (k : ℕ) (o : Outgoing) (rest : List Outgoing) → drop k os ≡ o ∷ rest
     → drop (suc k) os ≡ rest
 tail_there [] zero o rest e = absurd cc
@@ -124,7 +124,7 @@ new_seats_more post n (suc count) =
     ∙ ap (λ (k : ℕ). seat_data post n [] None None ∷
     (new_seats post (n + 1) count ++ seat_data post k [] None None ∷ [])) there
 
--- the first of the new seats, and those behind it
+-- the first of the new seats, and those after it
 pub new_seats_first : (post : PostId) (n count : ℕ) (one : SeatData) (rest : List SeatData)
     → new_seats post n count ≡ one ∷ rest
     → (one ≡ seat_data post n [] None None) × (rest ≡ new_seats post (n + 1) (count - 1)) × (0 < count)

@@ -20,7 +20,7 @@ abbrev pub posting : ℕ → ℕ → Letter → List Outgoing → Posting
 posting stamp actor took sent =
     record { stamp = record { 0 = stamp }; actor = record { 0 = actor }; took = took; sent = sent }
 
--- the posting stands in the log, at its stamp
+-- the posting is in the log, at its stamp
 abbrev pub Stands : List Posting → Posting → Type 0
 Stands log p = (k : ℕ) × (slice_get log k ≡ Some p) × (p.stamp.0 ≡ k + 1)
 

@@ -90,7 +90,7 @@ abbrev pub receipt_joined : ReceiptData → JoinedReceipt
 receipt_joined r = joined_receipt r.number r.own r.posting
 
 -- there is one log that went as letters do; each seat's postings are all that its actor has there; each receipt's
--- posting stands there at its stamp, and the postings up to it are its actor's first ones
+-- posting is there at its stamp, and the postings up to it are its actor's first ones
 pub record Gathers (actors : ℕ) (seats : List JoinedSeat) (receipts : List JoinedReceipt) : Type 0 where
   pub log : List Posting
   pub postal : IsPostal (actors - 1) log

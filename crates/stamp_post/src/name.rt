@@ -1,4 +1,4 @@
-// The name of a post, for types that stand behind a lock.
+// The name of a post, for types that are behind a lock.
 use std::marker::Brand;
 
 /// Which post it is. A value behind a lock is known by its type alone, so such a type takes a name. Whoever calls a

@@ -329,7 +329,7 @@ impl Outbox {
         // which letter it is
         ensures letter { IfSome result (λ e. slice_get (letters_sent self.old.posting) self.old.next ≡ Some e.letter) }
         ensures post { IfSome result (λ e. e.post ≡ self.old.post) }
-        // what is left behind
+        // what is left after
         ensures out { IfSome result (λ _.
             self.new ≡ outbox_data self.old.post self.old.number self.old.own self.old.posting (self.old.next + 1)) }
         ensures same { IfNone result (self.new ≡ self.old) }

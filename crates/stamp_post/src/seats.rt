@@ -56,7 +56,7 @@ impl Model for Gatherer {
     ghost invariant = { λ g. (g.first.seats ≡ []) × (g.first.receipts ≡ []) };
 }
 
-/// A letter under way, addressed to one of the post's actors. It can be neither copied nor made otherwise.
+/// A letter in flight, addressed to one of the post's actors. It can be neither copied nor made otherwise.
 #[derive(Drop)]
 pub struct Envelope {
     pub(crate) seat: Seat<(), View>,

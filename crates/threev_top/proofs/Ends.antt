@@ -19,7 +19,7 @@ received : (P : List ℕ → Type 0) (bytes : List ℕ) (line : Option Line) (le
 received P bytes None left now h made is = absurd made
 received P bytes (Some line) left now h (text, by_line, same) is = (text, by_line, subst P (sym same) is)
 
--- what was made was written, or a front of it
+-- what was made was written, or a prefix of it
 pub written_ends : {S K : Type 0} {left : S → Option (List ℕ)} {read_faults : S → ℕ} {source source' : S}
     {got : K → Option (List ℕ)} {write_faults : K → ℕ} {out out' : K} {line : Option Line} {stop : Option Stop}
     {history made : List Entry} (bytes : List ℕ)
@@ -43,7 +43,7 @@ written_ends {S} {K} {left} {read_faults} {source} {source'} {got} {write_faults
       taken = taken;
     }
 
--- a call that stops with a refused script may as well have stopped for want of memory
+-- a call that stops with a refused script may as well have stopped for lack of memory
 memory_ends : {S K : Type 0} {left : S → Option (List ℕ)} {read_faults : S → ℕ} {source source' : S}
     {got : K → Option (List ℕ)} {write_faults : K → ℕ} {out out' : K} {line : Option Line} {history : List Entry}
     (f : ScriptFault)
@@ -61,7 +61,8 @@ memory_ends {S} {K} {left} {read_faults} {source} {source'} {got} {write_faults}
       taken = ends.taken;
     }
 
--- what is so of a stop is so of what is told of it, where it is so of want of memory in place of a refused script
+-- what is so of a stop is so of what is told of it, where it is so of running out of memory in place of a refused
+-- script
 of_told : (P : Stop → Type 0) (stop told : Stop) → MayTell stop told
     → ((f : ScriptFault) → P (stops.Script f) → P stops.NoMemory) → P stop → P told
 of_told P stops.NoMemory told is memory here = subst P (sym is) here
@@ -117,7 +118,7 @@ no_line_status {S} {K} {left} {read_faults} {source} {source'} {got} {write_faul
     (ends.front (ap (λ (s : Stop). Some s) at)))
     is
 
--- where no stop but want of memory has its cause, the status is 0 or 1
+-- where no stop but out of memory has its cause, the status is 0 or 1
 no_cause_by : (line : Option Line) (left now : Option (List ℕ)) (read_failed write_failed : Type 0) (stop : Stop) (n : ℕ)
     → HasCause line left now read_failed write_failed stop → n ≡ status_of (Some stop) → line ≢ None
     → (write_failed → ⊥)

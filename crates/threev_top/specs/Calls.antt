@@ -31,7 +31,7 @@ use Rattle.threev_top.specs.declared.texts.TheConstants.{HELP, VERSION}
 abbrev pub ReadsAll : Option (List ℕ) → Option (List ℕ) → List ℕ → Type 0
 ReadsAll left now bytes = Consumes left now bytes × IsAtEnd now
 
--- the report of a history, and its lines behind it where they are asked for
+-- the report of a history, and its lines after it where they are asked for
 abbrev pub report_with : Bool → ScriptData → List Entry → List ℕ
 report_with false s h = report_of s h
 report_with true s h = report_of s h ++ history_lines_of s h
@@ -61,7 +61,7 @@ IsTextBy (lines.Soak workers seed trees) left now history text =
 IsTextBy lines.Help left now history text = (history ≡ []) × (text ≡ HELP.now)
 IsTextBy lines.Version left now history text = (history ≡ []) × (text ≡ VERSION.now)
 
--- the words are a line, and its text has been received, as `receives` says of a text: whole, or a front of it
+-- the words are a line, and its text has been received, as `receives` says of a text: whole, or a prefix of it
 abbrev pub WroteBy : (List ℕ → Type 0) → Option Line → Option (List ℕ) → Option (List ℕ) → List Entry → Type 0
 WroteBy receives None left now history = ⊥
 WroteBy receives (Some line) left now history = (text : List ℕ) × IsTextBy line left now history text × receives text
@@ -76,8 +76,8 @@ abbrev pub Refuses : Option (List ℕ) → Option (List ℕ) → ScriptFault →
 Refuses left now f = ((bytes : List ℕ) × ReadsAll left now bytes × (read_of bytes ≡ Err f))
     ⊎ ((f ≡ fault 0 why.TooLong) × HasMoreThan MOST_BYTES left)
 
--- what must be so for a call to stop so: want of memory may always come; the words are no line; the script that the
--- line reads is refused, or its source failed; the output failed
+-- what must be so for a call to stop so: out of memory may always come; the words are no line; the script that the line
+-- reads is refused, or its source failed; the output failed
 abbrev pub HasCause : Option Line → Option (List ℕ) → Option (List ℕ) → Type 0 → Type 0 → Stop → Type 0
 HasCause line left now source_failed out_failed stops.NoMemory = ⊤
 HasCause line left now source_failed out_failed stops.Words = line ≡ None
@@ -92,7 +92,7 @@ pub record EndsAs {S K : Type 0} (left : S → Option (List ℕ)) (read_faults :
   -- without a stop the output has received the text of the line
   pub wrote : stop ≡ None
       → WroteBy (Appends (received out) (received out')) line (left source) (left source') history
-  -- where writing failed it has received a front of that text
+  -- where writing failed it has received a prefix of that text
   pub front : stop ≡ Some stops.Writing
       → WroteBy (AppendsFront (received out) (received out')) line (left source) (left source') history
   -- each stop has its cause
@@ -105,7 +105,7 @@ pub record EndsAs {S K : Type 0} (left : S → Option (List ℕ)) (read_faults :
   -- at most one byte more is taken than a script may have
   pub taken : HasTaken (MOST_BYTES + 1) (left source) (left source')
 
--- the line was written, or a front of it where a fault was counted
+-- the line was written, or a prefix of it where a fault was counted
 abbrev pub Tells : Option (List ℕ) → Option (List ℕ) → ℕ → ℕ → List ℕ → Type 0
 Tells written after before now line = Appends written after line ⊎ (AppendsFront written after line × Rose before now)
 

@@ -86,7 +86,7 @@ fn tell_line<E: Sink>(err: &mut E, line: &[u8])
     }
 }
 
-/// Tells `err` why the text was not written whole, and gives the reason that was told: want of memory where there is
+/// Tells `err` why the text was not written whole, and gives the reason that was told: out of memory where there is
 /// none for the line of a refused script.
 fn tell_stop<E: Sink>(alloc: Global, stop: Stop, err: &mut E) -> Stop
     ensures told { Tells (E.written err.old) (E.written err.new) (E.faults err.old) (E.faults err.new)
@@ -154,7 +154,7 @@ pub fn threev<R: Threads + Wait + Sync, S: Source, K: Sink, E: Sink, G: Gate + S
         × EndsAs S.left S.faults source.old source.new K.written K.faults out.old out.new
         (line_of (map string_bytes words.now)) stop result.history
         × TellsEnd E.written E.faults err.old err.new stop result.status }
-    // So words that are no line are refused, but for want of memory.
+    // So words that are no line are refused, unless memory runs out.
     ensures no_line { line_of (map string_bytes words.now) ≡ None → (result.status ≡ 1) ⊎ (result.status ≡ 2) }
     // And with words that are a line, no fault of the output, and, where the line reads a script, one that is accepted
     // and no fault of the source, the text is written, or memory was wanting.

@@ -66,7 +66,7 @@ impl Made {
     }
 }
 
-/// The report of a run, and the lines of its history behind it where they are asked for.
+/// The report of a run, and the lines of its history after it where they are asked for.
 fn report_with(
     alloc: Global,
     script: &Script,

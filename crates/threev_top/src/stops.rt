@@ -10,7 +10,7 @@ use tx_trees::Why;
 /// Why the text was not written whole.
 #[derive(Clone, Copy, Debug, PartialEq, Eq)]
 pub enum Stop {
-    /// Want of memory.
+    /// Out of memory.
     NoMemory,
     /// The words are not a command line.
     Words,

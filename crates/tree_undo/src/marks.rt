@@ -17,7 +17,7 @@ pub(crate) fn goes_at(goes: &[bool], k: usize) -> bool
     }
 }
 
-// Whether the subtransaction behind those of which this is known goes.
+// Whether the subtransaction after those of which this is known goes.
 fn goes_next(goes: &[bool], sub: &Sub, failed: SubNo) -> bool
     ensures { result ≡ goes_next failed.0 goes.now sub.now }
 {

@@ -90,7 +90,7 @@ fn push_inverses(
 
 /// What the subtransactions of an update tree become once one of them fails. Those that the failed one sent, and those
 /// that these sent, don't run; the failed one does nothing; each other one is undone by a child of the failed one, at
-/// the same node, which adds its amounts with the other sign. Only want of memory is an error.
+/// the same node, which adds its amounts with the other sign. Running out of memory is the only error.
 pub fn expand(alloc: Global, subs: &Subs, failed: SubNo) -> Result<Subs, NoMemory>
     requires few { length subs.now ≤ MOST_SUBS_OF_TREE }
     requires small { AllByRecursion (λ s. AllByRecursion (λ o. magnitude o.deed ≤ MOST_AMOUNT) s.ops) subs.now }

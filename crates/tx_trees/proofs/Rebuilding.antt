@@ -1,5 +1,5 @@
--- A valid script is built again from its own rows: each of its records meets no condition of refusal, since every limit that
--- holds of the whole script holds of what stands before the record.
+-- A valid script is built again from its own rows: each of its records meets no condition of refusal, since every limit
+-- that holds of the whole script holds of what is before the record.
 use Rattle.std.proofs.Common.{◌≡◌, ◌<◌, ◌≤◌, ◌+◌, ◌*◌, ℕ, Bool, true, false, List, [], ◌∷◌, ◌++◌, length, map, refl, sym, ap, ◌∙◌, subst, arith, length-append, append_assoc, cond, suc, zero}
 use Rattle.std.specs.Prelude.{◌==◌, ◌&&◌, not, IsTrue, Option, Some, None, Result, Ok, nat_eq, nat_le, nat_lt, position, slice_get, unsigned_abs}
 use Rattle.std.specs.List.{AllByRecursion, IsDistinct, list_any, position_or_len}
@@ -90,7 +90,7 @@ in_range f deed small e = within (magnitude deed) (most_amount f) (not (draws_ne
     within : (m most : ℕ) (b : Bool) → m ≤ most → (nat_le m MOST_AMOUNT && b) ≡ true → (nat_le m most && b) ≡ true
     within m most b small e = grind (arith, common_steps)
 
--- where the item of a name stands
+-- where the item of a name is
 position_found : {X : Type 0} (p : X → Bool) (xs ys : List X) (x : X) → list_any p xs ≡ false → p x ≡ true → position p (xs ++ x ∷ ys) ≡ Some (length xs)
 position_found p xs ys x absent found =
     let at : position_or_len p (xs ++ x ∷ ys) ≡ length xs = first xs absent in

@@ -62,7 +62,7 @@ number_far goes k (suc d) le =
     let same : k + suc d ≡ k + d + 1 = omega arith in
     rw same (omega (arith, number_far goes k d (omega arith), number_step goes (k + d) (get_or goes (k + d) false) (omega arith) refl))
 
--- one that stays has a smaller new number than one behind it
+-- one that stays has a smaller new number than one after it
 number_less : (goes : List Bool) (p k : ℕ) → p < k → k ≤ length goes → get_or goes p false ≡ false → new_number goes p < new_number goes k
 number_less goes p k lt le e =
     let far : (d : ℕ) → p + 1 + d ≡ k → new_number goes (p + 1) ≤ new_number goes k = λ d is. subst (λ (j : ℕ). new_number goes (p + 1) ≤ new_number goes j) is (number_far goes (p + 1) d (omega arith)) in
@@ -207,7 +207,7 @@ module _ (nodes : ℕ) (items : List ItemRow) (failed : ℕ) (final : List Bool)
       by true e rest lt = omega (arith, rest, number_same final k lt e)
       by false e rest lt = omega (arith, rest, number_more final k lt e)
 
-  -- what undoes one, behind the failed one
+  -- what undoes one, after the failed one
   inverse_valid : (j k : ℕ) (x : Sub) → new_number final failed < j → IsSub nodes items trees.Update k x → IsSub nodes items trees.Update j (inverse failed final x)
   inverse_valid j k x early h = record {
     root = λ none. absurd (omega arith);

@@ -1,5 +1,5 @@
-//! Scripts: the nodes, items, trees, rows and picks that a run is made of. A script is valid by its type. What it is made
-//! of stands in `script_parts`, and is passed on from there.
+//! Scripts: the nodes, items, trees, rows and picks that a run is made of. A script is valid by its type. What it is
+//! made of is in `script_parts`, and is passed on from there.
 #![tactic(auto)]
 
 mod name_index;

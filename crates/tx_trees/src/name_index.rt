@@ -47,7 +47,7 @@ impl NameIndex {
         self.names.contains(name)
     }
 
-    // Adds a name that isn't there. Want of memory leaves the names as they were.
+    // Adds a name that isn't there. Running out of memory leaves the names as they were.
     pub(crate) fn add(&mut self, name: Name) -> Result<(), NoMemory>
         requires { list_any (bytes_eq name) self.old ≡ false }
         ensures ok { OnOk result (self.new ≡ self.old ++ name ∷ []) }

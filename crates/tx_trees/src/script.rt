@@ -272,8 +272,8 @@ impl Script {
     }
 
     /// Adds an item, and gives its number. A refusal is `OutOfRange` (the node, or the initial value, by `may_start`),
-    /// `BadName`, `NameTaken` or `TooMany` (10,000 items), the first that holds; it, and want of memory, leave the
-    /// script as it was. After an item no tree is begun.
+    /// `BadName`, `NameTaken` or `TooMany` (10,000 items), the first that holds; it, and running out of memory, leave
+    /// the script as it was. After an item no tree is begun.
     pub fn add_item(&mut self, row: ItemRow) -> Result<ItemNo, Refusal>
         ensures step { Steps (adds_item self.old row) result self.old self.new }
         ensures number { IfOk result (λ n. n.0 ≡ length self.old.items) }
@@ -295,7 +295,7 @@ impl Script {
         Ok(number)
     }
 
-    // Puts an item, to which nothing is opposed, behind the others.
+    // Puts an item, to which nothing is opposed, after the others.
     fn put_item(&mut self, row: ItemRow) -> Result<(), NoMemory>
         requires { MayAddItem self.old row }
         ensures ok { OnOk result (self.new ≡ with_item self.old row) }
@@ -314,9 +314,9 @@ impl Script {
     }
 
     /// Begins a tree with its root alone, which the client sends next, and gives its number. A refusal is `OutOfRange`
-    /// (the node), `BadName`, `NameTaken` or `TooMany` (20,000 trees, 320,000 nodes times trees, 100,000 subtransactions,
-    /// 1,000 strict trees, or 1,000,000 strict trees times subtransactions of update trees), the first that holds; it,
-    /// and want of memory, leave the script as it was.
+    /// (the node), `BadName`, `NameTaken` or `TooMany` (20,000 trees, 320,000 nodes times trees, 100,000
+    /// subtransactions, 1,000 strict trees, or 1,000,000 strict trees times subtransactions of update trees), the first
+    /// that holds; it, and running out of memory, leave the script as it was.
     pub fn add_tree(&mut self, name: Name, kind: TreeKind, node: NodeNo) -> Result<TreeNo, Refusal>
         ensures step { Steps (adds_tree self.old name kind node) result self.old self.new }
         ensures number { IfOk result (λ n. n.0 ≡ length self.old.trees) }
@@ -350,7 +350,7 @@ impl Script {
             || are_many(strict, self.update_subs + one_update(kind))
     }
 
-    // Puts a tree with its root alone, to which nothing is opposed, behind the others.
+    // Puts a tree with its root alone, to which nothing is opposed, after the others.
     fn put_tree(&mut self, name: Name, kind: TreeKind, node: NodeNo) -> Result<(), NoMemory>
         requires { MayAddTree self.old name kind node }
         ensures ok { OnOk result (self.new ≡ with_tree self.old name kind node) }
@@ -372,7 +372,8 @@ impl Script {
 
     /// Adds a subtransaction to the tree that is begun, and gives its place there. A refusal is `OutOfRange` (the
     /// node), `NoTree`, `BadParent` or `TooMany` (64 of the tree, 100,000 of all, or 1,000,000 strict trees times
-    /// subtransactions of update trees), the first that holds; it, and want of memory, leave the script as it was.
+    /// subtransactions of update trees), the first that holds; it, and running out of memory, leave the script as it
+    /// was.
     pub fn add_sub(&mut self, parent: u32, node: NodeNo) -> Result<SubNo, Refusal>
         ensures step { Steps (adds_sub self.old parent node) result self.old self.new }
         ensures number { IfOk result (λ n. n.0 ≡ last_subs self.old.trees) }
@@ -407,7 +408,7 @@ impl Script {
             )
     }
 
-    // Puts a subtransaction, to which nothing is opposed, behind those of the last tree.
+    // Puts a subtransaction, to which nothing is opposed, after those of the last tree.
     fn put_sub(&mut self, parent: u32, node: NodeNo) -> Result<(), NoMemory>
         requires { MayAddSub self.old parent node }
         ensures ok { OnOk result (self.new ≡ with_sub self.old parent node) }
@@ -424,7 +425,7 @@ impl Script {
     /// Adds an operation to the last subtransaction of the tree that is begun. A refusal is `OutOfRange` (by
     /// `is_in_range`), `UnknownItem`, `NoTree`, `WrongNode`, `WrongKind`, `TooMany` (16 of the subtransaction, 200,000
     /// of all, 64 `put` on the item), `TooMuch`, or `ItemTwice` (a strict tree has an operation on the item already),
-    /// the first that holds; it, and want of memory, leave the script as it was.
+    /// the first that holds; it, and running out of memory, leave the script as it was.
     pub fn add_op(&mut self, item: &Name, deed: Deed) -> Result<(), Refusal>
         ensures { Steps (adds_op self.old item.now deed) result self.old self.new }
     {
@@ -494,7 +495,7 @@ impl Script {
         magnitude(deed) > self.form.most_amount() - self.totals[item]
     }
 
-    // Puts an operation, to which nothing is opposed, behind those of the last subtransaction.
+    // Puts an operation, to which nothing is opposed, after those of the last subtransaction.
     fn put_op(&mut self, item: usize, deed: Deed) -> Result<(), NoMemory>
         requires { MayAddOp self.old item deed }
         ensures ok { OnOk result (self.new ≡ with_op self.old item deed) }
@@ -576,8 +577,9 @@ impl Script {
 
     /// Makes the tree that is begun fail: its undone form takes the place of its subtransactions, which are kept as
     /// what it was written with. A refusal is `TooMany` (64 subtransactions of the tree, 100,000 of all, 200,000
-    /// operations, or 1,000,000 strict trees times subtransactions of update trees) or `TooMuch` (an item's magnitudes),
-    /// the first that holds; it leaves the script as it was. No memory is wanted. Afterwards no tree is begun.
+    /// operations, or 1,000,000 strict trees times subtransactions of update trees) or `TooMuch` (an item's
+    /// magnitudes), the first that holds; it leaves the script as it was. No memory is needed. Afterwards no tree is
+    /// begun.
     pub fn put_undone(&mut self, failed: SubNo, expanded: Subs) -> Result<(), Refusal>
         requires second { self.old.form ≡ Form.Two }
         requires begun { self.old.begun ≡ true }
@@ -615,8 +617,8 @@ impl Script {
         true
     }
 
-    /// Asks for one more advancement. The one refusal is `TooMany` (100 advancements); it, and want of memory, leave
-    /// the script as it was. Afterwards no tree is begun.
+    /// Asks for one more advancement. The one refusal is `TooMany` (100 advancements); it, and running out of memory,
+    /// leave the script as it was. Afterwards no tree is begun.
     pub fn add_advance(&mut self) -> Result<(), Refusal>
         ensures { Steps (adds_advance self.old) result self.old self.new }
     {
@@ -629,7 +631,7 @@ impl Script {
         Ok(())
     }
 
-    /// Waits until all before it has ended. There is no refusal but want of memory, which leaves the script as it was.
+    /// Waits until all before it has ended. There is no refusal but out of memory, which leaves the script as it was.
     /// Afterwards no tree is begun.
     pub fn add_settle(&mut self) -> Result<(), Refusal>
         ensures { Steps (adds_settle self.old) result self.old self.new }
@@ -639,8 +641,8 @@ impl Script {
         Ok(())
     }
 
-    /// Makes the coordinator forget what it knows, once more. The one refusal is `TooMany` (100 such rows); it, and want
-    /// of memory, leave the script as it was. Afterwards no tree is begun.
+    /// Makes the coordinator forget what it knows, once more. The one refusal is `TooMany` (100 such rows); it, and
+    /// running out of memory, leave the script as it was. Afterwards no tree is begun.
     pub fn add_lose(&mut self) -> Result<(), Refusal>
         requires { self.old.form ≡ Form.Two }
         ensures { Steps (adds_lose self.old) result self.old self.new }
@@ -654,8 +656,8 @@ impl Script {
         Ok(())
     }
 
-    /// Adds a number to the picks. There is no refusal but want of memory, which leaves the script as it was.
-    /// Afterwards no tree is begun.
+    /// Adds a number to the picks. There is no refusal but out of memory, which leaves the script as it was. Afterwards
+    /// no tree is begun.
     pub fn add_pick(&mut self, k: u32) -> Result<(), Refusal>
         ensures { Steps (adds_pick self.old k) result self.old self.new }
     {

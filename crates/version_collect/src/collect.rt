@@ -6,7 +6,7 @@ use item_versions::ItemTable;
 use tv_base::Version;
 
 /// Collects every item of the table to version `f`. Each has a version that is at most `f`. What is seen at `f`, and at
-/// every later version, stays. Wants no memory.
+/// every later version, stays. Needs no memory.
 pub fn collect_table(items: &mut ItemTable, f: Version)
     requires { IsTrue (may_collect_all f items.old) }
     ensures items { items.new ≡ collected_all f items.old }

@@ -12,7 +12,7 @@ use Rattle.tx_trees.specs.declared.parts.TreeKind.TheVariants.{Update, Read}
 use Rattle.board_model.specs.declared.standings.Standing.{Standing}
 use Rattle.report_text.specs.Report.{balance, get_text, read_line, update_line}
 
--- a value behind the name of its item, where both are there
+-- a value after the name of its item, where both are there
 abbrev pub found_text : Option ItemRow → Option Value → List ℕ
 found_text None w = []
 found_text (Some row) (Some w) = get_text row.name w

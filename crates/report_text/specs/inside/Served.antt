@@ -50,7 +50,7 @@ values_at s h (Some v) ks = gets_text s h v.0 ks
 abbrev pub values_of_tree : ScriptData → List Entry → ℕ → List ℕ
 values_of_tree s h t = values_at s h (version_of h t) (subs_at s t)
 
--- what the first n that were asked for show stands by tree number
+-- what the first n that were asked for show is listed by tree number
 abbrev pub AreTold : ScriptData → List Entry → List Member → ℕ → List (List ℕ) → Type 0
 AreTold s h asks n texts =
     (i : ℕ) (d : Member) → i < n
@@ -66,7 +66,7 @@ pub record IsServed (s : ScriptData) (h : List Entry) (serial asks : List Member
   pub count : length texts ≡ length s.trees
   pub told : AreTold s h asks r.place texts
 
--- what each read tree shows stands by tree number
+-- what each read tree shows is listed by tree number
 pub record AreRead (s : ScriptData) (h : List Entry) (texts : List (List ℕ)) : Type 0 where
   pub count : length texts ≡ length s.trees
   pub each : (t : ℕ) (v : Version) → reads s t ≡ true → version_of h t ≡ Some v

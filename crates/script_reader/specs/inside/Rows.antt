@@ -19,7 +19,7 @@ HasBegunWith begun (Ok s) = begun ≡ Ok s
 HasBegunWith begun (Err (refusals.Why w)) = begun ≡ Err w
 HasBegunWith begun (Err refusals.NoMemory) = ⊤
 
--- what a call made of a script that it was lent, or why it did not
+-- what a call made of a script that it borrowed, or why it did not
 abbrev pub Leaves : {T : Type 0} → Result ScriptData Why → Result T Refusal → ScriptData → Type 0
 Leaves made (Ok done) new = made ≡ Ok new
 Leaves made (Err (refusals.Why w)) new = made ≡ Err w

@@ -36,7 +36,7 @@ reading_stop ends.TooLong = stops.Script (fault 0 why.TooLong)
 reading_stop ends.Failed = stops.Reading
 reading_stop ends.NoMemory = stops.NoMemory
 
--- what is told of a stop: the stop, or want of memory where the line of a refused script finds none
+-- what is told of a stop: the stop, or out of memory where the line of a refused script finds none
 abbrev pub MayTell : Stop → Stop → Type 0
 MayTell (stops.Script f) told = (told ≡ stops.Script f) ⊎ (told ≡ stops.NoMemory)
 MayTell stop told = told ≡ stop
