@@ -45,9 +45,9 @@ drop_id id [] = []
 drop_id id (l ∷ ls) = if same_id id l.id then ls else l ∷ drop_id id ls
 
 -- the letters in flight after a past, which has the newest entry first: in order of id, from Go on
-abbrev pub waiting_after : ℕ → List Entry → List Letter
-waiting_after client [] = go client ∷ []
-waiting_after client (e ∷ past) = drop_id e.took.id (waiting_after client past) ++ letters_of e
+abbrev pub in_flight_after : ℕ → List Entry → List Letter
+in_flight_after client [] = go client ∷ []
+in_flight_after client (e ∷ past) = drop_id e.took.id (in_flight_after client past) ++ letters_of e
 
 -- the entries of one actor, in order
 abbrev pub own : ℕ → List Entry → List Entry

@@ -1,3 +1,5 @@
+pub mod Causes
+pub mod Kept
 pub mod Letters
 pub mod Postal
 pub mod Steps

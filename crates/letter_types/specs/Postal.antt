@@ -6,8 +6,8 @@ use Rattle.letter_types.specs.declared.entries.Posting.{Posting}
 use Rattle.letter_types.specs.Letters.{go, sealed, find_id}
 
 -- an entry without its acts
-abbrev pub posting_of : Entry → Posting
-posting_of e = record { stamp = e.stamp; actor = e.actor; took = e.took; sent = e.sent }
+abbrev pub delivery_of : Entry → Posting
+delivery_of e = record { stamp = e.stamp; actor = e.actor; took = e.took; sent = e.sent }
 
 -- the letters that a posting sent
 abbrev pub letters_sent : Posting → List Letter
@@ -15,7 +15,7 @@ letters_sent p = sealed p.stamp.0 p.actor.0 0 p.sent
 
 -- stamps count from 1; each letter that was taken is Go or was sent by an earlier posting under its id; none is taken
 -- twice; each is taken by its addressee, which is one of the actors up to the client
-pub record IsPostal (client : ℕ) (h : List Posting) : Type 0 where
+pub record IsMessageRun (client : ℕ) (h : List Posting) : Type 0 where
   pub stamps : (k : ℕ) (e : Posting) → slice_get h k ≡ Some e → e.stamp.0 ≡ k + 1
   pub sent : (k : ℕ) (e : Posting) → slice_get h k ≡ Some e
       → (e.took ≡ go client)

@@ -198,7 +198,7 @@ impl Notice {
         match self {
             Notice::Did(values) => Ok(Notice::Did(copy_values(alloc, values)?)),
             Notice::Yes(values) => Ok(Notice::Yes(copy_values(alloc, values)?)),
-            Notice::No(cause) => Ok(Notice::No(Boxed::new(alloc, *cause.get())?)),
+            Notice::No(cause) => Ok(Notice::No(cause.copy(alloc)?)),
         }
     }
 }
@@ -210,7 +210,7 @@ impl Answer {
     {
         match self {
             Answer::Whole(values) => Ok(Answer::Whole(copy_values(alloc, values)?)),
-            Answer::Aborted(cause) => Ok(Answer::Aborted(Boxed::new(alloc, *cause.get())?)),
+            Answer::Aborted(cause) => Ok(Answer::Aborted(cause.copy(alloc)?)),
         }
     }
 }

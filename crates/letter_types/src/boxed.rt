@@ -34,3 +34,13 @@ impl<T: Drop> Boxed<T> {
         &self.inner
     }
 }
+
+impl<T: Copy> Boxed<T> {
+    /// An equal value behind a pointer of its own.
+    pub fn copy(&self, alloc: Global) -> Result<Boxed<T>, NoMemory>
+        ensures { IfOk result (λ copy. copy ≡ self.now) }
+    {
+        let inner = Box::new(alloc, *self.inner)?;
+        Ok(Boxed { inner })
+    }
+}

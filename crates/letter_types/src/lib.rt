@@ -5,6 +5,7 @@ mod acts;
 mod bodies;
 mod boxed;
 mod entries;
+mod kept;
 mod votes;
 
 pub use acts::{Act, Acts, copy_acts};
@@ -14,4 +15,5 @@ pub use entries::{
     Entry, History, Letter, LetterId, Letters, Outgoing, Posting, Step, StepOut, copy_letters,
     one_letter,
 };
+pub use kept::{KeptLetter, Why};
 pub use votes::{Cause, Vote};

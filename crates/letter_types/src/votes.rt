@@ -33,7 +33,7 @@ impl Vote {
     {
         match self {
             Vote::Yes(values) => Ok(Vote::Yes(copy_values(alloc, values)?)),
-            Vote::No(cause) => Ok(Vote::No(Boxed::new(alloc, *cause.get())?)),
+            Vote::No(cause) => Ok(Vote::No(cause.copy(alloc)?)),
         }
     }
 }
