@@ -1,6 +1,7 @@
 -- How many things of each sort a script has.
-use Rattle.std.specs.Prelude.{ℕ, Bool, true, false, if◌then◌else◌, ◌+◌, ◌==◌, List, [], ◌∷◌, ◌++◌, length}
+use Rattle.std.specs.Prelude.{ℕ, Bool, true, false, not, if◌then◌else◌, ◌+◌, ◌==◌, List, [], ◌∷◌, ◌++◌, length}
 use Rattle.commute_ops.specs.declared.kinds.Op.TheVariants.{Put}
+use Rattle.script_parts.specs.ScriptData.{ScriptData}
 use Rattle.script_parts.specs.declared.parts.Tree.{Tree}
 use Rattle.script_parts.specs.declared.parts.Sub.{Sub}
 use Rattle.script_parts.specs.declared.parts.SubOp.{SubOp}
@@ -36,6 +37,10 @@ one_strict trees.Read = 0
 abbrev pub strict_trees : List Tree → ℕ
 strict_trees [] = 0
 strict_trees (t ∷ ts) = one_strict t.kind + strict_trees ts
+
+-- there is a strict tree
+abbrev pub has_strict : ScriptData → Bool
+has_strict s = not (strict_trees s.trees == 0)
 
 -- so many for an update tree
 abbrev pub if_update : TreeKind → ℕ → ℕ

@@ -2,6 +2,7 @@ pub mod Adding
 pub mod Amounts
 pub mod Built
 pub mod Counts
+pub mod Deeds
 pub mod Forms
 pub mod Loads
 pub mod Names

@@ -1,5 +1,5 @@
 -- What a script holds, and how its trees are looked up.
-use Rattle.std.specs.Prelude.{ℕ, ◌+◌, Bool, true, false, ◌==◌, List, [], Option, Some, None, slice_get}
+use Rattle.std.specs.Prelude.{if◌then◌else◌, ℕ, zero, suc, ◌+◌, Bool, true, false, ◌==◌, List, [], ◌∷◌, ◌++◌, Option, Some, None, slice_get}
 use Rattle.std.specs.List.{list_any}
 use Rattle.script_parts.specs.declared.parts.Form.{Form}
 use Rattle.script_parts.specs.declared.parts.ItemRow.{ItemRow}
@@ -73,3 +73,12 @@ is_child subs parent k = elim (slice_get subs k) [ Some sub ↦ sub.parent.0 == 
 -- one of the subtransactions is at the node
 abbrev pub visits : List Sub → ℕ → Bool
 visits subs node = list_any (λ sub. sub.node.0 == node) subs
+
+-- of nodes 0 to n - 1 those that the subtransactions visit
+abbrev pub visited : List Sub → ℕ → List ℕ
+visited subs zero = []
+visited subs (suc n) = visited subs n ++ (if visits subs n then n ∷ [] else [])
+
+-- the nodes that tree t visits
+abbrev pub visited_by : ScriptData → ℕ → List ℕ
+visited_by s t = visited (subs_at s t) s.nodes
