@@ -10,7 +10,7 @@ use Rattle.letter_types.specs.declared.acts.Act.TheVariants.{Born, Did, Turned, 
 use Rattle.letter_types.specs.declared.votes.Vote.TheVariants.{Yes, No}
 use Rattle.board_rules.specs.Histories.{applies, commits, does}
 use Rattle.board_rules.specs.Moves.{decides_as}
-use Rattle.board_rules.specs.Stands.{frees, lets_go, votes_yes}
+use Rattle.board_rules.specs.Stands.{frees, releases, votes_yes}
 
 -- the act applies tree t, which was decided so
 abbrev pub applies_as : ℕ → Bool → Act → Bool
@@ -172,7 +172,7 @@ as_commits t (Freed u) is = absurd (cc is)
 as_commits t (Applied u d) is = absurd (cc is)
 
 -- what lets go is a Freed or an Applied
-pub lets_go_by : (t : ℕ) (a : Act) → lets_go t a ≡ true → (frees t a ≡ true) ⊎ (applies t a ≡ true)
+pub lets_go_by : (t : ℕ) (a : Act) → releases t a ≡ true → (frees t a ≡ true) ⊎ (applies t a ≡ true)
 lets_go_by t (Freed u) is = inl is
 lets_go_by t (Applied u d) is = inr is
 lets_go_by t (Born u v) is = absurd (cc is)

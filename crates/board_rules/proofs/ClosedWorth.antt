@@ -11,7 +11,7 @@ use Rattle.script_parts.specs.ScriptData.{ScriptData, subs_at, updates}
 use Rattle.script_parts.specs.Valid.{IsValid}
 use Rattle.board_rules.specs.Histories.{Place, applies, commits, does, is_strict_tree, is_whole_in, version_in, was_applied, was_committed, was_done}
 use Rattle.board_rules.specs.Moves.{decides_as}
-use Rattle.board_rules.specs.Serial.{closings, is_in, is_settled_in, serial_in}
+use Rattle.board_rules.specs.Serial.{commit_order, is_in, is_settled_in, serial_in}
 use Rattle.board_rules.specs.Worth.{first_value, worth_in}
 use Rattle.board_rules.proofs.ActTests.{applies_as, applies_as_one, as_commits, commits_as, decides_as_is}
 use Rattle.board_rules.proofs.Closings.{is_in-closings}
@@ -174,7 +174,7 @@ trees_in_time s zs p x v q acts item closed is =
     let k = has_kept same_pair pairs_equal (touches s x) q (trees_in s (serial_in s zs v)) is in
     let t = trees_has s q (serial_in s zs v) k.0 in
     let all = sym (is_in-serial_in s zs v q.0) ∙ t.0 in
-    let first = left_true (is_up_to v (version_in q.0 zs) && is_settled_in s zs q.0) (is_in q.0 (closings s zs)) all in
+    let first = left_true (is_up_to v (version_in q.0 zs) && is_settled_in s zs q.0) (is_in q.0 (commit_order s zs)) all in
     kept_has same_pair pairs_equal (touches s x) q (effects_in s zs p v zs)
     (settled_effect s zs p x v q acts item closed k.1 t.1 (left_true (is_up_to v (version_in q.0 zs)) (is_settled_in s zs q.0) first)
     (or_cases (updates s q.0 && is_whole_in s zs q.0) (is_strict_tree s q.0 && was_committed q.0 zs)

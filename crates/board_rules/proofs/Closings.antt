@@ -5,7 +5,7 @@ use Rattle.std.specs.List.{list_any}
 use Rattle.std.proofs.lemmas.Bool.Decides.{nat_tests}
 use Rattle.script_parts.specs.ScriptData.{ScriptData}
 use Rattle.board_rules.specs.Histories.{Place}
-use Rattle.board_rules.specs.Serial.{closes, closings, is_in, with_closed}
+use Rattle.board_rules.specs.Serial.{commits_by, commit_order, is_in, with_closed}
 use Rattle.board_rules.proofs.Once.{AreOnce, has_append, has_filter, numbers_equal, same_number}
 
 passes_same : (p : ℕ → Bool) (t u : ℕ) → (u == t) ≡ true → p u ≡ p t
@@ -29,11 +29,11 @@ is_in-with_closed t (Some u) ts = in_choice t u ts (is_in u ts) refl
 
 -- a tree is there where an act closes it
 pub is_in-closings : (s : ScriptData) (t : ℕ) (xs : List Place)
-    → is_in t (closings s xs) ≡ list_any (λ (x : Place). is_tree t (closes s x.act)) xs
+    → is_in t (commit_order s xs) ≡ list_any (λ (x : Place). is_tree t (commits_by s x.act)) xs
 is_in-closings s t [] = refl
 is_in-closings s t (x ∷ xs) =
-    is_in-with_closed t (closes s x.act) (closings s xs)
-    ∙ ap (λ (b : Bool). is_tree t (closes s x.act) || b) (is_in-closings s t xs)
+    is_in-with_closed t (commits_by s x.act) (commit_order s xs)
+    ∙ ap (λ (b : Bool). is_tree t (commits_by s x.act) || b) (is_in-closings s t xs)
 
 -- not among these
 abbrev pub is_out : List ℕ → ℕ → Bool
@@ -65,11 +65,11 @@ closed_before (Some t) a b =
 
 -- what is closed later again comes after
 pub closings-append : (s : ScriptData) (a b : List Place)
-    → closings s (a ++ b) ≡ filter (is_out (closings s b)) (closings s a) ++ closings s b
+    → commit_order s (a ++ b) ≡ filter (is_out (commit_order s b)) (commit_order s a) ++ commit_order s b
 closings-append s [] b = refl
 closings-append s (x ∷ a) b =
-    ap (λ (ts : List ℕ). with_closed (closes s x.act) ts) (closings-append s a b)
-    ∙ closed_before (closes s x.act) (closings s a) (closings s b)
+    ap (λ (ts : List ℕ). with_closed (commits_by s x.act) ts) (closings-append s a b)
+    ∙ closed_before (commits_by s x.act) (commit_order s a) (commit_order s b)
 
 -- each number occurs once
 abbrev pub AreApart : List ℕ → Type 0
@@ -83,6 +83,6 @@ apart_closed : (o : Option ℕ) (ts : List ℕ) → AreApart ts → AreApart (wi
 apart_closed None ts h = h
 apart_closed (Some t) ts h = apart_choice t ts (is_in t ts) refl h
 
-pub closings_apart : (s : ScriptData) (xs : List Place) → AreApart (closings s xs)
+pub closings_apart : (s : ScriptData) (xs : List Place) → AreApart (commit_order s xs)
 closings_apart s [] = tt
-closings_apart s (x ∷ xs) = apart_closed (closes s x.act) (closings s xs) (closings_apart s xs)
+closings_apart s (x ∷ xs) = apart_closed (commits_by s x.act) (commit_order s xs) (closings_apart s xs)

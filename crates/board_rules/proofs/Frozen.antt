@@ -4,7 +4,8 @@ use Rattle.std.proofs.lemmas.Bool.{cases_lt, ne_eqb}
 use Rattle.tv_base.specs.declared.numbers.Version.{Version}
 use Rattle.script_parts.specs.ScriptData.{ScriptData, ops_of, subs_at}
 use Rattle.board_rules.specs.Histories.{Place, applies, is_strict_tree, version_in}
-use Rattle.board_rules.specs.Stands.{conflicts, lock_mode_of, votes_yes}
+use Rattle.nc_locks.specs.Modes.{modes_conflict}
+use Rattle.board_rules.specs.Stands.{lock_mode_of, votes_yes}
 use Rattle.board_rules.proofs.ActTests.{applies_as}
 use Rattle.board_rules.proofs.InOrder.{EffectAt, Held, any_applied, by_versions, did_before_vote, held, one_voter, version_known}
 use Rattle.board_rules.proofs.Positions.{ActAt, act_there}
@@ -25,12 +26,12 @@ effect_before_vote s zs p x a b i e n acts item ne (inr c) touch applied f lt =
           → (f.place < g.place) ⊎ (g.place ≤ f.place) → i < f.place
       by g one early (inl first) _ =
           let h = applied_between s zs p x a.0 a.1 b.0 b.1 g.place f.place acts (ne_eqb a.0 b.0 ne) g.at g.on f.at f.on
-          (ap (λ m. conflicts m (lock_mode_of g.on.op.deed)) (held_by f.on.op.deed f.over) ∙ hold_left (lock_mode_of g.on.op.deed)) first in
+          (ap (λ m. modes_conflict m (lock_mode_of g.on.op.deed)) (held_by f.on.op.deed f.over) ∙ hold_left (lock_mode_of g.on.op.deed)) first in
           let same = applied_once s zs h.place i p a.0 acts h.at one in
           omega (arith, same, h.before)
       by g one early (inr ge) (inl later) =
           let h = applied_between s zs p x b.0 b.1 a.0 a.1 f.place g.place acts (ne_eqb b.0 a.0 (λ is. ne (sym is))) f.at f.on g.at g.on
-          (ap (λ m. conflicts m (lock_mode_of f.on.op.deed)) (held_by g.on.op.deed g.over) ∙ hold_left (lock_mode_of f.on.op.deed)) later in
+          (ap (λ m. modes_conflict m (lock_mode_of f.on.op.deed)) (held_by g.on.op.deed g.over) ∙ hold_left (lock_mode_of f.on.op.deed)) later in
           let same = applied_once s zs h.place e p b.0 acts h.at applied in
           absurd (omega (arith, same, h.before, early, lt))
       by g one early (inr ge) (inr le) =

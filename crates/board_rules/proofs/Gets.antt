@@ -9,8 +9,9 @@ use Rattle.script_parts.specs.ScriptData.{ScriptData, ops_of, subs_at, updates}
 use Rattle.script_parts.specs.Valid.{IsValid}
 use Rattle.board_rules.specs.Histories.{Place, applies, commits, does, is_strict_tree, is_whole_in, version_in, was_committed}
 use Rattle.board_rules.specs.Moves.{decides_as}
-use Rattle.board_rules.specs.Serial.{closings, is_in, is_settled_in, serial_in}
-use Rattle.board_rules.specs.Stands.{conflicts, lock_mode_of, votes, votes_yes}
+use Rattle.board_rules.specs.Serial.{commit_order, is_in, is_settled_in, serial_in}
+use Rattle.nc_locks.specs.Modes.{modes_conflict}
+use Rattle.board_rules.specs.Stands.{lock_mode_of, votes, votes_yes}
 use Rattle.board_rules.specs.Worth.{first_value, worth_after, worth_in}
 use Rattle.board_rules.proofs.ActTests.{applies_as, applies_as_one, commits_as, votes_yes_is}
 use Rattle.board_rules.proofs.AtEntry.{vote_sees_worth_before}
@@ -86,7 +87,7 @@ module _ (s : ScriptData) (zs : List Place) (p x k n : ℕ) (v : Version) (a e :
     stands : HasPlace s zs v.0 q
     first : ahead same_number q.0 k (serial_in s zs v.0) ≡ true
 
-  early_by : (q : ℕ × ℕ) (c : HasPlace s zs v.0 q) → (c.version.0 ≡ v.0 → ahead same_number q.0 k (closings s zs) ≡ true) → Early q
+  early_by : (q : ℕ × ℕ) (c : HasPlace s zs v.0 q) → (c.version.0 ≡ v.0 → ahead same_number q.0 k (commit_order s zs) ≡ true) → Early q
   early_by q c same = record {
     stands = c;
     first = serial_ahead s zs v.0 q.0 k c.version v c.placed k_placed c.most (omega arith) before;
@@ -154,11 +155,11 @@ module _ (s : ScriptData) (zs : List Place) (p x k n : ℕ) (v : Version) (a e :
         by : w.0 ≡ v.0 → (h.place < a) ⊎ (a ≤ h.place) → (a < h.place) ⊎ (h.place ≤ a) → ActBelow (applies q.0) zs p a
         by same (inl lt) d =
             let f = applied_between s zs p x q.0 q.1 k n h.place a g.rules.acts (ne_eqb q.0 k (not_itself q.0 first)) h.at h.on g.voted g.on
-            (ap (conflicts (lock_mode_of g.on.op.deed)) (held_by h.on.op.deed h.over) ∙ hold_right (lock_mode_of g.on.op.deed)) lt in
+            (ap (modes_conflict (lock_mode_of g.on.op.deed)) (held_by h.on.op.deed h.over) ∙ hold_right (lock_mode_of g.on.op.deed)) lt in
             record { place = f.place; below = f.before; at = f.at }
         by same (inr ge) (inl gt) =
             let f = applied_between s zs p x k n q.0 q.1 a h.place g.rules.acts (ne_eqb k q.0 (λ is. not_itself q.0 first (sym is))) g.voted g.on h.at h.on
-            (ap (λ m. conflicts m (lock_mode_of g.on.op.deed)) (held_by h.on.op.deed h.over) ∙ hold_left (lock_mode_of g.on.op.deed)) gt in
+            (ap (λ m. modes_conflict m (lock_mode_of g.on.op.deed)) (held_by h.on.op.deed h.over) ∙ hold_left (lock_mode_of g.on.op.deed)) gt in
             let after = applied_after f.place f.at in
             absurd (not_after q.0 w c same first
             (there_from (closes_tree s q.0) zs i (e + 1) (record { node = home; act = decided.act }) decided.is
@@ -225,14 +226,14 @@ module _ (s : ScriptData) (zs : List Place) (p x k n : ℕ) (v : Version) (a e :
       let t = trees_has s q (before_tree k (serial_in s zs v.0)) m.0 in
       let first = before_ahead q.0 k (serial_in s zs v.0) k_stands t.0 in
       let all = sym (is_in-serial_in s zs v.0 q.0) ∙ before_in q.0 k (serial_in s zs v.0) t.0 in
-      let parts = left_true (is_up_to v.0 (version_in q.0 zs) && is_settled_in s zs q.0) (is_in q.0 (closings s zs)) all in
+      let parts = left_true (is_up_to v.0 (version_in q.0 zs) && is_settled_in s zs q.0) (is_in q.0 (commit_order s zs)) all in
       let to = left_true (is_up_to v.0 (version_in q.0 zs)) (is_settled_in s zs q.0) parts in
       let settled = right_true (is_up_to v.0 (version_in q.0 zs)) (is_settled_in s zs q.0) parts in
       let o = up_to v.0 (version_in q.0 zs) to in
       let c : IsPlaced s zs q.0 o.version = record {
         version = o.is;
         settled = settled;
-        closed = right_true (is_up_to v.0 (version_in q.0 zs) && is_settled_in s zs q.0) (is_in q.0 (closings s zs)) all;
+        closed = right_true (is_up_to v.0 (version_in q.0 zs) && is_settled_in s zs q.0) (is_in q.0 (commit_order s zs)) all;
       } in
       kept_has same_pair pairs_equal (touches s x) q (effects_in s (take a zs) p v.0 (take a zs))
       (late_settled q o.version m.1 t.1 to c o.most first

@@ -10,8 +10,9 @@ use Rattle.letter_types.specs.declared.acts.Act.TheVariants.{Born, Did, Turned, 
 use Rattle.script_parts.specs.ScriptData.{ScriptData, ops_of, subs_at, updates}
 use Rattle.board_rules.specs.Histories.{Place, applies, does, is_strict_tree, version_in}
 use Rattle.board_rules.specs.Moves.{decides_as}
-use Rattle.board_rules.specs.Serial.{closes, closings, is_in}
-use Rattle.board_rules.specs.Stands.{conflicts, frees, lock_mode_of, overwrites, votes_yes}
+use Rattle.board_rules.specs.Serial.{commits_by, commit_order, is_in}
+use Rattle.nc_locks.specs.Modes.{modes_conflict}
+use Rattle.board_rules.specs.Stands.{frees, lock_mode_of, overwrites, votes_yes}
 use Rattle.board_rules.proofs.ActTests.{applied_any, applies_as, decides_as_is, does_is, votes_yes_is}
 use Rattle.board_rules.proofs.Closings.{is_tree}
 use Rattle.board_rules.proofs.InSerial.{IsBefore, closed_ahead, closes_tree}
@@ -57,7 +58,7 @@ decided_closing s t u c true e is = (
 )
 decided_closing s t u c false e is = absurd (cc is)
 
-pub closing_is : (s : ScriptData) (t : ℕ) (a : Act) → is_tree t (closes s a) ≡ true → Closing s t a
+pub closing_is : (s : ScriptData) (t : ℕ) (a : Act) → is_tree t (commits_by s a) ≡ true → Closing s t a
 closing_is s t (Did u k values) is = let c = did_closing s t u.0 k.0 (updates s u.0) refl is in by_did k.0 c.0 c.1
 closing_is s t (Decided u c) is =
     let d = decided_closing s t u.0 c (is_strict_tree s u.0 && c) refl is in by_decision d.0 d.1
@@ -72,9 +73,9 @@ closing_is s t (Voted u j vote) is = absurd (cc is)
 closing_is s t (Freed u) is = absurd (cc is)
 closing_is s t (Applied u d) is = absurd (cc is)
 
-pub decided_closes : (s : ScriptData) (t : ℕ) (a : Act) → is_strict_tree s t ≡ true → decides_as t true a ≡ true → is_tree t (closes s a) ≡ true
+pub decided_closes : (s : ScriptData) (t : ℕ) (a : Act) → is_strict_tree s t ≡ true → decides_as t true a ≡ true → is_tree t (commits_by s a) ≡ true
 decided_closes s t a strict is =
-    ap (λ (z : Act). is_tree t (closes s z)) (decides_as_is t true a is)
+    ap (λ (z : Act). is_tree t (commits_by s z)) (decides_as_is t true a is)
     ∙ choose (is_strict_tree s t && true) (and_from (is_strict_tree s t) true strict refl) where
       choose : (b : Bool) → b ≡ true → is_tree t (if b then Some t else None) ≡ true
       choose true e = same_test t
@@ -175,7 +176,7 @@ did_before_vote s zs p x a b i e place acts item up did u voted o applied le = b
 did_applied : (s : ScriptData) (zs : List Place) (p x : ℕ) (a b : ℕ × ℕ) (i e : ℕ) (w u : Version) → AreByRule s zs → IsItemAt s p x
     → updates s a.0 ≡ true → ActAt (does a.0 a.1) zs i p → touches s x a ≡ true
     → is_strict_tree s b.0 ≡ true → ActAt (applies b.0) zs e p → (d : Decision zs b.0 true e) → Held s zs p x b d.place
-    → version_in a.0 zs ≡ Some w → version_in b.0 zs ≡ Some u → i ≤ e → is_in a.0 (closings s zs) ≡ true
+    → version_in a.0 zs ≡ Some w → version_in b.0 zs ≡ Some u → i ≤ e → is_in a.0 (commit_order s zs) ≡ true
     → IsBefore s zs a.0 b.0 w u
 did_applied s zs p x a b i e w u acts item up did touch strict applied d h va vb le closed =
     let o = (change x (ops_of s a.0 a.1) touch).on in
@@ -198,7 +199,7 @@ did_applied s zs p x a b i e w u acts item up did touch strict applied d h va vb
 applied_did : (s : ScriptData) (zs : List Place) (p x : ℕ) (a b : ℕ × ℕ) (e j : ℕ) (w u : Version) → FollowsRules s zs
     → is_strict_tree s a.0 ≡ true → (d : Decision zs a.0 true e) → Held s zs p x a d.place
     → updates s b.0 ≡ true → ActAt (does b.0 b.1) zs j p
-    → version_in a.0 zs ≡ Some w → version_in b.0 zs ≡ Some u → e ≤ j → is_in a.0 (closings s zs) ≡ true
+    → version_in a.0 zs ≡ Some w → version_in b.0 zs ≡ Some u → e ≤ j → is_in a.0 (commit_order s zs) ≡ true
     → IsBefore s zs a.0 b.0 w u
 applied_did s zs p x a b e j w u rules strict d h up did va vb le closed =
     by_versions w.0 u.0 (λ less. inl less)
@@ -220,7 +221,7 @@ applied_applied : (s : ScriptData) (zs : List Place) (p x : ℕ) (a b : ℕ × �
     → is_strict_tree s a.0 ≡ true → ActAt (applies a.0) zs i p → (d : Decision zs a.0 true i) → (g : Held s zs p x a d.place)
     → is_strict_tree s b.0 ≡ true → ActAt (applies b.0) zs e p → (f : Decision zs b.0 true e) → (h : Held s zs p x b f.place)
     → b.1 < length (subs_at s b.0) → touches s x b ≡ true
-    → version_in a.0 zs ≡ Some w → version_in b.0 zs ≡ Some u → i ≤ e → is_in a.0 (closings s zs) ≡ true
+    → version_in a.0 zs ≡ Some w → version_in b.0 zs ≡ Some u → i ≤ e → is_in a.0 (commit_order s zs) ≡ true
     → IsBefore s zs a.0 b.0 w u
 applied_applied s zs p x a b i e w u rules item ne one at_i d g two at_e f h there touch va vb le closed =
     by_versions w.0 u.0 (λ less. inl less)
@@ -239,12 +240,12 @@ applied_applied s zs p x a b i e w u rules item ne one at_i d g two at_e f h the
       order : (g.place < h.place) ⊎ (h.place ≤ g.place) → (h.place < g.place) ⊎ (g.place ≤ h.place) → d.place + 1 ≤ f.place
       order (inl lt) _ =
           let c = applied_between s zs p x a.0 a.1 b.0 b.1 g.place h.place rules.acts (ne_eqb a.0 b.0 ne) g.at g.on h.at h.on
-          (ap (λ m. conflicts m (lock_mode_of g.on.op.deed)) (held_by h.on.op.deed h.over) ∙ hold_left (lock_mode_of g.on.op.deed)) lt in
+          (ap (λ m. modes_conflict m (lock_mode_of g.on.op.deed)) (held_by h.on.op.deed h.over) ∙ hold_left (lock_mode_of g.on.op.deed)) lt in
           let same = applied_once s zs c.place i p a.0 rules.acts c.at at_i in
           omega (arith, same, c.before, h.below, d.below)
       order (inr ge) (inl gt) =
           let c = applied_between s zs p x b.0 b.1 a.0 a.1 h.place g.place rules.acts (ne_eqb b.0 a.0 (λ is. ne (sym is))) h.at h.on g.at g.on
-          (ap (λ m. conflicts m (lock_mode_of h.on.op.deed)) (held_by g.on.op.deed g.over) ∙ hold_left (lock_mode_of h.on.op.deed)) gt in
+          (ap (λ m. modes_conflict m (lock_mode_of h.on.op.deed)) (held_by g.on.op.deed g.over) ∙ hold_left (lock_mode_of h.on.op.deed)) gt in
           let same = applied_once s zs c.place e p b.0 rules.acts c.at at_e in
           absurd (omega (arith, same, c.before, g.below, d.below, le))
       order (inr ge) (inr le2) =
@@ -256,7 +257,7 @@ applied_applied s zs p x a b i e w u rules item ne one at_i d g two at_e f h the
 pub in_order : (s : ScriptData) (zs : List Place) (p x : ℕ) (a b : ℕ × ℕ) (i j : ℕ) (w u : Version) → FollowsRules s zs → IsItemAt s p x
     → EffectAt s zs p a i → EffectAt s zs p b j → i ≤ j → a.0 ≢ b.0 → tied s a b ≡ true
     → touches s x a ≡ true → touches s x b ≡ true
-    → version_in a.0 zs ≡ Some w → version_in b.0 zs ≡ Some u → is_in a.0 (closings s zs) ≡ true
+    → version_in a.0 zs ≡ Some w → version_in b.0 zs ≡ Some u → is_in a.0 (commit_order s zs) ≡ true
     → IsBefore s zs a.0 b.0 w u
 in_order s zs p x a b i j w u rules item (inl c) (inl d) le ne tie ta tb va vb closed =
     absurd (none (or_cases (is_strict_tree s a.0) (is_strict_tree s b.0) tie)) where

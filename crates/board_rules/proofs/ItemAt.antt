@@ -7,6 +7,7 @@ use Rattle.std.proofs.lemmas.List.{map-append}
 use Rattle.tv_base.proofs.Truths.{left_true, same_test}
 use Rattle.script_parts.proofs.SubsOf.{all_at, found_subs}
 use Rattle.script_parts.specs.Counts.{ops_in}
+use Rattle.script_parts.proofs.StrictKind.{strict_kind}
 use Rattle.script_parts.specs.ScriptData.{ScriptData, is_strict, is_update, node_of, ops_of, sub_at, subs_at, updates}
 use Rattle.script_parts.specs.Valid.{AreSubs, IsOp, IsTree, IsValid, OpAt, deed_fits, touched_items}
 use Rattle.script_parts.specs.declared.parts.Deed.{Deed}
@@ -20,7 +21,9 @@ use Rattle.script_parts.specs.declared.parts.TreeKind.TheVariants.{Update, Read,
 use Rattle.commute_ops.specs.declared.kinds.Kind.{Kind}
 use Rattle.commute_ops.specs.declared.kinds.Kind.TheVariants.{Sum as SumKind, Top as TopKind, Bag as BagKind}
 use Rattle.board_rules.specs.Histories.{is_strict_tree}
-use Rattle.board_rules.specs.Stands.{Mark, conflicts, lock_mode_of}
+use Rattle.nc_locks.specs.Modes.{modes_conflict}
+use Rattle.nc_locks.specs.declared.modes.Mode.TheVariants.{Mark}
+use Rattle.board_rules.specs.Stands.{lock_mode_of}
 use Rattle.board_rules.specs.Worth.{changes, ops_change}
 use Rattle.board_rules.proofs.Once.{AreOnce, clash, has, has_append, numbers_equal, same_number}
 use Rattle.board_rules.proofs.Precedence.{change}
@@ -79,7 +82,7 @@ fits_update Update TopKind (Draw n) up fits = absurd (cc fits)
 fits_update Update BagKind (Draw n) up fits = absurd (cc fits)
 
 fits_strict : (kind : TreeKind) (item : Kind) (d : Deed) → is_strict kind ≡ true → deed_fits kind item d ≡ true
-    → conflicts Mark (lock_mode_of d) ≡ true
+    → modes_conflict Mark (lock_mode_of d) ≡ true
 fits_strict Read item d strict fits = absurd (cc strict)
 fits_strict Update item d strict fits = absurd (cc strict)
 fits_strict Strict item Get strict fits = refl
@@ -106,7 +109,7 @@ marks_it s t k i o valid up is =
     fits_update h.tree.kind f.0 o.deed (kind_of is_update s t h.tree h.at up) f.1
 
 holds_it : (s : ScriptData) (t k i : ℕ) (o : SubOp) → IsValid s → is_strict_tree s t ≡ true → slice_get (ops_of s t k) i ≡ Some o
-    → conflicts Mark (lock_mode_of o.deed) ≡ true
+    → modes_conflict Mark (lock_mode_of o.deed) ≡ true
 holds_it s t k i o valid strict is =
     let h = op_here s t k i o valid is in
     let f = op_fits_kind h.tree.kind h.sub.node.0 o (slice_get s.items o.item.0) h.fits in
@@ -195,11 +198,6 @@ one_sub x (suc j) zero (y ∷ ks) a b once one two on_a on_b =
 one_sub x (suc j) (suc k) (y ∷ ks) a b once one two on_a on_b =
     let parts = subst (AreOnce same_number) (map-append (λ (o : SubOp). o.item.0) y.ops (ops_in ks)) once in
     ap suc (one_sub x j k ks a b (rest_once (map (λ (o : SubOp). o.item.0) y.ops) (touched_items ks) parts) one two on_a on_b)
-
-strict_kind : (kind : TreeKind) → is_strict kind ≡ true → kind ≡ Strict
-strict_kind Strict is = refl
-strict_kind Update is = absurd (cc is)
-strict_kind Read is = absurd (cc is)
 
 once_changed : (s : ScriptData) (x t j k : ℕ) → IsValid s → is_strict_tree s t ≡ true → ops_change x (ops_of s t j) ≡ true
     → ops_change x (ops_of s t k) ≡ true → j ≡ k

@@ -11,6 +11,8 @@ pub mod ActTests
 pub mod Wholes
 pub mod Rules
 pub mod Standing
+pub mod LocksStand
+pub mod Holders
 pub mod Precedence
 pub mod InSerial
 pub mod TreeSubs

@@ -13,7 +13,10 @@ use Rattle.script_parts.specs.declared.parts.Deed.TheVariants.{Apply, Get, Set, 
 use Rattle.script_parts.specs.declared.parts.SubOp.{SubOp}
 use Rattle.board_rules.specs.Histories.{Place, applies, does, is_strict_tree, is_whole_in, version_in, was_applied}
 use Rattle.board_rules.specs.Moves.{decides_as}
-use Rattle.board_rules.specs.Stands.{LockMode, Mark, Look, Hold, conflict_of, conflicts, frees, lets_go, lock_mode_of, locked_by, newer_of, newest_of, overwrites, version_or_zero, votes_yes, written_by, written_in}
+use Rattle.nc_locks.specs.Modes.{modes_conflict}
+use Rattle.nc_locks.specs.declared.modes.Mode.{Mode}
+use Rattle.nc_locks.specs.declared.modes.Mode.TheVariants.{Mark, Look, Hold}
+use Rattle.board_rules.specs.Stands.{conflict_of, frees, releases, lock_mode_of, locked_by, newer_of, newest_of, overwrites, version_or_zero, votes_yes, written_by, written_in}
 use Rattle.board_rules.specs.Worth.{changes, ops_change}
 use Rattle.board_rules.proofs.ActTests.{applies_as, applies_as_one, does_is, lets_go_by, votes_yes_is}
 use Rattle.board_rules.proofs.Once.{clash}
@@ -101,12 +104,12 @@ pub change : (x : ℕ) (os : List SubOp) → ops_change x os ≡ true → Change
 change x [] is = absurd (cc is)
 change x (o ∷ os) is = change_by x o os (o.item.0 == x) (changes o.deed) refl refl is (change x os)
 
-turned : (m : LockMode) → conflicts Mark m ≡ true → conflicts m Mark ≡ true
+turned : (m : Mode) → modes_conflict Mark m ≡ true → modes_conflict m Mark ≡ true
 turned Mark is = is
 turned Look is = refl
 turned Hold is = refl
 
-pub overwritten : (d : Deed) → changes d ≡ true → conflicts Mark (lock_mode_of d) ≡ true → overwrites d ≡ true
+pub overwritten : (d : Deed) → changes d ≡ true → modes_conflict Mark (lock_mode_of d) ≡ true → overwrites d ≡ true
 overwritten (Apply op) c m = absurd (cc m)
 overwritten Get c m = absurd (cc c)
 overwritten (Set n) c m = refl
@@ -118,12 +121,12 @@ held_by Get is = absurd (cc is)
 held_by (Set n) is = refl
 held_by (Draw n) is = refl
 
-pub hold_left : (m : LockMode) → conflicts Hold m ≡ true
+pub hold_left : (m : Mode) → modes_conflict Hold m ≡ true
 hold_left Mark = refl
 hold_left Look = refl
 hold_left Hold = refl
 
-pub hold_right : (m : LockMode) → conflicts m Hold ≡ true
+pub hold_right : (m : Mode) → modes_conflict m Hold ≡ true
 hold_right Mark = refl
 hold_right Look = refl
 hold_right Hold = refl
@@ -142,11 +145,11 @@ did_locks s t k a up is =
 vote_locks : (s : ScriptData) (t k : ℕ) (a : Act) → votes_yes t k a ≡ true → locked_by s t a ≡ ops_of s t k
 vote_locks s t k a is = ap (locked_by s t) (votes_yes_is t k a is).1 ∙ choose (t == t) (ops_of s t k) [] (same_test t)
 
-did_stays : (p u t k : ℕ) (a : Act) → does t k a ≡ true → ((p == p) && lets_go u a) ≡ false
-did_stays p u t k a is = and_right (p == p) (lets_go u a) (ap (lets_go u) (does_is t k a is).1)
+did_stays : (p u t k : ℕ) (a : Act) → does t k a ≡ true → ((p == p) && releases u a) ≡ false
+did_stays p u t k a is = and_right (p == p) (releases u a) (ap (releases u) (does_is t k a is).1)
 
-vote_stays : (p u t k : ℕ) (a : Act) → votes_yes t k a ≡ true → ((p == p) && lets_go u a) ≡ false
-vote_stays p u t k a is = and_right (p == p) (lets_go u a) (ap (lets_go u) (votes_yes_is t k a is).1)
+vote_stays : (p u t k : ℕ) (a : Act) → votes_yes t k a ≡ true → ((p == p) && releases u a) ≡ false
+vote_stays p u t k a is = and_right (p == p) (releases u a) (ap (releases u) (votes_yes_is t k a is).1)
 
 apart : (test : ℕ → Bool) (t k : ℕ) → test t ≡ true → test k ≡ false → (b : Bool) → (t == k) ≡ b → b ≡ false
 apart test t k one two false is = refl
@@ -168,19 +171,19 @@ pub record ActBetween (test : Act → Bool) (zs : List Place) (p a b : ℕ) : Ty
   pub before : place < b
   pub at : ActAt test zs place p
 
-gone_between : (zs : List Place) (p t a b : ℕ) → Between (gone p t) zs a b → ActBetween (lets_go t) zs p a b
+gone_between : (zs : List Place) (p t a b : ℕ) → Between (gone p t) zs a b → ActBetween (releases t) zs p a b
 gone_between zs p t a b f =
-    let node : f.item.node ≡ p = eqb-true f.item.node p (left_true (f.item.node == p) (lets_go t f.item.act) f.passes) in
+    let node : f.item.node ≡ p = eqb-true f.item.node p (left_true (f.item.node == p) (releases t f.item.act) f.passes) in
     record {
       place = f.place;
       after = f.after;
       before = f.before;
-      at = act_node (lets_go t) zs f.place f.item.node p
-          (record { act = f.item.act; is = f.is; passes = right_true (f.item.node == p) (lets_go t f.item.act) f.passes }) node;
+      at = act_node (releases t) zs f.place f.item.node p
+          (record { act = f.item.act; is = f.is; passes = right_true (f.item.node == p) (releases t f.item.act) f.passes }) node;
     }
 
 strict_gone : (s : ScriptData) (zs : List Place) (p t a b : ℕ) → AreByRule s zs → is_strict_tree s t ≡ true
-    → (g : ActBetween (lets_go t) zs p a b) → (frees t g.at.act ≡ true) ⊎ (applies t g.at.act ≡ true) → ActBetween (applies t) zs p a b
+    → (g : ActBetween (releases t) zs p a b) → (frees t g.at.act ≡ true) ⊎ (applies t g.at.act ≡ true) → ActBetween (applies t) zs p a b
 strict_gone s zs p t a b acts strict g (inl freed) =
     let m = freeing s zs g.place p t acts (record { act = g.at.act; is = g.at.is; passes = freed }) in
     clash (is_strict_tree s t) strict (update_not_strict s t m.update)
@@ -188,7 +191,7 @@ strict_gone s zs p t a b acts strict g (inr applied) =
     record { place = g.place; after = g.after; before = g.before; at = record { act = g.at.act; is = g.at.is; passes = applied } }
 
 update_gone : (s : ScriptData) (zs : List Place) (p t a b : ℕ) → AreByRule s zs → updates s t ≡ true
-    → (g : ActBetween (lets_go t) zs p a b) → (frees t g.at.act ≡ true) ⊎ (applies t g.at.act ≡ true) → ActBetween (frees t) zs p a b
+    → (g : ActBetween (releases t) zs p a b) → (frees t g.at.act ≡ true) ⊎ (applies t g.at.act ≡ true) → ActBetween (frees t) zs p a b
 update_gone s zs p t a b acts up g (inl freed) =
     record { place = g.place; after = g.after; before = g.before; at = record { act = g.at.act; is = g.at.is; passes = freed } }
 update_gone s zs p t a b acts up g (inr applied) =
@@ -204,8 +207,8 @@ pub freed_where_free : (s : ScriptData) (zs : List Place) (p x t j k n i a : ℕ
     → ActBetween (frees t) zs p i a
 freed_where_free s zs p x t j k n i a acts item up did u strict free o lt =
     let mark : lock_mode_of u.op.deed ≡ Mark = item.marks t j u.index u.op up u.is in
-    let against : conflicts (lock_mode_of o.op.deed) (lock_mode_of u.op.deed) ≡ true =
-    ap (conflicts (lock_mode_of o.op.deed)) mark ∙ turned (lock_mode_of o.op.deed) (item.strict k n o.index o.op strict o.is) in
+    let against : modes_conflict (lock_mode_of o.op.deed) (lock_mode_of u.op.deed) ≡ true =
+    ap (modes_conflict (lock_mode_of o.op.deed)) mark ∙ turned (lock_mode_of o.op.deed) (item.strict k n o.index o.op strict o.is) in
     let g = gone_between zs p t i a (let_go_between s zs p x t k i a (record { node = p; act = did.act }) (ops_of s t j) (ops_of s k n) u o
     did.is (did_locks s t j did.act up did.passes) (did_stays p t t j did.act did.passes) lt free against
     (update_apart s t k up strict) (updates_there s t up)) in
@@ -238,8 +241,8 @@ applied_before s zs p x t j k n i a acts item up did u voted o lt =
     let y = yes_vote s zs a p k n acts voted in
     let d = deed s zs i p t j acts did in
     let mark : lock_mode_of u.op.deed ≡ Mark = item.marks t j u.index u.op up u.is in
-    let against : conflicts (lock_mode_of u.op.deed) (lock_mode_of o.op.deed) ≡ true =
-    ap (λ m. conflicts m (lock_mode_of o.op.deed)) mark ∙ item.strict k n o.index o.op y.strict o.is in
+    let against : modes_conflict (lock_mode_of u.op.deed) (lock_mode_of o.op.deed) ≡ true =
+    ap (λ m. modes_conflict m (lock_mode_of o.op.deed)) mark ∙ item.strict k n o.index o.op y.strict o.is in
     let g = gone_between zs p k a i (let_go_between s zs p x k t a i (record { node = p; act = voted.act }) (ops_of s k n) (ops_of s t j) o u
     voted.is (vote_locks s k n voted.act voted.passes) (vote_stays p k k n voted.act voted.passes) lt (d.free up) against
     (strict_apart s t k up y.strict) (strict_there s k y.strict)) in
@@ -249,7 +252,7 @@ applied_before s zs p x t j k n i a acts item up did u voted o lt =
 -- was applied between; so where k votes yes
 pub applied_where_free : (s : ScriptData) (zs : List Place) (p x t j k n a b : ℕ) → AreByRule s zs → (t == k) ≡ false
     → ActAt (votes_yes t j) zs a p → (u : OpOn x (ops_of s t j)) → conflict_of s (take b zs) p k (ops_of s k n) ≡ None
-    → (o : OpOn x (ops_of s k n)) → conflicts (lock_mode_of o.op.deed) (lock_mode_of u.op.deed) ≡ true → a < b
+    → (o : OpOn x (ops_of s k n)) → modes_conflict (lock_mode_of o.op.deed) (lock_mode_of u.op.deed) ≡ true → a < b
     → ActBetween (applies t) zs p a b
 applied_where_free s zs p x t j k n a b acts other one u free o against lt =
     let y = yes_vote s zs a p t j acts one in
@@ -259,7 +262,7 @@ applied_where_free s zs p x t j k n a b acts other one u free o against lt =
 
 pub applied_between : (s : ScriptData) (zs : List Place) (p x t j k n a b : ℕ) → AreByRule s zs → (t == k) ≡ false
     → ActAt (votes_yes t j) zs a p → (u : OpOn x (ops_of s t j)) → ActAt (votes_yes k n) zs b p → (o : OpOn x (ops_of s k n))
-    → conflicts (lock_mode_of o.op.deed) (lock_mode_of u.op.deed) ≡ true → a < b → ActBetween (applies t) zs p a b
+    → modes_conflict (lock_mode_of o.op.deed) (lock_mode_of u.op.deed) ≡ true → a < b → ActBetween (applies t) zs p a b
 applied_between s zs p x t j k n a b acts other one u two o against lt =
     applied_where_free s zs p x t j k n a b acts other one u (yes_vote s zs b p k n acts two).free o against lt
 

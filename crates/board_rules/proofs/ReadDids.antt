@@ -14,8 +14,8 @@ use Rattle.script_parts.specs.declared.parts.Sub.{Sub}
 use Rattle.script_parts.specs.declared.parts.Tree.{Tree}
 use Rattle.script_parts.specs.declared.parts.TreeKind.{TreeKind}
 use Rattle.script_parts.specs.declared.parts.TreeKind.TheVariants.{Update, Read, Strict}
-use Rattle.board_rules.specs.Histories.{Place, all_applied, all_done, is_strict_tree, is_through, is_whole_in, version_in, was_applied, was_born, was_committed, was_done}
-use Rattle.board_rules.specs.Serial.{closes, closings, is_member_in, is_settled_in, is_version, members_in, serial_in, with_closed}
+use Rattle.board_rules.specs.Histories.{Place, all_applied, all_done, is_strict_tree, is_complete, is_whole_in, version_in, was_applied, was_born, was_committed, was_done}
+use Rattle.board_rules.specs.Serial.{commits_by, commit_order, is_member_in, is_settled_in, is_version, members_in, serial_in, with_closed}
 use Rattle.board_rules.specs.Worth.{worth_after, worth_in}
 use Rattle.board_rules.proofs.Places.{version_in-append, was_applied-append, was_committed-append, was_done-append}
 
@@ -83,7 +83,7 @@ whole_same : (s : ScriptData) (xs : List Place) (node u : ℕ) (t : TreeNo) (k :
     → is_whole_in s (with_did xs node t k values) u ≡ is_whole_in s xs u
 whole_same s xs node u t k values other =
     let ys = with_did xs node t k values in
-    ap (λ (o : Option Version). is_some o && is_through s ys u) (version_same xs node u t k values)
+    ap (λ (o : Option Version). is_some o && is_complete s ys u) (version_same xs node u t k values)
     ∙ ap (λ (b : Bool). was_born xs u && (if is_strict_tree s u then b else all_done u (length (subs_at s u)) ys))
     (applied_same xs node u t k values (subs_at s u))
     ∙ ap (λ (b : Bool). was_born xs u && (if is_strict_tree s u then all_applied u (subs_at s u) xs else b))
@@ -110,9 +110,9 @@ member_same s xs node v u t k values read =
     ∙ ap (λ (b : Bool). is_version v (version_in u xs) && b) (settled_by s xs node u t k values read (t.0 == u) refl)
 
 closings_same : (s : ScriptData) (xs : List Place) (node : ℕ) (t : TreeNo) (k : SubNo) (values : List (ItemNo × Value))
-    → updates s t.0 ≡ false → closings s (with_did xs node t k values) ≡ closings s xs
+    → updates s t.0 ≡ false → commit_order s (with_did xs node t k values) ≡ commit_order s xs
 closings_same s [] node t k values apart = ap (λ (b : Bool). with_closed (if b then Some t.0 else None) []) apart
-closings_same s (x ∷ xs) node t k values apart = ap (with_closed (closes s x.act)) (closings_same s xs node t k values apart)
+closings_same s (x ∷ xs) node t k values apart = ap (with_closed (commits_by s x.act)) (closings_same s xs node t k values apart)
 
 filter_same : (p q : ℕ → Bool) (ts : List ℕ) → ((t : ℕ) → p t ≡ q t) → filter p ts ≡ filter q ts
 filter_same p q [] same = refl
@@ -122,7 +122,7 @@ members_same : (s : ScriptData) (xs : List Place) (node v : ℕ) (t : TreeNo) (k
     → reads s t.0 ≡ true → members_in s (with_did xs node t k values) v ≡ members_in s xs v
 members_same s xs node v t k values read =
     let ys = with_did xs node t k values in
-    filter_same (is_member_in s ys v) (is_member_in s xs v) (closings s ys) (λ u. member_same s xs node v u t k values read)
+    filter_same (is_member_in s ys v) (is_member_in s xs v) (commit_order s ys) (λ u. member_same s xs node v u t k values read)
     ∙ ap (filter (is_member_in s xs v)) (closings_same s xs node t k values (tree_apart s t.0 (slice_get s.trees t.0) refl read).0)
 
 serial_same : (s : ScriptData) (xs : List Place) (node v : ℕ) (t : TreeNo) (k : SubNo) (values : List (ItemNo × Value))

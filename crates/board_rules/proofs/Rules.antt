@@ -10,7 +10,9 @@ use Rattle.script_parts.specs.ScriptData.{ScriptData, node_of, ops_of, subs_at, 
 use Rattle.script_parts.specs.declared.parts.SubOp.{SubOp}
 use Rattle.board_rules.specs.Histories.{Place, born_as, does, is_strict_tree, is_whole_in, version_in, was_born, was_done}
 use Rattle.board_rules.specs.Moves.{IsApplying, IsDecision, IsFreeing, decides_as}
-use Rattle.board_rules.specs.Stands.{Mark, conflict_of, conflicts, frees, lock_mode_of, newer_of, version_or_zero, votes_yes, was_voted}
+use Rattle.nc_locks.specs.Modes.{modes_conflict}
+use Rattle.nc_locks.specs.declared.modes.Mode.TheVariants.{Mark}
+use Rattle.board_rules.specs.Stands.{conflict_of, frees, lock_mode_of, newer_of, version_or_zero, votes_yes, was_voted}
 use Rattle.board_rules.specs.Worth.{ops_change}
 use Rattle.board_rules.proofs.ActTests.{applies_as, applies_as_is, decides_as_is, does_is, frees_is, votes_yes_is}
 use Rattle.board_rules.proofs.Positions.{ActAt}
@@ -95,4 +97,4 @@ pub record IsItemAt (s : ScriptData) (p x : ℕ) : Type 0 where
       → j ≡ k
   pub marks : (t k i : ℕ) (o : SubOp) → updates s t ≡ true → slice_get (ops_of s t k) i ≡ Some o → lock_mode_of o.deed ≡ Mark
   pub strict : (t k i : ℕ) (o : SubOp) → is_strict_tree s t ≡ true → slice_get (ops_of s t k) i ≡ Some o
-      → conflicts Mark (lock_mode_of o.deed) ≡ true
+      → modes_conflict Mark (lock_mode_of o.deed) ≡ true

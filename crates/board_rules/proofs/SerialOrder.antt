@@ -10,8 +10,8 @@ use Rattle.letter_types.specs.declared.acts.Act.{Act}
 use Rattle.letter_types.specs.declared.acts.Act.TheVariants.{Born, Did, Turned, Showed, Swept, Finished, Waits, Parked, Voted, Freed, Decided, Applied}
 use Rattle.letter_types.specs.declared.entries.Entry.{Entry}
 use Rattle.script_parts.specs.ScriptData.{ScriptData, subs_at, updates}
-use Rattle.board_rules.specs.Histories.{Place, all_done, does, is_strict_tree, is_through, is_whole, places_of, version_in, version_of, was_committed, was_done}
-use Rattle.board_rules.specs.Serial.{closes, closings, is_in, is_member_in, is_settled_in, is_version, members_in, serial_in, serial_to, takes_effect}
+use Rattle.board_rules.specs.Histories.{Place, all_done, does, is_strict_tree, is_complete, is_whole, places_of, version_in, version_of, was_committed, was_done}
+use Rattle.board_rules.specs.Serial.{commits_by, commit_order, is_in, is_member_in, is_settled_in, is_version, members_in, serial_in, serial_to, takes_effect}
 use Rattle.board_rules.proofs.Closings.{AreApart, closings_apart, is_in-closings, is_tree}
 use Rattle.board_rules.proofs.Once.{has_append, has_filter, nothing_there, numbers_equal, once_append, once_kept, same_number}
 
@@ -41,17 +41,17 @@ or_and false true false d = refl
 or_and false false c d = refl
 
 pub is_in-members_in : (s : ScriptData) (xs : List Place) (v t : ℕ)
-    → is_in t (members_in s xs v) ≡ (is_member_in s xs v t && is_in t (closings s xs))
-is_in-members_in s xs v t = has_filter same_number numbers_equal (is_member_in s xs v) t (closings s xs)
+    → is_in t (members_in s xs v) ≡ (is_member_in s xs v t && is_in t (commit_order s xs))
+is_in-members_in s xs v t = has_filter same_number numbers_equal (is_member_in s xs v) t (commit_order s xs)
 
 -- a tree is in the order where it is settled, is of version at most v, and has been closed
 pub is_in-serial_in : (s : ScriptData) (xs : List Place) (v t : ℕ)
-    → is_in t (serial_in s xs v) ≡ ((is_up_to v (version_in t xs) && is_settled_in s xs t) && is_in t (closings s xs))
+    → is_in t (serial_in s xs v) ≡ ((is_up_to v (version_in t xs) && is_settled_in s xs t) && is_in t (commit_order s xs))
 is_in-serial_in s xs zero t =
     is_in-members_in s xs zero t
-    ∙ ap (λ (b : Bool). (b && is_settled_in s xs t) && is_in t (closings s xs)) (at_zero (version_in t xs))
+    ∙ ap (λ (b : Bool). (b && is_settled_in s xs t) && is_in t (commit_order s xs)) (at_zero (version_in t xs))
 is_in-serial_in s xs (suc v) t =
-    let c : Bool = is_in t (closings s xs) in
+    let c : Bool = is_in t (commit_order s xs) in
     let o : Option Version = version_in t xs in
     has_append same_number numbers_equal t (serial_in s xs v) (members_in s xs (suc v))
     ∙ ap (λ (b : Bool). b || is_in t (members_in s xs (suc v))) (is_in-serial_in s xs v t)
@@ -66,17 +66,17 @@ not_next v (Some w) e = grind (arith, nat_tests)
 
 -- each tree occurs there once
 pub serial_in_apart : (s : ScriptData) (xs : List Place) (v : ℕ) → AreApart (serial_in s xs v)
-serial_in_apart s xs zero = once_kept same_number numbers_equal (is_member_in s xs zero) (closings s xs) (closings_apart s xs)
+serial_in_apart s xs zero = once_kept same_number numbers_equal (is_member_in s xs zero) (commit_order s xs) (closings_apart s xs)
 serial_in_apart s xs (suc v) =
     once_append same_number numbers_equal (serial_in s xs v) (members_in s xs (suc v)) (serial_in_apart s xs v)
-    (once_kept same_number numbers_equal (is_member_in s xs (suc v)) (closings s xs) (closings_apart s xs))
+    (once_kept same_number numbers_equal (is_member_in s xs (suc v)) (commit_order s xs) (closings_apart s xs))
     (λ (t : ℕ) here.
     let o : Option Version = version_in t xs in
     let all = sym (is_in-serial_in s xs v t) ∙ here in
     let up : is_up_to v o ≡ true
-    = left_true (is_up_to v o) (is_settled_in s xs t) (left_true (is_up_to v o && is_settled_in s xs t) (is_in t (closings s xs)) all) in
+    = left_true (is_up_to v o) (is_settled_in s xs t) (left_true (is_up_to v o && is_settled_in s xs t) (is_in t (commit_order s xs)) all) in
     is_in-members_in s xs (suc v) t
-    ∙ and_left (is_member_in s xs (suc v) t) (is_in t (closings s xs))
+    ∙ and_left (is_member_in s xs (suc v) t) (is_in t (commit_order s xs))
     (and_left (is_version (suc v) o) (is_settled_in s xs t) (not_next v o up)))
 
 pub serial_to_apart : (s : ScriptData) (h : List Entry) (v : ℕ) → AreApart (serial_to s h v)
@@ -88,14 +88,14 @@ pub stands_up_to : (s : ScriptData) (h : List Entry) (v t : ℕ) → is_in t (se
 stands_up_to s h v t here =
     let o : Option Version = version_of h t in
     left_true (is_up_to v o) (takes_effect s h t)
-    (left_true (is_up_to v o && takes_effect s h t) (is_in t (closings s (places_of h))) (sym (is_in-serial_in s (places_of h) v t) ∙ here))
+    (left_true (is_up_to v o && takes_effect s h t) (is_in t (commit_order s (places_of h))) (sym (is_in-serial_in s (places_of h) v t) ∙ here))
 
 pub stands_settled : (s : ScriptData) (h : List Entry) (v t : ℕ) → is_in t (serial_to s h v) ≡ true
     → takes_effect s h t ≡ true
 stands_settled s h v t here =
     let o : Option Version = version_of h t in
     right_true (is_up_to v o) (takes_effect s h t)
-    (left_true (is_up_to v o && takes_effect s h t) (is_in t (closings s (places_of h))) (sym (is_in-serial_in s (places_of h) v t) ∙ here))
+    (left_true (is_up_to v o && takes_effect s h t) (is_in t (commit_order s (places_of h))) (sym (is_in-serial_in s (places_of h) v t) ∙ here))
 
 not_strict : (a b : Bool) (c d : Bool) → c ≡ false → ((a && b) || (c && d)) ≡ true → (a && b) ≡ true
 not_strict true true c d e h = refl
@@ -111,7 +111,7 @@ stands_whole s h v t commuting here =
     (left_true (updates s t) (is_whole s h t) both, right_true (updates s t) (is_whole s h t) both)
 
 -- a Did of an update tree closes it
-pub did_closes : (s : ScriptData) (t k : ℕ) (act : Act) → updates s t ≡ true → does t k act ≡ true → is_tree t (closes s act) ≡ true
+pub did_closes : (s : ScriptData) (t k : ℕ) (act : Act) → updates s t ≡ true → does t k act ≡ true → is_tree t (commits_by s act) ≡ true
 did_closes s t k (Did u j values) up h = did u.0 j.0 (u.0 == t) refl up h where
   did : (u j : ℕ) (b : Bool) → (u == t) ≡ b → updates s t ≡ true → (b && (j == k)) ≡ true
       → is_tree t (if updates s u then Some u else None) ≡ true
@@ -138,10 +138,10 @@ one_closes false b true d f g h = refl
 one_closes false b false d f g h = g h
 
 done_closes : (s : ScriptData) (t k : ℕ) (xs : List Place) → updates s t ≡ true → was_done t k xs ≡ true
-    → list_any (λ (x : Place). is_tree t (closes s x.act)) xs ≡ true
+    → list_any (λ (x : Place). is_tree t (commits_by s x.act)) xs ≡ true
 done_closes s t k [] up h = absurd (cc h)
 done_closes s t k (x ∷ xs) up h =
-    one_closes (does t k x.act) (was_done t k xs) (is_tree t (closes s x.act)) (list_any (λ (y : Place). is_tree t (closes s y.act)) xs)
+    one_closes (does t k x.act) (was_done t k xs) (is_tree t (commits_by s x.act)) (list_any (λ (y : Place). is_tree t (commits_by s y.act)) xs)
     (did_closes s t k x.act up) (done_closes s t k xs up) h
 
 -- where all are done, so is each
@@ -156,9 +156,9 @@ pub whole_stands : (s : ScriptData) (h : List Entry) (v t : ℕ) → is_strict_t
     → updates s t ≡ true → is_whole s h t ≡ true → is_up_to v (version_of h t) ≡ true → is_in t (serial_to s h v) ≡ true
 whole_stands s h v t commuting root up whole to =
     let xs : List Place = places_of h in
-    let through : is_through s xs t ≡ true = right_true (is_some (version_of h t)) (is_through s xs t) whole in
+    let through : is_complete s xs t ≡ true = right_true (is_some (version_of h t)) (is_complete s xs t) whole in
     let all : all_done t (length (subs_at s t)) xs ≡ true = grind (arith, commuting, through) in
-    let closed : is_in t (closings s xs) ≡ true
+    let closed : is_in t (commit_order s xs) ≡ true
     = is_in-closings s t xs ∙ done_closes s t 0 xs up (done_of t (length (subs_at s t)) 0 xs root all) in
     is_in-serial_in s (places_of h) v t ∙ grind (arith, to, up, whole, closed)
 

@@ -13,7 +13,7 @@ use Rattle.script_parts.specs.declared.parts.Sub.{Sub}
 use Rattle.script_parts.specs.declared.parts.Tree.{Tree}
 use Rattle.script_parts.specs.declared.parts.TreeKind.{TreeKind}
 use Rattle.script_parts.specs.declared.parts.TreeKind.TheVariants.{Update, Read, Strict}
-use Rattle.board_rules.specs.Histories.{Place, all_applied, all_done, applies, born_as, does, is_strict_tree, is_through, is_whole_in, version_in, was_applied, was_born, was_done}
+use Rattle.board_rules.specs.Histories.{Place, all_applied, all_done, applies, born_as, does, is_strict_tree, is_complete, is_whole_in, version_in, was_applied, was_born, was_done}
 use Rattle.board_rules.proofs.Places.{version_stays}
 use Rattle.board_rules.proofs.SerialOrder.{done_of}
 
@@ -106,7 +106,7 @@ pub whole_done : (s : ScriptData) (xs : List Place) (t k : ℕ) → updates s t 
 whole_done s xs t k up whole lt =
     done_of t (length (subs_at s t)) k xs lt
     (through_if (is_strict_tree s t) (all_applied t (subs_at s t) xs) (all_done t (length (subs_at s t)) xs)
-    (right_true (was_born xs t) (is_through s xs t) whole) (update_not_strict s t up))
+    (right_true (was_born xs t) (is_complete s xs t) whole) (update_not_strict s t up))
 
 applied_of : (t j : ℕ) (k : Sub) (ks : List Sub) (xs : List Place) → slice_get ks j ≡ Some k → all_applied t ks xs ≡ true
     → was_applied t k.node.0 xs ≡ true
@@ -130,7 +130,7 @@ whole_applied s xs t j p strict whole lt node = by (sub_at s t j) refl node wher
       sym (ap (λ q. was_applied t q xs) at)
       ∙ applied_of t j k (subs_at s t) xs is
       (through_then (is_strict_tree s t) (all_applied t (subs_at s t) xs) (all_done t (length (subs_at s t)) xs)
-      (right_true (was_born xs t) (is_through s xs t) whole) strict)
+      (right_true (was_born xs t) (is_complete s xs t) whole) strict)
   by None is at = absurd (none_within (subs_at s t) j lt is)
 
 -- what is among the first acts is among all
@@ -156,7 +156,7 @@ through_by : (test a b c d : Bool) → (a ≡ true → c ≡ true) → (b ≡ tr
 through_by true a b c d one two is = one is
 through_by false a b c d one two is = two is
 
-through_more : (s : ScriptData) (xs ys : List Place) (t : ℕ) → is_through s xs t ≡ true → is_through s (xs ++ ys) t ≡ true
+through_more : (s : ScriptData) (xs ys : List Place) (t : ℕ) → is_complete s xs t ≡ true → is_complete s (xs ++ ys) t ≡ true
 through_more s xs ys t is =
     through_by (is_strict_tree s t) (all_applied t (subs_at s t) xs) (all_done t (length (subs_at s t)) xs)
     (all_applied t (subs_at s t) (xs ++ ys)) (all_done t (length (subs_at s t)) (xs ++ ys))
@@ -165,8 +165,8 @@ through_more s xs ys t is =
 -- a whole tree stays whole
 pub whole_more : (s : ScriptData) (xs ys : List Place) (t : ℕ) → is_whole_in s xs t ≡ true → is_whole_in s (xs ++ ys) t ≡ true
 whole_more s xs ys t is =
-    let parts = and_parts (was_born xs t) (is_through s xs t) is in
-    and_from (was_born (xs ++ ys) t) (is_through s (xs ++ ys) t) (ap is_some (version_stays t xs ys parts.0) ∙ parts.0)
+    let parts = and_parts (was_born xs t) (is_complete s xs t) is in
+    and_from (was_born (xs ++ ys) t) (is_complete s (xs ++ ys) t) (ap is_some (version_stays t xs ys parts.0) ∙ parts.0)
     (through_more s xs ys t parts.1)
 
 pub whole_all : (s : ScriptData) (i : ℕ) (zs : List Place) (t : ℕ) → is_whole_in s (take i zs) t ≡ true → is_whole_in s zs t ≡ true

@@ -84,8 +84,8 @@ is_strict_tree s t = elim (slice_get s.trees t) [ Some tree ↦ is_strict tree.k
 
 -- all that is to come of tree t has come: each of its subtransactions was done; what was decided of a strict tree was
 -- applied at each node that it visits
-abbrev pub is_through : ScriptData → List Place → ℕ → Bool
-is_through s xs t = if is_strict_tree s t then all_applied t (subs_at s t) xs else all_done t (length (subs_at s t)) xs
+abbrev pub is_complete : ScriptData → List Place → ℕ → Bool
+is_complete s xs t = if is_strict_tree s t then all_applied t (subs_at s t) xs else all_done t (length (subs_at s t)) xs
 
 -- tree t is born in these acts
 abbrev pub was_born : List Place → ℕ → Bool
@@ -93,7 +93,7 @@ was_born xs t = is_some (version_in t xs)
 
 -- tree t is whole after these acts: it is born, and all that is to come of it has come
 abbrev pub is_whole_in : ScriptData → List Place → ℕ → Bool
-is_whole_in s xs t = was_born xs t && is_through s xs t
+is_whole_in s xs t = was_born xs t && is_complete s xs t
 
 -- tree t is whole in a history
 abbrev pub is_whole : ScriptData → List Entry → ℕ → Bool

@@ -5,3 +5,4 @@ pub mod Right
 pub mod Moves
 pub mod Gates
 pub mod Stands
+pub mod Locked

@@ -10,11 +10,11 @@ use Rattle.script_parts.specs.ScriptData.{ScriptData, updates}
 use Rattle.board_rules.specs.Histories.{Place, is_strict_tree, is_whole_in, places_of, version_in, was_committed}
 
 -- the tree that the act may close: a Did is one of an update tree, and a decision to commit one of a strict tree
-abbrev pub closes : ScriptData → Act → Option ℕ
-closes s (Did t k values) = if updates s t.0 then Some t.0 else None
-closes s (Decided t commit) = if is_strict_tree s t.0 && commit then Some t.0 else None
-closes s Finished = None
-closes s _ = None
+abbrev pub commits_by : ScriptData → Act → Option ℕ
+commits_by s (Did t k values) = if updates s t.0 then Some t.0 else None
+commits_by s (Decided t commit) = if is_strict_tree s t.0 && commit then Some t.0 else None
+commits_by s Finished = None
+commits_by s _ = None
 
 -- the number is in the list
 abbrev pub is_in : ℕ → List ℕ → Bool
@@ -26,9 +26,9 @@ with_closed None ts = ts
 with_closed (Some t) ts = if is_in t ts then ts else t ∷ ts
 
 -- the trees in order of their last closing act
-abbrev pub closings : ScriptData → List Place → List ℕ
-closings s [] = []
-closings s (x ∷ xs) = with_closed (closes s x.act) (closings s xs)
+abbrev pub commit_order : ScriptData → List Place → List ℕ
+commit_order s [] = []
+commit_order s (x ∷ xs) = with_closed (commits_by s x.act) (commit_order s xs)
 
 -- the version is this one
 abbrev pub is_version : ℕ → Option Version → Bool
@@ -45,7 +45,7 @@ is_member_in s xs v t = is_version v (version_in t xs) && is_settled_in s xs t
 
 -- those of version v, in serial order
 abbrev pub members_in : ScriptData → List Place → ℕ → List ℕ
-members_in s xs v = filter (is_member_in s xs v) (closings s xs)
+members_in s xs v = filter (is_member_in s xs v) (commit_order s xs)
 
 -- those of version at most v, in serial order
 abbrev pub serial_in : ScriptData → List Place → ℕ → List ℕ

@@ -1,19 +1,22 @@
 -- Which locks are at a place of a history, and why a subtransaction of a strict tree votes no: a look back over the
 -- acts. No tree of a run so far takes a lock.
-use Rattle.std.specs.Prelude.{if◌then◌else◌, ℕ, zero, suc, Bool, true, false, ◌==◌, ◌&&◌, not, max, nat_lt, int_lt, List, [], ◌∷◌, ◌++◌, fold, filter, length, map, Option, Some, None}
+use Rattle.std.specs.Prelude.{if◌then◌else◌, ℕ, zero, suc, Bool, false, ◌==◌, ◌&&◌, not, max, nat_lt, List, [], ◌∷◌, ◌++◌, fold, filter, length, map, Option, Some, None}
 use Rattle.std.specs.List.{list_any}
 use Rattle.std.specs.Option.{option_or}
 use Rattle.tv_base.specs.declared.numbers.ItemNo.{ItemNo}
 use Rattle.tv_base.specs.declared.numbers.Version.{Version}
-use Rattle.commute_ops.specs.declared.value.Value.{Value}
-use Rattle.commute_ops.specs.declared.value.Value.TheVariants.{Sum, Top, Bag}
 use Rattle.letter_types.specs.declared.acts.Act.{Act}
 use Rattle.letter_types.specs.declared.acts.Act.TheVariants.{Did, Voted, Freed, Applied, Finished}
 use Rattle.letter_types.specs.declared.entries.Entry.{Entry}
 use Rattle.letter_types.specs.declared.votes.Cause.{Cause}
-use Rattle.letter_types.specs.declared.votes.Cause.TheVariants.{Conflict, Newer, Short}
+use Rattle.letter_types.specs.declared.votes.Cause.TheVariants.{Conflict, Newer}
+use Rattle.letter_types.specs.Causes.{short_cause}
 use Rattle.letter_types.specs.declared.votes.Vote.{Vote}
 use Rattle.letter_types.specs.declared.votes.Vote.TheVariants.{Yes, No}
+pub use Rattle.script_parts.specs.Deeds.{found_short, overwrites}
+use Rattle.nc_locks.specs.Modes.{modes_conflict}
+use Rattle.nc_locks.specs.declared.modes.Mode.{Mode}
+use Rattle.nc_locks.specs.declared.modes.Mode.TheVariants.{Mark, Look, Hold}
 use Rattle.script_parts.specs.ScriptData.{ScriptData, ops_of, subs_at, updates}
 use Rattle.script_parts.specs.declared.parts.Deed.{Deed}
 use Rattle.script_parts.specs.declared.parts.Deed.TheVariants as deeds
@@ -22,22 +25,11 @@ use Rattle.board_rules.specs.Histories.{Place, version_in}
 use Rattle.board_rules.specs.Worth.{ops_change, subs_change, worth}
 
 -- how a tree has an item: marked by a commuting operation, looked at by a get, held by a set or a draw
-pub data LockMode : Type 0 where
-  Mark : LockMode
-  Look : LockMode
-  Hold : LockMode
-
-abbrev pub lock_mode_of : Deed → LockMode
+abbrev pub lock_mode_of : Deed → Mode
 lock_mode_of (deeds.Apply op) = Mark
 lock_mode_of deeds.Get = Look
 lock_mode_of (deeds.Set n) = Hold
 lock_mode_of (deeds.Draw n) = Hold
-
--- a mark goes with a mark and a look with a look; every other pair conflicts
-abbrev pub conflicts : LockMode → LockMode → Bool
-conflicts Mark Mark = false
-conflicts Look Look = false
-conflicts _ _ = true
 
 -- the operations whose locks the act takes for tree k: those that an update tree has done, and those that a strict tree
 -- has voted yes for; a read tree takes none
@@ -49,27 +41,27 @@ locked_by s k Finished = []
 locked_by s k _ = []
 
 -- the act lets go of what tree k has at its node
-abbrev pub lets_go : ℕ → Act → Bool
-lets_go k (Freed t) = t.0 == k
-lets_go k (Applied t commit) = t.0 == k
-lets_go k Finished = false
-lets_go k _ = false
+abbrev pub releases : ℕ → Act → Bool
+releases k (Freed t) = t.0 == k
+releases k (Applied t commit) = t.0 == k
+releases k Finished = false
+releases k _ = false
 
 -- the modes on item x among those of these operations
-abbrev pub modes_on : ℕ → List SubOp → List LockMode
+abbrev pub modes_on : ℕ → List SubOp → List Mode
 modes_on x os = map (λ (o : SubOp). lock_mode_of o.deed) (filter (λ (o : SubOp). o.item.0 == x) os)
 
 -- the modes in which tree k has item x, which is at node p, after an act and after these acts
-abbrev pub modes_after : ScriptData → ℕ → ℕ → ℕ → List LockMode → Place → List LockMode
+abbrev pub modes_after : ScriptData → ℕ → ℕ → ℕ → List Mode → Place → List Mode
 modes_after s p x k modes y =
-    if (y.node == p) && lets_go k y.act then [] else modes ++ modes_on x (locked_by s k y.act)
+    if (y.node == p) && releases k y.act then [] else modes ++ modes_on x (locked_by s k y.act)
 
-abbrev pub modes_standing : ScriptData → List Place → ℕ → ℕ → ℕ → List LockMode
+abbrev pub modes_standing : ScriptData → List Place → ℕ → ℕ → ℕ → List Mode
 modes_standing s xs p x k = fold (modes_after s p x k) [] xs
 
 -- tree k has the item in a mode that conflicts with this one
-abbrev pub stands_against : ScriptData → List Place → ℕ → ℕ → LockMode → ℕ → Bool
-stands_against s xs p x mode k = list_any (conflicts mode) (modes_standing s xs p x k)
+abbrev pub conflicts_with : ScriptData → List Place → ℕ → ℕ → Mode → ℕ → Bool
+conflicts_with s xs p x mode k = list_any (modes_conflict mode) (modes_standing s xs p x k)
 
 -- the least number from k on, of at most n, that passes a test
 abbrev pub least_from : (ℕ → Bool) → ℕ → ℕ → Option ℕ
@@ -77,9 +69,9 @@ least_from test k zero = None
 least_from test k (suc n) = if test k then Some k else least_from test (suc k) n
 
 -- the tree of least number, other than t, that has the item in a mode that conflicts with this one
-abbrev pub holder_of : ScriptData → List Place → ℕ → ℕ → ℕ → LockMode → Option ℕ
+abbrev pub holder_of : ScriptData → List Place → ℕ → ℕ → ℕ → Mode → Option ℕ
 holder_of s xs p t x mode =
-    least_from (λ (k : ℕ). not (k == t) && stands_against s xs p x mode k) 0 (length s.trees)
+    least_from (λ (k : ℕ). not (k == t) && conflicts_with s xs p x mode k) 0 (length s.trees)
 
 -- the first of these operations whose item is so held, as a cause
 abbrev pub conflict_with : ItemNo → Option ℕ → Option Cause
@@ -112,13 +104,6 @@ written_in s xs p x y = written_by s xs x (y.node == p) y.act
 abbrev pub newest_of : ScriptData → List Place → ℕ → ℕ → ℕ
 newest_of s xs p x = fold (λ (v : ℕ) (y : Place). max v (written_in s xs p x y)) 0 xs
 
--- the operation writes over what is newer
-abbrev pub overwrites : Deed → Bool
-overwrites (deeds.Set n) = true
-overwrites (deeds.Draw n) = true
-overwrites deeds.Get = false
-overwrites (deeds.Apply op) = false
-
 -- the first of these operations that writes an item which is written in a version above v, as a cause
 abbrev pub newer_of : ScriptData → List Place → ℕ → ℕ → List SubOp → Option Cause
 newer_of s xs p v [] = None
@@ -126,19 +111,10 @@ newer_of s xs p v (o ∷ os) =
     if overwrites o.deed && nat_lt v (newest_of s xs p o.item.0)
     then Some (Newer o.item (record { 0 = newest_of s xs p o.item.0 })) else newer_of s xs p v os
 
--- a value that is less than what is drawn, as a cause
-abbrev pub short_by : ItemNo → Deed → Value → Option Cause
-short_by x (deeds.Draw n) (Sum found) = if int_lt found.0 n then Some (Short x found.0) else None
-short_by x (deeds.Draw n) (Top found) = None
-short_by x (deeds.Draw n) (Bag ns) = None
-short_by x (deeds.Set n) w = None
-short_by x deeds.Get w = None
-short_by x (deeds.Apply op) w = None
-
 -- the first of these operations that draws more than its item is worth at version v, as a cause
 abbrev pub short_of : ScriptData → List Entry → ℕ → List SubOp → Option Cause
 short_of s before v [] = None
-short_of s before v (o ∷ os) = option_or (short_by o.item o.deed (worth s before o.item.0 v)) (short_of s before v os)
+short_of s before v (o ∷ os) = option_or (short_cause o.item (found_short o.deed (worth s before o.item.0 v))) (short_of s before v os)
 
 -- why a subtransaction of strict tree t with these operations at node p votes no, if it does: a lock that conflicts,
 -- else a newer version, else a value that is short

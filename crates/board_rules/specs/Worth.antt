@@ -1,8 +1,8 @@
 -- What an item is worth at a version: its initial value, folded over the deeds of the serial order up to there.
-use Rattle.std.specs.Prelude.{if◌then◌else◌, ℕ, Bool, true, false, ◌==◌, ◌&&◌, ◌||◌, ◌+◌, ℤ, ◌-ℤ◌, pos, List, [], ◌∷◌, fold, Option, Some, None, slice_get}
+use Rattle.std.specs.Prelude.{if◌then◌else◌, ℕ, Bool, true, false, ◌==◌, ◌&&◌, ◌||◌, ◌+◌, pos, List, [], ◌∷◌, fold, Option, Some, None, slice_get}
 use Rattle.commute_ops.specs.declared.value.Value.{Value}
-use Rattle.commute_ops.specs.declared.value.Value.TheVariants.{Sum, Top, Bag}
-use Rattle.commute_ops.specs.Ops.{applied, value_start}
+use Rattle.commute_ops.specs.declared.value.Value.TheVariants.{Sum}
+use Rattle.commute_ops.specs.Ops.{value_start}
 use Rattle.letter_types.specs.declared.entries.Entry.{Entry}
 use Rattle.script_parts.specs.ScriptData.{ScriptData, subs_at}
 use Rattle.script_parts.specs.declared.parts.Deed.{Deed}
@@ -13,27 +13,9 @@ use Rattle.script_parts.specs.declared.parts.SubOp.{SubOp}
 use Rattle.script_parts.specs.declared.parts.Tree.{Tree}
 use Rattle.script_parts.specs.declared.parts.TreeKind.{TreeKind}
 use Rattle.script_parts.specs.declared.parts.TreeKind.TheVariants.{Update, Read, Strict}
+pub use Rattle.script_parts.specs.Deeds.{after_deed, with_drawn, with_set}
 use Rattle.board_rules.specs.Histories.{Place, places_of, version_of, was_committed}
 use Rattle.board_rules.specs.Serial.{is_version, serial_in}
-
--- the number of a sum or a top set to n; a bag stays
-abbrev pub with_set : ℤ → Value → Value
-with_set n (Sum old) = Sum (record { 0 = n })
-with_set n (Top old) = Top (record { 0 = n })
-with_set n (Bag ns) = Bag ns
-
--- a sum lowered by n; other values stay
-abbrev pub with_drawn : ℤ → Value → Value
-with_drawn n (Sum old) = Sum (record { 0 = old.0 -ℤ n })
-with_drawn n (Top old) = Top old
-with_drawn n (Bag ns) = Bag ns
-
--- the value after a deed
-abbrev pub after_deed : Deed → Value → Value
-after_deed (deeds.Apply op) w = applied w op
-after_deed deeds.Get w = w
-after_deed (deeds.Set n) w = with_set n w
-after_deed (deeds.Draw n) w = with_drawn n w
 
 -- the value of item x after the operations on it
 abbrev pub after_ops : ℕ → List SubOp → Value → Value

@@ -136,8 +136,8 @@ impl Locks {
         other_lock(&self.by_item, Lock { item, mode, tree })
     }
 
-    /// Takes locks for a tree. Where no memory is found the locks are unchanged.
-    fn take(&mut self, tree: TreeNo, wanted: &[(ItemNo, Mode)]) -> Result<(), NoMemory>
+    /// Takes locks for a tree, whatever is in their way. Where no memory is found the locks are unchanged.
+    pub fn take(&mut self, tree: TreeNo, wanted: &[(ItemNo, Mode)]) -> Result<(), NoMemory>
         ensures ok { OnOk result (self.new ≡ with_locks tree wanted.now self.old) }
         ensures err { OnErr result (self.new ≡ self.old) }
     {
