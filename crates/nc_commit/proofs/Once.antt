@@ -15,6 +15,7 @@ use Rattle.tx_trees.proofs.SubsOf.{all_at}
 use Rattle.world_model.specs.Named.{is_strict_at}
 use Rattle.nc_commit.specs.Decisions.{ops_at}
 use Rattle.nc_commit.specs.inside.Writes.{AreOnce}
+use Rattle.script_parts.proofs.StrictKind.{strict_kind}
 
 abbrev numbers : List SubOp → List ℕ
 numbers os = map (λ o. o.item.0) os
@@ -68,11 +69,6 @@ once-at p [] once = once
 once-at p (k ∷ ks) once =
     once-at-by p k ks (k.node.0 == p) (once-at p ks (once-behind k.ops (ops_in ks) once)) once
 
-strict-kind : (kind : TreeKind) → is_strict kind ≡ true → kind ≡ Strict
-strict-kind Strict is = refl
-strict-kind Update is = let no_such : false ≡ true = is in cc
-strict-kind Read is = let no_such : false ≡ true = is in cc
-
 abbrev kind_by : Option Tree → Option TreeKind
 kind_by o = elim o [ Some tree ↦ Some tree.kind | None ↦ None ]
 
@@ -86,7 +82,7 @@ subs-once : (s : ScriptData) (t : ℕ) (o : Option Tree) → slice_get s.trees t
     → strict_by (kind_by o) ≡ true → AreOnce (ops_in (subs_by o))
 subs-once s t None at valid strict = let no_such : false ≡ true = strict in cc
 subs-once s t (Some tree) at valid strict =
-    (all_at (IsTree s.nodes s.items) s.trees t tree valid.trees at).once (strict-kind tree.kind strict)
+    (all_at (IsTree s.nodes s.items) s.trees t tree valid.trees at).once (strict_kind tree.kind strict)
 
 -- so a strict tree of a valid script has one operation on an item at a node
 pub strict_once : (s : ScriptData) (t p : ℕ) → IsValid s → is_strict_at s t ≡ true → AreOnce (ops_at p (subs_at s t))

@@ -13,7 +13,7 @@ use Rattle.item_versions.proofs.Tables.{item_in-replaced_other}
 use Rattle.tx_trees.specs.declared.parts.Sub.{Sub}
 use Rattle.tx_trees.specs.declared.parts.SubOp.{SubOp}
 use Rattle.world_model.specs.Reads.{seen_in}
-use Rattle.board_rules.specs.Stands.{overwrites}
+use Rattle.script_parts.specs.Deeds.{overwrites}
 use Rattle.nc_commit.specs.Decisions.{applied_in, can_apply, can_apply_op, ops_at, overwritten, overwritten_in}
 use Rattle.nc_commit.specs.inside.Writes.{AreUntouched, IsStaging}
 

@@ -3,7 +3,8 @@ ghost use Rattle.std.specs.Prelude.{◌≡◌, IfOk, Some};
 ghost use Rattle.std.specs.Option.{option_copied};
 ghost use Rattle.letter_types.specs.declared.votes.Vote.TheVariants.{No};
 ghost use Rattle.world_model.specs.Reads.{gets, got_by_deed, seen_in};
-ghost use Rattle.board_rules.specs.Stands.{overwrites, short_by};
+ghost use Rattle.script_parts.specs.Deeds.{found_short, overwrites};
+ghost use Rattle.letter_types.specs.Causes.{short_cause};
 ghost use Rattle.nc_commit.specs.Votes.{greatest_version, mode_wanted, newer_at, newer_by, newer_in, short_at, short_in, vote_of, wanted_by};
 
 use commute_ops::{Value, Values};
@@ -28,7 +29,21 @@ pub fn vote(
 ) -> Result<Vote, NoMemory>
     ensures { IfOk result (λ vote. vote ≡ vote_of locks.now items.now tree version sub.now.ops) }
 {
-    let ops = sub.ops.items();
+    let vote = vote_on(alloc, locks, items, tree, version, sub.ops.items())?;
+    Ok(vote)
+}
+
+/// The same of a subtransaction with these operations.
+pub fn vote_on(
+    alloc: Global,
+    locks: &Locks,
+    items: &ItemTable,
+    tree: TreeNo,
+    version: Version,
+    ops: &[SubOp],
+) -> Result<Vote, NoMemory>
+    ensures { IfOk result (λ vote. vote ≡ vote_of locks.now items.now tree version ops.now) }
+{
     let wanted = wanted_by(alloc, ops)?;
     if let Some(met) = locks.met(tree, &wanted) {
         let cause = Cause::Conflict {
@@ -172,7 +187,7 @@ fn short_at(items: &ItemTable, v: Version, op: &SubOp) -> Option<Cause>
 
 /// A value that is less than what is drawn, as a cause.
 fn short_by(item: ItemNo, deed: &Deed, value: &Value) -> Option<Cause>
-    ensures { result ≡ short_by item deed.now value.now }
+    ensures { result ≡ short_cause item (found_short deed.now value.now) }
 {
     match (deed, value) {
         (Deed::Draw(amount), Value::Sum(found)) => {

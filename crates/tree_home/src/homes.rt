@@ -222,6 +222,16 @@ impl Homes {
         acknowledge(&mut self.held, tree)
     }
 
+    /// Holds the answer of a tree no more, however many acknowledgements are missing. The open trees and the other
+    /// answers stay. Needs no memory.
+    pub fn take_back(&mut self, tree: TreeNo)
+        ensures held { held_answers self.new ≡ put_at tree.0 None (held_answers self.old) }
+        ensures opened { self.new.opened ≡ self.old.opened }
+        ensures ascending { AreAscending self.new.held }
+    {
+        remove(&mut self.held, tree);
+    }
+
     /// The answer of a tree that is held, and how many acknowledgements it misses. None exactly where none is held.
     pub fn held(&self, tree: TreeNo) -> Option<&Held>
         ensures { option_copied result ≡ held_in tree (held_answers self.now) }

@@ -4,7 +4,7 @@
 
 mod homes;
 mod laws;
-mod tree_map;
+pub mod tree_map;
 
 pub use homes::{Answered, Held, Homes, Noted, Notices, OpenTree};
 pub use laws::{

@@ -7,14 +7,14 @@ use std::collections::BTreeMap;
 use tv_base::{NoMemory, TreeNo};
 
 /// What a map has of a tree.
-pub(crate) fn find<X>(map: &BTreeMap<TreeNo, X>, tree: TreeNo) -> Option<&X>
+pub fn find<X>(map: &BTreeMap<TreeNo, X>, tree: TreeNo) -> Option<&X>
     ensures { option_copied result ≡ by_tree map.now.entries tree.0 }
 {
     map.get(&tree)
 }
 
 /// Puts a value under a tree's number. Where no memory is found the map is unchanged and the value comes back.
-pub(crate) fn insert<X: Drop>(
+pub fn insert<X: Drop>(
     map: &mut BTreeMap<TreeNo, X>,
     tree: TreeNo,
     value: X,
@@ -32,7 +32,7 @@ pub(crate) fn insert<X: Drop>(
 }
 
 /// Takes what a map has of a tree away, and gives it.
-pub(crate) fn remove<X: Drop>(map: &mut BTreeMap<TreeNo, X>, tree: TreeNo) -> Option<X>
+pub fn remove<X: Drop>(map: &mut BTreeMap<TreeNo, X>, tree: TreeNo) -> Option<X>
     ensures value { result ≡ by_tree map.old.entries tree.0 }
     ensures removed { by_tree map.new.entries ≡ put_at tree.0 None (by_tree map.old.entries) }
     ensures ascending { AreAscending map.new.entries }

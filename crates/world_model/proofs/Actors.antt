@@ -6,7 +6,7 @@ use Rattle.letter_types.specs.declared.entries.Letter.{Letter}
 use Rattle.letter_types.specs.declared.entries.Entry.{Entry}
 use Rattle.letter_types.specs.declared.entries.Posting.{Posting}
 use Rattle.letter_types.specs.Letters.{go, own, find_id, letters_of}
-use Rattle.letter_types.specs.Postal.{IsPostal, posting_of, letters_sent}
+use Rattle.letter_types.specs.Postal.{IsMessageRun, delivery_of, letters_sent}
 use Rattle.letter_types.specs.Steps.{Out}
 use Rattle.script_parts.specs.ScriptData.{ScriptData, client_of}
 use Rattle.world_model.specs.Node.{Node}
@@ -26,13 +26,13 @@ pub record IsPostalEntry (client : ℕ) (h : List Entry) : Type 0 where
   pub addressee : (k : ℕ) (e : Entry) → slice_get h k ≡ Some e → e.took.to.0 ≡ e.actor.0
   pub known : (k : ℕ) (e : Entry) → slice_get h k ≡ Some e → e.actor.0 < client + 1
 
-posting_at : (h : List Entry) (k : ℕ) (e : Entry) → slice_get h k ≡ Some e → slice_get (map posting_of h) k ≡ Some (posting_of e)
+posting_at : (h : List Entry) (k : ℕ) (e : Entry) → slice_get h k ≡ Some e → slice_get (map delivery_of h) k ≡ Some (delivery_of e)
 posting_at [] k e at = absurd (grind arith)
-posting_at (x ∷ h) zero e at = let same : x ≡ e = grind arith in ap (λ (y : Entry). Some (posting_of y)) same
+posting_at (x ∷ h) zero e at = let same : x ≡ e = grind arith in ap (λ (y : Entry). Some (delivery_of y)) same
 posting_at (x ∷ h) (suc k) e at = posting_at h k e at
 
-pub entry_at : (h : List Entry) (k : ℕ) (p : Posting) → slice_get (map posting_of h) k ≡ Some p
-    → (e : Entry) × (slice_get h k ≡ Some e) × (posting_of e ≡ p)
+pub entry_at : (h : List Entry) (k : ℕ) (p : Posting) → slice_get (map delivery_of h) k ≡ Some p
+    → (e : Entry) × (slice_get h k ≡ Some e) × (delivery_of e ≡ p)
 entry_at [] k p at = absurd (grind arith)
 entry_at (x ∷ h) zero p at = (x, refl, grind arith)
 entry_at (x ∷ h) (suc k) p at = entry_at h k p at
@@ -44,7 +44,7 @@ Came client h k l =
 abbrev CamePosted : ℕ → List Entry → ℕ → Letter → Type 0
 CamePosted client h k l =
     (l ≡ go client)
-    ⊎ ((j : ℕ) × (f : Posting) × (j < k) × (slice_get (map posting_of h) j ≡ Some f) × (find_id l.id (letters_sent f) ≡ Some l))
+    ⊎ ((j : ℕ) × (f : Posting) × (j < k) × (slice_get (map delivery_of h) j ≡ Some f) × (find_id l.id (letters_sent f) ≡ Some l))
 
 came_entry : (client : ℕ) (h : List Entry) (k : ℕ) (l : Letter) → CamePosted client h k l → Came client h k l
 came_entry client h k l (inl is) = inl is
@@ -54,46 +54,46 @@ came_entry client h k l (inr (j, f, lt, at, found)) =
 
 came_posted : (client : ℕ) (h : List Entry) (k : ℕ) (l : Letter) → Came client h k l → CamePosted client h k l
 came_posted client h k l (inl is) = inl is
-came_posted client h k l (inr (j, f, lt, at, found)) = inr (j, posting_of f, lt, posting_at h j f at, found)
+came_posted client h k l (inr (j, f, lt, at, found)) = inr (j, delivery_of f, lt, posting_at h j f at, found)
 
 -- by entries
-pub entry_postal : (client : ℕ) (h : List Entry) → IsPostal client (map posting_of h) → IsPostalEntry client h
+pub entry_postal : (client : ℕ) (h : List Entry) → IsMessageRun client (map delivery_of h) → IsPostalEntry client h
 entry_postal client h p = record {
-  stamps = λ k e at. p.stamps k (posting_of e) (posting_at h k e at);
-  sent = λ k e at. came_entry client h k e.took (p.sent k (posting_of e) (posting_at h k e at));
-  once = λ j k e f lt a b. p.once j k (posting_of e) (posting_of f) lt (posting_at h j e a) (posting_at h k f b);
-  addressee = λ k e at. p.addressee k (posting_of e) (posting_at h k e at);
-  known = λ k e at. p.known k (posting_of e) (posting_at h k e at);
+  stamps = λ k e at. p.stamps k (delivery_of e) (posting_at h k e at);
+  sent = λ k e at. came_entry client h k e.took (p.sent k (delivery_of e) (posting_at h k e at));
+  once = λ j k e f lt a b. p.once j k (delivery_of e) (delivery_of f) lt (posting_at h j e a) (posting_at h k f b);
+  addressee = λ k e at. p.addressee k (delivery_of e) (posting_at h k e at);
+  known = λ k e at. p.known k (delivery_of e) (posting_at h k e at);
 }
 
-stamp_posted : (client : ℕ) (h : List Entry) → IsPostalEntry client h → (k : ℕ) (f : Posting) → slice_get (map posting_of h) k ≡ Some f
+stamp_posted : (client : ℕ) (h : List Entry) → IsPostalEntry client h → (k : ℕ) (f : Posting) → slice_get (map delivery_of h) k ≡ Some f
     → f.stamp.0 ≡ k + 1
 stamp_posted client h p k f at =
     let there = entry_at h k f at in
     subst (λ (x : Posting). x.stamp.0 ≡ k + 1) there.2 (p.stamps k there.0 there.1)
 
-sent_posted : (client : ℕ) (h : List Entry) → IsPostalEntry client h → (k : ℕ) (f : Posting) → slice_get (map posting_of h) k ≡ Some f
+sent_posted : (client : ℕ) (h : List Entry) → IsPostalEntry client h → (k : ℕ) (f : Posting) → slice_get (map delivery_of h) k ≡ Some f
     → CamePosted client h k f.took
 sent_posted client h p k f at =
     let there = entry_at h k f at in
     subst (λ (x : Posting). CamePosted client h k x.took) there.2 (came_posted client h k there.0.took (p.sent k there.0 there.1))
 
 once_posted : (client : ℕ) (h : List Entry) → IsPostalEntry client h → (j k : ℕ) (f g : Posting) → j < k
-    → slice_get (map posting_of h) j ≡ Some f → slice_get (map posting_of h) k ≡ Some g → f.took.id ≡ g.took.id → ⊥
+    → slice_get (map delivery_of h) j ≡ Some f → slice_get (map delivery_of h) k ≡ Some g → f.took.id ≡ g.took.id → ⊥
 once_posted client h p j k f g lt a b =
     let one = entry_at h j f a in
     let two = entry_at h k g b in
     subst (λ (x : Posting). x.took.id ≡ g.took.id → ⊥) one.2
     (subst (λ (x : Posting). one.0.took.id ≡ x.took.id → ⊥) two.2 (p.once j k one.0 two.0 lt one.1 two.1))
 
-ends_posted : (client : ℕ) (h : List Entry) → IsPostalEntry client h → (k : ℕ) (f : Posting) → slice_get (map posting_of h) k ≡ Some f
+ends_posted : (client : ℕ) (h : List Entry) → IsPostalEntry client h → (k : ℕ) (f : Posting) → slice_get (map delivery_of h) k ≡ Some f
     → (f.took.to.0 ≡ f.actor.0) × (f.actor.0 < client + 1)
 ends_posted client h p k f at =
     let there = entry_at h k f at in
     subst (λ (x : Posting). (x.took.to.0 ≡ x.actor.0) × (x.actor.0 < client + 1)) there.2 (p.addressee k there.0 there.1, p.known k there.0 there.1)
 
 -- by postings
-pub postal_of : (client : ℕ) (h : List Entry) → IsPostalEntry client h → IsPostal client (map posting_of h)
+pub postal_of : (client : ℕ) (h : List Entry) → IsPostalEntry client h → IsMessageRun client (map delivery_of h)
 postal_of client h p = record {
   stamps = λ k f at. stamp_posted client h p k f at;
   sent = λ k f at. sent_posted client h p k f at;
@@ -166,7 +166,7 @@ abbrev pub AreRunsOf : (ℕ → ActorData → Letter → Out ActorData) → Scri
 AreRunsOf big s h = (a : ℕ) → a < s.nodes + 2 → IsRunOf (big a) (start_actor s a) (own a h)
 
 pub rows_run : (big : ℕ → ActorData → Letter → Out ActorData) (row : ℕ → Node → Letter → Out Node) (s : ScriptData) (h : List Entry)
-    → IsTableOf s big row → IsPostal (client_of s) (map posting_of h) → AreRunsOf big s h → RowsRun row s h
+    → IsTableOf s big row → IsMessageRun (client_of s) (map delivery_of h) → AreRunsOf big s h → RowsRun row s h
 rows_run big row s h is postal actors = record {
   postal = entry_postal (client_of s) h postal;
   nodes = λ p lt.

@@ -35,7 +35,7 @@ use Rattle.script_parts.specs.declared.parts.TreeKind.TheVariants.{Update, Read,
 use Rattle.script_parts.proofs.SubsOf.{all_at, sub_nodes}
 use Rattle.world_model.specs.Updates.{touching}
 use Rattle.world_model.specs.Counts.{Each}
-use Rattle.world_model.specs.Runs.{AtClient, AtCoordinator, AtNode, IsStepRun, Moves, actor_in, after, client_in, coordinator_in, node_in, waiting}
+use Rattle.world_model.specs.Runs.{AtClient, AtCoordinator, AtNode, IsStepRun, Moves, actor_in, after, client_in, coordinator_in, node_in, in_flight}
 use Rattle.world_model.specs.Tables.{ActorData, NodeData, CoordinatorData, ClientData, actor_row, start_actor}
 use Rattle.world_model.specs.Taking.{IsAddressed, MOST_COUNTED}
 use Rattle.world_model.proofs.Actors.{Who, ANode, TheCoordinator, TheClient, coordinator_data_after, client_data_after, who}
@@ -184,7 +184,7 @@ entry_by s past e valid (AtClient at says) =
 
 -- each letter in flight is for one of the actors
 pub all_addressed : (s : ScriptData) (past : List Entry) → IsValid s → IsStepRun s past
-    → Each (λ (l : Letter). l.to.0 < s.nodes + 2) (waiting s past)
+    → Each (λ (l : Letter). l.to.0 < s.nodes + 2) (in_flight s past)
 all_addressed s [] valid run = (omega arith, tt)
 all_addressed s (e ∷ past) valid run =
     each_step (λ (l : Letter). l.to.0 < s.nodes + 2) s past e (all_addressed s past valid run.1)
@@ -192,9 +192,9 @@ all_addressed s (e ∷ past) valid run =
     (entry_by s past e valid run.0.moves))
 
 pub addressed : (s : ScriptData) (past : List Entry) (l : Letter) → IsValid s → IsStepRun s past
-    → find_id l.id (waiting s past) ≡ Some l → l.to.0 < s.nodes + 2
+    → find_id l.id (in_flight s past) ≡ Some l → l.to.0 < s.nodes + 2
 addressed s past l valid run at =
-    each_found (λ (x : Letter). x.to.0 < s.nodes + 2) l.id (waiting s past) l (all_addressed s past valid run) at
+    each_found (λ (x : Letter). x.to.0 < s.nodes + 2) l.id (in_flight s past) l (all_addressed s past valid run) at
 
 addressed_at : (s : ScriptData) (l : Letter) (d : ActorData) → l.to.0 < s.nodes → IsAddressed s l d
 addressed_at s l (NodeData st) lt = lt

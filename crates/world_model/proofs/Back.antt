@@ -12,7 +12,7 @@ use Rattle.script_parts.specs.ScriptData.{ScriptData, client_of}
 use Rattle.world_model.specs.Apt.{node_row}
 use Rattle.world_model.specs.Coordinator.{start_coordinator}
 use Rattle.world_model.specs.Tables.{NodeData, CoordinatorData, ClientData, start_node, client_table, coordinator_table}
-use Rattle.world_model.specs.Runs.{IsRunOf, after, actor_after, IsWorldRun, waiting, node_in, coordinator_in, client_in, actor_in, Says, Moves, AtNode, AtCoordinator, AtClient, MayFollow, IsStepRun}
+use Rattle.world_model.specs.Runs.{IsRunOf, after, actor_after, IsWorldRun, in_flight, node_in, coordinator_in, client_in, actor_in, Says, Moves, AtNode, AtCoordinator, AtClient, MayFollow, IsStepRun}
 use Rattle.world_model.specs.Counts.{tally, one_if}
 use Rattle.world_model.proofs.Bags.{tally-drop}
 use Rattle.world_model.proofs.Bridge.{reverse_more, own_more, node_after, coordinator_after, client_after}
@@ -74,18 +74,18 @@ go_only s l false is at = absurd (grind arith)
 
 -- what waits after an entry isn't what it took
 not_the_taken : (s : ScriptData) (past : List Entry) (e : Entry) (l : Letter) → IsStepRun s (e ∷ past)
-    → find_id l.id (waiting s (e ∷ past)) ≡ Some l → (b : Bool) → same_id l.id e.took.id ≡ b → same_id l.id e.took.id ≡ false
+    → find_id l.id (in_flight s (e ∷ past)) ≡ Some l → (b : Bool) → same_id l.id e.took.id ≡ b → same_id l.id e.took.id ≡ false
 not_the_taken s past e l run at false is = is
 not_the_taken s past e l run at true is =
-    let none : tally (of_id l.id) (waiting s (e ∷ past)) ≡ 0 = subst (λ (i : LetterId). tally (of_id i) (waiting s (e ∷ past)) ≡ 0) (sym (same_is l.id e.took.id is)) (gone_now s past e run).1 in
-    let one : of_id l.id l ≡ 1 = ap one_if (found_one l.id (waiting s (e ∷ past)) l at) in
-    absurd (omega (arith, tally-drop (of_id l.id) l.id (waiting s (e ∷ past)) l at))
+    let none : tally (of_id l.id) (in_flight s (e ∷ past)) ≡ 0 = subst (λ (i : LetterId). tally (of_id i) (in_flight s (e ∷ past)) ≡ 0) (sym (same_is l.id e.took.id is)) (gone_now s past e run).1 in
+    let one : of_id l.id l ≡ 1 = ap one_if (found_one l.id (in_flight s (e ∷ past)) l at) in
+    absurd (omega (arith, tally-drop (of_id l.id) l.id (in_flight s (e ∷ past)) l at))
 
-came : (s : ScriptData) (past : List Entry) (l : Letter) → IsStepRun s past → find_id l.id (waiting s past) ≡ Some l → Came s (reverse past) l
+came : (s : ScriptData) (past : List Entry) (l : Letter) → IsStepRun s past → find_id l.id (in_flight s past) ≡ Some l → Came s (reverse past) l
 came s [] l run at = inl (go_only s l (same_id l.id (go (client_of s)).id) refl at)
 came s (e ∷ past) l run at =
-    elim (find_either l.id (drop_id e.took.id (waiting s past)) (letters_of e) l at) [
-      | inl old ↦ came_more s e past l (came s past l run.1 (find_left_over l.id e.took.id (waiting s past) l old (not_the_taken s past e l run at (same_id l.id e.took.id) refl)))
+    elim (find_either l.id (drop_id e.took.id (in_flight s past)) (letters_of e) l at) [
+      | inl old ↦ came_more s e past l (came s past l run.1 (find_left_over l.id e.took.id (in_flight s past) l old (not_the_taken s past e l run at (same_id l.id e.took.id) refl)))
       | inr new ↦ came_new s e past l new
     ]
 
@@ -137,9 +137,9 @@ sent_before s (e ∷ past) k f run at =
 -- a letter that is found isn't gone
 gone_apart : (s : ScriptData) (past : List Entry) (id : LetterId) (e : Entry) → MayFollow s past e → Gone s past id → id ≢ e.took.id
 gone_apart s past id e m g = λ same.
-    let none : tally (of_id e.took.id) (waiting s past) ≡ 0 = subst (λ (i : LetterId). tally (of_id i) (waiting s past) ≡ 0) same g.1 in
+    let none : tally (of_id e.took.id) (in_flight s past) ≡ 0 = subst (λ (i : LetterId). tally (of_id i) (in_flight s past) ≡ 0) same g.1 in
     let one : of_id e.took.id e.took ≡ 1 = ap one_if (same_id-self e.took.id) in
-    omega (arith, tally-drop (of_id e.took.id) e.took.id (waiting s past) e.took m.waits)
+    omega (arith, tally-drop (of_id e.took.id) e.took.id (in_flight s past) e.took m.waits)
 
 once_by : (s : ScriptData) (past : List Entry) (e : Entry) (j k : ℕ) (f g : Entry) → IsStepRun s (e ∷ past) → j < k
     → ((j < length (reverse past)) × (slice_get (reverse past) j ≡ Some f)) ⊎ ((j ≡ length (reverse past)) × (e ≡ f))

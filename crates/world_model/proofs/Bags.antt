@@ -7,7 +7,7 @@ use Rattle.letter_types.specs.declared.entries.Outgoing.{Outgoing}
 use Rattle.letter_types.specs.declared.entries.Entry.{Entry}
 use Rattle.letter_types.specs.Letters.{same_id, find_id, drop_id, sealed, letters_of}
 use Rattle.script_parts.specs.ScriptData.{ScriptData}
-use Rattle.world_model.specs.Runs.{waiting, MayFollow}
+use Rattle.world_model.specs.Runs.{in_flight, MayFollow}
 use Rattle.world_model.specs.Counts.{tally, one_if}
 
 -- a test counts for one at most, and that of a number and itself for one
@@ -36,9 +36,9 @@ tally-drop f id (x ∷ xs) l here = tally-drop_at f id x xs l (same_id id x.id) 
 
 -- what an entry does to any sum over the letters in flight
 pub tally_step : (f : Letter → ℕ) (s : ScriptData) (past : List Entry) (e : Entry) → MayFollow s past e
-    → tally f (waiting s (e ∷ past)) + f e.took ≡ tally f (waiting s past) + tally f (letters_of e)
+    → tally f (in_flight s (e ∷ past)) + f e.took ≡ tally f (in_flight s past) + tally f (letters_of e)
 tally_step f s past e m =
-    omega (arith, tally-append f (drop_id e.took.id (waiting s past)) (letters_of e), tally-drop f e.took.id (waiting s past) e.took m.waits)
+    omega (arith, tally-append f (drop_id e.took.id (in_flight s past)) (letters_of e), tally-drop f e.took.id (in_flight s past) e.took m.waits)
 
 -- a sum over letters that looks at their ends and bodies alone is one over what was sent
 pub sealed_tally : (f : Letter → ℕ) (g : Outgoing → ℕ) (stamp actor place : ℕ) (os : List Outgoing)

@@ -10,7 +10,11 @@ use Rattle.letter_types.specs.declared.bodies.Body.TheVariants.{Go, Show, Decide
 use Rattle.letter_types.specs.declared.entries.Letter.{Letter}
 use Rattle.world_model.specs.Counts.{tally, one_if}
 use Rattle.script_parts.specs.ScriptData.{ScriptData}
-use Rattle.world_model.specs.Kept.{Why, ForShow, ForHolder, Called, Keeping, KeepingNode, KeptLetter, brought, is_called, is_called_for, first_called, kept_row, kept_without, wakes, wakes_by, with_called, without_called}
+use Rattle.letter_types.specs.declared.kept.KeptLetter.{KeptLetter}
+use Rattle.letter_types.specs.declared.kept.Why.{Why}
+use Rattle.letter_types.specs.Kept.{brought, is_called, is_called_for, first_called, kept_without, wakes, wakes_by, with_called, without_called}
+use Rattle.letter_types.specs.declared.kept.Why.TheVariants.{ForShow, ForHolder, Called}
+use Rattle.world_model.specs.Kept.{Keeping, KeepingNode, kept_row}
 use Rattle.world_model.proofs.Bags.{tally-append}
 use Rattle.world_model.proofs.Sends.{on}
 

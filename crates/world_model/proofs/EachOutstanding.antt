@@ -13,8 +13,12 @@ use Rattle.letter_types.specs.declared.entries.LetterId.{LetterId}
 use Rattle.script_parts.specs.ScriptData.{ScriptData}
 use Rattle.world_model.specs.Apt.{is_apt}
 use Rattle.world_model.specs.Counts.{tally, Each}
-use Rattle.world_model.specs.Kept.{Why, Called, KeptLetter, KeepingNode, Keeping, keeping_of, is_called_for, first_called, without_called, brought, kept_without, wakes_by, with_called, kept_row, brought_row, keeping_in, kept_in, kept_by, outstanding, done_of, done_by}
-use Rattle.world_model.specs.Runs.{waiting, IsStepRun, MayFollow}
+use Rattle.letter_types.specs.declared.kept.KeptLetter.{KeptLetter}
+use Rattle.letter_types.specs.declared.kept.Why.{Why}
+use Rattle.letter_types.specs.Kept.{is_called_for, first_called, without_called, brought, kept_without, wakes_by, with_called}
+use Rattle.letter_types.specs.declared.kept.Why.TheVariants.{Called}
+use Rattle.world_model.specs.Kept.{KeepingNode, Keeping, keeping_of, kept_row, brought_row, keeping_in, kept_in, kept_by, outstanding, done_of, done_by}
+use Rattle.world_model.specs.Runs.{in_flight, IsStepRun, MayFollow}
 use Rattle.world_model.proofs.Every.{each_append, each_step, each_taken}
 use Rattle.world_model.proofs.Outstanding.{IsOutstanding, keeping_elsewhere, keeping_here}
 
@@ -131,12 +135,12 @@ at_each P s past (suc n) all p lt =
 
 -- an outstanding letter is in flight, or a node keeps it
 pub each_waits : (P : Letter → Type 0) (s : ScriptData) (past : List Entry) → Each P (outstanding s past)
-    → Each P (waiting s past)
-each_waits P s past all = each_left P (waiting s past) (kept_by s past s.nodes) all
+    → Each P (in_flight s past)
+each_waits P s past all = each_left P (in_flight s past) (kept_by s past s.nodes) all
 
 each_kept : (P : Letter → Type 0) (s : ScriptData) (past : List Entry) → Each P (outstanding s past)
     → AtEach P s past s.nodes
-each_kept P s past all = at_each P s past s.nodes (each_right P (waiting s past) (kept_by s past s.nodes) all)
+each_kept P s past all = at_each P s past s.nodes (each_right P (in_flight s past) (kept_by s past s.nodes) all)
 
 node_at : (P : Letter → Type 0) (s : ScriptData) (past : List Entry) (e : Entry) (p : ℕ) → (e.actor.0 ≡ p) ⊎ (e.actor.0 ≢ p)
     → P e.took → EachKept P (kept_in s past p) → EachKept P (kept_in s (e ∷ past) p)
@@ -160,7 +164,7 @@ pub each_outstanding : (P : Letter → Type 0) (s : ScriptData) (past : List Ent
 each_outstanding P s past e m old new =
     let under = each_waits P s past old in
     let one = each_taken P s past e m under in
-    each_append P (waiting s (e ∷ past)) (kept_by s (e ∷ past) s.nodes) (each_step P s past e under new)
+    each_append P (in_flight s (e ∷ past)) (kept_by s (e ∷ past) s.nodes) (each_step P s past e under new)
     (from_each P s (e ∷ past) s.nodes (λ p lt. node_at P s past e p (cases_eq e.actor.0 p) one (each_kept P s past old p lt)))
 
 -- the letter that an entry does is one of them
@@ -209,9 +213,9 @@ done_to s past e run =
     (λ lt. kept_here s past e.actor.0 run.1) run.0.addressee
 
 -- at the start
-pub each_first : (P : Letter → Type 0) (s : ScriptData) → Each P (waiting s []) → Each P (outstanding s [])
+pub each_first : (P : Letter → Type 0) (s : ScriptData) → Each P (in_flight s []) → Each P (outstanding s [])
 each_first P s all =
-    each_append P (waiting s []) (kept_by s [] s.nodes) all (from_each P s [] s.nodes (λ p lt. tt))
+    each_append P (in_flight s []) (kept_by s [] s.nodes) all (from_each P s [] s.nodes (λ p lt. tt))
 
 -- so it is outstanding
 each_part : {X : Type 0} (f : X → ℕ) (n : ℕ) (xs : List X) → tally f xs ≤ n → Each (λ x. f x ≤ n) xs

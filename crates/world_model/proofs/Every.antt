@@ -8,7 +8,7 @@ use Rattle.letter_types.specs.declared.entries.Entry.{Entry}
 use Rattle.letter_types.specs.Letters.{same_id, find_id, drop_id, sealed, letters_of}
 use Rattle.script_parts.specs.ScriptData.{ScriptData}
 use Rattle.world_model.specs.Apt.{node_row}
-use Rattle.world_model.specs.Runs.{waiting, coordinator_in, node_in, Says, Moves, AtNode, AtCoordinator, AtClient, MayFollow}
+use Rattle.world_model.specs.Runs.{in_flight, coordinator_in, node_in, Says, Moves, AtNode, AtCoordinator, AtClient, MayFollow}
 use Rattle.world_model.specs.Counts.{tally, Each}
 
 pub each_append : {X : Type 0} (P : X → Type 0) (xs ys : List X) → Each P xs → Each P ys → Each P (xs ++ ys)
@@ -50,15 +50,15 @@ each_sealed P stamp actor place (o ∷ os) a =
     (a.0 (record { stamp = record { 0 = stamp }; place = place }), each_sealed P stamp actor (place + 1) os a.1)
 
 -- every letter in flight after an entry
-pub each_step : (P : Letter → Type 0) (s : ScriptData) (past : List Entry) (e : Entry) → Each P (waiting s past)
+pub each_step : (P : Letter → Type 0) (s : ScriptData) (past : List Entry) (e : Entry) → Each P (in_flight s past)
     → Each (λ o. (i : LetterId) → P (record { id = i; from = record { 0 = e.actor.0 }; to = o.to; body = o.body })) e.sent
-    → Each P (waiting s (e ∷ past))
+    → Each P (in_flight s (e ∷ past))
 each_step P s past e old new =
-    each_append P (drop_id e.took.id (waiting s past)) (letters_of e) (each_drop P e.took.id (waiting s past) old) (each_sealed P e.stamp.0 e.actor.0 0 e.sent new)
+    each_append P (drop_id e.took.id (in_flight s past)) (letters_of e) (each_drop P e.took.id (in_flight s past) old) (each_sealed P e.stamp.0 e.actor.0 0 e.sent new)
 
-pub each_taken : (P : Letter → Type 0) (s : ScriptData) (past : List Entry) (e : Entry) → MayFollow s past e → Each P (waiting s past)
+pub each_taken : (P : Letter → Type 0) (s : ScriptData) (past : List Entry) (e : Entry) → MayFollow s past e → Each P (in_flight s past)
     → P e.took
-each_taken P s past e m all = each_found P e.took.id (waiting s past) e.took all m.waits
+each_taken P s past e m all = each_found P e.took.id (in_flight s past) e.took all m.waits
 
 -- how a node's state goes on
 pub data NodeNext (s : ScriptData) (past : List Entry) (e : Entry) (p : ℕ) : Type 0 where
@@ -97,8 +97,8 @@ each_both P Q [] a b = tt
 each_both P Q (x ∷ xs) a b = ((a.0, b.0), each_both P Q xs a.1 b.1)
 
 -- every letter in flight after an entry, from what is left without the letter taken
-pub each_left : (P : Letter → Type 0) (s : ScriptData) (past : List Entry) (e : Entry) → Each P (drop_id e.took.id (waiting s past))
+pub each_left : (P : Letter → Type 0) (s : ScriptData) (past : List Entry) (e : Entry) → Each P (drop_id e.took.id (in_flight s past))
     → Each (λ o. (i : LetterId) → P (record { id = i; from = record { 0 = e.actor.0 }; to = o.to; body = o.body })) e.sent
-    → Each P (waiting s (e ∷ past))
+    → Each P (in_flight s (e ∷ past))
 each_left P s past e old new =
-    each_append P (drop_id e.took.id (waiting s past)) (letters_of e) old (each_sealed P e.stamp.0 e.actor.0 0 e.sent new)
+    each_append P (drop_id e.took.id (in_flight s past)) (letters_of e) old (each_sealed P e.stamp.0 e.actor.0 0 e.sent new)

@@ -18,7 +18,7 @@ use Rattle.world_model.specs.Node.{Node}
 use Rattle.world_model.specs.Client.{Client, submit, submitted, rows_letters}
 use Rattle.world_model.specs.Counts.{tally}
 use Rattle.world_model.specs.Kept.{outstanding, of_done}
-use Rattle.world_model.specs.Runs.{client_in, node_in, waiting, MayFollow}
+use Rattle.world_model.specs.Runs.{client_in, node_in, in_flight, MayFollow}
 use Rattle.world_model.proofs.Bags.{tally-append, tally_step, sealed_tally}
 use Rattle.world_model.proofs.Every.{node_kept}
 use Rattle.world_model.proofs.Nexts.{Made}
@@ -27,8 +27,8 @@ use Rattle.world_model.proofs.Sends.{on, roots_none}
 
 -- what an entry does to a number of bodies
 pub flow : (f : Body → ℕ) (s : ScriptData) (past : List Entry) (e : Entry) → MayFollow s past e
-    → tally (λ (l : Letter). f l.body) (waiting s (e ∷ past)) + f e.took.body
-    ≡ tally (λ (l : Letter). f l.body) (waiting s past) + tally (on f) e.sent
+    → tally (λ (l : Letter). f l.body) (in_flight s (e ∷ past)) + f e.took.body
+    ≡ tally (λ (l : Letter). f l.body) (in_flight s past) + tally (on f) e.sent
 flow f s past e m =
     omega (arith, tally_step (λ (l : Letter). f l.body) s past e m, sealed_tally (λ (l : Letter). f l.body) (on f) e.stamp.0 e.actor.0 0 e.sent (λ i o. refl))
 
@@ -46,7 +46,7 @@ outstanding_flow f s past e none m =
 
 -- a number of bodies that an entry neither takes nor sends
 pub flow_same : (f : Body → ℕ) (s : ScriptData) (past : List Entry) (e : Entry) → MayFollow s past e → f e.took.body ≡ 0
-    → tally (on f) e.sent ≡ 0 → tally (λ (l : Letter). f l.body) (waiting s (e ∷ past)) ≡ tally (λ (l : Letter). f l.body) (waiting s past)
+    → tally (on f) e.sent ≡ 0 → tally (λ (l : Letter). f l.body) (in_flight s (e ∷ past)) ≡ tally (λ (l : Letter). f l.body) (in_flight s past)
 flow_same f s past e m took sent = omega (arith, flow f s past e m, took, sent)
 
 -- What stays at each node where one node goes on.

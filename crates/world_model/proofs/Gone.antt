@@ -9,7 +9,7 @@ use Rattle.letter_types.specs.declared.entries.Outgoing.{Outgoing}
 use Rattle.letter_types.specs.declared.entries.Entry.{Entry}
 use Rattle.letter_types.specs.Letters.{go, same_id, find_id, sealed}
 use Rattle.script_parts.specs.ScriptData.{ScriptData, client_of}
-use Rattle.world_model.specs.Runs.{waiting, IsStepRun}
+use Rattle.world_model.specs.Runs.{in_flight, IsStepRun}
 use Rattle.world_model.specs.Counts.{tally, one_if}
 use Rattle.world_model.proofs.Bags.{tally_step, tally-drop, one_if_most}
 use Rattle.world_model.proofs.Bridge.{reverse_more}
@@ -62,14 +62,14 @@ at_most_one id stamp actor place (o ∷ os) =
     one_more id stamp actor place o os (id.place == place) refl (at_most_one id stamp actor (place + 1) os)
 
 none_later : (s : ScriptData) (past : List Entry) (id : LetterId) → IsStepRun s past → length past < id.stamp.0
-    → tally (of_id id) (waiting s past) ≡ 0
+    → tally (of_id id) (in_flight s past) ≡ 0
 none_later s [] id run lt = omega (arith, apart_stamp id 0 0 (omega arith))
 none_later s (e ∷ past) id run lt =
     let is : e.stamp.0 ≡ length past + 1 = run.0.stamp in
     omega (arith, tally_step (of_id id) s past e run.0, none_later s past id run.1 (omega arith), other_stamp id e.stamp.0 e.actor.0 0 e.sent (omega arith))
 
-unique_by : (s : ScriptData) (past : List Entry) (e : Entry) (id : LetterId) → IsStepRun s (e ∷ past) → tally (of_id id) (waiting s past) ≤ 1
-    → (b : Bool) → (id.stamp.0 == e.stamp.0) ≡ b → tally (of_id id) (waiting s (e ∷ past)) ≤ 1
+unique_by : (s : ScriptData) (past : List Entry) (e : Entry) (id : LetterId) → IsStepRun s (e ∷ past) → tally (of_id id) (in_flight s past) ≤ 1
+    → (b : Bool) → (id.stamp.0 == e.stamp.0) ≡ b → tally (of_id id) (in_flight s (e ∷ past)) ≤ 1
 unique_by s past e id run ih true is =
     let eq : id.stamp.0 ≡ e.stamp.0 = grind (arith, nat_tests) in
     let at : e.stamp.0 ≡ length past + 1 = run.0.stamp in
@@ -78,7 +78,7 @@ unique_by s past e id run ih false is =
     let ne : id.stamp.0 ≢ e.stamp.0 = grind (arith, nat_tests) in
     omega (arith, tally_step (of_id id) s past e run.0, other_stamp id e.stamp.0 e.actor.0 0 e.sent ne)
 
-pub unique : (s : ScriptData) (past : List Entry) (id : LetterId) → IsStepRun s past → tally (of_id id) (waiting s past) ≤ 1
+pub unique : (s : ScriptData) (past : List Entry) (id : LetterId) → IsStepRun s past → tally (of_id id) (in_flight s past) ≤ 1
 unique s [] id run = omega (arith, one_if_most (same_id id (go (client_of s)).id))
 unique s (e ∷ past) id run = unique_by s past e id run (unique s past id run.1) (id.stamp.0 == e.stamp.0) refl
 
@@ -94,23 +94,23 @@ found_one id (x ∷ xs) l at = found_one_at id x xs l (same_id id x.id) refl at 
 pub under_or : (a b : ℕ) → (a ≤ b) ⊎ (b < a)
 under_or a b = grind arith
 
-not_later_by : (s : ScriptData) (past : List Entry) (id : LetterId) → IsStepRun s past → 1 ≤ tally (of_id id) (waiting s past)
+not_later_by : (s : ScriptData) (past : List Entry) (id : LetterId) → IsStepRun s past → 1 ≤ tally (of_id id) (in_flight s past)
     → (id.stamp.0 ≤ length past) ⊎ (length past < id.stamp.0) → id.stamp.0 ≤ length past
 not_later_by s past id run some (inl le) = le
 not_later_by s past id run some (inr lt) = absurd (omega (arith, none_later s past id run lt))
 
-not_later : (s : ScriptData) (past : List Entry) (id : LetterId) → IsStepRun s past → 1 ≤ tally (of_id id) (waiting s past)
+not_later : (s : ScriptData) (past : List Entry) (id : LetterId) → IsStepRun s past → 1 ≤ tally (of_id id) (in_flight s past)
     → id.stamp.0 ≤ length past
 not_later s past id run some = not_later_by s past id run some (under_or id.stamp.0 (length past))
 
 -- what was taken is older than the last entry and in flight no more
 abbrev pub Gone : ScriptData → List Entry → LetterId → Type 0
-Gone s past id = (id.stamp.0 ≤ length past) × (tally (of_id id) (waiting s past) ≡ 0)
+Gone s past id = (id.stamp.0 ≤ length past) × (tally (of_id id) (in_flight s past) ≡ 0)
 
 pub gone_now : (s : ScriptData) (past : List Entry) (e : Entry) → IsStepRun s (e ∷ past) → Gone s (e ∷ past) e.took.id
 gone_now s past e run =
-    let here : of_id e.took.id e.took ≡ 1 = ap one_if (found_one e.took.id (waiting s past) e.took run.0.waits) in
-    let drop = tally-drop (of_id e.took.id) e.took.id (waiting s past) e.took run.0.waits in
+    let here : of_id e.took.id e.took ≡ 1 = ap one_if (found_one e.took.id (in_flight s past) e.took run.0.waits) in
+    let drop = tally-drop (of_id e.took.id) e.took.id (in_flight s past) e.took run.0.waits in
     let old : e.took.id.stamp.0 ≤ length past = not_later s past e.took.id run.1 (omega arith) in
     let is : e.stamp.0 ≡ length past + 1 = run.0.stamp in
     (omega arith, omega (arith, tally_step (of_id e.took.id) s past e run.0, unique s past e.took.id run.1, other_stamp e.took.id e.stamp.0 e.actor.0 0 e.sent (omega arith)))

@@ -23,3 +23,4 @@ pub mod Requests
 pub mod Apts
 pub mod SmallCounts
 pub mod Addressees
+pub mod Plain

@@ -10,9 +10,11 @@ use Rattle.letter_types.specs.declared.entries.Letter.{Letter}
 use Rattle.letter_types.specs.Steps.{Out, still}
 use Rattle.script_parts.specs.ScriptData.{ScriptData}
 use Rattle.world_model.specs.Apt.{is_apt, node_row, row}
-use Rattle.world_model.specs.Kept.{KeptLetter, KeepingNode, brought, kept_without, wakes, wakes_by, with_called, kept_row, brought_row, keeping_row, keeping_in, kept_in, kept_by, outstanding, done_of, done_by, stays_of, keeps_letter, none_if, of_done}
+use Rattle.letter_types.specs.declared.kept.KeptLetter.{KeptLetter}
+use Rattle.letter_types.specs.Kept.{brought, kept_without, wakes, wakes_by, with_called}
+use Rattle.world_model.specs.Kept.{KeepingNode, kept_row, brought_row, keeping_row, keeping_in, kept_in, kept_by, outstanding, done_of, done_by, stays_of, keeps_letter, none_if, of_done}
 use Rattle.world_model.specs.Node.{Node}
-use Rattle.world_model.specs.Runs.{waiting, node_in}
+use Rattle.world_model.specs.Runs.{in_flight, node_in}
 
 -- a node that keeps nothing, and what comes of a letter there
 abbrev bare : Node → KeepingNode
@@ -74,9 +76,9 @@ kept_none s past (suc n) =
     ∙ ap (λ (m : KeepingNode). map (λ (x : KeptLetter). x.letter) m.kept) (keeping_is s past n)
 
 -- what has still to be done is in flight
-pub outstanding_is : (s : ScriptData) (past : List Entry) → outstanding s past ≡ waiting s past
+pub outstanding_is : (s : ScriptData) (past : List Entry) → outstanding s past ≡ in_flight s past
 outstanding_is s past =
-    ap (λ (ls : List Letter). waiting s past ++ ls) (kept_none s past s.nodes) ∙ append-nil (waiting s past)
+    ap (λ (ls : List Letter). in_flight s past ++ ls) (kept_none s past s.nodes) ∙ append-nil (in_flight s past)
 
 -- the letter that an entry does is the one that it took
 bare_done : (s : ScriptData) (p : ℕ) (st : Node) (l : Letter) (b : Body) → done_of s p st l (brought [] l b) ≡ l

@@ -13,8 +13,12 @@ use Rattle.letter_types.specs.Letters.{letters_of}
 use Rattle.script_parts.specs.ScriptData.{ScriptData}
 use Rattle.world_model.specs.Apt.{is_apt}
 use Rattle.world_model.specs.Counts.{tally}
-use Rattle.world_model.specs.Kept.{Why, Called, KeptLetter, KeepingNode, Keeping, keeping_of, is_called_for, first_called, without_called, brought, kept_without, wakes_by, with_called, kept_row, brought_row, keeping_row, keeping_in, kept_in, kept_by, outstanding, done_of, done_by, stays_of, keeps_letter, none_if, of_done}
-use Rattle.world_model.specs.Runs.{waiting, MayFollow}
+use Rattle.letter_types.specs.declared.kept.KeptLetter.{KeptLetter}
+use Rattle.letter_types.specs.declared.kept.Why.{Why}
+use Rattle.letter_types.specs.Kept.{is_called_for, first_called, without_called, brought, kept_without, wakes_by, with_called}
+use Rattle.letter_types.specs.declared.kept.Why.TheVariants.{Called}
+use Rattle.world_model.specs.Kept.{KeepingNode, Keeping, keeping_of, kept_row, brought_row, keeping_row, keeping_in, kept_in, kept_by, outstanding, done_of, done_by, stays_of, keeps_letter, none_if, of_done}
+use Rattle.world_model.specs.Runs.{in_flight, MayFollow}
 use Rattle.world_model.proofs.Bags.{tally-append, tally-drop, tally_step}
 
 -- a number that counts no Wake
@@ -184,8 +188,8 @@ outstanding_step f s past e none m =
       arith,
       tally_step f s past e m,
       kept_balances f s past e none (nat_lt e.actor.0 s.nodes) refl,
-      tally-append f (waiting s (e ∷ past)) (kept_by s (e ∷ past) s.nodes),
-      tally-append f (waiting s past) (kept_by s past s.nodes),
+      tally-append f (in_flight s (e ∷ past)) (kept_by s (e ∷ past) s.nodes),
+      tally-append f (in_flight s past) (kept_by s past s.nodes),
     )
 
 -- a letter is outstanding: each number counts it
@@ -197,8 +201,8 @@ pub took_outstanding : (s : ScriptData) (past : List Entry) (e : Entry) → MayF
 took_outstanding s past e m f =
     omega (
       arith,
-      tally-drop f e.took.id (waiting s past) e.took m.waits,
-      tally-append f (waiting s past) (kept_by s past s.nodes),
+      tally-drop f e.took.id (in_flight s past) e.took m.waits,
+      tally-append f (in_flight s past) (kept_by s past s.nodes),
     )
 
 -- The start, and entries of the coordinator and the client.
@@ -208,9 +212,9 @@ pub kept_first : (s : ScriptData) (n : ℕ) → kept_by s [] n ≡ []
 kept_first s zero = refl
 kept_first s (suc n) = ap (λ (ls : List Letter). ls ++ []) (kept_first s n)
 
-pub outstanding_first : (f : Letter → ℕ) (s : ScriptData) → tally f (outstanding s []) ≡ tally f (waiting s [])
+pub outstanding_first : (f : Letter → ℕ) (s : ScriptData) → tally f (outstanding s []) ≡ tally f (in_flight s [])
 outstanding_first f s =
-    omega (arith, tally-append f (waiting s []) (kept_by s [] s.nodes), ap (λ (ls : List Letter). tally f ls) (kept_first s s.nodes))
+    omega (arith, tally-append f (in_flight s []) (kept_by s [] s.nodes), ap (λ (ls : List Letter). tally f ls) (kept_first s s.nodes))
 
 -- an entry of another actor than a node does the letter that it took
 pub done_apart : (f : Letter → ℕ) (s : ScriptData) (past : List Entry) (e : Entry) → s.nodes ≤ e.actor.0

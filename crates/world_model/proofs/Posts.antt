@@ -17,7 +17,7 @@ use Rattle.world_model.specs.Node.{Node}
 use Rattle.world_model.specs.Apt.{node_row}
 use Rattle.world_model.specs.Coordinator.{start_coordinator}
 use Rattle.world_model.specs.Tables.{start_node, client_table, coordinator_table}
-use Rattle.world_model.specs.Runs.{IsRunOf, after, IsWorldRun, waiting, node_in, coordinator_in, client_in, Says, Moves, AtNode, AtCoordinator, AtClient, MayFollow, IsStepRun}
+use Rattle.world_model.specs.Runs.{IsRunOf, after, IsWorldRun, in_flight, node_in, coordinator_in, client_in, Says, Moves, AtNode, AtCoordinator, AtClient, MayFollow, IsStepRun}
 use Rattle.world_model.proofs.Gone.{apart_from, same_is}
 use Rattle.world_model.proofs.Bridge.{reverse_more, postal_less, run_less, node_after, coordinator_after, client_after}
 use Rattle.world_model.proofs.Actors.{IsPostalEntry, RowsRun, IsTableRun, table_run}
@@ -82,15 +82,15 @@ sealed_stamp id stamp actor place os l at = sealed_stamp_at id stamp actor place
 
 -- a letter in flight is no newer than the last entry
 none_newer : (s : ScriptData) (past : List Entry) (id : LetterId) → IsStepRun s past → length past < id.stamp.0
-    → find_id id (waiting s past) ≡ None
+    → find_id id (in_flight s past) ≡ None
 none_newer s [] id run lt =
     let no : same_id id (go (client_of s)).id ≡ false = grind (arith, nat_tests) in
     rw no refl
 none_newer s (e ∷ past) id run lt =
-    let old = none_dropped id e.took.id (waiting s past) (none_newer s past id run.1 (omega arith)) in
+    let old = none_dropped id e.took.id (in_flight s past) (none_newer s past id run.1 (omega arith)) in
     let is : e.stamp.0 ≡ length past + 1 = run.0.stamp in
     let new = none_sealed id e.stamp.0 e.actor.0 0 e.sent (omega arith) in
-    find_right id (drop_id e.took.id (waiting s past)) (letters_of e) old ∙ new
+    find_right id (drop_id e.took.id (in_flight s past)) (letters_of e) old ∙ new
 
 -- sent by an entry of these, or Go
 abbrev pub SentIn : ScriptData → List Entry → Letter → Type 0
@@ -103,16 +103,16 @@ NotTaken [] id = Unit {0}
 NotTaken (e ∷ past) id = (same_id id e.took.id ≡ false) × NotTaken past id
 
 present : (s : ScriptData) (past : List Entry) (l : Letter) → IsStepRun s past → SentIn s past l → NotTaken past l.id
-    → find_id l.id (waiting s past) ≡ Some l
+    → find_id l.id (in_flight s past) ≡ Some l
 present s [] l run sent free = subst (λ (m : Letter). find_id m.id (go (client_of s) ∷ []) ≡ Some m) (sym sent) refl
 present s (e ∷ past) l run (inl here) free =
     let stamp : l.id.stamp.0 ≡ e.stamp.0 = sealed_stamp l.id e.stamp.0 e.actor.0 0 e.sent l here in
     let is : e.stamp.0 ≡ length past + 1 = run.0.stamp in
-    let old = none_dropped l.id e.took.id (waiting s past) (none_newer s past l.id run.1 (omega arith)) in
-    find_right l.id (drop_id e.took.id (waiting s past)) (letters_of e) old ∙ here
+    let old = none_dropped l.id e.took.id (in_flight s past) (none_newer s past l.id run.1 (omega arith)) in
+    find_right l.id (drop_id e.took.id (in_flight s past)) (letters_of e) old ∙ here
 present s (e ∷ past) l run (inr older) free =
-    find_left l.id (drop_id e.took.id (waiting s past)) (letters_of e) l
-    (find_dropped l.id e.took.id (waiting s past) free.0 ∙ present s past l run.1 older free.1)
+    find_left l.id (drop_id e.took.id (in_flight s past)) (letters_of e) l
+    (find_dropped l.id e.took.id (in_flight s past) free.0 ∙ present s past l run.1 older free.1)
 
 go_sent : (s : ScriptData) (past : List Entry) → SentIn s past (go (client_of s))
 go_sent s [] = refl
@@ -175,7 +175,7 @@ who a n lt = grind arith
 
 -- the letter that the last entry took was in flight
 pub waits_of : (s : ScriptData) (e : Entry) (past : List Entry) → IsStepRun s past → IsPostalEntry (client_of s) (reverse (e ∷ past))
-    → find_id e.took.id (waiting s past) ≡ Some e.took
+    → find_id e.took.id (in_flight s past) ≡ Some e.took
 waits_of s e past run postal =
     let last : slice_get (reverse past ++ e ∷ []) (length (reverse past)) ≡ Some e = slice_get_last (reverse past) e in
     let post = rw (reverse_more e past) at postal in

@@ -4,7 +4,7 @@ use Rattle.std.specs.Prelude.{pos}
 use Rattle.commute_ops.specs.declared.value.Value.TheVariants.{Sum}
 use Rattle.item_versions.specs.Item.{Held}
 use Rattle.item_versions.specs.Table.{item_in}
-use Rattle.world_model.specs.Runs.{waiting, node_in, client_in}
+use Rattle.world_model.specs.Runs.{in_flight, node_in, client_in}
 use Rattle.world_model.specs.Sample.{sample, small, with_read}
 
 -- two sums, of versions 0 and 1
@@ -14,7 +14,7 @@ two_sums a b = (record { 0 = 0 }, Sum (record { 0 = a })) ∷ (record { 0 = 1 },
 pub entries : length (sample small 10) ≡ 6
 entries = refl
 
-pub all_taken : waiting small (sample small 10) ≡ []
+pub all_taken : in_flight small (sample small 10) ≡ []
 all_taken = refl
 
 pub first_item : item_in (record { 0 = 0 }) (node_in small (sample small 10) 0).items ≡ Some (two_sums (pos 10) (pos 15))
@@ -27,7 +27,7 @@ second_item = refl
 pub more_entries : length (sample with_read 20) ≡ 11
 more_entries = refl
 
-pub all_taken_too : waiting with_read (sample with_read 20) ≡ []
+pub all_taken_too : in_flight with_read (sample with_read 20) ≡ []
 all_taken_too = refl
 
 pub finished : (client_in with_read (sample with_read 20)).finished ≡ true

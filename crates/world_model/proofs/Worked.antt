@@ -14,7 +14,8 @@ use Rattle.letter_types.specs.declared.entries.Letter.{Letter}
 use Rattle.script_parts.specs.ScriptData.{ScriptData, home_of, node_of}
 use Rattle.world_model.specs.Done.{root_done, sub_done, turned_if}
 use Rattle.world_model.specs.Apt.{is_apt}
-use Rattle.world_model.specs.Kept.{brought, done_by, done_of, keeping_in, kept_in, of_done}
+use Rattle.letter_types.specs.Kept.{brought}
+use Rattle.world_model.specs.Kept.{done_by, done_of, keeping_in, kept_in, of_done}
 use Rattle.world_model.specs.Node.{Effect, Node}
 use Rattle.world_model.proofs.NothingKept.{done_is, keeps_none}
 use Rattle.world_model.specs.Notices.{act_of, values_of}

@@ -1,9 +1,10 @@
 -- A subtransaction is done: what its node keeps, sends and acts, whatever kind of tree it is of. What its operations
 -- make of the items, and the values of its gets, are given.
-use Rattle.std.specs.Prelude.{ℕ, Bool, if◌then◌else◌, List, [], ◌∷◌, ◌++◌, length}
+use Rattle.std.specs.Prelude.{ℕ, Bool, if◌then◌else◌, List, [], ◌∷◌, ◌++◌, length, Option}
 use Rattle.node_versions.specs.declared.turns.Turns.{Turns}
 use Rattle.pair_counters.specs.Numbers.{Numbers, asked_one, asked_all, done_one}
 use Rattle.tree_home.specs.Homes.{Gets, begun}
+use Rattle.tree_home.specs.declared.homes.Answered.{Answered}
 use Rattle.letter_types.specs.declared.bodies.Notice.{Notice}
 use Rattle.script_parts.specs.ScriptData.{ScriptData, client_of, subs_at, home_of}
 use Rattle.letter_types.specs.declared.acts.Act.{Act}
@@ -22,19 +23,38 @@ counted_root v p children n = done_one v p (asked_all v (addressees children) (a
 abbrev pub counted_sub : ℕ → ℕ → List Outgoing → Numbers → Numbers
 counted_sub v q letters n = done_one v q (asked_all v (addressees letters) n)
 
+-- what comes of a tree's letter at a node: what goes out before the tree is answered, and its answer, where its home
+-- misses no notice any more
+pub record TreeOut : Type 0 where
+  pub out : Out Node
+  pub answered : Option Answered
+
+-- the client is answered
+abbrev pub replied : ScriptData → TreeOut → Out Node
+replied s o = record {
+  state = o.out.state;
+  sent = o.out.sent ++ reply_letters (client_of s) o.answered;
+  acts = o.out.acts;
+}
+
 -- the root of tree t at node p in version v, with this effect, where its home has begun the tree: its children are
 -- asked for, and its home takes down its notice
-abbrev pub root_noted : ScriptData → ℕ → ℕ → ℕ → Effect → Node → Out Node
-root_noted s p t v e st = record {
-  state = record st {
-    items = e.items;
-    counts = counted_root v p (sub_letters t v 0 0 (subs_at s t)) st.counts;
-    homes = homes_noted (record { 0 = t }) (record { 0 = 0 }) (values_of e.notice) st.homes;
+abbrev pub root_part : ScriptData → ℕ → ℕ → ℕ → Effect → Node → TreeOut
+root_part s p t v e st = record {
+  out = record {
+    state = record st {
+      items = e.items;
+      counts = counted_root v p (sub_letters t v 0 0 (subs_at s t)) st.counts;
+      homes = homes_noted (record { 0 = t }) (record { 0 = 0 }) (values_of e.notice) st.homes;
+    };
+    sent = sub_letters t v 0 0 (subs_at s t);
+    acts = Born (record { 0 = t }) (record { 0 = v }) ∷ act_of (record { 0 = t }) (record { 0 = 0 }) e.notice ∷ [];
   };
-  sent = sub_letters t v 0 0 (subs_at s t)
-      ++ reply_letters (client_of s) (answer_noted (record { 0 = t }) (record { 0 = 0 }) (values_of e.notice) st.homes);
-  acts = Born (record { 0 = t }) (record { 0 = v }) ∷ act_of (record { 0 = t }) (record { 0 = 0 }) e.notice ∷ [];
+  answered = answer_noted (record { 0 = t }) (record { 0 = 0 }) (values_of e.notice) st.homes;
 }
+
+abbrev pub root_noted : ScriptData → ℕ → ℕ → ℕ → Effect → Node → Out Node
+root_noted s p t v e st = replied s (root_part s p t v e st)
 
 -- a tree of so many subtransactions has begun at its home
 abbrev pub with_open_tree : ℕ → ℕ → ℕ → Node → Node
@@ -67,14 +87,20 @@ sub_done s q t k v raises e st = record {
   acts = turned_if raises v ++ act_of (record { 0 = t }) (record { 0 = k }) e.notice ∷ [];
 }
 
--- a tree's home takes a notice from node q: it counts the completion, and answers the client if none is missing any
--- more
-abbrev pub note_done : ScriptData → ℕ → ℕ → ℕ → ℕ → Gets → Node → Out Node
-note_done s q t k v values st = record {
-  state = record st {
-    counts = done_one v q st.counts;
-    homes = homes_noted (record { 0 = t }) (record { 0 = k }) values st.homes;
+-- a tree's home takes a notice from node q, and counts the completion
+abbrev pub note_part : ℕ → ℕ → ℕ → ℕ → Gets → Node → TreeOut
+note_part q t k v values st = record {
+  out = record {
+    state = record st {
+      counts = done_one v q st.counts;
+      homes = homes_noted (record { 0 = t }) (record { 0 = k }) values st.homes;
+    };
+    sent = [];
+    acts = [];
   };
-  sent = reply_letters (client_of s) (answer_noted (record { 0 = t }) (record { 0 = k }) values st.homes);
-  acts = [];
+  answered = answer_noted (record { 0 = t }) (record { 0 = k }) values st.homes;
 }
+
+-- the same, and the client is answered if no notice is missing any more
+abbrev pub note_done : ScriptData → ℕ → ℕ → ℕ → ℕ → Gets → Node → Out Node
+note_done s q t k v values st = replied s (note_part q t k v values st)

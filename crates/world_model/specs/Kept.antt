@@ -1,34 +1,20 @@
 -- The letters that a node keeps: a letter that can't be done yet stays with its addressee, until a Wake calls it. No
 -- script that is run has such a letter, so nothing is kept yet.
-use Rattle.std.specs.Prelude.{if◌then◌else◌, ℕ, zero, suc, Bool, true, false, ◌==◌, ◌&&◌, nat_lt, List, [], ◌∷◌, ◌++◌, map, Option, Some, None, is_some}
+use Rattle.std.specs.Prelude.{if◌then◌else◌, ℕ, zero, suc, Bool, false, ◌==◌, ◌&&◌, nat_lt, List, [], ◌∷◌, ◌++◌, map, Option, Some, None, is_some}
 use Rattle.tv_base.specs.declared.numbers.SubNo.{SubNo}
 use Rattle.tv_base.specs.declared.numbers.TreeNo.{TreeNo}
 use Rattle.letter_types.specs.declared.acts.Act.{Act}
-use Rattle.letter_types.specs.declared.bodies.Body.{Body}
-use Rattle.letter_types.specs.declared.bodies.Body.TheVariants.{Show, Decide, Wake}
 use Rattle.letter_types.specs.declared.entries.Entry.{Entry}
 use Rattle.letter_types.specs.declared.entries.Letter.{Letter}
-use Rattle.letter_types.specs.declared.entries.Outgoing.{Outgoing}
+use Rattle.letter_types.specs.declared.kept.KeptLetter.{KeptLetter}
+use Rattle.letter_types.specs.declared.kept.Why.{Why}
+use Rattle.letter_types.specs.Kept.{brought, kept_without, wakes, wakes_by, with_called}
 use Rattle.letter_types.specs.Steps.{Out, still}
 use Rattle.script_parts.specs.ScriptData.{ScriptData}
 use Rattle.world_model.specs.Apt.{is_apt, row}
 use Rattle.world_model.specs.Node.{Node}
-use Rattle.world_model.specs.Runs.{waiting}
+use Rattle.world_model.specs.Runs.{in_flight}
 use Rattle.world_model.specs.Tables.{start_node}
-
--- why a letter is kept: until its node shows a version, until a tree lets go of its locks there, or until its Wake
--- comes, which is in flight
-pub data Why : Type 0 where
-  ForShow : Why
-  ForHolder : TreeNo → Why
-  Called : Why
-
--- a letter that asks for subtransaction `sub` of tree `tree`, and why it is kept
-pub record KeptLetter : Type 0 where
-  pub letter : Letter
-  pub tree : TreeNo
-  pub sub : SubNo
-  pub why : Why
 
 -- a node as its core, which does what letters ask for, and the letters that it keeps, in the order in which it kept
 -- them
@@ -47,50 +33,6 @@ pub record Keeping : Type 0 where
 -- whether node p keeps an apt letter, and what its core makes of that
 abbrev pub keeping_of : ScriptData → ℕ → Node → Letter → Option Keeping
 keeping_of s p st l = None
-
--- a kept letter of this subtransaction whose Wake is in flight
-abbrev pub is_called : Why → Bool
-is_called Called = true
-is_called ForShow = false
-is_called (ForHolder h) = false
-
-abbrev pub is_called_for : TreeNo → SubNo → KeptLetter → Bool
-is_called_for t k x = is_called x.why && ((x.tree.0 == t.0) && (x.sub.0 == k.0))
-
--- the first of them, and the letters without it
-abbrev pub first_called : TreeNo → SubNo → List KeptLetter → Option Letter
-first_called t k [] = None
-first_called t k (x ∷ xs) = if is_called_for t k x then Some x.letter else first_called t k xs
-
-abbrev pub without_called : TreeNo → SubNo → List KeptLetter → List KeptLetter
-without_called t k [] = []
-without_called t k (x ∷ xs) = if is_called_for t k x then xs else x ∷ without_called t k xs
-
--- the letter that a letter of this body brings to its node: a Wake calls a kept one, any other is itself
-abbrev pub brought : List KeptLetter → Letter → Body → Option Letter
-brought kept l (Wake t k) = first_called t k kept
-brought kept l _ = Some l
-
--- what stays kept meanwhile
-abbrev pub kept_without : List KeptLetter → Body → List KeptLetter
-kept_without kept (Wake t k) = without_called t k kept
-kept_without kept _ = kept
-
--- a letter of this body wakes what is kept for this reason: a version is shown, or the holder has decided
-abbrev pub wakes_by : Body → Why → Bool
-wakes_by (Show v) ForShow = true
-wakes_by (Decide t v commit) (ForHolder h) = h.0 == t.0
-wakes_by _ _ = false
-
--- a Wake for each letter that is woken
-abbrev pub wakes : (Why → Bool) → List KeptLetter → List Outgoing
-wakes test [] = []
-wakes test (x ∷ xs) =
-    if test x.why then record { to = x.letter.to; body = Wake x.tree x.sub } ∷ wakes test xs else wakes test xs
-
-abbrev pub with_called : (Why → Bool) → List KeptLetter → List KeptLetter
-with_called test [] = []
-with_called test (x ∷ xs) = (if test x.why then record x { why = Called } else x) ∷ with_called test xs
 
 -- letter l came and brought letter r, which is apt: it is kept, or its row is made and what waited for it is woken
 abbrev pub kept_row : ScriptData → ℕ → Letter → Letter → KeepingNode → Option Keeping → Out KeepingNode
@@ -138,7 +80,7 @@ kept_by s past (suc n) = kept_by s past n ++ map (λ (x : KeptLetter). x.letter)
 
 -- the letters that have still to be done: those in flight, and those that are kept
 abbrev pub outstanding : ScriptData → List Entry → List Letter
-outstanding s past = waiting s past ++ kept_by s past s.nodes
+outstanding s past = in_flight s past ++ kept_by s past s.nodes
 
 -- the letter that is done where a letter comes to a node: the one that it brought, if that is apt
 abbrev pub done_of : ScriptData → ℕ → Node → Letter → Option Letter → Letter

@@ -18,3 +18,7 @@ pub mod Advancing
 pub mod Apt
 pub mod Coordinator
 pub mod Client
+pub mod Core
+pub mod Decisions
+pub mod Strict
+pub mod Votes

@@ -3,8 +3,8 @@ use Rattle.std.specs.Prelude.{if◌then◌else◌, ℕ, ◌==◌, ◌+◌, ◌<�
 use Rattle.letter_types.specs.declared.entries.Letter.{Letter}
 use Rattle.letter_types.specs.declared.entries.Entry.{Entry}
 use Rattle.letter_types.specs.Letters.{find_id, own}
-use Rattle.letter_types.specs.Letters.{waiting_after as waiting_for}
-use Rattle.letter_types.specs.Postal.{IsPostal, posting_of}
+use Rattle.letter_types.specs.Letters.{in_flight_after as in_flight_for}
+use Rattle.letter_types.specs.Postal.{IsMessageRun, delivery_of}
 use Rattle.letter_types.specs.Steps.{Out}
 use Rattle.script_parts.specs.ScriptData.{ScriptData, client_of}
 use Rattle.world_model.specs.Node.{Node}
@@ -32,12 +32,12 @@ IsActorRun s h a = IsRunOf (actor_row s a) (start_actor s a) (own a h)
 
 -- a run by tables: letters went as letters do, and each actor's own entries are a run of its table
 pub record IsWorldRun (s : ScriptData) (h : List Entry) : Type 0 where
-  pub postal : IsPostal (client_of s) (map posting_of h)
+  pub postal : IsMessageRun (client_of s) (map delivery_of h)
   pub actors : (a : ℕ) → a < s.nodes + 2 → IsActorRun s h a
 
 -- the same by the wider aptness
 pub record IsWideRun (s : ScriptData) (h : List Entry) : Type 0 where
-  pub postal : IsPostal (client_of s) (map posting_of h)
+  pub postal : IsMessageRun (client_of s) (map delivery_of h)
   pub actors : (a : ℕ) → a < s.nodes + 2 → IsRunOf (wide_actor_row s a) (start_actor s a) (own a h)
 
 -- the state to which actor a's own entries lead
@@ -48,8 +48,8 @@ actor_after s h a = after (actor_row s a) (start_actor s a) (own a h)
 -- states are functions of it.
 
 -- the letters in flight after a past
-abbrev pub waiting : ScriptData → List Entry → List Letter
-waiting s past = waiting_for (client_of s) past
+abbrev pub in_flight : ScriptData → List Entry → List Letter
+in_flight s past = in_flight_for (client_of s) past
 
 abbrev pub node_in : ScriptData → List Entry → ℕ → Node
 node_in s [] p = start_node s p
@@ -84,7 +84,7 @@ pub data Moves (s : ScriptData) (past : List Entry) (e : Entry) : Type 0 where
 -- an entry may come next
 pub record MayFollow (s : ScriptData) (past : List Entry) (e : Entry) : Type 0 where
   pub stamp : e.stamp.0 ≡ length past + 1
-  pub waits : find_id e.took.id (waiting s past) ≡ Some e.took
+  pub waits : find_id e.took.id (in_flight s past) ≡ Some e.took
   pub addressee : e.took.to.0 ≡ e.actor.0
   pub moves : Moves s past e
 

@@ -12,7 +12,7 @@ use Rattle.letter_types.specs.declared.entries.Entry.{Entry}
 use Rattle.letter_types.specs.Steps.{Out}
 use Rattle.world_model.specs.Apt.{node_row}
 use Rattle.world_model.specs.Tables.{client_table, coordinator_table}
-use Rattle.world_model.specs.Runs.{waiting, node_in, coordinator_in, client_in}
+use Rattle.world_model.specs.Runs.{in_flight, node_in, coordinator_in, client_in}
 
 -- an actor takes a letter, and its table says this
 abbrev pub entry_by : {St : Type 0} → List Entry → Letter → Out St → Entry
@@ -37,7 +37,7 @@ next_of s past (l ∷ ls) = entry_of s past l ∷ past
 -- the past after so many letters, or after all
 abbrev pub sample : ScriptData → ℕ → List Entry
 sample s zero = []
-sample s (suc n) = next_of s (sample s n) (waiting s (sample s n))
+sample s (suc n) = next_of s (sample s n) (in_flight s (sample s n))
 
 -- item a at node 0 with 10 and item b at node 1 with 0; one tree adds 5 to a and sends a child, which adds 7 to b
 abbrev pub small : ScriptData

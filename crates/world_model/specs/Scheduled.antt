@@ -4,7 +4,7 @@ use Rattle.tv_base.specs.Draws.{next_draw}
 use Rattle.letter_types.specs.declared.entries.Entry.{Entry}
 use Rattle.letter_types.specs.declared.entries.Letter.{Letter}
 use Rattle.script_parts.specs.ScriptData.{ScriptData}
-use Rattle.world_model.specs.Runs.{waiting}
+use Rattle.world_model.specs.Runs.{in_flight}
 
 -- the number after the first k + 1 draws from a seed
 abbrev pub drawn_from : ℕ → ℕ → ℕ
@@ -22,10 +22,10 @@ number_for picks seed k = if nat_lt k (length picks) then slice_index picks k el
 
 -- the letters in flight before entry k of a history, in order of id
 abbrev pub waiting_at : ScriptData → List Entry → ℕ → List Letter
-waiting_at s h k = waiting s (reverse (take k h))
+waiting_at s h k = in_flight s (reverse (take k h))
 
 -- each entry took the letter at the place of its number, modulo as many as were in flight; and none is left in the end
 pub record IsScheduled (s : ScriptData) (seed : Option ℕ) (h : List Entry) : Type 0 where
   pub places : (k : ℕ) (e : Entry) → slice_get h k ≡ Some e
       → slice_get (waiting_at s h k) (number_for s.picks seed k % length (waiting_at s h k)) ≡ Some e.took
-  pub left : waiting s (reverse h) ≡ []
+  pub left : in_flight s (reverse h) ≡ []

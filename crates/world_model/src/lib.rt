@@ -7,8 +7,10 @@ ghost use Rattle.script_parts.specs.ScriptData.{ScriptData};
 ghost use Rattle.world_model.specs.Runs.{IsStepRun, IsWorldRun};
 
 mod phase;
+mod refusal;
 
 pub use phase::Phase;
+pub use refusal::Refusal;
 
 /// A history that goes step by step is one whose letters went as letters do and whose actors each follow their table.
 pub fn steps_follow_the_tables()

@@ -1,0 +1,49 @@
+-- What a node has beside what commuting trees need: its locks, the answers that it holds, and the noes of strict trees.
+use Rattle.std.specs.Prelude.{if◌then◌else◌, ℕ, nat_lt, List, [], Option, Some, None}
+use Rattle.tree_home.specs.Maps.{put_at}
+use Rattle.tv_base.specs.declared.numbers.SubNo.{SubNo}
+use Rattle.tv_base.specs.declared.numbers.TreeNo.{TreeNo}
+use Rattle.letter_types.specs.declared.bodies.Notice.{Notice}
+use Rattle.letter_types.specs.declared.bodies.Notice.TheVariants.{No}
+use Rattle.letter_types.specs.Steps.{Out}
+use Rattle.nc_locks.specs.declared.modes.Lock.{Lock}
+use Rattle.script_parts.specs.ScriptData.{ScriptData}
+use Rattle.tree_home.specs.HeldAnswers.{HeldAnswers}
+use Rattle.world_model.specs.declared.refusal.Refusal.{Refusal}
+use Rattle.world_model.specs.Node.{Node}
+use Rattle.world_model.specs.Tables.{start_node}
+
+-- of each strict tree that is at home here the no of the least number, among the votes that have come
+abbrev pub Refusals : Type 0
+Refusals = ℕ → Option Refusal
+
+abbrev pub no_refusals : Refusals
+no_refusals t = None
+
+-- of two noes that of the lesser number
+abbrev pub lesser : Option Refusal → Refusal → Refusal
+lesser None r = r
+lesser (Some old) r = if nat_lt r.sub.0 old.sub.0 then r else old
+
+-- the noes after a notice of subtransaction k of tree t
+abbrev pub refused_by : TreeNo → SubNo → Notice → Refusals → Refusals
+refused_by t k (No cause) rs = put_at t.0 (Some (lesser (rs t.0) (record { sub = k; cause = cause }))) rs
+refused_by t k _ rs = rs
+
+-- the node that commuting trees see, its locks, the answers that it holds, and the noes
+pub record Core : Type 0 where
+  pub node : Node
+  pub locks : List Lock
+  pub holds : HeldAnswers
+  pub refusals : Refusals
+
+-- a node without locks, that holds no answer and knows of no no
+abbrev pub plain_core : Node → Core
+plain_core st = record { node = st; locks = []; holds = λ t. None; refusals = no_refusals }
+
+abbrev pub start_core : ScriptData → ℕ → Core
+start_core s p = plain_core (start_node s p)
+
+-- what comes of a letter at the node, within its core
+abbrev pub in_core : Core → Out Node → Out Core
+in_core c out = record { state = record c { node = out.state }; sent = out.sent; acts = out.acts }
