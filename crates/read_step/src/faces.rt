@@ -16,11 +16,13 @@ use pair_counters::Counters;
 use std::alloc::Global;
 use std::mem;
 use tree_home::Homes;
-use tree_step::{Effect, InVersion, NodeParts, asked_ops, asked_version, done_twice, prepare_tree};
+use tree_step::{
+    Effect, InVersion, NodeParts, asked_ops, asked_version, done_twice, prepare_tree, reply,
+};
 use tv_base::{NoMemory, Version};
 use tx_trees::Script;
 
-/// Prepares the subtransaction that a letter asks for and does it. Running out of memory leaves the node as it was.
+/// Prepares the subtransaction that a letter asks for, with the answer to the client, and does it. Running out of memory leaves the node as it was.
 fn step_read(
     alloc: Global,
     node: &mut NodeParts,
@@ -40,7 +42,8 @@ fn step_read(
         version,
         raises: false,
     };
-    let prepared = prepare_tree(alloc, node, letter, script, within, effect)?;
+    let part = prepare_tree(alloc, node, letter, script, within, effect)?;
+    let prepared = reply(script, part)?;
     let step = done_twice(alloc, node, prepared)?;
     Ok(step)
 }

@@ -1,15 +1,18 @@
 ghost use Rattle.std.specs.Prelude.{◌≡◌, [], is_some, IfOk, IfSome, IsTrue};
 ghost use Rattle.std.specs.Option.{option_copied};
-ghost use Rattle.tree_step.specs.Changes.{IsNodeStepOf};
+ghost use Rattle.tree_step.specs.Changes.{IsNodeStepOf, IsTreePartOf};
 ghost use Rattle.tree_step.specs.Due.{is_due};
 ghost use Rattle.tree_step.specs.Node.{data_of, effect_on, IsReady};
-ghost use Rattle.read_step.specs.Rows.{can_get, getting, got_by_deed, read_if_made};
+ghost use Rattle.read_step.specs.Rows.{can_get, can_read, getting, got_by_deed, read_if_made, read_part};
 
 use commute_ops::{Value, Values};
 use item_versions::{ItemTable, Staged};
 use letter_types::{Letter, Notice};
 use std::alloc::Global;
-use tree_step::{Effect, InVersion, NodeParts, Prepared, asked_ops, asked_version, prepare_tree};
+use tree_step::{
+    Effect, InVersion, NodeParts, Prepared, TreePrepared, asked_ops, asked_version, prepare_tree,
+    reply,
+};
 use tv_base::{NoMemory, Version};
 use tx_trees::{Deed, Script, SubOp};
 
@@ -52,7 +55,33 @@ pub(crate) fn get_all(
 }
 
 /// Prepares what a node does with a letter that asks it for a subtransaction of a read tree (docs/ALGORITHM.md,
-/// "Nodes"). A letter whose operations may not be made changes and sends nothing.
+/// "Nodes"), before the tree is answered. None exactly where the operations may not be made.
+pub fn read_part(
+    alloc: Global,
+    node: &NodeParts,
+    letter: &Letter,
+    script: &Script,
+) -> Result<Option<TreePrepared>, NoMemory>
+    requires ready { IsReady script.now letter.now.to.0 node.now }
+    requires due { IsTrue (is_due script.now letter.now.to.0 (data_of node.now) letter.now.from.0 letter.now.body) }
+    ensures can { IfOk result (λ found. is_some found ≡ can_read script.now (data_of node.now) letter.now.body) }
+    ensures part { IfOk result (λ found. IfSome found (IsTreePartOf
+        (read_part script.now letter.now.to.0 (data_of node.now) letter.now.from.0 letter.now.body) node.now)) }
+{
+    let version = asked_version(letter, node.turns.read);
+    let Some(effect) = get_all(alloc, &node.items, version, asked_ops(letter, script))? else {
+        return Ok(None);
+    };
+    let within = InVersion {
+        version,
+        raises: false,
+    };
+    let part = prepare_tree(alloc, node, letter, script, within, effect)?;
+    Ok(Some(part))
+}
+
+/// The same, where the client is answered if the tree is. A letter whose operations may not be made changes and sends
+/// nothing.
 pub fn prepare_read(
     alloc: Global,
     node: &NodeParts,
@@ -64,14 +93,9 @@ pub fn prepare_read(
     ensures { IfOk result (IsNodeStepOf
         (read_if_made script.now letter.now.to.0 (data_of node.now) letter.now.from.0 letter.now.body) node.now) }
 {
-    let version = asked_version(letter, node.turns.read);
-    let Some(effect) = get_all(alloc, &node.items, version, asked_ops(letter, script))? else {
+    let Some(part) = read_part(alloc, node, letter, script)? else {
         return Ok(Prepared::still(alloc));
     };
-    let within = InVersion {
-        version,
-        raises: false,
-    };
-    let prepared = prepare_tree(alloc, node, letter, script, within, effect)?;
+    let prepared = reply(script, part)?;
     Ok(prepared)
 }

@@ -3,6 +3,7 @@ pub mod Begun
 pub mod Made
 pub mod Rooted
 pub mod Noted
+pub mod Replied
 pub mod Dues
 pub mod KindsAt
 pub mod Ordered

@@ -1,15 +1,14 @@
--- A step that was prepared, by its parts, is the row, and it may be counted.
-use Rattle.std.proofs.Common.{◌≡◌, ℕ, ◌+◌, ◌<◌, ◌≤◌, Bool, true, false, List, [], ◌∷◌, ◌++◌, length, take, ap, sym, subst, ◌∙◌, Option, arith}
+-- A step that was prepared, by its parts, is the row before the tree is answered, and it may be counted.
+use Rattle.std.proofs.Common.{◌≡◌, ℕ, ◌+◌, ◌<◌, ◌≤◌, Bool, true, false, List, [], ◌∷◌, ◌++◌, length, take, ap, sym, subst, ◌∙◌, Option}
 use Rattle.std.specs.Prelude.{All}
-use Rattle.std.proofs.Math.Seq.{take-append_seam, take-length}
-use Rattle.std.proofs.lemmas.List.{length-append}
+use Rattle.std.proofs.Math.Seq.{take-length}
 use Rattle.tv_base.specs.declared.numbers.NodeNo.{NodeNo}
 use Rattle.tv_base.specs.declared.numbers.SubNo.{SubNo}
 use Rattle.tv_base.specs.declared.numbers.Version.{Version}
 use Rattle.item_versions.specs.Window.{in_window}
 use Rattle.item_versions.proofs.Window.{in_window-low, in_window-high}
 use Rattle.tree_home.specs.Homes.{Gets}
-use Rattle.tree_step.specs.Changes.{home_after, MayCount, prepared_row}
+use Rattle.tree_step.specs.Changes.{home_after, MayCount, part_row, prepared_row}
 use Rattle.tree_step.specs.declared.change.Change.TheVariants.{Tree}
 use Rattle.tree_step.specs.declared.change.HomeChange.{HomeChange}
 use Rattle.tree_step.specs.declared.change.HomeChange.TheVariants.{Stay}
@@ -22,7 +21,7 @@ use Rattle.pair_counters.specs.Numbers.{Numbers, done_one}
 use Rattle.tv_base.specs.declared.numbers.TreeNo.{TreeNo}
 use Rattle.tree_home.specs.Homes.{OpenTrees, begun, open_trees}
 use Rattle.tree_home.specs.declared.homes.Answered.{Answered}
-use Rattle.tx_trees.specs.ScriptData.{ScriptData, client_of, subs_at, home_of}
+use Rattle.tx_trees.specs.ScriptData.{ScriptData, subs_at, home_of}
 use Rattle.tx_trees.specs.declared.parts.Sub.{Sub}
 use Rattle.letter_types.specs.declared.acts.Act.{Act}
 use Rattle.letter_types.specs.declared.acts.Act.TheVariants.{Born}
@@ -33,8 +32,8 @@ use Rattle.letter_types.specs.Steps.{Out}
 use Rattle.tree_step.specs.Node.{Node, IsReady, data_of}
 use Rattle.tree_step.specs.declared.node.NodeParts.{NodeParts}
 use Rattle.world_model.specs.Children.{sub_letters, done_letter}
-use Rattle.world_model.specs.Notices.{act_of, homes_noted, answer_noted, reply_letters, values_of}
-use Rattle.world_model.specs.Done.{counted_root, counted_sub, note_done, raised_if, root_done, sub_done, sub_sent, turned_if}
+use Rattle.world_model.specs.Notices.{act_of, homes_noted, answer_noted, values_of}
+use Rattle.world_model.specs.Done.{counted_root, counted_sub, note_part, raised_if, root_part, sub_done, sub_sent, turned_if, with_open_tree}
 
 -- this node with other parts, and what goes out
 abbrev out_of : Node → Turns → Table → Numbers → OpenTrees → List Outgoing → List Act → Out Node
@@ -46,49 +45,45 @@ out_of st turns items numbers homes sent acts =
           acts;
     }
 
--- the requests among the letters of a step
-pub first_requests : (n : ℕ) (os asked more : List Outgoing) → os ≡ asked ++ more → n ≡ length asked → take n os ≡ asked
-first_requests n os asked more is count = rw (is, count) (take-append_seam asked more)
-
+-- the requests are all that is sent
 pub all_requests : (n : ℕ) (os : List Outgoing) → n ≡ length os → take n os ≡ os
 all_requests n os count = rw count (take-length os)
 
-pub few_requests : (n : ℕ) (os asked more : List Outgoing) → os ≡ asked ++ more → n ≡ length asked → n ≤ length os
-few_requests n os asked more is count =
-    rw (is, count) (omega (arith, length-append asked more))
-
 -- a root that was prepared, by its parts
-pub root_ready : (s : ScriptData) (p : NodeNo) (t : TreeNo) (v : Version) (client n : ℕ) (notice : Notice) (staged : Table)
-    (home : HomeChange) (answer : Option Answered) (st : NodeParts) (out : StepOut) (asked : List Outgoing)
+pub root_ready : (s : ScriptData) (p : NodeNo) (t : TreeNo) (v : Version) (n : ℕ) (notice : Notice) (staged : Table)
+    (home : HomeChange) (answer : Option Answered) (st : NodeParts) (asked : List Outgoing) (acts : List Act)
     (xs : List Sub)
-    → xs ≡ subs_at s t.0 → client ≡ client_of s → asked ≡ sub_letters t.0 v.0 0 0 xs → n ≡ length asked
+    → xs ≡ subs_at s t.0 → asked ≡ sub_letters t.0 v.0 0 0 xs → n ≡ length asked
     → home_after home (open_trees st.homes)
     ≡ homes_noted t (record { 0 = 0 }) (values_of notice) (begun t (length xs) v (open_trees st.homes))
     → answer ≡ answer_noted t (record { 0 = 0 }) (values_of notice) (begun t (length xs) v (open_trees st.homes))
-    → out.sent ≡ asked ++ reply_letters client answer
-    → out.acts ≡ Born t v ∷ act_of t (record { 0 = 0 }) notice ∷ []
-    → prepared_row (record {
-      change = Tree (record {
-        raises = false;
-        staged = staged;
-        counting = record { version = v; root = true; from = p; asked = n };
-        home = home;
-      });
-      out = out;
+    → acts ≡ Born t v ∷ act_of t (record { 0 = 0 }) notice ∷ []
+    → part_row (record {
+      prepared = record {
+        change = Tree (record {
+          raises = false;
+          staged = staged;
+          counting = record { version = v; root = true; from = p; asked = n };
+          home = home;
+        });
+        out = record { sent = asked; acts = acts };
+      };
+      answered = answer;
     }) (data_of st)
-    ≡ root_done s p.0 t.0 v.0 (record { items = pending staged st.items; notice = notice }) (data_of st)
-root_ready s p t v client n notice staged home answer st out asked xs is to letters count homed told sent acts =
+    ≡ root_part s p.0 t.0 v.0 (record { items = pending staged st.items; notice = notice })
+    (with_open_tree t.0 (length (subs_at s t.0)) v.0 (data_of st))
+root_ready s p t v n notice staged home answer st asked acts xs is letters count homed told done =
     let own = letters ∙ ap (λ (ys : List Sub). sub_letters t.0 v.0 0 0 ys) is in
     let numbers = ap (λ (os : List Outgoing). counted_root v.0 p.0 os (counts_of st.counters).numbers)
-    (first_requests n out.sent asked (reply_letters client answer) sent count ∙ own) in
+    (all_requests n asked count ∙ own) in
     let h = homed ∙ ap (λ (ys : List Sub). homes_noted t (record { 0 = 0 }) (values_of notice)
     (begun t (length ys) v (open_trees st.homes))) is in
     let a = told ∙ ap (λ (ys : List Sub). answer_noted t (record { 0 = 0 }) (values_of notice)
     (begun t (length ys) v (open_trees st.homes))) is in
-    let o = sent ∙ ap (λ (ys : List Outgoing). ys ++ reply_letters client answer) own
-    ∙ ap (λ (c : ℕ). sub_letters t.0 v.0 0 0 (subs_at s t.0) ++ reply_letters c answer) to
-    ∙ ap (λ (b : Option Answered). sub_letters t.0 v.0 0 0 (subs_at s t.0) ++ reply_letters (client_of s) b) a in
-    λ i. out_of (data_of st) st.turns (pending staged st.items) (numbers i) (h i) (o i) (acts i)
+    λ i. record {
+      out = out_of (data_of st) st.turns (pending staged st.items) (numbers i) (h i) (own i) (done i);
+      answered = a i;
+    }
 
 -- another subtransaction that was prepared, by its parts
 pub sub_ready : (s : ScriptData) (q : NodeNo) (t : TreeNo) (k : SubNo) (v : Version) (home n : ℕ) (raises : Bool)
@@ -115,17 +110,15 @@ sub_ready s q t k v home n raises notice staged st out xs is at count sent acts 
     λ i. out_of (data_of st) (raised_if raises v.0 st.turns) (pending staged st.items) (numbers i) (open_trees st.homes) (o i) (acts i)
 
 -- a notice that was prepared, by its parts
-pub note_ready : (s : ScriptData) (q : NodeNo) (t : TreeNo) (k : SubNo) (v : Version) (client : ℕ) (values : Gets)
-    (st : NodeParts) (home : HomeChange) (answer : Option Answered) (out : StepOut)
-    → client ≡ client_of s
+pub note_ready : (q : NodeNo) (t : TreeNo) (k : SubNo) (v : Version) (values : Gets) (st : NodeParts)
+    (home : HomeChange) (answer : Option Answered)
     → home_after home (open_trees st.homes) ≡ homes_noted t k values (open_trees st.homes)
     → answer ≡ answer_noted t k values (open_trees st.homes)
-    → out.sent ≡ reply_letters client answer → out.acts ≡ []
-    → prepared_row (noting q v home out) (data_of st) ≡ note_done s q.0 t.0 k.0 v.0 values (data_of st)
-note_ready s q t k v client values st home answer out to homed told sent acts =
-    let o = sent ∙ ap (λ (c : ℕ). reply_letters c answer) to
-    ∙ ap (λ (a : Option Answered). reply_letters (client_of s) a) told in
-    λ i. out_of (data_of st) st.turns st.items (done_one v.0 q.0 (counts_of st.counters).numbers) (homed i) (o i) (acts i)
+    → part_row (noting q v home answer) (data_of st) ≡ note_part q.0 t.0 k.0 v.0 values (data_of st)
+note_ready q t k v values st home answer homed told = λ i. record {
+  out = out_of (data_of st) st.turns st.items (done_one v.0 q.0 (counts_of st.counters).numbers) (homed i) [] [];
+  answered = told i;
+}
 
 -- what was prepared may be counted
 pub may_count : (s : ScriptData) (n : NodeParts) (v : Version) (root : Bool) (from : NodeNo) (asked : ℕ)

@@ -1,5 +1,5 @@
 -- How a node changes in a step that was prepared, and when it may.
-use Rattle.std.specs.Prelude.{◌≡◌, ◌<◌, ◌≤◌, ◌+◌, ◌&&◌, ⊤, if◌then◌else◌, List, length, take, nat_le, All, IfOk, IsTrue, IsSome, None, OnErr, OnOk, Result}
+use Rattle.std.specs.Prelude.{◌≡◌, ◌<◌, ◌≤◌, ◌+◌, ◌&&◌, ⊤, if◌then◌else◌, List, [], length, take, nat_le, All, IfOk, IsTrue, IsSome, None, OnErr, OnOk, Result}
 use Rattle.tv_base.specs.declared.numbers.NoMemory.{NoMemory}
 use Rattle.item_versions.specs.Table.{pending}
 use Rattle.item_versions.specs.Window.{in_window, IsWindowedTable}
@@ -13,7 +13,7 @@ use Rattle.pair_counters.specs.Counts.{Counts}
 use Rattle.pair_counters.specs.Rows.{counts_of}
 use Rattle.tree_home.specs.Homes.{OpenTrees, begun, forgotten, home_in, misses, missing_in, noted, open_trees}
 use Rattle.item_versions.specs.Collecting.{collected_all}
-use Rattle.world_model.specs.Done.{counted_root, counted_sub, raised_if}
+use Rattle.world_model.specs.Done.{TreeOut, counted_root, counted_sub, raised_if, replied}
 use Rattle.tree_step.specs.Node.{IsInWindow, Node, data_of}
 use Rattle.tree_step.specs.declared.node.NodeParts.{NodeParts}
 use Rattle.tree_step.specs.declared.counting.Counting.{Counting}
@@ -23,6 +23,8 @@ use Rattle.tree_step.specs.declared.change.TreeChange.{TreeChange}
 use Rattle.tree_step.specs.declared.change.Change.{Change}
 use Rattle.tree_step.specs.declared.change.Change.TheVariants.{Still, Tree, Turn, Show, Sweep}
 use Rattle.tree_step.specs.declared.change.Prepared.{Prepared}
+use Rattle.tree_step.specs.declared.change.TreePrepared.{TreePrepared}
+use Rattle.tx_trees.specs.ScriptData.{ScriptData}
 use Rattle.tree_step.specs.inside.Sent.{MOST_SENT}
 
 -- the open trees afterwards
@@ -39,6 +41,11 @@ MayHome Stay hs = ⊤
 MayHome (Open t n v values) hs = (1 < n) × (home_in t hs ≡ None)
 MayHome (Note t k values) hs = IsTrue (misses t k hs) × (1 < missing_in t hs)
 MayHome (Forget t) hs = IsSome (home_in t hs)
+
+-- no tree is opened
+abbrev pub OpensNoTree : HomeChange → Type 0
+OpensNoTree (Open t n v values) = ⊥
+OpensNoTree _ = ⊤
 
 -- the requests that are counted: the first letters that are sent
 abbrev pub requests : Counting → List Outgoing → List Outgoing
@@ -86,6 +93,11 @@ after_change (Sweep v) sent st = record st {
   counts = record { asked = from_version v.0 st.counts.asked; done = from_version v.0 st.counts.done };
 }
 
+-- a step that opens no tree
+abbrev pub OpensNone : Change → Type 0
+OpensNone (Tree c) = OpensNoTree c.home
+OpensNone _ = ⊤
+
 -- a change that fits the node: it leaves the node's versions in their window
 abbrev pub MayChange : Change → List Outgoing → NodeParts → Type 0
 MayChange Still sent n = ⊤
@@ -109,6 +121,27 @@ prepared_row p st = made (after_change p.change p.out.sent st) p.out
 pub record IsNodeStepOf (o : Out Node) (n : NodeParts) (p : Prepared) : Type 0 where
   pub row : prepared_row p (data_of n) ≡ o
   pub may : MayDo p.change p.out.sent n
+
+-- the letters that are sent are just the requests that are counted
+abbrev pub SendsRequests : Change → List Outgoing → Type 0
+SendsRequests (Tree c) sent = c.counting.asked ≡ length sent
+SendsRequests _ sent = sent ≡ []
+
+-- a step of a tree's letter that was prepared, before the tree is answered, as a table's row
+abbrev pub part_row : TreePrepared → Node → TreeOut
+part_row p st = record { out = prepared_row p.prepared st; answered = p.answered }
+
+-- it is this row of a node, the node may do it, and it sends no more than is counted
+pub record IsTreePartOf (o : TreeOut) (n : NodeParts) (p : TreePrepared) : Type 0 where
+  pub row : part_row p (data_of n) ≡ o
+  pub may : MayDo p.prepared.change p.prepared.out.sent n
+  pub counted : SendsRequests p.prepared.change p.prepared.out.sent
+
+-- the same step with the answer to the client of script s behind what it sends: at any node its row is that of the
+-- step with the answer, and a node that may do the one may do the other
+pub record IsReplied (s : ScriptData) (part : TreePrepared) (p : Prepared) : Type 0 where
+  pub row : (st : Node) → prepared_row p st ≡ replied s (part_row part st)
+  pub may : (n : NodeParts) → MayDo part.prepared.change part.prepared.out.sent n → MayDo p.change p.out.sent n
 
 -- what came of a step of a node: it was done, and the node afterwards and what goes out are this row; or no memory was
 -- found, and the node is as it was. The answers that it holds stay, it counts by as many nodes as before, and its

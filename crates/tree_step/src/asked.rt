@@ -2,12 +2,12 @@
 ghost use Rattle.std.specs.Prelude.{◌≡◌, IfOk, IsTrue};
 ghost use Rattle.item_versions.specs.Table.{pending};
 ghost use Rattle.item_versions.specs.Window.{in_window, IsWindowedTable};
-ghost use Rattle.world_model.specs.Asked.{asked_ops, asked_version, tree_done};
-ghost use Rattle.tree_step.specs.Changes.{IsNodeStepOf};
+ghost use Rattle.world_model.specs.Asked.{asked_ops, asked_version, tree_part};
+ghost use Rattle.tree_step.specs.Changes.{IsTreePartOf};
 ghost use Rattle.tree_step.specs.Due.{is_due};
 ghost use Rattle.tree_step.specs.Node.{data_of, effect_on, IsReady};
 
-use crate::change::Prepared;
+use crate::change::{Prepared, TreePrepared};
 use crate::lookups::ops_of;
 use crate::node::{Effect, NodeParts};
 use crate::steps::{prepare_root, prepare_sub};
@@ -57,7 +57,8 @@ pub struct InVersion {
     pub raises: bool,
 }
 
-/// Prepares the subtransaction that a letter asks for, in this version and with this effect.
+/// Prepares the subtransaction that a letter asks for, in this version and with this effect, before the tree is
+/// answered.
 pub fn prepare_tree(
     alloc: Global,
     node: &NodeParts,
@@ -65,12 +66,12 @@ pub fn prepare_tree(
     script: &Script,
     within: InVersion,
     effect: Effect,
-) -> Result<Prepared, NoMemory>
+) -> Result<TreePrepared, NoMemory>
     requires ready { IsReady script.now letter.now.to.0 node.now }
     requires due { IsTrue (is_due script.now letter.now.to.0 (data_of node.now) letter.now.from.0 letter.now.body) }
     requires near { IsTrue (in_window node.now.turns.low.0 within.version.0) }
     requires fits { IsWindowedTable node.now.turns.low.0 (pending effect.staged node.now.items) }
-    ensures { IfOk result (IsNodeStepOf (tree_done script.now letter.now.to.0 letter.now.from.0 within.version within.raises
+    ensures { IfOk result (IsTreePartOf (tree_part script.now letter.now.to.0 letter.now.from.0 within.version within.raises
         (effect_on node.now.items effect) letter.now.body (data_of node.now)) node.now) }
 {
     match &letter.body {
@@ -92,6 +93,9 @@ pub fn prepare_tree(
             };
             prepare_sub(alloc, node, script, request, within.raises, effect)
         }
-        _ => Ok(Prepared::still(alloc)),
+        _ => Ok(TreePrepared {
+            prepared: Prepared::still(alloc),
+            answered: None,
+        }),
     }
 }

@@ -1,8 +1,8 @@
 // How a node changes in a step, once the step is prepared.
-ghost use Rattle.std.specs.Prelude.{◌≡◌, [], MatchResult};
+ghost use Rattle.std.specs.Prelude.{◌≡◌, [], IsOk, MatchResult};
 ghost use Rattle.letter_types.specs.Steps.{made};
 ghost use Rattle.tree_home.specs.Homes.{open_trees};
-ghost use Rattle.tree_step.specs.Changes.{after_tree_change, home_after, IsDone, IsDoneTwice, MayDo, MayHome, prepared_row};
+ghost use Rattle.tree_step.specs.Changes.{after_tree_change, home_after, IsDone, IsDoneTwice, MayDo, MayHome, OpensNone, OpensNoTree, prepared_row};
 ghost use Rattle.tree_step.specs.declared.change.Change.TheVariants.{Still, Tree};
 ghost use Rattle.world_model.specs.Done.{raised_if};
 ghost use Rattle.tree_step.specs.Node.{data_of};
@@ -14,7 +14,7 @@ use item_versions::Staged;
 use letter_types::{Step, StepOut};
 use node_versions::Turns;
 use std::alloc::Global;
-use tree_home::Homes;
+use tree_home::{Answered, Homes};
 use tv_base::{NoMemory, SubNo, TreeNo, Version};
 use version_collect::collect_table;
 
@@ -74,6 +74,14 @@ pub struct Prepared {
     pub out: StepOut,
 }
 
+/// A step of a tree's letter that is prepared, before the tree is answered; and its answer where its home misses no
+/// notice any more.
+#[derive(Drop)]
+pub struct TreePrepared {
+    pub prepared: Prepared,
+    pub answered: Option<Answered>,
+}
+
 impl Prepared {
     /// A step that changes and sends nothing.
     pub fn still(alloc: Global) -> Prepared
@@ -95,6 +103,7 @@ fn change_home(homes: &mut Homes, home: HomeChange) -> Result<(), NoMemory>
     ensures trees { MatchResult result (λ _. open_trees homes.new ≡ home_after home (open_trees homes.old))
         (λ _. homes.new ≡ homes.old) }
     ensures held { homes.new.held ≡ homes.old.held }
+    ensures sure { OpensNoTree home → IsOk result }
 {
     match home {
         HomeChange::Stay => Ok(()),
@@ -132,7 +141,8 @@ fn raise_if(turns: &mut Turns, raises: bool, v: Version)
 /// memory; then the node is as it was.
 fn change_tree(node: &mut NodeParts, change: TreeChange, out: StepOut) -> Result<StepOut, NoMemory>
     requires { MayDo (Tree change) out.sent node.old }
-    ensures { IsDone (made (after_tree_change change out.sent (data_of node.old)) out) node.old node.new result }
+    ensures done { IsDone (made (after_tree_change change out.sent (data_of node.old)) out) node.old node.new result }
+    ensures sure { OpensNoTree change.home → IsOk result }
 {
     change_home(&mut node.homes, change.home)?;
     raise_if(&mut node.turns, change.raises, change.counting.version);
@@ -145,7 +155,8 @@ fn change_tree(node: &mut NodeParts, change: TreeChange, out: StepOut) -> Result
 /// node is as it was.
 pub fn done(node: &mut NodeParts, prepared: Prepared) -> Result<StepOut, NoMemory>
     requires { MayDo prepared.change prepared.out.sent node.old }
-    ensures { IsDone (prepared_row prepared (data_of node.old)) node.old node.new result }
+    ensures done { IsDone (prepared_row prepared (data_of node.old)) node.old node.new result }
+    ensures sure { OpensNone prepared.change → IsOk result }
 {
     let Prepared { change, out } = prepared;
     match change {

@@ -1,24 +1,24 @@
 // A notice at its tree's home.
 ghost use Rattle.std.specs.Prelude.{◌≡◌, ◌<◌, ◌↔◌, [], false, IfOk, IsNone, IsTrue};
 ghost use Rattle.item_versions.specs.Window.{in_window};
+ghost use Rattle.pair_counters.specs.Numbers.{AllBelow, MOST_COUNT};
+ghost use Rattle.pair_counters.specs.Rows.{counts_of};
 ghost use Rattle.tree_home.specs.Homes.{after_notice, answer_in, misses, missing_in, outcome, open_trees};
-ghost use Rattle.tree_step.specs.Changes.{home_after, IsNodeStepOf, MayHome};
-ghost use Rattle.world_model.specs.Done.{note_done};
-ghost use Rattle.tree_step.specs.Node.{data_of, IsReady};
+ghost use Rattle.tree_step.specs.Changes.{home_after, IsTreePartOf, MayHome};
+ghost use Rattle.world_model.specs.Done.{note_part};
+ghost use Rattle.tree_step.specs.Node.{data_of, IsInWindow};
 ghost use Rattle.tree_step.specs.inside.Noting.{noting};
 
 use crate::asked::Request;
-use crate::change::{Change, HomeChange, Prepared, TreeChange};
+use crate::change::{Change, HomeChange, Prepared, TreeChange, TreePrepared};
 use crate::counting::Counting;
-use crate::letters::reply_out;
 use crate::node::NodeParts;
 use commute_ops::{Values, copy_values};
 use item_versions::Staged;
 use letter_types::StepOut;
 use std::alloc::Global;
 use tree_home::{Answered, Homes};
-use tv_base::{ActorNo, NoMemory, SubNo, TreeNo};
-use tx_trees::Script;
+use tv_base::{NoMemory, SubNo, TreeNo};
 
 /// What the home does for a notice that is missing, where it is known what the tree is answered then.
 fn notice_home(
@@ -42,8 +42,13 @@ fn notice_home(
 }
 
 /// The step of a notice: its completion is counted, and its home does this.
-fn noting(alloc: Global, request: Request, home: HomeChange, out: StepOut) -> Prepared
-    ensures { result ≡ noting request.from request.version home out }
+fn noting(
+    alloc: Global,
+    request: Request,
+    home: HomeChange,
+    answered: Option<Answered>,
+) -> TreePrepared
+    ensures { result ≡ noting request.from request.version home answered }
 {
     let counting = Counting {
         version: request.version,
@@ -57,35 +62,35 @@ fn noting(alloc: Global, request: Request, home: HomeChange, out: StepOut) -> Pr
         counting,
         home,
     };
-    Prepared {
+    let prepared = Prepared {
         change: Change::Tree(change),
-        out,
-    }
+        out: StepOut::still(alloc),
+    };
+    TreePrepared { prepared, answered }
 }
 
-/// Prepares the step of a tree's home that takes a notice of these values down and counts its completion. The client is
-/// answered where no notice is missing any more. A notice that isn't missing is counted and changes nothing else.
+/// Prepares the step of a tree's home that takes a notice of these values down and counts its completion, before the
+/// tree is answered, which it is where no notice is missing any more. A notice that isn't missing is counted and changes
+/// nothing else.
 pub fn prepare_notice(
     alloc: Global,
     node: &NodeParts,
-    script: &Script,
     request: Request,
     values: &Values,
-) -> Result<Prepared, NoMemory>
-    requires ready { IsReady script.now request.from.0 node.now }
+) -> Result<TreePrepared, NoMemory>
+    requires from { request.from.0 < (counts_of node.now.counters).nodes }
+    requires small { AllBelow MOST_COUNT (counts_of node.now.counters).numbers }
+    requires window { IsInWindow node.now }
     requires near { IsTrue (in_window node.now.turns.low.0 request.version.0) }
-    ensures { IfOk result (IsNodeStepOf (note_done script.now request.from.0 request.tree.0 request.sub.0 request.version.0
-        values.now (data_of node.now)) node.now) }
+    ensures { IfOk result (IsTreePartOf (note_part request.from.0 request.tree.0 request.sub.0 request.version.0 values.now
+        (data_of node.now)) node.now) }
 {
     let Request { tree, sub, .. } = request;
     if !node.homes.misses(tree, sub) {
-        let out = StepOut::still(alloc);
-        return Ok(noting(alloc, request, HomeChange::Stay, out));
+        return Ok(noting(alloc, request, HomeChange::Stay, None));
     }
-    let answer = node.homes.would_answer(tree, sub, values)?;
+    let answered = node.homes.would_answer(tree, sub, values)?;
     let taken = copy_values(alloc, values)?;
-    let client = ActorNo(script.nodes() + 1);
-    let home = notice_home(&node.homes, tree, sub, taken, &answer);
-    let out = reply_out(alloc, client, answer)?;
-    Ok(noting(alloc, request, home, out))
+    let home = notice_home(&node.homes, tree, sub, taken, &answered);
+    Ok(noting(alloc, request, home, answered))
 }

@@ -4,22 +4,22 @@ ghost use Rattle.item_versions.specs.Table.{pending};
 ghost use Rattle.item_versions.specs.Window.{in_window, IsWindowedTable};
 ghost use Rattle.tree_home.specs.Homes.{begun, home_in, open_trees};
 ghost use Rattle.tx_trees.specs.ScriptData.{subs_at};
-ghost use Rattle.tree_step.specs.Changes.{home_after, IsNodeStepOf, MayHome};
-ghost use Rattle.world_model.specs.Done.{root_done, sub_done};
+ghost use Rattle.tree_step.specs.Changes.{home_after, IsTreePartOf, MayHome};
+ghost use Rattle.world_model.specs.Done.{root_part, sub_done, with_open_tree};
 ghost use Rattle.tree_step.specs.Node.{data_of, effect_on, IsReady};
 ghost use Rattle.world_model.specs.Notices.{homes_noted, values_of};
 ghost use Rattle.tree_step.specs.inside.Opening.{root_answer};
 
 use crate::asked::Request;
-use crate::change::{Change, HomeChange, Prepared, TreeChange};
+use crate::change::{Change, HomeChange, Prepared, TreeChange, TreePrepared};
 use crate::counting::Counting;
-use crate::letters::{root_acts, root_out, sub_letters, sub_out};
+use crate::letters::{root_acts, sub_letters, sub_out};
 use crate::node::{Effect, NodeParts};
 use commute_ops::{Values, copy_values};
-use letter_types::Notice;
+use letter_types::{Notice, StepOut};
 use std::alloc::Global;
 use tree_home::{Answered, Homes};
-use tv_base::{ActorNo, NoMemory, NodeNo, SubNo, TreeNo, Version};
+use tv_base::{NoMemory, NodeNo, SubNo, TreeNo, Version};
 use tx_trees::Script;
 
 /// The values that a notice brings.
@@ -74,22 +74,23 @@ fn root_home(homes: &Homes, tree: TreeNo, subs: u32, version: Version, values: V
     }
 }
 
-/// Prepares the root of a tree with this effect: it is counted, its children are asked for, and its home takes down its
-/// notice, which may be the last.
+/// Prepares the root of a tree with this effect, before the tree is answered: it is counted, its children are asked
+/// for, and its home takes down its notice, which may be the last.
 pub(crate) fn prepare_root(
     alloc: Global,
     node: &NodeParts,
     script: &Script,
     request: Request,
     effect: Effect,
-) -> Result<Prepared, NoMemory>
+) -> Result<TreePrepared, NoMemory>
     requires ready { IsReady script.now request.from.0 node.now }
     requires there { 0 < length (subs_at script.now request.tree.0) }
     requires absent { home_in request.tree (open_trees node.now.homes) ≡ None }
     requires near { IsTrue (in_window node.now.turns.low.0 request.version.0) }
     requires fits { IsWindowedTable node.now.turns.low.0 (pending effect.staged node.now.items) }
-    ensures { IfOk result (IsNodeStepOf (root_done script.now request.from.0 request.tree.0 request.version.0
-        (effect_on node.now.items effect) (data_of node.now)) node.now) }
+    ensures { IfOk result (IsTreePartOf (root_part script.now request.from.0 request.tree.0 request.version.0
+        (effect_on node.now.items effect) (with_open_tree request.tree.0 (length (subs_at script.now request.tree.0))
+        request.version.0 (data_of node.now))) node.now) }
 {
     let Request {
         tree,
@@ -99,14 +100,12 @@ pub(crate) fn prepare_root(
     } = request;
     let subs = script.subs_of(tree);
     let count = subs.len() as u32;
-    let client = ActorNo(script.nodes() + 1);
     let Effect { staged, notice } = effect;
     let requests = sub_letters(alloc, tree, version, SubNo(0), subs, 0)?;
     let asked = requests.items().len();
     let acts = root_acts(alloc, tree, version, &notice)?;
     let values = values_of(alloc, notice);
-    let answer = root_answer(alloc, tree, count, version, &values)?;
-    let out = root_out(client, answer, requests, acts)?;
+    let answered = root_answer(alloc, tree, count, version, &values)?;
     let home = root_home(&node.homes, tree, count, version, values);
     let counting = Counting {
         version,
@@ -120,10 +119,14 @@ pub(crate) fn prepare_root(
         counting,
         home,
     };
-    Ok(Prepared {
+    let prepared = Prepared {
         change: Change::Tree(change),
-        out,
-    })
+        out: StepOut {
+            sent: requests,
+            acts,
+        },
+    };
+    Ok(TreePrepared { prepared, answered })
 }
 
 /// Prepares a subtransaction that isn't a root, with this effect: it is counted, its children are asked for, and its
@@ -135,13 +138,16 @@ pub(crate) fn prepare_sub(
     request: Request,
     raises: bool,
     effect: Effect,
-) -> Result<Prepared, NoMemory>
+) -> Result<TreePrepared, NoMemory>
     requires ready { IsReady script.now request.from.0 node.now }
     requires there { 0 < length (subs_at script.now request.tree.0) }
     requires near { IsTrue (in_window node.now.turns.low.0 request.version.0) }
     requires fits { IsWindowedTable node.now.turns.low.0 (pending effect.staged node.now.items) }
-    ensures { IfOk result (IsNodeStepOf (sub_done script.now request.from.0 request.tree.0 request.sub.0 request.version.0
-        raises (effect_on node.now.items effect) (data_of node.now)) node.now) }
+    ensures { IfOk result (IsTreePartOf (record {
+      out = sub_done script.now request.from.0 request.tree.0 request.sub.0 request.version.0 raises
+          (effect_on node.now.items effect) (data_of node.now);
+      answered = None;
+    }) node.now) }
 {
     let subs = script.subs_of(request.tree);
     let home = NodeNo(script.home_of(request.tree));
@@ -159,8 +165,12 @@ pub(crate) fn prepare_sub(
         counting,
         home: HomeChange::Stay,
     };
-    Ok(Prepared {
+    let prepared = Prepared {
         change: Change::Tree(change),
         out,
+    };
+    Ok(TreePrepared {
+        prepared,
+        answered: None,
     })
 }

@@ -3,26 +3,53 @@ use Rattle.std.proofs.Common.{◌≡◌, ℕ, Bool, true, List, ap, sym, ◌∙�
 use Rattle.std.specs.Prelude.{nat_lt}
 use Rattle.tv_base.specs.declared.numbers.Version.{Version}
 use Rattle.letter_types.specs.declared.bodies.Body.{Body}
-use Rattle.letter_types.specs.Steps.{Out}
 use Rattle.tx_trees.specs.ScriptData.{ScriptData}
 use Rattle.tx_trees.specs.declared.parts.SubOp.{SubOp}
-use Rattle.tree_step.specs.Node.{Effect, Node}
-use Rattle.world_model.specs.Asked.{asked_ops, asked_version, tree_done}
-use Rattle.update_step.specs.Rows.{can_touch, can_update, update_if_made, touching}
+use Rattle.tree_step.specs.Changes.{IsNodeStepOf, IsReplied, IsTreePartOf}
+use Rattle.tree_step.specs.Node.{Effect, Node, data_of}
+use Rattle.tree_step.specs.declared.change.Prepared.{Prepared}
+use Rattle.tree_step.specs.declared.change.TreePrepared.{TreePrepared}
+use Rattle.tree_step.specs.declared.node.NodeParts.{NodeParts}
+use Rattle.tree_step.proofs.Replied.{replied_step}
+use Rattle.world_model.proofs.Plain.{replied_part}
+use Rattle.world_model.specs.Asked.{asked_ops, asked_version, tree_part}
+use Rattle.world_model.specs.Done.{TreeOut}
+use Rattle.update_step.specs.Rows.{can_touch, can_update, touching, update_if_made, update_part}
 
+-- whether the operations may be made, by the version and the operations
+pub touchable : (s : ScriptData) (body : Body) (st : Node) (v : Version) (ops : List SubOp)
+    → v ≡ asked_version st.turns.update body → ops ≡ asked_ops s body
+    → can_touch v ops st.items ≡ can_update s st body
+touchable s body st v ops at asked =
+    ap (λ (os : List SubOp). can_touch v os st.items) asked
+    ∙ ap (λ (w : Version). can_touch w (asked_ops s body) st.items) at
+
+-- the part, by the version, the operations and their effect
 pub updated : (s : ScriptData) (p from : ℕ) (body : Body) (st : Node) (v : Version) (ops : List SubOp) (raises : Bool)
-    (e : Effect) (out : Out Node)
-    → v ≡ asked_version st.turns.update body → ops ≡ asked_ops s body → true ≡ can_touch v ops st.items
-    → raises ≡ nat_lt st.turns.update.0 v.0 → e ≡ touching v ops st.items → out ≡ tree_done s p from v raises e body st
-    → out ≡ update_if_made s p st from body
-updated s p from body st v ops raises e out at asked can test made done =
-    let may : can_update s st body ≡ true =
-    sym (can ∙ ap (λ (os : List SubOp). can_touch v os st.items) asked
-    ∙ ap (λ (w : Version). can_touch w (asked_ops s body) st.items) at) in
-    rw may (done
-    ∙ ap (λ (b : Bool). tree_done s p from v b e body st) test
-    ∙ ap (λ (x : Effect). tree_done s p from v (nat_lt st.turns.update.0 v.0) x body st) made
-    ∙ ap (λ (os : List SubOp). tree_done s p from v (nat_lt st.turns.update.0 v.0) (touching v os st.items) body st)
+    (e : Effect) (out : TreeOut)
+    → v ≡ asked_version st.turns.update body → ops ≡ asked_ops s body
+    → raises ≡ nat_lt st.turns.update.0 v.0 → e ≡ touching v ops st.items → out ≡ tree_part s p from v raises e body st
+    → out ≡ update_part s p st from body
+updated s p from body st v ops raises e out at asked test made done =
+    done
+    ∙ ap (λ (b : Bool). tree_part s p from v b e body st) test
+    ∙ ap (λ (x : Effect). tree_part s p from v (nat_lt st.turns.update.0 v.0) x body st) made
+    ∙ ap (λ (os : List SubOp). tree_part s p from v (nat_lt st.turns.update.0 v.0) (touching v os st.items) body st)
     asked
-    ∙ ap (λ (w : Version). tree_done s p from w (nat_lt st.turns.update.0 w.0)
-    (touching w (asked_ops s body) st.items) body st) at)
+    ∙ ap (λ (w : Version). tree_part s p from w (nat_lt st.turns.update.0 w.0)
+    (touching w (asked_ops s body) st.items) body st) at
+
+-- with the answer it is the row
+pub update_made : (s : ScriptData) (p from : ℕ) (body : Body) (n : NodeParts) (part : TreePrepared) (prepared : Prepared)
+    → true ≡ can_update s (data_of n) body → IsTreePartOf (update_part s p (data_of n) from body) n part
+    → IsReplied s part prepared → IsNodeStepOf (update_if_made s p (data_of n) from body) n prepared
+update_made s p from body n part prepared can is with_answer =
+    let may : can_update s (data_of n) body ≡ true = sym can in
+    let st = data_of n in
+    let v = asked_version st.turns.update body in
+    let step = replied_step s (update_part s p st from body) n part prepared is with_answer in
+    record {
+      row = rw may (step.row ∙ replied_part s p from v (nat_lt st.turns.update.0 v.0)
+          (touching v (asked_ops s body) st.items) body st);
+      may = step.may;
+    }

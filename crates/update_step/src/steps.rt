@@ -1,17 +1,20 @@
 ghost use Rattle.std.specs.Prelude.{◌≡◌, is_some, nat_lt, IfOk, IfSome, IsTrue};
 ghost use Rattle.item_versions.specs.Table.{pending};
 ghost use Rattle.item_versions.specs.Window.{in_window, IsWindowedTable};
-ghost use Rattle.tree_step.specs.Changes.{IsNodeStepOf};
+ghost use Rattle.tree_step.specs.Changes.{IsNodeStepOf, IsTreePartOf};
 ghost use Rattle.tree_step.specs.Due.{is_due};
 ghost use Rattle.tree_step.specs.Node.{data_of, effect_on, IsReady};
-ghost use Rattle.update_step.specs.Rows.{can_touch, update_if_made, touching};
+ghost use Rattle.update_step.specs.Rows.{can_touch, can_update, touching, update_if_made, update_part};
 
 use commute_ops::Values;
 use item_versions::Staged;
 use letter_types::{Letter, Notice};
 use node_versions::Turns;
 use std::alloc::Global;
-use tree_step::{Effect, InVersion, NodeParts, Prepared, asked_ops, asked_version, prepare_tree};
+use tree_step::{
+    Effect, InVersion, NodeParts, Prepared, TreePrepared, asked_ops, asked_version, prepare_tree,
+    reply,
+};
 use tv_base::{NoMemory, Version};
 use tx_trees::{Deed, Script, SubOp};
 
@@ -57,7 +60,31 @@ fn is_above(turns: &Turns, v: Version) -> bool
 }
 
 /// Prepares what a node does with a letter that asks it for a subtransaction of an update tree (docs/ALGORITHM.md,
-/// "Nodes"). A letter whose operations may not be made changes and sends nothing.
+/// "Nodes"), before the tree is answered. None exactly where the operations may not be made.
+pub fn update_part(
+    alloc: Global,
+    node: &NodeParts,
+    letter: &Letter,
+    script: &Script,
+) -> Result<Option<TreePrepared>, NoMemory>
+    requires ready { IsReady script.now letter.now.to.0 node.now }
+    requires due { IsTrue (is_due script.now letter.now.to.0 (data_of node.now) letter.now.from.0 letter.now.body) }
+    ensures can { IfOk result (λ found. is_some found ≡ can_update script.now (data_of node.now) letter.now.body) }
+    ensures part { IfOk result (λ found. IfSome found (IsTreePartOf
+        (update_part script.now letter.now.to.0 (data_of node.now) letter.now.from.0 letter.now.body) node.now)) }
+{
+    let version = asked_version(letter, node.turns.update);
+    let Some(effect) = touch_all(alloc, node, version, asked_ops(letter, script))? else {
+        return Ok(None);
+    };
+    let raises = is_above(&node.turns, version);
+    let within = InVersion { version, raises };
+    let part = prepare_tree(alloc, node, letter, script, within, effect)?;
+    Ok(Some(part))
+}
+
+/// The same, where the client is answered if the tree is. A letter whose operations may not be made changes and sends
+/// nothing.
 pub fn prepare_update(
     alloc: Global,
     node: &NodeParts,
@@ -69,12 +96,9 @@ pub fn prepare_update(
     ensures { IfOk result (IsNodeStepOf
         (update_if_made script.now letter.now.to.0 (data_of node.now) letter.now.from.0 letter.now.body) node.now) }
 {
-    let version = asked_version(letter, node.turns.update);
-    let Some(effect) = touch_all(alloc, node, version, asked_ops(letter, script))? else {
+    let Some(part) = update_part(alloc, node, letter, script)? else {
         return Ok(Prepared::still(alloc));
     };
-    let raises = is_above(&node.turns, version);
-    let within = InVersion { version, raises };
-    let prepared = prepare_tree(alloc, node, letter, script, within, effect)?;
+    let prepared = reply(script, part)?;
     Ok(prepared)
 }

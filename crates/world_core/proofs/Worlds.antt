@@ -17,7 +17,7 @@ use Rattle.letter_types.specs.Letters.{sealed}
 use Rattle.letter_types.specs.Steps.{Out, made}
 use Rattle.tx_trees.specs.ScriptData.{ScriptData, client_of}
 use Rattle.tx_trees.specs.Valid.{IsValid}
-use Rattle.world_model.specs.Runs.{MayFollow, Moves, AtNode, AtCoordinator, AtClient, actor_in, waiting}
+use Rattle.world_model.specs.Runs.{MayFollow, Moves, AtNode, AtCoordinator, AtClient, actor_in, in_flight}
 use Rattle.world_model.proofs.Gone.{unique}
 use Rattle.world_model.proofs.Addressees.{addressed}
 use Rattle.world_model.proofs.Scripts.{get_below}
@@ -73,9 +73,9 @@ pub record Stepped (s : ScriptData) (w : WorldData) (k : ℕ) (l : Letter) (out 
   pub bag : left ≡ remove w.bag k ++ sealed (length w.history + 1) l.to.0 0 out.sent
 
 pub found_in : (s : ScriptData) (w : WorldData) (k : ℕ) (l : Letter) → IsWorldOf s w → slice_get w.bag k ≡ Some l
-    → Found (waiting s (reverse w.history)) k l
+    → Found (in_flight s (reverse w.history)) k l
 found_in s w k l world at =
-    found_at (waiting s (reverse w.history)) k l (unique s (reverse w.history) l.id world.run)
+    found_at (in_flight s (reverse w.history)) k l (unique s (reverse w.history) l.id world.run)
     (subst (λ (ls : List Letter). slice_get ls k ≡ Some l) world.bag at)
 
 pub below : (s : ScriptData) (w : WorldData) (k : ℕ) (l : Letter) → IsWorldOf s w → IsValid s

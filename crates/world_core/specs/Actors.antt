@@ -8,7 +8,7 @@ use Rattle.tree_home.specs.declared.homes.Held.{Held}
 use Rattle.tree_step.specs.Node.{IsOf, data_of as node_data}
 use Rattle.tx_trees.specs.ScriptData.{ScriptData}
 use Rattle.world_model.specs.Tables.{ActorData, NodeData, CoordinatorData, ClientData}
-use Rattle.world_model.specs.Runs.{IsStepRun, actor_in, waiting}
+use Rattle.world_model.specs.Runs.{IsStepRun, actor_in, in_flight}
 use Rattle.world_core.specs.declared.actor.ActorState.{ActorState}
 use Rattle.world_core.specs.declared.actor.ActorState.TheVariants.{Node, Coordinator, Client}
 
@@ -53,7 +53,7 @@ pub record IsWorldOf (s : ScriptData) (w : WorldData) : Type 0 where
   pub run : IsStepRun s (reverse w.history)
   pub count : length w.actors ≡ s.nodes + 2
   pub actors : AreStatesOf s (reverse w.history) w.actors
-  pub bag : w.bag ≡ waiting s (reverse w.history)
+  pub bag : w.bag ≡ in_flight s (reverse w.history)
 
 -- letter k of the bag was taken: there is one entry more, and it took this letter
 abbrev pub TookLetter : ℕ → WorldData → WorldData → Type 0

@@ -10,11 +10,12 @@ ghost use Rattle.tree_step.specs.Node.{data_of, IsReady};
 ghost use Rattle.world_model.specs.Apt.{can_make_by, node_row, row_by_kind};
 ghost use Rattle.world_model.specs.Notices.{values_of};
 
+use commute_ops::Values;
 use letter_types::{Body, Letter, Notice};
 use node_step::{prepare_asked, prepare_done, prepare_show, prepare_sweep, prepare_turn};
 use read_step::prepare_read;
 use std::alloc::Global;
-use tree_step::{NodeParts, Prepared, Request, is_due, kind_of, prepare_notice};
+use tree_step::{NodeParts, Prepared, Request, is_due, kind_of, prepare_notice, reply};
 use tv_base::{NoMemory, NodeNo};
 use tx_trees::{Script, TreeKind};
 use update_step::prepare_update;
@@ -43,6 +44,25 @@ fn prepare_kind(
     }
 }
 
+/// Prepares what a tree's home does with a notice of these values: the client is answered where no notice is missing
+/// any more.
+fn prepare_values(
+    alloc: Global,
+    node: &NodeParts,
+    script: &Script,
+    request: Request,
+    values: &Values,
+) -> Result<Prepared, NoMemory>
+    requires ready { IsReady script.now request.from.0 node.now }
+    requires near { IsTrue (in_window node.now.turns.low.0 request.version.0) }
+    ensures { IfOk result (IsNodeStepOf (note_done script.now request.from.0 request.tree.0 request.sub.0 request.version.0
+        values.now (data_of node.now)) node.now) }
+{
+    let part = prepare_notice(alloc, node, request, values)?;
+    let prepared = reply(script, part)?;
+    Ok(prepared)
+}
+
 /// Prepares what a tree's home does with a notice that is brought to it.
 fn prepare_brought(
     alloc: Global,
@@ -59,7 +79,7 @@ fn prepare_brought(
         else still (data_of node.now)) node.now) }
 {
     match notice {
-        Notice::Did(values) => prepare_notice(alloc, node, script, request, values),
+        Notice::Did(values) => prepare_values(alloc, node, script, request, values),
         _ => Ok(Prepared::still(alloc)),
     }
 }

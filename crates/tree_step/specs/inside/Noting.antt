@@ -1,20 +1,23 @@
 -- The step of a notice, prepared. Private code alone cites this definition.
-use Rattle.std.specs.Prelude.{false, []}
+use Rattle.std.specs.Prelude.{false, [], Option}
 use Rattle.tv_base.specs.declared.numbers.NodeNo.{NodeNo}
 use Rattle.tv_base.specs.declared.numbers.Version.{Version}
-use Rattle.letter_types.specs.declared.entries.StepOut.{StepOut}
+use Rattle.tree_home.specs.declared.homes.Answered.{Answered}
 use Rattle.tree_step.specs.declared.change.HomeChange.{HomeChange}
 use Rattle.tree_step.specs.declared.change.Change.TheVariants.{Tree}
-use Rattle.tree_step.specs.declared.change.Prepared.{Prepared}
+use Rattle.tree_step.specs.declared.change.TreePrepared.{TreePrepared}
 
--- a completion is counted, and the home does this
-abbrev pub noting : NodeNo → Version → HomeChange → StepOut → Prepared
-noting q v home out = record {
-  change = Tree (record {
-    raises = false;
-    staged = [];
-    counting = record { version = v; root = false; from = q; asked = 0 };
-    home = home;
-  });
-  out = out;
+-- a completion is counted, the home does this, and this is what the tree is answered
+abbrev pub noting : NodeNo → Version → HomeChange → Option Answered → TreePrepared
+noting q v home answered = record {
+  prepared = record {
+    change = Tree (record {
+      raises = false;
+      staged = [];
+      counting = record { version = v; root = false; from = q; asked = 0 };
+      home = home;
+    });
+    out = record { sent = []; acts = [] };
+  };
+  answered = answered;
 }

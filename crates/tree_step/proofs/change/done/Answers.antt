@@ -4,15 +4,18 @@ use Rattle.tree_home.specs.Homes.{open_trees}
 use Rattle.tree_step.proofs.Ordered.{left_may_collect, swept_window}
 use Rattle.tree_step.proofs.change.done.Goals as goal
 
-pub returns-in-Tree : goal.returns-in-Tree
-returns-in-Tree c = rw c.in-Tree.is c.change_tree.ensures
+pub returns-in-Tree-clause-done : goal.returns-in-Tree-clause-done
+returns-in-Tree-clause-done c = rw c.in-Tree.is c.change_tree.ensures.done
+
+pub returns-in-Tree-clause-sure : goal.returns-in-Tree-clause-sure
+returns-in-Tree-clause-sure c = rw c.in-Tree.is c.change_tree.ensures.sure
 
 pub collect_table-requires : goal.collect_table-requires
 collect_table-requires c =
     left_may_collect c.args.node.now c.in-Sweep.version c.requires.window (rw c.in-Sweep.is at c.requires.fits)
 
-pub returns-in-Sweep : goal.returns-in-Sweep
-returns-in-Sweep c = rw c.in-Sweep.is (record {
+pub returns-in-Sweep-clause-done : goal.returns-in-Sweep-clause-done
+returns-in-Sweep-clause-done c = rw c.in-Sweep.is (record {
   row = λ i. record {
     state = record {
       turns = c.sweep.ensures i;

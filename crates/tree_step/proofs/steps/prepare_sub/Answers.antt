@@ -1,5 +1,7 @@
-use Rattle.std.proofs.Common.{List, ap, length, arith}
+use Rattle.std.proofs.Common.{List, None, ap, length, arith}
 use Rattle.letter_types.specs.declared.entries.Outgoing.{Outgoing}
+use Rattle.letter_types.specs.Steps.{Out}
+use Rattle.tree_step.specs.Node.{Node}
 use Rattle.world_model.proofs.Addressed.{sent_nodes, sent_few}
 use Rattle.tree_step.proofs.Made.{all_requests, may_count, sub_ready}
 use Rattle.tree_step.proofs.Rooted.{home_there}
@@ -11,10 +13,11 @@ returns c =
     let home = home_there c.args.script.now c.args.request.tree.0 c.subs_of-subs.result.now c.subs_of-subs.ensures.subs
     c.subs_of-subs.ensures.nodes c.requires.there in
     record {
-      row = sub_ready c.args.script.now c.args.request.from c.args.request.tree c.args.request.sub c.args.request.version c.home_of.result
+      row = ap (λ (o : Out Node). record { out = o; answered = None })
+          (sub_ready c.args.script.now c.args.request.from c.args.request.tree c.args.request.sub c.args.request.version c.home_of.result
           (length c.items.result.now) c.args.raises c.args.effect.notice c.args.effect.staged c.args.node.now
           c.in_ok-out.out c.subs_of-subs.result.now c.subs_of-subs.ensures.subs c.home_of.ensures count
-          c.in_ok-out.ensures.sent c.in_ok-out.ensures.acts;
+          c.in_ok-out.ensures.sent c.in_ok-out.ensures.acts);
       may = record {
         fits = record {
           counting = may_count c.args.script.now c.args.node.now c.args.request.version _ c.args.request.from
@@ -34,4 +37,5 @@ returns c =
         small = c.requires.ready.small;
         window = c.requires.ready.window;
       };
+      counted = count;
     }

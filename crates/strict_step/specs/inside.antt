@@ -1,0 +1,4 @@
+pub mod Answering
+pub mod Decided
+pub mod Openings
+pub mod Voting

@@ -1,0 +1,13 @@
+// What a node keeps where there are strict trees.
+use crate::refusals::Refusals;
+use nc_locks::Locks;
+use tree_step::NodeParts;
+
+/// A node's state where there are strict trees: that of its parts, among which its homes hold answers, its locks, and
+/// the noes.
+#[derive(Drop)]
+pub struct NodeCore {
+    pub parts: NodeParts,
+    pub locks: Locks,
+    pub refusals: Refusals,
+}

@@ -1,0 +1,216 @@
+// A subtransaction of a strict tree votes, and a vote comes to its tree's home.
+ghost use Rattle.std.specs.Prelude.{◌≡◌, ◌<◌, length, nat_lt, IfOk, IsTrue};
+ghost use Rattle.item_versions.specs.Window.{in_window};
+ghost use Rattle.tree_home.specs.HeldAnswers.{held_answers};
+ghost use Rattle.tree_home.specs.Homes.{misses, open_trees};
+ghost use Rattle.tree_home.specs.Maps.{by_tree};
+ghost use Rattle.tx_trees.specs.ScriptData.{subs_at};
+ghost use Rattle.world_model.specs.Core.{lesser};
+ghost use Rattle.world_model.specs.Named.{is_strict_at};
+ghost use Rattle.world_model.specs.Notices.{answer_noted, values_of};
+ghost use Rattle.world_model.specs.Strict.{is_near_answer, is_unheld, note_core, notice_by, strict_core};
+ghost use Rattle.world_model.specs.Votes.{wanted_by};
+ghost use Rattle.tree_step.specs.Due.{is_due};
+ghost use Rattle.tree_step.specs.Node.{data_of};
+ghost use Rattle.strict_step.specs.Changes.{IsCoreStepOf};
+ghost use Rattle.strict_step.specs.State.{IsCoreReady, core_of};
+ghost use Rattle.strict_step.specs.inside.Voting.{change_by, no_by, noted_no, no_in_notice, refusal_there};
+
+use crate::answers::{answered_step, decided_step};
+use crate::change::{CorePrepared, VoteChange, WantedLocks};
+use crate::refusals::Refusals;
+use crate::state::NodeCore;
+use commute_ops::{Values, copy_values};
+use item_versions::Staged;
+use letter_types::{Body, Cause, Letter, Notice, Vote};
+use nc_commit::{vote_on, wanted_by};
+use nc_locks::Mode;
+use node_versions::Turns;
+use std::alloc::Global;
+use tree_step::{
+    Effect, InVersion, Request, asked_ops, asked_version, kind_of, prepare_notice, prepare_tree,
+};
+use tv_base::{ItemNo, NoMemory, SubNo, TreeNo, Version};
+use tx_trees::{Script, SubOp, TreeKind};
+use world_model::Refusal;
+
+/// Of two noes that of the lesser number.
+fn lesser(old: Option<Refusal>, new: Refusal) -> Refusal
+    ensures { result ≡ lesser old new }
+{
+    match old {
+        Some(old) => { if new.sub.0 < old.sub.0 { new } else { old } }
+        None => new,
+    }
+}
+
+/// A no comes to the tree's home: the tree has it, unless it has one of a lesser number.
+fn note_no(refusals: &Refusals, tree: TreeNo, sub: SubNo, cause: Cause) -> VoteChange
+    ensures { result ≡ noted_no tree sub cause (by_tree refusals.now) }
+{
+    let refusal = lesser(refusals.of(tree), Refusal { sub, cause });
+    VoteChange::Note { tree, refusal }
+}
+
+/// What becomes of the noes at a notice.
+fn refusal_of(refusals: &Refusals, tree: TreeNo, sub: SubNo, notice: &Notice) -> VoteChange
+    ensures { result ≡ no_in_notice tree sub notice.now (by_tree refusals.now) }
+{
+    match notice {
+        Notice::No(cause) => note_no(refusals, tree, sub, *cause.get()),
+        _ => VoteChange::Stay,
+    }
+}
+
+/// A copy of the values that a notice brings.
+fn values_of(alloc: Global, notice: &Notice) -> Result<Values, NoMemory>
+    ensures { IfOk result (λ values. values ≡ values_of notice.now) }
+{
+    match notice {
+        Notice::Did(values) => copy_values(alloc, values),
+        Notice::Yes(values) => copy_values(alloc, values),
+        Notice::No(_) => Ok(Values::new(alloc)),
+    }
+}
+
+/// What becomes of the noes at a notice: nothing where it isn't missing at its home.
+fn refused_there(core: &NodeCore, request: Request, notice: &Notice) -> VoteChange
+    ensures { result ≡ refusal_there (misses request.tree request.sub (open_trees core.now.parts.homes)) request.tree
+        request.sub notice.now (by_tree core.now.refusals) }
+{
+    let Request { tree, sub, .. } = request;
+    if !core.parts.homes.misses(tree, sub) {
+        return VoteChange::Stay;
+    }
+    refusal_of(&core.refusals, tree, sub, notice)
+}
+
+/// Whether a tree is there and is strict.
+fn is_strict(script: &Script, tree: TreeNo) -> bool
+    ensures { result ≡ is_strict_at script.now tree.0 }
+{
+    matches!(kind_of(script, tree), Some(TreeKind::Strict))
+}
+
+/// Prepares that a tree's home takes a notice down and counts its completion. Where none is missing any more, an update
+/// or a read tree is answered, and a strict tree is decided.
+pub fn prepare_note(
+    alloc: Global,
+    core: &NodeCore,
+    script: &Script,
+    request: Request,
+    notice: &Notice,
+) -> Result<CorePrepared, NoMemory>
+    // What the caller knows.
+    requires ready { IsCoreReady script.now request.from.0 core.now }
+    requires there { 0 < length (subs_at script.now request.tree.0) }
+    requires near { IsTrue (in_window core.now.parts.turns.low.0 request.version.0) }
+    requires decides { IsTrue (is_near_answer script.now (data_of core.now.parts)
+        (answer_noted request.tree request.sub (values_of notice.now) (open_trees core.now.parts.homes))) }
+    // What is made.
+    ensures { IfOk result (IsCoreStepOf (note_core script.now request.from.0 request.tree request.sub request.version
+        notice.now (core_of core.now)) core.now) }
+{
+    let values = values_of(alloc, notice)?;
+    let part = prepare_notice(alloc, &core.parts, request, &values)?;
+    if !is_strict(script, request.tree) {
+        let prepared = answered_step(alloc, core, script, part, VoteChange::Stay)?;
+        return Ok(prepared);
+    }
+    let votes = refused_there(core, request, notice);
+    let prepared = decided_step(alloc, core, script, part, votes)?;
+    Ok(prepared)
+}
+
+/// What a vote tells the tree's home.
+fn notice_by(alloc: Global, vote: &Vote) -> Result<Notice, NoMemory>
+    ensures { IfOk result (λ notice. notice ≡ notice_by vote.now) }
+{
+    match vote {
+        Vote::Yes(values) => Ok(Notice::Yes(copy_values(alloc, values)?)),
+        Vote::No(cause) => Ok(Notice::No(cause.copy(alloc)?)),
+    }
+}
+
+/// The locks that the operations of a strict tree want.
+fn wanted_locks(alloc: Global, ops: &[SubOp]) -> Result<WantedLocks, NoMemory>
+    ensures { IfOk result (λ wanted. wanted ≡ wanted_by ops.now) }
+{
+    let locks = wanted_by(alloc, ops)?;
+    let items: &[(ItemNo, Mode)] = &locks;
+    let mut wanted = WantedLocks::new(alloc);
+    for lock in items {
+        wanted.push(*lock)?;
+    }
+    Ok(wanted)
+}
+
+/// What becomes of the noes at a no: that of a root is at its home.
+fn no_by(refusals: &Refusals, cause: Cause, body: &Body) -> VoteChange
+    ensures { result ≡ no_by cause body.now (by_tree refusals.now) }
+{
+    match body {
+        Body::Root { tree } => note_no(refusals, *tree, SubNo(0), cause),
+        _ => VoteChange::Stay,
+    }
+}
+
+/// What a vote changes: a yes takes the locks that the operations want.
+fn change_by(
+    alloc: Global,
+    refusals: &Refusals,
+    tree: TreeNo,
+    vote: &Vote,
+    ops: &[SubOp],
+    body: &Body,
+) -> Result<VoteChange, NoMemory>
+    ensures { IfOk result (λ change. change ≡ change_by tree vote.now ops.now body.now (by_tree refusals.now)) }
+{
+    match vote {
+        Vote::Yes(_) => {
+            let wanted = wanted_locks(alloc, ops)?;
+            Ok(VoteChange::Take { tree, wanted })
+        }
+        Vote::No(cause) => Ok(no_by(refusals, *cause.get(), body)),
+    }
+}
+
+/// Whether version `v` is above the node's update version.
+fn is_above(turns: &Turns, v: Version) -> bool
+    ensures { result ≡ nat_lt turns.now.update.0 v.0 }
+{
+    turns.update.0 < v.0
+}
+
+/// Prepares that a subtransaction of a strict tree votes: a yes takes its locks, and its home is told. A root is at its
+/// home, so a tree without another subtransaction is decided.
+pub fn prepare_vote(
+    alloc: Global,
+    core: &NodeCore,
+    letter: &Letter,
+    script: &Script,
+    tree: TreeNo,
+) -> Result<CorePrepared, NoMemory>
+    // What the caller knows.
+    requires ready { IsCoreReady script.now letter.now.to.0 core.now }
+    requires due { IsTrue (is_due script.now letter.now.to.0 (data_of core.now.parts) letter.now.from.0 letter.now.body) }
+    requires unheld { IsTrue (is_unheld letter.now.body (held_answers core.now.parts.homes)) }
+    // What is made.
+    ensures { IfOk result (IsCoreStepOf (strict_core script.now letter.now.to.0 letter.now.from.0 tree letter.now.body
+        (core_of core.now)) core.now) }
+{
+    let version = asked_version(letter, core.parts.turns.update);
+    let ops = asked_ops(letter, script);
+    let vote = vote_on(alloc, &core.locks, &core.parts.items, tree, version, ops)?;
+    let notice = notice_by(alloc, &vote)?;
+    let votes = change_by(alloc, &core.refusals, tree, &vote, ops, &letter.body)?;
+    let effect = Effect {
+        staged: Staged::new(alloc),
+        notice,
+    };
+    let raises = is_above(&core.parts.turns, version);
+    let within = InVersion { version, raises };
+    let part = prepare_tree(alloc, &core.parts, letter, script, within, effect)?;
+    let prepared = decided_step(alloc, core, script, part, votes)?;
+    Ok(prepared)
+}

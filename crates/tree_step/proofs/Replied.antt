@@ -1,0 +1,117 @@
+-- The answer to the client, after what a step of a tree's letter sends.
+use Rattle.std.proofs.Common.{◌≡◌, ℕ, ◌<◌, ◌≤◌, Bool, List, ◌++◌, length, take, refl, ap, sym, subst, ◌∙◌, arith}
+use Rattle.std.specs.Prelude.{All, if◌then◌else◌}
+use Rattle.std.proofs.Math.Seq.{take-append_seam, take-length}
+use Rattle.std.proofs.lemmas.List.{append-nil, length-append}
+use Rattle.item_versions.specs.Table.{pending}
+use Rattle.letter_types.specs.declared.bodies.Body.{Body}
+use Rattle.letter_types.specs.declared.bodies.Body.TheVariants.{Root, Sub as SubLetter}
+use Rattle.letter_types.specs.declared.entries.Outgoing.{Outgoing}
+use Rattle.pair_counters.specs.Counts.{Counts}
+use Rattle.pair_counters.specs.Rows.{counts_of}
+use Rattle.tv_base.specs.declared.numbers.Version.{Version}
+use Rattle.tx_trees.specs.ScriptData.{ScriptData, client_of}
+use Rattle.world_model.specs.Asked.{tree_done, tree_part}
+use Rattle.world_model.specs.Done.{TreeOut, counted_root, counted_sub, raised_if, replied, sub_done}
+use Rattle.world_model.specs.Notices.{reply_letters}
+use Rattle.tree_step.specs.Changes.{after_change, home_after, IsNodeStepOf, IsReplied, IsTreePartOf, MayChange, MayCount, MayDo, SendsRequests}
+use Rattle.tree_step.specs.Node.{Effect, Node, data_of}
+use Rattle.tree_step.specs.inside.Sent.{MOST_SENT}
+use Rattle.tree_step.specs.declared.change.Change.{Change}
+use Rattle.tree_step.specs.declared.change.Change.TheVariants.{Still, Tree, Turn, Show, Sweep}
+use Rattle.tree_step.specs.declared.change.Prepared.{Prepared}
+use Rattle.tree_step.specs.declared.change.TreeChange.{TreeChange}
+use Rattle.tree_step.specs.declared.change.TreePrepared.{TreePrepared}
+use Rattle.tree_step.specs.declared.counting.Counting.{Counting}
+use Rattle.tree_step.specs.declared.node.NodeParts.{NodeParts}
+
+-- the requests are the same with letters after them
+take_more : (n : ℕ) (sent more : List Outgoing) → n ≡ length sent → take n (sent ++ more) ≡ take n sent
+take_more n sent more count = rw count (take-append_seam sent more ∙ sym (take-length sent))
+
+-- a node after a subtransaction or a notice, by the requests that are counted
+abbrev after_requests : TreeChange → Node → List Outgoing → Node
+after_requests c st os = record st {
+  turns = raised_if c.raises c.counting.version.0 st.turns;
+  items = pending c.staged st.items;
+  counts =
+      if c.counting.root then counted_root c.counting.version.0 c.counting.from.0 os st.counts
+      else counted_sub c.counting.version.0 c.counting.from.0 os st.counts;
+  homes = home_after c.home st.homes;
+}
+
+-- so is the node afterwards
+pub after_more : (c : Change) (sent more : List Outgoing) (st : Node) → SendsRequests c sent
+    → after_change c (sent ++ more) st ≡ after_change c sent st
+after_more (Tree c) sent more st counted =
+    ap (λ (os : List Outgoing). after_requests c st os) (take_more c.counting.asked sent more counted)
+after_more Still sent more st counted = refl
+after_more (Turn v) sent more st counted = refl
+after_more (Show v) sent more st counted = refl
+after_more (Sweep v) sent more st counted = refl
+
+count_more : (c : Counting) (sent more : List Outgoing) (k : Counts) → c.asked ≡ length sent → MayCount c sent k
+    → MayCount c (sent ++ more) k
+count_more c sent more k count may =
+    let same : take c.asked sent ≡ take c.asked (sent ++ more) = sym (take_more c.asked sent more count) in
+    record {
+      from = may.from;
+      up_to = may.up_to;
+      node = may.node;
+      there = omega (arith, length-append sent more, may.there);
+      nodes = subst (λ (os : List Outgoing). All (λ (o : Outgoing). o.to.0 < k.nodes) os) same may.nodes;
+      few = subst (λ (os : List Outgoing). length os ≤ MOST_SENT) same may.few;
+    }
+
+change_more : (c : Change) (sent more : List Outgoing) (n : NodeParts) → SendsRequests c sent → MayChange c sent n
+    → MayChange c (sent ++ more) n
+change_more (Tree c) sent more n counted may = record {
+  counting = count_more c.counting sent more (counts_of n.counters) counted may.counting;
+  items = may.items;
+  home = may.home;
+}
+change_more Still sent more n counted may = may
+change_more (Turn v) sent more n counted may = may
+change_more (Show v) sent more n counted may = may
+change_more (Sweep v) sent more n counted may = may
+
+-- and whether a node may do it
+pub do_more : (c : Change) (sent more : List Outgoing) (n : NodeParts) → SendsRequests c sent → MayDo c sent n
+    → MayDo c (sent ++ more) n
+do_more c sent more n counted may = record {
+  fits = change_more c sent more n counted may.fits;
+  small = may.small;
+  window = may.window;
+}
+
+-- the answer is put after what is sent
+pub is_replied : (s : ScriptData) (part : TreePrepared) (client : ℕ) (sent : List Outgoing) → client ≡ client_of s
+    → sent ≡ part.prepared.out.sent ++ reply_letters client part.answered
+    → SendsRequests part.prepared.change part.prepared.out.sent
+    → IsReplied s part (record {
+      change = part.prepared.change;
+      out = record { sent = sent; acts = part.prepared.out.acts };
+    })
+is_replied s part client sent to letters counted =
+    let old = part.prepared.out.sent in
+    let more = reply_letters (client_of s) part.answered in
+    let is : sent ≡ old ++ more =
+    letters ∙ ap (λ (c : ℕ). part.prepared.out.sent ++ reply_letters c part.answered) to in
+    record {
+      row = λ st. λ i. record {
+        state = (ap (λ (os : List Outgoing). after_change part.prepared.change os st) is
+            ∙ after_more part.prepared.change old more st counted) i;
+        sent = is i;
+        acts = part.prepared.out.acts;
+      };
+      may = λ n may. subst (λ (os : List Outgoing). MayDo part.prepared.change os n) (sym is)
+          (do_more part.prepared.change old more n counted may);
+    }
+
+-- the step of a part is that of the row with the answer then
+pub replied_step : (s : ScriptData) (o : TreeOut) (n : NodeParts) (part : TreePrepared) (p : Prepared)
+    → IsTreePartOf o n part → IsReplied s part p → IsNodeStepOf (replied s o) n p
+replied_step s o n part p is with_answer = record {
+  row = with_answer.row (data_of n) ∙ ap (λ (x : TreeOut). replied s x) is.row;
+  may = with_answer.may n is.may;
+}
