@@ -16,7 +16,7 @@ use Rattle.tx_trees.specs.declared.parts.ScriptRow.{ScriptRow}
 use Rattle.tx_trees.specs.declared.parts.ScriptRow.TheVariants.{Tree as TreeRow, Advance as AdvanceRow, Settle as SettleRow, Lose as LoseRow}
 use Rattle.tx_trees.proofs.SubsOf.{names_end}
 use Rattle.world_model.specs.Counts.{tally, one_if}
-use Rattle.world_model.specs.Runs.{client_in, waiting, IsStepRun}
+use Rattle.world_model.specs.Runs.{client_in, in_flight, IsStepRun}
 use Rattle.world_model.specs.Tables.{IsRunnable}
 use Rattle.world_model.proofs.Bags.{one_if_most, one_if_same}
 use Rattle.tree_laws.specs.Dids.{dids, letters_asking, asks, tells_done, replies_to, answers, is_row_of, roots_sent}
@@ -35,10 +35,10 @@ use Rattle.world_model.specs.Kept.{outstanding}
 -- What is done where no letter is in flight.
 
 -- nothing is counted among the letters in flight
-pub none_left : (f : Letter → ℕ) (s : ScriptData) (past : List Entry) → waiting s past ≡ [] → tally f (waiting s past) ≡ 0
+pub none_left : (f : Letter → ℕ) (s : ScriptData) (past : List Entry) → in_flight s past ≡ [] → tally f (in_flight s past) ≡ 0
 none_left f s past empty = ap (λ (ls : List Letter). tally f ls) empty
 
-pub none_asked : (f : Letter → ℕ) (s : ScriptData) (past : List Entry) → waiting s past ≡ [] → tally f (outstanding s past) ≡ 0
+pub none_asked : (f : Letter → ℕ) (s : ScriptData) (past : List Entry) → in_flight s past ≡ [] → tally f (outstanding s past) ≡ 0
 none_asked f s past empty = ap (λ (ls : List Letter). tally f ls) (outstanding_is s past) ∙ none_left f s past empty
 
 -- one more subtransaction of a tree whose root was done
@@ -69,7 +69,7 @@ pub record TreeDone (s : ScriptData) (past : List Entry) (t : ℕ) : Type 0 wher
   pub done : (k : ℕ) → SubAt s t k → dids past t k ≡ 1
 
 -- by how far the tree has come at its home
-tree_done_by : (s : ScriptData) (past : List Entry) (t : ℕ) → IsSound s → IsGood s past → waiting s past ≡ [] → t < length s.trees
+tree_done_by : (s : ScriptData) (past : List Entry) (t : ℕ) → IsSound s → IsGood s past → in_flight s past ≡ [] → t < length s.trees
     → 1 ≤ dids past t 0 → TreeAt s past t → TreeDone s past t
 tree_done_by s past t sound good empty lt root (Unborn none gone unanswered untold) = absurd (omega (arith, root, none))
 tree_done_by s past t sound good empty lt root (Gathers h one here same missing unanswered noted) =
@@ -81,7 +81,7 @@ tree_done_by s past t sound good empty lt root (Gathers h one here same missing 
 tree_done_by s past t sound good empty lt root (Answered gone one untold done) = record { answered = one; done = done }
 
 -- a tree whose row is submitted is done
-pub tree_done : (s : ScriptData) (past : List Entry) (t : ℕ) → IsSound s → IsGood s past → waiting s past ≡ [] → t < length s.trees
+pub tree_done : (s : ScriptData) (past : List Entry) (t : ℕ) → IsSound s → IsGood s past → in_flight s past ≡ [] → t < length s.trees
     → 1 ≤ roots_sent t (take (client_in s past).next s.rows) → TreeDone s past t
 tree_done s past t sound good empty lt row =
     let root : 1 ≤ dids past t 0 = omega (arith, row, good.roots t lt, none_asked (λ (l : Letter). asks t 0 l.body) s past empty) in
@@ -126,7 +126,7 @@ all_answered_of answered (LoseRow ∷ rows) each = all_answered_of answered rows
 
 -- Where no letter is in flight.
 -- a tree whose row is submitted is answered at the client
-pub answered_now : (s : ScriptData) (past : List Entry) (t : ℕ) → IsSound s → IsGood s past → waiting s past ≡ []
+pub answered_now : (s : ScriptData) (past : List Entry) (t : ℕ) → IsSound s → IsGood s past → in_flight s past ≡ []
     → 1 ≤ roots_sent t (take (client_in s past).next s.rows) → get_or (client_in s past).answered t false ≡ true
 answered_now s past t sound good empty row =
     let next = (client_in s past).next in

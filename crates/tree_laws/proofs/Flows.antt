@@ -8,7 +8,7 @@ use Rattle.letter_types.specs.declared.entries.Letter.{Letter}
 use Rattle.tx_trees.specs.ScriptData.{ScriptData, subs_at}
 use Rattle.world_model.specs.Counts.{one_if, Each}
 use Rattle.world_model.specs.Kept.{outstanding}
-use Rattle.world_model.specs.Runs.{waiting, MayFollow}
+use Rattle.world_model.specs.Runs.{in_flight, MayFollow}
 use Rattle.world_model.proofs.EachOutstanding.{each_outstanding}
 use Rattle.world_model.proofs.Every.{each_map, each_none}
 use Rattle.world_model.proofs.Fits.{IsFit, IsSentFit}
@@ -37,9 +37,9 @@ past_end s t i from to Go le fit = refl
 past_end s t i from to _ le fit = refl
 
 -- no notice in flight is of a subtransaction past its tree's end
-pub no_notice : (s : ScriptData) (past : List Entry) (t i : ℕ) → Each (λ (l : Letter). IsFit s l.from.0 l.to.0 l.body) (waiting s past)
+pub no_notice : (s : ScriptData) (past : List Entry) (t i : ℕ) → Each (λ (l : Letter). IsFit s l.from.0 l.to.0 l.body) (in_flight s past)
     → length (subs_at s t) ≤ i → notices s past t i ≡ 0
 no_notice s past t i letters le =
-    each_none (λ (l : Letter). tells_done t i l.body) (waiting s past)
-    (each_map (λ (l : Letter). IsFit s l.from.0 l.to.0 l.body) (λ (l : Letter). tells_done t i l.body ≡ 0) (waiting s past)
+    each_none (λ (l : Letter). tells_done t i l.body) (in_flight s past)
+    (each_map (λ (l : Letter). IsFit s l.from.0 l.to.0 l.body) (λ (l : Letter). tells_done t i l.body ≡ 0) (in_flight s past)
     (λ l fit. past_end s t i l.from.0 l.to.0 l.body le fit) letters)

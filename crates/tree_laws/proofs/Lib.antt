@@ -1,5 +1,6 @@
 pub mod Values
 pub mod Tables
+pub mod Overwriting
 pub mod Loads
 pub mod Sent
 pub mod Gets

@@ -17,7 +17,7 @@ use Rattle.world_model.specs.Done.{note_done, root_done, sub_done}
 use Rattle.world_model.specs.Updates.{touching}
 use Rattle.world_model.specs.Reads.{getting}
 use Rattle.world_model.specs.Client.{submit, with_answer, with_end, nudge}
-use Rattle.world_model.specs.Runs.{client_in, node_in, MayFollow, waiting}
+use Rattle.world_model.specs.Runs.{client_in, node_in, MayFollow, in_flight}
 use Rattle.world_model.proofs.Bags.{tally-drop}
 use Rattle.world_model.proofs.Every.{each_taken}
 use Rattle.tree_laws.specs.Dids.{asks, tells_done, notices, dids}
@@ -106,7 +106,7 @@ sub_next s past e t k v c later sound good m is at from near (inr up) =
 -- A notice.
 was_told : (s : ScriptData) (past : List Entry) (e : Entry) (t k : ℕ) → MayFollow s past e → tells_done t k e.took.body ≡ 1 → 1 ≤ notices s past t k
 was_told s past e t k m one =
-    omega (arith, one, tally-drop (λ (l : Letter). tells_done t k l.body) e.took.id (waiting s past) e.took m.waits)
+    omega (arith, one, tally-drop (λ (l : Letter). tells_done t k l.body) e.took.id (in_flight s past) e.took m.waits)
 
 note_next : (s : ScriptData) (past : List Entry) (e : Entry) (t : TreeNo) (k : SubNo) (v : Version) (notice : Notice) → SubAt s t.0 k.0 → 0 < k.0
     → IsSound s → IsGood s past → MayFollow s past e → e.took.body ≡ Done t k v notice → e.actor.0 ≡ home_of s t.0 → e.took.from.0 < s.nodes

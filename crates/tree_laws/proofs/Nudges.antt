@@ -12,7 +12,7 @@ use Rattle.tx_trees.specs.ScriptData.{ScriptData, client_of, home_of, subs_at}
 use Rattle.world_model.specs.Node.{Node}
 use Rattle.world_model.specs.Client.{Client, rows_letters, submit, submitted, with_answer, with_end, nudge}
 use Rattle.world_model.specs.Counts.{tally, one_if}
-use Rattle.world_model.specs.Runs.{client_in, waiting, MayFollow, IsStepRun}
+use Rattle.world_model.specs.Runs.{client_in, in_flight, MayFollow, IsStepRun}
 use Rattle.world_model.specs.Timely.{AllTimely}
 use Rattle.world_model.proofs.Bags.{one_if_same, tally-append, tally-drop}
 use Rattle.world_model.proofs.Every.{each_none}
@@ -48,7 +48,7 @@ unheard_less (b ∷ bs) (suc t) lt is = omega (arith, unheard_less bs t (omega a
 -- nudges in flight, nudges taken and trees whose answer the client hasn't heard
 abbrev Evened : ScriptData → List Entry → Type 0
 Evened s past =
-    tally (λ (l : Letter). is_nudge l.body) (waiting s past) + nudged past + unheard (client_in s past).answered ≡ length s.trees
+    tally (λ (l : Letter). is_nudge l.body) (in_flight s past) + nudged past + unheard (client_in s past).answered ≡ length s.trees
 
 -- an entry of another actor sends no nudge
 kept_even : (s : ScriptData) (past : List Entry) (e : Entry) → MayFollow s past e → Evened s past → client_in s (e ∷ past) ≡ client_in s past
@@ -86,7 +86,7 @@ hears_even s past e t v answer good m even is lt made =
     let c = with_answer t.0 (client_in s past) in
     let took : replies_to t.0 e.took.body ≡ 1 = ap (replies_to t.0) is ∙ one_if_same t.0 in
     let some : 1 ≤ replies s past t.0 =
-    omega (arith, took, tally-drop (λ (l : Letter). replies_to t.0 l.body) e.took.id (waiting s past) e.took m.waits) in
+    omega (arith, took, tally-drop (λ (l : Letter). replies_to t.0 l.body) e.took.id (in_flight s past) e.took m.waits) in
     let new = not_heard (answers past t.0) (replies s past t.0) (get_or (client_in s past).answered t.0 false)
     (answers_most s past t.0 (good.stages t.0 lt)) some (good.heard t.0 lt) in
     let fewer = unheard_less (client_in s past).answered t.0 (omega (arith, lt, answered_places s past)) new in

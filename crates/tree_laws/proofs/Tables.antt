@@ -73,7 +73,7 @@ put_same : (n : ItemNo) (items : Table) (g h : Held) (kind : Kind) (b x : ℕ) �
 put_same n items g h kind b x eq here ok =
     subst (λ (y : ℕ). ItemIn kind b (item_in (record { 0 = y }) (replaced n h items))) eq (rw (replaced_same n h g items here) ok)
 
-put_by : (rows : List ItemRow) (p : ℕ) (bound : ℕ → ℕ) (n : ItemNo) (m : ℕ) (items : Table) (g h : Held) (r : ItemRow)
+pub put_by : (rows : List ItemRow) (p : ℕ) (bound : ℕ → ℕ) (n : ItemNo) (m : ℕ) (items : Table) (g h : Held) (r : ItemRow)
     → slice_get rows n.0 ≡ Some r → item_in n items ≡ Some g
     → HeldIn r.kind (bound n.0 + m) h → TableIn rows p bound items
     → (x : ℕ) (q : ItemRow) → slice_get rows x ≡ Some q → q.node.0 ≡ p → (test : Bool) → (n.0 == x) ≡ test
@@ -137,7 +137,7 @@ table_more rows p a b items more all =
     λ x r at node. item_more r.kind (a x) (b x) (item_in (record { 0 = x }) items) (more x r at) (all x r at node)
 
 -- equal bounds
-table_same : (rows : List ItemRow) (p : ℕ) (a b : ℕ → ℕ) (items : Table) → ((x : ℕ) → a x ≡ b x) → TableIn rows p a items
+pub table_same : (rows : List ItemRow) (p : ℕ) (a b : ℕ → ℕ) (items : Table) → ((x : ℕ) → a x ≡ b x) → TableIn rows p a items
     → TableIn rows p b items
 table_same rows p a b items same all =
     λ x r at node. subst (λ (n : ℕ). ItemIn r.kind n (item_in (record { 0 = x }) items)) (same x) (all x r at node)

@@ -31,7 +31,7 @@ use Rattle.world_model.specs.Notices.{answer_noted, reply_letters, values_of}
 use Rattle.world_model.specs.Coordinator.{Coordinator, coordinator_row, start_coordinator}
 use Rattle.world_model.specs.Client.{Client, nudge, rows_letters, submit, submitted, with_answer}
 use Rattle.world_model.specs.Counts.{Each}
-use Rattle.world_model.specs.Runs.{client_in, coordinator_in, node_in, waiting, MayFollow, IsStepRun}
+use Rattle.world_model.specs.Runs.{client_in, coordinator_in, node_in, in_flight, MayFollow, IsStepRun}
 use Rattle.world_model.specs.Tables.{coordinator_table}
 use Rattle.world_model.proofs.Every.{coordinator_kept, each_append, each_step, each_taken, node_kept}
 use Rattle.world_model.proofs.Fits.{each_drop, each_take}
@@ -57,7 +57,7 @@ CalmBody _ = ⊥
 
 -- all letters are such, each node is in its first versions, and the coordinator has nothing to do
 pub record Calm (s : ScriptData) (past : List Entry) : Type 0 where
-  pub letters : Each (λ (l : Letter). CalmBody l.body) (waiting s past)
+  pub letters : Each (λ (l : Letter). CalmBody l.body) (in_flight s past)
   pub turns : (p : ℕ) → p < s.nodes → (node_in s past p).turns ≡ first_turns
   pub coordinator : coordinator_in s past ≡ start_coordinator s.nodes
 

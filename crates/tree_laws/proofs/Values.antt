@@ -27,7 +27,7 @@ ValueIn TopKind b (Top z) = Unit {0}
 ValueIn BagKind b (Bag zs) = Unit {0}
 ValueIn _ b _ = ⊥
 
-within : (z a : ℤ) (b : ℕ) → unsigned_abs z ≤ b → b + unsigned_abs a ≤ MOST_AMOUNT → is_within z a ≡ true
+pub within : (z a : ℤ) (b : ℕ) → unsigned_abs z ≤ b → b + unsigned_abs a ≤ MOST_AMOUNT → is_within z a ≡ true
 within z a b le most = grind (arith, nat_tests)
 
 pub value_more : (kind : Kind) (b c : ℕ) (w : Value) → b ≤ c → ValueIn kind b w → ValueIn kind c w
@@ -101,7 +101,7 @@ pick_value : (kind : Kind) (b : ℕ) (test : Bool) (x y : Value) → ValueIn kin
 pick_value kind b true x y p q = p
 pick_value kind b false x y p q = q
 
-seen_in : (kind : Kind) (b : ℕ) (v : Version) (w : Value) (xs : Held) → ValueIn kind b w → AllIn kind b xs
+pub seen_in : (kind : Kind) (b : ℕ) (v : Version) (w : Value) (xs : Held) → ValueIn kind b w → AllIn kind b xs
     → ValueIn kind b (seen_after w v xs)
 seen_in kind b v w [] ok all = ok
 seen_in kind b v w (x ∷ xs) ok all =
@@ -129,7 +129,7 @@ pick_all : (kind : Kind) (b : ℕ) (test : Bool) (x : Version × Value) (xs : He
 pick_all kind b true x xs p q = (p, q)
 pick_all kind b false x xs p q = q
 
-filter_in : (kind : Kind) (b : ℕ) (test : Version × Value → Bool) (xs : Held) → AllIn kind b xs → AllIn kind b (filter test xs)
+pub filter_in : (kind : Kind) (b : ℕ) (test : Version × Value → Bool) (xs : Held) → AllIn kind b xs → AllIn kind b (filter test xs)
 filter_in kind b test [] all = tt
 filter_in kind b test (x ∷ xs) all = pick_all kind b (test x) x (filter test xs) all.0 (filter_in kind b test xs all.1)
 
@@ -138,11 +138,11 @@ applied_in : (kind : Kind) (op : Op) (b : ℕ) (xs : Held) → op_fits kind op �
 applied_in kind op b [] fit all = tt
 applied_in kind op b (x ∷ xs) fit all = (applied_value kind op b x.1 fit all.0, applied_in kind op b xs fit all.1)
 
-all_more : (kind : Kind) (b c : ℕ) (xs : Held) → b ≤ c → AllIn kind b xs → AllIn kind c xs
+pub all_more : (kind : Kind) (b c : ℕ) (xs : Held) → b ≤ c → AllIn kind b xs → AllIn kind c xs
 all_more kind b c xs le all =
     each_map (λ (x : Version × Value). ValueIn kind b x.1) (λ (x : Version × Value). ValueIn kind c x.1) xs (λ x ok. value_more kind b c x.1 le ok) all
 
-held_of_all : (kind : Kind) (b : ℕ) (xs ys : Held) (x : Version × Value) → AllIn kind b (xs ++ x ∷ ys) → HeldIn kind b (xs ++ x ∷ ys)
+pub held_of_all : (kind : Kind) (b : ℕ) (xs ys : Held) (x : Version × Value) → AllIn kind b (xs ++ x ∷ ys) → HeldIn kind b (xs ++ x ∷ ys)
 held_of_all kind b [] ys x all = all
 held_of_all kind b (z ∷ xs) ys x all = all
 

@@ -12,7 +12,7 @@ use Rattle.tx_trees.specs.declared.parts.ScriptRow.{ScriptRow}
 use Rattle.tx_trees.specs.declared.parts.ScriptRow.TheVariants.{Tree as TreeRow, Settle as SettleRow}
 use Rattle.world_model.specs.Counts.{tally, one_if}
 use Rattle.world_model.specs.Kept.{outstanding}
-use Rattle.world_model.specs.Runs.{waiting}
+use Rattle.world_model.specs.Runs.{in_flight}
 
 -- a letter that asks for subtransaction k of tree t
 abbrev pub asks : ℕ → ℕ → Body → ℕ
@@ -44,7 +44,7 @@ letters_asking s past t k = tally (λ (l : Letter). asks t k l.body) (outstandin
 
 -- how many letters in flight are Go
 abbrev pub goes : ScriptData → List Entry → ℕ
-goes s past = tally (λ (l : Letter). is_go l.body) (waiting s past)
+goes s past = tally (λ (l : Letter). is_go l.body) (in_flight s past)
 
 -- how often subtransaction k of tree t was done
 abbrev pub dids : List Entry → ℕ → ℕ → ℕ
@@ -70,11 +70,11 @@ replies_to t _ = 0
 
 -- how many letters in flight bring the notice of subtransaction k of tree t
 abbrev pub notices : ScriptData → List Entry → ℕ → ℕ → ℕ
-notices s past t k = tally (λ (l : Letter). tells_done t k l.body) (waiting s past)
+notices s past t k = tally (λ (l : Letter). tells_done t k l.body) (in_flight s past)
 
 -- how many letters in flight answer tree t
 abbrev pub replies : ScriptData → List Entry → ℕ → ℕ
-replies s past t = tally (λ (l : Letter). replies_to t l.body) (waiting s past)
+replies s past t = tally (λ (l : Letter). replies_to t l.body) (in_flight s past)
 
 -- how often tree t was answered
 abbrev pub answers : List Entry → ℕ → ℕ

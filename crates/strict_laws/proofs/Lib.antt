@@ -1,0 +1,3 @@
+pub mod ByActs
+pub mod Conflicts
+pub mod Reasons
