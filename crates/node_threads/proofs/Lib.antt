@@ -1,6 +1,2 @@
 pub mod Seats
 pub mod Entries
-pub mod Merges
-pub mod Parts
-pub mod Gatherings
-pub mod Ends

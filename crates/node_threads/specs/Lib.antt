@@ -1,4 +1,1 @@
 pub mod Cells
-pub mod Histories
-pub mod Stops
-pub mod inside

@@ -1,57 +1,36 @@
 // What lies under an actor's lock.
-ghost use Rattle.std.specs.Prelude.{◌≡◌, ◌+◌, ◌<◌, [], IfOk, MatchResult, None, length, map};
-ghost use Rattle.letter_types.specs.Postal.{posting_of};
+ghost use Rattle.std.specs.Prelude.{◌≡◌, ◌+◌, ◌<◌, [], IfOk, MatchResult, None, length};
 ghost use Rattle.stamp_post.specs.Shown.{seat_data};
-ghost use Rattle.world_model.specs.Runs.{IsRunOf};
-ghost use Rattle.world_model.specs.Tables.{actor_row, start_actor};
-ghost use Rattle.node_threads.specs.Cells.{Delivered, Handled, cell_data};
+ghost use Rattle.history_merge.specs.OwnLogs.{Delivered, Handled};
+ghost use Rattle.node_threads.specs.Cells.{cell_data};
 
-use crate::name::ClusterName;
-use letter_types::{Acts, Entry, Step, StepOut};
-use stamp_post::{ActorSeat, Envelope, Outbox, Post};
+use history_merge::{ClusterName, OwnLog, Sent};
+use stamp_post::{ActorSeat, Envelope, Post};
 use std::alloc::Global;
-use std::marker::{Model, PhantomData};
-use tv_base::{ActorNo, NoMemory, Stamp};
+use std::marker::Model;
+use tv_base::{ActorNo, NoMemory};
 use tx_trees::Script;
 use world_core::{ActorState, actor_step};
 
-// The most entries of one actor.
-const MOST_ENTRIES: usize = 0x100_0000_0000;
-
-/// An actor: its state, its own entries and its seat, of the script and the post that `K` names. Its entries are a run
-/// of the actor's table that leads to the state, and its seat has just these entries. Contracts see its number and its
-/// entries.
+/// An actor: its own log, of the script and the post that `K` names, and its state, to which the log's entries lead.
+/// Contracts see its number and its entries.
 #[derive(Drop)]
 pub struct ActorCell<K: ClusterName> {
-    number: u8,
+    log: OwnLog<K>,
     state: ActorState,
-    entries: Vec<Entry>,
-    seat: ActorSeat,
-    name: PhantomData<K>,
 }
 
 impl<K: ClusterName> Model for ActorCell<K> {
-    ghost use Rattle.std.specs.Prelude.{◌≡◌, ◌+◌, map, None};
-    ghost use Rattle.letter_types.specs.Postal.{posting_of};
-    ghost use Rattle.stamp_post.specs.Shown.{seat_data};
+    ghost use Rattle.std.specs.Prelude.{◌≡◌, ◌+◌};
     ghost use Rattle.node_threads.specs.Cells.{CellData, LeadsTo, cell_data};
 
     ghost Value = { CellData };
 
-    ghost view = { λ c. cell_data c.number c.entries.items };
+    ghost view = { λ c. cell_data c.log.number c.log.entries };
 
     ghost invariant = { λ c.
-        (c.seat ≡ seat_data K.post c.number (map posting_of c.entries.items) None None)
-        × LeadsTo K.script c.number c.entries.items c.state
+        LeadsTo K.script c.log.number c.log.entries c.state
         × (K.post.actors ≡ K.script.nodes + 2) };
-}
-
-/// What came of a letter: the stamp of its entry, what its addressee did, and the letters that it sends.
-#[derive(Drop)]
-pub struct Sent {
-    pub stamp: Stamp,
-    pub acts: Acts,
-    pub out: Outbox,
 }
 
 impl<K: ClusterName> ActorCell<K> {
@@ -69,27 +48,22 @@ impl<K: ClusterName> ActorCell<K> {
         ensures { IfOk result (λ cell. cell ≡ cell_data number []) }
     {
         let state = ActorState::start(alloc, script, ActorNo(number))?;
-        Ok(ActorCell {
-            number,
-            state,
-            entries: Vec::new(alloc),
-            seat,
-            name: PhantomData,
-        })
+        let log = OwnLog::new(alloc, number, seat);
+        Ok(ActorCell { log, state })
     }
 
     /// The actor's number.
     pub fn number(&self) -> ActorNo
         ensures { result.0 ≡ self.now.number }
     {
-        ActorNo(self.number)
+        self.log.number()
     }
 
     /// How many entries it has.
     pub(crate) fn count(&self) -> usize
         ensures { result ≡ length self.now.entries }
     {
-        self.entries.len()
+        self.log.count()
     }
 
     /// Makes the actor's step for a letter that is addressed to it: all memory first, and then it takes the letter,
@@ -107,49 +81,25 @@ impl<K: ClusterName> ActorCell<K> {
         requires addressee { envelope.letter.to.0 ≡ self.old.number }
         ensures number { self.new.number ≡ self.old.number }
         ensures handled { MatchResult result
-            (λ sent. Handled K.post self.old self.new envelope.letter sent)
+            (λ sent. Handled K.post self.old.number self.old.entries self.new.entries envelope.letter sent)
             (λ e. (e.1 ≡ envelope) × (self.new ≡ self.old)) }
         ensures delivered { IfOk result (Delivered K.post K.script envelope.letter) }
     {
         let _valid = script.nodes();
-        if self.entries.len() >= MOST_ENTRIES || self.entries.reserve(1).is_err() {
+        let Ok(()) = self.log.make_room() else {
             return Err((NoMemory, envelope));
-        }
+        };
         let Ok(step) = actor_step(alloc, &mut self.state, envelope.letter(), script) else {
             return Err((NoMemory, envelope));
         };
-        let Step { given, kept } = step;
-        let StepOut { sent: out, acts } = given;
-        let StepOut {
-            sent,
-            acts: own_acts,
-        } = kept;
-        let took = post.take(&mut self.seat, envelope);
-        let stamp = post.stamp(&mut self.seat, &took, &sent);
-        let out = post.outbox(&mut self.seat, stamp, out);
-        self.entries.push_reserved(Entry {
-            stamp,
-            actor: ActorNo(self.number),
-            took,
-            sent,
-            acts: own_acts,
-        });
-        Ok(Sent { stamp, acts, out })
+        Ok(self.log.enter(post, envelope, script, step))
     }
 
-    /// The actor's entries and its seat.
-    pub(crate) fn into_parts(self) -> (Vec<Entry>, ActorSeat)
-        ensures entries { result.0.items ≡ self.entries }
-        ensures seat { result.1 ≡ seat_data K.post self.number (map posting_of self.entries) None None }
-        ensures run { IsRunOf (actor_row K.script self.number) (start_actor K.script self.number) self.entries }
+    // The actor's own log.
+    pub(crate) fn into_log(self) -> OwnLog<K>
+        ensures { cell_data result.number result.entries ≡ self }
     {
-        let ActorCell {
-            number: _,
-            state: _,
-            entries,
-            seat,
-            name: _,
-        } = self;
-        (entries, seat)
+        let ActorCell { log, state: _ } = self;
+        log
     }
 }

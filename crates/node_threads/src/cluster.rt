@@ -2,18 +2,14 @@
 ghost use Rattle.std.specs.Prelude.{◌≡◌, ◌+◌, ◌≤◌, ℕ, All, length, slice_get, IfErr, IfOk, MatchResult, Some};
 ghost use Rattle.stamp_post.specs.Shown.{ReceiptData, new_seats};
 ghost use Rattle.world_model.specs.Runs.{IsWorldRun};
-ghost use Rattle.node_threads.specs.Cells.{Delivered};
-ghost use Rattle.node_threads.specs.Histories.{IsTold};
+ghost use Rattle.history_merge.specs.Histories.{HasReceiptEntry};
+ghost use Rattle.history_merge.specs.OwnLogs.{Delivered};
 
-use crate::cell::{ActorCell, Sent};
-use crate::dispatch::Dispatch;
-use crate::finishing::{
-    Apart, closed_again, opened, room_for_cells, room_for_entries, taken_apart,
-};
-use crate::merge::merged;
-use crate::name::ClusterName;
-use crate::stop::RunStop;
+use crate::cell::ActorCell;
+use crate::finishing::{closed_again, logs_of, opened, room_for_cells, room_for_entries};
+use actor_schedule::{Dispatch, RunStop};
 use crossbeam_utils::CachePadded;
+use history_merge::{ClusterName, GatherRoom, Sent, gathered};
 use letter_types::History;
 use stamp_post::{Envelope, Gatherer, Post, PostParts, Receipts, Seats};
 use std::alloc::Global;
@@ -151,7 +147,7 @@ impl<'a, K: ClusterName, G: Gate> Cluster<'a, K, G> {
         requires { All (λ r. r.post ≡ K.post) receipts }
         ensures run { IfOk result (λ h. IsWorldRun K.script h) }
         ensures told { IfOk result (λ h. (k : ℕ) (r : ReceiptData) → slice_get receipts k ≡ Some r
-            → IsTold K.script h r) }
+            → HasReceiptEntry K.script h r) }
         ensures receipts { IfErr result (λ e. e.2 ≡ receipts) }
     {
         let Ok(room) = room_for_cells::<K>(self.alloc, self.cells.len()) else {
@@ -183,8 +179,12 @@ impl<'a, K: ClusterName, G: Gate> Cluster<'a, K, G> {
             }
         };
         let Keeper { gatherer, name: _ } = keeper.into_inner();
-        let Apart { seats, lists } = taken_apart(cells, room.seats, room.lists);
-        let gathered = post.gather(gatherer, seats, receipts);
-        Ok(merged(lists, entries, gathered.count))
+        let logs = logs_of(cells, room.logs);
+        let room = GatherRoom {
+            seats: room.seats,
+            lists: room.lists,
+            entries,
+        };
+        Ok(gathered(post, gatherer, logs, room, receipts))
     }
 }

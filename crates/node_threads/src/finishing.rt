@@ -1,16 +1,14 @@
-// What a cluster is taken apart into when it finishes, and how its cells are put back.
-ghost use Rattle.std.specs.Prelude.{◌≡◌, ◌≤◌, true, All, length, map, sum_by, IfOk, IfSome};
-ghost use Rattle.stamp_post.specs.Shown.{seat_joined};
-ghost use Rattle.node_threads.specs.inside.Finishing.{HasRoom, NumberedFrom};
-ghost use Rattle.node_threads.specs.inside.Merging.{AllRun, joined_from};
+// The cells of a cluster that finishes: out of their locks, put back, and without their states.
+ghost use Rattle.std.specs.Prelude.{◌≡◌, ◌≤◌, true, length, map, sum_by, IfOk, IfSome};
+ghost use Rattle.history_merge.specs.Merging.{HasRoom, NumberedBy};
+ghost use Rattle.node_threads.specs.Cells.{cell_data};
 
 use crate::cell::ActorCell;
-use crate::merge::LONGEST_HISTORY;
-use crate::name::ClusterName;
-use crate::stop::RunStop;
+use actor_schedule::RunStop;
 use crossbeam_utils::CachePadded;
+use history_merge::{ClusterName, LONGEST_HISTORY, OwnLog};
 use letter_types::Entry;
-use stamp_post::{ActorSeat, Seats};
+use stamp_post::ActorSeat;
 use std::alloc::Global;
 use std::collections::VecDeque;
 use std::sync::Mutex;
@@ -21,14 +19,8 @@ use tv_base::NoMemory;
 pub(crate) struct Room<K: ClusterName> {
     pub(crate) opened: Vec<ActorCell<K>>,
     pub(crate) closed: Vec<CachePadded<Mutex<ActorCell<K>>>>,
+    pub(crate) logs: Vec<OwnLog<K>>,
     pub(crate) seats: Vec<ActorSeat>,
-    pub(crate) lists: Vec<VecDeque<Entry>>,
-}
-
-// What actors have: their seats and their entries, by number.
-#[derive(Drop)]
-pub(crate) struct Apart {
-    pub(crate) seats: Seats,
     pub(crate) lists: Vec<VecDeque<Entry>>,
 }
 
@@ -38,11 +30,13 @@ pub(crate) fn room_for_cells<K: ClusterName>(
     count: usize,
 ) -> Result<Room<K>, NoMemory>
     ensures cells { IfOk result (λ r. HasRoom count r.opened × HasRoom count r.closed) }
+    ensures logs { IfOk result (λ r. HasRoom count r.logs) }
     ensures parts { IfOk result (λ r. HasRoom count r.seats × HasRoom count r.lists) }
 {
     Ok(Room {
         opened: Vec::with_capacity(alloc, count)?,
         closed: Vec::with_capacity(alloc, count)?,
+        logs: Vec::with_capacity(alloc, count)?,
         seats: Vec::with_capacity(alloc, count)?,
         lists: Vec::with_capacity(alloc, count)?,
     })
@@ -80,7 +74,7 @@ pub(crate) fn closed_again<K: ClusterName>(
 
 // Whether each cell's number is its place: no clause ties a lock's place to what lies under it.
 fn are_in_order<K: ClusterName>(cells: &[ActorCell<K>]) -> bool
-    ensures { result ≡ true → NumberedFrom 0 cells.now }
+    ensures { result ≡ true → NumberedBy (λ c. c.number) 0 cells.now }
 {
     for (place, cell) in cells.iter().enumerate() {
         if cell.number().0 as usize != place {
@@ -107,7 +101,7 @@ pub(crate) fn room_for_entries<K: ClusterName>(
     alloc: Global,
     cells: &[ActorCell<K>],
 ) -> Result<Vec<Entry>, RunStop>
-    ensures order { IfOk result (λ _. NumberedFrom 0 cells.now) }
+    ensures order { IfOk result (λ _. NumberedBy (λ c. c.number) 0 cells.now) }
     ensures room { IfOk result (λ room. HasRoom (sum_by (λ c. length c.entries) cells.now) room) }
     ensures few { IfOk result (λ _. sum_by (λ c. length c.entries) cells.now ≤ LONGEST_HISTORY) }
 {
@@ -122,29 +116,17 @@ pub(crate) fn room_for_entries<K: ClusterName>(
     Ok(room)
 }
 
-// The actors' seats and entries, out of their cells, in the room for them.
-pub(crate) fn taken_apart<K: ClusterName>(
+// The actors' own logs, in the room for them.
+pub(crate) fn logs_of<K: ClusterName>(
     cells: Vec<ActorCell<K>>,
-    seats: Vec<ActorSeat>,
-    lists: Vec<VecDeque<Entry>>,
-) -> Apart
-    requires order { NumberedFrom 0 cells.items }
-    requires room { HasRoom (length cells.items) seats × HasRoom (length cells.items) lists }
-    requires few { length cells.items ≤ 255 }
-    ensures seats { All (λ s. s.post ≡ K.post) result.seats }
-    ensures joined { map seat_joined result.seats ≡ joined_from 0 (map (λ v. v.items) result.lists.items) }
-    ensures runs { AllRun K.script (map (λ v. v.items) result.lists.items) }
-    ensures entries { map (λ v. v.items) result.lists.items ≡ map (λ c. c.entries) cells.items }
+    room: Vec<OwnLog<K>>,
+) -> Vec<OwnLog<K>>
+    requires { HasRoom (length cells.items) room }
+    ensures { map (λ l. cell_data l.number l.entries) result.items ≡ cells.items }
 {
-    let mut seats = seats;
-    let mut lists = lists;
+    let mut logs = room;
     for cell in cells {
-        let (entries, seat) = cell.into_parts();
-        seats.push_reserved(seat);
-        lists.push_reserved(VecDeque::from(entries));
+        logs.push_reserved(cell.into_log());
     }
-    Apart {
-        seats: Seats::from_vec(seats),
-        lists,
-    }
+    logs
 }

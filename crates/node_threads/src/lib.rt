@@ -3,17 +3,12 @@
 
 mod cell;
 mod cluster;
-mod dispatch;
 mod finishing;
-mod merge;
-mod name;
 mod running;
-mod schedule;
-mod stop;
 mod workers;
 
-pub use cell::{ActorCell, Sent};
+pub use actor_schedule::{Held, RunStop, Stopped};
+pub use cell::ActorCell;
 pub use cluster::Cluster;
-pub use name::ClusterName;
+pub use history_merge::{ClusterName, Sent};
 pub use running::run;
-pub use stop::{Held, RunStop, Stopped};

@@ -1,15 +1,14 @@
 // A script run by workers in threads of their own.
-ghost use Rattle.std.specs.Prelude.{◌≡◌, ◌+◌, ◌≤◌, true, length, sum_by, IfOk, IfSome};
+ghost use Rattle.std.specs.Prelude.{◌≡◌, ◌+◌, ◌≤◌, IfOk};
 ghost use Rattle.board_rules.specs.Right.{HasFinished};
 ghost use Rattle.stamp_post.specs.Shown.{new_seats};
 ghost use Rattle.world_model.specs.Runs.{IsWorldRun};
 ghost use Rattle.world_model.specs.Tables.{IsRunnable};
-ghost use Rattle.node_threads.specs.Histories.{HasTakenAll};
+ghost use Rattle.history_merge.specs.Histories.{HasTakenAll};
 
 use crate::cluster::Cluster;
-use crate::name::ClusterName;
-use crate::stop::{RunStop, Stopped};
-use crate::workers::ends;
+use actor_schedule::{RunStop, Stopped};
+use history_merge::{ClusterName, has_ended};
 use letter_types::History;
 use stamp_post::{Post, PostParts, Receipts};
 use std::alloc::Global;
@@ -20,51 +19,13 @@ use std::thread::Threads;
 use tv_base::{Gate, NoMemory};
 use tx_trees::Script;
 
-// Whether the client's end is one of the acts. It is looked for from the end on, where it is.
-fn has_finished(history: &History) -> bool
-    ensures { result ≡ true → HasFinished history.now }
-{
-    let entries = history.items();
-    for later in 0..entries.len() {
-        let place = entries.len() - 1 - later;
-        if ends(&entries[place].acts) {
-            return true;
-        }
-    }
-    false
-}
-
-// How many letters the entries sent. None where that is past the largest number.
-fn count_sent(history: &History) -> Option<usize>
-    ensures { IfSome result (λ count. count ≡ sum_by (λ e. length e.sent) history.now) }
-{
-    let mut count: usize = 0;
-    for entry in history.items() {
-        count = count.checked_add(entry.sent.items().len())?;
-    }
-    Some(count)
-}
-
-// Whether every letter was taken.
-fn has_taken_all(history: &History) -> bool
-    ensures { result ≡ true → HasTakenAll history.now }
-{
-    match count_sent(history) {
-        Some(sent) => history.items().len().checked_sub(1) == Some(sent),
-        None => false,
-    }
-}
-
 // The history, where it goes to its end.
 fn ended(history: History) -> Result<History, RunStop>
     ensures same { IfOk result (λ h. h ≡ history) }
     ensures finished { IfOk result (λ h. HasFinished h) }
     ensures taken { IfOk result (λ h. HasTakenAll h) }
 {
-    if !has_finished(&history) {
-        return Err(RunStop::Unfinished);
-    }
-    if !has_taken_all(&history) {
+    if !has_ended(&history) {
         return Err(RunStop::Unfinished);
     }
     Ok(history)

@@ -1,35 +1,17 @@
 // What workers do with a cluster's letters.
-ghost use Rattle.std.specs.Prelude.{◌≡◌, ◌<◌, IfErr, IfSome};
-ghost use Rattle.std.specs.List.{list_any};
-ghost use Rattle.board_rules.specs.Right.{finishes};
-ghost use Rattle.node_threads.specs.Stops.{AreOfPost};
-ghost use Rattle.node_threads.specs.inside.Holding.{KeepsLetter, KeepsRest};
+ghost use Rattle.std.specs.Prelude.{◌≡◌, ◌<◌, IfErr};
+ghost use Rattle.actor_schedule.specs.Stops.{AreOfPost, KeepsLetter};
 
-use crate::cell::Sent;
 use crate::cluster::Cluster;
-use crate::dispatch::Ending;
-use crate::name::ClusterName;
-use crate::stop::{Held, RunStop, Stopped};
-use letter_types::{Act, Acts};
-use stamp_post::{Envelope, Outbox};
+use actor_schedule::{Ending, Held, Stopped};
+use history_merge::{ClusterName, Sent, ends};
+use message_bag::Bag;
+use stamp_post::Envelope;
 use std::sync::Wait;
 use tv_base::{Gate, NoMemory};
 
 // The most letters that a worker delivers to an actor before it looks for the next one.
 const TURN: u32 = 64;
-
-// Whether one of the acts is the client's end.
-pub(crate) fn ends(acts: &Acts) -> bool
-    ensures { result ≡ list_any finishes acts.now }
-{
-    acts.items().iter().any(|act| is_end(act))
-}
-
-fn is_end(act: &Act) -> bool
-    ensures { result ≡ finishes act.now }
-{
-    matches!(act, Act::Finished)
-}
 
 impl<'a, K: ClusterName, G: Gate> Cluster<'a, K, G> {
     /// Puts an envelope into its addressee's mailbox. It comes back if memory runs out.
@@ -38,23 +20,6 @@ impl<'a, K: ClusterName, G: Gate> Cluster<'a, K, G> {
         ensures { IfErr result (λ e. e.1 ≡ envelope) }
     {
         self.dispatch.put(rt, envelope, 0)
-    }
-
-    // Puts all letters of an outbox into the mailboxes. Where one finds no room, it is held with those after it.
-    fn put_all<R: Wait>(&self, rt: &R, out: Outbox) -> Result<(), Stopped>
-        requires { out.post ≡ K.post }
-        ensures { IfErr result (λ s. KeepsRest K.post out.posting s.held) }
-    {
-        let mut left = out;
-        while let Some(envelope) = left.next(self.post()) {
-            if let Err((NoMemory, envelope)) = self.dispatch.put(rt, envelope, 1) {
-                return Err(Stopped {
-                    stop: RunStop::NoMemory,
-                    held: Held::Unplaced(envelope, left),
-                });
-            }
-        }
-        Ok(())
     }
 
     // Delivers an envelope and puts what comes out. Says whether the client has finished. Where it stops, the envelope
@@ -77,7 +42,7 @@ impl<'a, K: ClusterName, G: Gate> Cluster<'a, K, G> {
             acts,
             out,
         } = sent;
-        self.put_all(rt, out)?;
+        self.dispatch.put_all(rt, self.post(), out)?;
         Ok(ends(&acts))
     }
 
@@ -101,34 +66,46 @@ impl<'a, K: ClusterName, G: Gate> Cluster<'a, K, G> {
     }
 
     // Serves an actor: a turn of letters, or all that lie in its mailbox. Where more may lie there, it is ready again.
-    fn take_turn<R: Wait>(&self, rt: &R, actor: u8) -> Result<(), Stopped>
+    // The worker's hand is empty before and after.
+    fn take_turn<R: Wait>(&self, rt: &R, actor: u8, hand: &mut Bag<K>) -> Result<(), Stopped>
         requires { actor < K.post.actors }
         ensures { IfErr result (λ s. AreOfPost K.post s.held) }
     {
         for _letter in 0..TURN {
-            let Some(envelope) = self.dispatch.take(rt, actor) else {
+            let in_hand = hand.take(0);
+            let next = if in_hand.is_some() {
+                in_hand
+            } else {
+                self.dispatch.take(rt, actor, hand)
+            };
+            let Some(envelope) = next else {
                 return Ok(());
             };
-            self.work_on(rt, envelope)?;
+            if let Err(stopped) = self.work_on(rt, envelope) {
+                self.dispatch.give_back(rt, actor, hand);
+                return Err(stopped);
+            }
         }
+        self.dispatch.give_back(rt, actor, hand);
         self.dispatch.mark_ready(rt, actor, 1);
         Ok(())
     }
 
-    /// A worker: it serves the actor at its own place, or else the next in cyclic order of those for which a letter
-    /// lies in a mailbox and that no other worker serves. It delivers the oldest letters of that mailbox, a turn of
-    /// them at most, puts what comes out, and goes on with the next actor. Where there is none, it sleeps until an
-    /// envelope is put that nobody else is about to take. It ends once the client has finished, or once any worker
-    /// stops. What it had in hand when it stopped itself comes back; where another worker stopped it has nothing in
-    /// hand, and tells that one's cause.
+    /// A worker: it serves an actor for which a letter lies in a mailbox and that no other worker serves: the next in
+    /// cyclic order of those that it was the last to serve or that nobody has served, or else of all. It delivers the
+    /// oldest letters of that mailbox, a turn of them at most, puts what comes out, and goes on with the next actor.
+    /// Where there is none, it sleeps until an envelope is put that nobody else is about to take. It ends once the
+    /// client has finished, or once any worker stops. What it had in hand when it stopped itself comes back, or lies in
+    /// its mailbox again; where another worker stopped it has nothing in hand, and tells that one's cause.
     pub fn serve<R: Wait>(&self, rt: &R, worker: u32) -> Result<(), Stopped>
         ensures { IfErr result (λ s. AreOfPost K.post s.held) }
     {
         let mut place = (worker % 256) as u8;
+        let mut hand = Bag::new(self.alloc);
         for _ in rt.forever() {
-            match self.dispatch.next(rt, place) {
+            match self.dispatch.next(rt, worker, place) {
                 Ok(Some(actor)) => {
-                    self.take_turn(rt, actor)?;
+                    self.take_turn(rt, actor, &mut hand)?;
                     place = actor.wrapping_add(1);
                 }
                 Ok(None) => {}

@@ -176,7 +176,7 @@ fn a_soak_ends_over_a_source_that_tells_nothing(rt: HostRuntime) -> Result<(), F
 }
 
 #[test]
-fn a_sink_that_fails_has_a_front_of_the_report(rt: HostRuntime) -> Result<(), Fail> {
+fn a_sink_that_fails_has_a_prefix_of_the_report(rt: HostRuntime) -> Result<(), Fail> {
     let seen = call(
         &rt,
         rt.alloc(),

@@ -1,0 +1,193 @@
+// The letters that are in flight, and the workers that look for them.
+ghost use Rattle.std.specs.Prelude.{◌≡◌, ◌<◌, length, IfErr, IfOk, IfSome};
+ghost use Rattle.actor_schedule.specs.Stops.{KeepsRest};
+
+use crate::mailbox::{Mailbox, mailboxes_of};
+use crate::schedule::Schedule;
+use crate::stop::{Held, RunStop, Stopped};
+use crossbeam_utils::CachePadded;
+use message_bag::Bag;
+use stamp_post::{Envelope, Outbox, Post, PostName};
+use std::alloc::Global;
+use std::sync::atomic::{AtomicU64, Ordering};
+use std::sync::{Condvar, Mutex, Wait};
+use tv_base::NoMemory;
+
+/// Why workers end.
+#[derive(Clone, Copy)]
+pub enum Ending {
+    /// The client has finished.
+    Finished,
+    /// A worker has stopped.
+    Stopped(RunStop),
+}
+
+/// The mailboxes of the actors of the post that `P` names, each under a lock of its own, and which actors are ready.
+/// An actor is ready where a letter lies in its mailbox and no worker has it. No clause says who is served when, since
+/// what lies under a lock is known by its type alone.
+#[derive(Drop)]
+pub struct Dispatch<P: PostName> {
+    actors: u8,
+    mailboxes: Vec<CachePadded<Mutex<Mailbox<P>>>>,
+    schedule: CachePadded<Mutex<Schedule>>,
+    // How many workers sleep and weren't called, for those who look without the schedule's lock.
+    asleep: CachePadded<AtomicU64>,
+    called: Condvar,
+    ghost has_actors: { P.post.actors ≡ actors },
+    ghost has_mailboxes: { length mailboxes.items ≡ actors },
+}
+
+impl<P: PostName> Dispatch<P> {
+    /// Empty mailboxes, and no worker sleeps.
+    pub fn start(alloc: Global, actors: u8) -> Result<Dispatch<P>, NoMemory>
+        requires { P.post.actors ≡ actors }
+    {
+        let mailboxes = mailboxes_of::<P>(alloc, actors)?;
+        Ok(Dispatch {
+            actors,
+            mailboxes,
+            schedule: CachePadded::new(Mutex::new(Schedule::new())),
+            asleep: CachePadded::new(AtomicU64::new(0)),
+            called: Condvar::new(),
+        })
+    }
+
+    /// Puts an envelope into its addressee's mailbox. It comes back if memory runs out. Where so many actors more are
+    /// ready than `own`, which the caller takes itself, a worker that sleeps is called.
+    pub fn put<R: Wait>(
+        &self,
+        rt: &R,
+        envelope: Envelope,
+        own: u64,
+    ) -> Result<(), (NoMemory, Envelope)>
+        requires { envelope.post ≡ P.post }
+        ensures { IfErr result (λ e. e.1 ≡ envelope) }
+    {
+        let to = envelope.letter().to.0;
+        let lock: &Mutex<Mailbox<P>> = &self.mailboxes[to as usize];
+        let put = lock.lock(rt).put(envelope);
+        if put? {
+            self.mark_ready(rt, to, own);
+        }
+        Ok(())
+    }
+
+    /// Puts all letters of an outbox into their addressees' mailboxes, for a worker that takes an actor itself. Where
+    /// one finds no room, it is held with those after it.
+    pub fn put_all<R: Wait>(&self, rt: &R, post: &Post, out: Outbox) -> Result<(), Stopped>
+        requires post { post.now ≡ P.post }
+        requires out { out.post ≡ P.post }
+        ensures { IfErr result (λ s. KeepsRest P.post out.posting s.held) }
+    {
+        let mut left = out;
+        while let Some(envelope) = left.next(post) {
+            if let Err((NoMemory, envelope)) = self.put(rt, envelope, 1) {
+                return Err(Stopped {
+                    stop: RunStop::NoMemory,
+                    held: Held::Unplaced(envelope, left),
+                });
+            }
+        }
+        Ok(())
+    }
+
+    /// The oldest envelope for an actor. Those after it come into the worker's hand, which is empty. Where there is
+    /// none, nobody attends to the actor any more.
+    pub fn take<R: Wait>(&self, rt: &R, actor: u8, hand: &mut Bag<P>) -> Option<Envelope>
+        requires { actor < P.post.actors }
+        ensures { IfSome result (λ e. e.post ≡ P.post) }
+    {
+        let lock: &Mutex<Mailbox<P>> = &self.mailboxes[actor as usize];
+        lock.lock(rt).take_into(hand)
+    }
+
+    /// What a worker has left in hand of an actor's letters goes back into the mailbox, before those that came since.
+    pub fn give_back<R: Wait>(&self, rt: &R, actor: u8, hand: &mut Bag<P>)
+        requires { actor < P.post.actors }
+    {
+        let lock: &Mutex<Mailbox<P>> = &self.mailboxes[actor as usize];
+        lock.lock(rt).give_back(hand);
+    }
+
+    /// The oldest envelope for the first actor that has one.
+    pub fn take_any<R: Wait>(&self, rt: &R) -> Option<Envelope>
+        ensures { IfSome result (λ e. e.post ≡ P.post) }
+    {
+        for actor in 0..self.actors {
+            let lock: &Mutex<Mailbox<P>> = &self.mailboxes[actor as usize];
+            let taken = lock.lock(rt).take();
+            if taken.is_some() {
+                return taken;
+            }
+        }
+        None
+    }
+
+    /// An actor that wasn't ready is so now.
+    pub fn mark_ready<R: Wait>(&self, rt: &R, actor: u8, own: u64) {
+        let mut schedule = self.schedule.lock(rt);
+        schedule.mark(actor);
+        let calls = schedule.call(own);
+        if calls {
+            self.asleep.store(schedule.asleep(), Ordering::SeqCst);
+        }
+        drop(schedule);
+        if calls {
+            self.called.notify_one();
+        }
+    }
+
+    /// Calls a worker that sleeps, if an actor is ready that nobody is about to take. Who has fallen asleep since the
+    /// caller last marked an actor has seen that one.
+    pub fn call_help<R: Wait>(&self, rt: &R) {
+        if self.asleep.load(Ordering::SeqCst) == 0 {
+            return;
+        }
+        let mut schedule = self.schedule.lock(rt);
+        let calls = schedule.call(0);
+        if calls {
+            self.asleep.store(schedule.asleep(), Ordering::SeqCst);
+        }
+        drop(schedule);
+        if calls {
+            self.called.notify_one();
+        }
+    }
+
+    /// The actor that a worker serves next, which was ready: the first from this place on, in cyclic order, of those
+    /// that it was the last to serve or that nobody has served, or else of all. Where none is, the worker sleeps until
+    /// it is called, and is to look again.
+    pub fn next<R: Wait>(&self, rt: &R, worker: u32, from: u8) -> Result<Option<u8>, Ending>
+        ensures { IfOk result (λ next. IfSome next (λ actor. actor < P.post.actors)) }
+    {
+        let mut schedule = self.schedule.lock(rt);
+        if let Some(stop) = schedule.why_stopped() {
+            return Err(Ending::Stopped(stop));
+        }
+        if schedule.has_finished() {
+            return Err(Ending::Finished);
+        }
+        let next = schedule.take(worker, from, self.actors);
+        if next.is_none() {
+            schedule.fall_asleep();
+            self.asleep.store(schedule.asleep(), Ordering::SeqCst);
+            let mut up = self
+                .called
+                .wait_while(rt, schedule, |schedule| !schedule.wakes());
+            up.get_up();
+        }
+        Ok(next)
+    }
+
+    /// The client has finished: all workers end.
+    pub fn finish<R: Wait>(&self, rt: &R) {
+        self.schedule.lock(rt).finish();
+        self.called.notify_all();
+    }
+
+    /// A worker has stopped: so do all others.
+    pub fn stop<R: Wait>(&self, rt: &R, stop: RunStop) {
+        self.schedule.lock(rt).stop(stop);
+        self.called.notify_all();
+    }
+}

@@ -1,0 +1,87 @@
+// Mailboxes, and who attends to them.
+ghost use Rattle.std.specs.Prelude.{◌≡◌, length, IfErr, IfOk, IfSome};
+
+use crossbeam_utils::CachePadded;
+use message_bag::Bag;
+use stamp_post::{Envelope, PostName};
+use std::alloc::Global;
+use std::mem::swap;
+use std::sync::Mutex;
+use tv_base::NoMemory;
+
+// The letters that are in flight to an actor, and whether it is ready or a worker has it. Those that a worker took and
+// gave back are older than all others.
+#[derive(Drop)]
+pub(crate) struct Mailbox<P: PostName> {
+    older: Bag<P>,
+    newer: Bag<P>,
+    attended: bool,
+}
+
+impl<P: PostName> Mailbox<P> {
+    // An empty mailbox, which nobody attends to.
+    pub(crate) fn new(alloc: Global) -> Mailbox<P> {
+        Mailbox {
+            older: Bag::new(alloc),
+            newer: Bag::new(alloc),
+            attended: false,
+        }
+    }
+
+    // Puts an envelope last. Says whether nobody attended to the actor; from now on it is ready.
+    pub(crate) fn put(&mut self, envelope: Envelope) -> Result<bool, (NoMemory, Envelope)>
+        requires { envelope.post ≡ P.post }
+        ensures { IfErr result (λ e. e.1 ≡ envelope) }
+    {
+        self.newer.put(envelope)?;
+        let was_idle = !self.attended;
+        self.attended = true;
+        Ok(was_idle)
+    }
+
+    // The oldest envelope. Where there is none, nobody attends to the actor any more.
+    pub(crate) fn take(&mut self) -> Option<Envelope>
+        ensures { IfSome result (λ e. e.post ≡ P.post) }
+    {
+        let mut taken = self.older.take(0);
+        if taken.is_none() {
+            taken = self.newer.take(0);
+        }
+        self.attended = taken.is_some();
+        taken
+    }
+
+    // The same, and puts those after it into a worker's hand, which is empty.
+    pub(crate) fn take_into(&mut self, hand: &mut Bag<P>) -> Option<Envelope>
+        ensures { IfSome result (λ e. e.post ≡ P.post) }
+    {
+        let mut taken = self.older.take(0);
+        if taken.is_some() {
+            swap(&mut self.older, hand);
+        } else {
+            taken = self.newer.take(0);
+            swap(&mut self.newer, hand);
+        }
+        self.attended = taken.is_some();
+        taken
+    }
+
+    // What a worker has left in hand comes back.
+    pub(crate) fn give_back(&mut self, hand: &mut Bag<P>) {
+        swap(&mut self.older, hand);
+    }
+}
+
+// An empty mailbox for each actor.
+pub(crate) fn mailboxes_of<P: PostName>(
+    alloc: Global,
+    actors: u8,
+) -> Result<Vec<CachePadded<Mutex<Mailbox<P>>>>, NoMemory>
+    ensures { IfOk result (λ mailboxes. length mailboxes.items ≡ actors) }
+{
+    let mut mailboxes = Vec::new(alloc);
+    for _actor in 0..actors {
+        mailboxes.push(CachePadded::new(Mutex::new(Mailbox::new(alloc))))?;
+    }
+    Ok(mailboxes)
+}

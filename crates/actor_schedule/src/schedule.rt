@@ -1,0 +1,132 @@
+// Which actors are ready to be served, and which workers sleep until one is.
+ghost use Rattle.std.specs.Prelude.{◌<◌, IfSome};
+
+use crate::stop::RunStop;
+
+// The most actors that there are.
+const MOST_ACTORS: usize = 256;
+
+// Stands for the worker of an actor that none has served yet.
+const NOBODY: u32 = u32::MAX;
+
+// What workers tell one another, under one lock: which actors are ready, and how many these are; which worker was the
+// last to serve each; how many workers sleep and weren't called, and how many were called and aren't up yet; whether
+// the client has finished, and why a worker has stopped. An actor is ready where a letter lies in its mailbox and no
+// worker has it.
+#[derive(Clone, Copy)]
+pub(crate) struct Schedule {
+    ready: [bool; MOST_ACTORS],
+    waiting: u64,
+    server: [u32; MOST_ACTORS],
+    asleep: u64,
+    called: u64,
+    finished: bool,
+    stopped: Option<RunStop>,
+}
+
+impl Schedule {
+    // No actor is ready, and no worker sleeps.
+    pub(crate) fn new() -> Schedule {
+        Schedule {
+            ready: [false; MOST_ACTORS],
+            waiting: 0,
+            server: [NOBODY; MOST_ACTORS],
+            asleep: 0,
+            called: 0,
+            finished: false,
+            stopped: None,
+        }
+    }
+
+    // An actor that wasn't ready is so now.
+    pub(crate) fn mark(&mut self, actor: u8) {
+        self.ready[actor as usize] = true;
+        self.waiting = self.waiting.wrapping_add(1);
+    }
+
+    // The first actor that is ready, of so many, from this place on in cyclic order. Where a worker is named, it is one
+    // that this worker was the last to serve, or that nobody has served.
+    fn first_ready(&self, from: u8, actors: u8, worker: Option<u32>) -> Option<u8>
+        ensures { IfSome result (λ actor. actor < actors) }
+    {
+        for later in 0..actors {
+            let actor = ((from as usize + later as usize) % actors as usize) as u8;
+            let server = self.server[actor as usize];
+            let is_meant = match worker {
+                Some(worker) => server == worker || server == NOBODY,
+                None => true,
+            };
+            if is_meant && self.ready[actor as usize] {
+                return Some(actor);
+            }
+        }
+        None
+    }
+
+    // Takes an actor that is ready, of so many, for a worker: the first from this place on of those that it was the
+    // last to serve or that nobody has served, so that their memory stays with one processor, or else of all.
+    pub(crate) fn take(&mut self, worker: u32, from: u8, actors: u8) -> Option<u8>
+        ensures { IfSome result (λ actor. actor < actors) }
+    {
+        let mut found = self.first_ready(from, actors, Some(worker));
+        if found.is_none() {
+            found = self.first_ready(from, actors, None);
+        }
+        let actor = found?;
+        self.ready[actor as usize] = false;
+        self.server[actor as usize] = worker;
+        self.waiting = self.waiting.wrapping_sub(1);
+        Some(actor)
+    }
+
+    // The client has finished.
+    pub(crate) fn finish(&mut self) {
+        self.finished = true;
+    }
+
+    // A worker has stopped.
+    pub(crate) fn stop(&mut self, stop: RunStop) {
+        self.stopped = Some(stop);
+    }
+
+    // Whether the client has finished.
+    pub(crate) fn has_finished(&self) -> bool {
+        self.finished
+    }
+
+    // Why a worker has stopped.
+    pub(crate) fn why_stopped(&self) -> Option<RunStop> {
+        self.stopped
+    }
+
+    // How many workers sleep and weren't called.
+    pub(crate) fn asleep(&self) -> u64 {
+        self.asleep
+    }
+
+    // A worker goes to sleep.
+    pub(crate) fn fall_asleep(&mut self) {
+        self.asleep = self.asleep.saturating_add(1);
+    }
+
+    // Calls a worker that sleeps, where more actors are ready than those who were called take, and than `own`, which
+    // the caller takes. Says whether it did.
+    pub(crate) fn call(&mut self, own: u64) -> bool {
+        let calls = self.asleep > 0 && self.waiting > self.called.saturating_add(own);
+        if calls {
+            self.asleep = self.asleep.saturating_sub(1);
+            self.called = self.called.saturating_add(1);
+        }
+        calls
+    }
+
+    // Whether a worker that sleeps is to get up.
+    pub(crate) fn wakes(&self) -> bool {
+        self.called > 0 || self.finished || self.stopped.is_some()
+    }
+
+    // A worker has got up.
+    pub(crate) fn get_up(&mut self) {
+        self.called = self.called.saturating_sub(1);
+    }
+}

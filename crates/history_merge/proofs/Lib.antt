@@ -1,0 +1,5 @@
+pub mod OneMore
+pub mod Merges
+pub mod Parts
+pub mod Gatherings
+pub mod ClientEnds

@@ -1,0 +1,56 @@
+use Rattle.std.proofs.Common.{◌≡◌, List, ◌∷◌, map, get_or, sym, ap, ◌∙◌, subst, length, ◌<◌, arith, rules, Global, Some, true, false}
+use Rattle.std.specs.Prelude.{slice_get, slice_set, vec_len}
+use Rattle.std.specs.declared.collections.VecDeque.{VecDeque}
+use Rattle.std.proofs.lemmas.List.{length-map, map-set}
+use Rattle.std.proofs.lemmas.Option.{slice_get_within}
+use Rattle.letter_types.specs.declared.entries.Entry.{Entry}
+use Rattle.history_merge.specs.inside.Taking.{FirstHas}
+use Rattle.history_merge.proofs.Merges.{at_map, at_place, first_of, none_more}
+use Rattle.history_merge.proofs.merge.taken_out.Goals as goal
+
+pub returns-then-is_first-clause-taken : goal.returns-then-is_first-clause-taken
+returns-then-is_first-clause-taken c =
+    let items_of : VecDeque Entry Global → List Entry = λ v. v.items in
+    let a = c.loop-actor.actor in
+    let old = c.loop-actor.lists.items in
+    let same : old ≡ c.args.lists.now.items = c.loop-actor.invariant.same in
+    let d = c.index_mut-list.result.now in
+    let inside : a < length old = search rules in
+    let there : d ≡ get_or old a d = c.index_mut-list.ensures.value in
+    let here : slice_get old a ≡ Some d = at_place old a d inside there in
+    let row : slice_get (map items_of old) a ≡ Some d.items = at_map items_of old a d here in
+    let popped : d.items ≡ c.in_ok-entry.entry ∷ c.pop_front.new.self.items = c.in_ok-entry.ensures.items in
+    let at_first : Some c.index.result.now ≡ Some d = sym (at_place old a c.index.result.now inside c.index.ensures) ∙ here in
+    let one : c.index.result.now ≡ d = cc at_first in
+    let has : FirstHas c.args.stamp.0 d.items = subst (λ (x : VecDeque Entry Global). FirstHas c.args.stamp.0 x.items) one (c.is_first.ensures.0 c.if-is_first.true) in
+    record {
+      actor = a;
+      left = c.pop_front.new.self.items;
+      at = subst (λ (l : List (VecDeque Entry Global)). slice_get (map items_of l) a ≡ Some d.items) same row ∙ ap (λ (l : List Entry). Some l) popped;
+      set = map-set items_of old a c.pop_front.new.self ∙ ap (λ (l : List (VecDeque Entry Global)). slice_set (map items_of l) a c.pop_front.new.self.items) same;
+      stamp_is = first_of d.items c.in_ok-entry.entry c.pop_front.new.self.items c.args.stamp.0 popped has;
+    }
+
+pub loop-actor-preserved : goal.loop-actor-preserved
+loop-actor-preserved c =
+    let items_of : VecDeque Entry Global → List Entry = λ v. v.items in
+    let i = c.loop-actor.invariant in
+    let a = c.loop-actor.actor in
+    let old = c.loop-actor.lists.items in
+    let d = c.index.result.now in
+    let inside : a < length old = search rules in
+    let row : slice_get (map items_of old) a ≡ Some d.items = at_map items_of old a d (at_place old a d inside c.index.ensures) in
+    let there = subst (λ (l : List (VecDeque Entry Global)). slice_get (map items_of l) a ≡ Some d.items) i.same row in
+    record {
+      same = i.same;
+      none = none_more c.args.stamp.0 a (map items_of c.args.lists.now.items) d.items i.none there
+          (λ has. let both : false ≡ true = sym c.if-is_first.false ∙ c.is_first.ensures.1 has in cc both);
+    }
+
+pub returns-clause-none : goal.returns-clause-none
+returns-clause-none c = λ _ a es at.
+    let items_of : VecDeque Entry Global → List Entry = λ v. v.items in
+    let items = c.args.lists.now.items in
+    let long : vec_len c.args.lists.now ≡ length items = c.args.lists.now.ok.0 in
+    c.loop-actor.invariant.none a es
+    (omega (arith, slice_get_within (map items_of items) a es at, length-map items items_of, c.len-actor-end.ensures, c.loop-actor-test.false, long)) at
