@@ -29,8 +29,8 @@ use Rattle.board_model.specs.declared.standings.Standing.{Standing}
 use Rattle.board_model.specs.declared.tallies.Tally.{Tally}
 use Rattle.board_model.specs.inside.Closed.{Closed, closed_after_act, none_closed, with_tree_closed}
 use Rattle.board_model.specs.inside.Closed.{closed_back}
-use Rattle.board_rules.specs.Histories.{Place, all_applied, all_done, applies, born_as, commits, does, is_strict_tree, is_through, places_at, places_of, version_in, version_of, was_applied, was_committed, was_done}
-use Rattle.board_rules.specs.Serial.{closes, closings, is_in, is_member, takes_effect, is_version, members, with_closed}
+use Rattle.board_rules.specs.Histories.{Place, all_applied, all_done, applies, born_as, commits, does, is_strict_tree, is_complete, places_at, places_of, version_in, version_of, was_applied, was_committed, was_done}
+use Rattle.board_rules.specs.Serial.{commits_by, commit_order, is_in, is_member, takes_effect, is_version, members, with_closed}
 use Rattle.board_model.specs.SerialList.{is_of_version, trees_of_members}
 use Rattle.board_model.specs.inside.SerialList.{counted_at, counts_by, found_back, member_of, with_version}
 use Rattle.board_model.specs.Standings.{standing_of, standings_from, standings_of}
@@ -319,12 +319,12 @@ standing_is s h t tree row few is here told =
     ≡ (if elim o as (λ (z : Option Tree). Bool) [ Some one ↦ is_strict one.kind | None ↦ false ]
     then all_applied t (elim o as (λ (z : Option Tree). List Sub) [ Some one ↦ one.subs | None ↦ [] ]) xs
     else all_done t (length {A = Sub} (elim o as (λ (z : Option Tree). List Sub) [ Some one ↦ one.subs | None ↦ [] ])) xs) in
-    let through : is_through_by tree.kind tree.subs row ≡ is_through s xs t
+    let through : is_through_by tree.kind tree.subs row ≡ is_complete s xs t
     = subst P (sym here) (by_kind t s.nodes s.items tree.kind tree.subs xs row few is.few is.subs told) in
     let make : Option Version → Bool → Bool → Standing = λ (o : Option Version) (b c : Bool). record { born = o; whole = is_some o && b; committed = c } in
     ap (λ (o : Option Version). make o (is_through_by tree.kind tree.subs row) row.committed) told.born
     ∙ ap (λ (b : Bool). make (version_of h t) b row.committed) through
-    ∙ ap (λ (c : Bool). make (version_of h t) (is_through s xs t) c) told.committed
+    ∙ ap (λ (c : Bool). make (version_of h t) (is_complete s xs t) c) told.committed
 
 -- the second list is in the first from place t on
 abbrev IsFrom : List Tree → ℕ → List Tree → Type 0
@@ -367,7 +367,7 @@ choice_close : (b : Bool) (t : ℕ) (c : Closed) → (if b then with_tree_closed
 choice_close true t c = refl
 choice_close false t c = refl
 
-act_closes : (s : ScriptData) (a : Act) (c : Closed) → closed_after_act s a c ≡ after_close (closes s a) c
+act_closes : (s : ScriptData) (a : Act) (c : Closed) → closed_after_act s a c ≡ after_close (commits_by s a) c
 act_closes s (Did t k vs) c = choice_close (updates s t.0) t.0 c
 act_closes s (Decided t commit) c = choice_close (is_strict_tree s t.0 && commit) t.0 c
 act_closes s (Born u v) c = refl
@@ -416,7 +416,7 @@ chosen : (b : Bool) (t u : ℕ) → (if b then Some t else None) ≡ Some u → 
 chosen true t u e = (refl, (let same : t ≡ u = cc e in same))
 chosen false t u e = absurd (cc e)
 
-closes_small : (s : ScriptData) (a : Act) (t : ℕ) → closes s a ≡ Some t → t < length s.trees
+closes_small : (s : ScriptData) (a : Act) (t : ℕ) → commits_by s a ≡ Some t → t < length s.trees
 closes_small s (Did u k vs) t e =
     let c = chosen (updates s u.0) u.0 t e in
     let small = tree_there s.trees u.0 (λ (tree : Tree). is_update tree.kind) c.0 in
@@ -437,7 +437,7 @@ closes_small s (Voted u a b) t e = absurd (cc e)
 closes_small s (Freed u) t e = absurd (cc e)
 
 all_kept_closed : (s : ScriptData) (xs : List Place)
-    → Keeps (length s.trees) (closings s xs) (closed_back s xs (none_closed (length s.trees)))
+    → Keeps (length s.trees) (commit_order s xs) (closed_back s xs (none_closed (length s.trees)))
 all_kept_closed s [] = record {
   count = length-replicate (length s.trees) false;
   marks = λ (t : ℕ) lt. none_marked (length s.trees) t;
@@ -446,8 +446,8 @@ all_kept_closed s [] = record {
 all_kept_closed s (x ∷ xs) =
     let n : ℕ = length s.trees in
     let c : Closed = closed_back s xs (none_closed n) in
-    subst (λ (z : Closed). Keeps n (closings s (x ∷ xs)) z) (sym (act_closes s x.act c))
-    (keeps_close n (closes s x.act) (closings s xs) c (closes_small s x.act) (all_kept_closed s xs))
+    subst (λ (z : Closed). Keeps n (commit_order s (x ∷ xs)) z) (sym (act_closes s x.act c))
+    (keeps_close n (commits_by s x.act) (commit_order s xs) c (closes_small s x.act) (all_kept_closed s xs))
 
 -- the standing of tree k + i
 standing_get : (s : ScriptData) (h : List Entry) (k : ℕ) (ts : List Tree) (i : ℕ)
@@ -514,4 +514,4 @@ pub found_all : (s : ScriptData) (h : List Entry) (v : ℕ)
 found_all s h v =
     let kept = all_kept_closed s (places_of h) in
     ap (λ (z : List TreeNo). trees_of_members (filter (is_of_version v) (filter_map (member_of s.trees (standings_of s h)) z))) kept.order
-    ∙ members_from s h v (closings s (places_of h))
+    ∙ members_from s h v (commit_order s (places_of h))

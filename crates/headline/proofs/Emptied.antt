@@ -5,7 +5,7 @@ use Rattle.letter_types.specs.declared.entries.Entry.{Entry}
 use Rattle.world_model.specs.Coordinator.{Coordinator}
 use Rattle.tx_trees.specs.ScriptData.{ScriptData}
 use Rattle.tx_trees.specs.Valid.{IsValid}
-use Rattle.world_model.specs.Runs.{IsStepRun, waiting}
+use Rattle.world_model.specs.Runs.{IsStepRun, in_flight}
 use Rattle.world_model.specs.Tables.{IsRunnable}
 use Rattle.world_model.proofs.Bridge.{coordinator_after}
 use Rattle.world_model.proofs.Scripts.{IsSound}
@@ -18,13 +18,13 @@ use Rattle.run_laws.proofs.Entries.{entries_counted}
 use Rattle.headline.proofs.Promised.{headline_past}
 use Rattle.headline.specs.Ended.{HasEnded}
 
-pub ended_past : (s : ScriptData) (past : List Entry) → IsValid s → IsRunnable s → IsStepRun s past → waiting s past ≡ []
+pub ended_past : (s : ScriptData) (past : List Entry) → IsValid s → IsRunnable s → IsStepRun s past → in_flight s past ≡ []
     → HasEnded s (reverse past)
 ended_past s past valid runnable run left =
     let sound : IsSound s = record { valid = valid; runnable = runnable } in
     record {
       headline = headline_past s past sound run (no_run_stalls s past sound run left).1;
-      left = ap (waiting s) (reverse-reverse past) ∙ left;
+      left = ap (in_flight s) (reverse-reverse past) ∙ left;
       entries = length-reverse past ∙ entries_counted s past sound run left;
       rounds = omega (
         arith,

@@ -13,7 +13,7 @@ use Rattle.letter_types.specs.declared.entries.Entry.{Entry}
 use Rattle.tx_trees.specs.ScriptData.{ScriptData, subs_at, updates}
 use Rattle.tx_trees.specs.declared.parts.ItemRow.{ItemRow}
 use Rattle.tx_trees.specs.declared.parts.Sub.{Sub}
-use Rattle.board_rules.specs.Histories.{IsWhole, Place, all_done, does, is_through, places_of, version_of, was_done}
+use Rattle.board_rules.specs.Histories.{IsWhole, Place, all_done, does, is_complete, places_of, version_of, was_done}
 use Rattle.board_rules.specs.Serial.{is_in, serial_to}
 use Rattle.board_rules.specs.Worth.{first_value, worth}
 use Rattle.board_rules.proofs.Closings.{AreApart}
@@ -185,7 +185,7 @@ pub whole_was_done : (s : ScriptData) (h : List Entry) (t k : ℕ) → IsSound s
 whole_was_done s h t k sound whole lt =
     let xs = places_of h in
     let commuting = none_strict s t sound in
-    let through : is_through s xs t ≡ true = right_true (is_some (version_of h t)) (is_through s xs t) whole in
+    let through : is_complete s xs t ≡ true = right_true (is_some (version_of h t)) (is_complete s xs t) whole in
     let all : all_done t (length (subs_at s t)) xs ≡ true = grind (arith, commuting, through) in
     done_of t (length (subs_at s t)) k xs lt all
 

@@ -16,7 +16,7 @@ use Rattle.world_model.specs.declared.phase.Phase.TheVariants.{Idle, Turning, Co
 use Rattle.board_rules.specs.Histories.{is_strict_tree, places_of}
 use Rattle.board_rules.specs.Moves.{IsShowing, IsSweeping, IsTurn}
 use Rattle.world_model.specs.Counts.{one_if}
-use Rattle.world_model.specs.Runs.{MayFollow, IsStepRun, coordinator_in, node_in, waiting}
+use Rattle.world_model.specs.Runs.{MayFollow, IsStepRun, coordinator_in, node_in, in_flight}
 use Rattle.world_model.specs.Timely.{AllTimely}
 use Rattle.world_model.proofs.Bags.{tally-drop}
 use Rattle.world_model.proofs.Every.{each_taken}
@@ -60,7 +60,7 @@ told_here g s past e b p m at is one =
     let to : e.took.to.0 ≡ p = m.addressee ∙ at in
     let here : tell g p e.took.to.0 e.took.body ≡ 1 =
     ap (λ (q : ℕ). tell g p q e.took.body) to ∙ ap (tell g p p) is ∙ one in
-    omega (arith, here, tally-drop (λ (l : Letter). tell g p l.to.0 l.body) e.took.id (waiting s past) e.took m.waits)
+    omega (arith, here, tally-drop (λ (l : Letter). tell g p l.to.0 l.body) e.took.id (in_flight s past) e.took m.waits)
 
 taken_level : (s : ScriptData) (past : List Entry) (e : Entry) (b : Body) → Stand s past e → e.took.body ≡ b
     → LevelBody s (coordinator_in s past).phase (coordinator_in s past).update b

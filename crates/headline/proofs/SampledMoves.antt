@@ -6,7 +6,7 @@ use Rattle.tx_trees.specs.ScriptData.{ScriptData}
 use Rattle.tx_trees.specs.declared.parts.ScriptRow.TheVariants.{Advance, Settle}
 use Rattle.board_rules.specs.Histories.{is_whole_in, places_of, was_done}
 use Rattle.board_rules.specs.Moves.{IsDeed, IsShowing, IsTurn, low_after, read_after, update_after}
-use Rattle.world_model.specs.Runs.{waiting}
+use Rattle.world_model.specs.Runs.{in_flight}
 use Rattle.world_model.specs.Sample.{sample, small}
 
 -- without an advancement a node keeps its first numbers
@@ -33,7 +33,7 @@ whole = refl
 abbrev advanced : ScriptData
 advanced = record small { rows = small.rows ++ Settle ∷ Advance ∷ [] }
 
-pub all_taken : waiting advanced (sample advanced 40) ≡ []
+pub all_taken : in_flight advanced (sample advanced 40) ≡ []
 all_taken = refl
 
 pub next_update : update_after (places_of (reverse (sample advanced 40))) 0 ≡ 2

@@ -35,7 +35,7 @@ use Rattle.run_laws.specs.Shown.{UpdatesAreWhole}
 use Rattle.run_laws.proofs.Closed.{update_there}
 use Rattle.run_laws.proofs.InTime.{in_time}
 use Rattle.headline.proofs.OwnWorth.{own_is_worth}
-use Rattle.headline.specs.Held.{IsSettled}
+use Rattle.headline.specs.Held.{HoldsBalances}
 use Rattle.headline.proofs.AtEnd.{written_at_end}
 use Rattle.headline.proofs.Few.{held_at, item_node}
 use Rattle.headline.proofs.Keeping.{keeps_run}
@@ -128,7 +128,7 @@ worth_seen s past x v r h sound run timely finished at low is =
     sym found ∙ sees_own s past sound run timely p x v r lt at refl low
     ∙ ap (λ (u : Value). Some u) (own_is_worth s past p x v r sound run lt at refl (all_whole s past v sound run timely finished))
 
-pub settled : (s : ScriptData) (past : List Entry) → IsSound s → IsStepRun s past → HasFinished (reverse past) → IsSettled s (reverse past)
+pub settled : (s : ScriptData) (past : List Entry) → IsSound s → IsStepRun s past → HasFinished (reverse past) → HoldsBalances s (reverse past)
 settled s past sound run finished = λ x r at.
     let p = r.node.0 in
     let a = advances_in s.rows in

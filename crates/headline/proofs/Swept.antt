@@ -24,7 +24,7 @@ use Rattle.world_model.specs.declared.phase.Phase.TheVariants.{Sweeping}
 use Rattle.board_rules.specs.Gates.{sweeps_to, was_swept}
 use Rattle.board_rules.specs.Histories.{Place, places_at, places_of}
 use Rattle.world_model.specs.Counts.{one_if}
-use Rattle.world_model.specs.Runs.{MayFollow, IsStepRun, coordinator_in, node_in, waiting}
+use Rattle.world_model.specs.Runs.{MayFollow, IsStepRun, coordinator_in, node_in, in_flight}
 use Rattle.world_model.specs.Timely.{AllTimely}
 use Rattle.world_model.proofs.Bags.{one_if_same, tally-drop}
 use Rattle.world_model.proofs.Every.{node_kept}
@@ -58,7 +58,7 @@ sweep_order s past e p v m at is =
     let to : e.took.to.0 ≡ p = m.addressee ∙ at in
     let one : tell SweepStage p e.took.to.0 e.took.body ≡ 1 =
     ap (λ (b : Body). tell SweepStage p e.took.to.0 b) is ∙ ap (λ (q : ℕ). one_if (q == p)) to ∙ one_if_same p in
-    omega (arith, one, tally-drop (λ (l : Letter). tell SweepStage p l.to.0 l.body) e.took.id (waiting s past) e.took m.waits)
+    omega (arith, one, tally-drop (λ (l : Letter). tell SweepStage p l.to.0 l.body) e.took.id (in_flight s past) e.took m.waits)
 
 sweep_next : (s : ScriptData) (past : List Entry) (e : Entry) (p : ℕ) (v : Version) → IsSound s → IsStepRun s past → AllTimely s past
     → MayFollow s past e → p < s.nodes → e.actor.0 ≡ p → e.took.body ≡ Sweep v → v.0 ≡ (node_in s past p).turns.low.0 + 1

@@ -19,7 +19,7 @@ use Rattle.tx_trees.specs.ScriptData.{ScriptData}
 use Rattle.world_model.specs.Named.{is_named, is_new, is_timely}
 use Rattle.world_model.specs.Node.{Node}
 use Rattle.world_model.specs.Apt.{can_make, is_apt, is_widely_apt, is_widely_timely, node_row, row, wide_node_row}
-use Rattle.world_model.specs.Runs.{IsRunOf, MayFollow, AtNode, Says, IsStepRun, IsWideRun, IsWorldRun, after, node_in, waiting}
+use Rattle.world_model.specs.Runs.{IsRunOf, MayFollow, AtNode, Says, IsStepRun, IsWideRun, IsWorldRun, after, node_in, in_flight}
 use Rattle.world_model.specs.Tables.{start_node, wide_actor_row}
 use Rattle.world_model.proofs.Actors.{IsTableOf, RowsRun, rows_run, runs_of_rows}
 use Rattle.world_model.proofs.Back.{run_more, says_node, table_run_of, world_run}
@@ -85,7 +85,7 @@ entry_with s past e out = record {
 
 -- both tables say the same of a letter in flight to a node
 same_row : (s : ScriptData) (past : List Entry) (e : Entry) → IsSound s → IsStepRun s past → e.actor.0 < s.nodes
-    → find_id e.took.id (waiting s past) ≡ Some e.took → e.took.to.0 ≡ e.actor.0
+    → find_id e.took.id (in_flight s past) ≡ Some e.took → e.took.to.0 ≡ e.actor.0
     → wide_node_row s e.actor.0 (node_in s past e.actor.0) e.took ≡ node_row s e.actor.0 (node_in s past e.actor.0) e.took
 same_row s past e sound run lt waits to =
     let p = e.actor.0 in

@@ -3,7 +3,7 @@ use Rattle.std.specs.Prelude.{◌+◌, ◌*◌, ◌≡◌, ◌≤◌, List, [], 
 use Rattle.letter_types.specs.declared.entries.Entry.{Entry}
 use Rattle.tx_trees.specs.Counts.{advances_in}
 use Rattle.tx_trees.specs.ScriptData.{ScriptData}
-use Rattle.world_model.specs.Runs.{waiting}
+use Rattle.world_model.specs.Runs.{in_flight}
 use Rattle.tree_laws.specs.Entries.{entries_of, rounds_in}
 use Rattle.headline.specs.Headline.{HasHeadline}
 
@@ -11,7 +11,7 @@ use Rattle.headline.specs.Headline.{HasHeadline}
 -- advancements make, at most two rounds for each advancement and one for each tree, and without advancements none
 pub record HasEnded (s : ScriptData) (h : List Entry) : Type 0 where
   pub headline : HasHeadline s h
-  pub left : waiting s (reverse h) ≡ []
+  pub left : in_flight s (reverse h) ≡ []
   pub entries : length h ≡ entries_of s (rounds_in s h)
   pub rounds : rounds_in s h ≤ 2 * advances_in s.rows + length s.trees
   pub no_rounds : advances_in s.rows ≡ 0 → rounds_in s h ≡ 0

@@ -15,7 +15,7 @@ use Rattle.world_model.specs.Runs.{IsWorldRun}
 use Rattle.run_laws.specs.Taken.{TakesWhatIsApt}
 use Rattle.headline.specs.Reads.{ReadsStayRight, UpdatesComeFirst}
 use Rattle.headline.specs.Undone.{ShowsNothingUndone}
-use Rattle.headline.specs.Held.{HasHeldThree, IsSettled}
+use Rattle.headline.specs.Held.{HasHeldThree, HoldsBalances}
 
 -- The headline of a script and a history, with a field a phrase, in its order. That its report was written is said
 -- beside it, where there is something that is written to.
@@ -29,7 +29,7 @@ pub record HasHeadline (s : ScriptData) (h : List Entry) : Type 0 where
   pub finished : HasFinished h
   pub whole : (t : ℕ) → t < length s.trees → IsWhole s h t
   -- the report of its own stored history: its balances are what the nodes hold, and its reads are what the steps gave
-  pub settled : IsSettled s h
+  pub settled : HoldsBalances s h
   pub reads : ReadsStayRight s h
   -- every read tree shows exactly the whole update trees of its version or older
   pub right : IsRight s h

@@ -50,6 +50,6 @@ worth_at_end s h x a =
     ∷ (if is_written s h x (a + 1) then (record { 0 = a + 1 }, worth s h x (a + 1)) ∷ [] else [])
 
 -- what the nodes hold after a history are the balances of its report
-abbrev pub IsSettled : ScriptData → List Entry → Type 0
-IsSettled s h = (x : ℕ) (r : ItemRow) → slice_get s.items x ≡ Some r
+abbrev pub HoldsBalances : ScriptData → List Entry → Type 0
+HoldsBalances s h = (x : ℕ) (r : ItemRow) → slice_get s.items x ≡ Some r
     → held_after s h r.node.0 x ≡ worth_at_end s h x (advances_in s.rows)

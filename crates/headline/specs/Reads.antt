@@ -1,4 +1,4 @@
--- What comes before the values that a read shows, and that they stay right.
+-- What the values that a read shows rest on, and that they stay right.
 use Rattle.std.specs.Prelude.{ℕ, ◌≡◌, ◌≤◌, List, Option, Some, None, IsTrue}
 use Rattle.tv_base.specs.declared.numbers.Version.{Version}
 use Rattle.commute_ops.specs.declared.value.Value.{Value}

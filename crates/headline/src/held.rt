@@ -1,7 +1,7 @@
 // Laws of items: at most three versions are held, and in the end the balances of the report.
 ghost use Rattle.std.specs.Prelude.{List, reverse};
 ghost use Rattle.board_rules.specs.Right.{HasFinished};
-ghost use Rattle.headline.specs.Held.{HasHeldThree, IsSettled};
+ghost use Rattle.headline.specs.Held.{HasHeldThree, HoldsBalances};
 ghost use Rattle.letter_types.specs.declared.entries.Entry.{Entry};
 ghost use Rattle.tx_trees.specs.ScriptData.{ScriptData};
 ghost use Rattle.tx_trees.specs.Valid.{IsValid};
@@ -19,5 +19,5 @@ pub fn no_item_has_held_more_than_three()
 /// nothing else: its worth in the last version that was shown, and in the next one if a tree of that one changes it.
 pub fn nodes_hold_the_balances()
     ensures { (s : ScriptData) (past : List Entry) → IsValid s → IsRunnable s → IsStepRun s past
-        → HasFinished (reverse past) → IsSettled s (reverse past) }
+        → HasFinished (reverse past) → HoldsBalances s (reverse past) }
 {}

@@ -27,7 +27,7 @@ use Rattle.world_model.proofs.Nexts.{Next, Begins, Hears, Ends, Coordinates, Doe
 use Rattle.world_model.proofs.Sends.{on, replies_none, subs_none}
 use Rattle.world_model.specs.Kept.{done_by}
 use Rattle.world_model.proofs.Worked.{took_none}
-use Rattle.phase_laws.specs.Phases.{under_way}
+use Rattle.phase_laws.specs.Phases.{count_in_flight}
 
 -- a letter to each node counts as often as there are nodes, or not at all
 pub to_nodes_none : (f : Body → ℕ) (n : ℕ) (body : Body) → f body ≡ 0 → tally (on f) (to_nodes n body) ≡ 0
@@ -151,5 +151,5 @@ node_passes f h passes s past e node (Obeys p out at lt order made) =
 
 -- so a node's entry leaves the number over the letters in flight
 pub node_keeps : (f : Body → ℕ) → Passes f f → (s : ScriptData) (past : List Entry) (e : Entry) → MayFollow s past e
-    → e.actor.0 < s.nodes → Next s past e → under_way f s (e ∷ past) ≡ under_way f s past
+    → e.actor.0 < s.nodes → Next s past e → count_in_flight f s (e ∷ past) ≡ count_in_flight f s past
 node_keeps f passes s past e m node next = omega (arith, flow f s past e m, node_passes f f passes s past e node next)

@@ -9,7 +9,7 @@ use Rattle.world_model.specs.declared.phase.Phase.{Phase}
 use Rattle.world_model.specs.declared.phase.Phase.TheVariants.{Turning, Showing, Sweeping}
 use Rattle.world_model.specs.Counts.{Each, one_if, tally}
 use Rattle.world_model.specs.Kept.{outstanding}
-use Rattle.world_model.specs.Runs.{coordinator_in, node_in, waiting}
+use Rattle.world_model.specs.Runs.{coordinator_in, node_in, in_flight}
 use Rattle.phase_laws.specs.Phases.{Stage, TurnStage, ShowStage, SweepStage, least_update, most_update, least_read, most_read, most_low}
 
 -- what a node comes to in a phase, now or by a letter that is in flight
@@ -46,7 +46,7 @@ tell g p to _ = 0
 
 -- how many of them are in flight
 abbrev pub tells : ScriptData → List Entry → Stage → ℕ → ℕ
-tells s past g p = tally (λ (l : Letter). tell g p l.to.0 l.body) (waiting s past)
+tells s past g p = tally (λ (l : Letter). tell g p l.to.0 l.body) (in_flight s past)
 
 -- node p's versions are those of the phase
 abbrev pub LevelAt : ScriptData → List Entry → ℕ → Type 0

@@ -25,7 +25,7 @@ use Rattle.world_model.specs.declared.phase.Phase.{Phase}
 use Rattle.world_model.specs.declared.phase.Phase.TheVariants.{Idle, Turning, Counting, Showing, Sweeping}
 use Rattle.world_model.specs.Client.{Client, rows_letters, submit, submitted, with_answer, with_end, nudge}
 use Rattle.world_model.specs.Counts.{Each, tally}
-use Rattle.world_model.specs.Runs.{IsStepRun, client_in, coordinator_in, node_in, waiting, MayFollow}
+use Rattle.world_model.specs.Runs.{IsStepRun, client_in, coordinator_in, node_in, in_flight, MayFollow}
 use Rattle.world_model.specs.Timely.{AllTimely}
 use Rattle.world_model.proofs.Bags.{tally-drop}
 use Rattle.world_model.proofs.Every.{coordinator_kept, each_append, each_both, each_drop, each_left, each_map, each_zero}
@@ -36,7 +36,7 @@ use Rattle.world_model.proofs.Scripts.{SubAt, reads_alone}
 use Rattle.world_model.proofs.EachOutstanding.{each_waits, each_outstanding, each_done}
 use Rattle.world_model.proofs.NothingKept.{outstanding_is}
 use Rattle.world_model.specs.Kept.{outstanding, done_by}
-use Rattle.phase_laws.specs.Phases.{Stage, TurnStage, ShowStage, SweepStage, token, under_way, within, most_update}
+use Rattle.phase_laws.specs.Phases.{Stage, TurnStage, ShowStage, SweepStage, token, count_in_flight, within, most_update}
 use Rattle.phase_laws.proofs.Outcomes.{Outcome, Rests, Queues, Flags, Turns, Acks, LastTurned, LastShown, Finishes, GoesOn, Resumes, KeepsDone, KeepsAsked, Agrees, Recounts, Pauses, asked_kept, finished, gone_on, round_begun}
 use Rattle.phase_laws.proofs.Small.{outcome_in}
 use Rattle.phase_laws.proofs.Tokens.{told}
@@ -195,12 +195,12 @@ letters_ended : (s : ScriptData) (past : List Entry) (e : Entry) (v : Version) (
     → LettersAt s (e ∷ past) (coordinator_in s (e ∷ past))
 letters_ended s past e v out laws run timely was at bd last moved is next most right =
     let c = coordinator_in s past in
-    let left = drop_id e.took.id (waiting s past) in
+    let left = drop_id e.took.id (in_flight s past) in
     let full : c.acks + 1 ≡ c.nodes = grind (arith, nat_tests) in
-    let rest : (g : Stage) → tally (λ (l : Letter). token g l.body) left + token g e.took.body ≡ under_way (token g) s past =
-    λ g. tally-drop (λ (l : Letter). token g l.body) e.took.id (waiting s past) e.took run.0.waits in
-    let now : (g : Stage) → under_way (token g) s past + within g Sweeping c.acks ≡ within g Sweeping s.nodes =
-    λ g. subst (λ (q : Phase). under_way (token g) s past + within g q c.acks ≡ within g q s.nodes) at
+    let rest : (g : Stage) → tally (λ (l : Letter). token g l.body) left + token g e.took.body ≡ count_in_flight (token g) s past =
+    λ g. tally-drop (λ (l : Letter). token g l.body) e.took.id (in_flight s past) e.took run.0.waits in
+    let now : (g : Stage) → count_in_flight (token g) s past + within g Sweeping c.acks ≡ within g Sweeping s.nodes =
+    λ g. subst (λ (q : Phase). count_in_flight (token g) s past + within g q c.acks ≡ within g q s.nodes) at
     (told g s past laws run.1 timely) in
     let one : token SweepStage e.took.body ≡ 1 = ap (token SweepStage) bd in
     let z1 = each_zero (λ (l : Letter). token TurnStage l.body) left (omega (arith, rest TurnStage, now TurnStage)) in
@@ -208,13 +208,13 @@ letters_ended s past e v out laws run timely was at bd last moved is next most r
     let z3 = each_zero (λ (l : Letter). token SweepStage l.body) left
     (omega (arith, rest SweepStage, now SweepStage, one, full, coordinator_nodes s past)) in
     let old : Each (λ (l : Letter). LevelBody s Sweeping c.update l.body) left =
-    each_drop (λ (l : Letter). LevelBody s Sweeping c.update l.body) e.took.id (waiting s past)
-    (subst (λ (q : Phase). Each (λ (l : Letter). LevelBody s q c.update l.body) (waiting s past)) at
+    each_drop (λ (l : Letter). LevelBody s Sweeping c.update l.body) e.took.id (in_flight s past)
+    (subst (λ (q : Phase). Each (λ (l : Letter). LevelBody s q c.update l.body) (in_flight s past)) at
     (each_waits (λ (l : Letter). LevelBody s c.phase c.update l.body) s past was)) in
     let all = each_both _ _ left z1 (each_both _ _ left z2 (each_both _ _ left z3 old)) in
     let new : Each (of (InLevel s out.state.phase (c.update + 1))) e.sent =
     subst (λ (os : List Outgoing). Each (of (InLevel s out.state.phase (c.update + 1))) os) (sym is) right in
-    let after : Each (λ (l : Letter). LevelBody s out.state.phase (c.update + 1) l.body) (waiting s (e ∷ past)) =
+    let after : Each (λ (l : Letter). LevelBody s out.state.phase (c.update + 1) l.body) (in_flight s (e ∷ past)) =
     each_left (λ (l : Letter). LevelBody s out.state.phase (c.update + 1) l.body) s past e
     (each_map _ (λ (l : Letter). LevelBody s out.state.phase (c.update + 1) l.body) left
     (λ l here. level_further s out.state.phase c.update l.body here.0 here.1.0 here.1.1.0 most here.1.1.1) all) new in

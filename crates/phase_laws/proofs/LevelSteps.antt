@@ -21,7 +21,7 @@ use Rattle.world_model.specs.declared.phase.Phase.{Phase}
 use Rattle.world_model.specs.declared.phase.Phase.TheVariants.{Idle, Turning, Counting, Paused, Showing, Sweeping}
 use Rattle.world_model.specs.Client.{Client, submit, with_answer, with_end, nudge}
 use Rattle.world_model.specs.Counts.{one_if, tally}
-use Rattle.world_model.specs.Runs.{MayFollow, IsStepRun, client_in, coordinator_in, node_in, waiting}
+use Rattle.world_model.specs.Runs.{MayFollow, IsStepRun, client_in, coordinator_in, node_in, in_flight}
 use Rattle.world_model.specs.Timely.{AllTimely}
 use Rattle.world_model.proofs.Bags.{one_if_most, one_if_same, sealed_tally, tally-append, tally_step}
 use Rattle.world_model.proofs.Every.{coordinator_kept, node_kept}
@@ -33,7 +33,7 @@ use Rattle.world_model.proofs.Sends.{on}
 use Rattle.world_model.proofs.EachOutstanding.{each_took, each_done}
 use Rattle.world_model.specs.Kept.{done_by}
 use Rattle.world_model.proofs.Worked.{took_none}
-use Rattle.phase_laws.specs.Phases.{Stage, TurnStage, ShowStage, SweepStage, token, under_way, within, most_update}
+use Rattle.phase_laws.specs.Phases.{Stage, TurnStage, ShowStage, SweepStage, token, count_in_flight, within, most_update}
 use Rattle.phase_laws.proofs.Letters.{NoTrees, Passes, keep_done_none, node_passes}
 use Rattle.phase_laws.proofs.Outcomes.{Outcome, Rests, Queues, Flags, Turns, Acks, LastTurned, LastShown, Finishes, GoesOn, Resumes, KeepsDone, KeepsAsked, Agrees, Recounts, Pauses, asked_kept, finished, gone_on, round_begun}
 use Rattle.phase_laws.proofs.Small.{outcome_in}
@@ -61,9 +61,9 @@ sent_none : (g : Stage) (p : ℕ) (os : List Outgoing) → tally (on (token g)) 
 sent_none g p os none = omega (arith, none, tally_most (sent_to g p) (on (token g)) os (λ o. tell_most g p o.to.0 o.body))
 
 -- where there are no tokens, no order is in flight
-tells_most : (g : Stage) (s : ScriptData) (past : List Entry) (p : ℕ) → tells s past g p ≤ under_way (token g) s past
+tells_most : (g : Stage) (s : ScriptData) (past : List Entry) (p : ℕ) → tells s past g p ≤ count_in_flight (token g) s past
 tells_most g s past p =
-    tally_most (λ (l : Letter). tell g p l.to.0 l.body) (λ (l : Letter). token g l.body) (waiting s past)
+    tally_most (λ (l : Letter). tell g p l.to.0 l.body) (λ (l : Letter). token g l.body) (in_flight s past)
     (λ l. tell_most g p l.to.0 l.body)
 
 within_zero : (g : Stage) (phase : Phase) (n : ℕ) → within g phase 1 ≡ 0 → within g phase n ≡ 0

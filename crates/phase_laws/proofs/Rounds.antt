@@ -21,7 +21,7 @@ use Rattle.world_model.specs.Coordinator.{Coordinator, to_nodes, counted_version
 use Rattle.world_model.specs.declared.phase.Phase.{Phase}
 use Rattle.world_model.specs.declared.phase.Phase.TheVariants.{Idle, Counting}
 use Rattle.world_model.specs.Counts.{Each, one_if, tally}
-use Rattle.world_model.specs.Runs.{coordinator_in, node_in, waiting, MayFollow, IsStepRun}
+use Rattle.world_model.specs.Runs.{coordinator_in, node_in, in_flight, MayFollow, IsStepRun}
 use Rattle.world_model.specs.Timely.{AllTimely}
 use Rattle.world_model.proofs.Bags.{tally-drop}
 use Rattle.world_model.proofs.Every.{coordinator_kept, each_map, each_step, each_taken, each_zero}
@@ -102,7 +102,7 @@ pub record Differs (s : ScriptData) (past : List Entry) (r : RoundData) : Type 0
   pub q_lt : q < s.nodes
   pub less : kept_number r.dones q p < b
   pub now : b ≤ (node_in s past p).counts.asked r.version.0 q
-  pub letters : Each (λ (l : Letter). AtLeast r.number r.version.0 p q b l.from.0 l.body) (waiting s past)
+  pub letters : Each (λ (l : Letter). AtLeast r.number r.version.0 p q b l.from.0 l.body) (in_flight s past)
   pub kept : (row : List ℕ) → slice_get r.askeds p ≡ Some (Some row) → b ≤ slice_index row q
 
 -- what holds of a round: a node is asked once for its completions; those that are kept are at most the present ones; no
@@ -245,7 +245,7 @@ no_more s past e r v k row m was places bd ks lt full =
       was.once q lt,
       one,
       took_first e v k row r.number e.took.to.0 bd ks,
-      tally-drop f e.took.id (waiting s past) e.took m.waits,
+      tally-drop f e.took.id (in_flight s past) e.took m.waits,
     )
 
 clean_letter : (number v p q b from to : ℕ) (body : Body) → second_wave number from to body ≡ 0
@@ -258,7 +258,7 @@ at_last : (s : ScriptData) (past : List Entry) (r : RoundData) → IsLawful s �
     → LowIn s past r.version.0
     → ((q : ℕ) (row : List ℕ) → q < s.nodes → slice_get r.dones q ≡ Some (Some row) → (p : ℕ) → p < s.nodes
     → slice_index row p ≤ (node_in s past q).counts.done r.version.0 p)
-    → ((p q b : ℕ) → Each (λ (l : Letter). AtLeast r.number r.version.0 p q b l.from.0 l.body) (waiting s past))
+    → ((p q b : ℕ) → Each (λ (l : Letter). AtLeast r.number r.version.0 p q b l.from.0 l.body) (in_flight s past))
     → NoRow r.askeds
     → IsSilent s past r.version.0 ⊎
     ((p : ℕ) × (q : ℕ) × (p < s.nodes) × (q < s.nodes) × (1 ≤ out s past r.version.0 p q))
@@ -357,9 +357,9 @@ round_takes s past e r n v k row laws run timely low was places bd vs ks lt made
     let letters = λ (clear : going (second_wave r.number) s past ≡ 0) (p q b : ℕ).
     each_step (λ (l : Letter). AtLeast r.number r.version.0 p q b l.from.0 l.body) s past e
     (each_map (λ (l : Letter). second_wave r.number l.from.0 l.to.0 l.body ≡ 0)
-    (λ (l : Letter). AtLeast r.number r.version.0 p q b l.from.0 l.body) (waiting s past)
+    (λ (l : Letter). AtLeast r.number r.version.0 p q b l.from.0 l.body) (in_flight s past)
     (λ l is. clean_letter r.number r.version.0 p q b l.from.0 l.to.0 l.body is)
-    (each_zero (λ (l : Letter). second_wave r.number l.from.0 l.to.0 l.body) (waiting s past) clear))
+    (each_zero (λ (l : Letter). second_wave r.number l.from.0 l.to.0 l.body) (in_flight s past) clear))
     (orders_at_least s past e r.number r.version.0 p q b made) in
     record {
       once = λ q lq.

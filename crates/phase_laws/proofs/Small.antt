@@ -27,7 +27,7 @@ use Rattle.world_model.proofs.Lawful.{IsLawful, is_nudge, nudged}
 use Rattle.world_model.proofs.Nexts.{Next, Begins, Hears, Ends, Coordinates, DoesRoot, DoesSub, Notes, Obeys, MadeByClient, MadeByCoordinator, Tells}
 use Rattle.world_model.proofs.Sends.{on}
 use Rattle.world_model.specs.Timely.{AllTimely}
-use Rattle.phase_laws.specs.Phases.{under_way}
+use Rattle.phase_laws.specs.Phases.{count_in_flight}
 pub use Rattle.phase_laws.specs.Advances.{AdvancesAreKept, RoundsAreFew, asked_for, is_advance_letter, is_advanced, running}
 use Rattle.phase_laws.proofs.Letters.{Passes, keep_done_none, node_keeps, to_nodes_none}
 use Rattle.phase_laws.proofs.Outcomes.{HasRoom, Ignored, IsAnswer, IsRunning, Outcome, Rests, Queues, Flags, Turns, Acks, LastTurned, LastShown, Finishes, GoesOn, Resumes, KeepsDone, KeepsAsked, Agrees, Recounts, Pauses, asked_kept, one_more_is, outcome, round_begun}
@@ -52,8 +52,8 @@ pub record Numbers (s : ScriptData) (past : List Entry) (c : Coordinator) : Type
   pub nodes : c.nodes ≡ s.nodes
   pub acks : c.acks < s.nodes
   pub idle : running c.phase ≡ 0 → c.waits ≡ 0
-  pub asked : under_way is_advance_letter s past + c.waits + running c.phase + c.update ≡ asked_for s past + 1
-  pub ended : under_way is_advanced s past + (client_in s past).ended + 1 ≡ c.update
+  pub asked : count_in_flight is_advance_letter s past + c.waits + running c.phase + c.update ≡ asked_for s past + 1
+  pub ended : count_in_flight is_advanced s past + (client_in s past).ended + 1 ≡ c.update
   pub rounds : c.round + remembered c.phase c.flag + 2 ≤ 2 * c.update + rounds_in c.phase + nudged past
 
 -- the same of the coordinator after a past
@@ -361,8 +361,8 @@ submits_none s c first =
 
 -- The numbers after an entry of another actor than the coordinator.
 other_small : (s : ScriptData) (past : List Entry) (e : Entry) → e.actor.0 ≢ s.nodes → IsSmall s past
-    → under_way is_advance_letter s (e ∷ past) + asked_for s past ≡ under_way is_advance_letter s past + asked_for s (e ∷ past)
-    → under_way is_advanced s (e ∷ past) + (client_in s (e ∷ past)).ended ≡ under_way is_advanced s past +
+    → count_in_flight is_advance_letter s (e ∷ past) + asked_for s past ≡ count_in_flight is_advance_letter s past + asked_for s (e ∷ past)
+    → count_in_flight is_advanced s (e ∷ past) + (client_in s (e ∷ past)).ended ≡ count_in_flight is_advanced s past +
     (client_in s past).ended
     → IsSmall s (e ∷ past)
 other_small s past e away was asked ended =

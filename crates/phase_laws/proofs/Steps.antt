@@ -18,7 +18,7 @@ use Rattle.world_model.specs.Node.{Node}
 use Rattle.world_model.specs.Coordinator.{Coordinator, version, to_nodes, counted_version, end_count, keep_done, coordinator_row}
 use Rattle.world_model.specs.declared.phase.Phase.TheVariants.{Counting}
 use Rattle.world_model.specs.Counts.{Each}
-use Rattle.world_model.specs.Runs.{coordinator_in, node_in, waiting, IsStepRun}
+use Rattle.world_model.specs.Runs.{coordinator_in, node_in, in_flight, IsStepRun}
 use Rattle.world_model.specs.Timely.{AllTimely}
 use Rattle.world_model.proofs.Every.{coordinator_kept, each_map, each_step, each_taken}
 use Rattle.world_model.proofs.Lawful.{IsLawful}
@@ -164,12 +164,12 @@ rows_sent s past e (SendsOrders tells at made) =
     }) e.took.from.0 e.took.body)
 
 pub rows_true : (s : ScriptData) (past : List Entry) → IsLawful s → IsStepRun s past → AllTimely s past
-    → Each (λ (l : Letter). RowBody s past l.from.0 l.body) (waiting s past)
+    → Each (λ (l : Letter). RowBody s past l.from.0 l.body) (in_flight s past)
 rows_true s [] laws run timely = (tt, tt)
 rows_true s (e ∷ past) laws run timely =
     each_step (λ (l : Letter). RowBody s (e ∷ past) l.from.0 l.body) s past e
     (each_map (λ (l : Letter). RowBody s past l.from.0 l.body) (λ (l : Letter). RowBody s (e ∷ past) l.from.0 l.body)
-    (waiting s past)
+    (in_flight s past)
     (λ l ok. row_later s past e l.from.0 l.body laws run timely ok) (rows_true s past laws run.1 timely.1))
     (rows_sent s past e (sending s past e laws run timely))
 
@@ -186,7 +186,7 @@ UpTo r os = Each (λ (o : Outgoing). (i : LetterId) → round_of o.body ≤ r) o
 
 pub record Fresh (s : ScriptData) (past : List Entry) (c : Coordinator) : Type 0 where
   pub number : c.current.number ≤ c.round
-  pub letters : Each (λ (l : Letter). round_of l.body ≤ c.round) (waiting s past)
+  pub letters : Each (λ (l : Letter). round_of l.body ≤ c.round) (in_flight s past)
 
 plain_round : (r : ℕ) (body : Body) → IsPlain body → round_of body ≤ r
 plain_round r (AskDone v k) plain = absurd plain
@@ -274,7 +274,7 @@ fresh_next s past e laws run timely was (SendsOrders tells at made) =
       number = next.number;
       letters = each_step (λ (l : Letter). round_of l.body ≤ out.state.round) s past e
           (each_map (λ (l : Letter). round_of l.body ≤ c.round) (λ (l : Letter). round_of l.body ≤ out.state.round)
-          (waiting s past)
+          (in_flight s past)
           (λ l le. omega (arith, le, next.later)) was.letters)
           (subst (UpTo out.state.round) (sym made.sent) next.sent);
     })

@@ -14,7 +14,7 @@ use Rattle.world_model.specs.declared.phase.Phase.{Phase}
 use Rattle.world_model.specs.declared.phase.Phase.TheVariants.{Idle, Turning, Counting, Paused, Showing, Sweeping}
 use Rattle.world_model.specs.Client.{Client, submit, with_answer, with_end, nudge}
 use Rattle.world_model.specs.Counts.{tally}
-use Rattle.world_model.specs.Runs.{MayFollow, IsStepRun, client_in, coordinator_in, waiting}
+use Rattle.world_model.specs.Runs.{MayFollow, IsStepRun, client_in, coordinator_in, in_flight}
 use Rattle.world_model.proofs.Bags.{tally-drop}
 use Rattle.world_model.proofs.Every.{coordinator_kept}
 use Rattle.world_model.proofs.Flows.{flow, flow_same, submit_none}
@@ -23,7 +23,7 @@ use Rattle.world_model.proofs.Nexts.{Next, Begins, Hears, Ends, Coordinates, Doe
 use Rattle.world_model.proofs.Orders.{coordinator_nodes}
 use Rattle.world_model.proofs.Sends.{on}
 use Rattle.world_model.specs.Timely.{AllTimely}
-pub use Rattle.phase_laws.specs.Phases.{Stage, TurnStage, ShowStage, SweepStage, Told, token, under_way, within}
+pub use Rattle.phase_laws.specs.Phases.{Stage, TurnStage, ShowStage, SweepStage, Told, token, count_in_flight, within}
 use Rattle.phase_laws.proofs.Letters.{Passes, keep_done_none, node_keeps, to_nodes_none, to_nodes_one}
 use Rattle.phase_laws.proofs.Outcomes.{Ignored, IsAnswer, Outcome, Rests, Queues, Flags, Turns, Acks, LastTurned, LastShown, Finishes, GoesOn, Resumes, KeepsDone, KeepsAsked, Agrees, Recounts, Pauses, asked_kept, in_next, round_begun}
 use Rattle.phase_laws.proofs.Small.{outcome_in}
@@ -351,9 +351,9 @@ outcome_goes g c from body out tells (Pauses reads v k row takes verdict flag is
 
 -- The equation after an entry.
 kept_told : (g : Stage) (s : ScriptData) (past : List Entry) (e : Entry) → e.actor.0 ≢ s.nodes → Told s past g
-    → under_way (token g) s (e ∷ past) ≡ under_way (token g) s past → Told s (e ∷ past) g
+    → count_in_flight (token g) s (e ∷ past) ≡ count_in_flight (token g) s past → Told s (e ∷ past) g
 kept_told g s past e away was same =
-    subst (λ (c : Coordinator). under_way (token g) s (e ∷ past) + within g c.phase c.acks ≡ within g c.phase s.nodes)
+    subst (λ (c : Coordinator). count_in_flight (token g) s (e ∷ past) + within g c.phase c.acks ≡ within g c.phase s.nodes)
     (sym (coordinator_kept s past e away)) (omega (arith, was, same))
 
 told_by_client : (g : Stage) (s : ScriptData) (past : List Entry) (e : Entry) (c : Client) (first : List Outgoing)
@@ -379,13 +379,13 @@ told_by_coordinator g s past e laws run timely tells made was =
     let nodes : c.nodes ≡ s.nodes = coordinator_nodes s past in
     let sent : tally (on (token g)) e.sent ≡ tally (on (token g)) out.sent =
     ap (λ (os : List Outgoing). tally (on (token g)) os) made.sent in
-    let before : under_way (token g) s past + within g c.phase c.acks ≡ within g c.phase c.nodes =
+    let before : count_in_flight (token g) s past + within g c.phase c.acks ≡ within g c.phase c.nodes =
     was ∙ ap (λ (n : ℕ). within g c.phase n) (sym nodes) in
-    let after : under_way (token g) s (e ∷ past) + within g out.state.phase out.state.acks ≡ within g out.state.phase c.nodes =
+    let after : count_in_flight (token g) s (e ∷ past) + within g out.state.phase out.state.acks ≡ within g out.state.phase c.nodes =
     outcome_goes g c e.took.from.0 e.took.body out tells (outcome_in s past e laws run.1 timely)
-    (under_way (token g) s past) (under_way (token g) s (e ∷ past)) before
+    (count_in_flight (token g) s past) (count_in_flight (token g) s (e ∷ past)) before
     (omega (arith, flow (token g) s past e run.0, sent)) in
-    subst (λ (d : Coordinator). under_way (token g) s (e ∷ past) + within g d.phase d.acks ≡ within g d.phase s.nodes)
+    subst (λ (d : Coordinator). count_in_flight (token g) s (e ∷ past) + within g d.phase d.acks ≡ within g d.phase s.nodes)
     (sym made.state)
     (after ∙ ap (λ (n : ℕ). within g out.state.phase n) nodes)
 
@@ -444,21 +444,21 @@ sweeping_phase _ t a n some is = absurd (omega (arith, some, is))
 
 -- the letter that is taken is one of those in flight
 token_there : (g : Stage) (s : ScriptData) (past : List Entry) (e : Entry) → MayFollow s past e
-    → token g e.took.body ≤ under_way (token g) s past
-token_there g s past e m = omega (arith, tally-drop (λ (l : Letter). token g l.body) e.took.id (waiting s past) e.took m.waits)
+    → token g e.took.body ≤ count_in_flight (token g) s past
+token_there g s past e m = omega (arith, tally-drop (λ (l : Letter). token g l.body) e.took.id (in_flight s past) e.took m.waits)
 
 pub phase_for : (s : ScriptData) (past : List Entry) (e : Entry) (body : Body) → IsLawful s → IsStepRun s past
     → AllTimely s past → MayFollow s past e → e.took.body ≡ body → PhaseFor body (coordinator_in s past).phase
 phase_for s past e (Turn v) laws run timely m bd =
     let one : token TurnStage e.took.body ≡ 1 = ap (token TurnStage) bd in
-    turning_phase (coordinator_in s past).phase (under_way (token TurnStage) s past) (coordinator_in s past).acks s.nodes
+    turning_phase (coordinator_in s past).phase (count_in_flight (token TurnStage) s past) (coordinator_in s past).acks s.nodes
     (omega (arith, one, token_there TurnStage s past e m)) (told TurnStage s past laws run timely)
 phase_for s past e (Show v) laws run timely m bd =
     let one : token ShowStage e.took.body ≡ 1 = ap (token ShowStage) bd in
-    showing_phase (coordinator_in s past).phase (under_way (token ShowStage) s past) (coordinator_in s past).acks s.nodes
+    showing_phase (coordinator_in s past).phase (count_in_flight (token ShowStage) s past) (coordinator_in s past).acks s.nodes
     (omega (arith, one, token_there ShowStage s past e m)) (told ShowStage s past laws run timely)
 phase_for s past e (Sweep v) laws run timely m bd =
     let one : token SweepStage e.took.body ≡ 1 = ap (token SweepStage) bd in
-    sweeping_phase (coordinator_in s past).phase (under_way (token SweepStage) s past) (coordinator_in s past).acks s.nodes
+    sweeping_phase (coordinator_in s past).phase (count_in_flight (token SweepStage) s past) (coordinator_in s past).acks s.nodes
     (omega (arith, one, token_there SweepStage s past e m)) (told SweepStage s past laws run timely)
 phase_for s past e _ laws run timely m bd = tt

@@ -14,7 +14,7 @@ use Rattle.tx_trees.specs.ScriptData.{ScriptData}
 use Rattle.world_model.specs.Coordinator.{to_nodes}
 use Rattle.pair_counters.specs.Numbers.{numbers_of}
 use Rattle.world_model.specs.Counts.{Each, one_if, tally}
-use Rattle.world_model.specs.Runs.{node_in, waiting, MayFollow}
+use Rattle.world_model.specs.Runs.{node_in, in_flight, MayFollow}
 use Rattle.world_model.proofs.Bags.{one_if_most, sealed_tally, tally-append, tally_step}
 use Rattle.world_model.proofs.Every.{each_map, each_none}
 use Rattle.phase_laws.proofs.Sending.{IsPlain, apart_plain, Sending, SendsApart, SendsDone, SendsAsked, SendsOrders, apart_none}
@@ -34,7 +34,7 @@ second_wave r from to _ = 0
 
 -- a number over the letters in flight, by sender, addressee and body
 abbrev pub going : (ℕ → ℕ → Body → ℕ) → ScriptData → List Entry → ℕ
-going f s past = tally (λ (l : Letter). f l.from.0 l.to.0 l.body) (waiting s past)
+going f s past = tally (λ (l : Letter). f l.from.0 l.to.0 l.body) (in_flight s past)
 
 abbrev pub leaving : (ℕ → ℕ → Body → ℕ) → ℕ → Outgoing → ℕ
 leaving f a o = f a o.to.0 o.body
@@ -122,21 +122,21 @@ second_later r from to r0 (AskedRow v k row) lt le = grind (arith, nat_tests)
 second_later r from to r0 _ lt le = refl
 
 pub first_none : (s : ScriptData) (past : List Entry) (r r0 q : ℕ)
-    → Each (λ (l : Letter). round_of l.body ≤ r0) (waiting s past) → r0 < r
+    → Each (λ (l : Letter). round_of l.body ≤ r0) (in_flight s past) → r0 < r
     → going (first_wave r q) s past ≡ 0
 first_none s past r r0 q all lt =
-    each_none (λ (l : Letter). first_wave r q l.from.0 l.to.0 l.body) (waiting s past)
+    each_none (λ (l : Letter). first_wave r q l.from.0 l.to.0 l.body) (in_flight s past)
     (each_map (λ (l : Letter). round_of l.body ≤ r0) (λ (l : Letter). first_wave r q l.from.0 l.to.0 l.body ≡ 0)
-    (waiting s past)
+    (in_flight s past)
     (λ l le. first_later r q l.from.0 l.to.0 r0 l.body lt le) all)
 
 pub second_none : (s : ScriptData) (past : List Entry) (r r0 : ℕ)
-    → Each (λ (l : Letter). round_of l.body ≤ r0) (waiting s past) → r0 < r
+    → Each (λ (l : Letter). round_of l.body ≤ r0) (in_flight s past) → r0 < r
     → going (second_wave r) s past ≡ 0
 second_none s past r r0 all lt =
-    each_none (λ (l : Letter). second_wave r l.from.0 l.to.0 l.body) (waiting s past)
+    each_none (λ (l : Letter). second_wave r l.from.0 l.to.0 l.body) (in_flight s past)
     (each_map (λ (l : Letter). round_of l.body ≤ r0) (λ (l : Letter). second_wave r l.from.0 l.to.0 l.body ≡ 0)
-    (waiting s past)
+    (in_flight s past)
     (λ l le. second_later r l.from.0 l.to.0 r0 l.body lt le) all)
 
 -- What the coordinator sends of each wave.

@@ -8,7 +8,7 @@ use Rattle.tx_trees.specs.ScriptData.{ScriptData}
 use Rattle.world_model.specs.declared.phase.Phase.{Phase}
 use Rattle.world_model.specs.declared.phase.Phase.TheVariants.{Idle}
 use Rattle.world_model.specs.Runs.{client_in, coordinator_in}
-use Rattle.phase_laws.specs.Phases.{under_way}
+use Rattle.phase_laws.specs.Phases.{count_in_flight}
 
 -- an advancement is in progress
 abbrev pub running : Phase → ℕ
@@ -34,10 +34,10 @@ asked_for s past = advances_in (take (client_in s past).next s.rows)
 -- each is asked for in a letter, waits, is in progress or has ended; and of each that has ended the client has heard,
 -- or will by a letter in flight. The update version is one above the number of those that have ended
 pub record AdvancesAreKept (s : ScriptData) (past : List Entry) : Type 0 where
-  pub asked : under_way is_advance_letter s past + (coordinator_in s past).waits + running (coordinator_in s past).phase
+  pub asked : count_in_flight is_advance_letter s past + (coordinator_in s past).waits + running (coordinator_in s past).phase
       + (coordinator_in s past).update
       ≡ asked_for s past + 1
-  pub ended : under_way is_advanced s past + (client_in s past).ended + 1 ≡ (coordinator_in s past).update
+  pub ended : count_in_flight is_advanced s past + (client_in s past).ended + 1 ≡ (coordinator_in s past).update
 
 -- rounds are two for each advancement of the script and one for each of its trees, at most
 abbrev pub RoundsAreFew : ScriptData → List Entry → Type 0

@@ -9,11 +9,11 @@ use Rattle.tx_trees.specs.ScriptData.{ScriptData}
 use Rattle.world_model.specs.declared.phase.Phase.{Phase}
 use Rattle.world_model.specs.declared.phase.Phase.TheVariants.{Idle, Turning, Counting, Paused, Showing, Sweeping}
 use Rattle.world_model.specs.Counts.{tally}
-use Rattle.world_model.specs.Runs.{coordinator_in, node_in, waiting}
+use Rattle.world_model.specs.Runs.{coordinator_in, node_in, in_flight}
 
 -- a number over the bodies of the letters in flight
-abbrev pub under_way : (Body → ℕ) → ScriptData → List Entry → ℕ
-under_way f s past = tally (λ (l : Letter). f l.body) (waiting s past)
+abbrev pub count_in_flight : (Body → ℕ) → ScriptData → List Entry → ℕ
+count_in_flight f s past = tally (λ (l : Letter). f l.body) (in_flight s past)
 
 -- the three things that all nodes are told in an advancement
 pub data Stage : Type 0 where
@@ -41,7 +41,7 @@ within g phase k = 0
 -- orders and answers in flight and acknowledgements are as many as nodes in the stage's phase, and none at other times
 abbrev pub Told : ScriptData → List Entry → Stage → Type 0
 Told s past g =
-    under_way (token g) s past + within g (coordinator_in s past).phase (coordinator_in s past).acks
+    count_in_flight (token g) s past + within g (coordinator_in s past).phase (coordinator_in s past).acks
     ≡ within g (coordinator_in s past).phase s.nodes
 
 -- the least and the greatest update version of a node, in each phase of an advancement from update version u

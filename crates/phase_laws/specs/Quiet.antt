@@ -7,16 +7,16 @@ use Rattle.tx_trees.specs.ScriptData.{ScriptData}
 use Rattle.world_model.specs.Runs.{node_in}
 use Rattle.phase_laws.specs.Balance.{out}
 
--- no counted letter of version v is in flight between nodes
+-- no counted letter of version v is outstanding between nodes: none is in flight, and none is kept
 abbrev pub IsSilent : ScriptData → List Entry → ℕ → Type 0
 IsSilent s past v = (p q : ℕ) → p < s.nodes → q < s.nodes → out s past v p q ≡ 0
 
--- nothing of version v is in flight, and every node updates above it
+-- no counted letter of version v is outstanding, and every node updates above it
 pub record IsQuietForUpdates (s : ScriptData) (past : List Entry) (v : ℕ) : Type 0 where
   pub silent : IsSilent s past v
   pub above : (p : ℕ) → p < s.nodes → v < (node_in s past p).turns.update.0
 
--- nothing of the version before v is in flight, and every node reads v or a later version
+-- no counted letter of the version before v is outstanding, and every node reads v or a later version
 pub record IsQuietForReads (s : ScriptData) (past : List Entry) (v : ℕ) : Type 0 where
   pub silent : IsSilent s past (v - 1)
   pub above : (p : ℕ) → p < s.nodes → v ≤ (node_in s past p).turns.read.0

@@ -5,13 +5,13 @@ use Rattle.letter_types.specs.declared.bodies.Body.TheVariants.{Go, Sub as SubLe
 use Rattle.letter_types.specs.declared.entries.Entry.{Entry}
 use Rattle.letter_types.specs.declared.entries.Letter.{Letter}
 use Rattle.tx_trees.specs.ScriptData.{ScriptData}
-use Rattle.world_model.specs.Runs.{node_in, waiting, IsStepRun}
+use Rattle.world_model.specs.Runs.{node_in, in_flight, IsStepRun}
 use Rattle.world_model.specs.Timely.{AllTimely}
 use Rattle.world_model.proofs.Every.{each_map, each_none, each_zero}
 use Rattle.world_model.specs.Counts.{tally}
 use Rattle.world_model.proofs.Lawful.{IsLawful}
 use Rattle.world_model.proofs.NothingKept.{outstanding_is}
-use Rattle.phase_laws.specs.Phases.{under_way}
+use Rattle.phase_laws.specs.Phases.{count_in_flight}
 use Rattle.phase_laws.specs.Balance.{goes_between, out, version_is}
 use Rattle.phase_laws.proofs.Balance.{balanced_at}
 use Rattle.run_laws.proofs.Measures.{of_trees}
@@ -26,15 +26,15 @@ not_counted v (Decided t w) none = absurd (omega (arith, none))
 not_counted v Go none = refl
 not_counted v _ none = refl
 
-out_none : (s : ScriptData) (past : List Entry) (v p q : ℕ) → under_way of_trees s past ≡ 0 → out s past v p q ≡ 0
+out_none : (s : ScriptData) (past : List Entry) (v p q : ℕ) → count_in_flight of_trees s past ≡ 0 → out s past v p q ≡ 0
 out_none s past v p q none =
     ap (λ (ls : List Letter). tally (goes_between v p q) ls) (outstanding_is s past)
-    ∙ each_none (goes_between v p q) (waiting s past)
-    (each_map (λ (l : Letter). of_trees l.body ≡ 0) (λ (l : Letter). goes_between v p q l ≡ 0) (waiting s past)
-    (λ l quiet. uncounted_goes v p q l (not_counted v l.body quiet)) (each_zero (λ (l : Letter). of_trees l.body) (waiting s past) none))
+    ∙ each_none (goes_between v p q) (in_flight s past)
+    (each_map (λ (l : Letter). of_trees l.body ≡ 0) (λ (l : Letter). goes_between v p q l ≡ 0) (in_flight s past)
+    (λ l quiet. uncounted_goes v p q l (not_counted v l.body quiet)) (each_zero (λ (l : Letter). of_trees l.body) (in_flight s past) none))
 
 -- then requests are completions in each version that both nodes still count
-pub balances : (s : ScriptData) (past : List Entry) (laws : IsLawful s) (run : IsStepRun s past) (timely : AllTimely s past) → under_way of_trees s past ≡ 0
+pub balances : (s : ScriptData) (past : List Entry) (laws : IsLawful s) (run : IsStepRun s past) (timely : AllTimely s past) → count_in_flight of_trees s past ≡ 0
     → (v p q : ℕ) → p < s.nodes → q < s.nodes → (node_in s past p).turns.low.0 ≤ v → (node_in s past q).turns.low.0 ≤ v
     → (node_in s past p).counts.asked v q ≡ (node_in s past q).counts.done v p
 balances s past laws run timely none v p q lp lq low_p low_q =

@@ -12,7 +12,7 @@ use Rattle.tx_trees.specs.declared.parts.ScriptRow.{ScriptRow}
 use Rattle.tx_trees.specs.declared.parts.ScriptRow.TheVariants.{Tree as TreeRow, Advance as AdvanceRow, Settle as SettleRow, Lose as LoseRow}
 use Rattle.world_model.specs.Client.{Client, submit, submitted, with_answer, with_end, nudge}
 use Rattle.world_model.specs.Counts.{Each, tally, one_if}
-use Rattle.world_model.specs.Runs.{client_in, waiting, MayFollow, IsStepRun}
+use Rattle.world_model.specs.Runs.{client_in, in_flight, MayFollow, IsStepRun}
 use Rattle.world_model.specs.Timely.{AllTimely}
 use Rattle.world_model.proofs.Every.{each_both, each_map, each_none, each_zero}
 use Rattle.world_model.proofs.Fits.{IsFit}
@@ -23,7 +23,7 @@ use Rattle.world_model.proofs.Scripts.{IsSound, SubAt, has_root, sub_there, tree
 use Rattle.world_model.proofs.Sends.{on}
 use Rattle.world_model.proofs.EachOutstanding.{each_waits, each_took}
 use Rattle.world_model.specs.Kept.{outstanding}
-use Rattle.phase_laws.specs.Phases.{under_way}
+use Rattle.phase_laws.specs.Phases.{count_in_flight}
 use Rattle.tree_laws.specs.Dids.{letters_asking, asks, answers, dids, is_row_of, notices, roots_sent, tells_done}
 use Rattle.tree_laws.proofs.Counts.{below_root, one_here, parent_at, root_most, zero_or}
 use Rattle.tree_laws.proofs.Good.{IsGood, TreeAt, Unborn, Gathers, Answered}
@@ -210,18 +210,18 @@ quiet_body s from to _ sound fit quiet = refl
 
 -- where nothing is left, no letter of a tree is in flight
 pub trees_rest : (s : ScriptData) (past : List Entry) → IsSound s → IsStepRun s past → AllTimely s past → left s (client_in s past) ≡ 0
-    → under_way of_trees s past ≡ 0
+    → count_in_flight of_trees s past ≡ 0
 trees_rest s past sound run timely none =
     let good = good_run s past sound run timely in
-    let quiet : Each (λ (l : Letter). Quiet s l.body) (waiting s past) =
-    each_of (SubAt s) (λ t k l. (asks t k l.body ≡ 0) × (tells_done t k l.body ≡ 0)) (waiting s past) (λ t k c.
+    let quiet : Each (λ (l : Letter). Quiet s l.body) (in_flight s past) =
+    each_of (SubAt s) (λ t k l. (asks t k l.body ≡ 0) × (tells_done t k l.body ≡ 0)) (in_flight s past) (λ t k c.
     let rests = rests_at s past t k c sound good none (good.stages t (tree_below s t k c)) in
-    each_both (λ (l : Letter). asks t k l.body ≡ 0) (λ (l : Letter). tells_done t k l.body ≡ 0) (waiting s past)
+    each_both (λ (l : Letter). asks t k l.body ≡ 0) (λ (l : Letter). tells_done t k l.body ≡ 0) (in_flight s past)
     (each_waits (λ (l : Letter). asks t k l.body ≡ 0) s past
     (each_zero (λ (l : Letter). asks t k l.body) (outstanding s past) rests.asked))
-    (each_zero (λ (l : Letter). tells_done t k l.body) (waiting s past) rests.told)) in
-    each_none (λ (l : Letter). of_trees l.body) (waiting s past)
-    (each_map (λ (l : Letter). IsFit s l.from.0 l.to.0 l.body × Quiet s l.body) (λ (l : Letter). of_trees l.body ≡ 0) (waiting s past)
+    (each_zero (λ (l : Letter). tells_done t k l.body) (in_flight s past) rests.told)) in
+    each_none (λ (l : Letter). of_trees l.body) (in_flight s past)
+    (each_map (λ (l : Letter). IsFit s l.from.0 l.to.0 l.body × Quiet s l.body) (λ (l : Letter). of_trees l.body ≡ 0) (in_flight s past)
     (λ l both. quiet_body s l.from.0 l.to.0 l.body sound both.0 both.1)
-    (each_both (λ (l : Letter). IsFit s l.from.0 l.to.0 l.body) (λ (l : Letter). Quiet s l.body) (waiting s past)
+    (each_both (λ (l : Letter). IsFit s l.from.0 l.to.0 l.body) (λ (l : Letter). Quiet s l.body) (in_flight s past)
     (each_waits (λ (l : Letter). IsFit s l.from.0 l.to.0 l.body) s past good.letters) quiet))

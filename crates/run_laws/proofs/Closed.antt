@@ -12,7 +12,7 @@ use Rattle.tx_trees.specs.ScriptData.{ScriptData, is_read, is_update}
 use Rattle.tx_trees.specs.declared.parts.Tree.{Tree}
 use Rattle.board_rules.specs.Histories.{IsWhole, places_at, places_of, version_in}
 use Rattle.world_model.specs.Counts.{Each, tally}
-use Rattle.world_model.specs.Runs.{IsStepRun, coordinator_in, waiting}
+use Rattle.world_model.specs.Runs.{IsStepRun, coordinator_in, in_flight}
 use Rattle.world_model.specs.Timely.{AllTimely}
 use Rattle.world_model.proofs.Every.{coordinator_kept, each_both, each_map}
 use Rattle.world_model.proofs.Lawful.{IsLawful}
@@ -24,7 +24,7 @@ use Rattle.tree_laws.proofs.Counts.{at_most_once}
 use Rattle.tree_laws.proofs.Goods.{good_run}
 use Rattle.tree_laws.proofs.Nudges.{lawful}
 use Rattle.tree_laws.proofs.Whole.{whole_done}
-use Rattle.phase_laws.specs.Phases.{ShowStage, SweepStage, token, under_way}
+use Rattle.phase_laws.specs.Phases.{ShowStage, SweepStage, token, count_in_flight}
 use Rattle.phase_laws.proofs.Tokens.{told, showing_phase, sweeping_phase}
 use Rattle.phase_laws.proofs.Levels.{levels}
 use Rattle.phase_laws.proofs.LevelAt.{LevelBody}
@@ -69,15 +69,15 @@ Bounds s past _ = Unit {0}
 
 bounds_of : (s : ScriptData) (past : List Entry) (b : Body) → IsLawful s → IsStepRun s past → AllTimely s past
     → LevelBody s (coordinator_in s past).phase (coordinator_in s past).update b
-    → token ShowStage b ≤ under_way (token ShowStage) s past → token SweepStage b ≤ under_way (token SweepStage) s past → Bounds s past b
+    → token ShowStage b ≤ count_in_flight (token ShowStage) s past → token SweepStage b ≤ count_in_flight (token SweepStage) s past → Bounds s past b
 bounds_of s past (Show v) laws run timely level shows sweeps =
     let c = coordinator_in s past in
-    let at = showing_phase c.phase (under_way (token ShowStage) s past) c.acks s.nodes shows (told ShowStage s past laws run timely) in
+    let at = showing_phase c.phase (count_in_flight (token ShowStage) s past) c.acks s.nodes shows (told ShowStage s past laws run timely) in
     let u : v.0 ≡ c.update = level in
     ap (λ (p : Phase). whole_below false p c.update) at ∙ ap (λ (n : ℕ). n + 1) (sym u)
 bounds_of s past (Sweep v) laws run timely level shows sweeps =
     let c = coordinator_in s past in
-    let at = sweeping_phase c.phase (under_way (token SweepStage) s past) c.acks s.nodes sweeps (told SweepStage s past laws run timely) in
+    let at = sweeping_phase c.phase (count_in_flight (token SweepStage) s past) c.acks s.nodes sweeps (told SweepStage s past laws run timely) in
     let u : v.0 ≡ c.update = level in
     ap (λ (p : Phase). whole_below true p c.update) at ∙ sym u
 bounds_of s past Go laws run timely level shows sweeps = tt
@@ -85,17 +85,17 @@ bounds_of s past _ laws run timely level shows sweeps = tt
 
 -- each letter in flight
 all_bounds : (s : ScriptData) (past : List Entry) → IsLawful s → IsStepRun s past → AllTimely s past
-    → Each (λ (l : Letter). Bounds s past l.body) (waiting s past)
+    → Each (λ (l : Letter). Bounds s past l.body) (in_flight s past)
 all_bounds s past laws run timely =
     let c = coordinator_in s past in
-    let shows = each_counted (λ (l : Letter). token ShowStage l.body) (waiting s past) in
-    let sweeps = each_counted (λ (l : Letter). token SweepStage l.body) (waiting s past) in
-    each_map _ (λ (l : Letter). Bounds s past l.body) (waiting s past)
+    let shows = each_counted (λ (l : Letter). token ShowStage l.body) (in_flight s past) in
+    let sweeps = each_counted (λ (l : Letter). token SweepStage l.body) (in_flight s past) in
+    each_map _ (λ (l : Letter). Bounds s past l.body) (in_flight s past)
     (λ l all. bounds_of s past l.body laws run timely all.0 all.1.0 all.1.1)
-    (each_both (λ (l : Letter). LevelBody s c.phase c.update l.body) _ (waiting s past)
+    (each_both (λ (l : Letter). LevelBody s c.phase c.update l.body) _ (in_flight s past)
     (each_waits (λ (l : Letter). LevelBody s c.phase c.update l.body) s past (levels s past laws run timely).letters)
-    (each_both (λ (l : Letter). token ShowStage l.body ≤ under_way (token ShowStage) s past)
-    (λ (l : Letter). token SweepStage l.body ≤ under_way (token SweepStage) s past) (waiting s past) shows sweeps))
+    (each_both (λ (l : Letter). token ShowStage l.body ≤ count_in_flight (token ShowStage) s past)
+    (λ (l : Letter). token SweepStage l.body ≤ count_in_flight (token SweepStage) s past) (in_flight s past) shows sweeps))
 
 -- so the trees after it are whole
 backed : (s : ScriptData) (past : List Entry) (b : Body) → IsSound s → IsStepRun s past → AllTimely s past → Bounds s past b
@@ -110,9 +110,9 @@ backed s past Go sound run timely bound = tt
 backed s past _ sound run timely bound = tt
 
 pub shown_is_backed : (s : ScriptData) (past : List Entry) → IsSound s → IsStepRun s past → AllTimely s past
-    → Each (λ (l : Letter). IsBackedBy s (reverse past) l.body) (waiting s past)
+    → Each (λ (l : Letter). IsBackedBy s (reverse past) l.body) (in_flight s past)
 shown_is_backed s past sound run timely =
-    each_map (λ (l : Letter). Bounds s past l.body) (λ (l : Letter). IsBackedBy s (reverse past) l.body) (waiting s past)
+    each_map (λ (l : Letter). Bounds s past l.body) (λ (l : Letter). IsBackedBy s (reverse past) l.body) (in_flight s past)
     (λ l bound. backed s past l.body sound run timely bound) (all_bounds s past (lawful s sound) run timely)
 
 -- What comes later.
@@ -204,9 +204,9 @@ timely_before s past [] timely = timely
 timely_before s past (e ∷ later) timely = timely_before s past later timely.1
 
 pub shown_is_closed : (s : ScriptData) (past later : List Entry) → IsSound s → IsStepRun s (later ++ past) → AllTimely s (later ++ past)
-    → Each (λ (l : Letter). IsClosedBy s (reverse past) (reverse (later ++ past)) l.body) (waiting s past)
+    → Each (λ (l : Letter). IsClosedBy s (reverse past) (reverse (later ++ past)) l.body) (in_flight s past)
 shown_is_closed s past later sound run timely =
     let laws = lawful s sound in
-    each_map (λ (l : Letter). Bounds s past l.body) (λ (l : Letter). IsClosedBy s (reverse past) (reverse (later ++ past)) l.body) (waiting s past)
+    each_map (λ (l : Letter). Bounds s past l.body) (λ (l : Letter). IsClosedBy s (reverse past) (reverse (later ++ past)) l.body) (in_flight s past)
     (λ l bound. closed_by s past later l.body laws run timely bound)
     (all_bounds s past laws (run_before s past later run) (timely_before s past later timely))

@@ -30,7 +30,7 @@ use Rattle.world_model.proofs.Sends.{on}
 use Rattle.world_model.specs.Kept.{done_by}
 use Rattle.world_model.proofs.Worked.{took_none}
 use Rattle.phase_laws.specs.Advances.{asked_for}
-use Rattle.phase_laws.specs.Phases.{under_way}
+use Rattle.phase_laws.specs.Phases.{count_in_flight}
 use Rattle.phase_laws.proofs.Letters.{NoTrees, note_none, root_none, sub_none}
 use Rattle.phase_laws.proofs.Outcomes.{Outcome, Rests, Queues, Flags, Turns, Acks, LastTurned, LastShown, Finishes, GoesOn, Resumes, KeepsDone, KeepsAsked, Agrees, Recounts, Pauses, asked_kept, round_begun}
 use Rattle.phase_laws.proofs.Small.{outcome_in}
@@ -223,7 +223,7 @@ pays_out n c from body out some nodes (Pauses reads v k row takes verdict flag i
 -- In every run.
 abbrev pub Paid : ScriptData → List Entry → Type 0
 Paid s past =
-    under_way cost s past + taken_in is_apart past + pend s.nodes (coordinator_in s past) + 6 * s.nodes + 1
+    count_in_flight cost s past + taken_in is_apart past + pend s.nodes (coordinator_in s past) + 6 * s.nodes + 1
     ≡ asked_for s past + spent s.nodes (coordinator_in s past)
 
 -- another actor, by what it takes and sends

@@ -17,7 +17,7 @@ use Rattle.world_model.specs.Client.{all_answered, have_ended}
 use Rattle.world_model.specs.declared.phase.Phase.{Phase}
 use Rattle.world_model.specs.declared.phase.Phase.TheVariants.{Idle, Turning, Counting, Paused, Showing, Sweeping}
 use Rattle.world_model.specs.Counts.{tally, one_if}
-use Rattle.world_model.specs.Runs.{client_in, coordinator_in, waiting, IsStepRun}
+use Rattle.world_model.specs.Runs.{client_in, coordinator_in, in_flight, IsStepRun}
 use Rattle.world_model.specs.Timely.{AllTimely}
 use Rattle.world_model.proofs.Bags.{one_if_same}
 use Rattle.world_model.proofs.Lawful.{IsLawful}
@@ -58,7 +58,7 @@ left_none answered (SettleRow ∷ rows) all = omega (arith, left_none answered r
 left_none answered (LoseRow ∷ rows) all = omega (arith, left_none answered rows (λ u some. all u (omega (arith, some))))
 
 -- nothing is busy
-pub none_busy : (s : ScriptData) (past : List Entry) (laws : IsLawful s) (run : IsStepRun s past) (timely : AllTimely s past) → waiting s past ≡ []
+pub none_busy : (s : ScriptData) (past : List Entry) (laws : IsLawful s) (run : IsStepRun s past) (timely : AllTimely s past) → in_flight s past ≡ []
     → busy s past ≡ 0
 none_busy s past laws run timely empty =
     let c = client_in s past in
@@ -76,7 +76,7 @@ stage_ends : (phase : Phase) (g : Stage) (acks n : ℕ) → within g phase acks 
 stage_ends phase g acks n a b less is = absurd (omega (arith, a, b, less, is))
 
 not_telling : (s : ScriptData) (past : List Entry) (laws : IsLawful s) (run : IsStepRun s past) (timely : AllTimely s past) (g : Stage) (phase : Phase)
-    → waiting s past ≡ [] → (coordinator_in s past).phase ≡ phase → ((k : ℕ) → within g phase k ≡ k) → ⊥
+    → in_flight s past ≡ [] → (coordinator_in s past).phase ≡ phase → ((k : ℕ) → within g phase k ≡ k) → ⊥
 not_telling s past laws run timely g phase empty at fills =
     let c = coordinator_in s past in
     let all = told g s past laws run timely in
@@ -87,13 +87,13 @@ not_telling s past laws run timely g phase empty at fills =
 
 -- a round that counts has a letter in flight
 not_counting : (s : ScriptData) (past : List Entry) (laws : IsLawful s) (run : IsStepRun s past) (timely : AllTimely s past) (reads : Bool)
-    → waiting s past ≡ [] → (coordinator_in s past).phase ≡ Counting reads → ⊥
+    → in_flight s past ≡ [] → (coordinator_in s past).phase ≡ Counting reads → ⊥
 not_counting s past laws run timely reads empty at =
     let r = (coordinator_in s past).current in
     let now = current s past laws run timely reads at in
     let nodes = coordinator_nodes s past in
     let waved = heard s past laws run timely reads at in
-    let none : (two : Bool) (q : ℕ) → tally (λ (l : Letter). wave two r.version.0 r.number q s.nodes l.from.0 l.to.0 l.body) (waiting s past) ≡ 0 =
+    let none : (two : Bool) (q : ℕ) → tally (λ (l : Letter). wave two r.version.0 r.number q s.nodes l.from.0 l.to.0 l.body) (in_flight s past) ≡ 0 =
     λ two q. none_left (λ (l : Letter). wave two r.version.0 r.number q s.nodes l.from.0 l.to.0 l.body) s past empty in
     let dones : all_in r.dones ≡ true =
     all_of r.dones (λ q lt. omega (arith, waved.first q (omega (arith, lt, now.dones, nodes)), none false q)) in
@@ -103,11 +103,11 @@ not_counting s past laws run timely reads empty at =
     cc clash
 
 not_paused : (s : ScriptData) (past : List Entry) (laws : IsLawful s) (run : IsStepRun s past) (timely : AllTimely s past) (reads : Bool)
-    → waiting s past ≡ [] → (coordinator_in s past).phase ≡ Paused reads → ⊥
+    → in_flight s past ≡ [] → (coordinator_in s past).phase ≡ Paused reads → ⊥
 not_paused s past laws run timely reads empty at =
     absurd (omega (arith, (bound s past laws run timely).pausing reads at, none_busy s past laws run timely empty))
 
-idle_by : (s : ScriptData) (past : List Entry) (laws : IsLawful s) (run : IsStepRun s past) (timely : AllTimely s past) → waiting s past ≡ []
+idle_by : (s : ScriptData) (past : List Entry) (laws : IsLawful s) (run : IsStepRun s past) (timely : AllTimely s past) → in_flight s past ≡ []
     → (phase : Phase) → (coordinator_in s past).phase ≡ phase → running (coordinator_in s past).phase ≡ 0
 idle_by s past laws run timely empty Idle at = ap running at
 idle_by s past laws run timely empty Turning at = absurd (not_telling s past laws run timely TurnStage Turning empty at (λ k. refl))
@@ -117,13 +117,13 @@ idle_by s past laws run timely empty (Counting reads) at = absurd (not_counting 
 idle_by s past laws run timely empty (Paused reads) at = absurd (not_paused s past laws run timely reads empty at)
 
 -- no advancement is in progress
-pub idle : (s : ScriptData) (past : List Entry) (laws : IsLawful s) (run : IsStepRun s past) (timely : AllTimely s past) → waiting s past ≡ []
+pub idle : (s : ScriptData) (past : List Entry) (laws : IsLawful s) (run : IsStepRun s past) (timely : AllTimely s past) → in_flight s past ≡ []
     → running (coordinator_in s past).phase ≡ 0
 idle s past laws run timely empty = idle_by s past laws run timely empty (coordinator_in s past).phase refl
 
 -- The client.
 -- each advancement that was asked for has ended
-pub ended_all : (s : ScriptData) (past : List Entry) (laws : IsLawful s) (run : IsStepRun s past) (timely : AllTimely s past) → waiting s past ≡ []
+pub ended_all : (s : ScriptData) (past : List Entry) (laws : IsLawful s) (run : IsStepRun s past) (timely : AllTimely s past) → in_flight s past ≡ []
     → (client_in s past).ended ≡ asked_for s past
 ended_all s past laws run timely empty =
     let rests = idle s past laws run timely empty in
@@ -142,7 +142,7 @@ same_most : (n m : ℕ) → m ≡ n → nat_le n m ≡ true
 same_most n m same = grind (arith, nat_tests)
 
 -- all that was submitted has ended
-ended_now : (s : ScriptData) (past : List Entry) (laws : IsLawful s) (run : IsStepRun s past) (timely : AllTimely s past) → waiting s past ≡ []
+ended_now : (s : ScriptData) (past : List Entry) (laws : IsLawful s) (run : IsStepRun s past) (timely : AllTimely s past) → in_flight s past ≡ []
     → have_ended (client_in s past) (take (client_in s past).next s.rows) ≡ true
 ended_now s past laws run timely empty =
     let c = client_in s past in
@@ -153,19 +153,19 @@ ended_now s past laws run timely empty =
 
 -- all rows are submitted
 pub all_submitted : (s : ScriptData) (past : List Entry) (laws : IsLawful s) (run : IsStepRun s past) (timely : AllTimely s past)
-    → waiting s past ≡ [] → (client_in s past).next ≡ length s.rows
+    → in_flight s past ≡ [] → (client_in s past).next ≡ length s.rows
 all_submitted s past laws run timely empty =
     at_end s (client_in s past) ((at_rest s past laws.sound run timely).stops (none_left (λ (l : Letter). is_go l.body) s past empty))
     (ended_now s past laws run timely empty)
 
 pub all_rows : (s : ScriptData) (past : List Entry) (laws : IsLawful s) (run : IsStepRun s past) (timely : AllTimely s past)
-    → waiting s past ≡ [] → take (client_in s past).next s.rows ≡ s.rows
+    → in_flight s past ≡ [] → take (client_in s past).next s.rows ≡ s.rows
 all_rows s past laws run timely empty =
     ap (λ (n : ℕ). take n s.rows) (all_submitted s past laws run timely empty) ∙ take-length s.rows
 
 -- the client has finished
 pub finished : (s : ScriptData) (past : List Entry) (laws : IsLawful s) (run : IsStepRun s past) (timely : AllTimely s past)
-    → waiting s past ≡ [] → (client_in s past).finished ≡ true
+    → in_flight s past ≡ [] → (client_in s past).finished ≡ true
 finished s past laws run timely empty =
     (at_rest s past laws.sound run timely).finishes (none_left (λ (l : Letter). is_go l.body) s past empty)
     (all_submitted s past laws run timely empty)
@@ -181,7 +181,7 @@ has_finished s past sound run timely is =
     (omega (arith, one, (at_rest s past sound run timely).once, finishes_of past))
 
 -- where no letter is left, the client has finished, and its history says so
-pub no_run_stalls : (s : ScriptData) (past : List Entry) → IsSound s → IsStepRun s past → waiting s past ≡ []
+pub no_run_stalls : (s : ScriptData) (past : List Entry) → IsSound s → IsStepRun s past → in_flight s past ≡ []
     → ((client_in s past).finished ≡ true) × HasFinished (reverse past)
 no_run_stalls s past sound run empty =
     let laws = lawful s sound in

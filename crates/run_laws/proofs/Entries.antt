@@ -16,7 +16,7 @@ use Rattle.tx_trees.specs.Counts.{advances_in, all_subs}
 use Rattle.tx_trees.specs.ScriptData.{ScriptData, client_of, home_of, subs_at}
 use Rattle.tx_trees.specs.declared.parts.ScriptRow.{ScriptRow}
 use Rattle.world_model.specs.Counts.{one_if, tally}
-use Rattle.world_model.specs.Runs.{client_in, coordinator_in, node_in, waiting, IsStepRun}
+use Rattle.world_model.specs.Runs.{client_in, coordinator_in, node_in, in_flight, IsStepRun}
 use Rattle.world_model.specs.Timely.{AllTimely}
 use Rattle.world_model.proofs.Bridge.{coordinator_after}
 use Rattle.world_model.proofs.Every.{each_none}
@@ -114,7 +114,7 @@ weighs s past e (Obeys p out at lt order made) =
 
 -- the entries and the other letters in flight, by what was taken
 pub counted : (s : ScriptData) (past : List Entry) (laws : IsLawful s) (run : IsStepRun s past) (timely : AllTimely s past)
-    → length past + tally (λ (l : Letter). is_other l.body) (waiting s past) + taken_in is_root past
+    → length past + tally (λ (l : Letter). is_other l.body) (in_flight s past) + taken_in is_root past
     ≡ 1 + 2 * taken_in is_work past + 2 * taken_in is_reply past + taken_in is_apart past
 counted s [] laws run timely = omega arith
 counted s (e ∷ past) laws run timely =
@@ -183,7 +183,7 @@ taken_asks s (e ∷ past) t k laws run timely =
 abbrev AllDone : ScriptData → List Entry → Type 0
 AllDone s past = (t : ℕ) → t < length s.trees → TreeDone s past t
 
-all_done : (s : ScriptData) (past : List Entry) (laws : IsLawful s) (run : IsStepRun s past) (timely : AllTimely s past) → waiting s past ≡ [] → AllDone s past
+all_done : (s : ScriptData) (past : List Entry) (laws : IsLawful s) (run : IsStepRun s past) (timely : AllTimely s past) → in_flight s past ≡ [] → AllDone s past
 all_done s past laws run timely empty = λ t lt.
     let once = rooted_once (length s.trees) t s.rows laws.sound.valid.rows lt in
     let rows : roots_sent t (take (client_in s past).next s.rows) ≡ roots_sent t s.rows =
@@ -199,7 +199,7 @@ roots_taken s past laws run timely done =
     taken_asks s past t 0 laws run timely ∙ (done t (omega (arith, lt))).done 0 (has_root s t laws.sound (omega (arith, lt)))))
 
 replies_taken : (s : ScriptData) (past : List Entry) (laws : IsLawful s) (run : IsStepRun s past) (timely : AllTimely s past) → AllDone s past
-    → waiting s past ≡ [] → taken_in is_reply past ≡ length s.trees
+    → in_flight s past ≡ [] → taken_in is_reply past ≡ length s.trees
 replies_taken s past laws run timely done empty =
     let unheard : (t : ℕ) → replies s past t ≡ 0 = λ t. none_left (λ (l : Letter). replies_to t l.body) s past empty in
     taken_same is_reply (λ b. over 0 (λ t. replies_to t b) s.trees) s past laws run timely (reply_by_tree s)
@@ -238,7 +238,7 @@ apart_by n a u x stage round up none is =
     let two : 2 * n * stage ≡ 2 * n * 0 = ap (λ (k : ℕ). 2 * n * k) none in
     omega (arith, one, two, is)
 
-aparts_taken : (s : ScriptData) (past : List Entry) (laws : IsLawful s) (run : IsStepRun s past) (timely : AllTimely s past) → waiting s past ≡ []
+aparts_taken : (s : ScriptData) (past : List Entry) (laws : IsLawful s) (run : IsStepRun s past) (timely : AllTimely s past) → in_flight s past ≡ []
     → taken_in is_apart past ≡ advances_in s.rows * (2 + 6 * s.nodes) + 4 * s.nodes * (coordinator_in s past).round
 aparts_taken s past laws run timely empty =
     let c = coordinator_in s past in
@@ -251,7 +251,7 @@ aparts_taken s past laws run timely empty =
     (omega (arith, paid s past laws run timely, none_left (λ (l : Letter). cost l.body) s past empty, calm.0, all))
 
 -- The law.
-pub entries_counted : (s : ScriptData) (past : List Entry) → IsSound s → IsStepRun s past → waiting s past ≡ []
+pub entries_counted : (s : ScriptData) (past : List Entry) → IsSound s → IsStepRun s past → in_flight s past ≡ []
     → length past ≡ entries_of s (rounds_in s (reverse past))
 entries_counted s past sound run empty =
     let laws = lawful s sound in

@@ -21,7 +21,7 @@ use Rattle.world_model.specs.Client.{Client, rows_letters, submit, submitted}
 use Rattle.world_model.specs.Coordinator.{Coordinator}
 use Rattle.world_model.specs.declared.phase.Phase.TheVariants.{Counting, Paused}
 use Rattle.world_model.specs.Counts.{Each}
-use Rattle.world_model.specs.Runs.{coordinator_in, node_in, waiting, MayFollow}
+use Rattle.world_model.specs.Runs.{coordinator_in, node_in, in_flight, MayFollow}
 use Rattle.world_model.proofs.Every.{each_append, each_map, each_step, each_taken, node_kept}
 use Rattle.world_model.proofs.Nexts.{MadeByClient, MadeByCoordinator, Order, Turns, Shows, Sweeps, TellsDone, TellsAsked}
 use Rattle.world_model.proofs.Orders.{OfOrders, coordinator_each}
@@ -41,7 +41,7 @@ ExactBody s past v r from _ = Unit {0}
 
 -- every row of the round, kept or in flight, has the present numbers of its node
 pub record Exact (s : ScriptData) (past : List Entry) (r : RoundData) : Type 0 where
-  pub letters : Each (λ (l : Letter). ExactBody s past r.version.0 r.number l.from.0 l.body) (waiting s past)
+  pub letters : Each (λ (l : Letter). ExactBody s past r.version.0 r.number l.from.0 l.body) (in_flight s past)
   pub dones : (q : ℕ) (row : List ℕ) → q < s.nodes → slice_get r.dones q ≡ Some (Some row)
       → (p : ℕ) → p < s.nodes → slice_index row p ≡ (node_in s past q).counts.done r.version.0 p
   pub askeds : (p : ℕ) (row : List ℕ) → p < s.nodes → slice_get r.askeds p ≡ Some (Some row)
@@ -83,7 +83,7 @@ abbrev pub SentExact : ScriptData → List Entry → ℕ → ℕ → ℕ → Lis
 SentExact s past v r a os = Each (λ (o : Outgoing). LetterId → ExactBody s past v r a o.body) os
 
 pub exact_on : (s : ScriptData) (past : List Entry) (e : Entry) (r d : RoundData) → Frozen s past e → d.version ≡ r.version → d.number ≡ r.number
-    → Each (λ (l : Letter). ExactBody s past r.version.0 r.number l.from.0 l.body) (waiting s past)
+    → Each (λ (l : Letter). ExactBody s past r.version.0 r.number l.from.0 l.body) (in_flight s past)
     → ((q : ℕ) (row : List ℕ) → q < s.nodes → slice_get d.dones q ≡ Some (Some row)
     → (p : ℕ) → p < s.nodes → slice_index row p ≡ (node_in s past q).counts.done r.version.0 p)
     → ((p : ℕ) (row : List ℕ) → p < s.nodes → slice_get d.askeds p ≡ Some (Some row)
@@ -91,14 +91,14 @@ pub exact_on : (s : ScriptData) (past : List Entry) (e : Entry) (r d : RoundData
     → SentExact s (e ∷ past) r.version.0 r.number e.actor.0 e.sent → Exact s (e ∷ past) d
 exact_on s past e r d frozen version number letters dones askeds sent =
     let old = each_map (λ (l : Letter). ExactBody s past r.version.0 r.number l.from.0 l.body)
-    (λ (l : Letter). ExactBody s (e ∷ past) r.version.0 r.number l.from.0 l.body) (waiting s past)
+    (λ (l : Letter). ExactBody s (e ∷ past) r.version.0 r.number l.from.0 l.body) (in_flight s past)
     (λ l ok. exact_body s past e r.version.0 r.number l.from.0 l.body frozen ok) letters in
     let now = each_step (λ (l : Letter). ExactBody s (e ∷ past) r.version.0 r.number l.from.0 l.body) s past e old sent in
     let v : d.version.0 ≡ r.version.0 = ap (λ (x : Version). x.0) version in
-    let by_version : Each (λ (l : Letter). ExactBody s (e ∷ past) d.version.0 r.number l.from.0 l.body) (waiting s (e ∷ past)) =
-    subst (λ (n : ℕ). Each (λ (l : Letter). ExactBody s (e ∷ past) n r.number l.from.0 l.body) (waiting s (e ∷ past))) (sym v) now in
+    let by_version : Each (λ (l : Letter). ExactBody s (e ∷ past) d.version.0 r.number l.from.0 l.body) (in_flight s (e ∷ past)) =
+    subst (λ (n : ℕ). Each (λ (l : Letter). ExactBody s (e ∷ past) n r.number l.from.0 l.body) (in_flight s (e ∷ past))) (sym v) now in
     record {
-      letters = subst (λ (n : ℕ). Each (λ (l : Letter). ExactBody s (e ∷ past) d.version.0 n l.from.0 l.body) (waiting s (e ∷ past))) (sym number) by_version;
+      letters = subst (λ (n : ℕ). Each (λ (l : Letter). ExactBody s (e ∷ past) d.version.0 n l.from.0 l.body) (in_flight s (e ∷ past))) (sym number) by_version;
       dones = λ q row lq at p lp. dones q row lq at p lp ∙ ap (λ (n : ℕ). (node_in s past q).counts.done n p) (sym v)
           ∙ sym (ap (λ (n : Numbers). n.done d.version.0 p) (frozen q lq));
       askeds = λ p row lp at q lq. askeds p row lp at q lq ∙ ap (λ (n : ℕ). (node_in s past p).counts.asked n q) (sym v)

@@ -18,7 +18,7 @@ use Rattle.world_model.specs.Node.{Node}
 use Rattle.world_model.specs.Coordinator.{Coordinator, coordinator_row, keep_done, to_nodes}
 use Rattle.world_model.specs.declared.phase.Phase.TheVariants.{Counting}
 use Rattle.world_model.specs.Counts.{tally, one_if}
-use Rattle.world_model.specs.Runs.{coordinator_in, node_in, waiting, MayFollow, IsStepRun}
+use Rattle.world_model.specs.Runs.{coordinator_in, node_in, in_flight, MayFollow, IsStepRun}
 use Rattle.world_model.specs.Timely.{AllTimely}
 use Rattle.world_model.proofs.Bags.{tally-append, tally_step, sealed_tally}
 use Rattle.world_model.proofs.Every.{coordinator_kept}
@@ -43,7 +43,7 @@ wave two v r q n from to _ = 0
 
 -- how many of them are in flight
 abbrev pub waves : ScriptData → List Entry → Bool → ℕ → ℕ → ℕ → ℕ
-waves s past two v r q = tally (λ (l : Letter). wave two v r q s.nodes l.from.0 l.to.0 l.body) (waiting s past)
+waves s past two v r q = tally (λ (l : Letter). wave two v r q s.nodes l.from.0 l.to.0 l.body) (in_flight s past)
 
 -- and of what actor a sends
 abbrev sends : Bool → ℕ → ℕ → ℕ → ℕ → ℕ → Outgoing → ℕ

@@ -9,7 +9,7 @@ use Rattle.tx_trees.specs.declared.parts.ScriptRow.TheVariants.{Tree as TreeRow,
 use Rattle.world_model.specs.Client.{Client}
 use Rattle.world_model.specs.Counts.{one_if, tally}
 use Rattle.world_model.specs.Runs.{client_in}
-use Rattle.phase_laws.specs.Phases.{under_way}
+use Rattle.phase_laws.specs.Phases.{count_in_flight}
 
 -- a row of a tree whose answer the client hasn't heard
 abbrev pub unanswered : List Bool → ScriptRow → ℕ
@@ -39,4 +39,4 @@ of_trees _ = 0
 
 -- the nudges in flight, and the trees that are submitted and not answered
 abbrev pub busy : ScriptData → List Entry → ℕ
-busy s past = under_way nudges s past + left s (client_in s past)
+busy s past = count_in_flight nudges s past + left s (client_in s past)

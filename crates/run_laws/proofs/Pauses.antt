@@ -15,7 +15,7 @@ use Rattle.world_model.specs.Client.{nudge, with_answer, with_end}
 use Rattle.world_model.specs.Coordinator.{Coordinator, coordinator_row, counted_version, in_phase, keep_done, with_asked}
 use Rattle.world_model.specs.declared.phase.Phase.{Phase}
 use Rattle.world_model.specs.declared.phase.Phase.TheVariants.{Counting, Paused, Sweeping}
-use Rattle.world_model.specs.Runs.{client_in, coordinator_in, node_in, waiting, MayFollow, IsStepRun}
+use Rattle.world_model.specs.Runs.{client_in, coordinator_in, node_in, in_flight, MayFollow, IsStepRun}
 use Rattle.world_model.specs.Timely.{AllTimely}
 use Rattle.world_model.proofs.Bags.{found_none}
 use Rattle.world_model.proofs.Every.{coordinator_kept, each_map, each_step}
@@ -24,7 +24,7 @@ use Rattle.world_model.proofs.Lawful.{IsLawful}
 use Rattle.world_model.proofs.Nexts.{Next, Begins, Hears, Ends, Coordinates, DoesRoot, DoesSub, Notes, Obeys, MadeByCoordinator}
 use Rattle.world_model.proofs.Orders.{coordinator_nodes}
 use Rattle.world_model.proofs.Worked.{took_body}
-use Rattle.phase_laws.specs.Phases.{most_low, under_way}
+use Rattle.phase_laws.specs.Phases.{most_low, count_in_flight}
 use Rattle.phase_laws.proofs.Current.{current}
 use Rattle.phase_laws.proofs.Levels.{versions_in_phase}
 use Rattle.phase_laws.proofs.Outcomes.{TakesAsked, asked_kept, round_begun}
@@ -51,7 +51,7 @@ at_least_one (suc n) none = omega arith
 
 -- where nothing was busy before, no letter of a tree was in flight
 none_of_trees : (s : ScriptData) (past : List Entry) (laws : IsLawful s) (run : IsStepRun s past) (timely : AllTimely s past) → busy s past ≡ 0
-    → under_way of_trees s past ≡ 0
+    → count_in_flight of_trees s past ≡ 0
 none_of_trees s past laws run timely none = trees_rest s past laws.sound run timely (omega (arith, none))
 
 -- A round that begins has no row.
@@ -68,7 +68,7 @@ starts_exact s past e reads d laws run timely made =
     let k = (coordinator_in s past).round + 1 in
     let v = (counted_version reads d).0 in
     let r = (coordinator_in s past).round in
-    let old = each_map (λ (l : Letter). round_of l.body ≤ r) (λ (l : Letter). ExactBody s (e ∷ past) v k l.from.0 l.body) (waiting s past)
+    let old = each_map (λ (l : Letter). round_of l.body ≤ r) (λ (l : Letter). ExactBody s (e ∷ past) v k l.from.0 l.body) (in_flight s past)
     (λ l le. later_exact s (e ∷ past) v k r l.from.0 l.body (omega arith) le) (fresh s past laws run timely).letters in
     record {
       letters = each_step (λ (l : Letter). ExactBody s (e ∷ past) v k l.from.0 l.body) s past e old (coordinator_exact s past e v k made);
@@ -234,14 +234,14 @@ record Stands (s : ScriptData) (past : List Entry) (e : Entry) : Type 0 where
   frozen : Frozen s past e
   sent : (v r : ℕ) → SentExact s (e ∷ past) v r e.actor.0 e.sent
 
-no_tree : (s : ScriptData) (past : List Entry) (e : Entry) (body : Body) → MayFollow s past e → under_way of_trees s past ≡ 0
+no_tree : (s : ScriptData) (past : List Entry) (e : Entry) (body : Body) → MayFollow s past e → count_in_flight of_trees s past ≡ 0
     → e.took.body ≡ body → of_trees body ≡ 1 → ⊥
 no_tree s past e body m none bd one =
     let took : of_trees e.took.body ≡ of_trees body = ap of_trees bd in
-    absurd (omega (arith, one, took, found_none (λ (l : Letter). of_trees l.body) e.took.id (waiting s past) e.took m.waits none))
+    absurd (omega (arith, one, took, found_none (λ (l : Letter). of_trees l.body) e.took.id (in_flight s past) e.took m.waits none))
 
 stands : (s : ScriptData) (past : List Entry) (e : Entry) (reads : Bool) (laws : IsLawful s) (run : IsStepRun s past) (timely : AllTimely s past)
-    → MayFollow s past e → under_way of_trees s past ≡ 0 → (coordinator_in s past).phase ≡ Counting reads → e.actor.0 ≢ s.nodes
+    → MayFollow s past e → count_in_flight of_trees s past ≡ 0 → (coordinator_in s past).phase ≡ Counting reads → e.actor.0 ≢ s.nodes
     → Next s past e → Stands s past e
 stands s past e reads laws run timely m none at away (Begins bd here made) = record {
   frozen = frozen_away s past e (omega (arith, here));

@@ -15,7 +15,7 @@ use Rattle.tx_trees.specs.Valid.{IsValid, load}
 use Rattle.tx_trees.specs.declared.parts.ScriptRow.TheVariants.{Advance}
 use Rattle.world_model.specs.Apt.{node_row}
 use Rattle.world_model.specs.Counts.{Each}
-use Rattle.world_model.specs.Runs.{waiting, client_in, coordinator_in, node_in, AtNode, AtCoordinator, AtClient, MayFollow, IsStepRun}
+use Rattle.world_model.specs.Runs.{in_flight, client_in, coordinator_in, node_in, AtNode, AtCoordinator, AtClient, MayFollow, IsStepRun}
 use Rattle.world_model.specs.Sample.{entry_by, next_of, sample, small}
 use Rattle.world_model.specs.Tables.{client_table, coordinator_table}
 use Rattle.world_model.proofs.Fits.{IsFit}
@@ -32,7 +32,7 @@ use Rattle.run_laws.proofs.Ends.{no_run_stalls}
 abbrev pub advanced : ScriptData
 advanced = record small { rows = small.rows ++ Advance ∷ [] }
 
-pub all_taken : waiting advanced (sample advanced 44) ≡ []
+pub all_taken : in_flight advanced (sample advanced 44) ≡ []
 all_taken = refl
 
 pub entries : length (sample advanced 44) ≡ entries_of advanced (coordinator_in advanced (sample advanced 44)).round
@@ -67,7 +67,7 @@ someone s from to _ sound fit = absurd fit
 first_found : (l : Letter) (ls : List Letter) → find_id l.id (l ∷ ls) ≡ Some l
 first_found l ls = rw (same_id-self l.id) refl
 
-follows : (s : ScriptData) (past : List Entry) (l : Letter) → find_id l.id (waiting s past) ≡ Some l → l.to.0 ≤ s.nodes + 1
+follows : (s : ScriptData) (past : List Entry) (l : Letter) → find_id l.id (in_flight s past) ≡ Some l → l.to.0 ≤ s.nodes + 1
     → (a b : Bool) → nat_lt l.to.0 s.nodes ≡ a → (l.to.0 == s.nodes) ≡ b
     → MayFollow s past (if a then entry_by past l (node_row s l.to.0 (node_in s past l.to.0) l)
     else if b then entry_by past l (coordinator_table (coordinator_in s past) l) else entry_by past l (client_table s (client_in s past) l))
@@ -78,19 +78,19 @@ follows s past l found le false true node at =
 follows s past l found le false false node at =
     record { stamp = refl; waits = found; addressee = refl; moves = AtClient (grind (arith, nat_tests)) (refl, refl) }
 
-next_run : (s : ScriptData) (past : List Entry) (ls : List Letter) → IsSound s → IsStepRun s past → waiting s past ≡ ls → IsStepRun s (next_of s past ls)
+next_run : (s : ScriptData) (past : List Entry) (ls : List Letter) → IsSound s → IsStepRun s past → in_flight s past ≡ ls → IsStepRun s (next_of s past ls)
 next_run s past [] sound run at = run
 next_run s past (l ∷ ls) sound run at =
     let letters = each_waits (λ (x : Letter). IsFit s x.from.0 x.to.0 x.body) s past
     (good_run s past sound run (all_timely s past (lawful s sound) run)).letters in
     let fit = (subst (λ (xs : List Letter). Each (λ (x : Letter). IsFit s x.from.0 x.to.0 x.body) xs) at letters).0 in
-    let found : find_id l.id (waiting s past) ≡ Some l = ap (λ (xs : List Letter). find_id l.id xs) at ∙ first_found l ls in
+    let found : find_id l.id (in_flight s past) ≡ Some l = ap (λ (xs : List Letter). find_id l.id xs) at ∙ first_found l ls in
     (follows s past l found (someone s l.from.0 l.to.0 l.body sound fit) (nat_lt l.to.0 s.nodes) (l.to.0 == s.nodes) refl refl, run)
 
 -- each sample is one
 pub sample_run : (s : ScriptData) (n : ℕ) → IsSound s → IsStepRun s (sample s n)
 sample_run s zero sound = tt
-sample_run s (suc n) sound = next_run s (sample s n) (waiting s (sample s n)) sound (sample_run s n sound) refl
+sample_run s (suc n) sound = next_run s (sample s n) (in_flight s (sample s n)) sound (sample_run s n sound) refl
 
 -- The script is valid, so the law says that the run ends.
 loads : (x : ℕ) → x < 2 → load x advanced ≤ most_amount advanced.form

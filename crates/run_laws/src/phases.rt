@@ -53,7 +53,7 @@ pub fn rounds_are_few()
 {}
 
 /// For every version that two nodes still count, the requests of the one to the other are the other's completions from
-/// it and the counted letters in flight between them; and in a version that one has left, none is in flight.
+/// it and the outstanding counted letters between them; and in a version that one has left, none is outstanding.
 pub fn requests_are_completions_and_letters()
     ensures { (s : ScriptData) (past : List Entry) → IsValid s → IsRunnable s → IsStepRun s past → IsBalanced s past }
 {}

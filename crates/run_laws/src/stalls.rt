@@ -6,19 +6,19 @@ ghost use Rattle.tree_laws.specs.Entries.{entries_of, rounds_in};
 ghost use Rattle.tx_trees.specs.Counts.{advances_in};
 ghost use Rattle.tx_trees.specs.ScriptData.{ScriptData};
 ghost use Rattle.tx_trees.specs.Valid.{IsValid};
-ghost use Rattle.world_model.specs.Runs.{client_in, waiting, IsStepRun};
+ghost use Rattle.world_model.specs.Runs.{client_in, in_flight, IsStepRun};
 ghost use Rattle.world_model.specs.Tables.{IsRunnable};
 
 /// No run stalls: where no letter is in flight any more, every tree is answered, every advancement has ended, and the
 /// client has finished.
 pub fn no_run_stalls()
-    ensures { (s : ScriptData) (past : List Entry) → IsValid s → IsRunnable s → IsStepRun s past → waiting s past ≡ []
+    ensures { (s : ScriptData) (past : List Entry) → IsValid s → IsRunnable s → IsStepRun s past → in_flight s past ≡ []
         → ((client_in s past).finished ≡ true) × HasFinished (reverse past) }
 {}
 
 /// A run in which no letter is in flight any more has as many entries as its trees, advancements and rounds take.
 pub fn entries_are_counted()
-    ensures { (s : ScriptData) (past : List Entry) → IsValid s → IsRunnable s → IsStepRun s past → waiting s past ≡ []
+    ensures { (s : ScriptData) (past : List Entry) → IsValid s → IsRunnable s → IsStepRun s past → in_flight s past ≡ []
         → length past ≡ entries_of s (rounds_in s (reverse past)) }
 {}
 

@@ -4,7 +4,7 @@ use Rattle.std.proofs.lemmas.List.{reverse-reverse}
 use Rattle.letter_types.specs.declared.entries.Letter.{Letter}
 use Rattle.tx_trees.specs.ScriptData.{ScriptData}
 use Rattle.tx_trees.specs.Valid.{IsValid}
-use Rattle.world_model.specs.Runs.{waiting}
+use Rattle.world_model.specs.Runs.{in_flight}
 use Rattle.world_model.specs.Tables.{IsRunnable}
 use Rattle.headline.proofs.Emptied.{ended_past}
 use Rattle.world_core.specs.Actors.{IsWorldOf, WorldData}
@@ -15,7 +15,7 @@ none_left [] le = refl
 none_left (x ∷ xs) le = absurd (omega arith)
 
 -- a world without a letter in flight
-pub bag_is_empty : (s : ScriptData) (w : WorldData) → IsWorldOf s w → length w.bag ≤ 0 → waiting s (reverse w.history) ≡ []
+pub bag_is_empty : (s : ScriptData) (w : WorldData) → IsWorldOf s w → length w.bag ≤ 0 → in_flight s (reverse w.history) ≡ []
 bag_is_empty s w world none = sym world.bag ∙ none_left w.bag none
 
 pub has_ended : (s : ScriptData) (w : WorldData) → IsWorldOf s w → IsValid s → IsRunnable s → length w.bag ≤ 0 → HasEnded s w.history

@@ -6,7 +6,7 @@ use Rattle.std.proofs.lemmas.Bool.Decides.{nat_tests}
 use Rattle.letter_types.specs.declared.entries.Entry.{Entry}
 use Rattle.letter_types.specs.declared.entries.Letter.{Letter}
 use Rattle.tx_trees.specs.ScriptData.{ScriptData}
-use Rattle.world_model.specs.Runs.{waiting}
+use Rattle.world_model.specs.Runs.{in_flight}
 use Rattle.world_model.specs.Scheduled.{IsScheduled, draw, drawn_from, number_for, waiting_at}
 use Rattle.tv_base.specs.Draws.{next_draw}
 use Rattle.sim_runner.specs.Pickers.{IsPickedBy, picker_at}
@@ -72,7 +72,7 @@ as_calls s p h (suc k) = ap after_number (as_calls s p h k)
 -- a history whose letters picks chose is scheduled
 pub is_scheduled : (s : ScriptData) (seed : Option ℕ) (h : List Entry)
     → IsPickedBy (λ (q : PicksData) (ls : List Letter). next_number q) (λ (q : PicksData) (ls : List Letter). after_number q) s (record { given = s.picks; seed = seed }) h
-    → waiting s (reverse h) ≡ [] → IsScheduled s seed h
+    → in_flight s (reverse h) ≡ [] → IsScheduled s seed h
 is_scheduled s seed h picked left = record {
   places = λ k e at. subst (λ (n : ℕ). slice_get (waiting_at s h k) (n % length (waiting_at s h k)) ≡ Some e.took)
       (ap next_number (as_calls s (record { given = s.picks; seed = seed }) h k) ∙ numbers s.picks seed k) (picked k e at);

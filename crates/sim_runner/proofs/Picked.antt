@@ -6,7 +6,7 @@ use Rattle.tv_base.proofs.ByPlace.{slice_get_split}
 use Rattle.letter_types.specs.declared.entries.Entry.{Entry}
 use Rattle.letter_types.specs.declared.entries.Letter.{Letter}
 use Rattle.tx_trees.specs.ScriptData.{ScriptData}
-use Rattle.world_model.specs.Runs.{waiting}
+use Rattle.world_model.specs.Runs.{in_flight}
 use Rattle.world_model.specs.Scheduled.{waiting_at}
 use Rattle.world_core.specs.Actors.{IsWorldOf, TookLetter, WorldData}
 use Rattle.sim_runner.specs.Pickers.{IsPickedBy, picked_at, picker_at}
@@ -22,10 +22,10 @@ take_whole (e ∷ h) = ap (λ (xs : List Entry). e ∷ xs) (take_whole h)
 
 -- the letters in flight before an entry are told by the entries before it
 same_before : (s : ScriptData) (h t : List Entry) (k : ℕ) → k ≤ length h → waiting_at s (h ++ t) k ≡ waiting_at s h k
-same_before s h t k le = ap (λ (xs : List Entry). waiting s (reverse xs)) (take_front k h t le)
+same_before s h t k le = ap (λ (xs : List Entry). in_flight s (reverse xs)) (take_front k h t le)
 
-all_before : (s : ScriptData) (h : List Entry) → waiting_at s h (length h) ≡ waiting s (reverse h)
-all_before s h = ap (λ (xs : List Entry). waiting s (reverse xs)) (take_whole h)
+all_before : (s : ScriptData) (h : List Entry) → waiting_at s h (length h) ≡ in_flight s (reverse h)
+all_before s h = ap (λ (xs : List Entry). in_flight s (reverse xs)) (take_whole h)
 
 -- at the place of a number, in the letters that wait
 abbrev At : List Letter → ℕ → Letter → Type 0

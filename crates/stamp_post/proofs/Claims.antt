@@ -12,7 +12,7 @@ use Rattle.letter_types.specs.declared.entries.LetterId.{LetterId}
 use Rattle.letter_types.specs.declared.entries.Outgoing.{Outgoing}
 use Rattle.letter_types.specs.declared.entries.Posting.{Posting}
 use Rattle.letter_types.specs.Letters.{go, find_id}
-use Rattle.letter_types.specs.Postal.{IsPostal, letters_sent}
+use Rattle.letter_types.specs.Postal.{IsMessageRun, letters_sent}
 use Rattle.stamp_post.specs.declared.rule.View.{View}
 use Rattle.stamp_post.specs.declared.rule.View.TheVariants.{Gathering, Acting, Sending, Carrying, Spent}
 use Rattle.stamp_post.specs.Logs.{Stands, AreFirst, WasSent}
@@ -46,7 +46,7 @@ sent_before client log l (inr s) =
     omega (arith, within, is, at)
 
 -- a log that went as letters do, with one posting more
-module _ (client : ℕ) (log : List Posting) (p : Posting) (old : IsPostal client log)
+module _ (client : ℕ) (log : List Posting) (p : Posting) (old : IsMessageRun client log)
     (stamped : p.stamp.0 ≡ length log + 1) (came : WasSent client log p.took)
     (first : (k : ℕ) (d : Posting) → slice_get log k ≡ Some d → d.took.id ≢ p.took.id)
     (addressed : p.took.to.0 ≡ p.actor.0) (known : p.actor.0 < client + 1) where
@@ -69,7 +69,7 @@ module _ (client : ℕ) (log : List Posting) (p : Posting) (old : IsPostal clien
     s.2,
   )
 
-  pub postal_more : IsPostal client (log ++ p ∷ [])
+  pub postal_more : IsMessageRun client (log ++ p ∷ [])
   postal_more = record {
     stamps = λ k e at. elim (slice_get_split log p k e at) [
       | inl t ↦ old.stamps k e t.1
@@ -101,7 +101,7 @@ module _ (client : ℕ) (log : List Posting) (p : Posting) (old : IsPostal clien
   }
 
 -- what a posting of the log took was sent
-pub was_taken : (client : ℕ) (log : List Posting) (k : ℕ) (e : Posting) → IsPostal client log → slice_get log k ≡ Some e
+pub was_taken : (client : ℕ) (log : List Posting) (k : ℕ) (e : Posting) → IsMessageRun client log → slice_get log k ≡ Some e
     → WasSent client log e.took
 was_taken client log k e postal at = elim (postal.sent k e at) [
   | inl is ↦ inl is

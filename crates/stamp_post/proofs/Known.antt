@@ -19,7 +19,7 @@ use Rattle.stamp_post.specs.Rules.{Ruled}
 use Rattle.stamp_post.specs.Moves.{Stamped, carrying, with_actor, new_actor, without_go, go_off, without_outbox, outbox_off, without_letter, letter_off, with_letter, with_seat, with_receipt}
 use Rattle.stamp_post.specs.Shown.{Gathers, PostId, SeatData, seat_data, new_seats}
 use Rattle.stamp_post.proofs.Lists.{sent_as, sealed_at}
-use Rattle.stamp_post.proofs.Steps.{stamps, splits_actor, splits_go, splits_outbox, splits_envelope, joins_envelope, joins_seat, joins_receipt, closes}
+use Rattle.stamp_post.proofs.Steps.{stamps, splits_actor, splits_go, splits_outbox, splits_envelope, joins_envelope, joins_seat, joins_receipt, commits_by}
 
 pub actor_split : (actors id m : ℕ) (first : Option Letter) (seats : List JoinedSeat) (receipts : List JoinedReceipt)
     (v : View) → v ≡ Gathering m first seats receipts → m < actors
@@ -96,7 +96,7 @@ pub last_state : (actors id m n : ℕ) (v : View) (first : Option Letter) (seats
     → receipts ≡ receipts' → (g : Gathers actors' seats' receipts') × (length g.log ≡ n)
 last_state actors id m n v first seats seats' receipts receipts' words slots actors' is last count e e' e'' =
     subst (λ (z : ℕ × List JoinedSeat × List JoinedReceipt). (g : Gathers z.0 z.1 z.2) × (length g.log ≡ n))
-    (λ k. (e k, e' k, e'' k)) (closes actors id m n v first seats receipts words slots is last count)
+    (λ k. (e k, e' k, e'' k)) (commits_by actors id m n v first seats receipts words slots is last count)
 
 -- the first of what is left of a list
 pub head_there : (os : List Outgoing) (k : ℕ) (o : Outgoing) (rest : List Outgoing) → drop k os ≡ o ∷ rest

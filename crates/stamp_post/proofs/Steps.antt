@@ -13,7 +13,7 @@ use Rattle.letter_types.specs.declared.entries.LetterId.{LetterId}
 use Rattle.letter_types.specs.declared.entries.Outgoing.{Outgoing}
 use Rattle.letter_types.specs.declared.entries.Posting.{Posting}
 use Rattle.letter_types.specs.Letters.{go}
-use Rattle.letter_types.specs.Postal.{IsPostal}
+use Rattle.letter_types.specs.Postal.{IsMessageRun}
 use Rattle.stamp_post.specs.declared.rule.JoinedSeat.{JoinedSeat}
 use Rattle.stamp_post.specs.declared.rule.JoinedReceipt.{JoinedReceipt}
 use Rattle.stamp_post.specs.declared.rule.View.{View}
@@ -66,7 +66,7 @@ suc_apart j i ne e = ne (omega arith)
 none_at : {A : Type 0} (k : ℕ) (a : A) → slice_get [] k ≡ Some a → ⊥
 none_at k a e = grind (arith, e)
 
-no_postings : (client : ℕ) → IsPostal client []
+no_postings : (client : ℕ) → IsMessageRun client []
 no_postings client = record {
   stamps = λ k e at. absurd (none_at k e at);
   sent = λ k e at. absurd (none_at k e at);
@@ -124,7 +124,7 @@ first_taken log holder at l gone held k d there same = absurd
     (omega (arith, sym (gone k d there) ∙ ap (λ (i : LetterId). holder i.stamp.0 i.place) same ∙ held))
 
 gone_moved : (client : ℕ) (log : List Posting) (holder : ℕ → ℕ → ℕ) (sel : ℕ → ℕ → Bool) (old new : ℕ)
-    → AllOf client log holder sel (suc old) → IsPostal client log → IsGone log holder → IsGone log (move holder sel new)
+    → AllOf client log holder sel (suc old) → IsMessageRun client log → IsGone log holder → IsGone log (move holder sel new)
 gone_moved client log holder sel old new all postal gone k e at = stays client log holder sel
     (suc old) new all e.took 0 (was_taken client log k e postal at) (gone k e at) (λ z. absurd (omega arith))
 
@@ -565,12 +565,12 @@ word_of (x ∷ xs) zero n e = some-injective x n e
 word_of (x ∷ xs) (suc i) n e = word_of xs i n e
 
 -- and how long the log is
-pub closes : (actors id m n : ℕ) (v : View) (first : Option Letter) (seats : List JoinedSeat)
+pub commits_by : (actors id m n : ℕ) (v : View) (first : Option Letter) (seats : List JoinedSeat)
     (receipts : List JoinedReceipt) (words : List ℕ) (slots : List (Unit {0})) → v ≡ Gathering m first seats receipts
     → Final (Seen (Ruled actors) id v) words slots → get_elem? words 1 ≡ some n → (g : Gathers actors seats receipts)
     × (length g.log ≡ n)
 unfolding shows
-closes actors id m n v first seats receipts words slots is last count =
+commits_by actors id m n v first seats receipts words slots is last count =
     let s = last.0 in
     let seen = subst (λ (u : View). Seen (Ruled actors) id u s) is last.1 in (
       shows actors id m first seats receipts s seen,

@@ -7,7 +7,7 @@ use Rattle.letter_types.specs.declared.entries.Letter.{Letter}
 use Rattle.letter_types.specs.declared.entries.Outgoing.{Outgoing}
 use Rattle.letter_types.specs.declared.entries.Posting.{Posting}
 use Rattle.letter_types.specs.Letters.{go}
-use Rattle.letter_types.specs.Postal.{IsPostal}
+use Rattle.letter_types.specs.Postal.{IsMessageRun}
 use Rattle.stamp_post.specs.declared.rule.JoinedSeat.{JoinedSeat}
 use Rattle.stamp_post.specs.declared.rule.JoinedReceipt.{JoinedReceipt}
 use Rattle.stamp_post.specs.declared.rule.View.{View}
@@ -63,7 +63,7 @@ pub record KeepsLog (actors : ℕ) (words : List ℕ) (views : List View) : Type
   pub holder : ℕ → ℕ → ℕ
   pub two : length words ≡ 2
   pub clock : slice_index words 1 ≡ length log
-  pub postal : IsPostal (actors - 1) log
+  pub postal : IsMessageRun (actors - 1) log
   pub few : (made ≤ actors) × (actors < 256)
   pub by_made : (k : ℕ) (p : Posting) → slice_get log k ≡ Some p → p.actor.0 < made
   pub each : (a : ℕ) → length (own_postings a log) ≤ most

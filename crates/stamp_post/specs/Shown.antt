@@ -4,7 +4,7 @@ use Rattle.atomic_table.specs.Seated.{TableId}
 use Rattle.letter_types.specs.declared.entries.Letter.{Letter}
 use Rattle.letter_types.specs.declared.entries.Outgoing.{Outgoing}
 use Rattle.letter_types.specs.declared.entries.Posting.{Posting}
-use Rattle.letter_types.specs.Postal.{IsPostal}
+use Rattle.letter_types.specs.Postal.{IsMessageRun}
 use Rattle.stamp_post.specs.declared.rule.JoinedSeat.{JoinedSeat}
 use Rattle.stamp_post.specs.declared.rule.JoinedReceipt.{JoinedReceipt}
 use Rattle.stamp_post.specs.Logs.{own_postings, Stands, AreFirst}
@@ -93,7 +93,7 @@ receipt_joined r = joined_receipt r.number r.own r.posting
 -- posting is there at its stamp, and the postings up to it are its actor's first ones
 pub record Gathers (actors : ℕ) (seats : List JoinedSeat) (receipts : List JoinedReceipt) : Type 0 where
   pub log : List Posting
-  pub postal : IsPostal (actors - 1) log
+  pub postal : IsMessageRun (actors - 1) log
   pub own : (k : ℕ) (s : JoinedSeat) → slice_get seats k ≡ Some s → s.own ≡ own_postings s.number log
   pub stands : (k : ℕ) (r : JoinedReceipt) → slice_get receipts k ≡ Some r → Stands log r.posting
   pub begins : (k : ℕ) (r : JoinedReceipt) → slice_get receipts k ≡ Some r → AreFirst log r.number r.own
