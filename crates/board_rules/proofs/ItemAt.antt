@@ -121,14 +121,32 @@ fits_node : (kind : TreeKind) (node : ℕ) (o : SubOp) (found : Option ItemRow) 
 fits_node kind node o None r fits is = absurd fits
 fits_node kind node o (Some row) r fits is = let same : row ≡ r = cc is in sym (ap (λ (z : ItemRow). z.node.0) same) ∙ fits.0
 
+-- an operation is at its item's node
+pub op_node : (s : ScriptData) (t k i : ℕ) (o : SubOp) (r : ItemRow) → IsValid s → slice_get (ops_of s t k) i ≡ Some o
+    → slice_get s.items o.item.0 ≡ Some r → node_of s t k ≡ r.node.0
+op_node s t k i o r valid is row =
+    let h = op_here s t k i o valid is in
+    ap (λ (f : Option Sub). elim f [ Some sub ↦ sub.node.0 | None ↦ s.nodes ]) h.here
+    ∙ sym (fits_node h.tree.kind h.sub.node.0 o (slice_get s.items o.item.0) r h.fits row)
+
+-- its item is one of the script's, at its subtransaction's node
+pub record ItemThere (s : ScriptData) (t k : ℕ) (o : SubOp) : Type 0 where
+  pub row : ItemRow
+  pub there : slice_get s.items o.item.0 ≡ Some row
+  pub node : node_of s t k ≡ row.node.0
+
+pub op_row : (s : ScriptData) (t k i : ℕ) (o : SubOp) → IsValid s → slice_get (ops_of s t k) i ≡ Some o → ItemThere s t k o
+op_row s t k i o valid is = by (slice_get s.items o.item.0) refl (op_here s t k i o valid is) where
+  by : (r : Option ItemRow) → slice_get s.items o.item.0 ≡ r → OpHere s t k o → ItemThere s t k o
+  by None at h = absurd (subst (OpAt h.tree.kind h.sub.node.0 o) at h.fits)
+  by (Some row) at h = record { row = row; there = at; node = op_node s t k i o row valid is at }
+
 at_node : (s : ScriptData) (p x t k : ℕ) (r : ItemRow) → IsValid s → slice_get s.items x ≡ Some r → r.node.0 ≡ p
     → ops_change x (ops_of s t k) ≡ true → node_of s t k ≡ p
 at_node s p x t k r valid at node is =
     let c = change x (ops_of s t k) is in
-    let h = op_here s t k c.on.index c.on.op valid c.on.is in
     let row : slice_get s.items c.on.op.item.0 ≡ Some r = ap (slice_get s.items) (eqb-true c.on.op.item.0 x c.on.on) ∙ at in
-    ap (λ (f : Option Sub). elim f [ Some sub ↦ sub.node.0 | None ↦ s.nodes ]) h.here
-    ∙ sym (fits_node h.tree.kind h.sub.node.0 c.on.op (slice_get s.items c.on.op.item.0) r h.fits row) ∙ node
+    op_node s t k c.on.index c.on.op r valid c.on.is row ∙ node
 
 -- A strict tree has one operation on an item, so one subtransaction that changes it.
 distinct_once : (xs : List ℕ) → IsDistinct nat_eq xs → AreOnce same_number xs

@@ -21,7 +21,7 @@ use Rattle.letter_types.specs.declared.bodies.Body.TheVariants.{Root, Sub as Sub
 use Rattle.letter_types.specs.declared.entries.Entry.{Entry}
 use Rattle.world_model.specs.Named.{is_timely}
 use Rattle.world_model.specs.Done.{note_done, raised_if, root_done, sub_done, turned_if}
-use Rattle.world_model.specs.Node.{Effect, Node}
+use Rattle.world_model.specs.Node.{Effect, Node, items_at, start_node}
 use Rattle.world_model.specs.Advancing.{show_row, sweep_row, turn_row}
 use Rattle.world_model.specs.Client.{client_finishes, next_after, with_answer, with_end}
 use Rattle.tx_trees.specs.ScriptData.{ScriptData, home_of, node_of, ops_of, updates}
@@ -29,11 +29,10 @@ use Rattle.tx_trees.specs.declared.parts.ItemRow.{ItemRow}
 use Rattle.board_rules.specs.Histories.{Place, places_at, version_in}
 use Rattle.board_rules.specs.Worth.{ops_change}
 use Rattle.world_model.specs.Runs.{MayFollow, IsStepRun, client_in, node_in}
-use Rattle.world_model.specs.Tables.{items_at, start_node}
 use Rattle.world_model.specs.Timely.{AllTimely, WasTimely}
 use Rattle.world_model.proofs.Every.{node_kept}
 use Rattle.world_model.proofs.Nexts.{Made, RootWork, RootUpdates, RootReads, SubWork, SubUpdates, SubReads, Next, Begins, Hears, Ends, Coordinates, DoesRoot, DoesSub, Notes, Obeys, Order, Turns as TurnsBy, Shows, Sweeps, TellsDone, TellsAsked, DoesBody}
-use Rattle.world_model.proofs.Scripts.{IsSound, SubAt, reads_alone}
+use Rattle.world_model.proofs.Scripts.{IsSound, SubAt, plain_script, reads_alone}
 use Rattle.world_model.specs.Notices.{values_of}
 use Rattle.world_model.proofs.Worked.{root_did, sub_did, took_body}
 use Rattle.world_model.specs.Kept.{done_by}
@@ -347,7 +346,7 @@ keeps_next s past e sound good m are lows keeps was (DoesRoot t v effect is c at
 keeps_next s past e sound good m are lows keeps was (DoesSub t k v raises effect is c later from at below work made) p lt =
     let h = node_of s t.0 k.0 in
     keeps_at s past e h p are at
-    (sub_keeps s past e t k v raises effect c m are is (timely_at s past e h (SubLetter t k v) was at below (took_body s past e (SubLetter t k v) is)) work made (keeps h below))
+    (sub_keeps s past e t k v raises effect c m are is (timely_at s past e h (SubLetter t k v) was at below (took_body s past e (SubLetter t k v) (plain_script s sound) is)) work made (keeps h below))
     (λ ne x w r there node.
     of_acts s past e x w (turned_if raises v.0 ++ Did t k (values_of effect.notice) ∷ []) (sub_did s past e t k v raises effect work made)
     ∙ sub_writes s (with_entry past e) x w e.actor.0 raises v.0 t k (values_of effect.notice)

@@ -34,7 +34,7 @@ use Rattle.tree_laws.proofs.Versions.{not_both, root_version, sub_version, taken
 use Rattle.world_model.specs.Runs.{IsStepRun, client_in, node_in}
 use Rattle.world_model.specs.Timely.{AllTimely}
 use Rattle.world_model.proofs.Nexts.{Made, Next, Begins, Hears, Ends, Coordinates, DoesRoot, DoesSub, Notes, Obeys, Order, Turns, Shows, Sweeps, TellsDone, TellsAsked, RootWork, RootUpdates, RootReads, SubWork, SubUpdates, SubReads}
-use Rattle.world_model.proofs.Scripts.{IsSound, SubAt, ops_fit, reads_kind}
+use Rattle.world_model.proofs.Scripts.{IsSound, SubAt, ops_fit, plain_script, reads_kind}
 use Rattle.world_model.specs.Notices.{values_of}
 use Rattle.world_model.proofs.Worked.{root_did, sub_did, took_body}
 use Rattle.world_model.specs.Kept.{done_by}
@@ -197,7 +197,7 @@ entry_by s past e sound run timely (DoesSub t k v raises effect is c later from 
     let old = taken_version s past e t k v are run.0 is in
     let version : version_of (reverse (e ∷ past)) t.0 ≡ Some v =
     ap (version_in t.0) (places_more e past) ∙ sub_version s past e t k v are run.0 is in
-    let near : is_timely s (node_in s past p) (SubLetter t k v) ≡ true = timely_at s past e p (SubLetter t k v) timely.0 at lt (took_body s past e (SubLetter t k v) is) in
+    let near : is_timely s (node_in s past p) (SubLetter t k v) ≡ true = timely_at s past e p (SubLetter t k v) timely.0 at lt (took_body s past e (SubLetter t k v) (plain_script s sound) is) in
     let low = low_of (node_in s past p).turns.low.0 v.0 near in
     acts_read s past e _ (sub_did s past e t k v raises effect work made)
     (all_append (ReadsAt s past e) (turned_if raises v.0) (Did t k (values_of effect.notice) ∷ []) (turned_reads s past e v.0 raises) (

@@ -1,5 +1,5 @@
 -- A run by the wider aptness is a run by the window of versions: each letter in flight is apt.
-use Rattle.std.proofs.Common.{if◌then◌else◌, ◌≡◌, ℕ, ◌+◌, ◌<◌, ◌≤◌, ◌==◌, ◌&&◌, Bool, true, false, List, [], ◌∷◌, reverse, refl, sym, ap, subst, ◌∙◌, arith, Some}
+use Rattle.std.proofs.Common.{if◌then◌else◌, ◌≡◌, ℕ, ◌+◌, ◌<◌, ◌≤◌, ◌==◌, ◌&&◌, ◌||◌, Bool, true, false, not, List, [], ◌∷◌, reverse, refl, sym, ap, subst, ◌∙◌, arith, Option, Some, None}
 use Rattle.std.specs.Prelude.{length, nat_le}
 use Rattle.std.proofs.lemmas.Bool.Decides.{nat_tests}
 use Rattle.std.proofs.lemmas.List.{reverse-reverse}
@@ -13,23 +13,28 @@ use Rattle.letter_types.specs.declared.bodies.Body.{Body}
 use Rattle.letter_types.specs.declared.bodies.Body.TheVariants.{Go, Sweep}
 use Rattle.letter_types.specs.declared.entries.Entry.{Entry}
 use Rattle.letter_types.specs.declared.entries.Letter.{Letter}
+use Rattle.letter_types.specs.Kept.{brought}
 use Rattle.letter_types.specs.Letters.{find_id, own}
 use Rattle.letter_types.specs.Steps.{Out}
+use Rattle.tx_trees.specs.Counts.{has_strict}
 use Rattle.tx_trees.specs.ScriptData.{ScriptData}
 use Rattle.world_model.specs.Named.{is_named, is_new, is_timely}
 use Rattle.world_model.specs.Node.{Node}
-use Rattle.world_model.specs.Apt.{can_make, is_apt, is_widely_apt, is_widely_timely, node_row, row, wide_node_row}
-use Rattle.world_model.specs.Runs.{IsRunOf, MayFollow, AtNode, Says, IsStepRun, IsWideRun, IsWorldRun, after, node_in, in_flight}
-use Rattle.world_model.specs.Tables.{start_node, wide_actor_row}
+use Rattle.world_model.specs.Apt.{is_widely_timely}
+use Rattle.world_model.specs.Core.{Core}
+use Rattle.world_model.specs.Keeping.{KeepingNode, brought_row, is_apt_brought, keeping_row, start_keeping, wide_keeping_row}
+use Rattle.world_model.specs.Strict.{can_make_at, decides_near, is_core_apt, is_of_strict, is_unheld, is_widely_core_apt}
+use Rattle.world_model.specs.Runs.{IsRunOf, MayFollow, AtNode, Says, IsStepRun, IsWideRun, IsWorldRun, after, keeping_in, in_flight}
+use Rattle.world_model.specs.Tables.{wide_actor_row}
 use Rattle.world_model.proofs.Actors.{IsTableOf, RowsRun, rows_run, runs_of_rows}
 use Rattle.world_model.proofs.Back.{run_more, says_node, table_run_of, world_run}
 use Rattle.world_model.proofs.Bridge.{run_less, state_more}
 use Rattle.world_model.proofs.Posts.{follows_by, moves_by, rows_less, steps, waits_of, who_of}
 use Rattle.world_model.proofs.Scripts.{IsSound}
-use Rattle.tree_laws.proofs.Aptness.{taken_is_apt}
 use Rattle.tree_laws.proofs.OwnDeeds.{sees_run}
 use Rattle.tree_laws.proofs.Seen.{IsFrom}
 use Rattle.run_laws.proofs.InTime.{in_time}
+use Rattle.run_laws.proofs.Taken.{apt_here}
 
 -- An apt letter is widely apt.
 may_at : (low : ℕ) (f : Version) (h : Held) → IsFrom low h → low ≤ f.0 → may_collect f h ≡ true
@@ -48,33 +53,38 @@ widely_timely s st (Sweep v) from timely =
 widely_timely s st Go from timely = refl
 widely_timely s st _ from timely = refl
 
-four_true : (a b c d e : Bool) → (a && (b && (c && d))) ≡ true → (c ≡ true → e ≡ true) → (a && (b && (e && d))) ≡ true
-four_true true true true true e is wide = rw (wide refl) refl
-four_true true true true false e is wide = absurd (cc is)
-four_true true true false d e is wide = absurd (cc is)
-four_true true false c d e is wide = absurd (cc is)
-four_true false b c d e is wide = absurd (cc is)
+wide_by : (h a b c d e f g : Bool) → (h && (a && (b && c && (d && e && f)))) ≡ true → (d ≡ true → g ≡ true)
+    → (h && (a && (b && c && (g && f)))) ≡ true
+wide_by h a b c true e f true is wide = grind arith
+wide_by h a b c true e f false is wide = absurd (let not_so : false ≡ true = wide refl in cc not_so)
+wide_by h a b c false e f g is wide = absurd (let not_so : false ≡ true = sym (none h a (b && c)) ∙ is in cc not_so) where
+  none : (x y z : Bool) → (x && (y && (z && false))) ≡ false
+  none x y z = grind arith
 
-widely_apt : (s : ScriptData) (p : ℕ) (st : Node) (l : Letter) → EachItem (IsFrom st.turns.low.0) st.items → is_apt s p st l ≡ true
-    → is_widely_apt s p st l ≡ true
-widely_apt s p st l from apt =
-    four_true (is_named s p l.from.0 l.body) (is_new s st l.body) (is_timely s st l.body) (can_make s st l.body)
-    (is_widely_timely s st l.body) apt (λ timely. widely_timely s st l.body from timely)
+widely_apt : (s : ScriptData) (p : ℕ) (c : Core) (l : Letter) → EachItem (IsFrom c.node.turns.low.0) c.node.items
+    → is_core_apt s p c l ≡ true → is_widely_core_apt s p c l ≡ true
+widely_apt s p c l from apt =
+    wide_by (has_strict s || not (is_of_strict l.body)) (is_named s p l.from.0 l.body) (is_new s c.node l.body)
+    (is_unheld l.body c.holds) (is_timely s c.node l.body) (decides_near s c.node l.body) (can_make_at s p c l.body)
+    (is_widely_timely s c.node l.body) apt (λ timely. widely_timely s c.node l.body from timely)
 
--- so both tables have the same row for it
-apt_row : (s : ScriptData) (p : ℕ) (st : Node) (l : Letter) → is_apt s p st l ≡ true → node_row s p st l ≡ row s p st l.from.0 l.body
-apt_row s p st l apt = rw apt refl
+-- so both tables have the same row where the letter that is brought is apt
+both_true : (a b : Bool) → (a && b) ≡ true → (a ≡ true) × (b ≡ true)
+both_true true true is = (refl, refl)
+both_true true false is = absurd (cc is)
+both_true false b is = absurd (cc is)
 
-wide_apt_row : (s : ScriptData) (p : ℕ) (st : Node) (l : Letter) → is_widely_apt s p st l ≡ true
-    → wide_node_row s p st l ≡ row s p st l.from.0 l.body
-wide_apt_row s p st l apt = rw apt refl
-
-same_by : (s : ScriptData) (p : ℕ) (st : Node) (l : Letter) → EachItem (IsFrom st.turns.low.0) st.items → is_apt s p st l ≡ true
-    → wide_node_row s p st l ≡ node_row s p st l
-same_by s p st l from apt = wide_apt_row s p st l (widely_apt s p st l from apt) ∙ sym (apt_row s p st l apt)
+same_by : (s : ScriptData) (p : ℕ) (n : KeepingNode) (l : Letter) (o : Option Letter)
+    → EachItem (IsFrom n.core.node.turns.low.0) n.core.node.items → is_apt_brought s p n o ≡ true
+    → brought_row (is_widely_core_apt s p) s p l n o ≡ brought_row (is_core_apt s p) s p l n o
+same_by s p n l None from apt = refl
+same_by s p n l (Some r) from apt =
+    let (here, core) = both_true (r.to.0 == p) (is_core_apt s p n.core r) apt in
+    let wide = widely_apt s p n.core r from core in
+    rw (here, core, wide) refl
 
 -- Each letter in flight is apt: an entry of its addressee's row may follow.
-abbrev entry_with : ScriptData → List Entry → Entry → Out Node → Entry
+abbrev entry_with : ScriptData → List Entry → Entry → Out KeepingNode → Entry
 entry_with s past e out = record {
   stamp = record { 0 = length past + 1 };
   actor = e.actor;
@@ -86,11 +96,11 @@ entry_with s past e out = record {
 -- both tables say the same of a letter in flight to a node
 same_row : (s : ScriptData) (past : List Entry) (e : Entry) → IsSound s → IsStepRun s past → e.actor.0 < s.nodes
     → find_id e.took.id (in_flight s past) ≡ Some e.took → e.took.to.0 ≡ e.actor.0
-    → wide_node_row s e.actor.0 (node_in s past e.actor.0) e.took ≡ node_row s e.actor.0 (node_in s past e.actor.0) e.took
+    → wide_keeping_row s e.actor.0 (keeping_in s past e.actor.0) e.took ≡ keeping_row s e.actor.0 (keeping_in s past e.actor.0) e.took
 same_row s past e sound run lt waits to =
     let p = e.actor.0 in
-    let st = node_in s past p in
-    let now = entry_with s past e (node_row s p st e.took) in
+    let st = keeping_in s past p in
+    let now = entry_with s past e (keeping_row s p st e.took) in
     let follows : MayFollow s past now = record {
       stamp = refl;
       waits = waits;
@@ -98,42 +108,41 @@ same_row s past e sound run lt waits to =
       moves = AtNode lt (refl, refl);
     } in
     let more : IsStepRun s (now ∷ past) = (follows, run) in
-    let apt : is_apt s p st e.took ≡ true =
-    taken_is_apt s past now sound.valid sound.runnable more (in_time s (now ∷ past) sound more) lt in
-    same_by s p st e.took (sees_run s past sound run (in_time s past sound run) p lt).from apt
+    same_by s p st e.took (brought st.kept e.took e.took.body) (sees_run s past sound run (in_time s past sound run) p lt).from
+    (apt_here s past now sound more lt)
 
 same_at : (s : ScriptData) (past : List Entry) (e : Entry) (p : ℕ) → IsSound s → IsStepRun s past → MayFollow s past e → p < s.nodes
-    → (e.actor.0 == p) ≡ true → wide_node_row s p (node_in s past p) e.took ≡ node_row s p (node_in s past p) e.took
+    → (e.actor.0 == p) ≡ true → wide_keeping_row s p (keeping_in s past p) e.took ≡ keeping_row s p (keeping_in s past p) e.took
 same_at s past e p sound run m lt is =
     let at : e.actor.0 ≡ p = grind (arith, nat_tests) in
-    subst (λ (q : ℕ). wide_node_row s q (node_in s past q) e.took ≡ node_row s q (node_in s past q) e.took) at
+    subst (λ (q : ℕ). wide_keeping_row s q (keeping_in s past q) e.took ≡ keeping_row s q (keeping_in s past q) e.took) at
     (same_row s past e sound run (omega (arith, at, lt)) m.waits m.addressee)
 
 -- From the window to the wider aptness.
-state_by : (wide st : Node) (here : Node) (test : Bool) → (test ≡ true → wide ≡ here)
+state_by : (wide st : KeepingNode) (here : KeepingNode) (test : Bool) → (test ≡ true → wide ≡ here)
     → (if test then wide else st) ≡ (if test then here else st)
 state_by wide st here true same = same refl
 state_by wide st here false same = refl
 
 -- a node's own entries lead to the same state
 wide_after : (s : ScriptData) (past : List Entry) (p : ℕ) → IsSound s → IsStepRun s past → p < s.nodes
-    → after (wide_node_row s p) (start_node s p) (own p (reverse past)) ≡ node_in s past p
+    → after (wide_keeping_row s p) (start_keeping s p) (own p (reverse past)) ≡ keeping_in s past p
 wide_after s [] p sound run lt = refl
 wide_after s (e ∷ past) p sound run lt =
-    let st = node_in s past p in
-    state_more (wide_node_row s p) (start_node s p) p e past st (wide_after s past p sound run.1 lt)
-    ∙ state_by (wide_node_row s p st e.took).state st (node_row s p st e.took).state (e.actor.0 == p)
-    (λ is. ap (λ (o : Out Node). o.state) (same_at s past e p sound run.1 run.0 lt is))
+    let st = keeping_in s past p in
+    state_more (wide_keeping_row s p) (start_keeping s p) p e past st (wide_after s past p sound run.1 lt)
+    ∙ state_by (wide_keeping_row s p st e.took).state st (keeping_row s p st e.took).state (e.actor.0 == p)
+    (λ is. ap (λ (o : Out KeepingNode). o.state) (same_at s past e p sound run.1 run.0 lt is))
 
 wide_nodes : (s : ScriptData) (past : List Entry) (p : ℕ) → IsSound s → IsStepRun s past → p < s.nodes
-    → IsRunOf (wide_node_row s p) (start_node s p) (own p (reverse past))
+    → IsRunOf (wide_keeping_row s p) (start_keeping s p) (own p (reverse past))
 wide_nodes s [] p sound run lt = tt
 wide_nodes s (e ∷ past) p sound run lt =
-    run_more (wide_node_row s p) (start_node s p) p e past (node_in s past p) (wide_after s past p sound run.1 lt)
+    run_more (wide_keeping_row s p) (start_keeping s p) p e past (keeping_in s past p) (wide_after s past p sound run.1 lt)
     (wide_nodes s past p sound run.1 lt)
-    (λ is. subst (λ (o : Out Node). Says o e) (sym (same_at s past e p sound run.1 run.0 lt is)) (says_node s past e p run.0.moves lt is))
+    (λ is. subst (λ (o : Out KeepingNode). Says o e) (sym (same_at s past e p sound run.1 run.0 lt is)) (says_node s past e p run.0.moves lt is))
 
-wide_rows : (s : ScriptData) (past : List Entry) → IsSound s → IsStepRun s past → RowsRun (wide_node_row s) s (reverse past)
+wide_rows : (s : ScriptData) (past : List Entry) → IsSound s → IsStepRun s past → RowsRun (wide_keeping_row s) s (reverse past)
 wide_rows s past sound run =
     let tables = table_run_of s past run in
     record {
@@ -144,37 +153,37 @@ wide_rows s past sound run =
     }
 
 -- And back: by induction a shorter past is a run by the window, so the next letter is apt.
-wide_says : (s : ScriptData) (e : Entry) (past : List Entry) → IsSound s → IsStepRun s past → RowsRun (wide_node_row s) s (reverse (e ∷ past))
-    → e.actor.0 < s.nodes → Says (node_row s e.actor.0 (node_in s past e.actor.0) e.took) e
+wide_says : (s : ScriptData) (e : Entry) (past : List Entry) → IsSound s → IsStepRun s past → RowsRun (wide_keeping_row s) s (reverse (e ∷ past))
+    → e.actor.0 < s.nodes → Says (keeping_row s e.actor.0 (keeping_in s past e.actor.0) e.took) e
 wide_says s e past sound run wide lt =
     let p = e.actor.0 in
-    let says = (run_less (wide_node_row s p) (start_node s p) p e past (node_in s past p) (wide_after s past p sound run lt) (wide.nodes p lt)).1
+    let says = (run_less (wide_keeping_row s p) (start_keeping s p) p e past (keeping_in s past p) (wide_after s past p sound run lt) (wide.nodes p lt)).1
     (same_test p) in
-    subst (λ (o : Out Node). Says o e)
+    subst (λ (o : Out KeepingNode). Says o e)
     (same_row s past e sound run lt (waits_of s e past run wide.postal) (who_of s e past wide.postal).0) says
 
-wide_steps : (s : ScriptData) (past : List Entry) → IsSound s → RowsRun (wide_node_row s) s (reverse past) → IsStepRun s past
+wide_steps : (s : ScriptData) (past : List Entry) → IsSound s → RowsRun (wide_keeping_row s) s (reverse past) → IsStepRun s past
 wide_steps s [] sound wide = tt
 wide_steps s (e ∷ past) sound wide =
-    let run = wide_steps s past sound (rows_less (wide_node_row s) s e past wide) in (
+    let run = wide_steps s past sound (rows_less (wide_keeping_row s) s e past wide) in (
       follows_by s e past run wide.postal
           (moves_by s e past (λ lt. wide_says s e past sound run wide lt) wide.coordinator wide.client (who_of s e past wide.postal).1),
       run,
     )
 
 -- The two shapes.
-by_wider : (s : ScriptData) → IsTableOf s (wide_actor_row s) (wide_node_row s)
+by_wider : (s : ScriptData) → IsTableOf s (wide_actor_row s) (wide_keeping_row s)
 by_wider s = record { node = λ p st l. refl; coordinator = λ a c l. refl; client = λ a c l. refl }
 
 pub widened : (s : ScriptData) (h : List Entry) → IsSound s → IsWorldRun s h → IsWideRun s h
 widened s h sound world =
-    let wide : RowsRun (wide_node_row s) s h =
-    subst (λ (x : List Entry). RowsRun (wide_node_row s) s x) (reverse-reverse h) (wide_rows s (reverse h) sound (steps s h world)) in
-    record { postal = world.postal; actors = runs_of_rows (wide_actor_row s) (wide_node_row s) s h (by_wider s) wide }
+    let wide : RowsRun (wide_keeping_row s) s h =
+    subst (λ (x : List Entry). RowsRun (wide_keeping_row s) s x) (reverse-reverse h) (wide_rows s (reverse h) sound (steps s h world)) in
+    record { postal = world.postal; actors = runs_of_rows (wide_actor_row s) (wide_keeping_row s) s h (by_wider s) wide }
 
 pub narrowed : (s : ScriptData) (h : List Entry) → IsSound s → IsWideRun s h → IsWorldRun s h
 narrowed s h sound wide =
-    let rows : RowsRun (wide_node_row s) s (reverse (reverse h)) =
-    subst (λ (x : List Entry). RowsRun (wide_node_row s) s x) (sym (reverse-reverse h))
-    (rows_run (wide_actor_row s) (wide_node_row s) s h (by_wider s) wide.postal wide.actors) in
+    let rows : RowsRun (wide_keeping_row s) s (reverse (reverse h)) =
+    subst (λ (x : List Entry). RowsRun (wide_keeping_row s) s x) (sym (reverse-reverse h))
+    (rows_run (wide_actor_row s) (wide_keeping_row s) s h (by_wider s) wide.postal wide.actors) in
     subst (λ (x : List Entry). IsWorldRun s x) (reverse-reverse h) (world_run s (reverse h) (wide_steps s (reverse h) sound rows))

@@ -16,12 +16,12 @@ use Rattle.world_model.specs.Tables.{ActorData, NodeData, CoordinatorData, Clien
 
 -- a node's items and its three numbers; another actor has none
 abbrev pub items_of : ActorData → Table
-items_of (NodeData st) = st.items
+items_of (NodeData n) = n.core.node.items
 items_of (CoordinatorData c) = []
 items_of (ClientData c) = []
 
 abbrev pub turns_of : ActorData → Turns
-turns_of (NodeData st) = st.turns
+turns_of (NodeData n) = n.core.node.turns
 turns_of (CoordinatorData c) = first_turns
 turns_of (ClientData c) = first_turns
 

@@ -11,6 +11,7 @@ use Rattle.world_model.proofs.Every.{each_map, each_none, each_zero}
 use Rattle.world_model.specs.Counts.{tally}
 use Rattle.world_model.proofs.Lawful.{IsLawful}
 use Rattle.world_model.proofs.NothingKept.{outstanding_is}
+use Rattle.world_model.proofs.Scripts.{IsSound, plain_script}
 use Rattle.phase_laws.specs.Phases.{count_in_flight}
 use Rattle.phase_laws.specs.Balance.{goes_between, out, version_is}
 use Rattle.phase_laws.proofs.Balance.{balanced_at}
@@ -26,9 +27,9 @@ not_counted v (Decided t w) none = absurd (omega (arith, none))
 not_counted v Go none = refl
 not_counted v _ none = refl
 
-out_none : (s : ScriptData) (past : List Entry) (v p q : ℕ) → count_in_flight of_trees s past ≡ 0 → out s past v p q ≡ 0
-out_none s past v p q none =
-    ap (λ (ls : List Letter). tally (goes_between v p q) ls) (outstanding_is s past)
+out_none : (s : ScriptData) (past : List Entry) (v p q : ℕ) → IsSound s → count_in_flight of_trees s past ≡ 0 → out s past v p q ≡ 0
+out_none s past v p q sound none =
+    ap (λ (ls : List Letter). tally (goes_between v p q) ls) (outstanding_is s past (plain_script s sound))
     ∙ each_none (goes_between v p q) (in_flight s past)
     (each_map (λ (l : Letter). of_trees l.body ≡ 0) (λ (l : Letter). goes_between v p q l ≡ 0) (in_flight s past)
     (λ l quiet. uncounted_goes v p q l (not_counted v l.body quiet)) (each_zero (λ (l : Letter). of_trees l.body) (in_flight s past) none))
@@ -38,4 +39,4 @@ pub balances : (s : ScriptData) (past : List Entry) (laws : IsLawful s) (run : I
     → (v p q : ℕ) → p < s.nodes → q < s.nodes → (node_in s past p).turns.low.0 ≤ v → (node_in s past q).turns.low.0 ≤ v
     → (node_in s past p).counts.asked v q ≡ (node_in s past q).counts.done v p
 balances s past laws run timely none v p q lp lq low_p low_q =
-    omega (arith, balanced_at s past v p q laws run timely lp lq low_p low_q, out_none s past v p q none)
+    omega (arith, balanced_at s past v p q laws run timely lp lq low_p low_q, out_none s past v p q laws.sound none)

@@ -25,7 +25,7 @@ use Rattle.world_model.proofs.Flows.{finish_none, flow}
 use Rattle.world_model.proofs.Lawful.{IsLawful}
 use Rattle.world_model.proofs.Nexts.{Next, Begins, Hears, Ends, Coordinates, DoesRoot, DoesSub, Notes, Obeys, Order, Turns, Shows, Sweeps, TellsDone, TellsAsked, Tells}
 use Rattle.world_model.proofs.Orders.{OfOrders}
-use Rattle.world_model.proofs.Scripts.{IsSound, has_root, sub_below, sub_there}
+use Rattle.world_model.proofs.Scripts.{IsSound, has_root, plain_script, sub_below, sub_there}
 use Rattle.world_model.proofs.Sends.{on, replies_none, subs_none}
 use Rattle.world_model.specs.Notices.{values_of}
 use Rattle.world_model.proofs.Worked.{root_did, took_body}
@@ -87,28 +87,28 @@ order_weighs s st body out (TellsDone v k bd is) =
 order_weighs s st body out (TellsAsked v k bd is) =
     omega (arith, ap (λ (o : Out Node). tally (on is_other) o.sent) is, ap is_root bd, ap is_other bd, ap is_work bd, ap is_reply bd, ap is_apart bd)
 
-weighs : (s : ScriptData) (past : List Entry) (e : Entry) → Next s past e → Weighs (tally (on is_other) e.sent) e.took.body
-weighs s past e (Begins is at made) =
+weighs : (s : ScriptData) (past : List Entry) (e : Entry) → IsSound s → Next s past e → Weighs (tally (on is_other) e.sent) e.took.body
+weighs s past e sound (Begins is at made) =
     weighs_by e Go 0 is (ap (λ os. tally (on is_other) os) made.sent ∙ submit_other s (client_in s past) []) (omega arith)
-weighs s past e (Hears t v answer is at lt made) =
+weighs s past e sound (Hears t v answer is at lt made) =
     let sent = submit_other s (with_answer t.0 (client_in s past)) (nudge s ∷ []) in
     weighs_by e (Reply t v answer) 1 is (ap (λ os. tally (on is_other) os) made.sent ∙ sent) (omega arith)
-weighs s past e (Ends v is at made) =
+weighs s past e sound (Ends v is at made) =
     weighs_by e (Advanced v) 0 is (ap (λ os. tally (on is_other) os) made.sent ∙ submit_other s (with_end (client_in s past)) []) (omega arith)
-weighs s past e (Coordinates tells at made) =
+weighs s past e sound (Coordinates tells at made) =
     weighs_by e e.took.body 0 refl (each_none (on is_other) e.sent (coordinator_sends (λ (to : ℕ) (b : Body). is_other b ≡ 0) s past e made (orders_other s.nodes)))
     (tells_weighs e.took.body tells)
-weighs s past e (DoesRoot t v effect is sub at lt new work made) =
+weighs s past e sound (DoesRoot t v effect is sub at lt new work made) =
     let children = subs_none is_other t.0 v.0 0 0 (subs_at s t.0) (λ u k w. refl) in
     let answer = replies_none is_other (client_of s) (root_answer s t v (values_of effect.notice) (home_of s t.0) past) (λ u w a. refl) in
-    weighs_by e (Root t) 0 (took_body s past e (Root t) is) (omega (arith, root_sends is_other s past e t v effect made, children, answer)) (omega arith)
-weighs s past e (DoesSub t k v raises effect is sub later from at lt work made) =
+    weighs_by e (Root t) 0 (took_body s past e (Root t) (plain_script s sound) is) (omega (arith, root_sends is_other s past e t v effect made, children, answer)) (omega arith)
+weighs s past e sound (DoesSub t k v raises effect is sub later from at lt work made) =
     let children = subs_none is_other t.0 v.0 k.0 0 (subs_at s t.0) (λ u j w. refl) in
-    weighs_by e (SubLetter t k v) 1 (took_body s past e (SubLetter t k v) is) (omega (arith, sub_sends is_other s past e t k v raises effect made, children)) (omega arith)
-weighs s past e (Notes t k v values is sub later from at lt misses made) =
+    weighs_by e (SubLetter t k v) 1 (took_body s past e (SubLetter t k v) (plain_script s sound) is) (omega (arith, sub_sends is_other s past e t k v raises effect made, children)) (omega arith)
+weighs s past e sound (Notes t k v values is sub later from at lt misses made) =
     let answer = replies_none is_other (client_of s) _ (λ u w a. refl) in
     weighs_by e (Done t k v (DidNotice values)) 0 is (ap (λ os. tally (on is_other) os) made.sent ∙ answer) (omega arith)
-weighs s past e (Obeys p out at lt order made) =
+weighs s past e sound (Obeys p out at lt order made) =
     weighs_by e e.took.body (tally (on is_other) out.sent) refl (ap (λ os. tally (on is_other) os) made.sent)
     (order_weighs s (node_in s past p) e.took.body out order)
 
@@ -118,7 +118,7 @@ pub counted : (s : ScriptData) (past : List Entry) (laws : IsLawful s) (run : Is
     ≡ 1 + 2 * taken_in is_work past + 2 * taken_in is_reply past + taken_in is_apart past
 counted s [] laws run timely = omega arith
 counted s (e ∷ past) laws run timely =
-    omega (arith, counted s past laws run.1 timely.1, weighs s past e (laws.next past e run timely), flow is_other s past e run.0)
+    omega (arith, counted s past laws run.1 timely.1, weighs s past e laws.sound (laws.next past e run timely), flow is_other s past e run.0)
 
 -- What is taken, by trees.
 pub taken_same : (f g : Body → ℕ) (s : ScriptData) (past : List Entry) (laws : IsLawful s) (run : IsStepRun s past) (timely : AllTimely s past)
@@ -149,27 +149,27 @@ work_by_tree s sound from to _ fit = sym (work_none s)
 did_none : (t k : ℕ) → ActsOfNone (is_did_act t k)
 did_none t k = record { turned = λ v. refl; showed = λ v. refl; swept = λ v. refl }
 
-does_asked : (s : ScriptData) (past : List Entry) (e : Entry) (t k : ℕ) → Next s past e → asks t k e.took.body ≡ tally (is_did_act t k) e.acts
-does_asked s past e t k (Begins is at made) =
+does_asked : (s : ScriptData) (past : List Entry) (e : Entry) (t k : ℕ) → IsSound s → Next s past e → asks t k e.took.body ≡ tally (is_did_act t k) e.acts
+does_asked s past e t k sound (Begins is at made) =
     omega (arith, ap (asks t k) is, ap (λ acts. tally (is_did_act t k) acts) made.acts, finish_none (is_did_act t k) (client_finishes s (next_after s (client_in s past)) (client_in s past)) refl)
-does_asked s past e t k (Hears u v answer is at lt made) =
+does_asked s past e t k sound (Hears u v answer is at lt made) =
     let c = with_answer u.0 (client_in s past) in
     omega (arith, ap (asks t k) is, ap (λ acts. tally (is_did_act t k) acts) made.acts, finish_none (is_did_act t k) (client_finishes s (next_after s c) c) refl)
-does_asked s past e t k (Ends v is at made) =
+does_asked s past e t k sound (Ends v is at made) =
     let c = with_end (client_in s past) in
     omega (arith, ap (asks t k) is, ap (λ acts. tally (is_did_act t k) acts) made.acts, finish_none (is_did_act t k) (client_finishes s (next_after s c) c) refl)
-does_asked s past e t k (Coordinates tells at made) =
+does_asked s past e t k sound (Coordinates tells at made) =
     let aside = coordinates_aside s past e tells at made in
     omega (arith, aside.took (asks t k) (asks_trees t k), aside.acts (is_did_act t k) (did_none t k))
-does_asked s past e t k (DoesRoot u v effect is sub at lt new work made) =
-    let took = took_body s past e (Root u) is in
+does_asked s past e t k sound (DoesRoot u v effect is sub at lt new work made) =
+    let took = took_body s past e (Root u) (plain_script s sound) is in
     omega (arith, ap (asks t k) took, ap (λ acts. tally (is_did_act t k) acts) (root_did s past e u v effect work made))
-does_asked s past e t k (DoesSub u j v raises effect is sub later from at lt work made) =
-    let took = took_body s past e (SubLetter u j v) is in
+does_asked s past e t k sound (DoesSub u j v raises effect is sub later from at lt work made) =
+    let took = took_body s past e (SubLetter u j v) (plain_script s sound) is in
     omega (arith, ap (asks t k) took, sub_acts (is_did_act t k) s past e u j v raises effect work made (λ w. refl))
-does_asked s past e t k (Notes u j v values is sub later from at lt misses made) =
+does_asked s past e t k sound (Notes u j v values is sub later from at lt misses made) =
     omega (arith, ap (asks t k) is, ap (λ acts. tally (is_did_act t k) acts) made.acts)
-does_asked s past e t k (Obeys p out at lt order made) =
+does_asked s past e t k sound (Obeys p out at lt order made) =
     let aside = obeys_aside s past e p out at lt order made in
     omega (arith, aside.took (asks t k) (asks_trees t k), aside.acts (is_did_act t k) (did_none t k))
 
@@ -177,7 +177,7 @@ pub taken_asks : (s : ScriptData) (past : List Entry) (t k : ℕ) (laws : IsLawf
     → taken_in (asks t k) past ≡ dids past t k
 taken_asks s [] t k laws run timely = refl
 taken_asks s (e ∷ past) t k laws run timely =
-    omega (arith, does_asked s past e t k (laws.next past e run timely), taken_asks s past t k laws run.1 timely.1)
+    omega (arith, does_asked s past e t k laws.sound (laws.next past e run timely), taken_asks s past t k laws run.1 timely.1)
 
 -- Where no letter is in flight, each tree is done.
 abbrev AllDone : ScriptData → List Entry → Type 0

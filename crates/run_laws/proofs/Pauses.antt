@@ -23,6 +23,7 @@ use Rattle.world_model.proofs.Flows.{same_part}
 use Rattle.world_model.proofs.Lawful.{IsLawful}
 use Rattle.world_model.proofs.Nexts.{Next, Begins, Hears, Ends, Coordinates, DoesRoot, DoesSub, Notes, Obeys, MadeByCoordinator}
 use Rattle.world_model.proofs.Orders.{coordinator_nodes}
+use Rattle.world_model.proofs.Scripts.{plain_script}
 use Rattle.world_model.proofs.Worked.{took_body}
 use Rattle.phase_laws.specs.Phases.{most_low, count_in_flight}
 use Rattle.phase_laws.proofs.Current.{current}
@@ -257,9 +258,9 @@ stands s past e reads laws run timely m none at away (Ends w bd here made) = rec
 }
 stands s past e reads laws run timely m none at away (Coordinates tells here made) = absurd (away here)
 stands s past e reads laws run timely m none at away (DoesRoot t w effect bd sub here lt new work made) =
-    absurd (no_tree s past e (Root t) m none (took_body s past e (Root t) bd) refl)
+    absurd (no_tree s past e (Root t) m none (took_body s past e (Root t) (plain_script s laws.sound) bd) refl)
 stands s past e reads laws run timely m none at away (DoesSub t k w raises effect bd sub pos from here lt work made) =
-    absurd (no_tree s past e (SubLetter t k w) m none (took_body s past e (SubLetter t k w) bd) refl)
+    absurd (no_tree s past e (SubLetter t k w) m none (took_body s past e (SubLetter t k w) (plain_script s laws.sound) bd) refl)
 stands s past e reads laws run timely m none at away (Notes t k w values bd sub pos from here lt missed made) =
     absurd (no_tree s past e _ m none bd refl)
 stands s past e reads laws run timely m none at away (Obeys p out here lt order made) =

@@ -13,9 +13,9 @@ use Rattle.tx_trees.specs.ScriptData.{ScriptData}
 use Rattle.tx_trees.specs.Forms.{most_amount}
 use Rattle.tx_trees.specs.Valid.{IsValid, load}
 use Rattle.tx_trees.specs.declared.parts.ScriptRow.TheVariants.{Advance}
-use Rattle.world_model.specs.Apt.{node_row}
+use Rattle.world_model.specs.Keeping.{keeping_row}
 use Rattle.world_model.specs.Counts.{Each}
-use Rattle.world_model.specs.Runs.{in_flight, client_in, coordinator_in, node_in, AtNode, AtCoordinator, AtClient, MayFollow, IsStepRun}
+use Rattle.world_model.specs.Runs.{in_flight, client_in, coordinator_in, keeping_in, AtNode, AtCoordinator, AtClient, MayFollow, IsStepRun}
 use Rattle.world_model.specs.Sample.{entry_by, next_of, sample, small}
 use Rattle.world_model.specs.Tables.{client_table, coordinator_table}
 use Rattle.world_model.proofs.Fits.{IsFit}
@@ -69,7 +69,7 @@ first_found l ls = rw (same_id-self l.id) refl
 
 follows : (s : ScriptData) (past : List Entry) (l : Letter) → find_id l.id (in_flight s past) ≡ Some l → l.to.0 ≤ s.nodes + 1
     → (a b : Bool) → nat_lt l.to.0 s.nodes ≡ a → (l.to.0 == s.nodes) ≡ b
-    → MayFollow s past (if a then entry_by past l (node_row s l.to.0 (node_in s past l.to.0) l)
+    → MayFollow s past (if a then entry_by past l (keeping_row s l.to.0 (keeping_in s past l.to.0) l)
     else if b then entry_by past l (coordinator_table (coordinator_in s past) l) else entry_by past l (client_table s (client_in s past) l))
 follows s past l found le true b node at =
     record { stamp = refl; waits = found; addressee = refl; moves = AtNode (grind (arith, nat_tests)) (refl, refl) }

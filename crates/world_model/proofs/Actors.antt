@@ -9,11 +9,10 @@ use Rattle.letter_types.specs.Letters.{go, own, find_id, letters_of}
 use Rattle.letter_types.specs.Postal.{IsMessageRun, delivery_of, letters_sent}
 use Rattle.letter_types.specs.Steps.{Out}
 use Rattle.script_parts.specs.ScriptData.{ScriptData, client_of}
-use Rattle.world_model.specs.Node.{Node}
-use Rattle.world_model.specs.Apt.{node_row}
+use Rattle.world_model.specs.Keeping.{KeepingNode, keeping_row, start_keeping}
 use Rattle.world_model.specs.Coordinator.{start_coordinator}
 use Rattle.world_model.specs.Client.{start_client}
-use Rattle.world_model.specs.Tables.{ActorData, NodeData, CoordinatorData, ClientData, start_node, start_actor, as_actor, actor_row, coordinator_table, client_table}
+use Rattle.world_model.specs.Tables.{ActorData, NodeData, CoordinatorData, ClientData, start_actor, as_actor, actor_row, coordinator_table, client_table}
 use Rattle.world_model.specs.Runs.{IsRunOf, after, IsWorldRun}
 
 -- The letters of a history of entries went as letters do.
@@ -129,7 +128,7 @@ seen_after big see row same st [] = refl
 seen_after big see row same st (e ∷ es) = rw (same st e.took) (seen_after big see row same (row st e.took).state es)
 
 -- How each actor starts.
-pub starts_node : (s : ScriptData) (p : ℕ) → p < s.nodes → start_actor s p ≡ NodeData (start_node s p)
+pub starts_node : (s : ScriptData) (p : ℕ) → p < s.nodes → start_actor s p ≡ NodeData (start_keeping s p)
 starts_node s p lt = let is : nat_lt p s.nodes ≡ true = grind (arith, nat_tests) in rw is refl
 
 pub starts_coordinator : (s : ScriptData) → start_actor s s.nodes ≡ CoordinatorData (start_coordinator s.nodes)
@@ -145,18 +144,18 @@ starts_client s =
     rw no (rw apart refl)
 
 -- A run by tables, actor by actor, where the nodes go by these rows.
-pub record RowsRun (row : ℕ → Node → Letter → Out Node) (s : ScriptData) (h : List Entry) : Type 0 where
+pub record RowsRun (row : ℕ → KeepingNode → Letter → Out KeepingNode) (s : ScriptData) (h : List Entry) : Type 0 where
   pub postal : IsPostalEntry (client_of s) h
-  pub nodes : (p : ℕ) → p < s.nodes → IsRunOf (row p) (start_node s p) (own p h)
+  pub nodes : (p : ℕ) → p < s.nodes → IsRunOf (row p) (start_keeping s p) (own p h)
   pub coordinator : IsRunOf coordinator_table (start_coordinator s.nodes) (own s.nodes h)
   pub client : IsRunOf (client_table s) (start_client s) (own (client_of s) h)
 
 -- where they go by the window of versions
 abbrev pub IsTableRun : ScriptData → List Entry → Type 0
-IsTableRun s h = RowsRun (node_row s) s h
+IsTableRun s h = RowsRun (keeping_row s) s h
 
 -- one table for all actors that is made of these rows, and of the coordinator's and the client's tables
-pub record IsTableOf (s : ScriptData) (big : ℕ → ActorData → Letter → Out ActorData) (row : ℕ → Node → Letter → Out Node) : Type 0 where
+pub record IsTableOf (s : ScriptData) (big : ℕ → ActorData → Letter → Out ActorData) (row : ℕ → KeepingNode → Letter → Out KeepingNode) : Type 0 where
   pub node : (p : ℕ) → Sees (big p) NodeData (row p)
   pub coordinator : (a : ℕ) → Sees (big a) CoordinatorData coordinator_table
   pub client : (a : ℕ) → Sees (big a) ClientData (client_table s)
@@ -165,12 +164,12 @@ pub record IsTableOf (s : ScriptData) (big : ℕ → ActorData → Letter → Ou
 abbrev pub AreRunsOf : (ℕ → ActorData → Letter → Out ActorData) → ScriptData → List Entry → Type 0
 AreRunsOf big s h = (a : ℕ) → a < s.nodes + 2 → IsRunOf (big a) (start_actor s a) (own a h)
 
-pub rows_run : (big : ℕ → ActorData → Letter → Out ActorData) (row : ℕ → Node → Letter → Out Node) (s : ScriptData) (h : List Entry)
+pub rows_run : (big : ℕ → ActorData → Letter → Out ActorData) (row : ℕ → KeepingNode → Letter → Out KeepingNode) (s : ScriptData) (h : List Entry)
     → IsTableOf s big row → IsMessageRun (client_of s) (map delivery_of h) → AreRunsOf big s h → RowsRun row s h
 rows_run big row s h is postal actors = record {
   postal = entry_postal (client_of s) h postal;
   nodes = λ p lt.
-      run_seen (big p) NodeData (row p) (is.node p) (start_node s p) (own p h)
+      run_seen (big p) NodeData (row p) (is.node p) (start_keeping s p) (own p h)
       (subst (λ (st : ActorData). IsRunOf (big p) st (own p h)) (starts_node s p lt) (actors p (omega arith)));
   coordinator =
       run_seen (big s.nodes) CoordinatorData coordinator_table (is.coordinator s.nodes) (start_coordinator s.nodes) (own s.nodes h)
@@ -180,11 +179,11 @@ rows_run big row s h is postal actors = record {
       (subst (λ (st : ActorData). IsRunOf (big (client_of s)) st (own (client_of s) h)) (starts_client s) (actors (client_of s) (omega arith)));
 }
 
-by_window : (s : ScriptData) → IsTableOf s (actor_row s) (node_row s)
+by_window : (s : ScriptData) → IsTableOf s (actor_row s) (keeping_row s)
 by_window s = record { node = λ p st l. refl; coordinator = λ a c l. refl; client = λ a c l. refl }
 
 pub table_run : (s : ScriptData) (h : List Entry) → IsWorldRun s h → IsTableRun s h
-table_run s h w = rows_run (actor_row s) (node_row s) s h (by_window s) w.postal w.actors
+table_run s h w = rows_run (actor_row s) (keeping_row s) s h (by_window s) w.postal w.actors
 
 -- an actor is a node, the coordinator or the client
 pub data Who (s : ScriptData) (a : ℕ) : Type 0 where
@@ -203,11 +202,11 @@ who_by s a lt false false is at =
 pub who : (s : ScriptData) (a : ℕ) → a < s.nodes + 2 → Who s a
 who s a lt = who_by s a lt (nat_lt a s.nodes) (a == s.nodes) refl refl
 
-actor_run : (big : ℕ → ActorData → Letter → Out ActorData) (row : ℕ → Node → Letter → Out Node) (s : ScriptData) (h : List Entry) (a : ℕ)
+actor_run : (big : ℕ → ActorData → Letter → Out ActorData) (row : ℕ → KeepingNode → Letter → Out KeepingNode) (s : ScriptData) (h : List Entry) (a : ℕ)
     → IsTableOf s big row → RowsRun row s h → Who s a → IsRunOf (big a) (start_actor s a) (own a h)
 actor_run big row s h a is run (ANode lt) =
     subst (λ (st : ActorData). IsRunOf (big a) st (own a h)) (sym (starts_node s a lt))
-    (seen_run (big a) NodeData (row a) (is.node a) (start_node s a) (own a h) (run.nodes a lt))
+    (seen_run (big a) NodeData (row a) (is.node a) (start_keeping s a) (own a h) (run.nodes a lt))
 actor_run big row s h a is run (TheCoordinator at) =
     subst (λ (b : ℕ). IsRunOf (big b) (start_actor s b) (own b h)) (sym at)
     (subst (λ (st : ActorData). IsRunOf (big s.nodes) st (own s.nodes h)) (sym (starts_coordinator s))
@@ -218,20 +217,20 @@ actor_run big row s h a is run (TheClient at) =
     (seen_run (big (client_of s)) ClientData (client_table s) (is.client (client_of s)) (start_client s) (own (client_of s) h) run.client))
 
 -- and back, of all actors
-pub runs_of_rows : (big : ℕ → ActorData → Letter → Out ActorData) (row : ℕ → Node → Letter → Out Node) (s : ScriptData) (h : List Entry)
+pub runs_of_rows : (big : ℕ → ActorData → Letter → Out ActorData) (row : ℕ → KeepingNode → Letter → Out KeepingNode) (s : ScriptData) (h : List Entry)
     → IsTableOf s big row → RowsRun row s h → AreRunsOf big s h
 runs_of_rows big row s h is run = λ a lt. actor_run big row s h a is run (who s a lt)
 
 pub world_of_tables : (s : ScriptData) (h : List Entry) → IsTableRun s h → IsWorldRun s h
 world_of_tables s h run = record {
   postal = postal_of (client_of s) h run.postal;
-  actors = runs_of_rows (actor_row s) (node_row s) s h (by_window s) run;
+  actors = runs_of_rows (actor_row s) (keeping_row s) s h (by_window s) run;
 }
 
 -- the state to which an actor's own entries lead, by whose it is
 pub node_data_after : (s : ScriptData) (p : ℕ) (es : List Entry) → p < s.nodes
-    → after (actor_row s p) (start_actor s p) es ≡ NodeData (after (node_row s p) (start_node s p) es)
-node_data_after s p es lt = rw (starts_node s p lt) (seen_after (actor_row s p) NodeData (node_row s p) (λ st l. refl) (start_node s p) es)
+    → after (actor_row s p) (start_actor s p) es ≡ NodeData (after (keeping_row s p) (start_keeping s p) es)
+node_data_after s p es lt = rw (starts_node s p lt) (seen_after (actor_row s p) NodeData (keeping_row s p) (λ st l. refl) (start_keeping s p) es)
 
 pub coordinator_data_after : (s : ScriptData) (es : List Entry)
     → after (actor_row s s.nodes) (start_actor s s.nodes) es ≡ CoordinatorData (after coordinator_table (start_coordinator s.nodes) es)

@@ -1,123 +1,59 @@
 -- Whatever letters an actor takes, it sends letters to actors of the script. So each letter in flight is for one of
 -- them. No law of runs is needed.
-use Rattle.std.proofs.Common.{◌≡◌, ℕ, ◌+◌, ◌*◌, ◌<◌, ◌≤◌, Bool, true, false, List, [], ◌∷◌, length, reverse, take, drop, refl, sym, subst, arith, Option, Some, None}
-use Rattle.std.specs.Prelude.{if◌then◌else◌, nat_lt, All}
-use Rattle.tv_base.specs.declared.numbers.Version.{Version}
+use Rattle.std.proofs.Common.{◌≡◌, ℕ, ◌+◌, ◌<◌, ◌==◌, Bool, true, false, List, [], ◌∷◌, length, reverse, take, drop, refl, sym, ◌∙◌, subst, arith, Option, Some, None}
+use Rattle.std.specs.Prelude.{nat_lt, All}
 use Rattle.std.specs.List.{AllByRecursion}
-use Rattle.std.proofs.lemmas.List.Elements.{All-from_recursion, recursion_from_All}
-use Rattle.world_model.specs.Coordinator.{Coordinator, coordinator_row}
-use Rattle.world_model.specs.Client.{Client, client_row, nudge, rows_letters, submit, submitted, with_answer, with_end}
+use Rattle.std.proofs.lemmas.Bool.Decides.{nat_tests}
+use Rattle.std.proofs.lemmas.List.Elements.{All-from_recursion}
 use Rattle.letter_types.specs.declared.bodies.Body.{Body}
-use Rattle.letter_types.specs.declared.bodies.Body.TheVariants.{Go, Root, Sub as SubLetter, Done, Reply, Turn, Show, Sweep, AskDone, AskAsked, Advanced}
+use Rattle.letter_types.specs.declared.bodies.Body.TheVariants.{Go, Reply, Advanced}
 use Rattle.letter_types.specs.declared.entries.Entry.{Entry}
 use Rattle.letter_types.specs.declared.entries.Letter.{Letter}
 use Rattle.letter_types.specs.declared.entries.LetterId.{LetterId}
 use Rattle.letter_types.specs.declared.entries.Outgoing.{Outgoing}
+use Rattle.letter_types.specs.Kept.{brought, kept_without, wakes, wakes_by}
 use Rattle.letter_types.specs.Letters.{find_id, own}
-use Rattle.letter_types.specs.Steps.{Out, still}
-use Rattle.world_model.specs.Apt.{is_apt, node_row, row, row_by_kind}
-use Rattle.world_model.specs.Reads.{getting}
-use Rattle.tree_home.specs.declared.homes.Answered.{Answered}
-use Rattle.world_model.specs.Named.{is_did, tree_kind_at}
-use Rattle.world_model.specs.Asked.{asked_ops, asked_version, tree_done}
-use Rattle.world_model.specs.Children.{done_letter, sub_letters}
-use Rattle.world_model.specs.Done.{note_done, with_open_tree}
-use Rattle.world_model.specs.Node.{Effect, Node}
-use Rattle.world_model.specs.Notices.{answer_noted, reply_letters, values_of}
-use Rattle.world_model.proofs.Addressed.{children_nodes}
-use Rattle.script_parts.specs.ScriptData.{ScriptData, client_of, home_of, node_of, sub_at, subs_at}
+use Rattle.letter_types.specs.Steps.{still}
+use Rattle.script_parts.specs.ScriptData.{ScriptData}
 use Rattle.script_parts.specs.Valid.{IsValid}
 use Rattle.script_parts.specs.declared.parts.ScriptRow.{ScriptRow}
 use Rattle.script_parts.specs.declared.parts.ScriptRow.TheVariants.{Tree as TreeRow, Settle, Advance, Lose}
-use Rattle.script_parts.specs.declared.parts.Sub.{Sub}
-use Rattle.script_parts.specs.declared.parts.TreeKind.{TreeKind}
-use Rattle.script_parts.specs.declared.parts.TreeKind.TheVariants.{Update, Read, Strict}
-use Rattle.script_parts.proofs.SubsOf.{all_at, sub_nodes}
-use Rattle.world_model.specs.Updates.{touching}
+use Rattle.world_model.specs.Client.{Client, client_row, nudge, rows_letters, submit, submitted, with_answer, with_end}
+use Rattle.world_model.specs.Coordinator.{Coordinator, coordinator_row}
 use Rattle.world_model.specs.Counts.{Each}
-use Rattle.world_model.specs.Runs.{AtClient, AtCoordinator, AtNode, IsStepRun, Moves, actor_in, after, client_in, coordinator_in, node_in, in_flight}
+use Rattle.world_model.specs.Keeping.{Aptness, AreKeptAt, KeepingNode, brought_row, is_apt_there, keeping_row, kept_row}
+use Rattle.world_model.specs.Runs.{AtClient, AtCoordinator, AtNode, IsStepRun, Moves, actor_in, after, client_in, coordinator_in, in_flight, keeping_in}
+use Rattle.world_model.specs.Strict.{CoreKeeping, core_keeping, core_row, is_core_apt}
 use Rattle.world_model.specs.Tables.{ActorData, NodeData, CoordinatorData, ClientData, actor_row, start_actor}
-use Rattle.world_model.specs.Taking.{IsAddressed, MOST_COUNTED}
-use Rattle.world_model.proofs.Actors.{Who, ANode, TheCoordinator, TheClient, coordinator_data_after, client_data_after, who}
+use Rattle.world_model.specs.Taking.{IsAddressed}
 use Rattle.world_model.proofs.Back.{actor_leads}
+use Rattle.world_model.proofs.CoreSends.{For, core_for, for_both, home_for, pick}
 use Rattle.world_model.proofs.Every.{each_append, each_found, each_map, each_step}
-use Rattle.world_model.proofs.Orders.{OfOrders, coordinator_each, coordinator_nodes}
-use Rattle.world_model.proofs.SmallCounts.{KeepsBelow, keeps}
-
--- each letter goes to one of so many actors
-abbrev For : ℕ → List Outgoing → Type 0
-For n os = Each (λ (o : Outgoing). o.to.0 < n) os
-
-all_of : (n m : ℕ) (os : List Outgoing) → n ≤ m → AllByRecursion (λ (o : Outgoing). o.to.0 < n) os → For m os
-all_of n m [] le all = tt
-all_of n m (o ∷ os) le all = (omega (arith, all.0), all_of n m os le all.1)
+use Rattle.world_model.proofs.KeptThere.{kept_in_past, kept_next, still_kept, wakes_for}
+use Rattle.world_model.proofs.Orders.{OfOrders, coordinator_each, coordinator_nodes, row_plain}
 
 addresses : (n : ℕ) (os : List Outgoing) → For n os → AllByRecursion (λ (o : Outgoing). o.to.0 < n) os
 addresses n [] all = tt
 addresses n (o ∷ os) all = (all.0, addresses n os all.1)
 
-home_by : (s : ScriptData) (t : ℕ) (o : Option Sub) → IsValid s → sub_at s t 0 ≡ o → home_of s t < s.nodes + 2
-home_by s t None valid at = rw (at, home_of, node_of) (omega arith)
-home_by s t (Some x) valid at =
-    rw (at, home_of, node_of)
-    (omega (arith, all_at (λ (y : Sub). y.node.0 < s.nodes) (subs_at s t) 0 x (recursion_from_All (λ (y : Sub). y.node.0 < s.nodes) (subs_at s t) (sub_nodes s t valid)) at))
+row_for : (s : ScriptData) (p : ℕ) (l r : Letter) (n : KeepingNode) (found : Option CoreKeeping) → IsValid s → p < s.nodes + 2
+    → AreKeptAt p n.kept → For (s.nodes + 2) (kept_row s p l r n found).sent
+row_for s p l r n (Some k) valid lt all = tt
+row_for s p l r n None valid lt all =
+    for_both (s.nodes + 2) (core_row s p n.core r.from.0 r.body).sent (wakes (wakes_by r.body) (kept_without n.kept l.body))
+    (core_for s p r.from.0 r.body n.core valid)
+    (wakes_for p (s.nodes + 2) (wakes_by r.body) (kept_without n.kept l.body) lt (still_kept p n.kept l.body all))
 
--- a tree's home is one of them; where no tree is there, its number is the coordinator's
-home_for : (s : ScriptData) (t : ℕ) → IsValid s → home_of s t < s.nodes + 2
-home_for s t valid = home_by s t (sub_at s t 0) valid refl
+brought_for : (apt : Aptness) (s : ScriptData) (p : ℕ) (l : Letter) (n : KeepingNode) (found : Option Letter) → IsValid s
+    → p < s.nodes + 2 → AreKeptAt p n.kept → For (s.nodes + 2) (brought_row apt s p l n found).sent
+brought_for apt s p l n None valid lt all = tt
+brought_for apt s p l n (Some r) valid lt all =
+    pick (s.nodes + 2) (is_apt_there apt p n r) (kept_row s p l r n (core_keeping s n.core r.body)) (still n)
+    (row_for s p l r n (core_keeping s n.core r.body) valid lt all) tt
 
-children_for : (s : ScriptData) (t v parent : ℕ) → IsValid s → For (s.nodes + 2) (sub_letters t v parent 0 (subs_at s t))
-children_for s t v parent valid =
-    let os = sub_letters t v parent 0 (subs_at s t) in
-    all_of s.nodes (s.nodes + 2) os (omega arith)
-    (recursion_from_All (λ (o : Outgoing). o.to.0 < s.nodes) os (children_nodes t v parent s.nodes (subs_at s t) os refl (sub_nodes s t valid)))
-
-replies_for : (s : ScriptData) (answer : Option Answered) → For (s.nodes + 2) (reply_letters (client_of s) answer)
-replies_for s None = tt
-replies_for s (Some a) = (omega arith, tt)
-
-done_for : (s : ScriptData) (p from : ℕ) (v : Version) (raises : Bool) (e : Effect) (body : Body) (st : Node) → IsValid s
-    → For (s.nodes + 2) (tree_done s p from v raises e body st).sent
-done_for s p from v raises e (Root t) st valid =
-    let answer = answer_noted (record { 0 = t.0 }) (record { 0 = 0 }) (values_of e.notice) (with_open_tree t.0 (length (subs_at s t.0)) v.0 st).homes in
-    each_append (λ (o : Outgoing). o.to.0 < s.nodes + 2) (sub_letters t.0 v.0 0 0 (subs_at s t.0)) (reply_letters (client_of s) answer)
-    (children_for s t.0 v.0 0 valid) (replies_for s answer)
-done_for s p from v raises e (SubLetter t k w) st valid =
-    each_append (λ (o : Outgoing). o.to.0 < s.nodes + 2) (sub_letters t.0 v.0 k.0 0 (subs_at s t.0))
-    (done_letter (home_of s t.0) t.0 k.0 v.0 e.notice ∷ []) (children_for s t.0 v.0 k.0 valid) (home_for s t.0 valid, tt)
-done_for s p from v raises e _ st valid = tt
-
-tree_for : (s : ScriptData) (p : ℕ) (st : Node) (from : ℕ) (body : Body) (kind : Option TreeKind) → IsValid s
-    → For (s.nodes + 2) (row_by_kind s p st from body kind).sent
-tree_for s p st from body (Some Update) valid =
-    let v : Version = asked_version st.turns.update body in
-    done_for s p from v (nat_lt st.turns.update.0 v.0) (touching v (asked_ops s body) st.items) body st valid
-tree_for s p st from body (Some Read) valid =
-    let v : Version = asked_version st.turns.read body in
-    done_for s p from v false (getting v (asked_ops s body) st.items) body st valid
-tree_for s p st from body (Some Strict) valid = tt
-tree_for s p st from body None valid = tt
-
-pick : {St : Type 0} (n : ℕ) (b : Bool) (x y : Out St) → For n x.sent → For n y.sent → For n (if b then x else y).sent
-pick n true x y l r = l
-pick n false x y l r = r
-
-row_for : (s : ScriptData) (p : ℕ) (st : Node) (from : ℕ) (body : Body) → IsValid s → For (s.nodes + 2) (row s p st from body).sent
-row_for s p st from (Root t) valid = tree_for s p st from (Root t) (tree_kind_at s t.0) valid
-row_for s p st from (SubLetter t k v) valid = tree_for s p st from (SubLetter t k v) (tree_kind_at s t.0) valid
-row_for s p st from (Done t k v notice) valid =
-    pick (s.nodes + 2) (is_did notice) (note_done s from t.0 k.0 v.0 (values_of notice) st) (still st)
-    (replies_for s (answer_noted (record { 0 = t.0 }) (record { 0 = k.0 }) (values_of notice) st.homes)) tt
-row_for s p st from (Turn v) valid = (omega arith, tt)
-row_for s p st from (Show v) valid = (omega arith, tt)
-row_for s p st from (Sweep v) valid = (omega arith, tt)
-row_for s p st from (AskDone v k) valid = (omega arith, tt)
-row_for s p st from (AskAsked v k) valid = (omega arith, tt)
-row_for s p st from _ valid = tt
-
-node_for : (s : ScriptData) (p : ℕ) (st : Node) (l : Letter) → IsValid s → For (s.nodes + 2) (node_row s p st l).sent
-node_for s p st l valid =
-    pick (s.nodes + 2) (is_apt s p st l) (row s p st l.from.0 l.body) (still st) (row_for s p st l.from.0 l.body valid) tt
+node_for : (s : ScriptData) (p : ℕ) (n : KeepingNode) (l : Letter) → IsValid s → p < s.nodes + 2 → AreKeptAt p n.kept
+    → For (s.nodes + 2) (keeping_row s p n l).sent
+node_for s p n l valid lt all = brought_for (is_core_apt s p) s p l n (brought n.kept l l.body) valid lt all
 
 orders_for : (n : ℕ) → OfOrders (λ to body. to < n + 2) n
 orders_for n = record {
@@ -156,19 +92,44 @@ client_for s c (Reply t v answer) valid =
 client_for s c (Advanced v) valid = submit_for s (with_end c) [] valid tt
 client_for s c _ valid = tt
 
-sent_for : (s : ScriptData) (a m : ℕ) (d : ActorData) (l : Letter) → IsValid s → KeepsBelow s m d
-    → For (s.nodes + 2) (actor_row s a d l).sent
-sent_for s a m (NodeData st) l valid below = node_for s a st l valid
-sent_for s a m (CoordinatorData c) l valid below = coordinator_for s c l.from.0 l.body below
-sent_for s a m (ClientData c) l valid below = client_for s c l.body valid
+-- what an actor keeps: a node is one of the script's, and what it keeps is addressed to it, and the coordinator is that
+-- of the script's nodes
+abbrev StandsAt : ScriptData → ℕ → ActorData → Type 0
+StandsAt s a (NodeData n) = (a < s.nodes) × AreKeptAt a n.kept
+StandsAt s a (CoordinatorData c) = c.nodes ≡ s.nodes
+StandsAt s a (ClientData c) = Unit {0}
+
+step_stands : (s : ScriptData) (a : ℕ) (d : ActorData) (l : Letter) → StandsAt s a d → StandsAt s a (actor_row s a d l).state
+step_stands s a (NodeData n) l stands = (stands.0, kept_next s a n l stands.1)
+step_stands s a (CoordinatorData c) l stands = (row_plain l.from.0 c l.body c.phase).nodes ∙ stands
+step_stands s a (ClientData c) l stands = tt
+
+steps_stand : (s : ScriptData) (a : ℕ) (d : ActorData) (es : List Entry) → StandsAt s a d → StandsAt s a (after (actor_row s a) d es)
+steps_stand s a d [] stands = stands
+steps_stand s a d (e ∷ es) stands = steps_stand s a (actor_row s a d e.took).state es (step_stands s a d e.took stands)
+
+starts_by : (s : ScriptData) (a : ℕ) (b c : Bool) → nat_lt a s.nodes ≡ b → (a == s.nodes) ≡ c → StandsAt s a (start_actor s a)
+starts_by s a true c is at = rw is (grind (arith, nat_tests), tt)
+starts_by s a false true is at = rw (is, at) refl
+starts_by s a false false is at = rw (is, at) tt
+
+-- an actor after its entries
+stands_after : (s : ScriptData) (a : ℕ) (es : List Entry) (d : ActorData) → d ≡ after (actor_row s a) (start_actor s a) es → StandsAt s a d
+stands_after s a es d is =
+    subst (λ (x : ActorData). StandsAt s a x) (sym is)
+    (steps_stand s a (start_actor s a) es (starts_by s a (nat_lt a s.nodes) (a == s.nodes) refl refl))
+
+sent_for : (s : ScriptData) (a : ℕ) (d : ActorData) (l : Letter) → IsValid s → StandsAt s a d → For (s.nodes + 2) (actor_row s a d l).sent
+sent_for s a (NodeData n) l valid stands = node_for s a n l valid (omega (arith, stands.0)) stands.1
+sent_for s a (CoordinatorData c) l valid stands = coordinator_for s c l.from.0 l.body stands
+sent_for s a (ClientData c) l valid stands = client_for s c l.body valid
 
 -- what an actor sends after its entries
 pub sent_addressed : (s : ScriptData) (a n : ℕ) (es : List Entry) (d : ActorData) (l : Letter) (os : List Outgoing) → IsValid s
     → d ≡ after (actor_row s a) (start_actor s a) es → os ≡ (actor_row s a d l).sent → n ≡ s.nodes + 2
     → All (λ (o : Outgoing). o.to.0 < n) os
 sent_addressed s a n es d l os valid is sent actors =
-    let all : For (s.nodes + 2) (actor_row s a d l).sent =
-    sent_for s a (1 + MOST_COUNTED * length es) d l valid (subst (λ (x : ActorData). KeepsBelow s (1 + MOST_COUNTED * length es) x) (sym is) (keeps s a es valid)) in
+    let all : For (s.nodes + 2) (actor_row s a d l).sent = sent_for s a d l valid (stands_after s a es d is) in
     All-from_recursion (λ (o : Outgoing). o.to.0 < n) os
     (subst (λ (z : ℕ × List Outgoing). AllByRecursion (λ (o : Outgoing). o.to.0 < z.0) z.1) (λ k. (sym actors k, sym sent k))
     (addresses (s.nodes + 2) (actor_row s a d l).sent all))
@@ -176,7 +137,8 @@ sent_addressed s a n es d l os valid is sent actors =
 -- what an entry sends
 entry_by : (s : ScriptData) (past : List Entry) (e : Entry) → IsValid s → Moves s past e → For (s.nodes + 2) e.sent
 entry_by s past e valid (AtNode lt says) =
-    subst (For (s.nodes + 2)) (sym says.0) (node_for s e.actor.0 (node_in s past e.actor.0) e.took valid)
+    subst (For (s.nodes + 2)) (sym says.0)
+    (node_for s e.actor.0 (keeping_in s past e.actor.0) e.took valid (omega (arith, lt)) (kept_in_past s past e.actor.0))
 entry_by s past e valid (AtCoordinator at says) =
     subst (For (s.nodes + 2)) (sym says.0) (coordinator_for s (coordinator_in s past) e.took.from.0 e.took.body (coordinator_nodes s past))
 entry_by s past e valid (AtClient at says) =
@@ -196,26 +158,16 @@ pub addressed : (s : ScriptData) (past : List Entry) (l : Letter) → IsValid s 
 addressed s past l valid run at =
     each_found (λ (x : Letter). x.to.0 < s.nodes + 2) l.id (in_flight s past) l (all_addressed s past valid run) at
 
-addressed_at : (s : ScriptData) (l : Letter) (d : ActorData) → l.to.0 < s.nodes → IsAddressed s l d
-addressed_at s l (NodeData st) lt = lt
-addressed_at s l (CoordinatorData c) lt = tt
-addressed_at s l (ClientData c) lt = tt
-
-addressed_by : (s : ScriptData) (a : ℕ) (es : List Entry) (l : Letter) → l.to.0 ≡ a → Who s a
-    → IsAddressed s l (after (actor_row s a) (start_actor s a) es)
-addressed_by s a es l to (ANode lt) = addressed_at s l (after (actor_row s a) (start_actor s a) es) (omega arith)
-addressed_by s a es l to (TheCoordinator is) =
-    subst (λ (b : ℕ). IsAddressed s l (after (actor_row s b) (start_actor s b) es)) (sym is)
-    (subst (λ (d : ActorData). IsAddressed s l d) (sym (coordinator_data_after s es)) tt)
-addressed_by s a es l to (TheClient is) =
-    subst (λ (b : ℕ). IsAddressed s l (after (actor_row s b) (start_actor s b) es)) (sym is)
-    (subst (λ (d : ActorData). IsAddressed s l d) (sym (client_data_after s es)) tt)
+addressed_by : (s : ScriptData) (l : Letter) (d : ActorData) → StandsAt s l.to.0 d → IsAddressed s l d
+addressed_by s l (NodeData n) stands = stands
+addressed_by s l (CoordinatorData c) stands = tt
+addressed_by s l (ClientData c) stands = tt
 
 -- a letter that is addressed to an actor may be taken by it
 pub is_addressed : (s : ScriptData) (a : ℕ) (es : List Entry) (l : Letter) (d : ActorData)
     → d ≡ after (actor_row s a) (start_actor s a) es → l.to.0 ≡ a → a < s.nodes + 2 → IsAddressed s l d
 is_addressed s a es l d is to lt =
-    subst (λ (x : ActorData). IsAddressed s l x) (sym is) (addressed_by s a es l to (who s a lt))
+    addressed_by s l d (subst (λ (b : ℕ). StandsAt s b d) (sym to) (stands_after s a es d is))
 
 -- the same after a past
 pub may_reach : (s : ScriptData) (past : List Entry) (l : Letter) → l.to.0 < s.nodes + 2 → IsAddressed s l (actor_in s past l.to.0)

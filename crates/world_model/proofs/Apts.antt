@@ -1,5 +1,5 @@
 -- The row of each letter that is apt by what is known of it, for laws over runs.
-use Rattle.std.proofs.Common.{◌≡◌, ℕ, ◌<◌, true, false, refl, Some, None, length}
+use Rattle.std.proofs.Common.{◌≡◌, ◌<◌, true, false, refl, Some, None, length}
 use Rattle.std.specs.Prelude.{nat_lt}
 use Rattle.std.proofs.lemmas.Bool.{lt-ltb}
 use Rattle.tv_base.specs.declared.numbers.SubNo.{SubNo}
@@ -17,7 +17,7 @@ use Rattle.world_model.specs.Named.{is_near, is_strict_at, tree_kind_at}
 use Rattle.world_model.specs.Done.{note_done, root_done, sub_done}
 use Rattle.world_model.specs.Updates.{can_touch, touching}
 use Rattle.world_model.specs.Reads.{can_get, getting}
-use Rattle.world_model.specs.Apt.{is_apt, is_widely_apt, node_row, wide_node_row}
+use Rattle.world_model.specs.Apt.{is_apt, node_row}
 
 -- the root of an update tree that isn't open, whose operations may be made
 pub update_root_apt : (s : ScriptData) (st : Node) (l : Letter) (t : TreeNo) → l.body ≡ Root t
@@ -97,8 +97,3 @@ pub notice_row : (s : ScriptData) (st : Node) (l : Letter) (t : TreeNo) (k : Sub
     → is_near st v ≡ true → node_row s (home_of s t.0) st l ≡ note_done s l.from.0 t.0 k.0 v.0 values st
 notice_row s st l t k v values is strict lt node near =
     let apt = notice_apt s st l t k v values is strict lt node near in rw apt (rw is refl)
-
--- where a letter is apt both ways, both rows are the same
-pub rows_agree : (s : ScriptData) (p : ℕ) (st : Node) (l : Letter) → is_apt s p st l ≡ is_widely_apt s p st l
-    → node_row s p st l ≡ wide_node_row s p st l
-rows_agree s p st l is = rw is refl

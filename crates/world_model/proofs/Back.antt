@@ -9,10 +9,10 @@ use Rattle.letter_types.specs.declared.entries.Letter.{Letter}
 use Rattle.letter_types.specs.declared.entries.Entry.{Entry}
 use Rattle.letter_types.specs.Letters.{go, own, same_id, find_id, drop_id, letters_of}
 use Rattle.script_parts.specs.ScriptData.{ScriptData, client_of}
-use Rattle.world_model.specs.Apt.{node_row}
+use Rattle.world_model.specs.Keeping.{keeping_row, start_keeping}
 use Rattle.world_model.specs.Coordinator.{start_coordinator}
-use Rattle.world_model.specs.Tables.{NodeData, CoordinatorData, ClientData, start_node, client_table, coordinator_table}
-use Rattle.world_model.specs.Runs.{IsRunOf, after, actor_after, IsWorldRun, in_flight, node_in, coordinator_in, client_in, actor_in, Says, Moves, AtNode, AtCoordinator, AtClient, MayFollow, IsStepRun}
+use Rattle.world_model.specs.Tables.{NodeData, CoordinatorData, ClientData, client_table, coordinator_table}
+use Rattle.world_model.specs.Runs.{IsRunOf, after, actor_after, IsWorldRun, in_flight, keeping_in, coordinator_in, client_in, actor_in, Says, Moves, AtNode, AtCoordinator, AtClient, MayFollow, IsStepRun}
 use Rattle.world_model.specs.Counts.{tally, one_if}
 use Rattle.world_model.proofs.Bags.{tally-drop}
 use Rattle.world_model.proofs.Bridge.{reverse_more, own_more, node_after, coordinator_after, client_after}
@@ -175,9 +175,9 @@ run_more row first a e past st is run says =
     rw (own_more a e past) (run_join row first (own a (reverse past)) (if e.actor.0 == a then e ∷ [] else []) run (rw is (one_run row st e (e.actor.0 == a) says)))
 
 pub says_node : (s : ScriptData) (past : List Entry) (e : Entry) (p : ℕ) → Moves s past e → p < s.nodes → (e.actor.0 == p) ≡ true
-    → Says (node_row s p (node_in s past p) e.took) e
+    → Says (keeping_row s p (keeping_in s past p) e.took) e
 says_node s past e p (AtNode node says) lt is =
-    let eq : e.actor.0 ≡ p = grind (arith, nat_tests) in subst (λ (n : ℕ). Says (node_row s n (node_in s past n) e.took) e) eq says
+    let eq : e.actor.0 ≡ p = grind (arith, nat_tests) in subst (λ (n : ℕ). Says (keeping_row s n (keeping_in s past n) e.took) e) eq says
 says_node s past e p (AtCoordinator at says) lt is = let eq : e.actor.0 ≡ p = grind (arith, nat_tests) in absurd (omega arith)
 says_node s past e p (AtClient at says) lt is = let eq : e.actor.0 ≡ p = grind (arith, nat_tests) in absurd (omega arith)
 
@@ -194,10 +194,10 @@ says_client s past e (AtCoordinator at says) is = let eq : e.actor.0 ≡ client_
 says_client s past e (AtClient at says) is = says
 
 node_runs : (s : ScriptData) (past : List Entry) (p : ℕ) → p < s.nodes → IsStepRun s past
-    → IsRunOf (node_row s p) (start_node s p) (own p (reverse past))
+    → IsRunOf (keeping_row s p) (start_keeping s p) (own p (reverse past))
 node_runs s [] p lt run = tt
 node_runs s (e ∷ past) p lt run =
-    run_more (node_row s p) (start_node s p) p e past (node_in s past p) (node_after s past p) (node_runs s past p lt run.1) (says_node s past e p run.0.moves lt)
+    run_more (keeping_row s p) (start_keeping s p) p e past (keeping_in s past p) (node_after s past p) (node_runs s past p lt run.1) (says_node s past e p run.0.moves lt)
 
 coordinator_runs : (s : ScriptData) (past : List Entry) → IsStepRun s past → IsRunOf coordinator_table (start_coordinator s.nodes) (own s.nodes (reverse past))
 coordinator_runs s [] run = tt
@@ -228,7 +228,7 @@ pub world_run : (s : ScriptData) (past : List Entry) → IsStepRun s past → Is
 world_run s past run = world_of_tables s (reverse past) (table_run_of s past run)
 
 -- The state to which an actor's own entries lead is the one after the past.
-pub node_leads : (s : ScriptData) (past : List Entry) (p : ℕ) → p < s.nodes → actor_after s (reverse past) p ≡ NodeData (node_in s past p)
+pub node_leads : (s : ScriptData) (past : List Entry) (p : ℕ) → p < s.nodes → actor_after s (reverse past) p ≡ NodeData (keeping_in s past p)
 node_leads s past p lt = node_data_after s p (own p (reverse past)) lt ∙ ap NodeData (node_after s past p)
 
 pub coordinator_leads : (s : ScriptData) (past : List Entry)
@@ -239,7 +239,7 @@ pub client_leads : (s : ScriptData) (past : List Entry) → actor_after s (rever
 client_leads s past = client_data_after s (own (client_of s) (reverse past)) ∙ ap ClientData (client_after s past)
 
 -- which actor it is
-is_node : (s : ScriptData) (past : List Entry) (a : ℕ) → nat_lt a s.nodes ≡ true → actor_in s past a ≡ NodeData (node_in s past a)
+is_node : (s : ScriptData) (past : List Entry) (a : ℕ) → nat_lt a s.nodes ≡ true → actor_in s past a ≡ NodeData (keeping_in s past a)
 is_node s past a is = rw is refl
 
 is_coordinator : (s : ScriptData) (past : List Entry) (a : ℕ) → nat_lt a s.nodes ≡ false → (a == s.nodes) ≡ true

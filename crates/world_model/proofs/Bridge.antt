@@ -9,11 +9,10 @@ use Rattle.letter_types.specs.declared.entries.Letter.{Letter}
 use Rattle.letter_types.specs.declared.entries.Entry.{Entry}
 use Rattle.letter_types.specs.Letters.{go, own, find_id, letters_of}
 use Rattle.script_parts.specs.ScriptData.{ScriptData, client_of}
-use Rattle.world_model.specs.Tables.{start_node}
-use Rattle.world_model.specs.Apt.{node_row}
+use Rattle.world_model.specs.Keeping.{keeping_row, start_keeping}
 use Rattle.world_model.specs.Coordinator.{start_coordinator}
 use Rattle.world_model.specs.Tables.{client_table, coordinator_table}
-use Rattle.world_model.specs.Runs.{IsRunOf, after, node_in, coordinator_in, client_in, Says}
+use Rattle.world_model.specs.Runs.{IsRunOf, after, keeping_in, coordinator_in, client_in, Says}
 use Rattle.world_model.proofs.Actors.{IsPostalEntry}
 use Rattle.letter_types.specs.Steps.{Out}
 use Rattle.world_model.specs.Client.{start_client}
@@ -50,9 +49,9 @@ state_more row first a e past st is =
     rw (own_more a e past, after_append row first (own a (reverse past)) (if e.actor.0 == a then e ∷ [] else []), is) (one_after row st e (e.actor.0 == a))
 
 pub node_after : (s : ScriptData) (past : List Entry) (p : ℕ)
-    → after (node_row s p) (start_node s p) (own p (reverse past)) ≡ node_in s past p
+    → after (keeping_row s p) (start_keeping s p) (own p (reverse past)) ≡ keeping_in s past p
 node_after s [] p = refl
-node_after s (e ∷ past) p = state_more (node_row s p) (start_node s p) p e past (node_in s past p) (node_after s past p)
+node_after s (e ∷ past) p = state_more (keeping_row s p) (start_keeping s p) p e past (keeping_in s past p) (node_after s past p)
 
 pub coordinator_after : (s : ScriptData) (past : List Entry)
     → after coordinator_table (start_coordinator s.nodes) (own s.nodes (reverse past)) ≡ coordinator_in s past

@@ -6,27 +6,19 @@ use Rattle.std.proofs.lemmas.Bool.Decides.{nat_tests}
 use Rattle.tv_base.specs.declared.numbers.SubNo.{SubNo}
 use Rattle.tv_base.specs.declared.numbers.TreeNo.{TreeNo}
 use Rattle.letter_types.specs.declared.bodies.Body.{Body}
-use Rattle.letter_types.specs.declared.bodies.Body.TheVariants.{Go, Show, Decide, Wake}
+use Rattle.letter_types.specs.declared.bodies.Body.TheVariants.{Show, Decide, Wake}
 use Rattle.letter_types.specs.declared.entries.Letter.{Letter}
+use Rattle.world_model.specs.Calls.{calls, is_wake_of}
 use Rattle.world_model.specs.Counts.{tally, one_if}
 use Rattle.script_parts.specs.ScriptData.{ScriptData}
 use Rattle.letter_types.specs.declared.kept.KeptLetter.{KeptLetter}
 use Rattle.letter_types.specs.declared.kept.Why.{Why}
 use Rattle.letter_types.specs.Kept.{brought, is_called, is_called_for, first_called, kept_without, wakes, wakes_by, with_called, without_called}
 use Rattle.letter_types.specs.declared.kept.Why.TheVariants.{ForShow, ForHolder, Called}
-use Rattle.world_model.specs.Kept.{Keeping, KeepingNode, kept_row}
+use Rattle.world_model.specs.Keeping.{KeepingNode, kept_row}
+use Rattle.world_model.specs.Strict.{CoreKeeping}
 use Rattle.world_model.proofs.Bags.{tally-append}
 use Rattle.world_model.proofs.Sends.{on}
-
--- how many kept letters of subtransaction k of tree t are called
-abbrev pub calls : TreeNo → SubNo → List KeptLetter → ℕ
-calls t k kept = tally (λ (x : KeptLetter). one_if (is_called_for t k x)) kept
-
--- a Wake of it
-abbrev pub is_wake_of : TreeNo → SubNo → Body → ℕ
-is_wake_of t k (Wake u j) = one_if ((u.0 == t.0) && (j.0 == k.0))
-is_wake_of t k Go = 0
-is_wake_of t k _ = 0
 
 -- no letter wakes one that is called already
 called_stays : (b : Body) → wakes_by b Called ≡ false
@@ -96,7 +88,7 @@ done_calls u j s p l r n at =
     omega (arith, wakes_call u j r.body (kept_without n.kept l.body), brought_calls u j n.kept l r l.body at)
 
 -- and a letter that is kept, for another reason than that it is called
-pub kept_calls : (u : TreeNo) (j : SubNo) (s : ScriptData) (p : ℕ) (l r : Letter) (n : KeepingNode) (k : Keeping) → is_called k.why ≡ false
+pub kept_calls : (u : TreeNo) (j : SubNo) (s : ScriptData) (p : ℕ) (l r : Letter) (n : KeepingNode) (k : CoreKeeping) → is_called k.why ≡ false
     → brought n.kept l l.body ≡ Some r
     → calls u j (kept_row s p l r n (Some k)).state.kept + is_wake_of u j l.body ≡ calls u j n.kept
 kept_calls u j s p l r n k why at =

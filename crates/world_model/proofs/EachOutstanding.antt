@@ -11,19 +11,20 @@ use Rattle.letter_types.specs.declared.entries.Entry.{Entry}
 use Rattle.letter_types.specs.declared.entries.Letter.{Letter}
 use Rattle.letter_types.specs.declared.entries.LetterId.{LetterId}
 use Rattle.script_parts.specs.ScriptData.{ScriptData}
-use Rattle.world_model.specs.Apt.{is_apt}
 use Rattle.world_model.specs.Counts.{tally, Each}
 use Rattle.letter_types.specs.declared.kept.KeptLetter.{KeptLetter}
 use Rattle.letter_types.specs.declared.kept.Why.{Why}
 use Rattle.letter_types.specs.Kept.{is_called_for, first_called, without_called, brought, kept_without, wakes_by, with_called}
 use Rattle.letter_types.specs.declared.kept.Why.TheVariants.{Called}
-use Rattle.world_model.specs.Kept.{KeepingNode, Keeping, keeping_of, kept_row, brought_row, keeping_in, kept_in, kept_by, outstanding, done_of, done_by}
-use Rattle.world_model.specs.Runs.{in_flight, IsStepRun, MayFollow}
+use Rattle.world_model.specs.Keeping.{KeepingNode, is_apt_at, kept_row, brought_row}
+use Rattle.world_model.specs.Kept.{kept_in, kept_by, outstanding, done_of, done_by}
+use Rattle.world_model.specs.Runs.{in_flight, keeping_in, IsStepRun, MayFollow}
+use Rattle.world_model.specs.Strict.{CoreKeeping, core_keeping, is_core_apt}
 use Rattle.world_model.proofs.Every.{each_append, each_step, each_taken}
 use Rattle.world_model.proofs.Outstanding.{IsOutstanding, keeping_elsewhere, keeping_here}
 
 -- each letter that is kept
-abbrev EachKept : (Letter → Type 0) → List KeptLetter → Type 0
+abbrev pub EachKept : (Letter → Type 0) → List KeptLetter → Type 0
 EachKept P kept = Each P (map (λ (x : KeptLetter). x.letter) kept)
 
 -- what holds of each of two lists' letters
@@ -51,7 +52,7 @@ each_called P t k [] r all at = absurd (cc at)
 each_called P t k (x ∷ xs) r all at =
     called_at P t k x xs r (is_called_for t k x) refl all (each_called P t k xs r all.1) at
 
-each_brought : (P : Letter → Type 0) (kept : List KeptLetter) (l r : Letter) (b : Body) → EachKept P kept → P l
+pub each_brought : (P : Letter → Type 0) (kept : List KeptLetter) (l r : Letter) (b : Body) → EachKept P kept → P l
     → brought kept l b ≡ Some r → P r
 each_brought P kept l r (Wake t k) all one at = each_called P t k kept r all at
 each_brought P kept l r _ all one at = let same : l ≡ r = grind arith in subst P same one
@@ -68,7 +69,7 @@ each_without P t k [] all = tt
 each_without P t k (x ∷ xs) all =
     without_at P t k x xs (is_called_for t k x) refl all (each_without P t k xs all.1)
 
-kept_meanwhile : (P : Letter → Type 0) (kept : List KeptLetter) (b : Body) → EachKept P kept
+pub kept_meanwhile : (P : Letter → Type 0) (kept : List KeptLetter) (b : Body) → EachKept P kept
     → EachKept P (kept_without kept b)
 kept_meanwhile P kept (Wake t k) all = each_without P t k kept all
 kept_meanwhile P kept _ all = all
@@ -89,26 +90,26 @@ each_more : (P : Letter → Type 0) (xs : List KeptLetter) (x : KeptLetter) → 
 each_more P [] x all one = (one, tt)
 each_more P (y ∷ xs) x all one = (all.0, each_more P xs x all.1 one)
 
-each_row : (P : Letter → Type 0) (s : ScriptData) (p : ℕ) (l r : Letter) (n : KeepingNode) (o : Option Keeping)
+each_row : (P : Letter → Type 0) (s : ScriptData) (p : ℕ) (l r : Letter) (n : KeepingNode) (o : Option CoreKeeping)
     → EachKept P (kept_without n.kept l.body) → P r → EachKept P (kept_row s p l r n o).state.kept
 each_row P s p l r n None all one = each_woken P (wakes_by r.body) (kept_without n.kept l.body) all
 each_row P s p l r n (Some k) all one =
     each_more P (kept_without n.kept l.body) (record { letter = r; tree = k.tree; sub = k.sub; why = k.why }) all one
 
 each_apt : (P : Letter → Type 0) (s : ScriptData) (p : ℕ) (l r : Letter) (n : KeepingNode) (test : Bool)
-    → is_apt s p n.core r ≡ test → EachKept P n.kept → P r → EachKept P (brought_row s p l n (Some r)).state.kept
+    → is_apt_at s p n r ≡ test → EachKept P n.kept → P r → EachKept P (brought_row (is_core_apt s p) s p l n (Some r)).state.kept
 each_apt P s p l r n true is all one =
-    rw is (each_row P s p l r n (keeping_of s p n.core r) (kept_meanwhile P n.kept l.body all) one)
+    rw is (each_row P s p l r n (core_keeping s n.core r.body) (kept_meanwhile P n.kept l.body all) one)
 each_apt P s p l r n false is all one = rw is all
 
 each_after : (P : Letter → Type 0) (s : ScriptData) (p : ℕ) (l : Letter) (n : KeepingNode) (o : Option Letter)
-    → brought n.kept l l.body ≡ o → EachKept P n.kept → P l → EachKept P (brought_row s p l n o).state.kept
+    → brought n.kept l l.body ≡ o → EachKept P n.kept → P l → EachKept P (brought_row (is_core_apt s p) s p l n o).state.kept
 each_after P s p l n None is all one = all
 each_after P s p l n (Some r) is all one =
-    each_apt P s p l r n (is_apt s p n.core r) refl all (each_brought P n.kept l r l.body all one is)
+    each_apt P s p l r n (is_apt_at s p n r) refl all (each_brought P n.kept l r l.body all one is)
 
 -- The letters that nodes keep.
-abbrev AtEach : (Letter → Type 0) → ScriptData → List Entry → ℕ → Type 0
+abbrev pub AtEach : (Letter → Type 0) → ScriptData → List Entry → ℕ → Type 0
 AtEach P s past n = (p : ℕ) → p < n → EachKept P (kept_in s past p)
 
 from_each : (P : Letter → Type 0) (s : ScriptData) (past : List Entry) (n : ℕ) → AtEach P s past n
@@ -138,7 +139,7 @@ pub each_waits : (P : Letter → Type 0) (s : ScriptData) (past : List Entry) �
     → Each P (in_flight s past)
 each_waits P s past all = each_left P (in_flight s past) (kept_by s past s.nodes) all
 
-each_kept : (P : Letter → Type 0) (s : ScriptData) (past : List Entry) → Each P (outstanding s past)
+pub each_kept : (P : Letter → Type 0) (s : ScriptData) (past : List Entry) → Each P (outstanding s past)
     → AtEach P s past s.nodes
 each_kept P s past all = at_each P s past s.nodes (each_right P (in_flight s past) (kept_by s past s.nodes) all)
 
@@ -169,10 +170,10 @@ each_outstanding P s past e m old new =
 
 -- the letter that an entry does is one of them
 done_here : (P : Letter → Type 0) (s : ScriptData) (p : ℕ) (n : KeepingNode) (l : Letter) (o : Option Letter)
-    → brought n.kept l l.body ≡ o → EachKept P n.kept → P l → P (done_of s p n.core l o)
+    → brought n.kept l l.body ≡ o → EachKept P n.kept → P l → P (done_of s p n l o)
 done_here P s p n l None is all one = one
 done_here P s p n l (Some r) is all one =
-    by_test (is_apt s p n.core r) (each_brought P n.kept l r l.body all one is) where
+    by_test (is_apt_at s p n r) (each_brought P n.kept l r l.body all one is) where
       by_test : (test : Bool) → P r → P (if test then r else l)
       by_test true its = its
       by_test false its = one

@@ -21,6 +21,12 @@ pub mod Lawful
 pub mod Addressed
 pub mod Requests
 pub mod Apts
+pub mod Visited
+pub mod CoreCounts
+pub mod CoreSends
+pub mod KeptThere
 pub mod SmallCounts
 pub mod Addressees
 pub mod Plain
+pub mod Keepings
+pub mod Cases

@@ -11,14 +11,15 @@ use Rattle.letter_types.specs.declared.entries.Entry.{Entry}
 use Rattle.letter_types.specs.declared.entries.Letter.{Letter}
 use Rattle.letter_types.specs.Letters.{letters_of}
 use Rattle.script_parts.specs.ScriptData.{ScriptData}
-use Rattle.world_model.specs.Apt.{is_apt}
 use Rattle.world_model.specs.Counts.{tally}
 use Rattle.letter_types.specs.declared.kept.KeptLetter.{KeptLetter}
 use Rattle.letter_types.specs.declared.kept.Why.{Why}
 use Rattle.letter_types.specs.Kept.{is_called_for, first_called, without_called, brought, kept_without, wakes_by, with_called}
 use Rattle.letter_types.specs.declared.kept.Why.TheVariants.{Called}
-use Rattle.world_model.specs.Kept.{KeepingNode, Keeping, keeping_of, kept_row, brought_row, keeping_row, keeping_in, kept_in, kept_by, outstanding, done_of, done_by, stays_of, keeps_letter, none_if, of_done}
-use Rattle.world_model.specs.Runs.{in_flight, MayFollow}
+use Rattle.world_model.specs.Keeping.{KeepingNode, is_apt_at, kept_row, brought_row, keeping_row}
+use Rattle.world_model.specs.Kept.{kept_in, kept_by, outstanding, done_of, done_by, stays_of, keeps_letter, none_if, of_done}
+use Rattle.world_model.specs.Runs.{in_flight, keeping_in, MayFollow}
+use Rattle.world_model.specs.Strict.{CoreKeeping, core_keeping, is_core_apt}
 use Rattle.world_model.proofs.Bags.{tally-append, tally-drop, tally_step}
 
 -- a number that counts no Wake
@@ -72,7 +73,7 @@ one_more f [] x = omega arith
 one_more f (y ∷ xs) x = omega (arith, one_more f xs x)
 
 -- a letter that is apt is kept, or done
-row_left : (f : Letter → ℕ) (s : ScriptData) (p : ℕ) (l r : Letter) (n : KeepingNode) (o : Option Keeping)
+row_left : (f : Letter → ℕ) (s : ScriptData) (p : ℕ) (l r : Letter) (n : KeepingNode) (o : Option CoreKeeping)
     → tally f (letters (kept_row s p l r n o).state.kept) + none_if (is_some o) (f r)
     ≡ tally f (letters (kept_without n.kept l.body)) + f r
 row_left f s p l r n None = omega (arith, called_kept f (wakes_by r.body) (kept_without n.kept l.body))
@@ -82,20 +83,20 @@ row_left f s p l r n (Some k) =
 -- what a node keeps, and the letter that it does, are what it kept and the letter that came
 abbrev Balances : (Letter → ℕ) → ScriptData → ℕ → KeepingNode → Letter → Option Letter → Type 0
 Balances f s p n l o =
-    tally f (letters (brought_row s p l n o).state.kept) + none_if (stays_of s p n.core o) (f (done_of s p n.core l o))
+    tally f (letters (brought_row (is_core_apt s p) s p l n o).state.kept) + none_if (stays_of s p n o) (f (done_of s p n l o))
     ≡ tally f (letters n.kept) + f l
 
-apt_left : (f : Letter → ℕ) (s : ScriptData) (p : ℕ) (n : KeepingNode) (l r : Letter) (test : Bool) → is_apt s p n.core r ≡ test
+apt_left : (f : Letter → ℕ) (s : ScriptData) (p : ℕ) (n : KeepingNode) (l r : Letter) (test : Bool) → is_apt_at s p n r ≡ test
     → tally f (letters (kept_without n.kept l.body)) + f r ≡ tally f (letters n.kept) + f l
     → Balances f s p n l (Some r)
-apt_left f s p n l r true is left = rw is (omega (arith, row_left f s p l r n (keeping_of s p n.core r), left))
+apt_left f s p n l r true is left = rw is (omega (arith, row_left f s p l r n (core_keeping s n.core r.body), left))
 apt_left f s p n l r false is left = rw is (omega arith)
 
 balances : (f : Letter → ℕ) (s : ScriptData) (p : ℕ) (n : KeepingNode) (l : Letter) (o : Option Letter) → NoWakes f
     → brought n.kept l l.body ≡ o → Balances f s p n l o
 balances f s p n l None none is = omega arith
 balances f s p n l (Some r) none is =
-    apt_left f s p n l r (is_apt s p n.core r) refl (brought_left f n.kept l r l.body none refl is)
+    apt_left f s p n l r (is_apt_at s p n r) refl (brought_left f n.kept l r l.body none refl is)
 
 -- How a node with what it keeps goes on.
 pub keeping_elsewhere : (s : ScriptData) (past : List Entry) (e : Entry) (p : ℕ) → e.actor.0 ≢ p

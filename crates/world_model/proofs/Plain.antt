@@ -153,7 +153,7 @@ makes_plain s p st (SubLetter t k v) plain own = rw (no_strict s t.0 plain) refl
 makes_plain s p st (Decide t v commit) plain own = absurd (let not_so : true ≡ false = own in cc not_so)
 makes_plain s p st _ plain own = refl
 
-apt_plain : (s : ScriptData) (p : ℕ) (st : Node) (l : Letter) → has_strict s ≡ false → is_of_strict l.body ≡ false
+pub apt_plain : (s : ScriptData) (p : ℕ) (st : Node) (l : Letter) → has_strict s ≡ false → is_of_strict l.body ≡ false
     → is_core_apt s p (plain_core st) l ≡ is_apt s p st l
 apt_plain s p st l plain own =
     by (has_strict s) (is_of_strict l.body) (is_named s p l.from.0 l.body) (is_new s st l.body)
@@ -204,6 +204,11 @@ by_own s p st l false plain own =
     ap (λ (b : Bool). if b then core_row s p (plain_core st) l.from.0 l.body else still (plain_core st))
     (apt_plain s p st l plain own)
     ∙ by_apt s p st l (is_apt s p st l) plain own refl
+
+-- a Wake changes nothing there
+pub wake_still : (s : ScriptData) (p : ℕ) (st : Node) (l : Letter) (t : TreeNo) (k : SubNo) → l.body ≡ Wake t k
+    → node_row s p st l ≡ still st
+wake_still s p st l t k is = still_row s p st l (is_apt s p st l) (ap is_of_strict is)
 
 -- so a core does with each letter what its node does
 pub step_plain : (s : ScriptData) (p : ℕ) (st : Node) (l : Letter) → has_strict s ≡ false

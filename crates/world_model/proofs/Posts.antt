@@ -13,11 +13,10 @@ use Rattle.letter_types.specs.declared.entries.Entry.{Entry}
 use Rattle.letter_types.specs.Letters.{go, own, same_id, find_id, drop_id, sealed, letters_of}
 use Rattle.letter_types.specs.Steps.{Out}
 use Rattle.script_parts.specs.ScriptData.{ScriptData, client_of}
-use Rattle.world_model.specs.Node.{Node}
-use Rattle.world_model.specs.Apt.{node_row}
+use Rattle.world_model.specs.Keeping.{KeepingNode, keeping_row, start_keeping}
 use Rattle.world_model.specs.Coordinator.{start_coordinator}
-use Rattle.world_model.specs.Tables.{start_node, client_table, coordinator_table}
-use Rattle.world_model.specs.Runs.{IsRunOf, after, IsWorldRun, in_flight, node_in, coordinator_in, client_in, Says, Moves, AtNode, AtCoordinator, AtClient, MayFollow, IsStepRun}
+use Rattle.world_model.specs.Tables.{client_table, coordinator_table}
+use Rattle.world_model.specs.Runs.{IsRunOf, after, IsWorldRun, in_flight, keeping_in, coordinator_in, client_in, Says, Moves, AtNode, AtCoordinator, AtClient, MayFollow, IsStepRun}
 use Rattle.world_model.proofs.Gone.{apart_from, same_is}
 use Rattle.world_model.proofs.Bridge.{reverse_more, postal_less, run_less, node_after, coordinator_after, client_after}
 use Rattle.world_model.proofs.Actors.{IsPostalEntry, RowsRun, IsTableRun, table_run}
@@ -154,7 +153,7 @@ came_from s e past k (inr (j, f, lt, here, found)) at =
 
 -- whose step the last entry is, where it says what its node's row says
 pub moves_by : (s : ScriptData) (e : Entry) (past : List Entry)
-    → (e.actor.0 < s.nodes → Says (node_row s e.actor.0 (node_in s past e.actor.0) e.took) e)
+    → (e.actor.0 < s.nodes → Says (keeping_row s e.actor.0 (keeping_in s past e.actor.0) e.took) e)
     → IsRunOf coordinator_table (start_coordinator s.nodes) (own s.nodes (reverse (e ∷ past)))
     → IsRunOf (client_table s) (start_client s) (own (client_of s) (reverse (e ∷ past)))
     → (e.actor.0 < s.nodes) ⊎ ((e.actor.0 ≡ s.nodes) ⊎ (e.actor.0 ≡ client_of s)) → Moves s past e
@@ -165,9 +164,9 @@ moves_by s e past node coordinator client (inr (inr at)) =
     AtClient at ((run_less (client_table s) (start_client s) (client_of s) e past (client_in s past) (client_after s past) client).1 (rw at (same_test (client_of s))))
 
 node_says : (s : ScriptData) (e : Entry) (past : List Entry) → IsTableRun s (reverse (e ∷ past)) → e.actor.0 < s.nodes
-    → Says (node_row s e.actor.0 (node_in s past e.actor.0) e.took) e
+    → Says (keeping_row s e.actor.0 (keeping_in s past e.actor.0) e.took) e
 node_says s e past world lt =
-    (run_less (node_row s e.actor.0) (start_node s e.actor.0) e.actor.0 e past (node_in s past e.actor.0) (node_after s past e.actor.0) (world.nodes e.actor.0 lt)).1
+    (run_less (keeping_row s e.actor.0) (start_keeping s e.actor.0) e.actor.0 e past (keeping_in s past e.actor.0) (node_after s past e.actor.0) (world.nodes e.actor.0 lt)).1
     (same_test e.actor.0)
 
 who : (a n : ℕ) → a < n + 2 → (a < n) ⊎ ((a ≡ n) ⊎ (a ≡ n + 1))
@@ -209,12 +208,12 @@ may_follow s e past run world =
     (moves_by s e past (node_says s e past world) world.coordinator world.client (who_of s e past world.postal).1)
 
 -- a run by tables without its last entry
-pub rows_less : (row : ℕ → Node → Letter → Out Node) (s : ScriptData) (e : Entry) (past : List Entry)
+pub rows_less : (row : ℕ → KeepingNode → Letter → Out KeepingNode) (s : ScriptData) (e : Entry) (past : List Entry)
     → RowsRun row s (reverse (e ∷ past)) → RowsRun row s (reverse past)
 rows_less row s e past world = record {
   postal = postal_less s e (reverse past) (rw (reverse_more e past) at world.postal);
   nodes = λ p lt.
-      (run_less (row p) (start_node s p) p e past (after (row p) (start_node s p) (own p (reverse past))) refl (world.nodes p lt)).0;
+      (run_less (row p) (start_keeping s p) p e past (after (row p) (start_keeping s p) (own p (reverse past))) refl (world.nodes p lt)).0;
   coordinator = (run_less coordinator_table (start_coordinator s.nodes) s.nodes e past (coordinator_in s past) (coordinator_after s past) world.coordinator).0;
   client = (run_less (client_table s) (start_client s) (client_of s) e past (client_in s past) (client_after s past) world.client).0;
 }
@@ -222,7 +221,7 @@ rows_less row s e past world = record {
 step_run : (s : ScriptData) (past : List Entry) → IsTableRun s (reverse past) → IsStepRun s past
 step_run s [] world = tt
 step_run s (e ∷ past) world =
-    let run = step_run s past (rows_less (node_row s) s e past world) in
+    let run = step_run s past (rows_less (keeping_row s) s e past world) in
     (may_follow s e past run world, run)
 
 pub steps : (s : ScriptData) (history : List Entry) → IsWorldRun s history → IsStepRun s (reverse history)

@@ -30,16 +30,18 @@ one_at f v q w r true is = omega arith
 one_at f v q w r false is = omega arith
 
 -- a number grows by no more than there are requests
+pub asked_all_most : (v : ℕ) (qs : List ℕ) (n : Numbers) (w r : ℕ) → (asked_all v qs n).asked w r ≤ n.asked w r + length qs
+asked_all_most v [] n w r = omega arith
+asked_all_most v (q ∷ qs) n w r =
+    omega (arith, asked_all_most v qs (asked_one v q n) w r, one_at n.asked v q w r ((w == v) && (r == q)) refl)
+
+addressees_few : (os : List Outgoing) → length (addressees os) ≤ length os
+addressees_few [] = omega arith
+addressees_few (o ∷ os) = omega (arith, addressees_few os)
+
 pub asked_most : (v : ℕ) (os : List Outgoing) (n : Numbers) (w q : ℕ)
     → (asked_all v (addressees os) n).asked w q ≤ n.asked w q + length os
-asked_most v [] n w q = omega arith
-asked_most v (o ∷ os) n w q =
-    omega (
-      arith,
-      asked_most v os (asked_one v o.to.0 n) w q,
-      one_at n.asked v o.to.0 w q
-          ((w == v) && (q == o.to.0)) refl,
-    )
+asked_most v os n w q = omega (arith, asked_all_most v (addressees os) n w q, addressees_few os)
 
 -- completions stay
 pub done_kept : (v : ℕ) (qs : List ℕ) (n : Numbers) → (asked_all v qs n).done ≡ n.done

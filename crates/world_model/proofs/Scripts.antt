@@ -4,6 +4,7 @@ use Rattle.std.specs.Prelude.{IsTrue, slice_get, unsigned_abs}
 use Rattle.std.specs.List.{AllByRecursion}
 use Rattle.script_parts.proofs.SubsOf.{only_update}
 use Rattle.commute_ops.specs.declared.kinds.TheConstants.{MOST_AMOUNT}
+use Rattle.script_parts.specs.Counts.{has_strict, one_strict, strict_trees}
 use Rattle.script_parts.specs.ScriptData.{ScriptData, subs_at, sub_at, node_of, ops_of, updates, is_update, reads, is_read}
 use Rattle.script_parts.specs.Valid.{IsValid, IsTree, IsSub, AreSubs, IsOp, trees_load}
 use Rattle.script_parts.specs.declared.parts.ItemRow.{ItemRow}
@@ -19,6 +20,19 @@ use Rattle.world_model.specs.Tables.{IsRunnable, is_run}
 pub record IsSound (s : ScriptData) : Type 0 where
   pub valid : IsValid s
   pub runnable : IsRunnable s
+
+-- such a script has no strict tree
+one_plain : (kind : TreeKind) → is_run kind ≡ true → one_strict kind ≡ 0
+one_plain trees.Update is = refl
+one_plain trees.Read is = refl
+one_plain trees.Strict is = absurd (cc is)
+
+none_strict : (ts : List Tree) → AllByRecursion (λ (t : Tree). IsTrue (is_run t.kind)) ts → strict_trees ts ≡ 0
+none_strict [] all = refl
+none_strict (t ∷ ts) all = omega (arith, one_plain t.kind all.0, none_strict ts all.1)
+
+pub plain_script : (s : ScriptData) → IsSound s → has_strict s ≡ false
+plain_script s sound = rw (none_strict s.trees sound.runnable.trees) refl
 
 -- subtransaction k of tree t
 pub record SubAt (s : ScriptData) (t k : ℕ) : Type 0 where

@@ -1,128 +1,59 @@
 -- Whatever letters an actor takes: its counters are small while its entries are few, and a coordinator keeps its number
 -- of nodes. No law of runs is needed.
-use Rattle.std.proofs.Common.{◌≡◌, ℕ, ◌+◌, ◌*◌, ◌<◌, ◌≤◌, ◌==◌, ◌&&◌, Bool, true, false, List, [], ◌∷◌, length, reverse, refl, sym, ◌∙◌, subst, arith, Option, Some, None}
+use Rattle.std.proofs.Common.{◌≡◌, ℕ, ◌+◌, ◌*◌, ◌<◌, ◌≤◌, ◌==◌, Bool, true, false, List, [], ◌∷◌, length, reverse, refl, sym, ap, ◌∙◌, subst, arith, Option, Some, None}
 use Rattle.std.specs.Prelude.{if◌then◌else◌, nat_lt}
-use Rattle.tv_base.specs.declared.numbers.Version.{Version}
-use Rattle.std.proofs.lemmas.List.{length-append, length-reverse}
+use Rattle.std.proofs.lemmas.List.{length-reverse}
 use Rattle.std.proofs.lemmas.List.Sums.{count_by-le-length, length-filter}
-use Rattle.letter_types.specs.declared.bodies.Body.{Body}
-use Rattle.letter_types.specs.declared.bodies.Body.TheVariants.{Root, Sub as SubLetter, Done, Turn, Show, Sweep, AskDone, AskAsked}
 use Rattle.letter_types.specs.declared.entries.Entry.{Entry}
 use Rattle.letter_types.specs.declared.entries.Letter.{Letter}
-use Rattle.letter_types.specs.declared.entries.Outgoing.{Outgoing}
+use Rattle.letter_types.specs.Kept.{brought}
 use Rattle.letter_types.specs.Letters.{own}
 use Rattle.letter_types.specs.Steps.{Out, still}
-use Rattle.world_model.specs.Apt.{is_apt, node_row, row, row_by_kind}
-use Rattle.world_model.specs.Notices.{values_of}
-use Rattle.pair_counters.specs.Numbers.{AllBelow, Numbers, asked_one, done_one, from_version}
-use Rattle.world_model.specs.Reads.{getting}
-use Rattle.world_model.specs.Named.{is_did, tree_kind_at}
-use Rattle.world_model.specs.Asked.{asked_ops, asked_version, tree_done}
-use Rattle.world_model.specs.Children.{addressees, done_letter, sub_letters}
-use Rattle.world_model.specs.Done.{counted_root, counted_sub, note_done, sub_sent}
-use Rattle.world_model.specs.Node.{Effect, Node}
-use Rattle.world_model.proofs.Addressed.{few_children}
-use Rattle.world_model.proofs.Requests.{asked_most, done_kept}
-use Rattle.script_parts.specs.ScriptData.{ScriptData, home_of, subs_at}
+use Rattle.pair_counters.specs.Numbers.{AllBelow, Numbers}
+use Rattle.script_parts.specs.ScriptData.{ScriptData}
 use Rattle.script_parts.specs.Valid.{IsValid}
-use Rattle.script_parts.specs.declared.parts.TreeKind.{TreeKind}
-use Rattle.script_parts.specs.declared.parts.TreeKind.TheVariants.{Update, Read, Strict}
-use Rattle.script_parts.proofs.SubsOf.{few_subs}
-use Rattle.world_model.specs.Updates.{touching}
+use Rattle.world_model.specs.Core.{Core}
+use Rattle.world_model.specs.Keeping.{Aptness, KeepingNode, brought_row, is_apt_there, keeping_row, kept_row}
 use Rattle.world_model.specs.Runs.{actor_in, after}
+use Rattle.world_model.specs.Strict.{CoreKeeping, core_keeping, is_core_apt}
 use Rattle.world_model.specs.Tables.{ActorData, NodeData, CoordinatorData, ClientData, actor_row, start_actor}
 use Rattle.world_model.specs.Taking.{CountsBelow, MOST_COUNTED}
-use Rattle.world_model.proofs.Orders.{row_plain}
 use Rattle.world_model.proofs.Back.{actor_leads}
-
--- each number of these grew by no more than that
-abbrev Grew : Numbers → Numbers → Type 0
-Grew old new = (v q : ℕ) → (new.asked v q ≤ old.asked v q + MOST_COUNTED) × (new.done v q ≤ old.done v q + MOST_COUNTED)
-
-stays : (n : Numbers) → Grew n n
-stays n v q = (omega arith, omega arith)
-
-up_by_one : (n : ℕ) (b : Bool) → (if b then n + 1 else n) ≤ n + 1
-up_by_one n true = omega arith
-up_by_one n false = omega arith
-
--- a subtransaction's requests and its completion
-sub_grew : (v q : ℕ) (os : List Outgoing) (n : Numbers) → length os ≤ MOST_COUNTED → Grew n (counted_sub v q os n)
-sub_grew v q os n le w r = (
-  omega (arith, asked_most v os n w r),
-  rw (done_kept v (addressees os) n) (omega (arith, up_by_one (n.done w r) ((w == v) && (r == q)))),
-)
-
--- a root's, which has one request more
-root_grew : (v p : ℕ) (os : List Outgoing) (n : Numbers) → length os + 1 ≤ MOST_COUNTED → Grew n (counted_root v p os n)
-root_grew v p os n le w r = (
-  omega (arith, asked_most v os (asked_one v p n) w r, up_by_one (n.asked w r) ((w == v) && (r == p))),
-  rw (done_kept v (addressees os) (asked_one v p n)) (omega (arith, up_by_one (n.done w r) ((w == v) && (r == p)))),
-)
-
-note_grew : (v q : ℕ) (n : Numbers) → Grew n (done_one v q n)
-note_grew v q n w r = (omega arith, omega (arith, up_by_one (n.done w r) ((w == v) && (r == q))))
-
-cut : (n : ℕ) (b : Bool) → (if b then 0 else n) ≤ n + MOST_COUNTED
-cut n true = omega arith
-cut n false = omega arith
-
-sweep_grew : (v : ℕ) (n : Numbers) → Grew n (record { asked = from_version v n.asked; done = from_version v n.done })
-sweep_grew v n w r = (cut (n.asked w r) (nat_lt w v), cut (n.done w r) (nat_lt w v))
+use Rattle.world_model.proofs.CoreCounts.{Grew, core_grew, stays}
+use Rattle.world_model.proofs.KeptThere.{IsCoreKeeping, OfKeeping, core_keeps}
+use Rattle.world_model.proofs.Orders.{row_plain}
 
 -- what a node's row makes of its counters
-abbrev RowGrew : Node → Out Node → Type 0
-RowGrew st out = Grew st.counts out.state.counts
+abbrev RowGrew : KeepingNode → Out KeepingNode → Type 0
+RowGrew n out = Grew n.core.node.counts out.state.core.node.counts
 
-pick : (st : Node) (b : Bool) (x y : Out Node) → RowGrew st x → RowGrew st y → RowGrew st (if b then x else y)
-pick st true x y l r = l
-pick st false x y l r = r
+pick : (n : KeepingNode) (b : Bool) (x y : Out KeepingNode) → RowGrew n x → RowGrew n y → RowGrew n (if b then x else y)
+pick n true x y l r = l
+pick n false x y l r = r
 
-done_grew : (s : ScriptData) (p from : ℕ) (v : Version) (raises : Bool) (e : Effect) (body : Body) (st : Node) → IsValid s
-    → RowGrew st (tree_done s p from v raises e body st)
-done_grew s p from v raises e (Root t) st valid =
-    root_grew v.0 p (sub_letters t.0 v.0 0 0 (subs_at s t.0)) st.counts
-    (omega (arith, few_subs s t.0 valid, few_children t.0 v.0 0 0 (subs_at s t.0)))
-done_grew s p from v raises e (SubLetter t k w) st valid =
-    sub_grew v.0 from (sub_sent s t.0 k.0 v.0 e.notice) st.counts
-    (omega (
-      arith,
-      few_subs s t.0 valid,
-      few_children t.0 v.0 k.0 0 (subs_at s t.0),
-      length-append (sub_letters t.0 v.0 k.0 0 (subs_at s t.0)) (done_letter (home_of s t.0) t.0 k.0 v.0 e.notice ∷ []),
-    ))
-done_grew s p from v raises e _ st valid = stays st.counts
+same_grew : (old new : Numbers) → new ≡ old → Grew old new
+same_grew old new is = subst (λ (k : Numbers). Grew old k) (sym is) (stays MOST_COUNTED old)
 
-tree_grew : (s : ScriptData) (p : ℕ) (st : Node) (from : ℕ) (body : Body) (kind : Option TreeKind) → IsValid s
-    → RowGrew st (row_by_kind s p st from body kind)
-tree_grew s p st from body (Some Update) valid =
-    let v : Version = asked_version st.turns.update body in
-    done_grew s p from v (nat_lt st.turns.update.0 v.0) (touching v (asked_ops s body) st.items) body st valid
-tree_grew s p st from body (Some Read) valid =
-    let v : Version = asked_version st.turns.read body in
-    done_grew s p from v false (getting v (asked_ops s body) st.items) body st valid
-tree_grew s p st from body (Some Strict) valid = stays st.counts
-tree_grew s p st from body None valid = stays st.counts
+-- a letter that is kept counts nothing
+kept_grew : (s : ScriptData) (p : ℕ) (l r : Letter) (n : KeepingNode) (found : Option CoreKeeping)
+    → OfKeeping (IsCoreKeeping n.core r.body) found → IsValid s → RowGrew n (kept_row s p l r n found)
+kept_grew s p l r n (Some k) so valid =
+    same_grew n.core.node.counts k.state.node.counts (ap (λ (c : Core). c.node.counts) so.turns_alone)
+kept_grew s p l r n None so valid = core_grew s p r.from.0 r.body n.core valid
 
-row_grew : (s : ScriptData) (p : ℕ) (st : Node) (from : ℕ) (body : Body) → IsValid s → RowGrew st (row s p st from body)
-row_grew s p st from (Root t) valid = tree_grew s p st from (Root t) (tree_kind_at s t.0) valid
-row_grew s p st from (SubLetter t k v) valid = tree_grew s p st from (SubLetter t k v) (tree_kind_at s t.0) valid
-row_grew s p st from (Done t k v notice) valid =
-    pick st (is_did notice) (note_done s from t.0 k.0 v.0 (values_of notice) st) (still st) (note_grew v.0 from st.counts) (stays st.counts)
-row_grew s p st from (Turn v) valid = stays st.counts
-row_grew s p st from (Show v) valid = stays st.counts
-row_grew s p st from (Sweep v) valid = sweep_grew v.0 st.counts
-row_grew s p st from (AskDone v k) valid = stays st.counts
-row_grew s p st from (AskAsked v k) valid = stays st.counts
-row_grew s p st from _ valid = stays st.counts
+brought_grew : (apt : Aptness) (s : ScriptData) (p : ℕ) (l : Letter) (n : KeepingNode) (found : Option Letter) → IsValid s
+    → RowGrew n (brought_row apt s p l n found)
+brought_grew apt s p l n None valid = stays MOST_COUNTED n.core.node.counts
+brought_grew apt s p l n (Some r) valid =
+    pick n (is_apt_there apt p n r) (kept_row s p l r n (core_keeping s n.core r.body)) (still n)
+    (kept_grew s p l r n (core_keeping s n.core r.body) (core_keeps s n.core r.body) valid) (stays MOST_COUNTED n.core.node.counts)
 
-node_grew : (s : ScriptData) (p : ℕ) (st : Node) (l : Letter) → IsValid s → RowGrew st (node_row s p st l)
-node_grew s p st l valid =
-    pick st (is_apt s p st l) (row s p st l.from.0 l.body) (still st) (row_grew s p st l.from.0 l.body valid) (stays st.counts)
+node_grew : (s : ScriptData) (p : ℕ) (n : KeepingNode) (l : Letter) → IsValid s → RowGrew n (keeping_row s p n l)
+node_grew s p n l valid = brought_grew (is_core_apt s p) s p l n (brought n.kept l l.body) valid
 
 -- what an actor keeps: a node's numbers are below m, and the coordinator is that of the script's nodes
 abbrev pub KeepsBelow : ScriptData → ℕ → ActorData → Type 0
-KeepsBelow s m (NodeData st) = AllBelow m st.counts
+KeepsBelow s m (NodeData n) = AllBelow m n.core.node.counts
 KeepsBelow s m (CoordinatorData c) = c.nodes ≡ s.nodes
 KeepsBelow s m (ClientData c) = Unit {0}
 
@@ -132,7 +63,8 @@ below_grew m old new grew below v q = (omega (arith, (grew v q).0, (below v q).0
 -- one step
 step_keeps : (s : ScriptData) (a m : ℕ) (d : ActorData) (l : Letter) → IsValid s → KeepsBelow s m d
     → KeepsBelow s (m + MOST_COUNTED) (actor_row s a d l).state
-step_keeps s a m (NodeData st) l valid keeps = below_grew m st.counts (node_row s a st l).state.counts (node_grew s a st l valid) keeps
+step_keeps s a m (NodeData n) l valid keeps =
+    below_grew m n.core.node.counts (keeping_row s a n l).state.core.node.counts (node_grew s a n l valid) keeps
 step_keeps s a m (CoordinatorData c) l valid keeps = (row_plain l.from.0 c l.body c.phase).nodes ∙ keeps
 step_keeps s a m (ClientData c) l valid keeps = tt
 
@@ -154,7 +86,7 @@ pub keeps : (s : ScriptData) (a : ℕ) (es : List Entry) → IsValid s
 keeps s a es valid = steps_keep s a 1 (start_actor s a) es valid (start_keeps_by s a (nat_lt a s.nodes) (a == s.nodes) refl refl)
 
 counts_below : (s : ScriptData) (m n : ℕ) (d : ActorData) → m ≤ n → KeepsBelow s m d → CountsBelow n d
-counts_below s m n (NodeData st) le below = λ v q. (omega (arith, (below v q).0), omega (arith, (below v q).1))
+counts_below s m n (NodeData k) le below = λ v q. (omega (arith, (below v q).0), omega (arith, (below v q).1))
 counts_below s m n (CoordinatorData c) le below = tt
 counts_below s m n (ClientData c) le below = tt
 

@@ -39,11 +39,6 @@ abbrev pub is_widely_timely : ScriptData → Node → Body → Bool
 is_widely_timely s st (Sweep v) = may_collect_all v st.items
 is_widely_timely s st _ = true
 
--- a letter is apt at a node that keeps versions without end
-abbrev pub is_widely_apt : ScriptData → ℕ → Node → Letter → Bool
-is_widely_apt s p st l =
-    is_named s p l.from.0 l.body && (is_new s st l.body && (is_widely_timely s st l.body && can_make s st l.body))
-
 -- the row of a letter that asks for a subtransaction of a tree of this kind
 abbrev pub row_by_kind : ScriptData → ℕ → Node → ℕ → Body → Option TreeKind → Out Node
 row_by_kind s p st from body (Some Update) = update_row s p st from body
@@ -66,7 +61,3 @@ row s p st from _ = still st
 -- what node p does with a letter: any that isn't apt changes and sends nothing
 abbrev pub node_row : ScriptData → ℕ → Node → Letter → Out Node
 node_row s p st l = if is_apt s p st l then row s p st l.from.0 l.body else still st
-
--- the same of a node that keeps versions without end
-abbrev pub wide_node_row : ScriptData → ℕ → Node → Letter → Out Node
-wide_node_row s p st l = if is_widely_apt s p st l then row s p st l.from.0 l.body else still st

@@ -10,8 +10,7 @@ use Rattle.nc_locks.specs.declared.modes.Lock.{Lock}
 use Rattle.script_parts.specs.ScriptData.{ScriptData}
 use Rattle.tree_home.specs.HeldAnswers.{HeldAnswers}
 use Rattle.world_model.specs.declared.refusal.Refusal.{Refusal}
-use Rattle.world_model.specs.Node.{Node}
-use Rattle.world_model.specs.Tables.{start_node}
+use Rattle.world_model.specs.Node.{Node, start_node}
 
 -- of each strict tree that is at home here the no of the least number, among the votes that have come
 abbrev pub Refusals : Type 0

@@ -1,4 +1,5 @@
 pub mod Tables
+pub mod Keeping
 pub mod Kept
 pub mod Taking
 pub mod Runs
@@ -22,3 +23,5 @@ pub mod Core
 pub mod Decisions
 pub mod Strict
 pub mod Votes
+pub mod AllApt
+pub mod Calls

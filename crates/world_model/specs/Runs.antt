@@ -8,10 +8,10 @@ use Rattle.letter_types.specs.Postal.{IsMessageRun, delivery_of}
 use Rattle.letter_types.specs.Steps.{Out}
 use Rattle.script_parts.specs.ScriptData.{ScriptData, client_of}
 use Rattle.world_model.specs.Node.{Node}
-use Rattle.world_model.specs.Apt.{node_row}
+use Rattle.world_model.specs.Keeping.{KeepingNode, keeping_row, start_keeping}
 use Rattle.world_model.specs.Coordinator.{Coordinator, start_coordinator}
 use Rattle.world_model.specs.Client.{Client, start_client}
-use Rattle.world_model.specs.Tables.{ActorData, NodeData, CoordinatorData, ClientData, start_node, start_actor, actor_row, wide_actor_row, coordinator_table, client_table}
+use Rattle.world_model.specs.Tables.{ActorData, NodeData, CoordinatorData, ClientData, start_actor, actor_row, wide_actor_row, coordinator_table, client_table}
 
 -- The public shape: the letters went as letters do, and each actor's own entries, in order, are a run of its table.
 
@@ -51,9 +51,14 @@ actor_after s h a = after (actor_row s a) (start_actor s a) (own a h)
 abbrev pub in_flight : ScriptData → List Entry → List Letter
 in_flight s past = in_flight_for (client_of s) past
 
+abbrev pub keeping_in : ScriptData → List Entry → ℕ → KeepingNode
+keeping_in s [] p = start_keeping s p
+keeping_in s (e ∷ past) p =
+    if e.actor.0 == p then (keeping_row s p (keeping_in s past p) e.took).state else keeping_in s past p
+
+-- what commuting trees see of a node
 abbrev pub node_in : ScriptData → List Entry → ℕ → Node
-node_in s [] p = start_node s p
-node_in s (e ∷ past) p = if e.actor.0 == p then (node_row s p (node_in s past p) e.took).state else node_in s past p
+node_in s past p = (keeping_in s past p).core.node
 
 abbrev pub coordinator_in : ScriptData → List Entry → Coordinator
 coordinator_in s [] = start_coordinator s.nodes
@@ -68,7 +73,7 @@ client_in s (e ∷ past) =
 -- actor a after a past: the nodes, then the coordinator, then the client
 abbrev pub actor_in : ScriptData → List Entry → ℕ → ActorData
 actor_in s past a =
-    if nat_lt a s.nodes then NodeData (node_in s past a)
+    if nat_lt a s.nodes then NodeData (keeping_in s past a)
     else if a == s.nodes then CoordinatorData (coordinator_in s past) else ClientData (client_in s past)
 
 -- the table says these letters and these acts
@@ -77,7 +82,7 @@ Says out e = (e.sent ≡ out.sent) × (e.acts ≡ out.acts)
 
 -- whose step an entry is
 pub data Moves (s : ScriptData) (past : List Entry) (e : Entry) : Type 0 where
-  AtNode : e.actor.0 < s.nodes → Says (node_row s e.actor.0 (node_in s past e.actor.0) e.took) e → Moves s past e
+  AtNode : e.actor.0 < s.nodes → Says (keeping_row s e.actor.0 (keeping_in s past e.actor.0) e.took) e → Moves s past e
   AtCoordinator : e.actor.0 ≡ s.nodes → Says (coordinator_table (coordinator_in s past) e.took) e → Moves s past e
   AtClient : e.actor.0 ≡ client_of s → Says (client_table s (client_in s past) e.took) e → Moves s past e
 

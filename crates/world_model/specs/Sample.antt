@@ -10,9 +10,9 @@ use Rattle.script_parts.specs.declared.parts.TreeKind.TheVariants.{Update, Read}
 use Rattle.letter_types.specs.declared.entries.Letter.{Letter}
 use Rattle.letter_types.specs.declared.entries.Entry.{Entry}
 use Rattle.letter_types.specs.Steps.{Out}
-use Rattle.world_model.specs.Apt.{node_row}
+use Rattle.world_model.specs.Keeping.{keeping_row}
 use Rattle.world_model.specs.Tables.{client_table, coordinator_table}
-use Rattle.world_model.specs.Runs.{in_flight, node_in, coordinator_in, client_in}
+use Rattle.world_model.specs.Runs.{in_flight, keeping_in, coordinator_in, client_in}
 
 -- an actor takes a letter, and its table says this
 abbrev pub entry_by : {St : Type 0} → List Entry → Letter → Out St → Entry
@@ -26,7 +26,7 @@ entry_by past l out = record {
 
 abbrev pub entry_of : ScriptData → List Entry → Letter → Entry
 entry_of s past l =
-    if nat_lt l.to.0 s.nodes then entry_by past l (node_row s l.to.0 (node_in s past l.to.0) l)
+    if nat_lt l.to.0 s.nodes then entry_by past l (keeping_row s l.to.0 (keeping_in s past l.to.0) l)
     else if l.to.0 == s.nodes then entry_by past l (coordinator_table (coordinator_in s past) l)
     else entry_by past l (client_table s (client_in s past) l)
 

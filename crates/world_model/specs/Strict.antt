@@ -32,7 +32,7 @@ use Rattle.script_parts.specs.declared.parts.TreeKind.TheVariants.{Update, Read,
 use Rattle.tree_home.specs.Homes.{misses}
 use Rattle.tree_home.specs.HeldAnswers.{HeldAnswers, acked, answer_when_acked, held_in, holding}
 use Rattle.tree_home.specs.declared.homes.Answered.{Answered}
-use Rattle.world_model.specs.Apt.{can_make, row}
+use Rattle.world_model.specs.Apt.{can_make, is_widely_timely, row}
 use Rattle.world_model.specs.Asked.{asked_ops, asked_version, tree_part}
 use Rattle.world_model.specs.declared.refusal.Refusal.{Refusal}
 use Rattle.world_model.specs.Core.{Core, Refusals, refused_by, in_core}
@@ -243,6 +243,14 @@ is_core_apt s p c l =
     && (is_named s p l.from.0 l.body
     && (is_new s c.node l.body && is_unheld l.body c.holds
     && (is_timely s c.node l.body && decides_near s c.node l.body && can_make_at s p c l.body)))
+
+-- a letter is apt at a node that keeps versions without end
+abbrev pub is_widely_core_apt : ScriptData → ℕ → Core → Letter → Bool
+is_widely_core_apt s p c l =
+    (has_strict s || not (is_of_strict l.body))
+    && (is_named s p l.from.0 l.body
+    && (is_new s c.node l.body && is_unheld l.body c.holds
+    && (is_widely_timely s c.node l.body && can_make_at s p c l.body)))
 
 -- what a core makes of a letter that it doesn't keep
 abbrev pub core_step : ScriptData → ℕ → Core → Letter → Out Core

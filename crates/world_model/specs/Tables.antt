@@ -1,13 +1,7 @@
 -- How each actor begins, and what it does with a letter: one table for all of them.
-use Rattle.std.specs.Prelude.{if◌then◌else◌, ℕ, Bool, true, false, ◌==◌, ◌+◌, nat_lt, List, [], ◌∷◌, IsTrue}
+use Rattle.std.specs.Prelude.{if◌then◌else◌, ℕ, Bool, true, false, ◌==◌, nat_lt, IsTrue}
 use Rattle.std.specs.List.{AllByRecursion}
-use Rattle.commute_ops.specs.Ops.{value_start}
-use Rattle.item_versions.specs.Table.{Table}
-use Rattle.node_versions.specs.Turns.{turns_start as first_turns}
-use Rattle.pair_counters.specs.Numbers.{none}
-use Rattle.tree_home.specs.Homes.{no_trees}
 use Rattle.script_parts.specs.ScriptData.{ScriptData}
-use Rattle.script_parts.specs.declared.parts.ItemRow.{ItemRow}
 use Rattle.script_parts.specs.declared.parts.ScriptRow.{ScriptRow}
 use Rattle.script_parts.specs.declared.parts.ScriptRow.TheVariants.{Tree as TreeRow, Settle as SettleRow, Advance as AdvanceRow, Lose as LoseRow}
 use Rattle.script_parts.specs.declared.parts.Tree.{Tree}
@@ -15,32 +9,20 @@ use Rattle.script_parts.specs.declared.parts.TreeKind.{TreeKind}
 use Rattle.script_parts.specs.declared.parts.TreeKind.TheVariants.{Update, Read, Strict}
 use Rattle.letter_types.specs.declared.entries.Letter.{Letter}
 use Rattle.letter_types.specs.Steps.{Out}
-use Rattle.world_model.specs.Node.{Node}
-use Rattle.world_model.specs.Apt.{node_row, wide_node_row}
+use Rattle.world_model.specs.Keeping.{KeepingNode, keeping_row, start_keeping, wide_keeping_row}
 use Rattle.world_model.specs.Coordinator.{Coordinator, start_coordinator, coordinator_row}
 use Rattle.world_model.specs.Client.{Client, start_client, client_row}
 
--- the items at node p, where the list begins with item x: each in version 0 with its initial value
-abbrev pub items_at : ℕ → ℕ → List ItemRow → Table
-items_at p x [] = []
-items_at p x (r ∷ rs) =
-    if r.node.0 == p
-    then (record { 0 = x }, (record { 0 = 0 }, value_start r.kind r.initial) ∷ []) ∷ items_at p (x + 1) rs
-    else items_at p (x + 1) rs
-
-abbrev pub start_node : ScriptData → ℕ → Node
-start_node s p = record { turns = first_turns; items = items_at p 0 s.items; counts = none; homes = no_trees }
-
 -- the state of an actor, as its table sees it
 pub data ActorData : Type 0 where
-  NodeData : Node → ActorData
+  NodeData : KeepingNode → ActorData
   CoordinatorData : Coordinator → ActorData
   ClientData : Client → ActorData
 
 -- actor a at the start: the nodes come first, then the coordinator, then the client
 abbrev pub start_actor : ScriptData → ℕ → ActorData
 start_actor s a =
-    if nat_lt a s.nodes then NodeData (start_node s a)
+    if nat_lt a s.nodes then NodeData (start_keeping s a)
     else if a == s.nodes then CoordinatorData (start_coordinator s.nodes) else ClientData (start_client s)
 
 -- what comes of a letter, seen as the state of an actor
@@ -56,13 +38,13 @@ client_table s c l = client_row s c l.body
 
 -- what actor a does with a letter
 abbrev pub actor_row : ScriptData → ℕ → ActorData → Letter → Out ActorData
-actor_row s a (NodeData st) l = as_actor NodeData (node_row s a st l)
+actor_row s a (NodeData n) l = as_actor NodeData (keeping_row s a n l)
 actor_row s a (CoordinatorData c) l = as_actor CoordinatorData (coordinator_table c l)
 actor_row s a (ClientData c) l = as_actor ClientData (client_table s c l)
 
 -- the same by the wider aptness, which has no window of versions
 abbrev pub wide_actor_row : ScriptData → ℕ → ActorData → Letter → Out ActorData
-wide_actor_row s a (NodeData st) l = as_actor NodeData (wide_node_row s a st l)
+wide_actor_row s a (NodeData n) l = as_actor NodeData (wide_keeping_row s a n l)
 wide_actor_row s a (CoordinatorData c) l = as_actor CoordinatorData (coordinator_table c l)
 wide_actor_row s a (ClientData c) l = as_actor ClientData (client_table s c l)
 
