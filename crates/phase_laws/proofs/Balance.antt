@@ -31,7 +31,6 @@ use Rattle.world_model.specs.Runs.{node_in, MayFollow, IsStepRun}
 use Rattle.world_model.proofs.Bags.{sealed_tally, tally-append, one_if_most}
 use Rattle.world_model.proofs.Outstanding.{NoWakes, done_most, outstanding_first, outstanding_step}
 use Rattle.world_model.proofs.EachOutstanding.{done_to}
-use Rattle.world_model.proofs.NothingKept.{of_done_is}
 use Rattle.world_model.proofs.Every.{each_append}
 use Rattle.phase_laws.specs.Balance.{MOST_COUNTED, version_is, goes_between, out}
 use Rattle.world_model.proofs.Nexts.{Next, Begins, Hears, Ends, Coordinates, DoesRoot, DoesSub, Notes, Obeys, Made, Order, Turns as TurnsTo, Shows as ShowsTo, Sweeps as SweepsTo, TellsDone, TellsAsked, Tells, DoesBody}
@@ -39,7 +38,7 @@ use Rattle.world_model.proofs.Scripts.{IsSound, SubAt, is_tree, subs_here}
 use Rattle.phase_laws.proofs.Levels.{sweeps_rise}
 use Rattle.world_model.proofs.Lawful.{IsLawful}
 use Rattle.world_model.specs.Timely.{AllTimely}
-use Rattle.world_model.proofs.Worked.{of_done_here}
+use Rattle.world_model.proofs.Worked.{is_itself, itself_done, of_done_here, order_itself}
 use Rattle.phase_laws.proofs.Counters.{AreOf, children_few, children_of, counted, more_is, replies_uncounted, root_asked, root_completed, sub_asked, sub_completed}
 use Rattle.phase_laws.proofs.Moves.{Counts, DoesLetter, RowCounts, apart, by_node, sent_on, uncounted_goes}
 
@@ -82,7 +81,7 @@ root_row s h t v w from body effect st answer few none is = record {
 }
 
 -- what a subtransaction sends is counted
-sent_of : (s : ScriptData) (t k w : ℕ) (notice : Notice) → AreOf w (sub_sent s t k w notice)
+pub sent_of : (s : ScriptData) (t k w : ℕ) (notice : Notice) → AreOf w (sub_sent s t k w notice)
 sent_of s t k w notice =
     each_append (λ (o : Outgoing). (v : ℕ) → version_is v o.body ≡ (w == v)) (sub_letters t w k 0 (subs_at s t))
     (done_letter (home_of s t) t k w notice ∷ []) (children_of t w k 0 (subs_at s t)) ((λ v. refl), tt)
@@ -138,7 +137,7 @@ row_for : (h v from : ℕ) (body is : Body) (st : Node) (row : Out Node) → bod
 row_for h v from body is st row eq counts = subst (λ (b : Body). RowCounts h v from b st row) (sym eq) counts
 
 -- An order counts nothing.
-quiet_row : (h v from : ℕ) (body : Body) (st : Node) (row : Out Node) → version_is v body ≡ false
+pub quiet_row : (h v from : ℕ) (body : Body) (st : Node) (row : Out Node) → version_is v body ≡ false
     → ((q : ℕ) → row.state.turns.low.0 ≤ v → row.state.counts.asked v q ≡ st.counts.asked v q)
     → ((p : ℕ) → row.state.turns.low.0 ≤ v → row.state.counts.done v p ≡ st.counts.done v p)
     → ((q : ℕ) → row.state.counts.asked v q ≤ st.counts.asked v q)
@@ -153,14 +152,14 @@ quiet_row h v from body st row none asked done less_asked less_done sent = recor
   few = λ q. omega (arith, sent q);
 }
 
-cut_at : (w v q : ℕ) (f : ℕ → ℕ → ℕ) → w ≤ v → from_version w f v q ≡ f v q
+pub cut_at : (w v q : ℕ) (f : ℕ → ℕ → ℕ) → w ≤ v → from_version w f v q ≡ f v q
 cut_at w v q f le = let kept : nat_lt v w ≡ false = grind (arith, nat_tests) in rw kept refl
 
 cut_most_by : (b : Bool) (n : ℕ) → (if b then 0 else n) ≤ n
 cut_most_by true n = omega arith
 cut_most_by false n = omega arith
 
-cut_most : (w v q : ℕ) (f : ℕ → ℕ → ℕ) → from_version w f v q ≤ f v q
+pub cut_most : (w v q : ℕ) (f : ℕ → ℕ → ℕ) → from_version w f v q ≤ f v q
 cut_most w v q f = cut_most_by (nat_lt v w) (f v q)
 
 order_row : (s : ScriptData) (h v from : ℕ) (body : Body) (st : Node) (out : Out Node) → Order s st body out
@@ -197,9 +196,10 @@ tells_uncounted v (Decide t w commit) tells = absurd tells
 tells_uncounted v (Decided t w) tells = absurd tells
 tells_uncounted v _ tells = refl
 
--- nothing is kept yet, so an entry does the letter that it took
-took_done : (s : ScriptData) (past : List Entry) (e : Entry) → e.took.to.0 ≡ e.actor.0 → DoesLetter s past e e.took
-took_done s past e to = record { is = λ f. of_done_is f s past e; to = to }
+-- an order is done itself, and a notice
+took_done : (s : ScriptData) (past : List Entry) (e : Entry) → is_itself e.took.body ≡ true → e.took.to.0 ≡ e.actor.0
+    → DoesLetter s past e e.took
+took_done s past e itself to = record { is = λ f. itself_done f s past e itself; to = to }
 
 -- the letter that asks for a root or another subtransaction
 does_letter : (s : ScriptData) (past : List Entry) (e : Entry) (b : Body) → IsStepRun s (e ∷ past) → DoesBody s past e b
@@ -218,7 +218,7 @@ counts_by s past e v sound run (Ends w is at made) =
 counts_by s past e v sound run (Coordinates tells at made) =
     apart s past e v run.0.addressee (omega arith) (tells_uncounted v e.took.body tells)
 counts_by s past e v sound run (Obeys h out at lt order made) =
-    by_node s past e e.took h v out made at (took_done s past e run.0.addressee) (order_row s h v e.took.from.0 e.took.body (node_in s past h) out order)
+    by_node s past e e.took h v out made at (took_done s past e (order_itself s (node_in s past h) e.took.body out order) run.0.addressee) (order_row s h v e.took.from.0 e.took.body (node_in s past h) out order)
 counts_by s past e v sound run (DoesRoot t w effect is sub at lt none work made) =
     let h = home_of s t.0 in
     let st = node_in s past h in
@@ -241,7 +241,7 @@ counts_by s past e v sound run (Notes t k w values is sub later from at lt misse
     let st = node_in s past h in
     let row = note_done s e.took.from.0 t.0 k.0 w.0 values st in
     let answer = answer_noted t k values st.homes in
-    by_node s past e e.took h v row made at (took_done s past e run.0.addressee)
+    by_node s past e e.took h v row made at (took_done s past e (ap is_itself is) run.0.addressee)
     (row_for h v e.took.from.0 e.took.body (Done t k w (Did values)) st row is
     (note_row s h v e.took.from.0 t k w values st answer refl))
 
@@ -267,7 +267,7 @@ flow s past e v p q m =
     )
 
 -- A low version never falls.
-rises_at : (s : ScriptData) (past : List Entry) (e : Entry) (h : ℕ) (out : Out Node) → Made s past e h out
+pub rises_at : (s : ScriptData) (past : List Entry) (e : Entry) (h : ℕ) (out : Out Node) → Made s past e h out
     → e.actor.0 ≡ h
     → (node_in s past h).turns.low.0 ≤ out.state.turns.low.0 → (q : ℕ) → (h ≡ q) ⊎ (h ≢ q)
     → (node_in s past q).turns.low.0 ≤ (node_in s (e ∷ past) q).turns.low.0
@@ -278,7 +278,7 @@ rises_at s past e h out made at le q (inl is) =
 rises_at s past e h out made at le q (inr ne) =
     let same = ap (λ (st : Node). st.turns.low.0) (node_kept s past e q (λ is. ne (sym at ∙ is))) in omega (arith, same)
 
-raised_low : (b : Bool) (v : Version) (turns : Turns)
+pub raised_low : (b : Bool) (v : Version) (turns : Turns)
     → (if b then record turns { update = v } else turns).low.0 ≡ turns.low.0
 raised_low true v turns = refl
 raised_low false v turns = refl
@@ -297,7 +297,7 @@ order_rises s st body out (TellsDone w k bd is) up =
 order_rises s st body out (TellsAsked w k bd is) up =
     subst (λ (o : Out Node). st.turns.low.0 ≤ o.state.turns.low.0) (sym is) (omega arith)
 
-rises_apart : (s : ScriptData) (past : List Entry) (e : Entry) (q : ℕ) → s.nodes ≤ e.actor.0 → q < s.nodes
+pub rises_apart : (s : ScriptData) (past : List Entry) (e : Entry) (q : ℕ) → s.nodes ≤ e.actor.0 → q < s.nodes
     → (node_in s past q).turns.low.0 ≤ (node_in s (e ∷ past) q).turns.low.0
 rises_apart s past e q outside lt =
     let same = ap (λ (st : Node). st.turns.low.0) (node_kept s past e q (omega arith)) in omega (arith, same)

@@ -32,7 +32,7 @@ use Rattle.world_model.proofs.Every.{coordinator_kept, each_append, each_both, e
 use Rattle.world_model.proofs.Lawful.{IsLawful}
 use Rattle.world_model.proofs.Nexts.{Next, Begins, Hears, Ends, Coordinates, DoesRoot, DoesSub, Notes, Obeys, Order, Turns as TurnsTo, Shows as ShowsTo, Sweeps as SweepsTo, TellsDone, TellsAsked, RootWork, RootUpdates, RootReads}
 use Rattle.world_model.proofs.Orders.{coordinator_nodes, of, to_nodes_each}
-use Rattle.world_model.proofs.Scripts.{SubAt, reads_alone}
+use Rattle.world_model.proofs.Scripts.{SubAt, plain_script, reads_alone}
 use Rattle.world_model.proofs.EachOutstanding.{each_waits, each_outstanding, each_done}
 use Rattle.world_model.proofs.NothingKept.{outstanding_is}
 use Rattle.world_model.specs.Kept.{outstanding, done_by}
@@ -219,7 +219,7 @@ letters_ended s past e v out laws run timely was at bd last moved is next most r
     (each_map _ (λ (l : Letter). LevelBody s out.state.phase (c.update + 1) l.body) left
     (λ l here. level_further s out.state.phase c.update l.body here.0 here.1.0 here.1.1.0 most here.1.1.1) all) new in
     let all_after : Each (λ (l : Letter). LevelBody s out.state.phase (c.update + 1) l.body) (outstanding s (e ∷ past)) =
-    subst (Each (λ (l : Letter). LevelBody s out.state.phase (c.update + 1) l.body)) (sym (outstanding_is s (e ∷ past))) after in
+    subst (Each (λ (l : Letter). LevelBody s out.state.phase (c.update + 1) l.body)) (sym (outstanding_is s (e ∷ past) (plain_script s laws.sound))) after in
     subst (λ (d : Coordinator). LettersAt s (e ∷ past) d) (sym moved)
     (subst (λ (n : ℕ). Each (λ (l : Letter). LevelBody s out.state.phase n l.body) (outstanding s (e ∷ past))) (sym next) all_after)
 

@@ -10,6 +10,8 @@ pub mod Current
 pub mod Counters
 pub mod Moves
 pub mod Balance
+pub mod CoreCounts
+pub mod AptBalance
 pub mod Sending
 pub mod Silence
 pub mod Steps

@@ -68,22 +68,27 @@ took_here v p q l eq = let is : (l.to.0 == q) ≡ true = grind (arith, nat_tests
 pub uncounted_goes : (v p q : ℕ) (l : Letter) → version_is v l.body ≡ false → goes_between v p q l ≡ 0
 uncounted_goes v p q l is = rw is refl
 
--- the entry of the coordinator or the client
-pub apart : (s : ScriptData) (past : List Entry) (e : Entry) (v : ℕ) → e.took.to.0 ≡ e.actor.0 → s.nodes ≤ e.actor.0
-    → version_is v e.took.body ≡ false → Counts s past e v
-apart s past e v to outside none = record {
+-- the entry of the coordinator or the client, which does no letter to a node
+pub aside : (s : ScriptData) (past : List Entry) (e : Entry) (v : ℕ) → e.took.to.0 ≡ e.actor.0 → s.nodes ≤ e.actor.0
+    → Counts s past e v
+aside s past e v to outside = record {
   self = λ p q. 0;
   asked = λ p q lt low.
       rw (node_kept s past e p (omega arith)) (omega (arith, sent_elsewhere e.actor.0 v p q e.sent (omega arith)));
   done = λ p q lt low.
-      rw (node_kept s past e q (omega arith)) (omega (arith, done_apart (goes_between v p q) s past e outside, uncounted_goes v p q e.took none));
+      rw (node_kept s past e q (omega arith)) (omega (arith, done_apart (goes_between v p q) s past e outside, took_elsewhere v p q e.took (omega arith)));
   asked_most = λ p q lt.
       rw (node_kept s past e p (omega arith)) (omega (arith, sent_elsewhere e.actor.0 v p q e.sent (omega arith)));
   done_most = λ p q lt.
-      rw (node_kept s past e q (omega arith)) (omega (arith, done_apart (goes_between v p q) s past e outside, uncounted_goes v p q e.took none));
+      rw (node_kept s past e q (omega arith)) (omega (arith, done_apart (goes_between v p q) s past e outside, took_elsewhere v p q e.took (omega arith)));
   little = λ p q. omega arith;
   few = λ p q lt. omega (arith, sent_elsewhere e.actor.0 v p q e.sent (omega arith));
 }
+
+-- where the letter isn't counted
+pub apart : (s : ScriptData) (past : List Entry) (e : Entry) (v : ℕ) → e.took.to.0 ≡ e.actor.0 → s.nodes ≤ e.actor.0
+    → version_is v e.took.body ≡ false → Counts s past e v
+apart s past e v to outside none = aside s past e v to outside
 
 -- The entry of a node.
 

@@ -1,4 +1,5 @@
 pub mod Phases
 pub mod Advances
 pub mod Balance
+pub mod Apt
 pub mod Quiet

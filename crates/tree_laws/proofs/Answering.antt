@@ -33,7 +33,7 @@ answers_tree t k values hs a miss is =
     let there = home_there t k hs miss in
     (answer-is t k values hs there.0 a there.1 is).0
 
-one_here : (t u : ℕ) → t ≡ u → one_if (t == u) ≡ 1
+pub one_here : (t u : ℕ) → t ≡ u → one_if (t == u) ≡ 1
 one_here t u is = grind (arith, nat_tests)
 
 -- an answer is a reply to its tree alone

@@ -21,7 +21,7 @@ use Rattle.world_model.specs.Tables.{IsRunnable}
 use Rattle.tree_laws.proofs.Good.{IsGood}
 use Rattle.tree_laws.proofs.Goods.{good_run, next_of}
 use Rattle.world_model.proofs.Nexts.{Next, Begins, Hears, Ends, Coordinates, DoesRoot, DoesSub, Notes, Obeys, Order, Turns, Shows, Sweeps, TellsDone, TellsAsked, RootWork, RootUpdates, RootReads, SubWork, SubUpdates, SubReads}
-use Rattle.world_model.proofs.Scripts.{IsSound, SubAt, not_strict, read_kind_at, sub_below, update_kind_at}
+use Rattle.world_model.proofs.Scripts.{IsSound, SubAt, not_strict, plain_script, read_kind_at, sub_below, update_kind_at}
 use Rattle.tree_laws.proofs.Steps.{timely_at, turns_by, shows_by, sweeps_by, tells_done_by, tells_asked_by}
 use Rattle.world_model.specs.Timely.{AllTimely, WasTimely}
 use Rattle.world_model.proofs.NothingKept.{done_is}
@@ -73,11 +73,11 @@ apt_by s past e sound good m was node (Ends v is at made) = absurd (omega arith)
 apt_by s past e sound good m was node (Coordinates tells at made) = absurd (omega arith)
 apt_by s past e sound good m was node (Obeys p out at lt order made) = at_actor s past e p at (obeys_apt s past e p out was at lt order)
 apt_by s past e sound good m was node (DoesRoot t v effect is c at lt new work made) =
-    at_actor s past e (home_of s t.0) at (root_apt s past e t v effect (took_body s past e (Root t) is) c new work)
+    at_actor s past e (home_of s t.0) at (root_apt s past e t v effect (took_body s past e (Root t) (plain_script s sound) is) c new work)
 apt_by s past e sound good m was node (DoesSub t k v raises effect is c later from at lt work made) =
-    let took = took_body s past e (SubLetter t k v) is in
+    let took = took_body s past e (SubLetter t k v) (plain_script s sound) is in
     let near = timely_at s past e (node_of s t.0 k.0) (SubLetter t k v) was at lt took in
-    let sender = subst (λ (l : Letter). l.from.0 < s.nodes) (done_is s past e) from in
+    let sender = subst (λ (l : Letter). l.from.0 < s.nodes) (done_is s past e (plain_script s sound)) from in
     at_actor s past e (node_of s t.0 k.0) at (sub_apt s past e t k v raises effect took c sender near work)
 apt_by s past e sound good m was node (Notes t k v values is c later from at lt miss made) =
     let st = node_in s past (home_of s t.0) in

@@ -25,8 +25,10 @@ use Rattle.world_model.proofs.Fits.{IsFit, IsSentFit, rows_fit, each_take, each_
 use Rattle.world_model.proofs.Flows.{flow, submit_none, finish_none}
 use Rattle.tree_laws.proofs.Flows.{letters_next}
 use Rattle.tree_laws.proofs.Good.{IsGood, TreeAt, Unborn, Gathers, Answered}
-use Rattle.tree_laws.proofs.Kept.{Idle, idle_roots, idle_subs, idle_born, idle_items, heard_same, stay_in, took_asks}
+use Rattle.tree_laws.proofs.Kept.{Idle, idle_roots, idle_subs, idle_born, idle_items, heard_same, stay_in}
 use Rattle.world_model.proofs.Nexts.{MadeByClient}
+use Rattle.letter_types.specs.declared.entries.Letter.{Letter}
+use Rattle.world_model.proofs.Outstanding.{done_apart}
 use Rattle.world_model.proofs.Scripts.{IsSound, has_root, node_below}
 use Rattle.world_model.proofs.Sends.{on}
 use Rattle.tree_laws.proofs.Sent.{roots_alone, roots_of_rows, tally_take_more, not_here}
@@ -79,7 +81,7 @@ submits_idle : (s : ScriptData) (past : List Entry) (e : Entry) (c : Client) (fi
 submits_idle s past e c first sub = record {
   did = λ u i. ap (λ xs. tally (is_did_act u i) xs) sub.made.acts ∙ finish_none (is_did_act u i) (client_finishes s (next_after s c) c) refl;
   born = λ u. ap (λ xs. tally (is_born u) xs) sub.made.acts ∙ finish_none (is_born u) (client_finishes s (next_after s c) c) refl;
-  took = λ u i. took_asks s past e u i ∙ sub.took u i;
+  took = λ u i. let at = sub.at in done_apart (λ (l : Letter). asks u i l.body) s past e (omega arith) ∙ sub.took u i;
   sends = λ u i lt. omega (arith, sent_parts (asks u i) s past e c first sub, sub.no_asks u i, roots_alone s u i (new_rows s c) lt);
   rows = rows_next s past e c first sub;
   items = λ p lt. let at = sub.at in stay_in s past e p (ap (λ n. n.items) (node_kept s past e p (omega arith)));

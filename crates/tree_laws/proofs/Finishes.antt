@@ -26,9 +26,10 @@ use Rattle.tree_laws.proofs.Goods.{good_run}
 use Rattle.tree_laws.proofs.Client.{IsStopped, at_rest, finish_count}
 use Rattle.tree_laws.proofs.Counts.{zero_or, parent_at}
 use Rattle.tree_laws.proofs.Sent.{rooted_once, tally_take_le}
-use Rattle.tree_laws.proofs.Good.{IsGood, TreeAt, Unborn, Gathers, Answered, is_noted}
+use Rattle.tree_laws.proofs.Good.{IsGood, TreeAt, Unborn, Gathers, Answered}
+use Rattle.tree_laws.specs.Stages.{is_noted}
 use Rattle.world_model.specs.Timely.{AllTimely}
-use Rattle.world_model.proofs.Scripts.{IsSound, SubAt, sub_there, is_sub}
+use Rattle.world_model.proofs.Scripts.{IsSound, SubAt, plain_script, sub_there, is_sub}
 use Rattle.world_model.proofs.NothingKept.{outstanding_is}
 use Rattle.world_model.specs.Kept.{outstanding}
 
@@ -38,8 +39,8 @@ use Rattle.world_model.specs.Kept.{outstanding}
 pub none_left : (f : Letter → ℕ) (s : ScriptData) (past : List Entry) → in_flight s past ≡ [] → tally f (in_flight s past) ≡ 0
 none_left f s past empty = ap (λ (ls : List Letter). tally f ls) empty
 
-pub none_asked : (f : Letter → ℕ) (s : ScriptData) (past : List Entry) → in_flight s past ≡ [] → tally f (outstanding s past) ≡ 0
-none_asked f s past empty = ap (λ (ls : List Letter). tally f ls) (outstanding_is s past) ∙ none_left f s past empty
+pub none_asked : (f : Letter → ℕ) (s : ScriptData) (past : List Entry) → IsSound s → in_flight s past ≡ [] → tally f (outstanding s past) ≡ 0
+none_asked f s past sound empty = ap (λ (ls : List Letter). tally f ls) (outstanding_is s past (plain_script s sound)) ∙ none_left f s past empty
 
 -- one more subtransaction of a tree whose root was done
 done_by : (s : ScriptData) (past : List Entry) (n t k : ℕ) (c : SubAt s t k) → IsSound s → IsGood s past
@@ -76,7 +77,7 @@ tree_done_by s past t sound good empty lt root (Gathers h one here same missing 
     let (k, kt, at) = place_missing h.notices missing in
     let c : SubAt s t k = sub_there s t k lt (omega (arith, kt, same)) in
     let unnoted : is_noted (slice_get h.notices k) ≡ 0 = ap is_noted at in
-    let done = done_below s past (k + 1) t k c sound good (λ j more. none_asked (λ (l : Letter). asks t j l.body) s past empty) root (omega arith) in
+    let done = done_below s past (k + 1) t k c sound good (λ j more. none_asked (λ (l : Letter). asks t j l.body) s past sound empty) root (omega arith) in
     absurd (omega (arith, noted k c, unnoted, done, none_left (λ (l : Letter). tells_done t k l.body) s past empty))
 tree_done_by s past t sound good empty lt root (Answered gone one untold done) = record { answered = one; done = done }
 
@@ -84,7 +85,7 @@ tree_done_by s past t sound good empty lt root (Answered gone one untold done) =
 pub tree_done : (s : ScriptData) (past : List Entry) (t : ℕ) → IsSound s → IsGood s past → in_flight s past ≡ [] → t < length s.trees
     → 1 ≤ roots_sent t (take (client_in s past).next s.rows) → TreeDone s past t
 tree_done s past t sound good empty lt row =
-    let root : 1 ≤ dids past t 0 = omega (arith, row, good.roots t lt, none_asked (λ (l : Letter). asks t 0 l.body) s past empty) in
+    let root : 1 ≤ dids past t 0 = omega (arith, row, good.roots t lt, none_asked (λ (l : Letter). asks t 0 l.body) s past sound empty) in
     tree_done_by s past t sound good empty lt root (good.stages t lt)
 
 -- The rows.

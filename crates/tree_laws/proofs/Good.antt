@@ -1,26 +1,21 @@
 -- What holds in every past of a run.
-use Rattle.std.proofs.Common.{◌≡◌, ℕ, ◌+◌, ◌<◌, ◌≤◌, false, List, length, take, Option, Some, None}
+use Rattle.std.proofs.Common.{◌≡◌, ℕ, ◌+◌, ◌<◌, ◌≤◌, false, List, length, take, Some, None}
 use Rattle.std.specs.Prelude.{get_or, slice_get}
 use Rattle.letter_types.specs.declared.entries.Entry.{Entry}
 use Rattle.letter_types.specs.declared.entries.Letter.{Letter}
-use Rattle.tree_home.specs.Homes.{Gets, home_in, missing_count}
+use Rattle.tree_home.specs.Homes.{home_in, missing_count}
 use Rattle.tree_home.specs.declared.homes.OpenTree.{OpenTree}
 use Rattle.tx_trees.specs.ScriptData.{ScriptData, subs_at, home_of}
 use Rattle.tx_trees.specs.Valid.{initial_load}
 use Rattle.world_model.specs.Counts.{one_if, Each}
 use Rattle.world_model.specs.Kept.{outstanding}
 use Rattle.world_model.specs.Runs.{client_in, node_in}
+use Rattle.tree_laws.specs.Stages.{is_noted}
 use Rattle.tree_laws.specs.Dids.{letters_asking, dids, births, notices, replies, answers, roots_sent}
 use Rattle.world_model.proofs.Fits.{IsFit}
 use Rattle.tree_laws.proofs.Loads.{trees_done}
 use Rattle.world_model.proofs.Scripts.{SubAt}
 use Rattle.tree_laws.proofs.Tables.{TableIn}
-
--- a notice that was taken down
-abbrev pub is_noted : Option (Option Gets) → ℕ
-is_noted None = 0
-is_noted (Some None) = 0
-is_noted (Some (Some values)) = 1
 
 -- how far tree t has come at its home: it isn't born; or its notices are gathered and one is missing; or it is
 -- answered, and all of it is done

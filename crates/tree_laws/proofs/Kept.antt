@@ -19,7 +19,6 @@ use Rattle.tree_laws.specs.Dids.{asks, letters_asking, is_did_act, is_born, dids
 use Rattle.tree_laws.proofs.Counts.{bounds_with, with_one, load_more}
 use Rattle.world_model.proofs.Fits.{IsFit, IsSentFit, children_fit}
 use Rattle.world_model.proofs.Flows.{flow, outstanding_flow}
-use Rattle.world_model.proofs.NothingKept.{of_done_is}
 use Rattle.tree_laws.proofs.Good.{IsGood, bound}
 use Rattle.tree_laws.proofs.Loads.{trees_same}
 use Rattle.world_model.proofs.Scripts.{IsSound, SubAt, is_sub, subs_here, node_below, tree_below}
@@ -30,10 +29,6 @@ use Rattle.tree_laws.proofs.Tables.{TableIn, table_more}
 -- whether the letter that an entry does asks for subtransaction i of tree u
 abbrev pub done_asks : ScriptData → List Entry → Entry → ℕ → ℕ → ℕ
 done_asks s past e u i = of_done (λ (l : Letter). asks u i l.body) s past e
-
--- nothing is kept yet, so that is the letter that it took
-pub took_asks : (s : ScriptData) (past : List Entry) (e : Entry) (u i : ℕ) → done_asks s past e u i ≡ asks u i e.took.body
-took_asks s past e u i = of_done_is (λ (l : Letter). asks u i l.body) s past e
 
 -- no subtransaction is done and no child asked for; roots are asked for as rows are submitted; the items keep to the
 -- bounds that they kept to

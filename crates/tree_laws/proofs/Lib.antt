@@ -40,3 +40,14 @@ pub mod OwnDeeds
 pub mod Waits
 pub mod SampledReads
 pub mod Numbers
+pub mod Turns
+pub mod AptSteps
+pub mod AptTurns
+pub mod AptVersions
+pub mod AptDecisions
+pub mod AptStages
+pub mod AptStagesRows
+pub mod AptStagesSteps
+pub mod AptStagesOwn
+pub mod AptStagesApart
+pub mod AptStagesRun

@@ -25,7 +25,7 @@ use Rattle.tree_laws.proofs.Counts.{at_most_once, not_done, one_here, was_asked}
 use Rattle.world_model.proofs.Fits.{IsFit}
 use Rattle.tree_laws.proofs.Good.{IsGood}
 use Rattle.world_model.proofs.Nexts.{Next, Begins, Hears, Ends, Coordinates, DoesRoot, DoesSub, Notes, Obeys, Turns, Shows, Sweeps, TellsDone, TellsAsked, RootUpdates, RootReads, SubUpdates, SubReads}
-use Rattle.world_model.proofs.Scripts.{IsSound, SubAt, has_root, sub_there, sub_below, tree_below, tree_kind, node_below, not_strict, update_kind_at, read_kind_at}
+use Rattle.world_model.proofs.Scripts.{IsSound, SubAt, has_root, plain_script, sub_there, sub_below, tree_below, tree_kind, node_below, not_strict, update_kind_at, read_kind_at}
 use Rattle.tree_laws.proofs.Stages.{no_home, misses_notice}
 use Rattle.world_model.proofs.Apts.{update_root_row, read_root_row, update_sub_row, read_sub_row, notice_row}
 use Rattle.tree_laws.proofs.Steps.{made, made_by_client, made_by_coordinator, hear_row, timely_at, turns_by, shows_by, sweeps_by, tells_done_by, tells_asked_by}
@@ -40,7 +40,7 @@ use Rattle.tree_laws.proofs.Works.{update_can, read_can}
 -- the letter taken asks for subtransaction k of tree t
 taken_asks : (s : ScriptData) (past : List Entry) (e : Entry) (t k : ℕ) (b : Body) → SubAt s t k → IsSound s → IsGood s past → MayFollow s past e
     → e.took.body ≡ b → asks t k b ≡ 1 → dids past t k ≡ 0
-taken_asks s past e t k b c sound good m is one = not_done s past t k c sound good (was_asked s past e t k m (ap (asks t k) (does_body s past e b is).body ∙ one))
+taken_asks s past e t k b c sound good m is one = not_done s past t k c sound good (was_asked s past e t k m (ap (asks t k) (does_body s past e b (plain_script s sound) is).body ∙ one))
 
 -- A root.
 root_next : (s : ScriptData) (past : List Entry) (e : Entry) (t : TreeNo) → SubAt s t.0 0 → IsSound s → IsGood s past → MayFollow s past e
@@ -52,8 +52,8 @@ root_next s past e t c sound good m is at (inl up) =
     let new = no_home s past t.0 none (good.stages t.0 (tree_below s t.0 0 c)) in
     let can = update_can s past t.0 0 st.turns.update c sound good none up in
     let effect = touching st.turns.update (ops_of s t.0 0) st.items in
-    DoesRoot t st.turns.update effect (does_body s past e (Root t) is) c at lt new (RootUpdates up refl can refl)
-    (made s past e (home_of s t.0) (root_done s (home_of s t.0) t.0 st.turns.update.0 effect st) lt at m
+    DoesRoot t st.turns.update effect (does_body s past e (Root t) (plain_script s sound) is) c at lt new (RootUpdates up refl can refl)
+    (made s past e (home_of s t.0) (root_done s (home_of s t.0) t.0 st.turns.update.0 effect st) lt at m (plain_script s sound)
     (update_root_row s st e.took t is (update_kind_at s t.0 0 c up) new can))
 root_next s past e t c sound good m is at (inr up) =
     let st = node_in s past (home_of s t.0) in
@@ -62,20 +62,20 @@ root_next s past e t c sound good m is at (inr up) =
     let new = no_home s past t.0 none (good.stages t.0 (tree_below s t.0 0 c)) in
     let can = read_can s past t.0 0 st.turns.read c sound good up in
     let effect = getting st.turns.read (ops_of s t.0 0) st.items in
-    DoesRoot t st.turns.read effect (does_body s past e (Root t) is) c at lt new (RootReads up refl can refl)
-    (made s past e (home_of s t.0) (root_done s (home_of s t.0) t.0 st.turns.read.0 effect st) lt at m
+    DoesRoot t st.turns.read effect (does_body s past e (Root t) (plain_script s sound) is) c at lt new (RootReads up refl can refl)
+    (made s past e (home_of s t.0) (root_done s (home_of s t.0) t.0 st.turns.read.0 effect st) lt at m (plain_script s sound)
     (read_root_row s st e.took t is (read_kind_at s t.0 0 c up) new can))
 
 -- Another subtransaction.
 
--- nothing is kept yet, so the letter that is done came from whom that came which was taken
-done_from : (s : ScriptData) (past : List Entry) (e : Entry) → e.took.from.0 < s.nodes → (done_by s past e).from.0 < s.nodes
-done_from s past e from = subst (λ (l : Letter). l.from.0 < s.nodes) (sym (done_is s past e)) from
+-- the letter that is done came from whom that came which was taken
+done_from : (s : ScriptData) (past : List Entry) (e : Entry) → IsSound s → e.took.from.0 < s.nodes → (done_by s past e).from.0 < s.nodes
+done_from s past e sound from = subst (λ (l : Letter). l.from.0 < s.nodes) (sym (done_is s past e (plain_script s sound))) from
 
-sub_from : (s : ScriptData) (past : List Entry) (e : Entry) (t : TreeNo) (k : SubNo) (v : Version) (raises : Bool) (effect : Effect) (st : Node)
+sub_from : (s : ScriptData) (past : List Entry) (e : Entry) → IsSound s → (t : TreeNo) (k : SubNo) (v : Version) (raises : Bool) (effect : Effect) (st : Node)
     → sub_done s e.took.from.0 t.0 k.0 v.0 raises effect st ≡ sub_done s (done_by s past e).from.0 t.0 k.0 v.0 raises effect st
-sub_from s past e t k v raises effect st =
-    ap (λ (l : Letter). sub_done s l.from.0 t.0 k.0 v.0 raises effect st) (sym (done_is s past e))
+sub_from s past e sound t k v raises effect st =
+    ap (λ (l : Letter). sub_done s l.from.0 t.0 k.0 v.0 raises effect st) (sym (done_is s past e (plain_script s sound)))
 
 sub_next : (s : ScriptData) (past : List Entry) (e : Entry) (t : TreeNo) (k : SubNo) (v : Version) → SubAt s t.0 k.0 → 0 < k.0 → IsSound s
     → IsGood s past → MayFollow s past e → e.took.body ≡ SubLetter t k v → e.actor.0 ≡ node_of s t.0 k.0 → e.took.from.0 < s.nodes → is_near (node_in s past (node_of s t.0 k.0)) v ≡ true
@@ -87,21 +87,21 @@ sub_next s past e t k v c later sound good m is at from near (inl up) =
     let can = update_can s past t.0 k.0 v c sound good none up in
     let raises = nat_lt st.turns.update.0 v.0 in
     let effect = touching v (ops_of s t.0 k.0) st.items in
-    DoesSub t k v raises effect (does_body s past e (SubLetter t k v) is) c later (done_from s past e from) at lt
+    DoesSub t k v raises effect (does_body s past e (SubLetter t k v) (plain_script s sound) is) c later (done_from s past e sound from) at lt
     (SubUpdates up refl can refl)
-    (made s past e (node_of s t.0 k.0) (sub_done s (done_by s past e).from.0 t.0 k.0 v.0 raises effect st) lt at m
+    (made s past e (node_of s t.0 k.0) (sub_done s (done_by s past e).from.0 t.0 k.0 v.0 raises effect st) lt at m (plain_script s sound)
     (update_sub_row s st e.took t k v is (update_kind_at s t.0 k.0 c up) from near can
-    ∙ sub_from s past e t k v raises effect st))
+    ∙ sub_from s past e sound t k v raises effect st))
 sub_next s past e t k v c later sound good m is at from near (inr up) =
     let st = node_in s past (node_of s t.0 k.0) in
     let lt = node_below s t.0 k.0 c sound in
     let can = read_can s past t.0 k.0 v c sound good up in
     let effect = getting v (ops_of s t.0 k.0) st.items in
-    DoesSub t k v false effect (does_body s past e (SubLetter t k v) is) c later (done_from s past e from) at lt
+    DoesSub t k v false effect (does_body s past e (SubLetter t k v) (plain_script s sound) is) c later (done_from s past e sound from) at lt
     (SubReads up refl can refl)
-    (made s past e (node_of s t.0 k.0) (sub_done s (done_by s past e).from.0 t.0 k.0 v.0 false effect st) lt at m
+    (made s past e (node_of s t.0 k.0) (sub_done s (done_by s past e).from.0 t.0 k.0 v.0 false effect st) lt at m (plain_script s sound)
     (read_sub_row s st e.took t k v is (read_kind_at s t.0 k.0 c up) from near can
-    ∙ sub_from s past e t k v false effect st))
+    ∙ sub_from s past e sound t k v false effect st))
 
 -- A notice.
 was_told : (s : ScriptData) (past : List Entry) (e : Entry) (t k : ℕ) → MayFollow s past e → tells_done t k e.took.body ≡ 1 → 1 ≤ notices s past t k
@@ -120,7 +120,7 @@ note_next s past e t k v (Did values) c later sound good m is at from near did =
     let told = was_told s past e t.0 k.0 m (ap (tells_done t.0 k.0) is ∙ one_here t.0 k.0) in
     let missing = misses_notice s past t.0 k.0 c (at_most_once s past t.0 k.0 c sound good) told (good.stages t.0 (tree_below s t.0 k.0 c)) in
     Notes t k v values is c later from at lt missing
-    (made s past e (home_of s t.0) (note_done s e.took.from.0 t.0 k.0 v.0 values st) lt at m
+    (made s past e (home_of s t.0) (note_done s e.took.from.0 t.0 k.0 v.0 values st) lt at m (plain_script s sound)
     (notice_row s st e.took t k v values is (not_strict s t.0 k.0 c sound) (sub_below s t.0 k.0 c) from
     near))
 
@@ -154,23 +154,23 @@ next_by s past e sound good m was (AskedRow v k row) is fit = Coordinates (rw is
 next_by s past e sound good m was (Turn v) is fit =
     let p = e.actor.0 in
     let row = (turns_by s p (node_in s past p) e.took v is (timely_at s past e p (Turn v) was refl fit is)).1 in
-    Obeys p (turn_row s v (node_in s past p)) refl fit (Turns v is refl) (made s past e p (turn_row s v (node_in s past p)) fit refl m row)
+    Obeys p (turn_row s v (node_in s past p)) refl fit (Turns v is refl) (made s past e p (turn_row s v (node_in s past p)) fit refl m (plain_script s sound) row)
 next_by s past e sound good m was (Show v) is fit =
     let p = e.actor.0 in
     let row = (shows_by s p (node_in s past p) e.took v is (timely_at s past e p (Show v) was refl fit is)).1 in
-    Obeys p (show_row s v (node_in s past p)) refl fit (Shows v is refl) (made s past e p (show_row s v (node_in s past p)) fit refl m row)
+    Obeys p (show_row s v (node_in s past p)) refl fit (Shows v is refl) (made s past e p (show_row s v (node_in s past p)) fit refl m (plain_script s sound) row)
 next_by s past e sound good m was (Sweep v) is fit =
     let p = e.actor.0 in
     let row = (sweeps_by s p (node_in s past p) e.took v is (timely_at s past e p (Sweep v) was refl fit is)).1 in
-    Obeys p (sweep_row s v (node_in s past p)) refl fit (Sweeps v is refl) (made s past e p (sweep_row s v (node_in s past p)) fit refl m row)
+    Obeys p (sweep_row s v (node_in s past p)) refl fit (Sweeps v is refl) (made s past e p (sweep_row s v (node_in s past p)) fit refl m (plain_script s sound) row)
 next_by s past e sound good m was (AskDone v k) is fit =
     let p = e.actor.0 in
     let row = (tells_done_by s p (node_in s past p) e.took v k is).1 in
-    Obeys p (done_row s v k (node_in s past p)) refl fit (TellsDone v k is refl) (made s past e p (done_row s v k (node_in s past p)) fit refl m row)
+    Obeys p (done_row s v k (node_in s past p)) refl fit (TellsDone v k is refl) (made s past e p (done_row s v k (node_in s past p)) fit refl m (plain_script s sound) row)
 next_by s past e sound good m was (AskAsked v k) is fit =
     let p = e.actor.0 in
     let row = (tells_asked_by s p (node_in s past p) e.took v k is).1 in
-    Obeys p (asked_row s v k (node_in s past p)) refl fit (TellsAsked v k is refl) (made s past e p (asked_row s v k (node_in s past p)) fit refl m row)
+    Obeys p (asked_row s v k (node_in s past p)) refl fit (TellsAsked v k is refl) (made s past e p (asked_row s v k (node_in s past p)) fit refl m (plain_script s sound) row)
 next_by s past e sound good m was _ is fit = absurd fit
 
 -- an entry that may follow, with a letter in time, is one of these

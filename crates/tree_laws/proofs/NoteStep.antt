@@ -23,12 +23,13 @@ use Rattle.world_model.proofs.Fits.{IsSentFit, IsFit}
 use Rattle.world_model.proofs.Flows.{same_part, client_kept}
 use Rattle.tree_laws.proofs.Flows.{letters_next, no_notice}
 use Rattle.tree_laws.proofs.Good.{IsGood, TreeAt}
-use Rattle.tree_laws.proofs.Kept.{Idle, idle_roots, idle_subs, idle_born, idle_items, heard_same, same_heard, stay_in, took_asks}
+use Rattle.tree_laws.proofs.Kept.{Idle, idle_roots, idle_subs, idle_born, idle_items, heard_same, same_heard, stay_in}
 use Rattle.world_model.proofs.Nexts.{Made}
 use Rattle.tree_laws.proofs.Noting.{noted_keeps_others}
 use Rattle.world_model.proofs.Scripts.{IsSound, SubAt, tree_below}
 use Rattle.world_model.proofs.Sends.{on, replies_none}
 use Rattle.world_model.proofs.EachOutstanding.{each_waits}
+use Rattle.world_model.proofs.Worked.{is_itself, itself_done}
 use Rattle.letter_types.specs.declared.entries.Letter.{Letter}
 use Rattle.tree_laws.proofs.Sent.{other_tree}
 use Rattle.tree_laws.proofs.Staging.{Apart, stays, Notes, notes_stage}
@@ -60,7 +61,7 @@ note_idle s past e t k v values same is at made =
     record {
       did = λ u i. ap (λ xs. tally (is_did_act u i) xs) made.acts;
       born = λ u. ap (λ xs. tally (is_born u) xs) made.acts;
-      took = λ u i. took_asks s past e u i ∙ ap (asks u i) is;
+      took = λ u i. itself_done (λ (l : Letter). asks u i l.body) s past e (ap is_itself is) ∙ ap (asks u i) is;
       sends = λ u i lt. none u i;
       rows = λ u. rows_same s past e same u (none u 0);
       items = λ p lt. stay_in s past e p (same_part (λ (st : Node). st.items) s past e (home_of s t.0)

@@ -10,7 +10,7 @@ use Rattle.tree_home.specs.Homes.{answer_in, begun, forgotten, Gets, home_in, mi
 use Rattle.tree_home.proofs.Always.{begun-others, noted-others, forgotten-others, misses-begun, answered-exactly}
 use Rattle.world_model.specs.Notices.{homes_noted, answer_noted}
 use Rattle.tree_laws.proofs.Counts.{zero_or}
-use Rattle.tree_laws.proofs.Good.{is_noted}
+use Rattle.tree_laws.specs.Stages.{is_noted}
 
 -- a notice that was missing: others are still missing, or the tree is answered and gone
 pub data Noting (t : TreeNo) (k : SubNo) (values : Gets) (hs : OpenTrees) : Type 0 where

@@ -26,11 +26,13 @@ use Rattle.world_model.proofs.Flows.{client_kept, same_part}
 use Rattle.world_model.proofs.Nexts.{Made, MadeByCoordinator, Order, Turns, Shows, Sweeps, TellsDone, TellsAsked, Tells}
 use Rattle.world_model.proofs.Orders.{OfOrders, coordinator_each, coordinator_nodes, of}
 use Rattle.world_model.proofs.Scripts.{IsSound, has_root, node_below}
+use Rattle.world_model.proofs.Worked.{is_itself, itself_done, order_itself, tells_itself}
+use Rattle.letter_types.specs.declared.entries.Letter.{Letter}
 use Rattle.world_model.proofs.Sends.{on}
 use Rattle.tree_laws.specs.Dids.{asks, is_did_act, is_born, tells_done, replies_to}
 use Rattle.tree_laws.proofs.Flows.{letters_next}
 use Rattle.tree_laws.proofs.Good.{IsGood}
-use Rattle.tree_laws.proofs.Kept.{Idle, idle_roots, idle_subs, idle_born, idle_items, heard_same, same_heard, stay_in, took_asks}
+use Rattle.tree_laws.proofs.Kept.{Idle, idle_roots, idle_subs, idle_born, idle_items, heard_same, same_heard, stay_in}
 use Rattle.tree_laws.proofs.NoteStep.{rows_same}
 use Rattle.tree_laws.proofs.Staging.{Apart, stays}
 use Rattle.tree_laws.proofs.Tables.{TableIn, collected_table}
@@ -110,6 +112,7 @@ pub record ActsOfNone (f : Act → ℕ) : Type 0 where
 
 -- An entry that has nothing to do with trees.
 pub record Aside (s : ScriptData) (past : List Entry) (e : Entry) : Type 0 where
+  pub itself : is_itself e.took.body ≡ true
   pub took : (f : Body → ℕ) → OfTrees f → f e.took.body ≡ 0
   pub sent : (f : Body → ℕ) → OfTrees f → tally (on f) e.sent ≡ 0
   pub acts : (f : Act → ℕ) → ActsOfNone f → tally f e.acts ≡ 0
@@ -123,7 +126,7 @@ aside_idle : (s : ScriptData) (past : List Entry) (e : Entry) → Aside s past e
 aside_idle s past e a = record {
   did = λ u i. a.acts (is_did_act u i) (record { turned = λ v. refl; showed = λ v. refl; swept = λ v. refl });
   born = λ u. a.acts (is_born u) (record { turned = λ v. refl; showed = λ v. refl; swept = λ v. refl });
-  took = λ u i. took_asks s past e u i ∙ a.took (asks u i) (asks_trees u i);
+  took = λ u i. itself_done (λ (l : Letter). asks u i l.body) s past e a.itself ∙ a.took (asks u i) (asks_trees u i);
   sends = λ u i lt. a.sent (asks u i) (asks_trees u i);
   rows = λ u. rows_same s past e a.client u (a.sent (asks u 0) (asks_trees u 0));
   items = a.items;
@@ -197,6 +200,7 @@ coordinator_sends P s past e made h =
 pub coordinates_aside : (s : ScriptData) (past : List Entry) (e : Entry) → Tells e.took.body → e.actor.0 ≡ s.nodes
     → MadeByCoordinator s past e → Aside s past e
 coordinates_aside s past e tells at made = record {
+  itself = tells_itself e.took.body tells;
   took = λ f h. tells_none f h e.took.body tells;
   sent = λ f h. each_none (on f) e.sent (coordinator_sends (λ (to : ℕ) (b : Body). f b ≡ 0) s past e made (orders_none f s.nodes h));
   acts = λ f h. ap (λ xs. tally f xs) made.acts;
@@ -280,6 +284,7 @@ pub obeys_aside : (s : ScriptData) (past : List Entry) (e : Entry) (p : ℕ) (ou
 obeys_aside s past e p out at lt order made =
     let a = answers s p (node_in s past p) e.took.body out order in
     record {
+      itself = order_itself s (node_in s past p) e.took.body out order;
       took = a.took;
       sent = λ f h. ap (λ os. tally (on f) os) made.sent ∙ a.sent f h;
       acts = λ f h. ap (λ xs. tally f xs) made.acts ∙ a.acts f h;

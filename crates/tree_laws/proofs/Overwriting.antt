@@ -1,7 +1,7 @@
 -- Sets and draws keep to bounds as operations that commute do: what they overwrite may be, and what is held after them
 -- keeps to the greater bound. So a commit can always be applied.
-use Rattle.std.proofs.Common.{◌≡◌, ◌<◌, ℕ, ◌+◌, ◌≤◌, ◌==◌, Bool, true, false, List, [], ◌∷◌, ◌++◌, refl, sym, ap, subst, ◌∙◌, arith, Option, Some, None}
-use Rattle.std.specs.Prelude.{ℤ, ◌-ℤ◌, if◌then◌else◌, ◌&&◌, ◌||◌, nat_lt, not, slice_get, unsigned_abs}
+use Rattle.std.proofs.Common.{◌≡◌, ℕ, ◌+◌, ◌≤◌, ◌==◌, Bool, true, false, List, [], ◌∷◌, refl, sym, subst, arith, Option, Some, None}
+use Rattle.std.specs.Prelude.{ℤ, ◌-ℤ◌, if◌then◌else◌, nat_lt, slice_get, unsigned_abs}
 use Rattle.std.specs.List.{AllByRecursion}
 use Rattle.std.proofs.lemmas.Bool.Decides.{nat_tests}
 use Rattle.std.proofs.lemmas.Bool.{and_from}
@@ -23,11 +23,11 @@ use Rattle.tx_trees.specs.declared.parts.Deed.TheVariants.{Apply, Get, Set, Draw
 use Rattle.tx_trees.specs.declared.parts.ItemRow.{ItemRow}
 use Rattle.tx_trees.specs.declared.parts.SubOp.{SubOp}
 use Rattle.tx_trees.specs.declared.parts.TreeKind.TheVariants as trees
-use Rattle.world_model.specs.Decisions.{applied_in, can_apply, can_apply_op, can_overwrite, may_overwrite, overwritten, overwritten_in, sees_fit}
+use Rattle.world_model.specs.Decisions.{applied_in, can_apply, can_apply_op, can_overwrite, may_overwrite, overwritten_in, sees_fit}
 use Rattle.world_model.specs.Reads.{seen_in}
 use Rattle.world_model.proofs.Every.{each_append}
 use Rattle.tree_laws.proofs.Tables.{ItemIn, TableIn, bound_after, bounds_after, put_by, table_same}
-use Rattle.tree_laws.proofs.Values.{AllIn, HeldIn, ValueIn, all_more, filter_in, held_of_all, seen_in as seen_value, within}
+use Rattle.tree_laws.proofs.Values.{HeldIn, ValueIn, all_more, filter_in, held_of_all, seen_in as seen_value, within}
 
 -- One value.
 less : (z a : ℤ) (b : ℕ) → unsigned_abs z ≤ b → unsigned_abs (z -ℤ a) ≤ b + unsigned_abs a

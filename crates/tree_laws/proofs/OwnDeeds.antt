@@ -31,7 +31,7 @@ use Rattle.letter_types.specs.declared.entries.Entry.{Entry}
 use Rattle.letter_types.specs.Steps.{Out}
 use Rattle.world_model.specs.Reads.{seen_in}
 use Rattle.world_model.specs.Done.{note_done, raised_if, root_done, sub_done, turned_if}
-use Rattle.world_model.specs.Node.{Effect, Node}
+use Rattle.world_model.specs.Node.{Effect, Node, items_at, start_node}
 use Rattle.tx_trees.specs.ScriptData.{ScriptData, home_of, node_of, ops_of, updates}
 use Rattle.tx_trees.specs.declared.parts.ItemRow.{ItemRow}
 use Rattle.board_rules.specs.Histories.{Place, places_at, places_of, version_in, version_of}
@@ -40,7 +40,6 @@ use Rattle.board_rules.proofs.Places.{version_stays}
 use Rattle.tree_laws.specs.OwnValues.{value_after_act, is_up_to, own_acts, own_value, SeesOwn}
 use Rattle.world_model.specs.Counts.{Each}
 use Rattle.world_model.specs.Runs.{MayFollow, IsStepRun, node_in}
-use Rattle.world_model.specs.Tables.{items_at, start_node}
 use Rattle.world_model.specs.Timely.{AllTimely, WasTimely}
 use Rattle.world_model.proofs.Every.{node_kept}
 use Rattle.tree_laws.proofs.Good.{IsGood}

@@ -6,7 +6,8 @@ use Rattle.tree_home.specs.Homes.{Gets, home_in, misses, is_missing}
 use Rattle.tx_trees.specs.ScriptData.{ScriptData, home_of}
 use Rattle.world_model.specs.Runs.{node_in}
 use Rattle.tree_laws.specs.Dids.{dids, notices}
-use Rattle.tree_laws.proofs.Good.{TreeAt, Unborn, Gathers, Answered, is_noted}
+use Rattle.tree_laws.proofs.Good.{TreeAt, Unborn, Gathers, Answered}
+use Rattle.tree_laws.specs.Stages.{is_noted}
 use Rattle.world_model.proofs.Scripts.{SubAt, sub_below}
 
 -- a tree whose root isn't done has no home
@@ -17,7 +18,7 @@ no_home s past t none (Gathers h one home long some answers notes) = absurd (ome
 no_home s past t none (Answered home answers notes all) = home
 
 -- a notice that was not taken down is missing
-missing_at : (ns : List (Option Gets)) (k : ℕ) → k < length ns → is_noted (slice_get ns k) ≡ 0 → is_missing (slice_get ns k) ≡ true
+pub missing_at : (ns : List (Option Gets)) (k : ℕ) → k < length ns → is_noted (slice_get ns k) ≡ 0 → is_missing (slice_get ns k) ≡ true
 missing_at [] k lt none = absurd (omega arith)
 missing_at (None ∷ ns) zero lt none = refl
 missing_at (Some values ∷ ns) zero lt none = absurd (omega (arith, none))

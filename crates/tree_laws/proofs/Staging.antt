@@ -19,7 +19,8 @@ use Rattle.world_model.specs.Runs.{node_in, MayFollow}
 use Rattle.tree_laws.specs.Dids.{is_did_act, dids, tells_done, notices, replies_to, answers}
 use Rattle.tree_laws.proofs.Answering.{answers_tree, reply_one}
 use Rattle.world_model.proofs.Flows.{flow}
-use Rattle.tree_laws.proofs.Good.{TreeAt, Unborn, Gathers, Answered, is_noted}
+use Rattle.tree_laws.proofs.Good.{TreeAt, Unborn, Gathers, Answered}
+use Rattle.tree_laws.specs.Stages.{is_noted}
 use Rattle.tree_laws.proofs.Noting.{Noting, More, Last, noting, noted_same, noted_other, none_noted, all_noted, misses_root}
 use Rattle.world_model.proofs.Scripts.{SubAt, sub_below, sub_there, tree_below}
 use Rattle.world_model.proofs.Sends.{on}
@@ -76,24 +77,24 @@ pub record Begins (s : ScriptData) (past : List Entry) (e : Entry) (t : TreeNo) 
   pub notes : (k : ℕ) → tally (on (tells_done t.0 k)) e.sent ≡ 0
   pub new : home_in t hs ≡ None
 
-first_one : (t k : ℕ) → one_if ((t == t) && (0 == k)) ≡ one_if (0 == k)
+pub first_one : (t k : ℕ) → one_if ((t == t) && (0 == k)) ≡ one_if (0 == k)
 first_one t k = grind (arith, nat_tests)
 
 first_here : (k : ℕ) → k ≡ 0 → one_if (0 == k) ≡ 1
 first_here k is = grind (arith, nat_tests)
 
 -- notices that are all missing
-abbrev all_none : ℕ → List (Option Gets)
+abbrev pub all_none : ℕ → List (Option Gets)
 all_none n = replicate n None
 
-none_places : (n : ℕ) → length (all_none n) ≡ n
+pub none_places : (n : ℕ) → length (all_none n) ≡ n
 none_places n = length-replicate n None
 
 -- the notices of a tree that has begun, with its root's
 root_places : (n : ℕ) (values : Gets) → length (set (all_none n) 0 (Some values)) ≡ n
 root_places n values = length-set (all_none n) 0 (Some values) ∙ none_places n
 
-root_noted : (n k : ℕ) (values : Gets) → 0 < n → (k ≡ 0) ⊎ (k ≢ 0)
+pub root_noted : (n k : ℕ) (values : Gets) → 0 < n → (k ≡ 0) ⊎ (k ≢ 0)
     → is_noted (slice_get (set (all_none n) 0 (Some values)) k) ≡ one_if (0 == k)
 root_noted n k values lt (inl is) =
     let one : one_if (0 == k) ≡ 1 = grind (arith, nat_tests) in
@@ -147,10 +148,10 @@ pub record Notes (s : ScriptData) (past : List Entry) (e : Entry) (t : TreeNo) (
   pub notes : (i : ℕ) → tally (on (tells_done t.0 i)) e.sent ≡ 0
   pub past_end : (i : ℕ) → length (subs_at s t.0) ≤ i → notices s (e ∷ past) t.0 i ≡ 0
 
-told_one : (t k i : ℕ) → k ≡ i → one_if ((t == t) && (k == i)) ≡ 1
+pub told_one : (t k i : ℕ) → k ≡ i → one_if ((t == t) && (k == i)) ≡ 1
 told_one t k i is = grind (arith, nat_tests)
 
-told_none : (t k i : ℕ) → i ≢ k → one_if ((t == t) && (k == i)) ≡ 0
+pub told_none : (t k i : ℕ) → i ≢ k → one_if ((t == t) && (k == i)) ≡ 0
 told_none t k i ne = grind (arith, nat_tests)
 
 -- each notice is in flight or taken down

@@ -1,5 +1,5 @@
 -- What an actor makes of a letter that it may take, by its table.
-use Rattle.std.proofs.Common.{◌≡◌, ℕ, ◌<◌, ◌==◌, true, List, [], ◌∷◌, refl, ap, subst, ◌∙◌, arith}
+use Rattle.std.proofs.Common.{◌≡◌, ℕ, ◌<◌, ◌==◌, false, true, List, [], ◌∷◌, refl, ap, subst, ◌∙◌, arith}
 use Rattle.std.specs.Prelude.{length}
 use Rattle.std.proofs.lemmas.Bool.Decides.{nat_tests}
 use Rattle.std.proofs.lemmas.Bool.{lt-ltb}
@@ -11,6 +11,7 @@ use Rattle.letter_types.specs.declared.bodies.Body.TheVariants.{Reply, Turn, Sho
 use Rattle.letter_types.specs.declared.entries.Entry.{Entry}
 use Rattle.letter_types.specs.declared.entries.Letter.{Letter}
 use Rattle.letter_types.specs.Steps.{Out}
+use Rattle.tx_trees.specs.Counts.{has_strict}
 use Rattle.tx_trees.specs.ScriptData.{ScriptData, client_of}
 use Rattle.world_model.specs.Node.{Node}
 use Rattle.world_model.specs.Named.{is_timely}
@@ -33,10 +34,10 @@ made_by s past e p out at (Moved eq is says) row = record {
   acts = says.1 ∙ ap (λ (o : Out Node). o.acts) row;
 }
 
--- a node goes on by its row for the letter
+-- a node goes on, in a script without strict trees, by its row for the letter
 pub made : (s : ScriptData) (past : List Entry) (e : Entry) (p : ℕ) (out : Out Node) → p < s.nodes → e.actor.0 ≡ p
-    → MayFollow s past e → node_row s p (node_in s past p) e.took ≡ out → Made s past e p out
-made s past e p out lt at m row = made_by s past e p out at (node_next s past e p lt m) row
+    → MayFollow s past e → has_strict s ≡ false → node_row s p (node_in s past p) e.took ≡ out → Made s past e p out
+made s past e p out lt at m plain row = made_by s past e p out at (node_next s past e p lt m plain) row
 
 client_says : (s : ScriptData) (past : List Entry) (e : Entry) → e.actor.0 ≡ client_of s → Moves s past e
     → Says (client_table s (client_in s past) e.took) e

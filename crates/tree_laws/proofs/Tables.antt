@@ -18,7 +18,7 @@ use Rattle.tx_trees.specs.declared.parts.Deed.TheVariants.{Apply, Get, Set, Draw
 use Rattle.tx_trees.specs.declared.parts.ItemRow.{ItemRow}
 use Rattle.tx_trees.specs.declared.parts.SubOp.{SubOp}
 use Rattle.tx_trees.specs.declared.parts.TreeKind.TheVariants as trees
-use Rattle.world_model.specs.Tables.{items_at}
+use Rattle.world_model.specs.Node.{items_at}
 use Rattle.item_versions.specs.Collecting.{collected_all}
 use Rattle.tree_laws.proofs.Values.{HeldIn, collected_held, held_more, held_may, touched_held, start_value, value_more}
 use Rattle.world_model.specs.Updates.{may_make, table_after_deed, can_touch, table_after_ops}

@@ -37,7 +37,7 @@ use Rattle.world_model.proofs.Every.{coordinator_kept, each_append, each_step, e
 use Rattle.world_model.proofs.Fits.{each_drop, each_take}
 use Rattle.world_model.proofs.Flows.{same_part}
 use Rattle.world_model.proofs.Nexts.{Next, Begins as AnyBegins, Hears as AnyHears, Ends, Coordinates, DoesRoot as AnyRoot, DoesSub as AnySub, Notes as AnyNotes, Obeys, Made, MadeByClient, MadeByCoordinator, Order, Turns as TurnsBy, Shows, Sweeps, TellsDone, TellsAsked, Tells, RootWork, RootUpdates, RootReads, SubWork, SubUpdates, SubReads, DoesBody}
-use Rattle.world_model.proofs.Scripts.{IsSound, SubAt}
+use Rattle.world_model.proofs.Scripts.{IsSound, SubAt, plain_script}
 use Rattle.world_model.specs.Timely.{AllTimely, WasTimely}
 use Rattle.world_model.specs.Kept.{done_by}
 use Rattle.world_model.proofs.Worked.{took_body}
@@ -268,17 +268,17 @@ sub_keeps s past e t k v raises effect calm most at lt work made =
       coordinator = coordinator_kept s past e (omega (arith, at, lt));
     }
 
-calm_keeps : (s : ScriptData) (past : List Entry) (e : Entry) → advances_in s.rows ≡ 0 → Calm s past → CalmBody e.took.body
+calm_keeps : (s : ScriptData) (past : List Entry) (e : Entry) → IsSound s → advances_in s.rows ≡ 0 → Calm s past → CalmBody e.took.body
     → CalmNext s past e → Keeps s past e
-calm_keeps s past e none calm took (Begins is at made) = client_keeps s past e (client_in s past) [] none at tt made
-calm_keeps s past e none calm took (Hears t v answer is at lt made) =
+calm_keeps s past e sound none calm took (Begins is at made) = client_keeps s past e (client_in s past) [] none at tt made
+calm_keeps s past e sound none calm took (Hears t v answer is at lt made) =
     client_keeps s past e (with_answer t.0 (client_in s past)) (nudge s ∷ []) none at ((λ id. tt), tt) made
-calm_keeps s past e none calm took (Rests is at sent acts) = rests_keeps s past e calm is at sent
-calm_keeps s past e none calm took (DoesRoot t v effect is c at lt new work made) = root_keeps s past e t v effect calm at lt work made
-calm_keeps s past e none calm took (DoesSub t k v raises effect is c later from at lt work made) =
+calm_keeps s past e sound none calm took (Rests is at sent acts) = rests_keeps s past e calm is at sent
+calm_keeps s past e sound none calm took (DoesRoot t v effect is c at lt new work made) = root_keeps s past e t v effect calm at lt work made
+calm_keeps s past e sound none calm took (DoesSub t k v raises effect is c later from at lt work made) =
     sub_keeps s past e t k v raises effect calm
-    (subst (λ (x : Body). CalmBody x) (took_body s past e (SubLetter t k v) is) took) at lt work made
-calm_keeps s past e none calm took (Notes t k v values is c later from at lt miss made) =
+    (subst (λ (x : Body). CalmBody x) (took_body s past e (SubLetter t k v) (plain_script s sound) is) took) at lt work made
+calm_keeps s past e sound none calm took (Notes t k v values is c later from at lt miss made) =
     let st = node_in s past (home_of s t.0) in
     record {
       sent = subst (λ os. CalmSent os) (sym made.sent) (reply_calm (client_of s) (answer_noted t k values st.homes));
@@ -297,7 +297,7 @@ unadvanced s (e ∷ past) sound none run =
     let timely : AllTimely s (e ∷ past) = (calm_was s past e before.1 run.0, before.0) in
     let took = taken_calm s past e before.1 run.0 in
     let kind = calm_next s past e before.1 took (next_of s past e sound run timely) in
-    (timely, keeps_calm s past e before.1 (calm_keeps s past e none before.1 took kind))
+    (timely, keeps_calm s past e before.1 (calm_keeps s past e sound none before.1 took kind))
 
 -- what the last entry of such a run does
 pub calm_next_of : (s : ScriptData) (past : List Entry) (e : Entry) → IsSound s → advances_in s.rows ≡ 0 → IsStepRun s (e ∷ past)

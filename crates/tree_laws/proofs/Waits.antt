@@ -24,7 +24,7 @@ use Rattle.world_model.specs.Timely.{AllTimely}
 use Rattle.letter_types.specs.Steps.{Out}
 use Rattle.world_model.specs.Done.{turned_if}
 use Rattle.world_model.specs.Node.{Node}
-use Rattle.world_model.proofs.Scripts.{IsSound}
+use Rattle.world_model.proofs.Scripts.{IsSound, plain_script}
 use Rattle.world_model.specs.Notices.{values_of}
 use Rattle.world_model.proofs.Worked.{root_did, sub_did, took_body}
 use Rattle.tree_laws.proofs.Goods.{next_of}
@@ -61,19 +61,19 @@ obeys_at_once s st xs b out (TellsDone v k is row) = rw is tt
 obeys_at_once s st xs b out (TellsAsked v k is row) = rw is tt
 
 -- each kind of entry
-at_once : (s : ScriptData) (past : List Entry) (e : Entry) → Next s past e → IsDoneAtOnce s e.took.body (places_at e)
-at_once s past e (Begins is at made) = at_once_of s e Go e.acts is refl tt
-at_once s past e (Hears t v answer is at lt made) = at_once_of s e (Reply t v answer) e.acts is refl tt
-at_once s past e (Ends v is at made) = at_once_of s e (Advanced v) e.acts is refl tt
-at_once s past e (Coordinates tells at made) = told_at_once s (places_at e) e.took.body tells
-at_once s past e (Obeys p out at lt order made) = obeys_at_once s (node_in s past p) (places_at e) e.took.body out order
-at_once s past e (DoesRoot t v effect is sub at lt none work made) =
-    at_once_of s e (Root t) (Born t v ∷ Did t (record { 0 = 0 }) (values_of effect.notice) ∷ []) (took_body s past e (Root t) is) (root_did s past e t v effect work made)
+at_once : (s : ScriptData) (past : List Entry) (e : Entry) → IsSound s → Next s past e → IsDoneAtOnce s e.took.body (places_at e)
+at_once s past e sound (Begins is at made) = at_once_of s e Go e.acts is refl tt
+at_once s past e sound (Hears t v answer is at lt made) = at_once_of s e (Reply t v answer) e.acts is refl tt
+at_once s past e sound (Ends v is at made) = at_once_of s e (Advanced v) e.acts is refl tt
+at_once s past e sound (Coordinates tells at made) = told_at_once s (places_at e) e.took.body tells
+at_once s past e sound (Obeys p out at lt order made) = obeys_at_once s (node_in s past p) (places_at e) e.took.body out order
+at_once s past e sound (DoesRoot t v effect is sub at lt none work made) =
+    at_once_of s e (Root t) (Born t v ∷ Did t (record { 0 = 0 }) (values_of effect.notice) ∷ []) (took_body s past e (Root t) (plain_script s sound) is) (root_did s past e t v effect work made)
     (λ commutes. last_did e.actor.0 t (record { 0 = 0 }) (values_of effect.notice) (Born t v ∷ []))
-at_once s past e (DoesSub t k v raises effect is sub later from at lt work made) =
-    at_once_of s e (SubLetter t k v) (turned_if raises v.0 ++ Did t k (values_of effect.notice) ∷ []) (took_body s past e (SubLetter t k v) is) (sub_did s past e t k v raises effect work made)
+at_once s past e sound (DoesSub t k v raises effect is sub later from at lt work made) =
+    at_once_of s e (SubLetter t k v) (turned_if raises v.0 ++ Did t k (values_of effect.notice) ∷ []) (took_body s past e (SubLetter t k v) (plain_script s sound) is) (sub_did s past e t k v raises effect work made)
     (λ commutes. last_did e.actor.0 t k (values_of effect.notice) (turned_if raises v.0))
-at_once s past e (Notes t k v values is sub later from at lt misses made) =
+at_once s past e sound (Notes t k v values is sub later from at lt misses made) =
     at_once_of s e (Done t k v (DidNotice values)) e.acts is refl tt
 
 -- each entry of a history
@@ -81,7 +81,7 @@ all_at_once : (s : ScriptData) (past : List Entry) → IsSound s → IsStepRun s
 all_at_once s [] sound run timely = λ n e here. absurd (cc here)
 all_at_once s (e ∷ past) sound run timely =
     one_more (λ (h : List Entry) (x : Entry). IsDoneAtOnce s x.took.body (places_at x)) e past (all_at_once s past sound run.1 timely.1)
-    (at_once s past e (next_of s past e sound run timely))
+    (at_once s past e sound (next_of s past e sound run timely))
 
 -- nothing waits
 pub no_wait : (s : ScriptData) (past : List Entry) → IsValid s → IsRunnable s → IsStepRun s past → AllTimely s past → IsAtOnce s (reverse past)
