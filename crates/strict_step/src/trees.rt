@@ -1,5 +1,5 @@
 // Subtransactions of update and read trees.
-ghost use Rattle.std.specs.Prelude.{◌≡◌, IfOk, IsTrue};
+ghost use Rattle.std.specs.Prelude.{◌≡◌, is_some, IfOk, IfSome, IsTrue};
 ghost use Rattle.tree_home.specs.HeldAnswers.{held_answers};
 ghost use Rattle.world_model.specs.Strict.{is_unheld, marks_of, read_core, update_core};
 ghost use Rattle.read_step.specs.Rows.{can_read};
@@ -21,25 +21,27 @@ use tv_base::{NoMemory, TreeNo};
 use tx_trees::{Script, SubOp};
 use update_step::update_part;
 
-/// Prepares a subtransaction of a read tree whose operations may be made.
+/// Prepares a subtransaction of a read tree. None exactly where its operations may not be made.
 pub fn prepare_read_tree(
     alloc: Global,
     core: &NodeCore,
     letter: &Letter,
     script: &Script,
-) -> Result<CorePrepared, NoMemory>
+) -> Result<Option<CorePrepared>, NoMemory>
     // What the caller knows.
     requires ready { IsCoreReady script.now letter.now.to.0 core.now }
     requires due { IsTrue (is_due script.now letter.now.to.0 (data_of core.now.parts) letter.now.from.0 letter.now.body) }
     requires unheld { IsTrue (is_unheld letter.now.body (held_answers core.now.parts.homes)) }
-    requires can { IsTrue (can_read script.now (data_of core.now.parts) letter.now.body) }
     // What is made.
-    ensures { IfOk result (IsCoreStepOf (read_core script.now letter.now.to.0 letter.now.from.0 letter.now.body
-        (core_of core.now)) core.now) }
+    ensures can { IfOk result (λ found. is_some found ≡ can_read script.now (data_of core.now.parts) letter.now.body) }
+    ensures step { IfOk result (λ found. IfSome found (IsCoreStepOf (read_core script.now letter.now.to.0
+        letter.now.from.0 letter.now.body (core_of core.now)) core.now)) }
 {
-    let part = read_part(alloc, &core.parts, letter, script)?.unwrap();
+    let Some(part) = read_part(alloc, &core.parts, letter, script)? else {
+        return Ok(None);
+    };
     let prepared = answered_step(alloc, core, script, part, VoteChange::Stay)?;
-    Ok(prepared)
+    Ok(Some(prepared))
 }
 
 /// The marks that operations of an update tree take: none where there is no strict tree.
@@ -56,27 +58,29 @@ fn marks_of(alloc: Global, script: &Script, ops: &[SubOp]) -> Result<WantedLocks
     Ok(wanted)
 }
 
-/// Prepares a subtransaction of an update tree whose operations may be made: where there are strict trees it marks its
-/// items.
+/// Prepares a subtransaction of an update tree: where there are strict trees it marks its items. None exactly where its
+/// operations may not be made.
 pub fn prepare_update_tree(
     alloc: Global,
     core: &NodeCore,
     letter: &Letter,
     script: &Script,
     tree: TreeNo,
-) -> Result<CorePrepared, NoMemory>
+) -> Result<Option<CorePrepared>, NoMemory>
     // What the caller knows.
     requires ready { IsCoreReady script.now letter.now.to.0 core.now }
     requires due { IsTrue (is_due script.now letter.now.to.0 (data_of core.now.parts) letter.now.from.0 letter.now.body) }
     requires unheld { IsTrue (is_unheld letter.now.body (held_answers core.now.parts.homes)) }
-    requires can { IsTrue (can_update script.now (data_of core.now.parts) letter.now.body) }
     // What is made.
-    ensures { IfOk result (IsCoreStepOf (update_core script.now letter.now.to.0 letter.now.from.0 tree letter.now.body
-        (core_of core.now)) core.now) }
+    ensures can { IfOk result (λ found. is_some found ≡ can_update script.now (data_of core.now.parts) letter.now.body) }
+    ensures step { IfOk result (λ found. IfSome found (IsCoreStepOf (update_core script.now letter.now.to.0
+        letter.now.from.0 tree letter.now.body (core_of core.now)) core.now)) }
 {
-    let part = update_part(alloc, &core.parts, letter, script)?.unwrap();
+    let Some(part) = update_part(alloc, &core.parts, letter, script)? else {
+        return Ok(None);
+    };
     let wanted = marks_of(alloc, script, asked_ops(letter, script))?;
     let votes = VoteChange::Take { tree, wanted };
     let prepared = answered_step(alloc, core, script, part, votes)?;
-    Ok(prepared)
+    Ok(Some(prepared))
 }

@@ -1,17 +1,21 @@
 // A subtransaction of a strict tree votes, and a vote comes to its tree's home.
 ghost use Rattle.std.specs.Prelude.{◌≡◌, ◌<◌, length, nat_lt, IfOk, IsTrue};
 ghost use Rattle.item_versions.specs.Window.{in_window};
+ghost use Rattle.pair_counters.specs.Numbers.{AllBelow, MOST_COUNT};
+ghost use Rattle.pair_counters.specs.Rows.{counts_of};
 ghost use Rattle.tree_home.specs.HeldAnswers.{held_answers};
 ghost use Rattle.tree_home.specs.Homes.{misses, open_trees};
 ghost use Rattle.tree_home.specs.Maps.{by_tree};
 ghost use Rattle.tx_trees.specs.ScriptData.{subs_at};
 ghost use Rattle.world_model.specs.Core.{lesser};
+ghost use Rattle.world_model.specs.Done.{note_part};
 ghost use Rattle.world_model.specs.Named.{is_strict_at};
 ghost use Rattle.world_model.specs.Notices.{answer_noted, values_of};
 ghost use Rattle.world_model.specs.Strict.{is_near_answer, is_unheld, note_core, notice_by, strict_core};
 ghost use Rattle.world_model.specs.Votes.{wanted_by};
+ghost use Rattle.tree_step.specs.Changes.{IsTreePartOf};
 ghost use Rattle.tree_step.specs.Due.{is_due};
-ghost use Rattle.tree_step.specs.Node.{data_of};
+ghost use Rattle.tree_step.specs.Node.{IsInWindow, data_of};
 ghost use Rattle.strict_step.specs.Changes.{IsCoreStepOf};
 ghost use Rattle.strict_step.specs.State.{IsCoreReady, core_of};
 ghost use Rattle.strict_step.specs.inside.Voting.{change_by, no_by, noted_no, no_in_notice, refusal_there};
@@ -28,7 +32,8 @@ use nc_locks::Mode;
 use node_versions::Turns;
 use std::alloc::Global;
 use tree_step::{
-    Effect, InVersion, Request, asked_ops, asked_version, kind_of, prepare_notice, prepare_tree,
+    Effect, InVersion, NodeParts, Request, TreePrepared, asked_ops, asked_version, kind_of,
+    prepare_notice, prepare_tree,
 };
 use tv_base::{ItemNo, NoMemory, SubNo, TreeNo, Version};
 use tx_trees::{Script, SubOp, TreeKind};
@@ -62,14 +67,24 @@ fn refusal_of(refusals: &Refusals, tree: TreeNo, sub: SubNo, notice: &Notice) ->
     }
 }
 
-/// A copy of the values that a notice brings.
-fn values_of(alloc: Global, notice: &Notice) -> Result<Values, NoMemory>
-    ensures { IfOk result (λ values. values ≡ values_of notice.now) }
+/// A notice is taken down at its tree's home, before the tree is answered.
+fn note_part(
+    alloc: Global,
+    parts: &NodeParts,
+    request: Request,
+    notice: &Notice,
+) -> Result<TreePrepared, NoMemory>
+    requires from { request.from.0 < (counts_of parts.now.counters).nodes }
+    requires small { AllBelow MOST_COUNT (counts_of parts.now.counters).numbers }
+    requires window { IsInWindow parts.now }
+    requires near { IsTrue (in_window parts.now.turns.low.0 request.version.0) }
+    ensures { IfOk result (IsTreePartOf (note_part request.from.0 request.tree.0 request.sub.0 request.version.0
+        (values_of notice.now) (data_of parts.now)) parts.now) }
 {
     match notice {
-        Notice::Did(values) => copy_values(alloc, values),
-        Notice::Yes(values) => copy_values(alloc, values),
-        Notice::No(_) => Ok(Values::new(alloc)),
+        Notice::Did(values) => prepare_notice(alloc, parts, request, values),
+        Notice::Yes(values) => prepare_notice(alloc, parts, request, values),
+        Notice::No(_) => prepare_notice(alloc, parts, request, &Values::new(alloc)),
     }
 }
 
@@ -111,8 +126,7 @@ pub fn prepare_note(
     ensures { IfOk result (IsCoreStepOf (note_core script.now request.from.0 request.tree request.sub request.version
         notice.now (core_of core.now)) core.now) }
 {
-    let values = values_of(alloc, notice)?;
-    let part = prepare_notice(alloc, &core.parts, request, &values)?;
+    let part = note_part(alloc, &core.parts, request, notice)?;
     if !is_strict(script, request.tree) {
         let prepared = answered_step(alloc, core, script, part, VoteChange::Stay)?;
         return Ok(prepared);

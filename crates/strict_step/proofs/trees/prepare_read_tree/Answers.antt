@@ -13,7 +13,7 @@ answered_step-requires-clause-apart c =
     let body = c.args.letter.now.body in
     let st = data_of n.parts in
     let v = asked_version st.turns.read body in
-    let part = rw c.unwrap-part.ensures at c.in_ok-read_part.ensures.part in
-    apart_part c.unwrap-part.result n (read_part s c.args.letter.now.to.0 st c.args.letter.now.from.0 body) part.row
+    let part = rw c.in-Some.is at c.in_ok-part.ensures.part in
+    apart_part c.in-Some.part n (read_part s c.args.letter.now.to.0 st c.args.letter.now.from.0 body) part.row
     (apart_tree s c.args.letter.now.to.0 c.args.letter.now.from.0 v false (getting v (asked_ops s body) st.items) body st
     (held_answers n.parts.homes) c.requires.unheld c.requires.ready.apart)

@@ -13,8 +13,8 @@ answered_step-requires-clause-apart c =
     let body = c.args.letter.now.body in
     let st = data_of n.parts in
     let v = asked_version st.turns.update body in
-    let part = rw c.unwrap-part.ensures at c.in_ok-update_part.ensures.part in
-    apart_part c.unwrap-part.result n (update_part s c.args.letter.now.to.0 st c.args.letter.now.from.0 body) part.row
+    let part = rw c.in-Some.is at c.in_ok-part.ensures.part in
+    apart_part c.in-Some.part n (update_part s c.args.letter.now.to.0 st c.args.letter.now.from.0 body) part.row
     (apart_tree s c.args.letter.now.to.0 c.args.letter.now.from.0 v (nat_lt st.turns.update.0 v.0)
     (touching v (asked_ops s body) st.items) body st (held_answers n.parts.homes) c.requires.unheld
     c.requires.ready.apart)

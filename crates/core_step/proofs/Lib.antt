@@ -1,0 +1,6 @@
+mod Aptness
+mod Planned
+mod Ordering
+mod Kept
+mod Decisions
+mod Noting

@@ -1,0 +1,11 @@
+use Rattle.std.proofs.Common.{◌∙◌}
+use Rattle.core_step.specs.inside.Stays.{of_parts}
+use Rattle.core_step.proofs.orders.still_step.Goals as goal
+
+pub returns : goal.returns
+returns c =
+    c.of_parts.ensures
+    ∙ λ i. of_parts (record {
+      change = c.still.ensures.change i;
+      out = record { sent = c.still.ensures.sent i; acts = c.still.ensures.acts i };
+    })

@@ -1,0 +1,62 @@
+-- What a core does with a letter, planned.
+use Rattle.std.specs.Prelude.{◌≡◌, ⊤, Bool, true, false, Option, Some, None, IsTrue}
+use Rattle.tv_base.specs.declared.numbers.Version.{Version}
+use Rattle.item_versions.specs.Window.{in_window}
+use Rattle.letter_types.specs.declared.entries.Letter.{Letter}
+use Rattle.letter_types.specs.Steps.{Out}
+use Rattle.node_versions.specs.declared.turns.Turns.{Turns}
+use Rattle.tx_trees.specs.ScriptData.{ScriptData}
+use Rattle.world_model.specs.Core.{Core}
+use Rattle.world_model.specs.Strict.{CoreKeeping, core_keeping, core_row, is_core_apt}
+use Rattle.strict_step.specs.Changes.{IsCoreStepOf}
+use Rattle.strict_step.specs.State.{core_of}
+use Rattle.strict_step.specs.declared.change.CorePrepared.{CorePrepared}
+use Rattle.strict_step.specs.declared.state.NodeCore.{NodeCore}
+use Rattle.core_step.specs.declared.meeting.CoreKept.{CoreKept}
+use Rattle.core_step.specs.declared.plan.CorePlan.{CorePlan}
+use Rattle.core_step.specs.declared.plan.CorePlan.TheVariants.{Still, Keeps, Does}
+
+-- the versions of a node that raises its update version, if it must
+abbrev pub raised_by : Option Version → Turns → Turns
+raised_by None turns = turns
+raised_by (Some v) turns = record turns { update = v }
+
+-- a core that keeps a letter
+abbrev pub kept_core : CoreKept → Core → CoreKeeping
+kept_core k c = record {
+  tree = k.tree;
+  sub = k.sub;
+  why = k.why;
+  state = record c { node = record c.node { turns = raised_by k.raises c.node.turns } };
+  acts = k.acts;
+}
+
+-- what is raised is at most two above the low version
+abbrev pub RaisesNear : Option Version → Turns → Type 0
+RaisesNear None turns = ⊤
+RaisesNear (Some v) turns = IsTrue (in_window turns.low.0 v.0)
+
+-- a letter that is apt, by this test, is one that the core has to keep, and is kept so
+pub record IsKeptBy (test : Bool) (keeping : Option CoreKeeping) (n : NodeCore) (k : CoreKept) : Type 0 where
+  pub apt : test ≡ true
+  pub kept : keeping ≡ Some (kept_core k (core_of n))
+  pub near : RaisesNear k.raises n.parts.turns
+
+-- a letter that is apt, by this test, is one that the core doesn't keep, and this row of it is prepared
+pub record IsDoneBy (test : Bool) (keeping : Option CoreKeeping) (o : Out Core) (n : NodeCore) (p : CorePrepared)
+    : Type 0 where
+  pub apt : test ≡ true
+  pub free : keeping ≡ None
+  pub step : IsCoreStepOf o n p
+
+-- a plan by these: nothing where the letter isn't apt; else it is kept where it has to be, and its row is done where not
+abbrev pub IsPlanBy : Bool → Option CoreKeeping → Out Core → NodeCore → CorePlan → Type 0
+IsPlanBy test keeping o n Still = test ≡ false
+IsPlanBy test keeping o n (Keeps k) = IsKeptBy test keeping n k
+IsPlanBy test keeping o n (Does p) = IsDoneBy test keeping o n p
+
+-- what a core does with a letter is planned
+abbrev pub IsPlanOf : ScriptData → Letter → NodeCore → CorePlan → Type 0
+IsPlanOf s l n plan =
+    IsPlanBy (is_core_apt s l.to.0 (core_of n) l) (core_keeping s (core_of n) l.body)
+    (core_row s l.to.0 (core_of n) l.from.0 l.body) n plan

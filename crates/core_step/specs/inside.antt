@@ -1,0 +1,3 @@
+pub mod Apt
+pub mod Keeping
+pub mod Stays

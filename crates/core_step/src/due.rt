@@ -1,0 +1,198 @@
+// Whether a letter is apt, as far as its operations don't decide.
+ghost use Rattle.std.specs.Prelude.{◌≡◌, ◌==◌, ◌&&◌, is_some, nat_lt, IfOk};
+ghost use Rattle.std.specs.Option.{option_copied};
+ghost use Rattle.item_versions.specs.Window.{in_window};
+ghost use Rattle.tree_home.specs.HeldAnswers.{held_answers, held_in};
+ghost use Rattle.tree_home.specs.Homes.{open_trees};
+ghost use Rattle.tx_trees.specs.ScriptData.{node_of, sub_at};
+ghost use Rattle.world_model.specs.Named.{is_strict_at};
+ghost use Rattle.world_model.specs.Notices.{answer_noted, values_of};
+ghost use Rattle.world_model.specs.Strict.{is_near_answer, is_unheld};
+ghost use Rattle.tree_step.specs.Due.{is_due};
+ghost use Rattle.tree_step.specs.Node.{data_of};
+ghost use Rattle.strict_step.specs.State.{core_of};
+ghost use Rattle.core_step.specs.inside.Apt.{acked_apt, acks_here, decide_apt, decides_here, near_if, release_apt, wake_apt};
+
+use commute_ops::Values;
+use letter_types::{Body, Letter, Notice};
+use nc_commit::{Decision, may_apply_decision};
+use node_versions::Turns;
+use script_parts::children::visits;
+use std::alloc::Global;
+use strict_step::NodeCore;
+use tree_home::{Answered, Homes};
+use tree_step::{Request, is_due, kind_of};
+use tv_base::{ActorNo, NoMemory, NodeNo, SubNo, TreeNo, Version};
+use tx_trees::{Script, Sub, TreeKind};
+
+/// How many versions a node goes by at a time.
+const VERSIONS: u64 = 3;
+
+/// Whether a version is one of the three that begin with the low version.
+fn is_near(turns: &Turns, version: Version) -> bool
+    ensures { result ≡ in_window turns.now.low.0 version.0 }
+{
+    turns.low.0 <= version.0 && version.0 - turns.low.0 < VERSIONS
+}
+
+/// Whether a tree is there and is strict.
+fn is_strict(script: &Script, tree: TreeNo) -> bool
+    ensures { result ≡ is_strict_at script.now tree.0 }
+{
+    matches!(kind_of(script, tree), Some(TreeKind::Strict))
+}
+
+/// Whether the answer of a tree is held.
+fn is_held(homes: &Homes, tree: TreeNo) -> bool
+    ensures { result ≡ is_some (held_in tree (held_answers homes.now)) }
+{
+    homes.held(tree).is_some()
+}
+
+/// Whether the answer of a root's tree isn't held at its home.
+fn is_unheld(homes: &Homes, body: &Body) -> bool
+    ensures { result ≡ is_unheld body.now (held_answers homes.now) }
+{
+    match body {
+        Body::Root { tree } => !is_held(homes, *tree),
+        _ => true,
+    }
+}
+
+/// Whether a letter that asks for a subtransaction is one that the node takes, and the answer of a root's tree isn't
+/// held.
+pub(crate) fn is_free(core: &NodeCore, letter: &Letter, script: &Script) -> bool
+    ensures { result ≡ is_due script.now letter.now.to.0 (data_of core.now.parts) letter.now.from.0 letter.now.body
+        && is_unheld letter.now.body (held_answers core.now.parts.homes) }
+{
+    is_due(&core.parts, letter, script) && is_unheld(&core.parts.homes, &letter.body)
+}
+
+/// The answer of a tree once its home has this notice, where the notice is the last that it misses.
+fn answer_noted(
+    alloc: Global,
+    homes: &Homes,
+    request: Request,
+    notice: &Notice,
+) -> Result<Option<Answered>, NoMemory>
+    ensures { IfOk result (λ answered. answered
+        ≡ answer_noted request.tree request.sub (values_of notice.now) (open_trees homes.now)) }
+{
+    let Request { tree, sub, .. } = request;
+    if !homes.misses(tree, sub) {
+        return Ok(None);
+    }
+    match notice {
+        Notice::Did(values) => homes.would_answer(tree, sub, values),
+        Notice::Yes(values) => homes.would_answer(tree, sub, values),
+        Notice::No(_) => {
+            let none = Values::new(alloc);
+            homes.would_answer(tree, sub, &none)
+        }
+    }
+}
+
+/// Whether an answer, if there is one, is of a version that the node counts in.
+fn near_if(core: &NodeCore, answered: &Option<Answered>) -> bool
+    ensures { result ≡ near_if (data_of core.now.parts) answered.now }
+{
+    match answered {
+        Some(answered) => is_near(&core.parts.turns, answered.version),
+        None => true,
+    }
+}
+
+/// Whether a notice after which a strict tree is decided leaves its home one of the versions in which it counts.
+pub(crate) fn decides_near(
+    alloc: Global,
+    core: &NodeCore,
+    script: &Script,
+    request: Request,
+    notice: &Notice,
+) -> Result<bool, NoMemory>
+    ensures { IfOk result (λ near. near ≡ is_near_answer script.now (data_of core.now.parts)
+        (answer_noted request.tree request.sub (values_of notice.now) (open_trees core.now.parts.homes))) }
+{
+    if !is_strict(script, request.tree) {
+        return Ok(true);
+    }
+    let answered = answer_noted(alloc, &core.parts.homes, request, notice)?;
+    Ok(near_if(core, &answered))
+}
+
+/// Whether the script has strict trees, this one has a subtransaction at the letter's addressee, and a node sent the
+/// letter.
+fn decides_here(letter: &Letter, script: &Script, tree: TreeNo) -> bool
+    ensures { result ≡ decides_here script.now letter.now.to.0 letter.now.from.0 tree }
+{
+    script.has_strict()
+        && visits(script.subs_of(tree), NodeNo(letter.to.0))
+        && letter.from.0 < script.nodes()
+}
+
+/// Whether a decision is apt: its tree is strict and has a subtransaction here, its version is one that the node counts
+/// in, and what it applies can be applied.
+pub(crate) fn decide_apt(
+    core: &NodeCore,
+    letter: &Letter,
+    script: &Script,
+    decision: Decision,
+) -> bool
+    ensures { result ≡ decide_apt script.now letter.now.to.0 letter.now.from.0 (core_of core.now) decision.tree
+        decision.version decision.commit }
+{
+    decides_here(letter, script, decision.tree)
+        && is_near(&core.parts.turns, decision.version)
+        && may_apply_decision(&core.parts.items, decision, script, NodeNo(letter.to.0))
+}
+
+/// Whether the script has strict trees, this one is at home at the letter's addressee, and a node sent the letter.
+fn acks_here(letter: &Letter, script: &Script, tree: TreeNo) -> bool
+    ensures { result ≡ acks_here script.now letter.now.to.0 letter.now.from.0 tree }
+{
+    script.has_strict() && script.home_of(tree) == letter.to.0 && letter.from.0 < script.nodes()
+}
+
+/// Whether an acknowledgement is apt.
+pub(crate) fn acked_apt(
+    core: &NodeCore,
+    letter: &Letter,
+    script: &Script,
+    tree: TreeNo,
+    version: Version,
+) -> bool
+    ensures { result ≡ acked_apt script.now letter.now.to.0 letter.now.from.0 (core_of core.now) tree version }
+{
+    acks_here(letter, script, tree) && is_near(&core.parts.turns, version)
+}
+
+/// Whether it is apt that a tree's marks go at a node: the script has strict trees, and the tree a subtransaction there.
+pub(crate) fn release_apt(script: &Script, at: ActorNo, tree: TreeNo) -> bool
+    ensures { result ≡ release_apt script.now at.0 tree }
+{
+    script.has_strict() && visits(script.subs_of(tree), NodeNo(at.0))
+}
+
+/// A subtransaction of the script. None exactly where it isn't there.
+fn find_sub(script: &Script, tree: TreeNo, sub: SubNo) -> Option<&Sub>
+    ensures { option_copied result ≡ sub_at script.now tree.0 sub.0 }
+{
+    script.subs_of(tree).get(sub.0 as usize)
+}
+
+/// The node of a subtransaction; where it isn't there, the number of nodes, which is no node.
+fn node_of(script: &Script, tree: TreeNo, sub: SubNo) -> u8
+    ensures { result ≡ node_of script.now tree.0 sub.0 }
+{
+    match find_sub(script, tree, sub) {
+        Some(found) => found.node.0,
+        None => script.nodes(),
+    }
+}
+
+/// Whether a Wake is apt: the script has strict trees, and the subtransaction is at the node.
+pub(crate) fn wake_apt(script: &Script, at: ActorNo, tree: TreeNo, sub: SubNo) -> bool
+    ensures { result ≡ wake_apt script.now at.0 tree sub }
+{
+    script.has_strict() && node_of(script, tree, sub) == at.0
+}
