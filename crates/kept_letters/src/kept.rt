@@ -1,7 +1,7 @@
 // The letters that a node keeps.
 ghost use Rattle.std.specs.Prelude.{◌≡◌, [], ◌∷◌, ◌++◌, length, IfErr, IfOk, IsSome, OnErr, OnOk};
 ghost use Rattle.std.specs.Option.{option_copied};
-ghost use Rattle.letter_types.specs.Kept.{brought, first_called, kept_without, wakes, wakes_by, with_called};
+ghost use Rattle.letter_types.specs.Kept.{brought, first_called, kept_without, wakes, wakes_by, with_called, without_called};
 ghost use Rattle.kept_letters.specs.Again.{kept_again};
 
 use crate::arrivals::{called_letter, insert, insert_again, let_called_go};
@@ -79,6 +79,13 @@ impl KeptLetters {
         if let Body::Wake { tree, sub } = &letter.body {
             let_called_go(&mut self.letters, &mut self.places, self.next, *tree, *sub);
         }
+    }
+
+    /// Lets the first called letter of this subtransaction go, if there is one. Needs no memory.
+    pub fn let_called_go(&mut self, tree: TreeNo, sub: SubNo)
+        ensures { self.new ≡ without_called tree sub self.old }
+    {
+        let_called_go(&mut self.letters, &mut self.places, self.next, tree, sub);
     }
 
     /// Keeps one letter more, last. It comes back if memory runs out, and then what is kept is as it was. After 2^64

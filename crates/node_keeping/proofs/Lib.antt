@@ -1,0 +1,4 @@
+pub mod Behind
+pub mod Brought
+pub mod Rows
+pub mod Woken

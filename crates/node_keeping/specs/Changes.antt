@@ -1,0 +1,90 @@
+-- How a node with kept letters changes in a step that was prepared, and when it may.
+use Rattle.std.specs.Prelude.{◌≡◌, ⊤, List, [], ◌∷◌, ◌++◌, IfOk, IsSome, OnErr, OnOk, Option, Result}
+use Rattle.tv_base.specs.declared.numbers.NoMemory.{NoMemory}
+use Rattle.tv_base.specs.declared.numbers.Version.{Version}
+use Rattle.letter_types.specs.declared.entries.StepOut.{StepOut}
+use Rattle.letter_types.specs.declared.kept.KeptLetter.{KeptLetter}
+use Rattle.letter_types.specs.Kept.{first_called, wakes_by, with_called, without_called}
+use Rattle.letter_types.specs.Steps.{Out, made}
+use Rattle.kept_letters.specs.Again.{kept_again}
+use Rattle.pair_counters.specs.Rows.{counts_of}
+use Rattle.world_model.specs.Core.{Core}
+use Rattle.world_model.specs.Keeping.{KeepingNode}
+use Rattle.tree_step.specs.Node.{IsInWindow}
+use Rattle.strict_step.specs.Changes.{MayDoCore, after_core_change}
+use Rattle.strict_step.specs.State.{IsApart, core_of}
+use Rattle.core_step.specs.Plans.{RaisesNear, raised_by}
+use Rattle.node_keeping.specs.declared.change.Keep.{Keep}
+use Rattle.node_keeping.specs.declared.change.Keep.TheVariants.{New, Again}
+use Rattle.node_keeping.specs.declared.change.KeptChange.{KeptChange}
+use Rattle.node_keeping.specs.declared.change.KeptChange.TheVariants.{Stay, LetGo, Call}
+use Rattle.node_keeping.specs.declared.change.KeepingPrepared.{KeepingPrepared}
+use Rattle.node_keeping.specs.declared.change.KeepingPrepared.TheVariants.{Still, Keeps, Does}
+use Rattle.node_keeping.specs.declared.state.KeepingParts.{KeepingParts}
+use Rattle.node_keeping.specs.State.{keeping_of}
+
+-- what goes out
+abbrev pub keeping_out_of : KeepingPrepared → StepOut
+keeping_out_of (Still out) = out
+keeping_out_of (Keeps keep raises out) = out
+keeping_out_of (Does prepared change) = prepared.prepared.out
+
+-- the kept letters where one is kept
+abbrev pub kept_with : Keep → List KeptLetter → List KeptLetter
+kept_with (New x) kept = kept ++ x ∷ []
+kept_with (Again t k why) kept = kept_again t k why kept
+
+-- and where one is done
+abbrev pub kept_after : KeptChange → List KeptLetter → List KeptLetter
+kept_after Stay kept = kept
+kept_after (LetGo t k) kept = without_called t k kept
+kept_after (Call body) kept = with_called (wakes_by body) kept
+
+-- a core that raises its update version, if it must
+abbrev pub raised_core : Option Version → Core → Core
+raised_core raises c = record c { node = record c.node { turns = raised_by raises c.node.turns } }
+
+-- a node, and what goes out, after a step that was prepared, as a table's row
+abbrev pub keeping_prepared_row : KeepingPrepared → KeepingNode → Out KeepingNode
+keeping_prepared_row (Still out) n = made n out
+keeping_prepared_row (Keeps keep raises out) n =
+    made (record { core = raised_core raises n.core; kept = kept_with keep n.kept }) out
+keeping_prepared_row (Does prepared change) n =
+    made (record { core = after_core_change prepared n.core; kept = kept_after change n.kept }) prepared.prepared.out
+
+-- what is kept again is there
+abbrev pub MayBeKept : Keep → List KeptLetter → Type 0
+MayBeKept (New x) kept = ⊤
+MayBeKept (Again t k why) kept = IsSome (first_called t k kept)
+
+-- a node's versions are in their window, and of no tree that is open it holds an answer
+pub record IsSettled (n : KeepingParts) : Type 0 where
+  pub window : IsInWindow n.core.parts
+  pub apart : IsApart (core_of n.core)
+
+-- a node may keep a letter: what is raised is near, and what is kept again is there
+pub record MayKeepLetter (keep : Keep) (raises : Option Version) (n : KeepingParts) : Type 0 where
+  pub settled : IsSettled n
+  pub near : RaisesNear raises n.core.parts.turns
+  pub there : MayBeKept keep n.kept
+
+-- a node may do a step that was prepared
+abbrev pub MayDoKeeping : KeepingPrepared → KeepingParts → Type 0
+MayDoKeeping (Still out) n = IsSettled n
+MayDoKeeping (Keeps keep raises out) n = MayKeepLetter keep raises n
+MayDoKeeping (Does prepared change) n = MayDoCore prepared n.core
+
+-- a step that was prepared is this row of a node, and the node may do it
+pub record IsKeepingStepOf (o : Out KeepingNode) (n : KeepingParts) (p : KeepingPrepared) : Type 0 where
+  pub row : keeping_prepared_row p (keeping_of n) ≡ o
+  pub may : MayDoKeeping p n
+
+-- what came of a step of a node: it was done, and the node afterwards and what goes out are its row; or no memory was
+-- found, and the node is as it was. It counts by as many nodes as before, its versions are in their window, and of no
+-- tree that is open an answer is held
+pub record IsKeepingDone (p : KeepingPrepared) (old new : KeepingParts) (r : Result StepOut NoMemory) : Type 0 where
+  pub row : IfOk r (λ out. made (keeping_of new) out ≡ keeping_prepared_row p (keeping_of old))
+  pub nodes : OnOk r ((counts_of new.core.parts.counters).nodes ≡ (counts_of old.core.parts.counters).nodes)
+  pub window : OnOk r (IsInWindow new.core.parts)
+  pub apart : OnOk r (IsApart (core_of new.core))
+  pub err : OnErr r (new ≡ old)

@@ -1,0 +1,10 @@
+// A node and the letters that it keeps.
+use kept_letters::KeptLetters;
+use strict_step::NodeCore;
+
+/// A node: its core, and the letters that it keeps.
+#[derive(Drop)]
+pub struct KeepingParts {
+    pub core: NodeCore,
+    pub kept: KeptLetters,
+}
