@@ -1,5 +1,5 @@
 -- A node as the tests have it is ready for a letter.
-use Rattle.std.proofs.Common.{◌≡◌, ◌∙◌, ℕ, ◌+◌, ◌<◌, ◌≤◌, ◌^◌, ◌==◌, ◌&&◌, Bool, true, false, [], ◌∷◌, ◌++◌, ap, sym, subst, arith}
+use Rattle.std.proofs.Common.{◌≡◌, ◌∙◌, ℕ, ◌+◌, ◌<◌, ◌≤◌, ◌^◌, ◌==◌, ◌&&◌, Bool, true, false, [], ◌∷◌, ◌++◌, ap, refl, sym, subst, arith}
 use Rattle.std.specs.Prelude.{if◌then◌else◌}
 use Rattle.tv_base.specs.declared.numbers.ItemNo.{ItemNo}
 use Rattle.tv_base.specs.declared.numbers.Version.{Version}
@@ -12,7 +12,12 @@ use Rattle.node_versions.specs.declared.turns.Turns.{Turns}
 use Rattle.pair_counters.specs.Counts.{Counts, no_counts}
 use Rattle.pair_counters.specs.Numbers.{AllBelow, done_one, none, MOST_COUNT}
 use Rattle.pair_counters.specs.Rows.{CounterRows, counts_of}
-use Rattle.tree_home.specs.Homes.{HomesData}
+use Rattle.node_keeping.specs.State.{IsKeepingReady}
+use Rattle.node_keeping.specs.declared.state.KeepingParts.{KeepingParts}
+use Rattle.strict_step.specs.State.{AreApart}
+use Rattle.tree_home.specs.HeldAnswers.{held_answers}
+use Rattle.tree_home.specs.Homes.{HomesData, no_homes, open_trees}
+use Rattle.world_model.specs.Keeping.{AreKeptAt}
 use Rattle.tx_trees.specs.ScriptData.{ScriptData}
 use Rattle.tree_step.specs.Node.{IsInWindow, IsReady, state_of}
 
@@ -66,3 +71,14 @@ pub one_item : (n : ItemNo) (w : Value) (t u : Table) → t ≡ [] → u ≡ t +
 one_item n w t u empty is =
     subst (λ (x : Table). IsWindowedTable 0 x) (sym (is ∙ ap (λ (x : Table). x ++ (n, new_held w) ∷ []) empty))
     (IsWindowed-new w, tt)
+
+-- without a lock, a held answer or a kept letter it is ready for one
+pub keeping_ready : (s : ScriptData) (p : ℕ) (n : KeepingParts) → IsReady s p n.core.parts → n.core.parts.homes ≡ no_homes → n.kept ≡ []
+    → IsKeepingReady s p n
+keeping_ready s p n ready homes kept = record {
+  core = record {
+    parts = ready;
+    apart = subst (λ (h : HomesData). AreApart (open_trees h) (held_answers h)) (sym homes) (λ t begun. refl);
+  };
+  kept = subst (AreKeptAt p) (sym kept) tt;
+}

@@ -1,21 +1,26 @@
-ghost use Rattle.std.specs.Prelude.{◌<◌, ◌≤◌, IfOk};
+ghost use Rattle.std.specs.Prelude.{◌≡◌, ◌<◌, ◌≤◌, IfOk};
+ghost use Rattle.node_keeping.specs.State.{IsKeepingReady};
+ghost use Rattle.tree_home.specs.Homes.{no_homes};
 ghost use Rattle.tree_step.specs.Node.{IsReady};
 
 use crate::builders::{letter, script_of};
 use commute_ops::{SumValue, Value, Values};
 use item_versions::ItemTable;
+use kept_letters::KeptLetters;
 use letter_types::{Answer, Body, Letter, Notice, Step};
+use nc_locks::Locks;
+use node_keeping::{KeepingParts, keeping_done, prepare_letter};
 use node_versions::Turns;
 use pair_counters::Counters;
 use read_step::run_read;
 use std::alloc::Global;
 use std::test::Fail;
+use strict_step::{NodeCore, Refusals};
 use tree_home::Homes;
-use tree_step::{NodeParts, done_twice, is_due};
+use tree_step::{NodeParts, is_due};
 use tv_base::{ActorNo, ItemNo, NoMemory, NodeNo, SubNo, TreeNo, Version};
 use tx_trees::Script;
 use update_step::run_update;
-use world_core::prepare_node;
 
 // Tree 0 is an update tree with a child at node 1, tree 1 a read tree without one.
 const TWO_TREES: &[u8] =
@@ -31,7 +36,8 @@ fn counting_node(
     requires there { at.0 < script.now.nodes }
     requires other { 1 < script.now.nodes }
     requires near { read.0 ≤ 2 }
-    ensures { IfOk result (λ node. IsReady script.now at.0 node) }
+    ensures ready { IfOk result (λ node. IsReady script.now at.0 node) }
+    ensures homes { IfOk result (λ node. node.homes ≡ no_homes) }
 {
     let mut items = ItemTable::new(alloc);
     items.add(ItemNo(at.0 as u32), Value::Sum(SumValue(10)))?;
@@ -52,12 +58,33 @@ fn counting_node(
 
 // The node that a letter goes to.
 fn node_for(alloc: Global, script: &Script, letter: &Letter, read: u64) -> Result<NodeParts, Fail>
-    ensures { IfOk result (λ node. IsReady script.now letter.now.to.0 node) }
+    ensures ready { IfOk result (λ node. IsReady script.now letter.now.to.0 node) }
+    ensures homes { IfOk result (λ node. node.homes ≡ no_homes) }
 {
     if letter.to.0 >= script.nodes() || script.nodes() < 2 || read > 2 {
         return Err("not to one of two nodes".into());
     }
     Ok(counting_node(alloc, script, letter.to, Version(read))?)
+}
+
+// The same with no lock, and no letter that it keeps.
+fn keeping_for(
+    alloc: Global,
+    script: &Script,
+    letter: &Letter,
+    read: u64,
+) -> Result<KeepingParts, Fail>
+    ensures { IfOk result (λ node. IsKeepingReady script.now letter.now.to.0 node) }
+{
+    let core = NodeCore {
+        parts: node_for(alloc, script, letter, read)?,
+        locks: Locks::new(alloc),
+        refusals: Refusals::new(alloc),
+    };
+    Ok(KeepingParts {
+        core,
+        kept: KeptLetters::new(alloc),
+    })
 }
 
 // A letter is taken by a node that shows this version.
@@ -67,10 +94,12 @@ fn take(
     read: u64,
     letter: &Letter,
 ) -> Result<(NodeParts, Step), Fail> {
-    let mut node = node_for(alloc, script, letter, read)?;
-    let prepared = prepare_node(alloc, &node, letter, script)?;
-    let step = done_twice(alloc, &mut node, prepared)?;
-    Ok((node, step))
+    let mut node = keeping_for(alloc, script, letter, read)?;
+    let prepared = prepare_letter(alloc, &node, letter, script)?;
+    let kept = prepared.out().copy(alloc)?;
+    let given = keeping_done(&mut node, prepared)?;
+    let KeepingParts { core, kept: _ } = node;
+    Ok((core.parts, Step { given, kept }))
 }
 
 // What is seen of an item's sum in a version, or 0.

@@ -8,13 +8,18 @@ use Rattle.letter_types.specs.declared.entries.Letter.{Letter}
 use Rattle.letter_types.specs.declared.entries.StepOut.{StepOut}
 use Rattle.letter_types.specs.Steps.{made}
 use Rattle.client_rows.specs.Kept.{Kept, IsKeptOf}
+use Rattle.node_keeping.specs.Changes.{keeping_prepared_row, keeping_out_of}
+use Rattle.node_keeping.specs.State.{keeping_of}
+use Rattle.node_keeping.specs.declared.change.KeepingPrepared.{KeepingPrepared}
+use Rattle.node_keeping.specs.declared.change.KeepingPrepared.TheVariants.{Still as StillStep, Keeps as KeepsStep, Does as DoesStep}
 use Rattle.tx_trees.specs.ScriptData.{ScriptData}
+use Rattle.world_model.specs.Keeping.{KeepingNode}
 use Rattle.world_model.specs.Tables.{NodeData, CoordinatorData, ClientData, actor_row, as_actor}
 use Rattle.world_core.specs.declared.actor.ActorState.{ActorState}
 use Rattle.world_core.specs.declared.actor.ActorState.TheVariants.{Node, Coordinator, Client}
 use Rattle.world_core.specs.declared.actor.ActorPrepared.{ActorPrepared}
 use Rattle.world_core.specs.declared.actor.ActorPrepared.TheVariants.{Node as NodeStep, Coordinator as CoordinatorStep, Client as ClientStep}
-use Rattle.world_core.specs.Actors.{IsFor, actor_data, actor_held}
+use Rattle.world_core.specs.Actors.{IsFor, actor_data}
 use Rattle.world_core.specs.Prepared.{IsActorDone, IsActorStepOf, ActorMayDo, out_of}
 use Rattle.world_core.specs.inside.Actors.{Acted}
 
@@ -30,26 +35,23 @@ may_do s l (Coordinator c) (ClientStep p) is = absurd is
 may_do s l (Client k) (NodeStep p) is = absurd is
 may_do s l (Client k) (CoordinatorStep p) is = absurd is
 
--- an actor made its row of a letter, holds what it held, is of the script still, and this goes out
+-- an actor made its row of a letter, is of the script still, and this goes out
 pub record IsRow (s : ScriptData) (l : Letter) (old new : ActorState) (out : StepOut) : Type 0 where
   pub row : made (actor_data new) out ≡ actor_row s l.to.0 (actor_data old) l
-  pub held : actor_held new ≡ actor_held old
   pub script : IsFor s new
 
 -- what is done is the row
 pub is_row : (s : ScriptData) (l : Letter) (old new : ActorState) (p : ActorPrepared) (out : StepOut) → IsFor s old
     → IsActorStepOf s l old p → IsActorDone p old new out → IsRow s l old new out
 is_row s l (Node n) (Node m) (NodeStep p) out for is done =
-    record { row = ap (as_actor NodeData) (done.0 ∙ is.row); held = done.2; script = done.1 ∙ for }
+    record { row = ap (as_actor NodeData) (done.0 ∙ is.row); script = done.1 ∙ for }
 is_row s l (Coordinator c) (Coordinator d) (CoordinatorStep p) out for is done =
     record {
       row = (λ i. made (CoordinatorData (done.0 i)) (done.1 i)) ∙ ap (as_actor CoordinatorData) is.row;
-      held = refl;
       script = tt;
     }
 is_row s l (Client k) (Client m) (ClientStep p) out for is done = record {
   row = (λ i. made (ClientData (done.0 i).client) (done.1 i)) ∙ ap (as_actor ClientData) is.row;
-  held = refl;
   script = subst (λ (x : Kept). IsKeptOf s x) (sym done.0) is.still_kept;
 }
 is_row s l (Node n) (Coordinator d) (NodeStep p) out for is done = absurd done
@@ -65,9 +67,16 @@ is_row s l (Coordinator c) new (ClientStep p) out for is done = absurd is
 is_row s l (Client k) new (NodeStep p) out for is done = absurd is
 is_row s l (Client k) new (CoordinatorStep p) out for is done = absurd is
 
+-- what goes out of a node is what was prepared
+out_made : (p : KeepingPrepared) (n : KeepingNode) (m : KeepingNode) (out : StepOut) → made m out ≡ keeping_prepared_row p n
+    → out ≡ keeping_out_of p
+out_made (StillStep o) n m out is = λ i. record { sent = (is i).sent; acts = (is i).acts }
+out_made (KeepsStep keep raises o) n m out is = λ i. record { sent = (is i).sent; acts = (is i).acts }
+out_made (DoesStep prepared change) n m out is = λ i. record { sent = (is i).sent; acts = (is i).acts }
+
 -- what goes out is what was prepared
 pub out_is : (p : ActorPrepared) (old new : ActorState) (out : StepOut) → IsActorDone p old new out → out ≡ out_of p
-out_is (NodeStep p) (Node n) (Node m) out done = λ i. record { sent = (done.0 i).sent; acts = (done.0 i).acts }
+out_is (NodeStep p) (Node n) (Node m) out done = out_made p (keeping_of n) (keeping_of m) out done.0
 out_is (CoordinatorStep p) (Coordinator c) (Coordinator d) out done = done.1
 out_is (ClientStep p) (Client k) (Client m) out done = done.1
 out_is (NodeStep p) (Node n) (Coordinator d) out done = absurd done

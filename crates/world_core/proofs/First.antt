@@ -10,11 +10,18 @@ use Rattle.item_versions.specs.Window.{IsWindowedTable}
 use Rattle.node_versions.specs.declared.turns.Turns.{Turns}
 use Rattle.pair_counters.specs.Counts.{Counts, no_counts}
 use Rattle.pair_counters.specs.Rows.{counts_of}
+use Rattle.node_keeping.specs.State.{keeping_of}
+use Rattle.node_keeping.specs.declared.state.KeepingParts.{KeepingParts}
+use Rattle.strict_step.specs.State.{IsApart, core_of}
+use Rattle.tree_home.specs.HeldAnswers.{held_answers}
 use Rattle.tree_home.specs.Homes.{no_homes, open_trees}
+use Rattle.tree_home.specs.Maps.{by_tree}
 use Rattle.tree_step.specs.Node.{IsInWindow, IsOf, data_of}
 use Rattle.tree_step.specs.declared.node.NodeParts.{NodeParts}
 use Rattle.tx_trees.specs.ScriptData.{ScriptData, client_of}
-use Rattle.world_model.specs.Tables.{NodeData, items_at, start_node}
+use Rattle.world_model.specs.Keeping.{KeepingNode, start_keeping}
+use Rattle.world_model.specs.Node.{items_at, start_node}
+use Rattle.world_model.specs.Tables.{NodeData}
 use Rattle.world_core.specs.declared.actor.ActorState.{ActorState}
 use Rattle.world_core.specs.declared.actor.ActorState.TheVariants.{Node}
 use Rattle.world_core.specs.Actors.{AreStatesOf, IsStateOf, IsWorldOf, WorldData}
@@ -42,12 +49,24 @@ starts_in_window n nodes turns items counts =
       counters = ap (λ (x : Counts). x.low) counts ∙ sym low;
     }
 
+-- nothing is locked, held, refused or kept
+pub starts_keeping : (s : ScriptData) (p : ℕ) (n : KeepingParts) → data_of n.core.parts ≡ start_node s p → n.core.parts.homes ≡ no_homes
+    → n.core.locks ≡ [] → n.core.refusals ≡ [] → n.kept ≡ [] → keeping_of n ≡ start_keeping s p
+starts_keeping s p n node homes locks noes kept = λ i. record {
+  core = record { node = node i; locks = locks i; holds = held_answers (homes i); refusals = by_tree (noes i) };
+  kept = kept i;
+}
+
+-- so it holds no answer of a tree that is open
+pub starts_apart : (s : ScriptData) (p : ℕ) (n : KeepingParts) → keeping_of n ≡ start_keeping s p → IsApart (core_of n.core)
+starts_apart s p n is = subst (λ (x : KeepingNode). IsApart x.core) (sym is) (λ t begun. refl)
+
 -- a node as a run begins
-pub first_node : (s : ScriptData) (a : ℕ) (n : NodeParts) → a < s.nodes → data_of n ≡ start_node s a
-    → n.homes.held ≡ [] → IsOf s n → IsStateOf s [] a (Node n)
-first_node s a n lt is held nodes =
+pub first_node : (s : ScriptData) (a : ℕ) (n : KeepingParts) → a < s.nodes → keeping_of n ≡ start_keeping s a → IsOf s n.core.parts
+    → IsStateOf s [] a (Node n)
+first_node s a n lt is nodes =
     let here : nat_lt a s.nodes ≡ true = grind (arith, nat_tests) in
-    record { seen = rw here (ap NodeData is); held = held; script = nodes }
+    record { seen = rw here (ap NodeData is); script = nodes }
 
 one_of : (s : ScriptData) (past : List Entry) (xs : List ActorState) (x : ActorState) (a : ℕ) (st : ActorState)
     → AreStatesOf s past xs → IsStateOf s past (length xs) x

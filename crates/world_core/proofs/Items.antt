@@ -8,7 +8,7 @@ use Rattle.commute_ops.specs.Ops.{value_start}
 use Rattle.item_versions.specs.Item.{Held}
 use Rattle.item_versions.specs.Table.{Table, IsAfter}
 use Rattle.tx_trees.specs.declared.parts.ItemRow.{ItemRow}
-use Rattle.world_model.specs.Tables.{items_at}
+use Rattle.world_model.specs.Node.{items_at}
 
 -- an item as it begins
 abbrev pub first_entry : ℕ → ItemRow → ItemNo × Held

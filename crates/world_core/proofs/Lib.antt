@@ -1,7 +1,6 @@
 pub mod Items
 pub mod Sealed
 pub mod Bag
-pub mod Dues
 pub mod Doing
 pub mod First
 pub mod Worlds

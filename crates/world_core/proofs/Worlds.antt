@@ -23,7 +23,7 @@ use Rattle.world_model.proofs.Addressees.{addressed}
 use Rattle.world_model.proofs.Scripts.{get_below}
 use Rattle.world_core.specs.declared.actor.ActorState.{ActorState}
 use Rattle.world_model.specs.Tables.{ActorData, actor_row}
-use Rattle.world_core.specs.Actors.{AreStatesOf, IsFor, IsStateOf, IsWorldOf, WorldData, actor_data, actor_held}
+use Rattle.world_core.specs.Actors.{AreStatesOf, IsFor, IsStateOf, IsWorldOf, WorldData, actor_data}
 use Rattle.world_core.proofs.Doing.{IsRow}
 use Rattle.world_core.proofs.Bag.{Found, found_at}
 
@@ -105,10 +105,10 @@ may_follow s w k l sent acts world valid at a b = record {
 -- each actor's next state
 state_next : (s : ScriptData) (past : List Entry) (l : Letter) (stamp : ℕ) (sent : List Outgoing) (acts : List Act) (old : List ActorState) (after st : ActorState) (a : ℕ)
     → length old ≡ s.nodes + 2 → l.to.0 < s.nodes + 2 → AreStatesOf s past old
-    → actor_data after ≡ (actor_row s l.to.0 (actor_in s past l.to.0) l).state → actor_held after ≡ [] → IsFor s after
+    → actor_data after ≡ (actor_row s l.to.0 (actor_in s past l.to.0) l).state → IsFor s after
     → slice_get (slice_set old l.to.0 after) a ≡ Some st → (b : Bool) → (l.to.0 == a) ≡ b
     → IsStateOf s (entry_of stamp l sent acts ∷ past) a st
-state_next s past l stamp sent acts old after st a count to states row held script at true is =
+state_next s past l stamp sent acts old after st a count to states row script at true is =
     let eq : l.to.0 ≡ a = grind (arith, nat_tests) in
     let here : slice_get (slice_set old l.to.0 after) a ≡ Some after =
     subst (λ (n : ℕ). slice_get (slice_set old l.to.0 after) n ≡ Some after) eq (get_set_same old l.to.0 after (omega arith)) in
@@ -116,17 +116,15 @@ state_next s past l stamp sent acts old after st a count to states row held scri
     subst (λ (y : ActorState). IsStateOf s (entry_of stamp l sent acts ∷ past) a y) same (record {
       seen = subst (λ (n : ℕ). actor_data after ≡ actor_in s (entry_of stamp l sent acts ∷ past) n) eq
           (row ∙ state_by s past l stamp sent acts (nat_lt l.to.0 s.nodes) (l.to.0 == s.nodes) refl refl to);
-      held = held;
       script = script;
     })
-state_next s past l stamp sent acts old after st a count to states row held script at false is =
+state_next s past l stamp sent acts old after st a count to states row script at false is =
     let ne : l.to.0 ≢ a = grind (arith, nat_tests) in
     let there : slice_get old a ≡ Some st = sym (get_set_other old l.to.0 a after ne) ∙ at in
     let lt : a < s.nodes + 2 = omega (arith, get_below old a st there) in
     record {
       seen = (states a st there).seen
           ∙ sym (others_by s past (entry_of stamp l sent acts) a (nat_lt a s.nodes) (a == s.nodes) refl refl lt ne);
-      held = (states a st there).held;
       script = (states a st there).script;
     }
 
@@ -144,7 +142,7 @@ next_world s w k l out actors bag world valid step =
       run = rw back (may_follow s w k l out.sent out.acts world valid step.letter (ap (λ (o : Out ActorData). o.sent) row) (ap (λ (o : Out ActorData). o.acts) row), world.run);
       count = ap (length {A = ActorState}) acted.set ∙ length-set w.actors l.to.0 acted.after ∙ world.count;
       actors = rw (back, acted.set) (λ a st at. state_next s past l (length w.history + 1) out.sent out.acts w.actors acted.after st a world.count to world.actors
-          (ap (λ (o : Out ActorData). o.state) row) (acted.is.held ∙ (world.actors l.to.0 acted.before acted.there).held) acted.is.script at
+          (ap (λ (o : Out ActorData). o.state) row) acted.is.script at
           (l.to.0 == a) refl);
       bag = step.bag ∙ rw (back, world.bag, (found_in s w k l world step.letter).left) refl;
     }

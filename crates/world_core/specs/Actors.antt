@@ -1,11 +1,10 @@
 -- The actors' states by their tables, and what a world keeps.
 use Rattle.std.specs.Prelude.{ℕ, ◌+◌, ◌^◌, ◌≡◌, List, [], ◌∷◌, ◌++◌, length, reverse, Some, slice_get}
-use Rattle.tv_base.specs.declared.numbers.TreeNo.{TreeNo}
 use Rattle.client_rows.specs.Kept.{IsKeptOf}
 use Rattle.letter_types.specs.declared.entries.Letter.{Letter}
 use Rattle.letter_types.specs.declared.entries.Entry.{Entry}
-use Rattle.tree_home.specs.declared.homes.Held.{Held}
-use Rattle.tree_step.specs.Node.{IsOf, data_of as node_data}
+use Rattle.node_keeping.specs.State.{keeping_of}
+use Rattle.tree_step.specs.Node.{IsOf}
 use Rattle.tx_trees.specs.ScriptData.{ScriptData}
 use Rattle.world_model.specs.Tables.{ActorData, NodeData, CoordinatorData, ClientData}
 use Rattle.world_model.specs.Runs.{IsStepRun, actor_in, in_flight}
@@ -14,25 +13,19 @@ use Rattle.world_core.specs.declared.actor.ActorState.TheVariants.{Node, Coordin
 
 -- a state as its table sees it
 abbrev pub actor_data : ActorState → ActorData
-actor_data (Node n) = NodeData (node_data n)
+actor_data (Node n) = NodeData (keeping_of n)
 actor_data (Coordinator c) = CoordinatorData c
 actor_data (Client c) = ClientData c.client
 
--- the answers that an actor holds, of which its table says nothing
-abbrev pub actor_held : ActorState → List (TreeNo × Held)
-actor_held (Node n) = n.homes.held
-actor_held _ = []
-
 -- a state of the script: a node counts by the script's nodes, and a client goes over its rows
 abbrev pub IsFor : ScriptData → ActorState → Type 0
-IsFor s (Node n) = IsOf s n
+IsFor s (Node n) = IsOf s n.core.parts
 IsFor s (Coordinator c) = Unit {0}
 IsFor s (Client c) = IsKeptOf s c
 
--- the state of actor a after a past: it holds no answer
+-- the state of actor a after a past
 pub record IsStateOf (s : ScriptData) (past : List Entry) (a : ℕ) (st : ActorState) : Type 0 where
   pub seen : actor_data st ≡ actor_in s past a
-  pub held : actor_held st ≡ []
   pub script : IsFor s st
 
 -- the states of the actors after a past, by number

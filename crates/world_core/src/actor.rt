@@ -3,7 +3,7 @@ ghost use Rattle.std.specs.Prelude.{◌≡◌, ◌<◌, ◌+◌, [], IfOk, Match
 ghost use Rattle.letter_types.specs.Steps.{made};
 ghost use Rattle.world_model.specs.Tables.{actor_row};
 ghost use Rattle.world_model.specs.Taking.{CountsBelow, IsAddressed};
-ghost use Rattle.world_core.specs.Actors.{actor_data, actor_held, IsFor, IsStateOf};
+ghost use Rattle.world_core.specs.Actors.{actor_data, IsFor, IsStateOf};
 ghost use Rattle.world_core.specs.Prepared.{IsActorDone, IsActorStepOf, ActorMayDo, MayTake, out_of};
 ghost use Rattle.pair_counters.specs.Numbers.{MOST_COUNT};
 
@@ -11,13 +11,12 @@ use crate::node::NodeState;
 use advance_coord::{Coordinator, CoordinatorPrepared};
 use client_rows::{Client, ClientPrepared};
 use letter_types::{Letter, Step, StepOut};
+use node_keeping::KeepingPrepared;
 use std::alloc::Global;
-use tree_step::Prepared;
 use tv_base::{ActorNo, NoMemory, NodeNo};
 use tx_trees::Script;
 
 /// The state of one actor.
-#[derive(Drop)]
 pub enum ActorState {
     /// One of the nodes.
     Node(NodeState),
@@ -27,11 +26,22 @@ pub enum ActorState {
     Client(Client),
 }
 
+// A drop of its own is one call wherever an actor goes out of scope.
+impl Drop for ActorState {
+    fn drop(self) {
+        match self {
+            ActorState::Node(_) => {}
+            ActorState::Coordinator(_) => {}
+            ActorState::Client(_) => {}
+        }
+    }
+}
+
 /// A step of an actor that is prepared: what it does, and what goes out.
 #[derive(Drop)]
 pub enum ActorPrepared {
     /// A node's step.
-    Node(Prepared),
+    Node(KeepingPrepared),
     /// The coordinator's step.
     Coordinator(CoordinatorPrepared),
     /// The client's step.
@@ -44,7 +54,7 @@ impl ActorPrepared {
         ensures { result.now ≡ out_of self.now }
     {
         match self {
-            ActorPrepared::Node(prepared) => &prepared.out,
+            ActorPrepared::Node(prepared) => prepared.out(),
             ActorPrepared::Coordinator(prepared) => prepared.out(),
             ActorPrepared::Client(prepared) => prepared.out(),
         }
@@ -70,7 +80,7 @@ impl ActorState {
 
 /// Prepares what an actor does with a letter that is addressed to it: its row of its table. A letter that isn't apt
 /// changes and sends nothing. It changes nothing, and takes all memory that the step needs, but for what a node takes
-/// to open a tree at its home.
+/// to open a tree at its home, for locks, held answers and noes, and to keep a letter.
 pub fn actor_prepare(
     alloc: Global,
     state: &ActorState,
@@ -96,8 +106,8 @@ pub fn actor_prepare(
     }
 }
 
-/// Does a step that was prepared for this actor, and gives what goes out. Only to open a tree at its home may need
-/// memory; then the actor is as it was.
+/// Does a step that was prepared for this actor, and gives what goes out. Where a node finds no memory, it is as it
+/// was; the coordinator and the client need none.
 pub fn actor_done(state: &mut ActorState, prepared: ActorPrepared) -> Result<StepOut, NoMemory>
     requires { ActorMayDo prepared state.old }
     ensures { MatchResult result (IsActorDone prepared state.old state.new) (λ _. state.new ≡ state.old) }
@@ -119,8 +129,8 @@ pub fn actor_done(state: &mut ActorState, prepared: ActorPrepared) -> Result<Ste
 }
 
 /// What an actor does with a letter that is addressed to it, prepared and done: its row of its table. A letter that
-/// isn't apt changes and sends nothing. What goes out is given, and an equal copy kept. The answers that a node holds
-/// stay. If memory runs out, the actor is as it was.
+/// isn't apt changes and sends nothing. What goes out is given, and an equal copy kept. If memory runs out, the actor is as
+/// it was.
 pub fn actor_step(
     alloc: Global,
     state: &mut ActorState,
@@ -133,7 +143,6 @@ pub fn actor_step(
     ensures row { IfOk result (λ step. made (actor_data state.new) step.given
         ≡ actor_row script.now letter.now.to.0 (actor_data state.old) letter.now) }
     ensures kept { IfOk result (λ step. step.kept ≡ step.given) }
-    ensures held { OnOk result (actor_held state.new ≡ actor_held state.old) }
     ensures script { OnOk result (IsFor script.now state.new) }
     ensures err { OnErr result (state.new ≡ state.old) }
 {

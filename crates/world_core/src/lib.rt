@@ -2,11 +2,9 @@
 #![tactic(auto)]
 
 mod actor;
-mod dispatch;
 mod node;
 mod world;
 
 pub use actor::{ActorPrepared, ActorState, actor_done, actor_prepare, actor_step};
-pub use dispatch::prepare_node;
 pub use node::NodeState;
 pub use world::World;

@@ -1,45 +1,50 @@
-// A node's state: its parts, and what its type keeps of them.
-ghost use Rattle.std.specs.Prelude.{◌≡◌, ◌<◌, ◌^◌, [], length, IfOk, unsigned_abs};
+// A node's state: its core and the letters that it keeps, and what its type always has of them.
+ghost use Rattle.std.specs.Prelude.{◌≡◌, ◌<◌, ◌^◌, length, IfOk, unsigned_abs};
 ghost use Rattle.std.specs.List.{AllByRecursion};
 ghost use Rattle.commute_ops.specs.Ops.{value_start};
 ghost use Rattle.item_versions.specs.Window.{IsWindowedTable};
-ghost use Rattle.world_model.specs.Apt.{node_row};
+ghost use Rattle.letter_types.specs.Steps.{made};
+ghost use Rattle.node_keeping.specs.Changes.{IsKeepingDone, IsKeepingStepOf, MayDoKeeping};
+ghost use Rattle.node_keeping.specs.State.{keeping_of};
 ghost use Rattle.pair_counters.specs.Numbers.{AllBelow, MOST_COUNT};
 ghost use Rattle.pair_counters.specs.Rows.{counts_of};
-ghost use Rattle.tree_step.specs.Changes.{IsDone, IsNodeStepOf, MayDo, prepared_row};
-ghost use Rattle.tree_step.specs.Node.{data_of, IsOf};
+ghost use Rattle.tree_step.specs.Node.{IsOf};
 ghost use Rattle.tx_trees.specs.Valid.{IsItem};
-ghost use Rattle.world_model.specs.Tables.{items_at, start_node};
+ghost use Rattle.world_model.specs.Keeping.{AreKeptAt, keeping_row, start_keeping};
+ghost use Rattle.world_model.specs.Node.{items_at};
 
-use crate::dispatch::prepare_node;
 use commute_ops::{Kind, Value};
 use item_versions::ItemTable;
+use kept_letters::KeptLetters;
 use letter_types::{Letter, StepOut};
+use nc_locks::Locks;
+use node_keeping::{KeepingParts, KeepingPrepared, keeping_done, prepare_letter};
 use node_versions::Turns;
 use pair_counters::Counters;
 use std::alloc::Global;
 use std::marker::Model;
+use strict_step::{NodeCore, Refusals};
 use tree_home::Homes;
-use tree_step::{NodeParts, Prepared, done};
+use tree_step::NodeParts;
 use tv_base::{ItemNo, NoMemory, NodeNo};
 use tx_trees::{ItemRow, Script};
 
 /// A node's state (docs/ALGORITHM.md, "Nodes"). Its versions, those of its items and those that it counts are from its
-/// low version to two above it.
+/// low version to two above it, and of no tree that is open it holds an answer.
 #[derive(Drop)]
 pub struct NodeState {
-    parts: NodeParts,
+    node: KeepingParts,
 }
 
 impl Model for NodeState {
-    ghost use Rattle.tree_step.specs.declared.node.NodeParts.{NodeParts};
-    ghost use Rattle.tree_step.specs.Node.{IsInWindow};
+    ghost use Rattle.node_keeping.specs.declared.state.KeepingParts.{KeepingParts};
+    ghost use Rattle.node_keeping.specs.Changes.{IsSettled};
 
-    ghost Value = { NodeParts };
+    ghost Value = { KeepingParts };
 
-    ghost view = { λ n. n.parts };
+    ghost view = { λ n. n.node };
 
-    ghost invariant = { λ n. IsInWindow n.parts };
+    ghost invariant = { λ n. IsSettled n.node };
 }
 
 /// An item's initial value.
@@ -73,50 +78,72 @@ fn items_at(
 
 impl NodeState {
     /// Node `node` as a run of the script begins: the first versions, each of its items in version 0 with its initial
-    /// value, nothing counted, no tree's notices gathered and no answer held.
+    /// value, nothing counted, no tree's notices gathered and no answer held, no lock and no letter kept.
     pub fn start(alloc: Global, script: &Script, node: NodeNo) -> Result<NodeState, NoMemory>
-        ensures start { IfOk result (λ n. data_of n ≡ start_node script.now node.0) }
-        ensures held { IfOk result (λ n. n.homes.held ≡ []) }
-        ensures script { IfOk result (λ n. IsOf script.now n) }
+        ensures start { IfOk result (λ n. keeping_of n ≡ start_keeping script.now node.0) }
+        ensures script { IfOk result (λ n. IsOf script.now n.core.parts) }
     {
         let nodes = script.nodes();
         let items = items_at(alloc, node, nodes, script.items())?;
+        let parts = NodeParts {
+            turns: Turns::start(),
+            items,
+            counters: Counters::new(nodes),
+            homes: Homes::new(alloc),
+        };
+        let core = NodeCore {
+            parts,
+            locks: Locks::new(alloc),
+            refusals: Refusals::new(alloc),
+        };
         Ok(NodeState {
-            parts: NodeParts {
-                turns: Turns::start(),
-                items,
-                counters: Counters::new(nodes),
-                homes: Homes::new(alloc),
+            node: KeepingParts {
+                core,
+                kept: KeptLetters::new(alloc),
             },
         })
     }
 
     /// The node's versions.
     pub fn turns(&self) -> &Turns
-        ensures { result.now ≡ self.now.turns }
+        ensures { result.now ≡ self.now.core.parts.turns }
     {
-        &self.parts.turns
+        &self.node.core.parts.turns
     }
 
     /// The node's items, by number.
     pub fn items(&self) -> &ItemTable
-        ensures { result.now ≡ self.now.items }
+        ensures { result.now ≡ self.now.core.parts.items }
     {
-        &self.parts.items
+        &self.node.core.parts.items
     }
 
     /// The requests to other nodes, and the completions from them, that the node counts by version.
     pub fn counters(&self) -> &Counters
-        ensures { result.now ≡ self.now.counters }
+        ensures { result.now ≡ self.now.core.parts.counters }
     {
-        &self.parts.counters
+        &self.node.core.parts.counters
     }
 
     /// The trees that have their home here and aren't answered yet, and the answers that are held here.
     pub fn homes(&self) -> &Homes
-        ensures { result.now ≡ self.now.homes }
+        ensures { result.now ≡ self.now.core.parts.homes }
     {
-        &self.parts.homes
+        &self.node.core.parts.homes
+    }
+
+    /// The locks on the node's items.
+    pub fn locks(&self) -> &Locks
+        ensures { result.now ≡ self.now.core.locks }
+    {
+        &self.node.core.locks
+    }
+
+    /// The letters that the node keeps until it can do them.
+    pub fn kept(&self) -> &KeptLetters
+        ensures { result.now ≡ self.now.kept }
+    {
+        &self.node.kept
     }
 
     /// Prepares what the node does with a letter: its row of the node's table. It changes nothing.
@@ -125,21 +152,23 @@ impl NodeState {
         alloc: Global,
         letter: &Letter,
         script: &Script,
-    ) -> Result<Prepared, NoMemory>
+    ) -> Result<KeepingPrepared, NoMemory>
         requires node { letter.now.to.0 < script.now.nodes }
-        requires script { IsOf script.now self.now }
-        requires below { AllBelow MOST_COUNT (counts_of self.now.counters).numbers }
-        ensures { IfOk result (IsNodeStepOf (node_row script.now letter.now.to.0 (data_of self.now) letter.now) self.now) }
+        requires kept { AreKeptAt letter.now.to.0 self.now.kept }
+        requires script { IsOf script.now self.now.core.parts }
+        requires below { AllBelow MOST_COUNT (counts_of self.now.core.parts.counters).numbers }
+        ensures { IfOk result (IsKeepingStepOf (keeping_row script.now letter.now.to.0 (keeping_of self.now) letter.now)
+            self.now) }
     {
-        prepare_node(alloc, &self.parts, letter, script)
+        prepare_letter(alloc, &self.node, letter, script)
     }
 
-    /// Does a step that was prepared, and gives what goes out. Only to open a tree at its home may need memory; then
-    /// the node is as it was.
-    pub(crate) fn done(&mut self, prepared: Prepared) -> Result<StepOut, NoMemory>
-        requires { MayDo prepared.change prepared.out.sent self.old }
-        ensures { IsDone (prepared_row prepared (data_of self.old)) self.old self.new result }
+    /// Does a step that was prepared, and gives what goes out. It may need memory to open a tree at its home, for locks,
+    /// for held answers and noes, and to keep a letter; where it finds none, the node is as it was.
+    pub(crate) fn done(&mut self, prepared: KeepingPrepared) -> Result<StepOut, NoMemory>
+        requires { MayDoKeeping prepared self.old }
+        ensures { IsKeepingDone prepared self.old self.new result }
     {
-        done(&mut self.parts, prepared)
+        keeping_done(&mut self.node, prepared)
     }
 }

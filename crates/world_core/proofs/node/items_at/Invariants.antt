@@ -1,7 +1,7 @@
 use Rattle.std.proofs.Common.{◌≡◌, ◌++◌, drop}
 use Rattle.item_versions.specs.Table.{IsAfter}
 use Rattle.item_versions.specs.Window.{IsWindowedTable}
-use Rattle.world_model.specs.Tables.{items_at}
+use Rattle.world_model.specs.Node.{items_at}
 use Rattle.world_core.proofs.node.items_at.Given as goal
 
 abbrev pub invariant-loop-x : goal.invariant-loop-x
