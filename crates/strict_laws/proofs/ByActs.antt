@@ -75,7 +75,7 @@ marks_needed v (o ∷ os) items can =
       by (Draw n) is can rest = absurd (let no_such : false ≡ true = sym (ap (λ (d : Deed). may_make v o.item d items) is) ∙ can.0 in cc no_such)
 
 -- Acts that neither take nor free a lock.
-after_turned : (s : ScriptData) (ls : List Lock) (raises : Bool) (v : ℕ) (more : List Act)
+pub after_turned : (s : ScriptData) (ls : List Lock) (raises : Bool) (v : ℕ) (more : List Act)
     → locks_after_acts s ls (turned_if raises v ++ more) ≡ locks_after_acts s ls more
 after_turned s ls true v more = refl
 after_turned s ls false v more = refl
@@ -88,7 +88,7 @@ decided_acts s c o (Some a) ls =
     fold-append (λ (held : List Lock) (x : Act). locks_after_act s x held) ls o.out.acts
     (acts.Decided a.tree (none_refuses a.tree c.refusals) ∷ [])
 
-decided_locks : (s : ScriptData) (c : Core) (o : TreeOut) (a : Option Answered) → (decided s c o a).state.locks ≡ c.locks
+pub decided_locks : (s : ScriptData) (c : Core) (o : TreeOut) (a : Option Answered) → (decided s c o a).state.locks ≡ c.locks
 decided_locks s c o None = refl
 decided_locks s c o (Some a) = refl
 

@@ -1,5 +1,5 @@
 -- The lock that a tree meets is the conflict that the look back names.
-use Rattle.std.proofs.Common.{◌≡◌, ◌==◌, ◌&&◌, ℕ, Bool, true, false, List, [], ◌∷◌, refl, sym, ap, ◌∙◌, arith, Option, Some, None}
+use Rattle.std.proofs.Common.{◌≡◌, ◌==◌, ◌&&◌, ℕ, zero, suc, Bool, true, false, List, [], ◌∷◌, refl, sym, ap, ◌∙◌, arith, Option, Some, None}
 use Rattle.std.specs.Option.{option_or}
 use Rattle.std.proofs.lemmas.Bool.Decides.{nat_tests}
 use Rattle.std.specs.Prelude.{not}
@@ -41,8 +41,8 @@ met_is_conflict s xs p ls t [] are = refl
 met_is_conflict s xs p ls t (o ∷ os) are =
     let m = lock_mode_of o.deed in
     let one = one_by t o.item m ls (first_where (is_in_way t o.item m) ls) refl
-    ∙ ap (conflict_with o.item) (sym (holder_is s xs p ls t o.item m (are o.item.0))) in
+    ∙ ap (conflict_with o.item) (sym (holder_is s xs p ls t o.item m (are 0 o refl))) in
     first_by (met_by (first_where (is_in_way t o.item m) ls)) (met_in t (needed_by os) ls)
     ∙ ap (λ (c : Option Cause). option_or c (conflict_by (met_in t (needed_by os) ls))) one
     ∙ ap (λ (c : Option Cause). option_or (conflict_with o.item (holder_of s xs p t.0 o.item.0 m)) c)
-    (met_is_conflict s xs p ls t os are)
+    (met_is_conflict s xs p ls t os (λ i q is. are (suc i) q is))

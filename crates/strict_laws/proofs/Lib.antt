@@ -1,3 +1,13 @@
 pub mod ByActs
 pub mod Conflicts
 pub mod Reasons
+pub mod RunLocks
+pub mod AtHome
+pub mod NoConflicts
+pub mod RunConflicts
+pub mod RowSends
+pub mod HeldOwn
+pub mod MeantRows
+pub mod Meant
+pub mod NoWakes
+pub mod Waking

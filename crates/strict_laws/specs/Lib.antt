@@ -1,2 +1,4 @@
 pub mod Keeping
 pub mod Locks
+pub mod Meant
+pub mod Waking
