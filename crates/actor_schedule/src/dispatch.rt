@@ -25,7 +25,6 @@ pub enum Ending {
 /// The mailboxes of the actors of the post that `P` names, each under a lock of its own, and which actors are ready.
 /// An actor is ready where a letter lies in its mailbox and no worker has it. No clause says who is served when, since
 /// what lies under a lock is known by its type alone.
-#[derive(Drop)]
 pub struct Dispatch<P: PostName> {
     actors: u8,
     mailboxes: Vec<CachePadded<Mutex<Mailbox<P>>>>,
@@ -35,6 +34,19 @@ pub struct Dispatch<P: PostName> {
     called: Condvar,
     ghost has_actors: { P.post.actors ≡ actors },
     ghost has_mailboxes: { length mailboxes.items ≡ actors },
+}
+
+// A drop of its own is one call wherever the mailboxes go out of scope.
+impl<P: PostName> Drop for Dispatch<P> {
+    fn drop(self) {
+        let Dispatch {
+            actors: _,
+            mailboxes: _,
+            schedule: _,
+            asleep: _,
+            called: _,
+        } = self;
+    }
 }
 
 impl<P: PostName> Dispatch<P> {

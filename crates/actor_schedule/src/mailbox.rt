@@ -11,11 +11,21 @@ use tv_base::NoMemory;
 
 // The letters that are in flight to an actor, and whether it is ready or a worker has it. Those that a worker took and
 // gave back are older than all others.
-#[derive(Drop)]
 pub(crate) struct Mailbox<P: PostName> {
     older: Bag<P>,
     newer: Bag<P>,
     attended: bool,
+}
+
+// A drop of its own is one call wherever a mailbox goes out of scope.
+impl<P: PostName> Drop for Mailbox<P> {
+    fn drop(self) {
+        let Mailbox {
+            older: _,
+            newer: _,
+            attended: _,
+        } = self;
+    }
 }
 
 impl<P: PostName> Mailbox<P> {

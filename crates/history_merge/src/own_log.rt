@@ -17,7 +17,6 @@ use tx_trees::Script;
 
 /// An actor's own entries in order, and its seat, of the script and the post that `K` names. The entries are a run of
 /// the actor's table, and its seat has just these. Contracts see its number, its entries, and how many it has room for.
-#[derive(Drop)]
 pub struct OwnLog<K: ClusterName> {
     number: u8,
     entries: Vec<Entry>,
@@ -40,6 +39,18 @@ impl<K: ClusterName> Model for OwnLog<K> {
     ghost invariant = { λ c.
         (c.seat ≡ seat_data K.post c.number (map delivery_of c.entries.items) None None)
         × IsRunOf (actor_row K.script c.number) (start_actor K.script c.number) c.entries.items };
+}
+
+// A drop of its own is one call wherever a log goes out of scope.
+impl<K: ClusterName> Drop for OwnLog<K> {
+    fn drop(self) {
+        let OwnLog {
+            number: _,
+            entries: _,
+            seat: _,
+            name: _,
+        } = self;
+    }
 }
 
 /// What came of a letter: the stamp of its entry, what its addressee did, and the letters that it sends.

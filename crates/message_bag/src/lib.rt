@@ -10,7 +10,6 @@ use std::marker::{Model, PhantomData};
 use tv_base::NoMemory;
 
 /// Envelopes of the post that `P` names, in the order in which they came. Contracts see it as their list.
-#[derive(Drop)]
 pub struct Bag<P: PostName> {
     envelopes: VecDeque<Envelope>,
     post: PhantomData<P>,
@@ -25,6 +24,16 @@ impl<P: PostName> Model for Bag<P> {
     ghost view = { λ b. b.envelopes.items };
 
     ghost invariant = { λ b. All (λ e. e.post ≡ P.post) b.envelopes.items };
+}
+
+// A drop of its own is one call wherever a mailbox goes out of scope.
+impl<P: PostName> Drop for Bag<P> {
+    fn drop(self) {
+        let Bag {
+            envelopes: _,
+            post: _,
+        } = self;
+    }
 }
 
 impl<P: PostName> Bag<P> {

@@ -14,7 +14,6 @@ use world_core::{ActorState, actor_step};
 
 /// An actor: its own log, of the script and the post that `K` names, and its state, to which the log's entries lead.
 /// Contracts see its number and its entries.
-#[derive(Drop)]
 pub struct ActorCell<K: ClusterName> {
     log: OwnLog<K>,
     state: ActorState,
@@ -31,6 +30,13 @@ impl<K: ClusterName> Model for ActorCell<K> {
     ghost invariant = { λ c.
         LeadsTo K.script c.log.number c.log.entries c.state
         × (K.post.actors ≡ K.script.nodes + 2) };
+}
+
+// A drop of its own is one call wherever a cell goes out of scope.
+impl<K: ClusterName> Drop for ActorCell<K> {
+    fn drop(self) {
+        let ActorCell { log: _, state: _ } = self;
+    }
 }
 
 impl<K: ClusterName> ActorCell<K> {

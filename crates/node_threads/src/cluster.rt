@@ -19,16 +19,32 @@ use tv_base::{Gate, NoMemory};
 use tx_trees::Script;
 
 // A gatherer can be sent to another thread, and not shared by several. So it lies under a lock, which nobody takes.
-#[derive(Drop)]
 struct Keeper<K: ClusterName> {
     gatherer: Gatherer,
     name: PhantomData<K>,
     ghost gatherer_is: { gatherer ≡ K.post },
 }
 
+impl<K: ClusterName> Drop for Keeper<K> {
+    fn drop(self) {
+        let Keeper {
+            gatherer: _,
+            name: _,
+        } = self;
+    }
+}
+
+impl<K: ClusterName> Keeper<K> {
+    fn into_gatherer(self) -> Gatherer
+        ensures { result ≡ K.post }
+    {
+        let Keeper { gatherer, name: _ } = self;
+        gatherer
+    }
+}
+
 /// The actors of the script that `K` names, on the post that it names. Each has a cell, and a mailbox of the letters
 /// that are in flight to it, each under a lock of its own. Actors are held at the gate.
-#[derive(Drop)]
 pub struct Cluster<'a, K: ClusterName, G: Gate> {
     pub(crate) alloc: Global,
     script: &'a Script,
@@ -42,6 +58,21 @@ pub struct Cluster<'a, K: ClusterName, G: Gate> {
     ghost has_cells: { length cells.items ≡ K.post.actors },
     ghost has_actors: { K.post.actors ≡ K.script.nodes + 2 },
     ghost has_few: { K.post.actors ≤ 255 },
+}
+
+// A drop of its own is one call wherever a cluster goes out of scope.
+impl<'a, K: ClusterName, G: Gate> Drop for Cluster<'a, K, G> {
+    fn drop(self) {
+        let Cluster {
+            alloc: _,
+            script: _,
+            gate: _,
+            post: _,
+            keeper: _,
+            cells: _,
+            dispatch: _,
+        } = self;
+    }
 }
 
 // A cell for each actor.
@@ -178,7 +209,7 @@ impl<'a, K: ClusterName, G: Gate> Cluster<'a, K, G> {
                 return Err((stop, cluster, receipts));
             }
         };
-        let Keeper { gatherer, name: _ } = keeper.into_inner();
+        let gatherer = keeper.into_inner().into_gatherer();
         let logs = logs_of(cells, room.logs);
         let room = GatherRoom {
             seats: room.seats,

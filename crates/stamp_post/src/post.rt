@@ -24,7 +24,6 @@ use tv_base::{ActorNo, NoMemory, Stamp};
 const CLOCK: usize = 1;
 
 /// What all threads of a post share: its clock. Contracts see which post it is, and how many actors it has.
-#[derive(Drop)]
 pub struct Post {
     table: Table<(), View, u8, Clock, Global>,
 }
@@ -38,6 +37,13 @@ impl Model for Post {
     ghost view = { λ p. post_id p.table.shared.table_id p.table.shared.key };
 
     ghost invariant = { λ p. (p.table.shared.table_id.words ≡ 2) × (p.table.shared.table_id.slots ≡ 0) };
+}
+
+// A drop of its own is one call wherever a post goes out of scope.
+impl Drop for Post {
+    fn drop(self) {
+        let Post { table: _ } = self;
+    }
 }
 
 /// A new post and all that belongs to it.
@@ -166,11 +172,7 @@ impl Post {
             (Some envelope.letter) seat.old.unsent }
         ensures letter { result ≡ envelope.letter }
     {
-        let Envelope {
-            seat: other,
-            actors: _,
-            letter,
-        } = envelope;
+        let (other, letter) = envelope.into_parts();
         self.table
             .shared
             .join_seat::<JoinEnvelope>(&mut seat.seat, other);

@@ -1,5 +1,6 @@
 // What is handed about: actors' seats, outboxes, envelopes, receipts and the gatherer.
-ghost use Rattle.std.specs.Prelude.{◌≡◌, ◌<◌, ◌≤◌, length, MatchResult};
+ghost use Rattle.std.specs.Prelude.{◌≡◌, ◌<◌, ◌≤◌, [], length, MatchResult};
+ghost use Rattle.stamp_post.specs.declared.rule.View.TheVariants.{Carrying};
 ghost use Rattle.stamp_post.specs.Shown.{AreToActors, receipt_data};
 
 use crate::first::FirstSeat;
@@ -57,7 +58,6 @@ impl Model for Gatherer {
 }
 
 /// A letter in flight, addressed to one of the post's actors. It can be neither copied nor made otherwise.
-#[derive(Drop)]
 pub struct Envelope {
     pub(crate) seat: Seat<(), View>,
     pub(crate) actors: u8,
@@ -76,7 +76,32 @@ impl Model for Envelope {
     ghost invariant = { λ e. (e.seat.me ≡ (Carrying e.letter, [])) × (e.letter.to.0 < e.actors) };
 }
 
+// A drop of its own is one call wherever an envelope goes out of scope.
+impl Drop for Envelope {
+    fn drop(self) {
+        let Envelope {
+            seat: _,
+            actors: _,
+            letter: _,
+        } = self;
+    }
+}
+
 impl Envelope {
+    // The seat and the letter that it carries.
+    pub(crate) fn into_parts(self) -> (Seat<(), View>, Letter)
+        ensures table { result.0.table_id ≡ self.post.table }
+        ensures seat { result.0.me ≡ (Carrying self.letter, []) }
+        ensures letter { result.1 ≡ self.letter }
+    {
+        let Envelope {
+            seat,
+            actors: _,
+            letter,
+        } = self;
+        (seat, letter)
+    }
+
     /// The letter.
     pub fn letter(&self) -> &Letter
         ensures letter { result.now ≡ self.now.letter }
@@ -88,7 +113,6 @@ impl Envelope {
 
 /// The letters of one posting that aren't out yet. Contracts see its post, its actor, that actor's postings up to its
 /// own, its own, and how many letters are out.
-#[derive(Drop)]
 pub struct Outbox {
     pub(crate) seat: Seat<(), View>,
     pub(crate) actors: u8,
@@ -116,6 +140,20 @@ impl Model for Outbox {
         × (o.left.items ≡ drop o.place (posting_in o.seat.me.0).sent)
         × (length (posting_in o.seat.me.0).sent ≤ 4294967295)
         × AreToActors o.actors o.left.items };
+}
+
+// A drop of its own is one call wherever an outbox goes out of scope.
+impl Drop for Outbox {
+    fn drop(self) {
+        let Outbox {
+            seat: _,
+            actors: _,
+            number: _,
+            stamp: _,
+            left: _,
+            place: _,
+        } = self;
+    }
 }
 
 impl Outbox {

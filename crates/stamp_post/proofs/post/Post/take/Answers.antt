@@ -8,17 +8,18 @@ use Rattle.stamp_post.proofs.post.Post.take.Goals as goal
 pub join_seat-requires : goal.join_seat-requires
 join_seat-requires c =
     let v = c.seat.inside.seat.me.0 in
+    let other = c.into_parts-other.result.0 in
     let none : taken_in v ≡ None = ap (λ d. d.taken) c.seat.view_is ∙ c.requires.none in
-    let home : c.envelope.inside.letter.to.0 ≡ c.seat.inside.number = ap (λ d. d.letter.to.0) c.envelope.view_is
-    ∙ c.requires.addressee ∙ sym (ap (λ d. d.number) c.seat.view_is) in (
+    let home : c.args.envelope.letter.to.0 ≡ c.seat.inside.number = c.requires.addressee
+    ∙ sym (ap (λ d. d.number) c.seat.view_is) in (
       ap (λ d. d.post.table) c.seat.view_is ∙ ap (λ p. p.table) c.requires.post.0
           ∙ sym (ap (λ p. p.table) c.self.view_is),
-      ap (λ d. d.post.table) c.envelope.view_is ∙ ap (λ p. p.table) c.requires.post.1
+      c.into_parts-other.ensures.table ∙ ap (λ p. p.table) c.requires.post.1
           ∙ sym (ap (λ p. p.table) c.self.view_is),
-      ap (λ m. m.1) c.envelope.invariant.0,
+      ap (λ m. m.1) c.into_parts-other.ensures.seat,
       omega (arith, c.self.invariant.0),
       envelope_join c.self.inside.table.shared.key c.seat.inside.seat.id c.seat.inside.number (own_in v)
-          (unsent_in v) c.envelope.inside.seat.id c.envelope.inside.letter v c.envelope.inside.seat.me.0
+          (unsent_in v) other.id c.args.envelope.letter v other.me.0
           (ap (λ m. m.0) c.seat.invariant.0 ∙ ap (λ (t : Option Letter). Acting c.seat.inside.number (own_in v) t
-          (unsent_in v)) none) (ap (λ m. m.0) c.envelope.invariant.0) home,
+          (unsent_in v)) none) (ap (λ m. m.0) c.into_parts-other.ensures.seat) home,
     )
