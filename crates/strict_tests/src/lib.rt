@@ -1,4 +1,4 @@
-//! Tests of what nodes will do for strict trees: locks, votes and kept letters.
+//! Tests of strict trees: locks, votes and kept letters, and whole worlds that run scripts with strict trees.
 #![tactic(auto)]
 
 #[cfg(test)]
@@ -6,4 +6,10 @@ mod kept;
 #[cfg(test)]
 mod locks;
 #[cfg(test)]
+mod rows;
+#[cfg(test)]
 mod votes;
+#[cfg(test)]
+mod words;
+#[cfg(test)]
+mod worlds;
