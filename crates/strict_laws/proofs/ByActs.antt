@@ -1,6 +1,7 @@
 -- A node's locks after a step are what its acts say.
 use Rattle.std.proofs.Common.{◌≡◌, ◌&&◌, ◌||◌, ℕ, Bool, true, false, List, [], ◌∷◌, ◌++◌, refl, sym, ap, ◌∙◌, arith, Option, Some, None}
 use Rattle.std.specs.Prelude.{if◌then◌else◌, not, map, nat_lt, slice_get}
+use Rattle.std.proofs.lemmas.Bool.{and_parts}
 use Rattle.std.proofs.lemmas.List.Sums.{fold-append}
 use Rattle.tv_base.specs.declared.numbers.SubNo.{SubNo}
 use Rattle.tv_base.specs.declared.numbers.TreeNo.{TreeNo}
@@ -55,15 +56,11 @@ wanted_needed (o ∷ os) =
     ap (λ (m : Mode). (o.item, m) ∷ wanted_by os) (same_mode o.deed) ∙ ap (λ (ws : Wanted). (o.item, lock_mode_of o.deed) ∷ ws) (wanted_needed os)
 
 -- operations that can be made by an update mark their items
-both : (a b : Bool) → (a && b) ≡ true → (a ≡ true) × (b ≡ true)
-both true b is = (refl, is)
-both false b is = absurd (let no_such : false ≡ true = is in cc no_such)
-
 marks_needed : (v : Version) (os : List SubOp) (items : Table) → can_touch v os items ≡ true
     → marks_on (map (λ (o : SubOp). o.item) os) ≡ needed_by os
 marks_needed v [] items can = refl
 marks_needed v (o ∷ os) items can =
-    by o.deed refl (both (may_make v o.item o.deed items) (can_touch v os (table_after_deed v o.item o.deed items)) can)
+    by o.deed refl (and_parts (may_make v o.item o.deed items) (can_touch v os (table_after_deed v o.item o.deed items)) can)
     (λ rest. marks_needed v os (table_after_deed v o.item o.deed items) rest) where
       by : (d : Deed) → o.deed ≡ d
           → (may_make v o.item o.deed items ≡ true) × (can_touch v os (table_after_deed v o.item o.deed items) ≡ true)

@@ -3,9 +3,8 @@ use Rattle.std.proofs.Common.{◌≡◌, ◌≢◌, ◌⊎◌, inl, inr, ℕ, �
 use Rattle.std.specs.Prelude.{if◌then◌else◌, not, nat_lt}
 use Rattle.std.specs.Option.{option_or}
 use Rattle.std.specs.Ordering.{is_eq}
-use Rattle.std.proofs.lemmas.Bool.{cases_eq}
+use Rattle.std.proofs.lemmas.Bool.{and_parts, cases_eq, or_cases}
 use Rattle.std.proofs.lemmas.Bool.Decides.{nat_tests}
-use Rattle.std.proofs.lemmas.Bool.{or_cases}
 use Rattle.tv_base.specs.declared.numbers.ItemNo.{ItemNo}
 use Rattle.tv_base.specs.declared.numbers.SubNo.{SubNo}
 use Rattle.tv_base.specs.declared.numbers.TreeNo.{TreeNo}
@@ -108,10 +107,7 @@ taken_apart t ws ls none old a b at_a at_b item ne =
 pub freed_apart : (t : TreeNo) (ls : List Lock) → HaveNoConflict ls → HaveNoConflict (without t ls)
 freed_apart t ls old a b at_a at_b item ne = old a b (left a at_a) (left b at_b) item ne where
   left : (l : Lock) → has_lock l (without t ls) ≡ true → has_lock l ls ≡ true
-  left l at = second (not (l.tree.0 == t.0)) (has_lock l ls) (sym (freed_are_gone l t ls) ∙ at) where
-    second : (x y : Bool) → (x && y) ≡ true → y ≡ true
-    second true y is = is
-    second false y is = absurd (cc is)
+  left l at = (and_parts (not (l.tree.0 == t.0)) (has_lock l ls) (sym (freed_are_gone l t ls) ∙ at)).1
 
 -- A subtransaction that isn't kept.
 not_parked : (t : TreeNo) (k : SubNo) (raises : Bool) (v : Version) (r : Option Met) (c : Core) → parked_if t k raises v r c ≡ None → r ≡ None

@@ -1,5 +1,6 @@
 -- What the row of a letter sends, and a fact of each letter of it.
 use Rattle.std.proofs.Common.{◌≡◌, ℕ, zero, suc, ◌<◌, ◌≤◌, ◌&&◌, Bool, true, false, List, [], ◌∷◌, ◌++◌, length, refl, sym, subst, arith, Option, Some, None}
+use Rattle.std.proofs.lemmas.Bool.{and_parts}
 use Rattle.std.specs.Prelude.{if◌then◌else◌, nat_lt}
 use Rattle.tv_base.specs.declared.numbers.SubNo.{SubNo}
 use Rattle.tv_base.specs.declared.numbers.TreeNo.{TreeNo}
@@ -122,15 +123,10 @@ if_each : (P : ℕ → Body → Type 0) (b : Bool) (os : List Outgoing) → (b �
 if_each P true os all = all refl
 if_each P false os all = tt
 
-both_of : (a b : Bool) → (a && b) ≡ true → (a ≡ true) × (b ≡ true)
-both_of true true is = (refl, refl)
-both_of true false is = absurd (cc is)
-both_of false b is = absurd (cc is)
-
 releases_own : (P : ℕ → Body → Type 0) (s : ScriptData) (t : TreeNo) → OfTree P s t → marks s t.0 ≡ true
     → Each (of P) (to_each (Release t) (visited_by s t.0))
 releases_own P s t h is =
-    let parts = both_of (has_strict s) (updates s t.0) is in
+    let parts = and_parts (has_strict s) (updates s t.0) is in
     to_visited P s t (Release t) (λ q at. h.release q parts.0 parts.1 at)
 
 releases : (P : ℕ → Body → Type 0) (s : ScriptData) (t : TreeNo) (o : Option Answered) → OfTree P s t → AnswersFor t o

@@ -3,7 +3,7 @@ use Rattle.std.proofs.Common.{◌≡◌, ◌≢◌, ◌⊎◌, inl, inr, ℕ, ze
 use Rattle.std.specs.Prelude.{if◌then◌else◌, fold, length, not, slice_get}
 use Rattle.std.specs.List.{AllByRecursion}
 use Rattle.std.specs.Ordering.{is_eq}
-use Rattle.std.proofs.lemmas.Bool.{cases_lt, or_cases}
+use Rattle.std.proofs.lemmas.Bool.{and_parts, cases_lt, or_cases}
 use Rattle.std.proofs.lemmas.Bool.Decides.{nat_tests}
 use Rattle.tv_base.specs.declared.numbers.ItemNo.{ItemNo}
 use Rattle.tv_base.specs.declared.numbers.SubNo.{SubNo}
@@ -69,10 +69,7 @@ taken_trees s t ws ls lt old l is = by (or_cases (has_lock l (wanted_locks t ws)
   by (inr there) = old l there
 
 freed_trees : (s : ScriptData) (t : TreeNo) (ls : List Lock) → OfTrees s ls → OfTrees s (without t ls)
-freed_trees s t ls old l is = old l (second (not (l.tree.0 == t.0)) (has_lock l ls) (sym (freed_are_gone l t ls) ∙ is)) where
-  second : (a b : Bool) → (a && b) ≡ true → b ≡ true
-  second true b is = is
-  second false b is = absurd (cc is)
+freed_trees s t ls old l is = old l (and_parts (not (l.tree.0 == t.0)) (has_lock l ls) (sym (freed_are_gone l t ls) ∙ is)).1
 
 act_trees : (s : ScriptData) (q : ℕ) (a : Act) (ls : List Lock) → q < s.nodes → IsAtHome s q a → OfTrees s ls → OfTrees s (locks_after_act s a ls)
 act_trees s q (acts.Did t j values) ls lt home old = by (updates s t.0) where
