@@ -64,7 +64,7 @@ kept_by_zero f s past (suc n) none =
       kept_zero f n (kept_in s past n) none (kept_in_past s past n),
     )
 
-all_in_flight : (f : Body → ℕ) (s : ScriptData) (past : List Entry) → CountsNoAsking f
+pub all_in_flight : (f : Body → ℕ) (s : ScriptData) (past : List Entry) → CountsNoAsking f
     → tally (λ (l : Letter). f l.body) (outstanding s past) ≡ tally (λ (l : Letter). f l.body) (in_flight s past)
 all_in_flight f s past none =
     omega (arith, tally-append (λ (l : Letter). f l.body) (in_flight s past) (kept_by s past s.nodes), kept_by_zero f s past s.nodes none)

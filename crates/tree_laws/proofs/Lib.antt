@@ -51,3 +51,8 @@ pub mod AptStagesSteps
 pub mod AptStagesOwn
 pub mod AptStagesApart
 pub mod AptStagesRun
+pub mod AptItems
+pub mod NodeLoads
+pub mod AptBounds
+pub mod AptWindows
+pub mod AptMakes

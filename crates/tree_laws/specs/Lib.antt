@@ -5,3 +5,5 @@ pub mod OwnValues
 pub mod Turns
 pub mod Carried
 pub mod Stages
+pub mod Applied
+pub mod Effects
