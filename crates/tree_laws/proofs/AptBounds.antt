@@ -1,29 +1,22 @@
 -- In runs of apt letters, of every script: each node's items keep to what took effect on them.
-use Rattle.std.proofs.Common.{◌≡◌, ◌≢◌, ◌⊎◌, inl, inr, ℕ, ◌+◌, ◌<◌, ◌≤◌, ◌==◌, ◌&&◌, Bool, true, false, List, [], ◌∷◌, refl, sym, ap, subst, ◌∙◌, arith, Option, Some, None}
-use Rattle.std.specs.Prelude.{if◌then◌else◌, slice_get, unsigned_abs}
+use Rattle.std.proofs.Common.{◌≡◌, ◌≢◌, ◌⊎◌, inl, inr, ℕ, ◌+◌, ◌<◌, ◌≤◌, ◌==◌, ◌&&◌, Bool, true, false, List, [], ◌∷◌, refl, sym, ap, subst, ◌∙◌, arith, Some}
+use Rattle.std.specs.Prelude.{slice_get}
 use Rattle.std.specs.List.{AllByRecursion}
 use Rattle.std.proofs.lemmas.Bool.{cases_eq}
 use Rattle.std.proofs.lemmas.Bool.Decides.{nat_tests}
 use Rattle.tv_base.proofs.Truths.{left_true}
-use Rattle.tv_base.specs.declared.numbers.ItemNo.{ItemNo}
 use Rattle.tv_base.specs.declared.numbers.TreeNo.{TreeNo}
 use Rattle.tv_base.specs.declared.numbers.Version.{Version}
-use Rattle.commute_ops.specs.declared.kinds.Op.{Op}
 use Rattle.letter_types.specs.declared.acts.Act.{Act}
 use Rattle.letter_types.specs.declared.bodies.Body.{Body}
 use Rattle.letter_types.specs.declared.bodies.Body.TheVariants.{Go, Root, Sub as SubLetter, Decide}
 use Rattle.letter_types.specs.declared.entries.Entry.{Entry}
 use Rattle.letter_types.specs.declared.entries.Letter.{Letter}
-use Rattle.item_versions.specs.Item.{Held, touched}
-use Rattle.item_versions.specs.Table.{Table, item_in, replaced, touched_in}
+use Rattle.item_versions.specs.Table.{Table}
 use Rattle.node_versions.specs.declared.turns.Turns.{Turns}
 use Rattle.tx_trees.specs.ScriptData.{ScriptData, node_of, ops_of, sub_at, subs_at}
-use Rattle.tx_trees.specs.Valid.{IsOp, IsValid, OpAt, deed_fits, initial_load, magnitude, op_fits, op_magnitude, ops_load}
-use Rattle.tx_trees.specs.declared.parts.Deed.{Deed}
-use Rattle.tx_trees.specs.declared.parts.Deed.TheVariants.{Apply, Get, Set, Draw}
-use Rattle.tx_trees.specs.declared.parts.ItemRow.{ItemRow}
+use Rattle.tx_trees.specs.Valid.{IsOp, IsValid, initial_load}
 use Rattle.tx_trees.specs.declared.parts.Sub.{Sub}
-use Rattle.tx_trees.specs.declared.parts.SubOp.{SubOp}
 use Rattle.tx_trees.specs.declared.parts.TreeKind.TheVariants as trees
 use Rattle.world_model.specs.AllApt.{AllApt}
 use Rattle.world_model.specs.Asked.{asked_version}
@@ -34,68 +27,28 @@ use Rattle.world_model.specs.Named.{is_named, is_strict_at, tree_kind_at}
 use Rattle.world_model.specs.Node.{Node}
 use Rattle.world_model.specs.Runs.{IsStepRun, keeping_in, node_in}
 use Rattle.world_model.specs.Strict.{CoreKeeping, core_row}
-use Rattle.world_model.specs.Updates.{table_after_deed, table_after_ops}
+use Rattle.world_model.specs.Updates.{table_after_ops}
 use Rattle.world_model.proofs.Cases.{Case, Coordinates, Does, Keeps, NodeDoes, NodeKeeps, Submits, case}
 use Rattle.world_model.proofs.Every.{node_kept}
 use Rattle.world_model.proofs.Keepings.{of_kept}
 use Rattle.world_model.proofs.Scripts.{SubAt}
-use Rattle.tree_laws.specs.Applied.{applied_at, applies_as}
+use Rattle.tree_laws.specs.Applied.{applies_as}
 use Rattle.tree_laws.specs.Dids.{asks}
 use Rattle.tree_laws.specs.Effects.{effects}
 use Rattle.tree_laws.specs.Turns.{has_turn, turns}
-use Rattle.tree_laws.proofs.AptItems.{Applies, Changes, Collects, NodeChanges, Raises, Rests, Shows, Touches, core_changes}
+use Rattle.tree_laws.proofs.AptItems.{Applies, Changes, Collects, Raises, Rests, Shows, Touches, core_changes}
 use Rattle.tree_laws.proofs.AptStagesOwn.{sub_of_node}
 use Rattle.tree_laws.proofs.AptSteps.{apt_named}
 use Rattle.tree_laws.proofs.AptTurns.{core_turns}
+use Rattle.tree_laws.proofs.Counts.{one_load_more}
 use Rattle.tree_laws.proofs.Loads.{trees_done}
-use Rattle.tree_laws.proofs.NodeLoads.{StrictTree, kind_here, node_load_more, node_ops_fit, one_load_more, ops_fit_kind, plain_kind, strict_there, trees_less}
+use Rattle.tree_laws.proofs.NodeLoads.{StrictTree, kind_here, node_load_more, node_ops_fit, ops_fit_kind, plain_kind, strict_there, trees_less}
 use Rattle.tree_laws.proofs.Overwriting.{decided_table}
-use Rattle.tree_laws.proofs.Tables.{ItemIn, TableIn, bound_after, bounds_after, collected_table, put_by, start_table, table_more, table_same}
-use Rattle.tree_laws.proofs.Values.{HeldIn, touched_held}
+use Rattle.tree_laws.proofs.Tables.{TableIn, bounds_after, collected_table, ops_table, start_table, table_more}
 
 -- an item's initial value and what took effect on it
 abbrev pub effect_bound : ScriptData → List Entry → ℕ → ℕ
 effect_bound s past x = initial_load (slice_get s.items x) + trees_done (effects s past) x 0 s.trees
-
--- Operations of an update tree keep the items to the bounds with them.
-abbrev Keeping : List ItemRow → ℕ → (ℕ → ℕ) → Version → SubOp → Table → Type 0
-Keeping rows p bound v o items = TableIn rows p (bound_after bound o.item.0 (magnitude o.deed)) (table_after_deed v o.item o.deed items)
-
-touched_there : (rows : List ItemRow) (p : ℕ) (bound : ℕ → ℕ) (v : Version) (n : ItemNo) (op : Op) (items : Table) (r : ItemRow)
-    (found : Option Held) → slice_get rows n.0 ≡ Some r → op_fits r.kind op ≡ true → item_in n items ≡ found
-    → ItemIn r.kind (bound n.0) found → TableIn rows p bound items
-    → TableIn rows p (bound_after bound n.0 (op_magnitude op)) (touched_in v n op items)
-touched_there rows p bound v n op items r None at fit here ok all = absurd ok
-touched_there rows p bound v n op items r (Some h) at fit here ok all =
-    let is : touched_in v n op items ≡ replaced n (touched v op h) items = rw here refl in
-    rw is
-    (λ x q qat node.
-    put_by rows p bound n (op_magnitude op) items h (touched v op h) r at here (touched_held r.kind op (bound n.0) v h fit ok) all x q qat node
-    (n.0 == x) refl)
-
-deed_keeps : (rows : List ItemRow) (p : ℕ) (bound : ℕ → ℕ) (v : Version) (n : ItemNo) (deed : Deed) (items : Table) (r : ItemRow)
-    → slice_get rows n.0 ≡ Some r → r.node.0 ≡ p → deed_fits trees.Update r.kind deed ≡ true → TableIn rows p bound items
-    → TableIn rows p (bound_after bound n.0 (magnitude deed)) (table_after_deed v n deed items)
-deed_keeps rows p bound v n (Apply op) items r at node fit all =
-    touched_there rows p bound v n op items r (item_in n items) at fit refl (all n.0 r at node) all
-deed_keeps rows p bound v n Get items r at node fit all = absurd (cc fit)
-deed_keeps rows p bound v n (Set a) items r at node fit all = absurd (cc fit)
-deed_keeps rows p bound v n (Draw a) items r at node fit all = absurd (cc fit)
-
-op_keeps : (rows : List ItemRow) (p : ℕ) (bound : ℕ → ℕ) (v : Version) (o : SubOp) (items : Table) (found : Option ItemRow)
-    → slice_get rows o.item.0 ≡ found → OpAt trees.Update p o found → TableIn rows p bound items → Keeping rows p bound v o items
-op_keeps rows p bound v o items None at is_op all = absurd is_op
-op_keeps rows p bound v o items (Some r) at is_op all = deed_keeps rows p bound v o.item o.deed items r at is_op.0 is_op.1 all
-
-ops_keep : (rows : List ItemRow) (p : ℕ) (bound : ℕ → ℕ) (v : Version) (os : List SubOp) (items : Table)
-    → AllByRecursion (IsOp rows trees.Update p) os → TableIn rows p bound items
-    → TableIn rows p (bounds_after bound os) (table_after_ops v os items)
-ops_keep rows p bound v [] items ops all = table_same rows p bound (bounds_after bound []) items (λ x. omega arith) all
-ops_keep rows p bound v (o ∷ os) items ops all =
-    let first = bound_after bound o.item.0 (magnitude o.deed) in
-    let now = table_after_deed v o.item o.deed items in
-    table_same rows p (bounds_after first os) (bounds_after bound (o ∷ os)) (table_after_ops v os now) (λ x. omega arith)
-    (ops_keep rows p first v os now ops.1 (op_keeps rows p bound v o items (slice_get rows o.item.0) refl ops.0 all))
 
 -- What takes effect stays.
 grows_by : (s : ScriptData) (past : List Entry) (e : Entry) (t k : ℕ) (test : Bool) → is_strict_at s t ≡ test
@@ -171,7 +124,7 @@ touches_keep s past e p t k v r valid d one kind all =
       trees_less (λ u i. one_if ((t == u) && (k == i)) + effects s past u i) (effects s (e ∷ past)) x 0 s.trees
           (λ u i. turn_more_by s past e t k u i ((t == u) && (k == i)) counts refl),
     ))
-    (ops_keep s.items p (effect_bound s past) v (ops_of s t k) items fits all)
+    (ops_table s.items p (effect_bound s past) v (ops_of s t k) items fits all)
 
 -- a node applies a commit
 applies_keep : (s : ScriptData) (past : List Entry) (e : Entry) (p : ℕ) (t : TreeNo) (v : Version) (r : Letter) → IsValid s → Does s past e p r

@@ -1,5 +1,5 @@
 -- In runs of apt letters, of every script: what a letter that has still to be done asks for can be made.
-use Rattle.std.proofs.Common.{◌≡◌, ℕ, zero, suc, ◌+◌, ◌<◌, ◌≤◌, ◌==◌, ◌&&◌, ◌||◌, Bool, true, false, not, List, [], ◌∷◌, length, refl, sym, ap, subst, ◌∙◌, arith, Option, Some, None}
+use Rattle.std.proofs.Common.{◌≡◌, ℕ, zero, suc, ◌+◌, ◌<◌, ◌≤◌, ◌==◌, ◌&&◌, ◌||◌, Bool, true, false, List, [], ◌∷◌, length, refl, sym, ap, subst, ◌∙◌, arith, Option, Some, None}
 use Rattle.std.specs.Prelude.{if◌then◌else◌, nat_lt, slice_get}
 use Rattle.std.specs.List.{AllByRecursion}
 use Rattle.std.proofs.lemmas.Bool.Decides.{nat_tests}
@@ -12,21 +12,19 @@ use Rattle.letter_types.specs.declared.bodies.Body.{Body}
 use Rattle.letter_types.specs.declared.bodies.Body.TheVariants.{Root, Sub as SubLetter, Decide}
 use Rattle.letter_types.specs.declared.entries.Entry.{Entry}
 use Rattle.letter_types.specs.declared.entries.Letter.{Letter}
-use Rattle.item_versions.specs.Table.{Table}
 use Rattle.tx_trees.proofs.SubsOf.{all_at, small_load, sub_nodes}
 use Rattle.tx_trees.specs.ScriptData.{ScriptData, node_of, ops_of, sub_at, subs_at, visits}
 use Rattle.tx_trees.specs.Valid.{IsOp, IsValid, ops_load, trees_load}
 use Rattle.tx_trees.specs.declared.parts.ItemRow.{ItemRow}
 use Rattle.tx_trees.specs.declared.parts.Sub.{Sub}
-use Rattle.tx_trees.specs.declared.parts.Tree.{Tree}
 use Rattle.tx_trees.specs.declared.parts.TreeKind.{TreeKind}
 use Rattle.tx_trees.specs.declared.parts.TreeKind.TheVariants as trees
 use Rattle.world_model.specs.AllApt.{AllApt}
 use Rattle.world_model.specs.Apt.{can_make_by}
 use Rattle.world_model.specs.Asked.{asked_ops, asked_version}
-use Rattle.world_model.specs.Counts.{one_if, tally}
+use Rattle.world_model.specs.Counts.{one_if}
 use Rattle.world_model.specs.Decisions.{can_decide, ops_at}
-use Rattle.world_model.specs.Kept.{kept_by, outstanding}
+use Rattle.world_model.specs.Kept.{kept_by}
 use Rattle.world_model.specs.Named.{is_named, is_strict_at, is_timely, tree_kind_at}
 use Rattle.world_model.specs.Node.{Node}
 use Rattle.world_model.specs.Runs.{IsStepRun, in_flight, keeping_in, node_in}
@@ -34,7 +32,7 @@ use Rattle.world_model.specs.Strict.{can_make_at}
 use Rattle.world_model.proofs.Bags.{tally-append}
 use Rattle.world_model.proofs.Outstanding.{IsOutstanding}
 use Rattle.world_model.proofs.Scripts.{SubAt, get_below, get_some, node_here, sub_here, tree_below}
-use Rattle.tree_laws.specs.Applied.{AppliedWhereDecided, DecidedOnce, applied_at, decided_as, decisions_to, tells_decision}
+use Rattle.tree_laws.specs.Applied.{AppliedWhereDecided, DecidedOnce, applied_at, decisions_to, tells_decision}
 use Rattle.tree_laws.specs.Dids.{asks, letters_asking}
 use Rattle.tree_laws.specs.Effects.{effects}
 use Rattle.tree_laws.specs.Turns.{turns}
@@ -44,12 +42,12 @@ use Rattle.tree_laws.proofs.AptStagesSteps.{all_in_flight}
 use Rattle.tree_laws.proofs.AptTurns.{no_turn_yet, turns_at_most_once}
 use Rattle.tree_laws.proofs.AptVersions.{tally_less}
 use Rattle.tree_laws.proofs.AptWindows.{near_has_room}
-use Rattle.tree_laws.proofs.Counts.{one_here}
+use Rattle.tree_laws.proofs.Counts.{one_here, one_load_more}
 use Rattle.tree_laws.proofs.Gets.{gets_found}
 use Rattle.tree_laws.proofs.Loads.{trees_done, trees_most}
-use Rattle.tree_laws.proofs.NodeLoads.{StrictTree, kind_here, node_load_more, node_ops_fit, one_load_more, ops_fit_kind, plain_kind, strict_there}
+use Rattle.tree_laws.proofs.NodeLoads.{StrictTree, kind_here, node_load_more, node_ops_fit, ops_fit_kind, plain_kind, strict_there}
 use Rattle.tree_laws.proofs.Overwriting.{can_decide_ops}
-use Rattle.tree_laws.proofs.Tables.{TableIn, touched_table}
+use Rattle.tree_laws.proofs.Tables.{touched_table}
 
 -- a run of apt letters of a valid script, in which decisions are applied where they are made
 record Running (s : ScriptData) (past : List Entry) : Type 0 where

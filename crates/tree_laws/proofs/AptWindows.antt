@@ -11,7 +11,7 @@ use Rattle.tv_base.specs.declared.numbers.Version.{Version}
 use Rattle.commute_ops.specs.Ops.{value_start}
 use Rattle.commute_ops.specs.declared.value.Value.{Value}
 use Rattle.letter_types.specs.declared.bodies.Body.{Body}
-use Rattle.letter_types.specs.declared.bodies.Body.TheVariants.{Go, Root, Sub as SubLetter, Decide, Turn, Show, Sweep}
+use Rattle.letter_types.specs.declared.bodies.Body.TheVariants.{Go, Root, Sub as SubLetter, Turn, Sweep}
 use Rattle.letter_types.specs.declared.entries.Entry.{Entry}
 use Rattle.letter_types.specs.declared.entries.Letter.{Letter}
 use Rattle.item_versions.proofs.Holding.{IsHeld-item_in, IsHeldTable-put_value_in, IsHeldTable-touched_in}
@@ -41,7 +41,7 @@ use Rattle.world_model.specs.Reads.{seen_in}
 use Rattle.world_model.specs.Runs.{IsStepRun, keeping_in, node_in}
 use Rattle.world_model.specs.Strict.{CoreKeeping, can_make_at, core_keeping, core_row, decides_near, is_born_now, is_core_apt, is_unheld, kept_by_kind, meets, parked, parked_if, root_waiting}
 use Rattle.world_model.specs.Updates.{table_after_deed, table_after_ops}
-use Rattle.world_model.proofs.Cases.{Case, Coordinates, Does, Keeps, NodeDoes, NodeKeeps, Submits, case}
+use Rattle.world_model.proofs.Cases.{Case, Coordinates, NodeDoes, NodeKeeps, Submits, case}
 use Rattle.world_model.proofs.Every.{node_kept}
 use Rattle.tree_laws.specs.Dids.{asks}
 use Rattle.tree_laws.proofs.AptItems.{Applies, Changes, Collects, RaisesTo, Raises, Rests, Shows, Touches, core_changes, raised_to}

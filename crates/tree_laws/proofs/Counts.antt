@@ -89,12 +89,17 @@ abbrev pub with_one : ScriptData → List Entry → ℕ → ℕ → ℕ → ℕ 
 with_one s past t k u i = one_if ((t == u) && (k == i)) + dids past u i
 
 -- the load of what is done, with a subtransaction more
+pub one_load_more : (s : ScriptData) (often : ℕ → ℕ → ℕ) (t k x : ℕ) → SubAt s t k
+    → trees_done (λ u i. one_if ((t == u) && (k == i)) + often u i) x 0 s.trees ≡ trees_done often x 0 s.trees + ops_load x (ops_of s t k)
+one_load_more s often t k x c =
+    let more = trees_more often (λ u i. one_if ((t == u) && (k == i)) + often u i) x 0 t k t c.tree c.sub s.trees c.at (omega arith) c.here
+    (omega (arith, one_here t k)) (λ j ne. omega (arith, other_sub t t j k (λ is. ne (sym is))))
+    (λ u j ne. omega (arith, other_tree u t j k (λ is. ne (sym is)))) in
+    rw (ops_here s t k c) more
+
 pub load_more : (s : ScriptData) (past : List Entry) (t k x : ℕ) (c : SubAt s t k)
     → trees_done (with_one s past t k) x 0 s.trees ≡ trees_done (dids past) x 0 s.trees + ops_load x (ops_of s t k)
-load_more s past t k x c =
-    let more = trees_more (dids past) (with_one s past t k) x 0 t k t c.tree c.sub s.trees c.at (omega arith) c.here (omega (arith, one_here t k))
-    (λ j ne. omega (arith, other_sub t t j k (λ is. ne (sym is)))) (λ u j ne. omega (arith, other_tree u t j k (λ is. ne (sym is)))) in
-    rw (ops_here s t k c) more
+load_more s past t k x c = one_load_more s (dids past) t k x c
 
 once_more : (s : ScriptData) (past : List Entry) (t k u i : ℕ) → SubAt s u i → IsSound s → IsGood s past → dids past t k ≡ 0 → (test : Bool)
     → ((t == u) && (k == i)) ≡ test

@@ -1,5 +1,5 @@
 -- The load of what a tree has at one node, and what a valid script says of the operations there.
-use Rattle.std.proofs.Common.{◌≡◌, ℕ, zero, suc, ◌+◌, ◌*◌, ◌≤◌, ◌==◌, ◌&&◌, Bool, true, false, List, [], ◌∷◌, ◌++◌, refl, sym, ap, subst, ◌∙◌, arith, Option, Some, None}
+use Rattle.std.proofs.Common.{◌≡◌, ℕ, zero, suc, ◌+◌, ◌*◌, ◌≤◌, ◌==◌, Bool, true, false, List, [], ◌∷◌, ◌++◌, refl, sym, ap, subst, ◌∙◌, arith, Option, Some, None}
 use Rattle.std.specs.Prelude.{if◌then◌else◌, slice_get}
 use Rattle.std.specs.List.{AllByRecursion}
 use Rattle.std.proofs.Math.Nat.{mul-le-mul_right}
@@ -17,9 +17,7 @@ use Rattle.world_model.specs.Counts.{one_if}
 use Rattle.world_model.specs.Decisions.{ops_at}
 use Rattle.world_model.specs.Named.{is_strict_at, tree_kind_at}
 use Rattle.world_model.proofs.Scripts.{SubAt, node_here, ops_here}
-use Rattle.tree_laws.proofs.Counts.{one_here}
-use Rattle.tree_laws.proofs.Loads.{subs_done, trees_done, trees_more}
-use Rattle.tree_laws.proofs.Sent.{other_sub, other_tree}
+use Rattle.tree_laws.proofs.Loads.{subs_done, trees_done}
 
 -- What is done at least as often has at least the load.
 subs_less : (a b : ℕ → ℕ) (x k : ℕ) (ss : List Sub) → ((j : ℕ) → a j ≤ b j) → subs_done a x k ss ≤ subs_done b x k ss
@@ -30,15 +28,6 @@ pub trees_less : (a b : ℕ → ℕ → ℕ) (x t : ℕ) (ts : List Tree) → ((
 trees_less a b x t [] less = omega arith
 trees_less a b x t (tree ∷ ts) less =
     omega (arith, subs_less (a t) (b t) x 0 tree.subs (less t), trees_less a b x (t + 1) ts less)
-
--- One subtransaction more.
-pub one_load_more : (s : ScriptData) (a : ℕ → ℕ → ℕ) (t k x : ℕ) → SubAt s t k
-    → trees_done (λ u i. one_if ((t == u) && (k == i)) + a u i) x 0 s.trees ≡ trees_done a x 0 s.trees + ops_load x (ops_of s t k)
-one_load_more s a t k x c =
-    let more = trees_more a (λ u i. one_if ((t == u) && (k == i)) + a u i) x 0 t k t c.tree c.sub s.trees c.at (omega arith) c.here
-    (omega (arith, one_here t k)) (λ j ne. omega (arith, other_sub t t j k (λ is. ne (sym is))))
-    (λ u j ne. omega (arith, other_tree u t j k (λ is. ne (sym is)))) in
-    rw (ops_here s t k c) more
 
 -- All that a tree has at a node.
 load_append : (x : ℕ) (os more : List SubOp) → ops_load x (os ++ more) ≡ ops_load x os + ops_load x more

@@ -61,10 +61,6 @@ replaced_other n m h (e ∷ es) other = replaced_other_at n m h e es other (e.0.
 abbrev pub bound_after : (ℕ → ℕ) → ℕ → ℕ → ℕ → ℕ
 bound_after bound n m x = bound x + (if n == x then m else 0)
 
--- an operation may be made, and the items keep to their bounds after it
-abbrev Makes : List ItemRow → ℕ → (ℕ → ℕ) → Version → ItemNo → Deed → Table → Type 0
-Makes rows p bound v n deed items = (may_make v n deed items ≡ true) × TableIn rows p bound (table_after_deed v n deed items)
-
 same_row : (x y : ItemRow) → Some x ≡ Some y → x ≡ y
 same_row x y is = cc is
 
@@ -87,38 +83,49 @@ put_by rows p bound n m items g h r at here ok all x q qat node false is =
     let none : bound x ≡ bound x + 0 = omega arith in
     rw is (rw (replaced_other n (record { 0 = x }) h items is) (subst (λ (b : ℕ). ItemIn q.kind b (item_in (record { 0 = x }) items)) none (all x q qat node)))
 
-one_op : (rows : List ItemRow) (p : ℕ) (bound : ℕ → ℕ) (v : Version) (n : ItemNo) (op : Op) (items : Table) (r : ItemRow) (h : Held)
-    → slice_get rows n.0 ≡ Some r → op_fits r.kind op ≡ true → item_in n items ≡ Some h → HeldIn r.kind (bound n.0) h
-    → bound n.0 + op_magnitude op ≤ MOST_AMOUNT → TableIn rows p bound items
-    → Makes rows p (bound_after bound n.0 (op_magnitude op)) v n (Apply op) items
-one_op rows p bound v n op items r h at fit here ok most all =
-    let may : may_touch_in v n op items ≡ true = rw (here, may_touch_in) (held_may r.kind op (bound n.0) v h fit most ok) in
-    let is : touched_in v n op items ≡ replaced n (touched v op h) items = rw here refl in
-    (may, rw is (λ x q qat node. put_by rows p bound n (op_magnitude op) items h (touched v op h) r at here (touched_held r.kind op (bound n.0) v h fit ok) all x q qat node (n.0 == x) refl))
-
-one_there : (rows : List ItemRow) (p : ℕ) (bound : ℕ → ℕ) (v : Version) (n : ItemNo) (op : Op) (items : Table) (r : ItemRow) (found : Option Held)
+-- an operation that fits keeps the items to their bounds with it
+op_there : (rows : List ItemRow) (p : ℕ) (bound : ℕ → ℕ) (v : Version) (n : ItemNo) (op : Op) (items : Table) (r : ItemRow) (found : Option Held)
     → slice_get rows n.0 ≡ Some r → op_fits r.kind op ≡ true → item_in n items ≡ found → ItemIn r.kind (bound n.0) found
-    → bound n.0 + op_magnitude op ≤ MOST_AMOUNT → TableIn rows p bound items
-    → Makes rows p (bound_after bound n.0 (op_magnitude op)) v n (Apply op) items
-one_there rows p bound v n op items r None at fit here ok most all = absurd ok
-one_there rows p bound v n op items r (Some h) at fit here ok most all = one_op rows p bound v n op items r h at fit here ok most all
+    → TableIn rows p bound items → TableIn rows p (bound_after bound n.0 (op_magnitude op)) (touched_in v n op items)
+op_there rows p bound v n op items r None at fit here ok all = absurd ok
+op_there rows p bound v n op items r (Some h) at fit here ok all =
+    let is : touched_in v n op items ≡ replaced n (touched v op h) items = rw here refl in
+    rw is (λ x q qat node. put_by rows p bound n (op_magnitude op) items h (touched v op h) r at here (touched_held r.kind op (bound n.0) v h fit ok) all x q qat node (n.0 == x) refl)
 
-one_deed : (rows : List ItemRow) (p : ℕ) (bound : ℕ → ℕ) (v : Version) (n : ItemNo) (deed : Deed) (items : Table) (r : ItemRow)
-    → slice_get rows n.0 ≡ Some r → r.node.0 ≡ p → deed_fits trees.Update r.kind deed ≡ true
-    → bound n.0 + magnitude deed ≤ MOST_AMOUNT → TableIn rows p bound items
-    → Makes rows p (bound_after bound n.0 (magnitude deed)) v n deed items
-one_deed rows p bound v n (Apply op) items r at node fit most all =
-    one_there rows p bound v n op items r (item_in n items) at fit refl (all n.0 r at node) most all
-one_deed rows p bound v n Get items r at node fit most all = absurd (cc fit)
-one_deed rows p bound v n (Set a) items r at node fit most all = absurd (cc fit)
-one_deed rows p bound v n (Draw a) items r at node fit most all = absurd (cc fit)
+deed_table : (rows : List ItemRow) (p : ℕ) (bound : ℕ → ℕ) (v : Version) (n : ItemNo) (deed : Deed) (items : Table) (r : ItemRow)
+    → slice_get rows n.0 ≡ Some r → r.node.0 ≡ p → deed_fits trees.Update r.kind deed ≡ true → TableIn rows p bound items
+    → TableIn rows p (bound_after bound n.0 (magnitude deed)) (table_after_deed v n deed items)
+deed_table rows p bound v n (Apply op) items r at node fit all =
+    op_there rows p bound v n op items r (item_in n items) at fit refl (all n.0 r at node) all
+deed_table rows p bound v n Get items r at node fit all = absurd (cc fit)
+deed_table rows p bound v n (Set a) items r at node fit all = absurd (cc fit)
+deed_table rows p bound v n (Draw a) items r at node fit all = absurd (cc fit)
 
-one_of : (rows : List ItemRow) (p : ℕ) (bound : ℕ → ℕ) (v : Version) (o : SubOp) (items : Table) (found : Option ItemRow)
+op_table : (rows : List ItemRow) (p : ℕ) (bound : ℕ → ℕ) (v : Version) (o : SubOp) (items : Table) (found : Option ItemRow)
+    → slice_get rows o.item.0 ≡ found → OpAt trees.Update p o found → TableIn rows p bound items
+    → TableIn rows p (bound_after bound o.item.0 (magnitude o.deed)) (table_after_deed v o.item o.deed items)
+op_table rows p bound v o items None at is_op all = absurd is_op
+op_table rows p bound v o items (Some r) at is_op all = deed_table rows p bound v o.item o.deed items r at is_op.0 is_op.1 all
+
+-- and may be made, where that is within what is allowed
+op_may : (v : Version) (n : ItemNo) (op : Op) (items : Table) (kind : Kind) (b : ℕ) (found : Option Held) → op_fits kind op ≡ true
+    → item_in n items ≡ found → ItemIn kind b found → b + op_magnitude op ≤ MOST_AMOUNT → may_touch_in v n op items ≡ true
+op_may v n op items kind b None fit here ok most = absurd ok
+op_may v n op items kind b (Some h) fit here ok most = rw (here, may_touch_in) (held_may kind op b v h fit most ok)
+
+deed_may : (v : Version) (n : ItemNo) (deed : Deed) (items : Table) (kind : Kind) (b : ℕ) → deed_fits trees.Update kind deed ≡ true
+    → ItemIn kind b (item_in n items) → b + magnitude deed ≤ MOST_AMOUNT → may_make v n deed items ≡ true
+deed_may v n (Apply op) items kind b fit ok most = op_may v n op items kind b (item_in n items) fit refl ok most
+deed_may v n Get items kind b fit ok most = absurd (cc fit)
+deed_may v n (Set a) items kind b fit ok most = absurd (cc fit)
+deed_may v n (Draw a) items kind b fit ok most = absurd (cc fit)
+
+may_by : (rows : List ItemRow) (p : ℕ) (bound : ℕ → ℕ) (v : Version) (o : SubOp) (items : Table) (found : Option ItemRow)
     → slice_get rows o.item.0 ≡ found → OpAt trees.Update p o found → bound o.item.0 + magnitude o.deed ≤ MOST_AMOUNT
-    → TableIn rows p bound items
-    → Makes rows p (bound_after bound o.item.0 (magnitude o.deed)) v o.item o.deed items
-one_of rows p bound v o items None at is_op most all = absurd is_op
-one_of rows p bound v o items (Some r) at is_op most all = one_deed rows p bound v o.item o.deed items r at is_op.0 is_op.1 most all
+    → TableIn rows p bound items → may_make v o.item o.deed items ≡ true
+may_by rows p bound v o items None at is_op most all = absurd is_op
+may_by rows p bound v o items (Some r) at is_op most all =
+    deed_may v o.item o.deed items r.kind (bound o.item.0) is_op.1 (all o.item.0 r at is_op.0) most
 
 -- Operations in order.
 
@@ -152,20 +159,37 @@ first_load : (rows : List ItemRow) (p : ℕ) (bound : ℕ → ℕ) (o : SubOp) (
 first_load rows p bound o os None at is_op most = absurd is_op
 first_load rows p bound o os (Some r) at is_op most = omega (arith, most o.item.0 r at, here_load o.item.0 o.item.0 (magnitude o.deed) refl)
 
--- operations that fit, and that keep within what is allowed, may all be made, and the items keep to their bounds
+-- operations that fit keep the items to their bounds with them
+pub ops_table : (rows : List ItemRow) (p : ℕ) (bound : ℕ → ℕ) (v : Version) (os : List SubOp) (items : Table)
+    → AllByRecursion (IsOp rows trees.Update p) os → TableIn rows p bound items
+    → TableIn rows p (bounds_after bound os) (table_after_ops v os items)
+ops_table rows p bound v [] items ops all = table_same rows p bound (bounds_after bound []) items (λ x. omega arith) all
+ops_table rows p bound v (o ∷ os) items ops all =
+    let first = bound_after bound o.item.0 (magnitude o.deed) in
+    let now = table_after_deed v o.item o.deed items in
+    table_same rows p (bounds_after first os) (bounds_after bound (o ∷ os)) (table_after_ops v os now) (λ x. omega arith)
+    (ops_table rows p first v os now ops.1 (op_table rows p bound v o items (slice_get rows o.item.0) refl ops.0 all))
+
+-- and may all be made, where they keep within what is allowed
+ops_may : (rows : List ItemRow) (p : ℕ) (bound : ℕ → ℕ) (v : Version) (os : List SubOp) (items : Table)
+    → AllByRecursion (IsOp rows trees.Update p) os
+    → ((x : ℕ) (r : ItemRow) → slice_get rows x ≡ Some r → bound x + ops_load x os ≤ MOST_AMOUNT)
+    → TableIn rows p bound items → can_touch v os items ≡ true
+ops_may rows p bound v [] items ops most all = refl
+ops_may rows p bound v (o ∷ os) items ops most all =
+    let found = slice_get rows o.item.0 in
+    let first = bound_after bound o.item.0 (magnitude o.deed) in
+    let now = table_after_deed v o.item o.deed items in
+    and_from (may_make v o.item o.deed items) (can_touch v os now)
+    (may_by rows p bound v o items found refl ops.0 (first_load rows p bound o os found refl ops.0 most) all)
+    (ops_may rows p first v os now ops.1 (λ x r at. omega (arith, most x r at)) (op_table rows p bound v o items found refl ops.0 all))
+
 pub touched_table : (rows : List ItemRow) (p : ℕ) (bound : ℕ → ℕ) (v : Version) (os : List SubOp) (items : Table)
     → AllByRecursion (IsOp rows trees.Update p) os
     → ((x : ℕ) (r : ItemRow) → slice_get rows x ≡ Some r → bound x + ops_load x os ≤ MOST_AMOUNT)
     → TableIn rows p bound items
     → (can_touch v os items ≡ true) × TableIn rows p (bounds_after bound os) (table_after_ops v os items)
-touched_table rows p bound v [] items ops most all = (refl, table_same rows p bound (bounds_after bound []) items (λ x. omega arith) all)
-touched_table rows p bound v (o ∷ os) items ops most all =
-    let first = bound_after bound o.item.0 (magnitude o.deed) in
-    let one = one_of rows p bound v o items (slice_get rows o.item.0) refl ops.0 (first_load rows p bound o os (slice_get rows o.item.0) refl ops.0 most) all in
-    let rest = touched_table rows p first v os (table_after_deed v o.item o.deed items) ops.1 (λ x r at. omega (arith, most x r at)) one.1 in (
-      and_from (may_make v o.item o.deed items) (can_touch v os (table_after_deed v o.item o.deed items)) one.0 rest.0,
-      table_same rows p (bounds_after first os) (bounds_after bound (o ∷ os)) (table_after_ops v os (table_after_deed v o.item o.deed items)) (λ x. omega arith) rest.1,
-    )
+touched_table rows p bound v os items ops most all = (ops_may rows p bound v os items ops most all, ops_table rows p bound v os items ops all)
 
 -- At the start.
 other_node : (n p : ℕ) → (n == p) ≡ false → n ≢ p
