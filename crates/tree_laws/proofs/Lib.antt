@@ -51,3 +51,7 @@ pub mod AptStagesSteps
 pub mod AptStagesOwn
 pub mod AptStagesApart
 pub mod AptStagesRun
+pub mod AptLawful
+pub mod AptRulings
+pub mod AptApplied
+pub mod AptOfTree

@@ -5,3 +5,4 @@ pub mod OwnValues
 pub mod Turns
 pub mod Carried
 pub mod Stages
+pub mod Applied
