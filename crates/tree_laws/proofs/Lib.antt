@@ -55,3 +55,4 @@ pub mod AptLawful
 pub mod AptRulings
 pub mod AptApplied
 pub mod AptOfTree
+pub mod AptDecided
