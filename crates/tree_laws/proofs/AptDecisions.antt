@@ -110,7 +110,7 @@ answer_version : (P : ℕ → Version → Type 0) (t : TreeNo) (k : SubNo) (vs :
 answer_version P t k vs None a all at = absurd (cc at)
 answer_version P t k vs (Some h) a all at = answer_with_version P t h _ a (all h refl) at
 
-noted_answer : (P : ℕ → Version → Type 0) (t : TreeNo) (k : SubNo) (vs : Gets) (hs : OpenTrees) (a : Answered) (test : Bool)
+pub noted_answer : (P : ℕ → Version → Type 0) (t : TreeNo) (k : SubNo) (vs : Gets) (hs : OpenTrees) (a : Answered) (test : Bool)
     → EachOpen P hs → (if test then answer_in t k vs hs else None) ≡ Some a → P a.tree.0 a.version
 noted_answer P t k vs hs a true all at = answer_version P t k vs (home_in t hs) a (λ g is. all t.0 g is) at
 noted_answer P t k vs hs a false all at = absurd (cc at)

@@ -232,7 +232,7 @@ pub coordinator_none : (f : Body → ℕ) (c : Coordinator) (l : Letter) → Cou
 coordinator_none f c l none =
     each_none (on f) (coordinator_table c l).sent (coordinator_each (λ (to : ℕ) (b : Body). f b ≡ 0) c (none.orders c.nodes) l.from.0 l.body)
 
-orders_none : (f : Body → ℕ) (n : ℕ) → ((v : Version) → (f (Turn v) ≡ 0) × ((f (Show v) ≡ 0) × (f (Sweep v) ≡ 0)))
+pub orders_none : (f : Body → ℕ) (n : ℕ) → ((v : Version) → (f (Turn v) ≡ 0) × ((f (Show v) ≡ 0) × (f (Sweep v) ≡ 0)))
     → ((v : Version) (k : ℕ) → (f (AskDone v k) ≡ 0) × (f (AskAsked v k) ≡ 0)) → ((v : Version) → f (Advanced v) ≡ 0) → OfOrders (λ (to : ℕ) (b : Body). f b ≡ 0) n
 orders_none f n tells asks_of ends = record {
   turn = λ to v lt. (tells v).0;

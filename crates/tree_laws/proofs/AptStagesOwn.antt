@@ -108,7 +108,7 @@ settles_by s past e p t r found m d at none row =
     }
 
 -- a root's tree isn't born
-unborn_by : (s : ScriptData) (past : List Entry) (t : ℕ) → SubAt s t 0 → turns past t 0 ≡ 0 → 0 < length (subs_at s t) → StageAt s past t → IsUnborn s past t
+pub unborn_by : (s : ScriptData) (past : List Entry) (t : ℕ) → SubAt s t 0 → turns past t 0 ≡ 0 → 0 < length (subs_at s t) → StageAt s past t → IsUnborn s past t
 unborn_by s past t c none lt (Unborn u) = u
 unborn_by s past t c none lt (Gathers h g) = absurd (omega (arith, none, g.root))
 unborn_by s past t c none lt (Holds h g) = absurd (omega (arith, none, g.all.turned 0 lt))
@@ -123,7 +123,7 @@ pub record Doing (s : ScriptData) (past : List Entry) (e : Entry) (p : ℕ) (r :
   pub does : Does s past e p r
 
 -- a letter that asks for a subtransaction is outstanding
-asked : (s : ScriptData) (past : List Entry) (e : Entry) (p t k : ℕ) (r : Letter) → Doing s past e p r → asks t k r.body ≡ 1
+pub asked : (s : ScriptData) (past : List Entry) (e : Entry) (p t k : ℕ) (r : Letter) → Doing s past e p r → asks t k r.body ≡ 1
     → 1 ≤ letters_asking s past t k
 asked s past e p t k r g one =
     omega (
@@ -133,12 +133,12 @@ asked s past e p t k r g one =
       does_number (λ (l : Letter). asks t k l.body) s past e p r g.does,
     )
 
-turned_here : (s : ScriptData) (past : List Entry) (e : Entry) (p t k : ℕ) (r : Letter) → Doing s past e p r
+pub turned_here : (s : ScriptData) (past : List Entry) (e : Entry) (p t k : ℕ) (r : Letter) → Doing s past e p r
     → tally (has_turn t k) e.acts ≡ asks t k r.body
 turned_here s past e p t k r g =
     omega (arith, turned_by s past e t k g.enters, does_number (λ (l : Letter). asks t k l.body) s past e p r g.does)
 
-notes_here : (s : ScriptData) (past : List Entry) (e : Entry) (p t k : ℕ) (r : Letter) → Doing s past e p r
+pub notes_here : (s : ScriptData) (past : List Entry) (e : Entry) (p t k : ℕ) (r : Letter) → Doing s past e p r
     → notices s (e ∷ past) t k + tells_done t k r.body ≡ notices s past t k + told t k r.body
 notes_here s past e p t k r g =
     omega (
@@ -148,7 +148,7 @@ notes_here s past e p t k r g =
       does_number (λ (l : Letter). told t k l.body) s past e p r g.does,
     )
 
-home_here : (s : ScriptData) (past : List Entry) (e : Entry) (p t : ℕ) (r : Letter) → Doing s past e p r → p ≡ home_of s t
+pub home_here : (s : ScriptData) (past : List Entry) (e : Entry) (p t : ℕ) (r : Letter) → Doing s past e p r → p ≡ home_of s t
     → home_at s (e ∷ past) t ≡ (core_row s p (keeping_in s past p).core r.from.0 r.body).state.node.homes t
 home_here s past e p t r g at =
     subst (λ (q : ℕ). (keeping_in s (e ∷ past) q).core.node.homes t ≡ (core_row s p (keeping_in s past p).core r.from.0 r.body).state.node.homes t) at

@@ -32,7 +32,7 @@ use Rattle.tree_laws.proofs.AptSteps.{apt_named, does_near, enters, home_node, n
 use Rattle.tree_laws.proofs.Sent.{other_tree}
 
 -- A letter of no tree, of another tree than w, or one that tells a node what was decided.
-abbrev IsOther : ℕ → HeldAnswers → Body → Type 0
+abbrev pub IsOther : ℕ → HeldAnswers → Body → Type 0
 IsOther w holds (Root t) = t.0 ≢ w
 IsOther w holds (SubLetter t k v) = t.0 ≢ w
 IsOther w holds (Done t k v notice) = t.0 ≢ w
@@ -40,7 +40,7 @@ IsOther w holds (Decided t v) = (t.0 ≢ w) × ((h : Held) → held_in t holds �
 IsOther w holds Go = Unit {0}
 IsOther w holds _ = Unit {0}
 
-other_apart : (w : ℕ) (holds : HeldAnswers) (b : Body) → IsOther w holds b → IsApart w holds b
+pub other_apart : (w : ℕ) (holds : HeldAnswers) (b : Body) → IsOther w holds b → IsApart w holds b
 other_apart w holds (Root t) it = it
 other_apart w holds (SubLetter t k v) it = tt
 other_apart w holds (Done t k v notice) it = it
@@ -48,7 +48,7 @@ other_apart w holds (Decided t v) it = it
 other_apart w holds Go it = tt
 other_apart w holds _ it = tt
 
-other_uncounted : (w : ℕ) (holds : HeldAnswers) (b : Body) → IsOther w holds b → Uncounted w b
+pub other_uncounted : (w : ℕ) (holds : HeldAnswers) (b : Body) → IsOther w holds b → Uncounted w b
 other_uncounted w holds (Root t) it = record { asks = λ k. other_tree w t.0 k 0 it; tells = λ k. refl; told = λ k. refl }
 other_uncounted w holds (SubLetter t j v) it =
     record { asks = λ k. other_tree w t.0 k j.0 it; tells = λ k. refl; told = λ k. other_tree w t.0 k j.0 it }
@@ -81,7 +81,7 @@ held_names s past t h (Answered g) at = absurd (let none = g.held in cc (none, a
 abbrev AllStaged : ScriptData → List Entry → Type 0
 AllStaged s past = (t : ℕ) → t < length s.trees → StageAt s past t
 
-decided_names : (s : ScriptData) (past : List Entry) (e : Entry) (p : ℕ) (t : TreeNo) (v : Version) (r : Letter) → Doing s past e p r
+pub decided_names : (s : ScriptData) (past : List Entry) (e : Entry) (p : ℕ) (t : TreeNo) (v : Version) (r : Letter) → Doing s past e p r
     → r.body ≡ Decided t v → AllStaged s past → (h : Held) → held_in t (keeping_in s past p).core.holds ≡ Some h → h.answered.tree.0 ≡ t.0
 decided_names s past e p t v r g is all h at =
     let named : is_named s p r.from.0 (Decided t v) ≡ true =
@@ -91,7 +91,7 @@ decided_names s past e p t v r g is all h at =
     held_names s past t.0 h (all t.0 (tree_below s t.0 0 (sub_of_node s p t.0 0 here g.does.brings.below)))
     (ap (λ (q : ℕ). (keeping_in s past q).core.holds t.0) here ∙ at)
 
-later_sub : (k n : ℕ) → n + one_if (k == 0) ≡ 0 → 0 < k
+pub later_sub : (k n : ℕ) → n + one_if (k == 0) ≡ 0 → 0 < k
 later_sub k n none = let zero : one_if (k == 0) ≡ 0 = omega (arith, none) in grind (arith, nat_tests)
 
 root_by : (s : ScriptData) (past : List Entry) (e : Entry) (p w : ℕ) (t : TreeNo) (r : Letter) → Doing s past e p r → r.body ≡ Root t

@@ -53,7 +53,7 @@ kept_zero : (f : Body → ℕ) (p : ℕ) (xs : List KeptLetter) → CountsNoAski
 kept_zero f p [] none all = refl
 kept_zero f p (x ∷ xs) none all = omega (arith, asked_none f x.tree x.sub x.letter.body none all.0.asks, kept_zero f p xs none all.1)
 
-kept_by_zero : (f : Body → ℕ) (s : ScriptData) (past : List Entry) (n : ℕ) → CountsNoAsking f
+pub kept_by_zero : (f : Body → ℕ) (s : ScriptData) (past : List Entry) (n : ℕ) → CountsNoAsking f
     → tally (λ (l : Letter). f l.body) (kept_by s past n) ≡ 0
 kept_by_zero f s past zero none = refl
 kept_by_zero f s past (suc n) none =

@@ -300,7 +300,7 @@ client_submits s c (Reply t v answer) = hears s c t.0 (nat_lt t.0 (length s.tree
 client_submits s c (Advanced v) = submits s c (with_end c) [] refl (λ f of. refl)
 client_submits s c _ = stands s c
 
-client_moves : (s : ScriptData) (past : List Entry) (e : Entry) → e.actor.0 ≡ client_of s
+pub client_moves : (s : ScriptData) (past : List Entry) (e : Entry) → e.actor.0 ≡ client_of s
     → client_in s (e ∷ past) ≡ (client_table s (client_in s past) e.took).state
 client_moves s past e at = let here : (e.actor.0 == client_of s) ≡ true = grind (arith, nat_tests) in rw here refl
 

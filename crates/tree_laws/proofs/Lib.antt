@@ -56,3 +56,8 @@ pub mod NodeLoads
 pub mod AptBounds
 pub mod AptWindows
 pub mod AptMakes
+pub mod AptLawful
+pub mod AptRulings
+pub mod AptApplied
+pub mod AptOfTree
+pub mod AptDecided

@@ -35,12 +35,12 @@ abbrev pub unheard : List Bool → ℕ
 unheard [] = 0
 unheard (b ∷ bs) = one_if (not b) + unheard bs
 
-unheard_first : (n : ℕ) → unheard (replicate n false) ≡ n
+pub unheard_first : (n : ℕ) → unheard (replicate n false) ≡ n
 unheard_first zero = refl
 unheard_first (suc n) = omega (arith, unheard_first n)
 
 -- one tree fewer
-unheard_less : (bs : List Bool) (t : ℕ) → t < length bs → get_or bs t false ≡ false → unheard (set bs t true) + 1 ≡ unheard bs
+pub unheard_less : (bs : List Bool) (t : ℕ) → t < length bs → get_or bs t false ≡ false → unheard (set bs t true) + 1 ≡ unheard bs
 unheard_less [] t lt is = absurd (omega arith)
 unheard_less (b ∷ bs) zero lt is = rw is (omega arith)
 unheard_less (b ∷ bs) (suc t) lt is = omega (arith, unheard_less bs t (omega arith) is)
@@ -74,7 +74,7 @@ not_heard a r true most some is = absurd (omega arith)
 not_heard a r false most some is = refl
 
 -- after a nudge the client sends no other
-nudge_sent : (s : ScriptData) (c : Client) → tally (on is_nudge) (submit s c (nudge s ∷ [])).sent ≡ 1
+pub nudge_sent : (s : ScriptData) (c : Client) → tally (on is_nudge) (submit s c (nudge s ∷ [])).sent ≡ 1
 nudge_sent s c =
     let rows = take (submitted c (take c.next s.rows) (drop c.next s.rows)) (drop c.next s.rows) in
     omega (arith, tally-append (on is_nudge) (nudge s ∷ []) (rows_letters s rows), roots_none is_nudge s rows (λ t. refl) refl)
@@ -105,7 +105,7 @@ obeys_none s st b out (TellsDone v k is row) = ap (λ (o : Out Node). tally (on 
 obeys_none s st b out (TellsAsked v k is row) = ap (λ (o : Out Node). tally (on is_nudge) o.sent) row
 
 -- nor is what the coordinator sends
-orders_none : (n : ℕ) → OfOrders (λ (to : ℕ) (b : Body). is_nudge b ≡ 0) n
+pub orders_none : (n : ℕ) → OfOrders (λ (to : ℕ) (b : Body). is_nudge b ≡ 0) n
 orders_none n = record {
   turn = λ to v lt. refl;
   show = λ to v lt. refl;

@@ -1,0 +1,329 @@
+-- What the row of a core decides on strict trees, what it tells of that, and what it applies.
+use Rattle.std.proofs.Common.{◌≡◌, ◌≢◌, ◌⊎◌, inl, inr, ℕ, zero, suc, ◌+◌, ◌<◌, ◌≤◌, ◌==◌, ◌&&◌, Bool, true, false, not, List, [], ◌∷◌, ◌++◌, length, refl, sym, ap, subst, ◌∙◌, arith, Option, Some, None}
+use Rattle.std.specs.Prelude.{if◌then◌else◌, nat_lt}
+use Rattle.std.proofs.lemmas.Bool.{cases_eq}
+use Rattle.std.proofs.lemmas.Bool.Decides.{nat_tests}
+use Rattle.tv_base.specs.declared.numbers.ItemNo.{ItemNo}
+use Rattle.tv_base.specs.declared.numbers.SubNo.{SubNo}
+use Rattle.tv_base.specs.declared.numbers.TreeNo.{TreeNo}
+use Rattle.tv_base.specs.declared.numbers.Version.{Version}
+use Rattle.letter_types.specs.Steps.{Out, still}
+use Rattle.letter_types.specs.declared.acts.Act.{Act}
+use Rattle.letter_types.specs.declared.acts.Act.TheVariants as acts
+use Rattle.letter_types.specs.declared.bodies.Body.{Body}
+use Rattle.letter_types.specs.declared.bodies.Body.TheVariants.{Root, Sub as SubLetter, Done, Go, Decide, Decided, Release, Reply, Advanced, Turn, Turned, Show, Shown, Sweep, Swept, AskDone, DoneRow, AskAsked, AskedRow}
+use Rattle.letter_types.specs.declared.bodies.Notice.{Notice}
+use Rattle.letter_types.specs.declared.bodies.Notice.TheVariants.{Did as DidNotice, Yes, No}
+use Rattle.letter_types.specs.declared.entries.Outgoing.{Outgoing}
+use Rattle.letter_types.specs.declared.votes.Vote.{Vote}
+use Rattle.tree_home.proofs.Always.{forgotten-gone}
+use Rattle.tree_home.specs.HeldAnswers.{answer_when_acked}
+use Rattle.tree_home.specs.Homes.{Gets, OpenTrees, begun, home_in, misses}
+use Rattle.tree_home.specs.declared.homes.Answered.{Answered}
+use Rattle.tx_trees.specs.ScriptData.{ScriptData, client_of, home_of, subs_at, visited_by}
+use Rattle.tx_trees.specs.declared.parts.Sub.{Sub}
+use Rattle.tx_trees.specs.declared.parts.TreeKind.{TreeKind}
+use Rattle.tx_trees.specs.declared.parts.TreeKind.TheVariants.{Update, Read, Strict}
+use Rattle.world_model.specs.Asked.{asked_ops, asked_version, tree_part}
+use Rattle.world_model.specs.Children.{done_letter, sub_letter, sub_letters}
+use Rattle.world_model.specs.Client.{Client, client_finishes, client_row, next_after, nudge, submit, with_answer, with_end}
+use Rattle.world_model.specs.Core.{Core, Refusals}
+use Rattle.world_model.specs.Counts.{tally}
+use Rattle.world_model.specs.Done.{TreeOut, note_part, turned_if}
+use Rattle.world_model.specs.Named.{is_strict_at, tree_kind_at}
+use Rattle.world_model.specs.Node.{Effect, Node}
+use Rattle.world_model.specs.Notices.{act_of, answer_noted, homes_noted, reply_letters, values_of}
+use Rattle.world_model.specs.Reads.{getting}
+use Rattle.world_model.specs.Strict.{CoreKeeping, answered, core_by_kind, core_keeping, core_row, decided, locks_by, none_refuses, note_core, noted_vote, refused_there, release_letters, to_each, voting}
+use Rattle.world_model.specs.Updates.{touching}
+use Rattle.world_model.specs.Votes.{vote_of}
+use Rattle.world_model.proofs.Bags.{tally-append}
+use Rattle.world_model.proofs.Flows.{finish_none}
+use Rattle.world_model.proofs.Keepings.{of_kept}
+use Rattle.tree_laws.proofs.AptStagesRows.{noted_names}
+use Rattle.tree_laws.proofs.Noting.{Last, More, Noting, noting}
+use Rattle.tree_laws.proofs.Turns.{answers_none, releases_none, replies_none}
+
+-- a letter that tells a decision
+abbrev pub is_decide : Body → Bool
+is_decide (Decide t v commit) = true
+is_decide Go = false
+is_decide _ = false
+
+-- the act of deciding on a tree, or of applying a decision
+abbrev pub is_ruling : Act → Bool
+is_ruling (acts.Decided t commit) = true
+is_ruling (acts.Applied t commit) = true
+is_ruling acts.Finished = false
+is_ruling _ = false
+
+-- numbers that count no other letters, and no other acts
+abbrev pub OfDecides : (Outgoing → ℕ) → Type 0
+OfDecides f = (o : Outgoing) → is_decide o.body ≡ false → f o ≡ 0
+
+abbrev pub OfRulings : (Act → ℕ) → Type 0
+OfRulings g = (a : Act) → is_ruling a ≡ false → g a ≡ 0
+
+-- where the tree with this answer is decided on, with these noes: the act of that, and a letter to each node that it visits
+abbrev pub ruled_acts : Refusals → Option Answered → List Act
+ruled_acts rs None = []
+ruled_acts rs (Some a) = acts.Decided a.tree (none_refuses a.tree rs) ∷ []
+
+abbrev pub ruled_letters : ScriptData → Refusals → Option Answered → List Outgoing
+ruled_letters s rs None = []
+ruled_letters s rs (Some a) = to_each (Decide a.tree a.version (none_refuses a.tree rs)) (visited_by s a.tree.0)
+
+-- the act of applying what a letter tells
+abbrev pub applied_acts : Body → List Act
+applied_acts (Decide t v commit) = acts.Applied t commit ∷ []
+applied_acts Go = []
+applied_acts _ = []
+
+-- the letter by which a tree may be decided on at its home
+abbrev pub Rules : TreeNo → Body → Type 0
+Rules u (Root t) = u ≡ t
+Rules u (Done t k v notice) = u ≡ t
+Rules u Go = ⊥
+Rules u _ = ⊥
+
+-- The row decides on the tree with this answer, which isn't open at its home then, and applies what its letter tells.
+pub record RowRules (s : ScriptData) (body : Body) (out : Out Core) : Type 0 where
+  pub found : Option Answered
+  pub acts : (g : Act → ℕ) → OfRulings g → tally g out.acts ≡ tally g (ruled_acts out.state.refusals found) + tally g (applied_acts body)
+  pub sends : (f : Outgoing → ℕ) → OfDecides f → tally f out.sent ≡ tally f (ruled_letters s out.state.refusals found)
+  pub gone : (a : Answered) → found ≡ Some a → out.state.node.homes a.tree.0 ≡ None
+  pub rules : (a : Answered) → found ≡ Some a → Rules a.tree body
+
+-- An answered tree isn't open any more.
+gone_noting : (t : TreeNo) (k : SubNo) (values : Gets) (hs : OpenTrees) (a : Answered) → Noting t k values hs
+    → answer_noted t k values hs ≡ Some a → home_in t (homes_noted t k values hs) ≡ None
+gone_noting t k values hs a (More after answer some) is = absurd (cc (answer, is))
+gone_noting t k values hs a (Last b after answer here none) is = ap (home_in t) after ∙ forgotten-gone t hs
+
+gone_by : (t : TreeNo) (k : SubNo) (values : Gets) (hs : OpenTrees) (a : Answered) (test : Bool) → misses t k hs ≡ test
+    → answer_noted t k values hs ≡ Some a → home_in t (homes_noted t k values hs) ≡ None
+gone_by t k values hs a true miss is = gone_noting t k values hs a (noting t k values hs miss) is
+gone_by t k values hs a false miss is = let none : None ≡ Some a = rw miss at is in absurd (cc none)
+
+noted_gone : (t : TreeNo) (k : SubNo) (values : Gets) (hs : OpenTrees) (a : Answered) → answer_noted t k values hs ≡ Some a
+    → homes_noted t k values hs a.tree.0 ≡ None
+noted_gone t k values hs a is =
+    let its : a.tree ≡ t = noted_names t k values hs a is in
+    ap (λ (u : TreeNo). homes_noted t k values hs u.0) its ∙ gone_by t k values hs a (misses t k hs) refl is
+
+-- Letters and acts that are none of these.
+sub_other : (f : Outgoing → ℕ) (u v parent i : ℕ) (x : Sub) (xs : List Sub) → OfDecides f → (test : Bool)
+    → (nat_lt parent i && (x.parent.0 == parent)) ≡ test → tally f (sub_letters u v parent (i + 1) xs) ≡ 0
+    → tally f (sub_letters u v parent i (x ∷ xs)) ≡ 0
+sub_other f u v parent i x xs of true is rest =
+    rw is (omega (arith, of (sub_letter x.node.0 u i v) refl, rest))
+sub_other f u v parent i x xs of false is rest = rw is rest
+
+subs_other : (f : Outgoing → ℕ) (u v parent i : ℕ) (xs : List Sub) → OfDecides f → tally f (sub_letters u v parent i xs) ≡ 0
+subs_other f u v parent i [] of = refl
+subs_other f u v parent i (x ∷ xs) of =
+    sub_other f u v parent i x xs of (nat_lt parent i && (x.parent.0 == parent)) refl (subs_other f u v parent (i + 1) xs of)
+
+told_other : (g : Act → ℕ) (t : TreeNo) (k : SubNo) (notice : Notice) → OfRulings g → g (act_of t k notice) ≡ 0
+told_other g t k (DidNotice values) of = of (acts.Did t k values) refl
+told_other g t k (Yes values) of = of (act_of t k (Yes values)) refl
+told_other g t k (No cause) of = of (act_of t k (No cause)) refl
+
+turned_other : (g : Act → ℕ) (raises : Bool) (v : ℕ) → OfRulings g → tally g (turned_if raises v) ≡ 0
+turned_other g true v of = omega (arith, of (acts.Turned (record { 0 = v })) refl)
+turned_other g false v of = refl
+
+-- The parts of a row: none of these is among what they send and do.
+record PartRules (body : Body) (o : TreeOut) : Type 0 where
+  acts : (g : Act → ℕ) → OfRulings g → tally g o.out.acts ≡ 0
+  sends : (f : Outgoing → ℕ) → OfDecides f → tally f o.out.sent ≡ 0
+  gone : (a : Answered) → o.answered ≡ Some a → o.out.state.homes a.tree.0 ≡ None
+  rules : (a : Answered) → o.answered ≡ Some a → Rules a.tree body
+
+part_rules : (s : ScriptData) (p from : ℕ) (v : Version) (raises : Bool) (e : Effect) (body : Body) (st : Node)
+    → PartRules body (tree_part s p from v raises e body st)
+part_rules s p from v raises e (Root t) st =
+    let k : SubNo = record { 0 = 0 } in
+    let hs : OpenTrees = begun t (length (subs_at s t.0)) v st.homes in
+    record {
+      acts = λ g of. omega (arith, of (acts.Born t v) refl, told_other g t k e.notice of);
+      sends = λ f of. subs_other f t.0 v.0 0 0 (subs_at s t.0) of;
+      gone = λ a is. noted_gone t k (values_of e.notice) hs a is;
+      rules = λ a is. noted_names t k (values_of e.notice) hs a is;
+    }
+part_rules s p from v raises e (SubLetter t k w) st = record {
+  acts = λ g of.
+      omega (
+        arith,
+        tally-append g (turned_if raises v.0) (act_of t k e.notice ∷ []),
+        turned_other g raises v.0 of,
+        told_other g t k e.notice of,
+      );
+  sends = λ f of.
+      omega (
+        arith,
+        tally-append f (sub_letters t.0 v.0 k.0 0 (subs_at s t.0)) (done_letter (home_of s t.0) t.0 k.0 v.0 e.notice ∷ []),
+        subs_other f t.0 v.0 k.0 0 (subs_at s t.0) of,
+        of (done_letter (home_of s t.0) t.0 k.0 v.0 e.notice) refl,
+      );
+  gone = λ a is. absurd (cc is);
+  rules = λ a is. absurd (cc is);
+}
+part_rules s p from v raises e _ st = record {
+  acts = λ g of. refl;
+  sends = λ f of. refl;
+  gone = λ a is. absurd (cc is);
+  rules = λ a is. absurd (cc is);
+}
+
+-- no tree is decided on
+rules_none : (s : ScriptData) (body : Body) (out : Out Core) → ((g : Act → ℕ) → OfRulings g → tally g out.acts ≡ tally g (applied_acts body))
+    → ((f : Outgoing → ℕ) → OfDecides f → tally f out.sent ≡ 0) → RowRules s body out
+rules_none s body out does sent = record {
+  found = None;
+  acts = λ g of. omega (arith, does g of);
+  sends = sent;
+  gone = λ a is. absurd (cc is);
+  rules = λ a is. absurd (cc is);
+}
+
+answered_rules : (s : ScriptData) (body : Body) (c : Core) (o : TreeOut) → applied_acts body ≡ [] → PartRules body o → RowRules s body (answered s c o)
+answered_rules s body c o none it =
+    rules_none s body (answered s c o) (λ g of. omega (arith, it.acts g of, ap (λ (xs : List Act). tally g xs) none))
+    (λ f of.
+    omega (
+      arith,
+      it.sends f of,
+      tally-append f (o.out.sent ++ release_letters s o.answered) (reply_letters (client_of s) o.answered),
+      tally-append f o.out.sent (release_letters s o.answered),
+      releases_none s f o.answered (λ q t. of (record { to = record { 0 = q }; body = Release t }) refl),
+      replies_none (client_of s) f o.answered (λ q t v answer. of (record { to = record { 0 = q }; body = Reply t v answer }) refl),
+    ))
+
+decided_rules : (s : ScriptData) (body : Body) (c : Core) (o : TreeOut) (found : Option Answered) → applied_acts body ≡ []
+    → o.answered ≡ found → PartRules body o → RowRules s body (decided s c o found)
+decided_rules s body c o None none is it =
+    rules_none s body (decided s c o None) (λ g of. omega (arith, it.acts g of, ap (λ (xs : List Act). tally g xs) none)) it.sends
+decided_rules s body c o (Some a) none is it =
+    let told : Body = Decide a.tree a.version (none_refuses a.tree c.refusals) in
+    record {
+      found = Some a;
+      acts = λ g of.
+          omega (
+            arith,
+            it.acts g of,
+            tally-append g o.out.acts (acts.Decided a.tree (none_refuses a.tree c.refusals) ∷ []),
+            ap (λ (xs : List Act). tally g xs) none,
+          );
+      sends = λ f of. omega (arith, it.sends f of, tally-append f o.out.sent (to_each told (visited_by s a.tree.0)));
+      gone = λ b same. it.gone b (is ∙ same);
+      rules = λ b same. it.rules b (is ∙ same);
+    }
+
+kind_rules : (s : ScriptData) (p from : ℕ) (t : TreeNo) (body : Body) (kind : Option TreeKind) (c : Core) → applied_acts body ≡ []
+    → RowRules s body (core_by_kind s p from t body kind c)
+kind_rules s p from t body (Some Update) c none =
+    let v : Version = asked_version c.node.turns.update body in
+    let e : Effect = touching v (asked_ops s body) c.node.items in
+    let raises : Bool = nat_lt c.node.turns.update.0 v.0 in
+    let marked : Core = record c { locks = (core_by_kind s p from t body (Some Update) c).state.locks } in
+    answered_rules s body marked (tree_part s p from v raises e body c.node) none (part_rules s p from v raises e body c.node)
+kind_rules s p from t body (Some Read) c none =
+    let v : Version = asked_version c.node.turns.read body in
+    let e : Effect = getting v (asked_ops s body) c.node.items in
+    answered_rules s body c (tree_part s p from v false e body c.node) none (part_rules s p from v false e body c.node)
+kind_rules s p from t body (Some Strict) c none =
+    let v : Version = asked_version c.node.turns.update body in
+    let vote : Vote = vote_of c.locks c.node.items t v (asked_ops s body) in
+    let e : Effect = voting vote c.node.items in
+    let raises : Bool = nat_lt c.node.turns.update.0 v.0 in
+    let o : TreeOut = tree_part s p from v raises e body c.node in
+    let noted : Core = record c { locks = locks_by vote t (asked_ops s body) c.locks; refusals = noted_vote body vote c.refusals } in
+    decided_rules s body noted o o.answered none refl (part_rules s p from v raises e body c.node)
+kind_rules s p from t body None c none =
+    rules_none s body (core_by_kind s p from t body None c) (λ g of. ap (λ (xs : List Act). tally g xs) (sym none)) (λ f of. refl)
+
+pick_rules : (s : ScriptData) (body : Body) (b : Bool) (x y : Out Core) → RowRules s body x → RowRules s body y → RowRules s body (if b then x else y)
+pick_rules s body true x y l r = l
+pick_rules s body false x y l r = r
+
+note_rules : (s : ScriptData) (from : ℕ) (t : TreeNo) (k : SubNo) (v : Version) (notice : Notice) (c : Core)
+    → RowRules s (Done t k v notice) (note_core s from t k v notice c)
+note_rules s from t k v notice c =
+    let body : Body = Done t k v notice in
+    let hs : OpenTrees = c.node.homes in
+    let o : TreeOut = note_part from t.0 k.0 v.0 (values_of notice) c.node in
+    let noted : Core = record c { refusals = refused_there t k notice c } in
+    let it : PartRules body o = record {
+      acts = λ g of. refl;
+      sends = λ f of. refl;
+      gone = λ a is. noted_gone t k (values_of notice) hs a is;
+      rules = λ a is. noted_names t k (values_of notice) hs a is;
+    } in
+    pick_rules s body (is_strict_at s t.0) (decided s noted o o.answered) (answered s c o) (decided_rules s body noted o o.answered refl refl it)
+    (answered_rules s body c o refl it)
+
+-- a letter that tells no decision, after which only this is done and sent
+one_letter : (f : Outgoing → ℕ) (o : Outgoing) → OfDecides f → is_decide o.body ≡ false → tally f (o ∷ []) ≡ 0
+one_letter f o of is = omega (arith, of o is)
+
+one_act : (g : Act → ℕ) (a : Act) → OfRulings g → is_ruling a ≡ false → tally g (a ∷ []) ≡ 0
+one_act g a of is = omega (arith, of a is)
+
+pub core_rules : (s : ScriptData) (p from : ℕ) (body : Body) (c : Core) → RowRules s body (core_row s p c from body)
+core_rules s p from (Root t) c = kind_rules s p from t (Root t) (tree_kind_at s t.0) c refl
+core_rules s p from (SubLetter t k v) c = kind_rules s p from t (SubLetter t k v) (tree_kind_at s t.0) c refl
+core_rules s p from (Done t k v notice) c = note_rules s from t k v notice c
+core_rules s p from (Decide t v commit) c = rules_none s (Decide t v commit) _ (λ g of. refl) (λ f of. one_letter f _ of refl)
+core_rules s p from (Decided t v) c =
+    rules_none s (Decided t v) _ (λ g of. refl)
+    (λ f of.
+    answers_none s c.refusals f (answer_when_acked t c.holds) (λ q u w answer. of (record { to = record { 0 = q }; body = Reply u w answer }) refl))
+core_rules s p from (Release t) c = rules_none s (Release t) _ (λ g of. one_act g _ of refl) (λ f of. refl)
+core_rules s p from (Turn v) c =
+    rules_none s (Turn v) _ (λ g of. turned_other g (nat_lt c.node.turns.update.0 v.0) v.0 of) (λ f of. one_letter f _ of refl)
+core_rules s p from (Show v) c = rules_none s (Show v) _ (λ g of. one_act g _ of refl) (λ f of. one_letter f _ of refl)
+core_rules s p from (Sweep v) c = rules_none s (Sweep v) _ (λ g of. one_act g _ of refl) (λ f of. one_letter f _ of refl)
+core_rules s p from (AskDone v k) c = rules_none s (AskDone v k) _ (λ g of. refl) (λ f of. one_letter f _ of refl)
+core_rules s p from (AskAsked v k) c = rules_none s (AskAsked v k) _ (λ g of. refl) (λ f of. one_letter f _ of refl)
+core_rules s p from Go c = rules_none s Go _ (λ g of. refl) (λ f of. refl)
+core_rules s p from _ c = rules_none s _ _ (λ g of. refl) (λ f of. refl)
+
+-- The acts of the client and of a node that keeps a letter.
+hears_acts : (g : Act → ℕ) (s : ScriptData) (c : Client) (t : ℕ) (test : Bool) → g acts.Finished ≡ 0
+    → tally g (if test then submit s (with_answer t c) (nudge s ∷ []) else still c).acts ≡ 0
+hears_acts g s c t true none = finish_none g (client_finishes s (next_after s (with_answer t c)) (with_answer t c)) none
+hears_acts g s c t false none = refl
+
+pub client_acts : (g : Act → ℕ) (s : ScriptData) (c : Client) (body : Body) → g acts.Finished ≡ 0 → tally g (client_row s c body).acts ≡ 0
+client_acts g s c Go none = finish_none g (client_finishes s (next_after s c) c) none
+client_acts g s c (Reply t v answer) none = hears_acts g s c t.0 (nat_lt t.0 (length s.trees)) none
+client_acts g s c (Advanced v) none = finish_none g (client_finishes s (next_after s (with_end c)) (with_end c)) none
+client_acts g s c _ none = refl
+
+-- numbers that count no act of keeping a letter
+pub record CountsNoKeeping (g : Act → ℕ) : Type 0 where
+  pub turned : (v : Version) → g (acts.Turned v) ≡ 0
+  pub parked : (t : TreeNo) (k : SubNo) (i : ItemNo) (u : TreeNo) → g (acts.Parked t k i u) ≡ 0
+  pub waits : (t : TreeNo) (v w : Version) → g (acts.Waits t v w) ≡ 0
+
+parked_acts : (g : Act → ℕ) (raises : Bool) (v : ℕ) (a : Act) → CountsNoKeeping g → g a ≡ 0 → tally g (turned_if raises v ++ a ∷ []) ≡ 0
+parked_acts g true v a none one = omega (arith, none.turned (record { 0 = v }), one)
+parked_acts g false v a none one = omega (arith, one)
+
+pub keeping_acts : (g : Act → ℕ) (s : ScriptData) (c : Core) (body : Body) (k : CoreKeeping) → CountsNoKeeping g → core_keeping s c body ≡ Some k
+    → tally g k.acts ≡ 0
+keeping_acts g s c body k none is =
+    of_kept s c (λ (x : CoreKeeping). tally g x.acts ≡ 0) body k
+    (record {
+      parks = λ t j raises v m. parked_acts g raises v.0 (acts.Parked t j m.item m.holder) none (none.parked t j m.item m.holder);
+      waits = λ t. omega (arith, none.waits t c.node.turns.update c.node.turns.read);
+    })
+    is
+
+pub rulings_no_keeping : (g : Act → ℕ) → OfRulings g → CountsNoKeeping g
+rulings_no_keeping g of = record {
+  turned = λ v. of (acts.Turned v) refl;
+  parked = λ t k i u. of (acts.Parked t k i u) refl;
+  waits = λ t v w. of (acts.Waits t v w) refl;
+}
