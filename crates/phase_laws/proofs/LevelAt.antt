@@ -1,5 +1,5 @@
 -- The level of a node: its versions, and the orders in flight to it, against the coordinator's phase.
-use Rattle.std.proofs.Common.{◌≡◌, ℕ, ◌+◌, ◌-◌, ◌<◌, ◌≤◌, ◌==◌, false, List, [], ◌∷◌, arith}
+use Rattle.std.proofs.Common.{◌≡◌, ℕ, ◌+◌, ◌-◌, ◌<◌, ◌≤◌, ◌==◌, false, List, [], ◌∷◌, refl, arith}
 use Rattle.letter_types.specs.declared.bodies.Body.{Body}
 use Rattle.letter_types.specs.declared.bodies.Body.TheVariants.{Sub as SubLetter, Turn, Show, Sweep}
 use Rattle.letter_types.specs.declared.entries.Entry.{Entry}
@@ -11,6 +11,7 @@ use Rattle.world_model.specs.Counts.{Each, one_if, tally}
 use Rattle.world_model.specs.Kept.{outstanding}
 use Rattle.world_model.specs.Runs.{coordinator_in, node_in, in_flight}
 use Rattle.phase_laws.specs.Phases.{Stage, TurnStage, ShowStage, SweepStage, least_update, most_update, least_read, most_read, most_low}
+use Rattle.phase_laws.proofs.Letters.{NoTrees}
 
 -- what a node comes to in a phase, now or by a letter that is in flight
 abbrev pub due_update : Phase → ℕ → ℕ
@@ -50,6 +51,38 @@ order TurnStage (Turn v) = 1
 order ShowStage (Show v) = 1
 order SweepStage (Sweep v) = 1
 order g _ = 0
+
+pub orders_no_trees : (g : Stage) → NoTrees (order g)
+orders_no_trees TurnStage = record {
+  root = λ t. refl;
+  sub = λ t k v. refl;
+  done = λ t k v notice. refl;
+  reply = λ t v answer. refl;
+  wake = λ t k. refl;
+  decide = λ t v commit. refl;
+  decided = λ t v. refl;
+  release = λ t. refl;
+}
+orders_no_trees ShowStage = record {
+  root = λ t. refl;
+  sub = λ t k v. refl;
+  done = λ t k v notice. refl;
+  reply = λ t v answer. refl;
+  wake = λ t k. refl;
+  decide = λ t v commit. refl;
+  decided = λ t v. refl;
+  release = λ t. refl;
+}
+orders_no_trees SweepStage = record {
+  root = λ t. refl;
+  sub = λ t k v. refl;
+  done = λ t k v notice. refl;
+  reply = λ t v answer. refl;
+  wake = λ t k. refl;
+  decide = λ t v commit. refl;
+  decided = λ t v. refl;
+  release = λ t. refl;
+}
 
 pub tally_most : {X : Type 0} (f g : X → ℕ) (xs : List X) → ((x : X) → f x ≤ g x) → tally f xs ≤ tally g xs
 tally_most f g [] le = omega arith

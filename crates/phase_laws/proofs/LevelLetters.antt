@@ -33,9 +33,9 @@ use Rattle.phase_laws.specs.Phases.{Stage, Told, TurnStage, ShowStage, SweepStag
 use Rattle.phase_laws.proofs.Outcomes.{Outcome, Rests, Queues, Flags, Turns, Acks, LastTurned, LastShown, Finishes, GoesOn, Resumes, KeepsDone, KeepsAsked, Agrees, Recounts, Pauses, asked_kept, finished, gone_on, round_begun}
 use Rattle.phase_laws.proofs.Small.{outcome_in}
 use Rattle.phase_laws.proofs.Tokens.{told}
-use Rattle.phase_laws.proofs.LevelAt.{LevelBody, Levels, order, tally_most}
+use Rattle.phase_laws.proofs.LevelAt.{LevelBody, Levels, order, orders_no_trees, tally_most}
 use Rattle.phase_laws.proofs.Brought.{each_of_brought}
-use Rattle.phase_laws.proofs.Letters.{NoTrees, waits_in_flight}
+use Rattle.phase_laws.proofs.Letters.{waits_in_flight}
 use Rattle.phase_laws.proofs.Progress.{Begins, Coordinates, Ends, Hears, IsWake, Obeys, Progress, WakesFor, Works, are_wakes}
 use Rattle.phase_laws.proofs.Working.{AsksOf, SentIn, done_version, root_version}
 
@@ -197,38 +197,6 @@ order_most ShowStage (Show v) = omega arith
 order_most ShowStage _ = omega arith
 order_most SweepStage (Sweep v) = omega arith
 order_most SweepStage _ = omega arith
-
-orders_no_trees : (g : Stage) → NoTrees (order g)
-orders_no_trees TurnStage = record {
-  root = λ t. refl;
-  sub = λ t k v. refl;
-  done = λ t k v notice. refl;
-  reply = λ t v answer. refl;
-  wake = λ t k. refl;
-  decide = λ t v commit. refl;
-  decided = λ t v. refl;
-  release = λ t. refl;
-}
-orders_no_trees ShowStage = record {
-  root = λ t. refl;
-  sub = λ t k v. refl;
-  done = λ t k v notice. refl;
-  reply = λ t v answer. refl;
-  wake = λ t k. refl;
-  decide = λ t v commit. refl;
-  decided = λ t v. refl;
-  release = λ t. refl;
-}
-orders_no_trees SweepStage = record {
-  root = λ t. refl;
-  sub = λ t k v. refl;
-  done = λ t k v notice. refl;
-  reply = λ t v answer. refl;
-  wake = λ t k. refl;
-  decide = λ t v commit. refl;
-  decided = λ t v. refl;
-  release = λ t. refl;
-}
 
 -- at the end of the sweeping phase the last token is the answer that is taken
 swept_leaves : (g : Stage) (v : Version) (a n tokens : ℕ) → tokens + within g Sweeping a ≡ within g Sweeping n → a + 1 ≡ n

@@ -38,7 +38,7 @@ use Rattle.phase_laws.proofs.Working.{IsRaiser}
 use Rattle.phase_laws.proofs.Outcomes.{Outcome, Rests, Queues, Flags, Turns, Acks, LastTurned, LastShown, Finishes, GoesOn, Resumes, KeepsDone, KeepsAsked, Agrees, Recounts, Pauses, asked_kept, finished, gone_on, round_begun}
 use Rattle.phase_laws.proofs.Small.{outcome_in}
 use Rattle.phase_laws.proofs.Tokens.{IsCalm, PhaseFor, phase_for, token_passes, told, calm_within, turn_fills, show_fills, sweep_fills, ask_fills, advance_apart, nudge_apart, ask_apart, ask_done_apart}
-use Rattle.phase_laws.proofs.LevelAt.{Level, LevelAt, LevelBody, Levels, order, tally_most, tell, tells}
+use Rattle.phase_laws.proofs.LevelAt.{Level, LevelAt, LevelBody, Levels, order, orders_no_trees, tally_most, tell, tells}
 
 -- What is sent to a node.
 abbrev sent_to : Stage → ℕ → Outgoing → ℕ
@@ -435,11 +435,20 @@ tell_order SweepStage p to (Sweep v) = one_if_most (to == p)
 tell_order SweepStage p to _ = omega arith
 
 no_trees : NoTrees never
-no_trees = record { root = λ t. refl; sub = λ t k v. refl; done = λ t k v notice. refl; reply = λ t v answer. refl; wake = λ t k. refl; decide = λ t v commit. refl; decided = λ t v. refl; release = λ t. refl }
+no_trees = record {
+  root = λ t. refl;
+  sub = λ t k v. refl;
+  done = λ t k v notice. refl;
+  reply = λ t v answer. refl;
+  wake = λ t k. refl;
+  decide = λ t v commit. refl;
+  decided = λ t v. refl;
+  release = λ t. refl;
+}
 
 orders_apart : (g : Stage) → Passes (order g) never
 orders_apart TurnStage = record {
-  sent = record { root = λ t. refl; sub = λ t k v. refl; done = λ t k v notice. refl; reply = λ t v answer. refl; wake = λ t k. refl; decide = λ t v commit. refl; decided = λ t v. refl; release = λ t. refl };
+  sent = orders_no_trees TurnStage;
   took = no_trees;
   turned = λ v. refl;
   shown = λ v. refl;
@@ -448,7 +457,7 @@ orders_apart TurnStage = record {
   asked_row = λ v k row. refl;
 }
 orders_apart ShowStage = record {
-  sent = record { root = λ t. refl; sub = λ t k v. refl; done = λ t k v notice. refl; reply = λ t v answer. refl; wake = λ t k. refl; decide = λ t v commit. refl; decided = λ t v. refl; release = λ t. refl };
+  sent = orders_no_trees ShowStage;
   took = no_trees;
   turned = λ v. refl;
   shown = λ v. refl;
@@ -457,7 +466,7 @@ orders_apart ShowStage = record {
   asked_row = λ v k row. refl;
 }
 orders_apart SweepStage = record {
-  sent = record { root = λ t. refl; sub = λ t k v. refl; done = λ t k v notice. refl; reply = λ t v answer. refl; wake = λ t k. refl; decide = λ t v commit. refl; decided = λ t v. refl; release = λ t. refl };
+  sent = orders_no_trees SweepStage;
   took = no_trees;
   turned = λ v. refl;
   shown = λ v. refl;

@@ -30,7 +30,7 @@ use Rattle.world_model.proofs.Sends.{on}
 use Rattle.world_model.specs.AllApt.{AllApt}
 use Rattle.phase_laws.specs.Phases.{count_in_flight}
 pub use Rattle.phase_laws.specs.Advances.{AdvancesAreKept, RoundsAreFew, asked_for, is_advance_letter, is_advanced, running}
-use Rattle.phase_laws.proofs.Letters.{Passes, keep_done_none, node_keeps, to_nodes_none}
+use Rattle.phase_laws.proofs.Letters.{NoTrees, Passes, keep_done_none, node_keeps, to_nodes_none}
 use Rattle.phase_laws.proofs.Progress.{Begins, Coordinates, Ends, Hears, Obeys, Progress, Works, progress}
 use Rattle.phase_laws.proofs.Outcomes.{HasRoom, Ignored, IsAnswer, IsRunning, Outcome, Rests, Queues, Flags, Turns, Acks, LastTurned, LastShown, Finishes, GoesOn, Resumes, KeepsDone, KeepsAsked, Agrees, Recounts, Pauses, asked_kept, one_more_is, outcome, round_begun}
 
@@ -379,10 +379,34 @@ other_small s past e away was asked ended =
     subst (λ (c : Coordinator). Numbers s (e ∷ past) c) (sym (coordinator_kept s past e away)) after
 
 -- neither kind of letters is of trees, or goes between the coordinator and the nodes
+advance_no_trees : NoTrees is_advance_letter
+advance_no_trees = record {
+  root = λ t. refl;
+  sub = λ t k v. refl;
+  done = λ t k v notice. refl;
+  reply = λ t v answer. refl;
+  wake = λ t k. refl;
+  decide = λ t v commit. refl;
+  decided = λ t v. refl;
+  release = λ t. refl;
+}
+
+advanced_no_trees : NoTrees is_advanced
+advanced_no_trees = record {
+  root = λ t. refl;
+  sub = λ t k v. refl;
+  done = λ t k v notice. refl;
+  reply = λ t v answer. refl;
+  wake = λ t k. refl;
+  decide = λ t v commit. refl;
+  decided = λ t v. refl;
+  release = λ t. refl;
+}
+
 advance_passes : Passes is_advance_letter is_advance_letter
 advance_passes = record {
-  sent = record { root = λ t. refl; sub = λ t k v. refl; done = λ t k v notice. refl; reply = λ t v answer. refl; wake = λ t k. refl; decide = λ t v commit. refl; decided = λ t v. refl; release = λ t. refl };
-  took = record { root = λ t. refl; sub = λ t k v. refl; done = λ t k v notice. refl; reply = λ t v answer. refl; wake = λ t k. refl; decide = λ t v commit. refl; decided = λ t v. refl; release = λ t. refl };
+  sent = advance_no_trees;
+  took = advance_no_trees;
   turned = λ v. refl;
   shown = λ v. refl;
   swept = λ v. refl;
@@ -392,8 +416,8 @@ advance_passes = record {
 
 advanced_passes : Passes is_advanced is_advanced
 advanced_passes = record {
-  sent = record { root = λ t. refl; sub = λ t k v. refl; done = λ t k v notice. refl; reply = λ t v answer. refl; wake = λ t k. refl; decide = λ t v commit. refl; decided = λ t v. refl; release = λ t. refl };
-  took = record { root = λ t. refl; sub = λ t k v. refl; done = λ t k v notice. refl; reply = λ t v answer. refl; wake = λ t k. refl; decide = λ t v commit. refl; decided = λ t v. refl; release = λ t. refl };
+  sent = advanced_no_trees;
+  took = advanced_no_trees;
   turned = λ v. refl;
   shown = λ v. refl;
   swept = λ v. refl;

@@ -24,16 +24,49 @@ use Rattle.world_model.proofs.Orders.{coordinator_nodes}
 use Rattle.world_model.proofs.Sends.{on}
 use Rattle.world_model.specs.AllApt.{AllApt}
 pub use Rattle.phase_laws.specs.Phases.{Stage, TurnStage, ShowStage, SweepStage, Told, token, count_in_flight, within}
-use Rattle.phase_laws.proofs.Letters.{Passes, keep_done_none, node_keeps, to_nodes_none, to_nodes_one}
+use Rattle.phase_laws.proofs.Letters.{NoTrees, Passes, keep_done_none, node_keeps, to_nodes_none, to_nodes_one}
 use Rattle.phase_laws.proofs.Progress.{Begins, Coordinates, Ends, Hears, Obeys, Progress, Works, progress}
 use Rattle.phase_laws.proofs.Outcomes.{Ignored, IsAnswer, Outcome, Rests, Queues, Flags, Turns, Acks, LastTurned, LastShown, Finishes, GoesOn, Resumes, KeepsDone, KeepsAsked, Agrees, Recounts, Pauses, asked_kept, in_next, round_begun}
 use Rattle.phase_laws.proofs.Small.{outcome_in}
 
+-- tokens are no letters of trees
+tokens_no_trees : (g : Stage) → NoTrees (token g)
+tokens_no_trees TurnStage = record {
+  root = λ t. refl;
+  sub = λ t k v. refl;
+  done = λ t k v notice. refl;
+  reply = λ t v answer. refl;
+  wake = λ t k. refl;
+  decide = λ t v commit. refl;
+  decided = λ t v. refl;
+  release = λ t. refl;
+}
+tokens_no_trees ShowStage = record {
+  root = λ t. refl;
+  sub = λ t k v. refl;
+  done = λ t k v notice. refl;
+  reply = λ t v answer. refl;
+  wake = λ t k. refl;
+  decide = λ t v commit. refl;
+  decided = λ t v. refl;
+  release = λ t. refl;
+}
+tokens_no_trees SweepStage = record {
+  root = λ t. refl;
+  sub = λ t k v. refl;
+  done = λ t k v notice. refl;
+  reply = λ t v answer. refl;
+  wake = λ t k. refl;
+  decide = λ t v commit. refl;
+  decided = λ t v. refl;
+  release = λ t. refl;
+}
+
 -- a node's answer counts as the order that it answers
 pub token_passes : (g : Stage) → Passes (token g) (token g)
 token_passes TurnStage = record {
-  sent = record { root = λ t. refl; sub = λ t k v. refl; done = λ t k v notice. refl; reply = λ t v answer. refl; wake = λ t k. refl; decide = λ t v commit. refl; decided = λ t v. refl; release = λ t. refl };
-  took = record { root = λ t. refl; sub = λ t k v. refl; done = λ t k v notice. refl; reply = λ t v answer. refl; wake = λ t k. refl; decide = λ t v commit. refl; decided = λ t v. refl; release = λ t. refl };
+  sent = tokens_no_trees TurnStage;
+  took = tokens_no_trees TurnStage;
   turned = λ v. refl;
   shown = λ v. refl;
   swept = λ v. refl;
@@ -41,8 +74,8 @@ token_passes TurnStage = record {
   asked_row = λ v k row. refl;
 }
 token_passes ShowStage = record {
-  sent = record { root = λ t. refl; sub = λ t k v. refl; done = λ t k v notice. refl; reply = λ t v answer. refl; wake = λ t k. refl; decide = λ t v commit. refl; decided = λ t v. refl; release = λ t. refl };
-  took = record { root = λ t. refl; sub = λ t k v. refl; done = λ t k v notice. refl; reply = λ t v answer. refl; wake = λ t k. refl; decide = λ t v commit. refl; decided = λ t v. refl; release = λ t. refl };
+  sent = tokens_no_trees ShowStage;
+  took = tokens_no_trees ShowStage;
   turned = λ v. refl;
   shown = λ v. refl;
   swept = λ v. refl;
@@ -50,8 +83,8 @@ token_passes ShowStage = record {
   asked_row = λ v k row. refl;
 }
 token_passes SweepStage = record {
-  sent = record { root = λ t. refl; sub = λ t k v. refl; done = λ t k v notice. refl; reply = λ t v answer. refl; wake = λ t k. refl; decide = λ t v commit. refl; decided = λ t v. refl; release = λ t. refl };
-  took = record { root = λ t. refl; sub = λ t k v. refl; done = λ t k v notice. refl; reply = λ t v answer. refl; wake = λ t k. refl; decide = λ t v commit. refl; decided = λ t v. refl; release = λ t. refl };
+  sent = tokens_no_trees SweepStage;
+  took = tokens_no_trees SweepStage;
   turned = λ v. refl;
   shown = λ v. refl;
   swept = λ v. refl;
