@@ -1,255 +1,97 @@
--- Requests are completions and the counted letters that have still to be done, and counters are small.
-use Rattle.std.proofs.Common.{◌∙◌, ◌≡◌, ◌≢◌, ◌⊎◌, inl, inr, ap, ℕ, ◌+◌, ◌*◌, ◌<◌, ◌≤◌, ◌==◌, ◌&&◌, Bool, true, false, List, [], ◌∷◌, length, refl, sym, subst, arith, Option}
-use Rattle.letter_types.specs.declared.bodies.Body.{Body}
-use Rattle.letter_types.specs.declared.bodies.Body.TheVariants.{Go, Root, Sub as SubLetter, Done, Reply, Advanced, Turn, Show, Sweep, AskDone, AskAsked, Decide, Decided}
-use Rattle.letter_types.specs.declared.bodies.Notice.{Notice}
-use Rattle.letter_types.specs.declared.bodies.Notice.TheVariants.{Did}
-use Rattle.letter_types.specs.declared.entries.Entry.{Entry}
-use Rattle.letter_types.specs.declared.entries.Outgoing.{Outgoing}
-use Rattle.letter_types.specs.Steps.{Out}
-use Rattle.node_versions.specs.declared.turns.Turns.{Turns}
-use Rattle.pair_counters.specs.Numbers.{AllBelow}
-use Rattle.tree_home.specs.Homes.{Gets, begun}
-use Rattle.tree_home.specs.declared.homes.Answered.{Answered}
-use Rattle.world_model.specs.Children.{sub_letters, done_letter}
-use Rattle.world_model.specs.Done.{note_done, root_done, sub_done, sub_sent}
-use Rattle.world_model.specs.Node.{Effect, Node}
-use Rattle.world_model.specs.Notices.{answer_noted, reply_letters, values_of}
+-- Requests are completions and the counted letters that have still to be done, and low versions never fall: in runs of apt
+-- letters, of every script. Counters are small.
+use Rattle.std.proofs.Common.{◌≡◌, ◌≢◌, ◌⊎◌, inl, inr, ℕ, ◌+◌, ◌*◌, ◌<◌, ◌≤◌, ◌&&◌, Bool, true, false, List, [], ◌∷◌, ◌++◌, length, refl, sym, ap, subst, ◌∙◌, arith, Option, Some, None}
+use Rattle.std.specs.Prelude.{if◌then◌else◌, nat_le, nat_lt}
+use Rattle.std.proofs.lemmas.Bool.{cases_eq}
+use Rattle.std.proofs.lemmas.Bool.Decides.{nat_tests}
+use Rattle.tv_base.proofs.Truths.{at_most}
 use Rattle.tv_base.specs.declared.numbers.SubNo.{SubNo}
 use Rattle.tv_base.specs.declared.numbers.TreeNo.{TreeNo}
 use Rattle.tv_base.specs.declared.numbers.Version.{Version}
-use Rattle.tx_trees.specs.ScriptData.{ScriptData, client_of, subs_at, node_of, home_of}
+use Rattle.letter_types.specs.declared.bodies.Body.{Body}
+use Rattle.letter_types.specs.declared.bodies.Body.TheVariants.{Root, Sub as SubLetter, Done, Decide, Decided, Release, Turn, Show, Sweep, AskDone, AskAsked}
+use Rattle.letter_types.specs.declared.bodies.Notice.{Notice}
+use Rattle.letter_types.specs.declared.entries.Entry.{Entry}
+use Rattle.letter_types.specs.declared.entries.Letter.{Letter}
+use Rattle.letter_types.specs.declared.entries.Outgoing.{Outgoing}
+use Rattle.letter_types.specs.declared.kept.KeptLetter.{KeptLetter}
+use Rattle.letter_types.specs.declared.kept.Why.{Why}
+use Rattle.letter_types.specs.declared.votes.Vote.{Vote}
+use Rattle.letter_types.specs.Kept.{kept_without, wakes, wakes_by}
+use Rattle.letter_types.specs.Steps.{Out}
+use Rattle.node_versions.specs.declared.turns.Turns.{Turns}
+use Rattle.pair_counters.specs.Numbers.{AllBelow}
+use Rattle.tx_trees.specs.ScriptData.{ScriptData}
+use Rattle.tx_trees.specs.Valid.{IsValid}
+use Rattle.tx_trees.specs.declared.parts.TreeKind.{TreeKind}
+use Rattle.tx_trees.specs.declared.parts.TreeKind.TheVariants.{Update, Read, Strict}
+use Rattle.world_model.specs.AllApt.{AllApt}
+use Rattle.world_model.specs.Asked.{asked_ops, asked_version, tree_part}
+use Rattle.world_model.specs.Core.{Core}
 use Rattle.world_model.specs.Counts.{tally}
-use Rattle.std.specs.Prelude.{nat_lt, if◌then◌else◌}
-use Rattle.std.proofs.lemmas.Bool.{cases_eq}
-use Rattle.std.proofs.lemmas.Bool.Decides.{nat_tests}
-use Rattle.pair_counters.specs.Numbers.{from_version}
-use Rattle.world_model.specs.Advancing.{turn_row, show_row, sweep_row, done_row, asked_row}
+use Rattle.world_model.specs.Done.{TreeOut, note_part}
+use Rattle.world_model.specs.Kept.{kept_in, of_done}
+use Rattle.world_model.specs.Named.{is_named, is_new, is_strict_at, is_timely, tree_kind_at}
+use Rattle.world_model.specs.Node.{Effect, Node}
+use Rattle.world_model.specs.Notices.{values_of}
+use Rattle.world_model.specs.Reads.{getting}
+use Rattle.world_model.specs.Runs.{IsStepRun, MayFollow, actor_in, keeping_in, node_in}
+use Rattle.world_model.specs.Strict.{CoreKeeping, answered, can_make_at, core_by_kind, core_row, decided, decides_near, is_core_apt, is_unheld, locks_by, note_core, noted_vote, refused_there, voting}
+use Rattle.world_model.specs.Taking.{CountsBelow, MOST_COUNTED}
+use Rattle.world_model.specs.Updates.{touching}
+use Rattle.world_model.specs.Votes.{vote_of}
+use Rattle.world_model.proofs.Bags.{sealed_tally, tally-append}
+use Rattle.world_model.proofs.Cases.{Case, Coordinates, Does, Keeps, NodeDoes, NodeKeeps, Submits, case, does_number, keeps_number}
 use Rattle.world_model.proofs.Every.{node_kept}
-use Rattle.world_model.specs.Kept.{of_done, done_by}
-use Rattle.world_model.specs.Runs.{node_in, MayFollow, IsStepRun}
-use Rattle.world_model.proofs.Bags.{sealed_tally, tally-append, one_if_most}
-use Rattle.world_model.proofs.Outstanding.{NoWakes, done_most, outstanding_first, outstanding_step}
-use Rattle.world_model.proofs.EachOutstanding.{done_to}
-use Rattle.world_model.proofs.Every.{each_append}
-use Rattle.phase_laws.specs.Balance.{MOST_COUNTED, version_is, goes_between, out}
-use Rattle.world_model.proofs.Nexts.{Next, Begins, Hears, Ends, Coordinates, DoesRoot, DoesSub, Notes, Obeys, Made, Order, Turns as TurnsTo, Shows as ShowsTo, Sweeps as SweepsTo, TellsDone, TellsAsked, Tells, DoesBody}
-use Rattle.world_model.proofs.Scripts.{IsSound, SubAt, is_tree, subs_here}
-use Rattle.phase_laws.proofs.Levels.{sweeps_rise}
-use Rattle.world_model.proofs.Lawful.{IsLawful}
-use Rattle.world_model.specs.Timely.{AllTimely}
-use Rattle.world_model.proofs.Worked.{is_itself, itself_done, of_done_here, order_itself}
-use Rattle.phase_laws.proofs.Counters.{AreOf, children_few, children_of, counted, more_is, replies_uncounted, root_asked, root_completed, sub_asked, sub_completed}
-use Rattle.phase_laws.proofs.Moves.{Counts, DoesLetter, RowCounts, apart, by_node, sent_on, uncounted_goes}
+use Rattle.world_model.proofs.Keepings.{OfKeepings, of_kept}
+use Rattle.world_model.proofs.Nexts.{Made}
+use Rattle.world_model.proofs.Outstanding.{NoWakes, outstanding_first, outstanding_step}
+use Rattle.world_model.proofs.SmallCounts.{small_counts}
+use Rattle.phase_laws.specs.Apt.{AptRunsBalance, CountsAreSmall}
+use Rattle.phase_laws.specs.Balance.{goes_between, out, version_is}
+use Rattle.phase_laws.proofs.CoreCounts.{at_node, core_counts}
+use Rattle.phase_laws.proofs.Counters.{counted}
+use Rattle.phase_laws.proofs.Lawful.{IsLawful}
+use Rattle.phase_laws.proofs.Moves.{Counts, RowCounts, aside, by_node, sent_on, uncounted_goes}
+use Rattle.phase_laws.proofs.Working.{decided_turns}
 
--- a tree has at most 64 subtransactions
-few_subs : (s : ScriptData) (t k : ℕ) → IsSound s → SubAt s t k → length (subs_at s t) ≤ 64
-few_subs s t k sound sub = rw (subs_here s t k sub) (is_tree s t sub.tree sound sub.at).few
+-- What is known of an apt letter: what it names belongs to the node, and it comes in time.
+named_and_timely : (a b c d e f g : Bool) → (a && (b && (c && d && (e && f && g)))) ≡ true → (b ≡ true) × (e ≡ true)
+named_and_timely a b c d e f g is = (grind arith, grind arith)
 
--- a root counts one of its version with itself, and its children
-root_row : (s : ScriptData) (h t v w from : ℕ) (body : Body) (effect : Effect) (st : Node)
-    (answer : Option Answered)
-    → length (subs_at s t) ≤ 64 → version_is v body ≡ false
-    → answer
-    ≡ answer_noted (record { 0 = t }) (record { 0 = 0 }) (values_of effect.notice)
-    (begun (record { 0 = t }) (length (subs_at s t)) (record { 0 = w }) st.homes)
-    → RowCounts h v from body st (root_done s h t w effect st)
-root_row s h t v w from body effect st answer few none is = record {
-  own = w == v;
-  asked = λ q low. rw (← is) (omega (
-    arith,
-    root_asked w h (sub_letters t w 0 0 (subs_at s t)) st.counts v q (children_of t w 0 0 (subs_at s t)),
-    tally-append (counted v q) (sub_letters t w 0 0 (subs_at s t)) (reply_letters (client_of s) answer),
-    replies_uncounted (client_of s) answer v q,
-  ));
-  done = λ p low. rw none (omega (arith, root_completed w h (sub_letters t w 0 0 (subs_at s t)) st.counts v p));
-  asked_most = λ q. rw (← is) (omega (
-    arith,
-    root_asked w h (sub_letters t w 0 0 (subs_at s t)) st.counts v q (children_of t w 0 0 (subs_at s t)),
-    tally-append (counted v q) (sub_letters t w 0 0 (subs_at s t)) (reply_letters (client_of s) answer),
-    replies_uncounted (client_of s) answer v q,
-  ));
-  done_most = λ p. rw none (omega (arith, root_completed w h (sub_letters t w 0 0 (subs_at s t)) st.counts v p));
-  few = λ q. rw (← is) (omega (
-    arith,
-    few,
-    one_if_most (w == v),
-    children_few t w 0 0 v q (subs_at s t),
-    tally-append (counted v q) (sub_letters t w 0 0 (subs_at s t)) (reply_letters (client_of s) answer),
-    replies_uncounted (client_of s) answer v q,
-  ));
+pub apt_parts : (s : ScriptData) (p : ℕ) (c : Core) (l : Letter) → is_core_apt s p c l ≡ true
+    → (is_named s p l.from.0 l.body ≡ true) × (is_timely s c.node l.body ≡ true)
+apt_parts s p c l apt =
+    named_and_timely _ (is_named s p l.from.0 l.body) (is_new s c.node l.body) (is_unheld l.body c.holds)
+    (is_timely s c.node l.body) (decides_near s c.node l.body) (can_make_at s p c l.body) apt
+
+-- Wakes aren't counted.
+wake_uncounted : (v q : ℕ) (b : Bool) (o : Outgoing) (os : List Outgoing) → counted v q o ≡ 0 → tally (counted v q) os ≡ 0
+    → tally (counted v q) (if b then o ∷ os else os) ≡ 0
+wake_uncounted v q true o os one none = omega (arith, one, none)
+wake_uncounted v q false o os one none = none
+
+pub wakes_uncounted : (v q : ℕ) (test : Why → Bool) (kept : List KeptLetter) → tally (counted v q) (wakes test kept) ≡ 0
+wakes_uncounted v q test [] = refl
+wakes_uncounted v q test (x ∷ xs) =
+    wake_uncounted v q (test x.why) _ (wakes test xs) refl (wakes_uncounted v q test xs)
+
+-- a row with more letters that aren't counted
+abbrev with_more : Out Node → List Outgoing → Out Node
+with_more out more = record { state = out.state; sent = out.sent ++ more; acts = out.acts }
+
+counts_more : (h v from : ℕ) (body : Body) (st : Node) (row : Out Node) (more : List Outgoing)
+    → ((q : ℕ) → tally (counted v q) more ≡ 0) → RowCounts h v from body st row → RowCounts h v from body st (with_more row more)
+counts_more h v from body st row more none counts = record {
+  own = counts.own;
+  asked = λ q low. omega (arith, counts.asked q low, tally-append (counted v q) row.sent more, none q);
+  done = counts.done;
+  asked_most = λ q. omega (arith, counts.asked_most q, tally-append (counted v q) row.sent more, none q);
+  done_most = counts.done_most;
+  few = λ q. omega (arith, counts.few q, tally-append (counted v q) row.sent more, none q);
 }
 
--- what a subtransaction sends is counted
-pub sent_of : (s : ScriptData) (t k w : ℕ) (notice : Notice) → AreOf w (sub_sent s t k w notice)
-sent_of s t k w notice =
-    each_append (λ (o : Outgoing). (v : ℕ) → version_is v o.body ≡ (w == v)) (sub_letters t w k 0 (subs_at s t))
-    (done_letter (home_of s t) t k w notice ∷ []) (children_of t w k 0 (subs_at s t)) ((λ v. refl), tt)
-
--- another subtransaction counts its children and its notice, and the letter that asked for it
-sub_row : (s : ScriptData) (h v from : ℕ) (t : TreeNo) (k : SubNo) (w : Version) (raises : Bool) (effect : Effect)
-    (st : Node)
-    → length (subs_at s t.0) ≤ 64
-    → RowCounts h v from (SubLetter t k w) st (sub_done s from t.0 k.0 w.0 raises effect st)
-sub_row s h v from t k w raises effect st few = record {
-  own = false;
-  asked = λ q low. omega (
-    arith,
-    sub_asked w.0 from (sub_sent s t.0 k.0 w.0 effect.notice) st.counts v q (sent_of s t.0 k.0 w.0 effect.notice),
-  );
-  done = λ p low. omega (arith, sub_completed w.0 from (sub_sent s t.0 k.0 w.0 effect.notice) st.counts v p);
-  asked_most = λ q. omega (
-    arith,
-    sub_asked w.0 from (sub_sent s t.0 k.0 w.0 effect.notice) st.counts v q (sent_of s t.0 k.0 w.0 effect.notice),
-  );
-  done_most = λ p. omega (arith, sub_completed w.0 from (sub_sent s t.0 k.0 w.0 effect.notice) st.counts v p);
-  few = λ q. omega (
-    arith,
-    few,
-    children_few t.0 w.0 k.0 0 v q (subs_at s t.0),
-    tally-append (counted v q) (sub_letters t.0 w.0 k.0 0 (subs_at s t.0))
-        (done_letter (home_of s t.0) t.0 k.0 w.0 effect.notice ∷ []),
-    one_if_most ((w.0 == v) && (home_of s t.0 == q)),
-  );
-}
-
--- a notice is counted where it is taken
-note_row : (s : ScriptData) (h v from : ℕ) (t : TreeNo) (k : SubNo) (w : Version) (values : Gets) (st : Node)
-    (answer : Option Answered)
-    → answer ≡ answer_noted t k values st.homes
-    → RowCounts h v from (Done t k w (Did values)) st (note_done s from t.0 k.0 w.0 values st)
-note_row s h v from t k w values st answer is = record {
-  own = false;
-  asked = λ q low. rw (← is) (omega (arith, replies_uncounted (client_of s) answer v q));
-  done = λ p low. omega (arith, more_is w.0 from st.counts.done v p);
-  asked_most = λ q. rw (← is) (omega (arith, replies_uncounted (client_of s) answer v q));
-  done_most = λ p. omega (arith, more_is w.0 from st.counts.done v p);
-  few = λ q. rw (← is) (omega (arith, replies_uncounted (client_of s) answer v q));
-}
-
--- a body that isn't counted
-uncounted : (v : ℕ) (body is : Body) → body ≡ is → version_is v is ≡ false → version_is v body ≡ false
-uncounted v body is eq none = rw eq none
-
--- the counts of a row for a body that is this one
-row_for : (h v from : ℕ) (body is : Body) (st : Node) (row : Out Node) → body ≡ is → RowCounts h v from is st row
-    → RowCounts h v from body st row
-row_for h v from body is st row eq counts = subst (λ (b : Body). RowCounts h v from b st row) (sym eq) counts
-
--- An order counts nothing.
-pub quiet_row : (h v from : ℕ) (body : Body) (st : Node) (row : Out Node) → version_is v body ≡ false
-    → ((q : ℕ) → row.state.turns.low.0 ≤ v → row.state.counts.asked v q ≡ st.counts.asked v q)
-    → ((p : ℕ) → row.state.turns.low.0 ≤ v → row.state.counts.done v p ≡ st.counts.done v p)
-    → ((q : ℕ) → row.state.counts.asked v q ≤ st.counts.asked v q)
-    → ((p : ℕ) → row.state.counts.done v p ≤ st.counts.done v p)
-    → ((q : ℕ) → tally (counted v q) row.sent ≡ 0) → RowCounts h v from body st row
-quiet_row h v from body st row none asked done less_asked less_done sent = record {
-  own = false;
-  asked = λ q low. omega (arith, asked q low, sent q);
-  done = λ p low. rw none (omega (arith, done p low));
-  asked_most = λ q. omega (arith, less_asked q, sent q);
-  done_most = λ p. rw none (omega (arith, less_done p));
-  few = λ q. omega (arith, sent q);
-}
-
-pub cut_at : (w v q : ℕ) (f : ℕ → ℕ → ℕ) → w ≤ v → from_version w f v q ≡ f v q
-cut_at w v q f le = let kept : nat_lt v w ≡ false = grind (arith, nat_tests) in rw kept refl
-
-cut_most_by : (b : Bool) (n : ℕ) → (if b then 0 else n) ≤ n
-cut_most_by true n = omega arith
-cut_most_by false n = omega arith
-
-pub cut_most : (w v q : ℕ) (f : ℕ → ℕ → ℕ) → from_version w f v q ≤ f v q
-cut_most w v q f = cut_most_by (nat_lt v w) (f v q)
-
-order_row : (s : ScriptData) (h v from : ℕ) (body : Body) (st : Node) (out : Out Node) → Order s st body out
-    → RowCounts h v from body st out
-order_row s h v from body st out (TurnsTo w bd is) =
-    subst (λ (o : Out Node). RowCounts h v from body st o) (sym is)
-    (quiet_row h v from body st (turn_row s w st) (uncounted v body (Turn w) bd refl) (λ q low. refl) (λ p low. refl)
-    (λ q. omega arith) (λ p. omega arith) (λ q. refl))
-order_row s h v from body st out (ShowsTo w bd is) =
-    subst (λ (o : Out Node). RowCounts h v from body st o) (sym is)
-    (quiet_row h v from body st (show_row s w st) (uncounted v body (Show w) bd refl) (λ q low. refl) (λ p low. refl)
-    (λ q. omega arith) (λ p. omega arith) (λ q. refl))
-order_row s h v from body st out (SweepsTo w bd is) =
-    subst (λ (o : Out Node). RowCounts h v from body st o) (sym is)
-    (quiet_row h v from body st (sweep_row s w st) (uncounted v body (Sweep w) bd refl)
-    (λ q low. cut_at w.0 v q st.counts.asked low) (λ p low. cut_at w.0 v p st.counts.done low)
-    (λ q. cut_most w.0 v q st.counts.asked) (λ p. cut_most w.0 v p st.counts.done) (λ q. refl))
-order_row s h v from body st out (TellsDone w k bd is) =
-    subst (λ (o : Out Node). RowCounts h v from body st o) (sym is)
-    (quiet_row h v from body st (done_row s w k st) (uncounted v body (AskDone w k) bd refl) (λ q low. refl)
-    (λ p low. refl)
-    (λ q. omega arith) (λ p. omega arith) (λ q. refl))
-order_row s h v from body st out (TellsAsked w k bd is) =
-    subst (λ (o : Out Node). RowCounts h v from body st o) (sym is)
-    (quiet_row h v from body st (asked_row s w k st) (uncounted v body (AskAsked w k) bd refl) (λ q low. refl)
-    (λ p low. refl)
-    (λ q. omega arith) (λ p. omega arith) (λ q. refl))
-
--- what the coordinator is told isn't counted
-tells_uncounted : (v : ℕ) (body : Body) → Tells body → version_is v body ≡ false
-tells_uncounted v (SubLetter t k w) tells = absurd tells
-tells_uncounted v (Done t k w notice) tells = absurd tells
-tells_uncounted v (Decide t w commit) tells = absurd tells
-tells_uncounted v (Decided t w) tells = absurd tells
-tells_uncounted v _ tells = refl
-
--- an order is done itself, and a notice
-took_done : (s : ScriptData) (past : List Entry) (e : Entry) → is_itself e.took.body ≡ true → e.took.to.0 ≡ e.actor.0
-    → DoesLetter s past e e.took
-took_done s past e itself to = record { is = λ f. itself_done f s past e itself; to = to }
-
--- the letter that asks for a root or another subtransaction
-does_letter : (s : ScriptData) (past : List Entry) (e : Entry) (b : Body) → IsStepRun s (e ∷ past) → DoesBody s past e b
-    → DoesLetter s past e (done_by s past e)
-does_letter s past e b run is = record { is = λ f. of_done_here f s past e b is; to = done_to s past e run }
-
--- each kind of entry
-counts_by : (s : ScriptData) (past : List Entry) (e : Entry) (v : ℕ) → IsSound s → IsStepRun s (e ∷ past) → Next s past e
-    → Counts s past e v
-counts_by s past e v sound run (Begins is at made) =
-    apart s past e v run.0.addressee (omega arith) (uncounted v e.took.body Go is refl)
-counts_by s past e v sound run (Hears t w answer is at lt made) =
-    apart s past e v run.0.addressee (omega arith) (uncounted v e.took.body (Reply t w answer) is refl)
-counts_by s past e v sound run (Ends w is at made) =
-    apart s past e v run.0.addressee (omega arith) (uncounted v e.took.body (Advanced w) is refl)
-counts_by s past e v sound run (Coordinates tells at made) =
-    apart s past e v run.0.addressee (omega arith) (tells_uncounted v e.took.body tells)
-counts_by s past e v sound run (Obeys h out at lt order made) =
-    by_node s past e e.took h v out made at (took_done s past e (order_itself s (node_in s past h) e.took.body out order) run.0.addressee) (order_row s h v e.took.from.0 e.took.body (node_in s past h) out order)
-counts_by s past e v sound run (DoesRoot t w effect is sub at lt none work made) =
-    let h = home_of s t.0 in
-    let st = node_in s past h in
-    let answer = answer_noted t (record { 0 = 0 }) (values_of effect.notice) (begun t (length (subs_at s t.0)) w st.homes) in
-    let r = done_by s past e in
-    by_node s past e r h v (root_done s h t.0 w.0 effect st) made at (does_letter s past e (Root t) run is)
-    (root_row s h t.0 v w.0 r.from.0 r.body effect st answer (few_subs s t.0 0 sound sub)
-    (uncounted v r.body (Root t) is.body refl) refl)
-counts_by s past e v sound run (DoesSub t k w raises effect is sub later from at lt work made) =
-    let h = node_of s t.0 k.0 in
-    let st = node_in s past h in
-    let row = sub_done s (done_by s past e).from.0 t.0 k.0 w.0 raises effect st in
-    let few = few_subs s t.0 k.0 sound sub in
-    let r = done_by s past e in
-    by_node s past e r h v row made at (does_letter s past e (SubLetter t k w) run is)
-    (row_for h v r.from.0 r.body (SubLetter t k w) st row is.body
-    (sub_row s h v r.from.0 t k w raises effect st few))
-counts_by s past e v sound run (Notes t k w values is sub later from at lt misses made) =
-    let h = home_of s t.0 in
-    let st = node_in s past h in
-    let row = note_done s e.took.from.0 t.0 k.0 w.0 values st in
-    let answer = answer_noted t k values st.homes in
-    by_node s past e e.took h v row made at (took_done s past e (ap is_itself is) run.0.addressee)
-    (row_for h v e.took.from.0 e.took.body (Done t k w (Did values)) st row is
-    (note_row s h v e.took.from.0 t k w values st answer refl))
-
--- each entry of a run
-pub counts_of : (s : ScriptData) (past : List Entry) (e : Entry) (v : ℕ) → IsLawful s → IsStepRun s (e ∷ past)
-    → AllTimely s (e ∷ past)
-    → Counts s past e v
-counts_of s past e v laws run timely = counts_by s past e v laws.sound run (laws.next past e run timely)
+-- The entries of a run.
 
 -- a Wake isn't counted
 pub goes_no_wake : (v p q : ℕ) → NoWakes (goes_between v p q)
@@ -266,8 +108,88 @@ flow s past e v p q m =
       sealed_tally (goes_between v p q) (sent_on e.actor.0 v p q) e.stamp.0 e.actor.0 0 e.sent (λ i o. refl),
     )
 
+-- the row of a letter, as commuting trees see it
+abbrev pub row_seen : ScriptData → List Entry → Entry → ℕ → Letter → Out Node
+row_seen s past e p r =
+    with_more (at_node (core_row s p (keeping_in s past p).core r.from.0 r.body))
+    (wakes (wakes_by r.body) (kept_without (kept_in s past p) e.took.body))
+
+pub seen_made : (s : ScriptData) (past : List Entry) (e : Entry) (p : ℕ) (r : Letter) → Does s past e p r
+    → Made s past e p (row_seen s past e p r)
+seen_made s past e p r d = record { state = ap (λ (c : Core). c.node) d.core; sent = d.sent; acts = d.acts }
+
+-- a node does a letter
+does_counts : (s : ScriptData) (past : List Entry) (e : Entry) (v p : ℕ) (r : Letter) → IsValid s → Does s past e p r
+    → Counts s past e v
+does_counts s past e v p r valid d =
+    let c : Core = (keeping_in s past p).core in
+    let row : Out Node = at_node (core_row s p c r.from.0 r.body) in
+    let more : List Outgoing = wakes (wakes_by r.body) (kept_without (kept_in s past p) e.took.body) in
+    by_node s past e r p v (row_seen s past e p r) (seen_made s past e p r d) d.brings.at
+    (record { is = λ f. does_number f s past e p r d; to = d.brings.to ∙ sym d.brings.at })
+    (counts_more p v r.from.0 r.body c.node row more
+    (λ q. wakes_uncounted v q (wakes_by r.body) (kept_without (kept_in s past p) e.took.body))
+    (core_counts s p v r.from.0 r.body c valid d.brings.below (apt_parts s p c r d.brings.apt).0))
+
+raised_low : (b : Bool) (v : Version) (turns : Turns)
+    → (if b then record turns { update = v } else turns).low.0 ≡ turns.low.0
+raised_low true v turns = refl
+raised_low false v turns = refl
+
+-- a core that keeps a letter counts nothing, and leaves its low version
+pub record LeavesCounts (c : Core) (k : CoreKeeping) : Type 0 where
+  pub counts : k.state.node.counts ≡ c.node.counts
+  pub low : k.state.node.turns.low.0 ≡ c.node.turns.low.0
+
+leaves_counts : (c : Core) → OfKeepings c (LeavesCounts c)
+leaves_counts c = record {
+  parks = λ t k raises v m. record { counts = refl; low = raised_low raises v c.node.turns };
+  waits = λ t. record { counts = refl; low = refl };
+}
+
+pub keeps_leaves : (s : ScriptData) (past : List Entry) (e : Entry) (p : ℕ) (r : Letter) (k : CoreKeeping) → Keeps s past e p r k
+    → LeavesCounts (keeping_in s past p).core k
+keeps_leaves s past e p r k d =
+    let c : Core = (keeping_in s past p).core in of_kept s c (LeavesCounts c) r.body k (leaves_counts c) d.keeps
+
+-- so where a node keeps a letter, every node counts what it did
+kept_same : (s : ScriptData) (past : List Entry) (e : Entry) (p : ℕ) (r : Letter) (k : CoreKeeping) → Keeps s past e p r k
+    → (q : ℕ) → (p ≡ q) ⊎ (p ≢ q) → (node_in s (e ∷ past) q).counts ≡ (node_in s past q).counts
+kept_same s past e p r k d q (inl is) =
+    subst (λ (n : ℕ). (node_in s (e ∷ past) n).counts ≡ (node_in s past n).counts) is
+    (ap (λ (c : Core). c.node.counts) d.core ∙ (keeps_leaves s past e p r k d).counts)
+kept_same s past e p r k d q (inr ne) =
+    ap (λ (st : Node). st.counts) (node_kept s past e q (λ is. ne (sym d.brings.at ∙ is)))
+
+keeps_counts : (s : ScriptData) (past : List Entry) (e : Entry) (v p : ℕ) (r : Letter) (k : CoreKeeping) → Keeps s past e p r k
+    → Counts s past e v
+keeps_counts s past e v p r k d =
+    let same : (q : ℕ) → (node_in s (e ∷ past) q).counts ≡ (node_in s past q).counts = λ q.
+    kept_same s past e p r k d q (cases_eq p q) in
+    record {
+      self = λ p q. 0;
+      asked = λ p q lt low. rw (same p, d.sent) (omega arith);
+      done = λ p q lt low. rw (same q) (omega (arith, keeps_number (goes_between v p q) s past e _ r k d));
+      asked_most = λ p q lt. rw (same p, d.sent) (omega arith);
+      done_most = λ p q lt. rw (same q) (omega (arith, keeps_number (goes_between v p q) s past e _ r k d));
+      little = λ p q. omega arith;
+      few = λ p q lt. rw d.sent (omega arith);
+    }
+
+counts_by : (s : ScriptData) (past : List Entry) (e : Entry) (v : ℕ) → IsValid s → e.took.to.0 ≡ e.actor.0 → Case s past e
+    → Counts s past e v
+counts_by s past e v valid to (NodeDoes p r d) = does_counts s past e v p r valid d
+counts_by s past e v valid to (NodeKeeps p r k d) = keeps_counts s past e v p r k d
+counts_by s past e v valid to (Coordinates at says) = aside s past e v to (omega arith)
+counts_by s past e v valid to (Submits at says) = aside s past e v to (omega arith)
+
+-- each entry of a run of apt letters
+pub apt_counts : (s : ScriptData) (past : List Entry) (e : Entry) (v : ℕ) → IsValid s → AllApt s (e ∷ past)
+    → IsStepRun s (e ∷ past) → Counts s past e v
+apt_counts s past e v valid apt run = counts_by s past e v valid run.0.addressee (case s past e run.0 apt.0)
+
 -- A low version never falls.
-pub rises_at : (s : ScriptData) (past : List Entry) (e : Entry) (h : ℕ) (out : Out Node) → Made s past e h out
+rises_at : (s : ScriptData) (past : List Entry) (e : Entry) (h : ℕ) (out : Out Node) → Made s past e h out
     → e.actor.0 ≡ h
     → (node_in s past h).turns.low.0 ≤ out.state.turns.low.0 → (q : ℕ) → (h ≡ q) ⊎ (h ≢ q)
     → (node_in s past q).turns.low.0 ≤ (node_in s (e ∷ past) q).turns.low.0
@@ -278,95 +200,122 @@ rises_at s past e h out made at le q (inl is) =
 rises_at s past e h out made at le q (inr ne) =
     let same = ap (λ (st : Node). st.turns.low.0) (node_kept s past e q (λ is. ne (sym at ∙ is))) in omega (arith, same)
 
-pub raised_low : (b : Bool) (v : Version) (turns : Turns)
-    → (if b then record turns { update = v } else turns).low.0 ≡ turns.low.0
-raised_low true v turns = refl
-raised_low false v turns = refl
-
-order_rises : (s : ScriptData) (st : Node) (body : Body) (out : Out Node) → Order s st body out
-    → ((w : Version) → body ≡ Sweep w → st.turns.low.0 ≤ w.0) → st.turns.low.0 ≤ out.state.turns.low.0
-order_rises s st body out (TurnsTo w bd is) up =
-    subst (λ (o : Out Node). st.turns.low.0 ≤ o.state.turns.low.0) (sym is)
-    (omega (arith, raised_low (nat_lt st.turns.update.0 w.0) w st.turns))
-order_rises s st body out (ShowsTo w bd is) up =
-    subst (λ (o : Out Node). st.turns.low.0 ≤ o.state.turns.low.0) (sym is) (omega arith)
-order_rises s st body out (SweepsTo w bd is) up =
-    subst (λ (o : Out Node). st.turns.low.0 ≤ o.state.turns.low.0) (sym is) (up w bd)
-order_rises s st body out (TellsDone w k bd is) up =
-    subst (λ (o : Out Node). st.turns.low.0 ≤ o.state.turns.low.0) (sym is) (omega arith)
-order_rises s st body out (TellsAsked w k bd is) up =
-    subst (λ (o : Out Node). st.turns.low.0 ≤ o.state.turns.low.0) (sym is) (omega arith)
-
-pub rises_apart : (s : ScriptData) (past : List Entry) (e : Entry) (q : ℕ) → s.nodes ≤ e.actor.0 → q < s.nodes
+rises_apart : (s : ScriptData) (past : List Entry) (e : Entry) (q : ℕ) → s.nodes ≤ e.actor.0 → q < s.nodes
     → (node_in s past q).turns.low.0 ≤ (node_in s (e ∷ past) q).turns.low.0
 rises_apart s past e q outside lt =
     let same = ap (λ (st : Node). st.turns.low.0) (node_kept s past e q (omega arith)) in omega (arith, same)
 
-low_rises_by : (s : ScriptData) (past : List Entry) (e : Entry) (q : ℕ) → IsLawful s → IsStepRun s (e ∷ past)
-    → AllTimely s past
-    → q < s.nodes → Next s past e → (node_in s past q).turns.low.0 ≤ (node_in s (e ∷ past) q).turns.low.0
-low_rises_by s past e q laws run timely lt (Begins is at made) = rises_apart s past e q (omega arith) lt
-low_rises_by s past e q laws run timely lt (Hears t w answer is at tree made) = rises_apart s past e q (omega arith) lt
-low_rises_by s past e q laws run timely lt (Ends w is at made) = rises_apart s past e q (omega arith) lt
-low_rises_by s past e q laws run timely lt (Coordinates tells at made) = rises_apart s past e q (omega arith) lt
-low_rises_by s past e q laws run timely lt (DoesRoot t w effect is sub at h none work made) =
-    rises_at s past e (home_of s t.0) _ made at (omega arith) q (cases_eq (home_of s t.0) q)
-low_rises_by s past e q laws run timely lt (DoesSub t k w raises effect is sub later from at h work made) =
-    rises_at s past e (node_of s t.0 k.0) _ made at
-    (omega (arith, raised_low raises w (node_in s past (node_of s t.0 k.0)).turns)) q (cases_eq (node_of s t.0 k.0) q)
-low_rises_by s past e q laws run timely lt (Notes t k w values is sub later from at h misses made) =
-    rises_at s past e (home_of s t.0) _ made at (omega arith) q (cases_eq (home_of s t.0) q)
-low_rises_by s past e q laws run timely lt (Obeys h out at node order made) =
-    rises_at s past e h out made at
-    (order_rises s (node_in s past h) e.took.body out order
-    (λ w bd. sweeps_rise s past e w h laws run.1 timely run.0 node bd))
-    q (cases_eq h q)
+part_low : (s : ScriptData) (p from : ℕ) (w : Version) (raises : Bool) (e : Effect) (body : Body) (st : Node)
+    → (tree_part s p from w raises e body st).out.state.turns.low.0 ≡ st.turns.low.0
+part_low s p from w raises e (Root t) st = refl
+part_low s p from w raises e (SubLetter t k x) st = raised_low raises w st.turns
+part_low s p from w raises e _ st = refl
 
-pub low_rises : (s : ScriptData) (past : List Entry) (e : Entry) (q : ℕ) → IsLawful s → IsStepRun s (e ∷ past)
-    → AllTimely s (e ∷ past)
-    → q < s.nodes → (node_in s past q).turns.low.0 ≤ (node_in s (e ∷ past) q).turns.low.0
-low_rises s past e q laws run timely lt = low_rises_by s past e q laws run timely.1 lt (laws.next past e run timely)
+part_rises : (s : ScriptData) (p from : ℕ) (w : Version) (raises : Bool) (e : Effect) (body : Body) (st : Node)
+    → st.turns.low.0 ≤ (tree_part s p from w raises e body st).out.state.turns.low.0
+part_rises s p from w raises e body st = omega (arith, part_low s p from w raises e body st)
 
--- the same at one version and pair
-abbrev IsBalancedAt : ScriptData → List Entry → ℕ → ℕ → ℕ → Type 0
-IsBalancedAt s past v p q = (node_in s past p).counts.asked v q ≡ (node_in s past q).counts.done v p + out s past v p q
+-- a core's row leaves the low version at least as great
+abbrev Rises : Core → Out Core → Type 0
+Rises c out = c.node.turns.low.0 ≤ out.state.node.turns.low.0
 
--- in every run: with one entry more the two sides grow alike
-pub balanced_at : (s : ScriptData) (past : List Entry) (v p q : ℕ) → IsLawful s → IsStepRun s past → AllTimely s past
-    → p < s.nodes → q < s.nodes → (node_in s past p).turns.low.0 ≤ v → (node_in s past q).turns.low.0 ≤ v
-    → IsBalancedAt s past v p q
-balanced_at s [] v p q laws run timely lp lq low_p low_q = omega (arith, outstanding_first (goes_between v p q) s)
-balanced_at s (e ∷ past) v p q laws run timely lp lq low_p low_q =
-    let counts = counts_of s past e v laws run timely in
-    let rise_p = low_rises s past e p laws run timely lp in
-    let rise_q = low_rises s past e q laws run timely lq in
+kind_rises : (s : ScriptData) (p from : ℕ) (t : TreeNo) (body : Body) (kind : Option TreeKind) (c : Core)
+    → Rises c (core_by_kind s p from t body kind c)
+kind_rises s p from t body (Some Update) c =
+    let w : Version = asked_version c.node.turns.update body in
+    part_rises s p from w (nat_lt c.node.turns.update.0 w.0) (touching w (asked_ops s body) c.node.items) body c.node
+kind_rises s p from t body (Some Read) c =
+    let w : Version = asked_version c.node.turns.read body in
+    part_rises s p from w false (getting w (asked_ops s body) c.node.items) body c.node
+kind_rises s p from t body (Some Strict) c =
+    let w : Version = asked_version c.node.turns.update body in
+    let vote : Vote = vote_of c.locks c.node.items t w (asked_ops s body) in
+    let e : Effect = voting vote c.node.items in
+    let raises : Bool = nat_lt c.node.turns.update.0 w.0 in
+    let o : TreeOut = tree_part s p from w raises e body c.node in
+    let noted : Core = record c { locks = locks_by vote t (asked_ops s body) c.locks; refusals = noted_vote body vote c.refusals } in
     omega (
       arith,
-      balanced_at s past v p q laws run.1 timely.1 lp lq (omega (arith, rise_p, low_p)) (omega (arith, rise_q, low_q)),
+      part_low s p from w raises e body c.node,
+      ap (λ (turns : Turns). turns.low.0) (decided_turns s noted o o.answered),
+    )
+kind_rises s p from t body None c = omega arith
+
+pick : (c : Core) (b : Bool) (x y : Out Core) → Rises c x → Rises c y → Rises c (if b then x else y)
+pick c true x y l r = l
+pick c false x y l r = r
+
+note_rises : (s : ScriptData) (from : ℕ) (t : TreeNo) (k : SubNo) (w : Version) (notice : Notice) (c : Core)
+    → Rises c (note_core s from t k w notice c)
+note_rises s from t k w notice c =
+    let o : TreeOut = note_part from t.0 k.0 w.0 (values_of notice) c.node in
+    let noted : Core = record c { refusals = refused_there t k notice c } in
+    pick c (is_strict_at s t.0) (decided s noted o o.answered) (answered s c o)
+    (omega (arith, ap (λ (turns : Turns). turns.low.0) (decided_turns s noted o o.answered))) (omega arith)
+
+row_rises : (s : ScriptData) (p from : ℕ) (body : Body) (c : Core) → is_timely s c.node body ≡ true
+    → Rises c (core_row s p c from body)
+row_rises s p from (Root t) c timely = kind_rises s p from t (Root t) (tree_kind_at s t.0) c
+row_rises s p from (SubLetter t k w) c timely = kind_rises s p from t (SubLetter t k w) (tree_kind_at s t.0) c
+row_rises s p from (Done t k w notice) c timely = note_rises s from t k w notice c
+row_rises s p from (Decide t w commit) c timely = omega arith
+row_rises s p from (Decided t w) c timely = omega arith
+row_rises s p from (Release t) c timely = omega arith
+row_rises s p from (Turn w) c timely = omega (arith, raised_low (nat_lt c.node.turns.update.0 w.0) w c.node.turns)
+row_rises s p from (Show w) c timely = omega arith
+row_rises s p from (Sweep w) c timely =
+    at_most c.node.turns.low.0 w.0 (nat_le w.0 c.node.turns.read.0 && nat_le w.0 c.node.turns.update.0) timely
+row_rises s p from (AskDone w k) c timely = omega arith
+row_rises s p from (AskAsked w k) c timely = omega arith
+row_rises s p from _ c timely = omega arith
+
+-- where a node keeps a letter its low version stays
+abbrev kept_seen : CoreKeeping → Out Node
+kept_seen k = record { state = k.state.node; sent = []; acts = k.acts }
+
+rises_by : (s : ScriptData) (past : List Entry) (e : Entry) (q : ℕ) → q < s.nodes → Case s past e
+    → (node_in s past q).turns.low.0 ≤ (node_in s (e ∷ past) q).turns.low.0
+rises_by s past e q lt (NodeDoes p r d) =
+    let c : Core = (keeping_in s past p).core in
+    rises_at s past e p (row_seen s past e p r) (seen_made s past e p r d) d.brings.at
+    (row_rises s p r.from.0 r.body c (apt_parts s p c r d.brings.apt).1) q (cases_eq p q)
+rises_by s past e q lt (NodeKeeps p r k d) =
+    rises_at s past e p (kept_seen k) (record { state = ap (λ (c : Core). c.node) d.core; sent = d.sent; acts = d.acts }) d.brings.at
+    (omega (arith, (keeps_leaves s past e p r k d).low)) q (cases_eq p q)
+rises_by s past e q lt (Coordinates at says) = rises_apart s past e q (omega arith) lt
+rises_by s past e q lt (Submits at says) = rises_apart s past e q (omega arith) lt
+
+pub apt_low_rises : (s : ScriptData) (past : List Entry) (e : Entry) (q : ℕ) → AllApt s (e ∷ past) → IsStepRun s (e ∷ past)
+    → q < s.nodes → (node_in s past q).turns.low.0 ≤ (node_in s (e ∷ past) q).turns.low.0
+apt_low_rises s past e q apt run lt = rises_by s past e q lt (case s past e run.0 apt.0)
+
+-- In every such run: with one entry more the two sides grow alike.
+pub apt_runs_balance : AptRunsBalance
+apt_runs_balance s [] v p q valid apt run lp lq low_p low_q = omega (arith, outstanding_first (goes_between v p q) s)
+apt_runs_balance s (e ∷ past) v p q valid apt run lp lq low_p low_q =
+    let counts = apt_counts s past e v valid apt run in
+    let rise_p = apt_low_rises s past e p apt run lp in
+    let rise_q = apt_low_rises s past e q apt run lq in
+    omega (
+      arith,
+      apt_runs_balance s past v p q valid apt.1 run.1 lp lq (omega (arith, rise_p, low_p)) (omega (arith, rise_q, low_q)),
       counts.asked p q lp low_p,
       counts.done p q lq low_q,
       flow s past e v p q run.0,
     )
 
--- Counters are small: each entry adds no more than it counts at most.
-small_at : (s : ScriptData) (past : List Entry) (p v q : ℕ) → IsLawful s → IsStepRun s past → AllTimely s past → p < s.nodes
-    → ((node_in s past p).counts.asked v q < MOST_COUNTED * length past + 1)
-    × ((node_in s past p).counts.done v q < MOST_COUNTED * length past + 1)
-small_at s [] p v q laws run timely lt = (omega arith, omega arith)
-small_at s (e ∷ past) p v q laws run timely lt =
-    let counts = counts_of s past e v laws run timely in
-    let before = small_at s past p v q laws run.1 timely.1 lt in (
-      omega (arith, before.0, counts.asked_most p q lt, counts.few p q lt),
-      omega (
-        arith,
-        before.1,
-        counts.done_most q p lt,
-        counts.little q p,
-        done_most (goes_between v q p) s past e
-            (λ l. one_if_most (version_is v l.body && ((l.from.0 == q) && (l.to.0 == p)))),
-      ),
-    )
+-- so in the runs of a lawful script
+pub balanced_at : (s : ScriptData) (past : List Entry) (v p q : ℕ) → IsLawful s → IsStepRun s past → AllApt s past
+    → p < s.nodes → q < s.nodes → (node_in s past p).turns.low.0 ≤ v → (node_in s past q).turns.low.0 ≤ v
+    → (node_in s past p).counts.asked v q ≡ (node_in s past q).counts.done v p + out s past v p q
+balanced_at s past v p q laws run apt lp lq low_p low_q = apt_runs_balance s past v p q laws.valid apt run lp lq low_p low_q
 
-pub small : (s : ScriptData) (past : List Entry) → IsLawful s → IsStepRun s past → AllTimely s past → (p : ℕ) → p < s.nodes
-    → AllBelow (MOST_COUNTED * length past + 1) (node_in s past p).counts
-small s past laws run timely p lt = λ v q. small_at s past p v q laws run timely lt
+-- Counters are small, whatever letters came.
+below_at : (s : ScriptData) (past : List Entry) (p m : ℕ) → p < s.nodes → CountsBelow m (actor_in s past p)
+    → AllBelow m (node_in s past p).counts
+below_at s past p m lt below = let node : nat_lt p s.nodes ≡ true = grind (arith, nat_tests) in rw node at below
+
+pub counts_are_small : CountsAreSmall
+counts_are_small s past p valid lt =
+    let m = MOST_COUNTED * length past + 1 in
+    below_at s past p m lt (small_counts s past p m valid (omega arith) (omega arith))

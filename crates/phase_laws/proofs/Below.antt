@@ -10,9 +10,9 @@ use Rattle.world_model.specs.Coordinator.{Coordinator, end_count, with_asked, co
 use Rattle.world_model.specs.declared.phase.Phase.{Phase}
 use Rattle.world_model.specs.declared.phase.Phase.TheVariants.{Idle, Turning, Counting, Paused, Showing, Sweeping}
 use Rattle.world_model.specs.Runs.{coordinator_in, node_in, IsStepRun}
-use Rattle.world_model.specs.Timely.{AllTimely}
+use Rattle.world_model.specs.AllApt.{AllApt}
 use Rattle.world_model.proofs.Every.{coordinator_kept}
-use Rattle.world_model.proofs.Lawful.{IsLawful}
+use Rattle.phase_laws.proofs.Lawful.{IsLawful}
 use Rattle.phase_laws.proofs.Levels.{Level, Levels, levels, most_low, tells}
 use Rattle.phase_laws.proofs.Outcomes.{Outcome, Rests, Queues, Flags, Turns, Acks, LastTurned, LastShown, Finishes, GoesOn, Resumes, KeepsDone, KeepsAsked, Agrees, Recounts, Pauses, TakesAsked, asked_kept}
 use Rattle.phase_laws.proofs.Small.{outcome_in}
@@ -128,80 +128,80 @@ abbrev pub IsSilentBelow : ScriptData → List Entry → Coordinator → Type 0
 IsSilentBelow s past c = (w : ℕ) → w < floor c → IsSilent s past w
 
 below_kept : (s : ScriptData) (past : List Entry) (e : Entry) (d : Coordinator) → IsLawful s → IsStepRun s (e ∷ past)
-    → AllTimely s (e ∷ past)
+    → AllApt s (e ∷ past)
     → IsSilentBelow s past (coordinator_in s past) → floor d ≡ floor (coordinator_in s past)
     → IsSilentBelow s (e ∷ past) d
-below_kept s past e d laws run timely was same = λ w lt.
+below_kept s past e d laws run apt was same = λ w lt.
     let less : w < floor (coordinator_in s past) = omega (arith, same, lt) in
-    silent_stays s past e w laws run timely (was w less)
-    (closed_below s past w (levels s past laws run.1 timely.1) less)
+    silent_stays s past e w laws run apt (was w less)
+    (closed_below s past w (levels s past laws run.1 apt.1) less)
 
 last_or_less : (w u : ℕ) → w < u → (w ≡ u - 1) ⊎ (w < u - 1)
 last_or_less w u lt = grind arith
 
 raised_silent : (s : ScriptData) (past : List Entry) (e : Entry) (o : Out Coordinator) (w : ℕ) → IsLawful s
-    → IsStepRun s (e ∷ past) → AllTimely s past
+    → IsStepRun s (e ∷ past) → AllApt s past
     → IsSilentBelow s past (coordinator_in s past) → Raises (coordinator_in s past) e.took.from.0 e.took.body o
     → (w ≡ (coordinator_in s past).update - 1) ⊎ (w < (coordinator_in s past).update - 1) → IsSilent s past w
-raised_silent s past e o w laws run timely was raises (inl is) =
+raised_silent s past e o w laws run apt was raises (inl is) =
     subst (IsSilent s past) (sym is)
-    (agrees_silent s past e true raises.v raises.k raises.row laws run timely raises.takes raises.verdict)
-raised_silent s past e o w laws run timely was raises (inr lt) =
+    (agrees_silent s past e true raises.v raises.k raises.row laws run apt raises.takes raises.verdict)
+raised_silent s past e o w laws run apt was raises (inr lt) =
     was w (omega (arith, lt, floor_at (coordinator_in s past) (Counting true) raises.takes.phase))
 
 below_by : (s : ScriptData) (past : List Entry) (e : Entry) (o : Out Coordinator) → IsLawful s → IsStepRun s (e ∷ past)
-    → AllTimely s (e ∷ past)
+    → AllApt s (e ∷ past)
     → IsSilentBelow s past (coordinator_in s past)
     → (floor o.state ≡ floor (coordinator_in s past)) ⊎ Raises (coordinator_in s past) e.took.from.0 e.took.body o
     → IsSilentBelow s (e ∷ past) o.state
-below_by s past e o laws run timely was (inl same) = below_kept s past e o.state laws run timely was same
-below_by s past e o laws run timely was (inr raises) = λ w lt.
+below_by s past e o laws run apt was (inl same) = below_kept s past e o.state laws run apt was same
+below_by s past e o laws run apt was (inr raises) = λ w lt.
     let less : w < (coordinator_in s past).update = omega (arith, raises.to, lt) in
-    silent_stays s past e w laws run timely
-    (raised_silent s past e o w laws run timely.1 was raises (last_or_less w (coordinator_in s past).update less))
-    (closed_counted s past w (levels s past laws run.1 timely.1) raises.takes.phase less)
+    silent_stays s past e w laws run apt
+    (raised_silent s past e o w laws run apt.1 was raises (last_or_less w (coordinator_in s past).update less))
+    (closed_counted s past w (levels s past laws run.1 apt.1) raises.takes.phase less)
 
-below_next : (s : ScriptData) (past : List Entry) (e : Entry) → IsLawful s → IsStepRun s (e ∷ past) → AllTimely s (e ∷ past)
+below_next : (s : ScriptData) (past : List Entry) (e : Entry) → IsLawful s → IsStepRun s (e ∷ past) → AllApt s (e ∷ past)
     → IsSilentBelow s past (coordinator_in s past) → Sending s past e
     → IsSilentBelow s (e ∷ past) (coordinator_in s (e ∷ past))
-below_next s past e laws run timely was (SendsApart away plain all) =
-    below_kept s past e (coordinator_in s (e ∷ past)) laws run timely was (ap floor (coordinator_kept s past e away))
-below_next s past e laws run timely was (SendsDone v k lt bd sent same) =
-    below_kept s past e (coordinator_in s (e ∷ past)) laws run timely was
+below_next s past e laws run apt was (SendsApart away plain all) =
+    below_kept s past e (coordinator_in s (e ∷ past)) laws run apt was (ap floor (coordinator_kept s past e away))
+below_next s past e laws run apt was (SendsDone v k lt bd sent same) =
+    below_kept s past e (coordinator_in s (e ∷ past)) laws run apt was
     (ap floor (coordinator_kept s past e (λ eq. omega (arith, eq, lt))))
-below_next s past e laws run timely was (SendsAsked v k lt bd sent same) =
-    below_kept s past e (coordinator_in s (e ∷ past)) laws run timely was
+below_next s past e laws run apt was (SendsAsked v k lt bd sent same) =
+    below_kept s past e (coordinator_in s (e ∷ past)) laws run apt was
     (ap floor (coordinator_kept s past e (λ eq. omega (arith, eq, lt))))
-below_next s past e laws run timely was (SendsOrders tells at made) =
+below_next s past e laws run apt was (SendsOrders tells at made) =
     let c = coordinator_in s past in
     let row = coordinator_row c e.took.from.0 e.took.body in
     subst (IsSilentBelow s (e ∷ past)) (sym made.state)
-    (below_by s past e row laws run timely was
-    (floor_next c e.took.from.0 e.took.body row (outcome_in s past e laws run.1 timely.1)))
+    (below_by s past e row laws run apt was
+    (floor_next c e.took.from.0 e.took.body row (outcome_in s past e laws run.1 apt.1)))
 
-pub silent_below : (s : ScriptData) (past : List Entry) → IsLawful s → IsStepRun s past → AllTimely s past
+pub silent_below : (s : ScriptData) (past : List Entry) → IsLawful s → IsStepRun s past → AllApt s past
     → IsSilentBelow s past (coordinator_in s past)
-silent_below s [] laws run timely = λ w lt. absurd (omega (arith, lt))
-silent_below s (e ∷ past) laws run timely =
-    below_next s past e laws run timely (silent_below s past laws run.1 timely.1) (sending s past e laws run timely)
+silent_below s [] laws run apt = λ w lt. absurd (omega (arith, lt))
+silent_below s (e ∷ past) laws run apt =
+    below_next s past e laws run apt (silent_below s past laws run.1 apt.1) (sending s past e laws run apt)
 
 -- of a version that a node has left nothing is in flight
-pub left_silent : (s : ScriptData) (past : List Entry) (v p : ℕ) → IsLawful s → IsStepRun s past → AllTimely s past
+pub left_silent : (s : ScriptData) (past : List Entry) (v p : ℕ) → IsLawful s → IsStepRun s past → AllApt s past
     → p < s.nodes
     → HasLeft s past v p → IsSilent s past v
-left_silent s past v p laws run timely lt left =
-    let level = (levels s past laws run timely).node p lt in
-    silent_below s past laws run timely v (omega (arith, level.low_to, left))
+left_silent s past v p laws run apt lt left =
+    let level = (levels s past laws run apt).node p lt in
+    silent_below s past laws run apt v (omega (arith, level.low_to, left))
 
-none_left : (s : ScriptData) (past : List Entry) (v p q : ℕ) → IsLawful s → IsStepRun s past → AllTimely s past
+none_left : (s : ScriptData) (past : List Entry) (v p q : ℕ) → IsLawful s → IsStepRun s past → AllApt s past
     → p < s.nodes → q < s.nodes
     → HasLeft s past v p ⊎ HasLeft s past v q → out s past v p q ≡ 0
-none_left s past v p q laws run timely lp lq (inl left) = left_silent s past v p laws run timely lp left p q lp lq
-none_left s past v p q laws run timely lp lq (inr left) = left_silent s past v q laws run timely lq left p q lp lq
+none_left s past v p q laws run apt lp lq (inl left) = left_silent s past v p laws run apt lp left p q lp lq
+none_left s past v p q laws run apt lp lq (inr left) = left_silent s past v q laws run apt lq left p q lp lq
 
 -- requests are completions and letters
-pub balanced : (s : ScriptData) (past : List Entry) → IsLawful s → IsStepRun s past → AllTimely s past → IsBalanced s past
-balanced s past laws run timely = record {
-  equal = λ v p q lp lq low_p low_q. balanced_at s past v p q laws run timely lp lq low_p low_q;
-  none = λ v p q lp lq left. none_left s past v p q laws run timely lp lq left;
+pub balanced : (s : ScriptData) (past : List Entry) → IsLawful s → IsStepRun s past → AllApt s past → IsBalanced s past
+balanced s past laws run apt = record {
+  equal = λ v p q lp lq low_p low_q. balanced_at s past v p q laws run apt lp lq low_p low_q;
+  none = λ v p q lp lq left. none_left s past v p q laws run apt lp lq left;
 }

@@ -35,12 +35,12 @@ use Rattle.world_model.specs.Strict.{answer_letters, answered, core_by_kind, cor
 use Rattle.world_model.specs.Updates.{touching}
 use Rattle.world_model.specs.Votes.{vote_of}
 use Rattle.world_model.proofs.Bags.{one_if_most, tally-append}
+use Rattle.world_model.proofs.Every.{each_append}
 use Rattle.world_model.proofs.Requests.{done_kept}
 use Rattle.world_model.proofs.Visited.{few_visited}
 use Rattle.phase_laws.specs.Balance.{MOST_COUNTED, version_is}
-use Rattle.phase_laws.proofs.Balance.{cut_at, cut_most, quiet_row, sent_of}
-use Rattle.phase_laws.proofs.Counters.{at_pair, children_few, children_of, counted, more_is, replies_uncounted, root_asked, root_completed, sub_asked, sub_completed}
-use Rattle.phase_laws.proofs.Moves.{RowCounts}
+use Rattle.phase_laws.proofs.Counters.{AreOf, at_pair, children_few, children_of, counted, more_is, replies_uncounted, root_asked, root_completed, sub_asked, sub_completed}
+use Rattle.phase_laws.proofs.Moves.{RowCounts, cut_at, cut_most, quiet_row}
 
 -- numbers that a row makes of others: whether it counts one of version v with itself, and what it counts besides, of which
 -- at most m to one node
@@ -82,6 +82,12 @@ root_adds s h v from t w body n valid none = record {
   done = λ p. rw none (omega (arith, root_completed w h (sub_letters t w 0 0 (subs_at s t)) n v p));
   few = λ q. omega (arith, few_subs s t valid, one_if_most (w == v), children_few t w 0 0 v q (subs_at s t));
 }
+
+-- what a subtransaction sends is counted
+sent_of : (s : ScriptData) (t k w : ℕ) (notice : Notice) → AreOf w (sub_sent s t k w notice)
+sent_of s t k w notice =
+    each_append (λ (o : Outgoing). (v : ℕ) → version_is v o.body ≡ (w == v)) (sub_letters t w k 0 (subs_at s t))
+    (done_letter (home_of s t) t k w notice ∷ []) (children_of t w k 0 (subs_at s t)) ((λ v. refl), tt)
 
 -- another subtransaction
 sub_adds : (s : ScriptData) (h v from : ℕ) (t : TreeNo) (k : SubNo) (w : Version) (notice : Notice) (n : Numbers) → IsValid s

@@ -9,10 +9,10 @@ use Rattle.world_model.specs.Coordinator.{Coordinator, counted_version, coordina
 use Rattle.world_model.specs.declared.phase.Phase.{Phase}
 use Rattle.world_model.specs.declared.phase.Phase.TheVariants.{Idle, Turning, Counting, Paused, Showing, Sweeping}
 use Rattle.world_model.specs.Runs.{IsStepRun, coordinator_in}
-use Rattle.world_model.specs.Timely.{AllTimely}
+use Rattle.world_model.specs.AllApt.{AllApt}
 use Rattle.world_model.proofs.Every.{coordinator_kept}
-use Rattle.world_model.proofs.Lawful.{IsLawful}
-use Rattle.world_model.proofs.Nexts.{Next, Begins, Hears, Ends, Coordinates, DoesRoot, DoesSub, Notes, Obeys}
+use Rattle.phase_laws.proofs.Lawful.{IsLawful}
+use Rattle.phase_laws.proofs.Progress.{Begins, Coordinates, Ends, Hears, Obeys, Progress, Works, progress}
 use Rattle.phase_laws.proofs.Outcomes.{Outcome, Rests, Queues, Flags, Turns, Acks, LastTurned, LastShown, Finishes, GoesOn, Resumes, KeepsDone, KeepsAsked, Agrees, Recounts, Pauses, asked_kept, round_begun}
 use Rattle.phase_laws.proofs.Small.{outcome_in}
 
@@ -127,27 +127,24 @@ counts_kept : (s : ScriptData) (past : List Entry) (e : Entry) → e.actor.0 ≢
 counts_kept s past e away was = subst (λ (c : Coordinator). CountsNow c) (sym (coordinator_kept s past e away)) was
 
 -- and so does every entry
-counts_next : (s : ScriptData) (past : List Entry) (e : Entry) → IsLawful s → IsStepRun s past → AllTimely s past
-    → CountsNow (coordinator_in s past) → Next s past e → CountsNow (coordinator_in s (e ∷ past))
-counts_next s past e laws run timely was (Begins bd at made) = counts_kept s past e (omega (arith, at)) was
-counts_next s past e laws run timely was (Hears t v answer bd at lt made) = counts_kept s past e (omega (arith, at)) was
-counts_next s past e laws run timely was (Ends v bd at made) = counts_kept s past e (omega (arith, at)) was
-counts_next s past e laws run timely was (Coordinates tells at made) =
+counts_next : (s : ScriptData) (past : List Entry) (e : Entry) → IsLawful s → IsStepRun s past → AllApt s past
+    → CountsNow (coordinator_in s past) → Progress s past e → CountsNow (coordinator_in s (e ∷ past))
+counts_next s past e laws run apt was (Begins bd at made) = counts_kept s past e (omega (arith, at)) was
+counts_next s past e laws run apt was (Hears t v answer bd at lt made) = counts_kept s past e (omega (arith, at)) was
+counts_next s past e laws run apt was (Ends v bd at made) = counts_kept s past e (omega (arith, at)) was
+counts_next s past e laws run apt was (Coordinates tells at made) =
     let c = coordinator_in s past in
     let out = coordinator_row c e.took.from.0 e.took.body in
     subst (λ (d : Coordinator). CountsNow d) (sym made.state)
-    (counts_out c e.took.from.0 e.took.body out was (outcome_in s past e laws run timely))
-counts_next s past e laws run timely was (DoesRoot t v effect bd sub at lt new work made) =
+    (counts_out c e.took.from.0 e.took.body out was (outcome_in s past e laws run apt))
+counts_next s past e laws run apt was (Works p r work) =
+    counts_kept s past e (omega (arith, work.brings.at, work.brings.below)) was
+counts_next s past e laws run apt was (Obeys p out more at lt order state sent woken) =
     counts_kept s past e (omega (arith, at, lt)) was
-counts_next s past e laws run timely was (DoesSub t k v raises effect bd sub pos from at lt work made) =
-    counts_kept s past e (omega (arith, at, lt)) was
-counts_next s past e laws run timely was (Notes t k v values bd sub pos from at lt missed made) =
-    counts_kept s past e (omega (arith, at, lt)) was
-counts_next s past e laws run timely was (Obeys p out at lt order made) = counts_kept s past e (omega (arith, at, lt)) was
 
 -- in every run, while it counts
-pub current : (s : ScriptData) (past : List Entry) → IsLawful s → IsStepRun s past → AllTimely s past
+pub current : (s : ScriptData) (past : List Entry) → IsLawful s → IsStepRun s past → AllApt s past
     → CountsNow (coordinator_in s past)
-current s [] laws run timely = counts_else (coordinator_in s []) tt
-current s (e ∷ past) laws run timely =
-    counts_next s past e laws run.1 timely.1 (current s past laws run.1 timely.1) (laws.next past e run timely)
+current s [] laws run apt = counts_else (coordinator_in s []) tt
+current s (e ∷ past) laws run apt =
+    counts_next s past e laws run.1 apt.1 (current s past laws run.1 apt.1) (progress s past e laws apt run)

@@ -1,16 +1,17 @@
 -- The level of a node: its versions, and the orders in flight to it, against the coordinator's phase.
-use Rattle.std.proofs.Common.{◌≡◌, ℕ, ◌+◌, ◌-◌, ◌<◌, ◌≤◌, ◌==◌, true, List}
+use Rattle.std.proofs.Common.{◌≡◌, ℕ, ◌+◌, ◌-◌, ◌<◌, ◌≤◌, ◌==◌, false, List, [], ◌∷◌, refl, arith}
 use Rattle.letter_types.specs.declared.bodies.Body.{Body}
 use Rattle.letter_types.specs.declared.bodies.Body.TheVariants.{Sub as SubLetter, Turn, Show, Sweep}
 use Rattle.letter_types.specs.declared.entries.Entry.{Entry}
 use Rattle.letter_types.specs.declared.entries.Letter.{Letter}
-use Rattle.tx_trees.specs.ScriptData.{ScriptData, updates}
+use Rattle.tx_trees.specs.ScriptData.{ScriptData, reads}
 use Rattle.world_model.specs.declared.phase.Phase.{Phase}
 use Rattle.world_model.specs.declared.phase.Phase.TheVariants.{Turning, Showing, Sweeping}
 use Rattle.world_model.specs.Counts.{Each, one_if, tally}
 use Rattle.world_model.specs.Kept.{outstanding}
 use Rattle.world_model.specs.Runs.{coordinator_in, node_in, in_flight}
 use Rattle.phase_laws.specs.Phases.{Stage, TurnStage, ShowStage, SweepStage, least_update, most_update, least_read, most_read, most_low}
+use Rattle.phase_laws.proofs.Letters.{NoTrees}
 
 -- what a node comes to in a phase, now or by a letter that is in flight
 abbrev pub due_update : Phase → ℕ → ℕ
@@ -44,6 +45,49 @@ tell ShowStage p to (Show v) = one_if (to == p)
 tell SweepStage p to (Sweep v) = one_if (to == p)
 tell g p to _ = 0
 
+-- an order of the stage, to whomever it goes
+abbrev pub order : Stage → Body → ℕ
+order TurnStage (Turn v) = 1
+order ShowStage (Show v) = 1
+order SweepStage (Sweep v) = 1
+order g _ = 0
+
+pub orders_no_trees : (g : Stage) → NoTrees (order g)
+orders_no_trees TurnStage = record {
+  root = λ t. refl;
+  sub = λ t k v. refl;
+  done = λ t k v notice. refl;
+  reply = λ t v answer. refl;
+  wake = λ t k. refl;
+  decide = λ t v commit. refl;
+  decided = λ t v. refl;
+  release = λ t. refl;
+}
+orders_no_trees ShowStage = record {
+  root = λ t. refl;
+  sub = λ t k v. refl;
+  done = λ t k v notice. refl;
+  reply = λ t v answer. refl;
+  wake = λ t k. refl;
+  decide = λ t v commit. refl;
+  decided = λ t v. refl;
+  release = λ t. refl;
+}
+orders_no_trees SweepStage = record {
+  root = λ t. refl;
+  sub = λ t k v. refl;
+  done = λ t k v notice. refl;
+  reply = λ t v answer. refl;
+  wake = λ t k. refl;
+  decide = λ t v commit. refl;
+  decided = λ t v. refl;
+  release = λ t. refl;
+}
+
+pub tally_most : {X : Type 0} (f g : X → ℕ) (xs : List X) → ((x : X) → f x ≤ g x) → tally f xs ≤ tally g xs
+tally_most f g [] le = omega arith
+tally_most f g (x ∷ xs) le = omega (arith, le x, tally_most f g xs le)
+
 -- how many of them are in flight
 abbrev pub tells : ScriptData → List Entry → Stage → ℕ → ℕ
 tells s past g p = tally (λ (l : Letter). tell g p l.to.0 l.body) (in_flight s past)
@@ -55,13 +99,13 @@ LevelAt s past p =
     (node_in s past p).turns.update.0 (node_in s past p).turns.read.0 (node_in s past p).turns.low.0
     (tells s past TurnStage p) (tells s past ShowStage p) (tells s past SweepStage p)
 
--- the version in a letter is that of the phase: of an order the one that it leads to, of an update tree at most the
--- greatest update version
+-- the version in a letter is that of the phase: of an order the one that it leads to, of a tree that isn't a read tree at
+-- most the greatest update version
 abbrev pub LevelBody : ScriptData → Phase → ℕ → Body → Type 0
 LevelBody s phase u (Turn v) = v.0 ≡ u + 1
 LevelBody s phase u (Show v) = v.0 ≡ u
 LevelBody s phase u (Sweep v) = v.0 ≡ u
-LevelBody s phase u (SubLetter t k v) = updates s t.0 ≡ true → v.0 ≤ most_update phase u
+LevelBody s phase u (SubLetter t k v) = reads s t.0 ≡ false → v.0 ≤ most_update phase u
 LevelBody s phase u _ = Unit {0}
 
 -- the levels of all nodes, and the versions in all letters that have still to be done; the coordinator's version is at

@@ -1,71 +1,72 @@
 -- What an entry makes of the versions in letters.
-use Rattle.std.proofs.Common.{if◌then◌else◌, ◌≡◌, ◌≢◌, ℕ, ◌+◌, ◌≤◌, ◌==◌, ◌&&◌, Bool, true, false, List, [], ◌∷◌, length, refl, sym, ap, subst, ◌∙◌, arith, take, drop, Some, None, Option}
-use Rattle.std.specs.Prelude.{nat_lt}
+use Rattle.std.proofs.Common.{if◌then◌else◌, ◌≡◌, ◌≢◌, ℕ, ◌+◌, ◌≤◌, ◌==◌, Bool, true, false, List, [], ◌∷◌, ◌++◌, refl, sym, ap, subst, ◌∙◌, arith, take, drop}
 use Rattle.std.proofs.lemmas.Bool.Decides.{nat_tests}
+use Rattle.tv_base.specs.declared.numbers.TreeNo.{TreeNo}
 use Rattle.tv_base.specs.declared.numbers.Version.{Version}
 use Rattle.letter_types.specs.declared.bodies.Body.{Body}
-use Rattle.letter_types.specs.declared.bodies.Body.TheVariants.{Sub as SubLetter, Turn, Show, Sweep, Swept, AskDone, AskAsked}
+use Rattle.letter_types.specs.declared.bodies.Body.TheVariants.{Root, Sub as SubLetter, Done, Reply, Turn, Show, Sweep, Swept, AskDone, AskAsked, Decide, Decided, Release, Wake}
 use Rattle.letter_types.specs.declared.entries.Entry.{Entry}
 use Rattle.letter_types.specs.declared.entries.Letter.{Letter}
 use Rattle.letter_types.specs.declared.entries.LetterId.{LetterId}
 use Rattle.letter_types.specs.declared.entries.Outgoing.{Outgoing}
 use Rattle.letter_types.specs.Letters.{drop_id}
 use Rattle.letter_types.specs.Steps.{Out}
-use Rattle.tx_trees.specs.ScriptData.{ScriptData, client_of, home_of, node_of, subs_at, updates}
+use Rattle.tx_trees.specs.ScriptData.{ScriptData, reads}
 use Rattle.tx_trees.specs.declared.parts.ScriptRow.{ScriptRow}
 use Rattle.tx_trees.specs.declared.parts.ScriptRow.TheVariants.{Tree as TreeRow, Advance as AdvanceRow, Settle as SettleRow, Lose as LoseRow}
-use Rattle.tx_trees.specs.declared.parts.Sub.{Sub}
-use Rattle.tree_home.specs.declared.homes.Answered.{Answered}
-use Rattle.world_model.specs.Children.{done_letter, sub_letters}
-use Rattle.world_model.specs.Done.{note_done, root_done, sub_done, with_open_tree}
-use Rattle.world_model.specs.Node.{Effect, Node}
-use Rattle.world_model.specs.Notices.{answer_noted, reply_letters, values_of}
+use Rattle.world_model.specs.Node.{Node}
 use Rattle.world_model.specs.Coordinator.{Coordinator, version, to_nodes, counted_version, end_count, coordinator_row}
 use Rattle.world_model.specs.declared.phase.Phase.{Phase}
 use Rattle.world_model.specs.declared.phase.Phase.TheVariants.{Idle, Turning, Counting, Showing, Sweeping}
 use Rattle.world_model.specs.Client.{Client, rows_letters, submit, submitted, with_answer, with_end, nudge}
-use Rattle.world_model.specs.Counts.{Each, tally}
+use Rattle.world_model.specs.Counts.{Each}
 use Rattle.world_model.specs.Runs.{IsStepRun, client_in, coordinator_in, node_in, in_flight, MayFollow}
-use Rattle.world_model.specs.Timely.{AllTimely}
+use Rattle.world_model.specs.AllApt.{AllApt}
 use Rattle.world_model.proofs.Bags.{tally-drop}
-use Rattle.world_model.proofs.Every.{coordinator_kept, each_append, each_both, each_drop, each_left, each_map, each_zero}
-use Rattle.world_model.proofs.Lawful.{IsLawful}
-use Rattle.world_model.proofs.Nexts.{Next, Begins, Hears, Ends, Coordinates, DoesRoot, DoesSub, Notes, Obeys, Order, Turns as TurnsTo, Shows as ShowsTo, Sweeps as SweepsTo, TellsDone, TellsAsked, RootWork, RootUpdates, RootReads}
+use Rattle.world_model.proofs.Every.{coordinator_kept, each_append, each_both, each_map, each_zero}
+use Rattle.phase_laws.proofs.Lawful.{IsLawful}
+use Rattle.world_model.proofs.Nexts.{Order, Turns as TurnsTo, Shows as ShowsTo, Sweeps as SweepsTo, TellsDone, TellsAsked}
 use Rattle.world_model.proofs.Orders.{coordinator_nodes, of, to_nodes_each}
-use Rattle.world_model.proofs.Scripts.{SubAt, plain_script, reads_alone}
-use Rattle.world_model.proofs.EachOutstanding.{each_waits, each_outstanding, each_done}
-use Rattle.world_model.proofs.NothingKept.{outstanding_is}
-use Rattle.world_model.specs.Kept.{outstanding, done_by}
-use Rattle.phase_laws.specs.Phases.{Stage, TurnStage, ShowStage, SweepStage, token, count_in_flight, within, most_update}
+use Rattle.world_model.proofs.EachOutstanding.{each_outstanding}
+use Rattle.world_model.specs.Kept.{outstanding}
+use Rattle.phase_laws.specs.Phases.{Stage, Told, TurnStage, ShowStage, SweepStage, token, count_in_flight, within, most_update}
 use Rattle.phase_laws.proofs.Outcomes.{Outcome, Rests, Queues, Flags, Turns, Acks, LastTurned, LastShown, Finishes, GoesOn, Resumes, KeepsDone, KeepsAsked, Agrees, Recounts, Pauses, asked_kept, finished, gone_on, round_begun}
 use Rattle.phase_laws.proofs.Small.{outcome_in}
 use Rattle.phase_laws.proofs.Tokens.{told}
-use Rattle.phase_laws.proofs.LevelAt.{LevelBody, Levels, tells}
+use Rattle.phase_laws.proofs.LevelAt.{LevelBody, Levels, order, orders_no_trees, tally_most}
+use Rattle.phase_laws.proofs.Brought.{each_of_brought}
+use Rattle.phase_laws.proofs.Letters.{waits_in_flight}
+use Rattle.phase_laws.proofs.Progress.{Begins, Coordinates, Ends, Hears, IsWake, Obeys, Progress, WakesFor, Works, are_wakes}
+use Rattle.phase_laws.proofs.Working.{AsksOf, SentIn, done_version, root_version}
 
 -- The versions in letters.
 -- the same of a letter that is sent, whatever its id will be
 abbrev InLevel : ScriptData → Phase → ℕ → ℕ → Body → Type 0
 InLevel s phase u to body = LetterId → LevelBody s phase u body
 
-subs_level_at : (s : ScriptData) (phase : Phase) (u t v parent i : ℕ) (x : Sub) (xs : List Sub)
-    → (updates s t ≡ true → v ≤ most_update phase u) → (b : Bool) → (nat_lt parent i && (x.parent.0 == parent)) ≡ b
-    → Each (of (InLevel s phase u)) (sub_letters t v parent (i + 1) xs)
-    → Each (of (InLevel s phase u)) (sub_letters t v parent i (x ∷ xs))
-subs_level_at s phase u t v parent i x xs right true is rest = rw is ((λ id. right), rest)
-subs_level_at s phase u t v parent i x xs right false is rest = rw is rest
+-- a root that isn't of a read tree takes its home's update version, and a Sub that of the letter that asked
+sub_level : (s : ScriptData) (phase : Phase) (u : ℕ) (st : Node) (does : Body) (t : TreeNo) (v : Version) → st.turns.update.0 ≤ most_update phase u
+    → LevelBody s phase u does → AsksOf t does → v ≡ done_version s st does → reads s t.0 ≡ false → v.0 ≤ most_update phase u
+sub_level s phase u st (Root w) t v most right asks is other =
+    let here : reads s w.0 ≡ false = ap (λ (x : TreeNo). reads s x.0) asks ∙ other in
+    let same : root_version s st w.0 ≡ st.turns.update = rw here refl in
+    omega (arith, most, ap (λ (x : Version). x.0) (is ∙ same))
+sub_level s phase u st (SubLetter w k x) t v most right asks is other =
+    let here : x.0 ≤ most_update phase u = right (ap (λ (y : TreeNo). reads s y.0) asks ∙ other) in
+    omega (arith, here, ap (λ (y : Version). y.0) is)
+sub_level s phase u st _ t v most right asks is other = absurd asks
 
--- the children of an update tree are asked for in its version
-subs_level : (s : ScriptData) (phase : Phase) (u t v parent i : ℕ) (xs : List Sub)
-    → (updates s t ≡ true → v ≤ most_update phase u) → Each (of (InLevel s phase u)) (sub_letters t v parent i xs)
-subs_level s phase u t v parent i [] right = tt
-subs_level s phase u t v parent i (x ∷ xs) right =
-    subs_level_at s phase u t v parent i x xs right (nat_lt parent i && (x.parent.0 == parent)) refl
-    (subs_level s phase u t v parent (i + 1) xs right)
-
-reply_level : (s : ScriptData) (phase : Phase) (u client : ℕ) (answer : Option Answered)
-    → Each (of (InLevel s phase u)) (reply_letters client answer)
-reply_level s phase u client None = tt
-reply_level s phase u client (Some answer) = ((λ id. tt), tt)
+-- what is sent for a letter of this level
+sent_level : (s : ScriptData) (phase : Phase) (u : ℕ) (st : Node) (does : Body) (to : ℕ) (body : Body) → st.turns.update.0 ≤ most_update phase u
+    → LevelBody s phase u does → SentIn s st does body → InLevel s phase u to body
+sent_level s phase u st does to (SubLetter t k v) most right sent id = sub_level s phase u st does t v most right sent.0 sent.1
+sent_level s phase u st does to (Done t k v notice) most right sent id = tt
+sent_level s phase u st does to (Decide t v commit) most right sent id = tt
+sent_level s phase u st does to (Decided t v) most right sent id = tt
+sent_level s phase u st does to (Reply t v answer) most right sent id = tt
+sent_level s phase u st does to (Release t) most right sent id = tt
+sent_level s phase u st does to (Wake t k) most right sent id = tt
+sent_level s phase u st does to _ most right sent id = absurd sent
 
 rows_level : (s : ScriptData) (phase : Phase) (u : ℕ) (rows : List ScriptRow)
     → Each (of (InLevel s phase u)) (rows_letters s rows)
@@ -74,13 +75,6 @@ rows_level s phase u (TreeRow t ∷ rows) = ((λ id. tt), rows_level s phase u r
 rows_level s phase u (AdvanceRow ∷ rows) = ((λ id. tt), rows_level s phase u rows)
 rows_level s phase u (SettleRow ∷ rows) = rows_level s phase u rows
 rows_level s phase u (LoseRow ∷ rows) = rows_level s phase u rows
-
--- the root of an update tree takes its home's update version
-root_right : (s : ScriptData) (phase : Phase) (u t : ℕ) (st : Node) (v : Version) (effect : Effect) → SubAt s t 0
-    → RootWork s t st v effect
-    → st.turns.update.0 ≤ most_update phase u → updates s t ≡ true → v.0 ≤ most_update phase u
-root_right s phase u t st v effect sub (RootUpdates up is can made) le also = omega (arith, le, ap (λ (w : Version). w.0) is)
-root_right s phase u t st v effect sub (RootReads up is can made) le also = absurd (cc (reads_alone s t 0 sub up, also))
 
 -- what a node answers to an order
 order_level : (s : ScriptData) (phase : Phase) (u : ℕ) (st : Node) (body : Body) (out : Out Node) → Order s st body out
@@ -95,6 +89,18 @@ order_level s phase u st body out (TellsDone v k bd is) =
     subst (λ (o : Out Node). Each (of (InLevel s phase u)) o.sent) (sym is) ((λ id. tt), tt)
 order_level s phase u st body out (TellsAsked v k bd is) =
     subst (λ (o : Out Node). Each (of (InLevel s phase u)) o.sent) (sym is) ((λ id. tt), tt)
+
+-- and the letters that it wakes
+wake_level : (s : ScriptData) (phase : Phase) (u to : ℕ) (body : Body) → IsWake body → InLevel s phase u to body
+wake_level s phase u to (Wake t k) wake id = tt
+wake_level s phase u to _ wake id = absurd wake
+
+obeyed_level : (s : ScriptData) (phase : Phase) (u : ℕ) (st : Node) (body : Body) (out : Out Node) (more : List Outgoing)
+    → Order s st body out → WakesFor body more → Each (of (InLevel s phase u)) (out.sent ++ more)
+obeyed_level s phase u st body out more order woken =
+    each_append (of (InLevel s phase u)) out.sent more (order_level s phase u st body out order)
+    (each_map (λ (o : Outgoing). IsWake o.body) (of (InLevel s phase u)) more (λ o wake. wake_level s phase u o.to.0 o.body wake)
+    (are_wakes body more woken))
 
 -- every letter that has still to be done has a version of the coordinator's phase
 abbrev pub LettersAt : ScriptData → List Entry → Coordinator → Type 0
@@ -175,72 +181,104 @@ agrees_right s c true from row = record {
   sent = to_nodes_each (InLevel s Sweeping c.update) c.nodes (Sweep (version c.update)) (λ to lt id. refl);
 }
 
--- a letter that is no token is right in the next version too
-level_further : (s : ScriptData) (to : Phase) (u : ℕ) (body : Body) → token TurnStage body ≡ 0 → token ShowStage body ≡ 0
-    → token SweepStage body ≡ 0 → u + 1 ≤ most_update to (u + 1) → LevelBody s Sweeping u body → LevelBody s to (u + 1) body
+-- a letter that is no order is right in the next version too
+level_further : (s : ScriptData) (to : Phase) (u : ℕ) (body : Body) → order TurnStage body ≡ 0 → order ShowStage body ≡ 0
+    → order SweepStage body ≡ 0 → u + 1 ≤ most_update to (u + 1) → LevelBody s Sweeping u body → LevelBody s to (u + 1) body
 level_further s to u (Turn v) a b c le right = absurd (omega (arith, a))
 level_further s to u (Show v) a b c le right = absurd (omega (arith, b))
 level_further s to u (Sweep v) a b c le right = absurd (omega (arith, c))
 level_further s to u (SubLetter t k v) a b c le right = λ is. let most = right is in omega (arith, most, le)
 level_further s to u _ a b c le right = tt
 
+order_most : (g : Stage) (body : Body) → order g body ≤ token g body
+order_most TurnStage (Turn v) = omega arith
+order_most TurnStage _ = omega arith
+order_most ShowStage (Show v) = omega arith
+order_most ShowStage _ = omega arith
+order_most SweepStage (Sweep v) = omega arith
+order_most SweepStage _ = omega arith
+
+-- at the end of the sweeping phase the last token is the answer that is taken
+swept_leaves : (g : Stage) (v : Version) (a n tokens : ℕ) → tokens + within g Sweeping a ≡ within g Sweeping n → a + 1 ≡ n
+    → tokens ≤ token g (Swept v)
+swept_leaves TurnStage v a n tokens now full = omega (arith, now)
+swept_leaves ShowStage v a n tokens now full = omega (arith, now)
+swept_leaves SweepStage v a n tokens now full = omega (arith, now, full)
+
+swept_order : (g : Stage) (v : Version) → order g (Swept v) ≡ 0
+swept_order TurnStage v = refl
+swept_order ShowStage v = refl
+swept_order SweepStage v = refl
+
+-- where the last answer to a Sweep is taken no order has still to be done
+no_orders : (g : Stage) (s : ScriptData) (past : List Entry) (e : Entry) (v : Version) → MayFollow s past e → Told s past g
+    → (coordinator_in s past).phase ≡ Sweeping → e.took.body ≡ Swept v
+    → ((coordinator_in s past).acks + 1 == (coordinator_in s past).nodes) ≡ true
+    → Each (λ (l : Letter). order g l.body ≡ 0) (outstanding s past)
+no_orders g s past e v m was at bd last =
+    let c = coordinator_in s past in
+    let left = drop_id e.took.id (in_flight s past) in
+    let full : c.acks + 1 ≡ c.nodes = grind (arith, nat_tests) in
+    let now : count_in_flight (token g) s past + within g Sweeping c.acks ≡ within g Sweeping s.nodes =
+    subst (λ (q : Phase). count_in_flight (token g) s past + within g q c.acks ≡ within g q s.nodes) at was in
+    each_zero (λ (l : Letter). order g l.body) (outstanding s past)
+    (omega (
+      arith,
+      waits_in_flight (order g) s past (orders_no_trees g),
+      tally-drop (λ (l : Letter). order g l.body) e.took.id (in_flight s past) e.took m.waits,
+      tally-drop (λ (l : Letter). token g l.body) e.took.id (in_flight s past) e.took m.waits,
+      tally_most (λ (l : Letter). order g l.body) (λ (l : Letter). token g l.body) left (λ l. order_most g l.body),
+      swept_leaves g v c.acks s.nodes (count_in_flight (token g) s past) now (full ∙ coordinator_nodes s past),
+      ap (order g) bd,
+      swept_order g v,
+      ap (token g) bd,
+    ))
+
 -- an advancement ends, where the letter taken was its last token
 letters_ended : (s : ScriptData) (past : List Entry) (e : Entry) (v : Version) (out : Out Coordinator) → IsLawful s
     → IsStepRun s (e ∷ past)
-    → AllTimely s past → LettersAt s past (coordinator_in s past) → (coordinator_in s past).phase ≡ Sweeping
+    → AllApt s past → LettersAt s past (coordinator_in s past) → (coordinator_in s past).phase ≡ Sweeping
     → e.took.body ≡ Swept v → ((coordinator_in s past).acks + 1 == (coordinator_in s past).nodes) ≡ true
     → coordinator_in s (e ∷ past) ≡ out.state → e.sent ≡ out.sent → out.state.update ≡ (coordinator_in s past).update + 1
     → (coordinator_in s past).update + 1 ≤ most_update out.state.phase ((coordinator_in s past).update + 1)
     → Each (of (InLevel s out.state.phase ((coordinator_in s past).update + 1))) out.sent
     → LettersAt s (e ∷ past) (coordinator_in s (e ∷ past))
-letters_ended s past e v out laws run timely was at bd last moved is next most right =
+letters_ended s past e v out laws run apt was at bd last moved is next most right =
     let c = coordinator_in s past in
-    let left = drop_id e.took.id (in_flight s past) in
-    let full : c.acks + 1 ≡ c.nodes = grind (arith, nat_tests) in
-    let rest : (g : Stage) → tally (λ (l : Letter). token g l.body) left + token g e.took.body ≡ count_in_flight (token g) s past =
-    λ g. tally-drop (λ (l : Letter). token g l.body) e.took.id (in_flight s past) e.took run.0.waits in
-    let now : (g : Stage) → count_in_flight (token g) s past + within g Sweeping c.acks ≡ within g Sweeping s.nodes =
-    λ g. subst (λ (q : Phase). count_in_flight (token g) s past + within g q c.acks ≡ within g q s.nodes) at
-    (told g s past laws run.1 timely) in
-    let one : token SweepStage e.took.body ≡ 1 = ap (token SweepStage) bd in
-    let z1 = each_zero (λ (l : Letter). token TurnStage l.body) left (omega (arith, rest TurnStage, now TurnStage)) in
-    let z2 = each_zero (λ (l : Letter). token ShowStage l.body) left (omega (arith, rest ShowStage, now ShowStage)) in
-    let z3 = each_zero (λ (l : Letter). token SweepStage l.body) left
-    (omega (arith, rest SweepStage, now SweepStage, one, full, coordinator_nodes s past)) in
-    let old : Each (λ (l : Letter). LevelBody s Sweeping c.update l.body) left =
-    each_drop (λ (l : Letter). LevelBody s Sweeping c.update l.body) e.took.id (in_flight s past)
-    (subst (λ (q : Phase). Each (λ (l : Letter). LevelBody s q c.update l.body) (in_flight s past)) at
-    (each_waits (λ (l : Letter). LevelBody s c.phase c.update l.body) s past was)) in
-    let all = each_both _ _ left z1 (each_both _ _ left z2 (each_both _ _ left z3 old)) in
+    let z : (g : Stage) → Each (λ (l : Letter). order g l.body ≡ 0) (outstanding s past) =
+    λ g. no_orders g s past e v run.0 (told g s past laws run.1 apt) at bd last in
+    let old : Each (λ (l : Letter). LevelBody s Sweeping c.update l.body) (outstanding s past) =
+    subst (λ (q : Phase). Each (λ (l : Letter). LevelBody s q c.update l.body) (outstanding s past)) at was in
+    let all =
+    each_both _ _ (outstanding s past) (z TurnStage)
+    (each_both _ _ (outstanding s past) (z ShowStage) (each_both _ _ (outstanding s past) (z SweepStage) old)) in
     let new : Each (of (InLevel s out.state.phase (c.update + 1))) e.sent =
     subst (λ (os : List Outgoing). Each (of (InLevel s out.state.phase (c.update + 1))) os) (sym is) right in
-    let after : Each (λ (l : Letter). LevelBody s out.state.phase (c.update + 1) l.body) (in_flight s (e ∷ past)) =
-    each_left (λ (l : Letter). LevelBody s out.state.phase (c.update + 1) l.body) s past e
-    (each_map _ (λ (l : Letter). LevelBody s out.state.phase (c.update + 1) l.body) left
+    let after : Each (λ (l : Letter). LevelBody s out.state.phase (c.update + 1) l.body) (outstanding s (e ∷ past)) =
+    each_outstanding (λ (l : Letter). LevelBody s out.state.phase (c.update + 1) l.body) s past e run.0
+    (each_map _ (λ (l : Letter). LevelBody s out.state.phase (c.update + 1) l.body) (outstanding s past)
     (λ l here. level_further s out.state.phase c.update l.body here.0 here.1.0 here.1.1.0 most here.1.1.1) all) new in
-    let all_after : Each (λ (l : Letter). LevelBody s out.state.phase (c.update + 1) l.body) (outstanding s (e ∷ past)) =
-    subst (Each (λ (l : Letter). LevelBody s out.state.phase (c.update + 1) l.body)) (sym (outstanding_is s (e ∷ past) (plain_script s laws.sound))) after in
     subst (λ (d : Coordinator). LettersAt s (e ∷ past) d) (sym moved)
-    (subst (λ (n : ℕ). Each (λ (l : Letter). LevelBody s out.state.phase n l.body) (outstanding s (e ∷ past))) (sym next) all_after)
+    (subst (λ (n : ℕ). Each (λ (l : Letter). LevelBody s out.state.phase n l.body) (outstanding s (e ∷ past))) (sym next) after)
 
 -- every step of the coordinator leaves the letters right
 outcome_letters : (s : ScriptData) (past : List Entry) (e : Entry) (out : Out Coordinator) → IsLawful s
-    → IsStepRun s (e ∷ past) → AllTimely s past
+    → IsStepRun s (e ∷ past) → AllApt s past
     → LettersAt s past (coordinator_in s past) → coordinator_in s (e ∷ past) ≡ out.state → e.sent ≡ out.sent
     → Outcome (coordinator_in s past) e.took.from.0 e.took.body out → LettersAt s (e ∷ past) (coordinator_in s (e ∷ past))
-outcome_letters s past e out laws run timely was moved is (Rests phase at ignored eq) =
+outcome_letters s past e out laws run apt was moved is (Rests phase at ignored eq) =
     letters_right s past e out run.0 was moved is
     (subst (λ (o : Out Coordinator). Right s (coordinator_in s past) o) (sym eq)
     (record { same = refl; higher = omega arith; sent = tt }))
-outcome_letters s past e out laws run timely was moved is (Queues phase at goes bd eq) =
+outcome_letters s past e out laws run apt was moved is (Queues phase at goes bd eq) =
     letters_right s past e out run.0 was moved is
     (subst (λ (o : Out Coordinator). Right s (coordinator_in s past) o) (sym eq)
     (record { same = refl; higher = omega arith; sent = tt }))
-outcome_letters s past e out laws run timely was moved is (Flags reads at bd eq) =
+outcome_letters s past e out laws run apt was moved is (Flags reads at bd eq) =
     letters_right s past e out run.0 was moved is
     (subst (λ (o : Out Coordinator). Right s (coordinator_in s past) o) (sym eq)
     (record { same = refl; higher = omega arith; sent = tt }))
-outcome_letters s past e out laws run timely was moved is (Turns at bd eq) =
+outcome_letters s past e out laws run apt was moved is (Turns at bd eq) =
     let c = coordinator_in s past in
     letters_right s past e out run.0 was moved is
     (subst (λ (o : Out Coordinator). Right s c o) (sym eq) (record {
@@ -248,36 +286,36 @@ outcome_letters s past e out laws run timely was moved is (Turns at bd eq) =
       higher = most_update_most c.phase c.update;
       sent = to_nodes_each (InLevel s Turning c.update) c.nodes (Turn (version (c.update + 1))) (λ to lt id. refl);
     }))
-outcome_letters s past e out laws run timely was moved is (Acks phase at answer more eq) =
+outcome_letters s past e out laws run apt was moved is (Acks phase at answer more eq) =
     letters_right s past e out run.0 was moved is
     (subst (λ (o : Out Coordinator). Right s (coordinator_in s past) o) (sym eq)
     (record { same = refl; higher = omega arith; sent = tt }))
-outcome_letters s past e out laws run timely was moved is (LastTurned v at bd last eq) =
+outcome_letters s past e out laws run apt was moved is (LastTurned v at bd last eq) =
     let c = coordinator_in s past in
     letters_right s past e out run.0 was moved is
     (subst (λ (o : Out Coordinator). Right s c o) (sym eq) (round_right s c c false (c.round + 1) refl))
-outcome_letters s past e out laws run timely was moved is (LastShown v at bd last eq) =
+outcome_letters s past e out laws run apt was moved is (LastShown v at bd last eq) =
     let c = coordinator_in s past in
     letters_right s past e out run.0 was moved is
     (subst (λ (o : Out Coordinator). Right s c o) (sym eq) (round_right s c c true (c.round + 1) refl))
-outcome_letters s past e out laws run timely was moved is (Finishes v at bd last none eq) =
+outcome_letters s past e out laws run apt was moved is (Finishes v at bd last none eq) =
     let c = coordinator_in s past in
-    letters_ended s past e v (finished c) laws run timely was at bd last
+    letters_ended s past e v (finished c) laws run apt was at bd last
     (moved ∙ ap (λ (o : Out Coordinator). o.state) eq) (is ∙ ap (λ (o : Out Coordinator). o.sent) eq) refl (omega arith)
     ((λ id. tt), tt)
-outcome_letters s past e out laws run timely was moved is (GoesOn v at bd last some eq) =
+outcome_letters s past e out laws run apt was moved is (GoesOn v at bd last some eq) =
     let c = coordinator_in s past in
-    letters_ended s past e v (gone_on c) laws run timely was at bd last
+    letters_ended s past e v (gone_on c) laws run apt was at bd last
     (moved ∙ ap (λ (o : Out Coordinator). o.state) eq) (is ∙ ap (λ (o : Out Coordinator). o.sent) eq) refl (omega arith) (
       (λ id. tt),
       to_nodes_each (InLevel s Turning (c.update + 1)) c.nodes (Turn (version (c.update + 2)))
           (λ to lt id. omega arith),
     )
-outcome_letters s past e out laws run timely was moved is (Resumes reads at bd eq) =
+outcome_letters s past e out laws run apt was moved is (Resumes reads at bd eq) =
     let c = coordinator_in s past in
     letters_right s past e out run.0 was moved is
     (subst (λ (o : Out Coordinator). Right s c o) (sym eq) (round_right s c c reads (c.round + 1) refl))
-outcome_letters s past e out laws run timely was moved is (KeepsDone reads v k row at bd here eq) =
+outcome_letters s past e out laws run apt was moved is (KeepsDone reads v k row at bd here eq) =
     let c = coordinator_in s past in
     letters_right s past e out run.0 was moved is
     (subst (λ (o : Out Coordinator). Right s c o) (sym eq) (record {
@@ -285,20 +323,20 @@ outcome_letters s past e out laws run timely was moved is (KeepsDone reads v k r
       higher = omega arith;
       sent = pick_asks s c.phase c.update c.nodes _ c.current.version c.current.number;
     }))
-outcome_letters s past e out laws run timely was moved is (KeepsAsked reads v k row takes verdict eq) =
+outcome_letters s past e out laws run apt was moved is (KeepsAsked reads v k row takes verdict eq) =
     letters_right s past e out run.0 was moved is
     (subst (λ (o : Out Coordinator). Right s (coordinator_in s past) o) (sym eq)
     (record { same = refl; higher = omega arith; sent = tt }))
-outcome_letters s past e out laws run timely was moved is (Agrees reads v k row takes verdict eq) =
+outcome_letters s past e out laws run apt was moved is (Agrees reads v k row takes verdict eq) =
     let c = coordinator_in s past in
     letters_right s past e out run.0 was moved is
     (subst (λ (o : Out Coordinator). Right s c o) (sym eq) (agrees_right s c reads e.took.from.0 row))
-outcome_letters s past e out laws run timely was moved is (Recounts reads v k row takes verdict flag eq) =
+outcome_letters s past e out laws run apt was moved is (Recounts reads v k row takes verdict flag eq) =
     let c = coordinator_in s past in
     letters_right s past e out run.0 was moved is
     (subst (λ (o : Out Coordinator). Right s c o) (sym eq)
     (round_right s c (asked_kept e.took.from.0 row c) reads (c.round + 1) refl))
-outcome_letters s past e out laws run timely was moved is (Pauses reads v k row takes verdict flag eq) =
+outcome_letters s past e out laws run apt was moved is (Pauses reads v k row takes verdict flag eq) =
     let c = coordinator_in s past in
     letters_right s past e out run.0 was moved is
     (subst (λ (o : Out Coordinator). Right s c o) (sym eq)
@@ -312,57 +350,36 @@ submit_level s phase u c first right =
     each_append (of (InLevel s phase u)) first (rows_letters s rest) right (rows_level s phase u rest)
 
 -- the versions in letters after an entry
-pub letters_next : (s : ScriptData) (past : List Entry) (e : Entry) → IsLawful s → IsStepRun s (e ∷ past) → AllTimely s past
-    → Levels s past → Next s past e → LettersAt s (e ∷ past) (coordinator_in s (e ∷ past))
-letters_next s past e laws run timely was (Begins bd at made) =
+pub letters_next : (s : ScriptData) (past : List Entry) (e : Entry) → IsLawful s → IsStepRun s (e ∷ past) → AllApt s past
+    → Levels s past → Progress s past e → LettersAt s (e ∷ past) (coordinator_in s (e ∷ past))
+letters_next s past e laws run apt was (Begins bd at made) =
     let c = coordinator_in s past in
     letters_kept s past e (submit s (client_in s past) []).sent run.0 (omega (arith, at)) was.letters made.sent
     (submit_level s c.phase c.update (client_in s past) [] tt)
-letters_next s past e laws run timely was (Hears t v answer bd at lt made) =
+letters_next s past e laws run apt was (Hears t v answer bd at lt made) =
     let c = coordinator_in s past in
     let client = with_answer t.0 (client_in s past) in
     letters_kept s past e (submit s client (nudge s ∷ [])).sent run.0 (omega (arith, at)) was.letters made.sent
     (submit_level s c.phase c.update client (nudge s ∷ []) ((λ id. tt), tt))
-letters_next s past e laws run timely was (Ends v bd at made) =
+letters_next s past e laws run apt was (Ends v bd at made) =
     let c = coordinator_in s past in
     let client = with_end (client_in s past) in
     letters_kept s past e (submit s client []).sent run.0 (omega (arith, at)) was.letters made.sent
     (submit_level s c.phase c.update client [] tt)
-letters_next s past e laws run timely was (Coordinates tells at made) =
+letters_next s past e laws run apt was (Coordinates tells at made) =
     outcome_letters s past e (coordinator_row (coordinator_in s past) e.took.from.0 e.took.body)
-    laws run timely was.letters made.state made.sent
-    (outcome_in s past e laws run.1 timely)
-letters_next s past e laws run timely was (DoesRoot t v effect bd sub at lt new work made) =
+    laws run apt was.letters made.state made.sent
+    (outcome_in s past e laws run.1 apt)
+letters_next s past e laws run apt was (Works p r work) =
     let c = coordinator_in s past in
-    let p = home_of s t.0 in
     let st = node_in s past p in
-    let right = root_right s c.phase c.update t.0 st v effect sub work (was.node p lt).update_to in
-    let answer =
-    answer_noted (record { 0 = t.0 }) (record { 0 = 0 }) (values_of effect.notice)
-    (with_open_tree t.0 (length (subs_at s t.0)) v.0 st).homes in
-    letters_kept s past e (root_done s p t.0 v.0 effect st).sent run.0 (omega (arith, at, lt)) was.letters made.sent
-    (each_append (of (InLevel s c.phase c.update)) (sub_letters t.0 v.0 0 0 (subs_at s t.0))
-    (reply_letters (client_of s) answer)
-    (subs_level s c.phase c.update t.0 v.0 0 0 (subs_at s t.0) right) (reply_level s c.phase c.update (client_of s) answer))
-letters_next s past e laws run timely was (DoesSub t k v raises effect bd sub pos from at lt work made) =
+    let b = work.brings in
+    let right : LevelBody s c.phase c.update r.body =
+    each_of_brought (λ (l : Letter). LevelBody s c.phase c.update l.body) s past e p r b run.0 was.letters in
+    letters_kept s past e e.sent run.0 (omega (arith, b.at, b.below)) was.letters refl
+    (each_map (λ (o : Outgoing). SentIn s st r.body o.body) (of (InLevel s c.phase c.update)) e.sent
+    (λ o sent. sent_level s c.phase c.update st r.body o.to.0 o.body (was.node p b.below).update_to right sent) work.sent)
+letters_next s past e laws run apt was (Obeys p out more at lt order state sent woken) =
     let c = coordinator_in s past in
-    let p = node_of s t.0 k.0 in
-    let right : updates s t.0 ≡ true → v.0 ≤ most_update c.phase c.update =
-    subst (λ (b : Body). LevelBody s c.phase c.update b) bd.body
-    (each_done (λ (l : Letter). LevelBody s c.phase c.update l.body) s past e run.0 was.letters) in
-    letters_kept s past e (sub_done s (done_by s past e).from.0 t.0 k.0 v.0 raises effect (node_in s past p)).sent run.0
-    (omega (arith, at, lt)) was.letters made.sent
-    (each_append (of (InLevel s c.phase c.update)) (sub_letters t.0 v.0 k.0 0 (subs_at s t.0))
-    (done_letter (home_of s t.0) t.0 k.0 v.0 effect.notice ∷ [])
-    (subs_level s c.phase c.update t.0 v.0 k.0 0 (subs_at s t.0) right) ((λ id. tt), tt))
-letters_next s past e laws run timely was (Notes t k v values bd sub pos from at lt missed made) =
-    let c = coordinator_in s past in
-    let p = home_of s t.0 in
-    letters_kept s past e (note_done s e.took.from.0 t.0 k.0 v.0 values (node_in s past p)).sent run.0 (omega (arith, at, lt))
-    was.letters made.sent
-    (reply_level s c.phase c.update (client_of s)
-    (answer_noted (record { 0 = t.0 }) (record { 0 = k.0 }) values (node_in s past p).homes))
-letters_next s past e laws run timely was (Obeys p out at lt order made) =
-    let c = coordinator_in s past in
-    letters_kept s past e out.sent run.0 (omega (arith, at, lt)) was.letters made.sent
-    (order_level s c.phase c.update (node_in s past p) e.took.body out order)
+    letters_kept s past e (out.sent ++ more) run.0 (omega (arith, at, lt)) was.letters sent
+    (obeyed_level s c.phase c.update (node_in s past p) e.took.body out more order woken)

@@ -5,40 +5,40 @@ use Rattle.std.proofs.lemmas.Bool.{cases_eq}
 use Rattle.std.proofs.lemmas.Bool.Decides.{nat_tests}
 use Rattle.tv_base.specs.declared.numbers.Version.{Version}
 use Rattle.letter_types.specs.declared.bodies.Body.{Body}
-use Rattle.letter_types.specs.declared.bodies.Body.TheVariants.{Turn, Show, Sweep, AskDone, Root, Sub as SubLetter}
-use Rattle.letter_types.specs.declared.bodies.Notice.TheVariants.{Did as DidNotice}
+use Rattle.letter_types.specs.declared.bodies.Body.TheVariants.{Turn, Show, Sweep, AskDone, Sub as SubLetter}
 use Rattle.letter_types.specs.declared.entries.Entry.{Entry}
 use Rattle.letter_types.specs.declared.entries.Letter.{Letter}
 use Rattle.letter_types.specs.declared.entries.Outgoing.{Outgoing}
 use Rattle.letter_types.specs.Steps.{Out}
 use Rattle.node_versions.specs.declared.turns.Turns.{Turns as TurnsOf}
 use Rattle.node_versions.specs.Turns.{raised}
-use Rattle.tx_trees.specs.ScriptData.{ScriptData, client_of, home_of, node_of, updates}
-use Rattle.world_model.specs.Done.{note_done, raised_if, root_done, sub_done}
-use Rattle.world_model.specs.Node.{Effect, Node}
+use Rattle.tx_trees.specs.ScriptData.{ScriptData, client_of}
+use Rattle.world_model.specs.Done.{raised_if}
+use Rattle.world_model.specs.Node.{Node}
 use Rattle.world_model.specs.Coordinator.{Coordinator, version, to_nodes, in_phase, begin_phase, counted_version, keep_done, end_count, coordinator_row}
 use Rattle.world_model.specs.declared.phase.Phase.{Phase}
 use Rattle.world_model.specs.declared.phase.Phase.TheVariants.{Idle, Turning, Counting, Paused, Showing, Sweeping}
 use Rattle.world_model.specs.Client.{Client, submit, with_answer, with_end, nudge}
 use Rattle.world_model.specs.Counts.{one_if, tally}
 use Rattle.world_model.specs.Runs.{MayFollow, IsStepRun, client_in, coordinator_in, node_in, in_flight}
-use Rattle.world_model.specs.Timely.{AllTimely}
+use Rattle.world_model.specs.AllApt.{AllApt}
 use Rattle.world_model.proofs.Bags.{one_if_most, one_if_same, sealed_tally, tally-append, tally_step}
 use Rattle.world_model.proofs.Every.{coordinator_kept, node_kept}
 use Rattle.world_model.proofs.Flows.{submit_none}
-use Rattle.world_model.proofs.Lawful.{IsLawful}
-use Rattle.world_model.proofs.Nexts.{Next, Begins, Hears, Ends, Coordinates, DoesRoot, DoesSub, Notes, Obeys, Made, MadeByClient, MadeByCoordinator, Order, Turns as TurnsTo, Shows as ShowsTo, Sweeps as SweepsTo, TellsDone, TellsAsked, SubWork, SubUpdates, SubReads}
+use Rattle.phase_laws.proofs.Lawful.{IsLawful}
+use Rattle.world_model.proofs.Nexts.{MadeByClient, MadeByCoordinator, Order, Turns as TurnsTo, Shows as ShowsTo, Sweeps as SweepsTo, TellsDone, TellsAsked}
 use Rattle.world_model.proofs.Orders.{coordinator_nodes}
 use Rattle.world_model.proofs.Sends.{on}
-use Rattle.world_model.proofs.EachOutstanding.{each_took, each_done}
-use Rattle.world_model.specs.Kept.{done_by}
-use Rattle.world_model.proofs.Worked.{took_none}
+use Rattle.world_model.proofs.EachOutstanding.{each_took}
 use Rattle.phase_laws.specs.Phases.{Stage, TurnStage, ShowStage, SweepStage, token, count_in_flight, within, most_update}
-use Rattle.phase_laws.proofs.Letters.{NoTrees, Passes, keep_done_none, node_passes}
+use Rattle.phase_laws.proofs.Brought.{each_of_brought}
+use Rattle.phase_laws.proofs.Letters.{NoTrees, Passes, keep_done_none, node_passes, none_of_trees}
+use Rattle.phase_laws.proofs.Progress.{Begins, Coordinates, Ends, Hears, Obeys, Progress, Works}
+use Rattle.phase_laws.proofs.Working.{IsRaiser}
 use Rattle.phase_laws.proofs.Outcomes.{Outcome, Rests, Queues, Flags, Turns, Acks, LastTurned, LastShown, Finishes, GoesOn, Resumes, KeepsDone, KeepsAsked, Agrees, Recounts, Pauses, asked_kept, finished, gone_on, round_begun}
 use Rattle.phase_laws.proofs.Small.{outcome_in}
 use Rattle.phase_laws.proofs.Tokens.{IsCalm, PhaseFor, phase_for, token_passes, told, calm_within, turn_fills, show_fills, sweep_fills, ask_fills, advance_apart, nudge_apart, ask_apart, ask_done_apart}
-use Rattle.phase_laws.proofs.LevelAt.{Level, LevelAt, LevelBody, Levels, tell, tells}
+use Rattle.phase_laws.proofs.LevelAt.{Level, LevelAt, LevelBody, Levels, order, orders_no_trees, tally_most, tell, tells}
 
 -- What is sent to a node.
 abbrev sent_to : Stage → ℕ → Outgoing → ℕ
@@ -51,10 +51,6 @@ tell_most ShowStage p to (Show v) = one_if_most (to == p)
 tell_most ShowStage p to _ = omega arith
 tell_most SweepStage p to (Sweep v) = one_if_most (to == p)
 tell_most SweepStage p to _ = omega arith
-
-tally_most : {X : Type 0} (f g : X → ℕ) (xs : List X) → ((x : X) → f x ≤ g x) → tally f xs ≤ tally g xs
-tally_most f g [] le = omega arith
-tally_most f g (x ∷ xs) le = omega (arith, le x, tally_most f g xs le)
 
 -- where no tokens are sent, no orders are
 sent_none : (g : Stage) (p : ℕ) (os : List Outgoing) → tally (on (token g)) os ≡ 0 → tally (sent_to g p) os ≡ 0
@@ -75,13 +71,13 @@ within_zero SweepStage Sweeping n none = absurd (omega (arith, none))
 within_zero SweepStage _ n none = refl
 
 -- outside a stage's phase none of its orders is in flight
-tells_none : (g : Stage) (s : ScriptData) (past : List Entry) (p : ℕ) → IsLawful s → IsStepRun s past → AllTimely s past
+tells_none : (g : Stage) (s : ScriptData) (past : List Entry) (p : ℕ) → IsLawful s → IsStepRun s past → AllApt s past
     → within g (coordinator_in s past).phase 1 ≡ 0 → tells s past g p ≡ 0
-tells_none g s past p laws run timely none =
+tells_none g s past p laws run apt none =
     omega (
       arith,
       tells_most g s past p,
-      told g s past laws run timely,
+      told g s past laws run apt,
       within_zero g (coordinator_in s past).phase s.nodes none,
     )
 
@@ -426,13 +422,6 @@ lifts_swept : (u p : ℕ) (v : Version) (turns : TurnsOf) → v.0 ≡ u
 lifts_swept u p v turns is = λ t1 t2 t3 x1 x2 x3 was f1 f2 f3. omega (arith, was, is, f1, f2, f3, one_if_same p)
 
 -- Every node's level after an entry.
--- an order of the stage alone
-abbrev order : Stage → Body → ℕ
-order TurnStage (Turn v) = 1
-order ShowStage (Show v) = 1
-order SweepStage (Sweep v) = 1
-order g _ = 0
-
 -- a number that counts nothing
 abbrev never : Body → ℕ
 never body = 0
@@ -446,11 +435,20 @@ tell_order SweepStage p to (Sweep v) = one_if_most (to == p)
 tell_order SweepStage p to _ = omega arith
 
 no_trees : NoTrees never
-no_trees = record { root = λ t. refl; sub = λ t k v. refl; done = λ t k v notice. refl; reply = λ t v answer. refl; wake = λ t k. refl }
+no_trees = record {
+  root = λ t. refl;
+  sub = λ t k v. refl;
+  done = λ t k v notice. refl;
+  reply = λ t v answer. refl;
+  wake = λ t k. refl;
+  decide = λ t v commit. refl;
+  decided = λ t v. refl;
+  release = λ t. refl;
+}
 
 orders_apart : (g : Stage) → Passes (order g) never
 orders_apart TurnStage = record {
-  sent = record { root = λ t. refl; sub = λ t k v. refl; done = λ t k v notice. refl; reply = λ t v answer. refl; wake = λ t k. refl };
+  sent = orders_no_trees TurnStage;
   took = no_trees;
   turned = λ v. refl;
   shown = λ v. refl;
@@ -459,7 +457,7 @@ orders_apart TurnStage = record {
   asked_row = λ v k row. refl;
 }
 orders_apart ShowStage = record {
-  sent = record { root = λ t. refl; sub = λ t k v. refl; done = λ t k v notice. refl; reply = λ t v answer. refl; wake = λ t k. refl };
+  sent = orders_no_trees ShowStage;
   took = no_trees;
   turned = λ v. refl;
   shown = λ v. refl;
@@ -468,7 +466,7 @@ orders_apart ShowStage = record {
   asked_row = λ v k row. refl;
 }
 orders_apart SweepStage = record {
-  sent = record { root = λ t. refl; sub = λ t k v. refl; done = λ t k v notice. refl; reply = λ t v answer. refl; wake = λ t k. refl };
+  sent = orders_no_trees SweepStage;
   took = no_trees;
   turned = λ v. refl;
   shown = λ v. refl;
@@ -478,7 +476,7 @@ orders_apart SweepStage = record {
 }
 
 -- a node sends no orders
-node_orders : (s : ScriptData) (past : List Entry) (e : Entry) → e.actor.0 < s.nodes → Next s past e → (g : Stage) (q : ℕ)
+node_orders : (s : ScriptData) (past : List Entry) (e : Entry) → e.actor.0 < s.nodes → Progress s past e → (g : Stage) (q : ℕ)
     → tally (sent_to g q) e.sent ≡ 0
 node_orders s past e node next g q =
     omega (
@@ -505,44 +503,44 @@ level_stays s past e q m away other none was =
     subst (λ (c : Coordinator). LevelWith c (node_in s (e ∷ past) q).turns s (e ∷ past) q)
     (sym (coordinator_kept s past e away)) there
 
--- the same of an entry of a run
-abbrev LiftsAt : ScriptData → List Entry → Entry → ℕ → Out Node → Type 0
-LiftsAt s past e p out =
-    Lifts (coordinator_in s past).phase (coordinator_in s past).update p e.took.body (node_in s past p).turns out.state.turns
+-- the same of an entry of a run, after which node p has these versions
+abbrev LiftsAt : ScriptData → List Entry → Entry → ℕ → TurnsOf → Type 0
+LiftsAt s past e p turns =
+    Lifts (coordinator_in s past).phase (coordinator_in s past).update p e.took.body (node_in s past p).turns turns
 
 -- the node that took a letter
-level_own : (s : ScriptData) (past : List Entry) (e : Entry) (p : ℕ) (out : Out Node) → MayFollow s past e
-    → Made s past e p out → e.actor.0 ≡ p
-    → p < s.nodes → ((g : Stage) → tally (sent_to g p) e.sent ≡ 0) → LevelAt s past p → LiftsAt s past e p out
+level_own : (s : ScriptData) (past : List Entry) (e : Entry) (p : ℕ) (turns : TurnsOf) → MayFollow s past e
+    → (node_in s (e ∷ past) p).turns ≡ turns → e.actor.0 ≡ p
+    → p < s.nodes → ((g : Stage) → tally (sent_to g p) e.sent ≡ 0) → LevelAt s past p → LiftsAt s past e p turns
     → LevelAt s (e ∷ past) p
-level_own s past e p out m made at lt none was lifts =
+level_own s past e p turns m is at lt none was lifts =
     let flow : (g : Stage) → tells s (e ∷ past) g p + tell g p p e.took.body ≡ tells s past g p =
     λ g. omega (arith, tell_flow g s past e p m, none g, ap (λ (n : ℕ). tell g p n e.took.body) at) in
-    let own : LevelWith (coordinator_in s past) out.state.turns s (e ∷ past) p =
+    let own : LevelWith (coordinator_in s past) turns s (e ∷ past) p =
     lifts (tells s past TurnStage p) (tells s past ShowStage p) (tells s past SweepStage p)
     (tells s (e ∷ past) TurnStage p) (tells s (e ∷ past) ShowStage p) (tells s (e ∷ past) SweepStage p) was
     (flow TurnStage) (flow ShowStage) (flow SweepStage) in
     let there : LevelWith (coordinator_in s past) (node_in s (e ∷ past) p).turns s (e ∷ past) p =
-    subst (λ (st : Node). LevelWith (coordinator_in s past) st.turns s (e ∷ past) p) (sym made.state) own in
+    subst (λ (x : TurnsOf). LevelWith (coordinator_in s past) x s (e ∷ past) p) (sym is) own in
     subst (λ (c : Coordinator). LevelWith c (node_in s (e ∷ past) p).turns s (e ∷ past) p)
     (sym (coordinator_kept s past e (omega (arith, at, lt)))) there
 
-level_made_by : (s : ScriptData) (past : List Entry) (e : Entry) (p : ℕ) (out : Out Node) → MayFollow s past e
-    → Made s past e p out → e.actor.0 ≡ p → p < s.nodes → ((g : Stage) (q : ℕ) → tally (sent_to g q) e.sent ≡ 0)
+level_made_by : (s : ScriptData) (past : List Entry) (e : Entry) (p : ℕ) (turns : TurnsOf) → MayFollow s past e
+    → (node_in s (e ∷ past) p).turns ≡ turns → e.actor.0 ≡ p → p < s.nodes → ((g : Stage) (q : ℕ) → tally (sent_to g q) e.sent ≡ 0)
     → ((q : ℕ) → q < s.nodes → LevelAt s past q)
-    → LiftsAt s past e p out → (q : ℕ) → q < s.nodes → (p ≡ q) ⊎ (p ≢ q) → LevelAt s (e ∷ past) q
-level_made_by s past e p out m made at lt none was lifts q here (inl is) =
-    subst (λ (n : ℕ). LevelAt s (e ∷ past) n) is (level_own s past e p out m made at lt (λ g. none g p) (was p lt) lifts)
-level_made_by s past e p out m made at lt none was lifts q here (inr ne) =
+    → LiftsAt s past e p turns → (q : ℕ) → q < s.nodes → (p ≡ q) ⊎ (p ≢ q) → LevelAt s (e ∷ past) q
+level_made_by s past e p turns m made at lt none was lifts q here (inl is) =
+    subst (λ (n : ℕ). LevelAt s (e ∷ past) n) is (level_own s past e p turns m made at lt (λ g. none g p) (was p lt) lifts)
+level_made_by s past e p turns m made at lt none was lifts q here (inr ne) =
     level_stays s past e q m (omega (arith, at, lt)) (λ is. ne (sym at ∙ is)) (λ g. none g q) (was q here)
 
 -- every node where one goes on
-level_made : (s : ScriptData) (past : List Entry) (e : Entry) (p : ℕ) (out : Out Node) → MayFollow s past e
-    → Made s past e p out
-    → e.actor.0 ≡ p → p < s.nodes → Next s past e → ((q : ℕ) → q < s.nodes → LevelAt s past q) → LiftsAt s past e p out
+level_made : (s : ScriptData) (past : List Entry) (e : Entry) (p : ℕ) (turns : TurnsOf) → MayFollow s past e
+    → (node_in s (e ∷ past) p).turns ≡ turns
+    → e.actor.0 ≡ p → p < s.nodes → Progress s past e → ((q : ℕ) → q < s.nodes → LevelAt s past q) → LiftsAt s past e p turns
     → (q : ℕ) → q < s.nodes → LevelAt s (e ∷ past) q
-level_made s past e p out m made at lt next was lifts q here =
-    level_made_by s past e p out m made at lt (node_orders s past e (omega (arith, at, lt)) next) was lifts q here
+level_made s past e p turns m made at lt next was lifts q here =
+    level_made_by s past e p turns m made at lt (node_orders s past e (omega (arith, at, lt)) next) was lifts q here
     (cases_eq p q)
 
 -- the client
@@ -557,9 +555,9 @@ level_by_client s past e c first m at made quiet was q here =
 
 -- the coordinator
 level_by_coordinator : (s : ScriptData) (past : List Entry) (e : Entry) → IsLawful s → IsStepRun s (e ∷ past)
-    → AllTimely s (e ∷ past)
+    → AllApt s (e ∷ past)
     → e.actor.0 ≡ s.nodes → MadeByCoordinator s past e → Levels s past → (q : ℕ) → q < s.nodes → LevelAt s (e ∷ past) q
-level_by_coordinator s past e laws run timely at made was q here =
+level_by_coordinator s past e laws run apt at made was q here =
     let c = coordinator_in s past in
     let out = coordinator_row c e.took.from.0 e.took.body in
     let sent : (g : Stage) → tally (sent_to g q) e.sent ≡ tally (sent_to g q) out.sent =
@@ -567,10 +565,10 @@ level_by_coordinator s past e laws run timely at made was q here =
     let flow : (g : Stage) → tells s (e ∷ past) g q ≡ tells s past g q + tally (sent_to g q) out.sent =
     λ g. omega (arith, tell_flow g s past e q run.0, tell_other g q e.actor.0 e.took.body (omega (arith, at, here)), sent g) in
     let over : (g : Stage) → within g out.state.phase 1 ≡ 0 → tells s (e ∷ past) g q ≡ 0 =
-    λ g none. tells_none g s (e ∷ past) q laws run timely (ap (λ (d : Coordinator). within g d.phase 1) made.state ∙ none) in
+    λ g none. tells_none g s (e ∷ past) q laws run apt (ap (λ (d : Coordinator). within g d.phase 1) made.state ∙ none) in
     let after : LevelWith out.state (node_in s past q).turns s (e ∷ past) q =
     rises q c e.took.from.0 e.took.body out (omega (arith, here, coordinator_nodes s past)) was.first
-    (outcome_in s past e laws run.1 timely.1)
+    (outcome_in s past e laws run.1 apt.1)
     (node_in s past q).turns.update.0 (node_in s past q).turns.read.0 (node_in s past q).turns.low.0
     (tells s past TurnStage q) (tells s past ShowStage q) (tells s past SweepStage q)
     (tells s (e ∷ past) TurnStage q) (tells s (e ∷ past) ShowStage q) (tells s (e ∷ past) SweepStage q) (was.node q here)
@@ -591,7 +589,7 @@ level_by_coordinator s past e laws run timely at made was q here =
 level_obeyed : (s : ScriptData) (past : List Entry) (e : Entry) (p : ℕ) (out : Out Node) → Levels s past
     → PhaseFor e.took.body (coordinator_in s past).phase
     → LevelBody s (coordinator_in s past).phase (coordinator_in s past).update e.took.body
-    → Order s (node_in s past p) e.took.body out → LiftsAt s past e p out
+    → Order s (node_in s past p) e.took.body out → LiftsAt s past e p out.state.turns
 level_obeyed s past e p out was due right (TurnsTo v bd is) =
     let u = (coordinator_in s past).update in
     let before = (node_in s past p).turns in
@@ -628,63 +626,44 @@ level_obeyed s past e p out was due right (SweepsTo v bd is) =
     subst (λ (b : Body). Lifts (coordinator_in s past).phase u p b before after) (sym bd) lifts in
     subst (λ (o : Out Node). Lifts (coordinator_in s past).phase u p e.took.body before o.state.turns) (sym is) swept
 level_obeyed s past e p out was due right (TellsDone v k bd is) =
-    subst (λ (o : Out Node). LiftsAt s past e p o) (sym is)
+    subst (λ (o : Out Node). LiftsAt s past e p o.state.turns) (sym is)
     (lifts_same (coordinator_in s past).phase (coordinator_in s past).update p e.took.body (node_in s past p).turns
     (λ g. ap (token g) bd ∙ ask_done_apart v k g))
 level_obeyed s past e p out was due right (TellsAsked v k bd is) =
-    subst (λ (o : Out Node). LiftsAt s past e p o) (sym is)
+    subst (λ (o : Out Node). LiftsAt s past e p o.state.turns) (sym is)
     (lifts_same (coordinator_in s past).phase (coordinator_in s past).update p e.took.body (node_in s past p).turns
     (λ g. ap (token g) bd ∙ ask_apart v k g))
 
--- a subtransaction of an update tree is of a version that its node may come to
-pub sub_raises : (s : ScriptData) (phase : Phase) (u t k : ℕ) (st : Node) (v : Version) (raises : Bool) (effect : Effect)
-    → SubWork s t k st v raises effect → (updates s t ≡ true → v.0 ≤ most_update phase u) → raises ≡ true
-    → (st.turns.update.0 < v.0) × (v.0 ≤ most_update phase u)
-sub_raises s phase u t k st v raises effect (SubUpdates up is can made) right more =
-    let test : nat_lt st.turns.update.0 v.0 ≡ true = sym is ∙ more in
-    (grind (arith, nat_tests), right up)
-sub_raises s phase u t k st v raises effect (SubReads up is can made) right more = absurd (cc (is, more))
+-- a letter that raises its node's update version is of a version that the node may come to
+raises_right : (s : ScriptData) (phase : Phase) (u v : ℕ) (body : Body) → IsRaiser s v body → LevelBody s phase u body
+    → v ≤ most_update phase u
+raises_right s phase u v (SubLetter t k w) raiser right = let most = right raiser.1 in omega (arith, most, raiser.0)
+raises_right s phase u v _ raiser right = absurd raiser
 
 -- every node's level after an entry
 pub level_next : (s : ScriptData) (past : List Entry) (e : Entry) → IsLawful s → IsStepRun s (e ∷ past)
-    → AllTimely s (e ∷ past) → Levels s past → Next s past e → (q : ℕ) → q < s.nodes → LevelAt s (e ∷ past) q
-level_next s past e laws run timely was (Begins bd at made) =
+    → AllApt s (e ∷ past) → Levels s past → Progress s past e → (q : ℕ) → q < s.nodes → LevelAt s (e ∷ past) q
+level_next s past e laws run apt was (Begins bd at made) =
     level_by_client s past e (client_in s past) [] run.0 at made (λ g. refl) was.node
-level_next s past e laws run timely was (Hears t v answer bd at lt made) =
+level_next s past e laws run apt was (Hears t v answer bd at lt made) =
     level_by_client s past e (with_answer t.0 (client_in s past)) (nudge s ∷ []) run.0 at made
     (λ g. omega (arith, nudge_apart g)) was.node
-level_next s past e laws run timely was (Ends v bd at made) =
+level_next s past e laws run apt was (Ends v bd at made) =
     level_by_client s past e (with_end (client_in s past)) [] run.0 at made (λ g. refl) was.node
-level_next s past e laws run timely was (Coordinates tells at made) = level_by_coordinator s past e laws run timely at made was
-level_next s past e laws run timely was (DoesRoot t v effect bd sub at lt new work made) =
+level_next s past e laws run apt was (Coordinates tells at made) = level_by_coordinator s past e laws run apt at made was
+level_next s past e laws run apt was (Works p r work) =
     let c = coordinator_in s past in
-    level_made s past e (home_of s t.0) (root_done s (home_of s t.0) t.0 v.0 effect (node_in s past (home_of s t.0)))
-    run.0 made at lt
-    (DoesRoot t v effect bd sub at lt new work made) was.node
-    (lifts_same c.phase c.update (home_of s t.0) e.took.body (node_in s past (home_of s t.0)).turns
-    (λ g.
-    let none = (token_passes g).sent in took_none (token g) s past e (Root t) bd (none.root t) none.wake))
-level_next s past e laws run timely was (DoesSub t k v raises effect bd sub pos from at lt work made) =
+    let b = work.brings in
+    let right : LevelBody s c.phase c.update r.body =
+    each_of_brought (λ (l : Letter). LevelBody s c.phase c.update l.body) s past e p r b run.0 was.letters in
+    level_made s past e p (raised_if work.turns.raises work.turns.version (node_in s past p).turns) run.0 work.turns.turns b.at b.below
+    (Works p r work) was.node
+    (lifts_raised c.phase c.update p work.turns.version e.took.body (node_in s past p).turns work.turns.raises
+    (λ g. none_of_trees (token g) e.took.body (token_passes g).took work.took)
+    (λ is. (work.turns.higher is, raises_right s c.phase c.update work.turns.version r.body (work.turns.by is) right)))
+level_next s past e laws run apt was (Obeys p out more at lt order state sent woken) =
     let c = coordinator_in s past in
-    let p = node_of s t.0 k.0 in
-    let right : updates s t.0 ≡ true → v.0 ≤ most_update c.phase c.update =
-    subst (λ (b : Body). LevelBody s c.phase c.update b) bd.body
-    (each_done (λ (l : Letter). LevelBody s c.phase c.update l.body) s past e run.0 was.letters) in
-    level_made s past e p (sub_done s (done_by s past e).from.0 t.0 k.0 v.0 raises effect (node_in s past p)) run.0 made at lt
-    (DoesSub t k v raises effect bd sub pos from at lt work made) was.node
-    (lifts_raised c.phase c.update p v.0 e.took.body (node_in s past p).turns raises
-    (λ g.
-    let none = (token_passes g).sent in took_none (token g) s past e (SubLetter t k v) bd (none.sub t k v) none.wake)
-    (sub_raises s c.phase c.update t.0 k.0 (node_in s past p) v raises effect work right))
-level_next s past e laws run timely was (Notes t k v values bd sub pos from at lt missed made) =
-    let c = coordinator_in s past in
-    level_made s past e (home_of s t.0) (note_done s e.took.from.0 t.0 k.0 v.0 values (node_in s past (home_of s t.0)))
-    run.0 made at lt
-    (Notes t k v values bd sub pos from at lt missed made) was.node
-    (lifts_same c.phase c.update (home_of s t.0) e.took.body (node_in s past (home_of s t.0)).turns
-    (λ g. ap (token g) bd ∙ (token_passes g).sent.done t k v (DidNotice values)))
-level_next s past e laws run timely was (Obeys p out at lt order made) =
-    let c = coordinator_in s past in
-    level_made s past e p out run.0 made at lt (Obeys p out at lt order made) was.node
-    (level_obeyed s past e p out was (phase_for s past e e.took.body laws run.1 timely.1 run.0 refl)
+    level_made s past e p out.state.turns run.0 (ap (λ (st : Node). st.turns) state) at lt
+    (Obeys p out more at lt order state sent woken) was.node
+    (level_obeyed s past e p out was (phase_for s past e e.took.body laws run.1 apt.1 run.0 refl)
     (each_took (λ (l : Letter). LevelBody s c.phase c.update l.body) s past e run.0 was.letters) order)

@@ -16,10 +16,11 @@ use Rattle.world_model.specs.Node.{Node}
 use Rattle.world_model.specs.declared.phase.Phase.{Phase}
 use Rattle.world_model.specs.declared.phase.Phase.TheVariants.{Idle, Turning, Counting, Paused, Showing, Sweeping}
 use Rattle.world_model.specs.Runs.{MayFollow, IsStepRun, coordinator_in, node_in}
-use Rattle.world_model.specs.Timely.{AllTimely}
-use Rattle.world_model.proofs.Lawful.{IsLawful}
+use Rattle.world_model.specs.AllApt.{AllApt}
+use Rattle.phase_laws.proofs.Lawful.{IsLawful}
 use Rattle.world_model.proofs.EachOutstanding.{each_took, each_first}
 use Rattle.phase_laws.proofs.LevelAt.{LevelBody}
+use Rattle.phase_laws.proofs.Progress.{progress}
 use Rattle.phase_laws.specs.Phases.{TurnStage, ShowStage, SweepStage, IsInPhase, PhasesHaveTheirLetters, VersionsKeepToThePhase}
 use Rattle.phase_laws.proofs.Small.{small}
 use Rattle.phase_laws.proofs.Tokens.{PhaseFor, phase_for, told}
@@ -29,27 +30,27 @@ use Rattle.phase_laws.proofs.LevelSteps.{LevelOf, level_next}
 use Rattle.phase_laws.proofs.LevelLetters.{letters_next}
 
 -- In every run the levels are those of the phase. That the version is at least 1 follows from the bounds.
-first_in : (s : ScriptData) (past : List Entry) → IsLawful s → IsStepRun s past → AllTimely s past
+first_in : (s : ScriptData) (past : List Entry) → IsLawful s → IsStepRun s past → AllApt s past
     → 1 ≤ (coordinator_in s past).update
-first_in s past laws run timely = omega (arith, (small s past laws run timely).ended)
+first_in s past laws run apt = omega (arith, (small s past laws run apt).ended)
 
 levels_first : (s : ScriptData) (p : ℕ) → LevelAt s [] p
 levels_first s p = omega arith
 
-pub levels : (s : ScriptData) (past : List Entry) → IsLawful s → IsStepRun s past → AllTimely s past → Levels s past
-levels s [] laws run timely = record {
+pub levels : (s : ScriptData) (past : List Entry) → IsLawful s → IsStepRun s past → AllApt s past → Levels s past
+levels s [] laws run apt = record {
   first = omega arith;
   node = λ p lt. levels_first s p;
   letters =
       let c = coordinator_in s [] in each_first (λ (l : Letter). LevelBody s c.phase c.update l.body) s (tt, tt);
 }
-levels s (e ∷ past) laws run timely =
-    let was = levels s past laws run.1 timely.1 in
-    let next = laws.next past e run timely in
+levels s (e ∷ past) laws run apt =
+    let was = levels s past laws run.1 apt.1 in
+    let next = progress s past e laws apt run in
     record {
-      first = first_in s (e ∷ past) laws run timely;
-      node = level_next s past e laws run timely was next;
-      letters = letters_next s past e laws run timely.1 was next;
+      first = first_in s (e ∷ past) laws run apt;
+      node = level_next s past e laws run apt was next;
+      letters = letters_next s past e laws run apt.1 was next;
     }
 
 -- What follows: a node's versions keep to the phase, and are near its low version.
@@ -64,16 +65,16 @@ phased Showing u turns t1 t2 t3 one was = omega (arith, was, one)
 phased Sweeping u turns t1 t2 t3 one was = omega (arith, was, one)
 
 -- in every run
-pub versions_in_phase : (s : ScriptData) (past : List Entry) → IsLawful s → IsStepRun s past → AllTimely s past
+pub versions_in_phase : (s : ScriptData) (past : List Entry) → IsLawful s → IsStepRun s past → AllApt s past
     → VersionsKeepToThePhase s past
-versions_in_phase s past laws run timely = λ p lt.
-    let all = levels s past laws run timely in
+versions_in_phase s past laws run apt = λ p lt.
+    let all = levels s past laws run apt in
     phased (coordinator_in s past).phase (coordinator_in s past).update (node_in s past p).turns
     (tells s past TurnStage p) (tells s past ShowStage p) (tells s past SweepStage p) all.first (all.node p lt)
 
-pub letters_in_phase : (s : ScriptData) (past : List Entry) → IsLawful s → IsStepRun s past → AllTimely s past
+pub letters_in_phase : (s : ScriptData) (past : List Entry) → IsLawful s → IsStepRun s past → AllApt s past
     → PhasesHaveTheirLetters s past
-letters_in_phase s past laws run timely = λ g. told g s past laws run timely
+letters_in_phase s past laws run apt = λ g. told g s past laws run apt
 
 -- An order that is taken is timely.
 abbrev pub IsOrder : Body → Type 0
@@ -122,23 +123,23 @@ order_timely_by s phase u st t1 t2 t3 body one was at right is = absurd is
 
 -- each order is timely where it is taken
 pub order_timely : (s : ScriptData) (past : List Entry) (e : Entry) (body : Body) (p : ℕ) → IsLawful s → IsStepRun s past
-    → AllTimely s past
+    → AllApt s past
     → MayFollow s past e → p < s.nodes → e.took.body ≡ body → IsOrder body → is_timely s (node_in s past p) body ≡ true
-order_timely s past e body p laws run timely m lt bd is =
+order_timely s past e body p laws run apt m lt bd is =
     let c = coordinator_in s past in
-    let all = levels s past laws run timely in
+    let all = levels s past laws run apt in
     let right = each_took (λ (l : Letter). LevelBody s c.phase c.update l.body) s past e m all.letters in
     order_timely_by s c.phase c.update (node_in s past p) (tells s past TurnStage p) (tells s past ShowStage p)
     (tells s past SweepStage p) body
-    all.first (all.node p lt) (phase_for s past e body laws run timely m bd)
+    all.first (all.node p lt) (phase_for s past e body laws run apt m bd)
     (subst (λ (b : Body). LevelBody s c.phase c.update b) bd right) is
 
 -- a letter that sweeps doesn't lower the low version
 pub sweeps_rise : (s : ScriptData) (past : List Entry) (e : Entry) (v : Version) (p : ℕ) → IsLawful s → IsStepRun s past
-    → AllTimely s past
+    → AllApt s past
     → MayFollow s past e → p < s.nodes → e.took.body ≡ Sweep v → (node_in s past p).turns.low.0 ≤ v.0
-sweeps_rise s past e v p laws run timely m lt bd =
-    let test = order_timely s past e (Sweep v) p laws run timely m lt bd tt in
+sweeps_rise s past e v p laws run apt m lt bd =
+    let test = order_timely s past e (Sweep v) p laws run apt m lt bd tt in
     let st = node_in s past p in
     let low : nat_le st.turns.low.0 v.0 ≡ true =
     left_true (nat_le st.turns.low.0 v.0) (nat_le v.0 st.turns.read.0 && nat_le v.0 st.turns.update.0) test in

@@ -1,4 +1,8 @@
 pub mod Outcomes
+pub mod Lawful
+pub mod Brought
+pub mod Working
+pub mod Progress
 pub mod Letters
 pub mod Small
 pub mod Tokens
@@ -9,9 +13,8 @@ pub mod Levels
 pub mod Current
 pub mod Counters
 pub mod Moves
-pub mod Balance
 pub mod CoreCounts
-pub mod AptBalance
+pub mod Balance
 pub mod Sending
 pub mod Silence
 pub mod Steps

@@ -1,5 +1,6 @@
 -- What an entry of a run does to the counters.
-use Rattle.std.proofs.Common.{◌≡◌, ◌≢◌, ℕ, ◌+◌, ◌<◌, ◌≤◌, ◌==◌, ◌&&◌, Bool, true, false, List, ◌∷◌, ◌⊎◌, inl, inr, refl, sym, ap, subst, ◌∙◌, arith}
+use Rattle.std.proofs.Common.{if◌then◌else◌, ◌≡◌, ◌≢◌, ℕ, ◌+◌, ◌<◌, ◌≤◌, ◌==◌, ◌&&◌, Bool, true, false, List, ◌∷◌, ◌⊎◌, inl, inr, refl, sym, ap, subst, ◌∙◌, arith}
+use Rattle.std.specs.Prelude.{nat_lt}
 use Rattle.std.proofs.lemmas.Bool.{cases_eq}
 use Rattle.std.proofs.lemmas.Bool.Decides.{nat_tests}
 use Rattle.letter_types.specs.declared.bodies.Body.{Body}
@@ -7,6 +8,7 @@ use Rattle.letter_types.specs.declared.entries.Entry.{Entry}
 use Rattle.letter_types.specs.declared.entries.Letter.{Letter}
 use Rattle.letter_types.specs.declared.entries.Outgoing.{Outgoing}
 use Rattle.letter_types.specs.Steps.{Out}
+use Rattle.pair_counters.specs.Numbers.{from_version}
 use Rattle.world_model.specs.Node.{Node}
 use Rattle.tx_trees.specs.ScriptData.{ScriptData}
 use Rattle.world_model.specs.Counts.{tally, one_if}
@@ -85,11 +87,6 @@ aside s past e v to outside = record {
   few = λ p q lt. omega (arith, sent_elsewhere e.actor.0 v p q e.sent (omega arith));
 }
 
--- where the letter isn't counted
-pub apart : (s : ScriptData) (past : List Entry) (e : Entry) (v : ℕ) → e.took.to.0 ≡ e.actor.0 → s.nodes ≤ e.actor.0
-    → version_is v e.took.body ≡ false → Counts s past e v
-apart s past e v to outside none = aside s past e v to outside
-
 -- The entry of a node.
 
 -- a row at node h, of a letter that it took from `from`: whether it has one more of version v with itself, and what it
@@ -107,6 +104,32 @@ pub record RowCounts (h v from : ℕ) (body : Body) (st : Node) (row : Out Node)
       → row.state.counts.done v p ≤ st.counts.done v p + one_if (own && (h == p)) + one_if
       (version_is v body && (from == p))
   pub few : (q : ℕ) → one_if own + tally (counted v q) row.sent ≤ MOST_COUNTED
+
+-- a row that counts nothing, but for what is swept
+pub quiet_row : (h v from : ℕ) (body : Body) (st : Node) (row : Out Node) → version_is v body ≡ false
+    → ((q : ℕ) → row.state.turns.low.0 ≤ v → row.state.counts.asked v q ≡ st.counts.asked v q)
+    → ((p : ℕ) → row.state.turns.low.0 ≤ v → row.state.counts.done v p ≡ st.counts.done v p)
+    → ((q : ℕ) → row.state.counts.asked v q ≤ st.counts.asked v q)
+    → ((p : ℕ) → row.state.counts.done v p ≤ st.counts.done v p)
+    → ((q : ℕ) → tally (counted v q) row.sent ≡ 0) → RowCounts h v from body st row
+quiet_row h v from body st row none asked done less_asked less_done sent = record {
+  own = false;
+  asked = λ q low. omega (arith, asked q low, sent q);
+  done = λ p low. rw none (omega (arith, done p low));
+  asked_most = λ q. omega (arith, less_asked q, sent q);
+  done_most = λ p. rw none (omega (arith, less_done p));
+  few = λ q. omega (arith, sent q);
+}
+
+pub cut_at : (w v q : ℕ) (f : ℕ → ℕ → ℕ) → w ≤ v → from_version w f v q ≡ f v q
+cut_at w v q f le = let kept : nat_lt v w ≡ false = grind (arith, nat_tests) in rw kept refl
+
+cut_most_by : (b : Bool) (n : ℕ) → (if b then 0 else n) ≤ n
+cut_most_by true n = omega arith
+cut_most_by false n = omega arith
+
+pub cut_most : (w v q : ℕ) (f : ℕ → ℕ → ℕ) → from_version w f v q ≤ f v q
+cut_most w v q f = cut_most_by (nat_lt v w) (f v q)
 
 -- an entry does letter r, which came to its actor
 pub record DoesLetter (s : ScriptData) (past : List Entry) (e : Entry) (r : Letter) : Type 0 where

@@ -22,10 +22,10 @@ use Rattle.world_model.specs.declared.phase.Phase.{Phase}
 use Rattle.world_model.specs.declared.phase.Phase.TheVariants.{Idle, Counting}
 use Rattle.world_model.specs.Counts.{Each, one_if, tally}
 use Rattle.world_model.specs.Runs.{coordinator_in, node_in, in_flight, MayFollow, IsStepRun}
-use Rattle.world_model.specs.Timely.{AllTimely}
+use Rattle.world_model.specs.AllApt.{AllApt}
 use Rattle.world_model.proofs.Bags.{tally-drop}
 use Rattle.world_model.proofs.Every.{coordinator_kept, each_map, each_step, each_taken, each_zero}
-use Rattle.world_model.proofs.Lawful.{IsLawful}
+use Rattle.phase_laws.proofs.Lawful.{IsLawful}
 use Rattle.world_model.proofs.Nexts.{MadeByCoordinator}
 use Rattle.world_model.proofs.Orders.{coordinator_each, coordinator_nodes}
 use Rattle.phase_laws.proofs.Levels.{Level, Levels, levels, tells}
@@ -74,18 +74,18 @@ abbrev LowIn : ScriptData → List Entry → ℕ → Type 0
 LowIn s past v = (p : ℕ) → p < s.nodes → (node_in s past p).turns.low.0 ≤ v
 
 -- while a round is counted, its version is open
-pub open_in : (s : ScriptData) (past : List Entry) (reads : Bool) → IsLawful s → IsStepRun s past → AllTimely s past
+pub open_in : (s : ScriptData) (past : List Entry) (reads : Bool) → IsLawful s → IsStepRun s past → AllApt s past
     → (coordinator_in s past).phase ≡ Counting reads → Open s past (coordinator_in s past).current.version.0
-open_in s past reads laws run timely at =
-    subst (Open s past) (sym (ap (λ (v : Version). v.0) (current s past laws run timely reads at).version))
-    (open_by s past reads (levels s past laws run timely) at)
+open_in s past reads laws run apt at =
+    subst (Open s past) (sym (ap (λ (v : Version). v.0) (current s past laws run apt reads at).version))
+    (open_by s past reads (levels s past laws run apt) at)
 
 -- so no node has left it, where this is the coordinator
 low_in : (s : ScriptData) (past : List Entry) (c : Coordinator) (reads : Bool) → IsLawful s → IsStepRun s past
-    → AllTimely s past → coordinator_in s past ≡ c → c.phase ≡ Counting reads → LowIn s past c.current.version.0
-low_in s past c reads laws run timely is at =
+    → AllApt s past → coordinator_in s past ≡ c → c.phase ≡ Counting reads → LowIn s past c.current.version.0
+low_in s past c reads laws run apt is at =
     subst (λ (d : Coordinator). LowIn s past d.current.version.0) is
-    (open_in s past reads laws run timely (ap (λ (d : Coordinator). d.phase) is ∙ at)).low
+    (open_in s past reads laws run apt (ap (λ (d : Coordinator). d.phase) is ∙ at)).low
 
 -- a row of requests of this round from p is at least b at q
 abbrev pub AtLeast : ℕ → ℕ → ℕ → ℕ → ℕ → ℕ → Body → Type 0
@@ -156,49 +156,49 @@ sent_at_least s past e number v p q b lt now (SendsOrders tells at made) = order
 
 -- a pair that differs does so after any entry, with these rows of requests
 differs_goes : (s : ScriptData) (past : List Entry) (e : Entry) (r : RoundData) (ks : NodeRows) → IsLawful s
-    → IsStepRun s (e ∷ past) → AllTimely s (e ∷ past)
+    → IsStepRun s (e ∷ past) → AllApt s (e ∷ past)
     → LowIn s (e ∷ past) r.version.0 → (x : Differs s past r)
     → ((row : List ℕ) → slice_get ks x.p ≡ Some (Some row) → x.b ≤ slice_index row x.q)
     → Differs s (e ∷ past) (record r { askeds = ks })
-differs_goes s past e r ks laws run timely low x kept = record {
+differs_goes s past e r ks laws run apt low x kept = record {
   p = x.p;
   q = x.q;
   b = x.b;
   p_lt = x.p_lt;
   q_lt = x.q_lt;
   less = x.less;
-  now = omega (arith, x.now, asked_grows s past e x.p r.version.0 x.q laws run timely x.p_lt (low x.p x.p_lt));
+  now = omega (arith, x.now, asked_grows s past e x.p r.version.0 x.q laws run apt x.p_lt (low x.p x.p_lt));
   letters = each_step (λ (l : Letter). AtLeast r.number r.version.0 x.p x.q x.b l.from.0 l.body) s past e x.letters
-      (sent_at_least s past e r.number r.version.0 x.p x.q x.b x.q_lt x.now (sending s past e laws run timely));
+      (sent_at_least s past e r.number r.version.0 x.p x.q x.b x.q_lt x.now (sending s past e laws run apt));
   kept = kept;
 }
 
 found_goes : (s : ScriptData) (past : List Entry) (e : Entry) (r : RoundData) (ks : NodeRows) → IsLawful s
-    → IsStepRun s (e ∷ past) → AllTimely s (e ∷ past)
+    → IsStepRun s (e ∷ past) → AllApt s (e ∷ past)
     → Closed s past r.version.0 → LowIn s (e ∷ past) r.version.0
     → ((x : Differs s past r) (row : List ℕ) → slice_get ks x.p ≡ Some (Some row) → x.b ≤ slice_index row x.q)
     → IsSilent s past r.version.0 ⊎ Differs s past r
     → IsSilent s (e ∷ past) r.version.0 ⊎ Differs s (e ∷ past) (record r { askeds = ks })
-found_goes s past e r ks laws run timely closed low kept (inl silent) =
-    inl (silent_stays s past e r.version.0 laws run timely silent closed)
-found_goes s past e r ks laws run timely closed low kept (inr x) =
-    inr (differs_goes s past e r ks laws run timely low x (kept x))
+found_goes s past e r ks laws run apt closed low kept (inl silent) =
+    inl (silent_stays s past e r.version.0 laws run apt silent closed)
+found_goes s past e r ks laws run apt closed low kept (inr x) =
+    inr (differs_goes s past e r ks laws run apt low x (kept x))
 
 -- a round goes on, with these rows of requests
 round_goes : (s : ScriptData) (past : List Entry) (e : Entry) (r : RoundData) (ks : NodeRows) → IsLawful s
-    → IsStepRun s (e ∷ past) → AllTimely s (e ∷ past)
+    → IsStepRun s (e ∷ past) → AllApt s (e ∷ past)
     → Closed s past r.version.0 → LowIn s (e ∷ past) r.version.0
     → ((q : ℕ) → going (first_wave r.number q) s (e ∷ past) ≤ going (first_wave r.number q) s past)
     → going (second_wave r.number) s (e ∷ past) ≤ going (second_wave r.number) s past
     → (all_in r.dones ≡ false → NoRow r.askeds → NoRow ks)
     → ((x : Differs s past r) (row : List ℕ) → slice_get ks x.p ≡ Some (Some row) → x.b ≤ slice_index row x.q)
     → Round s past r → Round s (e ∷ past) (record r { askeds = ks })
-round_goes s past e r ks laws run timely closed low first second none kept was = record {
+round_goes s past e r ks laws run apt closed low first second none kept was = record {
   once = λ q lt. omega (arith, was.once q lt, first q);
   kept = λ q row lq at p lp.
-      omega (arith, was.kept q row lq at p lp, done_grows s past e q r.version.0 p laws run timely lq (low q lq));
+      omega (arith, was.kept q row lq at p lp, done_grows s past e q r.version.0 p laws run apt lq (low q lq));
   clean = λ missing. let before = was.clean missing in (omega (arith, before.0, second), none missing before.1);
-  found = λ full. found_goes s past e r ks laws run timely closed low kept (was.found full);
+  found = λ full. found_goes s past e r ks laws run apt closed low kept (was.found full);
 }
 
 -- What is kept of a row, and what a row that is of this round says.
@@ -254,7 +254,7 @@ clean_letter number v p q b from to (AskedRow w k row) none = λ ks ws is. absur
 clean_letter number v p q b from to _ none = tt
 
 -- once all completions are in: the version is silent, or a pair has a letter in flight, and differs
-at_last : (s : ScriptData) (past : List Entry) (r : RoundData) → IsLawful s → IsStepRun s past → AllTimely s past
+at_last : (s : ScriptData) (past : List Entry) (r : RoundData) → IsLawful s → IsStepRun s past → AllApt s past
     → LowIn s past r.version.0
     → ((q : ℕ) (row : List ℕ) → q < s.nodes → slice_get r.dones q ≡ Some (Some row) → (p : ℕ) → p < s.nodes
     → slice_index row p ≤ (node_in s past q).counts.done r.version.0 p)
@@ -263,11 +263,11 @@ at_last : (s : ScriptData) (past : List Entry) (r : RoundData) → IsLawful s �
     → IsSilent s past r.version.0 ⊎
     ((p : ℕ) × (q : ℕ) × (p < s.nodes) × (q < s.nodes) × (1 ≤ out s past r.version.0 p q))
     → IsSilent s past r.version.0 ⊎ Differs s past r
-at_last s past r laws run timely low rows letters clear (inl silent) = inl silent
-at_last s past r laws run timely low rows letters clear (inr (p, q, lp, lq, some)) =
+at_last s past r laws run apt low rows letters clear (inl silent) = inl silent
+at_last s past r laws run apt low rows letters clear (inr (p, q, lp, lq, some)) =
     let v = r.version.0 in
     let b = (node_in s past p).counts.asked v q in
-    let bal = balanced_at s past v p q laws run timely lp lq (low p lp) (low q lq) in
+    let bal = balanced_at s past v p q laws run apt lp lq (low p lp) (low q lq) in
     inr (record {
       p = p;
       q = q;
@@ -284,20 +284,20 @@ at_last s past r laws run timely low rows letters clear (inr (p, q, lp, lq, some
 -- the rows of completions that are kept then
 row_kept_by : (s : ScriptData) (past : List Entry) (e : Entry) (r : RoundData) (v : Version) (k : ℕ) (row : List ℕ)
     (q : ℕ) (row' : List ℕ)
-    → IsLawful s → IsStepRun s (e ∷ past) → AllTimely s (e ∷ past) → LowIn s (e ∷ past) r.version.0 → Round s past r
+    → IsLawful s → IsStepRun s (e ∷ past) → AllApt s (e ∷ past) → LowIn s (e ∷ past) r.version.0 → Round s past r
     → e.took.body ≡ DoneRow v k row
     → v.0 ≡ r.version.0 → q < s.nodes
     → ((e.took.from.0 ≡ q) × (Some row ≡ Some row')) ⊎ (slice_get r.dones q ≡ Some (Some row')) → (p : ℕ) → p < s.nodes
     → slice_index row' p ≤ (node_in s (e ∷ past) q).counts.done r.version.0 p
-row_kept_by s past e r v k row q row' laws run timely low was bd vs lq (inr old) p lp =
-    omega (arith, was.kept q row' lq old p lp, done_grows s past e q r.version.0 p laws run timely lq (low q lq))
-row_kept_by s past e r v k row q row' laws run timely low was bd vs lq (inl new) p lp =
+row_kept_by s past e r v k row q row' laws run apt low was bd vs lq (inr old) p lp =
+    omega (arith, was.kept q row' lq old p lp, done_grows s past e q r.version.0 p laws run apt lq (low q lq))
+row_kept_by s past e r v k row q row' laws run apt low was bd vs lq (inl new) p lp =
     let taken = each_taken (λ (l : Letter). RowBody s past l.from.0 l.body) s past e run.0
-    (rows_true s past laws run.1 timely.1) in
+    (rows_true s past laws run.1 apt.1) in
     let here : RowBody s (e ∷ past) q (DoneRow v k row) =
     subst (λ (n : ℕ). RowBody s (e ∷ past) n (DoneRow v k row)) new.0
     (subst (λ (b : Body). RowBody s (e ∷ past) e.took.from.0 b) bd
-    (row_later s past e e.took.from.0 e.took.body laws run timely taken)) in
+    (row_later s past e e.took.from.0 e.took.body laws run apt taken)) in
     let fine : slice_index row p ≤ (node_in s (e ∷ past) q).counts.done v.0 p =
     here lq p lp (omega (arith, low q lq, vs)) in
     let there : slice_index row p ≤ (node_in s (e ∷ past) q).counts.done r.version.0 p =
@@ -340,19 +340,19 @@ done_found s past e r v k row false m was places bd ks lt rest missing = rest mi
 -- the round takes a row of completions
 round_takes : (s : ScriptData) (past : List Entry) (e : Entry) (r : RoundData) (n : ℕ) (v : Version) (k : ℕ)
     (row : List ℕ)
-    → IsLawful s → IsStepRun s (e ∷ past) → AllTimely s (e ∷ past) → LowIn s (e ∷ past) r.version.0 → Round s past r
+    → IsLawful s → IsStepRun s (e ∷ past) → AllApt s (e ∷ past) → LowIn s (e ∷ past) r.version.0 → Round s past r
     → length r.dones ≡ s.nodes → e.took.body ≡ DoneRow v k row → v.0 ≡ r.version.0 → k ≡ r.number
     → e.took.from.0 < s.nodes → MadeByCoordinator s past e
     → e.sent ≡ (if all_in (slice_set r.dones e.took.from.0 (Some row)) && not (all_in r.dones) then to_nodes n
     (AskAsked r.version r.number) else [])
     → Round s (e ∷ past) (with_done e.took.from.0 row r)
-round_takes s past e r n v k row laws run timely low was places bd vs ks lt made sent =
+round_takes s past e r n v k row laws run apt low was places bd vs ks lt made sent =
     let m = run.0 in
     let from = e.took.from.0 in
     let full = all_in (slice_set r.dones from (Some row)) in
     let rows = λ (q : ℕ) (row' : List ℕ) (lq : q < s.nodes)
     (at : slice_get (slice_set r.dones from (Some row)) q ≡ Some (Some row')) (p : ℕ) (lp : p < s.nodes).
-    row_kept_by s past e r v k row q row' laws run timely low was bd vs lq
+    row_kept_by s past e r v k row q row' laws run apt low was bd vs lq
     (set_get r.dones from q (Some row) (Some row') at) p lp in
     let letters = λ (clear : going (second_wave r.number) s past ≡ 0) (p q b : ℕ).
     each_step (λ (l : Letter). AtLeast r.number r.version.0 p q b l.from.0 l.body) s past e
@@ -377,7 +377,7 @@ round_takes s past e r n v k row laws run timely low was places bd vs ks lt made
           (omega (arith, flow_of (second_wave r.number) s past e m, before.0, none), before.1);
       found = λ now. done_found s past e r v k row (all_in r.dones) m was places bd ks lt
           (λ missing. let before = was.clean missing in
-          at_last s (e ∷ past) (with_done from row r) laws run timely low rows (letters before.0) before.1
+          at_last s (e ∷ past) (with_done from row r) laws run apt low rows (letters before.0) before.1
           (silent_or_not s (e ∷ past) r.version.0))
           refl;
     }
@@ -452,61 +452,61 @@ abbrev pub Rounds : ScriptData → List Entry → Coordinator → Type 0
 Rounds s past c = (reads : Bool) → c.phase ≡ Counting reads → Round s past c.current
 
 rounds_away : (s : ScriptData) (past : List Entry) (e : Entry) → IsLawful s → IsStepRun s (e ∷ past)
-    → AllTimely s (e ∷ past) → e.actor.0 ≢ s.nodes → Rounds s past (coordinator_in s past)
+    → AllApt s (e ∷ past) → e.actor.0 ≢ s.nodes → Rounds s past (coordinator_in s past)
     → Rounds s (e ∷ past) (coordinator_in s (e ∷ past))
-rounds_away s past e laws run timely away was =
+rounds_away s past e laws run apt away was =
     let c = coordinator_in s past in
     let r = c.current in
     let same = coordinator_kept s past e away in
-    let sends = sending s past e laws run timely in
+    let sends = sending s past e laws run apt in
     let first = λ (q : ℕ). wave_kept (first_wave r.number q) (is_first r.number q) s past e run.0 away sends in
     let second = wave_kept (second_wave r.number) (is_second r.number) s past e run.0 away sends in
     subst (Rounds s (e ∷ past)) (sym same) (λ reads at.
-    round_goes s past e r r.askeds laws run timely
-    (open_in s past reads laws run.1 timely.1 at).closed (low_in s (e ∷ past) c reads laws run timely same at)
+    round_goes s past e r r.askeds laws run apt
+    (open_in s past reads laws run.1 apt.1 at).closed (low_in s (e ∷ past) c reads laws run apt same at)
     (λ q. omega (arith, first q)) (omega (arith, second))
     (λ missing none. none) (λ x row at'. x.kept row at') (was reads at))
 
 -- what the coordinator's step makes of its round
 rounds_by : (s : ScriptData) (past : List Entry) (e : Entry) (o : Out Coordinator) → IsLawful s → IsStepRun s (e ∷ past)
-    → AllTimely s (e ∷ past) → MadeByCoordinator s past e → coordinator_in s (e ∷ past) ≡ o.state → e.sent ≡ o.sent
+    → AllApt s (e ∷ past) → MadeByCoordinator s past e → coordinator_in s (e ∷ past) ≡ o.state → e.sent ≡ o.sent
     → Rounds s past (coordinator_in s past) → RoundStep (coordinator_in s past) e.took.from.0 e.took.body o
     → Rounds s (e ∷ past) o.state
-rounds_by s past e o laws run timely made now sent was (Leaves phase round number plain) = λ reads at.
+rounds_by s past e o laws run apt made now sent was (Leaves phase round number plain) = λ reads at.
     absurd (counts_not o.state.phase reads phase at)
-rounds_by s past e o laws run timely made now sent was (Keeps same round counting plain) = λ reads at.
+rounds_by s past e o laws run apt made now sent was (Keeps same round counting plain) = λ reads at.
     let r = (coordinator_in s past).current in
     let before = counting reads at in
     let low : LowIn s (e ∷ past) r.version.0 =
     subst (λ (x : RoundData). LowIn s (e ∷ past) x.version.0) same
-    (low_in s (e ∷ past) o.state reads laws run timely now at) in
+    (low_in s (e ∷ past) o.state reads laws run apt now at) in
     let none = λ (f : _) (wave : _). ap (λ (os : List Outgoing). tally (leaving f e.actor.0) os) sent
     ∙ plain_none f wave e.actor.0 o.sent plain in
     let first = λ (q : ℕ). none (first_wave r.number q) (is_first r.number q) in
     let second = none (second_wave r.number) (is_second r.number) in
-    subst (Round s (e ∷ past)) (sym same) (round_goes s past e r r.askeds laws run timely
-    (open_in s past reads laws run.1 timely.1 before).closed low
+    subst (Round s (e ∷ past)) (sym same) (round_goes s past e r r.askeds laws run apt
+    (open_in s past reads laws run.1 apt.1 before).closed low
     (λ q. omega (arith, first q, flow_of (first_wave r.number q) s past e run.0))
     (omega (arith, second, flow_of (second_wave r.number) s past e run.0))
     (λ missing clear. clear) (λ x row at'. x.kept row at') (was reads before))
-rounds_by s past e o laws run timely made now sent was (Begins reads d nodes is) =
+rounds_by s past e o laws run apt made now sent was (Begins reads d nodes is) =
     let c = coordinator_in s past in
     subst (λ (x : Out Coordinator). Rounds s (e ∷ past) x.state) (sym is) (λ other at.
     round_begins s past e (counted_version reads d) (c.round + 1) c.round d.nodes run.0 (nodes ∙ coordinator_nodes s past)
-    (omega arith) (fresh s past laws run.1 timely.1) refl (sent ∙ ap (λ (x : Out Coordinator). x.sent) is))
-rounds_by s past e o laws run timely made now sent was (TakesDone reads v k row at bd of is) =
+    (omega arith) (fresh s past laws run.1 apt.1) refl (sent ∙ ap (λ (x : Out Coordinator). x.sent) is))
+rounds_by s past e o laws run apt made now sent was (TakesDone reads v k row at bd of is) =
     let c = coordinator_in s past in
     let r = c.current in
     let d = (keep_done e.took.from.0 row c).state in
     subst (λ (x : Out Coordinator). Rounds s (e ∷ past) x.state) (sym is) (λ other at'.
-    let here = current s past laws run.1 timely.1 other at' in
+    let here = current s past laws run.1 apt.1 other at' in
     let parts = is_of_parts e.took.from.0 v k row r of in
-    round_takes s past e r c.nodes v k row laws run timely
-    (low_in s (e ∷ past) d other laws run timely (now ∙ ap (λ (x : Out Coordinator). x.state) is) at') (was other at')
+    round_takes s past e r c.nodes v k row laws run apt
+    (low_in s (e ∷ past) d other laws run apt (now ∙ ap (λ (x : Out Coordinator). x.state) is) at') (was other at')
     (here.dones ∙ coordinator_nodes s past) bd parts.0 parts.1
     (omega (arith, parts.2, here.nodes, coordinator_nodes s past)) made
     (sent ∙ ap (λ (x : Out Coordinator). x.sent) is))
-rounds_by s past e o laws run timely made now sent was (TakesRequests reads v k row takes is) =
+rounds_by s past e o laws run apt made now sent was (TakesRequests reads v k row takes is) =
     let c = coordinator_in s past in
     let r = c.current in
     let d = asked_kept e.took.from.0 row c in
@@ -516,33 +516,33 @@ rounds_by s past e o laws run timely made now sent was (TakesRequests reads v k 
     let second = none (second_wave r.number) in
     subst (λ (x : Out Coordinator). Rounds s (e ∷ past) x.state) (sym is) (λ other at'.
     let parts = is_of_parts e.took.from.0 v k row r takes.here in
-    round_goes s past e r (slice_set r.askeds e.took.from.0 (Some row)) laws run timely
-    (open_in s past other laws run.1 timely.1 at').closed
-    (low_in s (e ∷ past) d other laws run timely (now ∙ ap (λ (x : Out Coordinator). x.state) is) at')
+    round_goes s past e r (slice_set r.askeds e.took.from.0 (Some row)) laws run apt
+    (open_in s past other laws run.1 apt.1 at').closed
+    (low_in s (e ∷ past) d other laws run apt (now ∙ ap (λ (x : Out Coordinator). x.state) is) at')
     (λ q. omega (arith, first q, flow_of (first_wave r.number q) s past e run.0))
     (omega (arith, second, flow_of (second_wave r.number) s past e run.0))
     (λ missing clear. absurd (cc (missing, takes.after_dones)))
     (λ x row' at''. asked_at_least s past e r v k row row' x run.0 takes.body_is parts.0 parts.1 at'') (was other at'))
 
 rounds_next : (s : ScriptData) (past : List Entry) (e : Entry) → IsLawful s → IsStepRun s (e ∷ past)
-    → AllTimely s (e ∷ past)
+    → AllApt s (e ∷ past)
     → Rounds s past (coordinator_in s past) → Sending s past e → Rounds s (e ∷ past) (coordinator_in s (e ∷ past))
-rounds_next s past e laws run timely was (SendsApart away plain all) = rounds_away s past e laws run timely away was
-rounds_next s past e laws run timely was (SendsDone v k lt bd sent same) =
-    rounds_away s past e laws run timely (λ eq. omega (arith, eq, lt)) was
-rounds_next s past e laws run timely was (SendsAsked v k lt bd sent same) =
-    rounds_away s past e laws run timely (λ eq. omega (arith, eq, lt)) was
-rounds_next s past e laws run timely was (SendsOrders tells at made) =
+rounds_next s past e laws run apt was (SendsApart away plain all) = rounds_away s past e laws run apt away was
+rounds_next s past e laws run apt was (SendsDone v k lt bd sent same) =
+    rounds_away s past e laws run apt (λ eq. omega (arith, eq, lt)) was
+rounds_next s past e laws run apt was (SendsAsked v k lt bd sent same) =
+    rounds_away s past e laws run apt (λ eq. omega (arith, eq, lt)) was
+rounds_next s past e laws run apt was (SendsOrders tells at made) =
     subst (Rounds s (e ∷ past)) (sym made.state)
     (rounds_by s past e (coordinator_row (coordinator_in s past) e.took.from.0 e.took.body)
-    laws run timely made made.state made.sent was
-    (step_in s past e laws run.1 timely.1))
+    laws run apt made made.state made.sent was
+    (step_in s past e laws run.1 apt.1))
 
-pub rounds : (s : ScriptData) (past : List Entry) → IsLawful s → IsStepRun s past → AllTimely s past
+pub rounds : (s : ScriptData) (past : List Entry) → IsLawful s → IsStepRun s past → AllApt s past
     → Rounds s past (coordinator_in s past)
-rounds s [] laws run timely = λ reads at. absurd (counts_not Idle reads tt at)
-rounds s (e ∷ past) laws run timely =
-    rounds_next s past e laws run timely (rounds s past laws run.1 timely.1) (sending s past e laws run timely)
+rounds s [] laws run apt = λ reads at. absurd (counts_not Idle reads tt at)
+rounds s (e ∷ past) laws run apt =
+    rounds_next s past e laws run apt (rounds s past laws run.1 apt.1) (sending s past e laws run apt)
 
 -- The verdict that all pairs agree.
 agreed_by : (r : RoundData) (a b : Bool) → all_in r.dones ≡ a → all_in r.askeds ≡ b → verdict_of r ≡ Some true
@@ -592,14 +592,14 @@ silent_by s past e r v k row m bd vs ks nodes places verdict (inr x) =
 
 -- where the verdict is given that all pairs agree, the version is silent
 pub agrees_silent : (s : ScriptData) (past : List Entry) (e : Entry) (reads : Bool) (v : Version) (k : ℕ) (row : List ℕ)
-    → IsLawful s → IsStepRun s (e ∷ past) → AllTimely s past
+    → IsLawful s → IsStepRun s (e ∷ past) → AllApt s past
     → TakesAsked (coordinator_in s past) e.took.from.0 e.took.body reads v k row
     → verdict_of (with_asked e.took.from.0 row (coordinator_in s past).current) ≡ Some true
     → IsSilent s past (counted_version reads (coordinator_in s past)).0
-agrees_silent s past e reads v k row laws run timely takes verdict =
+agrees_silent s past e reads v k row laws run apt takes verdict =
     let c = coordinator_in s past in
-    let round = rounds s past laws run.1 timely reads takes.phase in
-    let here = current s past laws run.1 timely reads takes.phase in
+    let round = rounds s past laws run.1 apt reads takes.phase in
+    let here = current s past laws run.1 apt reads takes.phase in
     let parts = is_of_parts e.took.from.0 v k row c.current takes.here in
     subst (IsSilent s past) (ap (λ (w : Version). w.0) here.version)
     (silent_by s past e c.current v k row run.0 takes.body_is parts.0 parts.1 (here.nodes ∙ coordinator_nodes s past)

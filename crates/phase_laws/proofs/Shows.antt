@@ -13,9 +13,9 @@ use Rattle.world_model.specs.declared.phase.Phase.{Phase}
 use Rattle.world_model.specs.declared.phase.Phase.TheVariants.{Counting}
 use Rattle.world_model.specs.Counts.{Each}
 use Rattle.world_model.specs.Runs.{coordinator_in, node_in, IsStepRun}
-use Rattle.world_model.specs.Timely.{AllTimely}
+use Rattle.world_model.specs.AllApt.{AllApt}
 use Rattle.world_model.proofs.Every.{each_map}
-use Rattle.world_model.proofs.Lawful.{IsLawful}
+use Rattle.phase_laws.proofs.Lawful.{IsLawful}
 use Rattle.world_model.proofs.Orders.{to_nodes_each}
 use Rattle.phase_laws.proofs.Levels.{Level, Levels, levels, tells}
 use Rattle.phase_laws.proofs.Outcomes.{Outcome, Rests, Queues, Flags, Turns, Acks, LastTurned, LastShown, Finishes, GoesOn, Resumes, KeepsDone, KeepsAsked, Agrees, Recounts, Pauses, asked_kept}
@@ -67,55 +67,55 @@ end_given s past true d all up at silent =
     })
 
 given_by : (s : ScriptData) (past : List Entry) (e : Entry) (out : Out Coordinator) → IsLawful s → IsStepRun s (e ∷ past)
-    → AllTimely s past
+    → AllApt s past
     → Outcome (coordinator_in s past) e.took.from.0 e.took.body out → Given s past out.sent
-given_by s past e out laws run timely (Rests phase at ignored is) =
+given_by s past e out laws run apt (Rests phase at ignored is) =
     subst (λ (o : Out Coordinator). Given s past o.sent) (sym is) tt
-given_by s past e out laws run timely (Queues phase at goes bd is) =
+given_by s past e out laws run apt (Queues phase at goes bd is) =
     subst (λ (o : Out Coordinator). Given s past o.sent) (sym is) tt
-given_by s past e out laws run timely (Flags reads at bd is) =
+given_by s past e out laws run apt (Flags reads at bd is) =
     subst (λ (o : Out Coordinator). Given s past o.sent) (sym is) tt
-given_by s past e out laws run timely (Acks phase at answer more is) =
+given_by s past e out laws run apt (Acks phase at answer more is) =
     subst (λ (o : Out Coordinator). Given s past o.sent) (sym is) tt
-given_by s past e out laws run timely (Turns at bd is) =
+given_by s past e out laws run apt (Turns at bd is) =
     let c = coordinator_in s past in
     subst (λ (o : Out Coordinator). Given s past o.sent) (sym is)
     (given_nodes s past c.nodes (Turn (version (c.update + 1))) tt)
-given_by s past e out laws run timely (LastTurned v at bd last is) =
+given_by s past e out laws run apt (LastTurned v at bd last is) =
     let c = coordinator_in s past in
     subst (λ (o : Out Coordinator). Given s past o.sent) (sym is)
     (given_nodes s past c.nodes (AskDone (counted_version false c) (c.round + 1)) tt)
-given_by s past e out laws run timely (LastShown v at bd last is) =
+given_by s past e out laws run apt (LastShown v at bd last is) =
     let c = coordinator_in s past in
     subst (λ (o : Out Coordinator). Given s past o.sent) (sym is)
     (given_nodes s past c.nodes (AskDone (counted_version true c) (c.round + 1)) tt)
-given_by s past e out laws run timely (Finishes v at bd last none is) =
+given_by s past e out laws run apt (Finishes v at bd last none is) =
     subst (λ (o : Out Coordinator). Given s past o.sent) (sym is) (tt, tt)
-given_by s past e out laws run timely (GoesOn v at bd last some is) =
+given_by s past e out laws run apt (GoesOn v at bd last some is) =
     let c = coordinator_in s past in
     subst (λ (o : Out Coordinator). Given s past o.sent) (sym is)
     (tt, given_nodes s past c.nodes (Turn (version (c.update + 2))) tt)
-given_by s past e out laws run timely (Resumes reads at bd is) =
+given_by s past e out laws run apt (Resumes reads at bd is) =
     let c = coordinator_in s past in
     subst (λ (o : Out Coordinator). Given s past o.sent) (sym is)
     (given_nodes s past c.nodes (AskDone (counted_version reads c) (c.round + 1)) tt)
-given_by s past e out laws run timely (KeepsDone reads v k row at bd here is) =
+given_by s past e out laws run apt (KeepsDone reads v k row at bd here is) =
     let c = coordinator_in s past in
     subst (λ (o : Out Coordinator). Given s past o.sent) (sym is)
     (given_if s past c.nodes c.current.version c.current.number
     (all_in (with_done e.took.from.0 row c.current).dones && not (all_in c.current.dones)))
-given_by s past e out laws run timely (KeepsAsked reads v k row takes verdict is) =
+given_by s past e out laws run apt (KeepsAsked reads v k row takes verdict is) =
     subst (λ (o : Out Coordinator). Given s past o.sent) (sym is) tt
-given_by s past e out laws run timely (Agrees reads v k row takes verdict is) =
+given_by s past e out laws run apt (Agrees reads v k row takes verdict is) =
     subst (λ (o : Out Coordinator). Given s past o.sent) (sym is)
-    (end_given s past reads (asked_kept e.took.from.0 row (coordinator_in s past)) (levels s past laws run.1 timely)
+    (end_given s past reads (asked_kept e.took.from.0 row (coordinator_in s past)) (levels s past laws run.1 apt)
     refl takes.phase
-    (agrees_silent s past e reads v k row laws run timely takes verdict))
-given_by s past e out laws run timely (Recounts reads v k row takes verdict flag is) =
+    (agrees_silent s past e reads v k row laws run apt takes verdict))
+given_by s past e out laws run apt (Recounts reads v k row takes verdict flag is) =
     let c = coordinator_in s past in
     subst (λ (o : Out Coordinator). Given s past o.sent) (sym is)
     (given_nodes s past c.nodes (AskDone (counted_version reads c) (c.round + 1)) tt)
-given_by s past e out laws run timely (Pauses reads v k row takes verdict flag is) =
+given_by s past e out laws run apt (Pauses reads v k row takes verdict flag is) =
     subst (λ (o : Out Coordinator). Given s past o.sent) (sym is) tt
 
 apart_given : (s : ScriptData) (past : List Entry) (body : Body) → IsApart body → IsGivenInQuiet s past body
@@ -123,21 +123,21 @@ apart_given s past (Show v) apart = absurd apart
 apart_given s past (Sweep v) apart = absurd apart
 apart_given s past _ apart = tt
 
-given_next : (s : ScriptData) (past : List Entry) (e : Entry) → IsLawful s → IsStepRun s (e ∷ past) → AllTimely s past
+given_next : (s : ScriptData) (past : List Entry) (e : Entry) → IsLawful s → IsStepRun s (e ∷ past) → AllApt s past
     → Sending s past e
     → Given s past e.sent
-given_next s past e laws run timely (SendsApart away plain all) =
+given_next s past e laws run apt (SendsApart away plain all) =
     each_map (λ (o : Outgoing). IsApart o.body) (λ (o : Outgoing). IsGivenInQuiet s past o.body) e.sent
     (λ o apart. apart_given s past o.body apart) all
-given_next s past e laws run timely (SendsDone v k lt bd sent same) = subst (Given s past) (sym sent) (tt, tt)
-given_next s past e laws run timely (SendsAsked v k lt bd sent same) = subst (Given s past) (sym sent) (tt, tt)
-given_next s past e laws run timely (SendsOrders tells at made) =
+given_next s past e laws run apt (SendsDone v k lt bd sent same) = subst (Given s past) (sym sent) (tt, tt)
+given_next s past e laws run apt (SendsAsked v k lt bd sent same) = subst (Given s past) (sym sent) (tt, tt)
+given_next s past e laws run apt (SendsOrders tells at made) =
     subst (Given s past) (sym made.sent)
-    (given_by s past e (coordinator_row (coordinator_in s past) e.took.from.0 e.took.body) laws run timely
-    (outcome_in s past e laws run.1 timely))
+    (given_by s past e (coordinator_row (coordinator_in s past) e.took.from.0 e.took.body) laws run apt
+    (outcome_in s past e laws run.1 apt))
 
 -- in every run
 pub given_in_quiet : (s : ScriptData) (past : List Entry) (e : Entry) → IsLawful s → IsStepRun s (e ∷ past)
-    → AllTimely s (e ∷ past)
+    → AllApt s (e ∷ past)
     → Each (λ (o : Outgoing). IsGivenInQuiet s past o.body) e.sent
-given_in_quiet s past e laws run timely = given_next s past e laws run timely.1 (sending s past e laws run timely)
+given_in_quiet s past e laws run apt = given_next s past e laws run apt.1 (sending s past e laws run apt)

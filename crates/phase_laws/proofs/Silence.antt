@@ -1,37 +1,34 @@
--- A version of which no counted letter is in flight, and in which no root is born, stays so.
-use Rattle.std.proofs.Common.{◌≡◌, ◌≢◌, ◌⊎◌, inl, inr, ℕ, zero, suc, ◌<◌, ◌≤◌, ◌==◌, Bool, true, false, List, [], ◌∷◌, ◌++◌, length, refl, sym, ap, subst, ◌∙◌, arith, take, drop, Option, Some, None}
+-- A version of which no counted letter is outstanding, and in which no root is born, stays so.
+use Rattle.std.proofs.Common.{if◌then◌else◌, ◌≡◌, ◌≢◌, ◌⊎◌, inl, inr, ℕ, zero, suc, ◌<◌, ◌≤◌, ◌==◌, Bool, true, false, List, [], ◌∷◌, ◌++◌, refl, sym, ap, subst, ◌∙◌, arith, take, drop}
 use Rattle.std.proofs.lemmas.Bool.Decides.{nat_tests}
 use Rattle.letter_types.specs.declared.bodies.Body.{Body}
+use Rattle.letter_types.specs.declared.bodies.Body.TheVariants.{Root, Sub as SubLetter, Done, Reply, Decide, Decided, Release, Wake}
 use Rattle.letter_types.specs.declared.entries.Entry.{Entry}
 use Rattle.letter_types.specs.declared.entries.Letter.{Letter}
 use Rattle.letter_types.specs.declared.entries.Outgoing.{Outgoing}
 use Rattle.letter_types.specs.Steps.{Out}
 use Rattle.tv_base.specs.declared.numbers.Version.{Version}
-use Rattle.tree_home.specs.Homes.{Gets, begun}
-use Rattle.tree_home.specs.declared.homes.Answered.{Answered}
-use Rattle.world_model.specs.Children.{sub_letters, done_letter}
-use Rattle.world_model.specs.Done.{note_done, root_done, sub_done}
-use Rattle.world_model.specs.Node.{Effect, Node}
-use Rattle.world_model.specs.Notices.{answer_noted, reply_letters, values_of}
-use Rattle.tx_trees.specs.ScriptData.{ScriptData, client_of, home_of, node_of, subs_at}
+use Rattle.world_model.specs.Node.{Node}
+use Rattle.tx_trees.specs.ScriptData.{ScriptData, reads}
+use Rattle.tx_trees.specs.Valid.{IsValid}
 use Rattle.tx_trees.specs.declared.parts.ScriptRow.{ScriptRow}
 use Rattle.tx_trees.specs.declared.parts.ScriptRow.TheVariants.{Tree as TreeRow, Advance as AdvanceRow, Settle as SettleRow, Lose as LoseRow}
 use Rattle.world_model.specs.Client.{Client, rows_letters, submit, submitted, with_answer, with_end, nudge}
 use Rattle.world_model.specs.Counts.{Each, tally}
 use Rattle.world_model.specs.Runs.{client_in, coordinator_in, node_in, IsStepRun}
-use Rattle.world_model.specs.Timely.{AllTimely}
-use Rattle.world_model.proofs.EachOutstanding.{done_outstanding, done_to}
+use Rattle.world_model.specs.AllApt.{AllApt}
 use Rattle.world_model.proofs.Outstanding.{IsOutstanding}
 use Rattle.world_model.proofs.Every.{each_append, each_map, each_none}
-use Rattle.world_model.proofs.Lawful.{IsLawful}
-use Rattle.world_model.proofs.Nexts.{Next, Begins, Hears, Ends, Coordinates, DoesRoot, DoesSub, Notes, Obeys, Order, Turns, Shows, Sweeps, TellsDone, TellsAsked, RootWork, RootUpdates, RootReads}
+use Rattle.phase_laws.proofs.Lawful.{IsLawful}
+use Rattle.world_model.proofs.Nexts.{Order, Turns, Shows, Sweeps, TellsDone, TellsAsked}
 use Rattle.world_model.proofs.Orders.{coordinator_each}
-use Rattle.world_model.specs.Kept.{done_by}
 use Rattle.phase_laws.specs.Balance.{version_is, goes_between, out}
 use Rattle.phase_laws.specs.Quiet.{IsSilent}
-use Rattle.phase_laws.proofs.Balance.{counts_of, flow}
-use Rattle.phase_laws.proofs.Counters.{children_of}
+use Rattle.phase_laws.proofs.Balance.{apt_counts, flow}
+use Rattle.phase_laws.proofs.Brought.{brought_meant, brought_outstanding, brought_to, sender_below}
 use Rattle.phase_laws.proofs.Moves.{sent_on}
+use Rattle.phase_laws.proofs.Progress.{Begins, Coordinates, Ends, Hears, IsWake, Obeys, Progress, WakesFor, Works, are_wakes, progress}
+use Rattle.phase_laws.proofs.Working.{SentIn, done_version}
 
 -- no root is born in version v
 abbrev pub Closed : ScriptData → List Entry → ℕ → Type 0
@@ -44,10 +41,6 @@ NoneOf v os = Each (λ (o : Outgoing). version_is v o.body ≡ false) os
 
 none_append : (v : ℕ) (xs ys : List Outgoing) → NoneOf v xs → NoneOf v ys → NoneOf v (xs ++ ys)
 none_append v xs ys a b = each_append (λ (o : Outgoing). version_is v o.body ≡ false) xs ys a b
-
-replies_none : (v client : ℕ) (o : Option Answered) → NoneOf v (reply_letters client o)
-replies_none v client None = tt
-replies_none v client (Some a) = (refl, tt)
 
 rows_none : (v : ℕ) (s : ScriptData) (rows : List ScriptRow) → NoneOf v (rows_letters s rows)
 rows_none v s [] = tt
@@ -62,32 +55,6 @@ submit_none v s c first all =
     let rows = take (submitted c (take c.next s.rows) (drop c.next s.rows)) (drop c.next s.rows) in
     none_append v first (rows_letters s rows) all (rows_none v s rows)
 
--- the children of a subtransaction of another version
-children_none : (t w v parent k : ℕ) (s : ScriptData) → (w == v) ≡ false
-    → NoneOf v (sub_letters t w parent k (subs_at s t))
-children_none t w v parent k s ne =
-    each_map (λ (o : Outgoing). (x : ℕ) → version_is x o.body ≡ (w == x))
-    (λ (o : Outgoing). version_is v o.body ≡ false)
-    (sub_letters t w parent k (subs_at s t)) (λ o is. is v ∙ ne) (children_of t w parent k (subs_at s t))
-
-root_none : (s : ScriptData) (p t w v : ℕ) (effect : Effect) (st : Node) → (w == v) ≡ false
-    → NoneOf v (root_done s p t w effect st).sent
-root_none s p t w v effect st ne =
-    none_append v (sub_letters t w 0 0 (subs_at s t)) _ (children_none t w v 0 0 s ne)
-    (replies_none v (client_of s)
-    (answer_noted (record { 0 = t }) (record { 0 = 0 }) (values_of effect.notice)
-    (begun (record { 0 = t }) (length (subs_at s t)) (record { 0 = w }) st.homes)))
-
-sub_none : (s : ScriptData) (q t k w v : ℕ) (raises : Bool) (effect : Effect) (st : Node) → (w == v) ≡ false
-    → NoneOf v (sub_done s q t k w raises effect st).sent
-sub_none s q t k w v raises effect st ne =
-    none_append v (sub_letters t w k 0 (subs_at s t)) (done_letter (home_of s t) t k w effect.notice ∷ [])
-    (children_none t w v k 0 s ne) (ne, tt)
-
-note_none : (s : ScriptData) (q t k w v : ℕ) (values : Gets) (st : Node) → NoneOf v (note_done s q t k w values st).sent
-note_none s q t k w v values st =
-    replies_none v (client_of s) (answer_noted (record { 0 = t }) (record { 0 = k }) values st.homes)
-
 order_none : (s : ScriptData) (v : ℕ) (st : Node) (body : Body) (out : Out Node) → Order s st body out
     → NoneOf v out.sent
 order_none s v st body out (Turns w bd is) = subst (λ (o : Out Node). NoneOf v o.sent) (sym is) (refl, tt)
@@ -99,26 +66,54 @@ order_none s v st body out (TellsAsked w k bd is) = subst (λ (o : Out Node). No
 apart_by : (w v : ℕ) → w ≢ v → (w == v) ≡ false
 apart_by w v ne = grind (arith, nat_tests)
 
--- a root takes another version than one that is closed
-root_version : (s : ScriptData) (t v : ℕ) (st : Node) (w : Version) (effect : Effect) → RootWork s t st w effect
-    → (st.turns.update.0 ≢ v) × (st.turns.read.0 ≢ v) → (w.0 == v) ≡ false
-root_version s t v st w effect (RootUpdates up is can made) closed =
-    apart_by w.0 v (λ eq. closed.0 (ap (λ (x : Version). x.0) (sym is) ∙ eq))
-root_version s t v st w effect (RootReads up is can made) closed =
-    apart_by w.0 v (λ eq. closed.1 (ap (λ (x : Version). x.0) (sym is) ∙ eq))
+-- a letter is done in another version than one that is closed, if it isn't a counted one of it
+root_other : (s : ScriptData) (st : Node) (v : ℕ) (b : Bool) → (st.turns.update.0 ≢ v) × (st.turns.read.0 ≢ v)
+    → ((if b then st.turns.read else st.turns.update).0 == v) ≡ false
+root_other s st v true closed = apart_by st.turns.read.0 v closed.1
+root_other s st v false closed = apart_by st.turns.update.0 v closed.0
+
+done_other : (s : ScriptData) (st : Node) (v : ℕ) (does : Body) → (st.turns.update.0 ≢ v) × (st.turns.read.0 ≢ v)
+    → version_is v does ≡ false → ((done_version s st does).0 == v) ≡ false
+done_other s st v (Root t) closed none = root_other s st v (reads s t.0) closed
+done_other s st v (SubLetter t k w) closed none = none
+done_other s st v (Done t k w notice) closed none = none
+done_other s st v (Decide t w commit) closed none = none
+done_other s st v (Decided t w) closed none = none
+done_other s st v _ closed none = apart_by st.turns.update.0 v closed.0
+
+-- so is what is sent for it
+sent_none : (s : ScriptData) (st : Node) (v : ℕ) (does body : Body) → ((done_version s st does).0 == v) ≡ false → SentIn s st does body
+    → version_is v body ≡ false
+sent_none s st v does (SubLetter t k w) other sent = ap (λ (x : Version). x.0 == v) sent.1 ∙ other
+sent_none s st v does (Done t k w notice) other sent = ap (λ (x : Version). x.0 == v) sent ∙ other
+sent_none s st v does (Decide t w commit) other sent = ap (λ (x : Version). x.0 == v) sent ∙ other
+sent_none s st v does (Decided t w) other sent = ap (λ (x : Version). x.0 == v) sent ∙ other
+sent_none s st v does (Reply t w answer) other sent = refl
+sent_none s st v does (Release t) other sent = refl
+sent_none s st v does (Wake t k) other sent = refl
+sent_none s st v does _ other sent = absurd sent
+
+wake_none : (v : ℕ) (body : Body) → IsWake body → version_is v body ≡ false
+wake_none v (Wake t k) wake = refl
+wake_none v _ wake = absurd wake
+
+woken_none : (v : ℕ) (body : Body) (more : List Outgoing) → WakesFor body more → NoneOf v more
+woken_none v body more woken =
+    each_map (λ (o : Outgoing). IsWake o.body) (λ (o : Outgoing). version_is v o.body ≡ false) more (λ o wake. wake_none v o.body wake)
+    (are_wakes body more woken)
 
 pub goes_itself : (v p q : ℕ) (l : Letter) → version_is v l.body ≡ true → l.from.0 ≡ p → l.to.0 ≡ q
     → goes_between v p q l ≡ 1
 goes_itself v p q l is a b = grind (arith, nat_tests)
 
 -- in silence no letter that has still to be done is a counted one of the version
-not_there : (s : ScriptData) (past : List Entry) (r : Letter) (v : ℕ) (b : Bool) → IsOutstanding s past r
-    → IsSilent s past v → r.from.0 < s.nodes → r.to.0 < s.nodes → version_is v r.body ≡ b → version_is v r.body ≡ false
+not_there : (s : ScriptData) (past : List Entry) (r : Letter) (v : ℕ) (b : Bool) → IsOutstanding s past r → IsSilent s past v
+    → (version_is v r.body ≡ true → r.from.0 < s.nodes) → r.to.0 < s.nodes → version_is v r.body ≡ b → version_is v r.body ≡ false
 not_there s past r v false there silent from to is = is
 not_there s past r v true there silent from to is =
     absurd (omega (
       arith,
-      silent r.from.0 r.to.0 from to,
+      silent r.from.0 r.to.0 (from is) to,
       goes_itself v r.from.0 r.to.0 r is refl refl,
       there (goes_between v r.from.0 r.to.0),
     ))
@@ -126,16 +121,16 @@ not_there s past r v true there silent from to is =
 by_sent : (v : ℕ) (e : Entry) (os : List Outgoing) → e.sent ≡ os → NoneOf v os → NoneOf v e.sent
 by_sent v e os is all = subst (NoneOf v) (sym is) all
 
-none_sent : (s : ScriptData) (past : List Entry) (e : Entry) (v : ℕ) → IsStepRun s (e ∷ past) → IsSilent s past v
+none_sent : (s : ScriptData) (past : List Entry) (e : Entry) (v : ℕ) → IsValid s → IsStepRun s (e ∷ past) → IsSilent s past v
     → Closed s past v
-    → Next s past e → NoneOf v e.sent
-none_sent s past e v run silent closed (Begins bd at made) =
+    → Progress s past e → NoneOf v e.sent
+none_sent s past e v valid run silent closed (Begins bd at made) =
     by_sent v e _ made.sent (submit_none v s (client_in s past) [] tt)
-none_sent s past e v run silent closed (Hears t w answer bd at lt made) =
+none_sent s past e v valid run silent closed (Hears t w answer bd at lt made) =
     by_sent v e _ made.sent (submit_none v s (with_answer t.0 (client_in s past)) (nudge s ∷ []) (refl, tt))
-none_sent s past e v run silent closed (Ends w bd at made) =
+none_sent s past e v valid run silent closed (Ends w bd at made) =
     by_sent v e _ made.sent (submit_none v s (with_end (client_in s past)) [] tt)
-none_sent s past e v run silent closed (Coordinates tells at made) =
+none_sent s past e v valid run silent closed (Coordinates tells at made) =
     by_sent v e _ made.sent (coordinator_each (λ to body. version_is v body ≡ false) (coordinator_in s past) (record {
       turn = λ to w lt. refl;
       show = λ to w lt. refl;
@@ -144,32 +139,28 @@ none_sent s past e v run silent closed (Coordinates tells at made) =
       ask_asked = λ to w k lt. refl;
       advanced = λ w. refl;
     }) e.took.from.0 e.took.body)
-none_sent s past e v run silent closed (DoesRoot t w effect bd sub at lt new work made) =
-    let p = home_of s t.0 in
-    by_sent v e _ made.sent
-    (root_none s p t.0 w.0 v effect (node_in s past p)
-    (root_version s t.0 v (node_in s past p) w effect work (closed p lt)))
-none_sent s past e v run silent closed (DoesSub t k w raises effect bd sub pos from at lt work made) =
-    let r = done_by s past e in
-    let none = not_there s past r v (version_is v r.body) (done_outstanding s past e run.0) silent from
-    (omega (arith, at, lt, done_to s past e run)) refl in
-    let other : (w.0 == v) ≡ false = subst (λ (b : Body). version_is v b ≡ false) bd.body none in
-    by_sent v e _ made.sent
-    (sub_none s r.from.0 t.0 k.0 w.0 v raises effect (node_in s past (node_of s t.0 k.0)) other)
-none_sent s past e v run silent closed (Notes t k w values bd sub pos from at lt missed made) =
-    by_sent v e _ made.sent (note_none s e.took.from.0 t.0 k.0 w.0 v values (node_in s past (home_of s t.0)))
-none_sent s past e v run silent closed (Obeys p out at lt order made) =
-    by_sent v e _ made.sent (order_none s v (node_in s past p) e.took.body out order)
+none_sent s past e v valid run silent closed (Works p r work) =
+    let b = work.brings in
+    let st = node_in s past p in
+    let meant = brought_meant s past e p r valid b run in
+    let none : version_is v r.body ≡ false =
+    not_there s past r v (version_is v r.body) (brought_outstanding s past e p r b run.0) silent
+    (λ is. sender_below s r.from.0 p v r.body valid meant is) (omega (arith, brought_to s past e p r b run, b.below)) refl in
+    each_map (λ (o : Outgoing). SentIn s st r.body o.body) (λ (o : Outgoing). version_is v o.body ≡ false) e.sent
+    (λ o sent. sent_none s st v r.body o.body (done_other s st v r.body (closed p b.below) none) sent) work.sent
+none_sent s past e v valid run silent closed (Obeys p out more at lt order state sent woken) =
+    by_sent v e (out.sent ++ more) sent
+    (none_append v out.sent more (order_none s v (node_in s past p) e.took.body out order) (woken_none v e.took.body more woken))
 
 uncounted : (a v p q : ℕ) (o : Outgoing) → version_is v o.body ≡ false → sent_on a v p q o ≡ 0
 uncounted a v p q o is = rw is refl
 
 -- a silent version that is closed stays silent
 pub silent_stays : (s : ScriptData) (past : List Entry) (e : Entry) (v : ℕ) → IsLawful s → IsStepRun s (e ∷ past)
-    → AllTimely s (e ∷ past)
+    → AllApt s (e ∷ past)
     → IsSilent s past v → Closed s past v → IsSilent s (e ∷ past) v
-silent_stays s past e v laws run timely silent closed = λ p q lp lq.
-    let none = none_sent s past e v run silent closed (laws.next past e run timely) in
+silent_stays s past e v laws run apt silent closed = λ p q lp lq.
+    let none = none_sent s past e v laws.valid run silent closed (progress s past e laws apt run) in
     let sent : tally (sent_on e.actor.0 v p q) e.sent ≡ 0 =
     each_none (sent_on e.actor.0 v p q) e.sent
     (each_map (λ (o : Outgoing). version_is v o.body ≡ false) (λ (o : Outgoing). sent_on e.actor.0 v p q o ≡ 0) e.sent
@@ -178,18 +169,18 @@ silent_stays s past e v laws run timely silent closed = λ p q lp lq.
 
 -- Counters only grow, but for what is swept.
 pub done_grows : (s : ScriptData) (past : List Entry) (e : Entry) (q v p : ℕ) → IsLawful s → IsStepRun s (e ∷ past)
-    → AllTimely s (e ∷ past)
+    → AllApt s (e ∷ past)
     → q < s.nodes → (node_in s (e ∷ past) q).turns.low.0 ≤ v
     → (node_in s past q).counts.done v p ≤ (node_in s (e ∷ past) q).counts.done v p
-done_grows s past e q v p laws run timely lt low =
-    let counts = counts_of s past e v laws run timely in omega (arith, counts.done p q lt low)
+done_grows s past e q v p laws run apt lt low =
+    let counts = apt_counts s past e v laws.valid apt run in omega (arith, counts.done p q lt low)
 
 pub asked_grows : (s : ScriptData) (past : List Entry) (e : Entry) (p v q : ℕ) → IsLawful s → IsStepRun s (e ∷ past)
-    → AllTimely s (e ∷ past)
+    → AllApt s (e ∷ past)
     → p < s.nodes → (node_in s (e ∷ past) p).turns.low.0 ≤ v
     → (node_in s past p).counts.asked v q ≤ (node_in s (e ∷ past) p).counts.asked v q
-asked_grows s past e p v q laws run timely lt low =
-    let counts = counts_of s past e v laws run timely in omega (arith, counts.asked p q lt low)
+asked_grows s past e p v q laws run apt lt low =
+    let counts = apt_counts s past e v laws.valid apt run in omega (arith, counts.asked p q lt low)
 
 -- Either a version is silent or a pair has a letter of it in flight.
 -- a number of pairs is 0 for each pair below, or not for one

@@ -23,13 +23,15 @@ use Rattle.world_model.specs.Runs.{IsStepRun, MayFollow, client_in, coordinator_
 use Rattle.world_model.proofs.Bags.{tally-append}
 use Rattle.world_model.proofs.Every.{coordinator_kept}
 use Rattle.world_model.proofs.Flows.{flow, client_kept}
-use Rattle.world_model.proofs.Lawful.{IsLawful, is_nudge, nudged}
-use Rattle.world_model.proofs.Nexts.{Next, Begins, Hears, Ends, Coordinates, DoesRoot, DoesSub, Notes, Obeys, MadeByClient, MadeByCoordinator, Tells}
+use Rattle.world_model.proofs.Lawful.{is_nudge, nudged}
+use Rattle.phase_laws.proofs.Lawful.{IsLawful}
+use Rattle.world_model.proofs.Nexts.{MadeByClient, MadeByCoordinator, Tells}
 use Rattle.world_model.proofs.Sends.{on}
-use Rattle.world_model.specs.Timely.{AllTimely}
+use Rattle.world_model.specs.AllApt.{AllApt}
 use Rattle.phase_laws.specs.Phases.{count_in_flight}
 pub use Rattle.phase_laws.specs.Advances.{AdvancesAreKept, RoundsAreFew, asked_for, is_advance_letter, is_advanced, running}
-use Rattle.phase_laws.proofs.Letters.{Passes, keep_done_none, node_keeps, to_nodes_none}
+use Rattle.phase_laws.proofs.Letters.{NoTrees, Passes, keep_done_none, node_keeps, to_nodes_none}
+use Rattle.phase_laws.proofs.Progress.{Begins, Coordinates, Ends, Hears, Obeys, Progress, Works, progress}
 use Rattle.phase_laws.proofs.Outcomes.{HasRoom, Ignored, IsAnswer, IsRunning, Outcome, Rests, Queues, Flags, Turns, Acks, LastTurned, LastShown, Finishes, GoesOn, Resumes, KeepsDone, KeepsAsked, Agrees, Recounts, Pauses, asked_kept, one_more_is, outcome, round_begun}
 
 -- how many rounds the advancement in progress has begun without a nudge, at most
@@ -78,17 +80,17 @@ asked_most n rows =
     omega (arith, all, advances_in-append (take n rows) (drop n rows))
 
 -- then the numbers can still grow
-pub has_room : (s : ScriptData) (past : List Entry) → IsLawful s → IsStepRun s past → AllTimely s past → IsSmall s past
+pub has_room : (s : ScriptData) (past : List Entry) → IsLawful s → IsStepRun s past → AllApt s past → IsSmall s past
     → HasRoom (coordinator_in s past)
-has_room s past laws run timely small =
+has_room s past laws run apt small =
     let most : asked_for s past ≤ 100 =
-    omega (arith, asked_most (client_in s past).next s.rows, laws.sound.valid.limited.advances) in
-    let few : nudged past ≤ 20000 = omega (arith, laws.nudges past run timely, laws.sound.valid.few_trees) in
+    omega (arith, asked_most (client_in s past).next s.rows, laws.valid.limited.advances) in
+    let few : nudged past ≤ 20000 = omega (arith, laws.nudges past run apt, laws.valid.few_trees) in
     record {
       update = omega (arith, most, small.asked);
       waits = omega (arith, most, small.asked);
       round = omega (arith, most, few, small.asked, small.rounds, rounds_running (coordinator_in s past).phase);
-      acks = omega (arith, small.acks, few_nodes s laws.sound.valid);
+      acks = omega (arith, small.acks, few_nodes s laws.valid);
     }
 
 -- What a step of the coordinator makes of these numbers.
@@ -377,10 +379,34 @@ other_small s past e away was asked ended =
     subst (λ (c : Coordinator). Numbers s (e ∷ past) c) (sym (coordinator_kept s past e away)) after
 
 -- neither kind of letters is of trees, or goes between the coordinator and the nodes
+advance_no_trees : NoTrees is_advance_letter
+advance_no_trees = record {
+  root = λ t. refl;
+  sub = λ t k v. refl;
+  done = λ t k v notice. refl;
+  reply = λ t v answer. refl;
+  wake = λ t k. refl;
+  decide = λ t v commit. refl;
+  decided = λ t v. refl;
+  release = λ t. refl;
+}
+
+advanced_no_trees : NoTrees is_advanced
+advanced_no_trees = record {
+  root = λ t. refl;
+  sub = λ t k v. refl;
+  done = λ t k v notice. refl;
+  reply = λ t v answer. refl;
+  wake = λ t k. refl;
+  decide = λ t v commit. refl;
+  decided = λ t v. refl;
+  release = λ t. refl;
+}
+
 advance_passes : Passes is_advance_letter is_advance_letter
 advance_passes = record {
-  sent = record { root = λ t. refl; sub = λ t k v. refl; done = λ t k v notice. refl; reply = λ t v answer. refl; wake = λ t k. refl };
-  took = record { root = λ t. refl; sub = λ t k v. refl; done = λ t k v notice. refl; reply = λ t v answer. refl; wake = λ t k. refl };
+  sent = advance_no_trees;
+  took = advance_no_trees;
   turned = λ v. refl;
   shown = λ v. refl;
   swept = λ v. refl;
@@ -390,8 +416,8 @@ advance_passes = record {
 
 advanced_passes : Passes is_advanced is_advanced
 advanced_passes = record {
-  sent = record { root = λ t. refl; sub = λ t k v. refl; done = λ t k v notice. refl; reply = λ t v answer. refl; wake = λ t k. refl };
-  took = record { root = λ t. refl; sub = λ t k v. refl; done = λ t k v notice. refl; reply = λ t v answer. refl; wake = λ t k. refl };
+  sent = advanced_no_trees;
+  took = advanced_no_trees;
   turned = λ v. refl;
   shown = λ v. refl;
   swept = λ v. refl;
@@ -401,7 +427,7 @@ advanced_passes = record {
 
 -- an entry of a node, of the client, and of the coordinator
 by_node : (s : ScriptData) (past : List Entry) (e : Entry) → MayFollow s past e → e.actor.0 < s.nodes → IsSmall s past
-    → Next s past e → IsSmall s (e ∷ past)
+    → Progress s past e → IsSmall s (e ∷ past)
 by_node s past e m node was next =
     let kept : client_in s (e ∷ past) ≡ client_in s past = client_kept s past e (omega (arith, node)) in
     let asked : asked_for s (e ∷ past) ≡ asked_for s past = ap (λ (c : Client). advances_in (take c.next s.rows)) kept in
@@ -433,13 +459,13 @@ told_advanced : (body : Body) → Tells body → is_advanced body ≡ 0
 told_advanced (Advanced v) tells = absurd tells
 told_advanced _ tells = refl
 
-by_coordinator : (s : ScriptData) (past : List Entry) (e : Entry) → IsLawful s → IsStepRun s (e ∷ past) → AllTimely s past
+by_coordinator : (s : ScriptData) (past : List Entry) (e : Entry) → IsLawful s → IsStepRun s (e ∷ past) → AllApt s past
     → IsSmall s past → Tells e.took.body → e.actor.0 ≡ s.nodes → MadeByCoordinator s past e → IsSmall s (e ∷ past)
-by_coordinator s past e laws run timely was told at made =
+by_coordinator s past e laws run apt was told at made =
     let c = coordinator_in s past in
     let out = coordinator_row c e.took.from.0 e.took.body in
     let cost : Costs c e.took.body out =
-    costs c e.took.from.0 e.took.body out (outcome c e.took.from.0 e.took.body (has_room s past laws run.1 timely was)) in
+    costs c e.took.from.0 e.took.body out (outcome c e.took.from.0 e.took.body (has_room s past laws run.1 apt was)) in
     let kept : client_in s (e ∷ past) ≡ client_in s past = client_kept s past e (omega (arith, at)) in
     let asked : asked_for s (e ∷ past) ≡ asked_for s past = ap (λ (x : Client). advances_in (take x.next s.rows)) kept in
     let ended : (client_in s (e ∷ past)).ended ≡ (client_in s past).ended = ap (λ (x : Client). x.ended) kept in
@@ -459,64 +485,60 @@ by_coordinator s past e laws run timely was told at made =
     subst (λ (d : Coordinator). Numbers s (e ∷ past) d) (sym made.state) after
 
 -- after any entry
-small_next : (s : ScriptData) (past : List Entry) (e : Entry) → IsLawful s → IsStepRun s (e ∷ past) → AllTimely s past
-    → IsSmall s past → Next s past e → IsSmall s (e ∷ past)
-small_next s past e laws run timely was (Begins bd at made) =
+small_next : (s : ScriptData) (past : List Entry) (e : Entry) → IsLawful s → IsStepRun s (e ∷ past) → AllApt s past
+    → IsSmall s past → Progress s past e → IsSmall s (e ∷ past)
+small_next s past e laws run apt was (Begins bd at made) =
     by_client s past e (client_in s past) [] run.0 was at made refl refl refl (ap is_advance_letter bd)
     (omega (arith, ap is_advanced bd))
-small_next s past e laws run timely was (Hears t v answer bd at lt made) =
+small_next s past e laws run apt was (Hears t v answer bd at lt made) =
     by_client s past e (with_answer t.0 (client_in s past)) (nudge s ∷ []) run.0 was at made refl refl refl
     (ap is_advance_letter bd) (omega (arith, ap is_advanced bd))
-small_next s past e laws run timely was (Ends v bd at made) =
+small_next s past e laws run apt was (Ends v bd at made) =
     let few : (client_in s past).ended < 2 ^ 64 - 1 =
-    omega (arith, was.ended, (has_room s past laws run.1 timely was).update) in
+    omega (arith, was.ended, (has_room s past laws run.1 apt was).update) in
     by_client s past e (with_end (client_in s past)) [] run.0 was at made refl refl refl (ap is_advance_letter bd)
     (omega (arith, one_more_is (client_in s past).ended few, ap is_advanced bd))
-small_next s past e laws run timely was (Coordinates tells at made) = by_coordinator s past e laws run timely was tells at made
-small_next s past e laws run timely was (DoesRoot t v effect bd sub at lt new work made) =
-    by_node s past e run.0 (omega (arith, at, lt)) was (DoesRoot t v effect bd sub at lt new work made)
-small_next s past e laws run timely was (DoesSub t k v raises effect bd sub pos from at lt work made) =
-    by_node s past e run.0 (omega (arith, at, lt)) was (DoesSub t k v raises effect bd sub pos from at lt work made)
-small_next s past e laws run timely was (Notes t k v values bd sub pos from at lt missed made) =
-    by_node s past e run.0 (omega (arith, at, lt)) was (Notes t k v values bd sub pos from at lt missed made)
-small_next s past e laws run timely was (Obeys p out at lt order made) =
-    by_node s past e run.0 (omega (arith, at, lt)) was (Obeys p out at lt order made)
+small_next s past e laws run apt was (Coordinates tells at made) = by_coordinator s past e laws run apt was tells at made
+small_next s past e laws run apt was (Works p r work) =
+    by_node s past e run.0 (omega (arith, work.brings.at, work.brings.below)) was (Works p r work)
+small_next s past e laws run apt was (Obeys p out more at lt order state sent woken) =
+    by_node s past e run.0 (omega (arith, at, lt)) was (Obeys p out more at lt order state sent woken)
 
 -- in every run the coordinator's numbers are small
-pub small : (s : ScriptData) (past : List Entry) → IsLawful s → IsStepRun s past → AllTimely s past → IsSmall s past
-small s [] laws run timely = record {
+pub small : (s : ScriptData) (past : List Entry) → IsLawful s → IsStepRun s past → AllApt s past → IsSmall s past
+small s [] laws run apt = record {
   nodes = refl;
-  acks = omega (arith, laws.sound.valid.some_nodes);
+  acks = omega (arith, laws.valid.some_nodes);
   idle = λ idle. refl;
   asked = omega arith;
   ended = omega arith;
   rounds = omega arith;
 }
-small s (e ∷ past) laws run timely =
-    small_next s past e laws run timely.1 (small s past laws run.1 timely.1) (laws.next past e run timely)
+small s (e ∷ past) laws run apt =
+    small_next s past e laws run apt.1 (small s past laws run.1 apt.1) (progress s past e laws apt run)
 
 -- so each step of the coordinator is one of its outcomes
-pub outcome_in : (s : ScriptData) (past : List Entry) (e : Entry) → IsLawful s → IsStepRun s past → AllTimely s past
+pub outcome_in : (s : ScriptData) (past : List Entry) (e : Entry) → IsLawful s → IsStepRun s past → AllApt s past
     → Outcome (coordinator_in s past) e.took.from.0 e.took.body
     (coordinator_row (coordinator_in s past) e.took.from.0 e.took.body)
-outcome_in s past e laws run timely =
-    outcome (coordinator_in s past) e.took.from.0 e.took.body (has_room s past laws run timely (small s past laws run timely))
+outcome_in s past e laws run apt =
+    outcome (coordinator_in s past) e.took.from.0 e.took.body (has_room s past laws run apt (small s past laws run apt))
 
 -- What follows for rounds: two for each advancement that was asked for and one for each nudge, at most.
-pub rounds_most : (s : ScriptData) (past : List Entry) → IsLawful s → IsStepRun s past → AllTimely s past
+pub rounds_most : (s : ScriptData) (past : List Entry) → IsLawful s → IsStepRun s past → AllApt s past
     → (coordinator_in s past).round ≤ 2 * advances_in s.rows + nudged past
-rounds_most s past laws run timely =
-    let now = small s past laws run timely in
+rounds_most s past laws run apt =
+    let now = small s past laws run apt in
     let asked : asked_for s past ≤ advances_in s.rows = asked_most (client_in s past).next s.rows in
     omega (arith, asked, now.asked, now.rounds, rounds_running (coordinator_in s past).phase)
 
 -- nudges are at most as many as trees
-pub rounds_by_trees : (s : ScriptData) (past : List Entry) → IsLawful s → IsStepRun s past → AllTimely s past
+pub rounds_by_trees : (s : ScriptData) (past : List Entry) → IsLawful s → IsStepRun s past → AllApt s past
     → RoundsAreFew s past
-rounds_by_trees s past laws run timely = omega (arith, rounds_most s past laws run timely, laws.nudges past run timely)
+rounds_by_trees s past laws run apt = omega (arith, rounds_most s past laws run apt, laws.nudges past run apt)
 
 -- and no advancement is lost
-pub advances_kept : (s : ScriptData) (past : List Entry) → IsLawful s → IsStepRun s past → AllTimely s past → AdvancesAreKept s past
-advances_kept s past laws run timely =
-    let now = small s past laws run timely in
+pub advances_kept : (s : ScriptData) (past : List Entry) → IsLawful s → IsStepRun s past → AllApt s past → AdvancesAreKept s past
+advances_kept s past laws run apt =
+    let now = small s past laws run apt in
     record { asked = now.asked; ended = now.ended }

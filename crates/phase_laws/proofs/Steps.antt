@@ -19,14 +19,14 @@ use Rattle.world_model.specs.Coordinator.{Coordinator, version, to_nodes, counte
 use Rattle.world_model.specs.declared.phase.Phase.TheVariants.{Counting}
 use Rattle.world_model.specs.Counts.{Each}
 use Rattle.world_model.specs.Runs.{coordinator_in, node_in, in_flight, IsStepRun}
-use Rattle.world_model.specs.Timely.{AllTimely}
+use Rattle.world_model.specs.AllApt.{AllApt}
 use Rattle.world_model.proofs.Every.{coordinator_kept, each_map, each_step, each_taken}
-use Rattle.world_model.proofs.Lawful.{IsLawful}
+use Rattle.phase_laws.proofs.Lawful.{IsLawful}
 use Rattle.world_model.proofs.Orders.{coordinator_each, to_nodes_each}
 use Rattle.phase_laws.proofs.Outcomes.{Outcome, Rests, Queues, Flags, Turns, Acks, LastTurned, LastShown, Finishes, GoesOn, Resumes, KeepsDone, KeepsAsked, Agrees, Recounts, Pauses, TakesAsked, asked_kept, round_begun}
 use Rattle.phase_laws.proofs.Current.{IsElse}
 use Rattle.phase_laws.proofs.Small.{outcome_in}
-use Rattle.phase_laws.proofs.Balance.{low_rises}
+use Rattle.phase_laws.proofs.Balance.{apt_low_rises}
 use Rattle.phase_laws.proofs.Sending.{IsApart, IsPlain, apart_plain, Sending, SendsApart, SendsDone, SendsAsked, SendsOrders, sending}
 use Rattle.phase_laws.proofs.Silence.{below_or_at, done_grows}
 
@@ -90,13 +90,13 @@ round_step c from body out (Pauses reads v k row takes verdict flag is) =
     subst (λ (o : Out Coordinator). RoundStep c from body o) (sym is) (Leaves tt refl refl tt)
 
 -- the step of an entry of the coordinator
-pub step_in : (s : ScriptData) (past : List Entry) (e : Entry) → IsLawful s → IsStepRun s past → AllTimely s past
+pub step_in : (s : ScriptData) (past : List Entry) (e : Entry) → IsLawful s → IsStepRun s past → AllApt s past
     → RoundStep (coordinator_in s past) e.took.from.0 e.took.body
     (coordinator_row (coordinator_in s past) e.took.from.0 e.took.body)
-step_in s past e laws run timely =
+step_in s past e laws run apt =
     round_step (coordinator_in s past) e.took.from.0 e.took.body
     (coordinator_row (coordinator_in s past) e.took.from.0 e.took.body)
-    (outcome_in s past e laws run timely)
+    (outcome_in s past e laws run apt)
 
 -- The numbers of nodes, by place.
 numbers_last : (n : ℕ) (f : ℕ → ℕ) → slice_index (numbers_of n f ++ f n ∷ []) n ≡ f n
@@ -123,12 +123,12 @@ RowBody s past q (DoneRow w k row) =
 RowBody s past q _ = Unit {0}
 
 pub row_later : (s : ScriptData) (past : List Entry) (e : Entry) (q : ℕ) (body : Body) → IsLawful s
-    → IsStepRun s (e ∷ past) → AllTimely s (e ∷ past)
+    → IsStepRun s (e ∷ past) → AllApt s (e ∷ past)
     → RowBody s past q body → RowBody s (e ∷ past) q body
-row_later s past e q (DoneRow w k row) laws run timely ok = λ hq p hp low.
-    let rise = low_rises s past e q laws run timely hq in
-    omega (arith, ok hq p hp (omega (arith, rise, low)), done_grows s past e q w.0 p laws run timely hq low)
-row_later s past e q _ laws run timely ok = tt
+row_later s past e q (DoneRow w k row) laws run apt ok = λ hq p hp low.
+    let rise = apt_low_rises s past e q apt run hq in
+    omega (arith, ok hq p hp (omega (arith, rise, low)), done_grows s past e q w.0 p laws run apt hq low)
+row_later s past e q _ laws run apt ok = tt
 
 apart_row : (s : ScriptData) (past : List Entry) (q : ℕ) (body : Body) → IsApart body → RowBody s past q body
 apart_row s past q (DoneRow w k row) apart = absurd apart
@@ -163,15 +163,15 @@ rows_sent s past e (SendsOrders tells at made) =
       advanced = λ v i. tt;
     }) e.took.from.0 e.took.body)
 
-pub rows_true : (s : ScriptData) (past : List Entry) → IsLawful s → IsStepRun s past → AllTimely s past
+pub rows_true : (s : ScriptData) (past : List Entry) → IsLawful s → IsStepRun s past → AllApt s past
     → Each (λ (l : Letter). RowBody s past l.from.0 l.body) (in_flight s past)
-rows_true s [] laws run timely = (tt, tt)
-rows_true s (e ∷ past) laws run timely =
+rows_true s [] laws run apt = (tt, tt)
+rows_true s (e ∷ past) laws run apt =
     each_step (λ (l : Letter). RowBody s (e ∷ past) l.from.0 l.body) s past e
     (each_map (λ (l : Letter). RowBody s past l.from.0 l.body) (λ (l : Letter). RowBody s (e ∷ past) l.from.0 l.body)
     (in_flight s past)
-    (λ l ok. row_later s past e l.from.0 l.body laws run timely ok) (rows_true s past laws run.1 timely.1))
-    (rows_sent s past e (sending s past e laws run timely))
+    (λ l ok. row_later s past e l.from.0 l.body laws run apt ok) (rows_true s past laws run.1 apt.1))
+    (rows_sent s past e (sending s past e laws run apt))
 
 -- No letter is of a round later than the last one.
 abbrev pub round_of : Body → ℕ
@@ -248,28 +248,28 @@ fresh_kept s past e away was sent =
       letters = each_step (λ (l : Letter). round_of l.body ≤ (coordinator_in s past).round) s past e was.letters sent;
     })
 
-fresh_next : (s : ScriptData) (past : List Entry) (e : Entry) → IsLawful s → IsStepRun s (e ∷ past) → AllTimely s past
+fresh_next : (s : ScriptData) (past : List Entry) (e : Entry) → IsLawful s → IsStepRun s (e ∷ past) → AllApt s past
     → Fresh s past (coordinator_in s past) → Sending s past e → Fresh s (e ∷ past) (coordinator_in s (e ∷ past))
-fresh_next s past e laws run timely was (SendsApart away plain all) =
+fresh_next s past e laws run apt was (SendsApart away plain all) =
     fresh_kept s past e away was (plain_up_to (coordinator_in s past).round e.sent
     (each_map (λ (o : Outgoing). IsApart o.body) (λ (o : Outgoing). IsPlain o.body) e.sent
     (λ o apart. apart_plain o.body apart) all))
-fresh_next s past e laws run timely was (SendsDone v k lt bd sent same) =
+fresh_next s past e laws run apt was (SendsDone v k lt bd sent same) =
     let r = (coordinator_in s past).round in
     let took : round_of (AskDone v k) ≤ r =
     subst (λ (b : Body). round_of b ≤ r) bd
     (each_taken (λ (l : Letter). round_of l.body ≤ r) s past e run.0 was.letters) in
     fresh_kept s past e (λ eq. omega (arith, eq, lt)) was (subst (UpTo r) (sym sent) ((λ i. took), tt))
-fresh_next s past e laws run timely was (SendsAsked v k lt bd sent same) =
+fresh_next s past e laws run apt was (SendsAsked v k lt bd sent same) =
     let r = (coordinator_in s past).round in
     let took : round_of (AskAsked v k) ≤ r =
     subst (λ (b : Body). round_of b ≤ r) bd
     (each_taken (λ (l : Letter). round_of l.body ≤ r) s past e run.0 was.letters) in
     fresh_kept s past e (λ eq. omega (arith, eq, lt)) was (subst (UpTo r) (sym sent) ((λ i. took), tt))
-fresh_next s past e laws run timely was (SendsOrders tells at made) =
+fresh_next s past e laws run apt was (SendsOrders tells at made) =
     let c = coordinator_in s past in
     let out = coordinator_row c e.took.from.0 e.took.body in
-    let next = later_step c e.took.from.0 e.took.body out was.number (step_in s past e laws run.1 timely) in
+    let next = later_step c e.took.from.0 e.took.body out was.number (step_in s past e laws run.1 apt) in
     subst (Fresh s (e ∷ past)) (sym made.state) (record {
       number = next.number;
       letters = each_step (λ (l : Letter). round_of l.body ≤ out.state.round) s past e
@@ -279,8 +279,8 @@ fresh_next s past e laws run timely was (SendsOrders tells at made) =
           (subst (UpTo out.state.round) (sym made.sent) next.sent);
     })
 
-pub fresh : (s : ScriptData) (past : List Entry) → IsLawful s → IsStepRun s past → AllTimely s past
+pub fresh : (s : ScriptData) (past : List Entry) → IsLawful s → IsStepRun s past → AllApt s past
     → Fresh s past (coordinator_in s past)
-fresh s [] laws run timely = record { number = omega arith; letters = (omega arith, tt) }
-fresh s (e ∷ past) laws run timely =
-    fresh_next s past e laws run timely.1 (fresh s past laws run.1 timely.1) (sending s past e laws run timely)
+fresh s [] laws run apt = record { number = omega arith; letters = (omega arith, tt) }
+fresh s (e ∷ past) laws run apt =
+    fresh_next s past e laws run apt.1 (fresh s past laws run.1 apt.1) (sending s past e laws run apt)

@@ -18,21 +18,55 @@ use Rattle.world_model.specs.Runs.{MayFollow, IsStepRun, client_in, coordinator_
 use Rattle.world_model.proofs.Bags.{tally-drop}
 use Rattle.world_model.proofs.Every.{coordinator_kept}
 use Rattle.world_model.proofs.Flows.{flow, flow_same, submit_none}
-use Rattle.world_model.proofs.Lawful.{IsLawful}
-use Rattle.world_model.proofs.Nexts.{Next, Begins, Hears, Ends, Coordinates, DoesRoot, DoesSub, Notes, Obeys, MadeByClient, MadeByCoordinator, Tells}
+use Rattle.phase_laws.proofs.Lawful.{IsLawful}
+use Rattle.world_model.proofs.Nexts.{MadeByClient, MadeByCoordinator, Tells}
 use Rattle.world_model.proofs.Orders.{coordinator_nodes}
 use Rattle.world_model.proofs.Sends.{on}
-use Rattle.world_model.specs.Timely.{AllTimely}
+use Rattle.world_model.specs.AllApt.{AllApt}
 pub use Rattle.phase_laws.specs.Phases.{Stage, TurnStage, ShowStage, SweepStage, Told, token, count_in_flight, within}
-use Rattle.phase_laws.proofs.Letters.{Passes, keep_done_none, node_keeps, to_nodes_none, to_nodes_one}
+use Rattle.phase_laws.proofs.Letters.{NoTrees, Passes, keep_done_none, node_keeps, to_nodes_none, to_nodes_one}
+use Rattle.phase_laws.proofs.Progress.{Begins, Coordinates, Ends, Hears, Obeys, Progress, Works, progress}
 use Rattle.phase_laws.proofs.Outcomes.{Ignored, IsAnswer, Outcome, Rests, Queues, Flags, Turns, Acks, LastTurned, LastShown, Finishes, GoesOn, Resumes, KeepsDone, KeepsAsked, Agrees, Recounts, Pauses, asked_kept, in_next, round_begun}
 use Rattle.phase_laws.proofs.Small.{outcome_in}
+
+-- tokens are no letters of trees
+tokens_no_trees : (g : Stage) → NoTrees (token g)
+tokens_no_trees TurnStage = record {
+  root = λ t. refl;
+  sub = λ t k v. refl;
+  done = λ t k v notice. refl;
+  reply = λ t v answer. refl;
+  wake = λ t k. refl;
+  decide = λ t v commit. refl;
+  decided = λ t v. refl;
+  release = λ t. refl;
+}
+tokens_no_trees ShowStage = record {
+  root = λ t. refl;
+  sub = λ t k v. refl;
+  done = λ t k v notice. refl;
+  reply = λ t v answer. refl;
+  wake = λ t k. refl;
+  decide = λ t v commit. refl;
+  decided = λ t v. refl;
+  release = λ t. refl;
+}
+tokens_no_trees SweepStage = record {
+  root = λ t. refl;
+  sub = λ t k v. refl;
+  done = λ t k v notice. refl;
+  reply = λ t v answer. refl;
+  wake = λ t k. refl;
+  decide = λ t v commit. refl;
+  decided = λ t v. refl;
+  release = λ t. refl;
+}
 
 -- a node's answer counts as the order that it answers
 pub token_passes : (g : Stage) → Passes (token g) (token g)
 token_passes TurnStage = record {
-  sent = record { root = λ t. refl; sub = λ t k v. refl; done = λ t k v notice. refl; reply = λ t v answer. refl; wake = λ t k. refl };
-  took = record { root = λ t. refl; sub = λ t k v. refl; done = λ t k v notice. refl; reply = λ t v answer. refl; wake = λ t k. refl };
+  sent = tokens_no_trees TurnStage;
+  took = tokens_no_trees TurnStage;
   turned = λ v. refl;
   shown = λ v. refl;
   swept = λ v. refl;
@@ -40,8 +74,8 @@ token_passes TurnStage = record {
   asked_row = λ v k row. refl;
 }
 token_passes ShowStage = record {
-  sent = record { root = λ t. refl; sub = λ t k v. refl; done = λ t k v notice. refl; reply = λ t v answer. refl; wake = λ t k. refl };
-  took = record { root = λ t. refl; sub = λ t k v. refl; done = λ t k v notice. refl; reply = λ t v answer. refl; wake = λ t k. refl };
+  sent = tokens_no_trees ShowStage;
+  took = tokens_no_trees ShowStage;
   turned = λ v. refl;
   shown = λ v. refl;
   swept = λ v. refl;
@@ -49,8 +83,8 @@ token_passes ShowStage = record {
   asked_row = λ v k row. refl;
 }
 token_passes SweepStage = record {
-  sent = record { root = λ t. refl; sub = λ t k v. refl; done = λ t k v notice. refl; reply = λ t v answer. refl; wake = λ t k. refl };
-  took = record { root = λ t. refl; sub = λ t k v. refl; done = λ t k v notice. refl; reply = λ t v answer. refl; wake = λ t k. refl };
+  sent = tokens_no_trees SweepStage;
+  took = tokens_no_trees SweepStage;
   turned = λ v. refl;
   shown = λ v. refl;
   swept = λ v. refl;
@@ -367,13 +401,13 @@ told_by_client g s past e c first m at made was quiet took =
     kept_told g s past e (omega (arith, at)) was (flow_same (token g) s past e m took sent)
 
 told_by_node : (g : Stage) (s : ScriptData) (past : List Entry) (e : Entry) → MayFollow s past e → e.actor.0 < s.nodes
-    → Next s past e → Told s past g → Told s (e ∷ past) g
+    → Progress s past e → Told s past g → Told s (e ∷ past) g
 told_by_node g s past e m node next was =
     kept_told g s past e (omega (arith, node)) was (node_keeps (token g) (token_passes g) s past e m node next)
 
 told_by_coordinator : (g : Stage) (s : ScriptData) (past : List Entry) (e : Entry) → IsLawful s → IsStepRun s (e ∷ past)
-    → AllTimely s past → Tells e.took.body → MadeByCoordinator s past e → Told s past g → Told s (e ∷ past) g
-told_by_coordinator g s past e laws run timely tells made was =
+    → AllApt s past → Tells e.took.body → MadeByCoordinator s past e → Told s past g → Told s (e ∷ past) g
+told_by_coordinator g s past e laws run apt tells made was =
     let c = coordinator_in s past in
     let out = coordinator_row c e.took.from.0 e.took.body in
     let nodes : c.nodes ≡ s.nodes = coordinator_nodes s past in
@@ -382,7 +416,7 @@ told_by_coordinator g s past e laws run timely tells made was =
     let before : count_in_flight (token g) s past + within g c.phase c.acks ≡ within g c.phase c.nodes =
     was ∙ ap (λ (n : ℕ). within g c.phase n) (sym nodes) in
     let after : count_in_flight (token g) s (e ∷ past) + within g out.state.phase out.state.acks ≡ within g out.state.phase c.nodes =
-    outcome_goes g c e.took.from.0 e.took.body out tells (outcome_in s past e laws run.1 timely)
+    outcome_goes g c e.took.from.0 e.took.body out tells (outcome_in s past e laws run.1 apt)
     (count_in_flight (token g) s past) (count_in_flight (token g) s (e ∷ past)) before
     (omega (arith, flow (token g) s past e run.0, sent)) in
     subst (λ (d : Coordinator). count_in_flight (token g) s (e ∷ past) + within g d.phase d.acks ≡ within g d.phase s.nodes)
@@ -390,26 +424,22 @@ told_by_coordinator g s past e laws run timely tells made was =
     (after ∙ ap (λ (n : ℕ). within g out.state.phase n) nodes)
 
 told_next : (g : Stage) (s : ScriptData) (past : List Entry) (e : Entry) → IsLawful s → IsStepRun s (e ∷ past)
-    → AllTimely s past → Told s past g → Next s past e → Told s (e ∷ past) g
-told_next g s past e laws run timely was (Begins bd at made) =
+    → AllApt s past → Told s past g → Progress s past e → Told s (e ∷ past) g
+told_next g s past e laws run apt was (Begins bd at made) =
     told_by_client g s past e (client_in s past) [] run.0 at made was refl (apart_by e.took.body Go bd go_apart g)
-told_next g s past e laws run timely was (Hears t v answer bd at lt made) =
+told_next g s past e laws run apt was (Hears t v answer bd at lt made) =
     told_by_client g s past e (with_answer t.0 (client_in s past)) (nudge s ∷ []) run.0 at made was
     (omega (arith, nudge_apart g))
     (ap (token g) bd ∙ (token_passes g).sent.reply t v answer)
-told_next g s past e laws run timely was (Ends v bd at made) =
+told_next g s past e laws run apt was (Ends v bd at made) =
     told_by_client g s past e (with_end (client_in s past)) [] run.0 at made was refl
     (apart_by e.took.body (Advanced v) bd (advanced_apart v) g)
-told_next g s past e laws run timely was (Coordinates tells at made) =
-    told_by_coordinator g s past e laws run timely tells made was
-told_next g s past e laws run timely was (DoesRoot t v effect bd sub at lt new work made) =
-    told_by_node g s past e run.0 (omega (arith, at, lt)) (DoesRoot t v effect bd sub at lt new work made) was
-told_next g s past e laws run timely was (DoesSub t k v raises effect bd sub pos from at lt work made) =
-    told_by_node g s past e run.0 (omega (arith, at, lt)) (DoesSub t k v raises effect bd sub pos from at lt work made) was
-told_next g s past e laws run timely was (Notes t k v values bd sub pos from at lt missed made) =
-    told_by_node g s past e run.0 (omega (arith, at, lt)) (Notes t k v values bd sub pos from at lt missed made) was
-told_next g s past e laws run timely was (Obeys p out at lt order made) =
-    told_by_node g s past e run.0 (omega (arith, at, lt)) (Obeys p out at lt order made) was
+told_next g s past e laws run apt was (Coordinates tells at made) =
+    told_by_coordinator g s past e laws run apt tells made was
+told_next g s past e laws run apt was (Works p r work) =
+    told_by_node g s past e run.0 (omega (arith, work.brings.at, work.brings.below)) (Works p r work) was
+told_next g s past e laws run apt was (Obeys p out more at lt order state sent woken) =
+    told_by_node g s past e run.0 (omega (arith, at, lt)) (Obeys p out more at lt order state sent woken) was
 
 told_first : (g : Stage) (s : ScriptData) → Told s [] g
 told_first TurnStage s = refl
@@ -417,10 +447,10 @@ told_first ShowStage s = refl
 told_first SweepStage s = refl
 
 -- in every run each node has its order, its answer or its acknowledgement
-pub told : (g : Stage) (s : ScriptData) (past : List Entry) → IsLawful s → IsStepRun s past → AllTimely s past → Told s past g
-told g s [] laws run timely = told_first g s
-told g s (e ∷ past) laws run timely =
-    told_next g s past e laws run timely.1 (told g s past laws run.1 timely.1) (laws.next past e run timely)
+pub told : (g : Stage) (s : ScriptData) (past : List Entry) → IsLawful s → IsStepRun s past → AllApt s past → Told s past g
+told g s [] laws run apt = told_first g s
+told g s (e ∷ past) laws run apt =
+    told_next g s past e laws run apt.1 (told g s past laws run.1 apt.1) (progress s past e laws apt run)
 
 -- So an order comes in its phase.
 abbrev pub PhaseFor : Body → Phase → Type 0
@@ -448,17 +478,17 @@ token_there : (g : Stage) (s : ScriptData) (past : List Entry) (e : Entry) → M
 token_there g s past e m = omega (arith, tally-drop (λ (l : Letter). token g l.body) e.took.id (in_flight s past) e.took m.waits)
 
 pub phase_for : (s : ScriptData) (past : List Entry) (e : Entry) (body : Body) → IsLawful s → IsStepRun s past
-    → AllTimely s past → MayFollow s past e → e.took.body ≡ body → PhaseFor body (coordinator_in s past).phase
-phase_for s past e (Turn v) laws run timely m bd =
+    → AllApt s past → MayFollow s past e → e.took.body ≡ body → PhaseFor body (coordinator_in s past).phase
+phase_for s past e (Turn v) laws run apt m bd =
     let one : token TurnStage e.took.body ≡ 1 = ap (token TurnStage) bd in
     turning_phase (coordinator_in s past).phase (count_in_flight (token TurnStage) s past) (coordinator_in s past).acks s.nodes
-    (omega (arith, one, token_there TurnStage s past e m)) (told TurnStage s past laws run timely)
-phase_for s past e (Show v) laws run timely m bd =
+    (omega (arith, one, token_there TurnStage s past e m)) (told TurnStage s past laws run apt)
+phase_for s past e (Show v) laws run apt m bd =
     let one : token ShowStage e.took.body ≡ 1 = ap (token ShowStage) bd in
     showing_phase (coordinator_in s past).phase (count_in_flight (token ShowStage) s past) (coordinator_in s past).acks s.nodes
-    (omega (arith, one, token_there ShowStage s past e m)) (told ShowStage s past laws run timely)
-phase_for s past e (Sweep v) laws run timely m bd =
+    (omega (arith, one, token_there ShowStage s past e m)) (told ShowStage s past laws run apt)
+phase_for s past e (Sweep v) laws run apt m bd =
     let one : token SweepStage e.took.body ≡ 1 = ap (token SweepStage) bd in
     sweeping_phase (coordinator_in s past).phase (count_in_flight (token SweepStage) s past) (coordinator_in s past).acks s.nodes
-    (omega (arith, one, token_there SweepStage s past e m)) (told SweepStage s past laws run timely)
-phase_for s past e _ laws run timely m bd = tt
+    (omega (arith, one, token_there SweepStage s past e m)) (told SweepStage s past laws run apt)
+phase_for s past e _ laws run apt m bd = tt
