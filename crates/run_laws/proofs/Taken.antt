@@ -24,7 +24,7 @@ use Rattle.tree_laws.proofs.Aptness.{taken_is_apt}
 use Rattle.tree_laws.proofs.Histories.{before_more}
 use Rattle.tree_laws.proofs.Nudges.{lawful}
 use Rattle.run_laws.specs.Taken.{IsAptFor, TakesWhatIsApt}
-use Rattle.run_laws.proofs.InTime.{in_time}
+use Rattle.run_laws.proofs.InTime.{all_apt}
 
 -- the letter of an entry is apt for its actor
 abbrev IsAptEntry : ScriptData → List Entry → Entry → Type 0
@@ -36,36 +36,10 @@ in_state : (s : ScriptData) (before : List Entry) (e : Entry) (a : ℕ) (state :
 in_state s before e a state at is apt =
     subst (λ (d : ActorData). IsAptFor s e.actor.0 d e.took) (sym is ∙ sym (ap (actor_after s before) at)) apt
 
--- a letter that is meant for its addressee isn't one that strict trees alone have
-fit_own : (s : ScriptData) (from to : ℕ) (b : Body) → IsFit s from to b → is_of_strict b ≡ false
-fit_own s from to (Decide t v commit) fit = absurd fit
-fit_own s from to (Decided t v) fit = absurd fit
-fit_own s from to (Release t) fit = absurd fit
-fit_own s from to (Wake t k) fit = absurd fit
-fit_own s from to _ fit = refl
-
--- such a letter brings itself
-brings_own : (kept : List KeptLetter) (l : Letter) (b : Body) → is_of_strict b ≡ false → brought kept l b ≡ Some l
-brings_own kept l (Wake t k) own = absurd (cc own)
-brings_own kept l _ own = refl
-
--- so it is apt at its node, as it is for what commuting trees see of it
+-- it is apt at its node
 pub apt_here : (s : ScriptData) (past : List Entry) (e : Entry) → IsSound s → IsStepRun s (e ∷ past) → e.actor.0 < s.nodes
     → is_apt_brought s e.actor.0 (keeping_in s past e.actor.0) (brought (kept_in s past e.actor.0) e.took e.took.body) ≡ true
-apt_here s past e sound run lt =
-    let p = e.actor.0 in
-    let st = node_in s past p in
-    let plain = plain_script s sound in
-    let laws = lawful s sound in
-    let fit = each_took (λ (l : Letter). IsFit s l.from.0 l.to.0 l.body) s past e run.0 (laws.fits past run.1 (in_time s past sound run.1)) in
-    let own = fit_own s e.took.from.0 e.took.to.0 e.took.body fit in
-    let here : (e.took.to.0 == p) ≡ true = let to = run.0.addressee in grind (arith, nat_tests) in
-    let apt : is_core_apt s p (plain_core st) e.took ≡ true =
-    apt_plain s p st e.took plain own
-    ∙ taken_is_apt s past e sound.valid sound.runnable run (in_time s (e ∷ past) sound run) lt in
-    ap (λ (n : KeepingNode). is_apt_brought s p n (brought n.kept e.took e.took.body)) (keeping_is s past p plain)
-    ∙ ap (is_apt_brought s p (bare st)) (brings_own [] e.took e.took.body own)
-    ∙ rw here apt
+apt_here s past e sound run lt = (all_apt s (e ∷ past) sound run).0 lt
 
 taken_by : (s : ScriptData) (past : List Entry) (e : Entry) → IsSound s → IsStepRun s (e ∷ past) → Moves s past e
     → IsAptEntry s (reverse past) e
