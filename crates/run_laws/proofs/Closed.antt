@@ -73,12 +73,14 @@ bounds_of : (s : ScriptData) (past : List Entry) (b : Body) → IsLawful s → I
     → token ShowStage b ≤ count_in_flight (token ShowStage) s past → token SweepStage b ≤ count_in_flight (token SweepStage) s past → Bounds s past b
 bounds_of s past (Show v) laws run timely level shows sweeps =
     let c = coordinator_in s past in
-    let at = showing_phase c.phase (count_in_flight (token ShowStage) s past) c.acks s.nodes shows (told ShowStage s past (lawful s laws.sound) run (all_apt s past laws.sound run)) in
+    let at = showing_phase c.phase (count_in_flight (token ShowStage) s past) c.acks s.nodes shows
+    (told ShowStage s past (lawful s laws.sound) run (all_apt s past laws.sound run)) in
     let u : v.0 ≡ c.update = level in
     ap (λ (p : Phase). whole_below false p c.update) at ∙ ap (λ (n : ℕ). n + 1) (sym u)
 bounds_of s past (Sweep v) laws run timely level shows sweeps =
     let c = coordinator_in s past in
-    let at = sweeping_phase c.phase (count_in_flight (token SweepStage) s past) c.acks s.nodes sweeps (told SweepStage s past (lawful s laws.sound) run (all_apt s past laws.sound run)) in
+    let at = sweeping_phase c.phase (count_in_flight (token SweepStage) s past) c.acks s.nodes sweeps
+    (told SweepStage s past (lawful s laws.sound) run (all_apt s past laws.sound run)) in
     let u : v.0 ≡ c.update = level in
     ap (λ (p : Phase). whole_below true p c.update) at ∙ sym u
 bounds_of s past Go laws run timely level shows sweeps = tt

@@ -1,5 +1,5 @@
 -- What the letters of advancements cost.
-use Rattle.std.proofs.Common.{if◌then◌else◌, ◌≡◌, ◌≢◌, ℕ, zero, suc, ◌+◌, ◌*◌, ◌<◌, ◌≤◌, ◌&&◌, not, Bool, true, false, List, [], ◌∷◌, ◌++◌, replicate, set, take, drop, refl, sym, ap, subst, ◌∙◌, arith, Some, None}
+use Rattle.std.proofs.Common.{if◌then◌else◌, ◌≡◌, ◌≢◌, ℕ, zero, suc, ◌+◌, ◌*◌, ◌<◌, ◌≤◌, ◌&&◌, not, Bool, true, false, List, [], ◌∷◌, ◌++◌, length, replicate, set, take, drop, refl, sym, ap, subst, ◌∙◌, arith, Some, None}
 use Rattle.std.proofs.Math.Seq.{take-add}
 use Rattle.tx_trees.proofs.Rebuilding.{advances_in-append}
 use Rattle.phase_out.specs.Rounds.{NodeRows, all_in}
@@ -9,10 +9,14 @@ use Rattle.letter_types.specs.declared.entries.Entry.{Entry}
 use Rattle.letter_types.specs.declared.entries.Outgoing.{Outgoing}
 use Rattle.letter_types.specs.Steps.{Out}
 use Rattle.tx_trees.specs.Counts.{advances_in}
-use Rattle.tx_trees.specs.ScriptData.{ScriptData, client_of, home_of, node_of}
+use Rattle.tx_trees.specs.ScriptData.{ScriptData, client_of, home_of, node_of, subs_at}
 use Rattle.tx_trees.specs.declared.parts.ScriptRow.{ScriptRow}
 use Rattle.tx_trees.specs.declared.parts.ScriptRow.TheVariants.{Tree as TreeRow, Advance as AdvanceRow, Settle as SettleRow, Lose as LoseRow}
-use Rattle.world_model.specs.Node.{Node}
+use Rattle.tree_home.specs.Homes.{Gets}
+use Rattle.world_model.specs.Children.{sub_letters, done_letter}
+use Rattle.world_model.specs.Done.{note_done, root_done, sub_done, with_open_tree}
+use Rattle.world_model.specs.Notices.{answer_noted, reply_letters, values_of}
+use Rattle.world_model.specs.Node.{Effect, Node}
 use Rattle.world_model.specs.Client.{Client, nudge, rows_letters, submit, submitted, with_answer, with_end}
 use Rattle.world_model.specs.Coordinator.{Coordinator, coordinator_row, counted_version, end_count, keep_done, to_nodes, version}
 use Rattle.world_model.specs.declared.phase.Phase.{Phase}
@@ -26,7 +30,7 @@ use Rattle.world_model.proofs.Flows.{client_kept, flow}
 use Rattle.world_model.proofs.Lawful.{IsLawful}
 use Rattle.world_model.proofs.Nexts.{Next, Begins, Hears, Ends, Coordinates, DoesRoot, DoesSub, Notes, Obeys, MadeByClient, MadeByCoordinator, Order, Turns as TurnsTo, Shows, Sweeps, TellsDone, TellsAsked, Tells}
 use Rattle.world_model.proofs.Orders.{coordinator_nodes}
-use Rattle.world_model.proofs.Sends.{on}
+use Rattle.world_model.proofs.Sends.{on, replies_none, subs_none}
 use Rattle.world_model.specs.Kept.{done_by}
 use Rattle.world_model.proofs.Worked.{took_none}
 use Rattle.phase_laws.specs.Advances.{asked_for}
@@ -333,7 +337,8 @@ paid_told : (s : ScriptData) (past : List Entry) (e : Entry) (laws : IsLawful s)
 paid_told s past e laws run timely paid tells at made =
     let c = coordinator_in s past in
     let out = coordinator_row c e.took.from.0 e.took.body in
-    let pays = pays_out s.nodes c e.took.from.0 e.took.body out laws.sound.valid.some_nodes (coordinator_nodes s past) (outcome_in s past e (lawful s laws.sound) run.1 (all_apt s past laws.sound run.1)) in
+    let pays = pays_out s.nodes c e.took.from.0 e.took.body out laws.sound.valid.some_nodes (coordinator_nodes s past)
+    (outcome_in s past e (lawful s laws.sound) run.1 (all_apt s past laws.sound run.1)) in
     let pends : pend s.nodes (coordinator_in s (e ∷ past)) ≡ pend s.nodes out.state = ap (λ (d : Coordinator). pend s.nodes d) made.state in
     let spends : spent s.nodes (coordinator_in s (e ∷ past)) ≡ spent s.nodes out.state = ap (λ (d : Coordinator). spent s.nodes d) made.state in
     let sent : tally (on cost) e.sent ≡ tally (on cost) out.sent = ap (λ (os : List Outgoing). tally (on cost) os) made.sent in

@@ -246,7 +246,13 @@ aparts_taken s past laws run timely empty =
     let calm = idle_pend s.nodes c.phase c.current.dones rests in
     let all : asked_for s past ≡ advances_in s.rows = ap advances_in (all_rows s past laws run timely empty) in
     let up : c.update ≡ advances_in s.rows + 1 =
-    omega (arith, all, ended_all s past laws run timely empty, (small s past (lawful s laws.sound) run (all_apt s past laws.sound run)).ended, none_left (λ (l : Letter). is_advanced l.body) s past empty) in
+    omega (
+      arith,
+      all,
+      ended_all s past laws run timely empty,
+      (small s past (lawful s laws.sound) run (all_apt s past laws.sound run)).ended,
+      none_left (λ (l : Letter). is_advanced l.body) s past empty,
+    ) in
     apart_by s.nodes (advances_in s.rows) c.update (taken_in is_apart past) (stages c.phase) c.round up calm.1
     (omega (arith, paid s past laws run timely, none_left (λ (l : Letter). cost l.body) s past empty, calm.0, all))
 

@@ -397,7 +397,8 @@ heard_told s past e laws run timely at made was =
     ∙ ap (λ (n : ℕ). tally (sends two v r q s.nodes n) out.sent) at in
     omega (arith, wave_flow s past e two v r q run.0, took, sent) in
     subst (λ (d : Coordinator). Heard s (e ∷ past) d) (sym made.state)
-    (heard_out s past e c out laws.sound.valid.some_nodes (coordinator_nodes s past) (current s past (lawful s laws.sound) run.1 (all_apt s past laws.sound run.1)) was flow
+    (heard_out s past e c out laws.sound.valid.some_nodes (coordinator_nodes s past)
+    (current s past (lawful s laws.sound) run.1 (all_apt s past laws.sound run.1)) was flow
     (course c e.took.from.0 e.took.body out (outcome_in s past e (lawful s laws.sound) run.1 (all_apt s past laws.sound run.1))))
 
 heard_next : (s : ScriptData) (past : List Entry) (e : Entry) → IsLawful s → IsStepRun s (e ∷ past) → AllTimely s past → Next s past e

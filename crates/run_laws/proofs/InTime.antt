@@ -1,5 +1,5 @@
 -- Every run of a sound script is one of apt letters, and in time, and what follows from it.
-use Rattle.std.proofs.Common.{◌≡◌, ℕ, ◌+◌, ◌*◌, ◌<◌, ◌≤◌, ◌==◌, Bool, true, false, List, [], ◌∷◌, length, reverse, refl, sym, ap, ◌∙◌, arith, Some}
+use Rattle.std.proofs.Common.{◌≡◌, ℕ, ◌+◌, ◌*◌, ◌<◌, ◌==◌, true, false, List, [], ◌∷◌, length, refl, sym, ap, ◌∙◌, arith, Some}
 use Rattle.std.proofs.lemmas.Bool.{and_parts}
 use Rattle.std.proofs.lemmas.Bool.Decides.{nat_tests}
 use Rattle.tv_base.specs.declared.numbers.SubNo.{SubNo}
@@ -25,7 +25,7 @@ use Rattle.world_model.specs.Kept.{kept_in}
 use Rattle.world_model.specs.Named.{is_timely}
 use Rattle.world_model.specs.Node.{Node}
 use Rattle.world_model.specs.Notices.{answer_noted, values_of}
-use Rattle.world_model.specs.Runs.{IsStepRun, keeping_in, node_in}
+use Rattle.world_model.specs.Runs.{IsStepRun, node_in}
 use Rattle.world_model.specs.Strict.{is_core_apt, is_of_strict}
 use Rattle.world_model.specs.Timely.{AllTimely, WasTimely}
 use Rattle.world_model.proofs.EachOutstanding.{each_took}

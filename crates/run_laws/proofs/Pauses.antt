@@ -71,7 +71,8 @@ starts_exact s past e reads d laws run timely made =
     let v = (counted_version reads d).0 in
     let r = (coordinator_in s past).round in
     let old = each_map (λ (l : Letter). round_of l.body ≤ r) (λ (l : Letter). ExactBody s (e ∷ past) v k l.from.0 l.body) (in_flight s past)
-    (λ l le. later_exact s (e ∷ past) v k r l.from.0 l.body (omega arith) le) (fresh s past (lawful s laws.sound) run (all_apt s past laws.sound run)).letters in
+    (λ l le. later_exact s (e ∷ past) v k r l.from.0 l.body (omega arith) le)
+    (fresh s past (lawful s laws.sound) run (all_apt s past laws.sound run)).letters in
     record {
       letters = each_step (λ (l : Letter). ExactBody s (e ∷ past) v k l.from.0 l.body) s past e old (coordinator_exact s past e v k made);
       dones = λ q row lq at. absurd (none_kept d.nodes q row at);
@@ -148,8 +149,10 @@ low_at : (s : ScriptData) (past : List Entry) (reads : Bool) (p : ℕ) (laws : I
     → (node_in s past p).turns.low.0 ≤ (coordinator_in s past).current.version.0
 low_at s past reads p laws run timely lt at =
     let c = coordinator_in s past in
-    let is : c.current.version.0 ≡ (if reads then c.update - 1 else c.update) = ap (λ (v : Version). v.0) (current s past (lawful s laws.sound) run (all_apt s past laws.sound run) reads at).version in
-    let le = low_counted c.phase reads c.update (node_in s past p).turns.low.0 at (versions_in_phase s past (lawful s laws.sound) run (all_apt s past laws.sound run) p lt).low_to in
+    let is : c.current.version.0 ≡ (if reads then c.update - 1 else c.update) =
+    ap (λ (v : Version). v.0) (current s past (lawful s laws.sound) run (all_apt s past laws.sound run) reads at).version in
+    let le = low_counted c.phase reads c.update (node_in s past p).turns.low.0 at
+    (versions_in_phase s past (lawful s laws.sound) run (all_apt s past laws.sound run) p lt).low_to in
     subst (λ (n : ℕ). (node_in s past p).turns.low.0 ≤ n) (sym is) le
 
 exact_agrees : (s : ScriptData) (past : List Entry) (e : Entry) (reads : Bool) (v : Version) (k : ℕ) (row : List ℕ) (laws : IsLawful s)
@@ -186,7 +189,8 @@ bound_denies s past e reads v k row laws run timely m step was takes verdict cle
     let c = coordinator_in s past in
     let r = c.current in
     let askeds = set r.askeds e.took.from.0 (Some row) in
-    let nodes : r.nodes ≡ s.nodes = (current s past (lawful s laws.sound) run (all_apt s past laws.sound run) reads takes.phase).nodes ∙ coordinator_nodes s past in
+    let nodes : r.nodes ≡ s.nodes =
+    (current s past (lawful s laws.sound) run (all_apt s past laws.sound run) reads takes.phase).nodes ∙ coordinator_nodes s past in
     let parts = verdict_no (all_in r.dones) (all_in askeds) (agrees r.nodes askeds r.dones) verdict in
     record {
       counts = λ x at clear' none. absurd (cc at);

@@ -181,7 +181,8 @@ pub step_reaches : (kind : Bool) (s : ScriptData) (past : List Entry) (e : Entry
     → Reaches kind (coordinator_in s past) e.took.from.0 e.took.body (coordinator_row (coordinator_in s past) e.took.from.0 e.took.body)
 step_reaches kind s past e laws run timely made =
     reaches kind (coordinator_in s past) e.took.from.0 e.took.body (coordinator_row (coordinator_in s past) e.took.from.0 e.took.body)
-    (levels s past (lawful s laws.sound) run (all_apt s past laws.sound run)).first (outcome_in s past e (lawful s laws.sound) run (all_apt s past laws.sound run))
+    (levels s past (lawful s laws.sound) run (all_apt s past laws.sound run)).first
+    (outcome_in s past e (lawful s laws.sound) run (all_apt s past laws.sound run))
 
 -- trees of the version of a round that says yes are whole
 closing : (kind : Bool) (s : ScriptData) (past : List Entry) (e : Entry) (v : Version) (k : ℕ) (row : List ℕ) → IsSound s
@@ -244,11 +245,14 @@ whole_next kind s past e sound run timely whole (Coordinates tells at made) =
     coordinates_whole kind s past e sound run timely at made whole
     (step_reaches kind s past e (tree_lawful s sound) run.1 timely.1 made)
 whole_next kind s past e sound run timely whole (Begins is at made) =
-    others_whole kind s past e (levels s past (lawful s sound) run.1 (all_apt s past sound run.1)) (Begins is at made) (coordinator_kept s past e (omega arith)) whole
+    others_whole kind s past e (levels s past (lawful s sound) run.1 (all_apt s past sound run.1)) (Begins is at made)
+    (coordinator_kept s past e (omega arith)) whole
 whole_next kind s past e sound run timely whole (Hears t v answer is at lt made) =
-    others_whole kind s past e (levels s past (lawful s sound) run.1 (all_apt s past sound run.1)) (Hears t v answer is at lt made) (coordinator_kept s past e (omega arith)) whole
+    others_whole kind s past e (levels s past (lawful s sound) run.1 (all_apt s past sound run.1)) (Hears t v answer is at lt made)
+    (coordinator_kept s past e (omega arith)) whole
 whole_next kind s past e sound run timely whole (Ends v is at made) =
-    others_whole kind s past e (levels s past (lawful s sound) run.1 (all_apt s past sound run.1)) (Ends v is at made) (coordinator_kept s past e (omega arith)) whole
+    others_whole kind s past e (levels s past (lawful s sound) run.1 (all_apt s past sound run.1)) (Ends v is at made)
+    (coordinator_kept s past e (omega arith)) whole
 whole_next kind s past e sound run timely whole (DoesRoot t v effect is c at lt new work made) =
     others_whole kind s past e (levels s past (lawful s sound) run.1 (all_apt s past sound run.1)) (DoesRoot t v effect is c at lt new work made)
     (coordinator_kept s past e (omega (arith, at, lt))) whole

@@ -1,28 +1,15 @@
 -- Each letter that a node takes in a run is apt there.
-use Rattle.std.proofs.Common.{◌≡◌, ℕ, ◌<◌, ◌==◌, Bool, true, false, List, [], ◌∷◌, reverse, refl, sym, ap, subst, ◌∙◌, arith, Some}
-use Rattle.std.proofs.lemmas.Bool.Decides.{nat_tests}
+use Rattle.std.proofs.Common.{◌≡◌, ℕ, ◌<◌, true, List, [], ◌∷◌, reverse, sym, ap, subst, ◌∙◌}
 use Rattle.letter_types.specs.Kept.{brought}
-use Rattle.letter_types.specs.declared.bodies.Body.{Body}
-use Rattle.letter_types.specs.declared.bodies.Body.TheVariants.{Decide, Decided, Go, Release, Wake}
 use Rattle.letter_types.specs.declared.entries.Entry.{Entry}
-use Rattle.letter_types.specs.declared.entries.Letter.{Letter}
-use Rattle.letter_types.specs.declared.kept.KeptLetter.{KeptLetter}
 use Rattle.tx_trees.specs.ScriptData.{ScriptData, client_of}
-use Rattle.world_model.specs.Core.{plain_core}
-use Rattle.world_model.specs.Keeping.{KeepingNode, is_apt_brought}
+use Rattle.world_model.specs.Keeping.{is_apt_brought}
 use Rattle.world_model.specs.Kept.{kept_in}
-use Rattle.world_model.specs.Runs.{IsStepRun, actor_after, AtNode, AtCoordinator, AtClient, Moves, keeping_in, node_in}
-use Rattle.world_model.specs.Strict.{is_core_apt, is_of_strict}
+use Rattle.world_model.specs.Runs.{IsStepRun, actor_after, AtNode, AtCoordinator, AtClient, Moves, keeping_in}
 use Rattle.world_model.specs.Tables.{ActorData}
 use Rattle.world_model.proofs.Back.{client_leads, coordinator_leads, node_leads}
-use Rattle.world_model.proofs.EachOutstanding.{each_took}
-use Rattle.world_model.proofs.Fits.{IsFit}
-use Rattle.world_model.proofs.NothingKept.{bare, keeping_is}
-use Rattle.world_model.proofs.Plain.{apt_plain}
-use Rattle.world_model.proofs.Scripts.{IsSound, plain_script}
-use Rattle.tree_laws.proofs.Aptness.{taken_is_apt}
+use Rattle.world_model.proofs.Scripts.{IsSound}
 use Rattle.tree_laws.proofs.Histories.{before_more}
-use Rattle.tree_laws.proofs.Nudges.{lawful}
 use Rattle.run_laws.specs.Taken.{IsAptFor, TakesWhatIsApt}
 use Rattle.run_laws.proofs.InTime.{all_apt}
 
