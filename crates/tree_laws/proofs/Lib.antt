@@ -56,3 +56,4 @@ pub mod AptRulings
 pub mod AptApplied
 pub mod AptOfTree
 pub mod AptDecided
+pub mod AptVotesRows
