@@ -57,3 +57,4 @@ pub mod AptApplied
 pub mod AptOfTree
 pub mod AptDecided
 pub mod AptVotesRows
+pub mod AptVotes
