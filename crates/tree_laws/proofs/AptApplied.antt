@@ -1,6 +1,6 @@
 -- In runs of apt letters, of every script: at each node that a strict tree visits its decision was applied, or is on its
 -- way there, as often as it was made.
-use Rattle.std.proofs.Common.{◌≡◌, ◌≢◌, ◌⊎◌, inl, inr, ℕ, zero, suc, ◌+◌, ◌<◌, ◌≤◌, ◌==◌, ◌&&◌, Bool, true, false, not, List, [], ◌∷◌, ◌++◌, length, refl, sym, ap, subst, ◌∙◌, arith, Option, Some, None}
+use Rattle.std.proofs.Common.{◌≡◌, ◌≢◌, ◌⊎◌, inl, inr, ℕ, zero, suc, ◌+◌, ◌<◌, ◌≤◌, ◌==◌, Bool, true, false, List, [], ◌∷◌, refl, sym, ap, subst, ◌∙◌, arith, Option, Some, None}
 use Rattle.std.specs.Prelude.{if◌then◌else◌}
 use Rattle.std.proofs.lemmas.Bool.{cases_eq}
 use Rattle.std.proofs.lemmas.Bool.Decides.{nat_tests}
@@ -17,22 +17,19 @@ use Rattle.letter_types.specs.declared.entries.Letter.{Letter}
 use Rattle.letter_types.specs.declared.entries.Outgoing.{Outgoing}
 use Rattle.tree_home.specs.declared.homes.Answered.{Answered}
 use Rattle.tx_trees.specs.ScriptData.{ScriptData, client_of, subs_at, visited, visited_by, visits}
-use Rattle.tx_trees.specs.Valid.{IsValid}
 use Rattle.tx_trees.specs.declared.parts.Sub.{Sub}
-use Rattle.world_model.specs.AllApt.{AllApt}
 use Rattle.world_model.specs.Core.{Core, Refusals}
-use Rattle.world_model.specs.Counts.{one_if, tally}
+use Rattle.world_model.specs.Counts.{tally}
 use Rattle.world_model.specs.Kept.{kept_by, kept_in, of_done, outstanding}
-use Rattle.world_model.specs.Runs.{IsStepRun, MayFollow, client_in, coordinator_in, in_flight, keeping_in}
+use Rattle.world_model.specs.Runs.{MayFollow, client_in, coordinator_in, in_flight, keeping_in}
 use Rattle.world_model.specs.Strict.{CoreKeeping, core_row, none_refuses, to_each}
-use Rattle.world_model.specs.Tables.{client_table, coordinator_table}
 use Rattle.world_model.proofs.Bags.{sealed_tally, tally-append}
 use Rattle.world_model.proofs.Cases.{Case, Coordinates, Does, Keeps, NodeDoes, NodeKeeps, Submits, case, does_number, keeps_number}
 use Rattle.world_model.proofs.Orders.{no_acts}
 use Rattle.world_model.proofs.Outstanding.{done_apart, outstanding_step}
 use Rattle.world_model.proofs.Sends.{on}
-use Rattle.tree_laws.specs.Applied.{AppliedWhereDecided, applied_at, applies_as, decided_as, decides_as, decisions_to, tells_decision}
-use Rattle.tree_laws.proofs.AptRulings.{OfDecides, OfRulings, RowRules, applied_acts, client_acts, core_rules, is_decide, is_ruling, keeping_acts, ruled_acts, ruled_letters, rulings_no_keeping}
+use Rattle.tree_laws.specs.Applied.{AppliedWhereDecided, applies_as, decides_as, decisions_to, tells_decision}
+use Rattle.tree_laws.proofs.AptRulings.{OfDecides, OfRulings, RowRules, applied_acts, client_acts, core_rules, is_decide, keeping_acts, ruled_acts, ruled_letters, rulings_no_keeping}
 use Rattle.tree_laws.proofs.AptStagesApart.{CountsNoOthers, client_none, coordinator_none, orders_none}
 use Rattle.tree_laws.proofs.AptStagesSteps.{CountsNoAsking, kept_by_zero}
 use Rattle.tree_laws.proofs.AptSteps.{wakes_none}

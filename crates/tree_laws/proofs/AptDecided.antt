@@ -15,7 +15,7 @@ use Rattle.letter_types.specs.declared.entries.Letter.{Letter}
 use Rattle.tree_home.specs.HeldAnswers.{HeldAnswers}
 use Rattle.tree_home.specs.declared.homes.Answered.{Answered as AnsweredTree}
 use Rattle.tree_home.specs.declared.homes.OpenTree.{OpenTree}
-use Rattle.tx_trees.specs.ScriptData.{ScriptData, home_of, subs_at}
+use Rattle.tx_trees.specs.ScriptData.{ScriptData, home_of}
 use Rattle.tx_trees.specs.Valid.{IsValid}
 use Rattle.world_model.specs.AllApt.{AllApt}
 use Rattle.world_model.specs.Core.{Core, Refusals}
@@ -31,8 +31,7 @@ use Rattle.tree_laws.specs.Stages.{IsGathering, StageAt, Answered, Gathers, Hold
 use Rattle.tree_laws.specs.Turns.{turns}
 use Rattle.tree_laws.proofs.AptApplied.{applied_decides, decides_of}
 use Rattle.tree_laws.proofs.AptOfTree.{ByClient, ByCoordinator, Kept, OfTree, Other, OwnAck, OwnNote, OwnRoot, OwnSub, ack_home, client_leaves, coordinator_leaves, kept_leaves, note_at, of_tree, other_leaves, root_home}
-use Rattle.tree_laws.proofs.AptRulings.{OfRulings, RowRules, Rules, client_acts, core_rules, keeping_acts, ruled_acts, rulings_no_keeping}
-use Rattle.tree_laws.proofs.AptStages.{Leaves}
+use Rattle.tree_laws.proofs.AptRulings.{RowRules, Rules, client_acts, core_rules, keeping_acts, ruled_acts, rulings_no_keeping}
 use Rattle.tree_laws.proofs.AptStagesOwn.{Doing, asked, home_here, notes_here, sub_of_node, turned_here}
 use Rattle.tree_laws.proofs.AptStagesRun.{IsOther, stages_of_trees}
 use Rattle.tree_laws.proofs.AptStagesSteps.{Beside, does_beside, told}

@@ -11,30 +11,29 @@ use Rattle.letter_types.specs.Steps.{Out}
 use Rattle.letter_types.specs.declared.acts.Act.{Act}
 use Rattle.letter_types.specs.declared.acts.Act.TheVariants as acts
 use Rattle.letter_types.specs.declared.bodies.Body.{Body}
-use Rattle.letter_types.specs.declared.bodies.Body.TheVariants.{Root, Sub as SubLetter, Done, Decide, Decided, Go}
+use Rattle.letter_types.specs.declared.bodies.Body.TheVariants.{Root, Sub as SubLetter, Done, Decided, Go}
 use Rattle.letter_types.specs.declared.bodies.Notice.{Notice}
 use Rattle.letter_types.specs.declared.bodies.Notice.TheVariants.{Did as DidNotice, Yes, No}
 use Rattle.letter_types.specs.declared.entries.Entry.{Entry}
 use Rattle.letter_types.specs.declared.entries.Letter.{Letter}
 use Rattle.letter_types.specs.declared.entries.Outgoing.{Outgoing}
 use Rattle.tree_home.proofs.Maps.{put_at-other, put_at-same}
-use Rattle.tree_home.specs.HeldAnswers.{HeldAnswers, answer_when_acked, held_in, last_answer}
+use Rattle.tree_home.specs.HeldAnswers.{answer_when_acked, held_in, last_answer}
 use Rattle.tree_home.specs.Homes.{misses}
 use Rattle.tree_home.specs.declared.homes.Answered.{Answered as AnsweredTree}
 use Rattle.tree_home.specs.declared.homes.Held.{Held}
 use Rattle.tree_home.specs.declared.homes.OpenTree.{OpenTree}
-use Rattle.tx_trees.specs.ScriptData.{ScriptData, client_of, home_of, subs_at}
+use Rattle.tx_trees.specs.ScriptData.{ScriptData, home_of, subs_at}
 use Rattle.tx_trees.specs.Valid.{IsValid}
 use Rattle.world_model.specs.declared.refusal.Refusal.{Refusal}
 use Rattle.world_model.specs.AllApt.{AllApt}
 use Rattle.world_model.specs.Core.{Core, Refusals, lesser, refused_by}
 use Rattle.world_model.specs.Counts.{one_if, tally}
 use Rattle.world_model.specs.Keeping.{KeepingNode}
-use Rattle.world_model.specs.Kept.{of_done, outstanding}
 use Rattle.world_model.specs.Named.{is_strict_at, suits}
 use Rattle.world_model.specs.Runs.{IsStepRun, MayFollow, client_in, coordinator_in, in_flight, keeping_in}
 use Rattle.world_model.specs.Strict.{CoreKeeping, answer_letters, core_row, none_refuses, refusals_after, refused_there}
-use Rattle.world_model.proofs.Cases.{Does, Keeps, does_number, keeps_number}
+use Rattle.world_model.proofs.Cases.{Keeps, does_number, keeps_number}
 use Rattle.world_model.proofs.Keepings.{of_kept}
 use Rattle.world_model.proofs.Orders.{no_acts}
 use Rattle.world_model.proofs.Outstanding.{done_apart, keeping_elsewhere, took_outstanding}
@@ -42,7 +41,7 @@ use Rattle.world_model.proofs.Scripts.{SubAt, get_below, sub_here, sub_there, tr
 use Rattle.world_model.proofs.Sends.{on}
 use Rattle.tree_laws.specs.Applied.{DecidedByVotes, decided_as, decides_as, noes, votes_no}
 use Rattle.tree_laws.specs.Dids.{answers, asks, notices, replies_to, tells_done}
-use Rattle.tree_laws.specs.Stages.{AllTurned, IsGathering, StageAt, Answered, Gathers, Holds, Unborn, home_at}
+use Rattle.tree_laws.specs.Stages.{IsGathering, StageAt, Answered, Gathers, Holds, Unborn, home_at}
 use Rattle.tree_laws.specs.Turns.{turns}
 use Rattle.tree_laws.proofs.AptDecided.{GathersNow, Now, Once, ack_decides, decided_any, decides_any, kept_decides, note_gathers, once_in_run, other_decides, root_undecided, ruled_here, sub_decides}
 use Rattle.tree_laws.proofs.AptApplied.{decides_of}
@@ -53,7 +52,7 @@ use Rattle.tree_laws.proofs.AptStagesOwn.{Doing, asked, home_here, notes_here, s
 use Rattle.tree_laws.proofs.AptStagesRun.{IsOther, decided_names, stages_of_trees}
 use Rattle.tree_laws.proofs.AptStagesSteps.{CountsNoAsking, done_flow, sent_by, told}
 use Rattle.tree_laws.proofs.AptSteps.{home_node, outside}
-use Rattle.tree_laws.proofs.AptTurns.{no_turn_yet, parent_before, sub_has_turns, tree_there, turns_at_most_once, turns_below_root}
+use Rattle.tree_laws.proofs.AptTurns.{no_turn_yet, turns_at_most_once}
 use Rattle.tree_laws.proofs.AptVotesRows.{RowVotes, core_votes, is_no, no_for, no_told, refusal_after, tells_no}
 use Rattle.tree_laws.proofs.Answering.{one_here}
 use Rattle.tree_laws.proofs.Stages.{missing_at}
@@ -316,17 +315,17 @@ decided_now t rs a None cast flying is keeps none =
     let never : tally (decides_as t false) (ruled_acts rs (Some a)) ≡ 0 = rw commit (omega (arith, aborts_none (a.tree.0 == t))) in
     (λ some. omega (arith, keeps, none), λ some. absurd (omega (arith, some, never)))
   where
-  aborts_none : (x : Bool) → one_if (x && not true) ≡ 0
-  aborts_none true = refl
-  aborts_none false = refl
+    aborts_none : (x : Bool) → one_if (x && not true) ≡ 0
+    aborts_none true = refl
+    aborts_none false = refl
 decided_now t rs a (Some r) cast flying is keeps none =
     let abort : none_refuses a.tree rs ≡ false = rw is refl in
     let never : tally (decides_as t true) (ruled_acts rs (Some a)) ≡ 0 = rw abort (omega (arith, commits_none (a.tree.0 == t))) in
     (λ some. absurd (omega (arith, some, never)), λ some. omega (arith, keeps))
   where
-  commits_none : (x : Bool) → one_if (x && false) ≡ 0
-  commits_none true = refl
-  commits_none false = refl
+    commits_none : (x : Bool) → one_if (x && false) ≡ 0
+    commits_none true = refl
+    commits_none false = refl
 
 own_by : (s : ScriptData) (past : List Entry) (e : Entry) (p : ℕ) (t : TreeNo) (r : Letter) (found : Option AnsweredTree) → Doing s past e p r
     → Own s past e p t r
@@ -476,16 +475,16 @@ there_keeps s t k notice c false cast flying cast2 flying2 fits miss same less i
   plain (DidNotice values) suit fewer = keeps_on (c.refusals t.0) cast flying cast2 flying2 (omega (arith, same, fewer)) it
 there_keeps s t k notice c true cast flying cast2 flying2 fits miss same less it =
     subst (λ (rs : Refusals). KeepsNo (rs t.0) cast2 flying2) (sym taken) (strict notice less) where
-  taken : refused_there t k notice c ≡ refused_by t k notice c.refusals
-  taken = rw miss refl
+      taken : refused_there t k notice c ≡ refused_by t k notice c.refusals
+      taken = rw miss refl
 
-  strict : (n : Notice) → flying2 + is_no t.0 n t.0 ≡ flying → KeepsNo (refused_by t k n c.refusals t.0) cast2 flying2
-  strict (No cause) fewer =
-      let kept : Option Refusal = Some (lesser (c.refusals t.0) (record { sub = k; cause = cause })) in
-      subst (λ (o : Option Refusal). KeepsNo o cast2 flying2) (sym (put_at-same t.0 kept c.refusals))
-      (keeps_new (c.refusals t.0) cast flying cast2 flying2 (omega (arith, same, fewer, one_here t.0 t.0 refl)) it)
-  strict (Yes values) fewer = keeps_on (c.refusals t.0) cast flying cast2 flying2 (omega (arith, same, fewer)) it
-  strict (DidNotice values) fewer = keeps_on (c.refusals t.0) cast flying cast2 flying2 (omega (arith, same, fewer)) it
+      strict : (n : Notice) → flying2 + is_no t.0 n t.0 ≡ flying → KeepsNo (refused_by t k n c.refusals t.0) cast2 flying2
+      strict (No cause) fewer =
+          let kept : Option Refusal = Some (lesser (c.refusals t.0) (record { sub = k; cause = cause })) in
+          subst (λ (o : Option Refusal). KeepsNo o cast2 flying2) (sym (put_at-same t.0 kept c.refusals))
+          (keeps_new (c.refusals t.0) cast flying cast2 flying2 (omega (arith, same, fewer, one_here t.0 t.0 refl)) it)
+      strict (Yes values) fewer = keeps_on (c.refusals t.0) cast flying cast2 flying2 (omega (arith, same, fewer)) it
+      strict (DidNotice values) fewer = keeps_on (c.refusals t.0) cast flying cast2 flying2 (omega (arith, same, fewer)) it
 
 note_missed : (s : ScriptData) (past : List Entry) (e : Entry) (p : ℕ) (t : TreeNo) (k : SubNo) (x : Version) (notice : Notice) (r : Letter) (h : OpenTree)
     → Doing s past e p r → r.body ≡ Done t k x notice → NoteAt s p t k notice → IsGathering s past t.0 h
