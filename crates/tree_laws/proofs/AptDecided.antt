@@ -24,18 +24,16 @@ use Rattle.world_model.specs.Runs.{IsStepRun, client_in, coordinator_in, keeping
 use Rattle.world_model.specs.Strict.{CoreKeeping, core_row, none_refuses}
 use Rattle.world_model.proofs.Cases.{Does, Keeps}
 use Rattle.world_model.proofs.Orders.{no_acts}
-use Rattle.world_model.proofs.Scripts.{SubAt}
 use Rattle.tree_laws.specs.Applied.{DecidedOnce, decided_as, decides_as}
-use Rattle.tree_laws.specs.Dids.{asks, notices, tells_done}
+use Rattle.tree_laws.specs.Dids.{asks, notices}
 use Rattle.tree_laws.specs.Stages.{IsGathering, StageAt, Answered, Gathers, Holds, Unborn, home_at}
 use Rattle.tree_laws.specs.Turns.{turns}
 use Rattle.tree_laws.proofs.AptApplied.{applied_decides, decides_of}
-use Rattle.tree_laws.proofs.AptOfTree.{ByClient, ByCoordinator, Kept, OfTree, Other, OwnAck, OwnNote, OwnRoot, OwnSub, ack_home, client_leaves, coordinator_leaves, kept_leaves, note_at, of_tree, other_leaves, root_home}
+use Rattle.tree_laws.proofs.AptOfTree.{ByClient, ByCoordinator, IsOther, Kept, OfTree, Other, OwnAck, OwnNote, OwnRoot, OwnSub, client_leaves, coordinator_leaves, kept_leaves, of_tree, other_leaves}
 use Rattle.tree_laws.proofs.AptRulings.{RowRules, Rules, client_acts, core_rules, keeping_acts, ruled_acts, rulings_no_keeping}
-use Rattle.tree_laws.proofs.AptStagesOwn.{Doing, asked, home_here, notes_here, sub_of_node, turned_here}
-use Rattle.tree_laws.proofs.AptStagesRun.{IsOther, stages_of_trees}
-use Rattle.tree_laws.proofs.AptStagesSteps.{Beside, does_beside, told}
-use Rattle.tree_laws.proofs.AptTurns.{no_turn_yet}
+use Rattle.tree_laws.proofs.AptStagesOwn.{Doing, ack_home, home_here, note_at, note_waits, root_home, root_unturned, turned_here}
+use Rattle.tree_laws.proofs.AptStagesRun.{stages_of_trees}
+use Rattle.tree_laws.proofs.AptStagesSteps.{Beside, does_beside}
 use Rattle.tree_laws.proofs.Staging.{told_one}
 
 -- how often a tree was decided on, and how often it is by these acts
@@ -172,20 +170,12 @@ own_once s past e p t r g at its none root =
     (omega (arith, ruled_here s past e p r t.0 true g.does rules, ruled_here s past e p r t.0 false g.does rules))
 
 -- a root
-pub root_undecided : (s : ScriptData) (past : List Entry) (e : Entry) (p : ℕ) (t : TreeNo) (r : Letter) → Doing s past e p r → r.body ≡ Root t
-    → turns past t.0 0 ≡ 0
-root_undecided s past e p t r g is =
-    let here = root_home s past e p t r g is in
-    let sub : SubAt s t.0 0 = sub_of_node s p t.0 0 (sym here) g.does.brings.below in
-    let one : asks t.0 0 r.body ≡ 1 = ap (asks t.0 0) is ∙ told_one t.0 0 0 refl in
-    no_turn_yet s past t.0 0 sub g.valid g.apt.1 g.run.1 (asked s past e p t.0 0 r g one)
-
 root_once : (s : ScriptData) (past : List Entry) (e : Entry) (p : ℕ) (t : TreeNo) (r : Letter) → Doing s past e p r → r.body ≡ Root t
     → Once s past t.0 → Once s (e ∷ past) t.0
 root_once s past e p t r g is o =
     let one : asks t.0 0 r.body ≡ 1 = ap (asks t.0 0) is ∙ told_one t.0 0 0 refl in
     own_once s past e p t r g (root_home s past e p t r g is) (λ u its. subst (λ (b : Body). Rules u b) is its)
-    (o.unborn (root_undecided s past e p t r g is)) (omega (arith, turned_here s past e p t.0 0 r g, one))
+    (o.unborn (root_unturned s past e p t r g is)) (omega (arith, turned_here s past e p t.0 0 r g, one))
 
 -- a notice: its tree gathers
 pub data GathersNow (s : ScriptData) (past : List Entry) (t : ℕ) : Type 0 where
@@ -200,15 +190,7 @@ gathers_by s past t k some (Answered it) = absurd (omega (arith, some, it.all.no
 pub note_gathers : (s : ScriptData) (past : List Entry) (e : Entry) (p : ℕ) (t : TreeNo) (k : SubNo) (v : Version) (notice : Notice) (r : Letter)
     → Doing s past e p r → r.body ≡ Done t k v notice → t.0 < length s.trees → GathersNow s past t.0
 note_gathers s past e p t k v notice r g is lt =
-    gathers_by s past t.0 k.0
-    (omega (
-      arith,
-      notes_here s past e p t.0 k.0 r g,
-      ap (tells_done t.0 k.0) is,
-      ap (told t.0 k.0) is,
-      told_one t.0 k.0 k.0 refl,
-    ))
-    (stages_of_trees s past g.valid g.apt.1 g.run.1 t.0 lt)
+    gathers_by s past t.0 k.0 (note_waits s past e p t k v notice r g is) (stages_of_trees s past g.valid g.apt.1 g.run.1 t.0 lt)
 
 note_by : (s : ScriptData) (past : List Entry) (e : Entry) (p : ℕ) (t : TreeNo) (k : SubNo) (v : Version) (notice : Notice) (r : Letter)
     → Doing s past e p r → r.body ≡ Done t k v notice → Once s past t.0 → GathersNow s past t.0 → Once s (e ∷ past) t.0
@@ -259,7 +241,7 @@ next_once s past e w valid apt run lt (OwnAck p t v r g is same) =
 pub once_in_run : (s : ScriptData) (past : List Entry) (t : ℕ) → IsValid s → AllApt s past → IsStepRun s past → t < length s.trees → Once s past t
 once_in_run s [] t valid apt run lt = record { unborn = λ is. refl; opened = λ h at. refl; once = omega arith }
 once_in_run s (e ∷ past) t valid apt run lt =
-    next_once s past e t valid apt run lt (of_tree s past e t valid apt run) (once_in_run s past t valid apt.1 run.1 lt)
+    next_once s past e t valid apt run lt (of_tree s past e t valid apt run (λ w less. stages_of_trees s past valid apt.1 run.1 w less)) (once_in_run s past t valid apt.1 run.1 lt)
 
 pub decided_once : DecidedOnce
 decided_once s past t valid apt run lt = (once_in_run s past t valid apt run lt).once

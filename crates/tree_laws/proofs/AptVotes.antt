@@ -22,7 +22,6 @@ use Rattle.tree_home.specs.HeldAnswers.{answer_when_acked, held_in, last_answer}
 use Rattle.tree_home.specs.Homes.{misses}
 use Rattle.tree_home.specs.declared.homes.Answered.{Answered as AnsweredTree}
 use Rattle.tree_home.specs.declared.homes.Held.{Held}
-use Rattle.tree_home.specs.declared.homes.OpenTree.{OpenTree}
 use Rattle.tx_trees.specs.ScriptData.{ScriptData, home_of, subs_at}
 use Rattle.tx_trees.specs.Valid.{IsValid}
 use Rattle.world_model.specs.declared.refusal.Refusal.{Refusal}
@@ -37,25 +36,24 @@ use Rattle.world_model.proofs.Cases.{Keeps, does_number, keeps_number}
 use Rattle.world_model.proofs.Keepings.{of_kept}
 use Rattle.world_model.proofs.Orders.{no_acts}
 use Rattle.world_model.proofs.Outstanding.{done_apart, keeping_elsewhere, took_outstanding}
-use Rattle.world_model.proofs.Scripts.{SubAt, get_below, sub_here, sub_there, tree_below}
+use Rattle.world_model.proofs.Scripts.{SubAt, get_below, sub_here}
 use Rattle.world_model.proofs.Sends.{on}
 use Rattle.tree_laws.specs.Applied.{DecidedByVotes, decided_as, decides_as, noes, votes_no}
-use Rattle.tree_laws.specs.Dids.{answers, asks, notices, replies_to, tells_done}
-use Rattle.tree_laws.specs.Stages.{IsGathering, StageAt, Answered, Gathers, Holds, Unborn, home_at}
+use Rattle.tree_laws.specs.Dids.{answers, asks, replies_to, tells_done}
+use Rattle.tree_laws.specs.Stages.{StageAt, Answered, Gathers, Holds, Unborn, home_at}
 use Rattle.tree_laws.specs.Turns.{turns}
-use Rattle.tree_laws.proofs.AptDecided.{GathersNow, Now, Once, ack_decides, decided_any, decides_any, kept_decides, note_gathers, once_in_run, other_decides, root_undecided, ruled_here, sub_decides}
+use Rattle.tree_laws.proofs.AptDecided.{GathersNow, Now, Once, ack_decides, decided_any, decides_any, kept_decides, note_gathers, once_in_run, other_decides, ruled_here, sub_decides}
 use Rattle.tree_laws.proofs.AptApplied.{decides_of}
-use Rattle.tree_laws.proofs.AptOfTree.{ByClient, ByCoordinator, Kept, NoteAt, OfTree, Other, OwnAck, OwnNote, OwnRoot, OwnSub, ack_home, note_at, of_tree, root_home, sub_place}
+use Rattle.tree_laws.proofs.AptOfTree.{ByClient, ByCoordinator, IsOther, Kept, OfTree, Other, OwnAck, OwnNote, OwnRoot, OwnSub, decided_names, of_tree}
 use Rattle.tree_laws.proofs.AptRulings.{CountsNoKeeping, RowRules, Rules, client_acts, core_rules, keeping_acts, ruled_acts}
 use Rattle.tree_laws.proofs.AptStagesApart.{CountsNoOthers, NoneMisplaced, client_none, coordinator_none, misplaced, none_misplaced, orders_none}
-use Rattle.tree_laws.proofs.AptStagesOwn.{Doing, asked, home_here, notes_here, sub_of_node, turned_here}
-use Rattle.tree_laws.proofs.AptStagesRun.{IsOther, decided_names, stages_of_trees}
-use Rattle.tree_laws.proofs.AptStagesSteps.{CountsNoAsking, done_flow, sent_by, told}
+use Rattle.tree_laws.proofs.AptStagesOwn.{Doing, NoteAt, ack_home, asked, home_here, note_at, note_missed, root_home, root_unturned, sub_of_node, sub_place, turned_here, unborn_by}
+use Rattle.tree_laws.proofs.AptStagesRun.{stages_of_trees}
+use Rattle.tree_laws.proofs.AptStagesSteps.{CountsNoAsking, done_flow, sent_by}
 use Rattle.tree_laws.proofs.AptSteps.{home_node, outside}
-use Rattle.tree_laws.proofs.AptTurns.{no_turn_yet, turns_at_most_once}
+use Rattle.tree_laws.proofs.AptTurns.{no_turn_yet}
 use Rattle.tree_laws.proofs.AptVotesRows.{RowVotes, core_votes, is_no, no_for, no_told, refusal_after, tells_no}
 use Rattle.tree_laws.proofs.Answering.{one_here}
-use Rattle.tree_laws.proofs.Stages.{missing_at}
 use Rattle.tree_laws.proofs.Staging.{told_one}
 
 -- the noes of tree t in flight to its home, and the no that its home keeps in mind
@@ -70,14 +68,14 @@ abbrev pub KeepsNo : Option Refusal → ℕ → ℕ → Type 0
 KeepsNo None cast flying = cast ≡ flying
 KeepsNo (Some r) cast flying = flying + 1 ≤ cast
 
-keeps_on : (o : Option Refusal) (cast flying cast2 flying2 : ℕ) → cast2 + flying ≡ cast + flying2 → KeepsNo o cast flying → KeepsNo o cast2 flying2
-keeps_on None cast flying cast2 flying2 same it = omega (arith, same, it)
-keeps_on (Some r) cast flying cast2 flying2 same it = omega (arith, same, it)
+keeps_on : (o : Option Refusal) (cast flying cast_now flying_now : ℕ) → cast_now + flying ≡ cast + flying_now → KeepsNo o cast flying → KeepsNo o cast_now flying_now
+keeps_on None cast flying cast_now flying_now same it = omega (arith, same, it)
+keeps_on (Some r) cast flying cast_now flying_now same it = omega (arith, same, it)
 
-keeps_new : (o : Option Refusal) (cast flying cast2 flying2 : ℕ) → cast2 + flying ≡ cast + flying2 + 1 → KeepsNo o cast flying
-    → flying2 + 1 ≤ cast2
-keeps_new None cast flying cast2 flying2 more it = omega (arith, more, it)
-keeps_new (Some r) cast flying cast2 flying2 more it = omega (arith, more, it)
+keeps_new : (o : Option Refusal) (cast flying cast_now flying_now : ℕ) → cast_now + flying ≡ cast + flying_now + 1 → KeepsNo o cast flying
+    → flying_now + 1 ≤ cast_now
+keeps_new None cast flying cast_now flying_now more it = omega (arith, more, it)
+keeps_new (Some r) cast flying cast_now flying_now more it = omega (arith, more, it)
 
 -- what holds of a tree's votes: until it is answered its home keeps a no in mind exactly where one has come, and it was
 -- decided on by that
@@ -375,32 +373,26 @@ refusal_here : (s : ScriptData) (past : List Entry) (e : Entry) (p : ℕ) (t : �
 refusal_here s past e p t o at is = subst (λ (q : ℕ). (keeping_in s (e ∷ past) q).core.refusals t ≡ o) at is
 
 -- A root: its vote is taken down at once.
-root_keeps : (t : TreeNo) (notice : Notice) (rs : Refusals) (cast flying cast2 flying2 : ℕ) → cast2 ≡ cast + is_no t.0 notice t.0
-    → flying2 ≡ flying → KeepsNo (rs t.0) cast flying → KeepsNo (refused_by t (record { 0 = 0 }) notice rs t.0) cast2 flying2
-root_keeps t (No cause) rs cast flying cast2 flying2 more same it =
+root_keeps : (t : TreeNo) (notice : Notice) (rs : Refusals) (cast flying cast_now flying_now : ℕ) → cast_now ≡ cast + is_no t.0 notice t.0
+    → flying_now ≡ flying → KeepsNo (rs t.0) cast flying → KeepsNo (refused_by t (record { 0 = 0 }) notice rs t.0) cast_now flying_now
+root_keeps t (No cause) rs cast flying cast_now flying_now more same it =
     let kept : Option Refusal = Some (lesser (rs t.0) (record { sub = record { 0 = 0 }; cause = cause })) in
-    subst (λ (o : Option Refusal). KeepsNo o cast2 flying2) (sym (put_at-same t.0 kept rs))
-    (keeps_new (rs t.0) cast flying cast2 flying2 (omega (arith, more, same, one_here t.0 t.0 refl)) it)
-root_keeps t (Yes values) rs cast flying cast2 flying2 more same it =
-    keeps_on (rs t.0) cast flying cast2 flying2 (omega (arith, more, same)) it
-root_keeps t (DidNotice values) rs cast flying cast2 flying2 more same it =
-    keeps_on (rs t.0) cast flying cast2 flying2 (omega (arith, more, same)) it
-
-unborn_silent : (s : ScriptData) (past : List Entry) (t : ℕ) → turns past t 0 ≡ 0 → 0 < length (subs_at s t) → StageAt s past t → answers past t ≡ 0
-unborn_silent s past t none lt (Unborn u) = u.answers
-unborn_silent s past t none lt (Gathers h it) = it.answers
-unborn_silent s past t none lt (Holds h it) = it.answers
-unborn_silent s past t none lt (Answered it) = absurd (omega (arith, none, it.all.turned 0 lt))
+    subst (λ (o : Option Refusal). KeepsNo o cast_now flying_now) (sym (put_at-same t.0 kept rs))
+    (keeps_new (rs t.0) cast flying cast_now flying_now (omega (arith, more, same, one_here t.0 t.0 refl)) it)
+root_keeps t (Yes values) rs cast flying cast_now flying_now more same it =
+    keeps_on (rs t.0) cast flying cast_now flying_now (omega (arith, more, same)) it
+root_keeps t (DidNotice values) rs cast flying cast_now flying_now more same it =
+    keeps_on (rs t.0) cast flying cast_now flying_now (omega (arith, more, same)) it
 
 root_votes : (s : ScriptData) (past : List Entry) (e : Entry) (p : ℕ) (t : TreeNo) (r : Letter) → Doing s past e p r → r.body ≡ Root t
     → t.0 < length s.trees → Votes s past t.0 → Votes s (e ∷ past) t.0
 root_votes s past e p t r g is lt v =
     let c : Core = (keeping_in s past p).core in
     let at : p ≡ home_of s t.0 = root_home s past e p t r g is in
-    let none : turns past t.0 0 ≡ 0 = root_undecided s past e p t r g is in
+    let none : turns past t.0 0 ≡ 0 = root_unturned s past e p t r g is in
     let sub : SubAt s t.0 0 = sub_of_node s p t.0 0 (sym at) g.does.brings.below in
     let first : 0 < length (subs_at s t.0) = get_below (subs_at s t.0) 0 sub.sub (sub_here s t.0 0 sub) in
-    let silent : answers past t.0 ≡ 0 = unborn_silent s past t.0 none first (stages_of_trees s past g.valid g.apt.1 g.run.1 t.0 lt) in
+    let silent : answers past t.0 ≡ 0 = (unborn_by s past t.0 sub none first (stages_of_trees s past g.valid g.apt.1 g.run.1 t.0 lt)).answers in
     let k : Casts s past e p t.0 r = casts s past e p t.0 r g in
     let now : refusal_at s (e ∷ past) t.0 ≡ refused_by t (record { 0 = 0 }) k.notice c.refusals t.0 =
     refusal_here s past e p t.0 (refused_by t (record { 0 = 0 }) k.notice c.refusals t.0) at
@@ -464,47 +456,27 @@ sub_votes s past e p t k x r g is lt v =
     }
 
 -- A notice: its no is taken down.
-there_keeps : (s : ScriptData) (t : TreeNo) (k : SubNo) (notice : Notice) (c : Core) (strict : Bool) (cast flying cast2 flying2 : ℕ)
-    → suits strict notice ≡ true → misses t k c.node.homes ≡ true → cast2 ≡ cast → flying2 + is_no t.0 notice t.0 ≡ flying
+there_keeps : (s : ScriptData) (t : TreeNo) (k : SubNo) (notice : Notice) (c : Core) (strict : Bool) (cast flying cast_now flying_now : ℕ)
+    → suits strict notice ≡ true → misses t k c.node.homes ≡ true → cast_now ≡ cast → flying_now + is_no t.0 notice t.0 ≡ flying
     → KeepsNo (c.refusals t.0) cast flying
-    → KeepsNo (if strict then refused_there t k notice c t.0 else c.refusals t.0) cast2 flying2
-there_keeps s t k notice c false cast flying cast2 flying2 fits miss same less it = plain notice fits less where
-  plain : (n : Notice) → suits false n ≡ true → flying2 + is_no t.0 n t.0 ≡ flying → KeepsNo (c.refusals t.0) cast2 flying2
+    → KeepsNo (if strict then refused_there t k notice c t.0 else c.refusals t.0) cast_now flying_now
+there_keeps s t k notice c false cast flying cast_now flying_now fits miss same less it = plain notice fits less where
+  plain : (n : Notice) → suits false n ≡ true → flying_now + is_no t.0 n t.0 ≡ flying → KeepsNo (c.refusals t.0) cast_now flying_now
   plain (No cause) suit fewer = absurd (cc suit)
   plain (Yes values) suit fewer = absurd (cc suit)
-  plain (DidNotice values) suit fewer = keeps_on (c.refusals t.0) cast flying cast2 flying2 (omega (arith, same, fewer)) it
-there_keeps s t k notice c true cast flying cast2 flying2 fits miss same less it =
-    subst (λ (rs : Refusals). KeepsNo (rs t.0) cast2 flying2) (sym taken) (strict notice less) where
+  plain (DidNotice values) suit fewer = keeps_on (c.refusals t.0) cast flying cast_now flying_now (omega (arith, same, fewer)) it
+there_keeps s t k notice c true cast flying cast_now flying_now fits miss same less it =
+    subst (λ (rs : Refusals). KeepsNo (rs t.0) cast_now flying_now) (sym taken) (strict notice less) where
       taken : refused_there t k notice c ≡ refused_by t k notice c.refusals
       taken = rw miss refl
 
-      strict : (n : Notice) → flying2 + is_no t.0 n t.0 ≡ flying → KeepsNo (refused_by t k n c.refusals t.0) cast2 flying2
+      strict : (n : Notice) → flying_now + is_no t.0 n t.0 ≡ flying → KeepsNo (refused_by t k n c.refusals t.0) cast_now flying_now
       strict (No cause) fewer =
           let kept : Option Refusal = Some (lesser (c.refusals t.0) (record { sub = k; cause = cause })) in
-          subst (λ (o : Option Refusal). KeepsNo o cast2 flying2) (sym (put_at-same t.0 kept c.refusals))
-          (keeps_new (c.refusals t.0) cast flying cast2 flying2 (omega (arith, same, fewer, one_here t.0 t.0 refl)) it)
-      strict (Yes values) fewer = keeps_on (c.refusals t.0) cast flying cast2 flying2 (omega (arith, same, fewer)) it
-      strict (DidNotice values) fewer = keeps_on (c.refusals t.0) cast flying cast2 flying2 (omega (arith, same, fewer)) it
-
-note_missed : (s : ScriptData) (past : List Entry) (e : Entry) (p : ℕ) (t : TreeNo) (k : SubNo) (x : Version) (notice : Notice) (r : Letter) (h : OpenTree)
-    → Doing s past e p r → r.body ≡ Done t k x notice → NoteAt s p t k notice → IsGathering s past t.0 h
-    → misses t k (keeping_in s past p).core.node.homes ≡ true
-note_missed s past e p t k x notice r h g is n it =
-    let c : Core = (keeping_in s past p).core in
-    let root : SubAt s t.0 0 = sub_of_node s p t.0 0 (sym n.home) g.does.brings.below in
-    let sub : SubAt s t.0 k.0 = sub_there s t.0 k.0 (tree_below s t.0 0 root) n.below in
-    let most = turns_at_most_once s past t.0 k.0 sub g.valid g.apt.1 g.run.1 in
-    let opened : c.node.homes t.0 ≡ Some h = ap (λ (q : ℕ). (keeping_in s past q).core.node.homes t.0) n.home ∙ it.home in
-    let some : 1 ≤ notices s past t.0 k.0 =
-    omega (
-      arith,
-      notes_here s past e p t.0 k.0 r g,
-      ap (tells_done t.0 k.0) is,
-      ap (told t.0 k.0) is,
-      told_one t.0 k.0 k.0 refl,
-    ) in
-    let place = n.below in
-    rw opened (missing_at h.notices k.0 (omega (arith, it.places, place)) (omega (arith, it.notes k.0 place, some, most)))
+          subst (λ (o : Option Refusal). KeepsNo o cast_now flying_now) (sym (put_at-same t.0 kept c.refusals))
+          (keeps_new (c.refusals t.0) cast flying cast_now flying_now (omega (arith, same, fewer, one_here t.0 t.0 refl)) it)
+      strict (Yes values) fewer = keeps_on (c.refusals t.0) cast flying cast_now flying_now (omega (arith, same, fewer)) it
+      strict (DidNotice values) fewer = keeps_on (c.refusals t.0) cast flying cast_now flying_now (omega (arith, same, fewer)) it
 
 note_votes : (s : ScriptData) (past : List Entry) (e : Entry) (p : ℕ) (t : TreeNo) (k : SubNo) (x : Version) (notice : Notice) (r : Letter)
     → Doing s past e p r → r.body ≡ Done t k x notice → t.0 < length s.trees → GathersNow s past t.0 → Votes s past t.0 → Votes s (e ∷ past) t.0
@@ -523,7 +495,7 @@ note_votes s past e p t k x notice r g is lt (Now h it) v =
       undecided = (once_in_run s past t.0 g.valid g.apt.1 g.run.1 lt).opened h it.home;
       keeps = subst (λ (o : Option Refusal). KeepsNo o (noes (e ∷ past) t.0) (refusing s (e ∷ past) t.0)) (sym now)
           (there_keeps s t k notice c (is_strict_at s t.0) (noes past t.0) (refusing s past t.0) (noes (e ∷ past) t.0) (refusing s (e ∷ past) t.0)
-          n.suits (note_missed s past e p t k x notice r h g is n it)
+          n.suits (note_missed s past e p t k x notice r h g is n.home n.below it)
           (omega (arith, b.cast, ap (no_for t.0 b.notice) is))
           (omega (arith, b.flying, ap (tells_no t.0) is, ap (no_told t.0 b.notice) is))
           (subst (λ (o : Option Refusal). KeepsNo o (noes past t.0) (refusing s past t.0)) (sym before) (v.keeps it.answers)));
@@ -612,7 +584,7 @@ votes_in_run s [] t valid apt run lt = record {
   aborts = λ some. absurd (omega (arith, some));
 }
 votes_in_run s (e ∷ past) t valid apt run lt =
-    next_votes s past e t valid apt run lt (of_tree s past e t valid apt run) (votes_in_run s past t valid apt.1 run.1 lt)
+    next_votes s past e t valid apt run lt (of_tree s past e t valid apt run (λ w less. stages_of_trees s past valid apt.1 run.1 w less)) (votes_in_run s past t valid apt.1 run.1 lt)
 
 pub decided_by_votes : DecidedByVotes
 decided_by_votes s past t valid apt run lt = let v = votes_in_run s past t valid apt run lt in (v.commits, v.aborts)

@@ -50,11 +50,11 @@ pub mod AptStagesRows
 pub mod AptStagesSteps
 pub mod AptStagesOwn
 pub mod AptStagesApart
+pub mod AptOfTree
 pub mod AptStagesRun
 pub mod AptLawful
 pub mod AptRulings
 pub mod AptApplied
-pub mod AptOfTree
 pub mod AptDecided
 pub mod AptVotesRows
 pub mod AptVotes
