@@ -256,7 +256,7 @@ does_even : (s : ScriptData) (past : List Entry) (e : Entry) (p : ℕ) (r : Lett
 does_even s past e p r t b q lt is d =
     let c : Core = (keeping_in s past p).core in
     let row : Out Core = core_row s p c r.from.0 r.body in
-    let rules : RowRules s r.body row = core_rules s p r.from.0 r.body c in
+    let rules : RowRules s c r.body row = core_rules s p r.from.0 r.body c in
     let more : List Outgoing = wakes (wakes_by r.body) (kept_without (kept_in s past p) e.took.body) in
     let applies : tally (applies_as t b) e.acts ≡ tells_decision t b r.body =
     omega (

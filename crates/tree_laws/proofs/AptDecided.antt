@@ -76,7 +76,7 @@ ruled_other rs (Some a) t ne =
 
 -- the acts of an entry that does a letter
 pub ruled_here : (s : ScriptData) (past : List Entry) (e : Entry) (p : ℕ) (r : Letter) (t : ℕ) (b : Bool) → (d : Does s past e p r)
-    → (rules : RowRules s r.body (core_row s p (keeping_in s past p).core r.from.0 r.body))
+    → (rules : RowRules s (keeping_in s past p).core r.body (core_row s p (keeping_in s past p).core r.from.0 r.body))
     → tally (decides_as t b) e.acts
     ≡ tally (decides_as t b) (ruled_acts (core_row s p (keeping_in s past p).core r.from.0 r.body).state.refusals rules.found)
 ruled_here s past e p r t b d rules =
@@ -99,7 +99,7 @@ pub other_decides : (s : ScriptData) (past : List Entry) (e : Entry) (p w : ℕ)
 other_decides s past e p w r g it =
     let c : Core = (keeping_in s past p).core in
     let row : Out Core = core_row s p c r.from.0 r.body in
-    let rules : RowRules s r.body row = core_rules s p r.from.0 r.body c in
+    let rules : RowRules s c r.body row = core_rules s p r.from.0 r.body c in
     omega (
       arith,
       ruled_here s past e p r w true g.does rules,
@@ -113,7 +113,7 @@ ruled_never : (s : ScriptData) (past : List Entry) (e : Entry) (p w : ℕ) (r : 
 ruled_never s past e p w r g never =
     let c : Core = (keeping_in s past p).core in
     let row : Out Core = core_row s p c r.from.0 r.body in
-    let rules : RowRules s r.body row = core_rules s p r.from.0 r.body c in
+    let rules : RowRules s c r.body row = core_rules s p r.from.0 r.body c in
     omega (
       arith,
       ruled_here s past e p r w true g.does rules,
@@ -165,7 +165,7 @@ own_once : (s : ScriptData) (past : List Entry) (e : Entry) (p : ℕ) (t : TreeN
     → ((u : TreeNo) → Rules u r.body → u ≡ t) → decided_any past t.0 ≡ 0 → 1 ≤ turns (e ∷ past) t.0 0 → Once s (e ∷ past) t.0
 own_once s past e p t r g at its none root =
     let c : Core = (keeping_in s past p).core in
-    let rules : RowRules s r.body (core_row s p c r.from.0 r.body) = core_rules s p r.from.0 r.body c in
+    let rules : RowRules s c r.body (core_row s p c r.from.0 r.body) = core_rules s p r.from.0 r.body c in
     own_by s past e p t r rules.found g at none root (λ a is. its a.tree (rules.rules a is)) rules.gone
     (omega (arith, ruled_here s past e p r t.0 true g.does rules, ruled_here s past e p r t.0 false g.does rules))
 

@@ -357,7 +357,7 @@ own_votes : (s : ScriptData) (past : List Entry) (e : Entry) (p : ℕ) (t : Tree
     → Votes s (e ∷ past) t.0
 own_votes s past e p t r g own =
     let c : Core = (keeping_in s past p).core in
-    let rules : RowRules s r.body (core_row s p c r.from.0 r.body) = core_rules s p r.from.0 r.body c in
+    let rules : RowRules s c r.body (core_row s p c r.from.0 r.body) = core_rules s p r.from.0 r.body c in
     own_by s past e p t r rules.found g own (λ a is. own.rules a.tree (rules.rules a is)) rules.gone
     (λ b. ruled_here s past e p r t.0 b g.does rules)
 
