@@ -16,7 +16,7 @@ use Rattle.letter_types.specs.declared.entries.Letter.{Letter}
 use Rattle.tree_home.specs.HeldAnswers.{HeldAnswers}
 use Rattle.tree_home.specs.declared.homes.Answered.{Answered as AnsweredTree}
 use Rattle.tree_home.specs.declared.homes.OpenTree.{OpenTree}
-use Rattle.tx_trees.specs.ScriptData.{ScriptData, home_of, subs_at}
+use Rattle.tx_trees.specs.ScriptData.{ScriptData, home_of, subs_at, visits}
 use Rattle.tx_trees.specs.Valid.{IsValid}
 use Rattle.world_model.specs.AllApt.{AllApt}
 use Rattle.world_model.specs.Core.{Core, Refusals}
@@ -27,11 +27,11 @@ use Rattle.world_model.specs.Strict.{CoreKeeping, core_row, none_refuses}
 use Rattle.world_model.proofs.Cases.{Does, Keeps}
 use Rattle.world_model.proofs.Orders.{no_acts}
 use Rattle.world_model.proofs.Scripts.{SubAt, get_below, sub_here}
-use Rattle.tree_laws.specs.Applied.{DecidedOnce, decided_as, decides_as}
+use Rattle.tree_laws.specs.Applied.{DecidedOnce, applied_at, decided_as, decides_as}
 use Rattle.tree_laws.specs.Dids.{answers, asks, notices}
-use Rattle.tree_laws.specs.Stages.{IsGathering, StageAt, Answered, Gathers, Holds, Unborn, home_at}
+use Rattle.tree_laws.specs.Stages.{IsGathering, StageAt, Answered, Gathers, Holds, Unborn, home_at, decisions}
 use Rattle.tree_laws.specs.Turns.{has_turn, turns}
-use Rattle.tree_laws.proofs.AptApplied.{applied_decides, decides_of}
+use Rattle.tree_laws.proofs.AptApplied.{applied_decides, applied_where_decided, decides_of, none_under_way}
 use Rattle.tree_laws.proofs.AptOfTree.{ByClient, ByCoordinator, IsOther, Kept, OfTree, Other, OwnAck, OwnNote, OwnRoot, OwnSub, client_leaves, coordinator_leaves, kept_leaves, of_tree, other_leaves}
 use Rattle.tree_laws.proofs.AptRulings.{BringsMissed, RowRules, Rules, client_acts, core_rules, keeping_acts, ruled_acts, rulings_no_keeping}
 use Rattle.tree_laws.proofs.AptStages.{Leaves}
@@ -309,6 +309,27 @@ decided_when_answered s past t valid apt run lt strict some =
     let first : 0 < length (subs_at s t) = get_below (subs_at s t) 0 sub.sub (sub_here s t 0 sub) in
     let over = answered_closed s past t some first (stages_of_trees s past valid apt run t lt) in
     decided_when_closed s past t valid apt run lt strict over.0 over.1
+
+-- and what was decided was applied once at each node that the tree visits
+answered_over : (s : ScriptData) (past : List Entry) (t : ℕ) → 1 ≤ answers past t → StageAt s past t → decisions s past t ≡ 0
+answered_over s past t some (Unborn u) = absurd (omega (arith, some, u.answers))
+answered_over s past t some (Gathers h g) = absurd (omega (arith, some, g.answers))
+answered_over s past t some (Holds h g) = absurd (omega (arith, some, g.answers))
+answered_over s past t some (Answered a) = a.decisions
+
+pub applied_when_answered : (s : ScriptData) (past : List Entry) (t q : ℕ) → IsValid s → AllApt s past → IsStepRun s past → t < length s.trees
+    → is_strict_at s t ≡ true → 1 ≤ answers past t → q < s.nodes → visits (subs_at s t) q ≡ true
+    → applied_at past t true q + applied_at past t false q ≡ 1
+applied_when_answered s past t q valid apt run lt strict some below is =
+    let over = answered_over s past t some (stages_of_trees s past valid apt run t lt) in
+    omega (
+      arith,
+      decided_when_answered s past t valid apt run lt strict some,
+      applied_where_decided s past t q true valid apt run lt below is,
+      applied_where_decided s past t q false valid apt run lt below is,
+      none_under_way s past t true q over,
+      none_under_way s past t false q over,
+    )
 
 -- and no other tree is decided on
 pub strict_if_decided : (s : ScriptData) (past : List Entry) (t : ℕ) → IsValid s → AllApt s past → IsStepRun s past → t < length s.trees
