@@ -1,6 +1,6 @@
 -- In runs of apt letters, of every script: at each node that a strict tree visits its decision was applied, or is on its
 -- way there, as often as it was made.
-use Rattle.std.proofs.Common.{◌≡◌, ◌≢◌, ◌⊎◌, inl, inr, ℕ, zero, suc, ◌+◌, ◌<◌, ◌≤◌, ◌==◌, ◌&&◌, Bool, true, false, not, List, [], ◌∷◌, ◌++◌, length, refl, sym, ap, subst, ◌∙◌, arith, Option, Some, None}
+use Rattle.std.proofs.Common.{◌≡◌, ◌≢◌, ◌⊎◌, inl, inr, ℕ, zero, suc, ◌+◌, ◌<◌, ◌≤◌, ◌==◌, ◌&&◌, Bool, true, false, not, List, [], ◌∷◌, refl, sym, ap, subst, ◌∙◌, arith, Option, Some, None}
 use Rattle.std.specs.Prelude.{if◌then◌else◌}
 use Rattle.std.proofs.lemmas.Bool.{cases_eq}
 use Rattle.std.proofs.lemmas.Bool.Decides.{nat_tests}
@@ -17,22 +17,20 @@ use Rattle.letter_types.specs.declared.entries.Letter.{Letter}
 use Rattle.letter_types.specs.declared.entries.Outgoing.{Outgoing}
 use Rattle.tree_home.specs.declared.homes.Answered.{Answered}
 use Rattle.tx_trees.specs.ScriptData.{ScriptData, client_of, subs_at, visited, visited_by, visits}
-use Rattle.tx_trees.specs.Valid.{IsValid}
 use Rattle.tx_trees.specs.declared.parts.Sub.{Sub}
-use Rattle.world_model.specs.AllApt.{AllApt}
 use Rattle.world_model.specs.Core.{Core, Refusals}
 use Rattle.world_model.specs.Counts.{one_if, tally}
 use Rattle.world_model.specs.Kept.{kept_by, kept_in, of_done, outstanding}
-use Rattle.world_model.specs.Runs.{IsStepRun, MayFollow, client_in, coordinator_in, in_flight, keeping_in}
+use Rattle.world_model.specs.Runs.{MayFollow, client_in, coordinator_in, in_flight, keeping_in}
 use Rattle.world_model.specs.Strict.{CoreKeeping, core_row, none_refuses, to_each}
-use Rattle.world_model.specs.Tables.{client_table, coordinator_table}
-use Rattle.world_model.proofs.Bags.{sealed_tally, tally-append}
+use Rattle.world_model.proofs.Bags.{one_if_most, sealed_tally, tally-append}
 use Rattle.world_model.proofs.Cases.{Case, Coordinates, Does, Keeps, NodeDoes, NodeKeeps, Submits, case, does_number, keeps_number}
 use Rattle.world_model.proofs.Orders.{no_acts}
 use Rattle.world_model.proofs.Outstanding.{done_apart, outstanding_step}
 use Rattle.world_model.proofs.Sends.{on}
-use Rattle.tree_laws.specs.Applied.{AppliedWhereDecided, applied_at, applies_as, decided_as, decides_as, decisions_to, tells_decision}
-use Rattle.tree_laws.proofs.AptRulings.{OfDecides, OfRulings, RowRules, applied_acts, client_acts, core_rules, is_decide, is_ruling, keeping_acts, ruled_acts, ruled_letters, rulings_no_keeping}
+use Rattle.tree_laws.specs.Applied.{AppliedWhereDecided, applies_as, decides_as, decisions_to, tells_decision}
+use Rattle.tree_laws.specs.Stages.{decides, decisions}
+use Rattle.tree_laws.proofs.AptRulings.{OfDecides, OfRulings, RowRules, applied_acts, client_acts, core_rules, is_decide, keeping_acts, ruled_acts, ruled_letters, rulings_no_keeping}
 use Rattle.tree_laws.proofs.AptStagesApart.{CountsNoOthers, client_none, coordinator_none, orders_none}
 use Rattle.tree_laws.proofs.AptStagesSteps.{CountsNoAsking, kept_by_zero}
 use Rattle.tree_laws.proofs.AptSteps.{wakes_none}
@@ -259,7 +257,7 @@ does_even : (s : ScriptData) (past : List Entry) (e : Entry) (p : ℕ) (r : Lett
 does_even s past e p r t b q lt is d =
     let c : Core = (keeping_in s past p).core in
     let row : Out Core = core_row s p c r.from.0 r.body in
-    let rules : RowRules s r.body row = core_rules s p r.from.0 r.body c in
+    let rules : RowRules s c r.body row = core_rules s p r.from.0 r.body c in
     let more : List Outgoing = wakes (wakes_by r.body) (kept_without (kept_in s past p) e.took.body) in
     let applies : tally (applies_as t b) e.acts ≡ tells_decision t b r.body =
     omega (
@@ -337,4 +335,26 @@ applied_where_decided s (e ∷ past) t q b valid apt run lt below is =
       told_flow s past e t b q run.0,
       even.applied,
       even.told,
+    )
+
+-- Where no letter of a tree's decision is in flight, none goes to a node.
+less_and : (x y : Bool) → one_if (x && y) ≤ one_if x
+less_and true y = one_if_most y
+less_and false y = omega arith
+
+tells_less : (t : ℕ) (b : Bool) (body : Body) → tells_decision t b body ≤ decides t body
+tells_less t true (Decide u v commit) = less_and (u.0 == t) commit
+tells_less t false (Decide u v commit) = less_and (u.0 == t) (not commit)
+tells_less t true Go = omega arith
+tells_less t false Go = omega arith
+tells_less t true _ = omega arith
+tells_less t false _ = omega arith
+
+pub none_under_way : (s : ScriptData) (past : List Entry) (t : ℕ) (b : Bool) (q : ℕ) → decisions s past t ≡ 0 → decisions_to s past t b q ≡ 0
+none_under_way s past t b q none =
+    omega (
+      arith,
+      none,
+      tally_less (tells_to t b q) (λ (l : Letter). decides t l.body) (in_flight s past)
+          (λ l. omega (arith, if_less (l.to.0 == q) (tells_decision t b l.body), tells_less t b l.body)),
     )

@@ -37,7 +37,7 @@ use Rattle.world_model.specs.Named.{is_strict_at, tree_kind_at}
 use Rattle.world_model.specs.Node.{Effect, Node}
 use Rattle.world_model.specs.Notices.{answer_noted, reply_letters, values_of}
 use Rattle.world_model.specs.Reads.{getting}
-use Rattle.world_model.specs.Runs.{AtClient, AtCoordinator, AtNode, IsStepRun, MayFollow, Moves, Says, client_in, coordinator_in, in_flight, keeping_in, node_in}
+use Rattle.world_model.specs.Runs.{IsStepRun, MayFollow, Says, client_in, coordinator_in, in_flight, keeping_in, node_in}
 use Rattle.world_model.specs.Strict.{answered, core_by_kind, core_row, decided, locks_by, none_refuses, note_core, noted_vote, refused_there, release_letters, to_each, voting}
 use Rattle.world_model.specs.Tables.{client_table, coordinator_table}
 use Rattle.world_model.specs.Updates.{touching}

@@ -1,8 +1,6 @@
 -- What the row of a core decides on strict trees, what it tells of that, and what it applies.
-use Rattle.std.proofs.Common.{◌≡◌, ◌≢◌, ◌⊎◌, inl, inr, ℕ, zero, suc, ◌+◌, ◌<◌, ◌≤◌, ◌==◌, ◌&&◌, Bool, true, false, not, List, [], ◌∷◌, ◌++◌, length, refl, sym, ap, subst, ◌∙◌, arith, Option, Some, None}
+use Rattle.std.proofs.Common.{◌≡◌, ℕ, ◌+◌, ◌<◌, ◌==◌, ◌&&◌, Bool, true, false, List, [], ◌∷◌, ◌++◌, length, refl, sym, ap, subst, ◌∙◌, arith, Option, Some, None}
 use Rattle.std.specs.Prelude.{if◌then◌else◌, nat_lt}
-use Rattle.std.proofs.lemmas.Bool.{cases_eq}
-use Rattle.std.proofs.lemmas.Bool.Decides.{nat_tests}
 use Rattle.tv_base.specs.declared.numbers.ItemNo.{ItemNo}
 use Rattle.tv_base.specs.declared.numbers.SubNo.{SubNo}
 use Rattle.tv_base.specs.declared.numbers.TreeNo.{TreeNo}
@@ -11,14 +9,14 @@ use Rattle.letter_types.specs.Steps.{Out, still}
 use Rattle.letter_types.specs.declared.acts.Act.{Act}
 use Rattle.letter_types.specs.declared.acts.Act.TheVariants as acts
 use Rattle.letter_types.specs.declared.bodies.Body.{Body}
-use Rattle.letter_types.specs.declared.bodies.Body.TheVariants.{Root, Sub as SubLetter, Done, Go, Decide, Decided, Release, Reply, Advanced, Turn, Turned, Show, Shown, Sweep, Swept, AskDone, DoneRow, AskAsked, AskedRow}
+use Rattle.letter_types.specs.declared.bodies.Body.TheVariants.{Root, Sub as SubLetter, Done, Go, Decide, Decided, Release, Reply, Advanced, Turn, Show, Sweep, AskDone, AskAsked}
 use Rattle.letter_types.specs.declared.bodies.Notice.{Notice}
 use Rattle.letter_types.specs.declared.bodies.Notice.TheVariants.{Did as DidNotice, Yes, No}
 use Rattle.letter_types.specs.declared.entries.Outgoing.{Outgoing}
 use Rattle.letter_types.specs.declared.votes.Vote.{Vote}
 use Rattle.tree_home.proofs.Always.{forgotten-gone}
 use Rattle.tree_home.specs.HeldAnswers.{answer_when_acked}
-use Rattle.tree_home.specs.Homes.{Gets, OpenTrees, begun, home_in, misses}
+use Rattle.tree_home.specs.Homes.{Gets, OpenTrees, begun, home_in, misses, missing_of, noted}
 use Rattle.tree_home.specs.declared.homes.Answered.{Answered}
 use Rattle.tx_trees.specs.ScriptData.{ScriptData, client_of, home_of, subs_at, visited_by}
 use Rattle.tx_trees.specs.declared.parts.Sub.{Sub}
@@ -34,15 +32,15 @@ use Rattle.world_model.specs.Named.{is_strict_at, tree_kind_at}
 use Rattle.world_model.specs.Node.{Effect, Node}
 use Rattle.world_model.specs.Notices.{act_of, answer_noted, homes_noted, reply_letters, values_of}
 use Rattle.world_model.specs.Reads.{getting}
-use Rattle.world_model.specs.Strict.{CoreKeeping, answered, core_by_kind, core_keeping, core_row, decided, locks_by, none_refuses, note_core, noted_vote, refused_there, release_letters, to_each, voting}
+use Rattle.world_model.specs.Strict.{CoreKeeping, answered, core_by_kind, core_keeping, core_row, decided, locks_by, none_refuses, noted_vote, refused_there, release_letters, to_each, voting}
 use Rattle.world_model.specs.Updates.{touching}
 use Rattle.world_model.specs.Votes.{vote_of}
 use Rattle.world_model.proofs.Bags.{tally-append}
 use Rattle.world_model.proofs.Flows.{finish_none}
 use Rattle.world_model.proofs.Keepings.{of_kept}
 use Rattle.tree_laws.proofs.AptStagesRows.{noted_names}
-use Rattle.tree_laws.proofs.Noting.{Last, More, Noting, noting}
-use Rattle.tree_laws.proofs.Turns.{answers_none, releases_none, replies_none}
+use Rattle.tree_laws.proofs.Noting.{Last, More, Noting, misses_root, noting}
+use Rattle.tree_laws.proofs.Turns.{answers_none, is_asking, releases_none, replies_none}
 
 -- a letter that tells a decision
 abbrev pub is_decide : Body → Bool
@@ -86,13 +84,24 @@ Rules u (Done t k v notice) = u ≡ t
 Rules u Go = ⊥
 Rules u _ = ⊥
 
--- The row decides on the tree with this answer, which isn't open at its home then, and applies what its letter tells.
-pub record RowRules (s : ScriptData) (body : Body) (out : Out Core) : Type 0 where
+-- its notice is one that the home misses
+abbrev pub BringsMissed : ScriptData → Node → Body → Type 0
+BringsMissed s st (Root t) = 0 < length (subs_at s t.0)
+BringsMissed s st (Done t k v notice) = misses t k st.homes ≡ true
+BringsMissed s st Go = ⊥
+BringsMissed s st _ = ⊥
+
+-- The row decides on the tree with this answer, which is strict and isn't open at its home then, and applies what its
+-- letter tells. Where it decides on none, a strict tree stays open.
+pub record RowRules (s : ScriptData) (c : Core) (body : Body) (out : Out Core) : Type 0 where
   pub found : Option Answered
   pub acts : (g : Act → ℕ) → OfRulings g → tally g out.acts ≡ tally g (ruled_acts out.state.refusals found) + tally g (applied_acts body)
   pub sends : (f : Outgoing → ℕ) → OfDecides f → tally f out.sent ≡ tally f (ruled_letters s out.state.refusals found)
   pub gone : (a : Answered) → found ≡ Some a → out.state.node.homes a.tree.0 ≡ None
   pub rules : (a : Answered) → found ≡ Some a → Rules a.tree body
+  pub strict : (a : Answered) → found ≡ Some a → is_strict_at s a.tree.0 ≡ true
+  pub stays : (u : TreeNo) → found ≡ None → Rules u body → is_strict_at s u.0 ≡ true → BringsMissed s c.node body
+      → home_in u out.state.node.homes ≡ None → ⊥
 
 -- An answered tree isn't open any more.
 gone_noting : (t : TreeNo) (k : SubNo) (values : Gets) (hs : OpenTrees) (a : Answered) → Noting t k values hs
@@ -110,6 +119,20 @@ noted_gone : (t : TreeNo) (k : SubNo) (values : Gets) (hs : OpenTrees) (a : Answ
 noted_gone t k values hs a is =
     let its : a.tree ≡ t = noted_names t k values hs a is in
     ap (λ (u : TreeNo). homes_noted t k values hs u.0) its ∙ gone_by t k values hs a (misses t k hs) refl is
+
+-- a tree that isn't answered with a notice that was missing is open
+open_noting : (t : TreeNo) (k : SubNo) (values : Gets) (hs : OpenTrees) → Noting t k values hs → answer_noted t k values hs ≡ None
+    → home_in t (homes_noted t k values hs) ≡ None → ⊥
+open_noting t k values hs (More after answer some) none gone =
+    let there : home_in t (noted t k values hs) ≡ None = ap (home_in t) (sym after) ∙ gone in
+    omega (arith, some, ap missing_of there)
+open_noting t k values hs (Last b after answer here last) none gone = absurd (cc (answer, none))
+
+noted_open : (t : TreeNo) (k : SubNo) (values : Gets) (hs : OpenTrees) (u : TreeNo) → u ≡ t → misses t k hs ≡ true
+    → answer_noted t k values hs ≡ None → home_in u (homes_noted t k values hs) ≡ None → ⊥
+noted_open t k values hs u is miss none gone =
+    open_noting t k values hs (noting t k values hs miss) none
+    (subst (λ (x : TreeNo). home_in x (homes_noted t k values hs) ≡ None) is gone)
 
 -- Letters and acts that are none of these.
 sub_other : (f : Outgoing → ℕ) (u v parent i : ℕ) (x : Sub) (xs : List Sub) → OfDecides f → (test : Bool)
@@ -134,15 +157,16 @@ turned_other g true v of = omega (arith, of (acts.Turned (record { 0 = v })) ref
 turned_other g false v of = refl
 
 -- The parts of a row: none of these is among what they send and do.
-record PartRules (body : Body) (o : TreeOut) : Type 0 where
+record PartRules (s : ScriptData) (st : Node) (body : Body) (o : TreeOut) : Type 0 where
   acts : (g : Act → ℕ) → OfRulings g → tally g o.out.acts ≡ 0
   sends : (f : Outgoing → ℕ) → OfDecides f → tally f o.out.sent ≡ 0
   gone : (a : Answered) → o.answered ≡ Some a → o.out.state.homes a.tree.0 ≡ None
   rules : (a : Answered) → o.answered ≡ Some a → Rules a.tree body
+  stays : (u : TreeNo) → o.answered ≡ None → Rules u body → BringsMissed s st body → home_in u o.out.state.homes ≡ None → ⊥
 
-part_rules : (s : ScriptData) (p from : ℕ) (v : Version) (raises : Bool) (e : Effect) (body : Body) (st : Node)
-    → PartRules body (tree_part s p from v raises e body st)
-part_rules s p from v raises e (Root t) st =
+part_rules : (s : ScriptData) (p from : ℕ) (v : Version) (raises : Bool) (e : Effect) (body : Body) (st : Node) → is_asking body ≡ true
+    → PartRules s st body (tree_part s p from v raises e body st)
+part_rules s p from v raises e (Root t) st asks =
     let k : SubNo = record { 0 = 0 } in
     let hs : OpenTrees = begun t (length (subs_at s t.0)) v st.homes in
     record {
@@ -150,8 +174,10 @@ part_rules s p from v raises e (Root t) st =
       sends = λ f of. subs_other f t.0 v.0 0 0 (subs_at s t.0) of;
       gone = λ a is. noted_gone t k (values_of e.notice) hs a is;
       rules = λ a is. noted_names t k (values_of e.notice) hs a is;
+      stays = λ u none is lt.
+          noted_open t k (values_of e.notice) hs u is (misses_root t k (length (subs_at s t.0)) v st.homes lt) none;
     }
-part_rules s p from v raises e (SubLetter t k w) st = record {
+part_rules s p from v raises e (SubLetter t k w) st asks = record {
   acts = λ g of.
       omega (
         arith,
@@ -168,28 +194,41 @@ part_rules s p from v raises e (SubLetter t k w) st = record {
       );
   gone = λ a is. absurd (cc is);
   rules = λ a is. absurd (cc is);
+  stays = λ u none is. absurd is;
 }
-part_rules s p from v raises e _ st = record {
+part_rules s p from v raises e _ st asks = absurd (cc asks)
+
+note_part_rules : (s : ScriptData) (from : ℕ) (t : TreeNo) (k : SubNo) (v : Version) (notice : Notice) (c : Core)
+    → PartRules s c.node (Done t k v notice) (note_part from t.0 k.0 v.0 (values_of notice) c.node)
+note_part_rules s from t k v notice c = record {
   acts = λ g of. refl;
   sends = λ f of. refl;
-  gone = λ a is. absurd (cc is);
-  rules = λ a is. absurd (cc is);
+  gone = λ a is. noted_gone t k (values_of notice) c.node.homes a is;
+  rules = λ a is. noted_names t k (values_of notice) c.node.homes a is;
+  stays = λ u none is miss. noted_open t k (values_of notice) c.node.homes u is miss none;
 }
 
--- no tree is decided on
-rules_none : (s : ScriptData) (body : Body) (out : Out Core) → ((g : Act → ℕ) → OfRulings g → tally g out.acts ≡ tally g (applied_acts body))
-    → ((f : Outgoing → ℕ) → OfDecides f → tally f out.sent ≡ 0) → RowRules s body out
-rules_none s body out does sent = record {
+-- a letter after which no tree is decided on: those that it might be about aren't strict
+abbrev NotStrict : ScriptData → Body → Type 0
+NotStrict s body = (u : TreeNo) → Rules u body → is_strict_at s u.0 ≡ false
+
+rules_none : (s : ScriptData) (c : Core) (body : Body) (out : Out Core) → NotStrict s body
+    → ((g : Act → ℕ) → OfRulings g → tally g out.acts ≡ tally g (applied_acts body))
+    → ((f : Outgoing → ℕ) → OfDecides f → tally f out.sent ≡ 0) → RowRules s c body out
+rules_none s c body out plain does sent = record {
   found = None;
   acts = λ g of. omega (arith, does g of);
   sends = sent;
   gone = λ a is. absurd (cc is);
   rules = λ a is. absurd (cc is);
+  strict = λ a is. absurd (cc is);
+  stays = λ u none is strict miss gone. let other = plain u is in absurd (cc (other, strict));
 }
 
-answered_rules : (s : ScriptData) (body : Body) (c : Core) (o : TreeOut) → applied_acts body ≡ [] → PartRules body o → RowRules s body (answered s c o)
-answered_rules s body c o none it =
-    rules_none s body (answered s c o) (λ g of. omega (arith, it.acts g of, ap (λ (xs : List Act). tally g xs) none))
+answered_rules : (s : ScriptData) (c d : Core) (body : Body) (o : TreeOut) → NotStrict s body → applied_acts body ≡ [] → PartRules s c.node body o
+    → RowRules s c body (answered s d o)
+answered_rules s c d body o plain none it =
+    rules_none s c body (answered s d o) plain (λ g of. omega (arith, it.acts g of, ap (λ (xs : List Act). tally g xs) none))
     (λ f of.
     omega (
       arith,
@@ -200,68 +239,84 @@ answered_rules s body c o none it =
       replies_none (client_of s) f o.answered (λ q t v answer. of (record { to = record { 0 = q }; body = Reply t v answer }) refl),
     ))
 
-decided_rules : (s : ScriptData) (body : Body) (c : Core) (o : TreeOut) (found : Option Answered) → applied_acts body ≡ []
-    → o.answered ≡ found → PartRules body o → RowRules s body (decided s c o found)
-decided_rules s body c o None none is it =
-    rules_none s body (decided s c o None) (λ g of. omega (arith, it.acts g of, ap (λ (xs : List Act). tally g xs) none)) it.sends
-decided_rules s body c o (Some a) none is it =
-    let told : Body = Decide a.tree a.version (none_refuses a.tree c.refusals) in
+decided_rules : (s : ScriptData) (c d : Core) (body : Body) (o : TreeOut) (found : Option Answered)
+    → ((u : TreeNo) → Rules u body → is_strict_at s u.0 ≡ true) → applied_acts body ≡ [] → o.answered ≡ found → PartRules s c.node body o
+    → RowRules s c body (decided s d o found)
+decided_rules s c d body o None strict none is it = record {
+  found = None;
+  acts = λ g of. omega (arith, it.acts g of, ap (λ (xs : List Act). tally g xs) none);
+  sends = it.sends;
+  gone = λ a same. absurd (cc same);
+  rules = λ a same. absurd (cc same);
+  strict = λ a same. absurd (cc same);
+  stays = λ u same own so miss. it.stays u is own miss;
+}
+decided_rules s c d body o (Some a) strict none is it =
+    let told : Body = Decide a.tree a.version (none_refuses a.tree d.refusals) in
     record {
       found = Some a;
       acts = λ g of.
           omega (
             arith,
             it.acts g of,
-            tally-append g o.out.acts (acts.Decided a.tree (none_refuses a.tree c.refusals) ∷ []),
+            tally-append g o.out.acts (acts.Decided a.tree (none_refuses a.tree d.refusals) ∷ []),
             ap (λ (xs : List Act). tally g xs) none,
           );
       sends = λ f of. omega (arith, it.sends f of, tally-append f o.out.sent (to_each told (visited_by s a.tree.0)));
       gone = λ b same. it.gone b (is ∙ same);
       rules = λ b same. it.rules b (is ∙ same);
+      strict = λ b same. strict b.tree (it.rules b (is ∙ same));
+      stays = λ u same. absurd (cc same);
     }
 
-kind_rules : (s : ScriptData) (p from : ℕ) (t : TreeNo) (body : Body) (kind : Option TreeKind) (c : Core) → applied_acts body ≡ []
-    → RowRules s body (core_by_kind s p from t body kind c)
-kind_rules s p from t body (Some Update) c none =
+-- a letter that asks for a subtransaction of tree t, which is of this kind
+own_kind : (s : ScriptData) (t : TreeNo) (body : Body) (b : Bool) → ((u : TreeNo) → Rules u body → u ≡ t) → is_strict_at s t.0 ≡ b
+    → (u : TreeNo) → Rules u body → is_strict_at s u.0 ≡ b
+own_kind s t body b own is u its = ap (λ (x : TreeNo). is_strict_at s x.0) (own u its) ∙ is
+
+kind_rules : (s : ScriptData) (p from : ℕ) (t : TreeNo) (body : Body) (kind : Option TreeKind) (c : Core) → tree_kind_at s t.0 ≡ kind
+    → is_asking body ≡ true → applied_acts body ≡ [] → ((u : TreeNo) → Rules u body → u ≡ t) → RowRules s c body (core_by_kind s p from t body kind c)
+kind_rules s p from t body (Some Update) c is asks none own =
     let v : Version = asked_version c.node.turns.update body in
     let e : Effect = touching v (asked_ops s body) c.node.items in
     let raises : Bool = nat_lt c.node.turns.update.0 v.0 in
+    let plain : is_strict_at s t.0 ≡ false = rw (is, is_strict_at) refl in
     let marked : Core = record c { locks = (core_by_kind s p from t body (Some Update) c).state.locks } in
-    answered_rules s body marked (tree_part s p from v raises e body c.node) none (part_rules s p from v raises e body c.node)
-kind_rules s p from t body (Some Read) c none =
+    answered_rules s c marked body (tree_part s p from v raises e body c.node) (own_kind s t body false own plain) none
+    (part_rules s p from v raises e body c.node asks)
+kind_rules s p from t body (Some Read) c is asks none own =
     let v : Version = asked_version c.node.turns.read body in
     let e : Effect = getting v (asked_ops s body) c.node.items in
-    answered_rules s body c (tree_part s p from v false e body c.node) none (part_rules s p from v false e body c.node)
-kind_rules s p from t body (Some Strict) c none =
+    let plain : is_strict_at s t.0 ≡ false = rw (is, is_strict_at) refl in
+    answered_rules s c c body (tree_part s p from v false e body c.node) (own_kind s t body false own plain) none
+    (part_rules s p from v false e body c.node asks)
+kind_rules s p from t body (Some Strict) c is asks none own =
     let v : Version = asked_version c.node.turns.update body in
     let vote : Vote = vote_of c.locks c.node.items t v (asked_ops s body) in
     let e : Effect = voting vote c.node.items in
     let raises : Bool = nat_lt c.node.turns.update.0 v.0 in
     let o : TreeOut = tree_part s p from v raises e body c.node in
     let noted : Core = record c { locks = locks_by vote t (asked_ops s body) c.locks; refusals = noted_vote body vote c.refusals } in
-    decided_rules s body noted o o.answered none refl (part_rules s p from v raises e body c.node)
-kind_rules s p from t body None c none =
-    rules_none s body (core_by_kind s p from t body None c) (λ g of. ap (λ (xs : List Act). tally g xs) (sym none)) (λ f of. refl)
+    let strict : is_strict_at s t.0 ≡ true = rw (is, is_strict_at) refl in
+    decided_rules s c noted body o o.answered (own_kind s t body true own strict) none refl (part_rules s p from v raises e body c.node asks)
+kind_rules s p from t body None c is asks none own =
+    let plain : is_strict_at s t.0 ≡ false = rw (is, is_strict_at) refl in
+    rules_none s c body (core_by_kind s p from t body None c) (own_kind s t body false own plain)
+    (λ g of. ap (λ (xs : List Act). tally g xs) (sym none)) (λ f of. refl)
 
-pick_rules : (s : ScriptData) (body : Body) (b : Bool) (x y : Out Core) → RowRules s body x → RowRules s body y → RowRules s body (if b then x else y)
-pick_rules s body true x y l r = l
-pick_rules s body false x y l r = r
-
-note_rules : (s : ScriptData) (from : ℕ) (t : TreeNo) (k : SubNo) (v : Version) (notice : Notice) (c : Core)
-    → RowRules s (Done t k v notice) (note_core s from t k v notice c)
-note_rules s from t k v notice c =
-    let body : Body = Done t k v notice in
-    let hs : OpenTrees = c.node.homes in
+-- a notice
+note_rules : (s : ScriptData) (from : ℕ) (t : TreeNo) (k : SubNo) (v : Version) (notice : Notice) (c : Core) (test : Bool) → is_strict_at s t.0 ≡ test
+    → RowRules s c (Done t k v notice)
+    (if test then decided s (record c { refusals = refused_there t k notice c }) (note_part from t.0 k.0 v.0 (values_of notice) c.node) (note_part from t.0 k.0 v.0 (values_of notice) c.node).answered
+    else answered s c (note_part from t.0 k.0 v.0 (values_of notice) c.node))
+note_rules s from t k v notice c true strict =
     let o : TreeOut = note_part from t.0 k.0 v.0 (values_of notice) c.node in
-    let noted : Core = record c { refusals = refused_there t k notice c } in
-    let it : PartRules body o = record {
-      acts = λ g of. refl;
-      sends = λ f of. refl;
-      gone = λ a is. noted_gone t k (values_of notice) hs a is;
-      rules = λ a is. noted_names t k (values_of notice) hs a is;
-    } in
-    pick_rules s body (is_strict_at s t.0) (decided s noted o o.answered) (answered s c o) (decided_rules s body noted o o.answered refl refl it)
-    (answered_rules s body c o refl it)
+    decided_rules s c (record c { refusals = refused_there t k notice c }) (Done t k v notice) o o.answered
+    (own_kind s t (Done t k v notice) true (λ u its. its) strict) refl refl (note_part_rules s from t k v notice c)
+note_rules s from t k v notice c false plain =
+    let o : TreeOut = note_part from t.0 k.0 v.0 (values_of notice) c.node in
+    answered_rules s c c (Done t k v notice) o (own_kind s t (Done t k v notice) false (λ u its. its) plain) refl
+    (note_part_rules s from t k v notice c)
 
 -- a letter that tells no decision, after which only this is done and sent
 one_letter : (f : Outgoing → ℕ) (o : Outgoing) → OfDecides f → is_decide o.body ≡ false → tally f (o ∷ []) ≡ 0
@@ -270,24 +325,26 @@ one_letter f o of is = omega (arith, of o is)
 one_act : (g : Act → ℕ) (a : Act) → OfRulings g → is_ruling a ≡ false → tally g (a ∷ []) ≡ 0
 one_act g a of is = omega (arith, of a is)
 
-pub core_rules : (s : ScriptData) (p from : ℕ) (body : Body) (c : Core) → RowRules s body (core_row s p c from body)
-core_rules s p from (Root t) c = kind_rules s p from t (Root t) (tree_kind_at s t.0) c refl
-core_rules s p from (SubLetter t k v) c = kind_rules s p from t (SubLetter t k v) (tree_kind_at s t.0) c refl
-core_rules s p from (Done t k v notice) c = note_rules s from t k v notice c
-core_rules s p from (Decide t v commit) c = rules_none s (Decide t v commit) _ (λ g of. refl) (λ f of. one_letter f _ of refl)
+pub core_rules : (s : ScriptData) (p from : ℕ) (body : Body) (c : Core) → RowRules s c body (core_row s p c from body)
+core_rules s p from (Root t) c = kind_rules s p from t (Root t) (tree_kind_at s t.0) c refl refl refl (λ u its. its)
+core_rules s p from (SubLetter t k v) c = kind_rules s p from t (SubLetter t k v) (tree_kind_at s t.0) c refl refl refl (λ u its. absurd its)
+core_rules s p from (Done t k v notice) c = note_rules s from t k v notice c (is_strict_at s t.0) refl
+core_rules s p from (Decide t v commit) c =
+    rules_none s c (Decide t v commit) _ (λ u its. absurd its) (λ g of. refl) (λ f of. one_letter f _ of refl)
 core_rules s p from (Decided t v) c =
-    rules_none s (Decided t v) _ (λ g of. refl)
+    rules_none s c (Decided t v) _ (λ u its. absurd its) (λ g of. refl)
     (λ f of.
     answers_none s c.refusals f (answer_when_acked t c.holds) (λ q u w answer. of (record { to = record { 0 = q }; body = Reply u w answer }) refl))
-core_rules s p from (Release t) c = rules_none s (Release t) _ (λ g of. one_act g _ of refl) (λ f of. refl)
+core_rules s p from (Release t) c = rules_none s c (Release t) _ (λ u its. absurd its) (λ g of. one_act g _ of refl) (λ f of. refl)
 core_rules s p from (Turn v) c =
-    rules_none s (Turn v) _ (λ g of. turned_other g (nat_lt c.node.turns.update.0 v.0) v.0 of) (λ f of. one_letter f _ of refl)
-core_rules s p from (Show v) c = rules_none s (Show v) _ (λ g of. one_act g _ of refl) (λ f of. one_letter f _ of refl)
-core_rules s p from (Sweep v) c = rules_none s (Sweep v) _ (λ g of. one_act g _ of refl) (λ f of. one_letter f _ of refl)
-core_rules s p from (AskDone v k) c = rules_none s (AskDone v k) _ (λ g of. refl) (λ f of. one_letter f _ of refl)
-core_rules s p from (AskAsked v k) c = rules_none s (AskAsked v k) _ (λ g of. refl) (λ f of. one_letter f _ of refl)
-core_rules s p from Go c = rules_none s Go _ (λ g of. refl) (λ f of. refl)
-core_rules s p from _ c = rules_none s _ _ (λ g of. refl) (λ f of. refl)
+    rules_none s c (Turn v) _ (λ u its. absurd its) (λ g of. turned_other g (nat_lt c.node.turns.update.0 v.0) v.0 of)
+    (λ f of. one_letter f _ of refl)
+core_rules s p from (Show v) c = rules_none s c (Show v) _ (λ u its. absurd its) (λ g of. one_act g _ of refl) (λ f of. one_letter f _ of refl)
+core_rules s p from (Sweep v) c = rules_none s c (Sweep v) _ (λ u its. absurd its) (λ g of. one_act g _ of refl) (λ f of. one_letter f _ of refl)
+core_rules s p from (AskDone v k) c = rules_none s c (AskDone v k) _ (λ u its. absurd its) (λ g of. refl) (λ f of. one_letter f _ of refl)
+core_rules s p from (AskAsked v k) c = rules_none s c (AskAsked v k) _ (λ u its. absurd its) (λ g of. refl) (λ f of. one_letter f _ of refl)
+core_rules s p from Go c = rules_none s c Go _ (λ u its. absurd its) (λ g of. refl) (λ f of. refl)
+core_rules s p from _ c = rules_none s c _ _ (λ u its. absurd its) (λ g of. refl) (λ f of. refl)
 
 -- The acts of the client and of a node that keeps a letter.
 hears_acts : (g : Act → ℕ) (s : ScriptData) (c : Client) (t : ℕ) (test : Bool) → g acts.Finished ≡ 0

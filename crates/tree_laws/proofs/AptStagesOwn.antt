@@ -32,7 +32,7 @@ use Rattle.world_model.specs.Notices.{answer_noted, values_of}
 use Rattle.world_model.specs.Runs.{IsStepRun, MayFollow, keeping_in}
 use Rattle.world_model.specs.Strict.{answer_letters, core_row}
 use Rattle.world_model.proofs.Cases.{Does, does_number}
-use Rattle.world_model.proofs.Scripts.{SubAt, get_below, sub_here, sub_there}
+use Rattle.world_model.proofs.Scripts.{SubAt, get_below, sub_here, sub_there, tree_below}
 use Rattle.world_model.proofs.Sends.{on}
 use Rattle.tree_laws.specs.Dids.{asks, letters_asking, notices, replies_to, tells_done}
 use Rattle.tree_laws.specs.Stages.{IsGathering, IsUnborn, StageAt, Answered, Gathers, Holds, Unborn, decides, held_at, home_at, is_noted}
@@ -154,7 +154,85 @@ home_here s past e p t r g at =
     subst (λ (q : ℕ). (keeping_in s (e ∷ past) q).core.node.homes t ≡ (core_row s p (keeping_in s past p).core r.from.0 r.body).state.node.homes t) at
     (ap (λ (x : Core). x.node.homes t) g.does.core)
 
--- A root.
+-- Where a letter of a tree belongs.
+pub root_home : (s : ScriptData) (past : List Entry) (e : Entry) (p : ℕ) (t : TreeNo) (r : Letter) → Doing s past e p r → r.body ≡ Root t
+    → p ≡ home_of s t.0
+root_home s past e p t r g is =
+    let named : is_named s p r.from.0 (Root t) ≡ true =
+    ap (is_named s p r.from.0) (sym is) ∙ apt_named s p (keeping_in s past p).core r g.does.brings.apt in
+    let here : home_of s t.0 ≡ p = grind (arith, nat_tests) in
+    sym here
+
+pub sub_place : (s : ScriptData) (past : List Entry) (e : Entry) (p : ℕ) (t : TreeNo) (k : SubNo) (v : Version) (r : Letter) → Doing s past e p r
+    → r.body ≡ SubLetter t k v → p ≡ node_of s t.0 k.0
+sub_place s past e p t k v r g is =
+    let named : is_named s p r.from.0 (SubLetter t k v) ≡ true =
+    ap (is_named s p r.from.0) (sym is) ∙ apt_named s p (keeping_in s past p).core r g.does.brings.apt in
+    let test : (node_of s t.0 k.0 == p) ≡ true = left_true (node_of s t.0 k.0 == p) (nat_lt r.from.0 s.nodes) named in
+    let here : node_of s t.0 k.0 ≡ p = grind (arith, nat_tests) in
+    sym here
+
+-- a notice at its home, of a subtransaction of the tree, that suits the tree
+pub record NoteAt (s : ScriptData) (p : ℕ) (t : TreeNo) (k : SubNo) (notice : Notice) : Type 0 where
+  pub home : p ≡ home_of s t.0
+  pub below : k.0 < length (subs_at s t.0)
+  pub suits : suits (is_strict_at s t.0) notice ≡ true
+
+pub note_at : (s : ScriptData) (past : List Entry) (e : Entry) (p : ℕ) (t : TreeNo) (k : SubNo) (v : Version) (notice : Notice) (r : Letter)
+    → Doing s past e p r → r.body ≡ Done t k v notice → NoteAt s p t k notice
+note_at s past e p t k v notice r g is =
+    let named : is_named s p r.from.0 (Done t k v notice) ≡ true =
+    ap (is_named s p r.from.0) (sym is) ∙ apt_named s p (keeping_in s past p).core r g.does.brings.apt in
+    let inner : Bool = nat_lt r.from.0 s.nodes && suits (is_strict_at s t.0) notice in
+    let place : Bool = nat_lt k.0 (length (subs_at s t.0)) in
+    let first : (home_of s t.0 == p) ≡ true = left_true (home_of s t.0 == p) (place && inner) named in
+    let rest : (place && inner) ≡ true = right_true (home_of s t.0 == p) (place && inner) named in
+    let second : place ≡ true = left_true place inner rest in
+    record {
+      home = (let here : home_of s t.0 ≡ p = grind (arith, nat_tests) in sym here);
+      below = grind (arith, nat_tests);
+      suits = right_true (nat_lt r.from.0 s.nodes) (suits (is_strict_at s t.0) notice) (right_true place inner rest);
+    }
+
+pub ack_home : (s : ScriptData) (past : List Entry) (e : Entry) (p : ℕ) (t : TreeNo) (v : Version) (r : Letter) → Doing s past e p r
+    → r.body ≡ Decided t v → p ≡ home_of s t.0
+ack_home s past e p t v r g is =
+    let named : is_named s p r.from.0 (Decided t v) ≡ true =
+    ap (is_named s p r.from.0) (sym is) ∙ apt_named s p (keeping_in s past p).core r g.does.brings.apt in
+    let test : (home_of s t.0 == p) ≡ true = left_true (home_of s t.0 == p) (nat_lt r.from.0 s.nodes) named in
+    let here : home_of s t.0 ≡ p = grind (arith, nat_tests) in
+    sym here
+
+-- a tree that gathers misses a notice that is in flight
+pub note_waits : (s : ScriptData) (past : List Entry) (e : Entry) (p : ℕ) (t : TreeNo) (k : SubNo) (v : Version) (notice : Notice) (r : Letter)
+    → Doing s past e p r → r.body ≡ Done t k v notice → 1 ≤ notices s past t.0 k.0
+note_waits s past e p t k v notice r g is =
+    omega (
+      arith,
+      notes_here s past e p t.0 k.0 r g,
+      ap (tells_done t.0 k.0) is,
+      ap (told t.0 k.0) is,
+      told_one t.0 k.0 k.0 refl,
+    )
+
+pub note_missed : (s : ScriptData) (past : List Entry) (e : Entry) (p : ℕ) (t : TreeNo) (k : SubNo) (v : Version) (notice : Notice) (r : Letter) (h : OpenTree)
+    → Doing s past e p r → r.body ≡ Done t k v notice → p ≡ home_of s t.0 → k.0 < length (subs_at s t.0) → IsGathering s past t.0 h
+    → misses t k (keeping_in s past p).core.node.homes ≡ true
+note_missed s past e p t k v notice r h g is at lt it =
+    let root : SubAt s t.0 0 = sub_of_node s p t.0 0 (sym at) g.does.brings.below in
+    let sub : SubAt s t.0 k.0 = sub_there s t.0 k.0 (tree_below s t.0 0 root) lt in
+    let most = turns_at_most_once s past t.0 k.0 sub g.valid g.apt.1 g.run.1 in
+    let opened : (keeping_in s past p).core.node.homes t.0 ≡ Some h = ap (λ (q : ℕ). (keeping_in s past q).core.node.homes t.0) at ∙ it.home in
+    rw opened (missing_at h.notices k.0 (omega (arith, it.places, lt))
+    (omega (arith, it.notes k.0 lt, note_waits s past e p t k v notice r g is, most)))
+
+-- A root: it hasn't had its turn.
+pub root_unturned : (s : ScriptData) (past : List Entry) (e : Entry) (p : ℕ) (t : TreeNo) (r : Letter) → Doing s past e p r → r.body ≡ Root t
+    → turns past t.0 0 ≡ 0
+root_unturned s past e p t r g is =
+    let sub : SubAt s t.0 0 = sub_of_node s p t.0 0 (sym (root_home s past e p t r g is)) g.does.brings.below in
+    no_turn_yet s past t.0 0 sub g.valid g.apt.1 g.run.1 (asked s past e p t.0 0 r g (ap (asks t.0 0) is ∙ told_one t.0 0 0 refl))
+
 root_notes : (s : ScriptData) (past : List Entry) (e : Entry) (p : ℕ) (t : TreeNo) (r : Letter) (out : Out Core) → Doing s past e p r
     → r.body ≡ Root t → p ≡ home_of s t.0 → SubAt s t.0 0 → core_row s p (keeping_in s past p).core r.from.0 r.body ≡ out
     → (b : RowBegins s t (keeping_in s past p).core out) → IsUnborn s past t.0
@@ -190,27 +268,22 @@ pub root_stage : (s : ScriptData) (past : List Entry) (e : Entry) (p : ℕ) (t :
 root_stage s past e p t r g is stage =
     let c : Core = (keeping_in s past p).core in
     let named : is_named s p r.from.0 (Root t) ≡ true = ap (is_named s p r.from.0) (sym is) ∙ apt_named s p c r g.does.brings.apt in
-    let here : home_of s t.0 ≡ p = grind (arith, nat_tests) in
-    let sub : SubAt s t.0 0 = sub_of_node s p t.0 0 here g.does.brings.below in
+    let at : p ≡ home_of s t.0 = root_home s past e p t r g is in
+    let sub : SubAt s t.0 0 = sub_of_node s p t.0 0 (sym at) g.does.brings.below in
     let lt : 0 < length (subs_at s t.0) = get_below (subs_at s t.0) 0 sub.sub (sub_here s t.0 0 sub) in
-    let one : asks t.0 0 r.body ≡ 1 = ap (asks t.0 0) is ∙ told_one t.0 0 0 refl in
-    let none = no_turn_yet s past t.0 0 sub g.valid g.apt.1 g.run.1 (asked s past e p t.0 0 r g one) in
     let out : Out Core = core_row s p c r.from.0 (Root t) in
     let b : RowBegins s t c out = core_begins s p r.from.0 t c g.does.brings.below named in
     notes_stage s past e t (record { 0 = 0 }) b.values (begun t (length (subs_at s t.0)) b.version c.node.homes)
     (new_tree (length (subs_at s t.0)) b.version)
-    (root_notes s past e p t r out g is (sym here) sub (ap (core_row s p c r.from.0) is) b (unborn_by s past t.0 sub none lt stage))
+    (root_notes s past e p t r out g is at sub (ap (core_row s p c r.from.0) is) b
+    (unborn_by s past t.0 sub (root_unturned s past e p t r g is) lt stage))
     (misses_root t (record { 0 = 0 }) (length (subs_at s t.0)) b.version c.node.homes lt)
 
 -- Another subtransaction.
 pub sub_stage : (s : ScriptData) (past : List Entry) (e : Entry) (p : ℕ) (t : TreeNo) (k : SubNo) (v : Version) (r : Letter) → Doing s past e p r
     → r.body ≡ SubLetter t k v → 0 < k.0 → StageAt s past t.0 → StageAt s (e ∷ past) t.0
 sub_stage s past e p t k v r g is some stage =
-    let c : Core = (keeping_in s past p).core in
-    let named : is_named s p r.from.0 (SubLetter t k v) ≡ true = ap (is_named s p r.from.0) (sym is) ∙ apt_named s p c r g.does.brings.apt in
-    let test : (node_of s t.0 k.0 == p) ≡ true = left_true (node_of s t.0 k.0 == p) (nat_lt r.from.0 s.nodes) named in
-    let here : node_of s t.0 k.0 ≡ p = grind (arith, nat_tests) in
-    let sub : SubAt s t.0 k.0 = sub_of_node s p t.0 k.0 here g.does.brings.below in
+    let sub : SubAt s t.0 k.0 = sub_of_node s p t.0 k.0 (sym (sub_place s past e p t k v r g is)) g.does.brings.below in
     let at = sub_here s t.0 k.0 sub in
     let lt : k.0 < length (subs_at s t.0) = get_below (subs_at s t.0) k.0 sub.sub at in
     let one : asks t.0 k.0 r.body ≡ 1 = ap (asks t.0 k.0) is ∙ told_one t.0 k.0 k.0 refl in
@@ -282,54 +355,31 @@ note_notes s past e p t k v notice r h g is at c lt it row =
     }
 
 note_by : (s : ScriptData) (past : List Entry) (e : Entry) (p : ℕ) (t : TreeNo) (k : SubNo) (v : Version) (notice : Notice) (r : Letter)
-    → Doing s past e p r → r.body ≡ Done t k v notice → p ≡ home_of s t.0 → SubAt s t.0 0 → k.0 < length (subs_at s t.0) → 1 ≤ notices s past t.0 k.0
-    → StageAt s past t.0 → StageAt s (e ∷ past) t.0
-note_by s past e p t k v notice r g is at c lt some (Unborn u) = absurd (omega (arith, some, u.notes k.0))
-note_by s past e p t k v notice r g is at c lt some (Holds h it) = absurd (omega (arith, some, it.all.notes k.0))
-note_by s past e p t k v notice r g is at c lt some (Answered it) = absurd (omega (arith, some, it.all.notes k.0))
-note_by s past e p t k v notice r g is at c lt some (Gathers h it) =
+    → Doing s past e p r → r.body ≡ Done t k v notice → NoteAt s p t k notice → 1 ≤ notices s past t.0 k.0 → StageAt s past t.0
+    → StageAt s (e ∷ past) t.0
+note_by s past e p t k v notice r g is n some (Unborn u) = absurd (omega (arith, some, u.notes k.0))
+note_by s past e p t k v notice r g is n some (Holds h it) = absurd (omega (arith, some, it.all.notes k.0))
+note_by s past e p t k v notice r g is n some (Answered it) = absurd (omega (arith, some, it.all.notes k.0))
+note_by s past e p t k v notice r g is n some (Gathers h it) =
     let co : Core = (keeping_in s past p).core in
-    let sub : SubAt s t.0 k.0 = sub_there s t.0 k.0 (tree_there s t.0 0 c.sub (slice_get s.trees t.0) refl (sub_here s t.0 0 c)) lt in
-    let most = turns_at_most_once s past t.0 k.0 sub g.valid g.apt.1 g.run.1 in
-    let opened : co.node.homes t.0 ≡ Some h = ap (λ (q : ℕ). (keeping_in s past q).core.node.homes t.0) at ∙ it.home in
-    let miss : misses t k co.node.homes ≡ true =
-    rw opened (missing_at h.notices k.0 (omega (arith, it.places, lt)) (omega (arith, it.notes k.0 lt, some, most))) in
+    let root : SubAt s t.0 0 = sub_of_node s p t.0 0 (sym n.home) g.does.brings.below in
     notes_stage s past e t k (values_of notice) co.node.homes h
-    (note_notes s past e p t k v notice r h g is at c lt it
+    (note_notes s past e p t k v notice r h g is n.home root n.below it
     (subst (λ (b : Body). RowNotes s t k (values_of notice) co.node.homes co.holds (core_row s p co r.from.0 b)) (sym is)
     (core_notes s p r.from.0 t k v notice co)))
-    miss
+    (note_missed s past e p t k v notice r h g is n.home n.below it)
 
 pub note_stage : (s : ScriptData) (past : List Entry) (e : Entry) (p : ℕ) (t : TreeNo) (k : SubNo) (v : Version) (notice : Notice) (r : Letter)
     → Doing s past e p r → r.body ≡ Done t k v notice → StageAt s past t.0 → StageAt s (e ∷ past) t.0
 note_stage s past e p t k v notice r g is stage =
-    let c : Core = (keeping_in s past p).core in
-    let named : is_named s p r.from.0 (Done t k v notice) ≡ true = ap (is_named s p r.from.0) (sym is) ∙ apt_named s p c r g.does.brings.apt in
-    let inner : Bool = nat_lt r.from.0 s.nodes && suits (is_strict_at s t.0) notice in
-    let place : Bool = nat_lt k.0 (length (subs_at s t.0)) in
-    let first : (home_of s t.0 == p) ≡ true = left_true (home_of s t.0 == p) (place && inner) named in
-    let second : place ≡ true = left_true place inner (right_true (home_of s t.0 == p) (place && inner) named) in
-    let here : home_of s t.0 ≡ p = grind (arith, nat_tests) in
-    let lt : k.0 < length (subs_at s t.0) = grind (arith, nat_tests) in
-    let sub : SubAt s t.0 0 = sub_of_node s p t.0 0 here g.does.brings.below in
-    let some : 1 ≤ notices s past t.0 k.0 =
-    omega (
-      arith,
-      notes_here s past e p t.0 k.0 r g,
-      ap (tells_done t.0 k.0) is,
-      ap (told t.0 k.0) is,
-      told_one t.0 k.0 k.0 refl,
-    ) in
-    note_by s past e p t k v notice r g is (sym here) sub lt some stage
+    note_by s past e p t k v notice r g is (note_at s past e p t k v notice r g is) (note_waits s past e p t k v notice r g is) stage
 
 -- What a node tells of a decision.
 pub decided_stage : (s : ScriptData) (past : List Entry) (e : Entry) (p : ℕ) (t : TreeNo) (v : Version) (r : Letter) → Doing s past e p r
     → r.body ≡ Decided t v → StageAt s past t.0 → StageAt s (e ∷ past) t.0
 decided_stage s past e p t v r g is stage =
     let c : Core = (keeping_in s past p).core in
-    let named : is_named s p r.from.0 (Decided t v) ≡ true = ap (is_named s p r.from.0) (sym is) ∙ apt_named s p c r g.does.brings.apt in
-    let test : (home_of s t.0 == p) ≡ true = left_true (home_of s t.0 == p) (nat_lt r.from.0 s.nodes) named in
-    let at : p ≡ home_of s t.0 = grind (arith, nat_tests) in
+    let at : p ≡ home_of s t.0 = ack_home s past e p t v r g is in
     let row : core_row s p c r.from.0 r.body ≡ core_row s p c r.from.0 (Decided t v) = ap (core_row s p c r.from.0) is in
     let opened : c.node.homes t.0 ≡ home_at s past t.0 = ap (λ (q : ℕ). (keeping_in s past q).core.node.homes t.0) at in
     let before : c.holds t.0 ≡ held_at s past t.0 = ap (λ (q : ℕ). (keeping_in s past q).core.holds t.0) at in

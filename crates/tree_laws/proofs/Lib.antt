@@ -50,6 +50,7 @@ pub mod AptStagesRows
 pub mod AptStagesSteps
 pub mod AptStagesOwn
 pub mod AptStagesApart
+pub mod AptOfTree
 pub mod AptStagesRun
 pub mod AptItems
 pub mod NodeLoads
@@ -59,5 +60,6 @@ pub mod AptMakes
 pub mod AptLawful
 pub mod AptRulings
 pub mod AptApplied
-pub mod AptOfTree
 pub mod AptDecided
+pub mod AptVotesRows
+pub mod AptVotes

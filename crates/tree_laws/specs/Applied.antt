@@ -12,7 +12,6 @@ use Rattle.tx_trees.specs.ScriptData.{ScriptData, subs_at, visits}
 use Rattle.tx_trees.specs.Valid.{IsValid}
 use Rattle.world_model.specs.AllApt.{AllApt}
 use Rattle.world_model.specs.Counts.{one_if, tally}
-use Rattle.world_model.specs.Named.{is_strict_at}
 use Rattle.world_model.specs.Runs.{IsStepRun, in_flight}
 
 -- tree t is decided on, by this truth value
