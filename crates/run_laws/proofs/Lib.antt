@@ -1,3 +1,4 @@
+pub mod EveryApt
 pub mod Wholes
 pub mod Reached
 pub mod Closed
