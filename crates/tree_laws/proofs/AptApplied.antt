@@ -303,7 +303,8 @@ apart_even : (s : ScriptData) (past : List Entry) (e : Entry) (t : ℕ) (b : Boo
     → tally (on (tells_decision t b)) e.sent ≡ 0 → ((g : Act → ℕ) → OfRulings g → tally g e.acts ≡ 0) → Even s past e t b q
 apart_even s past e t b q m lt out sent quiet = record {
   applied = if_zero (e.actor.0 == q) (tally (applies_as t b) e.acts) (quiet (applies_as t b) (applies_of t b))
-      ∙ sym (done_apart (tells_to t b q) s past e out ∙ took_elsewhere q e.took.to.0 (tells_decision t b e.took.body) (λ is. omega (arith, is, lt, out, m.addressee)));
+      ∙ sym (done_apart (tells_to t b q) s past e out
+      ∙ took_elsewhere q e.took.to.0 (tells_decision t b e.took.body) (λ is. omega (arith, is, lt, out, m.addressee)));
   told = omega (arith, sent, told_less t b q e.sent, quiet (decides_as t b) (decides_of t b));
 }
 

@@ -284,7 +284,8 @@ once_in_run s [] t valid apt run lt = record {
   once = omega arith;
 }
 once_in_run s (e ∷ past) t valid apt run lt =
-    next_once s past e t valid apt run lt (of_tree s past e t valid apt run (λ w less. stages_of_trees s past valid apt.1 run.1 w less)) (once_in_run s past t valid apt.1 run.1 lt)
+    next_once s past e t valid apt run lt (of_tree s past e t valid apt run (λ w less. stages_of_trees s past valid apt.1 run.1 w less))
+    (once_in_run s past t valid apt.1 run.1 lt)
 
 pub decided_once : DecidedOnce
 decided_once s past t valid apt run lt = (once_in_run s past t valid apt run lt).once

@@ -329,7 +329,8 @@ own_by : (s : ScriptData) (past : List Entry) (e : Entry) (p : ℕ) (t : TreeNo)
     → Own s past e p t r
     → ((a : AnsweredTree) → found ≡ Some a → a.tree ≡ t)
     → ((a : AnsweredTree) → found ≡ Some a → (core_row s p (keeping_in s past p).core r.from.0 r.body).state.node.homes a.tree.0 ≡ None)
-    → ((b : Bool) → tally (decides_as t.0 b) e.acts ≡ tally (decides_as t.0 b) (ruled_acts (core_row s p (keeping_in s past p).core r.from.0 r.body).state.refusals found))
+    → ((b : Bool) → tally (decides_as t.0 b) e.acts
+    ≡ tally (decides_as t.0 b) (ruled_acts (core_row s p (keeping_in s past p).core r.from.0 r.body).state.refusals found))
     → Votes s (e ∷ past) t.0
 own_by s past e p t r None g own its gone does = record {
   keeps = λ is. own.keeps;
@@ -584,7 +585,8 @@ votes_in_run s [] t valid apt run lt = record {
   aborts = λ some. absurd (omega (arith, some));
 }
 votes_in_run s (e ∷ past) t valid apt run lt =
-    next_votes s past e t valid apt run lt (of_tree s past e t valid apt run (λ w less. stages_of_trees s past valid apt.1 run.1 w less)) (votes_in_run s past t valid apt.1 run.1 lt)
+    next_votes s past e t valid apt run lt (of_tree s past e t valid apt run (λ w less. stages_of_trees s past valid apt.1 run.1 w less))
+    (votes_in_run s past t valid apt.1 run.1 lt)
 
 pub decided_by_votes : DecidedByVotes
 decided_by_votes s past t valid apt run lt = let v = votes_in_run s past t valid apt run lt in (v.commits, v.aborts)
