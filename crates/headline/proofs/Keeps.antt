@@ -187,7 +187,8 @@ finished s past e sound run timely at acts =
     let none : running k.phase ≡ 0 = omega (arith, kept.asked, kept.ended, asked, ended) in
     let turns : (p : ℕ) → p < s.nodes → AreAtRest k.update (node_in s past p).turns =
     λ p lt. subst (λ (st : Node). AreAtRest k.update st.turns) (node_kept s past e p (omega (arith, at, lt)))
-    (idle_turns k.phase k.update (node_in s (e ∷ past) p).turns none (versions_in_phase s (e ∷ past) (lawful s sound) run (all_apt s (e ∷ past) sound run) p lt)) in
+    (idle_turns k.phase k.update (node_in s (e ∷ past) p).turns none
+    (versions_in_phase s (e ∷ past) (lawful s sound) run (all_apt s (e ∷ past) sound run) p lt)) in
     record {
       once = not_finished past (has_finished (places_of (reverse past))) refl (omega (arith, finishes_of past, rest.once, one, most));
       whole = λ t lt. whole_done s past t sound run.1 timely.1 lt (λ i sub.
@@ -276,7 +277,8 @@ keeps_next s past e sound run timely (DoesSub t k v raises effect is c later fro
     let q = coordinator_in s past in
     let level : LevelBody s q.phase q.update (SubLetter t k v) =
     subst (λ (b : Body). LevelBody s q.phase q.update b) is.body
-    (each_done (λ (l : Letter). LevelBody s q.phase q.update l.body) s past e run.0 (levels s past (lawful s sound) run.1 (all_apt s past sound run.1)).letters) in
+    (each_done (λ (l : Letter). LevelBody s q.phase q.update l.body) s past e run.0
+    (levels s past (lawful s sound) run.1 (all_apt s past sound run.1)).letters) in
     by_acts s past e (turned_if raises v.0 ++ Did t k (values_of effect.notice) ∷ []) (sub_did s past e t k v raises effect work made)
     (sub_keeps s (places_of (reverse past)) e.actor.0 v.0 raises (Did t k (values_of effect.notice)) (λ ys. tt) (λ more.
     let parts = sub_raises s q.phase q.update t.0 k.0 (node_in s past p) v raises effect work

@@ -163,7 +163,7 @@ pub node_keeps : (f : Body → ℕ) → Passes f f → (s : ScriptData) (past : 
     → e.actor.0 < s.nodes → Progress s past e → count_in_flight f s (e ∷ past) ≡ count_in_flight f s past
 node_keeps f passes s past e m node next = omega (arith, flow f s past e m, node_passes f f passes s past e node next)
 
--- Letters that a node keeps are no more than those in flight, for a number that counts neither Roots nor Subs.
+-- A number that counts no letter of trees counts none that is kept, so of outstanding letters those in flight alone.
 asking_none : (f : Body → ℕ) (body : Body) → NoTrees f → IsAsking body → f body ≡ 0
 asking_none f (Root t) none asks = none.root t
 asking_none f (SubLetter t k v) none asks = none.sub t k v
