@@ -28,7 +28,7 @@ use Rattle.world_model.proofs.Cases.{Case, Coordinates, Does, Keeps, NodeDoes, N
 use Rattle.world_model.proofs.Orders.{no_acts}
 use Rattle.world_model.proofs.Outstanding.{done_apart, outstanding_step}
 use Rattle.world_model.proofs.Sends.{on}
-use Rattle.tree_laws.specs.Applied.{AppliedWhereDecided, applies_as, decides_as, decisions_to, tells_decision}
+use Rattle.tree_laws.specs.Applied.{AppliedWhereDecided, applies_as, has_decided, decisions_to, tells_decision}
 use Rattle.tree_laws.specs.Stages.{decides, decisions}
 use Rattle.tree_laws.proofs.AptRulings.{OfDecides, OfRulings, RowRules, applied_acts, client_acts, core_rules, is_decide, keeping_acts, ruled_acts, ruled_letters, rulings_no_keeping}
 use Rattle.tree_laws.proofs.AptStagesApart.{CountsNoOthers, client_none, coordinator_none, orders_none}
@@ -45,7 +45,7 @@ if_less : (test : Bool) (n : ℕ) → (if test then n else 0) ≤ n
 if_less true n = omega arith
 if_less false n = omega arith
 
-pub decides_of : (t : ℕ) (b : Bool) → OfRulings (decides_as t b)
+pub decides_of : (t : ℕ) (b : Bool) → OfRulings (has_decided t b)
 decides_of t true (acts.Decided u commit) none = absurd (cc none)
 decides_of t false (acts.Decided u commit) none = absurd (cc none)
 decides_of t true acts.Finished none = refl
@@ -155,7 +155,7 @@ at_none q n (i ∷ qs) none = omega (arith, if_zero (i == q) n none, at_none q n
 
 -- a letter of a decision tells what was decided, of its tree alone
 tells_as : (t : ℕ) (b : Bool) (u : TreeNo) (v : Version) (commit : Bool)
-    → tells_decision t b (Decide u v commit) ≡ decides_as t b (acts.Decided u commit)
+    → tells_decision t b (Decide u v commit) ≡ has_decided t b (acts.Decided u commit)
 tells_as t true u v commit = refl
 tells_as t false u v commit = refl
 
@@ -165,7 +165,7 @@ other_decision t false u v commit ne = let other : (u.0 == t) ≡ false = grind 
 
 ruled_by : (s : ScriptData) (t q : ℕ) (b : Bool) (rs : Refusals) (a : Answered) → q < s.nodes → visits (subs_at s t) q ≡ true
     → (a.tree.0 ≡ t) ⊎ (a.tree.0 ≢ t)
-    → tally (told_to t b q) (ruled_letters s rs (Some a)) ≡ tally (decides_as t b) (ruled_acts rs (Some a))
+    → tally (told_to t b q) (ruled_letters s rs (Some a)) ≡ tally (has_decided t b) (ruled_acts rs (Some a))
 ruled_by s t q b rs a lt is (inl same) =
     let commit : Bool = none_refuses a.tree rs in
     let told : Body = Decide a.tree a.version commit in
@@ -189,12 +189,12 @@ ruled_by s t q b rs a lt is (inr ne) =
     )
 
 ruled_told : (s : ScriptData) (t q : ℕ) (b : Bool) (rs : Refusals) (found : Option Answered) → q < s.nodes → visits (subs_at s t) q ≡ true
-    → tally (told_to t b q) (ruled_letters s rs found) ≡ tally (decides_as t b) (ruled_acts rs found)
+    → tally (told_to t b q) (ruled_letters s rs found) ≡ tally (has_decided t b) (ruled_acts rs found)
 ruled_told s t q b rs None lt is = refl
 ruled_told s t q b rs (Some a) lt is = ruled_by s t q b rs a lt is (cases_eq a.tree.0 t)
 
 -- What a node applies is what its letter tells, and it decides nothing by that.
-pub applied_decides : (t : ℕ) (b : Bool) (body : Body) → tally (decides_as t b) (applied_acts body) ≡ 0
+pub applied_decides : (t : ℕ) (b : Bool) (body : Body) → tally (has_decided t b) (applied_acts body) ≡ 0
 applied_decides t true (Decide u v commit) = refl
 applied_decides t false (Decide u v commit) = refl
 applied_decides t true Go = refl
@@ -247,7 +247,7 @@ applied_now e t b q = if e.actor.0 == q then tally (applies_as t b) e.acts else 
 -- an entry applies what it takes, and tells what it decides
 record Even (s : ScriptData) (past : List Entry) (e : Entry) (t : ℕ) (b : Bool) (q : ℕ) : Type 0 where
   applied : applied_now e t b q ≡ of_done (tells_to t b q) s past e
-  told : tally (told_to t b q) e.sent ≡ tally (decides_as t b) e.acts
+  told : tally (told_to t b q) e.sent ≡ tally (has_decided t b) e.acts
 
 same_at : (q x y m n : ℕ) → x ≡ y → m ≡ n → (if x == q then m else 0) ≡ (if y == q then n else 0)
 same_at q x y m n is same = ap (λ (i : ℕ). if i == q then m else 0) is ∙ ap (λ (j : ℕ). if y == q then j else 0) same
@@ -279,8 +279,8 @@ does_even s past e p r t b q lt is d =
             (λ x. told_of t b q (record { to = x.letter.to; body = Wake x.tree x.sub }) refl),
         rules.sends (told_to t b q) (told_of t b q),
         ruled_told s t q b row.state.refusals rules.found lt is,
-        ap (λ (xs : List Act). tally (decides_as t b) xs) d.acts,
-        rules.acts (decides_as t b) (decides_of t b),
+        ap (λ (xs : List Act). tally (has_decided t b) xs) d.acts,
+        rules.acts (has_decided t b) (decides_of t b),
         applied_decides t b r.body,
       );
     }
@@ -293,7 +293,7 @@ keeps_even s past e p r k t b q d =
     record {
       applied = if_zero (e.actor.0 == q) (tally (applies_as t b) e.acts) (quiet (applies_as t b) (applies_of t b))
           ∙ sym (keeps_number (tells_to t b q) s past e p r k d);
-      told = ap (λ (os : List Outgoing). tally (told_to t b q) os) d.sent ∙ sym (quiet (decides_as t b) (decides_of t b));
+      told = ap (λ (os : List Outgoing). tally (told_to t b q) os) d.sent ∙ sym (quiet (has_decided t b) (decides_of t b));
     }
 
 took_elsewhere : (q to n : ℕ) → to ≢ q → (if to == q then n else 0) ≡ 0
@@ -305,7 +305,7 @@ apart_even s past e t b q m lt out sent quiet = record {
   applied = if_zero (e.actor.0 == q) (tally (applies_as t b) e.acts) (quiet (applies_as t b) (applies_of t b))
       ∙ sym (done_apart (tells_to t b q) s past e out
       ∙ took_elsewhere q e.took.to.0 (tells_decision t b e.took.body) (λ is. omega (arith, is, lt, out, m.addressee)));
-  told = omega (arith, sent, told_less t b q e.sent, quiet (decides_as t b) (decides_of t b));
+  told = omega (arith, sent, told_less t b q e.sent, quiet (has_decided t b) (decides_of t b));
 }
 
 even_by : (s : ScriptData) (past : List Entry) (e : Entry) (t : ℕ) (b : Bool) (q : ℕ) → MayFollow s past e → q < s.nodes

@@ -27,7 +27,7 @@ use Rattle.world_model.specs.Strict.{CoreKeeping, core_row, none_refuses}
 use Rattle.world_model.proofs.Cases.{Does, Keeps}
 use Rattle.world_model.proofs.Orders.{no_acts}
 use Rattle.world_model.proofs.Scripts.{SubAt, get_below, sub_here}
-use Rattle.tree_laws.specs.Applied.{DecidedOnce, applied_at, decided_as, decides_as}
+use Rattle.tree_laws.specs.Applied.{DecidedOnce, applied_at, decided_as, has_decided}
 use Rattle.tree_laws.specs.Dids.{answers, asks, notices}
 use Rattle.tree_laws.specs.Stages.{IsGathering, StageAt, Answered, Gathers, Holds, Unborn, home_at, decisions}
 use Rattle.tree_laws.specs.Turns.{has_turn, turns}
@@ -46,7 +46,7 @@ abbrev pub decided_any : List Entry → ℕ → ℕ
 decided_any past t = decided_as past t true + decided_as past t false
 
 abbrev pub decides_any : ℕ → List Act → ℕ
-decides_any t does = tally (decides_as t true) does + tally (decides_as t false) does
+decides_any t does = tally (has_decided t true) does + tally (has_decided t false) does
 
 -- What is known of that by the tree's home: it isn't decided on before its root has had its turn, nor while it is open
 -- there; after that a strict tree is decided on.
@@ -88,13 +88,13 @@ ruled_other rs (Some a) t ne =
 -- the acts of an entry that does a letter
 pub ruled_here : (s : ScriptData) (past : List Entry) (e : Entry) (p : ℕ) (r : Letter) (t : ℕ) (b : Bool) → (d : Does s past e p r)
     → (rules : RowRules s (keeping_in s past p).core r.body (core_row s p (keeping_in s past p).core r.from.0 r.body))
-    → tally (decides_as t b) e.acts
-    ≡ tally (decides_as t b) (ruled_acts (core_row s p (keeping_in s past p).core r.from.0 r.body).state.refusals rules.found)
+    → tally (has_decided t b) e.acts
+    ≡ tally (has_decided t b) (ruled_acts (core_row s p (keeping_in s past p).core r.from.0 r.body).state.refusals rules.found)
 ruled_here s past e p r t b d rules =
     omega (
       arith,
-      ap (λ (xs : List Act). tally (decides_as t b) xs) d.acts,
-      rules.acts (decides_as t b) (decides_of t b),
+      ap (λ (xs : List Act). tally (has_decided t b) xs) d.acts,
+      rules.acts (has_decided t b) (decides_of t b),
       applied_decides t b r.body,
     )
 
@@ -146,8 +146,8 @@ pub kept_decides : (s : ScriptData) (past : List Entry) (e : Entry) (p w : ℕ) 
     → decides_any w e.acts ≡ 0
 kept_decides s past e p w r k d =
     let none = λ (b : Bool).
-    ap (λ (xs : List Act). tally (decides_as w b) xs) d.acts
-    ∙ keeping_acts (decides_as w b) s (keeping_in s past p).core r.body k (rulings_no_keeping (decides_as w b) (decides_of w b)) d.keeps in
+    ap (λ (xs : List Act). tally (has_decided w b) xs) d.acts
+    ∙ keeping_acts (has_decided w b) s (keeping_in s past p).core r.body k (rulings_no_keeping (has_decided w b) (decides_of w b)) d.keeps in
     omega (arith, none true, none false)
 
 -- A letter by which tree t may be decided on: what its row makes of that.
@@ -257,8 +257,8 @@ next_once s past e w valid apt run lt (ByCoordinator at says) =
     passes_once s past e w l.home (l.turned 0) (ap (λ (xs : List Act). decides_any w xs) quiet)
 next_once s past e w valid apt run lt (ByClient at says) =
     let none = λ (b : Bool).
-    ap (λ (xs : List Act). tally (decides_as w b) xs) says.1
-    ∙ client_acts (decides_as w b) s (client_in s past) e.took.body (decides_of w b acts.Finished refl) in
+    ap (λ (xs : List Act). tally (has_decided w b) xs) says.1
+    ∙ client_acts (has_decided w b) s (client_in s past) e.took.body (decides_of w b acts.Finished refl) in
     let l : Leaves s past e w = client_leaves s past e w valid apt run lt at says in
     passes_once s past e w l.home (l.turned 0) (omega (arith, none true, none false))
 next_once s past e w valid apt run lt (OwnRoot p t r g is same) = subst (λ (u : ℕ). OnceNext s past e u) same (root_once s past e p t r g is)

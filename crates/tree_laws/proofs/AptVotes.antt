@@ -38,7 +38,7 @@ use Rattle.world_model.proofs.Orders.{no_acts}
 use Rattle.world_model.proofs.Outstanding.{done_apart, keeping_elsewhere, took_outstanding}
 use Rattle.world_model.proofs.Scripts.{SubAt, get_below, sub_here}
 use Rattle.world_model.proofs.Sends.{on}
-use Rattle.tree_laws.specs.Applied.{DecidedByVotes, decided_as, decides_as, noes, votes_no}
+use Rattle.tree_laws.specs.Applied.{DecidedByVotes, decided_as, has_decided, noes, votes_no}
 use Rattle.tree_laws.specs.Dids.{answers, asks, replies_to, tells_done}
 use Rattle.tree_laws.specs.Stages.{StageAt, Answered, Gathers, Holds, Unborn, home_at}
 use Rattle.tree_laws.specs.Turns.{turns}
@@ -307,10 +307,10 @@ record Own (s : ScriptData) (past : List Entry) (e : Entry) (p : ℕ) (t : TreeN
 -- by the refusal
 decided_now : (t : ℕ) (rs : Refusals) (a : AnsweredTree) (o : Option Refusal) (cast flying : ℕ) → rs a.tree.0 ≡ o → KeepsNo o cast flying
     → flying ≡ 0
-    → (1 ≤ tally (decides_as t true) (ruled_acts rs (Some a)) → cast ≡ 0) × (1 ≤ tally (decides_as t false) (ruled_acts rs (Some a)) → 1 ≤ cast)
+    → (1 ≤ tally (has_decided t true) (ruled_acts rs (Some a)) → cast ≡ 0) × (1 ≤ tally (has_decided t false) (ruled_acts rs (Some a)) → 1 ≤ cast)
 decided_now t rs a None cast flying is keeps none =
     let commit : none_refuses a.tree rs ≡ true = rw is refl in
-    let never : tally (decides_as t false) (ruled_acts rs (Some a)) ≡ 0 = rw commit (omega (arith, aborts_none (a.tree.0 == t))) in
+    let never : tally (has_decided t false) (ruled_acts rs (Some a)) ≡ 0 = rw commit (omega (arith, aborts_none (a.tree.0 == t))) in
     (λ some. omega (arith, keeps, none), λ some. absurd (omega (arith, some, never)))
   where
     aborts_none : (x : Bool) → one_if (x && not true) ≡ 0
@@ -318,7 +318,7 @@ decided_now t rs a None cast flying is keeps none =
     aborts_none false = refl
 decided_now t rs a (Some r) cast flying is keeps none =
     let abort : none_refuses a.tree rs ≡ false = rw is refl in
-    let never : tally (decides_as t true) (ruled_acts rs (Some a)) ≡ 0 = rw abort (omega (arith, commits_none (a.tree.0 == t))) in
+    let never : tally (has_decided t true) (ruled_acts rs (Some a)) ≡ 0 = rw abort (omega (arith, commits_none (a.tree.0 == t))) in
     (λ some. absurd (omega (arith, some, never)), λ some. omega (arith, keeps))
   where
     commits_none : (x : Bool) → one_if (x && false) ≡ 0
@@ -329,8 +329,8 @@ own_by : (s : ScriptData) (past : List Entry) (e : Entry) (p : ℕ) (t : TreeNo)
     → Own s past e p t r
     → ((a : AnsweredTree) → found ≡ Some a → a.tree ≡ t)
     → ((a : AnsweredTree) → found ≡ Some a → (core_row s p (keeping_in s past p).core r.from.0 r.body).state.node.homes a.tree.0 ≡ None)
-    → ((b : Bool) → tally (decides_as t.0 b) e.acts
-    ≡ tally (decides_as t.0 b) (ruled_acts (core_row s p (keeping_in s past p).core r.from.0 r.body).state.refusals found))
+    → ((b : Bool) → tally (has_decided t.0 b) e.acts
+    ≡ tally (has_decided t.0 b) (ruled_acts (core_row s p (keeping_in s past p).core r.from.0 r.body).state.refusals found))
     → Votes s (e ∷ past) t.0
 own_by s past e p t r None g own its gone does = record {
   keeps = λ is. own.keeps;
@@ -564,8 +564,8 @@ next_votes s past e w valid apt run lt (ByClient at says) =
     (none (votes_no w) refl)
     (omega (
       arith,
-      none (decides_as w true) (decides_of w true acts.Finished refl),
-      none (decides_as w false) (decides_of w false acts.Finished refl),
+      none (has_decided w true) (decides_of w true acts.Finished refl),
+      none (has_decided w false) (decides_of w false acts.Finished refl),
     )))
 next_votes s past e w valid apt run lt (OwnRoot p t r g is same) =
     subst (λ (u : ℕ). VotesNext s past e u) same (root_votes s past e p t r g is (omega (arith, lt, same)))

@@ -15,16 +15,16 @@ use Rattle.world_model.specs.Counts.{one_if, tally}
 use Rattle.world_model.specs.Runs.{IsStepRun, in_flight}
 
 -- tree t is decided on, by this truth value
-abbrev pub decides_as : ℕ → Bool → Act → ℕ
-decides_as t true (Decided u commit) = one_if ((u.0 == t) && commit)
-decides_as t false (Decided u commit) = one_if ((u.0 == t) && not commit)
-decides_as t b Finished = 0
-decides_as t b _ = 0
+abbrev pub has_decided : ℕ → Bool → Act → ℕ
+has_decided t true (Decided u commit) = one_if ((u.0 == t) && commit)
+has_decided t false (Decided u commit) = one_if ((u.0 == t) && not commit)
+has_decided t b Finished = 0
+has_decided t b _ = 0
 
 -- how often it was
 abbrev pub decided_as : List Entry → ℕ → Bool → ℕ
 decided_as [] t b = 0
-decided_as (e ∷ past) t b = tally (decides_as t b) e.acts + decided_as past t b
+decided_as (e ∷ past) t b = tally (has_decided t b) e.acts + decided_as past t b
 
 -- what was decided of tree t is applied, by this truth value
 abbrev pub applies_as : ℕ → Bool → Act → ℕ
