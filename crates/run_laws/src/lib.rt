@@ -6,6 +6,7 @@
 mod phases;
 mod shown;
 mod stalls;
+mod trees;
 
 pub use phases::{
     advances_are_kept, counts_are_small, every_letter_comes_in_time, every_letter_taken_is_apt,
@@ -16,3 +17,7 @@ pub use shown::{
     nothing_comes_to_what_is_shown, orders_are_given_in_quiet, what_is_shown_is_whole,
 };
 pub use stalls::{entries_are_counted, entries_are_few, no_run_stalls};
+pub use trees::{
+    decisions_are_applied_once, decisions_follow_votes, letters_carry_versions,
+    trees_are_decided_once, trees_go_by_stages, turns_come_once,
+};

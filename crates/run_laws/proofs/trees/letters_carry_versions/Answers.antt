@@ -1,0 +1,6 @@
+use Rattle.tree_laws.proofs.AptDecisions.{letters_carry_versions as carry}
+use Rattle.run_laws.proofs.EveryApt.{all_apt}
+use Rattle.run_laws.proofs.trees.letters_carry_versions.Goals as goal
+
+pub returns : goal.returns
+returns c = λ s past valid run. carry s past valid (all_apt s past valid run) run

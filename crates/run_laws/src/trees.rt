@@ -1,0 +1,59 @@
+// Trees, of every kind, in every run of every valid script.
+ghost use Rattle.std.specs.Prelude.{ℕ, Bool, true, false, ◌<◌, ◌≤◌, ◌+◌, ◌≡◌, List, length, reverse, Some};
+ghost use Rattle.board_rules.specs.Histories.{places_of};
+ghost use Rattle.letter_types.specs.declared.entries.Entry.{Entry};
+ghost use Rattle.letter_types.specs.declared.entries.Letter.{Letter};
+ghost use Rattle.tree_laws.specs.Applied.{applied_at, decided_as, decisions_to, noes};
+ghost use Rattle.tree_laws.specs.Carried.{CarriesVersion};
+ghost use Rattle.tree_laws.specs.Dids.{letters_asking};
+ghost use Rattle.tree_laws.specs.Stages.{StageAt};
+ghost use Rattle.tree_laws.specs.Turns.{turns};
+ghost use Rattle.tx_trees.specs.ScriptData.{ScriptData, sub_at, subs_at, visits};
+ghost use Rattle.tx_trees.specs.Valid.{IsValid};
+ghost use Rattle.tx_trees.specs.declared.parts.Sub.{Sub};
+ghost use Rattle.world_model.specs.Counts.{Each};
+ghost use Rattle.world_model.specs.Kept.{outstanding};
+ghost use Rattle.world_model.specs.Runs.{IsStepRun};
+
+/// In every run each subtransaction is asked for by an outstanding letter or has had its turn, a Did or a vote, and
+/// that at most once.
+pub fn turns_come_once()
+    ensures { (s : ScriptData) (past : List Entry) (t k : ℕ) (x : Sub) → IsValid s → IsStepRun s past
+        → sub_at s t k ≡ Some x → letters_asking s past t k + turns past t k ≤ 1 }
+{}
+
+/// In every run each tree is at one of its stages: it is unborn; or its home gathers its notices, and one is missing; or
+/// it is a strict tree that is decided, and its answer is held until each node that it visits has told that it applied
+/// the decision; or it is answered, once, and each of its subtransactions has had its turn.
+pub fn trees_go_by_stages()
+    ensures { (s : ScriptData) (past : List Entry) (t : ℕ) → IsValid s → IsStepRun s past → t < length s.trees
+        → StageAt s past t }
+{}
+
+/// In every run each outstanding Sub, notice, decision and acknowledgement is of a tree that is born, and carries the
+/// version with which it was born.
+pub fn letters_carry_versions()
+    ensures { (s : ScriptData) (past : List Entry) → IsValid s → IsStepRun s past
+        → Each (λ (l : Letter). CarriesVersion (places_of (reverse past)) l.body) (outstanding s past) }
+{}
+
+/// In every run a strict tree is decided on at most once.
+pub fn trees_are_decided_once()
+    ensures { (s : ScriptData) (past : List Entry) (t : ℕ) → IsValid s → IsStepRun s past → t < length s.trees
+        → decided_as past t true + decided_as past t false ≤ 1 }
+{}
+
+/// In every run a decision was applied at each node that its tree visits, or is on its way there, as often as it was
+/// made: so at most once, and never otherwise than it was made.
+pub fn decisions_are_applied_once()
+    ensures { (s : ScriptData) (past : List Entry) (t q : ℕ) (commit : Bool) → IsValid s → IsStepRun s past
+        → t < length s.trees → q < s.nodes → visits (subs_at s t) q ≡ true
+        → applied_at past t commit q + decisions_to s past t commit q ≡ decided_as past t commit }
+{}
+
+/// In every run a strict tree commits only where none of its subtransactions has voted no, and aborts only where one
+/// has.
+pub fn decisions_follow_votes()
+    ensures { (s : ScriptData) (past : List Entry) (t : ℕ) → IsValid s → IsStepRun s past → t < length s.trees
+        → (1 ≤ decided_as past t true → noes past t ≡ 0) × (1 ≤ decided_as past t false → 1 ≤ noes past t) }
+{}
