@@ -1,5 +1,5 @@
 -- In every run of every valid script: a strict tree that was born and isn't open at its home any more was decided on.
-use Rattle.std.proofs.Common.{◌≡◌, ℕ, ◌+◌, ◌<◌, ◌≤◌, ◌==◌, ◌&&◌, Bool, true, false, not, List, [], ◌∷◌, ◌++◌, length, refl, sym, ap, subst, ◌∙◌, arith, Option, Some, None}
+use Rattle.std.proofs.Common.{◌≡◌, ℕ, ◌+◌, ◌<◌, ◌≤◌, ◌==◌, ◌&&◌, Bool, true, false, not, List, [], ◌∷◌, length, refl, sym, ap, subst, ◌∙◌, arith, Option, Some, None}
 use Rattle.std.specs.Prelude.{if◌then◌else◌, nat_lt}
 use Rattle.std.proofs.lemmas.Bool.Decides.{nat_tests}
 use Rattle.tv_base.specs.declared.numbers.SubNo.{SubNo}
@@ -24,9 +24,9 @@ use Rattle.tx_trees.specs.Valid.{IsValid}
 use Rattle.tx_trees.specs.declared.parts.TreeKind.{TreeKind}
 use Rattle.tx_trees.specs.declared.parts.TreeKind.TheVariants.{Update, Read, Strict}
 use Rattle.world_model.specs.AllApt.{AllApt}
-use Rattle.world_model.specs.Asked.{asked_ops, asked_version, tree_part}
+use Rattle.world_model.specs.Asked.{asked_ops, tree_part}
 use Rattle.world_model.specs.Core.{Core}
-use Rattle.world_model.specs.Counts.{one_if, tally}
+use Rattle.world_model.specs.Counts.{one_if}
 use Rattle.world_model.specs.Done.{TreeOut, note_part}
 use Rattle.world_model.specs.Named.{is_strict_at, tree_kind_at}
 use Rattle.world_model.specs.Node.{Effect}
@@ -35,7 +35,7 @@ use Rattle.world_model.specs.Runs.{IsStepRun, keeping_in}
 use Rattle.world_model.specs.Strict.{answered, core_by_kind, core_row, decided, locks_by, none_refuses, noted_vote, refused_there, voting}
 use Rattle.world_model.specs.Votes.{vote_of}
 use Rattle.world_model.proofs.Bags.{tally-append}
-use Rattle.tree_laws.specs.Applied.{decided_as, decides_as}
+use Rattle.tree_laws.specs.Applied.{decides_as}
 use Rattle.tree_laws.specs.Dids.{asks}
 use Rattle.tree_laws.specs.Stages.{home_at}
 use Rattle.tree_laws.specs.Turns.{turns}

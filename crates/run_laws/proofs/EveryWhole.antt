@@ -1,10 +1,9 @@
 -- In every run of every valid script a tree of a version of which nothing is outstanding is whole: each of its
 -- subtransactions has had its turn, and what was decided of a strict tree was applied at each node that it visits.
-use Rattle.std.proofs.Common.{◌≡◌, ◌⊎◌, inl, inr, ℕ, zero, suc, ◌+◌, ◌<◌, ◌≤◌, ◌==◌, ◌&&◌, ◌||◌, Bool, true, false, not, List, [], ◌∷◌, ◌++◌, length, reverse, refl, sym, ap, subst, ◌∙◌, arith, Option, Some, None}
+use Rattle.std.proofs.Common.{◌≡◌, ◌⊎◌, inl, inr, ℕ, zero, suc, ◌+◌, ◌<◌, ◌≤◌, ◌==◌, ◌&&◌, ◌||◌, Bool, true, false, not, List, [], ◌∷◌, length, reverse, refl, sym, ap, subst, ◌∙◌, arith, Option, Some, None}
 use Rattle.std.specs.Prelude.{if◌then◌else◌, is_some, map, slice_get}
 use Rattle.std.proofs.lemmas.Bool.{and_from}
 use Rattle.std.proofs.lemmas.Bool.Decides.{nat_tests}
-use Rattle.tv_base.specs.declared.numbers.TreeNo.{TreeNo}
 use Rattle.tv_base.specs.declared.numbers.Version.{Version}
 use Rattle.letter_types.specs.declared.acts.Act.{Act}
 use Rattle.letter_types.specs.declared.acts.Act.TheVariants as acts
@@ -13,12 +12,11 @@ use Rattle.letter_types.specs.declared.bodies.Body.TheVariants.{Go, Root, Sub as
 use Rattle.letter_types.specs.declared.entries.Entry.{Entry}
 use Rattle.letter_types.specs.declared.entries.Letter.{Letter}
 use Rattle.tree_home.specs.Homes.{Gets, missing_count}
-use Rattle.tx_trees.specs.ScriptData.{ScriptData, home_of, is_strict, node_of, sub_at, subs_at, visits}
+use Rattle.tx_trees.specs.ScriptData.{ScriptData, node_of, sub_at, subs_at, visits}
 use Rattle.tx_trees.specs.Valid.{IsValid}
 use Rattle.tx_trees.specs.declared.parts.Sub.{Sub}
 use Rattle.tx_trees.specs.declared.parts.Tree.{Tree}
-use Rattle.board_rules.specs.Histories.{IsWhole, Place, all_applied, all_done, applies, is_complete, is_strict_tree, places_at, places_of, version_in, version_of, was_applied, was_done}
-use Rattle.world_model.specs.AllApt.{AllApt}
+use Rattle.board_rules.specs.Histories.{IsWhole, Place, all_applied, all_done, applies, is_complete, is_strict_tree, places_at, places_of, version_in, version_of, was_applied}
 use Rattle.world_model.specs.Counts.{Each, one_if, tally}
 use Rattle.world_model.specs.Kept.{kept_by, outstanding}
 use Rattle.world_model.specs.Named.{is_strict_at, tree_kind_at}
@@ -31,17 +29,17 @@ use Rattle.strict_laws.proofs.MeantRows.{root_below, strict_below}
 use Rattle.phase_laws.specs.Balance.{goes_between, version_is}
 use Rattle.phase_laws.specs.Quiet.{IsSilent}
 use Rattle.phase_laws.proofs.Brought.{home_below, sender_below, sub_node_below}
-use Rattle.tree_laws.specs.Applied.{applied_at, applies_as, decided_as, decisions_to, tells_decision}
+use Rattle.tree_laws.specs.Applied.{applied_at, applies_as, decisions_to, tells_decision}
 use Rattle.tree_laws.specs.Carried.{CarriesVersion}
-use Rattle.tree_laws.specs.Dids.{asks, births, is_did_act, letters_asking, notices, tells_done}
+use Rattle.tree_laws.specs.Dids.{asks, births, letters_asking, notices, tells_done}
 use Rattle.tree_laws.specs.Stages.{IsAnswered, StageAt, Answered, Gathers, Holds, Unborn, decides, decisions, is_noted}
 use Rattle.tree_laws.specs.Turns.{turns}
-use Rattle.tree_laws.proofs.Acts.{counted_any, of_act}
+use Rattle.tree_laws.proofs.Acts.{counted_any}
 use Rattle.tree_laws.proofs.AptApplied.{applied_where_decided}
-use Rattle.tree_laws.proofs.AptDecided.{decided_any, decided_once}
+use Rattle.tree_laws.proofs.AptDecided.{decided_once}
 use Rattle.tree_laws.proofs.AptDecisions.{letters_carry_versions}
 use Rattle.tree_laws.proofs.AptStagesRun.{stages_of_trees}
-use Rattle.tree_laws.proofs.AptTurns.{births_are_turns, parent_before, sub_has_turns, turns_at_most_once}
+use Rattle.tree_laws.proofs.AptTurns.{births_are_turns, parent_before, sub_has_turns}
 use Rattle.tree_laws.proofs.AptVersions.{before, tally_less}
 use Rattle.tree_laws.proofs.Counts.{zero_or}
 use Rattle.tree_laws.proofs.Histories.{places_more}
@@ -209,10 +207,10 @@ answered_by s past t all some notes none (Gathers h g) =
     let less : k < length (subs_at s t) = omega (arith, lt, g.places) in
     noted_one (slice_get h.notices k) (omega (arith, all k less, g.notes k less, notes k)) in
     absurd (omega (arith, g.missing, some_missing h.notices each)) where
-  noted_one : (o : Option (Option Gets)) → 1 ≤ is_noted o → is_noted o ≡ 1
-  noted_one None le = absurd (omega (arith, le))
-  noted_one (Some None) le = absurd (omega (arith, le))
-  noted_one (Some (Some values)) le = refl
+      noted_one : (o : Option (Option Gets)) → 1 ≤ is_noted o → is_noted o ≡ 1
+      noted_one None le = absurd (omega (arith, le))
+      noted_one (Some None) le = absurd (omega (arith, le))
+      noted_one (Some (Some values)) le = refl
 answered_by s past t all some notes none (Holds h g) = absurd (omega (arith, none, g.decisions, g.waits))
 answered_by s past t all some notes none (Answered a) = a
 
