@@ -24,7 +24,7 @@ use Rattle.world_model.specs.Notices.{values_of}
 use Rattle.world_model.proofs.Worked.{root_did, sub_did}
 use Rattle.tree_laws.proofs.Good.{IsGood}
 use Rattle.tree_laws.proofs.Goods.{good_run, next_of}
-use Rattle.tree_laws.proofs.Nudges.{lawful}
+use Rattle.run_laws.proofs.InTime.{all_apt, lawful}
 use Rattle.phase_laws.proofs.Levels.{levels}
 use Rattle.tree_laws.proofs.Histories.{at_each_act_more}
 use Rattle.tree_laws.proofs.Versions.{AreVersioned, placed, versioned_run}
@@ -116,7 +116,7 @@ board_run s (e ∷ past) sound run timely =
       sound = sound;
       run = run.1;
       timely = timely.1;
-      levels = levels s past (lawful s sound) run.1 timely.1;
+      levels = levels s past (lawful s sound) run.1 (all_apt s past sound run.1);
       numbers = numbers_run s past sound run.1 timely.1;
       follows = run.0;
     } in

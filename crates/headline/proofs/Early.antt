@@ -10,7 +10,8 @@ use Rattle.board_rules.specs.Histories.{places_at, places_of, version_in}
 use Rattle.world_model.specs.Runs.{IsStepRun, coordinator_in, node_in}
 use Rattle.world_model.specs.Timely.{AllTimely}
 use Rattle.world_model.proofs.Scripts.{IsSound}
-use Rattle.tree_laws.proofs.Nudges.{lawful}
+use Rattle.tree_laws.proofs.Nudges.{lawful as tree_lawful}
+use Rattle.run_laws.proofs.InTime.{all_apt, lawful}
 use Rattle.phase_laws.specs.Phases.{most_read}
 use Rattle.phase_laws.proofs.Levels.{levels}
 use Rattle.tree_laws.proofs.Histories.{places_more}
@@ -34,23 +35,23 @@ pub read_below : (s : ScriptData) (past : List Entry) (p : ℕ) → IsSound s �
     → (node_in s past p).turns.read.0 < now_below false s past
 read_below s past p sound run timely lt =
     let c = coordinator_in s past in
-    let all = levels s past (lawful s sound) run timely in
+    let all = levels s past (lawful s sound) run (all_apt s past sound run) in
     omega (arith, (all.node p lt).read_to, read_within c.phase c.update all.first)
 
 below_by : (s : ScriptData) (past : List Entry) (e : Entry) (t : ℕ) (w : Version) → IsSound s → IsStepRun s (e ∷ past)
     → AllTimely s (e ∷ past) → reads s t ≡ true → (born_with past t ≡ Some w → w.0 < now_below false s past)
     → (born_with past t ≡ Some w) ⊎ (version_in t (places_at e) ≡ Some w) → w.0 < now_below false s (e ∷ past)
 below_by s past e t w sound run timely read before (inl old) =
-    let next = (lawful s sound).next past e run timely in
-    omega (arith, before old, rises false s past e (lawful s sound) run.1 timely.1 next)
+    let next = (tree_lawful s sound).next past e run timely in
+    omega (arith, before old, rises false s past e (tree_lawful s sound) run.1 timely.1 next)
 below_by s past e t w sound run timely read before (inr new) =
-    let next = (lawful s sound).next past e run timely in
+    let next = (tree_lawful s sound).next past e run timely in
     let at = born_by s past e t w next new in
     omega (
       arith,
       at.turn true read,
       read_below s past e.actor.0 sound run.1 timely.1 at.node,
-      rises false s past e (lawful s sound) run.1 timely.1 next,
+      rises false s past e (tree_lawful s sound) run.1 timely.1 next,
     )
 
 -- so with the version of each read tree
@@ -73,4 +74,4 @@ whole_to s past v sound run timely early = λ t w up born le.
 pub none_comes : (s : ScriptData) (past later : List Entry) (v : ℕ) → IsSound s → IsStepRun s (later ++ past) → AllTimely s (later ++ past)
     → v < now_below false s past → NoUpdateCame s (reverse past) (reverse (later ++ past)) v
 none_comes s past later v sound run timely early = λ t w up born le.
-    none_came false s past later t w (lawful s sound) run timely up (omega (arith, early, le)) born
+    none_came false s past later t w (tree_lawful s sound) run timely up (omega (arith, early, le)) born

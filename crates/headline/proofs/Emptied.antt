@@ -11,8 +11,7 @@ use Rattle.world_model.proofs.Bridge.{coordinator_after}
 use Rattle.world_model.proofs.Scripts.{IsSound}
 use Rattle.phase_laws.proofs.Small.{rounds_by_trees}
 use Rattle.tree_laws.proofs.Entries.{no_round}
-use Rattle.tree_laws.proofs.Nudges.{lawful}
-use Rattle.run_laws.proofs.InTime.{in_time}
+use Rattle.run_laws.proofs.InTime.{all_apt, lawful}
 use Rattle.run_laws.proofs.Ends.{no_run_stalls}
 use Rattle.run_laws.proofs.Entries.{entries_counted}
 use Rattle.headline.proofs.Promised.{headline_past}
@@ -28,7 +27,7 @@ ended_past s past valid runnable run left =
       entries = length-reverse past ∙ entries_counted s past sound run left;
       rounds = omega (
         arith,
-        rounds_by_trees s past (lawful s sound) run (in_time s past sound run),
+        rounds_by_trees s past (lawful s sound) run (all_apt s past sound run),
         ap (λ (c : Coordinator). c.round) (coordinator_after s past),
       );
       no_rounds = λ still. no_round s past valid runnable still run;

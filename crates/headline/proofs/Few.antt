@@ -19,11 +19,10 @@ use Rattle.world_model.specs.Runs.{IsStepRun, actor_after, node_in}
 use Rattle.world_model.specs.Tables.{ActorData}
 use Rattle.world_model.proofs.Back.{node_leads}
 use Rattle.world_model.proofs.Scripts.{IsSound}
-use Rattle.tree_laws.proofs.Nudges.{lawful}
+use Rattle.run_laws.proofs.InTime.{all_apt, in_time, lawful}
 use Rattle.phase_laws.proofs.Levels.{versions_in_phase}
 use Rattle.tree_laws.proofs.Histories.{first_of, run_before}
 use Rattle.tree_laws.proofs.OwnDeeds.{sees_own}
-use Rattle.run_laws.proofs.InTime.{in_time}
 use Rattle.headline.specs.Held.{HasHeldThree, HoldsThree, held_after, items_of, turns_of}
 use Rattle.headline.proofs.Kept.{IsKept}
 use Rattle.headline.proofs.Keeping.{keeps_run}
@@ -81,7 +80,7 @@ three_at s past x r sound run at =
     let p = r.node.0 in
     let lt = item_node s x r sound at in
     let held = held_at s past x r sound run at in
-    let near = (versions_in_phase s past (lawful s sound) run (in_time s past sound run) p lt).update_near in
+    let near = (versions_in_phase s past (lawful s sound) run (all_apt s past sound run) p lt).update_near in
     rw (held.after, node_leads s past p lt) (three (node_in s past p).turns held.held near held.kept)
 
 -- a part of a history is the history of a shorter past

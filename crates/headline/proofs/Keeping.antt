@@ -39,7 +39,7 @@ use Rattle.world_model.specs.Kept.{done_by}
 use Rattle.tree_laws.proofs.Good.{IsGood}
 use Rattle.tree_laws.proofs.Goods.{good_run, next_of}
 use Rattle.tree_laws.proofs.Steps.{timely_at}
-use Rattle.tree_laws.proofs.Nudges.{lawful}
+use Rattle.run_laws.proofs.InTime.{all_apt, lawful}
 use Rattle.phase_laws.proofs.Levels.{versions_in_phase}
 use Rattle.tree_laws.proofs.Versions.{AreVersioned, placed, root_version, sub_version, versioned_run}
 use Rattle.headline.proofs.Kept.{IsKept, collected_hold, collected_kept, holds_in, kept_ops, kept_table, ops_hold}
@@ -392,5 +392,5 @@ pub keeps_run : (s : ScriptData) (past : List Entry) → IsSound s → IsStepRun
 keeps_run s [] sound run timely p lt = first_keeps s p
 keeps_run s (e ∷ past) sound run timely p lt =
     keeps_next s past e sound (good_run s past sound run.1 timely.1) run.0 (versioned_run s past sound run.1 timely.1)
-    (λ q less. (versions_in_phase s past (lawful s sound) run.1 timely.1 q less).low_update)
+    (λ q less. (versions_in_phase s past (lawful s sound) run.1 (all_apt s past sound run.1) q less).low_update)
     (λ q less. keeps_run s past sound run.1 timely.1 q less) timely.0 (next_of s past e sound run timely) p lt

@@ -5,16 +5,17 @@ use Rattle.std.specs.Prelude.{if◌then◌else◌, nat_le, nat_lt, slice_get}
 use Rattle.std.proofs.lemmas.Bool.{and_parts, leb-true}
 use Rattle.std.proofs.lemmas.Bool.Decides.{nat_tests}
 use Rattle.tv_base.specs.declared.numbers.TreeNo.{TreeNo}
+use Rattle.tv_base.specs.declared.numbers.Version.{Version}
 use Rattle.letter_types.specs.declared.acts.Act.{Act}
 use Rattle.letter_types.specs.declared.acts.Act.TheVariants.{Born, Did, Finished}
 use Rattle.letter_types.specs.declared.bodies.Body.{Body}
-use Rattle.letter_types.specs.declared.bodies.Body.TheVariants.{Root, Turn}
+use Rattle.letter_types.specs.declared.bodies.Body.TheVariants.{Root, Turn, Sub as SubLetter}
 use Rattle.letter_types.specs.declared.entries.Entry.{Entry}
 use Rattle.letter_types.specs.declared.entries.Letter.{Letter}
 use Rattle.letter_types.specs.Steps.{Out}
 use Rattle.node_versions.specs.declared.turns.Turns.{Turns as TurnsOf}
 use Rattle.world_model.specs.Done.{turned_if}
-use Rattle.world_model.specs.Node.{Node}
+use Rattle.world_model.specs.Node.{Node, Effect}
 use Rattle.tx_trees.specs.Counts.{advances_in}
 use Rattle.tx_trees.specs.ScriptData.{ScriptData, client_of, node_of, updates}
 use Rattle.tx_trees.specs.declared.parts.ScriptRow.{ScriptRow}
@@ -30,7 +31,7 @@ use Rattle.world_model.specs.Counts.{one_if, tally}
 use Rattle.world_model.specs.Runs.{MayFollow, IsStepRun, client_in, coordinator_in, node_in}
 use Rattle.world_model.specs.Timely.{AllTimely}
 use Rattle.world_model.proofs.Every.{node_kept}
-use Rattle.world_model.proofs.Nexts.{Next, Begins, Hears, Ends, Coordinates, DoesRoot, DoesSub, Notes, Obeys, Order, Turns, Shows, Sweeps, TellsDone, TellsAsked, DoesBody}
+use Rattle.world_model.proofs.Nexts.{Next, Begins, Hears, Ends, Coordinates, DoesRoot, DoesSub, Notes, Obeys, Order, Turns, Shows, Sweeps, TellsDone, TellsAsked, DoesBody, SubWork, SubUpdates, SubReads}
 use Rattle.world_model.proofs.Scripts.{IsSound, SubAt, tree_below}
 use Rattle.world_model.specs.Notices.{values_of}
 use Rattle.world_model.proofs.Worked.{root_did, sub_did}
@@ -42,12 +43,11 @@ use Rattle.tree_laws.proofs.Client.{at_rest}
 use Rattle.tree_laws.proofs.Counts.{one_here, was_asked}
 use Rattle.tree_laws.proofs.Finishes.{done_then, finishes_of, is_true_of}
 use Rattle.tree_laws.proofs.Goods.{good_run, next_of}
-use Rattle.tree_laws.proofs.Nudges.{lawful}
+use Rattle.run_laws.proofs.InTime.{all_apt, lawful}
 use Rattle.tree_laws.proofs.Whole.{whole_done}
 use Rattle.phase_laws.specs.Advances.{running}
 use Rattle.phase_laws.specs.Phases.{IsInPhase, least_update, most_update}
-use Rattle.phase_laws.proofs.LevelAt.{LevelBody}
-use Rattle.phase_laws.proofs.LevelSteps.{sub_raises}
+use Rattle.phase_laws.proofs.LevelAt.{LevelBody, update_level}
 use Rattle.phase_laws.proofs.Levels.{levels, versions_in_phase}
 use Rattle.phase_laws.proofs.Small.{advances_kept, asked_most}
 use Rattle.phase_laws.proofs.Tokens.{phase_for}
@@ -135,9 +135,9 @@ turned : (s : ScriptData) (past : List Entry) (p v : ℕ) → IsSound s → IsSt
 turned s past p v sound run timely pl lt le =
     let c = coordinator_in s past in
     let next = (client_in s past).next in
-    let all = levels s past (lawful s sound) run timely in
+    let all = levels s past (lawful s sound) run (all_apt s past sound run) in
     let parts = turns_in c.phase c.update (node_in s past p).turns.update.0 v (all.node p pl).update_from lt le in
-    let kept = advances_kept s past (lawful s sound) run timely in
+    let kept = advances_kept s past (lawful s sound) run (all_apt s past sound run) in
     let found = advance_row (c.update - 1) next s.rows (omega (arith, kept.asked, parts.0, all.first)) in
     record {
       row = found.row;
@@ -181,13 +181,14 @@ finished s past e sound run timely at acts =
     let over = rest.over now in
     let parts = and_parts (all_answered c.answered s.rows) (nat_le (advances_in s.rows) c.ended) over.ended in
     let ended = leb-true (advances_in s.rows) c.ended parts.1 in
-    let kept = advances_kept s (e ∷ past) (lawful s sound) run timely in
+    let kept = advances_kept s (e ∷ past) (lawful s sound) run (all_apt s (e ∷ past) sound run) in
     let asked = asked_most c.next s.rows in
     let update : k.update ≡ advances_in s.rows + 1 = omega (arith, kept.asked, kept.ended, asked, ended) in
     let none : running k.phase ≡ 0 = omega (arith, kept.asked, kept.ended, asked, ended) in
     let turns : (p : ℕ) → p < s.nodes → AreAtRest k.update (node_in s past p).turns =
     λ p lt. subst (λ (st : Node). AreAtRest k.update st.turns) (node_kept s past e p (omega (arith, at, lt)))
-    (idle_turns k.phase k.update (node_in s (e ∷ past) p).turns none (versions_in_phase s (e ∷ past) (lawful s sound) run timely p lt)) in
+    (idle_turns k.phase k.update (node_in s (e ∷ past) p).turns none
+    (versions_in_phase s (e ∷ past) (lawful s sound) run (all_apt s (e ∷ past) sound run) p lt)) in
     record {
       once = not_finished past (has_finished (places_of (reverse past))) refl (omega (arith, finishes_of past, rest.once, one, most));
       whole = λ t lt. whole_done s past t sound run.1 timely.1 lt (λ i sub.
@@ -235,8 +236,8 @@ obeys s past e p out sound run timely m lt (Turns v bd is) =
     let update = (node_in s past p).turns.update.0 in
     let version : v.0 ≡ c.update + 1 =
     subst (λ (b : Body). LevelBody s c.phase c.update b) bd
-    (each_took (λ (l : Letter). LevelBody s c.phase c.update l.body) s past e m (levels s past (lawful s sound) run timely).letters) in
-    let phase : c.phase ≡ Turning = phase_for s past e (Turn v) (lawful s sound) run timely m bd in
+    (each_took (λ (l : Letter). LevelBody s c.phase c.update l.body) s past e m (levels s past (lawful s sound) run (all_apt s past sound run)).letters) in
+    let phase : c.phase ≡ Turning = phase_for s past e (Turn v) (lawful s sound) run (all_apt s past sound run) m bd in
     let most : most_update c.phase c.update ≡ c.update + 1 = ap (λ (q : Phase). most_update q c.update) phase in
     subst (λ (o : Out Node). KeepAll s xs (placed e.actor.0 o.acts)) (sym is)
     (turn_keeps s xs e.actor.0 v.0 (nat_lt update v.0)
@@ -249,6 +250,15 @@ obeys s past e p out sound run timely m lt (TellsDone v k bd is) =
     subst (λ (o : Out Node). KeepAll s (places_of (reverse past)) (placed e.actor.0 o.acts)) (sym is) tt
 obeys s past e p out sound run timely m lt (TellsAsked v k bd is) =
     subst (λ (o : Out Node). KeepAll s (places_of (reverse past)) (placed e.actor.0 o.acts)) (sym is) tt
+
+-- a subtransaction of an update tree is of a version that its node may come to
+sub_raises : (s : ScriptData) (phase : Phase) (u t k : ℕ) (st : Node) (v : Version) (raises : Bool) (effect : Effect)
+    → SubWork s t k st v raises effect → (updates s t ≡ true → v.0 ≤ most_update phase u) → raises ≡ true
+    → (st.turns.update.0 < v.0) × (v.0 ≤ most_update phase u)
+sub_raises s phase u t k st v raises effect (SubUpdates up is can made) right more =
+    let test : nat_lt st.turns.update.0 v.0 ≡ true = sym is ∙ more in
+    (grind (arith, nat_tests), right up)
+sub_raises s phase u t k st v raises effect (SubReads up is can made) right more = absurd (cc (is, more))
 
 keeps_next : (s : ScriptData) (past : List Entry) (e : Entry) → IsSound s → IsStepRun s (e ∷ past) → AllTimely s (e ∷ past) → Next s past e
     → KeepAll s (places_of (reverse past)) (places_at e)
@@ -265,12 +275,14 @@ keeps_next s past e sound run timely (DoesRoot t v effect is c at lt new work ma
 keeps_next s past e sound run timely (DoesSub t k v raises effect is c later from at lt work made) =
     let p = node_of s t.0 k.0 in
     let q = coordinator_in s past in
-    let right : updates s t.0 ≡ true → v.0 ≤ most_update q.phase q.update =
+    let level : LevelBody s q.phase q.update (SubLetter t k v) =
     subst (λ (b : Body). LevelBody s q.phase q.update b) is.body
-    (each_done (λ (l : Letter). LevelBody s q.phase q.update l.body) s past e run.0 (levels s past (lawful s sound) run.1 timely.1).letters) in
+    (each_done (λ (l : Letter). LevelBody s q.phase q.update l.body) s past e run.0
+    (levels s past (lawful s sound) run.1 (all_apt s past sound run.1)).letters) in
     by_acts s past e (turned_if raises v.0 ++ Did t k (values_of effect.notice) ∷ []) (sub_did s past e t k v raises effect work made)
     (sub_keeps s (places_of (reverse past)) e.actor.0 v.0 raises (Did t k (values_of effect.notice)) (λ ys. tt) (λ more.
-    let parts = sub_raises s q.phase q.update t.0 k.0 (node_in s past p) v raises effect work right more in
+    let parts = sub_raises s q.phase q.update t.0 k.0 (node_in s past p) v raises effect work
+    (λ up. update_level s q.phase q.update t k v level up) more in
     turned s past p v.0 sound run.1 timely.1 lt parts.0 parts.1))
 keeps_next s past e sound run timely (Notes t k v values is c later from at lt misses made) = by_acts s past e [] made.acts tt
 keeps_next s past e sound run timely (Obeys p out at lt order made) =

@@ -19,7 +19,7 @@ use Rattle.world_model.proofs.Fits.{RowFits, each_take, rows_fit}
 use Rattle.world_model.proofs.Scripts.{IsSound}
 use Rattle.tree_laws.proofs.Finishes.{stage_done}
 use Rattle.tree_laws.proofs.Goods.{good_run}
-use Rattle.tree_laws.proofs.Nudges.{lawful}
+use Rattle.run_laws.proofs.InTime.{all_apt, lawful}
 use Rattle.tree_laws.proofs.Whole.{whole_done}
 use Rattle.phase_laws.proofs.Levels.{versions_in_phase}
 use Rattle.phase_laws.proofs.Small.{advances_kept}
@@ -88,7 +88,7 @@ open_run s past i sound run timely le =
         arith,
         lt,
         ended,
-        (advances_kept s past (lawful s sound) run timely).ended,
-        (versions_in_phase s past (lawful s sound) run timely p pl).low_from,
+        (advances_kept s past (lawful s sound) run (all_apt s past sound run)).ended,
+        (versions_in_phase s past (lawful s sound) run (all_apt s past sound run) p pl).low_from,
       ));
     }

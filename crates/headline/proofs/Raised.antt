@@ -23,10 +23,10 @@ use Rattle.world_model.proofs.Every.{each_taken}
 use Rattle.world_model.proofs.Scripts.{IsSound}
 use Rattle.world_model.proofs.EachOutstanding.{each_took, each_done}
 use Rattle.world_model.proofs.Nexts.{DoesBody}
-use Rattle.tree_laws.proofs.Nudges.{lawful}
+use Rattle.run_laws.proofs.InTime.{all_apt, lawful}
 use Rattle.tree_laws.proofs.Whole.{none_strict}
 use Rattle.phase_laws.specs.Phases.{Stage, TurnStage, ShowStage, SweepStage, most_update}
-use Rattle.phase_laws.proofs.LevelAt.{Level, LevelAt, LevelBody, Levels, tell, tells}
+use Rattle.phase_laws.proofs.LevelAt.{Level, LevelAt, LevelBody, Levels, tell, tells, update_level}
 use Rattle.phase_laws.proofs.Tokens.{phase_for}
 use Rattle.run_laws.specs.Shown.{IsBackedBy}
 use Rattle.run_laws.proofs.Closed.{shown_is_backed}
@@ -102,7 +102,7 @@ pub turn_by_order : (s : ScriptData) (past : List Entry) (e : Entry) (p : ℕ) (
     → e.took.body ≡ Turn v → nat_lt (node_in s past p).turns.update.0 v.0 ≡ true → IsTurn s (places_of (reverse past)) e.actor.0 v.0
 turn_by_order s past e p v stand at lt is test =
     let c = coordinator_in s past in
-    let in_turn = phase_for s past e (Turn v) (lawful s stand.sound) stand.run stand.timely stand.follows is in
+    let in_turn = phase_for s past e (Turn v) (lawful s stand.sound) stand.run (all_apt s past stand.sound stand.run) stand.follows is in
     let version : v.0 ≡ c.update + 1 = taken_level s past e (Turn v) stand is in
     let most : most_update c.phase c.update ≡ c.update + 1 = ap (λ (q : Phase). most_update q c.update) in_turn in
     let above : (node_in s past p).turns.update.0 < v.0 = grind (arith, nat_tests) in
@@ -118,7 +118,7 @@ turn_by_sub s past e p t k v stand at lt is up test =
     let level : LevelBody s c.phase c.update (SubLetter t k v) =
     subst (λ (x : Body). LevelBody s c.phase c.update x) is.body
     (each_done (λ (l : Letter). LevelBody s c.phase c.update l.body) s past e stand.follows stand.levels.letters) in
-    turn_is s past e p v.0 stand at lt above (level up)
+    turn_is s past e p v.0 stand at lt above (update_level s c.phase c.update t k v level up)
 
 -- A version that is shown.
 kind_of : (a b : Bool) → b ≡ false → (a || b) ≡ true → a ≡ true
@@ -135,7 +135,7 @@ pub shows_next : (s : ScriptData) (past : List Entry) (e : Entry) (p : ℕ) (v :
     → e.took.body ≡ Show v → IsShowing s (places_of (reverse past)) e.actor.0 v.0
 shows_next s past e p v stand at lt is =
     let c = coordinator_in s past in
-    let showing = phase_for s past e (Show v) (lawful s stand.sound) stand.run stand.timely stand.follows is in
+    let showing = phase_for s past e (Show v) (lawful s stand.sound) stand.run (all_apt s past stand.sound stand.run) stand.follows is in
     let version : v.0 ≡ c.update = taken_level s past e (Show v) stand is in
     let here : LevelIn Showing s past p = level_in Showing s past p showing (stand.levels.node p lt) in
     let one = told_here ShowStage s past e (Show v) p stand.follows at is (ap one_if (same_test p)) in
@@ -154,7 +154,7 @@ pub sweeps_next : (s : ScriptData) (past : List Entry) (e : Entry) (p : ℕ) (v 
     → e.took.body ≡ Sweep v → IsSweeping s (places_of (reverse past)) e.actor.0 v.0
 sweeps_next s past e p v stand at lt is =
     let c = coordinator_in s past in
-    let sweeping = phase_for s past e (Sweep v) (lawful s stand.sound) stand.run stand.timely stand.follows is in
+    let sweeping = phase_for s past e (Sweep v) (lawful s stand.sound) stand.run (all_apt s past stand.sound stand.run) stand.follows is in
     let version : v.0 ≡ c.update = taken_level s past e (Sweep v) stand is in
     let here : LevelIn Sweeping s past p = level_in Sweeping s past p sweeping (stand.levels.node p lt) in
     let one = told_here SweepStage s past e (Sweep v) p stand.follows at is (ap one_if (same_test p)) in

@@ -29,11 +29,10 @@ use Rattle.phase_laws.proofs.Levels.{versions_in_phase}
 use Rattle.phase_laws.proofs.Small.{asked_most, small}
 use Rattle.tree_laws.proofs.Client.{at_rest}
 use Rattle.tree_laws.proofs.Finishes.{done_then, finished_by}
-use Rattle.tree_laws.proofs.Nudges.{lawful}
+use Rattle.run_laws.proofs.InTime.{all_apt, in_time, lawful}
 use Rattle.tree_laws.proofs.Whole.{whole}
 use Rattle.run_laws.specs.Shown.{UpdatesAreWhole}
 use Rattle.run_laws.proofs.Closed.{update_there}
-use Rattle.run_laws.proofs.InTime.{in_time}
 use Rattle.headline.proofs.OwnWorth.{own_is_worth}
 use Rattle.headline.specs.Held.{HoldsBalances}
 use Rattle.headline.proofs.AtEnd.{written_at_end}
@@ -100,14 +99,15 @@ stands : (s : ScriptData) (past : List Entry) (p : ℕ) → IsSound s → IsStep
 stands s past p sound run timely finished lt =
     let c = coordinator_in s past in
     let laws = lawful s sound in
+    let apt = all_apt s past sound run in
     let over = (at_rest s past sound run timely).over finished in
     let parts = and_parts (all_answered (client_in s past).answered s.rows) (nat_le (advances_in s.rows) (client_in s past).ended) over.ended in
-    let numbers = small s past laws run timely in
+    let numbers = small s past laws run apt in
     let most = asked_most (client_in s past).next s.rows in
     let ended = leb-true (advances_in s.rows) (client_in s past).ended parts.1 in
     let update : c.update ≡ advances_in s.rows + 1 = omega (arith, numbers.asked, numbers.ended, most, ended) in
     let none : running c.phase ≡ 0 = omega (arith, numbers.asked, numbers.ended, most, ended) in
-    stands_by s c.update c.phase (node_in s past p).turns (idle_of c.phase none) update (versions_in_phase s past laws run timely p lt)
+    stands_by s c.update c.phase (node_in s past p).turns (idle_of c.phase none) update (versions_in_phase s past laws run apt p lt)
 
 -- every update tree is whole
 all_whole : (s : ScriptData) (past : List Entry) (v : ℕ) → IsSound s → IsStepRun s past → AllTimely s past → HasFinished (reverse past)

@@ -27,11 +27,11 @@ use Rattle.world_model.specs.Counts.{one_if}
 use Rattle.world_model.specs.Runs.{IsStepRun}
 use Rattle.world_model.specs.Tables.{IsRunnable}
 use Rattle.world_model.proofs.Scripts.{IsSound}
-use Rattle.tree_laws.proofs.Nudges.{lawful}
+use Rattle.tree_laws.proofs.Nudges.{lawful as tree_lawful}
+use Rattle.run_laws.proofs.InTime.{in_time}
 use Rattle.tree_laws.proofs.Whole.{none_strict}
 use Rattle.run_laws.specs.Shown.{NoUpdateCame}
 use Rattle.run_laws.proofs.Closed.{rises, rises_on, run_before, timely_before}
-use Rattle.run_laws.proofs.InTime.{in_time}
 use Rattle.run_laws.proofs.Reached.{now_below}
 use Rattle.headline.specs.Reads.{AreWholeBefore, ComesAfterUpdates, ReadsStayRight, Shows, UpdatesComeFirst}
 use Rattle.headline.proofs.Before.{stands, version_kept}
@@ -90,7 +90,7 @@ came_before s past later e v sound run early = λ t w up born le.
     let timely = in_time s (later ++ e ∷ past) sound run in
     let more = run_before s (e ∷ past) later run in
     let on_time = timely_before s (e ∷ past) later timely in
-    let rise = rises false s past e (lawful s sound) more.1 on_time.1 ((lawful s sound).next past e more on_time) in
+    let rise = rises false s past e (tree_lawful s sound) more.1 on_time.1 ((tree_lawful s sound).next past e more on_time) in
     let now : v < now_below false s (e ∷ past) = omega (arith, early, rise) in
     none_comes s past (e ∷ []) v sound more on_time early t w up (none_comes s (e ∷ past) later v sound run timely now t w up born le) le
 
@@ -151,7 +151,7 @@ trees_same s past later v t sound run early =
     let h = reverse past in
     let more = reverse (later ++ past) in
     let before = run_before s past later run in
-    let rise = rises_on false s past later (lawful s sound) run timely in
+    let rise = rises_on false s past later (tree_lawful s sound) run timely in
     stands_exactly s h v t sound (whole_to s past v sound before (in_time s past sound before) early)
     ∙ updates_same s h more v t (λ w born. version_kept past later t w born) (none_comes s past later v sound run timely early) (updates s t) refl
     ∙ sym (stands_exactly s more v t sound (whole_to s (later ++ past) v sound run timely (omega (arith, early, rise))))
@@ -181,7 +181,7 @@ stays_act s past later e (Did t k values) sound run reads_at = λ read.
     let version : version_of h t.0 ≡ Some r.v = version_kept (e ∷ past) later t.0 r.v r.version in
     let more = run_before s (e ∷ past) later run in
     let on_time = in_time s (e ∷ past) sound more in
-    let rise = rises false s past e (lawful s sound) more.1 on_time.1 ((lawful s sound).next past e more on_time) in
+    let rise = rises false s past e (tree_lawful s sound) more.1 on_time.1 ((tree_lawful s sound).next past e more on_time) in
     let now : r.v.0 < now_below false s (e ∷ past) = omega (arith, r.early, rise) in
     subst (λ (o : Option Version). IsShown (worth s h) os values o) (sym version)
     (r.right

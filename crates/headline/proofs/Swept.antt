@@ -34,7 +34,7 @@ use Rattle.world_model.proofs.Scripts.{IsSound}
 use Rattle.world_model.proofs.EachOutstanding.{each_took}
 use Rattle.world_model.specs.Kept.{done_by}
 use Rattle.tree_laws.proofs.Goods.{next_of}
-use Rattle.tree_laws.proofs.Nudges.{lawful}
+use Rattle.run_laws.proofs.InTime.{all_apt, lawful}
 use Rattle.phase_laws.specs.Phases.{SweepStage, most_low}
 use Rattle.phase_laws.proofs.LevelAt.{LevelBody, tell, tells}
 use Rattle.phase_laws.proofs.Levels.{levels}
@@ -64,8 +64,8 @@ sweep_next : (s : ScriptData) (past : List Entry) (e : Entry) (p : ℕ) (v : Ver
     → MayFollow s past e → p < s.nodes → e.actor.0 ≡ p → e.took.body ≡ Sweep v → v.0 ≡ (node_in s past p).turns.low.0 + 1
 sweep_next s past e p v sound run timely m lt at is =
     let c = coordinator_in s past in
-    let all = levels s past (lawful s sound) run timely in
-    let phase : c.phase ≡ Sweeping = phase_for s past e (Sweep v) (lawful s sound) run timely m is in
+    let all = levels s past (lawful s sound) run (all_apt s past sound run) in
+    let phase : c.phase ≡ Sweeping = phase_for s past e (Sweep v) (lawful s sound) run (all_apt s past sound run) m is in
     let most : most_low c.phase c.update ≡ c.update = ap (λ (q : Phase). most_low q c.update) phase in
     let version : v.0 ≡ c.update =
     subst (λ (b : Body). LevelBody s c.phase c.update b) is

@@ -1,4 +1,4 @@
--- Below a low version nothing counted is in flight.
+-- Below a low version nothing counted is outstanding.
 use Rattle.std.proofs.Common.{◌≡◌, ◌⊎◌, inl, inr, ℕ, ◌+◌, ◌-◌, ◌<◌, ◌≤◌, Bool, true, false, List, [], ◌∷◌, sym, ap, subst, ◌∙◌, arith, Some}
 use Rattle.letter_types.specs.declared.bodies.Body.{Body}
 use Rattle.letter_types.specs.declared.entries.Entry.{Entry}
@@ -185,7 +185,7 @@ silent_below s [] laws run apt = λ w lt. absurd (omega (arith, lt))
 silent_below s (e ∷ past) laws run apt =
     below_next s past e laws run apt (silent_below s past laws run.1 apt.1) (sending s past e laws run apt)
 
--- of a version that a node has left nothing is in flight
+-- of a version that a node has left nothing is outstanding
 pub left_silent : (s : ScriptData) (past : List Entry) (v p : ℕ) → IsLawful s → IsStepRun s past → AllApt s past
     → p < s.nodes
     → HasLeft s past v p → IsSilent s past v

@@ -1,5 +1,5 @@
 -- How many letters of a kind are sent, under a number that looks at bodies.
-use Rattle.std.proofs.Common.{if◌then◌else◌, ◌≡◌, ℕ, zero, suc, ◌<◌, Bool, true, false, List, [], ◌∷◌, length, map, refl, ap, ◌∙◌, arith}
+use Rattle.std.proofs.Common.{if◌then◌else◌, ◌≡◌, ℕ, zero, suc, ◌<◌, Bool, true, false, List, [], ◌∷◌, map, refl, ap, ◌∙◌, arith}
 use Rattle.tv_base.specs.declared.numbers.SubNo.{SubNo}
 use Rattle.tv_base.specs.declared.numbers.TreeNo.{TreeNo}
 use Rattle.tv_base.specs.declared.numbers.Version.{Version}
@@ -12,13 +12,9 @@ use Rattle.letter_types.specs.declared.entries.Letter.{Letter}
 use Rattle.letter_types.specs.declared.entries.Outgoing.{Outgoing}
 use Rattle.letter_types.specs.declared.kept.KeptLetter.{KeptLetter}
 use Rattle.letter_types.specs.Steps.{Out}
-use Rattle.tx_trees.specs.ScriptData.{ScriptData, client_of, home_of, subs_at}
-use Rattle.tree_home.specs.Homes.{Gets}
+use Rattle.tx_trees.specs.ScriptData.{ScriptData}
 use Rattle.pair_counters.specs.Numbers.{numbers_of}
-use Rattle.world_model.specs.Children.{sub_letters, done_letter}
-use Rattle.world_model.specs.Done.{note_done, root_done, sub_done, with_open_tree}
-use Rattle.world_model.specs.Node.{Effect, Node}
-use Rattle.world_model.specs.Notices.{answer_noted, reply_letters, values_of}
+use Rattle.world_model.specs.Node.{Node}
 use Rattle.world_model.specs.Coordinator.{Coordinator, to_nodes, keep_done}
 use Rattle.world_model.specs.Counts.{tally}
 use Rattle.world_model.specs.Runs.{MayFollow, in_flight, node_in}
@@ -26,7 +22,7 @@ use Rattle.world_model.proofs.Bags.{tally-append}
 use Rattle.world_model.proofs.Every.{each_map, each_none}
 use Rattle.world_model.proofs.Flows.{flow}
 use Rattle.world_model.proofs.Nexts.{Order, Turns, Shows, Sweeps, TellsDone, TellsAsked}
-use Rattle.world_model.proofs.Sends.{on, replies_none, subs_none}
+use Rattle.world_model.proofs.Sends.{on}
 use Rattle.world_model.specs.Kept.{kept_by, kept_in, outstanding}
 use Rattle.phase_laws.specs.Phases.{count_in_flight}
 use Rattle.phase_laws.proofs.Brought.{IsAsking, kept_ask}
@@ -104,36 +100,6 @@ all_sent_none f s st does os none all =
     (each_map (λ (o : Outgoing). SentIn s st does o.body) (λ (o : Outgoing). on f o ≡ 0) os
     (λ o sent. none_sent_in f s st does o.body none sent) all)
 
-pub root_none : (f : Body → ℕ) (s : ScriptData) (p t v : ℕ) (effect : Effect) (st : Node) → NoTrees f
-    → tally (on f) (root_done s p t v effect st).sent ≡ 0
-root_none f s p t v effect st none =
-    let subs = sub_letters t v 0 0 (subs_at s t) in
-    let answer =
-    answer_noted (record { 0 = t }) (record { 0 = 0 }) (values_of effect.notice) (with_open_tree t (length (subs_at s t)) v st).homes in
-    omega (
-      arith,
-      tally-append (on f) subs (reply_letters (client_of s) answer),
-      subs_none f t v 0 0 (subs_at s t) none.sub,
-      replies_none f (client_of s) answer none.reply,
-    )
-
-pub sub_none : (f : Body → ℕ) (s : ScriptData) (q t k v : ℕ) (raises : Bool) (effect : Effect) (st : Node) → NoTrees f
-    → tally (on f) (sub_done s q t k v raises effect st).sent ≡ 0
-sub_none f s q t k v raises effect st none =
-    let subs = sub_letters t v k 0 (subs_at s t) in
-    let notice = done_letter (home_of s t) t k v effect.notice in
-    omega (
-      arith,
-      tally-append (on f) subs (notice ∷ []),
-      subs_none f t v k 0 (subs_at s t) none.sub,
-      none.done (record { 0 = t }) (record { 0 = k }) (record { 0 = v }) effect.notice,
-    )
-
-pub note_none : (f : Body → ℕ) (s : ScriptData) (q t k v : ℕ) (values : Gets) (st : Node) → NoTrees f
-    → tally (on f) (note_done s q t k v values st).sent ≡ 0
-note_none f s q t k v values st none =
-    replies_none f (client_of s) (answer_noted (record { 0 = t }) (record { 0 = k }) values st.homes) none.reply
-
 -- two numbers that count no letter of trees; an answer counts by f as the order that it answers counts by h
 pub record Passes (f h : Body → ℕ) : Type 0 where
   pub sent : NoTrees f
@@ -197,7 +163,7 @@ pub node_keeps : (f : Body → ℕ) → Passes f f → (s : ScriptData) (past : 
     → e.actor.0 < s.nodes → Progress s past e → count_in_flight f s (e ∷ past) ≡ count_in_flight f s past
 node_keeps f passes s past e m node next = omega (arith, flow f s past e m, node_passes f f passes s past e node next)
 
--- Letters that a node keeps are no more than those in flight, for a number that counts neither Roots nor Subs.
+-- A number that counts no letter of trees counts none that is kept, so of outstanding letters those in flight alone.
 asking_none : (f : Body → ℕ) (body : Body) → NoTrees f → IsAsking body → f body ≡ 0
 asking_none f (Root t) none asks = none.root t
 asking_none f (SubLetter t k v) none asks = none.sub t k v

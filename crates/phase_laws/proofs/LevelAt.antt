@@ -1,10 +1,17 @@
 -- The level of a node: its versions, and the orders in flight to it, against the coordinator's phase.
-use Rattle.std.proofs.Common.{◌≡◌, ℕ, ◌+◌, ◌-◌, ◌<◌, ◌≤◌, ◌==◌, false, List, [], ◌∷◌, refl, arith}
+use Rattle.std.proofs.Common.{◌≡◌, ℕ, ◌+◌, ◌-◌, ◌<◌, ◌≤◌, ◌==◌, true, false, List, [], ◌∷◌, refl, arith, Option, Some, None}
+use Rattle.std.specs.Prelude.{slice_get}
+use Rattle.tv_base.specs.declared.numbers.SubNo.{SubNo}
+use Rattle.tv_base.specs.declared.numbers.TreeNo.{TreeNo}
+use Rattle.tv_base.specs.declared.numbers.Version.{Version}
 use Rattle.letter_types.specs.declared.bodies.Body.{Body}
 use Rattle.letter_types.specs.declared.bodies.Body.TheVariants.{Sub as SubLetter, Turn, Show, Sweep}
 use Rattle.letter_types.specs.declared.entries.Entry.{Entry}
 use Rattle.letter_types.specs.declared.entries.Letter.{Letter}
-use Rattle.tx_trees.specs.ScriptData.{ScriptData, reads}
+use Rattle.tx_trees.specs.ScriptData.{ScriptData, is_read, is_update, reads, updates}
+use Rattle.tx_trees.specs.declared.parts.Tree.{Tree}
+use Rattle.tx_trees.specs.declared.parts.TreeKind.{TreeKind}
+use Rattle.tx_trees.specs.declared.parts.TreeKind.TheVariants.{Update, Read, Strict}
 use Rattle.world_model.specs.declared.phase.Phase.{Phase}
 use Rattle.world_model.specs.declared.phase.Phase.TheVariants.{Turning, Showing, Sweeping}
 use Rattle.world_model.specs.Counts.{Each, one_if, tally}
@@ -45,7 +52,7 @@ tell ShowStage p to (Show v) = one_if (to == p)
 tell SweepStage p to (Sweep v) = one_if (to == p)
 tell g p to _ = 0
 
--- an order of the stage, to whomever it goes
+-- an order of the stage, to whomever it goes: no letter of trees
 abbrev pub order : Stage → Body → ℕ
 order TurnStage (Turn v) = 1
 order ShowStage (Show v) = 1
@@ -115,3 +122,18 @@ pub record Levels (s : ScriptData) (past : List Entry) : Type 0 where
   pub node : (p : ℕ) → p < s.nodes → LevelAt s past p
   pub letters : Each (λ (l : Letter). LevelBody s (coordinator_in s past).phase (coordinator_in s past).update l.body)
       (outstanding s past)
+
+-- so it is that of the phase in a Sub of an update tree
+unread_by : (kind : TreeKind) → is_update kind ≡ true → is_read kind ≡ false
+unread_by Update is = refl
+unread_by Read is = absurd (cc is)
+unread_by Strict is = absurd (cc is)
+
+unread : (s : ScriptData) (t : ℕ) (found : Option Tree) → slice_get s.trees t ≡ found → updates s t ≡ true → reads s t ≡ false
+unread s t None at up = rw (at, reads) refl
+unread s t (Some tree) at up =
+    let update : is_update tree.kind ≡ true = rw (at, updates) at up in rw (at, reads) (unread_by tree.kind update)
+
+pub update_level : (s : ScriptData) (phase : Phase) (u : ℕ) (t : TreeNo) (k : SubNo) (v : Version) → LevelBody s phase u (SubLetter t k v)
+    → updates s t.0 ≡ true → v.0 ≤ most_update phase u
+update_level s phase u t k v level up = level (unread s t.0 (slice_get s.trees t.0) refl up)

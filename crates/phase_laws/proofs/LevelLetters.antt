@@ -127,7 +127,7 @@ level_mono s from to u (Sweep v) le right = right
 level_mono s from to u (SubLetter t k v) le right = λ is. let most = right is in omega (arith, most, le)
 level_mono s from to u _ le right = tt
 
--- what a step of the coordinator leaves right: the letters in flight, and those that it sends
+-- what a step of the coordinator leaves right: the outstanding letters, and those that it sends
 record Right (s : ScriptData) (c : Coordinator) (out : Out Coordinator) : Type 0 where
   same : out.state.update ≡ c.update
   higher : most_update c.phase c.update ≤ most_update out.state.phase c.update

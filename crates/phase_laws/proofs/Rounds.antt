@@ -253,7 +253,7 @@ clean_letter : (number v p q b from to : ℕ) (body : Body) → second_wave numb
 clean_letter number v p q b from to (AskedRow w k row) none = λ ks ws is. absurd (grind (arith, nat_tests))
 clean_letter number v p q b from to _ none = tt
 
--- once all completions are in: the version is silent, or a pair has a letter in flight, and differs
+-- once all completions are in: the version is silent, or a pair has an outstanding letter, and differs
 at_last : (s : ScriptData) (past : List Entry) (r : RoundData) → IsLawful s → IsStepRun s past → AllApt s past
     → LowIn s past r.version.0
     → ((q : ℕ) (row : List ℕ) → q < s.nodes → slice_get r.dones q ≡ Some (Some row) → (p : ℕ) → p < s.nodes

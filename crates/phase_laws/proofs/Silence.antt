@@ -182,7 +182,7 @@ pub asked_grows : (s : ScriptData) (past : List Entry) (e : Entry) (p v q : ℕ)
 asked_grows s past e p v q laws run apt lt low =
     let counts = apt_counts s past e v laws.valid apt run in omega (arith, counts.asked p q lt low)
 
--- Either a version is silent or a pair has a letter of it in flight.
+-- Either a version is silent or a pair has an outstanding letter of it.
 -- a number of pairs is 0 for each pair below, or not for one
 abbrev NoPair : (ℕ → ℕ → ℕ) → ℕ → ℕ → Type 0
 NoPair f k m = (p q : ℕ) → p < k → q < m → f p q ≡ 0

@@ -19,7 +19,7 @@ use Rattle.nc_locks.specs.declared.modes.Met.{Met}
 use Rattle.nc_locks.specs.Locks.{with_locks}
 use Rattle.node_versions.specs.declared.turns.Turns.{Turns}
 use Rattle.tree_home.specs.HeldAnswers.{answer_when_acked}
-use Rattle.tree_home.specs.Homes.{Gets, OpenTrees, answer_in, answer_of, answer_with, begun, home_in, misses, new_tree}
+use Rattle.tree_home.specs.Homes.{Gets, OpenTrees, answer_of, answer_with, begun, home_in, misses_of, new_tree}
 use Rattle.tree_home.specs.declared.homes.Answered.{Answered}
 use Rattle.tree_home.specs.declared.homes.OpenTree.{OpenTree}
 use Rattle.tx_trees.specs.ScriptData.{ScriptData, client_of, home_of, is_read, reads, subs_at, visited_by}
@@ -158,30 +158,36 @@ pub wakes_sent : (s : ScriptData) (st : Node) (does : Body) (test : Why → Bool
 wakes_sent s st does test [] = tt
 wakes_sent s st does test (x ∷ xs) = wake_sent s st does (test x.why) _ (wakes test xs) tt (wakes_sent s st does test xs)
 
--- An answer carries the version of its open tree.
+-- An answer carries the version of its tree, which is open.
 with_version : (t : TreeNo) (h : OpenTree) (vs : Option Gets) (a : Answered) → answer_with t h vs ≡ Some a → a.version ≡ h.version
 with_version t h None a is = absurd (cc is)
 with_version t h (Some vs) a is = grind arith
 
-of_version : (t : TreeNo) (k : SubNo) (vs : Gets) (o : Option OpenTree) (h : OpenTree) (a : Answered) → o ≡ Some h
-    → answer_of t k vs o ≡ Some a → a.version ≡ h.version
-of_version t k vs None h a at is = absurd (cc at)
-of_version t k vs (Some g) h a at is =
-    let same : g ≡ h = cc at in with_version t g _ a is ∙ ap (λ (x : OpenTree). x.version) same
+answered_by : (t : TreeNo) (k : SubNo) (vs : Gets) (o : Option OpenTree) (a : Answered) → (if misses_of k o then answer_of t k vs o else None) ≡ Some a
+    → (h : OpenTree) × (o ≡ Some h) × (a.version ≡ h.version)
+answered_by t k vs None a is = absurd (cc is)
+answered_by t k vs (Some h) a is = (h, refl, by (misses_of k (Some h)) is) where
+  by : (test : Bool) → (if test then answer_of t k vs (Some h) else None) ≡ Some a → a.version ≡ h.version
+  by true at = with_version t h _ a at
+  by false at = absurd (cc at)
 
-noted_version : (t : TreeNo) (k : SubNo) (vs : Gets) (hs : OpenTrees) (h : OpenTree) (a : Answered) (test : Bool) → home_in t hs ≡ Some h
-    → (if test then answer_in t k vs hs else None) ≡ Some a → a.version ≡ h.version
-noted_version t k vs hs h a true at is = of_version t k vs (home_in t hs) h a at is
-noted_version t k vs hs h a false at is = absurd (cc is)
+pub answered_open : (t : TreeNo) (k : SubNo) (vs : Gets) (hs : OpenTrees) (a : Answered) → answer_noted t k vs hs ≡ Some a
+    → (h : OpenTree) × (home_in t hs ≡ Some h) × (a.version ≡ h.version)
+answered_open t k vs hs a is = answered_by t k vs (home_in t hs) a is
+
+-- where the tree has just begun
+opened_version : (h : OpenTree) (n : ℕ) (v : Version) → Some h ≡ Some (new_tree n v) → h.version ≡ v
+opened_version h n v is = let same : h ≡ new_tree n v = cc is in ap (λ (x : OpenTree). x.version) same
 
 begun_there : (t : TreeNo) (n : ℕ) (v : Version) (hs : OpenTrees) → home_in t (begun t n v hs) ≡ Some (new_tree n v)
 begun_there t n v hs = rw (same_test t.0) refl
 
--- so one that is given at once carries that with which the tree begins
+-- it is that with which it begins
 begun_version : (t : TreeNo) (k : SubNo) (n : ℕ) (v : Version) (vs : Gets) (hs : OpenTrees) (a : Answered)
     → answer_noted t k vs (begun t n v hs) ≡ Some a → a.version ≡ v
 begun_version t k n v vs hs a is =
-    noted_version t k vs (begun t n v hs) (new_tree n v) a (misses t k (begun t n v hs)) (begun_there t n v hs) is
+    let (h, at, same) = answered_open t k vs (begun t n v hs) a is in
+    same ∙ opened_version h n v (sym at ∙ begun_there t n v hs)
 
 -- The parts of a step.
 stays : (s : ScriptData) (turns : Turns) (does : Body) → RaisesBy s turns turns does

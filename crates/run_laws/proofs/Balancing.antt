@@ -17,6 +17,7 @@ use Rattle.phase_laws.specs.Balance.{goes_between, out, version_is}
 use Rattle.phase_laws.proofs.Balance.{balanced_at}
 use Rattle.run_laws.proofs.Measures.{of_trees}
 use Rattle.phase_laws.proofs.Moves.{uncounted_goes}
+use Rattle.run_laws.proofs.InTime.{all_apt, lawful}
 
 -- a letter that isn't of a tree isn't counted
 not_counted : (v : ℕ) (body : Body) → of_trees body ≡ 0 → version_is v body ≡ false
@@ -39,4 +40,4 @@ pub balances : (s : ScriptData) (past : List Entry) (laws : IsLawful s) (run : I
     → (v p q : ℕ) → p < s.nodes → q < s.nodes → (node_in s past p).turns.low.0 ≤ v → (node_in s past q).turns.low.0 ≤ v
     → (node_in s past p).counts.asked v q ≡ (node_in s past q).counts.done v p
 balances s past laws run timely none v p q lp lq low_p low_q =
-    omega (arith, balanced_at s past v p q laws run timely lp lq low_p low_q, out_none s past v p q laws.sound none)
+    omega (arith, balanced_at s past v p q (lawful s laws.sound) run (all_apt s past laws.sound run) lp lq low_p low_q, out_none s past v p q laws.sound none)

@@ -17,11 +17,11 @@ use Rattle.tree_laws.proofs.ClientStep.{answers_most}
 use Rattle.tree_laws.proofs.Counts.{below_root, root_most}
 use Rattle.tree_laws.proofs.Entries.{all_subs_here, asks_in, is_reply, is_root, is_work, some_subs, taken_in, taken_over, taken_replies}
 use Rattle.tree_laws.proofs.Goods.{good_run}
-use Rattle.tree_laws.proofs.Nudges.{lawful}
+use Rattle.tree_laws.proofs.Nudges.{lawful as tree_lawful}
 use Rattle.tree_laws.proofs.Sums.{over}
-use Rattle.phase_laws.proofs.Closing.{all_timely}
 use Rattle.run_laws.proofs.Costs.{is_apart, paid, stages}
 use Rattle.run_laws.proofs.Entries.{counted, reply_by_tree, root_by_tree, taken_asks, taken_same, work_by_tree}
+use Rattle.run_laws.proofs.InTime.{all_apt, in_time, lawful}
 
 -- Sums.
 over_few : {X : Type 0} (i : ℕ) (f : ℕ → ℕ) (xs : List X) → ((k : ℕ) → i ≤ k → k < i + length xs → f k ≤ 1) → over i f xs ≤ length xs
@@ -110,17 +110,18 @@ aparts_most : (s : ScriptData) (past : List Entry) (laws : IsLawful s) (run : Is
     → taken_in is_apart past ≤ advances_in s.rows * (2 + 6 * s.nodes) + 4 * s.nodes * (2 * advances_in s.rows + length s.trees)
 aparts_most s past laws run timely =
     let c = coordinator_in s past in
-    let now = small s past laws run timely in
+    let now = small s past (lawful s laws.sound) run (all_apt s past laws.sound run) in
     let most : asked_for s past ≤ advances_in s.rows = asked_most (client_in s past).next s.rows in
     apart_most s.nodes (advances_in s.rows) (length s.trees) c.update (running c.phase) (stages c.phase) c.round (asked_for s past) (taken_in is_apart past)
-    (omega (arith, paid s past laws run timely)) (omega (arith, now.asked, most)) most (stages_most c.phase) (rounds_by_trees s past laws run timely)
+    (omega (arith, paid s past laws run timely)) (omega (arith, now.asked, most)) most (stages_most c.phase)
+    (rounds_by_trees s past (lawful s laws.sound) run (all_apt s past laws.sound run))
 
 -- The law.
 pub entries_few : (s : ScriptData) (past : List Entry) → IsSound s → IsStepRun s past
     → length past ≤ entries_of s (2 * advances_in s.rows + length s.trees)
 entries_few s past sound run =
-    let laws = lawful s sound in
-    let timely = all_timely s past laws run in
+    let laws = tree_lawful s sound in
+    let timely = in_time s past sound run in
     omega (
       arith,
       counted s past laws run timely,

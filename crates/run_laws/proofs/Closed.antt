@@ -22,7 +22,7 @@ use Rattle.world_model.proofs.EachOutstanding.{each_waits}
 use Rattle.tree_laws.specs.Dids.{dids}
 use Rattle.tree_laws.proofs.Counts.{at_most_once}
 use Rattle.tree_laws.proofs.Goods.{good_run}
-use Rattle.tree_laws.proofs.Nudges.{lawful}
+use Rattle.tree_laws.proofs.Nudges.{lawful as tree_lawful}
 use Rattle.tree_laws.proofs.Whole.{whole_done}
 use Rattle.phase_laws.specs.Phases.{ShowStage, SweepStage, token, count_in_flight}
 use Rattle.phase_laws.proofs.Tokens.{told, showing_phase, sweeping_phase}
@@ -32,6 +32,7 @@ use Rattle.tree_laws.proofs.Histories.{places_more}
 use Rattle.run_laws.specs.Shown.{IsBackedBy, IsClosedBy}
 use Rattle.run_laws.proofs.Reached.{Reaches, Same, Closes, now_below, step_reaches, turn_above, whole_below, whole_run}
 use Rattle.run_laws.proofs.Wholes.{born_by, born_split, born_with, is_of_kind}
+use Rattle.run_laws.proofs.InTime.{all_apt, lawful}
 
 -- a tree all of whose subtransactions are done is whole
 pub is_whole_of : (s : ScriptData) (past : List Entry) (t : ℕ) → IsSound s → IsStepRun s past → AllTimely s past → t < length s.trees
@@ -72,12 +73,14 @@ bounds_of : (s : ScriptData) (past : List Entry) (b : Body) → IsLawful s → I
     → token ShowStage b ≤ count_in_flight (token ShowStage) s past → token SweepStage b ≤ count_in_flight (token SweepStage) s past → Bounds s past b
 bounds_of s past (Show v) laws run timely level shows sweeps =
     let c = coordinator_in s past in
-    let at = showing_phase c.phase (count_in_flight (token ShowStage) s past) c.acks s.nodes shows (told ShowStage s past laws run timely) in
+    let at = showing_phase c.phase (count_in_flight (token ShowStage) s past) c.acks s.nodes shows
+    (told ShowStage s past (lawful s laws.sound) run (all_apt s past laws.sound run)) in
     let u : v.0 ≡ c.update = level in
     ap (λ (p : Phase). whole_below false p c.update) at ∙ ap (λ (n : ℕ). n + 1) (sym u)
 bounds_of s past (Sweep v) laws run timely level shows sweeps =
     let c = coordinator_in s past in
-    let at = sweeping_phase c.phase (count_in_flight (token SweepStage) s past) c.acks s.nodes sweeps (told SweepStage s past laws run timely) in
+    let at = sweeping_phase c.phase (count_in_flight (token SweepStage) s past) c.acks s.nodes sweeps
+    (told SweepStage s past (lawful s laws.sound) run (all_apt s past laws.sound run)) in
     let u : v.0 ≡ c.update = level in
     ap (λ (p : Phase). whole_below true p c.update) at ∙ sym u
 bounds_of s past Go laws run timely level shows sweeps = tt
@@ -93,7 +96,7 @@ all_bounds s past laws run timely =
     each_map _ (λ (l : Letter). Bounds s past l.body) (in_flight s past)
     (λ l all. bounds_of s past l.body laws run timely all.0 all.1.0 all.1.1)
     (each_both (λ (l : Letter). LevelBody s c.phase c.update l.body) _ (in_flight s past)
-    (each_waits (λ (l : Letter). LevelBody s c.phase c.update l.body) s past (levels s past laws run timely).letters)
+    (each_waits (λ (l : Letter). LevelBody s c.phase c.update l.body) s past (levels s past (lawful s laws.sound) run (all_apt s past laws.sound run)).letters)
     (each_both (λ (l : Letter). token ShowStage l.body ≤ count_in_flight (token ShowStage) s past)
     (λ (l : Letter). token SweepStage l.body ≤ count_in_flight (token SweepStage) s past) (in_flight s past) shows sweeps))
 
@@ -113,7 +116,7 @@ pub shown_is_backed : (s : ScriptData) (past : List Entry) → IsSound s → IsS
     → Each (λ (l : Letter). IsBackedBy s (reverse past) l.body) (in_flight s past)
 shown_is_backed s past sound run timely =
     each_map (λ (l : Letter). Bounds s past l.body) (λ (l : Letter). IsBackedBy s (reverse past) l.body) (in_flight s past)
-    (λ l bound. backed s past l.body sound run timely bound) (all_bounds s past (lawful s sound) run timely)
+    (λ l bound. backed s past l.body sound run timely bound) (all_bounds s past (tree_lawful s sound) run timely)
 
 -- What comes later.
 step_rises : (kind : Bool) (s : ScriptData) (past : List Entry) (e : Entry) (below : ℕ)
@@ -173,7 +176,7 @@ came_by kind s past later e t w laws run timely of lt before (inr new) =
       lt,
       rises_on kind s past later laws run.1 timely.1,
       at.turn kind of,
-      turn_above kind s now e.actor.0 ((levels s now laws run.1 timely.1).node e.actor.0 at.node),
+      turn_above kind s now e.actor.0 ((levels s now (lawful s laws.sound) run.1 (all_apt s now laws.sound run.1)).node e.actor.0 at.node),
     ))
 
 -- no tree of the kind comes to a version below it
@@ -206,7 +209,7 @@ timely_before s past (e ∷ later) timely = timely_before s past later timely.1
 pub shown_is_closed : (s : ScriptData) (past later : List Entry) → IsSound s → IsStepRun s (later ++ past) → AllTimely s (later ++ past)
     → Each (λ (l : Letter). IsClosedBy s (reverse past) (reverse (later ++ past)) l.body) (in_flight s past)
 shown_is_closed s past later sound run timely =
-    let laws = lawful s sound in
+    let laws = tree_lawful s sound in
     each_map (λ (l : Letter). Bounds s past l.body) (λ (l : Letter). IsClosedBy s (reverse past) (reverse (later ++ past)) l.body) (in_flight s past)
     (λ l bound. closed_by s past later l.body laws run timely bound)
     (all_bounds s past laws (run_before s past later run) (timely_before s past later timely))

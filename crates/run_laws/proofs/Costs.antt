@@ -1,5 +1,5 @@
 -- What the letters of advancements cost.
-use Rattle.std.proofs.Common.{if◌then◌else◌, ◌≡◌, ◌≢◌, ℕ, zero, suc, ◌+◌, ◌*◌, ◌<◌, ◌≤◌, ◌&&◌, not, Bool, true, false, List, [], ◌∷◌, ◌++◌, replicate, set, take, drop, refl, sym, ap, subst, ◌∙◌, arith, Some, None}
+use Rattle.std.proofs.Common.{if◌then◌else◌, ◌≡◌, ◌≢◌, ℕ, zero, suc, ◌+◌, ◌*◌, ◌<◌, ◌≤◌, ◌&&◌, not, Bool, true, false, List, [], ◌∷◌, ◌++◌, length, replicate, set, take, drop, refl, sym, ap, subst, ◌∙◌, arith, Some, None}
 use Rattle.std.proofs.Math.Seq.{take-add}
 use Rattle.tx_trees.proofs.Rebuilding.{advances_in-append}
 use Rattle.phase_out.specs.Rounds.{NodeRows, all_in}
@@ -9,10 +9,14 @@ use Rattle.letter_types.specs.declared.entries.Entry.{Entry}
 use Rattle.letter_types.specs.declared.entries.Outgoing.{Outgoing}
 use Rattle.letter_types.specs.Steps.{Out}
 use Rattle.tx_trees.specs.Counts.{advances_in}
-use Rattle.tx_trees.specs.ScriptData.{ScriptData, client_of, home_of, node_of}
+use Rattle.tx_trees.specs.ScriptData.{ScriptData, client_of, home_of, node_of, subs_at}
 use Rattle.tx_trees.specs.declared.parts.ScriptRow.{ScriptRow}
 use Rattle.tx_trees.specs.declared.parts.ScriptRow.TheVariants.{Tree as TreeRow, Advance as AdvanceRow, Settle as SettleRow, Lose as LoseRow}
-use Rattle.world_model.specs.Node.{Node}
+use Rattle.tree_home.specs.Homes.{Gets}
+use Rattle.world_model.specs.Children.{sub_letters, done_letter}
+use Rattle.world_model.specs.Done.{note_done, root_done, sub_done, with_open_tree}
+use Rattle.world_model.specs.Notices.{answer_noted, reply_letters, values_of}
+use Rattle.world_model.specs.Node.{Effect, Node}
 use Rattle.world_model.specs.Client.{Client, nudge, rows_letters, submit, submitted, with_answer, with_end}
 use Rattle.world_model.specs.Coordinator.{Coordinator, coordinator_row, counted_version, end_count, keep_done, to_nodes, version}
 use Rattle.world_model.specs.declared.phase.Phase.{Phase}
@@ -26,15 +30,16 @@ use Rattle.world_model.proofs.Flows.{client_kept, flow}
 use Rattle.world_model.proofs.Lawful.{IsLawful}
 use Rattle.world_model.proofs.Nexts.{Next, Begins, Hears, Ends, Coordinates, DoesRoot, DoesSub, Notes, Obeys, MadeByClient, MadeByCoordinator, Order, Turns as TurnsTo, Shows, Sweeps, TellsDone, TellsAsked, Tells}
 use Rattle.world_model.proofs.Orders.{coordinator_nodes}
-use Rattle.world_model.proofs.Sends.{on}
+use Rattle.world_model.proofs.Sends.{on, replies_none, subs_none}
 use Rattle.world_model.specs.Kept.{done_by}
 use Rattle.world_model.proofs.Worked.{took_none}
 use Rattle.phase_laws.specs.Advances.{asked_for}
 use Rattle.phase_laws.specs.Phases.{count_in_flight}
-use Rattle.phase_laws.proofs.Letters.{NoTrees, note_none, root_none, sub_none}
+use Rattle.phase_laws.proofs.Letters.{NoTrees}
 use Rattle.phase_laws.proofs.Outcomes.{Outcome, Rests, Queues, Flags, Turns, Acks, LastTurned, LastShown, Finishes, GoesOn, Resumes, KeepsDone, KeepsAsked, Agrees, Recounts, Pauses, asked_kept, round_begun}
 use Rattle.phase_laws.proofs.Small.{outcome_in}
 use Rattle.tree_laws.proofs.Entries.{taken_in}
+use Rattle.run_laws.proofs.InTime.{all_apt, lawful}
 
 -- how many entries a letter of advancements costs: an order or a question is taken, and so is its answer
 abbrev pub cost : Body → ℕ
@@ -267,8 +272,48 @@ paid_node s past e m paid node goes =
     ap (λ (x : Client). advances_in (take x.next s.rows)) (client_kept s past e (omega (arith, node))) in
     paid_away s past e m paid (omega (arith, node)) (omega (arith, goes, asked))
 
+-- A tree's letters cost nothing.
+root_none : (f : Body → ℕ) (s : ScriptData) (p t v : ℕ) (effect : Effect) (st : Node) → NoTrees f
+    → tally (on f) (root_done s p t v effect st).sent ≡ 0
+root_none f s p t v effect st none =
+    let subs = sub_letters t v 0 0 (subs_at s t) in
+    let answer =
+    answer_noted (record { 0 = t }) (record { 0 = 0 }) (values_of effect.notice) (with_open_tree t (length (subs_at s t)) v st).homes in
+    omega (
+      arith,
+      tally-append (on f) subs (reply_letters (client_of s) answer),
+      subs_none f t v 0 0 (subs_at s t) none.sub,
+      replies_none f (client_of s) answer none.reply,
+    )
+
+sub_none : (f : Body → ℕ) (s : ScriptData) (q t k v : ℕ) (raises : Bool) (effect : Effect) (st : Node) → NoTrees f
+    → tally (on f) (sub_done s q t k v raises effect st).sent ≡ 0
+sub_none f s q t k v raises effect st none =
+    let subs = sub_letters t v k 0 (subs_at s t) in
+    let notice = done_letter (home_of s t) t k v effect.notice in
+    omega (
+      arith,
+      tally-append (on f) subs (notice ∷ []),
+      subs_none f t v k 0 (subs_at s t) none.sub,
+      none.done (record { 0 = t }) (record { 0 = k }) (record { 0 = v }) effect.notice,
+    )
+
+note_none : (f : Body → ℕ) (s : ScriptData) (q t k v : ℕ) (values : Gets) (st : Node) → NoTrees f
+    → tally (on f) (note_done s q t k v values st).sent ≡ 0
+note_none f s q t k v values st none =
+    replies_none f (client_of s) (answer_noted (record { 0 = t }) (record { 0 = k }) values st.homes) none.reply
+
 cost_trees : NoTrees cost
-cost_trees = record { root = λ t. refl; sub = λ t k v. refl; done = λ t k v notice. refl; reply = λ t v answer. refl; wake = λ t k. refl }
+cost_trees = record {
+  root = λ t. refl;
+  sub = λ t k v. refl;
+  done = λ t k v notice. refl;
+  reply = λ t v answer. refl;
+  wake = λ t k. refl;
+  decide = λ t v commit. refl;
+  decided = λ t v. refl;
+  release = λ t. refl;
+}
 
 order_pays : (s : ScriptData) (st : Node) (body : Body) (out : Out Node) → Order s st body out → cost body ≡ tally (on cost) out.sent + is_apart body
 order_pays s st body out (TurnsTo v bd is) = omega (arith, ap cost bd, ap is_apart bd, ap (λ (o : Out Node). tally (on cost) o.sent) is)
@@ -292,7 +337,8 @@ paid_told : (s : ScriptData) (past : List Entry) (e : Entry) (laws : IsLawful s)
 paid_told s past e laws run timely paid tells at made =
     let c = coordinator_in s past in
     let out = coordinator_row c e.took.from.0 e.took.body in
-    let pays = pays_out s.nodes c e.took.from.0 e.took.body out laws.sound.valid.some_nodes (coordinator_nodes s past) (outcome_in s past e laws run.1 timely) in
+    let pays = pays_out s.nodes c e.took.from.0 e.took.body out laws.sound.valid.some_nodes (coordinator_nodes s past)
+    (outcome_in s past e (lawful s laws.sound) run.1 (all_apt s past laws.sound run.1)) in
     let pends : pend s.nodes (coordinator_in s (e ∷ past)) ≡ pend s.nodes out.state = ap (λ (d : Coordinator). pend s.nodes d) made.state in
     let spends : spent s.nodes (coordinator_in s (e ∷ past)) ≡ spent s.nodes out.state = ap (λ (d : Coordinator). spent s.nodes d) made.state in
     let sent : tally (on cost) e.sent ≡ tally (on cost) out.sent = ap (λ (os : List Outgoing). tally (on cost) os) made.sent in

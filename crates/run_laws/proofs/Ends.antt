@@ -34,11 +34,11 @@ use Rattle.tree_laws.proofs.Acts.{counted_any, finish_marks, of_act}
 use Rattle.tree_laws.proofs.Client.{at_rest}
 use Rattle.tree_laws.proofs.Finishes.{all_answered_of, answered_now, at_end, finishes_of, none_left}
 use Rattle.tree_laws.proofs.Goods.{good_run}
-use Rattle.tree_laws.proofs.Nudges.{lawful}
-use Rattle.phase_laws.proofs.Closing.{all_timely}
+use Rattle.tree_laws.proofs.Nudges.{lawful as tree_lawful}
 use Rattle.run_laws.proofs.Measures.{busy, nudges, unanswered}
 use Rattle.run_laws.proofs.Heard.{all_of, heard, wave}
 use Rattle.run_laws.proofs.Pauses.{bound}
+use Rattle.run_laws.proofs.InTime.{all_apt, in_time, lawful}
 
 -- The trees.
 none_unanswered : (b : Bool) → b ≡ true → one_if (not b) ≡ 0
@@ -79,18 +79,18 @@ not_telling : (s : ScriptData) (past : List Entry) (laws : IsLawful s) (run : Is
     → in_flight s past ≡ [] → (coordinator_in s past).phase ≡ phase → ((k : ℕ) → within g phase k ≡ k) → ⊥
 not_telling s past laws run timely g phase empty at fills =
     let c = coordinator_in s past in
-    let all = told g s past laws run timely in
+    let all = told g s past (lawful s laws.sound) run (all_apt s past laws.sound run) in
     let none = none_left (λ (l : Letter). token g l.body) s past empty in
     let acks : within g c.phase c.acks ≡ c.acks = ap (λ (p : Phase). within g p c.acks) at ∙ fills c.acks in
     let nodes : within g c.phase s.nodes ≡ s.nodes = ap (λ (p : Phase). within g p s.nodes) at ∙ fills s.nodes in
-    absurd (omega (arith, all, none, acks, nodes, (small s past laws run timely).acks))
+    absurd (omega (arith, all, none, acks, nodes, (small s past (lawful s laws.sound) run (all_apt s past laws.sound run)).acks))
 
 -- a round that counts has a letter in flight
 not_counting : (s : ScriptData) (past : List Entry) (laws : IsLawful s) (run : IsStepRun s past) (timely : AllTimely s past) (reads : Bool)
     → in_flight s past ≡ [] → (coordinator_in s past).phase ≡ Counting reads → ⊥
 not_counting s past laws run timely reads empty at =
     let r = (coordinator_in s past).current in
-    let now = current s past laws run timely reads at in
+    let now = current s past (lawful s laws.sound) run (all_apt s past laws.sound run) reads at in
     let nodes = coordinator_nodes s past in
     let waved = heard s past laws run timely reads at in
     let none : (two : Bool) (q : ℕ) → tally (λ (l : Letter). wave two r.version.0 r.number q s.nodes l.from.0 l.to.0 l.body) (in_flight s past) ≡ 0 =
@@ -127,7 +127,7 @@ pub ended_all : (s : ScriptData) (past : List Entry) (laws : IsLawful s) (run : 
     → (client_in s past).ended ≡ asked_for s past
 ended_all s past laws run timely empty =
     let rests = idle s past laws run timely empty in
-    let now = small s past laws run timely in
+    let now = small s past (lawful s laws.sound) run (all_apt s past laws.sound run) in
     omega (
       arith,
       rests,
@@ -184,7 +184,7 @@ has_finished s past sound run timely is =
 pub no_run_stalls : (s : ScriptData) (past : List Entry) → IsSound s → IsStepRun s past → in_flight s past ≡ []
     → ((client_in s past).finished ≡ true) × HasFinished (reverse past)
 no_run_stalls s past sound run empty =
-    let laws = lawful s sound in
-    let timely = all_timely s past laws run in
+    let laws = tree_lawful s sound in
+    let timely = in_time s past sound run in
     let is = finished s past laws run timely empty in
     (is, has_finished s past sound run timely is)

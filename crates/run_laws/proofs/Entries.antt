@@ -38,13 +38,13 @@ use Rattle.tree_laws.proofs.Doing.{no_birth, root_answer, root_sends, sub_acts, 
 use Rattle.tree_laws.proofs.Entries.{all_subs_here, asks_in, is_other, is_reply, is_root, is_work, root_here, some_subs, submit_other, taken_in, taken_over, taken_replies, work_hit, work_none}
 use Rattle.tree_laws.proofs.Finishes.{TreeDone, none_left, tree_done}
 use Rattle.tree_laws.proofs.Goods.{good_run}
-use Rattle.tree_laws.proofs.Nudges.{lawful}
+use Rattle.tree_laws.proofs.Nudges.{lawful as tree_lawful}
 use Rattle.tree_laws.proofs.OrderStep.{ActsOfNone, coordinates_aside, coordinator_sends, obeys_aside, asks_trees}
 use Rattle.tree_laws.proofs.Sent.{rooted_once}
 use Rattle.tree_laws.proofs.Sums.{over, over_hit, over_none, over_ones, over_same}
-use Rattle.phase_laws.proofs.Closing.{all_timely}
 use Rattle.run_laws.proofs.Costs.{cost, is_apart, paid, stages, unasked}
 use Rattle.run_laws.proofs.Ends.{all_rows, ended_all, idle}
+use Rattle.run_laws.proofs.InTime.{all_apt, in_time, lawful}
 
 -- Each entry takes a letter, and sends these other letters in return.
 abbrev Weighs : ℕ → Body → Type 0
@@ -246,7 +246,13 @@ aparts_taken s past laws run timely empty =
     let calm = idle_pend s.nodes c.phase c.current.dones rests in
     let all : asked_for s past ≡ advances_in s.rows = ap advances_in (all_rows s past laws run timely empty) in
     let up : c.update ≡ advances_in s.rows + 1 =
-    omega (arith, all, ended_all s past laws run timely empty, (small s past laws run timely).ended, none_left (λ (l : Letter). is_advanced l.body) s past empty) in
+    omega (
+      arith,
+      all,
+      ended_all s past laws run timely empty,
+      (small s past (lawful s laws.sound) run (all_apt s past laws.sound run)).ended,
+      none_left (λ (l : Letter). is_advanced l.body) s past empty,
+    ) in
     apart_by s.nodes (advances_in s.rows) c.update (taken_in is_apart past) (stages c.phase) c.round up calm.1
     (omega (arith, paid s past laws run timely, none_left (λ (l : Letter). cost l.body) s past empty, calm.0, all))
 
@@ -254,8 +260,8 @@ aparts_taken s past laws run timely empty =
 pub entries_counted : (s : ScriptData) (past : List Entry) → IsSound s → IsStepRun s past → in_flight s past ≡ []
     → length past ≡ entries_of s (rounds_in s (reverse past))
 entries_counted s past sound run empty =
-    let laws = lawful s sound in
-    let timely = all_timely s past laws run in
+    let laws = tree_lawful s sound in
+    let timely = in_time s past sound run in
     let done = all_done s past laws run timely empty in
     let rounds : rounds_in s (reverse past) ≡ (coordinator_in s past).round = ap (λ (c : Coordinator). c.round) (coordinator_after s past) in
     rw rounds (omega (

@@ -31,6 +31,7 @@ use Rattle.phase_laws.proofs.Outcomes.{asked_kept, round_begun}
 use Rattle.phase_laws.proofs.Small.{outcome_in}
 use Rattle.run_laws.proofs.Course.{Course, Leaves, Starts, Holds, Lasts, TakesDone, TakesMore, Denies, NoDone, Refused, course, outside_counting}
 use Rattle.phase_laws.proofs.Silence.{below_or_at}
+use Rattle.run_laws.proofs.InTime.{all_apt, lawful}
 
 -- the first wave's or the second wave's question to node q, or q's answer
 abbrev pub wave : Bool → ℕ → ℕ → ℕ → ℕ → ℕ → ℕ → Body → ℕ
@@ -396,8 +397,9 @@ heard_told s past e laws run timely at made was =
     ∙ ap (λ (n : ℕ). tally (sends two v r q s.nodes n) out.sent) at in
     omega (arith, wave_flow s past e two v r q run.0, took, sent) in
     subst (λ (d : Coordinator). Heard s (e ∷ past) d) (sym made.state)
-    (heard_out s past e c out laws.sound.valid.some_nodes (coordinator_nodes s past) (current s past laws run.1 timely) was flow
-    (course c e.took.from.0 e.took.body out (outcome_in s past e laws run.1 timely)))
+    (heard_out s past e c out laws.sound.valid.some_nodes (coordinator_nodes s past)
+    (current s past (lawful s laws.sound) run.1 (all_apt s past laws.sound run.1)) was flow
+    (course c e.took.from.0 e.took.body out (outcome_in s past e (lawful s laws.sound) run.1 (all_apt s past laws.sound run.1))))
 
 heard_next : (s : ScriptData) (past : List Entry) (e : Entry) → IsLawful s → IsStepRun s (e ∷ past) → AllTimely s past → Next s past e
     → Heard s past (coordinator_in s past) → Heard s (e ∷ past) (coordinator_in s (e ∷ past))

@@ -38,6 +38,7 @@ use Rattle.run_laws.proofs.Measures.{busy, nudges, of_trees}
 use Rattle.run_laws.proofs.Busy.{busy_step, no_nudge, trees_rest}
 use Rattle.run_laws.proofs.Course.{Alike, Course, Leaves, Starts, Holds, Lasts, TakesDone, TakesMore, Denies, Unnudged, course, outside_counting, outside_paused}
 use Rattle.run_laws.proofs.Exacts.{Counts, Exact, ExactBody, Frozen, Pausing, SentExact, all_agree, asked_put, client_exact, coordinator_exact, done_put, exact_on, frozen_away, kept_is, order_counts, order_exact}
+use Rattle.run_laws.proofs.InTime.{all_apt, lawful}
 
 pub record Bound (s : ScriptData) (past : List Entry) (c : Coordinator) : Type 0 where
   pub counts : Counts s past c
@@ -70,7 +71,8 @@ starts_exact s past e reads d laws run timely made =
     let v = (counted_version reads d).0 in
     let r = (coordinator_in s past).round in
     let old = each_map (λ (l : Letter). round_of l.body ≤ r) (λ (l : Letter). ExactBody s (e ∷ past) v k l.from.0 l.body) (in_flight s past)
-    (λ l le. later_exact s (e ∷ past) v k r l.from.0 l.body (omega arith) le) (fresh s past laws run timely).letters in
+    (λ l le. later_exact s (e ∷ past) v k r l.from.0 l.body (omega arith) le)
+    (fresh s past (lawful s laws.sound) run (all_apt s past laws.sound run)).letters in
     record {
       letters = each_step (λ (l : Letter). ExactBody s (e ∷ past) v k l.from.0 l.body) s past e old (coordinator_exact s past e v k made);
       dones = λ q row lq at. absurd (none_kept d.nodes q row at);
@@ -147,8 +149,10 @@ low_at : (s : ScriptData) (past : List Entry) (reads : Bool) (p : ℕ) (laws : I
     → (node_in s past p).turns.low.0 ≤ (coordinator_in s past).current.version.0
 low_at s past reads p laws run timely lt at =
     let c = coordinator_in s past in
-    let is : c.current.version.0 ≡ (if reads then c.update - 1 else c.update) = ap (λ (v : Version). v.0) (current s past laws run timely reads at).version in
-    let le = low_counted c.phase reads c.update (node_in s past p).turns.low.0 at (versions_in_phase s past laws run timely p lt).low_to in
+    let is : c.current.version.0 ≡ (if reads then c.update - 1 else c.update) =
+    ap (λ (v : Version). v.0) (current s past (lawful s laws.sound) run (all_apt s past laws.sound run) reads at).version in
+    let le = low_counted c.phase reads c.update (node_in s past p).turns.low.0 at
+    (versions_in_phase s past (lawful s laws.sound) run (all_apt s past laws.sound run) p lt).low_to in
     subst (λ (n : ℕ). (node_in s past p).turns.low.0 ≤ n) (sym is) le
 
 exact_agrees : (s : ScriptData) (past : List Entry) (e : Entry) (reads : Bool) (v : Version) (k : ℕ) (row : List ℕ) (laws : IsLawful s)
@@ -160,7 +164,7 @@ exact_agrees : (s : ScriptData) (past : List Entry) (e : Entry) (reads : Bool) (
 exact_agrees s past e reads v k row laws run timely m none takes full exact =
     let c = coordinator_in s past in
     let r = c.current in
-    let now = current s past laws run timely reads takes.phase in
+    let now = current s past (lawful s laws.sound) run (all_apt s past laws.sound run) reads takes.phase in
     let nodes = coordinator_nodes s past in
     let askeds = set r.askeds e.took.from.0 (Some row) in
     let put = asked_put s past e r v k row m takes.body_is takes.here (now.nodes ∙ nodes) exact in
@@ -185,7 +189,8 @@ bound_denies s past e reads v k row laws run timely m step was takes verdict cle
     let c = coordinator_in s past in
     let r = c.current in
     let askeds = set r.askeds e.took.from.0 (Some row) in
-    let nodes : r.nodes ≡ s.nodes = (current s past laws run timely reads takes.phase).nodes ∙ coordinator_nodes s past in
+    let nodes : r.nodes ≡ s.nodes =
+    (current s past (lawful s laws.sound) run (all_apt s past laws.sound run) reads takes.phase).nodes ∙ coordinator_nodes s past in
     let parts = verdict_no (all_in r.dones) (all_in askeds) (agrees r.nodes askeds r.dones) verdict in
     record {
       counts = λ x at clear' none. absurd (cc at);
@@ -218,11 +223,11 @@ bound_out s past e out laws run timely was frozen made (Lasts reads d at alike c
     subst (λ (o : Out Coordinator). Bound s (e ∷ past) o.state) (sym is)
     (bound_lasts s past e reads (coordinator_in s past) d (busy_step s past e laws run timely) was at alike calm)
 bound_out s past e out laws run timely was frozen made (TakesDone reads v k row at bd here is) =
-    let nodes = (current s past laws run.1 timely.1 reads at).nodes ∙ coordinator_nodes s past in
+    let nodes = (current s past (lawful s laws.sound) run.1 (all_apt s past laws.sound run.1) reads at).nodes ∙ coordinator_nodes s past in
     subst (λ (o : Out Coordinator). Bound s (e ∷ past) o.state) (sym is)
     (bound_done s past e reads v k row (coordinator_in s past) run.0 (busy_step s past e laws run timely) was frozen made at nodes bd here)
 bound_out s past e out laws run timely was frozen made (TakesMore reads v k row takes verdict is) =
-    let nodes = (current s past laws run.1 timely.1 reads takes.phase).nodes ∙ coordinator_nodes s past in
+    let nodes = (current s past (lawful s laws.sound) run.1 (all_apt s past laws.sound run.1) reads takes.phase).nodes ∙ coordinator_nodes s past in
     subst (λ (o : Out Coordinator). Bound s (e ∷ past) o.state) (sym is)
     (bound_asked s past e reads v k row (coordinator_in s past) run.0 (busy_step s past e laws run timely) was frozen made takes nodes)
 bound_out s past e out laws run timely was frozen made (Denies reads v k row takes verdict clear is) =
@@ -265,7 +270,7 @@ stands s past e reads laws run timely m none at away (Notes t k w values bd sub 
     absurd (no_tree s past e _ m none bd refl)
 stands s past e reads laws run timely m none at away (Obeys p out here lt order made) =
     let counts = order_counts s (node_in s past p) e.took.body out (λ v bd.
-    let sweeping = phase_for s past e (Sweep v) laws run timely m bd in
+    let sweeping = phase_for s past e (Sweep v) (lawful s laws.sound) run (all_apt s past laws.sound run) m bd in
     let clash : Counting reads ≡ Sweeping = sym at ∙ sweeping in
     absurd (cc clash)) order in
     let frozen : Frozen s past e = λ q lq. same_part (λ (st : Node). st.counts) s past e p out made here counts q in
@@ -299,7 +304,7 @@ bound_next s past e laws run timely (Coordinates tells at made) was =
     let out = coordinator_row c e.took.from.0 e.took.body in
     subst (λ (d : Coordinator). Bound s (e ∷ past) d) (sym made.state)
     (bound_out s past e out laws run timely was (frozen_away s past e (omega (arith, at))) made
-    (course c e.took.from.0 e.took.body out (outcome_in s past e laws run.1 timely.1)))
+    (course c e.took.from.0 e.took.body out (outcome_in s past e (lawful s laws.sound) run.1 (all_apt s past laws.sound run.1))))
 bound_next s past e laws run timely (Begins bd at made) was =
     bound_away s past e laws run timely (omega (arith, at)) (Begins bd at made) was
 bound_next s past e laws run timely (Hears t v answer bd at lt made) was =

@@ -19,7 +19,7 @@ use Rattle.world_model.proofs.Nexts.{Next, Begins, Hears, Ends, Coordinates, Doe
 use Rattle.world_model.proofs.Scripts.{IsSound, SubAt}
 use Rattle.tree_laws.specs.Dids.{dids}
 use Rattle.tree_laws.proofs.Goods.{good_run}
-use Rattle.tree_laws.proofs.Nudges.{lawful}
+use Rattle.tree_laws.proofs.Nudges.{lawful as tree_lawful}
 use Rattle.phase_laws.proofs.Outcomes.{Outcome, Rests, Queues, Flags, Turns, Acks, LastTurned, LastShown, Finishes, GoesOn, Resumes, KeepsDone, KeepsAsked, Agrees, Recounts, Pauses, TakesAsked, asked_kept}
 use Rattle.phase_laws.proofs.Small.{outcome_in}
 use Rattle.phase_laws.specs.Phases.{least_read, least_update}
@@ -30,6 +30,7 @@ use Rattle.tree_laws.proofs.Versions.{versioned_run}
 use Rattle.phase_laws.specs.Quiet.{IsSilent}
 use Rattle.phase_laws.proofs.Rounds.{agrees_silent}
 use Rattle.run_laws.proofs.Wholes.{AreWhole, BornAt, born_by, born_split, born_with, is_of_kind, turn_of, whole_when_silent}
+use Rattle.run_laws.proofs.InTime.{all_apt, lawful}
 
 -- the version up to which trees of the kind are whole, in a phase of an advancement from version u: update trees up to
 -- the version that is shown, and read trees below the version that is swept
@@ -180,7 +181,8 @@ pub step_reaches : (kind : Bool) (s : ScriptData) (past : List Entry) (e : Entry
     → Reaches kind (coordinator_in s past) e.took.from.0 e.took.body (coordinator_row (coordinator_in s past) e.took.from.0 e.took.body)
 step_reaches kind s past e laws run timely made =
     reaches kind (coordinator_in s past) e.took.from.0 e.took.body (coordinator_row (coordinator_in s past) e.took.from.0 e.took.body)
-    (levels s past laws run timely).first (outcome_in s past e laws run timely)
+    (levels s past (lawful s laws.sound) run (all_apt s past laws.sound run)).first
+    (outcome_in s past e (lawful s laws.sound) run (all_apt s past laws.sound run))
 
 -- trees of the version of a round that says yes are whole
 closing : (kind : Bool) (s : ScriptData) (past : List Entry) (e : Entry) (v : Version) (k : ℕ) (row : List ℕ) → IsSound s
@@ -191,7 +193,7 @@ closing : (kind : Bool) (s : ScriptData) (past : List Entry) (e : Entry) (v : Ve
     → AreWhole kind s past (now_below kind s past) → AreWhole kind s past ((counted_version kind (coordinator_in s past)).0 + 1)
 closing kind s past e v k row sound run timely at takes agrees is whole =
     let r = (counted_version kind (coordinator_in s past)).0 in
-    let silent : IsSilent s past r = agrees_silent s past e kind v k row (lawful s sound) run timely.1 takes agrees in
+    let silent : IsSilent s past r = agrees_silent s past e kind v k row (lawful s sound) run (all_apt s past sound run.1) takes agrees in
     let good = good_run s past sound run.1 timely.1 in
     let are = versioned_run s past sound run.1 timely.1 in
     one_more kind s past r (subst (λ (n : ℕ). AreWhole kind s past n) is whole)
@@ -241,24 +243,27 @@ whole_next : (kind : Bool) (s : ScriptData) (past : List Entry) (e : Entry) → 
     → AreWhole kind s past (now_below kind s past) → (next : Next s past e) → AreWhole kind s (e ∷ past) (now_below kind s (e ∷ past))
 whole_next kind s past e sound run timely whole (Coordinates tells at made) =
     coordinates_whole kind s past e sound run timely at made whole
-    (step_reaches kind s past e (lawful s sound) run.1 timely.1 made)
+    (step_reaches kind s past e (tree_lawful s sound) run.1 timely.1 made)
 whole_next kind s past e sound run timely whole (Begins is at made) =
-    others_whole kind s past e (levels s past (lawful s sound) run.1 timely.1) (Begins is at made) (coordinator_kept s past e (omega arith)) whole
+    others_whole kind s past e (levels s past (lawful s sound) run.1 (all_apt s past sound run.1)) (Begins is at made)
+    (coordinator_kept s past e (omega arith)) whole
 whole_next kind s past e sound run timely whole (Hears t v answer is at lt made) =
-    others_whole kind s past e (levels s past (lawful s sound) run.1 timely.1) (Hears t v answer is at lt made) (coordinator_kept s past e (omega arith)) whole
+    others_whole kind s past e (levels s past (lawful s sound) run.1 (all_apt s past sound run.1)) (Hears t v answer is at lt made)
+    (coordinator_kept s past e (omega arith)) whole
 whole_next kind s past e sound run timely whole (Ends v is at made) =
-    others_whole kind s past e (levels s past (lawful s sound) run.1 timely.1) (Ends v is at made) (coordinator_kept s past e (omega arith)) whole
+    others_whole kind s past e (levels s past (lawful s sound) run.1 (all_apt s past sound run.1)) (Ends v is at made)
+    (coordinator_kept s past e (omega arith)) whole
 whole_next kind s past e sound run timely whole (DoesRoot t v effect is c at lt new work made) =
-    others_whole kind s past e (levels s past (lawful s sound) run.1 timely.1) (DoesRoot t v effect is c at lt new work made)
+    others_whole kind s past e (levels s past (lawful s sound) run.1 (all_apt s past sound run.1)) (DoesRoot t v effect is c at lt new work made)
     (coordinator_kept s past e (omega (arith, at, lt))) whole
 whole_next kind s past e sound run timely whole (DoesSub t k v raises effect is c later from at lt work made) =
-    others_whole kind s past e (levels s past (lawful s sound) run.1 timely.1) (DoesSub t k v raises effect is c later from at lt work made)
+    others_whole kind s past e (levels s past (lawful s sound) run.1 (all_apt s past sound run.1)) (DoesSub t k v raises effect is c later from at lt work made)
     (coordinator_kept s past e (omega (arith, at, lt))) whole
 whole_next kind s past e sound run timely whole (Notes t k v values is c later from at lt misses made) =
-    others_whole kind s past e (levels s past (lawful s sound) run.1 timely.1) (Notes t k v values is c later from at lt misses made)
+    others_whole kind s past e (levels s past (lawful s sound) run.1 (all_apt s past sound run.1)) (Notes t k v values is c later from at lt misses made)
     (coordinator_kept s past e (omega (arith, at, lt))) whole
 whole_next kind s past e sound run timely whole (Obeys p out at lt order made) =
-    others_whole kind s past e (levels s past (lawful s sound) run.1 timely.1) (Obeys p out at lt order made)
+    others_whole kind s past e (levels s past (lawful s sound) run.1 (all_apt s past sound run.1)) (Obeys p out at lt order made)
     (coordinator_kept s past e (omega (arith, at, lt))) whole
 
 first_none : (kind : Bool) (s : ScriptData) → AreWhole kind s [] (now_below kind s [])
@@ -269,4 +274,4 @@ pub whole_run : (kind : Bool) (s : ScriptData) (past : List Entry) → IsSound s
     → AreWhole kind s past (now_below kind s past)
 whole_run kind s [] sound run timely = first_none kind s
 whole_run kind s (e ∷ past) sound run timely =
-    whole_next kind s past e sound run timely (whole_run kind s past sound run.1 timely.1) ((lawful s sound).next past e run timely)
+    whole_next kind s past e sound run timely (whole_run kind s past sound run.1 timely.1) ((tree_lawful s sound).next past e run timely)

@@ -23,9 +23,8 @@ use Rattle.world_model.proofs.Scripts.{IsSound, has_root, node_below, sub_there}
 use Rattle.world_model.proofs.EachOutstanding.{each_waits}
 use Rattle.tree_laws.specs.Entries.{entries_of}
 use Rattle.tree_laws.proofs.Goods.{good_run}
-use Rattle.tree_laws.proofs.Nudges.{lawful}
 use Rattle.tree_laws.proofs.Sampled.{small_valid}
-use Rattle.phase_laws.proofs.Closing.{all_timely}
+use Rattle.run_laws.proofs.InTime.{in_time}
 use Rattle.run_laws.proofs.Ends.{no_run_stalls}
 
 -- the small script, and an advancement after its tree
@@ -82,7 +81,7 @@ next_run : (s : ScriptData) (past : List Entry) (ls : List Letter) → IsSound s
 next_run s past [] sound run at = run
 next_run s past (l ∷ ls) sound run at =
     let letters = each_waits (λ (x : Letter). IsFit s x.from.0 x.to.0 x.body) s past
-    (good_run s past sound run (all_timely s past (lawful s sound) run)).letters in
+    (good_run s past sound run (in_time s past sound run)).letters in
     let fit = (subst (λ (xs : List Letter). Each (λ (x : Letter). IsFit s x.from.0 x.to.0 x.body) xs) at letters).0 in
     let found : find_id l.id (in_flight s past) ≡ Some l = ap (λ (xs : List Letter). find_id l.id xs) at ∙ first_found l ls in
     (follows s past l found (someone s l.from.0 l.to.0 l.body sound fit) (nat_lt l.to.0 s.nodes) (l.to.0 == s.nodes) refl refl, run)

@@ -1,30 +1,17 @@
 -- Each letter that a node takes in a run is apt there.
-use Rattle.std.proofs.Common.{◌≡◌, ℕ, ◌<◌, ◌==◌, Bool, true, false, List, [], ◌∷◌, reverse, refl, sym, ap, subst, ◌∙◌, arith, Some}
-use Rattle.std.proofs.lemmas.Bool.Decides.{nat_tests}
+use Rattle.std.proofs.Common.{◌≡◌, ℕ, ◌<◌, true, List, [], ◌∷◌, reverse, sym, ap, subst, ◌∙◌}
 use Rattle.letter_types.specs.Kept.{brought}
-use Rattle.letter_types.specs.declared.bodies.Body.{Body}
-use Rattle.letter_types.specs.declared.bodies.Body.TheVariants.{Decide, Decided, Go, Release, Wake}
 use Rattle.letter_types.specs.declared.entries.Entry.{Entry}
-use Rattle.letter_types.specs.declared.entries.Letter.{Letter}
-use Rattle.letter_types.specs.declared.kept.KeptLetter.{KeptLetter}
 use Rattle.tx_trees.specs.ScriptData.{ScriptData, client_of}
-use Rattle.world_model.specs.Core.{plain_core}
-use Rattle.world_model.specs.Keeping.{KeepingNode, is_apt_brought}
+use Rattle.world_model.specs.Keeping.{is_apt_brought}
 use Rattle.world_model.specs.Kept.{kept_in}
-use Rattle.world_model.specs.Runs.{IsStepRun, actor_after, AtNode, AtCoordinator, AtClient, Moves, keeping_in, node_in}
-use Rattle.world_model.specs.Strict.{is_core_apt, is_of_strict}
+use Rattle.world_model.specs.Runs.{IsStepRun, actor_after, AtNode, AtCoordinator, AtClient, Moves, keeping_in}
 use Rattle.world_model.specs.Tables.{ActorData}
 use Rattle.world_model.proofs.Back.{client_leads, coordinator_leads, node_leads}
-use Rattle.world_model.proofs.EachOutstanding.{each_took}
-use Rattle.world_model.proofs.Fits.{IsFit}
-use Rattle.world_model.proofs.NothingKept.{bare, keeping_is}
-use Rattle.world_model.proofs.Plain.{apt_plain}
-use Rattle.world_model.proofs.Scripts.{IsSound, plain_script}
-use Rattle.tree_laws.proofs.Aptness.{taken_is_apt}
+use Rattle.world_model.proofs.Scripts.{IsSound}
 use Rattle.tree_laws.proofs.Histories.{before_more}
-use Rattle.tree_laws.proofs.Nudges.{lawful}
 use Rattle.run_laws.specs.Taken.{IsAptFor, TakesWhatIsApt}
-use Rattle.run_laws.proofs.InTime.{in_time}
+use Rattle.run_laws.proofs.InTime.{all_apt}
 
 -- the letter of an entry is apt for its actor
 abbrev IsAptEntry : ScriptData → List Entry → Entry → Type 0
@@ -36,36 +23,10 @@ in_state : (s : ScriptData) (before : List Entry) (e : Entry) (a : ℕ) (state :
 in_state s before e a state at is apt =
     subst (λ (d : ActorData). IsAptFor s e.actor.0 d e.took) (sym is ∙ sym (ap (actor_after s before) at)) apt
 
--- a letter that is meant for its addressee isn't one that strict trees alone have
-fit_own : (s : ScriptData) (from to : ℕ) (b : Body) → IsFit s from to b → is_of_strict b ≡ false
-fit_own s from to (Decide t v commit) fit = absurd fit
-fit_own s from to (Decided t v) fit = absurd fit
-fit_own s from to (Release t) fit = absurd fit
-fit_own s from to (Wake t k) fit = absurd fit
-fit_own s from to _ fit = refl
-
--- such a letter brings itself
-brings_own : (kept : List KeptLetter) (l : Letter) (b : Body) → is_of_strict b ≡ false → brought kept l b ≡ Some l
-brings_own kept l (Wake t k) own = absurd (cc own)
-brings_own kept l _ own = refl
-
--- so it is apt at its node, as it is for what commuting trees see of it
+-- it is apt at its node
 pub apt_here : (s : ScriptData) (past : List Entry) (e : Entry) → IsSound s → IsStepRun s (e ∷ past) → e.actor.0 < s.nodes
     → is_apt_brought s e.actor.0 (keeping_in s past e.actor.0) (brought (kept_in s past e.actor.0) e.took e.took.body) ≡ true
-apt_here s past e sound run lt =
-    let p = e.actor.0 in
-    let st = node_in s past p in
-    let plain = plain_script s sound in
-    let laws = lawful s sound in
-    let fit = each_took (λ (l : Letter). IsFit s l.from.0 l.to.0 l.body) s past e run.0 (laws.fits past run.1 (in_time s past sound run.1)) in
-    let own = fit_own s e.took.from.0 e.took.to.0 e.took.body fit in
-    let here : (e.took.to.0 == p) ≡ true = let to = run.0.addressee in grind (arith, nat_tests) in
-    let apt : is_core_apt s p (plain_core st) e.took ≡ true =
-    apt_plain s p st e.took plain own
-    ∙ taken_is_apt s past e sound.valid sound.runnable run (in_time s (e ∷ past) sound run) lt in
-    ap (λ (n : KeepingNode). is_apt_brought s p n (brought n.kept e.took e.took.body)) (keeping_is s past p plain)
-    ∙ ap (is_apt_brought s p (bare st)) (brings_own [] e.took e.took.body own)
-    ∙ rw here apt
+apt_here s past e sound run lt = (all_apt s (e ∷ past) sound run).0 lt
 
 taken_by : (s : ScriptData) (past : List Entry) (e : Entry) → IsSound s → IsStepRun s (e ∷ past) → Moves s past e
     → IsAptEntry s (reverse past) e
