@@ -129,7 +129,7 @@ unread_by Update is = refl
 unread_by Read is = absurd (cc is)
 unread_by Strict is = absurd (cc is)
 
-unread : (s : ScriptData) (t : ℕ) (found : Option Tree) → slice_get s.trees t ≡ found → updates s t ≡ true → reads s t ≡ false
+pub unread : (s : ScriptData) (t : ℕ) (found : Option Tree) → slice_get s.trees t ≡ found → updates s t ≡ true → reads s t ≡ false
 unread s t None at up = rw (at, reads) refl
 unread s t (Some tree) at up =
     let update : is_update tree.kind ≡ true = rw (at, updates) at up in rw (at, reads) (unread_by tree.kind update)

@@ -1,4 +1,8 @@
 pub mod EveryApt
+pub mod EveryDid
+pub mod EveryDecided
+pub mod EveryWhole
+pub mod EveryBirth
 pub mod Wholes
 pub mod Reached
 pub mod Closed

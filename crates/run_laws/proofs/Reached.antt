@@ -1,39 +1,36 @@
--- How far the trees of a kind are whole, by the coordinator's phase.
-use Rattle.std.proofs.Common.{◌≡◌, ◌⊎◌, inl, inr, ℕ, ◌+◌, ◌-◌, ◌<◌, ◌≤◌, Bool, true, false, List, [], ◌∷◌, reverse, refl, sym, ap, subst, ◌∙◌, arith, Some, None}
+-- How far the trees of a kind are whole, by the coordinator's phase, in every run of every valid script.
+use Rattle.std.proofs.Common.{◌≡◌, ◌⊎◌, inl, inr, ℕ, ◌+◌, ◌-◌, ◌<◌, ◌≤◌, Bool, true, false, not, List, [], ◌∷◌, length, reverse, refl, sym, ap, subst, ◌∙◌, arith, Some, None}
 use Rattle.tv_base.specs.declared.numbers.Version.{Version}
 use Rattle.letter_types.specs.declared.bodies.Body.{Body}
 use Rattle.letter_types.specs.declared.entries.Entry.{Entry}
 use Rattle.letter_types.specs.Steps.{Out}
-use Rattle.world_model.specs.Coordinator.{Coordinator, counted_version, coordinator_row, end_count}
+use Rattle.world_model.specs.Coordinator.{Coordinator, counted_version, coordinator_row, end_count, with_asked}
 use Rattle.world_model.specs.declared.phase.Phase.{Phase}
 use Rattle.world_model.specs.declared.phase.Phase.TheVariants.{Idle, Turning, Counting, Paused, Showing, Sweeping}
 use Rattle.phase_out.specs.Rounds.{verdict_of}
-use Rattle.world_model.specs.Coordinator.{with_asked}
-use Rattle.tx_trees.specs.ScriptData.{ScriptData}
-use Rattle.board_rules.specs.Histories.{Place, places_at, places_of, version_in}
+use Rattle.tx_trees.specs.ScriptData.{ScriptData, reads}
+use Rattle.tx_trees.specs.Valid.{IsValid}
+use Rattle.board_rules.specs.Histories.{IsWhole, Place, is_whole_in, places_at, places_of, version_in}
+use Rattle.board_rules.proofs.Wholes.{whole_more}
 use Rattle.world_model.specs.Runs.{IsStepRun, coordinator_in, node_in}
-use Rattle.world_model.specs.Timely.{AllTimely}
 use Rattle.world_model.proofs.Every.{coordinator_kept}
-use Rattle.world_model.proofs.Lawful.{IsLawful}
-use Rattle.world_model.proofs.Nexts.{Next, Begins, Hears, Ends, Coordinates, DoesRoot, DoesSub, Notes, Obeys, MadeByCoordinator}
-use Rattle.world_model.proofs.Scripts.{IsSound, SubAt}
-use Rattle.tree_laws.specs.Dids.{dids}
-use Rattle.tree_laws.proofs.Goods.{good_run}
-use Rattle.tree_laws.proofs.Nudges.{lawful as tree_lawful}
-use Rattle.phase_laws.proofs.Outcomes.{Outcome, Rests, Queues, Flags, Turns, Acks, LastTurned, LastShown, Finishes, GoesOn, Resumes, KeepsDone, KeepsAsked, Agrees, Recounts, Pauses, TakesAsked, asked_kept}
-use Rattle.phase_laws.proofs.Small.{outcome_in}
+use Rattle.world_model.proofs.Nexts.{MadeByCoordinator}
+use Rattle.tree_laws.proofs.Histories.{places_more}
 use Rattle.phase_laws.specs.Phases.{least_read, least_update}
+use Rattle.phase_laws.specs.Quiet.{IsSilent}
 use Rattle.phase_laws.proofs.LevelAt.{LevelAt, Levels}
 use Rattle.phase_laws.proofs.Levels.{levels}
-use Rattle.tree_laws.proofs.Histories.{places_more}
-use Rattle.tree_laws.proofs.Versions.{versioned_run}
-use Rattle.phase_laws.specs.Quiet.{IsSilent}
+use Rattle.phase_laws.proofs.Outcomes.{Outcome, Rests, Queues, Flags, Turns, Acks, LastTurned, LastShown, Finishes, GoesOn, Resumes, KeepsDone, KeepsAsked, Agrees, Recounts, Pauses, TakesAsked, asked_kept}
+use Rattle.phase_laws.proofs.Progress.{Begins, Coordinates, Ends, Hears, Obeys, Progress, Works, progress}
 use Rattle.phase_laws.proofs.Rounds.{agrees_silent}
-use Rattle.run_laws.proofs.Wholes.{AreWhole, BornAt, born_by, born_split, born_with, is_of_kind, turn_of, whole_when_silent}
-use Rattle.run_laws.proofs.InTime.{all_apt, lawful}
+use Rattle.phase_laws.proofs.Small.{outcome_in}
+use Rattle.run_laws.proofs.EveryApt.{all_apt, lawful}
+use Rattle.run_laws.proofs.EveryBirth.{IsBornAt, birth_at}
+use Rattle.run_laws.proofs.EveryWhole.{whole_when_silent}
+use Rattle.run_laws.proofs.Wholes.{AreWhole, born_split, born_with, is_of_kind, turn_of}
 
--- the version up to which trees of the kind are whole, in a phase of an advancement from version u: update trees up to
--- the version that is shown, and read trees below the version that is swept
+-- the version up to which trees of the kind are whole, in a phase of an advancement from version u: writers up to the
+-- version that is shown, and read trees below the version that is swept
 abbrev pub whole_below : Bool → Phase → ℕ → ℕ
 whole_below false Idle u = u
 whole_below false Turning u = u
@@ -73,33 +70,64 @@ turn_above true s past p level = omega (arith, level.read_from, below_read (coor
 abbrev pub now_below : Bool → ScriptData → List Entry → ℕ
 now_below kind s past = whole_below kind (coordinator_in s past).phase (coordinator_in s past).update
 
-kept_by : (kind : Bool) (s : ScriptData) (past : List Entry) (e : Entry) (r : ℕ) (t : ℕ) (w : Version) → AreWhole kind s past r
-    → is_of_kind kind s t ≡ true → w.0 < r → (BornAt s past e t w → ⊥) → Next s past e
-    → (born_with past t ≡ Some w) ⊎ (version_in t (places_at e) ≡ Some w) → (k : ℕ) → SubAt s t k → 1 ≤ dids (e ∷ past) t k
-kept_by kind s past e r t w whole of lt none next (inl old) k c = omega (arith, whole t w of old lt k c)
-kept_by kind s past e r t w whole of lt none next (inr new) k c = absurd (none (born_by s past e t w next new))
+-- a whole tree stays whole
+stays_whole : (s : ScriptData) (past : List Entry) (e : Entry) (t : ℕ) → IsWhole s (reverse past) t → IsWhole s (reverse (e ∷ past)) t
+stays_whole s past e t is =
+    ap (λ (xs : List Place). is_whole_in s xs t) (places_more e past) ∙ whole_more s (places_of (reverse past)) (places_at e) t is
+
+-- a tree that an entry bears takes the version that its node gives to trees of its kind
+not_true : (b : Bool) → not b ≡ true → b ≡ false
+not_true true is = absurd (cc is)
+not_true false is = refl
+
+pub born_turn : (kind : Bool) (s : ScriptData) (past : List Entry) (e : Entry) (t : ℕ) (w : Version) → IsBornAt s past e t w
+    → is_of_kind kind s t ≡ true → w.0 ≡ turn_of kind (node_in s past e.actor.0)
+born_turn true s past e t w at of = at.read of
+born_turn false s past e t w at of = at.update (not_true (reads s t) of)
+
+levels_in : (s : ScriptData) (past : List Entry) → IsValid s → IsStepRun s past → Levels s past
+levels_in s past valid run = levels s past (lawful s valid) run (all_apt s past valid run)
+
+-- so no tree that it bears has a version below
+pub born_above : (kind : Bool) (s : ScriptData) (past : List Entry) (e : Entry) (t : ℕ) (w : Version) → IsValid s → IsStepRun s (e ∷ past)
+    → is_of_kind kind s t ≡ true → version_in t (places_at e) ≡ Some w → now_below kind s past ≤ w.0
+born_above kind s past e t w valid run of new =
+    let at = birth_at s past e t w valid run new in
+    omega (
+      arith,
+      born_turn kind s past e t w at of,
+      turn_above kind s past e.actor.0 ((levels_in s past valid run.1).node e.actor.0 at.node),
+    )
+
+kept_by : (kind : Bool) (s : ScriptData) (past : List Entry) (e : Entry) (t : ℕ) (w : Version) → IsValid s → IsStepRun s (e ∷ past)
+    → AreWhole kind s past (now_below kind s past) → t < length s.trees → is_of_kind kind s t ≡ true → w.0 < now_below kind s past
+    → (born_with past t ≡ Some w) ⊎ (version_in t (places_at e) ≡ Some w) → IsWhole s (reverse (e ∷ past)) t
+kept_by kind s past e t w valid run whole there of lt (inl old) = stays_whole s past e t (whole t w there of old lt)
+kept_by kind s past e t w valid run whole there of lt (inr new) =
+    absurd (omega (arith, lt, born_above kind s past e t w valid run of new))
 
 -- what was whole stays so
-kept : (kind : Bool) (s : ScriptData) (past : List Entry) (e : Entry) → Levels s past → Next s past e
+kept : (kind : Bool) (s : ScriptData) (past : List Entry) (e : Entry) → IsValid s → IsStepRun s (e ∷ past)
     → AreWhole kind s past (now_below kind s past) → AreWhole kind s (e ∷ past) (now_below kind s past)
-kept kind s past e levels next whole = λ t w of born lt k c.
-    let parts = born_split t (places_of (reverse past)) (places_at e) w (sym (ap (version_in t) (places_more e past)) ∙ born) in
-    kept_by kind s past e (now_below kind s past) t w whole of lt
-    (λ at. omega (arith, at.turn kind of, turn_above kind s past e.actor.0 (levels.node e.actor.0 at.node), lt)) next parts k c
+kept kind s past e valid run whole = λ t w there of born lt.
+    kept_by kind s past e t w valid run whole there of lt
+    (born_split t (places_of (reverse past)) (places_at e) w (sym (ap (version_in t) (places_more e past)) ∙ born))
 
 -- one version more
-one_more : (kind : Bool) (s : ScriptData) (past : List Entry) (r : ℕ) → AreWhole kind s past r
-    → ((t : ℕ) (w : Version) → is_of_kind kind s t ≡ true → born_with past t ≡ Some w → w.0 ≡ r → (k : ℕ) → SubAt s t k → 1 ≤ dids past t k)
+abbrev IsWholeAt : Bool → ScriptData → List Entry → ℕ → Type 0
+IsWholeAt kind s past r =
+    (t : ℕ) (w : Version) → t < length s.trees → is_of_kind kind s t ≡ true → born_with past t ≡ Some w → w.0 ≡ r → IsWhole s (reverse past) t
+
+one_more : (kind : Bool) (s : ScriptData) (past : List Entry) (r : ℕ) → AreWhole kind s past r → IsWholeAt kind s past r
     → AreWhole kind s past (r + 1)
-one_more kind s past r whole last = λ t w of born lt k c. more_by kind s past r t w whole last of born k c (split_at w.0 r (omega arith)) where
+one_more kind s past r whole last = λ t w there of born lt. more_by t w there of born (split_at w.0 r (omega (arith, lt))) where
   split_at : (n m : ℕ) → n ≤ m → (n < m) ⊎ (n ≡ m)
   split_at n m le = grind arith
 
-  more_by : (kind : Bool) (s : ScriptData) (past : List Entry) (r t : ℕ) (w : Version) → AreWhole kind s past r
-      → ((t : ℕ) (w : Version) → is_of_kind kind s t ≡ true → born_with past t ≡ Some w → w.0 ≡ r → (k : ℕ) → SubAt s t k → 1 ≤ dids past t k)
-      → is_of_kind kind s t ≡ true → born_with past t ≡ Some w → (k : ℕ) → SubAt s t k → (w.0 < r) ⊎ (w.0 ≡ r) → 1 ≤ dids past t k
-  more_by kind s past r t w whole last of born k c (inl less) = whole t w of born less k c
-  more_by kind s past r t w whole last of born k c (inr is) = last t w of born is k c
+  more_by : (t : ℕ) (w : Version) → t < length s.trees → is_of_kind kind s t ≡ true → born_with past t ≡ Some w
+      → (w.0 < r) ⊎ (w.0 ≡ r) → IsWhole s (reverse past) t
+  more_by t w there of born (inl less) = whole t w there of born less
+  more_by t w there of born (inr is) = last t w there of born is
 
 -- What a step of the coordinator makes of it: nothing, or a round says yes, and trees of one more version are whole.
 pub data Reaches (kind : Bool) (c : Coordinator) (from : ℕ) (body : Body) (out : Out Coordinator) : Type 0 where
@@ -176,34 +204,25 @@ reaches kind c from body out one (Pauses reads v k row takes differs flag is) =
     Same (ap (BelowOut kind) is ∙ sym (to_counting kind reads c.update) ∙ sym (at_phase kind c (Counting reads) takes.phase))
 
 -- the coordinator's step in a run
-pub step_reaches : (kind : Bool) (s : ScriptData) (past : List Entry) (e : Entry) → IsLawful s → IsStepRun s past → AllTimely s past
-    → MadeByCoordinator s past e
+pub step_reaches : (kind : Bool) (s : ScriptData) (past : List Entry) (e : Entry) → IsValid s → IsStepRun s past
     → Reaches kind (coordinator_in s past) e.took.from.0 e.took.body (coordinator_row (coordinator_in s past) e.took.from.0 e.took.body)
-step_reaches kind s past e laws run timely made =
+step_reaches kind s past e valid run =
     reaches kind (coordinator_in s past) e.took.from.0 e.took.body (coordinator_row (coordinator_in s past) e.took.from.0 e.took.body)
-    (levels s past (lawful s laws.sound) run (all_apt s past laws.sound run)).first
-    (outcome_in s past e (lawful s laws.sound) run (all_apt s past laws.sound run))
+    (levels_in s past valid run).first (outcome_in s past e (lawful s valid) run (all_apt s past valid run))
 
 -- trees of the version of a round that says yes are whole
-closing : (kind : Bool) (s : ScriptData) (past : List Entry) (e : Entry) (v : Version) (k : ℕ) (row : List ℕ) → IsSound s
-    → IsStepRun s (e ∷ past) → AllTimely s (e ∷ past) → e.actor.0 ≡ s.nodes
-    → TakesAsked (coordinator_in s past) e.took.from.0 e.took.body kind v k row
+closing : (kind : Bool) (s : ScriptData) (past : List Entry) (e : Entry) (v : Version) (k : ℕ) (row : List ℕ) → IsValid s
+    → IsStepRun s (e ∷ past) → TakesAsked (coordinator_in s past) e.took.from.0 e.took.body kind v k row
     → verdict_of (with_asked e.took.from.0 row (coordinator_in s past).current) ≡ Some true
     → whole_below kind (coordinator_in s past).phase (coordinator_in s past).update ≡ (counted_version kind (coordinator_in s past)).0
     → AreWhole kind s past (now_below kind s past) → AreWhole kind s past ((counted_version kind (coordinator_in s past)).0 + 1)
-closing kind s past e v k row sound run timely at takes agrees is whole =
+closing kind s past e v k row valid run takes agrees is whole =
     let r = (counted_version kind (coordinator_in s past)).0 in
-    let silent : IsSilent s past r = agrees_silent s past e kind v k row (lawful s sound) run (all_apt s past sound run.1) takes agrees in
-    let good = good_run s past sound run.1 timely.1 in
-    let are = versioned_run s past sound run.1 timely.1 in
+    let silent : IsSilent s past r = agrees_silent s past e kind v k row (lawful s valid) run (all_apt s past valid run.1) takes agrees in
     one_more kind s past r (subst (λ (n : ℕ). AreWhole kind s past n) is whole)
-    (λ t w of born same k c. whole_when_silent s past t w sound good are (subst (λ (n : ℕ). IsSilent s past n) (sym same) silent) born k c)
+    (λ t w there of born same. whole_when_silent s past t w valid run.1 there (subst (λ (n : ℕ). IsSilent s past n) (sym same) silent) born)
 
--- with more entries what is whole stays whole
-later : (kind : Bool) (s : ScriptData) (past : List Entry) (e : Entry) (r : ℕ) → AreWhole kind s past r
-    → ((t : ℕ) (w : Version) → born_with (e ∷ past) t ≡ Some w → born_with past t ≡ Some w) → AreWhole kind s (e ∷ past) r
-later kind s past e r whole same = λ t w of born lt k c. omega (arith, whole t w of (same t w born) lt k c)
-
+-- with an entry that bears no tree what is whole stays whole
 no_births : (s : ScriptData) (past : List Entry) (e : Entry) (t : ℕ) (w : Version) → e.acts ≡ [] → born_with (e ∷ past) t ≡ Some w
     → born_with past t ≡ Some w
 no_births s past e t w none born = born_before t (places_of (reverse past)) (places_at e) w none_here
@@ -216,62 +235,56 @@ no_births s past e t w none born = born_before t (places_of (reverse past)) (pla
       born_before t xs ys w is (inl old) = old
       born_before t xs ys w is (inr new) = absurd (let no = rw is at new in cc no)
 
-coordinates_whole : (kind : Bool) (s : ScriptData) (past : List Entry) (e : Entry) → IsSound s → IsStepRun s (e ∷ past) → AllTimely s (e ∷ past)
-    → e.actor.0 ≡ s.nodes → MadeByCoordinator s past e → AreWhole kind s past (now_below kind s past)
+later : (kind : Bool) (s : ScriptData) (past : List Entry) (e : Entry) (r : ℕ) → e.acts ≡ [] → AreWhole kind s past r
+    → AreWhole kind s (e ∷ past) r
+later kind s past e r none whole = λ t w there of born lt.
+    stays_whole s past e t (whole t w there of (no_births s past e t w none born) lt)
+
+coordinates_whole : (kind : Bool) (s : ScriptData) (past : List Entry) (e : Entry) → IsValid s → IsStepRun s (e ∷ past)
+    → MadeByCoordinator s past e → AreWhole kind s past (now_below kind s past)
     → Reaches kind (coordinator_in s past) e.took.from.0 e.took.body (coordinator_row (coordinator_in s past) e.took.from.0 e.took.body)
     → AreWhole kind s (e ∷ past) (now_below kind s (e ∷ past))
-coordinates_whole kind s past e sound run timely at made whole (Same is) =
+coordinates_whole kind s past e valid run made whole (Same is) =
     let now : now_below kind s (e ∷ past) ≡ now_below kind s past = ap (λ (c : Coordinator). whole_below kind c.phase c.update) made.state ∙ is in
-    subst (λ (n : ℕ). AreWhole kind s (e ∷ past) n) (sym now)
-    (later kind s past e (now_below kind s past) whole (λ t w born. no_births s past e t w made.acts born))
-coordinates_whole kind s past e sound run timely at made whole (Closes v k row takes agrees old new) =
+    subst (λ (n : ℕ). AreWhole kind s (e ∷ past) n) (sym now) (later kind s past e (now_below kind s past) made.acts whole)
+coordinates_whole kind s past e valid run made whole (Closes v k row takes agrees old new) =
     let now : now_below kind s (e ∷ past) ≡ (counted_version kind (coordinator_in s past)).0 + 1 =
     ap (λ (c : Coordinator). whole_below kind c.phase c.update) made.state ∙ new in
     subst (λ (n : ℕ). AreWhole kind s (e ∷ past) n) (sym now)
-    (later kind s past e ((counted_version kind (coordinator_in s past)).0 + 1)
-    (closing kind s past e v k row sound run timely at takes agrees old whole) (λ t w born. no_births s past e t w made.acts born))
+    (later kind s past e ((counted_version kind (coordinator_in s past)).0 + 1) made.acts
+    (closing kind s past e v k row valid run takes agrees old whole))
 
--- an entry of another actor leaves the coordinator
-others_whole : (kind : Bool) (s : ScriptData) (past : List Entry) (e : Entry) → Levels s past → Next s past e
-    → coordinator_in s (e ∷ past) ≡ coordinator_in s past → AreWhole kind s past (now_below kind s past)
+-- an entry is the coordinator's, or leaves it
+pub coordinator_or : (s : ScriptData) (past : List Entry) (e : Entry) → Progress s past e
+    → MadeByCoordinator s past e ⊎ (coordinator_in s (e ∷ past) ≡ coordinator_in s past)
+coordinator_or s past e (Coordinates tells at made) = inl made
+coordinator_or s past e (Begins is at made) = inr (coordinator_kept s past e (omega (arith, at)))
+coordinator_or s past e (Hears t v answer is at lt made) = inr (coordinator_kept s past e (omega (arith, at)))
+coordinator_or s past e (Ends v is at made) = inr (coordinator_kept s past e (omega (arith, at)))
+coordinator_or s past e (Works p r work) = inr (coordinator_kept s past e (omega (arith, work.brings.at, work.brings.below)))
+coordinator_or s past e (Obeys p out more at lt order state sent woken) = inr (coordinator_kept s past e (omega (arith, at, lt)))
+
+pub coordinator_moves : (s : ScriptData) (past : List Entry) (e : Entry) → IsValid s → IsStepRun s (e ∷ past)
+    → MadeByCoordinator s past e ⊎ (coordinator_in s (e ∷ past) ≡ coordinator_in s past)
+coordinator_moves s past e valid run =
+    coordinator_or s past e (progress s past e (lawful s valid) (all_apt s (e ∷ past) valid run) run)
+
+whole_next : (kind : Bool) (s : ScriptData) (past : List Entry) (e : Entry) → IsValid s → IsStepRun s (e ∷ past)
+    → AreWhole kind s past (now_below kind s past) → MadeByCoordinator s past e ⊎ (coordinator_in s (e ∷ past) ≡ coordinator_in s past)
     → AreWhole kind s (e ∷ past) (now_below kind s (e ∷ past))
-others_whole kind s past e all next same whole =
+whole_next kind s past e valid run whole (inl made) =
+    coordinates_whole kind s past e valid run made whole (step_reaches kind s past e valid run.1)
+whole_next kind s past e valid run whole (inr same) =
     subst (λ (n : ℕ). AreWhole kind s (e ∷ past) n) (sym (ap (λ (c : Coordinator). whole_below kind c.phase c.update) same))
-    (kept kind s past e all next whole)
-
-whole_next : (kind : Bool) (s : ScriptData) (past : List Entry) (e : Entry) → IsSound s → IsStepRun s (e ∷ past) → AllTimely s (e ∷ past)
-    → AreWhole kind s past (now_below kind s past) → (next : Next s past e) → AreWhole kind s (e ∷ past) (now_below kind s (e ∷ past))
-whole_next kind s past e sound run timely whole (Coordinates tells at made) =
-    coordinates_whole kind s past e sound run timely at made whole
-    (step_reaches kind s past e (tree_lawful s sound) run.1 timely.1 made)
-whole_next kind s past e sound run timely whole (Begins is at made) =
-    others_whole kind s past e (levels s past (lawful s sound) run.1 (all_apt s past sound run.1)) (Begins is at made)
-    (coordinator_kept s past e (omega arith)) whole
-whole_next kind s past e sound run timely whole (Hears t v answer is at lt made) =
-    others_whole kind s past e (levels s past (lawful s sound) run.1 (all_apt s past sound run.1)) (Hears t v answer is at lt made)
-    (coordinator_kept s past e (omega arith)) whole
-whole_next kind s past e sound run timely whole (Ends v is at made) =
-    others_whole kind s past e (levels s past (lawful s sound) run.1 (all_apt s past sound run.1)) (Ends v is at made)
-    (coordinator_kept s past e (omega arith)) whole
-whole_next kind s past e sound run timely whole (DoesRoot t v effect is c at lt new work made) =
-    others_whole kind s past e (levels s past (lawful s sound) run.1 (all_apt s past sound run.1)) (DoesRoot t v effect is c at lt new work made)
-    (coordinator_kept s past e (omega (arith, at, lt))) whole
-whole_next kind s past e sound run timely whole (DoesSub t k v raises effect is c later from at lt work made) =
-    others_whole kind s past e (levels s past (lawful s sound) run.1 (all_apt s past sound run.1)) (DoesSub t k v raises effect is c later from at lt work made)
-    (coordinator_kept s past e (omega (arith, at, lt))) whole
-whole_next kind s past e sound run timely whole (Notes t k v values is c later from at lt misses made) =
-    others_whole kind s past e (levels s past (lawful s sound) run.1 (all_apt s past sound run.1)) (Notes t k v values is c later from at lt misses made)
-    (coordinator_kept s past e (omega (arith, at, lt))) whole
-whole_next kind s past e sound run timely whole (Obeys p out at lt order made) =
-    others_whole kind s past e (levels s past (lawful s sound) run.1 (all_apt s past sound run.1)) (Obeys p out at lt order made)
-    (coordinator_kept s past e (omega (arith, at, lt))) whole
+    (kept kind s past e valid run whole)
 
 first_none : (kind : Bool) (s : ScriptData) → AreWhole kind s [] (now_below kind s [])
-first_none kind s = λ t w of born lt k c. let clash : born_with [] t ≡ None = refl in let no : None ≡ Some w = sym clash ∙ born in absurd (cc no)
+first_none kind s = λ t w there of born lt.
+    let clash : born_with [] t ≡ None = refl in let no : None ≡ Some w = sym clash ∙ born in absurd (cc no)
 
 -- in every past
-pub whole_run : (kind : Bool) (s : ScriptData) (past : List Entry) → IsSound s → IsStepRun s past → AllTimely s past
+pub whole_run : (kind : Bool) (s : ScriptData) (past : List Entry) → IsValid s → IsStepRun s past
     → AreWhole kind s past (now_below kind s past)
-whole_run kind s [] sound run timely = first_none kind s
-whole_run kind s (e ∷ past) sound run timely =
-    whole_next kind s past e sound run timely (whole_run kind s past sound run.1 timely.1) ((tree_lawful s sound).next past e run timely)
+whole_run kind s [] valid run = first_none kind s
+whole_run kind s (e ∷ past) valid run =
+    whole_next kind s past e valid run (whole_run kind s past valid run.1) (coordinator_moves s past e valid run)

@@ -1,17 +1,17 @@
--- Each letter that a node takes in a run is apt there.
+-- Each letter that a node takes in a run of any valid script is apt there.
 use Rattle.std.proofs.Common.{◌≡◌, ℕ, ◌<◌, true, List, [], ◌∷◌, reverse, sym, ap, subst, ◌∙◌}
 use Rattle.letter_types.specs.Kept.{brought}
 use Rattle.letter_types.specs.declared.entries.Entry.{Entry}
 use Rattle.tx_trees.specs.ScriptData.{ScriptData, client_of}
+use Rattle.tx_trees.specs.Valid.{IsValid}
 use Rattle.world_model.specs.Keeping.{is_apt_brought}
 use Rattle.world_model.specs.Kept.{kept_in}
 use Rattle.world_model.specs.Runs.{IsStepRun, actor_after, AtNode, AtCoordinator, AtClient, Moves, keeping_in}
 use Rattle.world_model.specs.Tables.{ActorData}
 use Rattle.world_model.proofs.Back.{client_leads, coordinator_leads, node_leads}
-use Rattle.world_model.proofs.Scripts.{IsSound}
 use Rattle.tree_laws.proofs.Histories.{before_more}
 use Rattle.run_laws.specs.Taken.{IsAptFor, TakesWhatIsApt}
-use Rattle.run_laws.proofs.InTime.{all_apt}
+use Rattle.run_laws.proofs.EveryApt.{all_apt}
 
 -- the letter of an entry is apt for its actor
 abbrev IsAptEntry : ScriptData → List Entry → Entry → Type 0
@@ -24,21 +24,21 @@ in_state s before e a state at is apt =
     subst (λ (d : ActorData). IsAptFor s e.actor.0 d e.took) (sym is ∙ sym (ap (actor_after s before) at)) apt
 
 -- it is apt at its node
-pub apt_here : (s : ScriptData) (past : List Entry) (e : Entry) → IsSound s → IsStepRun s (e ∷ past) → e.actor.0 < s.nodes
+pub apt_here : (s : ScriptData) (past : List Entry) (e : Entry) → IsValid s → IsStepRun s (e ∷ past) → e.actor.0 < s.nodes
     → is_apt_brought s e.actor.0 (keeping_in s past e.actor.0) (brought (kept_in s past e.actor.0) e.took e.took.body) ≡ true
-apt_here s past e sound run lt = (all_apt s (e ∷ past) sound run).0 lt
+apt_here s past e valid run lt = (all_apt s (e ∷ past) valid run).0 lt
 
-taken_by : (s : ScriptData) (past : List Entry) (e : Entry) → IsSound s → IsStepRun s (e ∷ past) → Moves s past e
+taken_by : (s : ScriptData) (past : List Entry) (e : Entry) → IsValid s → IsStepRun s (e ∷ past) → Moves s past e
     → IsAptEntry s (reverse past) e
-taken_by s past e sound run (AtNode lt says) =
-    subst (λ (d : ActorData). IsAptFor s e.actor.0 d e.took) (sym (node_leads s past e.actor.0 lt)) (apt_here s past e sound run lt)
-taken_by s past e sound run (AtCoordinator at says) =
+taken_by s past e valid run (AtNode lt says) =
+    subst (λ (d : ActorData). IsAptFor s e.actor.0 d e.took) (sym (node_leads s past e.actor.0 lt)) (apt_here s past e valid run lt)
+taken_by s past e valid run (AtCoordinator at says) =
     in_state s (reverse past) e s.nodes _ at (coordinator_leads s past) tt
-taken_by s past e sound run (AtClient at says) =
+taken_by s past e valid run (AtClient at says) =
     in_state s (reverse past) e (client_of s) _ at (client_leads s past) tt
 
 -- in every run
-pub taken_run : (s : ScriptData) (past : List Entry) → IsSound s → IsStepRun s past → TakesWhatIsApt s (reverse past)
-taken_run s [] sound run = λ n e here. absurd (cc here)
-taken_run s (e ∷ past) sound run =
-    before_more (IsAptEntry s) e past (taken_run s past sound run.1) (taken_by s past e sound run run.0.moves)
+pub taken_run : (s : ScriptData) (past : List Entry) → IsValid s → IsStepRun s past → TakesWhatIsApt s (reverse past)
+taken_run s [] valid run = λ n e here. absurd (cc here)
+taken_run s (e ∷ past) valid run =
+    before_more (IsAptEntry s) e past (taken_run s past valid run.1) (taken_by s past e valid run run.0.moves)

@@ -1,5 +1,5 @@
 -- What holds of a version that is shown, or that is swept to.
-use Rattle.std.specs.Prelude.{◌≡◌, ℕ, ◌<◌, ◌≤◌, true, List, Some}
+use Rattle.std.specs.Prelude.{◌≡◌, ℕ, ◌<◌, ◌≤◌, true, false, List, length, Some}
 use Rattle.tv_base.specs.declared.numbers.Version.{Version}
 use Rattle.letter_types.specs.declared.bodies.Body.{Body}
 use Rattle.letter_types.specs.declared.bodies.Body.TheVariants.{Go, Show, Sweep}
@@ -7,36 +7,47 @@ use Rattle.letter_types.specs.declared.entries.Entry.{Entry}
 use Rattle.tx_trees.specs.ScriptData.{ScriptData, reads, updates}
 use Rattle.board_rules.specs.Histories.{IsWhole, version_of}
 
--- each update tree of version at most v that is born is whole
-abbrev pub UpdatesAreWhole : ScriptData → List Entry → ℕ → Type 0
-UpdatesAreWhole s h v = (t : ℕ) (w : Version) → updates s t ≡ true → version_of h t ≡ Some w → w.0 ≤ v → IsWhole s h t
+-- each writer, a tree that reads nothing, of version at most v that is born is whole
+abbrev pub WritersAreWhole : ScriptData → List Entry → ℕ → Type 0
+WritersAreWhole s h v =
+    (t : ℕ) (w : Version) → t < length s.trees → reads s t ≡ false → version_of h t ≡ Some w → w.0 ≤ v → IsWhole s h t
 
 -- each read tree of a version below v that is born is whole
 abbrev pub ReadsAreWhole : ScriptData → List Entry → ℕ → Type 0
 ReadsAreWhole s h v = (t : ℕ) (w : Version) → reads s t ≡ true → version_of h t ≡ Some w → w.0 < v → IsWhole s h t
 
--- where Show(v) is in flight, the update trees of version at most v are whole; where Sweep(v) is, the read trees of
--- versions below v are
+-- where Show(v) is in flight, the writers of version at most v are whole; where Sweep(v) is, the read trees of versions
+-- below v are
 abbrev pub IsBackedBy : ScriptData → List Entry → Body → Type 0
-IsBackedBy s h (Show v) = UpdatesAreWhole s h v.0
+IsBackedBy s h (Show v) = WritersAreWhole s h v.0
 IsBackedBy s h (Sweep v) = ReadsAreWhole s h v.0
 IsBackedBy s h Go = Unit {0}
 IsBackedBy s h _ = Unit {0}
 
--- from a history to a later one no update tree has come to a version at most v
-abbrev pub NoUpdateCame : ScriptData → List Entry → List Entry → ℕ → Type 0
-NoUpdateCame s h later v =
-    (t : ℕ) (w : Version) → updates s t ≡ true → version_of later t ≡ Some w → w.0 ≤ v → version_of h t ≡ Some w
+-- from a history to a later one no writer has come to a version at most v
+abbrev pub NoWriterCame : ScriptData → List Entry → List Entry → ℕ → Type 0
+NoWriterCame s h later v =
+    (t : ℕ) (w : Version) → t < length s.trees → reads s t ≡ false → version_of later t ≡ Some w → w.0 ≤ v → version_of h t ≡ Some w
 
 -- and no read tree to a version below v
 abbrev pub NoReadCame : ScriptData → List Entry → List Entry → ℕ → Type 0
 NoReadCame s h later v =
     (t : ℕ) (w : Version) → reads s t ≡ true → version_of later t ≡ Some w → w.0 < v → version_of h t ≡ Some w
 
--- where Show(v) was in flight, no update tree has come to a version at most v later; where Sweep(v) was, no read tree
--- to one below v
+-- where Show(v) was in flight, no writer has come to a version at most v later; where Sweep(v) was, no read tree to one
+-- below v
 abbrev pub IsClosedBy : ScriptData → List Entry → List Entry → Body → Type 0
-IsClosedBy s h later (Show v) = NoUpdateCame s h later v.0
+IsClosedBy s h later (Show v) = NoWriterCame s h later v.0
 IsClosedBy s h later (Sweep v) = NoReadCame s h later v.0
 IsClosedBy s h later Go = Unit {0}
 IsClosedBy s h later _ = Unit {0}
+
+-- The same of update trees alone.
+-- each update tree of version at most v that is born is whole
+abbrev pub UpdatesAreWhole : ScriptData → List Entry → ℕ → Type 0
+UpdatesAreWhole s h v = (t : ℕ) (w : Version) → updates s t ≡ true → version_of h t ≡ Some w → w.0 ≤ v → IsWhole s h t
+
+-- from a history to a later one no update tree has come to a version at most v
+abbrev pub NoUpdateCame : ScriptData → List Entry → List Entry → ℕ → Type 0
+NoUpdateCame s h later v =
+    (t : ℕ) (w : Version) → updates s t ≡ true → version_of later t ≡ Some w → w.0 ≤ v → version_of h t ≡ Some w

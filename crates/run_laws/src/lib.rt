@@ -1,6 +1,6 @@
-//! Laws of every run of update and read trees with advancements: each letter comes in time and is apt, phases have
-//! their letters and versions, counters are balanced, a version is shown only when it is quiet, and then for good; and
-//! no run stalls.
+//! Laws of every run of every valid script: each letter comes in time and is apt, phases have their letters and versions,
+//! counters are balanced, a version is shown only when it is quiet, and then for good. And of every run of update and read
+//! trees: it doesn't stall.
 #![tactic(auto)]
 
 mod phases;

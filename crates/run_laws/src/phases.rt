@@ -9,57 +9,57 @@ ghost use Rattle.run_laws.specs.Taken.{TakesWhatIsApt};
 ghost use Rattle.tx_trees.specs.ScriptData.{ScriptData};
 ghost use Rattle.tx_trees.specs.Valid.{IsValid};
 ghost use Rattle.world_model.specs.Runs.{node_in, IsStepRun};
-ghost use Rattle.world_model.specs.Tables.{IsRunnable};
 ghost use Rattle.world_model.specs.Timely.{AllTimely};
 
-/// In every run each letter that a node took came in time: a Sub and a Done no later than their version may be counted,
-/// an order no earlier and no later than the node's versions allow. It is the premise of the laws of trees.
+/// In every run of every valid script each letter that a node took came in time: a Sub, a Done, a Decide and a Decided no
+/// later than their version may be counted, an order no earlier and no later than the node's versions allow. It is the
+/// premise of the laws of trees of scripts without strict trees.
 pub fn every_letter_comes_in_time()
-    ensures { (s : ScriptData) (past : List Entry) → IsValid s → IsRunnable s → IsStepRun s past → AllTimely s past }
+    ensures { (s : ScriptData) (past : List Entry) → IsValid s → IsStepRun s past → AllTimely s past }
 {}
 
-/// In every run each letter that a node took was apt there, in the node's state at that moment: what it names belongs
-/// to that node and has its form, a root is new, its version is one that the node can go by, and its operations may be
-/// made. So no node ever passes a letter over.
+/// In every run each letter that a node took was apt there, in the node's state at that moment, and so was the kept one
+/// that a Wake calls: what it names belongs to that node and has its form, a root is new, its version is one that the
+/// node can go by, and what it asks for may be made. So no node ever passes a letter over.
 pub fn every_letter_taken_is_apt()
-    ensures { (s : ScriptData) (past : List Entry) → IsValid s → IsRunnable s → IsStepRun s past
+    ensures { (s : ScriptData) (past : List Entry) → IsValid s → IsStepRun s past
         → TakesWhatIsApt s (reverse past) }
 {}
 
 /// In the phase of each stage its orders and answers in flight and the acknowledgements are as many as nodes, and at
 /// other times there are none.
 pub fn phases_have_their_letters()
-    ensures { (s : ScriptData) (past : List Entry) → IsValid s → IsRunnable s → IsStepRun s past
+    ensures { (s : ScriptData) (past : List Entry) → IsValid s → IsStepRun s past
         → PhasesHaveTheirLetters s past }
 {}
 
 /// Every node's versions are those of the coordinator's phase: with the coordinator at u, update is u or u + 1, read
 /// u - 1 or u, low u - 1 or u, and neither update nor read is more than two above low.
 pub fn versions_keep_to_the_phase()
-    ensures { (s : ScriptData) (past : List Entry) → IsValid s → IsRunnable s → IsStepRun s past
+    ensures { (s : ScriptData) (past : List Entry) → IsValid s → IsStepRun s past
         → VersionsKeepToThePhase s past }
 {}
 
 /// Each advancement that was asked for is in a letter, waits, is in progress or has ended, and of each that has ended
 /// the client hears once.
 pub fn advances_are_kept()
-    ensures { (s : ScriptData) (past : List Entry) → IsValid s → IsRunnable s → IsStepRun s past
+    ensures { (s : ScriptData) (past : List Entry) → IsValid s → IsStepRun s past
         → AdvancesAreKept s past }
 {}
 
 /// There are at most two rounds for each advancement and one for each tree.
 pub fn rounds_are_few()
-    ensures { (s : ScriptData) (past : List Entry) → IsValid s → IsRunnable s → IsStepRun s past → RoundsAreFew s past }
+    ensures { (s : ScriptData) (past : List Entry) → IsValid s → IsStepRun s past → RoundsAreFew s past }
 {}
 
 /// For every version that two nodes still count, the requests of the one to the other are the other's completions from
 /// it and the outstanding counted letters between them; and in a version that one has left, none is outstanding.
 pub fn requests_are_completions_and_letters()
-    ensures { (s : ScriptData) (past : List Entry) → IsValid s → IsRunnable s → IsStepRun s past → IsBalanced s past }
+    ensures { (s : ScriptData) (past : List Entry) → IsValid s → IsStepRun s past → IsBalanced s past }
 {}
 
 /// No counter of a node grows by more than `MOST_COUNTED` an entry.
 pub fn counts_are_small()
-    ensures { (s : ScriptData) (past : List Entry) → IsValid s → IsRunnable s → IsStepRun s past → (p : ℕ) → p < s.nodes
+    ensures { (s : ScriptData) (past : List Entry) → IsValid s → IsStepRun s past → (p : ℕ) → p < s.nodes
         → AllBelow (MOST_COUNTED * length past + 1) (node_in s past p).counts }
 {}

@@ -9,25 +9,24 @@ ghost use Rattle.tx_trees.specs.ScriptData.{ScriptData};
 ghost use Rattle.tx_trees.specs.Valid.{IsValid};
 ghost use Rattle.world_model.specs.Counts.{Each};
 ghost use Rattle.world_model.specs.Runs.{IsStepRun, in_flight};
-ghost use Rattle.world_model.specs.Tables.{IsRunnable};
 
 /// An entry sends Show(v) only where nothing counted of version v is outstanding and every node updates above v, and
 /// Sweep(v) only where nothing counted of version v - 1 is outstanding and every node reads v or a later version.
 pub fn orders_are_given_in_quiet()
-    ensures { (s : ScriptData) (past : List Entry) (e : Entry) → IsValid s → IsRunnable s → IsStepRun s (e ∷ past)
+    ensures { (s : ScriptData) (past : List Entry) (e : Entry) → IsValid s → IsStepRun s (e ∷ past)
         → Each (λ (o : Outgoing). IsGivenInQuiet s past o.body) e.sent }
 {}
 
-/// While Show(v) is in flight, each update tree of version at most v that is born is whole; while Sweep(v) is, each
-/// read tree of a version below v.
+/// While Show(v) is in flight, each tree of version at most v that is born and reads nothing is whole; while Sweep(v)
+/// is, each read tree of a version below v.
 pub fn what_is_shown_is_whole()
-    ensures { (s : ScriptData) (past : List Entry) → IsValid s → IsRunnable s → IsStepRun s past
+    ensures { (s : ScriptData) (past : List Entry) → IsValid s → IsStepRun s past
         → Each (λ (l : Letter). IsBackedBy s (reverse past) l.body) (in_flight s past) }
 {}
 
-/// Once Show(v) was in flight, no update tree comes to a version at most v; once Sweep(v) was, no read tree to one
-/// below v.
+/// Once Show(v) was in flight, no tree that reads nothing comes to a version at most v; once Sweep(v) was, no read tree
+/// to one below v.
 pub fn nothing_comes_to_what_is_shown()
-    ensures { (s : ScriptData) (past later : List Entry) → IsValid s → IsRunnable s → IsStepRun s (later ++ past)
+    ensures { (s : ScriptData) (past later : List Entry) → IsValid s → IsStepRun s (later ++ past)
         → Each (λ (l : Letter). IsClosedBy s (reverse past) (reverse (later ++ past)) l.body) (in_flight s past) }
 {}

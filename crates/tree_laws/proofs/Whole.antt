@@ -61,7 +61,7 @@ born_of : (t : ℕ) (xs : List Place) → 1 ≤ tally (of_act (is_born t)) xs �
 born_of t [] some = absurd (omega arith)
 born_of t (x ∷ xs) some = born_at t x xs (born_as t x.act) refl some (born_of t xs)
 
-all_done_of : (t n : ℕ) (xs : List Place) → ((k : ℕ) → k < n → was_done t k xs ≡ true) → all_done_in t n xs ≡ true
+pub all_done_of : (t n : ℕ) (xs : List Place) → ((k : ℕ) → k < n → was_done t k xs ≡ true) → all_done_in t n xs ≡ true
 all_done_of t zero xs done = refl
 all_done_of t (suc n) xs done =
     and_from (all_done_in t n xs) (was_done t n xs) (all_done_of t n xs (λ k lt. done k (omega arith))) (done n (omega arith))

@@ -2,4 +2,4 @@ use Rattle.run_laws.proofs.InTime.{counts_small}
 use Rattle.run_laws.proofs.phases.counts_are_small.Goals as goal
 
 pub returns : goal.returns
-returns c = λ s past valid runnable run. counts_small s past (record { valid = valid; runnable = runnable }) run
+returns c = λ s past valid run. counts_small s past valid run
