@@ -1,0 +1,2 @@
+pub mod RowActs
+pub mod VoteLocks
