@@ -1,2 +1,3 @@
 pub mod RowActs
 pub mod VoteLocks
+pub mod Agreed
