@@ -209,7 +209,7 @@ sub_shows s h t k x u v raises effect st w c from low is (SubReads read turn can
     rw made (seen ∙ ap (λ (y : Value). Some y) (did_reads s h x u t k (values_of effect.notice) w (reads_alone s t.0 k.0 c read)))
 
 -- raising the update version leaves the low one
-raised_low : (raises : Bool) (v : ℕ) (turns : Turns) → (raised_if raises v turns).low.0 ≡ turns.low.0
+pub raised_low : (raises : Bool) (v : ℕ) (turns : Turns) → (raised_if raises v turns).low.0 ≡ turns.low.0
 raised_low true v turns = refl
 raised_low false v turns = refl
 

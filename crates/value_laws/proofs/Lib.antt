@@ -1,3 +1,6 @@
 pub mod RowActs
 pub mod VoteLocks
 pub mod Agreed
+pub mod HeldItems
+pub mod HoldRows
+pub mod Newest
