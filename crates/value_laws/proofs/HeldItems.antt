@@ -46,12 +46,12 @@ valued_other : (v : Version) (w : Value) (n x : ItemNo) (found : Option Held) (i
 valued_other v w n x None items other = refl
 valued_other v w n x (Some h) items other = replaced_other n x (put_value v w h) items other
 
-written_other : (v : Version) (o : SubOp) (x : ItemNo) (found : Option Value) (items : Table) → (o.item.0 == x.0) ≡ false
+pub written_other : (v : Version) (o : SubOp) (x : ItemNo) (found : Option Value) (items : Table) → (o.item.0 == x.0) ≡ false
     → item_in x (overwritten v o found items) ≡ item_in x items
 written_other v o x None items other = refl
 written_other v o x (Some w) items other = valued_other v (after_deed o.deed w) o.item x (item_in o.item items) items other
 
-over_other : (v : Version) (o : SubOp) (x : ItemNo) (items : Table) (test : Bool) → (test ≡ true → (o.item.0 == x.0) ≡ false)
+pub over_other : (v : Version) (o : SubOp) (x : ItemNo) (items : Table) (test : Bool) → (test ≡ true → (o.item.0 == x.0) ≡ false)
     → item_in x (if test then overwritten v o (seen_in v o.item items) items else items) ≡ item_in x items
 over_other v o x items true other = written_other v o x (seen_in v o.item items) items (other refl)
 over_other v o x items false other = refl

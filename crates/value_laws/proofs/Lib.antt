@@ -4,3 +4,4 @@ pub mod Agreed
 pub mod HeldItems
 pub mod HoldRows
 pub mod Newest
+pub mod Overwritten
