@@ -103,7 +103,7 @@ decided_low : (s : ScriptData) (c : Core) (o : TreeOut) (a : Option Answered)
 decided_low s c o None = refl
 decided_low s c o (Some a) = refl
 
-decided_table : (s : ScriptData) (c : Core) (o : TreeOut) (a : Option Answered) → (decided s c o a).state.node.items ≡ o.out.state.items
+pub decided_table : (s : ScriptData) (c : Core) (o : TreeOut) (a : Option Answered) → (decided s c o a).state.node.items ≡ o.out.state.items
 decided_table s c o None = refl
 decided_table s c o (Some a) = refl
 

@@ -5,3 +5,4 @@ pub mod HeldItems
 pub mod HoldRows
 pub mod Newest
 pub mod Overwritten
+pub mod SeenRows
