@@ -6,3 +6,4 @@ pub mod HoldRows
 pub mod Newest
 pub mod Overwritten
 pub mod SeenRows
+pub mod SeenByActs

@@ -252,23 +252,23 @@ collects_on s xs ys st after l v items low le n = record {
       (sym (item_collected v l.item st.items) ∙ sym (ap (item_in l.item) items) ∙ at));
 }
 
-is_outstanding : (s : ScriptData) (past : List Entry) (e : Entry) (p : ℕ) (r : Letter) → IsStepRun s (e ∷ past) → Does s past e p r
+pub is_outstanding : (s : ScriptData) (past : List Entry) (e : Entry) (p : ℕ) (r : Letter) → IsStepRun s (e ∷ past) → Does s past e p r
     → IsOutstanding s past r
 is_outstanding s past e p r run d f = omega (arith, does_number f s past e p r d, done_before f s past e run.0)
 
 -- All that is known where a node does a letter.
-record Works (s : ScriptData) (past : List Entry) (e : Entry) (p : ℕ) (r : Letter) : Type 0 where
-  votes : DecidedByVotes
-  valid : IsValid s
-  apt : AllApt s (e ∷ past)
-  run : IsStepRun s (e ∷ past)
-  does : Does s past e p r
+pub record WorksByVotes (s : ScriptData) (past : List Entry) (e : Entry) (p : ℕ) (r : Letter) : Type 0 where
+  pub votes : DecidedByVotes
+  pub valid : IsValid s
+  pub apt : AllApt s (e ∷ past)
+  pub run : IsStepRun s (e ∷ past)
+  pub does : Does s past e p r
 
 abbrev After : ScriptData → List Entry → ℕ → Letter → Core
 After s past p r = (core_row s p (keeping_in s past p).core r.from.0 r.body).state
 
 -- a commit of another tree
-agreed_here : (s : ScriptData) (past : List Entry) (e : Entry) (p : ℕ) (r : Letter) (t : TreeNo) (v : Version) → Works s past e p r
+pub agreed_here : (s : ScriptData) (past : List Entry) (e : Entry) (p : ℕ) (r : Letter) (t : TreeNo) (v : Version) → WorksByVotes s past e p r
     → r.body ≡ Decide t v true → (is_strict_at s t.0 ≡ true) × IsAgreed s past p t.0
 agreed_here s past e p r t v w is =
     let c : Core = (keeping_in s past p).core in
@@ -283,7 +283,7 @@ agreed_here s past e p r t v w is =
           strict visited,
     )
 
-stood : (s : ScriptData) (past : List Entry) (e : Entry) (p : ℕ) (r : Letter) (l : Lock) → Works s past e p r → l.mode ≡ Hold
+stood : (s : ScriptData) (past : List Entry) (e : Entry) (p : ℕ) (r : Letter) (l : Lock) → WorksByVotes s past e p r → l.mode ≡ Hold
     → has_lock l (keeping_in s past p).core.locks ≡ true → IsNoDecision l.tree.0 r.body
     → IsNewest s (before past) (keeping_in s past p).core.node l
     → Changes s p r.body (keeping_in s past p).core.node (After s past p r).node.items (After s past p r).node.turns
@@ -323,7 +323,7 @@ stood s past e p r l w hold has other n (Collects v letter is turns) =
     collects_on s (before past) (places_at e) c.node (After s past p r).node l v is (ap (λ x. x.low.0) turns) le n
 
 -- a node does a letter
-comes : (s : ScriptData) (past : List Entry) (e : Entry) (p : ℕ) (r : Letter) (l : Lock) → Works s past e p r → l.mode ≡ Hold
+comes : (s : ScriptData) (past : List Entry) (e : Entry) (p : ℕ) (r : Letter) (l : Lock) → WorksByVotes s past e p r → l.mode ≡ Hold
     → ((l : Lock) → has_lock l (keeping_in s past p).core.locks ≡ true → l.mode ≡ Hold → IsNewest s (before past) (node_in s past p) l)
     → HoldComes s r.body (keeping_in s past p).core (After s past p r) l
     → IsNewest s (before past ++ places_at e) (After s past p r).node l
@@ -343,12 +343,12 @@ comes s past e p r l w hold old (Taken t v os tree strict wants none dated items
           (taken_newest t v os c.node.items l h hold wants none (sym (ap (item_in l.item) items) ∙ at));
     }
 
-abbrev Newest : ScriptData → List Entry → ℕ → Type 0
-Newest s past p = (l : Lock) → has_lock l (keeping_in s past p).core.locks ≡ true → l.mode ≡ Hold
+abbrev pub AllNewest : ScriptData → List Entry → ℕ → Type 0
+AllNewest s past p = (l : Lock) → has_lock l (keeping_in s past p).core.locks ≡ true → l.mode ≡ Hold
     → IsNewest s (places_of (reverse past)) (node_in s past p) l
 
-does_newest : (s : ScriptData) (past : List Entry) (e : Entry) (p : ℕ) (r : Letter) → Works s past e p r → Newest s past p
-    → Newest s (e ∷ past) p
+does_newest : (s : ScriptData) (past : List Entry) (e : Entry) (p : ℕ) (r : Letter) → WorksByVotes s past e p r → AllNewest s past p
+    → AllNewest s (e ∷ past) p
 does_newest s past e p r w old l has hold =
     let c : Core = (keeping_in s past p).core in
     let now : has_lock l (After s past p r).locks ≡ true = sym (ap (λ (x : Core). has_lock l x.locks) w.does.core) ∙ has in
@@ -361,7 +361,7 @@ abbrev LeavesHeld : Core → CoreKeeping → Type 0
 LeavesHeld c k = (k.state.locks ≡ c.locks) × (k.state.node.items ≡ c.node.items) × (k.state.node.turns.low.0 ≡ c.node.turns.low.0)
 
 keeps_newest : (s : ScriptData) (past : List Entry) (e : Entry) (p : ℕ) (r : Letter) (k : CoreKeeping) → Keeps s past e p r k
-    → Newest s past p → Newest s (e ∷ past) p
+    → AllNewest s past p → AllNewest s (e ∷ past) p
 keeps_newest s past e p r k d old l has hold =
     let c : Core = (keeping_in s past p).core in
     let same = of_kept s c (LeavesHeld c) r.body k (record {
@@ -375,7 +375,7 @@ keeps_newest s past e p r k d old l has hold =
     (old l was hold))
 
 -- another actor goes on
-apart_newest : (s : ScriptData) (past : List Entry) (e : Entry) (p : ℕ) → e.actor.0 ≢ p → Newest s past p → Newest s (e ∷ past) p
+apart_newest : (s : ScriptData) (past : List Entry) (e : Entry) (p : ℕ) → e.actor.0 ≢ p → AllNewest s past p → AllNewest s (e ∷ past) p
 apart_newest s past e p ne old l has hold =
     let same : (keeping_in s (e ∷ past) p).core ≡ (keeping_in s past p).core = ap (λ n. n.core) (keeping_elsewhere s past e p ne) in
     subst (λ (xs : List Place). IsNewest s xs (node_in s (e ∷ past) p) l) (sym (places_more e past))
@@ -384,22 +384,22 @@ apart_newest s past e p ne old l has hold =
     (old l (sym (ap (λ (x : Core). has_lock l x.locks) same) ∙ has) hold))
 
 newest_at : (s : ScriptData) (past : List Entry) (e : Entry) (p : ℕ) → DecidedByVotes → IsValid s → AllApt s (e ∷ past)
-    → IsStepRun s (e ∷ past) → p < s.nodes → e.actor.0 ≡ p → Case s past e → Newest s past p → Newest s (e ∷ past) p
+    → IsStepRun s (e ∷ past) → p < s.nodes → e.actor.0 ≡ p → Case s past e → AllNewest s past p → AllNewest s (e ∷ past) p
 newest_at s past e p votes valid apt run lt at (NodeDoes q r d) old =
     let qp : q ≡ p = sym d.brings.at ∙ at in
-    subst (λ (n : ℕ). Newest s past n → Newest s (e ∷ past) n) qp
+    subst (λ (n : ℕ). AllNewest s past n → AllNewest s (e ∷ past) n) qp
     (does_newest s past e q r (record { votes = votes; valid = valid; apt = apt; run = run; does = d })) old
 newest_at s past e p votes valid apt run lt at (NodeKeeps q r k d) old =
     let qp : q ≡ p = sym d.brings.at ∙ at in
-    subst (λ (n : ℕ). Newest s past n → Newest s (e ∷ past) n) qp (keeps_newest s past e q r k d) old
+    subst (λ (n : ℕ). AllNewest s past n → AllNewest s (e ∷ past) n) qp (keeps_newest s past e q r k d) old
 newest_at s past e p votes valid apt run lt at (Coordinates out says) old = absurd (omega (arith, at, lt, out))
 newest_at s past e p votes valid apt run lt at (Submits out says) old = absurd (omega (arith, at, lt, out))
 
-newest_run : DecidedByVotes → (s : ScriptData) (past : List Entry) (p : ℕ) → IsValid s → AllApt s past → IsStepRun s past → p < s.nodes
-    → Newest s past p
+pub newest_run : DecidedByVotes → (s : ScriptData) (past : List Entry) (p : ℕ) → IsValid s → AllApt s past → IsStepRun s past → p < s.nodes
+    → AllNewest s past p
 newest_run votes s [] p valid apt run lt = λ l has hold. absurd (cc has)
 newest_run votes s (e ∷ past) p valid apt run lt = by (cases_eq e.actor.0 p) (newest_run votes s past p valid apt.1 run.1 lt) where
-  by : (e.actor.0 ≡ p) ⊎ (e.actor.0 ≢ p) → Newest s past p → Newest s (e ∷ past) p
+  by : (e.actor.0 ≡ p) ⊎ (e.actor.0 ≢ p) → AllNewest s past p → AllNewest s (e ∷ past) p
   by (inl at) old = newest_at s past e p votes valid apt run lt at (case s past e run.0 apt.0) old
   by (inr ne) old = apart_newest s past e p ne old
 
