@@ -1,5 +1,5 @@
 -- What is held of an item that operations leave, and after a collection; and what a vote of yes says of it.
-use Rattle.std.proofs.Common.{◌≡◌, ℕ, ◌<◌, ◌≤◌, ◌==◌, max, Bool, true, false, List, [], ◌∷◌, refl, sym, ap, subst, ◌∙◌, arith, Option, Some, None}
+use Rattle.std.proofs.Common.{◌≡◌, ℕ, ◌≤◌, ◌==◌, max, Bool, true, false, List, [], ◌∷◌, refl, ◌∙◌, arith, Option, Some, None}
 use Rattle.std.specs.Prelude.{if◌then◌else◌, fold, nat_lt}
 use Rattle.std.specs.List.{AllByRecursion}
 use Rattle.std.proofs.lemmas.Bool.Decides.{nat_tests}
@@ -7,10 +7,9 @@ use Rattle.tv_base.specs.declared.numbers.ItemNo.{ItemNo}
 use Rattle.tv_base.specs.declared.numbers.Version.{Version}
 use Rattle.commute_ops.specs.declared.kinds.Op.{Op}
 use Rattle.commute_ops.specs.declared.value.Value.{Value}
-use Rattle.item_versions.specs.Item.{Held, above, collected, put_value, touched}
+use Rattle.item_versions.specs.Item.{Held, collected, put_value, touched}
 use Rattle.item_versions.specs.Table.{Table, item_in, updated, valued}
 use Rattle.item_versions.proofs.Window.{AllUpTo, up_to-filter}
-use Rattle.letter_types.specs.declared.votes.Cause.{Cause}
 use Rattle.script_parts.specs.Deeds.{after_deed, overwrites}
 use Rattle.script_parts.specs.declared.parts.Deed.{Deed}
 use Rattle.script_parts.specs.declared.parts.Deed.TheVariants.{Apply, Get, Set, Draw}

@@ -1,5 +1,5 @@
 -- How a hold comes to be among a core's locks by the row of a letter.
-use Rattle.std.proofs.Common.{◌≡◌, ◌≢◌, ◌⊎◌, inl, inr, ℕ, ◌==◌, ◌&&◌, ◌||◌, Bool, true, false, not, List, [], ◌∷◌, refl, sym, ap, subst, ◌∙◌, arith, Option, Some, None}
+use Rattle.std.proofs.Common.{◌≡◌, ◌≢◌, ◌⊎◌, inl, inr, ℕ, ◌==◌, Bool, true, false, not, List, [], ◌∷◌, refl, sym, ap, subst, ◌∙◌, arith, Option, Some, None}
 use Rattle.std.specs.Prelude.{if◌then◌else◌, map, nat_lt}
 use Rattle.std.specs.Option.{option_or}
 use Rattle.std.specs.Ordering.{is_eq}
@@ -10,16 +10,15 @@ use Rattle.tv_base.specs.declared.numbers.SubNo.{SubNo}
 use Rattle.tv_base.specs.declared.numbers.TreeNo.{TreeNo}
 use Rattle.tv_base.specs.declared.numbers.Version.{Version}
 use Rattle.item_versions.specs.Table.{Table}
-use Rattle.letter_types.specs.Steps.{Out}
 use Rattle.letter_types.specs.declared.bodies.Body.{Body}
-use Rattle.letter_types.specs.declared.bodies.Body.TheVariants.{Root, Sub as SubLetter, Done, Go, Turn, Show, Sweep, Decide, Decided, Release, AskDone, AskAsked}
+use Rattle.letter_types.specs.declared.bodies.Body.TheVariants.{Root, Sub as SubLetter, Done, Turn, Show, Sweep, Decide, Decided, Release, AskDone, AskAsked}
 use Rattle.letter_types.specs.declared.bodies.Notice.{Notice}
 use Rattle.letter_types.specs.declared.votes.Cause.{Cause}
 use Rattle.letter_types.specs.declared.votes.Vote.{Vote}
 use Rattle.nc_locks.specs.declared.modes.Lock.{Lock}
 use Rattle.nc_locks.specs.declared.modes.Mode.{Mode}
-use Rattle.nc_locks.specs.declared.modes.Mode.TheVariants.{Mark, Look, Hold}
-use Rattle.nc_locks.specs.Locks.{Wanted, has_lock, lock_of, lock_order, marks_on, met_in, wanted_locks, with_locks, without}
+use Rattle.nc_locks.specs.declared.modes.Mode.TheVariants.{Mark, Hold}
+use Rattle.nc_locks.specs.Locks.{has_lock, lock_of, lock_order, marks_on, met_in, wanted_locks, with_locks, without}
 use Rattle.nc_locks.proofs.Always.{freed_are_gone, taken_stand}
 use Rattle.nc_locks.proofs.Orders.{same_lock}
 use Rattle.script_parts.specs.Counts.{has_strict}
@@ -28,13 +27,13 @@ use Rattle.script_parts.specs.declared.parts.SubOp.{SubOp}
 use Rattle.script_parts.specs.declared.parts.TreeKind.{TreeKind}
 use Rattle.script_parts.specs.declared.parts.TreeKind.TheVariants.{Update, Read, Strict}
 use Rattle.tree_home.specs.declared.homes.Answered.{Answered}
-use Rattle.world_model.specs.Asked.{asked_ops, tree_part}
+use Rattle.world_model.specs.Asked.{tree_part}
 use Rattle.world_model.specs.Core.{Core}
 use Rattle.world_model.specs.Done.{TreeOut, note_part}
 use Rattle.world_model.specs.Named.{is_strict_at, tree_kind_at}
 use Rattle.world_model.specs.Notices.{values_of}
 use Rattle.world_model.specs.Reads.{gets}
-use Rattle.world_model.specs.Strict.{answered, core_by_kind, core_row, decided, locks_by, marks_of, note_core, noted_vote, refused_there, voting}
+use Rattle.world_model.specs.Strict.{core_by_kind, core_row, decided, locks_by, note_core, noted_vote, refused_there, voting}
 use Rattle.world_model.specs.Votes.{cause_in, conflict_by, newer_in, short_in, vote_of, voted, wanted_by}
 use Rattle.board_rules.specs.Histories.{Place, version_in}
 use Rattle.tree_laws.proofs.AptVersions.{DoneIn, is_version}

@@ -1,14 +1,12 @@
 -- In runs of apt letters, of every script: nothing newer is held of an item than the strict tree that holds it.
-use Rattle.std.proofs.Common.{◌≡◌, ◌≢◌, ◌⊎◌, inl, inr, ℕ, zero, suc, ◌+◌, ◌<◌, ◌≤◌, ◌==◌, ◌&&◌, ◌||◌, max, Bool, true, false, not, List, [], ◌∷◌, ◌++◌, length, reverse, refl, sym, ap, subst, ◌∙◌, arith, Option, Some, None}
+use Rattle.std.proofs.Common.{◌≡◌, ◌≢◌, ◌⊎◌, inl, inr, ℕ, suc, ◌<◌, ◌≤◌, ◌==◌, ◌&&◌, max, Bool, true, false, not, List, [], ◌∷◌, ◌++◌, reverse, refl, sym, ap, subst, ◌∙◌, arith, Option, Some, None}
 use Rattle.std.specs.Prelude.{if◌then◌else◌, is_some, map, nat_le, nat_lt, slice_get}
 use Rattle.std.specs.List.{AllByRecursion}
-use Rattle.std.specs.Option.{option_or}
 use Rattle.std.specs.Ordering.{is_eq}
 use Rattle.std.proofs.lemmas.Bool.{cases_eq, or_cases, or_left, or_right}
 use Rattle.std.proofs.lemmas.Bool.Decides.{nat_tests}
 use Rattle.tv_base.proofs.Truths.{at_most, left_true, right_true}
 use Rattle.tv_base.specs.declared.numbers.ItemNo.{ItemNo}
-use Rattle.tv_base.specs.declared.numbers.SubNo.{SubNo}
 use Rattle.tv_base.specs.declared.numbers.TreeNo.{TreeNo}
 use Rattle.tv_base.specs.declared.numbers.Version.{Version}
 use Rattle.item_versions.specs.Collecting.{collected_all}
@@ -19,12 +17,11 @@ use Rattle.letter_types.specs.declared.bodies.Body.{Body}
 use Rattle.letter_types.specs.declared.bodies.Body.TheVariants.{Root, Sub as SubLetter, Go, Decide, Sweep}
 use Rattle.letter_types.specs.declared.entries.Entry.{Entry}
 use Rattle.letter_types.specs.declared.entries.Letter.{Letter}
-use Rattle.letter_types.specs.declared.votes.Cause.{Cause}
 use Rattle.nc_locks.specs.declared.modes.Lock.{Lock}
 use Rattle.nc_locks.specs.declared.modes.Met.{Met}
 use Rattle.nc_locks.specs.declared.modes.Mode.{Mode}
-use Rattle.nc_locks.specs.declared.modes.Mode.TheVariants.{Mark, Look, Hold}
-use Rattle.nc_locks.specs.Locks.{Wanted, first_where, has_lock, is_in_way, lock_of, lock_order, marks_on, met_in, wanted_locks}
+use Rattle.nc_locks.specs.declared.modes.Mode.TheVariants.{Mark, Hold}
+use Rattle.nc_locks.specs.Locks.{first_where, has_lock, is_in_way, lock_of, lock_order, marks_on, met_in, wanted_locks}
 use Rattle.nc_locks.specs.Modes.{modes_conflict}
 use Rattle.nc_locks.proofs.Always.{none_in_way}
 use Rattle.nc_locks.proofs.Orders.{itself, same_lock}
@@ -36,17 +33,16 @@ use Rattle.script_parts.specs.declared.parts.Deed.{Deed}
 use Rattle.script_parts.specs.declared.parts.Deed.TheVariants.{Apply, Get, Set, Draw}
 use Rattle.script_parts.specs.declared.parts.Sub.{Sub}
 use Rattle.script_parts.specs.declared.parts.SubOp.{SubOp}
-use Rattle.script_parts.specs.declared.parts.TreeKind.TheVariants.{Update, Read, Strict}
+use Rattle.script_parts.specs.declared.parts.TreeKind.TheVariants.{Update}
 use Rattle.world_model.specs.AllApt.{AllApt}
-use Rattle.world_model.specs.Asked.{asked_ops, asked_version}
+use Rattle.world_model.specs.Asked.{asked_version}
 use Rattle.world_model.specs.Core.{Core}
 use Rattle.world_model.specs.Counts.{one_if}
-use Rattle.world_model.specs.Decisions.{applied_in, ops_at}
+use Rattle.world_model.specs.Decisions.{ops_at}
 use Rattle.world_model.specs.Named.{is_named, is_strict_at, is_timely, tree_kind_at}
 use Rattle.world_model.specs.Node.{Node}
 use Rattle.world_model.specs.Runs.{IsStepRun, keeping_in, node_in}
-use Rattle.world_model.specs.Strict.{CoreKeeping, core_keeping, core_row, marks_of, meets}
-use Rattle.world_model.specs.Updates.{table_after_ops}
+use Rattle.world_model.specs.Strict.{CoreKeeping, core_keeping, core_row, meets}
 use Rattle.world_model.specs.Votes.{mode_wanted, newer_at, newer_by, newer_in, wanted_by}
 use Rattle.world_model.proofs.Cases.{Case, Coordinates, Does, Keeps, NodeDoes, NodeKeeps, Submits, case, does_number}
 use Rattle.world_model.proofs.Keepings.{of_kept}
@@ -54,22 +50,21 @@ use Rattle.world_model.proofs.Outstanding.{IsOutstanding, keeping_elsewhere}
 use Rattle.world_model.proofs.Scripts.{get_below}
 use Rattle.board_rules.specs.Histories.{Place, places_at, places_of, version_in}
 use Rattle.board_rules.proofs.Places.{version_stays}
-use Rattle.tree_laws.specs.Applied.{DecidedByVotes, applied_at}
+use Rattle.tree_laws.specs.Applied.{DecidedByVotes}
 use Rattle.tree_laws.specs.Dids.{asks}
 use Rattle.tree_laws.proofs.AptItems.{Applies, Changes, Collects, Raises, Rests, Shows, Touches, core_changes}
 use Rattle.tree_laws.proofs.AptDecisions.{dated_here}
 use Rattle.tree_laws.proofs.AptSteps.{apt_named, done_before}
-use Rattle.tree_laws.proofs.AptVersions.{DoneIn, before, version_is}
+use Rattle.tree_laws.proofs.AptVersions.{before, version_is}
 use Rattle.tree_laws.proofs.AptWindows.{apt_timely}
 use Rattle.tree_laws.proofs.Histories.{places_more}
 use Rattle.tree_laws.proofs.NodeLoads.{plain_kind}
 use Rattle.tree_laws.proofs.OwnDeeds.{raised_low}
 use Rattle.tree_laws.proofs.Tables.{collected_of, item_collected}
-use Rattle.tree_laws.proofs.Turns.{work_version}
 use Rattle.strict_laws.specs.Locks.{HaveNoConflict}
 use Rattle.strict_laws.proofs.NoConflicts.{none_met, not_parked, runs_apart}
 use Rattle.value_laws.specs.Newest.{IsNewest, NewestUnderHolds}
-use Rattle.value_laws.specs.VoteLocks.{AreAmong, yeses_at}
+use Rattle.value_laws.specs.VoteLocks.{AreAmong}
 use Rattle.value_laws.proofs.Agreed.{IsAgreed, agreed}
 use Rattle.value_laws.proofs.HeldItems.{collected_most, commit_other, none_newer, ops_other}
 use Rattle.value_laws.proofs.HoldRows.{HoldComes, IsNoDecision, Stood, Taken, apart_none, hold_comes}

@@ -1,5 +1,5 @@
 -- What is seen of items after a commit, where nothing newer is held of what it writes.
-use Rattle.std.proofs.Common.{◌≡◌, ◌⊎◌, inl, inr, ℕ, ◌<◌, ◌≤◌, ◌==◌, Bool, true, false, List, [], ◌∷◌, ◌++◌, refl, sym, ap, subst, ◌∙◌, arith, Option, Some, None}
+use Rattle.std.proofs.Common.{◌≡◌, ℕ, ◌<◌, ◌≤◌, ◌==◌, Bool, true, false, List, [], ◌∷◌, refl, sym, ap, subst, ◌∙◌, arith, Option, Some, None}
 use Rattle.std.specs.Prelude.{if◌then◌else◌, nat_le, nat_lt}
 use Rattle.std.specs.List.{AllByRecursion}
 use Rattle.std.proofs.lemmas.Bool.Decides.{nat_tests}
@@ -14,15 +14,15 @@ use Rattle.item_versions.proofs.Seen.{seen-from_last, seen-put_below, seen-put_l
 use Rattle.item_versions.proofs.Window.{AllUpTo, IsWindowed-item_in, in_window-low, up_to-append, up_to-filter}
 use Rattle.script_parts.specs.Deeds.{after_deed, overwrites}
 use Rattle.script_parts.specs.declared.parts.Deed.{Deed}
-use Rattle.script_parts.specs.declared.parts.Deed.TheVariants.{Apply, Get, Set, Draw}
+use Rattle.script_parts.specs.declared.parts.Deed.TheVariants.{Get}
 use Rattle.script_parts.specs.declared.parts.SubOp.{SubOp}
 use Rattle.world_model.specs.Decisions.{applied_in, overwritten, overwritten_in}
 use Rattle.world_model.specs.Reads.{seen_in}
 use Rattle.board_rules.specs.Worth.{after_ops}
 use Rattle.tree_laws.proofs.AptWindows.{AreNear, over_near}
 use Rattle.tree_laws.proofs.Seen.{same_item, seen_of}
-use Rattle.tree_laws.proofs.Tables.{replaced_other, replaced_same}
-use Rattle.value_laws.proofs.HeldItems.{over_other, written_other}
+use Rattle.tree_laws.proofs.Tables.{replaced_same}
+use Rattle.value_laws.proofs.HeldItems.{written_other}
 
 -- One item: nothing is held of it above version v, and it is given a value there.
 none_above : (v : Version) (h : Held) → AllUpTo v.0 h → above v h ≡ []

@@ -1,6 +1,6 @@
 -- In runs of apt letters, of every script: a node sees of its items what its own acts have made of them.
-use Rattle.std.proofs.Common.{◌≡◌, ◌≢◌, ◌⊎◌, inl, inr, ℕ, ◌+◌, ◌<◌, ◌≤◌, ◌==◌, ◌&&◌, max, Bool, true, false, not, List, [], ◌∷◌, ◌++◌, reverse, refl, sym, ap, subst, ◌∙◌, append_assoc, arith, Option, Some, None}
-use Rattle.std.specs.Prelude.{if◌then◌else◌, IsTrue, fold, map, nat_le, nat_lt, slice_get}
+use Rattle.std.proofs.Common.{◌≡◌, ◌≢◌, ◌⊎◌, inl, inr, ℕ, ◌<◌, ◌≤◌, ◌==◌, ◌&&◌, max, Bool, true, false, not, List, [], ◌∷◌, ◌++◌, refl, sym, ap, subst, ◌∙◌, append_assoc, arith, Option, Some, None}
+use Rattle.std.specs.Prelude.{if◌then◌else◌, fold, map, nat_le, nat_lt, slice_get}
 use Rattle.std.specs.List.{AllByRecursion}
 use Rattle.std.proofs.lemmas.Bool.{cases_eq}
 use Rattle.std.proofs.lemmas.Bool.Decides.{nat_tests}
@@ -20,13 +20,11 @@ use Rattle.item_versions.proofs.Window.{AllUpTo, in_window-low, up_to-more}
 use Rattle.letter_types.specs.declared.acts.Act.{Act}
 use Rattle.letter_types.specs.declared.acts.Act.TheVariants as acts
 use Rattle.letter_types.specs.declared.bodies.Body.{Body}
-use Rattle.letter_types.specs.declared.bodies.Body.TheVariants.{Root, Sub as SubLetter, Go, Decide, Sweep, Decided, Done}
+use Rattle.letter_types.specs.declared.bodies.Body.TheVariants.{Root, Sub as SubLetter, Go, Decide, Sweep, Decided}
 use Rattle.letter_types.specs.declared.entries.Entry.{Entry}
 use Rattle.letter_types.specs.declared.entries.Letter.{Letter}
-use Rattle.nc_locks.specs.declared.modes.Lock.{Lock}
 use Rattle.nc_locks.specs.declared.modes.Mode.TheVariants.{Hold}
 use Rattle.nc_locks.specs.Locks.{lock_of}
-use Rattle.script_parts.specs.Deeds.{overwrites}
 use Rattle.script_parts.specs.ScriptData.{ScriptData, subs_at}
 use Rattle.script_parts.specs.Valid.{IsOp, IsValid, OpAt, deed_fits}
 use Rattle.script_parts.specs.declared.parts.Deed.{Deed}
@@ -37,10 +35,10 @@ use Rattle.script_parts.specs.declared.parts.TreeKind.TheVariants.{Strict}
 use Rattle.world_model.specs.AllApt.{AllApt}
 use Rattle.world_model.specs.Asked.{asked_version}
 use Rattle.world_model.specs.Core.{Core}
-use Rattle.world_model.specs.Counts.{Each, one_if, tally}
+use Rattle.world_model.specs.Counts.{one_if, tally}
 use Rattle.world_model.specs.Decisions.{ops_at}
 use Rattle.world_model.specs.Kept.{outstanding}
-use Rattle.world_model.specs.Named.{is_named, is_new, is_strict_at, is_timely}
+use Rattle.world_model.specs.Named.{is_named, is_new, is_timely}
 use Rattle.world_model.specs.Node.{Node}
 use Rattle.world_model.specs.Reads.{seen_in}
 use Rattle.world_model.specs.Runs.{IsStepRun, keeping_in, node_in}
@@ -48,12 +46,11 @@ use Rattle.world_model.specs.Strict.{CoreKeeping, can_make_at, core_row, decides
 use Rattle.world_model.proofs.Cases.{Case, Coordinates, Does, Keeps, NodeDoes, NodeKeeps, Submits, case}
 use Rattle.world_model.proofs.Every.{each_map, each_none, node_kept}
 use Rattle.world_model.proofs.Keepings.{of_kept}
-use Rattle.board_rules.specs.Histories.{Place, places_at, places_of, version_in}
+use Rattle.board_rules.specs.Histories.{Place, places_at, version_in}
 use Rattle.board_rules.specs.Worth.{first_value}
-use Rattle.board_rules.proofs.Places.{version_stays}
 use Rattle.tree_laws.specs.Applied.{DecidedByVotes}
 use Rattle.tree_laws.specs.Carried.{CarriesVersion}
-use Rattle.tree_laws.specs.OwnValues.{is_up_to, seen_at}
+use Rattle.tree_laws.specs.OwnValues.{seen_at}
 use Rattle.tree_laws.proofs.AptDecisions.{dated_here, letters_carry_versions, misdecided}
 use Rattle.tree_laws.proofs.AptItems.{Applies, Changes, Collects, Raises, Rests, Shows, Touches, core_changes}
 use Rattle.tree_laws.proofs.AptVersions.{DoneIn, before, is_right, is_version, still_by, version_is}

@@ -1,23 +1,20 @@
 -- What the row of a core makes of what is seen of an item: what the acts of the row say.
-use Rattle.std.proofs.Common.{◌≡◌, ℕ, ◌<◌, ◌≤◌, ◌==◌, ◌&&◌, ◌||◌, Bool, true, false, List, [], ◌∷◌, ◌++◌, refl, sym, ap, subst, ◌∙◌, arith, Option, Some, None}
+use Rattle.std.proofs.Common.{◌≡◌, ℕ, ◌≤◌, Bool, true, false, List, [], ◌∷◌, refl, sym, ap, subst, ◌∙◌, arith, Option, Some, None}
 use Rattle.std.specs.Prelude.{if◌then◌else◌, fold, nat_le, nat_lt}
 use Rattle.std.specs.List.{AllByRecursion}
-use Rattle.std.proofs.lemmas.Bool.Decides.{nat_tests}
 use Rattle.tv_base.specs.declared.numbers.ItemNo.{ItemNo}
 use Rattle.tv_base.specs.declared.numbers.SubNo.{SubNo}
 use Rattle.tv_base.specs.declared.numbers.TreeNo.{TreeNo}
 use Rattle.tv_base.specs.declared.numbers.Version.{Version}
 use Rattle.commute_ops.specs.declared.value.Value.{Value}
-use Rattle.item_versions.specs.Collecting.{collected_all}
 use Rattle.item_versions.specs.Table.{Table}
 use Rattle.item_versions.specs.Window.{in_window}
 use Rattle.item_versions.proofs.Tables.{Each as EachItem}
 use Rattle.item_versions.proofs.Window.{CanCollect-windowed}
-use Rattle.letter_types.specs.Steps.{Out}
 use Rattle.letter_types.specs.declared.acts.Act.{Act}
 use Rattle.letter_types.specs.declared.acts.Act.TheVariants as acts
 use Rattle.letter_types.specs.declared.bodies.Body.{Body}
-use Rattle.letter_types.specs.declared.bodies.Body.TheVariants.{Root, Sub as SubLetter, Done, Go, Turn, Show, Sweep, Decide, Decided, Release, AskDone, AskAsked}
+use Rattle.letter_types.specs.declared.bodies.Body.TheVariants.{Root, Sub as SubLetter, Done, Turn, Show, Sweep, Decide, Decided, Release, AskDone, AskAsked}
 use Rattle.letter_types.specs.declared.bodies.Notice.{Notice}
 use Rattle.letter_types.specs.declared.votes.Vote.{Vote}
 use Rattle.letter_types.specs.declared.votes.Vote.TheVariants.{Yes, No}
@@ -26,19 +23,18 @@ use Rattle.script_parts.specs.declared.parts.SubOp.{SubOp}
 use Rattle.script_parts.specs.declared.parts.TreeKind.{TreeKind}
 use Rattle.script_parts.specs.declared.parts.TreeKind.TheVariants.{Update, Read, Strict}
 use Rattle.world_model.specs.Apt.{can_make}
-use Rattle.world_model.specs.Asked.{asked_ops, asked_version, tree_part}
+use Rattle.world_model.specs.Asked.{asked_ops, tree_part}
 use Rattle.world_model.specs.Core.{Core}
-use Rattle.world_model.specs.Decisions.{applied_in, ops_at}
+use Rattle.world_model.specs.Decisions.{ops_at}
 use Rattle.world_model.specs.Done.{TreeOut, note_part}
 use Rattle.world_model.specs.Named.{is_strict_at, tree_kind_at}
 use Rattle.world_model.specs.Notices.{act_of, values_of}
 use Rattle.world_model.specs.Reads.{gets, seen_in}
-use Rattle.world_model.specs.Strict.{can_make_at, core_by_kind, core_row, decided, locks_by, note_core, noted_vote, notice_by, refused_there, voting}
+use Rattle.world_model.specs.Strict.{can_make_at, core_by_kind, core_row, locks_by, note_core, noted_vote, notice_by, refused_there, voting}
 use Rattle.world_model.specs.Updates.{can_touch, can_update, table_after_ops}
 use Rattle.world_model.specs.Votes.{vote_of}
 use Rattle.board_rules.specs.Histories.{Place, version_in}
 use Rattle.board_rules.specs.Worth.{after_ops}
-use Rattle.tree_laws.specs.OwnValues.{is_up_to}
 use Rattle.tree_laws.proofs.AptVersions.{DoneIn, is_version, version_is}
 use Rattle.tree_laws.proofs.AptWindows.{AreNear}
 use Rattle.tree_laws.proofs.OwnDeeds.{collected_shows}

@@ -1,30 +1,26 @@
 -- In runs of apt letters, of every script: where a subtransaction of a strict tree voted yes, its locks stand until the
 -- decision on its tree is applied.
-use Rattle.std.proofs.Common.{◌≡◌, ◌≢◌, ◌⊎◌, inl, inr, ℕ, zero, suc, ◌+◌, ◌<◌, ◌≤◌, ◌==◌, ◌&&◌, ◌||◌, Bool, true, false, not, List, [], ◌∷◌, length, refl, sym, ap, subst, ◌∙◌, arith, Option, Some, None}
-use Rattle.std.specs.Prelude.{if◌then◌else◌, fold, slice_get}
-use Rattle.std.specs.Ordering.{is_eq}
-use Rattle.std.proofs.lemmas.Bool.{cases_eq, or_cases, or_left, or_right}
+use Rattle.std.proofs.Common.{◌≡◌, ◌≢◌, ◌⊎◌, inl, inr, ℕ, zero, suc, ◌+◌, ◌<◌, ◌≤◌, ◌==◌, ◌&&◌, Bool, true, false, not, List, [], ◌∷◌, refl, sym, ap, subst, ◌∙◌, arith, Option, Some, None}
+use Rattle.std.specs.Prelude.{if◌then◌else◌, slice_get}
+use Rattle.std.proofs.lemmas.Bool.{or_left, or_right}
 use Rattle.std.proofs.lemmas.Bool.Decides.{nat_tests}
-use Rattle.tv_base.proofs.Truths.{left_true, right_true}
 use Rattle.tv_base.specs.declared.numbers.SubNo.{SubNo}
 use Rattle.tv_base.specs.declared.numbers.TreeNo.{TreeNo}
 use Rattle.letter_types.specs.declared.acts.Act.{Act}
 use Rattle.letter_types.specs.declared.acts.Act.TheVariants as acts
 use Rattle.letter_types.specs.declared.bodies.Body.{Body}
-use Rattle.letter_types.specs.declared.bodies.Body.TheVariants.{Root, Sub as SubLetter, Done, Go, Decide, Release}
+use Rattle.letter_types.specs.declared.bodies.Body.TheVariants.{Root, Sub as SubLetter, Go, Decide, Release}
 use Rattle.letter_types.specs.declared.entries.Entry.{Entry}
 use Rattle.letter_types.specs.declared.entries.Letter.{Letter}
 use Rattle.letter_types.specs.declared.bodies.Notice.{Notice}
 use Rattle.letter_types.specs.declared.bodies.Notice.TheVariants as notices
 use Rattle.letter_types.specs.declared.votes.Vote.TheVariants.{Yes, No}
 use Rattle.nc_locks.specs.declared.modes.Lock.{Lock}
-use Rattle.nc_locks.specs.Locks.{Wanted, has_lock, lock_of, lock_order, wanted_locks, with_locks, without}
+use Rattle.nc_locks.specs.Locks.{Wanted, has_lock, wanted_locks, with_locks, without}
 use Rattle.nc_locks.proofs.Always.{freed_are_gone, taken_stand}
-use Rattle.nc_locks.proofs.Orders.{same_lock}
 use Rattle.script_parts.specs.Counts.{has_strict, one_strict, strict_trees}
-use Rattle.script_parts.specs.ScriptData.{ScriptData, ops_of, subs_at, updates}
+use Rattle.script_parts.specs.ScriptData.{ScriptData, ops_of, updates}
 use Rattle.script_parts.specs.Valid.{IsValid}
-use Rattle.script_parts.specs.declared.parts.SubOp.{SubOp}
 use Rattle.script_parts.specs.declared.parts.Tree.{Tree}
 use Rattle.script_parts.specs.declared.parts.TreeKind.{TreeKind}
 use Rattle.script_parts.specs.declared.parts.TreeKind.TheVariants.{Update, Read, Strict}
@@ -53,7 +49,7 @@ use Rattle.strict_laws.proofs.ByActs.{wanted_needed}
 use Rattle.strict_laws.proofs.Meant.{letters_are_meant}
 use Rattle.strict_laws.proofs.RunConflicts.{wanted_tree}
 use Rattle.strict_laws.proofs.RunLocks.{step_follows}
-use Rattle.value_laws.specs.VoteLocks.{AreAmong, VoteLocksStand, yeses_at}
+use Rattle.value_laws.specs.VoteLocks.{VoteLocksStand, yeses_at}
 use Rattle.value_laws.proofs.RowActs.{asked_acts, is_lasting, keeping_lasts, lasting, lasting_acts, row_lasts, tally_lasting}
 
 -- A script with a strict tree has some.

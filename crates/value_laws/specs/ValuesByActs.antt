@@ -1,5 +1,5 @@
 -- What a node's own acts make of its items, in runs of every script.
-use Rattle.std.specs.Prelude.{if◌then◌else◌, ℕ, Bool, true, false, ◌==◌, ◌&&◌, ◌<◌, ◌≤◌, ◌≡◌, List, fold, reverse, Some, slice_get}
+use Rattle.std.specs.Prelude.{if◌then◌else◌, ℕ, ◌==◌, ◌&&◌, ◌<◌, ◌≤◌, ◌≡◌, List, fold, reverse, Some, slice_get}
 use Rattle.commute_ops.specs.declared.value.Value.{Value}
 use Rattle.letter_types.specs.declared.acts.Act.{Act}
 use Rattle.letter_types.specs.declared.acts.Act.TheVariants.{Did, Applied, Finished}
