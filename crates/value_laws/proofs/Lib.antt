@@ -7,3 +7,4 @@ pub mod Newest
 pub mod Overwritten
 pub mod SeenRows
 pub mod SeenByActs
+pub mod OtherValues
