@@ -50,7 +50,7 @@ same_mode Get = refl
 same_mode (Set n) = refl
 same_mode (Draw n) = refl
 
-wanted_needed : (os : List SubOp) → wanted_by os ≡ needed_by os
+pub wanted_needed : (os : List SubOp) → wanted_by os ≡ needed_by os
 wanted_needed [] = refl
 wanted_needed (o ∷ os) =
     ap (λ (m : Mode). (o.item, m) ∷ wanted_by os) (same_mode o.deed) ∙ ap (λ (ws : Wanted). (o.item, lock_mode_of o.deed) ∷ ws) (wanted_needed os)

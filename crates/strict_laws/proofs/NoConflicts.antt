@@ -62,7 +62,7 @@ record IsFree (t : TreeNo) (ls : List Lock) (l : Lock) : Type 0 where
   tree : l.tree.0 ≡ t.0
   free : (q : Lock) → has_lock q ls ≡ true → is_in_way t l.item l.mode q ≡ false
 
-none_met : (r : Option Lock) (more : Option Met) → option_or (met_by r) more ≡ None → (r ≡ None) × (more ≡ None)
+pub none_met : (r : Option Lock) (more : Option Met) → option_or (met_by r) more ≡ None → (r ≡ None) × (more ≡ None)
 none_met None more is = (refl, is)
 none_met (Some l) more is = absurd (cc is)
 
@@ -110,11 +110,11 @@ freed_apart t ls old a b at_a at_b item ne = old a b (left a at_a) (left b at_b)
   left l at = (and_parts (not (l.tree.0 == t.0)) (has_lock l ls) (sym (freed_are_gone l t ls) ∙ at)).1
 
 -- A subtransaction that isn't kept.
-not_parked : (t : TreeNo) (k : SubNo) (raises : Bool) (v : Version) (r : Option Met) (c : Core) → parked_if t k raises v r c ≡ None → r ≡ None
+pub not_parked : (t : TreeNo) (k : SubNo) (raises : Bool) (v : Version) (r : Option Met) (c : Core) → parked_if t k raises v r c ≡ None → r ≡ None
 not_parked t k raises v None c is = refl
 not_parked t k raises v (Some m) c is = absurd (cc is)
 
-no_cause : (r : Option Met) (more : Option Cause) → option_or (conflict_by r) more ≡ None → r ≡ None
+pub no_cause : (r : Option Met) (more : Option Cause) → option_or (conflict_by r) more ≡ None → r ≡ None
 no_cause None more is = refl
 no_cause (Some m) more is = absurd (cc is)
 

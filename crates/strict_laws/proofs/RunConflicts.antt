@@ -53,7 +53,7 @@ tree_there s t k lt = by (cases_lt t (length s.trees)) where
 abbrev OfTrees : ScriptData → List Lock → Type 0
 OfTrees s ls = (l : Lock) → has_lock l ls ≡ true → l.tree.0 < length s.trees
 
-wanted_tree : (t : TreeNo) (ws : Wanted) (l : Lock) → has_lock l (wanted_locks t ws) ≡ true → l.tree.0 ≡ t.0
+pub wanted_tree : (t : TreeNo) (ws : Wanted) (l : Lock) → has_lock l (wanted_locks t ws) ≡ true → l.tree.0 ≡ t.0
 wanted_tree t [] l is = absurd (cc is)
 wanted_tree t (w ∷ ws) l is =
     by (λ later. wanted_tree t ws l later) (or_cases (is_eq (lock_order l (lock_of t w.0 w.1))) (has_lock l (wanted_locks t ws)) is) where

@@ -308,7 +308,16 @@ homes_next xs ys s past e p at have here q lt (inl is) =
     subst (λ (n : ℕ). EachOpen (IsOf (xs ++ ys)) (node_in s (e ∷ past) n).homes) is here
 homes_next xs ys s past e p at have here q lt (inr ne) = elsewhere xs ys s past e q (λ is. ne (sym at ∙ is)) lt have
 
--- a node does a letter
+-- a letter that a node does has the version of its tree
+pub dated_here : (s : ScriptData) (past : List Entry) (e : Entry) (p : ℕ) (r : Letter) → IsValid s → AllApt s past → IsStepRun s (e ∷ past)
+    → Does s past e p r → DoneIn (before past ++ places_at e) (work_version s (keeping_in s past p).core r.body) r.body
+dated_here s past e p r valid apt run d =
+    let xs : List Place = before past ++ places_at e in
+    let n = does_as s past e p r run.0 (none_strays s past valid apt run.1) d in
+    subst (λ (v : Version). DoneIn xs v r.body) n.1.0
+    (subst (λ (b : Body). DoneIn xs n.0.version b) n.1.1 (done_dated s past e valid apt run (dated_run s past valid apt run.1) n.0))
+
+-- so a node does one
 does_next : (s : ScriptData) (past : List Entry) (e : Entry) (p : ℕ) (r : Letter) → IsValid s → AllApt s past → IsStepRun s (e ∷ past)
     → HaveVersions (before past) s past → Does s past e p r → HaveVersions (before past ++ places_at e) s (e ∷ past)
 does_next s past e p r valid apt run have d =
@@ -317,10 +326,7 @@ does_next s past e p r valid apt run have d =
     let c : Core = (keeping_in s past p).core in
     let out : Out Core = core_row s p c r.from.0 r.body in
     let more : List Outgoing = wakes (wakes_by r.body) (kept_without (kept_in s past p) e.took.body) in
-    let n = does_as s past e p r run.0 (none_strays s past valid apt run.1) d in
-    let dated : DoneIn (xs ++ ys) (work_version s c r.body) r.body =
-    subst (λ (v : Version). DoneIn (xs ++ ys) v r.body) n.1.0
-    (subst (λ (b : Body). DoneIn (xs ++ ys) n.0.version b) n.1.1 (done_dated s past e valid apt run (dated_run s past valid apt run.1) n.0)) in
+    let dated : DoneIn (xs ++ ys) (work_version s c r.body) r.body = dated_here s past e p r valid apt run d in
     let own : misdecided xs r.body ≡ 0 =
     omega (
       arith,

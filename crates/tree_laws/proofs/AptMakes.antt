@@ -70,11 +70,11 @@ visits_there (y ∷ subs) zero x at =
     rw here refl
 visits_there (y ∷ subs) (suc n) x at = visits_by subs y x.node.0 (y.node.0 == x.node.0) refl (visits_there subs n x at)
 
-node_visited : (s : ScriptData) (t k : ℕ) → SubAt s t k → visits (subs_at s t) (node_of s t k) ≡ true
+pub node_visited : (s : ScriptData) (t k : ℕ) → SubAt s t k → visits (subs_at s t) (node_of s t k) ≡ true
 node_visited s t k c =
     subst (λ (q : ℕ). visits (subs_at s t) q ≡ true) (sym (node_here s t k c)) (visits_there (subs_at s t) k c.sub (sub_here s t k c))
 
-node_in_script : (s : ScriptData) (t k : ℕ) → SubAt s t k → IsValid s → node_of s t k < s.nodes
+pub node_in_script : (s : ScriptData) (t k : ℕ) → SubAt s t k → IsValid s → node_of s t k < s.nodes
 node_in_script s t k c valid =
     let lt : c.sub.node.0 < s.nodes =
     all_at (λ (x : Sub). x.node.0 < s.nodes) (subs_at s t) k c.sub
@@ -185,7 +185,7 @@ told_less : (t p : ℕ) (l : Letter) (test : Bool) → (if test then tells_decis
 told_less t p l true = omega arith
 told_less t p l false = omega arith
 
-decision_waits : (s : ScriptData) (past : List Entry) (r : Letter) (p : ℕ) (t : TreeNo) (v : Version) → IsOutstanding s past r → r.to.0 ≡ p
+pub decision_waits : (s : ScriptData) (past : List Entry) (r : Letter) (p : ℕ) (t : TreeNo) (v : Version) → IsOutstanding s past r → r.to.0 ≡ p
     → r.body ≡ Decide t v true → 1 ≤ decisions_to s past t.0 true p
 decision_waits s past r p t v out to is =
     let g : Letter → ℕ = λ l. tells_decision t.0 true l.body in

@@ -58,7 +58,7 @@ moved : (a b : Table) (x y : Turns) → a ≡ b → x ≡ y → IsInWindow b y �
 moved a b x y ab xy win = subst (λ (z : Turns). IsInWindow a z) (sym xy) (subst (λ (z : Table). IsInWindow z y) (sym ab) win)
 
 -- Tables: operations in a version of the window.
-abbrev AreNear : ℕ → Table → Type 0
+abbrev pub AreNear : ℕ → Table → Type 0
 AreNear low items = IsHeldTable items × IsWindowedTable low items
 
 deed_near : (low : ℕ) (v : Version) (n : ItemNo) (deed : Deed) (items : Table) → in_window low v.0 ≡ true → AreNear low items
@@ -80,7 +80,7 @@ put_near low v o None items near all = all
 put_near low v o (Some w) items near all =
     (IsHeldTable-put_value_in v o.item _ items all.0, IsWindowedTable-put_value_in low v o.item _ items all.0 all.1 near)
 
-over_near : (low : ℕ) (v : Version) (o : SubOp) (items : Table) (test : Bool) → in_window low v.0 ≡ true → AreNear low items
+pub over_near : (low : ℕ) (v : Version) (o : SubOp) (items : Table) (test : Bool) → in_window low v.0 ≡ true → AreNear low items
     → AreNear low (if test then overwritten v o (seen_in v o.item items) items else items)
 over_near low v o items true near all = put_near low v o (seen_in v o.item items) items near all
 over_near low v o items false near all = all

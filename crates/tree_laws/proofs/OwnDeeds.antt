@@ -209,7 +209,7 @@ sub_shows s h t k x u v raises effect st w c from low is (SubReads read turn can
     rw made (seen ∙ ap (λ (y : Value). Some y) (did_reads s h x u t k (values_of effect.notice) w (reads_alone s t.0 k.0 c read)))
 
 -- raising the update version leaves the low one
-raised_low : (raises : Bool) (v : ℕ) (turns : Turns) → (raised_if raises v turns).low.0 ≡ turns.low.0
+pub raised_low : (raises : Bool) (v : ℕ) (turns : Turns) → (raised_if raises v turns).low.0 ≡ turns.low.0
 raised_low true v turns = refl
 raised_low false v turns = refl
 
@@ -252,7 +252,7 @@ note_sees s past e p row are at made none same turns sees =
 -- A node that obeys.
 
 -- what is seen of a table whose items are all collected, from the version on to which they are
-collected_shows : (f u : Version) (x : ItemNo) (low : ℕ) (items : Table) → EachItem (IsFrom low) items → f.0 ≤ u.0
+pub collected_shows : (f u : Version) (x : ItemNo) (low : ℕ) (items : Table) → EachItem (IsFrom low) items → f.0 ≤ u.0
     → seen_in u x (collected_all f items) ≡ seen_in u x items
 collected_shows f u x low [] from le = refl
 collected_shows f u x low (e ∷ es) from le = shows_by (e.0.0 == x.0) refl (collected_shows f u x low es from.1 le) where
@@ -383,7 +383,7 @@ start_at s p i x v (suc n) r q rows at node here is later true test =
     rw test (rw (other, seen_in) (later n here (omega arith)))
 start_at s p i x v (suc n) r q rows at node here is later false test = rw test (later n here (omega arith))
 
-start_shows : (s : ScriptData) (p i x v n : ℕ) (r : ItemRow) (rows : List ItemRow) → slice_get s.items x ≡ Some r → r.node.0 ≡ p
+pub start_shows : (s : ScriptData) (p i x v n : ℕ) (r : ItemRow) (rows : List ItemRow) → slice_get s.items x ≡ Some r → r.node.0 ≡ p
     → slice_get rows n ≡ Some r → x ≡ i + n
     → seen_in (record { 0 = v }) (record { 0 = x }) (items_at p i rows) ≡ Some (first_value (Some r))
 start_shows s p i x v n r [] at node here is = absurd (cc here)

@@ -1,0 +1,10 @@
+pub mod RowActs
+pub mod VoteLocks
+pub mod Agreed
+pub mod HeldItems
+pub mod HoldRows
+pub mod Newest
+pub mod Overwritten
+pub mod SeenRows
+pub mod SeenByActs
+pub mod OtherValues

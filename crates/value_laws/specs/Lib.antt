@@ -1,0 +1,3 @@
+pub mod Newest
+pub mod ValuesByActs
+pub mod VoteLocks
