@@ -214,7 +214,7 @@ works s past e p r laws apt run d of =
     }
 
 -- that is kept
-asking_of : (body : Body) → IsAsking body → IsOfTrees body
+pub asking_of : (body : Body) → IsAsking body → IsOfTrees body
 asking_of (Root t) asks = tt
 asking_of (SubLetter t k v) asks = tt
 asking_of _ asks = absurd asks

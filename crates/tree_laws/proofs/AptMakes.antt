@@ -70,7 +70,7 @@ visits_there (y ∷ subs) zero x at =
     rw here refl
 visits_there (y ∷ subs) (suc n) x at = visits_by subs y x.node.0 (y.node.0 == x.node.0) refl (visits_there subs n x at)
 
-node_visited : (s : ScriptData) (t k : ℕ) → SubAt s t k → visits (subs_at s t) (node_of s t k) ≡ true
+pub node_visited : (s : ScriptData) (t k : ℕ) → SubAt s t k → visits (subs_at s t) (node_of s t k) ≡ true
 node_visited s t k c =
     subst (λ (q : ℕ). visits (subs_at s t) q ≡ true) (sym (node_here s t k c)) (visits_there (subs_at s t) k c.sub (sub_here s t k c))
 
