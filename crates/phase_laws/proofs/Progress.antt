@@ -166,7 +166,7 @@ made_by_coordinator s past e at says = record {
 }
 
 -- A letter that is brought.
-brings_to : (s : ScriptData) (past : List Entry) (e : Entry) (p : ℕ) (r : Letter) → Brings s past e p r → BringsTo s past e p r
+pub brings_to : (s : ScriptData) (past : List Entry) (e : Entry) (p : ℕ) (r : Letter) → Brings s past e p r → BringsTo s past e p r
 brings_to s past e p r b = record { at = b.at; below = b.below; brings = b.brings }
 
 -- what was taken for a letter of trees is one, or a Wake

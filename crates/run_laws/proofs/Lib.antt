@@ -1,4 +1,5 @@
 pub mod EveryApt
+pub mod Holders
 pub mod Wholes
 pub mod Reached
 pub mod Closed
