@@ -1,5 +1,6 @@
 pub mod EveryApt
 pub mod Holders
+pub mod KeptWhy
 pub mod Wholes
 pub mod Reached
 pub mod Closed
