@@ -1,6 +1,7 @@
 pub mod EveryApt
 pub mod Holders
 pub mod KeptWhy
+pub mod Resting
 pub mod Wholes
 pub mod Reached
 pub mod Closed

@@ -59,7 +59,7 @@ done_below s past (suc n) t k c sound good quiet root lt =
     done_by s past n t k c sound good quiet root lt (λ j less sub. done_below s past n t j sub sound good quiet root less) (zero_or k)
 
 -- the place of a notice that is missing
-place_missing : (ns : List (Option Gets)) → 1 ≤ missing_count ns → (k : ℕ) × (k < length ns) × (slice_get ns k ≡ Some None)
+pub place_missing : (ns : List (Option Gets)) → 1 ≤ missing_count ns → (k : ℕ) × (k < length ns) × (slice_get ns k ≡ Some None)
 place_missing [] some = absurd (omega arith)
 place_missing (None ∷ ns) some = (0, omega arith, refl)
 place_missing (Some values ∷ ns) some = let (k, lt, at) = place_missing ns some in (suc k, omega (arith, lt), at)
