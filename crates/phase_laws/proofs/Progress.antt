@@ -246,7 +246,7 @@ wake_more : (b : Bool) (o : Outgoing) (os : List Outgoing) → IsWake o.body →
 wake_more true o os one rest = (one, rest)
 wake_more false o os one rest = rest
 
-wakes_are : (test : Why → Bool) (kept : List KeptLetter) → AreWakes (wakes test kept)
+pub wakes_are : (test : Why → Bool) (kept : List KeptLetter) → AreWakes (wakes test kept)
 wakes_are test [] = tt
 wakes_are test (x ∷ xs) = wake_more (test x.why) _ (wakes test xs) tt (wakes_are test xs)
 

@@ -2,6 +2,7 @@ pub mod EveryApt
 pub mod Holders
 pub mod KeptWhy
 pub mod Resting
+pub mod Stopping
 pub mod Wholes
 pub mod Reached
 pub mod Closed
