@@ -25,7 +25,8 @@ use Rattle.world_model.proofs.KeptThere.{IsCoreKeeping, OfKeeping, core_keeps}
 use Rattle.world_model.proofs.Outstanding.{keeping_elsewhere}
 use Rattle.world_model.proofs.Scripts.{SubAt, sub_below, sub_there, tree_below}
 use Rattle.strict_laws.specs.Meant.{IsMeant}
-use Rattle.strict_laws.proofs.Holding.{Came, HeldFrom, Holds, LetsGo, Stood, row_comes, same_holds}
+use Rattle.strict_laws.specs.Keeping.{Holds}
+use Rattle.strict_laws.proofs.Holding.{Came, HeldFrom, LetsGo, Stood, row_comes, same_holds}
 use Rattle.strict_laws.proofs.MeantRows.{root_below}
 use Rattle.phase_laws.proofs.Brought.{brought_meant}
 use Rattle.phase_laws.proofs.Progress.{brings_to}
@@ -42,7 +43,7 @@ use Rattle.tree_laws.proofs.AptStagesRun.{stages_of_trees}
 use Rattle.tree_laws.proofs.AptSteps.{enters}
 use Rattle.tree_laws.proofs.AptTurns.{no_turn_yet, turns_below_root}
 use Rattle.tree_laws.proofs.Counts.{one_here}
-use Rattle.run_laws.proofs.EveryApt.{all_apt}
+use Rattle.run_laws.specs.Waiting.{IsHolder}
 
 -- how often what was decided of tree t was applied at node p
 abbrev pub applied_any : List Entry → ℕ → ℕ → ℕ
@@ -51,15 +52,8 @@ applied_any past t p = applied_at past t true p + applied_at past t false p
 abbrev applies_any : ℕ → List Act → ℕ
 applies_any t does = tally (applies_as t true) does + tally (applies_as t false) does
 
--- tree t may hold items of node p
-pub record MayHold (s : ScriptData) (past : List Entry) (p t : ℕ) : Type 0 where
-  pub strict : is_strict_at s t ≡ true
-  pub visits : visits (subs_at s t) p ≡ true
-  pub born : 1 ≤ turns past t 0
-  pub unapplied : applied_any past t p ≡ 0
-
 abbrev pub HoldersAt : ScriptData → List Entry → ℕ → Core → Type 0
-HoldersAt s past p c = (t : TreeNo) → Holds c t → MayHold s past p t.0
+HoldersAt s past p c = (t : TreeNo) → Holds c t → IsHolder s past p t.0
 
 -- What an entry applies.
 still_unapplied : (past : List Entry) (e : Entry) (t p : ℕ) → applies_any t e.acts ≡ 0 → applied_any (e ∷ past) t p ≡ applied_any past t p
@@ -75,11 +69,12 @@ elsewhere_unapplied : (past : List Entry) (e : Entry) (t p : ℕ) → e.actor.0 
 elsewhere_unapplied past e t p ne = let other : (e.actor.0 == p) ≡ false = grind (arith, nat_tests) in rw other (omega arith)
 
 goes_on : (s : ScriptData) (past : List Entry) (e : Entry) (p t : ℕ) → applied_any (e ∷ past) t p ≡ applied_any past t p
-    → MayHold s past p t → MayHold s (e ∷ past) p t
+    → IsHolder s past p t → IsHolder s (e ∷ past) p t
 goes_on s past e p t same h = record {
   strict = h.strict;
   visits = h.visits;
   born = omega (arith, h.born);
+  turned = (h.turned.0, (h.turned.1.0, omega (arith, h.turned.1.1)));
   unapplied = same ∙ h.unapplied;
 }
 
@@ -161,13 +156,14 @@ unapplied_yet s past p t k c valid apt run lt visited some =
 
 -- A tree that comes to hold: its subtransaction has its turn.
 came : (s : ScriptData) (past : List Entry) (e : Entry) (p t k : ℕ) (r : Letter) → Doing s past e p r → is_strict_at s t ≡ true
-    → IsAsked s p t k r.body → applies_any t e.acts ≡ 0 → MayHold s (e ∷ past) p t
+    → IsAsked s p t k r.body → applies_any t e.acts ≡ 0 → IsHolder s (e ∷ past) p t
 came s past e p t k r g strict a none =
     let visited : visits (subs_at s t) p ≡ true = subst (λ (q : ℕ). visits (subs_at s t) q ≡ true) (sym a.node) (node_visited s t k a.sub) in
     record {
       strict = strict;
       visits = visited;
       born = omega (arith, turned_here s past e p t k r g, a.one, turns_below_root s (e ∷ past) t k a.sub g.valid g.apt g.run);
+      turned = (k, (sym a.node, omega (arith, turned_here s past e p t k r g, a.one)));
       unapplied = still_unapplied past e t p none
           ∙ unapplied_yet s past p t k a.sub g.valid g.apt.1 g.run.1 g.does.brings.below visited (asked s past e p t k r g a.one);
     }
@@ -180,7 +176,7 @@ does_holders s past e p r g old = λ t h.
     (ap (λ (x : Core). x.locks) (sym g.does.core)) h)) where
       applies : (t : ℕ) → tells_decision t true r.body + tells_decision t false r.body ≡ 0 → applies_any t e.acts ≡ 0
       applies t none = omega (arith, none, does_apply s past e p r t true g.does, does_apply s past e p r t false g.does)
-      by : (t : TreeNo) → HeldFrom s (keeping_in s past p).core r.body t → MayHold s (e ∷ past) p t.0
+      by : (t : TreeNo) → HeldFrom s (keeping_in s past p).core r.body t → IsHolder s (e ∷ past) p t.0
       by t (Stood h keeps) = goes_on s past e p t.0 (still_unapplied past e t.0 p (applies t.0 (tells_none t r.body keeps))) (old t h)
       by t (Came k strict asks) =
           let meant = brought_meant s past e p r g.valid (brings_to s past e p r g.does.brings) g.run in

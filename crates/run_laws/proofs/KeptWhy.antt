@@ -1,13 +1,13 @@
 -- In every run each letter that a node keeps has its reason still: the root of a strict tree waits for a Show, and a
 -- subtransaction of an update tree for a holder that its node has.
-use Rattle.std.proofs.Common.{◌≡◌, ◌≢◌, ◌⊎◌, inl, inr, ℕ, ◌+◌, ◌<◌, ◌≤◌, ◌==◌, Bool, true, false, List, [], ◌∷◌, ◌++◌, refl, sym, ap, subst, ◌∙◌, arith, Option, Some, None}
+use Rattle.std.proofs.Common.{◌≡◌, ◌≢◌, ◌⊎◌, inl, inr, ℕ, ◌+◌, ◌<◌, ◌≤◌, ◌==◌, ◌&&◌, Bool, true, false, List, [], ◌∷◌, ◌++◌, refl, sym, ap, subst, ◌∙◌, arith, Option, Some, None}
 use Rattle.std.specs.Prelude.{if◌then◌else◌, nat_lt}
 use Rattle.std.proofs.lemmas.Bool.{cases_eq}
 use Rattle.std.proofs.lemmas.Bool.Decides.{nat_tests}
 use Rattle.tv_base.specs.declared.numbers.SubNo.{SubNo}
 use Rattle.tv_base.specs.declared.numbers.TreeNo.{TreeNo}
 use Rattle.tv_base.specs.declared.numbers.Version.{Version}
-use Rattle.letter_types.specs.Kept.{brought, is_called_for, kept_without, wakes_by, with_called, without_called}
+use Rattle.letter_types.specs.Kept.{brought, is_called, is_called_for, kept_without, wakes_by, with_called, without_called}
 use Rattle.letter_types.specs.declared.bodies.Body.{Body}
 use Rattle.letter_types.specs.declared.bodies.Body.TheVariants.{Decide, Release, Show, Wake}
 use Rattle.letter_types.specs.declared.entries.Entry.{Entry}
@@ -23,7 +23,8 @@ use Rattle.tx_trees.specs.ScriptData.{ScriptData, ops_of}
 use Rattle.tx_trees.specs.Valid.{IsValid}
 use Rattle.world_model.specs.AllApt.{AllApt}
 use Rattle.world_model.specs.Core.{Core}
-use Rattle.world_model.specs.Counts.{Each}
+use Rattle.world_model.specs.Calls.{calls}
+use Rattle.world_model.specs.Counts.{Each, one_if, tally}
 use Rattle.world_model.specs.Done.{raised_if}
 use Rattle.world_model.specs.declared.phase.Phase.{Phase}
 use Rattle.world_model.specs.declared.phase.Phase.TheVariants.{Idle, Turning, Counting, Paused, Showing, Sweeping}
@@ -31,24 +32,27 @@ use Rattle.world_model.specs.Keeping.{KeepingNode}
 use Rattle.world_model.specs.Kept.{kept_in}
 use Rattle.world_model.specs.Named.{is_strict_at, tree_kind_at}
 use Rattle.world_model.specs.Node.{Node}
-use Rattle.world_model.specs.Runs.{IsStepRun, coordinator_in, keeping_in, node_in}
+use Rattle.world_model.specs.Runs.{IsStepRun, coordinator_in, in_flight, keeping_in, node_in}
 use Rattle.world_model.specs.Strict.{CoreKeeping, core_keeping, core_row, is_born_now}
 use Rattle.world_model.proofs.Cases.{Case, Coordinates as ByCoordinator, Does, Keeps, NodeDoes, NodeKeeps, Submits, case}
-use Rattle.world_model.proofs.Every.{each_append, each_map, node_kept}
+use Rattle.world_model.proofs.Every.{each_append, each_both, each_map}
 use Rattle.world_model.proofs.KeptThere.{IsCoreKeeping, OfKeeping, core_keeps}
 use Rattle.world_model.proofs.Nexts.{Order, Shows, Sweeps, TellsAsked, TellsDone, Turns}
 use Rattle.world_model.proofs.Outstanding.{keeping_elsewhere}
-use Rattle.strict_laws.specs.Keeping.{IsKeptFor}
+use Rattle.strict_laws.specs.Keeping.{Holds, IsKeptFor}
 use Rattle.strict_laws.specs.Meant.{IsMeant}
 use Rattle.strict_laws.proofs.ByActs.{kind_updates}
-use Rattle.strict_laws.proofs.Holding.{Holds, LetsGo, met_holds, row_stays, same_holds}
+use Rattle.strict_laws.proofs.Holding.{LetsGo, met_holds, row_stays, same_holds}
 use Rattle.strict_laws.proofs.Reasons.{kept_for_a_reason}
+use Rattle.strict_laws.proofs.Waking.{wakes_find_letters}
 use Rattle.phase_laws.specs.Phases.{IsInPhase}
 use Rattle.phase_laws.proofs.Brought.{brought_meant}
 use Rattle.phase_laws.proofs.Levels.{versions_in_phase}
 use Rattle.phase_laws.proofs.Progress.{Begins, Coordinates, Ends, Hears, Obeys, Progress, Works, brings_to, progress}
 use Rattle.phase_laws.proofs.Small.{small}
 use Rattle.phase_laws.proofs.Working.{RaisesBy}
+use Rattle.tree_laws.proofs.Counts.{one_here}
+use Rattle.run_laws.specs.Waiting.{IsKeptUntil, LettersStayKeptForAReason}
 use Rattle.run_laws.proofs.EveryApt.{all_apt, lawful}
 use Rattle.run_laws.proofs.Holders.{HoldersAt, holders}
 
@@ -309,3 +313,31 @@ waiting_by s past e p valid run lt all (inr ne) = other_waiting s past e p ne al
 pub waiting : (s : ScriptData) (past : List Entry) (p : ℕ) → IsValid s → IsStepRun s past → p < s.nodes → AreWaiting s past p (kept_in s past p)
 waiting s [] p valid run lt = tt
 waiting s (e ∷ past) p valid run lt = waiting_by s past e p valid run lt (waiting s past p valid run.1 lt) (cases_eq e.actor.0 p)
+
+-- What is called has its Wake in flight.
+pub counts_called : (w : Why) (t k : ℕ) → w ≡ Called → one_if (is_called w && ((t == t) && (k == k))) ≡ 1
+counts_called w t k is = let called : is_called w ≡ true = ap is_called is in rw called (one_here t k)
+
+abbrev IsCounted : List KeptLetter → KeptLetter → Type 0
+IsCounted all x = x.why ≡ Called → 1 ≤ calls x.tree x.sub all
+
+each_counted : (all xs : List KeptLetter) → ((t : TreeNo) (k : SubNo) → calls t k xs ≤ calls t k all) → Each (IsCounted all) xs
+each_counted all [] le = tt
+each_counted all (x ∷ xs) le =
+    ((λ is. omega (arith, le x.tree x.sub, counts_called x.why x.tree.0 x.sub.0 is)),
+    each_counted all xs (λ t k. omega (arith, le t k)))
+
+kept_until : (s : ScriptData) (past : List Entry) (p : ℕ) (x : KeptLetter) (w : Why) → x.why ≡ w → IsValid s → IsStepRun s past → p < s.nodes
+    → IsWaiting s past p x → Reason s past p x.tree w → IsCounted (kept_in s past p) x → IsKeptUntil s past p x w
+kept_until s past p x ForShow is valid run lt at reason counted = (reason.0, (at.root reason.0, reason.1))
+kept_until s past p x (ForHolder h) is valid run lt at reason counted =
+    (reason.0, (reason.1, holders s past p valid (all_apt s past valid run) run lt h reason.1))
+kept_until s past p x Called is valid run lt at reason counted =
+    omega (arith, counted is, wakes_find_letters s past p x.tree x.sub valid (all_apt s past valid run) run lt)
+
+pub letters_stay_kept : LettersStayKeptForAReason
+letters_stay_kept s past p valid run lt =
+    each_map (λ (x : KeptLetter). IsWaiting s past p x × IsCounted (kept_in s past p) x) (λ (x : KeptLetter). IsKeptUntil s past p x x.why) (kept_in s past p)
+    (λ x both. kept_until s past p x x.why refl valid run lt both.0 both.0.why both.1)
+    (each_both (IsWaiting s past p) (IsCounted (kept_in s past p)) (kept_in s past p) (waiting s past p valid run lt)
+    (each_counted (kept_in s past p) (kept_in s past p) (λ t k. omega arith)))

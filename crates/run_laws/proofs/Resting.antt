@@ -25,8 +25,8 @@ use Rattle.world_model.proofs.Bags.{tally-append}
 use Rattle.world_model.proofs.Every.{each_map}
 use Rattle.world_model.proofs.KeptThere.{kept_in_past}
 use Rattle.world_model.proofs.Scripts.{SubAt, sub_below, sub_here, sub_there, tree_below}
+use Rattle.strict_laws.specs.Keeping.{Holds}
 use Rattle.strict_laws.specs.Waking.{is_wake_at}
-use Rattle.strict_laws.proofs.Holding.{Holds}
 use Rattle.strict_laws.proofs.MeantRows.{root_below, strict_below}
 use Rattle.strict_laws.proofs.Waking.{wakes_find_letters}
 use Rattle.tree_laws.specs.Dids.{answers, asks, letters_asking, tells_done}
@@ -37,9 +37,10 @@ use Rattle.tree_laws.proofs.AptStagesRun.{stages_of_trees}
 use Rattle.tree_laws.proofs.AptTurns.{parent_before, sub_has_turns}
 use Rattle.tree_laws.proofs.Counts.{one_here, zero_or}
 use Rattle.tree_laws.proofs.Finishes.{none_left, place_missing}
+use Rattle.run_laws.specs.Waiting.{IsHolder}
 use Rattle.run_laws.proofs.EveryApt.{all_apt}
-use Rattle.run_laws.proofs.Holders.{MayHold, holders}
-use Rattle.run_laws.proofs.KeptWhy.{AreWaiting, IsWaiting, Reason, waiting}
+use Rattle.run_laws.proofs.Holders.{holders}
+use Rattle.run_laws.proofs.KeptWhy.{AreWaiting, IsWaiting, Reason, counts_called, waiting}
 
 -- tree t isn't born, or it is answered
 abbrev pub IsSettled : List Entry → ℕ → Type 0
@@ -142,7 +143,7 @@ strict_settled s past t valid run empty strict =
     settled_of s past t valid run empty (strict_below s t strict) (λ p lt.
     each_map (IsWaiting s past p) (IsRootIn t) (kept_in s past p) (λ x at. strict_root s past p t x strict at) (waiting s past p valid run lt))
 
-holds_not : (s : ScriptData) (past : List Entry) (p t : ℕ) → IsValid s → IsStepRun s past → p < s.nodes → MayHold s past p t
+holds_not : (s : ScriptData) (past : List Entry) (p t : ℕ) → IsValid s → IsStepRun s past → p < s.nodes → IsHolder s past p t
     → IsSettled past t → ⊥
 holds_not s past p t valid run lt may (inl none) = absurd (omega (arith, none, may.born))
 holds_not s past p t valid run lt may (inr some) =
@@ -163,9 +164,6 @@ pub record IsRootWaiting (s : ScriptData) (past : List Entry) (p : ℕ) (x : Kep
   pub root : x.sub.0 ≡ 0
   pub strict : is_strict_at s x.tree.0 ≡ true
   pub two : (node_in s past p).turns.update.0 ≡ (node_in s past p).turns.read.0 + 2
-
-counts_called : (w : Why) (t k : ℕ) → w ≡ Called → one_if (is_called w && ((t == t) && (k == k))) ≡ 1
-counts_called w t k is = let called : is_called w ≡ true = ap is_called is in rw called (one_here t k)
 
 root_waits : (s : ScriptData) (past : List Entry) (p : ℕ) (x : KeptLetter) (w : Why) → IsValid s → IsStepRun s past → in_flight s past ≡ []
     → p < s.nodes → x.why ≡ w → one_if (is_called_for x.tree x.sub x) ≡ 0 → IsWaiting s past p x → Reason s past p x.tree w

@@ -1,11 +1,12 @@
 //! Laws of every run of update and read trees with advancements: each letter comes in time and is apt, phases have
 //! their letters and versions, counters are balanced, a version is shown only when it is quiet, and then for good; and
-//! no run stalls.
+//! no run stalls, which is a law of scripts with strict trees too.
 #![tactic(auto)]
 
 mod phases;
 mod shown;
 mod stalls;
+mod waiting;
 
 pub use phases::{
     advances_are_kept, counts_are_small, every_letter_comes_in_time, every_letter_taken_is_apt,
@@ -18,3 +19,4 @@ pub use shown::{
 pub use stalls::{
     entries_are_counted, entries_are_few, no_run_stalls, nothing_is_kept_at_the_end,
 };
+pub use waiting::letters_stay_kept_for_a_reason;

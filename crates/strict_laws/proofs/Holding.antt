@@ -36,14 +36,8 @@ use Rattle.world_model.specs.Named.{is_strict_at, tree_kind_at}
 use Rattle.world_model.specs.Notices.{values_of}
 use Rattle.world_model.specs.Strict.{core_by_kind, core_row, locks_by, marks_of, meets, note_core, noted_vote, refused_there, voting}
 use Rattle.world_model.specs.Votes.{vote_of, wanted_by}
+use Rattle.strict_laws.specs.Keeping.{Holds}
 use Rattle.strict_laws.proofs.ByActs.{decided_locks}
-
--- tree t has a lock there that is in the way of a mark
-pub record Holds (c : Core) (t : TreeNo) : Type 0 where
-  pub lock : Lock
-  pub there : has_lock lock c.locks ≡ true
-  pub tree : lock.tree ≡ t
-  pub firm : modes_conflict Mark lock.mode ≡ true
 
 pub same_holds : (c d : Core) (t : TreeNo) → d.locks ≡ c.locks → Holds c t → Holds d t
 same_holds c d t same h = record { lock = h.lock; there = ap (has_lock h.lock) same ∙ h.there; tree = h.tree; firm = h.firm }
