@@ -91,8 +91,8 @@ none_busy s past valid run empty =
       arith,
       none_left (λ (l : Letter). nudges l.body) s past empty,
       left_none past c.answered (take c.next s.rows) (λ t row.
-      (let lt = tree_in s past t valid row in
-      over_by s past t valid run empty lt (settled s past t valid run empty lt))),
+          (let lt = tree_in s past t valid row in
+          over_by s past t valid run empty lt (settled s past t valid run empty lt))),
     )
 
 -- The coordinator.

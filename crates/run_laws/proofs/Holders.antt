@@ -1,5 +1,5 @@
 -- In every run a tree that holds an item against marks is strict, had a turn there, and its decision wasn't applied there.
-use Rattle.std.proofs.Common.{◌≡◌, ◌≢◌, ◌⊎◌, inl, inr, ℕ, ◌+◌, ◌<◌, ◌≤◌, ◌==◌, ◌&&◌, Bool, true, false, not, List, [], ◌∷◌, length, refl, sym, ap, subst, ◌∙◌, arith, Some}
+use Rattle.std.proofs.Common.{◌≡◌, ◌≢◌, ◌⊎◌, inl, inr, ℕ, ◌+◌, ◌<◌, ◌≤◌, ◌==◌, ◌&&◌, Bool, true, false, not, List, [], ◌∷◌, length, refl, sym, ap, subst, ◌∙◌, arith}
 use Rattle.std.specs.Prelude.{if◌then◌else◌}
 use Rattle.std.proofs.lemmas.Bool.{cases_eq}
 use Rattle.std.proofs.lemmas.Bool.Decides.{nat_tests}
@@ -7,7 +7,7 @@ use Rattle.tv_base.specs.declared.numbers.SubNo.{SubNo}
 use Rattle.tv_base.specs.declared.numbers.TreeNo.{TreeNo}
 use Rattle.letter_types.specs.declared.acts.Act.{Act}
 use Rattle.letter_types.specs.declared.bodies.Body.{Body}
-use Rattle.letter_types.specs.declared.bodies.Body.TheVariants.{Go, Root, Sub as SubLetter, Decide, Release}
+use Rattle.letter_types.specs.declared.bodies.Body.TheVariants.{Go, Root, Sub as SubLetter, Decide}
 use Rattle.letter_types.specs.declared.entries.Entry.{Entry}
 use Rattle.letter_types.specs.declared.entries.Letter.{Letter}
 use Rattle.letter_types.specs.Steps.{Out}
@@ -19,7 +19,7 @@ use Rattle.world_model.specs.Counts.{one_if, tally}
 use Rattle.world_model.specs.Keeping.{AsksFor, KeepingNode}
 use Rattle.world_model.specs.Named.{is_strict_at}
 use Rattle.world_model.specs.Runs.{IsStepRun, keeping_in}
-use Rattle.world_model.specs.Strict.{CoreKeeping, core_keeping, core_row}
+use Rattle.world_model.specs.Strict.{CoreKeeping, core_row}
 use Rattle.world_model.proofs.Cases.{Case, Coordinates, Does, Keeps, NodeDoes, NodeKeeps, Submits, case}
 use Rattle.world_model.proofs.KeptThere.{IsCoreKeeping, OfKeeping, core_keeps}
 use Rattle.world_model.proofs.Outstanding.{keeping_elsewhere}
@@ -30,10 +30,10 @@ use Rattle.strict_laws.proofs.Holding.{Came, HeldFrom, LetsGo, Stood, row_comes,
 use Rattle.strict_laws.proofs.MeantRows.{root_below}
 use Rattle.phase_laws.proofs.Brought.{brought_meant}
 use Rattle.phase_laws.proofs.Progress.{brings_to}
-use Rattle.tree_laws.specs.Applied.{applied_at, applies_as, decided_as, tells_decision}
+use Rattle.tree_laws.specs.Applied.{applied_at, applies_as, tells_decision}
 use Rattle.tree_laws.specs.Dids.{asks, letters_asking}
 use Rattle.tree_laws.specs.Stages.{StageAt, Answered, Gathers, Holds as HoldsAnswer, Unborn}
-use Rattle.tree_laws.specs.Turns.{has_turn, turns}
+use Rattle.tree_laws.specs.Turns.{turns}
 use Rattle.tree_laws.proofs.AptApplied.{applied_tells, applied_where_decided, applies_of, ruled_applies}
 use Rattle.tree_laws.proofs.AptDecided.{Once, decided_any, once_in_run}
 use Rattle.tree_laws.proofs.AptMakes.{node_visited}
@@ -176,6 +176,7 @@ does_holders s past e p r g old = λ t h.
     (ap (λ (x : Core). x.locks) (sym g.does.core)) h)) where
       applies : (t : ℕ) → tells_decision t true r.body + tells_decision t false r.body ≡ 0 → applies_any t e.acts ≡ 0
       applies t none = omega (arith, none, does_apply s past e p r t true g.does, does_apply s past e p r t false g.does)
+
       by : (t : TreeNo) → HeldFrom s (keeping_in s past p).core r.body t → IsHolder s (e ∷ past) p t.0
       by t (Stood h keeps) = goes_on s past e p t.0 (still_unapplied past e t.0 p (applies t.0 (tells_none t r.body keeps))) (old t h)
       by t (Came k strict asks) =

@@ -1,6 +1,6 @@
 -- In every run each letter that a node keeps has its reason still: the root of a strict tree waits for a Show, and a
 -- subtransaction of an update tree for a holder that its node has.
-use Rattle.std.proofs.Common.{◌≡◌, ◌≢◌, ◌⊎◌, inl, inr, ℕ, ◌+◌, ◌<◌, ◌≤◌, ◌==◌, ◌&&◌, Bool, true, false, List, [], ◌∷◌, ◌++◌, refl, sym, ap, subst, ◌∙◌, arith, Option, Some, None}
+use Rattle.std.proofs.Common.{◌≡◌, ◌≢◌, ◌⊎◌, inl, inr, ℕ, ◌+◌, ◌<◌, ◌≤◌, ◌==◌, ◌&&◌, Bool, true, false, List, [], ◌∷◌, refl, sym, ap, subst, ◌∙◌, arith, Option, Some, None}
 use Rattle.std.specs.Prelude.{if◌then◌else◌, nat_lt}
 use Rattle.std.proofs.lemmas.Bool.{cases_eq}
 use Rattle.std.proofs.lemmas.Bool.Decides.{nat_tests}
@@ -21,10 +21,9 @@ use Rattle.script_parts.specs.declared.parts.TreeKind.{TreeKind}
 use Rattle.script_parts.specs.declared.parts.TreeKind.TheVariants.{Update, Read, Strict}
 use Rattle.tx_trees.specs.ScriptData.{ScriptData, ops_of}
 use Rattle.tx_trees.specs.Valid.{IsValid}
-use Rattle.world_model.specs.AllApt.{AllApt}
 use Rattle.world_model.specs.Core.{Core}
 use Rattle.world_model.specs.Calls.{calls}
-use Rattle.world_model.specs.Counts.{Each, one_if, tally}
+use Rattle.world_model.specs.Counts.{Each, one_if}
 use Rattle.world_model.specs.Done.{raised_if}
 use Rattle.world_model.specs.declared.phase.Phase.{Phase}
 use Rattle.world_model.specs.declared.phase.Phase.TheVariants.{Idle, Turning, Counting, Paused, Showing, Sweeping}
@@ -32,8 +31,8 @@ use Rattle.world_model.specs.Keeping.{KeepingNode}
 use Rattle.world_model.specs.Kept.{kept_in}
 use Rattle.world_model.specs.Named.{is_strict_at, tree_kind_at}
 use Rattle.world_model.specs.Node.{Node}
-use Rattle.world_model.specs.Runs.{IsStepRun, coordinator_in, in_flight, keeping_in, node_in}
-use Rattle.world_model.specs.Strict.{CoreKeeping, core_keeping, core_row, is_born_now}
+use Rattle.world_model.specs.Runs.{IsStepRun, coordinator_in, keeping_in, node_in}
+use Rattle.world_model.specs.Strict.{CoreKeeping, core_keeping, core_row}
 use Rattle.world_model.proofs.Cases.{Case, Coordinates as ByCoordinator, Does, Keeps, NodeDoes, NodeKeeps, Submits, case}
 use Rattle.world_model.proofs.Every.{each_append, each_both, each_map}
 use Rattle.world_model.proofs.KeptThere.{IsCoreKeeping, OfKeeping, core_keeps}
@@ -54,7 +53,7 @@ use Rattle.phase_laws.proofs.Working.{RaisesBy}
 use Rattle.tree_laws.proofs.Counts.{one_here}
 use Rattle.run_laws.specs.Waiting.{IsKeptUntil, LettersStayKeptForAReason}
 use Rattle.run_laws.proofs.EveryApt.{all_apt, lawful}
-use Rattle.run_laws.proofs.Holders.{HoldersAt, holders}
+use Rattle.run_laws.proofs.Holders.{holders}
 
 -- why node p keeps a letter of tree t
 abbrev pub Reason : ScriptData → List Entry → ℕ → TreeNo → Why → Type 0
@@ -130,6 +129,7 @@ works_rises s old new body r = record { read = rw r.turns (read_by r.raises); up
   read_by : (b : Bool) → (raised_if b r.version old.turns).read.0 ≡ old.turns.read.0
   read_by true = refl
   read_by false = refl
+
   update_by : (b : Bool) → (b ≡ true → old.turns.update.0 < r.version) → old.turns.update.0 ≤ (raised_if b r.version old.turns).update.0
   update_by true higher = omega (arith, higher refl)
   update_by false higher = omega arith
@@ -207,9 +207,11 @@ does_reason s past e p r t ForShow valid run d none reason =
 does_reason s past e p r t (ForHolder h) valid run d none reason =
     let c : Core = (keeping_in s past p).core in
     let strict = (holders s past p valid (all_apt s past valid run.1) run.1 d.brings.below h reason.1).strict in
-    let meant = brought_meant s past e p r valid (brings_to s past e p r d.brings) run in
-    (reason.0, same_holds (core_row s p c r.from.0 r.body).state (keeping_in s (e ∷ past) p).core h (ap (λ (x : Core). x.locks) d.core)
-    (row_stays s p r.from.0 r.body c h reason.1 (holder_stays s p r.from.0 h r.body meant strict none)))
+    let meant = brought_meant s past e p r valid (brings_to s past e p r d.brings) run in (
+      reason.0,
+      same_holds (core_row s p c r.from.0 r.body).state (keeping_in s (e ∷ past) p).core h (ap (λ (x : Core). x.locks) d.core)
+          (row_stays s p r.from.0 r.body c h reason.1 (holder_stays s p r.from.0 h r.body meant strict none)),
+    )
 does_reason s past e p r t Called valid run d none reason = tt
 
 does_waiting : (s : ScriptData) (past : List Entry) (e : Entry) (p : ℕ) (r : Letter) → IsValid s → IsStepRun s (e ∷ past) → Does s past e p r
@@ -272,11 +274,13 @@ keeps_waiting s past e p r k valid run d all =
     (λ x at. record { root = at.root; why = keeps_reason s past e p r k x.tree x.why valid run d at.why })
     (each_meanwhile (IsWaiting s past p) (kept_in s past p) e.took.body all) in
     subst (AreWaiting s (e ∷ past) p) (sym d.kept)
-    (each_append (IsWaiting s (e ∷ past) p) (kept_without (kept_in s past p) e.took.body) _ stays
-    (record {
-      root = new_root s c k.tree k.sub k.why why;
-      why = keeps_reason s past e p r k k.tree k.why valid run d (new_reason s past p k.tree k.sub k.why valid run.1 d.brings.below why);
-    }, tt))
+    (each_append (IsWaiting s (e ∷ past) p) (kept_without (kept_in s past p) e.took.body) _ stays (
+      record {
+        root = new_root s c k.tree k.sub k.why why;
+        why = keeps_reason s past e p r k k.tree k.why valid run d (new_reason s past p k.tree k.sub k.why valid run.1 d.brings.below why);
+      },
+      tt,
+    ))
 
 -- An entry of another actor.
 other_reason : (s : ScriptData) (past : List Entry) (e : Entry) (p : ℕ) (t : TreeNo) (w : Why) → e.actor.0 ≢ p → Reason s past p t w
@@ -323,9 +327,10 @@ IsCounted all x = x.why ≡ Called → 1 ≤ calls x.tree x.sub all
 
 each_counted : (all xs : List KeptLetter) → ((t : TreeNo) (k : SubNo) → calls t k xs ≤ calls t k all) → Each (IsCounted all) xs
 each_counted all [] le = tt
-each_counted all (x ∷ xs) le =
-    ((λ is. omega (arith, le x.tree x.sub, counts_called x.why x.tree.0 x.sub.0 is)),
-    each_counted all xs (λ t k. omega (arith, le t k)))
+each_counted all (x ∷ xs) le = (
+  (λ is. omega (arith, le x.tree x.sub, counts_called x.why x.tree.0 x.sub.0 is)),
+  each_counted all xs (λ t k. omega (arith, le t k)),
+)
 
 kept_until : (s : ScriptData) (past : List Entry) (p : ℕ) (x : KeptLetter) (w : Why) → x.why ≡ w → IsValid s → IsStepRun s past → p < s.nodes
     → IsWaiting s past p x → Reason s past p x.tree w → IsCounted (kept_in s past p) x → IsKeptUntil s past p x w

@@ -1,10 +1,10 @@
 -- Where no letter is in flight each tree is unborn or answered, and only roots of strict trees are kept, which wait for a Show.
-use Rattle.std.proofs.Common.{◌≡◌, ◌⊎◌, inl, inr, ℕ, zero, suc, ◌+◌, ◌<◌, ◌≤◌, ◌==◌, ◌&&◌, Bool, true, false, List, [], ◌∷◌, length, map, refl, sym, ap, subst, ◌∙◌, arith, Some, None}
+use Rattle.std.proofs.Common.{◌≡◌, ◌⊎◌, inl, inr, ℕ, zero, suc, ◌+◌, ◌<◌, ◌≤◌, ◌==◌, ◌&&◌, Bool, true, false, List, [], ◌∷◌, length, map, refl, sym, ap, ◌∙◌, arith}
 use Rattle.std.specs.Prelude.{slice_get}
 use Rattle.std.proofs.lemmas.Bool.Decides.{nat_tests}
 use Rattle.tv_base.specs.declared.numbers.SubNo.{SubNo}
 use Rattle.tv_base.specs.declared.numbers.TreeNo.{TreeNo}
-use Rattle.letter_types.specs.Kept.{is_called, is_called_for}
+use Rattle.letter_types.specs.Kept.{is_called_for}
 use Rattle.letter_types.specs.declared.bodies.Body.{Body}
 use Rattle.letter_types.specs.declared.bodies.Body.TheVariants.{Root, Sub as SubLetter}
 use Rattle.letter_types.specs.declared.entries.Entry.{Entry}
@@ -27,7 +27,7 @@ use Rattle.world_model.proofs.KeptThere.{kept_in_past}
 use Rattle.world_model.proofs.Scripts.{SubAt, sub_below, sub_here, sub_there, tree_below}
 use Rattle.strict_laws.specs.Keeping.{Holds}
 use Rattle.strict_laws.specs.Waking.{is_wake_at}
-use Rattle.strict_laws.proofs.MeantRows.{root_below, strict_below}
+use Rattle.strict_laws.proofs.MeantRows.{strict_below}
 use Rattle.strict_laws.proofs.Waking.{wakes_find_letters}
 use Rattle.tree_laws.specs.Dids.{answers, asks, letters_asking, tells_done}
 use Rattle.tree_laws.specs.Stages.{StageAt, Answered, Gathers, Holds as HoldsAnswer, Unborn, decides, is_noted}
@@ -35,7 +35,7 @@ use Rattle.tree_laws.specs.Turns.{turns}
 use Rattle.tree_laws.proofs.AptDecided.{applied_when_answered}
 use Rattle.tree_laws.proofs.AptStagesRun.{stages_of_trees}
 use Rattle.tree_laws.proofs.AptTurns.{parent_before, sub_has_turns}
-use Rattle.tree_laws.proofs.Counts.{one_here, zero_or}
+use Rattle.tree_laws.proofs.Counts.{zero_or}
 use Rattle.tree_laws.proofs.Finishes.{none_left, place_missing}
 use Rattle.run_laws.specs.Waiting.{IsHolder}
 use Rattle.run_laws.proofs.EveryApt.{all_apt}
@@ -175,9 +175,10 @@ root_waits s past p x Called valid run empty lt is none at reason = absurd (omeg
 roots_wait : (s : ScriptData) (past : List Entry) (p : ℕ) (xs : List KeptLetter) → IsValid s → IsStepRun s past → in_flight s past ≡ []
     → p < s.nodes → ((t : TreeNo) (k : SubNo) → calls t k xs ≡ 0) → AreWaiting s past p xs → Each (IsRootWaiting s past p) xs
 roots_wait s past p [] valid run empty lt none all = tt
-roots_wait s past p (x ∷ xs) valid run empty lt none all =
-    (root_waits s past p x x.why valid run empty lt refl (omega (arith, none x.tree x.sub)) all.0 all.0.why,
-    roots_wait s past p xs valid run empty lt (λ t k. omega (arith, none t k)) all.1)
+roots_wait s past p (x ∷ xs) valid run empty lt none all = (
+  root_waits s past p x x.why valid run empty lt refl (omega (arith, none x.tree x.sub)) all.0 all.0.why,
+  roots_wait s past p xs valid run empty lt (λ t k. omega (arith, none t k)) all.1,
+)
 
 -- only roots of strict trees that wait for a Show
 pub only_roots_wait : (s : ScriptData) (past : List Entry) (p : ℕ) → IsValid s → IsStepRun s past → in_flight s past ≡ [] → p < s.nodes

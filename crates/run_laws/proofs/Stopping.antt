@@ -8,14 +8,12 @@ use Rattle.letter_types.specs.declared.acts.Act.{Act}
 use Rattle.letter_types.specs.declared.bodies.Body.{Body}
 use Rattle.letter_types.specs.declared.bodies.Body.TheVariants.{Go, Reply}
 use Rattle.letter_types.specs.declared.entries.Entry.{Entry}
-use Rattle.letter_types.specs.declared.entries.Letter.{Letter}
 use Rattle.letter_types.specs.declared.entries.Outgoing.{Outgoing}
 use Rattle.tx_trees.specs.ScriptData.{ScriptData, client_of}
 use Rattle.tx_trees.specs.Valid.{IsValid}
 use Rattle.world_model.specs.Client.{Client, have_ended, nudge, submit, with_answer, with_end}
 use Rattle.world_model.specs.Counts.{one_if, tally}
 use Rattle.world_model.specs.Runs.{IsStepRun, MayFollow, client_in}
-use Rattle.world_model.proofs.Bags.{one_if_same}
 use Rattle.world_model.proofs.EachOutstanding.{each_took}
 use Rattle.world_model.proofs.Flows.{client_kept, flow}
 use Rattle.world_model.proofs.Nexts.{MadeByClient}

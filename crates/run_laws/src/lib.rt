@@ -16,7 +16,5 @@ pub use phases::{
 pub use shown::{
     nothing_comes_to_what_is_shown, orders_are_given_in_quiet, what_is_shown_is_whole,
 };
-pub use stalls::{
-    entries_are_counted, entries_are_few, no_run_stalls, nothing_is_kept_at_the_end,
-};
+pub use stalls::{entries_are_counted, entries_are_few, no_run_stalls, nothing_is_kept_at_the_end};
 pub use waiting::letters_stay_kept_for_a_reason;
