@@ -283,7 +283,8 @@ trees_rest s past valid run none =
     let asked = asked_none k (λ (l : Letter). asks t k l.body) ls (k == 0) refl rests.asked in
     let told = each_zero (λ (l : Letter). tells_done t k l.body) ls (all_in_flight (tells_done t k) s past (tells_no_asking t k) ∙ rests.told) in
     let decided = each_zero (λ (l : Letter). decides t l.body) ls (all_in_flight (decides t) s past (decides_no_asking t) ∙ rests.decided) in
-    each_map (λ (l : Letter). (0 < k → asks t k l.body ≡ 0) × ((tells_done t k l.body ≡ 0) × (decides t l.body ≡ 0))) (λ (l : Letter). IsQuietFor t k l.body) ls
+    each_map (λ (l : Letter). (0 < k → asks t k l.body ≡ 0) × ((tells_done t k l.body ≡ 0) × (decides t l.body ≡ 0)))
+    (λ (l : Letter). IsQuietFor t k l.body) ls
     (λ l all. record { asked = all.0; told = all.1.0; decided = all.1.1 })
     (each_both (λ (l : Letter). 0 < k → asks t k l.body ≡ 0) (λ (l : Letter). (tells_done t k l.body ≡ 0) × (decides t l.body ≡ 0)) ls asked
     (each_both (λ (l : Letter). tells_done t k l.body ≡ 0) (λ (l : Letter). decides t l.body ≡ 0) ls told decided))) in

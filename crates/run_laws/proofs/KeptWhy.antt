@@ -83,7 +83,8 @@ each_meanwhile : (P : KeptLetter → Type 0) (xs : List KeptLetter) (b : Body) �
 each_meanwhile P xs (Wake t k) all = each_without P t k xs all
 each_meanwhile P xs _ all = all
 
-woken_by : (Q : KeptLetter → Type 0) (x : KeptLetter) (test b : Bool) → test ≡ b → (test ≡ true → Q (record x { why = Called })) → (test ≡ false → Q x)
+woken_by : (Q : KeptLetter → Type 0) (x : KeptLetter) (test b : Bool) → test ≡ b
+    → (test ≡ true → Q (record x { why = Called })) → (test ≡ false → Q x)
     → Q (if test then record x { why = Called } else x)
 woken_by Q x test true is hit miss = rw is (hit is)
 woken_by Q x test false is hit miss = rw is (miss is)
@@ -176,7 +177,8 @@ two_on : (s : ScriptData) (past : List Entry) (e : Entry) (p : ℕ) → IsValid 
 two_on s past e p valid run lt up two = omega (arith, up.read, up.update, two, (near s (e ∷ past) p valid run lt).1)
 
 -- a Show brings itself
-show_brought : (kept : List KeptLetter) (l r : Letter) (v : Version) (b : Body) → l.body ≡ b → b ≡ Show v → brought kept l b ≡ Some r → r.body ≡ Show v
+show_brought : (kept : List KeptLetter) (l r : Letter) (v : Version) (b : Body) → l.body ≡ b → b ≡ Show v → brought kept l b ≡ Some r
+    → r.body ≡ Show v
 show_brought kept l r v (Wake t k) is bd at = absurd (cc bd)
 show_brought kept l r v _ is bd at =
     let same : l ≡ r = grind arith in ap (λ (x : Letter). x.body) (sym same) ∙ is ∙ bd

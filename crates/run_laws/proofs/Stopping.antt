@@ -107,7 +107,8 @@ stopping s (e ∷ past) valid run =
 abbrev IsKnown : ScriptData → List Entry → ℕ → Type 0
 IsKnown s past t = 1 ≤ answers past t → 1 ≤ replies s past t + one_if (get_or (client_in s past).answered t false)
 
-sent_or_before : (sent before flying now heard : ℕ) → now ≡ flying + sent → (1 ≤ before → 1 ≤ flying + heard) → 1 ≤ sent + before → 1 ≤ now + heard
+sent_or_before : (sent before flying now heard : ℕ) → now ≡ flying + sent → (1 ≤ before → 1 ≤ flying + heard) → 1 ≤ sent + before
+    → 1 ≤ now + heard
 sent_or_before zero before flying now heard is old some = omega (arith, is, old (omega (arith, some)))
 sent_or_before (suc sent) before flying now heard is old some = omega (arith, is)
 
