@@ -11,3 +11,4 @@ pub mod MeantRows
 pub mod Meant
 pub mod NoWakes
 pub mod Waking
+pub mod Holding
