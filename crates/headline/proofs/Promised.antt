@@ -29,7 +29,7 @@ headline_past s past sound run finished =
     let timely = in_time s past sound run in
     record {
       run = world_run s past run;
-      apt = taken_run s past sound run;
+      apt = taken_run s past sound.valid run;
       finished = finished;
       whole = λ t lt. whole s past t sound.valid sound.runnable run timely finished lt;
       settled = settled s past sound run finished;
