@@ -2,7 +2,7 @@
 ghost use Rattle.std.specs.Prelude.{◌≡◌};
 ghost use Rattle.node_keeping.specs.Changes.{keeping_out_of};
 
-use letter_types::{Body, KeptLetter, StepOut, Why};
+use letter_types::{Body, Boxed, KeptLetter, StepOut, Why};
 use strict_step::CorePrepared;
 use tv_base::{SubNo, TreeNo, Version};
 
@@ -39,7 +39,7 @@ pub enum KeepingPrepared {
     },
     /// The core does its step, which has what goes out.
     Does {
-        prepared: CorePrepared,
+        prepared: Boxed<CorePrepared>,
         change: KeptChange,
     },
 }
@@ -52,7 +52,7 @@ impl KeepingPrepared {
         match self {
             KeepingPrepared::Still(out) => out,
             KeepingPrepared::Keeps { out, .. } => out,
-            KeepingPrepared::Does { prepared, .. } => &prepared.prepared.out,
+            KeepingPrepared::Does { prepared, .. } => &prepared.get().prepared.out,
         }
     }
 }

@@ -12,7 +12,7 @@ ghost use Rattle.node_keeping.specs.inside.Bringing.{IsBroughtBy, done_out, keep
 use crate::change::{Keep, KeepingPrepared, KeptChange};
 use crate::state::KeepingParts;
 use core_step::{CoreKept, CorePlan, plan_core};
-use letter_types::{Body, KeptLetter, Letter, Letters, StepOut, Why};
+use letter_types::{Body, Boxed, KeptLetter, Letter, Letters, StepOut, Why};
 use std::alloc::Global;
 use strict_step::CorePrepared;
 use tree_step::Prepared;
@@ -101,14 +101,18 @@ fn push_all(sent: &mut Letters, more: Letters) -> Result<(), NoMemory>
 }
 
 /// The same step, which sends these letters behind its own.
-fn send_behind(prepared: CorePrepared, more: Letters) -> Result<CorePrepared, NoMemory>
+fn send_behind(
+    alloc: Global,
+    prepared: Boxed<CorePrepared>,
+    more: Letters,
+) -> Result<Boxed<CorePrepared>, NoMemory>
     ensures { IfOk result (λ new. new ≡ sent_behind more prepared) }
 {
     let CorePrepared {
         prepared: Prepared { change, out },
         votes,
         holds,
-    } = prepared;
+    } = prepared.into_inner();
     let StepOut { sent, acts } = out;
     let mut sent = sent;
     push_all(&mut sent, more)?;
@@ -116,11 +120,15 @@ fn send_behind(prepared: CorePrepared, more: Letters) -> Result<CorePrepared, No
         change,
         out: StepOut { sent, acts },
     };
-    Ok(CorePrepared {
-        prepared,
-        votes,
-        holds,
-    })
+    let new = Boxed::new(
+        alloc,
+        CorePrepared {
+            prepared,
+            votes,
+            holds,
+        },
+    )?;
+    Ok(new)
 }
 
 /// Prepares that a letter is done, and that what it wakes is called: behind its other letters the node sends a Wake for
@@ -129,7 +137,7 @@ fn prepare_waking(
     alloc: Global,
     node: &KeepingParts,
     body: &Body,
-    prepared: CorePrepared,
+    prepared: Boxed<CorePrepared>,
 ) -> Result<KeepingPrepared, NoMemory>
     requires { MayDoCore prepared node.now.core }
     ensures { IfOk result (IsKeepingStepOf (waking_out body.now (keeping_of node.now)
@@ -149,7 +157,7 @@ fn prepare_waking(
         });
     }
     let body = body.copy(alloc)?;
-    let prepared = send_behind(prepared, wakes)?;
+    let prepared = send_behind(alloc, prepared, wakes)?;
     Ok(KeepingPrepared::Does {
         prepared,
         change: KeptChange::Call(body),
@@ -162,7 +170,7 @@ fn prepare_does(
     node: &KeepingParts,
     letter: &Letter,
     brought: &Letter,
-    prepared: CorePrepared,
+    prepared: Boxed<CorePrepared>,
 ) -> Result<KeepingPrepared, NoMemory>
     // What the caller knows.
     requires may { MayDoCore prepared node.now.core }
