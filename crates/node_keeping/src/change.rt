@@ -23,7 +23,7 @@ pub enum KeptChange {
     /// The called letter of this subtransaction goes.
     LetGo { tree: TreeNo, sub: SubNo },
     /// What a letter of this body wakes is called from now on.
-    Call(Body),
+    Call(Boxed<Body>),
 }
 
 /// A step that is prepared: what becomes of the core and of the kept letters, and what goes out.
@@ -33,7 +33,7 @@ pub enum KeepingPrepared {
     Still(StepOut),
     /// A letter is kept, and the update version is raised to this one, if there is one.
     Keeps {
-        keep: Keep,
+        keep: Boxed<Keep>,
         raises: Option<Version>,
         out: StepOut,
     },

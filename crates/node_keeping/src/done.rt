@@ -59,7 +59,7 @@ fn change_kept(kept: &mut KeptLetters, change: KeptChange)
     match change {
         KeptChange::Stay => {}
         KeptChange::LetGo { tree, sub } => kept.let_called_go(tree, sub),
-        KeptChange::Call(body) => kept.call(&body),
+        KeptChange::Call(body) => kept.call(body.get()),
     }
 }
 
@@ -84,7 +84,9 @@ pub fn keeping_done(node: &mut KeepingParts, prepared: KeepingPrepared) -> Resul
 {
     match prepared {
         KeepingPrepared::Still(out) => Ok(out),
-        KeepingPrepared::Keeps { keep, raises, out } => keep_done(node, keep, raises, out),
+        KeepingPrepared::Keeps { keep, raises, out } => {
+            keep_done(node, keep.into_inner(), raises, out)
+        }
         KeepingPrepared::Does { prepared, change } => row_done(node, prepared, change),
     }
 }

@@ -39,21 +39,19 @@ fn keep_by(
     tree: TreeNo,
     sub: SubNo,
     why: Why,
-) -> Result<Keep, NoMemory>
+) -> Result<Boxed<Keep>, NoMemory>
     ensures { IfOk result (λ keep. keep ≡ keep_by letter.now tree sub why letter.now.body) }
 {
-    match &letter.body {
-        Body::Wake { .. } => Ok(Keep::Again { tree, sub, why }),
-        _ => {
-            let letter = copy_letter(alloc, letter)?;
-            Ok(Keep::New(KeptLetter {
-                letter,
-                tree,
-                sub,
-                why,
-            }))
-        }
-    }
+    let keep = match &letter.body {
+        Body::Wake { .. } => Keep::Again { tree, sub, why },
+        _ => Keep::New(KeptLetter {
+            letter: copy_letter(alloc, letter)?,
+            tree,
+            sub,
+            why,
+        }),
+    };
+    Ok(Boxed::new(alloc, keep)?)
 }
 
 /// Prepares that what a letter brought is kept.
@@ -131,6 +129,14 @@ fn send_behind(
     Ok(new)
 }
 
+/// A copy of a body, behind a pointer.
+fn copy_body(alloc: Global, body: &Body) -> Result<Boxed<Body>, NoMemory>
+    ensures { IfOk result (λ copy. copy ≡ body.now) }
+{
+    let copy = body.copy(alloc)?;
+    Ok(Boxed::new(alloc, copy)?)
+}
+
 /// Prepares that a letter is done, and that what it wakes is called: behind its other letters the node sends a Wake for
 /// each.
 fn prepare_waking(
@@ -156,7 +162,7 @@ fn prepare_waking(
             change: KeptChange::Stay,
         });
     }
-    let body = body.copy(alloc)?;
+    let body = copy_body(alloc, body)?;
     let prepared = send_behind(alloc, prepared, wakes)?;
     Ok(KeepingPrepared::Does {
         prepared,
