@@ -1,5 +1,6 @@
 pub mod EveryApt
 pub mod EveryDid
+pub mod AtOnce
 pub mod EveryDecided
 pub mod EveryWhole
 pub mod EveryBirth

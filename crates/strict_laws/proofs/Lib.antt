@@ -12,3 +12,5 @@ pub mod Meant
 pub mod NoWakes
 pub mod Waking
 pub mod Holding
+pub mod Parkings
+pub mod Served
