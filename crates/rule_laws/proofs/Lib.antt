@@ -1,0 +1,2 @@
+pub mod InEntries
+pub mod Late
