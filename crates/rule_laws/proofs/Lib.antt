@@ -1,2 +1,4 @@
 pub mod InEntries
 pub mod Late
+pub mod Fronts
+pub mod Lasts
