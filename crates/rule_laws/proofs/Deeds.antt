@@ -54,7 +54,7 @@ use Rattle.rule_laws.proofs.Turns.{IsThere, born_before, is_there, not_done, own
 use Rattle.value_laws.proofs.RowActs.{lasting}
 
 -- Where no tree is strict, nothing votes.
-turn_sums : (t k : ℕ) (xs : List Place)
+pub turn_sums : (t k : ℕ) (xs : List Place)
     → tally (of_act (has_turn t k)) xs ≡ tally (of_act (is_did_act t k)) xs + tally (of_act (is_vote_of t k)) xs
 turn_sums t k [] = refl
 turn_sums t k (x ∷ xs) = omega (arith, turn_is t k x.act, turn_sums t k xs)
@@ -69,7 +69,7 @@ vote_here (acts.Voted t k vote) is = (t.0, k.0, own_turn t.0 k.0)
 vote_here acts.Finished is = absurd (cc is)
 vote_here _ is = absurd (cc is)
 
-at_least : (f : Place → ℕ) (xs : List Place) (i : ℕ) (y : Place) → slice_get xs i ≡ Some y → f y ≤ tally f xs
+pub at_least : {X : Type 0} (f : X → ℕ) (xs : List X) (i : ℕ) (y : X) → slice_get xs i ≡ Some y → f y ≤ tally f xs
 at_least f [] i y is = absurd (cc is)
 at_least f (x ∷ xs) zero y is = let same : x ≡ y = cc is in omega (arith, ap f same)
 at_least f (x ∷ xs) (suc i) y is = omega (arith, at_least f xs i y is)

@@ -5,3 +5,5 @@ pub mod Lasts
 pub mod QuietLocks
 pub mod Turns
 pub mod Deeds
+pub mod LastActs
+pub mod Decisions
