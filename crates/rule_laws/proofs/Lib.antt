@@ -7,3 +7,5 @@ pub mod Turns
 pub mod Deeds
 pub mod LastActs
 pub mod Decisions
+pub mod ReleaseRows
+pub mod Releases
