@@ -15,7 +15,7 @@ pub record InSecond {X : Type 0} (a b : List X) (i : ℕ) (x : X) : Type 0 where
   pub is : slice_get b place ≡ Some x
   pub front : take i (a ++ b) ≡ a ++ take place b
 
-in_second : {X : Type 0} (a b : List X) (i : ℕ) (x : X) → slice_get (a ++ b) i ≡ Some x → length a ≤ i → InSecond a b i x
+pub in_second : {X : Type 0} (a b : List X) (i : ℕ) (x : X) → slice_get (a ++ b) i ≡ Some x → length a ≤ i → InSecond a b i x
 in_second [] b i x is le = record { place = i; is = is; front = refl }
 in_second (y ∷ a) b zero x is le = absurd (omega (arith, le))
 in_second (y ∷ a) b (suc i) x is le =

@@ -9,3 +9,5 @@ pub mod LastActs
 pub mod Decisions
 pub mod ReleaseRows
 pub mod Releases
+pub mod UpTo
+pub mod Writes
