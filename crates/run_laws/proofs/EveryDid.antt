@@ -51,13 +51,13 @@ votes_of t k acts.Finished none = refl
 votes_of t k _ none = refl
 
 -- a turn is a Did or a vote
-turn_is : (t k : ℕ) (a : Act) → has_turn t k a ≡ is_did_act t k a + is_vote_of t k a
+pub turn_is : (t k : ℕ) (a : Act) → has_turn t k a ≡ is_did_act t k a + is_vote_of t k a
 turn_is t k (acts.Did u j values) = omega arith
 turn_is t k (acts.Voted u j vote) = omega arith
 turn_is t k acts.Finished = refl
 turn_is t k _ = refl
 
-turns_are : (t k : ℕ) (xs : List Act) → tally (has_turn t k) xs ≡ tally (is_did_act t k) xs + tally (is_vote_of t k) xs
+pub turns_are : (t k : ℕ) (xs : List Act) → tally (has_turn t k) xs ≡ tally (is_did_act t k) xs + tally (is_vote_of t k) xs
 turns_are t k [] = refl
 turns_are t k (a ∷ xs) = omega (arith, turn_is t k a, turns_are t k xs)
 

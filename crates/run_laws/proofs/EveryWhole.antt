@@ -258,7 +258,7 @@ applied_when_silent s past t q v valid run lt silent born strict below is =
     )
 
 -- What is counted of applications is what a history says.
-abbrev applies_here : ℕ → ℕ → Place → ℕ
+abbrev pub applies_here : ℕ → ℕ → Place → ℕ
 applies_here t q x = one_if ((x.node == q) && applies t x.act)
 
 applies_is : (t : ℕ) (a : Act) → applies_as t true a + applies_as t false a ≡ one_if (applies t a)
@@ -288,7 +288,7 @@ applied_then t q node (a ∷ does) false is =
     let more : (b : Bool) → (if node == q then tally (applies_as t b) (a ∷ does) else 0) ≡ 0 = λ b. rw is refl in
     omega (arith, rest, here, left true, left false, more true, more false)
 
-applied_in : (past : List Entry) (t q : ℕ) → tally (applies_here t q) (places_of (reverse past)) ≡ applied_at past t true q + applied_at past t false q
+pub applied_in : (past : List Entry) (t q : ℕ) → tally (applies_here t q) (places_of (reverse past)) ≡ applied_at past t true q + applied_at past t false q
 applied_in [] t q = refl
 applied_in (e ∷ past) t q =
     omega (
@@ -299,7 +299,7 @@ applied_in (e ∷ past) t q =
       applied_then t q e.actor.0 e.acts (e.actor.0 == q) refl,
     )
 
-was_applied_of : (past : List Entry) (t q : ℕ) → applied_at past t true q + applied_at past t false q ≡ 1
+pub was_applied_of : (past : List Entry) (t q : ℕ) → applied_at past t true q + applied_at past t false q ≡ 1
     → was_applied t q (places_of (reverse past)) ≡ true
 was_applied_of past t q one =
     counted_any (applies_here t q) (λ (x : Place). (x.node == q) && applies t x.act) (places_of (reverse past)) (λ x. refl)
@@ -333,7 +333,7 @@ node_at s t k x valid at =
     omega (arith, same, sub_node_below s t k valid (get_below (subs_at s t) k x at))
 
 -- the kind of a tree, by both its tests
-strict_is : (s : ScriptData) (t : ℕ) (found : Option Tree) → slice_get s.trees t ≡ found → is_strict_tree s t ≡ is_strict_at s t
+pub strict_is : (s : ScriptData) (t : ℕ) (found : Option Tree) → slice_get s.trees t ≡ found → is_strict_tree s t ≡ is_strict_at s t
 strict_is s t None is = rw (is, is_strict_tree, tree_kind_at, is_strict_at) refl
 strict_is s t (Some tree) is = rw (is, is_strict_tree, tree_kind_at, is_strict_at) refl
 

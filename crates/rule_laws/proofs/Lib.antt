@@ -1,0 +1,13 @@
+pub mod InEntries
+pub mod Late
+pub mod Fronts
+pub mod Lasts
+pub mod QuietLocks
+pub mod Turns
+pub mod Deeds
+pub mod LastActs
+pub mod Decisions
+pub mod ReleaseRows
+pub mod Releases
+pub mod UpTo
+pub mod Writes
