@@ -11,3 +11,4 @@ pub mod ReleaseRows
 pub mod Releases
 pub mod UpTo
 pub mod Writes
+pub mod YesVotes
