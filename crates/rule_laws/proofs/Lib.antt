@@ -12,3 +12,4 @@ pub mod Releases
 pub mod UpTo
 pub mod Writes
 pub mod YesVotes
+pub mod Rules
