@@ -11,3 +11,5 @@ pub mod ReleaseRows
 pub mod Releases
 pub mod UpTo
 pub mod Writes
+pub mod YesVotes
+pub mod Rules

@@ -124,15 +124,16 @@ asked_items s p from t k body c (OfSub v is) of =
     ∙ ap (λ (kind : Option TreeKind). (core_by_kind s p from t (SubLetter t k v) kind c).state.node.items) of
     ∙ ap (λ (b : Body). table_after_ops (asked_version c.node.turns.update b) (ops_of s t.0 k.0) c.node.items) (sym is)
 
-asked_born : (s : ScriptData) (zs : List Place) (t : TreeNo) (k : SubNo) (body : Body) (c : Core) → AsksIn body t k → tree_kind_at s t.0 ≡ Some Update
-    → DoneIn zs (work_version s c body) body → version_in t.0 zs ≡ Some (asked_version c.node.turns.update body)
-asked_born s zs t k body c (OfRoot is first) of dated =
+pub asked_born : (s : ScriptData) (zs : List Place) (t : TreeNo) (k : SubNo) (kind : TreeKind) (body : Body) (c : Core) → AsksIn body t k
+    → tree_kind_at s t.0 ≡ Some kind → kind_version c (Some kind) ≡ c.node.turns.update → DoneIn zs (work_version s c body) body
+    → version_in t.0 zs ≡ Some (asked_version c.node.turns.update body)
+asked_born s zs t k kind body c (OfRoot is first) of turn dated =
     let v : Version = c.node.turns.update in
     let root : DoneIn zs (work_version s c (Root t)) (Root t) = subst (λ (b : Body). DoneIn zs (work_version s c b) b) is dated in
-    version_is (version_in t.0 zs) v
-    (subst (λ (kind : Option TreeKind). is_version (version_in t.0 zs) (kind_version c kind) ≡ true) of root)
+    let same : kind_version c (tree_kind_at s t.0) ≡ v = ap (kind_version c) of ∙ turn in
+    version_is (version_in t.0 zs) v (subst (λ (w : Version). is_version (version_in t.0 zs) w ≡ true) same root)
     ∙ ap (λ (b : Body). Some (asked_version c.node.turns.update b)) (sym is)
-asked_born s zs t k body c (OfSub v is) of dated =
+asked_born s zs t k kind body c (OfSub v is) of turn dated =
     let sub : DoneIn zs (work_version s c (SubLetter t k v)) (SubLetter t k v) = subst (λ (b : Body). DoneIn zs (work_version s c b) b) is dated in
     version_is (version_in t.0 zs) v sub ∙ ap (λ (b : Body). Some (asked_version c.node.turns.update b)) (sym is)
 
@@ -171,7 +172,7 @@ update_most s past e p q m x r t k zs more i g asks of shape all on =
     ops_write m v x (ops_of s t.0 k.0) c.node.items on (λ n o is. marks_it s t.0 k.0 n o g.valid up is)
     (subst (λ (i : Table). IsUpTo m (item_in x i)) (asked_items s q r.from.0 t k r.body c asks of) (here_up s past e p q m x r g qp all)) in
     let born : version_in t.0 (before past ++ places_at e) ≡ Some v =
-    asked_born s (before past ++ places_at e) t k r.body c asks of (dated_here s past e q r g.valid g.apt.1 g.run g.does) in
+    asked_born s (before past ++ places_at e) t k Update r.body c asks of refl (dated_here s past e q r g.valid g.apt.1 g.run g.does) in
     omega (
       arith,
       le,
@@ -300,7 +301,7 @@ act_most s past e p m x j a zs more i shape all (Applies q r t v commit g is at 
 act_most s past e p m x j a zs more i shape all (Frees q r t g is at none) =
     subst (λ (b : Act). written_by s zs x.0 (e.actor.0 == p) b ≤ m) (sym at) (omega arith)
 
-brief_most : (s : ScriptData) (zs : List Place) (x m : ℕ) (here : Bool) (a : Act) → is_lasting a ≡ false → written_by s zs x here a ≤ m
+pub brief_most : (s : ScriptData) (zs : List Place) (x m : ℕ) (here : Bool) (a : Act) → is_lasting a ≡ false → written_by s zs x here a ≤ m
 brief_most s zs x m here (acts.Did t k values) quiet = absurd (cc quiet)
 brief_most s zs x m here (acts.Applied t commit) quiet = absurd (cc quiet)
 brief_most s zs x m here acts.Finished quiet = omega arith
