@@ -1,8 +1,7 @@
 -- In every run each decision is of a strict tree at its home, once, when all have voted: it commits where all voted yes. And
 -- each is applied at a node that its tree visits, after it was made, once.
-use Rattle.std.proofs.Common.{◌≡◌, ◌⊎◌, inl, inr, ℕ, zero, suc, ◌+◌, ◌<◌, ◌≤◌, ◌==◌, ◌&&◌, ◌||◌, Bool, true, false, not, IsTrue, List, [], ◌∷◌, ◌++◌, map, length, take, refl, sym, ap, ◌∙◌, subst, arith, Option, Some, None}
+use Rattle.std.proofs.Common.{◌≡◌, ℕ, suc, ◌+◌, ◌<◌, ◌≤◌, ◌==◌, ◌&&◌, Bool, true, false, not, List, [], ◌∷◌, ◌++◌, length, take, refl, sym, ap, ◌∙◌, subst, arith, Option, Some, None}
 use Rattle.std.specs.Prelude.{if◌then◌else◌, slice_get}
-use Rattle.std.specs.List.{list_any}
 use Rattle.std.proofs.lemmas.Bool.Decides.{nat_tests}
 use Rattle.tv_base.specs.declared.numbers.SubNo.{SubNo}
 use Rattle.tv_base.specs.declared.numbers.TreeNo.{TreeNo}
@@ -11,15 +10,12 @@ use Rattle.letter_types.specs.declared.acts.Act.{Act}
 use Rattle.letter_types.specs.declared.acts.Act.TheVariants as acts
 use Rattle.letter_types.specs.declared.bodies.Body.{Body}
 use Rattle.letter_types.specs.declared.bodies.Body.TheVariants.{Root, Done, Decide, Go}
-use Rattle.letter_types.specs.declared.bodies.Notice.{Notice}
-use Rattle.letter_types.specs.declared.bodies.Notice.TheVariants as notices
 use Rattle.letter_types.specs.declared.entries.Entry.{Entry}
 use Rattle.letter_types.specs.declared.entries.Letter.{Letter}
 use Rattle.letter_types.specs.declared.votes.Cause.{Cause}
 use Rattle.letter_types.specs.declared.votes.Vote.{Vote}
 use Rattle.letter_types.specs.declared.votes.Vote.TheVariants.{Yes, No}
 use Rattle.tree_home.specs.declared.homes.Answered.{Answered}
-use Rattle.tree_home.specs.declared.homes.OpenTree.{OpenTree}
 use Rattle.script_parts.specs.declared.parts.TreeKind.{TreeKind}
 use Rattle.script_parts.specs.declared.parts.TreeKind.TheVariants.{Update, Read, Strict}
 use Rattle.tx_trees.specs.ScriptData.{ScriptData, home_of, subs_at, visits}
@@ -30,17 +26,16 @@ use Rattle.world_model.specs.Named.{is_strict_at, tree_kind_at}
 use Rattle.world_model.specs.Notices.{act_of}
 use Rattle.world_model.specs.Runs.{IsStepRun, client_in, coordinator_in, keeping_in}
 use Rattle.world_model.specs.Strict.{core_row, none_refuses, notice_by}
-use Rattle.world_model.proofs.Cases.{Case, Coordinates, Does, Keeps, NodeDoes, NodeKeeps, Submits, case}
-use Rattle.world_model.proofs.Bags.{tally-append}
+use Rattle.world_model.proofs.Cases.{Case, Coordinates, NodeDoes, NodeKeeps, Submits, case}
 use Rattle.world_model.proofs.Orders.{no_acts}
-use Rattle.board_rules.specs.Histories.{Place, applies, does, is_strict_tree, places_at, was_applied}
-use Rattle.board_rules.specs.Moves.{AllVoted, IsApplying, IsDecision, decides_as, was_decided_as}
+use Rattle.board_rules.specs.Histories.{Place, applies, places_at}
+use Rattle.board_rules.specs.Moves.{AllVoted, IsApplying, IsDecision, decides_as}
 use Rattle.board_rules.specs.Stands.{votes, votes_yes, voted_yes, was_voted}
 use Rattle.board_rules.proofs.Wholes.{any_more}
 use Rattle.strict_laws.proofs.MeantRows.{strict_below}
 use Rattle.strict_laws.specs.Meant.{IsMeant}
-use Rattle.phase_laws.proofs.Brought.{brought_meant, home_below}
-use Rattle.tree_laws.specs.Applied.{applied_at, applies_as, decided_as, has_decided, noes, refuses, votes_no}
+use Rattle.phase_laws.proofs.Brought.{brought_meant}
+use Rattle.tree_laws.specs.Applied.{applies_as, decided_as, has_decided, noes, votes_no}
 use Rattle.tree_laws.specs.Dids.{is_did_act}
 use Rattle.tree_laws.specs.Stages.{AllTurned, Answered as IsDone, Gathers, Holds, StageAt, Unborn}
 use Rattle.tree_laws.specs.Turns.{has_turn, turns}
@@ -54,24 +49,17 @@ use Rattle.tree_laws.proofs.AptSteps.{enters}
 use Rattle.tree_laws.proofs.AptVersions.{before}
 use Rattle.tree_laws.proofs.AptVotes.{decided_by_votes}
 use Rattle.value_laws.proofs.RowActs.{is_lasting, lasting}
-use Rattle.run_laws.proofs.Closed.{run_before}
 use Rattle.run_laws.proofs.EveryApt.{all_apt}
-use Rattle.run_laws.proofs.EveryDid.{is_vote_of, turn_is}
+use Rattle.run_laws.proofs.EveryDid.{is_vote_of}
 use Rattle.run_laws.proofs.EveryWhole.{applied_in, applies_here, strict_is}
 use Rattle.rule_laws.proofs.Deeds.{at_least, turn_sums}
 use Rattle.rule_laws.proofs.Fronts.{act_of_place, counted_front, front, none_found, place_of, placed}
-use Rattle.rule_laws.proofs.InEntries.{InEntry, in_entry}
+use Rattle.rule_laws.proofs.InEntries.{InEntry, entry_run, in_entry}
 use Rattle.rule_laws.proofs.LastActs.{row_last, turns_before}
 use Rattle.rule_laws.proofs.Lasts.{Applies, Frees, Lasts, Reads, Updates, Votes, lasts, vote_there}
 use Rattle.rule_laws.proofs.Turns.{brings_to, is_there, own_turn, turns_in}
 
 -- Of a strict tree nothing is done at once: its subtransactions vote.
-same_trees : (u t j k : ℕ) → one_if ((u == t) && (j == k)) ≡ 1 → (u ≡ t) × (j ≡ k)
-same_trees u t j k one = by ((u == t) && (j == k)) refl one where
-  by : (test : Bool) → ((u == t) && (j == k)) ≡ test → one_if test ≡ 1 → (u ≡ t) × (j ≡ k)
-  by true so is = (grind (arith, nat_tests, so), grind (arith, nat_tests, so))
-  by false so is = absurd (omega (arith, is))
-
 plain_kind : (s : ScriptData) (t u : ℕ) (kind : TreeKind) → is_strict_at s t ≡ true → u ≡ t → tree_kind_at s u ≡ Some kind → kind ≡ Strict
 plain_kind s t u Strict strict same is = refl
 plain_kind s t u Update strict same is =
@@ -85,7 +73,8 @@ vote_no_did : (t k : ℕ) (u : TreeNo) (j : SubNo) (v : Vote) → is_did_act t k
 vote_no_did t k u j (Yes values) = refl
 vote_no_did t k u j (No cause) = refl
 
-did_kind : (s : ScriptData) (past : List Entry) (e : Entry) (j : ℕ) (t k : ℕ) (a : Act) → is_strict_at s t ≡ true → Lasts s past e j a → is_did_act t k a ≡ 0
+did_kind : (s : ScriptData) (past : List Entry) (e : Entry) (j t k : ℕ) (a : Act) → is_strict_at s t ≡ true → Lasts s past e j a
+    → is_did_act t k a ≡ 0
 did_kind s past e j t k a strict (Updates p r u i g asks of is none) = by (u.0 == t) refl where
   by : (test : Bool) → (u.0 == t) ≡ test → is_did_act t k a ≡ 0
   by false so = ap (is_did_act t k) is ∙ ap (λ (b : Bool). one_if (b && (i.0 == k))) so
@@ -103,8 +92,7 @@ did_kind s past e j t k a strict (Frees p r u g is at none) = ap (is_did_act t k
 no_did_by : (s : ScriptData) (past : List Entry) (i : ℕ) (y : Place) (t k : ℕ) → IsValid s → IsStepRun s past → is_strict_at s t ≡ true
     → InEntry past i y → (lasting_so : Bool) → is_lasting y.act ≡ lasting_so → is_did_act t k y.act ≡ 0
 no_did_by s past i y t k valid run strict l true so =
-    let all : IsStepRun s (l.later ++ l.entry ∷ l.earlier) = subst (λ (es : List Entry). IsStepRun s es) (sym l.all) run in
-    let here : IsStepRun s (l.entry ∷ l.earlier) = run_before s (l.entry ∷ l.earlier) l.later all in
+    let here : IsStepRun s (l.entry ∷ l.earlier) = entry_run s past i y run l in
     did_kind s l.earlier l.entry l.place t k y.act strict (lasts s l.earlier l.entry l.place y.act valid here (act_of_place l.entry l.place y l.is).0 so)
 no_did_by s past i y t k valid run strict l false so = quiet_did t k y.act so where
   quiet_did : (t k : ℕ) (a : Act) → is_lasting a ≡ false → is_did_act t k a ≡ 0
@@ -369,9 +357,8 @@ vote_place s past e j t k vote (Frees p r u g is at none) = absurd (cc at)
 no_place : (s : ScriptData) (past : List Entry) (i n t k : ℕ) (vote : Vote) → IsValid s → IsStepRun s past
     → InEntry past i (placed n (acts.Voted (record { 0 = t }) (record { 0 = k }) vote)) → k < length (subs_at s t)
 no_place s past i n t k vote valid run l =
-    let all : IsStepRun s (l.later ++ l.entry ∷ l.earlier) = subst (λ (es : List Entry). IsStepRun s es) (sym l.all) run in
-    let here : IsStepRun s (l.entry ∷ l.earlier) = run_before s (l.entry ∷ l.earlier) l.later all in
     let y : Place = placed n (acts.Voted (record { 0 = t }) (record { 0 = k }) vote) in
+    let here : IsStepRun s (l.entry ∷ l.earlier) = entry_run s past i y run l in
     vote_place s l.earlier l.entry l.place t k vote
     (lasts s l.earlier l.entry l.place y.act valid here (act_of_place l.entry l.place y l.is).0 refl)
 

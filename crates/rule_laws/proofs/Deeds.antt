@@ -1,12 +1,10 @@
 -- In every run each Did is of a born tree's subtransaction at its node, once, and that of an update tree meets no lock that
 -- conflicts.
-use Rattle.std.proofs.Common.{◌≡◌, ◌⊎◌, inl, inr, ℕ, zero, suc, ◌+◌, ◌<◌, ◌≤◌, ◌==◌, ◌&&◌, ◌||◌, Bool, true, false, IsTrue, List, [], ◌∷◌, ◌++◌, map, length, take, refl, sym, ap, ◌∙◌, subst, arith, Option, Some, None}
+use Rattle.std.proofs.Common.{◌≡◌, ℕ, zero, suc, ◌+◌, ◌≤◌, Bool, true, false, List, [], ◌∷◌, ◌++◌, map, take, refl, sym, ap, ◌∙◌, arith, Option, Some, None}
 use Rattle.std.specs.Prelude.{if◌then◌else◌, nat_lt, slice_get}
-use Rattle.std.specs.Option.{option_or}
 use Rattle.tv_base.specs.declared.numbers.ItemNo.{ItemNo}
 use Rattle.tv_base.specs.declared.numbers.SubNo.{SubNo}
 use Rattle.tv_base.specs.declared.numbers.TreeNo.{TreeNo}
-use Rattle.tv_base.specs.declared.numbers.Version.{Version}
 use Rattle.commute_ops.specs.declared.value.Value.{Value}
 use Rattle.letter_types.specs.declared.acts.Act.{Act}
 use Rattle.letter_types.specs.declared.acts.Act.TheVariants as acts
@@ -14,26 +12,23 @@ use Rattle.letter_types.specs.declared.bodies.Body.{Body}
 use Rattle.letter_types.specs.declared.bodies.Body.TheVariants.{Root, Sub as SubLetter}
 use Rattle.letter_types.specs.declared.entries.Entry.{Entry}
 use Rattle.letter_types.specs.declared.entries.Letter.{Letter}
-use Rattle.letter_types.specs.declared.votes.Cause.{Cause}
-use Rattle.nc_locks.specs.declared.modes.Met.{Met}
 use Rattle.nc_locks.specs.declared.modes.Mode.{Mode}
 use Rattle.nc_locks.specs.declared.modes.Mode.TheVariants.{Mark}
 use Rattle.nc_locks.specs.Locks.{Wanted, marks_on, met_in}
 use Rattle.script_parts.specs.Counts.{has_strict}
 use Rattle.script_parts.specs.declared.parts.SubOp.{SubOp}
 use Rattle.script_parts.specs.declared.parts.TreeKind.{TreeKind}
-use Rattle.script_parts.specs.declared.parts.TreeKind.TheVariants.{Update, Read, Strict}
-use Rattle.tx_trees.specs.ScriptData.{ScriptData, node_of, ops_of, updates}
+use Rattle.script_parts.specs.declared.parts.TreeKind.TheVariants.{Update}
+use Rattle.tx_trees.specs.ScriptData.{ScriptData, ops_of, updates}
 use Rattle.tx_trees.specs.Valid.{IsValid}
-use Rattle.world_model.specs.Asked.{asked_ops}
 use Rattle.world_model.specs.Core.{Core}
-use Rattle.world_model.specs.Counts.{one_if, tally}
+use Rattle.world_model.specs.Counts.{tally}
 use Rattle.world_model.specs.Named.{is_strict_at, tree_kind_at}
 use Rattle.world_model.specs.Runs.{IsStepRun, keeping_in}
 use Rattle.world_model.specs.Strict.{core_keeping, kept_by_kind, marks_of, meets}
 use Rattle.world_model.specs.Votes.{conflict_by}
 use Rattle.world_model.proofs.Plain.{no_strict}
-use Rattle.board_rules.specs.Histories.{Place, places_at}
+use Rattle.board_rules.specs.Histories.{Place}
 use Rattle.board_rules.specs.Locked.{needed_by}
 use Rattle.board_rules.specs.Stands.{conflict_of, lock_mode_of}
 use Rattle.board_rules.proofs.Rules.{IsFreeDeed}
@@ -47,7 +42,7 @@ use Rattle.tree_laws.proofs.AptVersions.{before}
 use Rattle.tree_laws.proofs.Whole.{dids_in}
 use Rattle.run_laws.proofs.EveryDid.{dids_are_turns, is_vote_of, turn_is}
 use Rattle.tree_laws.specs.Turns.{has_turn}
-use Rattle.rule_laws.proofs.Fronts.{first_places, front, placed}
+use Rattle.rule_laws.proofs.Fronts.{first_places, front}
 use Rattle.rule_laws.proofs.Lasts.{AsksIn, OfRoot, OfSub}
 use Rattle.rule_laws.proofs.QuietLocks.{conflict_stays, is_vote, marks_it, marks_meet_none}
 use Rattle.rule_laws.proofs.Turns.{IsThere, born_before, is_there, not_done, own_turn, turn_once, turns_in}

@@ -1,5 +1,5 @@
 -- The acts before an act: those before its entry, and those of its entry that come first.
-use Rattle.std.proofs.Common.{◌≡◌, ◌⊎◌, inl, inr, ℕ, zero, suc, ◌+◌, ◌<◌, ◌≤◌, ◌==◌, ◌&&◌, ◌||◌, Bool, true, false, List, [], ◌∷◌, ◌++◌, map, length, take, refl, sym, ap, ◌∙◌, subst, arith, Option, Some, None}
+use Rattle.std.proofs.Common.{◌≡◌, ℕ, zero, suc, ◌+◌, ◌≤◌, ◌==◌, ◌||◌, Bool, true, false, List, [], ◌∷◌, ◌++◌, map, length, take, refl, sym, ap, ◌∙◌, arith, Option, Some, None}
 use Rattle.std.specs.Prelude.{if◌then◌else◌, is_some, slice_get}
 use Rattle.std.specs.List.{list_any}
 use Rattle.std.specs.Option.{option_or}
@@ -13,7 +13,6 @@ use Rattle.board_rules.specs.Histories.{Place, places_at, version_in}
 use Rattle.board_rules.proofs.Places.{version_in-append}
 use Rattle.world_model.specs.Counts.{one_if, tally}
 use Rattle.world_model.proofs.Bags.{tally-append}
-use Rattle.tree_laws.proofs.Acts.{of_act}
 use Rattle.tree_laws.proofs.AptVersions.{before}
 use Rattle.tree_laws.proofs.Histories.{places_more}
 use Rattle.value_laws.proofs.RowActs.{is_lasting, lasting}
@@ -63,7 +62,8 @@ counted_front f past e j y is =
       counted_at f (places_at e) j y is,
     )
 
-pub none_found : {X : Type 0} (f : X → ℕ) (test : X → Bool) (xs : List X) → ((x : X) → one_if (test x) ≤ f x) → tally f xs ≡ 0 → list_any test xs ≡ false
+pub none_found : {X : Type 0} (f : X → ℕ) (test : X → Bool) (xs : List X) → ((x : X) → one_if (test x) ≤ f x) → tally f xs ≡ 0
+    → list_any test xs ≡ false
 none_found f test [] marks none = refl
 none_found f test (x ∷ xs) marks none =
     by (test x) (none_found f test xs marks (omega (arith, none))) (omega (arith, none, marks x)) where

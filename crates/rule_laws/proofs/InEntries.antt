@@ -1,13 +1,16 @@
 -- An act at its position in a history lies in an entry, behind the acts before that entry and those of it that come first.
-use Rattle.std.proofs.Common.{◌≡◌, ◌⊎◌, inl, inr, ℕ, zero, suc, ◌+◌, ◌<◌, ◌≤◌, List, [], ◌∷◌, ◌++◌, length, take, refl, sym, ap, ◌∙◌, subst, arith, Some}
+use Rattle.std.proofs.Common.{◌≡◌, ◌⊎◌, inl, inr, ℕ, zero, suc, ◌<◌, ◌≤◌, List, [], ◌∷◌, ◌++◌, length, take, refl, sym, ap, ◌∙◌, subst, arith, Some}
 use Rattle.std.specs.Prelude.{slice_get}
 use Rattle.std.proofs.lemmas.Bool.{cases_lt}
 use Rattle.std.proofs.lemmas.List.{take-append-le}
 use Rattle.tv_base.proofs.ByPlace.{slice_get-old}
 use Rattle.letter_types.specs.declared.entries.Entry.{Entry}
+use Rattle.tx_trees.specs.ScriptData.{ScriptData}
+use Rattle.world_model.specs.Runs.{IsStepRun}
 use Rattle.board_rules.specs.Histories.{Place, places_at}
 use Rattle.tree_laws.proofs.AptVersions.{before}
 use Rattle.tree_laws.proofs.Histories.{places_more}
+use Rattle.run_laws.proofs.Closed.{run_before}
 
 -- the second of two lists, from a place in both
 pub record InSecond {X : Type 0} (a b : List X) (i : ℕ) (x : X) : Type 0 where
@@ -61,3 +64,9 @@ in_entry [] i y is = absurd (cc is)
 in_entry (e ∷ past) i y is =
     entry_by e past i y (subst (λ (xs : List Place). slice_get xs i ≡ Some y) (places_more e past) is) (λ old. in_entry past i y old)
     (cases_lt i (length (before past)))
+
+-- and the past with that entry is one of a run
+pub entry_run : (s : ScriptData) (past : List Entry) (i : ℕ) (y : Place) → IsStepRun s past → (l : InEntry past i y)
+    → IsStepRun s (l.entry ∷ l.earlier)
+entry_run s past i y run l =
+    run_before s (l.entry ∷ l.earlier) l.later (subst (λ (es : List Entry). IsStepRun s es) (sym l.all) run)

@@ -1,9 +1,7 @@
 -- A decision is the last act of its entry, so all turns of its tree are had before it.
-use Rattle.std.proofs.Common.{◌≡◌, ◌⊎◌, inl, inr, ℕ, zero, suc, ◌+◌, ◌<◌, ◌≤◌, ◌==◌, ◌&&◌, ◌||◌, Bool, true, false, not, IsTrue, List, [], ◌∷◌, ◌++◌, map, length, take, refl, sym, ap, ◌∙◌, subst, arith, append-nil, Option, Some, None}
-use Rattle.std.specs.Prelude.{if◌then◌else◌, filter, nat_lt, slice_get}
-use Rattle.std.specs.List.{list_any}
+use Rattle.std.proofs.Common.{◌≡◌, ◌⊎◌, inl, inr, ℕ, zero, suc, ◌+◌, ◌<◌, ◌≤◌, Bool, true, false, List, [], ◌∷◌, ◌++◌, map, length, take, refl, sym, ap, ◌∙◌, subst, arith, append-nil, Option, Some, None}
+use Rattle.std.specs.Prelude.{if◌then◌else◌, nat_lt, slice_get}
 use Rattle.std.proofs.Math.Seq.{take-append_seam}
-use Rattle.std.proofs.lemmas.Bool.Decides.{nat_tests}
 use Rattle.std.proofs.lemmas.List.Elements.{filter-append}
 use Rattle.tv_base.proofs.ByPlace.{slice_get_split}
 use Rattle.tv_base.specs.declared.numbers.SubNo.{SubNo}
@@ -16,14 +14,11 @@ use Rattle.letter_types.specs.declared.bodies.Body.TheVariants.{Root, Sub as Sub
 use Rattle.letter_types.specs.declared.bodies.Notice.{Notice}
 use Rattle.letter_types.specs.declared.bodies.Notice.TheVariants as notices
 use Rattle.letter_types.specs.declared.entries.Entry.{Entry}
-use Rattle.letter_types.specs.declared.entries.Letter.{Letter}
 use Rattle.letter_types.specs.declared.votes.Vote.{Vote}
 use Rattle.tree_home.specs.declared.homes.Answered.{Answered}
-use Rattle.tree_home.specs.declared.homes.OpenTree.{OpenTree}
 use Rattle.script_parts.specs.declared.parts.TreeKind.{TreeKind}
 use Rattle.script_parts.specs.declared.parts.TreeKind.TheVariants.{Update, Read, Strict}
-use Rattle.tx_trees.specs.ScriptData.{ScriptData, home_of, subs_at, visits}
-use Rattle.tx_trees.specs.Valid.{IsValid}
+use Rattle.tx_trees.specs.ScriptData.{ScriptData}
 use Rattle.world_model.specs.Asked.{asked_ops, asked_version, tree_part}
 use Rattle.world_model.specs.Core.{Core}
 use Rattle.world_model.specs.Counts.{one_if, tally}
@@ -32,7 +27,6 @@ use Rattle.world_model.specs.Named.{is_strict_at, tree_kind_at}
 use Rattle.world_model.specs.Node.{Effect, Node}
 use Rattle.world_model.specs.Notices.{act_of, values_of}
 use Rattle.world_model.specs.Reads.{getting}
-use Rattle.world_model.specs.Runs.{IsStepRun, keeping_in}
 use Rattle.world_model.specs.Strict.{core_by_kind, core_row, decided, locks_by, none_refuses, note_core, noted_vote, refused_there, voting}
 use Rattle.world_model.specs.Updates.{touching}
 use Rattle.world_model.specs.Votes.{vote_of}

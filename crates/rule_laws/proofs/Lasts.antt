@@ -1,6 +1,6 @@
 -- An act of an entry that lasts, by what its node does: a subtransaction of an update or a read tree is done, one of a
 -- strict tree votes, a decision is applied, or marks are freed. No act before it in its entry lasts.
-use Rattle.std.proofs.Common.{◌≡◌, ℕ, zero, suc, ◌+◌, ◌<◌, ◌≤◌, Bool, true, false, List, [], ◌∷◌, ◌++◌, length, take, refl, sym, ap, subst, ◌∙◌, arith, Option, Some, None}
+use Rattle.std.proofs.Common.{◌≡◌, ℕ, ◌≤◌, Bool, true, List, [], ◌∷◌, length, take, refl, sym, ap, ◌∙◌, arith, Option, Some, None}
 use Rattle.std.specs.Prelude.{slice_get}
 use Rattle.tv_base.specs.declared.numbers.ItemNo.{ItemNo}
 use Rattle.tv_base.specs.declared.numbers.SubNo.{SubNo}
@@ -10,9 +10,10 @@ use Rattle.commute_ops.specs.declared.value.Value.{Value}
 use Rattle.letter_types.specs.declared.acts.Act.{Act}
 use Rattle.letter_types.specs.declared.acts.Act.TheVariants as acts
 use Rattle.letter_types.specs.declared.bodies.Body.{Body}
-use Rattle.letter_types.specs.declared.bodies.Body.TheVariants.{Root, Sub as SubLetter, Done, Decide, Decided, Release, Go}
+use Rattle.letter_types.specs.declared.bodies.Body.TheVariants.{Root, Sub as SubLetter, Decide, Release, Go}
 use Rattle.letter_types.specs.declared.entries.Entry.{Entry}
 use Rattle.letter_types.specs.declared.entries.Letter.{Letter}
+use Rattle.letter_types.specs.declared.votes.Cause.{Cause}
 use Rattle.letter_types.specs.declared.votes.Vote.{Vote}
 use Rattle.script_parts.specs.declared.parts.TreeKind.{TreeKind}
 use Rattle.script_parts.specs.declared.parts.TreeKind.TheVariants.{Update, Read, Strict}
@@ -25,8 +26,8 @@ use Rattle.world_model.specs.Named.{tree_kind_at}
 use Rattle.world_model.specs.Notices.{act_of}
 use Rattle.world_model.specs.Runs.{IsStepRun, client_in, coordinator_in, keeping_in}
 use Rattle.world_model.specs.Strict.{notice_by}
-use Rattle.world_model.specs.Votes.{vote_of}
-use Rattle.world_model.proofs.Cases.{Case, Coordinates, Does, Keeps, NodeDoes, NodeKeeps, Submits, case}
+use Rattle.world_model.specs.Votes.{cause_in, vote_of}
+use Rattle.world_model.proofs.Cases.{Case, Coordinates, NodeDoes, NodeKeeps, Submits, case}
 use Rattle.world_model.proofs.Orders.{no_acts}
 use Rattle.tree_laws.proofs.AptRulings.{client_acts}
 use Rattle.tree_laws.proofs.AptStagesOwn.{Doing}
@@ -43,6 +44,10 @@ pub data AsksIn (body : Body) (t : TreeNo) (k : SubNo) : Type 0 where
 -- how it votes, if its tree is strict
 abbrev pub vote_there : ScriptData → Core → TreeNo → Body → Vote
 vote_there s c t body = vote_of c.locks c.node.items t (asked_version c.node.turns.update body) (asked_ops s body)
+
+-- and the cause of a no, if it is one
+abbrev pub cause_there : ScriptData → Core → TreeNo → Body → Option Cause
+cause_there s c t body = cause_in c.locks c.node.items t (asked_version c.node.turns.update body) (asked_ops s body)
 
 pub data Lasts (s : ScriptData) (past : List Entry) (e : Entry) (j : ℕ) (a : Act) : Type 0 where
   Updates : (p : ℕ) (r : Letter) (t : TreeNo) (k : SubNo) → Doing s past e p r → AsksIn r.body t k → tree_kind_at s t.0 ≡ Some Update

@@ -1,10 +1,9 @@
 -- In every run, where a strict tree is born, each writer of a smaller version, whenever it is born, is whole: its home has
 -- shown the version before its own.
-use Rattle.std.proofs.Common.{◌≡◌, ◌⊎◌, inl, inr, ℕ, zero, suc, ◌+◌, ◌-◌, ◌<◌, ◌≤◌, ◌==◌, ◌||◌, Bool, true, false, not, List, [], ◌∷◌, ◌++◌, length, take, refl, sym, ap, subst, ◌∙◌, arith, append_assoc, Option, Some, None}
+use Rattle.std.proofs.Common.{◌≡◌, ◌⊎◌, inl, inr, ℕ, zero, suc, ◌+◌, ◌<◌, ◌≤◌, ◌==◌, ◌||◌, Bool, true, false, not, List, [], ◌∷◌, ◌++◌, length, take, refl, sym, ap, subst, ◌∙◌, arith, append_assoc, Option, Some, None}
 use Rattle.std.specs.Prelude.{if◌then◌else◌, slice_get}
 use Rattle.std.specs.Option.{option_or}
 use Rattle.std.proofs.lemmas.Bool.{or_cases}
-use Rattle.std.proofs.lemmas.Bool.Decides.{nat_tests}
 use Rattle.tv_base.specs.declared.numbers.Version.{Version}
 use Rattle.letter_types.specs.declared.acts.Act.{Act}
 use Rattle.letter_types.specs.declared.acts.Act.TheVariants.{Born, Finished}
@@ -14,7 +13,7 @@ use Rattle.tx_trees.specs.Valid.{IsValid}
 use Rattle.tx_trees.specs.declared.parts.Tree.{Tree}
 use Rattle.tx_trees.specs.declared.parts.TreeKind.{TreeKind}
 use Rattle.tx_trees.specs.declared.parts.TreeKind.TheVariants.{Update, Read, Strict}
-use Rattle.board_rules.specs.Histories.{Place, born_as, is_strict_tree, is_whole_in, places_at, places_of, version_in}
+use Rattle.board_rules.specs.Histories.{Place, born_as, is_strict_tree, is_whole_in, places_at, version_in}
 use Rattle.board_rules.proofs.Rules.{AreBornLate, is_writer}
 use Rattle.board_rules.proofs.Wholes.{strict_there, updates_there, whole_more}
 use Rattle.world_model.specs.Counts.{one_if, tally}
@@ -23,7 +22,7 @@ use Rattle.world_model.specs.declared.phase.Phase.TheVariants.{Idle, Turning, Co
 use Rattle.world_model.specs.Runs.{IsStepRun, coordinator_in, node_in}
 use Rattle.world_model.proofs.Bags.{tally-append}
 use Rattle.world_model.proofs.Scripts.{sub_there}
-use Rattle.tree_laws.specs.Dids.{births, is_born}
+use Rattle.tree_laws.specs.Dids.{is_born}
 use Rattle.tree_laws.proofs.Acts.{of_act}
 use Rattle.tree_laws.proofs.AptTurns.{births_are_turns, turns_at_most_once}
 use Rattle.tree_laws.proofs.AptVersions.{before}
@@ -32,13 +31,13 @@ use Rattle.tree_laws.proofs.Whole.{births_in}
 use Rattle.phase_laws.specs.Phases.{most_read}
 use Rattle.strict_laws.proofs.MeantRows.{root_below}
 use Rattle.phase_laws.proofs.Levels.{levels}
-use Rattle.run_laws.proofs.Closed.{none_came, run_before}
+use Rattle.run_laws.proofs.Closed.{none_came}
 use Rattle.run_laws.proofs.EveryApt.{all_apt, lawful}
 use Rattle.run_laws.proofs.EveryBirth.{IsBornAt, birth_at}
 use Rattle.run_laws.proofs.EveryWhole.{strict_is}
 use Rattle.run_laws.proofs.Reached.{now_below, whole_below, whole_run}
 use Rattle.run_laws.proofs.Wholes.{is_of_kind}
-use Rattle.rule_laws.proofs.InEntries.{InEntry, in_entry}
+use Rattle.rule_laws.proofs.InEntries.{InEntry, entry_run, in_entry}
 
 -- A tree that is born once is born with the version of its Born.
 born_counts : (t : ℕ) (a : Act) (v : Version) → born_as t a ≡ Some v → is_born t a ≡ 1
@@ -149,8 +148,7 @@ late_by : (s : ScriptData) (past : List Entry) (i k t : ℕ) (y : Place) (v w : 
     → (l : InEntry past i y) → born_as k y.act ≡ Some v → is_strict_tree s k ≡ true → is_writer s t ≡ true
     → version_in t (before past) ≡ Some w → w.0 < v.0 → is_whole_in s (take i (before past)) t ≡ true
 late_by s past i k t y v w valid run l born strict writes has lt =
-    let all : IsStepRun s (l.later ++ l.entry ∷ l.earlier) = subst (λ (es : List Entry). IsStepRun s es) (sym l.all) run in
-    let here : IsStepRun s (l.entry ∷ l.earlier) = run_before s (l.entry ∷ l.earlier) l.later all in
+    let here : IsStepRun s (l.entry ∷ l.earlier) = entry_run s past i y run l in
     let at = born_here s l.earlier l.entry k l.place y v valid here (strict_there s k strict) l.is born in
     let reads_none : reads s k ≡ false = no_reader s k (slice_get s.trees k) refl (strict_writes s k strict) in
     let so = at.strict (sym (strict_is s k (slice_get s.trees k) refl) ∙ strict) in

@@ -1,6 +1,6 @@
 -- What a tree meets by the look back is the same after acts that don't last; and in scripts without strict trees an update
 -- tree meets nothing.
-use Rattle.std.proofs.Common.{◌≡◌, ◌⊎◌, inl, inr, ℕ, zero, suc, ◌+◌, ◌<◌, ◌≤◌, ◌==◌, ◌&&◌, ◌||◌, Bool, true, false, not, List, [], ◌∷◌, ◌++◌, map, refl, sym, ap, ◌∙◌, subst, arith, append-nil, Option, Some, None}
+use Rattle.std.proofs.Common.{◌≡◌, ℕ, zero, suc, ◌==◌, ◌&&◌, ◌||◌, Bool, true, false, not, List, [], ◌∷◌, ◌++◌, map, refl, ap, ◌∙◌, append-nil, Option, Some, None}
 use Rattle.std.specs.Prelude.{if◌then◌else◌, filter, fold, length, slice_get}
 use Rattle.std.specs.List.{list_any}
 use Rattle.std.specs.Option.{option_or}
@@ -10,8 +10,6 @@ use Rattle.std.proofs.lemmas.List.Sums.{fold-append}
 use Rattle.letter_types.specs.declared.acts.Act.{Act}
 use Rattle.letter_types.specs.declared.acts.Act.TheVariants.{Did, Voted, Freed, Applied, Finished}
 use Rattle.letter_types.specs.declared.votes.Cause.{Cause}
-use Rattle.letter_types.specs.declared.votes.Vote.{Vote}
-use Rattle.letter_types.specs.declared.votes.Vote.TheVariants.{Yes, No}
 use Rattle.nc_locks.specs.declared.modes.Mode.{Mode}
 use Rattle.nc_locks.specs.declared.modes.Mode.TheVariants.{Mark}
 use Rattle.nc_locks.specs.Modes.{modes_conflict}
@@ -39,7 +37,8 @@ quiet_at s p x k n modes (Applied t commit) quiet = absurd (cc quiet)
 quiet_at s p x k n modes Finished quiet = no_change (n == p) modes
 quiet_at s p x k n modes _ quiet = no_change (n == p) modes
 
-none_of : (a : Act) (xs : List Act) (b : Bool) → is_lasting a ≡ b → (if b then a ∷ lasting xs else lasting xs) ≡ [] → (is_lasting a ≡ false) × (lasting xs ≡ [])
+none_of : (a : Act) (xs : List Act) (b : Bool) → is_lasting a ≡ b → (if b then a ∷ lasting xs else lasting xs) ≡ []
+    → (is_lasting a ≡ false) × (lasting xs ≡ [])
 none_of a xs true is none = absurd (cc none)
 none_of a xs false is none = (is, none)
 
@@ -94,7 +93,9 @@ marks_on_it : (x : ℕ) (os : List SubOp) → ((i : ℕ) (o : SubOp) → slice_g
 marks_on_it x [] marks = refl
 marks_on_it x (o ∷ os) marks = by (o.item.0 == x) (marks_on_it x os (λ i q is. marks (suc i) q is)) where
   by : (b : Bool) → list_any (modes_conflict Mark) (modes_on x os) ≡ false
-      → list_any (modes_conflict Mark) (map (λ (q : SubOp). lock_mode_of q.deed) (if b then o ∷ filter (λ (q : SubOp). q.item.0 == x) os else filter (λ (q : SubOp). q.item.0 == x) os)) ≡ false
+      → list_any (modes_conflict Mark)
+      (map (λ (q : SubOp). lock_mode_of q.deed) (if b then o ∷ filter (λ (q : SubOp). q.item.0 == x) os else filter (λ (q : SubOp). q.item.0 == x) os))
+      ≡ false
   by true rest =
       ap (λ (m : Mode). modes_conflict Mark m || list_any (modes_conflict Mark) (modes_on x os)) (marks 0 o refl) ∙ rest
   by false rest = rest

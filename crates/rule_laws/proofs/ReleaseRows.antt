@@ -1,6 +1,6 @@
 -- What rows send and do of the marks of a tree: a row frees what its letter releases, and sends a node at most one Release
 -- of a tree, where it answers it.
-use Rattle.std.proofs.Common.{◌≡◌, ℕ, zero, suc, ◌+◌, ◌<◌, ◌≤◌, ◌==◌, ◌&&◌, Bool, true, false, List, [], ◌∷◌, ◌++◌, refl, sym, ap, ◌∙◌, subst, arith, Option, Some, None}
+use Rattle.std.proofs.Common.{◌≡◌, ℕ, zero, suc, ◌+◌, ◌≤◌, ◌==◌, Bool, true, false, List, [], ◌∷◌, ◌++◌, refl, ap, ◌∙◌, arith, Option, Some, None}
 use Rattle.std.specs.Prelude.{if◌then◌else◌, nat_lt}
 use Rattle.std.proofs.lemmas.Bool.Decides.{nat_tests}
 use Rattle.tv_base.specs.declared.numbers.SubNo.{SubNo}
@@ -14,7 +14,6 @@ use Rattle.letter_types.specs.declared.bodies.Notice.{Notice}
 use Rattle.letter_types.specs.declared.bodies.Notice.TheVariants as notices
 use Rattle.letter_types.specs.declared.entries.Outgoing.{Outgoing}
 use Rattle.letter_types.specs.declared.votes.Vote.{Vote}
-use Rattle.letter_types.specs.Steps.{Out}
 use Rattle.tree_home.specs.HeldAnswers.{answer_when_acked}
 use Rattle.tree_home.specs.declared.homes.Answered.{Answered}
 use Rattle.script_parts.specs.declared.parts.Sub.{Sub}
@@ -30,16 +29,16 @@ use Rattle.world_model.specs.Done.{TreeOut, note_part}
 use Rattle.world_model.specs.Named.{is_strict_at, tree_kind_at}
 use Rattle.world_model.specs.Node.{Effect, Node}
 use Rattle.world_model.specs.Notices.{act_of, reply_letters, values_of}
-use Rattle.world_model.specs.Strict.{answer_letters, answered, core_by_kind, core_row, decided, locks_by, marks, marks_of, none_refuses, note_core, noted_vote, notice_by, refused_there, release_letters, to_each, voting}
+use Rattle.world_model.specs.Strict.{answered, core_by_kind, core_row, decided, locks_by, marks, marks_of, none_refuses, note_core, noted_vote, notice_by, refused_there, release_letters, to_each, voting}
 use Rattle.world_model.specs.Reads.{getting}
 use Rattle.world_model.specs.Updates.{touching}
 use Rattle.world_model.specs.Votes.{vote_of}
 use Rattle.nc_locks.specs.Locks.{with_locks}
-use Rattle.world_model.proofs.Bags.{tally-append, tally_none}
+use Rattle.world_model.proofs.Bags.{tally-append}
 use Rattle.world_model.proofs.Sends.{on, subs_none}
 use Rattle.tree_laws.specs.Dids.{replies_to}
 use Rattle.tree_laws.proofs.Turns.{answers_none, each_told, replies_none}
-use Rattle.value_laws.proofs.RowActs.{asked_acts, is_lasting, lasting, lasting_acts, row_lasts, tally_lasting}
+use Rattle.value_laws.proofs.RowActs.{asked_acts, is_lasting, lasting_acts, row_lasts, tally_lasting}
 
 -- a letter that releases tree t, and one to node q
 abbrev pub releases_of : ℕ → Body → ℕ

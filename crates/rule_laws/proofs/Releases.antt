@@ -1,5 +1,5 @@
 -- In every run the marks of an update tree go at a node that it visits, once, and where it is whole.
-use Rattle.std.proofs.Common.{◌≡◌, ◌⊎◌, inl, inr, ℕ, zero, suc, ◌+◌, ◌<◌, ◌≤◌, ◌==◌, ◌&&◌, Bool, true, false, List, [], ◌∷◌, ◌++◌, map, length, take, refl, sym, ap, subst, ◌∙◌, arith, Option, Some, None}
+use Rattle.std.proofs.Common.{◌≡◌, ℕ, ◌+◌, ◌<◌, ◌≤◌, ◌==◌, ◌&&◌, Bool, true, false, List, [], ◌∷◌, map, length, take, refl, sym, ap, subst, ◌∙◌, arith, Option, Some, None}
 use Rattle.std.specs.Prelude.{if◌then◌else◌, is_some, slice_get}
 use Rattle.std.specs.Option.{option_or}
 use Rattle.std.proofs.lemmas.Bool.{and_from}
@@ -21,11 +21,10 @@ use Rattle.board_rules.specs.Histories.{Place, all_applied, all_done, born_as, i
 use Rattle.board_rules.specs.Moves.{IsFreeing}
 use Rattle.board_rules.specs.Stands.{frees}
 use Rattle.board_rules.proofs.Wholes.{update_not_strict, updates_there, whole_more}
-use Rattle.world_model.specs.AllApt.{AllApt}
 use Rattle.world_model.specs.Core.{Core}
 use Rattle.world_model.specs.Counts.{one_if, tally}
 use Rattle.world_model.specs.Kept.{kept_in, of_done, outstanding}
-use Rattle.world_model.specs.Runs.{IsStepRun, MayFollow, client_in, coordinator_in, in_flight, keeping_in}
+use Rattle.world_model.specs.Runs.{IsStepRun, MayFollow, client_in, coordinator_in, keeping_in}
 use Rattle.world_model.specs.Named.{is_strict_at}
 use Rattle.world_model.specs.Strict.{CoreKeeping, core_row}
 use Rattle.world_model.proofs.Bags.{sealed_tally, tally-append}
@@ -36,7 +35,7 @@ use Rattle.world_model.proofs.Sends.{on}
 use Rattle.strict_laws.specs.Meant.{IsMeant}
 use Rattle.strict_laws.proofs.MeantRows.{root_below}
 use Rattle.phase_laws.proofs.Brought.{brought_meant}
-use Rattle.tree_laws.specs.Dids.{answers, births, is_born, is_did_act, replies_to}
+use Rattle.tree_laws.specs.Dids.{answers, is_born, replies_to}
 use Rattle.tree_laws.specs.Stages.{AllTurned, Answered as IsDone, Gathers, Holds, StageAt, Unborn}
 use Rattle.tree_laws.specs.Turns.{has_turn, turns}
 use Rattle.tree_laws.proofs.Acts.{of_act}
@@ -48,7 +47,6 @@ use Rattle.tree_laws.proofs.AptSteps.{wakes_none}
 use Rattle.tree_laws.proofs.AptTurns.{births_are_turns}
 use Rattle.tree_laws.proofs.AptVersions.{before}
 use Rattle.tree_laws.proofs.Histories.{places_more}
-use Rattle.tree_laws.proofs.Versions.{unborn}
 use Rattle.tree_laws.proofs.Whole.{all_done_of, births_in, dids_in, was_done_of}
 use Rattle.run_laws.proofs.EveryApt.{all_apt}
 use Rattle.run_laws.proofs.EveryDid.{dids_are_turns}

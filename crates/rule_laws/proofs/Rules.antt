@@ -2,15 +2,15 @@
 -- strict trees are born late.
 use Rattle.std.proofs.Common.{◌≡◌, ℕ, Bool, true, false, List, [], ◌∷◌, ◌++◌, take, refl, sym, ap, ◌∙◌, subst, Option, Some, None}
 use Rattle.std.specs.Prelude.{slice_get}
+use Rattle.tv_base.specs.declared.numbers.ItemNo.{ItemNo}
 use Rattle.tv_base.specs.declared.numbers.SubNo.{SubNo}
 use Rattle.tv_base.specs.declared.numbers.TreeNo.{TreeNo}
+use Rattle.commute_ops.specs.declared.value.Value.{Value}
 use Rattle.letter_types.specs.declared.acts.Act.{Act}
 use Rattle.letter_types.specs.declared.acts.Act.TheVariants as acts
 use Rattle.letter_types.specs.declared.entries.Entry.{Entry}
 use Rattle.letter_types.specs.declared.entries.Letter.{Letter}
 use Rattle.letter_types.specs.declared.votes.Cause.{Cause}
-use Rattle.letter_types.specs.declared.votes.Vote.TheVariants.{Yes, No}
-use Rattle.script_parts.specs.declared.parts.TreeKind.{TreeKind}
 use Rattle.script_parts.specs.declared.parts.TreeKind.TheVariants.{Update, Read, Strict}
 use Rattle.tx_trees.specs.ScriptData.{ScriptData, updates}
 use Rattle.tx_trees.specs.Valid.{IsValid}
@@ -21,33 +21,31 @@ use Rattle.world_model.specs.Notices.{act_of}
 use Rattle.world_model.specs.Reads.{gets}
 use Rattle.world_model.specs.Runs.{IsStepRun, keeping_in}
 use Rattle.world_model.specs.Strict.{notice_by}
-use Rattle.world_model.specs.Votes.{cause_in, voted}
+use Rattle.world_model.specs.Votes.{voted}
 use Rattle.board_rules.specs.Histories.{Place}
 use Rattle.board_rules.proofs.Rules.{FollowsRules, IsByRule}
 use Rattle.strict_laws.proofs.ByActs.{kind_updates}
 use Rattle.tree_laws.proofs.AptStagesOwn.{Doing}
 use Rattle.tree_laws.proofs.AptVersions.{before}
-use Rattle.run_laws.proofs.Closed.{run_before}
 use Rattle.value_laws.proofs.RowActs.{is_lasting, lasting}
 use Rattle.rule_laws.proofs.Decisions.{applied_by_rule, decided_by_rule}
 use Rattle.rule_laws.proofs.Deeds.{did_by_rule}
 use Rattle.rule_laws.proofs.Fronts.{act_of_place, front}
-use Rattle.rule_laws.proofs.InEntries.{InEntry, in_entry}
-use Rattle.rule_laws.proofs.Lasts.{Applies, AsksIn, Frees, Lasts, Reads, Updates, Votes, lasts}
+use Rattle.rule_laws.proofs.InEntries.{InEntry, entry_run, in_entry}
+use Rattle.rule_laws.proofs.Lasts.{Applies, AsksIn, Frees, Lasts, Reads, Updates, Votes, cause_there, lasts}
 use Rattle.rule_laws.proofs.Late.{born_late}
 use Rattle.rule_laws.proofs.Releases.{freed_by_rule}
 use Rattle.rule_laws.proofs.YesVotes.{yes_by_rule}
 
 -- A vote, by its cause.
 voted_by_rule : (s : ScriptData) (past : List Entry) (e : Entry) (j : ℕ) (a : Act) (p : ℕ) (r : Letter) (t : TreeNo) (k : SubNo) (o : Option Cause)
-    → Doing s past e p r → AsksIn r.body t k → tree_kind_at s t.0 ≡ Some Strict → slice_get e.acts j ≡ Some a → lasting (take j e.acts) ≡ []
-    → cause_in (keeping_in s past p).core.locks (keeping_in s past p).core.node.items t (asked_version (keeping_in s past p).core.node.turns.update r.body) (asked_ops s r.body) ≡ o
-    → a ≡ act_of t k (notice_by (voted o (gets (asked_version (keeping_in s past p).core.node.turns.update r.body) (asked_ops s r.body) (keeping_in s past p).core.node.items)))
+    (values : List (ItemNo × Value)) → Doing s past e p r → AsksIn r.body t k → tree_kind_at s t.0 ≡ Some Strict → slice_get e.acts j ≡ Some a
+    → lasting (take j e.acts) ≡ [] → cause_there s (keeping_in s past p).core t r.body ≡ o → a ≡ act_of t k (notice_by (voted o values))
     → IsByRule s (front past e j) e.actor.0 a
-voted_by_rule s past e j a p r t k (Some cause) g asks of at none is so = subst (IsByRule s (front past e j) e.actor.0) (sym so) tt
-voted_by_rule s past e j a p r t k None g asks of at none is so =
+voted_by_rule s past e j a p r t k (Some cause) values g asks of at none is so = subst (IsByRule s (front past e j) e.actor.0) (sym so) tt
+voted_by_rule s past e j a p r t k None values g asks of at none is so =
     subst (IsByRule s (front past e j) e.actor.0) (sym so)
-    (yes_by_rule s past e j p r t k _ g asks of (at ∙ ap (λ (b : Act). Some b) so) is none)
+    (yes_by_rule s past e j p r t k values g asks of (at ∙ ap (λ (b : Act). Some b) so) is none)
 
 lasting_by_rule : (s : ScriptData) (past : List Entry) (e : Entry) (j : ℕ) (a : Act) → slice_get e.acts j ≡ Some a → Lasts s past e j a
     → IsByRule s (front past e j) e.actor.0 a
@@ -60,8 +58,8 @@ lasting_by_rule s past e j a at (Reads p r t k values g asks of is none) =
     (did_by_rule s past e j p r t k Read values g asks of (at ∙ ap (λ (b : Act). Some b) is) (λ up. absurd (cc (up, plain))) none)
 lasting_by_rule s past e j a at (Votes p r t k g asks of is none) =
     let c : Core = (keeping_in s past p).core in
-    voted_by_rule s past e j a p r t k (cause_in c.locks c.node.items t (asked_version c.node.turns.update r.body) (asked_ops s r.body))
-    g asks of at none refl is
+    voted_by_rule s past e j a p r t k (cause_there s c t r.body)
+    (gets (asked_version c.node.turns.update r.body) (asked_ops s r.body) c.node.items) g asks of at none refl is
 lasting_by_rule s past e j a at (Applies p r t v commit g is so none) =
     subst (IsByRule s (front past e j) e.actor.0) (sym so)
     (applied_by_rule s past e j p r t v commit g is (at ∙ ap (λ (b : Act). Some b) so))
@@ -87,8 +85,7 @@ act_by_rule s past e j a valid run at false is = other_by_rule s past e j a vali
 place_by_rule : (s : ScriptData) (past : List Entry) (i : ℕ) (y : Place) → IsValid s → IsStepRun s past → InEntry past i y
     → IsByRule s (take i (before past)) y.node y.act
 place_by_rule s past i y valid run l =
-    let all : IsStepRun s (l.later ++ l.entry ∷ l.earlier) = subst (λ (es : List Entry). IsStepRun s es) (sym l.all) run in
-    let here : IsStepRun s (l.entry ∷ l.earlier) = run_before s (l.entry ∷ l.earlier) l.later all in
+    let here : IsStepRun s (l.entry ∷ l.earlier) = entry_run s past i y run l in
     let there = act_of_place l.entry l.place y l.is in
     subst (λ (xs : List Place). IsByRule s xs y.node y.act) (sym l.front)
     (subst (λ (n : ℕ). IsByRule s (front l.earlier l.entry l.place) n y.act) (sym there.1)

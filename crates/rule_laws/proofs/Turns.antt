@@ -1,6 +1,6 @@
 -- Where a subtransaction is done or votes: it is one of its tree, at its node, and the tree is born before.
-use Rattle.std.proofs.Common.{◌≡◌, ◌⊎◌, inl, inr, ℕ, zero, suc, ◌+◌, ◌<◌, ◌≤◌, ◌==◌, ◌&&◌, ◌||◌, Bool, true, false, List, [], ◌∷◌, ◌++◌, map, length, take, refl, sym, ap, ◌∙◌, subst, arith, append-nil, Option, Some, None}
-use Rattle.std.specs.Prelude.{if◌then◌else◌, is_some, nat_lt, slice_get}
+use Rattle.std.proofs.Common.{◌≡◌, ℕ, zero, suc, ◌<◌, ◌≤◌, ◌==◌, ◌&&◌, true, false, List, [], ◌∷◌, ◌++◌, map, length, take, refl, sym, ap, ◌∙◌, subst, arith, Option, Some, None}
+use Rattle.std.specs.Prelude.{is_some, nat_lt, slice_get}
 use Rattle.std.proofs.lemmas.Bool.Decides.{nat_tests}
 use Rattle.tv_base.specs.declared.numbers.SubNo.{SubNo}
 use Rattle.tv_base.specs.declared.numbers.TreeNo.{TreeNo}
@@ -8,25 +8,24 @@ use Rattle.tv_base.specs.declared.numbers.Version.{Version}
 use Rattle.letter_types.specs.declared.acts.Act.{Act}
 use Rattle.letter_types.specs.declared.acts.Act.TheVariants as acts
 use Rattle.letter_types.specs.declared.bodies.Body.{Body}
-use Rattle.letter_types.specs.declared.bodies.Body.TheVariants.{Root, Sub as SubLetter}
+use Rattle.letter_types.specs.declared.bodies.Body.TheVariants.{Root}
 use Rattle.letter_types.specs.declared.entries.Entry.{Entry}
 use Rattle.letter_types.specs.declared.entries.Letter.{Letter}
 use Rattle.letter_types.specs.declared.votes.Vote.{Vote}
-use Rattle.letter_types.specs.Steps.{Out}
 use Rattle.tree_home.specs.declared.homes.Answered.{Answered}
 use Rattle.script_parts.specs.declared.parts.TreeKind.{TreeKind}
 use Rattle.script_parts.specs.declared.parts.TreeKind.TheVariants.{Update, Read, Strict}
-use Rattle.tx_trees.specs.ScriptData.{ScriptData, home_of, node_of, ops_of, subs_at}
+use Rattle.tx_trees.specs.ScriptData.{ScriptData, node_of, subs_at}
 use Rattle.tx_trees.specs.Valid.{IsValid}
-use Rattle.world_model.specs.Asked.{asked_ops, asked_version, tree_part}
+use Rattle.world_model.specs.Asked.{asked_ops, tree_part}
 use Rattle.world_model.specs.Core.{Core}
-use Rattle.world_model.specs.Counts.{Each, one_if, tally}
+use Rattle.world_model.specs.Counts.{one_if, tally}
 use Rattle.world_model.specs.Done.{TreeOut}
 use Rattle.world_model.specs.Named.{tree_kind_at}
 use Rattle.world_model.specs.Runs.{IsStepRun, keeping_in}
 use Rattle.world_model.specs.Strict.{core_by_kind, core_row, decided, locks_by, none_refuses, noted_vote, voting}
 use Rattle.world_model.specs.Votes.{vote_of}
-use Rattle.world_model.proofs.Cases.{Brings, Does}
+use Rattle.world_model.proofs.Cases.{Brings}
 use Rattle.world_model.proofs.Scripts.{SubAt, get_below, sub_here}
 use Rattle.board_rules.specs.Histories.{Place, does, places_at, version_in, was_born, was_done}
 use Rattle.board_rules.specs.Stands.{votes, was_voted}

@@ -1,7 +1,7 @@
 -- Bounds of the versions that are held of an item: what bounds them after operations of an update, of a commit, or after a
 -- collection bounds them before, and bounds the version that is written.
-use Rattle.std.proofs.Common.{◌≡◌, ◌⊎◌, inl, inr, ℕ, ◌<◌, ◌≤◌, ◌==◌, ◌&&◌, ◌||◌, Bool, true, false, List, [], ◌∷◌, ◌++◌, zero, suc, map, refl, sym, ap, ◌∙◌, subst, arith, Option, Some, None}
-use Rattle.std.specs.Prelude.{if◌then◌else◌, filter, nat_lt, slice_get}
+use Rattle.std.proofs.Common.{◌≡◌, ◌⊎◌, inl, inr, ℕ, ◌≤◌, ◌==◌, ◌&&◌, Bool, true, false, List, [], ◌∷◌, ◌++◌, suc, refl, sym, ap, ◌∙◌, subst, arith, Option, Some, None}
+use Rattle.std.specs.Prelude.{if◌then◌else◌, nat_lt, slice_get}
 use Rattle.std.specs.List.{AllByRecursion}
 use Rattle.std.proofs.lemmas.Bool.{and_parts, or_cases}
 use Rattle.std.proofs.lemmas.Bool.Decides.{nat_tests}
@@ -10,10 +10,9 @@ use Rattle.tv_base.specs.declared.numbers.Version.{Version}
 use Rattle.commute_ops.specs.declared.kinds.Op.{Op}
 use Rattle.commute_ops.specs.declared.value.Value.{Value}
 use Rattle.item_versions.specs.Collecting.{collected_all}
-use Rattle.item_versions.specs.Item.{Held, above, applied_to_all, below, collected, put_value, seen, seen_after, touched}
-use Rattle.item_versions.specs.Table.{Table, item_in, put_value_in, replaced, touched_in, updated, valued}
+use Rattle.item_versions.specs.Item.{Held, above, applied_to_all, below, collected, put_value, seen_after, touched}
+use Rattle.item_versions.specs.Table.{Table, item_in, replaced, updated, valued}
 use Rattle.item_versions.proofs.Window.{AllUpTo}
-use Rattle.nc_locks.specs.declared.modes.Mode.{Mode}
 use Rattle.nc_locks.specs.declared.modes.Mode.TheVariants.{Mark, Hold}
 use Rattle.nc_locks.specs.Modes.{modes_conflict}
 use Rattle.script_parts.specs.Deeds.{after_deed, overwrites}

@@ -1,9 +1,7 @@
 -- In every run an item's node holds it in no less a version than each in which it was written: so a vote that finds nothing
 -- newer at its node finds nothing newer in the look back.
-use Rattle.std.proofs.Common.{◌≡◌, ◌≢◌, ◌⊎◌, inl, inr, ℕ, zero, suc, ◌+◌, ◌<◌, ◌≤◌, ◌==◌, ◌&&◌, ◌||◌, max, Bool, true, false, List, [], ◌∷◌, ◌++◌, map, length, take, refl, sym, ap, ◌∙◌, subst, arith, append_assoc, Option, Some, None}
-use Rattle.std.specs.Prelude.{if◌then◌else◌, fold, is_some, nat_lt, slice_get}
-use Rattle.std.specs.List.{AllByRecursion}
-use Rattle.std.specs.Option.{option_or}
+use Rattle.std.proofs.Common.{◌≡◌, ◌≢◌, ◌⊎◌, inl, inr, ℕ, suc, ◌<◌, ◌≤◌, ◌==◌, ◌&&◌, ◌||◌, Bool, true, false, List, [], ◌∷◌, ◌++◌, length, refl, sym, ap, ◌∙◌, subst, arith, append_assoc, Option, Some}
+use Rattle.std.specs.Prelude.{if◌then◌else◌, is_some, slice_get}
 use Rattle.std.proofs.lemmas.Bool.{and_parts, cases_eq, cases_lt, or_cases, or_left, or_right}
 use Rattle.std.proofs.lemmas.Bool.Decides.{nat_tests}
 use Rattle.tv_base.proofs.ByPlace.{slice_get-old}
@@ -19,13 +17,12 @@ use Rattle.letter_types.specs.declared.entries.Entry.{Entry}
 use Rattle.letter_types.specs.declared.entries.Letter.{Letter}
 use Rattle.letter_types.specs.declared.votes.Vote.{Vote}
 use Rattle.letter_types.specs.declared.votes.Vote.TheVariants.{Yes, No}
-use Rattle.item_versions.specs.Item.{Held}
 use Rattle.item_versions.specs.Table.{Table, item_in}
 use Rattle.script_parts.specs.declared.parts.ItemRow.{ItemRow}
 use Rattle.script_parts.specs.declared.parts.Sub.{Sub}
 use Rattle.script_parts.specs.declared.parts.SubOp.{SubOp}
 use Rattle.script_parts.specs.declared.parts.TreeKind.{TreeKind}
-use Rattle.script_parts.specs.declared.parts.TreeKind.TheVariants.{Update, Read, Strict}
+use Rattle.script_parts.specs.declared.parts.TreeKind.TheVariants.{Update, Read}
 use Rattle.tx_trees.specs.ScriptData.{ScriptData, node_of, ops_of, sub_at, subs_at, updates}
 use Rattle.tx_trees.specs.Valid.{IsValid}
 use Rattle.nc_locks.specs.declared.modes.Mode.TheVariants.{Mark}
@@ -33,13 +30,12 @@ use Rattle.nc_locks.specs.Modes.{modes_conflict}
 use Rattle.world_model.specs.Asked.{asked_version}
 use Rattle.world_model.specs.Core.{Core}
 use Rattle.world_model.specs.Decisions.{applied_in, ops_at}
-use Rattle.world_model.specs.Named.{is_strict_at, tree_kind_at}
-use Rattle.world_model.specs.Node.{Node}
+use Rattle.world_model.specs.Named.{tree_kind_at}
 use Rattle.world_model.specs.Notices.{act_of}
 use Rattle.world_model.specs.Runs.{IsStepRun, keeping_in, node_in}
 use Rattle.world_model.specs.Strict.{CoreKeeping, core_by_kind, core_row, notice_by}
 use Rattle.world_model.specs.Updates.{table_after_ops}
-use Rattle.world_model.proofs.Cases.{Case, Coordinates, Does, Keeps, NodeDoes, NodeKeeps, Submits, case}
+use Rattle.world_model.proofs.Cases.{Case, Coordinates, NodeDoes, NodeKeeps, Submits, case}
 use Rattle.world_model.proofs.Keepings.{of_kept}
 use Rattle.world_model.proofs.Outstanding.{keeping_elsewhere}
 use Rattle.board_rules.specs.Histories.{Place, is_strict_tree, places_at, version_in}

@@ -1,9 +1,9 @@
 -- In every run each yes is of a born strict tree's subtransaction at its node, once; it meets no lock that conflicts, and
 -- what it overwrites is written in no newer version.
-use Rattle.std.proofs.Common.{◌≡◌, ◌⊎◌, inl, inr, ℕ, zero, suc, ◌+◌, ◌<◌, ◌≤◌, ◌==◌, ◌&&◌, ◌||◌, max, Bool, true, false, List, [], ◌∷◌, ◌++◌, drop, map, length, take, refl, sym, ap, ◌∙◌, subst, arith, append_assoc, take-append-drop, Option, Some, None}
+use Rattle.std.proofs.Common.{◌≡◌, ◌⊎◌, inl, inr, ℕ, zero, suc, ◌<◌, ◌≤◌, ◌==◌, max, Bool, true, false, List, [], ◌∷◌, ◌++◌, drop, map, length, take, refl, sym, ap, ◌∙◌, subst, arith, append_assoc, take-append-drop, Option, Some, None}
 use Rattle.std.specs.Prelude.{if◌then◌else◌, fold, is_some, nat_lt, slice_get}
 use Rattle.std.specs.Option.{option_or}
-use Rattle.std.proofs.lemmas.Bool.{and_parts, cases_lt}
+use Rattle.std.proofs.lemmas.Bool.{cases_lt}
 use Rattle.std.proofs.lemmas.Bool.Decides.{nat_tests}
 use Rattle.tv_base.proofs.ByPlace.{slice_get-old}
 use Rattle.tv_base.specs.declared.numbers.ItemNo.{ItemNo}
@@ -17,30 +17,26 @@ use Rattle.letter_types.specs.declared.acts.Act.TheVariants as acts
 use Rattle.letter_types.specs.declared.entries.Entry.{Entry}
 use Rattle.letter_types.specs.declared.entries.Letter.{Letter}
 use Rattle.letter_types.specs.declared.votes.Cause.{Cause}
-use Rattle.letter_types.specs.declared.votes.Vote.{Vote}
-use Rattle.letter_types.specs.declared.votes.Vote.TheVariants.{Yes, No}
+use Rattle.letter_types.specs.declared.votes.Vote.TheVariants.{Yes}
 use Rattle.item_versions.specs.Item.{Held, IsHeld}
 use Rattle.item_versions.specs.Table.{Table, item_in}
 use Rattle.item_versions.proofs.Holding.{IsHeld-item_in}
 use Rattle.item_versions.proofs.Window.{AllUpTo}
 use Rattle.nc_locks.specs.Locks.{Wanted, met_in}
 use Rattle.script_parts.specs.Deeds.{overwrites}
-use Rattle.script_parts.specs.declared.parts.ItemRow.{ItemRow}
 use Rattle.script_parts.specs.declared.parts.SubOp.{SubOp}
-use Rattle.script_parts.specs.declared.parts.TreeKind.{TreeKind}
 use Rattle.script_parts.specs.declared.parts.TreeKind.TheVariants.{Strict}
-use Rattle.tx_trees.specs.ScriptData.{ScriptData, node_of, ops_of}
+use Rattle.tx_trees.specs.ScriptData.{ScriptData, ops_of}
 use Rattle.tx_trees.specs.Valid.{IsValid}
 use Rattle.world_model.specs.Asked.{asked_ops, asked_version}
 use Rattle.letter_types.specs.declared.bodies.Body.{Body}
 use Rattle.world_model.specs.Core.{Core}
 use Rattle.world_model.specs.Named.{is_strict_at, tree_kind_at}
 use Rattle.world_model.specs.Notices.{act_of}
-use Rattle.world_model.specs.Reads.{gets}
 use Rattle.world_model.specs.Runs.{IsStepRun, keeping_in, node_in}
 use Rattle.world_model.specs.Strict.{notice_by}
 use Rattle.world_model.specs.Votes.{cause_in, conflict_by, newer_at, newer_by, newer_in, short_in, voted, wanted_by}
-use Rattle.board_rules.specs.Histories.{Place, is_strict_tree, places_at, version_in, was_born}
+use Rattle.board_rules.specs.Histories.{Place, places_at, version_in}
 use Rattle.board_rules.specs.Stands.{conflict_of, newer_of, newest_of, version_or_zero, written_in}
 use Rattle.board_rules.proofs.ItemAt.{op_row}
 use Rattle.board_rules.proofs.Places.{version_stays}
@@ -54,18 +50,18 @@ use Rattle.tree_laws.proofs.AptDecisions.{dated_here}
 use Rattle.tree_laws.proofs.AptStagesOwn.{Doing}
 use Rattle.tree_laws.proofs.AptVersions.{before}
 use Rattle.tree_laws.proofs.AptWindows.{tables_ascend}
-use Rattle.tree_laws.proofs.Tables.{ItemIn, TableIn}
+use Rattle.tree_laws.proofs.Tables.{ItemIn}
 use Rattle.value_laws.proofs.HeldItems.{none_newer}
-use Rattle.value_laws.proofs.RowActs.{is_lasting, lasting}
+use Rattle.value_laws.proofs.RowActs.{lasting}
 use Rattle.value_laws.proofs.VoteLocks.{has_some}
 use Rattle.run_laws.proofs.EveryApt.{all_apt}
 use Rattle.run_laws.proofs.EveryWhole.{strict_is}
 use Rattle.rule_laws.proofs.Deeds.{conflict_front}
-use Rattle.rule_laws.proofs.Fronts.{act_of_place, first_places, front, placed}
+use Rattle.rule_laws.proofs.Fronts.{first_places, front, placed}
 use Rattle.rule_laws.proofs.InEntries.{in_second}
-use Rattle.rule_laws.proofs.Lasts.{AsksIn, OfRoot, OfSub, vote_there}
+use Rattle.rule_laws.proofs.Lasts.{AsksIn, OfRoot, OfSub, cause_there}
 use Rattle.rule_laws.proofs.QuietLocks.{first_quiet}
-use Rattle.rule_laws.proofs.Turns.{IsThere, born_before, is_there, not_voted, own_turn, turn_once}
+use Rattle.rule_laws.proofs.Turns.{born_before, is_there, not_voted, own_turn, turn_once}
 use Rattle.rule_laws.proofs.UpTo.{IsUpTo}
 use Rattle.rule_laws.proofs.Writes.{IsItem, asked_born, brief_most, writes_up}
 
@@ -177,8 +173,7 @@ front_version past e j t v born has =
 -- So each yes follows its rule.
 pub yes_by_rule : (s : ScriptData) (past : List Entry) (e : Entry) (j p : ℕ) (r : Letter) (t : TreeNo) (k : SubNo) (values : List (ItemNo × Value))
     → Doing s past e p r → AsksIn r.body t k → tree_kind_at s t.0 ≡ Some Strict → slice_get e.acts j ≡ Some (acts.Voted t k (Yes values))
-    → cause_in (keeping_in s past p).core.locks (keeping_in s past p).core.node.items t (asked_version (keeping_in s past p).core.node.turns.update r.body) (asked_ops s r.body) ≡ None
-    → lasting (take j e.acts) ≡ [] → IsFreeVote s (front past e j) e.actor.0 t.0 k.0
+    → cause_there s (keeping_in s past p).core t r.body ≡ None → lasting (take j e.acts) ≡ [] → IsFreeVote s (front past e j) e.actor.0 t.0 k.0
 yes_by_rule s past e j p r t k values g asks of at free none =
     let c : Core = (keeping_in s past p).core in
     let v : Version = asked_version c.node.turns.update r.body in
