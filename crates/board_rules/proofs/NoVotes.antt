@@ -22,6 +22,9 @@ IsNoVote (Voted t k vote) = ⊥
 IsNoVote Finished = Unit {0}
 IsNoVote _ = Unit {0}
 
+abbrev pub AreNoVotes : List Place → Type 0
+AreNoVotes xs = AllByRecursion (λ (y : Place). IsNoVote y.act) xs
+
 -- these operations mark their items
 abbrev pub AreMarking : List SubOp → Type 0
 AreMarking os = AllByRecursion (λ (o : SubOp). lock_mode_of o.deed ≡ Mark) os
@@ -69,7 +72,7 @@ place_marks modes more true old new = tt
 place_marks modes more false old new = more_marks modes more old new
 
 stand_from : (s : ScriptData) (p x k : ℕ) (xs : List Place) (modes : List Mode) → IsValid s
-    → AllByRecursion (λ (y : Place). IsNoVote y.act) xs → AreMarks modes → AreMarks (fold (modes_after s p x k) modes xs)
+    → AreNoVotes xs → AreMarks modes → AreMarks (fold (modes_after s p x k) modes xs)
 stand_from s p x k [] modes valid none old = old
 stand_from s p x k (y ∷ xs) modes valid none old =
     stand_from s p x k xs (modes_after s p x k modes y) valid none.1
@@ -85,7 +88,7 @@ both_false true b is = is
 both_false false b is = refl
 
 no_holder : (s : ScriptData) (xs : List Place) (p t x : ℕ) (mode : Mode) → IsValid s
-    → AllByRecursion (λ (y : Place). IsNoVote y.act) xs → mode ≡ Mark → holder_of s xs p t x mode ≡ None
+    → AreNoVotes xs → mode ≡ Mark → holder_of s xs p t x mode ≡ None
 no_holder s xs p t x mode valid none is =
     ap (holder_of s xs p t x) is
     ∙ least_of_none (λ (k : ℕ). not (k == t) && conflicts_with s xs p x Mark k) 0 (length s.trees) (λ k.
@@ -93,12 +96,12 @@ no_holder s xs p t x mode valid none is =
     (none_conflicts (modes_standing s xs p x k) (stand_from s p x k xs [] valid none tt)))
 
 no_conflict_in : (s : ScriptData) (xs : List Place) (p t : ℕ) (os : List SubOp) → IsValid s
-    → AllByRecursion (λ (y : Place). IsNoVote y.act) xs → AreMarking os → conflict_of s xs p t os ≡ None
+    → AreNoVotes xs → AreMarking os → conflict_of s xs p t os ≡ None
 no_conflict_in s xs p t [] valid none all = refl
 no_conflict_in s xs p t (o ∷ os) valid none all =
     ap (λ r. option_or (conflict_with o.item r) (conflict_of s xs p t os)) (no_holder s xs p t o.item.0 (lock_mode_of o.deed) valid none all.0)
     ∙ no_conflict_in s xs p t os valid none all.1
 
 pub none_in_way : (s : ScriptData) (xs : List Place) (p t k : ℕ) → IsValid s → updates s t ≡ true
-    → AllByRecursion (λ (y : Place). IsNoVote y.act) xs → conflict_of s xs p t (ops_of s t k) ≡ None
+    → AreNoVotes xs → conflict_of s xs p t (ops_of s t k) ≡ None
 none_in_way s xs p t k valid up none = no_conflict_in s xs p t (ops_of s t k) valid none (updates_mark s t k valid up)

@@ -1,4 +1,4 @@
--- What reads show, and which steps did at once what they were asked for.
+-- What reads show, and that steps do at once what they are asked for.
 use Rattle.std.specs.Prelude.{if◌then◌else◌, ℕ, Bool, true, false, not, ◌≡◌, ◌||◌, List, [], ◌∷◌, ◌++◌, filter, take, Option, Some, None, IsTrue, is_some, slice_get}
 use Rattle.std.specs.List.{list_any}
 use Rattle.tv_base.specs.declared.numbers.ItemNo.{ItemNo}
@@ -73,8 +73,8 @@ IsRight s h =
 abbrev pub commutes : ScriptData → ℕ → Bool
 commutes s t = updates s t || reads s t
 
--- what is in the way of subtransaction k of tree t at node p after these acts: of an update tree's the lock of a strict
--- tree, and of any other's nothing
+-- what is in the way of subtransaction k of tree t at node p after these acts: of an update tree's a strict tree's lock, as
+-- the look back names it; of any other's nothing
 abbrev pub in_way_of : ScriptData → List Place → ℕ → ℕ → ℕ → Option Cause
 in_way_of s xs p t k = if updates s t then conflict_of s xs p t (ops_of s t k) else None
 
@@ -93,22 +93,22 @@ parking_for t k None = []
 parking_for t k (Some (Conflict x holder)) = Parked t k x holder ∷ []
 parking_for t k (Some cause) = []
 
--- subtransaction k of tree t is served by the acts of an entry, after these acts: one of an update or read tree is done,
--- if nothing is in its way; if something is, it is parked for that; and nothing else is parked
-pub record IsServed (s : ScriptData) (xs : List Place) (p : ℕ) (t : TreeNo) (k : SubNo) (acts : List Act) : Type 0 where
+-- what the acts of an entry do for subtransaction k of tree t, where these acts came before: one of an update or read tree
+-- is done if nothing is in its way; if something is, it is parked for that; and nothing else is parked
+pub record IsDoneOrParked (s : ScriptData) (xs : List Place) (p : ℕ) (t : TreeNo) (k : SubNo) (acts : List Act) : Type 0 where
   pub done : IsTrue (commutes s t.0) → list_any (does t.0 k.0) acts ≡ not (is_some (in_way_of s xs p t.0 k.0))
   pub parked : parkings acts ≡ parking_for t k (in_way_of s xs p t.0 k.0)
 
--- a letter that asks for a subtransaction, or wakes it, is answered by that; any other parks nothing
+-- an entry that takes the letter of a subtransaction, or its Wake, does it or parks it; any other parks nothing
 abbrev pub IsDoneAtOnce : ScriptData → List Place → ℕ → Body → List Act → Type 0
-IsDoneAtOnce s xs p (Root t) acts = IsServed s xs p t (record { 0 = 0 }) acts
-IsDoneAtOnce s xs p (SubLetter t k v) acts = IsServed s xs p t k acts
-IsDoneAtOnce s xs p (Wake t k) acts = IsServed s xs p t k acts
+IsDoneAtOnce s xs p (Root t) acts = IsDoneOrParked s xs p t (record { 0 = 0 }) acts
+IsDoneAtOnce s xs p (SubLetter t k v) acts = IsDoneOrParked s xs p t k acts
+IsDoneAtOnce s xs p (Wake t k) acts = IsDoneOrParked s xs p t k acts
 IsDoneAtOnce s xs p Go acts = parkings acts ≡ []
 IsDoneAtOnce s xs p _ acts = parkings acts ≡ []
 
--- no subtransaction of a read tree had to wait, and one of an update tree just where a strict tree's lock was in its way:
--- each entry answered its letter at once
+-- each entry does at once what it is asked for: so no subtransaction of a read tree waits, and one of an update tree just
+-- where a strict tree's lock is in its way
 abbrev pub IsAtOnce : ScriptData → List Entry → Type 0
 IsAtOnce s h =
     (n : ℕ) (e : Entry) → slice_get h n ≡ Some e → IsDoneAtOnce s (places_of (take n h)) e.actor.0 e.took.body e.acts

@@ -1,9 +1,10 @@
 -- In every run of every valid script no read or commuting step waits but for a strict tree's lock: the entry that took a
 -- subtransaction's letter does it, or parks it where such a lock is in its way.
-use Rattle.std.proofs.Common.{◌≡◌, ℕ, ◌<◌, ◌≤◌, ◌==◌, ◌&&◌, ◌||◌, Bool, true, false, List, [], ◌∷◌, ◌++◌, reverse, refl, sym, ap, subst, ◌∙◌, arith, Some}
-use Rattle.std.specs.Prelude.{if◌then◌else◌, map}
-use Rattle.std.specs.List.{AllByRecursion}
-use Rattle.std.proofs.lemmas.Bool.{and_parts}
+use Rattle.std.proofs.Common.{◌≡◌, inl, inr, ℕ, ◌-◌, ◌<◌, ◌≤◌, ◌==◌, ◌&&◌, ◌||◌, Bool, true, false, List, [], ◌∷◌, ◌++◌, reverse, refl, sym, ap, subst, ◌∙◌, arith, Option, Some, None}
+use Rattle.std.specs.Prelude.{if◌then◌else◌, IsTrue, drop, is_some, length, map, not, slice_get, take}
+use Rattle.std.specs.List.{list_any}
+use Rattle.std.proofs.lemmas.Bool.{and_parts, cases_lt}
+use Rattle.std.proofs.lemmas.List.{length-reverse, take_all}
 use Rattle.std.proofs.lemmas.Bool.Decides.{nat_tests}
 use Rattle.tv_base.specs.declared.numbers.SubNo.{SubNo}
 use Rattle.tv_base.specs.declared.numbers.TreeNo.{TreeNo}
@@ -15,12 +16,13 @@ use Rattle.letter_types.specs.declared.bodies.Body.TheVariants.{Go, Root, Sub as
 use Rattle.letter_types.specs.declared.entries.Entry.{Entry}
 use Rattle.letter_types.specs.declared.entries.Letter.{Letter}
 use Rattle.letter_types.specs.declared.kept.KeptLetter.{KeptLetter}
+use Rattle.letter_types.specs.declared.votes.Cause.{Cause}
 use Rattle.script_parts.specs.Counts.{has_strict}
-use Rattle.tx_trees.specs.ScriptData.{ScriptData}
+use Rattle.tx_trees.specs.ScriptData.{ScriptData, ops_of, updates}
 use Rattle.tx_trees.specs.Valid.{IsValid}
 use Rattle.board_rules.specs.Histories.{Place, does, places_at, places_of}
-use Rattle.board_rules.specs.Right.{IsAtOnce, IsDoneAtOnce, IsServed, is_parking, parkings}
-use Rattle.board_rules.proofs.NoVotes.{IsNoVote}
+use Rattle.board_rules.specs.Right.{IsAtOnce, IsDoneAtOnce, IsDoneOrParked, commutes, in_way_of, is_parking, parkings}
+use Rattle.board_rules.proofs.NoVotes.{AreNoVotes, IsNoVote, none_in_way}
 use Rattle.world_model.specs.Counts.{one_if, tally}
 use Rattle.world_model.specs.Keeping.{AreKeptAt, AsksFor}
 use Rattle.world_model.specs.Kept.{kept_in}
@@ -31,40 +33,35 @@ use Rattle.world_model.proofs.KeptThere.{kept_in_past}
 use Rattle.world_model.proofs.Orders.{no_acts}
 use Rattle.world_model.proofs.Plain.{no_strict}
 use Rattle.strict_laws.specs.Meant.{IsLetterMeant, IsMeant}
+use Rattle.strict_laws.proofs.AtHome.{all_append}
 use Rattle.strict_laws.proofs.Meant.{letters_are_meant}
-use Rattle.strict_laws.proofs.Served.{Answers, AskedMeets, NoVotes, keeping_answers, meets_way, row_answers}
+use Rattle.strict_laws.proofs.Parkings.{none_parks}
+use Rattle.strict_laws.proofs.DoneOrParked.{Answers, AskedMeets, keeping_answers, meets_way, row_answers}
 use Rattle.phase_laws.proofs.Brought.{brought_meant, home_below, sub_node_below}
 use Rattle.phase_laws.proofs.Progress.{brings_to}
 use Rattle.tree_laws.proofs.AptRulings.{client_acts}
-use Rattle.tree_laws.proofs.Histories.{before_more, places_more}
+use Rattle.tree_laws.proofs.Counts.{one_here}
+use Rattle.tree_laws.proofs.Histories.{before_more, first_of, places_more, run_before}
 use Rattle.run_laws.proofs.EveryApt.{all_apt}
 use Rattle.run_laws.proofs.EveryDid.{is_vote_of, none_votes}
-use Rattle.strict_laws.proofs.Parkings.{none_parks}
 
 -- In a script without strict trees nothing votes.
-itself : (t k : ℕ) → one_if ((t == t) && (k == k)) ≡ 1
-itself t k = grind (arith, nat_tests)
-
 no_vote : (a : Act) → ((t k : ℕ) → is_vote_of t k a ≡ 0) → IsNoVote a
-no_vote (acts.Voted t k vote) none = absurd (omega (arith, none t.0 k.0, itself t.0 k.0))
+no_vote (acts.Voted t k vote) none = absurd (omega (arith, none t.0 k.0, one_here t.0 k.0))
 no_vote acts.Finished none = tt
 no_vote _ none = tt
 
 quiet_places : (node : ℕ) (xs : List Act) → ((t k : ℕ) → tally (is_vote_of t k) xs ≡ 0)
-    → AllByRecursion (λ (y : Place). IsNoVote y.act) (map (λ (a : Act). record { node = node; act = a }) xs)
+    → AreNoVotes (map (λ (a : Act). record { node = node; act = a }) xs)
 quiet_places node [] none = tt
 quiet_places node (a ∷ xs) none =
     (no_vote a (λ t k. omega (arith, none t k)), quiet_places node xs (λ t k. omega (arith, none t k)))
 
-all_append : (P : Place → Type 0) (xs ys : List Place) → AllByRecursion P xs → AllByRecursion P ys → AllByRecursion P (xs ++ ys)
-all_append P [] ys all rest = rest
-all_append P (x ∷ xs) ys all rest = (all.0, all_append P xs ys all.1 rest)
-
 no_votes : (s : ScriptData) (past : List Entry) → has_strict s ≡ false → IsValid s → IsStepRun s past
-    → NoVotes (places_of (reverse past))
+    → AreNoVotes (places_of (reverse past))
 no_votes s [] plain valid run = tt
 no_votes s (e ∷ past) plain valid run =
-    subst (AllByRecursion (λ (y : Place). IsNoVote y.act)) (sym (places_more e past))
+    subst AreNoVotes (sym (places_more e past))
     (all_append (λ (y : Place). IsNoVote y.act) (places_of (reverse past)) (places_at e) (no_votes s past plain valid run.1)
     (quiet_places e.actor.0 e.acts (λ t k.
     none_votes s past e t k (no_strict s t plain) (case s past e run.0 (all_apt s (e ∷ past) valid run).0))))
@@ -96,15 +93,15 @@ called_asks p t k (x ∷ xs) r all is = by (λ later. called_asks p t k xs r all
       (subst (λ (u : TreeNo). AsksFor u k x.letter.body) (λ i. record { 0 = tree i })
       (subst (λ (j : SubNo). AsksFor x.tree j x.letter.body) (λ i. record { 0 = sub i }) all.0.asks))
 
-asked_served : (s : ScriptData) (xs : List Place) (p : ℕ) (t : TreeNo) (k : SubNo) (body : Body) (did : List Act) → AsksFor t k body
-    → Answers s xs p body did → IsServed s xs p t k did
-asked_served s xs p t k (Root u) did asks answers =
+of_asked : (s : ScriptData) (xs : List Place) (p : ℕ) (t : TreeNo) (k : SubNo) (body : Body) (did : List Act) → AsksFor t k body
+    → Answers s xs p body did → IsDoneOrParked s xs p t k did
+of_asked s xs p t k (Root u) did asks answers =
     let first : 0 ≡ k.0 = sym asks.1 in
-    subst (λ (j : SubNo). IsServed s xs p t j did) (λ i. record { 0 = first i })
-    (subst (λ (w : TreeNo). IsServed s xs p w (record { 0 = 0 }) did) asks.0 answers)
-asked_served s xs p t k (SubLetter u j v) did asks answers =
-    subst (λ (i : SubNo). IsServed s xs p t i did) asks.1 (subst (λ (w : TreeNo). IsServed s xs p w j did) asks.0 answers)
-asked_served s xs p t k _ did asks answers = absurd asks
+    subst (λ (j : SubNo). IsDoneOrParked s xs p t j did) (λ i. record { 0 = first i })
+    (subst (λ (w : TreeNo). IsDoneOrParked s xs p w (record { 0 = 0 }) did) asks.0 answers)
+of_asked s xs p t k (SubLetter u j v) did asks answers =
+    subst (λ (i : SubNo). IsDoneOrParked s xs p t i did) asks.1 (subst (λ (w : TreeNo). IsDoneOrParked s xs p w j did) asks.0 answers)
+of_asked s xs p t k _ did asks answers = absurd asks
 
 -- So is the letter that came.
 by_letter : (s : ScriptData) (xs : List Place) (p : ℕ) (l r : Letter) (b : Body) (did : List Act) → l.body ≡ b → Some l ≡ Some r
@@ -116,7 +113,7 @@ by_letter s xs p l r b did is same answers =
 taken_at_once : (s : ScriptData) (xs : List Place) (p : ℕ) (kept : List KeptLetter) (l r : Letter) (b : Body) (did : List Act)
     → AreKeptAt p kept → l.body ≡ b → brought kept l b ≡ Some r → Answers s xs p r.body did → IsDoneAtOnce s xs p b did
 taken_at_once s xs p kept l r (Wake t k) did all is brings answers =
-    asked_served s xs p t k r.body did (called_asks p t k kept r all brings) answers
+    of_asked s xs p t k r.body did (called_asks p t k kept r all brings) answers
 taken_at_once s xs p kept l r (Root t) did all is brings answers = by_letter s xs p l r (Root t) did is brings answers
 taken_at_once s xs p kept l r (SubLetter t k v) did all is brings answers = by_letter s xs p l r (SubLetter t k v) did is brings answers
 taken_at_once s xs p kept l r Go did all is brings answers = by_letter s xs p l r Go did is brings answers
@@ -179,3 +176,37 @@ all_at_once s (e ∷ past) valid run =
     before_more (λ (h : List Entry) (x : Entry). IsDoneAtOnce s (places_of h) x.actor.0 x.took.body x.acts) e past
     (all_at_once s past valid run.1)
     (at_once s past e valid run (case s past e run.0 (all_apt s (e ∷ past) valid run).0))
+
+-- In a script without strict trees nothing is in the way of any subtransaction, at any time.
+way_by : (s : ScriptData) (xs : List Place) (p t k : ℕ) (b : Bool) → updates s t ≡ b → IsValid s → AreNoVotes xs
+    → in_way_of s xs p t k ≡ None
+way_by s xs p t k true up valid none = rw up (none_in_way s xs p t k valid up none)
+way_by s xs p t k false up valid none = rw up refl
+
+after_part : (s : ScriptData) (past : List Entry) (n : ℕ) → n ≤ length past → has_strict s ≡ false → IsValid s → IsStepRun s past
+    → AreNoVotes (places_of (take n (reverse past)))
+after_part s past n le plain valid run =
+    subst (λ (h : List Entry). AreNoVotes (places_of h)) (sym (first_of past n le))
+    (no_votes s (drop (length past - n) past) plain valid (run_before s past (length past - n) run))
+
+after_all : (s : ScriptData) (past : List Entry) (n : ℕ) → length past ≤ n → has_strict s ≡ false → IsValid s → IsStepRun s past
+    → AreNoVotes (places_of (take n (reverse past)))
+after_all s past n le plain valid run =
+    subst (λ (h : List Entry). AreNoVotes (places_of h)) (sym (take_all n (reverse past) (omega (arith, le, length-reverse past))))
+    (no_votes s past plain valid run)
+
+pub nothing_in_way : (s : ScriptData) (past : List Entry) (n p t k : ℕ) → IsValid s → has_strict s ≡ false → IsStepRun s past
+    → in_way_of s (places_of (take n (reverse past))) p t k ≡ None
+nothing_in_way s past n p t k valid plain run =
+    way_by s (places_of (take n (reverse past))) p t k (updates s t) refl valid
+    (elim (cases_lt (length past) n) [
+      | inl more ↦ after_all s past n (omega (arith, more)) plain valid run
+      | inr le ↦ after_part s past n le plain valid run
+    ])
+
+-- so the entry that took its letter has its Did
+pub done_at_once : (s : ScriptData) (past : List Entry) (n p : ℕ) (t : TreeNo) (k : SubNo) (did : List Act) → IsValid s
+    → has_strict s ≡ false → IsStepRun s past → IsDoneOrParked s (places_of (take n (reverse past))) p t k did → IsTrue (commutes s t.0)
+    → list_any (does t.0 k.0) did ≡ true
+done_at_once s past n p t k did valid plain run its commuting =
+    its.done commuting ∙ ap (λ (o : Option Cause). not (is_some o)) (nothing_in_way s past n p t.0 k.0 valid plain run)

@@ -20,6 +20,6 @@ pub use shown::{
 pub use stalls::{entries_are_counted, entries_are_few, no_run_stalls, nothing_is_kept_at_the_end};
 pub use trees::{
     decisions_are_applied_once, decisions_follow_votes, letters_carry_versions, no_step_waits,
-    trees_are_decided_once, trees_go_by_stages, turns_come_once,
+    nothing_is_in_the_way, trees_are_decided_once, trees_go_by_stages, turns_come_once,
 };
 pub use waiting::letters_stay_kept_for_a_reason;

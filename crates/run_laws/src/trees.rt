@@ -1,9 +1,10 @@
 // Trees, of every kind, in every run of every valid script.
-ghost use Rattle.std.specs.Prelude.{ℕ, Bool, true, false, ◌<◌, ◌≤◌, ◌+◌, ◌≡◌, List, length, reverse, Some};
+ghost use Rattle.std.specs.Prelude.{ℕ, Bool, true, false, ◌<◌, ◌≤◌, ◌+◌, ◌≡◌, List, length, reverse, take, Some, None};
 ghost use Rattle.board_rules.specs.Histories.{places_of};
-ghost use Rattle.board_rules.specs.Right.{IsAtOnce};
+ghost use Rattle.board_rules.specs.Right.{IsAtOnce, in_way_of};
 ghost use Rattle.letter_types.specs.declared.entries.Entry.{Entry};
 ghost use Rattle.letter_types.specs.declared.entries.Letter.{Letter};
+ghost use Rattle.script_parts.specs.Counts.{has_strict};
 ghost use Rattle.tree_laws.specs.Applied.{applied_at, decided_as, decisions_to, noes};
 ghost use Rattle.tree_laws.specs.Carried.{CarriesVersion};
 ghost use Rattle.tree_laws.specs.Dids.{letters_asking};
@@ -64,4 +65,11 @@ pub fn decisions_follow_votes()
 /// before names a lock in its way. Then it parks it for that lock's tree. Nothing else is parked.
 pub fn no_step_waits()
     ensures { (s : ScriptData) (past : List Entry) → IsValid s → IsStepRun s past → IsAtOnce s (reverse past) }
+{}
+
+/// In every run of a script without strict trees nothing is ever in the way of a subtransaction: so there each entry that
+/// takes the letter of a subtransaction does it.
+pub fn nothing_is_in_the_way()
+    ensures { (s : ScriptData) (past : List Entry) (n p t k : ℕ) → IsValid s → has_strict s ≡ false → IsStepRun s past
+        → in_way_of s (places_of (take n (reverse past))) p t k ≡ None }
 {}

@@ -189,7 +189,8 @@ places_here : (s : ScriptData) (p : ℕ) (does : List Act) → Here s p does
 places_here s p [] here = tt
 places_here s p (a ∷ does) here = (here.0, places_here s p does here.1)
 
-all_append : {X : Type 0} (P : X → Type 0) (xs ys : List X) → AllByRecursion P xs → AllByRecursion P ys → AllByRecursion P (xs ++ ys)
+-- What holds of each of two lists.
+pub all_append : {X : Type 0} (P : X → Type 0) (xs ys : List X) → AllByRecursion P xs → AllByRecursion P ys → AllByRecursion P (xs ++ ys)
 all_append P [] ys a b = b
 all_append P (x ∷ xs) ys a b = (a.0, all_append P xs ys a.1 b)
 

@@ -13,4 +13,4 @@ pub mod NoWakes
 pub mod Waking
 pub mod Holding
 pub mod Parkings
-pub mod Served
+pub mod DoneOrParked

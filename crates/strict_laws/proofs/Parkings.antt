@@ -2,7 +2,7 @@
 use Rattle.std.proofs.Common.{◌≡◌, ℕ, ◌==◌, ◌&&◌, ◌||◌, Bool, true, false, List, [], ◌∷◌, ◌++◌, refl, ap, ◌∙◌, arith, Option, Some, None}
 use Rattle.std.specs.Prelude.{nat_lt, slice_get}
 use Rattle.std.specs.List.{list_any}
-use Rattle.std.proofs.lemmas.Bool.Decides.{nat_tests}
+use Rattle.tv_base.proofs.Truths.{same_test}
 use Rattle.std.proofs.lemmas.List.Elements.{filter-append}
 use Rattle.tv_base.specs.declared.numbers.SubNo.{SubNo}
 use Rattle.tv_base.specs.declared.numbers.TreeNo.{TreeNo}
@@ -70,9 +70,7 @@ turned_does t k true v more = refl
 turned_does t k false v more = refl
 
 pub done_here : (t : TreeNo) (k : SubNo) (values : Gets) → list_any (does t.0 k.0) (acts.Did t k values ∷ []) ≡ true
-done_here t k values = rw (itself t.0 k.0) refl where
-  itself : (n m : ℕ) → ((n == n) && (m == m)) ≡ true
-  itself n m = grind (arith, nat_tests)
+done_here t k values = rw (same_test t.0, same_test k.0) refl
 
 -- No row parks.
 act_parks : (t : TreeNo) (k : SubNo) (n : Notice) → parkings (act_of t k n ∷ []) ≡ []
