@@ -1,7 +1,7 @@
 -- In every run of every valid script no read or commuting step waits but for a strict tree's lock: the entry that took a
 -- subtransaction's letter does it, or parks it where such a lock is in its way.
-use Rattle.std.proofs.Common.{◌≡◌, inl, inr, ℕ, ◌-◌, ◌<◌, ◌≤◌, ◌==◌, ◌&&◌, ◌||◌, Bool, true, false, List, [], ◌∷◌, ◌++◌, reverse, refl, sym, ap, subst, ◌∙◌, arith, Option, Some, None}
-use Rattle.std.specs.Prelude.{if◌then◌else◌, IsTrue, drop, is_some, length, map, not, slice_get, take}
+use Rattle.std.proofs.Common.{◌≡◌, inl, inr, ℕ, ◌-◌, ◌<◌, ◌≤◌, ◌==◌, ◌&&◌, Bool, true, false, List, [], ◌∷◌, reverse, refl, sym, ap, subst, ◌∙◌, arith, Option, Some, None}
+use Rattle.std.specs.Prelude.{if◌then◌else◌, IsTrue, drop, is_some, length, map, not, take}
 use Rattle.std.specs.List.{list_any}
 use Rattle.std.proofs.lemmas.Bool.{and_parts, cases_lt}
 use Rattle.std.proofs.lemmas.List.{length-reverse, take_all}
@@ -18,7 +18,7 @@ use Rattle.letter_types.specs.declared.entries.Letter.{Letter}
 use Rattle.letter_types.specs.declared.kept.KeptLetter.{KeptLetter}
 use Rattle.letter_types.specs.declared.votes.Cause.{Cause}
 use Rattle.script_parts.specs.Counts.{has_strict}
-use Rattle.tx_trees.specs.ScriptData.{ScriptData, ops_of, updates}
+use Rattle.tx_trees.specs.ScriptData.{ScriptData, updates}
 use Rattle.tx_trees.specs.Valid.{IsValid}
 use Rattle.board_rules.specs.Histories.{Place, does, places_at, places_of}
 use Rattle.board_rules.specs.Right.{IsAtOnce, IsDoneAtOnce, IsDoneOrParked, commutes, in_way_of, is_parking, parkings}
