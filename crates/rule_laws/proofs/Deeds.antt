@@ -19,8 +19,8 @@ use Rattle.script_parts.specs.Counts.{has_strict}
 use Rattle.script_parts.specs.declared.parts.SubOp.{SubOp}
 use Rattle.script_parts.specs.declared.parts.TreeKind.{TreeKind}
 use Rattle.script_parts.specs.declared.parts.TreeKind.TheVariants.{Update}
-use Rattle.tx_trees.specs.ScriptData.{ScriptData, ops_of, updates}
-use Rattle.tx_trees.specs.Valid.{IsValid}
+use Rattle.script_parts.specs.ScriptData.{ScriptData, ops_of, updates}
+use Rattle.script_parts.specs.Valid.{IsValid}
 use Rattle.world_model.specs.Core.{Core}
 use Rattle.world_model.specs.Counts.{tally}
 use Rattle.world_model.specs.Named.{is_strict_at, tree_kind_at}

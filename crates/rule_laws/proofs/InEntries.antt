@@ -5,7 +5,7 @@ use Rattle.std.proofs.lemmas.Bool.{cases_lt}
 use Rattle.std.proofs.lemmas.List.{take-append-le}
 use Rattle.tv_base.proofs.ByPlace.{slice_get-old}
 use Rattle.letter_types.specs.declared.entries.Entry.{Entry}
-use Rattle.tx_trees.specs.ScriptData.{ScriptData}
+use Rattle.script_parts.specs.ScriptData.{ScriptData}
 use Rattle.world_model.specs.Runs.{IsStepRun}
 use Rattle.board_rules.specs.Histories.{Place, places_at}
 use Rattle.tree_laws.proofs.AptVersions.{before}

@@ -17,8 +17,8 @@ use Rattle.letter_types.specs.declared.votes.Cause.{Cause}
 use Rattle.letter_types.specs.declared.votes.Vote.{Vote}
 use Rattle.script_parts.specs.declared.parts.TreeKind.{TreeKind}
 use Rattle.script_parts.specs.declared.parts.TreeKind.TheVariants.{Update, Read, Strict}
-use Rattle.tx_trees.specs.ScriptData.{ScriptData}
-use Rattle.tx_trees.specs.Valid.{IsValid}
+use Rattle.script_parts.specs.ScriptData.{ScriptData}
+use Rattle.script_parts.specs.Valid.{IsValid}
 use Rattle.world_model.specs.Asked.{asked_ops, asked_version}
 use Rattle.world_model.specs.Core.{Core}
 use Rattle.world_model.specs.Counts.{one_if, tally}

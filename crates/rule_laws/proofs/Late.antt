@@ -8,11 +8,11 @@ use Rattle.tv_base.specs.declared.numbers.Version.{Version}
 use Rattle.letter_types.specs.declared.acts.Act.{Act}
 use Rattle.letter_types.specs.declared.acts.Act.TheVariants.{Born, Finished}
 use Rattle.letter_types.specs.declared.entries.Entry.{Entry}
-use Rattle.tx_trees.specs.ScriptData.{ScriptData, is_read, is_strict, is_update, reads, updates}
-use Rattle.tx_trees.specs.Valid.{IsValid}
-use Rattle.tx_trees.specs.declared.parts.Tree.{Tree}
-use Rattle.tx_trees.specs.declared.parts.TreeKind.{TreeKind}
-use Rattle.tx_trees.specs.declared.parts.TreeKind.TheVariants.{Update, Read, Strict}
+use Rattle.script_parts.specs.ScriptData.{ScriptData, is_read, is_strict, is_update, reads, updates}
+use Rattle.script_parts.specs.Valid.{IsValid}
+use Rattle.script_parts.specs.declared.parts.Tree.{Tree}
+use Rattle.script_parts.specs.declared.parts.TreeKind.{TreeKind}
+use Rattle.script_parts.specs.declared.parts.TreeKind.TheVariants.{Update, Read, Strict}
 use Rattle.board_rules.specs.Histories.{Place, born_as, is_strict_tree, is_whole_in, places_at, version_in}
 use Rattle.board_rules.proofs.Rules.{AreBornLate, is_writer}
 use Rattle.board_rules.proofs.Wholes.{strict_there, updates_there, whole_more}

@@ -14,8 +14,8 @@ use Rattle.nc_locks.specs.declared.modes.Mode.{Mode}
 use Rattle.nc_locks.specs.declared.modes.Mode.TheVariants.{Mark}
 use Rattle.nc_locks.specs.Modes.{modes_conflict}
 use Rattle.script_parts.specs.declared.parts.SubOp.{SubOp}
-use Rattle.tx_trees.specs.ScriptData.{ScriptData, ops_of, updates}
-use Rattle.tx_trees.specs.Valid.{IsValid}
+use Rattle.script_parts.specs.ScriptData.{ScriptData, ops_of, updates}
+use Rattle.script_parts.specs.Valid.{IsValid}
 use Rattle.board_rules.specs.Histories.{Place}
 use Rattle.board_rules.specs.Stands.{conflict_of, conflict_with, conflicts_with, holder_of, least_from, lock_mode_of, locked_by, modes_after, modes_on, modes_standing, releases}
 use Rattle.board_rules.proofs.Holders.{least_of_none}

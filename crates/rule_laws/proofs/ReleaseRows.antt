@@ -20,7 +20,7 @@ use Rattle.script_parts.specs.declared.parts.Sub.{Sub}
 use Rattle.script_parts.specs.declared.parts.TreeKind.{TreeKind}
 use Rattle.script_parts.specs.declared.parts.TreeKind.TheVariants.{Update, Read, Strict}
 use Rattle.script_parts.specs.ScriptData.{visited, visited_by}
-use Rattle.tx_trees.specs.ScriptData.{ScriptData, client_of, home_of, subs_at, visits}
+use Rattle.script_parts.specs.ScriptData.{ScriptData, client_of, home_of, subs_at, visits}
 use Rattle.world_model.specs.Asked.{asked_ops, asked_version, tree_part}
 use Rattle.world_model.specs.Children.{done_letter, sub_letters}
 use Rattle.world_model.specs.Core.{Core}

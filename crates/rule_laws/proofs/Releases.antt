@@ -15,8 +15,8 @@ use Rattle.letter_types.specs.declared.entries.Entry.{Entry}
 use Rattle.letter_types.specs.declared.entries.Letter.{Letter}
 use Rattle.letter_types.specs.declared.entries.Outgoing.{Outgoing}
 use Rattle.letter_types.specs.Steps.{Out}
-use Rattle.tx_trees.specs.ScriptData.{ScriptData, client_of, subs_at, updates, visits}
-use Rattle.tx_trees.specs.Valid.{IsValid}
+use Rattle.script_parts.specs.ScriptData.{ScriptData, client_of, subs_at, updates, visits}
+use Rattle.script_parts.specs.Valid.{IsValid}
 use Rattle.board_rules.specs.Histories.{Place, all_applied, all_done, born_as, is_complete, is_strict_tree, is_whole_in, places_at, version_in, was_born}
 use Rattle.board_rules.specs.Moves.{IsFreeing}
 use Rattle.board_rules.specs.Stands.{frees}

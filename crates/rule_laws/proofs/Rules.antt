@@ -1,6 +1,6 @@
 -- In every run of every valid script the order of acts is what the laws of strict trees need: each act follows its rule, and
 -- strict trees are born late.
-use Rattle.std.proofs.Common.{◌≡◌, ℕ, Bool, true, false, List, [], ◌∷◌, ◌++◌, take, refl, sym, ap, ◌∙◌, subst, Option, Some, None}
+use Rattle.std.proofs.Common.{◌≡◌, ℕ, Bool, true, false, List, [], ◌∷◌, take, refl, sym, ap, ◌∙◌, subst, Option, Some, None}
 use Rattle.std.specs.Prelude.{slice_get}
 use Rattle.tv_base.specs.declared.numbers.ItemNo.{ItemNo}
 use Rattle.tv_base.specs.declared.numbers.SubNo.{SubNo}
@@ -12,8 +12,8 @@ use Rattle.letter_types.specs.declared.entries.Entry.{Entry}
 use Rattle.letter_types.specs.declared.entries.Letter.{Letter}
 use Rattle.letter_types.specs.declared.votes.Cause.{Cause}
 use Rattle.script_parts.specs.declared.parts.TreeKind.TheVariants.{Update, Read, Strict}
-use Rattle.tx_trees.specs.ScriptData.{ScriptData, updates}
-use Rattle.tx_trees.specs.Valid.{IsValid}
+use Rattle.script_parts.specs.ScriptData.{ScriptData, updates}
+use Rattle.script_parts.specs.Valid.{IsValid}
 use Rattle.world_model.specs.Asked.{asked_ops, asked_version}
 use Rattle.world_model.specs.Core.{Core}
 use Rattle.world_model.specs.Named.{tree_kind_at}

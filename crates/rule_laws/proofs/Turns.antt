@@ -15,8 +15,8 @@ use Rattle.letter_types.specs.declared.votes.Vote.{Vote}
 use Rattle.tree_home.specs.declared.homes.Answered.{Answered}
 use Rattle.script_parts.specs.declared.parts.TreeKind.{TreeKind}
 use Rattle.script_parts.specs.declared.parts.TreeKind.TheVariants.{Update, Read, Strict}
-use Rattle.tx_trees.specs.ScriptData.{ScriptData, node_of, subs_at}
-use Rattle.tx_trees.specs.Valid.{IsValid}
+use Rattle.script_parts.specs.ScriptData.{ScriptData, node_of, subs_at}
+use Rattle.script_parts.specs.Valid.{IsValid}
 use Rattle.world_model.specs.Asked.{asked_ops, tree_part}
 use Rattle.world_model.specs.Core.{Core}
 use Rattle.world_model.specs.Counts.{one_if, tally}

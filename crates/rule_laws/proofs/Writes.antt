@@ -23,8 +23,8 @@ use Rattle.script_parts.specs.declared.parts.Sub.{Sub}
 use Rattle.script_parts.specs.declared.parts.SubOp.{SubOp}
 use Rattle.script_parts.specs.declared.parts.TreeKind.{TreeKind}
 use Rattle.script_parts.specs.declared.parts.TreeKind.TheVariants.{Update, Read}
-use Rattle.tx_trees.specs.ScriptData.{ScriptData, node_of, ops_of, sub_at, subs_at, updates}
-use Rattle.tx_trees.specs.Valid.{IsValid}
+use Rattle.script_parts.specs.ScriptData.{ScriptData, node_of, ops_of, sub_at, subs_at, updates}
+use Rattle.script_parts.specs.Valid.{IsValid}
 use Rattle.nc_locks.specs.declared.modes.Mode.TheVariants.{Mark}
 use Rattle.nc_locks.specs.Modes.{modes_conflict}
 use Rattle.world_model.specs.Asked.{asked_version}

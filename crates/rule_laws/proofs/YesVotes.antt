@@ -26,8 +26,8 @@ use Rattle.nc_locks.specs.Locks.{Wanted, met_in}
 use Rattle.script_parts.specs.Deeds.{overwrites}
 use Rattle.script_parts.specs.declared.parts.SubOp.{SubOp}
 use Rattle.script_parts.specs.declared.parts.TreeKind.TheVariants.{Strict}
-use Rattle.tx_trees.specs.ScriptData.{ScriptData, ops_of}
-use Rattle.tx_trees.specs.Valid.{IsValid}
+use Rattle.script_parts.specs.ScriptData.{ScriptData, ops_of}
+use Rattle.script_parts.specs.Valid.{IsValid}
 use Rattle.world_model.specs.Asked.{asked_ops, asked_version}
 use Rattle.letter_types.specs.declared.bodies.Body.{Body}
 use Rattle.world_model.specs.Core.{Core}

@@ -3,8 +3,8 @@ ghost use Rattle.std.specs.Prelude.{List, reverse};
 ghost use Rattle.board_rules.specs.Rules.{AreBornLate, AreByRule};
 ghost use Rattle.board_rules.specs.Histories.{places_of};
 ghost use Rattle.letter_types.specs.declared.entries.Entry.{Entry};
-ghost use Rattle.tx_trees.specs.ScriptData.{ScriptData};
-ghost use Rattle.tx_trees.specs.Valid.{IsValid};
+ghost use Rattle.script_parts.specs.ScriptData.{ScriptData};
+ghost use Rattle.script_parts.specs.Valid.{IsValid};
 ghost use Rattle.world_model.specs.Runs.{IsStepRun};
 
 /// In every run each act follows its rule, after the acts before it: each Did and each yes is of a born tree's
