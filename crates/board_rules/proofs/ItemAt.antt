@@ -101,7 +101,7 @@ op_fits_kind : (kind : TreeKind) (node : ℕ) (o : SubOp) (found : Option ItemRo
 op_fits_kind kind node o None fits = absurd fits
 op_fits_kind kind node o (Some row) fits = (row.kind, fits.1)
 
-marks_it : (s : ScriptData) (t k i : ℕ) (o : SubOp) → IsValid s → updates s t ≡ true → slice_get (ops_of s t k) i ≡ Some o
+pub marks_it : (s : ScriptData) (t k i : ℕ) (o : SubOp) → IsValid s → updates s t ≡ true → slice_get (ops_of s t k) i ≡ Some o
     → lock_mode_of o.deed ≡ Mark
 marks_it s t k i o valid up is =
     let h = op_here s t k i o valid is in

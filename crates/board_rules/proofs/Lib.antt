@@ -32,3 +32,4 @@ pub mod Gets
 pub mod Frozen
 pub mod Shown
 pub mod Sees
+pub mod NoVotes

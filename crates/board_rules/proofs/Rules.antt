@@ -1,5 +1,4 @@
--- What the order of acts needs of a finished list of acts: each follows its rule. It says less than that each is a move
--- of the Board: nothing of values, of who is asked for, and of no votes.
+-- What a finished list of acts gives the order of acts: each follows its rule.
 use Rattle.std.proofs.Common.{◌≡◌, ℕ, ◌<◌, Bool, true, false, IsTrue, List, length, subst, Some, None, take}
 use Rattle.std.specs.Prelude.{◌||◌, slice_get}
 use Rattle.tv_base.specs.declared.numbers.Version.{Version}
@@ -13,58 +12,10 @@ use Rattle.board_rules.specs.Moves.{IsApplying, IsDecision, IsFreeing, decides_a
 use Rattle.nc_locks.specs.Modes.{modes_conflict}
 use Rattle.nc_locks.specs.declared.modes.Mode.TheVariants.{Mark}
 use Rattle.board_rules.specs.Stands.{conflict_of, frees, lock_mode_of, newer_of, version_or_zero, votes_yes, was_voted}
+pub use Rattle.board_rules.specs.Rules.{AreBornLate, AreByRule, FollowsRules, IsByRule, IsFreeDeed, IsFreeVote, is_writer}
 use Rattle.board_rules.specs.Worth.{ops_change}
 use Rattle.board_rules.proofs.ActTests.{applies_as, applies_as_is, decides_as_is, does_is, frees_is, votes_yes_is}
 use Rattle.board_rules.proofs.Positions.{ActAt}
-
--- a Did is of a born tree's subtransaction at its node, once; that of an update tree meets no lock that conflicts
-pub record IsFreeDeed (s : ScriptData) (xs : List Place) (p t k : ℕ) : Type 0 where
-  pub born : IsTrue (was_born xs t)
-  pub there : k < length (subs_at s t)
-  pub once : was_done t k xs ≡ false
-  pub node : node_of s t k ≡ p
-  pub free : IsTrue (updates s t) → conflict_of s xs p t (ops_of s t k) ≡ None
-
--- a yes vote is of a born strict tree's subtransaction at its node, once; it meets no lock that conflicts, and what it
--- writes is written in no newer version
-pub record IsFreeVote (s : ScriptData) (xs : List Place) (p t k : ℕ) : Type 0 where
-  pub strict : IsTrue (is_strict_tree s t)
-  pub born : IsTrue (was_born xs t)
-  pub there : k < length (subs_at s t)
-  pub once : was_voted t k xs ≡ false
-  pub node : node_of s t k ≡ p
-  pub free : conflict_of s xs p t (ops_of s t k) ≡ None
-  pub newest : newer_of s xs p (version_or_zero (version_in t xs)) (ops_of s t k) ≡ None
-
--- the act follows its rule at node p, after the acts xs
-abbrev pub IsByRule : ScriptData → List Place → ℕ → Act → Type 0
-IsByRule s xs p (Did t k values) = IsFreeDeed s xs p t.0 k.0
-IsByRule s xs p (Voted t k (Yes values)) = IsFreeVote s xs p t.0 k.0
-IsByRule s xs p (Voted t k (No cause)) = Unit {0}
-IsByRule s xs p (Freed t) = IsFreeing s xs p t.0
-IsByRule s xs p (Decided t commit) = IsDecision s xs p t.0 commit
-IsByRule s xs p (Applied t commit) = IsApplying s xs p t.0 commit
-IsByRule s xs p Finished = Unit {0}
-IsByRule s xs p _ = Unit {0}
-
--- each act of the list follows its rule, after those before it
-abbrev pub AreByRule : ScriptData → List Place → Type 0
-AreByRule s zs = (i : ℕ) (y : Place) → slice_get zs i ≡ Some y → IsByRule s (take i zs) y.node y.act
-
--- tree t writes: it is an update or a strict tree
-abbrev pub is_writer : ScriptData → ℕ → Bool
-is_writer s t = updates s t || is_strict_tree s t
-
--- where a strict tree is born, each writer of a smaller version, whenever it is born, is whole
-abbrev pub AreBornLate : ScriptData → List Place → Type 0
-AreBornLate s zs =
-    (i k t : ℕ) (y : Place) (v w : Version) → slice_get zs i ≡ Some y → born_as k y.act ≡ Some v → is_strict_tree s k ≡ true
-    → is_writer s t ≡ true → version_in t zs ≡ Some w → w.0 < v.0 → is_whole_in s (take i zs) t ≡ true
-
--- what the order of acts needs
-pub record FollowsRules (s : ScriptData) (zs : List Place) : Type 0 where
-  pub acts : AreByRule s zs
-  pub births : AreBornLate s zs
 
 -- What the rule of an act at its position says.
 pub deed : (s : ScriptData) (zs : List Place) (i p t k : ℕ) → AreByRule s zs → ActAt (does t k) zs i p → IsFreeDeed s (take i zs) p t k

@@ -5,4 +5,5 @@ pub mod Right
 pub mod Moves
 pub mod Gates
 pub mod Stands
+pub mod Rules
 pub mod Locked

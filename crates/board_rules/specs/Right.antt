@@ -1,22 +1,27 @@
 -- What reads show, and which steps did at once what they were asked for.
-use Rattle.std.specs.Prelude.{ℕ, Bool, true, false, ◌≡◌, ◌||◌, List, [], ◌∷◌, ◌++◌, filter, Option, Some, None, IsTrue, slice_get}
+use Rattle.std.specs.Prelude.{if◌then◌else◌, ℕ, Bool, true, false, not, ◌≡◌, ◌||◌, List, [], ◌∷◌, ◌++◌, filter, take, Option, Some, None, IsTrue, is_some, slice_get}
 use Rattle.std.specs.List.{list_any}
 use Rattle.tv_base.specs.declared.numbers.ItemNo.{ItemNo}
+use Rattle.tv_base.specs.declared.numbers.SubNo.{SubNo}
+use Rattle.tv_base.specs.declared.numbers.TreeNo.{TreeNo}
 use Rattle.tv_base.specs.declared.numbers.Version.{Version}
 use Rattle.commute_ops.specs.declared.value.Value.{Value}
 use Rattle.letter_types.specs.declared.acts.Act.{Act}
-use Rattle.letter_types.specs.declared.acts.Act.TheVariants.{Born, Did, Voted, Finished}
+use Rattle.letter_types.specs.declared.acts.Act.TheVariants.{Born, Did, Voted, Parked, Finished}
 use Rattle.letter_types.specs.declared.bodies.Body.{Body}
-use Rattle.letter_types.specs.declared.bodies.Body.TheVariants.{Go, Root, Sub as SubLetter}
+use Rattle.letter_types.specs.declared.bodies.Body.TheVariants.{Go, Root, Sub as SubLetter, Wake}
 use Rattle.letter_types.specs.declared.entries.Entry.{Entry}
+use Rattle.letter_types.specs.declared.votes.Cause.{Cause}
+use Rattle.letter_types.specs.declared.votes.Cause.TheVariants.{Conflict}
 use Rattle.letter_types.specs.declared.votes.Vote.{Vote}
 use Rattle.letter_types.specs.declared.votes.Vote.TheVariants.{Yes, No}
 use Rattle.script_parts.specs.ScriptData.{ScriptData, ops_of, reads, updates}
 use Rattle.script_parts.specs.declared.parts.Deed.{Deed}
 use Rattle.script_parts.specs.declared.parts.Deed.TheVariants.{Apply, Get}
 use Rattle.script_parts.specs.declared.parts.SubOp.{SubOp}
-use Rattle.board_rules.specs.Histories.{Place, is_strict_tree, places_at, places_of, version_in, was_done}
+use Rattle.board_rules.specs.Histories.{Place, does, is_strict_tree, places_of, version_in}
 use Rattle.board_rules.specs.Moves.{AtEachAct}
+use Rattle.board_rules.specs.Stands.{conflict_of}
 use Rattle.board_rules.specs.Worth.{worth, worth_in}
 
 -- the items of these operations with these values, in order
@@ -68,16 +73,45 @@ IsRight s h =
 abbrev pub commutes : ScriptData → ℕ → Bool
 commutes s t = updates s t || reads s t
 
--- a letter that asks for a subtransaction of an update or read tree is answered by doing it
-abbrev pub IsDoneAtOnce : ScriptData → Body → List Place → Type 0
-IsDoneAtOnce s (Root t) xs = IsTrue (commutes s t.0) → IsTrue (was_done t.0 0 xs)
-IsDoneAtOnce s (SubLetter t k v) xs = IsTrue (commutes s t.0) → IsTrue (was_done t.0 k.0 xs)
-IsDoneAtOnce s Go xs = Unit {0}
-IsDoneAtOnce s _ xs = Unit {0}
+-- what is in the way of subtransaction k of tree t at node p after these acts: of an update tree's the lock of a strict
+-- tree, and of any other's nothing
+abbrev pub in_way_of : ScriptData → List Place → ℕ → ℕ → ℕ → Option Cause
+in_way_of s xs p t k = if updates s t then conflict_of s xs p t (ops_of s t k) else None
 
--- no subtransaction of an update or read tree had to wait: the entry that took its letter did it
+-- the acts of an entry that park
+abbrev pub is_parking : Act → Bool
+is_parking (Parked t k x holder) = true
+is_parking Finished = false
+is_parking _ = false
+
+abbrev pub parkings : List Act → List Act
+parkings acts = filter is_parking acts
+
+-- the one for what is in the way
+abbrev pub parking_for : TreeNo → SubNo → Option Cause → List Act
+parking_for t k None = []
+parking_for t k (Some (Conflict x holder)) = Parked t k x holder ∷ []
+parking_for t k (Some cause) = []
+
+-- subtransaction k of tree t is served by the acts of an entry, after these acts: one of an update or read tree is done,
+-- if nothing is in its way; if something is, it is parked for that; and nothing else is parked
+pub record IsServed (s : ScriptData) (xs : List Place) (p : ℕ) (t : TreeNo) (k : SubNo) (acts : List Act) : Type 0 where
+  pub done : IsTrue (commutes s t.0) → list_any (does t.0 k.0) acts ≡ not (is_some (in_way_of s xs p t.0 k.0))
+  pub parked : parkings acts ≡ parking_for t k (in_way_of s xs p t.0 k.0)
+
+-- a letter that asks for a subtransaction, or wakes it, is answered by that; any other parks nothing
+abbrev pub IsDoneAtOnce : ScriptData → List Place → ℕ → Body → List Act → Type 0
+IsDoneAtOnce s xs p (Root t) acts = IsServed s xs p t (record { 0 = 0 }) acts
+IsDoneAtOnce s xs p (SubLetter t k v) acts = IsServed s xs p t k acts
+IsDoneAtOnce s xs p (Wake t k) acts = IsServed s xs p t k acts
+IsDoneAtOnce s xs p Go acts = parkings acts ≡ []
+IsDoneAtOnce s xs p _ acts = parkings acts ≡ []
+
+-- no subtransaction of a read tree had to wait, and one of an update tree just where a strict tree's lock was in its way:
+-- each entry answered its letter at once
 abbrev pub IsAtOnce : ScriptData → List Entry → Type 0
-IsAtOnce s h = (n : ℕ) (e : Entry) → slice_get h n ≡ Some e → IsDoneAtOnce s e.took.body (places_at e)
+IsAtOnce s h =
+    (n : ℕ) (e : Entry) → slice_get h n ≡ Some e → IsDoneAtOnce s (places_of (take n h)) e.actor.0 e.took.body e.acts
 
 -- the act is the client's end
 abbrev pub finishes : Act → Bool

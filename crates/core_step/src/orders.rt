@@ -6,7 +6,7 @@ ghost use Rattle.core_step.specs.Plans.{IsPlanOf};
 ghost use Rattle.core_step.specs.inside.Apt.{is_own};
 ghost use Rattle.core_step.specs.inside.Stays.{of_parts, still_step};
 
-use crate::plan::CorePlan;
+use crate::plan::{CorePlan, does};
 use letter_types::Letter;
 use node_step::{prepare_asked, prepare_done, prepare_show, prepare_sweep, prepare_turn};
 use std::alloc::Global;
@@ -39,15 +39,16 @@ pub(crate) fn plan_other(
     core: &NodeCore,
     letter: &Letter,
     script: &Script,
-) -> CorePlan
+) -> Result<CorePlan, NoMemory>
     requires ready { IsCoreReady script.now letter.now.to.0 core.now }
     requires other { is_own letter.now.body ≡ false }
-    ensures { IsPlanOf script.now letter.now core.now result }
+    ensures { IfOk result (IsPlanOf script.now letter.now core.now) }
 {
     let _ = core;
     let _ = letter;
     let _ = script;
-    CorePlan::Does(still_step(alloc))
+    let plan = does(alloc, still_step(alloc))?;
+    Ok(plan)
 }
 
 /// A turn.
@@ -66,7 +67,8 @@ pub(crate) fn plan_turn(
         return Ok(CorePlan::Still);
     }
     let prepared = prepare_turn(alloc, &core.parts, script, version)?;
-    Ok(CorePlan::Does(of_parts(prepared)))
+    let plan = does(alloc, of_parts(prepared))?;
+    Ok(plan)
 }
 
 /// A version is shown to reads.
@@ -85,7 +87,8 @@ pub(crate) fn plan_show(
         return Ok(CorePlan::Still);
     }
     let prepared = prepare_show(alloc, &core.parts, script, version)?;
-    Ok(CorePlan::Does(of_parts(prepared)))
+    let plan = does(alloc, of_parts(prepared))?;
+    Ok(plan)
 }
 
 /// A sweep.
@@ -104,7 +107,8 @@ pub(crate) fn plan_sweep(
         return Ok(CorePlan::Still);
     }
     let prepared = prepare_sweep(alloc, &core.parts, script, version)?;
-    Ok(CorePlan::Does(of_parts(prepared)))
+    let plan = does(alloc, of_parts(prepared))?;
+    Ok(plan)
 }
 
 /// A node tells its completions of a version.
@@ -122,7 +126,8 @@ pub(crate) fn plan_done_row(
 {
     let _ = letter;
     let prepared = prepare_done(alloc, &core.parts, script, version, round)?;
-    Ok(CorePlan::Does(of_parts(prepared)))
+    let plan = does(alloc, of_parts(prepared))?;
+    Ok(plan)
 }
 
 /// A node tells its requests of a version.
@@ -140,5 +145,6 @@ pub(crate) fn plan_asked_row(
 {
     let _ = letter;
     let prepared = prepare_asked(alloc, &core.parts, script, version, round)?;
-    Ok(CorePlan::Does(of_parts(prepared)))
+    let plan = does(alloc, of_parts(prepared))?;
+    Ok(plan)
 }

@@ -12,6 +12,7 @@ ghost use Rattle.tree_step.specs.Due.{is_due};
 ghost use Rattle.tree_step.specs.Node.{data_of};
 ghost use Rattle.strict_step.specs.State.{IsCoreReady, core_of};
 ghost use Rattle.core_step.specs.Plans.{IsPlanBy, IsPlanOf};
+ghost use Rattle.core_step.specs.declared.plan.CorePlan.TheVariants.{Does};
 ghost use Rattle.core_step.specs.inside.Apt.{asks_a_sub, makes_by, tree_apt};
 
 use crate::due::{acked_apt, decide_apt, decides_near, is_free, release_apt, wake_apt};
@@ -19,7 +20,7 @@ use crate::meeting::{CoreKept, meets, parked, root_waiting, waits_for_show};
 use crate::orders::{
     plan_asked_row, plan_done_row, plan_other, plan_show, plan_sweep, plan_turn, still_step,
 };
-use letter_types::{Body, Letter, Notice};
+use letter_types::{Body, Boxed, Letter, Notice};
 use nc_commit::Decision;
 use nc_locks::Met;
 use std::alloc::Global;
@@ -40,7 +41,14 @@ pub enum CorePlan {
     /// It is kept: it can't be done yet.
     Keeps(CoreKept),
     /// Its row is done.
-    Does(CorePrepared),
+    Does(Boxed<CorePrepared>),
+}
+
+/// The plan to do a row that is prepared. It is behind a pointer, so that it is small while it is handed on.
+pub(crate) fn does(alloc: Global, prepared: CorePrepared) -> Result<CorePlan, NoMemory>
+    ensures { IfOk result (λ plan. plan ≡ Does prepared) }
+{
+    Ok(CorePlan::Does(Boxed::new(alloc, prepared)?))
 }
 
 /// Whether the operations of a subtransaction of an update tree may be made.
@@ -108,7 +116,8 @@ fn plan_update(
     let Some(prepared) = prepare_update_tree(alloc, core, letter, script, tree)? else {
         return Ok(CorePlan::Still);
     };
-    Ok(CorePlan::Does(prepared))
+    let plan = does(alloc, prepared)?;
+    Ok(plan)
 }
 
 /// A subtransaction of a read tree.
@@ -132,7 +141,8 @@ fn plan_read(
     let Some(prepared) = prepare_read_tree(alloc, core, letter, script)? else {
         return Ok(CorePlan::Still);
     };
-    Ok(CorePlan::Does(prepared))
+    let plan = does(alloc, prepared)?;
+    Ok(plan)
 }
 
 /// A subtransaction of a strict tree: it votes, unless it is a root that has to wait.
@@ -157,7 +167,8 @@ fn plan_strict(
         return Ok(CorePlan::Keeps(kept));
     }
     let prepared = prepare_vote(alloc, core, letter, script, tree)?;
-    Ok(CorePlan::Does(prepared))
+    let plan = does(alloc, prepared)?;
+    Ok(plan)
 }
 
 /// A subtransaction of a tree of this kind.
@@ -237,7 +248,8 @@ fn plan_note(
         return Ok(CorePlan::Still);
     }
     let prepared = prepare_note(alloc, core, script, request, notice)?;
-    Ok(CorePlan::Does(prepared))
+    let plan = does(alloc, prepared)?;
+    Ok(plan)
 }
 
 /// A decision on a strict tree.
@@ -260,7 +272,8 @@ fn plan_decide(
     let node = NodeNo(letter.to.0);
     let from = NodeNo(letter.from.0);
     let prepared = prepare_decide(alloc, core, script, node, from, decision)?;
-    Ok(CorePlan::Does(prepared))
+    let plan = does(alloc, prepared)?;
+    Ok(plan)
 }
 
 /// An acknowledgement at a strict tree's home.
@@ -283,7 +296,8 @@ fn plan_acked(
     }
     let from = NodeNo(letter.from.0);
     let prepared = prepare_acked(alloc, core, script, from, tree, version)?;
-    Ok(CorePlan::Does(prepared))
+    let plan = does(alloc, prepared)?;
+    Ok(plan)
 }
 
 /// Marks of an update tree that go.
@@ -304,7 +318,8 @@ fn plan_release(
         return Ok(CorePlan::Still);
     }
     let prepared = prepare_release(alloc, core, tree)?;
-    Ok(CorePlan::Does(prepared))
+    let plan = does(alloc, prepared)?;
+    Ok(plan)
 }
 
 /// A Wake, for which a core does nothing.
@@ -315,17 +330,18 @@ fn plan_wake(
     script: &Script,
     tree: TreeNo,
     sub: SubNo,
-) -> CorePlan
+) -> Result<CorePlan, NoMemory>
     // What the caller knows.
     requires ready { IsCoreReady script.now letter.now.to.0 core.now }
     requires body { letter.now.body ≡ Wake tree sub }
     // What is planned.
-    ensures { IsPlanOf script.now letter.now core.now result }
+    ensures { IfOk result (IsPlanOf script.now letter.now core.now) }
 {
     if !wake_apt(script, letter.to, tree, sub) {
-        return CorePlan::Still;
+        return Ok(CorePlan::Still);
     }
-    CorePlan::Does(still_step(alloc))
+    let plan = does(alloc, still_step(alloc))?;
+    Ok(plan)
 }
 
 /// What a core does with a letter: nothing where it isn't apt; else it keeps the letter where it has to, and does its row
@@ -370,7 +386,7 @@ pub fn plan_core(
         }
         Body::Decided { tree, version } => plan_acked(alloc, core, letter, script, *tree, *version),
         Body::Release { tree } => plan_release(alloc, core, letter, script, *tree),
-        Body::Wake { tree, sub } => Ok(plan_wake(alloc, core, letter, script, *tree, *sub)),
+        Body::Wake { tree, sub } => plan_wake(alloc, core, letter, script, *tree, *sub),
         Body::Turn { version } => plan_turn(alloc, core, letter, script, *version),
         Body::Show { version } => plan_show(alloc, core, letter, script, *version),
         Body::Sweep { version } => plan_sweep(alloc, core, letter, script, *version),
@@ -380,6 +396,6 @@ pub fn plan_core(
         Body::AskAsked { version, round } => {
             plan_asked_row(alloc, core, letter, script, *version, *round)
         }
-        _ => Ok(plan_other(alloc, core, letter, script)),
+        _ => plan_other(alloc, core, letter, script),
     }
 }

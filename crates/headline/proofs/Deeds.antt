@@ -26,7 +26,7 @@ use Rattle.tree_laws.proofs.Counts.{not_done, one_here, was_asked}
 use Rattle.tree_laws.proofs.Good.{IsGood}
 use Rattle.tree_laws.proofs.Whole.{births_in, did_marks, dids_in, none_strict, was_done_of}
 use Rattle.tree_laws.proofs.Versions.{AreVersioned, born_here, not_both, taken_version, unborn}
-use Rattle.run_laws.proofs.Wholes.{root_turn}
+use Rattle.run_laws.proofs.Wholes.{root_turn, update_writes}
 use Rattle.headline.proofs.Raised.{Stand}
 
 -- Births.
@@ -46,7 +46,7 @@ birth_is s past e t v effect c good stand is at lt work =
     subst (λ (q : ℕ). IsBirth s (places_of (reverse past)) q t.0 v.0) (sym at) (record {
       unborn = unborn t.0 (places_of (reverse past)) (omega (arith, births_in past t.0, good.born t.0, none));
       home = (lt, refl);
-      update = λ up. root_turn s t.0 t.0 st v effect c refl work false up ∙ sym numbers.update;
+      update = λ up. root_turn s t.0 t.0 st v effect c refl work false (update_writes s t.0 up) ∙ sym numbers.update;
       read = λ read. root_turn s t.0 t.0 st v effect c refl work true read ∙ sym numbers.read;
       strict = λ strict. absurd (let not : is_strict_tree s t.0 ≡ false = none_strict s t.0 stand.sound in cc (not, strict));
     })

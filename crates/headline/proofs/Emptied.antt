@@ -22,7 +22,7 @@ pub ended_past : (s : ScriptData) (past : List Entry) → IsValid s → IsRunnab
 ended_past s past valid runnable run left =
     let sound : IsSound s = record { valid = valid; runnable = runnable } in
     record {
-      headline = headline_past s past sound run (no_run_stalls s past sound run left).1;
+      headline = headline_past s past sound run (no_run_stalls s past valid run left).1;
       left = ap (in_flight s) (reverse-reverse past) ∙ left;
       entries = length-reverse past ∙ entries_counted s past sound run left;
       rounds = omega (

@@ -1,7 +1,6 @@
 -- Every run by the tables whose client has finished has the headline: the laws put together.
 use Rattle.std.proofs.Common.{List, reverse, subst, sym}
 use Rattle.std.proofs.lemmas.List.{reverse-reverse}
-use Rattle.tree_laws.proofs.Waits.{no_wait}
 use Rattle.board_rules.specs.Right.{HasFinished}
 use Rattle.headline.proofs.Fitting.{fits_run}
 use Rattle.headline.specs.Headline.{HasHeadline}
@@ -9,6 +8,7 @@ use Rattle.headline.proofs.Few.{held_three}
 use Rattle.headline.proofs.Settled.{settled}
 use Rattle.letter_types.specs.declared.entries.Entry.{Entry}
 use Rattle.headline.proofs.BoardRuns.{board_run}
+use Rattle.run_laws.proofs.AtOnce.{all_at_once}
 use Rattle.run_laws.proofs.InTime.{in_time}
 use Rattle.run_laws.proofs.Taken.{taken_run}
 use Rattle.headline.proofs.Staying.{reads_right, stay_right, updates_first}
@@ -29,7 +29,7 @@ headline_past s past sound run finished =
     let timely = in_time s past sound run in
     record {
       run = world_run s past run;
-      apt = taken_run s past sound run;
+      apt = taken_run s past sound.valid run;
       finished = finished;
       whole = λ t lt. whole s past t sound.valid sound.runnable run timely finished lt;
       settled = settled s past sound run finished;
@@ -39,7 +39,7 @@ headline_past s past sound run finished =
       board = board_run s past sound run timely;
       fits = fits_run s past sound run timely;
       three = held_three s past sound run;
-      at_once = no_wait s past sound.valid sound.runnable run timely;
+      at_once = all_at_once s past sound.valid run;
       undone = nothing_undone s past sound.valid sound.runnable run;
     }
 

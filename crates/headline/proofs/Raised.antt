@@ -1,6 +1,6 @@
 -- A node raises its numbers one by one, each where the phase allows it.
 use Rattle.std.proofs.Common.{◌≡◌, ℕ, ◌+◌, ◌<◌, ◌≤◌, ◌||◌, Bool, true, false, List, reverse, refl, sym, ap, subst, ◌∙◌, arith}
-use Rattle.std.specs.Prelude.{nat_lt}
+use Rattle.std.specs.Prelude.{nat_lt, slice_get}
 use Rattle.std.proofs.lemmas.Bool.Decides.{nat_tests}
 use Rattle.tv_base.proofs.Truths.{same_test}
 use Rattle.tv_base.specs.declared.numbers.Version.{Version}
@@ -26,10 +26,10 @@ use Rattle.world_model.proofs.Nexts.{DoesBody}
 use Rattle.run_laws.proofs.InTime.{all_apt, lawful}
 use Rattle.tree_laws.proofs.Whole.{none_strict}
 use Rattle.phase_laws.specs.Phases.{Stage, TurnStage, ShowStage, SweepStage, most_update}
-use Rattle.phase_laws.proofs.LevelAt.{Level, LevelAt, LevelBody, Levels, tell, tells, update_level}
+use Rattle.phase_laws.proofs.LevelAt.{Level, LevelAt, LevelBody, Levels, tell, tells, unread, update_level}
 use Rattle.phase_laws.proofs.Tokens.{phase_for}
 use Rattle.run_laws.specs.Shown.{IsBackedBy}
-use Rattle.run_laws.proofs.Closed.{shown_is_backed}
+use Rattle.run_laws.proofs.Closed.{shown_is_backed, update_there}
 use Rattle.tree_laws.proofs.Numbers.{AreNumbers}
 
 -- a node's versions at a level of a known phase
@@ -129,7 +129,7 @@ backed_by : (s : ScriptData) (past : List Entry) (e : Entry) (b : Body) → Stan
 backed_by s past e b stand is =
     subst (λ (x : Body). IsBackedBy s (reverse past) x) is
     (each_taken (λ (l : Letter). IsBackedBy s (reverse past) l.body) s past e stand.follows
-    (shown_is_backed s past stand.sound stand.run stand.timely))
+    (shown_is_backed s past stand.sound.valid stand.run))
 
 pub shows_next : (s : ScriptData) (past : List Entry) (e : Entry) (p : ℕ) (v : Version) → Stand s past e → e.actor.0 ≡ p → p < s.nodes
     → e.took.body ≡ Show v → IsShowing s (places_of (reverse past)) e.actor.0 v.0
@@ -146,7 +146,10 @@ shows_next s past e p v stand at lt is =
       below = λ q there.
           let level : LevelIn Showing s past q = level_in Showing s past q showing (stand.levels.node q there) in
           omega (arith, version, level.update_from, (stand.numbers q there).update);
-      whole = λ t w of born le. whole t w (kind_of (updates s t) (is_strict_tree s t) (none_strict s t stand.sound) of) born le;
+      whole = λ t w of born le.
+          let up = kind_of (updates s t) (is_strict_tree s t) (none_strict s t stand.sound) of in
+          let found = slice_get s.trees t in
+          whole t w (update_there s t found refl up) (unread s t found refl up) born le;
     })
 
 -- A version that is swept to.

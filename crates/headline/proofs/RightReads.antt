@@ -39,7 +39,6 @@ use Rattle.world_model.specs.Notices.{values_of}
 use Rattle.world_model.proofs.Worked.{root_did, sub_did, took_body}
 use Rattle.world_model.specs.Kept.{done_by}
 use Rattle.tree_laws.proofs.Goods.{good_run, next_of}
-use Rattle.tree_laws.proofs.Nudges.{lawful as tree_lawful}
 use Rattle.run_laws.proofs.InTime.{all_apt, lawful}
 use Rattle.tree_laws.proofs.Steps.{timely_at}
 use Rattle.phase_laws.proofs.Levels.{versions_in_phase}
@@ -105,8 +104,8 @@ root_reads s past e t v effect c sound run timely next lt version (RootReads rea
     let st = node_in s past p in
     let os = ops_of s t 0 in
     let same : v.0 ≡ st.turns.read.0 = ap (λ (w : Version). w.0) turn in
-    let early : v.0 < now_below false s past = omega (arith, same, read_below s past p sound run.1 timely.1 lt) in
-    let now : v.0 < now_below false s (e ∷ past) = omega (arith, early, rises false s past e (tree_lawful s sound) run.1 timely.1 next) in
+    let early : v.0 < now_below false s past = omega (arith, same, read_below s past p sound.valid run.1 lt) in
+    let now : v.0 < now_below false s (e ∷ past) = omega (arith, early, rises false s past e sound.valid run) in
     let low = (versions_in_phase s past (lawful s sound) run.1 (all_apt s past sound run.1) p lt).low_read in
     let out = (root_done s p t v.0 effect st).state in
     let sees : Sees s (e ∷ past) p out =
@@ -118,7 +117,7 @@ root_reads s past e t v effect c sound run timely next lt version (RootReads rea
       version = version;
       early = early;
       right = ap (λ (x : Effect). values_of x.notice) made ∙ ap (gets v os) items
-          ∙ gets_right s (e ∷ past) t 0 v out c sound run lt read sees (omega (arith, low, same)) (whole_to s (e ∷ past) v.0 sound run timely now) may;
+          ∙ gets_right s (e ∷ past) t 0 v out c sound run lt read sees (omega (arith, low, same)) (whole_to s (e ∷ past) v.0 sound.valid run now) may;
     }
 
 sub_reads : (s : ScriptData) (past : List Entry) (e : Entry) (t k from : ℕ) (v : Version) (raises : Bool) (effect : Effect)
@@ -134,8 +133,8 @@ sub_reads s past e t k from v raises effect c sound run timely next lt old versi
     let p = node_of s t k in
     let st = node_in s past p in
     let os = ops_of s t k in
-    let early : v.0 < now_below false s past = born_below s past t v sound run.1 timely.1 read old in
-    let now : v.0 < now_below false s (e ∷ past) = omega (arith, early, rises false s past e (tree_lawful s sound) run.1 timely.1 next) in
+    let early : v.0 < now_below false s past = born_below s past t v sound.valid run.1 read old in
+    let now : v.0 < now_below false s (e ∷ past) = omega (arith, early, rises false s past e sound.valid run) in
     let out = (sub_done s from t k v.0 false effect st).state in
     let state : node_in s (e ∷ past) p ≡ out =
     made_so.state ∙ ap (λ (b : Bool). (sub_done s from t k v.0 b effect st).state) turn in
@@ -148,7 +147,7 @@ sub_reads s past e t k from v raises effect c sound run timely next lt old versi
       version = version;
       early = early;
       right = ap (λ (x : Effect). values_of x.notice) made ∙ ap (gets v os) items
-          ∙ gets_right s (e ∷ past) t k v out c sound run lt read sees low (whole_to s (e ∷ past) v.0 sound run timely now) may;
+          ∙ gets_right s (e ∷ past) t k v out c sound run lt read sees low (whole_to s (e ∷ past) v.0 sound.valid run now) may;
     }
 
 -- The acts of an entry.

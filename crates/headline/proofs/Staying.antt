@@ -27,11 +27,10 @@ use Rattle.world_model.specs.Counts.{one_if}
 use Rattle.world_model.specs.Runs.{IsStepRun}
 use Rattle.world_model.specs.Tables.{IsRunnable}
 use Rattle.world_model.proofs.Scripts.{IsSound}
-use Rattle.tree_laws.proofs.Nudges.{lawful as tree_lawful}
 use Rattle.run_laws.proofs.InTime.{in_time}
 use Rattle.tree_laws.proofs.Whole.{none_strict}
 use Rattle.run_laws.specs.Shown.{NoUpdateCame}
-use Rattle.run_laws.proofs.Closed.{rises, rises_on, run_before, timely_before}
+use Rattle.run_laws.proofs.Closed.{rises, rises_on, run_before}
 use Rattle.run_laws.proofs.Reached.{now_below}
 use Rattle.headline.specs.Reads.{AreWholeBefore, ComesAfterUpdates, ReadsStayRight, Shows, UpdatesComeFirst}
 use Rattle.headline.proofs.Before.{stands, version_kept}
@@ -87,12 +86,10 @@ each_act s past P sound run step = λ n e here.
 came_before : (s : ScriptData) (past later : List Entry) (e : Entry) (v : ℕ) → IsSound s → IsStepRun s (later ++ e ∷ past)
     → v < now_below false s past → NoUpdateCame s (reverse past) (reverse (later ++ e ∷ past)) v
 came_before s past later e v sound run early = λ t w up born le.
-    let timely = in_time s (later ++ e ∷ past) sound run in
     let more = run_before s (e ∷ past) later run in
-    let on_time = timely_before s (e ∷ past) later timely in
-    let rise = rises false s past e (tree_lawful s sound) more.1 on_time.1 ((tree_lawful s sound).next past e more on_time) in
+    let rise = rises false s past e sound.valid more in
     let now : v < now_below false s (e ∷ past) = omega (arith, early, rise) in
-    none_comes s past (e ∷ []) v sound more on_time early t w up (none_comes s (e ∷ past) later v sound run timely now t w up born le) le
+    none_comes s past (e ∷ []) v sound.valid more early t w up (none_comes s (e ∷ past) later v sound.valid run now t w up born le) le
 
 first_act : (s : ScriptData) (past later : List Entry) (e : Entry) (ys front : List Place) (a : Act) → IsSound s → IsStepRun s (later ++ e ∷ past)
     → ys ≡ places_of (reverse past) ++ front → ReadsAt s past e a → ComesAfterUpdates s (reverse (later ++ e ∷ past)) ys a
@@ -104,7 +101,7 @@ first_act s past later e ys front (Did t k values) sound run at reads_at = λ re
     subst (λ (o : Option Version). AreWholeBefore s h ys o) (sym version) (λ u w up born le.
     ap (λ (xs : List Place). is_whole_in s xs u) at
     ∙ whole_more s (places_of (reverse past)) front u
-    (whole_to s past r.v.0 sound before (in_time s past sound before) r.early u w up
+    (whole_to s past r.v.0 sound.valid before r.early u w up
     (came_before s past later e r.v.0 sound run r.early u w up born le) le))
 first_act s past later e ys front Finished sound run at reads_at = tt
 first_act s past later e ys front _ sound run at reads_at = tt
@@ -147,14 +144,13 @@ updates_same s h more v t stays none false is = refl
 trees_same : (s : ScriptData) (past later : List Entry) (v t : ℕ) → IsSound s → IsStepRun s (later ++ past) → v < now_below false s past
     → is_in t (serial_to s (reverse past) v) ≡ is_in t (serial_to s (reverse (later ++ past)) v)
 trees_same s past later v t sound run early =
-    let timely = in_time s (later ++ past) sound run in
     let h = reverse past in
     let more = reverse (later ++ past) in
     let before = run_before s past later run in
-    let rise = rises_on false s past later (tree_lawful s sound) run timely in
-    stands_exactly s h v t sound (whole_to s past v sound before (in_time s past sound before) early)
-    ∙ updates_same s h more v t (λ w born. version_kept past later t w born) (none_comes s past later v sound run timely early) (updates s t) refl
-    ∙ sym (stands_exactly s more v t sound (whole_to s (later ++ past) v sound run timely (omega (arith, early, rise))))
+    let rise = rises_on false s past later sound.valid run in
+    stands_exactly s h v t sound (whole_to s past v sound.valid before early)
+    ∙ updates_same s h more v t (λ w born. version_kept past later t w born) (none_comes s past later v sound.valid run early) (updates s t) refl
+    ∙ sym (stands_exactly s more v t sound (whole_to s (later ++ past) v sound.valid run (omega (arith, early, rise))))
 
 -- what an item is worth at a version that was shown stays
 pub worth_stays : (s : ScriptData) (past later : List Entry) (x v : ℕ) → IsSound s → IsStepRun s (later ++ past) → v < now_below false s past
@@ -180,8 +176,7 @@ stays_act s past later e (Did t k values) sound run reads_at = λ read.
     let os = ops_of s t.0 k.0 in
     let version : version_of h t.0 ≡ Some r.v = version_kept (e ∷ past) later t.0 r.v r.version in
     let more = run_before s (e ∷ past) later run in
-    let on_time = in_time s (e ∷ past) sound more in
-    let rise = rises false s past e (tree_lawful s sound) more.1 on_time.1 ((tree_lawful s sound).next past e more on_time) in
+    let rise = rises false s past e sound.valid more in
     let now : r.v.0 < now_below false s (e ∷ past) = omega (arith, r.early, rise) in
     subst (λ (o : Option Version). IsShown (worth s h) os values o) (sym version)
     (r.right

@@ -109,7 +109,7 @@ same_row s past e sound run lt waits to =
     } in
     let more : IsStepRun s (now ∷ past) = (follows, run) in
     same_by s p st e.took (brought st.kept e.took e.took.body) (sees_run s past sound run (in_time s past sound run) p lt).from
-    (apt_here s past now sound more lt)
+    (apt_here s past now sound.valid more lt)
 
 same_at : (s : ScriptData) (past : List Entry) (e : Entry) (p : ℕ) → IsSound s → IsStepRun s past → MayFollow s past e → p < s.nodes
     → (e.actor.0 == p) ≡ true → wide_keeping_row s p (keeping_in s past p) e.took ≡ keeping_row s p (keeping_in s past p) e.took

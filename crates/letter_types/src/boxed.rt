@@ -6,7 +6,7 @@ use std::marker::Model;
 use tv_base::NoMemory;
 
 /// A value behind a pointer, which contracts see as the value. An enum of which one variant is large and rare holds that
-/// one so, and has no room for it in each of its values.
+/// one so, and has no room for it in each of its values; and a large value that goes through many hands is small so.
 #[derive(Drop)]
 pub struct Boxed<T> {
     inner: Box<T>,
@@ -32,6 +32,15 @@ impl<T: Drop> Boxed<T> {
         ensures { result.now ≡ self.now }
     {
         &self.inner
+    }
+}
+
+impl<T> Boxed<T> {
+    /// The value, by value.
+    pub fn into_inner(self) -> T
+        ensures { result ≡ self }
+    {
+        Box::into_inner(self.inner)
     }
 }
 

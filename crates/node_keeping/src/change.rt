@@ -2,7 +2,7 @@
 ghost use Rattle.std.specs.Prelude.{◌≡◌};
 ghost use Rattle.node_keeping.specs.Changes.{keeping_out_of};
 
-use letter_types::{Body, KeptLetter, StepOut, Why};
+use letter_types::{Body, Boxed, KeptLetter, StepOut, Why};
 use strict_step::CorePrepared;
 use tv_base::{SubNo, TreeNo, Version};
 
@@ -23,7 +23,7 @@ pub enum KeptChange {
     /// The called letter of this subtransaction goes.
     LetGo { tree: TreeNo, sub: SubNo },
     /// What a letter of this body wakes is called from now on.
-    Call(Body),
+    Call(Boxed<Body>),
 }
 
 /// A step that is prepared: what becomes of the core and of the kept letters, and what goes out.
@@ -33,13 +33,13 @@ pub enum KeepingPrepared {
     Still(StepOut),
     /// A letter is kept, and the update version is raised to this one, if there is one.
     Keeps {
-        keep: Keep,
+        keep: Boxed<Keep>,
         raises: Option<Version>,
         out: StepOut,
     },
     /// The core does its step, which has what goes out.
     Does {
-        prepared: CorePrepared,
+        prepared: Boxed<CorePrepared>,
         change: KeptChange,
     },
 }
@@ -52,7 +52,7 @@ impl KeepingPrepared {
         match self {
             KeepingPrepared::Still(out) => out,
             KeepingPrepared::Keeps { out, .. } => out,
-            KeepingPrepared::Does { prepared, .. } => &prepared.prepared.out,
+            KeepingPrepared::Does { prepared, .. } => &prepared.get().prepared.out,
         }
     }
 }

@@ -8,7 +8,7 @@ ghost use Rattle.node_keeping.specs.declared.change.KeepingPrepared.TheVariants.
 use crate::change::{Keep, KeepingPrepared, KeptChange};
 use crate::state::KeepingParts;
 use kept_letters::KeptLetters;
-use letter_types::StepOut;
+use letter_types::{Boxed, StepOut};
 use node_versions::Turns;
 use strict_step::{CorePrepared, core_done};
 use tv_base::{NoMemory, Version};
@@ -59,20 +59,20 @@ fn change_kept(kept: &mut KeptLetters, change: KeptChange)
     match change {
         KeptChange::Stay => {}
         KeptChange::LetGo { tree, sub } => kept.let_called_go(tree, sub),
-        KeptChange::Call(body) => kept.call(&body),
+        KeptChange::Call(body) => kept.call(body.get()),
     }
 }
 
 /// The core does its step, and then the kept letters change. Where no memory is found the node is as it was.
 fn row_done(
     node: &mut KeepingParts,
-    prepared: CorePrepared,
+    prepared: Boxed<CorePrepared>,
     change: KeptChange,
 ) -> Result<StepOut, NoMemory>
     requires { MayDoCore prepared node.old.core }
     ensures { IsKeepingDone (Does prepared change) node.old node.new result }
 {
-    let out = core_done(&mut node.core, prepared)?;
+    let out = core_done(&mut node.core, prepared.into_inner())?;
     change_kept(&mut node.kept, change);
     Ok(out)
 }
@@ -84,7 +84,9 @@ pub fn keeping_done(node: &mut KeepingParts, prepared: KeepingPrepared) -> Resul
 {
     match prepared {
         KeepingPrepared::Still(out) => Ok(out),
-        KeepingPrepared::Keeps { keep, raises, out } => keep_done(node, keep, raises, out),
+        KeepingPrepared::Keeps { keep, raises, out } => {
+            keep_done(node, keep.into_inner(), raises, out)
+        }
         KeepingPrepared::Does { prepared, change } => row_done(node, prepared, change),
     }
 }

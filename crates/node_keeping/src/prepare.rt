@@ -12,7 +12,7 @@ ghost use Rattle.node_keeping.specs.inside.Bringing.{IsBroughtBy, done_out, keep
 use crate::change::{Keep, KeepingPrepared, KeptChange};
 use crate::state::KeepingParts;
 use core_step::{CoreKept, CorePlan, plan_core};
-use letter_types::{Body, KeptLetter, Letter, Letters, StepOut, Why};
+use letter_types::{Body, Boxed, KeptLetter, Letter, Letters, StepOut, Why};
 use std::alloc::Global;
 use strict_step::CorePrepared;
 use tree_step::Prepared;
@@ -39,21 +39,19 @@ fn keep_by(
     tree: TreeNo,
     sub: SubNo,
     why: Why,
-) -> Result<Keep, NoMemory>
+) -> Result<Boxed<Keep>, NoMemory>
     ensures { IfOk result (λ keep. keep ≡ keep_by letter.now tree sub why letter.now.body) }
 {
-    match &letter.body {
-        Body::Wake { .. } => Ok(Keep::Again { tree, sub, why }),
-        _ => {
-            let letter = copy_letter(alloc, letter)?;
-            Ok(Keep::New(KeptLetter {
-                letter,
-                tree,
-                sub,
-                why,
-            }))
-        }
-    }
+    let keep = match &letter.body {
+        Body::Wake { .. } => Keep::Again { tree, sub, why },
+        _ => Keep::New(KeptLetter {
+            letter: copy_letter(alloc, letter)?,
+            tree,
+            sub,
+            why,
+        }),
+    };
+    Ok(Boxed::new(alloc, keep)?)
 }
 
 /// Prepares that what a letter brought is kept.
@@ -101,14 +99,18 @@ fn push_all(sent: &mut Letters, more: Letters) -> Result<(), NoMemory>
 }
 
 /// The same step, which sends these letters behind its own.
-fn send_behind(prepared: CorePrepared, more: Letters) -> Result<CorePrepared, NoMemory>
+fn send_behind(
+    alloc: Global,
+    prepared: Boxed<CorePrepared>,
+    more: Letters,
+) -> Result<Boxed<CorePrepared>, NoMemory>
     ensures { IfOk result (λ new. new ≡ sent_behind more prepared) }
 {
     let CorePrepared {
         prepared: Prepared { change, out },
         votes,
         holds,
-    } = prepared;
+    } = prepared.into_inner();
     let StepOut { sent, acts } = out;
     let mut sent = sent;
     push_all(&mut sent, more)?;
@@ -116,11 +118,23 @@ fn send_behind(prepared: CorePrepared, more: Letters) -> Result<CorePrepared, No
         change,
         out: StepOut { sent, acts },
     };
-    Ok(CorePrepared {
-        prepared,
-        votes,
-        holds,
-    })
+    let new = Boxed::new(
+        alloc,
+        CorePrepared {
+            prepared,
+            votes,
+            holds,
+        },
+    )?;
+    Ok(new)
+}
+
+/// A copy of a body, behind a pointer.
+fn copy_body(alloc: Global, body: &Body) -> Result<Boxed<Body>, NoMemory>
+    ensures { IfOk result (λ copy. copy ≡ body.now) }
+{
+    let copy = body.copy(alloc)?;
+    Ok(Boxed::new(alloc, copy)?)
 }
 
 /// Prepares that a letter is done, and that what it wakes is called: behind its other letters the node sends a Wake for
@@ -129,7 +143,7 @@ fn prepare_waking(
     alloc: Global,
     node: &KeepingParts,
     body: &Body,
-    prepared: CorePrepared,
+    prepared: Boxed<CorePrepared>,
 ) -> Result<KeepingPrepared, NoMemory>
     requires { MayDoCore prepared node.now.core }
     ensures { IfOk result (IsKeepingStepOf (waking_out body.now (keeping_of node.now)
@@ -148,8 +162,8 @@ fn prepare_waking(
             change: KeptChange::Stay,
         });
     }
-    let body = body.copy(alloc)?;
-    let prepared = send_behind(prepared, wakes)?;
+    let body = copy_body(alloc, body)?;
+    let prepared = send_behind(alloc, prepared, wakes)?;
     Ok(KeepingPrepared::Does {
         prepared,
         change: KeptChange::Call(body),
@@ -162,7 +176,7 @@ fn prepare_does(
     node: &KeepingParts,
     letter: &Letter,
     brought: &Letter,
-    prepared: CorePrepared,
+    prepared: Boxed<CorePrepared>,
 ) -> Result<KeepingPrepared, NoMemory>
     // What the caller knows.
     requires may { MayDoCore prepared node.now.core }

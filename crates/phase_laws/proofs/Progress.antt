@@ -166,7 +166,7 @@ made_by_coordinator s past e at says = record {
 }
 
 -- A letter that is brought.
-brings_to : (s : ScriptData) (past : List Entry) (e : Entry) (p : ℕ) (r : Letter) → Brings s past e p r → BringsTo s past e p r
+pub brings_to : (s : ScriptData) (past : List Entry) (e : Entry) (p : ℕ) (r : Letter) → Brings s past e p r → BringsTo s past e p r
 brings_to s past e p r b = record { at = b.at; below = b.below; brings = b.brings }
 
 -- what was taken for a letter of trees is one, or a Wake
@@ -214,7 +214,7 @@ works s past e p r laws apt run d of =
     }
 
 -- that is kept
-asking_of : (body : Body) → IsAsking body → IsOfTrees body
+pub asking_of : (body : Body) → IsAsking body → IsOfTrees body
 asking_of (Root t) asks = tt
 asking_of (SubLetter t k v) asks = tt
 asking_of _ asks = absurd asks
@@ -246,7 +246,7 @@ wake_more : (b : Bool) (o : Outgoing) (os : List Outgoing) → IsWake o.body →
 wake_more true o os one rest = (one, rest)
 wake_more false o os one rest = rest
 
-wakes_are : (test : Why → Bool) (kept : List KeptLetter) → AreWakes (wakes test kept)
+pub wakes_are : (test : Why → Bool) (kept : List KeptLetter) → AreWakes (wakes test kept)
 wakes_are test [] = tt
 wakes_are test (x ∷ xs) = wake_more (test x.why) _ (wakes test xs) tt (wakes_are test xs)
 

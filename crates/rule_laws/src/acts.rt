@@ -1,6 +1,6 @@
 // The acts of a run, in order.
 ghost use Rattle.std.specs.Prelude.{List, reverse};
-ghost use Rattle.board_rules.proofs.Rules.{AreBornLate, AreByRule};
+ghost use Rattle.board_rules.specs.Rules.{AreBornLate, AreByRule};
 ghost use Rattle.board_rules.specs.Histories.{places_of};
 ghost use Rattle.letter_types.specs.declared.entries.Entry.{Entry};
 ghost use Rattle.script_parts.specs.ScriptData.{ScriptData};

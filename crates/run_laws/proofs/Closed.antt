@@ -8,13 +8,12 @@ use Rattle.letter_types.specs.declared.entries.Entry.{Entry}
 use Rattle.letter_types.specs.declared.entries.Letter.{Letter}
 use Rattle.world_model.specs.Coordinator.{Coordinator, coordinator_row}
 use Rattle.world_model.specs.declared.phase.Phase.{Phase}
-use Rattle.tx_trees.specs.ScriptData.{ScriptData, is_read, is_update, reads}
+use Rattle.tx_trees.specs.ScriptData.{ScriptData, is_read, is_update}
 use Rattle.tx_trees.specs.Valid.{IsValid}
 use Rattle.tx_trees.specs.declared.parts.Tree.{Tree}
 use Rattle.board_rules.specs.Histories.{places_at, places_of, version_in}
 use Rattle.world_model.specs.Counts.{Each, tally}
 use Rattle.world_model.specs.Runs.{IsStepRun, coordinator_in, in_flight}
-use Rattle.world_model.specs.Timely.{AllTimely}
 use Rattle.world_model.proofs.EachOutstanding.{each_waits}
 use Rattle.world_model.proofs.Every.{each_both, each_map}
 use Rattle.world_model.proofs.Nexts.{MadeByCoordinator}
@@ -166,10 +165,6 @@ closed_by s past later _ valid run bound = tt
 pub run_before : (s : ScriptData) (past later : List Entry) → IsStepRun s (later ++ past) → IsStepRun s past
 run_before s past [] run = run
 run_before s past (e ∷ later) run = run_before s past later run.1
-
-pub timely_before : (s : ScriptData) (past later : List Entry) → AllTimely s (later ++ past) → AllTimely s past
-timely_before s past [] timely = timely
-timely_before s past (e ∷ later) timely = timely_before s past later timely.1
 
 pub shown_is_closed : (s : ScriptData) (past later : List Entry) → IsValid s → IsStepRun s (later ++ past)
     → Each (λ (l : Letter). IsClosedBy s (reverse past) (reverse (later ++ past)) l.body) (in_flight s past)

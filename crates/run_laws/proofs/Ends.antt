@@ -1,5 +1,5 @@
--- Where no letter is in flight, the coordinator is idle and the client has finished.
-use Rattle.std.proofs.Common.{◌≡◌, ℕ, ◌+◌, ◌<◌, ◌≤◌, Bool, true, false, not, List, [], ◌∷◌, length, get_or, reverse, take, refl, sym, ap, subst, ◌∙◌, arith}
+-- Where no letter is in flight, the coordinator is idle, nothing is kept, and the client has finished.
+use Rattle.std.proofs.Common.{◌≡◌, ◌⊎◌, inl, inr, ℕ, zero, suc, ◌+◌, ◌<◌, ◌≤◌, ◌==◌, ◌&&◌, Bool, true, false, not, List, [], ◌∷◌, ◌++◌, length, get_or, map, reverse, take, refl, sym, ap, subst, ◌∙◌, arith}
 use Rattle.std.specs.Prelude.{nat_le}
 use Rattle.std.proofs.lemmas.Bool.{and_from}
 use Rattle.std.proofs.lemmas.Bool.Decides.{nat_tests}
@@ -7,66 +7,92 @@ use Rattle.std.proofs.Math.Seq.{take-length}
 use Rattle.phase_out.specs.Rounds.{all_in}
 use Rattle.letter_types.specs.declared.entries.Entry.{Entry}
 use Rattle.letter_types.specs.declared.entries.Letter.{Letter}
+use Rattle.letter_types.specs.declared.kept.KeptLetter.{KeptLetter}
 use Rattle.board_rules.specs.Histories.{Place, places_of}
 use Rattle.board_rules.specs.Right.{HasFinished, finishes}
 use Rattle.tx_trees.specs.Counts.{advances_in}
 use Rattle.tx_trees.specs.ScriptData.{ScriptData}
+use Rattle.tx_trees.specs.Valid.{IsValid}
 use Rattle.tx_trees.specs.declared.parts.ScriptRow.{ScriptRow}
 use Rattle.tx_trees.specs.declared.parts.ScriptRow.TheVariants.{Tree as TreeRow, Advance as AdvanceRow, Settle as SettleRow, Lose as LoseRow}
 use Rattle.world_model.specs.Client.{all_answered, have_ended}
 use Rattle.world_model.specs.declared.phase.Phase.{Phase}
 use Rattle.world_model.specs.declared.phase.Phase.TheVariants.{Idle, Turning, Counting, Paused, Showing, Sweeping}
 use Rattle.world_model.specs.Counts.{tally, one_if}
-use Rattle.world_model.specs.Runs.{client_in, coordinator_in, in_flight, IsStepRun}
-use Rattle.world_model.specs.Timely.{AllTimely}
-use Rattle.world_model.proofs.Bags.{one_if_same}
-use Rattle.world_model.proofs.Lawful.{IsLawful}
+use Rattle.world_model.specs.Kept.{kept_by, kept_in, outstanding}
+use Rattle.world_model.specs.Node.{Node}
+use Rattle.world_model.specs.Runs.{client_in, coordinator_in, node_in, in_flight, IsStepRun}
+use Rattle.world_model.proofs.Bags.{one_if_same, tally-append}
 use Rattle.world_model.proofs.Orders.{coordinator_nodes}
-use Rattle.world_model.proofs.Scripts.{IsSound}
 use Rattle.phase_laws.specs.Advances.{asked_for, is_advance_letter, is_advanced, running}
-use Rattle.phase_laws.specs.Phases.{Stage, TurnStage, ShowStage, SweepStage, token, within}
+use Rattle.phase_laws.specs.Phases.{IsInPhase, Stage, TurnStage, ShowStage, SweepStage, token, within}
 use Rattle.phase_laws.proofs.Current.{current}
+use Rattle.phase_laws.proofs.Levels.{versions_in_phase}
 use Rattle.phase_laws.proofs.Small.{small}
 use Rattle.phase_laws.proofs.Tokens.{told}
-use Rattle.tree_laws.specs.Dids.{is_go, roots_sent}
+use Rattle.tree_laws.specs.Dids.{answers, asks, is_go, is_row_of, replies_to, roots_sent}
 use Rattle.tree_laws.specs.Ends.{is_finish}
+use Rattle.tree_laws.specs.Turns.{turns}
 use Rattle.tree_laws.proofs.Acts.{counted_any, finish_marks, of_act}
-use Rattle.tree_laws.proofs.Client.{at_rest}
-use Rattle.tree_laws.proofs.Finishes.{all_answered_of, answered_now, at_end, finishes_of, none_left}
-use Rattle.tree_laws.proofs.Goods.{good_run}
-use Rattle.tree_laws.proofs.Nudges.{lawful as tree_lawful}
+use Rattle.tree_laws.proofs.AptTurns.{roots_have_turns}
+use Rattle.tree_laws.proofs.Client.{finish_count}
+use Rattle.tree_laws.proofs.Finishes.{all_answered_of, at_end, finishes_of, is_true_of, none_left, rooted_below}
+use Rattle.tree_laws.proofs.Sent.{tally_take_le}
 use Rattle.run_laws.proofs.Measures.{busy, nudges, unanswered}
 use Rattle.run_laws.proofs.Heard.{all_of, heard, wave}
 use Rattle.run_laws.proofs.Pauses.{bound}
-use Rattle.run_laws.proofs.InTime.{all_apt, in_time, lawful}
+use Rattle.run_laws.proofs.EveryApt.{all_apt, lawful}
+use Rattle.run_laws.proofs.Resting.{IsSettled, nothing_waits, settled}
+use Rattle.run_laws.proofs.Stopping.{answer_known, stopping}
 
 -- The trees.
-none_unanswered : (b : Bool) → b ≡ true → one_if (not b) ≡ 0
-none_unanswered b is = ap (λ (x : Bool). one_if (not x)) is
+born_or_heard : (n : ℕ) (heard : Bool) → (n ≡ 0) ⊎ (heard ≡ true) → one_if (not (n == 0) && not heard) ≡ 0
+born_or_heard n heard (inl none) = let test : (n == 0) ≡ true = grind (arith, nat_tests) in rw test refl
+born_or_heard n heard (inr is) = rw is (by (n == 0)) where
+  by : (b : Bool) → one_if (not b && false) ≡ 0
+  by true = refl
+  by false = refl
 
-left_none : (answered : List Bool) (rows : List ScriptRow) → ((t : ℕ) → 1 ≤ roots_sent t rows → get_or answered t false ≡ true)
-    → tally (unanswered answered) rows ≡ 0
-left_none answered [] all = refl
-left_none answered (TreeRow t ∷ rows) all =
+left_none : (past : List Entry) (answered : List Bool) (rows : List ScriptRow)
+    → ((t : ℕ) → 1 ≤ roots_sent t rows → (turns past t 0 ≡ 0) ⊎ (get_or answered t false ≡ true)) → tally (unanswered past answered) rows ≡ 0
+left_none past answered [] all = refl
+left_none past answered (TreeRow t ∷ rows) all =
     omega (
       arith,
-      none_unanswered (get_or answered t.0 false) (all t.0 (omega (arith, one_if_same t.0))),
-      left_none answered rows (λ u some. all u (omega (arith, some))),
+      born_or_heard (turns past t.0 0) (get_or answered t.0 false) (all t.0 (omega (arith, one_if_same t.0))),
+      left_none past answered rows (λ u some. all u (omega (arith, some))),
     )
-left_none answered (AdvanceRow ∷ rows) all = omega (arith, left_none answered rows (λ u some. all u (omega (arith, some))))
-left_none answered (SettleRow ∷ rows) all = omega (arith, left_none answered rows (λ u some. all u (omega (arith, some))))
-left_none answered (LoseRow ∷ rows) all = omega (arith, left_none answered rows (λ u some. all u (omega (arith, some))))
+left_none past answered (AdvanceRow ∷ rows) all = omega (arith, left_none past answered rows (λ u some. all u (omega (arith, some))))
+left_none past answered (SettleRow ∷ rows) all = omega (arith, left_none past answered rows (λ u some. all u (omega (arith, some))))
+left_none past answered (LoseRow ∷ rows) all = omega (arith, left_none past answered rows (λ u some. all u (omega (arith, some))))
+
+-- a tree that is answered is one of which the client has heard
+heard_now : (s : ScriptData) (past : List Entry) (t : ℕ) → IsValid s → IsStepRun s past → in_flight s past ≡ [] → t < length s.trees
+    → 1 ≤ answers past t → get_or (client_in s past).answered t false ≡ true
+heard_now s past t valid run empty lt some =
+    is_true_of (get_or (client_in s past).answered t false)
+    (omega (arith, answer_known s past t valid run lt some, none_left (λ (l : Letter). replies_to t l.body) s past empty))
+
+tree_in : (s : ScriptData) (past : List Entry) (t : ℕ) → IsValid s → 1 ≤ roots_sent t (take (client_in s past).next s.rows) → t < length s.trees
+tree_in s past t valid row =
+    let next = (client_in s past).next in
+    rooted_below t 0 (length s.trees) s.rows valid.rows (omega (arith, row, tally_take_le (is_row_of t) next s.rows))
+
+over_by : (s : ScriptData) (past : List Entry) (t : ℕ) → IsValid s → IsStepRun s past → in_flight s past ≡ [] → t < length s.trees → IsSettled past t
+    → (turns past t 0 ≡ 0) ⊎ (get_or (client_in s past).answered t false ≡ true)
+over_by s past t valid run empty lt (inl none) = inl none
+over_by s past t valid run empty lt (inr some) = inr (heard_now s past t valid run empty lt some)
 
 -- nothing is busy
-pub none_busy : (s : ScriptData) (past : List Entry) (laws : IsLawful s) (run : IsStepRun s past) (timely : AllTimely s past) → in_flight s past ≡ []
-    → busy s past ≡ 0
-none_busy s past laws run timely empty =
+pub none_busy : (s : ScriptData) (past : List Entry) → IsValid s → IsStepRun s past → in_flight s past ≡ [] → busy s past ≡ 0
+none_busy s past valid run empty =
     let c = client_in s past in
-    let good = good_run s past laws.sound run timely in
     omega (
       arith,
       none_left (λ (l : Letter). nudges l.body) s past empty,
-      left_none c.answered (take c.next s.rows) (λ t row. answered_now s past t laws.sound good empty row),
+      left_none past c.answered (take c.next s.rows) (λ t row.
+          (let lt = tree_in s past t valid row in
+          over_by s past t valid run empty lt (settled s past t valid run empty lt))),
     )
 
 -- The coordinator.
@@ -75,24 +101,24 @@ stage_ends : (phase : Phase) (g : Stage) (acks n : ℕ) → within g phase acks 
     → 0 + within g phase acks ≡ within g phase n → ⊥
 stage_ends phase g acks n a b less is = absurd (omega (arith, a, b, less, is))
 
-not_telling : (s : ScriptData) (past : List Entry) (laws : IsLawful s) (run : IsStepRun s past) (timely : AllTimely s past) (g : Stage) (phase : Phase)
+not_telling : (s : ScriptData) (past : List Entry) (valid : IsValid s) (run : IsStepRun s past) (g : Stage) (phase : Phase)
     → in_flight s past ≡ [] → (coordinator_in s past).phase ≡ phase → ((k : ℕ) → within g phase k ≡ k) → ⊥
-not_telling s past laws run timely g phase empty at fills =
+not_telling s past valid run g phase empty at fills =
     let c = coordinator_in s past in
-    let all = told g s past (lawful s laws.sound) run (all_apt s past laws.sound run) in
+    let all = told g s past (lawful s valid) run (all_apt s past valid run) in
     let none = none_left (λ (l : Letter). token g l.body) s past empty in
     let acks : within g c.phase c.acks ≡ c.acks = ap (λ (p : Phase). within g p c.acks) at ∙ fills c.acks in
     let nodes : within g c.phase s.nodes ≡ s.nodes = ap (λ (p : Phase). within g p s.nodes) at ∙ fills s.nodes in
-    absurd (omega (arith, all, none, acks, nodes, (small s past (lawful s laws.sound) run (all_apt s past laws.sound run)).acks))
+    absurd (omega (arith, all, none, acks, nodes, (small s past (lawful s valid) run (all_apt s past valid run)).acks))
 
 -- a round that counts has a letter in flight
-not_counting : (s : ScriptData) (past : List Entry) (laws : IsLawful s) (run : IsStepRun s past) (timely : AllTimely s past) (reads : Bool)
+not_counting : (s : ScriptData) (past : List Entry) (valid : IsValid s) (run : IsStepRun s past) (reads : Bool)
     → in_flight s past ≡ [] → (coordinator_in s past).phase ≡ Counting reads → ⊥
-not_counting s past laws run timely reads empty at =
+not_counting s past valid run reads empty at =
     let r = (coordinator_in s past).current in
-    let now = current s past (lawful s laws.sound) run (all_apt s past laws.sound run) reads at in
+    let now = current s past (lawful s valid) run (all_apt s past valid run) reads at in
     let nodes = coordinator_nodes s past in
-    let waved = heard s past laws run timely reads at in
+    let waved = heard s past valid run reads at in
     let none : (two : Bool) (q : ℕ) → tally (λ (l : Letter). wave two r.version.0 r.number q s.nodes l.from.0 l.to.0 l.body) (in_flight s past) ≡ 0 =
     λ two q. none_left (λ (l : Letter). wave two r.version.0 r.number q s.nodes l.from.0 l.to.0 l.body) s past empty in
     let dones : all_in r.dones ≡ true =
@@ -102,32 +128,84 @@ not_counting s past laws run timely reads empty at =
     let clash : true ≡ false = sym askeds ∙ waved.misses in
     cc clash
 
-not_paused : (s : ScriptData) (past : List Entry) (laws : IsLawful s) (run : IsStepRun s past) (timely : AllTimely s past) (reads : Bool)
+not_paused : (s : ScriptData) (past : List Entry) (valid : IsValid s) (run : IsStepRun s past) (reads : Bool)
     → in_flight s past ≡ [] → (coordinator_in s past).phase ≡ Paused reads → ⊥
-not_paused s past laws run timely reads empty at =
-    absurd (omega (arith, (bound s past laws run timely).pausing reads at, none_busy s past laws run timely empty))
+not_paused s past valid run reads empty at =
+    absurd (omega (arith, (bound s past valid run).pausing reads at, none_busy s past valid run empty))
 
-idle_by : (s : ScriptData) (past : List Entry) (laws : IsLawful s) (run : IsStepRun s past) (timely : AllTimely s past) → in_flight s past ≡ []
+idle_by : (s : ScriptData) (past : List Entry) (valid : IsValid s) (run : IsStepRun s past) → in_flight s past ≡ []
     → (phase : Phase) → (coordinator_in s past).phase ≡ phase → running (coordinator_in s past).phase ≡ 0
-idle_by s past laws run timely empty Idle at = ap running at
-idle_by s past laws run timely empty Turning at = absurd (not_telling s past laws run timely TurnStage Turning empty at (λ k. refl))
-idle_by s past laws run timely empty Showing at = absurd (not_telling s past laws run timely ShowStage Showing empty at (λ k. refl))
-idle_by s past laws run timely empty Sweeping at = absurd (not_telling s past laws run timely SweepStage Sweeping empty at (λ k. refl))
-idle_by s past laws run timely empty (Counting reads) at = absurd (not_counting s past laws run timely reads empty at)
-idle_by s past laws run timely empty (Paused reads) at = absurd (not_paused s past laws run timely reads empty at)
+idle_by s past valid run empty Idle at = ap running at
+idle_by s past valid run empty Turning at = absurd (not_telling s past valid run TurnStage Turning empty at (λ k. refl))
+idle_by s past valid run empty Showing at = absurd (not_telling s past valid run ShowStage Showing empty at (λ k. refl))
+idle_by s past valid run empty Sweeping at = absurd (not_telling s past valid run SweepStage Sweeping empty at (λ k. refl))
+idle_by s past valid run empty (Counting reads) at = absurd (not_counting s past valid run reads empty at)
+idle_by s past valid run empty (Paused reads) at = absurd (not_paused s past valid run reads empty at)
 
 -- no advancement is in progress
-pub idle : (s : ScriptData) (past : List Entry) (laws : IsLawful s) (run : IsStepRun s past) (timely : AllTimely s past) → in_flight s past ≡ []
+pub idle : (s : ScriptData) (past : List Entry) (valid : IsValid s) (run : IsStepRun s past) → in_flight s past ≡ []
     → running (coordinator_in s past).phase ≡ 0
-idle s past laws run timely empty = idle_by s past laws run timely empty (coordinator_in s past).phase refl
+idle s past valid run empty = idle_by s past valid run empty (coordinator_in s past).phase refl
+
+-- Nothing is kept: each node updates the version after the one that it reads, so no root waits.
+one_above : (phase : Phase) (u : ℕ) (st : Node) → running phase ≡ 0 → 1 ≤ u → IsInPhase phase u st.turns → st.turns.update.0 ≡ st.turns.read.0 + 1
+one_above Idle u st rests some at = omega (arith, some, at.update_from, at.update_to, at.read_from, at.read_to)
+one_above Turning u st rests some at = absurd (omega (arith, rests))
+one_above (Counting reads) u st rests some at = absurd (omega (arith, rests))
+one_above (Paused reads) u st rests some at = absurd (omega (arith, rests))
+one_above Showing u st rests some at = absurd (omega (arith, rests))
+one_above Sweeping u st rests some at = absurd (omega (arith, rests))
+
+pub nothing_kept : (s : ScriptData) (past : List Entry) (p : ℕ) → IsValid s → IsStepRun s past → in_flight s past ≡ [] → p < s.nodes
+    → kept_in s past p ≡ []
+nothing_kept s past p valid run empty lt =
+    let laws = lawful s valid in
+    let apt = all_apt s past valid run in
+    nothing_waits s past p valid run empty lt
+    (one_above (coordinator_in s past).phase (coordinator_in s past).update (node_in s past p) (idle s past valid run empty)
+    (omega (arith, (small s past laws run apt).ended)) (versions_in_phase s past laws run apt p lt))
+
+kept_empty : (s : ScriptData) (past : List Entry) (n : ℕ) → ((p : ℕ) → p < n → kept_in s past p ≡ []) → kept_by s past n ≡ []
+kept_empty s past zero none = refl
+kept_empty s past (suc n) none =
+    (λ i. kept_empty s past n (λ p lt. none p (omega (arith, lt))) i ++ map (λ (x : KeptLetter). x.letter) (none n (omega arith) i))
+
+none_asked : (f : Letter → ℕ) (s : ScriptData) (past : List Entry) → IsValid s → IsStepRun s past → in_flight s past ≡ []
+    → tally f (outstanding s past) ≡ 0
+none_asked f s past valid run empty =
+    omega (
+      arith,
+      tally-append f (in_flight s past) (kept_by s past s.nodes),
+      none_left f s past empty,
+      ap (λ (ls : List Letter). tally f ls) (kept_empty s past s.nodes (λ p lt. nothing_kept s past p valid run empty lt)),
+    )
+
+-- So each tree whose row is submitted is answered, and the client has heard.
+answered_by : (s : ScriptData) (past : List Entry) (t : ℕ) → IsValid s → IsStepRun s past → in_flight s past ≡ [] → t < length s.trees
+    → 1 ≤ turns past t 0 → IsSettled past t → get_or (client_in s past).answered t false ≡ true
+answered_by s past t valid run empty lt born (inl none) = absurd (omega (arith, born, none))
+answered_by s past t valid run empty lt born (inr some) = heard_now s past t valid run empty lt some
+
+pub answered_now : (s : ScriptData) (past : List Entry) (t : ℕ) → IsValid s → IsStepRun s past → in_flight s past ≡ []
+    → 1 ≤ roots_sent t (take (client_in s past).next s.rows) → get_or (client_in s past).answered t false ≡ true
+answered_now s past t valid run empty row =
+    let lt = tree_in s past t valid row in
+    answered_by s past t valid run empty lt
+    (omega (
+      arith,
+      row,
+      roots_have_turns s past t valid (all_apt s past valid run) run,
+      none_asked (λ (l : Letter). asks t 0 l.body) s past valid run empty,
+    ))
+    (settled s past t valid run empty lt)
 
 -- The client.
 -- each advancement that was asked for has ended
-pub ended_all : (s : ScriptData) (past : List Entry) (laws : IsLawful s) (run : IsStepRun s past) (timely : AllTimely s past) → in_flight s past ≡ []
+pub ended_all : (s : ScriptData) (past : List Entry) → IsValid s → IsStepRun s past → in_flight s past ≡ []
     → (client_in s past).ended ≡ asked_for s past
-ended_all s past laws run timely empty =
-    let rests = idle s past laws run timely empty in
-    let now = small s past (lawful s laws.sound) run (all_apt s past laws.sound run) in
+ended_all s past valid run empty =
+    let rests = idle s past valid run empty in
+    let now = small s past (lawful s valid) run (all_apt s past valid run) in
     omega (
       arith,
       rests,
@@ -142,49 +220,48 @@ same_most : (n m : ℕ) → m ≡ n → nat_le n m ≡ true
 same_most n m same = grind (arith, nat_tests)
 
 -- all that was submitted has ended
-ended_now : (s : ScriptData) (past : List Entry) (laws : IsLawful s) (run : IsStepRun s past) (timely : AllTimely s past) → in_flight s past ≡ []
+ended_now : (s : ScriptData) (past : List Entry) → IsValid s → IsStepRun s past → in_flight s past ≡ []
     → have_ended (client_in s past) (take (client_in s past).next s.rows) ≡ true
-ended_now s past laws run timely empty =
+ended_now s past valid run empty =
     let c = client_in s past in
-    let good = good_run s past laws.sound run timely in
     and_from (all_answered c.answered (take c.next s.rows)) (nat_le (advances_in (take c.next s.rows)) c.ended)
-    (all_answered_of c.answered (take c.next s.rows) (λ t row. answered_now s past t laws.sound good empty row))
-    (same_most (advances_in (take c.next s.rows)) c.ended (ended_all s past laws run timely empty))
+    (all_answered_of c.answered (take c.next s.rows) (λ t row. answered_now s past t valid run empty row))
+    (same_most (advances_in (take c.next s.rows)) c.ended (ended_all s past valid run empty))
 
 -- all rows are submitted
-pub all_submitted : (s : ScriptData) (past : List Entry) (laws : IsLawful s) (run : IsStepRun s past) (timely : AllTimely s past)
-    → in_flight s past ≡ [] → (client_in s past).next ≡ length s.rows
-all_submitted s past laws run timely empty =
-    at_end s (client_in s past) ((at_rest s past laws.sound run timely).stops (none_left (λ (l : Letter). is_go l.body) s past empty))
-    (ended_now s past laws run timely empty)
+pub all_submitted : (s : ScriptData) (past : List Entry) → IsValid s → IsStepRun s past → in_flight s past ≡ []
+    → (client_in s past).next ≡ length s.rows
+all_submitted s past valid run empty =
+    at_end s (client_in s past) ((stopping s past valid run).stops (none_left (λ (l : Letter). is_go l.body) s past empty))
+    (ended_now s past valid run empty)
 
-pub all_rows : (s : ScriptData) (past : List Entry) (laws : IsLawful s) (run : IsStepRun s past) (timely : AllTimely s past)
-    → in_flight s past ≡ [] → take (client_in s past).next s.rows ≡ s.rows
-all_rows s past laws run timely empty =
-    ap (λ (n : ℕ). take n s.rows) (all_submitted s past laws run timely empty) ∙ take-length s.rows
+pub all_rows : (s : ScriptData) (past : List Entry) → IsValid s → IsStepRun s past → in_flight s past ≡ []
+    → take (client_in s past).next s.rows ≡ s.rows
+all_rows s past valid run empty =
+    ap (λ (n : ℕ). take n s.rows) (all_submitted s past valid run empty) ∙ take-length s.rows
 
 -- the client has finished
-pub finished : (s : ScriptData) (past : List Entry) (laws : IsLawful s) (run : IsStepRun s past) (timely : AllTimely s past)
-    → in_flight s past ≡ [] → (client_in s past).finished ≡ true
-finished s past laws run timely empty =
-    (at_rest s past laws.sound run timely).finishes (none_left (λ (l : Letter). is_go l.body) s past empty)
-    (all_submitted s past laws run timely empty)
-    (subst (λ (xs : List ScriptRow). have_ended (client_in s past) xs ≡ true) (all_rows s past laws run timely empty)
-    (ended_now s past laws run timely empty))
+pub finished : (s : ScriptData) (past : List Entry) → IsValid s → IsStepRun s past → in_flight s past ≡ []
+    → (client_in s past).finished ≡ true
+finished s past valid run empty =
+    (stopping s past valid run).finishes (none_left (λ (l : Letter). is_go l.body) s past empty) (all_submitted s past valid run empty)
+    (subst (λ (xs : List ScriptRow). have_ended (client_in s past) xs ≡ true) (all_rows s past valid run empty)
+    (ended_now s past valid run empty))
 
 -- and its history says so
-has_finished : (s : ScriptData) (past : List Entry) → IsSound s → IsStepRun s past → AllTimely s past → (client_in s past).finished ≡ true
-    → HasFinished (reverse past)
-has_finished s past sound run timely is =
-    let one : one_if (client_in s past).finished ≡ 1 = ap one_if is in
+some_counted : (past : List Entry) → 1 ≤ finish_count past → HasFinished (reverse past)
+some_counted past some =
     counted_any (of_act is_finish) (λ (x : Place). finishes x.act) (places_of (reverse past)) (λ x. finish_marks x.act)
-    (omega (arith, one, (at_rest s past sound run timely).once, finishes_of past))
+    (omega (arith, some, finishes_of past))
+
+has_finished : (s : ScriptData) (past : List Entry) → IsValid s → IsStepRun s past → (client_in s past).finished ≡ true
+    → HasFinished (reverse past)
+has_finished s past valid run is =
+    let one : one_if (client_in s past).finished ≡ 1 = ap one_if is in
+    some_counted past (omega (arith, one, (stopping s past valid run).told))
 
 -- where no letter is left, the client has finished, and its history says so
-pub no_run_stalls : (s : ScriptData) (past : List Entry) → IsSound s → IsStepRun s past → in_flight s past ≡ []
+pub no_run_stalls : (s : ScriptData) (past : List Entry) → IsValid s → IsStepRun s past → in_flight s past ≡ []
     → ((client_in s past).finished ≡ true) × HasFinished (reverse past)
-no_run_stalls s past sound run empty =
-    let laws = tree_lawful s sound in
-    let timely = in_time s past sound run in
-    let is = finished s past laws run timely empty in
-    (is, has_finished s past sound run timely is)
+no_run_stalls s past valid run empty =
+    let is = finished s past valid run empty in (is, has_finished s past valid run is)

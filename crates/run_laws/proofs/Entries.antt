@@ -187,7 +187,7 @@ all_done : (s : ScriptData) (past : List Entry) (laws : IsLawful s) (run : IsSte
 all_done s past laws run timely empty = λ t lt.
     let once = rooted_once (length s.trees) t s.rows laws.sound.valid.rows lt in
     let rows : roots_sent t (take (client_in s past).next s.rows) ≡ roots_sent t s.rows =
-    ap (λ (xs : List ScriptRow). roots_sent t xs) (all_rows s past laws run timely empty) in
+    ap (λ (xs : List ScriptRow). roots_sent t xs) (all_rows s past laws.sound.valid run empty) in
     tree_done s past t laws.sound (good_run s past laws.sound run timely) empty lt (omega (arith, once, rows))
 
 roots_taken : (s : ScriptData) (past : List Entry) (laws : IsLawful s) (run : IsStepRun s past) (timely : AllTimely s past) → AllDone s past
@@ -242,14 +242,14 @@ aparts_taken : (s : ScriptData) (past : List Entry) (laws : IsLawful s) (run : I
     → taken_in is_apart past ≡ advances_in s.rows * (2 + 6 * s.nodes) + 4 * s.nodes * (coordinator_in s past).round
 aparts_taken s past laws run timely empty =
     let c = coordinator_in s past in
-    let rests = idle s past laws run timely empty in
+    let rests = idle s past laws.sound.valid run empty in
     let calm = idle_pend s.nodes c.phase c.current.dones rests in
-    let all : asked_for s past ≡ advances_in s.rows = ap advances_in (all_rows s past laws run timely empty) in
+    let all : asked_for s past ≡ advances_in s.rows = ap advances_in (all_rows s past laws.sound.valid run empty) in
     let up : c.update ≡ advances_in s.rows + 1 =
     omega (
       arith,
       all,
-      ended_all s past laws run timely empty,
+      ended_all s past laws.sound.valid run empty,
       (small s past (lawful s laws.sound) run (all_apt s past laws.sound run)).ended,
       none_left (λ (l : Letter). is_advanced l.body) s past empty,
     ) in

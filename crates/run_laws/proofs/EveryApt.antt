@@ -1,7 +1,7 @@
 -- In every run of every valid script each letter that comes to a node brings one, which is apt there: what it names belongs
 -- there, a root is new, its version is one that the node can go by, and what it asks for can be made.
 use Rattle.std.proofs.Common.{◌≡◌, ℕ, ◌<◌, ◌≤◌, ◌==◌, ◌&&◌, ◌||◌, Bool, true, false, not, List, [], ◌∷◌, length, refl, sym, ap, subst, ◌∙◌, arith, Option, Some, None}
-use Rattle.std.specs.Prelude.{IsSome, is_some, nat_lt}
+use Rattle.std.specs.Prelude.{IsSome, nat_lt}
 use Rattle.std.proofs.lemmas.Bool.{and_from}
 use Rattle.std.proofs.lemmas.Bool.Decides.{nat_tests}
 use Rattle.letter_types.specs.Kept.{brought, first_called}
@@ -10,7 +10,6 @@ use Rattle.letter_types.specs.declared.bodies.Body.TheVariants.{Go, Root, Sub as
 use Rattle.letter_types.specs.declared.entries.Entry.{Entry}
 use Rattle.letter_types.specs.declared.entries.Letter.{Letter}
 use Rattle.script_parts.specs.Counts.{has_strict}
-use Rattle.tree_home.specs.HeldAnswers.{held_in}
 use Rattle.tx_trees.specs.ScriptData.{ScriptData, home_of, node_of, subs_at, visits}
 use Rattle.tx_trees.specs.Valid.{IsValid}
 use Rattle.world_model.specs.AllApt.{AllApt, WasApt}
@@ -18,7 +17,7 @@ use Rattle.world_model.specs.Keeping.{is_apt_at, is_apt_brought}
 use Rattle.world_model.specs.Kept.{kept_in}
 use Rattle.world_model.specs.Named.{is_named, is_new, is_strict_at, is_timely, suits}
 use Rattle.world_model.specs.Runs.{IsStepRun, keeping_in, node_in}
-use Rattle.world_model.specs.Strict.{can_make_at, decides_near, is_core_apt, is_of_strict, is_unheld}
+use Rattle.world_model.specs.Strict.{can_make_at, decides_near, is_of_strict, is_unheld}
 use Rattle.world_model.proofs.Outstanding.{IsOutstanding}
 use Rattle.world_model.proofs.Plain.{no_strict}
 use Rattle.strict_laws.specs.Meant.{IsMeant}

@@ -43,8 +43,8 @@ use Rattle.tree_laws.proofs.Answering.{answers_tree}
 use Rattle.tree_laws.proofs.AptDecided.{GathersNow, Now, decided_any, decides_any, note_gathers}
 use Rattle.tree_laws.proofs.AptOfTree.{ByClient, ByCoordinator, Kept, OfTree, Other, OwnAck, OwnNote, OwnRoot, OwnSub, client_leaves, coordinator_leaves, kept_leaves, of_tree, other_leaves}
 use Rattle.tree_laws.proofs.AptStages.{Leaves}
-use Rattle.tree_laws.proofs.AptStagesOwn.{Doing, ack_home, home_here, note_at, root_home, turned_here}
 use Rattle.tree_laws.proofs.AptStagesRun.{stages_of_trees}
+use Rattle.tree_laws.proofs.AptStagesOwn.{Doing, ack_home, home_here, note_at, root_home, turned_here}
 use Rattle.tree_laws.proofs.AptStagesSteps.{Beside, does_beside}
 use Rattle.tree_laws.proofs.Noting.{Last, More, Noting, noting}
 use Rattle.tree_laws.proofs.Staging.{told_none}

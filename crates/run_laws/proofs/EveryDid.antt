@@ -131,7 +131,7 @@ row_votes : (s : ScriptData) (p from t k : ℕ) (body : Body) (c : Core) → p <
 row_votes s p from t k body c lt named plain = row_by s p from t k body c (core_works s p from body c lt named) lt named plain
 
 -- So does an entry.
-none_votes : (s : ScriptData) (past : List Entry) (e : Entry) (t k : ℕ) → is_strict_at s t ≡ false → Case s past e
+pub none_votes : (s : ScriptData) (past : List Entry) (e : Entry) (t k : ℕ) → is_strict_at s t ≡ false → Case s past e
     → tally (is_vote_of t k) e.acts ≡ 0
 none_votes s past e t k plain (NodeDoes p r d) =
     let c : Core = (keeping_in s past p).core in

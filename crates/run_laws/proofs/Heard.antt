@@ -1,5 +1,5 @@
 -- While a round counts, of each node the question, the answer in flight or the row that is kept is there.
-use Rattle.std.proofs.Common.{if◌then◌else◌, ◌≡◌, ◌≢◌, ◌⊎◌, inl, inr, ℕ, zero, suc, ◌+◌, ◌<◌, ◌≤◌, ◌==◌, ◌&&◌, not, Bool, true, false, List, [], ◌∷◌, length, replicate, set, refl, sym, ap, subst, ◌∙◌, arith, Option, Some, None}
+use Rattle.std.proofs.Common.{if◌then◌else◌, ◌≡◌, ◌≢◌, ◌⊎◌, inl, inr, ℕ, zero, suc, ◌+◌, ◌<◌, ◌≤◌, ◌==◌, ◌&&◌, not, Bool, true, false, List, [], ◌∷◌, ◌++◌, length, replicate, set, refl, sym, ap, subst, ◌∙◌, arith, Option, Some, None}
 use Rattle.std.specs.Prelude.{nat_lt}
 use Rattle.std.proofs.lemmas.Bool.Decides.{nat_tests}
 use Rattle.std.proofs.lemmas.Bool.{eqb-true}
@@ -8,30 +8,30 @@ use Rattle.tv_base.specs.declared.numbers.Version.{Version}
 use Rattle.phase_out.specs.Rounds.{NodeRows, RoundData, all_in, is_of}
 use Rattle.pair_counters.specs.Numbers.{numbers_of}
 use Rattle.letter_types.specs.declared.bodies.Body.{Body}
-use Rattle.letter_types.specs.declared.bodies.Body.TheVariants.{Go, AskDone, AskAsked, DoneRow, AskedRow, Root, Sub as SubLetter}
+use Rattle.letter_types.specs.declared.bodies.Body.TheVariants.{Go, AskDone, AskAsked, DoneRow, AskedRow, Root, Sub as SubLetter, Done, Decide, Decided, Release, Wake}
 use Rattle.letter_types.specs.declared.entries.Entry.{Entry}
 use Rattle.letter_types.specs.declared.entries.Letter.{Letter}
 use Rattle.letter_types.specs.declared.entries.Outgoing.{Outgoing}
 use Rattle.letter_types.specs.Steps.{Out, still}
 use Rattle.tx_trees.specs.ScriptData.{ScriptData}
+use Rattle.tx_trees.specs.Valid.{IsValid}
 use Rattle.world_model.specs.Node.{Node}
 use Rattle.world_model.specs.Coordinator.{Coordinator, coordinator_row, keep_done, to_nodes}
 use Rattle.world_model.specs.declared.phase.Phase.TheVariants.{Counting}
 use Rattle.world_model.specs.Counts.{tally, one_if}
 use Rattle.world_model.specs.Runs.{coordinator_in, node_in, in_flight, MayFollow, IsStepRun}
-use Rattle.world_model.specs.Timely.{AllTimely}
 use Rattle.world_model.proofs.Bags.{tally-append, tally_step, sealed_tally}
 use Rattle.world_model.proofs.Every.{coordinator_kept}
-use Rattle.world_model.proofs.Lawful.{IsLawful}
-use Rattle.world_model.proofs.Nexts.{Next, Begins, Hears, Ends, Coordinates, DoesRoot, DoesSub, Notes, Obeys, Order, Turns, Shows, Sweeps, TellsDone, TellsAsked, MadeByCoordinator}
+use Rattle.world_model.proofs.Nexts.{Order, Turns, Shows, Sweeps, TellsDone, TellsAsked, MadeByCoordinator}
 use Rattle.world_model.proofs.Orders.{coordinator_nodes}
-use Rattle.world_model.proofs.Worked.{took_none}
 use Rattle.phase_laws.proofs.Current.{IsCurrent, current}
 use Rattle.phase_laws.proofs.Outcomes.{asked_kept, round_begun}
+use Rattle.phase_laws.proofs.Progress.{Begins, Coordinates, Ends, Hears, Obeys, Progress, Works, progress}
 use Rattle.phase_laws.proofs.Small.{outcome_in}
+use Rattle.phase_laws.proofs.Working.{IsOfTrees}
 use Rattle.run_laws.proofs.Course.{Course, Leaves, Starts, Holds, Lasts, TakesDone, TakesMore, Denies, NoDone, Refused, course, outside_counting}
 use Rattle.phase_laws.proofs.Silence.{below_or_at}
-use Rattle.run_laws.proofs.InTime.{all_apt, lawful}
+use Rattle.run_laws.proofs.EveryApt.{all_apt, lawful}
 
 -- the first wave's or the second wave's question to node q, or q's answer
 abbrev pub wave : Bool → ℕ → ℕ → ℕ → ℕ → ℕ → ℕ → Body → ℕ
@@ -134,9 +134,20 @@ order_waves s two v r q from p st body out (TellsAsked w k bd is) =
       full_row two (w.0 == v) (k == r) (p == q) (length row) s.nodes (length_numbers s.nodes (st.counts.asked w.0)),
     )
 
+-- no letter of a tree is one of them
+trees_none : (two : Bool) (v r q n from to : ℕ) (body : Body) → IsOfTrees body → wave two v r q n from to body ≡ 0
+trees_none two v r q n from to (Root t) of = refl
+trees_none two v r q n from to (SubLetter t k w) of = refl
+trees_none two v r q n from to (Done t k w notice) of = refl
+trees_none two v r q n from to (Decide t w commit) of = refl
+trees_none two v r q n from to (Decided t w) of = refl
+trees_none two v r q n from to (Release t) of = refl
+trees_none two v r q n from to (Wake t k) of = refl
+trees_none two v r q n from to _ of = absurd of
+
 -- so no other actor than the coordinator takes one away
 waves_stay : (s : ScriptData) (past : List Entry) (e : Entry) (two : Bool) (v r q : ℕ) → MayFollow s past e → e.actor.0 ≢ s.nodes
-    → Next s past e → waves s past two v r q ≤ waves s (e ∷ past) two v r q
+    → Progress s past e → waves s past two v r q ≤ waves s (e ∷ past) two v r q
 waves_stay s past e two v r q m away (Begins bd at made) =
     omega (arith, wave_flow s past e two v r q m, ap (λ (b : Body). wave two v r q s.nodes e.took.from.0 e.actor.0 b) bd)
 waves_stay s past e two v r q m away (Hears t w answer bd at lt made) =
@@ -144,19 +155,22 @@ waves_stay s past e two v r q m away (Hears t w answer bd at lt made) =
 waves_stay s past e two v r q m away (Ends w bd at made) =
     omega (arith, wave_flow s past e two v r q m, ap (λ (b : Body). wave two v r q s.nodes e.took.from.0 e.actor.0 b) bd)
 waves_stay s past e two v r q m away (Coordinates tells at made) = absurd (away at)
-waves_stay s past e two v r q m away (DoesRoot t w effect bd sub at lt new work made) =
-    omega (arith, wave_flow s past e two v r q m, took_none (λ (b : Body). wave two v r q s.nodes e.took.from.0 e.actor.0 b) s past e (Root t) bd refl (λ x j. refl))
-waves_stay s past e two v r q m away (DoesSub t k w raises effect bd sub pos from at lt work made) =
-    omega (arith, wave_flow s past e two v r q m, took_none (λ (b : Body). wave two v r q s.nodes e.took.from.0 e.actor.0 b) s past e (SubLetter t k w) bd refl (λ x j. refl))
-waves_stay s past e two v r q m away (Notes t k w values bd sub pos from at lt missed made) =
-    omega (arith, wave_flow s past e two v r q m, ap (λ (b : Body). wave two v r q s.nodes e.took.from.0 e.actor.0 b) bd)
-waves_stay s past e two v r q m away (Obeys p out at lt order made) =
+waves_stay s past e two v r q m away (Works p x w) =
+    omega (arith, wave_flow s past e two v r q m, trees_none two v r q s.nodes e.took.from.0 e.actor.0 e.took.body w.took)
+waves_stay s past e two v r q m away (Obeys p out more at lt order state is woken) =
     let took : wave two v r q s.nodes e.took.from.0 e.actor.0 e.took.body ≡ wave two v r q s.nodes e.took.from.0 p e.took.body =
     ap (λ (n : ℕ). wave two v r q s.nodes e.took.from.0 n e.took.body) at in
-    let sent : tally (sends two v r q s.nodes e.actor.0) e.sent ≡ tally (sends two v r q s.nodes p) out.sent =
-    ap (λ (os : List Outgoing). tally (sends two v r q s.nodes e.actor.0) os) made.sent
-    ∙ ap (λ (n : ℕ). tally (sends two v r q s.nodes n) out.sent) at in
-    omega (arith, wave_flow s past e two v r q m, took, sent, order_waves s two v r q e.took.from.0 p (node_in s past p) e.took.body out order)
+    let sent : tally (sends two v r q s.nodes e.actor.0) e.sent ≡ tally (sends two v r q s.nodes p) (out.sent ++ more) =
+    ap (λ (os : List Outgoing). tally (sends two v r q s.nodes e.actor.0) os) is
+    ∙ ap (λ (n : ℕ). tally (sends two v r q s.nodes n) (out.sent ++ more)) at in
+    omega (
+      arith,
+      wave_flow s past e two v r q m,
+      took,
+      sent,
+      tally-append (sends two v r q s.nodes p) out.sent more,
+      order_waves s two v r q e.took.from.0 p (node_in s past p) e.took.body out order,
+    )
 
 -- A question to all nodes.
 asked_here : (v r n q : ℕ) → n ≡ q → one_if (true && ((v == v) && ((r == r) && (n == q)))) ≡ 1
@@ -378,16 +392,18 @@ heard_same s past e c was more = λ reads at.
       misses = now.misses;
     }
 
-heard_away : (s : ScriptData) (past : List Entry) (e : Entry) → MayFollow s past e → e.actor.0 ≢ s.nodes → Next s past e
+heard_away : (s : ScriptData) (past : List Entry) (e : Entry) → MayFollow s past e → e.actor.0 ≢ s.nodes → Progress s past e
     → Heard s past (coordinator_in s past) → Heard s (e ∷ past) (coordinator_in s (e ∷ past))
 heard_away s past e m away next was =
     subst (λ (c : Coordinator). Heard s (e ∷ past) c) (sym (coordinator_kept s past e away))
     (heard_same s past e (coordinator_in s past) was (λ two v r q. waves_stay s past e two v r q m away next))
 
-heard_told : (s : ScriptData) (past : List Entry) (e : Entry) → IsLawful s → IsStepRun s (e ∷ past) → AllTimely s past → e.actor.0 ≡ s.nodes
+heard_told : (s : ScriptData) (past : List Entry) (e : Entry) → IsValid s → IsStepRun s (e ∷ past) → e.actor.0 ≡ s.nodes
     → MadeByCoordinator s past e → Heard s past (coordinator_in s past) → Heard s (e ∷ past) (coordinator_in s (e ∷ past))
-heard_told s past e laws run timely at made was =
+heard_told s past e valid run at made was =
     let c = coordinator_in s past in
+    let laws = lawful s valid in
+    let apt = all_apt s past valid run.1 in
     let out = coordinator_row c e.took.from.0 e.took.body in
     let flow : Flows s past e out = λ two v r q.
     let took : wave two v r q s.nodes e.took.from.0 e.actor.0 e.took.body ≡ wave two v r q s.nodes e.took.from.0 s.nodes e.took.body =
@@ -397,29 +413,23 @@ heard_told s past e laws run timely at made was =
     ∙ ap (λ (n : ℕ). tally (sends two v r q s.nodes n) out.sent) at in
     omega (arith, wave_flow s past e two v r q run.0, took, sent) in
     subst (λ (d : Coordinator). Heard s (e ∷ past) d) (sym made.state)
-    (heard_out s past e c out laws.sound.valid.some_nodes (coordinator_nodes s past)
-    (current s past (lawful s laws.sound) run.1 (all_apt s past laws.sound run.1)) was flow
-    (course c e.took.from.0 e.took.body out (outcome_in s past e (lawful s laws.sound) run.1 (all_apt s past laws.sound run.1))))
+    (heard_out s past e c out valid.some_nodes (coordinator_nodes s past) (current s past laws run.1 apt) was flow
+    (course c e.took.from.0 e.took.body out (outcome_in s past e laws run.1 apt)))
 
-heard_next : (s : ScriptData) (past : List Entry) (e : Entry) → IsLawful s → IsStepRun s (e ∷ past) → AllTimely s past → Next s past e
+heard_next : (s : ScriptData) (past : List Entry) (e : Entry) → IsValid s → IsStepRun s (e ∷ past) → Progress s past e
     → Heard s past (coordinator_in s past) → Heard s (e ∷ past) (coordinator_in s (e ∷ past))
-heard_next s past e laws run timely (Coordinates tells at made) was = heard_told s past e laws run timely at made was
-heard_next s past e laws run timely (Begins bd at made) was = heard_away s past e run.0 (omega (arith, at)) (Begins bd at made) was
-heard_next s past e laws run timely (Hears t v answer bd at lt made) was =
+heard_next s past e valid run (Coordinates tells at made) was = heard_told s past e valid run at made was
+heard_next s past e valid run (Begins bd at made) was = heard_away s past e run.0 (omega (arith, at)) (Begins bd at made) was
+heard_next s past e valid run (Hears t v answer bd at lt made) was =
     heard_away s past e run.0 (omega (arith, at)) (Hears t v answer bd at lt made) was
-heard_next s past e laws run timely (Ends v bd at made) was = heard_away s past e run.0 (omega (arith, at)) (Ends v bd at made) was
-heard_next s past e laws run timely (DoesRoot t v effect bd sub at lt new work made) was =
-    heard_away s past e run.0 (omega (arith, at, lt)) (DoesRoot t v effect bd sub at lt new work made) was
-heard_next s past e laws run timely (DoesSub t k v raises effect bd sub pos from at lt work made) was =
-    heard_away s past e run.0 (omega (arith, at, lt)) (DoesSub t k v raises effect bd sub pos from at lt work made) was
-heard_next s past e laws run timely (Notes t k v values bd sub pos from at lt missed made) was =
-    heard_away s past e run.0 (omega (arith, at, lt)) (Notes t k v values bd sub pos from at lt missed made) was
-heard_next s past e laws run timely (Obeys p out at lt order made) was =
-    heard_away s past e run.0 (omega (arith, at, lt)) (Obeys p out at lt order made) was
+heard_next s past e valid run (Ends v bd at made) was = heard_away s past e run.0 (omega (arith, at)) (Ends v bd at made) was
+heard_next s past e valid run (Works p r w) was =
+    heard_away s past e run.0 (omega (arith, w.brings.at, w.brings.below)) (Works p r w) was
+heard_next s past e valid run (Obeys p out more at lt order state is woken) was =
+    heard_away s past e run.0 (omega (arith, at, lt)) (Obeys p out more at lt order state is woken) was
 
 -- in every run both waves are heard
-pub heard : (s : ScriptData) (past : List Entry) (laws : IsLawful s) (run : IsStepRun s past) (timely : AllTimely s past)
-    → Heard s past (coordinator_in s past)
-heard s [] laws run timely = λ reads at. absurd (cc at)
-heard s (e ∷ past) laws run timely =
-    heard_next s past e laws run timely.1 (laws.next past e run timely) (heard s past laws run.1 timely.1)
+pub heard : (s : ScriptData) (past : List Entry) → IsValid s → IsStepRun s past → Heard s past (coordinator_in s past)
+heard s [] valid run = λ reads at. absurd (cc at)
+heard s (e ∷ past) valid run =
+    heard_next s past e valid run (progress s past e (lawful s valid) (all_apt s (e ∷ past) valid run) run) (heard s past valid run.1)

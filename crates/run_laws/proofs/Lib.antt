@@ -1,8 +1,13 @@
 pub mod EveryApt
 pub mod EveryDid
+pub mod AtOnce
 pub mod EveryDecided
 pub mod EveryWhole
 pub mod EveryBirth
+pub mod Holders
+pub mod KeptWhy
+pub mod Resting
+pub mod Stopping
 pub mod Wholes
 pub mod Reached
 pub mod Closed

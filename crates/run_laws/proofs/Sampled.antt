@@ -129,4 +129,4 @@ pub sound : IsSound advanced
 sound = record { valid = valid; runnable = record { trees = (refl, tt); rows = (refl, (refl, tt)) } }
 
 pub ends : HasFinished (reverse (sample advanced 44))
-ends = (no_run_stalls advanced (sample advanced 44) sound (sample_run advanced 44 sound) refl).1
+ends = (no_run_stalls advanced (sample advanced 44) valid (sample_run advanced 44 sound) refl).1

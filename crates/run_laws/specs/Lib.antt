@@ -2,3 +2,4 @@ pub mod Shown
 pub use Rattle.phase_laws.specs.Balance
 pub use Rattle.phase_laws.specs.Quiet
 pub mod Taken
+pub mod Waiting

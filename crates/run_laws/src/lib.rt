@@ -1,12 +1,13 @@
-//! Laws of every run of every valid script: each letter comes in time and is apt, phases have their letters and versions,
-//! counters are balanced, a version is shown only when it is quiet, and then for good. And of every run of update and read
-//! trees: it doesn't stall.
+//! Laws of every run of every valid script: each letter comes in time and is apt, trees of every kind go by their stages,
+//! phases have their letters and versions, counters are balanced, a version is shown only when it is quiet, and then for
+//! good, and no run stalls. And how many entries a run of update and read trees has.
 #![tactic(auto)]
 
 mod phases;
 mod shown;
 mod stalls;
 mod trees;
+mod waiting;
 
 pub use phases::{
     advances_are_kept, counts_are_small, every_letter_comes_in_time, every_letter_taken_is_apt,
@@ -16,8 +17,9 @@ pub use phases::{
 pub use shown::{
     nothing_comes_to_what_is_shown, orders_are_given_in_quiet, what_is_shown_is_whole,
 };
-pub use stalls::{entries_are_counted, entries_are_few, no_run_stalls};
+pub use stalls::{entries_are_counted, entries_are_few, no_run_stalls, nothing_is_kept_at_the_end};
 pub use trees::{
-    decisions_are_applied_once, decisions_follow_votes, letters_carry_versions,
+    decisions_are_applied_once, decisions_follow_votes, letters_carry_versions, no_step_waits,
     trees_are_decided_once, trees_go_by_stages, turns_come_once,
 };
+pub use waiting::letters_stay_kept_for_a_reason;

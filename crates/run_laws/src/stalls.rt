@@ -1,19 +1,26 @@
 // The end of every run: no run stalls, a run to its end has so many entries, and no run has more than so many.
-ghost use Rattle.std.specs.Prelude.{◌≡◌, ◌≤◌, ◌+◌, ◌*◌, List, [], length, true, reverse};
+ghost use Rattle.std.specs.Prelude.{ℕ, ◌≡◌, ◌<◌, ◌≤◌, ◌+◌, ◌*◌, List, [], length, true, reverse};
 ghost use Rattle.board_rules.specs.Right.{HasFinished};
 ghost use Rattle.letter_types.specs.declared.entries.Entry.{Entry};
 ghost use Rattle.tree_laws.specs.Entries.{entries_of, rounds_in};
 ghost use Rattle.tx_trees.specs.Counts.{advances_in};
 ghost use Rattle.tx_trees.specs.ScriptData.{ScriptData};
 ghost use Rattle.tx_trees.specs.Valid.{IsValid};
+ghost use Rattle.world_model.specs.Kept.{kept_in};
 ghost use Rattle.world_model.specs.Runs.{client_in, in_flight, IsStepRun};
 ghost use Rattle.world_model.specs.Tables.{IsRunnable};
 
-/// No run stalls: where no letter is in flight any more, every tree is answered, every advancement has ended, and the
-/// client has finished.
+/// No run stalls, also of a script with strict trees: where no letter is in flight any more, every tree is answered, every
+/// advancement has ended, and the client has finished.
 pub fn no_run_stalls()
-    ensures { (s : ScriptData) (past : List Entry) → IsValid s → IsRunnable s → IsStepRun s past → in_flight s past ≡ []
+    ensures { (s : ScriptData) (past : List Entry) → IsValid s → IsStepRun s past → in_flight s past ≡ []
         → ((client_in s past).finished ≡ true) × HasFinished (reverse past) }
+{}
+
+/// Where no letter is in flight any more, no node keeps one either.
+pub fn nothing_is_kept_at_the_end()
+    ensures { (s : ScriptData) (past : List Entry) (p : ℕ) → IsValid s → IsStepRun s past → in_flight s past ≡ [] → p < s.nodes
+        → kept_in s past p ≡ [] }
 {}
 
 /// A run in which no letter is in flight any more has as many entries as its trees, advancements and rounds take.

@@ -1,6 +1,7 @@
 // Trees, of every kind, in every run of every valid script.
 ghost use Rattle.std.specs.Prelude.{ℕ, Bool, true, false, ◌<◌, ◌≤◌, ◌+◌, ◌≡◌, List, length, reverse, Some};
 ghost use Rattle.board_rules.specs.Histories.{places_of};
+ghost use Rattle.board_rules.specs.Right.{IsAtOnce};
 ghost use Rattle.letter_types.specs.declared.entries.Entry.{Entry};
 ghost use Rattle.letter_types.specs.declared.entries.Letter.{Letter};
 ghost use Rattle.tree_laws.specs.Applied.{applied_at, decided_as, decisions_to, noes};
@@ -56,4 +57,11 @@ pub fn decisions_are_applied_once()
 pub fn decisions_follow_votes()
     ensures { (s : ScriptData) (past : List Entry) (t : ℕ) → IsValid s → IsStepRun s past → t < length s.trees
         → (1 ≤ decided_as past t true → noes past t ≡ 0) × (1 ≤ decided_as past t false → 1 ≤ noes past t) }
+{}
+
+/// In every run no read or commuting step waits for anything but a strict tree's lock: an entry that takes the letter of
+/// a subtransaction of a read tree does it, and one of an update tree does it too, unless the look back over the acts
+/// before names a lock in its way. Then it parks it for that lock's tree. Nothing else is parked.
+pub fn no_step_waits()
+    ensures { (s : ScriptData) (past : List Entry) → IsValid s → IsStepRun s past → IsAtOnce s (reverse past) }
 {}

@@ -14,4 +14,4 @@ pub given_step : (s : ScriptData) (old new : List Entry) → IsSound s → IsSte
     → Each (λ (o : Outgoing). IsGivenInQuiet s (reverse old) o.body) e.sent
 given_step s old new sound run e is =
     let more : reverse new ≡ e ∷ reverse old = ap reverse is ∙ reverse-append old (e ∷ []) in
-    given_run s (reverse old) e sound (subst (IsStepRun s) more run)
+    given_run s (reverse old) e sound.valid (subst (IsStepRun s) more run)

@@ -11,3 +11,6 @@ pub mod MeantRows
 pub mod Meant
 pub mod NoWakes
 pub mod Waking
+pub mod Holding
+pub mod Parkings
+pub mod Served

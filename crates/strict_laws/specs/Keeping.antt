@@ -5,7 +5,11 @@ use Rattle.tv_base.specs.declared.numbers.TreeNo.{TreeNo}
 use Rattle.letter_types.specs.declared.bodies.Body.{Body}
 use Rattle.letter_types.specs.declared.kept.Why.{Why}
 use Rattle.letter_types.specs.declared.kept.Why.TheVariants.{ForShow, ForHolder, Called}
+use Rattle.nc_locks.specs.declared.modes.Lock.{Lock}
 use Rattle.nc_locks.specs.declared.modes.Met.{Met}
+use Rattle.nc_locks.specs.declared.modes.Mode.TheVariants.{Mark}
+use Rattle.nc_locks.specs.Locks.{has_lock}
+use Rattle.nc_locks.specs.Modes.{modes_conflict}
 use Rattle.script_parts.specs.ScriptData.{ScriptData, ops_of, updates}
 use Rattle.world_model.specs.Core.{Core}
 use Rattle.world_model.specs.Named.{is_strict_at}
@@ -22,3 +26,10 @@ IsKeptFor s c t k Called = ⊥
 abbrev pub KeptForAReason : Type 0
 KeptForAReason = (s : ScriptData) (c : Core) (body : Body) (k : CoreKeeping) → core_keeping s c body ≡ Some k
     → IsKeptFor s c k.tree k.sub k.why
+
+-- tree t has a lock there that is in the way of a mark
+pub record Holds (c : Core) (t : TreeNo) : Type 0 where
+  pub lock : Lock
+  pub there : has_lock lock c.locks ≡ true
+  pub tree : lock.tree ≡ t
+  pub firm : modes_conflict Mark lock.mode ≡ true

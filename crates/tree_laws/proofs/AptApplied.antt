@@ -53,7 +53,7 @@ decides_of t false acts.Finished none = refl
 decides_of t true _ none = refl
 decides_of t false _ none = refl
 
-applies_of : (t : ℕ) (b : Bool) → OfRulings (applies_as t b)
+pub applies_of : (t : ℕ) (b : Bool) → OfRulings (applies_as t b)
 applies_of t true (acts.Applied u commit) none = absurd (cc none)
 applies_of t false (acts.Applied u commit) none = absurd (cc none)
 applies_of t true acts.Finished none = refl
@@ -202,7 +202,7 @@ applied_decides t false Go = refl
 applied_decides t true _ = refl
 applied_decides t false _ = refl
 
-applied_tells : (t : ℕ) (b : Bool) (body : Body) → tally (applies_as t b) (applied_acts body) ≡ tells_decision t b body
+pub applied_tells : (t : ℕ) (b : Bool) (body : Body) → tally (applies_as t b) (applied_acts body) ≡ tells_decision t b body
 applied_tells t true (Decide u v commit) = omega arith
 applied_tells t false (Decide u v commit) = omega arith
 applied_tells t true Go = refl
@@ -210,7 +210,7 @@ applied_tells t false Go = refl
 applied_tells t true _ = refl
 applied_tells t false _ = refl
 
-ruled_applies : (t : ℕ) (b : Bool) (rs : Refusals) (found : Option Answered) → tally (applies_as t b) (ruled_acts rs found) ≡ 0
+pub ruled_applies : (t : ℕ) (b : Bool) (rs : Refusals) (found : Option Answered) → tally (applies_as t b) (ruled_acts rs found) ≡ 0
 ruled_applies t b rs None = refl
 ruled_applies t true rs (Some a) = refl
 ruled_applies t false rs (Some a) = refl

@@ -86,7 +86,7 @@ pub stopped : (s : ScriptData) (c : Client) (first : List Outgoing) → c.next �
 stopped s c first le =
     stopped_by s c (submitted c (take c.next s.rows) (drop c.next s.rows)) le (stops c (take c.next s.rows) (drop c.next s.rows))
 
-stopped_most : (s : ScriptData) (c : Client) → IsStopped s c → c.next ≤ length s.rows
+pub stopped_most : (s : ScriptData) (c : Client) → IsStopped s c → c.next ≤ length s.rows
 stopped_most s c (inl all) = omega (arith, all)
 stopped_most s c (inr (at, waits)) = omega (arith, get_below s.rows c.next SettleRow at)
 

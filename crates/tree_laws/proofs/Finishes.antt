@@ -59,7 +59,7 @@ done_below s past (suc n) t k c sound good quiet root lt =
     done_by s past n t k c sound good quiet root lt (λ j less sub. done_below s past n t j sub sound good quiet root less) (zero_or k)
 
 -- the place of a notice that is missing
-place_missing : (ns : List (Option Gets)) → 1 ≤ missing_count ns → (k : ℕ) × (k < length ns) × (slice_get ns k ≡ Some None)
+pub place_missing : (ns : List (Option Gets)) → 1 ≤ missing_count ns → (k : ℕ) × (k < length ns) × (slice_get ns k ≡ Some None)
 place_missing [] some = absurd (omega arith)
 place_missing (None ∷ ns) some = (0, omega arith, refl)
 place_missing (Some values ∷ ns) some = let (k, lt, at) = place_missing ns some in (suc k, omega (arith, lt), at)
@@ -95,7 +95,7 @@ rooted_here t u i n rest true is at lt later some = grind (arith, nat_tests)
 rooted_here t u i n rest false is at lt later some = later (omega arith)
 
 -- a row names a tree of the script
-rooted_below : (t i n : ℕ) (rows : List ScriptRow) → NamesInOrder i n rows → 1 ≤ roots_sent t rows → t < n
+pub rooted_below : (t i n : ℕ) (rows : List ScriptRow) → NamesInOrder i n rows → 1 ≤ roots_sent t rows → t < n
 rooted_below t i n [] names some = absurd (omega arith)
 rooted_below t i n (TreeRow u ∷ rows) names some =
     rooted_here t u.0 i n (roots_sent t rows) (u.0 == t) refl names.0 (omega (arith, names_end (i + 1) n rows names.1)) (rooted_below t (i + 1) n rows names.1) some

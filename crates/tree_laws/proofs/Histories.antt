@@ -30,18 +30,6 @@ whole e past n lt =
     let all : length (reverse past ++ e ∷ []) ≤ n = omega (arith, length-append (reverse past) (e ∷ [])) in
     rw (reverse_more e past) (sym (take_all n (reverse past ++ e ∷ []) all))
 
--- what holds of each entry and the history up to it, with one entry more
-pub one_more : (P : List Entry → Entry → Type 0) (e : Entry) (past : List Entry)
-    → ((n : ℕ) (x : Entry) → slice_get (reverse past) n ≡ Some x → P (take (n + 1) (reverse past)) x)
-    → P (reverse (e ∷ past)) e
-    → (n : ℕ) (x : Entry) → slice_get (reverse (e ∷ past)) n ≡ Some x → P (take (n + 1) (reverse (e ∷ past))) x
-one_more P e past old new n x here =
-    elim (slice_get_split (reverse past) e n x (rw (reverse_more e past) at here)) [
-      | inl p ↦ subst (λ (h : List Entry). P h x) (earlier e past (n + 1) (omega (arith, p.0))) (old n x p.1)
-      | inr p ↦ subst (λ (y : Entry). P (take (n + 1) (reverse (e ∷ past))) y) p.1
-          (subst (λ (h : List Entry). P h e) (whole e past (n + 1) (omega (arith, p.0))) new)
-    ]
-
 -- up to before the last entry
 before_last : (e : Entry) (past : List Entry) (n : ℕ) → n ≡ length (reverse past)
     → reverse past ≡ take n (reverse (e ∷ past))

@@ -37,7 +37,6 @@ pub mod Histories
 pub mod Versions
 pub mod Seen
 pub mod OwnDeeds
-pub mod Waits
 pub mod SampledReads
 pub mod Numbers
 pub mod Turns

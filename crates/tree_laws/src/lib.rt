@@ -1,5 +1,4 @@
-//! Laws of trees in runs: what is asked for is done, and once; nothing waits; nodes see their own deeds; how a run
-//! ends.
+//! Laws of trees in runs: what is asked for is done, and once; nodes see their own deeds; how a run ends.
 #![tactic(auto)]
 
 mod deeds;
@@ -16,7 +15,7 @@ ghost use Rattle.world_model.specs.Runs.{node_in, IsStepRun};
 ghost use Rattle.world_model.specs.Tables.{IsRunnable};
 ghost use Rattle.world_model.specs.Timely.{AllTimely};
 
-pub use deeds::{no_step_waits, nodes_see_their_own_deeds};
+pub use deeds::nodes_see_their_own_deeds;
 pub use run_ends::{no_round_without_advancements, the_client_finishes_once};
 
 /// In every run of a valid script of update and read trees in which each letter came in time and the client has

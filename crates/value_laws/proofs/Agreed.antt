@@ -32,7 +32,8 @@ use Rattle.world_model.proofs.Orders.{no_acts}
 use Rattle.world_model.proofs.Outstanding.{IsOutstanding}
 use Rattle.world_model.proofs.Scripts.{get_below}
 use Rattle.board_rules.specs.Stands.{votes_yes}
-use Rattle.tree_laws.specs.Applied.{DecidedByVotes, applied_at, decided_as, decisions_to, noes, votes_no}
+use Rattle.tree_laws.specs.Applied.{applied_at, decided_as, decisions_to, noes, votes_no}
+use Rattle.tree_laws.proofs.AptVotes.{decided_by_votes}
 use Rattle.tree_laws.specs.Stages.{StageAt, Answered, Gathers, Holds, Unborn}
 use Rattle.tree_laws.specs.Turns.{has_turn, turns}
 use Rattle.tree_laws.proofs.AptApplied.{applied_where_decided}
@@ -188,10 +189,10 @@ pub record IsAgreed (s : ScriptData) (past : List Entry) (p t : ℕ) : Type 0 wh
   pub none : applied_at past t true p + applied_at past t false p ≡ 0
   pub yeses : (k : ℕ) → k < length (subs_at s t) → node_of s t k ≡ p → 1 ≤ yeses_at past t k p
 
-pub agreed : (s : ScriptData) (past : List Entry) (r : Letter) (p : ℕ) (t : TreeNo) (v : Version) → DecidedByVotes → IsValid s → AllApt s past
+pub agreed : (s : ScriptData) (past : List Entry) (r : Letter) (p : ℕ) (t : TreeNo) (v : Version) → IsValid s → AllApt s past
     → IsStepRun s past → p < s.nodes → IsOutstanding s past r → r.to.0 ≡ p → r.body ≡ Decide t v true → is_strict_at s t.0 ≡ true
     → visits (subs_at s t.0) p ≡ true → IsAgreed s past p t.0
-agreed s past r p t v votes valid apt run lt out to is strict visited =
+agreed s past r p t v valid apt run lt out to is strict visited =
     let there = get_below s.trees t.0 (strict_there s t.0 strict).tree (strict_there s t.0 strict).at in
     let once = once_in_run s past t.0 valid apt run there in
     let waits : 1 ≤ decisions_to s past t.0 true p = decision_waits s past r p t v out to is in
@@ -203,5 +204,5 @@ agreed s past r p t v votes valid apt run lt out to is strict visited =
       yeses = λ k less node.
           let turned = turned_by s past t.0 k less (omega (arith, some)) once (stages_of_trees s past valid apt run t.0 there) in
           subst (λ (q : ℕ). 1 ≤ yeses_at past t.0 k q) node
-          (omega (arith, turned, turns_are_votes s past t.0 k apt run strict, (votes s past t.0 valid apt run there).0 some));
+          (omega (arith, turned, turns_are_votes s past t.0 k apt run strict, (decided_by_votes s past t.0 valid apt run there).0 some));
     }

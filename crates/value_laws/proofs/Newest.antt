@@ -50,7 +50,6 @@ use Rattle.world_model.proofs.Outstanding.{IsOutstanding, keeping_elsewhere}
 use Rattle.world_model.proofs.Scripts.{get_below}
 use Rattle.board_rules.specs.Histories.{Place, places_at, places_of, version_in}
 use Rattle.board_rules.proofs.Places.{version_stays}
-use Rattle.tree_laws.specs.Applied.{DecidedByVotes}
 use Rattle.tree_laws.specs.Dids.{asks}
 use Rattle.tree_laws.proofs.AptItems.{Applies, Changes, Collects, Raises, Rests, Shows, Touches, core_changes}
 use Rattle.tree_laws.proofs.AptDecisions.{dated_here}
@@ -253,7 +252,6 @@ is_outstanding s past e p r run d f = omega (arith, does_number f s past e p r d
 
 -- All that is known where a node does a letter.
 pub record WorksByVotes (s : ScriptData) (past : List Entry) (e : Entry) (p : ℕ) (r : Letter) : Type 0 where
-  pub votes : DecidedByVotes
   pub valid : IsValid s
   pub apt : AllApt s (e ∷ past)
   pub run : IsStepRun s (e ∷ past)
@@ -274,7 +272,7 @@ agreed_here s past e p r t v w is =
     let visited : visits (subs_at s t.0) p ≡ true =
     left_true (visits (subs_at s t.0) p) (nat_lt r.from.0 s.nodes) (right_true (is_strict_at s t.0) rest named) in (
       strict,
-      agreed s past r p t v w.votes w.valid w.apt.1 w.run.1 w.does.brings.below (is_outstanding s past e p r w.run w.does) w.does.brings.to is
+      agreed s past r p t v w.valid w.apt.1 w.run.1 w.does.brings.below (is_outstanding s past e p r w.run w.does) w.does.brings.to is
           strict visited,
     )
 
@@ -378,25 +376,25 @@ apart_newest s past e p ne old l has hold =
     (ap (λ (x : Core). item_in l.item x.node.items) same) (ap (λ (x : Core). x.node.turns.low.0) same)
     (old l (sym (ap (λ (x : Core). has_lock l x.locks) same) ∙ has) hold))
 
-newest_at : (s : ScriptData) (past : List Entry) (e : Entry) (p : ℕ) → DecidedByVotes → IsValid s → AllApt s (e ∷ past)
+newest_at : (s : ScriptData) (past : List Entry) (e : Entry) (p : ℕ) → IsValid s → AllApt s (e ∷ past)
     → IsStepRun s (e ∷ past) → p < s.nodes → e.actor.0 ≡ p → Case s past e → AllNewest s past p → AllNewest s (e ∷ past) p
-newest_at s past e p votes valid apt run lt at (NodeDoes q r d) old =
+newest_at s past e p valid apt run lt at (NodeDoes q r d) old =
     let qp : q ≡ p = sym d.brings.at ∙ at in
     subst (λ (n : ℕ). AllNewest s past n → AllNewest s (e ∷ past) n) qp
-    (does_newest s past e q r (record { votes = votes; valid = valid; apt = apt; run = run; does = d })) old
-newest_at s past e p votes valid apt run lt at (NodeKeeps q r k d) old =
+    (does_newest s past e q r (record { valid = valid; apt = apt; run = run; does = d })) old
+newest_at s past e p valid apt run lt at (NodeKeeps q r k d) old =
     let qp : q ≡ p = sym d.brings.at ∙ at in
     subst (λ (n : ℕ). AllNewest s past n → AllNewest s (e ∷ past) n) qp (keeps_newest s past e q r k d) old
-newest_at s past e p votes valid apt run lt at (Coordinates out says) old = absurd (omega (arith, at, lt, out))
-newest_at s past e p votes valid apt run lt at (Submits out says) old = absurd (omega (arith, at, lt, out))
+newest_at s past e p valid apt run lt at (Coordinates out says) old = absurd (omega (arith, at, lt, out))
+newest_at s past e p valid apt run lt at (Submits out says) old = absurd (omega (arith, at, lt, out))
 
-pub newest_run : DecidedByVotes → (s : ScriptData) (past : List Entry) (p : ℕ) → IsValid s → AllApt s past → IsStepRun s past → p < s.nodes
+pub newest_run : (s : ScriptData) (past : List Entry) (p : ℕ) → IsValid s → AllApt s past → IsStepRun s past → p < s.nodes
     → AllNewest s past p
-newest_run votes s [] p valid apt run lt = λ l has hold. absurd (cc has)
-newest_run votes s (e ∷ past) p valid apt run lt = by (cases_eq e.actor.0 p) (newest_run votes s past p valid apt.1 run.1 lt) where
+newest_run s [] p valid apt run lt = λ l has hold. absurd (cc has)
+newest_run s (e ∷ past) p valid apt run lt = by (cases_eq e.actor.0 p) (newest_run s past p valid apt.1 run.1 lt) where
   by : (e.actor.0 ≡ p) ⊎ (e.actor.0 ≢ p) → AllNewest s past p → AllNewest s (e ∷ past) p
-  by (inl at) old = newest_at s past e p votes valid apt run lt at (case s past e run.0 apt.0) old
+  by (inl at) old = newest_at s past e p valid apt run lt at (case s past e run.0 apt.0) old
   by (inr ne) old = apart_newest s past e p ne old
 
 pub newest_under_holds : NewestUnderHolds
-newest_under_holds votes s past p l valid apt run lt has hold = newest_run votes s past p valid apt run lt l has hold
+newest_under_holds s past p l valid apt run lt has hold = newest_run s past p valid apt run lt l has hold

@@ -48,7 +48,6 @@ use Rattle.world_model.proofs.Every.{each_map, each_none, node_kept}
 use Rattle.world_model.proofs.Keepings.{of_kept}
 use Rattle.board_rules.specs.Histories.{Place, places_at, version_in}
 use Rattle.board_rules.specs.Worth.{first_value}
-use Rattle.tree_laws.specs.Applied.{DecidedByVotes}
 use Rattle.tree_laws.specs.Carried.{CarriesVersion}
 use Rattle.tree_laws.specs.OwnValues.{seen_at}
 use Rattle.tree_laws.proofs.AptDecisions.{dated_here, letters_carry_versions, misdecided}
@@ -205,7 +204,7 @@ commit_here s past e p r t v ys w is =
       reads = rw tree.subs (ops_read s p (ops_at p tree.tree.subs) (node_ops_fit s t.0 p tree.tree Strict w.valid tree.at tree.kind));
       top =
           all_top s past p t v (ops_at p (subs_at s t.0)) (in_window-low c.node.turns.low.0 v.0 within) version
-          (newest_run w.votes s past p w.valid w.apt.1 w.run.1 lt) (commit_held s past p t w.valid w.apt.1 w.run.1 lt it.0 it.1);
+          (newest_run s past p w.valid w.apt.1 w.run.1 lt) (commit_held s past p t w.valid w.apt.1 w.run.1 lt it.0 it.1);
     }
 
 ready_here : (s : ScriptData) (past : List Entry) (e : Entry) (p : ℕ) (r : Letter) (ys : List Place) → WorksByVotes s past e p r
@@ -302,28 +301,28 @@ apart_sees s past e p ne old ys x v row at node low =
     ∙ old (places_at e ++ ys) x v row at node le
     ∙ ap (λ (y : Value). Some y) (sym (other_places s zs p x v e.actor.0 value e.acts ne) ∙ value_then s past e ys p x v)
 
-sees_at : (s : ScriptData) (past : List Entry) (e : Entry) (p : ℕ) → DecidedByVotes → IsValid s → AllApt s (e ∷ past)
+sees_at : (s : ScriptData) (past : List Entry) (e : Entry) (p : ℕ) → IsValid s → AllApt s (e ∷ past)
     → IsStepRun s (e ∷ past) → p < s.nodes → e.actor.0 ≡ p → Case s past e → SeesOwnActs s past p → SeesOwnActs s (e ∷ past) p
-sees_at s past e p votes valid apt run lt at (NodeDoes q r d) old =
+sees_at s past e p valid apt run lt at (NodeDoes q r d) old =
     let qp : q ≡ p = sym d.brings.at ∙ at in
     subst (λ (n : ℕ). SeesOwnActs s past n → SeesOwnActs s (e ∷ past) n) qp
-    (does_sees s past e q r (record { votes = votes; valid = valid; apt = apt; run = run; does = d })) old
-sees_at s past e p votes valid apt run lt at (NodeKeeps q r k d) old =
+    (does_sees s past e q r (record { valid = valid; apt = apt; run = run; does = d })) old
+sees_at s past e p valid apt run lt at (NodeKeeps q r k d) old =
     let qp : q ≡ p = sym d.brings.at ∙ at in
     subst (λ (n : ℕ). SeesOwnActs s past n → SeesOwnActs s (e ∷ past) n) qp (keeps_sees s past e q r k d) old
-sees_at s past e p votes valid apt run lt at (Coordinates out says) old = absurd (omega (arith, at, lt, out))
-sees_at s past e p votes valid apt run lt at (Submits out says) old = absurd (omega (arith, at, lt, out))
+sees_at s past e p valid apt run lt at (Coordinates out says) old = absurd (omega (arith, at, lt, out))
+sees_at s past e p valid apt run lt at (Submits out says) old = absurd (omega (arith, at, lt, out))
 
-sees_run : DecidedByVotes → (s : ScriptData) (past : List Entry) (p : ℕ) → IsValid s → AllApt s past → IsStepRun s past → p < s.nodes
+sees_run : (s : ScriptData) (past : List Entry) (p : ℕ) → IsValid s → AllApt s past → IsStepRun s past → p < s.nodes
     → SeesOwnActs s past p
-sees_run votes s [] p valid apt run lt = λ ys x v row at node low.
+sees_run s [] p valid apt run lt = λ ys x v row at node low.
     start_shows s p 0 x v x row s.items at node at (omega arith) ∙ ap (λ (o : Option ItemRow). Some (first_value o)) (sym at)
-sees_run votes s (e ∷ past) p valid apt run lt = by (cases_eq e.actor.0 p) (sees_run votes s past p valid apt.1 run.1 lt) where
+sees_run s (e ∷ past) p valid apt run lt = by (cases_eq e.actor.0 p) (sees_run s past p valid apt.1 run.1 lt) where
   by : (e.actor.0 ≡ p) ⊎ (e.actor.0 ≢ p) → SeesOwnActs s past p → SeesOwnActs s (e ∷ past) p
-  by (inl at) old = sees_at s past e p votes valid apt run lt at (case s past e run.0 apt.0) old
+  by (inl at) old = sees_at s past e p valid apt run lt at (case s past e run.0 apt.0) old
   by (inr ne) old = apart_sees s past e p ne old
 
 pub sees_by_acts : SeesByActs
-sees_by_acts votes s past p x v r valid apt run lt at node low =
-    sees_run votes s past p valid apt run lt [] x v r at node low
+sees_by_acts s past p x v r valid apt run lt at node low =
+    sees_run s past p valid apt run lt [] x v r at node low
     ∙ ap (λ (zs : List Place). Some (fold (value_by_place s zs p x v) (first_of s x) (before past))) (append-nil (before past))

@@ -15,7 +15,6 @@ use Rattle.world_model.specs.Named.{is_strict_at}
 use Rattle.world_model.specs.Node.{Node}
 use Rattle.world_model.specs.Runs.{IsStepRun, keeping_in, node_in}
 use Rattle.board_rules.specs.Histories.{Place, places_of, version_in}
-use Rattle.tree_laws.specs.Applied.{DecidedByVotes}
 
 -- the tree of this lock is strict and born, and each version that the node holds of the lock's item is at most the
 -- tree's, or at most the node's low version
@@ -25,8 +24,8 @@ pub record IsNewest (s : ScriptData) (xs : List Place) (st : Node) (l : Lock) : 
   pub born : version_in l.tree.0 xs ≡ Some version
   pub most : (h : Held) → item_in l.item st.items ≡ Some h → AllByRecursion (λ x. x.0.0 ≤ max st.turns.low.0 version.0) h
 
--- where trees are decided on by their votes: nothing newer is held of an item than the tree that holds it
+-- nothing newer is held of an item than the tree that holds it
 abbrev pub NewestUnderHolds : Type 0
-NewestUnderHolds = DecidedByVotes → (s : ScriptData) (past : List Entry) (p : ℕ) (l : Lock) → IsValid s → AllApt s past
+NewestUnderHolds = (s : ScriptData) (past : List Entry) (p : ℕ) (l : Lock) → IsValid s → AllApt s past
     → IsStepRun s past → p < s.nodes → has_lock l (keeping_in s past p).core.locks ≡ true → l.mode ≡ Hold
     → IsNewest s (places_of (reverse past)) (node_in s past p) l

@@ -13,7 +13,6 @@ use Rattle.world_model.specs.Named.{is_strict_at}
 use Rattle.world_model.specs.Runs.{IsStepRun, node_in}
 use Rattle.board_rules.specs.Histories.{Place, places_of, version_in}
 use Rattle.board_rules.specs.Worth.{after_ops, first_value}
-use Rattle.tree_laws.specs.Applied.{DecidedByVotes}
 use Rattle.tree_laws.specs.OwnValues.{is_up_to, seen_at}
 
 -- among these acts, the value of item x after an act of node p: a Did of an update tree of version at most v applies its
@@ -32,9 +31,9 @@ value_by_place s zs p x v w y = if y.node == p then value_by_act s zs p x v w y.
 abbrev pub value_by_acts : ScriptData → List Place → ℕ → ℕ → ℕ → Value
 value_by_acts s zs p x v = fold (value_by_place s zs p x v) (first_value (slice_get s.items x)) zs
 
--- where trees are decided on by their votes: each node sees of each of its items, in each version from its low version
+-- each node sees of each of its items, in each version from its low version
 -- up, what its own acts have made of it
 abbrev pub SeesByActs : Type 0
-SeesByActs = DecidedByVotes → (s : ScriptData) (past : List Entry) (p x v : ℕ) (r : ItemRow) → IsValid s → AllApt s past
+SeesByActs = (s : ScriptData) (past : List Entry) (p x v : ℕ) (r : ItemRow) → IsValid s → AllApt s past
     → IsStepRun s past → p < s.nodes → slice_get s.items x ≡ Some r → r.node.0 ≡ p → (node_in s past p).turns.low.0 ≤ v
     → seen_at s past p x v ≡ Some (value_by_acts s (places_of (reverse past)) p x v)

@@ -8,7 +8,7 @@ pub fn vote_locks_stand()
     ensures { VoteLocksStand }
 {}
 
-/// Where trees are decided on by their votes, in every run of apt letters: a tree that holds an item of a node is strict
+/// In every run of apt letters: a tree that holds an item of a node is strict
 /// and born, and each version that the node holds of the item is at most the tree's, or at most the node's low version.
 pub fn nothing_newer_is_held()
     ensures { NewestUnderHolds }

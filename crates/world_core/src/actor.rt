@@ -10,7 +10,7 @@ ghost use Rattle.pair_counters.specs.Numbers.{MOST_COUNT};
 use crate::node::NodeState;
 use advance_coord::{Coordinator, CoordinatorPrepared};
 use client_rows::{Client, ClientPrepared};
-use letter_types::{Letter, Step, StepOut};
+use letter_types::{Boxed, Letter, Step, StepOut};
 use node_keeping::KeepingPrepared;
 use std::alloc::Global;
 use tv_base::{ActorNo, NoMemory, NodeNo};
@@ -42,8 +42,8 @@ impl Drop for ActorState {
 pub enum ActorPrepared {
     /// A node's step.
     Node(KeepingPrepared),
-    /// The coordinator's step.
-    Coordinator(CoordinatorPrepared),
+    /// The coordinator's step, which is rare, and large.
+    Coordinator(Boxed<CoordinatorPrepared>),
     /// The client's step.
     Client(ClientPrepared),
 }
@@ -55,7 +55,7 @@ impl ActorPrepared {
     {
         match self {
             ActorPrepared::Node(prepared) => prepared.out(),
-            ActorPrepared::Coordinator(prepared) => prepared.out(),
+            ActorPrepared::Coordinator(prepared) => prepared.get().out(),
             ActorPrepared::Client(prepared) => prepared.out(),
         }
     }
@@ -96,7 +96,7 @@ pub fn actor_prepare(
             Ok(ActorPrepared::Node(prepared))
         }
         ActorState::Coordinator(coordinator) => {
-            let prepared = coordinator.prepare(alloc, letter)?;
+            let prepared = Boxed::new(alloc, coordinator.prepare(alloc, letter)?)?;
             Ok(ActorPrepared::Coordinator(prepared))
         }
         ActorState::Client(client) => {
@@ -118,7 +118,7 @@ pub fn actor_done(state: &mut ActorState, prepared: ActorPrepared) -> Result<Ste
             _ => unreachable!(),
         },
         ActorPrepared::Coordinator(prepared) => match state {
-            ActorState::Coordinator(coordinator) => Ok(coordinator.done(prepared)),
+            ActorState::Coordinator(coordinator) => Ok(coordinator.done(prepared.into_inner())),
             _ => unreachable!(),
         },
         ActorPrepared::Client(prepared) => match state {

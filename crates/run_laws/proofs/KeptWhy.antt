@@ -1,0 +1,350 @@
+-- In every run each letter that a node keeps has its reason still: the root of a strict tree waits for a Show, and a
+-- subtransaction of an update tree for a holder that its node has.
+use Rattle.std.proofs.Common.{◌≡◌, ◌≢◌, ◌⊎◌, inl, inr, ℕ, ◌+◌, ◌<◌, ◌≤◌, ◌==◌, ◌&&◌, Bool, true, false, List, [], ◌∷◌, refl, sym, ap, subst, ◌∙◌, arith, Option, Some, None}
+use Rattle.std.specs.Prelude.{if◌then◌else◌, nat_lt}
+use Rattle.std.proofs.lemmas.Bool.{cases_eq}
+use Rattle.std.proofs.lemmas.Bool.Decides.{nat_tests}
+use Rattle.tv_base.specs.declared.numbers.SubNo.{SubNo}
+use Rattle.tv_base.specs.declared.numbers.TreeNo.{TreeNo}
+use Rattle.tv_base.specs.declared.numbers.Version.{Version}
+use Rattle.letter_types.specs.Kept.{brought, is_called, is_called_for, kept_without, wakes_by, with_called, without_called}
+use Rattle.letter_types.specs.declared.bodies.Body.{Body}
+use Rattle.letter_types.specs.declared.bodies.Body.TheVariants.{Decide, Release, Show, Wake}
+use Rattle.letter_types.specs.declared.entries.Entry.{Entry}
+use Rattle.letter_types.specs.declared.entries.Letter.{Letter}
+use Rattle.letter_types.specs.declared.kept.KeptLetter.{KeptLetter}
+use Rattle.letter_types.specs.declared.kept.Why.{Why}
+use Rattle.letter_types.specs.declared.kept.Why.TheVariants.{Called, ForHolder, ForShow}
+use Rattle.letter_types.specs.Steps.{Out}
+use Rattle.script_parts.specs.ScriptData.{updates}
+use Rattle.script_parts.specs.declared.parts.TreeKind.{TreeKind}
+use Rattle.script_parts.specs.declared.parts.TreeKind.TheVariants.{Update, Read, Strict}
+use Rattle.tx_trees.specs.ScriptData.{ScriptData, ops_of}
+use Rattle.tx_trees.specs.Valid.{IsValid}
+use Rattle.world_model.specs.Core.{Core}
+use Rattle.world_model.specs.Calls.{calls}
+use Rattle.world_model.specs.Counts.{Each, one_if}
+use Rattle.world_model.specs.Done.{raised_if}
+use Rattle.world_model.specs.declared.phase.Phase.{Phase}
+use Rattle.world_model.specs.declared.phase.Phase.TheVariants.{Idle, Turning, Counting, Paused, Showing, Sweeping}
+use Rattle.world_model.specs.Keeping.{KeepingNode}
+use Rattle.world_model.specs.Kept.{kept_in}
+use Rattle.world_model.specs.Named.{is_strict_at, tree_kind_at}
+use Rattle.world_model.specs.Node.{Node}
+use Rattle.world_model.specs.Runs.{IsStepRun, coordinator_in, keeping_in, node_in}
+use Rattle.world_model.specs.Strict.{CoreKeeping, core_keeping, core_row}
+use Rattle.world_model.proofs.Cases.{Case, Coordinates as ByCoordinator, Does, Keeps, NodeDoes, NodeKeeps, Submits, case}
+use Rattle.world_model.proofs.Every.{each_append, each_both, each_map}
+use Rattle.world_model.proofs.KeptThere.{IsCoreKeeping, OfKeeping, core_keeps}
+use Rattle.world_model.proofs.Nexts.{Order, Shows, Sweeps, TellsAsked, TellsDone, Turns}
+use Rattle.world_model.proofs.Outstanding.{keeping_elsewhere}
+use Rattle.strict_laws.specs.Keeping.{Holds, IsKeptFor}
+use Rattle.strict_laws.specs.Meant.{IsMeant}
+use Rattle.strict_laws.proofs.ByActs.{kind_updates}
+use Rattle.strict_laws.proofs.Holding.{LetsGo, met_holds, row_stays, same_holds}
+use Rattle.strict_laws.proofs.Reasons.{kept_for_a_reason}
+use Rattle.strict_laws.proofs.Waking.{wakes_find_letters}
+use Rattle.phase_laws.specs.Phases.{IsInPhase}
+use Rattle.phase_laws.proofs.Brought.{brought_meant}
+use Rattle.phase_laws.proofs.Levels.{versions_in_phase}
+use Rattle.phase_laws.proofs.Progress.{Begins, Coordinates, Ends, Hears, Obeys, Progress, Works, brings_to, progress}
+use Rattle.phase_laws.proofs.Small.{small}
+use Rattle.phase_laws.proofs.Working.{RaisesBy}
+use Rattle.tree_laws.proofs.Counts.{one_here}
+use Rattle.run_laws.specs.Waiting.{IsKeptUntil, LettersStayKeptForAReason}
+use Rattle.run_laws.proofs.EveryApt.{all_apt, lawful}
+use Rattle.run_laws.proofs.Holders.{holders}
+
+-- why node p keeps a letter of tree t
+abbrev pub Reason : ScriptData → List Entry → ℕ → TreeNo → Why → Type 0
+Reason s past p t ForShow = (is_strict_at s t.0 ≡ true) × ((node_in s past p).turns.update.0 ≡ (node_in s past p).turns.read.0 + 2)
+Reason s past p t (ForHolder h) = (updates s t.0 ≡ true) × Holds (keeping_in s past p).core h
+Reason s past p t Called = Unit {0}
+
+-- of a strict tree only the root is kept
+pub record IsWaiting (s : ScriptData) (past : List Entry) (p : ℕ) (x : KeptLetter) : Type 0 where
+  pub root : is_strict_at s x.tree.0 ≡ true → x.sub.0 ≡ 0
+  pub why : Reason s past p x.tree x.why
+
+abbrev pub AreWaiting : ScriptData → List Entry → ℕ → List KeptLetter → Type 0
+AreWaiting s past p xs = Each (IsWaiting s past p) xs
+
+-- What is kept after an entry.
+without_by : (P : KeptLetter → Type 0) (t : TreeNo) (k : SubNo) (x : KeptLetter) (xs : List KeptLetter) (test : Bool) → is_called_for t k x ≡ test
+    → Each P (x ∷ xs) → Each P (without_called t k xs) → Each P (without_called t k (x ∷ xs))
+without_by P t k x xs true is all rest = rw is all.1
+without_by P t k x xs false is all rest = rw is (all.0, rest)
+
+each_without : (P : KeptLetter → Type 0) (t : TreeNo) (k : SubNo) (xs : List KeptLetter) → Each P xs → Each P (without_called t k xs)
+each_without P t k [] all = tt
+each_without P t k (x ∷ xs) all = without_by P t k x xs (is_called_for t k x) refl all (each_without P t k xs all.1)
+
+each_meanwhile : (P : KeptLetter → Type 0) (xs : List KeptLetter) (b : Body) → Each P xs → Each P (kept_without xs b)
+each_meanwhile P xs (Wake t k) all = each_without P t k xs all
+each_meanwhile P xs _ all = all
+
+woken_by : (Q : KeptLetter → Type 0) (x : KeptLetter) (test b : Bool) → test ≡ b
+    → (test ≡ true → Q (record x { why = Called })) → (test ≡ false → Q x)
+    → Q (if test then record x { why = Called } else x)
+woken_by Q x test true is hit miss = rw is (hit is)
+woken_by Q x test false is hit miss = rw is (miss is)
+
+each_woken : (P Q : KeptLetter → Type 0) (test : Why → Bool) (xs : List KeptLetter)
+    → ((x : KeptLetter) → test x.why ≡ true → P x → Q (record x { why = Called }))
+    → ((x : KeptLetter) → test x.why ≡ false → P x → Q x) → Each P xs → Each Q (with_called test xs)
+each_woken P Q test [] hit miss all = tt
+each_woken P Q test (x ∷ xs) hit miss all =
+    (woken_by Q x (test x.why) (test x.why) refl (λ is. hit x is all.0) (λ is. miss x is all.0), each_woken P Q test xs hit miss all.1)
+
+-- The numbers of a node.
+near_by : (phase : Phase) (u : ℕ) (st : Node) → 1 ≤ u → IsInPhase phase u st.turns
+    → (st.turns.read.0 + 1 ≤ st.turns.update.0) × (st.turns.update.0 ≤ st.turns.read.0 + 2)
+near_by Idle u st some at = (omega (arith, some, at.update_from, at.read_to), omega (arith, some, at.update_to, at.read_from))
+near_by Turning u st some at = (omega (arith, some, at.update_from, at.read_to), omega (arith, some, at.update_to, at.read_from))
+near_by (Counting true) u st some at = (omega (arith, some, at.update_from, at.read_to), omega (arith, some, at.update_to, at.read_from))
+near_by (Counting false) u st some at = (omega (arith, some, at.update_from, at.read_to), omega (arith, some, at.update_to, at.read_from))
+near_by (Paused true) u st some at = (omega (arith, some, at.update_from, at.read_to), omega (arith, some, at.update_to, at.read_from))
+near_by (Paused false) u st some at = (omega (arith, some, at.update_from, at.read_to), omega (arith, some, at.update_to, at.read_from))
+near_by Showing u st some at = (omega (arith, some, at.update_from, at.read_to), omega (arith, some, at.update_to, at.read_from))
+near_by Sweeping u st some at = (omega (arith, some, at.update_from, at.read_to), omega (arith, some, at.update_to, at.read_from))
+
+-- the version that is updated is one or two above the one that is read
+near : (s : ScriptData) (past : List Entry) (p : ℕ) → IsValid s → IsStepRun s past → p < s.nodes
+    → ((node_in s past p).turns.read.0 + 1 ≤ (node_in s past p).turns.update.0) × ((node_in s past p).turns.update.0 ≤ (node_in s past p).turns.read.0 + 2)
+near s past p valid run lt =
+    let laws = lawful s valid in
+    let apt = all_apt s past valid run in
+    near_by (coordinator_in s past).phase (coordinator_in s past).update (node_in s past p) (omega (arith, (small s past laws run apt).ended))
+    (versions_in_phase s past laws run apt p lt)
+
+-- an entry that shows nothing to the node
+record Rises (old new : Node) : Type 0 where
+  read : new.turns.read.0 ≡ old.turns.read.0
+  update : old.turns.update.0 ≤ new.turns.update.0
+
+same_rises : (old new : Node) → new ≡ old → Rises old new
+same_rises old new same = subst (λ (st : Node). Rises old st) (sym same) (record { read = refl; update = omega arith })
+
+works_rises : (s : ScriptData) (old new : Node) (body : Body) → RaisesBy s old.turns new.turns body → Rises old new
+works_rises s old new body r = record { read = rw r.turns (read_by r.raises); update = rw r.turns (update_by r.raises r.higher) } where
+  read_by : (b : Bool) → (raised_if b r.version old.turns).read.0 ≡ old.turns.read.0
+  read_by true = refl
+  read_by false = refl
+
+  update_by : (b : Bool) → (b ≡ true → old.turns.update.0 < r.version) → old.turns.update.0 ≤ (raised_if b r.version old.turns).update.0
+  update_by true higher = omega (arith, higher refl)
+  update_by false higher = omega arith
+
+turn_rises : (old : Node) (v : ℕ) (b : Bool) → nat_lt old.turns.update.0 v ≡ b
+    → old.turns.update.0 ≤ (if nat_lt old.turns.update.0 v then record old.turns { update = record { 0 = v } } else old.turns).update.0
+turn_rises old v true is = let lt : old.turns.update.0 < v = grind (arith, nat_tests) in rw is (omega (arith, lt))
+turn_rises old v false is = rw is (omega arith)
+
+turn_reads : (old : Node) (v : ℕ) (b : Bool)
+    → (if b then record old.turns { update = record { 0 = v } } else old.turns).read.0 ≡ old.turns.read.0
+turn_reads old v true = refl
+turn_reads old v false = refl
+
+order_rises : (s : ScriptData) (old : Node) (body : Body) (out : Out Node) → ((v : Version) → body ≡ Show v → ⊥) → Order s old body out
+    → Rises old out.state
+order_rises s old body out none (Turns v bd is) =
+    subst (λ (o : Out Node). Rises old o.state) (sym is)
+    (record { read = turn_reads old v.0 (nat_lt old.turns.update.0 v.0); update = turn_rises old v.0 (nat_lt old.turns.update.0 v.0) refl })
+order_rises s old body out none (Shows v bd is) = absurd (none v bd)
+order_rises s old body out none (Sweeps v bd is) =
+    subst (λ (o : Out Node). Rises old o.state) (sym is) (record { read = refl; update = omega arith })
+order_rises s old body out none (TellsDone v k bd is) =
+    subst (λ (o : Out Node). Rises old o.state) (sym is) (record { read = refl; update = omega arith })
+order_rises s old body out none (TellsAsked v k bd is) =
+    subst (λ (o : Out Node). Rises old o.state) (sym is) (record { read = refl; update = omega arith })
+
+rises : (s : ScriptData) (past : List Entry) (e : Entry) (p : ℕ) → p < s.nodes → e.actor.0 ≡ p → ((v : Version) → e.took.body ≡ Show v → ⊥)
+    → Progress s past e → Rises (node_in s past p) (node_in s (e ∷ past) p)
+rises s past e p lt at none (Begins bd here made) = absurd (omega (arith, at, here, lt))
+rises s past e p lt at none (Hears t v answer bd here below made) = absurd (omega (arith, at, here, lt))
+rises s past e p lt at none (Ends v bd here made) = absurd (omega (arith, at, here, lt))
+rises s past e p lt at none (Coordinates tells here made) = absurd (omega (arith, at, here, lt))
+rises s past e p lt at none (Works q r w) =
+    subst (λ (n : ℕ). Rises (node_in s past n) (node_in s (e ∷ past) n)) (sym w.brings.at ∙ at)
+    (works_rises s (node_in s past q) (node_in s (e ∷ past) q) r.body w.turns)
+rises s past e p lt at none (Obeys q out more here below order state sent woken) =
+    subst (λ (n : ℕ). Rises (node_in s past n) (node_in s (e ∷ past) n)) (sym here ∙ at)
+    (subst (λ (st : Node). Rises (node_in s past q) st) (sym state) (order_rises s (node_in s past q) e.took.body out none order))
+
+two_on : (s : ScriptData) (past : List Entry) (e : Entry) (p : ℕ) → IsValid s → IsStepRun s (e ∷ past) → p < s.nodes
+    → Rises (node_in s past p) (node_in s (e ∷ past) p) → (node_in s past p).turns.update.0 ≡ (node_in s past p).turns.read.0 + 2
+    → (node_in s (e ∷ past) p).turns.update.0 ≡ (node_in s (e ∷ past) p).turns.read.0 + 2
+two_on s past e p valid run lt up two = omega (arith, up.read, up.update, two, (near s (e ∷ past) p valid run lt).1)
+
+-- a Show brings itself
+show_brought : (kept : List KeptLetter) (l r : Letter) (v : Version) (b : Body) → l.body ≡ b → b ≡ Show v → brought kept l b ≡ Some r
+    → r.body ≡ Show v
+show_brought kept l r v (Wake t k) is bd at = absurd (cc bd)
+show_brought kept l r v _ is bd at =
+    let same : l ≡ r = grind arith in ap (λ (x : Letter). x.body) (sym same) ∙ is ∙ bd
+
+-- no tree is both
+not_both : (s : ScriptData) (t : ℕ) (kind : Option TreeKind) → tree_kind_at s t ≡ kind → updates s t ≡ true → is_strict_at s t ≡ true → ⊥
+not_both s t (Some Update) is up strict = let none : is_strict_at s t ≡ false = rw (is, is_strict_at) refl in cc (none, strict)
+not_both s t (Some Read) is up strict = let none : is_strict_at s t ≡ false = rw (is, is_strict_at) refl in cc (none, strict)
+not_both s t (Some Strict) is up strict = let none : updates s t ≡ false = kind_updates s t Strict is in cc (none, up)
+not_both s t None is up strict = let none : is_strict_at s t ≡ false = rw (is, is_strict_at) refl in cc (none, strict)
+
+-- What a node does leaves the reasons of what it doesn't wake.
+holder_stays : (s : ScriptData) (p from : ℕ) (h : TreeNo) (body : Body) → IsMeant s from p body → is_strict_at s h.0 ≡ true
+    → wakes_by body (ForHolder h) ≡ false → LetsGo h body → ⊥
+holder_stays s p from h (Decide u v commit) meant strict none gone = absurd (grind (arith, nat_tests))
+holder_stays s p from h (Release u) meant strict none gone =
+    not_both s u.0 (tree_kind_at s u.0) refl meant.update (subst (λ (n : ℕ). is_strict_at s n ≡ true) (sym gone) strict)
+holder_stays s p from h _ meant strict none gone = absurd gone
+
+does_reason : (s : ScriptData) (past : List Entry) (e : Entry) (p : ℕ) (r : Letter) (t : TreeNo) (w : Why) → IsValid s → IsStepRun s (e ∷ past)
+    → Does s past e p r → wakes_by r.body w ≡ false → Reason s past p t w → Reason s (e ∷ past) p t w
+does_reason s past e p r t ForShow valid run d none reason =
+    let up = rises s past e p d.brings.below d.brings.at (λ v bd.
+    (let shown : wakes_by r.body ForShow ≡ true =
+    ap (λ (b : Body). wakes_by b ForShow) (show_brought (kept_in s past p) e.took r v e.took.body refl bd d.brings.brings) in
+    cc (shown, none))) (progress s past e (lawful s valid) (all_apt s (e ∷ past) valid run) run) in
+    (reason.0, two_on s past e p valid run d.brings.below up reason.1)
+does_reason s past e p r t (ForHolder h) valid run d none reason =
+    let c : Core = (keeping_in s past p).core in
+    let strict = (holders s past p valid (all_apt s past valid run.1) run.1 d.brings.below h reason.1).strict in
+    let meant = brought_meant s past e p r valid (brings_to s past e p r d.brings) run in (
+      reason.0,
+      same_holds (core_row s p c r.from.0 r.body).state (keeping_in s (e ∷ past) p).core h (ap (λ (x : Core). x.locks) d.core)
+          (row_stays s p r.from.0 r.body c h reason.1 (holder_stays s p r.from.0 h r.body meant strict none)),
+    )
+does_reason s past e p r t Called valid run d none reason = tt
+
+does_waiting : (s : ScriptData) (past : List Entry) (e : Entry) (p : ℕ) (r : Letter) → IsValid s → IsStepRun s (e ∷ past) → Does s past e p r
+    → AreWaiting s past p (kept_in s past p) → AreWaiting s (e ∷ past) p (kept_in s (e ∷ past) p)
+does_waiting s past e p r valid run d all =
+    subst (AreWaiting s (e ∷ past) p) (sym d.kept)
+    (each_woken (IsWaiting s past p) (IsWaiting s (e ∷ past) p) (wakes_by r.body) (kept_without (kept_in s past p) e.took.body)
+    (λ x hit at. record { root = at.root; why = tt })
+    (λ x none at. record { root = at.root; why = does_reason s past e p r x.tree x.why valid run d none at.why })
+    (each_meanwhile (IsWaiting s past p) (kept_in s past p) e.took.body all))
+
+-- A letter more that is kept.
+keeps_rises : (s : ScriptData) (past : List Entry) (e : Entry) (p : ℕ) (r : Letter) (k : CoreKeeping) → IsValid s → IsStepRun s (e ∷ past)
+    → Keeps s past e p r k → Rises (node_in s past p) (node_in s (e ∷ past) p)
+keeps_rises s past e p r k valid run d =
+    rises s past e p d.brings.below d.brings.at (λ v bd.
+    (let none : core_keeping s (keeping_in s past p).core r.body ≡ None =
+    ap (core_keeping s (keeping_in s past p).core) (show_brought (kept_in s past p) e.took r v e.took.body refl bd d.brings.brings) in
+    let some = d.keeps in
+    cc (none, some))) (progress s past e (lawful s valid) (all_apt s (e ∷ past) valid run) run)
+
+keeps_locks : (s : ScriptData) (past : List Entry) (e : Entry) (p : ℕ) (r : Letter) (k : CoreKeeping) (t : TreeNo) → Keeps s past e p r k
+    → Holds (keeping_in s past p).core t → Holds (keeping_in s (e ∷ past) p).core t
+keeps_locks s past e p r k t d h =
+    let c : Core = (keeping_in s past p).core in
+    let so : IsCoreKeeping c r.body k = subst (OfKeeping (IsCoreKeeping c r.body)) d.keeps (core_keeps s c r.body) in
+    same_holds c (keeping_in s (e ∷ past) p).core t (ap (λ (x : Core). x.locks) (d.core ∙ so.turns_alone)) h
+
+keeps_reason : (s : ScriptData) (past : List Entry) (e : Entry) (p : ℕ) (r : Letter) (k : CoreKeeping) (t : TreeNo) (w : Why) → IsValid s
+    → IsStepRun s (e ∷ past) → Keeps s past e p r k → Reason s past p t w → Reason s (e ∷ past) p t w
+keeps_reason s past e p r k t ForShow valid run d reason =
+    (reason.0, two_on s past e p valid run d.brings.below (keeps_rises s past e p r k valid run d) reason.1)
+keeps_reason s past e p r k t (ForHolder h) valid run d reason = (reason.0, keeps_locks s past e p r k h d reason.1)
+keeps_reason s past e p r k t Called valid run d reason = tt
+
+two_late : (update read : ℕ) → (update == read + 1) ≡ false → read + 1 ≤ update → update ≤ read + 2 → update ≡ read + 2
+two_late update read late low high = grind (arith, nat_tests)
+
+new_reason : (s : ScriptData) (past : List Entry) (p : ℕ) (t : TreeNo) (k : SubNo) (w : Why) → IsValid s → IsStepRun s past → p < s.nodes
+    → IsKeptFor s (keeping_in s past p).core t k w → Reason s past p t w
+new_reason s past p t k ForShow valid run lt (strict, zero, late) =
+    let at = near s past p valid run lt in
+    (strict, two_late (node_in s past p).turns.update.0 (node_in s past p).turns.read.0 late at.0 at.1)
+new_reason s past p t k (ForHolder h) valid run lt (up, m, meets, same) =
+    let c : Core = (keeping_in s past p).core in
+    (up, subst (Holds c) same (met_holds s t (ops_of s t.0 k.0) c m meets))
+new_reason s past p t k Called valid run lt is = tt
+
+new_root : (s : ScriptData) (c : Core) (t : TreeNo) (k : SubNo) (w : Why) → IsKeptFor s c t k w → is_strict_at s t.0 ≡ true → k.0 ≡ 0
+new_root s c t k ForShow (it, zero, late) strict = zero
+new_root s c t k (ForHolder h) (up, m, meets, same) strict = absurd (not_both s t.0 (tree_kind_at s t.0) refl up strict)
+new_root s c t k Called is strict = absurd is
+
+keeps_waiting : (s : ScriptData) (past : List Entry) (e : Entry) (p : ℕ) (r : Letter) (k : CoreKeeping) → IsValid s → IsStepRun s (e ∷ past)
+    → Keeps s past e p r k → AreWaiting s past p (kept_in s past p) → AreWaiting s (e ∷ past) p (kept_in s (e ∷ past) p)
+keeps_waiting s past e p r k valid run d all =
+    let c : Core = (keeping_in s past p).core in
+    let why : IsKeptFor s c k.tree k.sub k.why = kept_for_a_reason s c r.body k d.keeps in
+    let stays = each_map (IsWaiting s past p) (IsWaiting s (e ∷ past) p) (kept_without (kept_in s past p) e.took.body)
+    (λ x at. record { root = at.root; why = keeps_reason s past e p r k x.tree x.why valid run d at.why })
+    (each_meanwhile (IsWaiting s past p) (kept_in s past p) e.took.body all) in
+    subst (AreWaiting s (e ∷ past) p) (sym d.kept)
+    (each_append (IsWaiting s (e ∷ past) p) (kept_without (kept_in s past p) e.took.body) _ stays (
+      record {
+        root = new_root s c k.tree k.sub k.why why;
+        why = keeps_reason s past e p r k k.tree k.why valid run d (new_reason s past p k.tree k.sub k.why valid run.1 d.brings.below why);
+      },
+      tt,
+    ))
+
+-- An entry of another actor.
+other_reason : (s : ScriptData) (past : List Entry) (e : Entry) (p : ℕ) (t : TreeNo) (w : Why) → e.actor.0 ≢ p → Reason s past p t w
+    → Reason s (e ∷ past) p t w
+other_reason s past e p t ForShow ne reason =
+    (reason.0, subst (λ (n : KeepingNode). n.core.node.turns.update.0 ≡ n.core.node.turns.read.0 + 2) (sym (keeping_elsewhere s past e p ne)) reason.1)
+other_reason s past e p t (ForHolder h) ne reason =
+    (reason.0, subst (λ (n : KeepingNode). Holds n.core h) (sym (keeping_elsewhere s past e p ne)) reason.1)
+other_reason s past e p t Called ne reason = tt
+
+other_waiting : (s : ScriptData) (past : List Entry) (e : Entry) (p : ℕ) → e.actor.0 ≢ p → AreWaiting s past p (kept_in s past p)
+    → AreWaiting s (e ∷ past) p (kept_in s (e ∷ past) p)
+other_waiting s past e p ne all =
+    subst (λ (n : KeepingNode). AreWaiting s (e ∷ past) p n.kept) (sym (keeping_elsewhere s past e p ne))
+    (each_map (IsWaiting s past p) (IsWaiting s (e ∷ past) p) (kept_in s past p)
+    (λ x at. record { root = at.root; why = other_reason s past e p x.tree x.why ne at.why }) all)
+
+node_waiting : (s : ScriptData) (past : List Entry) (e : Entry) (p : ℕ) → IsValid s → IsStepRun s (e ∷ past) → p < s.nodes → e.actor.0 ≡ p
+    → AreWaiting s past p (kept_in s past p) → Case s past e → AreWaiting s (e ∷ past) p (kept_in s (e ∷ past) p)
+node_waiting s past e p valid run lt at all (NodeDoes q r d) =
+    let same : q ≡ p = sym d.brings.at ∙ at in does_waiting s past e p r valid run (subst (λ (n : ℕ). Does s past e n r) same d) all
+node_waiting s past e p valid run lt at all (NodeKeeps q r k d) =
+    let same : q ≡ p = sym d.brings.at ∙ at in keeps_waiting s past e p r k valid run (subst (λ (n : ℕ). Keeps s past e n r k) same d) all
+node_waiting s past e p valid run lt at all (ByCoordinator there says) = absurd (omega (arith, at, there, lt))
+node_waiting s past e p valid run lt at all (Submits there says) = absurd (omega (arith, at, there, lt))
+
+waiting_by : (s : ScriptData) (past : List Entry) (e : Entry) (p : ℕ) → IsValid s → IsStepRun s (e ∷ past) → p < s.nodes
+    → AreWaiting s past p (kept_in s past p) → (e.actor.0 ≡ p) ⊎ (e.actor.0 ≢ p) → AreWaiting s (e ∷ past) p (kept_in s (e ∷ past) p)
+waiting_by s past e p valid run lt all (inl at) =
+    node_waiting s past e p valid run lt at all (case s past e run.0 (all_apt s (e ∷ past) valid run).0)
+waiting_by s past e p valid run lt all (inr ne) = other_waiting s past e p ne all
+
+-- in every run
+pub waiting : (s : ScriptData) (past : List Entry) (p : ℕ) → IsValid s → IsStepRun s past → p < s.nodes → AreWaiting s past p (kept_in s past p)
+waiting s [] p valid run lt = tt
+waiting s (e ∷ past) p valid run lt = waiting_by s past e p valid run lt (waiting s past p valid run.1 lt) (cases_eq e.actor.0 p)
+
+-- What is called has its Wake in flight.
+pub counts_called : (w : Why) (t k : ℕ) → w ≡ Called → one_if (is_called w && ((t == t) && (k == k))) ≡ 1
+counts_called w t k is = let called : is_called w ≡ true = ap is_called is in rw called (one_here t k)
+
+abbrev IsCounted : List KeptLetter → KeptLetter → Type 0
+IsCounted all x = x.why ≡ Called → 1 ≤ calls x.tree x.sub all
+
+each_counted : (all xs : List KeptLetter) → ((t : TreeNo) (k : SubNo) → calls t k xs ≤ calls t k all) → Each (IsCounted all) xs
+each_counted all [] le = tt
+each_counted all (x ∷ xs) le = (
+  (λ is. omega (arith, le x.tree x.sub, counts_called x.why x.tree.0 x.sub.0 is)),
+  each_counted all xs (λ t k. omega (arith, le t k)),
+)
+
+kept_until : (s : ScriptData) (past : List Entry) (p : ℕ) (x : KeptLetter) (w : Why) → x.why ≡ w → IsValid s → IsStepRun s past → p < s.nodes
+    → IsWaiting s past p x → Reason s past p x.tree w → IsCounted (kept_in s past p) x → IsKeptUntil s past p x w
+kept_until s past p x ForShow is valid run lt at reason counted = (reason.0, (at.root reason.0, reason.1))
+kept_until s past p x (ForHolder h) is valid run lt at reason counted =
+    (reason.0, (reason.1, holders s past p valid (all_apt s past valid run) run lt h reason.1))
+kept_until s past p x Called is valid run lt at reason counted =
+    omega (arith, counted is, wakes_find_letters s past p x.tree x.sub valid (all_apt s past valid run) run lt)
+
+pub letters_stay_kept : LettersStayKeptForAReason
+letters_stay_kept s past p valid run lt =
+    each_map (λ (x : KeptLetter). IsWaiting s past p x × IsCounted (kept_in s past p) x) (λ (x : KeptLetter). IsKeptUntil s past p x x.why) (kept_in s past p)
+    (λ x both. kept_until s past p x x.why refl valid run lt both.0 both.0.why both.1)
+    (each_both (IsWaiting s past p) (IsCounted (kept_in s past p)) (kept_in s past p) (waiting s past p valid run lt)
+    (each_counted (kept_in s past p) (kept_in s past p) (λ t k. omega arith)))
