@@ -57,7 +57,8 @@ use Rattle.rule_laws.proofs.Fronts.{act_of_place, counted_front, front, none_fou
 use Rattle.rule_laws.proofs.InEntries.{InEntry, entry_run, in_entry}
 use Rattle.rule_laws.proofs.LastActs.{row_last, turns_before}
 use Rattle.rule_laws.proofs.Lasts.{Applies, Frees, Lasts, Reads, Updates, Votes, lasts, vote_there}
-use Rattle.rule_laws.proofs.Turns.{brings_to, is_there, own_turn, turns_in}
+use Rattle.phase_laws.proofs.Progress.{brings_to}
+use Rattle.rule_laws.proofs.Turns.{is_there, own_turn, turns_in}
 
 -- Of a strict tree nothing is done at once: its subtransactions vote.
 plain_kind : (s : ScriptData) (t u : ℕ) (kind : TreeKind) → is_strict_at s t ≡ true → u ≡ t → tree_kind_at s u ≡ Some kind → kind ≡ Strict

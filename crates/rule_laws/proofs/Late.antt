@@ -14,7 +14,7 @@ use Rattle.script_parts.specs.declared.parts.Tree.{Tree}
 use Rattle.script_parts.specs.declared.parts.TreeKind.{TreeKind}
 use Rattle.script_parts.specs.declared.parts.TreeKind.TheVariants.{Update, Read, Strict}
 use Rattle.board_rules.specs.Histories.{Place, born_as, is_strict_tree, is_whole_in, places_at, version_in}
-use Rattle.board_rules.proofs.Rules.{AreBornLate, is_writer}
+use Rattle.board_rules.specs.Rules.{AreBornLate, is_writer}
 use Rattle.board_rules.proofs.Wholes.{strict_there, updates_there, whole_more}
 use Rattle.world_model.specs.Counts.{one_if, tally}
 use Rattle.world_model.specs.declared.phase.Phase.{Phase}

@@ -1,25 +1,18 @@
--- What a tree meets by the look back is the same after acts that don't last; and in scripts without strict trees an update
--- tree meets nothing.
-use Rattle.std.proofs.Common.{◌≡◌, ℕ, zero, suc, ◌==◌, ◌&&◌, ◌||◌, Bool, true, false, not, List, [], ◌∷◌, ◌++◌, map, refl, ap, ◌∙◌, append-nil, Option, Some, None}
-use Rattle.std.specs.Prelude.{if◌then◌else◌, filter, fold, length, slice_get}
+-- What a tree meets by the look back is the same after acts that don't last.
+use Rattle.std.proofs.Common.{◌≡◌, ℕ, zero, suc, ◌==◌, ◌&&◌, Bool, true, false, not, List, [], ◌∷◌, ◌++◌, map, refl, ap, ◌∙◌, append-nil, Option, Some}
+use Rattle.std.specs.Prelude.{if◌then◌else◌, fold, length}
 use Rattle.std.specs.List.{list_any}
 use Rattle.std.specs.Option.{option_or}
-use Rattle.std.proofs.lemmas.Bool.{and_parts}
-use Rattle.std.proofs.lemmas.List.Folds.{list_any-append}
 use Rattle.std.proofs.lemmas.List.Sums.{fold-append}
 use Rattle.letter_types.specs.declared.acts.Act.{Act}
 use Rattle.letter_types.specs.declared.acts.Act.TheVariants.{Did, Voted, Freed, Applied, Finished}
 use Rattle.letter_types.specs.declared.votes.Cause.{Cause}
 use Rattle.nc_locks.specs.declared.modes.Mode.{Mode}
-use Rattle.nc_locks.specs.declared.modes.Mode.TheVariants.{Mark}
 use Rattle.nc_locks.specs.Modes.{modes_conflict}
 use Rattle.script_parts.specs.declared.parts.SubOp.{SubOp}
-use Rattle.script_parts.specs.ScriptData.{ScriptData, ops_of, updates}
-use Rattle.script_parts.specs.Valid.{IsValid}
+use Rattle.script_parts.specs.ScriptData.{ScriptData}
 use Rattle.board_rules.specs.Histories.{Place}
 use Rattle.board_rules.specs.Stands.{conflict_of, conflict_with, conflicts_with, holder_of, least_from, lock_mode_of, locked_by, modes_after, modes_on, modes_standing, releases}
-use Rattle.board_rules.proofs.Holders.{least_of_none}
-use Rattle.board_rules.proofs.ItemAt.{item_at, op_row}
 use Rattle.value_laws.proofs.RowActs.{is_lasting, lasting}
 use Rattle.rule_laws.proofs.Fronts.{placed}
 
@@ -79,72 +72,3 @@ pub conflict_stays : (s : ScriptData) (xs : List Place) (p t n : ℕ) (os : List
     → conflict_of s (xs ++ map (placed n) ys) p t os ≡ conflict_of s xs p t os
 conflict_stays s xs p t n os ys none =
     conflict_same s xs (xs ++ map (placed n) ys) p t os (λ x k. modes_stay s xs p x k n ys none)
-
--- The operations of an update tree mark their items.
-pub marks_it : (s : ScriptData) (t k i : ℕ) (o : SubOp) → IsValid s → updates s t ≡ true → slice_get (ops_of s t k) i ≡ Some o
-    → lock_mode_of o.deed ≡ Mark
-marks_it s t k i o valid up is =
-    let row = op_row s t k i o valid is in
-    (item_at s row.row.node.0 o.item.0 row.row valid row.there refl).marks t k i o up is
-
--- Where nothing but marks stands, a mark meets nothing.
-marks_on_it : (x : ℕ) (os : List SubOp) → ((i : ℕ) (o : SubOp) → slice_get os i ≡ Some o → lock_mode_of o.deed ≡ Mark)
-    → list_any (modes_conflict Mark) (modes_on x os) ≡ false
-marks_on_it x [] marks = refl
-marks_on_it x (o ∷ os) marks = by (o.item.0 == x) (marks_on_it x os (λ i q is. marks (suc i) q is)) where
-  by : (b : Bool) → list_any (modes_conflict Mark) (modes_on x os) ≡ false
-      → list_any (modes_conflict Mark)
-      (map (λ (q : SubOp). lock_mode_of q.deed) (if b then o ∷ filter (λ (q : SubOp). q.item.0 == x) os else filter (λ (q : SubOp). q.item.0 == x) os))
-      ≡ false
-  by true rest =
-      ap (λ (m : Mode). modes_conflict Mark m || list_any (modes_conflict Mark) (modes_on x os)) (marks 0 o refl) ∙ rest
-  by false rest = rest
-
--- the act is no vote
-abbrev pub is_vote : Act → Bool
-is_vote (Voted t k vote) = true
-is_vote Finished = false
-is_vote _ = false
-
-locks_marks : (s : ScriptData) (x k : ℕ) (a : Act) → IsValid s → is_vote a ≡ false → list_any (modes_conflict Mark) (modes_on x (locked_by s k a)) ≡ false
-locks_marks s x k (Did t j values) valid plain = by ((t.0 == k) && updates s k) refl where
-  by : (b : Bool) → ((t.0 == k) && updates s k) ≡ b → list_any (modes_conflict Mark) (modes_on x (if b then ops_of s k j.0 else [])) ≡ false
-  by true is = marks_on_it x (ops_of s k j.0) (λ i o at. marks_it s k j.0 i o valid (and_parts (t.0 == k) (updates s k) is).1 at)
-  by false is = refl
-locks_marks s x k (Voted t j vote) valid plain = absurd (cc plain)
-locks_marks s x k Finished valid plain = refl
-locks_marks s x k _ valid plain = refl
-
-after_marks : (s : ScriptData) (p x k : ℕ) (modes : List Mode) (y : Place) → IsValid s → is_vote y.act ≡ false
-    → list_any (modes_conflict Mark) modes ≡ false → list_any (modes_conflict Mark) (modes_after s p x k modes y) ≡ false
-after_marks s p x k modes y valid plain old = by ((y.node == p) && releases k y.act) where
-  by : (b : Bool) → list_any (modes_conflict Mark) (if b then [] else modes ++ modes_on x (locked_by s k y.act)) ≡ false
-  by true = refl
-  by false =
-      list_any-append (modes_conflict Mark) modes (modes_on x (locked_by s k y.act))
-      ∙ ap (λ (b : Bool). b || list_any (modes_conflict Mark) (modes_on x (locked_by s k y.act))) old
-      ∙ locks_marks s x k y.act valid plain
-
-only_marks : (s : ScriptData) (p x k : ℕ) (modes : List Mode) (xs : List Place) → IsValid s
-    → ((i : ℕ) (y : Place) → slice_get xs i ≡ Some y → is_vote y.act ≡ false) → list_any (modes_conflict Mark) modes ≡ false
-    → list_any (modes_conflict Mark) (fold (modes_after s p x k) modes xs) ≡ false
-only_marks s p x k modes [] valid plain old = old
-only_marks s p x k modes (y ∷ xs) valid plain old =
-    only_marks s p x k (modes_after s p x k modes y) xs valid (λ i z is. plain (suc i) z is) (after_marks s p x k modes y valid (plain 0 y refl) old)
-
-and_none : (b : Bool) → (b && false) ≡ false
-and_none true = refl
-and_none false = refl
-
-pub marks_meet_none : (s : ScriptData) (xs : List Place) (p t : ℕ) (os : List SubOp) → IsValid s
-    → ((i : ℕ) (y : Place) → slice_get xs i ≡ Some y → is_vote y.act ≡ false)
-    → ((i : ℕ) (o : SubOp) → slice_get os i ≡ Some o → lock_mode_of o.deed ≡ Mark) → conflict_of s xs p t os ≡ None
-marks_meet_none s xs p t [] valid plain marks = refl
-marks_meet_none s xs p t (o ∷ os) valid plain marks =
-    let free : holder_of s xs p t o.item.0 (lock_mode_of o.deed) ≡ None =
-    least_of_none (λ (k : ℕ). not (k == t) && conflicts_with s xs p o.item.0 (lock_mode_of o.deed) k) 0 (length s.trees)
-    (λ k.
-    ap (λ (m : Mode). not (k == t) && conflicts_with s xs p o.item.0 m k) (marks 0 o refl)
-    ∙ ap (λ (b : Bool). not (k == t) && b) (only_marks s p o.item.0 k [] xs valid plain refl) ∙ and_none (not (k == t))) in
-    ap (λ (h : Option ℕ). option_or (conflict_with o.item h) (conflict_of s xs p t os)) free
-    ∙ marks_meet_none s xs p t os valid plain (λ i q is. marks (suc i) q is)

@@ -53,7 +53,8 @@ use Rattle.run_laws.proofs.EveryDid.{dids_are_turns}
 use Rattle.run_laws.proofs.EveryWhole.{strict_is}
 use Rattle.rule_laws.proofs.Fronts.{counted_front, front, none_found, place_of, placed}
 use Rattle.rule_laws.proofs.ReleaseRows.{has_freed, none_to, released_to, releases_of, row_few, row_frees}
-use Rattle.rule_laws.proofs.Turns.{brings_to, own_turn}
+use Rattle.phase_laws.proofs.Progress.{brings_to}
+use Rattle.rule_laws.proofs.Turns.{own_turn}
 
 -- How often the marks of tree t went at node q, and how many letters that have still to be done release them there.
 abbrev freed_now : Entry → ℕ → ℕ → ℕ

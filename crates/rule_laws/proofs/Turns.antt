@@ -25,7 +25,6 @@ use Rattle.world_model.specs.Named.{tree_kind_at}
 use Rattle.world_model.specs.Runs.{IsStepRun, keeping_in}
 use Rattle.world_model.specs.Strict.{core_by_kind, core_row, decided, locks_by, none_refuses, noted_vote, voting}
 use Rattle.world_model.specs.Votes.{vote_of}
-use Rattle.world_model.proofs.Cases.{Brings}
 use Rattle.world_model.proofs.Scripts.{SubAt, get_below, sub_here}
 use Rattle.board_rules.specs.Histories.{Place, does, places_at, version_in, was_born, was_done}
 use Rattle.board_rules.specs.Stands.{votes, was_voted}
@@ -37,15 +36,12 @@ use Rattle.tree_laws.proofs.AptDecisions.{letters_carry_versions}
 use Rattle.tree_laws.proofs.AptStagesOwn.{Doing, root_home, sub_of_node, sub_place}
 use Rattle.tree_laws.proofs.AptTurns.{turns_at_most_once}
 use Rattle.tree_laws.proofs.AptVersions.{before}
-use Rattle.phase_laws.proofs.Brought.{BringsTo, each_of_brought}
+use Rattle.phase_laws.proofs.Brought.{each_of_brought}
+use Rattle.phase_laws.proofs.Progress.{brings_to}
 use Rattle.value_laws.proofs.RowActs.{is_lasting}
 use Rattle.run_laws.proofs.EveryApt.{all_apt}
 use Rattle.rule_laws.proofs.Fronts.{born_first, counted_front, front, none_found, place_of, placed}
 use Rattle.rule_laws.proofs.Lasts.{AsksIn, OfRoot, OfSub}
-
--- the letter is brought, as the laws of phases say it
-pub brings_to : (s : ScriptData) (past : List Entry) (e : Entry) (p : ℕ) (r : Letter) → Brings s past e p r → BringsTo s past e p r
-brings_to s past e p r b = record { at = b.at; below = b.below; brings = b.brings }
 
 -- The subtransaction is there, at its node.
 pub record IsThere (s : ScriptData) (p : ℕ) (t : TreeNo) (k : SubNo) : Type 0 where

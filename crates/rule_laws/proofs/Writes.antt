@@ -41,7 +41,7 @@ use Rattle.world_model.proofs.Outstanding.{keeping_elsewhere}
 use Rattle.board_rules.specs.Histories.{Place, is_strict_tree, places_at, version_in}
 use Rattle.board_rules.specs.Stands.{lock_mode_of, version_or_zero, written_by, written_in}
 use Rattle.board_rules.specs.Worth.{changes, ops_change, subs_change}
-use Rattle.board_rules.proofs.ItemAt.{item_at, op_row}
+use Rattle.board_rules.proofs.ItemAt.{item_at, marks_it, op_row}
 use Rattle.board_rules.proofs.Places.{version_stays}
 use Rattle.strict_laws.proofs.ByActs.{kind_updates}
 use Rattle.strict_laws.specs.Meant.{IsMeant}
@@ -59,8 +59,8 @@ use Rattle.run_laws.proofs.EveryWhole.{strict_is}
 use Rattle.rule_laws.proofs.Fronts.{act_of_place}
 use Rattle.rule_laws.proofs.InEntries.{in_second}
 use Rattle.rule_laws.proofs.Lasts.{Applies, AsksIn, Frees, Lasts, OfRoot, OfSub, Reads, Updates, Votes, lasts, vote_there}
-use Rattle.rule_laws.proofs.QuietLocks.{marks_it}
-use Rattle.rule_laws.proofs.Turns.{brings_to, carried, is_there}
+use Rattle.phase_laws.proofs.Progress.{brings_to}
+use Rattle.rule_laws.proofs.Turns.{carried, is_there}
 use Rattle.rule_laws.proofs.UpTo.{AreStrict, IsUpTo, collected_grows, commit_grows, commit_writes, ops_grow, ops_write}
 
 -- What the row of a letter makes of an item: what bounds the versions that are held after it bounds those before.

@@ -40,7 +40,7 @@ use Rattle.board_rules.specs.Histories.{Place, places_at, version_in}
 use Rattle.board_rules.specs.Stands.{conflict_of, newer_of, newest_of, version_or_zero, written_in}
 use Rattle.board_rules.proofs.ItemAt.{op_row}
 use Rattle.board_rules.proofs.Places.{version_stays}
-use Rattle.board_rules.proofs.Rules.{IsFreeVote}
+use Rattle.board_rules.specs.Rules.{IsFreeVote}
 use Rattle.board_rules.proofs.Standing.{none_parts}
 use Rattle.strict_laws.proofs.ByActs.{wanted_needed}
 use Rattle.strict_laws.proofs.RunConflicts.{runs_meet_conflicts}
