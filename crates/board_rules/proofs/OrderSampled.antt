@@ -10,7 +10,9 @@ use Rattle.commute_ops.specs.declared.kinds.Kind.TheVariants.{Sum as SumKind}
 use Rattle.commute_ops.specs.declared.kinds.Op.TheVariants.{Add}
 use Rattle.commute_ops.specs.declared.value.Value.TheVariants.{Sum}
 use Rattle.letter_types.specs.declared.acts.Act.{Act}
-use Rattle.letter_types.specs.declared.acts.Act.TheVariants.{Born, Did, Turned, Showed, Voted, Freed, Decided, Applied}
+use Rattle.letter_types.specs.declared.acts.Act.TheVariants.{Born, Did, Turned, Showed, Parked, Voted, Freed, Decided, Applied}
+use Rattle.letter_types.specs.declared.bodies.Body.{Body}
+use Rattle.letter_types.specs.declared.bodies.Body.TheVariants.{Root}
 use Rattle.letter_types.specs.declared.votes.Cause.TheVariants.{Conflict, Newer}
 use Rattle.letter_types.specs.declared.votes.Vote.TheVariants.{Yes}
 use Rattle.script_parts.specs.Counts.{trees_puts}
@@ -28,6 +30,7 @@ use Rattle.script_parts.specs.declared.parts.TreeKind.{TreeKind}
 use Rattle.script_parts.specs.declared.parts.TreeKind.TheVariants.{Update, Strict}
 use Rattle.board_rules.specs.Histories.{Place, is_strict_tree, is_whole_in, version_in, was_applied, was_committed, was_done}
 use Rattle.board_rules.specs.Moves.{OneByOne}
+use Rattle.board_rules.specs.Right.{IsDoneAtOnce}
 use Rattle.board_rules.specs.Serial.{serial_in}
 use Rattle.board_rules.specs.Stands.{conflict_of, newer_of}
 use Rattle.board_rules.specs.Worth.{worth_after, worth_in}
@@ -119,6 +122,25 @@ worth_next = refl
 -- a Did of tree 2 would meet the lock of tree 1 until that is applied, and the two values differ
 pub would_wait : conflict_of four early 0 2 (ops_of four 2 0) ≡ Some (Conflict (record { 0 = 1 }) (record { 0 = 1 }))
 would_wait = refl
+
+-- so an entry that takes its Root parks it, and one that does it then isn't right; after the Applied it is
+abbrev second : Body
+second = Root (record { 0 = 2 })
+
+abbrev does_second : List Act
+does_second = Born (record { 0 = 2 }) (record { 0 = 1 }) ∷ Did (record { 0 = 2 }) (record { 0 = 0 }) [] ∷ []
+
+abbrev parks_second : List Act
+parks_second = Parked (record { 0 = 2 }) (record { 0 = 0 }) (record { 0 = 1 }) (record { 0 = 1 }) ∷ []
+
+pub parks_at_once : IsDoneAtOnce four early 0 second parks_second
+parks_at_once = record { done = λ c. refl; parked = refl }
+
+pub not_done_yet : IsDoneAtOnce four early 0 second does_second → ⊥
+not_done_yet h = let early_did : true ≡ false = h.done refl in cc early_did
+
+pub done_then : IsDoneAtOnce four (early ++ applied 1 ∷ []) 0 second does_second
+done_then = record { done = λ c. refl; parked = refl }
 
 pub worth_open : worth_in four early 0 1 ≡ Sum (record { 0 = pos 7 })
 worth_open = refl

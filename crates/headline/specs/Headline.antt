@@ -40,7 +40,8 @@ pub record HasHeadline (s : ScriptData) (h : List Entry) : Type 0 where
   pub fits : Fits s h
   -- no item has held more than three versions
   pub three : HasHeldThree s h
-  -- no read or commuting step has waited for version advancement
+  -- no read or commuting step has waited for version advancement: each was done at once, or parked where a strict tree's
+  -- lock was in its way
   pub at_once : IsAtOnce s h
   -- and no read shows any part of a tree that was undone
   pub undone : ShowsNothingUndone s h
