@@ -26,7 +26,7 @@ use Rattle.board_rules.specs.Stands.{conflict_of}
 use Rattle.board_rules.specs.Rules.{IsFreeDeed}
 use Rattle.strict_laws.proofs.ByActs.{kind_updates}
 use Rattle.strict_laws.proofs.NoConflicts.{not_parked}
-use Rattle.strict_laws.proofs.Served.{meets_way}
+use Rattle.strict_laws.proofs.DoneOrParked.{meets_way}
 use Rattle.tree_laws.specs.Dids.{is_did_act}
 use Rattle.tree_laws.proofs.Acts.{of_act}
 use Rattle.tree_laws.proofs.AptStagesOwn.{Doing}

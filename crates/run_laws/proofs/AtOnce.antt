@@ -57,7 +57,7 @@ quiet_places node [] none = tt
 quiet_places node (a ∷ xs) none =
     (no_vote a (λ t k. omega (arith, none t k)), quiet_places node xs (λ t k. omega (arith, none t k)))
 
-no_votes : (s : ScriptData) (past : List Entry) → has_strict s ≡ false → IsValid s → IsStepRun s past
+pub no_votes : (s : ScriptData) (past : List Entry) → has_strict s ≡ false → IsValid s → IsStepRun s past
     → AreNoVotes (places_of (reverse past))
 no_votes s [] plain valid run = tt
 no_votes s (e ∷ past) plain valid run =
