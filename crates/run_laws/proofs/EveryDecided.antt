@@ -35,15 +35,16 @@ use Rattle.world_model.specs.Runs.{IsStepRun, keeping_in}
 use Rattle.world_model.specs.Strict.{answered, core_by_kind, core_row, decided, locks_by, none_refuses, noted_vote, refused_there, voting}
 use Rattle.world_model.specs.Votes.{vote_of}
 use Rattle.world_model.proofs.Bags.{tally-append}
-use Rattle.tree_laws.specs.Applied.{decides_as}
+use Rattle.tree_laws.specs.Applied.{has_decided}
 use Rattle.tree_laws.specs.Dids.{asks}
 use Rattle.tree_laws.specs.Stages.{home_at}
 use Rattle.tree_laws.specs.Turns.{turns}
 use Rattle.tree_laws.proofs.Answering.{answers_tree}
 use Rattle.tree_laws.proofs.AptDecided.{GathersNow, Now, decided_any, decides_any, note_gathers}
-use Rattle.tree_laws.proofs.AptOfTree.{ByClient, ByCoordinator, Kept, OfTree, Other, OwnAck, OwnNote, OwnRoot, OwnSub, ack_home, client_leaves, coordinator_leaves, kept_leaves, note_at, of_tree, other_leaves, root_home}
+use Rattle.tree_laws.proofs.AptOfTree.{ByClient, ByCoordinator, Kept, OfTree, Other, OwnAck, OwnNote, OwnRoot, OwnSub, client_leaves, coordinator_leaves, kept_leaves, of_tree, other_leaves}
 use Rattle.tree_laws.proofs.AptStages.{Leaves}
-use Rattle.tree_laws.proofs.AptStagesOwn.{Doing, home_here, turned_here}
+use Rattle.tree_laws.proofs.AptStagesRun.{stages_of_trees}
+use Rattle.tree_laws.proofs.AptStagesOwn.{Doing, ack_home, home_here, note_at, root_home, turned_here}
 use Rattle.tree_laws.proofs.AptStagesSteps.{Beside, does_beside}
 use Rattle.tree_laws.proofs.Noting.{Last, More, Noting, noting}
 use Rattle.tree_laws.proofs.Staging.{told_none}
@@ -95,8 +96,8 @@ decided_row s t k values hs h c o (Some b) is answer homes opened gone =
     let commit : Bool = none_refuses b.tree c.refusals in
     omega (
       arith,
-      tally-append (decides_as t.0 true) o.out.acts (acts.Decided b.tree commit ∷ []),
-      tally-append (decides_as t.0 false) o.out.acts (acts.Decided b.tree commit ∷ []),
+      tally-append (has_decided t.0 true) o.out.acts (acts.Decided b.tree commit ∷ []),
+      tally-append (has_decided t.0 false) o.out.acts (acts.Decided b.tree commit ∷ []),
       one_decided commit (b.tree.0 == t.0) here,
     )
 
@@ -213,5 +214,5 @@ pub decided_when_gone : (s : ScriptData) (past : List Entry) (t : ℕ) → IsVal
 decided_when_gone s [] t valid run lt strict one gone = absurd (omega (arith, one))
 decided_when_gone s (e ∷ past) t valid run lt strict one gone =
     let apt = all_apt s (e ∷ past) valid run in
-    next_on s past e t valid apt run lt strict (of_tree s past e t valid apt run)
+    next_on s past e t valid apt run lt strict (of_tree s past e t valid apt run (λ w less. stages_of_trees s past valid apt.1 run.1 w less))
     (λ early free. decided_when_gone s past t valid run.1 lt strict early free) one gone
