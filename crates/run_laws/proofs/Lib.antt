@@ -5,6 +5,8 @@ pub mod EveryWhole
 pub mod EveryBirth
 pub mod Holders
 pub mod KeptWhy
+pub mod KeepingActs
+pub mod ParksOnce
 pub mod Resting
 pub mod Stopping
 pub mod Wholes
