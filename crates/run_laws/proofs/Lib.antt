@@ -7,6 +7,7 @@ pub mod Holders
 pub mod KeptWhy
 pub mod KeepingActs
 pub mod ParksOnce
+pub mod WaitsFew
 pub mod Resting
 pub mod Stopping
 pub mod Wholes

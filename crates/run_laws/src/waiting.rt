@@ -1,5 +1,5 @@
 // Why letters stay kept, and how often they are.
-ghost use Rattle.run_laws.specs.Parks.{LettersParkOnce};
+ghost use Rattle.run_laws.specs.Parks.{LettersParkOnce, StrictRootsWaitFewTimes};
 ghost use Rattle.run_laws.specs.Waiting.{LettersStayKeptForAReason};
 
 /// In every run each letter that a node keeps waits for what is still to come: the root of a strict tree for a Show, where its
@@ -13,4 +13,10 @@ pub fn letters_stay_kept_for_a_reason()
 /// node, and the tree takes no lock there again.
 pub fn letters_park_once()
     ensures { LettersParkOnce }
+{}
+
+/// In every run the root of a strict tree waits at most once for each version that was shown at its home, and once more while its
+/// letter is kept.
+pub fn strict_roots_wait_few_times()
+    ensures { StrictRootsWaitFewTimes }
 {}
