@@ -146,7 +146,7 @@ parked_as t k h u j (ForHolder g) = one_if ((u == t) && ((j == k) && (g.0 == h))
 parked_as t k h u j ForShow = 0
 parked_as t k h u j Called = 0
 
-after_turn : (g : Act → ℕ) (raises : Bool) (v : ℕ) (a : Act) → OfKeeping g → tally g (turned_if raises v ++ a ∷ []) ≡ g a
+pub after_turn : (g : Act → ℕ) (raises : Bool) (v : ℕ) (a : Act) → OfKeeping g → tally g (turned_if raises v ++ a ∷ []) ≡ g a
 after_turn g true v a of = omega (arith, of (acts.Turned (record { 0 = v })) refl)
 after_turn g false v a of = omega arith
 

@@ -184,7 +184,7 @@ show_brought kept l r v _ is bd at =
     let same : l ≡ r = grind arith in ap (λ (x : Letter). x.body) (sym same) ∙ is ∙ bd
 
 -- no tree is both
-not_both : (s : ScriptData) (t : ℕ) (kind : Option TreeKind) → tree_kind_at s t ≡ kind → updates s t ≡ true → is_strict_at s t ≡ true → ⊥
+pub not_both : (s : ScriptData) (t : ℕ) (kind : Option TreeKind) → tree_kind_at s t ≡ kind → updates s t ≡ true → is_strict_at s t ≡ true → ⊥
 not_both s t (Some Update) is up strict = let none : is_strict_at s t ≡ false = rw (is, is_strict_at) refl in cc (none, strict)
 not_both s t (Some Read) is up strict = let none : is_strict_at s t ≡ false = rw (is, is_strict_at) refl in cc (none, strict)
 not_both s t (Some Strict) is up strict = let none : updates s t ≡ false = kind_updates s t Strict is in cc (none, up)

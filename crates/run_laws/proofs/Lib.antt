@@ -8,6 +8,7 @@ pub mod KeptWhy
 pub mod KeepingActs
 pub mod ParksOnce
 pub mod WaitsFew
+pub mod WakesFew
 pub mod Resting
 pub mod Stopping
 pub mod Wholes

@@ -89,7 +89,7 @@ shown_root t u j ForShow root = let zero : j ≡ 0 = root refl in one u t j zero
   one : (u t j : ℕ) → j ≡ 0 → one_if (u == t) ≤ one_if ((u == t) && (j == 0))
   one u t j zero = grind (arith, nat_tests)
 
-waiting_root : (s : ScriptData) (past : List Entry) (p : ℕ) (x : KeptLetter) → IsWaiting s past p x → x.why ≡ ForShow → x.sub.0 ≡ 0
+pub waiting_root : (s : ScriptData) (past : List Entry) (p : ℕ) (x : KeptLetter) → IsWaiting s past p x → x.why ≡ ForShow → x.sub.0 ≡ 0
 waiting_root s past p x at is =
     let why : Reason s past p x.tree ForShow = subst (λ (w : Why). Reason s past p x.tree w) is at.why in at.root why.0
 
