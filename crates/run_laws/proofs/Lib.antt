@@ -9,6 +9,7 @@ pub mod KeepingActs
 pub mod ParksOnce
 pub mod WaitsFew
 pub mod WakesFew
+pub mod SentFew
 pub mod Resting
 pub mod Stopping
 pub mod Wholes
