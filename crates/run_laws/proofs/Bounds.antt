@@ -113,7 +113,7 @@ aparts_most s past laws run timely =
     let now = small s past (lawful s laws.sound) run (all_apt s past laws.sound run) in
     let most : asked_for s past ≤ advances_in s.rows = asked_most (client_in s past).next s.rows in
     apart_most s.nodes (advances_in s.rows) (length s.trees) c.update (running c.phase) (stages c.phase) c.round (asked_for s past) (taken_in is_apart past)
-    (omega (arith, paid s past laws run timely)) (omega (arith, now.asked, most)) most (stages_most c.phase)
+    (omega (arith, paid s past laws.sound.valid run)) (omega (arith, now.asked, most)) most (stages_most c.phase)
     (rounds_by_trees s past (lawful s laws.sound) run (all_apt s past laws.sound run))
 
 -- The law.
