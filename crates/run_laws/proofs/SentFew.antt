@@ -143,7 +143,7 @@ decide_only t o is = by o.body is where
   by Go none = refl
   by _ none = refl
 
-no_others : (f : Body → ℕ) → ((t : TreeNo) → f (Root t) ≡ 0) → f Advance ≡ 0 → f Nudge ≡ 0
+pub no_others : (f : Body → ℕ) → ((t : TreeNo) → f (Root t) ≡ 0) → f Advance ≡ 0 → f Nudge ≡ 0
     → ((v : Version) → (f (Turn v) ≡ 0) × ((f (Show v) ≡ 0) × (f (Sweep v) ≡ 0)))
     → ((v : Version) (k : ℕ) → (f (AskDone v k) ≡ 0) × (f (AskAsked v k) ≡ 0)) → ((v : Version) → f (Advanced v) ≡ 0) → CountsNoOthers f
 no_others f root advance nudge orders asks ended =
