@@ -93,7 +93,7 @@ none_sent_in f s st does (Release t) none sent = none.release t
 none_sent_in f s st does (Wake t k) none sent = none.wake t k
 none_sent_in f s st does _ none sent = absurd sent
 
-all_sent_none : (f : Body → ℕ) (s : ScriptData) (st : Node) (does : Body) (os : List Outgoing) → NoTrees f → AreSentIn s st does os
+pub all_sent_none : (f : Body → ℕ) (s : ScriptData) (st : Node) (does : Body) (os : List Outgoing) → NoTrees f → AreSentIn s st does os
     → tally (on f) os ≡ 0
 all_sent_none f s st does os none all =
     each_none (on f) os

@@ -1,27 +1,63 @@
--- How many entries a run has at most.
-use Rattle.std.proofs.Common.{ℕ, zero, suc, ◌+◌, ◌*◌, ◌<◌, ◌≤◌, true, false, List, [], ◌∷◌, length, ◌∙◌, arith}
+-- How many entries a run has at most, in every script.
+use Rattle.std.proofs.Common.{◌≡◌, ◌⊎◌, inl, inr, ℕ, zero, suc, ◌+◌, ◌*◌, ◌<◌, ◌≤◌, ◌==◌, ◌&&◌, not, Bool, true, false, List, [], ◌∷◌, ◌++◌, length, refl, sym, ap, subst, ◌∙◌, arith, Option, Some, None}
+use Rattle.std.specs.Prelude.{if◌then◌else◌, slice_get}
+use Rattle.std.proofs.lemmas.Bool.Decides.{nat_tests}
+use Rattle.tv_base.specs.declared.numbers.TreeNo.{TreeNo}
+use Rattle.letter_types.specs.Kept.{kept_without, wakes, wakes_by}
+use Rattle.letter_types.specs.declared.bodies.Body.{Body}
+use Rattle.letter_types.specs.declared.bodies.Body.TheVariants.{Go, Root, Sub as SubLetter, Done, Reply, Nudge, Advance, Advanced, Decide, Decided, Release, Wake, Turn, Show, Sweep, Turned, Shown, Swept, AskDone, AskAsked, DoneRow, AskedRow}
 use Rattle.letter_types.specs.declared.entries.Entry.{Entry}
+use Rattle.letter_types.specs.declared.entries.Letter.{Letter}
+use Rattle.letter_types.specs.declared.entries.Outgoing.{Outgoing}
+use Rattle.script_parts.specs.Counts.{has_strict, if_update, one_strict, strict_trees, update_subs}
+use Rattle.script_parts.specs.ScriptData.{is_strict, is_update, updates}
+use Rattle.script_parts.specs.declared.parts.Tree.{Tree}
+use Rattle.script_parts.specs.declared.parts.TreeKind.{TreeKind}
+use Rattle.script_parts.specs.declared.parts.TreeKind.TheVariants.{Read, Strict, Update}
+use Rattle.tx_trees.specs.Counts.{advances_in, all_subs}
+use Rattle.tx_trees.specs.ScriptData.{ScriptData, node_of, subs_at}
+use Rattle.tx_trees.specs.Valid.{IsValid}
+use Rattle.world_model.specs.Children.{sub_letters}
+use Rattle.world_model.specs.Core.{Core}
+use Rattle.world_model.specs.Counts.{one_if, tally}
 use Rattle.world_model.specs.declared.phase.Phase.{Phase}
 use Rattle.world_model.specs.declared.phase.Phase.TheVariants.{Idle, Turning, Counting, Paused, Showing, Sweeping}
-use Rattle.tx_trees.specs.Counts.{advances_in, all_subs}
-use Rattle.tx_trees.specs.ScriptData.{ScriptData, subs_at}
-use Rattle.world_model.specs.Runs.{client_in, coordinator_in, IsStepRun}
-use Rattle.world_model.specs.Timely.{AllTimely}
-use Rattle.world_model.proofs.Lawful.{IsLawful}
-use Rattle.world_model.proofs.Scripts.{IsSound, has_root, sub_below, sub_there}
+use Rattle.world_model.specs.Kept.{kept_in}
+use Rattle.world_model.specs.Named.{is_strict_at}
+use Rattle.world_model.specs.Runs.{client_in, coordinator_in, in_flight, keeping_in, IsStepRun}
+use Rattle.world_model.specs.Strict.{core_row}
+use Rattle.world_model.proofs.Bags.{tally-append}
+use Rattle.world_model.proofs.Cases.{Case, Coordinates, Does, Keeps, NodeDoes, NodeKeeps, Submits, case}
+use Rattle.world_model.proofs.EachOutstanding.{each_took}
+use Rattle.world_model.proofs.Every.{each_none, each_zero}
+use Rattle.world_model.proofs.Flows.{outstanding_flow}
+use Rattle.world_model.proofs.Lawful.{is_nudge, nudged}
+use Rattle.world_model.proofs.Outstanding.{outstanding_first}
+use Rattle.world_model.proofs.Scripts.{SubAt, get_some, sub_here, sub_there}
+use Rattle.world_model.proofs.Sends.{on, roots_none, subs_none}
+use Rattle.strict_laws.specs.Meant.{IsLetterMeant, IsMeant}
+use Rattle.strict_laws.proofs.Meant.{letters_are_meant}
+use Rattle.strict_laws.proofs.MeantRows.{root_below, strict_below}
+use Rattle.strict_laws.proofs.RowSends.{OfChildren, OfRow, OfTree, core_each}
 use Rattle.phase_laws.specs.Advances.{asked_for, running}
+use Rattle.phase_laws.proofs.Brought.{sub_node_below}
 use Rattle.phase_laws.proofs.Small.{asked_most, rounds_by_trees, small}
-use Rattle.tree_laws.specs.Dids.{asks, dids, replies_to}
-use Rattle.tree_laws.specs.Entries.{entries_of}
-use Rattle.tree_laws.proofs.ClientStep.{answers_most}
-use Rattle.tree_laws.proofs.Counts.{below_root, root_most}
-use Rattle.tree_laws.proofs.Entries.{all_subs_here, asks_in, is_reply, is_root, is_work, some_subs, taken_in, taken_over, taken_replies}
-use Rattle.tree_laws.proofs.Goods.{good_run}
-use Rattle.tree_laws.proofs.Nudges.{lawful as tree_lawful}
-use Rattle.tree_laws.proofs.Sums.{over}
+use Rattle.tree_laws.specs.Dids.{asks, is_go, letters_asking, replies_to, tells_done}
+use Rattle.tree_laws.specs.Entries.{entries_most, entries_of, if_strict, strict_entries, strict_subs}
+use Rattle.tree_laws.specs.Turns.{turns}
+use Rattle.tree_laws.proofs.AptLawful.{nudges_few}
+use Rattle.tree_laws.proofs.AptMakes.{node_visited}
+use Rattle.tree_laws.proofs.AptStagesApart.{CountsNoOthers, client_none, coordinator_none}
+use Rattle.tree_laws.proofs.AptStagesSteps.{sent_tells, tells_of, told, turned_by}
+use Rattle.tree_laws.proofs.AptSteps.{Enters, enters, strays, wakes_none}
+use Rattle.tree_laws.proofs.AptTurns.{turns_at_most_once, turns_come_once}
+use Rattle.tree_laws.proofs.Doing.{no_birth}
+use Rattle.tree_laws.proofs.Entries.{all_subs_here, is_reply, is_work, some_subs, taken_in, taken_over, taken_replies, work_hit, work_none}
+use Rattle.tree_laws.proofs.Sums.{over, over_hit, over_none, over_same}
 use Rattle.run_laws.proofs.Costs.{is_apart, paid, stages}
-use Rattle.run_laws.proofs.Entries.{counted, reply_by_tree, root_by_tree, taken_asks, taken_same, work_by_tree}
-use Rattle.run_laws.proofs.InTime.{all_apt, in_time, lawful}
+use Rattle.run_laws.proofs.EveryApt.{all_apt, lawful}
+use Rattle.run_laws.proofs.SentFew.{ack_of, acks_few, answered_once, decide_of, decides_few, no_others, release_of, releases_few, taken_sent}
+use Rattle.run_laws.proofs.WakesFew.{over_most, read_wakes, root_wakes, sent_in, strict_wakes, update_wakes, wake_of}
 
 -- Sums.
 over_few : {X : Type 0} (i : ℕ) (f : ℕ → ℕ) (xs : List X) → ((k : ℕ) → i ≤ k → k < i + length xs → f k ≤ 1) → over i f xs ≤ length xs
@@ -29,58 +65,276 @@ over_few i f [] few = omega arith
 over_few i f (x ∷ xs) few =
     omega (arith, few i (omega arith) (omega arith), over_few (i + 1) f xs (λ k le lt. few k (omega (arith, le)) (omega (arith, lt))))
 
-over_zero : {X : Type 0} (i : ℕ) (f : ℕ → ℕ) (xs : List X) → ((k : ℕ) → i ≤ k → k < i + length xs → f k ≤ 0) → over i f xs ≤ 0
-over_zero i f [] none = omega arith
-over_zero i f (x ∷ xs) none =
-    omega (arith, none i (omega arith) (omega arith), over_zero (i + 1) f xs (λ k le lt. none k (omega (arith, le)) (omega (arith, lt))))
+-- numbers that are at most 1, and the first of them is 0
+over_later : {X : Type 0} (f : ℕ → ℕ) (xs : List X) → 1 ≤ length xs → f 0 ≡ 0 → ((k : ℕ) → k < length xs → f k ≤ 1) → over 0 f xs + 1 ≤ length xs
+over_later f [] some first few = absurd (omega (arith, some))
+over_later f (x ∷ xs) some first few = omega (arith, first, over_few 1 f xs (λ k le lt. few k (omega (arith, lt))))
 
--- numbers that are at most one that is at most 1
-over_below : {X : Type 0} (f : ℕ → ℕ) (d : ℕ) (xs : List X) → 1 ≤ length xs → d ≤ 1 → ((k : ℕ) → 0 ≤ k → k < 0 + length xs → f k ≤ d)
-    → 2 * over 0 f xs + 1 ≤ d + 2 * length xs
-over_below f zero xs some most below = omega (arith, some, over_zero 0 f xs below)
-over_below f (suc d) xs some most below =
-    omega (arith, over_few 0 f xs (λ k le lt. omega (arith, below k le lt, most)))
+over_least : {X : Type 0} (i : ℕ) (f g : ℕ → ℕ) (xs : List X) → ((k : ℕ) → i ≤ k → k < i + length xs → f k + 1 ≤ g k)
+    → over i f xs + length xs ≤ over i g xs
+over_least i f g [] each = omega arith
+over_least i f g (x ∷ xs) each =
+    omega (arith, each i (omega arith) (omega arith), over_least (i + 1) f g xs (λ k le lt. each k (omega (arith, le)) (omega (arith, lt))))
 
-over_twice : {X : Type 0} (i : ℕ) (f g h : ℕ → ℕ) (xs : List X)
-    → ((k : ℕ) → i ≤ k → k < i + length xs → 2 * f k + 1 ≤ g k + 2 * h k)
-    → 2 * over i f xs + length xs ≤ over i g xs + 2 * over i h xs
-over_twice i f g h [] each = omega arith
-over_twice i f g h (x ∷ xs) each =
-    omega (arith, each i (omega arith) (omega arith), over_twice (i + 1) f g h xs (λ k le lt. each k (omega (arith, le)) (omega (arith, lt))))
+-- numbers of each tree by the tree itself
+over_trees : (s : ScriptData) (f : ℕ → ℕ) (g : Tree → ℕ) (i : ℕ) (ts : List Tree)
+    → ((n : ℕ) (tree : Tree) → slice_get ts n ≡ Some tree → slice_get s.trees (i + n) ≡ Some tree)
+    → ((t : ℕ) (tree : Tree) → slice_get s.trees t ≡ Some tree → f t ≤ g tree) → over i f ts ≤ tally g ts
+over_trees s f g i [] at each = omega arith
+over_trees s f g i (tree ∷ ts) at each =
+    let first : i + 0 ≡ i = omega arith in
+    let more : (n : ℕ) → i + suc n ≡ i + 1 + n = λ n. omega arith in
+    let here = each i tree (subst (λ (n : ℕ). slice_get s.trees n ≡ Some tree) first (at 0 tree refl)) in
+    let rest = over_trees s f g (i + 1) ts
+    (λ n x there. subst (λ (m : ℕ). slice_get s.trees m ≡ Some x) (more n) (at (suc n) x there)) each in
+    omega (arith, here, rest)
 
--- What is taken.
-tree_most : (s : ScriptData) (past : List Entry) (t : ℕ) (laws : IsLawful s) (run : IsStepRun s past) (timely : AllTimely s past) → t < length s.trees
-    → 2 * taken_in (asks_in s t) past + 1 ≤ taken_in (asks t 0) past + 2 * length (subs_at s t)
-tree_most s past t laws run timely lt =
-    let good = good_run s past laws.sound run timely in
-    let root = taken_asks s past t 0 laws run timely in
-    let some = sub_below s t 0 (has_root s t laws.sound lt) in
-    let most : dids past t 0 ≤ 1 = omega (arith, root_most s past t laws.sound good lt) in
-    let below = over_below (λ k. taken_in (asks t k) past) (dids past t 0) (subs_at s t) (omega (arith, some)) most (λ k le kt.
-    let c = sub_there s t k lt (omega (arith, kt)) in
-    omega (arith, taken_asks s past t k laws run timely, below_root s past t k c laws.sound good)) in
-    omega (arith, root, below, taken_over (asks t) (subs_at s t) past)
+by_trees : (s : ScriptData) (f : ℕ → ℕ) (g : Tree → ℕ) → ((t : ℕ) (tree : Tree) → slice_get s.trees t ≡ Some tree → f t ≤ g tree)
+    → over 0 f s.trees ≤ tally g s.trees
+by_trees s f g each =
+    let same : (n : ℕ) → n ≡ 0 + n = λ n. omega arith in
+    over_trees s f g 0 s.trees (λ n tree at. subst (λ (m : ℕ). slice_get s.trees m ≡ Some tree) (same n) at) each
 
--- a tree has a root, and at most one entry for each of its subtransactions
-works_most : (s : ScriptData) (past : List Entry) (laws : IsLawful s) (run : IsStepRun s past) (timely : AllTimely s past)
-    → 2 * taken_in is_work past + length s.trees ≤ taken_in is_root past + 2 * all_subs s.trees
-works_most s past laws run timely =
-    let works = taken_same is_work (λ b. over 0 (λ t. asks_in s t b) s.trees) s past laws run timely (work_by_tree s laws.sound)
-    ∙ taken_over (asks_in s) s.trees past in
-    let roots = taken_same is_root (λ b. over 0 (λ t. asks t 0 b) s.trees) s past laws run timely (root_by_tree s)
-    ∙ taken_over (λ t. asks t 0) s.trees past in
-    let sums = over_twice 0 (λ t. taken_in (asks_in s t) past) (λ t. taken_in (asks t 0) past) (λ t. length (subs_at s t)) s.trees
-    (λ t le lt. tree_most s past t laws run timely (omega (arith, lt))) in
-    omega (arith, works, roots, sums, all_subs_here s)
+tree_lt : (ts : List Tree) (t : ℕ) (tree : Tree) → slice_get ts t ≡ Some tree → t < length ts
+tree_lt [] t tree at = absurd (cc at)
+tree_lt (x ∷ ts) zero tree at = omega arith
+tree_lt (x ∷ ts) (suc t) tree at = omega (arith, tree_lt ts t tree at)
 
-replies_most : (s : ScriptData) (past : List Entry) (laws : IsLawful s) (run : IsStepRun s past) (timely : AllTimely s past)
-    → taken_in is_reply past ≤ length s.trees
-replies_most s past laws run timely =
-    let good = good_run s past laws.sound run timely in
-    let replies = taken_same is_reply (λ b. over 0 (λ t. replies_to t b) s.trees) s past laws run timely (reply_by_tree s)
+-- Each entry takes a letter of one kind.
+abbrev is_note : Body → ℕ
+is_note (Done t k v notice) = 1
+is_note Go = 0
+is_note _ = 0
+
+abbrev is_decision : Body → ℕ
+is_decision (Decide t v commit) = 1
+is_decision Go = 0
+is_decision _ = 0
+
+abbrev is_ack : Body → ℕ
+is_ack (Decided t v) = 1
+is_ack Go = 0
+is_ack _ = 0
+
+abbrev is_release : Body → ℕ
+is_release (Release t) = 1
+is_release Go = 0
+is_release _ = 0
+
+abbrev is_wake : Body → ℕ
+is_wake (Wake t k) = 1
+is_wake Go = 0
+is_wake _ = 0
+
+abbrev Kinds : Body → ℕ
+Kinds b = is_go b + is_work b + is_note b + is_reply b + is_nudge b + is_apart b + is_decision b + is_ack b + is_release b + is_wake b
+
+one_kind : (s : ScriptData) (from to : ℕ) (b : Body) → IsMeant s from to b → 1 ≡ Kinds b
+one_kind s from to Go meant = refl
+one_kind s from to (Root t) meant = refl
+one_kind s from to (SubLetter t k v) meant = refl
+one_kind s from to (Done t k v notice) meant = refl
+one_kind s from to (Reply t v answer) meant = refl
+one_kind s from to Nudge meant = refl
+one_kind s from to Advance meant = refl
+one_kind s from to (Turned v) meant = refl
+one_kind s from to (Shown v) meant = refl
+one_kind s from to (Swept v) meant = refl
+one_kind s from to (DoneRow v k row) meant = refl
+one_kind s from to (AskedRow v k row) meant = refl
+one_kind s from to (Turn v) meant = refl
+one_kind s from to (Show v) meant = refl
+one_kind s from to (Sweep v) meant = refl
+one_kind s from to (AskDone v k) meant = refl
+one_kind s from to (AskAsked v k) meant = refl
+one_kind s from to (Advanced v) meant = refl
+one_kind s from to (Decide t v commit) meant = refl
+one_kind s from to (Decided t v) meant = refl
+one_kind s from to (Release t) meant = refl
+one_kind s from to (Wake t k) meant = refl
+one_kind s from to _ meant = absurd meant
+
+took_meant : (s : ScriptData) (past : List Entry) (e : Entry) → IsValid s → IsStepRun s (e ∷ past) → IsLetterMeant s e.took
+took_meant s past e valid run = each_took (IsLetterMeant s) s past e run.0 (letters_are_meant s past valid run.1)
+
+counted : (s : ScriptData) (past : List Entry) → IsValid s → IsStepRun s past
+    → length past
+    ≡ taken_in is_go past + taken_in is_work past + taken_in is_note past + taken_in is_reply past + nudged past + taken_in is_apart past
+    + taken_in is_decision past + taken_in is_ack past + taken_in is_release past + taken_in is_wake past
+counted s [] valid run = refl
+counted s (e ∷ past) valid run =
+    omega (arith, counted s past valid run.1, one_kind s e.took.from.0 e.took.to.0 e.took.body (took_meant s past e valid run))
+
+-- What is taken, by trees.
+taken_same : (f g : Body → ℕ) (s : ScriptData) (past : List Entry) → IsValid s → IsStepRun s past
+    → ((from to : ℕ) (b : Body) → IsMeant s from to b → f b ≡ g b) → taken_in f past ≡ taken_in g past
+taken_same f g s [] valid run same = refl
+taken_same f g s (e ∷ past) valid run same =
+    omega (
+      arith,
+      same e.took.from.0 e.took.to.0 e.took.body (took_meant s past e valid run),
+      taken_same f g s past valid run.1 same,
+    )
+
+taken_none : (f : Body → ℕ) (s : ScriptData) (past : List Entry) → IsValid s → IsStepRun s past
+    → ((from to : ℕ) (b : Body) → IsMeant s from to b → f b ≡ 0) → taken_in f past ≡ 0
+taken_none f s past valid run none = taken_same f (λ b. 0) s past valid run none ∙ zeros past where
+  zeros : (past : List Entry) → taken_in (λ b. 0) past ≡ 0
+  zeros [] = refl
+  zeros (e ∷ past) = omega (arith, zeros past)
+
+work_by_tree : (s : ScriptData) → IsValid s → (from to : ℕ) (b : Body) → IsMeant s from to b
+    → is_work b ≡ over 0 (λ t. over 0 (λ k. asks t k b) (subs_at s t)) s.trees
+work_by_tree s valid from to (Root u) meant = sym (work_hit s u.0 0 meant.tree (root_below s u.0 valid meant.tree))
+work_by_tree s valid from to (SubLetter u j v) meant = sym (work_hit s u.0 j.0 meant.tree meant.sub)
+work_by_tree s valid from to Go meant = sym (work_none s)
+work_by_tree s valid from to _ meant = sym (work_none s)
+
+note_by_tree : (s : ScriptData) (from to : ℕ) (b : Body) → IsMeant s from to b
+    → is_note b ≡ over 0 (λ t. over 0 (λ k. tells_done t k b) (subs_at s t)) s.trees
+note_by_tree s from to (Done u j v notice) meant = sym (work_hit s u.0 j.0 meant.tree meant.sub)
+note_by_tree s from to Go meant = sym (work_none s)
+note_by_tree s from to _ meant = sym (work_none s)
+
+wake_by_tree : (s : ScriptData) (from to : ℕ) (b : Body) → IsMeant s from to b
+    → is_wake b ≡ over 0 (λ t. over 0 (λ k. wake_of t k b) (subs_at s t)) s.trees
+wake_by_tree s from to (Wake u j) meant = sym (work_hit s u.0 j.0 meant.tree meant.sub)
+wake_by_tree s from to Go meant = sym (work_none s)
+wake_by_tree s from to _ meant = sym (work_none s)
+
+reply_by_tree : (s : ScriptData) (from to : ℕ) (b : Body) → IsMeant s from to b → is_reply b ≡ over 0 (λ t. replies_to t b) s.trees
+reply_by_tree s from to (Reply u v answer) meant = sym (over_hit 0 u.0 s.trees (omega arith) (omega (arith, meant.0)))
+reply_by_tree s from to Go meant = sym (over_none 0 (λ t. 0) s.trees (λ t. refl))
+reply_by_tree s from to _ meant = sym (over_none 0 (λ t. 0) s.trees (λ t. refl))
+
+decision_by_tree : (s : ScriptData) (from to : ℕ) (b : Body) → IsMeant s from to b → is_decision b ≡ over 0 (λ t. decide_of t b) s.trees
+decision_by_tree s from to (Decide u v commit) meant =
+    sym (over_hit 0 u.0 s.trees (omega arith) (omega (arith, strict_below s u.0 meant.strict)))
+decision_by_tree s from to Go meant = sym (over_none 0 (λ t. 0) s.trees (λ t. refl))
+decision_by_tree s from to _ meant = sym (over_none 0 (λ t. 0) s.trees (λ t. refl))
+
+ack_by_tree : (s : ScriptData) (from to : ℕ) (b : Body) → IsMeant s from to b → is_ack b ≡ over 0 (λ t. ack_of t b) s.trees
+ack_by_tree s from to (Decided u v) meant = sym (over_hit 0 u.0 s.trees (omega arith) (omega (arith, strict_below s u.0 meant.strict)))
+ack_by_tree s from to Go meant = sym (over_none 0 (λ t. 0) s.trees (λ t. refl))
+ack_by_tree s from to _ meant = sym (over_none 0 (λ t. 0) s.trees (λ t. refl))
+
+update_below : (s : ScriptData) (t : ℕ) (found : Option Tree) → slice_get s.trees t ≡ found → updates s t ≡ true → t < length s.trees
+update_below s t None at up = let none : updates s t ≡ false = rw (at, updates) refl in absurd (cc (none, up))
+update_below s t (Some tree) at up = tree_lt s.trees t tree at
+
+release_by_tree : (s : ScriptData) (from to : ℕ) (b : Body) → IsMeant s from to b → is_release b ≡ over 0 (λ t. release_of t b) s.trees
+release_by_tree s from to (Release u) meant =
+    sym (over_hit 0 u.0 s.trees (omega arith) (omega (arith, update_below s u.0 (slice_get s.trees u.0) refl meant.update)))
+release_by_tree s from to Go meant = sym (over_none 0 (λ t. 0) s.trees (λ t. refl))
+release_by_tree s from to _ meant = sym (over_none 0 (λ t. 0) s.trees (λ t. refl))
+
+-- What is taken for a tree.
+taken_few : (f : Body → ℕ) (s : ScriptData) (past : List Entry) → IsStepRun s past → f Go ≡ 0 → taken_in f past ≤ sent_in f past
+taken_few f s past run none = omega (arith, none, taken_sent f s past run)
+
+asks_sent : (s : ScriptData) (past : List Entry) (t k : ℕ) → IsValid s → IsStepRun s past
+    → sent_in (asks t k) past ≡ letters_asking s past t k + turns past t k
+asks_sent s [] t k valid run = omega (arith, outstanding_first (λ (l : Letter). asks t k l.body) s)
+asks_sent s (e ∷ past) t k valid run =
+    omega (
+      arith,
+      asks_sent s past t k valid run.1,
+      outstanding_flow (asks t k) s past e (λ u j. refl) run.0,
+      turned_by s past e t k (enters s past e valid (all_apt s (e ∷ past) valid run) run),
+    )
+
+works_few : (s : ScriptData) (past : List Entry) (t k : ℕ) → IsValid s → IsStepRun s past → t < length s.trees → k < length (subs_at s t)
+    → taken_in (asks t k) past ≤ 1
+works_few s past t k valid run lt kt =
+    let sub : SubAt s t k = sub_there s t k lt kt in
+    omega (
+      arith,
+      taken_few (asks t k) s past run refl,
+      asks_sent s past t k valid run,
+      turns_come_once s past t k sub.sub valid (all_apt s past valid run) run (sub_here s t k sub),
+    )
+
+told_less : (t k : ℕ) (b : Body) → told t k b ≤ asks t k b
+told_less t k (SubLetter u j v) = omega arith
+told_less t k Go = omega arith
+told_less t k _ = omega arith
+
+told_root : (s : ScriptData) (to t : ℕ) (b : Body) → strays s to b ≡ 0 → told t 0 b ≡ 0
+told_root s to t (SubLetter u j v) near = later u.0 t j.0 (omega (arith, near)) where
+  later : (u t j : ℕ) → one_if (j == 0) ≡ 0 → one_if ((u == t) && (j == 0)) ≡ 0
+  later u t j none = grind (arith, nat_tests)
+told_root s to t Go near = refl
+told_root s to t _ near = refl
+
+notes_sent : (s : ScriptData) (past : List Entry) (e : Entry) (t k : ℕ) → (n : Enters s past e) → tally (on (tells_done t k)) e.sent ≡ told t k n.body
+notes_sent s past e t k n =
+    omega (
+      arith,
+      n.sends (on (tells_done t k)) (tells_of t k),
+      sent_tells s t k n.version n.notice n.body,
+      roots_none (tells_done t k) s n.rows (λ u. refl) refl,
+    )
+
+notes_most : (s : ScriptData) (past : List Entry) (t k : ℕ) → IsValid s → IsStepRun s past → sent_in (tells_done t k) past ≤ turns past t k
+notes_most s [] t k valid run = omega arith
+notes_most s (e ∷ past) t k valid run =
+    let n = enters s past e valid (all_apt s (e ∷ past) valid run) run in
+    omega (
+      arith,
+      notes_most s past t k valid run.1,
+      notes_sent s past e t k n,
+      told_less t k n.body,
+      n.done (asks t k) refl,
+      turned_by s past e t k n,
+    )
+
+notes_root : (s : ScriptData) (past : List Entry) (t : ℕ) → IsValid s → IsStepRun s past → sent_in (tells_done t 0) past ≡ 0
+notes_root s [] t valid run = refl
+notes_root s (e ∷ past) t valid run =
+    let n = enters s past e valid (all_apt s (e ∷ past) valid run) run in
+    omega (arith, notes_root s past t valid run.1, notes_sent s past e t 0 n, told_root s n.to t n.body n.near)
+
+notes_few : (s : ScriptData) (past : List Entry) (t : ℕ) → IsValid s → IsStepRun s past → t < length s.trees
+    → over 0 (λ k. taken_in (tells_done t k) past) (subs_at s t) + 1 ≤ length (subs_at s t)
+notes_few s past t valid run lt =
+    over_later (λ k. taken_in (tells_done t k) past) (subs_at s t) (omega (arith, root_below s t valid lt))
+    (omega (arith, taken_few (tells_done t 0) s past run refl, notes_root s past t valid run))
+    (λ k kt.
+    omega (
+      arith,
+      taken_few (tells_done t k) s past run refl,
+      notes_most s past t k valid run,
+      turns_at_most_once s past t k (sub_there s t k lt kt) valid (all_apt s past valid run) run,
+    ))
+
+-- All that is taken.
+works_most : (s : ScriptData) (past : List Entry) → IsValid s → IsStepRun s past → taken_in is_work past ≤ all_subs s.trees
+works_most s past valid run =
+    let works = taken_same is_work (λ b. over 0 (λ t. over 0 (λ k. asks t k b) (subs_at s t)) s.trees) s past valid run (work_by_tree s valid)
+    ∙ taken_over (λ t b. over 0 (λ k. asks t k b) (subs_at s t)) s.trees past in
+    let each = over_most 0 (λ t. taken_in (λ b. over 0 (λ k. asks t k b) (subs_at s t)) past) (λ t. length (subs_at s t)) s.trees (λ t le lt.
+    omega (
+      arith,
+      taken_over (asks t) (subs_at s t) past,
+      over_few 0 (λ k. taken_in (asks t k) past) (subs_at s t) (λ k from kt.
+      works_few s past t k valid run (omega (arith, lt)) (omega (arith, kt))),
+    )) in
+    omega (arith, works, each, all_subs_here s)
+
+notes_all : (s : ScriptData) (past : List Entry) → IsValid s → IsStepRun s past → taken_in is_note past + length s.trees ≤ all_subs s.trees
+notes_all s past valid run =
+    let notes = taken_same is_note (λ b. over 0 (λ t. over 0 (λ k. tells_done t k b) (subs_at s t)) s.trees) s past valid run (note_by_tree s)
+    ∙ taken_over (λ t b. over 0 (λ k. tells_done t k b) (subs_at s t)) s.trees past in
+    let each = over_least 0 (λ t. taken_in (λ b. over 0 (λ k. tells_done t k b) (subs_at s t)) past) (λ t. length (subs_at s t)) s.trees (λ t le lt.
+    omega (arith, taken_over (tells_done t) (subs_at s t) past, notes_few s past t valid run (omega (arith, lt)))) in
+    omega (arith, notes, each, all_subs_here s)
+
+replies_most : (s : ScriptData) (past : List Entry) → IsValid s → IsStepRun s past → taken_in is_reply past ≤ length s.trees
+replies_most s past valid run =
+    let replies = taken_same is_reply (λ b. over 0 (λ t. replies_to t b) s.trees) s past valid run (reply_by_tree s)
     ∙ taken_over replies_to s.trees past in
     let few = over_few 0 (λ t. taken_in (replies_to t) past) s.trees (λ t le lt.
-    omega (arith, taken_replies s past t run, answers_most s past t (good.stages t (omega (arith, lt))))) in
+    omega (arith, taken_replies s past t run, answered_once s past t valid run (omega (arith, lt)))) in
     omega (arith, replies, few)
 
 -- Letters of advancements.
@@ -106,27 +360,294 @@ apart_most n a t u run stage round asked x is up most few rounds =
     let three : 4 * n * round ≤ 4 * n * (2 * a + t) = mul_le (4 * n) round (2 * a + t) rounds in
     omega (arith, is, one, two, three, most)
 
-aparts_most : (s : ScriptData) (past : List Entry) (laws : IsLawful s) (run : IsStepRun s past) (timely : AllTimely s past)
+aparts_most : (s : ScriptData) (past : List Entry) → IsValid s → IsStepRun s past
     → taken_in is_apart past ≤ advances_in s.rows * (2 + 6 * s.nodes) + 4 * s.nodes * (2 * advances_in s.rows + length s.trees)
-aparts_most s past laws run timely =
+aparts_most s past valid run =
     let c = coordinator_in s past in
-    let now = small s past (lawful s laws.sound) run (all_apt s past laws.sound run) in
+    let now = small s past (lawful s valid) run (all_apt s past valid run) in
     let most : asked_for s past ≤ advances_in s.rows = asked_most (client_in s past).next s.rows in
     apart_most s.nodes (advances_in s.rows) (length s.trees) c.update (running c.phase) (stages c.phase) c.round (asked_for s past) (taken_in is_apart past)
-    (omega (arith, paid s past laws run timely)) (omega (arith, now.asked, most)) most (stages_most c.phase)
-    (rounds_by_trees s past (lawful s laws.sound) run (all_apt s past laws.sound run))
+    (omega (arith, paid s past valid run)) (omega (arith, now.asked, most)) most (stages_most c.phase)
+    (rounds_by_trees s past (lawful s valid) run (all_apt s past valid run))
 
--- The law.
-pub entries_few : (s : ScriptData) (past : List Entry) → IsSound s → IsStepRun s past
-    → length past ≤ entries_of s (2 * advances_in s.rows + length s.trees)
-entries_few s past sound run =
-    let laws = tree_lawful s sound in
-    let timely = in_time s past sound run in
+-- The client begins once.
+abbrev IsNoGo : ℕ → Body → Type 0
+IsNoGo to body = is_go body ≡ 0
+
+children_go : (s : ScriptData) (u : TreeNo) → OfChildren IsNoGo s u
+children_go s u v parent =
+    each_zero (on is_go) (sub_letters u.0 v parent 0 (subs_at s u.0)) (subs_none is_go u.0 v parent 0 (subs_at s u.0) (λ w j x. refl))
+
+tree_go : (s : ScriptData) (u : TreeNo) → OfTree IsNoGo s u
+tree_go s u = record {
+  children = children_go s u;
+  reply = λ v answer. refl;
+  release = λ q some up at. refl;
+  decide = λ q v commit strict at. refl;
+}
+
+row_go : (s : ScriptData) (c : Core) (body : Body) → OfRow IsNoGo s c body
+row_go s c (Root u) = tree_go s u
+row_go s c (SubLetter u j v) = (children_go s u, λ w notice fits. refl)
+row_go s c (Done u j v notice) = tree_go s u
+row_go s c (Decide u v commit) = refl
+row_go s c (Decided u v) = λ a answer is. refl
+row_go s c (Turn v) = refl
+row_go s c (Show v) = refl
+row_go s c (Sweep v) = refl
+row_go s c (AskDone v j) = λ row is. refl
+row_go s c (AskAsked v j) = λ row is. refl
+row_go s c _ = tt
+
+go_no_others : CountsNoOthers is_go
+go_no_others = no_others is_go (λ u. refl) refl refl (λ v. (refl, (refl, refl))) (λ v k. (refl, refl)) (λ v. refl)
+
+entry_go : (s : ScriptData) (past : List Entry) (e : Entry) → Case s past e → tally (on is_go) e.sent ≡ 0
+entry_go s past e (NodeDoes p r d) =
+    let c : Core = (keeping_in s past p).core in
+    let more : List Outgoing = wakes (wakes_by r.body) (kept_without (kept_in s past p) e.took.body) in
     omega (
       arith,
-      counted s past laws run timely,
-      works_most s past laws run timely,
-      replies_most s past laws run timely,
-      aparts_most s past laws run timely,
-      some_subs s.nodes s.items s.trees sound.valid.trees,
+      ap (λ (os : List Outgoing). tally (on is_go) os) d.sent,
+      tally-append (on is_go) (core_row s p c r.from.0 r.body).sent more,
+      wakes_none (on is_go) (wakes_by r.body) (kept_without (kept_in s past p) e.took.body) (λ x. refl),
+      each_none (on is_go) (core_row s p c r.from.0 r.body).sent (core_each IsNoGo s p r.from.0 r.body c (row_go s c r.body)),
+    )
+entry_go s past e (NodeKeeps p r o d) = ap (λ (os : List Outgoing). tally (on is_go) os) d.sent
+entry_go s past e (Coordinates at says) =
+    ap (λ (os : List Outgoing). tally (on is_go) os) says.0 ∙ coordinator_none is_go (coordinator_in s past) e.took go_no_others
+entry_go s past e (Submits at says) =
+    ap (λ (os : List Outgoing). tally (on is_go) os) says.0 ∙ client_none is_go s (client_in s past) e.took.body go_no_others
+
+no_go : (s : ScriptData) (past : List Entry) → IsValid s → IsStepRun s past → sent_in is_go past ≡ 0
+no_go s [] valid run = refl
+no_go s (e ∷ past) valid run =
+    omega (arith, no_go s past valid run.1, entry_go s past e (case s past e run.0 (all_apt s (e ∷ past) valid run).0))
+
+-- What strict trees add, by trees.
+kind_strict : (s : ScriptData) (t : ℕ) (tree : Tree) → slice_get s.trees t ≡ Some tree → is_strict_at s t ≡ is_strict tree.kind
+kind_strict s t tree at = rw (at, is_strict_at) refl
+
+kind_updates : (s : ScriptData) (t : ℕ) (tree : Tree) → slice_get s.trees t ≡ Some tree → updates s t ≡ is_update tree.kind
+kind_updates s t tree at = rw (at, updates) refl
+
+subs_of : (s : ScriptData) (t : ℕ) (tree : Tree) → slice_get s.trees t ≡ Some tree → length (subs_at s t) ≡ length tree.subs
+subs_of s t tree at = rw (at, subs_at) refl
+
+other_strict : (s : ScriptData) (u t : ℕ) → is_strict_at s u ≡ true → is_strict_at s t ≡ false → one_if (u == t) ≡ 0
+other_strict s u t strict none = by (u == t) refl where
+  by : (b : Bool) → (u == t) ≡ b → one_if b ≡ 0
+  by false is = refl
+  by true is =
+      let same : u ≡ t = grind (arith, nat_tests) in
+      let its : is_strict_at s t ≡ true = subst (λ (n : ℕ). is_strict_at s n ≡ true) same strict in
+      absurd (cc (its, none))
+
+other_update : (s : ScriptData) (u t : ℕ) → updates s u ≡ true → updates s t ≡ false → one_if (u == t) ≡ 0
+other_update s u t up none = by (u == t) refl where
+  by : (b : Bool) → (u == t) ≡ b → one_if b ≡ 0
+  by false is = refl
+  by true is =
+      let same : u ≡ t = grind (arith, nat_tests) in
+      let its : updates s t ≡ true = subst (λ (n : ℕ). updates s n ≡ true) same up in
+      absurd (cc (its, none))
+
+decide_other : (s : ScriptData) (t : ℕ) → is_strict_at s t ≡ false → (from to : ℕ) (b : Body) → IsMeant s from to b → decide_of t b ≡ 0
+decide_other s t none from to (Decide u v commit) meant = other_strict s u.0 t meant.strict none
+decide_other s t none from to Go meant = refl
+decide_other s t none from to _ meant = refl
+
+ack_other : (s : ScriptData) (t : ℕ) → is_strict_at s t ≡ false → (from to : ℕ) (b : Body) → IsMeant s from to b → ack_of t b ≡ 0
+ack_other s t none from to (Decided u v) meant = other_strict s u.0 t meant.strict none
+ack_other s t none from to Go meant = refl
+ack_other s t none from to _ meant = refl
+
+release_other : (s : ScriptData) (t : ℕ) → updates s t ≡ false → (from to : ℕ) (b : Body) → IsMeant s from to b → release_of t b ≡ 0
+release_other s t none from to (Release u) meant = other_update s u.0 t meant.update none
+release_other s t none from to Go meant = refl
+release_other s t none from to _ meant = refl
+
+-- a number that only strict trees have, and one that only update trees have
+strict_only : (s : ScriptData) (n t : ℕ) (tree : Tree) (kind : TreeKind) → slice_get s.trees t ≡ Some tree → tree.kind ≡ kind
+    → (is_strict_at s t ≡ false → n ≡ 0) → n ≤ length (subs_at s t) → n ≤ if_strict kind (length tree.subs)
+strict_only s n t tree Strict at is none most = omega (arith, most, subs_of s t tree at)
+strict_only s n t tree Update at is none most = omega (arith, none (kind_strict s t tree at ∙ ap is_strict is))
+strict_only s n t tree Read at is none most = omega (arith, none (kind_strict s t tree at ∙ ap is_strict is))
+
+update_only : (s : ScriptData) (n t : ℕ) (tree : Tree) (kind : TreeKind) → slice_get s.trees t ≡ Some tree → tree.kind ≡ kind
+    → (updates s t ≡ false → n ≡ 0) → n ≤ length (subs_at s t) → n ≤ if_update kind (length tree.subs)
+update_only s n t tree Update at is none most = omega (arith, most, subs_of s t tree at)
+update_only s n t tree Strict at is none most = omega (arith, none (kind_updates s t tree at ∙ ap is_update is))
+update_only s n t tree Read at is none most = omega (arith, none (kind_updates s t tree at ∙ ap is_update is))
+
+strict_sum : (ts : List Tree) → tally (λ (t : Tree). if_strict t.kind (length t.subs)) ts ≡ strict_subs ts
+strict_sum [] = refl
+strict_sum (t ∷ ts) = omega (arith, strict_sum ts)
+
+update_sum : (ts : List Tree) → tally (λ (t : Tree). if_update t.kind (length t.subs)) ts ≡ update_subs ts
+update_sum [] = refl
+update_sum (t ∷ ts) = omega (arith, update_sum ts)
+
+decisions_all : (s : ScriptData) (past : List Entry) → IsValid s → IsStepRun s past → taken_in is_decision past ≤ strict_subs s.trees
+decisions_all s past valid run =
+    let all = taken_same is_decision (λ b. over 0 (λ t. decide_of t b) s.trees) s past valid run (decision_by_tree s) ∙ taken_over decide_of s.trees past in
+    let each = by_trees s (λ t. taken_in (decide_of t) past) (λ (tree : Tree). if_strict tree.kind (length tree.subs)) (λ t tree at.
+    strict_only s (taken_in (decide_of t) past) t tree tree.kind at refl (λ none. taken_none (decide_of t) s past valid run (decide_other s t none))
+    (decides_few s past t valid run (tree_lt s.trees t tree at))) in
+    omega (arith, all, each, strict_sum s.trees)
+
+acks_all : (s : ScriptData) (past : List Entry) → IsValid s → IsStepRun s past → taken_in is_ack past ≤ strict_subs s.trees
+acks_all s past valid run =
+    let all = taken_same is_ack (λ b. over 0 (λ t. ack_of t b) s.trees) s past valid run (ack_by_tree s) ∙ taken_over ack_of s.trees past in
+    let each = by_trees s (λ t. taken_in (ack_of t) past) (λ (tree : Tree). if_strict tree.kind (length tree.subs)) (λ t tree at.
+    strict_only s (taken_in (ack_of t) past) t tree tree.kind at refl (λ none. taken_none (ack_of t) s past valid run (ack_other s t none))
+    (acks_few s past t valid run (tree_lt s.trees t tree at))) in
+    omega (arith, all, each, strict_sum s.trees)
+
+releases_all : (s : ScriptData) (past : List Entry) → IsValid s → IsStepRun s past → taken_in is_release past ≤ update_subs s.trees
+releases_all s past valid run =
+    let all = taken_same is_release (λ b. over 0 (λ t. release_of t b) s.trees) s past valid run (release_by_tree s) ∙ taken_over release_of s.trees past in
+    let each = by_trees s (λ t. taken_in (release_of t) past) (λ (tree : Tree). if_update tree.kind (length tree.subs)) (λ t tree at.
+    update_only s (taken_in (release_of t) past) t tree tree.kind at refl (λ none. taken_none (release_of t) s past valid run (release_other s t none))
+    (releases_few s past t valid run (tree_lt s.trees t tree at))) in
+    omega (arith, all, each, update_sum s.trees)
+
+-- Wakes.
+over_times : {X : Type 0} (i n : ℕ) (f : ℕ → ℕ) (xs : List X) → ((k : ℕ) → i ≤ k → k < i + length xs → f k ≤ n) → over i f xs ≤ n * length xs
+over_times i n f [] few = omega arith
+over_times i n f (x ∷ xs) few =
+    omega (arith, few i (omega arith) (omega arith), over_times (i + 1) n f xs (λ k le lt. few k (omega (arith, le)) (omega (arith, lt))))
+
+over_zero : {X : Type 0} (i : ℕ) (f : ℕ → ℕ) (xs : List X) → ((k : ℕ) → i ≤ k → k < i + length xs → f k ≡ 0) → over i f xs ≡ 0
+over_zero i f [] none = refl
+over_zero i f (x ∷ xs) none =
+    omega (arith, none i (omega arith) (omega arith), over_zero (i + 1) f xs (λ k le lt. none k (omega (arith, le)) (omega (arith, lt))))
+
+over_one : {X : Type 0} (n : ℕ) (f : ℕ → ℕ) (xs : List X) → f 0 ≤ n → ((k : ℕ) → 0 < k → k < length xs → f k ≡ 0) → over 0 f xs ≤ n
+over_one n f [] first none = omega arith
+over_one n f (x ∷ xs) first none =
+    omega (arith, first, over_zero 1 f xs (λ k le lt. none k (omega (arith, le)) (omega (arith, lt))))
+
+one_of_kind : (kind : TreeKind) → one_if (is_strict kind) ≡ one_strict kind
+one_of_kind Strict = refl
+one_of_kind Update = refl
+one_of_kind Read = refl
+
+strict_count : (ts : List Tree) → tally (λ (t : Tree). one_strict t.kind) ts ≡ strict_trees ts
+strict_count [] = refl
+strict_count (t ∷ ts) = omega (arith, strict_count ts)
+
+strict_most : (s : ScriptData) → over 0 (λ h. one_if (is_strict_at s h)) s.trees ≤ strict_trees s.trees
+strict_most s =
+    let each = by_trees s (λ h. one_if (is_strict_at s h)) (λ (tree : Tree). one_strict tree.kind) (λ t tree at.
+    omega (arith, ap one_if (kind_strict s t tree at), one_of_kind tree.kind)) in
+    omega (arith, each, strict_count s.trees)
+
+-- of a tree, by its kind
+wakes_of : (s : ScriptData) (past : List Entry) (t : ℕ) (tree : Tree) (kind : TreeKind) → IsValid s → IsStepRun s past
+    → slice_get s.trees t ≡ Some tree → tree.kind ≡ kind
+    → over 0 (λ k. sent_in (wake_of t k) past) (subs_at s t)
+    ≤ strict_trees s.trees * if_update kind (length tree.subs) + advances_in s.rows * one_strict kind
+wakes_of s past t tree Update valid run at is =
+    let up : updates s t ≡ true = kind_updates s t tree at ∙ ap is_update is in
+    let all = over_times 0 (strict_trees s.trees) (λ k. sent_in (wake_of t k) past) (subs_at s t) (λ k le kt.
+    omega (arith, update_wakes s past t k valid run (sub_node_below s t k valid (omega (arith, kt))) up, strict_most s)) in
+    let same : strict_trees s.trees * length (subs_at s t) ≡ strict_trees s.trees * length tree.subs =
+    ap (λ (n : ℕ). strict_trees s.trees * n) (subs_of s t tree at) in
+    omega (arith, all, same)
+wakes_of s past t tree Strict valid run at is =
+    let strict : is_strict_at s t ≡ true = kind_strict s t tree at ∙ ap is_strict is in
+    omega (
+      arith,
+      over_one (advances_in s.rows) (λ k. sent_in (wake_of t k) past) (subs_at s t) (root_wakes s past t valid run strict) (λ k some kt.
+      strict_wakes s past t k valid run (sub_node_below s t k valid kt) strict some),
+    )
+wakes_of s past t tree Read valid run at is =
+    let none : is_strict_at s t ≡ false = kind_strict s t tree at ∙ ap is_strict is in
+    let other : updates s t ≡ false = kind_updates s t tree at ∙ ap is_update is in
+    omega (
+      arith,
+      over_zero 0 (λ k. sent_in (wake_of t k) past) (subs_at s t) (λ k le kt.
+      read_wakes s past t k valid run (sub_node_below s t k valid (omega (arith, kt))) none other),
+    )
+
+kinds_sum : (n a : ℕ) (ts : List Tree) → tally (λ (t : Tree). n * if_update t.kind (length t.subs) + a * one_strict t.kind) ts
+    ≡ n * update_subs ts + a * strict_trees ts
+kinds_sum n a [] = omega arith
+kinds_sum n a (t ∷ ts) = omega (arith, kinds_sum n a ts)
+
+wakes_all : (s : ScriptData) (past : List Entry) → IsValid s → IsStepRun s past
+    → taken_in is_wake past ≤ strict_trees s.trees * update_subs s.trees + strict_trees s.trees * advances_in s.rows
+wakes_all s past valid run =
+    let all = taken_same is_wake (λ b. over 0 (λ t. over 0 (λ k. wake_of t k b) (subs_at s t)) s.trees) s past valid run (wake_by_tree s)
+    ∙ taken_over (λ t b. over 0 (λ k. wake_of t k b) (subs_at s t)) s.trees past in
+    let each = by_trees s (λ t. taken_in (λ b. over 0 (λ k. wake_of t k b) (subs_at s t)) past)
+    (λ (tree : Tree). strict_trees s.trees * if_update tree.kind (length tree.subs) + advances_in s.rows * one_strict tree.kind) (λ t tree at.
+    omega (
+      arith,
+      taken_over (wake_of t) (subs_at s t) past,
+      over_most 0 (λ k. taken_in (wake_of t k) past) (λ k. sent_in (wake_of t k) past) (subs_at s t)
+          (λ k le kt. taken_few (wake_of t k) s past run refl),
+      wakes_of s past t tree tree.kind valid run at refl,
+    )) in
+    omega (arith, all, each, kinds_sum (strict_trees s.trees) (advances_in s.rows) s.trees)
+
+-- Where no tree is strict nothing is added.
+no_strict_subs : (ts : List Tree) → strict_trees ts ≡ 0 → strict_subs ts ≡ 0
+no_strict_subs [] none = refl
+no_strict_subs (t ∷ ts) none = omega (arith, by t.kind (omega (arith, none)), no_strict_subs ts (omega (arith, none))) where
+  by : (kind : TreeKind) → one_strict kind ≡ 0 → if_strict kind (length t.subs) ≡ 0
+  by Strict is = absurd (omega (arith, is))
+  by Update is = refl
+  by Read is = refl
+
+plain_release : (s : ScriptData) → has_strict s ≡ false → (from to : ℕ) (b : Body) → IsMeant s from to b → is_release b ≡ 0
+plain_release s none from to (Release t) meant = let some = meant.some_strict in absurd (cc (some, none))
+plain_release s none from to Go meant = refl
+plain_release s none from to _ meant = refl
+
+plain_wake : (s : ScriptData) → has_strict s ≡ false → (from to : ℕ) (b : Body) → IsMeant s from to b → is_wake b ≡ 0
+plain_wake s none from to (Wake t k) meant = let some = meant.some_strict in absurd (cc (some, none))
+plain_wake s none from to Go meant = refl
+plain_wake s none from to _ meant = refl
+
+zero_by : (n : ℕ) → not (n == 0) ≡ false → n ≡ 0
+zero_by n is = grind (arith, nat_tests)
+
+strict_few : (s : ScriptData) (past : List Entry) → IsValid s → IsStepRun s past
+    → taken_in is_decision past + taken_in is_ack past + taken_in is_release past + taken_in is_wake past ≤ strict_entries s
+strict_few s past valid run = by (has_strict s) refl where
+  by : (b : Bool) → has_strict s ≡ b
+      → taken_in is_decision past + taken_in is_ack past + taken_in is_release past + taken_in is_wake past
+      ≤ (if b
+      then update_subs s.trees + 2 * strict_subs s.trees + strict_trees s.trees * update_subs s.trees
+      + strict_trees s.trees * advances_in s.rows
+      else 0)
+  by true is =
+      omega (arith, decisions_all s past valid run, acks_all s past valid run, releases_all s past valid run, wakes_all s past valid run)
+  by false is =
+      omega (
+        arith,
+        decisions_all s past valid run,
+        acks_all s past valid run,
+        no_strict_subs s.trees (zero_by (strict_trees s.trees) is),
+        taken_none is_release s past valid run (plain_release s is),
+        taken_none is_wake s past valid run (plain_wake s is),
+      )
+
+-- The law.
+pub entries_few : (s : ScriptData) (past : List Entry) → IsValid s → IsStepRun s past → length past ≤ entries_most s
+entries_few s past valid run =
+    omega (
+      arith,
+      counted s past valid run,
+      taken_sent is_go s past run,
+      no_go s past valid run,
+      works_most s past valid run,
+      notes_all s past valid run,
+      replies_most s past valid run,
+      nudges_few s past valid (all_apt s past valid run) run,
+      aparts_most s past valid run,
+      strict_few s past valid run,
+      some_subs s.nodes s.items s.trees valid.trees,
     )

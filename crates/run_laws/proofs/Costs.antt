@@ -4,42 +4,36 @@ use Rattle.std.proofs.Math.Seq.{take-add}
 use Rattle.tx_trees.proofs.Rebuilding.{advances_in-append}
 use Rattle.phase_out.specs.Rounds.{NodeRows, all_in}
 use Rattle.letter_types.specs.declared.bodies.Body.{Body}
-use Rattle.letter_types.specs.declared.bodies.Body.TheVariants.{Go, Nudge, Advance, Advanced, Turn, Show, Sweep, Turned, Shown, Swept, AskDone, AskAsked, DoneRow, AskedRow, Root, Sub as SubLetter}
+use Rattle.letter_types.specs.declared.bodies.Body.TheVariants.{Go, Nudge, Advance, Advanced, Turn, Show, Sweep, Turned, Shown, Swept, AskDone, AskAsked, DoneRow, AskedRow, Root, Sub as SubLetter, Wake}
 use Rattle.letter_types.specs.declared.entries.Entry.{Entry}
 use Rattle.letter_types.specs.declared.entries.Outgoing.{Outgoing}
 use Rattle.letter_types.specs.Steps.{Out}
 use Rattle.tx_trees.specs.Counts.{advances_in}
-use Rattle.tx_trees.specs.ScriptData.{ScriptData, client_of, home_of, node_of, subs_at}
+use Rattle.tx_trees.specs.Valid.{IsValid}
+use Rattle.tx_trees.specs.ScriptData.{ScriptData, client_of}
 use Rattle.tx_trees.specs.declared.parts.ScriptRow.{ScriptRow}
 use Rattle.tx_trees.specs.declared.parts.ScriptRow.TheVariants.{Tree as TreeRow, Advance as AdvanceRow, Settle as SettleRow, Lose as LoseRow}
-use Rattle.tree_home.specs.Homes.{Gets}
-use Rattle.world_model.specs.Children.{sub_letters, done_letter}
-use Rattle.world_model.specs.Done.{note_done, root_done, sub_done, with_open_tree}
-use Rattle.world_model.specs.Notices.{answer_noted, reply_letters, values_of}
-use Rattle.world_model.specs.Node.{Effect, Node}
+use Rattle.world_model.specs.Node.{Node}
 use Rattle.world_model.specs.Client.{Client, nudge, rows_letters, submit, submitted, with_answer, with_end}
 use Rattle.world_model.specs.Coordinator.{Coordinator, coordinator_row, counted_version, end_count, keep_done, to_nodes, version}
 use Rattle.world_model.specs.declared.phase.Phase.{Phase}
 use Rattle.world_model.specs.declared.phase.Phase.TheVariants.{Idle, Turning, Counting, Paused, Showing, Sweeping}
 use Rattle.world_model.specs.Counts.{tally}
 use Rattle.world_model.specs.Runs.{client_in, coordinator_in, node_in, MayFollow, IsStepRun}
-use Rattle.world_model.specs.Timely.{AllTimely}
 use Rattle.world_model.proofs.Bags.{tally-append}
-use Rattle.world_model.proofs.Every.{coordinator_kept}
+use Rattle.world_model.proofs.Every.{coordinator_kept, each_map, each_none}
 use Rattle.world_model.proofs.Flows.{client_kept, flow}
-use Rattle.world_model.proofs.Lawful.{IsLawful}
-use Rattle.world_model.proofs.Nexts.{Next, Begins, Hears, Ends, Coordinates, DoesRoot, DoesSub, Notes, Obeys, MadeByClient, MadeByCoordinator, Order, Turns as TurnsTo, Shows, Sweeps, TellsDone, TellsAsked, Tells}
+use Rattle.world_model.proofs.Nexts.{MadeByClient, MadeByCoordinator, Order, Turns as TurnsTo, Shows, Sweeps, TellsDone, TellsAsked, Tells}
 use Rattle.world_model.proofs.Orders.{coordinator_nodes}
-use Rattle.world_model.proofs.Sends.{on, replies_none, subs_none}
-use Rattle.world_model.specs.Kept.{done_by}
-use Rattle.world_model.proofs.Worked.{took_none}
+use Rattle.world_model.proofs.Sends.{on}
 use Rattle.phase_laws.specs.Advances.{asked_for}
 use Rattle.phase_laws.specs.Phases.{count_in_flight}
-use Rattle.phase_laws.proofs.Letters.{NoTrees}
+use Rattle.phase_laws.proofs.Letters.{NoTrees, all_sent_none, none_of_trees}
 use Rattle.phase_laws.proofs.Outcomes.{Outcome, Rests, Queues, Flags, Turns, Acks, LastTurned, LastShown, Finishes, GoesOn, Resumes, KeepsDone, KeepsAsked, Agrees, Recounts, Pauses, asked_kept, round_begun}
+use Rattle.phase_laws.proofs.Progress.{Begins, Coordinates, Ends, Hears, IsWake, Obeys, Progress, Works, are_wakes, progress}
 use Rattle.phase_laws.proofs.Small.{outcome_in}
 use Rattle.tree_laws.proofs.Entries.{taken_in}
-use Rattle.run_laws.proofs.InTime.{all_apt, lawful}
+use Rattle.run_laws.proofs.EveryApt.{all_apt, lawful}
 
 -- how many entries a letter of advancements costs: an order or a question is taken, and so is its answer
 abbrev pub cost : Body → ℕ
@@ -273,38 +267,20 @@ paid_node s past e m paid node goes =
     paid_away s past e m paid (omega (arith, node)) (omega (arith, goes, asked))
 
 -- A tree's letters cost nothing.
-root_none : (f : Body → ℕ) (s : ScriptData) (p t v : ℕ) (effect : Effect) (st : Node) → NoTrees f
-    → tally (on f) (root_done s p t v effect st).sent ≡ 0
-root_none f s p t v effect st none =
-    let subs = sub_letters t v 0 0 (subs_at s t) in
-    let answer =
-    answer_noted (record { 0 = t }) (record { 0 = 0 }) (values_of effect.notice) (with_open_tree t (length (subs_at s t)) v st).homes in
-    omega (
-      arith,
-      tally-append (on f) subs (reply_letters (client_of s) answer),
-      subs_none f t v 0 0 (subs_at s t) none.sub,
-      replies_none f (client_of s) answer none.reply,
-    )
-
-sub_none : (f : Body → ℕ) (s : ScriptData) (q t k v : ℕ) (raises : Bool) (effect : Effect) (st : Node) → NoTrees f
-    → tally (on f) (sub_done s q t k v raises effect st).sent ≡ 0
-sub_none f s q t k v raises effect st none =
-    let subs = sub_letters t v k 0 (subs_at s t) in
-    let notice = done_letter (home_of s t) t k v effect.notice in
-    omega (
-      arith,
-      tally-append (on f) subs (notice ∷ []),
-      subs_none f t v k 0 (subs_at s t) none.sub,
-      none.done (record { 0 = t }) (record { 0 = k }) (record { 0 = v }) effect.notice,
-    )
-
-note_none : (f : Body → ℕ) (s : ScriptData) (q t k v : ℕ) (values : Gets) (st : Node) → NoTrees f
-    → tally (on f) (note_done s q t k v values st).sent ≡ 0
-note_none f s q t k v values st none =
-    replies_none f (client_of s) (answer_noted (record { 0 = t }) (record { 0 = k }) values st.homes) none.reply
-
 cost_trees : NoTrees cost
 cost_trees = record {
+  root = λ t. refl;
+  sub = λ t k v. refl;
+  done = λ t k v notice. refl;
+  reply = λ t v answer. refl;
+  wake = λ t k. refl;
+  decide = λ t v commit. refl;
+  decided = λ t v. refl;
+  release = λ t. refl;
+}
+
+apart_trees : NoTrees is_apart
+apart_trees = record {
   root = λ t. refl;
   sub = λ t k v. refl;
   done = λ t k v notice. refl;
@@ -332,13 +308,13 @@ tells_cost (DoneRow v k row) tells = refl
 tells_cost (AskedRow v k row) tells = refl
 tells_cost _ tells = absurd tells
 
-paid_told : (s : ScriptData) (past : List Entry) (e : Entry) (laws : IsLawful s) (run : IsStepRun s (e ∷ past)) (timely : AllTimely s past) → Paid s past
-    → Tells e.took.body → e.actor.0 ≡ s.nodes → MadeByCoordinator s past e → Paid s (e ∷ past)
-paid_told s past e laws run timely paid tells at made =
+paid_told : (s : ScriptData) (past : List Entry) (e : Entry) → IsValid s → IsStepRun s (e ∷ past) → Paid s past → Tells e.took.body
+    → e.actor.0 ≡ s.nodes → MadeByCoordinator s past e → Paid s (e ∷ past)
+paid_told s past e valid run paid tells at made =
     let c = coordinator_in s past in
     let out = coordinator_row c e.took.from.0 e.took.body in
-    let pays = pays_out s.nodes c e.took.from.0 e.took.body out laws.sound.valid.some_nodes (coordinator_nodes s past)
-    (outcome_in s past e (lawful s laws.sound) run.1 (all_apt s past laws.sound run.1)) in
+    let pays = pays_out s.nodes c e.took.from.0 e.took.body out valid.some_nodes (coordinator_nodes s past)
+    (outcome_in s past e (lawful s valid) run.1 (all_apt s past valid run.1)) in
     let pends : pend s.nodes (coordinator_in s (e ∷ past)) ≡ pend s.nodes out.state = ap (λ (d : Coordinator). pend s.nodes d) made.state in
     let spends : spent s.nodes (coordinator_in s (e ∷ past)) ≡ spent s.nodes out.state = ap (λ (d : Coordinator). spent s.nodes d) made.state in
     let sent : tally (on cost) e.sent ≡ tally (on cost) out.sent = ap (λ (os : List Outgoing). tally (on cost) os) made.sent in
@@ -346,43 +322,41 @@ paid_told s past e laws run timely paid tells at made =
     ap (λ (x : Client). advances_in (take x.next s.rows)) (client_kept s past e (omega (arith, at))) in
     omega (arith, paid, pays, pends, spends, sent, asked, tells_cost e.took.body tells, flow cost s past e run.0)
 
-paid_next : (s : ScriptData) (past : List Entry) (e : Entry) (laws : IsLawful s) (run : IsStepRun s (e ∷ past)) (timely : AllTimely s past) → Paid s past
-    → Next s past e → Paid s (e ∷ past)
-paid_next s past e laws run timely paid (Begins bd at made) =
+wake_cost : (body : Body) → IsWake body → cost body ≡ 0
+wake_cost (Wake t k) wake = refl
+wake_cost _ wake = absurd wake
+
+paid_next : (s : ScriptData) (past : List Entry) (e : Entry) → IsValid s → IsStepRun s (e ∷ past) → Paid s past → Progress s past e
+    → Paid s (e ∷ past)
+paid_next s past e valid run paid (Begins bd at made) =
     paid_client s past e (client_in s past) [] run.0 paid at refl refl (omega (arith, ap cost bd, ap is_apart bd)) made
-paid_next s past e laws run timely paid (Hears t v answer bd at lt made) =
+paid_next s past e valid run paid (Hears t v answer bd at lt made) =
     paid_client s past e (with_answer t.0 (client_in s past)) (nudge s ∷ []) run.0 paid at refl refl (omega (arith, ap cost bd, ap is_apart bd)) made
-paid_next s past e laws run timely paid (Ends v bd at made) =
+paid_next s past e valid run paid (Ends v bd at made) =
     paid_client s past e (with_end (client_in s past)) [] run.0 paid at refl refl (omega (arith, ap cost bd, ap is_apart bd)) made
-paid_next s past e laws run timely paid (Coordinates tells at made) = paid_told s past e laws run timely paid tells at made
-paid_next s past e laws run timely paid (DoesRoot t v effect bd sub at lt new work made) =
-    let sent : tally (on cost) e.sent ≡ 0 = ap (λ (os : List Outgoing). tally (on cost) os) made.sent
-    ∙ root_none cost s (home_of s t.0) t.0 v.0 effect (node_in s past (home_of s t.0)) cost_trees in
+paid_next s past e valid run paid (Coordinates tells at made) = paid_told s past e valid run paid tells at made
+paid_next s past e valid run paid (Works p r w) =
+    paid_node s past e run.0 paid (omega (arith, w.brings.at, w.brings.below)) (omega (
+      arith,
+      none_of_trees cost e.took.body cost_trees w.took,
+      none_of_trees is_apart e.took.body apart_trees w.took,
+      all_sent_none cost s (node_in s past p) r.body e.sent cost_trees w.sent,
+    ))
+paid_next s past e valid run paid (Obeys p out more at lt order state sent woken) =
+    let none : tally (on cost) more ≡ 0 =
+    each_none (on cost) more
+    (each_map (λ (o : Outgoing). IsWake o.body) (λ (o : Outgoing). on cost o ≡ 0) more (λ o wake. wake_cost o.body wake)
+    (are_wakes e.took.body more woken)) in
     paid_node s past e run.0 paid (omega (arith, at, lt)) (omega (
       arith,
-      took_none cost s past e (Root t) bd refl (λ w j. refl),
-      took_none is_apart s past e (Root t) bd refl (λ w j. refl),
-      sent,
+      ap (λ (os : List Outgoing). tally (on cost) os) sent,
+      tally-append (on cost) out.sent more,
+      none,
+      order_pays s (node_in s past p) e.took.body out order,
     ))
-paid_next s past e laws run timely paid (DoesSub t k v raises effect bd sub pos from at lt work made) =
-    let sent : tally (on cost) e.sent ≡ 0 = ap (λ (os : List Outgoing). tally (on cost) os) made.sent
-    ∙ sub_none cost s (done_by s past e).from.0 t.0 k.0 v.0 raises effect (node_in s past (node_of s t.0 k.0)) cost_trees in
-    paid_node s past e run.0 paid (omega (arith, at, lt)) (omega (
-      arith,
-      took_none cost s past e (SubLetter t k v) bd refl (λ w j. refl),
-      took_none is_apart s past e (SubLetter t k v) bd refl (λ w j. refl),
-      sent,
-    ))
-paid_next s past e laws run timely paid (Notes t k v values bd sub pos from at lt missed made) =
-    let sent : tally (on cost) e.sent ≡ 0 = ap (λ (os : List Outgoing). tally (on cost) os) made.sent
-    ∙ note_none cost s e.took.from.0 t.0 k.0 v.0 values (node_in s past (home_of s t.0)) cost_trees in
-    paid_node s past e run.0 paid (omega (arith, at, lt)) (omega (arith, ap cost bd, ap is_apart bd, sent))
-paid_next s past e laws run timely paid (Obeys p out at lt order made) =
-    let sent : tally (on cost) e.sent ≡ tally (on cost) out.sent = ap (λ (os : List Outgoing). tally (on cost) os) made.sent in
-    paid_node s past e run.0 paid (omega (arith, at, lt)) (omega (arith, sent, order_pays s (node_in s past p) e.took.body out order))
 
 -- the letters of advancements that were taken, and what those in flight cost, by what was asked for and begun
-pub paid : (s : ScriptData) (past : List Entry) (laws : IsLawful s) (run : IsStepRun s past) (timely : AllTimely s past) → Paid s past
-paid s [] laws run timely = omega arith
-paid s (e ∷ past) laws run timely =
-    paid_next s past e laws run timely.1 (paid s past laws run.1 timely.1) (laws.next past e run timely)
+pub paid : (s : ScriptData) (past : List Entry) → IsValid s → IsStepRun s past → Paid s past
+paid s [] valid run = omega arith
+paid s (e ∷ past) valid run =
+    paid_next s past e valid run (paid s past valid run.1) (progress s past e (lawful s valid) (all_apt s (e ∷ past) valid run) run)

@@ -254,7 +254,7 @@ aparts_taken s past laws run timely empty =
       none_left (λ (l : Letter). is_advanced l.body) s past empty,
     ) in
     apart_by s.nodes (advances_in s.rows) c.update (taken_in is_apart past) (stages c.phase) c.round up calm.1
-    (omega (arith, paid s past laws run timely, none_left (λ (l : Letter). cost l.body) s past empty, calm.0, all))
+    (omega (arith, paid s past laws.sound.valid run, none_left (λ (l : Letter). cost l.body) s past empty, calm.0, all))
 
 -- The law.
 pub entries_counted : (s : ScriptData) (past : List Entry) → IsSound s → IsStepRun s past → in_flight s past ≡ []

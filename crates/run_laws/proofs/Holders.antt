@@ -49,14 +49,14 @@ use Rattle.run_laws.specs.Waiting.{IsHolder}
 abbrev pub applied_any : List Entry → ℕ → ℕ → ℕ
 applied_any past t p = applied_at past t true p + applied_at past t false p
 
-abbrev applies_any : ℕ → List Act → ℕ
+abbrev pub applies_any : ℕ → List Act → ℕ
 applies_any t does = tally (applies_as t true) does + tally (applies_as t false) does
 
 abbrev pub HoldersAt : ScriptData → List Entry → ℕ → Core → Type 0
 HoldersAt s past p c = (t : TreeNo) → Holds c t → IsHolder s past p t.0
 
 -- What an entry applies.
-still_unapplied : (past : List Entry) (e : Entry) (t p : ℕ) → applies_any t e.acts ≡ 0 → applied_any (e ∷ past) t p ≡ applied_any past t p
+pub still_unapplied : (past : List Entry) (e : Entry) (t p : ℕ) → applies_any t e.acts ≡ 0 → applied_any (e ∷ past) t p ≡ applied_any past t p
 still_unapplied past e t p none = by (e.actor.0 == p) where
   by : (here : Bool)
       → ((if here then tally (applies_as t true) e.acts else 0) + applied_at past t true p)
@@ -65,7 +65,7 @@ still_unapplied past e t p none = by (e.actor.0 == p) where
   by true = omega (arith, none)
   by false = omega arith
 
-elsewhere_unapplied : (past : List Entry) (e : Entry) (t p : ℕ) → e.actor.0 ≢ p → applied_any (e ∷ past) t p ≡ applied_any past t p
+pub elsewhere_unapplied : (past : List Entry) (e : Entry) (t p : ℕ) → e.actor.0 ≢ p → applied_any (e ∷ past) t p ≡ applied_any past t p
 elsewhere_unapplied past e t p ne = let other : (e.actor.0 == p) ≡ false = grind (arith, nat_tests) in rw other (omega arith)
 
 goes_on : (s : ScriptData) (past : List Entry) (e : Entry) (p t : ℕ) → applied_any (e ∷ past) t p ≡ applied_any past t p
@@ -78,7 +78,7 @@ goes_on s past e p t same h = record {
   unapplied = same ∙ h.unapplied;
 }
 
-does_apply : (s : ScriptData) (past : List Entry) (e : Entry) (p : ℕ) (r : Letter) (t : ℕ) (b : Bool) → Does s past e p r
+pub does_apply : (s : ScriptData) (past : List Entry) (e : Entry) (p : ℕ) (r : Letter) (t : ℕ) (b : Bool) → Does s past e p r
     → tally (applies_as t b) e.acts ≡ tells_decision t b r.body
 does_apply s past e p r t b d =
     let c : Core = (keeping_in s past p).core in
@@ -92,7 +92,7 @@ does_apply s past e p r t b d =
       applied_tells t b r.body,
     )
 
-keeps_apply : (s : ScriptData) (past : List Entry) (e : Entry) (p : ℕ) (r : Letter) (k : CoreKeeping) (t : ℕ) (b : Bool) → Keeps s past e p r k
+pub keeps_apply : (s : ScriptData) (past : List Entry) (e : Entry) (p : ℕ) (r : Letter) (k : CoreKeeping) (t : ℕ) (b : Bool) → Keeps s past e p r k
     → tally (applies_as t b) e.acts ≡ 0
 keeps_apply s past e p r k t b d =
     ap (λ (xs : List Act). tally (applies_as t b) xs) d.acts
@@ -116,12 +116,12 @@ asks_none t (SubLetter w i v) u j is = refl
 asks_none t _ u j is = absurd is
 
 -- A subtransaction that is asked for.
-record IsAsked (s : ScriptData) (p t k : ℕ) (body : Body) : Type 0 where
-  sub : SubAt s t k
-  node : p ≡ node_of s t k
-  one : asks t k body ≡ 1
+pub record IsAsked (s : ScriptData) (p t k : ℕ) (body : Body) : Type 0 where
+  pub sub : SubAt s t k
+  pub node : p ≡ node_of s t k
+  pub one : asks t k body ≡ 1
 
-asked_sub : (s : ScriptData) (p from : ℕ) (t : TreeNo) (k : SubNo) (b : Body) → IsValid s → IsMeant s from p b → AsksFor t k b
+pub asked_sub : (s : ScriptData) (p from : ℕ) (t : TreeNo) (k : SubNo) (b : Body) → IsValid s → IsMeant s from p b → AsksFor t k b
     → IsAsked s p t.0 k.0 b
 asked_sub s p from t k (Root u) valid meant is =
     let same : u.0 ≡ t.0 = ap (λ (x : TreeNo). x.0) is.0 in

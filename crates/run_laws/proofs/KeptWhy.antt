@@ -79,7 +79,7 @@ each_without : (P : KeptLetter → Type 0) (t : TreeNo) (k : SubNo) (xs : List K
 each_without P t k [] all = tt
 each_without P t k (x ∷ xs) all = without_by P t k x xs (is_called_for t k x) refl all (each_without P t k xs all.1)
 
-each_meanwhile : (P : KeptLetter → Type 0) (xs : List KeptLetter) (b : Body) → Each P xs → Each P (kept_without xs b)
+pub each_meanwhile : (P : KeptLetter → Type 0) (xs : List KeptLetter) (b : Body) → Each P xs → Each P (kept_without xs b)
 each_meanwhile P xs (Wake t k) all = each_without P t k xs all
 each_meanwhile P xs _ all = all
 
@@ -89,7 +89,7 @@ woken_by : (Q : KeptLetter → Type 0) (x : KeptLetter) (test b : Bool) → test
 woken_by Q x test true is hit miss = rw is (hit is)
 woken_by Q x test false is hit miss = rw is (miss is)
 
-each_woken : (P Q : KeptLetter → Type 0) (test : Why → Bool) (xs : List KeptLetter)
+pub each_woken : (P Q : KeptLetter → Type 0) (test : Why → Bool) (xs : List KeptLetter)
     → ((x : KeptLetter) → test x.why ≡ true → P x → Q (record x { why = Called }))
     → ((x : KeptLetter) → test x.why ≡ false → P x → Q x) → Each P xs → Each Q (with_called test xs)
 each_woken P Q test [] hit miss all = tt
@@ -118,9 +118,9 @@ near s past p valid run lt =
     (versions_in_phase s past laws run apt p lt)
 
 -- an entry that shows nothing to the node
-record Rises (old new : Node) : Type 0 where
-  read : new.turns.read.0 ≡ old.turns.read.0
-  update : old.turns.update.0 ≤ new.turns.update.0
+pub record Rises (old new : Node) : Type 0 where
+  pub read : new.turns.read.0 ≡ old.turns.read.0
+  pub update : old.turns.update.0 ≤ new.turns.update.0
 
 same_rises : (old new : Node) → new ≡ old → Rises old new
 same_rises old new same = subst (λ (st : Node). Rises old st) (sym same) (record { read = refl; update = omega arith })
@@ -158,7 +158,7 @@ order_rises s old body out none (TellsDone v k bd is) =
 order_rises s old body out none (TellsAsked v k bd is) =
     subst (λ (o : Out Node). Rises old o.state) (sym is) (record { read = refl; update = omega arith })
 
-rises : (s : ScriptData) (past : List Entry) (e : Entry) (p : ℕ) → p < s.nodes → e.actor.0 ≡ p → ((v : Version) → e.took.body ≡ Show v → ⊥)
+pub rises : (s : ScriptData) (past : List Entry) (e : Entry) (p : ℕ) → p < s.nodes → e.actor.0 ≡ p → ((v : Version) → e.took.body ≡ Show v → ⊥)
     → Progress s past e → Rises (node_in s past p) (node_in s (e ∷ past) p)
 rises s past e p lt at none (Begins bd here made) = absurd (omega (arith, at, here, lt))
 rises s past e p lt at none (Hears t v answer bd here below made) = absurd (omega (arith, at, here, lt))
@@ -177,14 +177,14 @@ two_on : (s : ScriptData) (past : List Entry) (e : Entry) (p : ℕ) → IsValid 
 two_on s past e p valid run lt up two = omega (arith, up.read, up.update, two, (near s (e ∷ past) p valid run lt).1)
 
 -- a Show brings itself
-show_brought : (kept : List KeptLetter) (l r : Letter) (v : Version) (b : Body) → l.body ≡ b → b ≡ Show v → brought kept l b ≡ Some r
+pub show_brought : (kept : List KeptLetter) (l r : Letter) (v : Version) (b : Body) → l.body ≡ b → b ≡ Show v → brought kept l b ≡ Some r
     → r.body ≡ Show v
 show_brought kept l r v (Wake t k) is bd at = absurd (cc bd)
 show_brought kept l r v _ is bd at =
     let same : l ≡ r = grind arith in ap (λ (x : Letter). x.body) (sym same) ∙ is ∙ bd
 
 -- no tree is both
-not_both : (s : ScriptData) (t : ℕ) (kind : Option TreeKind) → tree_kind_at s t ≡ kind → updates s t ≡ true → is_strict_at s t ≡ true → ⊥
+pub not_both : (s : ScriptData) (t : ℕ) (kind : Option TreeKind) → tree_kind_at s t ≡ kind → updates s t ≡ true → is_strict_at s t ≡ true → ⊥
 not_both s t (Some Update) is up strict = let none : is_strict_at s t ≡ false = rw (is, is_strict_at) refl in cc (none, strict)
 not_both s t (Some Read) is up strict = let none : is_strict_at s t ≡ false = rw (is, is_strict_at) refl in cc (none, strict)
 not_both s t (Some Strict) is up strict = let none : updates s t ≡ false = kind_updates s t Strict is in cc (none, up)
@@ -226,7 +226,7 @@ does_waiting s past e p r valid run d all =
     (each_meanwhile (IsWaiting s past p) (kept_in s past p) e.took.body all))
 
 -- A letter more that is kept.
-keeps_rises : (s : ScriptData) (past : List Entry) (e : Entry) (p : ℕ) (r : Letter) (k : CoreKeeping) → IsValid s → IsStepRun s (e ∷ past)
+pub keeps_rises : (s : ScriptData) (past : List Entry) (e : Entry) (p : ℕ) (r : Letter) (k : CoreKeeping) → IsValid s → IsStepRun s (e ∷ past)
     → Keeps s past e p r k → Rises (node_in s past p) (node_in s (e ∷ past) p)
 keeps_rises s past e p r k valid run d =
     rises s past e p d.brings.below d.brings.at (λ v bd.
@@ -252,7 +252,7 @@ keeps_reason s past e p r k t Called valid run d reason = tt
 two_late : (update read : ℕ) → (update == read + 1) ≡ false → read + 1 ≤ update → update ≤ read + 2 → update ≡ read + 2
 two_late update read late low high = grind (arith, nat_tests)
 
-new_reason : (s : ScriptData) (past : List Entry) (p : ℕ) (t : TreeNo) (k : SubNo) (w : Why) → IsValid s → IsStepRun s past → p < s.nodes
+pub new_reason : (s : ScriptData) (past : List Entry) (p : ℕ) (t : TreeNo) (k : SubNo) (w : Why) → IsValid s → IsStepRun s past → p < s.nodes
     → IsKeptFor s (keeping_in s past p).core t k w → Reason s past p t w
 new_reason s past p t k ForShow valid run lt (strict, zero, late) =
     let at = near s past p valid run lt in
@@ -262,7 +262,7 @@ new_reason s past p t k (ForHolder h) valid run lt (up, m, meets, same) =
     (up, subst (Holds c) same (met_holds s t (ops_of s t.0 k.0) c m meets))
 new_reason s past p t k Called valid run lt is = tt
 
-new_root : (s : ScriptData) (c : Core) (t : TreeNo) (k : SubNo) (w : Why) → IsKeptFor s c t k w → is_strict_at s t.0 ≡ true → k.0 ≡ 0
+pub new_root : (s : ScriptData) (c : Core) (t : TreeNo) (k : SubNo) (w : Why) → IsKeptFor s c t k w → is_strict_at s t.0 ≡ true → k.0 ≡ 0
 new_root s c t k ForShow (it, zero, late) strict = zero
 new_root s c t k (ForHolder h) (up, m, meets, same) strict = absurd (not_both s t.0 (tree_kind_at s t.0) refl up strict)
 new_root s c t k Called is strict = absurd is

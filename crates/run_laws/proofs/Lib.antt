@@ -6,6 +6,11 @@ pub mod EveryWhole
 pub mod EveryBirth
 pub mod Holders
 pub mod KeptWhy
+pub mod KeepingActs
+pub mod ParksOnce
+pub mod WaitsFew
+pub mod WakesFew
+pub mod SentFew
 pub mod Resting
 pub mod Stopping
 pub mod Wholes

@@ -1,5 +1,6 @@
 pub mod Shown
 pub use Rattle.phase_laws.specs.Balance
 pub use Rattle.phase_laws.specs.Quiet
+pub mod Parks
 pub mod Taken
 pub mod Waiting

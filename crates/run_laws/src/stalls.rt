@@ -1,9 +1,8 @@
 // The end of every run: no run stalls, a run to its end has so many entries, and no run has more than so many.
-ghost use Rattle.std.specs.Prelude.{ℕ, ◌≡◌, ◌<◌, ◌≤◌, ◌+◌, ◌*◌, List, [], length, true, reverse};
+ghost use Rattle.std.specs.Prelude.{ℕ, ◌≡◌, ◌<◌, ◌≤◌, List, [], length, true, reverse};
 ghost use Rattle.board_rules.specs.Right.{HasFinished};
 ghost use Rattle.letter_types.specs.declared.entries.Entry.{Entry};
-ghost use Rattle.tree_laws.specs.Entries.{entries_of, rounds_in};
-ghost use Rattle.tx_trees.specs.Counts.{advances_in};
+ghost use Rattle.tree_laws.specs.Entries.{entries_most, entries_of, rounds_in};
 ghost use Rattle.tx_trees.specs.ScriptData.{ScriptData};
 ghost use Rattle.tx_trees.specs.Valid.{IsValid};
 ghost use Rattle.world_model.specs.Kept.{kept_in};
@@ -29,8 +28,8 @@ pub fn entries_are_counted()
         → length past ≡ entries_of s (rounds_in s (reverse past)) }
 {}
 
-/// A run has at most as many entries as two rounds for each advancement and one for each tree would bring it to.
+/// A run has at most so many entries: as many as two rounds for each advancement and one for each tree would bring it to, and
+/// where there is a strict tree those of its decisions, of marks that are let go and of letters that are woken.
 pub fn entries_are_few()
-    ensures { (s : ScriptData) (past : List Entry) → IsValid s → IsRunnable s → IsStepRun s past
-        → length past ≤ entries_of s (2 * advances_in s.rows + length s.trees) }
+    ensures { (s : ScriptData) (past : List Entry) → IsValid s → IsStepRun s past → length past ≤ entries_most s }
 {}

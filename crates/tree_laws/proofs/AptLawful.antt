@@ -198,7 +198,7 @@ heard_were_sent s (e ∷ past) t run =
     )
 
 -- a tree is answered once
-answers_once : (s : ScriptData) (past : List Entry) (t : ℕ) → StageAt s past t → answers past t ≤ 1
+pub answers_once : (s : ScriptData) (past : List Entry) (t : ℕ) → StageAt s past t → answers past t ≤ 1
 answers_once s past t (Unborn u) = omega (arith, u.answers)
 answers_once s past t (Gathers h g) = omega (arith, g.answers)
 answers_once s past t (Holds h g) = omega (arith, g.answers)

@@ -83,7 +83,7 @@ pub decides_no_asking : (t : ℕ) → CountsNoAsking (decides t)
 decides_no_asking t = record { roots = λ u. refl; subs = λ u j v. refl; wakes = λ u j. refl }
 
 -- Notices: one is sent for each Sub that is done.
-tells_of : (t k : ℕ) → OfTreeLetters (on (tells_done t k))
+pub tells_of : (t k : ℕ) → OfTreeLetters (on (tells_done t k))
 tells_of t k o is = by o.body is where
   by : (b : Body) → is_tree_letter b ≡ false → tells_done t k b ≡ 0
   by (Done u j v notice) none = absurd (cc none)
@@ -96,7 +96,7 @@ told t k (SubLetter u j v) = one_if ((u.0 == t) && (j.0 == k))
 told t k Go = 0
 told t k _ = 0
 
-sent_tells : (s : ScriptData) (t k : ℕ) (v : Version) (notice : Notice) (body : Body)
+pub sent_tells : (s : ScriptData) (t k : ℕ) (v : Version) (notice : Notice) (body : Body)
     → tally (on (tells_done t k)) (sent_for s v notice body) ≡ told t k body
 sent_tells s t k v notice (Root u) = subs_none (tells_done t k) u.0 v.0 0 0 (subs_at s u.0) (λ w j x. refl)
 sent_tells s t k v notice (SubLetter u j w) =

@@ -1,7 +1,11 @@
 -- How many entries a run has.
-use Rattle.std.specs.Prelude.{ℕ, ◌+◌, ◌-◌, ◌*◌, List, length}
+use Rattle.std.specs.Prelude.{if◌then◌else◌, ℕ, ◌+◌, ◌-◌, ◌*◌, List, [], ◌∷◌, length}
 use Rattle.letter_types.specs.declared.entries.Entry.{Entry}
 use Rattle.letter_types.specs.Letters.{own}
+use Rattle.tx_trees.specs.Counts.{has_strict, strict_trees, update_subs}
+use Rattle.tx_trees.specs.declared.parts.Tree.{Tree}
+use Rattle.tx_trees.specs.declared.parts.TreeKind.{TreeKind}
+use Rattle.tx_trees.specs.declared.parts.TreeKind.TheVariants.{Read, Strict, Update}
 use Rattle.tx_trees.specs.Adding.{advances_in, all_subs}
 use Rattle.tx_trees.specs.ScriptData.{ScriptData}
 use Rattle.world_model.specs.Coordinator.{start_coordinator}
@@ -20,3 +24,28 @@ abbrev pub entries_of : ScriptData → ℕ → ℕ
 entries_of s rounds =
     1 + 3 * length s.trees + 2 * (all_subs s.trees - length s.trees)
     + advances_in s.rows * (2 + 6 * s.nodes) + 4 * s.nodes * rounds
+
+-- so many for a strict tree
+abbrev pub if_strict : TreeKind → ℕ → ℕ
+if_strict Strict n = n
+if_strict Update n = 0
+if_strict Read n = 0
+
+-- how many subtransactions the strict trees have
+abbrev pub strict_subs : List Tree → ℕ
+strict_subs [] = 0
+strict_subs (t ∷ ts) = if_strict t.kind (length t.subs) + strict_subs ts
+
+-- the further entries of a run with strict trees, at most: marks of an update tree are let go at each node that it visits;
+-- each node that a strict tree visits is told what was decided, and tells that it was applied; a subtransaction of an
+-- update tree is woken once by each strict tree, and the root of a strict tree once in each advancement
+abbrev pub strict_entries : ScriptData → ℕ
+strict_entries s =
+    if has_strict s
+    then update_subs s.trees + 2 * strict_subs s.trees + strict_trees s.trees * update_subs s.trees
+    + strict_trees s.trees * advances_in s.rows
+    else 0
+
+-- the entries of a run, at most: rounds are two for each advancement and one for each tree, at most
+abbrev pub entries_most : ScriptData → ℕ
+entries_most s = entries_of s (2 * advances_in s.rows + length s.trees) + strict_entries s

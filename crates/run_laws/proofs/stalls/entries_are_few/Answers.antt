@@ -2,4 +2,4 @@ use Rattle.run_laws.proofs.Bounds.{entries_few}
 use Rattle.run_laws.proofs.stalls.entries_are_few.Goals as goal
 
 pub returns : goal.returns
-returns c = λ s past valid runnable run. entries_few s past (record { valid = valid; runnable = runnable }) run
+returns c = λ s past valid run. entries_few s past valid run

@@ -1,0 +1,295 @@
+-- In every run the root of a strict tree waits at most once for each version that was shown at its home, and once more while it is
+-- kept: a Show wakes it, and raises the version that is read.
+use Rattle.std.proofs.Common.{◌≡◌, ◌≢◌, ◌⊎◌, inl, inr, ℕ, ◌+◌, ◌<◌, ◌≤◌, ◌==◌, ◌&&◌, Bool, true, false, List, [], ◌∷◌, ◌++◌, length, refl, sym, ap, subst, ◌∙◌, arith}
+use Rattle.std.specs.Prelude.{if◌then◌else◌}
+use Rattle.std.proofs.lemmas.Bool.{cases_eq}
+use Rattle.std.proofs.lemmas.Bool.Decides.{nat_tests}
+use Rattle.tv_base.specs.declared.numbers.SubNo.{SubNo}
+use Rattle.tv_base.specs.declared.numbers.TreeNo.{TreeNo}
+use Rattle.tv_base.specs.declared.numbers.Version.{Version}
+use Rattle.letter_types.specs.Kept.{brought, is_called, kept_without, wakes_by, with_called}
+use Rattle.letter_types.specs.declared.bodies.Body.{Body}
+use Rattle.letter_types.specs.declared.bodies.Body.TheVariants.{Decide, Go, Show}
+use Rattle.letter_types.specs.declared.entries.Entry.{Entry}
+use Rattle.letter_types.specs.declared.entries.Letter.{Letter}
+use Rattle.letter_types.specs.declared.kept.KeptLetter.{KeptLetter}
+use Rattle.letter_types.specs.declared.kept.Why.{Why}
+use Rattle.letter_types.specs.declared.kept.Why.TheVariants.{Called, ForHolder, ForShow}
+use Rattle.letter_types.specs.Steps.{Out}
+use Rattle.tx_trees.specs.ScriptData.{ScriptData, home_of, node_of}
+use Rattle.tx_trees.specs.Valid.{IsValid}
+use Rattle.world_model.specs.Counts.{Each, one_if, tally}
+use Rattle.world_model.specs.declared.phase.Phase.{Phase}
+use Rattle.world_model.specs.declared.phase.Phase.TheVariants.{Idle, Turning, Counting, Paused, Showing, Sweeping}
+use Rattle.world_model.specs.Keeping.{AreKeptAt, KeepingNode}
+use Rattle.world_model.specs.Kept.{kept_in}
+use Rattle.world_model.specs.Named.{is_strict_at}
+use Rattle.world_model.specs.Node.{Node}
+use Rattle.world_model.specs.Runs.{IsStepRun, coordinator_in, in_flight, keeping_in, node_in}
+use Rattle.world_model.specs.Strict.{CoreKeeping}
+use Rattle.world_model.proofs.Bags.{tally-append, tally-drop}
+use Rattle.world_model.proofs.Cases.{Case, Coordinates, Does, Keeps, NodeDoes, NodeKeeps, Submits, case}
+use Rattle.world_model.proofs.EachOutstanding.{each_took}
+use Rattle.world_model.proofs.KeptThere.{kept_in_past}
+use Rattle.world_model.proofs.Nexts.{Order, Shows, Sweeps, TellsAsked, TellsDone, Turns}
+use Rattle.world_model.proofs.Outstanding.{keeping_elsewhere}
+use Rattle.world_model.proofs.Scripts.{SubAt, sub_here}
+use Rattle.strict_laws.specs.Keeping.{IsKeptFor}
+use Rattle.strict_laws.proofs.Reasons.{kept_for_a_reason}
+use Rattle.phase_laws.specs.Phases.{ShowStage, most_read}
+use Rattle.phase_laws.proofs.LevelAt.{LevelAt, LevelBody, tell, tells}
+use Rattle.phase_laws.proofs.Levels.{levels}
+use Rattle.phase_laws.proofs.Brought.{IsAsking}
+use Rattle.phase_laws.proofs.Working.{IsOfTrees}
+use Rattle.phase_laws.proofs.Progress.{Begins, Coordinates as Told, Ends, Hears, Obeys, Progress, Works, brings_to, itself, progress}
+use Rattle.tree_laws.specs.Dids.{asks, letters_asking}
+use Rattle.tree_laws.proofs.AptStagesOwn.{sub_of_node}
+use Rattle.tree_laws.proofs.AptSteps.{home_node}
+use Rattle.tree_laws.proofs.AptTurns.{turns_come_once}
+use Rattle.run_laws.specs.Parks.{StrictRootsWaitFewTimes, is_kept_for_show, shown_as, waits, waits_for}
+use Rattle.run_laws.proofs.EveryApt.{all_apt, lawful}
+use Rattle.run_laws.proofs.KeepingActs.{client_none, coordinator_none, does_none, keeps_waits, waits_of}
+use Rattle.run_laws.proofs.KeptWhy.{AreWaiting, IsWaiting, Reason, keeps_rises, new_root, rises, show_brought, waiting}
+use Rattle.run_laws.proofs.ParksOnce.{asks_sum, keeps_asked, kept_asks, letter_asks, meanwhile_same, woken_same}
+
+-- Letters that are kept for a Show.
+shown_uncalled : (t u : ℕ) (w : Why) → is_called w ≡ true → shown_as t u w ≡ 0
+shown_uncalled t u Called is = refl
+shown_uncalled t u ForShow is = absurd (cc is)
+shown_uncalled t u (ForHolder g) is = absurd (cc is)
+
+-- no other letter than a Show wakes them
+shown_unwoken : (t u : ℕ) (w : Why) (b : Body) → wakes_by b ForShow ≡ false → wakes_by b w ≡ true → shown_as t u w ≡ 0
+shown_unwoken t u ForShow b other is = absurd (cc (other, is))
+shown_unwoken t u Called b other is = refl
+shown_unwoken t u (ForHolder g) b other is = refl
+
+-- and a Show wakes all
+shown_woken : (t : ℕ) (x : KeptLetter) (b : Body) (w : Why) → x.why ≡ w → wakes_by b ForShow ≡ true
+    → is_kept_for_show t (if wakes_by b x.why then record x { why = Called } else x) ≡ 0
+shown_woken t x b ForShow is show = rw (is, show) refl
+shown_woken t x b Called is show = by (wakes_by b x.why) where
+  by : (test : Bool) → is_kept_for_show t (if test then record x { why = Called } else x) ≡ 0
+  by true = refl
+  by false = rw is refl
+shown_woken t x b (ForHolder g) is show = by (wakes_by b x.why) where
+  by : (test : Bool) → is_kept_for_show t (if test then record x { why = Called } else x) ≡ 0
+  by true = refl
+  by false = rw is refl
+
+all_woken : (t : ℕ) (b : Body) (xs : List KeptLetter) → wakes_by b ForShow ≡ true → tally (is_kept_for_show t) (with_called (wakes_by b) xs) ≡ 0
+all_woken t b [] show = refl
+all_woken t b (x ∷ xs) show = omega (arith, shown_woken t x b x.why refl show, all_woken t b xs show)
+
+-- of one tree at most one is kept so
+shown_root : (t u j : ℕ) (w : Why) → (w ≡ ForShow → j ≡ 0) → shown_as t u w ≤ one_if ((u == t) && (j == 0))
+shown_root t u j Called root = omega arith
+shown_root t u j (ForHolder g) root = omega arith
+shown_root t u j ForShow root = let zero : j ≡ 0 = root refl in one u t j zero where
+  one : (u t j : ℕ) → j ≡ 0 → one_if (u == t) ≤ one_if ((u == t) && (j == 0))
+  one u t j zero = grind (arith, nat_tests)
+
+pub waiting_root : (s : ScriptData) (past : List Entry) (p : ℕ) (x : KeptLetter) → IsWaiting s past p x → x.why ≡ ForShow → x.sub.0 ≡ 0
+waiting_root s past p x at is =
+    let why : Reason s past p x.tree ForShow = subst (λ (w : Why). Reason s past p x.tree w) is at.why in at.root why.0
+
+shown_sum : (s : ScriptData) (past : List Entry) (p t : ℕ) (xs : List KeptLetter) → AreWaiting s past p xs
+    → tally (is_kept_for_show t) xs ≤ tally (λ (x : KeptLetter). one_if ((x.tree.0 == t) && (x.sub.0 == 0))) xs
+shown_sum s past p t [] all = omega arith
+shown_sum s past p t (x ∷ xs) all =
+    omega (arith, shown_root t x.tree.0 x.sub.0 x.why (waiting_root s past p x all.0), shown_sum s past p t xs all.1)
+
+pub shown_once : (s : ScriptData) (past : List Entry) (t : ℕ) → IsValid s → IsStepRun s past → t < length s.trees
+    → tally (is_kept_for_show t) (kept_in s past (home_of s t)) ≤ 1
+shown_once s past t valid run lt =
+    let p : ℕ = home_of s t in
+    let below : p < s.nodes = home_node s t valid lt in
+    let sub : SubAt s t 0 = sub_of_node s (home_of s t) t 0 refl below in
+    omega (
+      arith,
+      shown_sum s past p t (kept_in s past p) (waiting s past p valid run below),
+      asks_sum t 0 p (kept_in s past p) (kept_in_past s past p),
+      kept_asks s past p t 0 below,
+      turns_come_once s past t 0 sub.sub valid (all_apt s past valid run) run (sub_here s t 0 sub),
+    )
+
+-- A Show raises the version that is read.
+read_most : (phase : Phase) (u : ℕ) → most_read phase u ≤ u
+read_most Idle u = omega arith
+read_most Turning u = omega arith
+read_most (Counting true) u = omega arith
+read_most (Counting false) u = omega arith
+read_most (Paused true) u = omega arith
+read_most (Paused false) u = omega arith
+read_most Showing u = omega arith
+read_most Sweeping u = omega arith
+
+one_same : (n : ℕ) → one_if (n == n) ≡ 1
+one_same n = grind (arith, nat_tests)
+
+show_told : (s : ScriptData) (past : List Entry) (e : Entry) (p : ℕ) (v : Version) → IsStepRun s (e ∷ past) → e.actor.0 ≡ p
+    → e.took.body ≡ Show v → 1 ≤ tells s past ShowStage p
+show_told s past e p v run at is =
+    let f : Letter → ℕ = λ (l : Letter). tell ShowStage p l.to.0 l.body in
+    let one : f e.took ≡ 1 =
+    ap (λ (b : Body). tell ShowStage p e.took.to.0 b) is ∙ ap (λ (n : ℕ). one_if (n == p)) (run.0.addressee ∙ at) ∙ one_same p in
+    omega (arith, one, tally-drop f e.took.id (in_flight s past) e.took run.0.waits)
+
+show_raises : (s : ScriptData) (past : List Entry) (e : Entry) (p : ℕ) (v : Version) → IsValid s → IsStepRun s (e ∷ past) → e.actor.0 ≡ p
+    → p < s.nodes → e.took.body ≡ Show v → (node_in s past p).turns.read.0 + 1 ≤ v.0
+show_raises s past e p v valid run at lt is =
+    let c = coordinator_in s past in
+    let all = levels s past (lawful s valid) run.1 (all_apt s past valid run.1) in
+    let level : LevelAt s past p = all.node p lt in
+    let version : v.0 ≡ c.update =
+    subst (λ (b : Body). LevelBody s c.phase c.update b) is (each_took (λ (l : Letter). LevelBody s c.phase c.update l.body) s past e run.0 all.letters) in
+    omega (arith, version, level.read_to, read_most c.phase c.update, show_told s past e p v run at is)
+
+order_reads : (s : ScriptData) (old : Node) (body : Body) (out : Out Node) (v : Version) → body ≡ Show v → Order s old body out
+    → out.state.turns.read.0 ≡ v.0
+order_reads s old body out v is (Turns w bd made) = absurd (cc (is, bd))
+order_reads s old body out v is (Sweeps w bd made) = absurd (cc (is, bd))
+order_reads s old body out v is (TellsDone w k bd made) = absurd (cc (is, bd))
+order_reads s old body out v is (TellsAsked w k bd made) = absurd (cc (is, bd))
+order_reads s old body out v is (Shows w bd made) =
+    let same : Show w ≡ Show v = sym bd ∙ is in
+    let its : w ≡ v = cc same in
+    ap (λ (o : Out Node). o.state.turns.read.0) made ∙ ap (λ (x : Version). x.0) its
+
+shows : (s : ScriptData) (past : List Entry) (e : Entry) (p : ℕ) (v : Version) → p < s.nodes → e.actor.0 ≡ p → e.took.body ≡ Show v
+    → Progress s past e → (node_in s (e ∷ past) p).turns.read.0 ≡ v.0
+shows s past e p v lt at is (Begins bd here made) = absurd (omega (arith, at, here, lt))
+shows s past e p v lt at is (Hears t w answer bd here below made) = absurd (omega (arith, at, here, lt))
+shows s past e p v lt at is (Ends w bd here made) = absurd (omega (arith, at, here, lt))
+shows s past e p v lt at is (Told told here made) = absurd (omega (arith, at, here, lt))
+shows s past e p v lt at is (Works q r w) = let of = w.took in absurd (subst IsOfTrees is of)
+shows s past e p v lt at is (Obeys q out more here below order state sent woken) =
+    subst (λ (n : ℕ). (node_in s (e ∷ past) n).turns.read.0 ≡ v.0) (sym here ∙ at)
+    (ap (λ (st : Node). st.turns.read.0) state ∙ order_reads s (node_in s past q) e.took.body out v is order)
+
+-- The number of waits.
+abbrev WaitedHere : ScriptData → List Entry → ℕ → ℕ → Type 0
+WaitedHere s past p t = waits past t ≤ (node_in s past p).turns.read.0 + tally (is_kept_for_show t) (kept_in s past p)
+
+-- the Show that is brought is the letter that is taken
+took_show : (s : ScriptData) (past : List Entry) (e : Entry) (p : ℕ) (r : Letter) (v : Version) → r.body ≡ Show v → Does s past e p r
+    → e.took.body ≡ Show v
+took_show s past e p r v is d =
+    let same : r ≡ e.took = itself s past e p r (brings_to s past e p r d.brings) (λ asks. subst IsAsking is asks) in
+    ap (λ (l : Letter). l.body) (sym same) ∙ is
+
+show_of : (b : Body) → wakes_by b ForShow ≡ true → (v : Version) × (b ≡ Show v)
+show_of (Show v) is = (v, refl)
+show_of (Decide t v commit) is = absurd (cc is)
+show_of Go is = absurd (cc is)
+show_of _ is = absurd (cc is)
+
+does_waited : (s : ScriptData) (past : List Entry) (e : Entry) (t : ℕ) (r : Letter) → IsValid s → IsStepRun s (e ∷ past)
+    → t < length s.trees → Does s past e (home_of s t) r → WaitedHere s past (home_of s t) t → WaitedHere s (e ∷ past) (home_of s t) t
+does_waited s past e t r valid run lt d ih = by (wakes_by r.body ForShow) refl where
+  acts : tally (waits_for t) e.acts ≡ 0
+  acts = does_none (waits_for t) s past e (home_of s t) r (waits_of t) d
+
+  rest : tally (is_kept_for_show t) (kept_without (kept_in s past (home_of s t)) e.took.body) ≡ tally (is_kept_for_show t) (kept_in s past (home_of s t))
+  rest = meanwhile_same (is_kept_for_show t) (kept_in s past (home_of s t)) e.took.body (λ x is. shown_uncalled t x.tree.0 x.why is)
+
+  goes : Progress s past e
+  goes = progress s past e (lawful s valid) (all_apt s (e ∷ past) valid run) run
+
+  by : (test : Bool) → wakes_by r.body ForShow ≡ test → WaitedHere s (e ∷ past) (home_of s t) t
+  by false other =
+      let up = rises s past e (home_of s t) d.brings.below d.brings.at (λ v bd.
+      (let shown : wakes_by r.body ForShow ≡ true =
+      ap (λ (b : Body). wakes_by b ForShow) (show_brought (kept_in s past (home_of s t)) e.took r v e.took.body refl bd d.brings.brings) in
+      cc (shown, other))) goes in
+      let woken = woken_same (is_kept_for_show t) (wakes_by r.body) (kept_without (kept_in s past (home_of s t)) e.took.body)
+      (λ x is. shown_uncalled t x.tree.0 x.why is) (λ x is. shown_unwoken t x.tree.0 x.why r.body other is) in
+      omega (arith, ih, acts, rest, woken, ap (λ (xs : List KeptLetter). tally (is_kept_for_show t) xs) d.kept, up.read)
+  by true show =
+      let (v, is) = show_of r.body show in
+      let took : e.took.body ≡ Show v = took_show s past e (home_of s t) r v is d in
+      omega (
+        arith,
+        ih,
+        acts,
+        shown_once s past t valid run.1 lt,
+        shows s past e (home_of s t) v d.brings.below d.brings.at took goes,
+        show_raises s past e (home_of s t) v valid run d.brings.at d.brings.below took,
+      )
+
+keeps_waited : (s : ScriptData) (past : List Entry) (e : Entry) (p t : ℕ) (r : Letter) (o : CoreKeeping) → IsValid s → IsStepRun s (e ∷ past)
+    → Keeps s past e p r o → WaitedHere s past p t → WaitedHere s (e ∷ past) p t
+keeps_waited s past e p t r o valid run d ih =
+    let others = kept_without (kept_in s past p) e.took.body in
+    let x : KeptLetter = record { letter = r; tree = o.tree; sub = o.sub; why = o.why } in
+    omega (
+      arith,
+      ih,
+      keeps_waits s past e p r o t d,
+      meanwhile_same (is_kept_for_show t) (kept_in s past p) e.took.body (λ y is. shown_uncalled t y.tree.0 y.why is),
+      ap (λ (xs : List KeptLetter). tally (is_kept_for_show t) xs) d.kept,
+      tally-append (is_kept_for_show t) others (x ∷ []),
+      (keeps_rises s past e p r o valid run d).read,
+    )
+
+-- another node lets no root of this tree wait
+shown_some : (t u : ℕ) (w : Why) → (w ≡ ForShow → u ≡ t → ⊥) → shown_as t u w ≡ 0
+shown_some t u Called other = refl
+shown_some t u (ForHolder g) other = refl
+shown_some t u ForShow other = none u t (other refl) where
+  none : (u t : ℕ) → (u ≡ t → ⊥) → one_if (u == t) ≡ 0
+  none u t ne = grind (arith, nat_tests)
+
+kept_root : (s : ScriptData) (past : List Entry) (p : ℕ) (r : Letter) (e : Entry) (o : CoreKeeping) → Keeps s past e p r o → o.why ≡ ForShow
+    → o.sub.0 ≡ 0
+kept_root s past p r e o d is =
+    let kept : IsKeptFor s (keeping_in s past p).core o.tree o.sub ForShow =
+    subst (λ (w : Why). IsKeptFor s (keeping_in s past p).core o.tree o.sub w) is (kept_for_a_reason s (keeping_in s past p).core r.body o d.keeps) in
+    kept.1
+
+waits_elsewhere : (s : ScriptData) (past : List Entry) (e : Entry) (t : ℕ) → IsValid s → IsStepRun s (e ∷ past) → e.actor.0 ≢ home_of s t
+    → Case s past e → tally (waits_for t) e.acts ≡ 0
+waits_elsewhere s past e t valid run ne (NodeDoes q r d) = does_none (waits_for t) s past e q r (waits_of t) d
+waits_elsewhere s past e t valid run ne (NodeKeeps q r o d) =
+    let a = keeps_asked s past e q r o valid run d in
+    keeps_waits s past e q r o t d
+    ∙ shown_some t o.tree.0 o.why (λ why tree.
+    ne (d.brings.at ∙ a.node ∙ ap (λ (u : ℕ). node_of s u o.sub.0) tree ∙ ap (λ (j : ℕ). node_of s t j) (kept_root s past q r e o d why)))
+waits_elsewhere s past e t valid run ne (Coordinates at says) = coordinator_none (waits_for t) s past e says
+waits_elsewhere s past e t valid run ne (Submits at says) = client_none (waits_for t) s past e (waits_of t) says
+
+other_waited : (s : ScriptData) (past : List Entry) (e : Entry) (p t : ℕ) → e.actor.0 ≢ p → tally (waits_for t) e.acts ≡ 0
+    → WaitedHere s past p t → WaitedHere s (e ∷ past) p t
+other_waited s past e p t ne none ih =
+    omega (
+      arith,
+      ih,
+      none,
+      ap (λ (n : KeepingNode). tally (is_kept_for_show t) n.kept) (keeping_elsewhere s past e p ne),
+      ap (λ (n : KeepingNode). n.core.node.turns.read.0) (keeping_elsewhere s past e p ne),
+    )
+
+node_waited : (s : ScriptData) (past : List Entry) (e : Entry) (t : ℕ) → IsValid s → IsStepRun s (e ∷ past) → t < length s.trees
+    → e.actor.0 ≡ home_of s t → WaitedHere s past (home_of s t) t → Case s past e → WaitedHere s (e ∷ past) (home_of s t) t
+node_waited s past e t valid run lt at ih (NodeDoes q r d) =
+    let same : q ≡ home_of s t = sym d.brings.at ∙ at in
+    does_waited s past e t r valid run lt (subst (λ (n : ℕ). Does s past e n r) same d) ih
+node_waited s past e t valid run lt at ih (NodeKeeps q r o d) =
+    let same : q ≡ home_of s t = sym d.brings.at ∙ at in
+    keeps_waited s past e (home_of s t) t r o valid run (subst (λ (n : ℕ). Keeps s past e n r o) same d) ih
+node_waited s past e t valid run lt at ih (Coordinates there says) = absurd (omega (arith, at, there, home_node s t valid lt))
+node_waited s past e t valid run lt at ih (Submits there says) = absurd (omega (arith, at, there, home_node s t valid lt))
+
+waited_by : (s : ScriptData) (past : List Entry) (e : Entry) (t : ℕ) → IsValid s → IsStepRun s (e ∷ past) → t < length s.trees
+    → WaitedHere s past (home_of s t) t → (e.actor.0 ≡ home_of s t) ⊎ (e.actor.0 ≢ home_of s t) → WaitedHere s (e ∷ past) (home_of s t) t
+waited_by s past e t valid run lt ih (inl at) =
+    node_waited s past e t valid run lt at ih (case s past e run.0 (all_apt s (e ∷ past) valid run).0)
+waited_by s past e t valid run lt ih (inr ne) =
+    other_waited s past e (home_of s t) t ne
+    (waits_elsewhere s past e t valid run ne (case s past e run.0 (all_apt s (e ∷ past) valid run).0)) ih
+
+-- in every run
+pub strict_roots_wait_few_times : StrictRootsWaitFewTimes
+strict_roots_wait_few_times s [] t valid run lt = omega arith
+strict_roots_wait_few_times s (e ∷ past) t valid run lt =
+    waited_by s past e t valid run lt (strict_roots_wait_few_times s past t valid run.1 lt) (cases_eq e.actor.0 (home_of s t))
