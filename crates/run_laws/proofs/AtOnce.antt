@@ -6,6 +6,7 @@ use Rattle.std.specs.List.{list_any}
 use Rattle.std.proofs.lemmas.Bool.{and_parts, cases_lt}
 use Rattle.std.proofs.lemmas.List.{length-reverse, take_all}
 use Rattle.std.proofs.lemmas.Bool.Decides.{nat_tests}
+use Rattle.tv_base.specs.declared.numbers.ItemNo.{ItemNo}
 use Rattle.tv_base.specs.declared.numbers.SubNo.{SubNo}
 use Rattle.tv_base.specs.declared.numbers.TreeNo.{TreeNo}
 use Rattle.letter_types.specs.Kept.{brought, first_called, is_called, is_called_for}
@@ -17,8 +18,9 @@ use Rattle.letter_types.specs.declared.entries.Entry.{Entry}
 use Rattle.letter_types.specs.declared.entries.Letter.{Letter}
 use Rattle.letter_types.specs.declared.kept.KeptLetter.{KeptLetter}
 use Rattle.letter_types.specs.declared.votes.Cause.{Cause}
+use Rattle.letter_types.specs.declared.votes.Cause.TheVariants.{Conflict}
 use Rattle.script_parts.specs.Counts.{has_strict}
-use Rattle.tx_trees.specs.ScriptData.{ScriptData, updates}
+use Rattle.tx_trees.specs.ScriptData.{ScriptData, node_of, updates}
 use Rattle.tx_trees.specs.Valid.{IsValid}
 use Rattle.board_rules.specs.Histories.{Place, does, places_at, places_of}
 use Rattle.board_rules.specs.Right.{IsAtOnce, IsDoneAtOnce, IsDoneOrParked, commutes, in_way_of, is_parking, parkings}
@@ -36,14 +38,16 @@ use Rattle.strict_laws.specs.Meant.{IsLetterMeant, IsMeant}
 use Rattle.strict_laws.proofs.AtHome.{all_append}
 use Rattle.strict_laws.proofs.Meant.{letters_are_meant}
 use Rattle.strict_laws.proofs.Parkings.{none_parks}
-use Rattle.strict_laws.proofs.DoneOrParked.{Answers, AskedMeets, keeping_answers, meets_way, row_answers}
+use Rattle.strict_laws.proofs.DoneOrParked.{Answers, AskedMeets, keeping_answers, meets_way, row_answers, way_holds}
 use Rattle.phase_laws.proofs.Brought.{brought_meant, home_below, sub_node_below}
 use Rattle.phase_laws.proofs.Progress.{brings_to}
 use Rattle.tree_laws.proofs.AptRulings.{client_acts}
 use Rattle.tree_laws.proofs.Counts.{one_here}
 use Rattle.tree_laws.proofs.Histories.{before_more, first_of, places_more, run_before}
 use Rattle.run_laws.proofs.EveryApt.{all_apt}
+use Rattle.run_laws.specs.Waiting.{IsHolder}
 use Rattle.run_laws.proofs.EveryDid.{is_vote_of, none_votes}
+use Rattle.run_laws.proofs.Holders.{holders}
 
 -- In a script without strict trees nothing votes.
 no_vote : (a : Act) → ((t k : ℕ) → is_vote_of t k a ≡ 0) → IsNoVote a
@@ -176,6 +180,13 @@ all_at_once s (e ∷ past) valid run =
     before_more (λ (h : List Entry) (x : Entry). IsDoneAtOnce s (places_of h) x.actor.0 x.took.body x.acts) e past
     (all_at_once s past valid run.1)
     (at_once s past e valid run (case s past e run.0 (all_apt s (e ∷ past) valid run).0))
+
+-- What is in the way is a lock of a strict tree whose decision wasn't applied there.
+pub strict_in_way : (s : ScriptData) (past : List Entry) (p t k : ℕ) (x : ItemNo) (u : TreeNo) → IsValid s → IsStepRun s past
+    → p < s.nodes → node_of s t k ≡ p → in_way_of s (places_of (reverse past)) p t k ≡ Some (Conflict x u) → IsHolder s past p u.0
+strict_in_way s past p t k x u valid run lt home is =
+    holders s past p valid (all_apt s past valid run) run lt u
+    (way_holds s past p (record { 0 = t }) (record { 0 = k }) x u valid run lt home (λ plain. no_votes s past plain valid run) is)
 
 -- In a script without strict trees nothing is in the way of any subtransaction, at any time.
 way_by : (s : ScriptData) (xs : List Place) (p t k : ℕ) (b : Bool) → updates s t ≡ b → IsValid s → AreNoVotes xs

@@ -1,10 +1,10 @@
 pub mod EveryApt
 pub mod EveryDid
-pub mod AtOnce
 pub mod EveryDecided
 pub mod EveryWhole
 pub mod EveryBirth
 pub mod Holders
+pub mod AtOnce
 pub mod KeptWhy
 pub mod KeepingActs
 pub mod ParksOnce

@@ -20,7 +20,8 @@ pub use shown::{
 pub use stalls::{entries_are_counted, entries_are_few, no_run_stalls, nothing_is_kept_at_the_end};
 pub use trees::{
     decisions_are_applied_once, decisions_follow_votes, letters_carry_versions, no_step_waits,
-    nothing_is_in_the_way, trees_are_decided_once, trees_go_by_stages, turns_come_once,
+    nothing_is_in_the_way, only_strict_trees_are_in_the_way, trees_are_decided_once,
+    trees_go_by_stages, turns_come_once,
 };
 pub use waiting::{
     letters_park_once, letters_stay_kept_for_a_reason, strict_roots_wait_few_times,

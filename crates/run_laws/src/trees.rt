@@ -4,13 +4,17 @@ ghost use Rattle.board_rules.specs.Histories.{places_of};
 ghost use Rattle.board_rules.specs.Right.{IsAtOnce, in_way_of};
 ghost use Rattle.letter_types.specs.declared.entries.Entry.{Entry};
 ghost use Rattle.letter_types.specs.declared.entries.Letter.{Letter};
+ghost use Rattle.letter_types.specs.declared.votes.Cause.TheVariants.{Conflict};
+ghost use Rattle.run_laws.specs.Waiting.{IsHolder};
 ghost use Rattle.script_parts.specs.Counts.{has_strict};
 ghost use Rattle.tree_laws.specs.Applied.{applied_at, decided_as, decisions_to, noes};
 ghost use Rattle.tree_laws.specs.Carried.{CarriesVersion};
 ghost use Rattle.tree_laws.specs.Dids.{letters_asking};
 ghost use Rattle.tree_laws.specs.Stages.{StageAt};
 ghost use Rattle.tree_laws.specs.Turns.{turns};
-ghost use Rattle.tx_trees.specs.ScriptData.{ScriptData, sub_at, subs_at, visits};
+ghost use Rattle.tv_base.specs.declared.numbers.ItemNo.{ItemNo};
+ghost use Rattle.tv_base.specs.declared.numbers.TreeNo.{TreeNo};
+ghost use Rattle.tx_trees.specs.ScriptData.{ScriptData, node_of, sub_at, subs_at, visits};
 ghost use Rattle.tx_trees.specs.Valid.{IsValid};
 ghost use Rattle.tx_trees.specs.declared.parts.Sub.{Sub};
 ghost use Rattle.world_model.specs.Counts.{Each};
@@ -72,4 +76,12 @@ pub fn no_step_waits()
 pub fn nothing_is_in_the_way()
     ensures { (s : ScriptData) (past : List Entry) (n p t k : ℕ) → IsValid s → has_strict s ≡ false → IsStepRun s past
         → in_way_of s (places_of (take n (reverse past))) p t k ≡ None }
+{}
+
+/// In every run what is in the way of a subtransaction is the lock of a strict tree, which is born, has had a turn there,
+/// and whose decision wasn't applied there.
+pub fn only_strict_trees_are_in_the_way()
+    ensures { (s : ScriptData) (past : List Entry) (p t k : ℕ) (x : ItemNo) (u : TreeNo) → IsValid s → IsStepRun s past
+        → p < s.nodes → node_of s t k ≡ p
+        → in_way_of s (places_of (reverse past)) p t k ≡ Some (Conflict x u) → IsHolder s past p u.0 }
 {}

@@ -3,6 +3,7 @@
 use Rattle.std.proofs.Common.{◌≡◌, ℕ, ◌<◌, ◌||◌, Bool, true, false, not, List, [], ◌∷◌, reverse, refl, sym, ap, subst, ◌∙◌, Option, Some, None}
 use Rattle.std.specs.Prelude.{if◌then◌else◌, is_some, map, nat_lt}
 use Rattle.std.specs.List.{list_any}
+use Rattle.tv_base.specs.declared.numbers.ItemNo.{ItemNo}
 use Rattle.tv_base.specs.declared.numbers.SubNo.{SubNo}
 use Rattle.tv_base.specs.declared.numbers.TreeNo.{TreeNo}
 use Rattle.tv_base.specs.declared.numbers.Version.{Version}
@@ -12,6 +13,7 @@ use Rattle.letter_types.specs.declared.bodies.Body.{Body}
 use Rattle.letter_types.specs.declared.bodies.Body.TheVariants.{Root, Sub as SubLetter}
 use Rattle.letter_types.specs.declared.entries.Entry.{Entry}
 use Rattle.letter_types.specs.declared.votes.Cause.{Cause}
+use Rattle.letter_types.specs.declared.votes.Cause.TheVariants.{Conflict}
 use Rattle.nc_locks.specs.declared.modes.Met.{Met}
 use Rattle.nc_locks.specs.declared.modes.Mode.{Mode}
 use Rattle.nc_locks.specs.Locks.{Wanted, marks_on, met_in}
@@ -32,6 +34,8 @@ use Rattle.world_model.specs.Reads.{gets}
 use Rattle.world_model.specs.Runs.{IsStepRun, keeping_in}
 use Rattle.world_model.specs.Strict.{CoreKeeping, core_by_kind, core_keeping, core_row, is_born_now, kept_by_kind, meets, parked, parked_if, root_waiting}
 use Rattle.world_model.specs.Votes.{conflict_by}
+use Rattle.strict_laws.specs.Keeping.{Holds}
+use Rattle.strict_laws.proofs.Holding.{met_holds}
 use Rattle.strict_laws.proofs.RunConflicts.{runs_meet_conflicts}
 use Rattle.strict_laws.proofs.Parkings.{done_here, kind_reads_by, kind_updates_by, row_parks, turned_does, turned_parkings}
 
@@ -54,6 +58,27 @@ meets_way s past p t k valid run lt home up quiet = by (has_strict s) refl where
       (marking_needed (ops_of s t.0 k.0) (updates_mark s t.0 k.0 valid up))
       ∙ runs_meet_conflicts s past p t k is valid run lt home
   by false is = sym (none_in_way s (places_of (reverse past)) p t.0 k.0 valid up (quiet is))
+
+-- The tree that is in the way holds an item against marks.
+way_met : (s : ScriptData) (t : TreeNo) (ops : List SubOp) (c : Core) (r : Option Met) (x : ItemNo) (u : TreeNo) → meets s t ops c ≡ r
+    → conflict_by r ≡ Some (Conflict x u) → Holds c u
+way_met s t ops c None x u met is = absurd (cc is)
+way_met s t ops c (Some m) x u met is = let same : m.holder ≡ u = cc is in subst (Holds c) same (met_holds s t ops c m met)
+
+way_by : (s : ScriptData) (past : List Entry) (p : ℕ) (t : TreeNo) (k : SubNo) (x : ItemNo) (u : TreeNo) (b : Bool) → updates s t.0 ≡ b
+    → IsValid s → IsStepRun s past → p < s.nodes → node_of s t.0 k.0 ≡ p
+    → (has_strict s ≡ false → AreNoVotes (places_of (reverse past)))
+    → (if b then conflict_of s (places_of (reverse past)) p t.0 (ops_of s t.0 k.0) else None) ≡ Some (Conflict x u)
+    → Holds (keeping_in s past p).core u
+way_by s past p t k x u true up valid run lt home quiet is =
+    let c : Core = (keeping_in s past p).core in
+    way_met s t (ops_of s t.0 k.0) c (meets s t (ops_of s t.0 k.0) c) x u refl (meets_way s past p t k valid run lt home up quiet ∙ is)
+way_by s past p t k x u false up valid run lt home quiet is = absurd (cc is)
+
+pub way_holds : (s : ScriptData) (past : List Entry) (p : ℕ) (t : TreeNo) (k : SubNo) (x : ItemNo) (u : TreeNo) → IsValid s
+    → IsStepRun s past → p < s.nodes → node_of s t.0 k.0 ≡ p → (has_strict s ≡ false → AreNoVotes (places_of (reverse past)))
+    → in_way_of s (places_of (reverse past)) p t.0 k.0 ≡ Some (Conflict x u) → Holds (keeping_in s past p).core u
+way_holds s past p t k x u valid run lt home quiet is = way_by s past p t k x u (updates s t.0) refl valid run lt home quiet is
 
 abbrev pub MeetsWay : ScriptData → List Place → ℕ → Core → TreeNo → SubNo → Type 0
 MeetsWay s xs p c t k =
