@@ -1,5 +1,5 @@
 -- How many entries a run has at most, in every script.
-use Rattle.std.proofs.Common.{◌≡◌, ◌⊎◌, inl, inr, ℕ, zero, suc, ◌+◌, ◌*◌, ◌<◌, ◌≤◌, ◌==◌, ◌&&◌, not, Bool, true, false, List, [], ◌∷◌, ◌++◌, length, refl, sym, ap, subst, ◌∙◌, arith, Option, Some, None}
+use Rattle.std.proofs.Common.{◌≡◌, ℕ, zero, suc, ◌+◌, ◌*◌, ◌<◌, ◌≤◌, ◌==◌, ◌&&◌, not, Bool, true, false, List, [], ◌∷◌, length, refl, sym, ap, subst, ◌∙◌, arith, Option, Some, None}
 use Rattle.std.specs.Prelude.{if◌then◌else◌, slice_get}
 use Rattle.std.proofs.lemmas.Bool.Decides.{nat_tests}
 use Rattle.tv_base.specs.declared.numbers.TreeNo.{TreeNo}
@@ -15,8 +15,9 @@ use Rattle.script_parts.specs.declared.parts.Tree.{Tree}
 use Rattle.script_parts.specs.declared.parts.TreeKind.{TreeKind}
 use Rattle.script_parts.specs.declared.parts.TreeKind.TheVariants.{Read, Strict, Update}
 use Rattle.tx_trees.specs.Counts.{advances_in, all_subs}
-use Rattle.tx_trees.specs.ScriptData.{ScriptData, node_of, subs_at}
+use Rattle.tx_trees.specs.ScriptData.{ScriptData, subs_at}
 use Rattle.tx_trees.specs.Valid.{IsValid}
+use Rattle.script_parts.proofs.SubsOf.{few_nodes}
 use Rattle.world_model.specs.Children.{sub_letters}
 use Rattle.world_model.specs.Core.{Core}
 use Rattle.world_model.specs.Counts.{one_if, tally}
@@ -24,16 +25,16 @@ use Rattle.world_model.specs.declared.phase.Phase.{Phase}
 use Rattle.world_model.specs.declared.phase.Phase.TheVariants.{Idle, Turning, Counting, Paused, Showing, Sweeping}
 use Rattle.world_model.specs.Kept.{kept_in}
 use Rattle.world_model.specs.Named.{is_strict_at}
-use Rattle.world_model.specs.Runs.{client_in, coordinator_in, in_flight, keeping_in, IsStepRun}
+use Rattle.world_model.specs.Runs.{client_in, coordinator_in, keeping_in, IsStepRun}
 use Rattle.world_model.specs.Strict.{core_row}
 use Rattle.world_model.proofs.Bags.{tally-append}
-use Rattle.world_model.proofs.Cases.{Case, Coordinates, Does, Keeps, NodeDoes, NodeKeeps, Submits, case}
+use Rattle.world_model.proofs.Cases.{Case, Coordinates, NodeDoes, NodeKeeps, Submits, case}
 use Rattle.world_model.proofs.EachOutstanding.{each_took}
 use Rattle.world_model.proofs.Every.{each_none, each_zero}
 use Rattle.world_model.proofs.Flows.{outstanding_flow}
 use Rattle.world_model.proofs.Lawful.{is_nudge, nudged}
 use Rattle.world_model.proofs.Outstanding.{outstanding_first}
-use Rattle.world_model.proofs.Scripts.{SubAt, get_some, sub_here, sub_there}
+use Rattle.world_model.proofs.Scripts.{SubAt, sub_here, sub_there}
 use Rattle.world_model.proofs.Sends.{on, roots_none, subs_none}
 use Rattle.strict_laws.specs.Meant.{IsLetterMeant, IsMeant}
 use Rattle.strict_laws.proofs.Meant.{letters_are_meant}
@@ -46,14 +47,12 @@ use Rattle.tree_laws.specs.Dids.{asks, is_go, letters_asking, replies_to, tells_
 use Rattle.tree_laws.specs.Entries.{entries_most, entries_of, if_strict, strict_entries, strict_subs}
 use Rattle.tree_laws.specs.Turns.{turns}
 use Rattle.tree_laws.proofs.AptLawful.{nudges_few}
-use Rattle.tree_laws.proofs.AptMakes.{node_visited}
 use Rattle.tree_laws.proofs.AptStagesApart.{CountsNoOthers, client_none, coordinator_none}
 use Rattle.tree_laws.proofs.AptStagesSteps.{sent_tells, tells_of, told, turned_by}
 use Rattle.tree_laws.proofs.AptSteps.{Enters, enters, strays, wakes_none}
 use Rattle.tree_laws.proofs.AptTurns.{turns_at_most_once, turns_come_once}
-use Rattle.tree_laws.proofs.Doing.{no_birth}
 use Rattle.tree_laws.proofs.Entries.{all_subs_here, is_reply, is_work, some_subs, taken_in, taken_over, taken_replies, work_hit, work_none}
-use Rattle.tree_laws.proofs.Sums.{over, over_hit, over_none, over_same}
+use Rattle.tree_laws.proofs.Sums.{over, over_hit, over_none}
 use Rattle.run_laws.proofs.Costs.{is_apart, paid, stages}
 use Rattle.run_laws.proofs.EveryApt.{all_apt, lawful}
 use Rattle.run_laws.proofs.SentFew.{ack_of, acks_few, answered_once, decide_of, decides_few, no_others, release_of, releases_few, taken_sent}
@@ -317,7 +316,7 @@ works_most s past valid run =
       arith,
       taken_over (asks t) (subs_at s t) past,
       over_few 0 (λ k. taken_in (asks t k) past) (subs_at s t) (λ k from kt.
-      works_few s past t k valid run (omega (arith, lt)) (omega (arith, kt))),
+          works_few s past t k valid run (omega (arith, lt)) (omega (arith, kt))),
     )) in
     omega (arith, works, each, all_subs_here s)
 
@@ -560,7 +559,7 @@ wakes_of s past t tree Strict valid run at is =
     omega (
       arith,
       over_one (advances_in s.rows) (λ k. sent_in (wake_of t k) past) (subs_at s t) (root_wakes s past t valid run strict) (λ k some kt.
-      strict_wakes s past t k valid run (sub_node_below s t k valid kt) strict some),
+          strict_wakes s past t k valid run (sub_node_below s t k valid kt) strict some),
     )
 wakes_of s past t tree Read valid run at is =
     let none : is_strict_at s t ≡ false = kind_strict s t tree at ∙ ap is_strict is in
@@ -568,7 +567,7 @@ wakes_of s past t tree Read valid run at is =
     omega (
       arith,
       over_zero 0 (λ k. sent_in (wake_of t k) past) (subs_at s t) (λ k le kt.
-      read_wakes s past t k valid run (sub_node_below s t k valid (omega (arith, kt))) none other),
+          read_wakes s past t k valid run (sub_node_below s t k valid (omega (arith, kt))) none other),
     )
 
 kinds_sum : (n a : ℕ) (ts : List Tree) → tally (λ (t : Tree). n * if_update t.kind (length t.subs) + a * one_strict t.kind) ts
@@ -651,3 +650,45 @@ entries_few s past valid run =
       strict_few s past valid run,
       some_subs s.nodes s.items s.trees valid.trees,
     )
+
+-- In a script without strict trees that is what two rounds for each advancement and one for each tree make.
+pub plain_most : (s : ScriptData) → has_strict s ≡ false → entries_most s ≡ entries_of s (2 * advances_in s.rows + length s.trees)
+plain_most s none = rw none (omega arith)
+
+-- By the limits of scripts that is a small number.
+kinds_split : (ts : List Tree) → update_subs ts + strict_subs ts ≤ all_subs ts
+kinds_split [] = omega arith
+kinds_split (t ∷ ts) = omega (arith, by t.kind, kinds_split ts) where
+  by : (kind : TreeKind) → if_update kind (length t.subs) + if_strict kind (length t.subs) ≤ length t.subs
+  by Update = omega arith
+  by Strict = omega arith
+  by Read = omega arith
+
+strict_small : (s : ScriptData) → IsValid s → strict_entries s ≤ 1300000
+strict_small s valid = by (has_strict s) where
+  by : (b : Bool) → (if b
+      then update_subs s.trees + 2 * strict_subs s.trees + strict_trees s.trees * update_subs s.trees
+      + strict_trees s.trees * advances_in s.rows
+      else 0)
+      ≤ 1300000
+  by true =
+      let roots = mul_le (strict_trees s.trees) (advances_in s.rows) 100 valid.limited.advances in
+      omega (arith, kinds_split s.trees, valid.limited.subs, valid.limited.pairs, valid.limited.strict, roots)
+  by false = omega arith
+
+most_small : (s : ScriptData) → IsValid s → entries_most s ≤ 3000000
+most_small s valid =
+    let each = mul_le s.nodes (advances_in s.rows) 100 valid.limited.advances in
+    omega (
+      arith,
+      each,
+      few_nodes s valid,
+      valid.few_trees,
+      valid.limited.subs,
+      valid.limited.advances,
+      valid.limited.places,
+      strict_small s valid,
+    )
+
+pub entries_small : (s : ScriptData) (past : List Entry) → IsValid s → IsStepRun s past → length past ≤ 3000000
+entries_small s past valid run = omega (arith, entries_few s past valid run, most_small s valid)

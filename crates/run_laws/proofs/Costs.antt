@@ -1,10 +1,10 @@
 -- What the letters of advancements cost.
-use Rattle.std.proofs.Common.{if◌then◌else◌, ◌≡◌, ◌≢◌, ℕ, zero, suc, ◌+◌, ◌*◌, ◌<◌, ◌≤◌, ◌&&◌, not, Bool, true, false, List, [], ◌∷◌, ◌++◌, length, replicate, set, take, drop, refl, sym, ap, subst, ◌∙◌, arith, Some, None}
+use Rattle.std.proofs.Common.{if◌then◌else◌, ◌≡◌, ◌≢◌, ℕ, zero, suc, ◌+◌, ◌*◌, ◌<◌, ◌≤◌, ◌&&◌, not, Bool, true, false, List, [], ◌∷◌, ◌++◌, replicate, set, take, drop, refl, sym, ap, subst, ◌∙◌, arith, Some, None}
 use Rattle.std.proofs.Math.Seq.{take-add}
 use Rattle.tx_trees.proofs.Rebuilding.{advances_in-append}
 use Rattle.phase_out.specs.Rounds.{NodeRows, all_in}
 use Rattle.letter_types.specs.declared.bodies.Body.{Body}
-use Rattle.letter_types.specs.declared.bodies.Body.TheVariants.{Go, Nudge, Advance, Advanced, Turn, Show, Sweep, Turned, Shown, Swept, AskDone, AskAsked, DoneRow, AskedRow, Root, Sub as SubLetter, Wake}
+use Rattle.letter_types.specs.declared.bodies.Body.TheVariants.{Go, Nudge, Advance, Advanced, Turn, Show, Sweep, Turned, Shown, Swept, AskDone, AskAsked, DoneRow, AskedRow, Wake}
 use Rattle.letter_types.specs.declared.entries.Entry.{Entry}
 use Rattle.letter_types.specs.declared.entries.Outgoing.{Outgoing}
 use Rattle.letter_types.specs.Steps.{Out}

@@ -1,6 +1,6 @@
 -- Which acts park a letter or let a root wait: one of each letter that is kept, and none of a row.
-use Rattle.std.proofs.Common.{◌≡◌, ℕ, ◌+◌, ◌<◌, ◌==◌, ◌&&◌, Bool, true, false, List, [], ◌∷◌, ◌++◌, refl, ap, ◌∙◌, arith, Option, Some, None}
-use Rattle.std.specs.Prelude.{if◌then◌else◌, nat_lt}
+use Rattle.std.proofs.Common.{◌≡◌, ℕ, ◌==◌, ◌&&◌, Bool, true, false, List, [], ◌∷◌, ◌++◌, refl, ap, ◌∙◌, arith, Option, Some, None}
+use Rattle.std.specs.Prelude.{nat_lt}
 use Rattle.tv_base.specs.declared.numbers.SubNo.{SubNo}
 use Rattle.tv_base.specs.declared.numbers.TreeNo.{TreeNo}
 use Rattle.tv_base.specs.declared.numbers.Version.{Version}
@@ -17,7 +17,7 @@ use Rattle.letter_types.specs.declared.kept.Why.TheVariants.{Called, ForHolder, 
 use Rattle.script_parts.specs.declared.parts.TreeKind.{TreeKind}
 use Rattle.script_parts.specs.declared.parts.TreeKind.TheVariants.{Update, Read, Strict}
 use Rattle.tree_home.specs.declared.homes.Answered.{Answered}
-use Rattle.tx_trees.specs.ScriptData.{ScriptData, client_of}
+use Rattle.tx_trees.specs.ScriptData.{ScriptData}
 use Rattle.world_model.specs.Asked.{asked_ops, asked_version, tree_part}
 use Rattle.world_model.specs.Core.{Core}
 use Rattle.world_model.specs.Counts.{Each, one_if, tally}
@@ -27,7 +27,7 @@ use Rattle.world_model.specs.Node.{Effect, Node}
 use Rattle.world_model.specs.Notices.{act_of, values_of}
 use Rattle.world_model.specs.Reads.{getting}
 use Rattle.world_model.specs.Runs.{Says, client_in, coordinator_in, keeping_in}
-use Rattle.world_model.specs.Strict.{CoreKeeping, core_by_kind, core_keeping, core_row, decided, locks_by, none_refuses, note_core, noted_vote, refused_there, voting}
+use Rattle.world_model.specs.Strict.{CoreKeeping, core_by_kind, core_row, decided, locks_by, none_refuses, note_core, noted_vote, refused_there, voting}
 use Rattle.world_model.specs.Tables.{client_table, coordinator_table}
 use Rattle.world_model.specs.Updates.{touching}
 use Rattle.world_model.specs.Votes.{vote_of}

@@ -1,6 +1,6 @@
 -- In every run no subtransaction is parked twice for one tree. While what was decided of that tree isn't applied at its node, it
 -- was parked as often as its letter is kept for that tree; then the letter is woken, and the tree has no lock there any more.
-use Rattle.std.proofs.Common.{◌≡◌, ◌≢◌, ◌⊎◌, inl, inr, ℕ, zero, suc, ◌+◌, ◌<◌, ◌≤◌, ◌==◌, ◌&&◌, Bool, true, false, not, List, [], ◌∷◌, ◌++◌, map, refl, sym, ap, subst, ◌∙◌, arith}
+use Rattle.std.proofs.Common.{◌≡◌, ◌≢◌, ◌⊎◌, inl, inr, ℕ, zero, suc, ◌+◌, ◌<◌, ◌≤◌, ◌==◌, ◌&&◌, Bool, true, false, not, List, [], ◌∷◌, map, refl, sym, ap, subst, ◌∙◌, arith}
 use Rattle.std.specs.Prelude.{if◌then◌else◌, nat_lt}
 use Rattle.std.proofs.lemmas.Bool.{cases_eq}
 use Rattle.std.proofs.lemmas.Bool.Decides.{nat_tests}
@@ -8,7 +8,6 @@ use Rattle.tv_base.specs.declared.numbers.SubNo.{SubNo}
 use Rattle.tv_base.specs.declared.numbers.TreeNo.{TreeNo}
 use Rattle.tv_base.proofs.Truths.{left_true}
 use Rattle.letter_types.specs.Kept.{is_called, is_called_for, kept_without, wakes_by, with_called, without_called}
-use Rattle.letter_types.specs.declared.acts.Act.{Act}
 use Rattle.letter_types.specs.declared.bodies.Body.{Body}
 use Rattle.letter_types.specs.declared.bodies.Body.TheVariants.{Go, Root, Sub as SubLetter, Decide, Show, Wake}
 use Rattle.letter_types.specs.declared.entries.Entry.{Entry}
@@ -18,18 +17,17 @@ use Rattle.letter_types.specs.declared.kept.Why.{Why}
 use Rattle.letter_types.specs.declared.kept.Why.TheVariants.{Called, ForHolder, ForShow}
 use Rattle.tx_trees.specs.ScriptData.{ScriptData, node_of}
 use Rattle.tx_trees.specs.Valid.{IsValid}
-use Rattle.world_model.specs.Counts.{Each, one_if, tally}
-use Rattle.world_model.specs.Keeping.{AreKeptAt, AsksFor, IsKeptAt, KeepingNode}
-use Rattle.world_model.specs.Kept.{kept_by, kept_in, outstanding}
+use Rattle.world_model.specs.Counts.{one_if, tally}
+use Rattle.world_model.specs.Keeping.{AreKeptAt, AsksFor, KeepingNode}
+use Rattle.world_model.specs.Kept.{kept_by, kept_in}
 use Rattle.world_model.specs.Runs.{IsStepRun, in_flight, keeping_in}
 use Rattle.world_model.specs.Strict.{CoreKeeping}
 use Rattle.world_model.proofs.Bags.{tally-append}
 use Rattle.world_model.proofs.Cases.{Case, Coordinates, Does, Keeps, NodeDoes, NodeKeeps, Submits, case}
 use Rattle.world_model.proofs.KeptThere.{IsCoreKeeping, OfKeeping as OfCoreKeeping, core_keeps, kept_in_past, still_kept}
 use Rattle.world_model.proofs.Outstanding.{keeping_elsewhere}
-use Rattle.world_model.proofs.Scripts.{SubAt, sub_here}
+use Rattle.world_model.proofs.Scripts.{sub_here}
 use Rattle.strict_laws.specs.Keeping.{IsKeptFor}
-use Rattle.strict_laws.proofs.Holding.{met_holds}
 use Rattle.strict_laws.proofs.Reasons.{kept_for_a_reason}
 use Rattle.phase_laws.proofs.Brought.{brought_meant}
 use Rattle.phase_laws.proofs.Progress.{brings_to}

@@ -1,23 +1,21 @@
 -- How many letters a tree's home sends to the nodes that the tree visits: of a strict tree each is told once what was decided, and
 -- tells once that it applied it; of an update tree each is told once that marks are let go. And a tree visits no more nodes than it
 -- has subtransactions.
-use Rattle.std.proofs.Common.{◌≡◌, ◌≢◌, ◌⊎◌, inl, inr, ℕ, zero, suc, ◌+◌, ◌<◌, ◌≤◌, ◌==◌, ◌&&◌, ◌||◌, not, Bool, true, false, List, [], ◌∷◌, ◌++◌, length, refl, sym, ap, subst, ◌∙◌, arith, Option, Some, None, length-append}
+use Rattle.std.proofs.Common.{◌≡◌, ◌⊎◌, inl, inr, ℕ, zero, suc, ◌+◌, ◌<◌, ◌≤◌, ◌==◌, ◌&&◌, ◌||◌, not, Bool, true, false, List, [], ◌∷◌, ◌++◌, length, refl, sym, ap, subst, ◌∙◌, arith, Option, Some, None, length-append}
 use Rattle.std.specs.Prelude.{if◌then◌else◌, nat_lt}
 use Rattle.std.proofs.lemmas.Bool.Decides.{nat_tests}
 use Rattle.tv_base.specs.declared.numbers.SubNo.{SubNo}
 use Rattle.tv_base.specs.declared.numbers.TreeNo.{TreeNo}
 use Rattle.tv_base.specs.declared.numbers.Version.{Version}
 use Rattle.letter_types.specs.Kept.{kept_without, wakes, wakes_by}
-use Rattle.letter_types.specs.declared.acts.Act.{Act}
-use Rattle.letter_types.specs.declared.bodies.Answer.{Answer}
 use Rattle.letter_types.specs.declared.bodies.Body.{Body}
-use Rattle.letter_types.specs.declared.bodies.Body.TheVariants.{Go, Root, Sub as SubLetter, Done, Reply, Nudge, Advance, Advanced, Decide, Decided, Release, Wake, Turn, Show, Sweep, AskDone, AskAsked}
+use Rattle.letter_types.specs.declared.bodies.Body.TheVariants.{Go, Root, Sub as SubLetter, Done, Nudge, Advance, Advanced, Decide, Decided, Release, Turn, Show, Sweep, AskDone, AskAsked}
 use Rattle.letter_types.specs.declared.bodies.Notice.{Notice}
 use Rattle.letter_types.specs.declared.entries.Entry.{Entry}
 use Rattle.letter_types.specs.declared.entries.Letter.{Letter}
 use Rattle.letter_types.specs.declared.entries.Outgoing.{Outgoing}
 use Rattle.letter_types.specs.Steps.{Out}
-use Rattle.script_parts.specs.ScriptData.{updates, visited, visits}
+use Rattle.script_parts.specs.ScriptData.{visited, visits}
 use Rattle.script_parts.specs.declared.parts.Sub.{Sub}
 use Rattle.script_parts.specs.declared.parts.TreeKind.{TreeKind}
 use Rattle.script_parts.specs.declared.parts.TreeKind.TheVariants.{Update, Read, Strict}
@@ -27,7 +25,7 @@ use Rattle.tx_trees.specs.Valid.{IsValid}
 use Rattle.world_model.specs.Asked.{asked_ops, asked_version, tree_part}
 use Rattle.world_model.specs.Children.{done_letter, sub_letters}
 use Rattle.world_model.specs.Core.{Core, Refusals}
-use Rattle.world_model.specs.Counts.{Each, one_if, tally}
+use Rattle.world_model.specs.Counts.{one_if, tally}
 use Rattle.world_model.specs.Done.{TreeOut, note_part}
 use Rattle.world_model.specs.Kept.{kept_in}
 use Rattle.world_model.specs.Named.{is_strict_at, tree_kind_at}
@@ -39,14 +37,13 @@ use Rattle.world_model.specs.Strict.{answered, core_by_kind, core_row, decided, 
 use Rattle.world_model.specs.Updates.{touching}
 use Rattle.world_model.specs.Votes.{vote_of}
 use Rattle.world_model.proofs.Bags.{tally-append}
-use Rattle.world_model.proofs.Cases.{Case, Coordinates, Does, Keeps, NodeDoes, NodeKeeps, Submits, case}
+use Rattle.world_model.proofs.Cases.{Case, Coordinates, Does, NodeDoes, NodeKeeps, Submits, case}
 use Rattle.world_model.proofs.Every.{each_none, each_zero}
 use Rattle.world_model.proofs.Flows.{flow}
 use Rattle.world_model.proofs.Sends.{on, subs_none}
 use Rattle.strict_laws.proofs.RowSends.{OfChildren, OfRow, OfTree, core_each}
 use Rattle.phase_laws.proofs.Brought.{IsAsking}
 use Rattle.phase_laws.proofs.Progress.{brings_to, itself}
-use Rattle.tree_laws.specs.Applied.{has_decided}
 use Rattle.tree_laws.specs.Dids.{answers, replies_to}
 use Rattle.tree_laws.proofs.AptDecided.{decided_any, decided_once, decides_any, ruled_here}
 use Rattle.tree_laws.proofs.AptLawful.{answers_once}

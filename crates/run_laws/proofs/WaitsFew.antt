@@ -1,13 +1,11 @@
 -- In every run the root of a strict tree waits at most once for each version that was shown at its home, and once more while it is
 -- kept: a Show wakes it, and raises the version that is read.
-use Rattle.std.proofs.Common.{◌≡◌, ◌≢◌, ◌⊎◌, inl, inr, ℕ, ◌+◌, ◌<◌, ◌≤◌, ◌==◌, ◌&&◌, Bool, true, false, List, [], ◌∷◌, ◌++◌, length, refl, sym, ap, subst, ◌∙◌, arith}
+use Rattle.std.proofs.Common.{◌≡◌, ◌≢◌, ◌⊎◌, inl, inr, ℕ, ◌+◌, ◌<◌, ◌≤◌, ◌==◌, ◌&&◌, Bool, true, false, List, [], ◌∷◌, length, refl, sym, ap, subst, ◌∙◌, arith}
 use Rattle.std.specs.Prelude.{if◌then◌else◌}
 use Rattle.std.proofs.lemmas.Bool.{cases_eq}
 use Rattle.std.proofs.lemmas.Bool.Decides.{nat_tests}
-use Rattle.tv_base.specs.declared.numbers.SubNo.{SubNo}
-use Rattle.tv_base.specs.declared.numbers.TreeNo.{TreeNo}
 use Rattle.tv_base.specs.declared.numbers.Version.{Version}
-use Rattle.letter_types.specs.Kept.{brought, is_called, kept_without, wakes_by, with_called}
+use Rattle.letter_types.specs.Kept.{is_called, kept_without, wakes_by, with_called}
 use Rattle.letter_types.specs.declared.bodies.Body.{Body}
 use Rattle.letter_types.specs.declared.bodies.Body.TheVariants.{Decide, Go, Show}
 use Rattle.letter_types.specs.declared.entries.Entry.{Entry}
@@ -18,12 +16,11 @@ use Rattle.letter_types.specs.declared.kept.Why.TheVariants.{Called, ForHolder, 
 use Rattle.letter_types.specs.Steps.{Out}
 use Rattle.tx_trees.specs.ScriptData.{ScriptData, home_of, node_of}
 use Rattle.tx_trees.specs.Valid.{IsValid}
-use Rattle.world_model.specs.Counts.{Each, one_if, tally}
+use Rattle.world_model.specs.Counts.{one_if, tally}
 use Rattle.world_model.specs.declared.phase.Phase.{Phase}
 use Rattle.world_model.specs.declared.phase.Phase.TheVariants.{Idle, Turning, Counting, Paused, Showing, Sweeping}
-use Rattle.world_model.specs.Keeping.{AreKeptAt, KeepingNode}
+use Rattle.world_model.specs.Keeping.{KeepingNode}
 use Rattle.world_model.specs.Kept.{kept_in}
-use Rattle.world_model.specs.Named.{is_strict_at}
 use Rattle.world_model.specs.Node.{Node}
 use Rattle.world_model.specs.Runs.{IsStepRun, coordinator_in, in_flight, keeping_in, node_in}
 use Rattle.world_model.specs.Strict.{CoreKeeping}
@@ -42,15 +39,14 @@ use Rattle.phase_laws.proofs.Levels.{levels}
 use Rattle.phase_laws.proofs.Brought.{IsAsking}
 use Rattle.phase_laws.proofs.Working.{IsOfTrees}
 use Rattle.phase_laws.proofs.Progress.{Begins, Coordinates as Told, Ends, Hears, Obeys, Progress, Works, brings_to, itself, progress}
-use Rattle.tree_laws.specs.Dids.{asks, letters_asking}
 use Rattle.tree_laws.proofs.AptStagesOwn.{sub_of_node}
 use Rattle.tree_laws.proofs.AptSteps.{home_node}
 use Rattle.tree_laws.proofs.AptTurns.{turns_come_once}
-use Rattle.run_laws.specs.Parks.{StrictRootsWaitFewTimes, is_kept_for_show, shown_as, waits, waits_for}
+use Rattle.run_laws.specs.Parks.{StrictRootsWaitFewTimes, is_kept_for_show, shown_as, root_waits, waits_for}
 use Rattle.run_laws.proofs.EveryApt.{all_apt, lawful}
 use Rattle.run_laws.proofs.KeepingActs.{client_none, coordinator_none, does_none, keeps_waits, waits_of}
-use Rattle.run_laws.proofs.KeptWhy.{AreWaiting, IsWaiting, Reason, keeps_rises, new_root, rises, show_brought, waiting}
-use Rattle.run_laws.proofs.ParksOnce.{asks_sum, keeps_asked, kept_asks, letter_asks, meanwhile_same, woken_same}
+use Rattle.run_laws.proofs.KeptWhy.{AreWaiting, IsWaiting, Reason, keeps_rises, rises, show_brought, waiting}
+use Rattle.run_laws.proofs.ParksOnce.{asks_sum, keeps_asked, kept_asks, meanwhile_same, woken_same}
 
 -- Letters that are kept for a Show.
 shown_uncalled : (t u : ℕ) (w : Why) → is_called w ≡ true → shown_as t u w ≡ 0
@@ -169,7 +165,7 @@ shows s past e p v lt at is (Obeys q out more here below order state sent woken)
 
 -- The number of waits.
 abbrev WaitedHere : ScriptData → List Entry → ℕ → ℕ → Type 0
-WaitedHere s past p t = waits past t ≤ (node_in s past p).turns.read.0 + tally (is_kept_for_show t) (kept_in s past p)
+WaitedHere s past p t = root_waits past t ≤ (node_in s past p).turns.read.0 + tally (is_kept_for_show t) (kept_in s past p)
 
 -- the Show that is brought is the letter that is taken
 took_show : (s : ScriptData) (past : List Entry) (e : Entry) (p : ℕ) (r : Letter) (v : Version) → r.body ≡ Show v → Does s past e p r

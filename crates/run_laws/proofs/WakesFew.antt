@@ -1,7 +1,6 @@
 -- How many Wakes are sent in a run: of each subtransaction at most as many as its letter was kept. So an update tree's has at most
 -- one for each strict tree, and the root of a strict tree at most one for each advancement.
-use Rattle.std.proofs.Common.{◌≡◌, ◌≢◌, ◌⊎◌, inl, inr, ℕ, zero, suc, ◌+◌, ◌*◌, ◌<◌, ◌≤◌, ◌==◌, ◌&&◌, Bool, true, false, List, [], ◌∷◌, ◌++◌, length, refl, sym, ap, subst, ◌∙◌, arith}
-use Rattle.std.specs.Prelude.{if◌then◌else◌}
+use Rattle.std.proofs.Common.{◌≡◌, ◌≢◌, ◌⊎◌, inl, inr, ℕ, ◌+◌, ◌<◌, ◌≤◌, ◌==◌, ◌&&◌, Bool, true, false, List, [], ◌∷◌, length, refl, sym, ap, subst, ◌∙◌, arith}
 use Rattle.std.proofs.lemmas.Bool.{cases_eq}
 use Rattle.std.proofs.lemmas.Bool.Decides.{nat_tests}
 use Rattle.tv_base.specs.declared.numbers.SubNo.{SubNo}
@@ -10,7 +9,7 @@ use Rattle.letter_types.specs.Kept.{is_called, kept_without, wakes, wakes_by, wi
 use Rattle.letter_types.specs.declared.acts.Act.{Act}
 use Rattle.letter_types.specs.declared.acts.Act.TheVariants as acts
 use Rattle.letter_types.specs.declared.bodies.Body.{Body}
-use Rattle.letter_types.specs.declared.bodies.Body.TheVariants.{Decide, Go, Show, Wake}
+use Rattle.letter_types.specs.declared.bodies.Body.TheVariants.{Decide, Show}
 use Rattle.letter_types.specs.declared.entries.Entry.{Entry}
 use Rattle.letter_types.specs.declared.entries.Letter.{Letter}
 use Rattle.letter_types.specs.declared.entries.Outgoing.{Outgoing}
@@ -33,7 +32,7 @@ use Rattle.world_model.specs.Runs.{IsStepRun, client_in, coordinator_in, keeping
 use Rattle.world_model.specs.Strict.{CoreKeeping, core_row}
 use Rattle.world_model.proofs.Bags.{tally-append}
 use Rattle.world_model.proofs.Cases.{Case, Coordinates, Does, Keeps, NodeDoes, NodeKeeps, Submits, case}
-use Rattle.world_model.proofs.Every.{each_append, each_map}
+use Rattle.world_model.proofs.Every.{each_append}
 use Rattle.world_model.proofs.Keepings.{of_kept}
 use Rattle.world_model.proofs.Outstanding.{keeping_elsewhere}
 use Rattle.world_model.proofs.Sends.{on}
@@ -48,11 +47,11 @@ use Rattle.phase_laws.proofs.Levels.{levels}
 use Rattle.phase_laws.proofs.Small.{asked_most, small}
 use Rattle.tree_laws.proofs.AptSteps.{home_node}
 use Rattle.tree_laws.proofs.Sums.{over, over_add, over_hit, over_none, over_same}
-use Rattle.run_laws.specs.Parks.{is_kept_for_show, parks, parks_for, shown_as, waits, waits_for}
+use Rattle.run_laws.specs.Parks.{is_kept_for_show, parks, parks_for, shown_as, root_waits, waits_for}
 use Rattle.run_laws.proofs.EveryApt.{all_apt, lawful}
 use Rattle.run_laws.proofs.Holders.{holders}
 use Rattle.run_laws.proofs.KeepingActs.{OfKeeping, after_turn, client_none, coordinator_none, does_none, keeps_parks, keeps_waits, parked_as, parks_of}
-use Rattle.run_laws.proofs.KeptWhy.{AreWaiting, IsWaiting, Reason, each_meanwhile, each_woken, new_reason, not_both, waiting}
+use Rattle.run_laws.proofs.KeptWhy.{AreWaiting, Reason, each_meanwhile, each_woken, new_reason, not_both, waiting}
 use Rattle.run_laws.proofs.ParksOnce.{keeps_asked, letters_park_once, meanwhile_same}
 use Rattle.run_laws.proofs.WaitsFew.{strict_roots_wait_few_times, waiting_root}
 
@@ -336,7 +335,7 @@ root_waits s t c u j (ForHolder h) strict (up, m, meets, same) =
 root_waits s t c u j Called strict kept = absurd kept
 
 pub root_keepings : (s : ScriptData) (past : List Entry) (t : ℕ) → IsValid s → IsStepRun s past → is_strict_at s t ≡ true
-    → keepings past t 0 ≤ waits past t
+    → keepings past t 0 ≤ root_waits past t
 root_keepings s [] t valid run strict = omega arith
 root_keepings s (e ∷ past) t valid run strict =
     omega (arith, root_keepings s past t valid run.1 strict, by (case s past e run.0 (all_apt s (e ∷ past) valid run).0)) where

@@ -1,6 +1,6 @@
 //! Laws of every run of every valid script: each letter comes in time and is apt, trees of every kind go by their stages,
 //! phases have their letters and versions, counters are balanced, a version is shown only when it is quiet, and then for
-//! good, and no run stalls. And how many entries a run of update and read trees has.
+//! good, no run stalls, and no run has more entries than its script makes.
 #![tactic(auto)]
 
 mod phases;
@@ -17,12 +17,13 @@ pub use phases::{
 pub use shown::{
     nothing_comes_to_what_is_shown, orders_are_given_in_quiet, what_is_shown_is_whole,
 };
-pub use stalls::{entries_are_counted, entries_are_few, no_run_stalls, nothing_is_kept_at_the_end};
+pub use stalls::{
+    entries_are_counted, entries_are_few, no_run_stalls, nothing_is_kept_at_the_end,
+    plain_runs_have_fewer_entries, runs_are_short,
+};
 pub use trees::{
     decisions_are_applied_once, decisions_follow_votes, letters_carry_versions, no_step_waits,
     nothing_is_in_the_way, only_strict_trees_are_in_the_way, trees_are_decided_once,
     trees_go_by_stages, turns_come_once,
 };
-pub use waiting::{
-    letters_park_once, letters_stay_kept_for_a_reason, strict_roots_wait_few_times,
-};
+pub use waiting::{letters_park_once, letters_stay_kept_for_a_reason, strict_roots_wait_few_times};

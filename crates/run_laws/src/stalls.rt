@@ -1,8 +1,9 @@
 // The end of every run: no run stalls, a run to its end has so many entries, and no run has more than so many.
-ghost use Rattle.std.specs.Prelude.{ℕ, ◌≡◌, ◌<◌, ◌≤◌, List, [], length, true, reverse};
+ghost use Rattle.std.specs.Prelude.{ℕ, ◌≡◌, ◌<◌, ◌≤◌, ◌+◌, ◌*◌, List, [], length, true, false, reverse};
 ghost use Rattle.board_rules.specs.Right.{HasFinished};
 ghost use Rattle.letter_types.specs.declared.entries.Entry.{Entry};
 ghost use Rattle.tree_laws.specs.Entries.{entries_most, entries_of, rounds_in};
+ghost use Rattle.tx_trees.specs.Counts.{advances_in, has_strict};
 ghost use Rattle.tx_trees.specs.ScriptData.{ScriptData};
 ghost use Rattle.tx_trees.specs.Valid.{IsValid};
 ghost use Rattle.world_model.specs.Kept.{kept_in};
@@ -32,4 +33,14 @@ pub fn entries_are_counted()
 /// where there is a strict tree those of its decisions, of marks that are let go and of letters that are woken.
 pub fn entries_are_few()
     ensures { (s : ScriptData) (past : List Entry) → IsValid s → IsStepRun s past → length past ≤ entries_most s }
+{}
+
+/// Where no tree is strict that is what two rounds for each advancement and one for each tree make.
+pub fn plain_runs_have_fewer_entries()
+    ensures { (s : ScriptData) → has_strict s ≡ false → entries_most s ≡ entries_of s (2 * advances_in s.rows + length s.trees) }
+{}
+
+/// By the limits of scripts no run has more than 3 million entries.
+pub fn runs_are_short()
+    ensures { (s : ScriptData) (past : List Entry) → IsValid s → IsStepRun s past → length past ≤ 3000000 }
 {}
