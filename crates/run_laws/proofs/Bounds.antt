@@ -29,15 +29,13 @@ use Rattle.world_model.specs.Runs.{client_in, coordinator_in, keeping_in, IsStep
 use Rattle.world_model.specs.Strict.{core_row}
 use Rattle.world_model.proofs.Bags.{tally-append}
 use Rattle.world_model.proofs.Cases.{Case, Coordinates, NodeDoes, NodeKeeps, Submits, case}
-use Rattle.world_model.proofs.EachOutstanding.{each_took}
 use Rattle.world_model.proofs.Every.{each_none, each_zero}
 use Rattle.world_model.proofs.Flows.{outstanding_flow}
 use Rattle.world_model.proofs.Lawful.{is_nudge, nudged}
 use Rattle.world_model.proofs.Outstanding.{outstanding_first}
 use Rattle.world_model.proofs.Scripts.{SubAt, sub_here, sub_there}
 use Rattle.world_model.proofs.Sends.{on, roots_none, subs_none}
-use Rattle.strict_laws.specs.Meant.{IsLetterMeant, IsMeant}
-use Rattle.strict_laws.proofs.Meant.{letters_are_meant}
+use Rattle.strict_laws.specs.Meant.{IsMeant}
 use Rattle.strict_laws.proofs.MeantRows.{root_below, strict_below}
 use Rattle.strict_laws.proofs.RowSends.{OfChildren, OfRow, OfTree, core_each}
 use Rattle.phase_laws.specs.Advances.{asked_for, running}
@@ -56,6 +54,7 @@ use Rattle.tree_laws.proofs.Sums.{over, over_hit, over_none}
 use Rattle.run_laws.proofs.Costs.{is_apart, paid, stages}
 use Rattle.run_laws.proofs.EveryApt.{all_apt, lawful}
 use Rattle.run_laws.proofs.SentFew.{ack_of, acks_few, answered_once, decide_of, decides_few, no_others, release_of, releases_few, taken_sent}
+use Rattle.run_laws.proofs.Stopping.{took_meant}
 use Rattle.run_laws.proofs.WakesFew.{over_most, read_wakes, root_wakes, sent_in, strict_wakes, update_wakes, wake_of}
 
 -- Sums.
@@ -152,9 +151,6 @@ one_kind s from to (Decided t v) meant = refl
 one_kind s from to (Release t) meant = refl
 one_kind s from to (Wake t k) meant = refl
 one_kind s from to _ meant = absurd meant
-
-took_meant : (s : ScriptData) (past : List Entry) (e : Entry) → IsValid s → IsStepRun s (e ∷ past) → IsLetterMeant s e.took
-took_meant s past e valid run = each_took (IsLetterMeant s) s past e run.0 (letters_are_meant s past valid run.1)
 
 counted : (s : ScriptData) (past : List Entry) → IsValid s → IsStepRun s past
     → length past

@@ -22,7 +22,7 @@ use Rattle.world_model.specs.Keeping.{AreKeptAt, AsksFor, KeepingNode}
 use Rattle.world_model.specs.Kept.{kept_by, kept_in}
 use Rattle.world_model.specs.Runs.{IsStepRun, in_flight, keeping_in}
 use Rattle.world_model.specs.Strict.{CoreKeeping}
-use Rattle.world_model.proofs.Bags.{tally-append}
+use Rattle.world_model.proofs.Bags.{one_if_most, tally-append}
 use Rattle.world_model.proofs.Cases.{Case, Coordinates, Does, Keeps, NodeDoes, NodeKeeps, Submits, case}
 use Rattle.world_model.proofs.KeptThere.{IsCoreKeeping, OfKeeping as OfCoreKeeping, core_keeps, kept_in_past, still_kept}
 use Rattle.world_model.proofs.Outstanding.{keeping_elsewhere}
@@ -30,6 +30,7 @@ use Rattle.world_model.proofs.Scripts.{sub_here}
 use Rattle.strict_laws.specs.Keeping.{IsKeptFor}
 use Rattle.strict_laws.proofs.Reasons.{kept_for_a_reason}
 use Rattle.phase_laws.proofs.Brought.{brought_meant}
+use Rattle.phase_laws.proofs.LevelAt.{tally_most}
 use Rattle.phase_laws.proofs.Progress.{brings_to}
 use Rattle.tree_laws.specs.Applied.{tells_decision}
 use Rattle.tree_laws.specs.Dids.{asks, letters_asking}
@@ -172,16 +173,12 @@ parked_so t k h u j (ForHolder g) some = record {
 parked_so t k h u j ForShow some = absurd (omega (arith, some))
 parked_so t k h u j Called some = absurd (omega (arith, some))
 
-one_most : (b : Bool) → one_if b ≤ 1
-one_most true = omega arith
-one_most false = omega arith
-
 pub parked_most : (t k h u j : ℕ) (w : Why) → parked_as t k h u j w ≤ one_if ((u == t) && (j == k))
 parked_most t k h u j ForShow = omega arith
 parked_most t k h u j Called = omega arith
 parked_most t k h u j (ForHolder g) = by (u == t) (j == k) (g.0 == h) where
   by : (a b c : Bool) → one_if (a && (b && c)) ≤ one_if (a && b)
-  by true true c = one_most c
+  by true true c = one_if_most c
   by true false c = omega arith
   by false b c = omega arith
 
@@ -200,10 +197,6 @@ pub asks_sum : (t k p : ℕ) (xs : List KeptLetter) → AreKeptAt p xs
     → tally (letter_asks t k) xs ≡ tally (λ (x : KeptLetter). one_if ((x.tree.0 == t) && (x.sub.0 == k))) xs
 asks_sum t k p [] all = refl
 asks_sum t k p (x ∷ xs) all = omega (arith, asks_by t k x.tree x.sub x.letter.body all.0.asks, asks_sum t k p xs all.1)
-
-pub tally_most : {X : Type 0} (f g : X → ℕ) (xs : List X) → ((x : X) → f x ≤ g x) → tally f xs ≤ tally g xs
-tally_most f g [] le = omega arith
-tally_most f g (x ∷ xs) le = omega (arith, le x, tally_most f g xs le)
 
 -- what one node keeps is outstanding
 letters_of : (f : Letter → ℕ) (xs : List KeptLetter) → tally f (map (λ (x : KeptLetter). x.letter) xs) ≡ tally (λ (x : KeptLetter). f x.letter) xs
@@ -311,7 +304,7 @@ keeps_parked s past e p t k h r o valid run d ih = by (parked_as t k h o.tree.0 
       let none = none_yet (parked_so t k h o.tree.0 o.sub.0 o.why (omega (arith, some))) in
       let before : parks past t k h ≡ 0 = omega (arith, ih.now none.1, none.0) in record {
         now = λ free. omega (arith, before, none.0, kept, rest, acts);
-        most = omega (arith, before, acts, parked_most t k h o.tree.0 o.sub.0 o.why, one_most ((o.tree.0 == t) && (o.sub.0 == k)));
+        most = omega (arith, before, acts, parked_most t k h o.tree.0 o.sub.0 o.why, one_if_most ((o.tree.0 == t) && (o.sub.0 == k)));
       }
 
 -- Another actor parks none.

@@ -36,7 +36,7 @@ use Rattle.world_model.specs.Runs.{IsStepRun, client_in, coordinator_in, in_flig
 use Rattle.world_model.specs.Strict.{answered, core_by_kind, core_row, decided, locks_by, marks, none_refuses, note_core, noted_vote, refused_there, release_letters, to_each, voting}
 use Rattle.world_model.specs.Updates.{touching}
 use Rattle.world_model.specs.Votes.{vote_of}
-use Rattle.world_model.proofs.Bags.{tally-append}
+use Rattle.world_model.proofs.Bags.{one_if_most, tally-append}
 use Rattle.world_model.proofs.Cases.{Case, Coordinates, Does, NodeDoes, NodeKeeps, Submits, case}
 use Rattle.world_model.proofs.Every.{each_none, each_zero}
 use Rattle.world_model.proofs.Flows.{flow}
@@ -89,10 +89,7 @@ visited_below xs (suc n) =
 
 all_most : {X : Type 0} (f : X → Bool) (xs : List X) → tally (λ (x : X). one_if (f x)) xs ≤ length xs
 all_most f [] = omega arith
-all_most f (x ∷ xs) = omega (arith, one (f x), all_most f xs) where
-  one : (b : Bool) → one_if b ≤ 1
-  one true = omega arith
-  one false = omega arith
+all_most f (x ∷ xs) = omega (arith, one_if_most (f x), all_most f xs)
 
 pub visited_most : (s : ScriptData) (t : ℕ) → length (visited_by s t) ≤ length (subs_at s t)
 visited_most s t =
@@ -122,10 +119,6 @@ each_none_of : (f : Outgoing → ℕ) (body : Body) (qs : List ℕ) → ((q : �
     → tally f (to_each body qs) ≡ 0
 each_none_of f body [] none = refl
 each_none_of f body (q ∷ qs) none = omega (arith, none q, each_none_of f body qs none)
-
-test_most : (b : Bool) → one_if b ≤ 1
-test_most true = omega arith
-test_most false = omega arith
 
 -- Decisions.
 abbrev pub decide_of : ℕ → Body → ℕ
@@ -168,7 +161,7 @@ ruled_sends s t rs (Some a) = by (a.tree.0 == t) refl where
       inr (
         omega (
           arith,
-          each_one (on (decide_of t)) (Decide a.tree a.version (none_refuses a.tree rs)) (visited_by s a.tree.0) (λ q. test_most (a.tree.0 == t)),
+          each_one (on (decide_of t)) (Decide a.tree a.version (none_refuses a.tree rs)) (visited_by s a.tree.0) (λ q. one_if_most (a.tree.0 == t)),
           ap (λ (u : ℕ). length (visited_by s u)) same,
         ),
         one (none_refuses a.tree rs) (a.tree.0 == t) is,
@@ -361,7 +354,7 @@ let_go s t a true is = inr (
   same = grind (arith, nat_tests)
 
   by : (m : Bool) → tally (on (release_of t)) (if m then to_each (Release a.tree) (visited_by s a.tree.0) else []) ≤ length (visited_by s a.tree.0)
-  by true = each_one (on (release_of t)) (Release a.tree) (visited_by s a.tree.0) (λ q. test_most (a.tree.0 == t))
+  by true = each_one (on (release_of t)) (Release a.tree) (visited_by s a.tree.0) (λ q. one_if_most (a.tree.0 == t))
   by false = omega arith
 
 goes_out : (s : ScriptData) (t : ℕ) (o : Option Answered) → Releases s t (release_letters s o ++ reply_letters (client_of s) o)

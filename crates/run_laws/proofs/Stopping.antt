@@ -65,7 +65,7 @@ reply_away s from to t (Reply u v answer) meant ne = absurd (ne meant.1)
 reply_away s from to t Go meant ne = refl
 reply_away s from to t _ meant ne = refl
 
-took_meant : (s : ScriptData) (past : List Entry) (e : Entry) → IsValid s → IsStepRun s (e ∷ past) → IsLetterMeant s e.took
+pub took_meant : (s : ScriptData) (past : List Entry) (e : Entry) → IsValid s → IsStepRun s (e ∷ past) → IsLetterMeant s e.took
 took_meant s past e valid run = each_took (IsLetterMeant s) s past e run.0 (letters_are_meant s past valid run.1)
 
 kept_stop : (s : ScriptData) (past : List Entry) (e : Entry) → IsValid s → IsStepRun s (e ∷ past) → Stopping s past → e.actor.0 ≢ client_of s

@@ -42,7 +42,7 @@ use Rattle.phase_laws.proofs.Progress.{Begins, Coordinates as Told, Ends, Hears,
 use Rattle.tree_laws.proofs.AptStagesOwn.{sub_of_node}
 use Rattle.tree_laws.proofs.AptSteps.{home_node}
 use Rattle.tree_laws.proofs.AptTurns.{turns_come_once}
-use Rattle.run_laws.specs.Parks.{StrictRootsWaitFewTimes, is_kept_for_show, shown_as, root_waits, waits_for}
+use Rattle.run_laws.specs.Parks.{StrictRootsWaitFewTimes, is_kept_for_show, shown_as, waitings, waits_for}
 use Rattle.run_laws.proofs.EveryApt.{all_apt, lawful}
 use Rattle.run_laws.proofs.KeepingActs.{client_none, coordinator_none, does_none, keeps_waits, waits_of}
 use Rattle.run_laws.proofs.KeptWhy.{AreWaiting, IsWaiting, Reason, keeps_rises, rises, show_brought, waiting}
@@ -165,7 +165,7 @@ shows s past e p v lt at is (Obeys q out more here below order state sent woken)
 
 -- The number of waits.
 abbrev WaitedHere : ScriptData → List Entry → ℕ → ℕ → Type 0
-WaitedHere s past p t = root_waits past t ≤ (node_in s past p).turns.read.0 + tally (is_kept_for_show t) (kept_in s past p)
+WaitedHere s past p t = waitings past t ≤ (node_in s past p).turns.read.0 + tally (is_kept_for_show t) (kept_in s past p)
 
 -- the Show that is brought is the letter that is taken
 took_show : (s : ScriptData) (past : List Entry) (e : Entry) (p : ℕ) (r : Letter) (v : Version) → r.body ≡ Show v → Does s past e p r

@@ -47,7 +47,7 @@ use Rattle.phase_laws.proofs.Levels.{levels}
 use Rattle.phase_laws.proofs.Small.{asked_most, small}
 use Rattle.tree_laws.proofs.AptSteps.{home_node}
 use Rattle.tree_laws.proofs.Sums.{over, over_add, over_hit, over_none, over_same}
-use Rattle.run_laws.specs.Parks.{is_kept_for_show, parks, parks_for, shown_as, root_waits, waits_for}
+use Rattle.run_laws.specs.Parks.{is_kept_for_show, parks, parks_for, shown_as, waitings, waits_for}
 use Rattle.run_laws.proofs.EveryApt.{all_apt, lawful}
 use Rattle.run_laws.proofs.Holders.{holders}
 use Rattle.run_laws.proofs.KeepingActs.{OfKeeping, after_turn, client_none, coordinator_none, does_none, keeps_parks, keeps_waits, parked_as, parks_of}
@@ -335,7 +335,7 @@ root_waits s t c u j (ForHolder h) strict (up, m, meets, same) =
 root_waits s t c u j Called strict kept = absurd kept
 
 pub root_keepings : (s : ScriptData) (past : List Entry) (t : ℕ) → IsValid s → IsStepRun s past → is_strict_at s t ≡ true
-    → keepings past t 0 ≤ root_waits past t
+    → keepings past t 0 ≤ waitings past t
 root_keepings s [] t valid run strict = omega arith
 root_keepings s (e ∷ past) t valid run strict =
     omega (arith, root_keepings s past t valid run.1 strict, by (case s past e run.0 (all_apt s (e ∷ past) valid run).0)) where

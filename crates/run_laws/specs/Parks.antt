@@ -30,9 +30,9 @@ waits_for t Finished = 0
 waits_for t _ = 0
 
 -- how often it did
-abbrev pub root_waits : List Entry → ℕ → ℕ
-root_waits [] t = 0
-root_waits (e ∷ past) t = tally (waits_for t) e.acts + root_waits past t
+abbrev pub waitings : List Entry → ℕ → ℕ
+waitings [] t = 0
+waitings (e ∷ past) t = tally (waits_for t) e.acts + waitings past t
 
 -- a letter of tree t that is kept for a Show
 abbrev pub shown_as : ℕ → ℕ → Why → ℕ
@@ -50,4 +50,4 @@ LettersParkOnce = (s : ScriptData) (past : List Entry) (t k h : ℕ) → IsValid
 -- the root of a strict tree waits at most once for each version that was shown at its home, and once more while it is kept
 abbrev pub StrictRootsWaitFewTimes : Type 0
 StrictRootsWaitFewTimes = (s : ScriptData) (past : List Entry) (t : ℕ) → IsValid s → IsStepRun s past → t < length s.trees
-    → root_waits past t ≤ (node_in s past (home_of s t)).turns.read.0 + tally (is_kept_for_show t) (kept_in s past (home_of s t))
+    → waitings past t ≤ (node_in s past (home_of s t)).turns.read.0 + tally (is_kept_for_show t) (kept_in s past (home_of s t))
