@@ -1,3 +1,4 @@
 pub mod NodeNumbers
 pub mod Openings
 pub mod Births
+pub mod Raised
