@@ -2,3 +2,5 @@ pub mod NodeNumbers
 pub mod Openings
 pub mod Births
 pub mod Raised
+pub mod Asked
+pub mod AllMoves

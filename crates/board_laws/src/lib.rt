@@ -2,3 +2,5 @@
 #![tactic(auto)]
 
 mod moves;
+
+pub use moves::acts_are_moves;
