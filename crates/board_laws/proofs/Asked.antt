@@ -1,6 +1,6 @@
 -- In every run of every valid script each Did and each vote is of a subtransaction that was asked for: it is a root, or its
 -- parent has had its turn.
-use Rattle.std.proofs.Common.{◌≡◌, ℕ, ◌+◌, ◌<◌, ◌≤◌, ◌==◌, ◌||◌, Bool, true, false, List, [], ◌∷◌, ◌++◌, take, refl, sym, ap, subst, ◌∙◌, arith, Option, Some, None}
+use Rattle.std.proofs.Common.{◌≡◌, ℕ, ◌<◌, ◌≤◌, ◌==◌, ◌||◌, Bool, true, false, List, ◌∷◌, take, refl, sym, ap, subst, ◌∙◌, arith, Option, Some}
 use Rattle.std.specs.Prelude.{slice_get}
 use Rattle.std.proofs.lemmas.Bool.Decides.{nat_tests}
 use Rattle.tv_base.specs.declared.numbers.ItemNo.{ItemNo}
@@ -28,7 +28,7 @@ use Rattle.board_rules.specs.Rules.{IsFreeDeed}
 use Rattle.board_rules.specs.Stands.{votes, was_voted}
 use Rattle.board_rules.proofs.Wholes.{any_more}
 use Rattle.strict_laws.proofs.ByActs.{kind_updates}
-use Rattle.tree_laws.specs.Dids.{asks, is_did_act}
+use Rattle.tree_laws.specs.Dids.{asks}
 use Rattle.tree_laws.specs.Turns.{has_turn, turns}
 use Rattle.tree_laws.proofs.AptStagesOwn.{Doing, asked}
 use Rattle.tree_laws.proofs.AptTurns.{sub_has_turns}

@@ -23,7 +23,7 @@ use Rattle.script_parts.specs.declared.parts.TreeKind.TheVariants.{Update, Read,
 use Rattle.script_parts.specs.ScriptData.{ScriptData, is_read, reads}
 use Rattle.script_parts.specs.Valid.{IsValid}
 use Rattle.tree_home.specs.declared.homes.Answered.{Answered}
-use Rattle.world_model.specs.Asked.{asked_ops, asked_version, tree_part}
+use Rattle.world_model.specs.Asked.{asked_ops, tree_part}
 use Rattle.world_model.specs.Core.{Core}
 use Rattle.world_model.specs.Counts.{one_if, tally}
 use Rattle.world_model.specs.Done.{TreeOut, note_part, turned_if}
@@ -35,7 +35,7 @@ use Rattle.world_model.specs.Votes.{vote_of}
 use Rattle.world_model.proofs.Cases.{Case, Coordinates, NodeDoes, NodeKeeps, Submits, case}
 use Rattle.world_model.proofs.KeptThere.{OfKeeping}
 use Rattle.world_model.proofs.Orders.{no_acts}
-use Rattle.board_rules.specs.Histories.{Place, places_at}
+use Rattle.board_rules.specs.Histories.{places_at}
 use Rattle.tree_laws.proofs.AptRulings.{client_acts}
 use Rattle.tree_laws.proofs.AptVersions.{before}
 use Rattle.phase_laws.proofs.Brought.{BringsTo}
