@@ -1,0 +1,6 @@
+pub mod NodeNumbers
+pub mod Openings
+pub mod Births
+pub mod Raised
+pub mod Asked
+pub mod AllMoves

@@ -1,0 +1,17 @@
+// The acts of a run as moves of the Board.
+ghost use Rattle.std.specs.Prelude.{List, reverse};
+ghost use Rattle.board_rules.specs.Moves.{AtEachAct};
+ghost use Rattle.letter_types.specs.declared.entries.Entry.{Entry};
+ghost use Rattle.script_parts.specs.ScriptData.{ScriptData};
+ghost use Rattle.script_parts.specs.Valid.{IsValid};
+ghost use Rattle.world_model.specs.Runs.{IsStepRun};
+ghost use Rattle.board_laws.specs.Moves.{IsMoveButCause};
+
+/// In every run each act is a move of the Board, after the acts before it, but for the cause that a vote names: a tree is
+/// born at its home, once, in its home's version; a subtransaction is done or votes at its node, once, after its parent;
+/// each number is raised by one, as far as those of the other nodes allow; a version is shown, or swept to, once the trees
+/// up to there are whole; a strict tree waits where its home's update version isn't the one after the read version; and
+/// marks go and decisions are made and applied by their rules.
+pub fn acts_are_moves()
+    ensures { (s : ScriptData) (past : List Entry) → IsValid s → IsStepRun s past → AtEachAct (IsMoveButCause s) (reverse past) }
+{}
