@@ -1,1 +1,2 @@
 pub mod OwnWorth
+pub mod ReadVersions
