@@ -1,2 +1,4 @@
 pub mod OwnWorth
 pub mod ReadVersions
+pub mod AtFront
+pub mod Asking
