@@ -2,3 +2,4 @@ pub mod OwnWorth
 pub mod ReadVersions
 pub mod AtFront
 pub mod Asking
+pub mod RightReads
