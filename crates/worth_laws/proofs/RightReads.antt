@@ -110,7 +110,7 @@ read_early s past e p r t k g (OfSub v is) read =
     omega (arith, same, born_below s past t.0 v g.valid g.run.1 read born)
 
 -- So its node sees what its items are worth, with its Did and without.
-each_op : (P : SubOp → Type 0) (os : List SubOp) → ((i : ℕ) (o : SubOp) → slice_get os i ≡ Some o → P o) → AllByRecursion P os
+pub each_op : (P : SubOp → Type 0) (os : List SubOp) → ((i : ℕ) (o : SubOp) → slice_get os i ≡ Some o → P o) → AllByRecursion P os
 each_op P [] each = tt
 each_op P (o ∷ os) each = (each 0 o refl, each_op P os (λ i q is. each (suc i) q is))
 
