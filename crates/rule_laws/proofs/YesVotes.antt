@@ -75,13 +75,13 @@ yes_cause : (o : Option Cause) (values : List (ItemNo × Value)) (t : TreeNo) (k
 yes_cause None values t k u j ws is = (refl, cc is, cc is)
 yes_cause (Some cause) values t k u j ws is = absurd (cc is)
 
-no_cause : (s : ScriptData) (c : Core) (t : TreeNo) (v : Version) (os : List SubOp) → cause_in c.locks c.node.items t v os ≡ None
+pub no_cause : (s : ScriptData) (c : Core) (t : TreeNo) (v : Version) (os : List SubOp) → cause_in c.locks c.node.items t v os ≡ None
     → HasNoCause s c t v os
 no_cause s c t v os is =
     let more = none_parts (conflict_by (met_in t (wanted_by os) c.locks)) (option_or (newer_in v os c.node.items) (short_in v os c.node.items)) is in
     record { met = more.0; newer = (none_parts (newer_in v os c.node.items) (short_in v os c.node.items) more.1).0 }
 
-asked_same : (s : ScriptData) (t : TreeNo) (k : SubNo) (body : Body) → AsksIn body t k → asked_ops s body ≡ ops_of s t.0 k.0
+pub asked_same : (s : ScriptData) (t : TreeNo) (k : SubNo) (body : Body) → AsksIn body t k → asked_ops s body ≡ ops_of s t.0 k.0
 asked_same s t k body (OfRoot is first) = ap (asked_ops s) is ∙ ap (λ (j : SubNo). ops_of s t.0 j.0) (sym first)
 asked_same s t k body (OfSub v is) = ap (asked_ops s) is
 
@@ -161,7 +161,7 @@ newer_none s past e j p t k v (o ∷ os) valid run lt none item free =
           rw is (rw test (rest parts.1))
 
 -- the version of its tree at the vote
-front_version : (past : List Entry) (e : Entry) (j t : ℕ) (v : Version) → is_some (version_in t (front past e j)) ≡ true
+pub front_version : (past : List Entry) (e : Entry) (j t : ℕ) (v : Version) → is_some (version_in t (front past e j)) ≡ true
     → version_in t (before past ++ places_at e) ≡ Some v → version_in t (front past e j) ≡ Some v
 front_version past e j t v born has =
     sym (version_stays t (front past e j) (drop j (places_at e)) born)
