@@ -33,7 +33,7 @@ use Rattle.worth_laws.proofs.OwnWorth.{writer_there}
 use Rattle.worth_laws.proofs.ReadVersions.{whole_to}
 
 -- They are the first of the acts with the entry, and those before the entry are the first of them.
-front_is : (past : List Entry) (e : Entry) (j : ℕ) → take (length (before past) + j) (before (e ∷ past)) ≡ front past e j
+pub front_is : (past : List Entry) (e : Entry) (j : ℕ) → take (length (before past) + j) (before (e ∷ past)) ≡ front past e j
 front_is past e j =
     ap (take (length (before past) + j)) (places_more e past) ∙ take-append-add (before past) (places_at e) j
 

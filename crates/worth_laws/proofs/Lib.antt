@@ -6,3 +6,4 @@ pub mod RightReads
 pub mod VoteSees
 pub mod RightVotes
 pub mod Right
+pub mod WorthStays

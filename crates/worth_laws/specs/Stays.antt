@@ -1,0 +1,40 @@
+-- What the values that read trees show rest on, strict trees included, and that they stay right.
+use Rattle.std.specs.Prelude.{ℕ, ◌≡◌, ◌≤◌, List, Option, Some, None, IsTrue}
+use Rattle.tv_base.specs.declared.numbers.Version.{Version}
+use Rattle.letter_types.specs.declared.acts.Act.{Act}
+use Rattle.letter_types.specs.declared.acts.Act.TheVariants.{Did, Finished}
+use Rattle.letter_types.specs.declared.entries.Entry.{Entry}
+use Rattle.script_parts.specs.ScriptData.{ScriptData, ops_of, reads}
+use Rattle.board_rules.specs.Histories.{Place, is_whole_in, version_of}
+use Rattle.board_rules.specs.Moves.{AtEachAct}
+use Rattle.board_rules.specs.Right.{IsShown}
+use Rattle.board_rules.specs.Rules.{is_writer}
+use Rattle.board_rules.specs.Worth.{worth}
+
+-- each writer, an update or a strict tree, that the history h gives a version of at most v is whole after these acts
+abbrev pub AreWritersWhole : ScriptData → List Entry → List Place → Option Version → Type 0
+AreWritersWhole s h xs None = ⊥
+AreWritersWhole s h xs (Some v) =
+    (t : ℕ) (w : Version) → IsTrue (is_writer s t) → version_of h t ≡ Some w → w.0 ≤ v.0 → IsTrue (is_whole_in s xs t)
+
+-- where the act is a Did of a read tree, the writers of its version and older ones are whole before
+abbrev pub ComesAfterWriters : ScriptData → List Entry → List Place → Act → Type 0
+ComesAfterWriters s h xs (Did t k values) = IsTrue (reads s t.0) → AreWritersWhole s h xs (version_of h t.0)
+ComesAfterWriters s h xs Finished = Unit {0}
+ComesAfterWriters s h xs _ = Unit {0}
+
+-- after the acts before any Did of a read tree of version v, every writer that the whole history gives a version of at
+-- most v is whole: of an update tree all Dids come before that one, and of a strict tree all its Applieds
+abbrev pub WritersAreFirst : ScriptData → List Entry → Type 0
+WritersAreFirst s h =
+    AtEachAct (λ (before : List Entry) (xs : List Place) (x : Place). ComesAfterWriters s h xs x.act) h
+
+-- where the act is a Did of a read tree, its values are what its items are worth at the tree's version in h
+abbrev pub ShowsWorth : ScriptData → List Entry → Act → Type 0
+ShowsWorth s h (Did t k values) = IsTrue (reads s t.0) → IsShown (worth s h) (ops_of s t.0 k.0) values (version_of h t.0)
+ShowsWorth s h Finished = Unit {0}
+ShowsWorth s h _ = Unit {0}
+
+-- what the steps of read trees gave is what the whole history has at their versions
+abbrev pub ShownStays : ScriptData → List Entry → Type 0
+ShownStays s h = AtEachAct (λ (before : List Entry) (xs : List Place) (x : Place). ShowsWorth s h x.act) h
