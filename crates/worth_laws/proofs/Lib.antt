@@ -7,3 +7,6 @@ pub mod VoteSees
 pub mod RightVotes
 pub mod Right
 pub mod WorthStays
+pub mod ReadPlaces
+pub mod WritersFirst
+pub mod ShownStays
