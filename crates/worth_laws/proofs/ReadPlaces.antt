@@ -1,6 +1,6 @@
 -- An act of a read tree at its position in a run: its version was shown before its entry. And from what holds of each act at
 -- its position to what holds of each act of each entry.
-use Rattle.std.proofs.Common.{◌≡◌, ◌⊎◌, inl, inr, ℕ, zero, suc, ◌+◌, ◌<◌, ◌≤◌, true, false, List, [], ◌∷◌, ◌++◌, length, take, reverse, refl, sym, ap, subst, ◌∙◌, append_assoc, arith, Option, Some, None}
+use Rattle.std.proofs.Common.{◌≡◌, ◌⊎◌, inl, inr, ℕ, zero, suc, ◌+◌, ◌<◌, ◌≤◌, true, false, List, [], ◌∷◌, ◌++◌, length, take, reverse, sym, ap, subst, ◌∙◌, append_assoc, arith, Some}
 use Rattle.std.specs.Prelude.{slice_get}
 use Rattle.std.proofs.Math.Seq.{take-append-add}
 use Rattle.std.proofs.lemmas.List.{length-append, length-take, take-append-le}
@@ -95,8 +95,7 @@ here_in : (h : List Entry) (n : ℕ) (e : Entry) → slice_get h n ≡ Some e
 here_in [] n e is = absurd (cc is)
 here_in (d ∷ h) zero e is = let same : d ≡ e = cc is in (places_of h, ap (λ (x : Entry). places_at x ++ places_of h) same)
 here_in (d ∷ h) (suc n) e is =
-    let old = here_in h n e is in
-    (
+    let old = here_in h n e is in (
       old.0,
       ap (λ (xs : List Place). places_at d ++ xs) old.1 ∙ sym (append_assoc (places_at d) (places_of (take n h)) (places_at e ++ old.0)),
     )

@@ -1,13 +1,12 @@
 -- In every run what the steps of read trees gave stays right: it is what the whole history has at their versions.
-use Rattle.std.proofs.Common.{◌≡◌, ℕ, suc, true, List, [], ◌∷◌, ◌++◌, take, reverse, refl, sym, ap, subst, ◌∙◌, Option, Some}
+use Rattle.std.proofs.Common.{◌≡◌, ℕ, List, [], ◌∷◌, ◌++◌, take, reverse, refl, sym, ap, subst, ◌∙◌, Some}
 use Rattle.std.specs.Prelude.{slice_get}
-use Rattle.tv_base.specs.declared.numbers.Version.{Version}
 use Rattle.commute_ops.specs.declared.value.Value.{Value}
 use Rattle.letter_types.specs.declared.acts.Act.{Act}
-use Rattle.letter_types.specs.declared.acts.Act.TheVariants.{Did, Voted, Finished}
+use Rattle.letter_types.specs.declared.acts.Act.TheVariants.{Did, Finished}
 use Rattle.letter_types.specs.declared.entries.Entry.{Entry}
 use Rattle.script_parts.specs.declared.parts.SubOp.{SubOp}
-use Rattle.script_parts.specs.ScriptData.{ScriptData, ops_of, reads}
+use Rattle.script_parts.specs.ScriptData.{ScriptData, ops_of}
 use Rattle.script_parts.specs.Valid.{IsValid}
 use Rattle.world_model.specs.Runs.{IsStepRun}
 use Rattle.board_rules.specs.Histories.{Place, version_in}

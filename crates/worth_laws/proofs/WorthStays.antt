@@ -15,7 +15,6 @@ use Rattle.board_rules.specs.Moves.{AllWholeTo}
 use Rattle.board_rules.specs.Rules.{AreByRule, is_writer}
 use Rattle.board_rules.specs.Worth.{ops_change, worth, worth_in}
 use Rattle.board_rules.proofs.ClosedWorth.{up_to}
-use Rattle.board_rules.proofs.EffectPlaces.{Takes}
 use Rattle.board_rules.proofs.InOrder.{EffectAt, any_applied}
 use Rattle.board_rules.proofs.ItemAt.{item_at, op_row}
 use Rattle.board_rules.proofs.Positions.{act_found, found, found_act}
@@ -38,8 +37,7 @@ use Rattle.worth_laws.proofs.ReadVersions.{whole_to}
 acts_after : (past later : List Entry) → (rest : List Place) × (before (later ++ past) ≡ before past ++ rest)
 acts_after past [] = ([], sym (append-nil (before past)))
 acts_after past (e ∷ later) =
-    let old = acts_after past later in
-    (
+    let old = acts_after past later in (
       old.0 ++ places_at e,
       places_more e (later ++ past) ∙ ap (λ (xs : List Place). xs ++ places_at e) old.1 ∙ append_assoc (before past) old.0 (places_at e),
     )
@@ -119,16 +117,19 @@ no_item s x t k valid none is =
 
 some_node : (s : ScriptData) (x : ℕ) (found : Option ItemRow) → IsValid s → slice_get s.items x ≡ found → (p : ℕ) × IsItemAt s p x
 some_node s x (Some r) valid at = (r.node.0, item_at s r.node.0 x r valid at refl)
-some_node s x None valid none = (0, record {
-  placed = λ t k is. absurd (no_item s x t k valid none is);
-  once = λ t j k strict one two. absurd (no_item s x t j valid none one);
-  marks = λ t k i o up is.
-      let row = op_row s t k i o valid is in
-      (item_at s row.row.node.0 o.item.0 row.row valid row.there refl).marks t k i o up is;
-  strict = λ t k i o strict is.
-      let row = op_row s t k i o valid is in
-      (item_at s row.row.node.0 o.item.0 row.row valid row.there refl).strict t k i o strict is;
-})
+some_node s x None valid none = (
+  0,
+  record {
+    placed = λ t k is. absurd (no_item s x t k valid none is);
+    once = λ t j k strict one two. absurd (no_item s x t j valid none one);
+    marks = λ t k i o up is.
+        let row = op_row s t k i o valid is in
+        (item_at s row.row.node.0 o.item.0 row.row valid row.there refl).marks t k i o up is;
+    strict = λ t k i o strict is.
+        let row = op_row s t k i o valid is in
+        (item_at s row.row.node.0 o.item.0 row.row valid row.there refl).strict t k i o strict is;
+  },
+)
 
 pub worth_from : (s : ScriptData) (past later : List Entry) (x v n : ℕ) → IsValid s → IsStepRun s (later ++ past) → v < now_below false s past
     → length (before past) ≤ n → worth_in s (take n (before (later ++ past))) x v ≡ worth s (reverse (later ++ past)) x v

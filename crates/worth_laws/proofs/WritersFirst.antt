@@ -1,20 +1,20 @@
 -- In every run, before each Did of a read tree all writers of its version and older ones are whole.
-use Rattle.std.proofs.Common.{◌≡◌, ℕ, suc, true, List, [], ◌∷◌, ◌++◌, take, reverse, refl, sym, ap, subst, ◌∙◌, Option, Some, None}
+use Rattle.std.proofs.Common.{◌≡◌, ℕ, suc, List, [], ◌∷◌, ◌++◌, take, reverse, refl, sym, ap, subst, ◌∙◌, Option, Some, None}
 use Rattle.std.specs.Prelude.{slice_get}
 use Rattle.tv_base.specs.declared.numbers.ItemNo.{ItemNo}
 use Rattle.tv_base.specs.declared.numbers.Version.{Version}
 use Rattle.commute_ops.specs.declared.value.Value.{Value}
 use Rattle.letter_types.specs.declared.acts.Act.{Act}
-use Rattle.letter_types.specs.declared.acts.Act.TheVariants.{Did, Voted, Finished}
+use Rattle.letter_types.specs.declared.acts.Act.TheVariants.{Did, Finished}
 use Rattle.letter_types.specs.declared.entries.Entry.{Entry}
 use Rattle.script_parts.specs.declared.parts.SubOp.{SubOp}
-use Rattle.script_parts.specs.ScriptData.{ScriptData, ops_of, reads}
+use Rattle.script_parts.specs.ScriptData.{ScriptData, ops_of}
 use Rattle.script_parts.specs.Valid.{IsValid}
 use Rattle.world_model.specs.Runs.{IsStepRun}
 use Rattle.board_rules.specs.Histories.{Place, version_in}
 use Rattle.board_rules.specs.Right.{IsRightAct, IsShown, with_worths}
 use Rattle.board_rules.specs.Worth.{worth_in}
-use Rattle.board_rules.proofs.AtPositions.{AtPosition, at_position}
+use Rattle.board_rules.proofs.AtPositions.{at_position}
 use Rattle.board_rules.proofs.Wholes.{version_more}
 use Rattle.tree_laws.proofs.AptVersions.{before}
 use Rattle.run_laws.proofs.Wholes.{born_with}

@@ -4,3 +4,7 @@
 mod reads;
 
 pub use reads::reads_and_votes_are_right;
+
+mod stays;
+
+pub use stays::{what_reads_show_stays, writers_come_before_reads};
