@@ -1,6 +1,6 @@
 -- In every run a subtransaction of a read tree gives what its items are worth at the tree's version, up to its Did.
-use Rattle.std.proofs.Common.{◌≡◌, ℕ, zero, suc, ◌<◌, ◌≤◌, ◌&&◌, ◌||◌, Bool, true, false, List, [], ◌∷◌, ◌++◌, length, take, refl, sym, ap, subst, ◌∙◌, arith, Option, Some, None}
-use Rattle.std.specs.Prelude.{not, slice_get}
+use Rattle.std.proofs.Common.{◌≡◌, ℕ, suc, ◌<◌, ◌&&◌, Bool, true, false, List, [], ◌∷◌, ◌++◌, length, take, refl, sym, ap, subst, ◌∙◌, arith, Option, Some}
+use Rattle.std.specs.Prelude.{slice_get}
 use Rattle.std.specs.List.{AllByRecursion}
 use Rattle.tv_base.specs.declared.numbers.ItemNo.{ItemNo}
 use Rattle.tv_base.specs.declared.numbers.SubNo.{SubNo}
@@ -13,18 +13,16 @@ use Rattle.letter_types.specs.declared.bodies.Body.{Body}
 use Rattle.letter_types.specs.declared.bodies.Body.TheVariants.{Root, Sub as SubLetter}
 use Rattle.letter_types.specs.declared.entries.Entry.{Entry}
 use Rattle.letter_types.specs.declared.entries.Letter.{Letter}
-use Rattle.item_versions.specs.Table.{Table}
 use Rattle.script_parts.specs.declared.parts.SubOp.{SubOp}
 use Rattle.script_parts.specs.declared.parts.TreeKind.{TreeKind}
 use Rattle.script_parts.specs.declared.parts.TreeKind.TheVariants.{Read}
 use Rattle.script_parts.specs.ScriptData.{ScriptData, ops_of, reads}
-use Rattle.script_parts.specs.Valid.{IsValid}
 use Rattle.world_model.specs.Asked.{asked_ops, asked_version}
 use Rattle.world_model.specs.Core.{Core}
 use Rattle.world_model.specs.Apt.{can_make}
 use Rattle.world_model.specs.Named.{is_named, is_new, is_strict_at, is_timely, tree_kind_at}
 use Rattle.world_model.specs.Reads.{can_get, gets, seen_in}
-use Rattle.world_model.specs.Runs.{IsStepRun, keeping_in, node_in}
+use Rattle.world_model.specs.Runs.{keeping_in, node_in}
 use Rattle.world_model.specs.Strict.{can_make_at, decides_near, is_core_apt, is_unheld}
 use Rattle.board_rules.specs.Histories.{Place, places_at, version_in}
 use Rattle.board_rules.specs.Right.{IsShown, with_worths}
@@ -44,7 +42,6 @@ use Rattle.rule_laws.proofs.Fronts.{front, one_lasts, placed}
 use Rattle.rule_laws.proofs.Lasts.{AsksIn, OfRoot, OfSub}
 use Rattle.rule_laws.proofs.Turns.{born_before, carried, is_there}
 use Rattle.rule_laws.proofs.YesVotes.{asked_same}
-
 use Rattle.worth_laws.proofs.Asking.{asked_low, low_read, read_born, upto_version}
 use Rattle.worth_laws.proofs.AtFront.{front_rules, made_at_front, whole_at_front}
 use Rattle.worth_laws.proofs.OwnWorth.{seen_is_made}
