@@ -6,3 +6,6 @@ pub mod RightReads
 pub mod VoteSees
 pub mod RightVotes
 pub mod Right
+pub mod MostHeld
+pub mod NewestOf
+pub mod HeldNewest

@@ -51,7 +51,7 @@ use Rattle.worth_laws.proofs.OwnWorth.{seen_is_made}
 use Rattle.worth_laws.proofs.ReadVersions.{born_below, read_below}
 
 -- What a Did of a read tree gives is what its gets give at its node.
-asked_row : (s : ScriptData) (c : Core) (t : TreeNo) (k : SubNo) (body : Body) (kind : Option TreeKind) → AsksIn body t k → tree_kind_at s t.0 ≡ kind
+pub asked_row : (s : ScriptData) (c : Core) (t : TreeNo) (k : SubNo) (body : Body) (kind : Option TreeKind) → AsksIn body t k → tree_kind_at s t.0 ≡ kind
     → lasting_acts s c body ≡ asked_acts s c t k body kind
 asked_row s c t k body kind (OfRoot is first) of =
     ap (lasting_acts s c) is
