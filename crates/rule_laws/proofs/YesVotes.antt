@@ -133,7 +133,7 @@ item_up s past p x v valid run lt i none =
     let held : IsHeld found.0 = IsHeld-item_in x items found.0 found.1 (tables_ascend s past p valid apt run lt) in
     subst (IsUpTo v.0) (sym found.1) (held_up v.0 found.0 held (none_newer x v found.0 (ap (newer_by x v) (sym found.1) ∙ none)))
 
-not_less : (a b : ℕ) → b ≤ a → nat_lt a b ≡ false
+pub not_less : (a b : ℕ) → b ≤ a → nat_lt a b ≡ false
 not_less a b le = grind (arith, nat_tests)
 
 -- So nothing newer is found in the look back.

@@ -9,3 +9,4 @@ pub mod Right
 pub mod MostHeld
 pub mod NewestOf
 pub mod HeldNewest
+pub mod VoteCauses

@@ -3,4 +3,4 @@
 
 mod reads;
 
-pub use reads::reads_and_votes_are_right;
+pub use reads::{reads_and_votes_are_right, votes_name_their_causes};
