@@ -1,6 +1,6 @@
 -- Bounds of the versions that are held of an item: operations of an update or a commit, and a collection, keep to a bound
 -- that is no less than the version which they write.
-use Rattle.std.proofs.Common.{◌≡◌, ℕ, ◌≤◌, ◌==◌, ◌&&◌, ◌||◌, Bool, true, false, List, [], ◌∷◌, refl, sym, ap, ◌∙◌, subst, arith, Option, Some, None}
+use Rattle.std.proofs.Common.{◌≡◌, ℕ, ◌≤◌, ◌==◌, ◌&&◌, Bool, true, false, List, [], ◌∷◌, refl, sym, ap, ◌∙◌, subst, arith, Option, Some, None}
 use Rattle.std.specs.Prelude.{if◌then◌else◌, max, nat_lt, fold}
 use Rattle.std.proofs.lemmas.Bool.{and_from, or_left, or_right}
 use Rattle.std.proofs.lemmas.Bool.Decides.{nat_tests}
@@ -22,6 +22,7 @@ use Rattle.world_model.specs.Updates.{table_after_deed, table_after_ops}
 use Rattle.board_rules.specs.Worth.{changes, ops_change}
 use Rattle.tree_laws.proofs.Tables.{collected_of, item_collected, replaced_other, replaced_same}
 use Rattle.value_laws.proofs.HeldItems.{collected_most}
+use Rattle.rule_laws.proofs.UpTo.{same_item}
 
 -- what is held of an item, if something is, is held in versions of at most m
 abbrev pub IsMost : ℕ → Option Held → Type 0
@@ -39,9 +40,6 @@ put_most m v w h le all =
     (le, up_to-filter m (λ x. nat_lt v.0 x.0.0) h all)
 
 -- A table in which one item is replaced.
-same_item : (n x : ItemNo) → n.0 ≡ x.0 → n ≡ x
-same_item n x is = λ i. record { 0 = is i }
-
 replaced_most : (m : ℕ) (n x : ItemNo) (g h : Held) (items : Table) (test : Bool) → (n.0 == x.0) ≡ test → item_in n items ≡ Some h
     → (n.0 ≡ x.0 → AllUpTo m h → AllUpTo m g) → IsMost m (item_in x items) → IsMost m (item_in x (replaced n g items))
 replaced_most m n x g h items true is at grows all = λ k there.

@@ -1,13 +1,12 @@
 -- The greatest version in which an item was written, as a list of acts grows; and an act of an entry that writes.
 use Rattle.std.proofs.Common.{◌≡◌, ℕ, zero, suc, ◌≤◌, ◌==◌, ◌&&◌, max, Bool, true, false, List, [], ◌∷◌, ◌++◌, refl, sym, ap, ◌∙◌, subst, arith, Option, Some, None}
 use Rattle.std.specs.Prelude.{if◌then◌else◌, fold, is_some, slice_get}
-use Rattle.tv_base.proofs.ByPlace.{slice_get-old}
+use Rattle.tv_base.proofs.ByPlace.{slice_get_left}
 use Rattle.tv_base.specs.declared.numbers.Version.{Version}
 use Rattle.letter_types.specs.declared.acts.Act.{Act}
 use Rattle.letter_types.specs.declared.acts.Act.TheVariants as acts
 use Rattle.letter_types.specs.declared.entries.Entry.{Entry}
 use Rattle.script_parts.specs.ScriptData.{ScriptData, ops_of, subs_at, updates}
-use Rattle.world_model.proofs.Scripts.{get_below}
 use Rattle.board_rules.specs.Histories.{Place, places_at, version_in}
 use Rattle.board_rules.specs.Stands.{newest_of, version_or_zero, written_by, written_in}
 use Rattle.board_rules.specs.Worth.{ops_change, subs_change}
@@ -63,7 +62,7 @@ newest_grows s xs ys p x =
     omega (
       arith,
       act_grows s xs ys x (y.node == p) y.act,
-      newest_has s (xs ++ ys) p x i y (slice_get-old xs ys i (get_below xs i y is) ∙ is),
+      newest_has s (xs ++ ys) p x i y (slice_get_left xs ys i y is),
     ))
 
 pub entry_newest : (s : ScriptData) (past : List Entry) (e : Entry) (p x : ℕ) → newest_of s (before past) p x ≤ newest_of s (before (e ∷ past)) p x

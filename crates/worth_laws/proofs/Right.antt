@@ -38,12 +38,11 @@ use Rattle.worth_laws.proofs.RightVotes.{vote_is_right}
 pub each_by_position : (P : List Place → Place → Type 0) (xs ys : List Place)
     → ((i : ℕ) (y : Place) → slice_get ys i ≡ Some y → P (xs ++ take i ys) y) → OneByOne P xs ys
 each_by_position P xs [] each = tt
-each_by_position P xs (y ∷ ys) each =
-    (
-      subst (λ (zs : List Place). P zs y) (append-nil xs) (each 0 y refl),
-      each_by_position P (xs ++ y ∷ []) ys
-          (λ i z is. subst (λ (zs : List Place). P zs z) (sym (append_assoc xs (y ∷ []) (take i ys))) (each (suc i) z is)),
-    )
+each_by_position P xs (y ∷ ys) each = (
+  subst (λ (zs : List Place). P zs y) (append-nil xs) (each 0 y refl),
+  each_by_position P (xs ++ y ∷ []) ys
+      (λ i z is. subst (λ (zs : List Place). P zs z) (sym (append_assoc xs (y ∷ []) (take i ys))) (each (suc i) z is)),
+)
 
 -- An act of an entry is right at its place.
 abbrev IsRightHere : ScriptData → List Entry → Entry → ℕ → Act → Type 0

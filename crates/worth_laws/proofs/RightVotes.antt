@@ -1,8 +1,7 @@
 -- In every run a yes gives what its gets are worth at its tree's version, in the history before its entry.
-use Rattle.std.proofs.Common.{if◌then◌else◌, ◌≡◌, ℕ, true, false, List, [], ◌∷◌, ◌++◌, take, reverse, refl, sym, ap, subst, ◌∙◌, arith, Option, Some, None}
+use Rattle.std.proofs.Common.{if◌then◌else◌, ◌≡◌, ℕ, List, [], ◌∷◌, ◌++◌, reverse, refl, sym, ap, subst, ◌∙◌, Option, Some, None}
 use Rattle.std.specs.Prelude.{slice_get}
 use Rattle.std.specs.List.{AllByRecursion}
-use Rattle.std.specs.Option.{option_or}
 use Rattle.tv_base.specs.declared.numbers.ItemNo.{ItemNo}
 use Rattle.tv_base.specs.declared.numbers.SubNo.{SubNo}
 use Rattle.tv_base.specs.declared.numbers.TreeNo.{TreeNo}
@@ -14,7 +13,7 @@ use Rattle.letter_types.specs.declared.entries.Entry.{Entry}
 use Rattle.letter_types.specs.declared.entries.Letter.{Letter}
 use Rattle.letter_types.specs.declared.votes.Cause.{Cause}
 use Rattle.letter_types.specs.declared.votes.Vote.{Vote}
-use Rattle.letter_types.specs.declared.votes.Vote.TheVariants.{Yes, No}
+use Rattle.letter_types.specs.declared.votes.Vote.TheVariants.{Yes}
 use Rattle.item_versions.specs.Table.{Table}
 use Rattle.script_parts.specs.declared.parts.Deed.{Deed}
 use Rattle.script_parts.specs.declared.parts.Deed.TheVariants.{Apply, Get, Set, Draw}
@@ -27,7 +26,7 @@ use Rattle.world_model.specs.Named.{tree_kind_at}
 use Rattle.world_model.specs.Reads.{got_by_deed, gets, seen_in, with_get}
 use Rattle.world_model.specs.Runs.{keeping_in, node_in}
 use Rattle.world_model.specs.Votes.{cause_in, voted}
-use Rattle.board_rules.specs.Histories.{Place, places_at, version_in}
+use Rattle.board_rules.specs.Histories.{places_at, version_in}
 use Rattle.board_rules.specs.Right.{IsRightVote, IsShown, gets_among, is_get, with_worths}
 use Rattle.board_rules.specs.Stands.{conflict_of}
 use Rattle.board_rules.specs.Worth.{worth}

@@ -1,5 +1,5 @@
 -- In every run a vote is a no just where the look back finds a cause, and names that cause.
-use Rattle.std.proofs.Common.{if◌then◌else◌, ◌≡◌, ◌⊎◌, inl, inr, ℕ, zero, suc, ◌<◌, ◌≤◌, ◌&&◌, max, Bool, true, false, List, [], ◌∷◌, ◌++◌, take, reverse, refl, sym, ap, subst, ◌∙◌, arith, Option, Some, None}
+use Rattle.std.proofs.Common.{if◌then◌else◌, ◌≡◌, ℕ, ◌<◌, ◌≤◌, ◌&&◌, max, Bool, true, false, List, [], ◌∷◌, ◌++◌, take, reverse, refl, sym, ap, subst, ◌∙◌, arith, Option, Some, None}
 use Rattle.std.specs.Prelude.{nat_lt, slice_get}
 use Rattle.std.specs.List.{AllByRecursion}
 use Rattle.std.specs.Option.{option_or}
@@ -33,9 +33,9 @@ use Rattle.world_model.specs.Notices.{act_of}
 use Rattle.world_model.specs.Reads.{gets, seen_in}
 use Rattle.world_model.specs.Runs.{IsStepRun, keeping_in, node_in}
 use Rattle.world_model.specs.Strict.{notice_by}
-use Rattle.world_model.specs.Votes.{cause_in, conflict_by, greatest_version, newer_at, newer_by, newer_in, short_at, short_in, voted, wanted_by}
+use Rattle.world_model.specs.Votes.{cause_in, conflict_by, greatest_version, newer_by, newer_in, short_at, short_in, voted, wanted_by}
 use Rattle.board_rules.specs.Histories.{Place, places_at, version_in}
-use Rattle.board_rules.specs.Stands.{cause_of, conflict_of, newer_of, newest_of, refusal_in, short_of, version_or_zero}
+use Rattle.board_rules.specs.Stands.{cause_of, conflict_of, newer_of, newest_of, short_of, version_or_zero}
 use Rattle.board_rules.specs.Worth.{worth}
 use Rattle.board_rules.proofs.ItemAt.{op_row}
 use Rattle.tree_laws.specs.Turns.{has_turn}

@@ -1,6 +1,6 @@
 -- What a vote finds in every run: a conflict is the one that the look back names; and where there is none, its node sees of
 -- its items what they are worth before its entry.
-use Rattle.std.proofs.Common.{◌≡◌, ℕ, ◌+◌, ◌<◌, ◌≤◌, true, false, List, [], ◌∷◌, ◌++◌, length, take, reverse, refl, sym, ap, subst, ◌∙◌, arith, Option, Some, None}
+use Rattle.std.proofs.Common.{◌≡◌, ℕ, true, false, List, length, take, reverse, refl, sym, ap, subst, ◌∙◌, arith, Some, None}
 use Rattle.std.specs.Prelude.{slice_get}
 use Rattle.std.proofs.lemmas.List.{take_all}
 use Rattle.tv_base.proofs.Truths.{same_test}
@@ -14,13 +14,11 @@ use Rattle.nc_locks.specs.Locks.{Wanted, met_in}
 use Rattle.script_parts.specs.declared.parts.SubOp.{SubOp}
 use Rattle.script_parts.specs.declared.parts.TreeKind.TheVariants.{Strict}
 use Rattle.script_parts.specs.ScriptData.{ScriptData, ops_of}
-use Rattle.script_parts.specs.Valid.{IsValid}
 use Rattle.world_model.specs.Asked.{asked_version}
 use Rattle.world_model.specs.Core.{Core}
-use Rattle.world_model.specs.Counts.{tally}
 use Rattle.world_model.specs.Named.{is_strict_at, tree_kind_at}
 use Rattle.world_model.specs.Reads.{seen_in}
-use Rattle.world_model.specs.Runs.{IsStepRun, keeping_in, node_in}
+use Rattle.world_model.specs.Runs.{keeping_in, node_in}
 use Rattle.world_model.specs.Votes.{conflict_by, wanted_by}
 use Rattle.world_model.proofs.Bags.{tally-append}
 use Rattle.board_rules.specs.Histories.{Place, places_at}
@@ -38,7 +36,6 @@ use Rattle.tree_laws.proofs.AptStagesOwn.{Doing}
 use Rattle.tree_laws.proofs.AptVersions.{before}
 use Rattle.value_laws.proofs.VoteLocks.{has_some}
 use Rattle.run_laws.proofs.EveryWhole.{strict_is}
-use Rattle.rule_laws.proofs.Fronts.{front}
 use Rattle.rule_laws.proofs.Lasts.{AsksIn}
 use Rattle.rule_laws.proofs.Rules.{follows_rules}
 use Rattle.rule_laws.proofs.Turns.{is_there, not_voted, turn_once}
