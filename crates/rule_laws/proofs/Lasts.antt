@@ -77,7 +77,7 @@ few s c Go = omega arith
 few s c _ = omega arith
 
 -- which it is
-same_act : (a b : Act) → a ∷ [] ≡ b ∷ [] → b ≡ a
+pub same_act : (a b : Act) → a ∷ [] ≡ b ∷ [] → b ≡ a
 same_act a b is = cc is
 
 asked_by : (s : ScriptData) (past : List Entry) (e : Entry) (j : ℕ) (a : Act) (p : ℕ) (r : Letter) (t : TreeNo) (k : SubNo) (kind : Option TreeKind)

@@ -91,7 +91,7 @@ collected_up m f [] all = absurd all
 collected_up m f (x ∷ xs) all = joined f m (x ∷ xs) all.0 (lows_up f m (x ∷ xs) all.0) all.1
 
 -- Tables.
-same_item : (n x : ItemNo) → n.0 ≡ x.0 → n ≡ x
+pub same_item : (n x : ItemNo) → n.0 ≡ x.0 → n ≡ x
 same_item n x is = λ i. record { 0 = is i }
 
 put_grows : (m : ℕ) (n x : ItemNo) (g h : Held) (items : Table) (test : Bool) → (n.0 == x.0) ≡ test → item_in n items ≡ Some h

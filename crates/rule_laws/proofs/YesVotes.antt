@@ -86,7 +86,7 @@ asked_same s t k body (OfRoot is first) = ap (asked_ops s) is ∙ ap (λ (j : Su
 asked_same s t k body (OfSub v is) = ap (asked_ops s) is
 
 -- The greatest version in which an item was written.
-fold_most : (f : Place → ℕ) (n m : ℕ) (xs : List Place) → n ≤ m → ((i : ℕ) (y : Place) → slice_get xs i ≡ Some y → f y ≤ m)
+pub fold_most : (f : Place → ℕ) (n m : ℕ) (xs : List Place) → n ≤ m → ((i : ℕ) (y : Place) → slice_get xs i ≡ Some y → f y ≤ m)
     → fold (λ (v : ℕ) (y : Place). max v (f y)) n xs ≤ m
 fold_most f n m [] le each = le
 fold_most f n m (y ∷ xs) le each =
@@ -100,7 +100,7 @@ brief_places s zs p x m n (a ∷ xs) zero y none is =
     subst (λ (z : Place). written_in s zs p x z ≤ m) same (brief_most s zs x m (n == p) a (first_quiet a xs none).0)
 brief_places s zs p x m n (a ∷ xs) (suc i) y none is = brief_places s zs p x m n xs i y (first_quiet a xs none).1 is
 
-newest_most : (s : ScriptData) (past : List Entry) (e : Entry) (j p m : ℕ) (x : ItemNo) → IsValid s → IsStepRun s (e ∷ past) → p < s.nodes
+pub newest_most : (s : ScriptData) (past : List Entry) (e : Entry) (j p m : ℕ) (x : ItemNo) → IsValid s → IsStepRun s (e ∷ past) → p < s.nodes
     → IsItem s p x → IsUpTo m (item_in x (node_in s past p).items) → lasting (take j e.acts) ≡ []
     → newest_of s (front past e j) p x.0 ≤ m
 newest_most s past e j p m x valid run lt item up none =
@@ -116,11 +116,11 @@ newest_most s past e j p m x valid run lt item up none =
           (subst (λ (xs : List Place). slice_get xs l.place ≡ Some y) (first_places e j) l.is)
 
 -- What a node holds of its item.
-there_held : (kind : Kind) (b : ℕ) (o : Option Held) → ItemIn kind b o → (h : Held) × (o ≡ Some h)
+pub there_held : (kind : Kind) (b : ℕ) (o : Option Held) → ItemIn kind b o → (h : Held) × (o ≡ Some h)
 there_held kind b None ok = absurd ok
 there_held kind b (Some h) ok = (h, refl)
 
-held_up : (m : ℕ) (h : Held) → IsHeld h → AllUpTo m h → IsUpTo m (Some h)
+pub held_up : (m : ℕ) (h : Held) → IsHeld h → AllUpTo m h → IsUpTo m (Some h)
 held_up m [] held all = absurd held
 held_up m (x ∷ xs) held all = all
 
@@ -133,7 +133,7 @@ item_up s past p x v valid run lt i none =
     let held : IsHeld found.0 = IsHeld-item_in x items found.0 found.1 (tables_ascend s past p valid apt run lt) in
     subst (IsUpTo v.0) (sym found.1) (held_up v.0 found.0 held (none_newer x v found.0 (ap (newer_by x v) (sym found.1) ∙ none)))
 
-not_less : (a b : ℕ) → b ≤ a → nat_lt a b ≡ false
+pub not_less : (a b : ℕ) → b ≤ a → nat_lt a b ≡ false
 not_less a b le = grind (arith, nat_tests)
 
 -- So nothing newer is found in the look back.

@@ -68,7 +68,7 @@ collected_most m f [] le all = tt
 collected_most m f (x ∷ xs) le all = (le, up_to-filter m (λ y. nat_lt f.0 y.0.0) (x ∷ xs) all)
 
 -- The greatest version.
-greatest_from : (n m : ℕ) (h : Held) → fold (λ (v : ℕ) (x : Version × Value). max v x.0.0) n h ≤ m → (n ≤ m) × AllUpTo m h
+pub greatest_from : (n m : ℕ) (h : Held) → fold (λ (v : ℕ) (x : Version × Value). max v x.0.0) n h ≤ m → (n ≤ m) × AllUpTo m h
 greatest_from n m [] le = (le, tt)
 greatest_from n m (x ∷ xs) le =
     let rest = greatest_from (max n x.0.0) m xs le in

@@ -96,7 +96,7 @@ marks_apart s c t os l strict kind hold has none =
     (ap (λ (b : Bool). met_in t (if b then marks_on (map (λ (o : SubOp). o.item) os) else []) c.locks) (sym some) ∙ none)
 
 -- a subtransaction of an update tree that isn't kept meets none
-both : (u t j k : ℕ) → one_if ((u == t) && (j == k)) ≡ 1 → (u ≡ t) × (j ≡ k)
+pub both : (u t j k : ℕ) → one_if ((u == t) && (j == k)) ≡ 1 → (u ≡ t) × (j ≡ k)
 both u t j k is = by ((u == t) && (j == k)) refl is where
   by : (test : Bool) → ((u == t) && (j == k)) ≡ test → one_if test ≡ 1 → (u ≡ t) × (j ≡ k)
   by true so one = (grind (arith, nat_tests, so), grind (arith, nat_tests, so))

@@ -121,7 +121,7 @@ later_dated xs ys v _ is = tt
 can_of : (a b c d e f g : Bool) → (a && (b && (c && d && (e && f && g)))) ≡ true → g ≡ true
 can_of a b c d e f g is = grind arith
 
-apt_can : (s : ScriptData) (p : ℕ) (c : Core) (l : Letter) → is_core_apt s p c l ≡ true → can_make_at s p c l.body ≡ true
+pub apt_can : (s : ScriptData) (p : ℕ) (c : Core) (l : Letter) → is_core_apt s p c l ≡ true → can_make_at s p c l.body ≡ true
 apt_can s p c l apt =
     can_of _ (is_named s p l.from.0 l.body) (is_new s c.node l.body) (is_unheld l.body c.holds) (is_timely s c.node l.body)
     (decides_near s c.node l.body) (can_make_at s p c l.body) apt

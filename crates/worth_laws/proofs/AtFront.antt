@@ -27,9 +27,9 @@ use Rattle.run_laws.proofs.Reached.{now_below}
 use Rattle.run_laws.proofs.Wholes.{born_with}
 use Rattle.rule_laws.proofs.Fronts.{first_places, front, placed}
 use Rattle.rule_laws.proofs.InEntries.{in_second}
+use Rattle.rule_laws.proofs.Late.{no_reader, writer_there}
 use Rattle.rule_laws.proofs.QuietLocks.{first_quiet}
 use Rattle.rule_laws.proofs.Rules.{follows_rules}
-use Rattle.worth_laws.proofs.OwnWorth.{writer_there}
 use Rattle.worth_laws.proofs.ReadVersions.{whole_to}
 
 -- They are the first of the acts with the entry, and those before the entry are the first of them.
@@ -84,7 +84,8 @@ pub whole_at_front : (s : ScriptData) (past : List Entry) (e : Entry) (j v : ℕ
     → AllWholeTo (is_writer s) s (front past e j) v
 whole_at_front s past e j v valid run early = λ t w writes born le.
     let there = writer_there s t writes in
+    let unread = no_reader s t (slice_get s.trees t) refl writes in
     let all : born_with (e ∷ past) t ≡ Some w =
     version_more t (length (before past) + j) w (before (e ∷ past)) (ap (version_in t) (front_is past e j) ∙ born) in
-    let old : born_with past t ≡ Some w = none_came false s past (e ∷ []) t w valid run (ap not there.1) (omega (arith, early, le)) all in
-    whole_more s (before past) (take j (places_at e)) t (whole_to s past v valid run.1 early t w there.0 there.1 old le)
+    let old : born_with past t ≡ Some w = none_came false s past (e ∷ []) t w valid run (ap not unread) (omega (arith, early, le)) all in
+    whole_more s (before past) (take j (places_at e)) t (whole_to s past v valid run.1 early t w there unread old le)

@@ -6,6 +6,10 @@ pub mod RightReads
 pub mod VoteSees
 pub mod RightVotes
 pub mod Right
+pub mod MostHeld
+pub mod NewestOf
+pub mod HeldNewest
+pub mod VoteCauses
 pub mod WorthStays
 pub mod ReadPlaces
 pub mod WritersFirst

@@ -1,18 +1,14 @@
 -- What a node sees of its item is what the item is worth, where all that changed the item is closed; and it is closed up to
 -- a version where each writer of the versions up to it is whole.
-use Rattle.std.proofs.Common.{◌≡◌, ℕ, ◌<◌, ◌≤◌, ◌||◌, true, false, List, length, reverse, refl, sym, ap, ◌∙◌, Option, Some, None}
+use Rattle.std.proofs.Common.{◌≡◌, ℕ, ◌<◌, ◌≤◌, List, reverse, refl, ap, ◌∙◌, Some}
 use Rattle.std.specs.Prelude.{slice_get}
 use Rattle.commute_ops.specs.declared.value.Value.{Value}
 use Rattle.letter_types.specs.declared.entries.Entry.{Entry}
 use Rattle.script_parts.specs.declared.parts.ItemRow.{ItemRow}
-use Rattle.script_parts.specs.declared.parts.Tree.{Tree}
-use Rattle.script_parts.specs.declared.parts.TreeKind.{TreeKind}
-use Rattle.script_parts.specs.declared.parts.TreeKind.TheVariants.{Update, Read, Strict}
-use Rattle.script_parts.specs.ScriptData.{ScriptData, is_read, is_strict, is_update, reads, updates}
+use Rattle.script_parts.specs.ScriptData.{ScriptData}
 use Rattle.script_parts.specs.Valid.{IsValid}
 use Rattle.world_model.specs.Runs.{IsStepRun, node_in}
-use Rattle.world_model.proofs.Scripts.{get_below}
-use Rattle.board_rules.specs.Histories.{is_strict_tree, places_of}
+use Rattle.board_rules.specs.Histories.{places_of}
 use Rattle.board_rules.specs.Moves.{AllWholeTo}
 use Rattle.board_rules.specs.Rules.{is_writer}
 use Rattle.board_rules.specs.Worth.{worth}
@@ -26,6 +22,7 @@ use Rattle.value_laws.proofs.OtherValues.{values_are_made}
 use Rattle.value_laws.proofs.SeenByActs.{sees_by_acts}
 use Rattle.run_laws.specs.Shown.{WritersAreWhole}
 use Rattle.run_laws.proofs.EveryApt.{all_apt}
+use Rattle.rule_laws.proofs.Late.{no_reader, writer_there}
 use Rattle.rule_laws.proofs.Rules.{follows_rules}
 
 -- what a node sees of its item, from its low version up, is what its acts have made of it
@@ -44,23 +41,10 @@ own_is_worth s past p x v r valid run lt at node low closed =
     ∙ ap (λ (w : Value). Some w)
     (made_is_worth s (before past) p x v valid (follows_rules s past valid run) (item_at s p x r valid at node) closed)
 
--- A writer is a tree that doesn't read.
-kind_writes : (kind : TreeKind) → (is_update kind || is_strict kind) ≡ true → is_read kind ≡ false
-kind_writes Update writes = refl
-kind_writes Read writes = absurd (cc writes)
-kind_writes Strict writes = refl
-
-pub writer_there : (s : ScriptData) (t : ℕ) → is_writer s t ≡ true → (t < length s.trees) × (reads s t ≡ false)
-writer_there s t writes = by (slice_get s.trees t) refl where
-  by : (found : Option Tree) → slice_get s.trees t ≡ found → (t < length s.trees) × (reads s t ≡ false)
-  by None at = absurd (let none : is_writer s t ≡ false = rw (at, updates, is_strict_tree) refl in cc (none, writes))
-  by (Some tree) at =
-      let kind : (is_update tree.kind || is_strict tree.kind) ≡ true = sym (rw (at, updates, is_strict_tree) refl) ∙ writes in
-      (get_below s.trees t tree at, rw (at, reads) (kind_writes tree.kind kind))
-
+-- a writer is a tree that doesn't read
 pub writers_are_whole : (s : ScriptData) (h : List Entry) (v : ℕ) → WritersAreWhole s h v → AllWholeTo (is_writer s) s (places_of h) v
 writers_are_whole s h v whole = λ t w writes born le.
-    let there = writer_there s t writes in whole t w there.0 there.1 born le
+    whole t w (writer_there s t writes) (no_reader s t (slice_get s.trees t) refl writes) born le
 
 -- where each writer of version at most v is whole, the item is closed
 pub shown_is_closed : (s : ScriptData) (past : List Entry) (p x v : ℕ) (r : ItemRow) → IsValid s → slice_get s.items x ≡ Some r → r.node.0 ≡ p

@@ -1,5 +1,5 @@
 -- In every run a subtransaction of a read tree gives what its items are worth at the tree's version, up to its Did.
-use Rattle.std.proofs.Common.{◌≡◌, ℕ, suc, ◌<◌, ◌&&◌, Bool, true, false, List, [], ◌∷◌, ◌++◌, length, take, refl, sym, ap, subst, ◌∙◌, arith, Option, Some}
+use Rattle.std.proofs.Common.{◌≡◌, ℕ, suc, ◌<◌, true, false, List, [], ◌∷◌, ◌++◌, length, take, refl, sym, ap, subst, ◌∙◌, arith, Option, Some}
 use Rattle.std.specs.Prelude.{slice_get}
 use Rattle.std.specs.List.{AllByRecursion}
 use Rattle.tv_base.specs.declared.numbers.ItemNo.{ItemNo}
@@ -20,10 +20,10 @@ use Rattle.script_parts.specs.ScriptData.{ScriptData, ops_of, reads}
 use Rattle.world_model.specs.Asked.{asked_ops, asked_version}
 use Rattle.world_model.specs.Core.{Core}
 use Rattle.world_model.specs.Apt.{can_make}
-use Rattle.world_model.specs.Named.{is_named, is_new, is_strict_at, is_timely, tree_kind_at}
+use Rattle.world_model.specs.Named.{is_strict_at, tree_kind_at}
 use Rattle.world_model.specs.Reads.{can_get, gets, seen_in}
 use Rattle.world_model.specs.Runs.{keeping_in, node_in}
-use Rattle.world_model.specs.Strict.{can_make_at, decides_near, is_core_apt, is_unheld}
+use Rattle.world_model.specs.Strict.{can_make_at}
 use Rattle.board_rules.specs.Histories.{Place, places_at, version_in}
 use Rattle.board_rules.specs.Right.{IsShown, with_worths}
 use Rattle.board_rules.specs.Worth.{worth_in}
@@ -37,9 +37,10 @@ use Rattle.tree_laws.proofs.AptVersions.{before}
 use Rattle.tree_laws.proofs.Seen.{gets_valued}
 use Rattle.tree_laws.specs.Carried.{CarriesVersion}
 use Rattle.value_laws.proofs.RowActs.{asked_acts, is_lasting, lasting, lasting_acts, row_lasts}
+use Rattle.value_laws.proofs.SeenByActs.{apt_can}
 use Rattle.run_laws.proofs.Reached.{now_below}
 use Rattle.rule_laws.proofs.Fronts.{front, one_lasts, placed}
-use Rattle.rule_laws.proofs.Lasts.{AsksIn, OfRoot, OfSub}
+use Rattle.rule_laws.proofs.Lasts.{AsksIn, OfRoot, OfSub, same_act}
 use Rattle.rule_laws.proofs.Turns.{born_before, carried, is_there}
 use Rattle.rule_laws.proofs.YesVotes.{asked_same}
 use Rattle.worth_laws.proofs.Asking.{asked_low, low_read, read_born, upto_version}
@@ -48,7 +49,7 @@ use Rattle.worth_laws.proofs.OwnWorth.{seen_is_made}
 use Rattle.worth_laws.proofs.ReadVersions.{born_below, read_below}
 
 -- What a Did of a read tree gives is what its gets give at its node.
-asked_row : (s : ScriptData) (c : Core) (t : TreeNo) (k : SubNo) (body : Body) (kind : Option TreeKind) → AsksIn body t k → tree_kind_at s t.0 ≡ kind
+pub asked_row : (s : ScriptData) (c : Core) (t : TreeNo) (k : SubNo) (body : Body) (kind : Option TreeKind) → AsksIn body t k → tree_kind_at s t.0 ≡ kind
     → lasting_acts s c body ≡ asked_acts s c t k body kind
 asked_row s c t k body kind (OfRoot is first) of =
     ap (lasting_acts s c) is
@@ -60,9 +61,6 @@ asked_row s c t k body kind (OfSub v is) of =
     ∙ ap (λ (o : Option TreeKind). asked_acts s c t k (SubLetter t k v) o) of
     ∙ ap (λ (b : Body). asked_acts s c t k b kind) (sym is)
 
-only_act : (a b : Act) → a ∷ [] ≡ b ∷ [] → a ≡ b
-only_act a b is = cc is
-
 read_given : (s : ScriptData) (past : List Entry) (e : Entry) (j p : ℕ) (a : Act) (r : Letter) (t : TreeNo) (k : SubNo) → Doing s past e p r
     → AsksIn r.body t k → tree_kind_at s t.0 ≡ Some Read → slice_get e.acts j ≡ Some a → is_lasting a ≡ true
     → a ≡ acts.Did t k (gets (asked_version (node_in s past p).turns.read r.body) (asked_ops s r.body) (node_in s past p).items)
@@ -71,17 +69,9 @@ read_given s past e j p a r t k g asks of at so =
     let row : lasting e.acts ≡ asked_acts s c t k r.body (Some Read) =
     ap lasting g.does.acts ∙ row_lasts s p r.from.0 r.body c ∙ asked_row s c t k r.body (Some Read) asks of in
     let one = one_lasts e.acts j a at so (omega (arith, ap length row)) in
-    only_act a _ (sym one.0 ∙ row)
+    same_act _ a (sym row ∙ one.0)
 
 -- It can get them.
-last_of : (a b c d e f g : Bool) → (a && (b && (c && d && (e && f && g)))) ≡ true → g ≡ true
-last_of a b c d e f g is = grind arith
-
-apt_makes : (s : ScriptData) (p : ℕ) (c : Core) (l : Letter) → is_core_apt s p c l ≡ true → can_make_at s p c l.body ≡ true
-apt_makes s p c l apt =
-    last_of _ (is_named s p l.from.0 l.body) (is_new s c.node l.body) (is_unheld l.body c.holds) (is_timely s c.node l.body)
-    (decides_near s c.node l.body) (can_make_at s p c l.body) apt
-
 can_read : (s : ScriptData) (p : ℕ) (c : Core) (t : TreeNo) (k : SubNo) (body : Body) → AsksIn body t k → tree_kind_at s t.0 ≡ Some Read
     → can_make_at s p c body ≡ true → can_get (asked_version c.node.turns.read body) (asked_ops s body) c.node.items ≡ true
 can_read s p c t k body (OfRoot is first) of can =
@@ -148,7 +138,7 @@ read_is_right s past e j p r t k values g asks of at none =
     let ops : asked_ops s r.body ≡ os = asked_same s t k r.body asks in
     let can : can_get v os c.node.items ≡ true =
     ap (λ (xs : List SubOp). can_get v xs c.node.items) (sym ops)
-    ∙ can_read s p c t k r.body asks of (apt_makes s p c r g.does.brings.apt) in
+    ∙ can_read s p c t k r.body asks of (apt_can s p c r g.does.brings.apt) in
     let right : values ≡ with_worths (λ (x : ℕ). worth_in s upto x v.0) os =
     same ∙ ap (λ (xs : List SubOp). gets v xs c.node.items) ops
     ∙ gets_valued (λ (x : ℕ). worth_in s upto x v.0) v os c.node.items can
