@@ -8,6 +8,7 @@ pub mod Emptied
 pub mod Few
 pub mod Fitting
 pub mod Folded
+pub mod Highest
 pub mod Keeping
 pub mod Keeps
 pub mod Kept
@@ -29,5 +30,6 @@ pub mod Staying
 pub mod Stays
 pub mod Swept
 pub mod Undone
+pub mod Voters
 pub mod WideRuns
 pub mod Written
