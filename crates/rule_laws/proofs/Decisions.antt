@@ -156,7 +156,7 @@ vote_marks t k (acts.Voted u j vote) = refl
 vote_marks t k acts.Finished = refl
 vote_marks t k _ = refl
 
-was_voted_of : (t k : ℕ) (xs : List Place) → 1 ≤ tally (of_act (is_vote_of t k)) xs → was_voted t k xs ≡ true
+pub was_voted_of : (t k : ℕ) (xs : List Place) → 1 ≤ tally (of_act (is_vote_of t k)) xs → was_voted t k xs ≡ true
 was_voted_of t k xs some =
     counted_any (of_act (is_vote_of t k)) (λ (x : Place). votes t k x.act) xs (λ x. vote_marks t k x.act) some
 

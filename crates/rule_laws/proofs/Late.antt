@@ -102,7 +102,7 @@ born_here s past e t j y v valid run lt is born =
     )))
 
 -- Writers.
-no_reader : (s : ScriptData) (t : ℕ) (found : Option Tree) → slice_get s.trees t ≡ found → is_writer s t ≡ true → reads s t ≡ false
+pub no_reader : (s : ScriptData) (t : ℕ) (found : Option Tree) → slice_get s.trees t ≡ found → is_writer s t ≡ true → reads s t ≡ false
 no_reader s t None is writes = rw (is, reads) refl
 no_reader s t (Some tree) is writes = rw (is, reads) (by tree.kind (rw (is, updates, is_strict_tree) at writes)) where
   by : (kind : TreeKind) → (is_update kind || is_strict kind) ≡ true → is_read kind ≡ false
@@ -110,13 +110,13 @@ no_reader s t (Some tree) is writes = rw (is, reads) (by tree.kind (rw (is, upda
   by Read so = absurd (cc so)
   by Strict so = refl
 
-writer_there : (s : ScriptData) (t : ℕ) → is_writer s t ≡ true → t < length s.trees
+pub writer_there : (s : ScriptData) (t : ℕ) → is_writer s t ≡ true → t < length s.trees
 writer_there s t writes = by (or_cases (updates s t) (is_strict_tree s t) writes) where
   by : (updates s t ≡ true) ⊎ (is_strict_tree s t ≡ true) → t < length s.trees
   by (inl up) = updates_there s t up
   by (inr strict) = strict_there s t strict
 
-strict_writes : (s : ScriptData) (t : ℕ) → is_strict_tree s t ≡ true → is_writer s t ≡ true
+pub strict_writes : (s : ScriptData) (t : ℕ) → is_strict_tree s t ≡ true → is_writer s t ≡ true
 strict_writes s t strict = by (updates s t) where
   by : (b : Bool) → (b || is_strict_tree s t) ≡ true
   by true = refl

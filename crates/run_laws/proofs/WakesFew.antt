@@ -323,16 +323,16 @@ read_never s t k none other c u j (ForHolder h) (up, m, meets, same) tree sub =
 read_never s t k none other c u j Called kept tree sub = kept
 
 -- a strict tree's root is kept as often as it waits
-root_waits : (s : ScriptData) (t : ℕ) (c : Core) (u : TreeNo) (j : SubNo) (w : Why) → is_strict_at s t ≡ true → IsKeptFor s c u j w
+kept_as_waits : (s : ScriptData) (t : ℕ) (c : Core) (u : TreeNo) (j : SubNo) (w : Why) → is_strict_at s t ≡ true → IsKeptFor s c u j w
     → uncalled_as t 0 u.0 j.0 w ≤ shown_as t u.0 w
-root_waits s t c u j ForShow strict kept = by (u.0 == t) (j.0 == 0) where
+kept_as_waits s t c u j ForShow strict kept = by (u.0 == t) (j.0 == 0) where
   by : (a b : Bool) → one_if (a && b) ≤ one_if a
   by true true = omega arith
   by true false = omega arith
   by false b = omega arith
-root_waits s t c u j (ForHolder h) strict (up, m, meets, same) =
+kept_as_waits s t c u j (ForHolder h) strict (up, m, meets, same) =
     omega (arith, no_match u.0 t j.0 0 (λ tree sub. not_both s t (tree_kind_at s t) refl (update_at s u.0 t tree up) strict))
-root_waits s t c u j Called strict kept = absurd kept
+kept_as_waits s t c u j Called strict kept = absurd kept
 
 pub root_keepings : (s : ScriptData) (past : List Entry) (t : ℕ) → IsValid s → IsStepRun s past → is_strict_at s t ≡ true
     → keepings past t 0 ≤ waitings past t
@@ -346,7 +346,7 @@ root_keepings s (e ∷ past) t valid run strict =
             arith,
             keeps_one s past e q r o t 0 d,
             keeps_waits s past e q r o t d,
-            root_waits s t (keeping_in s past q).core o.tree o.sub o.why strict (reason_of s past e q r o d),
+            kept_as_waits s t (keeping_in s past q).core o.tree o.sub o.why strict (reason_of s past e q r o d),
           )
       by (Coordinates at says) = omega (arith, coordinator_none (keeps_of t 0) s past e says)
       by (Submits at says) = omega (arith, client_none (keeps_of t 0) s past e (keeps_only t 0) says)

@@ -1,0 +1,3 @@
+pub mod NodeNumbers
+pub mod Openings
+pub mod Births

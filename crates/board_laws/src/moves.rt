@@ -1,0 +1,1 @@
+// The acts of a run as moves of the Board.
