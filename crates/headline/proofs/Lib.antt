@@ -1,3 +1,4 @@
+pub mod Answered
 pub mod AtEnd
 pub mod Before
 pub mod BoardRuns
@@ -6,6 +7,7 @@ pub mod Deeds
 pub mod Early
 pub mod Emptied
 pub mod Few
+pub mod Finishing
 pub mod Fitting
 pub mod Folded
 pub mod Highest

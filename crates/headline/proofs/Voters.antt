@@ -280,7 +280,8 @@ commits_below s past e p r t v valid run d is =
     let made : 1 ≤ decided_as past t.0 true =
     omega (arith, waits, applied_where_decided s past t.0 p true valid apt run.1 there d.brings.below visited) in
     let here = sub_here (subs_at s t.0) p visited in
-    let node : node_of s t.0 here.number ≡ p = (let own : node_of s t.0 here.number ≡ here.sub.node.0 = rw (here.at, sub_at, node_of) refl in own) ∙ here.node in
+    let own : node_of s t.0 here.number ≡ here.sub.node.0 = rw (here.at, sub_at, node_of) refl in
+    let node : node_of s t.0 here.number ≡ p = own ∙ here.node in
     let turned : 1 ≤ turns past t.0 here.number =
     all_turned s past t.0 here.number (get_below (subs_at s t.0) here.number here.sub here.at) (omega (arith, made))
     (once_in_run s past t.0 valid apt run.1 there) (stages_of_trees s past valid apt run.1 t.0 there) in
