@@ -1,5 +1,5 @@
 -- In every run of every valid script a tree that the client knows to be answered was answered before, and is whole.
-use Rattle.std.proofs.Common.{◌≡◌, ◌≢◌, ◌⊎◌, inl, inr, ℕ, zero, suc, ◌+◌, ◌<◌, ◌≤◌, ◌==◌, ◌||◌, Bool, true, false, List, [], ◌∷◌, length, get_or, replicate, set, reverse, refl, sym, ap, subst, ◌∙◌, arith, Option, Some, None}
+use Rattle.std.proofs.Common.{◌≡◌, ◌≢◌, ◌⊎◌, inl, inr, ℕ, zero, suc, ◌+◌, ◌<◌, ◌≤◌, ◌==◌, Bool, true, false, List, [], ◌∷◌, length, get_or, replicate, set, reverse, refl, sym, ap, subst, ◌∙◌, arith, Option, Some, None}
 use Rattle.std.specs.Prelude.{if◌then◌else◌, is_some, slice_get}
 use Rattle.std.specs.Option.{option_or}
 use Rattle.std.proofs.lemmas.Bool.{and_from, cases_eq}
@@ -13,7 +13,7 @@ use Rattle.letter_types.specs.declared.entries.Letter.{Letter}
 use Rattle.tx_trees.specs.ScriptData.{ScriptData, client_of, home_of, node_of, sub_at, subs_at}
 use Rattle.tx_trees.specs.Valid.{IsValid}
 use Rattle.tx_trees.specs.declared.parts.Sub.{Sub}
-use Rattle.board_rules.specs.Histories.{IsWhole, Place, all_applied, all_done, born_as, is_complete, is_strict_tree, places_of, version_in, version_of, was_applied}
+use Rattle.board_rules.specs.Histories.{IsWhole, Place, all_applied, all_done, born_as, is_complete, places_of, version_in, version_of, was_applied}
 use Rattle.world_model.specs.Client.{Client}
 use Rattle.world_model.specs.Counts.{one_if, tally}
 use Rattle.world_model.specs.Named.{is_strict_at}
@@ -22,9 +22,8 @@ use Rattle.world_model.proofs.Bags.{tally-drop}
 use Rattle.world_model.proofs.Flows.{client_kept, flow}
 use Rattle.world_model.proofs.Scripts.{SubAt, get_below, sub_here, sub_there}
 use Rattle.phase_laws.proofs.Progress.{Begins, Coordinates, Ends, Hears, Obeys, Progress, Works, progress}
-use Rattle.tree_laws.specs.Dids.{answers, births, is_born, replies, replies_to}
+use Rattle.tree_laws.specs.Dids.{answers, is_born, replies, replies_to}
 use Rattle.tree_laws.specs.Stages.{AllTurned, StageAt, Answered, Gathers, Holds, Unborn}
-use Rattle.tree_laws.specs.Turns.{turns}
 use Rattle.tree_laws.proofs.Acts.{of_act}
 use Rattle.tree_laws.proofs.AptDecided.{applied_when_answered}
 use Rattle.tree_laws.proofs.AptMakes.{node_in_script, node_visited}

@@ -1,5 +1,5 @@
 -- In every run of every valid script the client finishes once, when all is over, and nobody else does.
-use Rattle.std.proofs.Common.{◌≡◌, ◌≢◌, ℕ, ◌+◌, ◌<◌, ◌≤◌, Bool, true, false, List, [], ◌∷◌, ◌++◌, refl, sym, ap, subst, ◌∙◌, arith, Option, Some, None}
+use Rattle.std.proofs.Common.{◌≡◌, ◌≢◌, ℕ, Bool, true, false, List, [], ◌∷◌, refl, sym, ap, subst, ◌∙◌, arith, Option, Some, None}
 use Rattle.std.specs.Prelude.{if◌then◌else◌, nat_lt}
 use Rattle.tv_base.specs.declared.numbers.SubNo.{SubNo}
 use Rattle.tv_base.specs.declared.numbers.TreeNo.{TreeNo}
@@ -138,12 +138,12 @@ submits_on : (s : ScriptData) (past : List Entry) (e : Entry) (c : Client) (firs
     → IsFinishing s (e ∷ past)
 submits_on s past e c first old same over made = record {
   once = omega (
-      arith,
-      old.once,
-      ap (λ (xs : List Act). tally is_finish xs) made.acts,
-      ap one_if same,
-      ap (λ (x : Client). one_if x.finished) made.state,
-      finishes_once s c first,
+    arith,
+    old.once,
+    ap (λ (xs : List Act). tally is_finish xs) made.acts,
+    ap one_if same,
+    ap (λ (x : Client). one_if x.finished) made.state,
+    finishes_once s c first,
   );
   over = subst (λ (x : Client). x.finished ≡ true → IsOver s x) (sym made.state) (over_then s c first over);
 }
@@ -155,10 +155,10 @@ goes_on s past e valid run old ne =
     let kept = client_kept s past e ne in
     record {
       once = omega (
-          arith,
-          old.once,
-          ap (λ (x : Client). one_if x.finished) kept,
-          none_finishes s past e ne (case s past e run.0 (all_apt s (e ∷ past) valid run).0),
+        arith,
+        old.once,
+        ap (λ (x : Client). one_if x.finished) kept,
+        none_finishes s past e ne (case s past e run.0 (all_apt s (e ∷ past) valid run).0),
       );
       over = subst (λ (x : Client). x.finished ≡ true → IsOver s x) (sym kept) old.over;
     }

@@ -1,6 +1,6 @@
 -- In every run of every valid script a node holds nothing of its items above the version that it updates.
-use Rattle.std.proofs.Common.{◌≡◌, ◌≢◌, ◌⊎◌, inl, inr, ℕ, ◌+◌, ◌<◌, ◌≤◌, ◌==◌, ◌&&◌, Bool, true, false, List, [], ◌∷◌, ltb, refl, sym, ap, subst, ◌∙◌, arith, Option, Some, None}
-use Rattle.std.specs.Prelude.{if◌then◌else◌, nat_le}
+use Rattle.std.proofs.Common.{◌≡◌, ◌≢◌, ◌⊎◌, inl, inr, ℕ, ◌+◌, ◌<◌, ◌≤◌, ◌==◌, Bool, true, false, List, [], ◌∷◌, ltb, refl, sym, ap, subst, ◌∙◌, arith, Option, Some, None}
+use Rattle.std.specs.Prelude.{if◌then◌else◌}
 use Rattle.std.proofs.lemmas.Bool.{cases_eq}
 use Rattle.std.proofs.lemmas.Bool.Decides.{nat_tests}
 use Rattle.tv_base.specs.declared.numbers.ItemNo.{ItemNo}
@@ -16,7 +16,6 @@ use Rattle.item_versions.proofs.Window.{AllUpTo, up_to-append, up_to-applied, up
 use Rattle.letter_types.specs.declared.bodies.Body.{Body}
 use Rattle.letter_types.specs.declared.bodies.Body.TheVariants.{Decide, Sweep}
 use Rattle.letter_types.specs.declared.entries.Entry.{Entry}
-use Rattle.letter_types.specs.declared.entries.Letter.{Letter}
 use Rattle.node_versions.specs.declared.turns.Turns.{Turns}
 use Rattle.tx_trees.specs.ScriptData.{ScriptData, ops_of, subs_at}
 use Rattle.tx_trees.specs.Valid.{IsValid}
@@ -33,7 +32,7 @@ use Rattle.world_model.specs.Named.{is_timely}
 use Rattle.world_model.specs.Node.{Node, items_at}
 use Rattle.world_model.specs.Reads.{seen_in}
 use Rattle.world_model.specs.Runs.{IsStepRun, keeping_in, node_in}
-use Rattle.world_model.specs.Strict.{core_keeping, core_row}
+use Rattle.world_model.specs.Strict.{core_row}
 use Rattle.world_model.specs.Updates.{table_after_deed, table_after_ops}
 use Rattle.world_model.proofs.Cases.{Case, Coordinates, NodeDoes, NodeKeeps, Submits, case}
 use Rattle.world_model.proofs.Every.{node_kept}

@@ -1,6 +1,6 @@
 -- In every run of every valid script a node at which a subtransaction of a strict tree has had its turn updates at least
 -- the version of the tree. So it does where a commit of the tree comes.
-use Rattle.std.proofs.Common.{◌≡◌, ◌≢◌, ◌⊎◌, inl, inr, ℕ, zero, suc, ◌+◌, ◌<◌, ◌≤◌, ◌==◌, ◌&&◌, ◌||◌, Bool, true, false, List, [], ◌∷◌, ◌++◌, length, refl, sym, ap, subst, ◌∙◌, arith, Option, Some, None}
+use Rattle.std.proofs.Common.{◌≡◌, ◌≢◌, ◌⊎◌, inl, inr, ℕ, zero, suc, ◌<◌, ◌≤◌, ◌==◌, ◌&&◌, ◌||◌, Bool, true, false, List, [], ◌∷◌, ◌++◌, length, refl, sym, ap, subst, ◌∙◌, arith, Option, Some}
 use Rattle.std.specs.Prelude.{is_some, nat_lt, slice_get}
 use Rattle.std.proofs.lemmas.Bool.{cases_eq}
 use Rattle.std.proofs.lemmas.Bool.Decides.{nat_tests}
@@ -26,14 +26,13 @@ use Rattle.world_model.specs.Asked.{asked_version}
 use Rattle.world_model.specs.Core.{Core}
 use Rattle.world_model.specs.Counts.{one_if, tally}
 use Rattle.world_model.specs.Done.{raised_if}
-use Rattle.world_model.specs.Named.{is_named, is_strict_at, is_timely, tree_kind_at}
+use Rattle.world_model.specs.Named.{is_named, is_strict_at, tree_kind_at}
 use Rattle.world_model.specs.Node.{Node}
 use Rattle.world_model.specs.Runs.{IsStepRun, client_in, coordinator_in, keeping_in, node_in}
 use Rattle.world_model.specs.Strict.{core_by_kind, core_row}
 use Rattle.world_model.proofs.Cases.{Case, Coordinates, Does, NodeDoes, NodeKeeps, Submits, case}
 use Rattle.world_model.proofs.Every.{node_kept}
 use Rattle.world_model.proofs.Orders.{no_acts}
-use Rattle.world_model.proofs.Outstanding.{IsOutstanding}
 use Rattle.world_model.proofs.Scripts.{get_below}
 use Rattle.phase_laws.proofs.Brought.{brought_outstanding, each_of_brought}
 use Rattle.phase_laws.proofs.Progress.{brings_to}
@@ -262,6 +261,9 @@ all_turned s past t k lt some o (Gathers h g) = absurd (omega (arith, some, o.op
 all_turned s past t k lt some o (Holds h g) = omega (arith, g.all.turned k lt)
 all_turned s past t k lt some o (Answered g) = omega (arith, g.all.turned k lt)
 
+same_version : (found : Option Version) (v w : Version) → found ≡ Some v → found ≡ Some w → v.0 ≡ w.0
+same_version found v w is its = let same : Some v ≡ Some w = sym is ∙ its in cc same
+
 -- a commit is of a version that its node updates, or of an earlier one
 pub commits_below : (s : ScriptData) (past : List Entry) (e : Entry) (p : ℕ) (r : Letter) (t : TreeNo) (v : Version) → IsValid s
     → IsStepRun s (e ∷ past) → Does s past e p r → r.body ≡ Decide t v true → v.0 ≤ (node_in s past p).turns.update.0
@@ -289,6 +291,5 @@ commits_below s past e p r t v valid run d is =
     let carries : CarriesVersion (before past) (Decide t v true) =
     subst (CarriesVersion (before past)) is
     (each_of_brought (λ (l : Letter). CarriesVersion (before past) l.body) s past e p r b run.0 (letters_carry_versions s past valid apt run.1)) in
-    let same : Some raised.version ≡ Some v = sym raised.born ∙ carries in
-    let number : raised.version.0 ≡ v.0 = cc same in
+    let number : raised.version.0 ≡ v.0 = same_version (version_in t.0 (before past)) raised.version v raised.born carries in
     omega (arith, number, raised.most, ap (λ (q : ℕ). (node_in s past q).turns.update.0) node)
