@@ -5,7 +5,8 @@ use Rattle.std.proofs.lemmas.Bool.{cases_lt}
 use Rattle.std.proofs.lemmas.List.{length-reverse, take_all}
 use Rattle.commute_ops.specs.declared.kinds.Kind.{Kind}
 use Rattle.tv_base.specs.declared.numbers.ItemNo.{ItemNo}
-use Rattle.item_versions.specs.Item.{Held}
+use Rattle.item_versions.specs.Item.{Held, IsHeld}
+use Rattle.item_versions.specs.Window.{first_version}
 use Rattle.item_versions.specs.Table.{item_in}
 use Rattle.item_versions.proofs.Holding.{IsHeld-item_in}
 use Rattle.item_versions.proofs.Tables.{each-item}
@@ -26,8 +27,13 @@ use Rattle.tree_laws.proofs.AptBounds.{effect_bound, tables_keep}
 use Rattle.tree_laws.proofs.AptWindows.{tables_ascend, tables_in_window}
 use Rattle.tree_laws.proofs.Tables.{ItemIn}
 use Rattle.headline.specs.Held.{HasHeldThree, HoldsThree, held_after, items_of, turns_of}
-use Rattle.headline.proofs.Kept.{IsKept}
 use Rattle.headline.proofs.Highest.{highest_run}
+
+-- The versions held ascend, the first is low, and none is above up
+pub record IsKept (low up : ℕ) (h : Held) : Type 0 where
+  pub order : IsHeld h
+  pub least : (0 < length h) × (first_version h ≡ low)
+  pub most : AllUpTo up h
 
 -- strictly ascending numbers from low to at most two above it are at most three
 three : (turns : Turns) (h : Held) → turns.update.0 ≤ turns.low.0 + 2 → IsKept turns.low.0 turns.update.0 h → HoldsThree h turns

@@ -36,9 +36,9 @@ use Rattle.run_laws.proofs.Closed.{update_there}
 use Rattle.headline.proofs.OwnWorth.{own_is_worth}
 use Rattle.headline.specs.Held.{HoldsBalances}
 use Rattle.headline.proofs.AtEnd.{written_at_end}
-use Rattle.headline.proofs.Few.{held_at, item_node}
+use Rattle.headline.proofs.Few.{IsKept, held_at, item_node}
 use Rattle.headline.proofs.Keeping.{keeps_run}
-use Rattle.headline.proofs.Kept.{IsKept, holds_of}
+use Rattle.headline.proofs.Kept.{holds_of}
 
 -- What is held of an item from version a to at most the next one.
 
