@@ -30,9 +30,9 @@ use Rattle.world_model.specs.Runs.{MayFollow, IsStepRun, client_in, node_in}
 use Rattle.world_model.specs.Timely.{AllTimely, WasTimely}
 use Rattle.world_model.proofs.Every.{node_kept}
 use Rattle.world_model.proofs.Nexts.{Made, RootWork, RootUpdates, RootReads, SubWork, SubUpdates, SubReads, Next, Begins, Hears, Ends, Coordinates, DoesRoot, DoesSub, Notes, Obeys, Order, Turns as TurnsBy, Shows, Sweeps, TellsDone, TellsAsked, DoesBody}
-use Rattle.world_model.proofs.Scripts.{IsSound, SubAt, plain_script, reads_alone}
+use Rattle.world_model.proofs.Scripts.{IsSound, SubAt, reads_alone}
 use Rattle.world_model.specs.Notices.{values_of}
-use Rattle.world_model.proofs.Worked.{root_did, sub_did, took_body}
+use Rattle.world_model.proofs.Worked.{root_did, sub_did}
 use Rattle.world_model.specs.Kept.{done_by}
 use Rattle.tree_laws.proofs.Good.{IsGood}
 use Rattle.tree_laws.proofs.Goods.{good_run, next_of}

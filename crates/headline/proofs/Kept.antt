@@ -1,19 +1,14 @@
 -- Which versions of an item are held after the operations of a subtransaction and after a collection: those above the low
 -- one are those in which an update touched the item.
-use Rattle.std.proofs.Common.{◌≡◌, ℕ, ◌<◌, ◌≤◌, ◌==◌, ◌&&◌, ◌||◌, Bool, true, false, List, [], ◌∷◌, length, ltb, refl, sym, ap, ◌∙◌, arith, Option, Some, None}
+use Rattle.std.proofs.Common.{◌≡◌, ◌<◌, ◌==◌, ◌&&◌, ◌||◌, Bool, true, false, List, [], ◌∷◌, refl, sym, ap, ◌∙◌, arith, Option, Some, None}
 use Rattle.std.proofs.lemmas.Bool.{and_parts}
 use Rattle.std.proofs.lemmas.Bool.Decides.{nat_tests}
 use Rattle.tv_base.specs.declared.numbers.ItemNo.{ItemNo}
 use Rattle.tv_base.specs.declared.numbers.Version.{Version}
-use Rattle.commute_ops.specs.Ops.{applied}
 use Rattle.commute_ops.specs.declared.kinds.Op.{Op}
-use Rattle.item_versions.specs.Item.{Held, IsHeld, above, applied_to_all, below, collected, holds, may_touch, seen_after, touched}
+use Rattle.item_versions.specs.Item.{Held, collected, holds, may_touch, touched}
 use Rattle.item_versions.specs.Table.{Table, item_in, may_touch_in, replaced, updated}
-use Rattle.item_versions.specs.Window.{first_version}
 use Rattle.item_versions.proofs.History.{holds-above, holds-touched}
-use Rattle.item_versions.proofs.Order.{IsHeld-collected, IsHeld-touched}
-use Rattle.item_versions.proofs.Tables.{Each, each-item, each-replaced}
-use Rattle.item_versions.proofs.Window.{AllUpTo, first-joined, up_to-append, up_to-applied, up_to-filter, up_to-more}
 use Rattle.tx_trees.specs.declared.parts.Deed.{Deed}
 use Rattle.tx_trees.specs.declared.parts.Deed.TheVariants.{Apply, Get, Set, Draw}
 use Rattle.tx_trees.specs.declared.parts.SubOp.{SubOp}
