@@ -3,29 +3,37 @@ use Rattle.std.proofs.Common.{◌≡◌, inl, inr, ℕ, ◌+◌, ◌-◌, ◌<�
 use Rattle.std.specs.Prelude.{slice_get}
 use Rattle.std.proofs.lemmas.Bool.{cases_lt}
 use Rattle.std.proofs.lemmas.List.{length-reverse, take_all}
-use Rattle.commute_ops.specs.declared.value.Value.{Value}
-use Rattle.tv_base.specs.declared.numbers.Version.{Version}
-use Rattle.item_versions.specs.Item.{Held, seen}
+use Rattle.commute_ops.specs.declared.kinds.Kind.{Kind}
+use Rattle.tv_base.specs.declared.numbers.ItemNo.{ItemNo}
+use Rattle.item_versions.specs.Item.{Held, IsHeld}
+use Rattle.item_versions.specs.Window.{first_version}
 use Rattle.item_versions.specs.Table.{item_in}
+use Rattle.item_versions.proofs.Holding.{IsHeld-item_in}
 use Rattle.item_versions.proofs.Tables.{each-item}
-use Rattle.item_versions.proofs.Window.{few-above}
+use Rattle.item_versions.proofs.Window.{AllUpTo, IsWindowed-item_in, few-above}
 use Rattle.letter_types.specs.declared.entries.Entry.{Entry}
 use Rattle.node_versions.specs.declared.turns.Turns.{Turns}
 use Rattle.tx_trees.specs.ScriptData.{ScriptData}
-use Rattle.tx_trees.specs.Valid.{IsItem}
+use Rattle.tx_trees.specs.Valid.{IsItem, IsValid}
 use Rattle.tx_trees.specs.declared.parts.ItemRow.{ItemRow}
 use Rattle.tx_trees.proofs.SubsOf.{all_at}
 use Rattle.world_model.specs.Runs.{IsStepRun, actor_after, node_in}
 use Rattle.world_model.specs.Tables.{ActorData}
 use Rattle.world_model.proofs.Back.{node_leads}
-use Rattle.world_model.proofs.Scripts.{IsSound}
-use Rattle.run_laws.proofs.InTime.{all_apt, in_time, lawful}
+use Rattle.run_laws.proofs.EveryApt.{all_apt, lawful}
 use Rattle.phase_laws.proofs.Levels.{versions_in_phase}
 use Rattle.tree_laws.proofs.Histories.{first_of, run_before}
-use Rattle.tree_laws.proofs.OwnDeeds.{sees_own}
+use Rattle.tree_laws.proofs.AptBounds.{effect_bound, tables_keep}
+use Rattle.tree_laws.proofs.AptWindows.{tables_ascend, tables_in_window}
+use Rattle.tree_laws.proofs.Tables.{ItemIn}
 use Rattle.headline.specs.Held.{HasHeldThree, HoldsThree, held_after, items_of, turns_of}
-use Rattle.headline.proofs.Kept.{IsKept}
-use Rattle.headline.proofs.Keeping.{keeps_run}
+use Rattle.headline.proofs.Highest.{highest_run}
+
+-- The versions held ascend, the first is low, and none is above up
+pub record IsKept (low up : ℕ) (h : Held) : Type 0 where
+  pub order : IsHeld h
+  pub least : (0 < length h) × (first_version h ≡ low)
+  pub most : AllUpTo up h
 
 -- strictly ascending numbers from low to at most two above it are at most three
 three : (turns : Turns) (h : Held) → turns.update.0 ≤ turns.low.0 + 2 → IsKept turns.low.0 turns.update.0 h → HoldsThree h turns
@@ -38,15 +46,14 @@ three turns (x ∷ xs) near kept = record {
   update = near;
 }
 
--- what is seen is held
-found_by : (v : Version) (w : Value) (found : Option Held) → (elim found [ None ↦ None | Some h ↦ seen v h ]) ≡ Some w
-    → (h : Held) × (found ≡ Some h)
-found_by v w None is = absurd (cc is)
-found_by v w (Some h) is = (h, refl)
+-- an item that keeps to its bound is there
+found_by : (kind : Kind) (b : ℕ) (found : Option Held) → ItemIn kind b found → (h : Held) × (found ≡ Some h)
+found_by kind b None is = absurd is
+found_by kind b (Some h) is = (h, refl)
 
 -- each item is at a node of the script
-pub item_node : (s : ScriptData) (x : ℕ) (r : ItemRow) → IsSound s → slice_get s.items x ≡ Some r → r.node.0 < s.nodes
-item_node s x r sound at = (all_at (IsItem s.nodes) s.items x r sound.valid.items at).node
+pub item_node : (s : ScriptData) (x : ℕ) (r : ItemRow) → IsValid s → slice_get s.items x ≡ Some r → r.node.0 < s.nodes
+item_node s x r valid at = (all_at (IsItem s.nodes) s.items x r valid.items at).node
 
 -- what the node of an item holds of it
 pub record HeldAt (s : ScriptData) (past : List Entry) (x : ℕ) (r : ItemRow) : Type 0 where
@@ -55,32 +62,35 @@ pub record HeldAt (s : ScriptData) (past : List Entry) (x : ℕ) (r : ItemRow) :
   pub kept : IsKept (node_in s past r.node.0).turns.low.0 (node_in s past r.node.0).turns.update.0 held
   pub after : held_after s (reverse past) r.node.0 x ≡ held
 
-pub held_at : (s : ScriptData) (past : List Entry) (x : ℕ) (r : ItemRow) → IsSound s → IsStepRun s past → slice_get s.items x ≡ Some r
+pub held_at : (s : ScriptData) (past : List Entry) (x : ℕ) (r : ItemRow) → IsValid s → IsStepRun s past → slice_get s.items x ≡ Some r
     → HeldAt s past x r
-held_at s past x r sound run at =
+held_at s past x r valid run at =
     let p = r.node.0 in
-    let lt = item_node s x r sound at in
+    let n : ItemNo = record { 0 = x } in
+    let lt = item_node s x r valid at in
     let st = node_in s past p in
-    let timely = in_time s past sound run in
-    let low = st.turns.low.0 in
-    let sees = sees_own s past sound run timely p x low r lt at refl (omega arith) in
-    let found = found_by (record { 0 = low }) _ (item_in (record { 0 = x }) st.items) sees in
+    let apt = all_apt s past valid run in
+    let found = found_by r.kind (effect_bound s past x) (item_in n st.items) (tables_keep s past valid apt run p lt x r at refl) in
     record {
       held = found.0;
       is = found.1;
-      kept = each-item (IsKept low st.turns.update.0) (record { 0 = x }) st.items found.0 found.1 (keeps_run s past sound run timely p lt).kept;
-      after = ap (λ (d : ActorData). elim (item_in (record { 0 = x }) (items_of d)) [ Some held ↦ held | None ↦ [] ]) (node_leads s past p lt)
+      kept = record {
+        order = IsHeld-item_in n st.items found.0 found.1 (tables_ascend s past p valid apt run lt);
+        least = (IsWindowed-item_in st.turns.low.0 n st.items found.0 found.1 (tables_in_window s past p valid apt run lt)).least;
+        most = each-item (AllUpTo st.turns.update.0) n st.items found.0 found.1 (highest_run s past p valid run lt);
+      };
+      after = ap (λ (d : ActorData). elim (item_in n (items_of d)) [ Some held ↦ held | None ↦ [] ]) (node_leads s past p lt)
           ∙ ap (λ (o : Option Held). elim o [ Some held ↦ held | None ↦ [] ]) found.1;
     }
 
 -- in every run
-three_at : (s : ScriptData) (past : List Entry) (x : ℕ) (r : ItemRow) → IsSound s → IsStepRun s past → slice_get s.items x ≡ Some r
+three_at : (s : ScriptData) (past : List Entry) (x : ℕ) (r : ItemRow) → IsValid s → IsStepRun s past → slice_get s.items x ≡ Some r
     → HoldsThree (held_after s (reverse past) r.node.0 x) (turns_of (actor_after s (reverse past) r.node.0))
-three_at s past x r sound run at =
+three_at s past x r valid run at =
     let p = r.node.0 in
-    let lt = item_node s x r sound at in
-    let held = held_at s past x r sound run at in
-    let near = (versions_in_phase s past (lawful s sound) run (all_apt s past sound run) p lt).update_near in
+    let lt = item_node s x r valid at in
+    let held = held_at s past x r valid run at in
+    let near = (versions_in_phase s past (lawful s valid) run (all_apt s past valid run) p lt).update_near in
     rw (held.after, node_leads s past p lt) (three (node_in s past p).turns held.held near held.kept)
 
 -- a part of a history is the history of a shorter past
@@ -91,7 +101,7 @@ front past n =
       | inr less ↦ (length past - n, first_of past n less)
     ]
 
-pub held_three : (s : ScriptData) (past : List Entry) → IsSound s → IsStepRun s past → HasHeldThree s (reverse past)
-held_three s past sound run = λ n x r at.
+pub held_three : (s : ScriptData) (past : List Entry) → IsValid s → IsStepRun s past → HasHeldThree s (reverse past)
+held_three s past valid run = λ n x r at.
     let (k, is) = front past n in
-    rw is (three_at s (drop k past) x r sound (run_before s past k run) at)
+    rw is (three_at s (drop k past) x r valid (run_before s past k run) at)

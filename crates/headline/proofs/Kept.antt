@@ -1,19 +1,14 @@
--- The versions of an item after the operations of a subtransaction and after a collection: they ascend from the low
--- version to at most one that is given, and those above the low one are those in which an update touched the item.
-use Rattle.std.proofs.Common.{◌≡◌, ℕ, ◌<◌, ◌≤◌, ◌==◌, ◌&&◌, ◌||◌, Bool, true, false, List, [], ◌∷◌, length, ltb, refl, sym, ap, ◌∙◌, arith, Option, Some, None}
+-- Which versions of an item are held after the operations of a subtransaction and after a collection: those above the low
+-- one are those in which an update touched the item.
+use Rattle.std.proofs.Common.{◌≡◌, ◌<◌, ◌==◌, ◌&&◌, ◌||◌, Bool, true, false, List, [], ◌∷◌, refl, sym, ap, ◌∙◌, arith, Option, Some, None}
 use Rattle.std.proofs.lemmas.Bool.{and_parts}
 use Rattle.std.proofs.lemmas.Bool.Decides.{nat_tests}
 use Rattle.tv_base.specs.declared.numbers.ItemNo.{ItemNo}
 use Rattle.tv_base.specs.declared.numbers.Version.{Version}
-use Rattle.commute_ops.specs.Ops.{applied}
 use Rattle.commute_ops.specs.declared.kinds.Op.{Op}
-use Rattle.item_versions.specs.Item.{Held, IsHeld, above, applied_to_all, below, collected, holds, may_touch, seen_after, touched}
+use Rattle.item_versions.specs.Item.{Held, collected, holds, may_touch, touched}
 use Rattle.item_versions.specs.Table.{Table, item_in, may_touch_in, replaced, updated}
-use Rattle.item_versions.specs.Window.{first_version}
 use Rattle.item_versions.proofs.History.{holds-above, holds-touched}
-use Rattle.item_versions.proofs.Order.{IsHeld-collected, IsHeld-touched}
-use Rattle.item_versions.proofs.Tables.{Each, each-item, each-replaced}
-use Rattle.item_versions.proofs.Window.{AllUpTo, first-joined, up_to-append, up_to-applied, up_to-filter, up_to-more}
 use Rattle.tx_trees.specs.declared.parts.Deed.{Deed}
 use Rattle.tx_trees.specs.declared.parts.Deed.TheVariants.{Apply, Get, Set, Draw}
 use Rattle.tx_trees.specs.declared.parts.SubOp.{SubOp}
@@ -23,37 +18,7 @@ use Rattle.board_rules.specs.Worth.{changes, ops_change}
 use Rattle.tree_laws.proofs.Tables.{replaced_other, replaced_same}
 use Rattle.tree_laws.proofs.Seen.{same_item}
 
--- the versions held ascend, the first is low, and none is above up
-pub record IsKept (low up : ℕ) (h : Held) : Type 0 where
-  pub order : IsHeld h
-  pub least : (0 < length h) × (first_version h ≡ low)
-  pub most : AllUpTo up h
-
 -- One item.
-pub kept_more : (low m n : ℕ) (h : Held) → m ≤ n → IsKept low m h → IsKept low n h
-kept_more low m n h le kept = record { order = kept.order; least = kept.least; most = up_to-more m n h le kept.most }
-
-kept_touched : (low most : ℕ) (v : Version) (op : Op) (h : Held) → low ≤ v.0 → v.0 ≤ most → IsKept low most h
-    → IsKept low most (touched v op h)
-kept_touched low most v op [] from to kept = kept
-kept_touched low most v op (x ∷ xs) from to kept =
-    let rest = applied_to_all op (above v (x ∷ xs)) in
-    record {
-      order = IsHeld-touched v op (x ∷ xs) kept.order;
-      least = first-joined low v (applied (seen_after x.1 v xs) op) x xs rest kept.order kept.least.1 from;
-      most = up_to-append most (below v (x ∷ xs)) ((v, applied (seen_after x.1 v xs) op) ∷ rest)
-          (up_to-filter most (λ y. ltb y.0.0 v.0) (x ∷ xs) kept.most)
-          (to, up_to-applied most op (above v (x ∷ xs)) (up_to-filter most (λ y. ltb v.0 y.0.0) (x ∷ xs) kept.most));
-    }
-
-kept_collected : (low most : ℕ) (f : Version) (h : Held) → f.0 ≤ most → IsKept low most h → IsKept f.0 most (collected f h)
-kept_collected low most f [] to kept = absurd kept.order
-kept_collected low most f (x ∷ xs) to kept = record {
-  order = IsHeld-collected f (x ∷ xs) kept.order;
-  least = (omega arith, refl);
-  most = (to, up_to-filter most (λ y. ltb f.0 y.0.0) (x ∷ xs) kept.most);
-}
-
 -- an update holds its version, and the others as before
 touched_holds : (w v : Version) (op : Op) (h : Held) → may_touch v op h ≡ true
     → holds w (touched v op h) ≡ (v.0 == w.0 || holds w h)
@@ -119,37 +84,7 @@ ops_hold w v x (o ∷ os) items can =
     ∙ ap (λ (b : Bool). (v.0 == w.0 && ops_change x.0 os) || b) (made_holds w v o.item x o.deed items parts.0)
     ∙ join (v.0 == w.0) (ops_change x.0 os) (o.item.0 == x.0) (changes o.deed) (holds_in w x items)
 
-kept_updated : (low most : ℕ) (v : Version) (n : ItemNo) (op : Op) (items : Table) (found : Option Held) → low ≤ v.0 → v.0 ≤ most
-    → Each (IsKept low most) items → item_in n items ≡ found → Each (IsKept low most) (updated v op found n items)
-kept_updated low most v n op items None from to all here = all
-kept_updated low most v n op items (Some h) from to all here =
-    each-replaced (IsKept low most) n (touched v op h) items
-    (kept_touched low most v op h from to (each-item (IsKept low most) n items h here all)) all
-
-kept_deed : (low most : ℕ) (v : Version) (n : ItemNo) (deed : Deed) (items : Table) → low ≤ v.0 → v.0 ≤ most
-    → Each (IsKept low most) items → Each (IsKept low most) (table_after_deed v n deed items)
-kept_deed low most v n (Apply op) items from to all = kept_updated low most v n op items (item_in n items) from to all refl
-kept_deed low most v n Get items from to all = all
-kept_deed low most v n (Set a) items from to all = all
-kept_deed low most v n (Draw a) items from to all = all
-
--- operations in a version from low to most keep each item there
-pub kept_ops : (low most : ℕ) (v : Version) (os : List SubOp) (items : Table) → low ≤ v.0 → v.0 ≤ most
-    → Each (IsKept low most) items → Each (IsKept low most) (table_after_ops v os items)
-kept_ops low most v [] items from to all = all
-kept_ops low most v (o ∷ os) items from to all =
-    kept_ops low most v os (table_after_deed v o.item o.deed items) from to (kept_deed low most v o.item o.deed items from to all)
-
-pub kept_table : (low m n : ℕ) (items : Table) → m ≤ n → Each (IsKept low m) items → Each (IsKept low n) items
-kept_table low m n [] le all = tt
-kept_table low m n (e ∷ es) le all = (kept_more low m n e.1 le all.0, kept_table low m n es le all.1)
-
 -- a collection
-pub collected_kept : (low most : ℕ) (f : Version) (items : Table) → f.0 ≤ most → Each (IsKept low most) items
-    → Each (IsKept f.0 most) (collected_all f items)
-collected_kept low most f [] to all = tt
-collected_kept low most f (e ∷ es) to all = (kept_collected low most f e.1 to all.0, collected_kept low most f es to all.1)
-
 collect_by : (w f : Version) (x : ItemNo) (e : ItemNo × Held) (es : Table) → f.0 < w.0
     → holds_in w x (collected_all f es) ≡ holds_in w x es
     → (test : Bool) → (e.0.0 == x.0) ≡ test → holds_in w x (collected_all f (e ∷ es)) ≡ holds_in w x (e ∷ es)

@@ -1,3 +1,4 @@
+pub mod Answered
 pub mod AtEnd
 pub mod Before
 pub mod BoardRuns
@@ -6,8 +7,10 @@ pub mod Deeds
 pub mod Early
 pub mod Emptied
 pub mod Few
+pub mod Finishing
 pub mod Fitting
 pub mod Folded
+pub mod Highest
 pub mod Keeping
 pub mod Keeps
 pub mod Kept
@@ -29,5 +32,6 @@ pub mod Staying
 pub mod Stays
 pub mod Swept
 pub mod Undone
+pub mod Voters
 pub mod WideRuns
 pub mod Written

@@ -7,22 +7,20 @@ use Rattle.tv_base.specs.declared.numbers.TreeNo.{TreeNo}
 use Rattle.letter_types.specs.declared.entries.Entry.{Entry}
 use Rattle.tx_trees.specs.Counts.{advances_in}
 use Rattle.tx_trees.specs.ScriptData.{ScriptData}
+use Rattle.tx_trees.specs.Valid.{IsValid, NamesInOrder}
+use Rattle.tx_trees.proofs.SubsOf.{names_end}
 use Rattle.tx_trees.specs.declared.parts.ScriptRow.{ScriptRow}
 use Rattle.tx_trees.specs.declared.parts.ScriptRow.TheVariants.{Tree as TreeRow, Advance as AdvanceRow, Settle as SettleRow, Lose as LoseRow}
 use Rattle.board_rules.specs.Gates.{IsOpen, awaited, before_settle, is_settle_row}
-use Rattle.board_rules.specs.Histories.{IsWhole, places_of}
+use Rattle.board_rules.specs.Histories.{places_of}
 use Rattle.world_model.specs.Client.{all_answered}
-use Rattle.world_model.specs.Counts.{Each, one_if}
+use Rattle.world_model.specs.Counts.{Each}
 use Rattle.world_model.specs.Runs.{IsStepRun, client_in}
-use Rattle.world_model.specs.Timely.{AllTimely}
-use Rattle.world_model.proofs.Fits.{RowFits, each_take, rows_fit}
-use Rattle.world_model.proofs.Scripts.{IsSound}
-use Rattle.tree_laws.proofs.Finishes.{stage_done}
-use Rattle.tree_laws.proofs.Goods.{good_run}
-use Rattle.run_laws.proofs.InTime.{all_apt, lawful}
-use Rattle.tree_laws.proofs.Whole.{whole_done}
+use Rattle.world_model.proofs.Fits.{each_take}
+use Rattle.run_laws.proofs.EveryApt.{all_apt, lawful}
 use Rattle.phase_laws.proofs.Levels.{versions_in_phase}
 use Rattle.phase_laws.proofs.Small.{advances_kept}
+use Rattle.headline.proofs.Answered.{answered_whole, answered_yet}
 use Rattle.headline.proofs.Passes.{passed_run}
 use Rattle.headline.proofs.Swept.{swept_run}
 
@@ -41,14 +39,29 @@ each_at P [] j x all here = absurd (cc here)
 each_at P (y ∷ xs) zero x all here = let same : y ≡ x = cc here in subst P same all.0
 each_at P (y ∷ xs) (suc j) x all here = each_at P xs j x all.1 here
 
--- a tree for which a row waits is one of the script
-tree_there : (s : ScriptData) (i j t : ℕ) → IsSound s → slice_get (awaited s i) j ≡ Some (TreeRow (record { 0 = t })) → t < length s.trees
-tree_there s i j t sound here =
-    each_at (RowFits s) (awaited s i) j (TreeRow (record { 0 = t }))
-    (each_before (RowFits s) (take i s.rows) (each_take (RowFits s) i s.rows (rows_fit s sound))) here
+-- A tree that a row names is one of the script.
+abbrev NamesTree : ScriptData → ScriptRow → Type 0
+NamesTree s (TreeRow t) = t.0 < length s.trees
+NamesTree s AdvanceRow = Unit {0}
+NamesTree s SettleRow = Unit {0}
+NamesTree s LoseRow = Unit {0}
+
+names_trees : (s : ScriptData) (i : ℕ) (rows : List ScriptRow) → NamesInOrder i (length s.trees) rows → Each (NamesTree s) rows
+names_trees s i [] names = tt
+names_trees s i (TreeRow t ∷ rows) names =
+    (omega (arith, names.0, names_end (i + 1) (length s.trees) rows names.1), names_trees s (i + 1) rows names.1)
+names_trees s i (AdvanceRow ∷ rows) names = (tt, names_trees s i rows names)
+names_trees s i (SettleRow ∷ rows) names = (tt, names_trees s i rows names)
+names_trees s i (LoseRow ∷ rows) names = (tt, names_trees s i rows names)
+
+-- so is one for which a row waits
+tree_there : (s : ScriptData) (i j t : ℕ) → IsValid s → slice_get (awaited s i) j ≡ Some (TreeRow (record { 0 = t })) → t < length s.trees
+tree_there s i j t valid here =
+    each_at (NamesTree s) (awaited s i) j (TreeRow (record { 0 = t }))
+    (each_before (NamesTree s) (take i s.rows) (each_take (NamesTree s) i s.rows (names_trees s 0 s.rows valid.rows))) here
 
 -- Where all trees of these rows are answered, each is.
-answered_at : (answered : List Bool) (j t : ℕ) (rows : List ScriptRow) → all_answered answered rows ≡ true
+pub answered_at : (answered : List Bool) (j t : ℕ) (rows : List ScriptRow) → all_answered answered rows ≡ true
     → slice_get rows j ≡ Some (TreeRow (record { 0 = t })) → get_or answered t false ≡ true
 answered_at answered j t [] all here = absurd (cc here)
 answered_at answered zero t (TreeRow u ∷ rows) all here =
@@ -65,30 +78,25 @@ answered_at answered (suc j) t (AdvanceRow ∷ rows) all here = answered_at answ
 answered_at answered (suc j) t (SettleRow ∷ rows) all here = answered_at answered j t rows all here
 answered_at answered (suc j) t (LoseRow ∷ rows) all here = answered_at answered j t rows all here
 
--- a tree that the client knows to be answered is whole
-answered_whole : (s : ScriptData) (past : List Entry) (t : ℕ) → IsSound s → IsStepRun s past → AllTimely s past → t < length s.trees
-    → get_or (client_in s past).answered t false ≡ true → IsWhole s (reverse past) t
-answered_whole s past t sound run timely lt is =
-    let good = good_run s past sound run timely in
-    let heard : one_if (get_or (client_in s past).answered t false) ≡ 1 = ap one_if is in
-    whole_done s past t sound run timely lt (stage_done s past t (omega (arith, good.heard t lt, heard)) (good.stages t lt))
-
 -- in every run
-pub open_run : (s : ScriptData) (past : List Entry) (i : ℕ) → IsSound s → IsStepRun s past → AllTimely s past → i ≤ (client_in s past).next
+pub open_run : (s : ScriptData) (past : List Entry) (i : ℕ) → IsValid s → IsStepRun s past → i ≤ (client_in s past).next
     → IsOpen s (places_of (reverse past)) i
-open_run s past i sound run timely le =
+open_run s past i valid run le =
     let c = client_in s past in
     let rows = awaited s i in
-    let parts = and_parts (all_answered c.answered rows) (nat_le (advances_in rows) c.ended) (passed_run s past sound run timely i le) in
+    let laws = lawful s valid in
+    let apt = all_apt s past valid run in
+    let parts = and_parts (all_answered c.answered rows) (nat_le (advances_in rows) c.ended) ((passed_run s past valid run).passed i le) in
     let ended = leb-true (advances_in rows) c.ended parts.1 in
     record {
       trees = λ j t here.
-          answered_whole s past t sound run timely (tree_there s i j t sound here) (answered_at c.answered j t rows parts.0 here);
-      advances = λ a p lt pl. swept_run s past p sound run timely pl (a + 1) (omega arith) (omega (
+          answered_whole s past t valid run (tree_there s i j t valid here)
+          (answered_yet s past t valid run (answered_at c.answered j t rows parts.0 here));
+      advances = λ a p lt pl. swept_run s past p valid run pl (a + 1) (omega arith) (omega (
         arith,
         lt,
         ended,
-        (advances_kept s past (lawful s sound) run (all_apt s past sound run)).ended,
-        (versions_in_phase s past (lawful s sound) run (all_apt s past sound run) p pl).low_from,
+        (advances_kept s past laws run apt).ended,
+        (versions_in_phase s past laws run apt p pl).low_from,
       ));
     }

@@ -1,6 +1,6 @@
 -- The client passes a settle row only when all before it has ended. So for each row that it has submitted, and for the
 -- one that it is at, all for which the row waits has ended at the client.
-use Rattle.std.proofs.Common.{◌≡◌, ℕ, zero, suc, ◌+◌, ◌-◌, ◌≤◌, Bool, true, false, List, [], ◌∷◌, ◌++◌, take, drop, refl, sym, ap, subst, ◌∙◌, arith, append_assoc, append-nil, set, inl, inr}
+use Rattle.std.proofs.Common.{◌≡◌, ◌≢◌, ℕ, zero, suc, ◌+◌, ◌-◌, ◌≤◌, Bool, true, false, List, [], ◌∷◌, ◌++◌, take, drop, refl, sym, ap, subst, ◌∙◌, arith, append_assoc, append-nil, set, inl, inr}
 use Rattle.std.specs.Prelude.{if◌then◌else◌, ◌^◌, min, nat_le}
 use Rattle.std.specs.List.{list_any}
 use Rattle.std.proofs.Math.Seq.{take-add}
@@ -8,18 +8,18 @@ use Rattle.std.proofs.lemmas.Bool.{and_from, and_parts, cases_lt}
 use Rattle.letter_types.specs.declared.entries.Entry.{Entry}
 use Rattle.letter_types.specs.declared.entries.Outgoing.{Outgoing}
 use Rattle.tx_trees.specs.Counts.{advances_in}
-use Rattle.tx_trees.specs.ScriptData.{ScriptData}
+use Rattle.tx_trees.specs.ScriptData.{ScriptData, client_of}
+use Rattle.tx_trees.specs.Valid.{IsValid}
 use Rattle.tx_trees.specs.declared.parts.ScriptRow.{ScriptRow}
 use Rattle.tx_trees.specs.declared.parts.ScriptRow.TheVariants.{Tree as TreeRow, Advance as AdvanceRow, Settle as SettleRow, Lose as LoseRow}
 use Rattle.board_rules.specs.Gates.{awaited, before_settle, is_settle_row}
 use Rattle.world_model.specs.Client.{Client, all_answered, have_ended, nudge, submit, submitted, with_answer, with_end}
 use Rattle.world_model.specs.Runs.{IsStepRun, client_in}
-use Rattle.world_model.specs.Timely.{AllTimely}
 use Rattle.world_model.proofs.Flows.{client_kept}
-use Rattle.world_model.proofs.Nexts.{Next, Begins, Hears, Ends, Coordinates, DoesRoot, DoesSub, Notes, Obeys, MadeByClient}
-use Rattle.world_model.proofs.Scripts.{IsSound}
-use Rattle.tree_laws.proofs.Client.{answers_grow, at_rest, end_grows}
-use Rattle.tree_laws.proofs.Goods.{next_of}
+use Rattle.world_model.proofs.Nexts.{MadeByClient}
+use Rattle.phase_laws.proofs.Progress.{Begins, Coordinates, Ends, Hears, Obeys, Progress, Works, progress}
+use Rattle.tree_laws.proofs.Client.{answers_grow, end_grows}
+use Rattle.run_laws.proofs.EveryApt.{all_apt, lawful}
 
 -- The rows before the last settle row, with one row more after.
 settle_there : (xs : List ScriptRow) → list_any is_settle_row (xs ++ SettleRow ∷ []) ≡ true
@@ -103,49 +103,54 @@ submit_passed s c first passed i le =
     ]
 
 -- What has ended has ended with one more answer, and with one more end.
-answer_passed : (s : ScriptData) (c : Client) (t : ℕ) → Passed s c → Passed s (with_answer t c)
-answer_passed s c t passed i le =
-    let rows = awaited s i in
-    let parts = and_parts (all_answered c.answered rows) (nat_le (advances_in rows) c.ended) (passed i le) in
+pub answer_ended : (c : Client) (t : ℕ) (rows : List ScriptRow) → have_ended c rows ≡ true → have_ended (with_answer t c) rows ≡ true
+answer_ended c t rows is =
+    let parts = and_parts (all_answered c.answered rows) (nat_le (advances_in rows) c.ended) is in
     and_from (all_answered (set c.answered t true) rows) (nat_le (advances_in rows) c.ended) (answers_grow c.answered t rows parts.0) parts.1
 
-end_passed : (s : ScriptData) (c : Client) → c.ended ≤ 2 ^ 64 - 1 → Passed s c → Passed s (with_end c)
-end_passed s c small passed i le =
-    let rows = awaited s i in
-    let parts = and_parts (all_answered c.answered rows) (nat_le (advances_in rows) c.ended) (passed i le) in
+pub end_ended : (c : Client) (rows : List ScriptRow) → c.ended ≤ 2 ^ 64 - 1 → have_ended c rows ≡ true → have_ended (with_end c) rows ≡ true
+end_ended c rows small is =
+    let parts = and_parts (all_answered c.answered rows) (nat_le (advances_in rows) c.ended) is in
     and_from (all_answered c.answered rows) (nat_le (advances_in rows) (min (c.ended + 1) (2 ^ 64 - 1))) parts.0
     (end_grows (advances_in rows) c.ended small parts.1)
 
--- In a run.
-by_client : (s : ScriptData) (past : List Entry) (e : Entry) (c : Client) (first : List Outgoing) → Passed s c
-    → MadeByClient s past e (submit s c first) → Passed s (client_in s (e ∷ past))
-by_client s past e c first passed made = subst (λ (x : Client). Passed s x) (sym made.state) (submit_passed s c first passed)
+-- In a run. The number of ends that the client has heard of is one that it can keep.
+pub record IsPassing (s : ScriptData) (c : Client) : Type 0 where
+  pub small : c.ended ≤ 2 ^ 64 - 1
+  pub passed : Passed s c
 
-others : (s : ScriptData) (past : List Entry) (e : Entry) → client_in s (e ∷ past) ≡ client_in s past → Passed s (client_in s past)
-    → Passed s (client_in s (e ∷ past))
-others s past e same passed = subst (λ (x : Client). Passed s x) (sym same) passed
+by_client : (s : ScriptData) (past : List Entry) (e : Entry) (c : Client) (first : List Outgoing) → IsPassing s c
+    → MadeByClient s past e (submit s c first) → IsPassing s (client_in s (e ∷ past))
+by_client s past e c first passing made =
+    subst (λ (x : Client). IsPassing s x) (sym made.state)
+    (record { small = passing.small; passed = submit_passed s c first passing.passed })
 
-passed_next : (s : ScriptData) (past : List Entry) (e : Entry) → (client_in s past).ended ≤ 2 ^ 64 - 1 → Passed s (client_in s past)
-    → Next s past e → Passed s (client_in s (e ∷ past))
-passed_next s past e small passed (Begins is at made) = by_client s past e (client_in s past) [] passed made
-passed_next s past e small passed (Hears t v answer is at lt made) =
-    by_client s past e (with_answer t.0 (client_in s past)) (nudge s ∷ []) (answer_passed s (client_in s past) t.0 passed) made
-passed_next s past e small passed (Ends v is at made) =
-    by_client s past e (with_end (client_in s past)) [] (end_passed s (client_in s past) small passed) made
-passed_next s past e small passed (Coordinates tells at made) = others s past e (client_kept s past e (omega (arith, at))) passed
-passed_next s past e small passed (DoesRoot t v effect is c at lt new work made) =
-    others s past e (client_kept s past e (omega (arith, at, lt))) passed
-passed_next s past e small passed (DoesSub t k v raises effect is c later from at lt work made) =
-    others s past e (client_kept s past e (omega (arith, at, lt))) passed
-passed_next s past e small passed (Notes t k v values is c later from at lt misses made) =
-    others s past e (client_kept s past e (omega (arith, at, lt))) passed
-passed_next s past e small passed (Obeys p out at lt order made) = others s past e (client_kept s past e (omega (arith, at, lt))) passed
+others : (s : ScriptData) (past : List Entry) (e : Entry) → e.actor.0 ≢ client_of s → IsPassing s (client_in s past)
+    → IsPassing s (client_in s (e ∷ past))
+others s past e ne passing = subst (λ (x : Client). IsPassing s x) (sym (client_kept s past e ne)) passing
+
+end_small : (c : Client) → (with_end c).ended ≤ 2 ^ 64 - 1
+end_small c = omega arith
+
+passed_next : (s : ScriptData) (past : List Entry) (e : Entry) → IsPassing s (client_in s past) → Progress s past e
+    → IsPassing s (client_in s (e ∷ past))
+passed_next s past e passing (Begins is at made) = by_client s past e (client_in s past) [] passing made
+passed_next s past e passing (Hears t v answer is at lt made) =
+    let c = client_in s past in
+    by_client s past e (with_answer t.0 c) (nudge s ∷ [])
+    (record { small = passing.small; passed = λ i le. answer_ended c t.0 (awaited s i) (passing.passed i le) }) made
+passed_next s past e passing (Ends v is at made) =
+    let c = client_in s past in
+    by_client s past e (with_end c) []
+    (record { small = end_small c; passed = λ i le. end_ended c (awaited s i) passing.small (passing.passed i le) }) made
+passed_next s past e passing (Coordinates tells at made) = others s past e (omega (arith, at)) passing
+passed_next s past e passing (Works p r w) = others s past e (omega (arith, w.brings.at, w.brings.below)) passing
+passed_next s past e passing (Obeys p out more at lt order state sent woken) = others s past e (omega (arith, at, lt)) passing
 
 first_passed : (s : ScriptData) (i : ℕ) → i ≡ 0 → have_ended (client_in s []) (awaited s i) ≡ true
 first_passed s i is = subst (λ (n : ℕ). have_ended (client_in s []) (awaited s n) ≡ true) (sym is) refl
 
-pub passed_run : (s : ScriptData) (past : List Entry) → IsSound s → IsStepRun s past → AllTimely s past → Passed s (client_in s past)
-passed_run s [] sound run timely = λ i le. first_passed s i (omega (arith, le))
-passed_run s (e ∷ past) sound run timely =
-    passed_next s past e (at_rest s past sound run.1 timely.1).small (passed_run s past sound run.1 timely.1)
-    (next_of s past e sound run timely)
+pub passed_run : (s : ScriptData) (past : List Entry) → IsValid s → IsStepRun s past → IsPassing s (client_in s past)
+passed_run s [] valid run = record { small = omega arith; passed = λ i le. first_passed s i (omega (arith, le)) }
+passed_run s (e ∷ past) valid run =
+    passed_next s past e (passed_run s past valid run.1) (progress s past e (lawful s valid) (all_apt s (e ∷ past) valid run) run)

@@ -37,8 +37,8 @@ headline_past s past sound run finished =
       right = reads_right s past sound.valid sound.runnable run;
       updates_first = updates_first s past sound.valid sound.runnable run;
       board = board_run s past sound run timely;
-      fits = fits_run s past sound run timely;
-      three = held_three s past sound run;
+      fits = fits_run s past sound.valid run;
+      three = held_three s past sound.valid run;
       at_once = all_at_once s past sound.valid run;
       undone = nothing_undone s past sound.valid sound.runnable run;
     }

@@ -36,9 +36,9 @@ use Rattle.run_laws.proofs.Closed.{update_there}
 use Rattle.headline.proofs.OwnWorth.{own_is_worth}
 use Rattle.headline.specs.Held.{HoldsBalances}
 use Rattle.headline.proofs.AtEnd.{written_at_end}
-use Rattle.headline.proofs.Few.{held_at, item_node}
+use Rattle.headline.proofs.Few.{IsKept, held_at, item_node}
 use Rattle.headline.proofs.Keeping.{keeps_run}
-use Rattle.headline.proofs.Kept.{IsKept, holds_of}
+use Rattle.headline.proofs.Kept.{holds_of}
 
 -- What is held of an item from version a to at most the next one.
 
@@ -122,7 +122,7 @@ worth_seen : (s : ScriptData) (past : List Entry) (x v : ℕ) (r : ItemRow) (h :
     → seen (record { 0 = v }) h ≡ Some (worth s (reverse past) x v)
 worth_seen s past x v r h sound run timely finished at low is =
     let p = r.node.0 in
-    let lt = item_node s x r sound at in
+    let lt = item_node s x r sound.valid at in
     let found : seen_at s past p x v ≡ seen (record { 0 = v }) h =
     ap (λ (o : Option Held). elim o [ None ↦ None | Some g ↦ seen (record { 0 = v }) g ]) is in
     sym found ∙ sees_own s past sound run timely p x v r lt at refl low
@@ -133,12 +133,12 @@ settled s past sound run finished = λ x r at.
     let p = r.node.0 in
     let a = advances_in s.rows in
     let h = reverse past in
-    let lt = item_node s x r sound at in
+    let lt = item_node s x r sound.valid at in
     let st = node_in s past p in
     let timely = in_time s past sound run in
     let over = finished_by s past sound run timely finished in
     let now = stands s past p sound run timely over lt in
-    let there = held_at s past x r sound run at in
+    let there = held_at s past x r sound.valid run at in
     let kept : IsKept a (a + 1) there.held =
     subst (λ (n : ℕ). IsKept a n there.held) now.update (subst (λ (n : ℕ). IsKept n st.turns.update.0 there.held) now.low there.kept) in
     let holds' : holds (record { 0 = a + 1 }) there.held ≡ is_written s h x (a + 1) =

@@ -8,11 +8,10 @@ ghost use Rattle.tx_trees.specs.Valid.{IsValid};
 ghost use Rattle.world_model.specs.Runs.{IsStepRun};
 ghost use Rattle.world_model.specs.Tables.{IsRunnable};
 
-/// In every run, after each part of it, a node holds of each of its items at most three versions: from its low version
-/// to at most its update version, which is at most two above the low one.
+/// In every run of every valid script, strict trees too, after each part of it, a node holds of each of its items at most
+/// three versions: from its low version to at most its update version, which is at most two above the low one.
 pub fn no_item_has_held_more_than_three()
-    ensures { (s : ScriptData) (past : List Entry) → IsValid s → IsRunnable s → IsStepRun s past
-        → HasHeldThree s (reverse past) }
+    ensures { (s : ScriptData) (past : List Entry) → IsValid s → IsStepRun s past → HasHeldThree s (reverse past) }
 {}
 
 /// In every run in which the client has finished, a node holds of each of its items the balances of the report and

@@ -2,4 +2,4 @@ use Rattle.headline.proofs.Few.{held_three}
 use Rattle.headline.proofs.held.no_item_has_held_more_than_three.Goals as goal
 
 pub returns : goal.returns
-returns c = λ s past valid runnable run. held_three s past (record { valid = valid; runnable = runnable }) run
+returns c = held_three
