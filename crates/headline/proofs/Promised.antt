@@ -11,7 +11,8 @@ use Rattle.headline.proofs.BoardRuns.{board_run}
 use Rattle.run_laws.proofs.AtOnce.{all_at_once}
 use Rattle.run_laws.proofs.InTime.{in_time}
 use Rattle.run_laws.proofs.Taken.{taken_run}
-use Rattle.headline.proofs.Staying.{reads_right, stay_right, updates_first}
+use Rattle.worth_laws.proofs.Right.{right_run}
+use Rattle.headline.proofs.ReadsStay.{stay_right, updates_first}
 use Rattle.headline.proofs.Undone.{nothing_undone}
 use Rattle.tree_laws.proofs.Whole.{whole}
 use Rattle.tx_trees.specs.ScriptData.{ScriptData}
@@ -33,14 +34,14 @@ headline_past s past sound run finished =
       finished = finished;
       whole = λ t lt. whole s past t sound.valid sound.runnable run timely finished lt;
       settled = settled s past sound run finished;
-      reads = stay_right s past sound.valid sound.runnable run;
-      right = reads_right s past sound.valid sound.runnable run;
-      updates_first = updates_first s past sound.valid sound.runnable run;
-      board = board_run s past sound run timely;
+      reads = stay_right s past sound.valid run;
+      right = right_run s past sound.valid run;
+      updates_first = updates_first s past sound.valid run;
+      board = board_run s past sound.valid run;
       fits = fits_run s past sound.valid run;
       three = held_three s past sound.valid run;
       at_once = all_at_once s past sound.valid run;
-      undone = nothing_undone s past sound.valid sound.runnable run;
+      undone = nothing_undone s past sound.valid run;
     }
 
 -- of a run by the tables

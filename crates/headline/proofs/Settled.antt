@@ -19,7 +19,6 @@ use Rattle.world_model.specs.Client.{all_answered}
 use Rattle.board_rules.specs.Right.{HasFinished}
 use Rattle.board_rules.specs.Worth.{is_written, worth}
 use Rattle.tree_laws.specs.OwnValues.{seen_at}
-use Rattle.tree_laws.proofs.OwnDeeds.{sees_own}
 use Rattle.world_model.specs.Runs.{IsStepRun, client_in, coordinator_in, node_in}
 use Rattle.world_model.specs.Timely.{AllTimely}
 use Rattle.world_model.proofs.Scripts.{IsSound, tree_below}
@@ -31,9 +30,8 @@ use Rattle.tree_laws.proofs.Client.{at_rest}
 use Rattle.tree_laws.proofs.Finishes.{done_then, finished_by}
 use Rattle.run_laws.proofs.InTime.{all_apt, in_time, lawful}
 use Rattle.tree_laws.proofs.Whole.{whole}
-use Rattle.run_laws.specs.Shown.{UpdatesAreWhole}
-use Rattle.run_laws.proofs.Closed.{update_there}
-use Rattle.headline.proofs.OwnWorth.{own_is_worth}
+use Rattle.run_laws.specs.Shown.{WritersAreWhole}
+use Rattle.worth_laws.proofs.OwnWorth.{own_is_worth, shown_is_closed}
 use Rattle.headline.specs.Held.{HoldsBalances}
 use Rattle.headline.proofs.AtEnd.{written_at_end}
 use Rattle.headline.proofs.Few.{IsKept, held_at, item_node}
@@ -109,11 +107,10 @@ stands s past p sound run timely finished lt =
     let none : running c.phase ≡ 0 = omega (arith, numbers.asked, numbers.ended, most, ended) in
     stands_by s c.update c.phase (node_in s past p).turns (idle_of c.phase none) update (versions_in_phase s past laws run apt p lt)
 
--- every update tree is whole
+-- every writer is whole
 all_whole : (s : ScriptData) (past : List Entry) (v : ℕ) → IsSound s → IsStepRun s past → AllTimely s past → HasFinished (reverse past)
-    → UpdatesAreWhole s (reverse past) v
-all_whole s past v sound run timely finished = λ t w up born le.
-    whole s past t sound.valid sound.runnable run timely finished (update_there s t (slice_get s.trees t) refl up)
+    → WritersAreWhole s (reverse past) v
+all_whole s past v sound run timely finished = λ t w lt writes born le. whole s past t sound.valid sound.runnable run timely finished lt
 
 -- what a node sees of its item is what the item is worth
 worth_seen : (s : ScriptData) (past : List Entry) (x v : ℕ) (r : ItemRow) (h : Held) → IsSound s → IsStepRun s past → AllTimely s past
@@ -125,8 +122,9 @@ worth_seen s past x v r h sound run timely finished at low is =
     let lt = item_node s x r sound.valid at in
     let found : seen_at s past p x v ≡ seen (record { 0 = v }) h =
     ap (λ (o : Option Held). elim o [ None ↦ None | Some g ↦ seen (record { 0 = v }) g ]) is in
-    sym found ∙ sees_own s past sound run timely p x v r lt at refl low
-    ∙ ap (λ (u : Value). Some u) (own_is_worth s past p x v r sound run lt at refl (all_whole s past v sound run timely finished))
+    sym found
+    ∙ own_is_worth s past p x v r sound.valid run lt at refl low
+    (shown_is_closed s past p x v r sound.valid at refl (all_whole s past v sound run timely finished))
 
 pub settled : (s : ScriptData) (past : List Entry) → IsSound s → IsStepRun s past → HasFinished (reverse past) → HoldsBalances s (reverse past)
 settled s past sound run finished = λ x r at.

@@ -34,10 +34,10 @@ use Rattle.board_rules.proofs.Places.{at_each_act_map}
 use Rattle.board_rules.specs.Serial.{serial_to}
 use Rattle.board_rules.specs.Worth.{after_deed, after_ops, after_subs, after_tree, first_value, worth}
 use Rattle.world_model.specs.Runs.{IsStepRun}
-use Rattle.world_model.specs.Tables.{IsRunnable}
 use Rattle.headline.specs.Reads.{Shows}
 use Rattle.headline.specs.Undone.{ShowsNothingUndone, is_undone, worth_kept}
-use Rattle.headline.proofs.Staying.{stay_right, valued_same}
+use Rattle.worth_laws.proofs.ShownStays.{same_worths}
+use Rattle.headline.proofs.ReadsStay.{stay_right}
 
 -- What `add` operations make of a value.
 
@@ -151,17 +151,16 @@ shown_at : (s : ScriptData) (h : List Entry) (os : List SubOp) (values : List (I
     → IsValid s → IsShown (worth s h) os values born → IsShown (worth_kept s h) os values born
 shown_at s h os values None valid is = is
 shown_at s h os values (Some v) valid is =
-    is ∙ valued_same (λ x. worth s h x v.0) (λ x. worth_kept s h x v.0) os (λ x. worth_is_kept s h x v.0 valid)
+    is ∙ same_worths (λ x. worth s h x v.0) (λ x. worth_kept s h x v.0) os (λ x. worth_is_kept s h x v.0 valid)
 
 act_shows : (s : ScriptData) (h : List Entry) (a : Act) → IsValid s → Shows (worth s h) s h a → Shows (worth_kept s h) s h a
 act_shows s h (Did t k values) valid right = λ read. shown_at s h (ops_of s t.0 k.0) values (version_of h t.0) valid (right read)
 act_shows s h Finished valid right = tt
 act_shows s h _ valid right = tt
 
-pub nothing_undone : (s : ScriptData) (past : List Entry) → IsValid s → IsRunnable s → IsStepRun s past
-    → ShowsNothingUndone s (reverse past)
-nothing_undone s past valid runnable run =
+pub nothing_undone : (s : ScriptData) (past : List Entry) → IsValid s → IsStepRun s past → ShowsNothingUndone s (reverse past)
+nothing_undone s past valid run =
     let h = reverse past in
     at_each_act_map (λ (b : List Entry) (xs : List Place) (x : Place). Shows (worth s h) s h x.act)
     (λ (b : List Entry) (xs : List Place) (x : Place). Shows (worth_kept s h) s h x.act) h
-    (λ b xs x right. act_shows s h x.act valid right) (stay_right s past valid runnable run)
+    (λ b xs x right. act_shows s h x.act valid right) (stay_right s past valid run)

@@ -5,13 +5,14 @@ ghost use Rattle.letter_types.specs.declared.entries.Entry.{Entry};
 ghost use Rattle.tx_trees.specs.ScriptData.{ScriptData};
 ghost use Rattle.tx_trees.specs.Valid.{IsValid};
 ghost use Rattle.world_model.specs.Runs.{IsStepRun};
-ghost use Rattle.world_model.specs.Tables.{IsRunnable};
 
-/// Every run is a run of the Board: a tree is born at its home in the home's update or read version, a subtransaction
-/// is done at its node, once, after its parent, and a node raises its numbers one by one: the update version to at most
-/// two above every low version, the read version below every update version, once all updates up to there are whole,
-/// and the low version to at most every read version, once all reads below it are whole.
+/// Every run is a run of the Board: a tree is born at its home in the home's update or read version, and a strict one where
+/// the update version is the next after the read version; a subtransaction is done at its node, or votes there, once, after
+/// its parent, and a no names its cause; marks go, and decisions are made and applied, once and in their time; and a node
+/// raises its numbers one by one: the update version to at most two above every low version, the read version below every
+/// update version, once all update and strict trees up to there are whole, and the low version to at most every read
+/// version, once all reads below it are whole.
 pub fn every_run_is_a_board_run()
-    ensures { (s : ScriptData) (past : List Entry) → IsValid s → IsRunnable s → IsStepRun s past
+    ensures { (s : ScriptData) (past : List Entry) → IsValid s → IsStepRun s past
         → IsBoardRun s (reverse past) }
 {}

@@ -17,7 +17,7 @@ use Rattle.worth_laws.specs.Stays.{ShownStays, ShowsWorth}
 use Rattle.worth_laws.proofs.ReadPlaces.{ShownAt, each_in_place, shown_at, take_next, worth_upto}
 use Rattle.worth_laws.proofs.WritersFirst.{kept_version, right_there, shows_in}
 
-same_worths : (f g : ℕ → Value) (os : List SubOp) → ((x : ℕ) → f x ≡ g x) → with_worths f os ≡ with_worths g os
+pub same_worths : (f g : ℕ → Value) (os : List SubOp) → ((x : ℕ) → f x ≡ g x) → with_worths f os ≡ with_worths g os
 same_worths f g [] same = refl
 same_worths f g (o ∷ os) same = let one = same o.item.0 in let rest = same_worths f g os same in cc
 

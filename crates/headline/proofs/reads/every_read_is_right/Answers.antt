@@ -1,5 +1,5 @@
-use Rattle.headline.proofs.Staying.{reads_right}
+use Rattle.worth_laws.proofs.Right.{right_run}
 use Rattle.headline.proofs.reads.every_read_is_right.Goals as goal
 
 pub returns : goal.returns
-returns c = reads_right
+returns c = right_run

@@ -1,4 +1,4 @@
-use Rattle.headline.proofs.Staying.{stay_right}
+use Rattle.headline.proofs.ReadsStay.{stay_right}
 use Rattle.headline.proofs.reads.reads_stay_right.Goals as goal
 
 pub returns : goal.returns

@@ -1,4 +1,4 @@
-use Rattle.headline.proofs.Staying.{updates_first}
+use Rattle.headline.proofs.ReadsStay.{updates_first}
 use Rattle.headline.proofs.reads.updates_come_first.Goals as goal
 
 pub returns : goal.returns
