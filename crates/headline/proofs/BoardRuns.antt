@@ -3,8 +3,8 @@ use Rattle.std.proofs.Common.{ℕ, List, [], ◌∷◌, ◌++◌, take, reverse}
 use Rattle.letter_types.specs.declared.acts.Act.{Act}
 use Rattle.letter_types.specs.declared.acts.Act.TheVariants as acts
 use Rattle.letter_types.specs.declared.entries.Entry.{Entry}
-use Rattle.script_parts.specs.ScriptData.{ScriptData}
-use Rattle.script_parts.specs.Valid.{IsValid}
+use Rattle.tx_trees.specs.ScriptData.{ScriptData}
+use Rattle.tx_trees.specs.Valid.{IsValid}
 use Rattle.world_model.specs.Runs.{IsStepRun}
 use Rattle.board_rules.specs.Histories.{Place, places_at, places_of}
 use Rattle.board_rules.specs.Moves.{IsBoardRun, IsMove, IsMoveAt, OneByOne}

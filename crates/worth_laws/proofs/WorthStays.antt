@@ -7,7 +7,7 @@ use Rattle.std.proofs.lemmas.Bool.{eqb-true, or_left, or_right}
 use Rattle.tv_base.specs.declared.numbers.Version.{Version}
 use Rattle.letter_types.specs.declared.entries.Entry.{Entry}
 use Rattle.script_parts.specs.declared.parts.ItemRow.{ItemRow}
-use Rattle.script_parts.specs.ScriptData.{ScriptData, ops_of, updates}
+use Rattle.script_parts.specs.ScriptData.{ScriptData, ops_of, reads, updates}
 use Rattle.script_parts.specs.Valid.{IsValid}
 use Rattle.world_model.specs.Runs.{IsStepRun}
 use Rattle.board_rules.specs.Histories.{Place, does, applies, is_strict_tree, is_whole_in, places_at, version_in}
@@ -29,8 +29,8 @@ use Rattle.tree_laws.proofs.Histories.{places_more}
 use Rattle.run_laws.proofs.Closed.{none_came, run_before}
 use Rattle.run_laws.proofs.Reached.{now_below}
 use Rattle.run_laws.proofs.Wholes.{born_with}
+use Rattle.rule_laws.proofs.Late.{no_reader, writer_there}
 use Rattle.rule_laws.proofs.Rules.{follows_rules}
-use Rattle.worth_laws.proofs.OwnWorth.{writer_there}
 use Rattle.worth_laws.proofs.ReadVersions.{whole_to}
 
 -- The acts of a run go on from those of its beginning.
@@ -52,10 +52,10 @@ whole_since : (s : ScriptData) (past later : List Entry) (t v : ℕ) (w : Versio
     → v < now_below false s past → is_writer s t ≡ true → born_with (later ++ past) t ≡ Some w → w.0 ≤ v
     → is_whole_in s (take (length (before past)) (before (later ++ past))) t ≡ true
 whole_since s past later t v w valid run early writes born le =
-    let there = writer_there s t writes in
-    let old : born_with past t ≡ Some w = none_came false s past later t w valid run (ap not there.1) (omega (arith, early, le)) born in
+    let no : reads s t ≡ false = no_reader s t (slice_get s.trees t) refl writes in
+    let old : born_with past t ≡ Some w = none_came false s past later t w valid run (ap not no) (omega (arith, early, le)) born in
     ap (λ (xs : List Place). is_whole_in s xs t) (first_acts past later)
-    ∙ whole_to s past v valid (run_before s past later run) early t w there.0 there.1 old le
+    ∙ whole_to s past v valid (run_before s past later run) early t w (writer_there s t writes) no old le
 
 pub whole_from : (s : ScriptData) (past later : List Entry) (t v n : ℕ) (w : Version) → IsValid s → IsStepRun s (later ++ past)
     → v < now_below false s past → length (before past) ≤ n → is_writer s t ≡ true → born_with (later ++ past) t ≡ Some w → w.0 ≤ v
