@@ -1,0 +1,13 @@
+-- What nodes hold of their items.
+use Rattle.std.specs.Prelude.{ℕ, ◌≡◌, ◌<◌, List, reverse, Some, slice_get}
+use Rattle.letter_types.specs.declared.entries.Entry.{Entry}
+use Rattle.script_parts.specs.ScriptData.{ScriptData}
+use Rattle.script_parts.specs.declared.parts.ItemRow.{ItemRow}
+use Rattle.world_model.specs.Runs.{node_in}
+use Rattle.board_rules.specs.Histories.{places_of}
+use Rattle.held_laws.specs.Written.{holds_in, was_written}
+
+-- above node p's low version, it holds just those versions of its item x in which one of its own acts writes it
+abbrev pub HoldsWritten : ScriptData → List Entry → ℕ → ℕ → Type 0
+HoldsWritten s past p x = (w : ℕ) (r : ItemRow) → slice_get s.items x ≡ Some r → r.node.0 ≡ p → (node_in s past p).turns.low.0 < w
+    → holds_in (record { 0 = w }) (record { 0 = x }) (node_in s past p).items ≡ was_written s (places_of (reverse past)) p x w
