@@ -3,4 +3,4 @@
 
 mod held;
 
-pub use held::what_is_held_was_written;
+pub use held::{what_is_held_was_written, what_is_written_at_the_end};
