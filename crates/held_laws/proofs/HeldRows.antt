@@ -1,5 +1,5 @@
 -- Which versions of an item are held after the row of a letter: those before, and those in which an act of the row writes it.
-use Rattle.std.proofs.Common.{◌≡◌, ℕ, ◌<◌, ◌≤◌, ◌==◌, ◌&&◌, ◌||◌, Bool, true, false, List, [], ◌∷◌, ◌++◌, ltb, refl, sym, ap, subst, ◌∙◌, arith, Option, Some, None}
+use Rattle.std.proofs.Common.{◌≡◌, ℕ, ◌<◌, ◌==◌, ◌&&◌, ◌||◌, Bool, true, false, List, [], ◌∷◌, ◌++◌, ltb, refl, sym, ap, subst, ◌∙◌, arith, Option, Some, None}
 use Rattle.std.specs.Prelude.{if◌then◌else◌, nat_lt}
 use Rattle.std.specs.List.{AllByRecursion, list_any}
 use Rattle.std.proofs.Math.Bool.{or-false}
@@ -54,7 +54,7 @@ use Rattle.value_laws.proofs.HeldItems.{written_other}
 use Rattle.value_laws.proofs.HoldRows.{decided_table}
 use Rattle.value_laws.proofs.Overwritten.{IsOfCommit}
 use Rattle.value_laws.proofs.RowActs.{asked_acts, lasting_acts}
-use Rattle.held_laws.specs.Written.{holds_in, holds_of, writes_by}
+use Rattle.held_laws.specs.Written.{holds_in, holds_of, act_writes}
 
 -- One item.
 -- an update holds its version, and the others as before
@@ -241,7 +241,7 @@ pub record IsReady (s : ScriptData) (zs : List Place) (p : ℕ) (c : Core) (x : 
 
 -- Version w of item x is held then where it was before, or where one of these acts writes it.
 abbrev Holds : ScriptData → List Place → ℕ → ItemNo → Version → Core → List Act → Table → Type 0
-Holds s zs p x w c does items = holds_in w x items ≡ (holds_in w x c.node.items || list_any (writes_by s zs p x.0 w.0) does)
+Holds s zs p x w c does items = holds_in w x items ≡ (holds_in w x c.node.items || list_any (act_writes s zs p x.0 w.0) does)
 
 stay : (a : Bool) → a ≡ (a || false)
 stay a = sym (or-false a)
@@ -255,15 +255,15 @@ one_more a b true is = grind (arith, nat_tests)
 one_more a b false is = grind (arith, nat_tests)
 
 did_made : (s : ScriptData) (zs : List Place) (p x w : ℕ) (t : TreeNo) (k : SubNo) (v : Version) → updates s t.0 ≡ true
-    → version_in t.0 zs ≡ Some v → writes_by s zs p x w (acts.Did t k []) ≡ ((v.0 == w) && ops_change x (ops_of s t.0 k.0))
+    → version_in t.0 zs ≡ Some v → act_writes s zs p x w (acts.Did t k []) ≡ ((v.0 == w) && ops_change x (ops_of s t.0 k.0))
 did_made s zs p x w t k v up is = rw (up, is) refl
 
 did_left : (s : ScriptData) (zs : List Place) (p x w : ℕ) (t : TreeNo) (k : SubNo) (values : _) → updates s t.0 ≡ false
-    → writes_by s zs p x w (acts.Did t k values) ≡ false
+    → act_writes s zs p x w (acts.Did t k values) ≡ false
 did_left s zs p x w t k values other = rw other refl
 
 vote_left : (s : ScriptData) (zs : List Place) (p x w : ℕ) (t : TreeNo) (k : SubNo) (vote : Vote)
-    → writes_by s zs p x w (act_of t k (notice_by vote)) ≡ false
+    → act_writes s zs p x w (act_of t k (notice_by vote)) ≡ false
 vote_left s zs p x w t k (Yes values) = refl
 vote_left s zs p x w t k (No cause) = refl
 
@@ -272,7 +272,7 @@ update_holds : (s : ScriptData) (zs : List Place) (p : ℕ) (x : ItemNo) (w : Ve
     → Holds s zs p x w c (acts.Did t k [] ∷ []) (table_after_ops v (ops_of s t.0 k.0) c.node.items)
 update_holds s zs p x w t k v c up version can =
     ops_hold w v x (ops_of s t.0 k.0) c.node.items can
-    ∙ one_more (v.0 == w.0 && ops_change x.0 (ops_of s t.0 k.0)) (holds_in w x c.node.items) (writes_by s zs p x.0 w.0 (acts.Did t k []))
+    ∙ one_more (v.0 == w.0 && ops_change x.0 (ops_of s t.0 k.0)) (holds_in w x c.node.items) (act_writes s zs p x.0 w.0 (acts.Did t k []))
     (did_made s zs p x.0 w.0 t k v up version)
 
 -- A root.
@@ -286,7 +286,7 @@ root_holds s zs p from x w t (Some Update) c is ready =
     let can : can_update s c.node (Root t) ≡ true = sym (rw (is, is_strict_at, can_make) refl) ∙ ready.can in
     update_holds s zs p x w t (record { 0 = 0 }) c.node.turns.update c (kind_updates s t.0 Update is) version can
 root_holds s zs p from x w t (Some Read) c is ready =
-    stays_so (holds_in w x c.node.items) (writes_by s zs p x.0 w.0 (acts.Did t (record { 0 = 0 }) (gets c.node.turns.read (ops_of s t.0 0) c.node.items)))
+    stays_so (holds_in w x c.node.items) (act_writes s zs p x.0 w.0 (acts.Did t (record { 0 = 0 }) (gets c.node.turns.read (ops_of s t.0 0) c.node.items)))
     (did_left s zs p x.0 w.0 t (record { 0 = 0 }) (gets c.node.turns.read (ops_of s t.0 0) c.node.items) (kind_updates s t.0 Read is))
 root_holds s zs p from x w t (Some Strict) c is ready =
     let body : Body = Root t in
@@ -295,7 +295,7 @@ root_holds s zs p from x w t (Some Strict) c is ready =
     let o : TreeOut = tree_part s p from v (nat_lt c.node.turns.update.0 v.0) (voting vote c.node.items) body c.node in
     let d : Core = record c { locks = locks_by vote t (asked_ops s body) c.locks; refusals = noted_vote body vote c.refusals } in
     ap (λ (i : Table). holds_in w x i) (decided_table s d o o.answered)
-    ∙ stays_so (holds_in w x c.node.items) (writes_by s zs p x.0 w.0 (act_of t (record { 0 = 0 }) (notice_by vote)))
+    ∙ stays_so (holds_in w x c.node.items) (act_writes s zs p x.0 w.0 (act_of t (record { 0 = 0 }) (notice_by vote)))
     (vote_left s zs p x.0 w.0 t (record { 0 = 0 }) vote)
 root_holds s zs p from x w t None c is ready = stay (holds_in w x c.node.items)
 
@@ -307,7 +307,7 @@ sub_holds s zs p from x w t k v (Some Update) c is ready =
     let can : can_update s c.node (SubLetter t k v) ≡ true = sym (rw (is, is_strict_at, can_make) refl) ∙ ready.can in
     update_holds s zs p x w t k v c (kind_updates s t.0 Update is) (version_is (version_in t.0 zs) v ready.dated) can
 sub_holds s zs p from x w t k v (Some Read) c is ready =
-    stays_so (holds_in w x c.node.items) (writes_by s zs p x.0 w.0 (acts.Did t k (gets v (ops_of s t.0 k.0) c.node.items)))
+    stays_so (holds_in w x c.node.items) (act_writes s zs p x.0 w.0 (acts.Did t k (gets v (ops_of s t.0 k.0) c.node.items)))
     (did_left s zs p x.0 w.0 t k (gets v (ops_of s t.0 k.0) c.node.items) (kind_updates s t.0 Read is))
 sub_holds s zs p from x w t k v (Some Strict) c is ready =
     let body : Body = SubLetter t k v in
@@ -315,7 +315,7 @@ sub_holds s zs p from x w t k v (Some Strict) c is ready =
     let o : TreeOut = tree_part s p from v (nat_lt c.node.turns.update.0 v.0) (voting vote c.node.items) body c.node in
     let d : Core = record c { locks = locks_by vote t (asked_ops s body) c.locks; refusals = noted_vote body vote c.refusals } in
     ap (λ (i : Table). holds_in w x i) (decided_table s d o o.answered)
-    ∙ stays_so (holds_in w x c.node.items) (writes_by s zs p x.0 w.0 (act_of t k (notice_by vote))) (vote_left s zs p x.0 w.0 t k vote)
+    ∙ stays_so (holds_in w x c.node.items) (act_writes s zs p x.0 w.0 (act_of t k (notice_by vote))) (vote_left s zs p x.0 w.0 t k vote)
 sub_holds s zs p from x w t k v None c is ready = stay (holds_in w x c.node.items)
 
 -- A notice leaves the items.
@@ -329,7 +329,7 @@ note_holds s from x w t k v notice c false is = rw is refl
 
 -- A decision.
 commit_made : (s : ScriptData) (zs : List Place) (p x w : ℕ) (t : TreeNo) (v : Version) → is_strict_at s t.0 ≡ true → version_in t.0 zs ≡ Some v
-    → writes_by s zs p x w (acts.Applied t true) ≡ ((v.0 == w) && ops_change x (ops_at p (subs_at s t.0)))
+    → act_writes s zs p x w (acts.Applied t true) ≡ ((v.0 == w) && ops_change x (ops_at p (subs_at s t.0)))
 commit_made s zs p x w t v strict is = rw (strict, is) refl
 
 decide_holds : (s : ScriptData) (zs : List Place) (p from : ℕ) (x : ItemNo) (w : Version) (t : TreeNo) (v : Version) (commit : Bool) (c : Core)
@@ -338,7 +338,7 @@ decide_holds : (s : ScriptData) (zs : List Place) (p from : ℕ) (x : ItemNo) (w
 decide_holds s zs p from x w t v true c ready =
     let it : IsCommit s zs p c t v = ready.commits t v refl in
     commit_holds c.node.turns.low.0 w v x (ops_at p (subs_at s t.0)) c.node.items ready.near it.within it.reads ready.has
-    ∙ one_more (v.0 == w.0 && ops_change x.0 (ops_at p (subs_at s t.0))) (holds_in w x c.node.items) (writes_by s zs p x.0 w.0 (acts.Applied t true))
+    ∙ one_more (v.0 == w.0 && ops_change x.0 (ops_at p (subs_at s t.0))) (holds_in w x c.node.items) (act_writes s zs p x.0 w.0 (acts.Applied t true))
     (commit_made s zs p x.0 w.0 t v it.strict it.version)
 decide_holds s zs p from x w t v false c ready = stay (holds_in w x c.node.items)
 

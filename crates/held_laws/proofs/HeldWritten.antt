@@ -1,5 +1,5 @@
 -- In every run the versions of a node's items above its low one are those in which one of its own acts writes the item.
-use Rattle.std.proofs.Common.{◌≡◌, ◌≢◌, ◌⊎◌, inl, inr, ℕ, ◌+◌, ◌<◌, ◌≤◌, ◌==◌, ◌&&◌, ◌||◌, Bool, true, false, List, [], ◌∷◌, ◌++◌, reverse, refl, sym, ap, subst, ◌∙◌, append_assoc, arith, Option, Some, None}
+use Rattle.std.proofs.Common.{◌≡◌, ◌≢◌, ◌⊎◌, inl, inr, ℕ, ◌+◌, ◌<◌, ◌==◌, ◌&&◌, ◌||◌, Bool, true, false, List, [], ◌∷◌, ◌++◌, reverse, refl, sym, ap, subst, ◌∙◌, append_assoc, arith, Option, Some, None}
 use Rattle.std.specs.Prelude.{if◌then◌else◌, is_some, map, slice_get}
 use Rattle.std.specs.List.{AllByRecursion, list_any}
 use Rattle.std.proofs.Math.Bool.{or-false}
@@ -15,14 +15,13 @@ use Rattle.commute_ops.specs.declared.kinds.Kind.TheVariants as kinds
 use Rattle.commute_ops.specs.declared.value.Value.{Value}
 use Rattle.item_versions.specs.Item.{Held}
 use Rattle.item_versions.specs.Table.{Table, item_in}
-use Rattle.item_versions.specs.Window.{in_window}
 use Rattle.letter_types.specs.declared.acts.Act.{Act}
 use Rattle.letter_types.specs.declared.acts.Act.TheVariants as acts
 use Rattle.letter_types.specs.declared.bodies.Body.{Body}
 use Rattle.letter_types.specs.declared.bodies.Body.TheVariants.{Root, Sub as SubLetter, Go, Decide}
 use Rattle.letter_types.specs.declared.entries.Entry.{Entry}
 use Rattle.letter_types.specs.declared.entries.Letter.{Letter}
-use Rattle.script_parts.specs.ScriptData.{ScriptData, subs_at}
+use Rattle.script_parts.specs.ScriptData.{ScriptData}
 use Rattle.script_parts.specs.Valid.{IsOp, IsValid, OpAt, deed_fits}
 use Rattle.script_parts.specs.declared.parts.Deed.{Deed}
 use Rattle.script_parts.specs.declared.parts.Deed.TheVariants.{Apply, Get, Set, Draw}
@@ -60,41 +59,41 @@ use Rattle.value_laws.proofs.SeenByActs.{apt_can, sees_by_acts}
 use Rattle.run_laws.proofs.EveryApt.{all_apt}
 use Rattle.rule_laws.proofs.Turns.{carried}
 use Rattle.held_laws.specs.Held.{HoldsWritten}
-use Rattle.held_laws.specs.Written.{holds_in, was_written, writes_by, writes_in}
+use Rattle.held_laws.specs.Written.{holds_in, was_written, act_writes, writes_in}
 use Rattle.held_laws.proofs.HeldRows.{HasItem, IsCommit, IsReady, row_holds}
 
 -- Acts that don't last write nothing, nor do those of another node.
-act_left : (s : ScriptData) (zs : List Place) (p x w : ℕ) (a : Act) → is_lasting a ≡ false → writes_by s zs p x w a ≡ false
+act_left : (s : ScriptData) (zs : List Place) (p x w : ℕ) (a : Act) → is_lasting a ≡ false → act_writes s zs p x w a ≡ false
 act_left s zs p x w (acts.Did t k values) none = absurd (cc none)
 act_left s zs p x w (acts.Applied t commit) none = absurd (cc none)
 act_left s zs p x w acts.Finished none = refl
 act_left s zs p x w _ none = refl
 
 any_lasting : (s : ScriptData) (zs : List Place) (p x w : ℕ) (xs : List Act)
-    → list_any (writes_by s zs p x w) xs ≡ list_any (writes_by s zs p x w) (lasting xs)
+    → list_any (act_writes s zs p x w) xs ≡ list_any (act_writes s zs p x w) (lasting xs)
 any_lasting s zs p x w [] = refl
 any_lasting s zs p x w (a ∷ xs) = by (is_lasting a) refl (any_lasting s zs p x w xs) where
-  by : (test : Bool) → is_lasting a ≡ test → list_any (writes_by s zs p x w) xs ≡ list_any (writes_by s zs p x w) (lasting xs)
-      → list_any (writes_by s zs p x w) (a ∷ xs) ≡ list_any (writes_by s zs p x w) (if test then a ∷ lasting xs else lasting xs)
-  by true is rest = ap (λ (b : Bool). writes_by s zs p x w a || b) rest
-  by false is rest = ap (λ (b : Bool). b || list_any (writes_by s zs p x w) xs) (act_left s zs p x w a is) ∙ rest
+  by : (test : Bool) → is_lasting a ≡ test → list_any (act_writes s zs p x w) xs ≡ list_any (act_writes s zs p x w) (lasting xs)
+      → list_any (act_writes s zs p x w) (a ∷ xs) ≡ list_any (act_writes s zs p x w) (if test then a ∷ lasting xs else lasting xs)
+  by true is rest = ap (λ (b : Bool). act_writes s zs p x w a || b) rest
+  by false is rest = ap (λ (b : Bool). b || list_any (act_writes s zs p x w) xs) (act_left s zs p x w a is) ∙ rest
 
 abbrev placed : ℕ → List Act → List Place
 placed q xs = map (λ (a : Act). record { node = q; act = a }) xs
 
 own_any : (s : ScriptData) (zs : List Place) (p x w q : ℕ) (xs : List Act) → q ≡ p
-    → list_any (writes_in s zs p x w) (placed q xs) ≡ list_any (writes_by s zs p x w) xs
+    → list_any (writes_in s zs p x w) (placed q xs) ≡ list_any (act_writes s zs p x w) xs
 own_any s zs p x w q [] is = refl
 own_any s zs p x w q (a ∷ xs) is =
     let here : (q == p) ≡ true = grind (arith, nat_tests) in
-    ap (λ (b : Bool). (b && writes_by s zs p x w a) || list_any (writes_in s zs p x w) (placed q xs)) here
-    ∙ ap (λ (b : Bool). writes_by s zs p x w a || b) (own_any s zs p x w q xs is)
+    ap (λ (b : Bool). (b && act_writes s zs p x w a) || list_any (writes_in s zs p x w) (placed q xs)) here
+    ∙ ap (λ (b : Bool). act_writes s zs p x w a || b) (own_any s zs p x w q xs is)
 
 other_any : (s : ScriptData) (zs : List Place) (p x w q : ℕ) (xs : List Act) → q ≢ p → list_any (writes_in s zs p x w) (placed q xs) ≡ false
 other_any s zs p x w q [] ne = refl
 other_any s zs p x w q (a ∷ xs) ne =
     let other : (q == p) ≡ false = grind (arith, nat_tests) in
-    ap (λ (b : Bool). (b && writes_by s zs p x w a) || list_any (writes_in s zs p x w) (placed q xs)) other ∙ other_any s zs p x w q xs ne
+    ap (λ (b : Bool). (b && act_writes s zs p x w a) || list_any (writes_in s zs p x w) (placed q xs)) other ∙ other_any s zs p x w q xs ne
 
 -- What is known where a node does a letter.
 later_dated : (xs ys : List Place) (v : Version) (body : Body) → DoneIn xs v body → DoneIn (xs ++ ys) v body
@@ -201,9 +200,9 @@ does_holds s past e p r g old ys x w row at node low =
     let lasts : lasting e.acts ≡ lasting_acts s c r.body = ap lasting d.acts ∙ row_lasts s p r.from.0 r.body c in
     ap (λ (y : Core). holds_in u item y.node.items) d.core
     ∙ row_holds s zs p r.from.0 item u r.body c (ready_here s past e p x r row ys g at node) now
-    ∙ ap (λ (b : Bool). b || list_any (writes_by s zs p x w) (lasting_acts s c r.body)) (old (places_at e ++ ys) x w row at node le)
+    ∙ ap (λ (b : Bool). b || list_any (act_writes s zs p x w) (lasting_acts s c r.body)) (old (places_at e ++ ys) x w row at node le)
     ∙ ap (λ (b : Bool). prior || b)
-    (ap (λ (xs : List Act). list_any (writes_by s zs p x w) xs) (sym lasts)
+    (ap (λ (xs : List Act). list_any (act_writes s zs p x w) xs) (sym lasts)
     ∙ sym (any_lasting s zs p x w e.acts)
     ∙ sym (own_any s zs p x w e.actor.0 e.acts d.brings.at))
     ∙ written_then s past e ys p x w
@@ -231,7 +230,7 @@ keeps_holds s past e p r k apt run d old ys x w row at node low =
     ∙ old (places_at e ++ ys) x w row at node le
     ∙ none_holds s past e ys p x w
     (own_any s zs p x w e.actor.0 e.acts d.brings.at ∙ any_lasting s zs p x w e.acts
-    ∙ ap (λ (xs : List Act). list_any (writes_by s zs p x w) xs) none)
+    ∙ ap (λ (xs : List Act). list_any (act_writes s zs p x w) xs) none)
 
 -- another actor goes on
 apart_holds : (s : ScriptData) (past : List Entry) (e : Entry) (p : ℕ) → e.actor.0 ≢ p → HoldsOwn s past p → HoldsOwn s (e ∷ past) p

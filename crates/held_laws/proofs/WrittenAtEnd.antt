@@ -1,5 +1,5 @@
 -- Where every tree is whole, an item is written in a version by its node's acts just where the trees of that version write it.
-use Rattle.std.proofs.Common.{◌≡◌, ◌⊎◌, inl, inr, ℕ, zero, suc, ◌+◌, ◌<◌, ◌==◌, ◌&&◌, ◌||◌, Bool, true, false, List, [], ◌∷◌, ◌++◌, length, reverse, refl, sym, ap, subst, ◌∙◌, arith, Option, Some, None}
+use Rattle.std.proofs.Common.{◌≡◌, ◌⊎◌, inl, inr, ℕ, zero, suc, ◌+◌, ◌<◌, ◌==◌, ◌&&◌, Bool, true, false, List, [], ◌∷◌, ◌++◌, length, reverse, refl, sym, ap, subst, ◌∙◌, arith, Option, Some, None}
 use Rattle.std.specs.Prelude.{if◌then◌else◌, slice_get}
 use Rattle.std.proofs.lemmas.Bool.{and_from, and_parts, eqb-true, or_cases, or_left, or_right}
 use Rattle.tv_base.proofs.Truths.{left_true, right_true, same_test}
@@ -16,7 +16,7 @@ use Rattle.script_parts.specs.declared.parts.SubOp.{SubOp}
 use Rattle.script_parts.specs.declared.parts.Tree.{Tree}
 use Rattle.script_parts.specs.declared.parts.TreeKind.{TreeKind}
 use Rattle.script_parts.specs.declared.parts.TreeKind.TheVariants as trees
-use Rattle.board_rules.specs.Histories.{Place, applies, commits, does, is_strict_tree, is_whole_in, places_of, version_in, version_of, was_applied, was_committed, was_done}
+use Rattle.board_rules.specs.Histories.{Place, applies, commits, does, is_strict_tree, is_whole_in, places_of, version_in, version_of, was_applied, was_committed}
 use Rattle.board_rules.specs.Moves.{decides_as}
 use Rattle.board_rules.specs.Rules.{AreByRule}
 use Rattle.board_rules.specs.Serial.{is_version}
@@ -25,7 +25,7 @@ use Rattle.board_rules.proofs.ActTests.{applies_as, applies_as_is, as_commits, c
 use Rattle.board_rules.proofs.ClosedWorth.{applied_as_commit}
 use Rattle.board_rules.proofs.ItemAt.{item_at}
 use Rattle.board_rules.proofs.Once.{same_tests}
-use Rattle.board_rules.proofs.Positions.{ActAt, FoundFrom, found_all, there_all}
+use Rattle.board_rules.proofs.Positions.{ActAt, found_all, there_all}
 use Rattle.board_rules.proofs.Precedence.{act_node, decision}
 use Rattle.board_rules.proofs.Rules.{IsItemAt, deed}
 use Rattle.board_rules.proofs.TreeSubs.{found_ops}
@@ -39,7 +39,7 @@ use Rattle.run_laws.proofs.EveryWhole.{strict_is}
 use Rattle.rule_laws.proofs.Rules.{follows_rules}
 use Rattle.rule_laws.proofs.Writes.{changes_at}
 use Rattle.held_laws.specs.Held.{AreAllWhole, IsWrittenAtEnd}
-use Rattle.held_laws.specs.Written.{was_written, writes_by, writes_in}
+use Rattle.held_laws.specs.Written.{was_written, act_writes, writes_in}
 
 -- From an act to its tree.
 -- subtransactions of which one changes the item
@@ -141,7 +141,7 @@ applied_to s h p x w i q t acts is strict version change =
     (sym (ap (subs_change x) tree.subs) ∙ tree_changes x p (subs_at s t.0) change)
 
 act_to : (s : ScriptData) (h : List Entry) (p x w i q : ℕ) (a : Act) → AreByRule s (places_of h)
-    → slice_get (places_of h) i ≡ Some (record { node = q; act = a }) → writes_by s (places_of h) p x w a ≡ true → is_written s h x w ≡ true
+    → slice_get (places_of h) i ≡ Some (record { node = q; act = a }) → act_writes s (places_of h) p x w a ≡ true → is_written s h x w ≡ true
 act_to s h p x w i q (Did t k values) acts at is =
     let rest : Bool = is_version w (version_of h t.0) && ops_change x (ops_of s t.0 k.0) in
     let one = and_parts (updates s t.0) rest is in
@@ -161,7 +161,7 @@ some_to : (s : ScriptData) (h : List Entry) (p x w : ℕ) → AreByRule s (place
 some_to s h p x w acts is =
     let f = found_all (writes_in s (places_of h) p x w) (places_of h) is in
     act_to s h p x w f.place f.item.node f.item.act acts f.is
-    (right_true (f.item.node == p) (writes_by s (places_of h) p x w f.item.act) f.passes)
+    (right_true (f.item.node == p) (act_writes s (places_of h) p x w f.item.act) f.passes)
 
 -- From a tree to an act.
 tree_that_writes : (h : List Entry) (x w i : ℕ) (ts : List Tree) → trees_write h x w i ts ≡ true
@@ -196,10 +196,10 @@ update_from s zs p x w t k acts up whole below node version change =
     let at : ActAt (does t k) zs f.place f.item.node = record { act = f.item.act; is = f.is; passes = f.passes } in
     let here : (f.item.node == p) ≡ true = ap (λ (n : ℕ). n == p) (sym (deed s zs f.place f.item.node t k acts at).node ∙ node) ∙ same_test p in
     let rest : Bool = is_version w (version_in t zs) && ops_change x (ops_of s t k) in
-    let wrote : writes_by s zs p x w f.item.act ≡ true =
-    ap (writes_by s zs p x w) (does_is t k f.item.act f.passes).1
+    let wrote : act_writes s zs p x w f.item.act ≡ true =
+    ap (act_writes s zs p x w) (does_is t k f.item.act f.passes).1
     ∙ and_from (updates s t) rest up (and_from (is_version w (version_in t zs)) (ops_change x (ops_of s t k)) version change) in
-    there_all (writes_in s zs p x w) zs f.place f.item f.is (and_from (f.item.node == p) (writes_by s zs p x w f.item.act) here wrote)
+    there_all (writes_in s zs p x w) zs f.place f.item f.is (and_from (f.item.node == p) (act_writes s zs p x w f.item.act) here wrote)
 
 -- a whole strict tree's commit was applied at the item's node
 strict_from : (s : ScriptData) (zs : List Place) (p x w t : ℕ) → AreByRule s zs → is_strict_tree s t ≡ true → was_committed t zs ≡ true
@@ -216,11 +216,11 @@ strict_from s zs p x w t acts strict committed applied version change =
     let a = applied_as_commit s zs f.place g.place p g.item.node t acts here decided in
     let on : Bool = ops_change x (ops_at p (subs_at s t)) in
     let at : is_strict_at s t ≡ true = sym (strict_is s t (slice_get s.trees t) refl) ∙ strict in
-    let wrote : writes_by s zs p x w a.act ≡ true =
-    ap (writes_by s zs p x w) (applies_as_is t true a.act a.passes)
+    let wrote : act_writes s zs p x w a.act ≡ true =
+    ap (act_writes s zs p x w) (applies_as_is t true a.act a.passes)
     ∙ and_from (is_strict_at s t) (is_version w (version_in t zs) && on) at (and_from (is_version w (version_in t zs)) on version change) in
     there_all (writes_in s zs p x w) zs f.place (record { node = p; act = a.act }) a.is
-    (and_from (p == p) (writes_by s zs p x w a.act) (same_test p) wrote)
+    (and_from (p == p) (act_writes s zs p x w a.act) (same_test p) wrote)
 
 -- so of a tree that writes, where it is whole
 tree_from : (s : ScriptData) (h : List Entry) (p x w t : ℕ) (tree : Tree) (kind : TreeKind) → AreByRule s (places_of h) → IsItemAt s p x

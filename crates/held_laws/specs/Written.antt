@@ -24,15 +24,15 @@ holds_in w x items = holds_of w (item_in x items)
 
 -- an act of node p writes item x in version w: a Did of an update tree that these acts bear in w, and that changes it; or
 -- the Applied of a commit of a strict tree that they bear in w, and that changes it at p
-abbrev pub writes_by : ScriptData → List Place → ℕ → ℕ → ℕ → Act → Bool
-writes_by s zs p x w (Did t k values) = updates s t.0 && (is_version w (version_in t.0 zs) && ops_change x (ops_of s t.0 k.0))
-writes_by s zs p x w (Applied t commit) =
+abbrev pub act_writes : ScriptData → List Place → ℕ → ℕ → ℕ → Act → Bool
+act_writes s zs p x w (Did t k values) = updates s t.0 && (is_version w (version_in t.0 zs) && ops_change x (ops_of s t.0 k.0))
+act_writes s zs p x w (Applied t commit) =
     commit && (is_strict_at s t.0 && (is_version w (version_in t.0 zs) && ops_change x (ops_at p (subs_at s t.0))))
-writes_by s zs p x w Finished = false
-writes_by s zs p x w _ = false
+act_writes s zs p x w Finished = false
+act_writes s zs p x w _ = false
 
 abbrev pub writes_in : ScriptData → List Place → ℕ → ℕ → ℕ → Place → Bool
-writes_in s zs p x w y = (y.node == p) && writes_by s zs p x w y.act
+writes_in s zs p x w y = (y.node == p) && act_writes s zs p x w y.act
 
 -- one of these acts does
 abbrev pub was_written : ScriptData → List Place → ℕ → ℕ → ℕ → Bool

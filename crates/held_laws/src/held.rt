@@ -16,8 +16,6 @@ pub fn what_is_held_was_written()
 /// Where every tree is whole, its node's acts write an item in just those versions in which update trees and committed
 /// strict trees change it.
 pub fn what_is_written_at_the_end()
-    ensures {
-        (s : ScriptData) (past : List Entry) (p x : ℕ) → IsValid s → IsStepRun s past → AreAllWhole s (places_of (reverse past))
-            → IsWrittenAtEnd s past p x
-    }
+    ensures { (s : ScriptData) (past : List Entry) (p x : ℕ) → IsValid s → IsStepRun s past → AreAllWhole s (places_of (reverse past))
+        → IsWrittenAtEnd s past p x }
 {}
