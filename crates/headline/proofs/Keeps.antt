@@ -52,38 +52,12 @@ use Rattle.board_laws.proofs.NodeNumbers.{node_numbers}
 use Rattle.board_laws.proofs.Openings.{MayRaise, OpensFor, opens, opens_as}
 use Rattle.tree_laws.proofs.Versions.{placed}
 use Rattle.headline.proofs.Answered.{answered_before, answered_whole}
+use Rattle.headline.proofs.Finished.{AreAtRest, over_run}
 use Rattle.headline.proofs.Finishing.{finishing_run, none_finishes}
-use Rattle.headline.proofs.Opens.{answered_at, open_run}
+use Rattle.headline.proofs.Opens.{open_run}
+use Rattle.headline.proofs.TreeRows.{tree_row}
 
--- The row of a tree, and that of an advancement.
-
--- where the first rows send the root of a tree, one of them is its row
-tree_row_by : (t n : ℕ) (u : TreeNo) (rows : List ScriptRow) (test : Bool) → (u.0 == t) ≡ test
-    → (1 ≤ roots_sent t (take n rows) → (i : ℕ) × (i < n) × (slice_get rows i ≡ Some (TreeRow (record { 0 = t }))))
-    → 1 ≤ one_if (u.0 == t) + roots_sent t (take n rows)
-    → (i : ℕ) × (i < suc n) × (slice_get (TreeRow u ∷ rows) i ≡ Some (TreeRow (record { 0 = t })))
-tree_row_by t n u rows true is rest some =
-    let same : u.0 ≡ t = grind (arith, nat_tests) in
-    (0, omega arith, ap (λ (m : ℕ). Some (TreeRow (record { 0 = m }))) same)
-tree_row_by t n u rows false is rest some =
-    let none : one_if (u.0 == t) ≡ 0 = ap one_if is in
-    let (i, lt, at) = rest (omega (arith, some, none)) in (suc i, omega (arith, lt), at)
-
-row_behind : (n : ℕ) (r row : ScriptRow) (rows : List ScriptRow) → (i : ℕ) × (i < n) × (slice_get rows i ≡ Some row)
-    → (i : ℕ) × (i < suc n) × (slice_get (r ∷ rows) i ≡ Some row)
-row_behind n r row rows found = let (i, lt, at) = found in (suc i, omega (arith, lt), at)
-
-tree_row : (t n : ℕ) (rows : List ScriptRow) → 1 ≤ roots_sent t (take n rows)
-    → (i : ℕ) × (i < n) × (slice_get rows i ≡ Some (TreeRow (record { 0 = t })))
-tree_row t zero rows some = absurd (omega (arith, some))
-tree_row t (suc n) [] some = absurd (omega (arith, some))
-tree_row t (suc n) (TreeRow u ∷ rows) some = tree_row_by t n u rows (u.0 == t) refl (tree_row t n rows) some
-tree_row t (suc n) (AdvanceRow ∷ rows) some =
-    row_behind n AdvanceRow (TreeRow (record { 0 = t })) rows (tree_row t n rows (omega (arith, some)))
-tree_row t (suc n) (SettleRow ∷ rows) some =
-    row_behind n SettleRow (TreeRow (record { 0 = t })) rows (tree_row t n rows (omega (arith, some)))
-tree_row t (suc n) (LoseRow ∷ rows) some =
-    row_behind n LoseRow (TreeRow (record { 0 = t })) rows (tree_row t n rows (omega (arith, some)))
+-- The row of an advancement.
 
 -- where the first rows ask for more than k advancements, one of them has k before it
 record AdvanceAt (k n : ℕ) (rows : List ScriptRow) : Type 0 where
@@ -181,21 +155,6 @@ reaches s past e p r v Go valid run b is may = absurd may
 reaches s past e p r v _ valid run b is may = absurd may
 
 -- The client finishes when all is over.
--- where no advancement is in progress, a node's versions are the coordinator's
-record AreAtRest (u : ℕ) (turns : TurnsOf) : Type 0 where
-  update : turns.update.0 ≡ u
-  read : turns.read.0 ≡ u - 1
-  low : turns.low.0 ≡ u - 1
-
-idle_turns : (phase : Phase) (u : ℕ) (turns : TurnsOf) → running phase ≡ 0 → IsInPhase phase u turns → AreAtRest u turns
-idle_turns Idle u turns none is =
-    record {
-      update = omega (arith, is.update_from, is.update_to);
-      read = omega (arith, is.read_from, is.read_to);
-      low = omega (arith, is.low_from, is.low_to);
-    }
-idle_turns _ u turns none is = absurd (omega (arith, none))
-
 not_finished : (past : List Entry) (test : Bool) → has_finished (places_of (reverse past)) ≡ test
     → tally (of_act is_finish) (places_of (reverse past)) ≡ 0 → test ≡ false
 not_finished past true is none =
@@ -203,43 +162,23 @@ not_finished past true is none =
     absurd (omega (arith, some, none))
 not_finished past false is none = refl
 
--- each tree of a script has its row
-row_there : (s : ScriptData) (t : ℕ) → IsValid s → t < length s.trees
-    → (i : ℕ) × (i < length s.rows) × (slice_get s.rows i ≡ Some (TreeRow (record { 0 = t })))
-row_there s t valid lt =
-    let all : take (length s.rows) s.rows ≡ s.rows = take_all (length s.rows) s.rows (omega arith) in
-    tree_row t (length s.rows) s.rows
-    (omega (arith, ap (λ (rows : List ScriptRow). roots_sent t rows) all, rooted_once (length s.trees) t s.rows valid.rows lt))
-
 finished : (s : ScriptData) (past : List Entry) (e : Entry) → IsValid s → IsStepRun s (e ∷ past) → e.actor.0 ≡ client_of s
     → e.acts ≡ Finished ∷ [] → IsEnd s (places_of (reverse past))
 finished s past e valid run at acts =
-    let c = client_in s (e ∷ past) in
-    let k = coordinator_in s (e ∷ past) in
-    let laws = lawful s valid in
-    let apt = all_apt s (e ∷ past) valid run in
+    let u = (coordinator_in s (e ∷ past)).update in
     let rest = finishing_run s (e ∷ past) valid run in
     let one : tally is_finish e.acts ≡ 1 = ap (λ (xs : List Act). tally is_finish xs) acts in
-    let now : c.finished ≡ true = is_true_of c.finished (omega (arith, rest.once, one)) in
-    let most : one_if c.finished ≡ 1 = ap one_if now in
-    let parts = and_parts (all_answered c.answered s.rows) (nat_le (advances_in s.rows) c.ended) (rest.over now).ended in
-    let ended = leb-true (advances_in s.rows) c.ended parts.1 in
-    let kept = advances_kept s (e ∷ past) laws run apt in
-    let asked = asked_most c.next s.rows in
-    let update : k.update ≡ advances_in s.rows + 1 = omega (arith, kept.asked, kept.ended, asked, ended) in
-    let none : running k.phase ≡ 0 = omega (arith, kept.asked, kept.ended, asked, ended) in
-    let turns : (p : ℕ) → p < s.nodes → AreAtRest k.update (node_in s past p).turns =
-    λ p lt. subst (λ (st : Node). AreAtRest k.update st.turns) (node_kept s past e p (omega (arith, at, lt)))
-    (idle_turns k.phase k.update (node_in s (e ∷ past) p).turns none (versions_in_phase s (e ∷ past) laws run apt p lt)) in
+    let now : (client_in s (e ∷ past)).finished ≡ true = is_true_of (client_in s (e ∷ past)).finished (omega (arith, rest.once, one)) in
+    let most : one_if (client_in s (e ∷ past)).finished ≡ 1 = ap one_if now in
+    let over = over_run s (e ∷ past) valid run now in
+    let turns : (p : ℕ) → p < s.nodes → AreAtRest u (node_in s past p).turns =
+    λ p lt. subst (λ (st : Node). AreAtRest u st.turns) (node_kept s past e p (omega (arith, at, lt))) (over.turns p lt) in
     record {
       once = not_finished past (has_finished (places_of (reverse past))) refl (omega (arith, finishes_of past, rest.once, one, most));
-      whole = λ t lt.
-          let (i, less, row) = row_there s t valid lt in
-          answered_whole s past t valid run.1 lt
-          (answered_before s past e t valid run (answered_at c.answered i t s.rows parts.0 row));
-      update = λ p lt. omega (arith, (node_numbers s past valid run.1 p lt).update, (turns p lt).update, update);
-      read = λ p lt. omega (arith, (node_numbers s past valid run.1 p lt).read, (turns p lt).read, update);
-      low = λ p lt. omega (arith, (node_numbers s past valid run.1 p lt).low, (turns p lt).low, update);
+      whole = λ t lt. answered_whole s past t valid run.1 lt (answered_before s past e t valid run (over.heard t lt));
+      update = λ p lt. omega (arith, (node_numbers s past valid run.1 p lt).update, (turns p lt).update, over.update);
+      read = λ p lt. omega (arith, (node_numbers s past valid run.1 p lt).read, (turns p lt).read, over.update);
+      low = λ p lt. omega (arith, (node_numbers s past valid run.1 p lt).low, (turns p lt).low, over.update);
     }
 
 -- The acts of an entry, one after the other.

@@ -5,48 +5,43 @@ use Rattle.board_rules.specs.Right.{HasFinished}
 use Rattle.headline.proofs.Fitting.{fits_run}
 use Rattle.headline.specs.Headline.{HasHeadline}
 use Rattle.headline.proofs.Few.{held_three}
+use Rattle.headline.proofs.Finished.{whole_at_end}
 use Rattle.headline.proofs.Settled.{settled}
 use Rattle.letter_types.specs.declared.entries.Entry.{Entry}
 use Rattle.headline.proofs.BoardRuns.{board_run}
 use Rattle.run_laws.proofs.AtOnce.{all_at_once}
-use Rattle.run_laws.proofs.InTime.{in_time}
 use Rattle.run_laws.proofs.Taken.{taken_run}
 use Rattle.worth_laws.proofs.Right.{right_run}
-use Rattle.headline.proofs.ReadsStay.{stay_right, updates_first}
+use Rattle.worth_laws.proofs.ShownStays.{shown_stays}
+use Rattle.worth_laws.proofs.WritersFirst.{writers_first}
 use Rattle.headline.proofs.Undone.{nothing_undone}
-use Rattle.tree_laws.proofs.Whole.{whole}
 use Rattle.tx_trees.specs.ScriptData.{ScriptData}
 use Rattle.tx_trees.specs.Valid.{IsValid}
 use Rattle.world_model.proofs.Back.{world_run}
 use Rattle.world_model.proofs.Posts.{steps}
-use Rattle.world_model.proofs.Scripts.{IsSound}
 use Rattle.world_model.specs.Runs.{IsStepRun, IsWorldRun}
-use Rattle.world_model.specs.Tables.{IsRunnable}
 
 -- of a run by steps
-pub headline_past : (s : ScriptData) (past : List Entry) → IsSound s → IsStepRun s past → HasFinished (reverse past)
+pub headline_past : (s : ScriptData) (past : List Entry) → IsValid s → IsStepRun s past → HasFinished (reverse past)
     → HasHeadline s (reverse past)
-headline_past s past sound run finished =
-    let timely = in_time s past sound run in
-    record {
-      run = world_run s past run;
-      apt = taken_run s past sound.valid run;
-      finished = finished;
-      whole = λ t lt. whole s past t sound.valid sound.runnable run timely finished lt;
-      settled = settled s past sound run finished;
-      reads = stay_right s past sound.valid run;
-      right = right_run s past sound.valid run;
-      updates_first = updates_first s past sound.valid run;
-      board = board_run s past sound.valid run;
-      fits = fits_run s past sound.valid run;
-      three = held_three s past sound.valid run;
-      at_once = all_at_once s past sound.valid run;
-      undone = nothing_undone s past sound.valid run;
-    }
+headline_past s past valid run finished = record {
+  run = world_run s past run;
+  apt = taken_run s past valid run;
+  finished = finished;
+  whole = λ t lt. whole_at_end s past t valid run finished lt;
+  settled = settled s past valid run finished;
+  reads = shown_stays s past valid run;
+  right = right_run s past valid run;
+  writers_first = writers_first s past valid run;
+  board = board_run s past valid run;
+  fits = fits_run s past valid run;
+  three = held_three s past valid run;
+  at_once = all_at_once s past valid run;
+  undone = nothing_undone s past valid run;
+}
 
 -- of a run by the tables
-pub headline : (s : ScriptData) (h : List Entry) → IsValid s → IsRunnable s → IsWorldRun s h → HasFinished h → HasHeadline s h
-headline s h valid runnable run finished =
+pub headline : (s : ScriptData) (h : List Entry) → IsValid s → IsWorldRun s h → HasFinished h → HasHeadline s h
+headline s h valid run finished =
     subst (HasHeadline s) (reverse-reverse h)
-    (headline_past s (reverse h) (record { valid = valid; runnable = runnable }) (steps s h run)
-    (subst HasFinished (sym (reverse-reverse h)) finished))
+    (headline_past s (reverse h) valid (steps s h run) (subst HasFinished (sym (reverse-reverse h)) finished))

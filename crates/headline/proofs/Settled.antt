@@ -1,8 +1,7 @@
 -- Once the client has finished, each node holds of its items their worth in the last version that was shown, and in the
 -- next one where that is written.
-use Rattle.std.proofs.Common.{◌≡◌, ℕ, ◌+◌, ◌<◌, ◌≤◌, ◌==◌, ◌||◌, Bool, true, false, List, [], ◌∷◌, reverse, refl, sym, ap, subst, ◌∙◌, arith, Option, Some, None}
+use Rattle.std.proofs.Common.{◌≡◌, ℕ, ◌+◌, ◌≤◌, ◌==◌, ◌||◌, Bool, true, false, [], ◌∷◌, List, reverse, refl, sym, ap, subst, ◌∙◌, arith, Option, Some, None}
 use Rattle.std.specs.Prelude.{if◌then◌else◌, nat_le, slice_get}
-use Rattle.std.proofs.lemmas.Bool.{and_parts, leb-true}
 use Rattle.std.proofs.lemmas.Bool.Decides.{nat_tests}
 use Rattle.tv_base.specs.declared.numbers.Version.{Version}
 use Rattle.commute_ops.specs.declared.value.Value.{Value}
@@ -12,31 +11,20 @@ use Rattle.letter_types.specs.declared.entries.Entry.{Entry}
 use Rattle.node_versions.specs.declared.turns.Turns.{Turns}
 use Rattle.tx_trees.specs.Counts.{advances_in}
 use Rattle.tx_trees.specs.ScriptData.{ScriptData}
+use Rattle.tx_trees.specs.Valid.{IsValid}
 use Rattle.tx_trees.specs.declared.parts.ItemRow.{ItemRow}
-use Rattle.world_model.specs.declared.phase.Phase.{Phase}
-use Rattle.world_model.specs.declared.phase.Phase.TheVariants.{Idle, Turning, Counting, Paused, Showing, Sweeping}
-use Rattle.world_model.specs.Client.{all_answered}
 use Rattle.board_rules.specs.Right.{HasFinished}
 use Rattle.board_rules.specs.Worth.{is_written, worth}
 use Rattle.tree_laws.specs.OwnValues.{seen_at}
-use Rattle.world_model.specs.Runs.{IsStepRun, client_in, coordinator_in, node_in}
-use Rattle.world_model.specs.Timely.{AllTimely}
-use Rattle.world_model.proofs.Scripts.{IsSound, tree_below}
-use Rattle.phase_laws.specs.Advances.{running}
-use Rattle.phase_laws.specs.Phases.{IsInPhase}
-use Rattle.phase_laws.proofs.Levels.{versions_in_phase}
-use Rattle.phase_laws.proofs.Small.{asked_most, small}
-use Rattle.tree_laws.proofs.Client.{at_rest}
-use Rattle.tree_laws.proofs.Finishes.{done_then, finished_by}
-use Rattle.run_laws.proofs.InTime.{all_apt, in_time, lawful}
-use Rattle.tree_laws.proofs.Whole.{whole}
+use Rattle.world_model.specs.Runs.{IsStepRun, coordinator_in, node_in}
 use Rattle.run_laws.specs.Shown.{WritersAreWhole}
 use Rattle.worth_laws.proofs.OwnWorth.{own_is_worth, shown_is_closed}
+use Rattle.held_laws.specs.Written.{holds_of}
+use Rattle.held_laws.proofs.HeldWritten.{held_is_written}
+use Rattle.held_laws.proofs.WrittenAtEnd.{written_at_end}
 use Rattle.headline.specs.Held.{HoldsBalances}
-use Rattle.headline.proofs.AtEnd.{written_at_end}
 use Rattle.headline.proofs.Few.{IsKept, held_at, item_node}
-use Rattle.headline.proofs.Keeping.{keeps_run}
-use Rattle.headline.proofs.Kept.{holds_of}
+use Rattle.headline.proofs.Finished.{AreAtRest, at_end, whole_at_end}
 
 -- What is held of an item from version a to at most the next one.
 
@@ -69,82 +57,53 @@ two_held a va vb (x ∷ y ∷ []) test kept is now next =
 two_held a va vb (x ∷ y ∷ z ∷ zs) test kept is now next =
     absurd (omega (arith, kept.least.1, kept.order.0, kept.order.1.0, kept.most.1.1.0))
 
--- Where the client has finished, all advancements have ended.
-idle_of : (phase : Phase) → running phase ≡ 0 → phase ≡ Idle
-idle_of Idle is = refl
-idle_of Turning is = absurd (omega (arith, is))
-idle_of (Counting reads) is = absurd (omega (arith, is))
-idle_of (Paused reads) is = absurd (omega (arith, is))
-idle_of Showing is = absurd (omega (arith, is))
-idle_of Sweeping is = absurd (omega (arith, is))
-
--- every node's low version is the last one shown, and its update version the next
+-- Where the client has finished, every node's low version is the last one shown, and its update version the next.
 record Stands (s : ScriptData) (turns : Turns) : Type 0 where
-  pub low : turns.low.0 ≡ advances_in s.rows
-  pub update : turns.update.0 ≡ advances_in s.rows + 1
+  low : turns.low.0 ≡ advances_in s.rows
+  update : turns.update.0 ≡ advances_in s.rows + 1
 
-stands_by : (s : ScriptData) (u : ℕ) (phase : Phase) (turns : Turns) → phase ≡ Idle → u ≡ advances_in s.rows + 1 → IsInPhase phase u turns
-    → Stands s turns
-stands_by s u phase turns idle is in_phase =
-    let now : IsInPhase Idle u turns = subst (λ (q : Phase). IsInPhase q u turns) idle in_phase in
-    record {
-      low = omega (arith, is, now.low_from, now.low_to);
-      update = omega (arith, is, now.update_from, now.update_to);
-    }
-
-stands : (s : ScriptData) (past : List Entry) (p : ℕ) → IsSound s → IsStepRun s past → AllTimely s past → (client_in s past).finished ≡ true
-    → p < s.nodes → Stands s (node_in s past p).turns
-stands s past p sound run timely finished lt =
-    let c = coordinator_in s past in
-    let laws = lawful s sound in
-    let apt = all_apt s past sound run in
-    let over = (at_rest s past sound run timely).over finished in
-    let parts = and_parts (all_answered (client_in s past).answered s.rows) (nat_le (advances_in s.rows) (client_in s past).ended) over.ended in
-    let numbers = small s past laws run apt in
-    let most = asked_most (client_in s past).next s.rows in
-    let ended = leb-true (advances_in s.rows) (client_in s past).ended parts.1 in
-    let update : c.update ≡ advances_in s.rows + 1 = omega (arith, numbers.asked, numbers.ended, most, ended) in
-    let none : running c.phase ≡ 0 = omega (arith, numbers.asked, numbers.ended, most, ended) in
-    stands_by s c.update c.phase (node_in s past p).turns (idle_of c.phase none) update (versions_in_phase s past laws run apt p lt)
+stands : (s : ScriptData) (past : List Entry) (p : ℕ) → IsValid s → IsStepRun s past → HasFinished (reverse past) → p < s.nodes
+    → Stands s (node_in s past p).turns
+stands s past p valid run finished lt =
+    let end = at_end s past valid run finished in
+    let rest : AreAtRest (coordinator_in s past).update (node_in s past p).turns = end.turns p lt in
+    record { low = omega (arith, rest.low, end.update); update = omega (arith, rest.update, end.update) }
 
 -- every writer is whole
-all_whole : (s : ScriptData) (past : List Entry) (v : ℕ) → IsSound s → IsStepRun s past → AllTimely s past → HasFinished (reverse past)
+all_whole : (s : ScriptData) (past : List Entry) (v : ℕ) → IsValid s → IsStepRun s past → HasFinished (reverse past)
     → WritersAreWhole s (reverse past) v
-all_whole s past v sound run timely finished = λ t w lt writes born le. whole s past t sound.valid sound.runnable run timely finished lt
+all_whole s past v valid run finished = λ t w lt writes born le. whole_at_end s past t valid run finished lt
 
 -- what a node sees of its item is what the item is worth
-worth_seen : (s : ScriptData) (past : List Entry) (x v : ℕ) (r : ItemRow) (h : Held) → IsSound s → IsStepRun s past → AllTimely s past
+worth_seen : (s : ScriptData) (past : List Entry) (x v : ℕ) (r : ItemRow) (h : Held) → IsValid s → IsStepRun s past
     → HasFinished (reverse past) → slice_get s.items x ≡ Some r → (node_in s past r.node.0).turns.low.0 ≤ v
     → item_in (record { 0 = x }) (node_in s past r.node.0).items ≡ Some h
     → seen (record { 0 = v }) h ≡ Some (worth s (reverse past) x v)
-worth_seen s past x v r h sound run timely finished at low is =
+worth_seen s past x v r h valid run finished at low is =
     let p = r.node.0 in
-    let lt = item_node s x r sound.valid at in
+    let lt = item_node s x r valid at in
     let found : seen_at s past p x v ≡ seen (record { 0 = v }) h =
     ap (λ (o : Option Held). elim o [ None ↦ None | Some g ↦ seen (record { 0 = v }) g ]) is in
     sym found
-    ∙ own_is_worth s past p x v r sound.valid run lt at refl low
-    (shown_is_closed s past p x v r sound.valid at refl (all_whole s past v sound run timely finished))
+    ∙ own_is_worth s past p x v r valid run lt at refl low
+    (shown_is_closed s past p x v r valid at refl (all_whole s past v valid run finished))
 
-pub settled : (s : ScriptData) (past : List Entry) → IsSound s → IsStepRun s past → HasFinished (reverse past) → HoldsBalances s (reverse past)
-settled s past sound run finished = λ x r at.
+pub settled : (s : ScriptData) (past : List Entry) → IsValid s → IsStepRun s past → HasFinished (reverse past) → HoldsBalances s (reverse past)
+settled s past valid run finished = λ x r at.
     let p = r.node.0 in
     let a = advances_in s.rows in
     let h = reverse past in
-    let lt = item_node s x r sound.valid at in
+    let lt = item_node s x r valid at in
     let st = node_in s past p in
-    let timely = in_time s past sound run in
-    let over = finished_by s past sound run timely finished in
-    let now = stands s past p sound run timely over lt in
-    let there = held_at s past x r sound.valid run at in
+    let now = stands s past p valid run finished lt in
+    let there = held_at s past x r valid run at in
     let kept : IsKept a (a + 1) there.held =
     subst (λ (n : ℕ). IsKept a n there.held) now.update (subst (λ (n : ℕ). IsKept n st.turns.update.0 there.held) now.low there.kept) in
-    let holds' : holds (record { 0 = a + 1 }) there.held ≡ is_written s h x (a + 1) =
+    let written : holds (record { 0 = a + 1 }) there.held ≡ is_written s h x (a + 1) =
     sym (ap (holds_of (record { 0 = a + 1 })) there.is)
-    ∙ (keeps_run s past sound run timely p lt).holds x (a + 1) r at refl (omega (arith, now.low))
-    ∙ written_at_end s past x (a + 1) sound
-    (λ t k c. omega (arith, done_then s past t sound run timely over (tree_below s t k c) k c)) in
+    ∙ held_is_written s past p x (a + 1) r valid run lt at refl (omega (arith, now.low))
+    ∙ written_at_end s past p x (a + 1) r valid run at refl (λ t less. whole_at_end s past t valid run finished less) in
     there.after
-    ∙ two_held a (worth s h x a) (worth s h x (a + 1)) there.held (is_written s h x (a + 1)) kept holds'
-    (worth_seen s past x a r there.held sound run timely finished at (omega (arith, now.low)) there.is)
-    (worth_seen s past x (a + 1) r there.held sound run timely finished at (omega (arith, now.low)) there.is)
+    ∙ two_held a (worth s h x a) (worth s h x (a + 1)) there.held (is_written s h x (a + 1)) kept written
+    (worth_seen s past x a r there.held valid run finished at (omega (arith, now.low)) there.is)
+    (worth_seen s past x (a + 1) r there.held valid run finished at (omega (arith, now.low)) there.is)

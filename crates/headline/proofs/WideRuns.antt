@@ -7,8 +7,8 @@ use Rattle.tv_base.proofs.Truths.{at_most, same_test}
 use Rattle.tv_base.specs.declared.numbers.Version.{Version}
 use Rattle.item_versions.specs.Item.{Held}
 use Rattle.item_versions.specs.Table.{Table}
-use Rattle.item_versions.proofs.Tables.{Each as EachItem}
 use Rattle.item_versions.specs.Collecting.{may_collect, may_collect_all}
+use Rattle.item_versions.specs.Window.{IsWindowed, IsWindowedTable}
 use Rattle.letter_types.specs.declared.bodies.Body.{Body}
 use Rattle.letter_types.specs.declared.bodies.Body.TheVariants.{Go, Sweep}
 use Rattle.letter_types.specs.declared.entries.Entry.{Entry}
@@ -18,6 +18,7 @@ use Rattle.letter_types.specs.Letters.{find_id, own}
 use Rattle.letter_types.specs.Steps.{Out}
 use Rattle.tx_trees.specs.Counts.{has_strict}
 use Rattle.tx_trees.specs.ScriptData.{ScriptData}
+use Rattle.tx_trees.specs.Valid.{IsValid}
 use Rattle.world_model.specs.Named.{is_named, is_new, is_timely}
 use Rattle.world_model.specs.Node.{Node}
 use Rattle.world_model.specs.Apt.{is_widely_timely}
@@ -30,28 +31,26 @@ use Rattle.world_model.proofs.Actors.{IsTableOf, RowsRun, rows_run, runs_of_rows
 use Rattle.world_model.proofs.Back.{run_more, says_node, table_run_of, world_run}
 use Rattle.world_model.proofs.Bridge.{run_less, state_more}
 use Rattle.world_model.proofs.Posts.{follows_by, moves_by, rows_less, steps, waits_of, who_of}
-use Rattle.world_model.proofs.Scripts.{IsSound}
-use Rattle.tree_laws.proofs.OwnDeeds.{sees_run}
-use Rattle.tree_laws.proofs.Seen.{IsFrom}
-use Rattle.run_laws.proofs.InTime.{in_time}
+use Rattle.tree_laws.proofs.AptWindows.{tables_in_window}
+use Rattle.run_laws.proofs.EveryApt.{all_apt}
 use Rattle.run_laws.proofs.Taken.{apt_here}
 
 -- An apt letter is widely apt.
-may_at : (low : ℕ) (f : Version) (h : Held) → IsFrom low h → low ≤ f.0 → may_collect f h ≡ true
-may_at low f [] from le = absurd from.first
-may_at low f (x ∷ xs) from le = let le2 : x.0.0 ≤ f.0 = omega (arith, from.first, le) in grind (arith, nat_tests)
+may_at : (low : ℕ) (f : Version) (h : Held) → IsWindowed low h → low ≤ f.0 → may_collect f h ≡ true
+may_at low f [] near le = absurd (omega (arith, near.least.0))
+may_at low f (x ∷ xs) near le = let first : x.0.0 ≤ f.0 = omega (arith, near.least.1, le) in grind (arith, nat_tests)
 
-may_all : (low : ℕ) (f : Version) (t : Table) → low ≤ f.0 → EachItem (IsFrom low) t → may_collect_all f t ≡ true
-may_all low f [] le from = refl
-may_all low f (e ∷ es) le from = rw (may_at low f e.1 from.0 le) (may_all low f es le from.1)
+may_all : (low : ℕ) (f : Version) (t : Table) → low ≤ f.0 → IsWindowedTable low t → may_collect_all f t ≡ true
+may_all low f [] le near = refl
+may_all low f (e ∷ es) le near = rw (may_at low f e.1 near.0 le) (may_all low f es le near.1)
 
-widely_timely : (s : ScriptData) (st : Node) (b : Body) → EachItem (IsFrom st.turns.low.0) st.items → is_timely s st b ≡ true
+widely_timely : (s : ScriptData) (st : Node) (b : Body) → IsWindowedTable st.turns.low.0 st.items → is_timely s st b ≡ true
     → is_widely_timely s st b ≡ true
-widely_timely s st (Sweep v) from timely =
+widely_timely s st (Sweep v) near timely =
     may_all st.turns.low.0 v st.items
-    (at_most st.turns.low.0 v.0 (nat_le v.0 st.turns.read.0 && nat_le v.0 st.turns.update.0) timely) from
-widely_timely s st Go from timely = refl
-widely_timely s st _ from timely = refl
+    (at_most st.turns.low.0 v.0 (nat_le v.0 st.turns.read.0 && nat_le v.0 st.turns.update.0) timely) near
+widely_timely s st Go near timely = refl
+widely_timely s st _ near timely = refl
 
 wide_by : (h a b c d e f g : Bool) → (h && (a && (b && c && (d && e && f)))) ≡ true → (d ≡ true → g ≡ true)
     → (h && (a && (b && c && (g && f)))) ≡ true
@@ -61,12 +60,12 @@ wide_by h a b c false e f g is wide = absurd (let not_so : false ≡ true = sym 
   none : (x y z : Bool) → (x && (y && (z && false))) ≡ false
   none x y z = grind arith
 
-widely_apt : (s : ScriptData) (p : ℕ) (c : Core) (l : Letter) → EachItem (IsFrom c.node.turns.low.0) c.node.items
+widely_apt : (s : ScriptData) (p : ℕ) (c : Core) (l : Letter) → IsWindowedTable c.node.turns.low.0 c.node.items
     → is_core_apt s p c l ≡ true → is_widely_core_apt s p c l ≡ true
-widely_apt s p c l from apt =
+widely_apt s p c l near apt =
     wide_by (has_strict s || not (is_of_strict l.body)) (is_named s p l.from.0 l.body) (is_new s c.node l.body)
     (is_unheld l.body c.holds) (is_timely s c.node l.body) (decides_near s c.node l.body) (can_make_at s p c l.body)
-    (is_widely_timely s c.node l.body) apt (λ timely. widely_timely s c.node l.body from timely)
+    (is_widely_timely s c.node l.body) apt (λ timely. widely_timely s c.node l.body near timely)
 
 -- so both tables have the same row where the letter that is brought is apt
 both_true : (a b : Bool) → (a && b) ≡ true → (a ≡ true) × (b ≡ true)
@@ -75,12 +74,12 @@ both_true true false is = absurd (cc is)
 both_true false b is = absurd (cc is)
 
 same_by : (s : ScriptData) (p : ℕ) (n : KeepingNode) (l : Letter) (o : Option Letter)
-    → EachItem (IsFrom n.core.node.turns.low.0) n.core.node.items → is_apt_brought s p n o ≡ true
+    → IsWindowedTable n.core.node.turns.low.0 n.core.node.items → is_apt_brought s p n o ≡ true
     → brought_row (is_widely_core_apt s p) s p l n o ≡ brought_row (is_core_apt s p) s p l n o
-same_by s p n l None from apt = refl
-same_by s p n l (Some r) from apt =
+same_by s p n l None near apt = refl
+same_by s p n l (Some r) near apt =
     let (here, core) = both_true (r.to.0 == p) (is_core_apt s p n.core r) apt in
-    let wide = widely_apt s p n.core r from core in
+    let wide = widely_apt s p n.core r near core in
     rw (here, core, wide) refl
 
 -- Each letter in flight is apt: an entry of its addressee's row may follow.
@@ -94,10 +93,10 @@ entry_with s past e out = record {
 }
 
 -- both tables say the same of a letter in flight to a node
-same_row : (s : ScriptData) (past : List Entry) (e : Entry) → IsSound s → IsStepRun s past → e.actor.0 < s.nodes
+same_row : (s : ScriptData) (past : List Entry) (e : Entry) → IsValid s → IsStepRun s past → e.actor.0 < s.nodes
     → find_id e.took.id (in_flight s past) ≡ Some e.took → e.took.to.0 ≡ e.actor.0
     → wide_keeping_row s e.actor.0 (keeping_in s past e.actor.0) e.took ≡ keeping_row s e.actor.0 (keeping_in s past e.actor.0) e.took
-same_row s past e sound run lt waits to =
+same_row s past e valid run lt waits to =
     let p = e.actor.0 in
     let st = keeping_in s past p in
     let now = entry_with s past e (keeping_row s p st e.took) in
@@ -108,15 +107,15 @@ same_row s past e sound run lt waits to =
       moves = AtNode lt (refl, refl);
     } in
     let more : IsStepRun s (now ∷ past) = (follows, run) in
-    same_by s p st e.took (brought st.kept e.took e.took.body) (sees_run s past sound run (in_time s past sound run) p lt).from
-    (apt_here s past now sound.valid more lt)
+    same_by s p st e.took (brought st.kept e.took e.took.body) (tables_in_window s past p valid (all_apt s past valid run) run lt)
+    (apt_here s past now valid more lt)
 
-same_at : (s : ScriptData) (past : List Entry) (e : Entry) (p : ℕ) → IsSound s → IsStepRun s past → MayFollow s past e → p < s.nodes
+same_at : (s : ScriptData) (past : List Entry) (e : Entry) (p : ℕ) → IsValid s → IsStepRun s past → MayFollow s past e → p < s.nodes
     → (e.actor.0 == p) ≡ true → wide_keeping_row s p (keeping_in s past p) e.took ≡ keeping_row s p (keeping_in s past p) e.took
-same_at s past e p sound run m lt is =
+same_at s past e p valid run m lt is =
     let at : e.actor.0 ≡ p = grind (arith, nat_tests) in
     subst (λ (q : ℕ). wide_keeping_row s q (keeping_in s past q) e.took ≡ keeping_row s q (keeping_in s past q) e.took) at
-    (same_row s past e sound run (omega (arith, at, lt)) m.waits m.addressee)
+    (same_row s past e valid run (omega (arith, at, lt)) m.waits m.addressee)
 
 -- From the window to the wider aptness.
 state_by : (wide st : KeepingNode) (here : KeepingNode) (test : Bool) → (test ≡ true → wide ≡ here)
@@ -125,49 +124,49 @@ state_by wide st here true same = same refl
 state_by wide st here false same = refl
 
 -- a node's own entries lead to the same state
-wide_after : (s : ScriptData) (past : List Entry) (p : ℕ) → IsSound s → IsStepRun s past → p < s.nodes
+wide_after : (s : ScriptData) (past : List Entry) (p : ℕ) → IsValid s → IsStepRun s past → p < s.nodes
     → after (wide_keeping_row s p) (start_keeping s p) (own p (reverse past)) ≡ keeping_in s past p
-wide_after s [] p sound run lt = refl
-wide_after s (e ∷ past) p sound run lt =
+wide_after s [] p valid run lt = refl
+wide_after s (e ∷ past) p valid run lt =
     let st = keeping_in s past p in
-    state_more (wide_keeping_row s p) (start_keeping s p) p e past st (wide_after s past p sound run.1 lt)
+    state_more (wide_keeping_row s p) (start_keeping s p) p e past st (wide_after s past p valid run.1 lt)
     ∙ state_by (wide_keeping_row s p st e.took).state st (keeping_row s p st e.took).state (e.actor.0 == p)
-    (λ is. ap (λ (o : Out KeepingNode). o.state) (same_at s past e p sound run.1 run.0 lt is))
+    (λ is. ap (λ (o : Out KeepingNode). o.state) (same_at s past e p valid run.1 run.0 lt is))
 
-wide_nodes : (s : ScriptData) (past : List Entry) (p : ℕ) → IsSound s → IsStepRun s past → p < s.nodes
+wide_nodes : (s : ScriptData) (past : List Entry) (p : ℕ) → IsValid s → IsStepRun s past → p < s.nodes
     → IsRunOf (wide_keeping_row s p) (start_keeping s p) (own p (reverse past))
-wide_nodes s [] p sound run lt = tt
-wide_nodes s (e ∷ past) p sound run lt =
-    run_more (wide_keeping_row s p) (start_keeping s p) p e past (keeping_in s past p) (wide_after s past p sound run.1 lt)
-    (wide_nodes s past p sound run.1 lt)
-    (λ is. subst (λ (o : Out KeepingNode). Says o e) (sym (same_at s past e p sound run.1 run.0 lt is)) (says_node s past e p run.0.moves lt is))
+wide_nodes s [] p valid run lt = tt
+wide_nodes s (e ∷ past) p valid run lt =
+    run_more (wide_keeping_row s p) (start_keeping s p) p e past (keeping_in s past p) (wide_after s past p valid run.1 lt)
+    (wide_nodes s past p valid run.1 lt)
+    (λ is. subst (λ (o : Out KeepingNode). Says o e) (sym (same_at s past e p valid run.1 run.0 lt is)) (says_node s past e p run.0.moves lt is))
 
-wide_rows : (s : ScriptData) (past : List Entry) → IsSound s → IsStepRun s past → RowsRun (wide_keeping_row s) s (reverse past)
-wide_rows s past sound run =
+wide_rows : (s : ScriptData) (past : List Entry) → IsValid s → IsStepRun s past → RowsRun (wide_keeping_row s) s (reverse past)
+wide_rows s past valid run =
     let tables = table_run_of s past run in
     record {
       postal = tables.postal;
-      nodes = λ p lt. wide_nodes s past p sound run lt;
+      nodes = λ p lt. wide_nodes s past p valid run lt;
       coordinator = tables.coordinator;
       client = tables.client;
     }
 
 -- And back: by induction a shorter past is a run by the window, so the next letter is apt.
-wide_says : (s : ScriptData) (e : Entry) (past : List Entry) → IsSound s → IsStepRun s past → RowsRun (wide_keeping_row s) s (reverse (e ∷ past))
+wide_says : (s : ScriptData) (e : Entry) (past : List Entry) → IsValid s → IsStepRun s past → RowsRun (wide_keeping_row s) s (reverse (e ∷ past))
     → e.actor.0 < s.nodes → Says (keeping_row s e.actor.0 (keeping_in s past e.actor.0) e.took) e
-wide_says s e past sound run wide lt =
+wide_says s e past valid run wide lt =
     let p = e.actor.0 in
-    let says = (run_less (wide_keeping_row s p) (start_keeping s p) p e past (keeping_in s past p) (wide_after s past p sound run lt) (wide.nodes p lt)).1
+    let says = (run_less (wide_keeping_row s p) (start_keeping s p) p e past (keeping_in s past p) (wide_after s past p valid run lt) (wide.nodes p lt)).1
     (same_test p) in
     subst (λ (o : Out KeepingNode). Says o e)
-    (same_row s past e sound run lt (waits_of s e past run wide.postal) (who_of s e past wide.postal).0) says
+    (same_row s past e valid run lt (waits_of s e past run wide.postal) (who_of s e past wide.postal).0) says
 
-wide_steps : (s : ScriptData) (past : List Entry) → IsSound s → RowsRun (wide_keeping_row s) s (reverse past) → IsStepRun s past
-wide_steps s [] sound wide = tt
-wide_steps s (e ∷ past) sound wide =
-    let run = wide_steps s past sound (rows_less (wide_keeping_row s) s e past wide) in (
+wide_steps : (s : ScriptData) (past : List Entry) → IsValid s → RowsRun (wide_keeping_row s) s (reverse past) → IsStepRun s past
+wide_steps s [] valid wide = tt
+wide_steps s (e ∷ past) valid wide =
+    let run = wide_steps s past valid (rows_less (wide_keeping_row s) s e past wide) in (
       follows_by s e past run wide.postal
-          (moves_by s e past (λ lt. wide_says s e past sound run wide lt) wide.coordinator wide.client (who_of s e past wide.postal).1),
+          (moves_by s e past (λ lt. wide_says s e past valid run wide lt) wide.coordinator wide.client (who_of s e past wide.postal).1),
       run,
     )
 
@@ -175,15 +174,15 @@ wide_steps s (e ∷ past) sound wide =
 by_wider : (s : ScriptData) → IsTableOf s (wide_actor_row s) (wide_keeping_row s)
 by_wider s = record { node = λ p st l. refl; coordinator = λ a c l. refl; client = λ a c l. refl }
 
-pub widened : (s : ScriptData) (h : List Entry) → IsSound s → IsWorldRun s h → IsWideRun s h
-widened s h sound world =
+pub widened : (s : ScriptData) (h : List Entry) → IsValid s → IsWorldRun s h → IsWideRun s h
+widened s h valid world =
     let wide : RowsRun (wide_keeping_row s) s h =
-    subst (λ (x : List Entry). RowsRun (wide_keeping_row s) s x) (reverse-reverse h) (wide_rows s (reverse h) sound (steps s h world)) in
+    subst (λ (x : List Entry). RowsRun (wide_keeping_row s) s x) (reverse-reverse h) (wide_rows s (reverse h) valid (steps s h world)) in
     record { postal = world.postal; actors = runs_of_rows (wide_actor_row s) (wide_keeping_row s) s h (by_wider s) wide }
 
-pub narrowed : (s : ScriptData) (h : List Entry) → IsSound s → IsWideRun s h → IsWorldRun s h
-narrowed s h sound wide =
+pub narrowed : (s : ScriptData) (h : List Entry) → IsValid s → IsWideRun s h → IsWorldRun s h
+narrowed s h valid wide =
     let rows : RowsRun (wide_keeping_row s) s (reverse (reverse h)) =
     subst (λ (x : List Entry). RowsRun (wide_keeping_row s) s x) (sym (reverse-reverse h))
     (rows_run (wide_actor_row s) (wide_keeping_row s) s h (by_wider s) wide.postal wide.actors) in
-    subst (λ (x : List Entry). IsWorldRun s x) (reverse-reverse h) (world_run s (reverse h) (wide_steps s (reverse h) sound rows))
+    subst (λ (x : List Entry). IsWorldRun s x) (reverse-reverse h) (world_run s (reverse h) (wide_steps s (reverse h) valid rows))

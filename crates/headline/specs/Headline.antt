@@ -13,7 +13,7 @@ use Rattle.board_rules.specs.Moves.{IsBoardRun}
 use Rattle.board_rules.specs.Right.{HasFinished, IsAtOnce, IsRight}
 use Rattle.world_model.specs.Runs.{IsWorldRun}
 use Rattle.run_laws.specs.Taken.{TakesWhatIsApt}
-use Rattle.headline.specs.Reads.{ReadsStayRight, UpdatesComeFirst}
+use Rattle.worth_laws.specs.Stays.{ReadsStayRight, WritersAreFirst}
 use Rattle.headline.specs.Undone.{ShowsNothingUndone}
 use Rattle.headline.specs.Held.{HasHeldThree, HoldsBalances}
 
@@ -31,9 +31,9 @@ pub record HasHeadline (s : ScriptData) (h : List Entry) : Type 0 where
   -- the report of its own stored history: its balances are what the nodes hold, and its reads are what the steps gave
   pub settled : HoldsBalances s h
   pub reads : ReadsStayRight s h
-  -- every read tree shows exactly the whole update trees of its version or older
+  -- every read tree shows exactly the whole update trees of its version or older, and the committed strict trees
   pub right : IsRight s h
-  pub updates_first : UpdatesComeFirst s h
+  pub writers_first : WritersAreFirst s h
   -- all committed trees are a serial run ordered by version: what is worth is a fold over the serial order, and
   -- versions and order are tied to the script by the Board and the gates
   pub board : IsBoardRun s h

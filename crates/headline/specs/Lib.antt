@@ -1,5 +1,4 @@
 pub mod Ended
 pub mod Headline
 pub mod Held
-pub mod Reads
 pub mod Undone

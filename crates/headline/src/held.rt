@@ -6,7 +6,6 @@ ghost use Rattle.letter_types.specs.declared.entries.Entry.{Entry};
 ghost use Rattle.tx_trees.specs.ScriptData.{ScriptData};
 ghost use Rattle.tx_trees.specs.Valid.{IsValid};
 ghost use Rattle.world_model.specs.Runs.{IsStepRun};
-ghost use Rattle.world_model.specs.Tables.{IsRunnable};
 
 /// In every run of every valid script, strict trees too, after each part of it, a node holds of each of its items at most
 /// three versions: from its low version to at most its update version, which is at most two above the low one.
@@ -17,6 +16,6 @@ pub fn no_item_has_held_more_than_three()
 /// In every run in which the client has finished, a node holds of each of its items the balances of the report and
 /// nothing else: its worth in the last version that was shown, and in the next one if a tree of that one changes it.
 pub fn nodes_hold_the_balances()
-    ensures { (s : ScriptData) (past : List Entry) → IsValid s → IsRunnable s → IsStepRun s past
+    ensures { (s : ScriptData) (past : List Entry) → IsValid s → IsStepRun s past
         → HasFinished (reverse past) → HoldsBalances s (reverse past) }
 {}

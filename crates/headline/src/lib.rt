@@ -13,7 +13,5 @@ pub use board::every_run_is_a_board_run;
 pub use gates::{every_run_keeps_to_its_rows, open_gates_stay_open};
 pub use held::{no_item_has_held_more_than_three, nodes_hold_the_balances};
 pub use promise::{every_finished_run_has_the_headline, every_run_without_letters_has_ended};
-pub use reads::{
-    every_read_is_right, no_read_shows_what_was_undone, reads_stay_right, updates_come_first,
-};
+pub use reads::no_read_shows_what_was_undone;
 pub use window::the_window_refuses_nothing;

@@ -7,18 +7,17 @@ ghost use Rattle.letter_types.specs.declared.entries.Entry.{Entry};
 ghost use Rattle.tx_trees.specs.ScriptData.{ScriptData};
 ghost use Rattle.tx_trees.specs.Valid.{IsValid};
 ghost use Rattle.world_model.specs.Runs.{IsStepRun, IsWorldRun, in_flight};
-ghost use Rattle.world_model.specs.Tables.{IsRunnable};
 
 /// Every run by the tables in which the client has finished has the headline, whoever made it: letters may still be in
 /// flight in it.
 pub fn every_finished_run_has_the_headline()
-    ensures { (s : ScriptData) (h : List Entry) → IsValid s → IsRunnable s → IsWorldRun s h → HasFinished h
+    ensures { (s : ScriptData) (h : List Entry) → IsValid s → IsWorldRun s h → HasFinished h
         → HasHeadline s h }
 {}
 
 /// Every run in which no letter is left has ended: it has the headline, and as many entries as the script and the
 /// rounds of its advancements make.
 pub fn every_run_without_letters_has_ended()
-    ensures { (s : ScriptData) (past : List Entry) → IsValid s → IsRunnable s → IsStepRun s past → in_flight s past ≡ []
+    ensures { (s : ScriptData) (past : List Entry) → IsValid s → IsStepRun s past → in_flight s past ≡ []
         → HasEnded s (reverse past) }
 {}

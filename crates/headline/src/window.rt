@@ -4,10 +4,9 @@ ghost use Rattle.letter_types.specs.declared.entries.Entry.{Entry};
 ghost use Rattle.tx_trees.specs.ScriptData.{ScriptData};
 ghost use Rattle.tx_trees.specs.Valid.{IsValid};
 ghost use Rattle.world_model.specs.Runs.{IsWideRun, IsWorldRun};
-ghost use Rattle.world_model.specs.Tables.{IsRunnable};
 
 /// The window of three versions refuses nothing that a node would do that keeps versions without end: the runs by the
 /// window are the runs by the wider aptness.
 pub fn the_window_refuses_nothing()
-    ensures { (s : ScriptData) (h : List Entry) → IsValid s → IsRunnable s → (IsWorldRun s h ↔ IsWideRun s h) }
+    ensures { (s : ScriptData) (h : List Entry) → IsValid s → (IsWorldRun s h ↔ IsWideRun s h) }
 {}

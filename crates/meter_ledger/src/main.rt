@@ -29,9 +29,6 @@ pub(crate) enum Fault {
     /// The script refused a record.
     #[error("{0}")]
     Refused(#[from] Refusal),
-    /// The script has something that no run takes.
-    #[error("a script that may not be run")]
-    NotRunnable,
     /// Standard output failed.
     #[error("{0}")]
     NotPrinted(#[from] io::Error),

@@ -1,12 +1,10 @@
 // The script, built by calls.
-ghost use Rattle.std.specs.Prelude.{◌≡◌, IfOk, true};
-ghost use Rattle.world_model.specs.Tables.{IsRunnable};
 
 use crate::Fault;
 use commute_ops::{Amount, Kind, Op};
 use std::alloc::Global;
 use tv_base::{Name, NodeNo, TreeNo};
-use tx_trees::{Deed, Form, ItemRow, Script, ScriptRow, TreeKind};
+use tx_trees::{Deed, Form, ItemRow, Script, TreeKind};
 
 const NORTH: &[u8] = b"north";
 
@@ -22,15 +20,13 @@ pub(crate) struct Month {
 }
 
 /// Two meters on two nodes, and a count of hours at the night tariff. Readings of May are booked, then versions
-/// advance, and a report of May reads all three beside a reading of June. The script may be run.
+/// advance, and a report of May reads all three beside a reading of June.
 ///
 /// The values are the same whatever the schedule. May's readings are answered before the advancement is asked for
 /// (`add_settle`), so all of them are of version 1; and it has ended before the report and June's reading are sent, so
 /// the report reads version 1, and June's reading is of version 2. And the updates of one version commute: in any order
 /// their sums are the same.
-pub(crate) fn booked_month(alloc: Global) -> Result<Month, Fault>
-    ensures { IfOk result (λ month. IsRunnable month.script) }
-{
+pub(crate) fn booked_month(alloc: Global) -> Result<Month, Fault> {
     let mut script = Script::new(alloc, Form::One, 2);
     add_meter(&mut script, NORTH, 0, 1200)?;
     add_meter(&mut script, SOUTH, 1, 900)?;
@@ -43,22 +39,7 @@ pub(crate) fn booked_month(alloc: Global) -> Result<Month, Fault>
     script.add_settle()?;
     add_reading(&mut script, b"june-1", 3, 2, 1)?;
     let report = add_report(&mut script, b"may-report")?;
-    if !may_run(&script) {
-        return Err(Fault::NotRunnable);
-    }
     Ok(Month { script, report })
-}
-
-// Whether the script may be run: it has only update and read trees, and no row that makes the coordinator forget.
-fn may_run(script: &Script) -> bool
-    ensures { result ≡ true → IsRunnable script.now }
-{
-    let trees = script.trees();
-    let rows = script.rows();
-    trees
-        .iter()
-        .all(|tree| !matches!(tree.kind, TreeKind::Strict))
-        && rows.iter().all(|row| !matches!(row, ScriptRow::Lose))
 }
 
 fn name(bytes: &[u8]) -> Result<Name, Fault> {

@@ -1,7 +1,6 @@
 // The script run in two ways.
 ghost use Rattle.std.specs.Prelude.{◌<◌, ◌≡◌, ◌/◌, ℕ, IfOk, List, length};
 ghost use Rattle.headline.specs.Headline.{HasHeadline};
-ghost use Rattle.world_model.specs.Tables.{IsRunnable};
 
 use crate::Fault;
 use headline::every_finished_run_has_the_headline;
@@ -32,7 +31,6 @@ impl Picker for Middle {
 
 /// The script run on one thread by that picker. Its history has what is promised of every run (`HasHeadline`).
 pub(crate) fn run_middle_first(alloc: Global, script: &Script) -> Result<History, Fault>
-    requires { IsRunnable script.now }
     ensures { IfOk result (λ history. HasHeadline script.now history) }
 {
     let history = simulate_by(alloc, script, &mut Middle)?;
@@ -45,7 +43,6 @@ pub(crate) fn run_on_threads<R: Threads + Wait + Sync>(
     alloc: Global,
     script: &Script,
 ) -> Result<History, Fault>
-    requires { IsRunnable script.now }
     ensures { IfOk result (λ history. HasHeadline script.now history) }
 {
     // Both are called for their clauses alone: a script is valid, and every run that has finished has the promise.

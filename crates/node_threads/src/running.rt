@@ -3,7 +3,6 @@ ghost use Rattle.std.specs.Prelude.{◌≡◌, ◌+◌, ◌≤◌, IfOk};
 ghost use Rattle.board_rules.specs.Right.{HasFinished};
 ghost use Rattle.stamp_post.specs.Shown.{new_seats};
 ghost use Rattle.world_model.specs.Runs.{IsWorldRun};
-ghost use Rattle.world_model.specs.Tables.{IsRunnable};
 ghost use Rattle.history_merge.specs.Histories.{HasTakenAll};
 
 use crate::cluster::Cluster;
@@ -105,8 +104,7 @@ pub fn run<R: Threads + Wait + Sync, G: Gate + Sync>(
     workers: u32,
     gate: &G,
 ) -> Result<History, NoMemory>
-    requires runnable { IsRunnable script.now }
-    requires workers { (1 ≤ workers) × (workers ≤ 32) }
+    requires { (1 ≤ workers) × (workers ≤ 32) }
     ensures run { IfOk result (λ h. IsWorldRun script.now h) }
     ensures finished { IfOk result (λ h. HasFinished h) }
     ensures taken { IfOk result (λ h. HasTakenAll h) }

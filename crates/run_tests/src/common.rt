@@ -1,7 +1,5 @@
-// Scripts that may be run, letters taken as a picker chooses, and what a node holds.
-ghost use Rattle.std.specs.Prelude.{◌≡◌, true, IfOk};
+// Scripts of texts, letters taken as a picker chooses, and what a node holds.
 ghost use Rattle.world_core.specs.Actors.{IsWorldOf};
-ghost use Rattle.world_model.specs.Tables.{IsRunnable};
 
 use commute_ops::{Amount, Value};
 use script_reader::read_script;
@@ -9,30 +7,12 @@ use sim_runner::Picker;
 use std::alloc::Global;
 use std::test::Fail;
 use tv_base::{ActorNo, ItemNo, NoMemory};
-use tx_trees::{Script, ScriptRow, TreeKind};
+use tx_trees::Script;
 use world_core::{ActorState, NodeState, World};
 
-/// Whether the script may be run.
-pub(crate) fn may_run(script: &Script) -> bool
-    ensures { result ≡ true → IsRunnable script.now }
-{
-    let trees = script.trees();
-    let rows = script.rows();
-    trees
-        .iter()
-        .all(|tree| !matches!(tree.kind, TreeKind::Strict))
-        && rows.iter().all(|row| !matches!(row, ScriptRow::Lose))
-}
-
-/// The script of a text, where it may be run.
-pub(crate) fn script_of(alloc: Global, text: &[u8]) -> Result<Script, Fail>
-    ensures { IfOk result IsRunnable }
-{
-    let script = read_script(alloc, text)?;
-    if !may_run(&script) {
-        return Err("a script that may not be run".into());
-    }
-    Ok(script)
+/// The script of a text.
+pub(crate) fn script_of(alloc: Global, text: &[u8]) -> Result<Script, Fail> {
+    Ok(read_script(alloc, text)?)
 }
 
 /// Takes at most so many letters of a world, as a picker chooses.
@@ -42,9 +22,8 @@ pub(crate) fn take<P: Picker>(
     picker: &mut P,
     most: u32,
 ) -> Result<(), NoMemory>
-    requires runnable { IsRunnable script.now }
-    requires world { IsWorldOf script.now world.old }
-    ensures world { IsWorldOf script.now world.new }
+    requires { IsWorldOf script.now world.old }
+    ensures { IsWorldOf script.now world.new }
 {
     for _ in 0..most {
         if world.waiting() == 0 {

@@ -6,12 +6,12 @@ use Rattle.letter_types.specs.declared.entries.Outgoing.{Outgoing}
 use Rattle.run_laws.proofs.InTime.{given_run}
 use Rattle.run_laws.specs.Quiet.{IsGivenInQuiet}
 use Rattle.tx_trees.specs.ScriptData.{ScriptData}
+use Rattle.tx_trees.specs.Valid.{IsValid}
 use Rattle.world_model.specs.Counts.{Each}
 use Rattle.world_model.specs.Runs.{IsStepRun}
-use Rattle.world_model.proofs.Scripts.{IsSound}
 
-pub given_step : (s : ScriptData) (old new : List Entry) → IsSound s → IsStepRun s (reverse new) → (e : Entry) → new ≡ old ++ e ∷ []
+pub given_step : (s : ScriptData) (old new : List Entry) → IsValid s → IsStepRun s (reverse new) → (e : Entry) → new ≡ old ++ e ∷ []
     → Each (λ (o : Outgoing). IsGivenInQuiet s (reverse old) o.body) e.sent
-given_step s old new sound run e is =
+given_step s old new valid run e is =
     let more : reverse new ≡ e ∷ reverse old = ap reverse is ∙ reverse-append old (e ∷ []) in
-    given_run s (reverse old) e sound.valid (subst (IsStepRun s) more run)
+    given_run s (reverse old) e valid (subst (IsStepRun s) more run)

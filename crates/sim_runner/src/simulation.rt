@@ -3,7 +3,6 @@ ghost use Rattle.std.specs.Prelude.{◌≡◌, ◌^◌, IfOk, length};
 ghost use Rattle.headline.specs.Ended.{HasEnded};
 ghost use Rattle.sim_runner.specs.Pickers.{IsPickedBy, picker_at};
 ghost use Rattle.world_model.specs.Scheduled.{IsScheduled};
-ghost use Rattle.world_model.specs.Tables.{IsRunnable};
 
 use crate::pickers::Picker;
 use crate::picks::Picks;
@@ -22,7 +21,6 @@ pub fn simulate_by<P: Picker>(
     script: &Script,
     picker: &mut P,
 ) -> Result<History, NoMemory>
-    requires { IsRunnable script.now }
     ensures ended { IfOk result (λ history. HasEnded script.now history) }
     ensures picked { IfOk result (λ history. IsPickedBy P.place P.after script.now picker.old history) }
     ensures picker { IfOk result (λ history. picker.new
@@ -41,7 +39,6 @@ pub fn simulate_by<P: Picker>(
 /// Runs a script on one thread until no letter is in flight. The letters are taken by the script's picks, then with a
 /// seed by its draws, and without one the oldest first (docs/ALGORITHM.md, "Schedules"). It always returns.
 pub fn simulate(alloc: Global, script: &Script, seed: Option<u64>) -> Result<History, NoMemory>
-    requires { IsRunnable script.now }
     ensures ended { IfOk result (λ history. HasEnded script.now history) }
     ensures scheduled { IfOk result (λ history. IsScheduled script.now seed history) }
 {

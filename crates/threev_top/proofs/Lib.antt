@@ -1,4 +1,2 @@
-pub mod ReadRuns
 pub mod Causes
 pub mod Ends
-pub mod Generated

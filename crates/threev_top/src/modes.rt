@@ -9,7 +9,6 @@ ghost use Rattle.threev_top.specs.Calls.{IsText, report_with};
 ghost use Rattle.threev_top.specs.inside.Calls.{bytes_of};
 ghost use Rattle.tx_trees.specs.Adding.{upgraded};
 ghost use Rattle.world_model.specs.Scheduled.{IsScheduled};
-ghost use Rattle.world_model.specs.Tables.{IsRunnable};
 
 use crate::texts::{HELP, VERSION};
 use command_words::Mode;
@@ -90,7 +89,6 @@ fn simulated(
     seed: Option<u64>,
     lines: bool,
 ) -> Result<Made, NoMemory>
-    requires { IsRunnable script.now }
     ensures ended { IfOk result (λ made. HasEnded script.now made.history) }
     ensures scheduled { IfOk result (λ made. IsScheduled script.now seed made.history) }
     ensures text { IfOk result (λ made. bytes_of made.output ≡ report_with lines script.now made.history) }
@@ -112,8 +110,7 @@ fn ran<R: Threads + Wait + Sync, G: Gate + Sync>(
     lines: bool,
     gate: &G,
 ) -> Result<Made, NoMemory>
-    requires runnable { IsRunnable script.now }
-    requires workers { (1 ≤ workers) × (workers ≤ 32) }
+    requires { (1 ≤ workers) × (workers ≤ 32) }
     ensures headline { IfOk result (λ made. HasHeadline script.now made.history) }
     ensures text { IfOk result (λ made. bytes_of made.output ≡ report_with lines script.now made.history) }
 {
@@ -155,8 +152,7 @@ pub(crate) fn made_of_script<R: Threads + Wait + Sync, G: Gate + Sync>(
     script: Script,
     gate: &G,
 ) -> Result<Made, NoMemory>
-    requires runnable { IsRunnable script }
-    requires workers { HasWorkers mode }
+    requires { HasWorkers mode }
     ensures { IfOk result (λ made. IsText mode script made.history (bytes_of made.output)) }
 {
     match mode {

@@ -13,4 +13,5 @@ pub mod VoteCauses
 pub mod WorthStays
 pub mod ReadPlaces
 pub mod WritersFirst
+pub mod SampledOrder
 pub mod ShownStays

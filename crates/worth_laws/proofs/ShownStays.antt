@@ -13,7 +13,7 @@ use Rattle.board_rules.specs.Histories.{Place, version_in}
 use Rattle.board_rules.specs.Right.{IsRightAct, IsShown, with_worths}
 use Rattle.board_rules.specs.Worth.{worth, worth_in}
 use Rattle.tree_laws.proofs.AptVersions.{before}
-use Rattle.worth_laws.specs.Stays.{ShownStays, ShowsWorth}
+use Rattle.worth_laws.specs.Stays.{ReadsStayRight, Shows}
 use Rattle.worth_laws.proofs.ReadPlaces.{ShownAt, each_in_place, shown_at, take_next, worth_upto}
 use Rattle.worth_laws.proofs.WritersFirst.{kept_version, right_there, shows_in}
 
@@ -22,7 +22,7 @@ same_worths f g [] same = refl
 same_worths f g (o ∷ os) same = let one = same o.item.0 in let rest = same_worths f g os same in cc
 
 stays_act : (s : ScriptData) (past b : List Entry) (i : ℕ) (y : Place) (a : Act) → IsValid s → IsStepRun s past
-    → slice_get (before past) i ≡ Some y → IsRightAct s b (take i (before past) ++ y ∷ []) a → ShowsWorth s (reverse past) a
+    → slice_get (before past) i ≡ Some y → IsRightAct s b (take i (before past) ++ y ∷ []) a → Shows (worth s (reverse past)) s (reverse past) a
 stays_act s past b i y (Did t k values) valid run is right = λ read.
     let upto : List Place = take i (before past) ++ y ∷ [] in
     let os : List SubOp = ops_of s t.0 k.0 in
@@ -36,7 +36,7 @@ stays_act s past b i y (Did t k values) valid run is right = λ read.
 stays_act s past b i y Finished valid run is right = tt
 stays_act s past b i y _ valid run is right = tt
 
-pub shown_stays : (s : ScriptData) (past : List Entry) → IsValid s → IsStepRun s past → ShownStays s (reverse past)
+pub shown_stays : (s : ScriptData) (past : List Entry) → IsValid s → IsStepRun s past → ReadsStayRight s (reverse past)
 shown_stays s past valid run =
-    each_in_place (λ (xs : List Place) (y : Place). ShowsWorth s (reverse past) y.act) (reverse past)
+    each_in_place (λ (xs : List Place) (y : Place). Shows (worth s (reverse past)) s (reverse past) y.act) (reverse past)
     (λ i y is. let r = right_there s past i y valid run is in stays_act s past r.0 i y y.act valid run is r.1)

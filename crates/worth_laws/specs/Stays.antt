@@ -1,6 +1,7 @@
 -- What the values that read trees show rest on, strict trees included, and that they stay right.
 use Rattle.std.specs.Prelude.{ℕ, ◌≡◌, ◌≤◌, List, Option, Some, None, IsTrue}
 use Rattle.tv_base.specs.declared.numbers.Version.{Version}
+use Rattle.commute_ops.specs.declared.value.Value.{Value}
 use Rattle.letter_types.specs.declared.acts.Act.{Act}
 use Rattle.letter_types.specs.declared.acts.Act.TheVariants.{Did, Finished}
 use Rattle.letter_types.specs.declared.entries.Entry.{Entry}
@@ -29,12 +30,16 @@ abbrev pub WritersAreFirst : ScriptData → List Entry → Type 0
 WritersAreFirst s h =
     AtEachAct (λ (before : List Entry) (xs : List Place) (x : Place). ComesAfterWriters s h xs x.act) h
 
--- where the act is a Did of a read tree, its values are what its items are worth at the tree's version in h
-abbrev pub ShowsWorth : ScriptData → List Entry → Act → Type 0
-ShowsWorth s h (Did t k values) = IsTrue (reads s t.0) → IsShown (worth s h) (ops_of s t.0 k.0) values (version_of h t.0)
-ShowsWorth s h Finished = Unit {0}
-ShowsWorth s h _ = Unit {0}
+-- where the act is a Did of a read tree, its values are what its items are worth, so counted, at the tree's version in h
+abbrev pub Shows : (ℕ → ℕ → Value) → ScriptData → List Entry → Act → Type 0
+Shows worth_at s h (Did t k values) = IsTrue (reads s t.0) → IsShown worth_at (ops_of s t.0 k.0) values (version_of h t.0)
+Shows worth_at s h Finished = Unit {0}
+Shows worth_at s h _ = Unit {0}
 
--- what the steps of read trees gave is what the whole history has at their versions
-abbrev pub ShownStays : ScriptData → List Entry → Type 0
-ShownStays s h = AtEachAct (λ (before : List Entry) (xs : List Place) (x : Place). ShowsWorth s h x.act) h
+-- so with every act of the history
+abbrev pub ReadsShow : (ℕ → ℕ → Value) → ScriptData → List Entry → Type 0
+ReadsShow worth_at s h = AtEachAct (λ (before : List Entry) (xs : List Place) (x : Place). Shows worth_at s h x.act) h
+
+-- what the steps of read trees gave is what the whole history has at their versions, and so what a report prints
+abbrev pub ReadsStayRight : ScriptData → List Entry → Type 0
+ReadsStayRight s h = ReadsShow (worth s h) s h

@@ -3,4 +3,4 @@ use Rattle.run_laws.proofs.InTime.{balanced_run}
 use Rattle.sim_runner.proofs.laws.worlds_are_balanced.Goals as goal
 
 pub returns : goal.returns
-returns c = λ s w valid runnable world. balanced_run s (reverse w.history) valid world.run
+returns c = λ s w valid world. balanced_run s (reverse w.history) valid world.run

@@ -40,7 +40,7 @@ pub returns-clause-ended : goal.returns-clause-ended
 returns-clause-ended g c =
     let none : length c.loop-world.world.bag ≤ 0 = omega (arith, c.waiting.ensures, c.loop-world-test.false) in
     let ended : HasEnded c.args.script.now c.loop-world.world.history =
-    has_ended c.args.script.now c.loop-world.world c.loop-world.invariant.world c.nodes-valid.ensures.valid c.requires none in
+    has_ended c.args.script.now c.loop-world.world c.loop-world.invariant.world c.nodes-valid.ensures.valid none in
     subst (λ (h : List Entry). HasEnded c.args.script.now h) (sym c.into_history.ensures) ended
 
 pub returns-clause-picked : goal.returns-clause-picked

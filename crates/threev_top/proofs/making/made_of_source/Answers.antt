@@ -4,12 +4,7 @@ use Rattle.tv_base.specs.Outside.{Rose}
 use Rattle.threev_top.specs.Calls.{ReadsAll}
 use Rattle.threev_top.specs.inside.Calls.{bytes_of}
 use Rattle.threev_top.proofs.Causes.{reading_cause, script_cause, text_of_source}
-use Rattle.threev_top.proofs.ReadRuns.{reads_runnable}
 use Rattle.threev_top.proofs.making.made_of_source.Goals as goal
-
-pub made_of_script-requires-clause-runnable : goal.made_of_script-requires-clause-runnable
-made_of_script-requires-clause-runnable g c =
-    λ lives longer. reads_runnable c.deref.result.now c.in_ok-script.script c.in_ok-script.ensures.script
 
 pub returns-clause-made : goal.returns-clause-made
 returns-clause-made g c =
