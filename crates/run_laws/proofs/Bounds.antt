@@ -99,27 +99,27 @@ tree_lt (x ∷ ts) zero tree at = omega arith
 tree_lt (x ∷ ts) (suc t) tree at = omega (arith, tree_lt ts t tree at)
 
 -- Each entry takes a letter of one kind.
-abbrev is_note : Body → ℕ
+abbrev pub is_note : Body → ℕ
 is_note (Done t k v notice) = 1
 is_note Go = 0
 is_note _ = 0
 
-abbrev is_decision : Body → ℕ
+abbrev pub is_decision : Body → ℕ
 is_decision (Decide t v commit) = 1
 is_decision Go = 0
 is_decision _ = 0
 
-abbrev is_ack : Body → ℕ
+abbrev pub is_ack : Body → ℕ
 is_ack (Decided t v) = 1
 is_ack Go = 0
 is_ack _ = 0
 
-abbrev is_release : Body → ℕ
+abbrev pub is_release : Body → ℕ
 is_release (Release t) = 1
 is_release Go = 0
 is_release _ = 0
 
-abbrev is_wake : Body → ℕ
+abbrev pub is_wake : Body → ℕ
 is_wake (Wake t k) = 1
 is_wake Go = 0
 is_wake _ = 0
@@ -152,7 +152,7 @@ one_kind s from to (Release t) meant = refl
 one_kind s from to (Wake t k) meant = refl
 one_kind s from to _ meant = absurd meant
 
-counted : (s : ScriptData) (past : List Entry) → IsValid s → IsStepRun s past
+pub counted : (s : ScriptData) (past : List Entry) → IsValid s → IsStepRun s past
     → length past
     ≡ taken_in is_go past + taken_in is_work past + taken_in is_note past + taken_in is_reply past + nudged past + taken_in is_apart past
     + taken_in is_decision past + taken_in is_ack past + taken_in is_release past + taken_in is_wake past
@@ -161,7 +161,7 @@ counted s (e ∷ past) valid run =
     omega (arith, counted s past valid run.1, one_kind s e.took.from.0 e.took.to.0 e.took.body (took_meant s past e valid run))
 
 -- What is taken, by trees.
-taken_same : (f g : Body → ℕ) (s : ScriptData) (past : List Entry) → IsValid s → IsStepRun s past
+pub taken_same : (f g : Body → ℕ) (s : ScriptData) (past : List Entry) → IsValid s → IsStepRun s past
     → ((from to : ℕ) (b : Body) → IsMeant s from to b → f b ≡ g b) → taken_in f past ≡ taken_in g past
 taken_same f g s [] valid run same = refl
 taken_same f g s (e ∷ past) valid run same =
@@ -178,14 +178,14 @@ taken_none f s past valid run none = taken_same f (λ b. 0) s past valid run non
   zeros [] = refl
   zeros (e ∷ past) = omega (arith, zeros past)
 
-work_by_tree : (s : ScriptData) → IsValid s → (from to : ℕ) (b : Body) → IsMeant s from to b
+pub work_by_tree : (s : ScriptData) → IsValid s → (from to : ℕ) (b : Body) → IsMeant s from to b
     → is_work b ≡ over 0 (λ t. over 0 (λ k. asks t k b) (subs_at s t)) s.trees
 work_by_tree s valid from to (Root u) meant = sym (work_hit s u.0 0 meant.tree (root_below s u.0 valid meant.tree))
 work_by_tree s valid from to (SubLetter u j v) meant = sym (work_hit s u.0 j.0 meant.tree meant.sub)
 work_by_tree s valid from to Go meant = sym (work_none s)
 work_by_tree s valid from to _ meant = sym (work_none s)
 
-note_by_tree : (s : ScriptData) (from to : ℕ) (b : Body) → IsMeant s from to b
+pub note_by_tree : (s : ScriptData) (from to : ℕ) (b : Body) → IsMeant s from to b
     → is_note b ≡ over 0 (λ t. over 0 (λ k. tells_done t k b) (subs_at s t)) s.trees
 note_by_tree s from to (Done u j v notice) meant = sym (work_hit s u.0 j.0 meant.tree meant.sub)
 note_by_tree s from to Go meant = sym (work_none s)
@@ -197,7 +197,7 @@ wake_by_tree s from to (Wake u j) meant = sym (work_hit s u.0 j.0 meant.tree mea
 wake_by_tree s from to Go meant = sym (work_none s)
 wake_by_tree s from to _ meant = sym (work_none s)
 
-reply_by_tree : (s : ScriptData) (from to : ℕ) (b : Body) → IsMeant s from to b → is_reply b ≡ over 0 (λ t. replies_to t b) s.trees
+pub reply_by_tree : (s : ScriptData) (from to : ℕ) (b : Body) → IsMeant s from to b → is_reply b ≡ over 0 (λ t. replies_to t b) s.trees
 reply_by_tree s from to (Reply u v answer) meant = sym (over_hit 0 u.0 s.trees (omega arith) (omega (arith, meant.0)))
 reply_by_tree s from to Go meant = sym (over_none 0 (λ t. 0) s.trees (λ t. refl))
 reply_by_tree s from to _ meant = sym (over_none 0 (λ t. 0) s.trees (λ t. refl))
@@ -227,7 +227,7 @@ release_by_tree s from to _ meant = sym (over_none 0 (λ t. 0) s.trees (λ t. re
 taken_few : (f : Body → ℕ) (s : ScriptData) (past : List Entry) → IsStepRun s past → f Go ≡ 0 → taken_in f past ≤ sent_in f past
 taken_few f s past run none = omega (arith, none, taken_sent f s past run)
 
-asks_sent : (s : ScriptData) (past : List Entry) (t k : ℕ) → IsValid s → IsStepRun s past
+pub asks_sent : (s : ScriptData) (past : List Entry) (t k : ℕ) → IsValid s → IsStepRun s past
     → sent_in (asks t k) past ≡ letters_asking s past t k + turns past t k
 asks_sent s [] t k valid run = omega (arith, outstanding_first (λ (l : Letter). asks t k l.body) s)
 asks_sent s (e ∷ past) t k valid run =
@@ -261,7 +261,7 @@ told_root s to t (SubLetter u j v) near = later u.0 t j.0 (omega (arith, near)) 
 told_root s to t Go near = refl
 told_root s to t _ near = refl
 
-notes_sent : (s : ScriptData) (past : List Entry) (e : Entry) (t k : ℕ) → (n : Enters s past e) → tally (on (tells_done t k)) e.sent ≡ told t k n.body
+pub notes_sent : (s : ScriptData) (past : List Entry) (e : Entry) (t k : ℕ) → (n : Enters s past e) → tally (on (tells_done t k)) e.sent ≡ told t k n.body
 notes_sent s past e t k n =
     omega (
       arith,
@@ -283,7 +283,7 @@ notes_most s (e ∷ past) t k valid run =
       turned_by s past e t k n,
     )
 
-notes_root : (s : ScriptData) (past : List Entry) (t : ℕ) → IsValid s → IsStepRun s past → sent_in (tells_done t 0) past ≡ 0
+pub notes_root : (s : ScriptData) (past : List Entry) (t : ℕ) → IsValid s → IsStepRun s past → sent_in (tells_done t 0) past ≡ 0
 notes_root s [] t valid run = refl
 notes_root s (e ∷ past) t valid run =
     let n = enters s past e valid (all_apt s (e ∷ past) valid run) run in
@@ -414,7 +414,7 @@ entry_go s past e (Coordinates at says) =
 entry_go s past e (Submits at says) =
     ap (λ (os : List Outgoing). tally (on is_go) os) says.0 ∙ client_none is_go s (client_in s past) e.took.body go_no_others
 
-no_go : (s : ScriptData) (past : List Entry) → IsValid s → IsStepRun s past → sent_in is_go past ≡ 0
+pub no_go : (s : ScriptData) (past : List Entry) → IsValid s → IsStepRun s past → sent_in is_go past ≡ 0
 no_go s [] valid run = refl
 no_go s (e ∷ past) valid run =
     omega (arith, no_go s past valid run.1, entry_go s past e (case s past e run.0 (all_apt s (e ∷ past) valid run).0))
@@ -609,7 +609,7 @@ plain_wake s none from to _ meant = refl
 zero_by : (n : ℕ) → not (n == 0) ≡ false → n ≡ 0
 zero_by n is = grind (arith, nat_tests)
 
-strict_few : (s : ScriptData) (past : List Entry) → IsValid s → IsStepRun s past
+pub strict_few : (s : ScriptData) (past : List Entry) → IsValid s → IsStepRun s past
     → taken_in is_decision past + taken_in is_ack past + taken_in is_release past + taken_in is_wake past ≤ strict_entries s
 strict_few s past valid run = by (has_strict s) refl where
   by : (b : Bool) → has_strict s ≡ b

@@ -1,228 +1,311 @@
--- How many entries a run to its end has.
-use Rattle.std.proofs.Common.{◌≡◌, ℕ, ◌+◌, ◌*◌, ◌<◌, ◌==◌, List, [], ◌∷◌, length, reverse, take, refl, sym, ap, ◌∙◌, arith}
+-- How many entries a run to its end has, where no tree is strict: what was sent was taken then, and each tree is answered.
+use Rattle.std.proofs.Common.{◌≡◌, ◌≢◌, ℕ, ◌+◌, ◌*◌, ◌<◌, ◌≤◌, ◌==◌, ◌&&◌, Bool, true, false, List, [], ◌∷◌, length, reverse, take, drop, get_or, refl, sym, ap, ◌∙◌, arith}
+use Rattle.std.proofs.lemmas.Bool.Decides.{nat_tests}
 use Rattle.letter_types.specs.declared.bodies.Body.{Body}
-use Rattle.letter_types.specs.declared.bodies.Body.TheVariants.{Go, Root, Sub as SubLetter, Done, Reply, Nudge, Advance, Advanced, Turned, Shown, Swept, DoneRow, AskedRow}
-use Rattle.letter_types.specs.declared.bodies.Notice.TheVariants.{Did as DidNotice}
+use Rattle.letter_types.specs.declared.bodies.Body.TheVariants.{Go, Root, Sub as SubLetter, Reply, Nudge}
 use Rattle.letter_types.specs.declared.entries.Entry.{Entry}
 use Rattle.letter_types.specs.declared.entries.Letter.{Letter}
-use Rattle.letter_types.specs.Steps.{Out}
+use Rattle.letter_types.specs.declared.entries.Outgoing.{Outgoing}
 use Rattle.phase_out.specs.Rounds.{NodeRows}
-use Rattle.world_model.specs.Coordinator.{Coordinator}
+use Rattle.script_parts.specs.Counts.{has_strict}
+use Rattle.world_model.specs.Client.{Client, nudge, rows_letters, submit, submitted, with_answer, with_end}
+use Rattle.world_model.specs.Coordinator.{Coordinator, coordinator_row}
 use Rattle.world_model.specs.declared.phase.Phase.{Phase}
 use Rattle.world_model.specs.declared.phase.Phase.TheVariants.{Idle, Turning, Counting, Paused, Showing, Sweeping}
-use Rattle.world_model.specs.Client.{client_finishes, next_after, nudge, with_answer, with_end}
-use Rattle.world_model.specs.Node.{Node}
 use Rattle.tx_trees.specs.Counts.{advances_in, all_subs}
-use Rattle.tx_trees.specs.ScriptData.{ScriptData, client_of, home_of, subs_at}
+use Rattle.tx_trees.specs.ScriptData.{ScriptData, client_of, subs_at}
+use Rattle.tx_trees.specs.Valid.{IsValid}
 use Rattle.tx_trees.specs.declared.parts.ScriptRow.{ScriptRow}
 use Rattle.world_model.specs.Counts.{one_if, tally}
-use Rattle.world_model.specs.Runs.{client_in, coordinator_in, node_in, in_flight, IsStepRun}
-use Rattle.world_model.specs.Timely.{AllTimely}
+use Rattle.world_model.specs.Runs.{client_in, coordinator_in, in_flight, IsStepRun}
+use Rattle.world_model.proofs.Bags.{tally-append}
 use Rattle.world_model.proofs.Bridge.{coordinator_after}
 use Rattle.world_model.proofs.Every.{each_none}
-use Rattle.world_model.proofs.Fits.{IsFit}
-use Rattle.world_model.proofs.Flows.{finish_none, flow}
-use Rattle.world_model.proofs.Lawful.{IsLawful}
-use Rattle.world_model.proofs.Nexts.{Next, Begins, Hears, Ends, Coordinates, DoesRoot, DoesSub, Notes, Obeys, Order, Turns, Shows, Sweeps, TellsDone, TellsAsked, Tells}
-use Rattle.world_model.proofs.Orders.{OfOrders}
-use Rattle.world_model.proofs.Scripts.{IsSound, has_root, plain_script, sub_below, sub_there}
-use Rattle.world_model.proofs.Sends.{on, replies_none, subs_none}
-use Rattle.world_model.specs.Notices.{values_of}
-use Rattle.world_model.proofs.Worked.{root_did, took_body}
-use Rattle.world_model.proofs.EachOutstanding.{each_took}
+use Rattle.world_model.proofs.Lawful.{is_nudge, nudged}
+use Rattle.world_model.proofs.Orders.{coordinator_each}
+use Rattle.world_model.proofs.Scripts.{SubAt, sub_here, sub_there}
+use Rattle.world_model.proofs.Sends.{on, roots_none}
+use Rattle.strict_laws.specs.Meant.{IsMeant}
+use Rattle.strict_laws.proofs.MeantRows.{root_below}
 use Rattle.phase_laws.specs.Advances.{asked_for, is_advanced, running}
+use Rattle.phase_laws.specs.Phases.{count_in_flight}
+use Rattle.phase_laws.proofs.Letters.{NoTrees, Passes, node_passes}
+use Rattle.phase_laws.proofs.Progress.{Begins, Coordinates, Ends, Hears, Obeys, Progress, Works, progress}
 use Rattle.phase_laws.proofs.Small.{small}
-use Rattle.tree_laws.specs.Dids.{asks, dids, is_did_act, replies, replies_to, roots_sent}
-use Rattle.tree_laws.specs.Entries.{entries_of, rounds_in}
-use Rattle.tree_laws.proofs.Doing.{no_birth, root_answer, root_sends, sub_acts, sub_sends}
-use Rattle.tree_laws.proofs.Entries.{all_subs_here, asks_in, is_other, is_reply, is_root, is_work, root_here, some_subs, submit_other, taken_in, taken_over, taken_replies, work_hit, work_none}
-use Rattle.tree_laws.proofs.Finishes.{TreeDone, none_left, tree_done}
-use Rattle.tree_laws.proofs.Goods.{good_run}
-use Rattle.tree_laws.proofs.Nudges.{lawful as tree_lawful}
-use Rattle.tree_laws.proofs.OrderStep.{ActsOfNone, coordinates_aside, coordinator_sends, obeys_aside, asks_trees}
+use Rattle.tree_laws.specs.Dids.{answers, asks, is_go, replies_to, roots_sent, tells_done}
+use Rattle.tree_laws.specs.Entries.{entries_of, rounds_in, strict_entries}
+use Rattle.tree_laws.specs.Stages.{StageAt, IsAnswered, Answered, Gathers, Holds, Unborn}
+use Rattle.tree_laws.specs.Turns.{turns}
+use Rattle.tree_laws.proofs.AptLawful.{heard_were_sent}
+use Rattle.tree_laws.proofs.AptStagesApart.{orders_none}
+use Rattle.tree_laws.proofs.AptStagesRun.{stages_of_trees}
+use Rattle.tree_laws.proofs.AptStagesSteps.{told, turned_by}
+use Rattle.tree_laws.proofs.AptSteps.{enters}
+use Rattle.tree_laws.proofs.AptTurns.{turns_come_once}
+use Rattle.tree_laws.proofs.Entries.{all_subs_here, asks_in, is_reply, is_work, some_subs, taken_in, taken_over, taken_replies}
 use Rattle.tree_laws.proofs.Sent.{rooted_once}
-use Rattle.tree_laws.proofs.Sums.{over, over_hit, over_none, over_ones, over_same}
+use Rattle.tree_laws.proofs.Sums.{over, over_add, over_ones, over_same}
+use Rattle.run_laws.proofs.Bounds.{asks_sent, counted, is_note, no_go, note_by_tree, notes_root, notes_sent, reply_by_tree, strict_few, taken_same, work_by_tree}
+use Rattle.run_laws.proofs.Busy.{no_nudge}
 use Rattle.run_laws.proofs.Costs.{cost, is_apart, paid, stages, unasked}
-use Rattle.run_laws.proofs.Ends.{all_rows, ended_all, idle}
-use Rattle.run_laws.proofs.InTime.{all_apt, in_time, lawful}
+use Rattle.run_laws.proofs.Ends.{all_rows, answered_now, ended_all, idle}
+use Rattle.run_laws.proofs.EveryApt.{all_apt, lawful}
+use Rattle.run_laws.proofs.Measures.{nudges}
+use Rattle.run_laws.proofs.SentFew.{taken_sent}
+use Rattle.run_laws.proofs.Stopping.{took_meant}
+use Rattle.run_laws.proofs.WakesFew.{sent_in}
 
--- Each entry takes a letter, and sends these other letters in return.
-abbrev Weighs : ℕ → Body → Type 0
-Weighs n body = 1 + n + is_root body ≡ is_other body + 2 * is_work body + 2 * is_reply body + is_apart body
+-- Where no letter is in flight, all that was sent was taken.
+none_flies : (f : Body → ℕ) (s : ScriptData) (past : List Entry) → in_flight s past ≡ [] → count_in_flight f s past ≡ 0
+none_flies f s past empty = ap (λ (ls : List Letter). tally (λ (l : Letter). f l.body) ls) empty
 
-weighs_by : (e : Entry) (body : Body) (n : ℕ) → e.took.body ≡ body → tally (on is_other) e.sent ≡ n → Weighs n body
-    → Weighs (tally (on is_other) e.sent) e.took.body
-weighs_by e body n is sent weighs =
-    omega (arith, weighs, sent, ap is_root is, ap is_other is, ap is_work is, ap is_reply is, ap is_apart is)
+taken_all : (f : Body → ℕ) (s : ScriptData) (past : List Entry) → IsStepRun s past → in_flight s past ≡ [] → taken_in f past ≡ f Go + sent_in f past
+taken_all f s past run empty = omega (arith, taken_sent f s past run, none_flies f s past empty)
 
-tells_weighs : (body : Body) → Tells body → Weighs 0 body
-tells_weighs Nudge tells = omega arith
-tells_weighs Advance tells = omega arith
-tells_weighs (Turned v) tells = omega arith
-tells_weighs (Shown v) tells = omega arith
-tells_weighs (Swept v) tells = omega arith
-tells_weighs (DoneRow v k row) tells = omega arith
-tells_weighs (AskedRow v k row) tells = omega arith
-tells_weighs _ tells = absurd tells
+-- Each tree is answered then.
+answered_of : (s : ScriptData) (past : List Entry) (t : ℕ) → 1 ≤ answers past t → StageAt s past t → IsAnswered s past t
+answered_of s past t some (Unborn u) = absurd (omega (arith, some, u.answers))
+answered_of s past t some (Gathers h g) = absurd (omega (arith, some, g.answers))
+answered_of s past t some (Holds h g) = absurd (omega (arith, some, g.answers))
+answered_of s past t some (Answered a) = a
 
-orders_other : (n : ℕ) → OfOrders (λ (to : ℕ) (b : Body). is_other b ≡ 0) n
-orders_other n = record {
-  turn = λ to v lt. refl;
-  show = λ to v lt. refl;
-  sweep = λ to v lt. refl;
-  ask_done = λ to v k lt. refl;
-  ask_asked = λ to v k lt. refl;
-  advanced = λ v. refl;
-}
-
-order_weighs : (s : ScriptData) (st : Node) (body : Body) (out : Out Node) → Order s st body out → Weighs (tally (on is_other) out.sent) body
-order_weighs s st body out (Turns v bd is) =
-    omega (arith, ap (λ (o : Out Node). tally (on is_other) o.sent) is, ap is_root bd, ap is_other bd, ap is_work bd, ap is_reply bd, ap is_apart bd)
-order_weighs s st body out (Shows v bd is) =
-    omega (arith, ap (λ (o : Out Node). tally (on is_other) o.sent) is, ap is_root bd, ap is_other bd, ap is_work bd, ap is_reply bd, ap is_apart bd)
-order_weighs s st body out (Sweeps v bd is) =
-    omega (arith, ap (λ (o : Out Node). tally (on is_other) o.sent) is, ap is_root bd, ap is_other bd, ap is_work bd, ap is_reply bd, ap is_apart bd)
-order_weighs s st body out (TellsDone v k bd is) =
-    omega (arith, ap (λ (o : Out Node). tally (on is_other) o.sent) is, ap is_root bd, ap is_other bd, ap is_work bd, ap is_reply bd, ap is_apart bd)
-order_weighs s st body out (TellsAsked v k bd is) =
-    omega (arith, ap (λ (o : Out Node). tally (on is_other) o.sent) is, ap is_root bd, ap is_other bd, ap is_work bd, ap is_reply bd, ap is_apart bd)
-
-weighs : (s : ScriptData) (past : List Entry) (e : Entry) → IsSound s → Next s past e → Weighs (tally (on is_other) e.sent) e.took.body
-weighs s past e sound (Begins is at made) =
-    weighs_by e Go 0 is (ap (λ os. tally (on is_other) os) made.sent ∙ submit_other s (client_in s past) []) (omega arith)
-weighs s past e sound (Hears t v answer is at lt made) =
-    let sent = submit_other s (with_answer t.0 (client_in s past)) (nudge s ∷ []) in
-    weighs_by e (Reply t v answer) 1 is (ap (λ os. tally (on is_other) os) made.sent ∙ sent) (omega arith)
-weighs s past e sound (Ends v is at made) =
-    weighs_by e (Advanced v) 0 is (ap (λ os. tally (on is_other) os) made.sent ∙ submit_other s (with_end (client_in s past)) []) (omega arith)
-weighs s past e sound (Coordinates tells at made) =
-    weighs_by e e.took.body 0 refl (each_none (on is_other) e.sent (coordinator_sends (λ (to : ℕ) (b : Body). is_other b ≡ 0) s past e made (orders_other s.nodes)))
-    (tells_weighs e.took.body tells)
-weighs s past e sound (DoesRoot t v effect is sub at lt new work made) =
-    let children = subs_none is_other t.0 v.0 0 0 (subs_at s t.0) (λ u k w. refl) in
-    let answer = replies_none is_other (client_of s) (root_answer s t v (values_of effect.notice) (home_of s t.0) past) (λ u w a. refl) in
-    weighs_by e (Root t) 0 (took_body s past e (Root t) (plain_script s sound) is) (omega (arith, root_sends is_other s past e t v effect made, children, answer)) (omega arith)
-weighs s past e sound (DoesSub t k v raises effect is sub later from at lt work made) =
-    let children = subs_none is_other t.0 v.0 k.0 0 (subs_at s t.0) (λ u j w. refl) in
-    weighs_by e (SubLetter t k v) 1 (took_body s past e (SubLetter t k v) (plain_script s sound) is) (omega (arith, sub_sends is_other s past e t k v raises effect made, children)) (omega arith)
-weighs s past e sound (Notes t k v values is sub later from at lt misses made) =
-    let answer = replies_none is_other (client_of s) _ (λ u w a. refl) in
-    weighs_by e (Done t k v (DidNotice values)) 0 is (ap (λ os. tally (on is_other) os) made.sent ∙ answer) (omega arith)
-weighs s past e sound (Obeys p out at lt order made) =
-    weighs_by e e.took.body (tally (on is_other) out.sent) refl (ap (λ os. tally (on is_other) os) made.sent)
-    (order_weighs s (node_in s past p) e.took.body out order)
-
--- the entries and the other letters in flight, by what was taken
-pub counted : (s : ScriptData) (past : List Entry) (laws : IsLawful s) (run : IsStepRun s past) (timely : AllTimely s past)
-    → length past + tally (λ (l : Letter). is_other l.body) (in_flight s past) + taken_in is_root past
-    ≡ 1 + 2 * taken_in is_work past + 2 * taken_in is_reply past + taken_in is_apart past
-counted s [] laws run timely = omega arith
-counted s (e ∷ past) laws run timely =
-    omega (arith, counted s past laws run.1 timely.1, weighs s past e laws.sound (laws.next past e run timely), flow is_other s past e run.0)
-
--- What is taken, by trees.
-pub taken_same : (f g : Body → ℕ) (s : ScriptData) (past : List Entry) (laws : IsLawful s) (run : IsStepRun s past) (timely : AllTimely s past)
-    → ((from to : ℕ) (b : Body) → IsFit s from to b → f b ≡ g b) → taken_in f past ≡ taken_in g past
-taken_same f g s [] laws run timely same = refl
-taken_same f g s (e ∷ past) laws run timely same =
-    let fit = each_took (λ (l : Letter). IsFit s l.from.0 l.to.0 l.body) s past e run.0 (laws.fits past run.1 timely.1) in
-    omega (arith, same e.took.from.0 e.took.to.0 e.took.body fit, taken_same f g s past laws run.1 timely.1 same)
-
-pub root_by_tree : (s : ScriptData) (from to : ℕ) (b : Body) → IsFit s from to b → is_root b ≡ over 0 (λ t. asks t 0 b) s.trees
-root_by_tree s from to (Root u) fit =
-    sym (over_same 0 (λ t. asks t 0 (Root u)) (λ t. one_if (u.0 == t)) s.trees (λ t le lt. root_here u.0 t) ∙ over_hit 0 u.0 s.trees (omega arith) (omega (arith, fit.0)))
-root_by_tree s from to (SubLetter u j v) fit = sym (over_none 0 (λ t. asks t 0 (SubLetter u j v)) s.trees (λ t. no_birth u.0 t j.0 fit.2))
-root_by_tree s from to Go fit = sym (over_none 0 (λ t. 0) s.trees (λ t. refl))
-root_by_tree s from to _ fit = sym (over_none 0 (λ t. 0) s.trees (λ t. refl))
-
-pub reply_by_tree : (s : ScriptData) (from to : ℕ) (b : Body) → IsFit s from to b → is_reply b ≡ over 0 (λ t. replies_to t b) s.trees
-reply_by_tree s from to (Reply u v answer) fit = sym (over_hit 0 u.0 s.trees (omega arith) (omega (arith, fit.0)))
-reply_by_tree s from to Go fit = sym (over_none 0 (λ t. 0) s.trees (λ t. refl))
-reply_by_tree s from to _ fit = sym (over_none 0 (λ t. 0) s.trees (λ t. refl))
-
-pub work_by_tree : (s : ScriptData) → IsSound s → (from to : ℕ) (b : Body) → IsFit s from to b → is_work b ≡ over 0 (λ t. asks_in s t b) s.trees
-work_by_tree s sound from to (Root u) fit = sym (work_hit s u.0 0 fit.0 (sub_below s u.0 0 (has_root s u.0 sound fit.0)))
-work_by_tree s sound from to (SubLetter u j v) fit = sym (work_hit s u.0 j.0 fit.0 fit.1)
-work_by_tree s sound from to Go fit = sym (work_none s)
-work_by_tree s sound from to _ fit = sym (work_none s)
-
-did_none : (t k : ℕ) → ActsOfNone (is_did_act t k)
-did_none t k = record { turned = λ v. refl; showed = λ v. refl; swept = λ v. refl }
-
-does_asked : (s : ScriptData) (past : List Entry) (e : Entry) (t k : ℕ) → IsSound s → Next s past e → asks t k e.took.body ≡ tally (is_did_act t k) e.acts
-does_asked s past e t k sound (Begins is at made) =
-    omega (arith, ap (asks t k) is, ap (λ acts. tally (is_did_act t k) acts) made.acts, finish_none (is_did_act t k) (client_finishes s (next_after s (client_in s past)) (client_in s past)) refl)
-does_asked s past e t k sound (Hears u v answer is at lt made) =
-    let c = with_answer u.0 (client_in s past) in
-    omega (arith, ap (asks t k) is, ap (λ acts. tally (is_did_act t k) acts) made.acts, finish_none (is_did_act t k) (client_finishes s (next_after s c) c) refl)
-does_asked s past e t k sound (Ends v is at made) =
-    let c = with_end (client_in s past) in
-    omega (arith, ap (asks t k) is, ap (λ acts. tally (is_did_act t k) acts) made.acts, finish_none (is_did_act t k) (client_finishes s (next_after s c) c) refl)
-does_asked s past e t k sound (Coordinates tells at made) =
-    let aside = coordinates_aside s past e tells at made in
-    omega (arith, aside.took (asks t k) (asks_trees t k), aside.acts (is_did_act t k) (did_none t k))
-does_asked s past e t k sound (DoesRoot u v effect is sub at lt new work made) =
-    let took = took_body s past e (Root u) (plain_script s sound) is in
-    omega (arith, ap (asks t k) took, ap (λ acts. tally (is_did_act t k) acts) (root_did s past e u v effect work made))
-does_asked s past e t k sound (DoesSub u j v raises effect is sub later from at lt work made) =
-    let took = took_body s past e (SubLetter u j v) (plain_script s sound) is in
-    omega (arith, ap (asks t k) took, sub_acts (is_did_act t k) s past e u j v raises effect work made (λ w. refl))
-does_asked s past e t k sound (Notes u j v values is sub later from at lt misses made) =
-    omega (arith, ap (asks t k) is, ap (λ acts. tally (is_did_act t k) acts) made.acts)
-does_asked s past e t k sound (Obeys p out at lt order made) =
-    let aside = obeys_aside s past e p out at lt order made in
-    omega (arith, aside.took (asks t k) (asks_trees t k), aside.acts (is_did_act t k) (did_none t k))
-
-pub taken_asks : (s : ScriptData) (past : List Entry) (t k : ℕ) (laws : IsLawful s) (run : IsStepRun s past) (timely : AllTimely s past)
-    → taken_in (asks t k) past ≡ dids past t k
-taken_asks s [] t k laws run timely = refl
-taken_asks s (e ∷ past) t k laws run timely =
-    omega (arith, does_asked s past e t k laws.sound (laws.next past e run timely), taken_asks s past t k laws run.1 timely.1)
-
--- Where no letter is in flight, each tree is done.
-abbrev AllDone : ScriptData → List Entry → Type 0
-AllDone s past = (t : ℕ) → t < length s.trees → TreeDone s past t
-
-all_done : (s : ScriptData) (past : List Entry) (laws : IsLawful s) (run : IsStepRun s past) (timely : AllTimely s past) → in_flight s past ≡ [] → AllDone s past
-all_done s past laws run timely empty = λ t lt.
-    let once = rooted_once (length s.trees) t s.rows laws.sound.valid.rows lt in
+answered_all : (s : ScriptData) (past : List Entry) (t : ℕ) → IsValid s → IsStepRun s past → in_flight s past ≡ [] → t < length s.trees
+    → IsAnswered s past t
+answered_all s past t valid run empty lt =
     let rows : roots_sent t (take (client_in s past).next s.rows) ≡ roots_sent t s.rows =
-    ap (λ (xs : List ScriptRow). roots_sent t xs) (all_rows s past laws.sound.valid run empty) in
-    tree_done s past t laws.sound (good_run s past laws.sound run timely) empty lt (omega (arith, once, rows))
+    ap (λ (xs : List ScriptRow). roots_sent t xs) (all_rows s past valid run empty) in
+    let row : 1 ≤ roots_sent t (take (client_in s past).next s.rows) =
+    omega (arith, rooted_once (length s.trees) t s.rows valid.rows lt, rows) in
+    let heard : one_if (get_or (client_in s past).answered t false) ≡ 1 = ap one_if (answered_now s past t valid run empty row) in
+    answered_of s past t (omega (arith, heard_were_sent s past t run, heard)) (stages_of_trees s past valid (all_apt s past valid run) run t lt)
 
-roots_taken : (s : ScriptData) (past : List Entry) (laws : IsLawful s) (run : IsStepRun s past) (timely : AllTimely s past) → AllDone s past
-    → taken_in is_root past ≡ length s.trees
-roots_taken s past laws run timely done =
-    taken_same is_root (λ b. over 0 (λ t. asks t 0 b) s.trees) s past laws run timely (root_by_tree s)
-    ∙ (taken_over (λ t. asks t 0) s.trees past
-    ∙ over_ones 0 (λ t. taken_in (asks t 0) past) s.trees (λ t le lt.
-    taken_asks s past t 0 laws run timely ∙ (done t (omega (arith, lt))).done 0 (has_root s t laws.sound (omega (arith, lt)))))
+-- So each of its subtransactions was asked for once,
+asked_once : (s : ScriptData) (past : List Entry) (t k : ℕ) → IsValid s → IsStepRun s past → in_flight s past ≡ [] → t < length s.trees
+    → k < length (subs_at s t) → taken_in (asks t k) past ≡ 1
+asked_once s past t k valid run empty lt kt =
+    let sub : SubAt s t k = sub_there s t k lt kt in
+    omega (
+      arith,
+      taken_all (asks t k) s past run empty,
+      asks_sent s past t k valid run,
+      (answered_all s past t valid run empty lt).all.turned k kt,
+      turns_come_once s past t k sub.sub valid (all_apt s past valid run) run (sub_here s t k sub),
+    )
 
-replies_taken : (s : ScriptData) (past : List Entry) (laws : IsLawful s) (run : IsStepRun s past) (timely : AllTimely s past) → AllDone s past
-    → in_flight s past ≡ [] → taken_in is_reply past ≡ length s.trees
-replies_taken s past laws run timely done empty =
-    let unheard : (t : ℕ) → replies s past t ≡ 0 = λ t. none_left (λ (l : Letter). replies_to t l.body) s past empty in
-    taken_same is_reply (λ b. over 0 (λ t. replies_to t b) s.trees) s past laws run timely (reply_by_tree s)
-    ∙ (taken_over replies_to s.trees past
-    ∙ over_ones 0 (λ t. taken_in (replies_to t) past) s.trees (λ t le lt.
-    omega (arith, taken_replies s past t run, unheard t, (done t (omega (arith, lt))).answered)))
-
-tree_taken : (s : ScriptData) (past : List Entry) (t : ℕ) (laws : IsLawful s) (run : IsStepRun s past) (timely : AllTimely s past) → AllDone s past
-    → t < length s.trees → taken_in (asks_in s t) past ≡ length (subs_at s t)
-tree_taken s past t laws run timely done lt =
+tree_works : (s : ScriptData) (past : List Entry) (t : ℕ) → IsValid s → IsStepRun s past → in_flight s past ≡ [] → t < length s.trees
+    → taken_in (asks_in s t) past ≡ length (subs_at s t)
+tree_works s past t valid run empty lt =
     taken_over (asks t) (subs_at s t) past
-    ∙ over_ones 0 (λ k. taken_in (asks t k) past) (subs_at s t) (λ k le kt.
-    taken_asks s past t k laws run timely ∙ (done t lt).done k (sub_there s t k lt (omega (arith, kt))))
+    ∙ over_ones 0 (λ k. taken_in (asks t k) past) (subs_at s t) (λ k from kt. asked_once s past t k valid run empty lt (omega (arith, kt)))
 
-works_taken : (s : ScriptData) (past : List Entry) (laws : IsLawful s) (run : IsStepRun s past) (timely : AllTimely s past) → AllDone s past
+works_taken : (s : ScriptData) (past : List Entry) → IsValid s → IsStepRun s past → in_flight s past ≡ []
     → taken_in is_work past ≡ all_subs s.trees
-works_taken s past laws run timely done =
-    taken_same is_work (λ b. over 0 (λ t. asks_in s t b) s.trees) s past laws run timely (work_by_tree s laws.sound)
+works_taken s past valid run empty =
+    taken_same is_work (λ b. over 0 (λ t. asks_in s t b) s.trees) s past valid run (work_by_tree s valid)
     ∙ (taken_over (asks_in s) s.trees past
     ∙ (over_same 0 (λ t. taken_in (asks_in s t) past) (λ t. length (subs_at s t)) s.trees
-    (λ t le lt. tree_taken s past t laws run timely done (omega (arith, lt))) ∙ all_subs_here s))
+    (λ t from lt. tree_works s past t valid run empty (omega (arith, lt))) ∙ all_subs_here s))
 
--- Where no letter is in flight, so many letters of advancements were taken.
+-- and each but the root told once that it is done.
+told_asks : (t k : ℕ) (b : Body) → 0 < k → told t k b ≡ asks t k b
+told_asks t k (Root u) some = root (u.0 == t) where
+  later : (0 == k) ≡ false
+  later = grind (arith, nat_tests, some)
+
+  root : (b : Bool) → 0 ≡ one_if (b && (0 == k))
+  root true = sym (ap one_if later)
+  root false = refl
+told_asks t k (SubLetter u j v) some = refl
+told_asks t k Go some = refl
+told_asks t k _ some = refl
+
+notes_made : (s : ScriptData) (past : List Entry) (t k : ℕ) → IsValid s → IsStepRun s past → 0 < k → sent_in (tells_done t k) past ≡ turns past t k
+notes_made s [] t k valid run some = refl
+notes_made s (e ∷ past) t k valid run some =
+    let n = enters s past e valid (all_apt s (e ∷ past) valid run) run in
+    omega (
+      arith,
+      notes_made s past t k valid run.1 some,
+      notes_sent s past e t k n,
+      told_asks t k n.body some,
+      n.done (asks t k) refl,
+      turned_by s past e t k n,
+    )
+
+told_once : (s : ScriptData) (past : List Entry) (t k : ℕ) → IsValid s → IsStepRun s past → in_flight s past ≡ [] → t < length s.trees
+    → 0 < k → k < length (subs_at s t) → taken_in (tells_done t k) past ≡ 1
+told_once s past t k valid run empty lt some kt =
+    omega (
+      arith,
+      taken_all (tells_done t k) s past run empty,
+      notes_made s past t k valid run some,
+      (answered_all s past t valid run empty lt).all.turned k kt,
+    )
+
+-- numbers that are 1, but for the first, which is 0
+all_but_first : {X : Type 0} (f : ℕ → ℕ) (xs : List X) → 1 ≤ length xs → f 0 ≡ 0 → ((k : ℕ) → 0 < k → k < length xs → f k ≡ 1)
+    → over 0 f xs + 1 ≡ length xs
+all_but_first f [] some first one = absurd (omega (arith, some))
+all_but_first f (x ∷ xs) some first one =
+    omega (arith, first, over_ones 1 f xs (λ k from lt. one k (omega (arith, from)) (omega (arith, lt))))
+
+abbrev tells_in : ScriptData → ℕ → Body → ℕ
+tells_in s t b = over 0 (λ k. tells_done t k b) (subs_at s t)
+
+tree_notes : (s : ScriptData) (past : List Entry) (t : ℕ) → IsValid s → IsStepRun s past → in_flight s past ≡ [] → t < length s.trees
+    → taken_in (tells_in s t) past + 1 ≡ length (subs_at s t)
+tree_notes s past t valid run empty lt =
+    let all : taken_in (tells_in s t) past ≡ over 0 (λ k. taken_in (tells_done t k) past) (subs_at s t) =
+    taken_over (tells_done t) (subs_at s t) past in
+    omega (
+      arith,
+      all,
+      all_but_first (λ k. taken_in (tells_done t k) past) (subs_at s t) (omega (arith, root_below s t valid lt))
+          (omega (arith, taken_all (tells_done t 0) s past run empty, notes_root s past t valid run))
+          (λ k some kt. told_once s past t k valid run empty lt some kt),
+    )
+
+notes_taken : (s : ScriptData) (past : List Entry) → IsValid s → IsStepRun s past → in_flight s past ≡ []
+    → taken_in is_note past + length s.trees ≡ all_subs s.trees
+notes_taken s past valid run empty =
+    let notes : taken_in is_note past ≡ over 0 (λ t. taken_in (tells_in s t) past) s.trees =
+    taken_same is_note (λ b. over 0 (λ t. tells_in s t b) s.trees) s past valid run (note_by_tree s)
+    ∙ taken_over (tells_in s) s.trees past in
+    let ones : over 0 (λ t. taken_in (tells_in s t) past + 1) s.trees
+    ≡ over 0 (λ t. taken_in (tells_in s t) past) s.trees + over 0 (λ (t : ℕ). 1) s.trees =
+    over_add 0 (λ t. taken_in (tells_in s t) past) (λ t. 1) s.trees in
+    omega (
+      arith,
+      notes,
+      ones,
+      over_ones 0 (λ t. 1) s.trees (λ t from lt. refl),
+      over_same 0 (λ t. taken_in (tells_in s t) past + 1) (λ t. length (subs_at s t)) s.trees
+          (λ t from lt. tree_notes s past t valid run empty (omega (arith, lt))),
+      all_subs_here s,
+    )
+
+-- The client hears of each tree, and tells the coordinator so.
+replies_taken : (s : ScriptData) (past : List Entry) → IsValid s → IsStepRun s past → in_flight s past ≡ []
+    → taken_in is_reply past ≡ length s.trees
+replies_taken s past valid run empty =
+    taken_same is_reply (λ b. over 0 (λ t. replies_to t b) s.trees) s past valid run (reply_by_tree s)
+    ∙ (taken_over replies_to s.trees past
+    ∙ over_ones 0 (λ t. taken_in (replies_to t) past) s.trees (λ t from lt.
+    omega (
+      arith,
+      taken_replies s past t run,
+      none_flies (replies_to t) s past empty,
+      (answered_all s past t valid run empty (omega (arith, lt))).answers,
+    )))
+
+submit_nudges : (s : ScriptData) (c : Client) (first : List Outgoing) → tally (on nudges) (submit s c first).sent ≡ tally (on nudges) first
+submit_nudges s c first =
+    let rows = take (submitted c (take c.next s.rows) (drop c.next s.rows)) (drop c.next s.rows) in
+    omega (arith, tally-append (on nudges) first (rows_letters s rows), roots_none nudges s rows (λ t. refl) refl)
+
+-- no node sends a nudge
+nudge_trees : NoTrees nudges
+nudge_trees = record {
+  root = λ t. refl;
+  sub = λ t k v. refl;
+  done = λ t k v notice. refl;
+  reply = λ t v answer. refl;
+  wake = λ t k. refl;
+  decide = λ t v commit. refl;
+  decided = λ t v. refl;
+  release = λ t. refl;
+}
+
+nudge_passes : Passes nudges nudges
+nudge_passes = record {
+  sent = nudge_trees;
+  took = nudge_trees;
+  turned = λ v. refl;
+  shown = λ v. refl;
+  swept = λ v. refl;
+  done_row = λ v k row. refl;
+  asked_row = λ v k row. refl;
+}
+
+-- and the client alone takes answers
+no_answer : (s : ScriptData) (from to : ℕ) (b : Body) → IsMeant s from to b → to ≢ client_of s → is_reply b ≡ 0
+no_answer s from to (Reply t v answer) meant ne = absurd (ne meant.1)
+no_answer s from to Go meant ne = refl
+no_answer s from to _ meant ne = refl
+
+takes_no_answer : (s : ScriptData) (past : List Entry) (e : Entry) → IsValid s → IsStepRun s (e ∷ past) → e.actor.0 ≢ client_of s
+    → is_reply e.took.body ≡ 0
+takes_no_answer s past e valid run ne =
+    no_answer s e.took.from.0 e.took.to.0 e.took.body (took_meant s past e valid run) (λ is. ne (sym run.0.addressee ∙ is))
+
+node_nudges : (s : ScriptData) (past : List Entry) (e : Entry) → IsValid s → IsStepRun s (e ∷ past) → e.actor.0 < s.nodes → Progress s past e
+    → tally (on nudges) e.sent ≡ is_reply e.took.body
+node_nudges s past e valid run node next =
+    omega (
+      arith,
+      node_passes nudges nudges nudge_passes s past e node next,
+      no_nudge s past e valid run.1 run.0 (omega (arith, node)),
+      takes_no_answer s past e valid run (omega (arith, node)),
+    )
+
+-- a nudge is sent for each answer that is taken
+entry_nudges : (s : ScriptData) (past : List Entry) (e : Entry) → IsValid s → IsStepRun s (e ∷ past) → Progress s past e
+    → tally (on nudges) e.sent ≡ is_reply e.took.body
+entry_nudges s past e valid run (Begins bd at made) =
+    omega (arith, ap is_reply bd, ap (λ (os : List Outgoing). tally (on nudges) os) made.sent, submit_nudges s (client_in s past) [])
+entry_nudges s past e valid run (Hears t v answer bd at lt made) =
+    omega (
+      arith,
+      ap is_reply bd,
+      ap (λ (os : List Outgoing). tally (on nudges) os) made.sent,
+      submit_nudges s (with_answer t.0 (client_in s past)) (nudge s ∷ []),
+    )
+entry_nudges s past e valid run (Ends v bd at made) =
+    omega (arith, ap is_reply bd, ap (λ (os : List Outgoing). tally (on nudges) os) made.sent, submit_nudges s (with_end (client_in s past)) [])
+entry_nudges s past e valid run (Coordinates tells at made) =
+    let c : Coordinator = coordinator_in s past in
+    omega (
+      arith,
+      ap (λ (os : List Outgoing). tally (on nudges) os) made.sent,
+      each_none (on nudges) (coordinator_row c e.took.from.0 e.took.body).sent
+          (coordinator_each (λ (to : ℕ) (b : Body). nudges b ≡ 0) c
+          (orders_none nudges c.nodes (λ v. (refl, (refl, refl))) (λ v k. (refl, refl)) (λ v. refl)) e.took.from.0 e.took.body),
+      takes_no_answer s past e valid run (omega (arith, at)),
+    )
+entry_nudges s past e valid run (Works p r w) =
+    node_nudges s past e valid run (omega (arith, w.brings.at, w.brings.below)) (Works p r w)
+entry_nudges s past e valid run (Obeys p out more at lt order state sent woken) =
+    node_nudges s past e valid run (omega (arith, at, lt)) (Obeys p out more at lt order state sent woken)
+
+nudges_sent : (s : ScriptData) (past : List Entry) → IsValid s → IsStepRun s past → sent_in nudges past ≡ taken_in is_reply past
+nudges_sent s [] valid run = refl
+nudges_sent s (e ∷ past) valid run =
+    omega (
+      arith,
+      nudges_sent s past valid run.1,
+      entry_nudges s past e valid run (progress s past e (lawful s valid) (all_apt s (e ∷ past) valid run) run),
+    )
+
+one_nudge : (b : Body) → is_nudge b ≡ nudges b
+one_nudge Nudge = refl
+one_nudge Go = refl
+one_nudge _ = refl
+
+nudged_taken : (past : List Entry) → nudged past ≡ taken_in nudges past
+nudged_taken [] = refl
+nudged_taken (e ∷ past) = omega (arith, one_nudge e.took.body, nudged_taken past)
+
+nudges_taken : (s : ScriptData) (past : List Entry) → IsValid s → IsStepRun s past → in_flight s past ≡ [] → nudged past ≡ length s.trees
+nudges_taken s past valid run empty =
+    omega (
+      arith,
+      nudged_taken past,
+      taken_all nudges s past run empty,
+      nudges_sent s past valid run,
+      replies_taken s past valid run empty,
+    )
+
+-- So many letters of advancements were taken.
 idle_pend : (n : ℕ) (phase : Phase) (dones : NodeRows) → running phase ≡ 0 → (unasked n phase dones ≡ 0) × (stages phase ≡ 0)
 idle_pend n Idle dones rests = (refl, refl)
 idle_pend n Turning dones rests = absurd (omega (arith, rests))
@@ -238,39 +321,40 @@ apart_by n a u x stage round up none is =
     let two : 2 * n * stage ≡ 2 * n * 0 = ap (λ (k : ℕ). 2 * n * k) none in
     omega (arith, one, two, is)
 
-aparts_taken : (s : ScriptData) (past : List Entry) (laws : IsLawful s) (run : IsStepRun s past) (timely : AllTimely s past) → in_flight s past ≡ []
+aparts_taken : (s : ScriptData) (past : List Entry) → IsValid s → IsStepRun s past → in_flight s past ≡ []
     → taken_in is_apart past ≡ advances_in s.rows * (2 + 6 * s.nodes) + 4 * s.nodes * (coordinator_in s past).round
-aparts_taken s past laws run timely empty =
+aparts_taken s past valid run empty =
     let c = coordinator_in s past in
-    let rests = idle s past laws.sound.valid run empty in
-    let calm = idle_pend s.nodes c.phase c.current.dones rests in
-    let all : asked_for s past ≡ advances_in s.rows = ap advances_in (all_rows s past laws.sound.valid run empty) in
+    let calm = idle_pend s.nodes c.phase c.current.dones (idle s past valid run empty) in
+    let all : asked_for s past ≡ advances_in s.rows = ap advances_in (all_rows s past valid run empty) in
     let up : c.update ≡ advances_in s.rows + 1 =
     omega (
       arith,
       all,
-      ended_all s past laws.sound.valid run empty,
-      (small s past (lawful s laws.sound) run (all_apt s past laws.sound run)).ended,
-      none_left (λ (l : Letter). is_advanced l.body) s past empty,
+      ended_all s past valid run empty,
+      (small s past (lawful s valid) run (all_apt s past valid run)).ended,
+      none_flies is_advanced s past empty,
     ) in
     apart_by s.nodes (advances_in s.rows) c.update (taken_in is_apart past) (stages c.phase) c.round up calm.1
-    (omega (arith, paid s past laws.sound.valid run, none_left (λ (l : Letter). cost l.body) s past empty, calm.0, all))
+    (omega (arith, paid s past valid run, none_flies cost s past empty, calm.0, all))
 
 -- The law.
-pub entries_counted : (s : ScriptData) (past : List Entry) → IsSound s → IsStepRun s past → in_flight s past ≡ []
+pub entries_counted : (s : ScriptData) (past : List Entry) → IsValid s → has_strict s ≡ false → IsStepRun s past → in_flight s past ≡ []
     → length past ≡ entries_of s (rounds_in s (reverse past))
-entries_counted s past sound run empty =
-    let laws = tree_lawful s sound in
-    let timely = in_time s past sound run in
-    let done = all_done s past laws run timely empty in
+entries_counted s past valid plain run empty =
     let rounds : rounds_in s (reverse past) ≡ (coordinator_in s past).round = ap (λ (c : Coordinator). c.round) (coordinator_after s past) in
+    let none : strict_entries s ≡ 0 = rw plain refl in
     rw rounds (omega (
       arith,
-      counted s past laws run timely,
-      none_left (λ (l : Letter). is_other l.body) s past empty,
-      roots_taken s past laws run timely done,
-      works_taken s past laws run timely done,
-      replies_taken s past laws run timely done empty,
-      aparts_taken s past laws run timely empty,
-      some_subs s.nodes s.items s.trees sound.valid.trees,
+      counted s past valid run,
+      taken_all is_go s past run empty,
+      no_go s past valid run,
+      works_taken s past valid run empty,
+      notes_taken s past valid run empty,
+      replies_taken s past valid run empty,
+      nudges_taken s past valid run empty,
+      aparts_taken s past valid run empty,
+      strict_few s past valid run,
+      none,
+      some_subs s.nodes s.items s.trees valid.trees,
     ))

@@ -17,7 +17,6 @@ use Rattle.world_model.specs.Named.{is_timely}
 use Rattle.world_model.specs.Runs.{IsStepRun, keeping_in, node_in}
 use Rattle.world_model.specs.Strict.{is_core_apt}
 use Rattle.world_model.specs.Timely.{AllTimely, WasTimely}
-use Rattle.world_model.proofs.Scripts.{IsSound}
 use Rattle.phase_laws.specs.Balance.{IsBalanced, MOST_COUNTED}
 use Rattle.phase_laws.specs.Quiet.{IsGivenInQuiet}
 use Rattle.phase_laws.proofs.Balance.{apt_parts, counts_are_small}
@@ -55,13 +54,3 @@ counts_small s past valid run p lt = counts_are_small s past p valid lt
 pub given_run : (s : ScriptData) (past : List Entry) (e : Entry) → IsValid s → IsStepRun s (e ∷ past)
     → Each (λ (o : Outgoing). IsGivenInQuiet s past o.body) e.sent
 given_run s past e valid run = given_in_quiet s past e (every_lawful s valid) run (every_apt s (e ∷ past) valid run)
-
--- So with a script that may be run.
-pub lawful : (s : ScriptData) → IsSound s → IsLawful s
-lawful s sound = every_lawful s sound.valid
-
-pub all_apt : (s : ScriptData) (past : List Entry) → IsSound s → IsStepRun s past → AllApt s past
-all_apt s past sound run = every_apt s past sound.valid run
-
-pub in_time : (s : ScriptData) (past : List Entry) → IsSound s → IsStepRun s past → AllTimely s past
-in_time s past sound run = every_in_time s past sound.valid run

@@ -18,7 +18,6 @@ pub mod Reached
 pub mod Closed
 pub mod InTime
 pub mod Taken
-pub use Rattle.tree_laws.proofs.Goods
 pub mod Measures
 pub mod Busy
 pub mod Balancing

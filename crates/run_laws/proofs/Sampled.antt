@@ -2,8 +2,6 @@
 use Rattle.std.proofs.Common.{if◌then◌else◌, ◌≡◌, ℕ, zero, suc, ◌+◌, ◌<◌, ◌≤◌, ◌==◌, Bool, true, false, List, [], ◌∷◌, ◌++◌, length, reverse, refl, subst, ◌∙◌, ap, arith, Some}
 use Rattle.std.specs.Prelude.{nat_lt}
 use Rattle.std.proofs.lemmas.Bool.Decides.{nat_tests}
-use Rattle.letter_types.specs.declared.bodies.Body.{Body}
-use Rattle.letter_types.specs.declared.bodies.Body.TheVariants.{Go, Root, Sub as SubLetter, Done, Reply, Nudge, Advance as AdvanceLetter, Turn, Show, Sweep, Turned, Shown, Swept, AskDone, AskAsked, DoneRow, AskedRow, Advanced}
 use Rattle.letter_types.specs.declared.entries.Entry.{Entry}
 use Rattle.letter_types.specs.declared.entries.Letter.{Letter}
 use Rattle.letter_types.specs.Letters.{find_id}
@@ -18,13 +16,9 @@ use Rattle.world_model.specs.Counts.{Each}
 use Rattle.world_model.specs.Runs.{in_flight, client_in, coordinator_in, keeping_in, AtNode, AtCoordinator, AtClient, MayFollow, IsStepRun}
 use Rattle.world_model.specs.Sample.{entry_by, next_of, sample, small}
 use Rattle.world_model.specs.Tables.{client_table, coordinator_table}
-use Rattle.world_model.proofs.Fits.{IsFit}
-use Rattle.world_model.proofs.Scripts.{IsSound, has_root, node_below, sub_there}
-use Rattle.world_model.proofs.EachOutstanding.{each_waits}
+use Rattle.world_model.proofs.Addressees.{all_addressed}
 use Rattle.tree_laws.specs.Entries.{entries_of}
-use Rattle.tree_laws.proofs.Goods.{good_run}
 use Rattle.tree_laws.proofs.Sampled.{small_valid}
-use Rattle.run_laws.proofs.InTime.{in_time}
 use Rattle.run_laws.proofs.Ends.{no_run_stalls}
 
 -- the small script, and an advancement after its tree
@@ -41,55 +35,32 @@ pub finished : (client_in advanced (sample advanced 44)).finished ≡ true
 finished = refl
 
 -- It is a run.
--- letters are for a node, the coordinator or the client
-someone : (s : ScriptData) (from to : ℕ) (body : Body) → IsSound s → IsFit s from to body → to ≤ s.nodes + 1
-someone s from to Go sound fit = omega (arith, fit)
-someone s from to (Root t) sound fit = omega (arith, fit.1, node_below s t.0 0 (has_root s t.0 sound fit.0) sound)
-someone s from to (SubLetter t k v) sound fit = omega (arith, fit.3, node_below s t.0 k.0 (sub_there s t.0 k.0 fit.0 fit.1) sound)
-someone s from to (Done t k v notice) sound fit = omega (arith, fit.3, node_below s t.0 0 (has_root s t.0 sound fit.0) sound)
-someone s from to (Reply t v answer) sound fit = omega (arith, fit.1)
-someone s from to Nudge sound fit = omega (arith, fit)
-someone s from to AdvanceLetter sound fit = omega (arith, fit)
-someone s from to (Turned v) sound fit = omega (arith, fit.1)
-someone s from to (Shown v) sound fit = omega (arith, fit.1)
-someone s from to (Swept v) sound fit = omega (arith, fit.1)
-someone s from to (DoneRow v k row) sound fit = omega (arith, fit.1)
-someone s from to (AskedRow v k row) sound fit = omega (arith, fit.1)
-someone s from to (Turn v) sound fit = omega (arith, fit)
-someone s from to (Show v) sound fit = omega (arith, fit)
-someone s from to (Sweep v) sound fit = omega (arith, fit)
-someone s from to (AskDone v k) sound fit = omega (arith, fit)
-someone s from to (AskAsked v k) sound fit = omega (arith, fit)
-someone s from to (Advanced v) sound fit = omega (arith, fit)
-someone s from to _ sound fit = absurd fit
-
 first_found : (l : Letter) (ls : List Letter) → find_id l.id (l ∷ ls) ≡ Some l
 first_found l ls = rw (same_id-self l.id) refl
 
-follows : (s : ScriptData) (past : List Entry) (l : Letter) → find_id l.id (in_flight s past) ≡ Some l → l.to.0 ≤ s.nodes + 1
+follows : (s : ScriptData) (past : List Entry) (l : Letter) → find_id l.id (in_flight s past) ≡ Some l → l.to.0 < s.nodes + 2
     → (a b : Bool) → nat_lt l.to.0 s.nodes ≡ a → (l.to.0 == s.nodes) ≡ b
     → MayFollow s past (if a then entry_by past l (keeping_row s l.to.0 (keeping_in s past l.to.0) l)
     else if b then entry_by past l (coordinator_table (coordinator_in s past) l) else entry_by past l (client_table s (client_in s past) l))
-follows s past l found le true b node at =
+follows s past l found lt true b node at =
     record { stamp = refl; waits = found; addressee = refl; moves = AtNode (grind (arith, nat_tests)) (refl, refl) }
-follows s past l found le false true node at =
+follows s past l found lt false true node at =
     record { stamp = refl; waits = found; addressee = refl; moves = AtCoordinator (grind (arith, nat_tests)) (refl, refl) }
-follows s past l found le false false node at =
+follows s past l found lt false false node at =
     record { stamp = refl; waits = found; addressee = refl; moves = AtClient (grind (arith, nat_tests)) (refl, refl) }
 
-next_run : (s : ScriptData) (past : List Entry) (ls : List Letter) → IsSound s → IsStepRun s past → in_flight s past ≡ ls → IsStepRun s (next_of s past ls)
-next_run s past [] sound run at = run
-next_run s past (l ∷ ls) sound run at =
-    let letters = each_waits (λ (x : Letter). IsFit s x.from.0 x.to.0 x.body) s past
-    (good_run s past sound run (in_time s past sound run)).letters in
-    let fit = (subst (λ (xs : List Letter). Each (λ (x : Letter). IsFit s x.from.0 x.to.0 x.body) xs) at letters).0 in
+next_run : (s : ScriptData) (past : List Entry) (ls : List Letter) → IsValid s → IsStepRun s past → in_flight s past ≡ ls → IsStepRun s (next_of s past ls)
+next_run s past [] valid run at = run
+next_run s past (l ∷ ls) valid run at =
+    let lt : l.to.0 < s.nodes + 2 =
+    (subst (λ (xs : List Letter). Each (λ (x : Letter). x.to.0 < s.nodes + 2) xs) at (all_addressed s past valid run)).0 in
     let found : find_id l.id (in_flight s past) ≡ Some l = ap (λ (xs : List Letter). find_id l.id xs) at ∙ first_found l ls in
-    (follows s past l found (someone s l.from.0 l.to.0 l.body sound fit) (nat_lt l.to.0 s.nodes) (l.to.0 == s.nodes) refl refl, run)
+    (follows s past l found lt (nat_lt l.to.0 s.nodes) (l.to.0 == s.nodes) refl refl, run)
 
 -- each sample is one
-pub sample_run : (s : ScriptData) (n : ℕ) → IsSound s → IsStepRun s (sample s n)
-sample_run s zero sound = tt
-sample_run s (suc n) sound = next_run s (sample s n) (in_flight s (sample s n)) sound (sample_run s n sound) refl
+pub sample_run : (s : ScriptData) (n : ℕ) → IsValid s → IsStepRun s (sample s n)
+sample_run s zero valid = tt
+sample_run s (suc n) valid = next_run s (sample s n) (in_flight s (sample s n)) valid (sample_run s n valid) refl
 
 -- The script is valid, so the law says that the run ends.
 loads : (x : ℕ) → x < 2 → load x advanced ≤ most_amount advanced.form
@@ -125,8 +96,5 @@ valid = record {
   failed = (tt, tt);
 }
 
-pub sound : IsSound advanced
-sound = record { valid = valid; runnable = record { trees = (refl, tt); rows = (refl, (refl, tt)) } }
-
 pub ends : HasFinished (reverse (sample advanced 44))
-ends = (no_run_stalls advanced (sample advanced 44) valid (sample_run advanced 44 sound) refl).1
+ends = (no_run_stalls advanced (sample advanced 44) valid (sample_run advanced 44 valid) refl).1

@@ -8,7 +8,6 @@ ghost use Rattle.tx_trees.specs.ScriptData.{ScriptData};
 ghost use Rattle.tx_trees.specs.Valid.{IsValid};
 ghost use Rattle.world_model.specs.Kept.{kept_in};
 ghost use Rattle.world_model.specs.Runs.{client_in, in_flight, IsStepRun};
-ghost use Rattle.world_model.specs.Tables.{IsRunnable};
 
 /// No run stalls, also of a script with strict trees: where no letter is in flight any more, every tree is answered, every
 /// advancement has ended, and the client has finished.
@@ -23,10 +22,11 @@ pub fn nothing_is_kept_at_the_end()
         → kept_in s past p ≡ [] }
 {}
 
-/// A run in which no letter is in flight any more has as many entries as its trees, advancements and rounds take.
+/// A run of a script without strict trees in which no letter is in flight any more has as many entries as its trees,
+/// advancements and rounds take.
 pub fn entries_are_counted()
-    ensures { (s : ScriptData) (past : List Entry) → IsValid s → IsRunnable s → IsStepRun s past → in_flight s past ≡ []
-        → length past ≡ entries_of s (rounds_in s (reverse past)) }
+    ensures { (s : ScriptData) (past : List Entry) → IsValid s → has_strict s ≡ false → IsStepRun s past
+        → in_flight s past ≡ [] → length past ≡ entries_of s (rounds_in s (reverse past)) }
 {}
 
 /// A run has at most so many entries: as many as two rounds for each advancement and one for each tree would bring it to, and
