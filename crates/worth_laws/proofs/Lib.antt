@@ -14,3 +14,6 @@ pub mod WorthStays
 pub mod ReadPlaces
 pub mod WritersFirst
 pub mod ShownStays
+pub mod AllOrNone
+pub mod CommitsStand
+pub mod CommittedGets
