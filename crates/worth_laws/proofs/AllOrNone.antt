@@ -1,8 +1,7 @@
--- In every run a tree's commit is applied at each node that it visits once, when the tree is whole, and nowhere where it was
--- not decided.
-use Rattle.std.proofs.Common.{◌≡◌, ◌⊎◌, inl, inr, ℕ, ◌<◌, ◌≤◌, ◌==◌, ◌&&◌, Bool, true, false, List, length, reverse, take, refl, ap, ◌∙◌, arith, Some}
+-- In every run a tree's commit is applied at each node that it visits once, when the tree is whole, and nowhere where it
+-- wasn't decided.
+use Rattle.std.proofs.Common.{◌≡◌, ◌⊎◌, inl, inr, ℕ, ◌+◌, ◌<◌, ◌≤◌, ◌==◌, ◌&&◌, Bool, true, false, List, length, reverse, refl, ap, ◌∙◌, arith, Some}
 use Rattle.std.specs.Prelude.{slice_get}
-use Rattle.std.specs.List.{list_any}
 use Rattle.std.proofs.lemmas.Bool.{eqb-true}
 use Rattle.std.proofs.lemmas.List.{take_all}
 use Rattle.std.proofs.lemmas.Option.{slice_get_within}

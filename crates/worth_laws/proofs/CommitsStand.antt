@@ -6,7 +6,7 @@ use Rattle.script_parts.specs.ScriptData.{ScriptData, node_of, subs_at}
 use Rattle.script_parts.specs.Valid.{IsValid}
 use Rattle.world_model.specs.Runs.{IsStepRun}
 use Rattle.board_rules.specs.Histories.{Place, commits, version_in, was_committed}
-use Rattle.board_rules.specs.Moves.{IsDecision, decides_as}
+use Rattle.board_rules.specs.Moves.{decides_as}
 use Rattle.board_rules.proofs.ActTests.{commits_as}
 use Rattle.board_rules.proofs.ClosedWorth.{decided_placed}
 use Rattle.board_rules.proofs.InSerial.{placed_in}

@@ -1,5 +1,5 @@
--- In every run what a strict tree that commits got is what its items are worth after the members of the serial order before
--- it.
+-- In every run what a strict tree that commits got is what its items are worth after the members of the serial order
+-- before it.
 use Rattle.std.proofs.Common.{◌≡◌, ℕ, suc, ◌+◌, ◌≤◌, ◌==◌, Bool, true, false, not, List, [], ◌∷◌, ◌++◌, length, reverse, take, refl, sym, ap, subst, ◌∙◌, append_assoc, arith, cond, Some}
 use Rattle.std.specs.Prelude.{if◌then◌else◌, slice_get}
 use Rattle.std.specs.List.{AllByRecursion, before_first, position_or_len}
@@ -20,7 +20,7 @@ use Rattle.script_parts.specs.declared.parts.SubOp.{SubOp}
 use Rattle.script_parts.specs.ScriptData.{ScriptData, ops_of}
 use Rattle.script_parts.specs.Valid.{IsValid}
 use Rattle.world_model.specs.Runs.{IsStepRun}
-use Rattle.board_rules.specs.Histories.{Place, places_at, version_in, was_committed}
+use Rattle.board_rules.specs.Histories.{Place, places_at, version_in}
 use Rattle.board_rules.specs.Right.{IsShown, gets_among, is_get, with_worths}
 use Rattle.board_rules.specs.Serial.{serial_in}
 use Rattle.board_rules.specs.Stands.{votes_yes}

@@ -1,5 +1,5 @@
 -- What strict trees write takes effect at all nodes that they visit, or at none.
-use Rattle.std.specs.Prelude.{ℕ, ◌≡◌, ◌≤◌, List, reverse, IsTrue}
+use Rattle.std.specs.Prelude.{ℕ, ◌≡◌, ◌≤◌, true, false, List, reverse, IsTrue}
 use Rattle.letter_types.specs.declared.entries.Entry.{Entry}
 use Rattle.script_parts.specs.ScriptData.{ScriptData, subs_at, visits}
 use Rattle.board_rules.specs.Histories.{IsWhole}

@@ -1,5 +1,5 @@
-//! Laws of every run of every valid script, with strict trees too: what nodes read and vote is what items are worth, what
-//! reads show stays so, and what strict trees that commit got and wrote has its place in the serial order.
+//! Laws of every run of every valid script, with strict trees too: what nodes read and vote is what items are worth,
+//! what reads show stays so, and what strict trees that commit got and wrote has its place in the serial order.
 #![tactic(auto)]
 
 mod committed;
