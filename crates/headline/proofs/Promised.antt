@@ -11,6 +11,7 @@ use Rattle.letter_types.specs.declared.entries.Entry.{Entry}
 use Rattle.headline.proofs.BoardRuns.{board_run}
 use Rattle.run_laws.proofs.AtOnce.{all_at_once}
 use Rattle.run_laws.proofs.Taken.{taken_run}
+use Rattle.worth_laws.proofs.CommittedGets.{gets_are_the_fold}
 use Rattle.worth_laws.proofs.Right.{right_run}
 use Rattle.worth_laws.proofs.ShownStays.{shown_stays}
 use Rattle.worth_laws.proofs.WritersFirst.{writers_first}
@@ -35,6 +36,7 @@ headline_past s past valid run finished = record {
   writers_first = writers_first s past valid run;
   board = board_run s past valid run;
   fits = fits_run s past valid run;
+  gets = gets_are_the_fold s past valid run;
   three = held_three s past valid run;
   at_once = all_at_once s past valid run;
   undone = nothing_undone s past valid run;

@@ -13,6 +13,7 @@ use Rattle.board_rules.specs.Moves.{IsBoardRun}
 use Rattle.board_rules.specs.Right.{HasFinished, IsAtOnce, IsRight}
 use Rattle.world_model.specs.Runs.{IsWorldRun}
 use Rattle.run_laws.specs.Taken.{TakesWhatIsApt}
+use Rattle.worth_laws.specs.Gets.{GetsAreTheFoldBefore}
 use Rattle.worth_laws.specs.Stays.{ReadsStayRight, WritersAreFirst}
 use Rattle.headline.specs.Undone.{ShowsNothingUndone}
 use Rattle.headline.specs.Held.{HasHeldThree, HoldsBalances}
@@ -35,9 +36,11 @@ pub record HasHeadline (s : ScriptData) (h : List Entry) : Type 0 where
   pub right : IsRight s h
   pub writers_first : WritersAreFirst s h
   -- all committed trees are a serial run ordered by version: what is worth is a fold over the serial order, and
-  -- versions and order are tied to the script by the Board and the gates
+  -- versions and order are tied to the script by the Board and the gates; and what a committed strict tree got is the fold
+  -- over the members before it
   pub board : IsBoardRun s h
   pub fits : Fits s h
+  pub gets : GetsAreTheFoldBefore s h
   -- no item has held more than three versions
   pub three : HasHeldThree s h
   -- no read or commuting step has waited for version advancement: each was done at once, or parked where a strict tree's

@@ -60,7 +60,7 @@ brief_quiet n (a ∷ xs) zero y none is =
     subst (λ (z : Place). is_quiet z.act ≡ true) same (quiet_act a (first_quiet a xs none).0)
 brief_quiet n (a ∷ xs) (suc i) y none is = brief_quiet n xs i y (first_quiet a xs none).1 is
 
-front_quiet : (past : List Entry) (e : Entry) (j : ℕ) → lasting (take j e.acts) ≡ []
+pub front_quiet : (past : List Entry) (e : Entry) (j : ℕ) → lasting (take j e.acts) ≡ []
     → AreQuiet (front past e j) (length (before past)) (length (front past e j))
 front_quiet past e j none = λ i y le lt is.
     let l = in_second (before past) (take j (places_at e)) i y is le in

@@ -15,3 +15,6 @@ pub mod ReadPlaces
 pub mod WritersFirst
 pub mod SampledOrder
 pub mod ShownStays
+pub mod AllOrNone
+pub mod CommitsStand
+pub mod CommittedGets

@@ -86,7 +86,7 @@ act_right : (s : ScriptData) (past : List Entry) (e : Entry) (j : ℕ) (a : Act)
 act_right s past e j a valid run at true is = lasting_right s past e j a at (lasts s past e j a valid run at is)
 act_right s past e j a valid run at false is = other_right s past e j a is
 
-place_right : (s : ScriptData) (past : List Entry) (e : Entry) (j : ℕ) (y : Place) → IsValid s → IsStepRun s (e ∷ past)
+pub place_right : (s : ScriptData) (past : List Entry) (e : Entry) (j : ℕ) (y : Place) → IsValid s → IsStepRun s (e ∷ past)
     → slice_get (places_at e) j ≡ Some y → IsRightAct s (reverse past) (front past e j ++ y ∷ []) y.act
 place_right s past e j y valid run is =
     let there = act_of_place e j y is in

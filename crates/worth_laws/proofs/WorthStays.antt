@@ -42,7 +42,7 @@ acts_after past (e ∷ later) =
       places_more e (later ++ past) ∙ ap (λ (xs : List Place). xs ++ places_at e) old.1 ∙ append_assoc (before past) old.0 (places_at e),
     )
 
-first_acts : (past later : List Entry) → take (length (before past)) (before (later ++ past)) ≡ before past
+pub first_acts : (past later : List Entry) → take (length (before past)) (before (later ++ past)) ≡ before past
 first_acts past later =
     let more = acts_after past later in
     ap (take (length (before past))) more.1 ∙ take-append_seam (before past) more.0

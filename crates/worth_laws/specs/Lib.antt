@@ -1,2 +1,4 @@
+pub mod AllOrNone
 pub mod Causes
+pub mod Gets
 pub mod Stays

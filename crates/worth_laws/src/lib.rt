@@ -1,9 +1,14 @@
-//! Laws of every run of every valid script, with strict trees too: what nodes read and vote is what items are worth, and
-//! what reads show stays so.
+//! Laws of every run of every valid script, with strict trees too: what nodes read and vote is what items are worth,
+//! what reads show stays so, and what strict trees that commit got and wrote has its place in the serial order.
 #![tactic(auto)]
 
+mod committed;
 mod reads;
 mod stays;
 
+pub use committed::{
+    commits_stand_from_their_versions, committed_gets_are_the_fold_before,
+    committed_trees_are_all_or_none,
+};
 pub use reads::{reads_and_votes_are_right, votes_name_their_causes};
 pub use stays::{what_reads_show_stays, writers_come_before_reads};
