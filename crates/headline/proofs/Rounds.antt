@@ -1,5 +1,5 @@
 -- In a run of a script without advancements no round begins: the coordinator stays idle.
-use Rattle.std.proofs.Common.{◌≡◌, ◌≢◌, ℕ, List, [], ◌∷◌, reverse, refl, sym, ap, subst, ◌∙◌, arith}
+use Rattle.std.proofs.Common.{◌≡◌, ◌≢◌, ℕ, List, [], ◌∷◌, reverse, refl, ap, ◌∙◌, arith}
 use Rattle.letter_types.specs.declared.bodies.Body.{Body}
 use Rattle.letter_types.specs.declared.bodies.Body.TheVariants.{Go, Advance}
 use Rattle.letter_types.specs.declared.entries.Entry.{Entry}
@@ -32,14 +32,14 @@ idle_row Go from c still = refl
 idle_row Advance from c still = absurd (omega (arith, still))
 idle_row _ from c still = refl
 
-same_round : (phase : Phase) (c : Coordinator) (from : ℕ) (body : Body) → c.phase ≡ phase → running phase ≡ 0
-    → running (coordinator_row c from body).state.phase ≡ 0 → (coordinator_row c from body).state.round ≡ c.round
-same_round Idle c from body is idle still = rw is (idle_row body from c (rw (sym is) still))
-same_round Turning c from body is idle still = absurd (omega (arith, idle))
-same_round (Counting reads) c from body is idle still = absurd (omega (arith, idle))
-same_round (Paused reads) c from body is idle still = absurd (omega (arith, idle))
-same_round Showing c from body is idle still = absurd (omega (arith, idle))
-same_round Sweeping c from body is idle still = absurd (omega (arith, idle))
+same_round : (phase : Phase) (c : Coordinator) (from : ℕ) (body : Body) → running phase ≡ 0
+    → running (row_of body phase from c).state.phase ≡ 0 → (row_of body phase from c).state.round ≡ c.round
+same_round Idle c from body idle still = idle_row body from c still
+same_round Turning c from body idle still = absurd (omega (arith, idle))
+same_round (Counting reads) c from body idle still = absurd (omega (arith, idle))
+same_round (Paused reads) c from body idle still = absurd (omega (arith, idle))
+same_round Showing c from body idle still = absurd (omega (arith, idle))
+same_round Sweeping c from body idle still = absurd (omega (arith, idle))
 
 -- nor does any other entry
 kept_round : (s : ScriptData) (past : List Entry) (e : Entry) → e.actor.0 ≢ s.nodes
@@ -54,9 +54,9 @@ next_round s past e idle still (Hears t v answer is at lt made) = kept_round s p
 next_round s past e idle still (Ends v is at made) = kept_round s past e (omega (arith, at))
 next_round s past e idle still (Coordinates tells at made) =
     let c = coordinator_in s past in
-    let row = ap (λ (x : Coordinator). x.round) made.state in
-    let now = omega (arith, still, ap (λ (x : Coordinator). running x.phase) made.state) in
-    row ∙ same_round c.phase c e.took.from.0 e.took.body refl idle now
+    let now : running (coordinator_row c e.took.from.0 e.took.body).state.phase ≡ 0 =
+    omega (arith, still, ap (λ (x : Coordinator). running x.phase) made.state) in
+    ap (λ (x : Coordinator). x.round) made.state ∙ same_round c.phase c e.took.from.0 e.took.body idle now
 next_round s past e idle still (Works p r w) = kept_round s past e (omega (arith, w.brings.at, w.brings.below))
 next_round s past e idle still (Obeys p out more at lt order state sent woken) = kept_round s past e (omega (arith, at, lt))
 

@@ -36,8 +36,7 @@ use Rattle.board_rules.specs.Worth.{after_deed, after_ops, after_subs, after_tre
 use Rattle.world_model.specs.Runs.{IsStepRun}
 use Rattle.worth_laws.specs.Stays.{Shows}
 use Rattle.headline.specs.Undone.{ShowsNothingUndone, is_undone, worth_kept}
-use Rattle.worth_laws.proofs.ShownStays.{same_worths}
-use Rattle.headline.proofs.ReadsStay.{stay_right}
+use Rattle.worth_laws.proofs.ShownStays.{same_worths, shown_stays}
 
 -- What `add` operations make of a value.
 
@@ -163,4 +162,4 @@ nothing_undone s past valid run =
     let h = reverse past in
     at_each_act_map (λ (b : List Entry) (xs : List Place) (x : Place). Shows (worth s h) s h x.act)
     (λ (b : List Entry) (xs : List Place) (x : Place). Shows (worth_kept s h) s h x.act) h
-    (λ b xs x right. act_shows s h x.act valid right) (stay_right s past valid run)
+    (λ b xs x right. act_shows s h x.act valid right) (shown_stays s past valid run)
