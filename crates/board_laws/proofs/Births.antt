@@ -21,7 +21,7 @@ use Rattle.tree_laws.specs.Dids.{asks, is_born, letters_asking}
 use Rattle.tree_laws.proofs.Acts.{of_act}
 use Rattle.tree_laws.proofs.AptVersions.{before, not_born}
 use Rattle.tree_laws.proofs.Counts.{one_here}
-use Rattle.tree_laws.proofs.Versions.{unborn}
+use Rattle.tree_laws.proofs.Counted.{unborn}
 use Rattle.phase_laws.proofs.Brought.{BringsTo, brought_meant, brought_outstanding}
 use Rattle.phase_laws.proofs.LevelAt.{unread}
 use Rattle.run_laws.proofs.EveryApt.{all_apt}

@@ -1,5 +1,5 @@
 -- In every run of every valid script a node's three versions are what its acts so far say.
-use Rattle.std.proofs.Common.{◌≡◌, ◌≢◌, ◌⊎◌, inl, inr, ℕ, ◌<◌, ◌==◌, Bool, true, false, List, [], ◌∷◌, ◌++◌, map, refl, sym, ap, subst, ◌∙◌, arith, Option, Some, None}
+use Rattle.std.proofs.Common.{◌≡◌, ◌≢◌, ◌⊎◌, inl, inr, ℕ, ◌<◌, ◌==◌, Bool, true, false, List, ◌∷◌, ◌++◌, map, refl, sym, ap, subst, ◌∙◌, arith, Option, Some, None, reverse, []}
 use Rattle.std.specs.Prelude.{if◌then◌else◌, fold, nat_lt}
 use Rattle.std.proofs.lemmas.Bool.{cases_eq}
 use Rattle.std.proofs.lemmas.Bool.Decides.{nat_tests}
@@ -9,11 +9,9 @@ use Rattle.tv_base.specs.declared.numbers.SubNo.{SubNo}
 use Rattle.tv_base.specs.declared.numbers.TreeNo.{TreeNo}
 use Rattle.tv_base.specs.declared.numbers.Version.{Version}
 use Rattle.letter_types.specs.declared.acts.Act.{Act}
-use Rattle.letter_types.specs.declared.acts.Act.TheVariants as acts
 use Rattle.letter_types.specs.declared.bodies.Body.{Body}
 use Rattle.letter_types.specs.declared.bodies.Body.TheVariants.{Root, Sub as SubLetter, Done, Turn, Show, Sweep, Decide, Decided, Release, AskDone, AskAsked}
 use Rattle.letter_types.specs.declared.bodies.Notice.{Notice}
-use Rattle.letter_types.specs.declared.bodies.Notice.TheVariants as notices
 use Rattle.letter_types.specs.declared.entries.Entry.{Entry}
 use Rattle.letter_types.specs.declared.votes.Vote.{Vote}
 use Rattle.letter_types.specs.Steps.{Out}
@@ -38,13 +36,25 @@ use Rattle.world_model.specs.Votes.{vote_of}
 use Rattle.world_model.proofs.Cases.{Case, Coordinates, NodeDoes, NodeKeeps, Submits, case}
 use Rattle.world_model.proofs.Every.{node_kept}
 use Rattle.world_model.proofs.Keepings.{of_kept}
-use Rattle.board_rules.specs.Histories.{Place, places_at}
-use Rattle.board_rules.specs.Moves.{number_after, showed_to, swept_to, turned_to, version_or}
+use Rattle.board_rules.specs.Histories.{Place, places_at, places_of}
+use Rattle.board_rules.specs.Moves.{number_after, showed_to, swept_to, turned_to, version_or, low_after, read_after, update_after}
 use Rattle.tree_laws.proofs.AptVersions.{before}
 use Rattle.tree_laws.proofs.Histories.{places_more}
-use Rattle.tree_laws.proofs.Numbers.{AreNumbers, set_by}
 use Rattle.run_laws.proofs.EveryApt.{all_apt}
 use Rattle.rule_laws.proofs.Fronts.{placed}
+use Rattle.letter_types.specs.declared.acts.Act.TheVariants as acts
+use Rattle.letter_types.specs.declared.bodies.Notice.TheVariants as notices
+
+-- and acts here set it, one after the other
+abbrev pub set_by : (Act → Option Version) → ℕ → List Act → ℕ
+set_by set n acts = fold (λ (m : ℕ) (a : Act). version_or m (set a)) n acts
+
+-- The three numbers.
+-- node p's versions are these after the acts of a past
+pub record AreNumbers (past : List Entry) (p : ℕ) (turns : Turns) : Type 0 where
+  pub update : update_after (places_of (reverse past)) p ≡ turns.update.0
+  pub read : read_after (places_of (reverse past)) p ≡ turns.read.0
+  pub low : low_after (places_of (reverse past)) p ≡ turns.low.0
 
 -- Acts that lead from a node's versions to others.
 pub record Leads (xs : List Act) (was now : Turns) : Type 0 where

@@ -1,6 +1,6 @@
 -- Where all operations commute, what an item is worth doesn't depend on the order.
-use Rattle.std.proofs.Common.{◌≡◌, ℕ, zero, suc, ◌+◌, Bool, true, false, IsTrue, List, [], ◌∷◌, ◌++◌, refl, ap, sym, ◌∙◌, subst}
-use Rattle.std.specs.Prelude.{if◌then◌else◌, ◌==◌, fold, IsPermutation, Option, Some, None, slice_get}
+use Rattle.std.proofs.Common.{◌≡◌, ℕ, zero, suc, ◌+◌, Bool, true, false, IsTrue, List, ◌∷◌, ◌++◌, refl, ap, sym, ◌∙◌, subst, []}
+use Rattle.std.specs.Prelude.{if◌then◌else◌, ◌==◌, fold, Option, Some, None, slice_get}
 use Rattle.std.specs.List.{AllByRecursion}
 use Rattle.std.proofs.lemmas.List.Sums.{fold-append}
 use Rattle.std.proofs.lemmas.List.Sorted.{IsPermutation-append_comm}
@@ -8,8 +8,7 @@ use Rattle.commute_ops.specs.declared.kinds.Kind.{Kind}
 use Rattle.commute_ops.specs.declared.kinds.Op.{Op}
 use Rattle.commute_ops.specs.declared.value.Value.{Value}
 use Rattle.commute_ops.specs.Ops.{applied}
-use Rattle.commute_ops.proofs.Orders.{is_free_of_order, values_are_free_of_order}
-use Rattle.letter_types.specs.declared.entries.Entry.{Entry}
+use Rattle.commute_ops.proofs.Orders.{values_are_free_of_order}
 use Rattle.script_parts.specs.ScriptData.{ScriptData, is_strict, subs_at}
 use Rattle.script_parts.specs.Valid.{AreSubs, IsOp, IsTree, IsValid, OpAt, deed_fits}
 use Rattle.script_parts.specs.declared.parts.Deed.{Deed}
@@ -21,8 +20,7 @@ use Rattle.script_parts.specs.declared.parts.Tree.{Tree}
 use Rattle.script_parts.specs.declared.parts.TreeKind.{TreeKind}
 use Rattle.script_parts.specs.declared.parts.TreeKind.TheVariants.{Update, Read, Strict}
 use Rattle.board_rules.specs.Histories.{is_strict_tree}
-use Rattle.board_rules.specs.Serial.{serial_to}
-use Rattle.board_rules.specs.Worth.{after_deed, after_ops, after_subs, after_tree, first_value, worth}
+use Rattle.board_rules.specs.Worth.{after_deed, after_ops}
 
 -- the commuting operation that a deed is; other deeds are none
 abbrev pub op_of : Deed → List Op
@@ -35,14 +33,6 @@ op_of (Draw a) = []
 abbrev pub ops_on : ℕ → List SubOp → List Op
 ops_on x [] = []
 ops_on x (o ∷ os) = (if o.item.0 == x then op_of o.deed else []) ++ ops_on x os
-
-abbrev pub subs_on : ℕ → List Sub → List Op
-subs_on x [] = []
-subs_on x (k ∷ ks) = ops_on x k.ops ++ subs_on x ks
-
-abbrev pub trees_on : ScriptData → ℕ → List ℕ → List Op
-trees_on s x [] = []
-trees_on s x (t ∷ ts) = subs_on x (subs_at s t) ++ trees_on s x ts
 
 -- a commuting operation, or a read
 abbrev pub is_commuting : Deed → Bool
@@ -77,13 +67,6 @@ after_ops_is x (o ∷ os) w all =
     after_ops_is x os (if b then after_deed o.deed w else w) all.1
     ∙ ap (λ (z : Value). fold applied z (ops_on x os)) (op_is b o.deed w all.0)
     ∙ sym (fold-append applied w (if b then op_of o.deed else []) (ops_on x os))
-
-pub after_subs_is : (x : ℕ) (ks : List Sub) (w : Value) → SubsCommute ks → after_subs x ks w ≡ fold applied w (subs_on x ks)
-after_subs_is x [] w all = refl
-after_subs_is x (k ∷ ks) w all =
-    after_subs_is x ks (after_ops x k.ops w) all.1
-    ∙ ap (λ (z : Value). fold applied z (subs_on x ks)) (after_ops_is x k.ops w all.0)
-    ∙ sym (fold-append applied w (ops_on x k.ops) (subs_on x ks))
 
 -- what a valid script says of its deeds
 fits_commutes : (kind : TreeKind) (k : Kind) (deed : Deed) → is_strict kind ≡ false → IsTrue (deed_fits kind k deed)
@@ -146,52 +129,9 @@ tree_commutes s t valid c =
       moved : (a b : List Sub) → a ≡ b → SubsCommute a → SubsCommute b
       moved a b e h = let P : List Sub → Type 0 = λ z. SubsCommute z in subst P e h
 
-pub after_tree_is : (s : ScriptData) (x t : ℕ) (w : Value) → IsValid s → is_strict_tree s t ≡ false
-    → after_tree s x w t ≡ fold applied w (subs_on x (subs_at s t))
-after_tree_is s x t w valid c = after_subs_is x (subs_at s t) w (tree_commutes s t valid c)
-
-pub after_trees_are : (s : ScriptData) (x : ℕ) (ts : List ℕ) (w : Value) → IsValid s
-    → ((t : ℕ) → is_strict_tree s t ≡ false) → fold (after_tree s x) w ts ≡ fold applied w (trees_on s x ts)
-after_trees_are s x [] w valid c = refl
-after_trees_are s x (t ∷ ts) w valid c =
-    after_trees_are s x ts (after_tree s x w t) valid c
-    ∙ ap (λ (z : Value). fold applied z (trees_on s x ts)) (after_tree_is s x t w valid (c t))
-    ∙ sym (fold-append applied w (subs_on x (subs_at s t)) (trees_on s x ts))
-
--- in a script without strict trees, what an item is worth is one fold over commuting operations
-pub worth_is : (s : ScriptData) (h : List Entry) (x v : ℕ) → IsValid s → ((t : ℕ) → is_strict_tree s t ≡ false)
-    → worth s h x v ≡ fold applied (first_value (slice_get s.items x)) (trees_on s x (serial_to s h v))
-worth_is s h x v valid c = after_trees_are s x (serial_to s h v) (first_value (slice_get s.items x)) valid c
-
--- so any order of those operations gives it
-pub worth_of_ops : (s : ScriptData) (h : List Entry) (x v : ℕ) (ops : List Op) → IsValid s
-    → ((t : ℕ) → is_strict_tree s t ≡ false) → IsPermutation (trees_on s x (serial_to s h v)) ops
-    → fold applied (first_value (slice_get s.items x)) ops ≡ worth s h x v
-worth_of_ops s h x v ops valid c same =
-    values_are_free_of_order (trees_on s x (serial_to s h v)) ops same (first_value (slice_get s.items x))
-    ∙ sym (worth_is s h x v valid c)
-
 -- two lists of operations, the one after the other
 pub exchanged : (a b : List Op) (w : Value) → fold applied (fold applied w a) b ≡ fold applied (fold applied w b) a
 exchanged a b w =
     sym (fold-append applied w a b)
     ∙ values_are_free_of_order (b ++ a) (a ++ b) (IsPermutation-append_comm b a) w
     ∙ fold-append applied w b a
-
-trees_exchanged : (s : ScriptData) (x : ℕ) → IsValid s → ((t : ℕ) → is_strict_tree s t ≡ false)
-    → (w : Value) (a b : ℕ) → after_tree s x (after_tree s x w a) b ≡ after_tree s x (after_tree s x w b) a
-trees_exchanged s x valid c w a b =
-    let p : List Op = subs_on x (subs_at s a) in
-    let q : List Op = subs_on x (subs_at s b) in
-    after_tree_is s x b (after_tree s x w a) valid (c b)
-    ∙ ap (λ (z : Value). fold applied z q) (after_tree_is s x a w valid (c a))
-    ∙ exchanged p q w
-    ∙ sym (ap (λ (z : Value). fold applied z p) (after_tree_is s x b w valid (c b)))
-    ∙ sym (after_tree_is s x a (after_tree s x w b) valid (c a))
-
--- and so does any order of the trees
-pub worth_of_trees : (s : ScriptData) (h : List Entry) (x v : ℕ) (ts : List ℕ) → IsValid s
-    → ((t : ℕ) → is_strict_tree s t ≡ false) → IsPermutation (serial_to s h v) ts
-    → fold (after_tree s x) (first_value (slice_get s.items x)) ts ≡ worth s h x v
-worth_of_trees s h x v ts valid c same =
-    is_free_of_order (after_tree s x) (trees_exchanged s x valid c) (serial_to s h v) ts same (first_value (slice_get s.items x))

@@ -1,6 +1,6 @@
 -- What is ahead of what in the serial order: by version, and within a version by the last closing act.
 use Rattle.std.proofs.Common.{◌≡◌, ◌⊎◌, inl, inr, ℕ, zero, suc, ◌<◌, ◌≤◌, ◌&&◌, Bool, true, false, List, ◌++◌, refl, ap, sym, ◌∙◌, arith, Option, Some, None, take, drop, take-append-drop}
-use Rattle.std.specs.Prelude.{not, ◌||◌, filter}
+use Rattle.std.specs.Prelude.{◌||◌, filter}
 use Rattle.std.specs.List.{list_any}
 use Rattle.std.proofs.lemmas.Bool.Decides.{nat_tests}
 use Rattle.std.proofs.lemmas.Bool.{and_from, cases_lt}
@@ -15,10 +15,6 @@ use Rattle.board_rules.proofs.SerialOrder.{is_in-members_in, is_in-serial_in, is
 -- the act closes tree t
 abbrev pub closes_tree : ScriptData → ℕ → Place → Bool
 closes_tree s t x = is_tree t (commits_by s x.act)
-
-out_of : (a b : Bool) → (not a && b) ≡ true → b ≡ true
-out_of true b is = absurd (cc is)
-out_of false b is = is
 
 -- who is closed for the last time below n is ahead of who is closed from n on
 pub closed_ahead : (s : ScriptData) (zs : List Place) (t k n : ℕ) → is_in t (commit_order s zs) ≡ true

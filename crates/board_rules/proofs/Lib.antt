@@ -29,7 +29,5 @@ pub mod Stays
 pub mod AtEntry
 pub mod BeforeTree
 pub mod Gets
-pub mod Frozen
 pub mod Shown
-pub mod Sees
 pub mod NoVotes

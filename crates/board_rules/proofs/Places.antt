@@ -1,11 +1,10 @@
 -- The places of two histories, one after the other, and what holds of each act.
-use Rattle.std.proofs.Common.{◌≡◌, ℕ, zero, suc, ◌<◌, true, false, take, List, [], ◌∷◌, ◌++◌, refl, ap, sym, ◌∙◌, append_assoc, arith}
+use Rattle.std.proofs.Common.{◌≡◌, ℕ, ◌<◌, true, take, List, ◌∷◌, ◌++◌, refl, ap, sym, ◌∙◌, append_assoc, []}
 use Rattle.std.specs.Prelude.{◌||◌, ◌&&◌, ◌==◌, Option, Some, None, is_some}
 use Rattle.std.specs.Option.{option_or}
-use Rattle.std.proofs.lemmas.Bool.Decides.{nat_tests}
 use Rattle.std.proofs.lemmas.List.Folds.{list_any-append}
 use Rattle.letter_types.specs.declared.entries.Entry.{Entry}
-use Rattle.board_rules.specs.Histories.{Place, all_done, applies, born_as, commits, does, places_at, places_of, version_in, was_applied, was_committed, was_done}
+use Rattle.board_rules.specs.Histories.{Place, applies, born_as, commits, does, places_at, places_of, version_in, was_applied, was_committed, was_done}
 use Rattle.board_rules.specs.Moves.{AtEachAct, OneByOne}
 use Rattle.board_rules.specs.Right.{finishes, has_finished}
 
@@ -46,13 +45,6 @@ was_applied-append t p a b = list_any-append (λ (x : Place). (x.node == p) && a
 
 pub has_finished-append : (a b : List Place) → has_finished (a ++ b) ≡ (has_finished a || has_finished b)
 has_finished-append a b = list_any-append (λ (x : Place). finishes x.act) a b
-
--- one of the first n that wasn't done
-pub all_done_not : (t n k : ℕ) (xs : List Place) → k < n → was_done t k xs ≡ false → all_done t n xs ≡ false
-all_done_not t zero k xs small h = absurd (omega arith)
-all_done_not t (suc n) k xs small h =
-    let rest : k < n → was_done t k xs ≡ false → all_done t n xs ≡ false = all_done_not t n k xs in
-    grind (arith, nat_tests)
 
 -- What holds of each act, and what follows for it.
 pub one_by_one_map : (P Q : List Place → Place → Type 0) (xs ys : List Place) → ((zs : List Place) (y : Place) → P zs y → Q zs y)

@@ -1,8 +1,8 @@
 -- What a node has made of its item in versions up to one stays, where nothing of these versions changes it later; and
 -- so does its worth, where it is closed.
-use Rattle.std.proofs.Common.{◌≡◌, ℕ, zero, suc, ◌+◌, ◌<◌, ◌≤◌, ◌==◌, ◌&&◌, Bool, true, false, List, [], ◌∷◌, refl, sym, ap, ◌∙◌, inl, inr, arith, Option, Some, take}
+use Rattle.std.proofs.Common.{◌≡◌, ℕ, zero, suc, ◌+◌, ◌<◌, ◌≤◌, ◌==◌, ◌&&◌, Bool, true, false, List, ◌∷◌, refl, sym, ap, ◌∙◌, inl, inr, arith, Option, Some, take, []}
 use Rattle.std.specs.Prelude.{if◌then◌else◌, fold, filter, is_some, slice_get}
-use Rattle.std.proofs.lemmas.Bool.{and_from, and_right, false_from_ne_true}
+use Rattle.std.proofs.lemmas.Bool.{and_from, false_from_ne_true}
 use Rattle.std.proofs.lemmas.Option.{slice_get_within}
 use Rattle.tv_base.specs.declared.numbers.Version.{Version}
 use Rattle.tv_base.proofs.Truths.{same_test}
@@ -13,32 +13,21 @@ use Rattle.script_parts.specs.ScriptData.{ScriptData, ops_of, subs_at, updates}
 use Rattle.script_parts.specs.Valid.{IsValid}
 use Rattle.script_parts.specs.declared.parts.Sub.{Sub}
 use Rattle.board_rules.specs.Histories.{Place, is_strict_tree, version_in}
-use Rattle.board_rules.specs.Moves.{decides_as}
 use Rattle.board_rules.specs.Stands.{votes_yes}
 use Rattle.board_rules.specs.Worth.{after_ops, after_subs, first_value, worth_in}
-use Rattle.board_rules.proofs.ActTests.{applies_as, decides_as_is}
+use Rattle.board_rules.proofs.ActTests.{applies_as}
 use Rattle.board_rules.proofs.ClosedWorth.{IsClosed, made_is_worth}
 use Rattle.board_rules.proofs.EffectPlaces.{Takes, effect_is}
 use Rattle.board_rules.proofs.Effects.{effect_at, made_at, made_by, made_in, place_folded, still_ops, subs_there}
 use Rattle.board_rules.proofs.InOrder.{EffectAt}
-use Rattle.board_rules.proofs.Once.{clash, fold_kept, has, has_kept, nothing_there, pairs_equal, same_pair}
-use Rattle.board_rules.proofs.Positions.{ActAt, act_same, act_there, found, found_act, found_all, taken_is}
-use Rattle.board_rules.proofs.Precedence.{decided_once, decision}
+use Rattle.board_rules.proofs.Once.{fold_kept, has, has_kept, nothing_there, pairs_equal, same_pair}
+use Rattle.board_rules.proofs.Positions.{ActAt, found, found_act, found_all, taken_is}
+use Rattle.board_rules.proofs.Precedence.{decision}
 use Rattle.board_rules.proofs.Rules.{AreByRule, FollowsRules, IsItemAt, applying, deciding, deed, yes_vote}
 use Rattle.board_rules.proofs.SerialOrder.{is_up_to}
 use Rattle.board_rules.proofs.TreeSubs.{after_sub, touches}
 use Rattle.board_rules.proofs.Votes.{rules_before}
 use Rattle.board_rules.proofs.Wholes.{born_later, version_alike}
-
--- of a tree that was decided to abort nothing is applied as of a commit
-pub aborted_never : (s : ScriptData) (zs : List Place) (i j p q t : ℕ) → AreByRule s zs → ActAt (applies_as t true) zs i p
-    → ActAt (decides_as t false) zs j q → ⊥
-aborted_never s zs i j p q t acts applied decided =
-    let d = decision s zs i p t true acts applied in
-    let same = decided_once s zs d.place j d.node q t true false acts d.at decided in
-    let both = act_same (decides_as t true) (decides_as t false) zs d.place d.node q d.at
-    (act_there (decides_as t false) zs j d.place q decided (sym same)) in
-    clash (decides_as t false d.at.act) both (ap (decides_as t false) (decides_as_is t true d.at.act d.at.passes) ∙ and_right (t == t) false refl)
 
 -- What takes effect is of a tree that was born before.
 applied_born : (s : ScriptData) (zs : List Place) (i p t : ℕ) → AreByRule s zs → ActAt (applies_as t true) zs i p

@@ -1,5 +1,5 @@
 -- Which locks are at a place of a history, and why a subtransaction of a strict tree votes no: a look back over the
--- acts. No tree of a run so far takes a lock.
+-- acts.
 use Rattle.std.specs.Prelude.{if◌then◌else◌, ℕ, zero, suc, Bool, false, ◌==◌, ◌&&◌, not, max, nat_lt, List, [], ◌∷◌, ◌++◌, fold, filter, length, map, Option, Some, None}
 use Rattle.std.specs.List.{list_any}
 use Rattle.std.specs.Option.{option_or}

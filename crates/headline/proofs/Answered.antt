@@ -31,7 +31,7 @@ use Rattle.tree_laws.proofs.AptStagesOwn.{sub_of_node}
 use Rattle.tree_laws.proofs.AptStagesRun.{stages_of_trees}
 use Rattle.tree_laws.proofs.AptSteps.{home_node}
 use Rattle.tree_laws.proofs.AptTurns.{births_are_turns}
-use Rattle.tree_laws.proofs.Whole.{all_done_of, births_in, dids_in, was_done_of}
+use Rattle.tree_laws.proofs.Counted.{all_done_of, births_in, dids_in, was_done_of}
 use Rattle.run_laws.proofs.EveryApt.{all_apt, lawful}
 use Rattle.run_laws.proofs.EveryDid.{dids_are_turns}
 use Rattle.run_laws.proofs.EveryWhole.{strict_is, was_applied_of}

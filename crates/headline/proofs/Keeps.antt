@@ -50,7 +50,7 @@ use Rattle.phase_laws.proofs.Progress.{Begins, Coordinates, Ends, Hears, Obeys, 
 use Rattle.phase_laws.proofs.Tokens.{phase_for}
 use Rattle.board_laws.proofs.NodeNumbers.{node_numbers}
 use Rattle.board_laws.proofs.Openings.{MayRaise, OpensFor, opens, opens_as}
-use Rattle.tree_laws.proofs.Versions.{placed}
+use Rattle.tree_laws.proofs.Counted.{placed}
 use Rattle.headline.proofs.Answered.{answered_before, answered_whole}
 use Rattle.headline.proofs.Finished.{AreAtRest, over_run}
 use Rattle.headline.proofs.Finishing.{finishing_run, none_finishes}

@@ -15,7 +15,7 @@ use Rattle.tx_trees.specs.Valid.{IsValid}
 use Rattle.tx_trees.specs.declared.parts.ItemRow.{ItemRow}
 use Rattle.board_rules.specs.Right.{HasFinished}
 use Rattle.board_rules.specs.Worth.{is_written, worth}
-use Rattle.tree_laws.specs.OwnValues.{seen_at}
+use Rattle.tree_laws.specs.SeenAt.{seen_at}
 use Rattle.world_model.specs.Runs.{IsStepRun, coordinator_in, node_in}
 use Rattle.run_laws.specs.Shown.{WritersAreWhole}
 use Rattle.worth_laws.proofs.OwnWorth.{own_is_worth, shown_is_closed}

@@ -39,8 +39,8 @@ use Rattle.phase_laws.proofs.Progress.{brings_to, itself}
 use Rattle.phase_laws.proofs.Tokens.{phase_for}
 use Rattle.tree_laws.proofs.AptItems.{Applies, Changes, Collects, Raises, Rests, Shows, Touches, core_changes, raised_to}
 use Rattle.tree_laws.proofs.Histories.{places_more}
-use Rattle.tree_laws.proofs.OwnDeeds.{raised_low}
-use Rattle.tree_laws.proofs.Versions.{placed}
+use Rattle.tree_laws.proofs.Seen.{raised_low}
+use Rattle.tree_laws.proofs.Counted.{placed}
 use Rattle.board_rules.proofs.Wholes.{any_more}
 
 -- What was collected, with more acts.

@@ -1,9 +1,6 @@
 -- The level of a node: its versions, and the orders in flight to it, against the coordinator's phase.
-use Rattle.std.proofs.Common.{◌≡◌, ℕ, ◌+◌, ◌-◌, ◌<◌, ◌≤◌, ◌==◌, true, false, List, [], ◌∷◌, refl, arith, Option, Some, None}
+use Rattle.std.proofs.Common.{◌≡◌, ℕ, ◌+◌, ◌-◌, ◌<◌, ◌≤◌, ◌==◌, true, false, List, ◌∷◌, refl, arith, Option, Some, None, []}
 use Rattle.std.specs.Prelude.{slice_get}
-use Rattle.tv_base.specs.declared.numbers.SubNo.{SubNo}
-use Rattle.tv_base.specs.declared.numbers.TreeNo.{TreeNo}
-use Rattle.tv_base.specs.declared.numbers.Version.{Version}
 use Rattle.letter_types.specs.declared.bodies.Body.{Body}
 use Rattle.letter_types.specs.declared.bodies.Body.TheVariants.{Sub as SubLetter, Turn, Show, Sweep}
 use Rattle.letter_types.specs.declared.entries.Entry.{Entry}
@@ -133,7 +130,3 @@ pub unread : (s : ScriptData) (t : ℕ) (found : Option Tree) → slice_get s.tr
 unread s t None at up = rw (at, reads) refl
 unread s t (Some tree) at up =
     let update : is_update tree.kind ≡ true = rw (at, updates) at up in rw (at, reads) (unread_by tree.kind update)
-
-pub update_level : (s : ScriptData) (phase : Phase) (u : ℕ) (t : TreeNo) (k : SubNo) (v : Version) → LevelBody s phase u (SubLetter t k v)
-    → updates s t.0 ≡ true → v.0 ≤ most_update phase u
-update_level s phase u t k v level up = level (unread s t.0 (slice_get s.trees t.0) refl up)

@@ -1,9 +1,8 @@
 -- The versions of the nodes against the coordinator's phase, in every run.
-use Rattle.std.proofs.Common.{◌≡◌, ℕ, ◌+◌, ◌<◌, ◌≤◌, ◌&&◌, true, false, List, [], ◌∷◌, refl, subst, arith}
+use Rattle.std.proofs.Common.{◌≡◌, ℕ, ◌+◌, ◌<◌, ◌≤◌, ◌&&◌, true, false, List, ◌∷◌, refl, subst, arith, []}
 use Rattle.std.specs.Prelude.{nat_le}
 use Rattle.std.proofs.lemmas.Bool.Decides.{nat_tests}
 use Rattle.std.proofs.lemmas.Bool.{and_from}
-use Rattle.tv_base.proofs.Truths.{left_true}
 use Rattle.tv_base.specs.declared.numbers.Version.{Version}
 use Rattle.letter_types.specs.declared.bodies.Body.{Body}
 use Rattle.letter_types.specs.declared.bodies.Body.TheVariants.{Turn, Show, Sweep, AskDone, AskAsked}
@@ -133,14 +132,3 @@ order_timely s past e body p laws run apt m lt bd is =
     (tells s past SweepStage p) body
     all.first (all.node p lt) (phase_for s past e body laws run apt m bd)
     (subst (λ (b : Body). LevelBody s c.phase c.update b) bd right) is
-
--- a letter that sweeps doesn't lower the low version
-pub sweeps_rise : (s : ScriptData) (past : List Entry) (e : Entry) (v : Version) (p : ℕ) → IsLawful s → IsStepRun s past
-    → AllApt s past
-    → MayFollow s past e → p < s.nodes → e.took.body ≡ Sweep v → (node_in s past p).turns.low.0 ≤ v.0
-sweeps_rise s past e v p laws run apt m lt bd =
-    let test = order_timely s past e (Sweep v) p laws run apt m lt bd tt in
-    let st = node_in s past p in
-    let low : nat_le st.turns.low.0 v.0 ≡ true =
-    left_true (nat_le st.turns.low.0 v.0) (nat_le v.0 st.turns.read.0 && nat_le v.0 st.turns.update.0) test in
-    grind (arith, nat_tests)

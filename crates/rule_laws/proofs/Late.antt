@@ -27,7 +27,7 @@ use Rattle.tree_laws.proofs.Acts.{of_act}
 use Rattle.tree_laws.proofs.AptTurns.{births_are_turns, turns_at_most_once}
 use Rattle.tree_laws.proofs.AptVersions.{before}
 use Rattle.tree_laws.proofs.Histories.{places_more}
-use Rattle.tree_laws.proofs.Whole.{births_in}
+use Rattle.tree_laws.proofs.Counted.{births_in}
 use Rattle.phase_laws.specs.Phases.{most_read}
 use Rattle.strict_laws.proofs.MeantRows.{root_below}
 use Rattle.phase_laws.proofs.Levels.{levels}

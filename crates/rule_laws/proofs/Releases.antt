@@ -47,7 +47,7 @@ use Rattle.tree_laws.proofs.AptSteps.{wakes_none}
 use Rattle.tree_laws.proofs.AptTurns.{births_are_turns}
 use Rattle.tree_laws.proofs.AptVersions.{before}
 use Rattle.tree_laws.proofs.Histories.{places_more}
-use Rattle.tree_laws.proofs.Whole.{all_done_of, births_in, dids_in, was_done_of}
+use Rattle.tree_laws.proofs.Counted.{all_done_of, births_in, dids_in, was_done_of}
 use Rattle.run_laws.proofs.EveryApt.{all_apt}
 use Rattle.run_laws.proofs.EveryDid.{dids_are_turns}
 use Rattle.run_laws.proofs.EveryWhole.{strict_is}

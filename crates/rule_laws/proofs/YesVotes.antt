@@ -1,6 +1,6 @@
 -- In every run each yes is of a born strict tree's subtransaction at its node, once; it meets no lock that conflicts, and
 -- what it overwrites is written in no newer version.
-use Rattle.std.proofs.Common.{◌≡◌, ◌⊎◌, inl, inr, ℕ, zero, suc, ◌<◌, ◌≤◌, ◌==◌, max, Bool, true, false, List, [], ◌∷◌, ◌++◌, drop, map, length, take, refl, sym, ap, ◌∙◌, subst, arith, append_assoc, take-append-drop, Option, Some, None}
+use Rattle.std.proofs.Common.{◌≡◌, ◌⊎◌, inl, inr, ℕ, zero, suc, ◌<◌, ◌≤◌, ◌==◌, max, Bool, true, false, List, ◌∷◌, ◌++◌, drop, map, length, take, refl, sym, ap, ◌∙◌, subst, arith, append_assoc, take-append-drop, Option, Some, None, []}
 use Rattle.std.specs.Prelude.{if◌then◌else◌, fold, is_some, nat_lt, slice_get}
 use Rattle.std.specs.Option.{option_or}
 use Rattle.std.proofs.lemmas.Bool.{cases_lt}
@@ -16,7 +16,6 @@ use Rattle.letter_types.specs.declared.acts.Act.{Act}
 use Rattle.letter_types.specs.declared.acts.Act.TheVariants as acts
 use Rattle.letter_types.specs.declared.entries.Entry.{Entry}
 use Rattle.letter_types.specs.declared.entries.Letter.{Letter}
-use Rattle.letter_types.specs.declared.votes.Cause.{Cause}
 use Rattle.letter_types.specs.declared.votes.Vote.TheVariants.{Yes}
 use Rattle.item_versions.specs.Item.{Held, IsHeld}
 use Rattle.item_versions.specs.Table.{Table, item_in}
@@ -32,10 +31,8 @@ use Rattle.world_model.specs.Asked.{asked_ops, asked_version}
 use Rattle.letter_types.specs.declared.bodies.Body.{Body}
 use Rattle.world_model.specs.Core.{Core}
 use Rattle.world_model.specs.Named.{is_strict_at, tree_kind_at}
-use Rattle.world_model.specs.Notices.{act_of}
 use Rattle.world_model.specs.Runs.{IsStepRun, keeping_in, node_in}
-use Rattle.world_model.specs.Strict.{notice_by}
-use Rattle.world_model.specs.Votes.{cause_in, conflict_by, newer_at, newer_by, newer_in, short_in, voted, wanted_by}
+use Rattle.world_model.specs.Votes.{cause_in, conflict_by, newer_at, newer_by, newer_in, short_in, wanted_by}
 use Rattle.board_rules.specs.Histories.{Place, places_at, version_in}
 use Rattle.board_rules.specs.Stands.{conflict_of, newer_of, newest_of, version_or_zero, written_in}
 use Rattle.board_rules.proofs.ItemAt.{op_row}
@@ -69,11 +66,6 @@ use Rattle.rule_laws.proofs.Writes.{IsItem, asked_born, brief_most, writes_up}
 pub record HasNoCause (s : ScriptData) (c : Core) (t : TreeNo) (v : Version) (os : List SubOp) : Type 0 where
   pub met : conflict_by (met_in t (wanted_by os) c.locks) ≡ None
   pub newer : newer_in v os c.node.items ≡ None
-
-yes_cause : (o : Option Cause) (values : List (ItemNo × Value)) (t : TreeNo) (k : SubNo) (u : TreeNo) (j : SubNo) (ws : List (ItemNo × Value))
-    → acts.Voted u j (Yes ws) ≡ act_of t k (notice_by (voted o values)) → (o ≡ None) × (u ≡ t) × (j ≡ k)
-yes_cause None values t k u j ws is = (refl, cc is, cc is)
-yes_cause (Some cause) values t k u j ws is = absurd (cc is)
 
 pub no_cause : (s : ScriptData) (c : Core) (t : TreeNo) (v : Version) (os : List SubOp) → cause_in c.locks c.node.items t v os ≡ None
     → HasNoCause s c t v os

@@ -1,8 +1,7 @@
 -- In every run of every valid script no read or commuting step waits but for a strict tree's lock: the entry that took a
 -- subtransaction's letter does it, or parks it where such a lock is in its way.
-use Rattle.std.proofs.Common.{◌≡◌, inl, inr, ℕ, ◌-◌, ◌<◌, ◌≤◌, ◌==◌, ◌&&◌, Bool, true, false, List, [], ◌∷◌, reverse, refl, sym, ap, subst, ◌∙◌, arith, Option, Some, None}
-use Rattle.std.specs.Prelude.{if◌then◌else◌, IsTrue, drop, is_some, length, map, not, take}
-use Rattle.std.specs.List.{list_any}
+use Rattle.std.proofs.Common.{◌≡◌, inl, inr, ℕ, ◌-◌, ◌<◌, ◌≤◌, ◌==◌, ◌&&◌, Bool, true, false, List, ◌∷◌, reverse, refl, sym, ap, subst, ◌∙◌, arith, Some, None, []}
+use Rattle.std.specs.Prelude.{if◌then◌else◌, drop, length, map, take}
 use Rattle.std.proofs.lemmas.Bool.{and_parts, cases_lt}
 use Rattle.std.proofs.lemmas.List.{length-reverse, take_all}
 use Rattle.std.proofs.lemmas.Bool.Decides.{nat_tests}
@@ -17,13 +16,12 @@ use Rattle.letter_types.specs.declared.bodies.Body.TheVariants.{Go, Root, Sub as
 use Rattle.letter_types.specs.declared.entries.Entry.{Entry}
 use Rattle.letter_types.specs.declared.entries.Letter.{Letter}
 use Rattle.letter_types.specs.declared.kept.KeptLetter.{KeptLetter}
-use Rattle.letter_types.specs.declared.votes.Cause.{Cause}
 use Rattle.letter_types.specs.declared.votes.Cause.TheVariants.{Conflict}
 use Rattle.script_parts.specs.Counts.{has_strict}
 use Rattle.tx_trees.specs.ScriptData.{ScriptData, node_of, updates}
 use Rattle.tx_trees.specs.Valid.{IsValid}
-use Rattle.board_rules.specs.Histories.{Place, does, places_at, places_of}
-use Rattle.board_rules.specs.Right.{IsAtOnce, IsDoneAtOnce, IsDoneOrParked, commutes, in_way_of, is_parking, parkings}
+use Rattle.board_rules.specs.Histories.{Place, places_at, places_of}
+use Rattle.board_rules.specs.Right.{IsAtOnce, IsDoneAtOnce, IsDoneOrParked, in_way_of, is_parking, parkings}
 use Rattle.board_rules.proofs.NoVotes.{AreNoVotes, IsNoVote, none_in_way}
 use Rattle.world_model.specs.Counts.{one_if, tally}
 use Rattle.world_model.specs.Keeping.{AreKeptAt, AsksFor}
@@ -214,10 +212,3 @@ nothing_in_way s past n p t k valid plain run =
       | inl more ↦ after_all s past n (omega (arith, more)) plain valid run
       | inr le ↦ after_part s past n le plain valid run
     ])
-
--- so the entry that took its letter has its Did
-pub done_at_once : (s : ScriptData) (past : List Entry) (n p : ℕ) (t : TreeNo) (k : SubNo) (did : List Act) → IsValid s
-    → has_strict s ≡ false → IsStepRun s past → IsDoneOrParked s (places_of (take n (reverse past))) p t k did → IsTrue (commutes s t.0)
-    → list_any (does t.0 k.0) did ≡ true
-done_at_once s past n p t k did valid plain run its commuting =
-    its.done commuting ∙ ap (λ (o : Option Cause). not (is_some o)) (nothing_in_way s past n p t.0 k.0 valid plain run)

@@ -1,5 +1,5 @@
 -- Where a version is shown or swept to, its trees are whole, and none comes later, in every run of every valid script.
-use Rattle.std.proofs.Common.{◌≡◌, ◌⊎◌, inl, inr, ℕ, ◌+◌, ◌<◌, ◌≤◌, Bool, true, false, not, List, [], ◌∷◌, ◌++◌, length, reverse, refl, sym, ap, ◌∙◌, arith, Option, Some, None}
+use Rattle.std.proofs.Common.{◌≡◌, ◌⊎◌, inl, inr, ℕ, ◌+◌, ◌<◌, ◌≤◌, Bool, true, false, not, List, ◌∷◌, ◌++◌, length, reverse, refl, sym, ap, ◌∙◌, arith, Option, Some, None, []}
 use Rattle.std.specs.Prelude.{slice_get}
 use Rattle.tv_base.specs.declared.numbers.Version.{Version}
 use Rattle.letter_types.specs.declared.bodies.Body.{Body}
@@ -8,7 +8,7 @@ use Rattle.letter_types.specs.declared.entries.Entry.{Entry}
 use Rattle.letter_types.specs.declared.entries.Letter.{Letter}
 use Rattle.world_model.specs.Coordinator.{Coordinator, coordinator_row}
 use Rattle.world_model.specs.declared.phase.Phase.{Phase}
-use Rattle.tx_trees.specs.ScriptData.{ScriptData, is_read, is_update}
+use Rattle.tx_trees.specs.ScriptData.{ScriptData, is_read}
 use Rattle.tx_trees.specs.Valid.{IsValid}
 use Rattle.tx_trees.specs.declared.parts.Tree.{Tree}
 use Rattle.board_rules.specs.Histories.{places_at, places_of, version_in}
@@ -27,12 +27,6 @@ use Rattle.run_laws.specs.Shown.{IsBackedBy, IsClosedBy}
 use Rattle.run_laws.proofs.EveryApt.{all_apt, lawful}
 use Rattle.run_laws.proofs.Reached.{Closes, Reaches, Same, born_above, coordinator_moves, now_below, step_reaches, whole_below, whole_run}
 use Rattle.run_laws.proofs.Wholes.{born_split, born_with, is_of_kind}
-
--- a tree of a kind is there
-pub update_there : (s : ScriptData) (t : ℕ) (found : Option Tree) → slice_get s.trees t ≡ found
-    → (elim found [ Some tree ↦ is_update tree.kind | None ↦ false ]) ≡ true → t < length s.trees
-update_there s t None is up = absurd (cc up)
-update_there s t (Some tree) is up = get_below s.trees t tree is
 
 read_there : (s : ScriptData) (t : ℕ) (found : Option Tree) → slice_get s.trees t ≡ found
     → (elim found [ Some tree ↦ is_read tree.kind | None ↦ false ]) ≡ true → t < length s.trees

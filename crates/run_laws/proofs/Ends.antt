@@ -1,5 +1,5 @@
 -- Where no letter is in flight, the coordinator is idle, nothing is kept, and the client has finished.
-use Rattle.std.proofs.Common.{◌≡◌, ◌⊎◌, inl, inr, ℕ, zero, suc, ◌+◌, ◌<◌, ◌≤◌, ◌==◌, ◌&&◌, Bool, true, false, not, List, [], ◌∷◌, ◌++◌, length, get_or, map, reverse, take, refl, sym, ap, subst, ◌∙◌, arith}
+use Rattle.std.proofs.Common.{◌≡◌, ◌⊎◌, inl, inr, ℕ, zero, suc, ◌+◌, ◌<◌, ◌≤◌, ◌==◌, ◌&&◌, Bool, true, false, not, List, ◌∷◌, ◌++◌, length, get_or, map, reverse, take, refl, sym, ap, subst, ◌∙◌, arith, []}
 use Rattle.std.specs.Prelude.{nat_le}
 use Rattle.std.proofs.lemmas.Bool.{and_from}
 use Rattle.std.proofs.lemmas.Bool.Decides.{nat_tests}
@@ -94,12 +94,6 @@ none_busy s past valid run empty =
           (let lt = tree_in s past t valid row in
           over_by s past t valid run empty lt (settled s past t valid run empty lt))),
     )
-
--- The coordinator.
--- a phase in which the nodes are told something misses an acknowledgement
-stage_ends : (phase : Phase) (g : Stage) (acks n : ℕ) → within g phase acks ≡ acks → within g phase n ≡ n → acks < n
-    → 0 + within g phase acks ≡ within g phase n → ⊥
-stage_ends phase g acks n a b less is = absurd (omega (arith, a, b, less, is))
 
 not_telling : (s : ScriptData) (past : List Entry) (valid : IsValid s) (run : IsStepRun s past) (g : Stage) (phase : Phase)
     → in_flight s past ≡ [] → (coordinator_in s past).phase ≡ phase → ((k : ℕ) → within g phase k ≡ k) → ⊥

@@ -43,8 +43,7 @@ use Rattle.tree_laws.proofs.AptTurns.{births_are_turns, parent_before, sub_has_t
 use Rattle.tree_laws.proofs.AptVersions.{before, tally_less}
 use Rattle.tree_laws.proofs.Counts.{zero_or}
 use Rattle.tree_laws.proofs.Histories.{places_more}
-use Rattle.tree_laws.proofs.Versions.{unborn}
-use Rattle.tree_laws.proofs.Whole.{all_done_of, births_in, dids_in, was_done_of}
+use Rattle.tree_laws.proofs.Counted.{all_done_of, births_in, dids_in, unborn, was_done_of}
 use Rattle.run_laws.proofs.EveryApt.{all_apt}
 use Rattle.run_laws.proofs.EveryDecided.{decided_when_gone}
 use Rattle.run_laws.proofs.EveryDid.{dids_are_turns}

@@ -1,6 +1,6 @@
 -- In every run each letter that a node keeps has its reason still: the root of a strict tree waits for a Show, and a
 -- subtransaction of an update tree for a holder that its node has.
-use Rattle.std.proofs.Common.{◌≡◌, ◌≢◌, ◌⊎◌, inl, inr, ℕ, ◌+◌, ◌<◌, ◌≤◌, ◌==◌, ◌&&◌, Bool, true, false, List, [], ◌∷◌, refl, sym, ap, subst, ◌∙◌, arith, Option, Some, None}
+use Rattle.std.proofs.Common.{◌≡◌, ◌≢◌, ◌⊎◌, inl, inr, ℕ, ◌+◌, ◌<◌, ◌≤◌, ◌==◌, ◌&&◌, Bool, true, false, List, ◌∷◌, refl, sym, ap, subst, ◌∙◌, arith, Option, Some, None, []}
 use Rattle.std.specs.Prelude.{if◌then◌else◌, nat_lt}
 use Rattle.std.proofs.lemmas.Bool.{cases_eq}
 use Rattle.std.proofs.lemmas.Bool.Decides.{nat_tests}
@@ -121,9 +121,6 @@ near s past p valid run lt =
 pub record Rises (old new : Node) : Type 0 where
   pub read : new.turns.read.0 ≡ old.turns.read.0
   pub update : old.turns.update.0 ≤ new.turns.update.0
-
-same_rises : (old new : Node) → new ≡ old → Rises old new
-same_rises old new same = subst (λ (st : Node). Rises old st) (sym same) (record { read = refl; update = omega arith })
 
 works_rises : (s : ScriptData) (old new : Node) (body : Body) → RaisesBy s old.turns new.turns body → Rises old new
 works_rises s old new body r = record { read = rw r.turns (read_by r.raises); update = rw r.turns (update_by r.raises r.higher) } where

@@ -23,8 +23,7 @@ use Rattle.strict_laws.proofs.Meant.{letters_are_meant}
 use Rattle.phase_laws.proofs.Progress.{Begins, Coordinates, Ends, Hears, Obeys, Progress, Works, progress}
 use Rattle.tree_laws.specs.Dids.{answers, goes, is_go, replies, replies_to}
 use Rattle.tree_laws.specs.Ends.{is_finish}
-use Rattle.tree_laws.proofs.Client.{IsStopped, finish_count, finished_then, finishes_once, stopped, stopped_most}
-use Rattle.tree_laws.proofs.ClientStep.{answered_places}
+use Rattle.tree_laws.proofs.Client.{IsStopped, answered_places, finish_count, finished_then, finishes_once, stopped, stopped_most}
 use Rattle.run_laws.proofs.EveryApt.{all_apt, lawful}
 
 -- once Go is taken the client has stopped, and has finished if all is over; and it tells so

@@ -1,11 +1,11 @@
 -- In every run the root of a strict tree waits at most once for each version that was shown at its home, and once more while it is
 -- kept: a Show wakes it, and raises the version that is read.
-use Rattle.std.proofs.Common.{◌≡◌, ◌≢◌, ◌⊎◌, inl, inr, ℕ, ◌+◌, ◌<◌, ◌≤◌, ◌==◌, ◌&&◌, Bool, true, false, List, [], ◌∷◌, length, refl, sym, ap, subst, ◌∙◌, arith}
+use Rattle.std.proofs.Common.{◌≡◌, ◌≢◌, ◌⊎◌, inl, inr, ℕ, ◌+◌, ◌<◌, ◌≤◌, ◌==◌, ◌&&◌, Bool, true, false, List, ◌∷◌, length, refl, sym, ap, subst, ◌∙◌, arith, []}
 use Rattle.std.specs.Prelude.{if◌then◌else◌}
 use Rattle.std.proofs.lemmas.Bool.{cases_eq}
 use Rattle.std.proofs.lemmas.Bool.Decides.{nat_tests}
 use Rattle.tv_base.specs.declared.numbers.Version.{Version}
-use Rattle.letter_types.specs.Kept.{is_called, kept_without, wakes_by, with_called}
+use Rattle.letter_types.specs.Kept.{is_called, kept_without, wakes_by}
 use Rattle.letter_types.specs.declared.bodies.Body.{Body}
 use Rattle.letter_types.specs.declared.bodies.Body.TheVariants.{Decide, Go, Show}
 use Rattle.letter_types.specs.declared.entries.Entry.{Entry}
@@ -59,23 +59,6 @@ shown_unwoken : (t u : ℕ) (w : Why) (b : Body) → wakes_by b ForShow ≡ fals
 shown_unwoken t u ForShow b other is = absurd (cc (other, is))
 shown_unwoken t u Called b other is = refl
 shown_unwoken t u (ForHolder g) b other is = refl
-
--- and a Show wakes all
-shown_woken : (t : ℕ) (x : KeptLetter) (b : Body) (w : Why) → x.why ≡ w → wakes_by b ForShow ≡ true
-    → is_kept_for_show t (if wakes_by b x.why then record x { why = Called } else x) ≡ 0
-shown_woken t x b ForShow is show = rw (is, show) refl
-shown_woken t x b Called is show = by (wakes_by b x.why) where
-  by : (test : Bool) → is_kept_for_show t (if test then record x { why = Called } else x) ≡ 0
-  by true = refl
-  by false = rw is refl
-shown_woken t x b (ForHolder g) is show = by (wakes_by b x.why) where
-  by : (test : Bool) → is_kept_for_show t (if test then record x { why = Called } else x) ≡ 0
-  by true = refl
-  by false = rw is refl
-
-all_woken : (t : ℕ) (b : Body) (xs : List KeptLetter) → wakes_by b ForShow ≡ true → tally (is_kept_for_show t) (with_called (wakes_by b) xs) ≡ 0
-all_woken t b [] show = refl
-all_woken t b (x ∷ xs) show = omega (arith, shown_woken t x b x.why refl show, all_woken t b xs show)
 
 -- of one tree at most one is kept so
 shown_root : (t u j : ℕ) (w : Why) → (w ≡ ForShow → j ≡ 0) → shown_as t u w ≤ one_if ((u == t) && (j == 0))

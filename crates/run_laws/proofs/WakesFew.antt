@@ -1,6 +1,6 @@
 -- How many Wakes are sent in a run: of each subtransaction at most as many as its letter was kept. So an update tree's has at most
 -- one for each strict tree, and the root of a strict tree at most one for each advancement.
-use Rattle.std.proofs.Common.{◌≡◌, ◌≢◌, ◌⊎◌, inl, inr, ℕ, ◌+◌, ◌<◌, ◌≤◌, ◌==◌, ◌&&◌, Bool, true, false, List, [], ◌∷◌, length, refl, sym, ap, subst, ◌∙◌, arith}
+use Rattle.std.proofs.Common.{◌≡◌, ◌≢◌, ◌⊎◌, inl, inr, ℕ, ◌+◌, ◌<◌, ◌≤◌, ◌==◌, ◌&&◌, Bool, true, false, List, ◌∷◌, length, refl, sym, ap, subst, ◌∙◌, arith, []}
 use Rattle.std.proofs.lemmas.Bool.{cases_eq}
 use Rattle.std.proofs.lemmas.Bool.Decides.{nat_tests}
 use Rattle.tv_base.specs.declared.numbers.SubNo.{SubNo}
@@ -299,9 +299,6 @@ never_kept s (e ∷ past) t k valid run never =
           ∙ uncalled_far t k o.tree.0 o.sub.0 o.why (never (keeping_in s past q).core o.tree o.sub o.why (reason_of s past e q r o d))
       by (Coordinates at says) = coordinator_none (keeps_of t k) s past e says
       by (Submits at says) = client_none (keeps_of t k) s past e (keeps_only t k) says
-
-strict_at : (s : ScriptData) (u t : ℕ) → u ≡ t → is_strict_at s t ≡ true → is_strict_at s u ≡ true
-strict_at s u t is strict = subst (λ (n : ℕ). is_strict_at s n ≡ true) (sym is) strict
 
 update_at : (s : ScriptData) (u t : ℕ) → u ≡ t → updates s u ≡ true → updates s t ≡ true
 update_at s u t is up = subst (λ (n : ℕ). updates s n ≡ true) is up

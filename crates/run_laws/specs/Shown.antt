@@ -4,7 +4,7 @@ use Rattle.tv_base.specs.declared.numbers.Version.{Version}
 use Rattle.letter_types.specs.declared.bodies.Body.{Body}
 use Rattle.letter_types.specs.declared.bodies.Body.TheVariants.{Go, Show, Sweep}
 use Rattle.letter_types.specs.declared.entries.Entry.{Entry}
-use Rattle.tx_trees.specs.ScriptData.{ScriptData, reads, updates}
+use Rattle.tx_trees.specs.ScriptData.{ScriptData, reads}
 use Rattle.board_rules.specs.Histories.{IsWhole, version_of}
 
 -- each writer, a tree that reads nothing, of version at most v that is born is whole
@@ -41,13 +41,3 @@ IsClosedBy s h later (Show v) = NoWriterCame s h later v.0
 IsClosedBy s h later (Sweep v) = NoReadCame s h later v.0
 IsClosedBy s h later Go = Unit {0}
 IsClosedBy s h later _ = Unit {0}
-
--- The same of update trees alone.
--- each update tree of version at most v that is born is whole
-abbrev pub UpdatesAreWhole : ScriptData → List Entry → ℕ → Type 0
-UpdatesAreWhole s h v = (t : ℕ) (w : Version) → updates s t ≡ true → version_of h t ≡ Some w → w.0 ≤ v → IsWhole s h t
-
--- from a history to a later one no update tree has come to a version at most v
-abbrev pub NoUpdateCame : ScriptData → List Entry → List Entry → ℕ → Type 0
-NoUpdateCame s h later v =
-    (t : ℕ) (w : Version) → updates s t ≡ true → version_of later t ≡ Some w → w.0 ≤ v → version_of h t ≡ Some w

@@ -1,6 +1,6 @@
 -- In runs of apt letters, of every script: a tree is decided on at most once, and only if it is strict: where its home has
 -- all its notices.
-use Rattle.std.proofs.Common.{◌≡◌, ◌≢◌, ℕ, ◌+◌, ◌<◌, ◌≤◌, ◌==◌, ◌&&◌, Bool, true, false, not, List, [], ◌∷◌, length, refl, sym, ap, subst, ◌∙◌, arith, Option, Some, None}
+use Rattle.std.proofs.Common.{◌≡◌, ◌≢◌, ℕ, ◌+◌, ◌<◌, ◌≤◌, ◌==◌, ◌&&◌, Bool, true, false, not, List, ◌∷◌, length, refl, sym, ap, subst, ◌∙◌, arith, Option, Some, None, []}
 use Rattle.tv_base.specs.declared.numbers.SubNo.{SubNo}
 use Rattle.tv_base.specs.declared.numbers.TreeNo.{TreeNo}
 use Rattle.tv_base.specs.declared.numbers.Version.{Version}
@@ -331,8 +331,3 @@ applied_when_answered s past t q valid apt run lt strict some below is =
       none_under_way s past t true q over,
       none_under_way s past t false q over,
     )
-
--- and no other tree is decided on
-pub strict_if_decided : (s : ScriptData) (past : List Entry) (t : ℕ) → IsValid s → AllApt s past → IsStepRun s past → t < length s.trees
-    → 1 ≤ decided_any past t → is_strict_at s t ≡ true
-strict_if_decided s past t valid apt run lt some = (once_in_run s past t valid apt run lt).strict some

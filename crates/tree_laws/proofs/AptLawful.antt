@@ -61,7 +61,7 @@ use Rattle.tree_laws.proofs.AptStagesSteps.{sent_by}
 use Rattle.tree_laws.proofs.AptSteps.{client_moves, home_node}
 use Rattle.tree_laws.proofs.AptTurns.{no_turn_yet}
 use Rattle.tree_laws.proofs.AptVersions.{before, dated_run, is_right, is_version, misdated, version_is}
-use Rattle.tree_laws.proofs.ClientStep.{answered_places}
+use Rattle.tree_laws.proofs.Client.{answered_places}
 use Rattle.tree_laws.proofs.Nudges.{nudge_sent, orders_none, unheard, unheard_first, unheard_less}
 use Rattle.tree_laws.proofs.Turns.{answers_none, each_told, releases_none, replies_none}
 

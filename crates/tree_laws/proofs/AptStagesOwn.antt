@@ -44,8 +44,7 @@ use Rattle.tree_laws.proofs.AptSteps.{Enters, apt_named, done_before}
 use Rattle.tree_laws.proofs.AptTurns.{no_turn_yet, parent_before, sub_has_turns, tree_there, turns_at_most_once, turns_below_root}
 use Rattle.tree_laws.proofs.Answering.{one_here}
 use Rattle.tree_laws.proofs.Noting.{misses_root, noted_other, noted_same}
-use Rattle.tree_laws.proofs.Stages.{missing_at}
-use Rattle.tree_laws.proofs.Staging.{first_one, none_places, root_noted, told_none, told_one}
+use Rattle.tree_laws.proofs.Staging.{first_one, missing_at, none_places, root_noted, told_none, told_one}
 
 -- A subtransaction that belongs to a node is there.
 there_by : (s : ScriptData) (p t k : ℕ) (found : Option Sub) → sub_at s t k ≡ found → node_of s t k ≡ p → p < s.nodes → SubAt s t k

@@ -1,6 +1,6 @@
 -- In runs of apt letters, of every script: each subtransaction has at most one turn, and a tree is born where its root
 -- has it.
-use Rattle.std.proofs.Common.{◌≡◌, ◌⊎◌, inl, inr, ℕ, zero, suc, ◌+◌, ◌<◌, ◌≤◌, ◌==◌, ◌&&◌, Bool, true, false, List, [], ◌∷◌, length, refl, sym, ap, subst, ◌∙◌, arith, Option, Some, None}
+use Rattle.std.proofs.Common.{◌≡◌, ◌⊎◌, inl, inr, ℕ, zero, suc, ◌+◌, ◌<◌, ◌≤◌, ◌==◌, ◌&&◌, Bool, true, false, List, ◌∷◌, length, refl, sym, ap, subst, ◌∙◌, arith, Option, Some, None, []}
 use Rattle.std.specs.Prelude.{slice_get}
 use Rattle.std.proofs.lemmas.Bool.Decides.{nat_tests}
 use Rattle.tv_base.specs.declared.numbers.SubNo.{SubNo}
@@ -126,16 +126,6 @@ pub core_turns : (s : ScriptData) (p from t k : ℕ) (body : Body) (c : Core) �
     → tally (has_turn t k) (core_row s p c from body).acts ≡ asks t k body
 core_turns s p from t k body c lt named =
     let w = core_works s p from body c lt named in w.acts (has_turn t k) (turn_of t k) ∙ one_turn t k (work_version s c body) w.notice body
-
-pub core_asks : (s : ScriptData) (p from t k : ℕ) (x : Sub) (body : Body) (c : Core) → p < s.nodes → is_named s p from body ≡ true
-    → sub_at s t k ≡ Some x → x.parent.0 < k → tally (on (asks t k)) (core_row s p c from body).sent ≡ asks t x.parent.0 body
-core_asks s p from t k x body c lt named at up =
-    let w = core_works s p from body c lt named in w.sends (on (asks t k)) (asks_of t k) ∙ asked_next s t k x (work_version s c body) w.notice body at up
-
-pub core_asks_root : (s : ScriptData) (p from t : ℕ) (body : Body) (c : Core) → p < s.nodes → is_named s p from body ≡ true
-    → tally (on (asks t 0)) (core_row s p c from body).sent ≡ 0
-core_asks_root s p from t body c lt named =
-    let w = core_works s p from body c lt named in w.sends (on (asks t 0)) (asks_of t 0) ∙ root_next s t (work_version s c body) w.notice body
 
 -- An entry, by these numbers.
 turn_more : (s : ScriptData) (past : List Entry) (e : Entry) (t k : ℕ) → (n : Enters s past e)

@@ -37,8 +37,7 @@ use Rattle.tree_laws.proofs.Counts.{one_here}
 use Rattle.tree_laws.proofs.Histories.{places_more}
 use Rattle.tree_laws.proofs.Sent.{rooted_once, tally_take_le}
 use Rattle.tree_laws.proofs.Turns.{OfTreeActs, OfTreeLetters, done_for, is_tree_letter, sent_for}
-use Rattle.tree_laws.proofs.Versions.{placed, unborn}
-use Rattle.tree_laws.proofs.Whole.{births_in}
+use Rattle.tree_laws.proofs.Counted.{births_in, placed, unborn}
 
 -- a version is this one
 abbrev pub is_version : Option Version → Version → Bool

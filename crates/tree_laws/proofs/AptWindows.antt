@@ -1,6 +1,6 @@
 -- In runs of apt letters, of every script: a node's versions lie from its low version to two above it, those of its items
 -- ascend there, and so its items have room for each version of that window.
-use Rattle.std.proofs.Common.{◌≡◌, ◌≢◌, ◌⊎◌, inl, inr, ℕ, ◌+◌, ◌<◌, ◌≤◌, ◌==◌, ◌&&◌, Bool, true, false, List, [], ◌∷◌, refl, sym, ap, subst, ◌∙◌, arith, Option, Some, None}
+use Rattle.std.proofs.Common.{◌≡◌, ◌≢◌, ◌⊎◌, inl, inr, ℕ, ◌+◌, ◌<◌, ◌≤◌, ◌==◌, ◌&&◌, Bool, true, false, List, ◌∷◌, refl, sym, ap, subst, ◌∙◌, arith, Option, Some, None, []}
 use Rattle.std.specs.Prelude.{if◌then◌else◌, nat_lt}
 use Rattle.std.proofs.lemmas.Bool.{cases_eq}
 use Rattle.std.proofs.lemmas.Bool.Decides.{nat_tests}
@@ -290,15 +290,6 @@ tables_in_window s past p valid apt run lt = (nodes_in_window s past p valid apt
 pub tables_ascend : (s : ScriptData) (past : List Entry) (p : ℕ) → IsValid s → AllApt s past → IsStepRun s past → p < s.nodes
     → IsHeldTable (node_in s past p).items
 tables_ascend s past p valid apt run lt = (nodes_in_window s past p valid apt run lt).held
-
--- the version that is updated is near, and the one that is read
-pub updates_near : (s : ScriptData) (past : List Entry) (p : ℕ) → IsValid s → AllApt s past → IsStepRun s past → p < s.nodes
-    → is_near (node_in s past p) (node_in s past p).turns.update ≡ true
-updates_near s past p valid apt run lt = (nodes_in_window s past p valid apt run lt).update
-
-pub reads_near : (s : ScriptData) (past : List Entry) (p : ℕ) → IsValid s → AllApt s past → IsStepRun s past → p < s.nodes
-    → is_near (node_in s past p) (node_in s past p).turns.read ≡ true
-reads_near s past p valid apt run lt = (nodes_in_window s past p valid apt run lt).read
 
 -- and each item has room for each version that is near
 pub near_has_room : (s : ScriptData) (past : List Entry) (p : ℕ) (v : Version) → IsValid s → AllApt s past → IsStepRun s past → p < s.nodes

@@ -1,34 +1,25 @@
 -- The client submits rows until a settle row has to wait, finishes once all is over, and finishes once.
-use Rattle.std.proofs.Common.{◌≡◌, ◌≢◌, ◌⊎◌, inl, inr, ℕ, zero, suc, ◌+◌, ◌≤◌, ◌==◌, ◌&&◌, ◌||◌, Bool, true, false, not, List, [], ◌∷◌, ◌++◌, length, get_or, set, take, drop, refl, sym, ap, subst, ◌∙◌, arith, append_assoc, append-nil, length-drop, Some}
-use Rattle.std.specs.Prelude.{if◌then◌else◌, min, nat_le, nat_lt, slice_get, ◌-◌, ◌^◌}
+use Rattle.std.proofs.Common.{◌≡◌, ◌≢◌, ◌⊎◌, inl, inr, ℕ, zero, suc, ◌+◌, ◌≤◌, ◌==◌, ◌&&◌, ◌||◌, Bool, true, false, not, List, ◌∷◌, ◌++◌, length, get_or, set, take, drop, refl, sym, ap, subst, ◌∙◌, arith, append_assoc, append-nil, length-drop, Some, ◌<◌, []}
+use Rattle.std.specs.Prelude.{if◌then◌else◌, min, nat_le, slice_get, ◌-◌, ◌^◌, nat_lt}
 use Rattle.std.proofs.Math.Seq.{take-add}
 use Rattle.std.proofs.lemmas.Bool.Decides.{nat_tests}
 use Rattle.std.proofs.lemmas.Bool.{and_from, and_parts}
-use Rattle.letter_types.specs.declared.acts.Act.{Act}
 use Rattle.letter_types.specs.declared.acts.Act.TheVariants.{Finished}
-use Rattle.letter_types.specs.declared.bodies.Body.{Body}
-use Rattle.letter_types.specs.declared.bodies.Body.TheVariants.{Go, Root, Sub as SubLetter}
-use Rattle.letter_types.specs.Steps.{Out}
-use Rattle.world_model.specs.Done.{turned_if}
-use Rattle.world_model.specs.Node.{Node}
 use Rattle.letter_types.specs.declared.entries.Entry.{Entry}
 use Rattle.letter_types.specs.declared.entries.Outgoing.{Outgoing}
-use Rattle.tx_trees.specs.Adding.{advances_in}
 use Rattle.tx_trees.specs.ScriptData.{ScriptData, client_of}
 use Rattle.tx_trees.specs.declared.parts.ScriptRow.{ScriptRow}
 use Rattle.tx_trees.specs.declared.parts.ScriptRow.TheVariants.{Tree as TreeRow, Advance as AdvanceRow, Settle as SettleRow, Lose as LoseRow}
-use Rattle.world_model.specs.Client.{Client, all_answered, have_ended, submitted, next_after, client_finishes, submit, with_answer, with_end, nudge}
+use Rattle.world_model.specs.Client.{Client, all_answered, have_ended, submitted, next_after, client_finishes, submit, client_row, with_answer, nudge}
 use Rattle.world_model.specs.Counts.{tally, one_if}
-use Rattle.world_model.specs.Runs.{client_in, node_in, MayFollow, IsStepRun}
-use Rattle.tree_laws.specs.Dids.{is_go, goes}
 use Rattle.tree_laws.specs.Ends.{is_finish}
-use Rattle.tree_laws.proofs.Goods.{next_of}
-use Rattle.tree_laws.proofs.Doing.{sub_acts}
-use Rattle.world_model.proofs.Flows.{flow, client_kept}
-use Rattle.world_model.proofs.Nexts.{Next, Begins, Hears, Ends, Coordinates, DoesRoot, DoesSub, Notes, Obeys, MadeByClient, Order, Turns, Shows, Sweeps, TellsDone, TellsAsked, Tells}
-use Rattle.world_model.specs.Timely.{AllTimely}
-use Rattle.world_model.proofs.Scripts.{IsSound, get_below}
-use Rattle.world_model.proofs.Worked.{root_did, took_none}
+use Rattle.world_model.proofs.Scripts.{get_below}
+use Rattle.std.proofs.lemmas.List.{length-set, length-replicate}
+use Rattle.tv_base.specs.declared.numbers.TreeNo.{TreeNo}
+use Rattle.letter_types.specs.declared.bodies.Body.{Body}
+use Rattle.letter_types.specs.declared.bodies.Body.TheVariants.{Go, Reply, Advanced}
+use Rattle.letter_types.specs.Steps.{still}
+use Rattle.world_model.specs.Runs.{client_in}
 
 -- How far the client submits.
 
@@ -160,59 +151,11 @@ answers_grow answered t (AdvanceRow ∷ rows) is = answers_grow answered t rows 
 answers_grow answered t (SettleRow ∷ rows) is = answers_grow answered t rows is
 answers_grow answered t (LoseRow ∷ rows) is = answers_grow answered t rows is
 
--- what is over stays over with an answer more
-answer_over : (s : ScriptData) (c : Client) (t : ℕ) → IsOver s c → IsOver s (with_answer t c)
-answer_over s c t over =
-    let parts = and_parts (all_answered c.answered s.rows) (nat_le (advances_in s.rows) c.ended) over.ended in
-    record {
-      all = over.all;
-      ended = and_from (all_answered (set c.answered t true) s.rows) (nat_le (advances_in s.rows) c.ended)
-          (answers_grow c.answered t s.rows parts.0) parts.1;
-    }
-
--- one more advancement that has ended
-end_small : (c : Client) → (with_end c).ended ≤ 2 ^ 64 - 1
-end_small c = omega arith
-
 pub end_grows : (n k : ℕ) → k ≤ 2 ^ 64 - 1 → nat_le n k ≡ true → nat_le n (min (k + 1) (2 ^ 64 - 1)) ≡ true
 end_grows n k small is =
     let le : n ≤ k = grind (arith, nat_tests) in
     let more : k ≤ min (k + 1) (2 ^ 64 - 1) = grind arith in
     grind (arith, nat_tests)
-
--- what is over stays over
-end_over : (s : ScriptData) (c : Client) → c.ended ≤ 2 ^ 64 - 1 → IsOver s c → IsOver s (with_end c)
-end_over s c small over =
-    let parts = and_parts (all_answered c.answered s.rows) (nat_le (advances_in s.rows) c.ended) over.ended in
-    record {
-      all = over.all;
-      ended = and_from (all_answered c.answered s.rows) (nat_le (advances_in s.rows) (min (c.ended + 1) (2 ^ 64 - 1))) parts.0
-          (end_grows (advances_in s.rows) c.ended small parts.1);
-    }
-
--- Letters to and of the coordinator are no Go, and a node that obeys doesn't finish.
-tells_no_go : (b : Body) → Tells b → is_go b ≡ 0
-tells_no_go Go tells = absurd tells
-tells_no_go _ tells = refl
-
-orders_no_go : (s : ScriptData) (st : Node) (b : Body) (out : Out Node) → Order s st b out → is_go b ≡ 0
-orders_no_go s st b out (Turns v is row) = ap is_go is
-orders_no_go s st b out (Shows v is row) = ap is_go is
-orders_no_go s st b out (Sweeps v is row) = ap is_go is
-orders_no_go s st b out (TellsDone v k is row) = ap is_go is
-orders_no_go s st b out (TellsAsked v k is row) = ap is_go is
-
-turn_no_finish : (raises : Bool) (v : ℕ) → tally is_finish (turned_if raises v) ≡ 0
-turn_no_finish true v = refl
-turn_no_finish false v = refl
-
-obeys_no_finish : (s : ScriptData) (st : Node) (b : Body) (out : Out Node) → Order s st b out → tally is_finish out.acts ≡ 0
-obeys_no_finish s st b out (Turns v is row) =
-    ap (λ (o : Out Node). tally is_finish o.acts) row ∙ turn_no_finish (nat_lt st.turns.update.0 v.0) v.0
-obeys_no_finish s st b out (Shows v is row) = ap (λ (o : Out Node). tally is_finish o.acts) row
-obeys_no_finish s st b out (Sweeps v is row) = ap (λ (o : Out Node). tally is_finish o.acts) row
-obeys_no_finish s st b out (TellsDone v k is row) = ap (λ (o : Out Node). tally is_finish o.acts) row
-obeys_no_finish s st b out (TellsAsked v k is row) = ap (λ (o : Out Node). tally is_finish o.acts) row
 
 -- The client in a run.
 
@@ -221,87 +164,24 @@ abbrev pub finish_count : List Entry → ℕ
 finish_count [] = 0
 finish_count (e ∷ past) = tally is_finish e.acts + finish_count past
 
--- once Go is taken the client has stopped, and has finished if all is over; it finishes once, and then all is over
-pub record AtRest (s : ScriptData) (past : List Entry) : Type 0 where
-  pub most : (client_in s past).next ≤ length s.rows
-  pub small : (client_in s past).ended ≤ 2 ^ 64 - 1
-  pub stops : goes s past ≡ 0 → IsStopped s (client_in s past)
-  pub finishes : goes s past ≡ 0 → (client_in s past).next ≡ length s.rows → have_ended (client_in s past) s.rows ≡ true
-      → (client_in s past).finished ≡ true
-  pub once : finish_count past ≡ one_if (client_in s past).finished
-  pub over : (client_in s past).finished ≡ true → IsOver s (client_in s past)
+-- Hearing an answer.
+reply_places : (s : ScriptData) (c : Client) (t : TreeNo) (test : Bool)
+    → length (if test then submit s (with_answer t.0 c) (nudge s ∷ []) else still c).state.answered ≡ length c.answered
+reply_places s c t true = length-set c.answered t.0 true
+reply_places s c t false = refl
 
--- what the client submits, with what is answered given
-submits_rest : (s : ScriptData) (past : List Entry) (e : Entry) (c : Client) (first : List Outgoing) → AtRest s past
-    → c.ended ≤ 2 ^ 64 - 1 → c.next ≡ (client_in s past).next → c.finished ≡ (client_in s past).finished → (c.finished ≡ true → IsOver s c)
-    → MadeByClient s past e (submit s c first) → AtRest s (e ∷ past)
-submits_rest s past e c first rest small next finished over made =
-    let le : c.next ≤ length s.rows = omega (arith, rest.most, next) in
-    let stop : IsStopped s (client_in s (e ∷ past)) = subst (λ (x : Client). IsStopped s x) (sym made.state) (stopped s c first le) in
-    let acts : tally is_finish e.acts ≡ tally is_finish (submit s c first).acts = ap (λ (xs : List Act). tally is_finish xs) made.acts in
-    let before : one_if c.finished ≡ one_if (client_in s past).finished = ap one_if finished in
-    let after : one_if (client_in s (e ∷ past)).finished ≡ one_if (submit s c first).state.finished = ap (λ (x : Client). one_if x.finished) made.state in
-    record {
-      most = stopped_most s (client_in s (e ∷ past)) stop;
-      small = subst (λ (x : Client). x.ended ≤ 2 ^ 64 - 1) (sym made.state) small;
-      stops = λ gone. stop;
-      finishes = λ gone all over.
-          let at_end : (submit s c first).state.next ≡ length s.rows = sym (ap (λ (x : Client). x.next) made.state) ∙ all in
-          let ended : have_ended c s.rows ≡ true = sym (ap (λ (x : Client). have_ended x s.rows) made.state) ∙ over in
-          ap (λ (x : Client). x.finished) made.state ∙ finished_then s c first at_end ended;
-      once = omega (arith, acts, before, after, finishes_once s c first, rest.once);
-      over = subst (λ (x : Client). x.finished ≡ true → IsOver s x) (sym made.state) (over_then s c first over);
-    }
+row_places : (s : ScriptData) (c : Client) (b : Body) → length (client_row s c b).state.answered ≡ length c.answered
+row_places s c Go = refl
+row_places s c (Reply t v answer) = reply_places s c t (nat_lt t.0 (length s.trees))
+row_places s c (Advanced v) = refl
+row_places s c _ = refl
 
--- an entry of another actor
-kept_rest : (s : ScriptData) (past : List Entry) (e : Entry) → MayFollow s past e → AtRest s past → e.actor.0 ≢ client_of s
-    → is_go e.took.body ≡ 0 → tally is_finish e.acts ≡ 0 → AtRest s (e ∷ past)
-kept_rest s past e m rest ne other none =
-    let kept = client_kept s past e ne in
-    let before : goes s (e ∷ past) ≡ 0 → goes s past ≡ 0 = λ gone. omega (arith, other, flow is_go s past e m) in
-    let same : one_if (client_in s (e ∷ past)).finished ≡ one_if (client_in s past).finished = ap (λ (x : Client). one_if x.finished) kept in
-    record {
-      most = subst (λ (x : Client). x.next ≤ length s.rows) (sym kept) rest.most;
-      small = subst (λ (x : Client). x.ended ≤ 2 ^ 64 - 1) (sym kept) rest.small;
-      stops = λ gone. subst (λ (x : Client). IsStopped s x) (sym kept) (rest.stops (before gone));
-      finishes = λ gone.
-          subst (λ (x : Client). x.next ≡ length s.rows → have_ended x s.rows ≡ true → x.finished ≡ true) (sym kept) (rest.finishes (before gone));
-      once = omega (arith, none, same, rest.once);
-      over = subst (λ (x : Client). x.finished ≡ true → IsOver s x) (sym kept) rest.over;
-    }
+places_by : (s : ScriptData) (past : List Entry) (e : Entry) (test : Bool) → length (client_in s past).answered ≡ length s.trees
+    → length (if test then (client_row s (client_in s past) e.took.body).state else client_in s past).answered ≡ length s.trees
+places_by s past e true is = row_places s (client_in s past) e.took.body ∙ is
+places_by s past e false is = is
 
--- any entry
-next_rest : (s : ScriptData) (past : List Entry) (e : Entry) → MayFollow s past e → AtRest s past → Next s past e → AtRest s (e ∷ past)
-next_rest s past e m rest (Begins is at made) = submits_rest s past e (client_in s past) [] rest rest.small refl refl rest.over made
-next_rest s past e m rest (Hears t v answer is at lt made) =
-    submits_rest s past e (with_answer t.0 (client_in s past)) (nudge s ∷ []) rest rest.small refl refl
-    (λ was. answer_over s (client_in s past) t.0 (rest.over was)) made
-next_rest s past e m rest (Ends v is at made) =
-    submits_rest s past e (with_end (client_in s past)) [] rest (end_small (client_in s past)) refl refl
-    (λ was. end_over s (client_in s past) rest.small (rest.over was)) made
-next_rest s past e m rest (Coordinates tells at made) =
-    kept_rest s past e m rest (omega (arith, at)) (tells_no_go e.took.body tells) (ap (λ (xs : List Act). tally is_finish xs) made.acts)
-next_rest s past e m rest (Obeys p out at lt order made) =
-    kept_rest s past e m rest (omega (arith, at, lt)) (orders_no_go s (node_in s past p) e.took.body out order)
-    (ap (λ (xs : List Act). tally is_finish xs) made.acts ∙ obeys_no_finish s (node_in s past p) e.took.body out order)
-next_rest s past e m rest (DoesRoot t v effect is sub at lt new work made) =
-    kept_rest s past e m rest (omega (arith, at, lt)) (took_none is_go s past e (Root t) is refl (λ w j. refl))
-    (ap (λ (xs : List Act). tally is_finish xs) (root_did s past e t v effect work made))
-next_rest s past e m rest (DoesSub t k v raises effect is sub later from at lt work made) =
-    kept_rest s past e m rest (omega (arith, at, lt)) (took_none is_go s past e (SubLetter t k v) is refl (λ w j. refl))
-    (sub_acts is_finish s past e t k v raises effect work made (λ w. refl))
-next_rest s past e m rest (Notes t k v values is sub later from at lt misses made) =
-    kept_rest s past e m rest (omega (arith, at, lt)) (ap is_go is) (ap (λ (xs : List Act). tally is_finish xs) made.acts)
-
--- in every run
-pub at_rest : (s : ScriptData) (past : List Entry) → IsSound s → IsStepRun s past → AllTimely s past → AtRest s past
-at_rest s [] sound run timely = record {
-  most = omega arith;
-  small = omega arith;
-  stops = λ gone. absurd (omega (arith, gone));
-  finishes = λ gone all over. absurd (omega (arith, gone));
-  once = refl;
-  over = λ is. absurd (cc is);
-}
-at_rest s (e ∷ past) sound run timely =
-    next_rest s past e run.0 (at_rest s past sound run.1 timely.1) (next_of s past e sound run timely)
+-- each tree has its place among the answers
+pub answered_places : (s : ScriptData) (past : List Entry) → length (client_in s past).answered ≡ length s.trees
+answered_places s [] = length-replicate (length s.trees) false
+answered_places s (e ∷ past) = places_by s past e (e.actor.0 == client_of s) (answered_places s past)

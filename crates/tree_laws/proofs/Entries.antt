@@ -1,39 +1,22 @@
--- How many entries a run to its end has.
-use Rattle.std.proofs.Common.{◌≡◌, ℕ, suc, ◌+◌, ◌<◌, ◌≤◌, ◌==◌, ◌&&◌, List, [], ◌∷◌, length, reverse, take, drop, refl, sym, ap, subst, ◌∙◌, arith, Some}
+-- What is taken of letters, by trees.
+use Rattle.std.proofs.Common.{◌≡◌, ℕ, suc, ◌+◌, ◌<◌, ◌≤◌, ◌==◌, ◌&&◌, List, ◌∷◌, length, refl, sym, subst, ◌∙◌, arith, Some, []}
 use Rattle.std.specs.Prelude.{slice_get}
 use Rattle.std.specs.List.{AllByRecursion}
-use Rattle.std.proofs.lemmas.Bool.Decides.{nat_tests}
 use Rattle.letter_types.specs.declared.bodies.Body.{Body}
-use Rattle.letter_types.specs.declared.bodies.Body.TheVariants.{Go, Root, Sub as SubLetter, Done, Reply, Nudge}
+use Rattle.letter_types.specs.declared.bodies.Body.TheVariants.{Go, Root, Sub as SubLetter, Reply}
 use Rattle.letter_types.specs.declared.entries.Entry.{Entry}
-use Rattle.letter_types.specs.declared.entries.Outgoing.{Outgoing}
-use Rattle.world_model.specs.Client.{Client, submitted, rows_letters, submit}
-use Rattle.tx_trees.specs.Adding.{advances_in, all_subs}
+use Rattle.tx_trees.specs.Adding.{all_subs}
 use Rattle.tx_trees.specs.ScriptData.{ScriptData, subs_at}
-use Rattle.tx_trees.specs.Valid.{IsValid, IsTree}
+use Rattle.tx_trees.specs.Valid.{IsTree}
 use Rattle.tx_trees.specs.declared.parts.ItemRow.{ItemRow}
 use Rattle.tx_trees.specs.declared.parts.Tree.{Tree}
-use Rattle.world_model.specs.Counts.{tally, one_if}
+use Rattle.world_model.specs.Counts.{one_if}
 use Rattle.world_model.specs.Runs.{IsStepRun}
-use Rattle.world_model.specs.Tables.{IsRunnable}
-use Rattle.world_model.proofs.Bags.{tally-append}
 use Rattle.tree_laws.specs.Dids.{asks, replies_to, replies, answers}
-use Rattle.world_model.specs.Coordinator.{Coordinator}
-use Rattle.world_model.proofs.Bridge.{coordinator_after}
-use Rattle.tree_laws.specs.Entries.{rounds_in}
 use Rattle.world_model.proofs.Flows.{flow}
-use Rattle.tree_laws.proofs.Unadvanced.{unadvanced}
-use Rattle.world_model.proofs.Sends.{on, roots_none}
 use Rattle.tree_laws.proofs.Sums.{over, over_add, over_same, over_none, over_hit, row_hit}
-use Rattle.world_model.proofs.Scripts.{IsSound}
 
 -- What is counted.
-
--- a letter that asks for a root
-abbrev pub is_root : Body → ℕ
-is_root (Root t) = 1
-is_root Go = 0
-is_root _ = 0
 
 -- a letter that asks for a subtransaction
 abbrev pub is_work : Body → ℕ
@@ -48,23 +31,10 @@ is_reply (Reply t v answer) = 1
 is_reply Go = 0
 is_reply _ = 0
 
--- any other letter of a run: Go, a notice or a nudge
-abbrev pub is_other : Body → ℕ
-is_other Go = 1
-is_other (Done t k v notice) = 1
-is_other Nudge = 1
-is_other _ = 0
-
 -- a number of the bodies that were taken
 abbrev pub taken_in : (Body → ℕ) → List Entry → ℕ
 taken_in f [] = 0
 taken_in f (e ∷ past) = f e.took.body + taken_in f past
-
--- Each entry takes a letter, and sends these other letters in return.
-pub submit_other : (s : ScriptData) (c : Client) (first : List Outgoing) → tally (on is_other) (submit s c first).sent ≡ tally (on is_other) first
-submit_other s c first =
-    let rows = take (submitted c (take c.next s.rows) (drop c.next s.rows)) (drop c.next s.rows) in
-    omega (arith, tally-append (on is_other) first (rows_letters s rows), roots_none is_other s rows (λ t. refl) refl)
 
 -- What is taken, by trees.
 -- a number of bodies that is a sum over a list
@@ -73,9 +43,6 @@ pub taken_over : {X : Type 0} (f : ℕ → Body → ℕ) (xs : List X) (past : L
 taken_over f xs [] = sym (over_none 0 (λ k. 0) xs (λ k. refl))
 taken_over f xs (e ∷ past) =
     omega (arith, over_add 0 (λ k. f k e.took.body) (λ k. taken_in (f k) past) xs, taken_over f xs past)
-
-pub root_here : (u t : ℕ) → one_if ((u == t) && (0 == 0)) ≡ one_if (u == t)
-root_here u t = grind (arith, nat_tests)
 
 -- how many subtransactions of tree t a letter of this body asks for
 abbrev pub asks_in : ScriptData → ℕ → Body → ℕ
@@ -122,10 +89,3 @@ all_subs_here s =
 pub some_subs : (nodes : ℕ) (items : List ItemRow) (ts : List Tree) → AllByRecursion (IsTree nodes items) ts → length ts ≤ all_subs ts
 some_subs nodes items [] all = omega arith
 some_subs nodes items (t ∷ ts) all = omega (arith, all.0.root, some_subs nodes items ts all.1)
-
--- The law.
-pub no_round : (s : ScriptData) (past : List Entry) → IsValid s → IsRunnable s → advances_in s.rows ≡ 0 → IsStepRun s past
-    → rounds_in s (reverse past) ≡ 0
-no_round s past valid runnable none run =
-    let sound : IsSound s = record { valid = valid; runnable = runnable } in
-    ap (λ (c : Coordinator). c.round) (coordinator_after s past ∙ (unadvanced s past sound none run).1.coordinator)

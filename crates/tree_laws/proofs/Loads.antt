@@ -1,5 +1,5 @@
 -- The load of what is done is at most the load of a script, and grows by what is done next.
-use Rattle.std.proofs.Common.{◌≡◌, ◌≢◌, ℕ, zero, suc, ◌+◌, ◌*◌, ◌<◌, ◌≤◌, List, [], ◌∷◌, length, refl, ap, subst, arith, Some}
+use Rattle.std.proofs.Common.{◌≡◌, ◌≢◌, ℕ, zero, suc, ◌+◌, ◌*◌, ◌<◌, ◌≤◌, List, ◌∷◌, length, refl, ap, subst, arith, Some, []}
 use Rattle.std.specs.Prelude.{slice_get}
 use Rattle.tx_trees.specs.Valid.{ops_load, subs_load, trees_load}
 use Rattle.tx_trees.specs.declared.parts.Sub.{Sub}
@@ -14,15 +14,6 @@ subs_done often x k (s ∷ ss) = often k * ops_load x s.ops + subs_done often x 
 abbrev pub trees_done : (ℕ → ℕ → ℕ) → ℕ → ℕ → List Tree → ℕ
 trees_done often x t [] = 0
 trees_done often x t (tree ∷ ts) = subs_done (often t) x 0 tree.subs + trees_done often x (t + 1) ts
-
--- Where nothing was done.
-subs_none : (x k : ℕ) (ss : List Sub) → subs_done (λ j. 0) x k ss ≡ 0
-subs_none x k [] = refl
-subs_none x k (s ∷ ss) = omega (arith, subs_none x (k + 1) ss)
-
-pub trees_none : (x t : ℕ) (ts : List Tree) → trees_done (λ u j. 0) x t ts ≡ 0
-trees_none x t [] = refl
-trees_none x t (tree ∷ ts) = omega (arith, subs_none x 0 tree.subs, trees_none x (t + 1) ts)
 
 -- Each at most once.
 at_most_load : (n m : ℕ) → n ≤ 1 → n * m ≤ m

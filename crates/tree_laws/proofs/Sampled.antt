@@ -7,7 +7,6 @@ use Rattle.tx_trees.specs.Forms.{most_amount}
 use Rattle.tx_trees.specs.Valid.{IsLimited, IsValid, item_names, load, tree_names}
 use Rattle.world_model.specs.Runs.{IsStepRun, AtNode, AtCoordinator, AtClient}
 use Rattle.world_model.specs.Sample.{sample, small, with_read}
-use Rattle.world_model.specs.Tables.{IsRunnable}
 
 small_loads : (x : ℕ) → x < 2 → load x small ≤ most_amount small.form
 small_loads zero lt = omega arith
@@ -77,9 +76,6 @@ small_valid = record {
   unfailed = λ is. refl;
   failed = (tt, tt);
 }
-
-pub small_runnable : IsRunnable small
-small_runnable = record { trees = (refl, tt); rows = (refl, tt) }
 
 -- the run of the small script
 pub small_run : IsStepRun small (sample small 6)
@@ -155,9 +151,6 @@ read_valid = record {
   unfailed = λ is. refl;
   failed = (tt, (tt, tt));
 }
-
-pub read_runnable : IsRunnable with_read
-read_runnable = record { trees = (refl, (refl, tt)); rows = (refl, (refl, (refl, tt))) }
 
 -- the run of the script with a read
 pub read_run : IsStepRun with_read (sample with_read 11)

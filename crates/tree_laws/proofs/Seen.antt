@@ -1,19 +1,19 @@
--- What is seen of items after operations, and by gets.
-use Rattle.std.proofs.Common.{◌≡◌, ℕ, ◌<◌, ◌≤◌, ◌==◌, Bool, true, false, List, [], ◌∷◌, ◌++◌, refl, sym, ap, subst, ◌∙◌, arith, Option, Some, None}
-use Rattle.std.specs.Prelude.{if◌then◌else◌, is_some, nat_le, nat_lt}
+-- What is seen of items at the start, after operations and collections, and by gets.
+use Rattle.std.proofs.Common.{◌≡◌, ℕ, ◌<◌, ◌≤◌, ◌==◌, Bool, true, false, List, ◌∷◌, ◌++◌, refl, sym, ap, subst, ◌∙◌, arith, Option, Some, None, ◌≢◌, ◌⊎◌, suc, zero, ◌+◌, ◌&&◌, []}
+use Rattle.std.specs.Prelude.{if◌then◌else◌, is_some, nat_le, nat_lt, slice_get}
 use Rattle.std.specs.List.{AllByRecursion}
 use Rattle.std.proofs.lemmas.Bool.Decides.{nat_tests}
 use Rattle.std.proofs.lemmas.Bool.{and_parts}
 use Rattle.tv_base.specs.declared.numbers.ItemNo.{ItemNo}
 use Rattle.tv_base.specs.declared.numbers.Version.{Version}
-use Rattle.commute_ops.specs.Ops.{applied}
+use Rattle.commute_ops.specs.Ops.{applied, value_start}
 use Rattle.commute_ops.specs.declared.kinds.Op.{Op}
 use Rattle.commute_ops.specs.declared.value.Value.{Value}
 use Rattle.item_versions.specs.Item.{Held, CanCollect, IsHeld, below, seen, seen_after, touched}
 use Rattle.item_versions.specs.Table.{Table, item_in, may_touch_in, replaced, updated}
 use Rattle.item_versions.proofs.Order.{IsHeld-touched}
-use Rattle.item_versions.proofs.Seen.{seen-touched_below, seen-touched_from}
-use Rattle.item_versions.proofs.Tables.{Each, each-item, each-replaced}
+use Rattle.item_versions.proofs.Seen.{seen-touched_below, seen-touched_from, seen-collected}
+use Rattle.item_versions.proofs.Tables.{Each, each-item, each-replaced, Each as EachItem}
 use Rattle.world_model.specs.Reads.{can_get, gets, got_by_deed, seen_in, with_get}
 use Rattle.tree_home.specs.Homes.{Gets}
 use Rattle.tx_trees.specs.declared.parts.Deed.{Deed}
@@ -21,8 +21,14 @@ use Rattle.tx_trees.specs.declared.parts.Deed.TheVariants.{Apply, Get, Set, Draw
 use Rattle.tx_trees.specs.declared.parts.SubOp.{SubOp}
 use Rattle.world_model.specs.Updates.{table_after_deed, table_after_ops, can_touch, may_make}
 use Rattle.board_rules.specs.Right.{with_worths}
-use Rattle.board_rules.specs.Worth.{after_deed as value_after_deed, after_ops as value_after}
+use Rattle.board_rules.specs.Worth.{after_deed as value_after_deed, after_ops as value_after, first_value}
 use Rattle.tree_laws.proofs.Tables.{replaced_other, replaced_same}
+use Rattle.item_versions.specs.Collecting.{collected_all}
+use Rattle.node_versions.specs.declared.turns.Turns.{Turns}
+use Rattle.world_model.specs.Done.{raised_if}
+use Rattle.world_model.specs.Node.{items_at}
+use Rattle.tx_trees.specs.ScriptData.{ScriptData}
+use Rattle.tx_trees.specs.declared.parts.ItemRow.{ItemRow}
 
 -- the versions held ascend, and the first is at most low
 pub record IsFrom (low : ℕ) (held : Held) : Type 0 where
@@ -130,11 +136,6 @@ from_deed low v n Get items all = all
 from_deed low v n (Set a) items all = all
 from_deed low v n (Draw a) items all = all
 
--- operations keep the order of versions, and the first of them
-pub from_ops : (low : ℕ) (v : Version) (os : List SubOp) (items : Table) → Each (IsFrom low) items → Each (IsFrom low) (table_after_ops v os items)
-from_ops low v [] items all = all
-from_ops low v (o ∷ os) items all = from_ops low v os (table_after_deed v o.item o.deed items) (from_deed low v o.item o.deed items all)
-
 rest_by : (x : ℕ) (os : List SubOp) (y w : Value) (test : Bool)
     → (if test then value_after x os (if test then y else w) else (if test then y else w)) ≡ (if test then value_after x os y else w)
 rest_by x os y w true = refl
@@ -177,3 +178,57 @@ gets_valued f v (o ∷ os) items can all =
     let parts = and_parts (is_some (got_by_deed v o.item o.deed items)) (can_get v os items) can in
     with_got o.item (got_by_deed v o.item o.deed items) (f o.item.0) (gets v os items) (with_worths f os)
     (got v o.item o.deed items (f o.item.0) all.0 parts.0) (gets_valued f v os items parts.1 all.1)
+
+-- What holds of each node.
+
+-- raising the update version leaves the low one
+pub raised_low : (raises : Bool) (v : ℕ) (turns : Turns) → (raised_if raises v turns).low.0 ≡ turns.low.0
+raised_low true v turns = refl
+raised_low false v turns = refl
+
+-- A node that obeys.
+
+-- what is seen of a table whose items are all collected, from the version on to which they are
+pub collected_shows : (f u : Version) (x : ItemNo) (low : ℕ) (items : Table) → EachItem (IsFrom low) items → f.0 ≤ u.0
+    → seen_in u x (collected_all f items) ≡ seen_in u x items
+collected_shows f u x low [] from le = refl
+collected_shows f u x low (e ∷ es) from le = shows_by (e.0.0 == x.0) refl (collected_shows f u x low es from.1 le) where
+  shows_by : (test : Bool) → (e.0.0 == x.0) ≡ test → seen_in u x (collected_all f es) ≡ seen_in u x es
+      → seen_in u x (collected_all f (e ∷ es)) ≡ seen_in u x (e ∷ es)
+  shows_by true is rest = rw (is, seen_in) (seen-collected u f e.1 from.0.order le)
+  shows_by false is rest = rw (is, seen_in) rest
+
+-- At the start.
+first_seen : (u : Version) (i x : ℕ) (w : Value) (rest : Table) → (i == x) ≡ true
+    → seen_in u (record { 0 = x }) ((record { 0 = i }, (record { 0 = 0 }, w) ∷ []) ∷ rest) ≡ Some w
+first_seen u i x w rest is = rw (is, seen_in) refl
+
+start_at : (s : ScriptData) (p i x v n : ℕ) (r q : ItemRow) (rows : List ItemRow) → slice_get s.items x ≡ Some r → r.node.0 ≡ p
+    → slice_get (q ∷ rows) n ≡ Some r → x ≡ i + n
+    → ((m : ℕ) → slice_get rows m ≡ Some r → x ≡ i + 1 + m
+    → seen_in (record { 0 = v }) (record { 0 = x }) (items_at p (i + 1) rows) ≡ Some (first_value (Some r)))
+    → (test : Bool) → (q.node.0 == p) ≡ test
+    → seen_in (record { 0 = v }) (record { 0 = x }) (items_at p i (q ∷ rows)) ≡ Some (first_value (Some r))
+start_at s p i x v zero r q rows at node here is later true test =
+    let same : q ≡ r = cc here in
+    let first : (i == x) ≡ true = grind (arith, nat_tests) in
+    rw test (
+    first_seen (record { 0 = v }) i x (value_start q.kind q.initial) (items_at p (i + 1) rows) first
+    ∙ ap (λ (y : ItemRow). Some (value_start y.kind y.initial)) same
+    )
+start_at s p i x v zero r q rows at node here is later false test =
+    let same : q ≡ r = cc here in
+    let there : q.node.0 ≡ p = ap (λ (y : ItemRow). y.node.0) same ∙ node in
+    absurd (let ne : q.node.0 ≢ p = grind (arith, nat_tests) in ne there)
+start_at s p i x v (suc n) r q rows at node here is later true test =
+    let other : (i == x) ≡ false = grind (arith, nat_tests) in
+    rw test (rw (other, seen_in) (later n here (omega arith)))
+start_at s p i x v (suc n) r q rows at node here is later false test = rw test (later n here (omega arith))
+
+pub start_shows : (s : ScriptData) (p i x v n : ℕ) (r : ItemRow) (rows : List ItemRow) → slice_get s.items x ≡ Some r → r.node.0 ≡ p
+    → slice_get rows n ≡ Some r → x ≡ i + n
+    → seen_in (record { 0 = v }) (record { 0 = x }) (items_at p i rows) ≡ Some (first_value (Some r))
+start_shows s p i x v n r [] at node here is = absurd (cc here)
+start_shows s p i x v n r (q ∷ rows) at node here is =
+    start_at s p i x v n r q rows at node here is
+    (λ m there eq. start_shows s p (i + 1) x v m r rows at node there eq) (q.node.0 == p) refl

@@ -1,5 +1,5 @@
 -- What a subtransaction and the client send, by whom it asks for.
-use Rattle.std.proofs.Common.{◌≡◌, ◌≢◌, ℕ, zero, suc, ◌+◌, ◌<◌, ◌≤◌, ◌==◌, ◌&&◌, Bool, true, false, List, [], ◌∷◌, take, drop, ◌++◌, refl, sym, ap, subst, ◌∙◌, arith, Some}
+use Rattle.std.proofs.Common.{◌≡◌, ◌≢◌, ℕ, zero, suc, ◌+◌, ◌<◌, ◌≤◌, ◌==◌, ◌&&◌, Bool, true, false, List, ◌∷◌, take, drop, ◌++◌, refl, sym, ap, subst, ◌∙◌, arith, Some, []}
 use Rattle.std.specs.Prelude.{nat_lt, slice_get}
 use Rattle.std.proofs.lemmas.Bool.Decides.{nat_tests}
 use Rattle.std.proofs.lemmas.List.{take-take, drop-take, take-append-drop}
@@ -25,9 +25,6 @@ other_sub t u k i ne = grind (arith, nat_tests)
 -- another number
 pub not_here : (t u : ℕ) → u ≢ t → one_if (u == t) ≡ 0
 not_here t u ne = grind (arith, nat_tests)
-
-same_sub : (t u k i : ℕ) → i ≡ k → one_if ((u == t) && (i == k)) ≡ one_if (u == t)
-same_sub t u k i is = grind (arith, nat_tests)
 
 later_at : (t k u v parent i : ℕ) (x : Sub) (xs : List Sub) → k < i → (test : Bool) → (nat_lt parent i && (x.parent.0 == parent)) ≡ test
     → tally (on (asks t k)) (sub_letters u v parent (i + 1) xs) ≡ 0 → tally (on (asks t k)) (sub_letters u v parent i (x ∷ xs)) ≡ 0

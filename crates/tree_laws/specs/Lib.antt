@@ -1,7 +1,7 @@
 pub mod Dids
 pub mod Ends
 pub mod Entries
-pub mod OwnValues
+pub mod SeenAt
 pub mod Turns
 pub mod Carried
 pub mod Stages

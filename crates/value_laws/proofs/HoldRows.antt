@@ -37,7 +37,7 @@ use Rattle.world_model.specs.Strict.{core_by_kind, core_row, decided, locks_by, 
 use Rattle.world_model.specs.Votes.{cause_in, conflict_by, newer_in, short_in, vote_of, voted, wanted_by}
 use Rattle.board_rules.specs.Histories.{Place, version_in}
 use Rattle.tree_laws.proofs.AptVersions.{DoneIn, is_version}
-use Rattle.tree_laws.proofs.OwnDeeds.{raised_low}
+use Rattle.tree_laws.proofs.Seen.{raised_low}
 use Rattle.tree_laws.proofs.Turns.{kind_version, work_version}
 use Rattle.strict_laws.proofs.ByActs.{decided_locks}
 use Rattle.strict_laws.proofs.RunConflicts.{wanted_tree}

@@ -58,7 +58,7 @@ use Rattle.tree_laws.proofs.AptVersions.{before, version_is}
 use Rattle.tree_laws.proofs.AptWindows.{apt_timely}
 use Rattle.tree_laws.proofs.Histories.{places_more}
 use Rattle.tree_laws.proofs.NodeLoads.{plain_kind}
-use Rattle.tree_laws.proofs.OwnDeeds.{raised_low}
+use Rattle.tree_laws.proofs.Seen.{raised_low}
 use Rattle.tree_laws.proofs.Tables.{collected_of, item_collected}
 use Rattle.strict_laws.specs.Locks.{HaveNoConflict}
 use Rattle.strict_laws.proofs.NoConflicts.{none_met, not_parked, runs_apart}

@@ -1,21 +1,19 @@
--- The value by a node's acts is what the order of acts makes of its item; and where no tree is strict, what the node's
--- own Dids make of it.
-use Rattle.std.proofs.Common.{◌≡◌, ℕ, ◌==◌, ◌&&◌, Bool, true, false, List, [], ◌∷◌, ◌++◌, refl, ap, ◌∙◌, Option, Some, None}
-use Rattle.std.specs.Prelude.{if◌then◌else◌, filter, fold, map, slice_get}
+-- The value by a node's acts is what the order of acts makes of its item.
+use Rattle.std.proofs.Common.{◌≡◌, ℕ, ◌==◌, ◌&&◌, Bool, true, false, List, ◌∷◌, ◌++◌, refl, ap, ◌∙◌, Option, Some, None, []}
+use Rattle.std.specs.Prelude.{if◌then◌else◌, fold, slice_get}
 use Rattle.commute_ops.specs.declared.value.Value.{Value}
 use Rattle.letter_types.specs.declared.acts.Act.{Act}
 use Rattle.letter_types.specs.declared.acts.Act.TheVariants as acts
-use Rattle.letter_types.specs.declared.entries.Entry.{Entry}
 use Rattle.script_parts.specs.ScriptData.{ScriptData, subs_at}
 use Rattle.script_parts.specs.declared.parts.Sub.{Sub}
 use Rattle.script_parts.specs.declared.parts.SubOp.{SubOp}
 use Rattle.script_parts.specs.declared.parts.Tree.{Tree}
 use Rattle.world_model.specs.Decisions.{ops_at}
 use Rattle.world_model.specs.Named.{is_strict_at, tree_kind_at}
-use Rattle.board_rules.specs.Histories.{Place, is_strict_tree, places_of, version_in}
+use Rattle.board_rules.specs.Histories.{Place, is_strict_tree, version_in}
 use Rattle.board_rules.specs.Worth.{after_deed, after_ops, after_subs, first_value}
 use Rattle.board_rules.proofs.Effects.{made_at, made_by, made_in, subs_there}
-use Rattle.tree_laws.specs.OwnValues.{is_up_to, own_acts, own_value, value_after_act}
+use Rattle.tree_laws.specs.SeenAt.{is_up_to}
 use Rattle.value_laws.specs.ValuesByActs.{value_by_act, value_by_acts, value_by_place}
 
 -- A tree that is there and strict.
@@ -66,39 +64,3 @@ places_made s zs p x v w (y ∷ ys) =
 
 pub values_are_made : (s : ScriptData) (zs : List Place) (p x v : ℕ) → value_by_acts s zs p x v ≡ made_in s zs p x v
 values_are_made s zs p x v = places_made s zs p x v (first_value (slice_get s.items x)) zs
-
--- Where no tree is strict.
-none_applied : (a b : Bool) (y w : Value) → (if a && (false && b) then y else w) ≡ w
-none_applied true b y w = refl
-none_applied false b y w = refl
-
-act_own : (s : ScriptData) (h : List Entry) (p x v : ℕ) (w : Value) (a : Act) → ((t : ℕ) → is_strict_at s t ≡ false)
-    → value_by_act s (places_of h) p x v w a ≡ value_after_act s h x v w a
-act_own s h p x v w (acts.Did t k values) plain = refl
-act_own s h p x v w (acts.Applied t commit) plain =
-    let o : Bool = is_up_to v (version_in t.0 (places_of h)) in
-    let made : Value = after_ops x (ops_at p (subs_at s t.0)) w in
-    ap (λ (b : Bool). if commit && (b && o) then made else w) (plain t.0) ∙ none_applied commit o made w
-act_own s h p x v w acts.Finished plain = refl
-act_own s h p x v w _ plain = refl
-
-first_own : (s : ScriptData) (h : List Entry) (p x v : ℕ) (w : Value) (y : Place) (ys : List Place) (test : Bool)
-    → ((t : ℕ) → is_strict_at s t ≡ false)
-    → ((u : Value) → fold (value_by_place s (places_of h) p x v) u ys ≡ fold (value_after_act s h x v) u (own_acts p ys))
-    → fold (value_by_place s (places_of h) p x v) (if test then value_by_act s (places_of h) p x v w y.act else w) ys
-    ≡ fold (value_after_act s h x v) w
-    (map (λ (z : Place). z.act) (if test then y ∷ filter (λ (z : Place). z.node == p) ys else filter (λ (z : Place). z.node == p) ys))
-first_own s h p x v w y ys true plain rest =
-    rest (value_by_act s (places_of h) p x v w y.act)
-    ∙ ap (λ (u : Value). fold (value_after_act s h x v) u (own_acts p ys)) (act_own s h p x v w y.act plain)
-first_own s h p x v w y ys false plain rest = rest w
-
-places_own : (s : ScriptData) (h : List Entry) (p x v : ℕ) (w : Value) (ys : List Place) → ((t : ℕ) → is_strict_at s t ≡ false)
-    → fold (value_by_place s (places_of h) p x v) w ys ≡ fold (value_after_act s h x v) w (own_acts p ys)
-places_own s h p x v w [] plain = refl
-places_own s h p x v w (y ∷ ys) plain =
-    first_own s h p x v w y ys (y.node == p) plain (λ u. places_own s h p x v u ys plain)
-
-pub values_are_own : (s : ScriptData) (h : List Entry) (p x v : ℕ) → ((t : ℕ) → is_strict_at s t ≡ false)
-    → value_by_acts s (places_of h) p x v ≡ own_value s h p x v
-values_are_own s h p x v plain = places_own s h p x v (first_value (slice_get s.items x)) (places_of h) plain

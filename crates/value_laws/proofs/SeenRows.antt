@@ -37,8 +37,7 @@ use Rattle.board_rules.specs.Histories.{Place, version_in}
 use Rattle.board_rules.specs.Worth.{after_ops}
 use Rattle.tree_laws.proofs.AptVersions.{DoneIn, is_version, version_is}
 use Rattle.tree_laws.proofs.AptWindows.{AreNear}
-use Rattle.tree_laws.proofs.OwnDeeds.{collected_shows}
-use Rattle.tree_laws.proofs.Seen.{IsFrom, seen_ops}
+use Rattle.tree_laws.proofs.Seen.{IsFrom, collected_shows, seen_ops}
 use Rattle.tree_laws.proofs.Turns.{kind_version, work_version}
 use Rattle.strict_laws.proofs.ByActs.{kind_updates}
 use Rattle.value_laws.specs.ValuesByActs.{value_by_act}

@@ -13,7 +13,7 @@ use Rattle.world_model.specs.Named.{is_strict_at}
 use Rattle.world_model.specs.Runs.{IsStepRun, node_in}
 use Rattle.board_rules.specs.Histories.{Place, places_of, version_in}
 use Rattle.board_rules.specs.Worth.{after_ops, first_value}
-use Rattle.tree_laws.specs.OwnValues.{is_up_to, seen_at}
+use Rattle.tree_laws.specs.SeenAt.{is_up_to, seen_at}
 
 -- among these acts, the value of item x after an act of node p: a Did of an update tree of version at most v applies its
 -- operations, and the Applied of a strict tree of version at most v that commits applies those that the tree has at p

@@ -1,5 +1,5 @@
 -- Sums over the letters in flight.
-use Rattle.std.proofs.Common.{◌≡◌, ℕ, ◌+◌, ◌≤◌, ◌==◌, Bool, true, false, List, [], ◌∷◌, ◌++◌, refl, ap, arith, Some}
+use Rattle.std.proofs.Common.{◌≡◌, ℕ, ◌+◌, ◌≤◌, ◌==◌, Bool, true, false, List, ◌∷◌, ◌++◌, refl, ap, arith, Some, []}
 use Rattle.tv_base.proofs.Truths.{same_test}
 use Rattle.letter_types.specs.declared.entries.LetterId.{LetterId}
 use Rattle.letter_types.specs.declared.entries.Letter.{Letter}
@@ -47,9 +47,6 @@ pub sealed_tally : (f : Letter → ℕ) (g : Outgoing → ℕ) (stamp actor plac
 sealed_tally f g stamp actor place [] same = refl
 sealed_tally f g stamp actor place (o ∷ os) same =
     omega (arith, sealed_tally f g stamp actor (place + 1) os same, same (record { stamp = record { 0 = stamp }; place = place }) o)
-
-pub found_none : (f : Letter → ℕ) (id : LetterId) (xs : List Letter) (l : Letter) → find_id id xs ≡ Some l → tally f xs ≡ 0 → f l ≡ 0
-found_none f id xs l here none = omega (arith, tally-drop f id xs l here)
 
 pub tally_same : {X : Type 0} (f g : X → ℕ) (xs : List X) → ((x : X) → f x ≡ g x) → tally f xs ≡ tally g xs
 tally_same f g [] same = refl

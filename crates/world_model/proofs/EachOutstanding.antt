@@ -1,5 +1,5 @@
 -- What holds of each letter that has still to be done.
-use Rattle.std.proofs.Common.{◌≡◌, ◌≢◌, ◌∙◌, ◌⊎◌, inl, inr, ℕ, zero, suc, ◌<◌, ◌≤◌, Bool, true, false, List, [], ◌∷◌, ◌++◌, map, refl, sym, subst, ◌∙◌, arith, Option, Some, None}
+use Rattle.std.proofs.Common.{◌≡◌, ◌≢◌, ◌∙◌, ◌⊎◌, inl, inr, ℕ, zero, suc, ◌<◌, ◌≤◌, Bool, true, false, List, ◌∷◌, ◌++◌, map, refl, sym, subst, ◌∙◌, arith, Option, Some, None, []}
 use Rattle.std.specs.Prelude.{if◌then◌else◌, nat_lt}
 use Rattle.std.proofs.lemmas.Bool.{cases_eq}
 use Rattle.std.proofs.lemmas.Bool.Decides.{nat_tests}
@@ -206,12 +206,6 @@ kept_at s past e p (inr ne) to all =
 pub kept_here : (s : ScriptData) (past : List Entry) (p : ℕ) → IsStepRun s past → EachKept (λ (l : Letter). l.to.0 ≡ p) (kept_in s past p)
 kept_here s [] p run = tt
 kept_here s (e ∷ past) p run = kept_at s past e p (cases_eq e.actor.0 p) run.0.addressee (kept_here s past p run.1)
-
--- and so is the letter that an entry does
-pub done_to : (s : ScriptData) (past : List Entry) (e : Entry) → IsStepRun s (e ∷ past) → (done_by s past e).to.0 ≡ e.actor.0
-done_to s past e run =
-    each_done_by (λ (l : Letter). l.to.0 ≡ e.actor.0) s past e (nat_lt e.actor.0 s.nodes) refl
-    (λ lt. kept_here s past e.actor.0 run.1) run.0.addressee
 
 -- at the start
 pub each_first : (P : Letter → Type 0) (s : ScriptData) → Each P (in_flight s []) → Each P (outstanding s [])

@@ -1,21 +1,16 @@
 -- What holds of every letter in flight, and how a state goes on.
-use Rattle.std.proofs.Common.{◌≡◌, ◌≢◌, ◌⊎◌, inl, inr, ℕ, ◌+◌, ◌<◌, ◌==◌, Bool, true, false, List, [], ◌∷◌, ◌++◌, refl, ap, subst, ◌∙◌, arith, Some}
-use Rattle.std.proofs.lemmas.Bool.{cases_eq}
+use Rattle.std.proofs.Common.{◌≡◌, ◌≢◌, ◌⊎◌, ℕ, ◌+◌, ◌<◌, ◌==◌, Bool, true, false, List, ◌∷◌, ◌++◌, refl, ap, subst, ◌∙◌, arith, Some, []}
 use Rattle.std.proofs.lemmas.Bool.Decides.{nat_tests}
 use Rattle.letter_types.specs.declared.entries.LetterId.{LetterId}
 use Rattle.letter_types.specs.declared.entries.Letter.{Letter}
 use Rattle.letter_types.specs.declared.entries.Outgoing.{Outgoing}
 use Rattle.letter_types.specs.declared.entries.Entry.{Entry}
 use Rattle.letter_types.specs.Letters.{same_id, find_id, drop_id, sealed, letters_of}
-use Rattle.letter_types.specs.Steps.{Out}
-use Rattle.script_parts.specs.Counts.{has_strict}
 use Rattle.script_parts.specs.ScriptData.{ScriptData}
-use Rattle.world_model.specs.Apt.{node_row}
 use Rattle.world_model.specs.Keeping.{KeepingNode, keeping_row}
 use Rattle.world_model.specs.Runs.{in_flight, coordinator_in, keeping_in, node_in, Says, Moves, AtNode, AtCoordinator, AtClient, MayFollow}
 use Rattle.world_model.specs.Counts.{tally, Each}
-use Rattle.world_model.proofs.NothingKept.{row_is}
-use Rattle.world_model.proofs.Outstanding.{keeping_elsewhere, keeping_here}
+use Rattle.world_model.proofs.Outstanding.{keeping_elsewhere}
 
 pub each_append : {X : Type 0} (P : X → Type 0) (xs ys : List X) → Each P xs → Each P ys → Each P (xs ++ ys)
 each_append P [] ys a b = b
@@ -66,12 +61,6 @@ pub each_taken : (P : Letter → Type 0) (s : ScriptData) (past : List Entry) (e
     → P e.took
 each_taken P s past e m all = each_found P e.took.id (in_flight s past) e.took all m.waits
 
--- how a node goes on, in a script without strict trees, as commuting trees see it
-pub data NodeNext (s : ScriptData) (past : List Entry) (e : Entry) (p : ℕ) : Type 0 where
-  Stays : e.actor.0 ≢ p → node_in s (e ∷ past) p ≡ node_in s past p → NodeNext s past e p
-  Moved : e.actor.0 ≡ p → node_in s (e ∷ past) p ≡ (node_row s p (node_in s past p) e.took).state
-      → Says (node_row s p (node_in s past p) e.took) e → NodeNext s past e p
-
 -- what its table says
 pub moved_says : (s : ScriptData) (past : List Entry) (e : Entry) (p : ℕ) → p < s.nodes → e.actor.0 ≡ p → Moves s past e
     → Says (keeping_row s p (keeping_in s past p) e.took) e
@@ -81,28 +70,6 @@ moved_says s past e p lt eq (AtClient at says) = absurd (omega arith)
 
 pub node_kept : (s : ScriptData) (past : List Entry) (e : Entry) (p : ℕ) → e.actor.0 ≢ p → node_in s (e ∷ past) p ≡ node_in s past p
 node_kept s past e p ne = ap (λ (n : KeepingNode). n.core.node) (keeping_elsewhere s past e p ne)
-
--- the node of an entry
-pub node_moved : (s : ScriptData) (past : List Entry) (e : Entry) (p : ℕ) → e.actor.0 ≡ p
-    → node_in s (e ∷ past) p ≡ (keeping_row s p (keeping_in s past p) e.took).state.core.node
-node_moved s past e p at = ap (λ (n : KeepingNode). n.core.node) (keeping_here s past e p at)
-
-moved : (s : ScriptData) (past : List Entry) (e : Entry) (p : ℕ) → p < s.nodes → MayFollow s past e → has_strict s ≡ false
-    → e.actor.0 ≡ p → NodeNext s past e p
-moved s past e p lt m plain at =
-    let row = row_is s past p e.took plain (m.addressee ∙ at) in
-    let says = moved_says s past e p lt at m.moves in
-    Moved at (node_moved s past e p at ∙ ap (λ (o : Out KeepingNode). o.state.core.node) row)
-    (says.0 ∙ ap (λ (o : Out KeepingNode). o.sent) row, says.1 ∙ ap (λ (o : Out KeepingNode). o.acts) row)
-
-node_next_by : (s : ScriptData) (past : List Entry) (e : Entry) (p : ℕ) → p < s.nodes → MayFollow s past e → has_strict s ≡ false
-    → (e.actor.0 ≡ p) ⊎ (e.actor.0 ≢ p) → NodeNext s past e p
-node_next_by s past e p lt m plain (inl at) = moved s past e p lt m plain at
-node_next_by s past e p lt m plain (inr ne) = Stays ne (node_kept s past e p ne)
-
-pub node_next : (s : ScriptData) (past : List Entry) (e : Entry) (p : ℕ) → p < s.nodes → MayFollow s past e → has_strict s ≡ false
-    → NodeNext s past e p
-node_next s past e p lt m plain = node_next_by s past e p lt m plain (cases_eq e.actor.0 p)
 
 pub coordinator_kept : (s : ScriptData) (past : List Entry) (e : Entry) → e.actor.0 ≢ s.nodes
     → coordinator_in s (e ∷ past) ≡ coordinator_in s past
@@ -115,10 +82,3 @@ each_zero f (x ∷ xs) none = (omega arith, each_zero f xs (omega arith))
 pub each_both : {X : Type 0} (P Q : X → Type 0) (xs : List X) → Each P xs → Each Q xs → Each (λ x. P x × Q x) xs
 each_both P Q [] a b = tt
 each_both P Q (x ∷ xs) a b = ((a.0, b.0), each_both P Q xs a.1 b.1)
-
--- every letter in flight after an entry, from what is left without the letter taken
-pub each_left : (P : Letter → Type 0) (s : ScriptData) (past : List Entry) (e : Entry) → Each P (drop_id e.took.id (in_flight s past))
-    → Each (λ o. (i : LetterId) → P (record { id = i; from = record { 0 = e.actor.0 }; to = o.to; body = o.body })) e.sent
-    → Each P (in_flight s (e ∷ past))
-each_left P s past e old new =
-    each_append P (drop_id e.took.id (in_flight s past)) (letters_of e) old (each_sealed P e.stamp.0 e.actor.0 0 e.sent new)

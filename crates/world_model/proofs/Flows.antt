@@ -1,7 +1,6 @@
 -- What an entry makes of numbers over the letters in flight, and what stays at a node.
-use Rattle.std.proofs.Common.{◌≡◌, ◌≢◌, ◌⊎◌, inl, inr, ℕ, ◌+◌, ◌==◌, Bool, true, false, List, [], ◌∷◌, refl, sym, ap, subst, ◌∙◌, arith, take, drop}
+use Rattle.std.proofs.Common.{◌≡◌, ◌≢◌, ◌⊎◌, ℕ, ◌+◌, ◌==◌, Bool, true, false, List, ◌∷◌, refl, ap, ◌∙◌, arith, take, drop, []}
 use Rattle.std.specs.Prelude.{if◌then◌else◌}
-use Rattle.std.proofs.lemmas.Bool.{cases_eq}
 use Rattle.std.proofs.lemmas.Bool.Decides.{nat_tests}
 use Rattle.letter_types.specs.declared.acts.Act.{Act}
 use Rattle.letter_types.specs.declared.acts.Act.TheVariants.{Finished}
@@ -10,18 +9,14 @@ use Rattle.letter_types.specs.declared.bodies.Body.TheVariants.{Root, Advance, W
 use Rattle.letter_types.specs.declared.entries.Entry.{Entry}
 use Rattle.letter_types.specs.declared.entries.Letter.{Letter}
 use Rattle.letter_types.specs.declared.entries.Outgoing.{Outgoing}
-use Rattle.letter_types.specs.Steps.{Out}
 use Rattle.tv_base.specs.declared.numbers.SubNo.{SubNo}
 use Rattle.tv_base.specs.declared.numbers.TreeNo.{TreeNo}
 use Rattle.script_parts.specs.ScriptData.{ScriptData, client_of}
-use Rattle.world_model.specs.Node.{Node}
 use Rattle.world_model.specs.Client.{Client, submit, submitted, rows_letters}
 use Rattle.world_model.specs.Counts.{tally}
 use Rattle.world_model.specs.Kept.{outstanding, of_done}
-use Rattle.world_model.specs.Runs.{client_in, node_in, in_flight, MayFollow}
+use Rattle.world_model.specs.Runs.{client_in, in_flight, MayFollow}
 use Rattle.world_model.proofs.Bags.{tally-append, tally_step, sealed_tally}
-use Rattle.world_model.proofs.Every.{node_kept}
-use Rattle.world_model.proofs.Nexts.{Made}
 use Rattle.world_model.proofs.Outstanding.{outstanding_step}
 use Rattle.world_model.proofs.Sends.{on, roots_none}
 
@@ -48,18 +43,6 @@ outstanding_flow f s past e none m =
 pub flow_same : (f : Body → ℕ) (s : ScriptData) (past : List Entry) (e : Entry) → MayFollow s past e → f e.took.body ≡ 0
     → tally (on f) e.sent ≡ 0 → tally (λ (l : Letter). f l.body) (in_flight s (e ∷ past)) ≡ tally (λ (l : Letter). f l.body) (in_flight s past)
 flow_same f s past e m took sent = omega (arith, flow f s past e m, took, sent)
-
--- What stays at each node where one node goes on.
-same_at : {X : Type 0} (f : Node → X) (s : ScriptData) (past : List Entry) (e : Entry) (p : ℕ) (out : Out Node) → Made s past e p out
-    → e.actor.0 ≡ p → f out.state ≡ f (node_in s past p) → (q : ℕ) → (p ≡ q) ⊎ (p ≢ q) → f (node_in s (e ∷ past) q) ≡ f (node_in s past q)
-same_at f s past e p out made at same q (inl is) =
-    subst (λ (r : ℕ). f (node_in s (e ∷ past) r) ≡ f (node_in s past r)) is (ap f made.state ∙ same)
-same_at f s past e p out made at same q (inr ne) = ap f (node_kept s past e q (λ is. ne (sym at ∙ is)))
-
--- what a node's step leaves as it is stays at every node
-pub same_part : {X : Type 0} (f : Node → X) (s : ScriptData) (past : List Entry) (e : Entry) (p : ℕ) (out : Out Node) → Made s past e p out
-    → e.actor.0 ≡ p → f out.state ≡ f (node_in s past p) → (q : ℕ) → f (node_in s (e ∷ past) q) ≡ f (node_in s past q)
-same_part f s past e p out made at same q = same_at f s past e p out made at same q (cases_eq p q)
 
 -- the client stays where another actor moves
 pub client_kept : (s : ScriptData) (past : List Entry) (e : Entry) → e.actor.0 ≢ client_of s → client_in s (e ∷ past) ≡ client_in s past

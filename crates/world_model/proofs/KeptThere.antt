@@ -1,6 +1,6 @@
 -- Whatever letters a node takes: what it keeps is addressed to it, and is kept as what it asks for. So its Wakes go to
 -- itself.
-use Rattle.std.proofs.Common.{◌≡◌, ℕ, ◌<◌, ◌==◌, Bool, true, false, List, [], ◌∷◌, ◌++◌, refl, arith, Option, Some, None}
+use Rattle.std.proofs.Common.{◌≡◌, ℕ, ◌<◌, ◌==◌, Bool, true, false, List, ◌∷◌, ◌++◌, refl, arith, Option, Some, None, []}
 use Rattle.std.specs.Prelude.{if◌then◌else◌, nat_lt}
 use Rattle.std.proofs.lemmas.Bool.{and_parts}
 use Rattle.std.proofs.lemmas.Bool.Decides.{nat_tests}
@@ -22,9 +22,9 @@ use Rattle.script_parts.specs.declared.parts.TreeKind.{TreeKind}
 use Rattle.script_parts.specs.declared.parts.TreeKind.TheVariants.{Update, Read, Strict}
 use Rattle.world_model.specs.Asked.{asked_ops}
 use Rattle.world_model.specs.Core.{Core}
-use Rattle.world_model.specs.Keeping.{Aptness, AreKeptAt, AsksFor, IsKeptAt, KeepingNode, brought_row, is_apt_there, keeping_row, kept_row, start_keeping}
+use Rattle.world_model.specs.Keeping.{Aptness, AreKeptAt, AsksFor, IsKeptAt, KeepingNode, brought_row, is_apt_there, keeping_row, kept_row}
 use Rattle.world_model.specs.Named.{tree_kind_at}
-use Rattle.world_model.specs.Runs.{after, keeping_in}
+use Rattle.world_model.specs.Runs.{keeping_in}
 use Rattle.world_model.specs.Strict.{CoreKeeping, core_keeping, is_born_now, is_core_apt, kept_by_kind, meets, parked_if, root_waiting}
 use Rattle.world_model.proofs.CoreSends.{For}
 
@@ -147,15 +147,6 @@ kept_next_by apt s p n l all = brought_keeps apt s p l n (brought n.kept l l.bod
 pub kept_next : (s : ScriptData) (p : ℕ) (n : KeepingNode) (l : Letter) → AreKeptAt p n.kept
     → AreKeptAt p (keeping_row s p n l).state.kept
 kept_next s p n l all = kept_next_by (is_core_apt s p) s p n l all
-
-kept_after : (s : ScriptData) (p : ℕ) (n : KeepingNode) (es : List Entry) → AreKeptAt p n.kept
-    → AreKeptAt p (after (keeping_row s p) n es).kept
-kept_after s p n [] all = all
-kept_after s p n (e ∷ es) all = kept_after s p (keeping_row s p n e.took).state es (kept_next s p n e.took all)
-
--- a node after its entries
-pub kept_there : (s : ScriptData) (p : ℕ) (es : List Entry) → AreKeptAt p (after (keeping_row s p) (start_keeping s p) es).kept
-kept_there s p es = kept_after s p (start_keeping s p) es tt
 
 in_past_by : (s : ScriptData) (past : List Entry) (e : Entry) (p : ℕ) (b : Bool) → AreKeptAt p (keeping_in s past p).kept
     → AreKeptAt p (if b then (keeping_row s p (keeping_in s past p) e.took).state else keeping_in s past p).kept

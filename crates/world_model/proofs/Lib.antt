@@ -13,14 +13,12 @@ pub mod Sampled
 pub mod Scripts
 pub mod Fits
 pub mod Nexts
-pub mod Worked
 pub mod Sends
 pub mod Flows
 pub mod Orders
 pub mod Lawful
 pub mod Addressed
 pub mod Requests
-pub mod Apts
 pub mod Visited
 pub mod CoreCounts
 pub mod CoreSends

@@ -1,8 +1,7 @@
 -- In a script without strict trees no letter is kept: a node is what commuting trees see of it, what is outstanding is in
 -- flight, and an entry does the letter that it took.
-use Rattle.std.proofs.Common.{◌≡◌, ℕ, zero, suc, ◌==◌, ◌&&◌, Bool, true, false, List, [], ◌∷◌, ◌++◌, map, refl, sym, ap, ◌∙◌, arith, Option, Some, None}
-use Rattle.std.specs.Prelude.{if◌then◌else◌, nat_lt, is_some}
-use Rattle.std.proofs.lemmas.Bool.Decides.{nat_tests}
+use Rattle.std.proofs.Common.{◌≡◌, ℕ, ◌==◌, ◌&&◌, Bool, true, false, List, ◌∷◌, ◌++◌, refl, sym, ap, ◌∙◌, Option, Some, None, []}
+use Rattle.std.specs.Prelude.{if◌then◌else◌}
 use Rattle.std.proofs.lemmas.List.{append-nil}
 use Rattle.letter_types.specs.declared.bodies.Body.{Body}
 use Rattle.letter_types.specs.declared.bodies.Body.TheVariants.{Wake}
@@ -15,10 +14,9 @@ use Rattle.script_parts.specs.Counts.{has_strict}
 use Rattle.script_parts.specs.ScriptData.{ScriptData}
 use Rattle.world_model.specs.Apt.{node_row}
 use Rattle.world_model.specs.Core.{Core, plain_core}
-use Rattle.world_model.specs.Keeping.{KeepingNode, is_apt_at, kept_row, brought_row, keeping_row}
-use Rattle.world_model.specs.Kept.{kept_in, kept_by, outstanding, done_of, done_by, stays_of, keeps_letter, none_if, of_done}
+use Rattle.world_model.specs.Keeping.{KeepingNode, kept_row, brought_row, keeping_row}
 use Rattle.world_model.specs.Node.{Node}
-use Rattle.world_model.specs.Runs.{in_flight, keeping_in, node_in}
+use Rattle.world_model.specs.Runs.{keeping_in, node_in}
 use Rattle.world_model.specs.Strict.{CoreKeeping, core_keeping, core_row, is_core_apt}
 use Rattle.world_model.proofs.Plain.{keeps_plain, step_plain, wake_still}
 
@@ -105,64 +103,3 @@ keeping_is s (e ∷ past) p plain = by_test (e.actor.0 == p) (keeping_is s past 
       → IsBare (if test then (keeping_row s p (keeping_in s past p) e.took).state else keeping_in s past p)
   by_test true is = next_bare s p (keeping_in s past p) e.took plain is
   by_test false is = is
-
--- a node goes on as commuting trees see it
-pub row_is : (s : ScriptData) (past : List Entry) (p : ℕ) (l : Letter) → has_strict s ≡ false → l.to.0 ≡ p
-    → keeping_row s p (keeping_in s past p) l ≡ bare_out (node_row s p (node_in s past p) l)
-row_is s past p l plain to =
-    ap (λ (n : KeepingNode). keeping_row s p n l) (keeping_is s past p plain)
-    ∙ nothing_kept s p (node_in s past p) l plain (grind (arith, nat_tests))
-
-pub kept_none : (s : ScriptData) (past : List Entry) (n : ℕ) → has_strict s ≡ false → kept_by s past n ≡ []
-kept_none s past zero plain = refl
-kept_none s past (suc n) plain =
-    ap (λ (ls : List Letter). ls ++ map (λ (x : KeptLetter). x.letter) (kept_in s past n)) (kept_none s past n plain)
-    ∙ ap (λ (m : KeepingNode). map (λ (x : KeptLetter). x.letter) m.kept) (keeping_is s past n plain)
-
--- what has still to be done is in flight
-pub outstanding_is : (s : ScriptData) (past : List Entry) → has_strict s ≡ false → outstanding s past ≡ in_flight s past
-outstanding_is s past plain =
-    ap (λ (ls : List Letter). in_flight s past ++ ls) (kept_none s past s.nodes plain) ∙ append-nil (in_flight s past)
-
--- the letter that an entry does is the one that it took
-bare_done : (s : ScriptData) (p : ℕ) (n : KeepingNode) (l : Letter) (b : Body) → done_of s p n l (brought [] l b) ≡ l
-bare_done s p n l (Wake t k) = refl
-bare_done s p n l _ = either (is_apt_at s p n l) where
-  either : (test : Bool) → (if test then l else l) ≡ l
-  either true = refl
-  either false = refl
-
-done_by_test : (s : ScriptData) (past : List Entry) (e : Entry) (test : Bool) → has_strict s ≡ false
-    → (if test then done_of s e.actor.0 (keeping_in s past e.actor.0) e.took
-    (brought (kept_in s past e.actor.0) e.took e.took.body) else e.took) ≡ e.took
-done_by_test s past e true plain =
-    ap (λ (n : KeepingNode). done_of s e.actor.0 n e.took (brought n.kept e.took e.took.body)) (keeping_is s past e.actor.0 plain)
-    ∙ bare_done s e.actor.0 (bare (node_in s past e.actor.0)) e.took e.took.body
-done_by_test s past e false plain = refl
-
-pub done_is : (s : ScriptData) (past : List Entry) (e : Entry) → has_strict s ≡ false → done_by s past e ≡ e.took
-done_is s past e plain = done_by_test s past e (nat_lt e.actor.0 s.nodes) plain
-
--- and it is kept by none
-and_none : (b : Bool) → (b && false) ≡ false
-and_none true = refl
-and_none false = refl
-
-stays_none : (s : ScriptData) (p : ℕ) (st : Node) (o : Option Letter) → has_strict s ≡ false → stays_of s p (bare st) o ≡ false
-stays_none s p st None plain = refl
-stays_none s p st (Some r) plain =
-    ap (λ (k : Option CoreKeeping). is_apt_at s p (bare st) r && is_some k) (keeps_plain s st r.body plain)
-    ∙ and_none (is_apt_at s p (bare st) r)
-
-pub keeps_none : (s : ScriptData) (past : List Entry) (e : Entry) → has_strict s ≡ false → keeps_letter s past e ≡ false
-keeps_none s past e plain =
-    ap (λ (n : KeepingNode). nat_lt e.actor.0 s.nodes && stays_of s e.actor.0 n (brought n.kept e.took e.took.body))
-    (keeping_is s past e.actor.0 plain)
-    ∙ ap (λ (b : Bool). nat_lt e.actor.0 s.nodes && b)
-    (stays_none s e.actor.0 (node_in s past e.actor.0) (brought [] e.took e.took.body) plain)
-    ∙ and_none (nat_lt e.actor.0 s.nodes)
-
-pub of_done_is : (f : Letter → ℕ) (s : ScriptData) (past : List Entry) (e : Entry) → has_strict s ≡ false
-    → of_done f s past e ≡ f e.took
-of_done_is f s past e plain =
-    ap (λ (b : Bool). none_if b (f (done_by s past e))) (keeps_none s past e plain) ∙ ap f (done_is s past e plain)

@@ -1,5 +1,5 @@
 -- Sums over the letters that have still to be done: those in flight, and those that nodes keep.
-use Rattle.std.proofs.Common.{◌≡◌, ◌≢◌, ◌⊎◌, inl, inr, ℕ, zero, suc, ◌+◌, ◌<◌, ◌≤◌, ◌==◌, Bool, true, false, List, [], ◌∷◌, ◌++◌, map, refl, ap, arith, Option, Some, None}
+use Rattle.std.proofs.Common.{◌≡◌, ◌≢◌, ◌⊎◌, inl, inr, ℕ, zero, suc, ◌+◌, ◌<◌, ◌≤◌, ◌==◌, Bool, true, false, List, ◌∷◌, ◌++◌, map, refl, ap, arith, Option, Some, None, []}
 use Rattle.std.specs.Prelude.{if◌then◌else◌, nat_lt, is_some}
 use Rattle.std.proofs.lemmas.Bool.{cases_eq}
 use Rattle.std.proofs.lemmas.Bool.Decides.{nat_tests}
@@ -17,7 +17,7 @@ use Rattle.letter_types.specs.declared.kept.Why.{Why}
 use Rattle.letter_types.specs.Kept.{is_called_for, first_called, without_called, brought, kept_without, wakes_by, with_called}
 use Rattle.letter_types.specs.declared.kept.Why.TheVariants.{Called}
 use Rattle.world_model.specs.Keeping.{KeepingNode, is_apt_at, kept_row, brought_row, keeping_row}
-use Rattle.world_model.specs.Kept.{kept_in, kept_by, outstanding, done_of, done_by, stays_of, keeps_letter, none_if, of_done}
+use Rattle.world_model.specs.Kept.{kept_in, kept_by, outstanding, done_of, stays_of, none_if, of_done}
 use Rattle.world_model.specs.Runs.{in_flight, keeping_in, MayFollow}
 use Rattle.world_model.specs.Strict.{CoreKeeping, core_keeping, is_core_apt}
 use Rattle.world_model.proofs.Bags.{tally-append, tally-drop, tally_step}
@@ -221,12 +221,3 @@ outstanding_first f s =
 pub done_apart : (f : Letter → ℕ) (s : ScriptData) (past : List Entry) (e : Entry) → s.nodes ≤ e.actor.0
     → of_done f s past e ≡ f e.took
 done_apart f s past e outside = let other : nat_lt e.actor.0 s.nodes ≡ false = grind (arith, nat_tests) in rw other refl
-
--- a number that counts each letter for one at most counts so the one that is done
-none_if_most : (b : Bool) (n : ℕ) → n ≤ 1 → none_if b n ≤ 1
-none_if_most true n le = omega arith
-none_if_most false n le = le
-
-pub done_most : (f : Letter → ℕ) (s : ScriptData) (past : List Entry) (e : Entry) → ((l : Letter) → f l ≤ 1)
-    → of_done f s past e ≤ 1
-done_most f s past e le = none_if_most (keeps_letter s past e) (f (done_by s past e)) (le (done_by s past e))

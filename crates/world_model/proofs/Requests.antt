@@ -1,6 +1,6 @@
 -- Requests one after the other.
-use Rattle.std.proofs.Common.{◌≡◌, ℕ, ◌+◌, ◌<◌, ◌≤◌, ◌==◌, ◌&&◌, Bool, true, false, List, [], ◌∷◌, ◌++◌, length, take, refl, sym, ap, ◌∙◌, subst, arith}
-use Rattle.std.specs.Prelude.{if◌then◌else◌, All, slice_index_or}
+use Rattle.std.proofs.Common.{◌≡◌, ℕ, ◌+◌, ◌<◌, ◌≤◌, ◌==◌, ◌&&◌, Bool, true, false, List, ◌∷◌, ◌++◌, length, take, refl, sym, ap, ◌∙◌, subst, arith, []}
+use Rattle.std.specs.Prelude.{if◌then◌else◌, slice_index_or}
 use Rattle.std.proofs.lemmas.Grind.{common_steps}
 use Rattle.letter_types.specs.declared.entries.Outgoing.{Outgoing}
 use Rattle.pair_counters.specs.Numbers.{Numbers, asked_all, asked_one, done_one, AllBelow}
@@ -52,14 +52,6 @@ done_kept v (q ∷ qs) n = done_kept v qs (asked_one v q n)
 abbrev pub with_requests : ℕ → List Outgoing → Counts → Counts
 with_requests v os c = record c { numbers = asked_all v (addressees os) c.numbers }
 
--- the low version and the number of nodes stay
-pub same_low : (v : ℕ) (os : List Outgoing) (first now : Counts) → now ≡ with_requests v os first → now.low ≡ first.low
-same_low v os first now is = ap (λ (k : Counts). k.low) is
-
-pub asked_low : (v q : ℕ) (old new : Counts) → new ≡ record old { numbers = asked_one v q old.numbers }
-    → new.low ≡ old.low
-asked_low v q old new is = ap (λ (k : Counts). k.low) is
-
 pub same_nodes : (v q : ℕ) (os : List Outgoing) (first now : Counts) → now ≡ with_requests v os first
     → q < first.nodes → q < now.nodes
 same_nodes v q os first now is lt = subst (λ (k : Counts). q < k.nodes) (sym is) lt
@@ -90,12 +82,6 @@ length_front i xs lt = grind (arith, common_steps)
 
 pub all_taken : (i : ℕ) (xs : List Outgoing) → length xs ≤ i → take i xs ≡ xs
 all_taken i xs le = grind (arith, common_steps)
-
--- one request more, at the same version
-pub asked_all_nodes : (v q : ℕ) (os : List Outgoing) (old new : Counts)
-    → new ≡ record old { numbers = asked_one v q old.numbers }
-    → All (λ (o : Outgoing). o.to.0 < old.nodes) os → All (λ (o : Outgoing). o.to.0 < new.nodes) os
-asked_all_nodes v q os old new is all = subst (λ (k : Counts). All (λ (o : Outgoing). o.to.0 < k.nodes) os) (sym is) all
 
 pub asked_below : (v q m : ℕ) (old new : Counts) → new ≡ record old { numbers = asked_one v q old.numbers }
     → AllBelow m old.numbers → (r : ℕ) → new.numbers.asked v r ≤ m

@@ -1,21 +1,17 @@
 -- What is sent, under a number that looks at bodies.
-use Rattle.std.proofs.Common.{◌≡◌, ℕ, ◌+◌, ◌==◌, ◌&&◌, Bool, true, false, List, [], ◌∷◌, refl, arith, Option, Some, None}
+use Rattle.std.proofs.Common.{◌≡◌, ℕ, ◌+◌, ◌==◌, ◌&&◌, Bool, true, false, List, ◌∷◌, refl, arith, []}
 use Rattle.std.specs.Prelude.{nat_lt}
 use Rattle.tv_base.specs.declared.numbers.SubNo.{SubNo}
 use Rattle.tv_base.specs.declared.numbers.TreeNo.{TreeNo}
 use Rattle.tv_base.specs.declared.numbers.Version.{Version}
-use Rattle.letter_types.specs.declared.bodies.Answer.{Answer}
-use Rattle.letter_types.specs.declared.bodies.Answer.TheVariants.{Whole}
 use Rattle.letter_types.specs.declared.bodies.Body.{Body}
-use Rattle.letter_types.specs.declared.bodies.Body.TheVariants.{Root, Sub as SubLetter, Reply, Advance as AdvanceLetter}
+use Rattle.letter_types.specs.declared.bodies.Body.TheVariants.{Root, Sub as SubLetter, Advance as AdvanceLetter}
 use Rattle.letter_types.specs.declared.entries.Outgoing.{Outgoing}
 use Rattle.script_parts.specs.ScriptData.{ScriptData}
 use Rattle.script_parts.specs.declared.parts.ScriptRow.{ScriptRow}
 use Rattle.script_parts.specs.declared.parts.ScriptRow.TheVariants.{Tree as TreeRow, Advance, Settle, Lose}
 use Rattle.script_parts.specs.declared.parts.Sub.{Sub}
-use Rattle.tree_home.specs.declared.homes.Answered.{Answered}
 use Rattle.world_model.specs.Children.{sub_letters}
-use Rattle.world_model.specs.Notices.{reply_letters}
 use Rattle.world_model.specs.Client.{rows_letters}
 use Rattle.world_model.specs.Counts.{tally}
 
@@ -45,9 +41,3 @@ roots_none f s (TreeRow t ∷ rows) none never = omega (arith, none t, roots_non
 roots_none f s (Advance ∷ rows) none never = omega (arith, never, roots_none f s rows none never)
 roots_none f s (Settle ∷ rows) none never = roots_none f s rows none never
 roots_none f s (Lose ∷ rows) none never = roots_none f s rows none never
-
--- a number that counts no Reply
-pub replies_none : (f : Body → ℕ) (client : ℕ) (o : Option Answered) → ((t : TreeNo) (v : Version) (answer : Answer) → f (Reply t v answer) ≡ 0)
-    → tally (on f) (reply_letters client o) ≡ 0
-replies_none f client None none = refl
-replies_none f client (Some a) none = omega (arith, none a.tree a.version (Whole a.values))

@@ -1,12 +1,6 @@
 -- How each actor begins, and what it does with a letter: one table for all of them.
-use Rattle.std.specs.Prelude.{if◌then◌else◌, ℕ, Bool, true, false, ◌==◌, nat_lt, IsTrue}
-use Rattle.std.specs.List.{AllByRecursion}
+use Rattle.std.specs.Prelude.{if◌then◌else◌, ℕ, ◌==◌, nat_lt}
 use Rattle.script_parts.specs.ScriptData.{ScriptData}
-use Rattle.script_parts.specs.declared.parts.ScriptRow.{ScriptRow}
-use Rattle.script_parts.specs.declared.parts.ScriptRow.TheVariants.{Tree as TreeRow, Settle as SettleRow, Advance as AdvanceRow, Lose as LoseRow}
-use Rattle.script_parts.specs.declared.parts.Tree.{Tree}
-use Rattle.script_parts.specs.declared.parts.TreeKind.{TreeKind}
-use Rattle.script_parts.specs.declared.parts.TreeKind.TheVariants.{Update, Read, Strict}
 use Rattle.letter_types.specs.declared.entries.Letter.{Letter}
 use Rattle.letter_types.specs.Steps.{Out}
 use Rattle.world_model.specs.Keeping.{KeepingNode, keeping_row, start_keeping, wide_keeping_row}
@@ -47,20 +41,3 @@ abbrev pub wide_actor_row : ScriptData → ℕ → ActorData → Letter → Out 
 wide_actor_row s a (NodeData n) l = as_actor NodeData (wide_keeping_row s a n l)
 wide_actor_row s a (CoordinatorData c) l = as_actor CoordinatorData (coordinator_table c l)
 wide_actor_row s a (ClientData c) l = as_actor ClientData (client_table s c l)
-
--- a tree that the world runs, and a row that it runs: what a reader accepts is a matter of its own
-abbrev pub is_run : TreeKind → Bool
-is_run Update = true
-is_run Read = true
-is_run Strict = false
-
-abbrev pub is_run_row : ScriptRow → Bool
-is_run_row (TreeRow t) = true
-is_run_row SettleRow = true
-is_run_row AdvanceRow = true
-is_run_row LoseRow = false
-
--- the scripts that the world runs: no strict tree, and no row that makes the coordinator forget
-pub record IsRunnable (s : ScriptData) : Type 0 where
-  pub trees : AllByRecursion (λ (t : Tree). IsTrue (is_run t.kind)) s.trees
-  pub rows : AllByRecursion (λ (r : ScriptRow). IsTrue (is_run_row r)) s.rows

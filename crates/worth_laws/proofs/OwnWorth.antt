@@ -16,7 +16,7 @@ use Rattle.board_rules.proofs.ClosedWorth.{IsClosed, made_is_worth}
 use Rattle.board_rules.proofs.Effects.{made_in}
 use Rattle.board_rules.proofs.ItemAt.{item_at}
 use Rattle.board_rules.proofs.Shown.{closed_if_whole}
-use Rattle.tree_laws.specs.OwnValues.{seen_at}
+use Rattle.tree_laws.specs.SeenAt.{seen_at}
 use Rattle.tree_laws.proofs.AptVersions.{before}
 use Rattle.value_laws.proofs.OtherValues.{values_are_made}
 use Rattle.value_laws.proofs.SeenByActs.{sees_by_acts}

@@ -1,6 +1,6 @@
 -- What an item is worth at a version that is shown stays, in every run: all that changes it in versions up to that one has
 -- taken effect.
-use Rattle.std.proofs.Common.{◌≡◌, inl, inr, ℕ, ◌<◌, ◌≤◌, true, false, List, [], ◌∷◌, ◌++◌, length, take, reverse, refl, sym, ap, ◌∙◌, append_assoc, append-nil, arith, Option, Some, None}
+use Rattle.std.proofs.Common.{◌≡◌, inl, inr, ℕ, ◌<◌, ◌≤◌, true, false, List, ◌∷◌, ◌++◌, length, take, reverse, refl, sym, ap, ◌∙◌, append_assoc, append-nil, arith, Option, Some, None, []}
 use Rattle.std.specs.Prelude.{not, slice_get}
 use Rattle.std.proofs.Math.Seq.{take-append_seam}
 use Rattle.std.proofs.lemmas.Bool.{eqb-true, or_left, or_right}
@@ -136,10 +136,3 @@ pub worth_from : (s : ScriptData) (past later : List Entry) (x v n : ℕ) → Is
 worth_from s past later x v n valid run early least =
     let node = some_node s x (slice_get s.items x) valid refl in
     worth_there s past later node.0 x v n valid run early least node.1
-
--- what an item is worth at a version that is shown stays
-pub worth_stays : (s : ScriptData) (past later : List Entry) (x v : ℕ) → IsValid s → IsStepRun s (later ++ past) → v < now_below false s past
-    → worth s (reverse past) x v ≡ worth s (reverse (later ++ past)) x v
-worth_stays s past later x v valid run early =
-    ap (λ (xs : List Place). worth_in s xs x v) (sym (first_acts past later))
-    ∙ worth_from s past later x v (length (before past)) valid run early (omega arith)
