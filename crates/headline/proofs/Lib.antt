@@ -15,6 +15,7 @@ pub mod SampledGates
 pub mod SampledHeld
 pub mod SampledMoves
 pub mod SampledReads
+pub mod SampledStrict
 pub mod Settled
 pub mod Stays
 pub mod Swept
