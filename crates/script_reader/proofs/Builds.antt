@@ -1,10 +1,10 @@
 -- What is read is a script of built forms alone: no row makes the coordinator forget.
 use Rattle.std.proofs.Common.{◌≡◌, ◌+◌, ℕ, Bool, true, false, List, [], ◌∷◌, length, Option, Some, None, Result, Ok, Err, ◌∙◌, ap, refl, subst, sym, arith}
-use Rattle.std.specs.Prelude.{ℤ, if◌then◌else◌, not, ◌&&◌, ◌||◌, ◌==◌, IsTrue, nat_le, nat_lt}
+use Rattle.std.specs.Prelude.{ℤ, if◌then◌else◌, not, ◌&&◌, ◌==◌, nat_le, nat_lt}
 use Rattle.commute_ops.specs.declared.kinds.Kind.{Kind}
 use Rattle.tv_base.specs.declared.numbers.NodeNo.{NodeNo}
 use Rattle.tx_trees.proofs.Stays.{loses-push, one_lose}
-use Rattle.tx_trees.specs.Adding.{adds_fail, failed_tree, with_failed, with_item, adds_lose, adds_op, adds_pick, adds_sub, adds_tree, fresh, on_last, on_last_sub, push_op, push_sub, rooted, with_op, with_row, with_sub, with_tree}
+use Rattle.tx_trees.specs.Adding.{adds_fail, adds_lose, adds_op, adds_pick, adds_sub, adds_tree, fresh, with_row, with_tree}
 use Rattle.tx_trees.specs.Counts.{loses_in}
 use Rattle.tx_trees.specs.ScriptData.{ScriptData}
 use Rattle.tx_trees.specs.declared.parts.Deed.{Deed}
@@ -15,7 +15,6 @@ use Rattle.tx_trees.specs.Names.{is_name}
 use Rattle.tx_trees.specs.declared.parts.ItemRow.{ItemRow}
 use Rattle.tx_trees.specs.declared.parts.ScriptRow.{ScriptRow}
 use Rattle.tx_trees.specs.declared.parts.ScriptRow.TheVariants as rows
-use Rattle.tx_trees.specs.declared.parts.Tree.{Tree}
 use Rattle.tx_trees.specs.declared.parts.TreeKind.{TreeKind}
 use Rattle.tx_trees.specs.declared.why.Why.{Why}
 use Rattle.tx_trees.specs.declared.why.Why.TheVariants as why

@@ -1,6 +1,6 @@
 -- A row that passes its conditions.
 use Rattle.std.proofs.Common.{◌≡◌, ◌<◌, ◌≤◌, ◌^◌, ◌∙◌, ℕ, Bool, true, false, List, [], ◌∷◌, length, Option, Some, None, Result, Ok, Err, refl, sym, ap, arith, inl, inr, to_z, of_z}
-use Rattle.std.specs.Prelude.{nat_le, min, ℤ, is_some, unsigned_abs, IsErrAnd, ◌||◌, ◌⊎◌}
+use Rattle.std.specs.Prelude.{nat_le, min, ℤ, is_some, unsigned_abs, IsErrAnd, ◌⊎◌}
 use Rattle.std.specs.Int.{w128}
 use Rattle.std.specs.List.{AllByRecursion}
 use Rattle.std.proofs.lemmas.Bool.{cases_lt, le-leb, lt-leb}
@@ -27,7 +27,7 @@ use Rattle.tx_trees.specs.declared.why.Refusal.TheVariants as refusals
 use Rattle.script_reader.specs.Numbers.{amount_value, is_amount, is_number}
 use Rattle.tv_base.specs.Digits.{decimal_value}
 use Rattle.script_reader.specs.inside.Numbers.{amount_of, number_spelled}
-use Rattle.script_reader.specs.Rows.{adds_item_of, amount_row, by_word, deed_of, fail_row, field, if_built, item_of, item_row, later_form, later_row, node_no, op_row, starts, sub_row, tree_row}
+use Rattle.script_reader.specs.Rows.{adds_item_of, amount_row, by_word, deed_of, fail_row, field, item_of, item_row, later_form, later_row, node_no, op_row, starts, sub_row, tree_row}
 use Rattle.script_reader.specs.inside.Rows.{Leaves}
 use Rattle.script_reader.specs.Words.{if_word, kind_of, later_word, len_fits, may_follow, word_of}
 use Rattle.script_reader.specs.declared.words.OpWord.{OpWord}
