@@ -1,19 +1,14 @@
 -- Reading by the built forms alone, beside reading by every form.
 use Rattle.std.proofs.Common.{◌≡◌, ◌+◌, ◌<◌, ◌≤◌, ◌∙◌, ℕ, Bool, true, false, List, [], ◌∷◌, length, Option, Some, None, Result, Ok, Err, refl, sym, ap, subst, arith, inl, inr}
-use Rattle.std.specs.Prelude.{if◌then◌else◌, not, ◌⊎◌, nat_le, nat_lt}
-use Rattle.tx_trees.specs.Adding.{adds_tree}
-use Rattle.tx_trees.specs.Built.{is_built}
-use Rattle.tx_trees.specs.Names.{is_name}
+use Rattle.std.specs.Prelude.{if◌then◌else◌, not, ◌⊎◌, nat_lt}
 use Rattle.tx_trees.specs.ScriptData.{ScriptData}
 use Rattle.tx_trees.specs.declared.why.Why.{Why}
 use Rattle.tx_trees.specs.declared.why.Why.TheVariants as why
 use Rattle.script_reader.specs.BothReadings.{BothRead}
 use Rattle.script_reader.specs.Builds.{Builds}
-use Rattle.script_reader.specs.Numbers.{is_number}
-use Rattle.tv_base.specs.Digits.{decimal_value}
 use Rattle.script_reader.specs.Reading.{after_first, fault, read_every, read_of, read_rows, rows_from, second_rows, then_rows}
 use Rattle.script_reader.specs.Records.{records_in}
-use Rattle.script_reader.specs.Rows.{built_forms, by_word, every_form, field, first_row, if_built, later_form, later_row, node_no, second_row, unless}
+use Rattle.script_reader.specs.Rows.{built_forms, by_word, every_form, field, first_row, if_built, later_form, later_row, second_row, unless}
 use Rattle.script_reader.specs.Words.{later_word, len_fits}
 use Rattle.script_reader.specs.declared.reading.ScriptFault.{ScriptFault}
 use Rattle.script_reader.specs.declared.words.RowWord.{RowWord}
@@ -28,11 +23,10 @@ use Rattle.script_reader.proofs.Script.{goes_on}
 abbrev Alike : Result ScriptData Why → Result ScriptData Why → Type 0
 Alike x y = (x ≡ y) ⊎ ((s : ScriptData) × (x ≡ Err why.NotBuilt) × (y ≡ Ok s))
 
--- a form, built or not
-form_if_built : (built : Bool) (r : Result ScriptData Why) → Alike (if_built built r) (if_built true r)
-form_if_built true r = inl refl
-form_if_built false (Ok s) = inr (s, refl, refl)
-form_if_built false (Err w) = inl refl
+-- a form that isn't built
+form_left_out : (r : Result ScriptData Why) → Alike (if_built false r) (if_built true r)
+form_left_out (Ok s) = inr (s, refl, refl)
+form_left_out (Err w) = inl refl
 
 -- after the same condition
 behind : (b : Bool) (w : Why) (x y : Result ScriptData Why) → Alike x y → Alike (if b then Err w else x) (if b then Err w else y)
@@ -48,18 +42,14 @@ form_alike : (s : ScriptData) (fields : List (List ℕ)) (w : RowWord) → Alike
 form_alike s fields words.Form = inl refl
 form_alike s fields words.Nodes = inl refl
 form_alike s fields words.Item = inl refl
-form_alike s fields (words.Tree kind) =
-    let name = field fields 1 in
-    let node = field fields 2 in
-    let at = node_no (decimal_value node) in
-    behind_all ((not (is_number node), why.BadNumber) ∷ (nat_le s.nodes (decimal_value node), why.OutOfRange) ∷ (not (is_name name), why.BadName) ∷ []) _ _ (form_if_built (is_built kind) (adds_tree s name kind at))
+form_alike s fields (words.Tree kind) = inl refl
 form_alike s fields words.Sub = inl refl
 form_alike s fields (words.Op op) = inl refl
 form_alike s fields words.Get = inl refl
 form_alike s fields words.Advance = inl refl
 form_alike s fields words.Settle = inl refl
 form_alike s fields words.Pick = inl refl
-form_alike s fields words.Lose = form_if_built false _
+form_alike s fields words.Lose = form_left_out _
 form_alike s fields words.Fail = inl refl
 
 word_alike : (s : ScriptData) (fields : List (List ℕ)) (w : Option RowWord) → Alike (by_word fields w (later_form built_forms s fields)) (by_word fields w (later_form every_form s fields))

@@ -1,11 +1,11 @@
--- What is read is a script of built forms alone.
+-- What is read is a script of built forms alone: no row makes the coordinator forget.
 use Rattle.std.proofs.Common.{◌≡◌, ◌+◌, ℕ, Bool, true, false, List, [], ◌∷◌, length, Option, Some, None, Result, Ok, Err, ◌∙◌, ap, refl, subst, sym, arith}
-use Rattle.std.specs.List.{AllByRecursion}
-use Rattle.std.specs.Prelude.{ℤ, if◌then◌else◌, not, ◌&&◌, ◌||◌, ◌==◌, IsTrue, nat_le, nat_lt}
+use Rattle.std.specs.Prelude.{ℤ, if◌then◌else◌, not, ◌&&◌, ◌==◌, nat_le, nat_lt}
 use Rattle.commute_ops.specs.declared.kinds.Kind.{Kind}
 use Rattle.tv_base.specs.declared.numbers.NodeNo.{NodeNo}
-use Rattle.tx_trees.proofs.Lists.{all-before, all-before_last, all-on_last, all-push, all-seam}
-use Rattle.tx_trees.specs.Adding.{adds_fail, failed_tree, with_failed, with_item, adds_lose, adds_op, adds_pick, adds_sub, adds_tree, fresh, on_last, on_last_sub, push_op, push_sub, rooted, with_op, with_row, with_sub, with_tree}
+use Rattle.tx_trees.proofs.Stays.{loses-push, one_lose}
+use Rattle.tx_trees.specs.Adding.{adds_fail, adds_lose, adds_op, adds_pick, adds_sub, adds_tree, fresh, with_row, with_tree}
+use Rattle.tx_trees.specs.Counts.{loses_in}
 use Rattle.tx_trees.specs.ScriptData.{ScriptData}
 use Rattle.tx_trees.specs.declared.parts.Deed.{Deed}
 use Rattle.tx_trees.specs.declared.parts.Deed.TheVariants as deeds
@@ -15,7 +15,6 @@ use Rattle.tx_trees.specs.Names.{is_name}
 use Rattle.tx_trees.specs.declared.parts.ItemRow.{ItemRow}
 use Rattle.tx_trees.specs.declared.parts.ScriptRow.{ScriptRow}
 use Rattle.tx_trees.specs.declared.parts.ScriptRow.TheVariants as rows
-use Rattle.tx_trees.specs.declared.parts.Tree.{Tree}
 use Rattle.tx_trees.specs.declared.parts.TreeKind.{TreeKind}
 use Rattle.tx_trees.specs.declared.why.Why.{Why}
 use Rattle.tx_trees.specs.declared.why.Why.TheVariants as why
@@ -31,57 +30,20 @@ use Rattle.script_reader.specs.declared.words.OpWord.{OpWord}
 use Rattle.script_reader.specs.declared.words.RowWord.{RowWord}
 use Rattle.script_reader.specs.declared.words.RowWord.TheVariants as words
 use Rattle.script_reader.proofs.Added.{advance_is, fail_is, item_is, lose_is, op_taken, pick_is, settle_is, sub_is, tree_is}
-use Rattle.tx_trees.specs.Built.{is_built, IsBuiltRow}
-
--- a tree of a built kind
-abbrev IsBuiltTree : Tree → Type 0
-IsBuiltTree t = IsTrue (is_built t.kind)
 
 -- a script, and the same with one record more
 
--- both are of built forms, or neither
-record Even (s t : ScriptData) : Type 0 where
-  there : Builds s → Builds t
-  back : Builds t → Builds s
-
--- the last tree has changed, and keeps its kind
-last_even : (f : Tree → Tree) → ((t : Tree) → (f t).kind ≡ t.kind) → (s t : ScriptData) → t.trees ≡ on_last f s.trees → t.rows ≡ s.rows → Even s t
-last_even f keeps s t now_trees now_rows = record {
-  there = λ b. record {
-    trees = subst (AllByRecursion IsBuiltTree) (sym now_trees) (all-on_last IsBuiltTree f s.trees b.trees (λ x last h. ap is_built (keeps x) ∙ h));
-    rows = subst (AllByRecursion IsBuiltRow) (sym now_rows) b.rows;
-  };
-  back = λ b. record {
-    trees = all-before_last IsBuiltTree f (λ x h. sym (ap is_built (keeps x)) ∙ h) s.trees (subst (AllByRecursion IsBuiltTree) now_trees b.trees);
-    rows = subst (AllByRecursion IsBuiltRow) now_rows b.rows;
-  };
-}
+-- the coordinator is made to forget as often in both
+abbrev Even : ScriptData → ScriptData → Type 0
+Even s t = loses_in t.rows ≡ loses_in s.rows
 
 -- a row of a built form more
-row_even : (s : ScriptData) (row : ScriptRow) → IsBuiltRow row → Even s (with_row s row)
-row_even s row built = record {
-  there = λ b. record { trees = b.trees; rows = all-push IsBuiltRow s.rows row b.rows built };
-  back = λ b. record { trees = b.trees; rows = all-before IsBuiltRow s.rows (row ∷ []) b.rows };
-}
+row_even : (s : ScriptData) (row : ScriptRow) → one_lose row ≡ 0 → Even s (with_row s row)
+row_even s row built = omega (arith, loses-push s.rows row, built)
 
--- neither trees nor rows have changed
-same_even : (s t : ScriptData) → t.trees ≡ s.trees → t.rows ≡ s.rows → Even s t
-same_even s t now_trees now_rows = record {
-  there = λ b. record { trees = subst (AllByRecursion IsBuiltTree) (sym now_trees) b.trees; rows = subst (AllByRecursion IsBuiltRow) (sym now_rows) b.rows };
-  back = λ b. record { trees = subst (AllByRecursion IsBuiltTree) now_trees b.trees; rows = subst (AllByRecursion IsBuiltRow) now_rows b.rows };
-}
-
--- a subtransaction more
-sub_even : (s : ScriptData) (parent : ℕ) (node : NodeNo) → Even s (with_sub s parent node)
-sub_even s parent node = last_even (push_sub (record { parent = record { 0 = parent }; node = node; ops = [] })) (λ t. refl) s (with_sub s parent node) refl refl
-
--- an operation more
-op_even : (s : ScriptData) (k : ℕ) (deed : Deed) → Even s (with_op s k deed)
-op_even s k deed = last_even (on_last_sub (push_op (record { item = record { 0 = k }; deed = deed }))) (λ t. refl) s (with_op s k deed) refl refl
-
--- a tree that fails
-fail_even : (s : ScriptData) (k : ℕ) → Even s (with_failed s k)
-fail_even s k = last_even (failed_tree k) (λ t. refl) s (with_failed s k) refl refl
+-- a tree more
+tree_even : (s : ScriptData) (name : List ℕ) (kind : TreeKind) (node : NodeNo) → Even s (with_tree s name kind node)
+tree_even s name kind node = omega (arith, loses-push s.rows (rows.Tree (record { 0 = length s.trees })))
 
 -- a record was taken: by the built forms alone a script stays of built forms; and one that is so by every form was so
 -- before, and the record is taken by the built forms alone
@@ -92,7 +54,7 @@ pub record Taken (every : Bool) (s t : ScriptData) (built : Result ScriptData Wh
 
 -- a record of a form that is always read
 taken_even : (every : Bool) (s t : ScriptData) (made : Result ScriptData Why) → made ≡ Ok t → Even s t → Taken every s t made
-taken_even every s t made is even = record { there = λ _. even.there; back = even.back; same = λ _. is }
+taken_even every s t made is even = record { there = λ _ b. even ∙ b; back = λ b. sym even ∙ b; same = λ _. is }
 
 -- each row
 
@@ -122,7 +84,7 @@ item_row_even : (s t : ScriptData) (name : List ℕ) (node : ℕ) (kind : Option
 item_row_even s t name node None initial is = absurd (cc is)
 item_row_even s t name node (Some kind) initial is =
     let r : ItemRow = record { name = name; node = node_no node; kind = kind; initial = initial } in
-    subst (Even s) (item_is s t r is) (same_even s (with_item s r) refl refl)
+    subst (Even s) (item_is s t r is) refl
 
 -- a form that is taken is built
 if_built_is : (built : Bool) (r : Result ScriptData Why) (t : ScriptData) → if_built built r ≡ Ok t → (built ≡ true) × (r ≡ Ok t)
@@ -131,43 +93,14 @@ if_built_is false (Ok s) t is = absurd (cc is)
 if_built_is built (Err w) t is = absurd (cc is)
 
 -- a tree row that is taken passes its conditions
-tree_some : (every : Bool) (s t : ScriptData) (kind : TreeKind) (name node : List ℕ) → tree_row every s kind name node ≡ Ok t → if_built (every || is_built kind) (adds_tree s name kind (node_no (decimal_value node))) ≡ Ok t
-tree_some every s t kind name node is = passes_three (not (is_number node)) (nat_le s.nodes (decimal_value node)) (not (is_name name)) _ _ _ _ t is
-
--- of two tests that one holds, the second does where the first doesn't
-second_holds : (a b : Bool) → (a || b) ≡ true → a ≡ false → b ≡ true
-second_holds true b either fails = absurd (cc fails)
-second_holds false b either fails = either
-
--- a script with one tree more was of built forms
-tree_back : (s : ScriptData) (name : List ℕ) (kind : TreeKind) (node : NodeNo) → Builds (with_tree s name kind node) → Builds s
-tree_back s name kind node b = record {
-  trees = all-before IsBuiltTree s.trees (rooted name kind node ∷ []) b.trees;
-  rows = all-before IsBuiltRow s.rows (rows.Tree (record { 0 = length s.trees }) ∷ []) b.rows;
-}
-
--- a tree row by another test that comes out the same
-tree_same : (s : ScriptData) (kind : TreeKind) (name node : List ℕ) (b : Bool) → is_built kind ≡ b
-    → tree_row built_forms s kind name node ≡ unless ((not (is_number node), why.BadNumber) ∷ (nat_le s.nodes (decimal_value node), why.OutOfRange) ∷ (not (is_name name), why.BadName) ∷ []) (if_built b (adds_tree s name kind (node_no (decimal_value node))))
-tree_same s kind name node b e =
-    ap (λ (x : Bool). unless ((not (is_number node), why.BadNumber) ∷ (nat_le s.nodes (decimal_value node), why.OutOfRange) ∷ (not (is_name name), why.BadName) ∷ []) (if_built x (adds_tree s name kind (node_no (decimal_value node))))) e
+tree_some : (s t : ScriptData) (kind : TreeKind) (name node : List ℕ) → tree_row s kind name node ≡ Ok t → adds_tree s name kind (node_no (decimal_value node)) ≡ Ok t
+tree_some s t kind name node is = passes_three (not (is_number node)) (nat_le s.nodes (decimal_value node)) (not (is_name name)) _ _ _ _ t is
 
 -- a tree row
-tree_taken : (every : Bool) (s t : ScriptData) (kind : TreeKind) (name node : List ℕ) → tree_row every s kind name node ≡ Ok t → Taken every s t (tree_row built_forms s kind name node)
-tree_taken every s t kind name node is =
+tree_row_even : (s t : ScriptData) (kind : TreeKind) (name node : List ℕ) → tree_row s kind name node ≡ Ok t → Even s t
+tree_row_even s t kind name node is =
     let at = node_no (decimal_value node) in
-    let made = if_built_is (every || is_built kind) (adds_tree s name kind at) t (tree_some every s t kind name node is) in
-    let added : with_tree s name kind at ≡ t = tree_is s t name kind at made.1 in
-    let row = rows.Tree (record { 0 = length s.trees }) in
-    let same : Builds (with_tree s name kind at) → is_built kind ≡ true = λ b. all-seam IsBuiltTree s.trees [] (rooted name kind at) b.trees in
-    record {
-      there = λ alone b. subst Builds added (record {
-        trees = all-push IsBuiltTree s.trees (rooted name kind at) b.trees (second_holds every (is_built kind) made.0 alone);
-        rows = all-push IsBuiltRow s.rows row b.rows tt;
-      });
-      back = λ b. tree_back s name kind at (subst Builds (sym added) b);
-      same = λ b. tree_same s kind name node (every || is_built kind) (same (subst Builds (sym added) b) ∙ sym made.0) ∙ is;
-    }
+    subst (Even s) (tree_is s t name kind at (tree_some s t kind name node is)) (tree_even s name kind at)
 
 -- a `sub` row that is taken passes its conditions
 sub_some : (s t : ScriptData) (parent node : List ℕ) → sub_row s parent node ≡ Ok t → adds_sub s (decimal_value parent) (node_no (decimal_value node)) ≡ Ok t
@@ -179,7 +112,7 @@ op_some s t item deed is = grind arith
 
 -- an operation row
 op_row_even : (s t : ScriptData) (item : List ℕ) (deed : Deed) → op_row s item deed ≡ Ok t → Even s t
-op_row_even s t item deed is = let taken = op_taken s t item deed (op_some s t item deed is) in subst (Even s) taken.is (op_even s taken.item deed)
+op_row_even s t item deed is = let taken = op_taken s t item deed (op_some s t item deed is) in subst (Even s) taken.is refl
 
 -- an operation row that is taken has an amount
 amount_some : (s t : ScriptData) (word : OpWord) (item amount : List ℕ) → amount_row s word item amount ≡ Ok t → op_row s item (deed_of word (amount_value amount)) ≡ Ok t
@@ -191,17 +124,17 @@ pick_some s t place is = grind arith
 
 -- a pick
 pick_even : (s t : ScriptData) (k : ℕ) → adds_pick s k ≡ Ok t → Even s t
-pick_even s t k is = subst (Even s) (pick_is s t k is) (same_even s _ refl refl)
+pick_even s t k is = subst (Even s) (pick_is s t k is) refl
 
 -- a row that makes the coordinator forget
 lose_taken : (every : Bool) (s t : ScriptData) → lose_row every s ≡ Ok t → Taken every s t (lose_row built_forms s)
 lose_taken every s t is =
     let made = if_built_is every (adds_lose s) t is in
-    let added : with_row s rows.Lose ≡ t = lose_is s t made.1 in
+    let more : loses_in t.rows ≡ loses_in s.rows + 1 = ap (λ (x : ScriptData). loses_in x.rows) (sym (lose_is s t made.1)) ∙ loses-push s.rows rows.Lose in
     record {
       there = λ alone b. absurd (cc (made.0, alone));
-      back = λ b. let c = subst Builds (sym added) b in record { trees = c.trees; rows = all-before IsBuiltRow s.rows (rows.Lose ∷ []) c.rows };
-      same = λ b. let c = subst Builds (sym added) b in absurd (all-seam IsBuiltRow s.rows [] rows.Lose c.rows);
+      back = λ b. absurd (omega (arith, more, b));
+      same = λ b. absurd (omega (arith, more, b));
     }
 
 -- each later row, by its word
@@ -211,21 +144,21 @@ form_taken every s t fields words.Nodes is = absurd (cc is)
 form_taken every s t fields words.Item is =
     taken_even every s t _ is (item_row_even s t (field fields 1) (decimal_value (field fields 2)) (kind_of (field fields 3)) (amount_value (field fields 4))
     (item_of_some s t (field fields 1) (decimal_value (field fields 2)) (kind_of (field fields 3)) (amount_value (field fields 4)) (item_some s t (field fields 1) (field fields 2) (field fields 3) (field fields 4) is)))
-form_taken every s t fields (words.Tree kind) is = tree_taken every s t kind (field fields 1) (field fields 2) is
+form_taken every s t fields (words.Tree kind) is = taken_even every s t _ is (tree_row_even s t kind (field fields 1) (field fields 2) is)
 form_taken every s t fields words.Sub is =
     let parent = decimal_value (field fields 1) in
     let node = node_no (decimal_value (field fields 2)) in
-    taken_even every s t _ is (subst (Even s) (sub_is s t parent node (sub_some s t (field fields 1) (field fields 2) is)) (sub_even s parent node))
+    taken_even every s t _ is (subst (Even s) (sub_is s t parent node (sub_some s t (field fields 1) (field fields 2) is)) refl)
 form_taken every s t fields (words.Op word) is =
     taken_even every s t _ is (op_row_even s t (field fields 1) (deed_of word (amount_value (field fields 2))) (amount_some s t word (field fields 1) (field fields 2) is))
 form_taken every s t fields words.Get is = taken_even every s t _ is (op_row_even s t (field fields 1) deeds.Get is)
-form_taken every s t fields words.Advance is = taken_even every s t _ is (subst (Even s) (advance_is s t is) (row_even s rows.Advance tt))
-form_taken every s t fields words.Settle is = taken_even every s t _ is (subst (Even s) (settle_is s t is) (row_even s rows.Settle tt))
+form_taken every s t fields words.Advance is = taken_even every s t _ is (subst (Even s) (advance_is s t is) (row_even s rows.Advance refl))
+form_taken every s t fields words.Settle is = taken_even every s t _ is (subst (Even s) (settle_is s t is) (row_even s rows.Settle refl))
 form_taken every s t fields words.Pick is = taken_even every s t _ is (pick_even s t (decimal_value (field fields 1)) (pick_some s t (field fields 1) is))
 form_taken every s t fields words.Lose is = lose_taken every s t is
 form_taken every s t fields words.Fail is =
     let k = decimal_value (field fields 1) in
-    taken_even every s t _ is (subst (Even s) (fail_is s t k (unless_one (not (is_number (field fields 1))) why.BadNumber (adds_fail s k) t is)) (fail_even s k))
+    taken_even every s t _ is (subst (Even s) (fail_is s t k (unless_one (not (is_number (field fields 1))) why.BadNumber (adds_fail s k) t is)) refl)
 
 -- a condition that what is taken passes is passed again
 unless_again : {A : Type 0} (b : Bool) (w : Why) (x y : Result A Why) (t : A) → unless ((b, w) ∷ []) x ≡ Ok t → y ≡ Ok t → unless ((b, w) ∷ []) y ≡ Ok t
@@ -253,7 +186,7 @@ nodes_is : (f : Form) (t : ScriptData) (nodes : List ℕ) → nodes_row f nodes 
 nodes_is f t nodes is = grind arith
 
 nodes_builds : (f : Form) (t : ScriptData) (nodes : List ℕ) → nodes_row f nodes ≡ Ok t → Builds t
-nodes_builds f t nodes is = subst Builds (nodes_is f t nodes is) (record { trees = tt; rows = tt })
+nodes_builds f t nodes is = subst Builds (nodes_is f t nodes is) refl
 
 -- the row of the second form makes no script yet
 no_script : (a b : Bool) (w x : Why) (t : ScriptData) → unless {A = Option ScriptData} ((a, w) ∷ (b, x) ∷ []) (Ok None) ≡ Ok (Some t) → ⊥

@@ -1,6 +1,6 @@
 -- A row that passes its conditions.
 use Rattle.std.proofs.Common.{◌≡◌, ◌<◌, ◌≤◌, ◌^◌, ◌∙◌, ℕ, Bool, true, false, List, [], ◌∷◌, length, Option, Some, None, Result, Ok, Err, refl, sym, ap, arith, inl, inr, to_z, of_z}
-use Rattle.std.specs.Prelude.{nat_le, min, ℤ, is_some, unsigned_abs, IsErrAnd, ◌||◌, ◌⊎◌}
+use Rattle.std.specs.Prelude.{nat_le, min, ℤ, is_some, unsigned_abs, IsErrAnd, ◌⊎◌}
 use Rattle.std.specs.Int.{w128}
 use Rattle.std.specs.List.{AllByRecursion}
 use Rattle.std.proofs.lemmas.Bool.{cases_lt, le-leb, lt-leb}
@@ -27,13 +27,12 @@ use Rattle.tx_trees.specs.declared.why.Refusal.TheVariants as refusals
 use Rattle.script_reader.specs.Numbers.{amount_value, is_amount, is_number}
 use Rattle.tv_base.specs.Digits.{decimal_value}
 use Rattle.script_reader.specs.inside.Numbers.{amount_of, number_spelled}
-use Rattle.script_reader.specs.Rows.{adds_item_of, amount_row, by_word, deed_of, fail_row, field, if_built, item_of, item_row, later_form, later_row, node_no, op_row, starts, sub_row, tree_row}
+use Rattle.script_reader.specs.Rows.{adds_item_of, amount_row, by_word, deed_of, fail_row, field, item_of, item_row, later_form, later_row, node_no, op_row, starts, sub_row, tree_row}
 use Rattle.script_reader.specs.inside.Rows.{Leaves}
 use Rattle.script_reader.specs.Words.{if_word, kind_of, later_word, len_fits, may_follow, word_of}
 use Rattle.script_reader.specs.declared.words.OpWord.{OpWord}
 use Rattle.script_reader.specs.declared.words.RowWord.{RowWord}
 use Rattle.script_reader.specs.declared.words.RowWord.TheVariants as words
-use Rattle.tx_trees.specs.Built.{is_built}
 
 -- what a call on a script answers is what its row makes
 pub leaves : {T : Type 0} (made step : Result ScriptData Why) (r : Result T Refusal) (old new : ScriptData) → made ≡ step → Steps step r old new → Leaves made r new
@@ -47,13 +46,6 @@ pub passed_on : {T : Type 0} (U : Type 0) (made step : Result ScriptData Why) (e
 passed_on U made step e (Ok t) old new h is steps = absurd h
 passed_on U made step (refusals.Why w) (Err x) old new h is steps = rw (h, is) steps.0
 passed_on U made step refusals.NoMemory (Err x) old new h is steps = rw h tt
-
--- the same of a form that may not be built
-pub passed_on_built : {T : Type 0} (U : Type 0) (made step : Result ScriptData Why) (built : Bool) (e : Refusal) (r : Result T Refusal) (old new : ScriptData) → IsErrAnd r (λ x. x ≡ e) → made ≡ if_built built step
-    → Steps {T = U} step (Err e) old new → Leaves {T = T} made r new
-passed_on_built U made step built e (Ok t) old new h is steps = absurd h
-passed_on_built U made step built (refusals.Why w) (Err x) old new h is steps = rw (h, is, steps.0) refl
-passed_on_built U made step built refusals.NoMemory (Err x) old new h is steps = rw h tt
 
 -- what the code read as a number is one
 number_is : (bytes : List ℕ) (n : ℕ) → number_spelled bytes ≡ Some n → (is_number bytes ≡ true) × (decimal_value bytes ≡ n)
@@ -88,9 +80,9 @@ item_row_is s name node kind initial n k a hn hk ha =
     passes ∙ rw (b.1, d.1, hk) refl
 
 -- a tree row that passes its conditions begins a tree
-pub tree_row_is : (every : Bool) (s : ScriptData) (kind : TreeKind) (name node m : List ℕ) (n : ℕ) → Some n ≡ number_spelled node → n < s.nodes → is_name name ≡ true → m ≡ name
-    → tree_row every s kind name node ≡ if_built (every || is_built kind) (adds_tree s m kind (node_no n))
-tree_row_is every s kind name node m n hn low named same =
+pub tree_row_is : (s : ScriptData) (kind : TreeKind) (name node m : List ℕ) (n : ℕ) → Some n ≡ number_spelled node → n < s.nodes → is_name name ≡ true → m ≡ name
+    → tree_row s kind name node ≡ adds_tree s m kind (node_no n)
+tree_row_is s kind name node m n hn low named same =
     let a = number_is node n (sym hn) in
     let few : nat_le s.nodes n ≡ false = lt-leb s.nodes n low in
     rw (same, a.0, named, a.1, few) refl
@@ -246,7 +238,7 @@ later_wrong every s fields f word w n fits same_form is hw hf hn bad =
     ap (λ (o : Option RowWord). by_word fields o (later_form every s fields)) e ∙ rw same refl
 
 -- a tree row, by its fields
-pub tree_form_is : (every : Bool) (s : ScriptData) (fields : List (List ℕ)) (w : RowWord) (kind : TreeKind) (a b : List ℕ) → w ≡ words.Tree kind → a ≡ field fields 1 → b ≡ field fields 2 → later_form every s fields w ≡ tree_row every s kind a b
+pub tree_form_is : (every : Bool) (s : ScriptData) (fields : List (List ℕ)) (w : RowWord) (kind : TreeKind) (a b : List ℕ) → w ≡ words.Tree kind → a ≡ field fields 1 → b ≡ field fields 2 → later_form every s fields w ≡ tree_row s kind a b
 tree_form_is every s fields w kind a b is ha hb = rw (is, ha, hb) refl
 
 -- a `sub` row, by its fields

@@ -40,7 +40,6 @@ use Rattle.script_reader.proofs.PlainRows.{all_plain, op_named, small_deed}
 use Rattle.script_reader.proofs.RowsBack.{deed_back, fail_back, item_back, lose_back, nodes_back, pick_back, second_nodes_back, sub_back, tree_back}
 use Rattle.script_reader.proofs.Alike.{both_read}
 use Rattle.script_reader.proofs.Script.{ends, goes_on}
-use Rattle.tx_trees.specs.Built.{is_built, IsBuiltRow}
 
 -- these rows, read from script u on, give v, whatever row comes next
 abbrev Reads : ScriptData → List (List (List ℕ)) → ScriptData → Type 0
@@ -284,10 +283,7 @@ every_read s text h small is few = subst (λ (x : List ℕ). IsReadAs (read_ever
 
 -- a script that is the same is of the built forms too
 same_builds : (t s : ScriptData) → SameScript t s → Builds s → Builds t
-same_builds t s same b = record {
-  trees = subst (AllByRecursion (λ (x : Tree). IsTrue (is_built x.kind))) (sym same.trees) b.trees;
-  rows = subst (AllByRecursion IsBuiltRow) (sym same.rows) b.rows;
-}
+same_builds t s same b = ap loses_in same.rows ∙ b
 
 -- where the script is of built forms these alone are enough
 pub text_read : (s : ScriptData) (text : List ℕ) → IsReadAs (read_every text) s → Builds s → IsReadAs (read_of text) s

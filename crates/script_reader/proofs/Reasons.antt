@@ -91,12 +91,12 @@ tree_other s name kind node =
     ∷ (names_tree name s.trees, why.NameTaken)
     ∷ (has_no_tree_left s.nodes kind s.trees, why.TooMany) ∷ []) (with_tree s name kind node) refl
 
-tree_row_other : (s : ScriptData) (kind : TreeKind) (name node : List ℕ) → Otherwise (tree_row every_form s kind name node)
+tree_row_other : (s : ScriptData) (kind : TreeKind) (name node : List ℕ) → Otherwise (tree_row s kind name node)
 tree_row_other s kind name node =
-    let added = adds_tree s name kind (node_no (decimal_value node)) in
+    let n = decimal_value node in
     unless_other ((not (is_number node), why.BadNumber)
-    ∷ (nat_le s.nodes (decimal_value node), why.OutOfRange)
-    ∷ (not (is_name name), why.BadName) ∷ []) (if_built true added) refl (every_other added (tree_other s name kind (node_no (decimal_value node))))
+    ∷ (nat_le s.nodes n, why.OutOfRange)
+    ∷ (not (is_name name), why.BadName) ∷ []) (adds_tree s name kind (node_no n)) refl (tree_other s name kind (node_no n))
 
 sub_other : (s : ScriptData) (parent : ℕ) (node : NodeNo) → Otherwise (adds_sub s parent node)
 sub_other s parent node =

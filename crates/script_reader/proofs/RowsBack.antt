@@ -64,12 +64,10 @@ any_built (Err w) = refl
 
 -- the same of a tree
 tried_tree : (a b c d : Bool) (w x y z : Why) (new : ScriptData)
-    → unless ((a, w) ∷ (b, x) ∷ []) (if_built true (taken_unless ((a, w) ∷ (b, x) ∷ (c, y) ∷ (d, z) ∷ []) new)) ≡ taken_unless ((a, w) ∷ (b, x) ∷ (c, y) ∷ (d, z) ∷ []) new
+    → unless ((a, w) ∷ (b, x) ∷ []) (taken_unless ((a, w) ∷ (b, x) ∷ (c, y) ∷ (d, z) ∷ []) new) ≡ taken_unless ((a, w) ∷ (b, x) ∷ (c, y) ∷ (d, z) ∷ []) new
 tried_tree true b c d w x y z new = refl
 tried_tree false true c d w x y z new = refl
-tried_tree false false true d w x y z new = refl
-tried_tree false false false true w x y z new = refl
-tried_tree false false false false w x y z new = refl
+tried_tree false false c d w x y z new = refl
 
 -- the same of a subtransaction
 tried_sub : {A : Type 0} (a b c d : Bool) (w x y z : Why) (new : A)
@@ -105,7 +103,7 @@ item_back s n r few h =
     ∙ tried_item (nat_le s.nodes r.node.0 || not (may_start s.form r.kind r.initial)) (not (is_name r.name)) (is_some (place_of r.name s.items)) (nat_le 10000 (length s.items)) why.OutOfRange why.BadName why.NameTaken why.TooMany (with_item s r)
 
 -- a tree row, by its fields
-tree_form : (s : ScriptData) (kind : TreeKind) (name : List ℕ) (node : NodeNo) → later_row every_form s (tree_fields kind name node.0) ≡ tree_row every_form s kind name (decimal node.0)
+tree_form : (s : ScriptData) (kind : TreeKind) (name : List ℕ) (node : NodeNo) → later_row every_form s (tree_fields kind name node.0) ≡ tree_row s kind name (decimal node.0)
 tree_form s trees.Update name node = refl
 tree_form s trees.Read name node = refl
 tree_form s trees.Strict name node = refl

@@ -1,11 +1,8 @@
 -- Scripts of the forms that are built.
-use Rattle.std.specs.Prelude.{IsTrue}
-use Rattle.std.specs.List.{AllByRecursion}
+use Rattle.std.specs.Prelude.{◌≡◌}
+use Rattle.tx_trees.specs.Counts.{loses_in}
 use Rattle.tx_trees.specs.ScriptData.{ScriptData}
-use Rattle.tx_trees.specs.declared.parts.Tree.{Tree}
-use Rattle.tx_trees.specs.Built.{is_built, IsBuiltRow}
 
--- no strict tree, and no row that makes the coordinator forget
-pub record Builds (s : ScriptData) : Type 0 where
-  pub trees : AllByRecursion (λ (t : Tree). IsTrue (is_built t.kind)) s.trees
-  pub rows : AllByRecursion IsBuiltRow s.rows
+-- no row makes the coordinator forget
+abbrev pub Builds : ScriptData → Type 0
+Builds s = loses_in s.rows ≡ 0

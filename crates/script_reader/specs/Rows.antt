@@ -24,7 +24,6 @@ use Rattle.script_reader.specs.declared.words.OpWord.{OpWord}
 use Rattle.script_reader.specs.declared.words.OpWord.TheVariants as ops
 use Rattle.script_reader.specs.declared.words.RowWord.{RowWord}
 use Rattle.script_reader.specs.declared.words.RowWord.TheVariants as words
-use Rattle.tx_trees.specs.Built.{is_built}
 
 -- rows of every form are read, also of one that isn't run yet
 abbrev pub every_form : Bool
@@ -86,12 +85,12 @@ item_row s name node kind initial =
     (item_of s name (decimal_value node) (kind_of kind) (amount_value initial))
 
 -- `update,NAME,NODE`, and the same of `read` and `strict`
-abbrev pub tree_row : Bool → ScriptData → TreeKind → List ℕ → List ℕ → Result ScriptData Why
-tree_row every s kind name node =
+abbrev pub tree_row : ScriptData → TreeKind → List ℕ → List ℕ → Result ScriptData Why
+tree_row s kind name node =
     unless ((not (is_number node), why.BadNumber)
     ∷ (nat_le s.nodes (decimal_value node), why.OutOfRange)
     ∷ (not (is_name name), why.BadName) ∷ [])
-    (if_built (every || is_built kind) (adds_tree s name kind (node_no (decimal_value node))))
+    (adds_tree s name kind (node_no (decimal_value node)))
 
 -- `sub,PARENT,NODE`
 abbrev pub sub_row : ScriptData → List ℕ → List ℕ → Result ScriptData Why
@@ -169,7 +168,7 @@ abbrev pub later_form : Bool → ScriptData → List (List ℕ) → RowWord → 
 later_form every s fields words.Form = Err why.UnknownRow
 later_form every s fields words.Nodes = Err why.NodesTwice
 later_form every s fields words.Item = item_row s (field fields 1) (field fields 2) (field fields 3) (field fields 4)
-later_form every s fields (words.Tree kind) = tree_row every s kind (field fields 1) (field fields 2)
+later_form every s fields (words.Tree kind) = tree_row s kind (field fields 1) (field fields 2)
 later_form every s fields words.Sub = sub_row s (field fields 1) (field fields 2)
 later_form every s fields (words.Op op) = amount_row s op (field fields 1) (field fields 2)
 later_form every s fields words.Get = op_row s (field fields 1) deeds.Get

@@ -2,7 +2,6 @@
 ghost use Rattle.std.specs.Prelude.{◌≡◌, ◌<◌, ◌^◌, true, unsigned_abs};
 ghost use Rattle.csv.specs.Records.{fields_of};
 ghost use Rattle.tx_trees.specs.Adding.{last_may_fail, last_subs, puts_undone};
-ghost use Rattle.tx_trees.specs.Built.{is_built};
 ghost use Rattle.script_reader.specs.Rows.{advance_row, amount_row, begun_script, built_forms, deed_of, fail_row, first_row, form_row, item_of, item_row, later_row, lose_row, nodes_row, op_row, pick_row, second_row, starts, sub_row, tree_row};
 ghost use Rattle.script_reader.specs.inside.Rows.{HasBegunWith, Leaves, Makes};
 
@@ -105,19 +104,8 @@ fn add_item_of(
     Ok(())
 }
 
-// Whether trees of this kind may be read.
-fn is_built(kind: TreeKind) -> bool
-    ensures { result ≡ is_built kind }
-{
-    match kind {
-        TreeKind::Update => true,
-        TreeKind::Read => true,
-        TreeKind::Strict => false,
-    }
-}
-
 fn tree_row_of(script: &mut Script, kind: TreeKind, name: &[u8], node: &[u8]) -> Result<(), Refusal>
-    ensures { Leaves (tree_row built_forms script.old kind name.now node.now) result script.new }
+    ensures { Leaves (tree_row script.old kind name.now node.now) result script.new }
 {
     let Some(node) = number(node) else {
         return Err(Refusal::Why(Why::BadNumber));
@@ -129,11 +117,7 @@ fn tree_row_of(script: &mut Script, kind: TreeKind, name: &[u8], node: &[u8]) ->
         return Err(Refusal::Why(Why::BadName));
     };
     script.add_tree(name, kind, NodeNo(node as u8))?;
-    if is_built(kind) {
-        Ok(())
-    } else {
-        Err(Refusal::Why(Why::NotBuilt))
-    }
+    Ok(())
 }
 
 fn sub_row_of(script: &mut Script, parent: &[u8], node: &[u8]) -> Result<(), Refusal>

@@ -20,8 +20,8 @@ use tx_trees::{Deed, Form, ItemRow, Script, ScriptRow, Sub, SubOp, Tree, TreeKin
 
 /// The text of a script: the row of the second form, if it is of that, the `nodes` row, all items, all rows with their
 /// trees, and then all picks, each as a line. Running out of memory is the only error. A text of at most 8,388,608
-/// bytes is an equal script, where rows of every form are read. `read_script` reads it so too, if the script has
-/// nothing that isn't built: no strict tree, and no row that makes the coordinator forget.
+/// bytes is an equal script, where rows of every form are read. `read_script` reads it so too, if the script has no row
+/// that makes the coordinator forget, which is the one form that isn't built.
 pub fn write_script(alloc: Global, script: &Script) -> Result<Text, NoMemory>
     ensures text { IfOk result (λ text. text ≡ written script.now) }
     ensures every { IfOk result (λ text. length text ≤ MOST_BYTES → IsReadAs (read_every text) script.now) }

@@ -1,5 +1,5 @@
 use commute_ops::{Amount, Kind, Op};
-use script_reader::write_script;
+use script_reader::{read_script, write_script};
 use std::alloc::Global;
 use std::test::Fail;
 use tv_base::{ItemNo, Name, NodeNo, SubNo, TreeNo};
@@ -152,12 +152,13 @@ fn every_form(alloc: Global) -> Result<Script, Refusal> {
 }
 
 #[test]
-fn every_form_is_written(rt: HostRuntime) -> Result<(), Fail> {
+fn every_form_is_written_and_read(rt: HostRuntime) -> Result<(), Fail> {
     let script = every_form(rt.alloc())?;
     let text = write_script(rt.alloc(), &script).map_err(|_| "no memory")?;
     let wanted: &[u8] = b"nodes,2\nitem,a,0,sum,5\nitem,b,1,top,-3\nitem,c,0,bag,0\n\
         update,t,0\nadd,a,-2\nput,c,9\nsub,0,1\ntop,b,7\nsettle\nread,r,0\nget,a\n\
         strict,k,0\ndraw,a,1\nsub,0,1\nset,b,8\nadvance\npick,4294967295\npick,0\n";
     assert_eq!(rt; text.bytes(), wanted);
+    assert_eq!(rt; read_script(rt.alloc(), wanted)? == script, true);
     Ok(())
 }

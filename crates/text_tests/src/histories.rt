@@ -7,22 +7,11 @@ use letter_types::{
 use script_reader::read_script;
 use std::alloc::Global;
 use std::test::Fail;
-use tv_base::{ActorNo, ItemNo, Name, NoMemory, NodeNo, SubNo, Text, TreeNo, Version};
-use tx_trees::{Deed, Script, TreeKind};
+use tv_base::{ActorNo, ItemNo, NoMemory, SubNo, Text, TreeNo, Version};
 
-/// Two items and an update tree.
-const ONE_TREE: &[u8] =
-    b"nodes,2\nitem,a,0,sum,10\nitem,b,1,sum,0\nupdate,t,0\nadd,a,5\nsub,0,1\nadd,b,7\n";
-
-/// The same and a strict tree, which no text is read as.
-fn two_trees(alloc: Global) -> Result<Script, Fail> {
-    let mut script = read_script(alloc, ONE_TREE)?;
-    let strict = Name::new(b"k").ok_or("a name")?;
-    script.add_tree(strict, TreeKind::Strict, NodeNo(0))?;
-    let item = Name::new(b"a").ok_or("a name")?;
-    script.add_op(&item, Deed::Get)?;
-    Ok(script)
-}
+/// Two items, an update tree and a strict one.
+const TWO_TREES: &[u8] = b"nodes,2\nitem,a,0,sum,10\nitem,b,1,sum,0\n\
+    update,t,0\nadd,a,5\nsub,0,1\nadd,b,7\nstrict,k,0\nget,a\n";
 
 fn send(letters: &mut Letters, to: u8, body: Body) -> Result<(), NoMemory> {
     let to = ActorNo(to);
@@ -160,7 +149,7 @@ fn send_epochs(letters: &mut Letters) -> Result<(), NoMemory> {
 
 /// The lines of one entry.
 fn printed(alloc: Global, sent: Letters, acts: Acts) -> Result<Text, Fail> {
-    let script = two_trees(alloc)?;
+    let script = read_script(alloc, TWO_TREES)?;
     let mut history = History::new(alloc);
     enter(&mut history, sent, acts)?;
     let text = history_lines(alloc, &script, &history)?;

@@ -1,6 +1,5 @@
 -- A refusal of a row, as the end of reading. These are the definitions that private code alone cites.
 use Rattle.std.specs.Prelude.{ℕ}
-use Rattle.tx_trees.specs.declared.why.Why.{Why}
 use Rattle.tx_trees.specs.declared.why.Refusal.{Refusal}
 use Rattle.tx_trees.specs.declared.why.Refusal.TheVariants as refusals
 use Rattle.script_reader.specs.declared.reading.ScriptRefusal.{ScriptRefusal}
