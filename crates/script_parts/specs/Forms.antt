@@ -13,7 +13,3 @@ most_nodes forms.Two = 64
 abbrev pub most_amount : Form → ℕ
 most_amount forms.One = 1000000000000000
 most_amount forms.Two = MOST_AMOUNT
-
-abbrev pub is_second : Form → Bool
-is_second forms.One = false
-is_second forms.Two = true

@@ -1,6 +1,5 @@
 pub mod Adding
 pub mod Amounts
-pub mod Built
 pub mod Counts
 pub mod Deeds
 pub mod Forms

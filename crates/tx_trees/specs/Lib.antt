@@ -2,7 +2,6 @@ pub mod Inside
 pub use Rattle.script_parts.specs.Adding
 pub use Rattle.script_parts.specs.Amounts
 pub use Rattle.script_parts.specs.inside.AsciiNames
-pub use Rattle.script_parts.specs.Built
 pub use Rattle.script_parts.specs.Counts
 pub use Rattle.script_parts.specs.Forms
 pub use Rattle.script_parts.specs.Loads
