@@ -1,5 +1,5 @@
 -- What a script's form allows.
-use Rattle.std.specs.Prelude.{ℕ, Bool, true, false}
+use Rattle.std.specs.Prelude.{ℕ}
 use Rattle.commute_ops.specs.declared.kinds.TheConstants.{MOST_AMOUNT}
 use Rattle.script_parts.specs.declared.parts.Form.{Form}
 use Rattle.script_parts.specs.declared.parts.Form.TheVariants as forms
