@@ -1,6 +1,6 @@
 -- The votes and decisions that are kept of each tree are those of the history, and say the same of votes and decisions.
 use Rattle.std.proofs.Common.{◌≡◌, ℕ, zero, suc, ◌+◌, ◌<◌, Bool, true, false, List, [], ◌∷◌, ◌++◌, length, refl, ap, sym, ◌∙◌, append_assoc, arith}
-use Rattle.std.specs.Prelude.{◌==◌, ◌&&◌, cond, filter, map, Option, Some, None}
+use Rattle.std.specs.Prelude.{◌==◌, ◌&&◌, cond, filter, Option, Some, None}
 use Rattle.std.specs.Option.{option_or}
 use Rattle.std.proofs.lemmas.Bool.Decides.{nat_tests}
 use Rattle.std.proofs.lemmas.List.{append-nil}
@@ -10,7 +10,7 @@ use Rattle.letter_types.specs.declared.entries.Entry.{Entry}
 use Rattle.letter_types.specs.declared.votes.Vote.{Vote}
 use Rattle.tx_trees.specs.ScriptData.{ScriptData}
 use Rattle.tx_trees.specs.declared.parts.Tree.{Tree}
-use Rattle.board_rules.specs.Histories.{Place, places_at, places_of}
+use Rattle.board_rules.specs.Histories.{Place, places_of}
 use Rattle.board_model.specs.Ballots.{acts_in, ballots_from, ballots_of, decision_by, decision_in, tells_of, vote_by, vote_in}
 use Rattle.board_model.specs.inside.Ballots.{ballots_after, ballots_over, ballots_with_act, no_ballots, with_act}
 use Rattle.board_model.specs.inside.SerialList.{placed}

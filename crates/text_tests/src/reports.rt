@@ -53,13 +53,7 @@ fn voted(alloc: Global, acts: &mut Acts, tree: u32, sub: u32, vote: Vote) -> Res
     act(acts, Act::Voted { tree, sub, vote })
 }
 
-fn yes(
-    alloc: Global,
-    acts: &mut Acts,
-    sub: u32,
-    item: u32,
-    value: Amount,
-) -> Result<(), NoMemory> {
+fn yes(alloc: Global, acts: &mut Acts, sub: u32, item: u32, value: Amount) -> Result<(), NoMemory> {
     let mut values = Values::new(alloc);
     values.push((ItemNo(item), Value::Sum(SumValue(value))))?;
     voted(alloc, acts, 0, sub, Vote::Yes(values))

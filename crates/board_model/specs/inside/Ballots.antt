@@ -1,6 +1,6 @@
 -- What is kept of the votes of trees while a history is gone over. These are the definitions that private code alone
 -- cites.
-use Rattle.std.specs.Prelude.{ℕ, List, [], ◌∷◌, ◌++◌}
+use Rattle.std.specs.Prelude.{List, [], ◌∷◌, ◌++◌}
 use Rattle.letter_types.specs.declared.acts.Act.{Act}
 use Rattle.letter_types.specs.declared.acts.Act.TheVariants.{Voted, Decided, Finished}
 use Rattle.letter_types.specs.declared.entries.Entry.{Entry}
