@@ -19,9 +19,10 @@ use tx_trees::Script;
 /// version that reads are shown, and at the next one if it is written there.
 ///
 /// One pass over the history gives the trees' versions, their wholeness and the serial order, and a second one the votes
-/// of each tree and what was decided of it. One pass over the serial order carries the values of all items, version after version; what a read tree shows, and what the lines of items
-/// show, is taken when the version is reached. So the work grows with the history, with the script and with the text,
-/// and with the sorting of the trees by version. Running out of memory is the only error.
+/// of each tree and what was decided of it. One pass over the serial order carries the values of all items, version
+/// after version; what a read tree shows, and what the lines of items show, is taken when the version is reached. So the
+/// work grows with the history, with the script and with the text, and with the sorting of the trees by version. Running
+/// out of memory is the only error.
 pub fn report(alloc: Global, script: &Script, history: &History) -> Result<Text, NoMemory>
     ensures { IfOk result (λ text. text ≡ report_of script.now history.now) }
 {
