@@ -1,6 +1,7 @@
 pub mod AllItems
 pub mod Bounds
 pub mod Rows
+pub mod Voting
 pub mod Walk
 pub mod Back
 pub mod ByVersion

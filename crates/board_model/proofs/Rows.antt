@@ -1,18 +1,17 @@
 -- Changes of one row.
 use Rattle.std.proofs.Common.{◌≡◌, ℕ, zero, suc, ◌<◌, ◌≤◌, Bool, false, List, [], ◌∷◌, length, refl, ap, slice_set, get_or, arith}
 use Rattle.std.proofs.lemmas.Bool.Decides.{nat_tests}
-use Rattle.board_model.specs.declared.tallies.Tally.{Tally}
 use Rattle.board_model.specs.inside.Tallies.{all_marked, on_row}
 
-pub on_row_there : (t : ℕ) (f : Tally → Tally) (rows : List Tally) (d : Tally) → t < length rows → slice_set rows t (f (get_or rows t d)) ≡ on_row t f rows
-on_row_there t f [] d small = absurd (omega arith)
-on_row_there zero f (row ∷ rows) d small = refl
-on_row_there (suc t) f (row ∷ rows) d small = ap (λ (xs : List Tally). row ∷ xs) (on_row_there t f rows d (omega arith))
+pub on_row_there : {A : Type 0} (t : ℕ) (f : A → A) (rows : List A) (d : A) → t < length rows → slice_set rows t (f (get_or rows t d)) ≡ on_row t f rows
+on_row_there {A} t f [] d small = absurd (omega arith)
+on_row_there {A} zero f (row ∷ rows) d small = refl
+on_row_there {A} (suc t) f (row ∷ rows) d small = ap (λ (xs : List A). row ∷ xs) (on_row_there t f rows d (omega arith))
 
-pub on_row_past : (t : ℕ) (f : Tally → Tally) (rows : List Tally) → length rows ≤ t → on_row t f rows ≡ rows
-on_row_past t f [] small = refl
-on_row_past zero f (row ∷ rows) small = absurd (omega arith)
-on_row_past (suc t) f (row ∷ rows) small = ap (λ (xs : List Tally). row ∷ xs) (on_row_past t f rows (omega arith))
+pub on_row_past : {A : Type 0} (t : ℕ) (f : A → A) (rows : List A) → length rows ≤ t → on_row t f rows ≡ rows
+on_row_past {A} t f [] small = refl
+on_row_past {A} zero f (row ∷ rows) small = absurd (omega arith)
+on_row_past {A} (suc t) f (row ∷ rows) small = ap (λ (xs : List A). row ∷ xs) (on_row_past t f rows (omega arith))
 
 -- a row beyond the end isn't set
 pub set_beyond : (xs : List Bool) (k : ℕ) (b : Bool) → length xs ≤ k → slice_set xs k b ≡ xs

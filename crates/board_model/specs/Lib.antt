@@ -1,3 +1,4 @@
+pub mod Ballots
 pub mod Standings
 pub mod Balances
 pub mod SerialList

@@ -1,4 +1,5 @@
 pub mod Balances
+pub mod Ballots
 pub mod Closed
 pub mod May
 pub mod SerialList

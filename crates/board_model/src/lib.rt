@@ -2,6 +2,7 @@
 #![tactic(auto)]
 
 mod balances;
+mod ballots;
 mod carried;
 mod closed_trees;
 mod serial;
@@ -9,6 +10,7 @@ mod standings;
 mod tallies;
 
 pub use balances::{Balances, Marks, written_at};
+pub use ballots::{Ballot, Ballots, ballots_of};
 pub use carried::{Carried, carry, start};
 pub use serial::{Member, Members, Outcomes, by_version, outcomes_of};
 pub use standings::{Standing, Standings};

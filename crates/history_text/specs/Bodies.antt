@@ -5,8 +5,9 @@ use Rattle.letter_types.specs.declared.bodies.Body.TheVariants.{Go, Root, Sub, D
 use Rattle.letter_types.specs.declared.bodies.What.{What}
 use Rattle.letter_types.specs.declared.bodies.What.TheVariants as whats
 use Rattle.tx_trees.specs.ScriptData.{ScriptData}
-use Rattle.report_text.specs.Lines.{count_text}
-use Rattle.history_text.specs.Names.{answer_text, commit_word, notice_text, sub_word, word_and_tree}
+use Rattle.report_text.specs.Parts.{count_text}
+use Rattle.report_text.specs.Names.{word_and_tree}
+use Rattle.history_text.specs.Names.{answer_text, commit_word, notice_text, sub_word}
 
 -- a version after its word
 abbrev pub at_version : ℕ → List ℕ

@@ -1,11 +1,10 @@
-// Actors, trees and items by name. What the script doesn't have is printed by its number.
+// Actors by name, and subtransactions by the names of their trees.
 ghost use Rattle.std.specs.Prelude.{◌≡◌, ◌++◌, OnOk};
 ghost use Rattle.std.specs.Str.{IsAscii};
-ghost use Rattle.history_text.specs.Names.{actor_text, item_text, item_word, sub_word, tree_text, word_and_tree};
+ghost use Rattle.history_text.specs.Names.{actor_text, sub_word};
 
-use commute_ops::push_number;
-use report_text::push_count;
-use tv_base::{ActorNo, ItemNo, NoMemory, SubNo, Text, TreeNo};
+use report_text::{push_count, push_tree_word};
+use tv_base::{ActorNo, NoMemory, SubNo, Text, TreeNo};
 use tx_trees::Script;
 
 // An actor: the nodes come first, then the coordinator, then the client.
@@ -22,42 +21,6 @@ pub(crate) fn push_actor(text: &mut Text, script: &Script, actor: ActorNo) -> Re
     push_count(text, b"n", actor.0 as u64)
 }
 
-// A tree.
-#[tactic(auto, using(crate::proofs::Plain::tree_ascii))]
-fn push_tree(text: &mut Text, script: &Script, tree: TreeNo) -> Result<(), NoMemory>
-    ensures { OnOk result (text.new ≡ text.old ++ tree_text script.now tree.0) }
-{
-    match script.trees().get(tree.0 as usize) {
-        Some(row) => text.push_all(row.name.bytes()),
-        None => push_number(text, tree.0 as u64),
-    }
-}
-
-// An item.
-#[tactic(auto, using(crate::proofs::Plain::item_ascii))]
-pub(crate) fn push_item(text: &mut Text, script: &Script, item: ItemNo) -> Result<(), NoMemory>
-    ensures { OnOk result (text.new ≡ text.old ++ item_text script.now item.0) }
-{
-    match script.items().get(item.0 as usize) {
-        Some(row) => text.push_all(row.name.bytes()),
-        None => push_number(text, item.0 as u64),
-    }
-}
-
-// A word and a tree.
-pub(crate) fn push_tree_word(
-    text: &mut Text,
-    script: &Script,
-    word: &[u8],
-    tree: TreeNo,
-) -> Result<(), NoMemory>
-    requires { IsAscii word.now }
-    ensures { OnOk result (text.new ≡ text.old ++ word_and_tree script.now word.now tree.0) }
-{
-    text.push_all(word)?;
-    push_tree(text, script, tree)
-}
-
 // A word, a tree and a subtransaction.
 pub(crate) fn push_sub_word(
     text: &mut Text,
@@ -71,18 +34,4 @@ pub(crate) fn push_sub_word(
 {
     push_tree_word(text, script, word, tree)?;
     push_count(text, b" ", sub.0 as u64)
-}
-
-// A word and an item.
-pub(crate) fn push_item_word(
-    text: &mut Text,
-    script: &Script,
-    word: &[u8],
-    item: ItemNo,
-) -> Result<(), NoMemory>
-    requires { IsAscii word.now }
-    ensures { OnOk result (text.new ≡ text.old ++ item_word script.now word.now item.0) }
-{
-    text.push_all(word)?;
-    push_item(text, script, item)
 }

@@ -1,63 +1,14 @@
 // What votes, notices and answers say.
 ghost use Rattle.std.specs.Prelude.{◌≡◌, ◌++◌, OnOk, slice_get};
 ghost use Rattle.std.specs.Str.{IsAscii};
-ghost use Rattle.report_text.specs.Report.{get_text};
-ghost use Rattle.history_text.specs.Names.{answer_text, cause_text, cause_word, commit_word, got_text, item_text, notice_text, vote_text, whole_word, yes_text};
+ghost use Rattle.report_text.specs.Names.{cause_text, got_text};
+ghost use Rattle.history_text.specs.Names.{answer_text, cause_word, commit_word, notice_text, vote_text, whole_word, yes_text};
 
-use crate::naming::{push_item, push_item_word, push_tree_word};
-use commute_ops::{Value, Values, push_amount};
+use commute_ops::Values;
 use letter_types::{Answer, Cause, Notice, Vote};
-use report_text::{push_count, push_value};
-use tv_base::{ItemNo, NoMemory, Text, TreeNo};
+use report_text::{push_cause, push_got};
+use tv_base::{NoMemory, Text, TreeNo};
 use tx_trees::{Script, TreeKind};
-
-// The values of gets, each after the name of its item.
-pub(crate) fn push_got(text: &mut Text, script: &Script, got: &Values) -> Result<(), NoMemory>
-    ensures { OnOk result (text.new ≡ text.old ++ got_text script.now got.now) }
-{
-    push_values(text, script, got.items())
-}
-
-// The same of a slice.
-fn push_values(text: &mut Text, script: &Script, got: &[(ItemNo, Value)]) -> Result<(), NoMemory>
-    ensures { OnOk result (text.new ≡ text.old ++ got_text script.now got.now) }
-{
-    for one in got {
-        push_get(text, script, one.0, &one.1)?;
-    }
-    Ok(())
-}
-
-// A value after the name of its item.
-fn push_get(text: &mut Text, script: &Script, item: ItemNo, value: &Value) -> Result<(), NoMemory>
-    ensures { OnOk result (text.new ≡ text.old ++ get_text (item_text script.now item.0) value.now) }
-{
-    text.push_all(b" ")?;
-    push_item(text, script, item)?;
-    text.push_all(b"=")?;
-    push_value(text, value)
-}
-
-// A cause of a no.
-fn push_cause(text: &mut Text, script: &Script, cause: &Cause) -> Result<(), NoMemory>
-    ensures { OnOk result (text.new ≡ text.old ++ cause_text script.now cause.now) }
-{
-    match cause {
-        Cause::Conflict { item, holder } => {
-            push_item_word(text, script, b"conflict ", *item)?;
-            push_tree_word(text, script, b" ", *holder)
-        }
-        Cause::Newer { item, version } => {
-            push_item_word(text, script, b"newer ", *item)?;
-            push_count(text, b" ", version.0)
-        }
-        Cause::Short { item, found } => {
-            push_item_word(text, script, b"short ", *item)?;
-            text.push_all(b" ")?;
-            push_amount(text, *found)
-        }
-    }
-}
 
 // A word and a cause.
 fn push_cause_word(

@@ -1,9 +1,10 @@
 -- The lines of the trees by their standings are those of the report.
 use Rattle.std.proofs.Common.{◌≡◌, ℕ, zero, suc, ◌+◌, true, false, List, [], ◌∷◌, ◌++◌, refl, ap, sym, ◌∙◌, append_assoc, arith}
-use Rattle.std.specs.Prelude.{length, Option, Some, None, slice_get}
+use Rattle.std.specs.Prelude.{filter, length, Option, Some, None, slice_get}
 use Rattle.std.specs.List.{AllByRecursion}
 use Rattle.tv_base.specs.declared.numbers.Version.{Version}
 use Rattle.commute_ops.specs.declared.value.Value.{Value}
+use Rattle.letter_types.specs.declared.acts.Act.{Act}
 use Rattle.letter_types.specs.declared.entries.Entry.{Entry}
 use Rattle.tx_trees.specs.ScriptData.{ScriptData, is_read}
 use Rattle.tx_trees.specs.Valid.{AreSubs, IsOp, OpAt}
@@ -14,14 +15,18 @@ use Rattle.tx_trees.specs.declared.parts.Tree.{Tree}
 use Rattle.tx_trees.specs.declared.parts.TreeKind.{TreeKind}
 use Rattle.tx_trees.specs.declared.parts.TreeKind.TheVariants.{Update, Read, Strict}
 use Rattle.board_model.specs.Balances.{by_number, worths}
-use Rattle.board_rules.specs.Histories.{version_of}
+use Rattle.board_model.specs.Ballots.{acts_in, ballots_from, ballots_of, tells_of}
+use Rattle.board_rules.specs.Histories.{places_of, version_of}
 use Rattle.board_rules.specs.Right.{shown}
 use Rattle.board_model.specs.Standings.{standings_from, standings_of}
 use Rattle.board_rules.specs.Worth.{worth}
 use Rattle.board_model.proofs.AllItems.{length-standings_from}
 use Rattle.report_text.specs.inside.Lines.{born_line, found_text, ops_texts, subs_texts, trees_lines}
 use Rattle.report_text.specs.inside.Served.{AreRead}
-use Rattle.report_text.specs.Report.{get_text, gets_of, gets_text, item_name, read_line, tree_line, trees_text, values_text}
+use Rattle.report_text.specs.Outcomes.{outcome_of, strict_line}
+use Rattle.report_text.proofs.OutcomeLines.{outcome_kept}
+use Rattle.report_text.specs.Parts.{get_text}
+use Rattle.report_text.specs.Report.{gets_of, gets_text, item_name, read_line, tree_line, trees_text, values_text}
 
 -- the value of an item that is there, by number
 by_number_get : {A : Type 0} (f : ℕ → A) (k : ℕ) (rows : List ItemRow) (x : ℕ) (row : ItemRow)
@@ -80,25 +85,29 @@ ReadFrom s h t ts texts =
     (i : ℕ) (tree : Tree) (v : Version) → slice_get ts i ≡ Some tree → is_read tree.kind ≡ true → version_of h (t + i) ≡ Some v
     → slice_get texts i ≡ Some (gets_text s h v.0 tree.subs)
 
-line_is : (s : ScriptData) (h : List Entry) (tree : Tree) (kind : TreeKind) (born : Option Version) (text : List ℕ)
+line_is : (s : ScriptData) (h : List Entry) (tree : Tree) (t : ℕ) (kind : TreeKind) (born : Option Version) (text outcome : List ℕ)
     → ((v : Version) → is_read kind ≡ true → born ≡ Some v → text ≡ gets_text s h v.0 tree.subs)
-    → born_line tree kind born text ≡ tree_line s h tree kind born
-line_is s h tree Update None text is = refl
-line_is s h tree Update (Some v) text is = refl
-line_is s h tree Read None text is = refl
-line_is s h tree Read (Some v) text is = ap (λ (z : List ℕ). read_line tree.name v.0 z) (is v refl refl)
-line_is s h tree Strict None text is = refl
-line_is s h tree Strict (Some v) text is = refl
+    → outcome ≡ outcome_of s (acts_in (places_of h)) t tree.subs
+    → born_line tree kind born text outcome ≡ tree_line s h tree t kind born
+line_is s h tree t Update None text outcome is came = refl
+line_is s h tree t Update (Some v) text outcome is came = refl
+line_is s h tree t Read None text outcome is came = refl
+line_is s h tree t Read (Some v) text outcome is came = ap (λ (z : List ℕ). read_line tree.name v.0 z) (is v refl refl)
+line_is s h tree t Strict None text outcome is came = refl
+line_is s h tree t Strict (Some v) text outcome is came = ap (λ (z : List ℕ). strict_line tree.name v.0 z) came
 
 lines_from : (s : ScriptData) (h : List Entry) (t : ℕ) (ts : List Tree) (texts : List (List ℕ))
-    → length texts ≡ length ts → ReadFrom s h t ts texts → trees_lines ts (standings_from s h t ts) texts ≡ trees_text s h t ts
+    → length texts ≡ length ts → ReadFrom s h t ts texts
+    → trees_lines s t ts (standings_from s h t ts) texts (ballots_from (acts_in (places_of h)) t ts) ≡ trees_text s h t ts
 lines_from s h t [] texts len is = refl
 lines_from s h t (tree ∷ ts) [] len is = absurd (omega arith)
 lines_from s h t (tree ∷ ts) (text ∷ texts) len is =
-    ap (λ (z : List ℕ). z ++ trees_lines ts (standings_from s h (t + 1) ts) texts)
-    (line_is s h tree tree.kind (version_of h t) text
-    (λ (v : Version) kind born. head_is (is 0 tree v refl kind (ap (λ (k : ℕ). version_of h k) (at_zero t) ∙ born))))
-    ∙ ap (λ (z : List ℕ). tree_line s h tree tree.kind (version_of h t) ++ z)
+    let acts : List Act = acts_in (places_of h) in
+    ap (λ (z : List ℕ). z ++ trees_lines s (t + 1) ts (standings_from s h (t + 1) ts) texts (ballots_from acts (t + 1) ts))
+    (line_is s h tree t tree.kind (version_of h t) text (outcome_of s (filter (tells_of t) acts) t tree.subs)
+    (λ (v : Version) kind born. head_is (is 0 tree v refl kind (ap (λ (k : ℕ). version_of h k) (at_zero t) ∙ born)))
+    (outcome_kept s acts t tree.subs))
+    ∙ ap (λ (z : List ℕ). tree_line s h tree t tree.kind (version_of h t) ++ z)
     (lines_from s h (t + 1) ts texts (omega arith)
     (λ (i : ℕ) (one : Tree) (v : Version) there kind born. is (suc i) one v there kind (ap (λ (k : ℕ). version_of h k) (at_next t i) ∙ born))) where
       at_zero : (t : ℕ) → t + 0 ≡ t
@@ -118,7 +127,7 @@ subs_here : (o : Option Tree) (tree : Tree) → o ≡ Some tree → (elim o as (
 subs_here o tree e = ap (λ (z : Option Tree). elim z as (λ (y : Option Tree). List Sub) [ Some one ↦ one.subs | None ↦ [] ]) e
 
 pub lines_all : (s : ScriptData) (h : List Entry) (texts : List (List ℕ)) → AreRead s h texts
-    → trees_lines s.trees (standings_of s h) texts ≡ trees_text s h 0 s.trees
+    → trees_lines s 0 s.trees (standings_of s h) texts (ballots_of s h) ≡ trees_text s h 0 s.trees
 lines_all s h texts read =
     lines_from s h 0 s.trees texts read.count
     (λ (i : ℕ) (tree : Tree) (v : Version) there kind born.

@@ -1,3 +1,6 @@
+pub mod Parts
+pub mod Names
+pub mod Outcomes
 pub mod Report
 pub mod Lines
 pub mod Summary

@@ -1,13 +1,10 @@
 -- Parts of the report over the standings of the trees and the values of the items, and the line of a script that was
 -- read. Only the code of the report cites them, but for `check_line_of`.
-use Rattle.std.specs.Prelude.{ℕ, ◌+◌, List, ◌++◌, length, codes, decimal}
+use Rattle.std.specs.Prelude.{List, ℕ, ◌++◌, length, codes}
 use Rattle.tx_trees.specs.Adding.{all_subs}
 use Rattle.tx_trees.specs.ScriptData.{ScriptData}
+use Rattle.report_text.specs.Parts.{count_text}
 use Rattle.report_text.specs.Report.{advances}
-
--- a word and a number
-abbrev pub count_text : List ℕ → ℕ → List ℕ
-count_text word n = word ++ decimal n
 
 -- how many nodes, items, trees, subtransactions and advancements a script has; roots are subtransactions too
 abbrev pub check_line_of : ScriptData → List ℕ

@@ -1,10 +1,8 @@
 -- The text of the report: a function of the script and the history.
-use Rattle.std.specs.Prelude.{if◌then◌else◌, ℕ, zero, suc, ◌+◌, ℤ, List, [], ◌∷◌, ◌++◌, codes, decimal, Option, Some, None, slice_get}
-use Rattle.std.specs.Fmt.{signed_decimal}
+use Rattle.std.specs.Prelude.{if◌then◌else◌, ℕ, zero, suc, ◌+◌, List, [], ◌∷◌, ◌++◌, codes, decimal, Option, Some, None, slice_get}
 use Rattle.tv_base.specs.declared.numbers.ItemNo.{ItemNo}
 use Rattle.tv_base.specs.declared.numbers.Version.{Version}
 use Rattle.commute_ops.specs.declared.value.Value.{Value}
-use Rattle.commute_ops.specs.declared.value.Value.TheVariants.{Sum, Top, Bag}
 use Rattle.letter_types.specs.declared.entries.Entry.{Entry}
 use Rattle.tx_trees.specs.Adding.{advances_in}
 use Rattle.tx_trees.specs.ScriptData.{ScriptData}
@@ -13,26 +11,14 @@ use Rattle.tx_trees.specs.declared.parts.Sub.{Sub}
 use Rattle.tx_trees.specs.declared.parts.SubOp.{SubOp}
 use Rattle.tx_trees.specs.declared.parts.Tree.{Tree}
 use Rattle.tx_trees.specs.declared.parts.TreeKind.{TreeKind}
-use Rattle.tx_trees.specs.declared.parts.TreeKind.TheVariants.{Update, Read}
+use Rattle.tx_trees.specs.declared.parts.TreeKind.TheVariants.{Update, Read, Strict}
 use Rattle.tx_trees.specs.declared.parts.Written.{Written}
-use Rattle.board_rules.specs.Histories.{version_of}
+use Rattle.board_model.specs.Ballots.{acts_in}
+use Rattle.board_rules.specs.Histories.{places_of, version_of}
 use Rattle.board_rules.specs.Right.{shown}
 use Rattle.board_rules.specs.Worth.{worth, is_written}
-
--- numbers in order, each after a comma
-abbrev pub more_numbers : List ℤ → List ℕ
-more_numbers [] = []
-more_numbers (n ∷ ns) = codes "," ++ (signed_decimal n ++ more_numbers ns)
-
-abbrev pub bag_text : List ℤ → List ℕ
-bag_text [] = codes "{}"
-bag_text (n ∷ ns) = codes "{" ++ (signed_decimal n ++ (more_numbers ns ++ codes "}"))
-
--- a number in decimal, or a bag's numbers between braces
-abbrev pub value_text : Value → List ℕ
-value_text (Sum s) = signed_decimal s.0
-value_text (Top t) = signed_decimal t.0
-value_text (Bag ns) = bag_text ns
+use Rattle.report_text.specs.Outcomes.{outcome_of, strict_line}
+use Rattle.report_text.specs.Parts.{get_text, value_text, version_text}
 
 -- how many advancements a script asks for
 abbrev pub advances : ScriptData → ℕ
@@ -41,10 +27,6 @@ advances s = advances_in s.rows
 -- the name of item x, which is empty where it isn't there
 abbrev pub item_name : List ItemRow → ℕ → List ℕ
 item_name rows x = elim (slice_get rows x) [ Some row ↦ row.name | None ↦ [] ]
-
--- a value after the name of its item
-abbrev pub get_text : List ℕ → Value → List ℕ
-get_text name w = codes " " ++ (name ++ (codes "=" ++ value_text w))
 
 -- the values of these items, in order
 abbrev pub values_text : List ItemRow → List (ItemNo × Value) → List ℕ
@@ -55,10 +37,6 @@ values_text rows (got ∷ more) = get_text (item_name rows got.0.0) got.1 ++ val
 abbrev pub gets_of : List Sub → List SubOp
 gets_of [] = []
 gets_of (k ∷ ks) = k.ops ++ gets_of ks
-
--- a word, a name and its version
-abbrev pub version_text : List ℕ → List ℕ → ℕ → List ℕ
-version_text word name v = word ++ (name ++ (codes " version " ++ decimal v))
 
 -- the mark of a tree that is undone
 abbrev pub undone_mark : Option Written → List ℕ
@@ -77,16 +55,17 @@ read_line name v values = version_text (codes "read ") name v ++ (values ++ code
 abbrev pub gets_text : ScriptData → List Entry → ℕ → List Sub → List ℕ
 gets_text s h v ks = values_text s.items (shown s h v (gets_of ks))
 
--- the line of an update or read tree that is born; no other tree has one
-abbrev pub tree_line : ScriptData → List Entry → Tree → TreeKind → Option Version → List ℕ
-tree_line s h tree Update (Some v) = update_line tree.name v.0 tree.written
-tree_line s h tree Read (Some v) = read_line tree.name v.0 (gets_text s h v.0 tree.subs)
-tree_line s h tree _ _ = []
+-- the line of tree t, which has one where it is born
+abbrev pub tree_line : ScriptData → List Entry → Tree → ℕ → TreeKind → Option Version → List ℕ
+tree_line s h tree t Update (Some v) = update_line tree.name v.0 tree.written
+tree_line s h tree t Read (Some v) = read_line tree.name v.0 (gets_text s h v.0 tree.subs)
+tree_line s h tree t Strict (Some v) = strict_line tree.name v.0 (outcome_of s (acts_in (places_of h)) t tree.subs)
+tree_line s h tree t _ _ = []
 
 -- where the list begins with tree t
 abbrev pub trees_text : ScriptData → List Entry → ℕ → List Tree → List ℕ
 trees_text s h t [] = []
-trees_text s h t (tree ∷ ts) = tree_line s h tree tree.kind (version_of h t) ++ trees_text s h (t + 1) ts
+trees_text s h t (tree ∷ ts) = tree_line s h tree t tree.kind (version_of h t) ++ trees_text s h (t + 1) ts
 
 abbrev pub node_line : ℕ → ℕ → List ℕ
 node_line a p =

@@ -1,8 +1,8 @@
 // Parts of lines.
 ghost use Rattle.std.specs.Prelude.{◌≡◌, ◌++◌, OnOk};
 ghost use Rattle.std.specs.Str.{IsAscii};
-ghost use Rattle.report_text.specs.Lines.{count_text};
-ghost use Rattle.report_text.specs.Report.{version_text};
+ghost use Rattle.report_text.specs.Parts.{count_text};
+ghost use Rattle.report_text.specs.Parts.{version_text};
 
 use commute_ops::push_number;
 use tv_base::{Name, NoMemory, Text, Version};

@@ -4,7 +4,7 @@ ghost use Rattle.std.specs.Str.{IsAscii};
 ghost use Rattle.board_model.specs.inside.Balances.{subs_in};
 ghost use Rattle.report_text.specs.inside.Lines.{found_text, ops_texts, subs_texts};
 ghost use Rattle.tx_trees.specs.AsciiNames.{AreAsciiItems};
-ghost use Rattle.report_text.specs.Report.{get_text};
+ghost use Rattle.report_text.specs.Parts.{get_text};
 
 use crate::values::push_value;
 use commute_ops::Value;

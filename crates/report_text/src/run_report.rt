@@ -6,21 +6,23 @@ use crate::items::push_rows;
 use crate::run::Run;
 use crate::served::shown_of;
 use crate::trees::{push_nodes, push_trees};
-use board_model::{outcomes_of, written_at};
+use board_model::{ballots_of, outcomes_of, written_at};
 use letter_types::History;
 use std::alloc::Global;
 use tv_base::{NoMemory, Text, Version};
 use tx_trees::Script;
 
-/// The report of a script's run: a line for each update or read tree that is born, with its version and, for a read
-/// tree, what each of its gets is worth at that version in the whole history; a line for each node, with the versions
-/// of updates and reads after the script's advancements; a line for each item, with what it is worth at the version
-/// that reads are shown, and at the next one if it is written there.
+/// The report of a script's run: a line for each tree that is born, with its version and, for a read tree, what each of
+/// its gets is worth at that version in the whole history, and for a strict tree whether it commits, with the values of
+/// its votes, or aborts, with the cause of the first subtransaction that voted no; a line for each node, with the
+/// versions of updates and reads after the script's advancements; a line for each item, with what it is worth at the
+/// version that reads are shown, and at the next one if it is written there.
 ///
-/// One pass over the history gives the trees' versions, their wholeness and the serial order. One pass over the serial
-/// order carries the values of all items, version after version; what a read tree shows, and what the lines of items
-/// show, is taken when the version is reached. So the work grows with the history, with the script and with the text,
-/// and with the sorting of the trees by version. Running out of memory is the only error.
+/// One pass over the history gives the trees' versions, their wholeness and the serial order, and a second one the votes
+/// of each tree and what was decided of it. One pass over the serial order carries the values of all items, version
+/// after version; what a read tree shows, and what the lines of items show, is taken when the version is reached. So the
+/// work grows with the history, with the script and with the text, and with the sorting of the trees by version. Running
+/// out of memory is the only error.
 pub fn report(alloc: Global, script: &Script, history: &History) -> Result<Text, NoMemory>
     ensures { IfOk result (λ text. text ≡ report_of script.now history.now) }
 {
@@ -42,8 +44,10 @@ pub fn report(alloc: Global, script: &Script, history: &History) -> Result<Text,
     let balances = shown.balances.items();
     let later = shown.later.items();
     let marks = written.items();
+    let ballots = ballots_of(alloc, script, history)?;
+    let votes = ballots.rows();
     let mut text = Text::new(alloc);
-    push_trees(&mut text, trees, standings, reads)?;
+    push_trees(&mut text, script, trees, standings, reads, votes)?;
     push_nodes(&mut text, advances, nodes)?;
     push_rows(&mut text, advances, rows, balances, later, marks)?;
     Ok(text)

@@ -1,47 +1,63 @@
 // The lines of trees and of nodes.
-ghost use Rattle.std.specs.Prelude.{◌≡◌, ◌++◌, ◌+◌, OnOk, length};
+ghost use Rattle.std.specs.Prelude.{◌≡◌, ◌++◌, ◌+◌, ◌<◌, ◌^◌, OnOk, length};
 ghost use Rattle.std.specs.Str.{IsAscii};
 ghost use Rattle.report_text.specs.inside.Lines.{born_line, trees_lines};
 ghost use Rattle.tx_trees.specs.AsciiNames.{AreAsciiTrees};
 ghost use Rattle.report_text.specs.Report.{node_line, nodes_text, read_line, undone_mark, update_line};
+ghost use Rattle.report_text.specs.Outcomes.{outcome_of};
 
+use crate::outcomes::{Voters, push_strict};
 use crate::parts::push_version;
-use board_model::Standing;
+use board_model::{Ballot, Standing};
 use commute_ops::push_number;
-use tv_base::{Name, NoMemory, Text, Version};
-use tx_trees::{Tree, TreeKind, Written};
+use tv_base::{Name, NoMemory, Text, TreeNo, Version};
+use tx_trees::{Script, Tree, TreeKind, Written};
 
-// The lines of the trees, which have these standings; the values of read trees come by tree number.
+// The lines of the trees, which have these standings; the values of read trees and the votes come by tree number.
 pub(crate) fn push_trees(
     text: &mut Text,
+    script: &Script,
     trees: &[Tree],
     standings: &[Standing],
     reads: &[Text],
+    ballots: &[Ballot],
 ) -> Result<(), NoMemory>
     requires names { AreAsciiTrees trees.now }
+    requires few { length trees.now < 2 ^ 32 }
     requires standings { length standings.now ≡ length trees.now }
     requires reads { length reads.now ≡ length trees.now }
-    ensures { OnOk result (text.new ≡ text.old ++ trees_lines trees.now standings.now reads.now) }
+    requires ballots { length ballots.now ≡ length trees.now }
+    ensures { OnOk result (text.new ≡ text.old
+        ++ trees_lines script.now 0 trees.now standings.now reads.now ballots.now) }
 {
     for (t, tree) in trees.iter().enumerate() {
-        push_tree(text, tree, standings[t].born, &reads[t])?;
+        let voters = Voters {
+            number: TreeNo(t as u32),
+            tree,
+            ballot: &ballots[t],
+        };
+        push_tree(text, script, voters, standings[t].born, &reads[t])?;
     }
     Ok(())
 }
 
-// The line of a tree: an update or read tree that is born has one.
+// The line of a tree, which has one if it is born.
 fn push_tree(
     text: &mut Text,
-    tree: &Tree,
+    script: &Script,
+    voters: Voters,
     born: Option<Version>,
     values: &Text,
 ) -> Result<(), NoMemory>
-    requires { IsAscii tree.now.name }
-    ensures { OnOk result (text.new ≡ text.old ++ born_line tree.now tree.now.kind born values.now) }
+    requires { IsAscii voters.tree.now.name }
+    ensures { OnOk result (text.new ≡ text.old ++ born_line voters.entry.tree.now voters.entry.tree.now.kind born values.now
+        (outcome_of script.now voters.entry.ballot.now voters.entry.number.0 voters.entry.tree.now.subs)) }
 {
+    let tree = voters.tree;
     match (tree.kind, born) {
         (TreeKind::Update, Some(version)) => push_update(text, tree, version),
         (TreeKind::Read, Some(version)) => push_read(text, &tree.name, version, values),
+        (TreeKind::Strict, Some(version)) => push_strict(text, script, voters, version),
         _ => Ok(()),
     }
 }

@@ -1,7 +1,8 @@
 // Values in a report.
 ghost use Rattle.std.specs.Prelude.{◌≡◌, ◌++◌, OnOk, ◌∷◌, codes, decimal};
 ghost use Rattle.std.specs.Fmt.{signed_decimal};
-ghost use Rattle.report_text.specs.Report.{bag_text, balance, more_numbers, value_text};
+ghost use Rattle.report_text.specs.Parts.{bag_text, more_numbers, value_text};
+ghost use Rattle.report_text.specs.Report.{balance};
 
 use commute_ops::{Amount, Value, push_amount, push_number};
 use tv_base::{NoMemory, Text, Version};

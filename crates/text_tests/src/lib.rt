@@ -1,5 +1,6 @@
-//! Tests of what is made of histories: the serial order and its balances, and lines of letters and acts that no run has
-//! yet. Reports, summaries and the lines of runs are shown by cases of the program.
+//! Tests of what is made of histories: the serial order and its balances, lines of letters and acts that no run has
+//! yet, and the report's lines of strict trees. Other reports, summaries and the lines of runs are shown by cases of the
+//! program.
 #![tactic(auto)]
 
 #[cfg(test)]
@@ -8,3 +9,5 @@ mod boards;
 mod entries;
 #[cfg(test)]
 mod histories;
+#[cfg(test)]
+mod reports;

@@ -44,7 +44,7 @@ with_news (news.Decided commit) = with_decided commit
 with_news (news.Applied p) = with_applied p.0
 
 -- the row of tree t changed, where it is there
-abbrev pub on_row : ℕ → (Tally → Tally) → List Tally → List Tally
+abbrev pub on_row : {A : Type 0} → ℕ → (A → A) → List A → List A
 on_row t f [] = []
 on_row zero f (row ∷ rows) = f row ∷ rows
 on_row (suc t) f (row ∷ rows) = row ∷ on_row t f rows

@@ -1,11 +1,14 @@
 use Rattle.std.proofs.Common.{◌≡◌, ℕ, ◌+◌, ◌++◌, Bool, List, length, ap, sym, ◌∙◌, subst}
 use Rattle.commute_ops.specs.declared.value.Value.{Value}
+use Rattle.letter_types.specs.declared.acts.Act.{Act}
 use Rattle.letter_types.specs.declared.entries.Entry.{Entry}
 use Rattle.tx_trees.specs.ScriptData.{ScriptData}
 use Rattle.tx_trees.specs.declared.parts.ItemRow.{ItemRow}
 use Rattle.tx_trees.specs.declared.parts.Tree.{Tree}
 use Rattle.board_model.specs.declared.standings.Standing.{Standing}
+use Rattle.board_model.specs.Ballots.{ballots_of}
 use Rattle.board_model.specs.Balances.{worths, written_items}
+use Rattle.board_model.proofs.Voting.{length-ballots_of}
 use Rattle.board_model.specs.Standings.{standings_of}
 use Rattle.report_text.specs.inside.Lines.{rows_lines, trees_lines}
 use Rattle.tx_trees.specs.AsciiNames.{AreAsciiItems, AreAsciiTrees}
@@ -25,6 +28,12 @@ pub push_trees-requires-clause-standings : goal.push_trees-requires-clause-stand
 push_trees-requires-clause-standings c =
     ap (λ (z : List Standing). length z) (c.items-standings.ensures.items ∙ c.in_ok-outcomes.ensures.standings)
     ∙ length-standings_of c.args.script.now c.args.history.now
+    ∙ sym (ap (λ (z : List Tree). length z) c.trees-trees.ensures.trees)
+
+pub push_trees-requires-clause-ballots : goal.push_trees-requires-clause-ballots
+push_trees-requires-clause-ballots c =
+    ap (λ (z : List (List Act)). length z) (c.rows-votes.ensures ∙ c.in_ok-ballots.ensures)
+    ∙ length-ballots_of c.args.script.now c.args.history.now
     ∙ sym (ap (λ (z : List Tree). length z) c.trees-trees.ensures.trees)
 
 pub push_rows-requires-clause-names : goal.push_rows-requires-clause-names
@@ -59,11 +68,12 @@ returns c =
     let t1 : List ℕ = c.push_trees.new.text in
     let t2 : List ℕ = c.push_nodes.new.text in
     let count : n ≡ advances s = c.advances-advances.ensures in
-    let trees : t1 ≡ c.new-text.result ++ trees_lines s.trees (standings_of s h) texts
+    let trees : t1 ≡ c.new-text.result ++ trees_lines s 0 s.trees (standings_of s h) texts (ballots_of s h)
     = c.in_ok-push_trees.ensures
-    ∙ ap (λ (z : List Tree). c.new-text.result ++ trees_lines z c.items-standings.result.now c.items-reads.result.now) c.trees-trees.ensures.trees
-    ∙ ap (λ (z : List Standing). c.new-text.result ++ trees_lines s.trees z c.items-reads.result.now) (c.items-standings.ensures.items ∙ c.in_ok-outcomes.ensures.standings)
-    ∙ ap (λ (z : List (List ℕ)). c.new-text.result ++ trees_lines s.trees (standings_of s h) z) c.items-reads.ensures.items in
+    ∙ ap (λ (z : List Tree). c.new-text.result ++ trees_lines s 0 z c.items-standings.result.now c.items-reads.result.now c.rows-votes.result.now) c.trees-trees.ensures.trees
+    ∙ ap (λ (z : List Standing). c.new-text.result ++ trees_lines s 0 s.trees z c.items-reads.result.now c.rows-votes.result.now) (c.items-standings.ensures.items ∙ c.in_ok-outcomes.ensures.standings)
+    ∙ ap (λ (z : List (List ℕ)). c.new-text.result ++ trees_lines s 0 s.trees (standings_of s h) z c.rows-votes.result.now) c.items-reads.ensures.items
+    ∙ ap (λ (z : List (List Act)). c.new-text.result ++ trees_lines s 0 s.trees (standings_of s h) texts z) (c.rows-votes.ensures ∙ c.in_ok-ballots.ensures) in
     let nodes : t2 ≡ t1 ++ nodes_text (advances s) s.nodes
     = c.in_ok-push_nodes.ensures
     ∙ ap (λ (z : ℕ). t1 ++ nodes_text n z) c.nodes-nodes.ensures.nodes

@@ -1,5 +1,5 @@
 use Rattle.std.proofs.Common.{◌≡◌, ◌++◌, drop}
-use Rattle.report_text.specs.Report.{more_numbers}
+use Rattle.report_text.specs.Parts.{more_numbers}
 use Rattle.report_text.proofs.values.push_more.Given as goal
 
 abbrev pub invariant-loop-number : goal.invariant-loop-number
