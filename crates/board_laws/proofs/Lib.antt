@@ -4,3 +4,4 @@ pub mod Births
 pub mod Raised
 pub mod Asked
 pub mod AllMoves
+pub mod BornOrWaits
