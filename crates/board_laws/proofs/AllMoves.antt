@@ -1,5 +1,5 @@
 -- In every run of every valid script each act is a move of the Board, but for the cause of a vote.
-use Rattle.std.proofs.Common.{◌≡◌, ℕ, suc, List, [], ◌∷◌, ◌++◌, take, reverse, refl, sym, ap, subst, append-nil, append_assoc, Some}
+use Rattle.std.proofs.Common.{◌≡◌, ℕ, List, [], ◌∷◌, ◌++◌, reverse, sym, subst, Some}
 use Rattle.std.specs.Prelude.{slice_get}
 use Rattle.letter_types.specs.declared.acts.Act.{Act}
 use Rattle.letter_types.specs.declared.acts.Act.TheVariants as acts
@@ -8,38 +8,16 @@ use Rattle.script_parts.specs.ScriptData.{ScriptData}
 use Rattle.script_parts.specs.Valid.{IsValid}
 use Rattle.world_model.specs.Runs.{IsStepRun}
 use Rattle.board_rules.specs.Histories.{Place, places_at}
-use Rattle.board_rules.specs.Moves.{AtEachAct, OneByOne}
+use Rattle.board_rules.specs.Moves.{AtEachAct}
 use Rattle.board_rules.specs.Rules.{AreByRule, IsByRule}
 use Rattle.tree_laws.proofs.AptVersions.{before}
 use Rattle.tree_laws.proofs.Histories.{at_each_act_more, places_more}
-use Rattle.rule_laws.proofs.Fronts.{act_of_place, front, place_of, placed}
+use Rattle.rule_laws.proofs.Fronts.{act_of_place, front, in_both, one_by_one, place_of, placed}
 use Rattle.rule_laws.proofs.Rules.{follows_rules}
 use Rattle.board_laws.specs.Moves.{IsMoveButCause, IsMoveButCauseAt}
 use Rattle.board_laws.proofs.Asked.{deed_is, voting_is}
 use Rattle.board_laws.proofs.Births.{birth_is, waiting_is}
 use Rattle.board_laws.proofs.Raised.{showing_is, sweeping_is, turn_is}
-
--- What holds of each act by its position holds of them one after the other.
-pub one_by_one : (P : List Place → Place → Type 0) (xs ys : List Place)
-    → ((j : ℕ) (y : Place) → slice_get ys j ≡ Some y → P (xs ++ take j ys) y) → OneByOne P xs ys
-one_by_one P xs [] all = tt
-one_by_one P xs (y ∷ ys) all = (
-  subst (λ (zs : List Place). P zs y) (append-nil xs) (all 0 y refl),
-  one_by_one P (xs ++ y ∷ []) ys
-      (λ j z is. subst (λ (zs : List Place). P zs z) (sym (append_assoc xs (y ∷ []) (take j ys))) (all (suc j) z is)),
-)
-
--- the second of two lists, from a place in it
-record InBoth {X : Type 0} (a b : List X) (j : ℕ) (x : X) : Type 0 where
-  place : ℕ
-  is : slice_get (a ++ b) place ≡ Some x
-  front : take place (a ++ b) ≡ a ++ take j b
-
-in_both : {X : Type 0} (a b : List X) (j : ℕ) (x : X) → slice_get b j ≡ Some x → InBoth a b j x
-in_both [] b j x is = record { place = j; is = is; front = refl }
-in_both (y ∷ a) b j x is =
-    let l = in_both a b j x is in
-    record { place = suc l.place; is = l.is; front = ap (λ (z : List _). y ∷ z) l.front }
 
 -- An act of an entry follows its rule.
 rule_at : (s : ScriptData) (past : List Entry) (e : Entry) (j : ℕ) (a : Act) → AreByRule s (before (e ∷ past)) → slice_get e.acts j ≡ Some a

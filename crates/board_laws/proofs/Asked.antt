@@ -41,7 +41,7 @@ use Rattle.rule_laws.proofs.Decisions.{no_dids, was_voted_of}
 use Rattle.rule_laws.proofs.Deeds.{turn_sums}
 use Rattle.rule_laws.proofs.Fronts.{front}
 use Rattle.rule_laws.proofs.Lasts.{AsksIn, Applies, Frees, Lasts, OfRoot, OfSub, Reads, Updates, Votes, lasts}
-use Rattle.rule_laws.proofs.Turns.{born_before, is_there, not_voted, own_turn, turn_once, turns_in}
+use Rattle.rule_laws.proofs.Turns.{born_before, is_there, not_voted, turn_once, turns_in}
 use Rattle.board_laws.specs.Moves.{IsVotingAsked}
 
 -- A subtransaction is asked for where its parent has had its turn, if it has one.
@@ -171,7 +171,7 @@ vote_by s past e j t k vote at (Votes p r u i g asks of is none) =
     subst (λ (x : TreeNo). AsksIn r.body x k) (sym same.0) (subst (λ (y : SubNo). AsksIn r.body u y) (sym same.1) asks) in
     let strict : is_strict_at s t.0 ≡ true = rw (kind, is_strict_at) refl in
     let there = is_there s past e p r t k g here in
-    let own : has_turn t.0 k.0 (acts.Voted t k vote) ≡ 1 = own_turn t.0 k.0 in
+    let own : has_turn t.0 k.0 (acts.Voted t k vote) ≡ 1 = one_here t.0 k.0 in
     record {
       strict = strict_is s t.0 (slice_get s.trees t.0) refl ∙ strict;
       born = born_before s past e j (acts.Voted t k vote) p r t k Strict g here kind at refl;

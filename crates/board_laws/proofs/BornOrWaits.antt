@@ -1,15 +1,14 @@
 -- In every run of every valid script the entry that takes the letter of a strict tree's root bears the tree, or the root
 -- waits where its home's update version isn't the one after the read version. No other entry bears it or lets a root wait.
-use Rattle.std.proofs.Common.{◌≡◌, ℕ, suc, ◌<◌, ◌≤◌, ◌==◌, ◌&&◌, Bool, true, false, List, [], ◌∷◌, ◌++◌, map, reverse, refl, sym, ap, subst, ◌∙◌, arith, Option, Some, None}
+use Rattle.std.proofs.Common.{[], ◌≡◌, ℕ, suc, ◌<◌, ◌≤◌, ◌==◌, ◌&&◌, Bool, true, false, List, ◌∷◌, ◌++◌, map, reverse, refl, sym, ap, subst, ◌∙◌, arith, Option, Some, None}
 use Rattle.std.specs.Prelude.{if◌then◌else◌, IsTrue, is_some, nat_lt, slice_get}
 use Rattle.std.specs.Option.{option_or}
-use Rattle.std.proofs.lemmas.Bool.{and_parts}
 use Rattle.std.proofs.lemmas.Bool.Decides.{nat_tests}
 use Rattle.tv_base.proofs.Truths.{same_test}
 use Rattle.tv_base.specs.declared.numbers.SubNo.{SubNo}
 use Rattle.tv_base.specs.declared.numbers.TreeNo.{TreeNo}
 use Rattle.tv_base.specs.declared.numbers.Version.{Version}
-use Rattle.letter_types.specs.Kept.{brought, first_called, is_called, is_called_for}
+use Rattle.letter_types.specs.Kept.{brought}
 use Rattle.letter_types.specs.declared.acts.Act.{Act}
 use Rattle.letter_types.specs.declared.acts.Act.TheVariants as acts
 use Rattle.letter_types.specs.declared.bodies.Body.{Body}
@@ -46,6 +45,7 @@ use Rattle.strict_laws.proofs.Meant.{letters_are_meant}
 use Rattle.tree_laws.proofs.Histories.{before_more}
 use Rattle.phase_laws.proofs.Brought.{BringsTo, brought_meant, home_below}
 use Rattle.phase_laws.proofs.Progress.{brings_to}
+use Rattle.run_laws.proofs.AtOnce.{called_asks}
 use Rattle.run_laws.proofs.EveryApt.{all_apt}
 use Rattle.run_laws.proofs.EveryWhole.{strict_is}
 use Rattle.run_laws.proofs.KeepingActs.{OfKeeping, client_none, coordinator_none, does_none}
@@ -59,25 +59,6 @@ abbrev asked_root : ScriptData → Body → Option TreeNo
 asked_root s (Root t) = if is_strict_tree s t.0 then Some t else None
 asked_root s Go = None
 asked_root s _ = None
-
--- A Wake brings a letter of its subtransaction.
-called_asks : (p : ℕ) (t : TreeNo) (k : SubNo) (xs : List KeptLetter) (r : Letter) → AreKeptAt p xs
-    → first_called t k xs ≡ Some r
-    → AsksFor t k r.body
-called_asks p t k [] r all is = absurd (cc is)
-called_asks p t k (x ∷ xs) r all is = by (λ later. called_asks p t k xs r all.1 later) (is_called_for t k x) refl is where
-  by : (first_called t k xs ≡ Some r → AsksFor t k r.body) → (b : Bool) → is_called_for t k x ≡ b
-      → (if b then Some x.letter else first_called t k xs) ≡ Some r → AsksFor t k r.body
-  by rest false other is = rest is
-  by rest true here is =
-      let parts = (and_parts (is_called x.why) ((x.tree.0 == t.0) && (x.sub.0 == k.0)) here).1 in
-      let both = and_parts (x.tree.0 == t.0) (x.sub.0 == k.0) parts in
-      let tree : x.tree.0 ≡ t.0 = (let same = both.0 in grind (arith, nat_tests)) in
-      let sub : x.sub.0 ≡ k.0 = (let same = both.1 in grind (arith, nat_tests)) in
-      let letter : x.letter ≡ r = cc is in
-      subst (λ (l : Letter). AsksFor t k l.body) letter
-      (subst (λ (u : TreeNo). AsksFor u k x.letter.body) (λ i. record { 0 = tree i })
-      (subst (λ (j : SubNo). AsksFor x.tree j x.letter.body) (λ i. record { 0 = sub i }) all.0.asks))
 
 first_is : (b : Bool) (t : TreeNo) (n : ℕ) → n ≡ 0
     → (if b && (n == 0) then Some t else None) ≡ (if b then Some t else None)

@@ -17,10 +17,9 @@ use Rattle.letter_types.specs.declared.votes.Vote.{Vote}
 use Rattle.letter_types.specs.Steps.{Out}
 use Rattle.nc_locks.specs.declared.modes.Met.{Met}
 use Rattle.node_versions.specs.declared.turns.Turns.{Turns}
-use Rattle.script_parts.specs.declared.parts.Tree.{Tree}
 use Rattle.script_parts.specs.declared.parts.TreeKind.{TreeKind}
 use Rattle.script_parts.specs.declared.parts.TreeKind.TheVariants.{Update, Read, Strict}
-use Rattle.script_parts.specs.ScriptData.{ScriptData, is_read, reads}
+use Rattle.script_parts.specs.ScriptData.{ScriptData, reads}
 use Rattle.script_parts.specs.Valid.{IsValid}
 use Rattle.tree_home.specs.declared.homes.Answered.{Answered}
 use Rattle.world_model.specs.Asked.{asked_ops, tree_part}
@@ -40,6 +39,7 @@ use Rattle.tree_laws.proofs.AptRulings.{client_acts}
 use Rattle.tree_laws.proofs.AptVersions.{before}
 use Rattle.phase_laws.proofs.Brought.{BringsTo}
 use Rattle.phase_laws.proofs.Progress.{brings_to}
+use Rattle.phase_laws.proofs.Working.{reads_by}
 use Rattle.run_laws.proofs.EveryApt.{all_apt}
 use Rattle.rule_laws.proofs.Fronts.{front}
 
@@ -119,14 +119,6 @@ turned_with : (s : ScriptData) (turns : Turns) (body : Body) (raises : Bool) (v 
     → OpensWith s turns body (turned_if raises v.0 ++ a ∷ [])
 turned_with s turns body true v a none is may = (may refl, (none, tt))
 turned_with s turns body false v a none is may = (is, tt)
-
-reads_by : (s : ScriptData) (t : ℕ) (kind : TreeKind) (found : Option Tree) → slice_get s.trees t ≡ found → tree_kind_at s t ≡ Some kind
-    → reads s t ≡ is_read kind
-reads_by s t kind None at is = let none : tree_kind_at s t ≡ None = rw (at, tree_kind_at) refl in absurd (cc (none, is))
-reads_by s t kind (Some tree) at is =
-    let its : tree_kind_at s t ≡ Some tree.kind = rw (at, tree_kind_at) refl in
-    let same : tree.kind ≡ kind = cc (its, is) in
-    rw (at, reads) (ap is_read same)
 
 root_opens : (s : ScriptData) (p from : ℕ) (t : TreeNo) (kind : Option TreeKind) (c : Core)
     → OpensWith s c.node.turns (Root t) (core_by_kind s p from t (Root t) kind c).acts

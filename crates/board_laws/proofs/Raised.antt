@@ -23,20 +23,17 @@ use Rattle.board_rules.specs.Moves.{IsShowing, IsSweeping, IsTurn}
 use Rattle.tree_laws.proofs.AptVersions.{before}
 use Rattle.phase_laws.specs.Phases.{Stage, TurnStage, ShowStage, SweepStage, most_update}
 use Rattle.phase_laws.proofs.Brought.{BringsTo, IsAsking, each_of_brought}
-use Rattle.phase_laws.proofs.LevelAt.{Level, LevelAt, LevelBody, Levels, tell, tells}
-use Rattle.phase_laws.proofs.Levels.{levels}
+use Rattle.phase_laws.proofs.LevelAt.{Level, LevelAt, LevelBody, tell, tells}
 use Rattle.phase_laws.proofs.Progress.{itself}
 use Rattle.phase_laws.proofs.Tokens.{phase_for}
 use Rattle.run_laws.specs.Shown.{IsBackedBy}
 use Rattle.run_laws.proofs.Closed.{shown_is_backed}
 use Rattle.run_laws.proofs.EveryApt.{all_apt, lawful}
+use Rattle.run_laws.proofs.Reached.{levels_in}
 use Rattle.rule_laws.proofs.Fronts.{front}
 use Rattle.rule_laws.proofs.Late.{no_reader, writer_there}
 use Rattle.board_laws.proofs.NodeNumbers.{node_numbers}
 use Rattle.board_laws.proofs.Openings.{MayRaise, first_front, opens_as}
-
-levels_in : (s : ScriptData) (past : List Entry) → IsValid s → IsStepRun s past → Levels s past
-levels_in s past valid run = levels s past (lawful s valid) run (all_apt s past valid run)
 
 -- The letter that is brought, in the coordinator's phase.
 brought_level : (s : ScriptData) (past : List Entry) (e : Entry) (p : ℕ) (r : Letter) (body : Body) → IsValid s → IsStepRun s (e ∷ past)

@@ -1,19 +1,14 @@
 -- In every run of every valid script a tree that the client knows to be answered was answered before, and is whole.
-use Rattle.std.proofs.Common.{◌≡◌, ◌≢◌, ◌⊎◌, inl, inr, ℕ, zero, suc, ◌+◌, ◌<◌, ◌≤◌, ◌==◌, Bool, true, false, List, [], ◌∷◌, length, get_or, replicate, set, reverse, refl, sym, ap, subst, ◌∙◌, arith, Option, Some, None}
-use Rattle.std.specs.Prelude.{if◌then◌else◌, is_some, slice_get}
-use Rattle.std.specs.Option.{option_or}
+use Rattle.std.proofs.Common.{◌≡◌, ◌≢◌, ◌⊎◌, inl, inr, ℕ, zero, suc, ◌+◌, ◌<◌, ◌≤◌, ◌==◌, Bool, true, false, List, [], ◌∷◌, length, get_or, replicate, set, reverse, refl, sym, ap, subst, ◌∙◌, arith, Some}
+use Rattle.std.specs.Prelude.{is_some, slice_get}
 use Rattle.std.proofs.lemmas.Bool.{and_from, cases_eq}
 use Rattle.std.proofs.lemmas.Bool.Decides.{nat_tests}
 use Rattle.std.proofs.lemmas.List.{get_or-set_other}
-use Rattle.tv_base.specs.declared.numbers.Version.{Version}
-use Rattle.letter_types.specs.declared.acts.Act.{Act}
-use Rattle.letter_types.specs.declared.acts.Act.TheVariants as acts
 use Rattle.letter_types.specs.declared.entries.Entry.{Entry}
 use Rattle.letter_types.specs.declared.entries.Letter.{Letter}
 use Rattle.tx_trees.specs.ScriptData.{ScriptData, client_of, home_of, node_of, sub_at, subs_at}
 use Rattle.tx_trees.specs.Valid.{IsValid}
-use Rattle.tx_trees.specs.declared.parts.Sub.{Sub}
-use Rattle.board_rules.specs.Histories.{IsWhole, Place, all_applied, all_done, born_as, is_complete, places_of, version_in, version_of, was_applied}
+use Rattle.board_rules.specs.Histories.{IsWhole, Place, all_applied, all_done, is_complete, places_of, version_of, was_applied}
 use Rattle.world_model.specs.Client.{Client}
 use Rattle.world_model.specs.Counts.{one_if, tally}
 use Rattle.world_model.specs.Named.{is_strict_at}
@@ -34,7 +29,8 @@ use Rattle.tree_laws.proofs.AptTurns.{births_are_turns}
 use Rattle.tree_laws.proofs.Counted.{all_done_of, births_in, dids_in, was_done_of}
 use Rattle.run_laws.proofs.EveryApt.{all_apt, lawful}
 use Rattle.run_laws.proofs.EveryDid.{dids_are_turns}
-use Rattle.run_laws.proofs.EveryWhole.{strict_is, was_applied_of}
+use Rattle.run_laws.proofs.EveryWhole.{all_applied_of, strict_is, was_applied_of}
+use Rattle.rule_laws.proofs.Releases.{born_some}
 
 -- What the client has heard.
 hears : (answered : List Bool) (t u : ℕ) → (u ≡ t) ⊎ (u ≢ t)
@@ -109,28 +105,6 @@ turned s past t some (Unborn u) = absurd (omega (arith, some, u.answers))
 turned s past t some (Gathers h g) = absurd (omega (arith, some, g.answers))
 turned s past t some (Holds h g) = absurd (omega (arith, some, g.answers))
 turned s past t some (Answered a) = a.all
-
-uncounted : (t : ℕ) (a : Act) → born_as t a ≡ None → is_born t a ≡ 0
-uncounted t (acts.Born u v) is = by (u.0 == t) is where
-  by : (test : Bool) → (if test then Some v else None) ≡ None → one_if test ≡ 0
-  by true so = absurd (cc so)
-  by false so = refl
-uncounted t acts.Finished is = refl
-uncounted t _ is = refl
-
-born_some : (t : ℕ) (xs : List Place) → 1 ≤ tally (of_act (is_born t)) xs → is_some (version_in t xs) ≡ true
-born_some t [] some = absurd (omega (arith, some))
-born_some t (x ∷ xs) some = by (born_as t x.act) refl (born_some t xs) where
-  by : (found : Option Version) → born_as t x.act ≡ found → (1 ≤ tally (of_act (is_born t)) xs → is_some (version_in t xs) ≡ true)
-      → is_some (option_or found (version_in t xs)) ≡ true
-  by (Some v) is rest = refl
-  by None is rest = rest (omega (arith, some, uncounted t x.act is))
-
-all_applied_of : (t : ℕ) (subs : List Sub) (xs : List Place) → ((k : ℕ) (x : Sub) → slice_get subs k ≡ Some x → was_applied t x.node.0 xs ≡ true)
-    → all_applied t subs xs ≡ true
-all_applied_of t [] xs all = refl
-all_applied_of t (x ∷ subs) xs all =
-    and_from (was_applied t x.node.0 xs) (all_applied t subs xs) (all 0 x refl) (all_applied_of t subs xs (λ k y at. all (suc k) y at))
 
 complete_by : (s : ScriptData) (past : List Entry) (t : ℕ) (test : Bool) → IsValid s → IsStepRun s past → t < length s.trees
     → 1 ≤ answers past t → AllTurned s past t → is_strict_at s t ≡ test → is_complete s (places_of (reverse past)) t ≡ true

@@ -1,5 +1,5 @@
 -- A run in which no letter is left has ended.
-use Rattle.std.proofs.Common.{◌≡◌, ◌≤◌, List, [], length, reverse, ap, ◌∙◌, arith}
+use Rattle.std.proofs.Common.{◌≡◌, List, [], reverse, ap, ◌∙◌, arith}
 use Rattle.std.proofs.lemmas.List.{length-reverse, reverse-reverse}
 use Rattle.letter_types.specs.declared.entries.Entry.{Entry}
 use Rattle.world_model.specs.Coordinator.{Coordinator}

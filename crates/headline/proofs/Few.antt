@@ -3,7 +3,6 @@ use Rattle.std.proofs.Common.{◌≡◌, inl, inr, ℕ, ◌+◌, ◌-◌, ◌<�
 use Rattle.std.specs.Prelude.{slice_get}
 use Rattle.std.proofs.lemmas.Bool.{cases_lt}
 use Rattle.std.proofs.lemmas.List.{length-reverse, take_all}
-use Rattle.commute_ops.specs.declared.kinds.Kind.{Kind}
 use Rattle.tv_base.specs.declared.numbers.ItemNo.{ItemNo}
 use Rattle.item_versions.specs.Item.{Held, IsHeld}
 use Rattle.item_versions.specs.Window.{first_version}
@@ -25,7 +24,7 @@ use Rattle.phase_laws.proofs.Levels.{versions_in_phase}
 use Rattle.tree_laws.proofs.Histories.{first_of, run_before}
 use Rattle.tree_laws.proofs.AptBounds.{effect_bound, tables_keep}
 use Rattle.tree_laws.proofs.AptWindows.{tables_ascend, tables_in_window}
-use Rattle.tree_laws.proofs.Tables.{ItemIn}
+use Rattle.rule_laws.proofs.YesVotes.{there_held}
 use Rattle.headline.specs.Held.{HasHeldThree, HoldsThree, held_after, items_of, turns_of}
 use Rattle.headline.proofs.Highest.{highest_run}
 
@@ -46,11 +45,6 @@ three turns (x ∷ xs) near kept = record {
   update = near;
 }
 
--- an item that keeps to its bound is there
-found_by : (kind : Kind) (b : ℕ) (found : Option Held) → ItemIn kind b found → (h : Held) × (found ≡ Some h)
-found_by kind b None is = absurd is
-found_by kind b (Some h) is = (h, refl)
-
 -- each item is at a node of the script
 pub item_node : (s : ScriptData) (x : ℕ) (r : ItemRow) → IsValid s → slice_get s.items x ≡ Some r → r.node.0 < s.nodes
 item_node s x r valid at = (all_at (IsItem s.nodes) s.items x r valid.items at).node
@@ -70,7 +64,7 @@ held_at s past x r valid run at =
     let lt = item_node s x r valid at in
     let st = node_in s past p in
     let apt = all_apt s past valid run in
-    let found = found_by r.kind (effect_bound s past x) (item_in n st.items) (tables_keep s past valid apt run p lt x r at refl) in
+    let found = there_held r.kind (effect_bound s past x) (item_in n st.items) (tables_keep s past valid apt run p lt x r at refl) in
     record {
       held = found.0;
       is = found.1;

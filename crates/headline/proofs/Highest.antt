@@ -1,5 +1,5 @@
 -- In every run of every valid script a node holds nothing of its items above the version that it updates.
-use Rattle.std.proofs.Common.{◌≡◌, ◌≢◌, ◌⊎◌, inl, inr, ℕ, ◌+◌, ◌<◌, ◌≤◌, ◌==◌, Bool, true, false, List, [], ◌∷◌, ltb, refl, sym, ap, subst, ◌∙◌, arith, Option, Some, None}
+use Rattle.std.proofs.Common.{◌≡◌, ◌≢◌, ◌⊎◌, inl, inr, ℕ, ◌+◌, ◌<◌, ◌≤◌, ◌==◌, Bool, true, false, List, [], ◌∷◌, refl, sym, ap, subst, ◌∙◌, arith, Option, Some, None}
 use Rattle.std.specs.Prelude.{if◌then◌else◌}
 use Rattle.std.proofs.lemmas.Bool.{cases_eq}
 use Rattle.std.proofs.lemmas.Bool.Decides.{nat_tests}
@@ -7,12 +7,11 @@ use Rattle.tv_base.specs.declared.numbers.ItemNo.{ItemNo}
 use Rattle.tv_base.specs.declared.numbers.Version.{Version}
 use Rattle.commute_ops.specs.declared.kinds.Op.{Op}
 use Rattle.commute_ops.specs.declared.value.Value.{Value}
-use Rattle.commute_ops.specs.Ops.{applied}
 use Rattle.item_versions.specs.Collecting.{collected_all}
-use Rattle.item_versions.specs.Item.{Held, above, applied_to_all, below, collected, put_value, seen_after, touched}
+use Rattle.item_versions.specs.Item.{Held, put_value, touched}
 use Rattle.item_versions.specs.Table.{Table, item_in, updated, valued}
 use Rattle.item_versions.proofs.Tables.{Each, each-item, each-replaced}
-use Rattle.item_versions.proofs.Window.{AllUpTo, up_to-append, up_to-applied, up_to-filter, up_to-more}
+use Rattle.item_versions.proofs.Window.{AllUpTo, up_to-more}
 use Rattle.letter_types.specs.declared.bodies.Body.{Body}
 use Rattle.letter_types.specs.declared.bodies.Body.TheVariants.{Decide, Sweep}
 use Rattle.letter_types.specs.declared.entries.Entry.{Entry}
@@ -41,24 +40,9 @@ use Rattle.tree_laws.proofs.AptItems.{Applies, Changes, Collects, Raises, Rests,
 use Rattle.tree_laws.proofs.AptWindows.{apt_timely}
 use Rattle.run_laws.proofs.EveryApt.{all_apt}
 use Rattle.run_laws.proofs.KeptWhy.{keeps_rises}
+use Rattle.value_laws.proofs.HeldItems.{collected_most}
+use Rattle.worth_laws.proofs.MostHeld.{put_most, touched_most}
 use Rattle.headline.proofs.Voters.{commits_below, raises}
-
--- One item: an operation, a value that is put and a collection in a version up to m leave all its versions up to m.
-touched_most : (m : ℕ) (v : Version) (op : Op) (h : Held) → v.0 ≤ m → AllUpTo m h → AllUpTo m (touched v op h)
-touched_most m v op [] le all = tt
-touched_most m v op (x ∷ xs) le all =
-    up_to-append m (below v (x ∷ xs)) ((v, applied (seen_after x.1 v xs) op) ∷ applied_to_all op (above v (x ∷ xs)))
-    (up_to-filter m (λ y. ltb y.0.0 v.0) (x ∷ xs) all)
-    (le, up_to-applied m op (above v (x ∷ xs)) (up_to-filter m (λ y. ltb v.0 y.0.0) (x ∷ xs) all))
-
-put_most : (m : ℕ) (v : Version) (w : Value) (h : Held) → v.0 ≤ m → AllUpTo m h → AllUpTo m (put_value v w h)
-put_most m v w h le all =
-    up_to-append m (below v h) ((v, w) ∷ above v h) (up_to-filter m (λ y. ltb y.0.0 v.0) h all)
-    (le, up_to-filter m (λ y. ltb v.0 y.0.0) h all)
-
-collected_most : (m : ℕ) (f : Version) (h : Held) → f.0 ≤ m → AllUpTo m h → AllUpTo m (collected f h)
-collected_most m f [] le all = tt
-collected_most m f (x ∷ xs) le all = (le, up_to-filter m (λ y. ltb f.0 y.0.0) (x ∷ xs) all)
 
 -- A table.
 abbrev pub AreUpTo : ℕ → Table → Type 0

@@ -1,10 +1,8 @@
 -- Each act of an entry keeps to the script: what is born or turned comes of a row that the client has submitted, and
 -- the client finishes when all is over.
-use Rattle.std.proofs.Common.{◌≡◌, ◌≢◌, ◌⊎◌, inl, inr, ℕ, zero, suc, ◌+◌, ◌-◌, ◌<◌, ◌≤◌, ◌==◌, Bool, true, false, List, [], ◌∷◌, length, reverse, take, refl, sym, ap, subst, ◌∙◌, arith, Some}
-use Rattle.std.specs.Prelude.{if◌then◌else◌, nat_le, nat_lt, slice_get}
-use Rattle.std.proofs.lemmas.Bool.{and_parts, cases_eq, leb-true}
-use Rattle.std.proofs.lemmas.Bool.Decides.{nat_tests}
-use Rattle.std.proofs.lemmas.List.{take_all}
+use Rattle.std.proofs.Common.{◌≡◌, ◌≢◌, ◌⊎◌, inl, inr, ℕ, zero, suc, ◌+◌, ◌-◌, ◌<◌, ◌≤◌, Bool, true, false, List, [], ◌∷◌, reverse, take, refl, sym, ap, subst, ◌∙◌, arith, Some}
+use Rattle.std.specs.Prelude.{if◌then◌else◌, slice_get}
+use Rattle.std.proofs.lemmas.Bool.{cases_eq, ltb-true}
 use Rattle.tv_base.specs.declared.numbers.TreeNo.{TreeNo}
 use Rattle.tv_base.specs.declared.numbers.Version.{Version}
 use Rattle.letter_types.specs.declared.acts.Act.{Act}
@@ -13,7 +11,6 @@ use Rattle.letter_types.specs.declared.bodies.Body.{Body}
 use Rattle.letter_types.specs.declared.bodies.Body.TheVariants.{Go, Root, Turn, Sub as SubLetter}
 use Rattle.letter_types.specs.declared.entries.Entry.{Entry}
 use Rattle.letter_types.specs.declared.entries.Letter.{Letter}
-use Rattle.node_versions.specs.declared.turns.Turns.{Turns as TurnsOf}
 use Rattle.world_model.specs.Node.{Node}
 use Rattle.tx_trees.specs.Counts.{advances_in}
 use Rattle.tx_trees.specs.ScriptData.{ScriptData, client_of}
@@ -26,26 +23,25 @@ use Rattle.board_rules.specs.Gates.{IsBornByItsRow, IsEnd, IsTurnedByItsRow, Kee
 use Rattle.board_rules.specs.Histories.{Place, places_at, places_of}
 use Rattle.board_rules.specs.Moves.{OneByOne}
 use Rattle.board_rules.specs.Right.{finishes as finishes_act, has_finished}
-use Rattle.world_model.specs.Client.{all_answered, client_finishes, next_after, with_answer, with_end}
+use Rattle.world_model.specs.Client.{client_finishes, next_after, with_answer, with_end}
 use Rattle.world_model.specs.Counts.{one_if, tally}
 use Rattle.world_model.specs.AllApt.{AllApt}
 use Rattle.world_model.specs.Runs.{IsStepRun, client_in, coordinator_in, node_in}
 use Rattle.world_model.proofs.Every.{node_kept}
 use Rattle.world_model.proofs.Cases.{case}
-use Rattle.tree_laws.specs.Dids.{asks, letters_asking, roots_sent}
+use Rattle.tree_laws.specs.Dids.{asks, letters_asking}
 use Rattle.tree_laws.specs.Ends.{is_finish}
 use Rattle.tree_laws.proofs.Acts.{any_counted, finish_marks, of_act}
 use Rattle.tree_laws.proofs.AptTurns.{roots_have_turns}
 use Rattle.tree_laws.proofs.Counts.{one_here}
 use Rattle.tree_laws.proofs.Finishes.{finishes_of, is_true_of}
-use Rattle.tree_laws.proofs.Sent.{rooted_once}
 use Rattle.run_laws.proofs.EveryApt.{all_apt, lawful}
 use Rattle.phase_laws.specs.Advances.{running}
-use Rattle.phase_laws.specs.Phases.{IsInPhase, least_update, most_update}
+use Rattle.phase_laws.specs.Phases.{least_update, most_update}
 use Rattle.phase_laws.proofs.Brought.{BringsTo, IsAsking, brought_outstanding, each_of_brought}
 use Rattle.phase_laws.proofs.LevelAt.{LevelBody}
-use Rattle.phase_laws.proofs.Levels.{levels, versions_in_phase}
-use Rattle.phase_laws.proofs.Small.{advances_kept, asked_most}
+use Rattle.phase_laws.proofs.Levels.{levels}
+use Rattle.phase_laws.proofs.Small.{advances_kept}
 use Rattle.phase_laws.proofs.Progress.{Begins, Coordinates, Ends, Hears, Obeys, Progress, Works, itself, progress}
 use Rattle.phase_laws.proofs.Tokens.{phase_for}
 use Rattle.board_laws.proofs.NodeNumbers.{node_numbers}
@@ -128,9 +124,6 @@ turned s past p v valid run pl lt le =
     }
 
 -- to a version to which this letter may raise it
-lt_of : (a b : ℕ) → nat_lt a b ≡ true → a < b
-lt_of a b is = grind (arith, nat_tests)
-
 reaches : (s : ScriptData) (past : List Entry) (e : Entry) (p : ℕ) (r : Letter) (v : Version) (b : Body) → IsValid s → IsStepRun s (e ∷ past)
     → BringsTo s past e p r → r.body ≡ b → MayRaise s b v → v.0 ≤ most_update (coordinator_in s past).phase (coordinator_in s past).update
 reaches s past e p r v (SubLetter t k w) valid run b is may =
@@ -211,7 +204,7 @@ opening_keeps : (s : ScriptData) (past : List Entry) (e : Entry) (p : ℕ) (r : 
     → BringsTo s past e p r → opens a ≡ true → OpensFor s (node_in s past p).turns r.body a → KeepsTo s (places_of (reverse past)) a
 opening_keeps s past e p r (Born t v) valid run b is for = born s past e p r t valid run b for
 opening_keeps s past e p r (Turned v) valid run b is for =
-    turned s past p v.0 valid run.1 b.below (lt_of (node_in s past p).turns.update.0 v.0 for.0) (reaches s past e p r v r.body valid run b refl for.1)
+    turned s past p v.0 valid run.1 b.below (ltb-true (node_in s past p).turns.update.0 v.0 for.0) (reaches s past e p r v r.body valid run b refl for.1)
 opening_keeps s past e p r Finished valid run b is for = absurd (cc is)
 opening_keeps s past e p r _ valid run b is for = tt
 

@@ -7,8 +7,7 @@ use Rattle.tv_base.specs.declared.numbers.TreeNo.{TreeNo}
 use Rattle.letter_types.specs.declared.entries.Entry.{Entry}
 use Rattle.tx_trees.specs.Counts.{advances_in}
 use Rattle.tx_trees.specs.ScriptData.{ScriptData}
-use Rattle.tx_trees.specs.Valid.{IsValid, NamesInOrder}
-use Rattle.tx_trees.proofs.SubsOf.{names_end}
+use Rattle.tx_trees.specs.Valid.{IsValid}
 use Rattle.tx_trees.specs.declared.parts.ScriptRow.{ScriptRow}
 use Rattle.tx_trees.specs.declared.parts.ScriptRow.TheVariants.{Tree as TreeRow, Advance as AdvanceRow, Settle as SettleRow, Lose as LoseRow}
 use Rattle.board_rules.specs.Gates.{IsOpen, awaited, before_settle, is_settle_row}
@@ -17,6 +16,7 @@ use Rattle.world_model.specs.Client.{all_answered}
 use Rattle.world_model.specs.Counts.{Each}
 use Rattle.world_model.specs.Runs.{IsStepRun, client_in}
 use Rattle.world_model.proofs.Fits.{each_take}
+use Rattle.strict_laws.proofs.MeantRows.{NamesTree, rows_name}
 use Rattle.run_laws.proofs.EveryApt.{all_apt, lawful}
 use Rattle.phase_laws.proofs.Levels.{versions_in_phase}
 use Rattle.phase_laws.proofs.Small.{advances_kept}
@@ -39,26 +39,11 @@ each_at P [] j x all here = absurd (cc here)
 each_at P (y ∷ xs) zero x all here = let same : y ≡ x = cc here in subst P same all.0
 each_at P (y ∷ xs) (suc j) x all here = each_at P xs j x all.1 here
 
--- A tree that a row names is one of the script.
-abbrev NamesTree : ScriptData → ScriptRow → Type 0
-NamesTree s (TreeRow t) = t.0 < length s.trees
-NamesTree s AdvanceRow = Unit {0}
-NamesTree s SettleRow = Unit {0}
-NamesTree s LoseRow = Unit {0}
-
-names_trees : (s : ScriptData) (i : ℕ) (rows : List ScriptRow) → NamesInOrder i (length s.trees) rows → Each (NamesTree s) rows
-names_trees s i [] names = tt
-names_trees s i (TreeRow t ∷ rows) names =
-    (omega (arith, names.0, names_end (i + 1) (length s.trees) rows names.1), names_trees s (i + 1) rows names.1)
-names_trees s i (AdvanceRow ∷ rows) names = (tt, names_trees s i rows names)
-names_trees s i (SettleRow ∷ rows) names = (tt, names_trees s i rows names)
-names_trees s i (LoseRow ∷ rows) names = (tt, names_trees s i rows names)
-
 -- so is one for which a row waits
 tree_there : (s : ScriptData) (i j t : ℕ) → IsValid s → slice_get (awaited s i) j ≡ Some (TreeRow (record { 0 = t })) → t < length s.trees
 tree_there s i j t valid here =
     each_at (NamesTree s) (awaited s i) j (TreeRow (record { 0 = t }))
-    (each_before (NamesTree s) (take i s.rows) (each_take (NamesTree s) i s.rows (names_trees s 0 s.rows valid.rows))) here
+    (each_before (NamesTree s) (take i s.rows) (each_take (NamesTree s) i s.rows (rows_name s 0 s.rows valid.rows))) here
 
 -- Where all trees of these rows are answered, each is.
 pub answered_at : (answered : List Bool) (j t : ℕ) (rows : List ScriptRow) → all_answered answered rows ≡ true

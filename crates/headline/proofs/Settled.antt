@@ -19,9 +19,9 @@ use Rattle.tree_laws.specs.SeenAt.{seen_at}
 use Rattle.world_model.specs.Runs.{IsStepRun, coordinator_in, node_in}
 use Rattle.run_laws.specs.Shown.{WritersAreWhole}
 use Rattle.worth_laws.proofs.OwnWorth.{own_is_worth, shown_is_closed}
-use Rattle.held_laws.specs.Written.{holds_of}
-use Rattle.held_laws.proofs.HeldWritten.{held_is_written}
-use Rattle.held_laws.proofs.WrittenAtEnd.{written_at_end}
+use Rattle.worth_laws.specs.Written.{holds_of}
+use Rattle.worth_laws.proofs.HeldWritten.{held_is_written}
+use Rattle.worth_laws.proofs.WrittenAtEnd.{written_at_end}
 use Rattle.headline.specs.Held.{HoldsBalances}
 use Rattle.headline.proofs.Few.{IsKept, held_at, item_node}
 use Rattle.headline.proofs.Finished.{AreAtRest, at_end, whole_at_end}

@@ -1,6 +1,7 @@
 -- A run by the wider aptness is a run by the window of versions: each letter in flight is apt.
 use Rattle.std.proofs.Common.{if◌then◌else◌, ◌≡◌, ℕ, ◌+◌, ◌<◌, ◌≤◌, ◌==◌, ◌&&◌, ◌||◌, Bool, true, false, not, List, [], ◌∷◌, reverse, refl, sym, ap, subst, ◌∙◌, arith, Option, Some, None}
 use Rattle.std.specs.Prelude.{length, nat_le}
+use Rattle.std.proofs.lemmas.Bool.{and_parts}
 use Rattle.std.proofs.lemmas.Bool.Decides.{nat_tests}
 use Rattle.std.proofs.lemmas.List.{reverse-reverse}
 use Rattle.tv_base.proofs.Truths.{at_most, same_test}
@@ -68,17 +69,12 @@ widely_apt s p c l near apt =
     (is_widely_timely s c.node l.body) apt (λ timely. widely_timely s c.node l.body near timely)
 
 -- so both tables have the same row where the letter that is brought is apt
-both_true : (a b : Bool) → (a && b) ≡ true → (a ≡ true) × (b ≡ true)
-both_true true true is = (refl, refl)
-both_true true false is = absurd (cc is)
-both_true false b is = absurd (cc is)
-
 same_by : (s : ScriptData) (p : ℕ) (n : KeepingNode) (l : Letter) (o : Option Letter)
     → IsWindowedTable n.core.node.turns.low.0 n.core.node.items → is_apt_brought s p n o ≡ true
     → brought_row (is_widely_core_apt s p) s p l n o ≡ brought_row (is_core_apt s p) s p l n o
 same_by s p n l None near apt = refl
 same_by s p n l (Some r) near apt =
-    let (here, core) = both_true (r.to.0 == p) (is_core_apt s p n.core r) apt in
+    let (here, core) = and_parts (r.to.0 == p) (is_core_apt s p n.core r) apt in
     let wide = widely_apt s p n.core r near core in
     rw (here, core, wide) refl
 

@@ -1,5 +1,6 @@
 -- Every letter comes in time: a letter of a tree is of a version that its node goes by, and so is an order.
 use Rattle.std.proofs.Common.{if◌then◌else◌, ◌≡◌, ◌⊎◌, inl, inr, ℕ, ◌+◌, ◌<◌, ◌≤◌, ◌||◌, not, Bool, true, false, List, [], ◌∷◌, ◌++◌, refl, sym, ap, subst, ◌∙◌, arith, take, drop, Option, Some, None}
+use Rattle.std.proofs.lemmas.Bool.{or_right}
 use Rattle.item_versions.proofs.Window.{in_window-is}
 use Rattle.letter_types.specs.declared.bodies.Body.{Body}
 use Rattle.letter_types.specs.declared.bodies.Body.TheVariants.{Root, Sub as SubLetter, Done, Reply, Turn, Show, Sweep, Decide, Decided, Release, Wake}
@@ -86,7 +87,7 @@ order_up_to m s st body out (TellsDone v k bd is) =
 order_up_to m s st body out (TellsAsked v k bd is) =
     subst (λ (o : Out Node). SentUpTo m o.sent) (sym is) ((λ i. omega arith), tt)
 
-most_read_is : (phase : Phase) (u : ℕ) → most_read phase u ≤ u
+pub most_read_is : (phase : Phase) (u : ℕ) → most_read phase u ≤ u
 most_read_is (Counting true) u = omega arith
 most_read_is (Counting false) u = omega arith
 most_read_is (Paused true) u = omega arith
@@ -283,16 +284,12 @@ letter_timely s past e r laws run apt lt is =
     timely_by s past e e.actor.0 r r.body laws run apt (record { at = refl; below = lt; brings = is }) refl
 
 -- And the tree that a notice answers is of a version that its home counts in.
-or_true : (b : Bool) → (b || true) ≡ true
-or_true true = refl
-or_true false = refl
-
 answer_in_near : (s : ScriptData) (st : Node) (v : Version) (found : Option Answered) → is_near st v ≡ true
     → ((a : Answered) → found ≡ Some a → a.version ≡ v) → is_near_answer s st found ≡ true
 answer_in_near s st v None near own = refl
 answer_in_near s st v (Some a) near own =
     let here : is_near st a.version ≡ true = ap (is_near st) (own a refl) ∙ near in
-    ap (λ (b : Bool). not (is_strict_at s a.tree.0) || b) here ∙ or_true (not (is_strict_at s a.tree.0))
+    ap (λ (b : Bool). not (is_strict_at s a.tree.0) || b) here ∙ or_right (not (is_strict_at s a.tree.0)) true refl
 
 answer_by : (s : ScriptData) (past : List Entry) (e : Entry) (p : ℕ) (r : Letter) (body : Body) → IsLawful s → IsStepRun s (e ∷ past)
     → AllApt s past → BringsTo s past e p r → r.body ≡ body → decides_near s (node_in s past p) body ≡ true

@@ -2,7 +2,7 @@
 use Rattle.std.proofs.Common.{◌≡◌, ℕ, ◌+◌, ◌<◌, ◌≤◌, ◌&&◌, true, false, List, ◌∷◌, refl, subst, arith, []}
 use Rattle.std.specs.Prelude.{nat_le}
 use Rattle.std.proofs.lemmas.Bool.Decides.{nat_tests}
-use Rattle.std.proofs.lemmas.Bool.{and_from}
+use Rattle.std.proofs.lemmas.Bool.{and_from, le-leb}
 use Rattle.tv_base.specs.declared.numbers.Version.{Version}
 use Rattle.letter_types.specs.declared.bodies.Body.{Body}
 use Rattle.letter_types.specs.declared.bodies.Body.TheVariants.{Turn, Show, Sweep, AskDone, AskAsked}
@@ -89,22 +89,19 @@ turn_near : (u : ℕ) (v : Version) (turns : TurnsOf) (t1 t2 t3 : ℕ) → 1 ≤
 turn_near u v turns t1 t2 t3 one is was =
     let le : v.0 ≤ turns.low.0 + 2 = omega (arith, was, one, is) in grind (arith, nat_tests)
 
-le_true : (a b : ℕ) → a ≤ b → nat_le a b ≡ true
-le_true a b le = grind (arith, nat_tests)
-
 show_near : (u : ℕ) (v : Version) (turns : TurnsOf) (t1 t2 t3 : ℕ) → 1 ≤ u → v.0 ≡ u → LevelOf Showing u turns t1 t2 t3
     → (nat_le turns.low.0 v.0 && nat_le v.0 (turns.low.0 + 2)) ≡ true
 show_near u v turns t1 t2 t3 one is was =
-    and_from (nat_le turns.low.0 v.0) (nat_le v.0 (turns.low.0 + 2)) (le_true turns.low.0 v.0 (omega (arith, was, one, is)))
-    (le_true v.0 (turns.low.0 + 2) (omega (arith, was, one, is)))
+    and_from (nat_le turns.low.0 v.0) (nat_le v.0 (turns.low.0 + 2)) (le-leb turns.low.0 v.0 (omega (arith, was, one, is)))
+    (le-leb v.0 (turns.low.0 + 2) (omega (arith, was, one, is)))
 
 sweep_near : (u : ℕ) (v : Version) (turns : TurnsOf) (t1 t2 t3 : ℕ) → 1 ≤ u → v.0 ≡ u → LevelOf Sweeping u turns t1 t2 t3
     → (nat_le turns.low.0 v.0 && (nat_le v.0 turns.read.0 && nat_le v.0 turns.update.0)) ≡ true
 sweep_near u v turns t1 t2 t3 one is was =
     and_from (nat_le turns.low.0 v.0) (nat_le v.0 turns.read.0 && nat_le v.0 turns.update.0)
-    (le_true turns.low.0 v.0 (omega (arith, was, one, is)))
+    (le-leb turns.low.0 v.0 (omega (arith, was, one, is)))
     (and_from (nat_le v.0 turns.read.0) (nat_le v.0 turns.update.0)
-    (le_true v.0 turns.read.0 (omega (arith, was, one, is))) (le_true v.0 turns.update.0 (omega (arith, was, one, is))))
+    (le-leb v.0 turns.read.0 (omega (arith, was, one, is))) (le-leb v.0 turns.update.0 (omega (arith, was, one, is))))
 
 -- by the levels, the phase and the version of the order alone
 order_timely_by : (s : ScriptData) (phase : Phase) (u : ℕ) (st : Node) (t1 t2 t3 : ℕ) (body : Body) → 1 ≤ u

@@ -233,7 +233,7 @@ decided_turns s c o None = refl
 decided_turns s c o (Some a) = refl
 
 -- The kind of a tree.
-reads_by : (s : ScriptData) (t : ℕ) (kind : TreeKind) (found : Option Tree) → slice_get s.trees t ≡ found → tree_kind_at s t ≡ Some kind
+pub reads_by : (s : ScriptData) (t : ℕ) (kind : TreeKind) (found : Option Tree) → slice_get s.trees t ≡ found → tree_kind_at s t ≡ Some kind
     → reads s t ≡ is_read kind
 reads_by s t kind None at is = absurd (let none : None ≡ Some kind = rw (at, tree_kind_at) at is in cc none)
 reads_by s t kind (Some tree) at is =

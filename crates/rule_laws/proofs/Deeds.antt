@@ -31,13 +31,14 @@ use Rattle.tree_laws.specs.Dids.{is_did_act}
 use Rattle.tree_laws.proofs.Acts.{of_act}
 use Rattle.tree_laws.proofs.AptStagesOwn.{Doing}
 use Rattle.tree_laws.proofs.AptVersions.{before}
+use Rattle.tree_laws.proofs.Counts.{one_here}
 use Rattle.run_laws.proofs.AtOnce.{no_votes}
 use Rattle.run_laws.proofs.EveryDid.{is_vote_of, turn_is}
 use Rattle.tree_laws.specs.Turns.{has_turn}
 use Rattle.rule_laws.proofs.Fronts.{first_places, front}
 use Rattle.rule_laws.proofs.Lasts.{AsksIn, OfRoot, OfSub}
 use Rattle.rule_laws.proofs.QuietLocks.{conflict_stays}
-use Rattle.rule_laws.proofs.Turns.{IsThere, born_before, is_there, not_done, own_turn, turn_once}
+use Rattle.rule_laws.proofs.Turns.{IsThere, born_before, is_there, not_done, turn_once}
 use Rattle.value_laws.proofs.RowActs.{lasting}
 
 -- What is counted of turns, and what is there.
@@ -84,7 +85,7 @@ pub did_by_rule : (s : ScriptData) (past : List Entry) (e : Entry) (j : ℕ) (p 
     → IsFreeDeed s (front past e j) e.actor.0 t.0 k.0
 did_by_rule s past e j p r t k kind values g asks of at updates_only none =
     let there = is_there s past e p r t k g asks in
-    let own : has_turn t.0 k.0 (acts.Did t k values) ≡ 1 = own_turn t.0 k.0 in
+    let own : has_turn t.0 k.0 (acts.Did t k values) ≡ 1 = one_here t.0 k.0 in
     record {
       born = born_before s past e j (acts.Did t k values) p r t k kind g asks of at refl;
       there = there.below;

@@ -1,5 +1,5 @@
 -- The acts before an act: those before its entry, and those of its entry that come first.
-use Rattle.std.proofs.Common.{◌≡◌, ℕ, zero, suc, ◌+◌, ◌≤◌, ◌==◌, ◌||◌, Bool, true, false, List, [], ◌∷◌, ◌++◌, map, length, take, refl, sym, ap, ◌∙◌, arith, Option, Some, None}
+use Rattle.std.proofs.Common.{◌≡◌, ℕ, zero, suc, ◌+◌, ◌≤◌, ◌==◌, ◌||◌, Bool, true, false, List, [], ◌∷◌, ◌++◌, map, length, take, refl, sym, ap, subst, ◌∙◌, append-nil, append_assoc, arith, Option, Some, None}
 use Rattle.std.specs.Prelude.{if◌then◌else◌, is_some, slice_get}
 use Rattle.std.specs.List.{list_any}
 use Rattle.std.specs.Option.{option_or}
@@ -10,6 +10,7 @@ use Rattle.letter_types.specs.declared.acts.Act.{Act}
 use Rattle.letter_types.specs.declared.acts.Act.TheVariants.{Born}
 use Rattle.letter_types.specs.declared.entries.Entry.{Entry}
 use Rattle.board_rules.specs.Histories.{Place, places_at, version_in}
+use Rattle.board_rules.specs.Moves.{OneByOne}
 use Rattle.board_rules.proofs.Places.{version_in-append}
 use Rattle.world_model.specs.Counts.{one_if, tally}
 use Rattle.world_model.proofs.Bags.{tally-append}
@@ -119,3 +120,25 @@ pub born_first : (t n : ℕ) (v : Version) (xs ys : List Place) → is_some (ver
 born_first t n v xs ys =
     ap (λ (o : Option Version). is_some o) (version_in-append t xs (placed n (Born (record { 0 = t }) v) ∷ ys))
     ∙ was_before t n v (version_in t xs) ys
+
+-- What holds of each act by its position holds of them one after the other.
+pub one_by_one : (P : List Place → Place → Type 0) (xs ys : List Place)
+    → ((j : ℕ) (y : Place) → slice_get ys j ≡ Some y → P (xs ++ take j ys) y) → OneByOne P xs ys
+one_by_one P xs [] all = tt
+one_by_one P xs (y ∷ ys) all = (
+  subst (λ (zs : List Place). P zs y) (append-nil xs) (all 0 y refl),
+  one_by_one P (xs ++ y ∷ []) ys
+      (λ j z is. subst (λ (zs : List Place). P zs z) (sym (append_assoc xs (y ∷ []) (take j ys))) (all (suc j) z is)),
+)
+
+-- the second of two lists, from a place in it
+pub record InBoth {X : Type 0} (a b : List X) (j : ℕ) (x : X) : Type 0 where
+  pub place : ℕ
+  pub is : slice_get (a ++ b) place ≡ Some x
+  pub front : take place (a ++ b) ≡ a ++ take j b
+
+pub in_both : {X : Type 0} (a b : List X) (j : ℕ) (x : X) → slice_get b j ≡ Some x → InBoth a b j x
+in_both [] b j x is = record { place = j; is = is; front = refl }
+in_both (y ∷ a) b j x is =
+    let l = in_both a b j x is in
+    record { place = suc l.place; is = l.is; front = ap (λ (z : List _). y ∷ z) l.front }

@@ -36,6 +36,7 @@ use Rattle.tree_laws.specs.Turns.{has_turn, turns}
 use Rattle.tree_laws.proofs.Acts.{of_act}
 use Rattle.tree_laws.proofs.AptVersions.{before}
 use Rattle.value_laws.proofs.RowActs.{is_lasting, lasting, tally_lasting}
+use Rattle.value_laws.proofs.Agreed.{turns_others}
 use Rattle.rule_laws.proofs.Fronts.{first_places, front, placed}
 use Rattle.rule_laws.proofs.Turns.{turns_in}
 
@@ -153,12 +154,6 @@ row_last s p from (AskAsked v k) c j a is so = none_there [] j a refl is so
 row_last s p from _ c j a is so = none_there [] j a refl is so
 
 -- so all turns are had before it
-brief : (t k : ℕ) (a : Act) → is_lasting a ≡ false → has_turn t k a ≡ 0
-brief t k (acts.Did u j values) quiet = absurd (cc quiet)
-brief t k (acts.Voted u j vote) quiet = absurd (cc quiet)
-brief t k acts.Finished quiet = refl
-brief t k _ quiet = refl
-
 placed_sum : (f : Act → ℕ) (n : ℕ) (xs : List Act) → tally (of_act f) (map (placed n) xs) ≡ tally f xs
 placed_sum f n [] = refl
 placed_sum f n (a ∷ xs) = omega (arith, placed_sum f n xs)
@@ -180,7 +175,7 @@ turns_before past e j t k last =
       arith,
       front_sum (has_turn t k) past e j,
       turns_in past t k,
-      tally_lasting (has_turn t k) (brief t k) (take j e.acts),
+      tally_lasting (has_turn t k) (turns_others t k) (take j e.acts),
       ap (λ (xs : List Act). tally (has_turn t k) xs) last,
-      tally_lasting (has_turn t k) (brief t k) e.acts,
+      tally_lasting (has_turn t k) (turns_others t k) e.acts,
     )

@@ -34,10 +34,11 @@ use Rattle.world_model.specs.Reads.{getting}
 use Rattle.world_model.specs.Updates.{touching}
 use Rattle.world_model.specs.Votes.{vote_of}
 use Rattle.nc_locks.specs.Locks.{with_locks}
-use Rattle.world_model.proofs.Bags.{tally-append}
+use Rattle.world_model.proofs.Bags.{one_if_most, tally-append}
 use Rattle.world_model.proofs.Sends.{on, subs_none}
 use Rattle.tree_laws.specs.Dids.{replies_to}
 use Rattle.tree_laws.proofs.Turns.{answers_none, each_told, replies_none}
+use Rattle.tree_laws.proofs.AptApplied.{if_less, if_zero}
 use Rattle.value_laws.proofs.RowActs.{asked_acts, is_lasting, lasting_acts, row_lasts, tally_lasting}
 
 -- a letter that releases tree t, and one to node q
@@ -91,14 +92,6 @@ row_frees s p from t body c =
     ∙ ap (λ (xs : List Act). tally (has_freed t) xs) (row_lasts s p from body c) ∙ lasting_frees s c t body
 
 -- What a row sends.
-if_less : (b : Bool) (n : ℕ) → (if b then n else 0) ≤ n
-if_less true n = omega arith
-if_less false n = omega arith
-
-if_zero : (b : Bool) (n : ℕ) → n ≡ 0 → (if b then n else 0) ≡ 0
-if_zero true n none = none
-if_zero false n none = refl
-
 pub to_less : (t q : ℕ) (os : List Outgoing) → tally (released_to t q) os ≤ tally (on (releases_of t)) os
 to_less t q [] = omega arith
 to_less t q (o ∷ os) = omega (arith, if_less (o.to.0 == q) (releases_of t o.body), to_less t q os)
@@ -131,14 +124,10 @@ told_by t q u (i ∷ qs) false is = omega (arith, told_by t q u qs false is, one
   one true = rw is (omega arith)
   one false = omega arith
 
-one_most : (b : Bool) → one_if b ≤ 1
-one_most true = omega arith
-one_most false = omega arith
-
 each_once : (s : ScriptData) (t q : ℕ) (u : TreeNo) → tally (released_to t q) (to_each (Release u) (visited_by s u.0)) ≤ one_if (u.0 == t)
 each_once s t q u = by (u.0 == t) refl where
   by : (test : Bool) → (u.0 == t) ≡ test → tally (released_to t q) (to_each (Release u) (visited_by s u.0)) ≤ one_if test
-  by true is = omega (arith, told_by t q u (visited_by s u.0) true is, once_by (subs_at s u.0) q s.nodes, one_most (nat_lt q s.nodes))
+  by true is = omega (arith, told_by t q u (visited_by s u.0) true is, once_by (subs_at s u.0) q s.nodes, one_if_most (nat_lt q s.nodes))
   by false is = told_by t q u (visited_by s u.0) false is
 
 release_most : (s : ScriptData) (t q : ℕ) (found : Option Answered)

@@ -48,13 +48,14 @@ use Rattle.tree_laws.proofs.AptTurns.{births_are_turns}
 use Rattle.tree_laws.proofs.AptVersions.{before}
 use Rattle.tree_laws.proofs.Histories.{places_more}
 use Rattle.tree_laws.proofs.Counted.{all_done_of, births_in, dids_in, was_done_of}
+use Rattle.tree_laws.proofs.AptApplied.{if_zero, same_at}
+use Rattle.tree_laws.proofs.Counts.{one_here}
 use Rattle.run_laws.proofs.EveryApt.{all_apt}
 use Rattle.run_laws.proofs.EveryDid.{dids_are_turns}
 use Rattle.run_laws.proofs.EveryWhole.{strict_is}
 use Rattle.rule_laws.proofs.Fronts.{counted_front, front, none_found, place_of, placed}
 use Rattle.rule_laws.proofs.ReleaseRows.{has_freed, none_to, released_to, releases_of, row_few, row_frees}
 use Rattle.phase_laws.proofs.Progress.{brings_to}
-use Rattle.rule_laws.proofs.Turns.{own_turn}
 
 -- How often the marks of tree t went at node q, and how many letters that have still to be done release them there.
 abbrev freed_now : Entry → ℕ → ℕ → ℕ
@@ -70,17 +71,13 @@ releasing t q l = if l.to.0 == q then releases_of t l.body else 0
 abbrev releases_to : ScriptData → List Entry → ℕ → ℕ → ℕ
 releases_to s past t q = tally (releasing t q) (outstanding s past)
 
-if_none : (b : Bool) (n : ℕ) → n ≡ 0 → (if b then n else 0) ≡ 0
-if_none true n none = none
-if_none false n none = refl
-
 flow : (s : ScriptData) (past : List Entry) (e : Entry) (t q : ℕ) → MayFollow s past e
     → releases_to s (e ∷ past) t q + of_done (releasing t q) s past e ≡ releases_to s past t q + tally (released_to t q) e.sent
 flow s past e t q m =
     omega (
       arith,
       outstanding_step (releasing t q) s past e
-          (λ l u k is. if_none (l.to.0 == q) (releases_of t l.body) (ap (releases_of t) is)) m,
+          (λ l u k is. if_zero (l.to.0 == q) (releases_of t l.body) (ap (releases_of t) is)) m,
       sealed_tally (releasing t q) (released_to t q) e.stamp.0 e.actor.0 0 e.sent (λ i o. refl),
     )
 
@@ -88,9 +85,6 @@ flow s past e t q m =
 record Fair (s : ScriptData) (past : List Entry) (e : Entry) (t q : ℕ) : Type 0 where
   freed : freed_now e t q ≡ of_done (releasing t q) s past e
   few : tally (released_to t q) e.sent ≤ tally (on (replies_to t)) e.sent
-
-same_at : (q x y m n : ℕ) → x ≡ y → m ≡ n → (if x == q then m else 0) ≡ (if y == q then n else 0)
-same_at q x y m n is same = ap (λ (i : ℕ). if i == q then m else 0) is ∙ ap (λ (j : ℕ). if y == q then j else 0) same
 
 does_fair : (s : ScriptData) (past : List Entry) (e : Entry) (p : ℕ) (r : Letter) (t q : ℕ) → Does s past e p r → Fair s past e t q
 does_fair s past e p r t q d =
@@ -109,7 +103,7 @@ does_fair s past e p r t q d =
         tally-append (released_to t q) row.sent more,
         tally-append (on (replies_to t)) row.sent more,
         wakes_none (released_to t q) (wakes_by r.body) (kept_without (kept_in s past p) e.took.body)
-            (λ x. if_none (x.letter.to.0 == q) (releases_of t (Wake x.tree x.sub)) refl),
+            (λ x. if_zero (x.letter.to.0 == q) (releases_of t (Wake x.tree x.sub)) refl),
         row_few s p r.from.0 t q r.body c,
       );
     }
@@ -120,7 +114,7 @@ frees_no_keeping t = record { turned = λ v. refl; parked = λ u k i w. refl; wa
 keeps_fair : (s : ScriptData) (past : List Entry) (e : Entry) (p : ℕ) (r : Letter) (k : CoreKeeping) (t q : ℕ) → Keeps s past e p r k → Fair s past e t q
 keeps_fair s past e p r k t q d = record {
   freed =
-      if_none (e.actor.0 == q) (tally (has_freed t) e.acts)
+      if_zero (e.actor.0 == q) (tally (has_freed t) e.acts)
       (ap (λ (xs : List Act). tally (has_freed t) xs) d.acts
       ∙ keeping_acts (has_freed t) s (keeping_in s past p).core r.body k (frees_no_keeping t) d.keeps)
       ∙ sym (keeps_number (releasing t q) s past e p r k d);
@@ -141,7 +135,7 @@ releases_no_others t = record {
 apart_fair : (s : ScriptData) (past : List Entry) (e : Entry) (t q : ℕ) → MayFollow s past e → q < s.nodes → s.nodes ≤ e.actor.0
     → tally (on (releases_of t)) e.sent ≡ 0 → tally (has_freed t) e.acts ≡ 0 → Fair s past e t q
 apart_fair s past e t q m lt out sent quiet = record {
-  freed = if_none (e.actor.0 == q) (tally (has_freed t) e.acts) quiet
+  freed = if_zero (e.actor.0 == q) (tally (has_freed t) e.acts) quiet
       ∙ sym (done_apart (releasing t q) s past e out ∙ elsewhere q e.took.to.0 (releases_of t e.took.body) (omega (arith, lt, out, m.addressee)));
   few = omega (arith, none_to t q e.sent sent);
 }
@@ -161,7 +155,7 @@ fair s past e t q m lt (Submits at says) =
     (ap (λ (xs : List Act). tally (has_freed t) xs) says.1 ∙ client_acts (has_freed t) s (client_in s past) e.took.body refl)
 
 first_none : (s : ScriptData) (t q : ℕ) → releases_to s [] t q ≡ 0
-first_none s t q = omega (arith, outstanding_first (releasing t q) s, if_none (client_of s == q) (releases_of t Go) refl)
+first_none s t q = omega (arith, outstanding_first (releasing t q) s, if_zero (client_of s == q) (releases_of t Go) refl)
 
 -- So at each node marks go, or are on their way there, at most as often as their tree was answered.
 pub freed_when_answered : (s : ScriptData) (past : List Entry) (t q : ℕ) → IsValid s → IsStepRun s past → q < s.nodes
@@ -217,7 +211,7 @@ uncounted t (acts.Born u v) is = by (u.0 == t) is where
 uncounted t acts.Finished is = refl
 uncounted t _ is = refl
 
-born_some : (t : ℕ) (xs : List Place) → 1 ≤ tally (of_act (is_born t)) xs → is_some (version_in t xs) ≡ true
+pub born_some : (t : ℕ) (xs : List Place) → 1 ≤ tally (of_act (is_born t)) xs → is_some (version_in t xs) ≡ true
 born_some t [] some = absurd (omega (arith, some))
 born_some t (x ∷ xs) some = by (born_as t x.act) refl (born_some t xs) where
   by : (found : Option Version) → born_as t x.act ≡ found → (1 ≤ tally (of_act (is_born t)) xs → is_some (version_in t xs) ≡ true)
@@ -276,7 +270,7 @@ freed_by_rule s past e j p r t g is at =
           none_found (freed_here t.0 q) (λ (x : Place). (x.node == q) && frees t.0 x.act) (front past e j) (λ x. omega arith)
           (omega (
             arith,
-            own_turn q t.0,
+            one_here q t.0,
             counted_front (freed_here t.0 q) past e j (placed q (acts.Freed t)) (place_of e j (acts.Freed t) at),
             freed_in now t.0 q,
             fair_now,

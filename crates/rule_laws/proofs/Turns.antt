@@ -1,7 +1,6 @@
 -- Where a subtransaction is done or votes: it is one of its tree, at its node, and the tree is born before.
-use Rattle.std.proofs.Common.{◌≡◌, ℕ, zero, suc, ◌<◌, ◌≤◌, ◌==◌, ◌&&◌, true, false, List, [], ◌∷◌, ◌++◌, map, length, take, refl, sym, ap, ◌∙◌, subst, arith, Option, Some, None}
+use Rattle.std.proofs.Common.{◌≡◌, ℕ, zero, suc, ◌<◌, ◌≤◌, true, false, List, [], ◌∷◌, ◌++◌, map, length, take, refl, sym, ap, ◌∙◌, subst, arith, Option, Some, None}
 use Rattle.std.specs.Prelude.{is_some, nat_lt, slice_get}
-use Rattle.std.proofs.lemmas.Bool.Decides.{nat_tests}
 use Rattle.tv_base.specs.declared.numbers.SubNo.{SubNo}
 use Rattle.tv_base.specs.declared.numbers.TreeNo.{TreeNo}
 use Rattle.tv_base.specs.declared.numbers.Version.{Version}
@@ -145,6 +144,3 @@ not_done t k xs none = none_found (of_act (has_turn t k)) (λ (x : Place). does 
 
 pub not_voted : (t k : ℕ) (xs : List Place) → tally (of_act (has_turn t k)) xs ≡ 0 → was_voted t k xs ≡ false
 not_voted t k xs none = none_found (of_act (has_turn t k)) (λ (x : Place). votes t k x.act) xs (λ x. vote_counts t k x.act) none
-
-pub own_turn : (t k : ℕ) → one_if ((t == t) && (k == k)) ≡ 1
-own_turn t k = grind (arith, nat_tests)

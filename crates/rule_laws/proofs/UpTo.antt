@@ -24,6 +24,7 @@ use Rattle.world_model.specs.Reads.{seen_in}
 use Rattle.world_model.specs.Updates.{table_after_deed, table_after_ops}
 use Rattle.board_rules.specs.Stands.{lock_mode_of}
 use Rattle.board_rules.specs.Worth.{changes, ops_change}
+use Rattle.board_rules.proofs.Precedence.{overwritten as changes_over}
 use Rattle.tree_laws.proofs.Seen.{seen_of}
 use Rattle.tree_laws.proofs.Tables.{collected_of, item_collected, replaced_other, replaced_same}
 
@@ -206,13 +207,6 @@ over_writes m v o x items (Some (y ∷ ys)) at same all =
     (put_up m v w y ys
     (put_here m o.item x (put_value v w (y ∷ ys)) (y ∷ ys) items same at
     (subst (λ (t : Table). IsUpTo m (item_in x t)) (wrote v o items y ys at) all))).0
-
--- an operation of a strict tree that changes an item overwrites it
-pub changes_over : (d : Deed) → changes d ≡ true → modes_conflict Mark (lock_mode_of d) ≡ true → overwrites d ≡ true
-changes_over (Apply op) is strict = absurd (cc strict)
-changes_over Get is strict = absurd (cc is)
-changes_over (Set n) is strict = refl
-changes_over (Draw n) is strict = refl
 
 abbrev pub AreStrict : List SubOp → Type 0
 AreStrict os = AllByRecursion (λ (o : SubOp). modes_conflict Mark (lock_mode_of o.deed) ≡ true) os

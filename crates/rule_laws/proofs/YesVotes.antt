@@ -3,8 +3,7 @@
 use Rattle.std.proofs.Common.{◌≡◌, ◌⊎◌, inl, inr, ℕ, zero, suc, ◌<◌, ◌≤◌, ◌==◌, max, Bool, true, false, List, ◌∷◌, ◌++◌, drop, map, length, take, refl, sym, ap, ◌∙◌, subst, arith, append_assoc, take-append-drop, Option, Some, None, []}
 use Rattle.std.specs.Prelude.{if◌then◌else◌, fold, is_some, nat_lt, slice_get}
 use Rattle.std.specs.Option.{option_or}
-use Rattle.std.proofs.lemmas.Bool.{cases_lt}
-use Rattle.std.proofs.lemmas.Bool.Decides.{nat_tests}
+use Rattle.std.proofs.lemmas.Bool.{cases_lt, le-ltb}
 use Rattle.tv_base.proofs.ByPlace.{slice_get-old}
 use Rattle.tv_base.specs.declared.numbers.ItemNo.{ItemNo}
 use Rattle.tv_base.specs.declared.numbers.SubNo.{SubNo}
@@ -47,6 +46,7 @@ use Rattle.tree_laws.proofs.AptDecisions.{dated_here}
 use Rattle.tree_laws.proofs.AptStagesOwn.{Doing}
 use Rattle.tree_laws.proofs.AptVersions.{before}
 use Rattle.tree_laws.proofs.AptWindows.{tables_ascend}
+use Rattle.tree_laws.proofs.Counts.{one_here}
 use Rattle.tree_laws.proofs.Tables.{ItemIn}
 use Rattle.value_laws.proofs.HeldItems.{none_newer}
 use Rattle.value_laws.proofs.RowActs.{lasting}
@@ -58,7 +58,7 @@ use Rattle.rule_laws.proofs.Fronts.{first_places, front, placed}
 use Rattle.rule_laws.proofs.InEntries.{in_second}
 use Rattle.rule_laws.proofs.Lasts.{AsksIn, OfRoot, OfSub, cause_there}
 use Rattle.rule_laws.proofs.QuietLocks.{first_quiet}
-use Rattle.rule_laws.proofs.Turns.{born_before, is_there, not_voted, own_turn, turn_once}
+use Rattle.rule_laws.proofs.Turns.{born_before, is_there, not_voted, turn_once}
 use Rattle.rule_laws.proofs.UpTo.{IsUpTo}
 use Rattle.rule_laws.proofs.Writes.{IsItem, asked_born, brief_most, writes_up}
 
@@ -125,9 +125,6 @@ item_up s past p x v valid run lt i none =
     let held : IsHeld found.0 = IsHeld-item_in x items found.0 found.1 (tables_ascend s past p valid apt run lt) in
     subst (IsUpTo v.0) (sym found.1) (held_up v.0 found.0 held (none_newer x v found.0 (ap (newer_by x v) (sym found.1) ∙ none)))
 
-pub not_less : (a b : ℕ) → b ≤ a → nat_lt a b ≡ false
-not_less a b le = grind (arith, nat_tests)
-
 -- So nothing newer is found in the look back.
 newer_none : (s : ScriptData) (past : List Entry) (e : Entry) (j p t k : ℕ) (v : Version) (os : List SubOp) → IsValid s → IsStepRun s (e ∷ past)
     → p < s.nodes → lasting (take j e.acts) ≡ []
@@ -149,7 +146,7 @@ newer_none s past e j p t k v (o ∷ os) valid run lt none item free =
           let most : newest_of s (front past e j) p o.item.0 ≤ v.0 =
           newest_most s past e j p v.0 o.item valid run lt i (item_up s past p o.item v valid run.1 lt i newer) none in
           let test : nat_lt v.0 (newest_of s (front past e j) p o.item.0) ≡ false =
-          not_less v.0 (newest_of s (front past e j) p o.item.0) most in
+          le-ltb v.0 (newest_of s (front past e j) p o.item.0) most in
           rw is (rw test (rest parts.1))
 
 -- the version of its tree at the vote
@@ -177,7 +174,7 @@ yes_by_rule s past e j p r t k values g asks of at free none =
     let version : version_in t.0 (front past e j) ≡ Some v =
     front_version past e j t.0 v born
     (asked_born s (before past ++ places_at e) t k Strict r.body c asks of refl (dated_here s past e p r g.valid g.apt.1 g.run g.does)) in
-    let own : has_turn t.0 k.0 (acts.Voted t k (Yes values)) ≡ 1 = own_turn t.0 k.0 in
+    let own : has_turn t.0 k.0 (acts.Voted t k (Yes values)) ≡ 1 = one_here t.0 k.0 in
     let met : conflict_of s (before past) p t.0 os ≡ None =
     sym (runs_meet_conflicts s past p t k (has_some s t.0 strict) g.valid g.run.1 g.does.brings.below there.node)
     ∙ ap (λ (ws : Wanted). conflict_by (met_in t ws c.locks)) (sym (wanted_needed os)) ∙ n.met in

@@ -78,7 +78,7 @@ asked_meets s past p from (SubLetter t k v) valid run lt meant =
 asked_meets s past p from _ valid run lt meant = tt
 
 -- A Wake brings a letter of its subtransaction.
-called_asks : (p : ℕ) (t : TreeNo) (k : SubNo) (xs : List KeptLetter) (r : Letter) → AreKeptAt p xs → first_called t k xs ≡ Some r
+pub called_asks : (p : ℕ) (t : TreeNo) (k : SubNo) (xs : List KeptLetter) (r : Letter) → AreKeptAt p xs → first_called t k xs ≡ Some r
     → AsksFor t k r.body
 called_asks p t k [] r all is = absurd (cc is)
 called_asks p t k (x ∷ xs) r all is = by (λ later. called_asks p t k xs r all.1 later) (is_called_for t k x) refl is where

@@ -1,6 +1,7 @@
 -- How many entries a run has at most, in every script.
-use Rattle.std.proofs.Common.{◌≡◌, ℕ, zero, suc, ◌+◌, ◌*◌, ◌<◌, ◌≤◌, ◌==◌, ◌&&◌, not, Bool, true, false, List, [], ◌∷◌, length, refl, sym, ap, subst, ◌∙◌, arith, Option, Some, None}
+use Rattle.std.proofs.Common.{◌≡◌, ℕ, zero, suc, ◌+◌, ◌*◌, ◌<◌, ◌≤◌, ◌==◌, ◌&&◌, Bool, true, false, List, [], ◌∷◌, length, refl, sym, ap, subst, ◌∙◌, arith, Option, Some, None}
 use Rattle.std.specs.Prelude.{if◌then◌else◌, slice_get}
+use Rattle.std.proofs.lemmas.Bool.{eqb-true, not-false}
 use Rattle.std.proofs.lemmas.Bool.Decides.{nat_tests}
 use Rattle.tv_base.specs.declared.numbers.TreeNo.{TreeNo}
 use Rattle.letter_types.specs.Kept.{kept_without, wakes, wakes_by}
@@ -49,7 +50,7 @@ use Rattle.tree_laws.proofs.AptStagesApart.{CountsNoOthers, client_none, coordin
 use Rattle.tree_laws.proofs.AptStagesSteps.{sent_tells, tells_of, told, turned_by}
 use Rattle.tree_laws.proofs.AptSteps.{Enters, enters, strays, wakes_none}
 use Rattle.tree_laws.proofs.AptTurns.{turns_at_most_once, turns_come_once}
-use Rattle.tree_laws.proofs.Entries.{all_subs_here, is_reply, is_work, some_subs, taken_in, taken_over, taken_replies, work_hit, work_none}
+use Rattle.tree_laws.proofs.Entries.{all_subs_here, is_reply, is_work, some_subs, subs_at_here, taken_in, taken_over, taken_replies, work_hit, work_none}
 use Rattle.tree_laws.proofs.Sums.{over, over_hit, over_none}
 use Rattle.run_laws.proofs.Costs.{is_apart, paid, stages}
 use Rattle.run_laws.proofs.EveryApt.{all_apt, lawful}
@@ -426,9 +427,6 @@ kind_strict s t tree at = rw (at, is_strict_at) refl
 kind_updates : (s : ScriptData) (t : ℕ) (tree : Tree) → slice_get s.trees t ≡ Some tree → updates s t ≡ is_update tree.kind
 kind_updates s t tree at = rw (at, updates) refl
 
-subs_of : (s : ScriptData) (t : ℕ) (tree : Tree) → slice_get s.trees t ≡ Some tree → length (subs_at s t) ≡ length tree.subs
-subs_of s t tree at = rw (at, subs_at) refl
-
 other_strict : (s : ScriptData) (u t : ℕ) → is_strict_at s u ≡ true → is_strict_at s t ≡ false → one_if (u == t) ≡ 0
 other_strict s u t strict none = by (u == t) refl where
   by : (b : Bool) → (u == t) ≡ b → one_if b ≡ 0
@@ -465,13 +463,13 @@ release_other s t none from to _ meant = refl
 -- a number that only strict trees have, and one that only update trees have
 strict_only : (s : ScriptData) (n t : ℕ) (tree : Tree) (kind : TreeKind) → slice_get s.trees t ≡ Some tree → tree.kind ≡ kind
     → (is_strict_at s t ≡ false → n ≡ 0) → n ≤ length (subs_at s t) → n ≤ if_strict kind (length tree.subs)
-strict_only s n t tree Strict at is none most = omega (arith, most, subs_of s t tree at)
+strict_only s n t tree Strict at is none most = omega (arith, most, subs_at_here s t tree at)
 strict_only s n t tree Update at is none most = omega (arith, none (kind_strict s t tree at ∙ ap is_strict is))
 strict_only s n t tree Read at is none most = omega (arith, none (kind_strict s t tree at ∙ ap is_strict is))
 
 update_only : (s : ScriptData) (n t : ℕ) (tree : Tree) (kind : TreeKind) → slice_get s.trees t ≡ Some tree → tree.kind ≡ kind
     → (updates s t ≡ false → n ≡ 0) → n ≤ length (subs_at s t) → n ≤ if_update kind (length tree.subs)
-update_only s n t tree Update at is none most = omega (arith, most, subs_of s t tree at)
+update_only s n t tree Update at is none most = omega (arith, most, subs_at_here s t tree at)
 update_only s n t tree Strict at is none most = omega (arith, none (kind_updates s t tree at ∙ ap is_update is))
 update_only s n t tree Read at is none most = omega (arith, none (kind_updates s t tree at ∙ ap is_update is))
 
@@ -548,7 +546,7 @@ wakes_of s past t tree Update valid run at is =
     let all = over_times 0 (strict_trees s.trees) (λ k. sent_in (wake_of t k) past) (subs_at s t) (λ k le kt.
     omega (arith, update_wakes s past t k valid run (sub_node_below s t k valid (omega (arith, kt))) up, strict_most s)) in
     let same : strict_trees s.trees * length (subs_at s t) ≡ strict_trees s.trees * length tree.subs =
-    ap (λ (n : ℕ). strict_trees s.trees * n) (subs_of s t tree at) in
+    ap (λ (n : ℕ). strict_trees s.trees * n) (subs_at_here s t tree at) in
     omega (arith, all, same)
 wakes_of s past t tree Strict valid run at is =
     let strict : is_strict_at s t ≡ true = kind_strict s t tree at ∙ ap is_strict is in
@@ -606,9 +604,6 @@ plain_wake s none from to (Wake t k) meant = let some = meant.some_strict in abs
 plain_wake s none from to Go meant = refl
 plain_wake s none from to _ meant = refl
 
-zero_by : (n : ℕ) → not (n == 0) ≡ false → n ≡ 0
-zero_by n is = grind (arith, nat_tests)
-
 pub strict_few : (s : ScriptData) (past : List Entry) → IsValid s → IsStepRun s past
     → taken_in is_decision past + taken_in is_ack past + taken_in is_release past + taken_in is_wake past ≤ strict_entries s
 strict_few s past valid run = by (has_strict s) refl where
@@ -625,7 +620,7 @@ strict_few s past valid run = by (has_strict s) refl where
         arith,
         decisions_all s past valid run,
         acks_all s past valid run,
-        no_strict_subs s.trees (zero_by (strict_trees s.trees) is),
+        no_strict_subs s.trees (eqb-true (strict_trees s.trees) 0 (not-false (strict_trees s.trees == 0) is)),
         taken_none is_release s past valid run (plain_release s is),
         taken_none is_wake s past valid run (plain_wake s is),
       )

@@ -21,6 +21,7 @@ use Rattle.world_model.proofs.Flows.{client_kept, flow}
 use Rattle.world_model.proofs.Nexts.{MadeByClient}
 use Rattle.world_model.proofs.Scripts.{SubAt, sub_below, sub_here, sub_there, tree_below}
 use Rattle.world_model.proofs.Sends.{on}
+use Rattle.world_model.proofs.Bags.{one_if_same}
 use Rattle.strict_laws.specs.Meant.{IsLetterMeant, IsMeant}
 use Rattle.strict_laws.proofs.Meant.{letters_are_meant}
 use Rattle.strict_laws.proofs.MeantRows.{root_below, strict_below}
@@ -245,9 +246,6 @@ record IsQuietFor (t k : ℕ) (body : Body) : Type 0 where
 abbrev Quiet : ScriptData → Body → Type 0
 Quiet s body = (t k : ℕ) → SubAt s t k → IsQuietFor t k body
 
-one_tree : (t : ℕ) → one_if (t == t) ≡ 1
-one_tree t = grind (arith, nat_tests)
-
 quiet_body : (s : ScriptData) (from to : ℕ) (body : Body) → IsValid s → IsMeant s from to body → Quiet s body → of_trees body ≡ 0
 quiet_body s from to (SubLetter t k v) valid meant quiet =
     absurd (omega (arith, (quiet t.0 k.0 (sub_there s t.0 k.0 meant.tree meant.sub)).asked meant.later, one_here t.0 k.0))
@@ -255,10 +253,10 @@ quiet_body s from to (Done t k v notice) valid meant quiet =
     absurd (omega (arith, (quiet t.0 k.0 (sub_there s t.0 k.0 meant.tree meant.sub)).told, one_here t.0 k.0))
 quiet_body s from to (Decide t v commit) valid meant quiet =
     let lt = strict_below s t.0 meant.strict in
-    absurd (omega (arith, (quiet t.0 0 (sub_there s t.0 0 lt (root_below s t.0 valid lt))).decided, one_tree t.0))
+    absurd (omega (arith, (quiet t.0 0 (sub_there s t.0 0 lt (root_below s t.0 valid lt))).decided, one_if_same t.0))
 quiet_body s from to (Decided t v) valid meant quiet =
     let lt = strict_below s t.0 meant.strict in
-    absurd (omega (arith, (quiet t.0 0 (sub_there s t.0 0 lt (root_below s t.0 valid lt))).decided, one_tree t.0))
+    absurd (omega (arith, (quiet t.0 0 (sub_there s t.0 0 lt (root_below s t.0 valid lt))).decided, one_if_same t.0))
 quiet_body s from to _ valid meant quiet = refl
 
 asked_none : (k : ℕ) (f : Letter → ℕ) (ls : List Letter) (test : Bool) → (k == 0) ≡ test → (0 < k → tally f ls ≡ 0)

@@ -2,7 +2,7 @@
 -- there, a root is new, its version is one that the node can go by, and what it asks for can be made.
 use Rattle.std.proofs.Common.{◌≡◌, ℕ, ◌<◌, ◌≤◌, ◌==◌, ◌&&◌, ◌||◌, Bool, true, false, not, List, [], ◌∷◌, length, refl, sym, ap, subst, ◌∙◌, arith, Option, Some, None}
 use Rattle.std.specs.Prelude.{IsSome, nat_lt}
-use Rattle.std.proofs.lemmas.Bool.{and_from}
+use Rattle.std.proofs.lemmas.Bool.{and_from, lt-ltb, or_left, or_right}
 use Rattle.std.proofs.lemmas.Bool.Decides.{nat_tests}
 use Rattle.letter_types.specs.Kept.{brought, first_called}
 use Rattle.letter_types.specs.declared.bodies.Body.{Body}
@@ -56,9 +56,6 @@ brings_by s past e Go valid apt run lt is = (e.took, refl)
 brings_by s past e _ valid apt run lt is = (e.took, refl)
 
 -- What a letter that is meant for its addressee names belongs there.
-below_true : (a b : ℕ) → a < b → nat_lt a b ≡ true
-below_true a b lt = grind (arith, nat_tests)
-
 same_true : (a b : ℕ) → b ≡ a → (a == b) ≡ true
 same_true a b is = grind (arith, nat_tests)
 
@@ -66,20 +63,20 @@ named : (s : ScriptData) (p from : ℕ) (b : Body) → IsValid s → IsMeant s f
 named s p from (Root t) valid meant = same_true (home_of s t.0) p meant.home
 named s p from (SubLetter t k v) valid meant =
     and_from (node_of s t.0 k.0 == p) (nat_lt from s.nodes) (same_true (node_of s t.0 k.0) p meant.node)
-    (below_true from s.nodes meant.sender)
+    (lt-ltb from s.nodes meant.sender)
 named s p from (Done t k v notice) valid meant =
     and_from (home_of s t.0 == p) (nat_lt k.0 (length (subs_at s t.0)) && (nat_lt from s.nodes && suits (is_strict_at s t.0) notice))
     (same_true (home_of s t.0) p meant.home)
     (and_from (nat_lt k.0 (length (subs_at s t.0))) (nat_lt from s.nodes && suits (is_strict_at s t.0) notice)
-    (below_true k.0 (length (subs_at s t.0)) meant.sub)
-    (and_from (nat_lt from s.nodes) (suits (is_strict_at s t.0) notice) (below_true from s.nodes meant.sender) meant.fits))
+    (lt-ltb k.0 (length (subs_at s t.0)) meant.sub)
+    (and_from (nat_lt from s.nodes) (suits (is_strict_at s t.0) notice) (lt-ltb from s.nodes meant.sender) meant.fits))
 named s p from (Decide t v commit) valid meant =
     let below : from < s.nodes = subst (λ (q : ℕ). q < s.nodes) (sym meant.home) (home_below s t.0 valid (strict_below s t.0 meant.strict)) in
     and_from (is_strict_at s t.0) (visits (subs_at s t.0) p && nat_lt from s.nodes) meant.strict
-    (and_from (visits (subs_at s t.0) p) (nat_lt from s.nodes) meant.visited.visits (below_true from s.nodes below))
+    (and_from (visits (subs_at s t.0) p) (nat_lt from s.nodes) meant.visited.visits (lt-ltb from s.nodes below))
 named s p from (Decided t v) valid meant =
     and_from (home_of s t.0 == p) (nat_lt from s.nodes) (same_true (home_of s t.0) p meant.home)
-    (below_true from s.nodes meant.visited.below)
+    (lt-ltb from s.nodes meant.visited.below)
 named s p from (Release t) valid meant = meant.visited.visits
 named s p from (Wake t k) valid meant = same_true (node_of s t.0 k.0) p meant.node
 named s p from Go valid meant = refl
@@ -90,20 +87,13 @@ some_strict : (s : ScriptData) (t : ℕ) (test : Bool) → has_strict s ≡ test
 some_strict s t true is strict = is
 some_strict s t false is strict = absurd (let none = no_strict s t is in cc (none, strict))
 
-kept_true : (a b : Bool) → a ≡ true → (a || b) ≡ true
-kept_true a b is = rw is refl
-
-or_not : (a : Bool) → (a || true) ≡ true
-or_not true = refl
-or_not false = refl
-
 belongs : (s : ScriptData) (p from : ℕ) (b : Body) → IsMeant s from p b → (has_strict s || not (is_of_strict b)) ≡ true
-belongs s p from (Decide t v commit) meant = kept_true (has_strict s) false (some_strict s t.0 (has_strict s) refl meant.strict)
-belongs s p from (Decided t v) meant = kept_true (has_strict s) false (some_strict s t.0 (has_strict s) refl meant.strict)
-belongs s p from (Release t) meant = kept_true (has_strict s) false meant.some_strict
-belongs s p from (Wake t k) meant = kept_true (has_strict s) false meant.some_strict
-belongs s p from Go meant = or_not (has_strict s)
-belongs s p from _ meant = or_not (has_strict s)
+belongs s p from (Decide t v commit) meant = or_left (has_strict s) false (some_strict s t.0 (has_strict s) refl meant.strict)
+belongs s p from (Decided t v) meant = or_left (has_strict s) false (some_strict s t.0 (has_strict s) refl meant.strict)
+belongs s p from (Release t) meant = or_left (has_strict s) false meant.some_strict
+belongs s p from (Wake t k) meant = or_left (has_strict s) false meant.some_strict
+belongs s p from Go meant = or_right (has_strict s) true refl
+belongs s p from _ meant = or_right (has_strict s) true refl
 
 -- A root is new.
 record IsNewRoot (s : ScriptData) (past : List Entry) (p : ℕ) (b : Body) : Type 0 where

@@ -35,7 +35,7 @@ use Rattle.tree_laws.specs.Dids.{asks, births, letters_asking, notices, tells_do
 use Rattle.tree_laws.specs.Stages.{IsAnswered, StageAt, Answered, Gathers, Holds, Unborn, decides, decisions, is_noted}
 use Rattle.tree_laws.specs.Turns.{turns}
 use Rattle.tree_laws.proofs.Acts.{counted_any}
-use Rattle.tree_laws.proofs.AptApplied.{applied_where_decided}
+use Rattle.tree_laws.proofs.AptApplied.{applied_where_decided, less_and}
 use Rattle.tree_laws.proofs.AptDecided.{decided_once}
 use Rattle.tree_laws.proofs.AptDecisions.{letters_carry_versions}
 use Rattle.tree_laws.proofs.AptStagesRun.{stages_of_trees}
@@ -44,6 +44,7 @@ use Rattle.tree_laws.proofs.AptVersions.{before, tally_less}
 use Rattle.tree_laws.proofs.Counts.{zero_or}
 use Rattle.tree_laws.proofs.Histories.{places_more}
 use Rattle.tree_laws.proofs.Counted.{all_done_of, births_in, dids_in, unborn, was_done_of}
+use Rattle.tree_laws.proofs.AptMakes.{visits_there}
 use Rattle.run_laws.proofs.EveryApt.{all_apt}
 use Rattle.run_laws.proofs.EveryDecided.{decided_when_gone}
 use Rattle.run_laws.proofs.EveryDid.{dids_are_turns}
@@ -122,22 +123,17 @@ none_counted s past t v valid run silent born =
     (letters_are_meant s past valid run) silent
 
 -- So nothing that counts these alone counts a letter.
-and_less : (a b : Bool) → one_if (a && b) ≤ one_if a
-and_less true true = omega arith
-and_less true false = omega arith
-and_less false b = omega arith
-
 asks_less : (t k : ℕ) (b : Body) → 0 < k → asks t k b ≤ counts_for t b
 asks_less t k (Root u) some =
     let other : (0 == k) ≡ false = grind (arith, nat_tests) in
     let none : one_if ((u.0 == t) && (0 == k)) ≡ 0 = grind (arith, nat_tests) in
     omega (arith, none)
-asks_less t k (SubLetter u j v) some = and_less (u.0 == t) (j.0 == k)
+asks_less t k (SubLetter u j v) some = less_and (u.0 == t) (j.0 == k)
 asks_less t k Go some = omega arith
 asks_less t k _ some = omega arith
 
 tells_less : (t k : ℕ) (b : Body) → tells_done t k b ≤ counts_for t b
-tells_less t k (Done u j v notice) = and_less (u.0 == t) (j.0 == k)
+tells_less t k (Done u j v notice) = less_and (u.0 == t) (j.0 == k)
 tells_less t k Go = omega arith
 tells_less t k _ = omega arith
 
@@ -148,8 +144,8 @@ decides_less t Go = omega arith
 decides_less t _ = omega arith
 
 decision_less : (t : ℕ) (b : Bool) (body : Body) → tells_decision t b body ≤ counts_for t body
-decision_less t true (Decide u v commit) = and_less (u.0 == t) commit
-decision_less t false (Decide u v commit) = and_less (u.0 == t) (not commit)
+decision_less t true (Decide u v commit) = less_and (u.0 == t) commit
+decision_less t false (Decide u v commit) = less_and (u.0 == t) (not commit)
 decision_less t true Go = omega arith
 decision_less t false Go = omega arith
 decision_less t true _ = omega arith
@@ -314,17 +310,11 @@ visits_more x xs q is = or_right (x.node.0 == q) (visits xs q) is where
 visits_first : (x : Sub) (xs : List Sub) → visits (x ∷ xs) x.node.0 ≡ true
 visits_first x xs = let here : (x.node.0 == x.node.0) ≡ true = grind (arith, nat_tests) in rw here refl
 
-all_applied_of : (t : ℕ) (subs : List Sub) (xs : List Place) → ((k : ℕ) (x : Sub) → slice_get subs k ≡ Some x → was_applied t x.node.0 xs ≡ true)
+pub all_applied_of : (t : ℕ) (subs : List Sub) (xs : List Place) → ((k : ℕ) (x : Sub) → slice_get subs k ≡ Some x → was_applied t x.node.0 xs ≡ true)
     → all_applied t subs xs ≡ true
 all_applied_of t [] xs all = refl
 all_applied_of t (x ∷ subs) xs all =
     and_from (was_applied t x.node.0 xs) (all_applied t subs xs) (all 0 x refl) (all_applied_of t subs xs (λ k y at. all (suc k) y at))
-
-visits_at : (subs : List Sub) (k : ℕ) (x : Sub) → slice_get subs k ≡ Some x → visits subs x.node.0 ≡ true
-visits_at [] k x at = absurd (cc at)
-visits_at (y ∷ subs) zero x at =
-    let same : y ≡ x = cc at in subst (λ (z : Sub). visits (y ∷ subs) z.node.0 ≡ true) same (visits_first y subs)
-visits_at (y ∷ subs) (suc k) x at = visits_more y subs x.node.0 (visits_at subs k x at)
 
 node_at : (s : ScriptData) (t k : ℕ) (x : Sub) → IsValid s → sub_at s t k ≡ Some x → x.node.0 < s.nodes
 node_at s t k x valid at =
@@ -345,7 +335,7 @@ complete_by s past t v true valid run lt silent born strict =
     all_applied_of t (subs_at s t) xs
     (λ k x at.
     was_applied_of past t x.node.0
-    (applied_when_silent s past t x.node.0 v valid run lt silent born strict (node_at s t k x valid at) (visits_at (subs_at s t) k x at))) in
+    (applied_when_silent s past t x.node.0 v valid run lt silent born strict (node_at s t k x valid at) (visits_there (subs_at s t) k x at))) in
     rw (strict_is s t (slice_get s.trees t) refl ∙ strict) all
 complete_by s past t v false valid run lt silent born plain =
     let xs : List Place = places_of (reverse past) in

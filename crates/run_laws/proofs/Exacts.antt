@@ -1,7 +1,7 @@
 -- While nothing is busy and no nudge has come since the round began, its rows are the present ones; so a pause is busy.
 use Rattle.std.proofs.Common.{◌≡◌, ◌≢◌, ◌⊎◌, ℕ, zero, suc, ◌<◌, ◌≤◌, ◌==◌, ◌&&◌, Bool, true, false, List, [], ◌∷◌, length, set, take, drop, refl, sym, ap, subst, ◌∙◌, arith, Option, Some}
 use Rattle.std.specs.Prelude.{nat_lt, slice_get, slice_index}
-use Rattle.std.proofs.lemmas.Bool.{cases_eq}
+use Rattle.std.proofs.lemmas.Bool.{cases_eq, eq-eqb}
 use Rattle.std.proofs.lemmas.Bool.Decides.{nat_tests}
 use Rattle.tv_base.specs.declared.numbers.Version.{Version}
 use Rattle.phase_out.specs.Rounds.{NodeRows, RoundData, agrees, all_below, all_in, is_of, kept_number, number_at, pair_agrees}
@@ -166,14 +166,11 @@ below_all : (n : ℕ) (f : ℕ → Bool) → ((k : ℕ) → k < n → f k ≡ tr
 below_all zero f all = refl
 below_all (suc n) f all = rw (below_all n f (λ k lt. all k (omega (arith, lt))), all n (omega arith)) refl
 
-eq_test : (a b : ℕ) → a ≡ b → (a == b) ≡ true
-eq_test a b eq = grind (arith, nat_tests)
-
 pub all_agree : (n : ℕ) (askeds dones : NodeRows) → ((p q : ℕ) → p < n → q < n → kept_number askeds p q ≡ kept_number dones q p)
     → agrees n askeds dones ≡ true
 all_agree n askeds dones same =
     below_all n (λ p. all_below n (pair_agrees askeds dones p)) (λ p lp.
-    below_all n (pair_agrees askeds dones p) (λ q lq. eq_test (kept_number askeds p q) (kept_number dones q p) (same p q lp lq)))
+    below_all n (pair_agrees askeds dones p) (λ q lq. eq-eqb (kept_number askeds p q) (kept_number dones q p) (same p q lp lq)))
 
 -- 4. A row that is put.
 put_by : (ks : NodeRows) (f q : ℕ) (row row' : List ℕ) (P : ℕ → List ℕ → Type 0) → (f ≡ q) ⊎ (f ≢ q) → slice_get (set ks f (Some row)) q ≡ Some (Some row')

@@ -21,7 +21,6 @@ use Rattle.phase_laws.specs.Balance.{IsBalanced, MOST_COUNTED}
 use Rattle.phase_laws.specs.Quiet.{IsGivenInQuiet}
 use Rattle.phase_laws.proofs.Balance.{apt_parts, counts_are_small}
 use Rattle.phase_laws.proofs.Below.{balanced}
-use Rattle.phase_laws.proofs.Lawful.{IsLawful}
 use Rattle.phase_laws.proofs.Shows.{given_in_quiet}
 use Rattle.run_laws.proofs.EveryApt.{all_apt as every_apt, lawful as every_lawful}
 

@@ -1,5 +1,6 @@
 -- How far the trees of a kind are whole, by the coordinator's phase, in every run of every valid script.
-use Rattle.std.proofs.Common.{◌≡◌, ◌⊎◌, inl, inr, ℕ, ◌+◌, ◌-◌, ◌<◌, ◌≤◌, Bool, true, false, not, List, [], ◌∷◌, length, reverse, refl, sym, ap, subst, ◌∙◌, arith, Some, None}
+use Rattle.std.proofs.Common.{◌≡◌, ◌⊎◌, inl, inr, ℕ, ◌+◌, ◌-◌, ◌<◌, ◌≤◌, Bool, true, false, List, [], ◌∷◌, length, reverse, refl, sym, ap, subst, ◌∙◌, arith, Some, None}
+use Rattle.std.proofs.lemmas.Bool.{not-true}
 use Rattle.tv_base.specs.declared.numbers.Version.{Version}
 use Rattle.letter_types.specs.declared.bodies.Body.{Body}
 use Rattle.letter_types.specs.declared.entries.Entry.{Entry}
@@ -76,16 +77,12 @@ stays_whole s past e t is =
     ap (λ (xs : List Place). is_whole_in s xs t) (places_more e past) ∙ whole_more s (places_of (reverse past)) (places_at e) t is
 
 -- a tree that an entry bears takes the version that its node gives to trees of its kind
-not_true : (b : Bool) → not b ≡ true → b ≡ false
-not_true true is = absurd (cc is)
-not_true false is = refl
-
 pub born_turn : (kind : Bool) (s : ScriptData) (past : List Entry) (e : Entry) (t : ℕ) (w : Version) → IsBornAt s past e t w
     → is_of_kind kind s t ≡ true → w.0 ≡ turn_of kind (node_in s past e.actor.0)
 born_turn true s past e t w at of = at.read of
-born_turn false s past e t w at of = at.update (not_true (reads s t) of)
+born_turn false s past e t w at of = at.update (not-true (reads s t) of)
 
-levels_in : (s : ScriptData) (past : List Entry) → IsValid s → IsStepRun s past → Levels s past
+pub levels_in : (s : ScriptData) (past : List Entry) → IsValid s → IsStepRun s past → Levels s past
 levels_in s past valid run = levels s past (lawful s valid) run (all_apt s past valid run)
 
 -- so no tree that it bears has a version below

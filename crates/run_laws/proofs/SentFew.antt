@@ -52,6 +52,7 @@ use Rattle.tree_laws.proofs.AptStagesApart.{CountsNoOthers, client_none, coordin
 use Rattle.tree_laws.proofs.AptStagesRun.{stages_of_trees}
 use Rattle.tree_laws.proofs.AptSteps.{wakes_none}
 use Rattle.tree_laws.proofs.Entries.{taken_in}
+use Rattle.tree_laws.proofs.Turns.{each_told}
 use Rattle.run_laws.proofs.EveryApt.{all_apt}
 use Rattle.run_laws.proofs.WakesFew.{sent_in}
 
@@ -115,11 +116,6 @@ each_one : (f : Outgoing → ℕ) (body : Body) (qs : List ℕ) → ((q : ℕ) �
 each_one f body [] one = omega arith
 each_one f body (q ∷ qs) one = omega (arith, one q, each_one f body qs one)
 
-each_none_of : (f : Outgoing → ℕ) (body : Body) (qs : List ℕ) → ((q : ℕ) → f (record { to = record { 0 = q }; body = body }) ≡ 0)
-    → tally f (to_each body qs) ≡ 0
-each_none_of f body [] none = refl
-each_none_of f body (q ∷ qs) none = omega (arith, none q, each_none_of f body qs none)
-
 -- Decisions.
 abbrev pub decide_of : ℕ → Body → ℕ
 decide_of t (Decide u v commit) = one_if (u.0 == t)
@@ -155,7 +151,7 @@ ruled_sends s t rs (Some a) = by (a.tree.0 == t) refl where
 
   by : (b : Bool) → (a.tree.0 == t) ≡ b
       → Sends (tally (on (decide_of t)) letters) (decides_any t (ruled_acts rs (Some a))) (length (visited_by s t))
-  by false is = inl (each_none_of (on (decide_of t)) _ (visited_by s a.tree.0) (λ q. ap one_if is))
+  by false is = inl (each_told (on (decide_of t)) _ (visited_by s a.tree.0) (λ q. ap one_if is))
   by true is =
       let same : a.tree.0 ≡ t = grind (arith, nat_tests) in
       inr (
@@ -339,7 +335,7 @@ let_go s t a false is = inl (omega (
   by (marks s a.tree.0),
 )) where
   by : (m : Bool) → tally (on (release_of t)) (if m then to_each (Release a.tree) (visited_by s a.tree.0) else []) ≡ 0
-  by true = each_none_of (on (release_of t)) (Release a.tree) (visited_by s a.tree.0) (λ q. ap one_if is)
+  by true = each_told (on (release_of t)) (Release a.tree) (visited_by s a.tree.0) (λ q. ap one_if is)
   by false = refl
 let_go s t a true is = inr (
   omega (
@@ -383,7 +379,7 @@ decided_releases s t c o (Some a) none =
       arith,
       tally-append (on (release_of t)) o.out.sent letters,
       none,
-      each_none_of (on (release_of t)) (Decide a.tree a.version (none_refuses a.tree c.refusals)) (visited_by s a.tree.0) (λ q. refl),
+      each_told (on (release_of t)) (Decide a.tree a.version (none_refuses a.tree c.refusals)) (visited_by s a.tree.0) (λ q. refl),
     )
 
 part_releases : (s : ScriptData) (t p from : ℕ) (v : Version) (raises : Bool) (e : Effect) (body : Body) (st : Node)

@@ -1,7 +1,6 @@
 -- In every run the root of a strict tree waits at most once for each version that was shown at its home, and once more while it is
 -- kept: a Show wakes it, and raises the version that is read.
 use Rattle.std.proofs.Common.{◌≡◌, ◌≢◌, ◌⊎◌, inl, inr, ℕ, ◌+◌, ◌<◌, ◌≤◌, ◌==◌, ◌&&◌, Bool, true, false, List, ◌∷◌, length, refl, sym, ap, subst, ◌∙◌, arith, []}
-use Rattle.std.specs.Prelude.{if◌then◌else◌}
 use Rattle.std.proofs.lemmas.Bool.{cases_eq}
 use Rattle.std.proofs.lemmas.Bool.Decides.{nat_tests}
 use Rattle.tv_base.specs.declared.numbers.Version.{Version}
@@ -17,14 +16,12 @@ use Rattle.letter_types.specs.Steps.{Out}
 use Rattle.tx_trees.specs.ScriptData.{ScriptData, home_of, node_of}
 use Rattle.tx_trees.specs.Valid.{IsValid}
 use Rattle.world_model.specs.Counts.{one_if, tally}
-use Rattle.world_model.specs.declared.phase.Phase.{Phase}
-use Rattle.world_model.specs.declared.phase.Phase.TheVariants.{Idle, Turning, Counting, Paused, Showing, Sweeping}
 use Rattle.world_model.specs.Keeping.{KeepingNode}
 use Rattle.world_model.specs.Kept.{kept_in}
 use Rattle.world_model.specs.Node.{Node}
 use Rattle.world_model.specs.Runs.{IsStepRun, coordinator_in, in_flight, keeping_in, node_in}
 use Rattle.world_model.specs.Strict.{CoreKeeping}
-use Rattle.world_model.proofs.Bags.{tally-append, tally-drop}
+use Rattle.world_model.proofs.Bags.{one_if_same, tally-append, tally-drop}
 use Rattle.world_model.proofs.Cases.{Case, Coordinates, Does, Keeps, NodeDoes, NodeKeeps, Submits, case}
 use Rattle.world_model.proofs.EachOutstanding.{each_took}
 use Rattle.world_model.proofs.KeptThere.{kept_in_past}
@@ -33,12 +30,13 @@ use Rattle.world_model.proofs.Outstanding.{keeping_elsewhere}
 use Rattle.world_model.proofs.Scripts.{SubAt, sub_here}
 use Rattle.strict_laws.specs.Keeping.{IsKeptFor}
 use Rattle.strict_laws.proofs.Reasons.{kept_for_a_reason}
-use Rattle.phase_laws.specs.Phases.{ShowStage, most_read}
+use Rattle.phase_laws.specs.Phases.{ShowStage}
 use Rattle.phase_laws.proofs.LevelAt.{LevelAt, LevelBody, tell, tells}
 use Rattle.phase_laws.proofs.Levels.{levels}
 use Rattle.phase_laws.proofs.Brought.{IsAsking}
 use Rattle.phase_laws.proofs.Working.{IsOfTrees}
 use Rattle.phase_laws.proofs.Progress.{Begins, Coordinates as Told, Ends, Hears, Obeys, Progress, Works, brings_to, itself, progress}
+use Rattle.phase_laws.proofs.Closing.{most_read_is}
 use Rattle.tree_laws.proofs.AptStagesOwn.{sub_of_node}
 use Rattle.tree_laws.proofs.AptSteps.{home_node}
 use Rattle.tree_laws.proofs.AptTurns.{turns_come_once}
@@ -93,25 +91,12 @@ shown_once s past t valid run lt =
     )
 
 -- A Show raises the version that is read.
-read_most : (phase : Phase) (u : ℕ) → most_read phase u ≤ u
-read_most Idle u = omega arith
-read_most Turning u = omega arith
-read_most (Counting true) u = omega arith
-read_most (Counting false) u = omega arith
-read_most (Paused true) u = omega arith
-read_most (Paused false) u = omega arith
-read_most Showing u = omega arith
-read_most Sweeping u = omega arith
-
-one_same : (n : ℕ) → one_if (n == n) ≡ 1
-one_same n = grind (arith, nat_tests)
-
 show_told : (s : ScriptData) (past : List Entry) (e : Entry) (p : ℕ) (v : Version) → IsStepRun s (e ∷ past) → e.actor.0 ≡ p
     → e.took.body ≡ Show v → 1 ≤ tells s past ShowStage p
 show_told s past e p v run at is =
     let f : Letter → ℕ = λ (l : Letter). tell ShowStage p l.to.0 l.body in
     let one : f e.took ≡ 1 =
-    ap (λ (b : Body). tell ShowStage p e.took.to.0 b) is ∙ ap (λ (n : ℕ). one_if (n == p)) (run.0.addressee ∙ at) ∙ one_same p in
+    ap (λ (b : Body). tell ShowStage p e.took.to.0 b) is ∙ ap (λ (n : ℕ). one_if (n == p)) (run.0.addressee ∙ at) ∙ one_if_same p in
     omega (arith, one, tally-drop f e.took.id (in_flight s past) e.took run.0.waits)
 
 show_raises : (s : ScriptData) (past : List Entry) (e : Entry) (p : ℕ) (v : Version) → IsValid s → IsStepRun s (e ∷ past) → e.actor.0 ≡ p
@@ -122,7 +107,7 @@ show_raises s past e p v valid run at lt is =
     let level : LevelAt s past p = all.node p lt in
     let version : v.0 ≡ c.update =
     subst (λ (b : Body). LevelBody s c.phase c.update b) is (each_took (λ (l : Letter). LevelBody s c.phase c.update l.body) s past e run.0 all.letters) in
-    omega (arith, version, level.read_to, read_most c.phase c.update, show_told s past e p v run at is)
+    omega (arith, version, level.read_to, most_read_is c.phase c.update, show_told s past e p v run at is)
 
 order_reads : (s : ScriptData) (old : Node) (body : Body) (out : Out Node) (v : Version) → body ≡ Show v → Order s old body out
     → out.state.turns.read.0 ≡ v.0

@@ -1,5 +1,5 @@
 -- In every run each Did and each vote stands at the node of its subtransaction, so no other node takes a lock on an item.
-use Rattle.std.proofs.Common.{◌≡◌, ◌≢◌, ◌⊎◌, inl, inr, ℕ, zero, suc, ◌<◌, ◌==◌, ◌&&◌, ◌||◌, Bool, true, false, List, [], ◌∷◌, ◌++◌, map, reverse, refl, sym, ap, subst, ◌∙◌, arith, Option, Some, None}
+use Rattle.std.proofs.Common.{◌≡◌, ◌≢◌, ℕ, suc, ◌==◌, ◌&&◌, ◌||◌, Bool, true, false, List, [], ◌∷◌, ◌++◌, map, reverse, refl, sym, ap, subst, ◌∙◌, arith, Option, Some, None}
 use Rattle.std.specs.Prelude.{if◌then◌else◌, cond, filter, length, not, nat_lt, slice_get}
 use Rattle.std.specs.List.{AllByRecursion}
 use Rattle.std.proofs.lemmas.Bool.Decides.{nat_tests}
@@ -15,10 +15,8 @@ use Rattle.letter_types.specs.declared.bodies.Notice.{Notice}
 use Rattle.letter_types.specs.declared.bodies.Notice.TheVariants as notices
 use Rattle.letter_types.specs.declared.entries.Entry.{Entry}
 use Rattle.letter_types.specs.declared.entries.Letter.{Letter}
-use Rattle.letter_types.specs.declared.votes.Vote.{Vote}
 use Rattle.letter_types.specs.declared.votes.Vote.TheVariants.{Yes, No}
-use Rattle.letter_types.specs.Steps.{Out, still}
-use Rattle.nc_locks.specs.declared.modes.Mode.{Mode}
+use Rattle.letter_types.specs.Steps.{still}
 use Rattle.script_parts.specs.ScriptData.{ScriptData, home_of, node_of, ops_of, updates}
 use Rattle.script_parts.specs.Valid.{IsValid}
 use Rattle.script_parts.specs.declared.parts.ItemRow.{ItemRow}
@@ -34,20 +32,20 @@ use Rattle.world_model.specs.Asked.{asked_ops, asked_version, tree_part}
 use Rattle.world_model.specs.Core.{Core}
 use Rattle.world_model.specs.Counts.{Each}
 use Rattle.world_model.specs.Done.{TreeOut, note_part, turned_if}
-use Rattle.world_model.specs.Keeping.{KeepingNode, brought_row, keeping_row, kept_row}
+use Rattle.world_model.specs.Keeping.{KeepingNode, brought_row, kept_row}
 use Rattle.world_model.specs.Named.{is_named, is_new, is_strict_at, is_timely, tree_kind_at}
 use Rattle.world_model.specs.Node.{Effect, Node}
 use Rattle.world_model.specs.Notices.{act_of, values_of}
 use Rattle.world_model.specs.Reads.{getting}
-use Rattle.world_model.specs.Runs.{IsStepRun, MayFollow, AtNode, AtCoordinator, AtClient, Moves, client_in, coordinator_in, keeping_in}
+use Rattle.world_model.specs.Runs.{AtNode, AtCoordinator, AtClient, Moves, client_in, coordinator_in, keeping_in}
 use Rattle.world_model.specs.Strict.{CoreKeeping, can_make_at, core_by_kind, core_keeping, core_row, decided, decides_near, is_core_apt, is_of_strict, is_unheld, locks_by, none_refuses, note_core, noted_vote, refused_there, voting}
 use Rattle.world_model.specs.Updates.{touching}
 use Rattle.world_model.specs.Votes.{vote_of}
 use Rattle.script_parts.specs.Counts.{has_strict}
-use Rattle.world_model.proofs.Every.{each_append, moved_says}
+use Rattle.world_model.proofs.Every.{each_append}
 use Rattle.board_rules.specs.Histories.{Place, places_at, places_of}
-use Rattle.board_rules.specs.Locked.{AreModesOf, IsApartFrom, lock_at}
-use Rattle.board_rules.specs.Stands.{lock_mode_of, locked_by, modes_on, modes_standing}
+use Rattle.board_rules.specs.Locked.{IsApartFrom, lock_at}
+use Rattle.board_rules.specs.Stands.{lock_mode_of, locked_by, modes_on}
 use Rattle.board_rules.proofs.ItemAt.{op_node}
 use Rattle.board_rules.proofs.LocksStand.{locks_stand}
 use Rattle.strict_laws.specs.Locks.{ActsAreAtHome, IsAtHome, RunLocksStand}

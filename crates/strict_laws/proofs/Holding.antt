@@ -1,9 +1,9 @@
 -- Which trees hold items against marks: a strict tree does from a vote of yes until its decision is applied.
-use Rattle.std.proofs.Common.{◌≡◌, ◌⊎◌, inl, inr, ℕ, ◌==◌, ◌&&◌, ◌||◌, Bool, true, false, not, List, [], ◌∷◌, map, refl, sym, ap, subst, ◌∙◌, arith, Option, Some, None}
+use Rattle.std.proofs.Common.{◌≡◌, ◌⊎◌, inl, inr, ℕ, ◌==◌, ◌&&◌, Bool, true, false, not, List, [], ◌∷◌, map, refl, sym, ap, subst, ◌∙◌, arith, Option, Some, None}
 use Rattle.std.specs.Prelude.{if◌then◌else◌, nat_lt}
 use Rattle.std.specs.Option.{option_or}
 use Rattle.std.specs.Ordering.{is_eq}
-use Rattle.std.proofs.lemmas.Bool.{and_from, and_parts, or_cases}
+use Rattle.std.proofs.lemmas.Bool.{and_from, and_parts, or_cases, or_right}
 use Rattle.std.proofs.lemmas.Bool.Decides.{nat_tests}
 use Rattle.tv_base.specs.declared.numbers.ItemNo.{ItemNo}
 use Rattle.tv_base.specs.declared.numbers.SubNo.{SubNo}
@@ -80,7 +80,7 @@ wanted_tree t (w ∷ ws) l is =
       by rest (inl same) = ap (λ (q : Lock). q.tree) (same_lock l (lock_of t w.0 w.1) same)
       by rest (inr later) = rest later
 
-wanted_mark : (t : TreeNo) (xs : List ItemNo) (l : Lock) → has_lock l (wanted_locks t (marks_on xs)) ≡ true → l.mode ≡ Mark
+pub wanted_mark : (t : TreeNo) (xs : List ItemNo) (l : Lock) → has_lock l (wanted_locks t (marks_on xs)) ≡ true → l.mode ≡ Mark
 wanted_mark t [] l is = absurd (cc is)
 wanted_mark t (x ∷ xs) l is =
     by (λ later. wanted_mark t xs l later) (or_cases (is_eq (lock_order l (lock_of t x Mark))) (has_lock l (wanted_locks t (marks_on xs))) is) where
@@ -101,11 +101,8 @@ taken : (l : Lock) (t : TreeNo) (ws : Wanted) (ls : List Lock) → has_lock l (w
     → (has_lock l (wanted_locks t ws) ≡ true) ⊎ (has_lock l ls ≡ true)
 taken l t ws ls is = or_cases (has_lock l (wanted_locks t ws)) (has_lock l ls) (sym (taken_stand l t ws ls) ∙ is)
 
-stands : (l : Lock) (t : TreeNo) (ws : Wanted) (ls : List Lock) → has_lock l ls ≡ true → has_lock l (with_locks t ws ls) ≡ true
-stands l t ws ls is = taken_stand l t ws ls ∙ right (has_lock l (wanted_locks t ws)) (has_lock l ls) is where
-  right : (a b : Bool) → b ≡ true → (a || b) ≡ true
-  right true b is = refl
-  right false b is = is
+pub more_locks : (l : Lock) (t : TreeNo) (ws : Wanted) (ls : List Lock) → has_lock l ls ≡ true → has_lock l (with_locks t ws ls) ≡ true
+more_locks l t ws ls has = taken_stand l t ws ls ∙ or_right (has_lock l (wanted_locks t ws)) (has_lock l ls) has
 
 -- Where a hold comes from: the tree had it, and this letter doesn't let it go; or it is strict, and its subtransaction is asked for.
 pub data HeldFrom (s : ScriptData) (c : Core) (body : Body) (t : TreeNo) : Type 0 where
@@ -203,7 +200,7 @@ stays c body d same = λ t h keeps. same_holds c d t same h
 
 taken_stays : (c : Core) (body : Body) (u : TreeNo) (ws : Wanted) (d : Core) → d.locks ≡ with_locks u ws c.locks → Stays c body d
 taken_stays c body u ws d locks = λ t h keeps.
-    record { lock = h.lock; there = ap (has_lock h.lock) locks ∙ stands h.lock u ws c.locks h.there; tree = h.tree; firm = h.firm }
+    record { lock = h.lock; there = ap (has_lock h.lock) locks ∙ more_locks h.lock u ws c.locks h.there; tree = h.tree; firm = h.firm }
 
 vote_stays : (c : Core) (body : Body) (u : TreeNo) (ops : List SubOp) (vote : Vote) (d : Core)
     → d.locks ≡ locks_by vote u ops c.locks → Stays c body d

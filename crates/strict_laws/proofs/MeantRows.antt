@@ -197,12 +197,12 @@ coordinator_meant s c at from body is = coordinator_each (IsMeant s at) c (order
 -- The client.
 
 -- a row that names a tree names one of the script
-abbrev NamesTree : ScriptData → ScriptRow → Type 0
+abbrev pub NamesTree : ScriptData → ScriptRow → Type 0
 NamesTree s (TreeRow t) = t.0 < length s.trees
 NamesTree s SettleRow = Unit {0}
 NamesTree s _ = Unit {0}
 
-rows_name : (s : ScriptData) (i : ℕ) (rows : List ScriptRow) → NamesInOrder i (length s.trees) rows → Each (NamesTree s) rows
+pub rows_name : (s : ScriptData) (i : ℕ) (rows : List ScriptRow) → NamesInOrder i (length s.trees) rows → Each (NamesTree s) rows
 rows_name s i [] names = tt
 rows_name s i (TreeRow t ∷ rows) names =
     (omega (arith, names.0, names_end (i + 1) (length s.trees) rows names.1), rows_name s (i + 1) rows names.1)

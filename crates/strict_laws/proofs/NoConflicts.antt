@@ -1,11 +1,10 @@
 -- In every run two trees never have locks on an item that conflict.
-use Rattle.std.proofs.Common.{◌≡◌, ◌≢◌, ◌⊎◌, inl, inr, ℕ, ◌<◌, ◌==◌, ◌&&◌, ◌||◌, Bool, true, false, List, [], ◌∷◌, refl, sym, ap, subst, ◌∙◌, arith, Option, Some, None}
+use Rattle.std.proofs.Common.{◌≡◌, ◌≢◌, ◌⊎◌, inl, inr, ℕ, ◌==◌, ◌&&◌, Bool, true, false, List, [], ◌∷◌, refl, sym, subst, ◌∙◌, arith, Option, Some, None}
 use Rattle.std.specs.Prelude.{if◌then◌else◌, not, nat_lt}
 use Rattle.std.specs.Option.{option_or}
 use Rattle.std.specs.Ordering.{is_eq}
 use Rattle.std.proofs.lemmas.Bool.{and_parts, cases_eq, or_cases}
 use Rattle.std.proofs.lemmas.Bool.Decides.{nat_tests}
-use Rattle.tv_base.specs.declared.numbers.ItemNo.{ItemNo}
 use Rattle.tv_base.specs.declared.numbers.SubNo.{SubNo}
 use Rattle.tv_base.specs.declared.numbers.TreeNo.{TreeNo}
 use Rattle.tv_base.specs.declared.numbers.Version.{Version}
@@ -14,10 +13,9 @@ use Rattle.letter_types.specs.Kept.{brought}
 use Rattle.letter_types.specs.declared.bodies.Body.{Body}
 use Rattle.letter_types.specs.declared.bodies.Body.TheVariants.{Root, Sub as SubLetter, Done, Turn, Show, Sweep, AskDone, AskAsked, Decide, Decided, Release}
 use Rattle.letter_types.specs.declared.bodies.Notice.{Notice}
-use Rattle.letter_types.specs.declared.entries.Entry.{Entry}
 use Rattle.letter_types.specs.declared.entries.Letter.{Letter}
 use Rattle.letter_types.specs.declared.votes.Cause.{Cause}
-use Rattle.letter_types.specs.Steps.{Out, still}
+use Rattle.letter_types.specs.Steps.{still}
 use Rattle.nc_locks.specs.declared.modes.Lock.{Lock}
 use Rattle.nc_locks.specs.declared.modes.Met.{Met}
 use Rattle.nc_locks.specs.declared.modes.Mode.{Mode}
@@ -30,14 +28,14 @@ use Rattle.script_parts.specs.ScriptData.{ScriptData, ops_of}
 use Rattle.script_parts.specs.declared.parts.SubOp.{SubOp}
 use Rattle.script_parts.specs.declared.parts.TreeKind.{TreeKind}
 use Rattle.script_parts.specs.declared.parts.TreeKind.TheVariants.{Update, Read, Strict}
-use Rattle.world_model.specs.Asked.{asked_ops, asked_version, tree_part}
+use Rattle.world_model.specs.Asked.{tree_part}
 use Rattle.world_model.specs.Core.{Core}
 use Rattle.world_model.specs.Done.{note_part}
 use Rattle.world_model.specs.Keeping.{KeepingNode, brought_row, keeping_row, kept_row}
 use Rattle.world_model.specs.Named.{is_strict_at, tree_kind_at}
 use Rattle.world_model.specs.Notices.{values_of}
-use Rattle.world_model.specs.Runs.{IsStepRun, MayFollow, keeping_in}
-use Rattle.world_model.specs.Strict.{CoreKeeping, core_by_kind, core_keeping, core_row, is_core_apt, kept_by_kind, locks_by, marks_of, meets, note_core, noted_vote, parked, parked_if, refused_there, voting}
+use Rattle.world_model.specs.Runs.{keeping_in}
+use Rattle.world_model.specs.Strict.{CoreKeeping, core_by_kind, core_keeping, core_row, is_core_apt, kept_by_kind, locks_by, marks_of, meets, note_core, noted_vote, parked_if, refused_there, voting}
 use Rattle.world_model.specs.Votes.{cause_in, conflict_by, newer_in, short_in, vote_of, voted, wanted_by}
 use Rattle.world_model.specs.Reads.{gets}
 use Rattle.world_model.proofs.Outstanding.{keeping_elsewhere, keeping_here}

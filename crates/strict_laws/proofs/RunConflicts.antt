@@ -1,32 +1,26 @@
 -- In every run what a subtransaction meets at its node is the conflict that the look back names.
-use Rattle.std.proofs.Common.{◌≡◌, ◌≢◌, ◌⊎◌, inl, inr, ℕ, zero, suc, ◌<◌, ◌≤◌, ◌==◌, ◌||◌, ◌&&◌, Bool, true, false, List, [], ◌∷◌, reverse, refl, sym, ap, subst, ◌∙◌, arith, Option, Some, None}
+use Rattle.std.proofs.Common.{◌≡◌, ◌⊎◌, inl, inr, ℕ, zero, suc, ◌<◌, ◌≤◌, ◌==◌, Bool, true, false, List, [], ◌∷◌, reverse, refl, sym, ap, subst, ◌∙◌, arith, Option, Some, None}
 use Rattle.std.specs.Prelude.{if◌then◌else◌, fold, length, not, slice_get}
 use Rattle.std.specs.List.{AllByRecursion}
 use Rattle.std.specs.Ordering.{is_eq}
 use Rattle.std.proofs.lemmas.Bool.{and_parts, cases_lt, or_cases}
 use Rattle.std.proofs.lemmas.Bool.Decides.{nat_tests}
-use Rattle.tv_base.specs.declared.numbers.ItemNo.{ItemNo}
-use Rattle.tv_base.specs.declared.numbers.SubNo.{SubNo}
 use Rattle.tv_base.specs.declared.numbers.TreeNo.{TreeNo}
 use Rattle.letter_types.specs.declared.acts.Act.{Act}
 use Rattle.letter_types.specs.declared.acts.Act.TheVariants as acts
 use Rattle.letter_types.specs.declared.entries.Entry.{Entry}
-use Rattle.letter_types.specs.declared.votes.Vote.{Vote}
 use Rattle.letter_types.specs.declared.votes.Vote.TheVariants.{Yes, No}
 use Rattle.nc_locks.specs.declared.modes.Lock.{Lock}
-use Rattle.nc_locks.specs.Locks.{Wanted, has_lock, lock_of, lock_order, met_in, wanted_locks, with_locks, without}
+use Rattle.nc_locks.specs.Locks.{Wanted, has_lock, lock_of, lock_order, wanted_locks, with_locks, without}
 use Rattle.nc_locks.proofs.Always.{freed_are_gone, taken_stand}
 use Rattle.nc_locks.proofs.Orders.{same_lock}
 use Rattle.script_parts.specs.Counts.{has_strict}
-use Rattle.script_parts.specs.ScriptData.{ScriptData, node_of, ops_of, sub_at, subs_at, updates}
-use Rattle.script_parts.specs.Valid.{IsValid}
-use Rattle.script_parts.specs.declared.parts.ItemRow.{ItemRow}
+use Rattle.script_parts.specs.ScriptData.{ScriptData, node_of, ops_of, subs_at, updates}
 use Rattle.script_parts.specs.declared.parts.Sub.{Sub}
-use Rattle.script_parts.specs.declared.parts.SubOp.{SubOp}
 use Rattle.script_parts.specs.declared.parts.Tree.{Tree}
 use Rattle.world_model.specs.Runs.{IsStepRun, keeping_in}
 use Rattle.board_rules.specs.Histories.{Place, places_of}
-use Rattle.board_rules.specs.Locked.{AreStanding, locks_after_act, locks_after_place, locks_at, needed_by}
+use Rattle.board_rules.specs.Locked.{locks_after_act, locks_after_place, needed_by}
 use Rattle.board_rules.proofs.ItemAt.{op_row}
 use Rattle.strict_laws.specs.Locks.{IsAtHome, RunsMeetConflicts}
 use Rattle.strict_laws.proofs.AtHome.{acts_at_home, locks_are_standing}

@@ -15,7 +15,7 @@ use Rattle.script_parts.specs.Counts.{has_strict}
 use Rattle.script_parts.specs.ScriptData.{ScriptData}
 use Rattle.world_model.specs.Core.{Core}
 use Rattle.world_model.specs.Keeping.{KeepingNode, brought_row, keeping_row, kept_row}
-use Rattle.world_model.specs.Runs.{IsStepRun, MayFollow, keeping_in}
+use Rattle.world_model.specs.Runs.{MayFollow, keeping_in}
 use Rattle.world_model.specs.Strict.{CoreKeeping, core_keeping, core_row, core_step, is_core_apt}
 use Rattle.world_model.proofs.Bridge.{reverse_more}
 use Rattle.world_model.proofs.Every.{moved_says}

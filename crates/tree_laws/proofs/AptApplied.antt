@@ -37,11 +37,11 @@ use Rattle.tree_laws.proofs.AptSteps.{wakes_none}
 use Rattle.tree_laws.proofs.AptVersions.{tally_less}
 
 -- Numbers of decisions, of what is applied, and of letters that tell a decision to node q.
-if_zero : (test : Bool) (n : ℕ) → n ≡ 0 → (if test then n else 0) ≡ 0
+pub if_zero : (test : Bool) (n : ℕ) → n ≡ 0 → (if test then n else 0) ≡ 0
 if_zero true n none = none
 if_zero false n none = refl
 
-if_less : (test : Bool) (n : ℕ) → (if test then n else 0) ≤ n
+pub if_less : (test : Bool) (n : ℕ) → (if test then n else 0) ≤ n
 if_less true n = omega arith
 if_less false n = omega arith
 
@@ -249,7 +249,7 @@ record Even (s : ScriptData) (past : List Entry) (e : Entry) (t : ℕ) (b : Bool
   applied : applied_now e t b q ≡ of_done (tells_to t b q) s past e
   told : tally (told_to t b q) e.sent ≡ tally (has_decided t b) e.acts
 
-same_at : (q x y m n : ℕ) → x ≡ y → m ≡ n → (if x == q then m else 0) ≡ (if y == q then n else 0)
+pub same_at : (q x y m n : ℕ) → x ≡ y → m ≡ n → (if x == q then m else 0) ≡ (if y == q then n else 0)
 same_at q x y m n is same = ap (λ (i : ℕ). if i == q then m else 0) is ∙ ap (λ (j : ℕ). if y == q then j else 0) same
 
 does_even : (s : ScriptData) (past : List Entry) (e : Entry) (p : ℕ) (r : Letter) (t : ℕ) (b : Bool) (q : ℕ) → q < s.nodes
@@ -339,7 +339,7 @@ applied_where_decided s (e ∷ past) t q b valid apt run lt below is =
     )
 
 -- Where no letter of a tree's decision is in flight, none goes to a node.
-less_and : (x y : Bool) → one_if (x && y) ≤ one_if x
+pub less_and : (x y : Bool) → one_if (x && y) ≤ one_if x
 less_and true y = one_if_most y
 less_and false y = omega arith
 

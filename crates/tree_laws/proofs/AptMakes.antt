@@ -62,7 +62,7 @@ visits_by : (subs : List Sub) (y : Sub) (q : ℕ) (test : Bool) → (y.node.0 ==
 visits_by subs y q true is rest = rw is refl
 visits_by subs y q false is rest = rw is rest
 
-visits_there : (subs : List Sub) (n : ℕ) (x : Sub) → slice_get subs n ≡ Some x → visits subs x.node.0 ≡ true
+pub visits_there : (subs : List Sub) (n : ℕ) (x : Sub) → slice_get subs n ≡ Some x → visits subs x.node.0 ≡ true
 visits_there [] n x at = absurd (cc at)
 visits_there (y ∷ subs) zero x at =
     let same : y ≡ x = cc at in

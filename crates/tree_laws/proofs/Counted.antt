@@ -1,5 +1,5 @@
 -- What is counted of acts is what a history says of births and of what was done.
-use Rattle.std.proofs.Common.{◌≡◌, ℕ, zero, suc, ◌+◌, ◌<◌, ◌≤◌, ◌==◌, ◌&&◌, true, List, ◌∷◌, reverse, refl, ◌∙◌, arith, ◌⊎◌, Bool, false, ◌++◌, Option, Some, None, []}
+use Rattle.std.proofs.Common.{◌≡◌, ℕ, zero, suc, ◌<◌, ◌≤◌, ◌==◌, true, List, ◌∷◌, reverse, refl, arith, Bool, false, Option, Some, None, []}
 use Rattle.std.specs.Prelude.{if◌then◌else◌, is_some, map}
 use Rattle.std.proofs.lemmas.Bool.{and_from}
 use Rattle.letter_types.specs.declared.acts.Act.{Act}

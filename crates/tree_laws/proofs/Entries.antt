@@ -65,7 +65,7 @@ pub taken_replies : (s : ScriptData) (past : List Entry) (t : ℕ) → IsStepRun
 taken_replies s [] t run = refl
 taken_replies s (e ∷ past) t run = omega (arith, taken_replies s past t run.1, flow (replies_to t) s past e run.0)
 
-subs_at_here : (s : ScriptData) (t : ℕ) (tree : Tree) → slice_get s.trees t ≡ Some tree → length (subs_at s t) ≡ length tree.subs
+pub subs_at_here : (s : ScriptData) (t : ℕ) (tree : Tree) → slice_get s.trees t ≡ Some tree → length (subs_at s t) ≡ length tree.subs
 subs_at_here s t tree at = rw (at, subs_at) refl
 
 -- the trees' subtransactions are all subtransactions

@@ -1,5 +1,5 @@
 -- Notices that come in at a home, one after the other.
-use Rattle.std.proofs.Common.{◌≡◌, ◌≢◌, ◌⊎◌, inl, inr, ℕ, ◌+◌, ◌<◌, ◌≤◌, ◌==◌, ◌&&◌, List, ◌∷◌, length, set, replicate, sym, subst, ◌∙◌, arith, Option, Some, None, zero, suc, true, refl, []}
+use Rattle.std.proofs.Common.{◌≡◌, ◌≢◌, ◌⊎◌, inl, inr, ℕ, ◌<◌, ◌==◌, ◌&&◌, List, ◌∷◌, length, set, replicate, sym, subst, ◌∙◌, arith, Option, Some, None, zero, suc, true, refl, []}
 use Rattle.std.specs.Prelude.{slice_get}
 use Rattle.std.proofs.lemmas.Bool.Decides.{nat_tests}
 use Rattle.std.proofs.lemmas.List.{length-replicate}

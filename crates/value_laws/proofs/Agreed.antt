@@ -36,7 +36,7 @@ use Rattle.tree_laws.specs.Applied.{applied_at, decided_as, decisions_to, noes, 
 use Rattle.tree_laws.proofs.AptVotes.{decided_by_votes}
 use Rattle.tree_laws.specs.Stages.{StageAt, Answered, Gathers, Holds, Unborn}
 use Rattle.tree_laws.specs.Turns.{has_turn, turns}
-use Rattle.tree_laws.proofs.AptApplied.{applied_where_decided}
+use Rattle.tree_laws.proofs.AptApplied.{applied_where_decided, less_and}
 use Rattle.tree_laws.proofs.AptDecided.{Once, decided_any, once_in_run}
 use Rattle.tree_laws.proofs.AptMakes.{decision_waits}
 use Rattle.tree_laws.proofs.AptRulings.{client_acts}
@@ -47,7 +47,7 @@ use Rattle.value_laws.specs.VoteLocks.{yeses_at}
 use Rattle.value_laws.proofs.RowActs.{asked_acts, is_lasting, keeping_lasts, lasting, lasting_acts, row_lasts, tally_lasting}
 
 -- These numbers count acts that last alone.
-turns_others : (t k : ℕ) (a : Act) → is_lasting a ≡ false → has_turn t k a ≡ 0
+pub turns_others : (t k : ℕ) (a : Act) → is_lasting a ≡ false → has_turn t k a ≡ 0
 turns_others t k (acts.Did u j values) none = absurd (cc none)
 turns_others t k (acts.Voted u j vote) none = absurd (cc none)
 turns_others t k acts.Finished none = refl
@@ -90,11 +90,6 @@ yes_here s q t u j k true node is =
     rw here (omega arith)
 yes_here s q t u j k false node is = omega arith
 
-no_less : (a b : Bool) → one_if (a && b) ≤ one_if a
-no_less true true = omega arith
-no_less true false = omega arith
-no_less false b = omega arith
-
 tail_in : (test : Bool) (m : ℕ) → (if test then m + 0 else 0) ≡ (if test then m else 0)
 tail_in true m = omega arith
 tail_in false m = refl
@@ -107,7 +102,7 @@ vote_turn s q t k u j (Yes values) node =
       yes_here s q t u.0 j.0 k ((u.0 == t) && (j.0 == k)) node refl,
       tail_in (q == node_of s t k) (one_if ((u.0 == t) && (j.0 == k))),
     )
-vote_turn s q t k u j (No cause) node = omega (arith, no_less (u.0 == t) (j.0 == k))
+vote_turn s q t k u j (No cause) node = omega (arith, less_and (u.0 == t) (j.0 == k))
 
 asked_turn : (s : ScriptData) (c : Core) (q t k : ℕ) (u : TreeNo) (j : SubNo) (body : Body) (kind : Option TreeKind)
     → tree_kind_at s u.0 ≡ kind → is_strict_at s t ≡ true → node_of s u.0 j.0 ≡ q → HasVoted s q t k (asked_acts s c u j body kind)

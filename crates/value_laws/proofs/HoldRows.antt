@@ -1,8 +1,7 @@
 -- How a hold comes to be among a core's locks by the row of a letter.
-use Rattle.std.proofs.Common.{◌≡◌, ◌≢◌, ◌⊎◌, inl, inr, ℕ, ◌==◌, Bool, true, false, not, List, [], ◌∷◌, refl, sym, ap, subst, ◌∙◌, arith, Option, Some, None}
+use Rattle.std.proofs.Common.{◌≡◌, ◌≢◌, ◌⊎◌, inl, inr, ℕ, ◌==◌, Bool, true, false, not, List, [], refl, sym, ap, subst, ◌∙◌, arith, Option, Some, None}
 use Rattle.std.specs.Prelude.{if◌then◌else◌, map, nat_lt}
 use Rattle.std.specs.Option.{option_or}
-use Rattle.std.specs.Ordering.{is_eq}
 use Rattle.std.proofs.lemmas.Bool.{and_parts, or_cases}
 use Rattle.std.proofs.lemmas.Bool.Decides.{nat_tests}
 use Rattle.tv_base.specs.declared.numbers.ItemNo.{ItemNo}
@@ -18,9 +17,8 @@ use Rattle.letter_types.specs.declared.votes.Vote.{Vote}
 use Rattle.nc_locks.specs.declared.modes.Lock.{Lock}
 use Rattle.nc_locks.specs.declared.modes.Mode.{Mode}
 use Rattle.nc_locks.specs.declared.modes.Mode.TheVariants.{Mark, Hold}
-use Rattle.nc_locks.specs.Locks.{has_lock, lock_of, lock_order, marks_on, met_in, wanted_locks, with_locks, without}
+use Rattle.nc_locks.specs.Locks.{has_lock, marks_on, met_in, wanted_locks, with_locks, without}
 use Rattle.nc_locks.proofs.Always.{freed_are_gone, taken_stand}
-use Rattle.nc_locks.proofs.Orders.{same_lock}
 use Rattle.script_parts.specs.Counts.{has_strict}
 use Rattle.script_parts.specs.ScriptData.{ScriptData, ops_of}
 use Rattle.script_parts.specs.declared.parts.SubOp.{SubOp}
@@ -41,6 +39,7 @@ use Rattle.tree_laws.proofs.Seen.{raised_low}
 use Rattle.tree_laws.proofs.Turns.{kind_version, work_version}
 use Rattle.strict_laws.proofs.ByActs.{decided_locks}
 use Rattle.strict_laws.proofs.RunConflicts.{wanted_tree}
+use Rattle.strict_laws.proofs.Holding.{wanted_mark}
 
 -- no letter tells a decision on this tree
 abbrev pub IsNoDecision : ℕ → Body → Type 0
@@ -56,15 +55,6 @@ pub data HoldComes (s : ScriptData) (body : Body) (c : Core) (after : Core) (l :
       → after.node.items ≡ c.node.items → after.node.turns.low.0 ≡ c.node.turns.low.0 → HoldComes s body c after l
 
 -- Marks are no holds.
-marked : (t : TreeNo) (xs : List ItemNo) (l : Lock) → has_lock l (wanted_locks t (marks_on xs)) ≡ true → l.mode ≡ Mark
-marked t [] l is = absurd (cc is)
-marked t (x ∷ xs) l is =
-    by (λ later. marked t xs l later) (or_cases (is_eq (lock_order l (lock_of t x Mark))) (has_lock l (wanted_locks t (marks_on xs))) is) where
-      by : (has_lock l (wanted_locks t (marks_on xs)) ≡ true → l.mode ≡ Mark)
-          → (is_eq (lock_order l (lock_of t x Mark)) ≡ true) ⊎ (has_lock l (wanted_locks t (marks_on xs)) ≡ true) → l.mode ≡ Mark
-      by rest (inl same) = ap (λ (q : Lock). q.mode) (same_lock l (lock_of t x Mark) same)
-      by rest (inr later) = rest later
-
 not_marked : (m : Mode) → m ≡ Mark → m ≡ Hold → ⊥
 not_marked m is so = let no_such : Mark ≡ Hold = sym is ∙ so in cc no_such
 
@@ -73,7 +63,7 @@ unmarked : (t : TreeNo) (xs : List ItemNo) (ls : List Lock) (l : Lock) (test : B
 unmarked t xs ls l true hold has =
     by (or_cases (has_lock l (wanted_locks t (marks_on xs))) (has_lock l ls) (sym (taken_stand l t (marks_on xs) ls) ∙ has)) where
       by : (has_lock l (wanted_locks t (marks_on xs)) ≡ true) ⊎ (has_lock l ls ≡ true) → has_lock l ls ≡ true
-      by (inl new) = absurd (not_marked l.mode (marked t xs l new) hold)
+      by (inl new) = absurd (not_marked l.mode (wanted_mark t xs l new) hold)
       by (inr there) = there
 unmarked t xs ls l false hold has = has
 

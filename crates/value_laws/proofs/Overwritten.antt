@@ -63,7 +63,7 @@ put_top v w h all =
     (omega arith, up_to-filter v.0 (λ x. nat_lt v.0 x.0.0) h all)
 
 -- A table: an operation that writes, on the item and on others.
-seen_some : (v : Version) (h : Held) → IsHeld h → (w : Value) × (seen v h ≡ Some w)
+pub seen_some : (v : Version) (h : Held) → IsHeld h → (w : Value) × (seen v h ≡ Some w)
 seen_some v [] held = absurd held
 seen_some v (y ∷ ys) held = (seen_after y.1 v ys, refl)
 

@@ -112,7 +112,7 @@ low_by s p body st after timely (Collects v letter is turns) =
     omega (arith, ap (λ x. x.low.0) turns, le)
 
 -- What is known where a node does a letter.
-later_dated : (xs ys : List Place) (v : Version) (body : Body) → DoneIn xs v body → DoneIn (xs ++ ys) v body
+pub later_dated : (xs ys : List Place) (v : Version) (body : Body) → DoneIn xs v body → DoneIn (xs ++ ys) v body
 later_dated xs ys v (Root t) is = still_by xs ys t.0 v is
 later_dated xs ys v (SubLetter t k w) is = still_by xs ys t.0 w is
 later_dated xs ys v Go is = tt
@@ -161,7 +161,7 @@ op_reads : (p : ℕ) (o : SubOp) (found : Option ItemRow) → OpAt Strict p o fo
 op_reads p o None fits = absurd fits
 op_reads p o (Some row) fits = fits_commit row.kind o.deed fits.1
 
-ops_read : (s : ScriptData) (p : ℕ) (os : List SubOp) → AllByRecursion (IsOp s.items Strict p) os
+pub ops_read : (s : ScriptData) (p : ℕ) (os : List SubOp) → AllByRecursion (IsOp s.items Strict p) os
     → AllByRecursion (λ (o : SubOp). IsOfCommit o.deed) os
 ops_read s p [] all = tt
 ops_read s p (o ∷ os) all = (op_reads p o (slice_get s.items o.item.0) all.0, ops_read s p os all.1)

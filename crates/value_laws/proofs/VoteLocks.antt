@@ -2,7 +2,7 @@
 -- decision on its tree is applied.
 use Rattle.std.proofs.Common.{◌≡◌, ◌≢◌, ◌⊎◌, inl, inr, ℕ, zero, suc, ◌+◌, ◌<◌, ◌≤◌, ◌==◌, ◌&&◌, Bool, true, false, not, List, [], ◌∷◌, refl, sym, ap, subst, ◌∙◌, arith, Option, Some, None}
 use Rattle.std.specs.Prelude.{if◌then◌else◌, slice_get}
-use Rattle.std.proofs.lemmas.Bool.{or_left, or_right}
+use Rattle.std.proofs.lemmas.Bool.{or_left}
 use Rattle.std.proofs.lemmas.Bool.Decides.{nat_tests}
 use Rattle.tv_base.specs.declared.numbers.SubNo.{SubNo}
 use Rattle.tv_base.specs.declared.numbers.TreeNo.{TreeNo}
@@ -49,6 +49,7 @@ use Rattle.strict_laws.proofs.ByActs.{wanted_needed}
 use Rattle.strict_laws.proofs.Meant.{letters_are_meant}
 use Rattle.strict_laws.proofs.RunConflicts.{wanted_tree}
 use Rattle.strict_laws.proofs.RunLocks.{step_follows}
+use Rattle.strict_laws.proofs.Holding.{more_locks}
 use Rattle.value_laws.specs.VoteLocks.{VoteLocksStand, yeses_at}
 use Rattle.value_laws.proofs.RowActs.{asked_acts, is_lasting, keeping_lasts, lasting, lasting_acts, row_lasts, tally_lasting}
 
@@ -70,9 +71,6 @@ has_some s t strict =
 -- Acts of a node. A lock stays where its tree doesn't let go.
 abbrev lets_go : ℕ → Act → ℕ
 lets_go t a = one_if (releases t a)
-
-more_locks : (l : Lock) (t : TreeNo) (ws : Wanted) (ls : List Lock) → has_lock l ls ≡ true → has_lock l (with_locks t ws ls) ≡ true
-more_locks l t ws ls has = taken_stand l t ws ls ∙ or_right (has_lock l (wanted_locks t ws)) (has_lock l ls) has
 
 still_there : (l : Lock) (u : TreeNo) (ls : List Lock) → one_if (u.0 == l.tree.0) ≡ 0 → has_lock l ls ≡ true → has_lock l (without u ls) ≡ true
 still_there l u ls none has =

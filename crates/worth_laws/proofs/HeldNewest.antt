@@ -116,7 +116,7 @@ change_parts x (o ∷ os) rest on =
         behind (inl there) = inl (or_right ((o.item.0 == x) && changes o.deed) (ops_change x os) there)
         behind (inr there) = inr there
 
-tree_changes : (x p : ℕ) (subs : List Sub) → ops_change x (ops_at p subs) ≡ true → subs_change x subs ≡ true
+pub tree_changes : (x p : ℕ) (subs : List Sub) → ops_change x (ops_at p subs) ≡ true → subs_change x subs ≡ true
 tree_changes x p [] on = absurd (cc on)
 tree_changes x p (y ∷ subs) on = by (y.node.0 == p) (λ later. tree_changes x p subs later) on where
   one : (ops_change x (ops_at p subs) ≡ true → subs_change x subs ≡ true)

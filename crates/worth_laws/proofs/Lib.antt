@@ -15,6 +15,9 @@ pub mod ReadPlaces
 pub mod WritersFirst
 pub mod SampledOrder
 pub mod ShownStays
+pub mod HeldRows
+pub mod HeldWritten
+pub mod WrittenAtEnd
 pub mod AllOrNone
 pub mod CommitsStand
 pub mod CommittedGets

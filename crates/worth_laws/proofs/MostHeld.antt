@@ -2,7 +2,7 @@
 -- that is no less than the version which they write.
 use Rattle.std.proofs.Common.{◌≡◌, ℕ, ◌≤◌, ◌==◌, ◌&&◌, Bool, true, false, List, [], ◌∷◌, refl, sym, ap, ◌∙◌, subst, arith, Option, Some, None}
 use Rattle.std.specs.Prelude.{if◌then◌else◌, max, nat_lt, fold}
-use Rattle.std.proofs.lemmas.Bool.{and_from, or_left, or_right}
+use Rattle.std.proofs.lemmas.Bool.{and_from, eq-eqb, or_left, or_right}
 use Rattle.std.proofs.lemmas.Bool.Decides.{nat_tests}
 use Rattle.tv_base.specs.declared.numbers.ItemNo.{ItemNo}
 use Rattle.tv_base.specs.declared.numbers.Version.{Version}
@@ -28,13 +28,13 @@ use Rattle.rule_laws.proofs.UpTo.{same_item}
 abbrev pub IsMost : ℕ → Option Held → Type 0
 IsMost m found = (h : Held) → found ≡ Some h → AllUpTo m h
 
-touched_most : (m : ℕ) (v : Version) (op : Op) (h : Held) → v.0 ≤ m → AllUpTo m h → AllUpTo m (touched v op h)
+pub touched_most : (m : ℕ) (v : Version) (op : Op) (h : Held) → v.0 ≤ m → AllUpTo m h → AllUpTo m (touched v op h)
 touched_most m v op [] le all = tt
 touched_most m v op (x ∷ xs) le all =
     up_to-append m (below v (x ∷ xs)) (_ ∷ applied_to_all op (above v (x ∷ xs))) (up_to-filter m (λ y. nat_lt y.0.0 v.0) (x ∷ xs) all)
     (le, up_to-applied m op (above v (x ∷ xs)) (up_to-filter m (λ y. nat_lt v.0 y.0.0) (x ∷ xs) all))
 
-put_most : (m : ℕ) (v : Version) (w : Value) (h : Held) → v.0 ≤ m → AllUpTo m h → AllUpTo m (put_value v w h)
+pub put_most : (m : ℕ) (v : Version) (w : Value) (h : Held) → v.0 ≤ m → AllUpTo m h → AllUpTo m (put_value v w h)
 put_most m v w h le all =
     up_to-append m (below v h) ((v, w) ∷ above v h) (up_to-filter m (λ x. nat_lt x.0.0 v.0) h all)
     (le, up_to-filter m (λ x. nat_lt v.0 x.0.0) h all)
@@ -58,13 +58,10 @@ updated_most m v op n x items None at le all = all
 updated_most m v op n x items (Some h) at le all =
     replaced_most m n x (touched v op h) h items (n.0 == x.0) refl at (λ same up. touched_most m v op h (le same) up) all
 
-number_test : (n m : ℕ) → n ≡ m → (n == m) ≡ true
-number_test n m is = grind (arith, nat_tests)
-
 deed_most : (m : ℕ) (v : Version) (n x : ItemNo) (d : Deed) (items : Table) → (((n.0 == x.0) && changes d) ≡ true → v.0 ≤ m)
     → IsMost m (item_in x items) → IsMost m (item_in x (table_after_deed v n d items))
 deed_most m v n x (Apply op) items le all =
-    updated_most m v op n x items (item_in n items) refl (λ same. le (and_from (n.0 == x.0) true (number_test n.0 x.0 same) refl)) all
+    updated_most m v op n x items (item_in n items) refl (λ same. le (and_from (n.0 == x.0) true (eq-eqb n.0 x.0 same) refl)) all
 deed_most m v n x Get items le all = all
 deed_most m v n x (Set a) items le all = all
 deed_most m v n x (Draw a) items le all = all
@@ -89,7 +86,7 @@ over_most : (m : ℕ) (v : Version) (o : SubOp) (x : ItemNo) (items : Table) (se
 over_most m v o x items None le all = all
 over_most m v o x items (Some w) le all = valued_most m v (after_deed o.deed w) o.item x items (item_in o.item items) refl le all
 
-over_changes : (d : Deed) → overwrites d ≡ true → changes d ≡ true
+pub over_changes : (d : Deed) → overwrites d ≡ true → changes d ≡ true
 over_changes (Apply op) is = absurd (cc is)
 over_changes Get is = absurd (cc is)
 over_changes (Set n) is = refl
@@ -100,7 +97,7 @@ op_most : (m : ℕ) (v : Version) (o : SubOp) (x : ItemNo) (items : Table) (test
     → IsMost m (item_in x (if test then overwritten v o (seen_in v o.item items) items else items))
 op_most m v o x items true is le all =
     over_most m v o x items (seen_in v o.item items)
-    (λ same. le (and_from (o.item.0 == x.0) (changes o.deed) (number_test o.item.0 x.0 same) (over_changes o.deed is))) all
+    (λ same. le (and_from (o.item.0 == x.0) (changes o.deed) (eq-eqb o.item.0 x.0 same) (over_changes o.deed is))) all
 op_most m v o x items false is le all = all
 
 pub commit_most : (m : ℕ) (v : Version) (x : ItemNo) (os : List SubOp) (items : Table) → (ops_change x.0 os ≡ true → v.0 ≤ m)

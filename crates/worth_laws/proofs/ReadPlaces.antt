@@ -2,7 +2,6 @@
 -- its position to what holds of each act of each entry.
 use Rattle.std.proofs.Common.{◌≡◌, ◌⊎◌, inl, inr, ℕ, zero, suc, ◌+◌, ◌<◌, ◌≤◌, true, false, List, [], ◌∷◌, ◌++◌, length, take, reverse, sym, ap, subst, ◌∙◌, append_assoc, arith, Some}
 use Rattle.std.specs.Prelude.{slice_get}
-use Rattle.std.proofs.Math.Seq.{take-append-add}
 use Rattle.std.proofs.lemmas.List.{length-append, length-take, take-append-le}
 use Rattle.std.proofs.lemmas.Option.{slice_get_within}
 use Rattle.tv_base.specs.declared.numbers.Version.{Version}
@@ -21,11 +20,10 @@ use Rattle.board_rules.proofs.Wholes.{version_more}
 use Rattle.tree_laws.proofs.AptVersions.{before}
 use Rattle.run_laws.proofs.Reached.{coordinator_moves, now_below, whole_below}
 use Rattle.run_laws.proofs.Wholes.{born_with}
-use Rattle.rule_laws.proofs.Fronts.{act_of_place, front}
+use Rattle.rule_laws.proofs.Fronts.{act_of_place, front, in_both, one_by_one}
 use Rattle.rule_laws.proofs.InEntries.{entry_run, in_entry}
 use Rattle.worth_laws.proofs.AtFront.{front_is}
 use Rattle.worth_laws.proofs.ReadVersions.{born_below}
-use Rattle.worth_laws.proofs.Right.{each_by_position}
 use Rattle.worth_laws.proofs.WorthStays.{whole_from, worth_from}
 
 -- The acts up to an act and with it.
@@ -100,12 +98,6 @@ here_in (d ∷ h) (suc n) e is =
       ap (λ (xs : List Place). places_at d ++ xs) old.1 ∙ sym (append_assoc (places_at d) (places_of (take n h)) (places_at e ++ old.0)),
     )
 
-behind_first : {X : Type 0} (xs ys : List X) (j : ℕ) (x : X) → slice_get ys j ≡ Some x → slice_get (xs ++ ys) (length xs + j) ≡ Some x
-behind_first [] ys j x is = let same : 0 + j ≡ j = omega arith in ap (slice_get ys) same ∙ is
-behind_first (y ∷ xs) ys j x is =
-    let next : suc (length xs) + j ≡ suc (length xs + j) = omega arith in
-    ap (slice_get (y ∷ xs ++ ys)) next ∙ behind_first xs ys j x is
-
 -- what holds of each act at its position holds of each act of each entry
 pub each_in_place : (P : List Place → Place → Type 0) (h : List Entry)
     → ((i : ℕ) (y : Place) → slice_get (places_of h) i ≡ Some y → P (take i (places_of h)) y) → AtEachAct (λ (b : List Entry). P) h
@@ -113,11 +105,10 @@ each_in_place P h each = λ n e here.
     let l = here_in h n e here in
     let xs : List Place = places_of (take n h) in
     let ys : List Place = places_at e in
-    each_by_position P xs ys (λ j y is.
-    let upto : take (length xs + j) (places_of h) ≡ xs ++ take j ys =
-    ap (take (length xs + j)) l.1 ∙ take-append-add xs (ys ++ l.0) j
+    one_by_one P xs ys (λ j y is.
+    let b = in_both xs (ys ++ l.0) j y (slice_get_left ys l.0 j y is) in
+    let upto : take b.place (places_of h) ≡ xs ++ take j ys =
+    ap (take b.place) l.1 ∙ b.front
     ∙ ap (λ (zs : List Place). xs ++ zs) (take-append-le j ys l.0 (omega (arith, slice_get_within ys j y is))) in
     subst (λ (zs : List Place). P zs y) upto
-    (each (length xs + j) y
-    (ap (λ (zs : List Place). slice_get zs (length xs + j)) l.1
-    ∙ behind_first xs (ys ++ l.0) j y (slice_get_left ys l.0 j y is))))
+    (each b.place y (ap (λ (zs : List Place). slice_get zs b.place) l.1 ∙ b.is)))

@@ -1,5 +1,5 @@
 -- In every run each subtransaction of a read tree gives what its items are worth, and so does each yes.
-use Rattle.std.proofs.Common.{◌≡◌, ℕ, suc, Bool, true, false, List, [], ◌∷◌, ◌++◌, take, reverse, refl, sym, ap, subst, ◌∙◌, append_assoc, append-nil, Option, Some, None}
+use Rattle.std.proofs.Common.{◌≡◌, ℕ, Bool, true, false, List, [], ◌∷◌, ◌++◌, reverse, refl, sym, ap, subst, ◌∙◌, Option, Some, None}
 use Rattle.std.specs.Prelude.{slice_get}
 use Rattle.tv_base.specs.declared.numbers.ItemNo.{ItemNo}
 use Rattle.tv_base.specs.declared.numbers.SubNo.{SubNo}
@@ -22,27 +22,16 @@ use Rattle.world_model.specs.Runs.{IsStepRun, keeping_in, node_in}
 use Rattle.world_model.specs.Strict.{notice_by}
 use Rattle.world_model.specs.Votes.{voted}
 use Rattle.board_rules.specs.Histories.{Place, places_at}
-use Rattle.board_rules.specs.Moves.{OneByOne}
 use Rattle.board_rules.specs.Right.{IsRight, IsRightAct}
 use Rattle.strict_laws.proofs.Parkings.{kind_reads_by}
 use Rattle.tree_laws.proofs.AptStagesOwn.{Doing}
 use Rattle.tree_laws.proofs.AptVersions.{before}
 use Rattle.tree_laws.proofs.Histories.{at_each_act_more}
 use Rattle.value_laws.proofs.RowActs.{is_lasting}
-use Rattle.rule_laws.proofs.Fronts.{act_of_place, front, placed}
+use Rattle.rule_laws.proofs.Fronts.{act_of_place, front, one_by_one, placed}
 use Rattle.rule_laws.proofs.Lasts.{Applies, AsksIn, Frees, Lasts, Reads, Updates, Votes, cause_there, lasts}
 use Rattle.worth_laws.proofs.RightReads.{read_is_right}
 use Rattle.worth_laws.proofs.RightVotes.{vote_is_right}
-
--- What holds of each act of a list at its position holds of them one after the other.
-pub each_by_position : (P : List Place → Place → Type 0) (xs ys : List Place)
-    → ((i : ℕ) (y : Place) → slice_get ys i ≡ Some y → P (xs ++ take i ys) y) → OneByOne P xs ys
-each_by_position P xs [] each = tt
-each_by_position P xs (y ∷ ys) each = (
-  subst (λ (zs : List Place). P zs y) (append-nil xs) (each 0 y refl),
-  each_by_position P (xs ++ y ∷ []) ys
-      (λ i z is. subst (λ (zs : List Place). P zs z) (sym (append_assoc xs (y ∷ []) (take i ys))) (each (suc i) z is)),
-)
 
 -- An act of an entry is right at its place.
 abbrev IsRightHere : ScriptData → List Entry → Entry → ℕ → Act → Type 0
@@ -98,5 +87,5 @@ pub right_run : (s : ScriptData) (past : List Entry) → IsValid s → IsStepRun
 right_run s [] valid run = λ n e here. absurd (cc here)
 right_run s (e ∷ past) valid run =
     at_each_act_more (λ (b : List Entry) (xs : List Place) (y : Place). IsRightAct s b (xs ++ y ∷ []) y.act) e past (right_run s past valid run.1)
-    (each_by_position (λ (xs : List Place) (y : Place). IsRightAct s (reverse past) (xs ++ y ∷ []) y.act) (before past) (places_at e)
+    (one_by_one (λ (xs : List Place) (y : Place). IsRightAct s (reverse past) (xs ++ y ∷ []) y.act) (before past) (places_at e)
     (λ j y is. place_right s past e j y valid run is))

@@ -3,6 +3,7 @@ use Rattle.std.proofs.Common.{if◌then◌else◌, ◌≡◌, ℕ, ◌<◌, ◌�
 use Rattle.std.specs.Prelude.{nat_lt, slice_get}
 use Rattle.std.specs.List.{AllByRecursion}
 use Rattle.std.specs.Option.{option_or}
+use Rattle.std.proofs.lemmas.Bool.{le-ltb}
 use Rattle.std.proofs.lemmas.Bool.Decides.{nat_tests}
 use Rattle.tv_base.specs.declared.numbers.ItemNo.{ItemNo}
 use Rattle.tv_base.specs.declared.numbers.SubNo.{SubNo}
@@ -44,23 +45,23 @@ use Rattle.tree_laws.proofs.AptDecisions.{dated_here}
 use Rattle.tree_laws.proofs.AptStagesOwn.{Doing}
 use Rattle.tree_laws.proofs.AptVersions.{before}
 use Rattle.tree_laws.proofs.AptWindows.{tables_ascend}
+use Rattle.tree_laws.proofs.Counts.{one_here}
 use Rattle.tree_laws.proofs.Histories.{at_each_act_more}
 use Rattle.value_laws.proofs.HeldItems.{greatest_from}
 use Rattle.value_laws.proofs.RowActs.{is_lasting, lasting}
 use Rattle.run_laws.proofs.EveryApt.{all_apt}
 use Rattle.rule_laws.proofs.Deeds.{conflict_front}
-use Rattle.rule_laws.proofs.Fronts.{act_of_place, front}
+use Rattle.rule_laws.proofs.Fronts.{act_of_place, front, one_by_one}
 use Rattle.rule_laws.proofs.Lasts.{Applies, AsksIn, Frees, Lasts, Reads, Updates, Votes, cause_there, lasts}
-use Rattle.rule_laws.proofs.Turns.{born_before, is_there, own_turn}
+use Rattle.rule_laws.proofs.Turns.{born_before, is_there}
 use Rattle.rule_laws.proofs.UpTo.{IsUpTo}
 use Rattle.rule_laws.proofs.Writes.{IsItem, asked_born}
-use Rattle.rule_laws.proofs.YesVotes.{asked_same, front_version, held_up, newest_most, not_less, there_held}
+use Rattle.rule_laws.proofs.YesVotes.{asked_same, front_version, held_up, newest_most, there_held}
 use Rattle.worth_laws.specs.Causes.{NamesItsCause, VotesNameTheirCauses}
 use Rattle.worth_laws.proofs.Asking.{asked_low, low_update}
 use Rattle.worth_laws.proofs.HeldNewest.{held_to_bound}
 use Rattle.worth_laws.proofs.MostHeld.{greatest_most}
 use Rattle.worth_laws.proofs.NewestOf.{newest_grows}
-use Rattle.worth_laws.proofs.Right.{each_by_position}
 use Rattle.worth_laws.proofs.RightReads.{each_op}
 use Rattle.worth_laws.proofs.VoteSees.{conflict_met, vote_seen}
 
@@ -73,7 +74,7 @@ newer_number x v low g n true is le most above =
     ap (λ (i : ℕ). if nat_lt v i then Some (Newer x (record { 0 = i })) else None) same
 newer_number x v low g n false is le most above =
     let at : g ≤ v = grind (arith, nat_tests, is) in
-    let other : nat_lt v n ≡ false = not_less v n (omega (arith, at, le)) in
+    let other : nat_lt v n ≡ false = le-ltb v n (omega (arith, at, le)) in
     ap (λ (b : Bool). if b then Some (Newer x (record { 0 = g })) else None) is
     ∙ sym (ap (λ (b : Bool). if b then Some (Newer x (record { 0 = n })) else None) other)
 
@@ -179,8 +180,8 @@ voted_names s past e j a t k (Some cause) values is so = subst (NamesHere s past
 
 vote_lasts : (t : TreeNo) (k : SubNo) (o : Option Cause) (values : List (ItemNo × Value))
     → (is_lasting (act_of t k (notice_by (voted o values))) ≡ true) × (has_turn t.0 k.0 (act_of t k (notice_by (voted o values))) ≡ 1)
-vote_lasts t k None values = (refl, own_turn t.0 k.0)
-vote_lasts t k (Some cause) values = (refl, own_turn t.0 k.0)
+vote_lasts t k None values = (refl, one_here t.0 k.0)
+vote_lasts t k (Some cause) values = (refl, one_here t.0 k.0)
 
 lasting_names : (s : ScriptData) (past : List Entry) (e : Entry) (j : ℕ) (a : Act) → slice_get e.acts j ≡ Some a → Lasts s past e j a
     → NamesHere s past e j a
@@ -217,5 +218,5 @@ pub names_causes : (s : ScriptData) (past : List Entry) → IsValid s → IsStep
 names_causes s [] valid run = λ n e here. absurd (cc here)
 names_causes s (e ∷ past) valid run =
     at_each_act_more (λ (b : List Entry) (xs : List Place) (y : Place). NamesItsCause s b xs y.node y.act) e past (names_causes s past valid run.1)
-    (each_by_position (λ (xs : List Place) (y : Place). NamesItsCause s (reverse past) xs y.node y.act) (before past) (places_at e)
+    (one_by_one (λ (xs : List Place) (y : Place). NamesItsCause s (reverse past) xs y.node y.act) (before past) (places_at e)
     (λ j y is. place_names s past e j y valid run is))

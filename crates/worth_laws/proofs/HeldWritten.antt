@@ -1,7 +1,7 @@
 -- In every run the versions of a node's items above its low one are those in which one of its own acts writes the item.
 use Rattle.std.proofs.Common.{◌≡◌, ◌≢◌, ◌⊎◌, inl, inr, ℕ, ◌+◌, ◌<◌, ◌==◌, ◌&&◌, ◌||◌, Bool, true, false, List, [], ◌∷◌, ◌++◌, reverse, refl, sym, ap, subst, ◌∙◌, append_assoc, arith, Option, Some, None}
 use Rattle.std.specs.Prelude.{if◌then◌else◌, is_some, map, slice_get}
-use Rattle.std.specs.List.{AllByRecursion, list_any}
+use Rattle.std.specs.List.{list_any}
 use Rattle.std.proofs.Math.Bool.{or-false}
 use Rattle.std.proofs.lemmas.Bool.{cases_eq}
 use Rattle.std.proofs.lemmas.Bool.Decides.{nat_tests}
@@ -10,23 +10,17 @@ use Rattle.std.proofs.lemmas.List.Folds.{list_any-append}
 use Rattle.tv_base.specs.declared.numbers.ItemNo.{ItemNo}
 use Rattle.tv_base.specs.declared.numbers.TreeNo.{TreeNo}
 use Rattle.tv_base.specs.declared.numbers.Version.{Version}
-use Rattle.commute_ops.specs.declared.kinds.Kind.{Kind}
-use Rattle.commute_ops.specs.declared.kinds.Kind.TheVariants as kinds
 use Rattle.commute_ops.specs.declared.value.Value.{Value}
 use Rattle.item_versions.specs.Item.{Held}
 use Rattle.item_versions.specs.Table.{Table, item_in}
 use Rattle.letter_types.specs.declared.acts.Act.{Act}
 use Rattle.letter_types.specs.declared.acts.Act.TheVariants as acts
-use Rattle.letter_types.specs.declared.bodies.Body.{Body}
-use Rattle.letter_types.specs.declared.bodies.Body.TheVariants.{Root, Sub as SubLetter, Go, Decide}
+use Rattle.letter_types.specs.declared.bodies.Body.TheVariants.{Decide}
 use Rattle.letter_types.specs.declared.entries.Entry.{Entry}
 use Rattle.letter_types.specs.declared.entries.Letter.{Letter}
 use Rattle.script_parts.specs.ScriptData.{ScriptData}
-use Rattle.script_parts.specs.Valid.{IsOp, IsValid, OpAt, deed_fits}
-use Rattle.script_parts.specs.declared.parts.Deed.{Deed}
-use Rattle.script_parts.specs.declared.parts.Deed.TheVariants.{Apply, Get, Set, Draw}
+use Rattle.script_parts.specs.Valid.{IsValid}
 use Rattle.script_parts.specs.declared.parts.ItemRow.{ItemRow}
-use Rattle.script_parts.specs.declared.parts.SubOp.{SubOp}
 use Rattle.script_parts.specs.declared.parts.TreeKind.TheVariants.{Strict}
 use Rattle.world_model.specs.AllApt.{AllApt}
 use Rattle.world_model.specs.Core.{Core}
@@ -46,21 +40,20 @@ use Rattle.tree_laws.specs.Carried.{CarriesVersion}
 use Rattle.tree_laws.proofs.AptDecisions.{dated_here}
 use Rattle.tree_laws.proofs.AptStagesOwn.{Doing}
 use Rattle.tree_laws.proofs.AptSteps.{enters}
-use Rattle.tree_laws.proofs.AptVersions.{DoneIn, before, still_by}
+use Rattle.tree_laws.proofs.AptVersions.{before}
 use Rattle.tree_laws.proofs.AptWindows.{apt_timely, nodes_in_window}
 use Rattle.tree_laws.proofs.Histories.{places_more}
 use Rattle.tree_laws.proofs.NodeLoads.{StrictTree, node_ops_fit, strict_there}
 use Rattle.tree_laws.proofs.Seen.{seen_of}
 use Rattle.tree_laws.proofs.Turns.{work_version}
 use Rattle.value_laws.proofs.Newest.{agreed_here}
-use Rattle.value_laws.proofs.Overwritten.{IsOfCommit}
 use Rattle.value_laws.proofs.RowActs.{is_lasting, keeping_lasts, lasting, lasting_acts, row_lasts}
-use Rattle.value_laws.proofs.SeenByActs.{apt_can, sees_by_acts}
+use Rattle.value_laws.proofs.SeenByActs.{apt_can, later_dated, ops_read, sees_by_acts}
 use Rattle.run_laws.proofs.EveryApt.{all_apt}
 use Rattle.rule_laws.proofs.Turns.{carried}
-use Rattle.held_laws.specs.Held.{HoldsWritten}
-use Rattle.held_laws.specs.Written.{holds_in, was_written, act_writes, writes_in}
-use Rattle.held_laws.proofs.HeldRows.{HasItem, IsCommit, IsReady, row_holds}
+use Rattle.worth_laws.specs.Held.{HoldsWritten}
+use Rattle.worth_laws.specs.Written.{holds_in, was_written, act_writes, writes_in}
+use Rattle.worth_laws.proofs.HeldRows.{HasItem, IsCommit, IsReady, row_holds}
 
 -- Acts that don't last write nothing, nor do those of another node.
 act_left : (s : ScriptData) (zs : List Place) (p x w : ℕ) (a : Act) → is_lasting a ≡ false → act_writes s zs p x w a ≡ false
@@ -96,30 +89,6 @@ other_any s zs p x w q (a ∷ xs) ne =
     ap (λ (b : Bool). (b && act_writes s zs p x w a) || list_any (writes_in s zs p x w) (placed q xs)) other ∙ other_any s zs p x w q xs ne
 
 -- What is known where a node does a letter.
-later_dated : (xs ys : List Place) (v : Version) (body : Body) → DoneIn xs v body → DoneIn (xs ++ ys) v body
-later_dated xs ys v (Root t) is = still_by xs ys t.0 v is
-later_dated xs ys v (SubLetter t k w) is = still_by xs ys t.0 w is
-later_dated xs ys v Go is = tt
-later_dated xs ys v _ is = tt
-
--- operations of strict trees write or read
-fits_commit : (kind : Kind) (d : Deed) → deed_fits Strict kind d ≡ true → IsOfCommit d
-fits_commit kinds.Sum (Apply op) fits over = absurd (cc fits)
-fits_commit kinds.Top (Apply op) fits over = absurd (cc fits)
-fits_commit kinds.Bag (Apply op) fits over = absurd (cc fits)
-fits_commit kind Get fits over = refl
-fits_commit kind (Set n) fits over = absurd (cc over)
-fits_commit kind (Draw n) fits over = absurd (cc over)
-
-op_reads : (p : ℕ) (o : SubOp) (found : Option ItemRow) → OpAt Strict p o found → IsOfCommit o.deed
-op_reads p o None fits = absurd fits
-op_reads p o (Some row) fits = fits_commit row.kind o.deed fits.1
-
-ops_read : (s : ScriptData) (p : ℕ) (os : List SubOp) → AllByRecursion (IsOp s.items Strict p) os
-    → AllByRecursion (λ (o : SubOp). IsOfCommit o.deed) os
-ops_read s p [] all = tt
-ops_read s p (o ∷ os) all = (op_reads p o (slice_get s.items o.item.0) all.0, ops_read s p os all.1)
-
 born_later : (t : ℕ) (xs ys : List Place) (v : Version) → version_in t xs ≡ Some v → version_in t (xs ++ ys) ≡ Some v
 born_later t xs ys v is = version_stays t xs ys (ap (λ (o : Option Version). is_some o) is) ∙ is
 

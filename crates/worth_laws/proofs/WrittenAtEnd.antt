@@ -1,6 +1,6 @@
 -- Where every tree is whole, an item is written in a version by its node's acts just where the trees of that version write it.
-use Rattle.std.proofs.Common.{◌≡◌, ◌⊎◌, inl, inr, ℕ, zero, suc, ◌+◌, ◌<◌, ◌==◌, ◌&&◌, Bool, true, false, List, [], ◌∷◌, ◌++◌, length, reverse, refl, sym, ap, subst, ◌∙◌, arith, Option, Some, None}
-use Rattle.std.specs.Prelude.{if◌then◌else◌, slice_get}
+use Rattle.std.proofs.Common.{◌≡◌, inl, inr, ℕ, zero, suc, ◌+◌, ◌<◌, ◌==◌, ◌&&◌, Bool, true, false, List, [], ◌∷◌, length, reverse, refl, sym, ap, subst, ◌∙◌, arith, Option, Some, None}
+use Rattle.std.specs.Prelude.{slice_get}
 use Rattle.std.proofs.lemmas.Bool.{and_from, and_parts, eqb-true, or_cases, or_left, or_right}
 use Rattle.tv_base.proofs.Truths.{left_true, right_true, same_test}
 use Rattle.tv_base.specs.declared.numbers.TreeNo.{TreeNo}
@@ -12,7 +12,6 @@ use Rattle.script_parts.specs.ScriptData.{ScriptData, is_strict, is_update, node
 use Rattle.script_parts.specs.Valid.{IsValid}
 use Rattle.script_parts.specs.declared.parts.ItemRow.{ItemRow}
 use Rattle.script_parts.specs.declared.parts.Sub.{Sub}
-use Rattle.script_parts.specs.declared.parts.SubOp.{SubOp}
 use Rattle.script_parts.specs.declared.parts.Tree.{Tree}
 use Rattle.script_parts.specs.declared.parts.TreeKind.{TreeKind}
 use Rattle.script_parts.specs.declared.parts.TreeKind.TheVariants as trees
@@ -20,7 +19,7 @@ use Rattle.board_rules.specs.Histories.{Place, applies, commits, does, is_strict
 use Rattle.board_rules.specs.Moves.{decides_as}
 use Rattle.board_rules.specs.Rules.{AreByRule}
 use Rattle.board_rules.specs.Serial.{is_version}
-use Rattle.board_rules.specs.Worth.{changes, is_written, may_write, ops_change, subs_change, trees_write, writes}
+use Rattle.board_rules.specs.Worth.{is_written, may_write, ops_change, subs_change, trees_write, writes}
 use Rattle.board_rules.proofs.ActTests.{applies_as, applies_as_is, as_commits, commits_as, does_is}
 use Rattle.board_rules.proofs.ClosedWorth.{applied_as_commit}
 use Rattle.board_rules.proofs.ItemAt.{item_at}
@@ -38,8 +37,9 @@ use Rattle.tree_laws.proofs.NodeLoads.{StrictTree, strict_there}
 use Rattle.run_laws.proofs.EveryWhole.{strict_is}
 use Rattle.rule_laws.proofs.Rules.{follows_rules}
 use Rattle.rule_laws.proofs.Writes.{changes_at}
-use Rattle.held_laws.specs.Held.{AreAllWhole, IsWrittenAtEnd}
-use Rattle.held_laws.specs.Written.{was_written, act_writes, writes_in}
+use Rattle.worth_laws.specs.Held.{AreAllWhole, IsWrittenAtEnd}
+use Rattle.worth_laws.specs.Written.{was_written, act_writes, writes_in}
+use Rattle.worth_laws.proofs.HeldNewest.{tree_changes}
 
 -- From an act to its tree.
 -- subtransactions of which one changes the item
@@ -50,33 +50,6 @@ subs_change_at x zero (y ∷ subs) sub at is =
     let same : y ≡ sub = cc at in
     or_left (ops_change x y.ops) (subs_change x subs) (ap (λ (z : Sub). ops_change x z.ops) same ∙ is)
 subs_change_at x (suc k) (y ∷ subs) sub at is = or_right (ops_change x y.ops) (subs_change x subs) (subs_change_at x k subs sub at is)
-
--- operations at a node of which one changes the item
-change_parts : (x : ℕ) (os rest : List SubOp) → ops_change x (os ++ rest) ≡ true → (ops_change x os ≡ true) ⊎ (ops_change x rest ≡ true)
-change_parts x [] rest on = inr on
-change_parts x (o ∷ os) rest on =
-    by (λ later. change_parts x os rest later) (or_cases ((o.item.0 == x) && changes o.deed) (ops_change x (os ++ rest)) on) where
-      by : (ops_change x (os ++ rest) ≡ true → (ops_change x os ≡ true) ⊎ (ops_change x rest ≡ true))
-          → (((o.item.0 == x) && changes o.deed) ≡ true) ⊎ (ops_change x (os ++ rest) ≡ true)
-          → (ops_change x (o ∷ os) ≡ true) ⊎ (ops_change x rest ≡ true)
-      by deeper (inl here) = inl (or_left ((o.item.0 == x) && changes o.deed) (ops_change x os) here)
-      by deeper (inr later) = behind (deeper later) where
-        behind : (ops_change x os ≡ true) ⊎ (ops_change x rest ≡ true) → (ops_change x (o ∷ os) ≡ true) ⊎ (ops_change x rest ≡ true)
-        behind (inl there) = inl (or_right ((o.item.0 == x) && changes o.deed) (ops_change x os) there)
-        behind (inr there) = inr there
-
-tree_changes : (x p : ℕ) (subs : List Sub) → ops_change x (ops_at p subs) ≡ true → subs_change x subs ≡ true
-tree_changes x p [] on = absurd (cc on)
-tree_changes x p (y ∷ subs) on = by (y.node.0 == p) (λ later. tree_changes x p subs later) on where
-  one : (ops_change x (ops_at p subs) ≡ true → subs_change x subs ≡ true)
-      → (ops_change x y.ops ≡ true) ⊎ (ops_change x (ops_at p subs) ≡ true) → subs_change x (y ∷ subs) ≡ true
-  one rest (inl here) = or_left (ops_change x y.ops) (subs_change x subs) here
-  one rest (inr later) = or_right (ops_change x y.ops) (subs_change x subs) (rest later)
-
-  by : (test : Bool) → (ops_change x (ops_at p subs) ≡ true → subs_change x subs ≡ true)
-      → ops_change x (if test then y.ops ++ ops_at p subs else ops_at p subs) ≡ true → subs_change x (y ∷ subs) ≡ true
-  by true rest now = one rest (change_parts x y.ops (ops_at p subs) now)
-  by false rest now = one rest (inr now)
 
 -- trees of which one writes
 trees_write_at : (h : List Entry) (x w i n : ℕ) (ts : List Tree) (t : ℕ) (tree : Tree) → slice_get ts n ≡ Some tree → t ≡ i + n

@@ -5,7 +5,7 @@ ghost use Rattle.script_parts.specs.ScriptData.{ScriptData};
 ghost use Rattle.script_parts.specs.Valid.{IsValid};
 ghost use Rattle.board_rules.specs.Histories.{places_of};
 ghost use Rattle.world_model.specs.Runs.{IsStepRun};
-ghost use Rattle.held_laws.specs.Held.{AreAllWhole, HoldsWritten, IsWrittenAtEnd};
+ghost use Rattle.worth_laws.specs.Held.{AreAllWhole, HoldsWritten, IsWrittenAtEnd};
 
 /// In every run the versions of an item that its node holds above its low one are those in which one of its own acts writes
 /// the item: a Did of an update tree of that version, or the Applied of a commit of that version.

@@ -12,7 +12,7 @@ use Rattle.tv_base.specs.declared.numbers.Version.{Version}
 use Rattle.commute_ops.specs.declared.kinds.Op.{Op}
 use Rattle.commute_ops.specs.declared.value.Value.{Value}
 use Rattle.item_versions.specs.Collecting.{collected_all}
-use Rattle.item_versions.specs.Item.{Held, IsHeld, above, below, collected, holds, may_touch, put_value, seen, seen_after, touched}
+use Rattle.item_versions.specs.Item.{Held, above, below, collected, holds, may_touch, put_value, touched}
 use Rattle.item_versions.specs.Table.{Table, item_in, may_touch_in, replaced, updated, valued}
 use Rattle.item_versions.specs.Window.{in_window}
 use Rattle.item_versions.proofs.History.{holds-above, holds-touched}
@@ -52,9 +52,10 @@ use Rattle.tree_laws.proofs.Turns.{kind_version, work_version}
 use Rattle.strict_laws.proofs.ByActs.{kind_updates}
 use Rattle.value_laws.proofs.HeldItems.{written_other}
 use Rattle.value_laws.proofs.HoldRows.{decided_table}
-use Rattle.value_laws.proofs.Overwritten.{IsOfCommit}
+use Rattle.value_laws.proofs.Overwritten.{IsOfCommit, seen_some}
 use Rattle.value_laws.proofs.RowActs.{asked_acts, lasting_acts}
-use Rattle.held_laws.specs.Written.{holds_in, holds_of, act_writes}
+use Rattle.worth_laws.specs.Written.{holds_in, holds_of, act_writes}
+use Rattle.worth_laws.proofs.MostHeld.{over_changes}
 
 -- One item.
 -- an update holds its version, and the others as before
@@ -148,10 +149,6 @@ collected_hold w f x (e ∷ es) lt = collect_by w f x e es lt (collected_hold w 
 abbrev pub HasItem : ItemNo → Table → Type 0
 HasItem x items = (h : Held) × (item_in x items ≡ Some h)
 
-seen_some : (v : Version) (h : Held) → IsHeld h → (y : Value) × (seen v h ≡ Some y)
-seen_some v [] held = absurd held
-seen_some v (y ∷ ys) held = (seen_after y.1 v ys, refl)
-
 replaced_has : (n x : ItemNo) (g h : Held) (items : Table) (test : Bool) → (n.0 == x.0) ≡ test → item_in n items ≡ Some h → HasItem x items
     → HasItem x (replaced n g items)
 replaced_has n x g h items true is at has =
@@ -188,12 +185,6 @@ over_holds low w v o x items true is near has =
     ∙ replaced_holds w v o.item x new h items at (put_holds w v (after_deed o.deed found.0) h) true is
 over_holds low w v o x items false is near has =
     ap (holds_of w) (written_other v o x (seen_in v o.item items) items is) ∙ none_more (v.0 == w.0) (holds_in w x items)
-
-over_changes : (d : Deed) → overwrites d ≡ true → changes d ≡ true
-over_changes (Apply op) is = absurd (cc is)
-over_changes Get is = absurd (cc is)
-over_changes (Set n) is = refl
-over_changes (Draw n) is = refl
 
 all_true : (a b : Bool) → b ≡ true → a ≡ (a && b)
 all_true true b is = sym is

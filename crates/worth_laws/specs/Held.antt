@@ -6,7 +6,7 @@ use Rattle.script_parts.specs.declared.parts.ItemRow.{ItemRow}
 use Rattle.world_model.specs.Runs.{node_in}
 use Rattle.board_rules.specs.Histories.{Place, is_whole_in, places_of}
 use Rattle.board_rules.specs.Worth.{is_written}
-use Rattle.held_laws.specs.Written.{holds_in, was_written}
+use Rattle.worth_laws.specs.Written.{holds_in, was_written}
 
 -- above node p's low version, it holds just those versions of its item x in which one of its own acts writes it
 abbrev pub HoldsWritten : ScriptData → List Entry → ℕ → ℕ → Type 0

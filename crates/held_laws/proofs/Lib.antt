@@ -1,3 +1,0 @@
-pub mod HeldRows
-pub mod HeldWritten
-pub mod WrittenAtEnd
