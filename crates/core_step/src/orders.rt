@@ -6,8 +6,8 @@ ghost use Rattle.core_step.specs.Plans.{IsPlanOf};
 ghost use Rattle.core_step.specs.inside.Apt.{is_own};
 ghost use Rattle.core_step.specs.inside.Stays.{of_parts, still_step};
 
-use crate::plan::{CorePlan, does};
-use letter_types::Letter;
+use crate::plan::CorePlan;
+use letter_types::{Boxed, Letter};
 use node_step::{prepare_asked, prepare_done, prepare_show, prepare_sweep, prepare_turn};
 use std::alloc::Global;
 use strict_step::{CorePrepared, HoldChange, NodeCore, VoteChange};
@@ -16,21 +16,23 @@ use tv_base::{NoMemory, Version};
 use tx_trees::Script;
 
 /// A step of a node's parts, in which locks, noes and held answers stay.
-fn of_parts(prepared: Prepared) -> CorePrepared
-    ensures { result ≡ of_parts prepared }
+fn of_parts(alloc: Global, prepared: Prepared) -> Result<Boxed<CorePrepared>, NoMemory>
+    ensures { IfOk result (λ step. step ≡ of_parts prepared) }
 {
-    CorePrepared {
+    let prepared = CorePrepared {
         prepared,
         votes: VoteChange::Stay,
         holds: HoldChange::Stay,
-    }
+    };
+    Ok(Boxed::new(alloc, prepared)?)
 }
 
 /// A step that changes and sends nothing.
-pub(crate) fn still_step(alloc: Global) -> CorePrepared
-    ensures { result ≡ still_step }
+pub(crate) fn still_step(alloc: Global) -> Result<Boxed<CorePrepared>, NoMemory>
+    ensures { IfOk result (λ step. step ≡ still_step) }
 {
-    of_parts(Prepared::still(alloc))
+    let step = of_parts(alloc, Prepared::still(alloc))?;
+    Ok(step)
 }
 
 /// A letter without a row of its own, which changes and sends nothing.
@@ -47,8 +49,7 @@ pub(crate) fn plan_other(
     let _ = core;
     let _ = letter;
     let _ = script;
-    let plan = does(alloc, still_step(alloc))?;
-    Ok(plan)
+    Ok(CorePlan::Does(still_step(alloc)?))
 }
 
 /// A turn.
@@ -67,8 +68,7 @@ pub(crate) fn plan_turn(
         return Ok(CorePlan::Still);
     }
     let prepared = prepare_turn(alloc, &core.parts, script, version)?;
-    let plan = does(alloc, of_parts(prepared))?;
-    Ok(plan)
+    Ok(CorePlan::Does(of_parts(alloc, prepared)?))
 }
 
 /// A version is shown to reads.
@@ -87,8 +87,7 @@ pub(crate) fn plan_show(
         return Ok(CorePlan::Still);
     }
     let prepared = prepare_show(alloc, &core.parts, script, version)?;
-    let plan = does(alloc, of_parts(prepared))?;
-    Ok(plan)
+    Ok(CorePlan::Does(of_parts(alloc, prepared)?))
 }
 
 /// A sweep.
@@ -107,8 +106,7 @@ pub(crate) fn plan_sweep(
         return Ok(CorePlan::Still);
     }
     let prepared = prepare_sweep(alloc, &core.parts, script, version)?;
-    let plan = does(alloc, of_parts(prepared))?;
-    Ok(plan)
+    Ok(CorePlan::Does(of_parts(alloc, prepared)?))
 }
 
 /// A node tells its completions of a version.
@@ -126,8 +124,7 @@ pub(crate) fn plan_done_row(
 {
     let _ = letter;
     let prepared = prepare_done(alloc, &core.parts, script, version, round)?;
-    let plan = does(alloc, of_parts(prepared))?;
-    Ok(plan)
+    Ok(CorePlan::Does(of_parts(alloc, prepared)?))
 }
 
 /// A node tells its requests of a version.
@@ -145,6 +142,5 @@ pub(crate) fn plan_asked_row(
 {
     let _ = letter;
     let prepared = prepare_asked(alloc, &core.parts, script, version, round)?;
-    let plan = does(alloc, of_parts(prepared))?;
-    Ok(plan)
+    Ok(CorePlan::Does(of_parts(alloc, prepared)?))
 }

@@ -44,13 +44,6 @@ pub enum CorePlan {
     Does(Boxed<CorePrepared>),
 }
 
-/// The plan to do a row that is prepared. It is behind a pointer, so that it is small while it is handed on.
-pub(crate) fn does(alloc: Global, prepared: CorePrepared) -> Result<CorePlan, NoMemory>
-    ensures { IfOk result (λ plan. plan ≡ Does prepared) }
-{
-    Ok(CorePlan::Does(Boxed::new(alloc, prepared)?))
-}
-
 /// Whether the operations of a subtransaction of an update tree may be made.
 fn can_update(
     alloc: Global,
@@ -116,8 +109,7 @@ fn plan_update(
     let Some(prepared) = prepare_update_tree(alloc, core, letter, script, tree)? else {
         return Ok(CorePlan::Still);
     };
-    let plan = does(alloc, prepared)?;
-    Ok(plan)
+    Ok(CorePlan::Does(prepared))
 }
 
 /// A subtransaction of a read tree.
@@ -141,8 +133,7 @@ fn plan_read(
     let Some(prepared) = prepare_read_tree(alloc, core, letter, script)? else {
         return Ok(CorePlan::Still);
     };
-    let plan = does(alloc, prepared)?;
-    Ok(plan)
+    Ok(CorePlan::Does(prepared))
 }
 
 /// A subtransaction of a strict tree: it votes, unless it is a root that has to wait.
@@ -167,8 +158,7 @@ fn plan_strict(
         return Ok(CorePlan::Keeps(kept));
     }
     let prepared = prepare_vote(alloc, core, letter, script, tree)?;
-    let plan = does(alloc, prepared)?;
-    Ok(plan)
+    Ok(CorePlan::Does(prepared))
 }
 
 /// A subtransaction of a tree of this kind.
@@ -248,8 +238,7 @@ fn plan_note(
         return Ok(CorePlan::Still);
     }
     let prepared = prepare_note(alloc, core, script, request, notice)?;
-    let plan = does(alloc, prepared)?;
-    Ok(plan)
+    Ok(CorePlan::Does(prepared))
 }
 
 /// A decision on a strict tree.
@@ -272,8 +261,7 @@ fn plan_decide(
     let node = NodeNo(letter.to.0);
     let from = NodeNo(letter.from.0);
     let prepared = prepare_decide(alloc, core, script, node, from, decision)?;
-    let plan = does(alloc, prepared)?;
-    Ok(plan)
+    Ok(CorePlan::Does(prepared))
 }
 
 /// An acknowledgement at a strict tree's home.
@@ -296,8 +284,7 @@ fn plan_acked(
     }
     let from = NodeNo(letter.from.0);
     let prepared = prepare_acked(alloc, core, script, from, tree, version)?;
-    let plan = does(alloc, prepared)?;
-    Ok(plan)
+    Ok(CorePlan::Does(prepared))
 }
 
 /// Marks of an update tree that go.
@@ -318,8 +305,7 @@ fn plan_release(
         return Ok(CorePlan::Still);
     }
     let prepared = prepare_release(alloc, core, tree)?;
-    let plan = does(alloc, prepared)?;
-    Ok(plan)
+    Ok(CorePlan::Does(prepared))
 }
 
 /// A Wake, for which a core does nothing.
@@ -340,8 +326,7 @@ fn plan_wake(
     if !wake_apt(script, letter.to, tree, sub) {
         return Ok(CorePlan::Still);
     }
-    let plan = does(alloc, still_step(alloc))?;
-    Ok(plan)
+    Ok(CorePlan::Does(still_step(alloc)?))
 }
 
 /// What a core does with a letter: nothing where it isn't apt; else it keeps the letter where it has to, and does its row

@@ -16,7 +16,7 @@ use crate::change::{CorePrepared, HoldChange, Visited, VoteChange};
 use crate::decisions::client_of;
 use crate::refusals::Refusals;
 use crate::state::NodeCore;
-use letter_types::{Act, Body, Letters, Outgoing, StepOut};
+use letter_types::{Act, Body, Boxed, Letters, Outgoing, StepOut};
 use std::alloc::Global;
 use tree_home::Answered;
 use tree_step::{Prepared, TreePrepared, kind_of, push_reply};
@@ -117,7 +117,7 @@ pub(crate) fn answered_step(
     script: &Script,
     part: TreePrepared,
     votes: VoteChange,
-) -> Result<CorePrepared, NoMemory>
+) -> Result<Boxed<CorePrepared>, NoMemory>
     requires may { MayDo part.prepared.change part.prepared.out.sent core.now.parts }
     requires counted { SendsRequests part.prepared.change part.prepared.out.sent }
     requires apart { IsApartAfter part core.now }
@@ -125,20 +125,14 @@ pub(crate) fn answered_step(
         (part_row part (data_of core.now.parts))) core.now) }
 {
     let TreePrepared { prepared, answered } = part;
-    let Prepared { change, out } = prepared;
-    let StepOut { sent, acts } = out;
-    let mut sent = sent;
-    push_releases(alloc, &mut sent, script, &answered)?;
-    push_reply(&mut sent, client_of(script), answered)?;
-    let prepared = Prepared {
-        change,
-        out: StepOut { sent, acts },
-    };
-    Ok(CorePrepared {
+    let mut prepared = CorePrepared {
         prepared,
         votes,
         holds: HoldChange::Stay,
-    })
+    };
+    push_releases(alloc, &mut prepared.prepared.out.sent, script, &answered)?;
+    push_reply(&mut prepared.prepared.out.sent, client_of(script), answered)?;
+    Ok(Boxed::new(alloc, prepared)?)
 }
 
 /// Whether a tree commits once the noes have changed so: it has no no.
@@ -189,7 +183,7 @@ pub(crate) fn decided_step(
     script: &Script,
     part: TreePrepared,
     votes: VoteChange,
-) -> Result<CorePrepared, NoMemory>
+) -> Result<Boxed<CorePrepared>, NoMemory>
     requires may { MayDo part.prepared.change part.prepared.out.sent core.now.parts }
     requires counted { SendsRequests part.prepared.change part.prepared.out.sent }
     requires apart { IsApartAfter part core.now }
@@ -199,20 +193,27 @@ pub(crate) fn decided_step(
 {
     let TreePrepared { prepared, answered } = part;
     let Some(answered) = answered else {
-        return Ok(CorePrepared {
+        let prepared = CorePrepared {
             prepared,
             votes,
             holds: HoldChange::Stay,
-        });
+        };
+        return Ok(Boxed::new(alloc, prepared)?);
     };
     let commit = commits(&core.refusals, &votes, answered.tree);
     let visited = visited(alloc, script, answered.tree)?;
     let Prepared { change, out } = prepared;
     let out = with_decides(alloc, out, &answered, commit, visited.items())?;
     let prepared = Prepared { change, out };
-    Ok(CorePrepared {
+    let held = Boxed::new(alloc, answered)?;
+    let told = Boxed::new(alloc, visited)?;
+    let prepared = CorePrepared {
         prepared,
         votes,
-        holds: HoldChange::Hold { answered, visited },
-    })
+        holds: HoldChange::Hold {
+            answered: held,
+            visited: told,
+        },
+    };
+    Ok(Boxed::new(alloc, prepared)?)
 }

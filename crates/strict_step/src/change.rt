@@ -2,6 +2,7 @@
 ghost use Rattle.std.specs.Prelude.{◌≡◌};
 ghost use Rattle.strict_step.specs.inside.Openings.{changed_once_open, once_open, opening_in, opening_of, home_once_open};
 
+use letter_types::Boxed;
 use nc_locks::Mode;
 use tree_home::Answered;
 use tree_step::{Change, HomeChange, Prepared, TreeChange};
@@ -37,8 +38,8 @@ pub enum HoldChange {
     /// An answer is held until each of these nodes has acknowledged the decision. A request of the answer's version to
     /// each is counted.
     Hold {
-        answered: Answered,
-        visited: Visited,
+        answered: Boxed<Answered>,
+        visited: Boxed<Visited>,
     },
     /// An acknowledgement of a tree is taken down whose answer is held.
     Ack {
@@ -47,7 +48,8 @@ pub enum HoldChange {
 }
 
 /// A step that is prepared: what the node's parts do and what goes out, and what becomes of locks or noes and of held
-/// answers. The answer that an acknowledgement sets free is among what goes out.
+/// answers. The answer that an acknowledgement sets free is among what goes out. It is handed on behind a pointer, since
+/// it is large.
 #[derive(Drop)]
 pub struct CorePrepared {
     pub prepared: Prepared,

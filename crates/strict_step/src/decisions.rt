@@ -41,7 +41,7 @@ pub fn prepare_release(
     alloc: Global,
     core: &NodeCore,
     tree: TreeNo,
-) -> Result<CorePrepared, NoMemory>
+) -> Result<Boxed<CorePrepared>, NoMemory>
     requires { CanCoreStep core.now }
     ensures { IfOk result (IsCoreStepOf (release_core tree (core_of core.now)) core.now) }
 {
@@ -54,11 +54,12 @@ pub fn prepare_release(
         change: Change::Still,
         out,
     };
-    Ok(CorePrepared {
+    let prepared = CorePrepared {
         prepared,
         votes: VoteChange::Free { tree },
         holds: HoldChange::Stay,
-    })
+    };
+    Ok(Boxed::new(alloc, prepared)?)
 }
 
 /// What a node tells a strict tree's home, and acts, once it has applied the decision.
@@ -86,7 +87,7 @@ pub fn prepare_decide(
     node: NodeNo,
     from: NodeNo,
     decision: Decision,
-) -> Result<CorePrepared, NoMemory>
+) -> Result<Boxed<CorePrepared>, NoMemory>
     // What the caller knows.
     requires ready { IsCoreReady script.now from.0 core.now }
     requires strict { IsTrue (is_strict_at script.now decision.tree.0) }
@@ -119,13 +120,14 @@ pub fn prepare_decide(
         change: Change::Tree(change),
         out,
     };
-    Ok(CorePrepared {
+    let prepared = CorePrepared {
         prepared,
         votes: VoteChange::Free {
             tree: decision.tree,
         },
         holds: HoldChange::Stay,
-    })
+    };
+    Ok(Boxed::new(alloc, prepared)?)
 }
 
 /// What becomes of the held answers at an acknowledgement of a tree: nothing where none of its is held.
@@ -254,7 +256,7 @@ pub fn prepare_acked(
     from: NodeNo,
     tree: TreeNo,
     version: Version,
-) -> Result<CorePrepared, NoMemory>
+) -> Result<Boxed<CorePrepared>, NoMemory>
     requires ready { IsCoreReady script.now from.0 core.now }
     requires near { IsTrue (in_window core.now.parts.turns.low.0 version.0) }
     ensures { IfOk result (IsCoreStepOf (acked_core script.now from.0 tree version (core_of core.now)) core.now) }
@@ -268,9 +270,10 @@ pub fn prepare_acked(
         acts: Acts::new(alloc),
     };
     let prepared = completing(alloc, from, version, out);
-    Ok(CorePrepared {
+    let prepared = CorePrepared {
         prepared,
         votes,
         holds,
-    })
+    };
+    Ok(Boxed::new(alloc, prepared)?)
 }

@@ -170,7 +170,11 @@ fn holds_done(core: &mut NodeCore, prepared: CorePrepared) -> Result<StepOut, No
     match holds {
         HoldChange::Stay => still_done(core, votes, prepared),
         HoldChange::Hold { answered, visited } => hold_done(
-            core, answered, visited, votes, prepared,
+            core,
+            answered.into_inner(),
+            visited.into_inner(),
+            votes,
+            prepared,
         ),
         HoldChange::Ack { tree } => ack_done(core, tree, votes, prepared),
     }

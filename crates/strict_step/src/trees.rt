@@ -12,7 +12,7 @@ ghost use Rattle.strict_step.specs.State.{IsCoreReady, core_of};
 use crate::answers::answered_step;
 use crate::change::{CorePrepared, VoteChange, WantedLocks};
 use crate::state::NodeCore;
-use letter_types::Letter;
+use letter_types::{Boxed, Letter};
 use nc_locks::Mode;
 use read_step::read_part;
 use std::alloc::Global;
@@ -27,7 +27,7 @@ pub fn prepare_read_tree(
     core: &NodeCore,
     letter: &Letter,
     script: &Script,
-) -> Result<Option<CorePrepared>, NoMemory>
+) -> Result<Option<Boxed<CorePrepared>>, NoMemory>
     // What the caller knows.
     requires ready { IsCoreReady script.now letter.now.to.0 core.now }
     requires due { IsTrue (is_due script.now letter.now.to.0 (data_of core.now.parts) letter.now.from.0 letter.now.body) }
@@ -66,7 +66,7 @@ pub fn prepare_update_tree(
     letter: &Letter,
     script: &Script,
     tree: TreeNo,
-) -> Result<Option<CorePrepared>, NoMemory>
+) -> Result<Option<Boxed<CorePrepared>>, NoMemory>
     // What the caller knows.
     requires ready { IsCoreReady script.now letter.now.to.0 core.now }
     requires due { IsTrue (is_due script.now letter.now.to.0 (data_of core.now.parts) letter.now.from.0 letter.now.body) }

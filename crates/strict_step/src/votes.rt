@@ -26,7 +26,7 @@ use crate::refusals::Refusals;
 use crate::state::NodeCore;
 use commute_ops::{Values, copy_values};
 use item_versions::Staged;
-use letter_types::{Body, Cause, Letter, Notice, Vote};
+use letter_types::{Body, Boxed, Cause, Letter, Notice, Vote};
 use nc_commit::{vote_on, wanted_by};
 use nc_locks::Mode;
 use node_versions::Turns;
@@ -115,7 +115,7 @@ pub fn prepare_note(
     script: &Script,
     request: Request,
     notice: &Notice,
-) -> Result<CorePrepared, NoMemory>
+) -> Result<Boxed<CorePrepared>, NoMemory>
     // What the caller knows.
     requires ready { IsCoreReady script.now request.from.0 core.now }
     requires there { 0 < length (subs_at script.now request.tree.0) }
@@ -204,7 +204,7 @@ pub fn prepare_vote(
     letter: &Letter,
     script: &Script,
     tree: TreeNo,
-) -> Result<CorePrepared, NoMemory>
+) -> Result<Boxed<CorePrepared>, NoMemory>
     // What the caller knows.
     requires ready { IsCoreReady script.now letter.now.to.0 core.now }
     requires due { IsTrue (is_due script.now letter.now.to.0 (data_of core.now.parts) letter.now.from.0 letter.now.body) }

@@ -14,8 +14,7 @@ returns c =
     let n = c.args.core.now in
     let v = c.args.version in
     let k = c.args.round in
-    rw c.in_ok-plan.ensures
-    (due_plan s l n (AskDone v k) (done_row s v k (data_of n.parts)) c.in_ok-prepared.prepared c.of_parts.result
+    due_plan s l n (AskDone v k) (done_row s v k (data_of n.parts)) c.in_ok-prepared.prepared c.in_ok-of_parts.field-0
     c.requires.body
-    (done_row_apt s l.to.0 l.from.0 (core_of n) v k) refl refl refl c.of_parts.ensures c.in_ok-prepared.ensures refl
-    c.requires.ready.apart)
+    (done_row_apt s l.to.0 l.from.0 (core_of n) v k) refl refl refl c.in_ok-of_parts.ensures c.in_ok-prepared.ensures refl
+    c.requires.ready.apart

@@ -3,6 +3,5 @@ use Rattle.core_step.proofs.orders.plan_other.Goals as goal
 
 pub returns : goal.returns
 returns c =
-    rw c.in_ok-plan.ensures
-    (other_plan c.args.script.now c.args.letter.now c.args.core.now c.still_step.result c.requires.ready c.requires.other
-    c.still_step.ensures)
+    other_plan c.args.script.now c.args.letter.now c.args.core.now c.in_ok-still_step.field-0 c.requires.ready c.requires.other
+    c.in_ok-still_step.ensures

@@ -25,7 +25,6 @@ returns c =
     let l = c.args.letter.now in
     let n = c.args.core.now in
     let v = c.args.version in
-    rw c.in_ok-plan.ensures
-    (due_plan s l n (Show v) (show_row s v (data_of n.parts)) c.in_ok-prepared.prepared c.of_parts.result c.requires.body
+    due_plan s l n (Show v) (show_row s v (data_of n.parts)) c.in_ok-prepared.prepared c.in_ok-of_parts.field-0 c.requires.body
     (show_apt s l.to.0 l.from.0 (core_of n) v) refl refl (due_body s l n (Show v) c.requires.body c.if-not-is_due.ensures)
-    c.of_parts.ensures c.in_ok-prepared.ensures refl c.requires.ready.apart)
+    c.in_ok-of_parts.ensures c.in_ok-prepared.ensures refl c.requires.ready.apart

@@ -4,7 +4,7 @@ use Rattle.core_step.proofs.orders.still_step.Goals as goal
 
 pub returns : goal.returns
 returns c =
-    c.of_parts.ensures
+    c.in_ok-step.ensures
     ∙ λ i. of_parts (record {
       change = c.still.ensures.change i;
       out = record { sent = c.still.ensures.sent i; acts = c.still.ensures.acts i };

@@ -59,7 +59,6 @@ returns c =
     let l = c.args.letter.now in
     let n = c.args.core.now in
     let d = c.args.decision in
-    rw c.in_ok-plan.ensures
-    (plan_one s l n (Decide d.tree d.version d.commit) _ (Does c.in_ok-prepared.prepared) c.requires.body
+    plan_one s l n (Decide d.tree d.version d.commit) _ (Does c.in_ok-prepared.prepared) c.requires.body
     (decision_apt s l.to.0 l.from.0 (core_of n) d.tree d.version d.commit)
-    (record { apt = sym c.if-not-decide_apt.ensures; free = refl; step = c.in_ok-prepared.ensures }))
+    (record { apt = sym c.if-not-decide_apt.ensures; free = refl; step = c.in_ok-prepared.ensures })

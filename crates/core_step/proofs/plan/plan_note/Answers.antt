@@ -12,7 +12,6 @@ pub returns : goal.returns
 returns c =
     let r = c.args.request in
     let near : c.in_ok-decides_near.field-0 ≡ true = c.if-not-branch.false in
-    rw c.in_ok-plan.ensures
-    (note_plan c.args.script.now c.args.letter.now c.args.core.now r.tree r.sub r.version c.args.notice.now r.from.0
+    note_plan c.args.script.now c.args.letter.now c.args.core.now r.tree r.sub r.version c.args.notice.now r.from.0
     c.in_ok-prepared.prepared c.requires.body c.if-not-is_due.ensures (sym c.in_ok-decides_near.ensures ∙ near)
-    c.requires.from c.in_ok-prepared.ensures)
+    c.requires.from c.in_ok-prepared.ensures

@@ -4,8 +4,8 @@ use Rattle.core_step.proofs.Kept.{reads_free}
 use Rattle.core_step.proofs.plan.plan_read.Goals as goal
 
 pub returns : goal.returns
-returns c = rw c.in_ok-plan.ensures (record {
+returns c = record {
   apt = sym (rw c.in-Some.is at c.in_ok-prepared.ensures.can);
   free = reads_free c.args.script.now (core_of c.args.core.now) c.args.tree c.args.letter.now.body;
   step = rw c.in-Some.is at c.in_ok-prepared.ensures.step;
-})
+}

@@ -19,7 +19,6 @@ returns c =
     let s = c.args.script.now in
     let l = c.args.letter.now in
     let n = c.args.core.now in
-    rw c.in_ok-plan.ensures
-    (plan_one s l n (Release c.args.tree) _ (Does c.in_ok-prepared.prepared) c.requires.body
+    plan_one s l n (Release c.args.tree) _ (Does c.in_ok-prepared.prepared) c.requires.body
     (freed_apt s l.to.0 l.from.0 (core_of n) c.args.tree)
-    (record { apt = sym c.if-not-release_apt.ensures; free = refl; step = c.in_ok-prepared.ensures }))
+    (record { apt = sym c.if-not-release_apt.ensures; free = refl; step = c.in_ok-prepared.ensures })

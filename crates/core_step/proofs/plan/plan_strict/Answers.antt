@@ -9,9 +9,9 @@ returns-then-waits_for_show c =
     (sym c.if-waits_for_show.ensures) c.in_ok-kept.ensures
 
 pub returns : goal.returns
-returns c = rw c.in_ok-plan.ensures (record {
+returns c = record {
   apt = refl;
   free = votes_free c.args.script.now (core_of c.args.core.now) c.args.tree c.args.letter.now.body
       (sym c.if-waits_for_show.ensures);
   step = c.in_ok-prepared.ensures;
-})
+}

@@ -20,11 +20,10 @@ returns c =
     let s = c.args.script.now in
     let l = c.args.letter.now in
     let n = c.args.core.now in
-    rw c.in_ok-plan.ensures
-    (plan_one s l n (Wake c.args.tree c.args.sub) _ (Does c.still_step.result) c.requires.body
+    plan_one s l n (Wake c.args.tree c.args.sub) _ (Does c.in_ok-still_step.field-0) c.requires.body
     (called_apt s l.to.0 l.from.0 (core_of n) c.args.tree c.args.sub)
     (record {
       apt = sym c.if-not-wake_apt.ensures;
       free = refl;
-      step = still_done s l.to.0 n c.still_step.result c.requires.ready c.still_step.ensures;
-    }))
+      step = still_done s l.to.0 n c.in_ok-still_step.field-0 c.requires.ready c.in_ok-still_step.ensures;
+    })

@@ -1,4 +1,4 @@
-use Rattle.std.proofs.Common.{ap, subst, sym, ◌∙◌, ◌++◌, List, Option}
+use Rattle.std.proofs.Common.{ap, subst, sym, ◌≡◌, ◌∙◌, ◌++◌, List, Option}
 use Rattle.tv_base.specs.declared.numbers.NodeNo.{NodeNo}
 use Rattle.letter_types.specs.declared.bodies.Body.TheVariants.{Decide}
 use Rattle.tree_home.specs.declared.homes.Answered.{Answered}
@@ -7,6 +7,8 @@ use Rattle.tree_step.specs.Changes.{part_row}
 use Rattle.tree_step.specs.Node.{data_of}
 use Rattle.strict_step.specs.Changes.{IsCoreStepOf, numbers_of_nodes, with_votes}
 use Rattle.strict_step.specs.State.{core_of}
+use Rattle.strict_step.specs.declared.change.CorePrepared.{CorePrepared}
+use Rattle.strict_step.specs.declared.change.HoldChange.TheVariants.{Hold}
 use Rattle.strict_step.specs.inside.Answering.{IsDecidable, MayDecide}
 use Rattle.strict_step.proofs.Deciding.{decided_change, decided_step}
 use Rattle.strict_step.proofs.answers.decided_step.Goals as goal
@@ -19,11 +21,16 @@ returns c =
     let nodes = c.in_ok-visited.visited in
     let can : IsDecidable s c.args.part n a =
     subst (λ (o : Option Answered). MayDecide s c.args.part n o) c.in-Some.is c.requires.decide in
-    subst (λ (o : Option Answered). IsCoreStepOf (decided s (with_votes c.args.votes (core_of n)) (part_row c.args.part (data_of n.parts)) o) n
-    (decided_change c.args.part c.args.votes a nodes c.in_ok-out.out)) (sym c.in-Some.is)
+    let change : CorePrepared = decided_change c.args.part c.args.votes a nodes c.in_ok-out.out in
+    let made : c.in_ok-new-2.field-0 ≡ change =
+    c.in_ok-new-2.ensures ∙ (λ i. record change { holds = Hold (c.in_ok-held.ensures i) (c.in_ok-told.ensures i) }) in
+    subst (λ (p : CorePrepared). IsCoreStepOf (decided s (with_votes c.args.votes (core_of n)) (part_row c.args.part (data_of n.parts)) c.args.part.answered) n p)
+    (sym made)
+    (subst (λ (o : Option Answered). IsCoreStepOf (decided s (with_votes c.args.votes (core_of n)) (part_row c.args.part (data_of n.parts)) o) n change)
+    (sym c.in-Some.is)
     (decided_step s c.args.part c.args.votes n a c.commits-commit.result nodes c.in_ok-out.out c.requires.may
     c.requires.counted c.requires.apart can c.items.ensures.limit (c.in_ok-visited.ensures.some can.there)
     c.commits-commit.ensures c.in_ok-visited.ensures.nodes
     (c.in_ok-out.ensures.sent ∙ ap (λ (qs : List NodeNo). c.args.part.prepared.out.sent
     ++ to_each (Decide a.tree a.version c.commits-commit.result) (numbers_of_nodes qs)) c.items.ensures.items)
-    c.in_ok-out.ensures.acts)
+    c.in_ok-out.ensures.acts))

@@ -1,4 +1,4 @@
-use Rattle.std.proofs.Common.{◌≡◌, subst, sym}
+use Rattle.std.proofs.Common.{◌≡◌, ◌∙◌, subst, sym}
 use Rattle.tree_home.specs.HeldAnswers.{held_answers, held_in}
 use Rattle.world_model.specs.Strict.{acked_core}
 use Rattle.strict_step.specs.Changes.{IsCoreStepOf, prepared_of}
@@ -20,7 +20,7 @@ returns c =
       holds = c.ack-holds.ensures i;
     } in
     subst (λ (p : CorePrepared). IsCoreStepOf (acked_core c.args.script.now c.args.from.0 c.args.tree c.args.version (core_of n)) n p)
-    (sym same)
+    (sym (c.in_ok-new.ensures ∙ same))
     (acked_step c.args.script.now c.args.from c.args.tree c.args.version n
     (record { sent = c.in_ok-sent.sent; acts = c.new.result }) answered c.requires.ready c.requires.near
     c.in_ok-answered.ensures c.in_ok-sent.ensures c.new.ensures)
