@@ -1,5 +1,5 @@
 -- From what holds of each act of each entry to what holds of each act at its position in the list of all acts.
-use Rattle.std.proofs.Common.{◌≡◌, ◌⊎◌, inl, inr, ℕ, zero, suc, ◌<◌, List, ◌∷◌, ◌++◌, refl, sym, ap, subst, Some, take, append_assoc, append-nil, []}
+use Rattle.std.proofs.Common.{◌≡◌, ◌⊎◌, inl, inr, ℕ, zero, suc, List, ◌∷◌, ◌++◌, refl, sym, ap, subst, Some, take, append_assoc, append-nil, []}
 use Rattle.std.specs.Prelude.{slice_get}
 use Rattle.letter_types.specs.declared.entries.Entry.{Entry}
 use Rattle.board_rules.specs.Histories.{Place, places_at, places_of}

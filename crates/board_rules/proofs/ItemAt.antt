@@ -38,7 +38,7 @@ record OpHere (s : ScriptData) (t k : ℕ) (o : SubOp) : Type 0 where
   here : sub_at s t k ≡ Some sub
   fits : IsOp s.items tree.kind sub.node.0 o
 
-ops_of_subs : (nodes : ℕ) (items : List ItemRow) (kind : TreeKind) (i k : ℕ) (subs : List Sub) (sub : Sub)
+pub ops_of_subs : (nodes : ℕ) (items : List ItemRow) (kind : TreeKind) (i k : ℕ) (subs : List Sub) (sub : Sub)
     → AreSubs nodes items kind i subs → slice_get subs k ≡ Some sub → AllByRecursion (IsOp items kind sub.node.0) sub.ops
 ops_of_subs nodes items kind i k [] sub all is = absurd (cc is)
 ops_of_subs nodes items kind i zero (y ∷ subs) sub all is =
@@ -108,7 +108,7 @@ marks_it s t k i o valid up is =
     let f = op_fits_kind h.tree.kind h.sub.node.0 o (slice_get s.items o.item.0) h.fits in
     fits_update h.tree.kind f.0 o.deed (kind_of is_update s t h.tree h.at up) f.1
 
-holds_it : (s : ScriptData) (t k i : ℕ) (o : SubOp) → IsValid s → is_strict_tree s t ≡ true → slice_get (ops_of s t k) i ≡ Some o
+pub holds_it : (s : ScriptData) (t k i : ℕ) (o : SubOp) → IsValid s → is_strict_tree s t ≡ true → slice_get (ops_of s t k) i ≡ Some o
     → modes_conflict Mark (lock_mode_of o.deed) ≡ true
 holds_it s t k i o valid strict is =
     let h = op_here s t k i o valid is in

@@ -1,5 +1,5 @@
 -- The places of two histories, one after the other, and what holds of each act.
-use Rattle.std.proofs.Common.{◌≡◌, ℕ, ◌<◌, true, take, List, ◌∷◌, ◌++◌, refl, ap, sym, ◌∙◌, append_assoc, []}
+use Rattle.std.proofs.Common.{◌≡◌, ℕ, true, take, List, ◌∷◌, ◌++◌, refl, ap, sym, ◌∙◌, append_assoc, []}
 use Rattle.std.specs.Prelude.{◌||◌, ◌&&◌, ◌==◌, Option, Some, None, is_some}
 use Rattle.std.specs.Option.{option_or}
 use Rattle.std.proofs.lemmas.List.Folds.{list_any-append}

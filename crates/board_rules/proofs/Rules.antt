@@ -1,17 +1,13 @@
 -- What a finished list of acts gives the order of acts: each follows its rule.
-use Rattle.std.proofs.Common.{◌≡◌, ℕ, ◌<◌, Bool, true, false, IsTrue, List, length, subst, Some, None, take}
-use Rattle.std.specs.Prelude.{◌||◌, slice_get}
-use Rattle.tv_base.specs.declared.numbers.Version.{Version}
-use Rattle.letter_types.specs.declared.acts.Act.{Act}
-use Rattle.letter_types.specs.declared.acts.Act.TheVariants.{Did, Finished, Voted, Freed, Decided, Applied}
-use Rattle.letter_types.specs.declared.votes.Vote.TheVariants.{Yes, No}
-use Rattle.script_parts.specs.ScriptData.{ScriptData, node_of, ops_of, subs_at, updates}
+use Rattle.std.proofs.Common.{◌≡◌, ℕ, Bool, true, List, subst, Some, take}
+use Rattle.std.specs.Prelude.{slice_get}
+use Rattle.script_parts.specs.ScriptData.{ScriptData, node_of, ops_of, updates}
 use Rattle.script_parts.specs.declared.parts.SubOp.{SubOp}
-use Rattle.board_rules.specs.Histories.{Place, born_as, does, is_strict_tree, is_whole_in, version_in, was_born, was_done}
+use Rattle.board_rules.specs.Histories.{Place, does, is_strict_tree}
 use Rattle.board_rules.specs.Moves.{IsApplying, IsDecision, IsFreeing, decides_as}
 use Rattle.nc_locks.specs.Modes.{modes_conflict}
 use Rattle.nc_locks.specs.declared.modes.Mode.TheVariants.{Mark}
-use Rattle.board_rules.specs.Stands.{conflict_of, frees, lock_mode_of, newer_of, version_or_zero, votes_yes, was_voted}
+use Rattle.board_rules.specs.Stands.{frees, lock_mode_of, votes_yes}
 pub use Rattle.board_rules.specs.Rules.{AreBornLate, AreByRule, FollowsRules, IsByRule, IsFreeDeed, IsFreeVote, is_writer}
 use Rattle.board_rules.specs.Worth.{ops_change}
 use Rattle.board_rules.proofs.ActTests.{applies_as, applies_as_is, decides_as_is, does_is, frees_is, votes_yes_is}

@@ -41,7 +41,7 @@ use Rattle.world_model.proofs.Outstanding.{keeping_elsewhere}
 use Rattle.board_rules.specs.Histories.{Place, is_strict_tree, places_at, version_in}
 use Rattle.board_rules.specs.Stands.{lock_mode_of, version_or_zero, written_by, written_in}
 use Rattle.board_rules.specs.Worth.{changes, ops_change, subs_change}
-use Rattle.board_rules.proofs.ItemAt.{item_at, marks_it, op_row}
+use Rattle.board_rules.proofs.ItemAt.{item_at, marks_it, holds_it}
 use Rattle.board_rules.proofs.Places.{version_stays}
 use Rattle.strict_laws.proofs.ByActs.{kind_updates}
 use Rattle.strict_laws.specs.Meant.{IsMeant}
@@ -216,12 +216,6 @@ strict_at p (y ∷ subs) each = by (y.node.0 == p) (strict_at p subs (λ n z is.
   by true rest = strict_append y.ops (ops_at p subs) (each 0 y refl) rest
   by false rest = rest
 
-strict_it : (s : ScriptData) (t k i : ℕ) (o : SubOp) → IsValid s → is_strict_tree s t ≡ true → slice_get (ops_of s t k) i ≡ Some o
-    → modes_conflict Mark (lock_mode_of o.deed) ≡ true
-strict_it s t k i o valid strict is =
-    let row = op_row s t k i o valid is in
-    (item_at s row.row.node.0 o.item.0 row.row valid row.there refl).strict t k i o strict is
-
 commit_most : (s : ScriptData) (past : List Entry) (e : Entry) (p q m : ℕ) (x : ItemNo) (r : Letter) (t : TreeNo) (v : Version) (zs more : List Place)
     → IsItem s p x → Doing s past e q r → r.body ≡ Decide t v true → q ≡ p → zs ≡ before (e ∷ past) ++ more
     → IsUpTo m (item_in x (node_in s (e ∷ past) p).items) → subs_change x.0 (subs_at s t.0) ≡ true → version_or_zero (version_in t.0 zs) ≤ m
@@ -245,7 +239,7 @@ commit_most s past e p q m x r t v zs more i g is qp shape all on =
     (λ n y at.
     let sub : sub_at s t.0 n ≡ Some y = at in
     let ops : ops_of s t.0 n ≡ y.ops = rw (sub, ops_of) refl in
-    subst AreStrict ops (strict_list (ops_of s t.0 n) (λ j o there. strict_it s t.0 n j o g.valid strict there))) in
+    subst AreStrict ops (strict_list (ops_of s t.0 n) (λ j o there. holds_it s t.0 n j o g.valid strict there))) in
     let made : (core_row s q c r.from.0 r.body).state.node.items ≡ applied_in v (ops_at q subs) c.node.items =
     ap (λ (b : Body). (core_row s q c r.from.0 b).state.node.items) is in
     let le : v.0 ≤ m =

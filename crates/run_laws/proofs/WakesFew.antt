@@ -9,7 +9,6 @@ use Rattle.letter_types.specs.Kept.{is_called, kept_without, wakes, wakes_by, wi
 use Rattle.letter_types.specs.declared.acts.Act.{Act}
 use Rattle.letter_types.specs.declared.acts.Act.TheVariants as acts
 use Rattle.letter_types.specs.declared.bodies.Body.{Body}
-use Rattle.letter_types.specs.declared.bodies.Body.TheVariants.{Decide, Show}
 use Rattle.letter_types.specs.declared.entries.Entry.{Entry}
 use Rattle.letter_types.specs.declared.entries.Letter.{Letter}
 use Rattle.letter_types.specs.declared.entries.Outgoing.{Outgoing}
@@ -30,6 +29,7 @@ use Rattle.world_model.specs.Kept.{kept_in}
 use Rattle.world_model.specs.Named.{is_strict_at, tree_kind_at}
 use Rattle.world_model.specs.Runs.{IsStepRun, client_in, coordinator_in, keeping_in, node_in}
 use Rattle.world_model.specs.Strict.{CoreKeeping, core_row}
+use Rattle.world_model.proofs.Calls.{called_stays}
 use Rattle.world_model.proofs.Bags.{tally-append}
 use Rattle.world_model.proofs.Cases.{Case, Coordinates, Does, Keeps, NodeDoes, NodeKeeps, Submits, case}
 use Rattle.world_model.proofs.Every.{each_append}
@@ -94,11 +94,6 @@ wakes_all : (t k : ℕ) (test : Why → Bool) (xs : List KeptLetter) → test Ca
     → tally (on (wake_of t k)) (wakes test xs) + tally (is_uncalled t k) (with_called test xs) ≡ tally (is_uncalled t k) xs
 wakes_all t k test [] never = refl
 wakes_all t k test (x ∷ xs) never = wakes_by_one t k test x xs (test x.why) refl never (wakes_all t k test xs never)
-
-called_stays : (b : Body) → wakes_by b Called ≡ false
-called_stays (Show v) = refl
-called_stays (Decide t v commit) = refl
-called_stays _ = refl
 
 -- What a node keeps is of its own subtransactions.
 abbrev IsOwn : ScriptData → ℕ → KeptLetter → Type 0

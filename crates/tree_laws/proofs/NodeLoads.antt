@@ -13,6 +13,7 @@ use Rattle.tx_trees.specs.declared.parts.SubOp.{SubOp}
 use Rattle.tx_trees.specs.declared.parts.Tree.{Tree}
 use Rattle.tx_trees.specs.declared.parts.TreeKind.{TreeKind}
 use Rattle.tx_trees.specs.declared.parts.TreeKind.TheVariants as trees
+use Rattle.board_rules.proofs.ItemAt.{ops_of_subs}
 use Rattle.world_model.specs.Counts.{one_if}
 use Rattle.world_model.specs.Decisions.{ops_at}
 use Rattle.world_model.specs.Named.{is_strict_at, tree_kind_at}
@@ -77,20 +78,13 @@ node_load_more a b p x i t (suc n) tree (y ∷ ts) at is more less =
     omega (arith, subs_less (a i) (b i) x 0 y.subs (less i), node_load_more a b p x (i + 1) t n tree ts at (omega (arith, is)) more less)
 
 -- The operations of a subtransaction, and all that a tree has at a node, fit the tree's kind.
-sub_ops : (nodes : ℕ) (items : List ItemRow) (kind : TreeKind) (i n : ℕ) (subs : List Sub) (sub : Sub) → AreSubs nodes items kind i subs
-    → slice_get subs n ≡ Some sub → AllByRecursion (IsOp items kind sub.node.0) sub.ops
-sub_ops nodes items kind i n [] sub all at = absurd (cc at)
-sub_ops nodes items kind i zero (y ∷ subs) sub all at =
-    let eq : y ≡ sub = cc at in subst (λ (z : Sub). AllByRecursion (IsOp items kind z.node.0) z.ops) eq all.0.ops
-sub_ops nodes items kind i (suc n) (y ∷ subs) sub all at = sub_ops nodes items kind (i + 1) n subs sub all.1 at
-
 pub ops_fit_kind : (s : ScriptData) (t k : ℕ) (kind : TreeKind) (c : SubAt s t k) → IsValid s → c.tree.kind ≡ kind
     → AllByRecursion (IsOp s.items kind (node_of s t k)) (ops_of s t k)
 ops_fit_kind s t k kind c valid is =
     let tree = all_at (IsTree s.nodes s.items) s.trees t c.tree valid.trees c.at in
     rw (node_here s t k c, ops_here s t k c)
     (subst (λ (x : TreeKind). AllByRecursion (IsOp s.items x c.sub.node.0) c.sub.ops) is
-    (sub_ops s.nodes s.items c.tree.kind 0 k c.tree.subs c.sub tree.subs c.here))
+    (ops_of_subs s.nodes s.items c.tree.kind 0 k c.tree.subs c.sub tree.subs c.here))
 
 all_append : (P : SubOp → Type 0) (xs ys : List SubOp) → AllByRecursion P xs → AllByRecursion P ys → AllByRecursion P (xs ++ ys)
 all_append P [] ys all more = more

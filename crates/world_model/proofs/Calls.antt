@@ -21,7 +21,7 @@ use Rattle.world_model.proofs.Bags.{tally-append}
 use Rattle.world_model.proofs.Sends.{on}
 
 -- no letter wakes one that is called already
-called_stays : (b : Body) → wakes_by b Called ≡ false
+pub called_stays : (b : Body) → wakes_by b Called ≡ false
 called_stays (Show v) = refl
 called_stays (Decide t v commit) = refl
 called_stays _ = refl

@@ -1,5 +1,5 @@
 -- Letters that are sent are meant for their addressees.
-use Rattle.std.proofs.Common.{◌≡◌, ℕ, zero, suc, ◌+◌, ◌<◌, ◌==◌, ◌&&◌, List, ◌∷◌, take, drop, []}
+use Rattle.std.proofs.Common.{ℕ, zero, suc, List, ◌∷◌, take, drop, []}
 use Rattle.world_model.specs.Counts.{Each}
 
 -- what holds of each holds of a prefix and of the rest

@@ -1,5 +1,5 @@
 -- What an entry makes of numbers over the letters in flight, and what stays at a node.
-use Rattle.std.proofs.Common.{◌≡◌, ◌≢◌, ◌⊎◌, ℕ, ◌+◌, ◌==◌, Bool, true, false, List, ◌∷◌, refl, ap, ◌∙◌, arith, take, drop, []}
+use Rattle.std.proofs.Common.{◌≡◌, ◌≢◌, ℕ, ◌+◌, ◌==◌, Bool, true, false, List, ◌∷◌, refl, ap, ◌∙◌, arith, take, drop, []}
 use Rattle.std.specs.Prelude.{if◌then◌else◌}
 use Rattle.std.proofs.lemmas.Bool.Decides.{nat_tests}
 use Rattle.letter_types.specs.declared.acts.Act.{Act}

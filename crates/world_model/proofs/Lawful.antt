@@ -1,5 +1,5 @@
 -- What the laws of phases and of counting need of the trees of a script.
-use Rattle.std.proofs.Common.{ℕ, ◌+◌, ◌≤◌, List, ◌∷◌, []}
+use Rattle.std.proofs.Common.{ℕ, ◌+◌, List, ◌∷◌, []}
 use Rattle.letter_types.specs.declared.bodies.Body.{Body}
 use Rattle.letter_types.specs.declared.bodies.Body.TheVariants.{Go, Nudge}
 use Rattle.letter_types.specs.declared.entries.Entry.{Entry}

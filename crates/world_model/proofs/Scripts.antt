@@ -1,10 +1,9 @@
 -- What a valid script says of a subtransaction and of an item.
-use Rattle.std.proofs.Common.{◌≡◌, ◌⊎◌, ℕ, zero, suc, ◌+◌, ◌<◌, ◌≤◌, List, ◌∷◌, length, refl, subst, arith, Some, []}
+use Rattle.std.proofs.Common.{◌≡◌, ℕ, zero, suc, ◌<◌, List, ◌∷◌, length, refl, subst, arith, Some, []}
 use Rattle.std.specs.Prelude.{slice_get}
 use Rattle.script_parts.specs.ScriptData.{ScriptData, subs_at, sub_at, node_of, ops_of}
 use Rattle.script_parts.specs.declared.parts.Sub.{Sub}
 use Rattle.script_parts.specs.declared.parts.Tree.{Tree}
-use Rattle.script_parts.specs.declared.parts.TreeKind.TheVariants as trees
 
 -- subtransaction k of tree t
 pub record SubAt (s : ScriptData) (t k : ℕ) : Type 0 where
