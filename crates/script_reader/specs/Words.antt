@@ -3,8 +3,8 @@ use Rattle.std.specs.Prelude.{ℕ, Bool, true, false, ◌==◌, List, Option, So
 use Rattle.std.specs.Str.{bytes_eq}
 use Rattle.commute_ops.specs.declared.kinds.Kind.{Kind}
 use Rattle.commute_ops.specs.declared.kinds.Kind.TheVariants as kinds
-use Rattle.tx_trees.specs.Forms.{is_second}
 use Rattle.tx_trees.specs.declared.parts.Form.{Form}
+use Rattle.tx_trees.specs.declared.parts.Form.TheVariants as forms
 use Rattle.tx_trees.specs.declared.parts.TreeKind.{TreeKind}
 use Rattle.tx_trees.specs.declared.parts.TreeKind.TheVariants as trees
 use Rattle.script_reader.specs.declared.words.OpWord.{OpWord}
@@ -68,6 +68,11 @@ abbrev pub may_be_first : RowWord → Bool
 may_be_first words.Lose = false
 may_be_first words.Fail = false
 may_be_first word = true
+
+-- a script of the second form has rows that the first doesn't
+abbrev pub is_second : Form → Bool
+is_second forms.One = false
+is_second forms.Two = true
 
 -- a later record names no form; `lose` and `fail` are row words of the second form
 abbrev pub may_follow : Form → RowWord → Bool
