@@ -16,3 +16,4 @@ pub use Rattle.script_parts.specs.ScriptData
 pub use Rattle.script_parts.specs.Undone
 pub use Rattle.script_parts.specs.Valid
 pub use Rattle.script_parts.specs.Why
+pub mod Found

@@ -1,5 +1,5 @@
 // A script, which is valid whatever was added.
-ghost use Rattle.std.specs.Prelude.{ℕ, true, false, not, if◌then◌else◌, ◌≡◌, ◌<◌, ◌≤◌, ◌+◌, ◌==◌, length, is_some, nat_lt, IfOk, IfSome, IsNone, OnErr, OnOk};
+ghost use Rattle.std.specs.Prelude.{ℕ, true, false, not, if◌then◌else◌, ◌≡◌, Some, None, ◌<◌, ◌≤◌, ◌+◌, ◌==◌, length, is_some, nat_lt, IfOk, IfSome, IsNone, OnErr, OnOk};
 ghost use Rattle.std.specs.List.{AllByRecursion};
 ghost use Rattle.tv_base.specs.declared.numbers.TheConstants.{MOST_SUBS_OF_TREE};
 ghost use Rattle.commute_ops.specs.declared.kinds.TheConstants.{MOST_AMOUNT};
@@ -13,6 +13,7 @@ ghost use Rattle.script_parts.specs.Same.{same_script};
 ghost use Rattle.script_parts.specs.SameFacts.{script_laws};
 ghost use Rattle.script_parts.specs.ScriptData.{is_child, subs_at, visits};
 ghost use Rattle.script_parts.specs.Valid.{IsValid, deed_fits, load};
+ghost use Rattle.tx_trees.specs.Found.{tree_place};
 
 use crate::name_index::NameIndex;
 use script_parts::children::{next_child, visits};
@@ -276,6 +277,22 @@ impl Script {
         ensures { result ≡ names_tree name.now self.now.trees }
     {
         self.tree_names.has(name)
+    }
+
+    /// The item of this name.
+    pub fn find_item(&self, name: &Name) -> Option<ItemNo>
+        ensures some { IfSome result (λ x. place_of name.now self.now.items ≡ Some x.0) }
+        ensures none { IsNone result → place_of name.now self.now.items ≡ None }
+    {
+        self.item_number(name).map(|place| ItemNo(place as u32))
+    }
+
+    /// The tree of this name.
+    pub fn find_tree(&self, name: &Name) -> Option<TreeNo>
+        ensures some { IfSome result (λ t. tree_place name.now self.now.trees ≡ Some t.0) }
+        ensures none { IsNone result → tree_place name.now self.now.trees ≡ None }
+    {
+        self.tree_names.number(name).map(|place| TreeNo(place as u32))
     }
 
     /// Adds an item, and gives its number. A refusal is `OutOfRange` (the node, or the initial value, by `may_start`),
