@@ -14,8 +14,8 @@ use Rattle.letter_types.specs.declared.entries.Letter.{Letter}
 use Rattle.letter_types.specs.declared.votes.Vote.{Vote}
 use Rattle.letter_types.specs.declared.votes.Vote.TheVariants.{Yes, No}
 use Rattle.script_parts.specs.declared.parts.Sub.{Sub}
-use Rattle.script_parts.specs.declared.parts.TreeKind.TheVariants.{Read, Strict}
-use Rattle.script_parts.specs.ScriptData.{ScriptData, updates}
+use Rattle.script_parts.specs.declared.parts.TreeKind.TheVariants.{Read, Strict, Update}
+use Rattle.script_parts.specs.ScriptData.{ScriptData, reads, updates}
 use Rattle.script_parts.specs.Valid.{IsValid}
 use Rattle.world_model.specs.Named.{is_strict_at, tree_kind_at}
 use Rattle.world_model.specs.Notices.{act_of}
@@ -28,6 +28,7 @@ use Rattle.board_rules.specs.Rules.{IsFreeDeed}
 use Rattle.board_rules.specs.Stands.{votes, was_voted}
 use Rattle.board_rules.proofs.Wholes.{any_more}
 use Rattle.strict_laws.proofs.ByActs.{kind_updates}
+use Rattle.strict_laws.proofs.Parkings.{kind_reads_by}
 use Rattle.tree_laws.specs.Dids.{asks}
 use Rattle.tree_laws.specs.Turns.{has_turn, turns}
 use Rattle.tree_laws.proofs.AptStagesOwn.{Doing, asked}
@@ -42,7 +43,7 @@ use Rattle.rule_laws.proofs.Deeds.{turn_sums}
 use Rattle.rule_laws.proofs.Fronts.{front}
 use Rattle.rule_laws.proofs.Lasts.{AsksIn, Applies, Frees, Lasts, OfRoot, OfSub, Reads, Updates, Votes, lasts}
 use Rattle.rule_laws.proofs.Turns.{born_before, is_there, not_voted, turn_once, turns_in}
-use Rattle.board_laws.specs.Moves.{IsVotingAsked}
+use Rattle.board_rules.specs.ButCause.{IsVotingAsked}
 
 -- A subtransaction is asked for where its parent has had its turn, if it has one.
 is_asked : (s : ScriptData) (t k : ℕ) (had : ℕ → Bool) (c : SubAt s t k) → (0 < k → had c.sub.parent.0 ≡ true) → IsAsked s had t k
@@ -116,9 +117,11 @@ did_by s past e j t k values (Updates p r u i g asks of is none) d =
     let same = same_did t k values _ is in
     let plain : is_strict_at s t.0 ≡ false =
     subst (λ (x : TreeNo). is_strict_at s x.0 ≡ false) (sym same.0) (rw (of, is_strict_at) refl) in
+    let up : updates s t.0 ≡ true = ap (λ (x : TreeNo). updates s x.0) same.0 ∙ kind_updates s u.0 Update of in
     let here : AsksIn r.body t k =
     subst (λ (x : TreeNo). AsksIn r.body x k) (sym same.0) (subst (λ (y : SubNo). AsksIn r.body u y) (sym same.1.0) asks) in
     record {
+      commutes = rw up refl;
       born = d.born;
       asked = did_asked s past e j p r t k g here plain;
       once = d.once;
@@ -130,9 +133,11 @@ did_by s past e j t k values (Reads p r u i given g asks of is none) d =
     let plain : is_strict_at s t.0 ≡ false =
     subst (λ (x : TreeNo). is_strict_at s x.0 ≡ false) (sym same.0) (rw (of, is_strict_at) refl) in
     let read : updates s t.0 ≡ false = ap (λ (x : TreeNo). updates s x.0) same.0 ∙ kind_updates s u.0 Read of in
+    let shows : reads s t.0 ≡ true = ap (λ (x : TreeNo). reads s x.0) same.0 ∙ kind_reads_by s u.0 (Some Read) of in
     let here : AsksIn r.body t k =
     subst (λ (x : TreeNo). AsksIn r.body x k) (sym same.0) (subst (λ (y : SubNo). AsksIn r.body u y) (sym same.1.0) asks) in
     record {
+      commutes = rw (read, shows) refl;
       born = d.born;
       asked = did_asked s past e j p r t k g here plain;
       once = d.once;

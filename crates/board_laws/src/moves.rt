@@ -5,7 +5,7 @@ ghost use Rattle.letter_types.specs.declared.entries.Entry.{Entry};
 ghost use Rattle.script_parts.specs.ScriptData.{ScriptData};
 ghost use Rattle.script_parts.specs.Valid.{IsValid};
 ghost use Rattle.world_model.specs.Runs.{IsStepRun};
-ghost use Rattle.board_laws.specs.Moves.{IsMoveButCause};
+ghost use Rattle.board_rules.specs.ButCause.{IsMoveButCause};
 
 /// In every run each act is a move of the Board, after the acts before it, but for the cause that a vote names: a tree is
 /// born at its home, once, in its home's version; a subtransaction is done or votes at its node, once, after its parent;

@@ -31,3 +31,4 @@ pub mod BeforeTree
 pub mod Gets
 pub mod Shown
 pub mod NoVotes
+pub mod Judging

@@ -5,7 +5,7 @@ use Rattle.letter_types.specs.declared.acts.Act.{Act}
 use Rattle.letter_types.specs.declared.acts.Act.TheVariants.{Born, Turned, Swept, Finished}
 use Rattle.letter_types.specs.declared.entries.Entry.{Entry}
 use Rattle.script_parts.specs.Counts.{advances_in}
-use Rattle.script_parts.specs.ScriptData.{ScriptData}
+use Rattle.script_parts.specs.ScriptData.{ScriptData, client_of}
 use Rattle.script_parts.specs.declared.parts.ScriptRow.{ScriptRow}
 use Rattle.script_parts.specs.declared.parts.ScriptRow.TheVariants.{Tree as TreeRow, Advance as AdvanceRow, Settle as SettleRow}
 use Rattle.board_rules.specs.Histories.{Place, is_whole_in}
@@ -55,21 +55,25 @@ pub record IsTurnedByItsRow (s : ScriptData) (xs : List Place) (v : ℕ) : Type 
   pub number : advances_in (take row s.rows) + 2 ≡ v
   pub gate : IsOpen s xs row
 
--- the client finishes once, when every tree is whole and every node has gone through all advancements
-pub record IsEnd (s : ScriptData) (xs : List Place) : Type 0 where
+-- the client finishes, once, when every tree is whole and every node has gone through all advancements
+pub record IsEnd (s : ScriptData) (xs : List Place) (p : ℕ) : Type 0 where
+  pub client : p ≡ client_of s
   pub once : has_finished xs ≡ false
   pub whole : (t : ℕ) → t < length s.trees → IsTrue (is_whole_in s xs t)
   pub update : (p : ℕ) → p < s.nodes → update_after xs p ≡ advances_in s.rows + 1
   pub read : (p : ℕ) → p < s.nodes → read_after xs p ≡ advances_in s.rows
   pub low : (p : ℕ) → p < s.nodes → low_after xs p ≡ advances_in s.rows
 
--- the act keeps to the script, after the acts xs
-abbrev pub KeepsTo : ScriptData → List Place → Act → Type 0
-KeepsTo s xs (Born t v) = IsBornByItsRow s xs t.0
-KeepsTo s xs (Turned v) = IsTurnedByItsRow s xs v.0
-KeepsTo s xs Finished = IsEnd s xs
-KeepsTo s xs _ = Unit {0}
+-- the act of actor p keeps to the script, after the acts xs
+abbrev pub KeepsToAt : ScriptData → List Place → ℕ → Act → Type 0
+KeepsToAt s xs p (Born t v) = IsBornByItsRow s xs t.0
+KeepsToAt s xs p (Turned v) = IsTurnedByItsRow s xs v.0
+KeepsToAt s xs p Finished = IsEnd s xs p
+KeepsToAt s xs p _ = Unit {0}
+
+abbrev pub KeepsTo : ScriptData → List Place → Place → Type 0
+KeepsTo s xs x = KeepsToAt s xs x.node x.act
 
 -- each act of a history keeps to the script
 abbrev pub Fits : ScriptData → List Entry → Type 0
-Fits s h = AtEachAct (λ (before : List Entry) (xs : List Place) (x : Place). KeepsTo s xs x.act) h
+Fits s h = AtEachAct (λ (before : List Entry). KeepsTo s) h

@@ -7,3 +7,5 @@ pub mod Gates
 pub mod Stands
 pub mod Rules
 pub mod Locked
+pub mod Judging
+pub mod ButCause

@@ -77,8 +77,9 @@ IsAskedBy had k (Some sub) = IsTrue ((k == 0) || had sub.parent.0)
 abbrev pub IsAsked : ScriptData → (ℕ → Bool) → ℕ → ℕ → Type 0
 IsAsked s had t k = IsAskedBy had k (sub_at s t k)
 
--- a subtransaction is done at its node, once, in a tree that is born, and after its parent
+-- a subtransaction of an update or a read tree is done at its node, once, in a tree that is born, and after its parent
 pub record IsDeed (s : ScriptData) (xs : List Place) (p t k : ℕ) (given : List (ItemNo × Value)) : Type 0 where
+  pub commutes : IsTrue (updates s t || reads s t)
   pub born : IsTrue (was_born xs t)
   pub asked : IsAsked s (λ (j : ℕ). was_done t j xs) t k
   pub once : was_done t k xs ≡ false

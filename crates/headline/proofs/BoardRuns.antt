@@ -8,7 +8,7 @@ use Rattle.tx_trees.specs.Valid.{IsValid}
 use Rattle.world_model.specs.Runs.{IsStepRun}
 use Rattle.board_rules.specs.Histories.{Place, places_at, places_of}
 use Rattle.board_rules.specs.Moves.{IsBoardRun, IsMove, IsMoveAt, OneByOne}
-use Rattle.board_laws.specs.Moves.{IsMoveButCause, IsMoveButCauseAt}
+use Rattle.board_rules.specs.ButCause.{IsMoveButCause, IsMoveButCauseAt}
 use Rattle.board_laws.proofs.AllMoves.{moves_but_cause}
 use Rattle.worth_laws.specs.Causes.{NamesItsCause}
 use Rattle.worth_laws.proofs.VoteCauses.{names_causes}

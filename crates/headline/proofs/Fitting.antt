@@ -12,5 +12,5 @@ use Rattle.headline.proofs.Keeps.{entry_keeps}
 pub fits_run : (s : ScriptData) (past : List Entry) → IsValid s → IsStepRun s past → Fits s (reverse past)
 fits_run s [] valid run = λ n e here. absurd (cc here)
 fits_run s (e ∷ past) valid run =
-    at_each_act_more (λ (before : List Entry) (xs : List Place) (x : Place). KeepsTo s xs x.act) e past (fits_run s past valid run.1)
+    at_each_act_more (λ (before : List Entry). KeepsTo s) e past (fits_run s past valid run.1)
     (entry_keeps s past e valid run)

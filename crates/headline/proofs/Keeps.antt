@@ -19,7 +19,7 @@ use Rattle.tx_trees.specs.declared.parts.ScriptRow.{ScriptRow}
 use Rattle.tx_trees.specs.declared.parts.ScriptRow.TheVariants.{Tree as TreeRow, Advance as AdvanceRow, Settle as SettleRow, Lose as LoseRow}
 use Rattle.world_model.specs.declared.phase.Phase.{Phase}
 use Rattle.world_model.specs.declared.phase.Phase.TheVariants.{Idle, Turning}
-use Rattle.board_rules.specs.Gates.{IsBornByItsRow, IsEnd, IsTurnedByItsRow, KeepsTo}
+use Rattle.board_rules.specs.Gates.{IsBornByItsRow, IsEnd, IsTurnedByItsRow, KeepsTo, KeepsToAt}
 use Rattle.board_rules.specs.Histories.{Place, places_at, places_of}
 use Rattle.board_rules.specs.Moves.{OneByOne}
 use Rattle.board_rules.specs.Right.{finishes as finishes_act, has_finished}
@@ -156,7 +156,7 @@ not_finished past true is none =
 not_finished past false is none = refl
 
 finished : (s : ScriptData) (past : List Entry) (e : Entry) → IsValid s → IsStepRun s (e ∷ past) → e.actor.0 ≡ client_of s
-    → e.acts ≡ Finished ∷ [] → IsEnd s (places_of (reverse past))
+    → e.acts ≡ Finished ∷ [] → IsEnd s (places_of (reverse past)) e.actor.0
 finished s past e valid run at acts =
     let u = (coordinator_in s (e ∷ past)).update in
     let rest = finishing_run s (e ∷ past) valid run in
@@ -167,6 +167,7 @@ finished s past e valid run at acts =
     let turns : (p : ℕ) → p < s.nodes → AreAtRest u (node_in s past p).turns =
     λ p lt. subst (λ (st : Node). AreAtRest u st.turns) (node_kept s past e p (omega (arith, at, lt))) (over.turns p lt) in
     record {
+      client = at;
       once = not_finished past (has_finished (places_of (reverse past))) refl (omega (arith, finishes_of past, rest.once, one, most));
       whole = λ t lt. answered_whole s past t valid run.1 lt (answered_before s past e t valid run (over.heard t lt));
       update = λ p lt. omega (arith, (node_numbers s past valid run.1 p lt).update, (turns p lt).update, over.update);
@@ -176,7 +177,7 @@ finished s past e valid run at acts =
 
 -- The acts of an entry, one after the other.
 abbrev pub KeepAll : ScriptData → List Place → List Place → Type 0
-KeepAll s xs ys = OneByOne (λ (before : List Place) (x : Place). KeepsTo s before x.act) xs ys
+KeepAll s xs ys = OneByOne (KeepsTo s) xs ys
 
 by_acts : (s : ScriptData) (past : List Entry) (e : Entry) (acts : List Act) → e.acts ≡ acts
     → KeepAll s (places_of (reverse past)) (placed e.actor.0 acts) → KeepAll s (places_of (reverse past)) (places_at e)
@@ -201,7 +202,8 @@ by_client s past e valid run at (Obeys p out more here lt order state sent woken
 
 -- An act that opens an entry of a node.
 opening_keeps : (s : ScriptData) (past : List Entry) (e : Entry) (p : ℕ) (r : Letter) (a : Act) → IsValid s → IsStepRun s (e ∷ past)
-    → BringsTo s past e p r → opens a ≡ true → OpensFor s (node_in s past p).turns r.body a → KeepsTo s (places_of (reverse past)) a
+    → BringsTo s past e p r → opens a ≡ true → OpensFor s (node_in s past p).turns r.body a
+    → KeepsToAt s (places_of (reverse past)) e.actor.0 a
 opening_keeps s past e p r (Born t v) valid run b is for = born s past e p r t valid run b for
 opening_keeps s past e p r (Turned v) valid run b is for =
     turned s past p v.0 valid run.1 b.below (ltb-true (node_in s past p).turns.update.0 v.0 for.0) (reaches s past e p r v r.body valid run b refl for.1)
@@ -209,29 +211,29 @@ opening_keeps s past e p r Finished valid run b is for = absurd (cc is)
 opening_keeps s past e p r _ valid run b is for = tt
 
 -- any other act asks for nothing, but for the end
-other_keeps : (s : ScriptData) (xs : List Place) (a : Act) → opens a ≡ false → is_finish a ≡ 0 → KeepsTo s xs a
-other_keeps s xs (Born t v) none quiet = absurd (cc none)
-other_keeps s xs (Turned v) none quiet = absurd (cc none)
-other_keeps s xs Finished none quiet = absurd (omega (arith, quiet))
-other_keeps s xs _ none quiet = tt
+other_keeps : (s : ScriptData) (xs : List Place) (node : ℕ) (a : Act) → opens a ≡ false → is_finish a ≡ 0 → KeepsToAt s xs node a
+other_keeps s xs node (Born t v) none quiet = absurd (cc none)
+other_keeps s xs node (Turned v) none quiet = absurd (cc none)
+other_keeps s xs node Finished none quiet = absurd (omega (arith, quiet))
+other_keeps s xs node _ none quiet = tt
 
 others_keep : (s : ScriptData) (xs : List Place) (node : ℕ) (acts : List Act)
     → ((j : ℕ) (a : Act) → slice_get acts j ≡ Some a → opens a ≡ true → ⊥) → tally is_finish acts ≡ 0 → KeepAll s xs (placed node acts)
 others_keep s xs node [] none quiet = tt
 others_keep s xs node (a ∷ acts) none quiet =
     (by (opens a) refl, others_keep s _ node acts (λ j b at is. none (suc j) b at is) (omega (arith, quiet))) where
-      by : (test : Bool) → opens a ≡ test → KeepsTo s xs a
+      by : (test : Bool) → opens a ≡ test → KeepsToAt s xs node a
       by true is = absurd (none 0 a refl is)
-      by false is = other_keeps s xs a is (omega (arith, quiet))
+      by false is = other_keeps s xs node a is (omega (arith, quiet))
 
 -- so where the first act alone opens an entry
 first_keeps : (s : ScriptData) (xs : List Place) (node : ℕ) (acts : List Act)
-    → ((j : ℕ) (a : Act) → slice_get acts j ≡ Some a → opens a ≡ true → (j ≡ 0) × KeepsTo s xs a) → tally is_finish acts ≡ 0
+    → ((j : ℕ) (a : Act) → slice_get acts j ≡ Some a → opens a ≡ true → (j ≡ 0) × KeepsToAt s xs node a) → tally is_finish acts ≡ 0
     → KeepAll s xs (placed node acts)
 first_keeps s xs node [] each quiet = tt
 first_keeps s xs node (a ∷ acts) each quiet =
     (by (opens a) refl, others_keep s _ node acts (λ j b at is. later j (each (suc j) b at is).0) (omega (arith, quiet))) where
-      by : (test : Bool) → opens a ≡ test → KeepsTo s xs a
+      by : (test : Bool) → opens a ≡ test → KeepsToAt s xs node a
       by true is = (each 0 a refl is).1
       by false is = other_keeps s xs a is (omega (arith, quiet))
 

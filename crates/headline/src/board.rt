@@ -1,5 +1,6 @@
 // Runs as runs of the Board.
 ghost use Rattle.std.specs.Prelude.{List, reverse};
+ghost use Rattle.board_rules.specs.Judging.{IsAccepted};
 ghost use Rattle.board_rules.specs.Moves.{IsBoardRun};
 ghost use Rattle.letter_types.specs.declared.entries.Entry.{Entry};
 ghost use Rattle.tx_trees.specs.ScriptData.{ScriptData};
@@ -15,4 +16,11 @@ ghost use Rattle.world_model.specs.Runs.{IsStepRun};
 pub fn every_run_is_a_board_run()
     ensures { (s : ScriptData) (past : List Entry) → IsValid s → IsStepRun s past
         → IsBoardRun s (reverse past) }
+{}
+
+/// Every run is accepted, entry by entry: each entry's acts are moves of the Board, keep to the rows of the script and
+/// show what was worth, and it does at once what it is asked for. So whoever judges a history by these rules never says
+/// that a run broke one, whether it has finished or not.
+pub fn every_run_is_accepted()
+    ensures { (s : ScriptData) (past : List Entry) → IsValid s → IsStepRun s past → IsAccepted s (reverse past) }
 {}

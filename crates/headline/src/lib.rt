@@ -9,7 +9,7 @@ mod promise;
 mod reads;
 mod window;
 
-pub use board::every_run_is_a_board_run;
+pub use board::{every_run_is_a_board_run, every_run_is_accepted};
 pub use gates::{every_run_keeps_to_its_rows, open_gates_stay_open};
 pub use held::{no_item_has_held_more_than_three, nodes_hold_the_balances};
 pub use promise::{every_finished_run_has_the_headline, every_run_without_letters_has_ended};
