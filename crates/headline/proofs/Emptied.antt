@@ -13,7 +13,7 @@ use Rattle.run_laws.proofs.Ends.{no_run_stalls}
 use Rattle.run_laws.proofs.Entries.{entries_counted}
 use Rattle.run_laws.proofs.EveryApt.{all_apt, lawful}
 use Rattle.headline.proofs.Promised.{headline_past}
-use Rattle.headline.proofs.Rounds.{no_rounds}
+use Rattle.run_laws.proofs.NoRounds.{no_rounds}
 use Rattle.headline.specs.Ended.{HasEnded}
 
 pub ended_past : (s : ScriptData) (past : List Entry) → IsValid s → IsStepRun s past → in_flight s past ≡ [] → HasEnded s (reverse past)

@@ -10,7 +10,6 @@ pub mod Keeps
 pub mod Opens
 pub mod Passes
 pub mod Promised
-pub mod Rounds
 pub mod SampledGates
 pub mod SampledHeld
 pub mod SampledMoves

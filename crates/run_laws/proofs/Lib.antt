@@ -30,3 +30,4 @@ pub mod Costs
 pub mod Entries
 pub mod Bounds
 pub mod Sampled
+pub mod NoRounds

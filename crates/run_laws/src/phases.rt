@@ -1,19 +1,20 @@
 // Phases of the coordinator, and counters.
-ghost use Rattle.std.specs.Prelude.{ℕ, ◌<◌, ◌+◌, ◌*◌, List, length, reverse};
+ghost use Rattle.std.specs.Prelude.{ℕ, ◌≡◌, ◌<◌, ◌+◌, ◌*◌, List, length, reverse};
 ghost use Rattle.letter_types.specs.declared.entries.Entry.{Entry};
 ghost use Rattle.pair_counters.specs.Numbers.{AllBelow};
 ghost use Rattle.phase_laws.specs.Advances.{AdvancesAreKept, RoundsAreFew};
 ghost use Rattle.phase_laws.specs.Phases.{PhasesHaveTheirLetters, VersionsKeepToThePhase};
 ghost use Rattle.phase_laws.specs.Balance.{IsBalanced, MOST_COUNTED};
 ghost use Rattle.run_laws.specs.Taken.{TakesWhatIsApt};
+ghost use Rattle.tree_laws.specs.Entries.{rounds_in};
+ghost use Rattle.tx_trees.specs.Counts.{advances_in};
 ghost use Rattle.tx_trees.specs.ScriptData.{ScriptData};
 ghost use Rattle.tx_trees.specs.Valid.{IsValid};
 ghost use Rattle.world_model.specs.Runs.{node_in, IsStepRun};
 ghost use Rattle.world_model.specs.Timely.{AllTimely};
 
 /// In every run of every valid script each letter that a node took came in time: a Sub, a Done, a Decide and a Decided no
-/// later than their version may be counted, an order no earlier and no later than the node's versions allow. It is the
-/// premise of the laws of trees of scripts without strict trees.
+/// later than their version may be counted, an order no earlier and no later than the node's versions allow.
 pub fn every_letter_comes_in_time()
     ensures { (s : ScriptData) (past : List Entry) → IsValid s → IsStepRun s past → AllTimely s past }
 {}
@@ -50,6 +51,12 @@ pub fn advances_are_kept()
 /// There are at most two rounds for each advancement and one for each tree.
 pub fn rounds_are_few()
     ensures { (s : ScriptData) (past : List Entry) → IsValid s → IsStepRun s past → RoundsAreFew s past }
+{}
+
+/// In a run of a script without advancements no round begins.
+pub fn no_round_without_advancements()
+    ensures { (s : ScriptData) (past : List Entry) → IsValid s → IsStepRun s past → advances_in s.rows ≡ 0
+        → rounds_in s (reverse past) ≡ 0 }
 {}
 
 /// For every version that two nodes still count, the requests of the one to the other are the other's completions from

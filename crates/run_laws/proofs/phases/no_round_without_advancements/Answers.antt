@@ -1,0 +1,5 @@
+use Rattle.run_laws.proofs.NoRounds.{no_rounds}
+use Rattle.run_laws.proofs.phases.no_round_without_advancements.Goals as goal
+
+pub returns : goal.returns
+returns c = no_rounds
