@@ -15,9 +15,10 @@ use Rattle.board_rules.specs.Moves.{IsBoardRun, IsMove, OneByOne}
 use Rattle.board_rules.specs.Right.{IsAtOnce, IsRight}
 
 pub all_rules : (s : ScriptData) (h : List Entry) → (IsAccepted s h ↔ IsBoardRun s h × Fits s h × IsRight s h × IsAtOnce s h)
-all_rules s h =
-    ((λ all. ((λ n e at. (all n e at).moves), (λ n e at. (all n e at).keeps), (λ n e at. (all n e at).right), (λ n e at. (all n e at).at_once))),
-    (λ r n e at. record { moves = r.0 n e at; keeps = r.1 n e at; right = r.2 n e at; at_once = r.3 n e at }))
+all_rules s h = (
+  (λ all. ((λ n e at. (all n e at).moves), (λ n e at. (all n e at).keeps), (λ n e at. (all n e at).right), (λ n e at. (all n e at).at_once))),
+  (λ r n e at. record { moves = r.0 n e at; keeps = r.1 n e at; right = r.2 n e at; at_once = r.3 n e at }),
+)
 
 -- One entry more.
 front_is : (h : List Entry) (e : Entry) (n : ℕ) → n ≤ length h → take n h ≡ take n (h ++ e ∷ [])

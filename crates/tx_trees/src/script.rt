@@ -292,7 +292,9 @@ impl Script {
         ensures some { IfSome result (λ t. tree_place name.now self.now.trees ≡ Some t.0) }
         ensures none { IsNone result → tree_place name.now self.now.trees ≡ None }
     {
-        self.tree_names.number(name).map(|place| TreeNo(place as u32))
+        self.tree_names
+            .number(name)
+            .map(|place| TreeNo(place as u32))
     }
 
     /// Adds an item, and gives its number. A refusal is `OutOfRange` (the node, or the initial value, by `may_start`),
