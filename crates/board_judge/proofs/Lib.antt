@@ -1,1 +1,3 @@
 pub mod OneMore
+pub mod StandingNow
+pub mod Holding

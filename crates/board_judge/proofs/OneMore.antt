@@ -77,7 +77,7 @@ voted_born s xs t k run is =
     let f = found_all (λ (x : Place). votes t k x.act) xs is in
     born_at t f.place xs (vote_born s (take f.place xs) f.item.node t k f.item.act f.passes (run f.place f.item f.is))
 
-run_before : (s : ScriptData) (xs : List Place) (n : ℕ) → IsMoveRun s xs → IsMoveRun s (take n xs)
+pub run_before : (s : ScriptData) (xs : List Place) (n : ℕ) → IsMoveRun s xs → IsMoveRun s (take n xs)
 run_before s xs n run i y is =
     let old = taken_is xs n i y is in
     subst (λ (zs : List Place). IsMoveButCause s [] zs y) (sym (take-take i n xs (omega (arith, old.0)))) (run i y old.1)
@@ -233,7 +233,7 @@ chosen : (b : Bool) (m t : ℕ) → (if b then Some m else None) ≡ Some t → 
 chosen true m t is = (refl, cc is)
 chosen false m t is = absurd (cc is)
 
-asked_there : (had : ℕ → Bool) (k : ℕ) (ks : List Sub) → IsAskedBy had k (slice_get ks k) → k < length ks
+pub asked_there : (had : ℕ → Bool) (k : ℕ) (ks : List Sub) → IsAskedBy had k (slice_get ks k) → k < length ks
 asked_there had k ks is = by (slice_get ks k) refl is where
   by : (found : Option Sub) → slice_get ks k ≡ found → IsAskedBy had k found → k < length ks
   by None at none = absurd none

@@ -1,0 +1,57 @@
+-- Who has which item in which mode, by what trees have done and voted: the operations on an item, tree by tree, and which of
+-- them stand.
+use Rattle.std.specs.Prelude.{if◌then◌else◌, ℕ, suc, Bool, false, not, ◌==◌, ◌&&◌, ◌||◌, List, [], ◌∷◌, ◌++◌, Option, Some, None}
+use Rattle.std.specs.List.{list_any}
+use Rattle.nc_locks.specs.Modes.{modes_conflict}
+use Rattle.nc_locks.specs.declared.modes.Mode.{Mode}
+use Rattle.script_parts.specs.ScriptData.{ScriptData, ops_of, subs_at, updates}
+use Rattle.script_parts.specs.declared.parts.Sub.{Sub}
+use Rattle.script_parts.specs.declared.parts.SubOp.{SubOp}
+use Rattle.script_parts.specs.declared.parts.Tree.{Tree}
+use Rattle.board_rules.specs.Histories.{Place, was_applied, was_done}
+use Rattle.board_rules.specs.Stands.{lock_mode_of, modes_on, voted_yes, was_freed}
+use Rattle.board_judge.specs.declared.users.User.{User}
+
+-- subtransaction j of tree k has taken its items: an update tree's was done, or it has voted yes
+abbrev pub has_taken : ScriptData → List Place → ℕ → ℕ → Bool
+has_taken s xs k j = (updates s k && was_done k j xs) || voted_yes k j xs
+
+-- of these subtransactions of tree k, the first of which is number j, one has taken item x in a mode that passes
+abbrev pub any_taken : ScriptData → List Place → ℕ → ℕ → (Mode → Bool) → ℕ → List Sub → Bool
+any_taken s xs x k test j [] = false
+any_taken s xs x k test j (sub ∷ subs) =
+    (has_taken s xs k j && list_any test (modes_on x sub.ops)) || any_taken s xs x k test (suc j) subs
+
+-- the operations of a script on item x, in order of trees, subtransactions and operations
+abbrev pub user_of : ℕ → ℕ → SubOp → User
+user_of t j o = record { tree = record { 0 = t }; sub = record { 0 = j }; mode = lock_mode_of o.deed }
+
+abbrev pub ops_users : ℕ → ℕ → ℕ → List SubOp → List User
+ops_users t j x [] = []
+ops_users t j x (o ∷ os) = if o.item.0 == x then user_of t j o ∷ ops_users t j x os else ops_users t j x os
+
+abbrev pub subs_users : ℕ → ℕ → ℕ → List Sub → List User
+subs_users t j x [] = []
+subs_users t j x (sub ∷ subs) = ops_users t j x sub.ops ++ subs_users t (suc j) x subs
+
+abbrev pub trees_users : ℕ → ℕ → List Tree → List User
+trees_users t x [] = []
+trees_users t x (tree ∷ trees) = subs_users t 0 x tree.subs ++ trees_users (suc t) x trees
+
+abbrev pub users_of : ScriptData → ℕ → List User
+users_of s x = trees_users 0 x s.trees
+
+-- what tree k has at node p was let go
+abbrev pub was_let_go : ℕ → ℕ → List Place → Bool
+was_let_go k p xs = was_freed k p xs || was_applied k p xs
+
+-- the operation stands at node p against tree t, which needs its item in this mode
+abbrev pub stands_against : ScriptData → List Place → ℕ → ℕ → Mode → User → Bool
+stands_against s xs p t mode u =
+    not (u.tree.0 == t)
+    && (not (was_let_go u.tree.0 p xs) && (has_taken s xs u.tree.0 u.sub.0 && modes_conflict mode u.mode))
+
+-- the tree of the first operation that passes
+abbrev pub first_tree : (User → Bool) → List User → Option ℕ
+first_tree test [] = None
+first_tree test (u ∷ us) = if test u then Some u.tree.0 else first_tree test us
