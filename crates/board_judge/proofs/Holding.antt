@@ -27,19 +27,19 @@ use Rattle.board_judge.specs.inside.Users.{any_taken, first_tree, has_taken, ops
 use Rattle.board_judge.proofs.StandingNow.{locks_on, stands_where}
 
 -- a list from a place on
-drop_head : {A : Type 0} (k : ℕ) (xs : List A) (y : A) (ys : List A) → drop k xs ≡ y ∷ ys → slice_get xs k ≡ Some y
+pub drop_head : {A : Type 0} (k : ℕ) (xs : List A) (y : A) (ys : List A) → drop k xs ≡ y ∷ ys → slice_get xs k ≡ Some y
 drop_head zero [] y ys is = absurd (cc is)
 drop_head (suc k) [] y ys is = absurd (cc is)
 drop_head {A} zero (x ∷ xs) y ys is = let same : x ≡ y = cc is in ap (λ (z : A). Some z) same
 drop_head (suc k) (x ∷ xs) y ys is = drop_head k xs y ys is
 
-drop_next : {A : Type 0} (k : ℕ) (xs : List A) (y : A) (ys : List A) → drop k xs ≡ y ∷ ys → drop (suc k) xs ≡ ys
+pub drop_next : {A : Type 0} (k : ℕ) (xs : List A) (y : A) (ys : List A) → drop k xs ≡ y ∷ ys → drop (suc k) xs ≡ ys
 drop_next zero [] y ys is = absurd (cc is)
 drop_next (suc k) [] y ys is = absurd (cc is)
 drop_next zero (x ∷ xs) y ys is = cc is
 drop_next (suc k) (x ∷ xs) y ys is = drop_next k xs y ys is
 
-any_at : (test : Place → Bool) (xs : List Place) (i : ℕ) (y : Place) → slice_get xs i ≡ Some y → test y ≡ true → list_any test xs ≡ true
+pub any_at : (test : Place → Bool) (xs : List Place) (i : ℕ) (y : Place) → slice_get xs i ≡ Some y → test y ≡ true → list_any test xs ≡ true
 any_at test xs i y is passes =
     ap (list_any test) (sym (take_all (length xs) xs (omega arith)))
     ∙ there test xs i (length xs) y is passes (slice_get_within xs i y is)

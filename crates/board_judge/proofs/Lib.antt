@@ -1,3 +1,4 @@
 pub mod OneMore
 pub mod StandingNow
 pub mod Holding
+pub mod Newest

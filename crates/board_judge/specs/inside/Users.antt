@@ -1,15 +1,16 @@
 -- Who has which item in which mode, by what trees have done and voted: the operations on an item, tree by tree, and which of
 -- them stand.
-use Rattle.std.specs.Prelude.{if◌then◌else◌, ℕ, suc, Bool, false, not, ◌==◌, ◌&&◌, ◌||◌, List, [], ◌∷◌, ◌++◌, Option, Some, None}
+use Rattle.std.specs.Prelude.{if◌then◌else◌, ℕ, suc, max, Bool, true, false, not, ◌==◌, ◌&&◌, ◌||◌, List, [], ◌∷◌, ◌++◌, Option, Some, None}
 use Rattle.std.specs.List.{list_any}
 use Rattle.nc_locks.specs.Modes.{modes_conflict}
 use Rattle.nc_locks.specs.declared.modes.Mode.{Mode}
+use Rattle.nc_locks.specs.declared.modes.Mode.TheVariants.{Mark, Look, Hold}
 use Rattle.script_parts.specs.ScriptData.{ScriptData, ops_of, subs_at, updates}
 use Rattle.script_parts.specs.declared.parts.Sub.{Sub}
 use Rattle.script_parts.specs.declared.parts.SubOp.{SubOp}
 use Rattle.script_parts.specs.declared.parts.Tree.{Tree}
-use Rattle.board_rules.specs.Histories.{Place, was_applied, was_done}
-use Rattle.board_rules.specs.Stands.{lock_mode_of, modes_on, voted_yes, was_freed}
+use Rattle.board_rules.specs.Histories.{Place, version_in, was_applied, was_committed, was_done}
+use Rattle.board_rules.specs.Stands.{lock_mode_of, modes_on, version_or_zero, voted_yes, was_freed}
 use Rattle.board_judge.specs.declared.users.User.{User}
 
 -- subtransaction j of tree k has taken its items: an update tree's was done, or it has voted yes
@@ -55,3 +56,23 @@ stands_against s xs p t mode u =
 abbrev pub first_tree : (User → Bool) → List User → Option ℕ
 first_tree test [] = None
 first_tree test (u ∷ us) = if test u then Some u.tree.0 else first_tree test us
+
+-- the operation has written its item, which is at node p: it changes it, and was done in an update tree, or its tree's
+-- commit was applied there
+abbrev pub changes_in : Mode → Bool
+changes_in Look = false
+changes_in Mark = true
+changes_in Hold = true
+
+abbrev pub has_written : ScriptData → List Place → ℕ → User → Bool
+has_written s xs p u =
+    changes_in u.mode
+    && ((updates s u.tree.0 && was_done u.tree.0 u.sub.0 xs) || (was_committed u.tree.0 xs && was_applied u.tree.0 p xs))
+
+-- the greatest version of a tree whose operation has written
+abbrev pub version_by : List Place → User → ℕ
+version_by xs u = version_or_zero (version_in u.tree.0 xs)
+
+abbrev pub newest_by : ScriptData → List Place → ℕ → List User → ℕ
+newest_by s xs p [] = 0
+newest_by s xs p (u ∷ us) = if has_written s xs p u then max (version_by xs u) (newest_by s xs p us) else newest_by s xs p us
