@@ -1,5 +1,5 @@
 // The steps of a sum or a top.
-ghost use Rattle.std.specs.Prelude.{◌≡◌, ◌<◌, ◌≤◌, ◌++◌, ◌∷◌, nat_le, drop, take, length, slice_get, suc, true, Some, IfOk, IfSome, OnErr, OnOk};
+ghost use Rattle.std.specs.Prelude.{◌≡◌, ◌+◌, ◌<◌, ◌≤◌, ◌++◌, ◌∷◌, nat_le, drop, take, length, slice_get, suc, true, Some, IfOk, IfSome, OnErr, OnOk};
 ghost use Rattle.worth_steps.specs.Kept.{steps_back, steps_over};
 ghost use Rattle.worth_steps.specs.Steps.{Ascends, Chained, act_on, newest_step, seen_to};
 ghost use Rattle.worth_steps.specs.inside.Editing.{changed_number, edited, first_own, is_set, number_below, revalued, stands_before, step_begun, step_gone_on, step_valued, steps_up_to};
@@ -244,7 +244,7 @@ fn go_on(
     let step = step_valued(kind, number_below(first, steps, place), &gone_on).ok_or(NoMemory)?;
     let mut above = revalued(*steps.allocator(), kind, &step.value, &steps[place + 1..])?;
     steps[place] = step;
-    steps[place + 1..].swap_with_slice(&mut above);
+    swap_above(steps, place + 1, &mut above);
     Ok(StepChange::GoneOn(place, old, Steps::from_vec(above)))
 }
 
@@ -264,8 +264,17 @@ fn begin(
     let step = step_valued(kind, number_below(first, steps, place), step).ok_or(NoMemory)?;
     let mut above = revalued(*steps.allocator(), kind, &step.value, &steps[place..])?;
     steps.insert(place, step)?;
-    steps[place + 1..].swap_with_slice(&mut above);
+    swap_above(steps, place + 1, &mut above);
     Ok(StepChange::Begun(place, Steps::from_vec(above)))
+}
+
+/// Lets the steps from a place on and as many others change places.
+fn swap_above(steps: &mut Vec<Step>, place: usize, above: &mut Vec<Step>)
+    requires { place + length above.old.items ≡ length steps.old.items }
+    ensures steps { steps.new.items ≡ take place steps.old.items ++ above.old.items }
+    ensures above { above.new.items ≡ drop place steps.old.items }
+{
+    steps[place..].swap_with_slice(above);
 }
 
 /// Takes a change back.
