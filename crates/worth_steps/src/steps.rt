@@ -152,6 +152,20 @@ fn number_below<'a>(first: &'a Amount, steps: &'a [Step], place: usize) -> &'a A
     }
 }
 
+/// A step with its value, from the number below a place.
+fn valued_at(
+    kind: Kind,
+    first: &Amount,
+    steps: &[Step],
+    place: usize,
+    step: &Step,
+) -> Result<Step, NoMemory>
+    ensures { IfOk result (λ s. s ≡ step_valued kind (number_below first.now place steps.now) step.now) }
+{
+    let below = number_below(first, steps, place);
+    step_valued(kind, below, step).ok_or(NoMemory)
+}
+
 /// How many of the steps, which ascend, are of at most this version. Where all are it doesn't search.
 fn steps_up_to(steps: &[Step], version: Version) -> usize
     ensures within { result ≤ length steps.now }
@@ -241,7 +255,7 @@ fn go_on(
 {
     let old = steps[place];
     let gone_on = step_gone_on(&old, deed).ok_or(NoMemory)?;
-    let step = step_valued(kind, number_below(first, steps, place), &gone_on).ok_or(NoMemory)?;
+    let step = valued_at(kind, first, steps, place, &gone_on)?;
     let mut above = revalued(*steps.allocator(), kind, &step.value, &steps[place + 1..])?;
     steps[place] = step;
     swap_above(steps, place + 1, &mut above);
@@ -261,7 +275,7 @@ fn begin(
     ensures back { IfOk result (λ c. steps_back c steps.new.items ≡ steps.old.items) }
     ensures err { OnErr result (steps.new.items ≡ steps.old.items) }
 {
-    let step = step_valued(kind, number_below(first, steps, place), step).ok_or(NoMemory)?;
+    let step = valued_at(kind, first, steps, place, step)?;
     let mut above = revalued(*steps.allocator(), kind, &step.value, &steps[place..])?;
     steps.insert(place, step)?;
     swap_above(steps, place + 1, &mut above);
