@@ -192,3 +192,39 @@ go_on_is k first v d [] q x up chain is place at = absurd (omega (arith, place))
 go_on_is k first v d (s ∷ ss) q x up chain is place at =
     go_on_by k first v d s x ss q up.0 chain.0 is (λ r. go_on_is k s.value v d ss r x up.1 chain.1 is) (nat_le s.version.0 v)
     (nat_lt s.version.0 v) (s.version.0 == v) refl refl refl place at
+
+-- What a deed leaves, where its step goes on and where one begins.
+
+there_by : (k : Kind) (first : ℤ) (v : ℕ) (d : Deed) (ss new : List Step) (q : ℕ) (o : Option Step) → Ascends ss → Chained k first ss
+    → suc q ≡ steps_up_to v ss → slice_get ss q ≡ o → (elim o [ None ↦ false | Some s ↦ s.version.0 == v ]) ≡ true
+    → ((s : Step) → slice_get ss q ≡ Some s
+      → new ≡ take q ss ++ revalued k (number_below first q ss) (step_gone_on d s ∷ drop (suc q) ss))
+    → new ≡ revalued k first (edited v d ss)
+there_by k first v d ss new q None up chain place at is made = absurd (cc is)
+there_by k first v d ss new q (Some x) up chain place at is made = made x at ∙ go_on_is k first v d ss q x up chain is (sym place) at
+
+pub noted_there : (k : Kind) (first : ℤ) (v : ℕ) (d : Deed) (ss new : List Step) (place : ℕ) → Ascends ss → Chained k first ss
+    → place ≡ steps_up_to v ss → stands_before place v ss ≡ true
+    → ((s : Step) → slice_get ss (place - 1) ≡ Some s
+      → new ≡ take (place - 1) ss ++ revalued k (number_below first (place - 1) ss) (step_gone_on d s ∷ drop (suc (place - 1)) ss))
+    → new ≡ revalued k first (edited v d ss)
+noted_there k first v d ss new zero up chain is stands made = absurd (cc stands)
+noted_there k first v d ss new (suc q) up chain is stands made =
+    let front : suc q - 1 ≡ q = omega arith in
+    there_by k first v d ss new q (slice_get ss q) up chain is refl stands
+    (subst (λ (p : ℕ). (s : Step) → slice_get ss p ≡ Some s
+      → new ≡ take p ss ++ revalued k (number_below first p ss) (step_gone_on d s ∷ drop (suc p) ss)) front made)
+
+pub noted_new : (k : Kind) (first : ℤ) (v : ℕ) (d : Deed) (ss new : List Step) (x : Step) (place : ℕ) → Ascends ss → Chained k first ss
+    → place ≡ steps_up_to v ss → stands_before place v ss ≡ false → x ≡ step_begun v d
+    → new ≡ take place ss ++ revalued k (number_below first place ss) (x ∷ drop place ss)
+    → new ≡ revalued k first (edited v d ss)
+noted_new k first v d ss new x place up chain is none begun made =
+    made
+    ∙ ap (λ (y : Step). take place ss ++ revalued k (number_below first place ss) (y ∷ drop place ss)) begun
+    ∙ ap (λ (p : ℕ). take p ss ++ revalued k (number_below first p ss) (step_begun v d ∷ drop p ss)) is
+    ∙ begin_is k first v d ss up chain (subst (λ (p : ℕ). stands_before p v ss ≡ false) is none)
+
+-- the steps of an equal list ascend
+pub ascends_as : (ss ts : List Step) → ss ≡ ts → Ascends ss → Ascends ts
+ascends_as ss ts is up = subst Ascends is up

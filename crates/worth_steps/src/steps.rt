@@ -233,10 +233,12 @@ pub(crate) fn note_step(
 {
     let place = steps_up_to(steps, version);
     if stands_before(steps, place, version) {
-        return go_on(kind, first, steps, place - 1, deed);
+        let change = go_on(kind, first, steps, place - 1, deed)?;
+        return Ok(change);
     }
     let step = step_begun(version, deed).ok_or(NoMemory)?;
-    begin(kind, first, steps, place, &step)
+    let change = begin(kind, first, steps, place, &step)?;
+    Ok(change)
 }
 
 /// The step at a place goes on with a deed, and the values above it are worked out anew.
