@@ -1,3 +1,4 @@
 pub mod Acting
 pub mod Placing
 pub mod Revaluing
+pub mod Bagged
