@@ -6,6 +6,7 @@ use Rattle.std.proofs.lemmas.Bool.Decides.{nat_tests}
 use Rattle.std.proofs.lemmas.Grind.{common_steps}
 use Rattle.std.proofs.lemmas.Int.{ints}
 use Rattle.std.proofs.lemmas.List.{append-nil, append_assoc, drop_more, length-take-le, length_push, take_all, take_more}
+use Rattle.std.proofs.lemmas.Option.{get_or_from_slice_get}
 use Rattle.std.proofs.lemmas.List.Elements.{filter-append}
 use Rattle.std.proofs.lemmas.List.Sums.{fold-append}
 use Rattle.commute_ops.specs.declared.kinds.Kind.TheVariants as kinds
@@ -206,7 +207,7 @@ puts_none = record { shows = worth_none; newest = refl }
 
 -- A bag of the numbers that are shown.
 
-abbrev filled : List ℤ → List ℤ → List ℤ
+abbrev pub filled : List ℤ → List ℤ → List ℤ
 filled xs ns = fold (λ (ms : List ℤ) (n : ℤ). with_number n ms) xs ns
 
 filled_later : (n : ℤ) (xs ns : List ℤ) → filled (with_number n xs) ns ≡ with_number n (filled xs ns)
@@ -254,6 +255,12 @@ put_hidden v ps i d bag lt over is =
       shown_push v ps i d lt ∙ ap (λ (b : Bool). shown_to v (take i ps) ++ (if b then x.number ∷ [] else [])) hidden
       ∙ append-nil (shown_to v (take i ps))))
 
+-- at the end all are gone over
+pub filled_all : (v : ℕ) (ps : List Put) (i : ℕ) (bag : Value) → Rises ps → length ps ≤ i
+    → bag ≡ Bag (filled [] (shown_to v (take i ps))) → bag ≡ Bag (shown_to v ps)
+filled_all v ps i bag up all is =
+    is ∙ ap (λ (xs : List Put). Bag (filled [] (shown_to v xs))) (take_all i ps all) ∙ ap (λ (ns : List ℤ). Bag ns) (filled_is v ps up)
+
 -- Numbers compared in place.
 
 -- the rest of the numbers that are shown
@@ -291,9 +298,9 @@ at_within zero (k ∷ ns) n at = omega arith
 at_within (suc m) (k ∷ ns) n at = omega (arith, at_within m ns n at)
 
 take_next : (m : ℕ) (ns : List ℤ) (n : ℤ) → slice_get ns m ≡ Some n → take (m + 1) ns ≡ take m ns ++ n ∷ []
-take_next m [] n at = absurd (cc at)
-take_next zero (k ∷ ns) n at = ap (λ (j : ℤ). j ∷ []) (cc at)
-take_next (suc m) (k ∷ ns) n at = ap (λ (xs : List ℤ). k ∷ xs) (take_next m ns n at)
+take_next m ns n at =
+    take_more ns m n (omega (arith, at_within m ns n at))
+    ∙ ap (λ (j : ℤ). take m ns ++ j ∷ []) (get_or_from_slice_get ns m n n at)
 
 pub is_shown : (v : ℕ) (ps : List Put) (ns : List ℤ) (i m : ℕ) (d : Put) → i < length ps → (get_or ps i d).version.0 ≤ v
     → take m ns ++ shown_to v (drop i ps) ≡ shown_to v ps → slice_get ns m ≡ Some (get_or ps i d).number
