@@ -2,7 +2,8 @@
 ghost use Rattle.std.specs.Prelude.{◌≡◌, ◌++◌, ◌∷◌, [], true, false, List, IfOk, IsTrue, OnErr, OnOk};
 ghost use Rattle.commute_ops.specs.declared.value.Value.{Value};
 ghost use Rattle.worth_steps.specs.Kept.{AreWorths, taken_back};
-ghost use Rattle.worth_steps.specs.Worth.{MayBegin, Noted, deed_suits, last_altered, value_kind, worth_of};
+ghost use Rattle.worth_steps.specs.Worth.{MayBegin, Noted, alters, deed_suits, last_altered, value_kind, worth_of};
+ghost use Rattle.worth_steps.specs.inside.Editing.{put_of};
 ghost use Rattle.worth_steps.specs.inside.Showing.{AreOrdered, newest_as, shown_value, value_number};
 
 use crate::change::{Change, Changed};
@@ -58,28 +59,21 @@ impl Worths {
         ensures back { IfOk result (λ c. taken_back c self.new ≡ self.old) }
         ensures err { OnErr result (self.new ≡ self.old) }
     {
-        match deed {
-            Deed::Get => Ok(Change {
+        if !alters(deed) {
+            return Ok(Change {
                 changed: Changed::Nothing,
-            }),
-            Deed::Apply(Op::Put(number)) => {
-                let put = Put {
-                    number: *number,
-                    version,
-                };
+            });
+        }
+        match put_of(version, deed) {
+            Some(put) => {
                 let place = puts::note_put(&mut self.puts, &put)?;
                 Ok(Change {
                     changed: Changed::Put(place),
                 })
             }
-            _ => {
-                let change = steps::note_step(
-                    self.kind,
-                    &self.first,
-                    &mut self.steps,
-                    version,
-                    deed,
-                )?;
+            None => {
+                let change =
+                    steps::note_step(self.kind, &self.first, &mut self.steps, version, deed)?;
                 Ok(Change {
                     changed: Changed::Steps(change),
                 })
@@ -161,6 +155,31 @@ impl Worths {
             Kind::Bag => puts::newest_put(&self.puts),
             _ => steps::newest_step(&self.steps),
         }
+    }
+}
+
+/// Whether a deed alters its item.
+fn alters(deed: &Deed) -> bool
+    ensures { result ≡ alters deed.now }
+{
+    match deed {
+        Deed::Get => false,
+        Deed::Apply(_) => true,
+        Deed::Set(_) => true,
+        Deed::Draw(_) => true,
+    }
+}
+
+/// What a deed of this version puts into a bag.
+fn put_of(version: Version, deed: &Deed) -> Option<Put>
+    ensures { result ≡ put_of version.0 deed.now }
+{
+    match deed {
+        Deed::Apply(Op::Put(number)) => Some(Put {
+            number: *number,
+            version,
+        }),
+        _ => None,
     }
 }
 

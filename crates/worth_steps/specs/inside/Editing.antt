@@ -1,5 +1,5 @@
 -- How steps and puts are edited. Only the code cites it.
-use Rattle.std.specs.Prelude.{if◌then◌else◌, ℕ, zero, suc, Bool, true, false, ◌==◌, ◌||◌, ◌-◌, nat_lt, nat_le, int_le, ℤ, pos, ◌+ℤ◌, ◌-ℤ◌, List, [], ◌∷◌, Some, None, slice_get}
+use Rattle.std.specs.Prelude.{if◌then◌else◌, ℕ, zero, suc, Bool, true, false, ◌==◌, ◌||◌, ◌-◌, nat_lt, nat_le, int_le, ℤ, pos, ◌+ℤ◌, ◌-ℤ◌, List, [], ◌∷◌, Option, Some, None, slice_get}
 use Rattle.std.specs.Int.{int_max}
 use Rattle.commute_ops.specs.declared.kinds.Kind.{Kind}
 use Rattle.commute_ops.specs.declared.kinds.Op.TheVariants.{Add, Top, Put as PutIn}
@@ -71,6 +71,15 @@ number_below first (suc p) ss = elim (slice_get ss p) [ None ↦ first | Some s 
 abbrev pub stands_before : ℕ → ℕ → List Step → Bool
 stands_before zero v ss = false
 stands_before (suc p) v ss = elim (slice_get ss p) [ None ↦ false | Some s ↦ s.version.0 == v ]
+
+-- what a deed of version v puts into a bag
+abbrev pub put_of : ℕ → Deed → Option Put
+put_of v (Apply (PutIn n)) = Some (record { number = n; version = record { 0 = v } })
+put_of v (Apply (Add a)) = None
+put_of v (Apply (Top a)) = None
+put_of v Get = None
+put_of v (Set a) = None
+put_of v (Draw a) = None
 
 -- a put more, before all of at least its number
 abbrev pub with_put : Put → List Put → List Put
