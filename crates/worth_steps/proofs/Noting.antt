@@ -1,6 +1,6 @@
 -- What is kept of an item shows what it is worth, before any deed and with each deed more.
 use Rattle.std.proofs.Common.{◌≡◌, ℕ, zero, suc, Bool, true, false, IsTrue, List, [], ◌∷◌, ◌++◌, refl, ℤ, ap, sym, ◌∙◌, subst, Option, Some, None}
-use Rattle.std.specs.Prelude.{if◌then◌else◌, ◌==◌, fold, pos}
+use Rattle.std.specs.Prelude.{if◌then◌else◌, ◌==◌, ◌||◌, fold}
 use Rattle.std.proofs.lemmas.List.Sums.{fold-append}
 use Rattle.commute_ops.specs.declared.kinds.Kind.{Kind}
 use Rattle.commute_ops.specs.declared.kinds.Kind.TheVariants.{Sum, Top, Bag}
@@ -26,10 +26,16 @@ use Rattle.worth_steps.proofs.Acting.{deeds_by, last_more, steps_ascend, steps_m
 use Rattle.worth_steps.proofs.Bagged.{puts_more, puts_none, rises_more}
 
 -- What some tree may have on an item suits it.
+
+one_of : (a b c : Bool) → (a ≡ true → a || (b || c) ≡ true) × (b ≡ true → a || (b || c) ≡ true) × (c ≡ true → a || (b || c) ≡ true)
+one_of true b c = (λ e. refl, λ e. refl, λ e. refl)
+one_of false true c = (λ e. refl, λ e. refl, λ e. refl)
+one_of false false c = (λ e. absurd (cc e), λ e. absurd (cc e), λ e. e)
+
 pub fits_suits : (t : TreeKind) (k : Kind) (d : Deed) → IsTrue (deed_fits t k d) → IsTrue (deed_suits k d)
-fits_suits trees.Update k d f = ?
-fits_suits trees.Read k d f = ?
-fits_suits trees.Strict k d f = ?
+fits_suits trees.Update k d f = (one_of (deed_fits trees.Update k d) (deed_fits trees.Read k d) (deed_fits trees.Strict k d)).0 f
+fits_suits trees.Read k d f = (one_of (deed_fits trees.Update k d) (deed_fits trees.Read k d) (deed_fits trees.Strict k d)).1 f
+fits_suits trees.Strict k d f = (one_of (deed_fits trees.Update k d) (deed_fits trees.Read k d) (deed_fits trees.Strict k d)).2 f
 
 -- A get.
 

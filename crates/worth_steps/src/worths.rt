@@ -96,7 +96,8 @@ impl Worths {
     pub fn at(&self, alloc: Global, version: Version) -> Result<Value, NoMemory>
         ensures { IfOk result (λ w. (first : Value) (ns : List Noted) → AreWorths first ns self.now → w ≡ worth_of first ns version.0) }
     {
-        self.shown(alloc, version)
+        let value = self.shown(alloc, version)?;
+        Ok(value)
     }
 
     /// Whether this is what the item is worth at a version.
