@@ -1,0 +1,5 @@
+pub mod Acting
+pub mod Placing
+pub mod Revaluing
+pub mod Bagged
+pub mod Noting

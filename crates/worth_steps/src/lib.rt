@@ -1,0 +1,10 @@
+//! What an item is worth at any version, kept version by version while deeds of any versions come in any order.
+#![tactic(auto)]
+
+mod change;
+mod puts;
+mod steps;
+mod worths;
+
+pub use change::Change;
+pub use worths::Worths;

@@ -1,0 +1,207 @@
+// What an item is worth at each version.
+ghost use Rattle.std.specs.Prelude.{◌≡◌, ◌++◌, ◌∷◌, [], true, false, List, IfOk, IsTrue, OnErr, OnOk};
+ghost use Rattle.commute_ops.specs.declared.value.Value.{Value};
+ghost use Rattle.worth_steps.specs.Kept.{AreWorths, taken_back};
+ghost use Rattle.worth_steps.specs.Worth.{MayBegin, Noted, alters, deed_suits, last_altered, value_kind, worth_of};
+ghost use Rattle.worth_steps.specs.inside.Editing.{put_of};
+ghost use Rattle.worth_steps.specs.inside.Showing.{AreOrdered, newest_as, shown_value, value_number};
+
+use crate::change::{Change, Changed};
+use crate::puts::{self, Put};
+use crate::steps::{self, Step};
+use commute_ops::{Amount, Kind, Op, SumValue, TopValue, Value};
+use script_parts::parts::Deed;
+use std::alloc::Global;
+use std::marker::Model;
+use tv_base::{NoMemory, Version};
+
+/// What an item is worth at each version, after deeds that come in any order of versions.
+#[derive(Drop)]
+pub struct Worths {
+    kind: Kind,
+    first: Amount,
+    steps: Vec<Step>,
+    puts: Vec<Put>,
+}
+
+impl Model for Worths {
+    ghost use Rattle.worth_steps.specs.Kept.{WorthsData};
+
+    ghost Value = { WorthsData };
+
+    ghost view = { λ w. record { kind = w.kind; first = w.first; steps = w.steps.items; puts = w.puts.items } };
+}
+
+impl Worths {
+    /// The worths of an item with this first value, before any deed. A bag is empty.
+    pub fn new(alloc: Global, first: &Value) -> Worths
+        requires { MayBegin first.now }
+        ensures worths { AreWorths first.now [] result }
+        ensures kind { result.kind ≡ value_kind first.now }
+    {
+        Worths {
+            kind: value_kind(first),
+            first: value_number(first),
+            steps: Vec::new(alloc),
+            puts: Vec::new(alloc),
+        }
+    }
+
+    /// Notes a deed of a member of this version, which comes after all deeds that were noted. A get changes nothing.
+    ///
+    /// Finds no memory, too, where a number would leave the range of amounts: that takes more than a hundred million
+    /// deeds of the greatest magnitude that a script may have. After an error the worths are as they were.
+    pub fn note(&mut self, version: Version, deed: &Deed) -> Result<Change, NoMemory>
+        requires { IsTrue (deed_suits self.old.kind deed.now) }
+        ensures noted { OnOk result ((first : Value) (ns : List Noted) → AreWorths first ns self.old
+            → AreWorths first (ns ++ record { version = version.0; deed = deed.now } ∷ []) self.new) }
+        ensures kind { self.new.kind ≡ self.old.kind }
+        ensures back { IfOk result (λ c. taken_back c self.new ≡ self.old) }
+        ensures err { OnErr result (self.new ≡ self.old) }
+    {
+        if !alters(deed) {
+            return Ok(Change {
+                changed: Changed::Nothing,
+            });
+        }
+        match put_of(version, deed) {
+            Some(put) => {
+                let place = puts::note_put(&mut self.puts, &put)?;
+                Ok(Change {
+                    changed: Changed::Put(place),
+                })
+            }
+            None => {
+                let change =
+                    steps::note_step(self.kind, &self.first, &mut self.steps, version, deed)?;
+                Ok(Change {
+                    changed: Changed::Steps(change),
+                })
+            }
+        }
+    }
+
+    /// Takes the last deed back, by the change that noting it gave.
+    pub fn undo(&mut self, change: Change)
+        ensures { self.new ≡ taken_back change self.old }
+    {
+        match &change.changed {
+            Changed::Nothing => {}
+            Changed::Steps(steps) => steps::take_back(&mut self.steps, steps),
+            Changed::Put(place) => puts::take_out(&mut self.puts, *place),
+        }
+    }
+
+    /// What the item is worth at a version. Only a bag needs memory.
+    pub fn at(&self, alloc: Global, version: Version) -> Result<Value, NoMemory>
+        ensures { IfOk result (λ w. (first : Value) (ns : List Noted) → AreWorths first ns self.now → w ≡ worth_of first ns version.0) }
+    {
+        let value = self.shown(alloc, version)?;
+        Ok(value)
+    }
+
+    /// Whether this is what the item is worth at a version.
+    pub fn is_at(&self, version: Version, value: &Value) -> bool
+        ensures yes { result ≡ true → (first : Value) (ns : List Noted) → AreWorths first ns self.now → worth_of first ns version.0 ≡ value.now }
+        ensures no { result ≡ false → (first : Value) (ns : List Noted) → AreWorths first ns self.now → worth_of first ns version.0 ≡ value.now → ⊥ }
+    {
+        self.shows(version, value)
+    }
+
+    /// The greatest version with a deed that alters the item, 0 where there is none.
+    pub fn last(&self) -> Version
+        ensures { (first : Value) (ns : List Noted) → AreWorths first ns self.now → result.0 ≡ last_altered ns }
+    {
+        self.newest()
+    }
+
+    fn shown(&self, alloc: Global, version: Version) -> Result<Value, NoMemory>
+        ensures { IfOk result (λ w. AreOrdered self.now → w ≡ shown_value self.now version.0) }
+    {
+        match self.kind {
+            Kind::Sum => Ok(Value::Sum(SumValue(*steps::number_at(
+                &self.first,
+                &self.steps,
+                version,
+            )))),
+            Kind::Top => Ok(Value::Top(TopValue(*steps::number_at(
+                &self.first,
+                &self.steps,
+                version,
+            )))),
+            Kind::Bag => puts::bag_at(alloc, &self.puts, version),
+        }
+    }
+
+    fn shows(&self, version: Version, value: &Value) -> bool
+        ensures yes { result ≡ true → AreOrdered self.now → shown_value self.now version.0 ≡ value.now }
+        ensures no { result ≡ false → AreOrdered self.now → shown_value self.now version.0 ≡ value.now → ⊥ }
+    {
+        match (self.kind, value) {
+            (Kind::Sum, Value::Sum(sum)) => {
+                *steps::number_at(&self.first, &self.steps, version) == sum.0
+            }
+            (Kind::Top, Value::Top(top)) => {
+                *steps::number_at(&self.first, &self.steps, version) == top.0
+            }
+            (Kind::Bag, Value::Bag(bag)) => puts::shows(&self.puts, version, bag.items()),
+            _ => false,
+        }
+    }
+
+    fn newest(&self) -> Version
+        ensures { AreOrdered self.now → result.0 ≡ newest_as self.now.kind self.now }
+    {
+        match self.kind {
+            Kind::Bag => puts::newest_put(&self.puts),
+            _ => steps::newest_step(&self.steps),
+        }
+    }
+}
+
+/// Whether a deed alters its item.
+fn alters(deed: &Deed) -> bool
+    ensures { result ≡ alters deed.now }
+{
+    match deed {
+        Deed::Get => false,
+        Deed::Apply(_) => true,
+        Deed::Set(_) => true,
+        Deed::Draw(_) => true,
+    }
+}
+
+/// What a deed of this version puts into a bag.
+fn put_of(version: Version, deed: &Deed) -> Option<Put>
+    ensures { result ≡ put_of version.0 deed.now }
+{
+    match deed {
+        Deed::Apply(Op::Put(number)) => Some(Put {
+            number: *number,
+            version,
+        }),
+        _ => None,
+    }
+}
+
+/// The kind of a value.
+fn value_kind(value: &Value) -> Kind
+    ensures { result ≡ value_kind value.now }
+{
+    match value {
+        Value::Sum(_) => Kind::Sum,
+        Value::Top(_) => Kind::Top,
+        Value::Bag(_) => Kind::Bag,
+    }
+}
+
+/// The number of a sum or a top.
+fn value_number(value: &Value) -> Amount
+    ensures { result ≡ value_number value.now }
+{
+    match value {
+        Value::Sum(sum) => sum.0,
+        Value::Top(top) => top.0,
+        Value::Bag(_) => 0,
+    }
+}
