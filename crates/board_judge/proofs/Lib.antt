@@ -2,3 +2,4 @@ pub mod OneMore
 pub mod StandingNow
 pub mod Holding
 pub mod Newest
+pub mod NotedWorth

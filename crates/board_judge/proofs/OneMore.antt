@@ -285,7 +285,7 @@ pub not_yet : (s : ScriptData) (xs : List Place) (x : Place) (t : ℕ) → IsMov
 not_yet s xs x t move is = false_from_ne_true (is_settled_in s xs t) (not_yet_by s xs x.node x.act t move is)
 
 -- The order with one act more.
-filter_twice : (p r : ℕ → Bool) (ts : List ℕ) → filter p (filter r ts) ≡ filter (λ (u : ℕ). r u && p u) ts
+pub filter_twice : (p r : ℕ → Bool) (ts : List ℕ) → filter p (filter r ts) ≡ filter (λ (u : ℕ). r u && p u) ts
 filter_twice p r [] = refl
 filter_twice p r (t ∷ ts) = by (r t) (filter (λ (u : ℕ). r u && p u) ts) (filter_twice p r ts) where
   by : (b : Bool) (both : List ℕ) → filter p (filter r ts) ≡ both
@@ -297,7 +297,7 @@ filter_every : (p : ℕ → Bool) (ts : List ℕ) → ((t : ℕ) → p t ≡ tru
 filter_every p [] all = refl
 filter_every p (t ∷ ts) all = rw (all t) (ap (λ (us : List ℕ). t ∷ us) (filter_every p ts all))
 
-filter_alike : (p q : ℕ → Bool) (ts : List ℕ) → ((t : ℕ) → p t ≡ q t) → filter p ts ≡ filter q ts
+pub filter_alike : (p q : ℕ → Bool) (ts : List ℕ) → ((t : ℕ) → p t ≡ q t) → filter p ts ≡ filter q ts
 filter_alike p q ts same = ap (λ (f : ℕ → Bool). filter f ts) (λ i t. same t i)
 
 -- the trees with one more, if there is one
