@@ -1,8 +1,8 @@
 -- The holder that the look back names is the tree of the first operation on the item that stands against the need.
 use Rattle.std.proofs.Common.{◌≡◌, ◌⊎◌, inl, inr, ◌==◌, ◌&&◌, ◌||◌, ℕ, zero, suc, ◌+◌, ◌<◌, ◌≤◌, Bool, true, false, List, [], ◌∷◌, ◌++◌, length, refl, sym, ap, subst, ◌∙◌, arith, Option, Some, None, take, drop, append_assoc}
-use Rattle.std.specs.Prelude.{if◌then◌else◌, cond, filter, map, not, slice_get}
+use Rattle.std.specs.Prelude.{if◌then◌else◌, cond, filter, map, min, not, slice_get}
 use Rattle.std.specs.List.{list_any}
-use Rattle.std.proofs.lemmas.Bool.{and_from, and_parts, eqb-true, or_cases, or_left, or_right}
+use Rattle.std.proofs.lemmas.Bool.{and_from, and_parts, eqb-true, false_from_ne_true, or_cases, or_left, or_right}
 use Rattle.std.proofs.lemmas.List.{take_all}
 use Rattle.std.proofs.lemmas.List.Folds.{list_any-append}
 use Rattle.std.proofs.lemmas.Option.{slice_get_within}
@@ -12,18 +12,24 @@ use Rattle.letter_types.specs.declared.acts.Act.TheVariants.{Born, Did, Turned, 
 use Rattle.letter_types.specs.declared.votes.Vote.TheVariants.{Yes, No}
 use Rattle.nc_locks.specs.Modes.{modes_conflict}
 use Rattle.nc_locks.specs.declared.modes.Mode.{Mode}
-use Rattle.script_parts.specs.ScriptData.{ScriptData, ops_of, sub_at, subs_at, updates}
+use Rattle.nc_locks.specs.declared.modes.Mode.TheVariants.{Mark}
+use Rattle.script_parts.specs.ScriptData.{ScriptData, is_strict, is_update, ops_of, sub_at, subs_at, updates}
+use Rattle.script_parts.specs.Valid.{IsValid}
 use Rattle.script_parts.specs.declared.parts.Sub.{Sub}
 use Rattle.script_parts.specs.declared.parts.SubOp.{SubOp}
 use Rattle.script_parts.specs.declared.parts.Tree.{Tree}
-use Rattle.board_rules.specs.Histories.{Place, does, was_done}
+use Rattle.script_parts.specs.declared.parts.TreeKind.{TreeKind}
+use Rattle.board_rules.specs.ButCause.{IsMoveButCauseAt}
+use Rattle.board_rules.specs.Histories.{Place, does, is_strict_tree, was_done}
 use Rattle.board_rules.specs.Stands.{conflicts_with, holder_of, least_from, lock_mode_of, locked_by, modes_on, votes_yes, voted_yes}
 use Rattle.board_rules.proofs.ActTests.{does_is, votes_yes_is}
+use Rattle.board_rules.proofs.Holders.{least_of_none}
+use Rattle.board_rules.proofs.NoVotes.{AreMarking, updates_mark}
 use Rattle.board_rules.proofs.Once.{clash, same_tests}
 use Rattle.board_rules.proofs.Positions.{found_all, there}
 use Rattle.board_judge.specs.declared.users.User.{User}
 use Rattle.board_judge.specs.Settled.{IsMoveRun}
-use Rattle.board_judge.specs.inside.Users.{any_taken, first_tree, has_taken, ops_users, stands_against, subs_users, trees_users, user_of, users_of, was_let_go}
+use Rattle.board_judge.specs.inside.Users.{any_taken, first_tree, has_taken, is_of, lesser, ops_users, stands_against, subs_users, trees_users, user_of, users_of, was_let_go}
 use Rattle.board_judge.proofs.StandingNow.{locks_on, stands_where}
 
 -- a list from a place on
@@ -247,18 +253,135 @@ first_of_tree test k j x (sub ∷ subs) rest =
     ∙ if_or (list_any test (ops_users k j x sub.ops)) (list_any test (subs_users k (suc j) x subs)) k (first_tree test rest)
     ∙ ap (λ (b : Bool). if b then Some k else first_tree test rest) (sym (list_any-append test (ops_users k j x sub.ops) (subs_users k (suc j) x subs)))
 
-holder_from : (s : ScriptData) (xs : List Place) (p t x : ℕ) (mode : Mode) → IsMoveRun s xs → (k : ℕ) (trees : List Tree) → drop k s.trees ≡ trees
-    → first_tree (stands_against s xs p t mode) (trees_users k x trees)
-    ≡ least_from (λ (i : ℕ). not (i == t) && conflicts_with s xs p x mode i) k (length trees)
-holder_from s xs p t x mode run k [] is = refl
-holder_from s xs p t x mode run k (tree ∷ trees) is =
-    first_of_tree (stands_against s xs p t mode) k 0 x tree.subs (trees_users (suc k) x trees)
-    ∙ ap (λ (subs : List Sub). if list_any (stands_against s xs p t mode) (subs_users k 0 x subs) then Some k else first_tree (stands_against s xs p t mode) (trees_users (suc k) x trees)) (sym here)
-    ∙ ap (λ (b : Bool). if b then Some k else first_tree (stands_against s xs p t mode) (trees_users (suc k) x trees)) (against_tree s xs p t x k mode run)
-    ∙ ap (λ (o : Option ℕ). if (not (k == t) && conflicts_with s xs p x mode k) then Some k else o) (holder_from s xs p t x mode run (suc k) trees (drop_next k s.trees tree trees is)) where
-      here : subs_at s k ≡ tree.subs
-      here = ap (λ (found : Option Tree). elim found [ Some one ↦ one.subs | None ↦ [] ]) (drop_head k s.trees tree trees is)
+-- trees of a kind that are in the way
+abbrev in_way : (TreeKind → Bool) → ScriptData → List Place → ℕ → ℕ → ℕ → Mode → ℕ → Bool
+in_way of s xs p t x mode k = is_of of s k && (not (k == t) && conflicts_with s xs p x mode k)
 
+holder_from : (of : TreeKind → Bool) (s : ScriptData) (xs : List Place) (p t x : ℕ) (mode : Mode) → IsMoveRun s xs → (k : ℕ) (trees : List Tree)
+    → drop k s.trees ≡ trees
+    → first_tree (stands_against s xs p t mode) (trees_users of k x trees) ≡ least_from (in_way of s xs p t x mode) k (length trees)
+holder_from of s xs p t x mode run k [] is = refl
+holder_from of s xs p t x mode run k (tree ∷ trees) is =
+    by (of tree.kind) refl (holder_from of s xs p t x mode run (suc k) trees (drop_next k s.trees tree trees is)) where
+      test : User → Bool
+      test = stands_against s xs p t mode
+
+      found : slice_get s.trees k ≡ Some tree
+      found = drop_head k s.trees tree trees is
+
+      here : subs_at s k ≡ tree.subs
+      here = ap (λ (o : Option Tree). elim o [ Some one ↦ one.subs | None ↦ [] ]) found
+
+      kind : is_of of s k ≡ of tree.kind
+      kind = ap (λ (o : Option Tree). elim o [ Some one ↦ of one.kind | None ↦ false ]) found
+
+      by : (b : Bool) → of tree.kind ≡ b
+          → first_tree (stands_against s xs p t mode) (trees_users of (suc k) x trees) ≡ least_from (in_way of s xs p t x mode) (suc k) (length trees)
+          → first_tree (stands_against s xs p t mode) ((if b then subs_users k 0 x tree.subs else []) ++ trees_users of (suc k) x trees)
+          ≡ (if in_way of s xs p t x mode k then Some k else least_from (in_way of s xs p t x mode) (suc k) (length trees))
+      by true is_so rest =
+          first_of_tree (stands_against s xs p t mode) k 0 x tree.subs (trees_users of (suc k) x trees)
+          ∙ ap (λ (subs : List Sub). if list_any (stands_against s xs p t mode) (subs_users k 0 x subs) then Some k else first_tree (stands_against s xs p t mode) (trees_users of (suc k) x trees)) (sym here)
+          ∙ ap (λ (b : Bool). if b then Some k else first_tree (stands_against s xs p t mode) (trees_users of (suc k) x trees))
+          (against_tree s xs p t x k mode run ∙ ap (λ (b : Bool). b && (not (k == t) && conflicts_with s xs p x mode k)) (sym (kind ∙ is_so)))
+          ∙ ap (λ (o : Option ℕ). if in_way of s xs p t x mode k then Some k else o) rest
+      by false is_so rest =
+          rest
+          ∙ ap (λ (b : Bool). if (b && (not (k == t) && conflicts_with s xs p x mode k)) then Some k else least_from (in_way of s xs p t x mode) (suc k) (length trees)) (sym (kind ∙ is_so))
+
+-- The least of two lists.
+least_above : (f : ℕ → Bool) (k n j : ℕ) → least_from f k n ≡ Some j → k ≤ j
+least_above f k zero j is = absurd (cc is)
+least_above f k (suc n) j is = by (f k) (least_above f (suc k) n j) is where
+  by : (b : Bool) → (least_from f (suc k) n ≡ Some j → suc k ≤ j) → (if b then Some k else least_from f (suc k) n) ≡ Some j → k ≤ j
+  by true later same = (let one : k ≡ j = cc same in omega (arith, one))
+  by false later rest = (let above = later rest in omega (arith, above))
+
+lesser_first : (k : ℕ) (o : Option ℕ) → ((j : ℕ) → o ≡ Some j → k ≤ j) → lesser (Some k) o ≡ Some k
+lesser_first k None above = refl
+lesser_first k (Some j) above = (let le = above j refl in ap (λ (m : ℕ). Some m) (let one : min k j ≡ k = omega (arith, le) in one))
+
+lesser_second : (k : ℕ) (o : Option ℕ) → ((j : ℕ) → o ≡ Some j → k ≤ j) → lesser o (Some k) ≡ Some k
+lesser_second k None above = refl
+lesser_second k (Some j) above = (let le = above j refl in ap (λ (m : ℕ). Some m) (let one : min j k ≡ k = omega (arith, le) in one))
+
+least_of_two : (f g : ℕ → Bool) (n k : ℕ) → least_from (λ (i : ℕ). f i || g i) k n ≡ lesser (least_from f k n) (least_from g k n)
+least_of_two f g zero k = refl
+least_of_two f g (suc n) k = by (f k) (g k) (least_of_two f g n (suc k)) where
+  next : (h : ℕ → Bool) (j : ℕ) → least_from h (suc k) n ≡ Some j → k ≤ j
+  next h j is = (let above = least_above h (suc k) n j is in omega (arith, above))
+
+  by : (a b : Bool) → least_from (λ (i : ℕ). f i || g i) (suc k) n ≡ lesser (least_from f (suc k) n) (least_from g (suc k) n)
+      → (if a || b then Some k else least_from (λ (i : ℕ). f i || g i) (suc k) n)
+      ≡ lesser (if a then Some k else least_from f (suc k) n) (if b then Some k else least_from g (suc k) n)
+  by true true rest = sym (lesser_first k (Some k) (λ j is. let one : k ≡ j = cc is in omega (arith, one)))
+  by true false rest = sym (lesser_first k (least_from g (suc k) n) (next g))
+  by false true rest = sym (lesser_second k (least_from f (suc k) n) (next f))
+  by false false rest = rest
+
+least_alike : (f g : ℕ → Bool) (n k : ℕ) → ((i : ℕ) → f i ≡ g i) → least_from f k n ≡ least_from g k n
+least_alike f g n k same = ap (λ (h : ℕ → Bool). least_from h k n) (λ i j. same j i)
+
+-- Only update and strict trees take items.
+yes_strict : (s : ScriptData) (xs : List Place) (k j : ℕ) → IsMoveRun s xs → voted_yes k j xs ≡ true → is_strict_tree s k ≡ true
+yes_strict s xs k j run is =
+    let f = found_all (λ (y : Place). votes_yes k j y.act) xs is in
+    let act = votes_yes_is k j f.item.act f.passes in
+    let move = subst (IsMoveButCauseAt s [] (take f.place xs) f.item.node) act.1 (run f.place f.item f.is) in move.strict
+
+conflict_kind : (s : ScriptData) (xs : List Place) (p x k : ℕ) (mode : Mode) → IsMoveRun s xs → conflicts_with s xs p x mode k ≡ true
+    → (updates s k || is_strict_tree s k) ≡ true
+conflict_kind s xs p x k mode run is =
+    let stands = sym (stands_where s p x k (modes_conflict mode) xs run) ∙ is in
+    let locked = right_true (not (was_let_go k p xs)) (list_any (locks_on s x k (modes_conflict mode)) xs) stands in
+    let t = taker s xs x k (modes_conflict mode) 0 (subs_at s k) (sym (locked_is_taken s xs x k (modes_conflict mode)) ∙ locked) in
+    elim (or_cases (updates s k && was_done k (0 + t.number) xs) (voted_yes k (0 + t.number) xs) t.has) [
+      | inl d ↦ or_left (updates s k) (is_strict_tree s k) (left_true (updates s k) (was_done k (0 + t.number) xs) d)
+      | inr v ↦ or_right (updates s k) (is_strict_tree s k) (yes_strict s xs k (0 + t.number) run v)
+    ]
+
+split_kinds : (u r b : Bool) → (b ≡ true → (u || r) ≡ true) → b ≡ ((u && b) || (r && b))
+split_kinds true r true of = refl
+split_kinds false true true of = refl
+split_kinds false false true of = absurd (cc (of refl))
+split_kinds true true false of = refl
+split_kinds true false false of = refl
+split_kinds false true false of = refl
+split_kinds false false false of = refl
+
+-- the holder is the lesser of the first update tree and the first strict tree in the way
 pub holder_is_first : (s : ScriptData) (xs : List Place) (p t x : ℕ) (mode : Mode) → IsMoveRun s xs
-    → first_tree (stands_against s xs p t mode) (users_of s x) ≡ holder_of s xs p t x mode
-holder_is_first s xs p t x mode run = holder_from s xs p t x mode run 0 s.trees refl
+    → lesser (first_tree (stands_against s xs p t mode) (users_of is_update s x)) (first_tree (stands_against s xs p t mode) (users_of is_strict s x))
+    ≡ holder_of s xs p t x mode
+holder_is_first s xs p t x mode run =
+    ap (λ (o : Option ℕ). lesser o (first_tree (stands_against s xs p t mode) (users_of is_strict s x))) (holder_from is_update s xs p t x mode run 0 s.trees refl)
+    ∙ ap (lesser (least_from (in_way is_update s xs p t x mode) 0 (length s.trees))) (holder_from is_strict s xs p t x mode run 0 s.trees refl)
+    ∙ sym (least_of_two (in_way is_update s xs p t x mode) (in_way is_strict s xs p t x mode) (length s.trees) 0)
+    ∙ sym (least_alike (λ (k : ℕ). not (k == t) && conflicts_with s xs p x mode k) (λ (k : ℕ). in_way is_update s xs p t x mode k || in_way is_strict s xs p t x mode k) (length s.trees) 0
+    (λ k. split_kinds (updates s k) (is_strict_tree s k) (not (k == t) && conflicts_with s xs p x mode k)
+    (λ both. conflict_kind s xs p x k mode run (right_true (not (k == t)) (conflicts_with s xs p x mode k) both))))
+
+-- Marks go with marks.
+marks_pass : (os : List SubOp) (x : ℕ) → AreMarking os → list_any (modes_conflict Mark) (modes_on x os) ≡ false
+marks_pass [] x all = refl
+marks_pass (o ∷ os) x all = by (o.item.0 == x) (marks_pass os x all.1) where
+  by : (here : Bool) → list_any (modes_conflict Mark) (modes_on x os) ≡ false
+      → list_any (modes_conflict Mark) (map (λ (q : SubOp). lock_mode_of q.deed) (cond here (o ∷ filter (λ (q : SubOp). q.item.0 == x) os) (filter (λ (q : SubOp). q.item.0 == x) os))) ≡ false
+  by true rest = rw (all.0) rest
+  by false rest = rest
+
+pub marks_meet_no_marks : (s : ScriptData) (xs : List Place) (p t x : ℕ) → IsValid s → IsMoveRun s xs
+    → first_tree (stands_against s xs p t Mark) (users_of is_update s x) ≡ None
+marks_meet_no_marks s xs p t x valid run =
+    holder_from is_update s xs p t x Mark run 0 s.trees refl
+    ∙ least_of_none (in_way is_update s xs p t x Mark) 0 (length s.trees) (λ k. false_from_ne_true (in_way is_update s xs p t x Mark k) (none k)) where
+      none : (k : ℕ) → in_way is_update s xs p t x Mark k ≡ true → ⊥
+      none k is =
+          let parts = and_parts (updates s k) (not (k == t) && conflicts_with s xs p x Mark k) is in
+          let against = right_true (not (k == t)) (conflicts_with s xs p x Mark k) parts.1 in
+          let stands = sym (stands_where s p x k (modes_conflict Mark) xs run) ∙ against in
+          let locked = right_true (not (was_let_go k p xs)) (list_any (locks_on s x k (modes_conflict Mark)) xs) stands in
+          let u = taker s xs x k (modes_conflict Mark) 0 (subs_at s k) (sym (locked_is_taken s xs x k (modes_conflict Mark)) ∙ locked) in
+          let ops : ops_of s k u.number ≡ u.sub.ops = ap ops_in u.at in
+          clash (list_any (modes_conflict Mark) (modes_on x u.sub.ops)) u.passes
+          (marks_pass u.sub.ops x (subst AreMarking ops (updates_mark s k u.number valid parts.0)))

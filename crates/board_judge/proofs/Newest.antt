@@ -9,12 +9,13 @@ use Rattle.tv_base.proofs.Truths.{left_true, right_true, same_test}
 use Rattle.letter_types.specs.declared.acts.Act.{Act}
 use Rattle.letter_types.specs.declared.acts.Act.TheVariants.{Born, Did, Turned, Showed, Swept, Finished, Waits, Parked, Voted, Freed, Decided, Applied}
 use Rattle.nc_locks.specs.declared.modes.Mode.{Mode}
-use Rattle.script_parts.specs.ScriptData.{ScriptData, ops_of, sub_at, subs_at, updates}
+use Rattle.script_parts.specs.ScriptData.{ScriptData, is_strict, is_update, ops_of, sub_at, subs_at, updates}
 use Rattle.script_parts.specs.declared.parts.Deed.{Deed}
 use Rattle.script_parts.specs.declared.parts.Deed.TheVariants as deeds
 use Rattle.script_parts.specs.declared.parts.Sub.{Sub}
 use Rattle.script_parts.specs.declared.parts.SubOp.{SubOp}
 use Rattle.script_parts.specs.declared.parts.Tree.{Tree}
+use Rattle.script_parts.specs.declared.parts.TreeKind.{TreeKind}
 use Rattle.board_rules.specs.ButCause.{IsMoveButCauseAt}
 use Rattle.board_rules.specs.Histories.{Place, applies, commits, does, version_in, was_applied, was_committed, was_done}
 use Rattle.board_rules.specs.Moves.{decides_as, was_decided_as}
@@ -25,7 +26,7 @@ use Rattle.board_rules.proofs.Once.{clash, same_tests}
 use Rattle.board_rules.proofs.Positions.{found_all, taken_is, there}
 use Rattle.board_judge.specs.declared.users.User.{User}
 use Rattle.board_judge.specs.Settled.{IsMoveRun}
-use Rattle.board_judge.specs.inside.Users.{changes_in, has_written, newest_by, ops_users, subs_users, trees_users, user_of, users_of, version_by}
+use Rattle.board_judge.specs.inside.Users.{changes_in, has_written, is_of, newest_by, ops_users, subs_users, tree_users, trees_users, user_of, users_of, version_by}
 use Rattle.board_judge.proofs.Holding.{any_at, drop_head, drop_next}
 
 -- Numbers that pass the same thresholds are equal.
@@ -116,40 +117,40 @@ in_subs test t i (suc j) x (y ∷ subs) sub at is =
     ∙ or_right (list_any test (ops_users t i x y.ops)) (list_any test (subs_users t (suc i) x subs))
     (in_subs test t (suc i) j x subs sub at (ap (λ (m : ℕ). list_any test (ops_users t m x sub.ops)) (sym next) ∙ is))
 
-in_trees : (test : User → Bool) (i t x : ℕ) (trees : List Tree) (tree : Tree) → slice_get trees t ≡ Some tree
-    → list_any test (subs_users (i + t) 0 x tree.subs) ≡ true → list_any test (trees_users i x trees) ≡ true
-in_trees test i t x [] tree at is = absurd (cc at)
-in_trees test i zero x (y ∷ trees) tree at is =
+in_trees : (of : TreeKind → Bool) (test : User → Bool) (i t x : ℕ) (trees : List Tree) (tree : Tree) → slice_get trees t ≡ Some tree
+    → of tree.kind ≡ true → list_any test (subs_users (i + t) 0 x tree.subs) ≡ true → list_any test (trees_users of i x trees) ≡ true
+in_trees of test i t x [] tree at kind is = absurd (cc at)
+in_trees of test i zero x (y ∷ trees) tree at kind is =
     let same : tree ≡ y = sym (cc at) in
     let none : i + 0 ≡ i = omega arith in
-    list_any-append test (subs_users i 0 x y.subs) (trees_users (suc i) x trees)
-    ∙ or_left (list_any test (subs_users i 0 x y.subs)) (list_any test (trees_users (suc i) x trees))
-    (ap (λ (z : Tree). list_any test (subs_users i 0 x z.subs)) (sym same) ∙ ap (λ (m : ℕ). list_any test (subs_users m 0 x tree.subs)) (sym none) ∙ is)
-in_trees test i (suc t) x (y ∷ trees) tree at is =
+    list_any-append test (tree_users of i x y) (trees_users of (suc i) x trees)
+    ∙ or_left (list_any test (tree_users of i x y)) (list_any test (trees_users of (suc i) x trees))
+    (ap (λ (z : Tree). list_any test (tree_users of i x z)) (sym same) ∙ rw kind refl ∙ ap (λ (m : ℕ). list_any test (subs_users m 0 x tree.subs)) (sym none) ∙ is)
+in_trees of test i (suc t) x (y ∷ trees) tree at kind is =
     let next : i + suc t ≡ suc i + t = omega arith in
-    list_any-append test (subs_users i 0 x y.subs) (trees_users (suc i) x trees)
-    ∙ or_right (list_any test (subs_users i 0 x y.subs)) (list_any test (trees_users (suc i) x trees))
-    (in_trees test (suc i) t x trees tree at (ap (λ (m : ℕ). list_any test (subs_users m 0 x tree.subs)) (sym next) ∙ is))
+    list_any-append test (tree_users of i x y) (trees_users of (suc i) x trees)
+    ∙ or_right (list_any test (tree_users of i x y)) (list_any test (trees_users of (suc i) x trees))
+    (in_trees of test (suc i) t x trees tree at kind (ap (λ (m : ℕ). list_any test (subs_users m 0 x tree.subs)) (sym next) ∙ is))
 
-of_tree : (s : ScriptData) (test : User → Bool) (t x : ℕ) → list_any test (subs_users t 0 x (subs_at s t)) ≡ true
-    → list_any test (users_of s x) ≡ true
-of_tree s test t x is = by (slice_get s.trees t) refl is where
-  by : (found : Option Tree) → slice_get s.trees t ≡ found
-      → list_any test (subs_users t 0 x (elim found [ Some tree ↦ tree.subs | None ↦ [] ])) ≡ true → list_any test (users_of s x) ≡ true
-  by None at so = absurd (cc so)
-  by (Some tree) at so =
+of_tree : (of : TreeKind → Bool) (s : ScriptData) (test : User → Bool) (t x : ℕ) → is_of of s t ≡ true
+    → list_any test (subs_users t 0 x (subs_at s t)) ≡ true → list_any test (users_of of s x) ≡ true
+of_tree of s test t x kind is = by (slice_get s.trees t) refl kind is where
+  by : (found : Option Tree) → slice_get s.trees t ≡ found → elim found [ Some tree ↦ of tree.kind | None ↦ false ] ≡ true
+      → list_any test (subs_users t 0 x (elim found [ Some tree ↦ tree.subs | None ↦ [] ])) ≡ true → list_any test (users_of of s x) ≡ true
+  by None at so is_so = absurd (cc so)
+  by (Some tree) at so is_so =
       let none : 0 + t ≡ t = omega arith in
-      in_trees test 0 t x s.trees tree at (ap (λ (m : ℕ). list_any test (subs_users m 0 x tree.subs)) none ∙ so)
+      in_trees of test 0 t x s.trees tree at so (ap (λ (m : ℕ). list_any test (subs_users m 0 x tree.subs)) none ∙ is_so)
 
-of_sub : (s : ScriptData) (test : User → Bool) (t j x : ℕ) → list_any test (ops_users t j x (ops_of s t j)) ≡ true
-    → list_any test (users_of s x) ≡ true
-of_sub s test t j x is = by (sub_at s t j) refl is where
+of_sub : (of : TreeKind → Bool) (s : ScriptData) (test : User → Bool) (t j x : ℕ) → is_of of s t ≡ true
+    → list_any test (ops_users t j x (ops_of s t j)) ≡ true → list_any test (users_of of s x) ≡ true
+of_sub of s test t j x kind is = by (sub_at s t j) refl is where
   by : (found : Option Sub) → sub_at s t j ≡ found
-      → list_any test (ops_users t j x (elim found [ Some sub ↦ sub.ops | None ↦ [] ])) ≡ true → list_any test (users_of s x) ≡ true
+      → list_any test (ops_users t j x (elim found [ Some sub ↦ sub.ops | None ↦ [] ])) ≡ true → list_any test (users_of of s x) ≡ true
   by None at so = absurd (cc so)
   by (Some sub) at so =
       let none : 0 + j ≡ j = omega arith in
-      of_tree s test t x (in_subs test t 0 j x (subs_at s t) sub at (ap (λ (m : ℕ). list_any test (ops_users t m x sub.ops)) none ∙ so))
+      of_tree of s test t x kind (in_subs test t 0 j x (subs_at s t) sub at (ap (λ (m : ℕ). list_any test (ops_users t m x sub.ops)) none ∙ so))
 
 -- Whose operation it is.
 record InSubs (test : User → Bool) (t i x : ℕ) (subs : List Sub) : Type 0 where
@@ -179,18 +180,22 @@ record InTree (s : ScriptData) (test : User → Bool) (x : ℕ) : Type 0 where
   number : ℕ
   is : list_any test (ops_users tree number x (ops_of s tree number)) ≡ true
 
-which_tree : (s : ScriptData) (test : User → Bool) (x k : ℕ) (trees : List Tree) → drop k s.trees ≡ trees
-    → list_any test (trees_users k x trees) ≡ true → InTree s test x
-which_tree s test x k [] from is = absurd (cc is)
-which_tree s test x k (tree ∷ trees) from is =
-    by (which_tree s test x (suc k) trees (drop_next k s.trees tree trees from))
-    (or_cases (list_any test (subs_users k 0 x tree.subs)) (list_any test (trees_users (suc k) x trees))
-    (sym (list_any-append test (subs_users k 0 x tree.subs) (trees_users (suc k) x trees)) ∙ is)) where
-      by : (list_any test (trees_users (suc k) x trees) ≡ true → InTree s test x)
-          → (list_any test (subs_users k 0 x tree.subs) ≡ true) ⊎ (list_any test (trees_users (suc k) x trees) ≡ true) → InTree s test x
+which_tree : (of : TreeKind → Bool) (s : ScriptData) (test : User → Bool) (x k : ℕ) (trees : List Tree) → drop k s.trees ≡ trees
+    → list_any test (trees_users of k x trees) ≡ true → InTree s test x
+which_tree of s test x k [] from is = absurd (cc is)
+which_tree of s test x k (tree ∷ trees) from is =
+    by (which_tree of s test x (suc k) trees (drop_next k s.trees tree trees from))
+    (or_cases (list_any test (tree_users of k x tree)) (list_any test (trees_users of (suc k) x trees))
+    (sym (list_any-append test (tree_users of k x tree) (trees_users of (suc k) x trees)) ∙ is)) where
+      kept : (b : Bool) → list_any test (if b then subs_users k 0 x tree.subs else []) ≡ true → list_any test (subs_users k 0 x tree.subs) ≡ true
+      kept true so = so
+      kept false so = absurd (cc so)
+
+      by : (list_any test (trees_users of (suc k) x trees) ≡ true → InTree s test x)
+          → (list_any test (tree_users of k x tree) ≡ true) ⊎ (list_any test (trees_users of (suc k) x trees) ≡ true) → InTree s test x
       by rest (inr later) = rest later
       by rest (inl here) =
-          let w = which_sub test k 0 x tree.subs here in
+          let w = which_sub test k 0 x tree.subs (kept (of tree.kind) here) in
           let none : 0 + w.number ≡ w.number = omega arith in
           let found : sub_at s k w.number ≡ Some w.sub
           = ap (λ (o : Option Tree). slice_get (elim o [ Some one ↦ one.subs | None ↦ [] ]) w.number) (drop_head k s.trees tree trees from) ∙ w.at in
@@ -245,18 +250,20 @@ if_some false w n lt is = absurd (let no_one = none_of w lt in cc (is, no_one))
 
 -- what an act has written, an operation has
 by_place : (s : ScriptData) (xs : List Place) (p w x i q : ℕ) (a : Act) → 0 < w → IsMoveRun s xs → slice_get xs i ≡ Some (record { node = q; act = a })
-    → nat_le w (written_by s xs x (q == p) a) ≡ true → list_any (wrote_from s xs p w) (users_of s x) ≡ true
+    → nat_le w (written_by s xs x (q == p) a) ≡ true
+    → (list_any (wrote_from s xs p w) (users_of is_update s x) || list_any (wrote_from s xs p w) (users_of is_strict s x)) ≡ true
 by_place s xs p w x i q (Did t j values) lt run at is =
     let c = if_some (updates s t.0 && ops_change x (ops_of s t.0 j.0)) w (version_or_zero (version_in t.0 xs)) lt is in
     let parts = and_parts (updates s t.0) (ops_change x (ops_of s t.0 j.0)) c.0 in
     let done : was_done t.0 j.0 xs ≡ true
     = any_at (λ (y : Place). does t.0 j.0 y.act) xs i (record { node = q; act = Did t j values }) at
     (and_from (t.0 == t.0) (j.0 == j.0) (same_test t.0) (same_test j.0)) in
-    of_sub s (wrote_from s xs p w) t.0 j.0 x
+    or_left (list_any (wrote_from s xs p w) (users_of is_update s x)) (list_any (wrote_from s xs p w) (users_of is_strict s x))
+    (of_sub is_update s (wrote_from s xs p w) t.0 j.0 x parts.0
     (wrote_ops s xs p w t.0 j.0 x (ops_of s t.0 j.0)
     ∙ and_from (ops_change x (ops_of s t.0 j.0)) (writing s xs p w t.0 j.0) parts.1
     (and_from ((updates s t.0 && was_done t.0 j.0 xs) || (was_committed t.0 xs && was_applied t.0 p xs)) (nat_le w (version_or_zero (version_in t.0 xs)))
-    (or_left (updates s t.0 && was_done t.0 j.0 xs) (was_committed t.0 xs && was_applied t.0 p xs) (and_from (updates s t.0) (was_done t.0 j.0 xs) parts.0 done)) c.1))
+    (or_left (updates s t.0 && was_done t.0 j.0 xs) (was_committed t.0 xs && was_applied t.0 p xs) (and_from (updates s t.0) (was_done t.0 j.0 xs) parts.0 done)) c.1)))
 by_place s xs p w x i q (Applied t commit) lt run at is =
     let c = if_some ((q == p) && (commit && subs_change x (subs_at s t.0))) w (version_or_zero (version_in t.0 xs)) lt is in
     let parts = and_parts (q == p) (commit && subs_change x (subs_at s t.0)) c.0 in
@@ -273,11 +280,12 @@ by_place s xs p w x i q (Applied t commit) lt run at is =
     let k = changer x 0 (subs_at s t.0) more.1 in
     let ops : ops_change x (ops_of s t.0 k.number) ≡ true
     = ap (λ (o : Option Sub). ops_change x (elim o [ Some sub ↦ sub.ops | None ↦ [] ])) k.at ∙ k.changed in
-    of_sub s (wrote_from s xs p w) t.0 k.number x
+    or_right (list_any (wrote_from s xs p w) (users_of is_update s x)) (list_any (wrote_from s xs p w) (users_of is_strict s x))
+    (of_sub is_strict s (wrote_from s xs p w) t.0 k.number x move.strict
     (wrote_ops s xs p w t.0 k.number x (ops_of s t.0 k.number)
     ∙ and_from (ops_change x (ops_of s t.0 k.number)) (writing s xs p w t.0 k.number) ops
     (and_from ((updates s t.0 && was_done t.0 k.number xs) || (was_committed t.0 xs && was_applied t.0 p xs)) (nat_le w (version_or_zero (version_in t.0 xs)))
-    (or_right (updates s t.0 && was_done t.0 k.number xs) (was_committed t.0 xs && was_applied t.0 p xs) (and_from (was_committed t.0 xs) (was_applied t.0 p xs) committed applied)) c.1))
+    (or_right (updates s t.0 && was_done t.0 k.number xs) (was_committed t.0 xs && was_applied t.0 p xs) (and_from (was_committed t.0 xs) (was_applied t.0 p xs) committed applied)) c.1)))
 by_place s xs p w x i q (Born u v) lt run at is = absurd (let no_one = none_of w lt in cc (is, no_one))
 by_place s xs p w x i q (Turned v) lt run at is = absurd (let no_one = none_of w lt in cc (is, no_one))
 by_place s xs p w x i q (Showed v) lt run at is = absurd (let no_one = none_of w lt in cc (is, no_one))
@@ -324,10 +332,11 @@ one_decision s xs t i false run committed decided =
             let acts : Decided (record { 0 = t }) true ≡ Decided (record { 0 = t }) false = sym is ∙ ap (λ (w : Place). w.act) one ∙ so in
             absurd (cc acts)
 
-by_user : (s : ScriptData) (xs : List Place) (p w x : ℕ) → 0 < w → IsMoveRun s xs → list_any (wrote_from s xs p w) (users_of s x) ≡ true
+by_user : (of : TreeKind → Bool) (s : ScriptData) (xs : List Place) (p w x : ℕ) → 0 < w → IsMoveRun s xs
+    → list_any (wrote_from s xs p w) (users_of of s x) ≡ true
     → list_any (λ (y : Place). nat_le w (written_in s xs p x y)) xs ≡ true
-by_user s xs p w x lt run is =
-    let u = which_tree s (wrote_from s xs p w) x 0 s.trees refl is in
+by_user of s xs p w x lt run is =
+    let u = which_tree of s (wrote_from s xs p w) x 0 s.trees refl is in
     let all = sym (wrote_ops s xs p w u.tree u.number x (ops_of s u.tree u.number)) ∙ u.is in
     let parts = and_parts (ops_change x (ops_of s u.tree u.number)) (writing s xs p w u.tree u.number) all in
     let how = and_parts ((updates s u.tree && was_done u.tree u.number xs) || (was_committed u.tree xs && was_applied u.tree p xs)) (nat_le w (version_or_zero (version_in u.tree xs))) parts.1 in
@@ -359,12 +368,19 @@ by_user s xs p w x lt run is =
       of_ops t j None at so = absurd (cc so)
       of_ops t j (Some sub) at so = changed_in x j (subs_at s t) sub at so
 
-pub newest_is : (s : ScriptData) (xs : List Place) (p x : ℕ) → IsMoveRun s xs → newest_by s xs p (users_of s x) ≡ newest_of s xs p x
+pub newest_is : (s : ScriptData) (xs : List Place) (p x : ℕ) → IsMoveRun s xs
+    → max (newest_by s xs p (users_of is_update s x)) (newest_by s xs p (users_of is_strict s x)) ≡ newest_of s xs p x
 newest_is s xs p x run =
-    same_numbers (newest_by s xs p (users_of s x)) (newest_of s xs p x)
+    same_numbers (max (newest_by s xs p (users_of is_update s x)) (newest_by s xs p (users_of is_strict s x))) (newest_of s xs p x)
     (λ w lt.
-    newest_at_least s xs p w lt (users_of s x)
-    ∙ same_tests (list_any (wrote_from s xs p w) (users_of s x)) (list_any (λ (y : Place). nat_le w (written_in s xs p x y)) xs)
-    (by_user s xs p w x lt run)
+    le_max w (newest_by s xs p (users_of is_update s x)) (newest_by s xs p (users_of is_strict s x))
+    ∙ ap (λ (b : Bool). b || nat_le w (newest_by s xs p (users_of is_strict s x))) (newest_at_least s xs p w lt (users_of is_update s x))
+    ∙ ap (λ (b : Bool). list_any (wrote_from s xs p w) (users_of is_update s x) || b) (newest_at_least s xs p w lt (users_of is_strict s x))
+    ∙ same_tests (list_any (wrote_from s xs p w) (users_of is_update s x) || list_any (wrote_from s xs p w) (users_of is_strict s x))
+    (list_any (λ (y : Place). nat_le w (written_in s xs p x y)) xs)
+    (λ is. elim (or_cases (list_any (wrote_from s xs p w) (users_of is_update s x)) (list_any (wrote_from s xs p w) (users_of is_strict s x)) is) [
+      | inl up ↦ by_user is_update s xs p w x lt run up
+      | inr strict ↦ by_user is_strict s xs p w x lt run strict
+    ])
     (λ is. let f = found_all (λ (y : Place). nat_le w (written_in s xs p x y)) xs is in by_place s xs p w x f.place f.item.node f.item.act lt run f.is f.passes)
     ∙ sym (fold_at_least (written_in s xs p x) w xs 0 ∙ ap (λ (b : Bool). b || list_any (λ (y : Place). nat_le w (written_in s xs p x y)) xs) (none_of w lt)))

@@ -1,6 +1,6 @@
 -- Who has which item in which mode, by what trees have done and voted: the operations on an item, tree by tree, and which of
 -- them stand.
-use Rattle.std.specs.Prelude.{if◌then◌else◌, ℕ, suc, max, Bool, true, false, not, ◌==◌, ◌&&◌, ◌||◌, List, [], ◌∷◌, ◌++◌, Option, Some, None}
+use Rattle.std.specs.Prelude.{if◌then◌else◌, ℕ, suc, max, Bool, true, false, not, ◌==◌, ◌&&◌, ◌||◌, List, [], ◌∷◌, ◌++◌, Option, Some, None, min, slice_get}
 use Rattle.std.specs.List.{list_any}
 use Rattle.nc_locks.specs.Modes.{modes_conflict}
 use Rattle.nc_locks.specs.declared.modes.Mode.{Mode}
@@ -9,6 +9,7 @@ use Rattle.script_parts.specs.ScriptData.{ScriptData, ops_of, subs_at, updates}
 use Rattle.script_parts.specs.declared.parts.Sub.{Sub}
 use Rattle.script_parts.specs.declared.parts.SubOp.{SubOp}
 use Rattle.script_parts.specs.declared.parts.Tree.{Tree}
+use Rattle.script_parts.specs.declared.parts.TreeKind.{TreeKind}
 use Rattle.board_rules.specs.Histories.{Place, version_in, was_applied, was_committed, was_done}
 use Rattle.board_rules.specs.Stands.{lock_mode_of, modes_on, version_or_zero, voted_yes, was_freed}
 use Rattle.board_judge.specs.declared.users.User.{User}
@@ -23,7 +24,7 @@ any_taken s xs x k test j [] = false
 any_taken s xs x k test j (sub ∷ subs) =
     (has_taken s xs k j && list_any test (modes_on x sub.ops)) || any_taken s xs x k test (suc j) subs
 
--- the operations of a script on item x, in order of trees, subtransactions and operations
+-- the operations of a script's trees of a kind on item x, in order of trees, subtransactions and operations
 abbrev pub user_of : ℕ → ℕ → SubOp → User
 user_of t j o = record { tree = record { 0 = t }; sub = record { 0 = j }; mode = lock_mode_of o.deed }
 
@@ -35,12 +36,15 @@ abbrev pub subs_users : ℕ → ℕ → ℕ → List Sub → List User
 subs_users t j x [] = []
 subs_users t j x (sub ∷ subs) = ops_users t j x sub.ops ++ subs_users t (suc j) x subs
 
-abbrev pub trees_users : ℕ → ℕ → List Tree → List User
-trees_users t x [] = []
-trees_users t x (tree ∷ trees) = subs_users t 0 x tree.subs ++ trees_users (suc t) x trees
+abbrev pub tree_users : (TreeKind → Bool) → ℕ → ℕ → Tree → List User
+tree_users of t x tree = if of tree.kind then subs_users t 0 x tree.subs else []
 
-abbrev pub users_of : ScriptData → ℕ → List User
-users_of s x = trees_users 0 x s.trees
+abbrev pub trees_users : (TreeKind → Bool) → ℕ → ℕ → List Tree → List User
+trees_users of t x [] = []
+trees_users of t x (tree ∷ trees) = tree_users of t x tree ++ trees_users of (suc t) x trees
+
+abbrev pub users_of : (TreeKind → Bool) → ScriptData → ℕ → List User
+users_of of s x = trees_users of 0 x s.trees
 
 -- what tree k has at node p was let go
 abbrev pub was_let_go : ℕ → ℕ → List Place → Bool
@@ -51,6 +55,16 @@ abbrev pub stands_against : ScriptData → List Place → ℕ → ℕ → Mode �
 stands_against s xs p t mode u =
     not (u.tree.0 == t)
     && (not (was_let_go u.tree.0 p xs) && (has_taken s xs u.tree.0 u.sub.0 && modes_conflict mode u.mode))
+
+-- tree k is there, and is of this kind
+abbrev pub is_of : (TreeKind → Bool) → ScriptData → ℕ → Bool
+is_of of s k = elim (slice_get s.trees k) [ Some tree ↦ of tree.kind | None ↦ false ]
+
+-- the lesser of two numbers, if there are two
+abbrev pub lesser : Option ℕ → Option ℕ → Option ℕ
+lesser None b = b
+lesser (Some a) None = Some a
+lesser (Some a) (Some b) = Some (min a b)
 
 -- the tree of the first operation that passes
 abbrev pub first_tree : (User → Bool) → List User → Option ℕ
