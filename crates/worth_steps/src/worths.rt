@@ -72,8 +72,13 @@ impl Worths {
                 })
             }
             None => {
-                let change =
-                    steps::note_step(self.kind, &self.first, &mut self.steps, version, deed)?;
+                let change = steps::note_step(
+                    self.kind,
+                    &self.first,
+                    &mut self.steps,
+                    version,
+                    deed,
+                )?;
                 Ok(Change {
                     changed: Changed::Steps(change),
                 })
