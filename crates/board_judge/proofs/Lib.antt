@@ -3,3 +3,4 @@ pub mod StandingNow
 pub mod Holding
 pub mod Newest
 pub mod NotedWorth
+pub mod Listing

@@ -1,11 +1,11 @@
 -- Who has which item in which mode, by what trees have done and voted: the operations on an item, tree by tree, and which of
 -- them stand.
-use Rattle.std.specs.Prelude.{if◌then◌else◌, ℕ, suc, max, Bool, true, false, not, ◌==◌, ◌&&◌, ◌||◌, List, [], ◌∷◌, ◌++◌, Option, Some, None, min, slice_get}
+use Rattle.std.specs.Prelude.{if◌then◌else◌, ℕ, suc, max, Bool, true, false, not, ◌==◌, ◌&&◌, ◌||◌, List, [], ◌∷◌, ◌++◌, ◌≡◌, ◌<◌, length, get_or, Option, Some, None, min, slice_get}
 use Rattle.std.specs.List.{list_any}
 use Rattle.nc_locks.specs.Modes.{modes_conflict}
 use Rattle.nc_locks.specs.declared.modes.Mode.{Mode}
 use Rattle.nc_locks.specs.declared.modes.Mode.TheVariants.{Mark, Look, Hold}
-use Rattle.script_parts.specs.ScriptData.{ScriptData, ops_of, subs_at, updates}
+use Rattle.script_parts.specs.ScriptData.{ScriptData, is_strict, is_update, ops_of, subs_at, updates}
 use Rattle.script_parts.specs.declared.parts.Sub.{Sub}
 use Rattle.script_parts.specs.declared.parts.SubOp.{SubOp}
 use Rattle.script_parts.specs.declared.parts.Tree.{Tree}
@@ -90,3 +90,20 @@ version_by xs u = version_or_zero (version_in u.tree.0 xs)
 abbrev pub newest_by : ScriptData → List Place → ℕ → List User → ℕ
 newest_by s xs p [] = 0
 newest_by s xs p (u ∷ us) = if has_written s xs p u then max (version_by xs u) (newest_by s xs p us) else newest_by s xs p us
+
+-- Lists by item.
+
+-- each list has these more at its end
+pub record HasMore (more : ℕ → List User) (olds news : List (List User)) : Type 0 where
+  pub count : length news ≡ length olds
+  pub each : (x : ℕ) → x < length olds → get_or news x [] ≡ get_or olds x [] ++ more x
+
+-- there are so many lists, and nothing is in them
+pub record HasNone (items : ℕ) (lists : List (List User)) : Type 0 where
+  pub count : length lists ≡ items
+  pub each : (x : ℕ) → get_or lists x [] ≡ []
+
+-- for each item they are the operations of the script's strict trees on it, or of its update trees
+pub record AreUsersBy (s : ScriptData) (strict : Bool) (lists : List (List User)) : Type 0 where
+  pub count : length lists ≡ length s.items
+  pub each : (x : ℕ) → x < length lists → get_or lists x [] ≡ users_of (λ (k : TreeKind). if strict then is_strict k else is_update k) s x
