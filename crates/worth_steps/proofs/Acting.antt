@@ -240,7 +240,7 @@ acting_by : (k : Kind) (v : ℕ) (d : Deed) (s : Step) (ss : List Step) (u : ℕ
     → (b c e g : Bool) → nat_lt s.version.0 v ≡ b → (s.version.0 == v) ≡ c → (v == u) ≡ e → (s.version.0 == u) ≡ g
     → acting k (if b then s ∷ edited v d ss else at_place v d s ss c) u n
     ≡ (if e then changed_number (if g then act_on k s.cut s.own n else acting k ss u n) d
-       else if g then act_on k s.cut s.own n else acting k ss u n)
+    else if g then act_on k s.cut s.own n else acting k ss u n)
 acting_by k v d s ss u n apart f new up rest true c true true is same here now = absurd (let not : s.version.0 < s.version.0 = grind (arith, nat_tests) in omega (arith, not))
 acting_by k v d s ss u n apart f new up rest true c true false is same here now = rw now (rest ∙ rw here refl)
 acting_by k v d s ss u n apart f new up rest true c false true is same here now = rw now refl
@@ -309,17 +309,17 @@ pub steps_more : (k : Kind) (first : ℤ) (ns : List Noted) (ss : List Step) (x 
     → AreSteps k first (ns ++ x ∷ []) (revalued k first (edited x.version x.deed ss))
 steps_more k first ns ss x apart f new up are = record {
   acts = λ u n.
-    deeds_by u ns x (value_start k n)
-    ∙ choose k (x.version == u) (fold after_noted (value_start k n) (noted_in u ns)) (acting k ss u n) x.deed apart f (are.acts u n)
-    ∙ ap (value_start k) (sym (acting_edited k x.version x.deed ss u n apart f new up)
+      deeds_by u ns x (value_start k n)
+      ∙ choose k (x.version == u) (fold after_noted (value_start k n) (noted_in u ns)) (acting k ss u n) x.deed apart f (are.acts u n)
+      ∙ ap (value_start k) (sym (acting_edited k x.version x.deed ss u n apart f new up)
       ∙ sym (acting_valued k first (edited x.version x.deed ss) u n));
   chained = chained_valued k first (edited x.version x.deed ss);
   newest =
-    last_more ns x
-    ∙ ap (λ (b : Bool). if b then max x.version (last_altered ns) else last_altered ns) new
-    ∙ ap (max x.version) are.newest
-    ∙ sym (newest_edited x.version x.deed ss)
-    ∙ sym (newest_valued k first (edited x.version x.deed ss));
+      last_more ns x
+      ∙ ap (λ (b : Bool). if b then max x.version (last_altered ns) else last_altered ns) new
+      ∙ ap (max x.version) are.newest
+      ∙ sym (newest_edited x.version x.deed ss)
+      ∙ sym (newest_valued k first (edited x.version x.deed ss));
 }
 
 pub steps_ascend : (k : Kind) (first : ℤ) (v : ℕ) (d : Deed) (ss : List Step) → Ascends ss → Ascends (revalued k first (edited v d ss))

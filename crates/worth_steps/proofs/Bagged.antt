@@ -135,7 +135,7 @@ more_by : (v : ℕ) (p x : Put) (xs : List Put) → AllFrom x.number xs
     → (le new old : Bool) → int_le p.number x.number ≡ le → nat_le p.version.0 v ≡ new → nat_le x.version.0 v ≡ old
     → shown_to v (if le then p ∷ x ∷ xs else x ∷ with_put p xs)
     ≡ (if new then with_number p.number (if old then x.number ∷ shown_to v xs else shown_to v xs)
-       else (if old then x.number ∷ shown_to v xs else shown_to v xs))
+    else (if old then x.number ∷ shown_to v xs else shown_to v xs))
 more_by v p x xs up rest true true true le new old = rw (new, old, le) refl
 more_by v p x xs up rest true true false le new old =
     rw (new, old) (sym (front_is p.number v xs (from_less p.number x.number xs (let lt : p.number ≤ℤ x.number = grind (arith, ints, le) in lt) up)))
@@ -191,11 +191,11 @@ pub puts_more : (ns : List Noted) (ps : List Put) (p : Put) → Rises ps → Are
     → ArePuts (ns ++ a_put p.version.0 p.number ∷ []) (with_put p ps)
 puts_more ns ps p up are = record {
   shows = λ v.
-    bag_more p.version.0 p.number ns (λ u. shown_to u ps) are.shows v
-    ∙ put_by p.number (shown_to v ps) (worth_of (Bag []) ns v) (nat_le p.version.0 v) (are.shows v)
-    ∙ ap Bag (sym (shown_more v p ps up));
+      bag_more p.version.0 p.number ns (λ u. shown_to u ps) are.shows v
+      ∙ put_by p.number (shown_to v ps) (worth_of (Bag []) ns v) (nat_le p.version.0 v) (are.shows v)
+      ∙ ap Bag (sym (shown_more v p ps up));
   newest =
-    last_more ns (a_put p.version.0 p.number) ∙ ap (max p.version.0) are.newest ∙ sym (newest_more p ps);
+      last_more ns (a_put p.version.0 p.number) ∙ ap (max p.version.0) are.newest ∙ sym (newest_more p ps);
 }
 
 worth_none : (v : ℕ) → worth_of (Bag []) [] v ≡ Bag []
@@ -243,8 +243,8 @@ put_shown v ps i d bag next lt le is made =
     let shown : nat_le x.version.0 v ≡ true = grind (arith, nat_tests) in
     made ∙ ap (λ (w : Value). applied w (ops.Put x.number)) is
     ∙ ap (λ (ns : List ℤ). Bag ns) (sym (
-      ap (filled []) (shown_push v ps i d lt ∙ ap (λ (b : Bool). shown_to v (take i ps) ++ (if b then x.number ∷ [] else [])) shown)
-      ∙ fold-append (λ (ms : List ℤ) (n : ℤ). with_number n ms) [] (shown_to v (take i ps)) (x.number ∷ [])))
+    ap (filled []) (shown_push v ps i d lt ∙ ap (λ (b : Bool). shown_to v (take i ps) ++ (if b then x.number ∷ [] else [])) shown)
+    ∙ fold-append (λ (ms : List ℤ) (n : ℤ). with_number n ms) [] (shown_to v (take i ps)) (x.number ∷ [])))
 
 pub put_hidden : (v : ℕ) (ps : List Put) (i : ℕ) (d : Put) (bag : Value) → i < length ps → v < (get_or ps i d).version.0
     → bag ≡ Bag (filled [] (shown_to v (take i ps))) → bag ≡ Bag (filled [] (shown_to v (take (i + 1) ps)))
@@ -252,8 +252,8 @@ put_hidden v ps i d bag lt over is =
     let x : Put = get_or ps i d in
     let hidden : nat_le x.version.0 v ≡ false = grind (arith, nat_tests) in
     is ∙ ap (λ (ns : List ℤ). Bag (filled [] ns)) (sym (
-      shown_push v ps i d lt ∙ ap (λ (b : Bool). shown_to v (take i ps) ++ (if b then x.number ∷ [] else [])) hidden
-      ∙ append-nil (shown_to v (take i ps))))
+    shown_push v ps i d lt ∙ ap (λ (b : Bool). shown_to v (take i ps) ++ (if b then x.number ∷ [] else [])) hidden
+    ∙ append-nil (shown_to v (take i ps))))
 
 -- at the end all are gone over
 pub filled_all : (v : ℕ) (ps : List Put) (i : ℕ) (bag : Value) → Rises ps → length ps ≤ i
@@ -290,7 +290,7 @@ pub not_shown : (v : ℕ) (ps : List Put) (ns : List ℤ) (i m : ℕ) (d : Put) 
     → (slice_get ns m ≡ Some (get_or ps i d).number → ⊥) → shown_to v ps ≡ ns → ⊥
 not_shown v ps ns i m d lt le within met other same =
     other (next_is m ns (get_or ps i d).number (shown_to v (drop (i + 1) ps)) within
-      (ap (λ (xs : List ℤ). take m ns ++ xs) (sym (rest_shown v ps i d lt le)) ∙ met ∙ same))
+    (ap (λ (xs : List ℤ). take m ns ++ xs) (sym (rest_shown v ps i d lt le)) ∙ met ∙ same))
 
 at_within : (m : ℕ) (ns : List ℤ) (n : ℤ) → slice_get ns m ≡ Some n → m + 1 ≤ length ns
 at_within m [] n at = absurd (cc at)
@@ -306,9 +306,10 @@ pub is_shown : (v : ℕ) (ps : List Put) (ns : List ℤ) (i m : ℕ) (d : Put) �
     → take m ns ++ shown_to v (drop i ps) ≡ shown_to v ps → slice_get ns m ≡ Some (get_or ps i d).number
     → (m + 1 ≤ length ns) × (take (m + 1) ns ++ shown_to v (drop (i + 1) ps) ≡ shown_to v ps)
 is_shown v ps ns i m d lt le met at =
-    let x : Put = get_or ps i d in
-    (at_within m ns x.number at,
-     ap (λ (xs : List ℤ). xs ++ shown_to v (drop (i + 1) ps)) (take_next m ns x.number at)
-     ∙ append_assoc (take m ns) (x.number ∷ []) (shown_to v (drop (i + 1) ps))
-     ∙ ap (λ (xs : List ℤ). take m ns ++ xs) (sym (rest_shown v ps i d lt le))
-     ∙ met)
+    let x : Put = get_or ps i d in (
+      at_within m ns x.number at,
+      ap (λ (xs : List ℤ). xs ++ shown_to v (drop (i + 1) ps)) (take_next m ns x.number at)
+          ∙ append_assoc (take m ns) (x.number ∷ []) (shown_to v (drop (i + 1) ps))
+          ∙ ap (λ (xs : List ℤ). take m ns ++ xs) (sym (rest_shown v ps i d lt le))
+          ∙ met,
+    )

@@ -150,7 +150,7 @@ noted_step first ns u d k n ss ts ps f new none made are =
       ascends = subst Ascends is (steps_ascend k n u d ss are.ascends);
       rises = are.rises;
       kept = of_steps k n (ns ++ x ∷ []) ts ps apart
-        (subst (AreSteps k n (ns ++ x ∷ [])) is (steps_more k n ns ss x apart f new are.ascends steps));
+          (subst (AreSteps k n (ns ++ x ∷ [])) is (steps_more k n ns ss x apart f new are.ascends steps));
     }
 
 -- Before any deed.

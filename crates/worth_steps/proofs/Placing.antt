@@ -35,7 +35,7 @@ point_is v (s ∷ ss) zero le point =
 point_is v (s ∷ ss) (suc i) le point =
     let is : nat_le s.version.0 v ≡ true = point.0 zero s (omega arith) (omega arith) in
     rw is (ap suc (point_is v ss i (omega arith)
-      (λ k d low high. point.0 (suc k) d (omega arith) (omega arith), λ k d low high. point.1 (suc k) d (omega arith) (omega arith))))
+    (λ k d low high. point.0 (suc k) d (omega arith) (omega arith), λ k d low high. point.1 (suc k) d (omega arith) (omega arith))))
 
 -- what stands at a place, as a look-up has it
 version_at : (ss : List Step) (i : ℕ) (x d : Step) → slice_get ss i ≡ Some x → i < length ss
@@ -50,12 +50,14 @@ length_some (s ∷ ss) x at = omega arith
 pub all_up_to : (v : ℕ) (ss : List Step) (i : ℕ) (x : Step) → Ascends ss → i + 1 ≡ length ss → slice_get ss i ≡ Some x
     → x.version.0 ≤ v → length ss ≡ steps_up_to v ss
 all_up_to v ss i x up len at le =
-    point_is v ss (length ss) (omega arith)
-    (λ k d low high.
-      let most = rising ss up k i d (omega arith) (omega arith) in
-      let last = version_at ss i x d at (omega arith) in
-      let most_of : (get_or ss k d).version.0 ≤ v = omega arith in
-      grind (arith, nat_tests), λ k d low high. absurd (omega arith))
+    point_is v ss (length ss) (omega arith) (
+      λ k d low high.
+          let most = rising ss up k i d (omega arith) (omega arith) in
+          let last = version_at ss i x d at (omega arith) in
+          let most_of : (get_or ss k d).version.0 ≤ v = omega arith in
+          grind (arith, nat_tests),
+      λ k d low high. absurd (omega arith),
+    )
 
 -- the last step is of the greatest version
 pub last_is_newest : (ss : List Step) (i : ℕ) (x : Step) → Ascends ss → i + 1 ≡ length ss → slice_get ss i ≡ Some x
@@ -123,12 +125,12 @@ stands_tail (suc p) v s ss none = none
 begin_by : (k : Kind) (first : ℤ) (v : ℕ) (d : Deed) (s : Step) (ss : List Step) → AllAbove s.version.0 ss
     → s.value ≡ act_on k s.cut s.own first
     → (stands_before (steps_up_to v ss) v ss ≡ false
-      → take (steps_up_to v ss) ss ++ revalued k (number_below s.value (steps_up_to v ss) ss) (step_begun v d ∷ drop (steps_up_to v ss) ss)
-      ≡ revalued k s.value (edited v d ss))
+    → take (steps_up_to v ss) ss ++ revalued k (number_below s.value (steps_up_to v ss) ss) (step_begun v d ∷ drop (steps_up_to v ss) ss)
+    ≡ revalued k s.value (edited v d ss))
     → (b c e : Bool) → nat_le s.version.0 v ≡ b → nat_lt s.version.0 v ≡ c → (s.version.0 == v) ≡ e
     → stands_before (if b then suc (steps_up_to v ss) else 0) v (s ∷ ss) ≡ false
     → take (if b then suc (steps_up_to v ss) else 0) (s ∷ ss)
-      ++ revalued k (number_below first (if b then suc (steps_up_to v ss) else 0) (s ∷ ss)) (step_begun v d ∷ drop (if b then suc (steps_up_to v ss) else 0) (s ∷ ss))
+    ++ revalued k (number_below first (if b then suc (steps_up_to v ss) else 0) (s ∷ ss)) (step_begun v d ∷ drop (if b then suc (steps_up_to v ss) else 0) (s ∷ ss))
     ≡ revalued k first (if c then s ∷ edited v d ss else at_place v d s ss e)
 begin_by k first v d s ss up made rest true true e le lt eq none =
     in_front k first s (steps_up_to v ss) (step_begun v d) ss (drop (steps_up_to v ss) ss) (edited v d ss) made (up_to_le v ss)
@@ -160,7 +162,7 @@ begin_is k first v d (s ∷ ss) up chain none =
 go_on_by : (k : Kind) (first : ℤ) (v : ℕ) (d : Deed) (s x : Step) (ss : List Step) (q : ℕ) → AllAbove s.version.0 ss
     → s.value ≡ act_on k s.cut s.own first → (x.version.0 == v) ≡ true
     → ((r : ℕ) → steps_up_to v ss ≡ suc r → slice_get ss r ≡ Some x
-      → take r ss ++ revalued k (number_below s.value r ss) (step_gone_on d x ∷ drop (suc r) ss) ≡ revalued k s.value (edited v d ss))
+    → take r ss ++ revalued k (number_below s.value r ss) (step_gone_on d x ∷ drop (suc r) ss) ≡ revalued k s.value (edited v d ss))
     → (b c e : Bool) → nat_le s.version.0 v ≡ b → nat_lt s.version.0 v ≡ c → (s.version.0 == v) ≡ e
     → (if b then suc (steps_up_to v ss) else 0) ≡ suc q → slice_get (s ∷ ss) q ≡ Some x
     → take q (s ∷ ss) ++ revalued k (number_below first q (s ∷ ss)) (step_gone_on d x ∷ drop (suc q) (s ∷ ss))
@@ -198,7 +200,7 @@ go_on_is k first v d (s ∷ ss) q x up chain is place at =
 there_by : (k : Kind) (first : ℤ) (v : ℕ) (d : Deed) (ss new : List Step) (q : ℕ) (o : Option Step) → Ascends ss → Chained k first ss
     → suc q ≡ steps_up_to v ss → slice_get ss q ≡ o → (elim o [ None ↦ false | Some s ↦ s.version.0 == v ]) ≡ true
     → ((s : Step) → slice_get ss q ≡ Some s
-      → new ≡ take q ss ++ revalued k (number_below first q ss) (step_gone_on d s ∷ drop (suc q) ss))
+    → new ≡ take q ss ++ revalued k (number_below first q ss) (step_gone_on d s ∷ drop (suc q) ss))
     → new ≡ revalued k first (edited v d ss)
 there_by k first v d ss new q None up chain place at is made = absurd (cc is)
 there_by k first v d ss new q (Some x) up chain place at is made = made x at ∙ go_on_is k first v d ss q x up chain is (sym place) at
@@ -206,14 +208,14 @@ there_by k first v d ss new q (Some x) up chain place at is made = made x at ∙
 pub noted_there : (k : Kind) (first : ℤ) (v : ℕ) (d : Deed) (ss new : List Step) (place : ℕ) → Ascends ss → Chained k first ss
     → place ≡ steps_up_to v ss → stands_before place v ss ≡ true
     → ((s : Step) → slice_get ss (place - 1) ≡ Some s
-      → new ≡ take (place - 1) ss ++ revalued k (number_below first (place - 1) ss) (step_gone_on d s ∷ drop (suc (place - 1)) ss))
+    → new ≡ take (place - 1) ss ++ revalued k (number_below first (place - 1) ss) (step_gone_on d s ∷ drop (suc (place - 1)) ss))
     → new ≡ revalued k first (edited v d ss)
 noted_there k first v d ss new zero up chain is stands made = absurd (cc stands)
 noted_there k first v d ss new (suc q) up chain is stands made =
     let front : suc q - 1 ≡ q = omega arith in
     there_by k first v d ss new q (slice_get ss q) up chain is refl stands
     (subst (λ (p : ℕ). (s : Step) → slice_get ss p ≡ Some s
-      → new ≡ take p ss ++ revalued k (number_below first p ss) (step_gone_on d s ∷ drop (suc p) ss)) front made)
+    → new ≡ take p ss ++ revalued k (number_below first p ss) (step_gone_on d s ∷ drop (suc p) ss)) front made)
 
 pub noted_new : (k : Kind) (first : ℤ) (v : ℕ) (d : Deed) (ss new : List Step) (x : Step) (place : ℕ) → Ascends ss → Chained k first ss
     → place ≡ steps_up_to v ss → stands_before place v ss ≡ false → x ≡ step_begun v d

@@ -109,7 +109,7 @@ put_back_over p ss above x y lt at same =
     ∙ ap (λ (xs : List Step). steps_over (p + 1) xs (slice_set (take p ss ++ y ∷ above) p x)) (drop-set-lt (p + 1) ss p y (omega arith))
     ∙ ap (steps_over (p + 1) (drop (p + 1) ss)) set
     ∙ ap (λ (xs : List Step). xs ++ take (length (take p ss ++ x ∷ above) - (p + 1)) (drop (p + 1) ss))
-      (ap (take (p + 1)) (sym (append_assoc (take p ss) (x ∷ []) above)) ∙ take_at (take p ss ++ x ∷ []) above (p + 1) (omega (arith, length_push (take p ss) x)))
+    (ap (take (p + 1)) (sym (append_assoc (take p ss) (x ∷ []) above)) ∙ take_at (take p ss ++ x ∷ []) above (p + 1) (omega (arith, length_push (take p ss) x)))
     ∙ ap (λ (xs : List Step). take p ss ++ x ∷ [] ++ xs) (take_all (length (take p ss ++ x ∷ above) - (p + 1)) (drop (p + 1) ss) (omega arith))
     ∙ ap (λ (xs : List Step). xs ++ drop (p + 1) ss) (ap (λ (z : Step). take p ss ++ z ∷ []) at ∙ sym (take_more ss p x lt))
     ∙ take-append-drop (p + 1) ss

@@ -24,10 +24,10 @@ loop-put-preserved c =
             met = ap (λ (k : ℕ). take k ns ++ shown_to v (drop (i + 1) ps)) w.met-is ∙ next.1;
           }
       | else-put-version w ↦ record {
-          within = omega (arith, w.met-is, c.loop-put.invariant.within);
-          met =
+        within = omega (arith, w.met-is, c.loop-put.invariant.within);
+        met =
             ap (λ (k : ℕ). take k ns ++ shown_to v (drop (i + 1) ps)) w.met-is
             ∙ ap (λ xs. take m ns ++ xs) (sym (rest_hidden v ps i _ c.loop-put-test.true w.if-put-version.false))
             ∙ c.loop-put.invariant.met;
-        }
+      }
     ]
