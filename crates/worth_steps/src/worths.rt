@@ -4,7 +4,7 @@ ghost use Rattle.commute_ops.specs.declared.value.Value.{Value};
 ghost use Rattle.worth_steps.specs.Kept.{AreWorths, taken_back};
 ghost use Rattle.worth_steps.specs.Steps.{seen_to};
 ghost use Rattle.worth_steps.specs.Worth.{MayBegin, Noted, alters, deed_suits, last_altered, value_kind, worth_of};
-ghost use Rattle.worth_steps.specs.inside.Showing.{AreOrdered, newest_as, shown_value, value_number};
+ghost use Rattle.worth_steps.specs.inside.Showing.{AreOrdered, newest_by_kind, shown_value, value_number};
 
 use crate::change::{Change, Changed};
 use crate::puts::{self, Put};
@@ -155,7 +155,7 @@ impl Worths {
 
     /// The greatest version of a step or a put.
     fn newest(&self) -> Version
-        ensures { AreOrdered self.now → result.0 ≡ newest_as self.now.kind self.now }
+        ensures { AreOrdered self.now → result.0 ≡ newest_by_kind self.now.kind self.now }
     {
         match self.kind {
             Kind::Bag => puts::newest_put(&self.puts),

@@ -1,4 +1,4 @@
-use Rattle.std.proofs.Common.{◌≡◌, ◌∙◌}
+use Rattle.std.proofs.Common.{◌∙◌}
 use Rattle.worth_steps.proofs.Noting.{ordered, shown_is_worth}
 use Rattle.worth_steps.proofs.worths.Worths.at.Goals as goal
 
