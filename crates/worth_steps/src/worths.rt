@@ -94,14 +94,15 @@ impl Worths {
     {
         match &change.changed {
             Changed::Nothing => {}
-            Changed::Steps(steps) => steps::take_back(&mut self.steps, steps),
+            Changed::Steps(change) => steps::take_back(&mut self.steps, change),
             Changed::Put(place) => puts::take_out(&mut self.puts, *place),
         }
     }
 
     /// What the item is worth at a version. Only a bag needs memory.
     pub fn at(&self, alloc: Global, version: Version) -> Result<Value, NoMemory>
-        ensures { IfOk result (λ w. (first : Value) (ns : List Noted) → AreWorths first ns self.now → w ≡ worth_of first ns version.0) }
+        ensures worth { IfOk result (λ w. (first : Value) (ns : List Noted) → AreWorths first ns self.now → w ≡ worth_of first ns version.0) }
+        ensures only_bags { OnErr result (self.now.kind ≡ Kind.Bag) }
     {
         let value = self.shown(alloc, version)?;
         Ok(value)
@@ -131,7 +132,8 @@ impl Worths {
 
     /// The value at a version, by what is kept.
     fn shown(&self, alloc: Global, version: Version) -> Result<Value, NoMemory>
-        ensures { IfOk result (λ w. AreOrdered self.now → w ≡ shown_value self.now version.0) }
+        ensures shown { IfOk result (λ w. AreOrdered self.now → w ≡ shown_value self.now version.0) }
+        ensures only_bags { OnErr result (self.now.kind ≡ Kind.Bag) }
     {
         match self.kind {
             Kind::Sum => Ok(Value::Sum(SumValue(*self.number(version)))),
