@@ -1,25 +1,23 @@
 -- The steps of a sum or a top are what its deeds are worth, whatever versions they come in.
-use Rattle.std.proofs.Common.{◌≡◌, ℕ, zero, suc, ◌<◌, ◌≤◌, Bool, true, false, IsTrue, List, [], ◌∷◌, ◌++◌, refl, ℤ, max, map, ap, sym, ◌∙◌, subst, arith}
+use Rattle.std.proofs.Common.{◌≡◌, ℕ, zero, suc, ◌<◌, ◌≤◌, Bool, true, false, IsTrue, List, [], ◌∷◌, ◌++◌, refl, ℤ, max, map, ap, sym, ◌∙◌, arith}
 use Rattle.std.specs.Prelude.{if◌then◌else◌, ◌==◌, ◌||◌, ◌+ℤ◌, ◌-ℤ◌, cond, filter, fold, nat_lt, nat_le, pos}
 use Rattle.std.specs.Int.{int_max}
 use Rattle.std.proofs.lemmas.Bool.Decides.{nat_tests}
 use Rattle.std.proofs.lemmas.Int.{ints, clamps}
 use Rattle.std.proofs.lemmas.List.Elements.{filter-append}
-use Rattle.std.proofs.lemmas.List.Recursion.{max_push}
 use Rattle.std.proofs.lemmas.List.Sums.{fold-append}
 use Rattle.commute_ops.specs.declared.kinds.Kind.{Kind}
 use Rattle.commute_ops.specs.declared.kinds.Kind.TheVariants.{Sum, Top, Bag}
 use Rattle.commute_ops.specs.declared.kinds.Op.TheVariants as ops
 use Rattle.commute_ops.specs.declared.value.Value.{Value}
-use Rattle.commute_ops.specs.declared.value.Value.TheVariants as values
 use Rattle.commute_ops.specs.Ops.{value_start}
 use Rattle.script_parts.specs.Deeds.{after_deed}
 use Rattle.script_parts.specs.declared.parts.Deed.{Deed}
 use Rattle.script_parts.specs.declared.parts.Deed.TheVariants.{Apply, Get, Set, Draw}
 use Rattle.worth_steps.specs.declared.steps.Step.{Step}
 use Rattle.worth_steps.specs.Worth.{Noted, after_noted, alters, deed_suits, greatest, in_order, last_altered, noted_in, worth_of}
-use Rattle.worth_steps.specs.Steps.{AllAbove, AreSteps, Ascends, Chained, act_on, acting, join, newest_step, seen_to}
-use Rattle.worth_steps.specs.inside.Editing.{at_place, changed_number, edited, first_own, is_set, revalued, step_begun, step_gone_on, step_valued}
+use Rattle.worth_steps.specs.Steps.{AllAbove, AreSteps, Ascends, Chained, act_on, acting, newest_step, seen_to}
+use Rattle.worth_steps.specs.inside.Editing.{at_place, changed_number, edited, first_own, is_set, revalued}
 
 -- Arithmetic: what a further deed makes.
 

@@ -1,15 +1,13 @@
 -- What is kept of a bag shows what it is worth at each version.
-use Rattle.std.proofs.Common.{◌≡◌, ℕ, zero, suc, ◌+◌, ◌-◌, ◌<◌, ◌≤◌, Bool, true, false, IsTrue, List, [], ◌∷◌, ◌++◌, length, take, drop, get_or, refl, ℤ, max, ap, sym, ◌∙◌, subst, arith, Option, Some, None}
-use Rattle.std.specs.Prelude.{if◌then◌else◌, ◌==◌, ◌≤ℤ◌, cond, filter, fold, nat_le, int_le, pos, slice_get}
+use Rattle.std.proofs.Common.{◌≡◌, ℕ, zero, suc, ◌+◌, ◌<◌, ◌≤◌, Bool, true, false, List, [], ◌∷◌, ◌++◌, length, take, drop, get_or, refl, ℤ, max, ap, sym, ◌∙◌, arith, Some}
+use Rattle.std.specs.Prelude.{if◌then◌else◌, ◌==◌, ◌≤ℤ◌, fold, nat_le, int_le, slice_get}
 use Rattle.std.specs.List.{insert, remove}
 use Rattle.std.proofs.lemmas.Bool.Decides.{nat_tests}
 use Rattle.std.proofs.lemmas.Grind.{common_steps}
 use Rattle.std.proofs.lemmas.Int.{ints}
-use Rattle.std.proofs.lemmas.List.{append-nil, append_assoc, drop_more, length-take-le, length_push, take_all, take_more}
+use Rattle.std.proofs.lemmas.List.{append-nil, append_assoc, drop_more, take_all, take_more}
 use Rattle.std.proofs.lemmas.Option.{get_or_from_slice_get}
-use Rattle.std.proofs.lemmas.List.Elements.{filter-append}
 use Rattle.std.proofs.lemmas.List.Sums.{fold-append}
-use Rattle.commute_ops.specs.declared.kinds.Kind.TheVariants as kinds
 use Rattle.commute_ops.specs.declared.kinds.Op.TheVariants as ops
 use Rattle.commute_ops.specs.declared.value.Value.{Value}
 use Rattle.commute_ops.specs.declared.value.Value.TheVariants.{Bag}
@@ -20,7 +18,7 @@ use Rattle.script_parts.specs.Deeds.{after_deed}
 use Rattle.script_parts.specs.declared.parts.Deed.{Deed}
 use Rattle.script_parts.specs.declared.parts.Deed.TheVariants.{Apply, Get, Set, Draw}
 use Rattle.worth_steps.specs.declared.puts.Put.{Put}
-use Rattle.worth_steps.specs.Worth.{Noted, after_noted, in_order, last_altered, noted_in, worth_of}
+use Rattle.worth_steps.specs.Worth.{Noted, after_noted, in_order, noted_in, worth_of}
 use Rattle.worth_steps.specs.Puts.{AllFrom, ArePuts, Rises, newest_put, shown_to}
 use Rattle.worth_steps.specs.inside.Editing.{put_rank, with_put}
 use Rattle.worth_steps.proofs.Acting.{deeds_by, last_more}

@@ -1,5 +1,5 @@
 -- What is kept of an item shows what it is worth, before any deed and with each deed more.
-use Rattle.std.proofs.Common.{◌≡◌, ℕ, zero, suc, Bool, true, false, IsTrue, List, [], ◌∷◌, ◌++◌, refl, ℤ, ap, sym, ◌∙◌, subst, Option, Some, None}
+use Rattle.std.proofs.Common.{◌≡◌, ℕ, zero, suc, Bool, true, false, IsTrue, List, [], ◌∷◌, ◌++◌, refl, ℤ, ap, sym, ◌∙◌, subst, Some, None}
 use Rattle.std.specs.Prelude.{if◌then◌else◌, ◌==◌, ◌||◌, fold}
 use Rattle.std.proofs.lemmas.List.Sums.{fold-append}
 use Rattle.commute_ops.specs.declared.kinds.Kind.{Kind}
@@ -17,11 +17,11 @@ use Rattle.script_parts.specs.declared.parts.TreeKind.TheVariants as trees
 use Rattle.worth_steps.specs.declared.puts.Put.{Put}
 use Rattle.worth_steps.specs.declared.steps.Step.{Step}
 use Rattle.worth_steps.specs.Kept.{AreWorths, AreWorthsOf, WorthsData}
-use Rattle.worth_steps.specs.Puts.{ArePuts, Rises, shown_to}
-use Rattle.worth_steps.specs.Steps.{AreSteps, Ascends, Chained, acting, seen_to}
+use Rattle.worth_steps.specs.Puts.{ArePuts, Rises}
+use Rattle.worth_steps.specs.Steps.{AreSteps, Ascends, Chained}
 use Rattle.worth_steps.specs.Worth.{MayBegin, Noted, after_noted, alters, deed_suits, in_order, last_altered, noted_in, value_kind, worth_of}
 use Rattle.worth_steps.specs.inside.Editing.{edited, put_of, revalued, with_put}
-use Rattle.worth_steps.specs.inside.Showing.{AreOrdered, newest_as, shown_as, shown_value, value_number}
+use Rattle.worth_steps.specs.inside.Showing.{AreOrdered, newest_by_kind, shown_by_kind, shown_value, value_number}
 use Rattle.worth_steps.proofs.Acting.{deeds_by, last_more, steps_ascend, steps_more, steps_none, worth_is}
 use Rattle.worth_steps.proofs.Bagged.{puts_more, puts_none, rises_more}
 
@@ -186,7 +186,7 @@ ordered first ns w are = record { ascends = are.ascends; rises = are.rises }
 
 shown_of : (k : Kind) (n : ℤ) (ns : List Noted) (ss : List Step) (ps : List Put) (v : ℕ) → Ascends ss
     → AreWorthsOf k ns (record { kind = k; first = n; steps = ss; puts = ps })
-    → shown_as k (record { kind = k; first = n; steps = ss; puts = ps }) v ≡ worth_of (value_start k n) ns v
+    → shown_by_kind k (record { kind = k; first = n; steps = ss; puts = ps }) v ≡ worth_of (value_start k n) ns v
 shown_of Sum n ns ss ps v up are = worth_is Sum n ns ss v up are
 shown_of Top n ns ss ps v up are = worth_is Top n ns ss v up are
 shown_of Bag n ns ss ps v up are = sym (are.shows v)
@@ -196,11 +196,11 @@ pub shown_is_worth : (first : Value) (ns : List Noted) (w : WorthsData) (v : ℕ
 shown_is_worth first ns w v are =
     shown_of w.kind w.first ns w.steps w.puts v are.ascends are.kept ∙ ap (λ (x : Value). worth_of x ns v) (sym are.starts)
 
-newest_of : (k : Kind) (ns : List Noted) (w : WorthsData) → AreWorthsOf k ns w → newest_as k w ≡ last_altered ns
+newest_of : (k : Kind) (ns : List Noted) (w : WorthsData) → AreWorthsOf k ns w → newest_by_kind k w ≡ last_altered ns
 newest_of Sum ns w are = sym are.newest
 newest_of Top ns w are = sym are.newest
 newest_of Bag ns w are = sym are.newest
 
 pub newest_is_last : (first : Value) (ns : List Noted) (w : WorthsData) → AreWorths first ns w
-    → newest_as w.kind w ≡ last_altered ns
+    → newest_by_kind w.kind w ≡ last_altered ns
 newest_is_last first ns w are = newest_of w.kind ns w are.kept

@@ -1,5 +1,5 @@
 -- What is kept of an item, and what takes a change of it back.
-use Rattle.std.specs.Prelude.{ℕ, suc, ◌≡◌, ◌-◌, ℤ, List, [], ◌++◌, length, slice_set, take}
+use Rattle.std.specs.Prelude.{ℕ, suc, ◌≡◌, ◌-◌, ℤ, List, ◌++◌, length, slice_set, take}
 use Rattle.std.specs.List.{remove}
 use Rattle.commute_ops.specs.declared.kinds.Kind.{Kind}
 use Rattle.commute_ops.specs.declared.kinds.Kind.TheVariants.{Sum, Top, Bag}

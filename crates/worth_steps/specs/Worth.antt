@@ -1,6 +1,6 @@
 -- What an item is worth at a version: its first value, folded over deeds version after version, and within a version in
 -- the order in which they came.
-use Rattle.std.specs.Prelude.{ℕ, zero, suc, Bool, true, false, ◌==◌, ◌||◌, ◌≤◌, ◌≡◌, max, List, [], ◌∷◌, ◌++◌, filter, fold, map}
+use Rattle.std.specs.Prelude.{ℕ, zero, suc, Bool, true, false, ◌==◌, ◌||◌, ◌≡◌, max, List, [], ◌∷◌, ◌++◌, filter, fold, map}
 use Rattle.commute_ops.specs.declared.kinds.Kind.{Kind}
 use Rattle.commute_ops.specs.declared.kinds.Kind.TheVariants as kinds
 use Rattle.commute_ops.specs.declared.value.Value.{Value}

@@ -8,3 +8,6 @@ mod worths;
 
 pub use change::Change;
 pub use worths::Worths;
+
+#[cfg(test)]
+mod tests;

@@ -3,9 +3,10 @@ ghost use Rattle.std.specs.Prelude.{◌≡◌, ◌≤◌, true, false, Some, sli
 ghost use Rattle.std.specs.List.{remove};
 ghost use Rattle.commute_ops.specs.declared.value.Value.TheVariants.{Bag};
 ghost use Rattle.worth_steps.specs.Puts.{Rises, newest_put, shown_to};
-ghost use Rattle.worth_steps.specs.inside.Editing.{put_rank, with_put};
+ghost use Rattle.worth_steps.specs.inside.Editing.{put_of, put_rank, with_put};
 
 use commute_ops::{Amount, Kind, Op, Value};
+use script_parts::parts::Deed;
 use std::alloc::Global;
 use tv_base::{NoMemory, Version};
 
@@ -14,6 +15,19 @@ use tv_base::{NoMemory, Version};
 pub(crate) struct Put {
     pub(crate) number: Amount,
     pub(crate) version: Version,
+}
+
+/// What a deed of this version puts into a bag.
+pub(crate) fn put_of(version: Version, deed: &Deed) -> Option<Put>
+    ensures { result ≡ put_of version.0 deed.now }
+{
+    match deed {
+        Deed::Apply(Op::Put(number)) => Some(Put {
+            number: *number,
+            version,
+        }),
+        _ => None,
+    }
 }
 
 /// How many of the puts, which ascend by number, are of lesser numbers.

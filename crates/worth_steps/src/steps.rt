@@ -23,7 +23,7 @@ pub(crate) struct Step {
 }
 
 /// Steps as they were.
-pub(crate) type Steps = Seq<Step, 0xffff_ffff_ffff_ffff>;
+type Steps = Seq<Step, 0xffff_ffff_ffff_ffff>;
 
 /// What a deed has changed of the steps. Where no step stood above, it needs no memory.
 #[derive(Drop)]
@@ -66,10 +66,7 @@ fn first_own(deed: &Deed) -> Option<Amount>
 fn is_set(deed: &Deed) -> bool
     ensures { result ≡ is_set deed.now }
 {
-    match deed {
-        Deed::Set(_) => true,
-        _ => false,
-    }
+    matches!(deed, Deed::Set(_))
 }
 
 /// A step of one deed, whose value isn't known yet.

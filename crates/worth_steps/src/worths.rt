@@ -2,14 +2,14 @@
 ghost use Rattle.std.specs.Prelude.{◌≡◌, ◌++◌, ◌∷◌, [], true, false, List, IfOk, IsTrue, OnErr, OnOk};
 ghost use Rattle.commute_ops.specs.declared.value.Value.{Value};
 ghost use Rattle.worth_steps.specs.Kept.{AreWorths, taken_back};
+ghost use Rattle.worth_steps.specs.Steps.{seen_to};
 ghost use Rattle.worth_steps.specs.Worth.{MayBegin, Noted, alters, deed_suits, last_altered, value_kind, worth_of};
-ghost use Rattle.worth_steps.specs.inside.Editing.{put_of};
-ghost use Rattle.worth_steps.specs.inside.Showing.{AreOrdered, newest_as, shown_value, value_number};
+ghost use Rattle.worth_steps.specs.inside.Showing.{AreOrdered, newest_by_kind, shown_value, value_number};
 
 use crate::change::{Change, Changed};
 use crate::puts::{self, Put};
 use crate::steps::{self, Step};
-use commute_ops::{Amount, Kind, Op, SumValue, TopValue, Value};
+use commute_ops::{Amount, Kind, SumValue, TopValue, Value};
 use script_parts::parts::Deed;
 use std::alloc::Global;
 use std::marker::Model;
@@ -47,10 +47,11 @@ impl Worths {
         }
     }
 
-    /// Notes a deed of a member of this version, which comes after all deeds that were noted. A get changes nothing.
+    /// Notes a deed of a member of this version, which comes after all deeds that were noted, whatever their versions.
+    /// A get changes nothing. What it gives takes the deed back.
     ///
-    /// Finds no memory, too, where a number would leave the range of amounts: that takes more than a hundred million
-    /// deeds of the greatest magnitude that a script may have. After an error the worths are as they were.
+    /// `NoMemory` comes, too, where a number would leave the range of `Amount`. No script comes near that: it takes more
+    /// than a hundred million deeds of the greatest magnitude. After an error the worths are as they were.
     pub fn note(&mut self, version: Version, deed: &Deed) -> Result<Change, NoMemory>
         requires { IsTrue (deed_suits self.old.kind deed.now) }
         ensures noted { OnOk result ((first : Value) (ns : List Noted) → AreWorths first ns self.old
@@ -64,7 +65,7 @@ impl Worths {
                 changed: Changed::Nothing,
             });
         }
-        match put_of(version, deed) {
+        match puts::put_of(version, deed) {
             Some(put) => {
                 let place = puts::note_put(&mut self.puts, &put)?;
                 Ok(Change {
@@ -86,20 +87,22 @@ impl Worths {
         }
     }
 
-    /// Takes the last deed back, by the change that noting it gave.
+    /// Takes the last deed back, by the change that noting it gave. Needs no memory. The change of an earlier deed, or of
+    /// another item, leaves worths of which nothing is said.
     pub fn undo(&mut self, change: Change)
         ensures { self.new ≡ taken_back change self.old }
     {
         match &change.changed {
             Changed::Nothing => {}
-            Changed::Steps(steps) => steps::take_back(&mut self.steps, steps),
+            Changed::Steps(change) => steps::take_back(&mut self.steps, change),
             Changed::Put(place) => puts::take_out(&mut self.puts, *place),
         }
     }
 
     /// What the item is worth at a version. Only a bag needs memory.
     pub fn at(&self, alloc: Global, version: Version) -> Result<Value, NoMemory>
-        ensures { IfOk result (λ w. (first : Value) (ns : List Noted) → AreWorths first ns self.now → w ≡ worth_of first ns version.0) }
+        ensures worth { IfOk result (λ w. (first : Value) (ns : List Noted) → AreWorths first ns self.now → w ≡ worth_of first ns version.0) }
+        ensures only_bags { OnErr result (self.now.kind ≡ Kind.Bag) }
     {
         let value = self.shown(alloc, version)?;
         Ok(value)
@@ -120,42 +123,41 @@ impl Worths {
         self.newest()
     }
 
+    /// The number of a sum or a top at a version.
+    fn number(&self, version: Version) -> &Amount
+        ensures { AreOrdered self.now → result.now ≡ seen_to self.now.first self.now.steps version.0 }
+    {
+        steps::number_at(&self.first, &self.steps, version)
+    }
+
+    /// The value at a version, by what is kept.
     fn shown(&self, alloc: Global, version: Version) -> Result<Value, NoMemory>
-        ensures { IfOk result (λ w. AreOrdered self.now → w ≡ shown_value self.now version.0) }
+        ensures shown { IfOk result (λ w. AreOrdered self.now → w ≡ shown_value self.now version.0) }
+        ensures only_bags { OnErr result (self.now.kind ≡ Kind.Bag) }
     {
         match self.kind {
-            Kind::Sum => Ok(Value::Sum(SumValue(*steps::number_at(
-                &self.first,
-                &self.steps,
-                version,
-            )))),
-            Kind::Top => Ok(Value::Top(TopValue(*steps::number_at(
-                &self.first,
-                &self.steps,
-                version,
-            )))),
+            Kind::Sum => Ok(Value::Sum(SumValue(*self.number(version)))),
+            Kind::Top => Ok(Value::Top(TopValue(*self.number(version)))),
             Kind::Bag => puts::bag_at(alloc, &self.puts, version),
         }
     }
 
+    /// Whether this is the value at a version, by what is kept.
     fn shows(&self, version: Version, value: &Value) -> bool
         ensures yes { result ≡ true → AreOrdered self.now → shown_value self.now version.0 ≡ value.now }
         ensures no { result ≡ false → AreOrdered self.now → shown_value self.now version.0 ≡ value.now → ⊥ }
     {
         match (self.kind, value) {
-            (Kind::Sum, Value::Sum(sum)) => {
-                *steps::number_at(&self.first, &self.steps, version) == sum.0
-            }
-            (Kind::Top, Value::Top(top)) => {
-                *steps::number_at(&self.first, &self.steps, version) == top.0
-            }
+            (Kind::Sum, Value::Sum(sum)) => *self.number(version) == sum.0,
+            (Kind::Top, Value::Top(top)) => *self.number(version) == top.0,
             (Kind::Bag, Value::Bag(bag)) => puts::shows(&self.puts, version, bag.items()),
             _ => false,
         }
     }
 
+    /// The greatest version of a step or a put.
     fn newest(&self) -> Version
-        ensures { AreOrdered self.now → result.0 ≡ newest_as self.now.kind self.now }
+        ensures { AreOrdered self.now → result.0 ≡ newest_by_kind self.now.kind self.now }
     {
         match self.kind {
             Kind::Bag => puts::newest_put(&self.puts),
@@ -168,25 +170,7 @@ impl Worths {
 fn alters(deed: &Deed) -> bool
     ensures { result ≡ alters deed.now }
 {
-    match deed {
-        Deed::Get => false,
-        Deed::Apply(_) => true,
-        Deed::Set(_) => true,
-        Deed::Draw(_) => true,
-    }
-}
-
-/// What a deed of this version puts into a bag.
-fn put_of(version: Version, deed: &Deed) -> Option<Put>
-    ensures { result ≡ put_of version.0 deed.now }
-{
-    match deed {
-        Deed::Apply(Op::Put(number)) => Some(Put {
-            number: *number,
-            version,
-        }),
-        _ => None,
-    }
+    !matches!(deed, Deed::Get)
 }
 
 /// The kind of a value.

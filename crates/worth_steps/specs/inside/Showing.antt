@@ -15,19 +15,19 @@ value_number (Top n) = n.0
 value_number (Bag ns) = pos 0
 
 -- the value that is shown at version v
-abbrev pub shown_as : Kind → WorthsData → ℕ → Value
-shown_as kinds.Sum w v = Sum (record { 0 = seen_to w.first w.steps v })
-shown_as kinds.Top w v = Top (record { 0 = seen_to w.first w.steps v })
-shown_as kinds.Bag w v = Bag (shown_to v w.puts)
+abbrev pub shown_by_kind : Kind → WorthsData → ℕ → Value
+shown_by_kind kinds.Sum w v = Sum (record { 0 = seen_to w.first w.steps v })
+shown_by_kind kinds.Top w v = Top (record { 0 = seen_to w.first w.steps v })
+shown_by_kind kinds.Bag w v = Bag (shown_to v w.puts)
 
 abbrev pub shown_value : WorthsData → ℕ → Value
-shown_value w v = shown_as w.kind w v
+shown_value w v = shown_by_kind w.kind w v
 
 -- the greatest version in which the item was altered
-abbrev pub newest_as : Kind → WorthsData → ℕ
-newest_as kinds.Sum w = newest_step w.steps
-newest_as kinds.Top w = newest_step w.steps
-newest_as kinds.Bag w = newest_put w.puts
+abbrev pub newest_by_kind : Kind → WorthsData → ℕ
+newest_by_kind kinds.Sum w = newest_step w.steps
+newest_by_kind kinds.Top w = newest_step w.steps
+newest_by_kind kinds.Bag w = newest_put w.puts
 
 -- steps and puts are in order
 pub record AreOrdered (w : WorthsData) : Type 0 where

@@ -1,12 +1,9 @@
-use Rattle.std.proofs.Common.{◌≡◌, ◌∙◌, ap, sym, List, ℤ, length, take, rules, get_or}
+use Rattle.std.proofs.Common.{◌∙◌, ap, ℤ, rules, get_or}
 use Rattle.std.specs.Int.{w128}
 use Rattle.std.specs.Prelude.{FitsSigned, pos}
 use Rattle.std.proofs.lemmas.Int.{to_z-of_z}
-use Rattle.std.proofs.lemmas.List.{take_all}
 use Rattle.commute_ops.specs.declared.kinds.Op.TheVariants.{Put}
-use Rattle.commute_ops.specs.declared.value.Value.TheVariants.{Bag}
 use Rattle.commute_ops.specs.Ops.{applied}
-use Rattle.worth_steps.specs.Puts.{shown_to}
 use Rattle.worth_steps.proofs.Bagged.{filled_all, put_hidden, put_shown}
 use Rattle.worth_steps.proofs.puts.bag_at.Goals as goal
 use Rattle.worth_steps.proofs.puts.bag_at.Goals.{then-put-version+in_ok-bag, else-put-version}

@@ -1,4 +1,4 @@
-use Rattle.std.proofs.Common.{◌≡◌, ◌∙◌, ◌≤◌, ap, sym, length, subst, arith, ℕ}
+use Rattle.std.proofs.Common.{◌∙◌, ◌≤◌, ap, length, arith, ℕ}
 use Rattle.std.specs.List.{insert, remove}
 use Rattle.worth_steps.specs.inside.Editing.{put_rank}
 use Rattle.worth_steps.proofs.Bagged.{insert_put, remove_inserted}

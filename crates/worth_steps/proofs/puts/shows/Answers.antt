@@ -1,4 +1,4 @@
-use Rattle.std.proofs.Common.{◌≡◌, ◌∙◌, ◌+◌, ◌++◌, ◌<◌, ◌≤◌, ℕ, ap, sym, subst, refl, length, take, drop, arith, rules}
+use Rattle.std.proofs.Common.{◌∙◌, ◌+◌, ◌++◌, ℕ, ap, sym, refl, take, drop, arith}
 use Rattle.worth_steps.specs.Puts.{shown_to}
 use Rattle.worth_steps.proofs.Bagged.{is_shown, not_shown, rest_hidden}
 use Rattle.worth_steps.proofs.puts.shows.Goals as goal

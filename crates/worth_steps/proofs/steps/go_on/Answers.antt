@@ -1,4 +1,4 @@
-use Rattle.std.proofs.Common.{◌≡◌, ◌∙◌, ◌+◌, ◌<◌, ◌++◌, List, Some, ap, sym, subst, take, drop, length, rules, get_or, slice_get}
+use Rattle.std.proofs.Common.{◌≡◌, ◌∙◌, ◌+◌, List, ap, drop, length, rules}
 use Rattle.std.proofs.lemmas.List.{take_rest}
 use Rattle.worth_steps.specs.declared.steps.Step.{Step}
 use Rattle.worth_steps.specs.inside.Editing.{number_below, revalued, step_gone_on, step_valued}

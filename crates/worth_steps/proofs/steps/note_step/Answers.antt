@@ -1,6 +1,4 @@
-use Rattle.std.proofs.Common.{◌≡◌, ◌∙◌, List, ap, sym, true, false}
-use Rattle.worth_steps.specs.declared.steps.Step.{Step}
-use Rattle.worth_steps.specs.Steps.{Ascends}
+use Rattle.std.proofs.Common.{◌≡◌, ◌∙◌, ap, sym, true, false}
 use Rattle.worth_steps.specs.inside.Editing.{stands_before, step_begun, steps_up_to}
 use Rattle.worth_steps.proofs.Placing.{ascends_as, noted_new, noted_there}
 use Rattle.worth_steps.proofs.steps.note_step.Goals as goal

@@ -1,4 +1,4 @@
-use Rattle.std.proofs.Common.{◌≡◌, ◌∙◌, ap}
+use Rattle.std.proofs.Common.{◌∙◌, ap}
 use Rattle.worth_steps.specs.inside.Editing.{number_below}
 use Rattle.worth_steps.proofs.Placing.{seen_below}
 use Rattle.worth_steps.proofs.steps.number_at.Goals as goal

@@ -1,7 +1,6 @@
-use Rattle.std.proofs.Common.{◌≡◌, ◌∙◌, ◌+◌, ◌++◌, ◌∷◌, [], ap, sym, subst, length, get_or, List, drop}
-use Rattle.std.specs.Prelude.{Some, IfSome}
+use Rattle.std.proofs.Common.{◌≡◌, ◌∙◌, ◌+◌, ◌++◌, ap, sym, subst, length, List, drop}
 use Rattle.worth_steps.specs.declared.steps.Step.{Step}
-use Rattle.worth_steps.specs.inside.Editing.{number_below, revalued, step_valued}
+use Rattle.worth_steps.specs.inside.Editing.{number_below, revalued}
 use Rattle.worth_steps.proofs.Revaluing.{one_more}
 use Rattle.worth_steps.proofs.steps.revalued.Goals as goal
 

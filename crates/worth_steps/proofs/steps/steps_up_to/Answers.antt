@@ -1,4 +1,4 @@
-use Rattle.std.proofs.Common.{◌≡◌, ◌+◌, ◌-◌, ◌<◌, length, sym, arith, rules, slice_get}
+use Rattle.std.proofs.Common.{◌≡◌, ◌-◌, length, sym, arith, slice_get}
 use Rattle.std.specs.Prelude.{Some}
 use Rattle.worth_steps.proofs.Placing.{all_up_to, length_some}
 use Rattle.worth_steps.proofs.steps.steps_up_to.Goals as goal

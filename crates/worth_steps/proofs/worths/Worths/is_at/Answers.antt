@@ -1,4 +1,4 @@
-use Rattle.std.proofs.Common.{◌≡◌, ◌∙◌, sym}
+use Rattle.std.proofs.Common.{◌∙◌, sym}
 use Rattle.worth_steps.proofs.Noting.{ordered, shown_is_worth}
 use Rattle.worth_steps.proofs.worths.Worths.is_at.Goals as goal
 

@@ -1,6 +1,6 @@
-use Rattle.std.proofs.Common.{◌≡◌, ◌∙◌, sym, subst, IsTrue, false, true}
+use Rattle.std.proofs.Common.{sym, subst, IsTrue}
 use Rattle.worth_steps.specs.Kept.{AreWorths, WorthsData}
-use Rattle.worth_steps.specs.Worth.{alters, deed_suits}
+use Rattle.worth_steps.specs.Worth.{deed_suits}
 use Rattle.worth_steps.proofs.Noting.{noted_get, noted_put, noted_step}
 use Rattle.worth_steps.proofs.worths.Worths.note.Goals as goal
 
