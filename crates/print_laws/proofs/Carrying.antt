@@ -1,6 +1,6 @@
 -- In every run what nodes gather, letters carry and actors do is of the script.
-use Rattle.std.proofs.Common.{ℕ, ◌≡◌, ◌≢◌, ◌⊎◌, inl, inr, ◌<◌, ◌+◌, Bool, true, false, List, [], ◌∷◌, ◌++◌, refl, sym, ap, subst, ◌∙◌, arith, Option, Some, None}
-use Rattle.std.specs.Prelude.{if◌then◌else◌, drop, is_some, length, nat_lt, reverse, slice_get, take}
+use Rattle.std.proofs.Common.{ℕ, ◌≡◌, ◌≢◌, ◌⊎◌, inl, inr, ◌<◌, ◌+◌, Bool, true, false, List, [], ◌∷◌, refl, sym, subst, ◌∙◌, arith, Option, Some, None}
+use Rattle.std.specs.Prelude.{if◌then◌else◌, drop, length, nat_lt, reverse, take}
 use Rattle.std.specs.List.{AllByRecursion}
 use Rattle.std.specs.Option.{IfSome}
 use Rattle.std.proofs.lemmas.Bool.{cases_eq}
@@ -21,13 +21,13 @@ use Rattle.letter_types.specs.declared.kept.KeptLetter.{KeptLetter}
 use Rattle.letter_types.specs.declared.kept.Why.{Why}
 use Rattle.nc_locks.specs.declared.modes.Met.{Met}
 use Rattle.script_parts.specs.Counts.{has_strict}
-use Rattle.script_parts.specs.ScriptData.{ScriptData, client_of, is_update, node_of, ops_of, updates}
+use Rattle.script_parts.specs.ScriptData.{ScriptData, node_of, ops_of, updates}
 use Rattle.script_parts.specs.Valid.{IsOp, IsValid}
 use Rattle.script_parts.specs.declared.parts.ScriptRow.{ScriptRow}
 use Rattle.script_parts.specs.declared.parts.ScriptRow.TheVariants.{Tree as TreeRow, Advance as AdvanceRow, Settle as SettleRow, Lose as LoseRow}
-use Rattle.script_parts.specs.declared.parts.Tree.{Tree}
 use Rattle.script_parts.specs.declared.parts.TreeKind.{TreeKind}
 use Rattle.script_parts.specs.declared.parts.TreeKind.TheVariants.{Update, Read, Strict}
+use Rattle.board_rules.proofs.Wholes.{updates_there}
 use Rattle.board_rules.specs.Histories.{places_of}
 use Rattle.world_model.specs.AllApt.{AllApt}
 use Rattle.world_model.specs.Client.{Client, client_finishes, client_row, next_after, nudge, rows_letters, submit, submitted, with_answer, with_end}
@@ -47,7 +47,7 @@ use Rattle.world_model.proofs.Keepings.{of_kept}
 use Rattle.world_model.proofs.Orders.{coordinator_each, no_acts}
 use Rattle.world_model.proofs.Outstanding.{keeping_elsewhere}
 use Rattle.world_model.proofs.Plain.{no_strict}
-use Rattle.world_model.proofs.Scripts.{SubAt, get_below, sub_there, tree_below}
+use Rattle.world_model.proofs.Scripts.{SubAt, sub_there, tree_below}
 use Rattle.strict_laws.specs.Meant.{IsMeant}
 use Rattle.strict_laws.proofs.AtHome.{all_append}
 use Rattle.strict_laws.proofs.DoneOrParked.{meets_way}
@@ -57,7 +57,7 @@ use Rattle.phase_laws.proofs.Brought.{brought_meant, each_of_brought}
 use Rattle.phase_laws.proofs.Progress.{brings_to}
 use Rattle.tree_laws.proofs.NodeLoads.{kind_here, ops_fit_kind}
 use Rattle.run_laws.proofs.AtOnce.{no_votes}
-use Rattle.history_text.specs.Printable.{IsSubOf, IsTreeOf}
+use Rattle.history_text.specs.Printable.{IsSubOf}
 use Rattle.print_laws.specs.OfScript.{IsActOf}
 use Rattle.print_laws.proofs.Bounded.{bounded_items}
 use Rattle.print_laws.proofs.Items.{small_items_at, small_ops}
@@ -108,10 +108,6 @@ asked s past p t k g sub node =
           (met_cause s past Strict p t k (some_strict s t.0 (has_strict s) refl is) g.valid g.run g.below node (fits Strict is));
     }
 
-pub updates_below : (s : ScriptData) (t : ℕ) (found : Option Tree) → slice_get s.trees t ≡ found → updates s t ≡ true → IsTreeOf s t
-updates_below s t None at is = absurd (let none : false ≡ true = sym (rw (at, updates) refl) ∙ is in cc none)
-updates_below s t (Some tree) at is = get_below s.trees t tree at
-
 -- What is known of the letter that is brought.
 needed : (s : ScriptData) (past : List Entry) (p from : ℕ) (body : Body) → Runs s past p → IsMeant s from p body
     → (body ≡ Go) ⊎ Carries s body → Needs s p (keeping_in s past p).core body
@@ -122,7 +118,7 @@ needed s past p from (SubLetter t k v) g meant carried =
 needed s past p from (Done t k v notice) g meant (inl is) = absurd (cc is)
 needed s past p from (Done t k v notice) g meant (inr of) = (meant.tree, of)
 needed s past p from (Decide t v commit) g meant carried = (strict_below s t.0 meant.strict, g.valid)
-needed s past p from (Release t) g meant carried = updates_below s t.0 (slice_get s.trees t.0) refl meant.update
+needed s past p from (Release t) g meant carried = updates_there s t.0 meant.update
 needed s past p from _ g meant carried = tt
 
 -- The acts of keeping a letter.

@@ -1,6 +1,6 @@
 -- In every run each entry's lines are of the script.
-use Rattle.std.proofs.Common.{ℕ, ◌≡◌, ◌⊎◌, inl, inr, ◌<◌, ◌+◌, Bool, true, false, List, [], ◌∷◌, ◌++◌, refl, sym, ap, subst, ◌∙◌, arith, Option, Some, None}
-use Rattle.std.specs.Prelude.{length, reverse, slice_get}
+use Rattle.std.proofs.Common.{ℕ, ◌<◌, ◌+◌, List, [], ◌∷◌, sym, subst}
+use Rattle.std.specs.Prelude.{length, reverse}
 use Rattle.std.specs.List.{AllByRecursion}
 use Rattle.std.proofs.lemmas.List.{reverse-reverse}
 use Rattle.letter_types.specs.Letters.{drop_id, letters_of, sealed}
@@ -10,10 +10,10 @@ use Rattle.letter_types.specs.declared.bodies.Body.{Body}
 use Rattle.letter_types.specs.declared.bodies.Body.TheVariants.{Go, Root, Sub as SubLetter, Done, Reply, Nudge, Advance, Turn, Show, Sweep, Turned, Shown, Swept, AskDone, AskAsked, DoneRow, AskedRow, Advanced, Decide, Decided, Release, Wake}
 use Rattle.letter_types.specs.declared.entries.Entry.{Entry}
 use Rattle.letter_types.specs.declared.entries.Letter.{Letter}
-use Rattle.letter_types.specs.declared.entries.LetterId.{LetterId}
 use Rattle.letter_types.specs.declared.entries.Outgoing.{Outgoing}
-use Rattle.script_parts.specs.ScriptData.{ScriptData, client_of, subs_at}
+use Rattle.script_parts.specs.ScriptData.{ScriptData, subs_at}
 use Rattle.script_parts.specs.Valid.{IsValid}
+use Rattle.board_rules.proofs.Wholes.{updates_there}
 use Rattle.world_model.specs.AllApt.{AllApt}
 use Rattle.world_model.specs.Counts.{Each}
 use Rattle.world_model.specs.Runs.{IsStepRun, IsWorldRun, in_flight}
@@ -28,9 +28,9 @@ use Rattle.strict_laws.proofs.AtHome.{all_append}
 use Rattle.strict_laws.proofs.Meant.{letters_are_meant}
 use Rattle.strict_laws.proofs.MeantRows.{strict_below}
 use Rattle.run_laws.proofs.EveryApt.{all_apt}
-use Rattle.history_text.specs.Printable.{IsActor, IsSubOf, IsTreeOf}
-use Rattle.print_laws.specs.OfScript.{IsActOf, IsAnswerOf, IsBodyOf, IsOfScript, IsSentOf}
-use Rattle.print_laws.proofs.Carrying.{AllCarried, IsEntryOf, all_carried, next_entry, updates_below}
+use Rattle.history_text.specs.Printable.{IsSubOf, IsTreeOf}
+use Rattle.print_laws.specs.OfScript.{IsAnswerOf, IsBodyOf, IsOfScript, IsSentOf}
+use Rattle.print_laws.proofs.Carrying.{IsEntryOf, all_carried, next_entry}
 use Rattle.print_laws.proofs.Stepping.{AreCarried, Carries, CarriesAnswer, there_of}
 
 -- What is meant for its addressee, and carries what is of the script, is of the script.
@@ -62,7 +62,7 @@ body_of s from to (AskedRow v k row) meant of = meant.1
 body_of s from to (Advanced v) meant of = tt
 body_of s from to (Decide t v commit) meant of = strict_below s t.0 meant.strict
 body_of s from to (Decided t v) meant of = strict_below s t.0 meant.strict
-body_of s from to (Release t) meant of = updates_below s t.0 (slice_get s.trees t.0) refl meant.update
+body_of s from to (Release t) meant of = updates_there s t.0 meant.update
 body_of s from to (Wake t k) meant of = sub_of s t.0 k.0 meant.tree meant.sub
 body_of s from to _ meant of = absurd meant
 

@@ -1,5 +1,5 @@
 -- The values that a home gathers and the noes that it keeps in mind are of the script.
-use Rattle.std.proofs.Common.{ℕ, zero, suc, ◌≡◌, ◌<◌, ◌==◌, Bool, true, false, List, [], ◌∷◌, ◌++◌, refl, sym, subst, arith, Option, Some, None}
+use Rattle.std.proofs.Common.{ℕ, zero, suc, ◌≡◌, ◌==◌, Bool, true, false, List, [], ◌∷◌, refl, subst, arith, Option, Some, None}
 use Rattle.std.specs.Prelude.{if◌then◌else◌, nat_lt, replicate, slice_get, slice_set}
 use Rattle.std.specs.List.{AllByRecursion}
 use Rattle.std.specs.Option.{IfSome}
@@ -9,10 +9,9 @@ use Rattle.tv_base.specs.declared.numbers.TreeNo.{TreeNo}
 use Rattle.tv_base.specs.declared.numbers.Version.{Version}
 use Rattle.letter_types.specs.declared.bodies.Notice.{Notice}
 use Rattle.letter_types.specs.declared.bodies.Notice.TheVariants.{Did, Yes, No}
-use Rattle.letter_types.specs.declared.votes.Cause.{Cause}
 use Rattle.script_parts.specs.ScriptData.{ScriptData}
 use Rattle.tree_home.specs.HeldAnswers.{HeldAnswers, acked, acked_of, answer_when_acked, held_for, held_in, holding, last_answer}
-use Rattle.tree_home.specs.Homes.{Gets, OpenTrees, after_notice, answer_in, answer_of, answer_with, begun, gathered, home_in, misses, new_tree, noted_of, outcome, prepended, with_notice}
+use Rattle.tree_home.specs.Homes.{Gets, OpenTrees, after_notice, answer_in, answer_of, answer_with, begun, gathered, home_in, misses, new_tree, noted_of, outcome, prepended}
 use Rattle.tree_home.specs.Maps.{put_at}
 use Rattle.tree_home.specs.declared.homes.Answered.{Answered}
 use Rattle.tree_home.specs.declared.homes.Held.{Held}

@@ -1,6 +1,6 @@
 -- Items whose values are small stay so, whatever operations of the script are made on them.
-use Rattle.std.proofs.Common.{ℕ, ◌≡◌, ◌≤◌, ◌+◌, ◌==◌, ◌&&◌, Bool, true, false, List, [], ◌∷◌, ◌++◌, suc, zero, refl, sym, ap, subst, ◌∙◌, arith, Option, Some, None}
-use Rattle.std.specs.Prelude.{if◌then◌else◌, not, nat_le, slice_get, unsigned_abs}
+use Rattle.std.proofs.Common.{ℕ, ◌≡◌, ◌≤◌, ◌+◌, ◌==◌, Bool, true, false, List, [], ◌∷◌, ◌++◌, suc, zero, refl, subst, arith, Option, Some, None}
+use Rattle.std.specs.Prelude.{if◌then◌else◌, not, nat_le, slice_get}
 use Rattle.std.specs.List.{AllByRecursion}
 use Rattle.std.proofs.lemmas.Bool.Decides.{nat_tests}
 use Rattle.tv_base.proofs.Truths.{left_true}
@@ -11,8 +11,8 @@ use Rattle.commute_ops.specs.declared.kinds.TheConstants.{MOST_AMOUNT}
 use Rattle.commute_ops.specs.declared.kinds.Op.{Op}
 use Rattle.commute_ops.specs.declared.value.Value.{Value}
 use Rattle.item_versions.specs.Collecting.{collected_all}
-use Rattle.item_versions.specs.Item.{Held, collected, put_value, seen, touched}
-use Rattle.item_versions.specs.Table.{Table, item_in, replaced, updated, valued}
+use Rattle.item_versions.specs.Item.{Held, put_value, seen, touched}
+use Rattle.item_versions.specs.Table.{Table, item_in, updated, valued}
 use Rattle.item_versions.proofs.Tables.{Each as EachItem, each-item, each-replaced}
 use Rattle.script_parts.proofs.SubsOf.{all_at}
 use Rattle.script_parts.specs.Amounts.{magnitude, op_magnitude}
@@ -28,7 +28,7 @@ use Rattle.script_parts.specs.declared.parts.Sub.{Sub}
 use Rattle.script_parts.specs.declared.parts.SubOp.{SubOp}
 use Rattle.script_parts.specs.declared.parts.Tree.{Tree}
 use Rattle.script_parts.specs.declared.parts.TreeKind.{TreeKind}
-use Rattle.world_model.specs.Decisions.{applied_in, decided_items, ops_at, overwritten, overwritten_in}
+use Rattle.world_model.specs.Decisions.{applied_in, ops_at, overwritten, overwritten_in}
 use Rattle.world_model.specs.Node.{items_at}
 use Rattle.world_model.specs.Reads.{seen_in}
 use Rattle.world_model.specs.Updates.{table_after_deed, table_after_ops}

@@ -1,9 +1,9 @@
-mod Bounded
-mod Carrying
-mod EveryEntry
-mod Gathering
-mod Items
-mod Looks
+pub mod Bounded
+pub mod Carrying
+pub mod EveryEntry
+pub mod Gathering
+pub mod Items
+pub mod Looks
 pub mod Printing
-mod Stepping
-mod Values
+pub mod Stepping
+pub mod Values

@@ -1,5 +1,5 @@
 -- What a node sees of its items, and why its subtransactions vote no, is of the script.
-use Rattle.std.proofs.Common.{ℕ, zero, suc, ◌≡◌, ◌≤◌, ◌<◌, ◌+◌, ◌==◌, ◌&&◌, Bool, true, false, List, [], ◌∷◌, length, reverse, refl, sym, ap, subst, ◌∙◌, arith, Option, Some, None}
+use Rattle.std.proofs.Common.{ℕ, zero, suc, ◌≡◌, ◌<◌, ◌+◌, ◌==◌, ◌&&◌, Bool, true, false, List, [], ◌∷◌, length, reverse, refl, sym, ap, subst, ◌∙◌, arith, Option, Some, None}
 use Rattle.std.specs.Prelude.{if◌then◌else◌, ℤ, int_lt, nat_lt, not, slice_get}
 use Rattle.std.specs.List.{AllByRecursion}
 use Rattle.std.specs.Option.{IfSome, option_or}
@@ -15,7 +15,7 @@ use Rattle.commute_ops.specs.declared.value.Value.TheVariants.{Sum, Top, Bag}
 use Rattle.letter_types.specs.Causes.{short_cause}
 use Rattle.letter_types.specs.declared.entries.Entry.{Entry}
 use Rattle.letter_types.specs.declared.votes.Cause.{Cause}
-use Rattle.letter_types.specs.declared.votes.Cause.TheVariants.{Conflict, Newer, Short}
+use Rattle.letter_types.specs.declared.votes.Cause.TheVariants.{Newer}
 use Rattle.item_versions.specs.Item.{Held, seen}
 use Rattle.item_versions.specs.Table.{Table, item_in}
 use Rattle.nc_locks.specs.Locks.{Wanted, met_in}
@@ -38,10 +38,10 @@ use Rattle.strict_laws.proofs.ByActs.{wanted_needed}
 use Rattle.strict_laws.proofs.RunConflicts.{runs_meet_conflicts}
 use Rattle.tree_laws.proofs.Tables.{ItemIn, TableIn}
 use Rattle.tree_laws.proofs.Values.{HeldIn, ValueIn, seen_in as seen_value}
-use Rattle.history_text.specs.Printable.{AreGot, IsAmount, IsItemOf, IsOfItem, IsOfKind, IsTreeOf}
+use Rattle.history_text.specs.Printable.{AreGot, IsAmount, IsItemOf, IsOfItem, IsOfKind}
 use Rattle.print_laws.specs.OfScript.{IsCauseOf}
 use Rattle.print_laws.proofs.Items.{AreSmallIn, small_seen_in}
-use Rattle.print_laws.proofs.Values.{IsSmall, of_kind}
+use Rattle.print_laws.proofs.Values.{of_kind}
 
 -- the items of node p keep to the greatest magnitude
 pub record AreOfItems (s : ScriptData) (p : ℕ) (items : Table) : Type 0 where

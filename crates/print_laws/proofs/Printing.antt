@@ -10,7 +10,6 @@ use Rattle.letter_types.specs.declared.bodies.Body.TheVariants.{Go, Root, Sub, D
 use Rattle.letter_types.specs.declared.bodies.Notice.{Notice}
 use Rattle.letter_types.specs.declared.bodies.Notice.TheVariants as notices
 use Rattle.letter_types.specs.declared.entries.Entry.{Entry}
-use Rattle.letter_types.specs.declared.entries.Outgoing.{Outgoing}
 use Rattle.letter_types.specs.declared.votes.Cause.{Cause}
 use Rattle.letter_types.specs.declared.votes.Cause.TheVariants.{Conflict, Newer, Short}
 use Rattle.letter_types.specs.declared.votes.Vote.{Vote}

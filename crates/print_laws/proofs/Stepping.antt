@@ -1,5 +1,5 @@
 -- What a core's row makes of what is gathered, sent and done: all of it is of the script.
-use Rattle.std.proofs.Common.{ℕ, ◌≡◌, ◌<◌, ◌+◌, ◌==◌, ◌&&◌, Bool, true, false, List, [], ◌∷◌, ◌++◌, refl, sym, ap, subst, ◌∙◌, arith, Option, Some, None}
+use Rattle.std.proofs.Common.{ℕ, ◌≡◌, ◌+◌, ◌==◌, ◌&&◌, Bool, true, false, List, [], ◌∷◌, ◌++◌, refl, sym, ap, subst, Option, Some, None}
 use Rattle.std.specs.Prelude.{if◌then◌else◌, length, nat_lt, slice_get}
 use Rattle.std.specs.List.{AllByRecursion}
 use Rattle.std.specs.Option.{IfSome}
@@ -7,7 +7,6 @@ use Rattle.tv_base.specs.declared.numbers.SubNo.{SubNo}
 use Rattle.tv_base.specs.declared.numbers.TreeNo.{TreeNo}
 use Rattle.tv_base.specs.declared.numbers.Version.{Version}
 use Rattle.letter_types.specs.Steps.{Out, still}
-use Rattle.letter_types.specs.declared.acts.Act.{Act}
 use Rattle.letter_types.specs.declared.bodies.Answer.{Answer}
 use Rattle.letter_types.specs.declared.bodies.Answer.TheVariants.{Whole, Aborted}
 use Rattle.letter_types.specs.declared.bodies.Body.{Body}
@@ -18,21 +17,19 @@ use Rattle.letter_types.specs.declared.entries.Outgoing.{Outgoing}
 use Rattle.letter_types.specs.declared.votes.Cause.{Cause}
 use Rattle.letter_types.specs.declared.votes.Vote.{Vote}
 use Rattle.letter_types.specs.declared.votes.Vote.TheVariants as votes
-use Rattle.item_versions.specs.Table.{Table}
 use Rattle.nc_locks.specs.Locks.{with_locks}
 use Rattle.script_parts.specs.ScriptData.{ScriptData, client_of, home_of, is_strict, ops_of, subs_at, visited_by}
 use Rattle.script_parts.specs.Valid.{IsOp, IsValid}
 use Rattle.script_parts.specs.declared.parts.Sub.{Sub}
-use Rattle.script_parts.specs.declared.parts.SubOp.{SubOp}
 use Rattle.script_parts.specs.declared.parts.Tree.{Tree}
 use Rattle.script_parts.specs.declared.parts.TreeKind.{TreeKind}
 use Rattle.script_parts.specs.declared.parts.TreeKind.TheVariants.{Update, Read, Strict}
 use Rattle.tree_home.specs.HeldAnswers.{answer_when_acked}
 use Rattle.tree_home.specs.Homes.{Gets, OpenTrees, begun}
 use Rattle.tree_home.specs.declared.homes.Answered.{Answered}
-use Rattle.world_model.specs.Asked.{asked_ops, tree_part}
+use Rattle.world_model.specs.Asked.{tree_part}
 use Rattle.world_model.specs.Children.{done_letter, sub_letters}
-use Rattle.world_model.specs.Core.{Core, Refusals, in_core, refused_by}
+use Rattle.world_model.specs.Core.{Core, Refusals, refused_by}
 use Rattle.world_model.specs.Counts.{Each}
 use Rattle.world_model.specs.Done.{TreeOut, note_part, turned_if}
 use Rattle.world_model.specs.Named.{is_strict_at, tree_kind_at}

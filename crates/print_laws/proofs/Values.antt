@@ -1,9 +1,8 @@
 -- Values of tops and bags that keep to the greatest magnitude, and what operations make of them.
-use Rattle.std.proofs.Common.{ℕ, ◌≡◌, ◌≤◌, ◌+◌, Bool, true, false, List, [], ◌∷◌, ◌++◌, refl, arith}
+use Rattle.std.proofs.Common.{ℕ, ◌≤◌, Bool, true, false, List, [], ◌∷◌, arith}
 use Rattle.std.specs.Prelude.{if◌then◌else◌, ℤ, int_le, int_lt, nat_le, nat_lt, unsigned_abs}
 use Rattle.std.specs.Int.{int_max}
 use Rattle.std.specs.List.{AllByRecursion, filter}
-use Rattle.std.proofs.lemmas.Int.{clamps, ints}
 use Rattle.tv_base.specs.declared.numbers.Version.{Version}
 use Rattle.commute_ops.proofs.Ascending.{IsAscending-with_number}
 use Rattle.commute_ops.specs.Numbers.{IsAscending, with_number}

@@ -1,6 +1,6 @@
 -- What an entry's lines say of the script: what they name is there, rows have one number for each node, notices and
 -- answers are of the kind of their tree, and values are of their items' kinds, with magnitudes that are allowed.
-use Rattle.std.specs.Prelude.{ℕ, ◌≡◌, Bool, true, false, List, length, slice_get}
+use Rattle.std.specs.Prelude.{ℕ, ◌≡◌, true, false, List, length, slice_get}
 use Rattle.std.specs.List.{AllByRecursion}
 use Rattle.letter_types.specs.declared.acts.Act.{Act}
 use Rattle.letter_types.specs.declared.acts.Act.TheVariants as acts

@@ -20,12 +20,13 @@ pub fn entries_are_of_the_script()
     ensures { (s : ScriptData) (h : List Entry) → IsValid s → IsWorldRun s h → AllByRecursion (IsOfScript s) h }
 {}
 
-/// Each entry of a history that is a run by the tables may be printed, and what is printed says what it is. It walks the
-/// history and changes nothing.
+/// Each entry of a history that is a run of the script by the tables may be printed: its lines are of the script, and
+/// its numbers have their ranges. It walks the history and changes nothing.
 pub fn runs_are_printable(script: &Script, history: &History)
     requires { IsWorldRun script.now history.now }
     ensures { AllByRecursion (IsPrintable script.now) history.now }
 {
+    // That says that the script is valid.
     let _nodes = script.nodes();
     entries_are_of_the_script();
     numbers_have_their_ranges(history);

@@ -74,13 +74,17 @@ fn of_body(body: &Body)
         | Body::Decide { version, .. }
         | Body::Decided { version, .. } => word(version.0),
         Body::Done {
-            version, notice, ..
+            version,
+            notice,
+            ..
         } => {
             word(version.0);
             of_notice(notice)
         }
         Body::Reply {
-            version, answer, ..
+            version,
+            answer,
+            ..
         } => {
             word(version.0);
             of_answer(answer)
@@ -202,11 +206,9 @@ fn of_row(numbers: &[u64])
 // A number of 64 bits.
 fn word(number: u64)
     ensures { IsWord number }
-{
-}
+{}
 
 // A number of 32 bits.
 fn half_word(number: u32)
     ensures { IsHalfWord number }
-{
-}
+{}
