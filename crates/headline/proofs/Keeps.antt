@@ -235,7 +235,7 @@ first_keeps s xs node (a ∷ acts) each quiet =
     (by (opens a) refl, others_keep s _ node acts (λ j b at is. later j (each (suc j) b at is).0) (omega (arith, quiet))) where
       by : (test : Bool) → opens a ≡ test → KeepsToAt s xs node a
       by true is = (each 0 a refl is).1
-      by false is = other_keeps s xs a is (omega (arith, quiet))
+      by false is = other_keeps s xs node a is (omega (arith, quiet))
 
       later : (j : ℕ) → suc j ≡ 0 → ⊥
       later j is = omega (arith, is)
