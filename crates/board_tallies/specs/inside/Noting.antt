@@ -1,0 +1,82 @@
+-- What an act makes of the numbers of its node and of the state of its tree, and how that is taken back.
+use Rattle.std.specs.Prelude.{if◌then◌else◌, ℕ, Bool, true, false, not, ◌&&◌, ◌||◌, List, Option, Some, None, get_or, slice_set, slice_get}
+use Rattle.std.specs.Option.{option_or}
+use Rattle.tv_base.specs.declared.numbers.SubNo.{SubNo}
+use Rattle.tv_base.specs.declared.numbers.TreeNo.{TreeNo}
+use Rattle.tv_base.specs.declared.numbers.Version.{Version}
+use Rattle.letter_types.specs.declared.acts.Act.{Act}
+use Rattle.letter_types.specs.declared.acts.Act.TheVariants.{Born, Did, Turned, Showed, Swept, Finished, Voted, Freed, Decided, Applied}
+use Rattle.letter_types.specs.declared.votes.Vote.{Vote}
+use Rattle.letter_types.specs.declared.votes.Vote.TheVariants.{Yes, No}
+use Rattle.board_tallies.specs.Board.{numbers_at, state_at}
+use Rattle.board_tallies.specs.declared.numbers.Numbers.{Numbers}
+use Rattle.board_tallies.specs.declared.states.News.{News}
+use Rattle.board_tallies.specs.declared.states.News.TheVariants as news
+use Rattle.board_tallies.specs.declared.states.StateWas.{StateWas}
+use Rattle.board_tallies.specs.declared.states.StateWas.TheVariants as was
+use Rattle.board_tallies.specs.declared.states.TreeState.{TreeState}
+
+-- the numbers of a node after its act
+abbrev pub numbers_with : Act → Numbers → Numbers
+numbers_with (Turned v) n = record n { update = v }
+numbers_with (Showed v) n = record n { read = v }
+numbers_with (Swept v) n = record n { low = v }
+numbers_with Finished n = n
+numbers_with _ n = n
+
+-- those of all nodes after an act of node p
+abbrev pub nodes_with : ℕ → Act → List Numbers → List Numbers
+nodes_with p act nodes = slice_set nodes p (numbers_with act (numbers_at nodes p))
+
+-- the vote is a yes
+abbrev pub is_yes : Vote → Bool
+is_yes (Yes values) = true
+is_yes (No cause) = false
+
+-- what an act at node p tells of a tree
+abbrev pub news_by : ℕ → Act → Option News
+news_by p (Born t v) = Some (news.Born v)
+news_by p (Did t k values) = Some (news.Done k)
+news_by p (Voted t k vote) = Some (news.Voted k (is_yes vote))
+news_by p (Freed t) = Some (news.Freed (record { 0 = p }))
+news_by p (Decided t commit) = Some (news.Decided commit)
+news_by p (Applied t commit) = Some (news.Applied (record { 0 = p }))
+news_by p Finished = None
+news_by p _ = None
+
+-- the state of a tree with what is told of it: the version of its first birth, and marks
+abbrev pub with_birth : Version → TreeState → TreeState
+with_birth v st = record st { born = option_or st.born (Some v) }
+
+abbrev pub with_deed : ℕ → TreeState → TreeState
+with_deed k st = record st { done = slice_set st.done k true }
+
+abbrev pub with_vote : ℕ → Bool → TreeState → TreeState
+with_vote k said st =
+    record st { voted = slice_set st.voted k true; yes = slice_set st.yes k (said || get_or st.yes k false) }
+
+abbrev pub with_applying : ℕ → TreeState → TreeState
+with_applying p st = record st { applied = slice_set st.applied p true }
+
+abbrev pub with_freeing : ℕ → TreeState → TreeState
+with_freeing p st = record st { freed = slice_set st.freed p true }
+
+abbrev pub with_decision : Bool → TreeState → TreeState
+with_decision commit st = record st { committed = st.committed || commit; aborted = st.aborted || not commit }
+
+abbrev pub state_with : News → TreeState → TreeState
+state_with (news.Born v) st = with_birth v st
+state_with (news.Done k) st = with_deed k.0 st
+state_with (news.Voted k said) st = with_vote k.0 said st
+state_with (news.Applied p) st = with_applying p.0 st
+state_with (news.Freed p) st = with_freeing p.0 st
+state_with (news.Decided commit) st = with_decision commit st
+
+-- what of it was before
+abbrev pub state_was : News → TreeState → StateWas
+state_was (news.Born v) st = was.Born st.born
+state_was (news.Done k) st = was.Done k (get_or st.done k.0 false)
+state_was (news.Voted k said) st = was.Voted k (get_or st.voted k.0 false) (get_or st.yes k.0 false)
+state_was (news.Applied p) st = was.Applied p (get_or st.applied p.0 false)
+state_was (news.Freed p) st = was.Freed p (get_or st.freed p.0 false)
+state_was (news.Decided commit) st = was.Decided st.committed st.aborted
