@@ -3,5 +3,6 @@
 #![tactic(auto)]
 
 mod numbers;
+mod noting;
 mod pending;
 mod states;

@@ -174,5 +174,12 @@ pub(crate) fn recount_back(pending: &mut Vec<Pending>, was: PendingWas)
 pub(crate) fn drop_zeros(pending: &mut Vec<Pending>)
     ensures { pending.new.items ≡ filter is_counted pending.old.items }
 {
-    pending.retain(|one| one.writers > 0 || one.reads > 0);
+    pending.retain(|one| is_counted(one));
+}
+
+// Whether a tree is counted there.
+fn is_counted(pending: &Pending) -> bool
+    ensures { result ≡ is_counted pending.now }
+{
+    pending.writers > 0 || pending.reads > 0
 }

@@ -5,7 +5,7 @@ ghost use Rattle.board_tallies.specs.TakenBack.{state_back};
 ghost use Rattle.board_tallies.specs.inside.Noting.{is_yes, news_by, state_was, state_with};
 
 use letter_types::{Act, Vote};
-use tv_base::{ActorNo, MOST_NODES, MOST_SUBS_OF_TREE, SubNo, Version};
+use tv_base::{ActorNo, MOST_NODES, MOST_SUBS_OF_TREE, SubNo, TreeNo, Version};
 use tx_trees::{Sub, Tree, TreeKind};
 
 // What the acts so far say of a tree: its version, which of its subtransactions were done, have voted and have voted
@@ -64,21 +64,21 @@ pub(crate) fn first_state() -> TreeState
     }
 }
 
-// What an act tells of a tree.
-pub(crate) fn news_by(node: ActorNo, act: &Act) -> Option<News>
+// What an act tells, and of which tree.
+pub(crate) fn news_by(node: ActorNo, act: &Act) -> Option<(TreeNo, News)>
     ensures { result ≡ news_by node.0 act.now }
 {
     match act {
-        Act::Born { tree: _, version } => Some(News::Born(*version)),
+        Act::Born { tree, version } => Some((*tree, News::Born(*version))),
         Act::Did {
-            tree: _,
+            tree,
             sub,
             values: _,
-        } => Some(News::Done(*sub)),
-        Act::Voted { tree: _, sub, vote } => Some(News::Voted(*sub, is_yes(vote.get()))),
-        Act::Freed { tree: _ } => Some(News::Freed(node)),
-        Act::Decided { tree: _, commit } => Some(News::Decided(*commit)),
-        Act::Applied { tree: _, commit: _ } => Some(News::Applied(node)),
+        } => Some((*tree, News::Done(*sub))),
+        Act::Voted { tree, sub, vote } => Some((*tree, News::Voted(*sub, is_yes(vote.get())))),
+        Act::Freed { tree } => Some((*tree, News::Freed(node))),
+        Act::Decided { tree, commit } => Some((*tree, News::Decided(*commit))),
+        Act::Applied { tree, commit: _ } => Some((*tree, News::Applied(node))),
         _ => None,
     }
 }

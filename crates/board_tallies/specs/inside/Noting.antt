@@ -8,7 +8,9 @@ use Rattle.letter_types.specs.declared.acts.Act.{Act}
 use Rattle.letter_types.specs.declared.acts.Act.TheVariants.{Born, Did, Turned, Showed, Swept, Finished, Voted, Freed, Decided, Applied}
 use Rattle.letter_types.specs.declared.votes.Vote.{Vote}
 use Rattle.letter_types.specs.declared.votes.Vote.TheVariants.{Yes, No}
-use Rattle.board_tallies.specs.Board.{numbers_at, state_at}
+use Rattle.script_parts.specs.ScriptData.{is_read}
+use Rattle.script_parts.specs.declared.parts.Tree.{Tree}
+use Rattle.board_tallies.specs.Board.{numbers_at, pending_version, state_at}
 use Rattle.board_tallies.specs.declared.numbers.Numbers.{Numbers}
 use Rattle.board_tallies.specs.declared.states.News.{News}
 use Rattle.board_tallies.specs.declared.states.News.TheVariants as news
@@ -33,14 +35,14 @@ abbrev pub is_yes : Vote → Bool
 is_yes (Yes values) = true
 is_yes (No cause) = false
 
--- what an act at node p tells of a tree
-abbrev pub news_by : ℕ → Act → Option News
-news_by p (Born t v) = Some (news.Born v)
-news_by p (Did t k values) = Some (news.Done k)
-news_by p (Voted t k vote) = Some (news.Voted k (is_yes vote))
-news_by p (Freed t) = Some (news.Freed (record { 0 = p }))
-news_by p (Decided t commit) = Some (news.Decided commit)
-news_by p (Applied t commit) = Some (news.Applied (record { 0 = p }))
+-- what an act at node p tells, and of which tree
+abbrev pub news_by : ℕ → Act → Option (TreeNo × News)
+news_by p (Born t v) = Some (t, news.Born v)
+news_by p (Did t k values) = Some (t, news.Done k)
+news_by p (Voted t k vote) = Some (t, news.Voted k (is_yes vote))
+news_by p (Freed t) = Some (t, news.Freed (record { 0 = p }))
+news_by p (Decided t commit) = Some (t, news.Decided commit)
+news_by p (Applied t commit) = Some (t, news.Applied (record { 0 = p }))
 news_by p Finished = None
 news_by p _ = None
 
@@ -80,3 +82,18 @@ state_was (news.Voted k said) st = was.Voted k (get_or st.voted k.0 false) (get_
 state_was (news.Applied p) st = was.Applied p (get_or st.applied p.0 false)
 state_was (news.Freed p) st = was.Freed p (get_or st.freed p.0 false)
 state_was (news.Decided commit) st = was.Decided st.committed st.aborted
+
+-- the states of all trees after an act at node p
+abbrev pub states_told : Option (TreeNo × News) → List TreeState → List TreeState
+states_told None states = states
+states_told (Some told) states = slice_set states told.0.0 (state_with told.1 (state_at states told.0.0))
+
+abbrev pub states_with : ℕ → Act → List TreeState → List TreeState
+states_with p act states = states_told (news_by p act) states
+
+-- the version in which the tree of this place isn't whole yet, if it is there; and whether it reads
+abbrev pub pending_at : List Tree → List TreeState → ℕ → Option Version
+pending_at trees states t = elim (slice_get trees t) [ Some tree ↦ pending_version tree (state_at states t) | None ↦ None ]
+
+abbrev pub reads_at : List Tree → ℕ → Bool
+reads_at trees t = elim (slice_get trees t) [ Some tree ↦ is_read tree.kind | None ↦ false ]
