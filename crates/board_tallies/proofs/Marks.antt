@@ -35,3 +35,9 @@ whole_beyond trees states t (inr past) = by (slice_get trees t) where
   by : (found : Option Tree) → elim found [ Some tree ↦ is_whole_by tree (state_at states t) | None ↦ false ] ≡ false
   by None = refl
   by (Some tree) = ap (λ (state : TreeState). is_whole_by tree state) first
+
+-- a place beyond the end isn't changed
+pub set_beyond : {A : Type 0} (xs : List A) (i : ℕ) (y : A) → length xs ≤ i → slice_set xs i y ≡ xs
+set_beyond [] i y past = refl
+set_beyond (x ∷ xs) zero y past = absurd (omega (arith, past))
+set_beyond (x ∷ xs) (suc i) y past = ap (λ (ys : List _). x ∷ ys) (set_beyond xs i y (omega (arith, past)))

@@ -4,6 +4,7 @@ use Rattle.std.specs.Bool.{Decides}
 use Rattle.std.specs.List.{sum_by}
 use Rattle.tv_base.specs.declared.numbers.Version.{Version}
 use Rattle.tv_base.specs.declared.numbers.TheConstants.{MOST_NODES, MOST_SUBS_OF_TREE}
+use Rattle.letter_types.specs.declared.acts.Act.{Act}
 use Rattle.script_parts.specs.ScriptData.{ScriptData, is_read, is_strict}
 use Rattle.script_parts.specs.declared.parts.Sub.{Sub}
 use Rattle.script_parts.specs.declared.parts.Tree.{Tree}
@@ -12,7 +13,7 @@ use Rattle.board_rules.specs.Gates.{was_swept}
 use Rattle.board_rules.specs.Histories.{Place, is_whole_in, version_in, was_applied, was_done}
 use Rattle.board_rules.specs.Moves.{low_after, read_after, update_after, was_decided_as}
 use Rattle.board_rules.specs.Right.{has_finished}
-use Rattle.board_rules.specs.Serial.{is_version}
+use Rattle.board_rules.specs.Serial.{commits_by, is_settled_in, is_version}
 use Rattle.board_rules.specs.Stands.{voted_yes, was_freed, was_voted}
 use Rattle.board_tallies.specs.declared.numbers.Numbers.{Numbers}
 use Rattle.board_tallies.specs.declared.pending.Pending.{Pending}
@@ -137,3 +138,7 @@ pub record IsBoardOf (s : ScriptData) (xs : List Place) (b : BoardData) : Type 0
   pub finished : b.finished ≡ has_finished xs
   -- a node has collected to each version from 1 up to its low version
   pub swept : (p v : ℕ) → Decides (was_swept p v xs) ((1 ≤ v) × (v ≤ low_after xs p))
+
+-- the tree that becomes a member of the serial order by this act, after which the acts are these
+abbrev pub closes_in : ScriptData → List Place → Act → Option ℕ
+closes_in s upto act = elim (commits_by s act) [ Some t ↦ if is_settled_in s upto t then Some t else None | None ↦ None ]

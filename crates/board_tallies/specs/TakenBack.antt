@@ -2,6 +2,7 @@
 use Rattle.std.specs.Prelude.{ℕ, Bool, List, Option, Some, None, slice_set, take}
 use Rattle.tv_base.specs.declared.numbers.TreeNo.{TreeNo}
 use Rattle.board_tallies.specs.Board.{BoardData, state_at}
+use Rattle.board_tallies.specs.declared.board.Noted.{Noted}
 use Rattle.board_tallies.specs.declared.pending.Pending.{Pending}
 use Rattle.board_tallies.specs.declared.pending.PendingWas.{PendingWas}
 use Rattle.board_tallies.specs.declared.pending.PendingWas.TheVariants as counts
@@ -28,3 +29,13 @@ abbrev pub pending_back : PendingWas → List Pending → List Pending
 pending_back counts.Same ps = ps
 pending_back (counts.Put place one) ps = slice_set ps place one
 pending_back (counts.Added most) ps = take most ps
+
+-- all tallies
+abbrev pub taken_back : Noted → BoardData → BoardData
+taken_back n b = record {
+  nodes = slice_set b.nodes n.node.0 n.numbers;
+  trees = states_back n.told.state b.trees;
+  pending = pending_back n.told.pending b.pending;
+  passed = n.passed;
+  finished = n.finished;
+}

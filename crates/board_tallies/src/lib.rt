@@ -3,6 +3,9 @@
 #![tactic(auto)]
 
 mod numbers;
+mod board;
 mod noting;
 mod pending;
 mod states;
+
+pub use board::{Board, Noted};

@@ -1,8 +1,10 @@
 // What an act makes of the states of trees, and of the counts of those that aren't whole.
-ghost use Rattle.std.specs.Prelude.{◌≡◌, ◌≤◌, ◌<◌, ◌==◌, ◌&&◌, ℕ, Bool, length, IfOk, IsTrue, None, OnErr, OnOk, Some, false};
+ghost use Rattle.std.specs.Prelude.{if◌then◌else◌, ◌≡◌, ◌≤◌, ◌<◌, ◌==◌, ◌&&◌, ◌||◌, ℕ, Bool, length, IfOk, IsTrue, None, OnErr, OnOk, Some, false};
+ghost use Rattle.board_rules.specs.Right.{finishes};
+ghost use Rattle.script_parts.specs.ScriptData.{is_strict, is_update};
 ghost use Rattle.board_tallies.specs.Board.{AreCounted, state_at, whole_at};
 ghost use Rattle.board_tallies.specs.TakenBack.{pending_back, states_back};
-ghost use Rattle.board_tallies.specs.inside.Noting.{pending_at, reads_at, states_told, states_with};
+ghost use Rattle.board_tallies.specs.inside.Noting.{GoesOn, closed_by, kind_passes, pending_at, reads_at, states_told, states_with};
 
 use crate::pending::{Pending, PendingWas, recount, recount_back};
 use crate::states::{News, StateWas, TreeState, news_by, pending_version, tell, tell_back, whole_at};
@@ -38,6 +40,20 @@ pub(crate) fn note_tree(
         return Ok(nothing());
     };
     note_news(states, pending, trees, tree, news)
+}
+
+// Takes back what an act has changed.
+pub(crate) fn take_back(states: &mut Vec<TreeState>, pending: &mut Vec<Pending>, told: Told)
+    ensures states { states.new.items ≡ states_back told.state states.old.items }
+    ensures pending { pending.new.items ≡ pending_back told.pending pending.old.items }
+{
+    recount_back(pending, told.pending);
+    if let Some((tree, was)) = told.state {
+        let place = tree.0 as usize;
+        if place < states.len() {
+            tell_back(&mut states[place], was);
+        }
+    }
 }
 
 // Nothing is changed.
@@ -99,4 +115,75 @@ fn reads_at(trees: &[Tree], place: usize) -> bool
     ensures { result ≡ reads_at trees.now place }
 {
     place < trees.len() && is_read(trees[place].kind)
+}
+
+// The first place from this one on whose tree isn't whole.
+pub(crate) fn passed_on(trees: &[Tree], states: &[TreeState], since: usize) -> usize
+    ensures { GoesOn trees.now states.now since result }
+{
+    for place in since..states.len() {
+        if !whole_at(trees, states, place) {
+            return place;
+        }
+    }
+    since.max(states.len())
+}
+
+// Whether the client has finished, by this act or before it.
+pub(crate) fn finished_by(finished: bool, act: &Act) -> bool
+    ensures { result ≡ (finished || finishes act.now) }
+{
+    match act {
+        Act::Finished => true,
+        _ => finished,
+    }
+}
+
+// The tree that an act has made a member of the serial order, where these are the states after it.
+pub(crate) fn closed_by(trees: &[Tree], states: &[TreeState], act: &Act) -> Option<TreeNo>
+    ensures { result ≡ closed_by trees.now states.now act.now }
+{
+    match act {
+        Act::Did {
+            tree,
+            sub: _,
+            values: _,
+        } => {
+            let place = tree.0 as usize;
+            tree_if(updates_at(trees, place) && whole_at(trees, states, place), *tree)
+        }
+        Act::Decided { tree, commit } => {
+            let place = tree.0 as usize;
+            tree_if(stricts_at(trees, place) && *commit && committed_at(states, place), *tree)
+        }
+        _ => None,
+    }
+}
+
+// The tree, if the test holds.
+fn tree_if(holds: bool, tree: TreeNo) -> Option<TreeNo>
+    ensures { result ≡ (if holds then Some tree else None) }
+{
+    if holds { Some(tree) } else { None }
+}
+
+// Whether the tree of this place is there, and is an update tree.
+fn updates_at(trees: &[Tree], place: usize) -> bool
+    ensures { result ≡ kind_passes is_update trees.now place }
+{
+    place < trees.len() && is_update(trees[place].kind)
+}
+
+// Whether the tree of this place is there, and is a strict tree.
+fn stricts_at(trees: &[Tree], place: usize) -> bool
+    ensures { result ≡ kind_passes is_strict trees.now place }
+{
+    place < trees.len() && is_strict(trees[place].kind)
+}
+
+// Whether the tree of this place was decided to commit.
+pub(crate) fn committed_at(states: &[TreeState], place: usize) -> bool
+    ensures { result ≡ (state_at states.now place).committed }
+{
+    place < states.len() && states[place].committed
 }

@@ -1,5 +1,5 @@
 // The version numbers of nodes.
-ghost use Rattle.std.specs.Prelude.{◌≡◌};
+ghost use Rattle.std.specs.Prelude.{◌≡◌, slice_set};
 ghost use Rattle.board_tallies.specs.Board.{first_numbers, numbers_at};
 ghost use Rattle.board_tallies.specs.inside.Noting.{nodes_with, numbers_with};
 
@@ -43,11 +43,19 @@ pub(crate) fn note_numbers(nodes: &mut [Numbers], node: ActorNo, act: &Act) -> N
     ensures was { result ≡ numbers_at nodes.old node.0 }
 {
     let was = numbers_at(nodes, node);
+    put_numbers(nodes, node, numbers_with(was, act));
+    was
+}
+
+// Sets the numbers of a node, if it is there.
+#[tactic(auto, using(crate::proofs::Marks::set_beyond))]
+pub(crate) fn put_numbers(nodes: &mut [Numbers], node: ActorNo, numbers: Numbers)
+    ensures { nodes.new ≡ slice_set nodes.old node.0 numbers }
+{
     let place = node.0 as usize;
     if place < nodes.len() {
-        nodes[place] = numbers_with(was, act);
+        nodes[place] = numbers;
     }
-    was
 }
 
 // The numbers of a node after its act.

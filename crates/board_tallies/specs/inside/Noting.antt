@@ -1,16 +1,19 @@
 -- What an act makes of the numbers of its node and of the state of its tree, and how that is taken back.
-use Rattle.std.specs.Prelude.{if◌then◌else◌, ℕ, Bool, true, false, not, ◌&&◌, ◌||◌, List, Option, Some, None, get_or, slice_set, slice_get}
-use Rattle.std.specs.Option.{option_or}
+use Rattle.std.specs.Prelude.{if◌then◌else◌, ℕ, Bool, true, false, not, ◌&&◌, ◌||◌, ◌≡◌, ◌≤◌, ◌<◌, List, [], length, replicate, IsTrue, Option, Some, None, get_or, slice_set, slice_get}
+use Rattle.std.specs.Option.{option_or, unwrap_or}
+use Rattle.board_rules.specs.Moves.{showed_to, swept_to, turned_to}
 use Rattle.tv_base.specs.declared.numbers.SubNo.{SubNo}
 use Rattle.tv_base.specs.declared.numbers.TreeNo.{TreeNo}
 use Rattle.tv_base.specs.declared.numbers.Version.{Version}
 use Rattle.letter_types.specs.declared.acts.Act.{Act}
-use Rattle.letter_types.specs.declared.acts.Act.TheVariants.{Born, Did, Turned, Showed, Swept, Finished, Voted, Freed, Decided, Applied}
+use Rattle.letter_types.specs.declared.acts.Act.TheVariants.{Born, Did, Finished, Voted, Freed, Decided, Applied}
 use Rattle.letter_types.specs.declared.votes.Vote.{Vote}
 use Rattle.letter_types.specs.declared.votes.Vote.TheVariants.{Yes, No}
-use Rattle.script_parts.specs.ScriptData.{is_read}
+use Rattle.script_parts.specs.ScriptData.{is_read, is_strict, is_update}
 use Rattle.script_parts.specs.declared.parts.Tree.{Tree}
-use Rattle.board_tallies.specs.Board.{numbers_at, pending_version, state_at}
+use Rattle.script_parts.specs.declared.parts.TreeKind.{TreeKind}
+use Rattle.board_rules.specs.Right.{finishes}
+use Rattle.board_tallies.specs.Board.{AreCounted, BoardData, first_numbers, first_state, numbers_at, pending_version, state_at, whole_at}
 use Rattle.board_tallies.specs.declared.numbers.Numbers.{Numbers}
 use Rattle.board_tallies.specs.declared.states.News.{News}
 use Rattle.board_tallies.specs.declared.states.News.TheVariants as news
@@ -20,11 +23,11 @@ use Rattle.board_tallies.specs.declared.states.TreeState.{TreeState}
 
 -- the numbers of a node after its act
 abbrev pub numbers_with : Act → Numbers → Numbers
-numbers_with (Turned v) n = record n { update = v }
-numbers_with (Showed v) n = record n { read = v }
-numbers_with (Swept v) n = record n { low = v }
-numbers_with Finished n = n
-numbers_with _ n = n
+numbers_with act n = record {
+  update = unwrap_or (turned_to act) n.update;
+  read = unwrap_or (showed_to act) n.read;
+  low = unwrap_or (swept_to act) n.low;
+}
 
 -- those of all nodes after an act of node p
 abbrev pub nodes_with : ℕ → Act → List Numbers → List Numbers
@@ -97,3 +100,41 @@ pending_at trees states t = elim (slice_get trees t) [ Some tree ↦ pending_ver
 
 abbrev pub reads_at : List Tree → ℕ → Bool
 reads_at trees t = elim (slice_get trees t) [ Some tree ↦ is_read tree.kind | None ↦ false ]
+
+-- the tree of this place is there, and of a kind that passes the test
+abbrev pub kind_passes : (TreeKind → Bool) → List Tree → ℕ → Bool
+kind_passes test trees t = elim (slice_get trees t) [ Some tree ↦ test tree.kind | None ↦ false ]
+
+-- the tree that an act has made a member of the serial order, where these are the states after it
+abbrev pub closed_by : List Tree → List TreeState → Act → Option TreeNo
+closed_by trees states (Did t k values) =
+    if kind_passes is_update trees t.0 && whole_at trees states t.0 then Some t else None
+closed_by trees states (Decided t commit) =
+    if (kind_passes is_strict trees t.0 && commit) && (state_at states t.0).committed then Some t else None
+closed_by trees states Finished = None
+closed_by trees states _ = None
+
+-- from the first of these places up to the second trees are whole, and there one isn't
+pub record GoesOn (ts : List Tree) (states : List TreeState) (since until : ℕ) : Type 0 where
+  pub further : since ≤ until
+  pub within : since ≤ length states → until ≤ length states
+  pub whole : (t : ℕ) → since ≤ t → t < until → IsTrue (whole_at ts states t)
+  pub next : until < length states → whole_at ts states until ≡ false
+
+-- the tallies after an act at node p
+pub record IsNoted (ts : List Tree) (p : ℕ) (act : Act) (old new : BoardData) : Type 0 where
+  pub nodes : new.nodes ≡ nodes_with p act old.nodes
+  pub trees : new.trees ≡ states_with p act old.trees
+  pub pending : AreCounted ts old.trees old.pending → AreCounted ts new.trees new.pending
+  pub passed : GoesOn ts new.trees old.passed new.passed
+  pub finished : new.finished ≡ (old.finished || finishes act)
+
+-- the tallies of so many nodes and trees at first
+abbrev pub first_board : ℕ → ℕ → BoardData
+first_board nodes trees = record {
+  nodes = replicate nodes first_numbers;
+  trees = replicate trees first_state;
+  pending = [];
+  passed = 0;
+  finished = false;
+}

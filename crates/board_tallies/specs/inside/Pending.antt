@@ -1,8 +1,8 @@
 -- How many trees are counted, and what one more or less is.
-use Rattle.std.specs.Prelude.{if◌then◌else◌, ℕ, Bool, not, ◌==◌, ◌&&◌, ◌||◌, ◌≡◌, ◌≤◌, nat_lt, List, Option, Some}
+use Rattle.std.specs.Prelude.{if◌then◌else◌, ℕ, Bool, not, ◌==◌, ◌&&◌, ◌||◌, ◌≡◌, ◌≤◌, nat_lt, filter, List, Option, Some}
 use Rattle.std.specs.List.{list_all}
 use Rattle.tv_base.specs.declared.numbers.Version.{Version}
-use Rattle.board_tallies.specs.Board.{count_of, pending_of, pends}
+use Rattle.board_tallies.specs.Board.{BoardData, count_of, pending_of, pends}
 use Rattle.board_tallies.specs.declared.pending.Pending.{Pending}
 
 -- so many trees counted in place of those that were
@@ -22,3 +22,7 @@ none_to reads v ps = list_all (λ (p : Pending). (count_of reads p == 0) || nat_
 -- a tree is counted there
 abbrev pub is_counted : Pending → Bool
 is_counted p = nat_lt 0 p.writers || nat_lt 0 p.reads
+
+-- the tallies without counts of 0
+abbrev pub settled : BoardData → BoardData
+settled b = record b { pending = filter is_counted b.pending }
