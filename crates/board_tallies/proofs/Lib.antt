@@ -8,3 +8,4 @@ pub mod Standing
 pub mod Within
 pub mod Closing
 pub mod Nexts
+pub mod Deciding
