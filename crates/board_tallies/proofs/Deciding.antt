@@ -29,7 +29,7 @@ use Rattle.board_tallies.specs.declared.states.TreeState.{TreeState}
 use Rattle.board_tallies.proofs.Standing.{whole_is}
 
 -- Small tests.
-is_number : (m a b : ℕ) → a ≡ b → Decides (m == a) (m ≡ b)
+pub is_number : (m a b : ℕ) → a ≡ b → Decides (m == a) (m ≡ b)
 is_number m a b same = Decides-like (m == a) (λ e. e ∙ same) (λ e. e ∙ sym same) (Decides-eqb m a)
 
 is_flag : (b c : Bool) → b ≡ c → Decides b (c ≡ true)
@@ -113,7 +113,7 @@ marked_decides (suc n) marks had are =
     (λ h. (λ k lt. h k (omega (arith, lt)), h n (omega arith))) (Decides-and (marked_to n marks) (get_or marks n false) rest here)
 
 -- The kind of a tree.
-kind_found : (test : TreeKind → Bool) (trees : List Tree) (t : ℕ) (tree : Tree) → slice_get trees t ≡ Some tree
+pub kind_found : (test : TreeKind → Bool) (trees : List Tree) (t : ℕ) (tree : Tree) → slice_get trees t ≡ Some tree
     → elim (slice_get trees t) [ Some one ↦ test one.kind | None ↦ false ] ≡ test tree.kind
 kind_found test trees t tree at =
     ap (λ (found : Option Tree). elim found [ Some one ↦ test one.kind | None ↦ false ]) at

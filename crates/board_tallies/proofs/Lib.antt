@@ -9,3 +9,5 @@ pub mod Within
 pub mod Closing
 pub mod Nexts
 pub mod Deciding
+pub mod Waiting
+pub mod Raising
