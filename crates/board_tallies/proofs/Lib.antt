@@ -11,3 +11,4 @@ pub mod Nexts
 pub mod Deciding
 pub mod Waiting
 pub mod Raising
+pub mod Settling

@@ -5,8 +5,11 @@ ghost use Rattle.tv_base.specs.declared.numbers.TreeNo.{TreeNo};
 ghost use Rattle.script_parts.specs.ScriptData.{ScriptData};
 ghost use Rattle.letter_types.specs.declared.entries.Entry.{Entry};
 ghost use Rattle.board_rules.specs.ButCause.{IsMoveButCause};
+ghost use Rattle.board_rules.specs.Gates.{KeepsTo};
 ghost use Rattle.board_rules.specs.Histories.{Place};
 
+use crate::gates::{Gate, Gates};
+use crate::keeping::{all_gone, all_swept, is_client};
 use crate::moves::{may_by_node, may_with, tree_of};
 use crate::noting::{Told, closed_by, finished_by, note_tree, passed_on, take_back};
 use crate::numbers::{Numbers, first_numbers, note_numbers, numbers_at, put_numbers};
@@ -59,7 +62,9 @@ pub struct Noted {
 
 impl Board {
     ghost use Rattle.board_tallies.specs.Board.{IsBoardOf, closes_in};
+    ghost use Rattle.board_tallies.specs.GateRows.{AreGatesOf};
     ghost use Rattle.board_tallies.specs.TakenBack.{taken_back};
+    ghost use Rattle.board_tallies.specs.inside.Keeping.{is_open_gate, keeps_by, may_finish};
     ghost use Rattle.board_tallies.specs.inside.May.{may_come};
     ghost use Rattle.board_tallies.specs.inside.Noting.{IsNoted, closed_by, first_board};
     ghost use Rattle.board_tallies.specs.inside.Pending.{settled};
@@ -115,6 +120,52 @@ impl Board {
             ),
             None => may_by_node(&self.nodes, &self.pending, node, act),
         }
+    }
+
+    /// Whether an act of this actor keeps to the script, whose gates these are, after the acts so far: a tree is born and a
+    /// node's update version is raised where the gate of the row is open, and the client finishes once, at the end. Takes
+    /// time by the nodes.
+    pub fn keeps(&self, script: &Script, gates: &Gates, node: ActorNo, act: &Act) -> bool
+        ensures yes { result ≡ true → AreGatesOf script.now gates.now → (xs : List Place) → IsBoardOf script.now xs self.now
+            → KeepsTo script.now xs (record { node = node.0; act = act.now }) }
+        ensures no { result ≡ false → AreGatesOf script.now gates.now → (xs : List Place) → IsBoardOf script.now xs self.now
+            → KeepsTo script.now xs (record { node = node.0; act = act.now }) → ⊥ }
+    {
+        let count = script.nodes();
+        let asked = script.advances();
+        self.keeps_by(gates, count, asked, node, act)
+    }
+
+    // Whether an act of this actor keeps to a script of so many nodes and advancements.
+    fn keeps_by(&self, gates: &Gates, count: u8, asked: u32, node: ActorNo, act: &Act) -> bool
+        ensures { result ≡ keeps_by gates.now self.now count asked node.0 act.now }
+    {
+        match act {
+            Act::Born { tree, version: _ } => self.is_open(gates.of_tree(*tree)),
+            Act::Turned { version } => self.is_open(gates.of_turn(*version)),
+            Act::Finished => self.may_finish(count, asked, node),
+            _ => true,
+        }
+    }
+
+    // Whether a gate is there, and is open.
+    fn is_open(&self, gate: Option<Gate>) -> bool
+        ensures { result ≡ is_open_gate gate self.now }
+    {
+        match gate {
+            Some(gate) => gate.trees <= self.passed && all_swept(&self.nodes, gate.advances),
+            None => false,
+        }
+    }
+
+    // Whether the client of so many nodes may finish.
+    fn may_finish(&self, count: u8, asked: u32, node: ActorNo) -> bool
+        ensures { result ≡ may_finish count asked self.now node.0 }
+    {
+        is_client(count, node)
+            && !self.finished
+            && self.passed == self.trees.len()
+            && all_gone(&self.nodes, asked)
     }
 
     /// Notes an act of this actor, which has to be a move but for the cause of a vote, and gives by what it is taken back.

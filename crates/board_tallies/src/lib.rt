@@ -4,6 +4,8 @@
 
 mod numbers;
 mod board;
+mod gates;
+mod keeping;
 mod lookups;
 mod moves;
 mod noting;
@@ -11,3 +13,4 @@ mod pending;
 mod states;
 
 pub use board::{Board, Noted};
+pub use gates::Gates;
