@@ -35,7 +35,7 @@ is_number m a b same = Decides-like (m == a) (λ e. e ∙ same) (λ e. e ∙ sym
 is_flag : (b c : Bool) → b ≡ c → Decides b (c ≡ true)
 is_flag b c same = (λ is. sym same ∙ is, λ is. same ∙ is)
 
-not_flag : (b c : Bool) → b ≡ c → Decides (not b) (c ≡ false)
+pub not_flag : (b c : Bool) → b ≡ c → Decides (not b) (c ≡ false)
 not_flag true c same = (λ is. absurd (cc is), λ is. absurd (let no : true ≡ false = same ∙ is in cc no))
 not_flag false c same = (λ is. sym same, λ is. refl)
 

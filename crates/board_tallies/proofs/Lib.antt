@@ -12,3 +12,5 @@ pub mod Deciding
 pub mod Waiting
 pub mod Raising
 pub mod Settling
+pub mod Gating
+pub mod Fitting
