@@ -73,16 +73,16 @@ pub closes : (s : ScriptData) (ys : List Place) (states : List TreeState) (act :
 closes s ys states (Did t k values) shows =
     let whole : (updates s t.0 && whole_at s.trees states t.0) ≡ (updates s t.0 && is_whole_in s ys t.0)
     = either_whole (updates s t.0) (whole_at s.trees states t.0) (is_whole_in s ys t.0)
-      (λ up. whole_there s ys states t.0 (updates_there s t.0 up) (shows t.0)) in
+    (λ up. whole_there s ys states t.0 (updates_there s t.0 up) (shows t.0)) in
     ap (λ (b : Bool). option_map (λ (u : TreeNo). u.0) (if b then Some t else None)) whole
     ∙ update_closes t (updates s t.0) (is_strict_tree s t.0) (is_whole_in s ys t.0) (was_committed t.0 ys)
-      (update_not_strict s t.0)
+    (update_not_strict s t.0)
     ∙ settled_at (is_settled_in s ys) (updates s t.0) t.0
 closes s ys states (Decided t commit) shows =
     let committed : (state_at states t.0).committed ≡ was_committed t.0 ys = (shows t.0).committed ∙ sym (committed_is t.0 ys) in
     ap (λ (b : Bool). option_map (λ (u : TreeNo). u.0) (if (is_strict_tree s t.0 && commit) && b then Some t else None)) committed
     ∙ strict_closes t (updates s t.0) (is_strict_tree s t.0) commit (is_whole_in s ys t.0) (was_committed t.0 ys)
-      (update_not_strict s t.0)
+    (update_not_strict s t.0)
     ∙ settled_at (is_settled_in s ys) (is_strict_tree s t.0 && commit) t.0
 closes s ys states (Born t v) shows = refl
 closes s ys states (Turned v) shows = refl

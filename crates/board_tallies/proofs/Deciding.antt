@@ -5,6 +5,7 @@ use Rattle.std.specs.Bool.{Decides}
 use Rattle.std.specs.List.{list_all, list_any}
 use Rattle.std.proofs.lemmas.Bool.{cases_lt, eq-eqb, not_from_false, eqb-true, eqb-false, le-leb, leb-true, ltb-true, lt-ltb, not-true, or_cases, or_from, or_left, or_parts, or_right}
 use Rattle.std.proofs.lemmas.Bool.Decides.{Decides-and, Decides-at, Decides-eqb, Decides-like, Decides-ltb, nat_tests}
+use Rattle.std.proofs.lemmas.Option.{get_or_from_slice_get, slice_get_within}
 use Rattle.tv_base.specs.declared.numbers.ItemNo.{ItemNo}
 use Rattle.tv_base.specs.declared.numbers.Version.{Version}
 use Rattle.commute_ops.specs.declared.value.Value.{Value}
@@ -23,7 +24,7 @@ use Rattle.board_rules.specs.Histories.{Place, is_strict_tree, is_whole_in, vers
 use Rattle.board_rules.specs.Moves.{AllVoted, IsApplying, IsAsked, IsAskedBy, IsBirth, IsDecision, IsDeed, IsFreeing, IsWaiting, low_after, read_after, update_after, was_decided_as}
 use Rattle.board_rules.specs.Stands.{voted_yes, was_freed, was_voted}
 use Rattle.board_tallies.specs.Board.{AreMarks, ShowsNode, ShowsTree, is_whole_by, marked_to}
-use Rattle.board_tallies.specs.inside.May.{are_apart, has_turn, may_apply, may_bear, may_decide, may_do, may_free, may_vote, may_wait, runs_at, takes_version}
+use Rattle.board_tallies.specs.inside.May.{are_apart, has_turn, may_apply, may_bear, may_begin, may_decide, may_do, may_free, may_vote, may_wait, runs_at, takes_version}
 use Rattle.board_tallies.specs.declared.numbers.Numbers.{Numbers}
 use Rattle.board_tallies.specs.declared.states.TreeState.{TreeState}
 use Rattle.board_tallies.proofs.Standing.{whole_is}
@@ -46,19 +47,16 @@ is_unborn (Some v) p same = (λ is. absurd (cc is), λ is. absurd (let no : Some
 -- A subtransaction at its node.
 at_by : (nodes p : ℕ) (found : Option Sub) → ((sub : Sub) → found ≡ Some sub → sub.node.0 < nodes)
     → Decides (elim found [ Some sub ↦ sub.node.0 == p | None ↦ false ])
-      ((p < nodes) × (elim found [ Some sub ↦ sub.node.0 | None ↦ nodes ] ≡ p))
+    ((p < nodes) × (elim found [ Some sub ↦ sub.node.0 | None ↦ nodes ] ≡ p))
 at_by nodes p None small = (λ is. absurd (cc is), λ h. absurd (omega (arith, h.0, h.1)))
-at_by nodes p (Some sub) small =
-    (λ is. let same : sub.node.0 ≡ p = eqb-true sub.node.0 p is in (omega (arith, small sub refl, same), same),
-    λ h. eq-eqb sub.node.0 p h.1)
+at_by nodes p (Some sub) small = (
+  λ is. let same : sub.node.0 ≡ p = eqb-true sub.node.0 p is in (omega (arith, small sub refl, same), same),
+  λ h. eq-eqb sub.node.0 p h.1,
+)
 
 small_at : (subs : List Sub) (n k : ℕ) (sub : Sub) → All (λ (x : Sub). x.node.0 < n) subs → slice_get subs k ≡ Some sub → sub.node.0 < n
-small_at [] n k sub small at = absurd (cc at)
-small_at (x ∷ xs) n zero sub small at =
-    let same : x ≡ sub = cc at in
-    let first : x.node.0 < n = small 0 x (omega arith) in
-    let node : x.node.0 ≡ sub.node.0 = ap (λ (y : Sub). y.node.0) same in omega (arith, first, node)
-small_at (x ∷ xs) n (suc k) sub small at = small_at xs n k sub (λ i d lt. small (suc i) d (omega (arith, lt))) at
+small_at subs n k sub small at =
+    subst (λ (x : Sub). x.node.0 < n) (get_or_from_slice_get subs k sub sub at) (small k sub (slice_get_within subs k sub at))
 
 runs_decides : (s : ScriptData) (t k p : ℕ) → IsValid s → Decides (runs_at (subs_at s t) k p) ((p < s.nodes) × (node_of s t k ≡ p))
 runs_decides s t k p valid =
@@ -75,24 +73,25 @@ asked_decides had marks k (Some sub) are =
 abbrev turn_test : List Bool → ℕ → ℕ → Option Sub → Bool
 turn_test marks k p found =
     elim found [
-      Some sub ↦ (sub.node.0 == p) && ((k == 0) || get_or marks sub.parent.0 false) && not (get_or marks k false)
-      | None ↦ false ]
+      | Some sub ↦ (sub.node.0 == p) && ((k == 0) || get_or marks sub.parent.0 false) && not (get_or marks k false)
+      | None ↦ false
+    ]
 
 turn_by : (nodes p k : ℕ) (had : ℕ → Bool) (marks : List Bool) (found : Option Sub)
     → ((sub : Sub) → found ≡ Some sub → sub.node.0 < nodes) → AreMarks marks had
     → Decides (turn_test marks k p found)
-      (((p < nodes) × (elim found [ Some sub ↦ sub.node.0 | None ↦ nodes ] ≡ p)) × IsAskedBy had k found × (had k ≡ false))
+    (((p < nodes) × (elim found [ Some sub ↦ sub.node.0 | None ↦ nodes ] ≡ p)) × IsAskedBy had k found × (had k ≡ false))
 turn_by nodes p k had marks None small are = (λ is. absurd (cc is), λ h. absurd h.1)
 turn_by nodes p k had marks (Some sub) small are =
     Decides-like (turn_test marks k p (Some sub)) (λ h. (h.0.0, h.0.1, h.1)) (λ h. ((h.0, h.1), h.2))
     (Decides-and ((sub.node.0 == p) && ((k == 0) || get_or marks sub.parent.0 false)) (not (get_or marks k false))
-      (Decides-and (sub.node.0 == p) ((k == 0) || get_or marks sub.parent.0 false) (at_by nodes p (Some sub) small)
-        (asked_decides had marks k (Some sub) are))
-      (not_flag (get_or marks k false) (had k) (are.each k)))
+    (Decides-and (sub.node.0 == p) ((k == 0) || get_or marks sub.parent.0 false) (at_by nodes p (Some sub) small)
+    (asked_decides had marks k (Some sub) are))
+    (not_flag (get_or marks k false) (had k) (are.each k)))
 
 turn_decides : (s : ScriptData) (t k p : ℕ) (had : ℕ → Bool) (marks : List Bool) → IsValid s → AreMarks marks had
     → Decides (has_turn (subs_at s t) marks k p)
-      (((p < s.nodes) × (node_of s t k ≡ p)) × IsAsked s had t k × (had k ≡ false))
+    (((p < s.nodes) × (node_of s t k ≡ p)) × IsAsked s had t k × (had k ≡ false))
 turn_decides s t k p had marks valid are =
     turn_by s.nodes p k had marks (sub_at s t k) (λ sub at. small_at (subs_at s t) s.nodes k sub (sub_nodes s t valid) at) are
 
@@ -143,7 +142,7 @@ takes_decides update read v Strict n one two =
     Decides-like ((v == n.update.0) && (v == n.read.0 + 1))
     (λ e. record { updates = λ is. absurd (cc is); reads = λ is. absurd (cc is); strict = λ is. e }) (λ takes. takes.strict refl)
     (Decides-and (v == n.update.0) (v == n.read.0 + 1) (is_number v n.update.0 update one)
-      (is_number v (n.read.0 + 1) (read + 1) (ap (λ m. m + 1) two)))
+    (is_number v (n.read.0 + 1) (read + 1) (ap (λ m. m + 1) two)))
 
 no_values : (given : List (ItemNo × Value)) → (length given == 0) ≡ true → given ≡ []
 no_values [] is = refl
@@ -201,6 +200,12 @@ strict_kind_of : (s : ScriptData) (xs : List Place) (p t : ℕ) (tree : Tree) (s
 strict_kind_of s xs p t tree st n seen =
     is_flag (is_strict tree.kind) (is_strict_tree s t) (sym (kind_found is_strict s.trees t tree seen.at))
 
+begins : (s : ScriptData) (xs : List Place) (p t : ℕ) (tree : Tree) (st : TreeState) (n : Numbers) → IsSeen s xs p t tree st n
+    → Decides (may_begin tree st p) (((p < s.nodes) × (home_of s t ≡ p)) × (version_in t xs ≡ None))
+begins s xs p t tree st n seen =
+    Decides-and (runs_at tree.subs 0 p) (is_none st.born) (rooted s xs p t tree st n seen)
+    (is_unborn st.born (version_in t xs) seen.shows.born)
+
 pub bear_decides : (s : ScriptData) (xs : List Place) (p t v : ℕ) (tree : Tree) (st : TreeState) (n : Numbers)
     → IsSeen s xs p t tree st n → Decides (may_bear tree st n p v) (IsBirth s xs p t v)
 bear_decides s xs p t v tree st n seen =
@@ -215,39 +220,37 @@ bear_decides s xs p t v tree st n seen =
       read = λ is. h.1.reads (sym read ∙ is);
       strict = λ is. h.1.strict (sym strict ∙ is);
     })
-    (λ birth. ((birth.home, birth.unborn),
+    (λ birth. (
+      (birth.home, birth.unborn),
       record {
         updates = λ is. birth.update (update ∙ is);
         reads = λ is. birth.read (read ∙ is);
         strict = λ is. birth.strict (strict ∙ is);
-      }))
-    (Decides-and (runs_at tree.subs 0 p && is_none st.born) (takes_version tree.kind n v)
-      (Decides-and (runs_at tree.subs 0 p) (is_none st.born) (rooted s xs p t tree st n seen)
-        (is_unborn st.born (version_in t xs) seen.shows.born))
-      (takes_decides (update_after xs p) (read_after xs p) v tree.kind n seen.numbers.update seen.numbers.read))
+      },
+    ))
+    (Decides-and (may_begin tree st p) (takes_version tree.kind n v) (begins s xs p t tree st n seen)
+    (takes_decides (update_after xs p) (read_after xs p) v tree.kind n seen.numbers.update seen.numbers.read))
 
 pub wait_decides : (s : ScriptData) (xs : List Place) (p t u r : ℕ) (tree : Tree) (st : TreeState) (n : Numbers)
     → IsSeen s xs p t tree st n → Decides (may_wait tree st n p u r) (IsWaiting s xs p t u r)
 wait_decides s xs p t u r tree st n seen =
     Decides-like (may_wait tree st n p u r)
     (λ h. record {
-      strict = h.0.0.0;
-      unborn = h.0.1;
-      home = h.0.0.1;
+      strict = h.0.0;
+      unborn = h.0.1.1;
+      home = h.0.1.0;
       update = h.1.0.0;
       read = h.1.0.1;
       apart = h.1.1;
     })
-    (λ waits. (((waits.strict, waits.home), waits.unborn), ((waits.update, waits.read), waits.apart)))
-    (Decides-and (is_strict tree.kind && runs_at tree.subs 0 p && is_none st.born) (are_apart n u r)
-      (Decides-and (is_strict tree.kind && runs_at tree.subs 0 p) (is_none st.born)
-        (Decides-and (is_strict tree.kind) (runs_at tree.subs 0 p) (strict_kind_of s xs p t tree st n seen)
-          (rooted s xs p t tree st n seen))
-        (is_unborn st.born (version_in t xs) seen.shows.born))
-      (Decides-and ((u == n.update.0) && (r == n.read.0)) (not (u == r + 1))
-        (Decides-and (u == n.update.0) (r == n.read.0) (is_number u n.update.0 (update_after xs p) seen.numbers.update)
-          (is_number r n.read.0 (read_after xs p) seen.numbers.read))
-        (not_flag (u == r + 1) (u == r + 1) refl)))
+    (λ waits. ((waits.strict, (waits.home, waits.unborn)), ((waits.update, waits.read), waits.apart)))
+    (Decides-and (is_strict tree.kind && may_begin tree st p) (are_apart n u r)
+    (Decides-and (is_strict tree.kind) (may_begin tree st p) (strict_kind_of s xs p t tree st n seen)
+    (begins s xs p t tree st n seen))
+    (Decides-and ((u == n.update.0) && (r == n.read.0)) (not (u == r + 1))
+    (Decides-and (u == n.update.0) (r == n.read.0) (is_number u n.update.0 (update_after xs p) seen.numbers.update)
+    (is_number r n.read.0 (read_after xs p) seen.numbers.read))
+    (not_flag (u == r + 1) (u == r + 1) refl)))
 
 pub do_decides : (s : ScriptData) (xs : List Place) (p t k : ℕ) (given : List (ItemNo × Value)) (tree : Tree) (st : TreeState)
     (n : Numbers) → IsSeen s xs p t tree st n → Decides (may_do tree st p k given) (IsDeed s xs p t k given)
@@ -266,15 +269,15 @@ do_decides s xs p t k given tree st n seen =
     })
     (λ deed. (((sym either ∙ deed.commutes, deed.born), (deed.node, deed.asked, deed.once)), λ is. deed.values (update ∙ is)))
     (Decides-and (not (is_strict tree.kind) && is_some st.born && has_turn tree.subs st.done k p)
-      (not (is_update tree.kind) || (length given == 0))
-      (Decides-and (not (is_strict tree.kind) && is_some st.born) (has_turn tree.subs st.done k p)
-        (Decides-and (not (is_strict tree.kind)) (is_some st.born) (commutes_decides tree.kind)
-          (is_flag (is_some st.born) (was_born xs t) (ap is_some seen.shows.born)))
-        (own_subs s t tree
-          (λ subs. Decides (has_turn subs st.done k p)
-            (((p < s.nodes) × (node_of s t k ≡ p)) × IsAsked s (λ j. was_done t j xs) t k × (was_done t k xs ≡ false)))
-          seen.at (turn_decides s t k p (λ j. was_done t j xs) st.done seen.valid seen.shows.done)))
-      (given_decides (is_update tree.kind) given))
+    (not (is_update tree.kind) || (length given == 0))
+    (Decides-and (not (is_strict tree.kind) && is_some st.born) (has_turn tree.subs st.done k p)
+    (Decides-and (not (is_strict tree.kind)) (is_some st.born) (commutes_decides tree.kind)
+    (is_flag (is_some st.born) (was_born xs t) (ap is_some seen.shows.born)))
+    (own_subs s t tree
+    (λ subs. Decides (has_turn subs st.done k p)
+    (((p < s.nodes) × (node_of s t k ≡ p)) × IsAsked s (λ j. was_done t j xs) t k × (was_done t k xs ≡ false)))
+    seen.at (turn_decides s t k p (λ j. was_done t j xs) st.done seen.valid seen.shows.done)))
+    (given_decides (is_update tree.kind) given))
 
 pub vote_decides : (s : ScriptData) (xs : List Place) (p t k : ℕ) (tree : Tree) (st : TreeState) (n : Numbers)
     → IsSeen s xs p t tree st n → Decides (may_vote tree st p k) (IsVotingAsked s xs p t k)
@@ -283,12 +286,12 @@ vote_decides s xs p t k tree st n seen =
     (λ h. record { strict = h.0.0; born = h.0.1; asked = h.1.1; once = h.1.2; node = h.1.0 })
     (λ vote. ((vote.strict, vote.born), (vote.node, vote.asked, vote.once)))
     (Decides-and (is_strict tree.kind && is_some st.born) (has_turn tree.subs st.voted k p)
-      (Decides-and (is_strict tree.kind) (is_some st.born) (strict_kind_of s xs p t tree st n seen)
-        (is_flag (is_some st.born) (was_born xs t) (ap is_some seen.shows.born)))
-      (own_subs s t tree
-        (λ subs. Decides (has_turn subs st.voted k p)
-          (((p < s.nodes) × (node_of s t k ≡ p)) × IsAsked s (λ j. was_voted t j xs) t k × (was_voted t k xs ≡ false)))
-        seen.at (turn_decides s t k p (λ j. was_voted t j xs) st.voted seen.valid seen.shows.voted)))
+    (Decides-and (is_strict tree.kind) (is_some st.born) (strict_kind_of s xs p t tree st n seen)
+    (is_flag (is_some st.born) (was_born xs t) (ap is_some seen.shows.born)))
+    (own_subs s t tree
+    (λ subs. Decides (has_turn subs st.voted k p)
+    (((p < s.nodes) × (node_of s t k ≡ p)) × IsAsked s (λ j. was_voted t j xs) t k × (was_voted t k xs ≡ false)))
+    seen.at (turn_decides s t k p (λ j. was_voted t j xs) st.voted seen.valid seen.shows.voted)))
 
 visits_decides : (s : ScriptData) (xs : List Place) (p t : ℕ) (tree : Tree) (st : TreeState) (n : Numbers)
     → IsSeen s xs p t tree st n → Decides (visits tree.subs p) (visits (subs_at s t) p ≡ true)
@@ -303,12 +306,12 @@ free_decides s xs p t tree st n seen =
     (λ h. record { update = h.0.0.0; visited = h.0.0.1; whole = h.0.1; once = h.1 })
     (λ frees. (((frees.update, frees.visited), frees.whole), frees.once))
     (Decides-and (is_update tree.kind && visits tree.subs p && is_whole_by tree st) (not (get_or st.freed p false))
-      (Decides-and (is_update tree.kind && visits tree.subs p) (is_whole_by tree st)
-        (Decides-and (is_update tree.kind) (visits tree.subs p)
-          (is_flag (is_update tree.kind) (updates s t) (sym (kind_found is_update s.trees t tree seen.at)))
-          (visits_decides s xs p t tree st n seen))
-        (is_flag (is_whole_by tree st) (is_whole_in s xs t) (whole_is s xs t tree st seen.at seen.shows)))
-      (not_flag (get_or st.freed p false) (was_freed t p xs) (seen.shows.freed.each p)))
+    (Decides-and (is_update tree.kind && visits tree.subs p) (is_whole_by tree st)
+    (Decides-and (is_update tree.kind) (visits tree.subs p)
+    (is_flag (is_update tree.kind) (updates s t) (sym (kind_found is_update s.trees t tree seen.at)))
+    (visits_decides s xs p t tree st n seen))
+    (is_flag (is_whole_by tree st) (is_whole_in s xs t) (whole_is s xs t tree st seen.at seen.shows)))
+    (not_flag (get_or st.freed p false) (was_freed t p xs) (seen.shows.freed.each p)))
 
 all_decides : (s : ScriptData) (t : ℕ) (tree : Tree) (marks : List Bool) (had : ℕ → Bool) → slice_get s.trees t ≡ Some tree
     → AreMarks marks had → Decides (marked_to (length tree.subs) marks) ((k : ℕ) → k < length (subs_at s t) → had k ≡ true)
@@ -330,17 +333,17 @@ decide_decides s xs p t commit tree st n seen =
     })
     (λ d. ((((d.strict, d.home), d.voted), d.once), (d.yes_if, d.only_if)))
     (Decides-and
-      (is_strict tree.kind && runs_at tree.subs 0 p && marked_to (length tree.subs) st.voted && not (st.committed || st.aborted))
-      (if commit then marked_to (length tree.subs) st.yes else not (marked_to (length tree.subs) st.yes))
-      (Decides-and (is_strict tree.kind && runs_at tree.subs 0 p && marked_to (length tree.subs) st.voted)
-        (not (st.committed || st.aborted))
-        (Decides-and (is_strict tree.kind && runs_at tree.subs 0 p) (marked_to (length tree.subs) st.voted)
-          (Decides-and (is_strict tree.kind) (runs_at tree.subs 0 p) (strict_kind_of s xs p t tree st n seen)
-            (rooted s xs p t tree st n seen))
-          (all_decides s t tree st.voted (λ k. was_voted t k xs) seen.at seen.shows.voted))
-        (decided_decides (λ c. was_decided_as t c xs) st.committed st.aborted seen.shows.committed seen.shows.aborted))
-      (same_decides commit (marked_to (length tree.subs) st.yes)
-        (all_decides s t tree st.yes (λ k. voted_yes t k xs) seen.at seen.shows.yes)))
+    (is_strict tree.kind && runs_at tree.subs 0 p && marked_to (length tree.subs) st.voted && not (st.committed || st.aborted))
+    (if commit then marked_to (length tree.subs) st.yes else not (marked_to (length tree.subs) st.yes))
+    (Decides-and (is_strict tree.kind && runs_at tree.subs 0 p && marked_to (length tree.subs) st.voted)
+    (not (st.committed || st.aborted))
+    (Decides-and (is_strict tree.kind && runs_at tree.subs 0 p) (marked_to (length tree.subs) st.voted)
+    (Decides-and (is_strict tree.kind) (runs_at tree.subs 0 p) (strict_kind_of s xs p t tree st n seen)
+    (rooted s xs p t tree st n seen))
+    (all_decides s t tree st.voted (λ k. was_voted t k xs) seen.at seen.shows.voted))
+    (decided_decides (λ c. was_decided_as t c xs) st.committed st.aborted seen.shows.committed seen.shows.aborted))
+    (same_decides commit (marked_to (length tree.subs) st.yes)
+    (all_decides s t tree st.yes (λ k. voted_yes t k xs) seen.at seen.shows.yes)))
 
 pub apply_decides : (s : ScriptData) (xs : List Place) (p t : ℕ) (commit : Bool) (tree : Tree) (st : TreeState) (n : Numbers)
     → IsSeen s xs p t tree st n → Decides (may_apply tree st p commit) (IsApplying s xs p t commit)
@@ -349,9 +352,9 @@ apply_decides s xs p t commit tree st n seen =
     (λ h. record { strict = h.0.0.0; visited = h.0.0.1; decided = h.0.1; once = h.1 })
     (λ applies. (((applies.strict, applies.visited), applies.decided), applies.once))
     (Decides-and (is_strict tree.kind && visits tree.subs p && (if commit then st.committed else st.aborted))
-      (not (get_or st.applied p false))
-      (Decides-and (is_strict tree.kind && visits tree.subs p) (if commit then st.committed else st.aborted)
-        (Decides-and (is_strict tree.kind) (visits tree.subs p) (strict_kind_of s xs p t tree st n seen)
-          (visits_decides s xs p t tree st n seen))
-        (either_decides (λ c. was_decided_as t c xs) commit st.committed st.aborted seen.shows.committed seen.shows.aborted))
-      (not_flag (get_or st.applied p false) (was_applied t p xs) (seen.shows.applied.each p)))
+    (not (get_or st.applied p false))
+    (Decides-and (is_strict tree.kind && visits tree.subs p) (if commit then st.committed else st.aborted)
+    (Decides-and (is_strict tree.kind) (visits tree.subs p) (strict_kind_of s xs p t tree st n seen)
+    (visits_decides s xs p t tree st n seen))
+    (either_decides (λ c. was_decided_as t c xs) commit st.committed st.aborted seen.shows.committed seen.shows.aborted))
+    (not_flag (get_or st.applied p false) (was_applied t p xs) (seen.shows.applied.each p)))

@@ -24,10 +24,8 @@ use Rattle.board_tallies.specs.inside.Keeping.{gate_to, has_gone, is_open_gate, 
 use Rattle.board_tallies.specs.declared.gates.Gate.{Gate}
 use Rattle.board_tallies.specs.declared.numbers.Numbers.{Numbers}
 use Rattle.board_tallies.proofs.Deciding.{not_flag}
-use Rattle.board_tallies.proofs.Raising.{each_node}
-
-abbrev one_when : Bool → ℕ
-one_when b = if b then 1 else 0
+use Rattle.board_tallies.proofs.Raising.{always, each_node}
+use Rattle.board_tallies.proofs.Marks.{one_when}
 
 -- How many rows ask for an advancement.
 asked_is : (rs : List ScriptRow) → advances_in rs ≡ rows_passing is_advance rs
@@ -167,13 +165,13 @@ advance_row_is rows.Lose is = absurd (cc is)
 -- The trees for which a row waits.
 trees_open : (s : ScriptData) (xs : List Place) (b : BoardData) (i : ℕ) → IsValid s → IsBoardOf s xs b
     → Decides (nat_le (rows_passing is_tree_row (awaited s i)) b.passed)
-      ((j t : ℕ) → slice_get (awaited s i) j ≡ Some (rows.Tree (record { 0 = t })) → is_whole_in s xs t ≡ true)
+    ((j t : ℕ) → slice_get (awaited s i) j ≡ Some (rows.Tree (record { 0 = t })) → is_whole_in s xs t ≡ true)
 trees_open s xs b i valid board = (there, back) where
   there : nat_le (rows_passing is_tree_row (awaited s i)) b.passed ≡ true
       → (j t : ℕ) → slice_get (awaited s i) j ≡ Some (rows.Tree (record { 0 = t })) → is_whole_in s xs t ≡ true
   there is j t at =
       let number = names_number 0 (0 + rows_passing is_tree_row (awaited s i)) j (record { 0 = t }) (awaited s i)
-          (awaited_names s i valid) at in
+      (awaited_names s i valid) at in
       let below = passing_below is_tree_row (awaited s i) j (rows.Tree (record { 0 = t })) at refl in
       let le = leb-true (rows_passing is_tree_row (awaited s i)) b.passed is in
       board.passed.each t (omega (arith, number, below, le))
@@ -184,10 +182,10 @@ trees_open s xs b i valid board = (there, back) where
   back_by whole (inr le) = le-leb (rows_passing is_tree_row (awaited s i)) b.passed le
   back_by whole (inl more) =
       let (j, at) = names_found 0 (0 + rows_passing is_tree_row (awaited s i)) b.passed (awaited s i) (awaited_names s i valid)
-          (omega arith) (omega (arith, more)) in
+      (omega arith) (omega (arith, more)) in
       let few = awaited_few s i valid in
       absurd (let yes_it = whole j b.passed at in let no_it = board.passed.next (omega (arith, more, few)) in
-        let both : true ≡ false = sym yes_it ∙ no_it in cc both)
+      let both : true ≡ false = sym yes_it ∙ no_it in cc both)
 
   back : ((j t : ℕ) → slice_get (awaited s i) j ≡ Some (rows.Tree (record { 0 = t })) → is_whole_in s xs t ≡ true)
       → nat_le (rows_passing is_tree_row (awaited s i)) b.passed ≡ true
@@ -229,17 +227,17 @@ open_decides s xs b i valid board =
     (λ h. record { trees = h.0; advances = λ a p lt node. h.1 p node a (omega (arith, lt, asked)) })
     (λ opens. (opens.trees, λ q node a lt. opens.advances a q (omega (arith, lt, asked)) node))
     (Decides-and (nat_le gate.trees b.passed) (list_all (λ (n : Numbers). nat_le gate.advances n.low.0) b.nodes)
-      (trees_open s xs b i valid board)
-      (each_node s xs b (λ n. nat_le gate.advances n.low.0) (λ q. (a : ℕ) → a < gate.advances → was_swept q (a + 1) xs ≡ true) board
-        (λ q. swept_to_each s xs b gate.advances q board)))
+    (trees_open s xs b i valid board)
+    (each_node s xs b (λ n. nat_le gate.advances n.low.0) (λ q. (a : ℕ) → a < gate.advances → was_swept q (a + 1) xs ≡ true) board
+    (λ q. swept_to_each s xs b gate.advances q board)))
 
 -- The gate of a row that passes a test, by its number among those.
 gate_decides : (s : ScriptData) (xs : List Place) (b : BoardData) (test : ScriptRow → Bool) (gates : List Gate) (k : ℕ) (P : Type 0)
     → IsValid s → IsBoardOf s xs b → AreGatesFor test s.rows gates
     → (P → (i : ℕ) × (r : ScriptRow) × (slice_get s.rows i ≡ Some r) × (test r ≡ true)
-        × (rows_passing test (take i s.rows) ≡ k) × IsOpen s xs i)
+    × (rows_passing test (take i s.rows) ≡ k) × IsOpen s xs i)
     → ((i : ℕ) (r : ScriptRow) → slice_get s.rows i ≡ Some r → test r ≡ true → rows_passing test (take i s.rows) ≡ k
-        → IsOpen s xs i → P)
+    → IsOpen s xs i → P)
     → Decides (is_open_gate (slice_get gates k) b) P
 gate_decides s xs b test gates k P valid board are gives takes = (there, back) where
   there_by : (found : Option Gate) → slice_get gates k ≡ found → is_open_gate found b ≡ true → P
@@ -265,31 +263,43 @@ born_decides : (s : ScriptData) (xs : List Place) (b : BoardData) (g : GatesData
     → AreGatesOf s g → Decides (is_open_gate (slice_get g.trees t) b) (IsBornByItsRow s xs t)
 born_decides s xs b g t valid board are =
     gate_decides s xs b is_tree_row g.trees t (IsBornByItsRow s xs t) valid board are.trees
-    (λ born. (born.row, rows.Tree (record { 0 = t }), born.there, refl,
+    (λ born. (
+      born.row,
+      rows.Tree (record { 0 = t }),
+      born.there,
+      refl,
       (let number = names_number 0 (length s.trees) born.row (record { 0 = t }) s.rows valid.rows born.there in
-        omega (arith, number)), born.gate))
+          omega (arith, number)),
+      born.gate,
+    ))
     (λ i r row passes number opens.
-      let (u, is) = tree_row_is r passes in
-      let at : slice_get s.rows i ≡ Some (rows.Tree u) = row ∙ ap (λ (one : ScriptRow). Some one) is in
-      let own = names_number 0 (length s.trees) i u s.rows valid.rows at in
-      let same : u.0 ≡ t = omega (arith, own, number) in
-      record { row = i; there = at ∙ (λ j. Some (rows.Tree (record { 0 = same j }))); gate = opens })
+    let (u, is) = tree_row_is r passes in
+    let at : slice_get s.rows i ≡ Some (rows.Tree u) = row ∙ ap (λ (one : ScriptRow). Some one) is in
+    let own = names_number 0 (length s.trees) i u s.rows valid.rows at in
+    let same : u.0 ≡ t = omega (arith, own, number) in
+    record { row = i; there = at ∙ (λ j. Some (rows.Tree (record { 0 = same j }))); gate = opens })
 
 turned_at : (s : ScriptData) (xs : List Place) (b : BoardData) (g : GatesData) (v : ℕ) → 2 ≤ v → IsValid s → IsBoardOf s xs b
     → AreGatesOf s g → Decides (is_open_gate (slice_get g.advances (v - 2)) b) (IsTurnedByItsRow s xs v)
 turned_at s xs b g v some valid board are =
     gate_decides s xs b is_advance g.advances (v - 2) (IsTurnedByItsRow s xs v) valid board are.advances
-    (λ turned. (turned.row, rows.Advance, turned.there, refl,
-      (let asked = asked_is (take turned.row s.rows) in omega (arith, asked, turned.number)), turned.gate))
+    (λ turned. (
+      turned.row,
+      rows.Advance,
+      turned.there,
+      refl,
+      (let asked = asked_is (take turned.row s.rows) in omega (arith, asked, turned.number)),
+      turned.gate,
+    ))
     (λ i r row passes number opens.
-      let is = advance_row_is r passes in
-      let asked = asked_is (take i s.rows) in
-      record {
-        row = i;
-        there = row ∙ ap (λ (one : ScriptRow). Some one) is;
-        number = omega (arith, asked, number, some);
-        gate = opens;
-      })
+    let is = advance_row_is r passes in
+    let asked = asked_is (take i s.rows) in
+    record {
+      row = i;
+      there = row ∙ ap (λ (one : ScriptRow). Some one) is;
+      number = omega (arith, asked, number, some);
+      gate = opens;
+    })
 
 turned_by : (s : ScriptData) (xs : List Place) (b : BoardData) (g : GatesData) (v : ℕ) (test : Bool) → nat_le 2 v ≡ test → IsValid s
     → IsBoardOf s xs b → AreGatesOf s g
@@ -301,15 +311,15 @@ turned_by s xs b g v false is valid board are =
 -- a node has gone through so many advancements
 gone_decides : (s : ScriptData) (xs : List Place) (b : BoardData) (asked q : ℕ) → IsBoardOf s xs b
     → Decides (has_gone asked (numbers_at b.nodes q))
-      ((update_after xs q ≡ asked + 1) × (read_after xs q ≡ asked) × (low_after xs q ≡ asked))
+    ((update_after xs q ≡ asked + 1) × (read_after xs q ≡ asked) × (low_after xs q ≡ asked))
 gone_decides s xs b asked q board =
     let n : Numbers = numbers_at b.nodes q in
     Decides-like (has_gone asked n) (λ h. (h.0.0, h.0.1, h.1)) (λ h. ((h.0, h.1), h.2))
     (Decides-and ((n.update.0 == asked + 1) && (n.read.0 == asked)) (n.low.0 == asked)
-      (Decides-and (n.update.0 == asked + 1) (n.read.0 == asked)
-        (number_is n.update.0 (update_after xs q) (asked + 1) (board.numbers q).update)
-        (number_is n.read.0 (read_after xs q) asked (board.numbers q).read))
-      (number_is n.low.0 (low_after xs q) asked (board.numbers q).low))
+    (Decides-and (n.update.0 == asked + 1) (n.read.0 == asked)
+    (number_is n.update.0 (update_after xs q) (asked + 1) (board.numbers q).update)
+    (number_is n.read.0 (read_after xs q) asked (board.numbers q).read))
+    (number_is n.low.0 (low_after xs q) asked (board.numbers q).low))
 
 all_passed : (s : ScriptData) (xs : List Place) (b : BoardData) → IsBoardOf s xs b
     → Decides (b.passed == length b.trees) ((t : ℕ) → t < length s.trees → is_whole_in s xs t ≡ true)
@@ -324,7 +334,7 @@ all_passed s xs b board = (there, back) where
   back_by whole (inr all) = eq-eqb b.passed (length b.trees) (omega (arith, all, board.passed.within, board.trees))
   back_by whole (inl some) =
       absurd (let yes_it = whole b.passed some in let no_it = board.passed.next some in
-        let both : true ≡ false = sym yes_it ∙ no_it in cc both)
+      let both : true ≡ false = sym yes_it ∙ no_it in cc both)
 
   back : ((t : ℕ) → t < length s.trees → is_whole_in s xs t ≡ true) → (b.passed == length b.trees) ≡ true
   back whole = back_by whole (cases_lt b.passed (length s.trees))
@@ -344,16 +354,13 @@ end_decides s xs b p board =
     })
     (λ end. (((end.client, end.once), end.whole), λ q lt. (end.update q lt, end.read q lt, end.low q lt)))
     (Decides-and ((p == s.nodes + 1) && not b.finished && (b.passed == length b.trees)) (list_all (has_gone asked) b.nodes)
-      (Decides-and ((p == s.nodes + 1) && not b.finished) (b.passed == length b.trees)
-        (Decides-and (p == s.nodes + 1) (not b.finished) (Decides-eqb p (s.nodes + 1))
-          (not_flag b.finished (has_finished xs) board.finished))
-        (all_passed s xs b board))
-      (each_node s xs b (has_gone asked)
-        (λ q. (update_after xs q ≡ asked + 1) × (read_after xs q ≡ asked) × (low_after xs q ≡ asked)) board
-        (λ q. gone_decides s xs b asked q board)))
-
-always : Decides true (Unit {0})
-always = (λ is. tt, λ h. refl)
+    (Decides-and ((p == s.nodes + 1) && not b.finished) (b.passed == length b.trees)
+    (Decides-and (p == s.nodes + 1) (not b.finished) (Decides-eqb p (s.nodes + 1))
+    (not_flag b.finished (has_finished xs) board.finished))
+    (all_passed s xs b board))
+    (each_node s xs b (has_gone asked)
+    (λ q. (update_after xs q ≡ asked + 1) × (read_after xs q ≡ asked) × (low_after xs q ≡ asked)) board
+    (λ q. gone_decides s xs b asked q board)))
 
 -- the test of an act says whether it keeps to the script
 pub keeps_decides : (s : ScriptData) (xs : List Place) (b : BoardData) (g : GatesData) (p : ℕ) (act : Act) → IsValid s

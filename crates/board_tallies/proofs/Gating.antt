@@ -74,5 +74,5 @@ pub regated : (rs : List ScriptRow) (i : ℕ) (r d : ScriptRow) (trees advances 
 regated rs i r d trees advances trees' advances' gate gate' lt is one two three gated =
     subst (λ (ts : List Gate). IsGated (take (i + 1) rs) ts advances' gate') (sym one)
     (subst (λ (others : List Gate). IsGated (take (i + 1) rs) trees others gate') (sym two)
-      (subst (λ (g : Gate). IsGated (take (i + 1) rs) trees advances g) (sym three)
-        (gated_at rs i r d trees advances gate lt is gated)))
+    (subst (λ (g : Gate). IsGated (take (i + 1) rs) trees advances g) (sym three)
+    (gated_at rs i r d trees advances gate lt is gated)))

@@ -1,7 +1,7 @@
 -- Lists of which one place is changed, and marks.
 use Rattle.std.proofs.Common.{◌≡◌, ◌⊎◌, inl, inr, Option, Some, None, ℕ, zero, suc, ◌<◌, ◌≤◌, ◌==◌, Bool, true, false, List, [], ◌∷◌, length, refl, ap, ◌∙◌, slice_set, get_or, arith}
-use Rattle.std.specs.Prelude.{◌&&◌, ◌||◌, replicate, slice_get}
-use Rattle.std.proofs.lemmas.List.{get_or_past}
+use Rattle.std.specs.Prelude.{if◌then◌else◌, ◌&&◌, ◌||◌, replicate, slice_get}
+use Rattle.std.proofs.lemmas.List.{get_or_past, set-get_or, set-set}
 use Rattle.std.proofs.lemmas.Option.{slice_get_past}
 use Rattle.script_parts.specs.declared.parts.Tree.{Tree}
 use Rattle.std.proofs.lemmas.Bool.Decides.{nat_tests}
@@ -11,11 +11,13 @@ use Rattle.board_tallies.specs.declared.states.Marked.{Marked}
 use Rattle.board_tallies.specs.declared.states.Marked.TheVariants as marked
 use Rattle.board_tallies.specs.declared.states.TreeState.{TreeState}
 
+-- one for a test that holds
+abbrev pub one_when : Bool → ℕ
+one_when b = if b then 1 else 0
+
 -- a place that was changed, with what was there
 pub set_back : {A : Type 0} (xs : List A) (i : ℕ) (y d : A) → slice_set (slice_set xs i y) i (get_or xs i d) ≡ xs
-set_back [] i y d = refl
-set_back (x ∷ xs) zero y d = refl
-set_back (x ∷ xs) (suc i) y d = ap (λ (ys : List _). x ∷ ys) (set_back xs i y d)
+set_back xs i y d = set-set xs i y (get_or xs i d) ∙ set-get_or xs i d
 
 -- where one isn't marked, not each is
 pub marked_to_not : (n k : ℕ) (marks : List Bool) → k < n → get_or marks k false ≡ false → marked_to n marks ≡ false
@@ -38,12 +40,6 @@ whole_beyond trees states t (inr past) = by (slice_get trees t) where
   by : (found : Option Tree) → elim found [ Some tree ↦ is_whole_by tree (state_at states t) | None ↦ false ] ≡ false
   by None = refl
   by (Some tree) = ap (λ (state : TreeState). is_whole_by tree state) first
-
--- a place beyond the end isn't changed
-pub set_beyond : {A : Type 0} (xs : List A) (i : ℕ) (y : A) → length xs ≤ i → slice_set xs i y ≡ xs
-set_beyond [] i y past = refl
-set_beyond (x ∷ xs) zero y past = absurd (omega (arith, past))
-set_beyond (x ∷ xs) (suc i) y past = ap (λ (ys : List _). x ∷ ys) (set_beyond xs i y (omega (arith, past)))
 
 -- a list that was so changed, with what was there
 pub set_back_by : {A : Type 0} (xs ys : List A) (i : ℕ) (y was d : A) → ys ≡ slice_set xs i y → was ≡ get_or xs i d

@@ -105,8 +105,8 @@ nodes_at nodes p q act xs lt shows = by (p == q) refl where
       let same : q ≡ p = sym (eqb-true p q is) in
       let set : numbers_at (nodes_with p act nodes) q ≡ numbers_with act (numbers_at nodes q)
       = ap (λ (k : ℕ). numbers_at (nodes_with p act nodes) k) same
-        ∙ get_or-set_same nodes p (numbers_with act (numbers_at nodes p)) first_numbers lt
-        ∙ ap (λ (k : ℕ). numbers_with act (numbers_at nodes k)) (sym same) in
+      ∙ get_or-set_same nodes p (numbers_with act (numbers_at nodes p)) first_numbers lt
+      ∙ ap (λ (k : ℕ). numbers_with act (numbers_at nodes k)) (sym same) in
       subst (λ (n : Numbers). ShowsNode q (xs ++ placed_at p act ∷ []) n) (sym set) (here_next p q act xs (numbers_at nodes q) is shows)
   by false is =
       let other : q ≡ p → ⊥ = λ e. absurd (grind (arith, nat_tests)) in
@@ -189,7 +189,7 @@ swept_on p q v act xs next decides =
     let low : low_after (xs ++ placed_at p act ∷ []) q ≡ (if p == q then version_or (low_after xs q) (swept_to act) else low_after xs q)
     = number_next swept_to 0 p q act xs (p == q) refl in
     let by = swept_by (p == q) (low_after xs q) v (swept_to act) (was_swept q v xs)
-        (λ here w set. next w set ∙ ap (λ (k : ℕ). low_after xs k + 1) (eqb-true p q here)) decides in
+    (λ here w set. next w set ∙ ap (λ (k : ℕ). low_after xs k + 1) (eqb-true p q here)) decides in
     Decides-at (was_swept q v (xs ++ placed_at p act ∷ []))
     (was_swept q v xs || (((p == q) && is_version v (swept_to act)) || false)) was
     (subst (λ (n : ℕ). Decides (was_swept q v xs || (((p == q) && is_version v (swept_to act)) || false)) ((1 ≤ v) × (v ≤ n))) (sym low) by)

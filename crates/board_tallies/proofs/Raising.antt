@@ -67,10 +67,10 @@ turn_test s xs b p v board =
     Decides-like (may_turn b.nodes p v) (λ h. record { node = h.0.0; next = h.0.1; near = h.1 })
     (λ turn. ((turn.node, turn.next), turn.near))
     (Decides-and (nat_lt p (length b.nodes) && (v == n.update.0 + 1)) (list_all (λ (m : Numbers). nat_le v (m.low.0 + 2)) b.nodes)
-      (Decides-and (nat_lt p (length b.nodes)) (v == n.update.0 + 1) (less_than p (length b.nodes) s.nodes board.nodes)
-        (next_number v n.update.0 (update_after xs p) (board.numbers p).update))
-      (each_node s xs b (λ m. nat_le v (m.low.0 + 2)) (λ q. v ≤ low_after xs q + 2) board
-        (λ q. at_most v ((numbers_at b.nodes q).low.0 + 2) (low_after xs q + 2) (ap (λ i. i + 2) (board.numbers q).low))))
+    (Decides-and (nat_lt p (length b.nodes)) (v == n.update.0 + 1) (less_than p (length b.nodes) s.nodes board.nodes)
+    (next_number v n.update.0 (update_after xs p) (board.numbers p).update))
+    (each_node s xs b (λ m. nat_le v (m.low.0 + 2)) (λ q. v ≤ low_after xs q + 2) board
+    (λ q. at_most v ((numbers_at b.nodes q).low.0 + 2) (low_after xs q + 2) (ap (λ i. i + 2) (board.numbers q).low))))
 
 -- Writers and readers.
 writer_kind : (k : TreeKind) → (is_update k || is_strict k) ≡ not (is_read k)
@@ -101,12 +101,12 @@ show_test s xs b p v board =
     (λ h. record { node = h.0.0.0; next = h.0.0.1; below = h.0.1; whole = h.1 })
     (λ show. (((show.node, show.next), show.below), show.whole))
     (Decides-and (nat_lt p (length b.nodes) && (v == n.read.0 + 1) && above) (none_to false v b.pending)
-      (Decides-and (nat_lt p (length b.nodes) && (v == n.read.0 + 1)) above
-        (Decides-and (nat_lt p (length b.nodes)) (v == n.read.0 + 1) (less_than p (length b.nodes) s.nodes board.nodes)
-          (next_number v n.read.0 (read_after xs p) (board.numbers p).read))
-        (each_node s xs b (λ m. nat_lt v m.update.0) (λ q. v < update_after xs q) board
-          (λ q. less_than v (numbers_at b.nodes q).update.0 (update_after xs q) (board.numbers q).update)))
-      (waits_decides s xs b (λ t. updates s t || is_strict_tree s t) false v board (writers s)))
+    (Decides-and (nat_lt p (length b.nodes) && (v == n.read.0 + 1)) above
+    (Decides-and (nat_lt p (length b.nodes)) (v == n.read.0 + 1) (less_than p (length b.nodes) s.nodes board.nodes)
+    (next_number v n.read.0 (read_after xs p) (board.numbers p).read))
+    (each_node s xs b (λ m. nat_lt v m.update.0) (λ q. v < update_after xs q) board
+    (λ q. less_than v (numbers_at b.nodes q).update.0 (update_after xs q) (board.numbers q).update)))
+    (waits_decides s xs b (λ t. updates s t || is_strict_tree s t) false v board (writers s)))
 
 whole_below : (are : ℕ → Bool) (s : ScriptData) (xs : List Place) (m v : ℕ) → v ≡ m + 1 → AllWholeTo are s xs m → AllWholeBelow are s xs v
 whole_below are s xs m v next whole t w is born lt = whole t w is born (omega (arith, next, lt))
@@ -127,21 +127,23 @@ sweep_test s xs b p v board =
       below = h.0.1;
       whole = whole_below (reads s) s xs n.low.0 v (h.0.0.1 ∙ ap (λ i. i + 1) (sym low)) h.1;
     })
-    (λ sweep. (((sweep.node, sweep.next), sweep.below),
-      whole_up_to (reads s) s xs n.low.0 v (sweep.next ∙ ap (λ i. i + 1) (sym low)) sweep.whole))
+    (λ sweep. (
+      ((sweep.node, sweep.next), sweep.below),
+      whole_up_to (reads s) s xs n.low.0 v (sweep.next ∙ ap (λ i. i + 1) (sym low)) sweep.whole,
+    ))
     (Decides-and (nat_lt p (length b.nodes) && (v == n.low.0 + 1) && read) (none_to true n.low.0 b.pending)
-      (Decides-and (nat_lt p (length b.nodes) && (v == n.low.0 + 1)) read
-        (Decides-and (nat_lt p (length b.nodes)) (v == n.low.0 + 1) (less_than p (length b.nodes) s.nodes board.nodes)
-          (next_number v n.low.0 (low_after xs p) low))
-        (each_node s xs b (λ m. nat_le v m.read.0) (λ q. v ≤ read_after xs q) board
-          (λ q. at_most v (numbers_at b.nodes q).read.0 (read_after xs q) (board.numbers q).read)))
-      (waits_decides s xs b (reads s) true n.low.0 board (readers s)))
+    (Decides-and (nat_lt p (length b.nodes) && (v == n.low.0 + 1)) read
+    (Decides-and (nat_lt p (length b.nodes)) (v == n.low.0 + 1) (less_than p (length b.nodes) s.nodes board.nodes)
+    (next_number v n.low.0 (low_after xs p) low))
+    (each_node s xs b (λ m. nat_le v m.read.0) (λ q. v ≤ read_after xs q) board
+    (λ q. at_most v (numbers_at b.nodes q).read.0 (read_after xs q) (board.numbers q).read)))
+    (waits_decides s xs b (reads s) true n.low.0 board (readers s)))
 
 -- An act of a tree that is there, and of one that isn't.
 with_there : (s : ScriptData) (xs : List Place) (b : BoardData) (p : ℕ) (t : TreeNo) (act : Act) (P : Type 0) → IsValid s
     → IsBoardOf s xs b → tree_of act ≡ Some t → (P → t.0 < length s.trees)
     → ((tree : Tree) (st : TreeState) → IsSeen s xs p t.0 tree st (numbers_at b.nodes p)
-        → Decides (may_by_tree tree st (numbers_at b.nodes p) p act) P)
+    → Decides (may_by_tree tree st (numbers_at b.nodes p) p act) P)
     → Decides (may_with (slice_get s.trees t.0) (slice_get b.trees t.0) (numbers_at b.nodes p) p act) P
 with_there s xs b p t act P valid board of there decides = by (cases_lt t.0 (length s.trees)) where
   n : Numbers
@@ -161,14 +163,15 @@ with_there s xs b p t act P valid board of there decides = by (cases_lt t.0 (len
       let here : slice_get b.trees t.0 ≡ Some (state_at b.trees t.0)
       = slice_get-get_or b.trees t.0 first_state (omega (arith, lt, board.trees)) in
       let same : may_with (slice_get s.trees t.0) (slice_get b.trees t.0) (numbers_at b.nodes p) p act
-          ≡ may_by_tree tree (state_at b.trees t.0) (numbers_at b.nodes p) p act
+      ≡ may_by_tree tree (state_at b.trees t.0) (numbers_at b.nodes p) p act
       = (λ i. may_with (at i) (here i) (numbers_at b.nodes p) p act) in
       Decides-at (may_with (slice_get s.trees t.0) (slice_get b.trees t.0) (numbers_at b.nodes p) p act)
       (may_by_tree tree (state_at b.trees t.0) (numbers_at b.nodes p) p act) same
       (decides tree (state_at b.trees t.0)
-        (record { valid = valid; at = at; shows = board.states t.0; numbers = board.numbers p }))
+      (record { valid = valid; at = at; shows = board.states t.0; numbers = board.numbers p }))
 
-always : Decides true (Unit {0})
+-- an act that nothing stands against
+pub always : Decides true (Unit {0})
 always = (λ is. tt, λ h. refl)
 
 -- the test of an act says whether it is a move, but for the cause of a vote

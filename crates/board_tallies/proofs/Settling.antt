@@ -12,6 +12,7 @@ use Rattle.script_parts.specs.declared.parts.ScriptRow.{ScriptRow}
 use Rattle.board_rules.specs.Gates.{before_settle, is_settle_row}
 use Rattle.board_tallies.specs.GateRows.{AreGatesFor, gate_behind, rows_passing}
 use Rattle.board_tallies.specs.declared.gates.Gate.{Gate}
+use Rattle.board_tallies.proofs.Marks.{one_when}
 
 settle_last : (r : ScriptRow) (rs : List ScriptRow) → is_settle_row r ≡ true → list_any is_settle_row (rs ++ r ∷ []) ≡ true
 settle_last r rs is =
@@ -36,9 +37,6 @@ pub behind_other : (rs : List ScriptRow) (r : ScriptRow) → is_settle_row r ≡
 behind_other [] r is = refl
 behind_other (x ∷ rs) r is =
     λ i. if other_last r rs is i then x ∷ behind_other rs r is i else []
-
-abbrev one_when : Bool → ℕ
-one_when b = if b then 1 else 0
 
 -- how many rows pass a test, with one more
 passing_more : (test : ScriptRow → Bool) (rs : List ScriptRow) (r : ScriptRow) (b : Bool) → test r ≡ b

@@ -3,6 +3,7 @@ use Rattle.std.proofs.Common.{◌≡◌, ◌⊎◌, inl, inr, ℕ, zero, suc, �
 use Rattle.std.specs.Prelude.{if◌then◌else◌, ◌&&◌, slice_get, is_some}
 use Rattle.std.proofs.lemmas.Bool.{cases_lt}
 use Rattle.std.proofs.lemmas.List.{get_or_past}
+use Rattle.std.proofs.lemmas.Option.{slice_get_cases}
 use Rattle.tv_base.specs.declared.numbers.Version.{Version}
 use Rattle.board_tallies.proofs.Marks.{whole_beyond}
 use Rattle.script_parts.specs.ScriptData.{ScriptData, is_strict, subs_at}
@@ -32,27 +33,23 @@ pub whole_is : (s : ScriptData) (xs : List Place) (t : ℕ) (tree : Tree) (st : 
     → ShowsTree t xs st → is_whole_by tree st ≡ is_whole_in s xs t
 whole_is s xs t tree st at shows =
     let all : is_through tree st
-        ≡ (if is_strict tree.kind then all_applied t tree.subs xs else all_done t (length tree.subs) xs)
+    ≡ (if is_strict tree.kind then all_applied t tree.subs xs else all_done t (length tree.subs) xs)
     = through_either (is_strict tree.kind) (marked_for tree.subs st.applied) (marked_to (length tree.subs) st.done)
-      (all_applied t tree.subs xs) (all_done t (length tree.subs) xs) (met_is t tree.subs xs st.applied shows.applied)
-      (marked_is t (length tree.subs) xs st.done shows.done) in
+    (all_applied t tree.subs xs) (all_done t (length tree.subs) xs) (met_is t tree.subs xs st.applied shows.applied)
+    (marked_is t (length tree.subs) xs st.done shows.done) in
     let found : is_complete s xs t
-        ≡ (if is_strict tree.kind then all_applied t tree.subs xs else all_done t (length tree.subs) xs)
+    ≡ (if is_strict tree.kind then all_applied t tree.subs xs else all_done t (length tree.subs) xs)
     = rw (at, is_strict_tree, subs_at) refl in
     let through : is_through tree st ≡ is_complete s xs t = all ∙ sym found in
     λ i. is_some (shows.born i) && through i
 
-none_within : {X : Type 0} (xs : List X) (i : ℕ) → i < length xs → slice_get xs i ≡ None → ⊥
-none_within [] i lt is = absurd (omega (arith, lt))
-none_within (x ∷ xs) zero lt is = absurd (cc is)
-none_within (x ∷ xs) (suc i) lt is = none_within xs i (omega (arith, lt)) is
-
 -- a tree that is there
 pub tree_there : (s : ScriptData) (t : ℕ) → t < length s.trees → (tree : Tree) × (slice_get s.trees t ≡ Some tree)
-tree_there s t lt = by (slice_get s.trees t) refl where
-  by : (found : Option Tree) → slice_get s.trees t ≡ found → (tree : Tree) × (slice_get s.trees t ≡ Some tree)
-  by (Some tree) at = (tree, at)
-  by None at = absurd (none_within s.trees t lt at)
+tree_there s t lt =
+    elim (slice_get_cases s.trees t).1 [
+      | inl found ↦ (found.0, found.2)
+      | inr past ↦ absurd (omega (arith, lt, past.0))
+    ]
 
 whole_found : (s : ScriptData) (xs : List Place) (states : List TreeState) (t : ℕ) (tree : Tree) → slice_get s.trees t ≡ Some tree
     → ShowsTree t xs (state_at states t) → whole_at s.trees states t ≡ is_whole_in s xs t

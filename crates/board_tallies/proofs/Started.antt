@@ -37,7 +37,7 @@ none_unwhole r v (tree ∷ trees) zero = refl
 none_unwhole r v (tree ∷ trees) (suc n) =
     let one : pends r v (is_read tree.kind) (pending_version tree first_state) ≡ 0
     = ap (λ (o : Option Version). pends r v (is_read tree.kind) o) (none_either (is_through tree first_state))
-      ∙ pends_none r (is_read tree.kind) v in
+    ∙ pends_none r (is_read tree.kind) v in
     omega (arith, one, none_unwhole r v trees n)
 
 -- nothing is known

@@ -356,8 +356,8 @@ changed_at states u n t P lt own other = by (u.0 == t) refl where
       let same : t ≡ u.0 = sym (eqb-true u.0 t is) in
       let set : state_at (states_told (Some (u, n)) states) t ≡ state_with n (state_at states t)
       = ap (λ (k : ℕ). state_at (states_told (Some (u, n)) states) k) same
-        ∙ get_or-set_same states u.0 (state_with n (state_at states u.0)) first_state lt
-        ∙ ap (λ (k : ℕ). state_with n (state_at states k)) (sym same) in
+      ∙ get_or-set_same states u.0 (state_with n (state_at states u.0)) first_state lt
+      ∙ ap (λ (k : ℕ). state_with n (state_at states k)) (sym same) in
       subst P (sym set) (own is)
   by false is =
       let apart : t ≡ u.0 → ⊥ = λ e. eqb-false u.0 t is (sym e) in

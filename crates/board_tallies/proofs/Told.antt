@@ -110,7 +110,7 @@ pub told_counts : (n : News) (trees : List Tree) (states : List TreeState) (t : 
     → old ≡ get_or states t old → y ≡ state_with n old → own ≡ reads_at trees t → before ≡ pending_at trees states t
     → after ≡ pending_at trees (slice_set states t y) t
     → (MayRecount own before after ps → (r : Bool) (v : ℕ)
-        → pending_of r v qs + pends r v own before ≡ pending_of r v ps + pends r v own after)
+    → pending_of r v qs + pends r v own before ≡ pending_of r v ps + pends r v own after)
     → AreCounted trees states ps → AreCounted trees (slice_set states t y) qs
 told_counts n trees states t old y own before after ps qs lt here is reads first last counts counted r v =
     let was : state_at states t ≡ old = there_same states t first_state old lt ∙ sym here in

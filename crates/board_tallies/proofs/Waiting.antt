@@ -18,6 +18,7 @@ use Rattle.board_tallies.specs.inside.Pending.{none_to}
 use Rattle.board_tallies.specs.declared.pending.Pending.{Pending}
 use Rattle.board_tallies.specs.declared.states.TreeState.{TreeState}
 use Rattle.board_tallies.proofs.Standing.{tree_there, whole_is}
+use Rattle.board_tallies.proofs.Marks.{one_when}
 
 -- Counts of 0 up to a version.
 one_zero : (r : Bool) (v : ℕ) (p : Pending) → Decides ((count_of r p == 0) || nat_lt v p.version.0)
@@ -53,8 +54,10 @@ none_to_decides r v [] = (λ is w le. refl, λ none. refl)
 none_to_decides r v (p ∷ ps) =
     Decides-like (none_to r v (p ∷ ps))
     (λ h w le. let sum = sum_by-cons (counted_in r w) p ps in omega (arith, sum, h.0 w le, h.1 w le))
-    (λ none. (λ w le. let sum = sum_by-cons (counted_in r w) p ps in omega (arith, sum, none w le),
-      λ w le. let sum = sum_by-cons (counted_in r w) p ps in omega (arith, sum, none w le)))
+    (λ none. (
+      λ w le. let sum = sum_by-cons (counted_in r w) p ps in omega (arith, sum, none w le),
+      λ w le. let sum = sum_by-cons (counted_in r w) p ps in omega (arith, sum, none w le),
+    ))
     (Decides-and ((count_of r p == 0) || nat_lt v p.version.0) (none_to r v ps) (one_zero r v p) (none_to_decides r v ps))
 
 -- No tree is waited for in a version.
@@ -88,9 +91,6 @@ pends_none_sum r w (x ∷ trees) (y ∷ states) none =
 through_else : (through : Bool) (o : Option Version) → through ≡ false → (if through then None else o) ≡ o
 through_else true o is = absurd (cc is)
 through_else false o is = refl
-
-abbrev one_when : Bool → ℕ
-one_when b = if b then 1 else 0
 
 if_true : (b : Bool) → b ≡ true → one_when b ≡ 1
 if_true true is = refl
@@ -159,7 +159,7 @@ waits_decides s xs b are r v board kinds =
           let (tree, at) = tree_there s t (kinds.there t is) in
           let st : TreeState = state_at b.trees t in
           let zero_it = none_pends r w.0 s.trees b.trees (sym (board.pending r w.0) ∙ none w.0 le) t tree st at
-              (state_there t (kinds.there t is)) in
+          (state_there t (kinds.there t is)) in
           let has : st.born ≡ Some w = (board.states t).born ∙ born in
           let through : is_through tree st ≡ true
           = through_by r (is_read tree.kind) (is_through tree st) w st.born (sym (kinds.kind t tree at) ∙ is) has zero_it in
@@ -175,6 +175,6 @@ waits_decides s xs b are r v board kinds =
             let shows : ShowsTree t xs st = subst (λ (z : TreeState). ShowsTree t xs z) same (board.states t) in
             none_pends_by r (is_read tree.kind) (is_through tree st) w st.born
             (λ u kind born is.
-              through_from (is_some st.born) (is_through tree st)
-              (whole_is s xs t tree st at shows
-                ∙ whole t u (kinds.kind t tree at ∙ kind) (sym shows.born ∙ born) (omega (arith, is, le))))
+            through_from (is_some st.born) (is_through tree st)
+            (whole_is s xs t tree st at shows
+            ∙ whole t u (kinds.kind t tree at ∙ kind) (sym shows.born ∙ born) (omega (arith, is, le))))

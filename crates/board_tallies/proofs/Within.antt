@@ -34,7 +34,7 @@ home_there : (s : ScriptData) (t p : ℕ) → p < s.nodes → home_of s t ≡ p 
 home_there s t p lt home = by (slice_get s.trees t) refl home where
   by : (found : Option Tree) → slice_get s.trees t ≡ found
       → (let subs : List Sub = elim found [ Some tree ↦ tree.subs | None ↦ [] ] in
-        elim (slice_get subs 0) [ Some sub ↦ sub.node.0 | None ↦ s.nodes ]) ≡ p
+      elim (slice_get subs 0) [ Some sub ↦ sub.node.0 | None ↦ s.nodes ]) ≡ p
       → t < length s.trees
   by None at is = absurd (omega (arith, lt, is))
   by (Some tree) at is = slice_get_within s.trees t tree at

@@ -39,11 +39,11 @@ impl Model for Board {
     ghost Value = { BoardData };
 
     ghost view = { λ b. record {
-        nodes = b.nodes.items;
-        trees = b.trees.items;
-        pending = b.pending.items;
-        passed = b.passed;
-        finished = b.finished
+      nodes = b.nodes.items;
+      trees = b.trees.items;
+      pending = b.pending.items;
+      passed = b.passed;
+      finished = b.finished;
     } };
 }
 
@@ -177,7 +177,7 @@ impl Board {
         ensures closed { IfOk result (λ n. (before : List Entry) (xs : List Place) → IsBoardOf script.now xs self.old
             → IsMoveButCause script.now before xs (record { node = node.0; act = act.now })
             → option_map (λ (t : TreeNo). t.0) n.closed
-                ≡ closes_in script.now (xs ++ record { node = node.0; act = act.now } ∷ []) act.now) }
+            ≡ closes_in script.now (xs ++ record { node = node.0; act = act.now } ∷ []) act.now) }
         ensures back { IfOk result (λ n. taken_back n self.new ≡ self.old) }
         ensures err { OnErr result (self.new ≡ self.old) }
     {

@@ -2,13 +2,13 @@
 //! without keeping it. It knows nothing of locks, values and causes.
 #![tactic(auto)]
 
-mod numbers;
 mod board;
 mod gates;
 mod keeping;
 mod lookups;
 mod moves;
 mod noting;
+mod numbers;
 mod pending;
 mod states;
 

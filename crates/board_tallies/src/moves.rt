@@ -2,7 +2,7 @@
 ghost use Rattle.std.specs.Prelude.{◌≡◌, ◌+◌, ◌==◌, length, nat_le, nat_lt, slice_get};
 ghost use Rattle.std.specs.List.{list_all};
 ghost use Rattle.board_tallies.specs.declared.numbers.Numbers.{Numbers};
-ghost use Rattle.board_tallies.specs.inside.May.{are_apart, has_turn, may_apply, may_bear, may_by_node, may_by_tree, may_decide, may_do, may_free, may_show, may_sweep, may_turn, may_vote, may_wait, may_with, runs_at, takes_version, tree_of};
+ghost use Rattle.board_tallies.specs.inside.May.{are_apart, has_turn, may_apply, may_bear, may_begin, may_by_node, may_by_tree, may_decide, may_do, may_free, may_show, may_sweep, may_turn, may_vote, may_wait, may_with, runs_at, takes_version, tree_of};
 
 use crate::numbers::{Numbers, numbers_at};
 use crate::pending::{Pending, none_to};
@@ -64,13 +64,7 @@ pub(crate) fn may_with(
 }
 
 // The same of a tree that is there.
-fn may_by_tree(
-    tree: &Tree,
-    state: &TreeState,
-    numbers: Numbers,
-    node: ActorNo,
-    act: &Act,
-) -> bool
+fn may_by_tree(tree: &Tree, state: &TreeState, numbers: Numbers, node: ActorNo, act: &Act) -> bool
     ensures { result ≡ may_by_tree tree.now state.now numbers node.0 act.now }
 {
     match act {
@@ -98,12 +92,23 @@ fn may_by_tree(
 }
 
 // Whether the tree may be born.
-fn may_bear(tree: &Tree, state: &TreeState, numbers: Numbers, node: ActorNo, version: Version) -> bool
+fn may_bear(
+    tree: &Tree,
+    state: &TreeState,
+    numbers: Numbers,
+    node: ActorNo,
+    version: Version,
+) -> bool
     ensures { result ≡ may_bear tree.now state.now numbers node.0 version.0 }
 {
-    runs_at(tree.subs.items(), SubNo(0), node)
-        && state.born.is_none()
-        && takes_version(tree.kind, numbers, version)
+    may_begin(tree, state, node) && takes_version(tree.kind, numbers, version)
+}
+
+// Whether the tree isn't born, and its home is the node.
+fn may_begin(tree: &Tree, state: &TreeState, node: ActorNo) -> bool
+    ensures { result ≡ may_begin tree.now state.now node.0 }
+{
+    runs_at(tree.subs.items(), SubNo(0), node) && state.born.is_none()
 }
 
 // Whether the tree may wait.
@@ -117,10 +122,7 @@ fn may_wait(
 ) -> bool
     ensures { result ≡ may_wait tree.now state.now numbers node.0 update.0 read.0 }
 {
-    is_strict(tree.kind)
-        && runs_at(tree.subs.items(), SubNo(0), node)
-        && state.born.is_none()
-        && are_apart(numbers, update, read)
+    is_strict(tree.kind) && may_begin(tree, state, node) && are_apart(numbers, update, read)
 }
 
 // Whether these are a node's update and read versions, and not one after the other.
@@ -177,7 +179,11 @@ fn may_apply(tree: &Tree, state: &TreeState, node: ActorNo, commit: bool) -> boo
 {
     is_strict(tree.kind)
         && visits(tree.subs.items(), NodeNo(node.0))
-        && (if commit { state.committed } else { state.aborted })
+        && (if commit {
+            state.committed
+        } else {
+            state.aborted
+        })
         && !is_marked(&state.applied, node.0 as usize)
 }
 

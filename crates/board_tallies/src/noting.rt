@@ -7,7 +7,9 @@ ghost use Rattle.board_tallies.specs.TakenBack.{pending_back, states_back};
 ghost use Rattle.board_tallies.specs.inside.Noting.{GoesOn, closed_by, kind_passes, pending_at, reads_at, states_told, states_with};
 
 use crate::pending::{Pending, PendingWas, recount, recount_back};
-use crate::states::{News, StateWas, TreeState, news_by, pending_version, tell, tell_back, whole_at};
+use crate::states::{
+    News, StateWas, TreeState, news_by, pending_version, tell, tell_back, whole_at,
+};
 use letter_types::Act;
 use script_parts::kinds::{is_read, is_strict, is_update};
 use tv_base::{ActorNo, NoMemory, TreeNo, Version};
@@ -150,11 +152,17 @@ pub(crate) fn closed_by(trees: &[Tree], states: &[TreeState], act: &Act) -> Opti
             values: _,
         } => {
             let place = tree.0 as usize;
-            tree_if(updates_at(trees, place) && whole_at(trees, states, place), *tree)
+            tree_if(
+                updates_at(trees, place) && whole_at(trees, states, place),
+                *tree,
+            )
         }
         Act::Decided { tree, commit } => {
             let place = tree.0 as usize;
-            tree_if(stricts_at(trees, place) && *commit && committed_at(states, place), *tree)
+            tree_if(
+                stricts_at(trees, place) && *commit && committed_at(states, place),
+                *tree,
+            )
         }
         _ => None,
     }

@@ -48,7 +48,7 @@ pub(crate) fn note_numbers(nodes: &mut Vec<Numbers>, node: ActorNo, act: &Act) -
 }
 
 // Sets the numbers of a node, if it is there.
-#[tactic(auto, using(crate::proofs::Marks::set_beyond))]
+#[tactic(auto, using(std::proofs::lemmas::List::set_past))]
 pub(crate) fn put_numbers(nodes: &mut Vec<Numbers>, node: ActorNo, numbers: Numbers)
     ensures { nodes.new.items ≡ slice_set nodes.old.items node.0 numbers }
 {

@@ -31,7 +31,11 @@ pub(crate) enum PendingWas {
 fn count_of(pending: Pending, reads: bool) -> u32
     ensures { result ≡ count_of reads pending }
 {
-    if reads { pending.reads } else { pending.writers }
+    if reads {
+        pending.reads
+    } else {
+        pending.writers
+    }
 }
 
 // The same with another count.
@@ -76,7 +80,11 @@ fn counted_place(pending: &[Pending], reads: bool, version: Version) -> Option<u
 }
 
 // Counts one tree more in a version, and gives what was there. A count at its type's greatest number finds no memory.
-fn count_in(pending: &mut Vec<Pending>, reads: bool, version: Version) -> Result<PendingWas, NoMemory>
+fn count_in(
+    pending: &mut Vec<Pending>,
+    reads: bool,
+    version: Version,
+) -> Result<PendingWas, NoMemory>
     ensures counts { OnOk result ((r : Bool) (v : ℕ)
         → pending_of r v pending.new.items ≡ pending_of r v pending.old.items + pends r v reads (Some version)) }
     ensures back { IfOk result (λ was. pending_back was pending.new.items ≡ pending.old.items) }
@@ -95,7 +103,11 @@ fn count_in(pending: &mut Vec<Pending>, reads: bool, version: Version) -> Result
 }
 
 // Counts the first tree in a version, at a place more.
-fn add_first(pending: &mut Vec<Pending>, reads: bool, version: Version) -> Result<PendingWas, NoMemory>
+fn add_first(
+    pending: &mut Vec<Pending>,
+    reads: bool,
+    version: Version,
+) -> Result<PendingWas, NoMemory>
     ensures counts { OnOk result ((r : Bool) (v : ℕ)
         → pending_of r v pending.new.items ≡ pending_of r v pending.old.items + pends r v reads (Some version)) }
     ensures back { IfOk result (λ was. pending_back was pending.new.items ≡ pending.old.items) }
@@ -150,9 +162,7 @@ pub(crate) fn recount(
 pub(crate) fn none_to(pending: &[Pending], reads: bool, version: Version) -> bool
     ensures { result ≡ none_to reads version.0 pending.now }
 {
-    pending
-        .iter()
-        .all(|one| count_of(*one, reads) == 0 || version.0 < one.version.0)
+    pending.iter().all(|one| count_of(*one, reads) == 0 || version.0 < one.version.0)
 }
 
 // Takes back a change.

@@ -25,8 +25,9 @@ runs_at subs k p = elim (slice_get subs k) [ Some sub ↦ sub.node.0 == p | None
 abbrev pub has_turn : List Sub → List Bool → ℕ → ℕ → Bool
 has_turn subs had k p =
     elim (slice_get subs k) [
-      Some sub ↦ (sub.node.0 == p) && ((k == 0) || get_or had sub.parent.0 false) && not (get_or had k false)
-      | None ↦ false ]
+      | Some sub ↦ (sub.node.0 == p) && ((k == 0) || get_or had sub.parent.0 false) && not (get_or had k false)
+      | None ↦ false
+    ]
 
 -- the version that a tree of this kind takes at a node of these numbers
 abbrev pub takes_version : TreeKind → Numbers → ℕ → Bool
@@ -34,9 +35,13 @@ takes_version kinds.Update n v = v == n.update.0
 takes_version kinds.Read n v = v == n.read.0
 takes_version kinds.Strict n v = (v == n.update.0) && (v == n.read.0 + 1)
 
--- the tests of acts at node p, whose numbers are n, that are of a tree in this state
+-- the tests of acts at node p, whose numbers are n, that are of a tree in this state: it isn't born, and its home is the
+-- node
+abbrev pub may_begin : Tree → TreeState → ℕ → Bool
+may_begin tree st p = runs_at tree.subs 0 p && is_none st.born
+
 abbrev pub may_bear : Tree → TreeState → Numbers → ℕ → ℕ → Bool
-may_bear tree st n p v = runs_at tree.subs 0 p && is_none st.born && takes_version tree.kind n v
+may_bear tree st n p v = may_begin tree st p && takes_version tree.kind n v
 
 -- its update and read versions are these, and not one after the other
 abbrev pub are_apart : Numbers → ℕ → ℕ → Bool
@@ -44,7 +49,7 @@ are_apart n u r = (u == n.update.0) && (r == n.read.0) && not (u == r + 1)
 
 abbrev pub may_wait : Tree → TreeState → Numbers → ℕ → ℕ → ℕ → Bool
 may_wait tree st n p u r =
-    is_strict tree.kind && runs_at tree.subs 0 p && is_none st.born && are_apart n u r
+    is_strict tree.kind && may_begin tree st p && are_apart n u r
 
 abbrev pub may_do : Tree → TreeState → ℕ → ℕ → List (ItemNo × Value) → Bool
 may_do tree st p k given =
@@ -125,5 +130,6 @@ may_with (Some tree) (Some st) n p act = may_by_tree tree st n p act
 abbrev pub may_come : List Tree → BoardData → ℕ → Act → Bool
 may_come ts b p act =
     elim (tree_of act) [
-      Some t ↦ may_with (slice_get ts t.0) (slice_get b.trees t.0) (numbers_at b.nodes p) p act
-      | None ↦ may_by_node b.nodes b.pending p act ]
+      | Some t ↦ may_with (slice_get ts t.0) (slice_get b.trees t.0) (numbers_at b.nodes p) p act
+      | None ↦ may_by_node b.nodes b.pending p act
+    ]

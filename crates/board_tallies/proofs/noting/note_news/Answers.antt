@@ -10,9 +10,9 @@ returns-in-Ok-clause-counted c =
     c.reads_at.result c.pending_at-before.result c.pending_at-after.result c.args.pending.now.items c.recount.new.pending.items
     (omega arith) c.index_mut.ensures.value c.tell-was.ensures.state c.reads_at.ensures
     (c.pending_at-before.ensures
-      ∙ ap (λ (states : List TreeState). pending_at c.args.trees.now states c.args.tree.0) c.deref.ensures.value)
+    ∙ ap (λ (states : List TreeState). pending_at c.args.trees.now states c.args.tree.0) c.deref.ensures.value)
     (c.pending_at-after.ensures
-      ∙ ap (λ (states : List TreeState). pending_at c.args.trees.now states c.args.tree.0) c.deref-2.ensures.value)
+    ∙ ap (λ (states : List TreeState). pending_at c.args.trees.now states c.args.tree.0) c.deref-2.ensures.value)
     c.in-Ok.ensures.counts
 
 pub returns-in-Ok-clause-states_back : goal.returns-in-Ok-clause-states_back

@@ -6,6 +6,6 @@ use Rattle.board_tallies.proofs.board.Board.is_whole.Goals as goal
 pub returns : goal.returns
 returns c =
     λ xs board.
-        c.whole_at.ensures
-        ∙ (λ i. whole_at (c.trees.ensures.trees i) ((c.deref.ensures.value ∙ ap (λ (b : BoardData). b.trees) c.self.view_is) i) c.args.tree.0)
-        ∙ whole_any c.args.script.now xs c.args.self.now.trees c.args.tree.0 board.trees (board.states c.args.tree.0)
+    c.whole_at.ensures
+    ∙ (λ i. whole_at (c.trees.ensures.trees i) ((c.deref.ensures.value ∙ ap (λ (b : BoardData). b.trees) c.self.view_is) i) c.args.tree.0)
+    ∙ whole_any c.args.script.now xs c.args.self.now.trees c.args.tree.0 board.trees (board.states c.args.tree.0)

@@ -9,5 +9,5 @@ pub returns : goal.returns
 returns c =
     subst (λ (b : BoardData). IsBoardOf c.args.script.now [] b)
     (sym (c.in_ok-board.ensures
-      ∙ (λ i. first_board (c.nodes-nodes.ensures.nodes i) (length (c.trees.ensures.trees i)))))
+    ∙ (λ i. first_board (c.nodes-nodes.ensures.nodes i) (length (c.trees.ensures.trees i)))))
     (started c.args.script.now)

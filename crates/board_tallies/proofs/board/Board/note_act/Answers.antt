@@ -21,8 +21,8 @@ returns-clause-noted c =
 pub returns-clause-back : goal.returns-clause-back
 returns-clause-back c =
     let nodes = set_back_by c.self.inside.nodes.items c.note_numbers-numbers.new.nodes.items c.args.node.0
-        (numbers_with c.args.act.now (numbers_at c.self.inside.nodes.items c.args.node.0)) c.note_numbers-numbers.result
-        first_numbers c.note_numbers-numbers.ensures.nodes c.note_numbers-numbers.ensures.was in
+    (numbers_with c.args.act.now (numbers_at c.self.inside.nodes.items c.args.node.0)) c.note_numbers-numbers.result
+    first_numbers c.note_numbers-numbers.ensures.nodes c.note_numbers-numbers.ensures.was in
     (λ i. record {
       nodes = nodes i;
       trees = c.in_ok-told.ensures.states_back i;

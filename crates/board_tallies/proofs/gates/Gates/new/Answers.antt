@@ -9,7 +9,7 @@ use Rattle.board_tallies.proofs.gates.Gates.new.Goals.{in-Tree+in_ok-push-in-Tre
 pub loop-row-preserved : goal.loop-row-preserved
 loop-row-preserved c =
     elim c.match-row.branch [
-      in-Tree+in_ok-push-in-Tree w ↦
+      | in-Tree+in_ok-push-in-Tree w ↦
           regated c.rows-row-items.result.now c.loop-row.row-index (rows.Tree w.in-Tree.field-0) _ _ _ _ _ _ _ (omega arith)
           w.in-Tree.is
           (ap (λ (v : Vec Gate Global). v.items) w.trees-is ∙ w.in_ok-push-in-Tree.ensures.items)
@@ -30,4 +30,5 @@ loop-row-preserved c =
       | in-Lose w ↦
           regated c.rows-row-items.result.now c.loop-row.row-index rows.Lose _ _ _ _ _ _ _ (omega arith) w.in-Lose.is
           (ap (λ (v : Vec Gate Global). v.items) w.trees-is) (ap (λ (v : Vec Gate Global). v.items) w.advances-is) w.gate-is
-          (gated_lose _ _ _ _ c.loop-row.invariant) ]
+          (gated_lose _ _ _ _ c.loop-row.invariant)
+    ]
