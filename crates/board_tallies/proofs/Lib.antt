@@ -1,0 +1,16 @@
+pub mod Marks
+pub mod Counted
+pub mod Told
+pub mod Started
+pub mod Numbering
+pub mod Telling
+pub mod Standing
+pub mod Within
+pub mod Closing
+pub mod Nexts
+pub mod Deciding
+pub mod Waiting
+pub mod Raising
+pub mod Settling
+pub mod Gating
+pub mod Fitting

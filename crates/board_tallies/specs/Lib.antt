@@ -1,0 +1,4 @@
+pub mod Board
+pub mod GateRows
+pub mod TakenBack
+pub mod inside

@@ -1,0 +1,5 @@
+pub mod Noting
+pub mod Keeping
+pub mod May
+pub mod Marks
+pub mod Pending
