@@ -1,3 +1,4 @@
+pub mod FoundTrees
 pub mod Kept
 pub mod Passes
 pub mod Rebuilding

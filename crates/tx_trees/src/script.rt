@@ -268,6 +268,7 @@ impl Script {
     fn item_number(&self, name: &Name) -> Option<usize>
         ensures number { result ≡ place_of name.now self.now.items }
         ensures within { IfSome result (λ k. k < length self.now.items) }
+        ensures small { IfSome result (λ k. k < 10000) }
     {
         self.item_names.number(name)
     }
@@ -284,7 +285,8 @@ impl Script {
         ensures some { IfSome result (λ x. place_of name.now self.now.items ≡ Some x.0) }
         ensures none { IsNone result → place_of name.now self.now.items ≡ None }
     {
-        self.item_number(name).map(|place| ItemNo(place as u32))
+        let place = self.item_number(name)?;
+        Some(ItemNo(place as u32))
     }
 
     /// The tree of this name.
@@ -292,7 +294,17 @@ impl Script {
         ensures some { IfSome result (λ t. tree_place name.now self.now.trees ≡ Some t.0) }
         ensures none { IsNone result → tree_place name.now self.now.trees ≡ None }
     {
-        self.tree_names.number(name).map(|place| TreeNo(place as u32))
+        let place = self.tree_number(name)?;
+        Some(TreeNo(place as u32))
+    }
+
+    // The number of the tree of this name.
+    fn tree_number(&self, name: &Name) -> Option<usize>
+        ensures number { result ≡ tree_place name.now self.now.trees }
+        ensures within { IfSome result (λ k. k < length self.now.trees) }
+        ensures small { IfSome result (λ k. k < 20000) }
+    {
+        self.tree_names.number(name)
     }
 
     /// Adds an item, and gives its number. A refusal is `OutOfRange` (the node, or the initial value, by `may_start`),
