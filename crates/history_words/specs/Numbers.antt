@@ -1,0 +1,9 @@
+-- Numbers as they are printed: decimal digits without a leading zero.
+use Rattle.std.specs.Prelude.{ℕ, Bool, false, ◌&&◌, ◌||◌, ◌==◌, not, List, [], ◌∷◌, length}
+use Rattle.std.specs.Char.{is_ascii_digit}
+use Rattle.std.specs.List.{list_all}
+
+-- digits, of which the first is no zero unless it is the only one
+abbrev pub is_plain_number : List ℕ → Bool
+is_plain_number [] = false
+is_plain_number (d ∷ ds) = list_all is_ascii_digit (d ∷ ds) && (not (d == 48) || length ds == 0)
