@@ -12,10 +12,10 @@ use Rattle.tv_base.proofs.Truths.{left_true, right_true}
 use Rattle.history_words.specs.Numbers.{is_plain_number}
 
 -- one digit more at the end
-abbrev more_value : ℕ → ℕ → ℕ
+abbrev pub more_value : ℕ → ℕ → ℕ
 more_value value b = value * 10 + (b - 48)
 
-digit_bounds : (b : ℕ) → is_ascii_digit b ≡ true → (48 ≤ b) × (b ≤ 57)
+pub digit_bounds : (b : ℕ) → is_ascii_digit b ≡ true → (48 ≤ b) × (b ≤ 57)
 digit_bounds b h = (grind (arith, nat_tests), grind (arith, nat_tests))
 
 grows : (m : ℕ) (ds : List ℕ) → m ≤ fold more_value m ds

@@ -1,2 +1,9 @@
-pub mod Digits
+pub mod Actors
 pub mod Cuts
+pub mod Digits
+pub mod Each
+pub mod ByKind
+pub mod Lacking
+pub mod Named
+pub mod Readings
+pub mod Sizes

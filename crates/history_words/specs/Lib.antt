@@ -1,3 +1,4 @@
 pub mod Exact
 pub mod Parts
 pub mod Numbers
+pub mod Words

@@ -1,5 +1,5 @@
 // A text in parts.
-ghost use Rattle.std.specs.Prelude.{◌≡◌, ◌++◌, [], ◌∷◌, true, IfSome, IsNone, MatchOption};
+ghost use Rattle.std.specs.Prelude.{ℕ, List, ◌≡◌, ◌++◌, [], ◌∷◌, true, IfSome, IsNone, MatchOption};
 ghost use Rattle.history_words.specs.Parts.{lacks, parts_at};
 
 use std::marker::Model;
@@ -48,6 +48,37 @@ impl<'a> Parts<'a> {
         };
         self.text = rest;
         Some(part)
+    }
+
+    /// That no part is left.
+    #[tactic(auto, using(crate::proofs::Cuts::some_part))]
+    pub fn end(&self) -> Option<()>
+        ensures { MatchOption result (self.now ≡ [] → ⊥) (λ _. self.now ≡ []) }
+    {
+        if self.more {
+            return None;
+        }
+        Some(())
+    }
+
+    /// The one part that is left.
+    pub fn last_one(&mut self) -> Option<&'a [u8]>
+        ensures { MatchOption result ((a : List ℕ) → self.old ≡ a ∷ [] → ⊥) (λ one. self.old ≡ one.now ∷ []) }
+    {
+        let one = self.next()?;
+        self.end()?;
+        Some(one)
+    }
+
+    /// The three parts that are left.
+    pub fn last_three(&mut self) -> Option<(&'a [u8], &'a [u8], &'a [u8])>
+        ensures { MatchOption result ((a b c : List ℕ) → self.old ≡ a ∷ b ∷ c ∷ [] → ⊥)
+            (λ three. self.old ≡ three.0.now ∷ three.1.now ∷ three.2.now ∷ []) }
+    {
+        let first = self.next()?;
+        let second = self.next()?;
+        let third = self.last_one()?;
+        Some((first, second, third))
     }
 }
 
