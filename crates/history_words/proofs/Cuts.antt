@@ -1,8 +1,7 @@
 -- The parts of a text that is cut at a byte.
-use Rattle.std.proofs.Common.{◌≡◌, ◌+◌, ◌<◌, ◌∙◌, ◌∷◌, ◌++◌, [], List, Bool, true, false, ℕ, length, get_or, take, refl, ap}
-use Rattle.std.specs.Prelude.{◌&&◌, ◌==◌, not, cond}
-use Rattle.std.specs.List.{list_all, onto_first, slice_split}
-use Rattle.std.proofs.lemmas.List.Folds.{list_all_more}
+use Rattle.std.proofs.Common.{◌≡◌, ◌∙◌, ◌∷◌, ◌++◌, [], List, Bool, true, false, ℕ, refl, ap}
+use Rattle.std.specs.Prelude.{◌==◌, not, cond}
+use Rattle.std.specs.List.{onto_first}
 use Rattle.tv_base.proofs.Truths.{left_true, right_true, same_test}
 use Rattle.history_words.specs.Parts.{lacks, parts_at}
 

@@ -1,6 +1,6 @@
 -- Decimal digits without a leading zero are what is printed of the number that they spell.
-use Rattle.std.proofs.Common.{◌≡◌, ◌+◌, ◌*◌, ◌-◌, ◌/◌, ◌%◌, ◌<◌, ◌≤◌, ◌^◌, ◌∙◌, ◌∷◌, ◌++◌, [], List, Bool, true, false, ℕ, length, refl, sym, ap, arith, length-append, append_assoc}
-use Rattle.std.specs.Prelude.{◌&&◌, ◌||◌, ◌==◌, not, decimal, nat_le, nat_lt}
+use Rattle.std.proofs.Common.{◌≡◌, ◌+◌, ◌*◌, ◌-◌, ◌/◌, ◌%◌, ◌<◌, ◌≤◌, ◌^◌, ◌∙◌, ◌∷◌, ◌++◌, [], List, true, ℕ, length, refl, sym, ap, arith, append_assoc}
+use Rattle.std.specs.Prelude.{◌||◌, ◌==◌, not, decimal}
 use Rattle.std.specs.Char.{is_ascii_digit}
 use Rattle.std.specs.List.{list_all, fold}
 use Rattle.std.proofs.lemmas.Bool.Decides.{nat_tests}

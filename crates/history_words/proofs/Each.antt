@@ -2,7 +2,6 @@
 use Rattle.std.proofs.Common.{◌≡◌, ◌∙◌, ◌∷◌, ◌++◌, [], List, map, refl, sym, ap, append_assoc}
 use Rattle.std.specs.List.{AllByRecursion}
 use Rattle.std.proofs.lemmas.List.{map-append}
-use Rattle.tx_trees.proofs.Lists.{all-push}
 
 -- where one part is no item's, the parts are those of no items
 pub each_fails : {T X : Type 0} (print : T → X) (May : T → Type 0) (seen front : List X) (part : X) (rest : List X)

@@ -1,6 +1,6 @@
 -- Texts in which a byte doesn't stand.
-use Rattle.std.proofs.Common.{◌≡◌, ◌<◌, ◌≤◌, ◌^◌, ◌∙◌, ◌∷◌, ◌++◌, [], List, Bool, true, false, ℕ, suc, refl, sym, ap, arith}
-use Rattle.std.specs.Prelude.{◌&&◌, ◌==◌, not, decimal, ℤ, pos, negsuc, IsTrue}
+use Rattle.std.proofs.Common.{◌≡◌, ◌<◌, ◌^◌, ◌∙◌, ◌∷◌, [], List, Bool, true, false, ℕ, suc, refl, sym, ap, arith}
+use Rattle.std.specs.Prelude.{◌==◌, not, decimal, ℤ, pos, negsuc, IsTrue}
 use Rattle.std.specs.Fmt.{signed_decimal}
 use Rattle.std.specs.Char.{is_ascii_digit}
 use Rattle.std.specs.List.{list_all}

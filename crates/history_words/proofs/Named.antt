@@ -1,7 +1,7 @@
 -- A search by name finds what has this name.
 use Rattle.std.proofs.Common.{◌≡◌, ◌+◌, ◌<◌, ◌≤◌, ◌∙◌, ◌∷◌, [], List, Bool, true, false, ℕ, zero, suc, length, get_or, refl, sym, ap, subst, arith, rules}
-use Rattle.std.specs.Prelude.{◌⊎◌, ◌==◌, not, cond, nat_lt, Option, Some, None, slice_get, position, IfSome, IsNone, IsTrue}
-use Rattle.std.specs.List.{AllByRecursion, position_or_len}
+use Rattle.std.specs.Prelude.{◌⊎◌, not, cond, nat_lt, Option, Some, None, slice_get, position, IfSome, IsNone, IsTrue}
+use Rattle.std.specs.List.{position_or_len}
 use Rattle.std.specs.Str.{bytes_eq}
 use Rattle.std.proofs.lemmas.Bool.{leb-true, lt-ltb}
 use Rattle.std.proofs.lemmas.List.Quantifiers.{position-Some}
@@ -11,7 +11,7 @@ use Rattle.tv_base.specs.declared.numbers.ItemNo.{ItemNo}
 use Rattle.tv_base.specs.declared.numbers.TreeNo.{TreeNo}
 use Rattle.tv_base.proofs.Truths.{left_true, right_true}
 use Rattle.tx_trees.specs.Adding.{place_of}
-use Rattle.tx_trees.specs.Names.{has_name_len, is_name, is_name_byte}
+use Rattle.tx_trees.specs.Names.{has_name_len, is_name}
 use Rattle.tx_trees.specs.ScriptData.{ScriptData}
 use Rattle.tx_trees.specs.Valid.{IsItem, IsTree, IsValid}
 use Rattle.tx_trees.specs.declared.parts.ItemRow.{ItemRow}

@@ -1,18 +1,16 @@
 -- What is read of a number is the one that is printed so.
-use Rattle.std.proofs.Common.{◌≡◌, ◌+◌, ◌<◌, ◌≤◌, ◌^◌, ◌∙◌, ◌∷◌, [], List, Bool, true, false, ℕ, suc, length, refl, sym, ap, subst, arith}
-use Rattle.std.specs.Prelude.{◌==◌, ◌||◌, not, decimal, ℤ, pos, negsuc, Option, Some, None, unsigned_abs}
+use Rattle.std.proofs.Common.{◌≡◌, ◌<◌, ◌≤◌, ◌^◌, ◌∙◌, ◌∷◌, [], List, true, false, ℕ, suc, length, refl, sym, ap, arith}
+use Rattle.std.specs.Prelude.{◌==◌, ◌||◌, not, decimal, ℤ, pos, negsuc, Option, None}
 use Rattle.std.specs.Fmt.{signed_decimal}
 use Rattle.std.specs.Char.{is_ascii_digit}
 use Rattle.std.specs.List.{list_all}
-use Rattle.std.proofs.lemmas.Bool.Decides.{nat_tests}
 use Rattle.std.proofs.lemmas.Fmt.{length-decimal-le_wide}
-use Rattle.commute_ops.specs.declared.kinds.TheConstants.{MOST_AMOUNT}
 use Rattle.std.proofs.Math.Nat.{pow-le-pow_right}
 use Rattle.tv_base.proofs.Truths.{left_true}
 use Rattle.tv_base.specs.Digits.{decimal_value}
-use Rattle.history_text.specs.Printable.{IsAmount, IsHalfWord, IsWord}
+use Rattle.history_text.specs.Printable.{IsAmount}
 use Rattle.history_words.specs.Exact.{IsExact}
-use Rattle.history_words.specs.Numbers.{IsSize, begins_with_minus, is_plain_number}
+use Rattle.history_words.specs.Numbers.{IsSize, is_plain_number}
 use Rattle.history_words.proofs.Digits.{decimal_one, prints_plain, spelled}
 use Rattle.history_words.proofs.Sizes.{small_value}
 
@@ -45,7 +43,7 @@ pub none_other : (bytes : List ℕ) (n x : ℕ) → bytes ≡ decimal n → n < 
 none_other bytes n x is small same less = decimal_one n x (omega arith) (omega arith) (sym is ∙ same)
 
 -- digits begin with no minus
-no_minus : (n : ℕ) (digits : List ℕ) → n < 10 ^ 64 → 45 ∷ digits ≡ decimal n → ⊥
+pub no_minus : (n : ℕ) (digits : List ℕ) → n < 10 ^ 64 → 45 ∷ digits ≡ decimal n → ⊥
 no_minus n digits small is =
     let yes : list_all is_ascii_digit (45 ∷ digits) ≡ true = ap (list_all is_ascii_digit) is ∙ plain_digits (decimal n) (prints_plain n small) in
     let no : is_ascii_digit 45 ≡ true = left_true (is_ascii_digit 45) (list_all is_ascii_digit digits) yes in

@@ -1,7 +1,8 @@
 -- Numbers as they are printed: decimal digits without a leading zero.
-use Rattle.std.specs.Prelude.{ℕ, ◌≤◌, Bool, false, ◌&&◌, ◌||◌, ◌==◌, not, List, [], ◌∷◌, length}
+use Rattle.std.specs.Prelude.{ℕ, ℤ, ◌≤◌, Bool, false, ◌&&◌, ◌||◌, ◌==◌, not, List, [], ◌∷◌, length}
 use Rattle.std.specs.Char.{is_ascii_digit}
-use Rattle.std.specs.List.{list_all}
+use Rattle.std.specs.List.{fold, list_all}
+use Rattle.commute_ops.specs.Numbers.{with_number}
 use Rattle.commute_ops.specs.declared.kinds.TheConstants.{MOST_AMOUNT}
 
 -- digits, of which the first is no zero unless it is the only one
@@ -17,3 +18,7 @@ IsSize n = n ≤ MOST_AMOUNT
 abbrev pub begins_with_minus : List ℕ → Bool
 begins_with_minus [] = false
 begins_with_minus (b ∷ bs) = b == 45
+
+-- the numbers in ascending order, each as often as it is there
+abbrev pub in_order : List ℤ → List ℤ
+in_order ns = fold (λ done n. with_number n done) [] ns

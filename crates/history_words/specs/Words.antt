@@ -1,11 +1,12 @@
 -- How trees, items, actors and got values are printed where they stand between spaces.
-use Rattle.std.specs.Prelude.{ℕ, ℤ, List, [], ◌∷◌, ◌++◌, codes, decimal, map}
+use Rattle.std.specs.Prelude.{ℕ, ℤ, List, [], ◌∷◌, ◌++◌, codes, decimal, map, Option, Some, None, slice_get}
 use Rattle.std.specs.Fmt.{signed_decimal}
 use Rattle.std.specs.List.{AllByRecursion}
 use Rattle.tv_base.specs.declared.numbers.ActorNo.{ActorNo}
 use Rattle.tv_base.specs.declared.numbers.ItemNo.{ItemNo}
 use Rattle.tv_base.specs.declared.numbers.TreeNo.{TreeNo}
 use Rattle.commute_ops.specs.Numbers.{IsAscending}
+use Rattle.commute_ops.specs.declared.kinds.Kind.{Kind}
 use Rattle.commute_ops.specs.declared.value.Value.{Value}
 use Rattle.letter_types.specs.declared.votes.Cause.{Cause}
 use Rattle.letter_types.specs.declared.votes.Cause.TheVariants.{Conflict, Newer, Short}
@@ -32,6 +33,10 @@ name_of_actor s a = actor_text s a.0
 
 abbrev pub HasActor : ScriptData → ActorNo → Type 0
 HasActor s a = IsActor s a.0
+
+-- the kind of an item, if it is there
+abbrev pub kind_at : ScriptData → ItemNo → Option Kind
+kind_at s x = elim (slice_get s.items x.0) [ Some row ↦ Some row.kind | None ↦ None ]
 
 -- an item and its value
 abbrev pub got_in_words : ScriptData → ItemNo × Value → List ℕ

@@ -1,10 +1,12 @@
 // Values, and the items that they are of.
-ghost use Rattle.std.specs.Prelude.{◌≡◌, [], IfOk, IsTrue, ◌↔◌};
+ghost use Rattle.std.specs.Prelude.{ℕ, List, ◌≡◌, ◌∷◌, ◌++◌, [], IfOk, MatchOption, Some};
 ghost use Rattle.commute_ops.specs.Numbers.{IsAscending};
 ghost use Rattle.report_text.specs.Parts.{bag_text, value_text};
 ghost use Rattle.history_text.specs.Printable.{AreGot, IsGot, IsOfKind};
+ghost use Rattle.tx_trees.specs.Valid.{IsValid};
 ghost use Rattle.history_words.specs.Exact.{IsExact};
-ghost use Rattle.history_words.specs.Words.{AllAmounts, IsBag, amount_words, got_in_words, got_words};
+ghost use Rattle.history_words.specs.Words.{AllAmounts, HasItem, IsBag, kind_at, amount_words, got_in_words, got_words};
+ghost use Rattle.history_words.specs.Numbers.{in_order};
 
 use crate::names::read_item;
 use crate::numbers::read_amount;
@@ -45,22 +47,47 @@ pub fn read_value(alloc: Global, kind: Kind, field: &[u8]) -> Result<Option<Valu
 }
 
 // The bag whose numbers are printed so, in braces.
+#[tactic(auto, using(crate::proofs::Bags::not_braced))]
 fn read_bag(alloc: Global, field: &[u8]) -> Result<Option<BagValue>, NoMemory>
     ensures { IfOk result (λ read. IsExact bag_text IsBag field.now read) }
 {
-    let [b'{', inner @ .., b'}'] = field else {
+    let Some(inner) = in_braces(field) else {
         return Ok(None);
     };
     if inner.is_empty() {
-        return Ok(Some(bag_of(alloc, &[])?));
+        return Ok(Some(empty_bag(alloc)));
     }
     let Some(numbers) = read_amounts(alloc, &mut Parts::new(inner, b','))? else {
         return Ok(None);
     };
-    if !are_ascending(numbers.items()) {
+    let Some(bag) = ascending_bag(alloc, numbers.items())? else {
+        return Ok(None);
+    };
+    Ok(Some(bag))
+}
+
+// The bag of these numbers, if they ascend.
+#[tactic(auto, using(crate::proofs::Bags::ascending_stays, crate::proofs::Bags::same_numbers))]
+fn ascending_bag(alloc: Global, numbers: &[Amount]) -> Result<Option<BagValue>, NoMemory>
+    ensures { IfOk result (λ made. MatchOption made (IsAscending numbers.now → ⊥) (λ bag. (bag ≡ numbers.now) × IsAscending numbers.now)) }
+{
+    let bag = bag_of(alloc, numbers)?;
+    if bag.items() != numbers {
         return Ok(None);
     }
-    Ok(Some(bag_of(alloc, numbers.items())?))
+    Ok(Some(bag))
+}
+
+// What stands in braces.
+
+fn in_braces(field: &[u8]) -> Option<&[u8]>
+    ensures { MatchOption result ((inner : List ℕ) → field.now ≡ 123 ∷ (inner ++ 125 ∷ []) → ⊥)
+        (λ inner. field.now ≡ 123 ∷ (inner.now ++ 125 ∷ [])) }
+{
+    match field {
+        [b'{', inner @ .., b'}'] => Some(inner),
+        _ => None,
+    }
 }
 
 // Amounts, each of which is one part.
@@ -78,22 +105,9 @@ fn read_amounts(alloc: Global, parts: &mut Parts) -> Result<Option<Amounts>, NoM
     Ok(Some(numbers))
 }
 
-// Whether the numbers ascend.
-fn are_ascending(numbers: &[Amount]) -> bool
-    ensures { IsTrue result ↔ IsAscending numbers.now }
-{
-    for i in 1..numbers.len() {
-        if numbers[i] < numbers[i - 1] {
-            return false;
-        }
-    }
-    true
-}
-
-// A bag of these numbers.
+// The bag of these numbers, in whatever order they stand.
 fn bag_of(alloc: Global, numbers: &[Amount]) -> Result<BagValue, NoMemory>
-    requires { IsAscending numbers.now }
-    ensures { IfOk result (λ bag. bag ≡ numbers.now) }
+    ensures { IfOk result (λ bag. bag ≡ in_order numbers.now) }
 {
     let mut bag = empty_bag(alloc);
     for number in numbers {
@@ -112,6 +126,7 @@ fn empty_bag(alloc: Global) -> BagValue
 }
 
 /// An item and its value, with `=` between them. Running out of memory is the only error.
+#[tactic(auto, using(crate::proofs::Gots::no_item_there, crate::proofs::Gots::no_value_there, crate::proofs::Gots::got_read))]
 fn read_got(
     alloc: Global,
     script: &Script,
@@ -119,18 +134,27 @@ fn read_got(
 ) -> Result<Option<(ItemNo, Value)>, NoMemory>
     ensures { IfOk result (λ read. IsExact (got_in_words script.now) (IsGot script.now) field.now read) }
 {
-    let items = script.items();
+    let _items = script.items();
     let Some((name, text)) = cut(field, b'=') else {
         return Ok(None);
     };
     let Some(item) = read_item(script, name) else {
         return Ok(None);
     };
-    let kind = items[item.0 as usize].kind;
+    let kind = kind_of(script, item);
     let Some(value) = read_value(alloc, kind, text)? else {
         return Ok(None);
     };
     Ok(Some((item, value)))
+}
+
+// The kind of an item.
+fn kind_of(script: &Script, item: ItemNo) -> Kind
+    requires { HasItem script.now item }
+    ensures kind { kind_at script.now item ≡ Some result }
+    ensures valid { IsValid script.now }
+{
+    script.items()[item.0 as usize].kind
 }
 
 /// The values that are left, each behind its item and `=`. Running out of memory is the only error.

@@ -1,5 +1,4 @@
-use Rattle.std.proofs.Common.{arith, ◌≡◌, true}
-use Rattle.history_words.specs.Numbers.{is_plain_number}
+use Rattle.std.proofs.Common.{arith}
 use Rattle.history_words.proofs.Readings.{is_plain}
 use Rattle.history_words.proofs.numbers.plain_number.Goals as goal
 
