@@ -1,0 +1,5 @@
+//! A history's lines, read back exactly: what may be printed, and nothing else.
+#![tactic(auto)]
+
+mod letters;
+mod nexts;
