@@ -1,1 +1,5 @@
+pub mod Forms
+pub mod ListsRead
+pub mod Solid
+pub mod Spelling
 pub mod SubsThere

@@ -9,6 +9,7 @@ use Rattle.tx_trees.specs.ScriptData.{ScriptData, sub_at, subs_at}
 use Rattle.tx_trees.specs.Valid.{IsValid}
 use Rattle.tx_trees.specs.declared.parts.Sub.{Sub}
 use Rattle.tx_trees.specs.declared.parts.Tree.{Tree}
+use Rattle.tx_trees.proofs.Lists.{lt_not}
 use Rattle.tx_trees.proofs.SubsOf.{few_subs, found_subs}
 use Rattle.report_text.specs.Names.{tree_text}
 use Rattle.history_text.specs.Printable.{IsHalfWord, IsSubOf}
@@ -18,7 +19,7 @@ use Rattle.history_words.proofs.OneToOne.{tree_one}
 
 -- what is at a place, by the length
 is_there : {X : Type 0} (xs : List X) (k : ℕ) → nat_lt k (length xs) ≡ is_some (slice_get xs k)
-is_there [] k = refl
+is_there [] k = lt_not k 0 (omega arith)
 is_there (x ∷ xs) zero = lt-ltb 0 (length (x ∷ xs)) (omega arith)
 is_there (x ∷ xs) (suc k) = grind (arith, is_there xs k)
 
@@ -31,7 +32,7 @@ sub_there s t k tree b less at is =
     is ∙ is_there tree.subs k ∙ ap (λ (subs : List Sub). is_some (slice_get subs k)) (sym (found_subs s t tree here))
 
 -- a tree with a subtransaction is there
-tree_of_sub : (s : ScriptData) (t k : ℕ) → IsSubOf s t k → t < length s.trees
+pub tree_of_sub : (s : ScriptData) (t k : ℕ) → IsSubOf s t k → t < length s.trees
 tree_of_sub s t k h = by s.trees t h
   where
     by : (trees : List Tree) (t : ℕ) → IsTrue (is_some (slice_get (elim (slice_get trees t) [ Some tree ↦ tree.subs | None ↦ [] ]) k)) → t < length trees

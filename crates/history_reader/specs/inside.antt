@@ -1,3 +1,5 @@
 pub mod Next
 pub mod BodyWords
 pub mod ActWords
+pub mod Lines
+pub mod Heads

@@ -5,7 +5,7 @@ ghost use Rattle.history_words.specs.Exact.{IsExact};
 ghost use Rattle.history_reader.specs.inside.BodyWords.{IsReadFrom, body_words};
 
 use crate::nexts::{
-    next_commit, next_half, next_number, next_sub, next_tree, next_version, next_what,
+    last_order, next_commit, next_half, next_number, next_sub, next_tree, next_version,
     number_behind,
 };
 use history_words::Parts;
@@ -129,10 +129,7 @@ fn read_wanted(script: &Script, words: &mut Parts) -> Option<Body>
 fn read_order(script: &Script, words: &mut Parts) -> Option<Body>
     ensures { IsExact (body_words script.now) (IsBody script.now) (codes "order" ∷ words.old) result }
 {
-    let epoch = next_number(words)?;
-    let what = next_what(words)?;
-    let version = Version(next_number(words)?);
-    words.end()?;
+    let (epoch, what, version) = last_order(words)?;
     Some(Body::Order {
         epoch,
         what,
@@ -143,10 +140,7 @@ fn read_order(script: &Script, words: &mut Parts) -> Option<Body>
 fn read_obeyed(script: &Script, words: &mut Parts) -> Option<Body>
     ensures { IsExact (body_words script.now) (IsBody script.now) (codes "obeyed" ∷ words.old) result }
 {
-    let epoch = next_number(words)?;
-    let what = next_what(words)?;
-    let version = Version(next_number(words)?);
-    words.end()?;
+    let (epoch, what, version) = last_order(words)?;
     Some(Body::Obeyed {
         epoch,
         what,
@@ -229,7 +223,9 @@ fn other_letter(script: &Script, word: &[u8], words: &mut Parts) -> Option<Body>
 fn number_letter(_script: &Script, word: &[u8], words: &mut Parts) -> Option<Body>
     ensures { IsReadFrom _script.now 3 (word.now ∷ words.old) result }
 {
-    let number = next_number(words)?;
+    let Some(number) = next_number(words) else {
+        return None;
+    };
     words.end()?;
     body_of(_script, word, number)
 }

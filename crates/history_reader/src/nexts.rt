@@ -1,5 +1,5 @@
 // The next words of a line.
-ghost use Rattle.std.specs.Prelude.{ℕ, List, ◌≡◌, ◌∷◌, codes, decimal, is_some, IfSome, IsNone, MatchOption};
+ghost use Rattle.std.specs.Prelude.{ℕ, List, ◌≡◌, ◌∷◌, [], codes, decimal, is_some, IfSome, IsNone, MatchOption};
 ghost use Rattle.history_text.specs.Printable.{IsHalfWord, IsSubOf, IsWord};
 ghost use Rattle.history_words.specs.Words.{HasItem, HasTree, name_of_item, name_of_tree};
 ghost use Rattle.tx_trees.specs.ScriptData.{sub_at};
@@ -125,4 +125,26 @@ pub(crate) fn next_what(words: &mut Parts) -> Option<What>
         return Some(What::Sweep);
     }
     None
+}
+
+// An epoch, what is to be done, and a version, which are all that is left.
+pub(crate) fn last_order(words: &mut Parts) -> Option<(u64, What, Version)>
+    ensures some { IfSome result (λ o. (words.old ≡ decimal o.0 ∷ order_word o.1 ∷ decimal o.2.0 ∷ []) × IsWord o.0 × IsWord o.2.0) }
+    ensures none { IsNone result → (e : ℕ) (what : What) (v : Version) → words.old ≡ decimal e ∷ order_word what ∷ decimal v.0 ∷ [] → IsWord e → IsWord v.0 → ⊥ }
+{
+    let epoch = next_number(words)?;
+    let what = next_what(words)?;
+    let version = next_number(words)?;
+    words.end()?;
+    Some((epoch, what, Version(version)))
+}
+
+// A version and a round.
+pub(crate) fn next_round(words: &mut Parts) -> Option<(Version, u64)>
+    ensures some { IfSome result (λ two. (words.old ≡ decimal two.0.0 ∷ codes "round" ∷ decimal two.1 ∷ words.new) × IsWord two.0.0 × IsWord two.1) }
+    ensures none { IsNone result → (v : Version) (k : ℕ) (rest : List (List ℕ)) → words.old ≡ decimal v.0 ∷ codes "round" ∷ decimal k ∷ rest → IsWord v.0 → IsWord k → ⊥ }
+{
+    let version = next_number(words)?;
+    let round = number_behind(words, b"round")?;
+    Some((Version(version), round))
 }

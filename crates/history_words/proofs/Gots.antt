@@ -18,7 +18,7 @@ use Rattle.history_words.proofs.Named.{item_there}
 use Rattle.history_words.proofs.OneToOne.{item_one}
 
 -- a value of an item is one of an item that is there
-of_item : (xs : List ItemRow) (k : ℕ) (w : Value) → IsOfItem (slice_get xs k) w → (row : ItemRow) × (slice_get xs k ≡ Some row) × (k < length xs) × IsOfKind row.kind w
+pub of_item : (xs : List ItemRow) (k : ℕ) (w : Value) → IsOfItem (slice_get xs k) w → (row : ItemRow) × (slice_get xs k ≡ Some row) × (k < length xs) × IsOfKind row.kind w
 of_item [] k w may = absurd may
 of_item (x ∷ xs) zero w may = (x, refl, omega arith, may)
 of_item (x ∷ xs) (suc k) w may =

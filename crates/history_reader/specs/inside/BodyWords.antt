@@ -1,5 +1,7 @@
 -- What letters say, word by word.
 use Rattle.std.specs.Prelude.{if◌then◌else◌, ℕ, ◌≡◌, ◌≤◌, Bool, true, false, List, [], ◌∷◌, ◌++◌, codes, decimal, map, Option, Some, None, slice_get}
+use Rattle.std.specs.List.{AllByRecursion}
+use Rattle.tv_base.specs.declared.numbers.TreeNo.{TreeNo}
 use Rattle.letter_types.specs.declared.bodies.Answer.{Answer}
 use Rattle.letter_types.specs.declared.bodies.Answer.TheVariants.{Whole, Aborted}
 use Rattle.letter_types.specs.declared.bodies.Body.{Body}
@@ -13,8 +15,8 @@ use Rattle.letter_types.specs.declared.votes.Vote.TheVariants as votes
 use Rattle.tx_trees.specs.ScriptData.{ScriptData, is_strict}
 use Rattle.tx_trees.specs.declared.parts.Tree.{Tree}
 use Rattle.report_text.specs.Names.{tree_text}
-use Rattle.history_text.specs.Printable.{IsBody}
-use Rattle.history_words.specs.Words.{cause_words, got_words}
+use Rattle.history_text.specs.Printable.{IsAnswer, IsBody, IsNotice, IsWord}
+use Rattle.history_words.specs.Words.{cause_words, got_words, name_of_tree}
 
 abbrev pub vote_words : ScriptData → Vote → List (List ℕ)
 vote_words s (votes.Yes vs) = codes "yes" ∷ got_words s vs
@@ -116,3 +118,17 @@ turn_of _ = 2
 abbrev pub IsReadFrom : ScriptData → ℕ → List (List ℕ) → Option Body → Type 0
 IsReadFrom s turn seen (Some b) = (seen ≡ body_words s b) × IsBody s b
 IsReadFrom s turn seen None = (b : Body) → seen ≡ body_words s b → IsBody s b → turn ≤ turn_of b → ⊥
+
+abbrev pub AreWords : List ℕ → Type 0
+AreWords ns = AllByRecursion IsWord ns
+
+-- what is read of these words as a notice of a tree, or of any of its name
+abbrev pub IsNoticeRead : ScriptData → TreeNo → List (List ℕ) → Option Notice → Type 0
+IsNoticeRead s tree seen (Some n) = (seen ≡ notice_words s n) × IsNotice s tree.0 n
+IsNoticeRead s tree seen None =
+    (t : TreeNo) (n : Notice) → name_of_tree s tree ≡ name_of_tree s t → seen ≡ notice_words s n → IsNotice s t.0 n → ⊥
+
+abbrev pub IsAnswerRead : ScriptData → TreeNo → List (List ℕ) → Option Answer → Type 0
+IsAnswerRead s tree seen (Some a) = (seen ≡ answer_words s tree.0 a) × IsAnswer s tree.0 a
+IsAnswerRead s tree seen None =
+    (t : TreeNo) (a : Answer) → name_of_tree s tree ≡ name_of_tree s t → seen ≡ answer_words s t.0 a → IsAnswer s t.0 a → ⊥
