@@ -3,3 +3,4 @@ pub mod BodyWords
 pub mod ActWords
 pub mod Lines
 pub mod Heads
+pub mod Heard

@@ -107,7 +107,9 @@ fn read_parked(script: &Script, words: &mut Parts) -> Option<Act>
 {
     let (tree, sub) = next_sub(script, words)?;
     let item = next_item(script, words)?;
-    let holder = next_tree(script, words)?;
+    let Some(holder) = next_tree(script, words) else {
+        return None;
+    };
     words.end()?;
     Some(Act::Parked {
         tree,

@@ -62,13 +62,22 @@ fn read_id(word: &[u8]) -> Option<LetterId>
     ensures { IsExact id_word IsId word.now result }
 {
     let (stamp, place) = cut(word, b'.')?;
-    let stamp = Stamp(read_number(stamp)?);
-    let place = read_half(place)?;
+    let Some(number) = read_number(stamp) else {
+        return None;
+    };
+    let Some(place) = read_half(place) else {
+        return None;
+    };
+    let stamp = Stamp(number);
     Some(LetterId { stamp, place })
 }
 
 // The line of a letter that was sent.
-pub(crate) fn read_sent(alloc: Global, script: &Script, line: &[u8]) -> Result<Option<Outgoing>, NoMemory>
+pub(crate) fn read_sent(
+    alloc: Global,
+    script: &Script,
+    line: &[u8],
+) -> Result<Option<Outgoing>, NoMemory>
     ensures { IfOk result (λ read. IsExact (sent_words script.now) (IsSent script.now) (parts_at 32 line.now) read) }
 {
     let mut words = Parts::new(line, b' ');
@@ -85,7 +94,11 @@ pub(crate) fn read_sent(alloc: Global, script: &Script, line: &[u8]) -> Result<O
 }
 
 // The line of an act.
-pub(crate) fn read_act_line(alloc: Global, script: &Script, line: &[u8]) -> Result<Option<Act>, NoMemory>
+pub(crate) fn read_act_line(
+    alloc: Global,
+    script: &Script,
+    line: &[u8],
+) -> Result<Option<Act>, NoMemory>
     ensures { IfOk result (λ read. IsExact (act_line_words script.now) (IsAct script.now) (parts_at 32 line.now) read) }
 {
     let mut words = Parts::new(line, b' ');

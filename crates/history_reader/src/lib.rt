@@ -3,6 +3,14 @@
 
 mod acts;
 mod bodies;
+mod entries;
+mod heads;
 mod letters;
+mod line_lists;
+mod lines;
 mod nexts;
+#[cfg(test)]
+mod tests;
 mod votes;
+
+pub use entries::{Heard, read_entry};

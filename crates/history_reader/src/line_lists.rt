@@ -12,11 +12,16 @@ use tv_base::NoMemory;
 use tx_trees::Script;
 
 // The lines of letters, up to one of another kind.
-pub(crate) fn read_letters(alloc: Global, script: &Script, lines: &mut Lines) -> Result<Option<Letters>, NoMemory>
+#[tactic(auto, using(crate::proofs::Printed::no_letter_line, crate::proofs::Printed::bad_letter_line, crate::proofs::Printed::good_letter_line))]
+pub(crate) fn read_letters(
+    alloc: Global,
+    script: &Script,
+    lines: &mut Lines,
+) -> Result<Option<Letters>, NoMemory>
     ensures { IfOk result (λ read. AreLines (codes "sent ") (sent_lines script.now) (IsSent script.now) lines.old lines.new read) }
 {
     let mut letters = Letters::new(alloc);
-    while lines.begins(b"sent ") {
+    'lines: while lines.begins(b"sent ") {
         let _nodes = script.nodes();
         let Some(line) = lines.next() else {
             return Ok(None);
@@ -30,11 +35,16 @@ pub(crate) fn read_letters(alloc: Global, script: &Script, lines: &mut Lines) ->
 }
 
 // The lines of acts, up to one of another kind.
-pub(crate) fn read_acts(alloc: Global, script: &Script, lines: &mut Lines) -> Result<Option<Acts>, NoMemory>
+#[tactic(auto, using(crate::proofs::Printed::no_act_line, crate::proofs::Printed::bad_act_line, crate::proofs::Printed::good_act_line))]
+pub(crate) fn read_acts(
+    alloc: Global,
+    script: &Script,
+    lines: &mut Lines,
+) -> Result<Option<Acts>, NoMemory>
     ensures { IfOk result (λ read. AreLines (codes "act ") (act_lines script.now) (IsAct script.now) lines.old lines.new read) }
 {
     let mut acts = Acts::new(alloc);
-    while lines.begins(b"act ") {
+    'lines: while lines.begins(b"act ") {
         let _nodes = script.nodes();
         let Some(line) = lines.next() else {
             return Ok(None);

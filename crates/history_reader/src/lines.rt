@@ -1,7 +1,7 @@
 // What is left of a text, line by line.
 ghost use Rattle.std.specs.Prelude.{◌≡◌, ◌++◌, ◌∷◌, true, length, IfSome, IsNone};
 ghost use Rattle.history_words.specs.Parts.{lacks};
-ghost use Rattle.history_reader.specs.inside.Lines.{begins};
+ghost use Rattle.history_reader.specs.inside.Lines.{begins, ends_so};
 
 use history_words::cut;
 use std::marker::Model;
@@ -45,6 +45,16 @@ impl<'a> Lines<'a> {
         ensures { result ≡ begins word.now self.now }
     {
         self.text.starts_with(word)
+    }
+
+    // Whether an entry's lines end here.
+    pub(crate) fn end_entry(&self) -> bool
+        ensures { result ≡ ends_so self.now }
+    {
+        match self.text {
+            [] => true,
+            _ => self.begins(b"entry "),
+        }
     }
 
     // How many bytes are left.

@@ -1,5 +1,5 @@
 // Rows, votes, notices and answers.
-ghost use Rattle.std.specs.Prelude.{◌≡◌, ◌∷◌, codes, IfOk, slice_get};
+ghost use Rattle.std.specs.Prelude.{◌∷◌, true, codes, IfOk, slice_get};
 ghost use Rattle.std.specs.List.{AllByRecursion};
 ghost use Rattle.history_text.specs.Printable.{HasStrictness, IsAnswer, IsNotice, IsRow, IsVote, IsWord};
 ghost use Rattle.history_words.specs.Exact.{IsExact};

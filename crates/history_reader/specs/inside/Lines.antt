@@ -1,11 +1,6 @@
 -- What is left of a text, line by line.
-use Rattle.std.specs.Prelude.{ℕ, ◌≡◌, Bool, true, false, List, [], ◌∷◌, ◌++◌, ◌||◌, codes, nat_eq, Option, Some, None, length}
+use Rattle.std.specs.Prelude.{ℕ, ◌≡◌, Bool, true, false, List, [], ◌∷◌, ◌++◌, codes, nat_eq, Option, Some, None}
 use Rattle.std.specs.List.{AllByRecursion, starts_with}
-use Rattle.letter_types.specs.declared.acts.Act.{Act}
-use Rattle.letter_types.specs.declared.entries.Outgoing.{Outgoing}
-use Rattle.tx_trees.specs.ScriptData.{ScriptData}
-use Rattle.history_text.specs.History.{act_lines, sent_lines}
-use Rattle.history_text.specs.Printable.{IsAct, IsSent}
 use Rattle.history_reader.specs.declared.lines.Lines.TheInside.{Inside}
 
 abbrev pub lines_left : Inside → List ℕ
@@ -14,6 +9,11 @@ lines_left l = l.text.now
 -- whether a text begins with these bytes
 abbrev pub begins : List ℕ → List ℕ → Bool
 begins word text = starts_with nat_eq text word
+
+-- whether an entry's lines end here: at the text's end, or where the next entry begins
+abbrev pub ends_so : List ℕ → Bool
+ends_so [] = true
+ends_so (b ∷ bs) = begins (codes "entry ") (b ∷ bs)
 
 -- what is read of a text's first lines, each of which begins with these bytes, up to one that doesn't
 abbrev pub AreLines : {T : Type 0} → List ℕ → (List T → List ℕ) → (T → Type 0) → List ℕ → List ℕ → Option (List T) → Type 0
