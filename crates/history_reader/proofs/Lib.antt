@@ -1,4 +1,3 @@
-pub mod Entries
 pub mod Forms
 pub mod IdsRead
 pub mod LineLists
@@ -7,3 +6,4 @@ pub mod Printed
 pub mod Solid
 pub mod Spelling
 pub mod SubsThere
+pub mod WholeEntries

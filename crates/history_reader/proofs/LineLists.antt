@@ -23,7 +23,7 @@ pub record ArePrinted {T : Type 0} (head : List ℕ) (one : T → List ℕ) (pri
   pub line : (x : T) → May x → IsPrinted (one x) (text x) (words x)
 
 -- a line's end is somewhere
-no_lack : (x y : List ℕ) → lacks 10 (x ++ 10 ∷ y) ≡ true → ⊥
+pub no_lack : (x y : List ℕ) → lacks 10 (x ++ 10 ∷ y) ≡ true → ⊥
 no_lack [] y h = cc
 no_lack (z ∷ x) y h = no_lack x y (right_true _ (lacks 10 (x ++ 10 ∷ y)) h)
 

@@ -23,12 +23,8 @@ pub struct Heard {
 /// The entry whose lines the text begins with, where an entry of the script is printed so and its lines end where the
 /// text ends or at the next line that begins an entry. None exactly where there is no such entry. Running out of memory
 /// is the only error. Takes time in proportion to the entry's lines, with a look-up for each name.
-#[tactic(auto, using(crate::proofs::Entries::heard_length))]
-pub fn read_entry(
-    alloc: Global,
-    script: &Script,
-    text: &[u8],
-) -> Result<Option<Heard>, NoMemory>
+#[tactic(auto, using(crate::proofs::WholeEntries::heard_length))]
+pub fn read_entry(alloc: Global, script: &Script, text: &[u8]) -> Result<Option<Heard>, NoMemory>
     ensures some { IfOk result (λ heard. IfSome heard (λ h. (h.length ≤ length text.now)
         × Begins script.now text.now h.entry (drop h.length text.now))) }
     ensures none { IfOk result (λ heard. IsNone heard → (e : Entry) (rest : List ℕ)
@@ -43,12 +39,8 @@ pub fn read_entry(
 }
 
 // The next entry of a text.
-#[tactic(auto, using(crate::proofs::Entries::no_first_line, crate::proofs::Entries::no_head, crate::proofs::Entries::no_letters, crate::proofs::Entries::no_acts, crate::proofs::Entries::no_end, crate::proofs::Entries::entry_read))]
-fn next_entry(
-    alloc: Global,
-    script: &Script,
-    lines: &mut Lines,
-) -> Result<Option<Entry>, NoMemory>
+#[tactic(auto, using(crate::proofs::WholeEntries::no_first_line, crate::proofs::WholeEntries::no_head, crate::proofs::WholeEntries::no_letters, crate::proofs::WholeEntries::no_acts, crate::proofs::WholeEntries::no_end, crate::proofs::WholeEntries::entry_read))]
+fn next_entry(alloc: Global, script: &Script, lines: &mut Lines) -> Result<Option<Entry>, NoMemory>
     ensures { IfOk result (λ read. IsHeard script.now lines.old lines.new read) }
 {
     let _nodes = script.nodes();

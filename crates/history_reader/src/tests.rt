@@ -36,12 +36,7 @@ fn counts(alloc: Global, text: &[u8]) -> Result<Option<[u64; 4]>, NoMemory> {
     };
     let sent = heard.entry.sent.items().len() as u64;
     let acts = heard.entry.acts.items().len() as u64;
-    Ok(Some([
-        heard.length as u64,
-        heard.entry.stamp.0,
-        sent,
-        acts,
-    ]))
+    Ok(Some([heard.length as u64, heard.entry.stamp.0, sent, acts]))
 }
 
 #[test]
