@@ -1,0 +1,9 @@
+pub mod Forms
+pub mod IdsRead
+pub mod LineLists
+pub mod ListsRead
+pub mod Printed
+pub mod Solid
+pub mod Spelling
+pub mod SubsThere
+pub mod WholeEntries

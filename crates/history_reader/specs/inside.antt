@@ -1,0 +1,6 @@
+pub mod Next
+pub mod BodyWords
+pub mod ActWords
+pub mod Lines
+pub mod Heads
+pub mod Heard

@@ -1,0 +1,115 @@
+// What letters say.
+ghost use Rattle.std.specs.Prelude.{◌∷◌, codes, IfOk};
+ghost use Rattle.history_text.specs.Printable.{IsBody};
+ghost use Rattle.history_words.specs.Exact.{IsExact};
+ghost use Rattle.history_reader.specs.inside.BodyWords.{body_words};
+
+use crate::letters::tree_letter;
+use crate::nexts::{next_round, next_sub, next_tree, next_version};
+use crate::votes::{read_answer, read_notice, read_row};
+use history_words::Parts;
+use letter_types::Body;
+use std::alloc::Global;
+use tv_base::NoMemory;
+use tx_trees::Script;
+
+// What a letter says.
+pub(crate) fn read_body(
+    alloc: Global,
+    script: &Script,
+    words: &mut Parts,
+) -> Result<Option<Body>, NoMemory>
+    ensures { IfOk result (λ read. IsExact (body_words script.now) (IsBody script.now) words.old read) }
+{
+    let Some(word) = words.next() else {
+        return Ok(None);
+    };
+    if word == b"done".as_slice() {
+        return read_done(alloc, script, words);
+    }
+    if word == b"reply".as_slice() {
+        return read_reply(alloc, script, words);
+    }
+    if word == b"donerow".as_slice() {
+        return read_donerow(alloc, script, words);
+    }
+    if word == b"askedrow".as_slice() {
+        return read_askedrow(alloc, script, words);
+    }
+    Ok(tree_letter(script, word, words))
+}
+
+fn read_done(alloc: Global, script: &Script, words: &mut Parts) -> Result<Option<Body>, NoMemory>
+    ensures { IfOk result (λ read. IsExact (body_words script.now) (IsBody script.now) (codes "done" ∷ words.old) read) }
+{
+    let Some((tree, sub)) = next_sub(script, words) else {
+        return Ok(None);
+    };
+    let Some(version) = next_version(words) else {
+        return Ok(None);
+    };
+    let Some(notice) = read_notice(alloc, script, tree, words)? else {
+        return Ok(None);
+    };
+    Ok(Some(Body::Done {
+        tree,
+        sub,
+        version,
+        notice,
+    }))
+}
+
+fn read_reply(alloc: Global, script: &Script, words: &mut Parts) -> Result<Option<Body>, NoMemory>
+    ensures { IfOk result (λ read. IsExact (body_words script.now) (IsBody script.now) (codes "reply" ∷ words.old) read) }
+{
+    let Some(tree) = next_tree(script, words) else {
+        return Ok(None);
+    };
+    let Some(version) = next_version(words) else {
+        return Ok(None);
+    };
+    let Some(answer) = read_answer(alloc, script, tree, words)? else {
+        return Ok(None);
+    };
+    Ok(Some(Body::Reply {
+        tree,
+        version,
+        answer,
+    }))
+}
+
+fn read_donerow(alloc: Global, script: &Script, words: &mut Parts) -> Result<Option<Body>, NoMemory>
+    ensures { IfOk result (λ read. IsExact (body_words script.now) (IsBody script.now) (codes "donerow" ∷ words.old) read) }
+{
+    let Some((version, round)) = next_round(words) else {
+        return Ok(None);
+    };
+    let Some(row) = read_row(alloc, script, words)? else {
+        return Ok(None);
+    };
+    Ok(Some(Body::DoneRow {
+        version,
+        round,
+        row,
+    }))
+}
+
+fn read_askedrow(
+    alloc: Global,
+    script: &Script,
+    words: &mut Parts,
+) -> Result<Option<Body>, NoMemory>
+    ensures { IfOk result (λ read. IsExact (body_words script.now) (IsBody script.now) (codes "askedrow" ∷ words.old) read) }
+{
+    let Some((version, round)) = next_round(words) else {
+        return Ok(None);
+    };
+    let Some(row) = read_row(alloc, script, words)? else {
+        return Ok(None);
+    };
+    Ok(Some(Body::AskedRow {
+        version,
+        round,
+        row,
+    }))
+}

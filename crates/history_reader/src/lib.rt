@@ -1,0 +1,16 @@
+//! A history's lines, read back exactly: what may be printed, and nothing else.
+#![tactic(auto)]
+
+mod acts;
+mod bodies;
+mod entries;
+mod heads;
+mod letters;
+mod line_lists;
+mod lines;
+mod nexts;
+#[cfg(test)]
+mod tests;
+mod votes;
+
+pub use entries::{Heard, read_entry};

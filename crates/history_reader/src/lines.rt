@@ -1,0 +1,66 @@
+// What is left of a text, line by line.
+ghost use Rattle.std.specs.Prelude.{◌≡◌, ◌++◌, ◌∷◌, true, length, IfSome, IsNone};
+ghost use Rattle.history_words.specs.Parts.{lacks};
+ghost use Rattle.history_reader.specs.inside.Lines.{begins, ends_so};
+
+use history_words::cut;
+use std::marker::Model;
+
+// What is left of a text, seen by contracts as its bytes.
+#[derive(Drop)]
+pub(crate) struct Lines<'a> {
+    text: &'a [u8],
+}
+
+impl<'a> Model for Lines<'a> {
+    ghost use Rattle.std.specs.Prelude.{List, ℕ};
+
+    ghost Value = { List ℕ };
+
+    ghost use Rattle.history_reader.specs.inside.Lines.{lines_left};
+
+    ghost view = { lines_left };
+}
+
+impl<'a> Lines<'a> {
+    pub(crate) fn new(text: &'a [u8]) -> Lines<'a>
+        ensures { result ≡ text.now }
+    {
+        Lines { text }
+    }
+
+    // The next line, without its end.
+    pub(crate) fn next(&mut self) -> Option<&'a [u8]>
+        ensures text { IfSome result (λ line. self.old ≡ line.now ++ 10 ∷ self.new) }
+        ensures one { IfSome result (λ line. lacks 10 line.now ≡ true) }
+        ensures none { IsNone result → lacks 10 self.old ≡ true }
+    {
+        let (line, rest) = cut(self.text, b'\n')?;
+        self.text = rest;
+        Some(line)
+    }
+
+    // Whether the text that is left begins with these bytes.
+    pub(crate) fn begins(&self, word: &[u8]) -> bool
+        ensures { result ≡ begins word.now self.now }
+    {
+        self.text.starts_with(word)
+    }
+
+    // Whether an entry's lines end here.
+    pub(crate) fn end_entry(&self) -> bool
+        ensures { result ≡ ends_so self.now }
+    {
+        match self.text {
+            [] => true,
+            _ => self.begins(b"entry "),
+        }
+    }
+
+    // How many bytes are left.
+    pub(crate) fn left(&self) -> usize
+        ensures { result ≡ length self.now }
+    {
+        self.text.len()
+    }
+}

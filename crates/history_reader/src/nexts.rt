@@ -1,0 +1,150 @@
+// The next words of a line.
+ghost use Rattle.std.specs.Prelude.{ℕ, List, ◌≡◌, ◌∷◌, [], codes, decimal, is_some, IfSome, IsNone, MatchOption};
+ghost use Rattle.history_text.specs.Printable.{IsHalfWord, IsSubOf, IsWord};
+ghost use Rattle.history_words.specs.Words.{HasItem, HasTree, name_of_item, name_of_tree};
+ghost use Rattle.tx_trees.specs.ScriptData.{sub_at};
+ghost use Rattle.history_reader.specs.inside.BodyWords.{commit_word_of, order_word};
+ghost use Rattle.history_reader.specs.inside.Next.{IsNext};
+
+use history_words::{Parts, read_half, read_item, read_number, read_tree};
+use letter_types::What;
+use tv_base::{ItemNo, SubNo, TreeNo, Version};
+use tx_trees::Script;
+
+// A number of 64 bits.
+pub(crate) fn next_number(words: &mut Parts) -> Option<u64>
+    ensures { IsNext decimal IsWord words.old words.new result }
+{
+    let word = words.next()?;
+    read_number(word)
+}
+
+// A number of 32 bits.
+pub(crate) fn next_half(words: &mut Parts) -> Option<u32>
+    ensures { IsNext decimal IsHalfWord words.old words.new result }
+{
+    let word = words.next()?;
+    read_half(word)
+}
+
+pub(crate) fn next_tree(script: &Script, words: &mut Parts) -> Option<TreeNo>
+    ensures { IsNext (name_of_tree script.now) (HasTree script.now) words.old words.new result }
+{
+    let word = words.next()?;
+    read_tree(script, word)
+}
+
+pub(crate) fn next_item(script: &Script, words: &mut Parts) -> Option<ItemNo>
+    ensures { IsNext (name_of_item script.now) (HasItem script.now) words.old words.new result }
+{
+    let word = words.next()?;
+    read_item(script, word)
+}
+
+// This very word.
+pub(crate) fn next_word(words: &mut Parts, word: &[u8]) -> Option<()>
+    ensures { MatchOption result ((rest : List (List ℕ)) → words.old ≡ word.now ∷ rest → ⊥) (λ _. words.old ≡ word.now ∷ words.new) }
+{
+    let next = words.next()?;
+    if next != word {
+        return None;
+    }
+    Some(())
+}
+
+// A number behind this word.
+pub(crate) fn number_behind(words: &mut Parts, word: &[u8]) -> Option<u64>
+    ensures some { IfSome result (λ n. (words.old ≡ word.now ∷ decimal n ∷ words.new) × IsWord n) }
+    ensures none { IsNone result → (n : ℕ) (rest : List (List ℕ)) → words.old ≡ word.now ∷ decimal n ∷ rest → IsWord n → ⊥ }
+{
+    next_word(words, word)?;
+    next_number(words)
+}
+
+// A tree's subtransaction.
+#[tactic(auto, using(crate::proofs::SubsThere::no_half, crate::proofs::SubsThere::not_there))]
+pub(crate) fn next_sub(script: &Script, words: &mut Parts) -> Option<(TreeNo, SubNo)>
+    ensures some { IfSome result (λ two. (words.old ≡ name_of_tree script.now two.0 ∷ decimal two.1.0 ∷ words.new) × IsSubOf script.now two.0.0 two.1.0) }
+    ensures none { IsNone result → (t : TreeNo) (k : SubNo) (rest : List (List ℕ))
+        → words.old ≡ name_of_tree script.now t ∷ decimal k.0 ∷ rest → IsSubOf script.now t.0 k.0 → ⊥ }
+{
+    let tree = next_tree(script, words)?;
+    let _nodes = script.nodes();
+    let sub = next_half(words)?;
+    if !has_sub(script, tree, sub) {
+        return None;
+    }
+    Some((tree, SubNo(sub)))
+}
+
+// Whether the tree has a subtransaction of this number.
+#[tactic(auto, using(crate::proofs::SubsThere::sub_there))]
+fn has_sub(script: &Script, tree: TreeNo, sub: u32) -> bool
+    requires { HasTree script.now tree }
+    ensures { result ≡ is_some (sub_at script.now tree.0 sub) }
+{
+    let row = &script.trees()[tree.0 as usize];
+    (sub as usize) < row.subs.items().len()
+}
+
+// A version behind its word.
+pub(crate) fn next_version(words: &mut Parts) -> Option<Version>
+    ensures some { IfSome result (λ v. (words.old ≡ codes "version" ∷ decimal v.0 ∷ words.new) × IsWord v.0) }
+    ensures none { IsNone result → (v : Version) (rest : List (List ℕ)) → words.old ≡ codes "version" ∷ decimal v.0 ∷ rest → IsWord v.0 → ⊥ }
+{
+    let version = number_behind(words, b"version")?;
+    Some(Version(version))
+}
+
+// Whether a strict tree commits.
+pub(crate) fn next_commit(words: &mut Parts) -> Option<bool>
+    ensures { IsNext commit_word_of (λ commit. Unit {0}) words.old words.new result }
+{
+    let word = words.next()?;
+    if word == b"commit".as_slice() {
+        return Some(true);
+    }
+    if word == b"abort".as_slice() {
+        return Some(false);
+    }
+    None
+}
+
+// What is to be done with a version, or was done.
+pub(crate) fn next_what(words: &mut Parts) -> Option<What>
+    ensures { IsNext order_word (λ what. Unit {0}) words.old words.new result }
+{
+    let word = words.next()?;
+    if word == b"turn".as_slice() {
+        return Some(What::Turn);
+    }
+    if word == b"show".as_slice() {
+        return Some(What::Show);
+    }
+    if word == b"sweep".as_slice() {
+        return Some(What::Sweep);
+    }
+    None
+}
+
+// An epoch, what is to be done, and a version, which are all that is left.
+pub(crate) fn last_order(words: &mut Parts) -> Option<(u64, What, Version)>
+    ensures some { IfSome result (λ o. (words.old ≡ decimal o.0 ∷ order_word o.1 ∷ decimal o.2.0 ∷ []) × IsWord o.0 × IsWord o.2.0) }
+    ensures none { IsNone result → (e : ℕ) (what : What) (v : Version) → words.old ≡ decimal e ∷ order_word what ∷ decimal v.0 ∷ [] → IsWord e → IsWord v.0 → ⊥ }
+{
+    let epoch = next_number(words)?;
+    let what = next_what(words)?;
+    let version = next_number(words)?;
+    words.end()?;
+    Some((epoch, what, Version(version)))
+}
+
+// A version and a round.
+pub(crate) fn next_round(words: &mut Parts) -> Option<(Version, u64)>
+    ensures some { IfSome result (λ two. (words.old ≡ decimal two.0.0 ∷ codes "round" ∷ decimal two.1 ∷ words.new) × IsWord two.0.0 × IsWord two.1) }
+    ensures none { IsNone result → (v : Version) (k : ℕ) (rest : List (List ℕ)) → words.old ≡ decimal v.0 ∷ codes "round" ∷ decimal k ∷ rest → IsWord v.0 → IsWord k → ⊥ }
+{
+    let version = next_number(words)?;
+    let round = number_behind(words, b"round")?;
+    Some((Version(version), round))
+}

@@ -1,0 +1,205 @@
+// Rows, votes, notices and answers.
+ghost use Rattle.std.specs.Prelude.{◌∷◌, true, codes, IfOk, slice_get};
+ghost use Rattle.std.specs.List.{AllByRecursion};
+ghost use Rattle.history_text.specs.Printable.{HasStrictness, IsAnswer, IsNotice, IsRow, IsVote, IsWord};
+ghost use Rattle.history_words.specs.Exact.{IsExact};
+ghost use Rattle.history_words.specs.Words.{HasTree};
+ghost use Rattle.history_reader.specs.inside.BodyWords.{AreWords, IsAnswerRead, IsNoticeRead, answer_words, notice_words, number_words, vote_words};
+
+use history_words::{Parts, read_cause, read_number, read_values};
+use letter_types::{Answer, Boxed, Notice, Row, Vote};
+use std::alloc::Global;
+use tv_base::{NoMemory, TreeNo};
+use tx_trees::{Script, TreeKind};
+
+// Numbers, each of which is one word.
+#[tactic(auto, using(history_words::proofs::Each::each_fails, history_words::proofs::Each::one_more))]
+fn read_numbers(alloc: Global, words: &mut Parts) -> Result<Option<Row>, NoMemory>
+    ensures { IfOk result (λ read. IsExact number_words AreWords words.old read) }
+{
+    let mut row = Row::new(alloc);
+    while let Some(word) = words.next() {
+        let Some(number) = read_number(word) else {
+            return Ok(None);
+        };
+        row.push(number)?;
+    }
+    Ok(Some(row))
+}
+
+// A number for each node.
+#[tactic(auto, using(crate::proofs::ListsRead::other_length))]
+pub(crate) fn read_row(
+    alloc: Global,
+    script: &Script,
+    words: &mut Parts,
+) -> Result<Option<Row>, NoMemory>
+    ensures { IfOk result (λ read. IsExact number_words (IsRow script.now) words.old read) }
+{
+    let Some(row) = read_numbers(alloc, words)? else {
+        return Ok(None);
+    };
+    if row.items().len() != script.nodes() as usize {
+        return Ok(None);
+    }
+    Ok(Some(row))
+}
+
+// A vote.
+pub(crate) fn read_vote(
+    alloc: Global,
+    script: &Script,
+    words: &mut Parts,
+) -> Result<Option<Vote>, NoMemory>
+    ensures { IfOk result (λ read. IsExact (vote_words script.now) (IsVote script.now) words.old read) }
+{
+    let Some(word) = words.next() else {
+        return Ok(None);
+    };
+    if word == b"yes".as_slice() {
+        return read_yes(alloc, script, words);
+    }
+    if word == b"no".as_slice() {
+        return read_no(alloc, script, words);
+    }
+    Ok(None)
+}
+
+fn read_yes(alloc: Global, script: &Script, words: &mut Parts) -> Result<Option<Vote>, NoMemory>
+    ensures { IfOk result (λ read. IsExact (vote_words script.now) (IsVote script.now) (codes "yes" ∷ words.old) read) }
+{
+    let Some(values) = read_values(alloc, script, words)? else {
+        return Ok(None);
+    };
+    Ok(Some(Vote::Yes(values)))
+}
+
+fn read_no(alloc: Global, script: &Script, words: &mut Parts) -> Result<Option<Vote>, NoMemory>
+    ensures { IfOk result (λ read. IsExact (vote_words script.now) (IsVote script.now) (codes "no" ∷ words.old) read) }
+{
+    let Some(cause) = read_cause(script, words) else {
+        return Ok(None);
+    };
+    Ok(Some(Vote::No(Boxed::new(alloc, cause)?)))
+}
+
+// Whether a tree is strict.
+#[tactic(auto, using(crate::proofs::ListsRead::kind_there))]
+fn is_strict(script: &Script, tree: TreeNo) -> bool
+    requires { HasTree script.now tree }
+    ensures { HasStrictness result (slice_get script.now.trees tree.0) }
+{
+    match script.trees()[tree.0 as usize].kind {
+        TreeKind::Strict => true,
+        TreeKind::Update => false,
+        TreeKind::Read => false,
+    }
+}
+
+// A notice of a tree: a strict tree's subtransaction votes.
+#[tactic(auto, using(crate::proofs::ListsRead::strictness_one, crate::proofs::ListsRead::no_notice_plain, crate::proofs::ListsRead::no_notice_strict))]
+fn notice_of(
+    alloc: Global,
+    script: &Script,
+    tree: TreeNo,
+    words: &mut Parts,
+) -> Result<Option<Notice>, NoMemory>
+    requires { HasTree script.now tree }
+    ensures { IfOk result (λ read. IsExact (notice_words script.now) (IsNotice script.now tree.0) words.old read) }
+{
+    if !is_strict(script, tree) {
+        let Some(values) = read_values(alloc, script, words)? else {
+            return Ok(None);
+        };
+        return Ok(Some(Notice::Did(values)));
+    }
+    let Some(vote) = read_vote(alloc, script, words)? else {
+        return Ok(None);
+    };
+    match vote {
+        Vote::Yes(values) => Ok(Some(Notice::Yes(values))),
+        Vote::No(cause) => Ok(Some(Notice::No(cause))),
+    }
+}
+
+// The same, where the tree is known by its name.
+#[tactic(auto, using(crate::proofs::ListsRead::notice_named))]
+pub(crate) fn read_notice(
+    alloc: Global,
+    script: &Script,
+    tree: TreeNo,
+    words: &mut Parts,
+) -> Result<Option<Notice>, NoMemory>
+    requires { HasTree script.now tree }
+    ensures { IfOk result (λ read. IsNoticeRead script.now tree words.old read) }
+{
+    let _nodes = script.nodes();
+    let read = notice_of(alloc, script, tree, words)?;
+    Ok(read)
+}
+
+// What the client is told of a tree.
+#[tactic(auto, using(crate::proofs::ListsRead::no_answer_plain, crate::proofs::ListsRead::answer_plain))]
+fn answer_of(
+    alloc: Global,
+    script: &Script,
+    tree: TreeNo,
+    words: &mut Parts,
+) -> Result<Option<Answer>, NoMemory>
+    requires { HasTree script.now tree }
+    ensures { IfOk result (λ read. IsExact (answer_words script.now tree.0) (IsAnswer script.now tree.0) words.old read) }
+{
+    if is_strict(script, tree) {
+        return strict_answer(alloc, script, tree, words);
+    }
+    let Some(values) = read_values(alloc, script, words)? else {
+        return Ok(None);
+    };
+    Ok(Some(Answer::Whole(values)))
+}
+
+// What the client is told of a strict tree.
+#[tactic(auto, using(crate::proofs::ListsRead::no_answer_strict, crate::proofs::ListsRead::answer_strict))]
+fn strict_answer(
+    alloc: Global,
+    script: &Script,
+    tree: TreeNo,
+    words: &mut Parts,
+) -> Result<Option<Answer>, NoMemory>
+    requires there { HasTree script.now tree }
+    requires strict { HasStrictness true (slice_get script.now.trees tree.0) }
+    ensures { IfOk result (λ read. IsExact (answer_words script.now tree.0) (IsAnswer script.now tree.0) words.old read) }
+{
+    let Some(word) = words.next() else {
+        return Ok(None);
+    };
+    if word == b"committed".as_slice() {
+        let Some(values) = read_values(alloc, script, words)? else {
+            return Ok(None);
+        };
+        return Ok(Some(Answer::Whole(values)));
+    }
+    if word == b"aborted".as_slice() {
+        let Some(cause) = read_cause(script, words) else {
+            return Ok(None);
+        };
+        return Ok(Some(Answer::Aborted(Boxed::new(alloc, cause)?)));
+    }
+    Ok(None)
+}
+
+// The same, where the tree is known by its name.
+#[tactic(auto, using(crate::proofs::ListsRead::answer_named))]
+pub(crate) fn read_answer(
+    alloc: Global,
+    script: &Script,
+    tree: TreeNo,
+    words: &mut Parts,
+) -> Result<Option<Answer>, NoMemory>
+    requires { HasTree script.now tree }
+    ensures { IfOk result (λ read. IsAnswerRead script.now tree words.old read) }
+{
+    let _nodes = script.nodes();
+    let read = answer_of(alloc, script, tree, words)?;
+    Ok(read)
+}

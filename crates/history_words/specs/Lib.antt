@@ -1,0 +1,4 @@
+pub mod Exact
+pub mod Parts
+pub mod Numbers
+pub mod Words
