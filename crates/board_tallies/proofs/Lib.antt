@@ -1,0 +1,6 @@
+pub mod Marks
+pub mod Counted
+pub mod Told
+pub mod Started
+pub mod Numbering
+pub mod Telling

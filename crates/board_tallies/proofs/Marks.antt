@@ -1,0 +1,43 @@
+-- Lists of which one place is changed, and marks.
+use Rattle.std.proofs.Common.{◌≡◌, ◌⊎◌, inl, inr, Option, Some, None, ℕ, zero, suc, ◌<◌, ◌≤◌, ◌==◌, Bool, true, false, List, [], ◌∷◌, length, refl, ap, slice_set, get_or, arith}
+use Rattle.std.specs.Prelude.{◌&&◌, ◌||◌, slice_get}
+use Rattle.std.proofs.lemmas.List.{get_or_past}
+use Rattle.std.proofs.lemmas.Option.{slice_get_past}
+use Rattle.script_parts.specs.declared.parts.Tree.{Tree}
+use Rattle.std.proofs.lemmas.Bool.Decides.{nat_tests}
+use Rattle.board_tallies.specs.Board.{first_state, is_whole_by, marked_to, state_at, whole_at}
+use Rattle.board_tallies.specs.declared.states.TreeState.{TreeState}
+
+-- a place that was changed, with what was there
+pub set_back : {A : Type 0} (xs : List A) (i : ℕ) (y d : A) → slice_set (slice_set xs i y) i (get_or xs i d) ≡ xs
+set_back [] i y d = refl
+set_back (x ∷ xs) zero y d = refl
+set_back (x ∷ xs) (suc i) y d = ap (λ (ys : List _). x ∷ ys) (set_back xs i y d)
+
+-- where one isn't marked, not each is
+pub marked_to_not : (n k : ℕ) (marks : List Bool) → k < n → get_or marks k false ≡ false → marked_to n marks ≡ false
+marked_to_not zero k marks small h = absurd (omega arith)
+marked_to_not (suc n) k marks small h =
+    let rest : k < n → get_or marks k false ≡ false → marked_to n marks ≡ false = marked_to_not n k marks in grind (arith, nat_tests)
+
+-- a tree that isn't there, or of which nothing is kept, isn't whole
+pub whole_beyond : (trees : List Tree) (states : List TreeState) (t : ℕ) → (length trees ≤ t) ⊎ (length states ≤ t)
+    → whole_at trees states t ≡ false
+whole_beyond trees states t (inl past) = by (slice_get trees t) (slice_get_past trees t past) where
+  by : (found : Option Tree) → found ≡ None
+      → elim found [ Some tree ↦ is_whole_by tree (state_at states t) | None ↦ false ] ≡ false
+  by None is = refl
+  by (Some tree) is = absurd (cc is)
+whole_beyond trees states t (inr past) = by (slice_get trees t) where
+  first : state_at states t ≡ first_state
+  first = get_or_past states t first_state past
+
+  by : (found : Option Tree) → elim found [ Some tree ↦ is_whole_by tree (state_at states t) | None ↦ false ] ≡ false
+  by None = refl
+  by (Some tree) = ap (λ (state : TreeState). is_whole_by tree state) first
+
+-- a place beyond the end isn't changed
+pub set_beyond : {A : Type 0} (xs : List A) (i : ℕ) (y : A) → length xs ≤ i → slice_set xs i y ≡ xs
+set_beyond [] i y past = refl
+set_beyond (x ∷ xs) zero y past = absurd (omega (arith, past))
+set_beyond (x ∷ xs) (suc i) y past = ap (λ (ys : List _). x ∷ ys) (set_beyond xs i y (omega (arith, past)))

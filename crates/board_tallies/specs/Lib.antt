@@ -1,0 +1,3 @@
+pub mod Board
+pub mod TakenBack
+pub mod inside

@@ -1,0 +1,155 @@
+// The Board's tallies: how they begin, go on and are taken back.
+ghost use Rattle.std.specs.Prelude.{◌≡◌, [], ◌∷◌, ◌++◌, List, ℕ, IfOk, OnErr, OnOk};
+ghost use Rattle.std.specs.Option.{option_map};
+ghost use Rattle.tv_base.specs.declared.numbers.TreeNo.{TreeNo};
+ghost use Rattle.script_parts.specs.ScriptData.{ScriptData};
+ghost use Rattle.letter_types.specs.declared.entries.Entry.{Entry};
+ghost use Rattle.board_rules.specs.ButCause.{IsMoveButCause};
+ghost use Rattle.board_rules.specs.Histories.{Place};
+
+use crate::noting::{Told, closed_by, finished_by, note_tree, passed_on, take_back};
+use crate::numbers::{Numbers, first_numbers, note_numbers, put_numbers};
+use crate::pending::{Pending, drop_zeros};
+use crate::states::{TreeState, first_state};
+use letter_types::Act;
+use std::alloc::Global;
+use std::marker::Model;
+use tv_base::{ActorNo, NoMemory, TreeNo};
+use tx_trees::{Script, Tree};
+
+/// The Board after some acts, in tallies: of each node its version numbers, of each tree what the acts say of it, how
+/// many born trees aren't whole, how many trees from the first on are, and whether the client has finished. Contracts see
+/// it as these, as plain data; that they are the tallies of acts is `IsBoardOf`.
+#[derive(Drop)]
+pub struct Board {
+    pub(crate) nodes: Vec<Numbers>,
+    pub(crate) trees: Vec<TreeState>,
+    pub(crate) pending: Vec<Pending>,
+    pub(crate) passed: usize,
+    pub(crate) finished: bool,
+}
+
+impl Model for Board {
+    ghost use Rattle.board_tallies.specs.Board.{BoardData};
+
+    ghost Value = { BoardData };
+
+    ghost view = { λ b. record {
+        nodes = b.nodes.items;
+        trees = b.trees.items;
+        pending = b.pending.items;
+        passed = b.passed;
+        finished = b.finished
+    } };
+}
+
+/// What an act has changed, by which it is taken back.
+#[derive(Clone, Copy)]
+pub struct Noted {
+    /// The tree that became a member of the serial order by the act: an update tree that is whole by it, or a strict tree
+    /// that it decides to commit.
+    pub closed: Option<TreeNo>,
+    node: ActorNo,
+    numbers: Numbers,
+    told: Told,
+    passed: usize,
+    finished: bool,
+}
+
+impl Board {
+    ghost use Rattle.board_tallies.specs.Board.{IsBoardOf, closes_in};
+    ghost use Rattle.board_tallies.specs.TakenBack.{taken_back};
+    ghost use Rattle.board_tallies.specs.inside.Noting.{IsNoted, closed_by, first_board};
+    ghost use Rattle.board_tallies.specs.inside.Pending.{settled};
+
+    /// The Board of a script before all acts.
+    pub fn new(alloc: Global, script: &Script) -> Result<Board, NoMemory>
+        ensures { IfOk result (λ board. IsBoardOf script.now [] board) }
+    {
+        let nodes = script.nodes() as usize;
+        let board = Board::first(alloc, nodes, script.trees().len())?;
+        Ok(board)
+    }
+
+    // So many nodes and trees before all acts.
+    fn first(alloc: Global, nodes: usize, trees: usize) -> Result<Board, NoMemory>
+        ensures { IfOk result (λ board. board ≡ first_board nodes trees) }
+    {
+        let nodes = vec![in alloc; first_numbers(); nodes]?;
+        let trees = vec![in alloc; first_state(); trees]?;
+        Ok(Board {
+            nodes,
+            trees,
+            pending: Vec::new(alloc),
+            passed: 0,
+            finished: false,
+        })
+    }
+
+    /// Notes an act of this actor, which has to be a move but for the cause of a vote, and gives by what it is taken back.
+    /// `NoMemory` leaves the Board as it was; it also comes where a count stands at its type's greatest number.
+    pub fn note(&mut self, script: &Script, node: ActorNo, act: &Act) -> Result<Noted, NoMemory>
+        ensures noted { OnOk result ((before : List Entry) (xs : List Place) → IsBoardOf script.now xs self.old
+            → IsMoveButCause script.now before xs (record { node = node.0; act = act.now })
+            → IsBoardOf script.now (xs ++ record { node = node.0; act = act.now } ∷ []) self.new) }
+        ensures closed { IfOk result (λ n. (before : List Entry) (xs : List Place) → IsBoardOf script.now xs self.old
+            → IsMoveButCause script.now before xs (record { node = node.0; act = act.now })
+            → option_map (λ (t : TreeNo). t.0) n.closed
+                ≡ closes_in script.now (xs ++ record { node = node.0; act = act.now } ∷ []) act.now) }
+        ensures back { IfOk result (λ n. taken_back n self.new ≡ self.old) }
+        ensures err { OnErr result (self.new ≡ self.old) }
+    {
+        let trees = script.trees();
+        let noted = self.note_act(trees, node, act)?;
+        Ok(noted)
+    }
+
+    // Notes an act on each of the tallies.
+    fn note_act(&mut self, trees: &[Tree], node: ActorNo, act: &Act) -> Result<Noted, NoMemory>
+        ensures noted { OnOk result (IsNoted trees.now node.0 act.now self.old self.new) }
+        ensures closed { IfOk result (λ n. n.closed ≡ closed_by trees.now self.new.trees act.now) }
+        ensures back { IfOk result (λ n. taken_back n self.new ≡ self.old) }
+        ensures err { OnErr result (self.new ≡ self.old) }
+    {
+        let told = note_tree(&mut self.trees, &mut self.pending, trees, node, act)?;
+        let numbers = note_numbers(&mut self.nodes, node, act);
+        let passed = self.passed;
+        let finished = self.finished;
+        self.passed = passed_on(trees, &self.trees, passed);
+        self.finished = finished_by(finished, act);
+        let closed = closed_by(trees, &self.trees, act);
+        Ok(Noted {
+            closed,
+            node,
+            numbers,
+            told,
+            passed,
+            finished,
+        })
+    }
+
+    /// Takes back an act that was noted, if all that was noted after it has been taken back: then the Board is what it was
+    /// before.
+    pub fn undo(&mut self, noted: Noted)
+        ensures { self.new ≡ taken_back noted self.old }
+    {
+        put_numbers(&mut self.nodes, noted.node, noted.numbers);
+        take_back(&mut self.trees, &mut self.pending, noted.told);
+        self.passed = noted.passed;
+        self.finished = noted.finished;
+    }
+
+    /// Gives room back that the counts of whole trees take. An act that was noted before isn't taken back after it.
+    pub fn settle(&mut self)
+        ensures { (s : ScriptData) (xs : List Place) → IsBoardOf s xs self.old → IsBoardOf s xs self.new }
+    {
+        self.drop_zeros();
+    }
+
+    // Drops the counts that are 0.
+    fn drop_zeros(&mut self)
+        ensures { self.new ≡ settled self.old }
+    {
+        drop_zeros(&mut self.pending);
+    }
+}
