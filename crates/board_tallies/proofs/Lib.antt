@@ -4,3 +4,7 @@ pub mod Told
 pub mod Started
 pub mod Numbering
 pub mod Telling
+pub mod Standing
+pub mod Within
+pub mod Closing
+pub mod Nexts

@@ -1,5 +1,5 @@
 -- Lists of which one place is changed, and marks.
-use Rattle.std.proofs.Common.{◌≡◌, ◌⊎◌, inl, inr, Option, Some, None, ℕ, zero, suc, ◌<◌, ◌≤◌, ◌==◌, Bool, true, false, List, [], ◌∷◌, length, refl, ap, slice_set, get_or, arith}
+use Rattle.std.proofs.Common.{◌≡◌, ◌⊎◌, inl, inr, Option, Some, None, ℕ, zero, suc, ◌<◌, ◌≤◌, ◌==◌, Bool, true, false, List, [], ◌∷◌, length, refl, ap, ◌∙◌, slice_set, get_or, arith}
 use Rattle.std.specs.Prelude.{◌&&◌, ◌||◌, slice_get}
 use Rattle.std.proofs.lemmas.List.{get_or_past}
 use Rattle.std.proofs.lemmas.Option.{slice_get_past}
@@ -41,3 +41,8 @@ pub set_beyond : {A : Type 0} (xs : List A) (i : ℕ) (y : A) → length xs ≤ 
 set_beyond [] i y past = refl
 set_beyond (x ∷ xs) zero y past = absurd (omega (arith, past))
 set_beyond (x ∷ xs) (suc i) y past = ap (λ (ys : List _). x ∷ ys) (set_beyond xs i y (omega (arith, past)))
+
+-- a list that was so changed, with what was there
+pub set_back_by : {A : Type 0} (xs ys : List A) (i : ℕ) (y was d : A) → ys ≡ slice_set xs i y → was ≡ get_or xs i d
+    → slice_set ys i was ≡ xs
+set_back_by xs ys i y was d is so = (λ k. slice_set (is k) i (so k)) ∙ set_back xs i y d

@@ -38,9 +38,9 @@ pub(crate) fn numbers_at(nodes: &[Numbers], node: ActorNo) -> Numbers
 }
 
 // Notes an act of a node, if it is there, and gives the numbers that it had.
-pub(crate) fn note_numbers(nodes: &mut [Numbers], node: ActorNo, act: &Act) -> Numbers
-    ensures nodes { nodes.new ≡ nodes_with node.0 act.now nodes.old }
-    ensures was { result ≡ numbers_at nodes.old node.0 }
+pub(crate) fn note_numbers(nodes: &mut Vec<Numbers>, node: ActorNo, act: &Act) -> Numbers
+    ensures nodes { nodes.new.items ≡ nodes_with node.0 act.now nodes.old.items }
+    ensures was { result ≡ numbers_at nodes.old.items node.0 }
 {
     let was = numbers_at(nodes, node);
     put_numbers(nodes, node, numbers_with(was, act));
@@ -49,8 +49,8 @@ pub(crate) fn note_numbers(nodes: &mut [Numbers], node: ActorNo, act: &Act) -> N
 
 // Sets the numbers of a node, if it is there.
 #[tactic(auto, using(crate::proofs::Marks::set_beyond))]
-pub(crate) fn put_numbers(nodes: &mut [Numbers], node: ActorNo, numbers: Numbers)
-    ensures { nodes.new ≡ slice_set nodes.old node.0 numbers }
+pub(crate) fn put_numbers(nodes: &mut Vec<Numbers>, node: ActorNo, numbers: Numbers)
+    ensures { nodes.new.items ≡ slice_set nodes.old.items node.0 numbers }
 {
     let place = node.0 as usize;
     if place < nodes.len() {
