@@ -1,12 +1,18 @@
 -- Operations listed by item, one after the other.
-use Rattle.std.proofs.Common.{◌≡◌, ◌==◌, ℕ, zero, suc, ◌+◌, ◌<◌, ◌≤◌, Bool, true, false, List, [], ◌∷◌, ◌++◌, length, refl, sym, ap, ◌∙◌, arith, append_assoc, append-nil, take, get_or, slice_set, Some}
+use Rattle.std.proofs.Common.{subst, ◌≡◌, ◌==◌, ℕ, zero, suc, ◌+◌, ◌<◌, ◌≤◌, Bool, true, false, List, [], ◌∷◌, ◌++◌, length, refl, sym, ap, ◌∙◌, arith, append_assoc, append-nil, take, get_or, slice_set, Some}
 use Rattle.std.specs.Prelude.{if◌then◌else◌, slice_get}
 use Rattle.std.proofs.lemmas.Bool.Decides.{nat_tests}
-use Rattle.std.proofs.lemmas.List.{length-append}
+use Rattle.std.proofs.lemmas.List.{length-append, take_all}
+use Rattle.std.proofs.lemmas.Option.{slice_get-get_or}
+use Rattle.nc_locks.specs.declared.modes.Mode.{Mode}
+use Rattle.board_rules.specs.Stands.{lock_mode_of}
+use Rattle.script_parts.specs.ScriptData.{ScriptData}
 use Rattle.script_parts.specs.declared.parts.Sub.{Sub}
 use Rattle.script_parts.specs.declared.parts.SubOp.{SubOp}
+use Rattle.script_parts.specs.declared.parts.Tree.{Tree}
+use Rattle.script_parts.specs.declared.parts.TreeKind.{TreeKind}
 use Rattle.board_judge.specs.declared.users.User.{User}
-use Rattle.board_judge.specs.inside.Users.{HasMore, HasNone, ops_users, subs_users, user_of}
+use Rattle.board_judge.specs.inside.Users.{AreUsersBy, AreUsersTo, HasMore, HasNone, is_meant, ops_users, subs_users, tree_users, trees_users, user_of}
 
 -- A list of lists.
 none_beside : (ls : List (List User)) (x : ℕ) → ((y : ℕ) → get_or ls y [] ≡ []) → get_or (ls ++ [] ∷ []) x [] ≡ []
@@ -110,3 +116,79 @@ subs_next t j x (suc i) (y ∷ subs) sub at =
     append_assoc (ops_users t j x y.ops) (subs_users t (suc j) x (take i subs)) (ops_users t (j + suc i) x sub.ops)
     ∙ ap (λ (us : List User). ops_users t j x y.ops ++ us)
     (ap (λ (m : ℕ). subs_users t (suc j) x (take i subs) ++ ops_users t m x sub.ops) next ∙ subs_next t (suc j) x i subs sub at)
+
+-- The same, as the code's loops have it.
+plus_one : (n : ℕ) → n + 1 ≡ suc n
+plus_one n = omega arith
+
+pub put_more_at : (olds : List (List User)) (p : ℕ) (us vs : List User) (u : User) → p < length olds → us ≡ get_or olds p [] → vs ≡ us ++ u ∷ []
+    → HasMore (λ x. if p == x then u ∷ [] else []) olds (slice_set olds p vs)
+put_more_at olds p us vs u lt is put =
+    subst (λ (ws : List User). HasMore (λ x. if p == x then u ∷ [] else []) olds (slice_set olds p ws)) (sym put) (put_more olds p us u lt is)
+
+pub ops_on : (t j : ℕ) (m : Mode) (i : ℕ) (os : List SubOp) (d : SubOp) (olds mids news : List (List User)) → i < length os
+    → m ≡ lock_mode_of (get_or os i d).deed
+    → HasMore (λ x. ops_users t j x (take i os)) olds mids
+    → HasMore (λ x. if (get_or os i d).item.0 == x then record { tree = record { 0 = t }; sub = record { 0 = j }; mode = m } ∷ [] else []) mids news
+    → HasMore (λ x. ops_users t j x (take (i + 1) os)) olds news
+ops_on t j m i os d olds mids news lt is before more =
+    let o = get_or os i d in
+    more_alike (λ x. ops_users t j x (take i os) ++ (if o.item.0 == x then record { tree = record { 0 = t }; sub = record { 0 = j }; mode = m } ∷ [] else []))
+    (λ x. ops_users t j x (take (i + 1) os)) olds news
+    (λ x. ap (λ (n : Mode). ops_users t j x (take i os) ++ (if o.item.0 == x then record { tree = record { 0 = t }; sub = record { 0 = j }; mode = n } ∷ [] else [])) is
+    ∙ ops_next t j x i os o (slice_get-get_or os i d lt) ∙ ap (λ (n : ℕ). ops_users t j x (take n os)) (sym (plus_one i)))
+    (more_then (λ x. ops_users t j x (take i os)) (λ x. if o.item.0 == x then record { tree = record { 0 = t }; sub = record { 0 = j }; mode = m } ∷ [] else []) olds mids news before more)
+
+pub subs_on : (t i : ℕ) (subs : List Sub) (sub : Sub) (olds mids news : List (List User)) → i < length subs → sub ≡ get_or subs i sub
+    → HasMore (λ x. subs_users t 0 x (take i subs)) olds mids
+    → HasMore (λ x. ops_users t i x sub.ops) mids news
+    → HasMore (λ x. subs_users t 0 x (take (i + 1) subs)) olds news
+subs_on t i subs sub olds mids news lt at before more =
+    let there : slice_get subs i ≡ Some sub = slice_get-get_or subs i sub lt ∙ ap (λ (z : Sub). Some z) (sym at) in
+    more_alike (λ x. subs_users t 0 x (take i subs) ++ ops_users t i x sub.ops) (λ x. subs_users t 0 x (take (i + 1) subs)) olds news
+    (λ x. ap (λ (n : ℕ). subs_users t 0 x (take i subs) ++ ops_users t n x sub.ops) (sym (zero_plus i))
+    ∙ subs_next t 0 x i subs sub there ∙ ap (λ (n : ℕ). subs_users t 0 x (take n subs)) (sym (plus_one i)))
+    (more_then (λ x. subs_users t 0 x (take i subs)) (λ x. ops_users t i x sub.ops) olds mids news before more) where
+      zero_plus : (n : ℕ) → 0 + n ≡ n
+      zero_plus n = omega arith
+
+trees_next : (of : TreeKind → Bool) (t x i : ℕ) (trees : List Tree) (tree : Tree) → slice_get trees i ≡ Some tree
+    → trees_users of t x (take i trees) ++ tree_users of (t + i) x tree ≡ trees_users of t x (take (suc i) trees)
+trees_next of t x i [] tree at = absurd (cc at)
+trees_next of t x zero (y ∷ trees) tree at =
+    let same : tree ≡ y = sym (cc at) in
+    let none : t + 0 ≡ t = omega arith in
+    ap (λ (z : Tree). tree_users of (t + 0) x z) same ∙ ap (λ (m : ℕ). tree_users of m x y) none ∙ sym (append-nil (tree_users of t x y))
+trees_next of t x (suc i) (y ∷ trees) tree at =
+    let next : t + suc i ≡ suc t + i = omega arith in
+    append_assoc (tree_users of t x y) (trees_users of (suc t) x (take i trees)) (tree_users of (t + suc i) x tree)
+    ∙ ap (λ (us : List User). tree_users of t x y ++ us)
+    (ap (λ (m : ℕ). trees_users of (suc t) x (take i trees) ++ tree_users of m x tree) next ∙ trees_next of (suc t) x i trees tree at)
+
+pub trees_on : (s : ScriptData) (strict : Bool) (i : ℕ) (trees : List Tree) (tree : Tree) (mids news : List (List User)) → trees ≡ s.trees → i < length trees
+    → tree ≡ get_or trees i tree
+    → AreUsersTo s strict i mids
+    → HasMore (λ x. tree_users (is_meant strict) i x tree) mids news
+    → AreUsersTo s strict (i + 1) news
+trees_on s strict i trees tree mids news same lt at before more =
+    let there : slice_get s.trees i ≡ Some tree =
+        sym (ap (λ (ts : List Tree). slice_get ts i) same) ∙ slice_get-get_or trees i tree lt ∙ ap (λ (z : Tree). Some z) (sym at) in
+    record {
+      count = more.count ∙ before.count;
+      each = λ x below.
+          let here : x < length mids = omega (arith, below, more.count) in
+          more.each x here ∙ ap (λ (us : List User). us ++ tree_users (is_meant strict) i x tree) (before.each x here)
+          ∙ ap (λ (n : ℕ). trees_users (is_meant strict) 0 x (take i s.trees) ++ tree_users (is_meant strict) n x tree) (sym (zero_plus i))
+          ∙ trees_next (is_meant strict) 0 x i s.trees tree there ∙ ap (λ (n : ℕ). trees_users (is_meant strict) 0 x (take n s.trees)) (sym (plus_one i));
+    } where
+      zero_plus : (n : ℕ) → 0 + n ≡ n
+      zero_plus n = omega arith
+
+pub trees_none : (s : ScriptData) (strict : Bool) (items : ℕ) (lists : List (List User)) → items ≡ length s.items → HasNone items lists → AreUsersTo s strict 0 lists
+trees_none s strict items lists is none = record { count = none.count ∙ is; each = λ x lt. none.each x }
+
+pub trees_all : (s : ScriptData) (strict : Bool) (trees : List Tree) (n : ℕ) (lists : List (List User)) → trees ≡ s.trees → length trees ≤ n → AreUsersTo s strict n lists → AreUsersBy s strict lists
+trees_all s strict trees n lists same le to = record {
+  count = to.count;
+  each = λ x lt. to.each x lt ∙ ap (trees_users (is_meant strict) 0 x) (take_all n s.trees (omega (arith, le, ap length same)));
+}

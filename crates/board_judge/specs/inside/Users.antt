@@ -1,6 +1,6 @@
 -- Who has which item in which mode, by what trees have done and voted: the operations on an item, tree by tree, and which of
 -- them stand.
-use Rattle.std.specs.Prelude.{if◌then◌else◌, ℕ, suc, max, Bool, true, false, not, ◌==◌, ◌&&◌, ◌||◌, List, [], ◌∷◌, ◌++◌, ◌≡◌, ◌<◌, length, get_or, Option, Some, None, min, slice_get}
+use Rattle.std.specs.Prelude.{if◌then◌else◌, ℕ, suc, max, Bool, true, false, not, ◌==◌, ◌&&◌, ◌||◌, List, [], ◌∷◌, ◌++◌, ◌≡◌, ◌<◌, length, get_or, Option, Some, None, min, slice_get, take}
 use Rattle.std.specs.List.{list_any}
 use Rattle.nc_locks.specs.Modes.{modes_conflict}
 use Rattle.nc_locks.specs.declared.modes.Mode.{Mode}
@@ -103,7 +103,16 @@ pub record HasNone (items : ℕ) (lists : List (List User)) : Type 0 where
   pub count : length lists ≡ items
   pub each : (x : ℕ) → get_or lists x [] ≡ []
 
--- for each item they are the operations of the script's strict trees on it, or of its update trees
+-- the kind of the trees that are meant
+abbrev pub is_meant : Bool → TreeKind → Bool
+is_meant strict k = if strict then is_strict k else is_update k
+
+-- for each item they are the operations on it of the script's strict trees, or of its update trees: of the first n trees, and
+-- of all
+pub record AreUsersTo (s : ScriptData) (strict : Bool) (n : ℕ) (lists : List (List User)) : Type 0 where
+  pub count : length lists ≡ length s.items
+  pub each : (x : ℕ) → x < length lists → get_or lists x [] ≡ trees_users (is_meant strict) 0 x (take n s.trees)
+
 pub record AreUsersBy (s : ScriptData) (strict : Bool) (lists : List (List User)) : Type 0 where
   pub count : length lists ≡ length s.items
-  pub each : (x : ℕ) → x < length lists → get_or lists x [] ≡ users_of (λ (k : TreeKind). if strict then is_strict k else is_update k) s x
+  pub each : (x : ℕ) → x < length lists → get_or lists x [] ≡ users_of (is_meant strict) s x
