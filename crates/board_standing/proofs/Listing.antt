@@ -11,8 +11,8 @@ use Rattle.script_parts.specs.declared.parts.Sub.{Sub}
 use Rattle.script_parts.specs.declared.parts.SubOp.{SubOp}
 use Rattle.script_parts.specs.declared.parts.Tree.{Tree}
 use Rattle.script_parts.specs.declared.parts.TreeKind.{TreeKind}
-use Rattle.board_judge.specs.declared.users.User.{User}
-use Rattle.board_judge.specs.inside.Users.{AreUsersBy, AreUsersTo, HasMore, HasNone, is_meant, ops_users, subs_users, tree_users, trees_users, user_of}
+use Rattle.board_standing.specs.declared.users.User.{User}
+use Rattle.board_standing.specs.inside.Users.{AreUsersBy, AreUsersTo, HasMore, HasNone, is_meant, ops_users, subs_users, tree_users, trees_users, user_of}
 
 -- A list of lists.
 none_beside : (ls : List (List User)) (x : ℕ) → ((y : ℕ) → get_or ls y [] ≡ []) → get_or (ls ++ [] ∷ []) x [] ≡ []

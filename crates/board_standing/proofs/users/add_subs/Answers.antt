@@ -1,8 +1,8 @@
 use Rattle.std.proofs.Common.{◌∙◌, ap, subst, List}
 use Rattle.script_parts.specs.declared.parts.SubOp.{SubOp}
-use Rattle.board_judge.specs.inside.Users.{HasMore, ops_users}
-use Rattle.board_judge.proofs.Listing.{more_first, subs_on}
-use Rattle.board_judge.proofs.users.add_subs.Goals as goal
+use Rattle.board_standing.specs.inside.Users.{HasMore, ops_users}
+use Rattle.board_standing.proofs.Listing.{more_first, subs_on}
+use Rattle.board_standing.proofs.users.add_subs.Goals as goal
 
 pub loop-k-init : goal.loop-k-init
 loop-k-init c = more_first c.args.users.now.items

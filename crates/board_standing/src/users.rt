@@ -1,6 +1,6 @@
 // Which operations of a script are on which item.
 ghost use Rattle.std.specs.Prelude.{if◌then◌else◌, ℕ, ◌≡◌, ◌==◌, ◌≤◌, [], ◌∷◌, length, IfOk, OnOk};
-ghost use Rattle.board_judge.specs.inside.Users.{AreUsersBy, is_meant, HasMore, HasNone, ops_users, subs_users, tree_users};
+ghost use Rattle.board_standing.specs.inside.Users.{AreUsersBy, is_meant, HasMore, HasNone, ops_users, subs_users, tree_users};
 ghost use Rattle.board_rules.specs.Stands.{lock_mode_of};
 ghost use Rattle.script_parts.specs.ScriptData.{is_strict, is_update};
 

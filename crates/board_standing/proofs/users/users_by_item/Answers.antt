@@ -1,7 +1,7 @@
 use Rattle.std.proofs.Common.{ap, ◌≡◌, List, length}
 use Rattle.script_parts.specs.declared.parts.ItemRow.{ItemRow}
-use Rattle.board_judge.proofs.Listing.{trees_on, trees_none, trees_all}
-use Rattle.board_judge.proofs.users.users_by_item.Goals as goal
+use Rattle.board_standing.proofs.Listing.{trees_on, trees_none, trees_all}
+use Rattle.board_standing.proofs.users.users_by_item.Goals as goal
 
 pub loop-t-init : goal.loop-t-init
 loop-t-init c =

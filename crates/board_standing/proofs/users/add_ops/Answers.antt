@@ -1,5 +1,5 @@
-use Rattle.board_judge.proofs.Listing.{more_first, ops_on}
-use Rattle.board_judge.proofs.users.add_ops.Goals as goal
+use Rattle.board_standing.proofs.Listing.{more_first, ops_on}
+use Rattle.board_standing.proofs.users.add_ops.Goals as goal
 
 pub loop-op-init : goal.loop-op-init
 loop-op-init c = more_first c.args.users.now.items

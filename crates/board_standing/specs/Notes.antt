@@ -8,7 +8,7 @@ use Rattle.board_rules.specs.Stands.{version_or_zero}
 use Rattle.board_rules.specs.Worth.{first_value}
 use Rattle.worth_steps.specs.Kept.{AreWorths, WorthsData}
 use Rattle.worth_steps.specs.Worth.{Noted}
-use Rattle.board_judge.specs.Settled.{settled_order}
+use Rattle.board_standing.specs.Settled.{settled_order}
 
 -- the deeds of operations on item x, in version v
 abbrev pub ops_noted : ℕ → ℕ → List SubOp → List Noted

@@ -24,10 +24,10 @@ use Rattle.board_rules.specs.Worth.{changes, ops_change, subs_change}
 use Rattle.board_rules.proofs.ActTests.{applies_as_is, applies_as_one, as_commits, commits_as, decides_as_is, does_is}
 use Rattle.board_rules.proofs.Once.{clash, same_tests}
 use Rattle.board_rules.proofs.Positions.{found_all, taken_is, there}
-use Rattle.board_judge.specs.declared.users.User.{User}
-use Rattle.board_judge.specs.Settled.{IsMoveRun}
-use Rattle.board_judge.specs.inside.Users.{changes_in, has_written, is_of, newest_by, ops_users, subs_users, tree_users, trees_users, user_of, users_of, version_by}
-use Rattle.board_judge.proofs.Holding.{any_at, drop_head, drop_next}
+use Rattle.board_standing.specs.declared.users.User.{User}
+use Rattle.board_standing.specs.Settled.{IsMoveRun}
+use Rattle.board_standing.specs.inside.Users.{changes_in, has_written, is_of, newest_by, ops_users, subs_users, tree_users, trees_users, user_of, users_of, version_by}
+use Rattle.board_standing.proofs.Holding.{any_at, drop_head, drop_next}
 
 -- Numbers that pass the same thresholds are equal.
 same_numbers : (a b : ℕ) → ((w : ℕ) → 0 < w → nat_le w a ≡ nat_le w b) → a ≡ b

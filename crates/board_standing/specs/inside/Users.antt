@@ -12,7 +12,7 @@ use Rattle.script_parts.specs.declared.parts.Tree.{Tree}
 use Rattle.script_parts.specs.declared.parts.TreeKind.{TreeKind}
 use Rattle.board_rules.specs.Histories.{Place, version_in, was_applied, was_committed, was_done}
 use Rattle.board_rules.specs.Stands.{lock_mode_of, modes_on, version_or_zero, voted_yes, was_freed}
-use Rattle.board_judge.specs.declared.users.User.{User}
+use Rattle.board_standing.specs.declared.users.User.{User}
 
 -- subtransaction j of tree k has taken its items: an update tree's was done, or it has voted yes
 abbrev pub has_taken : ScriptData → List Place → ℕ → ℕ → Bool

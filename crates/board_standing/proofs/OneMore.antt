@@ -20,7 +20,7 @@ use Rattle.board_rules.specs.ButCause.{IsMoveButCause, IsMoveButCauseAt}
 use Rattle.board_rules.specs.Histories.{Place, all_done, born_as, commits, does, is_complete, is_strict_tree, is_whole_in, version_in, was_born, was_committed, was_done}
 use Rattle.board_rules.specs.Moves.{IsAskedBy, decides_as, was_decided_as}
 use Rattle.board_rules.specs.Serial.{commit_order, commits_by, is_settled_in, with_closed}
-use Rattle.board_judge.specs.Settled.{IsMoveRun, closes_in, if_settled, settled_order}
+use Rattle.board_standing.specs.Settled.{IsMoveRun, closes_in, if_settled, settled_order}
 use Rattle.board_rules.specs.Stands.{votes, was_voted}
 use Rattle.board_rules.proofs.ActTests.{commits_as, decides_as_is, does_is}
 use Rattle.board_rules.proofs.Closings.{closings-append, is_out}

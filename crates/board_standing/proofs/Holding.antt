@@ -27,10 +27,10 @@ use Rattle.board_rules.proofs.Holders.{least_of_none}
 use Rattle.board_rules.proofs.NoVotes.{AreMarking, updates_mark}
 use Rattle.board_rules.proofs.Once.{clash, same_tests}
 use Rattle.board_rules.proofs.Positions.{found_all, there}
-use Rattle.board_judge.specs.declared.users.User.{User}
-use Rattle.board_judge.specs.Settled.{IsMoveRun}
-use Rattle.board_judge.specs.inside.Users.{any_taken, first_tree, has_taken, is_of, lesser, ops_users, stands_against, subs_users, trees_users, user_of, users_of, was_let_go}
-use Rattle.board_judge.proofs.StandingNow.{locks_on, stands_where}
+use Rattle.board_standing.specs.declared.users.User.{User}
+use Rattle.board_standing.specs.Settled.{IsMoveRun}
+use Rattle.board_standing.specs.inside.Users.{any_taken, first_tree, has_taken, is_of, lesser, ops_users, stands_against, subs_users, trees_users, user_of, users_of, was_let_go}
+use Rattle.board_standing.proofs.StandingNow.{locks_on, stands_where}
 
 -- a list from a place on
 pub drop_head : {A : Type 0} (k : ℕ) (xs : List A) (y : A) (ys : List A) → drop k xs ≡ y ∷ ys → slice_get xs k ≡ Some y

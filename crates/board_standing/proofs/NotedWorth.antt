@@ -19,9 +19,9 @@ use Rattle.board_rules.specs.Stands.{version_or_zero}
 use Rattle.board_rules.specs.Worth.{after_ops, after_subs, after_tree, first_value, worth_in}
 use Rattle.board_rules.proofs.Places.{version_stays}
 use Rattle.worth_steps.specs.Worth.{Noted, after_noted, in_order, noted_in, worth_of}
-use Rattle.board_judge.specs.Notes.{noted_on, ops_noted, subs_noted, tree_noted, trees_noted}
-use Rattle.board_judge.specs.Settled.{IsMoveRun, closes_in, settled_order}
-use Rattle.board_judge.proofs.OneMore.{filter_alike, filter_twice, settled_born, settled_order_more, with_last}
+use Rattle.board_standing.specs.Notes.{noted_on, ops_noted, subs_noted, tree_noted, trees_noted}
+use Rattle.board_standing.specs.Settled.{IsMoveRun, closes_in, settled_order}
+use Rattle.board_standing.proofs.OneMore.{filter_alike, filter_twice, settled_born, settled_order_more, with_last}
 
 -- Deeds noted in one version.
 ops_in_version_by : (v u x : ℕ) (same : Bool) → (u == v) ≡ same → (os : List SubOp)

@@ -25,8 +25,8 @@ use Rattle.board_rules.proofs.ActTests.{applies_as_is, applies_as_one, decides_a
 use Rattle.board_rules.proofs.Once.{clash, same_tests}
 use Rattle.board_rules.proofs.Positions.{found_all, there}
 use Rattle.board_rules.proofs.Wholes.{any_more, whole_all, whole_done, update_not_strict}
-use Rattle.board_judge.specs.Settled.{IsMoveRun}
-use Rattle.board_judge.proofs.OneMore.{asked_there, run_before}
+use Rattle.board_standing.specs.Settled.{IsMoveRun}
+use Rattle.board_standing.proofs.OneMore.{asked_there, run_before}
 
 -- What holds of no act, and goes on with one act more, holds of all lists of acts.
 front_to_back : (P : List Place → Type 0) → ((xs : List Place) (x : Place) → P xs → P (xs ++ x ∷ [])) → (xs ys : List Place) → P xs

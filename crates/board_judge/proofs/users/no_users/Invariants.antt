@@ -1,5 +1,0 @@
-use Rattle.board_judge.specs.inside.Users.{HasNone}
-use Rattle.board_judge.proofs.users.no_users.Given as goal
-
-abbrev pub invariant-loop : goal.invariant-loop
-invariant-loop l = HasNone l.counter l.users.items

@@ -1,0 +1,5 @@
+//! What stands at a node after acts, by the Board's tallies and a script's operations on each item: which lock is in the way, why a
+//! subtransaction votes no, and what items are worth.
+#![tactic(auto)]
+
+mod users;
