@@ -8,3 +8,6 @@ pub mod Standing
 pub mod Within
 pub mod Closing
 pub mod Nexts
+pub mod Deciding
+pub mod Waiting
+pub mod Raising

@@ -1,11 +1,14 @@
 -- Lists of which one place is changed, and marks.
 use Rattle.std.proofs.Common.{◌≡◌, ◌⊎◌, inl, inr, Option, Some, None, ℕ, zero, suc, ◌<◌, ◌≤◌, ◌==◌, Bool, true, false, List, [], ◌∷◌, length, refl, ap, ◌∙◌, slice_set, get_or, arith}
-use Rattle.std.specs.Prelude.{◌&&◌, ◌||◌, slice_get}
+use Rattle.std.specs.Prelude.{◌&&◌, ◌||◌, replicate, slice_get}
 use Rattle.std.proofs.lemmas.List.{get_or_past}
 use Rattle.std.proofs.lemmas.Option.{slice_get_past}
 use Rattle.script_parts.specs.declared.parts.Tree.{Tree}
 use Rattle.std.proofs.lemmas.Bool.Decides.{nat_tests}
 use Rattle.board_tallies.specs.Board.{first_state, is_whole_by, marked_to, state_at, whole_at}
+use Rattle.board_tallies.specs.inside.Marks.{marks_of}
+use Rattle.board_tallies.specs.declared.states.Marked.{Marked}
+use Rattle.board_tallies.specs.declared.states.Marked.TheVariants as marked
 use Rattle.board_tallies.specs.declared.states.TreeState.{TreeState}
 
 -- a place that was changed, with what was there
@@ -46,3 +49,22 @@ set_beyond (x ∷ xs) (suc i) y past = ap (λ (ys : List _). x ∷ ys) (set_beyo
 pub set_back_by : {A : Type 0} (xs ys : List A) (i : ℕ) (y was d : A) → ys ≡ slice_set xs i y → was ≡ get_or xs i d
     → slice_set ys i was ≡ xs
 set_back_by xs ys i y was d is so = (λ k. slice_set (is k) i (so k)) ∙ set_back xs i y d
+
+-- each of a list of equal ones
+pub get_replicate : {A : Type 0} (n i : ℕ) (a : A) → get_or (replicate n a) i a ≡ a
+get_replicate zero i a = refl
+get_replicate (suc n) zero a = refl
+get_replicate (suc n) (suc i) a = get_replicate n i a
+
+first_unmarked : (of : Marked) (k : ℕ) → get_or (marks_of of first_state) k false ≡ false
+first_unmarked marked.Done k = get_replicate 64 k false
+first_unmarked marked.Voted k = get_replicate 64 k false
+first_unmarked marked.Yes k = get_replicate 64 k false
+first_unmarked marked.Applied k = get_replicate 64 k false
+first_unmarked marked.Freed k = get_replicate 64 k false
+
+-- a tree that isn't there has no mark
+pub mark_beyond : (states : List TreeState) (t : ℕ) (of : Marked) (k : ℕ) → length states ≤ t
+    → get_or (marks_of of (state_at states t)) k false ≡ false
+mark_beyond states t of k past =
+    ap (λ (st : TreeState). get_or (marks_of of st) k false) (get_or_past states t first_state past) ∙ first_unmarked of k

@@ -2,7 +2,9 @@
 use Rattle.std.proofs.Common.{◌≡◌, ◌⊎◌, inl, inr, ℕ, zero, suc, ◌+◌, ◌<◌, ◌≤◌, ◌==◌, Bool, true, false, List, [], ◌∷◌, ◌++◌, length, refl, sym, ap, subst, ◌∙◌, get_or, arith, Option, Some, None}
 use Rattle.std.specs.Prelude.{if◌then◌else◌, ◌&&◌, slice_get, is_some}
 use Rattle.std.proofs.lemmas.Bool.{cases_lt}
-use Rattle.std.proofs.lemmas.Option.{slice_get-get_or, slice_get_within}
+use Rattle.std.proofs.lemmas.List.{get_or_past}
+use Rattle.tv_base.specs.declared.numbers.Version.{Version}
+use Rattle.board_tallies.proofs.Marks.{whole_beyond}
 use Rattle.script_parts.specs.ScriptData.{ScriptData, is_strict, subs_at}
 use Rattle.script_parts.specs.declared.parts.Sub.{Sub}
 use Rattle.script_parts.specs.declared.parts.Tree.{Tree}
@@ -79,3 +81,18 @@ passed_next s xs ys states since until many passed on shows =
       each t lt small (inl early) = whole_more s xs ys t (passed.each t early)
       each t lt small (inr late) =
           sym (whole_there s (xs ++ ys) states t (omega (arith, lt, small)) (shows t)) ∙ on.whole t late lt
+
+none_born : (o : Option Version) (complete : Bool) → o ≡ None → (is_some o && complete) ≡ false
+none_born None complete is = refl
+none_born (Some v) complete is = absurd (cc is)
+
+-- a tree is whole where its place says so, also where it isn't there: then it isn't born
+pub whole_any : (s : ScriptData) (xs : List Place) (states : List TreeState) (t : ℕ) → length states ≡ length s.trees
+    → ShowsTree t xs (state_at states t) → whole_at s.trees states t ≡ is_whole_in s xs t
+whole_any s xs states t many shows = by (cases_lt t (length s.trees)) where
+  by : (t < length s.trees) ⊎ (length s.trees ≤ t) → whole_at s.trees states t ≡ is_whole_in s xs t
+  by (inl lt) = whole_there s xs states t lt shows
+  by (inr past) =
+      let first : state_at states t ≡ first_state = get_or_past states t first_state (omega (arith, past, many)) in
+      let unborn : version_in t xs ≡ None = sym shows.born ∙ ap (λ (st : TreeState). st.born) first in
+      whole_beyond s.trees states t (inl past) ∙ sym (none_born (version_in t xs) (is_complete s xs t) unborn)

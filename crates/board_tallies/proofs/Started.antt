@@ -10,11 +10,7 @@ use Rattle.board_tallies.specs.inside.Noting.{first_board}
 use Rattle.board_tallies.specs.declared.numbers.Numbers.{Numbers}
 use Rattle.board_tallies.specs.declared.states.TreeState.{TreeState}
 use Rattle.board_tallies.proofs.Counted.{pends_none}
-
-get_replicate : {A : Type 0} (n i : ℕ) (a : A) → get_or (replicate n a) i a ≡ a
-get_replicate zero i a = refl
-get_replicate (suc n) zero a = refl
-get_replicate (suc n) (suc i) a = get_replicate n i a
+use Rattle.board_tallies.proofs.Marks.{get_replicate}
 
 no_marks : (n : ℕ) → n ≡ 64 → AreMarks (replicate n false) (λ (k : ℕ). false)
 no_marks n many = record { many = length-replicate n false ∙ many; each = λ (k : ℕ). get_replicate n k false }

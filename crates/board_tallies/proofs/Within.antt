@@ -18,7 +18,7 @@ use Rattle.board_rules.specs.Moves.{IsAsked, IsAskedBy}
 use Rattle.board_rules.proofs.Wholes.{strict_there, updates_there}
 use Rattle.board_tallies.proofs.Telling.{IsWithin}
 
-reads_there : (s : ScriptData) (t : ℕ) → reads s t ≡ true → t < length s.trees
+pub reads_there : (s : ScriptData) (t : ℕ) → reads s t ≡ true → t < length s.trees
 reads_there s t is = by (slice_get s.trees t) refl is where
   by : (found : Option Tree) → slice_get s.trees t ≡ found
       → elim found [ Some tree ↦ is_read tree.kind | None ↦ false ] ≡ true → t < length s.trees

@@ -1,2 +1,4 @@
 pub mod Noting
+pub mod May
+pub mod Marks
 pub mod Pending

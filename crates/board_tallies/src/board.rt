@@ -1,5 +1,5 @@
 // The Board's tallies: how they begin, go on and are taken back.
-ghost use Rattle.std.specs.Prelude.{◌≡◌, [], ◌∷◌, ◌++◌, List, ℕ, IfOk, OnErr, OnOk};
+ghost use Rattle.std.specs.Prelude.{◌≡◌, true, false, [], ◌∷◌, ◌++◌, List, ℕ, IfOk, OnErr, OnOk};
 ghost use Rattle.std.specs.Option.{option_map};
 ghost use Rattle.tv_base.specs.declared.numbers.TreeNo.{TreeNo};
 ghost use Rattle.script_parts.specs.ScriptData.{ScriptData};
@@ -7,8 +7,9 @@ ghost use Rattle.letter_types.specs.declared.entries.Entry.{Entry};
 ghost use Rattle.board_rules.specs.ButCause.{IsMoveButCause};
 ghost use Rattle.board_rules.specs.Histories.{Place};
 
+use crate::moves::{may_by_node, may_with, tree_of};
 use crate::noting::{Told, closed_by, finished_by, note_tree, passed_on, take_back};
-use crate::numbers::{Numbers, first_numbers, note_numbers, put_numbers};
+use crate::numbers::{Numbers, first_numbers, note_numbers, numbers_at, put_numbers};
 use crate::pending::{Pending, drop_zeros};
 use crate::states::{TreeState, first_state};
 use letter_types::Act;
@@ -59,6 +60,7 @@ pub struct Noted {
 impl Board {
     ghost use Rattle.board_tallies.specs.Board.{IsBoardOf, closes_in};
     ghost use Rattle.board_tallies.specs.TakenBack.{taken_back};
+    ghost use Rattle.board_tallies.specs.inside.May.{may_come};
     ghost use Rattle.board_tallies.specs.inside.Noting.{IsNoted, closed_by, first_board};
     ghost use Rattle.board_tallies.specs.inside.Pending.{settled};
 
@@ -84,6 +86,35 @@ impl Board {
             passed: 0,
             finished: false,
         })
+    }
+
+    /// Whether an act of this actor is a move of the Board after the acts so far, but for the cause of a vote. Takes time
+    /// by the nodes or by a tree's subtransactions.
+    pub fn moves(&self, script: &Script, node: ActorNo, act: &Act) -> bool
+        ensures yes { result ≡ true → (before : List Entry) (xs : List Place) → IsBoardOf script.now xs self.now
+            → IsMoveButCause script.now before xs (record { node = node.0; act = act.now }) }
+        ensures no { result ≡ false → (before : List Entry) (xs : List Place) → IsBoardOf script.now xs self.now
+            → IsMoveButCause script.now before xs (record { node = node.0; act = act.now }) → ⊥ }
+    {
+        let trees = script.trees();
+        self.may_come(trees, node, act)
+    }
+
+    // Whether an act of this actor may come.
+    fn may_come(&self, trees: &[Tree], node: ActorNo, act: &Act) -> bool
+        ensures { result ≡ may_come trees.now self.now node.0 act.now }
+    {
+        match tree_of(act) {
+            Some(tree) => may_with(
+                trees,
+                &self.trees,
+                tree,
+                numbers_at(&self.nodes, node),
+                node,
+                act,
+            ),
+            None => may_by_node(&self.nodes, &self.pending, node, act),
+        }
     }
 
     /// Notes an act of this actor, which has to be a move but for the cause of a vote, and gives by what it is taken back.

@@ -4,6 +4,8 @@
 
 mod numbers;
 mod board;
+mod lookups;
+mod moves;
 mod noting;
 mod pending;
 mod states;

@@ -1,7 +1,8 @@
 // What is known of each tree.
 ghost use Rattle.std.specs.Prelude.{◌≡◌, ◌||◌, false, get_or, length, slice_set};
-ghost use Rattle.board_tallies.specs.Board.{first_state, is_through, is_whole_by, marked_for, marked_to, pending_version, whole_at};
+ghost use Rattle.board_tallies.specs.Board.{first_state, is_through, is_whole_by, marked_for, marked_to, pending_version, state_at, whole_at};
 ghost use Rattle.board_tallies.specs.TakenBack.{state_back};
+ghost use Rattle.board_tallies.specs.inside.Marks.{marks_of};
 ghost use Rattle.board_tallies.specs.inside.Noting.{is_yes, news_by, state_was, state_with};
 
 use letter_types::{Act, Vote};
@@ -46,6 +47,17 @@ pub(crate) enum StateWas {
     Freed(ActorNo, bool),
     // Whether it was decided to commit, and to abort.
     Decided(bool, bool),
+}
+
+// What the marks of a tree are of: subtransactions that were done, have voted or have voted yes, and nodes at which what
+// was decided was applied or marks were freed.
+#[derive(Clone, Copy)]
+pub(crate) enum Marked {
+    Done,
+    Voted,
+    Yes,
+    Applied,
+    Freed,
 }
 
 // A tree of which nothing is known.
@@ -162,11 +174,48 @@ fn put(marks: &mut [bool], place: usize, marked: bool)
     }
 }
 
+// Whether the tree of this place has this mark.
+#[tactic(auto, using(crate::proofs::Marks::mark_beyond))]
+pub(crate) fn marked_at(states: &[TreeState], tree: TreeNo, of: Marked, place: usize) -> bool
+    ensures { result ≡ get_or (marks_of of (state_at states.now tree.0)) place false }
+{
+    let at = tree.0 as usize;
+    if at >= states.len() {
+        return false;
+    }
+    is_marked(marks_of(&states[at], of), place)
+}
+
+// The marks of a state.
+fn marks_of(state: &TreeState, of: Marked) -> &[bool]
+    ensures { result.now ≡ marks_of of state.now }
+{
+    match of {
+        Marked::Done => &state.done,
+        Marked::Voted => &state.voted,
+        Marked::Yes => &state.yes,
+        Marked::Applied => &state.applied,
+        Marked::Freed => &state.freed,
+    }
+}
+
 // Whether the place is marked.
 pub(crate) fn is_marked(marks: &[bool], place: usize) -> bool
     ensures { result ≡ get_or marks.now place false }
 {
     place < marks.len() && marks[place]
+}
+
+// The version with which the tree of this place was born.
+pub(crate) fn born_at(states: &[TreeState], tree: TreeNo) -> Option<Version>
+    ensures { result ≡ (state_at states.now tree.0).born }
+{
+    let at = tree.0 as usize;
+    if at < states.len() {
+        states[at].born
+    } else {
+        None
+    }
 }
 
 // Whether the tree of this place is there, and is whole.

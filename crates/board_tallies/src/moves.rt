@@ -1,0 +1,292 @@
+// Whether an act may come, by the tallies.
+ghost use Rattle.std.specs.Prelude.{◌≡◌, ◌+◌, ◌==◌, length, nat_le, nat_lt, slice_get};
+ghost use Rattle.std.specs.List.{list_all};
+ghost use Rattle.board_tallies.specs.declared.numbers.Numbers.{Numbers};
+ghost use Rattle.board_tallies.specs.inside.May.{are_apart, has_turn, may_apply, may_bear, may_by_node, may_by_tree, may_decide, may_do, may_free, may_show, may_sweep, may_turn, may_vote, may_wait, may_with, runs_at, takes_version, tree_of};
+
+use crate::numbers::{Numbers, numbers_at};
+use crate::pending::{Pending, none_to};
+use crate::states::{TreeState, is_marked, is_whole_by, marked_to};
+use commute_ops::Values;
+use letter_types::Act;
+use script_parts::children::visits;
+use script_parts::kinds::{is_strict, is_update};
+use tv_base::{ActorNo, NodeNo, SubNo, TreeNo, Version};
+use tx_trees::{Sub, Tree, TreeKind};
+
+// The tree whose state has a say in the act.
+pub(crate) fn tree_of(act: &Act) -> Option<TreeNo>
+    ensures { result ≡ tree_of act.now }
+{
+    match act {
+        Act::Born { tree, version: _ } => Some(*tree),
+        Act::Waits {
+            tree,
+            update: _,
+            read: _,
+        } => Some(*tree),
+        Act::Did {
+            tree,
+            sub: _,
+            values: _,
+        } => Some(*tree),
+        Act::Voted {
+            tree,
+            sub: _,
+            vote: _,
+        } => Some(*tree),
+        Act::Freed { tree } => Some(*tree),
+        Act::Decided { tree, commit: _ } => Some(*tree),
+        Act::Applied { tree, commit: _ } => Some(*tree),
+        _ => None,
+    }
+}
+
+// Whether an act of a node, of these numbers, may come for the tree of this number, if it is there.
+pub(crate) fn may_with(
+    trees: &[Tree],
+    states: &[TreeState],
+    tree: TreeNo,
+    numbers: Numbers,
+    node: ActorNo,
+    act: &Act,
+) -> bool
+    ensures { result ≡ may_with (slice_get trees.now tree.0) (slice_get states.now tree.0) numbers node.0 act.now }
+{
+    let place = tree.0 as usize;
+    let Some(tree) = trees.get(place) else {
+        return false;
+    };
+    let Some(state) = states.get(place) else {
+        return false;
+    };
+    may_by_tree(tree, state, numbers, node, act)
+}
+
+// The same of a tree that is there.
+fn may_by_tree(
+    tree: &Tree,
+    state: &TreeState,
+    numbers: Numbers,
+    node: ActorNo,
+    act: &Act,
+) -> bool
+    ensures { result ≡ may_by_tree tree.now state.now numbers node.0 act.now }
+{
+    match act {
+        Act::Born { tree: _, version } => may_bear(tree, state, numbers, node, *version),
+        Act::Waits {
+            tree: _,
+            update,
+            read,
+        } => may_wait(tree, state, numbers, node, *update, *read),
+        Act::Did {
+            tree: _,
+            sub,
+            values,
+        } => may_do(tree, state, node, *sub, values),
+        Act::Voted {
+            tree: _,
+            sub,
+            vote: _,
+        } => may_vote(tree, state, node, *sub),
+        Act::Freed { tree: _ } => may_free(tree, state, node),
+        Act::Decided { tree: _, commit } => may_decide(tree, state, node, *commit),
+        Act::Applied { tree: _, commit } => may_apply(tree, state, node, *commit),
+        _ => false,
+    }
+}
+
+// Whether the tree may be born.
+fn may_bear(tree: &Tree, state: &TreeState, numbers: Numbers, node: ActorNo, version: Version) -> bool
+    ensures { result ≡ may_bear tree.now state.now numbers node.0 version.0 }
+{
+    runs_at(tree.subs.items(), SubNo(0), node)
+        && state.born.is_none()
+        && takes_version(tree.kind, numbers, version)
+}
+
+// Whether the tree may wait.
+fn may_wait(
+    tree: &Tree,
+    state: &TreeState,
+    numbers: Numbers,
+    node: ActorNo,
+    update: Version,
+    read: Version,
+) -> bool
+    ensures { result ≡ may_wait tree.now state.now numbers node.0 update.0 read.0 }
+{
+    is_strict(tree.kind)
+        && runs_at(tree.subs.items(), SubNo(0), node)
+        && state.born.is_none()
+        && are_apart(numbers, update, read)
+}
+
+// Whether these are a node's update and read versions, and not one after the other.
+fn are_apart(numbers: Numbers, update: Version, read: Version) -> bool
+    ensures { result ≡ are_apart numbers update.0 read.0 }
+{
+    update.0 == numbers.update.0 && read.0 == numbers.read.0 && !is_next(update, read)
+}
+
+// Whether the subtransaction may be done, and give these values.
+fn may_do(tree: &Tree, state: &TreeState, node: ActorNo, sub: SubNo, given: &Values) -> bool
+    ensures { result ≡ may_do tree.now state.now node.0 sub.0 given.now }
+{
+    !is_strict(tree.kind)
+        && state.born.is_some()
+        && has_turn(tree.subs.items(), &state.done, sub, node)
+        && (!is_update(tree.kind) || given.items().is_empty())
+}
+
+// Whether the subtransaction may vote.
+fn may_vote(tree: &Tree, state: &TreeState, node: ActorNo, sub: SubNo) -> bool
+    ensures { result ≡ may_vote tree.now state.now node.0 sub.0 }
+{
+    is_strict(tree.kind)
+        && state.born.is_some()
+        && has_turn(tree.subs.items(), &state.voted, sub, node)
+}
+
+// Whether the tree's marks may be freed.
+fn may_free(tree: &Tree, state: &TreeState, node: ActorNo) -> bool
+    ensures { result ≡ may_free tree.now state.now node.0 }
+{
+    is_update(tree.kind)
+        && visits(tree.subs.items(), NodeNo(node.0))
+        && is_whole_by(tree, state)
+        && !is_marked(&state.freed, node.0 as usize)
+}
+
+// Whether the tree may be decided so.
+fn may_decide(tree: &Tree, state: &TreeState, node: ActorNo, commit: bool) -> bool
+    ensures { result ≡ may_decide tree.now state.now node.0 commit }
+{
+    let subs = tree.subs.items();
+    is_strict(tree.kind)
+        && runs_at(subs, SubNo(0), node)
+        && marked_to(subs.len(), &state.voted)
+        && !(state.committed || state.aborted)
+        && commit == marked_to(subs.len(), &state.yes)
+}
+
+// Whether what was decided may be applied.
+fn may_apply(tree: &Tree, state: &TreeState, node: ActorNo, commit: bool) -> bool
+    ensures { result ≡ may_apply tree.now state.now node.0 commit }
+{
+    is_strict(tree.kind)
+        && visits(tree.subs.items(), NodeNo(node.0))
+        && (if commit { state.committed } else { state.aborted })
+        && !is_marked(&state.applied, node.0 as usize)
+}
+
+// Whether the subtransaction is there, at the node.
+fn runs_at(subs: &[Sub], sub: SubNo, node: ActorNo) -> bool
+    ensures { result ≡ runs_at subs.now sub.0 node.0 }
+{
+    match subs.get(sub.0 as usize) {
+        Some(one) => one.node.0 == node.0,
+        None => false,
+    }
+}
+
+// Whether the subtransaction is there, at the node, and may have its turn, where these have had it.
+fn has_turn(subs: &[Sub], had: &[bool], sub: SubNo, node: ActorNo) -> bool
+    ensures { result ≡ has_turn subs.now had.now sub.0 node.0 }
+{
+    let Some(one) = subs.get(sub.0 as usize) else {
+        return false;
+    };
+    one.node.0 == node.0
+        && (sub.0 == 0 || is_marked(had, one.parent.0 as usize))
+        && !is_marked(had, sub.0 as usize)
+}
+
+// Whether a tree of this kind takes this version at a node of these numbers.
+fn takes_version(kind: TreeKind, numbers: Numbers, version: Version) -> bool
+    ensures { result ≡ takes_version kind numbers version.0 }
+{
+    match kind {
+        TreeKind::Update => version.0 == numbers.update.0,
+        TreeKind::Read => version.0 == numbers.read.0,
+        TreeKind::Strict => version.0 == numbers.update.0 && is_next(version, numbers.read),
+    }
+}
+
+// Whether the version is the one after another.
+fn is_next(version: Version, before: Version) -> bool
+    ensures { result ≡ (version.0 == before.0 + 1) }
+{
+    version.0 > before.0 && version.0 - before.0 == 1
+}
+
+// Whether an act of a node that no tree has a say in may come.
+pub(crate) fn may_by_node(nodes: &[Numbers], pending: &[Pending], node: ActorNo, act: &Act) -> bool
+    ensures { result ≡ may_by_node nodes.now pending.now node.0 act.now }
+{
+    match act {
+        Act::Turned { version } => may_turn(nodes, node, *version),
+        Act::Showed { version } => may_show(nodes, pending, node, *version),
+        Act::Swept { version } => may_sweep(nodes, pending, node, *version),
+        _ => true,
+    }
+}
+
+// Whether the node may raise its update version.
+fn may_turn(nodes: &[Numbers], node: ActorNo, version: Version) -> bool
+    ensures { result ≡ may_turn nodes.now node.0 version.0 }
+{
+    (node.0 as usize) < nodes.len()
+        && is_next(version, numbers_at(nodes, node).update)
+        && all_near(nodes, version)
+}
+
+// Whether the version is at most two above every low version.
+fn all_near(nodes: &[Numbers], version: Version) -> bool
+    ensures { result ≡ list_all (λ (n : Numbers). nat_le version.0 (n.low.0 + 2)) nodes.now }
+{
+    nodes.iter().all(|one| is_near(version, one.low))
+}
+
+// Whether the version is at most two above a low one.
+fn is_near(version: Version, low: Version) -> bool
+    ensures { result ≡ nat_le version.0 (low.0 + 2) }
+{
+    version.0 <= low.0 || version.0 - low.0 <= 2
+}
+
+// Whether the node may raise its read version.
+fn may_show(nodes: &[Numbers], pending: &[Pending], node: ActorNo, version: Version) -> bool
+    ensures { result ≡ may_show nodes.now pending.now node.0 version.0 }
+{
+    (node.0 as usize) < nodes.len()
+        && is_next(version, numbers_at(nodes, node).read)
+        && all_above(nodes, version)
+        && none_to(pending, false, version)
+}
+
+// Whether the version is below every update version.
+fn all_above(nodes: &[Numbers], version: Version) -> bool
+    ensures { result ≡ list_all (λ (n : Numbers). nat_lt version.0 n.update.0) nodes.now }
+{
+    nodes.iter().all(|one| version.0 < one.update.0)
+}
+
+// Whether the node may raise its low version.
+fn may_sweep(nodes: &[Numbers], pending: &[Pending], node: ActorNo, version: Version) -> bool
+    ensures { result ≡ may_sweep nodes.now pending.now node.0 version.0 }
+{
+    let low = numbers_at(nodes, node).low;
+    (node.0 as usize) < nodes.len()
+        && is_next(version, low)
+        && all_read(nodes, version)
+        && none_to(pending, true, low)
+}
+
+// Whether every node reads the version or a later one.
+fn all_read(nodes: &[Numbers], version: Version) -> bool
+    ensures { result ≡ list_all (λ (n : Numbers). nat_le version.0 n.read.0) nodes.now }
+{
+    nodes.iter().all(|one| version.0 <= one.read.0)
+}
