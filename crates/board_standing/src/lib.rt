@@ -2,4 +2,8 @@
 //! subtransaction votes no, and what items are worth.
 #![tactic(auto)]
 
+mod standing;
 mod users;
+
+pub use standing::{conflict, newer, updates};
+pub use users::Users;

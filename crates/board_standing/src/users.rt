@@ -1,12 +1,14 @@
 // Which operations of a script are on which item.
-ghost use Rattle.std.specs.Prelude.{if◌then◌else◌, ℕ, ◌≡◌, ◌==◌, ◌≤◌, [], ◌∷◌, length, IfOk, OnOk};
+ghost use Rattle.std.specs.Prelude.{true, false, get_or, if◌then◌else◌, ℕ, ◌≡◌, ◌==◌, ◌≤◌, [], ◌∷◌, length, IfOk, OnOk};
 ghost use Rattle.board_standing.specs.inside.Users.{AreUsersBy, is_meant, HasMore, HasNone, ops_users, subs_users, tree_users};
 ghost use Rattle.board_rules.specs.Stands.{lock_mode_of};
+ghost use Rattle.script_parts.specs.Counts.{has_strict};
 ghost use Rattle.script_parts.specs.ScriptData.{is_strict, is_update};
 
 use nc_locks::Mode;
 use std::alloc::Global;
-use tv_base::{NoMemory, Seq, SubNo, TreeNo};
+use std::marker::Model;
+use tv_base::{ItemNo, NoMemory, Seq, SubNo, TreeNo};
 use tx_trees::{Deed, Script, Sub, SubOp, Tree, TreeKind};
 
 // An operation on an item: whose it is, and how its tree has the item once it has taken it.
@@ -22,6 +24,56 @@ pub(crate) type ItemUsers = Seq<User, 0xffff_ffff>;
 
 // For each item the operations on it.
 pub(crate) type ByItem = Vec<ItemUsers>;
+
+/// The operations of a script on each of its items: those of its strict trees and, where it has a strict tree, those of its
+/// update trees.
+#[derive(Drop)]
+pub struct Users {
+    pub(crate) strict: ByItem,
+    pub(crate) updates: ByItem,
+}
+
+impl Model for Users {
+    ghost use Rattle.board_standing.specs.Views.{UsersData};
+
+    ghost Value = { UsersData };
+
+    ghost view = { λ u. record { strict = u.strict.items; updates = u.updates.items } };
+}
+
+impl Users {
+    ghost use Rattle.board_standing.specs.Views.{AreUsersOf};
+
+    /// The operations of a script.
+    pub fn new(alloc: Global, script: &Script) -> Result<Users, NoMemory>
+        ensures { IfOk result (λ users. AreUsersOf script.now users) }
+    {
+        let strict = users_by_item(alloc, script, true)?;
+        let updates = of_updates(alloc, script)?;
+        Ok(Users { strict, updates })
+    }
+}
+
+// The operations of a script's update trees on each item, if there is a strict tree.
+fn of_updates(alloc: Global, script: &Script) -> Result<ByItem, NoMemory>
+    ensures { IfOk result (λ users. has_strict script.now ≡ true → AreUsersBy script.now false users.items) }
+{
+    if !script.has_strict() {
+        return Ok(Vec::new(alloc));
+    }
+    let users = users_by_item(alloc, script, false)?;
+    Ok(users)
+}
+
+// The operations on an item. None where it isn't there.
+pub(crate) fn on(users: &ByItem, item: ItemNo) -> &[User]
+    ensures { result.now ≡ get_or users.now.items item.0 [] }
+{
+    match users.get(item.0 as usize) {
+        Some(users) => users.items(),
+        None => &[],
+    }
+}
 
 // How a tree has an item by such a deed.
 pub(crate) fn lock_mode(deed: &Deed) -> Mode

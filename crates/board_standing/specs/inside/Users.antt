@@ -1,7 +1,10 @@
 -- Who has which item in which mode, by what trees have done and voted: the operations on an item, tree by tree, and which of
 -- them stand.
-use Rattle.std.specs.Prelude.{if◌then◌else◌, ℕ, suc, max, Bool, true, false, not, ◌==◌, ◌&&◌, ◌||◌, List, [], ◌∷◌, ◌++◌, ◌≡◌, ◌<◌, length, get_or, Option, Some, None, min, slice_get, take}
+use Rattle.std.specs.Prelude.{if◌then◌else◌, ℕ, suc, max, Bool, true, false, not, ◌==◌, ◌&&◌, ◌||◌, List, [], ◌∷◌, ◌++◌, ◌≡◌, ◌<◌, length, get_or, Option, Some, None, min, nat_lt, slice_get, take}
 use Rattle.std.specs.List.{list_any}
+use Rattle.tv_base.specs.declared.numbers.TreeNo.{TreeNo}
+use Rattle.letter_types.specs.declared.votes.Cause.{Cause}
+use Rattle.letter_types.specs.declared.votes.Cause.TheVariants.{Newer}
 use Rattle.nc_locks.specs.Modes.{modes_conflict}
 use Rattle.nc_locks.specs.declared.modes.Mode.{Mode}
 use Rattle.nc_locks.specs.declared.modes.Mode.TheVariants.{Mark, Look, Hold}
@@ -11,7 +14,7 @@ use Rattle.script_parts.specs.declared.parts.SubOp.{SubOp}
 use Rattle.script_parts.specs.declared.parts.Tree.{Tree}
 use Rattle.script_parts.specs.declared.parts.TreeKind.{TreeKind}
 use Rattle.board_rules.specs.Histories.{Place, version_in, was_applied, was_committed, was_done}
-use Rattle.board_rules.specs.Stands.{lock_mode_of, modes_on, version_or_zero, voted_yes, was_freed}
+use Rattle.board_rules.specs.Stands.{lock_mode_of, modes_on, newest_of, overwrites, version_or_zero, voted_yes, was_freed}
 use Rattle.board_standing.specs.declared.users.User.{User}
 
 -- subtransaction j of tree k has taken its items: an update tree's was done, or it has voted yes
@@ -66,6 +69,17 @@ lesser None b = b
 lesser (Some a) None = Some a
 lesser (Some a) (Some b) = Some (min a b)
 
+abbrev pub lesser_tree : Option TreeNo → Option TreeNo → Option TreeNo
+lesser_tree None b = b
+lesser_tree (Some a) None = Some a
+lesser_tree (Some a) (Some b) = Some (record { 0 = min a.0 b.0 })
+
+-- the mode is that of commuting operations
+abbrev pub is_mark : Mode → Bool
+is_mark Mark = true
+is_mark Look = false
+is_mark Hold = false
+
 -- the tree of the first operation that passes
 abbrev pub first_tree : (User → Bool) → List User → Option ℕ
 first_tree test [] = None
@@ -90,6 +104,12 @@ version_by xs u = version_or_zero (version_in u.tree.0 xs)
 abbrev pub newest_by : ScriptData → List Place → ℕ → List User → ℕ
 newest_by s xs p [] = 0
 newest_by s xs p (u ∷ us) = if has_written s xs p u then max (version_by xs u) (newest_by s xs p us) else newest_by s xs p us
+
+-- an operation that writes an item which is written in a version above v, as a cause
+abbrev pub newer_at : ScriptData → List Place → ℕ → ℕ → SubOp → Option Cause
+newer_at s xs p v o =
+    if overwrites o.deed && nat_lt v (newest_of s xs p o.item.0)
+    then Some (Newer o.item (record { 0 = newest_of s xs p o.item.0 })) else None
 
 -- Lists by item.
 
