@@ -4,3 +4,4 @@ pub mod Holding
 pub mod Newest
 pub mod NotedWorth
 pub mod Listing
+pub mod Against
