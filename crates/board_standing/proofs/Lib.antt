@@ -5,3 +5,4 @@ pub mod Newest
 pub mod NotedWorth
 pub mod Listing
 pub mod Against
+pub mod Seeing

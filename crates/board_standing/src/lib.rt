@@ -2,8 +2,10 @@
 //! subtransaction votes no, and what items are worth.
 #![tactic(auto)]
 
+mod shown;
 mod standing;
 mod users;
 
+pub use shown::{short, shows};
 pub use standing::{conflict, newer, updates};
 pub use users::Users;
