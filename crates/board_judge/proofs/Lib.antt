@@ -1,6 +1,0 @@
-pub mod OneMore
-pub mod StandingNow
-pub mod Holding
-pub mod Newest
-pub mod NotedWorth
-pub mod Listing

@@ -1,4 +1,0 @@
-//! The judge of histories: whether an entry may come after those that were accepted, by tallies alone.
-#![tactic(auto)]
-
-mod users;

@@ -1,0 +1,4 @@
+pub mod Settled
+pub mod Notes
+pub mod Views
+pub mod inside

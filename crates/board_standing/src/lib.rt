@@ -1,0 +1,11 @@
+//! What stands at a node after acts, by the Board's tallies and a script's operations on each item: which lock is in the way, why a
+//! subtransaction votes no, and what items are worth.
+#![tactic(auto)]
+
+mod shown;
+mod standing;
+mod users;
+
+pub use shown::{short, shows};
+pub use standing::{conflict, newer, updates};
+pub use users::Users;
