@@ -23,8 +23,8 @@ use Rattle.board_rules.specs.Histories.{Place, is_strict_tree}
 use Rattle.board_rules.specs.Stands.{conflict_of, conflict_with, holder_of, lock_mode_of, newer_of, newest_of}
 use Rattle.board_tallies.specs.Board.{BoardData}
 use Rattle.board_standing.specs.declared.users.User.{User}
-use Rattle.board_standing.specs.Views.{AreThere, AreUsersOf, IsView, MayAsk, MayNeed, UsersData}
-use Rattle.board_standing.specs.inside.Users.{first_tree, has_written, is_mark, is_meant, lesser, lesser_tree, newer_at, newest_by, stands_against, users_of, version_by}
+use Rattle.board_standing.specs.Views.{AreThere, AreUsersOf, IsView, MayLook, MayNeed, UsersData}
+use Rattle.board_standing.specs.inside.Users.{first_tree, has_written, is_mark, is_meant, lesser_number, lesser_tree, newer_item, newest_by, stands_against, users_of, version_by}
 use Rattle.board_standing.proofs.Holding.{holder_is_first, marks_meet_no_marks}
 use Rattle.board_standing.proofs.Newest.{newest_is}
 
@@ -86,12 +86,12 @@ module _ (s : ScriptData) (xs : List Place) (b : BoardData) (u : UsersData) (vie
       ∙ by mode (mark_is mode is) where
         by : (m : Mode) → m ≡ Mark → found_in m true ≡ holder_of s xs p t x m
         by Mark so =
-            sym (ap (λ (o : Option ℕ). lesser o (found_in Mark true)) (marks_meet_no_marks s xs p t x view.valid view.run))
+            sym (ap (λ (o : Option ℕ). lesser_number o (found_in Mark true)) (marks_meet_no_marks s xs p t x view.valid view.run))
             ∙ holder_is_first s xs p t x Mark view.run
         by Look so = absurd (cc so)
         by Hold so = absurd (cc so)
 
-  lesser_is : (a c : Option TreeNo) → option_map (λ (k : TreeNo). k.0) (lesser_tree a c) ≡ lesser (option_map (λ (k : TreeNo). k.0) a) (option_map (λ (k : TreeNo). k.0) c)
+  lesser_is : (a c : Option TreeNo) → option_map (λ (k : TreeNo). k.0) (lesser_tree a c) ≡ lesser_number (option_map (λ (k : TreeNo). k.0) a) (option_map (λ (k : TreeNo). k.0) c)
   lesser_is None c = refl
   lesser_is (Some a) None = refl
   lesser_is (Some a) (Some c) = refl
@@ -105,8 +105,8 @@ module _ (s : ScriptData) (xs : List Place) (b : BoardData) (u : UsersData) (vie
   other_holder mode update strict least us vs is may same so one two last =
       ap (option_map (λ (k : TreeNo). k.0)) last
       ∙ lesser_is update strict
-      ∙ ap (λ (o : Option ℕ). lesser o (option_map (λ (k : TreeNo). k.0) strict)) (two ∙ ap (first_tree (stands_against s xs p t mode)) (so ∙ updates_here (no_mark s mode is may)))
-      ∙ ap (lesser (found_in mode false)) (one ∙ ap (first_tree (stands_against s xs p t mode)) (same ∙ strict_here))
+      ∙ ap (λ (o : Option ℕ). lesser_number o (option_map (λ (k : TreeNo). k.0) strict)) (two ∙ ap (first_tree (stands_against s xs p t mode)) (so ∙ updates_here (no_mark s mode is may)))
+      ∙ ap (lesser_number (found_in mode false)) (one ∙ ap (first_tree (stands_against s xs p t mode)) (same ∙ strict_here))
       ∙ holder_is_first s xs p t x mode view.run
 
   pub newest_here : (update strict : ℕ) (us vs : List User) → has_strict s ≡ true → us ≡ get_or u.strict x [] → vs ≡ get_or u.updates x []
@@ -154,7 +154,7 @@ newest_on s xs p us i d old new all within is so =
 
 -- A newer version.
 newer_front : (s : ScriptData) (xs : List Place) (p v : ℕ) (o : SubOp) (os : List SubOp)
-    → newer_of s xs p v (o ∷ os) ≡ option_or (newer_at s xs p v o) (newer_of s xs p v os)
+    → newer_of s xs p v (o ∷ os) ≡ option_or (newer_item s xs p v o) (newer_of s xs p v os)
 newer_front s xs p v o os = by (overwrites o.deed && nat_lt v (newest_of s xs p o.item.0)) where
   by : (c : Bool) → (if c then Some (Newer o.item (record { 0 = newest_of s xs p o.item.0 })) else newer_of s xs p v os)
       ≡ option_or (if c then Some (Newer o.item (record { 0 = newest_of s xs p o.item.0 })) else None) (newer_of s xs p v os)
@@ -162,7 +162,7 @@ newer_front s xs p v o os = by (overwrites o.deed && nat_lt v (newest_of s xs p 
   by false = refl
 
 newer_found : (s : ScriptData) (xs : List Place) (p v : ℕ) (os : List SubOp) (i : ℕ) (d : SubOp) (one all : Option Cause) → i < length os
-    → one ≡ newer_at s xs p v (get_or os i d) → newer_of s xs p v (drop i os) ≡ all
+    → one ≡ newer_item s xs p v (get_or os i d) → newer_of s xs p v (drop i os) ≡ all
     → option_or one (newer_of s xs p v (drop (i + 1) os)) ≡ all
 newer_found s xs p v os i d one all within is so =
     ap (λ (o : Option Cause). option_or o (newer_of s xs p v (drop (i + 1) os))) is
@@ -170,17 +170,17 @@ newer_found s xs p v os i d one all within is so =
     ∙ sym (ap (newer_of s xs p v) (opened os i d within)) ∙ so
 
 pub newer_first : (s : ScriptData) (xs : List Place) (p v : ℕ) (os : List SubOp) (i : ℕ) (d : SubOp) (one all : Option Cause) (cause : Cause) → i < length os
-    → one ≡ newer_at s xs p v (get_or os i d) → newer_of s xs p v (drop i os) ≡ all → one ≡ Some cause → Some cause ≡ all
+    → one ≡ newer_item s xs p v (get_or os i d) → newer_of s xs p v (drop i os) ≡ all → one ≡ Some cause → Some cause ≡ all
 newer_first s xs p v os i d one all cause within is so found =
     sym (ap (λ (o : Option Cause). option_or o (newer_of s xs p v (drop (i + 1) os))) found) ∙ newer_found s xs p v os i d one all within is so
 
 pub newer_passed : (s : ScriptData) (xs : List Place) (p v : ℕ) (os : List SubOp) (i : ℕ) (d : SubOp) (one all : Option Cause) → i < length os
-    → one ≡ newer_at s xs p v (get_or os i d) → newer_of s xs p v (drop i os) ≡ all → one ≡ None → newer_of s xs p v (drop (i + 1) os) ≡ all
+    → one ≡ newer_item s xs p v (get_or os i d) → newer_of s xs p v (drop i os) ≡ all → one ≡ None → newer_of s xs p v (drop (i + 1) os) ≡ all
 newer_passed s xs p v os i d one all within is so none =
     sym (ap (λ (o : Option Cause). option_or o (newer_of s xs p v (drop (i + 1) os))) none) ∙ newer_found s xs p v os i d one all within is so
 
 pub newer_than : (s : ScriptData) (xs : List Place) (p v n : ℕ) (o : SubOp) → overwrites o.deed ≡ true → v < n → n ≡ newest_of s xs p o.item.0
-    → Some (Newer o.item (record { 0 = n })) ≡ newer_at s xs p v o
+    → Some (Newer o.item (record { 0 = n })) ≡ newer_item s xs p v o
 newer_than s xs p v n o over lt is =
     ap (λ (m : ℕ). Some (Newer o.item (record { 0 = m }))) is
     ∙ by (overwrites o.deed) (nat_lt v (newest_of s xs p o.item.0)) over (let le : v < newest_of s xs p o.item.0 = omega (arith, lt, is) in grind (arith, nat_tests, le)) where
@@ -191,7 +191,7 @@ newer_than s xs p v n o over lt is =
       by true false is so = absurd (cc so)
 
 pub none_newer : (s : ScriptData) (xs : List Place) (p v n : ℕ) (o : SubOp) → n ≤ v → n ≡ newest_of s xs p o.item.0
-    → None ≡ newer_at s xs p v o
+    → None ≡ newer_item s xs p v o
 none_newer s xs p v n o le is =
     by (overwrites o.deed) (nat_lt v (newest_of s xs p o.item.0)) (let most : newest_of s xs p o.item.0 ≤ v = omega (arith, le, is) in grind (arith, nat_tests, most)) where
       by : (a b : Bool) → b ≡ false → None ≡ (if a && b then Some (Newer o.item (record { 0 = newest_of s xs p o.item.0 })) else None)

@@ -29,7 +29,7 @@ use Rattle.board_rules.proofs.Once.{clash, same_tests}
 use Rattle.board_rules.proofs.Positions.{found_all, there}
 use Rattle.board_standing.specs.declared.users.User.{User}
 use Rattle.board_standing.specs.Settled.{IsMoveRun}
-use Rattle.board_standing.specs.inside.Users.{any_taken, first_tree, has_taken, is_of, lesser, ops_users, stands_against, subs_users, trees_users, user_of, users_of, was_let_go}
+use Rattle.board_standing.specs.inside.Users.{any_taken, first_tree, has_taken, is_tree_of, lesser_number, ops_users, stands_against, subs_users, trees_users, user_of, users_of, was_let_go}
 use Rattle.board_standing.proofs.StandingNow.{locks_on, stands_where}
 
 -- a list from a place on
@@ -255,7 +255,7 @@ first_of_tree test k j x (sub ∷ subs) rest =
 
 -- trees of a kind that are in the way
 abbrev in_way : (TreeKind → Bool) → ScriptData → List Place → ℕ → ℕ → ℕ → Mode → ℕ → Bool
-in_way of s xs p t x mode k = is_of of s k && (not (k == t) && conflicts_with s xs p x mode k)
+in_way of s xs p t x mode k = is_tree_of of s k && (not (k == t) && conflicts_with s xs p x mode k)
 
 holder_from : (of : TreeKind → Bool) (s : ScriptData) (xs : List Place) (p t x : ℕ) (mode : Mode) → IsMoveRun s xs → (k : ℕ) (trees : List Tree)
     → drop k s.trees ≡ trees
@@ -272,7 +272,7 @@ holder_from of s xs p t x mode run k (tree ∷ trees) is =
       here : subs_at s k ≡ tree.subs
       here = ap (λ (o : Option Tree). elim o [ Some one ↦ one.subs | None ↦ [] ]) found
 
-      kind : is_of of s k ≡ of tree.kind
+      kind : is_tree_of of s k ≡ of tree.kind
       kind = ap (λ (o : Option Tree). elim o [ Some one ↦ of one.kind | None ↦ false ]) found
 
       by : (b : Bool) → of tree.kind ≡ b
@@ -297,23 +297,23 @@ least_above f k (suc n) j is = by (f k) (least_above f (suc k) n j) is where
   by true later same = (let one : k ≡ j = cc same in omega (arith, one))
   by false later rest = (let above = later rest in omega (arith, above))
 
-lesser_first : (k : ℕ) (o : Option ℕ) → ((j : ℕ) → o ≡ Some j → k ≤ j) → lesser (Some k) o ≡ Some k
+lesser_first : (k : ℕ) (o : Option ℕ) → ((j : ℕ) → o ≡ Some j → k ≤ j) → lesser_number (Some k) o ≡ Some k
 lesser_first k None above = refl
 lesser_first k (Some j) above = (let le = above j refl in ap (λ (m : ℕ). Some m) (let one : min k j ≡ k = omega (arith, le) in one))
 
-lesser_second : (k : ℕ) (o : Option ℕ) → ((j : ℕ) → o ≡ Some j → k ≤ j) → lesser o (Some k) ≡ Some k
+lesser_second : (k : ℕ) (o : Option ℕ) → ((j : ℕ) → o ≡ Some j → k ≤ j) → lesser_number o (Some k) ≡ Some k
 lesser_second k None above = refl
 lesser_second k (Some j) above = (let le = above j refl in ap (λ (m : ℕ). Some m) (let one : min j k ≡ k = omega (arith, le) in one))
 
-least_of_two : (f g : ℕ → Bool) (n k : ℕ) → least_from (λ (i : ℕ). f i || g i) k n ≡ lesser (least_from f k n) (least_from g k n)
+least_of_two : (f g : ℕ → Bool) (n k : ℕ) → least_from (λ (i : ℕ). f i || g i) k n ≡ lesser_number (least_from f k n) (least_from g k n)
 least_of_two f g zero k = refl
 least_of_two f g (suc n) k = by (f k) (g k) (least_of_two f g n (suc k)) where
   next : (h : ℕ → Bool) (j : ℕ) → least_from h (suc k) n ≡ Some j → k ≤ j
   next h j is = (let above = least_above h (suc k) n j is in omega (arith, above))
 
-  by : (a b : Bool) → least_from (λ (i : ℕ). f i || g i) (suc k) n ≡ lesser (least_from f (suc k) n) (least_from g (suc k) n)
+  by : (a b : Bool) → least_from (λ (i : ℕ). f i || g i) (suc k) n ≡ lesser_number (least_from f (suc k) n) (least_from g (suc k) n)
       → (if a || b then Some k else least_from (λ (i : ℕ). f i || g i) (suc k) n)
-      ≡ lesser (if a then Some k else least_from f (suc k) n) (if b then Some k else least_from g (suc k) n)
+      ≡ lesser_number (if a then Some k else least_from f (suc k) n) (if b then Some k else least_from g (suc k) n)
   by true true rest = sym (lesser_first k (Some k) (λ j is. let one : k ≡ j = cc is in omega (arith, one)))
   by true false rest = sym (lesser_first k (least_from g (suc k) n) (next g))
   by false true rest = sym (lesser_second k (least_from f (suc k) n) (next f))
@@ -349,13 +349,13 @@ split_kinds true false false of = refl
 split_kinds false true false of = refl
 split_kinds false false false of = refl
 
--- the holder is the lesser of the first update tree and the first strict tree in the way
+-- the holder is the lesser_number of the first update tree and the first strict tree in the way
 pub holder_is_first : (s : ScriptData) (xs : List Place) (p t x : ℕ) (mode : Mode) → IsMoveRun s xs
-    → lesser (first_tree (stands_against s xs p t mode) (users_of is_update s x)) (first_tree (stands_against s xs p t mode) (users_of is_strict s x))
+    → lesser_number (first_tree (stands_against s xs p t mode) (users_of is_update s x)) (first_tree (stands_against s xs p t mode) (users_of is_strict s x))
     ≡ holder_of s xs p t x mode
 holder_is_first s xs p t x mode run =
-    ap (λ (o : Option ℕ). lesser o (first_tree (stands_against s xs p t mode) (users_of is_strict s x))) (holder_from is_update s xs p t x mode run 0 s.trees refl)
-    ∙ ap (lesser (least_from (in_way is_update s xs p t x mode) 0 (length s.trees))) (holder_from is_strict s xs p t x mode run 0 s.trees refl)
+    ap (λ (o : Option ℕ). lesser_number o (first_tree (stands_against s xs p t mode) (users_of is_strict s x))) (holder_from is_update s xs p t x mode run 0 s.trees refl)
+    ∙ ap (lesser_number (least_from (in_way is_update s xs p t x mode) 0 (length s.trees))) (holder_from is_strict s xs p t x mode run 0 s.trees refl)
     ∙ sym (least_of_two (in_way is_update s xs p t x mode) (in_way is_strict s xs p t x mode) (length s.trees) 0)
     ∙ sym (least_alike (λ (k : ℕ). not (k == t) && conflicts_with s xs p x mode k) (λ (k : ℕ). in_way is_update s xs p t x mode k || in_way is_strict s xs p t x mode k) (length s.trees) 0
     (λ k. split_kinds (updates s k) (is_strict_tree s k) (not (k == t) && conflicts_with s xs p x mode k)

@@ -12,7 +12,7 @@ use Rattle.script_parts.specs.declared.parts.SubOp.{SubOp}
 use Rattle.script_parts.specs.declared.parts.Tree.{Tree}
 use Rattle.script_parts.specs.declared.parts.TreeKind.{TreeKind}
 use Rattle.board_standing.specs.declared.users.User.{User}
-use Rattle.board_standing.specs.inside.Users.{AreUsersBy, AreUsersTo, HasMore, HasNone, is_meant, ops_users, subs_users, tree_users, trees_users, user_of}
+use Rattle.board_standing.specs.inside.Users.{AreUsersBy, AreUsersTo, HasMore, HaveNoUsers, is_meant, ops_users, subs_users, tree_users, trees_users, user_of}
 
 -- A list of lists.
 none_beside : (ls : List (List User)) (x : ℕ) → ((y : ℕ) → get_or ls y [] ≡ []) → get_or (ls ++ [] ∷ []) x [] ≡ []
@@ -21,13 +21,13 @@ none_beside [] (suc x) all = refl
 none_beside (l ∷ ls) zero all = all 0
 none_beside (l ∷ ls) (suc x) all = none_beside ls x (λ y. all (suc y))
 
-pub none_more : (n m : ℕ) (ls : List (List User)) → m ≡ suc n → HasNone n ls → HasNone m (ls ++ [] ∷ [])
+pub none_more : (n m : ℕ) (ls : List (List User)) → m ≡ suc n → HaveNoUsers n ls → HaveNoUsers m (ls ++ [] ∷ [])
 none_more n m ls is none = record {
   count = (let one = length-append ls ([] ∷ []) in omega (arith, one, is, none.count));
   each = λ x. none_beside ls x none.each;
 }
 
-pub none_first : HasNone 0 []
+pub none_first : HaveNoUsers 0 []
 none_first = record { count = refl; each = λ x. refl }
 
 pub more_first : (ls : List (List User)) → HasMore (λ x. []) ls ls
@@ -172,7 +172,7 @@ pub trees_on : (s : ScriptData) (strict : Bool) (i : ℕ) (trees : List Tree) (t
     → AreUsersTo s strict (i + 1) news
 trees_on s strict i trees tree mids news same lt at before more =
     let there : slice_get s.trees i ≡ Some tree =
-        sym (ap (λ (ts : List Tree). slice_get ts i) same) ∙ slice_get-get_or trees i tree lt ∙ ap (λ (z : Tree). Some z) (sym at) in
+    sym (ap (λ (ts : List Tree). slice_get ts i) same) ∙ slice_get-get_or trees i tree lt ∙ ap (λ (z : Tree). Some z) (sym at) in
     record {
       count = more.count ∙ before.count;
       each = λ x below.
@@ -184,7 +184,7 @@ trees_on s strict i trees tree mids news same lt at before more =
       zero_plus : (n : ℕ) → 0 + n ≡ n
       zero_plus n = omega arith
 
-pub trees_none : (s : ScriptData) (strict : Bool) (items : ℕ) (lists : List (List User)) → items ≡ length s.items → HasNone items lists → AreUsersTo s strict 0 lists
+pub trees_none : (s : ScriptData) (strict : Bool) (items : ℕ) (lists : List (List User)) → items ≡ length s.items → HaveNoUsers items lists → AreUsersTo s strict 0 lists
 trees_none s strict items lists is none = record { count = none.count ∙ is; each = λ x lt. none.each x }
 
 pub trees_all : (s : ScriptData) (strict : Bool) (trees : List Tree) (n : ℕ) (lists : List (List User)) → trees ≡ s.trees → length trees ≤ n → AreUsersTo s strict n lists → AreUsersBy s strict lists

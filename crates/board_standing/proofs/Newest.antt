@@ -26,7 +26,7 @@ use Rattle.board_rules.proofs.Once.{clash, same_tests}
 use Rattle.board_rules.proofs.Positions.{found_all, taken_is, there}
 use Rattle.board_standing.specs.declared.users.User.{User}
 use Rattle.board_standing.specs.Settled.{IsMoveRun}
-use Rattle.board_standing.specs.inside.Users.{changes_in, has_written, is_of, newest_by, ops_users, subs_users, tree_users, trees_users, user_of, users_of, version_by}
+use Rattle.board_standing.specs.inside.Users.{changes_in, has_written, is_tree_of, newest_by, ops_users, subs_users, tree_users, trees_users, user_of, users_of, version_by}
 use Rattle.board_standing.proofs.Holding.{any_at, drop_head, drop_next}
 
 -- Numbers that pass the same thresholds are equal.
@@ -132,7 +132,7 @@ in_trees of test i (suc t) x (y ∷ trees) tree at kind is =
     ∙ or_right (list_any test (tree_users of i x y)) (list_any test (trees_users of (suc i) x trees))
     (in_trees of test (suc i) t x trees tree at kind (ap (λ (m : ℕ). list_any test (subs_users m 0 x tree.subs)) (sym next) ∙ is))
 
-of_tree : (of : TreeKind → Bool) (s : ScriptData) (test : User → Bool) (t x : ℕ) → is_of of s t ≡ true
+of_tree : (of : TreeKind → Bool) (s : ScriptData) (test : User → Bool) (t x : ℕ) → is_tree_of of s t ≡ true
     → list_any test (subs_users t 0 x (subs_at s t)) ≡ true → list_any test (users_of of s x) ≡ true
 of_tree of s test t x kind is = by (slice_get s.trees t) refl kind is where
   by : (found : Option Tree) → slice_get s.trees t ≡ found → elim found [ Some tree ↦ of tree.kind | None ↦ false ] ≡ true
@@ -142,7 +142,7 @@ of_tree of s test t x kind is = by (slice_get s.trees t) refl kind is where
       let none : 0 + t ≡ t = omega arith in
       in_trees of test 0 t x s.trees tree at so (ap (λ (m : ℕ). list_any test (subs_users m 0 x tree.subs)) none ∙ is_so)
 
-of_sub : (of : TreeKind → Bool) (s : ScriptData) (test : User → Bool) (t j x : ℕ) → is_of of s t ≡ true
+of_sub : (of : TreeKind → Bool) (s : ScriptData) (test : User → Bool) (t j x : ℕ) → is_tree_of of s t ≡ true
     → list_any test (ops_users t j x (ops_of s t j)) ≡ true → list_any test (users_of of s x) ≡ true
 of_sub of s test t j x kind is = by (sub_at s t j) refl is where
   by : (found : Option Sub) → sub_at s t j ≡ found

@@ -20,7 +20,7 @@ use Rattle.board_rules.specs.Worth.{first_value, worth_in}
 use Rattle.worth_steps.specs.Kept.{AreWorths, WorthsData}
 use Rattle.worth_steps.specs.Worth.{worth_of}
 use Rattle.board_standing.specs.Notes.{AreKnown, noted_on}
-use Rattle.board_standing.specs.inside.Shorts.{draws, short_at, short_in}
+use Rattle.board_standing.specs.inside.Shorts.{draws, short_item, short_ops}
 use Rattle.board_standing.proofs.Against.{opened}
 use Rattle.board_standing.proofs.NotedWorth.{noted_is_worth}
 
@@ -98,23 +98,23 @@ module _ (of : ℕ → Value) (o : SubOp) (os : List SubOp) where
 
 -- The first draw that finds too little.
 short_front : (s : ScriptData) (xs : List Place) (v : ℕ) (os : List SubOp) (i : ℕ) (d : SubOp) (one all : Option Cause) → i < length os
-    → one ≡ short_at s xs v (get_or os i d) → short_in s xs v (drop i os) ≡ all
-    → option_or one (short_in s xs v (drop (i + 1) os)) ≡ all
+    → one ≡ short_item s xs v (get_or os i d) → short_ops s xs v (drop i os) ≡ all
+    → option_or one (short_ops s xs v (drop (i + 1) os)) ≡ all
 short_front s xs v os i d one all within is so =
-    ap (λ (o : Option Cause). option_or o (short_in s xs v (drop (i + 1) os))) is
-    ∙ sym (ap (short_in s xs v) (opened os i d within)) ∙ so
+    ap (λ (o : Option Cause). option_or o (short_ops s xs v (drop (i + 1) os))) is
+    ∙ sym (ap (short_ops s xs v) (opened os i d within)) ∙ so
 
 pub short_first : (s : ScriptData) (xs : List Place) (v : ℕ) (os : List SubOp) (i : ℕ) (d : SubOp) (one all : Option Cause) → i < length os
-    → one ≡ short_at s xs v (get_or os i d) → short_in s xs v (drop i os) ≡ all → is_some one ≡ true → one ≡ all
+    → one ≡ short_item s xs v (get_or os i d) → short_ops s xs v (drop i os) ≡ all → is_some one ≡ true → one ≡ all
 short_first s xs v os i d None all within is so some = absurd (cc some)
 short_first s xs v os i d (Some cause) all within is so some = short_front s xs v os i d (Some cause) all within is so
 
 pub short_passed : (s : ScriptData) (xs : List Place) (v : ℕ) (os : List SubOp) (i : ℕ) (d : SubOp) (one all : Option Cause) → i < length os
-    → one ≡ short_at s xs v (get_or os i d) → short_in s xs v (drop i os) ≡ all → is_some one ≡ false → short_in s xs v (drop (i + 1) os) ≡ all
+    → one ≡ short_item s xs v (get_or os i d) → short_ops s xs v (drop i os) ≡ all → is_some one ≡ false → short_ops s xs v (drop (i + 1) os) ≡ all
 short_passed s xs v os i d None all within is so none = short_front s xs v os i d None all within is so
 short_passed s xs v os i d (Some cause) all within is so none = absurd (cc none)
 
-pub not_short : (s : ScriptData) (xs : List Place) (v : ℕ) (o : SubOp) → draws o.deed ≡ false → None ≡ short_at s xs v o
+pub not_short : (s : ScriptData) (xs : List Place) (v : ℕ) (o : SubOp) → draws o.deed ≡ false → None ≡ short_item s xs v o
 not_short s xs v o other = ap (short_cause o.item) (by o.deed (worth_in s xs o.item.0 v) other) where
   by : (d : Deed) (w : Value) → draws d ≡ false → None ≡ found_short d w
   by (Draw n) w is = absurd (cc is)
@@ -124,6 +124,6 @@ not_short s xs v o other = ap (short_cause o.item) (by o.deed (worth_in s xs o.i
 
 pub short_seen : (s : ScriptData) (xs : List Place) (ws : List WorthsData) (v : ℕ) (o : SubOp) (w : Value) (one : Option Cause) → AreKnown s xs ws
     → w ≡ worth_of (first_value (slice_get s.items o.item.0)) (noted_on s xs o.item.0) v → one ≡ short_cause o.item (found_short o.deed w)
-    → one ≡ short_at s xs v o
+    → one ≡ short_item s xs v o
 short_seen s xs ws v o w one known is so =
     so ∙ ap (λ (z : Value). short_cause o.item (found_short o.deed z)) (is ∙ worth_known s xs ws o.item.0 v known)

@@ -1,7 +1,6 @@
 -- What is looked at to tell what stands: a script, its operations on each item, and the Board's tallies.
 use Rattle.std.specs.Prelude.{ℕ, false, true, ◌≡◌, ◌<◌, ◌⊎◌, List, length}
 use Rattle.std.specs.List.{AllByRecursion}
-
 use Rattle.nc_locks.specs.declared.modes.Mode.{Mode}
 use Rattle.nc_locks.specs.declared.modes.Mode.TheVariants.{Mark}
 use Rattle.script_parts.specs.Counts.{has_strict}
@@ -36,8 +35,8 @@ pub record IsView (s : ScriptData) (xs : List Place) (b : BoardData) (u : UsersD
 abbrev pub MayNeed : ScriptData → Mode → Type 0
 MayNeed s mode = (mode ≡ Mark) ⊎ (has_strict s ≡ true)
 
-abbrev pub MayAsk : ScriptData → List SubOp → Type 0
-MayAsk s ops = AllByRecursion (λ (o : SubOp). MayNeed s (lock_mode_of o.deed)) ops
+abbrev pub MayLook : ScriptData → List SubOp → Type 0
+MayLook s ops = AllByRecursion (λ (o : SubOp). MayNeed s (lock_mode_of o.deed)) ops
 
 -- the items of these operations are there
 abbrev pub AreThere : ScriptData → List SubOp → Type 0

@@ -10,7 +10,7 @@ ghost use Rattle.board_rules.specs.Right.{gets_among, is_get, with_worths};
 ghost use Rattle.board_rules.specs.Worth.{worth_in};
 ghost use Rattle.board_standing.specs.Notes.{AreKnown};
 ghost use Rattle.board_standing.specs.Views.{AreThere};
-ghost use Rattle.board_standing.specs.inside.Shorts.{draws, short_at, short_in};
+ghost use Rattle.board_standing.specs.inside.Shorts.{draws, short_item, short_ops};
 
 use commute_ops::Value;
 use letter_types::Cause;
@@ -33,12 +33,7 @@ fn is_get(deed: &Deed) -> bool
 
 /// Whether these values, with their items, are those of the gets among the operations: what their items are worth at this version,
 /// in order.
-pub fn shows(
-    worths: &[Worths],
-    version: Version,
-    ops: &[SubOp],
-    values: &[(ItemNo, Value)],
-) -> bool
+pub fn shows(worths: &[Worths], version: Version, ops: &[SubOp], values: &[(ItemNo, Value)]) -> bool
     ensures { (s : ScriptData) (xs : List Place) → AreKnown s xs worths.now → AreThere s ops.now
         → Decides result (values.now ≡ with_worths (λ (x : ℕ). worth_in s xs x version.0) (gets_among ops.now)) }
 {
@@ -79,10 +74,10 @@ pub fn short(
     ops: &[SubOp],
 ) -> Result<Option<Cause>, NoMemory>
     ensures { IfOk result (λ cause. (s : ScriptData) (xs : List Place) → AreKnown s xs worths.now → AreThere s ops.now
-        → cause ≡ short_in s xs version.0 ops.now) }
+        → cause ≡ short_ops s xs version.0 ops.now) }
 {
     for op in ops {
-        let cause = short_at(alloc, worths, version, op)?;
+        let cause = short_item(alloc, worths, version, op)?;
         if cause.is_some() {
             return Ok(cause);
         }
@@ -91,14 +86,14 @@ pub fn short(
 }
 
 // The same of one operation.
-fn short_at(
+fn short_item(
     alloc: Global,
     worths: &[Worths],
     version: Version,
     op: &SubOp,
 ) -> Result<Option<Cause>, NoMemory>
     ensures { IfOk result (λ cause. (s : ScriptData) (xs : List Place) → AreKnown s xs worths.now → op.now.item.0 < length s.items
-        → cause ≡ short_at s xs version.0 op.now) }
+        → cause ≡ short_item s xs version.0 op.now) }
 {
     if !draws(&op.deed) {
         return Ok(None);

@@ -9,8 +9,8 @@ ghost use Rattle.script_parts.specs.ScriptData.{ScriptData, updates};
 ghost use Rattle.board_rules.specs.Histories.{Place, version_in, was_done};
 ghost use Rattle.board_rules.specs.Stands.{conflict_of, holder_of, newer_of, newest_of, version_or_zero};
 ghost use Rattle.board_tallies.specs.Board.{IsBoardOf};
-ghost use Rattle.board_standing.specs.Views.{AreThere, IsView, MayAsk, MayNeed};
-ghost use Rattle.board_standing.specs.inside.Users.{changes_in, first_tree, has_taken, has_written, is_mark, lesser_tree, newer_at, newest_by, stands_against, version_by};
+ghost use Rattle.board_standing.specs.Views.{AreThere, IsView, MayLook, MayNeed};
+ghost use Rattle.board_standing.specs.inside.Users.{changes_in, first_tree, has_taken, has_written, is_mark, lesser_tree, newer_item, newest_by, stands_against, version_by};
 
 use crate::users::{User, Users, lock_mode, on};
 use board_tallies::Board;
@@ -97,8 +97,8 @@ fn first_against(
     None
 }
 
-// The lesser of two trees, if there are two.
-fn lesser(one: Option<TreeNo>, other: Option<TreeNo>) -> Option<TreeNo>
+// The lesser_number of two trees, if there are two.
+fn lesser_number(one: Option<TreeNo>, other: Option<TreeNo>) -> Option<TreeNo>
     ensures { result ≡ lesser_tree one other }
 {
     match (one, other) {
@@ -136,7 +136,7 @@ fn holder(
         return strict;
     }
     let update = first_against(script, board, node, need, on(&users.updates, item));
-    lesser(update, strict)
+    lesser_number(update, strict)
 }
 
 /// The first of a tree's operations at a node whose item another tree has in a mode that conflicts, as a cause that names the
@@ -152,7 +152,7 @@ pub fn conflict(
     tree: TreeNo,
     ops: &[SubOp],
 ) -> Option<Cause>
-    ensures { (xs : List Place) → IsView script.now xs board.now users.now → AreThere script.now ops.now → MayAsk script.now ops.now
+    ensures { (xs : List Place) → IsView script.now xs board.now users.now → AreThere script.now ops.now → MayLook script.now ops.now
         → result ≡ conflict_of script.now xs node.0 tree.0 ops.now }
 {
     for op in ops {
@@ -274,7 +274,7 @@ pub fn newer(
         → result ≡ newer_of script.now xs node.0 version ops.now }
 {
     for op in ops {
-        if let Some(cause) = newer_at(script, users, board, node, version, op) {
+        if let Some(cause) = newer_item(script, users, board, node, version, op) {
             return Some(cause);
         }
     }
@@ -282,7 +282,7 @@ pub fn newer(
 }
 
 // The same of one operation.
-fn newer_at(
+fn newer_item(
     script: &Script,
     users: &Users,
     board: &Board,
@@ -291,7 +291,7 @@ fn newer_at(
     op: &SubOp,
 ) -> Option<Cause>
     ensures { (xs : List Place) → IsView script.now xs board.now users.now → op.now.item.0 < length script.now.items
-        → has_strict script.now ≡ true → result ≡ newer_at script.now xs node.0 version op.now }
+        → has_strict script.now ≡ true → result ≡ newer_item script.now xs node.0 version op.now }
 {
     if !overwrites(&op.deed) {
         return None;

@@ -1,6 +1,6 @@
 // Which operations of a script are on which item.
 ghost use Rattle.std.specs.Prelude.{true, false, get_or, if◌then◌else◌, ℕ, ◌≡◌, ◌==◌, ◌≤◌, [], ◌∷◌, length, IfOk, OnOk};
-ghost use Rattle.board_standing.specs.inside.Users.{AreUsersBy, is_meant, HasMore, HasNone, ops_users, subs_users, tree_users};
+ghost use Rattle.board_standing.specs.inside.Users.{AreUsersBy, is_meant, HasMore, HaveNoUsers, ops_users, subs_users, tree_users};
 ghost use Rattle.board_rules.specs.Stands.{lock_mode_of};
 ghost use Rattle.script_parts.specs.Counts.{has_strict};
 ghost use Rattle.script_parts.specs.ScriptData.{is_strict, is_update};
@@ -102,7 +102,7 @@ pub(crate) fn users_by_item(
 }
 
 // Whether the kind is strict, or whether it is that of update trees.
-fn is_of(strict: bool, kind: TreeKind) -> bool
+fn is_tree_of(strict: bool, kind: TreeKind) -> bool
     ensures { result ≡ is_meant strict kind }
 {
     match kind {
@@ -114,7 +114,7 @@ fn is_of(strict: bool, kind: TreeKind) -> bool
 
 // No operation on so many items.
 fn no_users(alloc: Global, items: usize) -> Result<ByItem, NoMemory>
-    ensures { IfOk result (λ users. HasNone items users.items) }
+    ensures { IfOk result (λ users. HaveNoUsers items users.items) }
 {
     let mut users = Vec::with_capacity(alloc, items)?;
     for _ in 0..items {
@@ -124,15 +124,10 @@ fn no_users(alloc: Global, items: usize) -> Result<ByItem, NoMemory>
 }
 
 // Adds the operations of a tree, if it is of the kind that is meant.
-fn add_tree(
-    users: &mut ByItem,
-    strict: bool,
-    number: TreeNo,
-    tree: &Tree,
-) -> Result<(), NoMemory>
+fn add_tree(users: &mut ByItem, strict: bool, number: TreeNo, tree: &Tree) -> Result<(), NoMemory>
     ensures { OnOk result (HasMore (λ (x : ℕ). tree_users (is_meant strict) number.0 x tree.now) users.old.items users.new.items) }
 {
-    if !is_of(strict, tree.kind) {
+    if !is_tree_of(strict, tree.kind) {
         return Ok(());
     }
     let added = add_subs(users, number, tree.subs.items())?;

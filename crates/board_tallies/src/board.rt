@@ -63,7 +63,7 @@ pub struct Noted {
 impl Board {
     ghost use Rattle.board_tallies.specs.Board.{IsBoardOf, closes_in};
     ghost use Rattle.board_tallies.specs.GateRows.{AreGatesOf};
-    ghost use Rattle.board_tallies.specs.TakenBack.{taken_back};
+    ghost use Rattle.board_tallies.specs.TakenBack.{board_back};
     ghost use Rattle.board_tallies.specs.inside.Keeping.{is_open_gate, keeps_by, may_finish};
     ghost use Rattle.board_tallies.specs.inside.May.{may_come};
     ghost use Rattle.board_tallies.specs.inside.Noting.{IsNoted, closed_by, first_board};
@@ -178,7 +178,7 @@ impl Board {
             → IsMoveButCause script.now before xs (record { node = node.0; act = act.now })
             → option_map (λ (t : TreeNo). t.0) n.closed
             ≡ closes_in script.now (xs ++ record { node = node.0; act = act.now } ∷ []) act.now) }
-        ensures back { IfOk result (λ n. taken_back n self.new ≡ self.old) }
+        ensures back { IfOk result (λ n. board_back n self.new ≡ self.old) }
         ensures err { OnErr result (self.new ≡ self.old) }
     {
         let trees = script.trees();
@@ -190,7 +190,7 @@ impl Board {
     fn note_act(&mut self, trees: &[Tree], node: ActorNo, act: &Act) -> Result<Noted, NoMemory>
         ensures noted { OnOk result (IsNoted trees.now node.0 act.now self.old self.new) }
         ensures closed { IfOk result (λ n. n.closed ≡ closed_by trees.now self.new.trees act.now) }
-        ensures back { IfOk result (λ n. taken_back n self.new ≡ self.old) }
+        ensures back { IfOk result (λ n. board_back n self.new ≡ self.old) }
         ensures err { OnErr result (self.new ≡ self.old) }
     {
         let told = note_tree(&mut self.trees, &mut self.pending, trees, node, act)?;
@@ -213,7 +213,7 @@ impl Board {
     /// Takes back an act that was noted, if all that was noted after it has been taken back: then the Board is what it was
     /// before.
     pub fn undo(&mut self, noted: Noted)
-        ensures { self.new ≡ taken_back noted self.old }
+        ensures { self.new ≡ board_back noted self.old }
     {
         put_numbers(&mut self.nodes, noted.node, noted.numbers);
         take_back(&mut self.trees, &mut self.pending, noted.told);

@@ -49,5 +49,5 @@ taken_back_by changed.Nothing w = w
 taken_back_by (changed.Steps c) w = record w { steps = steps_back c w.steps }
 taken_back_by (changed.Put i) w = record w { puts = remove w.puts i }
 
-abbrev pub taken_back : Change → WorthsData → WorthsData
-taken_back c w = taken_back_by c.changed w
+abbrev pub worths_back : Change → WorthsData → WorthsData
+worths_back c w = taken_back_by c.changed w

@@ -1,7 +1,7 @@
 // What an item is worth at each version.
 ghost use Rattle.std.specs.Prelude.{◌≡◌, ◌++◌, ◌∷◌, [], true, false, List, IfOk, IsTrue, OnErr, OnOk};
 ghost use Rattle.commute_ops.specs.declared.value.Value.{Value};
-ghost use Rattle.worth_steps.specs.Kept.{AreWorths, taken_back};
+ghost use Rattle.worth_steps.specs.Kept.{AreWorths, worths_back};
 ghost use Rattle.worth_steps.specs.Steps.{seen_to};
 ghost use Rattle.worth_steps.specs.Worth.{MayBegin, Noted, alters, deed_suits, last_altered, value_kind, worth_of};
 ghost use Rattle.worth_steps.specs.inside.Showing.{AreOrdered, newest_by_kind, shown_value, value_number};
@@ -57,7 +57,7 @@ impl Worths {
         ensures noted { OnOk result ((first : Value) (ns : List Noted) → AreWorths first ns self.old
             → AreWorths first (ns ++ record { version = version.0; deed = deed.now } ∷ []) self.new) }
         ensures kind { self.new.kind ≡ self.old.kind }
-        ensures back { IfOk result (λ c. taken_back c self.new ≡ self.old) }
+        ensures back { IfOk result (λ c. worths_back c self.new ≡ self.old) }
         ensures err { OnErr result (self.new ≡ self.old) }
     {
         if !alters(deed) {
@@ -90,7 +90,7 @@ impl Worths {
     /// Takes the last deed back, by the change that noting it gave. Needs no memory. The change of an earlier deed, or of
     /// another item, leaves worths of which nothing is said.
     pub fn undo(&mut self, change: Change)
-        ensures { self.new ≡ taken_back change self.old }
+        ensures { self.new ≡ worths_back change self.old }
     {
         match &change.changed {
             Changed::Nothing => {}

@@ -19,9 +19,9 @@ draws (deeds.Set n) = false
 draws (deeds.Apply op) = false
 
 -- an operation that draws more than its item is worth at version v after these acts, and the first of some, as a cause
-abbrev pub short_at : ScriptData → List Place → ℕ → SubOp → Option Cause
-short_at s xs v o = short_cause o.item (found_short o.deed (worth_in s xs o.item.0 v))
+abbrev pub short_item : ScriptData → List Place → ℕ → SubOp → Option Cause
+short_item s xs v o = short_cause o.item (found_short o.deed (worth_in s xs o.item.0 v))
 
-abbrev pub short_in : ScriptData → List Place → ℕ → List SubOp → Option Cause
-short_in s xs v [] = None
-short_in s xs v (o ∷ os) = option_or (short_at s xs v o) (short_in s xs v os)
+abbrev pub short_ops : ScriptData → List Place → ℕ → List SubOp → Option Cause
+short_ops s xs v [] = None
+short_ops s xs v (o ∷ os) = option_or (short_item s xs v o) (short_ops s xs v os)

@@ -60,14 +60,14 @@ stands_against s xs p t mode u =
     && (not (was_let_go u.tree.0 p xs) && (has_taken s xs u.tree.0 u.sub.0 && modes_conflict mode u.mode))
 
 -- tree k is there, and is of this kind
-abbrev pub is_of : (TreeKind → Bool) → ScriptData → ℕ → Bool
-is_of of s k = elim (slice_get s.trees k) [ Some tree ↦ of tree.kind | None ↦ false ]
+abbrev pub is_tree_of : (TreeKind → Bool) → ScriptData → ℕ → Bool
+is_tree_of of s k = elim (slice_get s.trees k) [ Some tree ↦ of tree.kind | None ↦ false ]
 
--- the lesser of two numbers, if there are two
-abbrev pub lesser : Option ℕ → Option ℕ → Option ℕ
-lesser None b = b
-lesser (Some a) None = Some a
-lesser (Some a) (Some b) = Some (min a b)
+-- the lesser_number of two numbers, if there are two
+abbrev pub lesser_number : Option ℕ → Option ℕ → Option ℕ
+lesser_number None b = b
+lesser_number (Some a) None = Some a
+lesser_number (Some a) (Some b) = Some (min a b)
 
 abbrev pub lesser_tree : Option TreeNo → Option TreeNo → Option TreeNo
 lesser_tree None b = b
@@ -106,8 +106,8 @@ newest_by s xs p [] = 0
 newest_by s xs p (u ∷ us) = if has_written s xs p u then max (version_by xs u) (newest_by s xs p us) else newest_by s xs p us
 
 -- an operation that writes an item which is written in a version above v, as a cause
-abbrev pub newer_at : ScriptData → List Place → ℕ → ℕ → SubOp → Option Cause
-newer_at s xs p v o =
+abbrev pub newer_item : ScriptData → List Place → ℕ → ℕ → SubOp → Option Cause
+newer_item s xs p v o =
     if overwrites o.deed && nat_lt v (newest_of s xs p o.item.0)
     then Some (Newer o.item (record { 0 = newest_of s xs p o.item.0 })) else None
 
@@ -119,7 +119,7 @@ pub record HasMore (more : ℕ → List User) (olds news : List (List User)) : T
   pub each : (x : ℕ) → x < length olds → get_or news x [] ≡ get_or olds x [] ++ more x
 
 -- there are so many lists, and nothing is in them
-pub record HasNone (items : ℕ) (lists : List (List User)) : Type 0 where
+pub record HaveNoUsers (items : ℕ) (lists : List (List User)) : Type 0 where
   pub count : length lists ≡ items
   pub each : (x : ℕ) → get_or lists x [] ≡ []
 

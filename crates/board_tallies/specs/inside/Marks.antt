@@ -4,9 +4,9 @@ use Rattle.board_tallies.specs.declared.states.Marked.{Marked}
 use Rattle.board_tallies.specs.declared.states.Marked.TheVariants as marked
 use Rattle.board_tallies.specs.declared.states.TreeState.{TreeState}
 
-abbrev pub marks_of : Marked → TreeState → List Bool
-marks_of marked.Done st = st.done
-marks_of marked.Voted st = st.voted
-marks_of marked.Yes st = st.yes
-marks_of marked.Applied st = st.applied
-marks_of marked.Freed st = st.freed
+abbrev pub marks_kept : Marked → TreeState → List Bool
+marks_kept marked.Done st = st.done
+marks_kept marked.Voted st = st.voted
+marks_kept marked.Yes st = st.yes
+marks_kept marked.Applied st = st.applied
+marks_kept marked.Freed st = st.freed

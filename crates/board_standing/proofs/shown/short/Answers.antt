@@ -1,7 +1,7 @@
 use Rattle.std.proofs.Common.{◌≡◌, ◌<◌, List, length, ap, sym, ◌∙◌, refl}
 use Rattle.std.proofs.lemmas.List.{drop_all}
 use Rattle.script_parts.specs.declared.parts.SubOp.{SubOp}
-use Rattle.board_standing.specs.inside.Shorts.{short_in}
+use Rattle.board_standing.specs.inside.Shorts.{short_ops}
 use Rattle.board_standing.proofs.Against.{all_at}
 use Rattle.board_standing.proofs.Seeing.{short_first, short_passed}
 use Rattle.board_standing.proofs.shown.short.Goals as goal
@@ -23,5 +23,5 @@ loop-op-preserved c = λ s xs known there.
 
 pub returns : goal.returns
 returns c = λ s xs known there.
-    ap (short_in s xs c.args.version.0) (sym (drop_all c.loop-op.op-index c.args.ops.now c.loop-op-test.false))
+    ap (short_ops s xs c.args.version.0) (sym (drop_all c.loop-op.op-index c.args.ops.now c.loop-op-test.false))
     ∙ c.loop-op.invariant s xs known there

@@ -12,8 +12,8 @@ returns-then-is_mark c = λ xs view there may.
 pub returns : goal.returns
 returns c = λ xs view there may.
     other_holder c.args.script.now xs c.args.board.now c.args.users.now view c.args.node.0 c.args.need.tree.0 c.args.item.0 there
-    c.args.need.mode c.first_against-update.result c.first_against-strict.result c.lesser.result c.on.result.now c.on-2.result.now
+    c.args.need.mode c.first_against-update.result c.first_against-strict.result c.lesser_number.result c.on.result.now c.on-2.result.now
     (sym c.is_mark.ensures ∙ c.if-is_mark.false) may
     (c.on.ensures ∙ ap (λ (u : UsersData). get_or u.strict c.args.item.0 []) c.users.view_is)
     (c.on-2.ensures ∙ ap (λ (u : UsersData). get_or u.updates c.args.item.0 []) c.users.view_is)
-    (c.first_against-strict.ensures xs view.board) (c.first_against-update.ensures xs view.board) c.lesser.ensures
+    (c.first_against-strict.ensures xs view.board) (c.first_against-update.ensures xs view.board) c.lesser_number.ensures

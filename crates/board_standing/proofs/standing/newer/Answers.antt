@@ -11,14 +11,14 @@ loop-op-init c = λ xs view there strict. refl
 pub returns-in-Some : goal.returns-in-Some
 returns-in-Some c = λ xs view there strict.
     let is_there = all_at (λ (o : SubOp). o.item.0 < length c.args.script.now.items) c.args.ops.now c.loop-op.op-index _ c.loop-op-test.true there in
-    newer_first c.args.script.now xs c.args.node.0 c.args.version c.args.ops.now c.loop-op.op-index _ c.newer_at.result _ c.in-Some.cause c.loop-op-test.true
-    (c.newer_at.ensures xs view is_there strict) (c.loop-op.invariant xs view there strict) c.in-Some.is
+    newer_first c.args.script.now xs c.args.node.0 c.args.version c.args.ops.now c.loop-op.op-index _ c.newer_item.result _ c.in-Some.cause c.loop-op-test.true
+    (c.newer_item.ensures xs view is_there strict) (c.loop-op.invariant xs view there strict) c.in-Some.is
 
 pub loop-op-preserved : goal.loop-op-preserved
 loop-op-preserved c = λ xs view there strict.
     let is_there = all_at (λ (o : SubOp). o.item.0 < length c.args.script.now.items) c.args.ops.now c.loop-op.op-index _ c.loop-op-test.true there in
-    newer_passed c.args.script.now xs c.args.node.0 c.args.version c.args.ops.now c.loop-op.op-index _ c.newer_at.result _ c.loop-op-test.true
-    (c.newer_at.ensures xs view is_there strict) (c.loop-op.invariant xs view there strict) c.in_default.is
+    newer_passed c.args.script.now xs c.args.node.0 c.args.version c.args.ops.now c.loop-op.op-index _ c.newer_item.result _ c.loop-op-test.true
+    (c.newer_item.ensures xs view is_there strict) (c.loop-op.invariant xs view there strict) c.in_default.is
 
 pub returns : goal.returns
 returns c = λ xs view there strict.

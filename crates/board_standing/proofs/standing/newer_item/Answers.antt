@@ -1,6 +1,6 @@
 use Rattle.std.proofs.Common.{sym, ◌∙◌}
 use Rattle.board_standing.proofs.Against.{newer_than, none_newer}
-use Rattle.board_standing.proofs.standing.newer_at.Goals as goal
+use Rattle.board_standing.proofs.standing.newer_item.Goals as goal
 
 pub returns-then-version-newest : goal.returns-then-version-newest
 returns-then-version-newest c = λ xs view there strict.
