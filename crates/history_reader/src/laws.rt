@@ -8,7 +8,6 @@ ghost use Rattle.history_reader.specs.OneEntry.{TellTheSame};
 
 /// Two entries with whose lines a text begins tell the same, and the same text comes behind them: they have one stamp,
 /// one actor, the same letters and acts, and took letters of one id.
-#[tactic(auto, using(crate::proofs::OneEntry::one_entry))]
 pub fn a_text_begins_with_one_entry()
     ensures { (s : ScriptData) (text : List ℕ) (e f : Entry) (rest more : List ℕ)
         → IsValid s → Begins s text e rest → Begins s text f more → (rest ≡ more) × TellTheSame e f }
