@@ -2,6 +2,10 @@ pub mod Forms
 pub mod IdsRead
 pub mod LineLists
 pub mod ListsRead
+pub mod OneAct
+pub mod OneBody
+pub mod OneEntry
+pub mod OneWords
 pub mod Printed
 pub mod Solid
 pub mod Spelling

@@ -107,3 +107,20 @@ module _ {T : Type 0} (head : List ℕ) (one : T → List ℕ) (print : List T �
       pushed (r ∷ rs) x =
           ap (λ (t : List ℕ). t ++ print (x ∷ [])) (p.more r rs) ∙ append_assoc (one r) (print rs) (print (x ∷ []))
           ∙ ap (λ (t : List ℕ). one r ++ t) (pushed rs x) ∙ sym (p.more r (rs ++ x ∷ []))
+
+  -- the lines of two lists that are one text, with no more of them behind
+  pub same_lines : ((x y : T) → words x ≡ words y → May x → May y → x ≡ y) → (read xs : List T) (now rest : List ℕ) → print read ++ now ≡ print xs ++ rest → AllByRecursion May read → AllByRecursion May xs
+      → begins head now ≡ false → begins head rest ≡ false → read ≡ xs
+  same_lines one_of [] [] now rest same mr mx off other = refl
+  same_lines one_of [] (x ∷ xs) now rest same mr mx off other =
+      let on : begins head now ≡ true = ap (begins head) (sym (nothing now) ∙ same) ∙ begins_so x xs rest in
+      cc
+  same_lines one_of (r ∷ rs) [] now rest same mr mx off other =
+      let on : begins head rest ≡ true = ap (begins head) (sym (nothing rest) ∙ sym same) ∙ begins_so r rs now in
+      cc
+  same_lines one_of (r ∷ rs) (x ∷ xs) now rest same mr mx off other =
+      let lines : p.text r ++ 10 ∷ (print rs ++ now) ≡ p.text x ++ 10 ∷ (print xs ++ rest) = sym (front r rs now mr.0) ∙ same ∙ front x xs rest mx.0 in
+      let both = one_cut 10 (p.text r) (p.text x) (print rs ++ now) (print xs ++ rest) (p.line r mr.0).of.whole (p.line x mx.0).of.whole lines in
+      let first : r ≡ x = one_of r x (sym (p.line r mr.0).of.parts ∙ ap (parts_at 32) both.0 ∙ (p.line x mx.0).of.parts) mr.0 mx.0 in
+      let more = same_lines one_of rs xs now rest both.1 mr.1 mx.1 off other in
+      λ i. first i ∷ more i

@@ -78,11 +78,11 @@ notice_named s u seen None valid there exact = λ t n same is may. by t n same i
         exact n is (subst (λ (k : ℕ). IsNotice s k n) trees may)
 
 -- what is said of a tree that is whole
-whole_strict : (o : Option Tree) → HasStrictness true o → whole_words o ≡ codes "committed" ∷ []
+pub whole_strict : (o : Option Tree) → HasStrictness true o → whole_words o ≡ codes "committed" ∷ []
 whole_strict None h = absurd h
 whole_strict (Some tree) h = rw h refl
 
-whole_plain : (o : Option Tree) → HasStrictness false o → whole_words o ≡ []
+pub whole_plain : (o : Option Tree) → HasStrictness false o → whole_words o ≡ []
 whole_plain None h = absurd h
 whole_plain (Some tree) h = rw h refl
 

@@ -31,10 +31,10 @@ id_solid id may =
     (solid-append (codes ".") (decimal id.place) (record { no_space = refl; no_end = refl }) (number_solid id.place (omega (arith, may.1))))
 
 -- the first line without its end
-abbrev head_text : ScriptData → Head → List ℕ
+abbrev pub head_text : ScriptData → Head → List ℕ
 head_text s h = codes "entry" ++ ((32 ∷ decimal h.stamp.0) ++ ((32 ∷ actor_text s h.actor.0) ++ took_text h.took))
 
-head_is : (s : ScriptData) (h : Head) → IsValid s → IsHead s h → IsLine (head_text s h) (head_words s h)
+pub head_is : (s : ScriptData) (h : Head) → IsValid s → IsHead s h → IsLine (head_text s h) (head_words s h)
 head_is s h valid may =
     line (codes "entry") (record { no_space = refl; no_end = refl })
     (both (word (decimal h.stamp.0) (number_solid h.stamp.0 may.0))
@@ -42,10 +42,10 @@ head_is s h valid may =
     (both (fixed (codes "took") refl refl) (word (id_word h.took) (id_solid h.took may.2)))))
 
 -- what the first line says of an entry
-abbrev head_of : Entry → Head
+abbrev pub head_of : Entry → Head
 head_of e = record { stamp = e.stamp; actor = e.actor; took = e.took.id }
 
-head_may : (s : ScriptData) (e : Entry) → IsPrintable s e → IsHead s (head_of e)
+pub head_may : (s : ScriptData) (e : Entry) → IsPrintable s e → IsHead s (head_of e)
 head_may s e may = (may.stamp, may.actor, may.took)
 
 first_line : (s : ScriptData) (e : Entry) → entry_line s e ≡ head_text s (head_of e) ++ 10 ∷ []
@@ -57,7 +57,7 @@ first_line s e =
     ∙ ap (λ (t : List ℕ). codes "entry " ++ t) (sym (append_assoc stamp (32 ∷ (actor ++ took)) (10 ∷ [])))
 
 -- an entry's lines, cut behind the first
-entry_cut : (s : ScriptData) (e : Entry) (rest : List ℕ) → entry_lines s e ++ rest ≡ head_text s (head_of e) ++ 10 ∷ (sent_lines s e.sent ++ (act_lines s e.acts ++ rest))
+pub entry_cut : (s : ScriptData) (e : Entry) (rest : List ℕ) → entry_lines s e ++ rest ≡ head_text s (head_of e) ++ 10 ∷ (sent_lines s e.sent ++ (act_lines s e.acts ++ rest))
 entry_cut s e rest =
     let sent : List ℕ = sent_lines s e.sent in
     let acts : List ℕ = act_lines s e.acts in
@@ -72,18 +72,18 @@ ends_other word rest none entry (inl is) = ap (begins word) is ∙ none
 ends_other word rest none entry (inr (more, is)) = ap (begins word) is ∙ entry more
 
 -- behind letters comes no letter, and behind acts no act
-acts_follow : (s : ScriptData) (acts : List Act) (rest : List ℕ) → EndsEntry rest → begins (codes "sent ") (act_lines s acts ++ rest) ≡ false
+pub acts_follow : (s : ScriptData) (acts : List Act) (rest : List ℕ) → EndsEntry rest → begins (codes "sent ") (act_lines s acts ++ rest) ≡ false
 acts_follow s [] rest ends = ends_other (codes "sent ") rest refl (λ more. refl) ends
 acts_follow s (a ∷ acts) rest ends = refl
 
-rest_follows : (rest : List ℕ) → EndsEntry rest → begins (codes "act ") rest ≡ false
+pub rest_follows : (rest : List ℕ) → EndsEntry rest → begins (codes "act ") rest ≡ false
 rest_follows rest ends = ends_other (codes "act ") rest refl (λ more. refl) ends
 
 pub no_first_line : (s : ScriptData) (text : List ℕ) → lacks 10 text ≡ true → (e : Entry) (rest : List ℕ) → Begins s text e rest → ⊥
 no_first_line s text lack e rest b = no_lack (head_text s (head_of e)) _ (ap (lacks 10) (sym (b.lines ∙ entry_cut s e rest)) ∙ lack)
 
 -- the first line and what comes behind it
-behind_head : (s : ScriptData) (text one new : List ℕ) (e : Entry) (rest : List ℕ) → IsValid s → text ≡ one ++ 10 ∷ new → lacks 10 one ≡ true → Begins s text e rest
+pub behind_head : (s : ScriptData) (text one new : List ℕ) (e : Entry) (rest : List ℕ) → IsValid s → text ≡ one ++ 10 ∷ new → lacks 10 one ≡ true → Begins s text e rest
     → (one ≡ head_text s (head_of e)) × (new ≡ sent_lines s e.sent ++ (act_lines s e.acts ++ rest))
 behind_head s text one new e rest valid cut whole b =
     one_cut 10 one (head_text s (head_of e)) new (sent_lines s e.sent ++ (act_lines s e.acts ++ rest)) whole (head_is s (head_of e) valid (head_may s e b.may)).whole (sym cut ∙ (b.lines ∙ entry_cut s e rest))

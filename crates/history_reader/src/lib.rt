@@ -5,6 +5,7 @@ mod acts;
 mod bodies;
 mod entries;
 mod heads;
+mod laws;
 mod letters;
 mod line_lists;
 mod lines;
@@ -14,3 +15,4 @@ mod tests;
 mod votes;
 
 pub use entries::{Heard, read_entry};
+pub use laws::a_text_begins_with_one_entry;

@@ -71,14 +71,14 @@ ascending_stays xs asc =
     ap in_order (sym all) ∙ in_order_first xs (length xs) asc (omega arith) ∙ all
 
 -- the numbers of a bag as the parts between commas
-bag_parts : (n : ℤ) (ns : List ℤ) → AllAmounts (n ∷ ns) → parts_at 44 (signed_decimal n ++ more_numbers ns) ≡ amount_words (n ∷ ns)
+pub bag_parts : (n : ℤ) (ns : List ℤ) → AllAmounts (n ∷ ns) → parts_at 44 (signed_decimal n ++ more_numbers ns) ≡ amount_words (n ∷ ns)
 bag_parts n [] all = ap (parts_at 44) (append-nil (signed_decimal n)) ∙ one_part 44 (signed_decimal n) (amount_lacks 44 n refl refl all.0)
 bag_parts n (m ∷ ms) all =
     first_part_is 44 (signed_decimal n) (signed_decimal m ++ more_numbers ms) (amount_lacks 44 n refl refl all.0)
     ∙ ap (λ (ps : List (List ℕ)). signed_decimal n ∷ ps) (bag_parts m ms all.1)
 
 -- what stands between a bag's braces
-within : (inner : List ℕ) (n : ℤ) (ns : List ℤ) → 123 ∷ (inner ++ 125 ∷ []) ≡ bag_text (n ∷ ns) → inner ≡ signed_decimal n ++ more_numbers ns
+pub within : (inner : List ℕ) (n : ℤ) (ns : List ℤ) → 123 ∷ (inner ++ 125 ∷ []) ≡ bag_text (n ∷ ns) → inner ≡ signed_decimal n ++ more_numbers ns
 within inner n ns is =
     let tails : inner ++ 125 ∷ [] ≡ signed_decimal n ++ (more_numbers ns ++ 125 ∷ []) = cc in
     append_cancel_right inner (signed_decimal n ++ more_numbers ns) (125 ∷ []) (tails ∙ sym (append_assoc (signed_decimal n) (more_numbers ns) (125 ∷ [])))

@@ -26,13 +26,13 @@ of_item (x ∷ xs) (suc k) w may =
     (row, at, omega (arith, less), kind)
 
 -- an item's name without the byte =
-item_lacks : (s : ScriptData) (x : ℕ) → IsValid s → x < length s.items → lacks 61 (item_text s x) ≡ true
+pub item_lacks : (s : ScriptData) (x : ℕ) → IsValid s → x < length s.items → lacks 61 (item_text s x) ≡ true
 item_lacks s x valid h =
     let (row, at, text, name) = item_there s x valid h in
     ap (lacks 61) text ∙ name_lacks 61 row.name refl name
 
 -- the name and the value of what was got, where it is cut
-record Cut (s : ScriptData) (name text : List ℕ) (x : ItemNo × Value) : Type 0 where
+pub record Cut (s : ScriptData) (name text : List ℕ) (x : ItemNo × Value) : Type 0 where
   pub row : ItemRow
   pub at : slice_get s.items x.0.0 ≡ Some row
   pub there : HasItem s x.0
@@ -40,7 +40,7 @@ record Cut (s : ScriptData) (name text : List ℕ) (x : ItemNo × Value) : Type 
   pub name_is : name ≡ name_of_item s x.0
   pub text_is : text ≡ value_text x.1
 
-cut_got : (s : ScriptData) (field name text : List ℕ) (x : ItemNo × Value) → IsValid s → field ≡ name ++ 61 ∷ text → lacks 61 name ≡ true → field ≡ got_in_words s x → IsGot s x → Cut s name text x
+pub cut_got : (s : ScriptData) (field name text : List ℕ) (x : ItemNo × Value) → IsValid s → field ≡ name ++ 61 ∷ text → lacks 61 name ≡ true → field ≡ got_in_words s x → IsGot s x → Cut s name text x
 cut_got s field name text x valid cut first is may =
     let (row, at, less, kind) = of_item s.items x.0.0 x.1 may in
     let both = one_cut 61 name (item_text s x.0.0) text (value_text x.1) first (item_lacks s x.0.0 valid less) (sym cut ∙ is) in

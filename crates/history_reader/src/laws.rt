@@ -1,0 +1,14 @@
+// The law that a text begins with one entry.
+ghost use Rattle.std.specs.Prelude.{ℕ, List, ◌≡◌};
+ghost use Rattle.letter_types.specs.declared.entries.Entry.{Entry};
+ghost use Rattle.tx_trees.specs.ScriptData.{ScriptData};
+ghost use Rattle.tx_trees.specs.Valid.{IsValid};
+ghost use Rattle.history_text.specs.Printable.{Begins};
+ghost use Rattle.history_reader.specs.OneEntry.{TellTheSame};
+
+/// Two entries with whose lines a text begins tell the same, and the same text comes behind them: they have one stamp,
+/// one actor, the same letters and acts, and took letters of one id.
+pub fn a_text_begins_with_one_entry()
+    ensures { (s : ScriptData) (text : List ℕ) (e f : Entry) (rest more : List ℕ)
+        → IsValid s → Begins s text e rest → Begins s text f more → (rest ≡ more) × TellTheSame e f }
+{}
