@@ -41,7 +41,7 @@ use Rattle.history_words.proofs.Each.{each_one}
 use Rattle.history_words.proofs.Gots.{cut_got, item_lacks, of_item}
 use Rattle.history_words.proofs.OneToOne.{item_one, signed_one, tree_one}
 use Rattle.history_words.specs.Numbers.{is_plain_number}
-use Rattle.history_reader.specs.inside.BodyWords.{AreWords, answer_words, commit_word_of, notice_words, number_words, order_word, vote_words, whole_words}
+use Rattle.history_reader.specs.inside.BodyWords.{AreLineWords, answer_words, commit_word_of, notice_words, number_words, order_word, vote_words, whole_words}
 use Rattle.history_reader.proofs.ListsRead.{strictness_one, whole_plain, whole_strict}
 
 -- numbers that differ
@@ -218,5 +218,5 @@ what_one whats.Show whats.Sweep is = absurd (apart 104 119 refl (byte_at 1 _ _ i
 what_one whats.Sweep whats.Turn is = absurd (apart 115 116 refl (byte_at 0 _ _ is))
 what_one whats.Sweep whats.Show is = absurd (apart 119 104 refl (byte_at 1 _ _ is))
 
-pub row_one : (ns ms : List ℕ) → AreWords ns → AreWords ms → number_words ns ≡ number_words ms → ns ≡ ms
+pub row_one : (ns ms : List ℕ) → AreLineWords ns → AreLineWords ms → number_words ns ≡ number_words ms → ns ≡ ms
 row_one ns ms hn hm is = each_one decimal (λ n. IsWord n) (λ m n e hm hn. number_one m n hm hn e) ns ms is hn hm

@@ -13,7 +13,7 @@ use Rattle.std.proofs.lemmas.Slice.Eq.{slice_eq-Decides}
 use Rattle.commute_ops.specs.Numbers.{IsAscending, with_number}
 use Rattle.history_text.specs.Printable.{IsAmount}
 use Rattle.report_text.specs.Parts.{bag_text, more_numbers}
-use Rattle.history_words.specs.Numbers.{in_order}
+use Rattle.history_words.specs.Numbers.{ascending_of}
 use Rattle.history_words.specs.Parts.{parts_at}
 use Rattle.history_words.specs.Words.{AllAmounts, IsBag, amount_words}
 use Rattle.history_words.proofs.Cuts.{first_part_is, one_part, some_part}
@@ -46,7 +46,7 @@ put_last n (y ∷ ys) up top = by (int_le n y) refl (put_last n ys (λ j k d jk 
     by false is more = ap (λ (l : List ℤ). y ∷ l) more
 
 -- the first of some numbers that ascend are in order
-in_order_first : (xs : List ℤ) (i : ℕ) → IsAscending xs → i ≤ length xs → in_order (take i xs) ≡ take i xs
+in_order_first : (xs : List ℤ) (i : ℕ) → IsAscending xs → i ≤ length xs → ascending_of (take i xs) ≡ take i xs
 in_order_first xs zero asc h = refl
 in_order_first xs (suc i) asc h =
     let less : i < length xs = omega arith in
@@ -57,7 +57,7 @@ in_order_first xs (suc i) asc h =
     λ j k d jk hk. rw (get_or-take i xs j d (omega arith), get_or-take i xs k d (omega arith)) (asc j k d jk (omega arith)) in
     let top : (k : ℕ) (d : ℤ) → k < length (take i xs) → get_or (take i xs) k d ≤ℤ n =
     λ k d hk. rw (get_or-take i xs k d (omega arith), get_or_default xs i (pos 0) d less) (asc k i d (omega arith) less) in
-    ap (λ (m : ℕ). in_order (take m xs)) more
+    ap (λ (m : ℕ). ascending_of (take m xs)) more
     ∙ fold_more (λ (done : List ℤ) (m : ℤ). with_number m done) [] xs i (pos 0) less
     ∙ ap (with_number n) (in_order_first xs i asc (omega arith))
     ∙ put_last n (take i xs) up top
@@ -65,10 +65,10 @@ in_order_first xs (suc i) asc h =
     ∙ ap (λ (m : ℕ). take m xs) (sym more)
 
 -- numbers that ascend are in order
-pub ascending_stays : (xs : List ℤ) → IsAscending xs → in_order xs ≡ xs
+pub ascending_stays : (xs : List ℤ) → IsAscending xs → ascending_of xs ≡ xs
 ascending_stays xs asc =
     let all : take (length xs) xs ≡ xs = take_all (length xs) xs (omega arith) in
-    ap in_order (sym all) ∙ in_order_first xs (length xs) asc (omega arith) ∙ all
+    ap ascending_of (sym all) ∙ in_order_first xs (length xs) asc (omega arith) ∙ all
 
 -- the numbers of a bag as the parts between commas
 pub bag_parts : (n : ℤ) (ns : List ℤ) → AllAmounts (n ∷ ns) → parts_at 44 (signed_decimal n ++ more_numbers ns) ≡ amount_words (n ∷ ns)

@@ -20,5 +20,5 @@ begins_with_minus [] = false
 begins_with_minus (b ∷ bs) = b == 45
 
 -- the numbers in ascending order, each as often as it is there
-abbrev pub in_order : List ℤ → List ℤ
-in_order ns = fold (λ done n. with_number n done) [] ns
+abbrev pub ascending_of : List ℤ → List ℤ
+ascending_of ns = fold (λ done n. with_number n done) [] ns

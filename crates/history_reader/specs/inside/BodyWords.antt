@@ -119,8 +119,8 @@ abbrev pub IsReadFrom : ScriptData → ℕ → List (List ℕ) → Option Body �
 IsReadFrom s turn seen (Some b) = (seen ≡ body_words s b) × IsBody s b
 IsReadFrom s turn seen None = (b : Body) → seen ≡ body_words s b → IsBody s b → turn ≤ turn_of b → ⊥
 
-abbrev pub AreWords : List ℕ → Type 0
-AreWords ns = AllByRecursion IsWord ns
+abbrev pub AreLineWords : List ℕ → Type 0
+AreLineWords ns = AllByRecursion IsWord ns
 
 -- what is read of these words as a notice of a tree, or of any of its name
 abbrev pub IsNoticeRead : ScriptData → TreeNo → List (List ℕ) → Option Notice → Type 0
