@@ -6,3 +6,5 @@ pub mod NotedWorth
 pub mod Listing
 pub mod Against
 pub mod Seeing
+pub mod Fitting
+pub mod Answering

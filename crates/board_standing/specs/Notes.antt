@@ -1,14 +1,15 @@
 -- What the trees that take effect have done to an item, as deeds with versions, and the worths that are kept of all items.
-use Rattle.std.specs.Prelude.{if◌then◌else◌, ℕ, ◌≡◌, ◌==◌, List, [], ◌∷◌, ◌++◌, length, Some, slice_get}
+use Rattle.std.specs.Prelude.{if◌then◌else◌, ℕ, ◌≡◌, ◌==◌, List, [], ◌∷◌, ◌++◌, length, IsTrue, Option, Some, None, slice_get}
 use Rattle.script_parts.specs.ScriptData.{ScriptData, subs_at}
 use Rattle.script_parts.specs.Valid.{IsValid}
+use Rattle.script_parts.specs.declared.parts.ItemRow.{ItemRow}
 use Rattle.script_parts.specs.declared.parts.Sub.{Sub}
 use Rattle.script_parts.specs.declared.parts.SubOp.{SubOp}
 use Rattle.board_rules.specs.Histories.{Place, version_in}
 use Rattle.board_rules.specs.Stands.{version_or_zero}
 use Rattle.board_rules.specs.Worth.{first_value}
 use Rattle.worth_steps.specs.Kept.{AreWorths, WorthsData}
-use Rattle.worth_steps.specs.Worth.{Noted}
+use Rattle.worth_steps.specs.Worth.{Noted, deed_suits}
 use Rattle.board_standing.specs.Settled.{IsMoveRun, settled_order}
 
 -- the deeds of operations on item x, in version v
@@ -43,3 +44,11 @@ pub record AreKnown (s : ScriptData) (xs : List Place) (ws : List WorthsData) : 
   pub valid : IsValid s
   pub run : IsMoveRun s xs
   pub worths : AreAllWorths s xs ws
+
+-- the operation is on an item of the script, of a kind that has such deeds
+abbrev pub SuitsAt : SubOp → Option ItemRow → Type 0
+SuitsAt o None = ⊥
+SuitsAt o (Some row) = IsTrue (deed_suits row.kind o.deed)
+
+abbrev pub Suits : ScriptData → SubOp → Type 0
+Suits s o = SuitsAt o (slice_get s.items o.item.0)

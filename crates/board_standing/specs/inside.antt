@@ -1,2 +1,3 @@
 pub mod Users
 pub mod Shorts
+pub mod Asking

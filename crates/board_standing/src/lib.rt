@@ -2,10 +2,12 @@
 //! subtransaction votes no, and what items are worth.
 #![tactic(auto)]
 
+mod at_once;
 mod shown;
 mod standing;
 mod users;
 
+pub use at_once::{does_at_once, ops_of, reads};
 pub use shown::{short, shows};
 pub use standing::{conflict, newer, updates};
 pub use users::Users;

@@ -1,7 +1,6 @@
 -- The tree that becomes a member of the serial order by an act.
-use Rattle.std.proofs.Common.{◌≡◌, ℕ, ◌<◌, ◌==◌, Bool, true, false, List, [], ◌∷◌, ◌++◌, length, refl, sym, ap, ◌∙◌, Option, Some, None}
-use Rattle.std.specs.Prelude.{if◌then◌else◌, ◌&&◌, ◌||◌, not, slice_get}
-use Rattle.std.specs.List.{list_any}
+use Rattle.std.proofs.Common.{◌≡◌, ℕ, Bool, true, false, List, [], ◌∷◌, refl, sym, ap, ◌∙◌, Option, Some, None}
+use Rattle.std.specs.Prelude.{if◌then◌else◌, ◌&&◌, ◌||◌}
 use Rattle.std.specs.Option.{option_map}
 use Rattle.tv_base.specs.declared.numbers.TreeNo.{TreeNo}
 use Rattle.letter_types.specs.declared.acts.Act.{Act}
@@ -10,7 +9,7 @@ use Rattle.script_parts.specs.ScriptData.{ScriptData, updates}
 use Rattle.board_rules.specs.Histories.{Place, commits, is_strict_tree, is_whole_in, was_committed}
 use Rattle.board_rules.specs.Moves.{decides_as, was_decided_as}
 use Rattle.board_rules.specs.Serial.{is_settled_in}
-use Rattle.board_rules.proofs.Wholes.{strict_there, update_not_strict, updates_there}
+use Rattle.board_rules.proofs.Wholes.{update_not_strict, updates_there}
 use Rattle.board_tallies.specs.Board.{ShowsTree, closes_in, state_at, whole_at}
 use Rattle.board_tallies.specs.inside.Noting.{closed_by}
 use Rattle.board_tallies.specs.declared.states.TreeState.{TreeState}

@@ -1,9 +1,8 @@
 -- How many trees are counted, after one is counted anew.
-use Rattle.std.proofs.Common.{◌≡◌, ℕ, ◌+◌, ◌≤◌, ◌==◌, Bool, true, false, List, Option, Some, None, refl, sym, ap, subst, ◌∙◌, arith}
-use Rattle.std.specs.Prelude.{if◌then◌else◌, ◌&&◌, not}
+use Rattle.std.proofs.Common.{◌≡◌, ℕ, ◌+◌, ◌≤◌, Bool, true, false, List, Option, Some, None, refl, sym, ap, ◌∙◌, arith}
+use Rattle.std.specs.Prelude.{if◌then◌else◌}
 use Rattle.std.proofs.lemmas.Bool.{eq-eqb}
 use Rattle.tv_base.specs.declared.numbers.Version.{Version}
-use Rattle.board_rules.specs.Serial.{is_version}
 use Rattle.board_tallies.specs.Board.{pending_of, pends}
 use Rattle.board_tallies.specs.inside.Pending.{MayRecount}
 use Rattle.board_tallies.specs.declared.pending.Pending.{Pending}

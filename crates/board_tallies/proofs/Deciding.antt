@@ -1,17 +1,13 @@
 -- The tests by the tallies decide which acts are moves.
-use Rattle.std.proofs.Common.{◌≡◌, ◌⊎◌, inl, inr, ℕ, zero, suc, ◌+◌, ◌<◌, ◌≤◌, ◌==◌, Bool, true, false, List, [], ◌∷◌, ◌++◌, length, refl, sym, ap, subst, ◌∙◌, get_or, arith, Option, Some, None}
-use Rattle.std.specs.Prelude.{if◌then◌else◌, ◌&&◌, ◌||◌, All, IsTrue, is_none, is_some, nat_le, nat_lt, not, slice_get}
+use Rattle.std.proofs.Common.{◌≡◌, ◌⊎◌, inl, inr, ℕ, zero, suc, ◌+◌, ◌<◌, ◌≤◌, ◌==◌, Bool, true, false, List, [], ◌∷◌, length, refl, sym, ap, subst, ◌∙◌, get_or, arith, Option, Some, None}
+use Rattle.std.specs.Prelude.{if◌then◌else◌, ◌&&◌, ◌||◌, All, is_none, is_some, not, slice_get}
 use Rattle.std.specs.Bool.{Decides}
-use Rattle.std.specs.List.{list_all, list_any}
-use Rattle.std.proofs.lemmas.Bool.{cases_lt, eq-eqb, not_from_false, eqb-true, eqb-false, le-leb, leb-true, ltb-true, lt-ltb, not-true, or_cases, or_from, or_left, or_parts, or_right}
-use Rattle.std.proofs.lemmas.Bool.Decides.{Decides-and, Decides-at, Decides-eqb, Decides-like, Decides-ltb, nat_tests}
+use Rattle.std.proofs.lemmas.Bool.{cases_lt, eq-eqb, not_from_false, eqb-true, not-true, or_from, or_parts}
+use Rattle.std.proofs.lemmas.Bool.Decides.{Decides-and, Decides-eqb, Decides-like}
 use Rattle.std.proofs.lemmas.Option.{get_or_from_slice_get, slice_get_within}
 use Rattle.tv_base.specs.declared.numbers.ItemNo.{ItemNo}
 use Rattle.tv_base.specs.declared.numbers.Version.{Version}
 use Rattle.commute_ops.specs.declared.value.Value.{Value}
-use Rattle.letter_types.specs.declared.acts.Act.{Act}
-use Rattle.letter_types.specs.declared.acts.Act.TheVariants.{Born, Did, Turned, Showed, Swept, Finished, Waits, Parked, Voted, Freed, Decided, Applied}
-use Rattle.letter_types.specs.declared.entries.Entry.{Entry}
 use Rattle.script_parts.proofs.SubsOf.{found_subs, sub_nodes}
 use Rattle.script_parts.specs.ScriptData.{ScriptData, home_of, is_read, is_strict, is_update, node_of, reads, sub_at, subs_at, updates, visits}
 use Rattle.script_parts.specs.Valid.{IsValid}
@@ -19,12 +15,12 @@ use Rattle.script_parts.specs.declared.parts.Sub.{Sub}
 use Rattle.script_parts.specs.declared.parts.Tree.{Tree}
 use Rattle.script_parts.specs.declared.parts.TreeKind.{TreeKind}
 use Rattle.script_parts.specs.declared.parts.TreeKind.TheVariants.{Update, Read, Strict}
-use Rattle.board_rules.specs.ButCause.{IsMoveButCauseAt, IsVotingAsked}
+use Rattle.board_rules.specs.ButCause.{IsVotingAsked}
 use Rattle.board_rules.specs.Histories.{Place, is_strict_tree, is_whole_in, version_in, was_applied, was_born, was_done}
-use Rattle.board_rules.specs.Moves.{AllVoted, IsApplying, IsAsked, IsAskedBy, IsBirth, IsDecision, IsDeed, IsFreeing, IsWaiting, low_after, read_after, update_after, was_decided_as}
+use Rattle.board_rules.specs.Moves.{IsApplying, IsAsked, IsAskedBy, IsBirth, IsDecision, IsDeed, IsFreeing, IsWaiting, read_after, update_after, was_decided_as}
 use Rattle.board_rules.specs.Stands.{voted_yes, was_freed, was_voted}
 use Rattle.board_tallies.specs.Board.{AreMarks, ShowsNode, ShowsTree, is_whole_by, marked_to}
-use Rattle.board_tallies.specs.inside.May.{are_apart, had_turn, may_be_applied, may_bear, may_begin, may_decide, may_do, may_free, may_vote, may_wait, runs_at, takes_version}
+use Rattle.board_tallies.specs.inside.May.{are_apart, takes_turn, may_apply_at, may_bear, may_begin, may_decide, may_do, may_free, may_vote, may_wait, runs_at, takes_version}
 use Rattle.board_tallies.specs.declared.numbers.Numbers.{Numbers}
 use Rattle.board_tallies.specs.declared.states.TreeState.{TreeState}
 use Rattle.board_tallies.proofs.Standing.{whole_is}
@@ -90,7 +86,7 @@ turn_by nodes p k had marks (Some sub) small are =
     (not_flag (get_or marks k false) (had k) (are.each k)))
 
 turn_decides : (s : ScriptData) (t k p : ℕ) (had : ℕ → Bool) (marks : List Bool) → IsValid s → AreMarks marks had
-    → Decides (had_turn (subs_at s t) marks k p)
+    → Decides (takes_turn (subs_at s t) marks k p)
     (((p < s.nodes) × (node_of s t k ≡ p)) × IsAsked s had t k × (had k ≡ false))
 turn_decides s t k p had marks valid are =
     turn_by s.nodes p k had marks (sub_at s t k) (λ sub at. small_at (subs_at s t) s.nodes k sub (sub_nodes s t valid) at) are
@@ -268,13 +264,13 @@ do_decides s xs p t k given tree st n seen =
       values = λ is. h.1 (sym update ∙ is);
     })
     (λ deed. (((sym either ∙ deed.commutes, deed.born), (deed.node, deed.asked, deed.once)), λ is. deed.values (update ∙ is)))
-    (Decides-and (not (is_strict tree.kind) && is_some st.born && had_turn tree.subs st.done k p)
+    (Decides-and (not (is_strict tree.kind) && is_some st.born && takes_turn tree.subs st.done k p)
     (not (is_update tree.kind) || (length given == 0))
-    (Decides-and (not (is_strict tree.kind) && is_some st.born) (had_turn tree.subs st.done k p)
+    (Decides-and (not (is_strict tree.kind) && is_some st.born) (takes_turn tree.subs st.done k p)
     (Decides-and (not (is_strict tree.kind)) (is_some st.born) (commutes_decides tree.kind)
     (is_flag (is_some st.born) (was_born xs t) (ap is_some seen.shows.born)))
     (own_subs s t tree
-    (λ subs. Decides (had_turn subs st.done k p)
+    (λ subs. Decides (takes_turn subs st.done k p)
     (((p < s.nodes) × (node_of s t k ≡ p)) × IsAsked s (λ j. was_done t j xs) t k × (was_done t k xs ≡ false)))
     seen.at (turn_decides s t k p (λ j. was_done t j xs) st.done seen.valid seen.shows.done)))
     (given_decides (is_update tree.kind) given))
@@ -285,11 +281,11 @@ vote_decides s xs p t k tree st n seen =
     Decides-like (may_vote tree st p k)
     (λ h. record { strict = h.0.0; born = h.0.1; asked = h.1.1; once = h.1.2; node = h.1.0 })
     (λ vote. ((vote.strict, vote.born), (vote.node, vote.asked, vote.once)))
-    (Decides-and (is_strict tree.kind && is_some st.born) (had_turn tree.subs st.voted k p)
+    (Decides-and (is_strict tree.kind && is_some st.born) (takes_turn tree.subs st.voted k p)
     (Decides-and (is_strict tree.kind) (is_some st.born) (strict_kind_of s xs p t tree st n seen)
     (is_flag (is_some st.born) (was_born xs t) (ap is_some seen.shows.born)))
     (own_subs s t tree
-    (λ subs. Decides (had_turn subs st.voted k p)
+    (λ subs. Decides (takes_turn subs st.voted k p)
     (((p < s.nodes) × (node_of s t k ≡ p)) × IsAsked s (λ j. was_voted t j xs) t k × (was_voted t k xs ≡ false)))
     seen.at (turn_decides s t k p (λ j. was_voted t j xs) st.voted seen.valid seen.shows.voted)))
 
@@ -346,9 +342,9 @@ decide_decides s xs p t commit tree st n seen =
     (all_decides s t tree st.yes (λ k. voted_yes t k xs) seen.at seen.shows.yes)))
 
 pub apply_decides : (s : ScriptData) (xs : List Place) (p t : ℕ) (commit : Bool) (tree : Tree) (st : TreeState) (n : Numbers)
-    → IsSeen s xs p t tree st n → Decides (may_be_applied tree st p commit) (IsApplying s xs p t commit)
+    → IsSeen s xs p t tree st n → Decides (may_apply_at tree st p commit) (IsApplying s xs p t commit)
 apply_decides s xs p t commit tree st n seen =
-    Decides-like (may_be_applied tree st p commit)
+    Decides-like (may_apply_at tree st p commit)
     (λ h. record { strict = h.0.0.0; visited = h.0.0.1; decided = h.0.1; once = h.1 })
     (λ applies. (((applies.strict, applies.visited), applies.decided), applies.once))
     (Decides-and (is_strict tree.kind && visits tree.subs p && (if commit then st.committed else st.aborted))

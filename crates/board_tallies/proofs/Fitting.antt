@@ -1,11 +1,10 @@
 -- The tests by the tallies and the gates decide which acts keep to the script.
-use Rattle.std.proofs.Common.{◌≡◌, ◌⊎◌, inl, inr, ℕ, zero, suc, ◌+◌, ◌-◌, ◌<◌, ◌≤◌, ◌==◌, Bool, true, false, List, [], ◌∷◌, ◌++◌, length, refl, sym, ap, subst, ◌∙◌, arith, Option, Some, None, take, take_all}
-use Rattle.std.specs.Prelude.{if◌then◌else◌, ◌&&◌, ◌||◌, IsTrue, nat_le, nat_lt, not, slice_get}
+use Rattle.std.proofs.Common.{◌≡◌, ◌⊎◌, inl, inr, ℕ, zero, suc, ◌+◌, ◌-◌, ◌<◌, ◌≤◌, ◌==◌, Bool, true, false, List, [], ◌∷◌, length, refl, sym, ap, subst, ◌∙◌, arith, Option, Some, None, take}
+use Rattle.std.specs.Prelude.{if◌then◌else◌, ◌&&◌, nat_le, not, slice_get}
 use Rattle.std.specs.Bool.{Decides}
 use Rattle.std.specs.List.{list_all, list_any}
 use Rattle.std.proofs.lemmas.Bool.{cases_lt, eq-eqb, eqb-true, le-leb, leb-false, leb-true}
 use Rattle.std.proofs.lemmas.Bool.Decides.{Decides-and, Decides-eqb, Decides-like}
-use Rattle.std.proofs.lemmas.Option.{slice_get_within}
 use Rattle.tv_base.specs.declared.numbers.TreeNo.{TreeNo}
 use Rattle.letter_types.specs.declared.acts.Act.{Act}
 use Rattle.letter_types.specs.declared.acts.Act.TheVariants.{Born, Did, Turned, Showed, Swept, Finished, Waits, Parked, Voted, Freed, Decided, Applied}
@@ -20,7 +19,7 @@ use Rattle.board_rules.specs.Moves.{low_after, read_after, update_after}
 use Rattle.board_rules.specs.Right.{has_finished}
 use Rattle.board_tallies.specs.Board.{BoardData, IsBoardOf, numbers_at}
 use Rattle.board_tallies.specs.GateRows.{AreGatesFor, AreGatesOf, GatesData, gate_behind, is_tree_row, rows_passing}
-use Rattle.board_tallies.specs.inside.Keeping.{gate_to, has_gone, is_open_gate, keeps_by, may_finish}
+use Rattle.board_tallies.specs.inside.Keeping.{has_gone, is_open_gate, keeps_by, may_finish}
 use Rattle.board_tallies.specs.declared.gates.Gate.{Gate}
 use Rattle.board_tallies.specs.declared.numbers.Numbers.{Numbers}
 use Rattle.board_tallies.proofs.Deciding.{not_flag}

@@ -1,11 +1,11 @@
 -- One turn of the loop over a script's rows.
-use Rattle.std.proofs.Common.{◌≡◌, ℕ, ◌+◌, ◌<◌, Bool, true, false, List, [], ◌∷◌, ◌++◌, length, refl, sym, ap, subst, ◌∙◌, arith, take, get_or}
+use Rattle.std.proofs.Common.{◌≡◌, ℕ, ◌+◌, ◌<◌, false, List, [], ◌∷◌, ◌++◌, length, refl, sym, ap, subst, ◌∙◌, take, get_or}
 use Rattle.std.proofs.lemmas.List.{take_more}
 use Rattle.tv_base.specs.declared.numbers.TreeNo.{TreeNo}
 use Rattle.script_parts.specs.Counts.{is_advance}
 use Rattle.script_parts.specs.declared.parts.ScriptRow.{ScriptRow}
 use Rattle.script_parts.specs.declared.parts.ScriptRow.TheVariants as rows
-use Rattle.board_rules.specs.Gates.{before_settle, is_settle_row}
+use Rattle.board_rules.specs.Gates.{is_settle_row}
 use Rattle.board_tallies.specs.GateRows.{AreGatesFor, gate_behind, is_tree_row, rows_passing}
 use Rattle.board_tallies.specs.declared.gates.Gate.{Gate}
 use Rattle.board_tallies.proofs.Settling.{behind_other, behind_settle, gates_none, gates_push, gates_skip}

@@ -1,12 +1,12 @@
 -- Lists of which one place is changed, and marks.
-use Rattle.std.proofs.Common.{◌≡◌, ◌⊎◌, inl, inr, Option, Some, None, ℕ, zero, suc, ◌<◌, ◌≤◌, ◌==◌, Bool, true, false, List, [], ◌∷◌, length, refl, ap, ◌∙◌, slice_set, get_or, arith}
-use Rattle.std.specs.Prelude.{if◌then◌else◌, ◌&&◌, ◌||◌, replicate, slice_get}
+use Rattle.std.proofs.Common.{◌≡◌, ◌⊎◌, inl, inr, Option, Some, None, ℕ, zero, suc, ◌<◌, ◌≤◌, Bool, false, List, length, refl, ap, ◌∙◌, slice_set, get_or, arith}
+use Rattle.std.specs.Prelude.{if◌then◌else◌, replicate, slice_get}
 use Rattle.std.proofs.lemmas.List.{get_or_past, set-get_or, set-set}
 use Rattle.std.proofs.lemmas.Option.{slice_get_past}
 use Rattle.script_parts.specs.declared.parts.Tree.{Tree}
 use Rattle.std.proofs.lemmas.Bool.Decides.{nat_tests}
 use Rattle.board_tallies.specs.Board.{first_state, is_whole_by, marked_to, state_at, whole_at}
-use Rattle.board_tallies.specs.inside.Marks.{marks_kept}
+use Rattle.board_tallies.specs.inside.Marks.{marked_as}
 use Rattle.board_tallies.specs.declared.states.Marked.{Marked}
 use Rattle.board_tallies.specs.declared.states.Marked.TheVariants as marked
 use Rattle.board_tallies.specs.declared.states.TreeState.{TreeState}
@@ -52,7 +52,7 @@ get_replicate zero i a = refl
 get_replicate (suc n) zero a = refl
 get_replicate (suc n) (suc i) a = get_replicate n i a
 
-first_unmarked : (of : Marked) (k : ℕ) → get_or (marks_kept of first_state) k false ≡ false
+first_unmarked : (of : Marked) (k : ℕ) → get_or (marked_as of first_state) k false ≡ false
 first_unmarked marked.Done k = get_replicate 64 k false
 first_unmarked marked.Voted k = get_replicate 64 k false
 first_unmarked marked.Yes k = get_replicate 64 k false
@@ -61,6 +61,6 @@ first_unmarked marked.Freed k = get_replicate 64 k false
 
 -- a tree that isn't there has no mark
 pub mark_beyond : (states : List TreeState) (t : ℕ) (of : Marked) (k : ℕ) → length states ≤ t
-    → get_or (marks_kept of (state_at states t)) k false ≡ false
+    → get_or (marked_as of (state_at states t)) k false ≡ false
 mark_beyond states t of k past =
-    ap (λ (st : TreeState). get_or (marks_kept of st) k false) (get_or_past states t first_state past) ∙ first_unmarked of k
+    ap (λ (st : TreeState). get_or (marked_as of st) k false) (get_or_past states t first_state past) ∙ first_unmarked of k

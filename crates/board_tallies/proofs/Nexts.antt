@@ -1,7 +1,6 @@
 -- The tallies after one act more.
-use Rattle.std.proofs.Common.{◌≡◌, ◌⊎◌, inl, inr, ℕ, zero, suc, ◌+◌, ◌<◌, ◌≤◌, ◌==◌, Bool, true, false, List, [], ◌∷◌, ◌++◌, length, refl, sym, ap, subst, ◌∙◌, arith, Option, Some, None, slice_set}
-use Rattle.std.specs.Prelude.{cond, if◌then◌else◌, ◌&&◌, ◌||◌, filter, nat_lt}
-use Rattle.std.specs.List.{sum_by}
+use Rattle.std.proofs.Common.{◌≡◌, ◌⊎◌, inl, inr, ℕ, ◌+◌, ◌<◌, ◌==◌, Bool, true, false, List, [], ◌∷◌, ◌++◌, length, refl, sym, ap, subst, ◌∙◌, arith, Option, Some, None}
+use Rattle.std.specs.Prelude.{cond, if◌then◌else◌, ◌||◌, filter, nat_lt}
 use Rattle.std.specs.Option.{option_map}
 use Rattle.std.proofs.Math.Bool.{or-false}
 use Rattle.std.proofs.lemmas.Bool.{ltb-false, or_parts}
@@ -15,10 +14,10 @@ use Rattle.script_parts.specs.Valid.{IsValid}
 use Rattle.script_parts.specs.declared.parts.Tree.{Tree}
 use Rattle.board_rules.specs.ButCause.{IsMoveButCauseAt}
 use Rattle.board_rules.specs.Histories.{Place}
-use Rattle.board_rules.specs.Right.{finishes, has_finished}
+use Rattle.board_rules.specs.Right.{finishes}
 use Rattle.board_rules.proofs.Places.{has_finished-append}
-use Rattle.board_tallies.specs.Board.{BoardData, IsBoardOf, ShowsNode, ShowsTree, closes_in, count_of, counted_in, first_state, numbers_at, pending_of, state_at}
-use Rattle.board_tallies.specs.inside.Noting.{IsNoted, closed_by, nodes_with, numbers_with, states_told, states_with, state_with, news_by}
+use Rattle.board_tallies.specs.Board.{BoardData, IsBoardOf, ShowsNode, ShowsTree, closes_in, count_of, counted_in, numbers_at, pending_of, state_at}
+use Rattle.board_tallies.specs.inside.Noting.{IsNoted, closed_by, numbers_with, states_told, state_with, news_by}
 use Rattle.board_tallies.specs.inside.Pending.{is_counted, settled}
 use Rattle.board_tallies.specs.declared.numbers.Numbers.{Numbers}
 use Rattle.board_tallies.specs.declared.pending.Pending.{Pending}

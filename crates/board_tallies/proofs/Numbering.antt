@@ -1,8 +1,7 @@
 -- The numbers of nodes after one act more.
-use Rattle.std.proofs.Common.{◌≡◌, ◌⊎◌, inl, inr, ℕ, ◌+◌, ◌<◌, ◌≤◌, ◌==◌, Bool, true, false, List, [], ◌∷◌, ◌++◌, length, refl, sym, ap, subst, ◌∙◌, get_or, arith, Option, Some, None}
+use Rattle.std.proofs.Common.{◌≡◌, ◌⊎◌, inl, inr, ℕ, ◌+◌, ◌<◌, ◌≤◌, ◌==◌, Bool, true, false, List, [], ◌∷◌, ◌++◌, length, refl, sym, ap, subst, ◌∙◌, arith, Option, Some, None}
 use Rattle.std.specs.Prelude.{if◌then◌else◌, fold, ◌||◌, ◌&&◌, slice_set}
 use Rattle.std.specs.Bool.{Decides}
-use Rattle.std.specs.List.{list_any}
 use Rattle.std.specs.Option.{unwrap_or}
 use Rattle.std.proofs.Math.Bool.{or-false}
 use Rattle.std.proofs.lemmas.Bool.{cases_lt, eq-eqb, eqb-true, or_cases, or_left, or_right}
@@ -18,7 +17,7 @@ use Rattle.script_parts.specs.ScriptData.{ScriptData}
 use Rattle.board_rules.specs.ButCause.{IsMoveButCauseAt}
 use Rattle.board_rules.specs.Gates.{sweeps_to, was_swept}
 use Rattle.board_rules.specs.Histories.{Place}
-use Rattle.board_rules.specs.Moves.{low_after, number_after, read_after, showed_to, swept_to, turned_to, update_after, version_or}
+use Rattle.board_rules.specs.Moves.{low_after, number_after, showed_to, swept_to, turned_to, version_or}
 use Rattle.board_rules.specs.Serial.{is_version}
 use Rattle.board_tallies.specs.Board.{ShowsNode, first_numbers, numbers_at}
 use Rattle.board_tallies.specs.inside.Noting.{nodes_with, numbers_with}

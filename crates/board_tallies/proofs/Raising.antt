@@ -1,13 +1,12 @@
 -- The tests by the tallies decide which acts of nodes are moves, and so of all.
-use Rattle.std.proofs.Common.{◌≡◌, ◌⊎◌, inl, inr, ℕ, zero, suc, ◌+◌, ◌<◌, ◌≤◌, ◌==◌, Bool, true, false, List, [], ◌∷◌, ◌++◌, length, refl, sym, ap, subst, ◌∙◌, get_or, arith, Option, Some, None}
-use Rattle.std.specs.Prelude.{if◌then◌else◌, ◌&&◌, ◌||◌, IsTrue, nat_le, nat_lt, not, slice_get}
+use Rattle.std.proofs.Common.{◌≡◌, ◌⊎◌, inl, inr, ℕ, zero, suc, ◌+◌, ◌<◌, ◌≤◌, ◌==◌, Bool, true, false, List, [], ◌∷◌, length, refl, sym, ap, ◌∙◌, arith, Option, Some, None}
+use Rattle.std.specs.Prelude.{◌&&◌, ◌||◌, nat_le, nat_lt, not, slice_get}
 use Rattle.std.specs.Bool.{Decides}
 use Rattle.std.specs.List.{list_all}
 use Rattle.std.proofs.lemmas.Bool.{cases_lt, le-leb, leb-true, ltb-true, lt-ltb, or_cases}
-use Rattle.std.proofs.lemmas.Bool.Decides.{Decides-and, Decides-at, Decides-like, Decides-ltb}
+use Rattle.std.proofs.lemmas.Bool.Decides.{Decides-and, Decides-at, Decides-like}
 use Rattle.std.proofs.lemmas.Option.{slice_get-get_or, slice_get_within}
 use Rattle.tv_base.specs.declared.numbers.TreeNo.{TreeNo}
-use Rattle.tv_base.specs.declared.numbers.Version.{Version}
 use Rattle.letter_types.specs.declared.acts.Act.{Act}
 use Rattle.letter_types.specs.declared.acts.Act.TheVariants.{Born, Did, Turned, Showed, Swept, Finished, Waits, Parked, Voted, Freed, Decided, Applied}
 use Rattle.letter_types.specs.declared.entries.Entry.{Entry}
@@ -21,7 +20,7 @@ use Rattle.board_rules.specs.Histories.{Place, is_strict_tree}
 use Rattle.board_rules.specs.Moves.{AllWholeBelow, AllWholeTo, IsShowing, IsSweeping, IsTurn, low_after, read_after, update_after}
 use Rattle.board_rules.proofs.Wholes.{strict_there, updates_there}
 use Rattle.board_tallies.specs.Board.{BoardData, IsBoardOf, first_state, numbers_at, state_at}
-use Rattle.board_tallies.specs.inside.May.{may_by_node, may_by_tree, may_come, may_show, may_sweep, may_turn, may_with, tree_of}
+use Rattle.board_tallies.specs.inside.May.{may_by_tree, may_come, may_show, may_sweep, may_turn, may_with, tree_of}
 use Rattle.board_tallies.specs.inside.Pending.{none_to}
 use Rattle.board_tallies.specs.declared.numbers.Numbers.{Numbers}
 use Rattle.board_tallies.specs.declared.states.TreeState.{TreeState}

@@ -1,5 +1,5 @@
 -- Which trees are whole, by their states.
-use Rattle.std.proofs.Common.{◌≡◌, ◌⊎◌, inl, inr, ℕ, zero, suc, ◌+◌, ◌<◌, ◌≤◌, ◌==◌, Bool, true, false, List, [], ◌∷◌, ◌++◌, length, refl, sym, ap, subst, ◌∙◌, get_or, arith, Option, Some, None}
+use Rattle.std.proofs.Common.{◌≡◌, ◌⊎◌, inl, inr, ℕ, zero, suc, ◌<◌, ◌≤◌, Bool, true, false, List, [], ◌∷◌, ◌++◌, length, refl, sym, ap, ◌∙◌, arith, Option, Some, None}
 use Rattle.std.specs.Prelude.{if◌then◌else◌, ◌&&◌, slice_get, is_some}
 use Rattle.std.proofs.lemmas.Bool.{cases_lt}
 use Rattle.std.proofs.lemmas.List.{get_or_past}
@@ -9,7 +9,7 @@ use Rattle.board_tallies.proofs.Marks.{whole_beyond}
 use Rattle.script_parts.specs.ScriptData.{ScriptData, is_strict, subs_at}
 use Rattle.script_parts.specs.declared.parts.Sub.{Sub}
 use Rattle.script_parts.specs.declared.parts.Tree.{Tree}
-use Rattle.board_rules.specs.Histories.{Place, all_applied, all_done, is_complete, is_strict_tree, is_whole_in, version_in, was_applied, was_born, was_done}
+use Rattle.board_rules.specs.Histories.{Place, all_applied, all_done, is_complete, is_strict_tree, is_whole_in, version_in, was_applied, was_done}
 use Rattle.board_rules.proofs.Wholes.{whole_more}
 use Rattle.board_tallies.specs.Board.{AreMarks, ArePassed, ShowsTree, first_state, is_through, is_whole_by, marked_for, marked_to, state_at, whole_at}
 use Rattle.board_tallies.specs.inside.Noting.{GoesOn}

@@ -1,19 +1,18 @@
 -- Where no tree is counted as not whole in versions up to one, the trees born up to it are whole.
-use Rattle.std.proofs.Common.{◌≡◌, ◌⊎◌, inl, inr, ℕ, zero, suc, ◌+◌, ◌<◌, ◌≤◌, ◌==◌, Bool, true, false, List, [], ◌∷◌, length, refl, sym, ap, subst, ◌∙◌, arith, Option, Some, None}
-use Rattle.std.specs.Prelude.{if◌then◌else◌, ◌&&◌, ◌||◌, IsTrue, is_some, nat_lt, not, slice_get}
+use Rattle.std.proofs.Common.{◌≡◌, ◌⊎◌, inl, inr, ℕ, zero, suc, ◌<◌, ◌≤◌, ◌==◌, Bool, true, false, List, [], ◌∷◌, length, refl, sym, ap, subst, ◌∙◌, arith, Option, Some, None}
+use Rattle.std.specs.Prelude.{if◌then◌else◌, ◌&&◌, ◌||◌, is_some, nat_lt, not, slice_get}
 use Rattle.std.specs.Bool.{Decides}
-use Rattle.std.specs.List.{sum_by}
-use Rattle.std.proofs.lemmas.Bool.{cases_lt, eq-eqb, eqb-true, ltb-true, lt-ltb, and_parts, ne_eqb, or_cases, or_left, or_right}
+use Rattle.std.proofs.lemmas.Bool.{cases_lt, eq-eqb, eqb-true, ltb-true, lt-ltb, and_parts, or_cases, or_left, or_right}
 use Rattle.std.proofs.lemmas.Bool.Decides.{Decides-and, Decides-like}
 use Rattle.std.proofs.lemmas.List.Sums.{sum_by-cons}
 use Rattle.std.proofs.lemmas.Option.{get_or_from_slice_get, slice_get-get_or, slice_get_within}
 use Rattle.tv_base.specs.declared.numbers.Version.{Version}
 use Rattle.script_parts.specs.ScriptData.{ScriptData, is_read}
 use Rattle.script_parts.specs.declared.parts.Tree.{Tree}
-use Rattle.board_rules.specs.Histories.{Place, is_whole_in, version_in}
+use Rattle.board_rules.specs.Histories.{Place}
 use Rattle.board_rules.specs.Moves.{AllWholeTo}
 use Rattle.board_rules.specs.Serial.{is_version}
-use Rattle.board_tallies.specs.Board.{BoardData, IsBoardOf, ShowsTree, count_of, counted_in, first_state, is_through, is_whole_by, pending_of, pending_version, pends, state_at, unwhole_of}
+use Rattle.board_tallies.specs.Board.{BoardData, IsBoardOf, ShowsTree, count_of, counted_in, first_state, is_through, pending_of, pending_version, pends, state_at, unwhole_of}
 use Rattle.board_tallies.specs.inside.Pending.{none_to}
 use Rattle.board_tallies.specs.declared.pending.Pending.{Pending}
 use Rattle.board_tallies.specs.declared.states.TreeState.{TreeState}

@@ -1,19 +1,18 @@
 -- A move tells of what is there.
-use Rattle.std.proofs.Common.{◌≡◌, ◌⊎◌, inl, inr, ℕ, zero, suc, ◌+◌, ◌<◌, ◌≤◌, ◌==◌, Bool, true, false, List, [], ◌∷◌, ◌++◌, length, refl, sym, ap, subst, ◌∙◌, arith, Option, Some, None}
-use Rattle.std.specs.Prelude.{if◌then◌else◌, ◌&&◌, ◌||◌, slice_get, IsTrue, All}
-use Rattle.std.specs.List.{list_any}
+use Rattle.std.proofs.Common.{◌≡◌, ◌⊎◌, inl, inr, ℕ, suc, ◌<◌, ◌==◌, Bool, true, false, List, [], ◌∷◌, length, refl, arith, Option, Some, None}
+use Rattle.std.specs.Prelude.{slice_get, All}
 use Rattle.std.proofs.lemmas.Bool.{eqb-true, or_cases}
 use Rattle.std.proofs.lemmas.Option.{slice_get_within}
 use Rattle.letter_types.specs.declared.acts.Act.{Act}
 use Rattle.letter_types.specs.declared.acts.Act.TheVariants.{Born, Did, Turned, Showed, Swept, Finished, Waits, Parked, Voted, Freed, Decided, Applied}
 use Rattle.letter_types.specs.declared.entries.Entry.{Entry}
 use Rattle.script_parts.proofs.SubsOf.{few_nodes, few_subs, sub_nodes}
-use Rattle.script_parts.specs.ScriptData.{ScriptData, home_of, is_read, node_of, reads, sub_at, subs_at, updates, visits}
+use Rattle.script_parts.specs.ScriptData.{ScriptData, home_of, is_read, reads, sub_at, subs_at, updates, visits}
 use Rattle.script_parts.specs.Valid.{IsValid}
 use Rattle.script_parts.specs.declared.parts.Sub.{Sub}
 use Rattle.script_parts.specs.declared.parts.Tree.{Tree}
 use Rattle.board_rules.specs.ButCause.{IsMoveButCauseAt}
-use Rattle.board_rules.specs.Histories.{Place, is_strict_tree}
+use Rattle.board_rules.specs.Histories.{Place}
 use Rattle.board_rules.specs.Moves.{IsAsked, IsAskedBy}
 use Rattle.board_rules.proofs.Wholes.{strict_there, updates_there}
 use Rattle.board_tallies.proofs.Telling.{IsWithin}

@@ -8,7 +8,6 @@ use Rattle.letter_types.specs.declared.acts.Act.{Act}
 use Rattle.script_parts.specs.ScriptData.{ScriptData, is_read, is_strict}
 use Rattle.script_parts.specs.declared.parts.Sub.{Sub}
 use Rattle.script_parts.specs.declared.parts.Tree.{Tree}
-use Rattle.script_parts.specs.declared.parts.TreeKind.{TreeKind}
 use Rattle.board_rules.specs.Gates.{was_swept}
 use Rattle.board_rules.specs.Histories.{Place, is_whole_in, version_in, was_applied, was_done}
 use Rattle.board_rules.specs.Moves.{low_after, read_after, update_after, was_decided_as}

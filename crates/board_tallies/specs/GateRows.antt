@@ -1,6 +1,6 @@
 -- The gates of a script's rows: what stands before the last `settle` above each of them.
 use Rattle.std.specs.Prelude.{if◌then◌else◌, ℕ, Bool, true, false, ◌≡◌, ◌+◌, List, [], ◌∷◌, length, take, Some, slice_get}
-use Rattle.script_parts.specs.Counts.{advances_in, is_advance}
+use Rattle.script_parts.specs.Counts.{is_advance}
 use Rattle.script_parts.specs.ScriptData.{ScriptData}
 use Rattle.script_parts.specs.declared.parts.ScriptRow.{ScriptRow}
 use Rattle.script_parts.specs.declared.parts.ScriptRow.TheVariants as rows

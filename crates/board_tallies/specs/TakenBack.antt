@@ -1,5 +1,5 @@
 -- What has been noted is taken back: each thing that it changed is as it was.
-use Rattle.std.specs.Prelude.{ℕ, Bool, List, Option, Some, None, slice_set, take}
+use Rattle.std.specs.Prelude.{List, Option, Some, None, slice_set, take}
 use Rattle.tv_base.specs.declared.numbers.TreeNo.{TreeNo}
 use Rattle.board_tallies.specs.Board.{BoardData, state_at}
 use Rattle.board_tallies.specs.declared.board.Noted.{Noted}
@@ -31,8 +31,8 @@ pending_back (counts.Put place one) ps = slice_set ps place one
 pending_back (counts.Added most) ps = take most ps
 
 -- all tallies
-abbrev pub board_back : Noted → BoardData → BoardData
-board_back n b = record {
+abbrev pub taken_back : Noted → BoardData → BoardData
+taken_back n b = record {
   nodes = slice_set b.nodes n.node.0 n.numbers;
   trees = states_back n.told.state b.trees;
   pending = pending_back n.told.pending b.pending;

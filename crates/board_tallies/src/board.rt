@@ -1,5 +1,5 @@
 // The Board's tallies: how they begin, go on and are taken back.
-ghost use Rattle.std.specs.Prelude.{◌≡◌, true, false, [], ◌∷◌, ◌++◌, List, ℕ, IfOk, OnErr, OnOk};
+ghost use Rattle.std.specs.Prelude.{◌≡◌, true, false, [], ◌∷◌, ◌++◌, List, IfOk, OnErr, OnOk};
 ghost use Rattle.std.specs.Option.{option_map};
 ghost use Rattle.tv_base.specs.declared.numbers.TreeNo.{TreeNo};
 ghost use Rattle.script_parts.specs.ScriptData.{ScriptData};
@@ -63,7 +63,7 @@ pub struct Noted {
 impl Board {
     ghost use Rattle.board_tallies.specs.Board.{IsBoardOf, closes_in};
     ghost use Rattle.board_tallies.specs.GateRows.{AreGatesOf};
-    ghost use Rattle.board_tallies.specs.TakenBack.{board_back};
+    ghost use Rattle.board_tallies.specs.TakenBack.{taken_back};
     ghost use Rattle.board_tallies.specs.inside.Keeping.{is_open_gate, keeps_by, may_finish};
     ghost use Rattle.board_tallies.specs.inside.May.{may_come};
     ghost use Rattle.board_tallies.specs.inside.Noting.{IsNoted, closed_by, first_board};
@@ -178,7 +178,7 @@ impl Board {
             → IsMoveButCause script.now before xs (record { node = node.0; act = act.now })
             → option_map (λ (t : TreeNo). t.0) n.closed
             ≡ closes_in script.now (xs ++ record { node = node.0; act = act.now } ∷ []) act.now) }
-        ensures back { IfOk result (λ n. board_back n self.new ≡ self.old) }
+        ensures back { IfOk result (λ n. taken_back n self.new ≡ self.old) }
         ensures err { OnErr result (self.new ≡ self.old) }
     {
         let trees = script.trees();
@@ -190,7 +190,7 @@ impl Board {
     fn note_act(&mut self, trees: &[Tree], node: ActorNo, act: &Act) -> Result<Noted, NoMemory>
         ensures noted { OnOk result (IsNoted trees.now node.0 act.now self.old self.new) }
         ensures closed { IfOk result (λ n. n.closed ≡ closed_by trees.now self.new.trees act.now) }
-        ensures back { IfOk result (λ n. board_back n self.new ≡ self.old) }
+        ensures back { IfOk result (λ n. taken_back n self.new ≡ self.old) }
         ensures err { OnErr result (self.new ≡ self.old) }
     {
         let told = note_tree(&mut self.trees, &mut self.pending, trees, node, act)?;
@@ -213,7 +213,7 @@ impl Board {
     /// Takes back an act that was noted, if all that was noted after it has been taken back: then the Board is what it was
     /// before.
     pub fn undo(&mut self, noted: Noted)
-        ensures { self.new ≡ board_back noted self.old }
+        ensures { self.new ≡ taken_back noted self.old }
     {
         put_numbers(&mut self.nodes, noted.node, noted.numbers);
         take_back(&mut self.trees, &mut self.pending, noted.told);
@@ -221,7 +221,8 @@ impl Board {
         self.finished = noted.finished;
     }
 
-    /// Gives room back that the counts of whole trees take. An act that was noted before isn't taken back after it.
+    /// Drops the counts of versions in which every tree is whole, so that there are few. An act that was noted before it
+    /// can't be taken back any more, so it is called between entries.
     pub fn settle(&mut self)
         ensures { (s : ScriptData) (xs : List Place) → IsBoardOf s xs self.old → IsBoardOf s xs self.new }
     {

@@ -1,7 +1,5 @@
 // The gates of a script's rows.
 ghost use Rattle.std.specs.Prelude.{◌≡◌, IfOk, slice_get};
-ghost use Rattle.script_parts.specs.Counts.{is_advance};
-ghost use Rattle.board_tallies.specs.GateRows.{AreGatesFor, is_tree_row};
 ghost use Rattle.board_tallies.specs.inside.Keeping.{gate_to};
 
 use std::alloc::Global;

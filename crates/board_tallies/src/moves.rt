@@ -1,8 +1,8 @@
 // Whether an act may come, by the tallies.
-ghost use Rattle.std.specs.Prelude.{◌≡◌, ◌+◌, ◌==◌, length, nat_le, nat_lt, slice_get};
+ghost use Rattle.std.specs.Prelude.{◌≡◌, ◌+◌, ◌==◌, nat_le, nat_lt, slice_get};
 ghost use Rattle.std.specs.List.{list_all};
 ghost use Rattle.board_tallies.specs.declared.numbers.Numbers.{Numbers};
-ghost use Rattle.board_tallies.specs.inside.May.{are_apart, had_turn, may_be_applied, may_bear, may_begin, may_by_node, may_by_tree, may_decide, may_do, may_free, may_show, may_sweep, may_turn, may_vote, may_wait, may_with, runs_at, takes_version, tree_of};
+ghost use Rattle.board_tallies.specs.inside.May.{are_apart, takes_turn, may_apply_at, may_bear, may_begin, may_by_node, may_by_tree, may_decide, may_do, may_free, may_show, may_sweep, may_turn, may_vote, may_wait, may_with, runs_at, takes_version, tree_of};
 
 use crate::numbers::{Numbers, numbers_at};
 use crate::pending::{Pending, none_to};
@@ -86,7 +86,7 @@ fn may_by_tree(tree: &Tree, state: &TreeState, numbers: Numbers, node: ActorNo, 
         } => may_vote(tree, state, node, *sub),
         Act::Freed { tree: _ } => may_free(tree, state, node),
         Act::Decided { tree: _, commit } => may_decide(tree, state, node, *commit),
-        Act::Applied { tree: _, commit } => may_be_applied(tree, state, node, *commit),
+        Act::Applied { tree: _, commit } => may_apply_at(tree, state, node, *commit),
         _ => false,
     }
 }
@@ -138,7 +138,7 @@ fn may_do(tree: &Tree, state: &TreeState, node: ActorNo, sub: SubNo, given: &Val
 {
     !is_strict(tree.kind)
         && state.born.is_some()
-        && had_turn(tree.subs.items(), &state.done, sub, node)
+        && takes_turn(tree.subs.items(), &state.done, sub, node)
         && (!is_update(tree.kind) || given.items().is_empty())
 }
 
@@ -148,7 +148,7 @@ fn may_vote(tree: &Tree, state: &TreeState, node: ActorNo, sub: SubNo) -> bool
 {
     is_strict(tree.kind)
         && state.born.is_some()
-        && had_turn(tree.subs.items(), &state.voted, sub, node)
+        && takes_turn(tree.subs.items(), &state.voted, sub, node)
 }
 
 // Whether the tree's marks may be freed.
@@ -174,8 +174,8 @@ fn may_decide(tree: &Tree, state: &TreeState, node: ActorNo, commit: bool) -> bo
 }
 
 // Whether what was decided may be applied.
-fn may_be_applied(tree: &Tree, state: &TreeState, node: ActorNo, commit: bool) -> bool
-    ensures { result ≡ may_be_applied tree.now state.now node.0 commit }
+fn may_apply_at(tree: &Tree, state: &TreeState, node: ActorNo, commit: bool) -> bool
+    ensures { result ≡ may_apply_at tree.now state.now node.0 commit }
 {
     is_strict(tree.kind)
         && visits(tree.subs.items(), NodeNo(node.0))
@@ -198,8 +198,8 @@ fn runs_at(subs: &[Sub], sub: SubNo, node: ActorNo) -> bool
 }
 
 // Whether the subtransaction is there, at the node, and may have its turn, where these have had it.
-fn had_turn(subs: &[Sub], had: &[bool], sub: SubNo, node: ActorNo) -> bool
-    ensures { result ≡ had_turn subs.now had.now sub.0 node.0 }
+fn takes_turn(subs: &[Sub], had: &[bool], sub: SubNo, node: ActorNo) -> bool
+    ensures { result ≡ takes_turn subs.now had.now sub.0 node.0 }
 {
     let Some(one) = subs.get(sub.0 as usize) else {
         return false;

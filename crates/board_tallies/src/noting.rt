@@ -1,5 +1,5 @@
 // What an act makes of the states of trees, and of the counts of those that aren't whole.
-ghost use Rattle.std.specs.Prelude.{if◌then◌else◌, ◌≡◌, ◌≤◌, ◌<◌, ◌==◌, ◌&&◌, ◌||◌, ℕ, Bool, length, IfOk, IsTrue, None, OnErr, OnOk, Some, false};
+ghost use Rattle.std.specs.Prelude.{if◌then◌else◌, ◌≡◌, ◌<◌, ◌&&◌, ◌||◌, length, IfOk, None, OnErr, OnOk, Some};
 ghost use Rattle.board_rules.specs.Right.{finishes};
 ghost use Rattle.script_parts.specs.ScriptData.{is_strict, is_update};
 ghost use Rattle.board_tallies.specs.Board.{AreCounted, state_at, whole_at};

@@ -1,8 +1,8 @@
 // What is known of each tree.
-ghost use Rattle.std.specs.Prelude.{◌≡◌, ◌||◌, false, get_or, length, slice_set};
+ghost use Rattle.std.specs.Prelude.{◌≡◌, ◌||◌, false, get_or, slice_set};
 ghost use Rattle.board_tallies.specs.Board.{first_state, is_through, is_whole_by, marked_for, marked_to, pending_version, state_at, whole_at};
 ghost use Rattle.board_tallies.specs.TakenBack.{state_back};
-ghost use Rattle.board_tallies.specs.inside.Marks.{marks_kept};
+ghost use Rattle.board_tallies.specs.inside.Marks.{marked_as};
 ghost use Rattle.board_tallies.specs.inside.Noting.{is_yes, news_by, state_was, state_with};
 
 use letter_types::{Act, Vote};
@@ -177,18 +177,18 @@ fn put(marks: &mut [bool], place: usize, marked: bool)
 // Whether the tree of this place has this mark.
 #[tactic(auto, using(crate::proofs::Marks::mark_beyond))]
 pub(crate) fn marked_at(states: &[TreeState], tree: TreeNo, of: Marked, place: usize) -> bool
-    ensures { result ≡ get_or (marks_kept of (state_at states.now tree.0)) place false }
+    ensures { result ≡ get_or (marked_as of (state_at states.now tree.0)) place false }
 {
     let at = tree.0 as usize;
     if at >= states.len() {
         return false;
     }
-    is_marked(marks_kept(&states[at], of), place)
+    is_marked(marked_as(&states[at], of), place)
 }
 
 // The marks of a state.
-fn marks_kept(state: &TreeState, of: Marked) -> &[bool]
-    ensures { result.now ≡ marks_kept of state.now }
+fn marked_as(state: &TreeState, of: Marked) -> &[bool]
+    ensures { result.now ≡ marked_as of state.now }
 {
     match of {
         Marked::Done => &state.done,

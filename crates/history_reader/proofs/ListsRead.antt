@@ -18,7 +18,7 @@ use Rattle.tx_trees.specs.Valid.{IsValid}
 use Rattle.tx_trees.specs.declared.parts.Tree.{Tree}
 use Rattle.tx_trees.specs.declared.parts.TreeKind.{TreeKind}
 use Rattle.history_text.specs.Printable.{AreGot, HasStrictness, IsCause, IsAnswer, IsNotice, IsRow, IsTreeOf, IsVote}
-use Rattle.history_words.specs.Exact.{IsReadExactly}
+use Rattle.history_words.specs.Exact.{IsReadBack}
 use Rattle.history_words.specs.Words.{HasTree, cause_words, got_words, name_of_tree}
 use Rattle.history_words.proofs.OneToOne.{tree_one}
 use Rattle.history_reader.specs.inside.BodyWords.{IsAnswerRead, IsNoticeRead, answer_words, notice_words, number_words, vote_words, whole_words}
@@ -68,7 +68,7 @@ notice_there s t (notices.Did vs) may = there_of s.trees t false may.0
 notice_there s t (notices.Yes vs) may = there_of s.trees t true may.0
 notice_there s t (notices.No cause) may = there_of s.trees t true may.0
 
-pub notice_named : (s : ScriptData) (u : TreeNo) (seen : List (List ℕ)) (r : Option Notice) → IsValid s → HasTree s u → IsReadExactly (notice_words s) (IsNotice s u.0) seen r → IsNoticeRead s u seen r
+pub notice_named : (s : ScriptData) (u : TreeNo) (seen : List (List ℕ)) (r : Option Notice) → IsValid s → HasTree s u → IsReadBack (notice_words s) (IsNotice s u.0) seen r → IsNoticeRead s u seen r
 notice_named s u seen (Some n) valid there exact = exact
 notice_named s u seen None valid there exact = λ t n same is may. by t n same is may
   where
@@ -113,7 +113,7 @@ pub answer_there : (s : ScriptData) (t : ℕ) (a : Answer) → IsAnswer s t a �
 answer_there s t (answers.Whole vs) may = may.0
 answer_there s t (answers.Aborted cause) may = there_of s.trees t true may.0
 
-pub answer_named : (s : ScriptData) (u : TreeNo) (seen : List (List ℕ)) (r : Option Answer) → IsValid s → HasTree s u → IsReadExactly (answer_words s u.0) (IsAnswer s u.0) seen r → IsAnswerRead s u seen r
+pub answer_named : (s : ScriptData) (u : TreeNo) (seen : List (List ℕ)) (r : Option Answer) → IsValid s → HasTree s u → IsReadBack (answer_words s u.0) (IsAnswer s u.0) seen r → IsAnswerRead s u seen r
 answer_named s u seen (Some a) valid there exact = exact
 answer_named s u seen None valid there exact = λ t a same is may. by t a same is may
   where

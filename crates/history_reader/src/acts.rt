@@ -1,7 +1,7 @@
 // What actors do.
 ghost use Rattle.std.specs.Prelude.{◌≡◌, ◌∷◌, codes, IfOk};
 ghost use Rattle.history_text.specs.Printable.{IsAct};
-ghost use Rattle.history_words.specs.Exact.{IsReadExactly};
+ghost use Rattle.history_words.specs.Exact.{IsReadBack};
 ghost use Rattle.history_reader.specs.inside.ActWords.{act_words};
 
 use crate::nexts::{
@@ -20,7 +20,7 @@ pub(crate) fn read_act(
     script: &Script,
     words: &mut Parts,
 ) -> Result<Option<Act>, NoMemory>
-    ensures { IfOk result (λ read. IsReadExactly (act_words script.now) (IsAct script.now) words.old read) }
+    ensures { IfOk result (λ read. IsReadBack (act_words script.now) (IsAct script.now) words.old read) }
 {
     let Some(word) = words.next() else {
         return Ok(None);
@@ -35,7 +35,7 @@ pub(crate) fn read_act(
 }
 
 fn read_did(alloc: Global, script: &Script, words: &mut Parts) -> Result<Option<Act>, NoMemory>
-    ensures { IfOk result (λ read. IsReadExactly (act_words script.now) (IsAct script.now) (codes "did" ∷ words.old) read) }
+    ensures { IfOk result (λ read. IsReadBack (act_words script.now) (IsAct script.now) (codes "did" ∷ words.old) read) }
 {
     let Some((tree, sub)) = next_sub(script, words) else {
         return Ok(None);
@@ -47,7 +47,7 @@ fn read_did(alloc: Global, script: &Script, words: &mut Parts) -> Result<Option<
 }
 
 fn read_voted(alloc: Global, script: &Script, words: &mut Parts) -> Result<Option<Act>, NoMemory>
-    ensures { IfOk result (λ read. IsReadExactly (act_words script.now) (IsAct script.now) (codes "voted" ∷ words.old) read) }
+    ensures { IfOk result (λ read. IsReadBack (act_words script.now) (IsAct script.now) (codes "voted" ∷ words.old) read) }
 {
     let Some((tree, sub)) = next_sub(script, words) else {
         return Ok(None);
@@ -60,7 +60,7 @@ fn read_voted(alloc: Global, script: &Script, words: &mut Parts) -> Result<Optio
 }
 
 fn read_born(script: &Script, words: &mut Parts) -> Option<Act>
-    ensures { IsReadExactly (act_words script.now) (IsAct script.now) (codes "born" ∷ words.old) result }
+    ensures { IsReadBack (act_words script.now) (IsAct script.now) (codes "born" ∷ words.old) result }
 {
     let tree = next_tree(script, words)?;
     let version = next_version(words)?;
@@ -69,7 +69,7 @@ fn read_born(script: &Script, words: &mut Parts) -> Option<Act>
 }
 
 fn read_turned(script: &Script, words: &mut Parts) -> Option<Act>
-    ensures { IsReadExactly (act_words script.now) (IsAct script.now) (codes "turned" ∷ words.old) result }
+    ensures { IsReadBack (act_words script.now) (IsAct script.now) (codes "turned" ∷ words.old) result }
 {
     let version = Version(next_number(words)?);
     words.end()?;
@@ -77,7 +77,7 @@ fn read_turned(script: &Script, words: &mut Parts) -> Option<Act>
 }
 
 fn read_showed(script: &Script, words: &mut Parts) -> Option<Act>
-    ensures { IsReadExactly (act_words script.now) (IsAct script.now) (codes "showed" ∷ words.old) result }
+    ensures { IsReadBack (act_words script.now) (IsAct script.now) (codes "showed" ∷ words.old) result }
 {
     let version = Version(next_number(words)?);
     words.end()?;
@@ -85,7 +85,7 @@ fn read_showed(script: &Script, words: &mut Parts) -> Option<Act>
 }
 
 fn read_swept(script: &Script, words: &mut Parts) -> Option<Act>
-    ensures { IsReadExactly (act_words script.now) (IsAct script.now) (codes "swept" ∷ words.old) result }
+    ensures { IsReadBack (act_words script.now) (IsAct script.now) (codes "swept" ∷ words.old) result }
 {
     let version = Version(next_number(words)?);
     words.end()?;
@@ -93,7 +93,7 @@ fn read_swept(script: &Script, words: &mut Parts) -> Option<Act>
 }
 
 fn read_waits(script: &Script, words: &mut Parts) -> Option<Act>
-    ensures { IsReadExactly (act_words script.now) (IsAct script.now) (codes "waits" ∷ words.old) result }
+    ensures { IsReadBack (act_words script.now) (IsAct script.now) (codes "waits" ∷ words.old) result }
 {
     let tree = next_tree(script, words)?;
     let update = Version(number_behind(words, b"update")?);
@@ -103,7 +103,7 @@ fn read_waits(script: &Script, words: &mut Parts) -> Option<Act>
 }
 
 fn read_parked(script: &Script, words: &mut Parts) -> Option<Act>
-    ensures { IsReadExactly (act_words script.now) (IsAct script.now) (codes "parked" ∷ words.old) result }
+    ensures { IsReadBack (act_words script.now) (IsAct script.now) (codes "parked" ∷ words.old) result }
 {
     let (tree, sub) = next_sub(script, words)?;
     let item = next_item(script, words)?;
@@ -120,7 +120,7 @@ fn read_parked(script: &Script, words: &mut Parts) -> Option<Act>
 }
 
 fn read_freed(script: &Script, words: &mut Parts) -> Option<Act>
-    ensures { IsReadExactly (act_words script.now) (IsAct script.now) (codes "freed" ∷ words.old) result }
+    ensures { IsReadBack (act_words script.now) (IsAct script.now) (codes "freed" ∷ words.old) result }
 {
     let tree = next_tree(script, words)?;
     words.end()?;
@@ -128,7 +128,7 @@ fn read_freed(script: &Script, words: &mut Parts) -> Option<Act>
 }
 
 fn read_decided(script: &Script, words: &mut Parts) -> Option<Act>
-    ensures { IsReadExactly (act_words script.now) (IsAct script.now) (codes "decided" ∷ words.old) result }
+    ensures { IsReadBack (act_words script.now) (IsAct script.now) (codes "decided" ∷ words.old) result }
 {
     let tree = next_tree(script, words)?;
     let commit = next_commit(words)?;
@@ -137,7 +137,7 @@ fn read_decided(script: &Script, words: &mut Parts) -> Option<Act>
 }
 
 fn read_applied(script: &Script, words: &mut Parts) -> Option<Act>
-    ensures { IsReadExactly (act_words script.now) (IsAct script.now) (codes "applied" ∷ words.old) result }
+    ensures { IsReadBack (act_words script.now) (IsAct script.now) (codes "applied" ∷ words.old) result }
 {
     let tree = next_tree(script, words)?;
     let commit = next_commit(words)?;
@@ -146,7 +146,7 @@ fn read_applied(script: &Script, words: &mut Parts) -> Option<Act>
 }
 
 fn read_finished(script: &Script, words: &mut Parts) -> Option<Act>
-    ensures { IsReadExactly (act_words script.now) (IsAct script.now) (codes "finished" ∷ words.old) result }
+    ensures { IsReadBack (act_words script.now) (IsAct script.now) (codes "finished" ∷ words.old) result }
 {
     words.end()?;
     Some(Act::Finished)
@@ -156,7 +156,7 @@ fn read_finished(script: &Script, words: &mut Parts) -> Option<Act>
 fn plain_act(script: &Script, word: &[u8], words: &mut Parts) -> Option<Act>
     requires did { word.now ≡ codes "did" → ⊥ }
     requires voted { word.now ≡ codes "voted" → ⊥ }
-    ensures { IsReadExactly (act_words script.now) (IsAct script.now) (word.now ∷ words.old) result }
+    ensures { IsReadBack (act_words script.now) (IsAct script.now) (word.now ∷ words.old) result }
 {
     if word == b"born".as_slice() {
         return read_born(script, words);

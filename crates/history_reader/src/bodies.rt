@@ -1,7 +1,7 @@
 // What letters say.
 ghost use Rattle.std.specs.Prelude.{◌∷◌, codes, IfOk};
 ghost use Rattle.history_text.specs.Printable.{IsBody};
-ghost use Rattle.history_words.specs.Exact.{IsReadExactly};
+ghost use Rattle.history_words.specs.Exact.{IsReadBack};
 ghost use Rattle.history_reader.specs.inside.BodyWords.{body_words};
 
 use crate::letters::tree_letter;
@@ -19,7 +19,7 @@ pub(crate) fn read_body(
     script: &Script,
     words: &mut Parts,
 ) -> Result<Option<Body>, NoMemory>
-    ensures { IfOk result (λ read. IsReadExactly (body_words script.now) (IsBody script.now) words.old read) }
+    ensures { IfOk result (λ read. IsReadBack (body_words script.now) (IsBody script.now) words.old read) }
 {
     let Some(word) = words.next() else {
         return Ok(None);
@@ -40,7 +40,7 @@ pub(crate) fn read_body(
 }
 
 fn read_done(alloc: Global, script: &Script, words: &mut Parts) -> Result<Option<Body>, NoMemory>
-    ensures { IfOk result (λ read. IsReadExactly (body_words script.now) (IsBody script.now) (codes "done" ∷ words.old) read) }
+    ensures { IfOk result (λ read. IsReadBack (body_words script.now) (IsBody script.now) (codes "done" ∷ words.old) read) }
 {
     let Some((tree, sub)) = next_sub(script, words) else {
         return Ok(None);
@@ -60,7 +60,7 @@ fn read_done(alloc: Global, script: &Script, words: &mut Parts) -> Result<Option
 }
 
 fn read_reply(alloc: Global, script: &Script, words: &mut Parts) -> Result<Option<Body>, NoMemory>
-    ensures { IfOk result (λ read. IsReadExactly (body_words script.now) (IsBody script.now) (codes "reply" ∷ words.old) read) }
+    ensures { IfOk result (λ read. IsReadBack (body_words script.now) (IsBody script.now) (codes "reply" ∷ words.old) read) }
 {
     let Some(tree) = next_tree(script, words) else {
         return Ok(None);
@@ -79,7 +79,7 @@ fn read_reply(alloc: Global, script: &Script, words: &mut Parts) -> Result<Optio
 }
 
 fn read_donerow(alloc: Global, script: &Script, words: &mut Parts) -> Result<Option<Body>, NoMemory>
-    ensures { IfOk result (λ read. IsReadExactly (body_words script.now) (IsBody script.now) (codes "donerow" ∷ words.old) read) }
+    ensures { IfOk result (λ read. IsReadBack (body_words script.now) (IsBody script.now) (codes "donerow" ∷ words.old) read) }
 {
     let Some((version, round)) = next_round(words) else {
         return Ok(None);
@@ -99,7 +99,7 @@ fn read_askedrow(
     script: &Script,
     words: &mut Parts,
 ) -> Result<Option<Body>, NoMemory>
-    ensures { IfOk result (λ read. IsReadExactly (body_words script.now) (IsBody script.now) (codes "askedrow" ∷ words.old) read) }
+    ensures { IfOk result (λ read. IsReadBack (body_words script.now) (IsBody script.now) (codes "askedrow" ∷ words.old) read) }
 {
     let Some((version, round)) = next_round(words) else {
         return Ok(None);

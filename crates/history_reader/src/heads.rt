@@ -1,7 +1,7 @@
 // The line that begins an entry, and the lines of letters and acts.
 ghost use Rattle.std.specs.Prelude.{◌≡◌, IfOk};
 ghost use Rattle.history_text.specs.Printable.{IsAct, IsSent};
-ghost use Rattle.history_words.specs.Exact.{IsReadExactly};
+ghost use Rattle.history_words.specs.Exact.{IsReadBack};
 ghost use Rattle.history_words.specs.Parts.{parts_at};
 ghost use Rattle.history_words.specs.Words.{HasActor, name_of_actor};
 ghost use Rattle.history_reader.specs.inside.Heads.{IsHead, IsId, act_line_words, head_words, id_word, last_id_words, sent_words};
@@ -26,7 +26,7 @@ pub(crate) struct Head {
 
 // The line that begins an entry.
 pub(crate) fn read_head(script: &Script, line: &[u8]) -> Option<Head>
-    ensures { IsReadExactly (head_words script.now) (IsHead script.now) (parts_at 32 line.now) result }
+    ensures { IsReadBack (head_words script.now) (IsHead script.now) (parts_at 32 line.now) result }
 {
     let mut words = Parts::new(line, b' ');
     next_word(&mut words, b"entry")?;
@@ -50,7 +50,7 @@ fn next_actor(script: &Script, words: &mut Parts) -> Option<ActorNo>
 
 // The id that is left.
 fn last_id(words: &mut Parts) -> Option<LetterId>
-    ensures { IsReadExactly last_id_words IsId words.old result }
+    ensures { IsReadBack last_id_words IsId words.old result }
 {
     let word = words.last_one()?;
     read_id(word)
@@ -59,7 +59,7 @@ fn last_id(words: &mut Parts) -> Option<LetterId>
 // A stamp and a place, with a dot between them.
 #[tactic(auto, using(crate::proofs::IdsRead::no_stamp, crate::proofs::IdsRead::no_place))]
 fn read_id(word: &[u8]) -> Option<LetterId>
-    ensures { IsReadExactly id_word IsId word.now result }
+    ensures { IsReadBack id_word IsId word.now result }
 {
     let (stamp, place) = cut(word, b'.')?;
     let Some(number) = read_number(stamp) else {
@@ -78,7 +78,7 @@ pub(crate) fn read_sent(
     script: &Script,
     line: &[u8],
 ) -> Result<Option<Outgoing>, NoMemory>
-    ensures { IfOk result (λ read. IsReadExactly (sent_words script.now) (IsSent script.now) (parts_at 32 line.now) read) }
+    ensures { IfOk result (λ read. IsReadBack (sent_words script.now) (IsSent script.now) (parts_at 32 line.now) read) }
 {
     let mut words = Parts::new(line, b' ');
     if next_word(&mut words, b"sent").is_none() {
@@ -99,7 +99,7 @@ pub(crate) fn read_act_line(
     script: &Script,
     line: &[u8],
 ) -> Result<Option<Act>, NoMemory>
-    ensures { IfOk result (λ read. IsReadExactly (act_line_words script.now) (IsAct script.now) (parts_at 32 line.now) read) }
+    ensures { IfOk result (λ read. IsReadBack (act_line_words script.now) (IsAct script.now) (parts_at 32 line.now) read) }
 {
     let mut words = Parts::new(line, b' ');
     if next_word(&mut words, b"act").is_none() {

@@ -1,7 +1,7 @@
 // Letters without lists, by their heads.
 ghost use Rattle.std.specs.Prelude.{◌∷◌, [], codes, decimal};
 ghost use Rattle.history_text.specs.Printable.{IsBody};
-ghost use Rattle.history_words.specs.Exact.{IsReadExactly};
+ghost use Rattle.history_words.specs.Exact.{IsReadBack};
 ghost use Rattle.history_reader.specs.inside.BodyWords.{IsReadFrom, body_words};
 
 use crate::nexts::{
@@ -14,7 +14,7 @@ use tv_base::Version;
 use tx_trees::Script;
 
 fn read_root(script: &Script, words: &mut Parts) -> Option<Body>
-    ensures { IsReadExactly (body_words script.now) (IsBody script.now) (codes "root" ∷ words.old) result }
+    ensures { IsReadBack (body_words script.now) (IsBody script.now) (codes "root" ∷ words.old) result }
 {
     let tree = next_tree(script, words)?;
     words.end()?;
@@ -22,7 +22,7 @@ fn read_root(script: &Script, words: &mut Parts) -> Option<Body>
 }
 
 fn read_sub(script: &Script, words: &mut Parts) -> Option<Body>
-    ensures { IsReadExactly (body_words script.now) (IsBody script.now) (codes "sub" ∷ words.old) result }
+    ensures { IsReadBack (body_words script.now) (IsBody script.now) (codes "sub" ∷ words.old) result }
 {
     let (tree, sub) = next_sub(script, words)?;
     let version = next_version(words)?;
@@ -31,7 +31,7 @@ fn read_sub(script: &Script, words: &mut Parts) -> Option<Body>
 }
 
 fn read_wake(script: &Script, words: &mut Parts) -> Option<Body>
-    ensures { IsReadExactly (body_words script.now) (IsBody script.now) (codes "wake" ∷ words.old) result }
+    ensures { IsReadBack (body_words script.now) (IsBody script.now) (codes "wake" ∷ words.old) result }
 {
     let (tree, sub) = next_sub(script, words)?;
     words.end()?;
@@ -39,7 +39,7 @@ fn read_wake(script: &Script, words: &mut Parts) -> Option<Body>
 }
 
 fn read_release(script: &Script, words: &mut Parts) -> Option<Body>
-    ensures { IsReadExactly (body_words script.now) (IsBody script.now) (codes "release" ∷ words.old) result }
+    ensures { IsReadBack (body_words script.now) (IsBody script.now) (codes "release" ∷ words.old) result }
 {
     let tree = next_tree(script, words)?;
     words.end()?;
@@ -47,7 +47,7 @@ fn read_release(script: &Script, words: &mut Parts) -> Option<Body>
 }
 
 fn read_decide(script: &Script, words: &mut Parts) -> Option<Body>
-    ensures { IsReadExactly (body_words script.now) (IsBody script.now) (codes "decide" ∷ words.old) result }
+    ensures { IsReadBack (body_words script.now) (IsBody script.now) (codes "decide" ∷ words.old) result }
 {
     let tree = next_tree(script, words)?;
     let version = next_version(words)?;
@@ -61,7 +61,7 @@ fn read_decide(script: &Script, words: &mut Parts) -> Option<Body>
 }
 
 fn read_decided(script: &Script, words: &mut Parts) -> Option<Body>
-    ensures { IsReadExactly (body_words script.now) (IsBody script.now) (codes "decided" ∷ words.old) result }
+    ensures { IsReadBack (body_words script.now) (IsBody script.now) (codes "decided" ∷ words.old) result }
 {
     let tree = next_tree(script, words)?;
     let version = next_version(words)?;
@@ -70,21 +70,21 @@ fn read_decided(script: &Script, words: &mut Parts) -> Option<Body>
 }
 
 fn read_nudge(script: &Script, words: &mut Parts) -> Option<Body>
-    ensures { IsReadExactly (body_words script.now) (IsBody script.now) (codes "nudge" ∷ words.old) result }
+    ensures { IsReadBack (body_words script.now) (IsBody script.now) (codes "nudge" ∷ words.old) result }
 {
     words.end()?;
     Some(Body::Nudge)
 }
 
 fn read_lose(script: &Script, words: &mut Parts) -> Option<Body>
-    ensures { IsReadExactly (body_words script.now) (IsBody script.now) (codes "lose" ∷ words.old) result }
+    ensures { IsReadBack (body_words script.now) (IsBody script.now) (codes "lose" ∷ words.old) result }
 {
     words.end()?;
     Some(Body::Lose)
 }
 
 fn read_askdone(script: &Script, words: &mut Parts) -> Option<Body>
-    ensures { IsReadExactly (body_words script.now) (IsBody script.now) (codes "askdone" ∷ words.old) result }
+    ensures { IsReadBack (body_words script.now) (IsBody script.now) (codes "askdone" ∷ words.old) result }
 {
     let version = Version(next_number(words)?);
     let round = number_behind(words, b"round")?;
@@ -93,7 +93,7 @@ fn read_askdone(script: &Script, words: &mut Parts) -> Option<Body>
 }
 
 fn read_askasked(script: &Script, words: &mut Parts) -> Option<Body>
-    ensures { IsReadExactly (body_words script.now) (IsBody script.now) (codes "askasked" ∷ words.old) result }
+    ensures { IsReadBack (body_words script.now) (IsBody script.now) (codes "askasked" ∷ words.old) result }
 {
     let version = Version(next_number(words)?);
     let round = number_behind(words, b"round")?;
@@ -102,7 +102,7 @@ fn read_askasked(script: &Script, words: &mut Parts) -> Option<Body>
 }
 
 fn read_numbers(script: &Script, words: &mut Parts) -> Option<Body>
-    ensures { IsReadExactly (body_words script.now) (IsBody script.now) (codes "numbers" ∷ words.old) result }
+    ensures { IsReadBack (body_words script.now) (IsBody script.now) (codes "numbers" ∷ words.old) result }
 {
     let epoch = next_number(words)?;
     let update = Version(number_behind(words, b"update")?);
@@ -118,7 +118,7 @@ fn read_numbers(script: &Script, words: &mut Parts) -> Option<Body>
 }
 
 fn read_wanted(script: &Script, words: &mut Parts) -> Option<Body>
-    ensures { IsReadExactly (body_words script.now) (IsBody script.now) (codes "wanted" ∷ words.old) result }
+    ensures { IsReadBack (body_words script.now) (IsBody script.now) (codes "wanted" ∷ words.old) result }
 {
     let epoch = next_number(words)?;
     let advances = next_half(words)?;
@@ -127,7 +127,7 @@ fn read_wanted(script: &Script, words: &mut Parts) -> Option<Body>
 }
 
 fn read_order(script: &Script, words: &mut Parts) -> Option<Body>
-    ensures { IsReadExactly (body_words script.now) (IsBody script.now) (codes "order" ∷ words.old) result }
+    ensures { IsReadBack (body_words script.now) (IsBody script.now) (codes "order" ∷ words.old) result }
 {
     let (epoch, what, version) = last_order(words)?;
     Some(Body::Order {
@@ -138,7 +138,7 @@ fn read_order(script: &Script, words: &mut Parts) -> Option<Body>
 }
 
 fn read_obeyed(script: &Script, words: &mut Parts) -> Option<Body>
-    ensures { IsReadExactly (body_words script.now) (IsBody script.now) (codes "obeyed" ∷ words.old) result }
+    ensures { IsReadBack (body_words script.now) (IsBody script.now) (codes "obeyed" ∷ words.old) result }
 {
     let (epoch, what, version) = last_order(words)?;
     Some(Body::Obeyed {
@@ -150,7 +150,7 @@ fn read_obeyed(script: &Script, words: &mut Parts) -> Option<Body>
 
 // An advancement is asked for, by its number or without.
 fn read_advance(script: &Script, words: &mut Parts) -> Option<Body>
-    ensures { IsReadExactly (body_words script.now) (IsBody script.now) (codes "advance" ∷ words.old) result }
+    ensures { IsReadBack (body_words script.now) (IsBody script.now) (codes "advance" ∷ words.old) result }
 {
     if words.end().is_some() {
         return Some(Body::Advance);

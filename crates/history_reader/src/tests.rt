@@ -26,42 +26,40 @@ fn script(alloc: Global) -> Result<Option<Script>, NoMemory> {
     Ok(Some(script))
 }
 
-// How many bytes the first entry's lines have, its stamp, and how many letters and acts it has.
-fn counts(alloc: Global, text: &[u8]) -> Result<Option<[u64; 4]>, NoMemory> {
+// How many bytes the lines of the entry have that begins at a place of the text, its stamp, and how many letters and
+// acts it has; zeros where there is none.
+fn counts(alloc: Global, text: &[u8], place: usize) -> Result<[usize; 4], NoMemory> {
+    let none = [0; 4];
     let Some(script) = script(alloc)? else {
-        return Ok(None);
+        return Ok(none);
     };
-    let Some(heard) = read_entry(alloc, &script, text)? else {
-        return Ok(None);
+    let Some(left) = text.get(place..) else {
+        return Ok(none);
     };
-    let sent = heard.entry.sent.items().len() as u64;
-    let acts = heard.entry.acts.items().len() as u64;
-    Ok(Some([heard.length as u64, heard.entry.stamp.0, sent, acts]))
+    let Some(heard) = read_entry(alloc, &script, left)? else {
+        return Ok(none);
+    };
+    let sent = heard.entry.sent.items().len();
+    let acts = heard.entry.acts.items().len();
+    Ok([heard.length, heard.entry.stamp.0 as usize, sent, acts])
 }
 
 #[test]
-fn six_entries_are_read_one_after_the_other(rt: HostRuntime) -> Result<(), Fail> {
+fn entries_are_read_one_after_the_other(rt: HostRuntime) -> Result<(), Fail> {
     let alloc = rt.alloc();
-    let mut left = SIX;
-    let mut sums = [0; 4];
-    for _ in 0..6 {
-        let Some([length, stamp, sent, acts]) = counts(alloc, left)? else {
-            return Err("an entry".into());
-        };
-        sums[0] += length;
-        sums[1] += stamp;
-        sums[2] += sent;
-        sums[3] += acts;
-        left = &left[length as usize..];
-    }
-    assert_eq!(rt; sums, [SIX.len() as u64, 21, 5, 4]);
+    assert_eq!(rt; counts(alloc, SIX, 0)?, [39, 1, 1, 0]);
+    assert_eq!(rt; counts(alloc, SIX, 39)?, [79, 2, 1, 2]);
+    assert_eq!(rt; counts(alloc, SIX, 118)?, [59, 3, 1, 1]);
+    assert_eq!(rt; counts(alloc, SIX, 177)?, [50, 4, 1, 0]);
+    assert_eq!(rt; counts(alloc, SIX, 227)?, [60, 5, 1, 1]);
+    assert_eq!(rt; counts(alloc, SIX, 287)?, [29, 6, 0, 0]);
     Ok(())
 }
 
 #[test]
 fn a_leading_zero_is_refused(rt: HostRuntime) -> Result<(), Fail> {
     let alloc = rt.alloc();
-    let read = counts(alloc, b"entry 10 n0 took 9.00\n")?;
-    assert!(rt; read.is_none());
+    let read = counts(alloc, b"entry 10 n0 took 9.00\n", 0)?;
+    assert_eq!(rt; read, [0; 4]);
     Ok(())
 }

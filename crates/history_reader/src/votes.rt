@@ -2,7 +2,7 @@
 ghost use Rattle.std.specs.Prelude.{◌∷◌, true, codes, IfOk, slice_get};
 ghost use Rattle.std.specs.List.{AllByRecursion};
 ghost use Rattle.history_text.specs.Printable.{HasStrictness, IsAnswer, IsNotice, IsRow, IsVote, IsWord};
-ghost use Rattle.history_words.specs.Exact.{IsReadExactly};
+ghost use Rattle.history_words.specs.Exact.{IsReadBack};
 ghost use Rattle.history_words.specs.Words.{HasTree};
 ghost use Rattle.history_reader.specs.inside.BodyWords.{AreLineWords, IsAnswerRead, IsNoticeRead, answer_words, notice_words, number_words, vote_words};
 
@@ -15,7 +15,7 @@ use tx_trees::{Script, TreeKind};
 // Numbers, each of which is one word.
 #[tactic(auto, using(history_words::proofs::Each::each_fails, history_words::proofs::Each::one_more))]
 fn read_numbers(alloc: Global, words: &mut Parts) -> Result<Option<Row>, NoMemory>
-    ensures { IfOk result (λ read. IsReadExactly number_words AreLineWords words.old read) }
+    ensures { IfOk result (λ read. IsReadBack number_words AreLineWords words.old read) }
 {
     let mut row = Row::new(alloc);
     while let Some(word) = words.next() {
@@ -34,7 +34,7 @@ pub(crate) fn read_row(
     script: &Script,
     words: &mut Parts,
 ) -> Result<Option<Row>, NoMemory>
-    ensures { IfOk result (λ read. IsReadExactly number_words (IsRow script.now) words.old read) }
+    ensures { IfOk result (λ read. IsReadBack number_words (IsRow script.now) words.old read) }
 {
     let Some(row) = read_numbers(alloc, words)? else {
         return Ok(None);
@@ -51,7 +51,7 @@ pub(crate) fn read_vote(
     script: &Script,
     words: &mut Parts,
 ) -> Result<Option<Vote>, NoMemory>
-    ensures { IfOk result (λ read. IsReadExactly (vote_words script.now) (IsVote script.now) words.old read) }
+    ensures { IfOk result (λ read. IsReadBack (vote_words script.now) (IsVote script.now) words.old read) }
 {
     let Some(word) = words.next() else {
         return Ok(None);
@@ -66,7 +66,7 @@ pub(crate) fn read_vote(
 }
 
 fn read_yes(alloc: Global, script: &Script, words: &mut Parts) -> Result<Option<Vote>, NoMemory>
-    ensures { IfOk result (λ read. IsReadExactly (vote_words script.now) (IsVote script.now) (codes "yes" ∷ words.old) read) }
+    ensures { IfOk result (λ read. IsReadBack (vote_words script.now) (IsVote script.now) (codes "yes" ∷ words.old) read) }
 {
     let Some(values) = read_values(alloc, script, words)? else {
         return Ok(None);
@@ -75,7 +75,7 @@ fn read_yes(alloc: Global, script: &Script, words: &mut Parts) -> Result<Option<
 }
 
 fn read_no(alloc: Global, script: &Script, words: &mut Parts) -> Result<Option<Vote>, NoMemory>
-    ensures { IfOk result (λ read. IsReadExactly (vote_words script.now) (IsVote script.now) (codes "no" ∷ words.old) read) }
+    ensures { IfOk result (λ read. IsReadBack (vote_words script.now) (IsVote script.now) (codes "no" ∷ words.old) read) }
 {
     let Some(cause) = read_cause(script, words) else {
         return Ok(None);
@@ -105,7 +105,7 @@ fn notice_of(
     words: &mut Parts,
 ) -> Result<Option<Notice>, NoMemory>
     requires { HasTree script.now tree }
-    ensures { IfOk result (λ read. IsReadExactly (notice_words script.now) (IsNotice script.now tree.0) words.old read) }
+    ensures { IfOk result (λ read. IsReadBack (notice_words script.now) (IsNotice script.now tree.0) words.old read) }
 {
     if !is_strict(script, tree) {
         let Some(values) = read_values(alloc, script, words)? else {
@@ -147,7 +147,7 @@ fn answer_of(
     words: &mut Parts,
 ) -> Result<Option<Answer>, NoMemory>
     requires { HasTree script.now tree }
-    ensures { IfOk result (λ read. IsReadExactly (answer_words script.now tree.0) (IsAnswer script.now tree.0) words.old read) }
+    ensures { IfOk result (λ read. IsReadBack (answer_words script.now tree.0) (IsAnswer script.now tree.0) words.old read) }
 {
     if is_strict(script, tree) {
         return strict_answer(alloc, script, tree, words);
@@ -168,7 +168,7 @@ fn strict_answer(
 ) -> Result<Option<Answer>, NoMemory>
     requires there { HasTree script.now tree }
     requires strict { HasStrictness true (slice_get script.now.trees tree.0) }
-    ensures { IfOk result (λ read. IsReadExactly (answer_words script.now tree.0) (IsAnswer script.now tree.0) words.old read) }
+    ensures { IfOk result (λ read. IsReadBack (answer_words script.now tree.0) (IsAnswer script.now tree.0) words.old read) }
 {
     let Some(word) = words.next() else {
         return Ok(None);

@@ -19,7 +19,7 @@ use Rattle.tx_trees.specs.declared.parts.Tree.{Tree}
 use Rattle.tx_trees.proofs.SubsOf.{all_at}
 use Rattle.tx_trees.specs.Found.{tree_place}
 use Rattle.report_text.specs.Names.{item_text, tree_text}
-use Rattle.history_words.specs.Exact.{IsReadExactly}
+use Rattle.history_words.specs.Exact.{IsReadBack}
 use Rattle.history_words.specs.Words.{HasItem, HasTree, name_of_item, name_of_tree}
 
 -- what is at a place that is there
@@ -76,7 +76,7 @@ same_bytes : (xs ys : List ℕ) → xs ≡ ys → bytes_eq xs ys ≡ true
 same_bytes xs ys is = (bytes_eq-Decides xs ys).1 is
 
 -- what is too short or too long for a name names no tree
-pub no_tree_name : (s : ScriptData) (field : List ℕ) (r : Option TreeNo) → r ≡ None → IsValid s → (length field ≡ 0) ⊎ (32 < length field) → IsReadExactly (name_of_tree s) (HasTree s) field r
+pub no_tree_name : (s : ScriptData) (field : List ℕ) (r : Option TreeNo) → r ≡ None → IsValid s → (length field ≡ 0) ⊎ (32 < length field) → IsReadBack (name_of_tree s) (HasTree s) field r
 no_tree_name s field r none valid long = rw none (λ t is may. by t is may)
   where
     by : (t : TreeNo) → field ≡ name_of_tree s t → HasTree s t → ⊥
@@ -86,7 +86,7 @@ no_tree_name s field r none valid long = rw none (λ t is may. by t is may)
         let len : length field ≡ length tree.name = ap length (is ∙ text) in
         omega arith
 
-pub no_item_name : (s : ScriptData) (field : List ℕ) (r : Option ItemNo) → r ≡ None → IsValid s → (length field ≡ 0) ⊎ (32 < length field) → IsReadExactly (name_of_item s) (HasItem s) field r
+pub no_item_name : (s : ScriptData) (field : List ℕ) (r : Option ItemNo) → r ≡ None → IsValid s → (length field ≡ 0) ⊎ (32 < length field) → IsReadBack (name_of_item s) (HasItem s) field r
 no_item_name s field r none valid long = rw none (λ x is may. by x is may)
   where
     by : (x : ItemNo) → field ≡ name_of_item s x → HasItem s x → ⊥
@@ -121,10 +121,10 @@ finds_item s field x found =
     (sym (text ∙ (bytes_eq-Decides row.name field).0 passes), less)
 
 -- so the search is exact
-pub tree_found : (s : ScriptData) (name field : List ℕ) (r : Option TreeNo) → IsValid s → name ≡ field → IfSome r (λ t. tree_place name s.trees ≡ Some t.0) → (IsNone r → tree_place name s.trees ≡ None) → IsReadExactly (name_of_tree s) (HasTree s) field r
+pub tree_found : (s : ScriptData) (name field : List ℕ) (r : Option TreeNo) → IsValid s → name ≡ field → IfSome r (λ t. tree_place name s.trees ≡ Some t.0) → (IsNone r → tree_place name s.trees ≡ None) → IsReadBack (name_of_tree s) (HasTree s) field r
 tree_found s name field (Some t) valid same some none = finds_tree s field t (ap (λ (n : List ℕ). tree_place n s.trees) (sym same) ∙ some)
 tree_found s name field None valid same some none = λ t is may. misses_tree s field t valid (ap (λ (n : List ℕ). tree_place n s.trees) (sym same) ∙ none (search rules)) is may
 
-pub item_found : (s : ScriptData) (name field : List ℕ) (r : Option ItemNo) → IsValid s → name ≡ field → IfSome r (λ x. place_of name s.items ≡ Some x.0) → (IsNone r → place_of name s.items ≡ None) → IsReadExactly (name_of_item s) (HasItem s) field r
+pub item_found : (s : ScriptData) (name field : List ℕ) (r : Option ItemNo) → IsValid s → name ≡ field → IfSome r (λ x. place_of name s.items ≡ Some x.0) → (IsNone r → place_of name s.items ≡ None) → IsReadBack (name_of_item s) (HasItem s) field r
 item_found s name field (Some x) valid same some none = finds_item s field x (ap (λ (n : List ℕ). place_of n s.items) (sym same) ∙ some)
 item_found s name field None valid same some none = λ x is may. misses_item s field x valid (ap (λ (n : List ℕ). place_of n s.items) (sym same) ∙ none (search rules)) is may

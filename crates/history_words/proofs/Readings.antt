@@ -9,7 +9,7 @@ use Rattle.std.proofs.Math.Nat.{pow-le-pow_right}
 use Rattle.tv_base.proofs.Truths.{left_true}
 use Rattle.tv_base.specs.Digits.{decimal_value}
 use Rattle.history_text.specs.Printable.{IsAmount}
-use Rattle.history_words.specs.Exact.{IsReadExactly}
+use Rattle.history_words.specs.Exact.{IsReadBack}
 use Rattle.history_words.specs.Numbers.{IsSize, is_plain_number}
 use Rattle.history_words.proofs.Digits.{decimal_one, prints_plain, spelled}
 use Rattle.history_words.proofs.Sizes.{small_value}
@@ -19,13 +19,13 @@ plain_digits [] plain = refl
 plain_digits (d ∷ ds) plain = left_true (list_all is_ascii_digit (d ∷ ds)) (not (d == 48) || length ds == 0) plain
 
 -- too many bytes are no number of so few digits
-pub too_long : (bytes : List ℕ) (most : ℕ) → 0 < most → most ≤ 31 → most < length bytes → IsReadExactly decimal (λ n. n < 10 ^ most) bytes None
+pub too_long : (bytes : List ℕ) (most : ℕ) → 0 < most → most ≤ 31 → most < length bytes → IsReadBack decimal (λ n. n < 10 ^ most) bytes None
 too_long bytes most some low long n is may =
     let wide = pow-le-pow_right {n = 10} (omega arith) {i = most} {j = 31} low in
     absurd (omega (arith, length-decimal-le_wide most n some may (omega (arith, wide)), ap length is))
 
 -- nor are bytes that are no digits, or have a leading zero
-pub not_plain : (bytes : List ℕ) (most : ℕ) → most ≤ 31 → is_plain_number bytes ≡ false → IsReadExactly decimal (λ n. n < 10 ^ most) bytes None
+pub not_plain : (bytes : List ℕ) (most : ℕ) → most ≤ 31 → is_plain_number bytes ≡ false → IsReadBack decimal (λ n. n < 10 ^ most) bytes None
 not_plain bytes most low plain n is may =
     let wide = pow-le-pow_right {n = 10} (omega arith) {i = most} {j = 31} low in
     let yes : is_plain_number bytes ≡ true = ap is_plain_number is ∙ prints_plain n (omega (arith, wide)) in
@@ -50,7 +50,7 @@ no_minus n digits small is =
     cc
 
 -- what is no size is no amount behind a minus
-pub none_negative : (digits : List ℕ) (r : Option ℤ) → r ≡ None → ((n : ℕ) → digits ≡ decimal n → IsSize n → ⊥) → IsReadExactly signed_decimal IsAmount (45 ∷ digits) r
+pub none_negative : (digits : List ℕ) (r : Option ℤ) → r ≡ None → ((n : ℕ) → digits ≡ decimal n → IsSize n → ⊥) → IsReadBack signed_decimal IsAmount (45 ∷ digits) r
 none_negative digits r none only = rw none (by digits only)
   where
     by : (digits : List ℕ) → ((n : ℕ) → digits ≡ decimal n → IsSize n → ⊥) → (x : ℤ) → 45 ∷ digits ≡ signed_decimal x → IsAmount x → ⊥

@@ -1,7 +1,7 @@
 // Causes of noes and aborts.
 ghost use Rattle.std.specs.Prelude.{◌≡◌, ◌∷◌, []};
 ghost use Rattle.history_text.specs.Printable.{IsCause};
-ghost use Rattle.history_words.specs.Exact.{IsReadExactly};
+ghost use Rattle.history_words.specs.Exact.{IsReadBack};
 ghost use Rattle.history_words.specs.Words.{HasItem, cause_words, name_of_item};
 
 use crate::names::{read_item, read_tree};
@@ -13,7 +13,7 @@ use tx_trees::Script;
 
 /// The cause that these words name.
 pub fn read_cause(script: &Script, words: &mut Parts) -> Option<Cause>
-    ensures { IsReadExactly (cause_words script.now) (IsCause script.now) words.old result }
+    ensures { IsReadBack (cause_words script.now) (IsCause script.now) words.old result }
 {
     let (word, name, last) = words.last_three()?;
     let item = read_item(script, name)?;
@@ -23,7 +23,7 @@ pub fn read_cause(script: &Script, words: &mut Parts) -> Option<Cause>
 // The cause that a word and one more name, on an item.
 fn cause_on(script: &Script, word: &[u8], item: ItemNo, last: &[u8]) -> Option<Cause>
     requires { HasItem script.now item }
-    ensures { IsReadExactly (cause_words script.now) (IsCause script.now) (word.now ∷ name_of_item script.now item ∷ last.now ∷ []) result }
+    ensures { IsReadBack (cause_words script.now) (IsCause script.now) (word.now ∷ name_of_item script.now item ∷ last.now ∷ []) result }
 {
     if word == b"conflict".as_slice() {
         let holder = read_tree(script, last)?;

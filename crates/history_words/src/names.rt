@@ -1,5 +1,5 @@
 // Trees, items and actors by their names.
-ghost use Rattle.history_words.specs.Exact.{IsReadExactly};
+ghost use Rattle.history_words.specs.Exact.{IsReadBack};
 ghost use Rattle.history_words.specs.Words.{HasActor, HasItem, HasTree, name_of_actor, name_of_item, name_of_tree};
 
 use crate::numbers::read_half;
@@ -9,7 +9,7 @@ use tx_trees::Script;
 /// The tree of this name.
 #[tactic(auto, using(crate::proofs::Named::no_tree_name, crate::proofs::Named::tree_found))]
 pub fn read_tree(script: &Script, field: &[u8]) -> Option<TreeNo>
-    ensures { IsReadExactly (name_of_tree script.now) (HasTree script.now) field.now result }
+    ensures { IsReadBack (name_of_tree script.now) (HasTree script.now) field.now result }
 {
     let _trees = script.trees();
     let name = Name::new(field)?;
@@ -19,7 +19,7 @@ pub fn read_tree(script: &Script, field: &[u8]) -> Option<TreeNo>
 /// The item of this name.
 #[tactic(auto, using(crate::proofs::Named::no_item_name, crate::proofs::Named::item_found))]
 pub fn read_item(script: &Script, field: &[u8]) -> Option<ItemNo>
-    ensures { IsReadExactly (name_of_item script.now) (HasItem script.now) field.now result }
+    ensures { IsReadBack (name_of_item script.now) (HasItem script.now) field.now result }
 {
     let _items = script.items();
     let name = Name::new(field)?;
@@ -29,7 +29,7 @@ pub fn read_item(script: &Script, field: &[u8]) -> Option<ItemNo>
 /// The actor that is called so: a node is an `n` and its number.
 #[tactic(auto, using(crate::proofs::Actors::no_node))]
 pub fn read_actor(script: &Script, field: &[u8]) -> Option<ActorNo>
-    ensures { IsReadExactly (name_of_actor script.now) (HasActor script.now) field.now result }
+    ensures { IsReadBack (name_of_actor script.now) (HasActor script.now) field.now result }
 {
     let nodes = script.nodes();
     if field == b"coordinator".as_slice() {

@@ -5,7 +5,7 @@ ghost use Rattle.std.specs.Fmt.{signed_decimal};
 ghost use Rattle.std.specs.List.{list_all};
 ghost use Rattle.tv_base.specs.Digits.{decimal_value};
 ghost use Rattle.history_text.specs.Printable.{IsAmount, IsHalfWord, IsWord};
-ghost use Rattle.history_words.specs.Exact.{IsReadExactly};
+ghost use Rattle.history_words.specs.Exact.{IsReadBack};
 ghost use Rattle.history_words.specs.Numbers.{IsSize, begins_with_minus, is_plain_number};
 
 use commute_ops::{Amount, MOST_AMOUNT};
@@ -20,7 +20,7 @@ const MOST_DIGITS_OF_AMOUNT: usize = 31;
 
 #[tactic(auto, using(crate::proofs::Readings::none_other))]
 pub fn read_number(field: &[u8]) -> Option<u64>
-    ensures { IsReadExactly decimal IsWord field.now result }
+    ensures { IsReadBack decimal IsWord field.now result }
 {
     let number = plain_number(field, MOST_DIGITS)?;
     if number > u64::MAX as u128 {
@@ -32,7 +32,7 @@ pub fn read_number(field: &[u8]) -> Option<u64>
 /// The number of 32 bits whose decimal digits these are.
 #[tactic(auto, using(crate::proofs::Readings::none_other))]
 pub fn read_half(field: &[u8]) -> Option<u32>
-    ensures { IsReadExactly decimal IsHalfWord field.now result }
+    ensures { IsReadBack decimal IsHalfWord field.now result }
 {
     let number = read_number(field)?;
     if number > u32::MAX as u64 {
@@ -43,7 +43,7 @@ pub fn read_half(field: &[u8]) -> Option<u32>
 
 /// The amount whose decimal digits these are, behind a minus if it is negative.
 pub fn read_amount(field: &[u8]) -> Option<Amount>
-    ensures { IsReadExactly signed_decimal IsAmount field.now result }
+    ensures { IsReadBack signed_decimal IsAmount field.now result }
 {
     match field {
         [b'-', digits @ ..] => negative(digits),
@@ -54,7 +54,7 @@ pub fn read_amount(field: &[u8]) -> Option<Amount>
 // The amount below zero of this size.
 #[tactic(auto, using(crate::proofs::Readings::none_negative, crate::proofs::Readings::minus_zero))]
 fn negative(digits: &[u8]) -> Option<Amount>
-    ensures { IsReadExactly signed_decimal IsAmount (45 ∷ digits.now) result }
+    ensures { IsReadBack signed_decimal IsAmount (45 ∷ digits.now) result }
 {
     let size = read_size(digits)?;
     if size == 0 {
@@ -66,7 +66,7 @@ fn negative(digits: &[u8]) -> Option<Amount>
 // The amount of this size.
 fn positive(digits: &[u8]) -> Option<Amount>
     requires { begins_with_minus digits.now ≡ false }
-    ensures { IsReadExactly signed_decimal IsAmount digits.now result }
+    ensures { IsReadBack signed_decimal IsAmount digits.now result }
 {
     let size = read_size(digits)?;
     Some(size as Amount)
@@ -75,7 +75,7 @@ fn positive(digits: &[u8]) -> Option<Amount>
 // The size of an amount.
 #[tactic(auto, using(crate::proofs::Readings::none_other))]
 fn read_size(digits: &[u8]) -> Option<u128>
-    ensures { IsReadExactly decimal IsSize digits.now result }
+    ensures { IsReadBack decimal IsSize digits.now result }
 {
     let number = plain_number(digits, MOST_DIGITS_OF_AMOUNT)?;
     if number > MOST_AMOUNT {
@@ -88,7 +88,7 @@ fn read_size(digits: &[u8]) -> Option<u128>
 #[tactic(auto, using(crate::proofs::Readings::too_long, crate::proofs::Readings::not_plain, crate::proofs::Readings::is_plain, crate::proofs::Readings::plain_digits))]
 fn plain_number(digits: &[u8], most: usize) -> Option<u128>
     requires { (0 < most) × (most ≤ 31) }
-    ensures { IsReadExactly decimal (λ n. n < 10 ^ most) digits.now result }
+    ensures { IsReadBack decimal (λ n. n < 10 ^ most) digits.now result }
 {
     if digits.len() > most {
         return None;

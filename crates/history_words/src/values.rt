@@ -4,7 +4,7 @@ ghost use Rattle.commute_ops.specs.Numbers.{IsAscending};
 ghost use Rattle.report_text.specs.Parts.{bag_text, value_text};
 ghost use Rattle.history_text.specs.Printable.{AreGot, IsGot, IsOfKind};
 ghost use Rattle.tx_trees.specs.Valid.{IsValid};
-ghost use Rattle.history_words.specs.Exact.{IsReadExactly};
+ghost use Rattle.history_words.specs.Exact.{IsReadBack};
 ghost use Rattle.history_words.specs.Words.{AllAmounts, HasItem, IsBag, kind_at, amount_words, got_in_words, got_words};
 ghost use Rattle.history_words.specs.Numbers.{ascending_of};
 
@@ -22,7 +22,7 @@ type Amounts = Seq<Amount, 0xffff_ffff>;
 /// The value of this kind that is printed so. Running out of memory is the only error.
 #[tactic(auto, using(crate::proofs::ByKind::no_sum, crate::proofs::ByKind::no_top, crate::proofs::ByKind::no_bag))]
 pub fn read_value(alloc: Global, kind: Kind, field: &[u8]) -> Result<Option<Value>, NoMemory>
-    ensures { IfOk result (λ read. IsReadExactly value_text (IsOfKind kind) field.now read) }
+    ensures { IfOk result (λ read. IsReadBack value_text (IsOfKind kind) field.now read) }
 {
     match kind {
         Kind::Sum => {
@@ -49,7 +49,7 @@ pub fn read_value(alloc: Global, kind: Kind, field: &[u8]) -> Result<Option<Valu
 // The bag whose numbers are printed so, in braces.
 #[tactic(auto, using(crate::proofs::Bags::not_braced))]
 fn read_bag(alloc: Global, field: &[u8]) -> Result<Option<BagValue>, NoMemory>
-    ensures { IfOk result (λ read. IsReadExactly bag_text IsBag field.now read) }
+    ensures { IfOk result (λ read. IsReadBack bag_text IsBag field.now read) }
 {
     let Some(inner) = in_braces(field) else {
         return Ok(None);
@@ -93,7 +93,7 @@ fn in_braces(field: &[u8]) -> Option<&[u8]>
 // Amounts, each of which is one part.
 #[tactic(auto, using(crate::proofs::Each::each_fails, crate::proofs::Each::one_more))]
 fn read_amounts(alloc: Global, parts: &mut Parts) -> Result<Option<Amounts>, NoMemory>
-    ensures { IfOk result (λ read. IsReadExactly amount_words AllAmounts parts.old read) }
+    ensures { IfOk result (λ read. IsReadBack amount_words AllAmounts parts.old read) }
 {
     let mut numbers = Amounts::new(alloc);
     while let Some(part) = parts.next() {
@@ -132,7 +132,7 @@ fn read_got(
     script: &Script,
     field: &[u8],
 ) -> Result<Option<(ItemNo, Value)>, NoMemory>
-    ensures { IfOk result (λ read. IsReadExactly (got_in_words script.now) (IsGot script.now) field.now read) }
+    ensures { IfOk result (λ read. IsReadBack (got_in_words script.now) (IsGot script.now) field.now read) }
 {
     let _items = script.items();
     let Some((name, text)) = cut(field, b'=') else {
@@ -164,7 +164,7 @@ pub fn read_values(
     script: &Script,
     words: &mut Parts,
 ) -> Result<Option<Values>, NoMemory>
-    ensures { IfOk result (λ read. IsReadExactly (got_words script.now) (AreGot script.now) words.old read) }
+    ensures { IfOk result (λ read. IsReadBack (got_words script.now) (AreGot script.now) words.old read) }
 {
     let mut values = Values::new(alloc);
     while let Some(word) = words.next() {

@@ -4,9 +4,9 @@ use Rattle.board_tallies.specs.declared.states.Marked.{Marked}
 use Rattle.board_tallies.specs.declared.states.Marked.TheVariants as marked
 use Rattle.board_tallies.specs.declared.states.TreeState.{TreeState}
 
-abbrev pub marks_kept : Marked → TreeState → List Bool
-marks_kept marked.Done st = st.done
-marks_kept marked.Voted st = st.voted
-marks_kept marked.Yes st = st.yes
-marks_kept marked.Applied st = st.applied
-marks_kept marked.Freed st = st.freed
+abbrev pub marked_as : Marked → TreeState → List Bool
+marked_as marked.Done st = st.done
+marked_as marked.Voted st = st.voted
+marked_as marked.Yes st = st.yes
+marked_as marked.Applied st = st.applied
+marked_as marked.Freed st = st.freed

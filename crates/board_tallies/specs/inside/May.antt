@@ -22,8 +22,8 @@ abbrev pub runs_at : List Sub → ℕ → ℕ → Bool
 runs_at subs k p = elim (slice_get subs k) [ Some sub ↦ sub.node.0 == p | None ↦ false ]
 
 -- subtransaction k is there, at node p, and may have its turn: it hasn't had it, and it is the root or its parent has
-abbrev pub had_turn : List Sub → List Bool → ℕ → ℕ → Bool
-had_turn subs had k p =
+abbrev pub takes_turn : List Sub → List Bool → ℕ → ℕ → Bool
+takes_turn subs had k p =
     elim (slice_get subs k) [
       | Some sub ↦ (sub.node.0 == p) && ((k == 0) || get_or had sub.parent.0 false) && not (get_or had k false)
       | None ↦ false
@@ -53,11 +53,11 @@ may_wait tree st n p u r =
 
 abbrev pub may_do : Tree → TreeState → ℕ → ℕ → List (ItemNo × Value) → Bool
 may_do tree st p k given =
-    not (is_strict tree.kind) && is_some st.born && had_turn tree.subs st.done k p
+    not (is_strict tree.kind) && is_some st.born && takes_turn tree.subs st.done k p
     && (not (is_update tree.kind) || (length given == 0))
 
 abbrev pub may_vote : Tree → TreeState → ℕ → ℕ → Bool
-may_vote tree st p k = is_strict tree.kind && is_some st.born && had_turn tree.subs st.voted k p
+may_vote tree st p k = is_strict tree.kind && is_some st.born && takes_turn tree.subs st.voted k p
 
 abbrev pub may_free : Tree → TreeState → ℕ → Bool
 may_free tree st p =
@@ -69,8 +69,8 @@ may_decide tree st p commit =
     && not (st.committed || st.aborted)
     && (if commit then marked_to (length tree.subs) st.yes else not (marked_to (length tree.subs) st.yes))
 
-abbrev pub may_be_applied : Tree → TreeState → ℕ → Bool → Bool
-may_be_applied tree st p commit =
+abbrev pub may_apply_at : Tree → TreeState → ℕ → Bool → Bool
+may_apply_at tree st p commit =
     is_strict tree.kind && visits tree.subs p && (if commit then st.committed else st.aborted)
     && not (get_or st.applied p false)
 
@@ -81,7 +81,7 @@ may_by_tree tree st n p (Did t k values) = may_do tree st p k.0 values
 may_by_tree tree st n p (Voted t k vote) = may_vote tree st p k.0
 may_by_tree tree st n p (Freed t) = may_free tree st p
 may_by_tree tree st n p (Decided t commit) = may_decide tree st p commit
-may_by_tree tree st n p (Applied t commit) = may_be_applied tree st p commit
+may_by_tree tree st n p (Applied t commit) = may_apply_at tree st p commit
 may_by_tree tree st n p Finished = false
 may_by_tree tree st n p _ = false
 

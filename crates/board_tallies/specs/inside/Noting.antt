@@ -2,7 +2,6 @@
 use Rattle.std.specs.Prelude.{if◌then◌else◌, ℕ, Bool, true, false, not, ◌&&◌, ◌||◌, ◌≡◌, ◌≤◌, ◌<◌, List, [], length, replicate, IsTrue, Option, Some, None, get_or, slice_set, slice_get}
 use Rattle.std.specs.Option.{option_or, unwrap_or}
 use Rattle.board_rules.specs.Moves.{showed_to, swept_to, turned_to}
-use Rattle.tv_base.specs.declared.numbers.SubNo.{SubNo}
 use Rattle.tv_base.specs.declared.numbers.TreeNo.{TreeNo}
 use Rattle.tv_base.specs.declared.numbers.Version.{Version}
 use Rattle.letter_types.specs.declared.acts.Act.{Act}

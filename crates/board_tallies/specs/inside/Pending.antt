@@ -1,5 +1,5 @@
 -- How many trees are counted, and what one more or less is.
-use Rattle.std.specs.Prelude.{if◌then◌else◌, ℕ, Bool, not, ◌==◌, ◌&&◌, ◌||◌, ◌≡◌, ◌≤◌, nat_lt, filter, List, Option, Some}
+use Rattle.std.specs.Prelude.{if◌then◌else◌, ℕ, Bool, ◌==◌, ◌||◌, ◌≡◌, ◌≤◌, nat_lt, filter, List, Option, Some}
 use Rattle.std.specs.List.{list_all}
 use Rattle.tv_base.specs.declared.numbers.Version.{Version}
 use Rattle.board_tallies.specs.Board.{BoardData, count_of, pending_of, pends}

@@ -1,4 +1,4 @@
-use Rattle.std.proofs.Common.{◌≡◌, ap, ◌∙◌, arith, List}
+use Rattle.std.proofs.Common.{ap, ◌∙◌, arith, List}
 use Rattle.board_tallies.specs.inside.Noting.{pending_at}
 use Rattle.board_tallies.specs.declared.states.TreeState.{TreeState}
 use Rattle.board_tallies.proofs.Told.{told_counts, told_failed, told_states_back}

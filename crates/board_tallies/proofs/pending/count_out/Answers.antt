@@ -1,4 +1,4 @@
-use Rattle.std.proofs.Common.{◌≡◌, ap, ◌∙◌, slice_set}
+use Rattle.std.proofs.Common.{ap, ◌∙◌, slice_set}
 use Rattle.board_tallies.specs.declared.pending.Pending.{Pending}
 use Rattle.board_tallies.proofs.Marks.{set_back}
 use Rattle.board_tallies.proofs.pending.count_out.Goals as goal

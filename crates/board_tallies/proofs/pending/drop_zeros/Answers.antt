@@ -1,4 +1,4 @@
-use Rattle.std.proofs.Common.{rules, ◌≡◌, Bool}
+use Rattle.std.proofs.Common.{rules}
 use Rattle.std.proofs.lemmas.List.Elements.{filter_from_retain}
 use Rattle.board_tallies.specs.inside.Pending.{is_counted}
 use Rattle.board_tallies.proofs.pending.drop_zeros.Goals as goal

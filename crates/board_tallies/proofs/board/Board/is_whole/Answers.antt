@@ -1,4 +1,4 @@
-use Rattle.std.proofs.Common.{◌≡◌, ap, ◌∙◌}
+use Rattle.std.proofs.Common.{ap, ◌∙◌}
 use Rattle.board_tallies.specs.Board.{BoardData, whole_at}
 use Rattle.board_tallies.proofs.Standing.{whole_any}
 use Rattle.board_tallies.proofs.board.Board.is_whole.Goals as goal

@@ -1,5 +1,4 @@
-use Rattle.std.proofs.Common.{◌≡◌, [], ap, sym, subst, ◌∙◌, length, List}
-use Rattle.script_parts.specs.declared.parts.Tree.{Tree}
+use Rattle.std.proofs.Common.{[], sym, subst, ◌∙◌, length}
 use Rattle.board_tallies.specs.Board.{BoardData, IsBoardOf}
 use Rattle.board_tallies.specs.inside.Noting.{first_board}
 use Rattle.board_tallies.proofs.Started.{started}

@@ -1,4 +1,4 @@
-use Rattle.std.proofs.Common.{◌≡◌, List, ap, sym, subst, ◌∙◌}
+use Rattle.std.proofs.Common.{List, subst, ◌∙◌}
 use Rattle.board_tallies.specs.Board.{first_numbers, numbers_at}
 use Rattle.board_tallies.specs.inside.Noting.{GoesOn, numbers_with}
 use Rattle.board_tallies.specs.declared.states.TreeState.{TreeState}

@@ -1,4 +1,4 @@
-use Rattle.std.proofs.Common.{◌≡◌, sym, subst}
+use Rattle.std.proofs.Common.{sym, subst}
 use Rattle.board_tallies.specs.Board.{BoardData, IsBoardOf}
 use Rattle.board_tallies.proofs.Nexts.{board_settled}
 use Rattle.board_tallies.proofs.board.Board.settle.Goals as goal

@@ -1,4 +1,4 @@
-use Rattle.std.proofs.Common.{◌≡◌, ◌∙◌, ◌∷◌, ◌++◌, [], ap, arith, take, length, refl}
+use Rattle.std.proofs.Common.{◌≡◌, ◌∙◌, ap, arith, length}
 use Rattle.std.proofs.Common.{Vec, Global}
 use Rattle.script_parts.specs.declared.parts.ScriptRow.TheVariants as rows
 use Rattle.board_tallies.specs.declared.gates.Gate.{Gate}
