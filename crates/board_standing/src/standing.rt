@@ -97,7 +97,7 @@ fn first_against(
     None
 }
 
-// The lesser_number of two trees, if there are two.
+// The lesser number of two trees, if there are two.
 fn lesser_number(one: Option<TreeNo>, other: Option<TreeNo>) -> Option<TreeNo>
     ensures { result ≡ lesser_tree one other }
 {
