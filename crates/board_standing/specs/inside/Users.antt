@@ -63,7 +63,7 @@ stands_against s xs p t mode u =
 abbrev pub is_tree_of : (TreeKind → Bool) → ScriptData → ℕ → Bool
 is_tree_of of s k = elim (slice_get s.trees k) [ Some tree ↦ of tree.kind | None ↦ false ]
 
--- the lesser_number of two numbers, if there are two
+-- the lesser of two numbers, if there are two
 abbrev pub lesser_number : Option ℕ → Option ℕ → Option ℕ
 lesser_number None b = b
 lesser_number (Some a) None = Some a
