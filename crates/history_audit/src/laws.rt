@@ -1,0 +1,19 @@
+// Laws of verdicts.
+ghost use Rattle.std.specs.Prelude.{ℕ, ◌≡◌, List, [], Result};
+ghost use Rattle.letter_types.specs.declared.entries.Entry.{Entry};
+ghost use Rattle.tx_trees.specs.ScriptData.{ScriptData};
+ghost use Rattle.history_audit.specs.declared.rules.AuditRule.{AuditRule};
+ghost use Rattle.history_audit.specs.Verdicts.{HasOneReading, IsTaken, Verdict};
+
+
+/// A text has one verdict: whoever answers a verdict answers the same, where every text begins with one entry at most.
+pub fn a_text_has_one_verdict()
+    ensures { (s : ScriptData) (text : List ℕ) (a b : Result ℕ (ℕ × AuditRule)) → HasOneReading s
+        → Verdict s text a → Verdict s text b → a ≡ b }
+{}
+
+/// A text that is taken whole is of one history, the letters taken too, where every text begins with one entry at most.
+pub fn an_accepted_text_is_one_history()
+    ensures { (s : ScriptData) (text : List ℕ) (h g : List Entry) → HasOneReading s
+        → IsTaken s text h [] → IsTaken s text g [] → h ≡ g }
+{}
