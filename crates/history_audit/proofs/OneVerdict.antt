@@ -5,14 +5,16 @@ use Rattle.std.proofs.lemmas.List.{take-append-le, take_all}
 use Rattle.tv_base.proofs.ByPlace.{slice_get_last, slice_get_left}
 use Rattle.letter_types.specs.declared.entries.Entry.{Entry}
 use Rattle.tx_trees.specs.ScriptData.{ScriptData}
+use Rattle.tx_trees.specs.Valid.{IsValid}
 use Rattle.board_rules.specs.declared.rule_names.Rule.{Rule}
 use Rattle.board_rules.specs.Judging.{Breaks, IsAccepted, MayCome}
 use Rattle.board_rules.specs.Right.{HasFinished}
 use Rattle.board_rules.proofs.Judging.{broken_may_not, broken_once}
 use Rattle.history_text.specs.Printable.{Begins}
+use Rattle.history_reader.proofs.OneEntry.{one_entry}
 use Rattle.history_audit.specs.declared.rules.AuditRule.{AuditRule}
 use Rattle.history_audit.specs.declared.rules.AuditRule.TheVariants.{Text, Postal, Judged, End}
-use Rattle.history_audit.specs.Verdicts.{HasOneReading, IsPostal, IsTaken, Verdict, Yes, Unread, Unposted, Broken, Unfinished}
+use Rattle.history_audit.specs.Verdicts.{IsPostal, IsTaken, Verdict, Yes, Unread, Unposted, Broken, Unfinished}
 use Rattle.history_audit.proofs.Fronts.{Fronts, Longer, Same, Shorter, fronts, nothing_begins}
 use Rattle.history_audit.proofs.SameEntries.{postal_front, same_entry}
 
@@ -41,11 +43,11 @@ stop_of s text a (Broken h rest e more rule taken begins post breaks) =
     record { entries = h; rest = rest; taken = taken; why = NoMove e more rule begins post breaks }
 stop_of s text a (Unfinished h taken not) = record { entries = h; rest = []; taken = taken; why = Early refl not }
 
-module _ (s : ScriptData) (one : HasOneReading s) (h : List Entry) (rest : List ℕ) where
+module _ (s : ScriptData) (valid : IsValid s) (h : List Entry) (rest : List ℕ) where
   -- what the text begins with there, and went as letters do, is one entry
   one_next : (e f : Entry) (more q : List ℕ) → Begins s rest e more → Begins s rest f q → IsPostal s (h ++ e ∷ [])
       → IsPostal s (h ++ f ∷ []) → e ≡ f
-  one_next e f more q begins other post same = same_entry s h e f (one rest e f more q begins other).1 post same
+  one_next e f more q begins other post same = same_entry s h e f (one_entry s rest e f more q valid begins other).1 post same
 
   -- nothing goes on there
   no_next : (a : Result ℕ (ℕ × AuditRule)) → Why s h rest a → (f : Entry) (q : List ℕ) → Begins s rest f q
@@ -103,27 +105,27 @@ accepted_at s h f more all =
     subst (λ (xs : List Entry). MayCome s xs f) front (all (length h) f at)
 
 -- so what stops at one history doesn't go on to a longer one
-no_longer : (s : ScriptData) → HasOneReading s → (text : List ℕ) (h : List Entry) (rest : List ℕ) (a : Result ℕ (ℕ × AuditRule))
+no_longer : (s : ScriptData) → IsValid s → (text : List ℕ) (h : List Entry) (rest : List ℕ) (a : Result ℕ (ℕ × AuditRule))
     (g : List Entry) (left : List ℕ) (f : Entry) (more : List Entry) (q : List ℕ) → Why s h rest a → IsTaken s text g left
     → g ≡ h ++ f ∷ more → Begins s rest f q → ⊥
-no_longer s one text h rest a g left f more q why taken is begins =
+no_longer s valid text h rest a g left f more q why taken is begins =
     let post : IsPostal s ((h ++ f ∷ []) ++ more) = subst (IsPostal s) (is ∙ sym (append_assoc h (f ∷ []) more)) taken.postal in
-    no_next s one h rest a why f q begins (postal_front s (h ++ f ∷ []) more post)
+    no_next s valid h rest a why f q begins (postal_front s (h ++ f ∷ []) more post)
     (accepted_at s h f more (subst (IsAccepted s) is taken.accepted))
 
-one_stop : (s : ScriptData) → HasOneReading s → (text : List ℕ) (a b : Result ℕ (ℕ × AuditRule)) (x : Stop s text a) (y : Stop s text b)
+one_stop : (s : ScriptData) → IsValid s → (text : List ℕ) (a b : Result ℕ (ℕ × AuditRule)) (x : Stop s text a) (y : Stop s text b)
     → Fronts s x.entries x.rest y.entries y.rest → a ≡ b
-one_stop s one text a b x y (Same is so) =
-    one_why s one y.entries y.rest a b
+one_stop s valid text a b x y (Same is so) =
+    one_why s valid y.entries y.rest a b
     (subst (λ (h : List Entry). Why s h y.rest a) is (subst (λ (rest : List ℕ). Why s x.entries rest a) so x.why)) y.why
-one_stop s one text a b x y (Longer f more q is begins) =
-    absurd (no_longer s one text x.entries x.rest a y.entries y.rest f more q x.why y.taken is begins)
-one_stop s one text a b x y (Shorter e more q is begins) =
-    absurd (no_longer s one text y.entries y.rest b x.entries x.rest e more q y.why x.taken is begins)
+one_stop s valid text a b x y (Longer f more q is begins) =
+    absurd (no_longer s valid text x.entries x.rest a y.entries y.rest f more q x.why y.taken is begins)
+one_stop s valid text a b x y (Shorter e more q is begins) =
+    absurd (no_longer s valid text y.entries y.rest b x.entries x.rest e more q y.why x.taken is begins)
 
-pub one_verdict : (s : ScriptData) (text : List ℕ) (a b : Result ℕ (ℕ × AuditRule)) → HasOneReading s → Verdict s text a → Verdict s text b
+pub one_verdict : (s : ScriptData) (text : List ℕ) (a b : Result ℕ (ℕ × AuditRule)) → IsValid s → Verdict s text a → Verdict s text b
     → a ≡ b
-one_verdict s text a b one v w =
+one_verdict s text a b valid v w =
     let x = stop_of s text a v in
     let y = stop_of s text b w in
-    one_stop s one text a b x y (fronts s one text x.entries x.rest y.entries y.rest x.taken y.taken)
+    one_stop s valid text a b x y (fronts s valid text x.entries x.rest y.entries y.rest x.taken y.taken)

@@ -1,5 +1,5 @@
--- Where letters went as letters do, entries that a text can't tell apart are equal: a letter that was taken is Go, or the
--- one that an earlier entry sent under its id.
+-- Where letters went as letters do, entries that tell the same are equal: a letter that was taken is Go, or the one that an
+-- earlier entry sent under its id.
 use Rattle.std.proofs.Common.{◌≡◌, ◌⊎◌, inl, inr, ℕ, ◌+◌, ◌<◌, List, [], ◌∷◌, ◌++◌, length, sym, ap, ◌∙◌, subst, refl, arith, append_assoc, Some}
 use Rattle.std.specs.Prelude.{map, slice_get}
 use Rattle.std.proofs.lemmas.List.{map-append}
@@ -15,7 +15,8 @@ use Rattle.letter_types.specs.Postal.{IsMessageRun, delivery_of, letters_sent}
 use Rattle.tx_trees.specs.ScriptData.{ScriptData, client_of}
 use Rattle.world_model.specs.Counts.{Each}
 use Rattle.world_model.proofs.Every.{each_found}
-use Rattle.history_audit.specs.Verdicts.{IsPostal, LooksLike}
+use Rattle.history_reader.specs.OneEntry.{TellTheSame}
+use Rattle.history_audit.specs.Verdicts.{IsPostal}
 
 -- Go, or what a posting of the log sent under its id
 abbrev CameFrom : ℕ → List Posting → Letter → Type 0
@@ -100,7 +101,7 @@ came_last s h e post =
     came (client_of s) (map delivery_of h) (delivery_of e)
     (subst (IsMessageRun (client_of s)) (map-append delivery_of h (e ∷ [])) post)
 
-pub same_entry : (s : ScriptData) (h : List Entry) (e f : Entry) → LooksLike e f → IsPostal s (h ++ e ∷ []) → IsPostal s (h ++ f ∷ [])
+pub same_entry : (s : ScriptData) (h : List Entry) (e f : Entry) → TellTheSame e f → IsPostal s (h ++ e ∷ []) → IsPostal s (h ++ f ∷ [])
     → e ≡ f
 same_entry s h e f alike post other =
     let took : e.took ≡ f.took =
@@ -108,16 +109,16 @@ same_entry s h e f alike post other =
     λ i. record { stamp = alike.stamp i; actor = alike.actor i; took = took i; sent = alike.sent i; acts = alike.acts i }
 
 -- and so are all, one after the other
-abbrev pub LookLike : List Entry → List Entry → Type 0
-LookLike [] [] = Unit {0}
-LookLike (e ∷ h) (f ∷ g) = LooksLike e f × LookLike h g
-LookLike h g = ⊥
+abbrev pub AllTellTheSame : List Entry → List Entry → Type 0
+AllTellTheSame [] [] = Unit {0}
+AllTellTheSame (e ∷ h) (f ∷ g) = TellTheSame e f × AllTellTheSame h g
+AllTellTheSame h g = ⊥
 
 next_postal : (s : ScriptData) (before : List Entry) (e : Entry) (h : List Entry) → IsPostal s (before ++ e ∷ h)
     → IsPostal s ((before ++ e ∷ []) ++ h)
 next_postal s before e h post = subst (IsPostal s) (sym (append_assoc before (e ∷ []) h)) post
 
-same_behind : (s : ScriptData) (before h g : List Entry) → LookLike h g → IsPostal s (before ++ h) → IsPostal s (before ++ g) → h ≡ g
+same_behind : (s : ScriptData) (before h g : List Entry) → AllTellTheSame h g → IsPostal s (before ++ h) → IsPostal s (before ++ g) → h ≡ g
 same_behind s before [] [] alike post other = refl
 same_behind s before [] (f ∷ g) alike post other = absurd alike
 same_behind s before (e ∷ h) [] alike post other = absurd alike
@@ -131,5 +132,5 @@ same_behind s before (e ∷ h) (f ∷ g) alike post other =
         (subst (λ (x : Entry). IsPostal s ((before ++ x ∷ []) ++ g)) (sym one) second) in
     λ i. one i ∷ rest i
 
-pub same_entries : (s : ScriptData) (h g : List Entry) → LookLike h g → IsPostal s h → IsPostal s g → h ≡ g
+pub same_entries : (s : ScriptData) (h g : List Entry) → AllTellTheSame h g → IsPostal s h → IsPostal s g → h ≡ g
 same_entries s h g alike post other = same_behind s [] h g alike post other

@@ -41,16 +41,3 @@ pub data Verdict (s : ScriptData) (text : List ℕ) : Result ℕ (ℕ × AuditRu
   Broken : (h : List Entry) (rest : List ℕ) (e : Entry) (more : List ℕ) (rule : Rule) → IsTaken s text h rest
       → Begins s rest e more → IsPostal s (h ++ e ∷ []) → Breaks s h e rule → Verdict s text (Err (length h + 1, Judged rule))
   Unfinished : (h : List Entry) → IsTaken s text h [] → (HasFinished h → ⊥) → Verdict s text (Err (length h, End))
-
--- a text can't tell these two entries apart: they may differ in the letter taken, but not in its id
-pub record LooksLike (e f : Entry) : Type 0 where
-  pub stamp : e.stamp ≡ f.stamp
-  pub actor : e.actor ≡ f.actor
-  pub took : e.took.id ≡ f.took.id
-  pub sent : e.sent ≡ f.sent
-  pub acts : e.acts ≡ f.acts
-
--- every text begins with one entry at most, but for that
-abbrev pub HasOneReading : ScriptData → Type 0
-HasOneReading s = (text : List ℕ) (e f : Entry) (rest more : List ℕ) → Begins s text e rest → Begins s text f more
-    → (rest ≡ more) × LooksLike e f

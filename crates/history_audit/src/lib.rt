@@ -6,6 +6,7 @@ mod laws;
 mod rules;
 
 pub use laws::{
-    a_text_has_one_verdict, an_accepted_text_is_one_history,
+    a_text_has_one_verdict, an_accepted_text_is_one_history, printed_histories_are_accepted,
+    printed_runs_are_accepted,
 };
 pub use rules::AuditRule;
