@@ -1,0 +1,25 @@
+-- The lines of a run that has finished are accepted.
+use Rattle.std.proofs.Common.{List, [], inl, inr, refl, sym}
+use Rattle.std.specs.Prelude.{length, Ok}
+use Rattle.std.specs.List.{AllByRecursion}
+use Rattle.std.proofs.lemmas.List.{append-nil, reverse-reverse}
+use Rattle.letter_types.specs.declared.entries.Entry.{Entry}
+use Rattle.tx_trees.specs.ScriptData.{ScriptData}
+use Rattle.tx_trees.specs.Valid.{IsValid}
+use Rattle.board_rules.specs.Judging.{IsAccepted}
+use Rattle.board_rules.specs.Right.{HasFinished}
+use Rattle.world_model.specs.Runs.{IsWorldRun}
+use Rattle.history_text.specs.History.{history_lines_of}
+use Rattle.history_text.specs.Printable.{IsPrintable}
+use Rattle.history_audit.specs.Verdicts.{Verdict, Yes}
+
+pub printed_run : (s : ScriptData) (h : List Entry) → IsWorldRun s h → HasFinished h → AllByRecursion (IsPrintable s) h
+    → IsAccepted s h → Verdict s (history_lines_of s h) (Ok (length h))
+printed_run s h run finished may accepted =
+    Yes h
+    (record {
+      read = record { lines = sym (append-nil (history_lines_of s h)); may = may; ends = inr (inl refl) };
+      postal = run.postal;
+      accepted = accepted;
+    })
+    finished

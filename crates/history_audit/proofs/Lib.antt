@@ -1,0 +1,4 @@
+pub mod Accepted
+pub mod Fronts
+pub mod OneVerdict
+pub mod SameEntries

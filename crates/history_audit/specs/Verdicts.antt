@@ -1,0 +1,43 @@
+-- When the text of a history is accepted, and in what it fails first where it isn't.
+use Rattle.std.specs.Prelude.{ℕ, ◌+◌, ◌≡◌, ◌≢◌, ◌⊎◌, List, [], ◌∷◌, ◌++◌, length, map, Result, Ok, Err}
+use Rattle.std.specs.List.{AllByRecursion}
+use Rattle.letter_types.specs.declared.entries.Entry.{Entry}
+use Rattle.letter_types.specs.Postal.{IsMessageRun, delivery_of}
+use Rattle.tx_trees.specs.ScriptData.{ScriptData, client_of}
+use Rattle.board_rules.specs.declared.rule_names.Rule.{Rule}
+use Rattle.board_rules.specs.Judging.{Breaks, IsAccepted}
+use Rattle.board_rules.specs.Right.{HasFinished}
+use Rattle.history_text.specs.History.{history_lines_of}
+use Rattle.history_text.specs.Printable.{Begins, EndsEntry, IsPrintable}
+use Rattle.history_audit.specs.declared.rules.AuditRule.{AuditRule}
+use Rattle.history_audit.specs.declared.rules.AuditRule.TheVariants.{Text, Postal, Judged, End}
+
+-- letters went as letters do
+abbrev pub IsPostal : ScriptData → List Entry → Type 0
+IsPostal s h = IsMessageRun (client_of s) (map delivery_of h)
+
+-- the text begins with the lines of these entries, each of which may be printed, and this is the rest
+pub record BeginsWith (s : ScriptData) (text : List ℕ) (h : List Entry) (rest : List ℕ) : Type 0 where
+  pub lines : text ≡ history_lines_of s h ++ rest
+  pub may : AllByRecursion (IsPrintable s) h
+  pub ends : (h ≡ []) ⊎ EndsEntry rest
+
+-- so far the text is read, letters went as letters do, and each entry is accepted
+pub record IsTaken (s : ScriptData) (text : List ℕ) (h : List Entry) (rest : List ℕ) : Type 0 where
+  pub read : BeginsWith s text h rest
+  pub postal : IsPostal s h
+  pub accepted : IsAccepted s h
+
+-- The verdict of a text: how many entries it has; or the number of the first entry that fails, counted from 1, and in
+-- what it fails. A text fixes an entry but for the letter taken, of which it has the id; so an entry fails in its letters
+-- where nothing that may be read there went as letters do. A history that ends too early fails at its last entry.
+pub data Verdict (s : ScriptData) (text : List ℕ) : Result ℕ (ℕ × AuditRule) → Type 0 where
+  Yes : (h : List Entry) → IsTaken s text h [] → HasFinished h → Verdict s text (Ok (length h))
+  Unread : (h : List Entry) (rest : List ℕ) → IsTaken s text h rest → rest ≢ []
+      → ((e : Entry) (more : List ℕ) → Begins s rest e more → ⊥) → Verdict s text (Err (length h + 1, Text))
+  Unposted : (h : List Entry) (rest : List ℕ) (e : Entry) (more : List ℕ) → IsTaken s text h rest → Begins s rest e more
+      → ((f : Entry) (q : List ℕ) → Begins s rest f q → IsPostal s (h ++ f ∷ []) → ⊥)
+      → Verdict s text (Err (length h + 1, Postal))
+  Broken : (h : List Entry) (rest : List ℕ) (e : Entry) (more : List ℕ) (rule : Rule) → IsTaken s text h rest
+      → Begins s rest e more → IsPostal s (h ++ e ∷ []) → Breaks s h e rule → Verdict s text (Err (length h + 1, Judged rule))
+  Unfinished : (h : List Entry) → IsTaken s text h [] → (HasFinished h → ⊥) → Verdict s text (Err (length h, End))
