@@ -100,8 +100,8 @@ accepted_at s h f more all =
     let le : length h ≤ length h = omega arith in
     let front : take (length h) (h ++ f ∷ more) ≡ h = take-append-le (length h) h (f ∷ more) le ∙ take_all (length h) h le in
     let at : slice_get (h ++ f ∷ more) (length h) ≡ Some f =
-        subst (λ (xs : List Entry). slice_get xs (length h) ≡ Some f) (append_assoc h (f ∷ []) more)
-        (slice_get_left (h ++ f ∷ []) more (length h) f (slice_get_last h f)) in
+    subst (λ (xs : List Entry). slice_get xs (length h) ≡ Some f) (append_assoc h (f ∷ []) more)
+    (slice_get_left (h ++ f ∷ []) more (length h) f (slice_get_last h f)) in
     subst (λ (xs : List Entry). MayCome s xs f) front (all (length h) f at)
 
 -- so what stops at one history doesn't go on to a longer one

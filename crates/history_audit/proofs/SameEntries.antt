@@ -65,8 +65,8 @@ one_letter client log l m (inr (j, f, at, stamp, found)) (inr (k, g, here, so, k
     let there : Some f ≡ Some g = sym at ∙ ap (slice_get log) place ∙ here in
     let sender : f ≡ g = cc there in
     let two : Some l ≡ Some m =
-        sym found ∙ ap (λ (i : LetterId). find_id i (letters_sent f)) same
-        ∙ ap (λ (p : Posting). find_id m.id (letters_sent p)) sender ∙ known in
+    sym found ∙ ap (λ (i : LetterId). find_id i (letters_sent f)) same
+    ∙ ap (λ (p : Posting). find_id m.id (letters_sent p)) sender ∙ known in
     cc two
 
 -- the first entries went as letters do
@@ -105,7 +105,7 @@ pub same_entry : (s : ScriptData) (h : List Entry) (e f : Entry) → TellTheSame
     → e ≡ f
 same_entry s h e f alike post other =
     let took : e.took ≡ f.took =
-        one_letter (client_of s) (map delivery_of h) e.took f.took (came_last s h e post) (came_last s h f other) alike.took in
+    one_letter (client_of s) (map delivery_of h) e.took f.took (came_last s h e post) (came_last s h f other) alike.took in
     λ i. record { stamp = alike.stamp i; actor = alike.actor i; took = took i; sent = alike.sent i; acts = alike.acts i }
 
 -- and so are all, one after the other
@@ -126,10 +126,10 @@ same_behind s before (e ∷ h) (f ∷ g) alike post other =
     let first = next_postal s before e h post in
     let second = next_postal s before f g other in
     let one : e ≡ f =
-        same_entry s before e f alike.0 (postal_front s (before ++ e ∷ []) h first) (postal_front s (before ++ f ∷ []) g second) in
+    same_entry s before e f alike.0 (postal_front s (before ++ e ∷ []) h first) (postal_front s (before ++ f ∷ []) g second) in
     let rest : h ≡ g =
-        same_behind s (before ++ e ∷ []) h g alike.1 first
-        (subst (λ (x : Entry). IsPostal s ((before ++ x ∷ []) ++ g)) (sym one) second) in
+    same_behind s (before ++ e ∷ []) h g alike.1 first
+    (subst (λ (x : Entry). IsPostal s ((before ++ x ∷ []) ++ g)) (sym one) second) in
     λ i. one i ∷ rest i
 
 pub same_entries : (s : ScriptData) (h g : List Entry) → AllTellTheSame h g → IsPostal s h → IsPostal s g → h ≡ g
