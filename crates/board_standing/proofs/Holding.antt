@@ -349,7 +349,7 @@ split_kinds true false false of = refl
 split_kinds false true false of = refl
 split_kinds false false false of = refl
 
--- the holder is the lesser of the first update tree and the first strict tree in the way
+-- the holder is the lesser_number of the first update tree and the first strict tree in the way
 pub holder_is_first : (s : ScriptData) (xs : List Place) (p t x : ℕ) (mode : Mode) → IsMoveRun s xs
     → lesser_number (first_tree (stands_against s xs p t mode) (users_of is_update s x)) (first_tree (stands_against s xs p t mode) (users_of is_strict s x))
     ≡ holder_of s xs p t x mode
