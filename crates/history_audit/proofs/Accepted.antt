@@ -1,11 +1,10 @@
 -- The lines of a run that has finished are accepted.
-use Rattle.std.proofs.Common.{List, [], inl, inr, refl, sym}
+use Rattle.std.proofs.Common.{List, inl, inr, refl, sym}
 use Rattle.std.specs.Prelude.{length, Ok}
 use Rattle.std.specs.List.{AllByRecursion}
-use Rattle.std.proofs.lemmas.List.{append-nil, reverse-reverse}
+use Rattle.std.proofs.lemmas.List.{append-nil}
 use Rattle.letter_types.specs.declared.entries.Entry.{Entry}
 use Rattle.tx_trees.specs.ScriptData.{ScriptData}
-use Rattle.tx_trees.specs.Valid.{IsValid}
 use Rattle.board_rules.specs.Judging.{IsAccepted}
 use Rattle.board_rules.specs.Right.{HasFinished}
 use Rattle.world_model.specs.Runs.{IsWorldRun}
