@@ -16,11 +16,13 @@ use script_parts::kinds::is_read;
 use tv_base::{ActorNo, ItemNo, SubNo, TreeNo};
 use tx_trees::{Script, SubOp};
 
-// A subtransaction that is asked for.
+/// A subtransaction that is asked for.
 #[derive(Clone, Copy)]
-pub(crate) struct Asked {
-    pub(crate) tree: TreeNo,
-    pub(crate) sub: SubNo,
+pub struct Asked {
+    /// Its tree.
+    pub tree: TreeNo,
+    /// Its number there.
+    pub sub: SubNo,
 }
 
 // Whose lock is in the way, on which item.

@@ -7,7 +7,7 @@ mod shown;
 mod standing;
 mod users;
 
-pub use at_once::{does_at_once, ops_of, reads};
+pub use at_once::{Asked, does_at_once, ops_of, reads};
 pub use shown::{short, shows};
-pub use standing::{conflict, newer, updates};
+pub use standing::{conflict, newer, updates, version_or_zero};
 pub use users::Users;

@@ -206,8 +206,8 @@ fn has_written(script: &Script, board: &Board, node: ActorNo, user: User) -> boo
     board.was_applied(user.tree, node)
 }
 
-// The version of a tree, or 0 where it isn't born.
-fn version_or_zero(board: &Board, tree: TreeNo) -> u64
+/// The version of a tree, or 0 where it isn't born.
+pub fn version_or_zero(board: &Board, tree: TreeNo) -> u64
     ensures { (s : ScriptData) (xs : List Place) → IsBoardOf s xs board.now → result ≡ version_or_zero (version_in tree.0 xs) }
 {
     match board.version_of(tree) {

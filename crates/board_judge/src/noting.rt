@@ -1,0 +1,108 @@
+// The acts of an entry, noted one after the other on the Board's tallies.
+ghost use Rattle.std.specs.Prelude.{◌≡◌, List, IfOk, IfSome, IsNone, OnErr};
+ghost use Rattle.letter_types.specs.declared.entries.Entry.{Entry};
+ghost use Rattle.board_rules.specs.Histories.{Place};
+ghost use Rattle.board_rules.specs.Judging.{rule_of};
+ghost use Rattle.board_rules.specs.Moves.{IsMove};
+ghost use Rattle.board_tallies.specs.TakenBack.{taken_back};
+ghost use Rattle.board_judge.specs.inside.Steps.{IsStepped, restored};
+ghost use Rattle.board_judge.specs.inside.Votes.{IsMidway};
+
+use crate::votes::{Basis, is_move, is_right_yes};
+use board_rules::Rule;
+use board_tallies::{Board, Noted};
+use letter_types::Act;
+use std::alloc::Global;
+use tv_base::{ActorNo, NoMemory};
+use worth_steps::Worths;
+
+// What was found of an act that was noted, and by what it is taken back.
+#[derive(Clone, Copy)]
+pub(crate) struct Step {
+    pub(crate) noted: Noted,
+    // Whether it keeps to the script.
+    pub(crate) keeps: bool,
+    // Whether it shows what was worth before the entry, if it is a yes.
+    pub(crate) right: bool,
+}
+
+// Notes an act, if it is a move. None where it isn't, and then the tallies are what they were.
+pub(crate) fn note_act(
+    basis: &Basis,
+    board: &mut Board,
+    worths: &[Worths],
+    alloc: Global,
+    node: ActorNo,
+    act: &Act,
+) -> Result<Option<Step>, NoMemory>
+    ensures stepped { IfOk result (λ step. IfSome step (λ st. (h : List Entry) (xs : List Place)
+        → IsMidway basis.now.script.now basis.now.gates basis.now.users h xs board.old worths.now
+        → IsStepped basis.now.script.now h xs (record { node = node.0; act = act.now }) st board.new)) }
+    ensures not { IfOk result (λ step. IsNone step → (h : List Entry) (xs : List Place)
+        → IsMidway basis.now.script.now basis.now.gates basis.now.users h xs board.old worths.now
+        → IsMove basis.now.script.now h xs (record { node = node.0; act = act.now }) → ⊥) }
+    ensures back { IfOk result (λ step. IfSome step (λ st. taken_back st.noted board.new ≡ board.old)) }
+    ensures same { IfOk result (λ step. IsNone step → board.new ≡ board.old) }
+    ensures err { OnErr result (board.new ≡ board.old) }
+{
+    if !is_move(basis, board, worths, alloc, node, act)? {
+        return Ok(None);
+    }
+    let keeps = board.keeps(basis.script, &basis.gates, node, act);
+    let right = is_right_yes(basis.script, board, worths, act);
+    let noted = board.note(basis.script, node, act)?;
+    Ok(Some(Step {
+        noted,
+        keeps,
+        right,
+    }))
+}
+
+// Takes back what was noted, the last step first.
+pub(crate) fn restore(board: &mut Board, steps: &mut Vec<Step>)
+    ensures board { board.new ≡ restored steps.old.items board.old }
+{
+    while let Some(step) = steps.pop() {
+        board.undo(step.noted);
+    }
+}
+
+// The rule of an act that isn't a move.
+pub(crate) fn rule_of(act: &Act) -> Rule
+    ensures { result ≡ rule_of act.now }
+{
+    match act {
+        Act::Born {
+            tree: _,
+            version: _,
+        } => Rule::Born,
+        Act::Waits {
+            tree: _,
+            update: _,
+            read: _,
+        } => Rule::Born,
+        Act::Did {
+            tree: _,
+            sub: _,
+            values: _,
+        } => Rule::Did,
+        Act::Voted {
+            tree: _,
+            sub: _,
+            vote: _,
+        } => Rule::Did,
+        Act::Freed { tree: _ } => Rule::Did,
+        Act::Decided { tree: _, commit: _ } => Rule::Did,
+        Act::Applied { tree: _, commit: _ } => Rule::Did,
+        Act::Turned { version: _ } => Rule::Turned,
+        Act::Showed { version: _ } => Rule::Showed,
+        Act::Swept { version: _ } => Rule::Swept,
+        Act::Parked {
+            tree: _,
+            sub: _,
+            item: _,
+            holder: _,
+        } => Rule::AtOnce,
+        Act::Finished => Rule::Fits,
+    }
+}

@@ -1,0 +1,235 @@
+// What votes name, and what votes and reads show.
+ghost use Rattle.std.specs.Prelude.{◌≡◌, ◌∷◌, ◌++◌, [], true, ℕ, List, IfOk};
+ghost use Rattle.std.specs.Bool.{Decides};
+ghost use Rattle.std.specs.Option.{option_map};
+ghost use Rattle.letter_types.specs.declared.entries.Entry.{Entry};
+ghost use Rattle.script_parts.specs.ScriptData.{ops_of};
+ghost use Rattle.board_rules.specs.ButCause.{IsMoveButCause};
+ghost use Rattle.board_rules.specs.Histories.{Place, is_strict_tree, places_of, version_in};
+ghost use Rattle.board_rules.specs.Moves.{IsMove};
+ghost use Rattle.board_rules.specs.Right.{IsShown, gets_among};
+ghost use Rattle.board_rules.specs.Worth.{worth_in};
+ghost use Rattle.board_rules.specs.Stands.{cause_of, refusal_in};
+ghost use Rattle.board_tallies.specs.Board.{IsBoardOf};
+ghost use Rattle.board_standing.specs.Notes.{AreKnown};
+ghost use Rattle.board_judge.specs.inside.Votes.{HasVersions, IsMidway, IsRightRead, IsRightYes, ballot_of, did_of, given_by, same_cause, yes_of};
+
+use board_standing::{Asked, Users, conflict, newer, ops_of, reads, short, shows, version_or_zero};
+use board_tallies::{Board, Gates};
+use commute_ops::Value;
+use letter_types::{Act, Cause, Vote};
+use std::alloc::Global;
+use tv_base::{ActorNo, ItemNo, NoMemory, Version};
+use tx_trees::Script;
+use worth_steps::Worths;
+
+// What a judge never changes: the script, and what was made of it.
+#[derive(Drop)]
+pub(crate) struct Basis<'a> {
+    pub(crate) script: &'a Script,
+    pub(crate) gates: Gates,
+    pub(crate) users: Users,
+}
+
+// A vote: whose it is, and the cause that it names.
+#[derive(Clone, Copy)]
+pub(crate) struct Ballot {
+    pub(crate) asked: Asked,
+    pub(crate) refusal: Option<Cause>,
+}
+
+// The values that a subtransaction gives.
+#[derive(Clone, Copy)]
+pub(crate) struct Given<'a> {
+    pub(crate) asked: Asked,
+    pub(crate) values: &'a [(ItemNo, Value)],
+}
+
+// Whether an act is a move, by the tallies of the acts so far and by the worths before the entry.
+pub(crate) fn is_move(
+    basis: &Basis,
+    board: &Board,
+    worths: &[Worths],
+    alloc: Global,
+    node: ActorNo,
+    act: &Act,
+) -> Result<bool, NoMemory>
+    ensures { IfOk result (λ moves. (h : List Entry) (xs : List Place)
+        → IsMidway basis.now.script.now basis.now.gates basis.now.users h xs board.now worths.now
+        → Decides moves (IsMove basis.now.script.now h xs (record { node = node.0; act = act.now }))) }
+{
+    if !board.moves(basis.script, node, act) {
+        return Ok(false);
+    }
+    let Some(ballot) = ballot_of(act) else {
+        return Ok(true);
+    };
+    let cause = cause(basis, board, worths, alloc, node, ballot.asked)?;
+    Ok(same_cause(ballot.refusal, cause))
+}
+
+// The vote that an act is.
+fn ballot_of(act: &Act) -> Option<Ballot>
+    ensures { result ≡ ballot_of act.now }
+{
+    match act {
+        Act::Voted { tree, sub, vote } => {
+            let asked = Asked {
+                tree: *tree,
+                sub: *sub,
+            };
+            let refusal = refusal_in(vote.get());
+            Some(Ballot { asked, refusal })
+        }
+        _ => None,
+    }
+}
+
+// The cause that a vote names.
+fn refusal_in(vote: &Vote) -> Option<Cause>
+    ensures { result ≡ refusal_in vote.now }
+{
+    match vote {
+        Vote::Yes(_) => None,
+        Vote::No(cause) => Some(*cause.get()),
+    }
+}
+
+// Why a subtransaction of a strict tree has to vote no, if it has to: a lock that conflicts, else a newer version, else a value
+// that is short.
+fn cause(
+    basis: &Basis,
+    board: &Board,
+    worths: &[Worths],
+    alloc: Global,
+    node: ActorNo,
+    asked: Asked,
+) -> Result<Option<Cause>, NoMemory>
+    ensures { IfOk result (λ cause. (h : List Entry) (xs : List Place)
+        → IsMidway basis.now.script.now basis.now.gates basis.now.users h xs board.now worths.now
+        → is_strict_tree basis.now.script.now asked.tree.0 ≡ true
+        → cause ≡ cause_of basis.now.script.now h xs node.0 asked.tree.0 (ops_of basis.now.script.now asked.tree.0 asked.sub.0)) }
+{
+    let ops = ops_of(basis.script, asked.tree, asked.sub);
+    let lock = conflict(basis.script, &basis.users, board, node, asked.tree, ops);
+    if lock.is_some() {
+        return Ok(lock);
+    }
+    let version = version_or_zero(board, asked.tree);
+    let later = newer(basis.script, &basis.users, board, node, version, ops);
+    if later.is_some() {
+        return Ok(later);
+    }
+    let found = short(alloc, worths, Version(version), ops)?;
+    Ok(found)
+}
+
+// Whether two causes are the same.
+fn same_cause(one: Option<Cause>, other: Option<Cause>) -> bool
+    ensures { result ≡ same_cause one other }
+{
+    match (one, other) {
+        (None, None) => true,
+        (
+            Some(Cause::Conflict { item, holder }),
+            Some(
+                Cause::Conflict {
+                    item: x,
+                    holder: tree,
+                },
+            ),
+        ) => item.0 == x.0 && holder.0 == tree.0,
+        (
+            Some(Cause::Newer { item, version }),
+            Some(
+                Cause::Newer {
+                    item: x,
+                    version: v,
+                },
+            ),
+        ) => item.0 == x.0 && version.0 == v.0,
+        (Some(Cause::Short { item, found }), Some(Cause::Short { item: x, found: n })) => item.0
+            == x.0
+            && found == n,
+        _ => false,
+    }
+}
+
+// What a yes gives.
+fn yes_of(act: &Act) -> Option<Given<'_>>
+    ensures { option_map given_by result ≡ yes_of act.now }
+{
+    match act {
+        Act::Voted { tree, sub, vote } => match vote.get() {
+            Vote::Yes(values) => Some(Given {
+                asked: Asked {
+                    tree: *tree,
+                    sub: *sub,
+                },
+                values: values.items(),
+            }),
+            Vote::No(_) => None,
+        },
+        _ => None,
+    }
+}
+
+// What a Did gives.
+fn did_of(act: &Act) -> Option<Given<'_>>
+    ensures { option_map given_by result ≡ did_of act.now }
+{
+    match act {
+        Act::Did { tree, sub, values } => Some(Given {
+            asked: Asked {
+                tree: *tree,
+                sub: *sub,
+            },
+            values: values.items(),
+        }),
+        _ => None,
+    }
+}
+
+// Whether an act that is a move shows what was worth before its entry, if it is a yes.
+pub(crate) fn is_right_yes(script: &Script, board: &Board, worths: &[Worths], act: &Act) -> bool
+    ensures { (h : List Entry) (xs : List Place) (p : ℕ) → IsBoardOf script.now xs board.now → AreKnown script.now (places_of h) worths.now
+        → IsMoveButCause script.now h xs (record { node = p; act = act.now })
+        → Decides result (IsRightYes script.now h (xs ++ record { node = p; act = act.now } ∷ []) act.now) }
+{
+    match yes_of(act) {
+        Some(given) => is_given(script, board, worths, given.asked, given.values),
+        None => true,
+    }
+}
+
+// Whether the tallies' last act shows what its items are worth, if it is a read tree's.
+pub(crate) fn is_right_read(script: &Script, board: &Board, worths: &[Worths], act: &Act) -> bool
+    ensures { (xs upto : List Place) → IsBoardOf script.now xs board.now → AreKnown script.now upto worths.now
+        → HasVersions xs upto act.now → Decides result (IsRightRead script.now upto act.now) }
+{
+    let Some(given) = did_of(act) else {
+        return true;
+    };
+    if !reads(script, given.asked.tree) {
+        return true;
+    }
+    is_given(script, board, worths, given.asked, given.values)
+}
+
+// Whether these values are what a subtransaction's gets are worth at its tree's version.
+fn is_given(
+    script: &Script,
+    board: &Board,
+    worths: &[Worths],
+    asked: Asked,
+    values: &[(ItemNo, Value)],
+) -> bool
+    ensures { (xs upto : List Place) → IsBoardOf script.now xs board.now → AreKnown script.now upto worths.now
+        → Decides result (IsShown (worth_in script.now upto) (gets_among (ops_of script.now asked.tree.0 asked.sub.0)) values.now (version_in asked.tree.0 xs)) }
+{
+    let Some(version) = board.version_of(asked.tree) else {
+        return false;
+    };
+    let ops = ops_of(script, asked.tree, asked.sub);
+    shows(worths, version, ops, values)
+}
