@@ -1,2 +1,5 @@
 pub mod Voting
 pub mod Going
+pub mod Compared
+pub mod Rewritten
+pub mod Judging

@@ -1,2 +1,4 @@
 pub mod Votes
 pub mod Steps
+pub mod Rewriting
+pub mod Trying

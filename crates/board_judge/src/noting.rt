@@ -1,17 +1,17 @@
 // The acts of an entry, noted one after the other on the Board's tallies.
-ghost use Rattle.std.specs.Prelude.{◌≡◌, List, IfOk, IfSome, IsNone, OnErr};
+ghost use Rattle.std.specs.Prelude.{◌≡◌, ◌++◌, ◌∷◌, [], true, false, List, IfOk, IfSome, IsNone, OnErr};
 ghost use Rattle.letter_types.specs.declared.entries.Entry.{Entry};
-ghost use Rattle.board_rules.specs.Histories.{Place};
-ghost use Rattle.board_rules.specs.Judging.{rule_of};
+ghost use Rattle.board_rules.specs.Histories.{Place, places_at, places_of};
+ghost use Rattle.board_rules.specs.Judging.{FirstFails, rule_of};
 ghost use Rattle.board_rules.specs.Moves.{IsMove};
 ghost use Rattle.board_tallies.specs.TakenBack.{taken_back};
-ghost use Rattle.board_judge.specs.inside.Steps.{IsStepped, restored};
+ghost use Rattle.board_judge.specs.inside.Steps.{AreNoted, IsStepped, restored};
 ghost use Rattle.board_judge.specs.inside.Votes.{IsMidway};
 
 use crate::votes::{Basis, is_move, is_right_yes};
 use board_rules::Rule;
 use board_tallies::{Board, Noted};
-use letter_types::Act;
+use letter_types::{Act, Entry};
 use std::alloc::Global;
 use tv_base::{ActorNo, NoMemory};
 use worth_steps::Worths;
@@ -56,6 +56,63 @@ pub(crate) fn note_act(
         keeps,
         right,
     }))
+}
+
+// Notes an act behind those that the steps are of, if it is a move. Whether it is one.
+fn note_next(
+    basis: &Basis,
+    board: &mut Board,
+    worths: &[Worths],
+    alloc: Global,
+    node: ActorNo,
+    act: &Act,
+    steps: &mut Vec<Step>,
+) -> Result<bool, NoMemory>
+    ensures noted { IfOk result (λ moves. moves ≡ true → (h : List Entry) (ys : List Place)
+        → IsMidway basis.now.script.now basis.now.gates basis.now.users h (places_of h ++ ys) board.old worths.now
+        → AreNoted basis.now.script.now h ys steps.old.items board.old
+        → AreNoted basis.now.script.now h (ys ++ record { node = node.0; act = act.now } ∷ []) steps.new.items board.new) }
+    ensures not { IfOk result (λ moves. moves ≡ false → (h : List Entry) (xs : List Place)
+        → IsMidway basis.now.script.now basis.now.gates basis.now.users h xs board.old worths.now
+        → IsMove basis.now.script.now h xs (record { node = node.0; act = act.now }) → ⊥) }
+    ensures same { IfOk result (λ moves. moves ≡ false → steps.new.items ≡ steps.old.items) }
+    ensures still { IfOk result (λ moves. moves ≡ false → board.new ≡ board.old) }
+    ensures back { restored steps.new.items board.new ≡ restored steps.old.items board.old }
+{
+    let Some(step) = note_act(basis, board, worths, alloc, node, act)? else {
+        return Ok(false);
+    };
+    if steps.push(step).is_err() {
+        board.undo(step.noted);
+        return Err(NoMemory);
+    }
+    Ok(true)
+}
+
+// Notes the acts of an entry, one after the other, up to the first that isn't a move. The rule of that one.
+pub(crate) fn note_acts(
+    basis: &Basis,
+    board: &mut Board,
+    worths: &[Worths],
+    alloc: Global,
+    entry: &Entry,
+    steps: &mut Vec<Step>,
+) -> Result<Option<Rule>, NoMemory>
+    requires { steps.old.items ≡ [] }
+    ensures noted { IfOk result (λ broken. IsNone broken → (h : List Entry)
+        → IsMidway basis.now.script.now basis.now.gates basis.now.users h (places_of h) board.old worths.now
+        → AreNoted basis.now.script.now h (places_at entry.now) steps.new.items board.new) }
+    ensures fails { IfOk result (λ broken. IfSome broken (λ rule. (h : List Entry)
+        → IsMidway basis.now.script.now basis.now.gates basis.now.users h (places_of h) board.old worths.now
+        → FirstFails basis.now.script.now h entry.now rule)) }
+    ensures back { restored steps.new.items board.new ≡ board.old }
+{
+    for act in entry.acts.items() {
+        if !note_next(basis, board, worths, alloc, entry.actor, act, steps)? {
+            return Ok(Some(rule_of(act)));
+        }
+    }
+    Ok(None)
 }
 
 // Takes back what was noted, the last step first.

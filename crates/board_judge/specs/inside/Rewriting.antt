@@ -1,0 +1,80 @@
+-- The deeds of trees that acts close, noted on the items' worths, and how that is taken back.
+use Rattle.std.specs.Prelude.{if◌then◌else◌, ◌≡◌, ◌==◌, Bool, true, ℕ, List, [], ◌∷◌, ◌++◌, map, Decides, IsTrue, Option, Some, None, slice_get, slice_set}
+use Rattle.std.specs.List.{AllByRecursion}
+use Rattle.std.specs.Option.{option_map}
+use Rattle.tv_base.specs.declared.numbers.TreeNo.{TreeNo}
+use Rattle.commute_ops.specs.declared.kinds.Kind.{Kind}
+use Rattle.commute_ops.specs.declared.value.Value.{Value}
+use Rattle.letter_types.specs.declared.entries.Entry.{Entry}
+use Rattle.script_parts.specs.ScriptData.{ScriptData}
+use Rattle.script_parts.specs.declared.parts.ItemRow.{ItemRow}
+use Rattle.script_parts.specs.declared.parts.Deed.{Deed}
+use Rattle.script_parts.specs.declared.parts.Sub.{Sub}
+use Rattle.script_parts.specs.declared.parts.SubOp.{SubOp}
+use Rattle.board_rules.specs.ButCause.{IsMoveButCause}
+use Rattle.board_rules.specs.Histories.{Place, places_of}
+use Rattle.board_rules.specs.Moves.{OneByOne}
+use Rattle.board_tallies.specs.Board.{BoardData, IsBoardOf, closes_in}
+use Rattle.worth_steps.specs.Kept.{AreWorths, WorthsData, worths_back}
+use Rattle.worth_steps.specs.Worth.{Noted, deed_suits}
+use Rattle.board_standing.specs.Notes.{AreKnown, tree_noted}
+use Rattle.board_judge.specs.declared.rewriting.Altered.{Altered}
+use Rattle.board_judge.specs.inside.Votes.{IsRightRead}
+
+-- the worths with one change taken back: an item that isn't there changes nothing
+abbrev pub altered_back : Altered → List WorthsData → List WorthsData
+altered_back a ws = elim (slice_get ws a.item.0) [ Some w ↦ slice_set ws a.item.0 (worths_back a.change w) | None ↦ ws ]
+
+-- the worths with these changes taken back, the last one first
+abbrev pub unaltered : List Altered → List WorthsData → List WorthsData
+unaltered [] ws = ws
+unaltered (a ∷ rest) ws = altered_back a (unaltered rest ws)
+
+-- what the walk over these acts of an entry after the history h has found
+pub record IsRewritten (s : ScriptData) (h : List Entry) (ys : List Place) (right : Bool) (ws : List WorthsData) : Type 0 where
+  pub reads : Decides right (OneByOne (λ (xs : List Place) (x : Place). IsRightRead s (xs ++ x ∷ []) x.act) (places_of h) ys)
+  pub known : right ≡ true → AreKnown s (places_of h ++ ys) ws
+
+-- the kinds of items with these worths; and they are those of the script's items
+abbrev pub kinds_of : List WorthsData → List Kind
+kinds_of ws = map (λ (w : WorthsData). w.kind) ws
+
+abbrev pub AreOfKinds : ScriptData → List WorthsData → Type 0
+AreOfKinds s ws = kinds_of ws ≡ map (λ (row : ItemRow). row.kind) s.items
+
+-- an item of this kind may have the deed, if it is there; and so may each of these operations' items
+abbrev pub SuitsKind : Deed → Option Kind → Type 0
+SuitsKind d None = ⊥
+SuitsKind d (Some kind) = IsTrue (deed_suits kind d)
+
+abbrev pub AllSuit : List Kind → List SubOp → Type 0
+AllSuit kinds ops = AllByRecursion (λ (o : SubOp). SuitsKind o.deed (slice_get kinds o.item.0)) ops
+
+abbrev pub AllSubsSuit : List Kind → List Sub → Type 0
+AllSubsSuit kinds subs = AllByRecursion (λ (sub : Sub). AllSuit kinds sub.ops) subs
+
+-- the items are as many, each of its kind, and these deeds more were noted on each
+pub record HasNoted (more : ℕ → List Noted) (olds news : List WorthsData) : Type 0 where
+  pub kinds : kinds_of news ≡ kinds_of olds
+  pub each : (x : ℕ) (w z : WorthsData) → slice_get olds x ≡ Some w → slice_get news x ≡ Some z
+      → (first : Value) (ns : List Noted) → AreWorths first ns w → AreWorths first (ns ++ more x) z
+
+-- one deed on item i, and on no other
+abbrev pub one_noted : ℕ → Noted → ℕ → List Noted
+one_noted i n x = if i == x then n ∷ [] else []
+
+-- the deeds of a tree that is closed, if there is one
+abbrev pub closed_noted : ScriptData → List Place → ℕ → Option TreeNo → List Noted
+closed_noted s xs x None = []
+closed_noted s xs x (Some t) = tree_noted s xs x t.0
+
+-- the act y after the acts xs was a move, this tree is closed by it, and these are the tallies after it and later acts
+pub record IsClosing (s : ScriptData) (xs later : List Place) (y : Place) (closed : Option TreeNo) (b : BoardData) : Type 0 where
+  pub move : IsMoveButCause s [] xs y
+  pub closes : option_map (λ (t : TreeNo). t.0) closed ≡ closes_in s (xs ++ y ∷ []) y.act
+  pub board : IsBoardOf s ((xs ++ y ∷ []) ++ later) b
+
+-- what was found of the act y after the acts xs, and the worths with it
+pub record IsCompared (s : ScriptData) (xs : List Place) (y : Place) (right : Bool) (ws : List WorthsData) : Type 0 where
+  pub reads : Decides right (IsRightRead s (xs ++ y ∷ []) y.act)
+  pub known : AreKnown s (xs ++ y ∷ []) ws

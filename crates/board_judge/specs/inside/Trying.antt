@@ -1,0 +1,28 @@
+-- What trying an entry has found: nothing, and then the tallies are those with it; or the first rule that it breaks.
+use Rattle.std.specs.Prelude.{◌++◌, ◌∷◌, [], List, Option, Some, None, Result, Ok, Err}
+use Rattle.tv_base.specs.declared.numbers.Stamp.{Stamp}
+use Rattle.tv_base.specs.declared.numbers.NoMemory.{NoMemory}
+use Rattle.letter_types.specs.declared.entries.Entry.{Entry}
+use Rattle.board_rules.specs.declared.rule_names.Rule.{Rule}
+use Rattle.board_rules.specs.Judging.{Breaks, MayCome}
+use Rattle.board_tallies.specs.Board.{BoardData}
+use Rattle.worth_steps.specs.Kept.{WorthsData}
+use Rattle.board_judge.specs.Judged.{HasTaken, JudgeData}
+use Rattle.board_judge.specs.declared.judge.Refused.{Refused}
+use Rattle.board_judge.specs.declared.judge.Refused.TheVariants as refused
+use Rattle.board_judge.specs.declared.votes.Basis.{Basis}
+
+-- what was made of a script, with these tallies
+abbrev pub judge_of : Basis → BoardData → List WorthsData → JudgeData
+judge_of basis b ws =
+    record { script = basis.script.now; gates = basis.gates; users = basis.users; board = b; worths = ws }
+
+-- why an entry of this stamp is refused
+abbrev pub refusal_of : Stamp → Result (Option Rule) NoMemory → Option Refused
+refusal_of stamp (Ok None) = None
+refusal_of stamp (Ok (Some rule)) = Some (refused.Wrong (record { stamp = stamp; rule = rule }))
+refusal_of stamp (Err none) = Some refused.NoMemory
+
+abbrev pub IsTried : JudgeData → List Entry → Entry → Option Rule → BoardData → List WorthsData → Type 0
+IsTried j h e None b ws = MayCome j.script h e × HasTaken (record j { board = b; worths = ws }) (h ++ e ∷ [])
+IsTried j h e (Some rule) b ws = Breaks j.script h e rule

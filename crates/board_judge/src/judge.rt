@@ -1,0 +1,249 @@
+// The judge: a history is taken entry by entry, and the first that breaks a rule is refused.
+ghost use Rattle.std.specs.List.{list_all};
+ghost use Rattle.std.specs.Prelude.{◌≡◌, ◌++◌, ◌∷◌, ◌<◌, [], List, length, unsigned_abs, IfErr, IfOk, IsNone, OnErr, OnOk};
+ghost use Rattle.letter_types.specs.declared.entries.Entry.{Entry};
+ghost use Rattle.board_rules.specs.Histories.{places_of};
+ghost use Rattle.board_rules.specs.Judging.{MayCome};
+ghost use Rattle.board_rules.specs.Right.{has_finished};
+ghost use Rattle.board_rules.specs.Worth.{worth_in};
+ghost use Rattle.board_standing.specs.Notes.{AreAllWorths};
+ghost use Rattle.commute_ops.specs.Ops.{value_start};
+ghost use Rattle.worth_steps.specs.Kept.{AreWorths};
+ghost use Rattle.board_judge.specs.Judged.{HasTaken, IsRefusal};
+ghost use Rattle.board_judge.specs.declared.noting.Step.{Step};
+ghost use Rattle.board_judge.specs.inside.Rewriting.{AreOfKinds, unaltered};
+ghost use Rattle.board_judge.specs.inside.Steps.{restored};
+ghost use Rattle.board_judge.specs.inside.Trying.{IsTried, judge_of, refusal_of};
+
+use crate::noting::{Step, note_acts, restore};
+use crate::rewriting::{Altered, rewrite, take_back};
+use crate::votes::Basis;
+use board_rules::Rule;
+use board_standing::{Users, does_at_once};
+use board_tallies::{Board, Gates};
+use commute_ops::{Kind, Value};
+use letter_types::Entry;
+use std::alloc::Global;
+use std::marker::Model;
+use tv_base::{ItemNo, NoMemory, Stamp, Version};
+use tx_trees::{ItemRow, Script};
+use worth_steps::Worths;
+
+/// An entry that breaks a rule.
+#[derive(Clone, Copy, Debug, PartialEq, Eq)]
+pub struct Wrong {
+    /// The entry's stamp.
+    pub stamp: Stamp,
+    /// The first rule that it breaks: that of its first act which isn't a move of the Board; where all are moves, the first
+    /// of `Fits`, `Right` and `AtOnce`.
+    pub rule: Rule,
+}
+
+/// Why an entry isn't taken. The judge is then what it was.
+#[derive(Clone, Copy, Debug, PartialEq, Eq)]
+pub enum Refused {
+    /// It breaks a rule.
+    Wrong(Wrong),
+    /// Memory ran out; nothing is said of the entry.
+    NoMemory,
+}
+
+/// A judge of histories of a script. It takes a history entry by entry, and keeps none: of the entries so far it knows the
+/// Board's tallies and what each item is worth at each version. It knows nothing of counters, waves and locks.
+#[derive(Drop)]
+pub struct Judge<'a> {
+    basis: Basis<'a>,
+    board: Board,
+    worths: Vec<Worths>,
+}
+
+impl<'a> Model for Judge<'a> {
+    ghost use Rattle.board_judge.specs.Judged.{JudgeData};
+
+    ghost Value = { JudgeData };
+
+    ghost view = { λ j. record {
+      script = j.basis.script.now;
+      gates = j.basis.gates;
+      users = j.basis.users;
+      board = j.board;
+      worths = j.worths.items;
+    } };
+
+    ghost use Rattle.board_judge.specs.inside.Rewriting.{AreOfKinds};
+
+    ghost invariant = { λ j. AreOfKinds j.basis.script.now j.worths.items };
+}
+
+impl<'a> Judge<'a> {
+    /// A judge that has taken no entry yet. Takes time and memory by the script.
+    pub fn new(alloc: Global, script: &'a Script) -> Result<Judge<'a>, NoMemory>
+        ensures script { IfOk result (λ j. j.script ≡ script.now) }
+        ensures taken { IfOk result (λ j. HasTaken j []) }
+    {
+        // (read for its clause, that the script is valid)
+        let _valid = script.nodes();
+        let gates = Gates::new(alloc, script)?;
+        let users = Users::new(alloc, script)?;
+        let board = Board::new(alloc, script)?;
+        let worths = first_worths(alloc, script)?;
+        let basis = Basis {
+            script,
+            gates,
+            users,
+        };
+        Ok(Judge {
+            basis,
+            board,
+            worths,
+        })
+    }
+
+    /// Takes an entry, if it may come after those that were taken: then the judge has taken it too. Else it is refused, by
+    /// the first rule that it breaks, and the judge is what it was. Takes time by the entry's acts, with the operations and
+    /// values of the trees that they end, and for locks by the operations of the script on these items.
+    pub fn take(&mut self, alloc: Global, entry: &Entry) -> Result<(), Refused>
+        ensures script { self.new.script ≡ self.old.script }
+        ensures ok { OnOk result ((h : List Entry) → HasTaken self.old h
+            → MayCome self.old.script h entry.now × HasTaken self.new (h ++ entry.now ∷ [])) }
+        ensures refused { IfErr result (λ refused. IsRefusal self.old entry.now refused) }
+        ensures err { OnErr result (self.new ≡ self.old) }
+    {
+        let mut steps = Vec::new(alloc);
+        let mut trail = Vec::new(alloc);
+        let tried = try_entry(
+            &self.basis,
+            &mut self.board,
+            &mut self.worths,
+            alloc,
+            entry,
+            &mut steps,
+            &mut trail,
+        );
+        let Some(refused) = refusal(entry.stamp, tried) else {
+            self.board.settle();
+            return Ok(());
+        };
+        restore(&mut self.board, &mut steps);
+        take_back(&mut self.worths, &mut trail);
+        Err(refused)
+    }
+
+    /// What an item is worth at a version after the entries that were taken. Only a bag needs memory.
+    pub fn worth(&self, alloc: Global, item: ItemNo, version: Version) -> Result<Value, NoMemory>
+        requires { item.0 < length self.now.script.items }
+        ensures { IfOk result (λ worth. (h : List Entry) → HasTaken self.now h
+            → worth ≡ worth_in self.now.script (places_of h) item.0 version.0) }
+    {
+        let value = self.worths[item.0 as usize].at(alloc, version)?;
+        Ok(value)
+    }
+
+    /// Whether the client has finished.
+    pub fn is_finished(&self) -> bool
+        ensures { (h : List Entry) → HasTaken self.now h → result ≡ has_finished (places_of h) }
+    {
+        self.board.is_finished()
+    }
+}
+
+// Tries an entry: notes it on the tallies, by steps that can be taken back, and gives the first rule that it breaks.
+fn try_entry(
+    basis: &Basis,
+    board: &mut Board,
+    worths: &mut Vec<Worths>,
+    alloc: Global,
+    entry: &Entry,
+    steps: &mut Vec<Step>,
+    trail: &mut Vec<Altered>,
+) -> Result<Option<Rule>, NoMemory>
+    requires steps { steps.old.items ≡ [] }
+    requires trail { trail.old.items ≡ [] }
+    requires kinds { AreOfKinds basis.now.script.now worths.old.items }
+    ensures tried { IfOk result (λ broken. (h : List Entry)
+        → HasTaken (judge_of basis.now board.old worths.old.items) h
+        → IsTried (judge_of basis.now board.old worths.old.items) h entry.now broken board.new worths.new.items) }
+    ensures board { restored steps.new.items board.new ≡ board.old }
+    ensures worths { unaltered trail.new.items worths.new.items ≡ worths.old.items }
+    ensures kinds { IfOk result (λ broken. IsNone broken → AreOfKinds basis.now.script.now worths.new.items) }
+{
+    let at_once = does_at_once(
+        basis.script,
+        &basis.users,
+        board,
+        entry.actor,
+        &entry.took.body,
+        entry.acts.items(),
+    );
+    let broken = note_acts(basis, board, worths, alloc, entry, steps)?;
+    if broken.is_some() {
+        return Ok(broken);
+    }
+    if !all_keep(steps) {
+        return Ok(Some(Rule::Fits));
+    }
+    if !all_right(steps) {
+        return Ok(Some(Rule::Right));
+    }
+    if !rewrite(
+        basis.script,
+        board,
+        worths,
+        trail,
+        steps,
+        entry.acts.items(),
+    )? {
+        return Ok(Some(Rule::Right));
+    }
+    if !at_once {
+        return Ok(Some(Rule::AtOnce));
+    }
+    Ok(None)
+}
+
+// Whether all acts that were noted keep to the script.
+fn all_keep(steps: &[Step]) -> bool
+    ensures { result ≡ list_all (λ (st : Step). st.keeps) steps.now }
+{
+    steps.iter().all(|step| step.keeps)
+}
+
+// Whether all votes among them show what was worth.
+fn all_right(steps: &[Step]) -> bool
+    ensures { result ≡ list_all (λ (st : Step). st.right) steps.now }
+{
+    steps.iter().all(|step| step.right)
+}
+
+// Why an entry of this stamp isn't taken, by what trying it gave.
+fn refusal(stamp: Stamp, tried: Result<Option<Rule>, NoMemory>) -> Option<Refused>
+    ensures { result ≡ refusal_of stamp tried }
+{
+    match tried {
+        Ok(None) => None,
+        Ok(Some(rule)) => Some(Refused::Wrong(Wrong { stamp, rule })),
+        Err(NoMemory) => Some(Refused::NoMemory),
+    }
+}
+
+// What each item is worth before all acts.
+fn first_worths(alloc: Global, script: &Script) -> Result<Vec<Worths>, NoMemory>
+    ensures worths { IfOk result (λ worths. AreAllWorths script.now [] worths.items) }
+    ensures kinds { IfOk result (λ worths. AreOfKinds script.now worths.items) }
+{
+    let items = script.items();
+    let mut worths = Vec::with_capacity(alloc, items.len())?;
+    for item in items {
+        worths.push(worths_of(alloc, item))?;
+    }
+    Ok(worths)
+}
+
+// What an item is worth before all acts.
+fn worths_of(alloc: Global, item: &ItemRow) -> Worths
+    requires { item.now.kind ≡ Kind.Bag → unsigned_abs item.now.initial ≡ 0 }
+    ensures { AreWorths (value_start item.now.kind item.now.initial) [] result }
+{
+    let first = Value::start(alloc, item.kind, item.initial);
+    Worths::new(alloc, &first)
+}
