@@ -51,6 +51,11 @@ mode_line names.Upgrade None None None true l few some is = absurd (cc is)
 mode_line names.Upgrade (Some w) s t history l few some is = absurd (cc is)
 mode_line names.Upgrade None (Some s) t history l few some is = absurd (cc is)
 mode_line names.Upgrade None None (Some t) history l few some is = absurd (cc is)
+mode_line names.Audit None None None false l few some is = taken lines.Audit l tt is
+mode_line names.Audit None None None true l few some is = absurd (cc is)
+mode_line names.Audit (Some w) s t history l few some is = absurd (cc is)
+mode_line names.Audit None (Some s) t history l few some is = absurd (cc is)
+mode_line names.Audit None None (Some t) history l few some is = absurd (cc is)
 
 -- where the three tests are passed
 tested_line : (m : ModeName) (w s t : Option Text) (history : Bool) (l : Line) (a b c : Bool) → is_given_in 1 32 w ≡ a

@@ -21,6 +21,7 @@ mode_of word =
     else if bytes_eq word (codes "run") then Some names.Run
     else if bytes_eq word (codes "soak") then Some names.Soak
     else if bytes_eq word (codes "upgrade") then Some names.Upgrade
+    else if bytes_eq word (codes "audit") then Some names.Audit
     else None
 
 -- a number from low to high, if it is given
@@ -39,6 +40,7 @@ line_of_mode names.Sim None seed None history = Some (lines.OfScript (modes.Sim 
 line_of_mode names.Run workers None None history = Some (lines.OfScript (modes.Run (unwrap_or workers 4) history))
 line_of_mode names.Soak workers (Some seed) (Some trees) false = Some (lines.Soak (unwrap_or workers 4) seed trees)
 line_of_mode names.Upgrade None None None false = Some (lines.OfScript modes.Upgrade)
+line_of_mode names.Audit None None None false = Some lines.Audit
 line_of_mode name workers seed trees history = None
 
 -- the line of a mode with these values

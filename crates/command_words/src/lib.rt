@@ -52,6 +52,8 @@ pub enum Mode {
 pub enum Line {
     /// A script is read, and this is made of it.
     OfScript(Mode),
+    /// Mode `audit`, with no other option: a script and a printed history are read, and the history is judged.
+    Audit,
     /// Mode `soak`: a script is made from a seed, run on threads and summed up. Nothing is read.
     Soak {
         /// The number of `--workers`, 1 to 32; 4 where it isn't given.
@@ -96,6 +98,7 @@ enum ModeName {
     Run,
     Soak,
     Upgrade,
+    Audit,
 }
 
 // The mode that a word names.
@@ -108,6 +111,7 @@ fn mode_by_word(word: &str) -> Option<ModeName>
         "run" => Some(ModeName::Run),
         "soak" => Some(ModeName::Soak),
         "upgrade" => Some(ModeName::Upgrade),
+        "audit" => Some(ModeName::Audit),
         _ => None,
     }
 }
@@ -164,6 +168,7 @@ fn line_by_mode(
             trees,
         }),
         (ModeName::Upgrade, None, None, None, false) => Some(Line::OfScript(Mode::Upgrade)),
+        (ModeName::Audit, None, None, None, false) => Some(Line::Audit),
         _ => None,
     }
 }

@@ -2,8 +2,8 @@ use std::io;
 use std::io::{Read, Write};
 use std::test::Fail;
 use tv_base::{
-    MemSink, MemSource, NoMemory, ReadEnd, ReadStep, ReaderSource, Seq, Sink, Source, WriteFailed,
-    WriteStep, WriterSink, read_all, write_all,
+    MOST_BYTES, MemSink, MemSource, NoMemory, ReadEnd, ReadStep, ReaderSource, Seq, Sink, Source,
+    WriteFailed, WriteStep, WriterSink, read_all, write_all,
 };
 
 // A reader that gives one byte and then only fails.
@@ -78,7 +78,10 @@ fn a_sink_takes_pieces_and_fails_where_listed_and_full(rt: HostRuntime) -> Resul
 fn a_fault_ends_the_moving(rt: HostRuntime) -> Result<(), Fail> {
     let alloc = rt.alloc();
     let mut source = MemSource::new(b"abcdefg".to_vec(alloc)?, 3, [2].to_vec(alloc)?);
-    assert_eq!(rt; read_all(alloc, &mut source).err(), Some(ReadEnd::Failed));
+    assert_eq!(rt;
+        read_all(alloc, &mut source, MOST_BYTES).err(),
+        Some(ReadEnd::Failed)
+    );
     let mut sink = MemSink::new(alloc, 100, 4, [2].to_vec(alloc)?)?;
     assert_eq!(rt; write_all(&mut sink, b"abcdefg"), Err(WriteFailed));
     assert_eq!(rt; sink.bytes(), b"abcd".as_slice());
@@ -89,10 +92,16 @@ fn a_fault_ends_the_moving(rt: HostRuntime) -> Result<(), Fail> {
 fn a_reader_is_a_source(rt: HostRuntime) -> Result<(), Fail> {
     let alloc = rt.alloc();
     let mut source = ReaderSource::new(b"abc".as_slice());
-    assert_eq!(rt; read_all(alloc, &mut source)?.as_slice(), b"abc".as_slice());
+    assert_eq!(rt;
+        read_all(alloc, &mut source, MOST_BYTES)?.as_slice(),
+        b"abc".as_slice()
+    );
     assert_eq!(rt; source.faults(), 0);
     let mut failing = ReaderSource::new(OneByte { given: false });
-    assert_eq!(rt; read_all(alloc, &mut failing).err(), Some(ReadEnd::Failed));
+    assert_eq!(rt;
+        read_all(alloc, &mut failing, MOST_BYTES).err(),
+        Some(ReadEnd::Failed)
+    );
     assert_eq!(rt; failing.faults(), 1);
     Ok(())
 }

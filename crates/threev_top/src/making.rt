@@ -21,7 +21,7 @@ use script_reader::read_script;
 use std::alloc::Global;
 use std::sync::Wait;
 use std::thread::Threads;
-use tv_base::{Gate, NoMemory, Source, read_all};
+use tv_base::{Gate, MOST_BYTES, NoMemory, Source, read_all};
 
 /// The run of the script that a seed makes, on threads, and its summary.
 fn soaked<R: Threads + Wait + Sync, G: Gate + Sync>(
@@ -63,7 +63,7 @@ fn made_of_source<R: Threads + Wait + Sync, S: Source, G: Gate + Sync>(
         (Rose (S.faults source.old) (S.faults source.new)) ⊥ stop) }
     ensures taken { HasTaken (MOST_BYTES + 1) (S.left source.old) (S.left source.new) }
 {
-    let bytes = read_all(alloc, source)?;
+    let bytes = read_all(alloc, source, MOST_BYTES)?;
     let script = read_script(alloc, &bytes)?;
     let made = made_of_script(rt, alloc, mode, script, gate)?;
     Ok(made)

@@ -1,12 +1,12 @@
 // All that a source has, and all of a text.
-ghost use Rattle.std.specs.Prelude.{◌≡◌, ◌+◌, ◌<◌, ◌≤◌, length, IfOk, OnOk, OnErr, IsErrOf};
+ghost use Rattle.std.specs.Prelude.{◌≡◌, ◌+◌, ◌<◌, ◌≤◌, ◌-◌, ◌^◌, length, IfOk, OnOk, OnErr, IsErrOf};
 ghost use Rattle.std.specs.Io.KnownBytes.{Appends, Consumes, IsAtEnd};
 ghost use Rattle.tv_base.specs.Outside.{AppendsFront, HasMoreThan, HasTaken, Rose};
 
 use crate::outside::{ReadStep, Sink, Source, WriteStep};
 use std::alloc::{AllocError, Global};
 
-/// The most bytes that are read: 8 MiB.
+/// The most bytes of a script: 8 MiB.
 pub const MOST_BYTES: usize = 8_388_608;
 
 // The most bytes that are asked for at once.
@@ -15,7 +15,7 @@ const CHUNK: usize = 4096;
 /// Why reading ended early. What was read is lost.
 #[derive(Clone, Copy, Debug, PartialEq, Eq)]
 pub enum ReadEnd {
-    /// The source has more than `MOST_BYTES`.
+    /// The source has more bytes than may be read.
     TooLong,
     /// The source failed, and counted a fault.
     Failed,
@@ -37,22 +37,23 @@ impl From<AllocError> for ReadEnd {
 #[derive(Clone, Copy, Debug, PartialEq, Eq)]
 pub struct WriteFailed;
 
-/// All the bytes that the source has, if they are at most `MOST_BYTES`.
+/// All the bytes that the source has, if they are at most so many.
 ///
-/// At most `MOST_BYTES + 1` bytes are taken from the source, whatever the answer.
-pub fn read_all<S: Source>(alloc: Global, source: &mut S) -> Result<Vec<u8>, ReadEnd>
+/// At most one byte more than that is taken from the source, whatever the answer.
+pub fn read_all<S: Source>(alloc: Global, source: &mut S, most: usize) -> Result<Vec<u8>, ReadEnd>
+    requires { most < 2 ^ 64 - 1 }
     ensures all { IfOk result (λ v. Consumes (S.left source.old) (S.left source.new) v.items) }
     ensures end { OnOk result (IsAtEnd (S.left source.new)) }
-    ensures most { IfOk result (λ v. length v.items ≤ MOST_BYTES) }
-    ensures long { IsErrOf result ReadEnd.TooLong → HasMoreThan MOST_BYTES (S.left source.old) }
-    ensures taken { HasTaken (MOST_BYTES + 1) (S.left source.old) (S.left source.new) }
+    ensures most { IfOk result (λ v. length v.items ≤ most) }
+    ensures long { IsErrOf result ReadEnd.TooLong → HasMoreThan most (S.left source.old) }
+    ensures taken { HasTaken (most + 1) (S.left source.old) (S.left source.new) }
     ensures later { S.faults source.old ≤ S.faults source.new }
     ensures cause { IsErrOf result ReadEnd.Failed → Rose (S.faults source.old) (S.faults source.new) }
 {
     let mut bytes = Vec::new(alloc);
     let mut chunk = [0; CHUNK];
     loop {
-        let room = MOST_BYTES - bytes.len();
+        let room = most - bytes.len();
         let asked = CHUNK.min(room + 1);
         match source.read(&mut chunk[..asked]) {
             ReadStep::Got(count) => {
