@@ -1,4 +1,3 @@
-pub mod Accepted
-pub mod Fronts
 pub mod OneVerdict
-pub mod SameEntries
+pub mod Taken
+pub mod Auditing

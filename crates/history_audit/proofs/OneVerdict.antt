@@ -14,9 +14,11 @@ use Rattle.history_text.specs.Printable.{Begins}
 use Rattle.history_reader.proofs.OneEntry.{one_entry}
 use Rattle.history_audit.specs.declared.rules.AuditRule.{AuditRule}
 use Rattle.history_audit.specs.declared.rules.AuditRule.TheVariants.{Text, Postal, Judged, End}
-use Rattle.history_audit.specs.Verdicts.{IsPostal, IsTaken, Verdict, Yes, Unread, Unposted, Broken, Unfinished}
-use Rattle.history_audit.proofs.Fronts.{Fronts, Longer, Same, Shorter, fronts, nothing_begins}
-use Rattle.history_audit.proofs.SameEntries.{postal_front, same_entry}
+use Rattle.history_walk.specs.Walks.{IsPostal}
+use Rattle.history_walk.proofs.Fronts.{Fronts, Longer, Same, Shorter, fronts, nothing_begins}
+use Rattle.history_walk.proofs.SameEntries.{postal_front, same_entry}
+use Rattle.history_audit.specs.Verdicts.{IsTaken, Verdict, Yes, Unread, Unposted, Broken, Unfinished}
+use Rattle.history_audit.proofs.Taken.{is_read}
 
 -- why a verdict of what was taken stops there
 data Why (s : ScriptData) (h : List Entry) (rest : List ℕ) : Result ℕ (ℕ × AuditRule) → Type 0 where
@@ -128,4 +130,6 @@ pub one_verdict : (s : ScriptData) (text : List ℕ) (a b : Result ℕ (ℕ × A
 one_verdict s text a b valid v w =
     let x = stop_of s text a v in
     let y = stop_of s text b w in
-    one_stop s valid text a b x y (fronts s valid text x.entries x.rest y.entries y.rest x.taken y.taken)
+    one_stop s valid text a b x y
+    (fronts s valid text x.entries x.rest y.entries y.rest (is_read s text x.entries x.rest x.taken)
+    (is_read s text y.entries y.rest y.taken))

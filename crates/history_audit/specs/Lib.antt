@@ -1,1 +1,4 @@
 pub mod Verdicts
+pub mod Audited
+pub mod Names
+pub mod inside

@@ -1,26 +1,14 @@
 -- When the text of a history is accepted, and in what it fails first where it isn't.
-use Rattle.std.specs.Prelude.{ℕ, ◌+◌, ◌≡◌, ◌≢◌, ◌⊎◌, List, [], ◌∷◌, ◌++◌, length, map, Result, Ok, Err}
-use Rattle.std.specs.List.{AllByRecursion}
+use Rattle.std.specs.Prelude.{ℕ, ◌+◌, ◌≢◌, List, [], ◌∷◌, ◌++◌, length, Result, Ok, Err}
 use Rattle.letter_types.specs.declared.entries.Entry.{Entry}
-use Rattle.letter_types.specs.Postal.{IsMessageRun, delivery_of}
-use Rattle.tx_trees.specs.ScriptData.{ScriptData, client_of}
+use Rattle.tx_trees.specs.ScriptData.{ScriptData}
 use Rattle.board_rules.specs.declared.rule_names.Rule.{Rule}
 use Rattle.board_rules.specs.Judging.{Breaks, IsAccepted}
 use Rattle.board_rules.specs.Right.{HasFinished}
-use Rattle.history_text.specs.History.{history_lines_of}
-use Rattle.history_text.specs.Printable.{Begins, EndsEntry, IsPrintable}
+use Rattle.history_text.specs.Printable.{Begins}
+use Rattle.history_walk.specs.Walks.{BeginsWith, IsPostal}
 use Rattle.history_audit.specs.declared.rules.AuditRule.{AuditRule}
 use Rattle.history_audit.specs.declared.rules.AuditRule.TheVariants.{Text, Postal, Judged, End}
-
--- letters went as letters do
-abbrev pub IsPostal : ScriptData → List Entry → Type 0
-IsPostal s h = IsMessageRun (client_of s) (map delivery_of h)
-
--- the text begins with the lines of these entries, each of which may be printed, and this is the rest
-pub record BeginsWith (s : ScriptData) (text : List ℕ) (h : List Entry) (rest : List ℕ) : Type 0 where
-  pub lines : text ≡ history_lines_of s h ++ rest
-  pub may : AllByRecursion (IsPrintable s) h
-  pub ends : (h ≡ []) ⊎ EndsEntry rest
 
 -- so far the text is read, letters went as letters do, and each entry is accepted
 pub record IsTaken (s : ScriptData) (text : List ℕ) (h : List Entry) (rest : List ℕ) : Type 0 where

@@ -1,41 +1,10 @@
 // Laws of verdicts.
-ghost use Rattle.std.specs.Prelude.{ℕ, ◌≡◌, List, [], length, Result, Ok};
-ghost use Rattle.std.specs.List.{AllByRecursion};
+ghost use Rattle.std.specs.Prelude.{ℕ, ◌≡◌, List, [], Result};
 ghost use Rattle.letter_types.specs.declared.entries.Entry.{Entry};
 ghost use Rattle.tx_trees.specs.ScriptData.{ScriptData};
 ghost use Rattle.tx_trees.specs.Valid.{IsValid};
-ghost use Rattle.board_rules.specs.Right.{HasFinished};
-ghost use Rattle.world_model.specs.Runs.{IsWorldRun};
-ghost use Rattle.history_text.specs.History.{history_lines_of};
-ghost use Rattle.history_text.specs.Printable.{IsPrintable};
 ghost use Rattle.history_audit.specs.declared.rules.AuditRule.{AuditRule};
 ghost use Rattle.history_audit.specs.Verdicts.{IsTaken, Verdict};
-
-use headline::every_run_is_accepted;
-use letter_types::History;
-use print_laws::runs_are_printable;
-use tx_trees::Script;
-
-/// The lines of every run that has finished are accepted, with all its entries, where each of these may be printed.
-pub fn printed_runs_are_accepted()
-    ensures { (s : ScriptData) (h : List Entry) → IsValid s → IsWorldRun s h → HasFinished h
-        → AllByRecursion (IsPrintable s) h → Verdict s (history_lines_of s h) (Ok (length h)) }
-{
-    every_run_is_accepted();
-}
-
-/// So are those of every history of the script that is such a run: each of its entries may be printed. It walks the
-/// history and changes nothing.
-pub fn printed_histories_are_accepted(script: &Script, history: &History)
-    requires run { IsWorldRun script.now history.now }
-    requires finished { HasFinished history.now }
-    ensures { Verdict script.now (history_lines_of script.now history.now) (Ok (length history.now)) }
-{
-    // That says that the script is valid.
-    let _nodes = script.nodes();
-    runs_are_printable(script, history);
-    printed_runs_are_accepted();
-}
 
 /// A text has one verdict: whoever answers a verdict of it answers the same.
 pub fn a_text_has_one_verdict()

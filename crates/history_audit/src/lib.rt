@@ -1,12 +1,12 @@
-//! What it means that the text of a history is accepted or refused: its verdict, by the first entry that fails. It has
-//! definitions and laws alone: the text of a run that has finished is accepted, and a text has one verdict.
+//! The audit of a printed history: its text is read entry by entry, and judged by what each entry may be after those before
+//! it. What it means that a text is accepted or refused is its verdict, by the first entry that fails; a text has one.
 #![tactic(auto)]
 
+mod audit;
 mod laws;
 mod rules;
 
-pub use laws::{
-    a_text_has_one_verdict, an_accepted_text_is_one_history, printed_histories_are_accepted,
-    printed_runs_are_accepted,
-};
+pub use audit::{AuditRefusal, audit};
+pub use history_walk::{HistoryRefusal, read_history};
+pub use laws::{a_text_has_one_verdict, an_accepted_text_is_one_history};
 pub use rules::AuditRule;

@@ -15,8 +15,11 @@ use Rattle.script_reader.specs.Reading.{Gives, read_of}
 use Rattle.script_reader.specs.declared.reading.ScriptRefusal.{ScriptRefusal}
 use Rattle.script_reader.specs.declared.reading.ScriptRefusal.TheVariants as refusals
 use Rattle.tx_trees.specs.ScriptData.{ScriptData}
-use Rattle.threev_top.specs.Calls.{HasCause, IsText, IsTextOf, ReadsAll}
-use Rattle.threev_top.specs.inside.Calls.{reading_stop, script_stop, words_stop}
+use Rattle.audit_mode.specs.Audits.{HasAuditCause, ReadsAll}
+use Rattle.audit_mode.specs.declared.judging.AuditStop.{AuditStop}
+use Rattle.audit_mode.specs.declared.judging.AuditStop.TheVariants as audits
+use Rattle.threev_top.specs.Calls.{HasCause, IsText, IsTextOf}
+use Rattle.threev_top.specs.inside.Calls.{audit_stop, reading_stop, script_stop, words_stop}
 
 abbrev reads : Mode → Option Line
 reads mode = Some (lines.OfScript mode)
@@ -54,3 +57,11 @@ pub words_cause : (line : Option Line) (left now : Option (List ℕ)) (failed ne
     → HasReadLine line (Err refusal) → HasCause line left now failed never (words_stop refusal)
 words_cause line left now failed never errors.Refused is = is
 words_cause line left now failed never errors.NoMemory is = tt
+
+-- an audit accepts nothing
+pub audit_cause : (left now : Option (List ℕ)) (failed never : Type 0) (stop : AuditStop) → HasAuditCause left now failed stop
+    → HasCause (Some lines.Audit) left now failed never (audit_stop stop)
+audit_cause left now failed never audits.NoMemory has = tt
+audit_cause left now failed never audits.Reading has = (refl, has)
+audit_cause left now failed never (audits.Script f) has = (refl, has)
+audit_cause left now failed never (audits.History f) has = (refl, has)

@@ -3,11 +3,12 @@ use Rattle.std.proofs.Common.{◌≡◌, ◌≢◌, ◌≤◌, ◌+◌, ◌⊎�
 use Rattle.std.specs.Prelude.{IsTrue}
 use Rattle.std.specs.Io.KnownBytes.{Appends}
 use Rattle.tv_base.specs.Outside.{AppendsFront, HasTaken, Rose}
-use Rattle.tv_base.specs.declared.moving.TheConstants.{MOST_BYTES}
+use Rattle.audit_mode.specs.declared.judging.HistoryFault.{HistoryFault}
 use Rattle.command_words.specs.declared.Line.{Line}
+use Rattle.command_words.specs.declared.Line.TheVariants as lines
 use Rattle.letter_types.specs.declared.entries.Entry.{Entry}
 use Rattle.script_reader.specs.declared.reading.ScriptFault.{ScriptFault}
-use Rattle.threev_top.specs.Calls.{EndsAs, HasCause, reads_script, Refuses, Tells, TellsEnd, WroteBy}
+use Rattle.threev_top.specs.Calls.{EndsAs, FailsAudit, HasCause, most_bytes, reads_script, Refuses, Tells, TellsEnd, WroteBy}
 use Rattle.threev_top.specs.Texts.{line_told, status_of}
 use Rattle.threev_top.specs.inside.Calls.{MayTell}
 use Rattle.threev_top.specs.declared.stops.Stop.{Stop}
@@ -24,7 +25,7 @@ pub written_ends : {S K : Type 0} {left : S → Option (List ℕ)} {read_faults 
     {got : K → Option (List ℕ)} {write_faults : K → ℕ} {out out' : K} {line : Option Line} {stop : Option Stop}
     {history made : List Entry} (bytes : List ℕ)
     → WroteBy (λ text. text ≡ bytes) line (left source) (left source') made
-    → (reads_script line ≡ false → source' ≡ source) → HasTaken (MOST_BYTES + 1) (left source) (left source')
+    → (reads_script line ≡ false → source' ≡ source) → HasTaken (most_bytes line + 1) (left source) (left source')
     → (stop ≡ None → Appends (got out) (got out') bytes)
     → (stop ≡ Some stops.Writing → AppendsFront (got out) (got out') bytes)
     → ((s : Stop) → stop ≡ Some s → (s ≡ stops.Writing) × Rose (write_faults out) (write_faults out'))
@@ -43,20 +44,20 @@ written_ends {S} {K} {left} {read_faults} {source} {source'} {got} {write_faults
       taken = taken;
     }
 
--- a call that stops with a refused script may as well have stopped for lack of memory
+-- a call that stops with a refused script or history may as well have stopped for lack of memory
 memory_ends : {S K : Type 0} {left : S → Option (List ℕ)} {read_faults : S → ℕ} {source source' : S}
     {got : K → Option (List ℕ)} {write_faults : K → ℕ} {out out' : K} {line : Option Line} {history : List Entry}
-    (f : ScriptFault)
-    → EndsAs left read_faults source source' got write_faults out out' line (Some (stops.Script f)) history
+    (stop : Stop) → stop ≢ stops.Writing
+    → EndsAs left read_faults source source' got write_faults out out' line (Some stop) history
     → EndsAs left read_faults source source' got write_faults out out' line (Some stops.NoMemory) history
-memory_ends {S} {K} {left} {read_faults} {source} {source'} {got} {write_faults} {out} {out'} {line} {history} f ends =
+memory_ends {S} {K} {left} {read_faults} {source} {source'} {got} {write_faults} {out} {out'} {line} {history} stop early ends =
     let C : Stop → Type 0 = HasCause line (left source) (left source') (Rose (read_faults source) (read_faults source'))
     (Rose (write_faults out) (write_faults out')) in
     record {
       wrote = λ is. absurd (cc is);
       front = λ is. absurd (cc is);
       cause = λ s is. let same : stops.NoMemory ≡ s = cc is in subst C same tt;
-      nothing = λ s is other. ends.nothing (stops.Script f) refl (λ e. cc e);
+      nothing = λ s is other. ends.nothing stop refl early;
       unread = ends.unread;
       taken = ends.taken;
     }
@@ -64,11 +65,13 @@ memory_ends {S} {K} {left} {read_faults} {source} {source'} {got} {write_faults}
 -- what is so of a stop is so of what is told of it, where it is so of running out of memory in place of a refused
 -- script
 of_told : (P : Stop → Type 0) (stop told : Stop) → MayTell stop told
-    → ((f : ScriptFault) → P (stops.Script f) → P stops.NoMemory) → P stop → P told
+    → ((s : Stop) → s ≢ stops.Writing → P s → P stops.NoMemory) → P stop → P told
 of_told P stops.NoMemory told is memory here = subst P (sym is) here
 of_told P stops.Words told is memory here = subst P (sym is) here
 of_told P (stops.Script f) told (inl is) memory here = subst P (sym is) here
-of_told P (stops.Script f) told (inr is) memory here = subst P (sym is) (memory f here)
+of_told P (stops.Script f) told (inr is) memory here = subst P (sym is) (memory (stops.Script f) (λ e. cc e) here)
+of_told P (stops.History f) told (inl is) memory here = subst P (sym is) here
+of_told P (stops.History f) told (inr is) memory here = subst P (sym is) (memory (stops.History f) (λ e. cc e) here)
 of_told P stops.Reading told is memory here = subst P (sym is) here
 of_told P stops.Writing told is memory here = subst P (sym is) here
 
@@ -80,7 +83,7 @@ pub ends_as_told : {S K : Type 0} {left : S → Option (List ℕ)} {read_faults 
     → MayTell stop told → EndsAs left read_faults source source' got write_faults out out' line (Some told) history
 ends_as_told {S} {K} {left} {read_faults} {source} {source'} {got} {write_faults} {out} {out'} {line} {end} {history} {stop} {told} ends is may =
     of_told (λ s. EndsAs left read_faults source source' got write_faults out out' line (Some s) history) stop told may
-    (λ f refused. memory_ends f refused)
+    (λ s early refused. memory_ends s early refused)
     (subst (λ (o : Option Stop). EndsAs left read_faults source source' got write_faults out out' line o history) is ends)
 
 -- and its stop is told by its status and its line
@@ -102,6 +105,7 @@ no_line_by left now rf wf stops.NoMemory n has other is = inl is
 no_line_by left now rf wf stops.Words n has other is = inr is
 no_line_by left now rf wf (stops.Script f) n has other is = absurd (cc has.0)
 no_line_by left now rf wf stops.Reading n has other is = absurd (cc has.0)
+no_line_by left now rf wf (stops.History f) n has other is = absurd (cc has.0)
 no_line_by left now rf wf stops.Writing n has other is = absurd (other refl)
 
 pub no_line_status : {S K : Type 0} {left : S → Option (List ℕ)} {read_faults : S → ℕ} {source source' : S}
@@ -118,14 +122,20 @@ no_line_status {S} {K} {left} {read_faults} {source} {source'} {got} {write_faul
     (ends.front (ap (λ (s : Stop). Some s) at)))
     is
 
+-- an audit reads a script
+audits_read : (line : Option Line) → line ≡ Some lines.Audit → IsTrue (reads_script line)
+audits_read line is = ap reads_script is
+
 -- where no stop but out of memory has its cause, the status is 0 or 1
 no_cause_by : (line : Option Line) (left now : Option (List ℕ)) (read_failed write_failed : Type 0) (stop : Stop) (n : ℕ)
     → HasCause line left now read_failed write_failed stop → n ≡ status_of (Some stop) → line ≢ None
     → (write_failed → ⊥)
-    → (IsTrue (reads_script line) → (read_failed → ⊥) × ((f : ScriptFault) → Refuses left now f → ⊥)) → n ≤ 1
+    → (IsTrue (reads_script line) → (read_failed → ⊥) × ((f : ScriptFault) → Refuses line left now f → ⊥)
+    × ((f : HistoryFault) → FailsAudit line left now f → ⊥)) → n ≤ 1
 no_cause_by line left now rf wf stops.NoMemory n has is some writes reads = omega (arith, is)
 no_cause_by line left now rf wf stops.Words n has is some writes reads = absurd (some has)
 no_cause_by line left now rf wf (stops.Script f) n has is some writes reads = absurd ((reads has.0).1 f has.1)
+no_cause_by line left now rf wf (stops.History f) n has is some writes reads = absurd ((reads (audits_read line has.0)).2 f has)
 no_cause_by line left now rf wf stops.Reading n has is some writes reads = absurd ((reads has.0).0 has.1)
 no_cause_by line left now rf wf stops.Writing n has is some writes reads = absurd (writes has)
 
@@ -135,7 +145,8 @@ pub no_cause_status : {S K : Type 0} {left : S → Option (List ℕ)} {read_faul
     → EndsAs left read_faults source source' got write_faults out out' line (Some stop) history
     → n ≡ status_of (Some stop) → line ≢ None → (Rose (write_faults out) (write_faults out') → ⊥)
     → (IsTrue (reads_script line) → (Rose (read_faults source) (read_faults source') → ⊥)
-    × ((f : ScriptFault) → Refuses (left source) (left source') f → ⊥)) → n ≤ 1
+    × ((f : ScriptFault) → Refuses line (left source) (left source') f → ⊥)
+    × ((f : HistoryFault) → FailsAudit line (left source) (left source') f → ⊥)) → n ≤ 1
 no_cause_status {S} {K} {left} {read_faults} {source} {source'} {got} {write_faults} {out} {out'} {line} {stop} {history} {n} ends is =
     no_cause_by line (left source) (left source') (Rose (read_faults source) (read_faults source'))
     (Rose (write_faults out) (write_faults out')) stop n (ends.cause stop refl) is

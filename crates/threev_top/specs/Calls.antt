@@ -1,8 +1,11 @@
 -- What the top call reads and writes.
 use Rattle.std.specs.Prelude.{ℕ, Bool, true, false, ◌≡◌, ◌≢◌, ◌+◌, ◌++◌, ◌⊎◌, List, [], Option, Some, None, Ok, Err, IsTrue, ⊤}
-use Rattle.std.specs.Io.KnownBytes.{Appends, Consumes, IsAtEnd}
+use Rattle.std.specs.Io.KnownBytes.{Appends}
 use Rattle.tv_base.specs.Outside.{AppendsFront, HasMoreThan, HasTaken, Rose}
 use Rattle.tv_base.specs.declared.moving.TheConstants.{MOST_BYTES}
+use Rattle.audit_mode.specs.Audits.{IsAuditOf, ReadsAll, RefusesPart, accepted_line}
+use Rattle.audit_mode.specs.declared.judging.HistoryFault.{HistoryFault}
+use Rattle.audit_mode.specs.declared.judging.TheConstants.{MOST_AUDIT_BYTES}
 use Rattle.command_words.specs.declared.Line.{Line}
 use Rattle.command_words.specs.declared.Line.TheVariants as lines
 use Rattle.command_words.specs.declared.Mode.{Mode}
@@ -27,10 +30,6 @@ use Rattle.threev_top.specs.declared.stops.Stop.{Stop}
 use Rattle.threev_top.specs.declared.stops.Stop.TheVariants as stops
 use Rattle.threev_top.specs.declared.texts.TheConstants.{HELP, VERSION}
 
--- these are all the bytes that the source had, and they were read to their end
-abbrev pub ReadsAll : Option (List ℕ) → Option (List ℕ) → List ℕ → Type 0
-ReadsAll left now bytes = Consumes left now bytes × IsAtEnd now
-
 -- the report of a history, and its lines after it where they are asked for
 abbrev pub report_with : Bool → ScriptData → List Entry → List ℕ
 report_with false s h = report_of s h
@@ -53,11 +52,14 @@ pub record IsTextOf (mode : Mode) (left now : Option (List ℕ)) (history : List
   pub is_text : IsText mode script history text
 
 -- the history and the text of a line: a mode's, of the script that the source had; the summary of a run of the script
--- that a seed makes, which has the headline; the help or the version
+-- that a seed makes, which has the headline; of an audit, how many entries the history has that the source had behind its
+-- script, and that is accepted whole; the help or the version
 abbrev pub IsTextBy : Line → Option (List ℕ) → Option (List ℕ) → List Entry → List ℕ → Type 0
 IsTextBy (lines.OfScript mode) left now history text = IsTextOf mode left now history text
 IsTextBy (lines.Soak workers seed trees) left now history text =
     HasHeadline (generated seed trees) history × (text ≡ summary_of (generated seed trees) history seed)
+IsTextBy lines.Audit left now history text =
+    (history ≡ []) × ((n : ℕ) × IsAuditOf left now (Ok n) × (text ≡ accepted_line n))
 IsTextBy lines.Help left now history text = (history ≡ []) × (text ≡ HELP.now)
 IsTextBy lines.Version left now history text = (history ≡ []) × (text ≡ VERSION.now)
 
@@ -69,21 +71,34 @@ WroteBy receives (Some line) left now history = (text : List ℕ) × IsTextBy li
 -- this line reads a script; for all others the source is left alone
 abbrev pub reads_script : Option Line → Bool
 reads_script (Some (lines.OfScript mode)) = true
+reads_script (Some lines.Audit) = true
 reads_script _ = false
 
--- all bytes of the source are refused with this fault, or more bytes came than a script may have
-abbrev pub Refuses : Option (List ℕ) → Option (List ℕ) → ScriptFault → Type 0
-Refuses left now f = ((bytes : List ℕ) × ReadsAll left now bytes × (read_of bytes ≡ Err f))
+-- the most bytes that this line reads
+abbrev pub most_bytes : Option Line → ℕ
+most_bytes (Some lines.Audit) = MOST_AUDIT_BYTES
+most_bytes _ = MOST_BYTES
+
+-- all bytes of the source are refused with this fault, or more bytes came than a script may have; of an audit the script's
+-- part is refused, or more bytes came than are read
+abbrev pub Refuses : Option Line → Option (List ℕ) → Option (List ℕ) → ScriptFault → Type 0
+Refuses (Some lines.Audit) left now f = RefusesPart left now f
+Refuses _ left now f = ((bytes : List ℕ) × ReadsAll left now bytes × (read_of bytes ≡ Err f))
     ⊎ ((f ≡ fault 0 why.TooLong) × HasMoreThan MOST_BYTES left)
 
+-- the line is an audit, and the history behind the script that the source had fails first so
+abbrev pub FailsAudit : Option Line → Option (List ℕ) → Option (List ℕ) → HistoryFault → Type 0
+FailsAudit line left now f = (line ≡ Some lines.Audit) × IsAuditOf left now (Err (f.entry, f.rule))
+
 -- what must be so for a call to stop so: out of memory may always come; the words are no line; the script that the line
--- reads is refused, or its source failed; the output failed
+-- reads is refused, or its source failed; the output failed; the history that is audited fails
 abbrev pub HasCause : Option Line → Option (List ℕ) → Option (List ℕ) → Type 0 → Type 0 → Stop → Type 0
 HasCause line left now source_failed out_failed stops.NoMemory = ⊤
 HasCause line left now source_failed out_failed stops.Words = line ≡ None
-HasCause line left now source_failed out_failed (stops.Script f) = IsTrue (reads_script line) × Refuses left now f
+HasCause line left now source_failed out_failed (stops.Script f) = IsTrue (reads_script line) × Refuses line left now f
 HasCause line left now source_failed out_failed stops.Reading = IsTrue (reads_script line) × source_failed
 HasCause line left now source_failed out_failed stops.Writing = out_failed
+HasCause line left now source_failed out_failed (stops.History f) = FailsAudit line left now f
 
 -- how a call with this line ends, with a stop or without one, and what it leaves of its source and its output
 pub record EndsAs {S K : Type 0} (left : S → Option (List ℕ)) (read_faults : S → ℕ) (source source' : S)
@@ -102,8 +117,8 @@ pub record EndsAs {S K : Type 0} (left : S → Option (List ℕ)) (read_faults :
   pub nothing : (s : Stop) → stop ≡ Some s → s ≢ stops.Writing → (out' ≡ out) × (history ≡ [])
   -- a line that reads no script leaves the source alone
   pub unread : reads_script line ≡ false → source' ≡ source
-  -- at most one byte more is taken than a script may have
-  pub taken : HasTaken (MOST_BYTES + 1) (left source) (left source')
+  -- at most one byte more is taken than the line reads
+  pub taken : HasTaken (most_bytes line + 1) (left source) (left source')
 
 -- the line was written, or a prefix of it where a fault was counted
 abbrev pub Tells : Option (List ℕ) → Option (List ℕ) → ℕ → ℕ → List ℕ → Type 0

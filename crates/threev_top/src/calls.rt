@@ -2,8 +2,9 @@
 ghost use Rattle.std.specs.Prelude.{◌≡◌, ◌≤◌, ◌⊎◌, ◌≢◌, map, string_bytes, IsTrue, None, Option, Some};
 ghost use Rattle.std.specs.Io.KnownBytes.{Appends};
 ghost use Rattle.command_words.specs.Grammar.{line_of};
+ghost use Rattle.audit_mode.specs.declared.judging.HistoryFault.{HistoryFault};
 ghost use Rattle.script_reader.specs.declared.reading.ScriptFault.{ScriptFault};
-ghost use Rattle.threev_top.specs.Calls.{EndsAs, reads_script, Refuses, Tells, TellsEnd};
+ghost use Rattle.threev_top.specs.Calls.{EndsAs, FailsAudit, reads_script, Refuses, Tells, TellsEnd};
 ghost use Rattle.threev_top.specs.Texts.{line_told};
 ghost use Rattle.threev_top.specs.inside.Calls.{bytes_of, MayTell, words_stop};
 ghost use Rattle.threev_top.specs.declared.stops.Stop.{Stop};
@@ -13,7 +14,8 @@ ghost use Rattle.tv_base.specs.Outside.{AppendsFront, Rose};
 use crate::making::made_by_words;
 use crate::modes::Made;
 use crate::stops::Stop;
-use crate::texts::fault_line;
+use crate::texts::{entry_line, fault_line};
+use audit_mode::HistoryFault;
 use command_words::WordsError;
 use letter_types::History;
 use script_reader::ScriptFault;
@@ -25,7 +27,7 @@ use tv_base::{Gate, Sink, Source, write_all};
 /// How a call of the program ended.
 #[derive(Drop)]
 pub struct Ended {
-    /// 0 to 5 (README.md, "Statuses").
+    /// 0 to 6 (README.md, "Statuses").
     pub status: u8,
     /// The history of the run at the statuses 0 and 5 of a mode that runs; empty at all others.
     pub history: History,
@@ -87,7 +89,7 @@ fn tell_line<E: Sink>(err: &mut E, line: &[u8])
 }
 
 /// Tells `err` why the text was not written whole, and gives the reason that was told: out of memory where there is
-/// none for the line of a refused script.
+/// none for the line of a refused script or history.
 fn tell_stop<E: Sink>(alloc: Global, stop: Stop, err: &mut E) -> Stop
     ensures told { Tells (E.written err.old) (E.written err.new) (E.faults err.old) (E.faults err.new)
         (line_told result) }
@@ -100,6 +102,7 @@ fn tell_stop<E: Sink>(alloc: Global, stop: Stop, err: &mut E) -> Stop
             b"threev: the words are not a command line of this program\n",
         ),
         Stop::Script(fault) => return tell_fault(alloc, fault, err),
+        Stop::History(fault) => return tell_history(alloc, fault, err),
         Stop::Reading => tell_line(err, b"threev: reading failed\n"),
         Stop::Writing => tell_line(err, b"threev: writing failed\n"),
     }
@@ -116,6 +119,24 @@ fn tell_fault<E: Sink>(alloc: Global, fault: ScriptFault, err: &mut E) -> Stop
         Ok(line) => {
             tell_line(err, line.as_bytes());
             Stop::Script(fault)
+        }
+        Err(_) => {
+            tell_line(err, b"threev: out of memory\n");
+            Stop::NoMemory
+        }
+    }
+}
+
+/// The same for a history that fails.
+fn tell_history<E: Sink>(alloc: Global, fault: HistoryFault, err: &mut E) -> Stop
+    ensures told { Tells (E.written err.old) (E.written err.new) (E.faults err.old) (E.faults err.new)
+        (line_told result) }
+    ensures same { (result ≡ stops.History fault) ⊎ (result ≡ stops.NoMemory) }
+{
+    match entry_line(alloc, fault) {
+        Ok(line) => {
+            tell_line(err, line.as_bytes());
+            Stop::History(fault)
         }
         Err(_) => {
             tell_line(err, b"threev: out of memory\n");
@@ -156,13 +177,14 @@ pub fn threev<R: Threads + Wait + Sync, S: Source, K: Sink, E: Sink, G: Gate + S
         × TellsEnd E.written E.faults err.old err.new stop result.status }
     // So words that are no line are refused, unless memory runs out.
     ensures no_line { line_of (map string_bytes words.now) ≡ None → (result.status ≡ 1) ⊎ (result.status ≡ 2) }
-    // And with words that are a line, no fault of the output, and, where the line reads a script, one that is accepted
-    // and no fault of the source, the text is written, or memory was wanting.
+    // And with words that are a line, no fault of the output, and, where the line reads a script, one that is accepted, no
+    // fault of the source, and no failure of the history that is audited, the text is written, or memory was wanting.
     ensures complete { line_of (map string_bytes words.now) ≢ None
         → (Rose (K.faults out.old) (K.faults out.new) → ⊥)
         → (IsTrue (reads_script (line_of (map string_bytes words.now)))
         → (Rose (S.faults source.old) (S.faults source.new) → ⊥)
-        × ((f : ScriptFault) → Refuses (S.left source.old) (S.left source.new) f → ⊥))
+        × ((f : ScriptFault) → Refuses (line_of (map string_bytes words.now)) (S.left source.old) (S.left source.new) f → ⊥)
+        × ((f : HistoryFault) → FailsAudit (line_of (map string_bytes words.now)) (S.left source.old) (S.left source.new) f → ⊥))
         → result.status ≤ 1 }
 {
     let Outcome { stop, history } = make_and_write(rt, alloc, words, source, out, gate);

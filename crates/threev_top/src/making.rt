@@ -6,13 +6,14 @@ ghost use Rattle.command_words.specs.declared.Line.TheVariants as lines;
 ghost use Rattle.headline.specs.Headline.{HasHeadline};
 ghost use Rattle.report_text.specs.Summary.{summary_of};
 ghost use Rattle.script_gen.specs.Generated.{generated};
-ghost use Rattle.threev_top.specs.Calls.{HasCause, IsTextBy, IsTextOf, reads_script, WroteBy};
+ghost use Rattle.threev_top.specs.Calls.{HasCause, IsTextBy, IsTextOf, most_bytes, reads_script, WroteBy};
 ghost use Rattle.threev_top.specs.inside.Calls.{bytes_of};
 ghost use Rattle.tv_base.specs.Outside.{HasTaken, Rose};
 ghost use Rattle.tv_base.specs.declared.moving.TheConstants.{MOST_BYTES};
 
 use crate::modes::{Made, Output, made_of_script};
 use crate::stops::Stop;
+use audit_mode::audit_source;
 use command_words::{Line, Mode, read_words};
 use node_threads::run;
 use report_text::summary;
@@ -83,7 +84,7 @@ fn made_by_line<R: Threads + Wait + Sync, S: Source, G: Gate + Sync>(
     ensures cause { IfErr result (λ stop. HasCause (Some line) (S.left source.old) (S.left source.new)
         (Rose (S.faults source.old) (S.faults source.new)) ⊥ stop) }
     ensures unread { reads_script (Some line) ≡ false → source.new ≡ source.old }
-    ensures taken { HasTaken (MOST_BYTES + 1) (S.left source.old) (S.left source.new) }
+    ensures taken { HasTaken (most_bytes (Some line) + 1) (S.left source.old) (S.left source.new) }
 {
     match line {
         Line::OfScript(mode) => made_of_source(rt, alloc, mode, source, gate),
@@ -94,6 +95,10 @@ fn made_by_line<R: Threads + Wait + Sync, S: Source, G: Gate + Sync>(
         } => {
             let made = soaked(rt, alloc, workers, seed, trees, gate)?;
             Ok(made)
+        }
+        Line::Audit => {
+            let text = audit_source(alloc, source)?;
+            Ok(Made::without_run(alloc, Output::Text(text)))
         }
         Line::Help => Ok(Made::without_run(alloc, Output::Help)),
         Line::Version => Ok(Made::without_run(alloc, Output::Version)),
@@ -113,7 +118,7 @@ pub(crate) fn made_by_words<R: Threads + Wait + Sync, S: Source, G: Gate + Sync>
     ensures cause { IfErr result (λ stop. HasCause (line_of (map string_bytes words.now)) (S.left source.old)
         (S.left source.new) (Rose (S.faults source.old) (S.faults source.new)) ⊥ stop) }
     ensures unread { reads_script (line_of (map string_bytes words.now)) ≡ false → source.new ≡ source.old }
-    ensures taken { HasTaken (MOST_BYTES + 1) (S.left source.old) (S.left source.new) }
+    ensures taken { HasTaken (most_bytes (line_of (map string_bytes words.now)) + 1) (S.left source.old) (S.left source.new) }
 {
     let line = read_words(alloc, words)?;
     let made = made_by_line(rt, alloc, line, source, gate)?;

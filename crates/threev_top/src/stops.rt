@@ -2,6 +2,7 @@
 ghost use Rattle.std.specs.Prelude.{◌≡◌, Some};
 ghost use Rattle.threev_top.specs.Texts.{status_of};
 
+use audit_mode::{AuditStop, HistoryFault};
 use command_words::WordsError;
 use script_reader::{ScriptFault, ScriptRefusal};
 use tv_base::{NoMemory, ReadEnd};
@@ -20,6 +21,8 @@ pub enum Stop {
     Reading,
     /// The output failed.
     Writing,
+    /// The history that is audited fails.
+    History(HistoryFault),
 }
 
 impl From<NoMemory> for Stop {
@@ -75,6 +78,21 @@ impl From<ScriptRefusal> for Stop {
     }
 }
 
+impl From<AuditStop> for Stop {
+    ghost use Rattle.threev_top.specs.inside.Calls.{audit_stop};
+
+    ghost from_gives = { λ refusal stop. stop ≡ audit_stop refusal };
+
+    fn from(refusal: AuditStop) -> Self {
+        match refusal {
+            AuditStop::NoMemory => Stop::NoMemory,
+            AuditStop::Reading => Stop::Reading,
+            AuditStop::Script(fault) => Stop::Script(fault),
+            AuditStop::History(fault) => Stop::History(fault),
+        }
+    }
+}
+
 impl Stop {
     /// The status of a call that stops so.
     pub(crate) fn status(self) -> u8
@@ -86,6 +104,7 @@ impl Stop {
             Stop::Script(_) => 3,
             Stop::Reading => 4,
             Stop::Writing => 5,
+            Stop::History(_) => 6,
         }
     }
 }

@@ -1,8 +1,10 @@
 // Texts of the program's own: the lines on standard error, the help and the version.
 ghost use Rattle.std.specs.Prelude.{◌≡◌, IfOk, string_bytes};
-ghost use Rattle.threev_top.specs.Texts.{row_line};
+ghost use Rattle.history_audit.specs.Names.{audit_rule_name};
+ghost use Rattle.threev_top.specs.Texts.{entry_line, row_line};
 ghost use Rattle.tx_trees.specs.Why.{why_name};
 
+use audit_mode::HistoryFault;
 use script_reader::ScriptFault;
 use std::alloc::{AllocError, Global};
 
@@ -11,6 +13,7 @@ pub(crate) const HELP: &[u8] =
     b"threev: runs a script of transactions on several nodes and reports the balances
 
 usage: threev --mode MODE [--seed N] [--workers N] [--history] < script
+       threev --mode audit < script, a line `history`, and a history's lines
        threev --mode soak --seed N --trees N [--workers N]
        threev --help
        threev --version
@@ -21,6 +24,7 @@ modes:
   run      runs the script on threads and writes the report
   soak     makes a script from a seed, runs it on threads and sums it up; reads nothing
   upgrade  reads the script and writes it in the second form
+  audit    reads the script and the lines of a history, and says whether the history keeps all rules
 
 options:
   --seed N     with sim, 0 to 2^64 - 1: after the picks the draws of N say which letter
@@ -36,6 +40,7 @@ statuses:
   3  the script was refused
   4  reading failed
   5  writing failed
+  6  the audited history fails
 
 rows of a script, comma separated:
   threev,2                       the script is of the second form; the first row
@@ -69,4 +74,18 @@ pub(crate) fn fault_line(alloc: Global, fault: ScriptFault) -> Result<String, Al
     ensures { IfOk result (λ line. string_bytes line ≡ row_line fault.row (why_name fault.why)) }
 {
     line_of(alloc, fault.row, fault.why.name())
+}
+
+/// The line of an entry, from plain parts.
+fn line_of_entry(alloc: Global, entry: u64, name: &str) -> Result<String, AllocError>
+    ensures { IfOk result (λ line. string_bytes line ≡ entry_line entry name.now) }
+{
+    format!(in alloc; "threev: entry {entry}: {name}\n")
+}
+
+/// The line of a history that fails.
+pub(crate) fn entry_line(alloc: Global, fault: HistoryFault) -> Result<String, AllocError>
+    ensures { IfOk result (λ line. string_bytes line ≡ entry_line fault.entry (audit_rule_name fault.rule)) }
+{
+    line_of_entry(alloc, fault.entry, fault.rule.name())
 }

@@ -8,6 +8,8 @@ use Rattle.tx_trees.specs.declared.why.Why.TheVariants as why
 use Rattle.script_reader.specs.Reading.{fault}
 use Rattle.script_reader.specs.declared.reading.ScriptRefusal.{ScriptRefusal}
 use Rattle.script_reader.specs.declared.reading.ScriptRefusal.TheVariants as refusals
+use Rattle.audit_mode.specs.declared.judging.AuditStop.{AuditStop}
+use Rattle.audit_mode.specs.declared.judging.AuditStop.TheVariants as audits
 use Rattle.threev_top.specs.declared.modes.Output.{Output}
 use Rattle.threev_top.specs.declared.modes.Output.TheVariants as outputs
 use Rattle.threev_top.specs.declared.stops.Stop.{Stop}
@@ -36,7 +38,15 @@ reading_stop ends.TooLong = stops.Script (fault 0 why.TooLong)
 reading_stop ends.Failed = stops.Reading
 reading_stop ends.NoMemory = stops.NoMemory
 
--- what is told of a stop: the stop, or out of memory where the line of a refused script finds none
+-- why an audit accepts nothing
+abbrev pub audit_stop : AuditStop → Stop
+audit_stop audits.NoMemory = stops.NoMemory
+audit_stop audits.Reading = stops.Reading
+audit_stop (audits.Script f) = stops.Script f
+audit_stop (audits.History f) = stops.History f
+
+-- what is told of a stop: the stop, or out of memory where the line of a refused script or history finds none
 abbrev pub MayTell : Stop → Stop → Type 0
+MayTell (stops.History f) told = (told ≡ stops.History f) ⊎ (told ≡ stops.NoMemory)
 MayTell (stops.Script f) told = (told ≡ stops.Script f) ⊎ (told ≡ stops.NoMemory)
 MayTell stop told = told ≡ stop

@@ -1,5 +1,5 @@
-use Rattle.history_audit.proofs.Fronts.{one_history}
+use Rattle.history_audit.proofs.Taken.{one_taken}
 use Rattle.history_audit.proofs.laws.an_accepted_text_is_one_history.Goals as goal
 
 pub returns : goal.returns
-returns c = one_history
+returns c = one_taken

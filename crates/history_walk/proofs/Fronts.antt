@@ -7,8 +7,8 @@ use Rattle.history_text.specs.History.{entry_lines, history_lines_of}
 use Rattle.history_text.specs.Printable.{Begins, EndsEntry}
 use Rattle.history_reader.specs.OneEntry.{TellTheSame}
 use Rattle.history_reader.proofs.OneEntry.{one_entry}
-use Rattle.history_audit.specs.Verdicts.{BeginsWith, IsPostal, IsTaken}
-use Rattle.history_audit.proofs.SameEntries.{AllTellTheSame, postal_front, same_entries}
+use Rattle.history_walk.specs.Walks.{BeginsWith, IsPostal, IsRead}
+use Rattle.history_walk.proofs.SameEntries.{AllTellTheSame, postal_front, same_entries}
 
 -- where a text ends, no entry begins
 pub nothing_begins : (s : ScriptData) (text : List ℕ) (e : Entry) (rest : List ℕ) → text ≡ [] → Begins s text e rest → ⊥
@@ -79,15 +79,15 @@ fronts_of s h rest g left post other (First front e more is like begins) =
     Shorter e more (history_lines_of s more ++ rest) (is ∙ ap (λ xs. xs ++ e ∷ more) one) begins
 
 pub fronts : (s : ScriptData) → IsValid s → (text : List ℕ) (h : List Entry) (rest : List ℕ) (g : List Entry) (left : List ℕ)
-    → IsTaken s text h rest → IsTaken s text g left → Fronts s h rest g left
+    → IsRead s text h rest → IsRead s text g left → Fronts s h rest g left
 fronts s valid text h rest g left a b = fronts_of s h rest g left a.postal b.postal (meet s valid text h rest g left a.read b.read)
 
--- what is taken whole is one history
+-- what is read whole is one history
 one_history_by : (s : ScriptData) (h g : List Entry) → Fronts s h [] g [] → h ≡ g
 one_history_by s h g (Same is so) = is
 one_history_by s h g (Longer f more text is begins) = absurd (nothing_begins s [] f text refl begins)
 one_history_by s h g (Shorter e more text is begins) = absurd (nothing_begins s [] e text refl begins)
 
-pub one_history : (s : ScriptData) (text : List ℕ) (h g : List Entry) → IsValid s → IsTaken s text h [] → IsTaken s text g []
+pub one_history : (s : ScriptData) (text : List ℕ) (h g : List Entry) → IsValid s → IsRead s text h [] → IsRead s text g []
     → h ≡ g
 one_history s text h g valid a b = one_history_by s h g (fronts s valid text h [] g [] a b)

@@ -4,49 +4,19 @@ use Rattle.std.proofs.Common.{◌≡◌, ◌⊎◌, inl, inr, ℕ, ◌+◌, ◌<
 use Rattle.std.specs.Prelude.{map, slice_get}
 use Rattle.std.proofs.lemmas.List.{map-append}
 use Rattle.std.proofs.lemmas.Option.{slice_get_within}
-use Rattle.tv_base.proofs.ByPlace.{slice_get-old, slice_get_last, slice_get_left, slice_get_split}
+use Rattle.tv_base.proofs.ByPlace.{slice_get-old, slice_get_left}
 use Rattle.letter_types.specs.declared.entries.Entry.{Entry}
 use Rattle.letter_types.specs.declared.entries.Letter.{Letter}
 use Rattle.letter_types.specs.declared.entries.LetterId.{LetterId}
-use Rattle.letter_types.specs.declared.entries.Outgoing.{Outgoing}
 use Rattle.letter_types.specs.declared.entries.Posting.{Posting}
-use Rattle.letter_types.specs.Letters.{find_id, go, sealed}
+use Rattle.letter_types.specs.Letters.{find_id, go}
 use Rattle.letter_types.specs.Postal.{IsMessageRun, delivery_of, letters_sent}
 use Rattle.tx_trees.specs.ScriptData.{ScriptData, client_of}
-use Rattle.world_model.specs.Counts.{Each}
-use Rattle.world_model.proofs.Every.{each_found}
 use Rattle.history_reader.specs.OneEntry.{TellTheSame}
-use Rattle.history_audit.specs.Verdicts.{IsPostal}
+use Rattle.history_walk.specs.Walks.{IsPostal}
+use Rattle.history_walk.proofs.Postings.{CameFrom, came, stamp_of}
 
--- Go, or what a posting of the log sent under its id
-abbrev CameFrom : ℕ → List Posting → Letter → Type 0
-CameFrom client log l = (l ≡ go client)
-    ⊎ ((j : ℕ) × (f : Posting) × (slice_get log j ≡ Some f) × (f.stamp.0 ≡ j + 1) × (find_id l.id (letters_sent f) ≡ Some l))
-
--- what the last posting took came from those before it
-came_by : (client : ℕ) (log : List Posting) (p : Posting) → IsMessageRun client (log ++ p ∷ [])
-    → (p.took ≡ go client) ⊎ ((j : ℕ) × (f : Posting) × (j < length log) × (slice_get (log ++ p ∷ []) j ≡ Some f)
-    × (find_id p.took.id (letters_sent f) ≡ Some p.took))
-    → CameFrom client log p.took
-came_by client log p post (inl is) = inl is
-came_by client log p post (inr (j, f, lt, at, found)) = elim (slice_get_split log p j f at) [
-  | inl t ↦ inr (j, f, t.1, post.stamps j f at, found)
-  | inr t ↦ absurd (omega (arith, lt, t.0))
-]
-
-came : (client : ℕ) (log : List Posting) (p : Posting) → IsMessageRun client (log ++ p ∷ []) → CameFrom client log p.took
-came client log p post = came_by client log p post (post.sent (length log) p (slice_get_last log p))
-
--- the stamp of a letter's id is that of the posting that sent it
-each_stamped : (stamp actor place : ℕ) (os : List Outgoing) → Each (λ l. l.id.stamp.0 ≡ stamp) (sealed stamp actor place os)
-each_stamped stamp actor place [] = tt
-each_stamped stamp actor place (o ∷ os) = (refl, each_stamped stamp actor (place + 1) os)
-
-stamp_of : (f : Posting) (l : Letter) → find_id l.id (letters_sent f) ≡ Some l → l.id.stamp.0 ≡ f.stamp.0
-stamp_of f l found =
-    each_found (λ (m : Letter). m.id.stamp.0 ≡ f.stamp.0) l.id (letters_sent f) l (each_stamped f.stamp.0 f.actor.0 0 f.sent) found
-
--- so Go and what was sent have different ids, and under an id one letter was sent at most
+-- Go and what was sent have different ids, and under an id one letter was sent at most
 go_apart : (client : ℕ) (l m : Letter) (j : ℕ) (f : Posting) → l ≡ go client → f.stamp.0 ≡ j + 1
     → find_id m.id (letters_sent f) ≡ Some m → l.id.stamp.0 ≡ m.id.stamp.0 → ⊥
 go_apart client l m j f is stamp found same =

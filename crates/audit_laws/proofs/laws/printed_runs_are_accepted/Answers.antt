@@ -2,8 +2,8 @@ use Rattle.std.proofs.Common.{subst, reverse}
 use Rattle.std.proofs.lemmas.List.{reverse-reverse}
 use Rattle.board_rules.specs.Judging.{IsAccepted}
 use Rattle.world_model.proofs.Posts.{steps}
-use Rattle.history_audit.proofs.Accepted.{printed_run}
-use Rattle.history_audit.proofs.laws.printed_runs_are_accepted.Goals as goal
+use Rattle.audit_laws.proofs.Accepted.{printed_run}
+use Rattle.audit_laws.proofs.laws.printed_runs_are_accepted.Goals as goal
 
 pub returns : goal.returns
 returns c = λ s h valid run finished may.

@@ -1,0 +1,12 @@
+-- What an audit answers.
+use Rattle.std.specs.Prelude.{ℕ, List, Result, Ok, Err}
+use Rattle.tx_trees.specs.ScriptData.{ScriptData}
+use Rattle.history_audit.specs.declared.audit.AuditRefusal.{AuditRefusal}
+use Rattle.history_audit.specs.declared.audit.AuditRefusal.TheVariants.{Refused, NoMemory}
+use Rattle.history_audit.specs.Verdicts.{Verdict}
+
+-- the verdict of the text, unless memory ran out
+abbrev pub IsAudited : ScriptData → List ℕ → Result ℕ AuditRefusal → Type 0
+IsAudited s text (Ok n) = Verdict s text (Ok n)
+IsAudited s text (Err NoMemory) = Unit {0}
+IsAudited s text (Err (Refused entry rule)) = Verdict s text (Err (entry, rule))

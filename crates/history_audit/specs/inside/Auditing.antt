@@ -1,0 +1,35 @@
+-- In the midst of an audit, and how it ends.
+use Rattle.std.specs.Prelude.{ℕ, Bool, true, false, ◌≡◌, List, Result, Ok, Err}
+use Rattle.letter_types.specs.declared.entries.Entry.{Entry}
+use Rattle.tx_trees.specs.ScriptData.{ScriptData}
+use Rattle.board_judge.specs.Judged.{HasTaken, JudgeData}
+use Rattle.board_judge.specs.declared.judge.Refused.{Refused}
+use Rattle.board_judge.specs.declared.judge.Refused.TheVariants as refused
+use Rattle.history_walk.specs.Walks.{IsWalked, WalkData}
+use Rattle.history_walk.specs.declared.walk.Fault.{Fault}
+use Rattle.history_walk.specs.declared.walk.Fault.TheVariants as faults
+use Rattle.history_audit.specs.declared.audit.AuditRefusal.{AuditRefusal}
+use Rattle.history_audit.specs.declared.audit.AuditRefusal.TheVariants as refusals
+use Rattle.history_audit.specs.declared.rules.AuditRule.TheVariants as rules
+
+-- the walk of the text has come behind these entries, and the judge has taken them
+pub record IsUnderAudit (s : ScriptData) (text : List ℕ) (h : List Entry) (w : WalkData) (j : JudgeData) : Type 0 where
+  pub walk : w.script ≡ s
+  pub judge : j.script ≡ s
+  pub walked : IsWalked s text h w
+  pub taken : HasTaken j h
+
+-- how an audit of so many entries ends, where the client has finished or hasn't
+abbrev pub end_of : ℕ → Bool → Result ℕ AuditRefusal
+end_of count true = Ok count
+end_of count false = Err (refusals.Refused count rules.End)
+
+-- the refusal of the entry of this number, which couldn't be read, and of one that was judged
+abbrev pub unread_of : Fault → ℕ → AuditRefusal
+unread_of faults.Text number = refusals.Refused number rules.Text
+unread_of faults.Postal number = refusals.Refused number rules.Postal
+unread_of faults.NoMemory number = refusals.NoMemory
+
+abbrev pub refusal_of : Refused → ℕ → AuditRefusal
+refusal_of (refused.Wrong wrong) number = refusals.Refused number (rules.Judged wrong.rule)
+refusal_of refused.NoMemory number = refusals.NoMemory

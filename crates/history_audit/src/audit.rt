@@ -1,0 +1,119 @@
+// The audit of a printed history.
+ghost use Rattle.std.specs.Prelude.{ℕ, ◌≡◌, ◌+◌, ◌<◌, ◌++◌, ◌∷◌, [], List, true, false, length, Err, IfErr, IfOk};
+ghost use Rattle.letter_types.specs.declared.entries.Entry.{Entry};
+ghost use Rattle.tx_trees.specs.ScriptData.{ScriptData};
+ghost use Rattle.history_audit.specs.Audited.{IsAudited};
+ghost use Rattle.history_audit.specs.inside.Auditing.{IsUnderAudit, end_of, refusal_of, unread_of};
+
+use crate::rules::AuditRule;
+use board_judge::{Judge, Refused};
+use history_walk::{Fault, Walk};
+use std::alloc::Global;
+use tv_base::NoMemory;
+use tx_trees::Script;
+
+/// Why a text isn't accepted as a history.
+#[derive(Clone, Copy, Debug, PartialEq, Eq)]
+pub enum AuditRefusal {
+    /// It fails.
+    Refused {
+        /// The number of the first entry that fails, counted from 1; of a history that ends too early, the number of its
+        /// entries.
+        entry: u64,
+        /// What fails there first.
+        rule: AuditRule,
+    },
+    /// No memory was found. It says nothing of the text.
+    NoMemory,
+}
+
+impl From<NoMemory> for AuditRefusal {
+    ghost use Rattle.history_audit.specs.declared.audit.AuditRefusal.TheVariants as refusals;
+
+    ghost from_gives = { λ _ e. e ≡ refusals.NoMemory };
+
+    fn from(_: NoMemory) -> AuditRefusal {
+        AuditRefusal::NoMemory
+    }
+}
+
+/// Judges the text of a history by its verdict: how many entries it has, where it is accepted whole; else the first entry
+/// that fails, and in what. Takes time by the text's length; it keeps no entries, but the letters that were sent, what the
+/// Board's tallies say, and what the items are worth.
+pub fn audit(alloc: Global, script: &Script, text: &[u8]) -> Result<u64, AuditRefusal>
+    ensures { IsAudited script.now text.now result }
+{
+    let mut judge = Judge::new(alloc, script)?;
+    let mut walk = Walk::new(alloc, script, text);
+    while take_next(alloc, &mut walk, &mut judge)? {}
+    end(walk.count(), judge.is_finished())
+}
+
+// Takes the next entry of the walk. Whether there was one.
+fn take_next(alloc: Global, walk: &mut Walk, judge: &mut Judge) -> Result<bool, AuditRefusal>
+    ensures more { IfOk result (λ more. more ≡ true → (s : ScriptData) (text : List ℕ) (h : List Entry)
+        → IsUnderAudit s text h walk.old judge.old → (e : Entry) × IsUnderAudit s text (h ++ e ∷ []) walk.new judge.new) }
+    ensures shorter { IfOk result (λ more. more ≡ true → length walk.new.rest < length walk.old.rest) }
+    ensures end { IfOk result (λ more. more ≡ false → walk.old.rest ≡ []) }
+    ensures walk { IfOk result (λ more. more ≡ false → walk.new ≡ walk.old) }
+    ensures judge { IfOk result (λ more. more ≡ false → judge.new ≡ judge.old) }
+    ensures refused { IfErr result (λ refusal. (s : ScriptData) (text : List ℕ) (h : List Entry)
+        → IsUnderAudit s text h walk.old judge.old → IsAudited s text (Err refusal)) }
+{
+    let number = walk.count() + 1;
+    let next = match walk.next() {
+        Ok(next) => next,
+        Err(fault) => return Err(unread(fault, number)),
+    };
+    let Some(entry) = next else {
+        return Ok(false);
+    };
+    match judge.take(alloc, &entry) {
+        Ok(()) => Ok(true),
+        Err(refused) => Err(refusal(refused, number)),
+    }
+}
+
+// How an audit of so many entries ends.
+fn end(count: u64, finished: bool) -> Result<u64, AuditRefusal>
+    ensures { result ≡ end_of count finished }
+{
+    if finished {
+        Ok(count)
+    } else {
+        Err(AuditRefusal::Refused {
+            entry: count,
+            rule: AuditRule::End,
+        })
+    }
+}
+
+// The refusal of the entry of this number, which couldn't be read.
+fn unread(fault: Fault, number: u64) -> AuditRefusal
+    ensures { result ≡ unread_of fault number }
+{
+    match fault {
+        Fault::Text => AuditRefusal::Refused {
+            entry: number,
+            rule: AuditRule::Text,
+        },
+        Fault::Postal => AuditRefusal::Refused {
+            entry: number,
+            rule: AuditRule::Postal,
+        },
+        Fault::NoMemory => AuditRefusal::NoMemory,
+    }
+}
+
+// The refusal of the entry of this number, which was judged.
+fn refusal(refused: Refused, number: u64) -> AuditRefusal
+    ensures { result ≡ refusal_of refused number }
+{
+    match refused {
+        Refused::Wrong(wrong) => AuditRefusal::Refused {
+            entry: number,
+            rule: AuditRule::Judged(wrong.rule),
+        },
+        Refused::NoMemory => AuditRefusal::NoMemory,
+    }
+}

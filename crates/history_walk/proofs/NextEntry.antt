@@ -1,0 +1,58 @@
+-- What the next entry of a walk comes to, by what was read and found.
+use Rattle.std.proofs.Common.{◌≡◌, ◌==◌, ℕ, ◌-◌, Bool, true, false, List, [], ◌∷◌, ◌++◌, length, drop, take, refl, sym, ap, ◌∙◌, subst, arith, Some, None}
+use Rattle.std.proofs.lemmas.List.{length-drop, take_all}
+use Rattle.letter_types.specs.declared.entries.Entry.{Entry}
+use Rattle.letter_types.specs.declared.entries.Letter.{Letter}
+use Rattle.tx_trees.specs.ScriptData.{ScriptData, client_of}
+use Rattle.tx_trees.specs.Valid.{IsValid}
+use Rattle.history_text.specs.Printable.{Begins}
+use Rattle.history_walk.specs.Walks.{GoesOn, IsUnpostedAt, IsUnreadAt, LettersLeft, WalkData}
+use Rattle.history_walk.specs.inside.Finding.{letter_for, with_letter, without}
+use Rattle.history_walk.proofs.OneMore.{found_for_id}
+use Rattle.history_walk.proofs.Walked.{begins_alike, none_goes_on, walked_more, with_sent}
+
+-- all that is behind a place
+pub rest_whole : (n : ℕ) (xs : List ℕ) → take (length xs - n) (drop n xs) ≡ drop n xs
+rest_whole n xs = take_all (length xs - n) (drop n xs) (omega (arith, length-drop n xs))
+
+-- the letters that are left behind an entry, by what is added to those without the one that it took
+pub letters_added : (e : Entry) (all left without_one : LettersLeft) → left ≡ without_one → all.begun ≡ left.begun
+    → all.senders ≡ left.senders ++ record { from = e.actor; sent = e.sent } ∷ [] → all ≡ with_sent e without_one
+letters_added e all left without_one is begun senders =
+    (λ i. record { begun = begun i; senders = senders i }) ∙ ap (with_sent e) is
+
+module _ (s : ScriptData) (rest : List ℕ) (n : ℕ) (letters : LettersLeft) where
+  abbrev walk : WalkData
+  walk = record { script = s; rest = rest; count = n; letters = letters }
+
+  pub unread : (w : WalkData) → walk ≡ w → false ≡ (length rest == 0)
+      → ((e : Entry) (more : List ℕ) → Begins s rest e more → ⊥) → IsUnreadAt w
+  unread w is some none =
+      subst IsUnreadAt is (record {
+        more = λ (end : rest ≡ []).
+            let zero_is : (length rest == 0) ≡ true = ap (λ (t : List ℕ). length t == 0) end in
+            cc;
+        none = none;
+      })
+
+  module _ (client : ℕ) (own : client ≡ client_of s) (e : Entry) where
+    pub unposted : (w : WalkData) → walk ≡ w → (more : List ℕ) → IsValid s → Begins s rest e more
+        → None ≡ letter_for client letters e → IsUnpostedAt w
+    unposted w is more valid begins none =
+        subst IsUnpostedAt is (λ text h walked. (
+          e,
+          more,
+          begins,
+          none_goes_on s text h walk walked e more valid begins
+              (ap (λ (c : ℕ). letter_for c letters e) (sym own) ∙ sym none),
+        ))
+
+    pub goes_on : (w : WalkData) → walk ≡ w → (new : WalkData) (l : Letter) → Begins s rest e new.rest
+        → Some l ≡ letter_for client letters e → new.letters ≡ with_sent e (without e.took.id letters)
+        → new.count ≡ length new.letters.senders → GoesOn w (with_letter e l) new
+    goes_on w is new l begins found left count =
+        let here : letter_for (client_of s) letters e ≡ Some l = ap (λ (c : ℕ). letter_for c letters e) (sym own) ∙ sym found in
+        subst (λ (x : WalkData). GoesOn x (with_letter e l) new) is (record {
+          begins = begins_alike s rest e new.rest l (found_for_id (client_of s) letters e l here) begins;
+          walked = λ text h walked. walked_more s text h walk walked e new l begins here left count;
+        })
