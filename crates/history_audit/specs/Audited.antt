@@ -1,8 +1,8 @@
 -- What an audit answers.
 use Rattle.std.specs.Prelude.{ℕ, List, Result, Ok, Err}
 use Rattle.tx_trees.specs.ScriptData.{ScriptData}
-use Rattle.history_audit.specs.declared.audit.AuditRefusal.{AuditRefusal}
-use Rattle.history_audit.specs.declared.audit.AuditRefusal.TheVariants.{Refused, NoMemory}
+use Rattle.history_audit.specs.declared.auditor.AuditRefusal.{AuditRefusal}
+use Rattle.history_audit.specs.declared.auditor.AuditRefusal.TheVariants.{Refused, NoMemory}
 use Rattle.history_audit.specs.Verdicts.{Verdict}
 
 -- the verdict of the text, unless memory ran out

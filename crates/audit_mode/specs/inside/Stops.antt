@@ -5,8 +5,8 @@ use Rattle.script_parts.specs.declared.why.Why.TheVariants as why
 use Rattle.script_reader.specs.Reading.{fault}
 use Rattle.script_reader.specs.declared.reading.ScriptRefusal.{ScriptRefusal}
 use Rattle.script_reader.specs.declared.reading.ScriptRefusal.TheVariants as scripts
-use Rattle.history_audit.specs.declared.audit.AuditRefusal.{AuditRefusal}
-use Rattle.history_audit.specs.declared.audit.AuditRefusal.TheVariants as audits
+use Rattle.history_audit.specs.declared.auditor.AuditRefusal.{AuditRefusal}
+use Rattle.history_audit.specs.declared.auditor.AuditRefusal.TheVariants as audits
 use Rattle.audit_mode.specs.declared.judging.AuditStop.{AuditStop}
 use Rattle.audit_mode.specs.declared.judging.AuditStop.TheVariants as stops
 

@@ -8,8 +8,8 @@ use Rattle.board_judge.specs.declared.judge.Refused.TheVariants as refused
 use Rattle.history_walk.specs.Walks.{IsWalked, WalkData}
 use Rattle.history_walk.specs.declared.walk.Fault.{Fault}
 use Rattle.history_walk.specs.declared.walk.Fault.TheVariants as faults
-use Rattle.history_audit.specs.declared.audit.AuditRefusal.{AuditRefusal}
-use Rattle.history_audit.specs.declared.audit.AuditRefusal.TheVariants as refusals
+use Rattle.history_audit.specs.declared.auditor.AuditRefusal.{AuditRefusal}
+use Rattle.history_audit.specs.declared.auditor.AuditRefusal.TheVariants as refusals
 use Rattle.history_audit.specs.declared.rules.AuditRule.TheVariants as rules
 
 -- the walk of the text has come behind these entries, and the judge has taken them

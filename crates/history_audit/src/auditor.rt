@@ -28,7 +28,7 @@ pub enum AuditRefusal {
 }
 
 impl From<NoMemory> for AuditRefusal {
-    ghost use Rattle.history_audit.specs.declared.audit.AuditRefusal.TheVariants as refusals;
+    ghost use Rattle.history_audit.specs.declared.auditor.AuditRefusal.TheVariants as refusals;
 
     ghost from_gives = { λ _ e. e ≡ refusals.NoMemory };
 
