@@ -1,5 +1,5 @@
 // The two parts of a text that is audited.
-ghost use Rattle.std.specs.Prelude.{◌≡◌, drop};
+ghost use Rattle.std.specs.Prelude.{◌≡◌, drop, true};
 ghost use Rattle.audit_mode.specs.Audits.{begins_history, divided, ends_line};
 
 // Whether a text is at its end or at the end of a line.

@@ -1,5 +1,5 @@
 // An audit of what a source has.
-ghost use Rattle.std.specs.Prelude.{ℕ, ◌≡◌, ◌+◌, ◌×◌, Ok, IfErr, IfOk};
+ghost use Rattle.std.specs.Prelude.{ℕ, ◌≡◌, ◌+◌, Ok, IfErr, IfOk};
 ghost use Rattle.tv_base.specs.Outside.{HasTaken, Rose};
 ghost use Rattle.audit_mode.specs.Audits.{HasAuditCause, IsAuditOf, accepted_line};
 

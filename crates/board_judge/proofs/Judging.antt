@@ -31,11 +31,11 @@ use Rattle.board_tallies.specs.Board.{BoardData, IsBoardOf}
 use Rattle.board_standing.specs.Notes.{AreAllWorths, AreKnown}
 use Rattle.board_standing.specs.Settled.{IsMoveRun}
 use Rattle.worth_steps.specs.Kept.{AreWorths, WorthsData}
-use Rattle.board_judge.specs.Judged.{HasTaken, JudgeData}
+use Rattle.board_judge.specs.Judged.{HasJudged, JudgeData}
 use Rattle.board_judge.specs.declared.noting.Step.{Step}
 use Rattle.board_judge.specs.inside.Rewriting.{IsRewritten}
 use Rattle.board_judge.specs.inside.Steps.{AreNoted}
-use Rattle.board_judge.specs.inside.Trying.{refusal_of}
+use Rattle.board_judge.specs.inside.Trying.{refused_for}
 use Rattle.board_judge.specs.inside.Votes.{IsMidway, IsRightRead, IsRightYes}
 use Rattle.board_judge.proofs.Going.{run_on}
 
@@ -83,14 +83,14 @@ module _ (s : ScriptData) (h : List Entry) where
       ((parts_of s h (xs ++ y ∷ []) y.act).both said.0 reads.0, right_both (xs ++ y ∷ []) ys said.1 reads.1)
 
 -- What was taken, in the midst of an entry.
-pub midway_at : (j : JudgeData) (h : List Entry) → HasTaken j h → IsMidway j.script j.gates j.users h (places_of h) j.board j.worths
+pub midway_at : (j : JudgeData) (h : List Entry) → HasJudged j h → IsMidway j.script j.gates j.users h (places_of h) j.board j.worths
 midway_at j h taken = record {
   gates = taken.gates;
   view = record { valid = taken.valid; run = taken.run; board = taken.board; users = taken.users };
   known = record { valid = taken.valid; run = taken.run; worths = taken.worths };
 }
 
-pub midway_in : (j : JudgeData) (h : List Entry) (ws : List WorthsData) → ws ≡ j.worths → HasTaken j h
+pub midway_in : (j : JudgeData) (h : List Entry) (ws : List WorthsData) → ws ≡ j.worths → HasJudged j h
     → IsMidway j.script j.gates j.users h (places_of h) j.board ws
 midway_in j h ws is taken =
     subst (IsMidway j.script j.gates j.users h (places_of h) j.board) (sym is) (midway_at j h taken)
@@ -170,9 +170,9 @@ may_come s h e steps b ws noted keep said written once = record {
 places_more : (h : List Entry) (e : Entry) → places_of (h ++ e ∷ []) ≡ places_of h ++ places_at e
 places_more h e = places_of-append h (e ∷ []) ∙ ap (λ (xs : List Place). places_of h ++ xs) (append-nil (places_at e))
 
-pub taken_more : (j : JudgeData) (h : List Entry) (e : Entry) (steps : List Step) (b : BoardData) (ws : List WorthsData) → HasTaken j h
+pub taken_more : (j : JudgeData) (h : List Entry) (e : Entry) (steps : List Step) (b : BoardData) (ws : List WorthsData) → HasJudged j h
     → MayCome j.script h e → AreNoted j.script h (places_at e) steps b → IsRewritten j.script h (places_at e) true ws
-    → HasTaken (record { script = j.script; gates = j.gates; users = j.users; board = b; worths = ws }) (h ++ e ∷ [])
+    → HasJudged (record { script = j.script; gates = j.gates; users = j.users; board = b; worths = ws }) (h ++ e ∷ [])
 taken_more j h e steps b ws taken may noted written = record {
   accepted = accepted_more j.script h e taken.accepted may;
   valid = taken.valid;
@@ -183,9 +183,9 @@ taken_more j h e steps b ws taken may noted written = record {
   worths = subst (λ (xs : List Place). AreAllWorths j.script xs ws) (sym (places_more h e)) (written.known refl).worths;
 }
 
-pub taken_settled : (j : JudgeData) (b : BoardData) (h : List Entry) → HasTaken j h
+pub taken_settled : (j : JudgeData) (b : BoardData) (h : List Entry) → HasJudged j h
     → ((s : ScriptData) (xs : List Place) → IsBoardOf s xs j.board → IsBoardOf s xs b)
-    → HasTaken (record { script = j.script; gates = j.gates; users = j.users; board = b; worths = j.worths }) h
+    → HasJudged (record { script = j.script; gates = j.gates; users = j.users; board = b; worths = j.worths }) h
 taken_settled j b h taken settles = record {
   accepted = taken.accepted;
   valid = taken.valid;
@@ -237,7 +237,7 @@ one_first items i item ws w many at all one x u found =
 -- No act, no entry.
 pub none_taken : (s : ScriptData) (g : GatesData) (u : UsersData) (b : BoardData) (ws : List WorthsData) → IsValid s → AreGatesOf s g → AreUsersOf s u
     → IsBoardOf s [] b → AreAllWorths s [] ws
-    → HasTaken (record { script = s; gates = g; users = u; board = b; worths = ws }) []
+    → HasJudged (record { script = s; gates = g; users = u; board = b; worths = ws }) []
 none_taken s g u b ws valid gates users board worths = record {
   accepted = λ n e at. absurd (cc at);
   valid = valid;
@@ -249,7 +249,7 @@ none_taken s g u b ws valid gates users board worths = record {
 }
 
 -- Nothing is refused where no rule was broken.
-pub no_refusal : (stamp : Stamp) (r : Result (Option Rule) NoMemory) → refusal_of stamp r ≡ None → r ≡ Ok None
+pub no_refusal : (stamp : Stamp) (r : Result (Option Rule) NoMemory) → refused_for stamp r ≡ None → r ≡ Ok None
 no_refusal stamp (Ok None) is = refl
 no_refusal stamp (Ok (Some rule)) is = absurd (cc is)
 no_refusal stamp (Err e) is = absurd (cc is)

@@ -23,7 +23,7 @@ pub record JudgeData : Type 0 where
   pub worths : List WorthsData
 
 -- the judge has taken this history: it is accepted, and the tallies are those of its acts
-pub record HasTaken (j : JudgeData) (h : List Entry) : Type 0 where
+pub record HasJudged (j : JudgeData) (h : List Entry) : Type 0 where
   pub accepted : IsAccepted j.script h
   pub valid : IsValid j.script
   pub gates : AreGatesOf j.script j.gates
@@ -35,4 +35,4 @@ pub record HasTaken (j : JudgeData) (h : List Entry) : Type 0 where
 -- a refusal of the entry, whatever history was taken: its stamp, and the first rule that it breaks
 abbrev pub IsRefusal : JudgeData → Entry → Refused → Type 0
 IsRefusal j e NoMemory = Unit {0}
-IsRefusal j e (Wrong wrong) = (wrong.stamp ≡ e.stamp) × ((h : List Entry) → HasTaken j h → Breaks j.script h e wrong.rule)
+IsRefusal j e (Wrong wrong) = (wrong.stamp ≡ e.stamp) × ((h : List Entry) → HasJudged j h → Breaks j.script h e wrong.rule)

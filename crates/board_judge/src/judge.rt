@@ -9,11 +9,11 @@ ghost use Rattle.board_rules.specs.Worth.{worth_in};
 ghost use Rattle.board_standing.specs.Notes.{AreAllWorths};
 ghost use Rattle.commute_ops.specs.Ops.{value_start};
 ghost use Rattle.worth_steps.specs.Kept.{AreWorths};
-ghost use Rattle.board_judge.specs.Judged.{HasTaken, IsRefusal};
+ghost use Rattle.board_judge.specs.Judged.{HasJudged, IsRefusal};
 ghost use Rattle.board_judge.specs.declared.noting.Step.{Step};
 ghost use Rattle.board_judge.specs.inside.Rewriting.{AreOfKinds, unaltered};
 ghost use Rattle.board_judge.specs.inside.Steps.{restored};
-ghost use Rattle.board_judge.specs.inside.Trying.{IsTried, judge_of, refusal_of};
+ghost use Rattle.board_judge.specs.inside.Trying.{IsTried, judge_of, refused_for};
 
 use crate::noting::{Step, note_acts, restore};
 use crate::rewriting::{Altered, rewrite, take_back};
@@ -79,7 +79,7 @@ impl<'a> Judge<'a> {
     /// A judge that has taken no entry yet. Takes time and memory by the script.
     pub fn new(alloc: Global, script: &'a Script) -> Result<Judge<'a>, NoMemory>
         ensures script { IfOk result (λ j. j.script ≡ script.now) }
-        ensures taken { IfOk result (λ j. HasTaken j []) }
+        ensures taken { IfOk result (λ j. HasJudged j []) }
     {
         // (read for its clause, that the script is valid)
         let _valid = script.nodes();
@@ -104,8 +104,8 @@ impl<'a> Judge<'a> {
     /// values of the trees that they end, and for locks by the operations of the script on these items.
     pub fn take(&mut self, alloc: Global, entry: &Entry) -> Result<(), Refused>
         ensures script { self.new.script ≡ self.old.script }
-        ensures ok { OnOk result ((h : List Entry) → HasTaken self.old h
-            → MayCome self.old.script h entry.now × HasTaken self.new (h ++ entry.now ∷ [])) }
+        ensures ok { OnOk result ((h : List Entry) → HasJudged self.old h
+            → MayCome self.old.script h entry.now × HasJudged self.new (h ++ entry.now ∷ [])) }
         ensures refused { IfErr result (λ refused. IsRefusal self.old entry.now refused) }
         ensures err { OnErr result (self.new ≡ self.old) }
     {
@@ -132,7 +132,7 @@ impl<'a> Judge<'a> {
     /// What an item is worth at a version after the entries that were taken. Only a bag needs memory.
     pub fn worth(&self, alloc: Global, item: ItemNo, version: Version) -> Result<Value, NoMemory>
         requires { item.0 < length self.now.script.items }
-        ensures { IfOk result (λ worth. (h : List Entry) → HasTaken self.now h
+        ensures { IfOk result (λ worth. (h : List Entry) → HasJudged self.now h
             → worth ≡ worth_in self.now.script (places_of h) item.0 version.0) }
     {
         let value = self.worths[item.0 as usize].at(alloc, version)?;
@@ -141,7 +141,7 @@ impl<'a> Judge<'a> {
 
     /// Whether the client has finished.
     pub fn is_finished(&self) -> bool
-        ensures { (h : List Entry) → HasTaken self.now h → result ≡ has_finished (places_of h) }
+        ensures { (h : List Entry) → HasJudged self.now h → result ≡ has_finished (places_of h) }
     {
         self.board.is_finished()
     }
@@ -161,7 +161,7 @@ fn try_entry(
     requires trail { trail.old.items ≡ [] }
     requires kinds { AreOfKinds basis.now.script.now worths.old.items }
     ensures tried { IfOk result (λ broken. (h : List Entry)
-        → HasTaken (judge_of basis.now board.old worths.old.items) h
+        → HasJudged (judge_of basis.now board.old worths.old.items) h
         → IsTried (judge_of basis.now board.old worths.old.items) h entry.now broken board.new worths.new.items) }
     ensures board { restored steps.new.items board.new ≡ board.old }
     ensures worths { unaltered trail.new.items worths.new.items ≡ worths.old.items }
@@ -217,7 +217,7 @@ fn all_right(steps: &[Step]) -> bool
 
 // Why an entry of this stamp isn't taken, by what trying it gave.
 fn refusal(stamp: Stamp, tried: Result<Option<Rule>, NoMemory>) -> Option<Refused>
-    ensures { result ≡ refusal_of stamp tried }
+    ensures { result ≡ refused_for stamp tried }
 {
     match tried {
         Ok(None) => None,

@@ -6,17 +6,17 @@ use Rattle.tx_trees.specs.ScriptData.{ScriptData}
 use Rattle.board_rules.specs.Histories.{places_of}
 use Rattle.board_rules.specs.Judging.{Breaks, IsAccepted}
 use Rattle.board_rules.specs.Right.{HasFinished, has_finished}
-use Rattle.board_judge.specs.Judged.{HasTaken, IsRefusal, JudgeData}
+use Rattle.board_judge.specs.Judged.{HasJudged, IsRefusal, JudgeData}
 use Rattle.board_judge.specs.declared.judge.Refused.{Refused}
 use Rattle.board_judge.specs.declared.judge.Refused.TheVariants as refused
 use Rattle.history_text.specs.Printable.{Begins}
-use Rattle.history_walk.specs.Walks.{GoesOn, IsPostal, IsUnpostedAt, IsUnreadAt, IsWalked, WalkData}
+use Rattle.history_walk.specs.Walks.{ComesBehind, IsPostal, IsUnpostedAt, IsUnreadAt, IsWalked, WalkData}
 use Rattle.history_walk.specs.declared.walk.Fault.{Fault}
 use Rattle.history_walk.specs.declared.walk.Fault.TheVariants as faults
 use Rattle.history_audit.specs.Audited.{IsAudited}
 use Rattle.history_audit.specs.Verdicts.{IsTaken, Verdict, Yes, Unread, Unposted, Broken, Unfinished}
 use Rattle.history_audit.specs.declared.rules.AuditRule.TheVariants as rules
-use Rattle.history_audit.specs.inside.Auditing.{IsUnderAudit, end_of, refusal_of, unread_of}
+use Rattle.history_audit.specs.inside.Auditing.{IsUnderAudit, end_of, judged_refusal, unread_of}
 
 module _ (s : ScriptData) (text : List ℕ) (h : List Entry) (w : WalkData) (j : JudgeData) (a : IsUnderAudit s text h w j) where
   taken_so_far : IsTaken s text h w.rest
@@ -42,15 +42,15 @@ module _ (s : ScriptData) (text : List ℕ) (h : List Entry) (w : WalkData) (j :
   postal_back : (g : List Entry) → IsPostal s g → IsPostal w.script g
   postal_back g = subst (λ (z : ScriptData). IsPostal z g) (sym a.walk)
 
-  walked_more : (e : Entry) (v : WalkData) → GoesOn w e v → IsWalked s text (h ++ e ∷ []) v
+  walked_more : (e : Entry) (v : WalkData) → ComesBehind w e v → IsWalked s text (h ++ e ∷ []) v
   walked_more e v goes = subst (λ (z : ScriptData). IsWalked z text (h ++ e ∷ []) v) a.walk (goes.walked text h walked_by)
 
   number_is : (number : ℕ) → number ≡ w.count + 1 → number ≡ length h + 1
   number_is number is = is ∙ ap (λ (n : ℕ). n + 1) a.walked.count
 
   -- the next entry is read and taken
-  pub goes_on : (v : WalkData) (k : JudgeData) (e : Entry) → GoesOn w e v → v.script ≡ w.script → k.script ≡ j.script
-      → HasTaken k (h ++ e ∷ []) → IsUnderAudit s text (h ++ e ∷ []) v k
+  pub goes_on : (v : WalkData) (k : JudgeData) (e : Entry) → ComesBehind w e v → v.script ≡ w.script → k.script ≡ j.script
+      → HasJudged k (h ++ e ∷ []) → IsUnderAudit s text (h ++ e ∷ []) v k
   goes_on v k e goes of_walk of_judge more = record {
     walk = of_walk ∙ a.walk;
     judge = of_judge ∙ a.judge;
@@ -73,8 +73,8 @@ module _ (s : ScriptData) (text : List ℕ) (h : List Entry) (w : WalkData) (j :
       (λ f q b post. at.3 f q (begins_back f q b) (postal_back (h ++ f ∷ []) post)))
 
   -- it is refused
-  pub broken : (v : WalkData) (e : Entry) (refusal : Refused) (number : ℕ) → GoesOn w e v → number ≡ w.count + 1 → IsRefusal j e refusal
-      → IsAudited s text (Err (refusal_of refusal number))
+  pub broken : (v : WalkData) (e : Entry) (refusal : Refused) (number : ℕ) → ComesBehind w e v → number ≡ w.count + 1 → IsRefusal j e refusal
+      → IsAudited s text (Err (judged_refusal refusal number))
   broken v e refused.NoMemory number goes is breaks = tt
   broken v e (refused.Wrong wrong) number goes is breaks =
       subst (λ (n : ℕ). Verdict s text (Err (n, rules.Judged wrong.rule))) (sym (number_is number is))

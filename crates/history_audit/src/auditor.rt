@@ -3,7 +3,7 @@ ghost use Rattle.std.specs.Prelude.{ℕ, ◌≡◌, ◌+◌, ◌<◌, ◌++◌, 
 ghost use Rattle.letter_types.specs.declared.entries.Entry.{Entry};
 ghost use Rattle.tx_trees.specs.ScriptData.{ScriptData};
 ghost use Rattle.history_audit.specs.Audited.{IsAudited};
-ghost use Rattle.history_audit.specs.inside.Auditing.{IsUnderAudit, end_of, refusal_of, unread_of};
+ghost use Rattle.history_audit.specs.inside.Auditing.{IsUnderAudit, end_of, judged_refusal, unread_of};
 
 use crate::rules::AuditRule;
 use board_judge::{Judge, Refused};
@@ -107,7 +107,7 @@ fn unread(fault: Fault, number: u64) -> AuditRefusal
 
 // The refusal of the entry of this number, which was judged.
 fn refusal(refused: Refused, number: u64) -> AuditRefusal
-    ensures { result ≡ refusal_of refused number }
+    ensures { result ≡ judged_refusal refused number }
 {
     match refused {
         Refused::Wrong(wrong) => AuditRefusal::Refused {

@@ -1,5 +1,5 @@
 -- What is left of the letters of a history: one entry more takes one of them away and adds its own.
-use Rattle.std.proofs.Common.{◌≡◌, ◌≢◌, ◌==◌, ℕ, zero, suc, ◌+◌, ◌-◌, ◌<◌, ◌≤◌, Bool, true, false, List, [], ◌∷◌, ◌++◌, length, refl, sym, ap, ◌∙◌, subst, arith, Option, Some, None}
+use Rattle.std.proofs.Common.{◌≡◌, ◌≢◌, ◌==◌, ℕ, zero, suc, ◌+◌, ◌-◌, ◌≤◌, Bool, true, false, List, [], ◌∷◌, ◌++◌, length, refl, sym, ap, ◌∙◌, arith, Some}
 use Rattle.std.specs.Prelude.{if◌then◌else◌, slice_get}
 use Rattle.std.specs.Option.{option_map}
 use Rattle.std.proofs.lemmas.Bool.Decides.{nat_tests}
@@ -9,9 +9,9 @@ use Rattle.letter_types.specs.declared.entries.LetterId.{LetterId}
 use Rattle.letter_types.specs.declared.entries.Outgoing.{Outgoing}
 use Rattle.letter_types.specs.Letters.{same_id}
 use Rattle.history_walk.specs.declared.in_flight.Sender.{Sender}
-use Rattle.history_walk.specs.Walks.{LettersLeft, id_at, left_at, left_of, letters_left, senders_from, was_taken}
-use Rattle.history_walk.specs.inside.Finding.{spent_at, spent_by, without, without_if}
-use Rattle.history_walk.proofs.Ids.{never_taken, other_place, other_stamp, taken_last, taken_others}
+use Rattle.history_walk.specs.Walks.{id_at, left_at, letter_left, letters_left, senders_from, was_taken}
+use Rattle.history_walk.specs.inside.Finding.{left_without, left_without_if, spent_at, spent_by}
+use Rattle.history_walk.proofs.Ids.{other_place, other_stamp, taken_last, taken_others}
 
 -- what is left of what an entry of this stamp sent
 abbrev pub sender_of : List Entry → ℕ → Entry → Sender
@@ -19,14 +19,14 @@ sender_of h stamp e = record { from = e.actor; sent = left_at h stamp 0 e.sent }
 
 -- by places
 pub left_place : (h : List Entry) (stamp place d : ℕ) (os : List Outgoing)
-    → slice_get (left_at h stamp place os) d ≡ option_map (left_of h stamp (place + d)) (slice_get os d)
+    → slice_get (left_at h stamp place os) d ≡ option_map (letter_left h stamp (place + d)) (slice_get os d)
 left_place h stamp place d [] = refl
 left_place h stamp place zero (o ∷ os) =
     let here : place ≡ place + 0 = omega arith in
-    ap (λ (p : ℕ). Some (left_of h stamp p o)) here
+    ap (λ (p : ℕ). Some (letter_left h stamp p o)) here
 left_place h stamp place (suc d) (o ∷ os) =
     let here : (place + 1) + d ≡ place + suc d = omega arith in
-    left_place h stamp (place + 1) d os ∙ ap (λ (p : ℕ). option_map (left_of h stamp p) (slice_get os d)) here
+    left_place h stamp (place + 1) d os ∙ ap (λ (p : ℕ). option_map (letter_left h stamp p) (slice_get os d)) here
 
 pub sender_place : (h : List Entry) (stamp k : ℕ) (es : List Entry)
     → slice_get (senders_from h stamp es) k ≡ option_map (sender_of h (stamp + k)) (slice_get es k)
@@ -47,7 +47,7 @@ pub none_spent : (h : List Entry) (stamp place : ℕ) (os : List Outgoing)
     → ((p : ℕ) → was_taken (id_at stamp p) h ≡ false) → left_at h stamp place os ≡ os
 none_spent h stamp place [] none = refl
 none_spent h stamp place (o ∷ os) none =
-    let first : left_of h stamp place o ≡ o =
+    let first : letter_left h stamp place o ≡ o =
     ap (λ (b : Bool). record { to = o.to; body = (if b then Go else o.body) }) (none place) in
     let rest : left_at h stamp (place + 1) os ≡ os = none_spent h stamp (place + 1) os none in
     λ i. first i ∷ rest i
@@ -58,7 +58,7 @@ same_left : (h g : List Entry) (stamp place : ℕ) (os : List Outgoing)
     → left_at g stamp place os ≡ left_at h stamp place os
 same_left h g stamp place [] same = refl
 same_left h g stamp place (o ∷ os) same =
-    let first : left_of g stamp place o ≡ left_of h stamp place o =
+    let first : letter_left g stamp place o ≡ letter_left h stamp place o =
     ap (λ (b : Bool). record { to = o.to; body = (if b then Go else o.body) }) (same place (omega arith)) in
     let rest : left_at g stamp (place + 1) os ≡ left_at h stamp (place + 1) os =
     same_left h g stamp (place + 1) os (λ p le. same p (omega (arith, le))) in
@@ -88,14 +88,14 @@ module _ (id : LetterId) (h g : List Entry) (has : was_taken id g ≡ true)
   spent_left stamp place zero (o ∷ os) at here =
       let same_place : id.place ≡ place = omega (arith, here) in
       let own : id ≡ id_at stamp place = λ i. record { stamp = record { 0 = at i }; place = same_place i } in
-      let first : left_of g stamp place o ≡ record { to = o.to; body = Go } =
+      let first : letter_left g stamp place o ≡ record { to = o.to; body = Go } =
       ap (λ (b : Bool). record { to = o.to; body = (if b then Go else o.body) }) (ap (λ (x : LetterId). was_taken x g) (sym own) ∙ has) in
       let rest : left_at g stamp (place + 1) os ≡ left_at h stamp (place + 1) os =
       same_left h g stamp (place + 1) os (λ p le. others (id_at stamp p) (other_place id stamp p (λ is. omega (arith, is, le, same_place)))) in
       λ i. first i ∷ rest i
   spent_left stamp place (suc d) (o ∷ os) at here =
       let ne : id.place ≢ place = λ is. omega (arith, is, here) in
-      let first : left_of g stamp place o ≡ left_of h stamp place o =
+      let first : letter_left g stamp place o ≡ letter_left h stamp place o =
       ap (λ (b : Bool). record { to = o.to; body = (if b then Go else o.body) }) (others (id_at stamp place) (other_place id stamp place ne)) in
       let rest : left_at g stamp (place + 1) os ≡ spent_at d (left_at h stamp (place + 1) os) =
       spent_left stamp (place + 1) d os at (omega (arith, here)) in
@@ -139,11 +139,11 @@ module _ (h : List Entry) (e : Entry) where
   only_taken other ne = taken_others h e other ne
 
   pub begun_more : (e.took.id.stamp.0 ≡ 0 → e.took.id.place ≡ 0)
-      → was_taken (id_at 0 0) (h ++ e ∷ []) ≡ (without e.took.id (letters_left h)).begun
+      → was_taken (id_at 0 0) (h ++ e ∷ []) ≡ (left_without e.took.id (letters_left h)).begun
   begun_more first = by (e.took.id.stamp.0 == 0) refl
     where
       by : (b : Bool) → (e.took.id.stamp.0 == 0) ≡ b
-          → was_taken (id_at 0 0) (h ++ e ∷ []) ≡ (without_if b e.took.id (letters_left h)).begun
+          → was_taken (id_at 0 0) (h ++ e ∷ []) ≡ (left_without_if b e.took.id (letters_left h)).begun
       by true is =
           let stamp : e.took.id.stamp.0 ≡ 0 = grind (arith, nat_tests) in
           let place : e.took.id.place ≡ 0 = first stamp in
@@ -153,11 +153,11 @@ module _ (h : List Entry) (e : Entry) where
           let ne : e.took.id.stamp.0 ≢ 0 = grind (arith, nat_tests) in
           only_taken (id_at 0 0) (other_stamp e.took.id 0 0 ne)
 
-  kept_more : senders_from (h ++ e ∷ []) 1 h ≡ (without e.took.id (letters_left h)).senders
+  kept_more : senders_from (h ++ e ∷ []) 1 h ≡ (left_without e.took.id (letters_left h)).senders
   kept_more = by (e.took.id.stamp.0 == 0) refl
     where
       by : (b : Bool) → (e.took.id.stamp.0 == 0) ≡ b
-          → senders_from (h ++ e ∷ []) 1 h ≡ (without_if b e.took.id (letters_left h)).senders
+          → senders_from (h ++ e ∷ []) 1 h ≡ (left_without_if b e.took.id (letters_left h)).senders
       by true is =
           let stamp : e.took.id.stamp.0 ≡ 0 = grind (arith, nat_tests) in
           same_senders h (h ++ e ∷ []) 1 h
@@ -167,7 +167,7 @@ module _ (h : List Entry) (e : Entry) where
           spent_senders e.took.id h (h ++ e ∷ []) (taken_last h e) only_taken 1 (e.took.id.stamp.0 - 1) h (omega (arith, ne))
 
   pub senders_left : ((p : ℕ) → was_taken (id_at (length h + 1) p) (h ++ e ∷ []) ≡ false)
-      → senders_from (h ++ e ∷ []) 1 (h ++ e ∷ []) ≡ (without e.took.id (letters_left h)).senders ++ record { from = e.actor; sent = e.sent } ∷ []
+      → senders_from (h ++ e ∷ []) 1 (h ++ e ∷ []) ≡ (left_without e.took.id (letters_left h)).senders ++ record { from = e.actor; sent = e.sent } ∷ []
   senders_left fresh =
       let here : 1 + length h ≡ length h + 1 = omega arith in
       let own : left_at (h ++ e ∷ []) (1 + length h) 0 e.sent ≡ e.sent =

@@ -1,13 +1,13 @@
 -- What the next entry of a walk comes to, by what was read and found.
-use Rattle.std.proofs.Common.{◌≡◌, ◌==◌, ℕ, ◌-◌, Bool, true, false, List, [], ◌∷◌, ◌++◌, length, drop, take, refl, sym, ap, ◌∙◌, subst, arith, Some, None}
+use Rattle.std.proofs.Common.{◌≡◌, ◌==◌, ℕ, ◌-◌, true, false, List, [], ◌∷◌, ◌++◌, length, drop, take, sym, ap, ◌∙◌, subst, arith, Some, None}
 use Rattle.std.proofs.lemmas.List.{length-drop, take_all}
 use Rattle.letter_types.specs.declared.entries.Entry.{Entry}
 use Rattle.letter_types.specs.declared.entries.Letter.{Letter}
 use Rattle.tx_trees.specs.ScriptData.{ScriptData, client_of}
 use Rattle.tx_trees.specs.Valid.{IsValid}
 use Rattle.history_text.specs.Printable.{Begins}
-use Rattle.history_walk.specs.Walks.{GoesOn, IsUnpostedAt, IsUnreadAt, LettersLeft, WalkData}
-use Rattle.history_walk.specs.inside.Finding.{letter_for, with_letter, without}
+use Rattle.history_walk.specs.Walks.{IsUnpostedAt, IsUnreadAt, LettersLeft, WalkData, ComesBehind}
+use Rattle.history_walk.specs.inside.Finding.{entry_with, left_without, letter_for}
 use Rattle.history_walk.proofs.OneMore.{found_for_id}
 use Rattle.history_walk.proofs.Walked.{begins_alike, none_goes_on, walked_more, with_sent}
 
@@ -48,11 +48,11 @@ module _ (s : ScriptData) (rest : List ℕ) (n : ℕ) (letters : LettersLeft) wh
         ))
 
     pub goes_on : (w : WalkData) → walk ≡ w → (new : WalkData) (l : Letter) → Begins s rest e new.rest
-        → Some l ≡ letter_for client letters e → new.letters ≡ with_sent e (without e.took.id letters)
-        → new.count ≡ length new.letters.senders → GoesOn w (with_letter e l) new
+        → Some l ≡ letter_for client letters e → new.letters ≡ with_sent e (left_without e.took.id letters)
+        → new.count ≡ length new.letters.senders → ComesBehind w (entry_with e l) new
     goes_on w is new l begins found left count =
         let here : letter_for (client_of s) letters e ≡ Some l = ap (λ (c : ℕ). letter_for c letters e) (sym own) ∙ sym found in
-        subst (λ (x : WalkData). GoesOn x (with_letter e l) new) is (record {
+        subst (λ (x : WalkData). ComesBehind x (entry_with e l) new) is (record {
           begins = begins_alike s rest e new.rest l (found_for_id (client_of s) letters e l here) begins;
           walked = λ text h walked. walked_more s text h walk walked e new l begins here left count;
         })

@@ -1,5 +1,5 @@
 -- The entry that comes next, by the letter that is found for it.
-use Rattle.std.proofs.Common.{◌≡◌, ◌≢◌, ◌⊎◌, inl, inr, ◌==◌, ℕ, suc, ◌+◌, ◌<◌, ◌≤◌, Bool, true, false, List, [], ◌∷◌, ◌++◌, length, refl, sym, ap, ◌∙◌, subst, arith, Option, Some, None}
+use Rattle.std.proofs.Common.{◌≡◌, ◌≢◌, inl, inr, ◌==◌, ℕ, ◌+◌, ◌<◌, ◌≤◌, Bool, true, false, List, [], ◌∷◌, ◌++◌, length, refl, sym, ap, ◌∙◌, subst, arith, Option, Some, None}
 use Rattle.std.specs.Prelude.{if◌then◌else◌, map, slice_get}
 use Rattle.std.specs.List.{AllByRecursion}
 use Rattle.std.proofs.lemmas.Bool.Decides.{nat_tests}
@@ -18,11 +18,11 @@ use Rattle.tx_trees.specs.ScriptData.{ScriptData, client_of}
 use Rattle.history_text.specs.Printable.{IsPrintable}
 use Rattle.history_reader.specs.OneEntry.{TellTheSame}
 use Rattle.history_walk.specs.Walks.{IsPostal, LettersLeft, id_at, letters_left, senders_from, was_taken}
-use Rattle.history_walk.specs.inside.Finding.{addressed, letter_for, letter_of, with_letter, without}
+use Rattle.history_walk.specs.inside.Finding.{addressed, entry_with, left_without, letter_for, letter_of}
 use Rattle.history_walk.proofs.Ids.{never_taken, taken_never}
 use Rattle.history_walk.proofs.Left.{begun_more, senders_count, senders_left}
 use Rattle.history_walk.proofs.Postings.{CameFrom, came, entry_at, postal_more, posting_at, stamp_of, took_stamp}
-use Rattle.history_walk.proofs.SentTaken.{IsFound, found, found_id, finds}
+use Rattle.history_walk.proofs.SentTaken.{IsFound, finds, found, found_id}
 
 -- what a letter that is found for an entry says of the entry
 record IsFor (b : Bool) (actor : ActorNo) (at : Option Letter) (l : Letter) : Type 0 where
@@ -101,23 +101,23 @@ module _ (s : ScriptData) (h : List Entry) (postal : IsPostal s h) (e : Entry) (
   pub next_same : l.id ≡ e.took.id
   next_same = was_found.same
 
-  pub next_postal : IsPostal s (h ++ with_letter e l ∷ [])
+  pub next_postal : IsPostal s (h ++ entry_with e l ∷ [])
   next_postal =
       let stamped : e.stamp.0 ≡ length (map delivery_of h) + 1 = omega (arith, stamp_next, length-map h delivery_of) in
       let known : e.actor.0 < client_of s + 1 = omega (arith, may.actor) in
-      postal_append s h (with_letter e l)
-      (postal_more (client_of s) (map delivery_of h) (delivery_of (with_letter e l)) postal stamped was_found.came first_taken own.to known)
+      postal_append s h (entry_with e l)
+      (postal_more (client_of s) (map delivery_of h) (delivery_of (entry_with e l)) postal stamped was_found.came first_taken own.to known)
 
-  pub next_begun : (letters_left (h ++ with_letter e l ∷ [])).begun ≡ (without e.took.id (letters_left h)).begun
+  pub next_begun : (letters_left (h ++ entry_with e l ∷ [])).begun ≡ (left_without e.took.id (letters_left h)).begun
   next_begun =
-      begun_more h (with_letter e l) (λ zero_is. go_place s h (with_letter e l) next_postal zero_is)
-      ∙ ap (λ (id : LetterId). (without id (letters_left h)).begun) next_same
+      begun_more h (entry_with e l) (λ zero_is. go_place s h (entry_with e l) next_postal zero_is)
+      ∙ ap (λ (id : LetterId). (left_without id (letters_left h)).begun) next_same
 
-  pub next_senders : (letters_left (h ++ with_letter e l ∷ [])).senders
-      ≡ (without e.took.id (letters_left h)).senders ++ record { from = e.actor; sent = e.sent } ∷ []
+  pub next_senders : (letters_left (h ++ entry_with e l ∷ [])).senders
+      ≡ (left_without e.took.id (letters_left h)).senders ++ record { from = e.actor; sent = e.sent } ∷ []
   next_senders =
-      senders_left h (with_letter e l) (none_of_last s h (with_letter e l) next_postal)
-      ∙ ap (λ (id : LetterId). (without id (letters_left h)).senders ++ record { from = e.actor; sent = e.sent } ∷ []) next_same
+      senders_left h (entry_with e l) (none_of_last s h (entry_with e l) next_postal)
+      ∙ ap (λ (id : LetterId). (left_without id (letters_left h)).senders ++ record { from = e.actor; sent = e.sent } ∷ []) next_same
 
 -- for an entry that comes next its letter is found
 module _ (s : ScriptData) (h : List Entry) (may : AllByRecursion (IsPrintable s) h) (e f : Entry) (alike : TellTheSame e f)

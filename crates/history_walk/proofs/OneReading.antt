@@ -1,12 +1,12 @@
 -- A text has one reading.
-use Rattle.std.proofs.Common.{◌≡◌, ◌≢◌, ℕ, ◌+◌, List, [], ◌∷◌, ◌++◌, length, refl, sym, ap, ◌∙◌, subst, append_assoc}
+use Rattle.std.proofs.Common.{◌≡◌, ◌≢◌, ℕ, ◌+◌, List, [], ◌∷◌, ◌++◌, length, refl, sym, ◌∙◌, subst, append_assoc}
 use Rattle.std.specs.Prelude.{Err, Ok, Result}
 use Rattle.letter_types.specs.declared.entries.Entry.{Entry}
 use Rattle.tx_trees.specs.ScriptData.{ScriptData}
 use Rattle.tx_trees.specs.Valid.{IsValid}
 use Rattle.history_text.specs.Printable.{Begins}
 use Rattle.history_walk.specs.declared.reading.HistoryRefusal.{HistoryRefusal}
-use Rattle.history_walk.specs.declared.reading.HistoryRefusal.TheVariants.{Text, Postal}
+use Rattle.history_walk.specs.declared.reading.HistoryRefusal.TheVariants.{Postal, Text}
 use Rattle.history_walk.specs.Walks.{IsPostal, IsRead, Reading, Unposted, Unread, Whole}
 use Rattle.history_walk.proofs.Fronts.{Fronts, Longer, Same, Shorter, fronts, nothing_begins}
 use Rattle.history_walk.proofs.SameEntries.{postal_front}

@@ -1,11 +1,9 @@
 -- What is found among the letters in flight is Go or was sent by an entry, and wasn't taken; and all that is so is found.
-use Rattle.std.proofs.Common.{◌≡◌, ◌≢◌, ◌⊎◌, inl, inr, ◌==◌, ℕ, zero, suc, ◌+◌, ◌-◌, ◌<◌, ◌≤◌, ◌&&◌, Bool, true, false, List, [], ◌∷◌, ◌++◌, length, refl, sym, ap, ◌∙◌, subst, arith, eqb, Option, Some, None}
+use Rattle.std.proofs.Common.{◌≡◌, inl, inr, ◌==◌, ℕ, zero, suc, ◌+◌, ◌-◌, ◌&&◌, Bool, true, false, List, [], ◌∷◌, refl, sym, ap, ◌∙◌, subst, arith, Option, Some, None}
 use Rattle.std.specs.Prelude.{if◌then◌else◌, map, not, slice_get}
 use Rattle.std.specs.Option.{option_map}
 use Rattle.std.specs.List.{AllByRecursion}
-use Rattle.std.proofs.lemmas.Bool.{and_parts}
 use Rattle.std.proofs.lemmas.Bool.Decides.{nat_tests}
-use Rattle.std.proofs.lemmas.Option.{slice_get-map}
 use Rattle.tv_base.specs.declared.numbers.ActorNo.{ActorNo}
 use Rattle.letter_types.specs.declared.bodies.Body.{Body}
 use Rattle.letter_types.specs.declared.bodies.Body.TheVariants.{Go}
@@ -14,13 +12,13 @@ use Rattle.letter_types.specs.declared.entries.Letter.{Letter}
 use Rattle.letter_types.specs.declared.entries.LetterId.{LetterId}
 use Rattle.letter_types.specs.declared.entries.Outgoing.{Outgoing}
 use Rattle.letter_types.specs.declared.entries.Posting.{Posting}
-use Rattle.letter_types.specs.Letters.{find_id, go, same_id, sealed}
-use Rattle.letter_types.specs.Postal.{IsMessageRun, delivery_of, letters_sent}
+use Rattle.letter_types.specs.Letters.{find_id, go}
+use Rattle.letter_types.specs.Postal.{delivery_of, letters_sent}
 use Rattle.tx_trees.specs.ScriptData.{ScriptData}
 use Rattle.history_text.specs.Printable.{IsBody, IsPrintable, IsSent}
 use Rattle.history_walk.specs.declared.in_flight.Sender.{Sender}
-use Rattle.history_walk.specs.Walks.{LettersLeft, id_at, left_at, left_of, letters_left, senders_from, was_taken}
-use Rattle.history_walk.specs.inside.Finding.{go_left, is_go, letter_at, letter_by, letter_of}
+use Rattle.history_walk.specs.Walks.{LettersLeft, id_at, letter_left, letters_left, senders_from, was_taken}
+use Rattle.history_walk.specs.inside.Finding.{go_left, is_spent, letter_at, letter_by, letter_of}
 use Rattle.history_walk.proofs.Ids.{find_sent, sent_as}
 use Rattle.history_walk.proofs.Left.{left_place, sender_of, sender_place}
 use Rattle.history_walk.proofs.Postings.{CameFrom, entry_at, posting_at, stamp_of}
@@ -42,18 +40,18 @@ found_there client h id k at =
     ∙ ap (λ (n : ℕ). letter_by id (option_map (sender_of h n) (slice_get h k))) stamp
 
 found_by : (h : List Entry) (id : LetterId) (stamp : ℕ) (e : Entry)
-    → letter_by id (Some (sender_of h stamp e)) ≡ letter_at id e.actor (option_map (left_of h stamp id.place) (slice_get e.sent id.place))
+    → letter_by id (Some (sender_of h stamp e)) ≡ letter_at id e.actor (option_map (letter_left h stamp id.place) (slice_get e.sent id.place))
 found_by h id stamp e =
     let here : 0 + id.place ≡ id.place = omega arith in
     ap (letter_at id e.actor) (left_place h stamp 0 id.place e.sent)
-    ∙ ap (λ (p : ℕ). letter_at id e.actor (option_map (left_of h stamp p) (slice_get e.sent id.place))) here
+    ∙ ap (λ (p : ℕ). letter_at id e.actor (option_map (letter_left h stamp p) (slice_get e.sent id.place))) here
 
 -- where it is found it wasn't taken
 kept_if : (b : Bool) (id : LetterId) (from : ActorNo) (o : Outgoing) (l : Letter)
     → letter_at id from (Some (record { to = o.to; body = (if b then Go else o.body) })) ≡ Some l
     → (b ≡ false) × (l ≡ record { id = id; from = from; to = o.to; body = o.body })
 kept_if true id from o l is = absurd (cc is)
-kept_if false id from o l is = (refl, by (is_go o.body) is)
+kept_if false id from o l is = (refl, by (is_spent o.body) is)
   where
     by : (c : Bool) → (if c then None else Some (record { id = id; from = from; to = o.to; body = o.body })) ≡ Some l
         → l ≡ record { id = id; from = from; to = o.to; body = o.body }
@@ -68,7 +66,7 @@ pub record IsFound (client : ℕ) (h : List Entry) (id : LetterId) (l : Letter) 
 
 found_sent : (client : ℕ) (h : List Entry) (id : LetterId) (k : ℕ) (e : Entry) (at : Option Outgoing) (l : Letter) → AreStamped h
     → id.stamp.0 ≡ k + 1 → slice_get h k ≡ Some e → slice_get e.sent id.place ≡ at
-    → letter_at id e.actor (option_map (left_of h (k + 1) id.place) at) ≡ Some l → IsFound client h id l
+    → letter_at id e.actor (option_map (letter_left h (k + 1) id.place) at) ≡ Some l → IsFound client h id l
 found_sent client h id k e None l stamped stamp there at is = absurd (cc is)
 found_sent client h id k e (Some o) l stamped stamp there at is =
     let kept = kept_if (was_taken (id_at (k + 1) id.place) h) id e.actor o l is in
@@ -110,7 +108,7 @@ found_go client place begun l is = by (place == 0) begun refl is
 -- whatever letters are left, what is found has the id that was looked for
 id_there : (id : LetterId) (from : ActorNo) (at : Option Outgoing) (l : Letter) → letter_at id from at ≡ Some l → l.id ≡ id
 id_there id from None l is = absurd (cc is)
-id_there id from (Some o) l is = by (is_go o.body) is
+id_there id from (Some o) l is = by (is_spent o.body) is
   where
     by : (c : Bool) → (if c then None else Some (record { id = id; from = from; to = o.to; body = o.body })) ≡ Some l → l.id ≡ id
     by true is = absurd (cc is)
@@ -156,7 +154,7 @@ found client h id l stamped is = by id.stamp.0 refl
         found_of client h id k (slice_get h k) l stamped next refl (sym (found_there client h id k next) ∙ is)
 
 -- No entry sends Go. So a letter that was sent and not taken is found.
-not_go : (s : ScriptData) (body : Body) → IsBody s body → is_go body ≡ false
+not_go : (s : ScriptData) (body : Body) → IsBody s body → is_spent body ≡ false
 not_go s Go may = absurd may
 not_go s _ may = refl
 
@@ -165,7 +163,7 @@ all_at P [] k x all at = absurd (cc at)
 all_at P (y ∷ xs) zero x all at = let one : y ≡ x = cc at in subst P one all.0
 all_at P (y ∷ xs) (suc k) x all at = all_at P xs k x all.1 at
 
-finds_left : (id : LetterId) (from : ActorNo) (b : Bool) (o : Outgoing) → b ≡ false → is_go o.body ≡ false
+finds_left : (id : LetterId) (from : ActorNo) (b : Bool) (o : Outgoing) → b ≡ false → is_spent o.body ≡ false
     → letter_at id from (Some (record { to = o.to; body = (if b then Go else o.body) }))
     ≡ Some (record { id = id; from = from; to = o.to; body = o.body })
 finds_left id from b o left body =
@@ -189,7 +187,7 @@ module _ (s : ScriptData) (client : ℕ) (h : List Entry) (may : AllByRecursion 
       found_there client h l.id k same
       ∙ ap (λ (x : Option Entry). letter_by l.id (option_map (sender_of h (k + 1)) x)) there
       ∙ found_by h l.id (k + 1) e
-      ∙ ap (λ (x : Option Outgoing). letter_at l.id e.actor (option_map (left_of h (k + 1) l.id.place) x)) at
+      ∙ ap (λ (x : Option Outgoing). letter_at l.id e.actor (option_map (letter_left h (k + 1) l.id.place) x)) at
       ∙ finds_left l.id e.actor (was_taken (id_at (k + 1) l.id.place) h) o unspent (not_go s o.body sent.1)
       ∙ ap (λ (x : Letter). Some x) made
 

@@ -5,7 +5,7 @@ use Rattle.tv_base.specs.declared.numbers.ActorNo.{ActorNo}
 use Rattle.letter_types.specs.declared.bodies.Body.TheVariants.{Go}
 use Rattle.letter_types.specs.declared.entries.Outgoing.{Outgoing}
 use Rattle.history_walk.specs.declared.in_flight.Sender.{Sender}
-use Rattle.history_walk.specs.inside.Finding.{addressee_of, is_go, spent_at, spent_by}
+use Rattle.history_walk.specs.inside.Finding.{addressee_of, is_spent, spent_at, spent_by}
 
 pub spent_here : (place : ℕ) (os : List Outgoing) (o : Outgoing) → slice_get os place ≡ Some o
     → slice_set os place (record { to = o.to; body = Go }) ≡ spent_at place os
@@ -38,5 +38,5 @@ spent_to place os to is = by (slice_get os place) refl is
         → slice_set os place (record { to = to; body = Go }) ≡ spent_at place os
     by None at is = absurd (cc is)
     by (Some o) at is =
-        ap (λ (t : ActorNo). slice_set os place (record { to = t; body = Go })) (same o (is_go o.body) is)
+        ap (λ (t : ActorNo). slice_set os place (record { to = t; body = Go })) (same o (is_spent o.body) is)
         ∙ spent_here place os o at

@@ -1,18 +1,17 @@
 -- A walk that goes on, comes to the text's end, or fails.
 use Rattle.std.proofs.Common.{◌≡◌, ◌∙◌, ℕ, ◌+◌, List, [], ◌∷◌, ◌++◌, length, refl, sym, ap, subst}
-use Rattle.std.specs.Prelude.{Err, Ok, Result}
+use Rattle.std.specs.Prelude.{Err, Ok}
 use Rattle.letter_types.specs.declared.entries.Entry.{Entry}
 use Rattle.tx_trees.specs.ScriptData.{ScriptData}
 use Rattle.history_text.specs.Printable.{Begins}
-use Rattle.history_walk.specs.declared.reading.HistoryRefusal.{HistoryRefusal}
 use Rattle.history_walk.specs.declared.reading.HistoryRefusal.TheVariants as refusals
 use Rattle.history_walk.specs.declared.walk.Fault.{Fault}
 use Rattle.history_walk.specs.declared.walk.Fault.TheVariants as faults
-use Rattle.history_walk.specs.Walks.{BeginsWith, GoesOn, IsPostal, IsRead, IsReadAs, IsUnpostedAt, IsUnreadAt, IsWalked, Reading, Unposted, Unread, WalkData, Whole}
-use Rattle.history_walk.specs.inside.Refusals.{refusal_of}
+use Rattle.history_walk.specs.Walks.{IsPostal, IsRead, IsReadOutcome, IsUnpostedAt, IsUnreadAt, IsWalked, Reading, Unposted, Unread, WalkData, ComesBehind, Whole}
+use Rattle.history_walk.specs.inside.Refusals.{refusal_for}
 
 module _ (s : ScriptData) (text : List ℕ) (h : List Entry) (w : WalkData) (walked : IsWalked s text h w) where
-  pub walks_on : (e : Entry) (new : WalkData) → w.script ≡ s → GoesOn w e new → IsWalked s text (h ++ e ∷ []) new
+  pub walks_on : (e : Entry) (new : WalkData) → w.script ≡ s → ComesBehind w e new → IsWalked s text (h ++ e ∷ []) new
   walks_on e new is goes =
       subst (λ (t : ScriptData). IsWalked t text (h ++ e ∷ []) new) is
       (goes.walked text h (subst (λ (t : ScriptData). IsWalked t text h w) (sym is) walked))
@@ -37,7 +36,7 @@ module _ (s : ScriptData) (text : List ℕ) (h : List Entry) (w : WalkData) (wal
 
   -- what it failed in, with the number of the entry
   pub fails : (fault : Fault) (number : ℕ) → w.script ≡ s → number ≡ w.count + 1 → (fault ≡ faults.Text → IsUnreadAt w)
-      → (fault ≡ faults.Postal → IsUnpostedAt w) → IsReadAs s text (Err (refusal_of fault number))
+      → (fault ≡ faults.Postal → IsUnpostedAt w) → IsReadOutcome s text (Err (refusal_for fault number))
   fails faults.Text number is count unread unposted =
       subst (λ (n : ℕ). Reading s text (Err (refusals.Text n))) (sym (count ∙ ap (λ (n : ℕ). n + 1) walked.count))
       (unread_there is (unread refl))

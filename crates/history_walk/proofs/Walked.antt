@@ -1,6 +1,5 @@
 -- A walk that goes on by one entry.
-use Rattle.std.proofs.Common.{◌≡◌, ◌≢◌, inl, inr, ℕ, ◌+◌, ◌-◌, ◌≤◌, List, [], ◌∷◌, ◌++◌, length, drop, refl, sym, ap, ◌∙◌, subst, arith, append_assoc, Some, None}
-use Rattle.std.specs.List.{AllByRecursion}
+use Rattle.std.proofs.Common.{◌≡◌, inl, inr, ℕ, ◌+◌, ◌≤◌, List, [], ◌∷◌, ◌++◌, length, drop, refl, sym, ap, ◌∙◌, subst, arith, append_assoc, Some, None}
 use Rattle.std.proofs.lemmas.List.{append-nil, length-append, length-drop}
 use Rattle.letter_types.specs.declared.entries.Entry.{Entry}
 use Rattle.letter_types.specs.declared.entries.Letter.{Letter}
@@ -11,19 +10,18 @@ use Rattle.tx_trees.proofs.Lists.{all-push}
 use Rattle.history_text.specs.History.{entry_lines, history_lines_of}
 use Rattle.history_text.specs.Printable.{Begins, IsHalfWord, IsPrintable, IsWord}
 use Rattle.history_reader.proofs.OneEntry.{one_entry}
-use Rattle.history_walk.specs.declared.in_flight.Sender.{Sender}
 use Rattle.history_walk.specs.Walks.{BeginsWith, IsPostal, IsWalked, LettersLeft, WalkData, letters_left}
-use Rattle.history_walk.specs.inside.Finding.{letter_for, with_letter, without}
+use Rattle.history_walk.specs.inside.Finding.{entry_with, left_without, letter_for}
 use Rattle.history_walk.proofs.Left.{senders_count}
 use Rattle.history_walk.proofs.OneMore.{finds_next, next_begun, next_postal, next_same, next_senders}
 
 -- of the letter that it took the lines say the id alone
-alike_lines : (s : ScriptData) (e : Entry) (l : Letter) → l.id ≡ e.took.id → entry_lines s e ≡ entry_lines s (with_letter e l)
+alike_lines : (s : ScriptData) (e : Entry) (l : Letter) → l.id ≡ e.took.id → entry_lines s e ≡ entry_lines s (entry_with e l)
 alike_lines s e l same =
-    ap (λ (id : LetterId). entry_lines s (with_letter e (record { id = id; from = l.from; to = l.to; body = l.body }))) (sym same)
+    ap (λ (id : LetterId). entry_lines s (entry_with e (record { id = id; from = l.from; to = l.to; body = l.body }))) (sym same)
 
 pub begins_alike : (s : ScriptData) (text : List ℕ) (e : Entry) (rest : List ℕ) (l : Letter) → l.id ≡ e.took.id → Begins s text e rest
-    → Begins s text (with_letter e l) rest
+    → Begins s text (entry_with e l) rest
 begins_alike s text e rest l same b = record {
   lines = b.lines ∙ ap (λ (t : List ℕ). t ++ rest) (alike_lines s e l same);
   may = record {
@@ -84,22 +82,22 @@ with_sent e letters = record { begun = letters.begun; senders = letters.senders 
 
 module _ (s : ScriptData) (text : List ℕ) (h : List Entry) (old : WalkData) (walked : IsWalked s text h old) (e : Entry) where
   pub walked_more : (new : WalkData) (l : Letter) → Begins s old.rest e new.rest
-      → letter_for (client_of s) old.letters e ≡ Some l → new.letters ≡ with_sent e (without e.took.id old.letters)
-      → new.count ≡ length new.letters.senders → IsWalked s text (h ++ with_letter e l ∷ []) new
+      → letter_for (client_of s) old.letters e ≡ Some l → new.letters ≡ with_sent e (left_without e.took.id old.letters)
+      → new.count ≡ length new.letters.senders → IsWalked s text (h ++ entry_with e l ∷ []) new
   walked_more new l b is letters count =
       let here : letter_for (client_of s) (letters_left h) e ≡ Some l =
       ap (λ (x : LettersLeft). letter_for (client_of s) x e) (sym walked.letters) ∙ is in
       let same : l.id ≡ e.took.id = next_same s h walked.postal e b.may l here in
       let begun = next_begun s h walked.postal e b.may l here in
       let senders = next_senders s h walked.postal e b.may l here in
-      let left : new.letters ≡ letters_left (h ++ with_letter e l ∷ []) =
-      letters ∙ ap (λ (x : LettersLeft). with_sent e (without e.took.id x)) walked.letters
+      let left : new.letters ≡ letters_left (h ++ entry_with e l ∷ []) =
+      letters ∙ ap (λ (x : LettersLeft). with_sent e (left_without e.took.id x)) walked.letters
       ∙ (λ i. record { begun = sym begun i; senders = sym senders i }) in
       record {
-        read = begins_more s text h old.rest (with_letter e l) new.rest walked.read (begins_alike s old.rest e new.rest l same b);
+        read = begins_more s text h old.rest (entry_with e l) new.rest walked.read (begins_alike s old.rest e new.rest l same b);
         postal = next_postal s h walked.postal e b.may l here;
         count = count ∙ ap (λ (x : LettersLeft). length x.senders) left
-            ∙ senders_count (h ++ with_letter e l ∷ []) 1 (h ++ with_letter e l ∷ []);
+            ∙ senders_count (h ++ entry_with e l ∷ []) 1 (h ++ entry_with e l ∷ []);
         letters = left;
       }
 

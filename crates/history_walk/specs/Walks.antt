@@ -34,13 +34,13 @@ was_taken id [] = false
 was_taken id (e ∷ h) = same_id e.took.id id || was_taken id h
 
 -- what is left of a letter that was sent at this stamp and place: Go stands for what it said once it was taken
-abbrev pub left_of : List Entry → ℕ → ℕ → Outgoing → Outgoing
-left_of h stamp place o = record { to = o.to; body = (if was_taken (id_at stamp place) h then Go else o.body) }
+abbrev pub letter_left : List Entry → ℕ → ℕ → Outgoing → Outgoing
+letter_left h stamp place o = record { to = o.to; body = (if was_taken (id_at stamp place) h then Go else o.body) }
 
 -- and of those that were sent at this stamp, from a place on
 abbrev pub left_at : List Entry → ℕ → ℕ → List Outgoing → List Outgoing
 left_at h stamp place [] = []
-left_at h stamp place (o ∷ os) = left_of h stamp place o ∷ left_at h stamp (place + 1) os
+left_at h stamp place (o ∷ os) = letter_left h stamp place o ∷ left_at h stamp (place + 1) os
 
 -- who sent, and what is left of it, by entries from a stamp on
 abbrev pub senders_from : List Entry → ℕ → List Entry → List Sender
@@ -71,7 +71,7 @@ pub record IsWalked (s : ScriptData) (text : List ℕ) (h : List Entry) (w : Wal
   pub letters : w.letters ≡ letters_left h
 
 -- a walk comes behind this entry
-pub record GoesOn (old : WalkData) (e : Entry) (new : WalkData) : Type 0 where
+pub record ComesBehind (old : WalkData) (e : Entry) (new : WalkData) : Type 0 where
   pub begins : Begins old.script old.rest e new.rest
   pub walked : (text : List ℕ) (h : List Entry) → IsWalked old.script text h old → IsWalked old.script text (h ++ e ∷ []) new
 
@@ -102,6 +102,6 @@ pub data Reading (s : ScriptData) (text : List ℕ) : Result (List Entry) Histor
       → Reading s text (Err (refusals.Postal (length h + 1)))
 
 -- what is read is the reading of the text, unless memory ran out
-abbrev pub IsReadAs : ScriptData → List ℕ → Result (List Entry) HistoryRefusal → Type 0
-IsReadAs s text (Err refusals.NoMemory) = Unit {0}
-IsReadAs s text outcome = Reading s text outcome
+abbrev pub IsReadOutcome : ScriptData → List ℕ → Result (List Entry) HistoryRefusal → Type 0
+IsReadOutcome s text (Err refusals.NoMemory) = Unit {0}
+IsReadOutcome s text outcome = Reading s text outcome

@@ -1,7 +1,7 @@
 // The letters that are in flight, by the stamp of the entry that sent them and their place there.
 ghost use Rattle.std.specs.Prelude.{◌≡◌, [], ◌∷◌, ◌++◌, ◌+◌, ◌-◌, ◌<◌, ◌^◌, true, false, length, IsSome, OnOk, OnErr, slice_get};
 ghost use Rattle.letter_types.specs.Letters.{go};
-ghost use Rattle.history_walk.specs.inside.Finding.{addressee_of, go_left, letter_by, letter_for, letter_of, spent_at, spent_by, without};
+ghost use Rattle.history_walk.specs.inside.Finding.{addressee_of, go_left, left_without, letter_by, letter_for, letter_of, spent_at, spent_by};
 
 use letter_types::{Body, Entry, Letter, LetterId, Letters, Outgoing, copy_letters};
 use std::alloc::Global;
@@ -54,7 +54,7 @@ impl InFlight {
     pub(crate) fn letter_for(&mut self, client: ActorNo, entry: &Entry) -> Option<Letter>
         requires { length self.old.senders + 1 < 2 ^ 64 }
         ensures letter { result ≡ letter_for client.0 self.old entry.now }
-        ensures left { IsSome result → self.new ≡ without entry.now.took.id self.old }
+        ensures left { IsSome result → self.new ≡ left_without entry.now.took.id self.old }
         ensures count { length self.new.senders ≡ length self.old.senders }
     {
         if entry.stamp.0 != self.count() + 1 {
@@ -71,7 +71,7 @@ impl InFlight {
     // Takes the letter of this id. None where it isn't in flight.
     fn take(&mut self, client: ActorNo, id: LetterId) -> Option<Letter>
         ensures letter { result ≡ letter_of client.0 self.old id }
-        ensures left { IsSome result → self.new ≡ without id self.old }
+        ensures left { IsSome result → self.new ≡ left_without id self.old }
         ensures count { length self.new.senders ≡ length self.old.senders }
     {
         if id.stamp.0 == 0 {

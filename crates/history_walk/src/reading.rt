@@ -1,7 +1,7 @@
 // The history that a text is of.
 ghost use Rattle.std.specs.Prelude.{◌≡◌, [], ◌∷◌, ◌++◌, OnOk, IfErr};
-ghost use Rattle.history_walk.specs.Walks.{IsReadAs};
-ghost use Rattle.history_walk.specs.inside.Refusals.{refusal_of};
+ghost use Rattle.history_walk.specs.Walks.{IsReadOutcome};
+ghost use Rattle.history_walk.specs.inside.Refusals.{refusal_for};
 
 use crate::walk::{Fault, Walk};
 use letter_types::{Entry, History};
@@ -22,7 +22,7 @@ pub enum HistoryRefusal {
 /// The history that the text is of, with the letters that were taken: its lines are all of the text, each entry may be
 /// printed, and letters went in it as letters do. It takes time by the length of the text.
 pub fn read_history(alloc: Global, script: &Script, text: &[u8]) -> Result<History, HistoryRefusal>
-    ensures { IsReadAs script.now text.now result }
+    ensures { IsReadOutcome script.now text.now result }
 {
     let mut walk = Walk::new(alloc, script, text);
     let mut history = History::new(alloc);
@@ -49,7 +49,7 @@ fn keep(history: &mut History, entry: Entry) -> Result<(), HistoryRefusal>
 
 // What the walk failed in, with the number of the entry.
 fn refusal(fault: Fault, number: u64) -> HistoryRefusal
-    ensures { result ≡ refusal_of fault number }
+    ensures { result ≡ refusal_for fault number }
 {
     match fault {
         Fault::Text => HistoryRefusal::Text(number),

@@ -2,8 +2,8 @@
 ghost use Rattle.std.specs.Prelude.{ℕ, List, [], ◌≡◌, ◌+◌, ◌<◌, ◌≤◌, ◌^◌, length, IfOk, IfSome, IsNone, Err};
 ghost use Rattle.tx_trees.specs.ScriptData.{client_of};
 ghost use Rattle.tx_trees.specs.Valid.{IsValid};
-ghost use Rattle.history_walk.specs.Walks.{GoesOn, IsUnpostedAt, IsUnreadAt, IsWalked};
-ghost use Rattle.history_walk.specs.inside.Finding.{with_letter};
+ghost use Rattle.history_walk.specs.Walks.{IsUnpostedAt, IsUnreadAt, IsWalked, ComesBehind};
+ghost use Rattle.history_walk.specs.inside.Finding.{entry_with};
 
 use crate::in_flight::InFlight;
 use history_reader::{Heard, read_entry};
@@ -88,7 +88,7 @@ impl<'a> Walk<'a> {
     /// The next entry, with the letter that it took. None at the text's end, where the walk stays as it is. It takes time in
     /// proportion to the entry's lines. Of a walk that has failed nothing more is promised.
     pub fn next(&mut self) -> Result<Option<Entry>, Fault>
-        ensures some { IfOk result (λ next. IfSome next (λ e. GoesOn self.old e self.new)) }
+        ensures some { IfOk result (λ next. IfSome next (λ e. ComesBehind self.old e self.new)) }
         ensures none { IfOk result (λ next. IsNone next → (self.old.rest ≡ []) × (self.new ≡ self.old)) }
         ensures text { result ≡ Err Fault.Text → IsUnreadAt self.old }
         ensures postal { result ≡ Err Fault.Postal → IsUnpostedAt self.old }
@@ -106,7 +106,7 @@ impl<'a> Walk<'a> {
         };
         self.letters.add(self.alloc, &entry)?;
         self.rest = &self.rest[length..];
-        Ok(Some(with_letter(entry, letter)))
+        Ok(Some(entry_with(entry, letter)))
     }
 
     /// How many entries it has come behind.
@@ -127,8 +127,8 @@ fn client(script: &Script) -> ActorNo
 }
 
 // The entry with the letter that it took.
-fn with_letter(entry: Entry, letter: Letter) -> Entry
-    ensures { result ≡ with_letter entry letter }
+fn entry_with(entry: Entry, letter: Letter) -> Entry
+    ensures { result ≡ entry_with entry letter }
 {
     let mut entry = entry;
     entry.took = letter;

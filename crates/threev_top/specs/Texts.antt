@@ -20,14 +20,14 @@ abbrev pub row_line : ℕ → List ℕ → List ℕ
 row_line row name = codes "threev: row " ++ (decimal row ++ (codes ": " ++ (name ++ codes "\n")))
 
 -- the line of an entry that fails in what has this name
-abbrev pub entry_line : ℕ → List ℕ → List ℕ
-entry_line entry name = codes "threev: entry " ++ (decimal entry ++ (codes ": " ++ (name ++ codes "\n")))
+abbrev pub entry_fault_line : ℕ → List ℕ → List ℕ
+entry_fault_line entry name = codes "threev: entry " ++ (decimal entry ++ (codes ": " ++ (name ++ codes "\n")))
 
 -- what standard error is told of a stop
 abbrev pub line_told : Stop → List ℕ
 line_told stops.NoMemory = codes "threev: out of memory\n"
 line_told stops.Words = codes "threev: the words are not a command line of this program\n"
 line_told (stops.Script f) = row_line f.row (why_name f.why)
-line_told (stops.History f) = entry_line f.entry (audit_rule_name f.rule)
+line_told (stops.History f) = entry_fault_line f.entry (audit_rule_name f.rule)
 line_told stops.Reading = codes "threev: reading failed\n"
 line_told stops.Writing = codes "threev: writing failed\n"

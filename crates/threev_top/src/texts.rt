@@ -1,7 +1,7 @@
 // Texts of the program's own: the lines on standard error, the help and the version.
 ghost use Rattle.std.specs.Prelude.{◌≡◌, IfOk, string_bytes};
 ghost use Rattle.history_audit.specs.Names.{audit_rule_name};
-ghost use Rattle.threev_top.specs.Texts.{entry_line, row_line};
+ghost use Rattle.threev_top.specs.Texts.{entry_fault_line, row_line};
 ghost use Rattle.tx_trees.specs.Why.{why_name};
 
 use audit_mode::HistoryFault;
@@ -78,14 +78,14 @@ pub(crate) fn fault_line(alloc: Global, fault: ScriptFault) -> Result<String, Al
 
 /// The line of an entry, from plain parts.
 fn line_of_entry(alloc: Global, entry: u64, name: &str) -> Result<String, AllocError>
-    ensures { IfOk result (λ line. string_bytes line ≡ entry_line entry name.now) }
+    ensures { IfOk result (λ line. string_bytes line ≡ entry_fault_line entry name.now) }
 {
     format!(in alloc; "threev: entry {entry}: {name}\n")
 }
 
 /// The line of a history that fails.
 pub(crate) fn entry_line(alloc: Global, fault: HistoryFault) -> Result<String, AllocError>
-    ensures { IfOk result (λ line. string_bytes line ≡ entry_line fault.entry (audit_rule_name fault.rule)) }
+    ensures { IfOk result (λ line. string_bytes line ≡ entry_fault_line fault.entry (audit_rule_name fault.rule)) }
 {
     line_of_entry(alloc, fault.entry, fault.rule.name())
 }

@@ -7,7 +7,7 @@ use Rattle.board_rules.specs.declared.rule_names.Rule.{Rule}
 use Rattle.board_rules.specs.Judging.{Breaks, MayCome}
 use Rattle.board_tallies.specs.Board.{BoardData}
 use Rattle.worth_steps.specs.Kept.{WorthsData}
-use Rattle.board_judge.specs.Judged.{HasTaken, JudgeData}
+use Rattle.board_judge.specs.Judged.{HasJudged, JudgeData}
 use Rattle.board_judge.specs.declared.judge.Refused.{Refused}
 use Rattle.board_judge.specs.declared.judge.Refused.TheVariants as refused
 use Rattle.board_judge.specs.declared.votes.Basis.{Basis}
@@ -18,11 +18,11 @@ judge_of basis b ws =
     record { script = basis.script.now; gates = basis.gates; users = basis.users; board = b; worths = ws }
 
 -- why an entry of this stamp is refused
-abbrev pub refusal_of : Stamp → Result (Option Rule) NoMemory → Option Refused
-refusal_of stamp (Ok None) = None
-refusal_of stamp (Ok (Some rule)) = Some (refused.Wrong (record { stamp = stamp; rule = rule }))
-refusal_of stamp (Err none) = Some refused.NoMemory
+abbrev pub refused_for : Stamp → Result (Option Rule) NoMemory → Option Refused
+refused_for stamp (Ok None) = None
+refused_for stamp (Ok (Some rule)) = Some (refused.Wrong (record { stamp = stamp; rule = rule }))
+refused_for stamp (Err none) = Some refused.NoMemory
 
 abbrev pub IsTried : JudgeData → List Entry → Entry → Option Rule → BoardData → List WorthsData → Type 0
-IsTried j h e None b ws = MayCome j.script h e × HasTaken (record j { board = b; worths = ws }) (h ++ e ∷ [])
+IsTried j h e None b ws = MayCome j.script h e × HasJudged (record j { board = b; worths = ws }) (h ++ e ∷ [])
 IsTried j h e (Some rule) b ws = Breaks j.script h e rule

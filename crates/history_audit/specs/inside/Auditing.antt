@@ -2,7 +2,7 @@
 use Rattle.std.specs.Prelude.{ℕ, Bool, true, false, ◌≡◌, List, Result, Ok, Err}
 use Rattle.letter_types.specs.declared.entries.Entry.{Entry}
 use Rattle.tx_trees.specs.ScriptData.{ScriptData}
-use Rattle.board_judge.specs.Judged.{HasTaken, JudgeData}
+use Rattle.board_judge.specs.Judged.{HasJudged, JudgeData}
 use Rattle.board_judge.specs.declared.judge.Refused.{Refused}
 use Rattle.board_judge.specs.declared.judge.Refused.TheVariants as refused
 use Rattle.history_walk.specs.Walks.{IsWalked, WalkData}
@@ -17,7 +17,7 @@ pub record IsUnderAudit (s : ScriptData) (text : List ℕ) (h : List Entry) (w :
   pub walk : w.script ≡ s
   pub judge : j.script ≡ s
   pub walked : IsWalked s text h w
-  pub taken : HasTaken j h
+  pub taken : HasJudged j h
 
 -- how an audit of so many entries ends, where the client has finished or hasn't
 abbrev pub end_of : ℕ → Bool → Result ℕ AuditRefusal
@@ -30,6 +30,6 @@ unread_of faults.Text number = refusals.Refused number rules.Text
 unread_of faults.Postal number = refusals.Refused number rules.Postal
 unread_of faults.NoMemory number = refusals.NoMemory
 
-abbrev pub refusal_of : Refused → ℕ → AuditRefusal
-refusal_of (refused.Wrong wrong) number = refusals.Refused number (rules.Judged wrong.rule)
-refusal_of refused.NoMemory number = refusals.NoMemory
+abbrev pub judged_refusal : Refused → ℕ → AuditRefusal
+judged_refusal (refused.Wrong wrong) number = refusals.Refused number (rules.Judged wrong.rule)
+judged_refusal refused.NoMemory number = refusals.NoMemory

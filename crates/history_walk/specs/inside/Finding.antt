@@ -11,20 +11,21 @@ use Rattle.letter_types.specs.Letters.{go}
 use Rattle.history_walk.specs.declared.in_flight.Sender.{Sender}
 use Rattle.history_walk.specs.Walks.{LettersLeft}
 
-abbrev pub is_go : Body → Bool
-is_go Go = true
-is_go _ = false
+-- whether Go stands for what a letter said, which was taken
+abbrev pub is_spent : Body → Bool
+is_spent Go = true
+is_spent _ = false
 
 -- to whom a letter is addressed that is left
 abbrev pub addressee_of : Option Outgoing → Option ActorNo
 addressee_of None = None
-addressee_of (Some o) = if is_go o.body then None else Some o.to
+addressee_of (Some o) = if is_spent o.body then None else Some o.to
 
 -- the letter of this id, where what is left at its place isn't Go
 abbrev pub letter_at : LetterId → ActorNo → Option Outgoing → Option Letter
 letter_at id from None = None
 letter_at id from (Some o) =
-    if is_go o.body then None else Some (record { id = id; from = from; to = o.to; body = o.body })
+    if is_spent o.body then None else Some (record { id = id; from = from; to = o.to; body = o.body })
 
 -- among what is left of a sender's letters
 abbrev pub letter_by : LetterId → Option Sender → Option Letter
@@ -63,15 +64,16 @@ spent_by number place [] = []
 spent_by zero place (s ∷ senders) = record { from = s.from; sent = spent_at place s.sent } ∷ senders
 spent_by (suc number) place (s ∷ senders) = s ∷ spent_by number place senders
 
--- the letters that are left where the one of this id was taken, which is Go or another
-abbrev pub without_if : Bool → LetterId → LettersLeft → LettersLeft
-without_if true id letters = record { begun = true; senders = letters.senders }
-without_if false id letters =
+-- the letters that are left where one was taken, which is Go or another
+abbrev pub left_without_if : Bool → LetterId → LettersLeft → LettersLeft
+left_without_if true id letters = record { begun = true; senders = letters.senders }
+left_without_if false id letters =
     record { begun = letters.begun; senders = spent_by (id.stamp.0 - 1) id.place letters.senders }
 
-abbrev pub without : LetterId → LettersLeft → LettersLeft
-without id letters = without_if (id.stamp.0 == 0) id letters
+-- where the one of this id was taken
+abbrev pub left_without : LetterId → LettersLeft → LettersLeft
+left_without id letters = left_without_if (id.stamp.0 == 0) id letters
 
 -- an entry with the letter that it took
-abbrev pub with_letter : Entry → Letter → Entry
-with_letter e letter = record { stamp = e.stamp; actor = e.actor; took = letter; sent = e.sent; acts = e.acts }
+abbrev pub entry_with : Entry → Letter → Entry
+entry_with e letter = record { stamp = e.stamp; actor = e.actor; took = letter; sent = e.sent; acts = e.acts }

@@ -6,7 +6,7 @@ use Rattle.history_walk.specs.declared.walk.Fault.{Fault}
 use Rattle.history_walk.specs.declared.walk.Fault.TheVariants as faults
 
 -- the fault of the entry of this number
-abbrev pub refusal_of : Fault → ℕ → HistoryRefusal
-refusal_of faults.Text number = refusals.Text number
-refusal_of faults.Postal number = refusals.Postal number
-refusal_of faults.NoMemory number = refusals.NoMemory
+abbrev pub refusal_for : Fault → ℕ → HistoryRefusal
+refusal_for faults.Text number = refusals.Text number
+refusal_for faults.Postal number = refusals.Postal number
+refusal_for faults.NoMemory number = refusals.NoMemory

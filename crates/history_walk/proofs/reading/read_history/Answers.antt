@@ -2,7 +2,7 @@ use Rattle.std.proofs.Common.{ℕ, ◌+◌, ◌∙◌, List, ap, refl, subst, sy
 use Rattle.std.specs.Prelude.{Err}
 use Rattle.letter_types.specs.declared.entries.Entry.{Entry}
 use Rattle.history_walk.specs.declared.reading.HistoryRefusal.{HistoryRefusal}
-use Rattle.history_walk.specs.Walks.{IsReadAs, IsWalked}
+use Rattle.history_walk.specs.Walks.{IsReadOutcome, IsWalked}
 use Rattle.history_walk.proofs.WalkEnds.{fails, read_whole, walks_on}
 use Rattle.history_walk.proofs.reading.read_history.Goals as goal
 
@@ -10,7 +10,7 @@ pub returns-in-Err : goal.returns-in-Err
 returns-in-Err c =
     let s = c.args.script.now in
     let text = c.args.text.now in
-    subst (λ (r : HistoryRefusal). IsReadAs s text (Err r)) (sym c.refusal.ensures)
+    subst (λ (r : HistoryRefusal). IsReadOutcome s text (Err r)) (sym c.refusal.ensures)
     (fails s text c.entries.history c.entries.walk c.entries.invariant.walked c.in-Err.fault (c.count-number.result + 1) c.entries.invariant.script
     (ap (λ (n : ℕ). n + 1) c.count-number.ensures.count)
     (λ is. c.in-Err.ensures.text (ap Err is)) (λ is. c.in-Err.ensures.postal (ap Err is)))

@@ -4,12 +4,12 @@ use Rattle.board_rules.specs.Histories.{places_of}
 use Rattle.board_rules.specs.Worth.{first_value, worth_in}
 use Rattle.board_standing.specs.Notes.{AreKnown, noted_on}
 use Rattle.board_standing.proofs.Seeing.{item_found, worth_known}
-use Rattle.board_judge.specs.Judged.{HasTaken, JudgeData}
+use Rattle.board_judge.specs.Judged.{HasJudged, JudgeData}
 use Rattle.board_judge.proofs.judge.Judge.worth.Goals as goal
 
 pub returns : goal.returns
 returns c = λ h taken.
-    let inside = subst (λ (j : JudgeData). HasTaken j h) (sym c.self.view_is) taken in
+    let inside = subst (λ (j : JudgeData). HasJudged j h) (sym c.self.view_is) taken in
     let s = c.self.inside.basis.script.now in
     let ws = c.self.inside.worths.items in
     let x = c.args.item.0 in

@@ -1,4 +1,4 @@
-use Rattle.std.proofs.Common.{◌≡◌, ◌∙◌, List, ap}
+use Rattle.std.proofs.Common.{◌∙◌, List, ap}
 use Rattle.std.specs.Prelude.{slice_get}
 use Rattle.letter_types.specs.declared.entries.Outgoing.{Outgoing}
 use Rattle.history_walk.specs.inside.Finding.{addressee_of}

@@ -1,7 +1,7 @@
 use Rattle.std.proofs.Common.{◌-◌, List, ℕ, drop, length, refl, subst, sym, take}
 use Rattle.letter_types.specs.declared.entries.Entry.{Entry}
-use Rattle.history_walk.specs.Walks.{GoesOn, WalkData}
-use Rattle.history_walk.specs.inside.Finding.{with_letter}
+use Rattle.history_walk.specs.Walks.{WalkData, ComesBehind}
+use Rattle.history_walk.specs.inside.Finding.{entry_with}
 use Rattle.history_walk.proofs.NextEntry.{goes_on, letters_added, rest_whole, unposted, unread}
 use Rattle.history_walk.proofs.walk.Walk.next.Goals as goal
 
@@ -27,5 +27,5 @@ returns-clause-some c =
     let new : WalkData = record { script = c.self.inside.script.now; rest = drop n rest; count = length c.add.new.self.senders; letters = c.add.new.self } in
     let whole = goes_on c.self.inside.script.now rest (length c.self.inside.letters.senders) c.self.inside.letters c.client.result.0 c.client.ensures.client
     e c.args.self.now c.self.view_is new l read.1 c.in-Some-letter_for.ensures.letter letters refl in
-    subst (λ (x : Entry). GoesOn c.args.self.now x (record new { rest = take (length rest - n) (drop n rest) })) (sym c.with_letter.ensures)
-    (subst (λ (r : List ℕ). GoesOn c.args.self.now (with_letter e l) (record new { rest = r })) (sym (rest_whole n rest)) whole)
+    subst (λ (x : Entry). ComesBehind c.args.self.now x (record new { rest = take (length rest - n) (drop n rest) })) (sym c.entry_with.ensures)
+    (subst (λ (r : List ℕ). ComesBehind c.args.self.now (entry_with e l) (record new { rest = r })) (sym (rest_whole n rest)) whole)
