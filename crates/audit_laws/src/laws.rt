@@ -8,6 +8,7 @@ ghost use Rattle.board_rules.specs.Right.{HasFinished};
 ghost use Rattle.world_model.specs.Runs.{IsWorldRun};
 ghost use Rattle.history_text.specs.History.{history_lines_of};
 ghost use Rattle.history_text.specs.Printable.{IsPrintable};
+ghost use Rattle.history_walk.specs.Walks.{Reading};
 ghost use Rattle.history_audit.specs.Verdicts.{Verdict};
 
 use headline::every_run_is_accepted;
@@ -34,4 +35,20 @@ pub fn printed_histories_are_accepted(script: &Script, history: &History)
     let _nodes = script.nodes();
     runs_are_printable(script, history);
     printed_runs_are_accepted();
+}
+
+/// The lines of every run, finished or not, are read as its history, with the letters that were taken, where each entry may
+/// be printed.
+pub fn printed_runs_are_read_back()
+    ensures { (s : ScriptData) (h : List Entry) → IsWorldRun s h → AllByRecursion (IsPrintable s) h
+        → Reading s (history_lines_of s h) (Ok h) }
+{}
+
+/// So are those of every history of the script that is such a run. It walks the history and changes nothing.
+pub fn printed_histories_are_read_back(script: &Script, history: &History)
+    requires { IsWorldRun script.now history.now }
+    ensures { Reading script.now (history_lines_of script.now history.now) (Ok history.now) }
+{
+    runs_are_printable(script, history);
+    printed_runs_are_read_back();
 }
