@@ -235,9 +235,22 @@ given_by g s past e away (SendsAsked v k lt bd sent same) =
     ((rows_told g v k _).1, tt))
 given_by g s past e away (SendsOrders tells at made) = absurd (away at)
 
-pub given_away : (g : Stage) (s : ScriptData) (past : List Entry) (e : Entry) → IsLawful s → IsStepRun s (e ∷ past) → AllApt s (e ∷ past)
+given_away : (g : Stage) (s : ScriptData) (past : List Entry) (e : Entry) → IsLawful s → IsStepRun s (e ∷ past) → AllApt s (e ∷ past)
     → e.actor.0 ≢ s.nodes → given g (e ∷ past) ≡ given g past
 given_away g s past e laws run apt away = given_by g s past e away (sending s past e laws run apt)
+
+-- so does an entry that has an act, which is none of the coordinator's
+acted_by : (g : Stage) (s : ScriptData) (past : List Entry) (e : Entry) → (e.acts ≡ [] → ⊥) → Sending s past e → given g (e ∷ past) ≡ given g past
+acted_by g s past e acts (SendsApart ne plain all) = given_by g s past e ne (SendsApart ne plain all)
+acted_by g s past e acts (SendsDone v k lt bd sent same) =
+    given_by g s past e (λ eq. omega (arith, eq, lt)) (SendsDone v k lt bd sent same)
+acted_by g s past e acts (SendsAsked v k lt bd sent same) =
+    given_by g s past e (λ eq. omega (arith, eq, lt)) (SendsAsked v k lt bd sent same)
+acted_by g s past e acts (SendsOrders tells at made) = absurd (acts made.acts)
+
+pub given_acted : (g : Stage) (s : ScriptData) (past : List Entry) (e : Entry) → IsLawful s → IsStepRun s (e ∷ past) → AllApt s (e ∷ past)
+    → (e.acts ≡ [] → ⊥) → given g (e ∷ past) ≡ given g past
+given_acted g s past e laws run apt acts = acted_by g s past e acts (sending s past e laws run apt)
 
 -- what was given is the most of the phase, in every run
 abbrev IsMost : Stage → ScriptData → List Entry → Type 0
