@@ -17,7 +17,7 @@ use Rattle.world_model.proofs.Every.{each_taken}
 use Rattle.board_rules.specs.Histories.{Place}
 use Rattle.board_rules.specs.Moves.{IsShowing, IsSweeping, IsTurn}
 use Rattle.tree_laws.proofs.AptVersions.{before}
-use Rattle.phase_laws.specs.Given.{given}
+use Rattle.phase_laws.specs.Given.{greatest_given}
 use Rattle.phase_laws.specs.Phases.{TurnStage}
 use Rattle.phase_laws.proofs.Advancing.{brought_turned, taken_ahead, taken_given}
 use Rattle.phase_laws.proofs.Brought.{BringsTo, IsAsking}
@@ -40,7 +40,7 @@ took_it s past e p r body b is other =
 -- A turn.
 -- the version of a letter that may raise it was given
 pub raised_most : (s : ScriptData) (past : List Entry) (e : Entry) (p : ℕ) (r : Letter) (body : Body) (v : Version) → IsValid s
-    → IsStepRun s (e ∷ past) → BringsTo s past e p r → r.body ≡ body → MayRaise s body v → v.0 ≤ given TurnStage past
+    → IsStepRun s (e ∷ past) → BringsTo s past e p r → r.body ≡ body → MayRaise s body v → v.0 ≤ greatest_given TurnStage past
 raised_most s past e p r (SubLetter t k w) v valid run b is may =
     let of = brought_turned s past e p r (SubLetter t k w) (advancing_run s past valid run.1) run.0 b is in
     omega (arith, ap (λ (x : Version). x.0) may.0, of may.1)

@@ -37,7 +37,7 @@ use Rattle.tree_laws.proofs.Counts.{one_here}
 use Rattle.tree_laws.proofs.Finishes.{finishes_of, is_true_of}
 use Rattle.run_laws.proofs.EveryApt.{all_apt, lawful}
 use Rattle.run_laws.proofs.InTime.{advancing_run}
-use Rattle.phase_laws.specs.Given.{given}
+use Rattle.phase_laws.specs.Given.{greatest_given}
 use Rattle.phase_laws.specs.Phases.{TurnStage}
 use Rattle.phase_laws.proofs.Brought.{BringsTo, IsAsking, brought_outstanding}
 use Rattle.phase_laws.proofs.Progress.{Begins, Coordinates, Ends, Hears, Obeys, Progress, Works, itself, progress}
@@ -96,7 +96,7 @@ born s past e p r t valid run b is =
 
 -- A node turns by the row of an advancement.
 turned : (s : ScriptData) (past : List Entry) (p v : ℕ) → IsValid s → IsStepRun s past → p < s.nodes
-    → (node_in s past p).turns.update.0 < v → v ≤ given TurnStage past → IsTurnedByItsRow s (places_of (reverse past)) v
+    → (node_in s past p).turns.update.0 < v → v ≤ greatest_given TurnStage past → IsTurnedByItsRow s (places_of (reverse past)) v
 turned s past p v valid run pl lt le =
     let all = advancing_run s past valid run in
     let some : 2 ≤ v = omega (arith, lt, (all.within p pl).showed_update) in

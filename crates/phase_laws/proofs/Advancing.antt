@@ -14,32 +14,32 @@ use Rattle.world_model.specs.Kept.{outstanding}
 use Rattle.world_model.specs.Runs.{MayFollow, client_in, in_flight, node_in}
 use Rattle.world_model.proofs.Every.{each_map, each_taken}
 use Rattle.phase_laws.specs.Advances.{asked_for}
-use Rattle.phase_laws.specs.Given.{IsGivenAnew, given, greatest_told, version_told}
+use Rattle.phase_laws.specs.Given.{IsGivenAnew, KeepTogether, greatest_given, greatest_told, version_told}
 use Rattle.phase_laws.specs.Phases.{Stage, TurnStage, ShowStage, SweepStage}
 use Rattle.phase_laws.specs.Quiet.{IsQuietForReads, IsQuietForUpdates}
 use Rattle.phase_laws.proofs.Brought.{BringsTo, each_of_brought}
 
 -- a node has come no further than it was told, and not much less far
 pub record IsWithin (past : List Entry) (turns : Turns) : Type 0 where
-  pub turned_low : given TurnStage past ≤ turns.low.0 + 2
-  pub showed_low : given ShowStage past ≤ turns.low.0 + 1
-  pub swept_low : given SweepStage past ≤ turns.low.0 + 1
-  pub showed_update : given ShowStage past < turns.update.0
-  pub swept_read : given SweepStage past ≤ turns.read.0
-  pub update_turned : turns.update.0 ≤ given TurnStage past
-  pub read_showed : turns.read.0 ≤ given ShowStage past
-  pub low_swept : turns.low.0 ≤ given SweepStage past
+  pub turned_low : greatest_given TurnStage past ≤ turns.low.0 + 2
+  pub showed_low : greatest_given ShowStage past ≤ turns.low.0 + 1
+  pub swept_low : greatest_given SweepStage past ≤ turns.low.0 + 1
+  pub showed_update : greatest_given ShowStage past < turns.update.0
+  pub swept_read : greatest_given SweepStage past ≤ turns.read.0
+  pub update_turned : turns.update.0 ≤ greatest_given TurnStage past
+  pub read_showed : turns.read.0 ≤ greatest_given ShowStage past
+  pub low_swept : turns.low.0 ≤ greatest_given SweepStage past
 
 -- an order is of a version that was given
 abbrev pub IsOrderGiven : List Entry → Body → Type 0
-IsOrderGiven past (Turn v) = v.0 ≤ given TurnStage past
-IsOrderGiven past (Show v) = v.0 ≤ given ShowStage past
-IsOrderGiven past (Sweep v) = v.0 ≤ given SweepStage past
+IsOrderGiven past (Turn v) = v.0 ≤ greatest_given TurnStage past
+IsOrderGiven past (Show v) = v.0 ≤ greatest_given ShowStage past
+IsOrderGiven past (Sweep v) = v.0 ≤ greatest_given SweepStage past
 IsOrderGiven past _ = Unit {0}
 
 -- a letter of a tree that isn't a read tree is of a version to which nodes were told to turn
 abbrev pub IsTurnedTo : ScriptData → List Entry → Body → Type 0
-IsTurnedTo s past (SubLetter t k v) = reads s t.0 ≡ false → v.0 ≤ given TurnStage past
+IsTurnedTo s past (SubLetter t k v) = reads s t.0 ≡ false → v.0 ≤ greatest_given TurnStage past
 IsTurnedTo s past Go = Unit {0}
 IsTurnedTo s past _ = Unit {0}
 
@@ -55,15 +55,15 @@ IsAhead turns _ = Unit {0}
 -- have still to be obeyed
 pub record IsAdvancing (s : ScriptData) (past : List Entry) : Type 0 where
   pub within : (p : ℕ) → p < s.nodes → IsWithin past (node_in s past p).turns
-  pub asked : given TurnStage past ≤ asked_for s past + 1
+  pub asked : greatest_given TurnStage past ≤ asked_for s past + 1
   pub heard : (p : ℕ) → p < s.nodes → (client_in s past).ended ≤ (node_in s past p).turns.low.0
   pub orders : Each (λ (l : Letter). IsOrderGiven past l.body) (in_flight s past)
   pub trees : Each (λ (l : Letter). IsTurnedTo s past l.body) (outstanding s past)
   pub ahead : (p : ℕ) → p < s.nodes → Each (λ (l : Letter). l.to.0 ≡ p → IsAhead (node_in s past p).turns l.body) (in_flight s past)
 
 -- What was given never falls.
-pub given_rises : (g : Stage) (e : Entry) (past : List Entry) → given g past ≤ given g (e ∷ past)
-given_rises g e past = le-max_right (greatest_told g e.sent) (given g past)
+pub given_rises : (g : Stage) (e : Entry) (past : List Entry) → greatest_given g past ≤ greatest_given g (e ∷ past)
+given_rises g e past = le-max_right (greatest_told g e.sent) (greatest_given g past)
 
 -- What is told is at most the greatest of it, and that is what some letter tells.
 told_most : (g : Stage) (m : ℕ) (os : List Outgoing) → greatest_told g os ≤ m → Each (λ (o : Outgoing). version_told g o.body ≤ m) os
@@ -74,8 +74,8 @@ told_most g m (o ∷ os) le = (
 )
 
 -- so it is at most what is given once it is sent
-pub sent_given : (g : Stage) (e : Entry) (past : List Entry) → Each (λ (o : Outgoing). version_told g o.body ≤ given g (e ∷ past)) e.sent
-sent_given g e past = told_most g (given g (e ∷ past)) e.sent (le-max_left (greatest_told g e.sent) (given g past))
+pub sent_given : (g : Stage) (e : Entry) (past : List Entry) → Each (λ (o : Outgoing). version_told g o.body ≤ greatest_given g (e ∷ past)) e.sent
+sent_given g e past = told_most g (greatest_given g (e ∷ past)) e.sent (le-max_left (greatest_told g e.sent) (greatest_given g past))
 
 pub greatest_least : (g : Stage) (m : ℕ) (os : List Outgoing) → Each (λ (o : Outgoing). version_told g o.body ≤ m) os → greatest_told g os ≤ m
 greatest_least g m [] all = omega arith
@@ -83,7 +83,7 @@ greatest_least g m (o ∷ os) all = max-le all.0 (greatest_least g m os all.1)
 
 -- where nothing is told, what was given stays
 pub given_stays : (g : Stage) (e : Entry) (past : List Entry) → Each (λ (o : Outgoing). version_told g o.body ≡ 0) e.sent
-    → given g (e ∷ past) ≡ given g past
+    → greatest_given g (e ∷ past) ≡ greatest_given g past
 given_stays g e past none =
     let zero : greatest_told g e.sent ≤ 0 =
     greatest_least g 0 e.sent (each_map (λ (o : Outgoing). version_told g o.body ≡ 0) (λ (o : Outgoing). version_told g o.body ≤ 0) e.sent
@@ -92,16 +92,16 @@ given_stays g e past none =
 
 -- What is given anew is the next version, which is quiet.
 told_show : (s : ScriptData) (past : List Entry) (body : Body) → IsGivenAnew s past body
-    → (version_told ShowStage body ≤ given ShowStage past)
-    ⊎ ((version_told ShowStage body ≡ given ShowStage past + 1) × IsQuietForUpdates s past (given ShowStage past + 1))
+    → (version_told ShowStage body ≤ greatest_given ShowStage past)
+    ⊎ ((version_told ShowStage body ≡ greatest_given ShowStage past + 1) × IsQuietForUpdates s past (greatest_given ShowStage past + 1))
 told_show s past (Show v) (inl le) = inl le
 told_show s past (Show v) (inr (is, quiet)) = inr (is, subst (IsQuietForUpdates s past) is quiet)
 told_show s past Go anew = inl (omega arith)
 told_show s past _ anew = inl (omega arith)
 
 told_sweep : (s : ScriptData) (past : List Entry) (body : Body) → IsGivenAnew s past body
-    → (version_told SweepStage body ≤ given SweepStage past)
-    ⊎ ((version_told SweepStage body ≡ given SweepStage past + 1) × IsQuietForReads s past (given SweepStage past + 1))
+    → (version_told SweepStage body ≤ greatest_given SweepStage past)
+    ⊎ ((version_told SweepStage body ≡ greatest_given SweepStage past + 1) × IsQuietForReads s past (greatest_given SweepStage past + 1))
 told_sweep s past (Sweep v) (inl le) = inl le
 told_sweep s past (Sweep v) (inr (is, quiet)) = inr (is, subst (IsQuietForReads s past) is quiet)
 told_sweep s past Go anew = inl (omega arith)
@@ -127,11 +127,11 @@ greatest_next Q g m (o ∷ os) all = by all.0 (greatest_next Q g m os all.1) whe
 
 -- so what was given stays, or rises by one
 given_next : (Q : Type 0) (g : Stage) (e : Entry) (past : List Entry)
-    → Each (λ (o : Outgoing). (version_told g o.body ≤ given g past) ⊎ ((version_told g o.body ≡ given g past + 1) × Q)) e.sent
-    → (given g (e ∷ past) ≡ given g past) ⊎ ((given g (e ∷ past) ≡ given g past + 1) × Q)
-given_next Q g e past all = by (greatest_next Q g (given g past) e.sent all) where
+    → Each (λ (o : Outgoing). (version_told g o.body ≤ greatest_given g past) ⊎ ((version_told g o.body ≡ greatest_given g past + 1) × Q)) e.sent
+    → (greatest_given g (e ∷ past) ≡ greatest_given g past) ⊎ ((greatest_given g (e ∷ past) ≡ greatest_given g past + 1) × Q)
+given_next Q g e past all = by (greatest_next Q g (greatest_given g past) e.sent all) where
   m : ℕ
-  m = given g past
+  m = greatest_given g past
 
   k : ℕ
   k = greatest_told g e.sent
@@ -141,17 +141,17 @@ given_next Q g e past all = by (greatest_next Q g (given g past) e.sent all) whe
   by (inr (is, q)) = inr (max-eq_left (omega (arith, is)) ∙ is, q)
 
 pub shown_next : (s : ScriptData) (past : List Entry) (e : Entry) → Each (λ (o : Outgoing). IsGivenAnew s past o.body) e.sent
-    → (given ShowStage (e ∷ past) ≡ given ShowStage past)
-    ⊎ ((given ShowStage (e ∷ past) ≡ given ShowStage past + 1) × IsQuietForUpdates s past (given ShowStage past + 1))
+    → (greatest_given ShowStage (e ∷ past) ≡ greatest_given ShowStage past)
+    ⊎ ((greatest_given ShowStage (e ∷ past) ≡ greatest_given ShowStage past + 1) × IsQuietForUpdates s past (greatest_given ShowStage past + 1))
 shown_next s past e anew =
-    given_next (IsQuietForUpdates s past (given ShowStage past + 1)) ShowStage e past
+    given_next (IsQuietForUpdates s past (greatest_given ShowStage past + 1)) ShowStage e past
     (each_map (λ (o : Outgoing). IsGivenAnew s past o.body) _ e.sent (λ o is. told_show s past o.body is) anew)
 
 pub swept_next : (s : ScriptData) (past : List Entry) (e : Entry) → Each (λ (o : Outgoing). IsGivenAnew s past o.body) e.sent
-    → (given SweepStage (e ∷ past) ≡ given SweepStage past)
-    ⊎ ((given SweepStage (e ∷ past) ≡ given SweepStage past + 1) × IsQuietForReads s past (given SweepStage past + 1))
+    → (greatest_given SweepStage (e ∷ past) ≡ greatest_given SweepStage past)
+    ⊎ ((greatest_given SweepStage (e ∷ past) ≡ greatest_given SweepStage past + 1) × IsQuietForReads s past (greatest_given SweepStage past + 1))
 swept_next s past e anew =
-    given_next (IsQuietForReads s past (given SweepStage past + 1)) SweepStage e past
+    given_next (IsQuietForReads s past (greatest_given SweepStage past + 1)) SweepStage e past
     (each_map (λ (o : Outgoing). IsGivenAnew s past o.body) _ e.sent (λ o is. told_sweep s past o.body is) anew)
 
 -- A letter of a tree that is brought, and an order that is taken.
@@ -172,14 +172,9 @@ taken_ahead s past e p body all m at lt is =
     subst (IsAhead (node_in s past p).turns) is
     (each_taken (λ (l : Letter). l.to.0 ≡ p → IsAhead (node_in s past p).turns l.body) s past e m (all.ahead p lt) (m.addressee ∙ at))
 
--- What follows for nodes, of any two.
-pub record IsLadder (p q : Turns) : Type 0 where
-  pub update : p.update.0 ≤ q.low.0 + 2
-  pub read : p.read.0 < q.update.0
-  pub low : p.low.0 ≤ q.read.0
-
-pub ladder : (past : List Entry) (p q : Turns) → IsWithin past p → IsWithin past q → IsLadder p q
-ladder past p q a b = record {
+-- So any two nodes are together.
+pub together : (past : List Entry) (p q : Turns) → IsWithin past p → IsWithin past q → KeepTogether p q
+together past p q a b = record {
   update = omega (arith, a.update_turned, b.turned_low);
   read = omega (arith, a.read_showed, b.showed_update);
   low = omega (arith, a.low_swept, b.swept_read);

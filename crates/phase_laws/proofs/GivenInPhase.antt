@@ -26,7 +26,7 @@ use Rattle.world_model.proofs.Every.{coordinator_kept, each_both, each_map, node
 use Rattle.world_model.proofs.Gone.{under_or}
 use Rattle.world_model.proofs.Orders.{coordinator_nodes, to_nodes_each}
 use Rattle.phase_laws.specs.Advances.{running}
-use Rattle.phase_laws.specs.Given.{IsGivenAnew, first_given, given, greatest_told, version_told}
+use Rattle.phase_laws.specs.Given.{IsGivenAnew, first_given, greatest_given, greatest_told, version_told}
 use Rattle.phase_laws.specs.Phases.{Stage, TurnStage, ShowStage, SweepStage, count_in_flight, most_low, most_read, most_update, token}
 use Rattle.phase_laws.specs.Quiet.{IsGivenInQuiet}
 use Rattle.phase_laws.proofs.Advancing.{IsAdvancing, IsAhead, IsOrderGiven, IsTurnedTo, IsWithin, given_stays, greatest_least, sent_given}
@@ -223,7 +223,7 @@ rows_told SweepStage v k row = (refl, refl)
 
 -- the entries of others leave what was given
 given_by : (g : Stage) (s : ScriptData) (past : List Entry) (e : Entry) → e.actor.0 ≢ s.nodes → Sending s past e
-    → given g (e ∷ past) ≡ given g past
+    → greatest_given g (e ∷ past) ≡ greatest_given g past
 given_by g s past e away (SendsApart ne plain all) =
     given_stays g e past
     (each_map (λ (o : Outgoing). IsApart o.body) (λ (o : Outgoing). version_told g o.body ≡ 0) e.sent (λ o apart. apart_told g o.body apart) all)
@@ -236,11 +236,11 @@ given_by g s past e away (SendsAsked v k lt bd sent same) =
 given_by g s past e away (SendsOrders tells at made) = absurd (away at)
 
 given_away : (g : Stage) (s : ScriptData) (past : List Entry) (e : Entry) → IsLawful s → IsStepRun s (e ∷ past) → AllApt s (e ∷ past)
-    → e.actor.0 ≢ s.nodes → given g (e ∷ past) ≡ given g past
+    → e.actor.0 ≢ s.nodes → greatest_given g (e ∷ past) ≡ greatest_given g past
 given_away g s past e laws run apt away = given_by g s past e away (sending s past e laws run apt)
 
 -- so does an entry that has an act, which is none of the coordinator's
-acted_by : (g : Stage) (s : ScriptData) (past : List Entry) (e : Entry) → (e.acts ≡ [] → ⊥) → Sending s past e → given g (e ∷ past) ≡ given g past
+acted_by : (g : Stage) (s : ScriptData) (past : List Entry) (e : Entry) → (e.acts ≡ [] → ⊥) → Sending s past e → greatest_given g (e ∷ past) ≡ greatest_given g past
 acted_by g s past e acts (SendsApart ne plain all) = given_by g s past e ne (SendsApart ne plain all)
 acted_by g s past e acts (SendsDone v k lt bd sent same) =
     given_by g s past e (λ eq. omega (arith, eq, lt)) (SendsDone v k lt bd sent same)
@@ -249,12 +249,12 @@ acted_by g s past e acts (SendsAsked v k lt bd sent same) =
 acted_by g s past e acts (SendsOrders tells at made) = absurd (acts made.acts)
 
 pub given_acted : (g : Stage) (s : ScriptData) (past : List Entry) (e : Entry) → IsLawful s → IsStepRun s (e ∷ past) → AllApt s (e ∷ past)
-    → (e.acts ≡ [] → ⊥) → given g (e ∷ past) ≡ given g past
+    → (e.acts ≡ [] → ⊥) → greatest_given g (e ∷ past) ≡ greatest_given g past
 given_acted g s past e laws run apt acts = acted_by g s past e acts (sending s past e laws run apt)
 
 -- what was given is the most of the phase, in every run
 abbrev IsMost : Stage → ScriptData → List Entry → Type 0
-IsMost g s past = given g past ≡ most_given g (coordinator_in s past).phase (coordinator_in s past).update
+IsMost g s past = greatest_given g past ≡ most_given g (coordinator_in s past).phase (coordinator_in s past).update
 
 most_kept : (g : Stage) (s : ScriptData) (past : List Entry) (e : Entry) → e.actor.0 ≢ s.nodes → Sending s past e → IsMost g s past
     → IsMost g s (e ∷ past)
@@ -273,7 +273,7 @@ most_next g s past e laws run apt (SendsOrders tells at made) was =
     let c = coordinator_in s past in
     let out = coordinator_row c e.took.from.0 e.took.body in
     let some : 1 ≤ c.nodes = omega (arith, coordinator_nodes s past, laws.valid.some_nodes) in
-    ap (λ (os : List Outgoing). max (greatest_told g os) (given g past)) made.sent
+    ap (λ (os : List Outgoing). max (greatest_told g os) (greatest_given g past)) made.sent
     ∙ ap (λ (n : ℕ). max (greatest_told g out.sent) n) was
     ∙ gives g c e.took.from.0 e.took.body out some (outcome_in s past e laws run apt)
     ∙ ap (λ (d : Coordinator). most_given g d.phase d.update) (sym made.state)
@@ -463,13 +463,13 @@ advancing s past laws run apt =
 
 -- And what is told is what was told before, or the next version, in quiet.
 anew_body : (s : ScriptData) (past : List Entry) (body : Body) → IsGivenInQuiet s past body
-    → version_told ShowStage body ≤ given ShowStage past + 1 → version_told SweepStage body ≤ given SweepStage past + 1 → IsGivenAnew s past body
-anew_body s past (Show v) quiet shown swept = by (under_or v.0 (given ShowStage past)) where
-  by : (v.0 ≤ given ShowStage past) ⊎ (given ShowStage past < v.0) → IsGivenAnew s past (Show v)
+    → version_told ShowStage body ≤ greatest_given ShowStage past + 1 → version_told SweepStage body ≤ greatest_given SweepStage past + 1 → IsGivenAnew s past body
+anew_body s past (Show v) quiet shown swept = by (under_or v.0 (greatest_given ShowStage past)) where
+  by : (v.0 ≤ greatest_given ShowStage past) ⊎ (greatest_given ShowStage past < v.0) → IsGivenAnew s past (Show v)
   by (inl le) = inl le
   by (inr more) = inr (omega (arith, more, shown), quiet)
-anew_body s past (Sweep v) quiet shown swept = by (under_or v.0 (given SweepStage past)) where
-  by : (v.0 ≤ given SweepStage past) ⊎ (given SweepStage past < v.0) → IsGivenAnew s past (Sweep v)
+anew_body s past (Sweep v) quiet shown swept = by (under_or v.0 (greatest_given SweepStage past)) where
+  by : (v.0 ≤ greatest_given SweepStage past) ⊎ (greatest_given SweepStage past < v.0) → IsGivenAnew s past (Sweep v)
   by (inl le) = inl le
   by (inr more) = inr (omega (arith, more, swept), quiet)
 anew_body s past Go quiet shown swept = tt
@@ -477,10 +477,10 @@ anew_body s past _ quiet shown swept = tt
 
 -- what was given rises by one at most: a node that the coordinator's entry leaves as it was is within both
 given_by_one : (s : ScriptData) (past : List Entry) (e : Entry) → IsLawful s → IsStepRun s (e ∷ past) → AllApt s (e ∷ past)
-    → (given ShowStage (e ∷ past) ≤ given ShowStage past + 1) × (given SweepStage (e ∷ past) ≤ given SweepStage past + 1)
+    → (greatest_given ShowStage (e ∷ past) ≤ greatest_given ShowStage past + 1) × (greatest_given SweepStage (e ∷ past) ≤ greatest_given SweepStage past + 1)
 given_by_one s past e laws run apt = by (cases_eq e.actor.0 s.nodes) where
   by : (e.actor.0 ≡ s.nodes) ⊎ (e.actor.0 ≢ s.nodes)
-      → (given ShowStage (e ∷ past) ≤ given ShowStage past + 1) × (given SweepStage (e ∷ past) ≤ given SweepStage past + 1)
+      → (greatest_given ShowStage (e ∷ past) ≤ greatest_given ShowStage past + 1) × (greatest_given SweepStage (e ∷ past) ≤ greatest_given SweepStage past + 1)
   by (inr away) = (
     omega (arith, given_away ShowStage s past e laws run apt away),
     omega (arith, given_away SweepStage s past e laws run apt away),
@@ -502,5 +502,5 @@ given_anew s past e laws run apt =
     each_map _ (λ (o : Outgoing). IsGivenAnew s past o.body) e.sent
     (λ o all. anew_body s past o.body all.0 (omega (arith, all.1.0, shown)) (omega (arith, all.1.1, swept)))
     (each_both (λ (o : Outgoing). IsGivenInQuiet s past o.body) _ e.sent (given_in_quiet s past e laws run apt)
-    (each_both (λ (o : Outgoing). version_told ShowStage o.body ≤ given ShowStage (e ∷ past))
-    (λ (o : Outgoing). version_told SweepStage o.body ≤ given SweepStage (e ∷ past)) e.sent (sent_given ShowStage e past) (sent_given SweepStage e past)))
+    (each_both (λ (o : Outgoing). version_told ShowStage o.body ≤ greatest_given ShowStage (e ∷ past))
+    (λ (o : Outgoing). version_told SweepStage o.body ≤ greatest_given SweepStage (e ∷ past)) e.sent (sent_given ShowStage e past) (sent_given SweepStage e past)))

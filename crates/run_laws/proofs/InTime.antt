@@ -18,7 +18,7 @@ use Rattle.world_model.specs.Runs.{IsStepRun, keeping_in, node_in}
 use Rattle.world_model.specs.Strict.{is_core_apt}
 use Rattle.world_model.specs.Timely.{AllTimely, WasTimely}
 use Rattle.phase_laws.specs.Balance.{IsBalanced, MOST_COUNTED}
-use Rattle.phase_laws.specs.Given.{IsGivenAnew, given}
+use Rattle.phase_laws.specs.Given.{IsGivenAnew, greatest_given}
 use Rattle.phase_laws.specs.Phases.{Stage}
 use Rattle.phase_laws.specs.Quiet.{IsGivenInQuiet}
 use Rattle.phase_laws.proofs.Advancing.{IsAdvancing}
@@ -68,5 +68,5 @@ anew_run s past e valid run = given_anew s past e (every_lawful s valid) run (ev
 
 -- an entry that has an act leaves what was given
 pub acted_run : (g : Stage) (s : ScriptData) (past : List Entry) (e : Entry) → IsValid s → IsStepRun s (e ∷ past) → (e.acts ≡ [] → ⊥)
-    → given g (e ∷ past) ≡ given g past
+    → greatest_given g (e ∷ past) ≡ greatest_given g past
 acted_run g s past e valid run acts = given_acted g s past e (every_lawful s valid) run (every_apt s (e ∷ past) valid run) acts

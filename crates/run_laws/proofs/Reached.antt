@@ -9,7 +9,7 @@ use Rattle.board_rules.specs.Histories.{IsWhole, Place, is_whole_in, places_at, 
 use Rattle.board_rules.proofs.Wholes.{whole_more}
 use Rattle.world_model.specs.Runs.{IsStepRun, node_in}
 use Rattle.tree_laws.proofs.Histories.{places_more}
-use Rattle.phase_laws.specs.Given.{given}
+use Rattle.phase_laws.specs.Given.{greatest_given}
 use Rattle.phase_laws.specs.Phases.{ShowStage, SweepStage}
 use Rattle.phase_laws.specs.Quiet.{IsSilent}
 use Rattle.phase_laws.proofs.Advancing.{IsAdvancing, shown_next, swept_next}
@@ -21,8 +21,8 @@ use Rattle.run_laws.proofs.Wholes.{AreWhole, born_split, born_with, is_of_kind, 
 -- the version up to which trees of the kind are whole now: writers up to the version that was last told to be shown, and read
 -- trees below the version to which nodes were last told to sweep
 abbrev pub now_below : Bool → ScriptData → List Entry → ℕ
-now_below false s past = given ShowStage past + 1
-now_below true s past = given SweepStage past
+now_below false s past = greatest_given ShowStage past + 1
+now_below true s past = greatest_given SweepStage past
 
 -- a node gives its trees no version below it
 pub turn_above : (kind : Bool) (s : ScriptData) (past : List Entry) (p : ℕ) → IsAdvancing s past → p < s.nodes
