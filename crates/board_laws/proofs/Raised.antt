@@ -1,5 +1,5 @@
--- In every run of every valid script a node raises its numbers one by one, each where the phase allows it, and shows and
--- sweeps to a version only once the trees up to there are whole.
+-- In every run of every valid script a node raises its numbers one by one, each where what was given allows it, and
+-- shows and sweeps to a version only once the trees up to there are whole.
 use Rattle.std.proofs.Common.{◌≡◌, ℕ, ◌+◌, ◌<◌, ◌≤◌, true, false, List, ◌∷◌, reverse, refl, sym, ap, subst, ◌∙◌, arith, Some}
 use Rattle.std.specs.Prelude.{slice_get}
 use Rattle.std.proofs.lemmas.Bool.Decides.{nat_tests}
@@ -12,37 +12,23 @@ use Rattle.letter_types.specs.declared.entries.Entry.{Entry}
 use Rattle.letter_types.specs.declared.entries.Letter.{Letter}
 use Rattle.script_parts.specs.ScriptData.{ScriptData}
 use Rattle.script_parts.specs.Valid.{IsValid}
-use Rattle.world_model.specs.declared.phase.Phase.{Phase}
-use Rattle.world_model.specs.declared.phase.Phase.TheVariants.{Idle, Turning, Counting, Paused, Showing, Sweeping}
-use Rattle.world_model.specs.Counts.{one_if}
-use Rattle.world_model.specs.Runs.{MayFollow, IsStepRun, coordinator_in, node_in, in_flight}
-use Rattle.world_model.proofs.Bags.{tally-drop}
+use Rattle.world_model.specs.Runs.{IsStepRun, node_in}
 use Rattle.world_model.proofs.Every.{each_taken}
 use Rattle.board_rules.specs.Histories.{Place}
 use Rattle.board_rules.specs.Moves.{IsShowing, IsSweeping, IsTurn}
 use Rattle.tree_laws.proofs.AptVersions.{before}
-use Rattle.phase_laws.specs.Phases.{Stage, TurnStage, ShowStage, SweepStage, most_update}
-use Rattle.phase_laws.proofs.Brought.{BringsTo, IsAsking, each_of_brought}
-use Rattle.phase_laws.proofs.LevelAt.{Level, LevelAt, LevelBody, tell, tells}
+use Rattle.phase_laws.specs.Given.{greatest_given}
+use Rattle.phase_laws.specs.Phases.{TurnStage}
+use Rattle.phase_laws.proofs.Advancing.{brought_turned, taken_ahead, taken_given}
+use Rattle.phase_laws.proofs.Brought.{BringsTo, IsAsking}
 use Rattle.phase_laws.proofs.Progress.{itself}
-use Rattle.phase_laws.proofs.Tokens.{phase_for}
 use Rattle.run_laws.specs.Shown.{IsBackedBy}
 use Rattle.run_laws.proofs.Closed.{shown_is_backed}
-use Rattle.run_laws.proofs.EveryApt.{all_apt, lawful}
-use Rattle.run_laws.proofs.Reached.{levels_in}
+use Rattle.run_laws.proofs.InTime.{advancing_run}
 use Rattle.rule_laws.proofs.Fronts.{front}
 use Rattle.rule_laws.proofs.Late.{no_reader, writer_there}
 use Rattle.board_laws.proofs.NodeNumbers.{node_numbers}
 use Rattle.board_laws.proofs.Openings.{MayRaise, first_front, opens_as}
-
--- The letter that is brought, in the coordinator's phase.
-brought_level : (s : ScriptData) (past : List Entry) (e : Entry) (p : ℕ) (r : Letter) (body : Body) → IsValid s → IsStepRun s (e ∷ past)
-    → BringsTo s past e p r → r.body ≡ body → LevelBody s (coordinator_in s past).phase (coordinator_in s past).update body
-brought_level s past e p r body valid run b is =
-    let phase = (coordinator_in s past).phase in
-    let u = (coordinator_in s past).update in
-    subst (λ (x : Body). LevelBody s phase u x) is
-    (each_of_brought (λ (l : Letter). LevelBody s phase u l.body) s past e p r b run.0 (levels_in s past valid run.1).letters)
 
 -- a letter that asks for no subtransaction is the one that was taken
 took_it : (s : ScriptData) (past : List Entry) (e : Entry) (p : ℕ) (r : Letter) (body : Body) → BringsTo s past e p r → r.body ≡ body
@@ -52,31 +38,18 @@ took_it s past e p r body b is other =
     sym (ap (λ (l : Letter). l.body) same) ∙ is
 
 -- A turn.
--- a node turns to a version above its own only in the phase of turning
-turns_in : (phase : Phase) (u update read low v t1 t2 t3 : ℕ) → Level phase u update read low t1 t2 t3 → 1 ≤ u → update < v
-    → v ≤ most_update phase u → (v ≡ update + 1) × (v ≤ u + 1)
-turns_in Idle u update read low v t1 t2 t3 level one lt le = absurd (omega (arith, level, lt, le))
-turns_in Turning u update read low v t1 t2 t3 level one lt le = (omega (arith, level, lt, le), omega (arith, le))
-turns_in (Counting true) u update read low v t1 t2 t3 level one lt le = absurd (omega (arith, level, lt, le))
-turns_in (Counting false) u update read low v t1 t2 t3 level one lt le = absurd (omega (arith, level, lt, le))
-turns_in (Paused true) u update read low v t1 t2 t3 level one lt le = absurd (omega (arith, level, lt, le))
-turns_in (Paused false) u update read low v t1 t2 t3 level one lt le = absurd (omega (arith, level, lt, le))
-turns_in Showing u update read low v t1 t2 t3 level one lt le = absurd (omega (arith, level, lt, le))
-turns_in Sweeping u update read low v t1 t2 t3 level one lt le = absurd (omega (arith, level, lt, le))
-
--- the version of a letter that may raise it is one of the phase
-raised_most : (s : ScriptData) (past : List Entry) (e : Entry) (p : ℕ) (r : Letter) (body : Body) (v : Version) → IsValid s
-    → IsStepRun s (e ∷ past) → BringsTo s past e p r → r.body ≡ body → MayRaise s body v
-    → v.0 ≤ most_update (coordinator_in s past).phase (coordinator_in s past).update
+-- the version of a letter that may raise it was given
+pub raised_most : (s : ScriptData) (past : List Entry) (e : Entry) (p : ℕ) (r : Letter) (body : Body) (v : Version) → IsValid s
+    → IsStepRun s (e ∷ past) → BringsTo s past e p r → r.body ≡ body → MayRaise s body v → v.0 ≤ greatest_given TurnStage past
 raised_most s past e p r (SubLetter t k w) v valid run b is may =
-    omega (arith, ap (λ (x : Version). x.0) may.0, brought_level s past e p r (SubLetter t k w) valid run b is may.1)
+    let of = brought_turned s past e p r (SubLetter t k w) (advancing_run s past valid run.1) run.0 b is in
+    omega (arith, ap (λ (x : Version). x.0) may.0, of may.1)
 raised_most s past e p r (Turn w) v valid run b is may =
-    let c = coordinator_in s past in
-    let phase : c.phase ≡ Turning =
-    phase_for s past e (Turn w) (lawful s valid) run.1 (all_apt s past valid run.1) run.0 (took_it s past e p r (Turn w) b is (λ asks. asks)) in
-    let version : w.0 ≡ c.update + 1 = brought_level s past e p r (Turn w) valid run b is in
-    let most : most_update c.phase c.update ≡ c.update + 1 = ap (λ (q : Phase). most_update q c.update) phase in
-    omega (arith, ap (λ (x : Version). x.0) may, version, most)
+    omega (
+      arith,
+      ap (λ (x : Version). x.0) may,
+      taken_given s past e (Turn w) (advancing_run s past valid run.1) run.0 (took_it s past e p r (Turn w) b is (λ asks. asks)),
+    )
 raised_most s past e p r Go v valid run b is may = absurd may
 raised_most s past e p r _ v valid run b is may = absurd may
 
@@ -86,42 +59,22 @@ turn_is s past e j v valid run at =
     let o = opens_as s past e j (acts.Turned v) valid run at refl in
     let p = o.node in
     let lt = o.brings.below in
-    let c = coordinator_in s past in
     let st = node_in s past p in
-    let all = levels_in s past valid run.1 in
+    let all = advancing_run s past valid run.1 in
+    let at = all.within p lt in
     let test = o.is.0 in
     let above : st.turns.update.0 < v.0 = grind (arith, nat_tests, test) in
-    let parts = turns_in c.phase c.update st.turns.update.0 st.turns.read.0 st.turns.low.0 v.0 (tells s past TurnStage p)
-    (tells s past ShowStage p) (tells s past SweepStage p) (all.node p lt) all.first above
-    (raised_most s past e p o.letter o.letter.body v valid run o.brings refl o.is.1) in
+    let most = raised_most s past e p o.letter o.letter.body v valid run o.brings refl o.is.1 in
+    let next : v.0 ≡ st.turns.update.0 + 1 =
+    omega (arith, above, most, at.turned_low, at.low_swept, at.swept_read, at.read_showed, at.showed_update) in
     subst (λ (xs : List Place). IsTurn s xs e.actor.0 v.0) (sym (first_front past e j o.first))
     (subst (λ (q : ℕ). IsTurn s (before past) q v.0) (sym o.brings.at) (record {
       node = lt;
-      next = parts.0 ∙ ap (λ (n : ℕ). n + 1) (sym (node_numbers s past valid run.1 p lt).update);
-      near = λ q there. omega (arith, parts.1, (node_numbers s past valid run.1 q there).low, (all.node q there).low_from);
+      next = next ∙ ap (λ (n : ℕ). n + 1) (sym (node_numbers s past valid run.1 p lt).update);
+      near = λ q there. omega (arith, most, (node_numbers s past valid run.1 q there).low, (all.within q there).turned_low);
     }))
 
 -- An order.
--- a node's versions at a level of a known phase
-abbrev LevelIn : Phase → ScriptData → List Entry → ℕ → Type 0
-LevelIn phase s past p =
-    Level phase (coordinator_in s past).update
-    (node_in s past p).turns.update.0 (node_in s past p).turns.read.0 (node_in s past p).turns.low.0
-    (tells s past TurnStage p) (tells s past ShowStage p) (tells s past SweepStage p)
-
-level_in : (phase : Phase) (s : ScriptData) (past : List Entry) (p : ℕ) → (coordinator_in s past).phase ≡ phase → LevelAt s past p
-    → LevelIn phase s past p
-level_in phase s past p is level = subst (λ (q : Phase). LevelIn q s past p) is level
-
--- the order that is taken is one of those in flight to the node
-told_here : (g : Stage) (s : ScriptData) (past : List Entry) (e : Entry) (b : Body) (p : ℕ) → MayFollow s past e → e.actor.0 ≡ p
-    → e.took.body ≡ b → tell g p p b ≡ 1 → 1 ≤ tells s past g p
-told_here g s past e b p m at is one =
-    let to : e.took.to.0 ≡ p = m.addressee ∙ at in
-    let here : tell g p e.took.to.0 e.took.body ≡ 1 =
-    ap (λ (q : ℕ). tell g p q e.took.body) to ∙ ap (tell g p p) is ∙ one in
-    omega (arith, here, tally-drop (λ (l : Letter). tell g p l.to.0 l.body) e.took.id (in_flight s past) e.took m.waits)
-
 backed_by : (s : ScriptData) (past : List Entry) (e : Entry) (b : Body) → IsValid s → IsStepRun s (e ∷ past) → e.took.body ≡ b
     → IsBackedBy s (reverse past) b
 backed_by s past e b valid run is =
@@ -135,21 +88,17 @@ showing_is s past e j v valid run at =
     let o = opens_as s past e j (acts.Showed v) valid run at refl in
     let p = o.node in
     let lt = o.brings.below in
-    let c = coordinator_in s past in
     let took : e.took.body ≡ Show v = took_it s past e p o.letter (Show v) o.brings o.is (λ asks. asks) in
-    let all = levels_in s past valid run.1 in
-    let phase : c.phase ≡ Showing = phase_for s past e (Show v) (lawful s valid) run.1 (all_apt s past valid run.1) run.0 took in
-    let version : v.0 ≡ c.update = brought_level s past e p o.letter (Show v) valid run o.brings o.is in
-    let here : LevelIn Showing s past p = level_in Showing s past p phase (all.node p lt) in
-    let one = told_here ShowStage s past e (Show v) p run.0 o.brings.at took (ap one_if (same_test p)) in
+    let all = advancing_run s past valid run.1 in
+    let at = all.within p lt in
+    let ahead = taken_ahead s past e p (Show v) all run.0 o.brings.at lt took in
+    let most = taken_given s past e (Show v) all run.0 took in
     let whole = backed_by s past e (Show v) valid run took in
     subst (λ (xs : List Place). IsShowing s xs e.actor.0 v.0) (sym (first_front past e j o.first))
     (subst (λ (q : ℕ). IsShowing s (before past) q v.0) (sym o.brings.at) (record {
       node = lt;
-      next = omega (arith, version, here.read_from, here.read_to, one, all.first, (node_numbers s past valid run.1 p lt).read);
-      below = λ q there.
-          let level : LevelIn Showing s past q = level_in Showing s past q phase (all.node q there) in
-          omega (arith, version, level.update_from, (node_numbers s past valid run.1 q there).update);
+      next = omega (arith, ahead, most, at.showed_low, at.low_swept, at.swept_read, (node_numbers s past valid run.1 p lt).read);
+      below = λ q there. omega (arith, most, (all.within q there).showed_update, (node_numbers s past valid run.1 q there).update);
       whole = λ t w writes born le.
           whole t w (writer_there s t writes) (no_reader s t (slice_get s.trees t) refl writes) born le;
     }))
@@ -161,20 +110,15 @@ sweeping_is s past e j v valid run at =
     let o = opens_as s past e j (acts.Swept v) valid run at refl in
     let p = o.node in
     let lt = o.brings.below in
-    let c = coordinator_in s past in
     let took : e.took.body ≡ Sweep v = took_it s past e p o.letter (Sweep v) o.brings o.is (λ asks. asks) in
-    let all = levels_in s past valid run.1 in
-    let phase : c.phase ≡ Sweeping = phase_for s past e (Sweep v) (lawful s valid) run.1 (all_apt s past valid run.1) run.0 took in
-    let version : v.0 ≡ c.update = brought_level s past e p o.letter (Sweep v) valid run o.brings o.is in
-    let here : LevelIn Sweeping s past p = level_in Sweeping s past p phase (all.node p lt) in
-    let one = told_here SweepStage s past e (Sweep v) p run.0 o.brings.at took (ap one_if (same_test p)) in
+    let all = advancing_run s past valid run.1 in
+    let ahead = taken_ahead s past e p (Sweep v) all run.0 o.brings.at lt took in
+    let most = taken_given s past e (Sweep v) all run.0 took in
     let whole = backed_by s past e (Sweep v) valid run took in
     subst (λ (xs : List Place). IsSweeping s xs e.actor.0 v.0) (sym (first_front past e j o.first))
     (subst (λ (q : ℕ). IsSweeping s (before past) q v.0) (sym o.brings.at) (record {
       node = lt;
-      next = omega (arith, version, here.low_from, here.low_to, one, all.first, (node_numbers s past valid run.1 p lt).low);
-      below = λ q there.
-          let level : LevelIn Sweeping s past q = level_in Sweeping s past q phase (all.node q there) in
-          omega (arith, version, level.read_from, (node_numbers s past valid run.1 q there).read);
+      next = omega (arith, ahead, most, (all.within p lt).swept_low, (node_numbers s past valid run.1 p lt).low);
+      below = λ q there. omega (arith, most, (all.within q there).swept_read, (node_numbers s past valid run.1 q there).read);
       whole = λ t w reads born less. whole t w reads born less;
     }))

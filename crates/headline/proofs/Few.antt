@@ -19,8 +19,8 @@ use Rattle.tx_trees.proofs.SubsOf.{all_at}
 use Rattle.world_model.specs.Runs.{IsStepRun, actor_after, node_in}
 use Rattle.world_model.specs.Tables.{ActorData}
 use Rattle.world_model.proofs.Back.{node_leads}
-use Rattle.run_laws.proofs.EveryApt.{all_apt, lawful}
-use Rattle.phase_laws.proofs.Levels.{versions_in_phase}
+use Rattle.run_laws.proofs.EveryApt.{all_apt}
+use Rattle.run_laws.proofs.InTime.{advancing_run}
 use Rattle.tree_laws.proofs.Histories.{first_of, run_before}
 use Rattle.tree_laws.proofs.AptBounds.{effect_bound, tables_keep}
 use Rattle.tree_laws.proofs.AptWindows.{tables_ascend, tables_in_window}
@@ -84,7 +84,8 @@ three_at s past x r valid run at =
     let p = r.node.0 in
     let lt = item_node s x r valid at in
     let held = held_at s past x r valid run at in
-    let near = (versions_in_phase s past (lawful s valid) run (all_apt s past valid run) p lt).update_near in
+    let at = (advancing_run s past valid run).within p lt in
+    let near : (node_in s past p).turns.update.0 ≤ (node_in s past p).turns.low.0 + 2 = omega (arith, at.update_turned, at.turned_low) in
     rw (held.after, node_leads s past p lt) (three (node_in s past p).turns held.held near held.kept)
 
 -- a part of a history is the history of a shorter past

@@ -26,7 +26,7 @@ use Rattle.board_rules.specs.Right.{finishes as finishes_act, has_finished}
 use Rattle.world_model.specs.Client.{client_finishes, next_after, with_answer, with_end}
 use Rattle.world_model.specs.Counts.{one_if, tally}
 use Rattle.world_model.specs.AllApt.{AllApt}
-use Rattle.world_model.specs.Runs.{IsStepRun, client_in, coordinator_in, node_in}
+use Rattle.world_model.specs.Runs.{IsStepRun, client_in, node_in}
 use Rattle.world_model.proofs.Every.{node_kept}
 use Rattle.world_model.proofs.Cases.{case}
 use Rattle.tree_laws.specs.Dids.{asks, letters_asking}
@@ -36,16 +36,14 @@ use Rattle.tree_laws.proofs.AptTurns.{roots_have_turns}
 use Rattle.tree_laws.proofs.Counts.{one_here}
 use Rattle.tree_laws.proofs.Finishes.{finishes_of, is_true_of}
 use Rattle.run_laws.proofs.EveryApt.{all_apt, lawful}
-use Rattle.phase_laws.specs.Advances.{running}
-use Rattle.phase_laws.specs.Phases.{least_update, most_update}
-use Rattle.phase_laws.proofs.Brought.{BringsTo, IsAsking, brought_outstanding, each_of_brought}
-use Rattle.phase_laws.proofs.LevelAt.{LevelBody}
-use Rattle.phase_laws.proofs.Levels.{levels}
-use Rattle.phase_laws.proofs.Small.{advances_kept}
+use Rattle.run_laws.proofs.InTime.{advancing_run}
+use Rattle.phase_laws.specs.Given.{greatest_given}
+use Rattle.phase_laws.specs.Phases.{TurnStage}
+use Rattle.phase_laws.proofs.Brought.{BringsTo, IsAsking, brought_outstanding}
 use Rattle.phase_laws.proofs.Progress.{Begins, Coordinates, Ends, Hears, Obeys, Progress, Works, itself, progress}
-use Rattle.phase_laws.proofs.Tokens.{phase_for}
 use Rattle.board_laws.proofs.NodeNumbers.{node_numbers}
-use Rattle.board_laws.proofs.Openings.{MayRaise, OpensFor, opens, opens_as}
+use Rattle.board_laws.proofs.Openings.{OpensFor, opens, opens_as}
+use Rattle.board_laws.proofs.Raised.{raised_most}
 use Rattle.tree_laws.proofs.Counted.{placed}
 use Rattle.headline.proofs.Answered.{answered_before, answered_whole}
 use Rattle.headline.proofs.Finished.{AreAtRest, over_run}
@@ -97,55 +95,18 @@ born s past e p r t valid run b is =
     record { row = i; there = at; gate = open_run s past i valid run.1 (omega (arith, lt)) }
 
 -- A node turns by the row of an advancement.
--- a node turns while an advancement is in progress, to the version after the coordinator's
-turns_in : (phase : Phase) (u update v : ℕ) → least_update phase u ≤ update → update < v → v ≤ most_update phase u
-    → (running phase ≡ 1) × (v ≡ u + 1)
-turns_in Idle u update v from lt le = absurd (omega (arith, from, lt, le))
-turns_in Turning u update v from lt le = (refl, omega (arith, from, lt, le))
-turns_in _ u update v from lt le = absurd (omega (arith, from, lt, le))
-
 turned : (s : ScriptData) (past : List Entry) (p v : ℕ) → IsValid s → IsStepRun s past → p < s.nodes
-    → (node_in s past p).turns.update.0 < v → v ≤ most_update (coordinator_in s past).phase (coordinator_in s past).update
-    → IsTurnedByItsRow s (places_of (reverse past)) v
+    → (node_in s past p).turns.update.0 < v → v ≤ greatest_given TurnStage past → IsTurnedByItsRow s (places_of (reverse past)) v
 turned s past p v valid run pl lt le =
-    let c = coordinator_in s past in
-    let next = (client_in s past).next in
-    let laws = lawful s valid in
-    let apt = all_apt s past valid run in
-    let all = levels s past laws run apt in
-    let parts = turns_in c.phase c.update (node_in s past p).turns.update.0 v (all.node p pl).update_from lt le in
-    let kept = advances_kept s past laws run apt in
-    let found = advance_row (c.update - 1) next s.rows (omega (arith, kept.asked, parts.0, all.first)) in
+    let all = advancing_run s past valid run in
+    let some : 2 ≤ v = omega (arith, lt, (all.within p pl).showed_update) in
+    let found = advance_row (v - 2) (client_in s past).next s.rows (omega (arith, all.asked, le, some)) in
     record {
       row = found.row;
       there = found.there;
-      number = omega (arith, found.number, parts.1, all.first);
+      number = omega (arith, found.number, some);
       gate = open_run s past found.row valid run (omega (arith, found.early));
     }
-
--- to a version to which this letter may raise it
-reaches : (s : ScriptData) (past : List Entry) (e : Entry) (p : ℕ) (r : Letter) (v : Version) (b : Body) → IsValid s → IsStepRun s (e ∷ past)
-    → BringsTo s past e p r → r.body ≡ b → MayRaise s b v → v.0 ≤ most_update (coordinator_in s past).phase (coordinator_in s past).update
-reaches s past e p r v (SubLetter t k w) valid run b is may =
-    let c = coordinator_in s past in
-    let all = levels s past (lawful s valid) run.1 (all_apt s past valid run.1) in
-    let level : LevelBody s c.phase c.update (SubLetter t k w) =
-    subst (LevelBody s c.phase c.update) is
-    (each_of_brought (λ (l : Letter). LevelBody s c.phase c.update l.body) s past e p r b run.0 all.letters) in
-    omega (arith, ap (λ (x : Version). x.0) may.0, level may.1)
-reaches s past e p r v (Turn w) valid run b is may =
-    let c = coordinator_in s past in
-    let laws = lawful s valid in
-    let apt = all_apt s past valid run.1 in
-    let level : w.0 ≡ c.update + 1 =
-    subst (LevelBody s c.phase c.update) is
-    (each_of_brought (λ (l : Letter). LevelBody s c.phase c.update l.body) s past e p r b run.0 (levels s past laws run.1 apt).letters) in
-    let own : r ≡ e.took = itself s past e p r b (λ asks. subst IsAsking is asks) in
-    let took : e.took.body ≡ Turn w = ap (λ (l : Letter). l.body) (sym own) ∙ is in
-    let phase : c.phase ≡ Turning = phase_for s past e (Turn w) laws run.1 apt run.0 took in
-    omega (arith, ap (λ (x : Version). x.0) may, level, ap (λ (q : Phase). most_update q c.update) phase)
-reaches s past e p r v Go valid run b is may = absurd may
-reaches s past e p r v _ valid run b is may = absurd may
 
 -- The client finishes when all is over.
 not_finished : (past : List Entry) (test : Bool) → has_finished (places_of (reverse past)) ≡ test
@@ -158,21 +119,21 @@ not_finished past false is none = refl
 finished : (s : ScriptData) (past : List Entry) (e : Entry) → IsValid s → IsStepRun s (e ∷ past) → e.actor.0 ≡ client_of s
     → e.acts ≡ Finished ∷ [] → IsEnd s (places_of (reverse past)) e.actor.0
 finished s past e valid run at acts =
-    let u = (coordinator_in s (e ∷ past)).update in
+    let a = advances_in s.rows in
     let rest = finishing_run s (e ∷ past) valid run in
     let one : tally is_finish e.acts ≡ 1 = ap (λ (xs : List Act). tally is_finish xs) acts in
     let now : (client_in s (e ∷ past)).finished ≡ true = is_true_of (client_in s (e ∷ past)).finished (omega (arith, rest.once, one)) in
     let most : one_if (client_in s (e ∷ past)).finished ≡ 1 = ap one_if now in
     let over = over_run s (e ∷ past) valid run now in
-    let turns : (p : ℕ) → p < s.nodes → AreAtRest u (node_in s past p).turns =
-    λ p lt. subst (λ (st : Node). AreAtRest u st.turns) (node_kept s past e p (omega (arith, at, lt))) (over.turns p lt) in
+    let turns : (p : ℕ) → p < s.nodes → AreAtRest a (node_in s past p).turns =
+    λ p lt. subst (λ (st : Node). AreAtRest a st.turns) (node_kept s past e p (omega (arith, at, lt))) (over.turns p lt) in
     record {
       client = at;
       once = not_finished past (has_finished (places_of (reverse past))) refl (omega (arith, finishes_of past, rest.once, one, most));
       whole = λ t lt. answered_whole s past t valid run.1 lt (answered_before s past e t valid run (over.heard t lt));
-      update = λ p lt. omega (arith, (node_numbers s past valid run.1 p lt).update, (turns p lt).update, over.update);
-      read = λ p lt. omega (arith, (node_numbers s past valid run.1 p lt).read, (turns p lt).read, over.update);
-      low = λ p lt. omega (arith, (node_numbers s past valid run.1 p lt).low, (turns p lt).low, over.update);
+      update = λ p lt. omega (arith, (node_numbers s past valid run.1 p lt).update, (turns p lt).update);
+      read = λ p lt. omega (arith, (node_numbers s past valid run.1 p lt).read, (turns p lt).read);
+      low = λ p lt. omega (arith, (node_numbers s past valid run.1 p lt).low, (turns p lt).low);
     }
 
 -- The acts of an entry, one after the other.
@@ -206,7 +167,7 @@ opening_keeps : (s : ScriptData) (past : List Entry) (e : Entry) (p : ℕ) (r : 
     → KeepsToAt s (places_of (reverse past)) e.actor.0 a
 opening_keeps s past e p r (Born t v) valid run b is for = born s past e p r t valid run b for
 opening_keeps s past e p r (Turned v) valid run b is for =
-    turned s past p v.0 valid run.1 b.below (ltb-true (node_in s past p).turns.update.0 v.0 for.0) (reaches s past e p r v r.body valid run b refl for.1)
+    turned s past p v.0 valid run.1 b.below (ltb-true (node_in s past p).turns.update.0 v.0 for.0) (raised_most s past e p r r.body v valid run b refl for.1)
 opening_keeps s past e p r Finished valid run b is for = absurd (cc is)
 opening_keeps s past e p r _ valid run b is for = tt
 

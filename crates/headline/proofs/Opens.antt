@@ -17,9 +17,7 @@ use Rattle.world_model.specs.Counts.{Each}
 use Rattle.world_model.specs.Runs.{IsStepRun, client_in}
 use Rattle.world_model.proofs.Fits.{each_take}
 use Rattle.strict_laws.proofs.MeantRows.{NamesTree, rows_name}
-use Rattle.run_laws.proofs.EveryApt.{all_apt, lawful}
-use Rattle.phase_laws.proofs.Levels.{versions_in_phase}
-use Rattle.phase_laws.proofs.Small.{advances_kept}
+use Rattle.run_laws.proofs.InTime.{advancing_run}
 use Rattle.headline.proofs.Answered.{answered_whole, answered_yet}
 use Rattle.headline.proofs.Passes.{passed_run}
 use Rattle.headline.proofs.Swept.{swept_run}
@@ -69,8 +67,6 @@ pub open_run : (s : ScriptData) (past : List Entry) (i : ℕ) → IsValid s → 
 open_run s past i valid run le =
     let c = client_in s past in
     let rows = awaited s i in
-    let laws = lawful s valid in
-    let apt = all_apt s past valid run in
     let parts = and_parts (all_answered c.answered rows) (nat_le (advances_in rows) c.ended) ((passed_run s past valid run).passed i le) in
     let ended = leb-true (advances_in rows) c.ended parts.1 in
     record {
@@ -81,7 +77,6 @@ open_run s past i valid run le =
         arith,
         lt,
         ended,
-        (advances_kept s past laws run apt).ended,
-        (versions_in_phase s past laws run apt p pl).low_from,
+        (advancing_run s past valid run).heard p pl,
       ));
     }

@@ -16,7 +16,7 @@ use Rattle.tx_trees.specs.declared.parts.ItemRow.{ItemRow}
 use Rattle.board_rules.specs.Right.{HasFinished}
 use Rattle.board_rules.specs.Worth.{is_written, worth}
 use Rattle.tree_laws.specs.SeenAt.{seen_at}
-use Rattle.world_model.specs.Runs.{IsStepRun, coordinator_in, node_in}
+use Rattle.world_model.specs.Runs.{IsStepRun, node_in}
 use Rattle.run_laws.specs.Shown.{WritersAreWhole}
 use Rattle.worth_laws.proofs.OwnWorth.{own_is_worth, shown_is_closed}
 use Rattle.worth_laws.specs.Written.{holds_of}
@@ -24,7 +24,7 @@ use Rattle.worth_laws.proofs.HeldWritten.{held_is_written}
 use Rattle.worth_laws.proofs.WrittenAtEnd.{written_at_end}
 use Rattle.headline.specs.Held.{HoldsBalances}
 use Rattle.headline.proofs.Few.{IsKept, held_at, item_node}
-use Rattle.headline.proofs.Finished.{AreAtRest, at_end, whole_at_end}
+use Rattle.headline.proofs.Finished.{at_end, whole_at_end}
 
 -- What is held of an item from version a to at most the next one.
 
@@ -65,9 +65,7 @@ record Stands (s : ScriptData) (turns : Turns) : Type 0 where
 stands : (s : ScriptData) (past : List Entry) (p : ℕ) → IsValid s → IsStepRun s past → HasFinished (reverse past) → p < s.nodes
     → Stands s (node_in s past p).turns
 stands s past p valid run finished lt =
-    let end = at_end s past valid run finished in
-    let rest : AreAtRest (coordinator_in s past).update (node_in s past p).turns = end.turns p lt in
-    record { low = omega (arith, rest.low, end.update); update = omega (arith, rest.update, end.update) }
+    let rest = (at_end s past valid run finished).turns p lt in record { low = rest.low; update = rest.update }
 
 -- every writer is whole
 all_whole : (s : ScriptData) (past : List Entry) (v : ℕ) → IsValid s → IsStepRun s past → HasFinished (reverse past)

@@ -31,12 +31,10 @@ use Rattle.world_model.proofs.Cases.{Case, Coordinates, Does, Keeps, NodeDoes, N
 use Rattle.world_model.proofs.Keepings.{of_kept}
 use Rattle.world_model.proofs.EachOutstanding.{each_took}
 use Rattle.run_laws.proofs.EveryApt.{all_apt, lawful}
-use Rattle.phase_laws.specs.Phases.{SweepStage, most_low}
-use Rattle.phase_laws.proofs.LevelAt.{LevelBody, tell, tells}
+use Rattle.phase_laws.proofs.Advancing.{taken_ahead, taken_given}
+use Rattle.run_laws.proofs.InTime.{advancing_run}
 use Rattle.phase_laws.proofs.Brought.{IsAsking}
-use Rattle.phase_laws.proofs.Levels.{levels}
 use Rattle.phase_laws.proofs.Progress.{brings_to, itself}
-use Rattle.phase_laws.proofs.Tokens.{phase_for}
 use Rattle.tree_laws.proofs.AptItems.{Applies, Changes, Collects, Raises, Rests, Shows, Touches, core_changes, raised_to}
 use Rattle.tree_laws.proofs.Histories.{places_more}
 use Rattle.tree_laws.proofs.Seen.{raised_low}
@@ -52,27 +50,11 @@ swept_last p v xs ys is =
     list_any-append (λ (x : Place). (x.node == p) && sweeps_to v x.act) xs ys ∙ or_right (was_swept p v xs) (was_swept p v ys) is
 
 -- A sweep is to the version after the low one.
-sweep_order : (s : ScriptData) (past : List Entry) (e : Entry) (p : ℕ) (v : Version) → MayFollow s past e → e.actor.0 ≡ p
-    → e.took.body ≡ Sweep v → 1 ≤ tells s past SweepStage p
-sweep_order s past e p v m at is =
-    let to : e.took.to.0 ≡ p = m.addressee ∙ at in
-    let one : tell SweepStage p e.took.to.0 e.took.body ≡ 1 =
-    ap (λ (b : Body). tell SweepStage p e.took.to.0 b) is ∙ ap (λ (q : ℕ). one_if (q == p)) to ∙ one_if_same p in
-    omega (arith, one, tally-drop (λ (l : Letter). tell SweepStage p l.to.0 l.body) e.took.id (in_flight s past) e.took m.waits)
-
 sweep_next : (s : ScriptData) (past : List Entry) (e : Entry) (p : ℕ) (v : Version) → IsValid s → IsStepRun s past → MayFollow s past e
     → p < s.nodes → e.actor.0 ≡ p → e.took.body ≡ Sweep v → v.0 ≡ (node_in s past p).turns.low.0 + 1
 sweep_next s past e p v valid run m lt at is =
-    let c = coordinator_in s past in
-    let laws = lawful s valid in
-    let apt = all_apt s past valid run in
-    let all = levels s past laws run apt in
-    let phase : c.phase ≡ Sweeping = phase_for s past e (Sweep v) laws run apt m is in
-    let most : most_low c.phase c.update ≡ c.update = ap (λ (q : Phase). most_low q c.update) phase in
-    let version : v.0 ≡ c.update =
-    subst (λ (b : Body). LevelBody s c.phase c.update b) is
-    (each_took (λ (l : Letter). LevelBody s c.phase c.update l.body) s past e m all.letters) in
-    omega (arith, (all.node p lt).low_from, (all.node p lt).low_to, most, version, all.first, sweep_order s past e p v m at is)
+    let all = advancing_run s past valid run in
+    omega (arith, taken_ahead s past e p (Sweep v) all m at lt is, taken_given s past e (Sweep v) all m is, (all.within p lt).swept_low)
 
 -- node p has collected to each version up to its low one
 abbrev pub SweptTo : ScriptData → List Entry → ℕ → Type 0

@@ -23,4 +23,6 @@ pub mod Rounds
 pub mod Shows
 pub mod Below
 pub mod Closing
+pub mod Advancing
+pub mod GivenInPhase
 pub mod Sampled

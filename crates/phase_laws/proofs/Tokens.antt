@@ -459,7 +459,7 @@ PhaseFor (Show v) phase = phase ≡ Showing
 PhaseFor (Sweep v) phase = phase ≡ Sweeping
 PhaseFor _ phase = Unit {0}
 
-turning_phase : (phase : Phase) (t a n : ℕ) → 1 ≤ t → t + within TurnStage phase a ≡ within TurnStage phase n → phase ≡ Turning
+pub turning_phase : (phase : Phase) (t a n : ℕ) → 1 ≤ t → t + within TurnStage phase a ≡ within TurnStage phase n → phase ≡ Turning
 turning_phase Turning t a n some is = refl
 turning_phase _ t a n some is = absurd (omega (arith, some, is))
 

@@ -3,3 +3,4 @@ pub mod Advances
 pub mod Balance
 pub mod Apt
 pub mod Quiet
+pub mod Given

@@ -28,14 +28,13 @@ use Rattle.tree_laws.proofs.AptTurns.{births_are_turns, turns_at_most_once}
 use Rattle.tree_laws.proofs.AptVersions.{before}
 use Rattle.tree_laws.proofs.Histories.{places_more}
 use Rattle.tree_laws.proofs.Counted.{births_in}
-use Rattle.phase_laws.specs.Phases.{most_read}
 use Rattle.strict_laws.proofs.MeantRows.{root_below}
-use Rattle.phase_laws.proofs.Levels.{levels}
 use Rattle.run_laws.proofs.Closed.{none_came}
-use Rattle.run_laws.proofs.EveryApt.{all_apt, lawful}
+use Rattle.run_laws.proofs.EveryApt.{all_apt}
 use Rattle.run_laws.proofs.EveryBirth.{IsBornAt, birth_at}
 use Rattle.run_laws.proofs.EveryWhole.{strict_is}
-use Rattle.run_laws.proofs.Reached.{now_below, whole_below, whole_run}
+use Rattle.run_laws.proofs.Reached.{now_below, whole_run}
+use Rattle.run_laws.proofs.InTime.{advancing_run}
 use Rattle.run_laws.proofs.Wholes.{is_of_kind}
 use Rattle.rule_laws.proofs.InEntries.{InEntry, entry_run, in_entry}
 
@@ -123,25 +122,9 @@ strict_writes s t strict = by (updates s t) where
   by false = strict
 
 -- What a node reads is below what is whole.
-read_is_whole : (phase : Phase) (u : ℕ) → 1 ≤ u → most_read phase u + 1 ≤ whole_below false phase u
-read_is_whole Idle u one = omega (arith, one)
-read_is_whole Turning u one = omega (arith, one)
-read_is_whole (Counting true) u one = omega arith
-read_is_whole (Counting false) u one = omega (arith, one)
-read_is_whole (Paused true) u one = omega arith
-read_is_whole (Paused false) u one = omega (arith, one)
-read_is_whole Showing u one = omega arith
-read_is_whole Sweeping u one = omega arith
-
-read_below : (s : ScriptData) (past : List Entry) (p : ℕ) → IsValid s → IsStepRun s past → p < s.nodes
-    → (node_in s past p).turns.read.0 + 1 ≤ now_below false s past
-read_below s past p valid run lt =
-    let l = levels s past (lawful s valid) run (all_apt s past valid run) in
-    omega (
-      arith,
-      read_is_whole (coordinator_in s past).phase (coordinator_in s past).update l.first,
-      (l.node p lt).read_to,
-    )
+pub read_below : (s : ScriptData) (past : List Entry) (p : ℕ) → IsValid s → IsStepRun s past → p < s.nodes
+    → (node_in s past p).turns.read.0 < now_below false s past
+read_below s past p valid run lt = let at = (advancing_run s past valid run).within p lt in omega (arith, at.read_showed)
 
 -- So a strict tree is born late.
 late_by : (s : ScriptData) (past : List Entry) (i k t : ℕ) (y : Place) (v w : Version) → IsValid s → IsStepRun s past

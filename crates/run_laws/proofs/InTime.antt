@@ -18,7 +18,11 @@ use Rattle.world_model.specs.Runs.{IsStepRun, keeping_in, node_in}
 use Rattle.world_model.specs.Strict.{is_core_apt}
 use Rattle.world_model.specs.Timely.{AllTimely, WasTimely}
 use Rattle.phase_laws.specs.Balance.{IsBalanced, MOST_COUNTED}
+use Rattle.phase_laws.specs.Given.{IsGivenAnew, greatest_given}
+use Rattle.phase_laws.specs.Phases.{Stage}
 use Rattle.phase_laws.specs.Quiet.{IsGivenInQuiet}
+use Rattle.phase_laws.proofs.Advancing.{IsAdvancing}
+use Rattle.phase_laws.proofs.GivenInPhase.{advancing, given_acted, given_anew}
 use Rattle.phase_laws.proofs.Balance.{apt_parts, counts_are_small}
 use Rattle.phase_laws.proofs.Below.{balanced}
 use Rattle.phase_laws.proofs.Shows.{given_in_quiet}
@@ -53,3 +57,16 @@ counts_small s past valid run p lt = counts_are_small s past p valid lt
 pub given_run : (s : ScriptData) (past : List Entry) (e : Entry) → IsValid s → IsStepRun s (e ∷ past)
     → Each (λ (o : Outgoing). IsGivenInQuiet s past o.body) e.sent
 given_run s past e valid run = given_in_quiet s past e (every_lawful s valid) run (every_apt s (e ∷ past) valid run)
+
+-- advancements are as they should be, and a version is told that was told before, or the next one, in quiet
+pub advancing_run : (s : ScriptData) (past : List Entry) → IsValid s → IsStepRun s past → IsAdvancing s past
+advancing_run s past valid run = advancing s past (every_lawful s valid) run (every_apt s past valid run)
+
+pub anew_run : (s : ScriptData) (past : List Entry) (e : Entry) → IsValid s → IsStepRun s (e ∷ past)
+    → Each (λ (o : Outgoing). IsGivenAnew s past o.body) e.sent
+anew_run s past e valid run = given_anew s past e (every_lawful s valid) run (every_apt s (e ∷ past) valid run)
+
+-- an entry that has an act leaves what was given
+pub acted_run : (g : Stage) (s : ScriptData) (past : List Entry) (e : Entry) → IsValid s → IsStepRun s (e ∷ past) → (e.acts ≡ [] → ⊥)
+    → greatest_given g (e ∷ past) ≡ greatest_given g past
+acted_run g s past e valid run acts = given_acted g s past e (every_lawful s valid) run (every_apt s (e ∷ past) valid run) acts

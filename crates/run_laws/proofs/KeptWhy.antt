@@ -53,6 +53,7 @@ use Rattle.phase_laws.proofs.Working.{RaisesBy}
 use Rattle.tree_laws.proofs.Counts.{one_here}
 use Rattle.run_laws.specs.Waiting.{IsKeptUntil, LettersStayKeptForAReason}
 use Rattle.run_laws.proofs.EveryApt.{all_apt, lawful}
+use Rattle.run_laws.proofs.InTime.{advancing_run}
 use Rattle.run_laws.proofs.Holders.{holders}
 
 -- why node p keeps a letter of tree t
@@ -97,25 +98,14 @@ each_woken P Q test (x ∷ xs) hit miss all =
     (woken_by Q x (test x.why) (test x.why) refl (λ is. hit x is all.0) (λ is. miss x is all.0), each_woken P Q test xs hit miss all.1)
 
 -- The numbers of a node.
-near_by : (phase : Phase) (u : ℕ) (st : Node) → 1 ≤ u → IsInPhase phase u st.turns
-    → (st.turns.read.0 + 1 ≤ st.turns.update.0) × (st.turns.update.0 ≤ st.turns.read.0 + 2)
-near_by Idle u st some at = (omega (arith, some, at.update_from, at.read_to), omega (arith, some, at.update_to, at.read_from))
-near_by Turning u st some at = (omega (arith, some, at.update_from, at.read_to), omega (arith, some, at.update_to, at.read_from))
-near_by (Counting true) u st some at = (omega (arith, some, at.update_from, at.read_to), omega (arith, some, at.update_to, at.read_from))
-near_by (Counting false) u st some at = (omega (arith, some, at.update_from, at.read_to), omega (arith, some, at.update_to, at.read_from))
-near_by (Paused true) u st some at = (omega (arith, some, at.update_from, at.read_to), omega (arith, some, at.update_to, at.read_from))
-near_by (Paused false) u st some at = (omega (arith, some, at.update_from, at.read_to), omega (arith, some, at.update_to, at.read_from))
-near_by Showing u st some at = (omega (arith, some, at.update_from, at.read_to), omega (arith, some, at.update_to, at.read_from))
-near_by Sweeping u st some at = (omega (arith, some, at.update_from, at.read_to), omega (arith, some, at.update_to, at.read_from))
-
 -- the version that is updated is one or two above the one that is read
 near : (s : ScriptData) (past : List Entry) (p : ℕ) → IsValid s → IsStepRun s past → p < s.nodes
     → ((node_in s past p).turns.read.0 + 1 ≤ (node_in s past p).turns.update.0) × ((node_in s past p).turns.update.0 ≤ (node_in s past p).turns.read.0 + 2)
 near s past p valid run lt =
-    let laws = lawful s valid in
-    let apt = all_apt s past valid run in
-    near_by (coordinator_in s past).phase (coordinator_in s past).update (node_in s past p) (omega (arith, (small s past laws run apt).ended))
-    (versions_in_phase s past laws run apt p lt)
+    let at = (advancing_run s past valid run).within p lt in (
+      omega (arith, at.read_showed, at.showed_update),
+      omega (arith, at.update_turned, at.turned_low, at.low_swept, at.swept_read),
+    )
 
 -- an entry that shows nothing to the node
 pub record Rises (old new : Node) : Type 0 where

@@ -31,8 +31,7 @@ use Rattle.world_model.proofs.Scripts.{SubAt, sub_here}
 use Rattle.strict_laws.specs.Keeping.{IsKeptFor}
 use Rattle.strict_laws.proofs.Reasons.{kept_for_a_reason}
 use Rattle.phase_laws.specs.Phases.{ShowStage}
-use Rattle.phase_laws.proofs.LevelAt.{LevelAt, LevelBody, tell, tells}
-use Rattle.phase_laws.proofs.Levels.{levels}
+use Rattle.phase_laws.proofs.Advancing.{taken_ahead}
 use Rattle.phase_laws.proofs.Brought.{IsAsking}
 use Rattle.phase_laws.proofs.Working.{IsOfTrees}
 use Rattle.phase_laws.proofs.Progress.{Begins, Coordinates as Told, Ends, Hears, Obeys, Progress, Works, brings_to, itself, progress}
@@ -42,6 +41,7 @@ use Rattle.tree_laws.proofs.AptSteps.{home_node}
 use Rattle.tree_laws.proofs.AptTurns.{turns_come_once}
 use Rattle.run_laws.specs.Parks.{StrictRootsWaitFewTimes, is_kept_for_show, shown_as, waitings, waits_for}
 use Rattle.run_laws.proofs.EveryApt.{all_apt, lawful}
+use Rattle.run_laws.proofs.InTime.{advancing_run}
 use Rattle.run_laws.proofs.KeepingActs.{client_none, coordinator_none, does_none, keeps_waits, waits_of}
 use Rattle.run_laws.proofs.KeptWhy.{AreWaiting, IsWaiting, Reason, keeps_rises, rises, show_brought, waiting}
 use Rattle.run_laws.proofs.ParksOnce.{asks_sum, keeps_asked, kept_asks, meanwhile_same, woken_same}
@@ -91,23 +91,10 @@ shown_once s past t valid run lt =
     )
 
 -- A Show raises the version that is read.
-show_told : (s : ScriptData) (past : List Entry) (e : Entry) (p : ℕ) (v : Version) → IsStepRun s (e ∷ past) → e.actor.0 ≡ p
-    → e.took.body ≡ Show v → 1 ≤ tells s past ShowStage p
-show_told s past e p v run at is =
-    let f : Letter → ℕ = λ (l : Letter). tell ShowStage p l.to.0 l.body in
-    let one : f e.took ≡ 1 =
-    ap (λ (b : Body). tell ShowStage p e.took.to.0 b) is ∙ ap (λ (n : ℕ). one_if (n == p)) (run.0.addressee ∙ at) ∙ one_if_same p in
-    omega (arith, one, tally-drop f e.took.id (in_flight s past) e.took run.0.waits)
-
 show_raises : (s : ScriptData) (past : List Entry) (e : Entry) (p : ℕ) (v : Version) → IsValid s → IsStepRun s (e ∷ past) → e.actor.0 ≡ p
     → p < s.nodes → e.took.body ≡ Show v → (node_in s past p).turns.read.0 + 1 ≤ v.0
 show_raises s past e p v valid run at lt is =
-    let c = coordinator_in s past in
-    let all = levels s past (lawful s valid) run.1 (all_apt s past valid run.1) in
-    let level : LevelAt s past p = all.node p lt in
-    let version : v.0 ≡ c.update =
-    subst (λ (b : Body). LevelBody s c.phase c.update b) is (each_took (λ (l : Letter). LevelBody s c.phase c.update l.body) s past e run.0 all.letters) in
-    omega (arith, version, level.read_to, most_read_is c.phase c.update, show_told s past e p v run at is)
+    let ahead = taken_ahead s past e p (Show v) (advancing_run s past valid run.1) run.0 at lt is in omega (arith, ahead)
 
 order_reads : (s : ScriptData) (old : Node) (body : Body) (out : Out Node) (v : Version) → body ≡ Show v → Order s old body out
     → out.state.turns.read.0 ≡ v.0

@@ -49,6 +49,7 @@ use Rattle.tree_laws.proofs.AptSteps.{home_node}
 use Rattle.tree_laws.proofs.Sums.{over, over_add, over_hit, over_none, over_same}
 use Rattle.run_laws.specs.Parks.{is_kept_for_show, parks, parks_for, shown_as, waitings, waits_for}
 use Rattle.run_laws.proofs.EveryApt.{all_apt, lawful}
+use Rattle.run_laws.proofs.InTime.{advancing_run}
 use Rattle.run_laws.proofs.Holders.{holders}
 use Rattle.run_laws.proofs.KeepingActs.{OfKeeping, after_turn, client_none, coordinator_none, does_none, keeps_parks, keeps_waits, parked_as, parks_of}
 use Rattle.run_laws.proofs.KeptWhy.{AreWaiting, Reason, each_meanwhile, each_woken, new_reason, not_both, waiting}
@@ -357,29 +358,12 @@ shown_less s past p t (x ∷ xs) all =
         one u j none = grind (arith, nat_tests)
 
 -- a node shows at most as many versions as advancements were asked for
-read_running : (phase : Phase) (u : ℕ) → 1 ≤ u → most_read phase u + 1 ≤ u + running phase
-read_running Idle u some = omega (arith, some)
-read_running Turning u some = omega (arith, some)
-read_running (Counting true) u some = omega (arith, some)
-read_running (Counting false) u some = omega (arith, some)
-read_running (Paused true) u some = omega (arith, some)
-read_running (Paused false) u some = omega (arith, some)
-read_running Showing u some = omega (arith, some)
-read_running Sweeping u some = omega (arith, some)
-
 read_few : (s : ScriptData) (past : List Entry) (p : ℕ) → IsValid s → IsStepRun s past → p < s.nodes
     → (node_in s past p).turns.read.0 ≤ advances_in s.rows
 read_few s past p valid run lt =
-    let c = coordinator_in s past in
-    let all = levels s past (lawful s valid) run (all_apt s past valid run) in
-    let level : LevelAt s past p = all.node p lt in
-    omega (
-      arith,
-      level.read_to,
-      read_running c.phase c.update all.first,
-      (small s past (lawful s valid) run (all_apt s past valid run)).asked,
-      asked_most (client_in s past).next s.rows,
-    )
+    let all = advancing_run s past valid run in
+    let at = all.within p lt in
+    omega (arith, at.read_showed, at.showed_update, at.update_turned, all.asked, asked_most (client_in s past).next s.rows)
 
 -- so of a strict tree's root at most so many Wakes are sent
 pub root_wakes : (s : ScriptData) (past : List Entry) (t : ℕ) → IsValid s → IsStepRun s past → is_strict_at s t ≡ true

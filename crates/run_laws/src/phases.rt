@@ -5,6 +5,7 @@ ghost use Rattle.pair_counters.specs.Numbers.{AllBelow};
 ghost use Rattle.phase_laws.specs.Advances.{AdvancesAreKept, RoundsAreFew};
 ghost use Rattle.phase_laws.specs.Phases.{PhasesHaveTheirLetters, VersionsKeepToThePhase};
 ghost use Rattle.phase_laws.specs.Balance.{IsBalanced, MOST_COUNTED};
+ghost use Rattle.phase_laws.specs.Given.{NodesKeepTogether};
 ghost use Rattle.run_laws.specs.Taken.{TakesWhatIsApt};
 ghost use Rattle.tree_laws.specs.Entries.{rounds_in};
 ghost use Rattle.tx_trees.specs.Counts.{advances_in};
@@ -39,6 +40,12 @@ pub fn phases_have_their_letters()
 pub fn versions_keep_to_the_phase()
     ensures { (s : ScriptData) (past : List Entry) → IsValid s → IsStepRun s past
         → VersionsKeepToThePhase s past }
+{}
+
+/// Any two nodes are together, without a word of phases: the one updates at most two versions above the one that the other
+/// keeps, it reads a version below the one that the other updates, and keeps none above the one that the other reads.
+pub fn nodes_keep_together()
+    ensures { NodesKeepTogether }
 {}
 
 /// Each advancement that was asked for is in a letter, waits, is in progress or has ended, and of each that has ended

@@ -22,7 +22,7 @@ use Rattle.world_model.specs.Strict.{CoreKeeping, core_keeping, core_row, is_cor
 use Rattle.world_model.proofs.EachOutstanding.{EachKept, each_brought, each_first, each_kept, each_outstanding, each_took, kept_meanwhile}
 use Rattle.world_model.proofs.Every.{each_append, each_map}
 use Rattle.world_model.proofs.KeptThere.{apt_there, kept_in_past, still_kept}
-use Rattle.world_model.proofs.NothingKept.{keeping_is}
+use Rattle.world_model.proofs.NothingKept.{none_kept}
 use Rattle.world_model.proofs.Orders.{coordinator_nodes, of}
 use Rattle.strict_laws.specs.Meant.{IsLetterMeant, IsMeant, LettersAreMeant}
 use Rattle.strict_laws.proofs.HeldOwn.{HoldsOwn, holds_own}
@@ -82,7 +82,7 @@ stands s past p below all = record {
   holds = holds_own s past p;
   kept = kept_in_past s past p;
   meant = each_kept (IsLetterMeant s) s past all p below;
-  plain = λ plain. ap (λ (n : KeepingNode). n.kept) (keeping_is s past p plain);
+  plain = λ plain. none_kept s past p plain;
 }
 
 entry_sends : (s : ScriptData) (past : List Entry) (e : Entry) → IsValid s → MayFollow s past e

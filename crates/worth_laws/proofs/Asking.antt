@@ -18,12 +18,11 @@ use Rattle.world_model.specs.Named.{is_timely, tree_kind_at}
 use Rattle.world_model.specs.Runs.{IsStepRun, keeping_in, node_in}
 use Rattle.board_rules.specs.Histories.{Place, places_at, version_in, was_born}
 use Rattle.board_rules.proofs.Places.{version_stays}
-use Rattle.phase_laws.proofs.Levels.{versions_in_phase}
 use Rattle.tree_laws.proofs.AptStagesOwn.{Doing}
 use Rattle.tree_laws.proofs.AptVersions.{DoneIn, before, is_version, version_is}
 use Rattle.tree_laws.proofs.AptWindows.{apt_timely}
 use Rattle.tree_laws.proofs.Turns.{kind_version, work_version}
-use Rattle.run_laws.proofs.EveryApt.{all_apt, lawful}
+use Rattle.run_laws.proofs.InTime.{advancing_run}
 use Rattle.rule_laws.proofs.Fronts.{front, placed}
 use Rattle.rule_laws.proofs.Lasts.{AsksIn, OfRoot, OfSub}
 use Rattle.rule_laws.proofs.YesVotes.{front_version}
@@ -31,11 +30,12 @@ use Rattle.rule_laws.proofs.YesVotes.{front_version}
 -- a node's low version is at most the one that it reads, and the one that it updates
 pub low_read : (s : ScriptData) (past : List Entry) (p : ℕ) → IsValid s → IsStepRun s past → p < s.nodes
     → (node_in s past p).turns.low.0 ≤ (node_in s past p).turns.read.0
-low_read s past p valid run lt = (versions_in_phase s past (lawful s valid) run (all_apt s past valid run) p lt).low_read
+low_read s past p valid run lt = let at = (advancing_run s past valid run).within p lt in omega (arith, at.low_swept, at.swept_read)
 
 pub low_update : (s : ScriptData) (past : List Entry) (p : ℕ) → IsValid s → IsStepRun s past → p < s.nodes
     → (node_in s past p).turns.low.0 ≤ (node_in s past p).turns.update.0
-low_update s past p valid run lt = (versions_in_phase s past (lawful s valid) run (all_apt s past valid run) p lt).low_update
+low_update s past p valid run lt =
+    let at = (advancing_run s past valid run).within p lt in omega (arith, at.low_swept, at.swept_read, at.read_showed, at.showed_update)
 
 -- so it is at most the version that a letter asks for
 pub asked_low : (s : ScriptData) (past : List Entry) (e : Entry) (p : ℕ) (r : Letter) (t : TreeNo) (k : SubNo) (u : Version) → Doing s past e p r

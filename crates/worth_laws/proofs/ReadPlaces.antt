@@ -18,7 +18,9 @@ use Rattle.board_rules.specs.Rules.{is_writer}
 use Rattle.board_rules.specs.Worth.{worth, worth_in}
 use Rattle.board_rules.proofs.Wholes.{version_more}
 use Rattle.tree_laws.proofs.AptVersions.{before}
-use Rattle.run_laws.proofs.Reached.{coordinator_moves, now_below, whole_below}
+use Rattle.run_laws.proofs.Reached.{now_below}
+use Rattle.run_laws.proofs.InTime.{acted_run}
+use Rattle.phase_laws.specs.Phases.{ShowStage}
 use Rattle.run_laws.proofs.Wholes.{born_with}
 use Rattle.rule_laws.proofs.Fronts.{act_of_place, front, in_both, one_by_one}
 use Rattle.rule_laws.proofs.InEntries.{entry_run, in_entry}
@@ -33,12 +35,12 @@ take_next (y ∷ []) zero x is = let same : y ≡ x = cc is in ap (λ (z : _). z
 take_next (y ∷ z ∷ xs) zero x is = let same : y ≡ x = cc is in ap (λ (w : _). w ∷ []) (sym same)
 take_next (y ∷ xs) (suc i) x is = ap (λ (zs : List _). y ∷ zs) (take_next xs i x is)
 
--- An entry that has an act is none of the coordinator's, so what is shown stays the same.
-by_node : (s : ScriptData) (past : List Entry) (e : Entry) (j : ℕ) (y : Place) → slice_get (places_at e) j ≡ Some y
-    → MadeByCoordinator s past e ⊎ (coordinator_in s (e ∷ past) ≡ coordinator_in s past) → now_below false s (e ∷ past) ≡ now_below false s past
-by_node s past e j y is (inl made) =
-    absurd (cc (sym (ap (λ (xs : List _). slice_get xs j) made.acts) ∙ (act_of_place e j y is).0))
-by_node s past e j y is (inr same) = ap (λ (c : Coordinator). whole_below false c.phase c.update) same
+-- An entry that has an act tells no node to show a version, so what is shown stays the same.
+by_acts : (s : ScriptData) (past : List Entry) (e : Entry) (j : ℕ) (y : Place) → IsValid s → IsStepRun s (e ∷ past)
+    → slice_get (places_at e) j ≡ Some y → now_below false s (e ∷ past) ≡ now_below false s past
+by_acts s past e j y valid run is =
+    ap (λ (n : ℕ). n + 1)
+    (acted_run ShowStage s past e valid run (λ none. cc (sym (ap (λ (xs : List _). slice_get xs j) none) ∙ (act_of_place e j y is).0)))
 
 -- version v was shown before the entry of the act at position i
 pub record ShownAt (s : ScriptData) (past : List Entry) (i v : ℕ) : Type 0 where
@@ -61,7 +63,7 @@ shown_at s past i t y v valid run is read born =
     let all : born_with (l.entry ∷ l.earlier) t ≡ Some v =
     version_more t (length (before l.earlier) + suc l.place) v (before (l.entry ∷ l.earlier))
     (ap (version_in t) (front_is l.earlier l.entry (suc l.place) ∙ sym upto) ∙ born) in
-    let same = by_node s l.earlier l.entry l.place y l.is (coordinator_moves s l.earlier l.entry valid here) in
+    let same = by_acts s l.earlier l.entry l.place y valid here l.is in
     let size : length (take i (before past)) ≡ length (before l.earlier) + length (take l.place (places_at l.entry)) =
     ap length l.front ∙ length-append (before l.earlier) (take l.place (places_at l.entry)) in
     record {

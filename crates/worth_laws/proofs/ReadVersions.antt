@@ -9,42 +9,22 @@ use Rattle.script_parts.specs.ScriptData.{ScriptData, reads}
 use Rattle.script_parts.specs.Valid.{IsValid}
 use Rattle.board_rules.specs.Histories.{places_at, version_in}
 use Rattle.world_model.specs.Runs.{IsStepRun, coordinator_in, node_in}
-use Rattle.phase_laws.specs.Phases.{most_read}
-use Rattle.phase_laws.proofs.Levels.{levels}
 use Rattle.tree_laws.proofs.AptVersions.{before}
 use Rattle.tree_laws.proofs.Histories.{places_more}
 use Rattle.run_laws.specs.Shown.{WritersAreWhole}
 use Rattle.run_laws.proofs.Closed.{rises}
-use Rattle.run_laws.proofs.EveryApt.{all_apt, lawful}
 use Rattle.run_laws.proofs.EveryBirth.{birth_at}
-use Rattle.run_laws.proofs.Reached.{now_below, whole_below, whole_run}
+use Rattle.run_laws.proofs.Reached.{now_below, whole_run}
+use Rattle.rule_laws.proofs.Late.{read_below}
 use Rattle.run_laws.proofs.Wholes.{born_split, born_with}
-
--- in each phase a node reads a version up to which writers are whole
-read_within : (phase : Phase) (u : ℕ) → 1 ≤ u → most_read phase u < whole_below false phase u
-read_within Idle u one = omega arith
-read_within Turning u one = omega arith
-read_within (Counting true) u one = omega arith
-read_within (Counting false) u one = omega arith
-read_within (Paused true) u one = omega arith
-read_within (Paused false) u one = omega arith
-read_within Showing u one = omega arith
-read_within Sweeping u one = omega arith
-
-pub read_below : (s : ScriptData) (past : List Entry) (p : ℕ) → IsValid s → IsStepRun s past → p < s.nodes
-    → (node_in s past p).turns.read.0 < now_below false s past
-read_below s past p valid run lt =
-    let c = coordinator_in s past in
-    let all = levels s past (lawful s valid) run (all_apt s past valid run) in
-    omega (arith, (all.node p lt).read_to, read_within c.phase c.update all.first)
 
 below_by : (s : ScriptData) (past : List Entry) (e : Entry) (t : ℕ) (w : Version) → IsValid s → IsStepRun s (e ∷ past)
     → reads s t ≡ true → (born_with past t ≡ Some w → w.0 < now_below false s past)
     → (born_with past t ≡ Some w) ⊎ (version_in t (places_at e) ≡ Some w) → w.0 < now_below false s (e ∷ past)
-below_by s past e t w valid run read old_below (inl old) = omega (arith, old_below old, rises false s past e valid run)
+below_by s past e t w valid run read old_below (inl old) = omega (arith, old_below old, rises false s past e)
 below_by s past e t w valid run read old_below (inr new) =
     let at = birth_at s past e t w valid run new in
-    omega (arith, at.read read, read_below s past e.actor.0 valid run.1 at.node, rises false s past e valid run)
+    omega (arith, at.read read, read_below s past e.actor.0 valid run.1 at.node, rises false s past e)
 
 -- so with the version of each read tree
 pub born_below : (s : ScriptData) (past : List Entry) (t : ℕ) (w : Version) → IsValid s → IsStepRun s past

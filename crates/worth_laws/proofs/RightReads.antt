@@ -46,7 +46,8 @@ use Rattle.rule_laws.proofs.YesVotes.{asked_same}
 use Rattle.worth_laws.proofs.Asking.{asked_low, low_read, read_born, upto_version}
 use Rattle.worth_laws.proofs.AtFront.{front_rules, made_at_front, whole_at_front}
 use Rattle.worth_laws.proofs.OwnWorth.{seen_is_made}
-use Rattle.worth_laws.proofs.ReadVersions.{born_below, read_below}
+use Rattle.worth_laws.proofs.ReadVersions.{born_below}
+use Rattle.rule_laws.proofs.Late.{read_below}
 
 -- What a Did of a read tree gives is what its gets give at its node.
 pub asked_row : (s : ScriptData) (c : Core) (t : TreeNo) (k : SubNo) (body : Body) (kind : Option TreeKind) → AsksIn body t k → tree_kind_at s t.0 ≡ kind
