@@ -26,6 +26,7 @@ use Rattle.world_model.proofs.Bags.{one_if_same, tally-append}
 use Rattle.world_model.proofs.Orders.{coordinator_nodes}
 use Rattle.phase_laws.specs.Advances.{asked_for, is_advance_letter, is_advanced, running}
 use Rattle.phase_laws.specs.Phases.{IsInPhase, Stage, TurnStage, ShowStage, SweepStage, token, within}
+use Rattle.phase_laws.proofs.CoordinatorCounts.{pace_of}
 use Rattle.phase_laws.proofs.Current.{current}
 use Rattle.phase_laws.proofs.Levels.{versions_in_phase}
 use Rattle.phase_laws.proofs.Small.{small}
@@ -112,7 +113,7 @@ not_counting s past valid run reads empty at =
     let r = (coordinator_in s past).current in
     let now = current s past (lawful s valid) run (all_apt s past valid run) reads at in
     let nodes = coordinator_nodes s past in
-    let waved = heard s past valid run reads at in
+    let waved = heard s past valid run reads (ap pace_of at) in
     let none : (two : Bool) (q : ℕ) → tally (λ (l : Letter). wave two r.version.0 r.number q s.nodes l.from.0 l.to.0 l.body) (in_flight s past) ≡ 0 =
     λ two q. none_left (λ (l : Letter). wave two r.version.0 r.number q s.nodes l.from.0 l.to.0 l.body) s past empty in
     let dones : all_in r.dones ≡ true =
@@ -125,7 +126,7 @@ not_counting s past valid run reads empty at =
 not_paused : (s : ScriptData) (past : List Entry) (valid : IsValid s) (run : IsStepRun s past) (reads : Bool)
     → in_flight s past ≡ [] → (coordinator_in s past).phase ≡ Paused reads → ⊥
 not_paused s past valid run reads empty at =
-    absurd (omega (arith, (bound s past valid run).pausing reads at, none_busy s past valid run empty))
+    absurd (omega (arith, (bound s past valid run).pausing (ap pace_of at), none_busy s past valid run empty))
 
 idle_by : (s : ScriptData) (past : List Entry) (valid : IsValid s) (run : IsStepRun s past) → in_flight s past ≡ []
     → (phase : Phase) → (coordinator_in s past).phase ≡ phase → running (coordinator_in s past).phase ≡ 0
