@@ -14,7 +14,6 @@ use Rattle.letter_types.specs.declared.entries.Letter.{Letter}
 use Rattle.letter_types.specs.declared.entries.Outgoing.{Outgoing}
 use Rattle.letter_types.specs.Steps.{Out}
 use Rattle.tx_trees.specs.ScriptData.{ScriptData}
-use Rattle.tx_trees.specs.Valid.{IsValid}
 use Rattle.world_model.specs.AllApt.{AllApt}
 use Rattle.world_model.specs.Node.{Node}
 use Rattle.world_model.specs.Coordinator.{to_nodes, with_asked, with_done}
@@ -22,13 +21,11 @@ use Rattle.world_model.specs.Counts.{tally, one_if}
 use Rattle.world_model.specs.Runs.{node_in, in_flight, MayFollow, IsStepRun}
 use Rattle.world_model.proofs.Bags.{tally-append, tally_step, sealed_tally}
 use Rattle.world_model.proofs.Nexts.{Order, Turns, Shows, Sweeps, TellsDone, TellsAsked}
-use Rattle.phase_laws.proofs.CoordinatorCounts.{Always, coordinator_counts, count_in}
 use Rattle.phase_laws.proofs.Counting.{Count, CountStep, Denies, Holds, IsCounting, IsNudged, InRound, Lasts, Leaves, NoDone, Refused, TakesDone, TakesRequests, Begins as BeginsRound, asks_after, none_in_round, paused_in_round}
 use Rattle.phase_laws.proofs.Progress.{Begins, Coordinates, Ends, Hears, Obeys, Progress, Works, progress}
 use Rattle.phase_laws.proofs.Silence.{below_or_at}
 use Rattle.phase_laws.proofs.Steps.{Shaped, shaped}
 use Rattle.phase_laws.proofs.Working.{IsOfTrees}
-use Rattle.run_laws.proofs.EveryApt.{all_apt, lawful}
 
 -- the first wave's or the second wave's question to node q, or q's answer
 abbrev pub wave : Bool → ℕ → ℕ → ℕ → ℕ → ℕ → ℕ → Body → ℕ
@@ -431,8 +428,3 @@ pub waves_heard : (s : ScriptData) (count : List Entry → Count) (G : Bool → 
 waves_heard s count G view [] run apt = λ reads at. absurd (none_in_round (count []).pace reads view.start at)
 waves_heard s count G view (e ∷ past) run apt =
     heard_next s count G view past e run apt.1 (progress s past e view.lawful apt run) (waves_heard s count G view past run.1 apt.1)
-
--- so of the coordinator
-pub heard : (s : ScriptData) (past : List Entry) → IsValid s → IsStepRun s past → Heard s past (count_in s past)
-heard s past valid run =
-    waves_heard s (count_in s) Always (coordinator_counts s (lawful s valid)) past run (all_apt s past valid run)

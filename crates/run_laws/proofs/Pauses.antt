@@ -55,7 +55,7 @@ use Rattle.run_laws.proofs.Balancing.{balances}
 use Rattle.run_laws.proofs.Measures.{busy, nudges, of_trees}
 use Rattle.run_laws.proofs.Busy.{born_heard, busy_step, no_nudge, trees_rest}
 use Rattle.run_laws.proofs.Exacts.{Counts, Exact, ExactBody, Frozen, Pausing, SentExact, all_agree, asked_put, client_exact, done_put, exact_on, frozen_away, kept_is, order_counts, order_exact, orders_exact}
-use Rattle.run_laws.proofs.EveryApt.{all_apt, lawful}
+use Rattle.run_laws.proofs.EveryApt.{lawful}
 
 pub record Bound (s : ScriptData) (past : List Entry) (c : Count) : Type 0 where
   pub counts : Counts s past c
@@ -416,7 +416,7 @@ rows_bound s count G view steady (e ∷ past) valid run apt =
     (rows_bound s count G view steady past valid run.1 apt.1)
 
 -- The coordinator is steady: it sweeps in another phase than it counts.
-coordinator_steady : (s : ScriptData) (valid : IsValid s) → IsSteady s (count_in s)
+pub coordinator_steady : (s : ScriptData) (valid : IsValid s) → IsSteady s (count_in s)
 coordinator_steady s valid = record {
   orders = λ past e reads p out run apt at here lt order. order_counts s (node_in s past p) e.took.body out (λ v bd.
       let sweeping = phase_for s past e (Sweep v) (lawful s valid) run.1 apt run.0 bd in
@@ -425,7 +425,3 @@ coordinator_steady s valid = record {
       absurd (cc clash)) order;
   low = λ past reads p run apt at lt. ((coordinator_counts s (lawful s valid)).opens reads past run apt at tt).low p lt;
 }
-
-pub bound : (s : ScriptData) (past : List Entry) (valid : IsValid s) (run : IsStepRun s past) → Bound s past (count_in s past)
-bound s past valid run =
-    rows_bound s (count_in s) Always (coordinator_counts s (lawful s valid)) (coordinator_steady s valid) past valid run (all_apt s past valid run)
