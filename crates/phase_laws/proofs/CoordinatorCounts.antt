@@ -16,7 +16,7 @@ use Rattle.world_model.specs.declared.phase.Phase.TheVariants.{Idle, Turning, Co
 use Rattle.world_model.specs.Runs.{coordinator_in, node_in, IsStepRun}
 use Rattle.world_model.proofs.Every.{coordinator_kept}
 use Rattle.world_model.proofs.Orders.{coordinator_nodes, to_nodes_each}
-use Rattle.phase_laws.proofs.Counting.{Count, CountStep, Denies, Holds, IsCounting, IsNudged, InRound, AfterRound, NoRound, Lasts, Leaves, NoDone, NoNudge, Open, Pace, Begins, Refused, TakesDone, TakesRequests, TakesRow, asks_after, begun}
+use Rattle.phase_laws.proofs.Counting.{Count, CountStep, Denies, Holds, IsCounting, IsNudged, InRound, AfterRound, NoRound, Lasts, Leaves, NoDone, NoNudge, Open, Pace, Begins, Refused, TakesDone, TakesRequests, TakesRow, asks_after, begun, Premise}
 use Rattle.phase_laws.proofs.Lawful.{IsLawful}
 use Rattle.phase_laws.proofs.Levels.{Level, Levels, levels, tells}
 use Rattle.phase_laws.proofs.Outcomes.{Ignored, IsAnswer, Outcome, Rests, Queues, Flags, Turns, Acks, LastTurned, LastShown, Finishes, GoesOn, Resumes, KeepsDone, KeepsAsked, Agrees, Recounts, Pauses, TakesAsked, asked_kept, round_begun}
@@ -40,7 +40,7 @@ abbrev pub count_in : ScriptData → List Entry → Count
 count_in s past = count_of (coordinator_in s past)
 
 -- the premise of a count whose versions are always open
-abbrev pub Always : Bool → ℕ → List Entry → Type 0
+abbrev pub Always : Premise
 Always reads v past = Unit {0}
 
 pub counting_is : (phase : Phase) (reads : Bool) → pace_of phase ≡ InRound reads → phase ≡ Counting reads

@@ -96,10 +96,13 @@ pub record Open (s : ScriptData) (past : List Entry) (v : ℕ) : Type 0 where
   pub closed : Closed s past v
   pub low : (p : ℕ) → p < s.nodes → (node_in s past p).turns.low.0 ≤ v
 
+-- a fact of a version at a past, by whether it is counted for reads or for updates: as that it wasn't given yet
+abbrev pub Premise : Type 1
+Premise = Bool → ℕ → List Entry → Type 0
+
 -- a coordinator that counts so: it counts nothing at first, entries of others leave its count, each of its own is a step of
--- it, and the version counted is open where G holds of it. So G may say that the version isn't given yet; what isn't given
--- after an entry wasn't before it
-pub record IsCounting (s : ScriptData) (count : List Entry → Count) (G : Bool → ℕ → List Entry → Type 0) : Type 0 where
+-- it, and the version counted is open where the premise holds of it. A premise that holds after an entry held before it
+pub record IsCounting (s : ScriptData) (count : List Entry → Count) (G : Premise) : Type 0 where
   pub lawful : IsLawful s
   pub start : (count []).pace ≡ NoRound
   pub stays : (past : List Entry) (e : Entry) → e.actor.0 ≢ s.nodes → count (e ∷ past) ≡ count past
@@ -110,7 +113,7 @@ pub record IsCounting (s : ScriptData) (count : List Entry → Count) (G : Bool 
   pub opens : (reads : Bool) (past : List Entry) → IsStepRun s past → AllApt s past → (count past).pace ≡ InRound reads
       → G reads (count past).round.version.0 past → Open s past (count past).round.version.0
 
--- two paces are not one
+-- a count that has no round, or that pauses, isn't in one
 pub none_in_round : (p : Pace) (reads : Bool) → p ≡ NoRound → p ≡ InRound reads → ⊥
 none_in_round p reads none counts = cc (none, counts)
 

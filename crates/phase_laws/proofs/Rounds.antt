@@ -24,7 +24,7 @@ use Rattle.world_model.proofs.Bags.{tally-drop}
 use Rattle.world_model.proofs.Every.{each_map, each_step, each_taken, each_zero}
 use Rattle.phase_laws.proofs.Lawful.{IsLawful}
 use Rattle.phase_laws.proofs.CoordinatorCounts.{Always, coordinator_counts, count_in, takes_row, versioned}
-use Rattle.phase_laws.proofs.Counting.{Count, CountStep, Denies, Holds, IsCounting, IsNudged, InRound, Lasts, Leaves, Begins, TakesDone, TakesRequests, TakesRow, asks_after, count_asked, count_done, none_in_round, paused_in_round}
+use Rattle.phase_laws.proofs.Counting.{Count, CountStep, Denies, Holds, IsCounting, IsNudged, InRound, Lasts, Leaves, Begins, TakesDone, TakesRequests, TakesRow, asks_after, count_asked, count_done, none_in_round, paused_in_round, Premise}
 use Rattle.phase_laws.proofs.Outcomes.{TakesAsked}
 use Rattle.phase_laws.specs.Balance.{out}
 use Rattle.phase_laws.specs.Quiet.{IsSilent}
@@ -39,7 +39,7 @@ abbrev LowIn : ScriptData → List Entry → ℕ → Type 0
 LowIn s past v = (p : ℕ) → p < s.nodes → (node_in s past p).turns.low.0 ≤ v
 
 -- while a round is counted, no node has left its version, where this is the count
-low_in : (s : ScriptData) (count : List Entry → Count) (G : Bool → ℕ → List Entry → Type 0) → IsCounting s count G
+low_in : (s : ScriptData) (count : List Entry → Count) (G : Premise) → IsCounting s count G
     → (past : List Entry) (c : Count) (reads : Bool) → IsStepRun s past → AllApt s past → count past ≡ c → c.pace ≡ InRound reads
     → G reads c.round.version.0 past → LowIn s past c.round.version.0
 low_in s count G view past c reads run apt is at given =
@@ -399,10 +399,10 @@ asked_at_least s past e r v k row row' x m bd vs ks at =
     asked_by s past e r v k row row' x m bd vs ks (set_get r.askeds e.took.from.0 x.p (Some row) (Some row') at)
 
 -- In every run: while a round is counted, it holds what a round does, where G holds of its version.
-abbrev pub Rounds : (Bool → ℕ → List Entry → Type 0) → ScriptData → List Entry → Count → Type 0
+abbrev pub Rounds : Premise → ScriptData → List Entry → Count → Type 0
 Rounds G s past c = (reads : Bool) → c.pace ≡ InRound reads → G reads c.round.version.0 past → Round s past c.round
 
-rounds_away : (s : ScriptData) (count : List Entry → Count) (G : Bool → ℕ → List Entry → Type 0) → IsCounting s count G
+rounds_away : (s : ScriptData) (count : List Entry → Count) (G : Premise) → IsCounting s count G
     → (past : List Entry) (e : Entry) → IsStepRun s (e ∷ past) → AllApt s (e ∷ past) → e.actor.0 ≢ s.nodes
     → Rounds G s past (count past) → Rounds G s (e ∷ past) (count (e ∷ past))
 rounds_away s count G view past e run apt away was =
@@ -420,7 +420,7 @@ rounds_away s count G view past e run apt away was =
     (λ missing none. none) (λ x row at'. x.kept row at') (was reads at before))
 
 -- a round goes on where nothing is sent, with these rows of requests
-round_quiet : (s : ScriptData) (count : List Entry → Count) (G : Bool → ℕ → List Entry → Type 0) → IsCounting s count G
+round_quiet : (s : ScriptData) (count : List Entry → Count) (G : Premise) → IsCounting s count G
     → (past : List Entry) (e : Entry) (reads : Bool) (ks : NodeRows) → IsStepRun s (e ∷ past) → AllApt s (e ∷ past)
     → (count past).pace ≡ InRound reads → LowIn s (e ∷ past) (count past).round.version.0
     → G reads (count past).round.version.0 (e ∷ past) → e.sent ≡ []
@@ -438,7 +438,7 @@ round_quiet s count G view past e reads ks run apt at low given sent none kept w
     (omega (arith, second, flow_of (second_wave r.number) s past e run.0)) none kept (was reads at before)
 
 -- what a step of the count makes of its round
-rounds_by : (s : ScriptData) (count : List Entry → Count) (G : Bool → ℕ → List Entry → Type 0) → IsCounting s count G
+rounds_by : (s : ScriptData) (count : List Entry → Count) (G : Premise) → IsCounting s count G
     → (past : List Entry) (e : Entry) → IsStepRun s (e ∷ past) → AllApt s (e ∷ past) → AllRowless e.sent → Rounds G s past (count past)
     → CountStep s.nodes (count past) (count (e ∷ past)) e.took.from.0 e.took.body e.sent → Rounds G s (e ∷ past) (count (e ∷ past))
 rounds_by s count G view past e run apt rowless was (Leaves none le plain) = λ reads at given.
@@ -482,7 +482,7 @@ rounds_by s count G view past e run apt rowless was (TakesRequests reads v k row
 rounds_by s count G view past e run apt rowless was (Denies reads v k row takes verdict clear is sent) =
     subst (Rounds G s (e ∷ past)) (sym is) (λ other now given. absurd (cc now))
 
-rounds_next : (s : ScriptData) (count : List Entry → Count) (G : Bool → ℕ → List Entry → Type 0) → IsCounting s count G
+rounds_next : (s : ScriptData) (count : List Entry → Count) (G : Premise) → IsCounting s count G
     → (past : List Entry) (e : Entry) → IsStepRun s (e ∷ past) → AllApt s (e ∷ past) → Rounds G s past (count past)
     → Sending s past e → Rounds G s (e ∷ past) (count (e ∷ past))
 rounds_next s count G view past e run apt was (SendsApart away plain all) = rounds_away s count G view past e run apt away was
@@ -493,7 +493,7 @@ rounds_next s count G view past e run apt was (SendsAsked v k lt bd sent same) =
 rounds_next s count G view past e run apt was (SendsOrders at rowless) =
     rounds_by s count G view past e run apt rowless was (view.steps past e run apt.1 at)
 
-pub rounds : (s : ScriptData) (count : List Entry → Count) (G : Bool → ℕ → List Entry → Type 0) → IsCounting s count G
+pub rounds : (s : ScriptData) (count : List Entry → Count) (G : Premise) → IsCounting s count G
     → (past : List Entry) → IsStepRun s past → AllApt s past → Rounds G s past (count past)
 rounds s count G view [] run apt = λ reads at given. absurd (none_in_round (count []).pace reads view.start at)
 rounds s count G view (e ∷ past) run apt =
@@ -546,7 +546,7 @@ silent_by s past e r v k row m bd vs ks nodes places verdict (inr x) =
     absurd (no_verdict s past e r v k row m bd vs ks nodes places x verdict)
 
 -- where the verdict is given that all pairs agree, the version counted is silent
-pub silent_agreed : (s : ScriptData) (count : List Entry → Count) (G : Bool → ℕ → List Entry → Type 0) → IsCounting s count G
+pub silent_agreed : (s : ScriptData) (count : List Entry → Count) (G : Premise) → IsCounting s count G
     → (past : List Entry) (e : Entry) (reads : Bool) (v : Version) (k : ℕ) (row : List ℕ) → IsStepRun s (e ∷ past) → AllApt s past
     → TakesRow (count past) e.took.from.0 e.took.body reads v k row → G reads (count past).round.version.0 past
     → verdict_of (with_asked e.took.from.0 row (count past).round) ≡ Some true → IsSilent s past (count past).round.version.0

@@ -26,7 +26,7 @@ use Rattle.phase_laws.proofs.Lawful.{IsLawful}
 use Rattle.world_model.proofs.Orders.{to_nodes_each}
 use Rattle.phase_laws.proofs.Balance.{apt_low_rises}
 use Rattle.phase_laws.proofs.CoordinatorCounts.{Always, coordinator_counts, count_in}
-use Rattle.phase_laws.proofs.Counting.{Count, CountStep, Denies, Holds, IsCounting, IsNudged, InRound, Lasts, Leaves, Begins, TakesDone, TakesRequests, begun, count_asked, count_done, none_in_round}
+use Rattle.phase_laws.proofs.Counting.{Count, CountStep, Denies, Holds, IsCounting, IsNudged, InRound, Lasts, Leaves, Begins, TakesDone, TakesRequests, begun, count_asked, count_done, none_in_round, Premise}
 use Rattle.phase_laws.proofs.Sending.{AllPlain, IsApart, IsPlain, IsRowless, apart_plain, Sending, SendsApart, SendsDone, SendsAsked, SendsOrders, sending}
 use Rattle.phase_laws.proofs.Silence.{below_or_at, done_grows}
 
@@ -73,14 +73,14 @@ shaped_by n c d from body os was (TakesRequests reads v k row takes verdict is s
 shaped_by n c d from body os was (Denies reads v k row takes verdict clear is sent) =
     subst (Shaped n) (sym is) (λ other at. absurd (cc at))
 
-shaped_next : (s : ScriptData) (count : List Entry → Count) (G : Bool → ℕ → List Entry → Type 0) → IsCounting s count G
+shaped_next : (s : ScriptData) (count : List Entry → Count) (G : Premise) → IsCounting s count G
     → (past : List Entry) (e : Entry) → IsStepRun s (e ∷ past) → AllApt s past → Shaped s.nodes (count past)
     → (e.actor.0 ≡ s.nodes) ⊎ (e.actor.0 ≢ s.nodes) → Shaped s.nodes (count (e ∷ past))
 shaped_next s count G view past e run apt was (inl at) =
     shaped_by s.nodes (count past) (count (e ∷ past)) e.took.from.0 e.took.body e.sent was (view.steps past e run apt at)
 shaped_next s count G view past e run apt was (inr away) = subst (Shaped s.nodes) (sym (view.stays past e away)) was
 
-pub shaped : (s : ScriptData) (count : List Entry → Count) (G : Bool → ℕ → List Entry → Type 0) → IsCounting s count G
+pub shaped : (s : ScriptData) (count : List Entry → Count) (G : Premise) → IsCounting s count G
     → (past : List Entry) → IsStepRun s past → AllApt s past → Shaped s.nodes (count past)
 shaped s count G view [] run apt = λ reads at. absurd (none_in_round (count []).pace reads view.start at)
 shaped s count G view (e ∷ past) run apt =
@@ -221,7 +221,7 @@ later_step n c d from body os shape (TakesRequests reads v k row takes verdict i
 later_step n c d from body os shape (Denies reads v k row takes verdict clear is sent) =
     later_none c d os (ap (λ (x : Count). x.number) is) sent
 
-fresh_kept : (s : ScriptData) (count : List Entry → Count) (G : Bool → ℕ → List Entry → Type 0) → IsCounting s count G
+fresh_kept : (s : ScriptData) (count : List Entry → Count) (G : Premise) → IsCounting s count G
     → (past : List Entry) (e : Entry) → e.actor.0 ≢ s.nodes → Fresh s past (count past) → UpTo (count past).number e.sent
     → Fresh s (e ∷ past) (count (e ∷ past))
 fresh_kept s count G view past e away was sent =
@@ -229,7 +229,7 @@ fresh_kept s count G view past e away was sent =
       letters = each_step (λ (l : Letter). round_of l.body ≤ (count past).number) s past e was.letters sent;
     })
 
-fresh_next : (s : ScriptData) (count : List Entry → Count) (G : Bool → ℕ → List Entry → Type 0) → IsCounting s count G
+fresh_next : (s : ScriptData) (count : List Entry → Count) (G : Premise) → IsCounting s count G
     → (past : List Entry) (e : Entry) → IsStepRun s (e ∷ past) → AllApt s past → Fresh s past (count past) → Sending s past e
     → Fresh s (e ∷ past) (count (e ∷ past))
 fresh_next s count G view past e run apt was (SendsApart away plain all) =
@@ -261,7 +261,7 @@ fresh_next s count G view past e run apt was (SendsOrders at rowless) =
           next.sent;
     }
 
-pub none_later : (s : ScriptData) (count : List Entry → Count) (G : Bool → ℕ → List Entry → Type 0) → IsCounting s count G
+pub none_later : (s : ScriptData) (count : List Entry → Count) (G : Premise) → IsCounting s count G
     → (past : List Entry) → IsStepRun s past → AllApt s past → Fresh s past (count past)
 none_later s count G view [] run apt = record { letters = (omega arith, tt) }
 none_later s count G view (e ∷ past) run apt =

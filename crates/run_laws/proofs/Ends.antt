@@ -27,7 +27,7 @@ use Rattle.world_model.proofs.Bags.{one_if_same, tally-append}
 use Rattle.phase_laws.specs.Advances.{asked_for, is_advance_letter, is_advanced, running}
 use Rattle.phase_laws.specs.Phases.{IsInPhase, Stage, TurnStage, ShowStage, SweepStage, token, within}
 use Rattle.phase_laws.proofs.CoordinatorCounts.{Always, coordinator_counts, count_in, pace_of}
-use Rattle.phase_laws.proofs.Counting.{AfterRound, Count, InRound, IsCounting, NoRound, Pace}
+use Rattle.phase_laws.proofs.Counting.{AfterRound, Count, InRound, IsCounting, NoRound, Pace, Premise}
 use Rattle.phase_laws.proofs.Levels.{versions_in_phase}
 use Rattle.phase_laws.proofs.Small.{small}
 use Rattle.phase_laws.proofs.Steps.{shaped}
@@ -108,7 +108,7 @@ not_telling s past valid run g phase empty at fills =
     absurd (omega (arith, all, none, acks, nodes, (small s past (lawful s valid) run (all_apt s past valid run)).acks))
 
 -- a round that is counted has a letter in flight
-not_counting : (s : ScriptData) (count : List Entry → Count) (G : Bool → ℕ → List Entry → Type 0) → IsCounting s count G
+not_counting : (s : ScriptData) (count : List Entry → Count) (G : Premise) → IsCounting s count G
     → (past : List Entry) → IsStepRun s past → AllApt s past → (reads : Bool) → in_flight s past ≡ [] → (count past).pace ≡ InRound reads → ⊥
 not_counting s count G view past run apt reads empty at =
     let r = (count past).round in
@@ -124,7 +124,7 @@ not_counting s count G view past run apt reads empty at =
     cc clash
 
 -- and a pause is busy
-round_over : (s : ScriptData) (count : List Entry → Count) (G : Bool → ℕ → List Entry → Type 0) → IsCounting s count G → IsSteady s count
+round_over : (s : ScriptData) (count : List Entry → Count) (G : Premise) → IsCounting s count G → IsSteady s count
     → (past : List Entry) (valid : IsValid s) (run : IsStepRun s past) → AllApt s past → in_flight s past ≡ [] → (p : Pace)
     → (count past).pace ≡ p → (count past).pace ≡ NoRound
 round_over s count G view steady past valid run apt empty (InRound reads) at = absurd (not_counting s count G view past run apt reads empty at)
@@ -133,7 +133,7 @@ round_over s count G view steady past valid run apt empty AfterRound at =
 round_over s count G view steady past valid run apt empty NoRound at = at
 
 -- so no count has a round
-pub no_round : (s : ScriptData) (count : List Entry → Count) (G : Bool → ℕ → List Entry → Type 0) → IsCounting s count G → IsSteady s count
+pub no_round : (s : ScriptData) (count : List Entry → Count) (G : Premise) → IsCounting s count G → IsSteady s count
     → (past : List Entry) (valid : IsValid s) (run : IsStepRun s past) → AllApt s past → in_flight s past ≡ [] → (count past).pace ≡ NoRound
 no_round s count G view steady past valid run apt empty =
     round_over s count G view steady past valid run apt empty (count past).pace refl

@@ -21,7 +21,7 @@ use Rattle.world_model.specs.Counts.{tally, one_if}
 use Rattle.world_model.specs.Runs.{node_in, in_flight, MayFollow, IsStepRun}
 use Rattle.world_model.proofs.Bags.{tally-append, tally_step, sealed_tally}
 use Rattle.world_model.proofs.Nexts.{Order, Turns, Shows, Sweeps, TellsDone, TellsAsked}
-use Rattle.phase_laws.proofs.Counting.{Count, CountStep, Denies, Holds, IsCounting, IsNudged, InRound, Lasts, Leaves, NoDone, Refused, TakesDone, TakesRequests, Begins as BeginsRound, asks_after, none_in_round, paused_in_round}
+use Rattle.phase_laws.proofs.Counting.{Count, CountStep, Denies, Holds, IsCounting, IsNudged, InRound, Lasts, Leaves, NoDone, Refused, TakesDone, TakesRequests, Begins as BeginsRound, asks_after, none_in_round, paused_in_round, Premise}
 use Rattle.phase_laws.proofs.Progress.{Begins, Coordinates, Ends, Hears, Obeys, Progress, Works, progress}
 use Rattle.phase_laws.proofs.Silence.{below_or_at}
 use Rattle.phase_laws.proofs.Steps.{Shaped, shaped}
@@ -387,14 +387,14 @@ heard_same s past e c was more = λ reads at.
       misses = now.misses;
     }
 
-heard_away : (s : ScriptData) (count : List Entry → Count) (G : Bool → ℕ → List Entry → Type 0) → IsCounting s count G
+heard_away : (s : ScriptData) (count : List Entry → Count) (G : Premise) → IsCounting s count G
     → (past : List Entry) (e : Entry) → MayFollow s past e → e.actor.0 ≢ s.nodes → Progress s past e → Heard s past (count past)
     → Heard s (e ∷ past) (count (e ∷ past))
 heard_away s count G view past e m away next was =
     subst (Heard s (e ∷ past)) (sym (view.stays past e away))
     (heard_same s past e (count past) was (λ two v r q. waves_stay s past e two v r q m away next))
 
-heard_told : (s : ScriptData) (count : List Entry → Count) (G : Bool → ℕ → List Entry → Type 0) → IsCounting s count G
+heard_told : (s : ScriptData) (count : List Entry → Count) (G : Premise) → IsCounting s count G
     → (past : List Entry) (e : Entry) → IsStepRun s (e ∷ past) → AllApt s past → e.actor.0 ≡ s.nodes → Heard s past (count past)
     → Heard s (e ∷ past) (count (e ∷ past))
 heard_told s count G view past e run apt at was =
@@ -407,7 +407,7 @@ heard_told s count G view past e run apt at was =
     heard_out s past e (count past) (count (e ∷ past)) view.lawful.valid.some_nodes (shaped s count G view past run.1 apt) was flow
     (view.steps past e run apt at)
 
-heard_next : (s : ScriptData) (count : List Entry → Count) (G : Bool → ℕ → List Entry → Type 0) → IsCounting s count G
+heard_next : (s : ScriptData) (count : List Entry → Count) (G : Premise) → IsCounting s count G
     → (past : List Entry) (e : Entry) → IsStepRun s (e ∷ past) → AllApt s past → Progress s past e → Heard s past (count past)
     → Heard s (e ∷ past) (count (e ∷ past))
 heard_next s count G view past e run apt (Coordinates tells at made) was = heard_told s count G view past e run apt at was
@@ -423,7 +423,7 @@ heard_next s count G view past e run apt (Obeys p out more at lt order state is 
     heard_away s count G view past e run.0 (omega (arith, at, lt)) (Obeys p out more at lt order state is woken) was
 
 -- in every run both waves are heard
-pub waves_heard : (s : ScriptData) (count : List Entry → Count) (G : Bool → ℕ → List Entry → Type 0) → IsCounting s count G
+pub waves_heard : (s : ScriptData) (count : List Entry → Count) (G : Premise) → IsCounting s count G
     → (past : List Entry) → IsStepRun s past → AllApt s past → Heard s past (count past)
 waves_heard s count G view [] run apt = λ reads at. absurd (none_in_round (count []).pace reads view.start at)
 waves_heard s count G view (e ∷ past) run apt =

@@ -36,8 +36,8 @@ use Rattle.world_model.proofs.Scripts.{SubAt, sub_there}
 use Rattle.strict_laws.specs.Meant.{IsMeant}
 use Rattle.strict_laws.proofs.MeantRows.{root_below}
 use Rattle.phase_laws.proofs.Brought.{BringsTo, IsAsking, brought_meant, brought_outstanding, kept_ask}
-use Rattle.phase_laws.proofs.CoordinatorCounts.{Always, coordinator_counts, count_in, counting_is}
-use Rattle.phase_laws.proofs.Counting.{AfterRound, Begins as BeginsRound, Count, CountStep, Denies, Holds, InRound, IsCounting, IsNudged, Lasts, Leaves, NoNudge, TakesDone, TakesRequests, TakesRow, count_asked, count_done, none_in_round, paused_in_round}
+use Rattle.phase_laws.proofs.CoordinatorCounts.{coordinator_counts, count_in, counting_is}
+use Rattle.phase_laws.proofs.Counting.{AfterRound, Begins as BeginsRound, Count, CountStep, Denies, Holds, InRound, IsCounting, IsNudged, Lasts, Leaves, NoNudge, TakesDone, TakesRequests, TakesRow, count_asked, count_done, none_in_round, paused_in_round, Premise}
 use Rattle.phase_laws.proofs.Progress.{AreWakes, Begins, Coordinates, Ends, Hears, IsWake, Obeys, Progress, Work, Works, are_wakes, asking_of, brings_to, progress, wakes_are}
 use Rattle.phase_laws.proofs.Sending.{AllRowless, orders_rowless}
 use Rattle.phase_laws.proofs.Tokens.{phase_for}
@@ -90,7 +90,7 @@ later_exact s past v r k from (AskedRow w j row) lt le = λ ws ks. absurd (omega
 later_exact s past v r k from Go lt le = tt
 later_exact s past v r k from _ lt le = tt
 
-begins_exact : (s : ScriptData) (count : List Entry → Count) (G : Bool → ℕ → List Entry → Type 0) → IsCounting s count G
+begins_exact : (s : ScriptData) (count : List Entry → Count) (G : Premise) → IsCounting s count G
     → (past : List Entry) (e : Entry) (v : Version) (k : ℕ) → IsStepRun s past → AllApt s past → (count past).number < k → AllRowless e.sent
     → Exact s (e ∷ past) (new_round v k s.nodes)
 begins_exact s count G view past e v k run apt lt rowless =
@@ -199,7 +199,7 @@ bound_denies s count steady past e d reads v k row valid run apt m step shape wa
           cc clash);
     }
 
-bound_out : (s : ScriptData) (count : List Entry → Count) (G : Bool → ℕ → List Entry → Type 0) → IsCounting s count G → IsSteady s count
+bound_out : (s : ScriptData) (count : List Entry → Count) (G : Premise) → IsCounting s count G → IsSteady s count
     → (past : List Entry) (e : Entry) (valid : IsValid s) (run : IsStepRun s (e ∷ past)) → AllApt s past → Bound s past (count past)
     → Frozen s past e → AllRowless e.sent → CountStep s.nodes (count past) (count (e ∷ past)) e.took.from.0 e.took.body e.sent
     → Bound s (e ∷ past) (count (e ∷ past))
@@ -370,7 +370,7 @@ stands s count steady past e reads valid run apt none quiet at away (Obeys p out
           (wakes_exact s (e ∷ past) v r p more (are_wakes e.took.body more woken))));
     }
 
-bound_away : (s : ScriptData) (count : List Entry → Count) (G : Bool → ℕ → List Entry → Type 0) → IsCounting s count G → IsSteady s count
+bound_away : (s : ScriptData) (count : List Entry → Count) (G : Premise) → IsCounting s count G → IsSteady s count
     → (past : List Entry) (e : Entry) (valid : IsValid s) (run : IsStepRun s (e ∷ past)) → AllApt s (e ∷ past) → e.actor.0 ≢ s.nodes
     → Progress s past e → Bound s past (count past) → Bound s (e ∷ past) (count (e ∷ past))
 bound_away s count G view steady past e valid run apt away next was =
@@ -387,7 +387,7 @@ bound_away s count G view steady past e valid run apt away next was =
       pausing = λ at. omega (arith, was.pausing at, step, calm);
     })
 
-bound_next : (s : ScriptData) (count : List Entry → Count) (G : Bool → ℕ → List Entry → Type 0) → IsCounting s count G → IsSteady s count
+bound_next : (s : ScriptData) (count : List Entry → Count) (G : Premise) → IsCounting s count G → IsSteady s count
     → (past : List Entry) (e : Entry) (valid : IsValid s) (run : IsStepRun s (e ∷ past)) → AllApt s (e ∷ past) → Progress s past e
     → Bound s past (count past) → Bound s (e ∷ past) (count (e ∷ past))
 bound_next s count G view steady past e valid run apt (Coordinates tells at made) was =
@@ -405,7 +405,7 @@ bound_next s count G view steady past e valid run apt (Obeys p out more at lt or
     bound_away s count G view steady past e valid run apt (omega (arith, at, lt)) (Obeys p out more at lt order state is woken) was
 
 -- in every run
-pub rows_bound : (s : ScriptData) (count : List Entry → Count) (G : Bool → ℕ → List Entry → Type 0) → IsCounting s count G → IsSteady s count
+pub rows_bound : (s : ScriptData) (count : List Entry → Count) (G : Premise) → IsCounting s count G → IsSteady s count
     → (past : List Entry) (valid : IsValid s) (run : IsStepRun s past) → AllApt s past → Bound s past (count past)
 rows_bound s count G view steady [] valid run apt = record {
   counts = λ x at. absurd (none_in_round (count []).pace x view.start at);
