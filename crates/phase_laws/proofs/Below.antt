@@ -15,6 +15,7 @@ use Rattle.world_model.proofs.Every.{coordinator_kept}
 use Rattle.phase_laws.proofs.Lawful.{IsLawful}
 use Rattle.phase_laws.proofs.Levels.{Level, Levels, levels, most_low, tells}
 use Rattle.phase_laws.proofs.Outcomes.{Outcome, Rests, Queues, Flags, Turns, Acks, LastTurned, LastShown, Finishes, GoesOn, Resumes, KeepsDone, KeepsAsked, Agrees, Recounts, Pauses, TakesAsked, asked_kept}
+use Rattle.phase_laws.proofs.Progress.{coordinates}
 use Rattle.phase_laws.proofs.Small.{outcome_in}
 use Rattle.phase_laws.proofs.Tokens.{TurnStage, ShowStage, SweepStage}
 use Rattle.phase_laws.specs.Balance.{IsBalanced, HasLeft, out}
@@ -172,10 +173,10 @@ below_next s past e laws run apt was (SendsDone v k lt bd sent same) =
 below_next s past e laws run apt was (SendsAsked v k lt bd sent same) =
     below_kept s past e (coordinator_in s (e ∷ past)) laws run apt was
     (ap floor (coordinator_kept s past e (λ eq. omega (arith, eq, lt))))
-below_next s past e laws run apt was (SendsOrders tells at made) =
+below_next s past e laws run apt was (SendsOrders at rowless) =
     let c = coordinator_in s past in
     let row = coordinator_row c e.took.from.0 e.took.body in
-    subst (IsSilentBelow s (e ∷ past)) (sym made.state)
+    subst (IsSilentBelow s (e ∷ past)) (sym (coordinates s past e run.0 at).state)
     (below_by s past e row laws run apt was
     (floor_next c e.took.from.0 e.took.body row (outcome_in s past e laws run.1 apt.1)))
 

@@ -31,7 +31,7 @@ use Rattle.phase_laws.proofs.Lawful.{IsLawful}
 use Rattle.world_model.proofs.Nexts.{Order, Turns, Shows, Sweeps, TellsDone, TellsAsked}
 use Rattle.world_model.proofs.Orders.{coordinator_each}
 use Rattle.phase_laws.proofs.Brought.{BringsTo, IsAsking, brought_meant, brought_outstanding, brought_to, each_of_brought, sender_below}
-use Rattle.phase_laws.proofs.Progress.{Begins, Coordinates, Ends, Hears, IsWake, Obeys, Progress, WakesFor, Works, are_wakes, itself, progress}
+use Rattle.phase_laws.proofs.Progress.{Begins, Coordinates, Ends, Hears, IsWake, Obeys, Progress, WakesFor, Works, are_wakes, coordinates, itself, progress}
 use Rattle.phase_laws.proofs.Working.{SentIn, done_version}
 use Rattle.phase_laws.proofs.Levels.{IsOrder, Levels, levels, most_read, order_timely}
 use Rattle.phase_laws.proofs.Outcomes.{update_next}
@@ -193,10 +193,10 @@ update_rises s past e laws run apt (SendsDone v k lt bd sent kept) =
     let same = ap (λ (c : _). c.update) (coordinator_kept s past e (λ eq. omega (arith, eq, lt))) in omega (arith, same)
 update_rises s past e laws run apt (SendsAsked v k lt bd sent kept) =
     let same = ap (λ (c : _). c.update) (coordinator_kept s past e (λ eq. omega (arith, eq, lt))) in omega (arith, same)
-update_rises s past e laws run apt (SendsOrders tells at made) =
+update_rises s past e laws run apt (SendsOrders at rowless) =
     let c = coordinator_in s past in
     let row = coordinator_row c e.took.from.0 e.took.body in
-    let same = ap (λ (d : _). d.update) made.state in
+    let same = ap (λ (d : _). d.update) (coordinates s past e run.0 at).state in
     let rise =
     one_of row.state.update c.update
     (update_next c e.took.from.0 e.took.body row (outcome_in s past e laws run.1 apt)) in

@@ -17,6 +17,8 @@ pub mod CoreCounts
 pub mod Balance
 pub mod Sending
 pub mod Silence
+pub mod Counting
+pub mod CoordinatorCounts
 pub mod Steps
 pub mod Waves
 pub mod Rounds

@@ -23,7 +23,7 @@ use Rattle.world_model.specs.Core.{Core, in_core}
 use Rattle.world_model.specs.Counts.{Each}
 use Rattle.world_model.specs.Kept.{kept_in}
 use Rattle.world_model.specs.Node.{Node}
-use Rattle.world_model.specs.Runs.{IsStepRun, Says, client_in, coordinator_in, keeping_in, node_in}
+use Rattle.world_model.specs.Runs.{AtClient, AtCoordinator, AtNode, IsStepRun, MayFollow, Moves, Says, client_in, coordinator_in, keeping_in, node_in}
 use Rattle.world_model.specs.Strict.{CoreKeeping, core_keeping, core_row}
 use Rattle.world_model.specs.Tables.{client_table, coordinator_table}
 use Rattle.world_model.proofs.Cases.{Brings, Case, Coordinates as ByCoordinator, Does, Keeps, NodeDoes, NodeKeeps, Submits, case}
@@ -164,6 +164,15 @@ made_by_coordinator s past e at says = record {
   sent = says.0;
   acts = says.1 ∙ no_acts (coordinator_in s past) e.took.from.0 e.took.body;
 }
+
+-- so each entry of the coordinator
+made_by : (s : ScriptData) (past : List Entry) (e : Entry) → e.actor.0 ≡ s.nodes → Moves s past e → MadeByCoordinator s past e
+made_by s past e at (AtNode lt says) = absurd (omega (arith, at, lt))
+made_by s past e at (AtCoordinator there says) = made_by_coordinator s past e at says
+made_by s past e at (AtClient there says) = absurd (omega (arith, at, there))
+
+pub coordinates : (s : ScriptData) (past : List Entry) (e : Entry) → MayFollow s past e → e.actor.0 ≡ s.nodes → MadeByCoordinator s past e
+coordinates s past e m at = made_by s past e at m.moves
 
 -- A letter that is brought.
 pub brings_to : (s : ScriptData) (past : List Entry) (e : Entry) (p : ℕ) (r : Letter) → Brings s past e p r → BringsTo s past e p r

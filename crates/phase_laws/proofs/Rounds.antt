@@ -12,80 +12,40 @@ use Rattle.letter_types.specs.declared.entries.Entry.{Entry}
 use Rattle.letter_types.specs.declared.entries.Letter.{Letter}
 use Rattle.letter_types.specs.declared.entries.LetterId.{LetterId}
 use Rattle.letter_types.specs.declared.entries.Outgoing.{Outgoing}
-use Rattle.letter_types.specs.Steps.{Out}
 use Rattle.tv_base.specs.declared.numbers.Version.{Version}
 use Rattle.phase_out.specs.Rounds.{NodeRows, RoundData, agrees, all_in, is_of, kept_number, new_round, number_at, verdict_of}
 use Rattle.phase_out.proofs.Verdicts.{differs-none}
 use Rattle.tx_trees.specs.ScriptData.{ScriptData}
-use Rattle.world_model.specs.Coordinator.{Coordinator, to_nodes, counted_version, keep_done, with_asked, with_done, coordinator_row}
-use Rattle.world_model.specs.declared.phase.Phase.{Phase}
-use Rattle.world_model.specs.declared.phase.Phase.TheVariants.{Idle, Counting}
+use Rattle.world_model.specs.Coordinator.{counted_version, to_nodes, with_asked, with_done}
 use Rattle.world_model.specs.Counts.{Each, one_if, tally}
 use Rattle.world_model.specs.Runs.{coordinator_in, node_in, in_flight, MayFollow, IsStepRun}
 use Rattle.world_model.specs.AllApt.{AllApt}
 use Rattle.world_model.proofs.Bags.{tally-drop}
-use Rattle.world_model.proofs.Every.{coordinator_kept, each_map, each_step, each_taken, each_zero}
+use Rattle.world_model.proofs.Every.{each_map, each_step, each_taken, each_zero}
 use Rattle.phase_laws.proofs.Lawful.{IsLawful}
-use Rattle.world_model.proofs.Nexts.{MadeByCoordinator}
-use Rattle.world_model.proofs.Orders.{coordinator_each, coordinator_nodes}
-use Rattle.phase_laws.proofs.Levels.{Level, Levels, levels, tells}
-use Rattle.phase_laws.proofs.Current.{counts_not, current}
-use Rattle.phase_laws.proofs.Outcomes.{TakesAsked, asked_kept}
-use Rattle.phase_laws.proofs.Tokens.{TurnStage, ShowStage, SweepStage}
+use Rattle.phase_laws.proofs.CoordinatorCounts.{Always, coordinator_counts, count_in, takes_row, versioned}
+use Rattle.phase_laws.proofs.Counting.{Count, CountStep, Denies, Holds, IsCounting, IsNudged, InRound, Lasts, Leaves, Begins, TakesDone, TakesRequests, TakesRow, asks_after, count_asked, count_done, none_in_round, paused_in_round, Premise}
+use Rattle.phase_laws.proofs.Outcomes.{TakesAsked}
 use Rattle.phase_laws.specs.Balance.{out}
 use Rattle.phase_laws.specs.Quiet.{IsSilent}
 use Rattle.phase_laws.proofs.Balance.{balanced_at}
-use Rattle.phase_laws.proofs.Sending.{IsApart, Sending, SendsApart, SendsDone, SendsAsked, SendsOrders, sending}
+use Rattle.phase_laws.proofs.Sending.{AllRowless, IsApart, IsRowless, Sending, SendsApart, SendsDone, SendsAsked, SendsOrders, sending}
 use Rattle.phase_laws.proofs.Silence.{Closed, asked_grows, done_grows, silent_or_not, silent_stays}
-use Rattle.phase_laws.proofs.Steps.{Fresh, RoundStep, Keeps, Leaves, Begins, TakesDone, TakesRequests, RowBody, fresh, numbers_at, row_later, rows_true, step_in}
-use Rattle.phase_laws.proofs.Waves.{NoRow, asks_once, first_none, first_wave, flow_of, going, in_at, is_first, is_in, is_in_most, is_second, leaving, missing_before, no_first, no_second, none_in, none_kept, not_in, plain_none, second_none, second_wave, set_get, wave_kept}
-
--- no root is born in the version, and no node has left it
-pub record Open (s : ScriptData) (past : List Entry) (v : ℕ) : Type 0 where
-  pub closed : Closed s past v
-  pub low : (p : ℕ) → p < s.nodes → (node_in s past p).turns.low.0 ≤ v
-
-open_by : (s : ScriptData) (past : List Entry) (reads : Bool) → Levels s past
-    → (coordinator_in s past).phase ≡ Counting reads
-    → Open s past (counted_version reads (coordinator_in s past)).0
-open_by s past true all at =
-    let level = λ (p : ℕ) (lt : p < s.nodes).
-    subst (λ (phase : Phase). Level phase (coordinator_in s past).update
-    (node_in s past p).turns.update.0 (node_in s past p).turns.read.0 (node_in s past p).turns.low.0
-    (tells s past TurnStage p) (tells s past ShowStage p) (tells s past SweepStage p)) at (all.node p lt) in
-    record {
-      closed = λ p lt.
-          ((λ eq. omega (arith, level p lt, all.first, eq)), (λ eq. omega (arith, level p lt, all.first, eq)));
-      low = λ p lt. omega (arith, level p lt);
-    }
-open_by s past false all at =
-    let level = λ (p : ℕ) (lt : p < s.nodes).
-    subst (λ (phase : Phase). Level phase (coordinator_in s past).update
-    (node_in s past p).turns.update.0 (node_in s past p).turns.read.0 (node_in s past p).turns.low.0
-    (tells s past TurnStage p) (tells s past ShowStage p) (tells s past SweepStage p)) at (all.node p lt) in
-    record {
-      closed = λ p lt.
-          ((λ eq. omega (arith, level p lt, all.first, eq)), (λ eq. omega (arith, level p lt, all.first, eq)));
-      low = λ p lt. omega (arith, level p lt);
-    }
+use Rattle.phase_laws.proofs.Steps.{Fresh, RowBody, none_later, numbers_at, row_later, rows_true, shaped}
+use Rattle.phase_laws.proofs.Waves.{NoRow, asks_once, first_none, first_wave, flow_of, going, in_at, is_first, is_in, is_in_most, is_second, leaving, missing_before, no_first, no_second, none_in, none_kept, not_in, second_none, second_wave, set_get, wave_kept}
 
 -- no node has left version v
 abbrev LowIn : ScriptData → List Entry → ℕ → Type 0
 LowIn s past v = (p : ℕ) → p < s.nodes → (node_in s past p).turns.low.0 ≤ v
 
--- while a round is counted, its version is open
-pub open_in : (s : ScriptData) (past : List Entry) (reads : Bool) → IsLawful s → IsStepRun s past → AllApt s past
-    → (coordinator_in s past).phase ≡ Counting reads → Open s past (coordinator_in s past).current.version.0
-open_in s past reads laws run apt at =
-    subst (Open s past) (sym (ap (λ (v : Version). v.0) (current s past laws run apt reads at).version))
-    (open_by s past reads (levels s past laws run apt) at)
-
--- so no node has left it, where this is the coordinator
-low_in : (s : ScriptData) (past : List Entry) (c : Coordinator) (reads : Bool) → IsLawful s → IsStepRun s past
-    → AllApt s past → coordinator_in s past ≡ c → c.phase ≡ Counting reads → LowIn s past c.current.version.0
-low_in s past c reads laws run apt is at =
-    subst (λ (d : Coordinator). LowIn s past d.current.version.0) is
-    (open_in s past reads laws run apt (ap (λ (d : Coordinator). d.phase) is ∙ at)).low
+-- while a round is counted, no node has left its version, where this is the count
+low_in : (s : ScriptData) (count : List Entry → Count) (G : Premise) → IsCounting s count G
+    → (past : List Entry) (c : Count) (reads : Bool) → IsStepRun s past → AllApt s past → count past ≡ c → c.pace ≡ InRound reads
+    → G reads c.round.version.0 past → LowIn s past c.round.version.0
+low_in s count G view past c reads run apt is at given =
+    subst (λ (d : Count). LowIn s past d.round.version.0) is
+    (view.opens reads past run apt (ap (λ (d : Count). d.pace) is ∙ at)
+    (subst (λ (d : Count). G reads d.round.version.0 past) (sym is) given)).low
 
 -- a row of requests of this round from p is at least b at q
 abbrev pub AtLeast : ℕ → ℕ → ℕ → ℕ → ℕ → ℕ → Body → Type 0
@@ -122,18 +82,14 @@ apart_at_least : (number v p q b a : ℕ) (body : Body) → IsApart body → AtL
 apart_at_least number v p q b a (AskedRow w k row) apart = absurd apart
 apart_at_least number v p q b a _ apart = tt
 
-orders_at_least : (s : ScriptData) (past : List Entry) (e : Entry) (number v p q b : ℕ) → MadeByCoordinator s past e
-    → SentAtLeast number v p q b e.actor.0 e.sent
-orders_at_least s past e number v p q b made =
-    subst (SentAtLeast number v p q b e.actor.0) (sym made.sent)
-    (coordinator_each (λ to body. LetterId → AtLeast number v p q b e.actor.0 body) (coordinator_in s past) (record {
-      turn = λ to w lt i. tt;
-      show = λ to w lt i. tt;
-      sweep = λ to w lt i. tt;
-      ask_done = λ to w k lt i. tt;
-      ask_asked = λ to w k lt i. tt;
-      advanced = λ w i. tt;
-    }) e.took.from.0 e.took.body)
+rowless_at_least : (number v p q b a : ℕ) (body : Body) → IsRowless body → AtLeast number v p q b a body
+rowless_at_least number v p q b a (AskedRow w k row) none = absurd none
+rowless_at_least number v p q b a _ none = tt
+
+orders_at_least : (number v p q b a : ℕ) (os : List Outgoing) → AllRowless os → SentAtLeast number v p q b a os
+orders_at_least number v p q b a os all =
+    each_map (λ (o : Outgoing). IsRowless o.body) (λ (o : Outgoing). (i : LetterId) → AtLeast number v p q b a o.body) os
+    (λ o none i. rowless_at_least number v p q b a o.body none) all
 
 sent_at_least : (s : ScriptData) (past : List Entry) (e : Entry) (number v p q b : ℕ) → q < s.nodes
     → b ≤ (node_in s past p).counts.asked v q → Sending s past e → SentAtLeast number v p q b e.actor.0 e.sent
@@ -152,7 +108,7 @@ sent_at_least s past e number v p q b lt now (SendsAsked w k node bd sent same) 
           omega (arith, here, now, numbers_at s.nodes ((node_in s past e.actor.0).counts.asked w.0) q lt)),
       tt,
     )
-sent_at_least s past e number v p q b lt now (SendsOrders tells at made) = orders_at_least s past e number v p q b made
+sent_at_least s past e number v p q b lt now (SendsOrders at rowless) = orders_at_least number v p q b e.actor.0 e.sent rowless
 
 -- a pair that differs does so after any entry, with these rows of requests
 differs_goes : (s : ScriptData) (past : List Entry) (e : Entry) (r : RoundData) (ks : NodeRows) → IsLawful s
@@ -338,15 +294,12 @@ done_found s past e r v k row true m was places bd ks lt rest full =
 done_found s past e r v k row false m was places bd ks lt rest missing = rest missing
 
 -- the round takes a row of completions
-round_takes : (s : ScriptData) (past : List Entry) (e : Entry) (r : RoundData) (n : ℕ) (v : Version) (k : ℕ)
-    (row : List ℕ)
+round_takes : (s : ScriptData) (past : List Entry) (e : Entry) (r : RoundData) (v : Version) (k : ℕ) (row : List ℕ)
     → IsLawful s → IsStepRun s (e ∷ past) → AllApt s (e ∷ past) → LowIn s (e ∷ past) r.version.0 → Round s past r
     → length r.dones ≡ s.nodes → e.took.body ≡ DoneRow v k row → v.0 ≡ r.version.0 → k ≡ r.number
-    → e.took.from.0 < s.nodes → MadeByCoordinator s past e
-    → e.sent ≡ (if all_in (slice_set r.dones e.took.from.0 (Some row)) && not (all_in r.dones) then to_nodes n
-    (AskAsked r.version r.number) else [])
+    → e.took.from.0 < s.nodes → AllRowless e.sent → e.sent ≡ asks_after s.nodes e.took.from.0 row r
     → Round s (e ∷ past) (with_done e.took.from.0 row r)
-round_takes s past e r n v k row laws run apt low was places bd vs ks lt made sent =
+round_takes s past e r v k row laws run apt low was places bd vs ks lt rowless sent =
     let m = run.0 in
     let from = e.took.from.0 in
     let full = all_in (slice_set r.dones from (Some row)) in
@@ -360,12 +313,12 @@ round_takes s past e r n v k row laws run apt low was places bd vs ks lt made se
     (λ (l : Letter). AtLeast r.number r.version.0 p q b l.from.0 l.body) (in_flight s past)
     (λ l is. clean_letter r.number r.version.0 p q b l.from.0 l.to.0 l.body is)
     (each_zero (λ (l : Letter). second_wave r.number l.from.0 l.to.0 l.body) (in_flight s past) clear))
-    (orders_at_least s past e r.number r.version.0 p q b made) in
+    (orders_at_least r.number r.version.0 p q b e.actor.0 e.sent rowless) in
     record {
       once = λ q lq.
           let none : tally (leaving (first_wave r.number q) e.actor.0) e.sent ≡ 0 =
           ap (λ (os : List Outgoing). tally (leaving (first_wave r.number q) e.actor.0) os) sent
-          ∙ no_first r.number q e.actor.0 n r.version r.number (full && not (all_in r.dones)) in
+          ∙ no_first r.number q e.actor.0 s.nodes r.version r.number (full && not (all_in r.dones)) in
           once_by s past e r v k row q (going (first_wave r.number q) s (e ∷ past)) was bd ks lq
           (omega (arith, flow_of (first_wave r.number q) s past e m, none)) (cases_eq from q);
       kept = λ q row' lq at p lp. rows q row' lq at p lp;
@@ -373,7 +326,7 @@ round_takes s past e r n v k row laws run apt low was places bd vs ks lt made se
           let before = was.clean (missing_before r.dones from row missing) in
           let none : tally (leaving (second_wave r.number) e.actor.0) e.sent ≡ 0 =
           ap (λ (os : List Outgoing). tally (leaving (second_wave r.number) e.actor.0) os) sent
-          ∙ no_asks r.number e.actor.0 n r.version r.number full (not (all_in r.dones)) missing in
+          ∙ no_asks r.number e.actor.0 s.nodes r.version r.number full (not (all_in r.dones)) missing in
           (omega (arith, flow_of (second_wave r.number) s past e m, before.0, none), before.1);
       found = λ now. done_found s past e r v k row (all_in r.dones) m was places bd ks lt
           (λ missing. let before = was.clean missing in
@@ -383,38 +336,36 @@ round_takes s past e r n v k row laws run apt low was places bd vs ks lt made se
     }
 
 -- A round begins.
-round_begins : (s : ScriptData) (past : List Entry) (e : Entry) (v : Version) (k r0 n : ℕ) → MayFollow s past e
-    → n ≡ s.nodes → r0 < k
-    → Fresh s past (coordinator_in s past) → (coordinator_in s past).round ≡ r0 → e.sent ≡ to_nodes n (AskDone v k)
-    → Round s (e ∷ past) (new_round v k n)
-round_begins s past e v k r0 n m same lt new is sent = record {
+round_begins : (s : ScriptData) (past : List Entry) (e : Entry) (c : Count) (v : Version) (k : ℕ) → MayFollow s past e
+    → c.number < k → Fresh s past c → e.sent ≡ to_nodes s.nodes (AskDone v k) → Round s (e ∷ past) (new_round v k s.nodes)
+round_begins s past e c v k m lt new sent = record {
   once = λ q lq.
       let out : tally (leaving (first_wave k q) e.actor.0) e.sent ≡ tally (leaving (first_wave k q) e.actor.0)
-      (to_nodes n (AskDone v k)) =
+      (to_nodes s.nodes (AskDone v k)) =
       ap (λ (os : List Outgoing). tally (leaving (first_wave k q) e.actor.0) os) sent in
       omega (
         arith,
         out,
-        asks_once k q e.actor.0 n v k,
+        asks_once k q e.actor.0 s.nodes v k,
         flow_of (first_wave k q) s past e m,
-        first_none s past k (coordinator_in s past).round q new.letters (omega (arith, is, lt)),
-        not_in n q,
+        first_none s past k c.number q new.letters lt,
+        not_in s.nodes q,
       );
-  kept = λ q row lq at p lp. absurd (none_kept n q row at);
+  kept = λ q row lq at p lp. absurd (none_kept s.nodes q row at);
   clean = λ missing.
       let out : tally (leaving (second_wave k) e.actor.0) e.sent ≡ tally (leaving (second_wave k) e.actor.0)
-      (to_nodes n (AskDone v k)) =
+      (to_nodes s.nodes (AskDone v k)) =
       ap (λ (os : List Outgoing). tally (leaving (second_wave k) e.actor.0) os) sent in (
         omega (
           arith,
           out,
-          no_second k e.actor.0 n v k,
+          no_second k e.actor.0 s.nodes v k,
           flow_of (second_wave k) s past e m,
-          second_none s past k (coordinator_in s past).round new.letters (omega (arith, is, lt)),
+          second_none s past k c.number new.letters lt,
         ),
-        none_kept n,
+        none_kept s.nodes,
       );
-  found = λ full. inl (λ p q lp lq. let none = none_in n full in absurd (omega (arith, none, same, lp)));
+  found = λ full. inl (λ p q lp lq. let none = none_in s.nodes full in absurd (omega (arith, none, lp)));
 }
 
 -- A row of requests is taken.
@@ -447,102 +398,106 @@ asked_at_least : (s : ScriptData) (past : List Entry) (e : Entry) (r : RoundData
 asked_at_least s past e r v k row row' x m bd vs ks at =
     asked_by s past e r v k row row' x m bd vs ks (set_get r.askeds e.took.from.0 x.p (Some row) (Some row') at)
 
--- In every run: while a round is counted, it holds what a round does.
-abbrev pub Rounds : ScriptData → List Entry → Coordinator → Type 0
-Rounds s past c = (reads : Bool) → c.phase ≡ Counting reads → Round s past c.current
+-- In every run: while a round is counted, it holds what a round does, where G holds of its version.
+abbrev pub Rounds : Premise → ScriptData → List Entry → Count → Type 0
+Rounds G s past c = (reads : Bool) → c.pace ≡ InRound reads → G reads c.round.version.0 past → Round s past c.round
 
-rounds_away : (s : ScriptData) (past : List Entry) (e : Entry) → IsLawful s → IsStepRun s (e ∷ past)
-    → AllApt s (e ∷ past) → e.actor.0 ≢ s.nodes → Rounds s past (coordinator_in s past)
-    → Rounds s (e ∷ past) (coordinator_in s (e ∷ past))
-rounds_away s past e laws run apt away was =
-    let c = coordinator_in s past in
-    let r = c.current in
-    let same = coordinator_kept s past e away in
-    let sends = sending s past e laws run apt in
+rounds_away : (s : ScriptData) (count : List Entry → Count) (G : Premise) → IsCounting s count G
+    → (past : List Entry) (e : Entry) → IsStepRun s (e ∷ past) → AllApt s (e ∷ past) → e.actor.0 ≢ s.nodes
+    → Rounds G s past (count past) → Rounds G s (e ∷ past) (count (e ∷ past))
+rounds_away s count G view past e run apt away was =
+    let c = count past in
+    let r = c.round in
+    let same = view.stays past e away in
+    let sends = sending s past e view.lawful run apt in
     let first = λ (q : ℕ). wave_kept (first_wave r.number q) (is_first r.number q) s past e run.0 away sends in
     let second = wave_kept (second_wave r.number) (is_second r.number) s past e run.0 away sends in
-    subst (Rounds s (e ∷ past)) (sym same) (λ reads at.
-    round_goes s past e r r.askeds laws run apt
-    (open_in s past reads laws run.1 apt.1 at).closed (low_in s (e ∷ past) c reads laws run apt same at)
+    subst (Rounds G s (e ∷ past)) (sym same) (λ reads at given.
+    let before = view.back reads r.version.0 past e run given in
+    round_goes s past e r r.askeds view.lawful run apt
+    (view.opens reads past run.1 apt.1 at before).closed (low_in s count G view (e ∷ past) c reads run apt same at given)
     (λ q. omega (arith, first q)) (omega (arith, second))
-    (λ missing none. none) (λ x row at'. x.kept row at') (was reads at))
+    (λ missing none. none) (λ x row at'. x.kept row at') (was reads at before))
 
--- what the coordinator's step makes of its round
-rounds_by : (s : ScriptData) (past : List Entry) (e : Entry) (o : Out Coordinator) → IsLawful s → IsStepRun s (e ∷ past)
-    → AllApt s (e ∷ past) → MadeByCoordinator s past e → coordinator_in s (e ∷ past) ≡ o.state → e.sent ≡ o.sent
-    → Rounds s past (coordinator_in s past) → RoundStep (coordinator_in s past) e.took.from.0 e.took.body o
-    → Rounds s (e ∷ past) o.state
-rounds_by s past e o laws run apt made now sent was (Leaves phase round number plain) = λ reads at.
-    absurd (counts_not o.state.phase reads phase at)
-rounds_by s past e o laws run apt made now sent was (Keeps same round counting plain) = λ reads at.
-    let r = (coordinator_in s past).current in
-    let before = counting reads at in
-    let low : LowIn s (e ∷ past) r.version.0 =
-    subst (λ (x : RoundData). LowIn s (e ∷ past) x.version.0) same
-    (low_in s (e ∷ past) o.state reads laws run apt now at) in
-    let none = λ (f : _) (wave : _). ap (λ (os : List Outgoing). tally (leaving f e.actor.0) os) sent
-    ∙ plain_none f wave e.actor.0 o.sent plain in
-    let first = λ (q : ℕ). none (first_wave r.number q) (is_first r.number q) in
-    let second = none (second_wave r.number) (is_second r.number) in
-    subst (Round s (e ∷ past)) (sym same) (round_goes s past e r r.askeds laws run apt
-    (open_in s past reads laws run.1 apt.1 before).closed low
+-- a round goes on where nothing is sent, with these rows of requests
+round_quiet : (s : ScriptData) (count : List Entry → Count) (G : Premise) → IsCounting s count G
+    → (past : List Entry) (e : Entry) (reads : Bool) (ks : NodeRows) → IsStepRun s (e ∷ past) → AllApt s (e ∷ past)
+    → (count past).pace ≡ InRound reads → LowIn s (e ∷ past) (count past).round.version.0
+    → G reads (count past).round.version.0 (e ∷ past) → e.sent ≡ []
+    → (all_in (count past).round.dones ≡ false → NoRow (count past).round.askeds → NoRow ks)
+    → ((x : Differs s past (count past).round) (row : List ℕ) → slice_get ks x.p ≡ Some (Some row) → x.b ≤ slice_index row x.q)
+    → Rounds G s past (count past) → Round s (e ∷ past) (record (count past).round { askeds = ks })
+round_quiet s count G view past e reads ks run apt at low given sent none kept was =
+    let r = (count past).round in
+    let before = view.back reads r.version.0 past e run given in
+    let quiet = λ (f : _). ap (λ (os : List Outgoing). tally (leaving f e.actor.0) os) sent in
+    let first = λ (q : ℕ). quiet (first_wave r.number q) in
+    let second = quiet (second_wave r.number) in
+    round_goes s past e r ks view.lawful run apt (view.opens reads past run.1 apt.1 at before).closed low
     (λ q. omega (arith, first q, flow_of (first_wave r.number q) s past e run.0))
-    (omega (arith, second, flow_of (second_wave r.number) s past e run.0))
-    (λ missing clear. clear) (λ x row at'. x.kept row at') (was reads before))
-rounds_by s past e o laws run apt made now sent was (Begins reads d nodes is) =
-    let c = coordinator_in s past in
-    subst (λ (x : Out Coordinator). Rounds s (e ∷ past) x.state) (sym is) (λ other at.
-    round_begins s past e (counted_version reads d) (c.round + 1) c.round d.nodes run.0 (nodes ∙ coordinator_nodes s past)
-    (omega arith) (fresh s past laws run.1 apt.1) refl (sent ∙ ap (λ (x : Out Coordinator). x.sent) is))
-rounds_by s past e o laws run apt made now sent was (TakesDone reads v k row at bd of is) =
-    let c = coordinator_in s past in
-    let r = c.current in
-    let d = (keep_done e.took.from.0 row c).state in
-    subst (λ (x : Out Coordinator). Rounds s (e ∷ past) x.state) (sym is) (λ other at'.
-    let here = current s past laws run.1 apt.1 other at' in
-    let parts = is_of_parts e.took.from.0 v k row r of in
-    round_takes s past e r c.nodes v k row laws run apt
-    (low_in s (e ∷ past) d other laws run apt (now ∙ ap (λ (x : Out Coordinator). x.state) is) at') (was other at')
-    (here.dones ∙ coordinator_nodes s past) bd parts.0 parts.1
-    (omega (arith, parts.2, here.nodes, coordinator_nodes s past)) made
-    (sent ∙ ap (λ (x : Out Coordinator). x.sent) is))
-rounds_by s past e o laws run apt made now sent was (TakesRequests reads v k row takes is) =
-    let c = coordinator_in s past in
-    let r = c.current in
-    let d = asked_kept e.took.from.0 row c in
-    let none = λ (f : _). ap (λ (os : List Outgoing). tally (leaving f e.actor.0) os)
-    (sent ∙ ap (λ (x : Out Coordinator). x.sent) is) in
-    let first = λ (q : ℕ). none (first_wave r.number q) in
-    let second = none (second_wave r.number) in
-    subst (λ (x : Out Coordinator). Rounds s (e ∷ past) x.state) (sym is) (λ other at'.
+    (omega (arith, second, flow_of (second_wave r.number) s past e run.0)) none kept (was reads at before)
+
+-- what a step of the count makes of its round
+rounds_by : (s : ScriptData) (count : List Entry → Count) (G : Premise) → IsCounting s count G
+    → (past : List Entry) (e : Entry) → IsStepRun s (e ∷ past) → AllApt s (e ∷ past) → AllRowless e.sent → Rounds G s past (count past)
+    → CountStep s.nodes (count past) (count (e ∷ past)) e.took.from.0 e.took.body e.sent → Rounds G s (e ∷ past) (count (e ∷ past))
+rounds_by s count G view past e run apt rowless was (Leaves none le plain) = λ reads at given.
+    absurd (none_in_round (count (e ∷ past)).pace reads none at)
+rounds_by s count G view past e run apt rowless was (Holds reads at calm refused is sent) =
+    let c = count past in
+    subst (Rounds G s (e ∷ past)) (sym is) (λ other now given.
+    round_quiet s count G view past e other c.round.askeds run apt now
+    (low_in s count G view (e ∷ past) c other run apt is now given) given sent
+    (λ missing clear. clear) (λ x row at'. x.kept row at') was)
+rounds_by s count G view past e run apt rowless was (IsNudged reads at bd is sent) =
+    let c = count past in
+    subst (Rounds G s (e ∷ past)) (sym is) (λ other now given.
+    round_quiet s count G view past e other c.round.askeds run apt now
+    (low_in s count G view (e ∷ past) (record c { flag = true }) other run apt is now given) given sent
+    (λ missing clear. clear) (λ x row at'. x.kept row at') was)
+rounds_by s count G view past e run apt rowless was (Lasts at calm is sent) =
+    subst (Rounds G s (e ∷ past)) (sym is) (λ other now given. absurd (paused_in_round (count past).pace other at now))
+rounds_by s count G view past e run apt rowless was (Begins reads v k lt none is sent) =
+    subst (Rounds G s (e ∷ past)) (sym is) (λ other now given.
+    round_begins s past e (count past) v k run.0 lt (none_later s count G view past run.1 apt.1) sent)
+rounds_by s count G view past e run apt rowless was (TakesDone reads v k row at bd here is sent) =
+    let c = count past in
+    let r = c.round in
+    let parts = is_of_parts e.took.from.0 v k row r here in
+    subst (Rounds G s (e ∷ past)) (sym is) (λ other now given.
+    let shape = shaped s count G view past run.1 apt.1 other now in
+    round_takes s past e r v k row view.lawful run apt
+    (low_in s count G view (e ∷ past) (count_done e.took.from.0 row c) other run apt is now given)
+    (was other now (view.back other r.version.0 past e run given)) shape.dones bd parts.0 parts.1
+    (omega (arith, parts.2, shape.nodes)) rowless sent)
+rounds_by s count G view past e run apt rowless was (TakesRequests reads v k row takes verdict is sent) =
+    let c = count past in
+    let r = c.round in
     let parts = is_of_parts e.took.from.0 v k row r takes.here in
-    round_goes s past e r (slice_set r.askeds e.took.from.0 (Some row)) laws run apt
-    (open_in s past other laws run.1 apt.1 at').closed
-    (low_in s (e ∷ past) d other laws run apt (now ∙ ap (λ (x : Out Coordinator). x.state) is) at')
-    (λ q. omega (arith, first q, flow_of (first_wave r.number q) s past e run.0))
-    (omega (arith, second, flow_of (second_wave r.number) s past e run.0))
+    subst (Rounds G s (e ∷ past)) (sym is) (λ other now given.
+    round_quiet s count G view past e other (slice_set r.askeds e.took.from.0 (Some row)) run apt now
+    (low_in s count G view (e ∷ past) (count_asked e.took.from.0 row c) other run apt is now given) given sent
     (λ missing clear. absurd (cc (missing, takes.after_dones)))
-    (λ x row' at''. asked_at_least s past e r v k row row' x run.0 takes.body_is parts.0 parts.1 at'') (was other at'))
+    (λ x row' at. asked_at_least s past e r v k row row' x run.0 takes.body_is parts.0 parts.1 at) was)
+rounds_by s count G view past e run apt rowless was (Denies reads v k row takes verdict clear is sent) =
+    subst (Rounds G s (e ∷ past)) (sym is) (λ other now given. absurd (cc now))
 
-rounds_next : (s : ScriptData) (past : List Entry) (e : Entry) → IsLawful s → IsStepRun s (e ∷ past)
-    → AllApt s (e ∷ past)
-    → Rounds s past (coordinator_in s past) → Sending s past e → Rounds s (e ∷ past) (coordinator_in s (e ∷ past))
-rounds_next s past e laws run apt was (SendsApart away plain all) = rounds_away s past e laws run apt away was
-rounds_next s past e laws run apt was (SendsDone v k lt bd sent same) =
-    rounds_away s past e laws run apt (λ eq. omega (arith, eq, lt)) was
-rounds_next s past e laws run apt was (SendsAsked v k lt bd sent same) =
-    rounds_away s past e laws run apt (λ eq. omega (arith, eq, lt)) was
-rounds_next s past e laws run apt was (SendsOrders tells at made) =
-    subst (Rounds s (e ∷ past)) (sym made.state)
-    (rounds_by s past e (coordinator_row (coordinator_in s past) e.took.from.0 e.took.body)
-    laws run apt made made.state made.sent was
-    (step_in s past e laws run.1 apt.1))
+rounds_next : (s : ScriptData) (count : List Entry → Count) (G : Premise) → IsCounting s count G
+    → (past : List Entry) (e : Entry) → IsStepRun s (e ∷ past) → AllApt s (e ∷ past) → Rounds G s past (count past)
+    → Sending s past e → Rounds G s (e ∷ past) (count (e ∷ past))
+rounds_next s count G view past e run apt was (SendsApart away plain all) = rounds_away s count G view past e run apt away was
+rounds_next s count G view past e run apt was (SendsDone v k lt bd sent same) =
+    rounds_away s count G view past e run apt (λ eq. omega (arith, eq, lt)) was
+rounds_next s count G view past e run apt was (SendsAsked v k lt bd sent same) =
+    rounds_away s count G view past e run apt (λ eq. omega (arith, eq, lt)) was
+rounds_next s count G view past e run apt was (SendsOrders at rowless) =
+    rounds_by s count G view past e run apt rowless was (view.steps past e run apt.1 at)
 
-pub rounds : (s : ScriptData) (past : List Entry) → IsLawful s → IsStepRun s past → AllApt s past
-    → Rounds s past (coordinator_in s past)
-rounds s [] laws run apt = λ reads at. absurd (counts_not Idle reads tt at)
-rounds s (e ∷ past) laws run apt =
-    rounds_next s past e laws run apt (rounds s past laws run.1 apt.1) (sending s past e laws run apt)
+pub rounds : (s : ScriptData) (count : List Entry → Count) (G : Premise) → IsCounting s count G
+    → (past : List Entry) → IsStepRun s past → AllApt s past → Rounds G s past (count past)
+rounds s count G view [] run apt = λ reads at given. absurd (none_in_round (count []).pace reads view.start at)
+rounds s count G view (e ∷ past) run apt =
+    rounds_next s count G view past e run apt (rounds s count G view past run.1 apt.1) (sending s past e view.lawful run apt)
 
 -- The verdict that all pairs agree.
 agreed_by : (r : RoundData) (a b : Bool) → all_in r.dones ≡ a → all_in r.askeds ≡ b → verdict_of r ≡ Some true
@@ -590,7 +545,19 @@ silent_by s past e r v k row m bd vs ks nodes places verdict (inl silent) = sile
 silent_by s past e r v k row m bd vs ks nodes places verdict (inr x) =
     absurd (no_verdict s past e r v k row m bd vs ks nodes places x verdict)
 
--- where the verdict is given that all pairs agree, the version is silent
+-- where the verdict is given that all pairs agree, the version counted is silent
+pub silent_agreed : (s : ScriptData) (count : List Entry → Count) (G : Premise) → IsCounting s count G
+    → (past : List Entry) (e : Entry) (reads : Bool) (v : Version) (k : ℕ) (row : List ℕ) → IsStepRun s (e ∷ past) → AllApt s past
+    → TakesRow (count past) e.took.from.0 e.took.body reads v k row → G reads (count past).round.version.0 past
+    → verdict_of (with_asked e.took.from.0 row (count past).round) ≡ Some true → IsSilent s past (count past).round.version.0
+silent_agreed s count G view past e reads v k row run apt takes given verdict =
+    let r = (count past).round in
+    let shape = shaped s count G view past run.1 apt reads takes.pace in
+    let round = rounds s count G view past run.1 apt reads takes.pace given in
+    let parts = is_of_parts e.took.from.0 v k row r takes.here in
+    silent_by s past e r v k row run.0 takes.body_is parts.0 parts.1 shape.nodes shape.askeds verdict (round.found takes.after_dones)
+
+-- so of the coordinator
 pub agrees_silent : (s : ScriptData) (past : List Entry) (e : Entry) (reads : Bool) (v : Version) (k : ℕ) (row : List ℕ)
     → IsLawful s → IsStepRun s (e ∷ past) → AllApt s past
     → TakesAsked (coordinator_in s past) e.took.from.0 e.took.body reads v k row
@@ -598,9 +565,6 @@ pub agrees_silent : (s : ScriptData) (past : List Entry) (e : Entry) (reads : Bo
     → IsSilent s past (counted_version reads (coordinator_in s past)).0
 agrees_silent s past e reads v k row laws run apt takes verdict =
     let c = coordinator_in s past in
-    let round = rounds s past laws run.1 apt reads takes.phase in
-    let here = current s past laws run.1 apt reads takes.phase in
-    let parts = is_of_parts e.took.from.0 v k row c.current takes.here in
-    subst (IsSilent s past) (ap (λ (w : Version). w.0) here.version)
-    (silent_by s past e c.current v k row run.0 takes.body_is parts.0 parts.1 (here.nodes ∙ coordinator_nodes s past)
-    (here.askeds ∙ coordinator_nodes s past) verdict (round.found takes.after_dones))
+    subst (IsSilent s past) (ap (λ (w : Version). w.0) (versioned s past laws run.1 apt reads takes.phase))
+    (silent_agreed s (count_in s) Always (coordinator_counts s laws) past e reads v k row run apt
+    (takes_row c e.took.from.0 e.took.body reads v k row takes) tt verdict)

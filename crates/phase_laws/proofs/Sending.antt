@@ -1,5 +1,5 @@
 -- What an entry sends, by four kinds of entries: one that sends no row, no order and asks for none; one that tells a row of
--- completions, or of requests; and one of the coordinator.
+-- completions, or of requests; and one of the coordinator, which sends no row.
 use Rattle.std.proofs.Common.{◌≡◌, ◌≢◌, ℕ, ◌<◌, List, [], ◌∷◌, ◌++◌, sym, ap, subst, ◌∙◌, arith, take, drop}
 use Rattle.letter_types.specs.declared.bodies.Body.{Body}
 use Rattle.letter_types.specs.declared.bodies.Body.TheVariants.{Go, Root, Sub as SubLetter, Done, Reply, Advanced, Turn, Show, Sweep, Turned, Shown, Swept, AskDone, AskAsked, DoneRow, AskedRow, Decide, Decided, Release, Wake}
@@ -15,11 +15,12 @@ use Rattle.tx_trees.specs.declared.parts.ScriptRow.TheVariants.{Tree as TreeRow,
 use Rattle.world_model.specs.Advancing.{to_coordinator}
 use Rattle.world_model.specs.Client.{Client, rows_letters, submit, submitted, with_answer, with_end, nudge}
 use Rattle.world_model.specs.Counts.{Each, tally}
-use Rattle.world_model.specs.Runs.{client_in, node_in, IsStepRun}
+use Rattle.world_model.specs.Runs.{client_in, coordinator_in, node_in, IsStepRun}
 use Rattle.world_model.specs.AllApt.{AllApt}
 use Rattle.world_model.proofs.Every.{each_append, each_map, each_none}
 use Rattle.phase_laws.proofs.Lawful.{IsLawful}
-use Rattle.world_model.proofs.Nexts.{MadeByCoordinator, Order, Turns, Shows, Sweeps, TellsDone, TellsAsked, Tells}
+use Rattle.world_model.proofs.Nexts.{MadeByCoordinator, Order, Turns, Shows, Sweeps, TellsDone, TellsAsked}
+use Rattle.world_model.proofs.Orders.{coordinator_each}
 use Rattle.phase_laws.proofs.Progress.{Begins, Coordinates, Ends, Hears, IsWake, Obeys, Progress, WakesFor, Works, are_wakes, progress}
 use Rattle.phase_laws.proofs.Working.{IsOfTrees, SentIn}
 
@@ -49,9 +50,21 @@ apart_plain (DoneRow v k row) apart = apart
 apart_plain (AskedRow v k row) apart = apart
 apart_plain _ apart = tt
 
+-- no row
+abbrev pub IsRowless : Body → Type 0
+IsRowless (DoneRow v k row) = ⊥
+IsRowless (AskedRow v k row) = ⊥
+IsRowless _ = Unit {0}
+
 -- all that is sent
+abbrev pub AllPlain : List Outgoing → Type 0
+AllPlain os = Each (λ (o : Outgoing). IsPlain o.body) os
+
 abbrev pub AllApart : List Outgoing → Type 0
 AllApart os = Each (λ (o : Outgoing). IsApart o.body) os
+
+abbrev pub AllRowless : List Outgoing → Type 0
+AllRowless os = Each (λ (o : Outgoing). IsRowless o.body) os
 
 pub data Sending (s : ScriptData) (past : List Entry) (e : Entry) : Type 0 where
   SendsApart : e.actor.0 ≢ s.nodes → IsPlain e.took.body → AllApart e.sent → Sending s past e
@@ -61,7 +74,7 @@ pub data Sending (s : ScriptData) (past : List Entry) (e : Entry) : Type 0 where
   SendsAsked : (v : Version) (k : ℕ) → e.actor.0 < s.nodes → e.took.body ≡ AskAsked v k
       → e.sent ≡ to_coordinator s (AskedRow v k (numbers_of s.nodes ((node_in s past e.actor.0).counts.asked v.0)))
       → node_in s (e ∷ past) e.actor.0 ≡ node_in s past e.actor.0 → Sending s past e
-  SendsOrders : Tells e.took.body → e.actor.0 ≡ s.nodes → MadeByCoordinator s past e → Sending s past e
+  SendsOrders : e.actor.0 ≡ s.nodes → AllRowless e.sent → Sending s past e
 
 -- The letters of trees and of the client are apart.
 sent_apart : (s : ScriptData) (st : Node) (does body : Body) → SentIn s st does body → IsApart body
@@ -148,6 +161,19 @@ obeys s past e out more lt (TellsAsked v k bd is) state sent woken =
     (sent ∙ ap (λ (o : Out Node). o.sent ++ more) is ∙ ap (λ (os : List Outgoing). row ++ os) (none_woken e (AskAsked v k) more bd woken))
     (state ∙ ap (λ (o : Out Node). o.state) is)
 
+-- the coordinator sends no row
+pub orders_rowless : (s : ScriptData) (past : List Entry) (e : Entry) → MadeByCoordinator s past e → AllRowless e.sent
+orders_rowless s past e made =
+    subst AllRowless (sym made.sent)
+    (coordinator_each (λ to body. IsRowless body) (coordinator_in s past) (record {
+      turn = λ to v lt. tt;
+      show = λ to v lt. tt;
+      sweep = λ to v lt. tt;
+      ask_done = λ to v k lt. tt;
+      ask_asked = λ to v k lt. tt;
+      advanced = λ v. tt;
+    }) e.took.from.0 e.took.body)
+
 sending_by : (s : ScriptData) (past : List Entry) (e : Entry) → Progress s past e → Sending s past e
 sending_by s past e (Begins bd at made) =
     SendsApart (λ eq. omega (arith, eq, at)) (plain_by e Go bd tt)
@@ -158,7 +184,7 @@ sending_by s past e (Hears t v answer bd at lt made) =
 sending_by s past e (Ends v bd at made) =
     SendsApart (λ eq. omega (arith, eq, at)) (plain_by e (Advanced v) bd tt)
     (apart_by e _ made.sent (submit_apart s (with_end (client_in s past)) [] tt))
-sending_by s past e (Coordinates tells at made) = SendsOrders tells at made
+sending_by s past e (Coordinates tells at made) = SendsOrders at (orders_rowless s past e made)
 sending_by s past e (Works p r work) =
     SendsApart (λ eq. omega (arith, eq, work.brings.at, work.brings.below)) (trees_plain e.took.body work.took)
     (each_map (λ (o : Outgoing). SentIn s (node_in s past p) r.body o.body) (λ (o : Outgoing). IsApart o.body) e.sent

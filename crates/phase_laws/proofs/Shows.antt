@@ -19,6 +19,7 @@ use Rattle.phase_laws.proofs.Lawful.{IsLawful}
 use Rattle.world_model.proofs.Orders.{to_nodes_each}
 use Rattle.phase_laws.proofs.Levels.{Level, Levels, levels, tells}
 use Rattle.phase_laws.proofs.Outcomes.{Outcome, Rests, Queues, Flags, Turns, Acks, LastTurned, LastShown, Finishes, GoesOn, Resumes, KeepsDone, KeepsAsked, Agrees, Recounts, Pauses, asked_kept}
+use Rattle.phase_laws.proofs.Progress.{coordinates}
 use Rattle.phase_laws.proofs.Small.{outcome_in}
 use Rattle.phase_laws.proofs.Tokens.{TurnStage, ShowStage, SweepStage}
 use Rattle.phase_laws.specs.Quiet.{IsGivenInQuiet, IsSilent}
@@ -131,8 +132,8 @@ given_next s past e laws run apt (SendsApart away plain all) =
     (λ o apart. apart_given s past o.body apart) all
 given_next s past e laws run apt (SendsDone v k lt bd sent same) = subst (Given s past) (sym sent) (tt, tt)
 given_next s past e laws run apt (SendsAsked v k lt bd sent same) = subst (Given s past) (sym sent) (tt, tt)
-given_next s past e laws run apt (SendsOrders tells at made) =
-    subst (Given s past) (sym made.sent)
+given_next s past e laws run apt (SendsOrders at rowless) =
+    subst (Given s past) (sym (coordinates s past e run.0 at).sent)
     (given_by s past e (coordinator_row (coordinator_in s past) e.took.from.0 e.took.body) laws run apt
     (outcome_in s past e laws run.1 apt))
 

@@ -1,102 +1,90 @@
--- What a step of the coordinator does with the present round, and that no letter is of a later round.
-use Rattle.std.proofs.Common.{if◌then◌else◌, ◌≡◌, ◌≢◌, ◌⊎◌, inl, inr, ℕ, zero, suc, ◌+◌, ◌<◌, ◌≤◌, Bool, true, false, List, [], ◌∷◌, ◌++◌, refl, sym, ap, subst, ◌∙◌, arith}
+-- The round that a coordinator counts has a place for each node; no letter is of a later round; and what the rows of
+-- completions in flight say.
+use Rattle.std.proofs.Common.{if◌then◌else◌, ◌≡◌, ◌≢◌, ◌⊎◌, inl, inr, ℕ, zero, suc, ◌<◌, ◌≤◌, Bool, true, false, List, [], ◌∷◌, ◌++◌, length, refl, sym, ap, subst, ◌∙◌, arith, Some, None}
 use Rattle.std.specs.Prelude.{slice_index}
+use Rattle.std.proofs.lemmas.Bool.{cases_eq}
 use Rattle.std.proofs.lemmas.Grind.{common_steps}
+use Rattle.std.proofs.lemmas.List.{length-set, length-replicate}
 use Rattle.pair_counters.proofs.Rows.{length_numbers}
 use Rattle.letter_types.specs.declared.bodies.Body.{Body}
-use Rattle.letter_types.specs.declared.bodies.Body.TheVariants.{Turn, Show, Sweep, AskDone, AskAsked, DoneRow, AskedRow}
+use Rattle.letter_types.specs.declared.bodies.Body.TheVariants.{AskDone, AskAsked, DoneRow, AskedRow}
 use Rattle.letter_types.specs.declared.entries.Entry.{Entry}
 use Rattle.letter_types.specs.declared.entries.Letter.{Letter}
 use Rattle.letter_types.specs.declared.entries.LetterId.{LetterId}
 use Rattle.letter_types.specs.declared.entries.Outgoing.{Outgoing}
-use Rattle.letter_types.specs.Steps.{Out, still}
 use Rattle.tv_base.specs.declared.numbers.Version.{Version}
 use Rattle.pair_counters.specs.Numbers.{numbers_of}
-use Rattle.phase_out.specs.Rounds.{is_of}
+use Rattle.phase_out.specs.Rounds.{RoundData}
 use Rattle.tx_trees.specs.ScriptData.{ScriptData}
 use Rattle.world_model.specs.Node.{Node}
-use Rattle.world_model.specs.Coordinator.{Coordinator, version, to_nodes, counted_version, end_count, keep_done, coordinator_row}
-use Rattle.world_model.specs.declared.phase.Phase.TheVariants.{Counting}
+use Rattle.world_model.specs.Coordinator.{to_nodes}
 use Rattle.world_model.specs.Counts.{Each}
-use Rattle.world_model.specs.Runs.{coordinator_in, node_in, in_flight, IsStepRun}
+use Rattle.world_model.specs.Runs.{node_in, in_flight, IsStepRun}
 use Rattle.world_model.specs.AllApt.{AllApt}
-use Rattle.world_model.proofs.Every.{coordinator_kept, each_map, each_step, each_taken}
+use Rattle.world_model.proofs.Every.{each_map, each_step, each_taken}
 use Rattle.phase_laws.proofs.Lawful.{IsLawful}
-use Rattle.world_model.proofs.Orders.{coordinator_each, to_nodes_each}
-use Rattle.phase_laws.proofs.Outcomes.{Outcome, Rests, Queues, Flags, Turns, Acks, LastTurned, LastShown, Finishes, GoesOn, Resumes, KeepsDone, KeepsAsked, Agrees, Recounts, Pauses, TakesAsked, asked_kept, round_begun}
-use Rattle.phase_laws.proofs.Current.{IsElse}
-use Rattle.phase_laws.proofs.Small.{outcome_in}
+use Rattle.world_model.proofs.Orders.{to_nodes_each}
 use Rattle.phase_laws.proofs.Balance.{apt_low_rises}
-use Rattle.phase_laws.proofs.Sending.{IsApart, IsPlain, apart_plain, Sending, SendsApart, SendsDone, SendsAsked, SendsOrders, sending}
+use Rattle.phase_laws.proofs.CoordinatorCounts.{Always, coordinator_counts, count_in}
+use Rattle.phase_laws.proofs.Counting.{Count, CountStep, Denies, Holds, IsCounting, IsNudged, InRound, Lasts, Leaves, Begins, TakesDone, TakesRequests, begun, count_asked, count_done, none_in_round, Premise}
+use Rattle.phase_laws.proofs.Sending.{AllPlain, IsApart, IsPlain, IsRowless, apart_plain, Sending, SendsApart, SendsDone, SendsAsked, SendsOrders, sending}
 use Rattle.phase_laws.proofs.Silence.{below_or_at, done_grows}
 
--- no letter of a round
-abbrev pub AllPlain : List Outgoing → Type 0
-AllPlain os = Each (λ (o : Outgoing). IsPlain o.body) os
+-- the round is the one of this number, and has a place for each of n nodes
+pub record IsShaped (n k : ℕ) (r : RoundData) : Type 0 where
+  pub number : r.number ≡ k
+  pub nodes : r.nodes ≡ n
+  pub dones : length r.dones ≡ n
+  pub askeds : length r.askeds ≡ n
 
--- the round is kept as it is; or the phase counts no more; or a round begins; or the round takes a row of completions,
--- or one of requests
-pub data RoundStep (c : Coordinator) (from : ℕ) (body : Body) (out : Out Coordinator) : Type 0 where
-  Keeps : out.state.current ≡ c.current → out.state.round ≡ c.round
-      → ((reads : Bool) → out.state.phase ≡ Counting reads → c.phase ≡ Counting reads)
-      → AllPlain out.sent → RoundStep c from body out
-  Leaves : IsElse out.state.phase → out.state.round ≡ c.round → out.state.current.number ≡ c.current.number
-      → AllPlain out.sent
-      → RoundStep c from body out
-  Begins : (reads : Bool) (d : Coordinator) → d.nodes ≡ c.nodes → out ≡ round_begun reads (c.round + 1) d
-      → RoundStep c from body out
-  TakesDone : (reads : Bool) (v : Version) (k : ℕ) (row : List ℕ) → c.phase ≡ Counting reads → body ≡ DoneRow v k row
-      → is_of from v k row c.current ≡ true → out ≡ keep_done from row c → RoundStep c from body out
-  TakesRequests : (reads : Bool) (v : Version) (k : ℕ) (row : List ℕ) → TakesAsked c from body reads v k row
-      → out ≡ still (asked_kept from row c) → RoundStep c from body out
+-- the round that is counted is the last one
+abbrev pub Shaped : ℕ → Count → Type 0
+Shaped n c = (reads : Bool) → c.pace ≡ InRound reads → IsShaped n c.number c.round
 
-plain_nodes : (n : ℕ) (body : Body) → IsPlain body → AllPlain (to_nodes n body)
-plain_nodes n body plain = to_nodes_each (λ to b. IsPlain b) n body (λ to lt. plain)
+shaped_begun : (n k : ℕ) (v : Version) (reads : Bool) → Shaped n (begun reads v k n)
+shaped_begun n k v reads = λ other at.
+    record { number = refl; nodes = refl; dones = length-replicate n None; askeds = length-replicate n None }
 
-ends_leaves : (c d : Coordinator) (from : ℕ) (body : Body) (reads : Bool) → d.round ≡ c.round
-    → d.current.number ≡ c.current.number
-    → RoundStep c from body (end_count reads d)
-ends_leaves c d from body true rd num = Leaves tt rd num (plain_nodes d.nodes (Sweep (version d.update)) tt)
-ends_leaves c d from body false rd num = Leaves tt rd num (plain_nodes d.nodes (Show (version d.update)) tt)
+shaped_done : (n from : ℕ) (row : List ℕ) (c : Count) → Shaped n c → Shaped n (count_done from row c)
+shaped_done n from row c was = λ reads at. let now = was reads at in record {
+  number = now.number;
+  nodes = now.nodes;
+  dones = length-set c.round.dones from (Some row) ∙ now.dones;
+  askeds = now.askeds;
+}
 
-pub round_step : (c : Coordinator) (from : ℕ) (body : Body) (out : Out Coordinator) → Outcome c from body out
-    → RoundStep c from body out
-round_step c from body out (Rests phase at ignored is) =
-    subst (λ (o : Out Coordinator). RoundStep c from body o) (sym is) (Keeps refl refl (λ reads now. now) tt)
-round_step c from body out (Queues phase at goes bd is) =
-    subst (λ (o : Out Coordinator). RoundStep c from body o) (sym is) (Keeps refl refl (λ reads now. now) tt)
-round_step c from body out (Flags reads at bd is) =
-    subst (λ (o : Out Coordinator). RoundStep c from body o) (sym is) (Keeps refl refl (λ r now. now) tt)
-round_step c from body out (Acks phase at answer more is) =
-    subst (λ (o : Out Coordinator). RoundStep c from body o) (sym is) (Keeps refl refl (λ reads now. now) tt)
-round_step c from body out (Turns at bd is) =
-    subst (λ (o : Out Coordinator). RoundStep c from body o) (sym is)
-    (Leaves tt refl refl (plain_nodes c.nodes (Turn (version (c.update + 1))) tt))
-round_step c from body out (LastTurned v at bd last is) = Begins false c refl is
-round_step c from body out (LastShown v at bd last is) = Begins true c refl is
-round_step c from body out (Finishes v at bd last none is) =
-    subst (λ (o : Out Coordinator). RoundStep c from body o) (sym is) (Leaves tt refl refl (tt, tt))
-round_step c from body out (GoesOn v at bd last some is) =
-    subst (λ (o : Out Coordinator). RoundStep c from body o) (sym is)
-    (Leaves tt refl refl (tt, plain_nodes c.nodes (Turn (version (c.update + 2))) tt))
-round_step c from body out (Resumes reads at bd is) = Begins reads c refl is
-round_step c from body out (KeepsDone reads v k row at bd here is) = TakesDone reads v k row at bd here is
-round_step c from body out (KeepsAsked reads v k row takes verdict is) = TakesRequests reads v k row takes is
-round_step c from body out (Agrees reads v k row takes verdict is) =
-    subst (λ (o : Out Coordinator). RoundStep c from body o) (sym is)
-    (ends_leaves c (asked_kept from row c) from body reads refl refl)
-round_step c from body out (Recounts reads v k row takes verdict flag is) = Begins reads (asked_kept from row c) refl is
-round_step c from body out (Pauses reads v k row takes verdict flag is) =
-    subst (λ (o : Out Coordinator). RoundStep c from body o) (sym is) (Leaves tt refl refl tt)
+shaped_asked : (n from : ℕ) (row : List ℕ) (c : Count) → Shaped n c → Shaped n (count_asked from row c)
+shaped_asked n from row c was = λ reads at. let now = was reads at in record {
+  number = now.number;
+  nodes = now.nodes;
+  dones = now.dones;
+  askeds = length-set c.round.askeds from (Some row) ∙ now.askeds;
+}
 
--- the step of an entry of the coordinator
-pub step_in : (s : ScriptData) (past : List Entry) (e : Entry) → IsLawful s → IsStepRun s past → AllApt s past
-    → RoundStep (coordinator_in s past) e.took.from.0 e.took.body
-    (coordinator_row (coordinator_in s past) e.took.from.0 e.took.body)
-step_in s past e laws run apt =
-    round_step (coordinator_in s past) e.took.from.0 e.took.body
-    (coordinator_row (coordinator_in s past) e.took.from.0 e.took.body)
-    (outcome_in s past e laws run apt)
+shaped_by : (n : ℕ) (c d : Count) (from : ℕ) (body : Body) (os : List Outgoing) → Shaped n c → CountStep n c d from body os → Shaped n d
+shaped_by n c d from body os was (Leaves none le plain) = λ reads at. absurd (none_in_round d.pace reads none at)
+shaped_by n c d from body os was (Holds reads at calm refused is sent) = subst (Shaped n) (sym is) was
+shaped_by n c d from body os was (IsNudged reads at bd is sent) = subst (Shaped n) (sym is) was
+shaped_by n c d from body os was (Lasts at calm is sent) = subst (Shaped n) (sym is) was
+shaped_by n c d from body os was (Begins reads v k lt none is sent) = subst (Shaped n) (sym is) (shaped_begun n k v reads)
+shaped_by n c d from body os was (TakesDone reads v k row at bd here is sent) = subst (Shaped n) (sym is) (shaped_done n from row c was)
+shaped_by n c d from body os was (TakesRequests reads v k row takes verdict is sent) =
+    subst (Shaped n) (sym is) (shaped_asked n from row c was)
+shaped_by n c d from body os was (Denies reads v k row takes verdict clear is sent) =
+    subst (Shaped n) (sym is) (λ other at. absurd (cc at))
+
+shaped_next : (s : ScriptData) (count : List Entry → Count) (G : Premise) → IsCounting s count G
+    → (past : List Entry) (e : Entry) → IsStepRun s (e ∷ past) → AllApt s past → Shaped s.nodes (count past)
+    → (e.actor.0 ≡ s.nodes) ⊎ (e.actor.0 ≢ s.nodes) → Shaped s.nodes (count (e ∷ past))
+shaped_next s count G view past e run apt was (inl at) =
+    shaped_by s.nodes (count past) (count (e ∷ past)) e.took.from.0 e.took.body e.sent was (view.steps past e run apt at)
+shaped_next s count G view past e run apt was (inr away) = subst (Shaped s.nodes) (sym (view.stays past e away)) was
+
+pub shaped : (s : ScriptData) (count : List Entry → Count) (G : Premise) → IsCounting s count G
+    → (past : List Entry) → IsStepRun s past → AllApt s past → Shaped s.nodes (count past)
+shaped s count G view [] run apt = λ reads at. absurd (none_in_round (count []).pace reads view.start at)
+shaped s count G view (e ∷ past) run apt =
+    shaped_next s count G view past e run apt.1 (shaped s count G view past run.1 apt.1) (cases_eq e.actor.0 s.nodes)
 
 -- The numbers of nodes, by place.
 numbers_last : (n : ℕ) (f : ℕ → ℕ) → slice_index (numbers_of n f ++ f n ∷ []) n ≡ f n
@@ -134,6 +122,10 @@ apart_row : (s : ScriptData) (past : List Entry) (q : ℕ) (body : Body) → IsA
 apart_row s past q (DoneRow w k row) apart = absurd apart
 apart_row s past q _ apart = tt
 
+rowless_row : (s : ScriptData) (past : List Entry) (q : ℕ) (body : Body) → IsRowless body → RowBody s past q body
+rowless_row s past q (DoneRow w k row) none = absurd none
+rowless_row s past q _ none = tt
+
 -- what an entry sends, of its actor
 abbrev SentRows : ScriptData → List Entry → ℕ → List Outgoing → Type 0
 SentRows s past a os = Each (λ (o : Outgoing). (i : LetterId) → RowBody s past a o.body) os
@@ -152,16 +144,10 @@ rows_sent s past e (SendsDone v k lt bd sent same) =
       tt,
     )
 rows_sent s past e (SendsAsked v k lt bd sent same) = subst (SentRows s (e ∷ past) e.actor.0) (sym sent) ((λ i. tt), tt)
-rows_sent s past e (SendsOrders tells at made) =
-    subst (SentRows s (e ∷ past) e.actor.0) (sym made.sent)
-    (coordinator_each (λ to body. LetterId → RowBody s (e ∷ past) e.actor.0 body) (coordinator_in s past) (record {
-      turn = λ to v lt i. tt;
-      show = λ to v lt i. tt;
-      sweep = λ to v lt i. tt;
-      ask_done = λ to v k lt i. tt;
-      ask_asked = λ to v k lt i. tt;
-      advanced = λ v i. tt;
-    }) e.took.from.0 e.took.body)
+rows_sent s past e (SendsOrders at rowless) =
+    each_map (λ (o : Outgoing). IsRowless o.body) (λ (o : Outgoing). (i : LetterId)
+    → RowBody s (e ∷ past) e.actor.0 o.body) e.sent
+    (λ o none i. rowless_row s (e ∷ past) e.actor.0 o.body none) rowless
 
 pub rows_true : (s : ScriptData) (past : List Entry) → IsLawful s → IsStepRun s past → AllApt s past
     → Each (λ (l : Letter). RowBody s past l.from.0 l.body) (in_flight s past)
@@ -184,9 +170,8 @@ round_of _ = 0
 abbrev UpTo : ℕ → List Outgoing → Type 0
 UpTo r os = Each (λ (o : Outgoing). (i : LetterId) → round_of o.body ≤ r) os
 
-pub record Fresh (s : ScriptData) (past : List Entry) (c : Coordinator) : Type 0 where
-  pub number : c.current.number ≤ c.round
-  pub letters : Each (λ (l : Letter). round_of l.body ≤ c.round) (in_flight s past)
+pub record Fresh (s : ScriptData) (past : List Entry) (c : Count) : Type 0 where
+  pub letters : Each (λ (l : Letter). round_of l.body ≤ c.number) (in_flight s past)
 
 plain_round : (r : ℕ) (body : Body) → IsPlain body → round_of body ≤ r
 plain_round r (AskDone v k) plain = absurd plain
@@ -200,87 +185,89 @@ plain_up_to r os all =
     each_map (λ (o : Outgoing). IsPlain o.body) (λ (o : Outgoing). (i : LetterId) → round_of o.body ≤ r) os
     (λ o plain i. plain_round r o.body plain) all
 
--- the round's numbers after a step of the coordinator, and those of what it sends
-record Later (c : Coordinator) (out : Out Coordinator) : Type 0 where
-  later : c.round ≤ out.state.round
-  number : out.state.current.number ≤ out.state.round
-  sent : UpTo out.state.round out.sent
+none_up_to : (r : ℕ) (os : List Outgoing) → os ≡ [] → UpTo r os
+none_up_to r os none = subst (UpTo r) (sym none) tt
+
+-- the numbers after a step of the count, and those of what is sent
+record Later (c d : Count) (os : List Outgoing) : Type 0 where
+  later : c.number ≤ d.number
+  sent : UpTo d.number os
 
 asks_up_to : (r n : ℕ) (v : Version) (k : ℕ) (b : Bool) → k ≤ r → UpTo r (if b then to_nodes n (AskAsked v k) else [])
 asks_up_to r n v k true le = to_nodes_each (λ to b. LetterId → round_of b ≤ r) n (AskAsked v k) (λ to lt i. le)
 asks_up_to r n v k false le = tt
 
-later_step : (c : Coordinator) (from : ℕ) (body : Body) (out : Out Coordinator) → c.current.number ≤ c.round
-    → RoundStep c from body out
-    → Later c out
-later_step c from body out le (Keeps current round counting plain) = record {
-  later = omega (arith, round);
-  number = let num : out.state.current.number ≡ c.current.number = rw current refl in omega (arith, num, round, le);
-  sent = plain_up_to out.state.round out.sent plain;
-}
-later_step c from body out le (Leaves phase round number plain) = record {
-  later = omega (arith, round);
-  number = omega (arith, number, round, le);
-  sent = plain_up_to out.state.round out.sent plain;
-}
-later_step c from body out le (Begins reads d nodes is) =
-    subst (λ (o : Out Coordinator). Later c o) (sym is) (record {
-      later = omega arith;
-      number = omega arith;
-      sent = to_nodes_each (λ to b. LetterId → round_of b ≤ c.round + 1) d.nodes
-          (AskDone (counted_version reads d) (c.round + 1)) (λ to lt i. omega arith);
-    })
-later_step c from body out le (TakesDone reads v k row at bd here is) =
-    subst (λ (o : Out Coordinator). Later c o) (sym is) (record {
-      later = omega arith;
-      number = le;
-      sent = asks_up_to c.round c.nodes c.current.version c.current.number _ le;
-    })
-later_step c from body out le (TakesRequests reads v k row takes is) =
-    subst (λ (o : Out Coordinator). Later c o) (sym is) (record { later = omega arith; number = le; sent = tt })
+later_none : (c d : Count) (os : List Outgoing) → d.number ≡ c.number → os ≡ [] → Later c d os
+later_none c d os same none = record { later = omega (arith, same); sent = none_up_to d.number os none }
 
-fresh_kept : (s : ScriptData) (past : List Entry) (e : Entry) → e.actor.0 ≢ s.nodes
-    → Fresh s past (coordinator_in s past)
-    → UpTo (coordinator_in s past).round e.sent → Fresh s (e ∷ past) (coordinator_in s (e ∷ past))
-fresh_kept s past e away was sent =
-    subst (Fresh s (e ∷ past)) (sym (coordinator_kept s past e away)) (record {
-      number = was.number;
-      letters = each_step (λ (l : Letter). round_of l.body ≤ (coordinator_in s past).round) s past e was.letters sent;
+later_step : (n : ℕ) (c d : Count) (from : ℕ) (body : Body) (os : List Outgoing) → Shaped n c → CountStep n c d from body os → Later c d os
+later_step n c d from body os shape (Leaves none le plain) = record { later = le; sent = plain_up_to d.number os plain }
+later_step n c d from body os shape (Holds reads at calm refused is sent) = later_none c d os (ap (λ (x : Count). x.number) is) sent
+later_step n c d from body os shape (IsNudged reads at bd is sent) = later_none c d os (ap (λ (x : Count). x.number) is) sent
+later_step n c d from body os shape (Lasts at calm is sent) = later_none c d os (ap (λ (x : Count). x.number) is) sent
+later_step n c d from body os shape (Begins reads v k lt none is sent) =
+    subst (λ (x : Count). Later c x os) (sym is) (record {
+      later = omega (arith, lt);
+      sent = subst (UpTo k) (sym sent) (to_nodes_each (λ to b. LetterId → round_of b ≤ k) n (AskDone v k) (λ to less i. omega arith));
+    })
+later_step n c d from body os shape (TakesDone reads v k row at bd here is sent) =
+    subst (λ (x : Count). Later c x os) (sym is) (record {
+      later = omega arith;
+      sent = subst (UpTo c.number) (sym sent)
+          (asks_up_to c.number n c.round.version c.round.number _ (omega (arith, (shape reads at).number)));
+    })
+later_step n c d from body os shape (TakesRequests reads v k row takes verdict is sent) =
+    later_none c d os (ap (λ (x : Count). x.number) is) sent
+later_step n c d from body os shape (Denies reads v k row takes verdict clear is sent) =
+    later_none c d os (ap (λ (x : Count). x.number) is) sent
+
+fresh_kept : (s : ScriptData) (count : List Entry → Count) (G : Premise) → IsCounting s count G
+    → (past : List Entry) (e : Entry) → e.actor.0 ≢ s.nodes → Fresh s past (count past) → UpTo (count past).number e.sent
+    → Fresh s (e ∷ past) (count (e ∷ past))
+fresh_kept s count G view past e away was sent =
+    subst (Fresh s (e ∷ past)) (sym (view.stays past e away)) (record {
+      letters = each_step (λ (l : Letter). round_of l.body ≤ (count past).number) s past e was.letters sent;
     })
 
-fresh_next : (s : ScriptData) (past : List Entry) (e : Entry) → IsLawful s → IsStepRun s (e ∷ past) → AllApt s past
-    → Fresh s past (coordinator_in s past) → Sending s past e → Fresh s (e ∷ past) (coordinator_in s (e ∷ past))
-fresh_next s past e laws run apt was (SendsApart away plain all) =
-    fresh_kept s past e away was (plain_up_to (coordinator_in s past).round e.sent
+fresh_next : (s : ScriptData) (count : List Entry → Count) (G : Premise) → IsCounting s count G
+    → (past : List Entry) (e : Entry) → IsStepRun s (e ∷ past) → AllApt s past → Fresh s past (count past) → Sending s past e
+    → Fresh s (e ∷ past) (count (e ∷ past))
+fresh_next s count G view past e run apt was (SendsApart away plain all) =
+    fresh_kept s count G view past e away was (plain_up_to (count past).number e.sent
     (each_map (λ (o : Outgoing). IsApart o.body) (λ (o : Outgoing). IsPlain o.body) e.sent
     (λ o apart. apart_plain o.body apart) all))
-fresh_next s past e laws run apt was (SendsDone v k lt bd sent same) =
-    let r = (coordinator_in s past).round in
+fresh_next s count G view past e run apt was (SendsDone v k lt bd sent same) =
+    let r = (count past).number in
     let took : round_of (AskDone v k) ≤ r =
     subst (λ (b : Body). round_of b ≤ r) bd
     (each_taken (λ (l : Letter). round_of l.body ≤ r) s past e run.0 was.letters) in
-    fresh_kept s past e (λ eq. omega (arith, eq, lt)) was (subst (UpTo r) (sym sent) ((λ i. took), tt))
-fresh_next s past e laws run apt was (SendsAsked v k lt bd sent same) =
-    let r = (coordinator_in s past).round in
+    fresh_kept s count G view past e (λ eq. omega (arith, eq, lt)) was (subst (UpTo r) (sym sent) ((λ i. took), tt))
+fresh_next s count G view past e run apt was (SendsAsked v k lt bd sent same) =
+    let r = (count past).number in
     let took : round_of (AskAsked v k) ≤ r =
     subst (λ (b : Body). round_of b ≤ r) bd
     (each_taken (λ (l : Letter). round_of l.body ≤ r) s past e run.0 was.letters) in
-    fresh_kept s past e (λ eq. omega (arith, eq, lt)) was (subst (UpTo r) (sym sent) ((λ i. took), tt))
-fresh_next s past e laws run apt was (SendsOrders tells at made) =
-    let c = coordinator_in s past in
-    let out = coordinator_row c e.took.from.0 e.took.body in
-    let next = later_step c e.took.from.0 e.took.body out was.number (step_in s past e laws run.1 apt) in
-    subst (Fresh s (e ∷ past)) (sym made.state) (record {
-      number = next.number;
-      letters = each_step (λ (l : Letter). round_of l.body ≤ out.state.round) s past e
-          (each_map (λ (l : Letter). round_of l.body ≤ c.round) (λ (l : Letter). round_of l.body ≤ out.state.round)
+    fresh_kept s count G view past e (λ eq. omega (arith, eq, lt)) was (subst (UpTo r) (sym sent) ((λ i. took), tt))
+fresh_next s count G view past e run apt was (SendsOrders at rowless) =
+    let c = count past in
+    let d = count (e ∷ past) in
+    let next = later_step s.nodes c d e.took.from.0 e.took.body e.sent (shaped s count G view past run.1 apt)
+    (view.steps past e run apt at) in
+    record {
+      letters = each_step (λ (l : Letter). round_of l.body ≤ d.number) s past e
+          (each_map (λ (l : Letter). round_of l.body ≤ c.number) (λ (l : Letter). round_of l.body ≤ d.number)
           (in_flight s past)
           (λ l le. omega (arith, le, next.later)) was.letters)
-          (subst (UpTo out.state.round) (sym made.sent) next.sent);
-    })
+          next.sent;
+    }
 
-pub fresh : (s : ScriptData) (past : List Entry) → IsLawful s → IsStepRun s past → AllApt s past
-    → Fresh s past (coordinator_in s past)
-fresh s [] laws run apt = record { number = omega arith; letters = (omega arith, tt) }
-fresh s (e ∷ past) laws run apt =
-    fresh_next s past e laws run apt.1 (fresh s past laws run.1 apt.1) (sending s past e laws run apt)
+pub none_later : (s : ScriptData) (count : List Entry → Count) (G : Premise) → IsCounting s count G
+    → (past : List Entry) → IsStepRun s past → AllApt s past → Fresh s past (count past)
+none_later s count G view [] run apt = record { letters = (omega arith, tt) }
+none_later s count G view (e ∷ past) run apt =
+    fresh_next s count G view past e run apt.1 (none_later s count G view past run.1 apt.1)
+    (sending s past e view.lawful run apt)
+
+-- so of the coordinator
+pub fresh : (s : ScriptData) (past : List Entry) → IsLawful s → IsStepRun s past → AllApt s past → Fresh s past (count_in s past)
+fresh s past laws run apt = none_later s (count_in s) Always (coordinator_counts s laws) past run apt

@@ -18,7 +18,7 @@ use Rattle.world_model.specs.Runs.{node_in, in_flight, MayFollow}
 use Rattle.world_model.proofs.Bags.{one_if_most, sealed_tally, tally-append, tally_step}
 use Rattle.world_model.proofs.Every.{each_map, each_none}
 use Rattle.phase_laws.proofs.Sending.{IsPlain, apart_plain, Sending, SendsApart, SendsDone, SendsAsked, SendsOrders, apart_none}
-use Rattle.phase_laws.proofs.Steps.{AllPlain, round_of}
+use Rattle.phase_laws.proofs.Steps.{round_of}
 
 -- a letter by which node q is asked for its completions in round r, or tells them
 abbrev pub first_wave : ℕ → ℕ → ℕ → ℕ → Body → ℕ
@@ -100,15 +100,7 @@ wave_kept f wave s past e m away (SendsAsked v k lt bd sent same) =
     let took : f e.took.from.0 e.actor.0 e.took.body ≡ f e.took.from.0 e.actor.0 (AskAsked v k) =
     ap (λ (b : Body). f e.took.from.0 e.actor.0 b) bd in
     omega (arith, flow_of f s past e m, out, took, wave.asked e.actor.0 e.took.from.0 s.nodes v k row)
-wave_kept f wave s past e m away (SendsOrders tells at made) = absurd (away at)
-
--- what is sent of a wave where all is plain
-pub plain_none : (f : ℕ → ℕ → Body → ℕ) → IsWave f → (a : ℕ) (os : List Outgoing) → AllPlain os
-    → tally (leaving f a) os ≡ 0
-plain_none f wave a os all =
-    each_none (leaving f a) os
-    (each_map (λ (o : Outgoing). IsPlain o.body) (λ (o : Outgoing). leaving f a o ≡ 0) os
-    (λ o plain. wave.plain a o.to.0 o.body plain) all)
+wave_kept f wave s past e m away (SendsOrders at rowless) = absurd (away at)
 
 -- A round that isn't there yet has no letter.
 first_later : (r q from to r0 : ℕ) (body : Body) → r0 < r → round_of body ≤ r0 → first_wave r q from to body ≡ 0

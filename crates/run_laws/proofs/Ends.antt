@@ -15,6 +15,7 @@ use Rattle.tx_trees.specs.ScriptData.{ScriptData}
 use Rattle.tx_trees.specs.Valid.{IsValid}
 use Rattle.tx_trees.specs.declared.parts.ScriptRow.{ScriptRow}
 use Rattle.tx_trees.specs.declared.parts.ScriptRow.TheVariants.{Tree as TreeRow, Advance as AdvanceRow, Settle as SettleRow, Lose as LoseRow}
+use Rattle.world_model.specs.AllApt.{AllApt}
 use Rattle.world_model.specs.Client.{all_answered, have_ended}
 use Rattle.world_model.specs.declared.phase.Phase.{Phase}
 use Rattle.world_model.specs.declared.phase.Phase.TheVariants.{Idle, Turning, Counting, Paused, Showing, Sweeping}
@@ -23,12 +24,13 @@ use Rattle.world_model.specs.Kept.{kept_by, kept_in, outstanding}
 use Rattle.world_model.specs.Node.{Node}
 use Rattle.world_model.specs.Runs.{client_in, coordinator_in, node_in, in_flight, IsStepRun}
 use Rattle.world_model.proofs.Bags.{one_if_same, tally-append}
-use Rattle.world_model.proofs.Orders.{coordinator_nodes}
 use Rattle.phase_laws.specs.Advances.{asked_for, is_advance_letter, is_advanced, running}
 use Rattle.phase_laws.specs.Phases.{IsInPhase, Stage, TurnStage, ShowStage, SweepStage, token, within}
-use Rattle.phase_laws.proofs.Current.{current}
+use Rattle.phase_laws.proofs.CoordinatorCounts.{Always, coordinator_counts, count_in, pace_of}
+use Rattle.phase_laws.proofs.Counting.{AfterRound, Count, InRound, IsCounting, NoRound, Pace, Premise}
 use Rattle.phase_laws.proofs.Levels.{versions_in_phase}
 use Rattle.phase_laws.proofs.Small.{small}
+use Rattle.phase_laws.proofs.Steps.{shaped}
 use Rattle.phase_laws.proofs.Tokens.{told}
 use Rattle.tree_laws.specs.Dids.{answers, asks, is_go, is_row_of, replies_to, roots_sent}
 use Rattle.tree_laws.specs.Ends.{is_finish}
@@ -39,8 +41,8 @@ use Rattle.tree_laws.proofs.Client.{finish_count}
 use Rattle.tree_laws.proofs.Finishes.{all_answered_of, at_end, finishes_of, is_true_of, none_left, rooted_below}
 use Rattle.tree_laws.proofs.Sent.{tally_take_le}
 use Rattle.run_laws.proofs.Measures.{busy, nudges, unanswered}
-use Rattle.run_laws.proofs.Heard.{all_of, heard, wave}
-use Rattle.run_laws.proofs.Pauses.{bound}
+use Rattle.run_laws.proofs.Heard.{all_of, wave, waves_heard}
+use Rattle.run_laws.proofs.Pauses.{IsSteady, coordinator_steady, rows_bound}
 use Rattle.run_laws.proofs.EveryApt.{all_apt, lawful}
 use Rattle.run_laws.proofs.Resting.{IsSettled, nothing_waits, settled}
 use Rattle.run_laws.proofs.Stopping.{answer_known, stopping}
@@ -105,27 +107,42 @@ not_telling s past valid run g phase empty at fills =
     let nodes : within g c.phase s.nodes ≡ s.nodes = ap (λ (p : Phase). within g p s.nodes) at ∙ fills s.nodes in
     absurd (omega (arith, all, none, acks, nodes, (small s past (lawful s valid) run (all_apt s past valid run)).acks))
 
--- a round that counts has a letter in flight
-not_counting : (s : ScriptData) (past : List Entry) (valid : IsValid s) (run : IsStepRun s past) (reads : Bool)
-    → in_flight s past ≡ [] → (coordinator_in s past).phase ≡ Counting reads → ⊥
-not_counting s past valid run reads empty at =
-    let r = (coordinator_in s past).current in
-    let now = current s past (lawful s valid) run (all_apt s past valid run) reads at in
-    let nodes = coordinator_nodes s past in
-    let waved = heard s past valid run reads at in
+-- a round that is counted has a letter in flight
+not_counting : (s : ScriptData) (count : List Entry → Count) (G : Premise) → IsCounting s count G
+    → (past : List Entry) → IsStepRun s past → AllApt s past → (reads : Bool) → in_flight s past ≡ [] → (count past).pace ≡ InRound reads → ⊥
+not_counting s count G view past run apt reads empty at =
+    let r = (count past).round in
+    let now = shaped s count G view past run apt reads at in
+    let waved = waves_heard s count G view past run apt reads at in
     let none : (two : Bool) (q : ℕ) → tally (λ (l : Letter). wave two r.version.0 r.number q s.nodes l.from.0 l.to.0 l.body) (in_flight s past) ≡ 0 =
     λ two q. none_left (λ (l : Letter). wave two r.version.0 r.number q s.nodes l.from.0 l.to.0 l.body) s past empty in
     let dones : all_in r.dones ≡ true =
-    all_of r.dones (λ q lt. omega (arith, waved.first q (omega (arith, lt, now.dones, nodes)), none false q)) in
+    all_of r.dones (λ q lt. omega (arith, waved.first q (omega (arith, lt, now.dones)), none false q)) in
     let askeds : all_in r.askeds ≡ true =
-    all_of r.askeds (λ q lt. omega (arith, waved.second dones q (omega (arith, lt, now.askeds, nodes)), none true q)) in
+    all_of r.askeds (λ q lt. omega (arith, waved.second dones q (omega (arith, lt, now.askeds)), none true q)) in
     let clash : true ≡ false = sym askeds ∙ waved.misses in
     cc clash
 
-not_paused : (s : ScriptData) (past : List Entry) (valid : IsValid s) (run : IsStepRun s past) (reads : Bool)
-    → in_flight s past ≡ [] → (coordinator_in s past).phase ≡ Paused reads → ⊥
-not_paused s past valid run reads empty at =
-    absurd (omega (arith, (bound s past valid run).pausing reads at, none_busy s past valid run empty))
+-- and a pause is busy
+round_over : (s : ScriptData) (count : List Entry → Count) (G : Premise) → IsCounting s count G → IsSteady s count
+    → (past : List Entry) (valid : IsValid s) (run : IsStepRun s past) → AllApt s past → in_flight s past ≡ [] → (p : Pace)
+    → (count past).pace ≡ p → (count past).pace ≡ NoRound
+round_over s count G view steady past valid run apt empty (InRound reads) at = absurd (not_counting s count G view past run apt reads empty at)
+round_over s count G view steady past valid run apt empty AfterRound at =
+    absurd (omega (arith, (rows_bound s count G view steady past valid run apt).pausing at, none_busy s past valid run empty))
+round_over s count G view steady past valid run apt empty NoRound at = at
+
+-- so no count has a round
+pub no_round : (s : ScriptData) (count : List Entry → Count) (G : Premise) → IsCounting s count G → IsSteady s count
+    → (past : List Entry) (valid : IsValid s) (run : IsStepRun s past) → AllApt s past → in_flight s past ≡ [] → (count past).pace ≡ NoRound
+no_round s count G view steady past valid run apt empty =
+    round_over s count G view steady past valid run apt empty (count past).pace refl
+
+round_ended : (s : ScriptData) (past : List Entry) (valid : IsValid s) (run : IsStepRun s past) (phase : Phase) → in_flight s past ≡ []
+    → (coordinator_in s past).phase ≡ phase → pace_of phase ≡ NoRound
+round_ended s past valid run phase empty at =
+    sym (ap pace_of at)
+    ∙ no_round s (count_in s) Always (coordinator_counts s (lawful s valid)) (coordinator_steady s valid) past valid run (all_apt s past valid run) empty
 
 idle_by : (s : ScriptData) (past : List Entry) (valid : IsValid s) (run : IsStepRun s past) → in_flight s past ≡ []
     → (phase : Phase) → (coordinator_in s past).phase ≡ phase → running (coordinator_in s past).phase ≡ 0
@@ -133,8 +150,8 @@ idle_by s past valid run empty Idle at = ap running at
 idle_by s past valid run empty Turning at = absurd (not_telling s past valid run TurnStage Turning empty at (λ k. refl))
 idle_by s past valid run empty Showing at = absurd (not_telling s past valid run ShowStage Showing empty at (λ k. refl))
 idle_by s past valid run empty Sweeping at = absurd (not_telling s past valid run SweepStage Sweeping empty at (λ k. refl))
-idle_by s past valid run empty (Counting reads) at = absurd (not_counting s past valid run reads empty at)
-idle_by s past valid run empty (Paused reads) at = absurd (not_paused s past valid run reads empty at)
+idle_by s past valid run empty (Counting reads) at = absurd (cc (round_ended s past valid run (Counting reads) empty at))
+idle_by s past valid run empty (Paused reads) at = absurd (cc (round_ended s past valid run (Paused reads) empty at))
 
 -- no advancement is in progress
 pub idle : (s : ScriptData) (past : List Entry) (valid : IsValid s) (run : IsStepRun s past) → in_flight s past ≡ []

@@ -18,13 +18,12 @@ use Rattle.tx_trees.specs.declared.parts.ScriptRow.{ScriptRow}
 use Rattle.tx_trees.specs.declared.parts.ScriptRow.TheVariants.{Tree as TreeRow, Advance as AdvanceRow, Settle as SettleRow, Lose as LoseRow}
 use Rattle.world_model.specs.Node.{Node}
 use Rattle.world_model.specs.Client.{Client, rows_letters, submit, submitted}
-use Rattle.world_model.specs.Coordinator.{Coordinator}
-use Rattle.world_model.specs.declared.phase.Phase.TheVariants.{Counting, Paused}
 use Rattle.world_model.specs.Counts.{Each}
-use Rattle.world_model.specs.Runs.{coordinator_in, node_in, in_flight, MayFollow}
+use Rattle.world_model.specs.Runs.{node_in, in_flight, MayFollow}
 use Rattle.world_model.proofs.Every.{each_append, each_map, each_step, each_taken, node_kept}
-use Rattle.world_model.proofs.Nexts.{MadeByClient, MadeByCoordinator, Order, Turns, Shows, Sweeps, TellsDone, TellsAsked}
-use Rattle.world_model.proofs.Orders.{OfOrders, coordinator_each}
+use Rattle.world_model.proofs.Nexts.{MadeByClient, Order, Turns, Shows, Sweeps, TellsDone, TellsAsked}
+use Rattle.phase_laws.proofs.Counting.{Count, InRound, AfterRound}
+use Rattle.phase_laws.proofs.Sending.{AllRowless, IsRowless}
 use Rattle.run_laws.proofs.Measures.{busy}
 use Rattle.phase_laws.proofs.Steps.{numbers_at}
 use Rattle.phase_laws.proofs.Waves.{in_at}
@@ -47,11 +46,11 @@ pub record Exact (s : ScriptData) (past : List Entry) (r : RoundData) : Type 0 w
   pub askeds : (p : ℕ) (row : List ℕ) → p < s.nodes → slice_get r.askeds p ≡ Some (Some row)
       → (q : ℕ) → q < s.nodes → slice_index row q ≡ (node_in s past p).counts.asked r.version.0 q
 
-abbrev pub Counts : ScriptData → List Entry → Coordinator → Type 0
-Counts s past c = (reads : Bool) → c.phase ≡ Counting reads → c.flag ≡ false → busy s past ≡ 0 → Exact s past c.current
+abbrev pub Counts : ScriptData → List Entry → Count → Type 0
+Counts s past c = (reads : Bool) → c.pace ≡ InRound reads → c.flag ≡ false → busy s past ≡ 0 → Exact s past c.round
 
-abbrev pub Pausing : ScriptData → List Entry → Coordinator → Type 0
-Pausing s past c = (reads : Bool) → c.phase ≡ Paused reads → 1 ≤ busy s past
+abbrev pub Pausing : ScriptData → List Entry → Count → Type 0
+Pausing s past c = c.pace ≡ AfterRound → 1 ≤ busy s past
 
 -- 1. Counters that don't change.
 abbrev pub Frozen : ScriptData → List Entry → Entry → Type 0
@@ -140,21 +139,16 @@ client_exact s past e v r c first all made =
     (each_append (λ (o : Outgoing). LetterId → ExactBody s (e ∷ past) v r e.actor.0 o.body) first (rows_letters s rows) all
     (rows_exact s (e ∷ past) v r e.actor.0 rows))
 
-orders_exact : (s : ScriptData) (past : List Entry) (v r a n : ℕ) → OfOrders (λ to body. LetterId → ExactBody s past v r a body) n
-orders_exact s past v r a n = record {
-  turn = λ to w lt id. tt;
-  show = λ to w lt id. tt;
-  sweep = λ to w lt id. tt;
-  ask_done = λ to w k lt id. tt;
-  ask_asked = λ to w k lt id. tt;
-  advanced = λ w id. tt;
-}
+rowless_exact : (s : ScriptData) (past : List Entry) (v r a : ℕ) (body : Body) → IsRowless body → ExactBody s past v r a body
+rowless_exact s past v r a (DoneRow w k row) none = absurd none
+rowless_exact s past v r a (AskedRow w k row) none = absurd none
+rowless_exact s past v r a Go none = tt
+rowless_exact s past v r a _ none = tt
 
-pub coordinator_exact : (s : ScriptData) (past : List Entry) (e : Entry) (v r : ℕ) → MadeByCoordinator s past e → SentExact s (e ∷ past) v r e.actor.0 e.sent
-coordinator_exact s past e v r made =
-    let c = coordinator_in s past in
-    subst (λ (os : List Outgoing). SentExact s (e ∷ past) v r e.actor.0 os) (sym made.sent)
-    (coordinator_each (λ to body. LetterId → ExactBody s (e ∷ past) v r e.actor.0 body) c (orders_exact s (e ∷ past) v r e.actor.0 c.nodes) e.took.from.0 e.took.body)
+pub orders_exact : (s : ScriptData) (past : List Entry) (v r a : ℕ) (os : List Outgoing) → AllRowless os → SentExact s past v r a os
+orders_exact s past v r a os all =
+    each_map (λ (o : Outgoing). IsRowless o.body) (λ (o : Outgoing). LetterId → ExactBody s past v r a o.body) os
+    (λ o none id. rowless_exact s past v r a o.body none) all
 
 -- 3. A verdict on exact rows is yes.
 pub kept_is : (ks : NodeRows) (p q n : ℕ) → all_in ks ≡ true → p < length ks

@@ -5,33 +5,27 @@ use Rattle.std.proofs.lemmas.Bool.Decides.{nat_tests}
 use Rattle.std.proofs.lemmas.Bool.{eqb-true}
 use Rattle.pair_counters.proofs.Rows.{length_numbers}
 use Rattle.tv_base.specs.declared.numbers.Version.{Version}
-use Rattle.phase_out.specs.Rounds.{NodeRows, RoundData, all_in, is_of}
+use Rattle.phase_out.specs.Rounds.{NodeRows, RoundData, all_in, is_of, new_round}
 use Rattle.pair_counters.specs.Numbers.{numbers_of}
 use Rattle.letter_types.specs.declared.bodies.Body.{Body}
 use Rattle.letter_types.specs.declared.bodies.Body.TheVariants.{Go, AskDone, AskAsked, DoneRow, AskedRow, Root, Sub as SubLetter, Done, Decide, Decided, Release, Wake}
 use Rattle.letter_types.specs.declared.entries.Entry.{Entry}
 use Rattle.letter_types.specs.declared.entries.Letter.{Letter}
 use Rattle.letter_types.specs.declared.entries.Outgoing.{Outgoing}
-use Rattle.letter_types.specs.Steps.{Out, still}
+use Rattle.letter_types.specs.Steps.{Out}
 use Rattle.tx_trees.specs.ScriptData.{ScriptData}
-use Rattle.tx_trees.specs.Valid.{IsValid}
+use Rattle.world_model.specs.AllApt.{AllApt}
 use Rattle.world_model.specs.Node.{Node}
-use Rattle.world_model.specs.Coordinator.{Coordinator, coordinator_row, keep_done, to_nodes}
-use Rattle.world_model.specs.declared.phase.Phase.TheVariants.{Counting}
+use Rattle.world_model.specs.Coordinator.{to_nodes, with_asked, with_done}
 use Rattle.world_model.specs.Counts.{tally, one_if}
-use Rattle.world_model.specs.Runs.{coordinator_in, node_in, in_flight, MayFollow, IsStepRun}
+use Rattle.world_model.specs.Runs.{node_in, in_flight, MayFollow, IsStepRun}
 use Rattle.world_model.proofs.Bags.{tally-append, tally_step, sealed_tally}
-use Rattle.world_model.proofs.Every.{coordinator_kept}
-use Rattle.world_model.proofs.Nexts.{Order, Turns, Shows, Sweeps, TellsDone, TellsAsked, MadeByCoordinator}
-use Rattle.world_model.proofs.Orders.{coordinator_nodes}
-use Rattle.phase_laws.proofs.Current.{IsCurrent, current}
-use Rattle.phase_laws.proofs.Outcomes.{asked_kept, round_begun}
+use Rattle.world_model.proofs.Nexts.{Order, Turns, Shows, Sweeps, TellsDone, TellsAsked}
+use Rattle.phase_laws.proofs.Counting.{Count, CountStep, Denies, Holds, IsCounting, IsNudged, InRound, Lasts, Leaves, NoDone, Refused, TakesDone, TakesRequests, Begins as BeginsRound, asks_after, none_in_round, paused_in_round, Premise}
 use Rattle.phase_laws.proofs.Progress.{Begins, Coordinates, Ends, Hears, Obeys, Progress, Works, progress}
-use Rattle.phase_laws.proofs.Small.{outcome_in}
-use Rattle.phase_laws.proofs.Working.{IsOfTrees}
-use Rattle.run_laws.proofs.Course.{Course, Leaves, Starts, Holds, Lasts, TakesDone, TakesMore, Denies, NoDone, Refused, course, outside_counting}
 use Rattle.phase_laws.proofs.Silence.{below_or_at}
-use Rattle.run_laws.proofs.EveryApt.{all_apt, lawful}
+use Rattle.phase_laws.proofs.Steps.{Shaped, shaped}
+use Rattle.phase_laws.proofs.Working.{IsOfTrees}
 
 -- the first wave's or the second wave's question to node q, or q's answer
 abbrev pub wave : Bool → ℕ → ℕ → ℕ → ℕ → ℕ → ℕ → Body → ℕ
@@ -67,8 +61,8 @@ pub record Waved (s : ScriptData) (past : List Entry) (r : RoundData) : Type 0 w
   pub second : all_in r.dones ≡ true → (q : ℕ) → q < s.nodes → 1 ≤ waves s past true r.version.0 r.number q + is_kept r.askeds q
   pub misses : all_in r.askeds ≡ false
 
-abbrev pub Heard : ScriptData → List Entry → Coordinator → Type 0
-Heard s past c = (reads : Bool) → c.phase ≡ Counting reads → Waved s past c.current
+abbrev pub Heard : ScriptData → List Entry → Count → Type 0
+Heard s past c = (reads : Bool) → c.pace ≡ InRound reads → Waved s past c.round
 
 -- Rows that are kept.
 put_more : (ks : NodeRows) (f : ℕ) (row : List ℕ) (q : ℕ) → is_kept ks q ≤ is_kept (set ks f (Some row)) q
@@ -203,29 +197,29 @@ and_keep : (a b : Bool) → (a && b) ≡ false → b ≡ true → a ≡ false
 and_keep true b is at = absurd (cc (is, at))
 and_keep false b is at = refl
 
-refused_done : (n : ℕ) (c : Coordinator) (from q : ℕ) (body : Body) → c.current.nodes ≡ n → q < n → Refused body from c
-    → wave false c.current.version.0 c.current.number q n from n body ≡ 0
-refused_done n c from q (DoneRow w k row) same lt refused =
-    refused_row w.0 c.current.version.0 k c.current.number from q n (length row) c.current.nodes same refused lt
-refused_done n c from q (AskDone w k) same lt refused = far_question true (w.0 == c.current.version.0) (k == c.current.number) n q lt
-refused_done n c from q (AskedRow w k row) same lt refused = refl
-refused_done n c from q (AskAsked w k) same lt refused = refl
-refused_done n c from q _ same lt refused = refl
+refused_done : (n : ℕ) (r : RoundData) (from q : ℕ) (body : Body) → r.nodes ≡ n → q < n → Refused body from r
+    → wave false r.version.0 r.number q n from n body ≡ 0
+refused_done n r from q (DoneRow w k row) same lt refused =
+    refused_row w.0 r.version.0 k r.number from q n (length row) r.nodes same refused lt
+refused_done n r from q (AskDone w k) same lt refused = far_question true (w.0 == r.version.0) (k == r.number) n q lt
+refused_done n r from q (AskedRow w k row) same lt refused = refl
+refused_done n r from q (AskAsked w k) same lt refused = refl
+refused_done n r from q _ same lt refused = refl
 
-refused_asked : (n : ℕ) (c : Coordinator) (from q : ℕ) (body : Body) → c.current.nodes ≡ n → q < n → Refused body from c
-    → all_in c.current.dones ≡ true → wave true c.current.version.0 c.current.number q n from n body ≡ 0
-refused_asked n c from q (AskedRow w k row) same lt refused full =
-    refused_row w.0 c.current.version.0 k c.current.number from q n (length row) c.current.nodes same
-    (and_keep (is_of from w k row c.current) (all_in c.current.dones) refused full) lt
-refused_asked n c from q (AskAsked w k) same lt refused full = far_question true (w.0 == c.current.version.0) (k == c.current.number) n q lt
-refused_asked n c from q (DoneRow w k row) same lt refused full = refl
-refused_asked n c from q (AskDone w k) same lt refused full = refl
-refused_asked n c from q _ same lt refused full = refl
+refused_asked : (n : ℕ) (r : RoundData) (from q : ℕ) (body : Body) → r.nodes ≡ n → q < n → Refused body from r
+    → all_in r.dones ≡ true → wave true r.version.0 r.number q n from n body ≡ 0
+refused_asked n r from q (AskedRow w k row) same lt refused full =
+    refused_row w.0 r.version.0 k r.number from q n (length row) r.nodes same
+    (and_keep (is_of from w k row r) (all_in r.dones) refused full) lt
+refused_asked n r from q (AskAsked w k) same lt refused full = far_question true (w.0 == r.version.0) (k == r.number) n q lt
+refused_asked n r from q (DoneRow w k row) same lt refused full = refl
+refused_asked n r from q (AskDone w k) same lt refused full = refl
+refused_asked n r from q _ same lt refused full = refl
 
 -- The coordinator's steps: the letters before and after, for every version, round and node.
-abbrev Flows : ScriptData → List Entry → Entry → Out Coordinator → Type 0
-Flows s past e out = (two : Bool) (v r q : ℕ) → waves s (e ∷ past) two v r q + wave two v r q s.nodes e.took.from.0 s.nodes e.took.body
-    ≡ waves s past two v r q + tally (sends two v r q s.nodes s.nodes) out.sent
+abbrev Flows : ScriptData → List Entry → Entry → List Outgoing → Type 0
+Flows s past e os = (two : Bool) (v r q : ℕ) → waves s (e ∷ past) two v r q + wave two v r q s.nodes e.took.from.0 s.nodes e.took.body
+    ≡ waves s past two v r q + tally (sends two v r q s.nodes s.nodes) os
 
 no_done_wave : (v r q n from : ℕ) (body : Body) → q < n → NoDone body → wave false v r q n from n body ≡ 0
 no_done_wave v r q n from (DoneRow w k row) lt none = absurd none
@@ -234,33 +228,30 @@ no_done_wave v r q n from (AskAsked w k) lt none = refl
 no_done_wave v r q n from (AskedRow w k row) lt none = refl
 no_done_wave v r q n from _ lt none = refl
 
-heard_starts : (s : ScriptData) (past : List Entry) (e : Entry) (reads : Bool) (k : ℕ) (d : Coordinator) → 1 ≤ s.nodes → d.nodes ≡ s.nodes
-    → NoDone e.took.body → Flows s past e (round_begun reads k d) → Waved s (e ∷ past) (round_begun reads k d).state.current
-heard_starts s past e reads k d some nodes none flow =
-    let r = (round_begun reads k d).state.current in
-    let missing : all_in (replicate d.nodes None) ≡ false = none_in d.nodes (omega (arith, some, nodes)) in
+heard_begins : (s : ScriptData) (past : List Entry) (e : Entry) (v : Version) (k : ℕ) → 1 ≤ s.nodes → NoDone e.took.body
+    → Flows s past e (to_nodes s.nodes (AskDone v k)) → Waved s (e ∷ past) (new_round v k s.nodes)
+heard_begins s past e v k some none flow =
+    let missing : all_in (replicate s.nodes None) ≡ false = none_in s.nodes some in
     record {
       first = λ q lt. omega (
         arith,
-        flow false r.version.0 k q,
-        no_done_wave r.version.0 k q s.nodes e.took.from.0 e.took.body lt none,
-        asks_done r.version k q s.nodes s.nodes d.nodes (omega (arith, lt, nodes)),
+        flow false v.0 k q,
+        no_done_wave v.0 k q s.nodes e.took.from.0 e.took.body lt none,
+        asks_done v k q s.nodes s.nodes s.nodes lt,
       );
       second = λ full. absurd (cc (full, missing));
       misses = missing;
     }
 
-heard_holds : (s : ScriptData) (past : List Entry) (e : Entry) (c d : Coordinator) → c.current.nodes ≡ s.nodes → Waved s past c.current
-    → d.current ≡ c.current → Refused e.took.body e.took.from.0 c → Flows s past e (still d) → Waved s (e ∷ past) d.current
-heard_holds s past e c d nodes was same refused flow =
-    let r = c.current in
-    subst (λ (x : RoundData). Waved s (e ∷ past) x) (sym same) (record {
-      first = λ q lt.
-          omega (arith, was.first q lt, flow false r.version.0 r.number q, refused_done s.nodes c e.took.from.0 q e.took.body nodes lt refused);
-      second = λ full q lt.
-          omega (arith, was.second full q lt, flow true r.version.0 r.number q, refused_asked s.nodes c e.took.from.0 q e.took.body nodes lt refused full);
-      misses = was.misses;
-    })
+heard_holds : (s : ScriptData) (past : List Entry) (e : Entry) (r : RoundData) → r.nodes ≡ s.nodes → Waved s past r
+    → Refused e.took.body e.took.from.0 r → Flows s past e [] → Waved s (e ∷ past) r
+heard_holds s past e r nodes was refused flow = record {
+  first = λ q lt.
+      omega (arith, was.first q lt, flow false r.version.0 r.number q, refused_done s.nodes r e.took.from.0 q e.took.body nodes lt refused);
+  second = λ full q lt.
+      omega (arith, was.second full q lt, flow true r.version.0 r.number q, refused_asked s.nodes r e.took.from.0 q e.took.body nodes lt refused full);
+  misses = was.misses;
+}
 
 other_row : (a b c d : Bool) (q from : ℕ) → (from == q) ≡ false → one_if (a && (b && (c && ((from == q) && d)))) ≡ 0
 other_row a b c d q from ne = grind (arith, nat_tests)
@@ -303,26 +294,25 @@ no_first w r v k q n m true = asks_none m
         omega (arith, asks_none m, tally-append (sends false v k q n n) (to_nodes m (AskAsked w r)) (record { to = record { 0 = m }; body = AskAsked w r } ∷ []))
 no_first w r v k q n m false = refl
 
-heard_done : (s : ScriptData) (past : List Entry) (e : Entry) (c : Coordinator) (v : Version) (k : ℕ) (row : List ℕ) → c.nodes ≡ s.nodes
-    → e.took.from.0 < length c.current.dones → Waved s past c.current → e.took.body ≡ DoneRow v k row
-    → Flows s past e (keep_done e.took.from.0 row c) → Waved s (e ∷ past) (keep_done e.took.from.0 row c).state.current
-heard_done s past e c v k row nodes from was bd flow =
-    let r = c.current in
+heard_done : (s : ScriptData) (past : List Entry) (e : Entry) (r : RoundData) (v : Version) (k : ℕ) (row : List ℕ)
+    → e.took.from.0 < length r.dones → Waved s past r → e.took.body ≡ DoneRow v k row
+    → Flows s past e (asks_after s.nodes e.took.from.0 row r) → Waved s (e ∷ past) (with_done e.took.from.0 row r)
+heard_done s past e r v k row from was bd flow =
     let f = e.took.from.0 in
-    let out = keep_done f row c in
+    let os = asks_after s.nodes f row r in
     let flow' : (two : Bool) (q : ℕ) → waves s (e ∷ past) two r.version.0 r.number q + wave two r.version.0 r.number q s.nodes f s.nodes (DoneRow v k row)
-    ≡ waves s past two r.version.0 r.number q + tally (sends two r.version.0 r.number q s.nodes s.nodes) out.sent =
+    ≡ waves s past two r.version.0 r.number q + tally (sends two r.version.0 r.number q s.nodes s.nodes) os =
     λ two q. subst (λ (b : Body). waves s (e ∷ past) two r.version.0 r.number q + wave two r.version.0 r.number q s.nodes f s.nodes b
-    ≡ waves s past two r.version.0 r.number q + tally (sends two r.version.0 r.number q s.nodes s.nodes) out.sent) bd (flow two r.version.0 r.number q) in
+    ≡ waves s past two r.version.0 r.number q + tally (sends two r.version.0 r.number q s.nodes s.nodes) os) bd (flow two r.version.0 r.number q) in
     let new = all_in (set r.dones f (Some row)) in
     record {
       first = λ q lt.
-          let none = no_first r.version r.number r.version.0 r.number q s.nodes c.nodes (new && not (all_in r.dones)) in
+          let none = no_first r.version r.number r.version.0 r.number q s.nodes s.nodes (new && not (all_in r.dones)) in
           kept_first r.version.0 r.number q f (waves s past false r.version.0 r.number q) (waves s (e ∷ past) false r.version.0 r.number q)
           s.nodes v k row r.dones s.nodes from (f == q) refl (was.first q lt) (omega (arith, flow' false q, none));
       second = λ full q lt.
-          begun r.version r.number q s.nodes c.nodes (waves s past true r.version.0 r.number q) (waves s (e ∷ past) true r.version.0 r.number q)
-          (is_kept r.askeds q) new (all_in r.dones) full (omega (arith, lt, nodes)) (λ old. was.second old q lt) (omega (arith, flow' true q));
+          begun r.version r.number q s.nodes s.nodes (waves s past true r.version.0 r.number q) (waves s (e ∷ past) true r.version.0 r.number q)
+          (is_kept r.askeds q) new (all_in r.dones) full lt (λ old. was.second old q lt) (omega (arith, flow' true q));
       misses = was.misses;
     }
 
@@ -332,12 +322,11 @@ none_misses true true x full is = absurd (cc is)
 none_misses true false x full is = refl
 none_misses false b x full is = absurd (cc full)
 
-heard_asked : (s : ScriptData) (past : List Entry) (e : Entry) (c : Coordinator) (v : Version) (k : ℕ) (row : List ℕ)
-    → e.took.from.0 < length c.current.askeds → Waved s past c.current → e.took.body ≡ AskedRow v k row → all_in c.current.dones ≡ true
-    → all_in (set c.current.askeds e.took.from.0 (Some row)) ≡ false
-    → Flows s past e (still (asked_kept e.took.from.0 row c)) → Waved s (e ∷ past) (asked_kept e.took.from.0 row c).current
-heard_asked s past e c v k row from was bd full more flow =
-    let r = c.current in
+heard_asked : (s : ScriptData) (past : List Entry) (e : Entry) (r : RoundData) (v : Version) (k : ℕ) (row : List ℕ)
+    → e.took.from.0 < length r.askeds → Waved s past r → e.took.body ≡ AskedRow v k row → all_in r.dones ≡ true
+    → all_in (set r.askeds e.took.from.0 (Some row)) ≡ false
+    → Flows s past e [] → Waved s (e ∷ past) (with_asked e.took.from.0 row r)
+heard_asked s past e r v k row from was bd full more flow =
     let f = e.took.from.0 in
     let flow' : (two : Bool) (q : ℕ) → waves s (e ∷ past) two r.version.0 r.number q + wave two r.version.0 r.number q s.nodes f s.nodes (AskedRow v k row)
     ≡ waves s past two r.version.0 r.number q + 0 =
@@ -358,78 +347,84 @@ row_from from v k row r here = by (v.0 == r.version.0) (k == r.number) (length r
     by : (a b d : Bool) (x n : ℕ) → (a && (b && (nat_lt x n && d))) ≡ true → x < n
     by a b d x n is = grind (arith, nat_tests)
 
-heard_out : (s : ScriptData) (past : List Entry) (e : Entry) (c : Coordinator) (out : Out Coordinator) → 1 ≤ s.nodes → c.nodes ≡ s.nodes
-    → ((reads : Bool) → c.phase ≡ Counting reads → IsCurrent reads c) → Heard s past c → Flows s past e out
-    → Course c e.took.from.0 e.took.body out → Heard s (e ∷ past) out.state
-heard_out s past e c out some nodes now was flow (Leaves away) = λ reads at. absurd (outside_counting out.state.phase reads away at)
-heard_out s past e c out some nodes now was flow (Starts reads d round same none is) =
-    rw is (λ x at. heard_starts s past e reads (c.round + 1) d some (same ∙ nodes) none (subst (λ (o : Out Coordinator). Flows s past e o) is flow))
-heard_out s past e c out some nodes now was flow (Holds reads d at alike un refused is) =
-    rw is (λ x here. heard_holds s past e c d ((now reads at).nodes ∙ nodes) (was reads at) alike.current refused (subst (λ (o : Out Coordinator). Flows s past e o) is flow))
-heard_out s past e c out some nodes now was flow (Lasts reads d at alike none is) =
-    rw is (λ x here. let bad = sym at ∙ (sym alike.phase ∙ here) in absurd (cc bad))
-heard_out s past e c out some nodes now was flow (TakesDone reads v k row at bd here is) =
-    let cur = now reads at in
-    let from : e.took.from.0 < length c.current.dones =
-    omega (arith, row_from e.took.from.0 v k row c.current here, cur.nodes, cur.dones) in
-    rw is (λ x there. heard_done s past e c v k row nodes from (was reads at) bd (subst (λ (o : Out Coordinator). Flows s past e o) is flow))
-heard_out s past e c out some nodes now was flow (TakesMore reads v k row takes verdict is) =
-    let cur = now reads takes.phase in
-    let from : e.took.from.0 < length c.current.askeds =
-    omega (arith, row_from e.took.from.0 v k row c.current takes.here, cur.nodes, cur.askeds) in
-    let more = none_misses (all_in c.current.dones) (all_in (set c.current.askeds e.took.from.0 (Some row))) _ takes.after_dones verdict in
-    rw is (λ x there. heard_asked s past e c v k row from (was reads takes.phase) takes.body_is takes.after_dones more (subst (λ (o : Out Coordinator). Flows s past e o) is flow))
-heard_out s past e c out some nodes now was flow (Denies reads v k row takes verdict clear is) = rw is (λ x at. absurd (cc at))
+heard_out : (s : ScriptData) (past : List Entry) (e : Entry) (c d : Count) → 1 ≤ s.nodes → Shaped s.nodes c → Heard s past c
+    → Flows s past e e.sent → CountStep s.nodes c d e.took.from.0 e.took.body e.sent → Heard s (e ∷ past) d
+heard_out s past e c d some shape was flow (Leaves none le plain) = λ reads at. absurd (none_in_round d.pace reads none at)
+heard_out s past e c d some shape was flow (Holds reads at calm refused is sent) =
+    subst (Heard s (e ∷ past)) (sym is) (λ x now.
+    heard_holds s past e c.round (shape x now).nodes (was x now) refused (subst (Flows s past e) sent flow))
+heard_out s past e c d some shape was flow (IsNudged reads at bd is sent) =
+    let refused : Refused e.took.body e.took.from.0 c.round = subst (λ (b : Body). Refused b e.took.from.0 c.round) (sym bd) tt in
+    subst (Heard s (e ∷ past)) (sym is) (λ x now.
+    heard_holds s past e c.round (shape x now).nodes (was x now) refused (subst (Flows s past e) sent flow))
+heard_out s past e c d some shape was flow (Lasts at calm is sent) =
+    subst (Heard s (e ∷ past)) (sym is) (λ x now. absurd (paused_in_round c.pace x at now))
+heard_out s past e c d some shape was flow (BeginsRound reads v k lt none is sent) =
+    subst (Heard s (e ∷ past)) (sym is) (λ x now. heard_begins s past e v k some none (subst (Flows s past e) sent flow))
+heard_out s past e c d some shape was flow (TakesDone reads v k row at bd here is sent) =
+    let now = shape reads at in
+    let from : e.took.from.0 < length c.round.dones =
+    omega (arith, row_from e.took.from.0 v k row c.round here, now.nodes, now.dones) in
+    subst (Heard s (e ∷ past)) (sym is) (λ x there. heard_done s past e c.round v k row from (was reads at) bd (subst (Flows s past e) sent flow))
+heard_out s past e c d some shape was flow (TakesRequests reads v k row takes verdict is sent) =
+    let now = shape reads takes.pace in
+    let from : e.took.from.0 < length c.round.askeds =
+    omega (arith, row_from e.took.from.0 v k row c.round takes.here, now.nodes, now.askeds) in
+    let more = none_misses (all_in c.round.dones) (all_in (set c.round.askeds e.took.from.0 (Some row))) _ takes.after_dones verdict in
+    subst (Heard s (e ∷ past)) (sym is) (λ x there.
+    heard_asked s past e c.round v k row from (was reads takes.pace) takes.body_is takes.after_dones more (subst (Flows s past e) sent flow))
+heard_out s past e c d some shape was flow (Denies reads v k row takes verdict clear is sent) =
+    subst (Heard s (e ∷ past)) (sym is) (λ x there. absurd (cc there))
 
-heard_same : (s : ScriptData) (past : List Entry) (e : Entry) (c : Coordinator) → Heard s past c
+heard_same : (s : ScriptData) (past : List Entry) (e : Entry) (c : Count) → Heard s past c
     → ((two : Bool) (v r q : ℕ) → waves s past two v r q ≤ waves s (e ∷ past) two v r q) → Heard s (e ∷ past) c
 heard_same s past e c was more = λ reads at.
     let now = was reads at in
-    let r = c.current in
+    let r = c.round in
     record {
       first = λ q lt. omega (arith, now.first q lt, more false r.version.0 r.number q);
       second = λ full q lt. omega (arith, now.second full q lt, more true r.version.0 r.number q);
       misses = now.misses;
     }
 
-heard_away : (s : ScriptData) (past : List Entry) (e : Entry) → MayFollow s past e → e.actor.0 ≢ s.nodes → Progress s past e
-    → Heard s past (coordinator_in s past) → Heard s (e ∷ past) (coordinator_in s (e ∷ past))
-heard_away s past e m away next was =
-    subst (λ (c : Coordinator). Heard s (e ∷ past) c) (sym (coordinator_kept s past e away))
-    (heard_same s past e (coordinator_in s past) was (λ two v r q. waves_stay s past e two v r q m away next))
+heard_away : (s : ScriptData) (count : List Entry → Count) (G : Premise) → IsCounting s count G
+    → (past : List Entry) (e : Entry) → MayFollow s past e → e.actor.0 ≢ s.nodes → Progress s past e → Heard s past (count past)
+    → Heard s (e ∷ past) (count (e ∷ past))
+heard_away s count G view past e m away next was =
+    subst (Heard s (e ∷ past)) (sym (view.stays past e away))
+    (heard_same s past e (count past) was (λ two v r q. waves_stay s past e two v r q m away next))
 
-heard_told : (s : ScriptData) (past : List Entry) (e : Entry) → IsValid s → IsStepRun s (e ∷ past) → e.actor.0 ≡ s.nodes
-    → MadeByCoordinator s past e → Heard s past (coordinator_in s past) → Heard s (e ∷ past) (coordinator_in s (e ∷ past))
-heard_told s past e valid run at made was =
-    let c = coordinator_in s past in
-    let laws = lawful s valid in
-    let apt = all_apt s past valid run.1 in
-    let out = coordinator_row c e.took.from.0 e.took.body in
-    let flow : Flows s past e out = λ two v r q.
+heard_told : (s : ScriptData) (count : List Entry → Count) (G : Premise) → IsCounting s count G
+    → (past : List Entry) (e : Entry) → IsStepRun s (e ∷ past) → AllApt s past → e.actor.0 ≡ s.nodes → Heard s past (count past)
+    → Heard s (e ∷ past) (count (e ∷ past))
+heard_told s count G view past e run apt at was =
+    let flow : Flows s past e e.sent = λ two v r q.
     let took : wave two v r q s.nodes e.took.from.0 e.actor.0 e.took.body ≡ wave two v r q s.nodes e.took.from.0 s.nodes e.took.body =
     ap (λ (n : ℕ). wave two v r q s.nodes e.took.from.0 n e.took.body) at in
-    let sent : tally (sends two v r q s.nodes e.actor.0) e.sent ≡ tally (sends two v r q s.nodes s.nodes) out.sent =
-    ap (λ (os : List Outgoing). tally (sends two v r q s.nodes e.actor.0) os) made.sent
-    ∙ ap (λ (n : ℕ). tally (sends two v r q s.nodes n) out.sent) at in
+    let sent : tally (sends two v r q s.nodes e.actor.0) e.sent ≡ tally (sends two v r q s.nodes s.nodes) e.sent =
+    ap (λ (n : ℕ). tally (sends two v r q s.nodes n) e.sent) at in
     omega (arith, wave_flow s past e two v r q run.0, took, sent) in
-    subst (λ (d : Coordinator). Heard s (e ∷ past) d) (sym made.state)
-    (heard_out s past e c out valid.some_nodes (coordinator_nodes s past) (current s past laws run.1 apt) was flow
-    (course c e.took.from.0 e.took.body out (outcome_in s past e laws run.1 apt)))
+    heard_out s past e (count past) (count (e ∷ past)) view.lawful.valid.some_nodes (shaped s count G view past run.1 apt) was flow
+    (view.steps past e run apt at)
 
-heard_next : (s : ScriptData) (past : List Entry) (e : Entry) → IsValid s → IsStepRun s (e ∷ past) → Progress s past e
-    → Heard s past (coordinator_in s past) → Heard s (e ∷ past) (coordinator_in s (e ∷ past))
-heard_next s past e valid run (Coordinates tells at made) was = heard_told s past e valid run at made was
-heard_next s past e valid run (Begins bd at made) was = heard_away s past e run.0 (omega (arith, at)) (Begins bd at made) was
-heard_next s past e valid run (Hears t v answer bd at lt made) was =
-    heard_away s past e run.0 (omega (arith, at)) (Hears t v answer bd at lt made) was
-heard_next s past e valid run (Ends v bd at made) was = heard_away s past e run.0 (omega (arith, at)) (Ends v bd at made) was
-heard_next s past e valid run (Works p r w) was =
-    heard_away s past e run.0 (omega (arith, w.brings.at, w.brings.below)) (Works p r w) was
-heard_next s past e valid run (Obeys p out more at lt order state is woken) was =
-    heard_away s past e run.0 (omega (arith, at, lt)) (Obeys p out more at lt order state is woken) was
+heard_next : (s : ScriptData) (count : List Entry → Count) (G : Premise) → IsCounting s count G
+    → (past : List Entry) (e : Entry) → IsStepRun s (e ∷ past) → AllApt s past → Progress s past e → Heard s past (count past)
+    → Heard s (e ∷ past) (count (e ∷ past))
+heard_next s count G view past e run apt (Coordinates tells at made) was = heard_told s count G view past e run apt at was
+heard_next s count G view past e run apt (Begins bd at made) was =
+    heard_away s count G view past e run.0 (omega (arith, at)) (Begins bd at made) was
+heard_next s count G view past e run apt (Hears t v answer bd at lt made) was =
+    heard_away s count G view past e run.0 (omega (arith, at)) (Hears t v answer bd at lt made) was
+heard_next s count G view past e run apt (Ends v bd at made) was =
+    heard_away s count G view past e run.0 (omega (arith, at)) (Ends v bd at made) was
+heard_next s count G view past e run apt (Works p r w) was =
+    heard_away s count G view past e run.0 (omega (arith, w.brings.at, w.brings.below)) (Works p r w) was
+heard_next s count G view past e run apt (Obeys p out more at lt order state is woken) was =
+    heard_away s count G view past e run.0 (omega (arith, at, lt)) (Obeys p out more at lt order state is woken) was
 
 -- in every run both waves are heard
-pub heard : (s : ScriptData) (past : List Entry) → IsValid s → IsStepRun s past → Heard s past (coordinator_in s past)
-heard s [] valid run = λ reads at. absurd (cc at)
-heard s (e ∷ past) valid run =
-    heard_next s past e valid run (progress s past e (lawful s valid) (all_apt s (e ∷ past) valid run) run) (heard s past valid run.1)
+pub waves_heard : (s : ScriptData) (count : List Entry → Count) (G : Premise) → IsCounting s count G
+    → (past : List Entry) → IsStepRun s past → AllApt s past → Heard s past (count past)
+waves_heard s count G view [] run apt = λ reads at. absurd (none_in_round (count []).pace reads view.start at)
+waves_heard s count G view (e ∷ past) run apt =
+    heard_next s count G view past e run apt.1 (progress s past e view.lawful apt run) (waves_heard s count G view past run.1 apt.1)

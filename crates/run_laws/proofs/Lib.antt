@@ -21,7 +21,6 @@ pub mod Taken
 pub mod Measures
 pub mod Busy
 pub mod Balancing
-pub mod Course
 pub mod Heard
 pub mod Exacts
 pub mod Pauses

@@ -1,12 +1,13 @@
 -- In every run the rows of a round that nothing has disturbed are exact, and a pause is busy.
-use Rattle.std.proofs.Common.{if◌then◌else◌, ◌≡◌, ◌≢◌, ◌⊎◌, inl, inr, ℕ, zero, suc, ◌+◌, ◌-◌, ◌<◌, ◌≤◌, ◌&&◌, Bool, true, false, List, [], ◌∷◌, ◌++◌, get_or, length, set, refl, sym, ap, subst, ◌∙◌, arith, Some, None}
+use Rattle.std.proofs.Common.{if◌then◌else◌, ◌≡◌, ◌≢◌, ◌⊎◌, inl, inr, ℕ, zero, suc, ◌+◌, ◌<◌, ◌≤◌, ◌&&◌, Bool, true, false, List, [], ◌∷◌, ◌++◌, get_or, length, set, refl, sym, ap, subst, ◌∙◌, arith, Some, None}
+use Rattle.std.specs.Prelude.{slice_get, slice_index}
 use Rattle.std.proofs.lemmas.Bool.{cases_eq}
 use Rattle.std.proofs.lemmas.List.{length-set}
 use Rattle.tv_base.specs.declared.numbers.TreeNo.{TreeNo}
 use Rattle.tv_base.specs.declared.numbers.Version.{Version}
-use Rattle.phase_out.specs.Rounds.{RoundData, agrees, all_in, is_of, kept_number, verdict_of}
+use Rattle.phase_out.specs.Rounds.{RoundData, agrees, all_in, is_of, kept_number, new_round, verdict_of}
 use Rattle.letter_types.specs.declared.bodies.Body.{Body}
-use Rattle.letter_types.specs.declared.bodies.Body.TheVariants.{Go, Root, Sub as SubLetter, Done, Decide, Decided, Release, Wake, Sweep, DoneRow, AskedRow}
+use Rattle.letter_types.specs.declared.bodies.Body.TheVariants.{Go, Nudge, Root, Sub as SubLetter, Done, Decide, Decided, Release, Wake, Sweep, DoneRow, AskedRow}
 use Rattle.letter_types.specs.declared.entries.Entry.{Entry}
 use Rattle.letter_types.specs.declared.entries.Letter.{Letter}
 use Rattle.letter_types.specs.declared.entries.LetterId.{LetterId}
@@ -22,29 +23,25 @@ use Rattle.world_model.specs.Kept.{kept_in, outstanding}
 use Rattle.world_model.specs.Node.{Node}
 use Rattle.world_model.specs.Strict.{CoreKeeping, core_row}
 use Rattle.world_model.specs.Client.{Client, nudge, with_answer, with_end}
-use Rattle.world_model.specs.Coordinator.{Coordinator, coordinator_row, counted_version, in_phase, keep_done, with_asked}
-use Rattle.world_model.specs.declared.phase.Phase.{Phase}
-use Rattle.world_model.specs.declared.phase.Phase.TheVariants.{Counting, Paused, Sweeping}
+use Rattle.world_model.specs.Coordinator.{with_asked}
+use Rattle.world_model.specs.declared.phase.Phase.TheVariants.{Counting, Sweeping}
 use Rattle.world_model.specs.Runs.{client_in, coordinator_in, keeping_in, node_in, in_flight, MayFollow, IsStepRun}
 use Rattle.world_model.proofs.Cases.{Case, Coordinates as ByCoordinator, Does, Keeps, NodeDoes, NodeKeeps, Submits, case}
 use Rattle.world_model.proofs.EachOutstanding.{each_brought}
-use Rattle.world_model.proofs.Every.{coordinator_kept, each_append, each_map, each_step, node_kept}
+use Rattle.world_model.proofs.Every.{each_append, each_map, each_step, node_kept}
 use Rattle.world_model.proofs.Flows.{client_kept}
 use Rattle.world_model.proofs.KeptThere.{IsCoreKeeping, OfKeeping, core_keeps}
-use Rattle.world_model.proofs.Nexts.{MadeByCoordinator}
-use Rattle.world_model.proofs.Orders.{coordinator_nodes}
+use Rattle.world_model.proofs.Nexts.{Order}
 use Rattle.world_model.proofs.Scripts.{SubAt, sub_there}
 use Rattle.strict_laws.specs.Meant.{IsMeant}
 use Rattle.strict_laws.proofs.MeantRows.{root_below}
-use Rattle.phase_laws.specs.Phases.{most_low}
 use Rattle.phase_laws.proofs.Brought.{BringsTo, IsAsking, brought_meant, brought_outstanding, kept_ask}
-use Rattle.phase_laws.proofs.Current.{current}
-use Rattle.phase_laws.proofs.Levels.{versions_in_phase}
-use Rattle.phase_laws.proofs.Outcomes.{TakesAsked, asked_kept, round_begun}
+use Rattle.phase_laws.proofs.CoordinatorCounts.{coordinator_counts, count_in, counting_is}
+use Rattle.phase_laws.proofs.Counting.{AfterRound, Begins as BeginsRound, Count, CountStep, Denies, Holds, InRound, IsCounting, IsNudged, Lasts, Leaves, NoNudge, TakesDone, TakesRequests, TakesRow, count_asked, count_done, none_in_round, paused_in_round, Premise}
 use Rattle.phase_laws.proofs.Progress.{AreWakes, Begins, Coordinates, Ends, Hears, IsWake, Obeys, Progress, Work, Works, are_wakes, asking_of, brings_to, progress, wakes_are}
-use Rattle.phase_laws.proofs.Small.{outcome_in}
+use Rattle.phase_laws.proofs.Sending.{AllRowless, orders_rowless}
 use Rattle.phase_laws.proofs.Tokens.{phase_for}
-use Rattle.phase_laws.proofs.Steps.{fresh, round_of}
+use Rattle.phase_laws.proofs.Steps.{Shaped, none_later, round_of, shaped}
 use Rattle.phase_laws.proofs.Waves.{none_kept}
 use Rattle.phase_laws.proofs.Working.{IsOfTrees}
 use Rattle.tree_laws.specs.Dids.{asks}
@@ -57,16 +54,25 @@ use Rattle.tree_laws.proofs.Counts.{one_here}
 use Rattle.run_laws.proofs.Balancing.{balances}
 use Rattle.run_laws.proofs.Measures.{busy, nudges, of_trees}
 use Rattle.run_laws.proofs.Busy.{born_heard, busy_step, no_nudge, trees_rest}
-use Rattle.run_laws.proofs.Course.{Alike, Course, Leaves, Starts, Holds, Lasts, TakesDone, TakesMore, Denies, Unnudged, course, outside_counting, outside_paused}
-use Rattle.run_laws.proofs.Exacts.{Counts, Exact, ExactBody, Frozen, Pausing, SentExact, all_agree, asked_put, client_exact, coordinator_exact, done_put, exact_on, frozen_away, kept_is, order_counts, order_exact}
-use Rattle.run_laws.proofs.EveryApt.{all_apt, lawful}
+use Rattle.run_laws.proofs.Exacts.{Counts, Exact, ExactBody, Frozen, Pausing, SentExact, all_agree, asked_put, client_exact, done_put, exact_on, frozen_away, kept_is, order_counts, order_exact, orders_exact}
+use Rattle.run_laws.proofs.EveryApt.{lawful}
 
-pub record Bound (s : ScriptData) (past : List Entry) (c : Coordinator) : Type 0 where
+pub record Bound (s : ScriptData) (past : List Entry) (c : Count) : Type 0 where
   pub counts : Counts s past c
   pub pausing : Pausing s past c
 
-not_both : (phase : Phase) (a b : Bool) → phase ≡ Counting a → phase ≡ Paused b → ⊥
-not_both phase a b x y = cc
+-- while the coordinator counts, no order changes counters, and no node has left the version counted
+pub record IsSteady (s : ScriptData) (count : List Entry → Count) : Type 0 where
+  pub orders : (past : List Entry) (e : Entry) (reads : Bool) (p : ℕ) (out : Out Node) → IsStepRun s (e ∷ past) → AllApt s past
+      → (count past).pace ≡ InRound reads → e.actor.0 ≡ p → p < s.nodes → Order s (node_in s past p) e.took.body out
+      → out.state.counts ≡ (node_in s past p).counts
+  pub low : (past : List Entry) (reads : Bool) (p : ℕ) → IsStepRun s past → AllApt s past → (count past).pace ≡ InRound reads
+      → p < s.nodes → (node_in s past p).turns.low.0 ≤ (count past).round.version.0
+
+no_nudge_at : (body : Body) → NoNudge body → nudges body ≡ 0
+no_nudge_at Nudge none = absurd none
+no_nudge_at Go none = refl
+no_nudge_at _ none = refl
 
 at_least_one : (n : ℕ) → (n ≡ 0 → ⊥) → 1 ≤ n
 at_least_one zero none = absurd (none refl)
@@ -84,72 +90,64 @@ later_exact s past v r k from (AskedRow w j row) lt le = λ ws ks. absurd (omega
 later_exact s past v r k from Go lt le = tt
 later_exact s past v r k from _ lt le = tt
 
-starts_exact : (s : ScriptData) (past : List Entry) (e : Entry) (reads : Bool) (d : Coordinator) (valid : IsValid s) (run : IsStepRun s past)
-    → MadeByCoordinator s past e
-    → Exact s (e ∷ past) (round_begun reads ((coordinator_in s past).round + 1) d).state.current
-starts_exact s past e reads d valid run made =
-    let k = (coordinator_in s past).round + 1 in
-    let v = (counted_version reads d).0 in
-    let r = (coordinator_in s past).round in
-    let old = each_map (λ (l : Letter). round_of l.body ≤ r) (λ (l : Letter). ExactBody s (e ∷ past) v k l.from.0 l.body) (in_flight s past)
-    (λ l le. later_exact s (e ∷ past) v k r l.from.0 l.body (omega arith) le)
-    (fresh s past (lawful s valid) run (all_apt s past valid run)).letters in
+begins_exact : (s : ScriptData) (count : List Entry → Count) (G : Premise) → IsCounting s count G
+    → (past : List Entry) (e : Entry) (v : Version) (k : ℕ) → IsStepRun s past → AllApt s past → (count past).number < k → AllRowless e.sent
+    → Exact s (e ∷ past) (new_round v k s.nodes)
+begins_exact s count G view past e v k run apt lt rowless =
+    let r = (count past).number in
+    let old = each_map (λ (l : Letter). round_of l.body ≤ r) (λ (l : Letter). ExactBody s (e ∷ past) v.0 k l.from.0 l.body) (in_flight s past)
+    (λ l le. later_exact s (e ∷ past) v.0 k r l.from.0 l.body lt le)
+    (none_later s count G view past run apt).letters in
     record {
-      letters = each_step (λ (l : Letter). ExactBody s (e ∷ past) v k l.from.0 l.body) s past e old (coordinator_exact s past e v k made);
-      dones = λ q row lq at. absurd (none_kept d.nodes q row at);
-      askeds = λ p row lp at. absurd (none_kept d.nodes p row at);
+      letters = each_step (λ (l : Letter). ExactBody s (e ∷ past) v.0 k l.from.0 l.body) s past e old
+          (orders_exact s (e ∷ past) v.0 k e.actor.0 e.sent rowless);
+      dones = λ q row lq at. absurd (none_kept s.nodes q row at);
+      askeds = λ p row lp at. absurd (none_kept s.nodes p row at);
     }
 
 -- The coordinator's steps.
-bound_holds : (s : ScriptData) (past : List Entry) (e : Entry) (reads : Bool) (c d : Coordinator)
-    → busy s past ≤ busy s (e ∷ past) + nudges e.took.body → Bound s past c → Frozen s past e
-    → MadeByCoordinator s past e → c.phase ≡ Counting reads → Alike c d → Unnudged c d e.took.body → Bound s (e ∷ past) d
-bound_holds s past e reads c d step was frozen made at alike un = record {
-  counts = λ x here clear none.
-      let before : busy s past ≡ 0 = omega (arith, step, none, un.other clear) in
-      let exact = was.counts x (sym alike.phase ∙ here) (un.calm clear) before in
-      subst (λ (r : RoundData). Exact s (e ∷ past) r) (sym alike.current)
-      (exact_on s past e c.current c.current frozen refl refl exact.letters exact.dones exact.askeds
-      (coordinator_exact s past e c.current.version.0 c.current.number made));
-  pausing = λ x here. absurd (not_both c.phase reads x at (sym alike.phase ∙ here));
+-- a round goes on with these rows
+exact_goes : (s : ScriptData) (past : List Entry) (e : Entry) (c : Count) (d : RoundData) → busy s past ≤ busy s (e ∷ past) + nudges e.took.body
+    → Bound s past c → Frozen s past e → AllRowless e.sent → (reads : Bool) → c.pace ≡ InRound reads → nudges e.took.body ≡ 0 → c.flag ≡ false
+    → d.version ≡ c.round.version → d.number ≡ c.round.number
+    → ((x : Exact s past c.round) (q : ℕ) (row : List ℕ) → q < s.nodes → slice_get d.dones q ≡ Some (Some row)
+    → (p : ℕ) → p < s.nodes → slice_index row p ≡ (node_in s past q).counts.done c.round.version.0 p)
+    → ((x : Exact s past c.round) (p : ℕ) (row : List ℕ) → p < s.nodes → slice_get d.askeds p ≡ Some (Some row)
+    → (q : ℕ) → q < s.nodes → slice_index row q ≡ (node_in s past p).counts.asked c.round.version.0 q)
+    → busy s (e ∷ past) ≡ 0 → Exact s (e ∷ past) d
+exact_goes s past e c d step was frozen rowless reads at calm clear version number dones askeds none =
+    let exact = was.counts reads at clear (omega (arith, step, none, calm)) in
+    exact_on s past e c.round d frozen version number exact.letters (dones exact) (askeds exact)
+    (orders_exact s (e ∷ past) c.round.version.0 c.round.number e.actor.0 e.sent rowless)
+
+bound_holds : (s : ScriptData) (past : List Entry) (e : Entry) (c : Count) → busy s past ≤ busy s (e ∷ past) + nudges e.took.body
+    → Bound s past c → Frozen s past e → AllRowless e.sent → nudges e.took.body ≡ 0 → Bound s (e ∷ past) c
+bound_holds s past e c step was frozen rowless calm = record {
+  counts = λ x at clear none.
+      exact_goes s past e c c.round step was frozen rowless x at calm clear refl refl (λ exact. exact.dones) (λ exact. exact.askeds) none;
+  pausing = λ at. omega (arith, was.pausing at, step, calm);
 }
 
-bound_lasts : (s : ScriptData) (past : List Entry) (e : Entry) (reads : Bool) (c d : Coordinator)
-    → busy s past ≤ busy s (e ∷ past) + nudges e.took.body → Bound s past c
-    → c.phase ≡ Paused reads → Alike c d → nudges e.took.body ≡ 0 → Bound s (e ∷ past) d
-bound_lasts s past e reads c d step was at alike calm = record {
-  counts = λ x here clear none. absurd (not_both c.phase x reads (sym alike.phase ∙ here) at);
-  pausing = λ x here. omega (arith, was.pausing x (sym alike.phase ∙ here), step, calm);
-}
-
-bound_done : (s : ScriptData) (past : List Entry) (e : Entry) (reads : Bool) (v : Version) (k : ℕ) (row : List ℕ) (c : Coordinator) → MayFollow s past e
-    → busy s past ≤ busy s (e ∷ past) + nudges e.took.body → Bound s past c → Frozen s past e → MadeByCoordinator s past e
-    → c.phase ≡ Counting reads → c.current.nodes ≡ s.nodes → e.took.body ≡ DoneRow v k row → is_of e.took.from.0 v k row c.current ≡ true
-    → Bound s (e ∷ past) (keep_done e.took.from.0 row c).state
-bound_done s past e reads v k row c m step was frozen made at nodes bd here = record {
+bound_done : (s : ScriptData) (past : List Entry) (e : Entry) (reads : Bool) (v : Version) (k : ℕ) (row : List ℕ) (c : Count) → MayFollow s past e
+    → busy s past ≤ busy s (e ∷ past) + nudges e.took.body → Bound s past c → Frozen s past e → AllRowless e.sent
+    → c.pace ≡ InRound reads → c.round.nodes ≡ s.nodes → e.took.body ≡ DoneRow v k row → is_of e.took.from.0 v k row c.round ≡ true
+    → Bound s (e ∷ past) (count_done e.took.from.0 row c)
+bound_done s past e reads v k row c m step was frozen rowless at nodes bd here = record {
   counts = λ x there clear none.
-      let calm : nudges e.took.body ≡ 0 = ap nudges bd in
-      let before : busy s past ≡ 0 = omega (arith, step, none, calm) in
-      let exact = was.counts reads at clear before in
-      exact_on s past e c.current (keep_done e.took.from.0 row c).state.current frozen refl refl exact.letters
-      (done_put s past e c.current v k row m bd here nodes exact) exact.askeds
-      (coordinator_exact s past e c.current.version.0 c.current.number made);
-  pausing = λ x there. absurd (not_both c.phase reads x at there);
+      exact_goes s past e c (count_done e.took.from.0 row c).round step was frozen rowless reads at (ap nudges bd) clear refl refl
+      (λ exact. done_put s past e c.round v k row m bd here nodes exact) (λ exact. exact.askeds) none;
+  pausing = λ there. absurd (paused_in_round c.pace reads there at);
 }
 
-bound_asked : (s : ScriptData) (past : List Entry) (e : Entry) (reads : Bool) (v : Version) (k : ℕ) (row : List ℕ) (c : Coordinator) → MayFollow s past e
-    → busy s past ≤ busy s (e ∷ past) + nudges e.took.body → Bound s past c → Frozen s past e → MadeByCoordinator s past e
-    → TakesAsked c e.took.from.0 e.took.body reads v k row → c.current.nodes ≡ s.nodes
-    → Bound s (e ∷ past) (asked_kept e.took.from.0 row c)
-bound_asked s past e reads v k row c m step was frozen made takes nodes = record {
+bound_asked : (s : ScriptData) (past : List Entry) (e : Entry) (reads : Bool) (v : Version) (k : ℕ) (row : List ℕ) (c : Count) → MayFollow s past e
+    → busy s past ≤ busy s (e ∷ past) + nudges e.took.body → Bound s past c → Frozen s past e → AllRowless e.sent
+    → TakesRow c e.took.from.0 e.took.body reads v k row → c.round.nodes ≡ s.nodes
+    → Bound s (e ∷ past) (count_asked e.took.from.0 row c)
+bound_asked s past e reads v k row c m step was frozen rowless takes nodes = record {
   counts = λ x there clear none.
-      let calm : nudges e.took.body ≡ 0 = ap nudges takes.body_is in
-      let before : busy s past ≡ 0 = omega (arith, step, none, calm) in
-      let exact = was.counts reads takes.phase clear before in
-      exact_on s past e c.current (asked_kept e.took.from.0 row c).current frozen refl refl exact.letters
-      exact.dones (asked_put s past e c.current v k row m takes.body_is takes.here nodes exact)
-      (coordinator_exact s past e c.current.version.0 c.current.number made);
-  pausing = λ x there. absurd (not_both c.phase reads x takes.phase there);
+      exact_goes s past e c (count_asked e.took.from.0 row c).round step was frozen rowless reads takes.pace (ap nudges takes.body_is) clear refl refl
+      (λ exact. exact.dones) (λ exact. asked_put s past e c.round v k row m takes.body_is takes.here nodes exact) none;
+  pausing = λ there. absurd (paused_in_round c.pace reads there takes.pace);
 }
 
 -- A verdict that is no.
@@ -158,102 +156,83 @@ verdict_no true true x is = (refl, (let same : x ≡ false = cc is in same))
 verdict_no true false x is = absurd (cc is)
 verdict_no false b x is = absurd (cc is)
 
--- a round counts a version that no node has left
-low_counted : (phase : Phase) (reads : Bool) (u low : ℕ) → phase ≡ Counting reads → low ≤ most_low phase u → low ≤ (if reads then u - 1 else u)
-low_counted phase true u low at le =
-    let is : most_low phase u ≡ u - 1 = ap (λ (p : Phase). most_low p u) at in omega (arith, le, is)
-low_counted phase false u low at le =
-    let is : most_low phase u ≡ u - 1 = ap (λ (p : Phase). most_low p u) at in omega (arith, le, is)
-
-low_at : (s : ScriptData) (past : List Entry) (reads : Bool) (p : ℕ) (valid : IsValid s) (run : IsStepRun s past)
-    → p < s.nodes → (coordinator_in s past).phase ≡ Counting reads
-    → (node_in s past p).turns.low.0 ≤ (coordinator_in s past).current.version.0
-low_at s past reads p valid run lt at =
-    let c = coordinator_in s past in
-    let is : c.current.version.0 ≡ (if reads then c.update - 1 else c.update) =
-    ap (λ (v : Version). v.0) (current s past (lawful s valid) run (all_apt s past valid run) reads at).version in
-    let le = low_counted c.phase reads c.update (node_in s past p).turns.low.0 at
-    (versions_in_phase s past (lawful s valid) run (all_apt s past valid run) p lt).low_to in
-    subst (λ (n : ℕ). (node_in s past p).turns.low.0 ≤ n) (sym is) le
-
-exact_agrees : (s : ScriptData) (past : List Entry) (e : Entry) (reads : Bool) (v : Version) (k : ℕ) (row : List ℕ) (valid : IsValid s)
-    (run : IsStepRun s past) → MayFollow s past e → busy s past ≡ 0
-    → TakesAsked (coordinator_in s past) e.took.from.0 e.took.body reads v k row
-    → all_in (set (coordinator_in s past).current.askeds e.took.from.0 (Some row)) ≡ true
-    → Exact s past (coordinator_in s past).current
-    → agrees s.nodes (set (coordinator_in s past).current.askeds e.took.from.0 (Some row)) (coordinator_in s past).current.dones ≡ true
-exact_agrees s past e reads v k row valid run m none takes full exact =
-    let c = coordinator_in s past in
-    let r = c.current in
-    let now = current s past (lawful s valid) run (all_apt s past valid run) reads takes.phase in
-    let nodes = coordinator_nodes s past in
+exact_agrees : (s : ScriptData) (count : List Entry → Count) → IsSteady s count → (past : List Entry) (e : Entry) (reads : Bool) (v : Version)
+    (k : ℕ) (row : List ℕ) (valid : IsValid s) (run : IsStepRun s past) → AllApt s past → MayFollow s past e → busy s past ≡ 0
+    → Shaped s.nodes (count past) → TakesRow (count past) e.took.from.0 e.took.body reads v k row
+    → all_in (set (count past).round.askeds e.took.from.0 (Some row)) ≡ true → Exact s past (count past).round
+    → agrees s.nodes (set (count past).round.askeds e.took.from.0 (Some row)) (count past).round.dones ≡ true
+exact_agrees s count steady past e reads v k row valid run apt m none shape takes full exact =
+    let r = (count past).round in
+    let now = shape reads takes.pace in
     let askeds = set r.askeds e.took.from.0 (Some row) in
-    let put = asked_put s past e r v k row m takes.body_is takes.here (now.nodes ∙ nodes) exact in
-    let some : length askeds ≡ s.nodes = length-set r.askeds e.took.from.0 (Some row) ∙ now.askeds ∙ nodes in
-    let all : length r.dones ≡ s.nodes = now.dones ∙ nodes in
+    let put = asked_put s past e r v k row m takes.body_is takes.here now.nodes exact in
+    let some : length askeds ≡ s.nodes = length-set r.askeds e.took.from.0 (Some row) ∙ now.askeds in
     all_agree s.nodes askeds r.dones (λ p q lp lq.
     let asked : kept_number askeds p q ≡ (node_in s past p).counts.asked r.version.0 q =
     kept_is askeds p q ((node_in s past p).counts.asked r.version.0 q) full (omega (arith, lp, some)) (λ x at. put p x lp at q lq) in
     let done : kept_number r.dones q p ≡ (node_in s past q).counts.done r.version.0 p =
-    kept_is r.dones q p ((node_in s past q).counts.done r.version.0 p) takes.after_dones (omega (arith, lq, all)) (λ x at. exact.dones q x lq at p lp) in
+    kept_is r.dones q p ((node_in s past q).counts.done r.version.0 p) takes.after_dones (omega (arith, lq, now.dones)) (λ x at. exact.dones q x lq at p lp) in
     let same = balances s past valid run (none_of_trees s past valid run none) r.version.0 p q lp lq
-    (low_at s past reads p valid run lp takes.phase) (low_at s past reads q valid run lq takes.phase) in
+    (steady.low past reads p run apt takes.pace lp) (steady.low past reads q run apt takes.pace lq) in
     asked ∙ same ∙ sym done)
 
-bound_denies : (s : ScriptData) (past : List Entry) (e : Entry) (reads : Bool) (v : Version) (k : ℕ) (row : List ℕ) (valid : IsValid s)
-    (run : IsStepRun s past) → MayFollow s past e
-    → busy s past ≤ busy s (e ∷ past) + nudges e.took.body → Bound s past (coordinator_in s past)
-    → TakesAsked (coordinator_in s past) e.took.from.0 e.took.body reads v k row
-    → verdict_of (with_asked e.took.from.0 row (coordinator_in s past).current) ≡ Some false → (coordinator_in s past).flag ≡ false
-    → Bound s (e ∷ past) (in_phase (Paused reads) (asked_kept e.took.from.0 row (coordinator_in s past)))
-bound_denies s past e reads v k row valid run m step was takes verdict clear =
-    let c = coordinator_in s past in
-    let r = c.current in
+bound_denies : (s : ScriptData) (count : List Entry → Count) → IsSteady s count → (past : List Entry) (e : Entry) (d : Count) (reads : Bool)
+    (v : Version) (k : ℕ) (row : List ℕ) (valid : IsValid s) (run : IsStepRun s past) → AllApt s past → MayFollow s past e
+    → busy s past ≤ busy s (e ∷ past) + nudges e.took.body → Shaped s.nodes (count past) → Bound s past (count past)
+    → TakesRow (count past) e.took.from.0 e.took.body reads v k row
+    → verdict_of (with_asked e.took.from.0 row (count past).round) ≡ Some false → (count past).flag ≡ false → d.pace ≡ AfterRound
+    → Bound s (e ∷ past) d
+bound_denies s count steady past e d reads v k row valid run apt m step shape was takes verdict clear paused =
+    let r = (count past).round in
     let askeds = set r.askeds e.took.from.0 (Some row) in
-    let nodes : r.nodes ≡ s.nodes =
-    (current s past (lawful s valid) run (all_apt s past valid run) reads takes.phase).nodes ∙ coordinator_nodes s past in
+    let nodes = (shape reads takes.pace).nodes in
     let parts = verdict_no (all_in r.dones) (all_in askeds) (agrees r.nodes askeds r.dones) verdict in
     record {
-      counts = λ x at clear' none. absurd (cc at);
-      pausing = λ x at. at_least_one (busy s (e ∷ past)) (λ none.
+      counts = λ x at clear' none. absurd (paused_in_round d.pace x paused at);
+      pausing = λ at. at_least_one (busy s (e ∷ past)) (λ none.
           let calm : nudges e.took.body ≡ 0 = ap nudges takes.body_is in
           let before : busy s past ≡ 0 = omega (arith, step, none, calm) in
-          let exact = was.counts reads takes.phase clear before in
-          let agree = exact_agrees s past e reads v k row valid run m before takes parts.0 exact in
+          let exact = was.counts reads takes.pace clear before in
+          let agree = exact_agrees s count steady past e reads v k row valid run apt m before shape takes parts.0 exact in
           let differ : agrees s.nodes askeds r.dones ≡ false = subst (λ (n : ℕ). agrees n askeds r.dones ≡ false) nodes parts.1 in
           let clash : true ≡ false = sym agree ∙ differ in
           cc clash);
     }
 
-bound_out : (s : ScriptData) (past : List Entry) (e : Entry) (out : Out Coordinator) (valid : IsValid s) (run : IsStepRun s (e ∷ past))
-    → Bound s past (coordinator_in s past) → Frozen s past e → MadeByCoordinator s past e
-    → Course (coordinator_in s past) e.took.from.0 e.took.body out → Bound s (e ∷ past) out.state
-bound_out s past e out valid run was frozen made (Leaves away) = record {
-  counts = λ x at. absurd (outside_counting out.state.phase x away at);
-  pausing = λ x at. absurd (outside_paused out.state.phase x away at);
-}
-bound_out s past e out valid run was frozen made (Starts reads d round same none is) =
-    subst (λ (o : Out Coordinator). Bound s (e ∷ past) o.state) (sym is) (record {
-      counts = λ x at clear quiet. starts_exact s past e reads d valid run.1 made;
-      pausing = λ x at. absurd (cc at);
+bound_out : (s : ScriptData) (count : List Entry → Count) (G : Premise) → IsCounting s count G → IsSteady s count
+    → (past : List Entry) (e : Entry) (valid : IsValid s) (run : IsStepRun s (e ∷ past)) → AllApt s past → Bound s past (count past)
+    → Frozen s past e → AllRowless e.sent → CountStep s.nodes (count past) (count (e ∷ past)) e.took.from.0 e.took.body e.sent
+    → Bound s (e ∷ past) (count (e ∷ past))
+bound_out s count G view steady past e valid run apt was frozen rowless (Leaves none le plain) =
+    let d = count (e ∷ past) in
+    record { counts = λ x at. absurd (none_in_round d.pace x none at); pausing = λ at. absurd (cc (none, at)) }
+bound_out s count G view steady past e valid run apt was frozen rowless (Holds reads at calm refused is sent) =
+    subst (Bound s (e ∷ past)) (sym is)
+    (bound_holds s past e (count past) (busy_step s past e valid run) was frozen rowless (no_nudge_at e.took.body calm))
+bound_out s count G view steady past e valid run apt was frozen rowless (IsNudged reads at bd is sent) =
+    subst (Bound s (e ∷ past)) (sym is) (record {
+      counts = λ x there clear. absurd (cc clear);
+      pausing = λ there. absurd (paused_in_round (count past).pace reads there at);
     })
-bound_out s past e out valid run was frozen made (Holds reads d at alike un refused is) =
-    subst (λ (o : Out Coordinator). Bound s (e ∷ past) o.state) (sym is)
-    (bound_holds s past e reads (coordinator_in s past) d (busy_step s past e valid run) was frozen made at alike un)
-bound_out s past e out valid run was frozen made (Lasts reads d at alike calm is) =
-    subst (λ (o : Out Coordinator). Bound s (e ∷ past) o.state) (sym is)
-    (bound_lasts s past e reads (coordinator_in s past) d (busy_step s past e valid run) was at alike calm)
-bound_out s past e out valid run was frozen made (TakesDone reads v k row at bd here is) =
-    let nodes = (current s past (lawful s valid) run.1 (all_apt s past valid run.1) reads at).nodes ∙ coordinator_nodes s past in
-    subst (λ (o : Out Coordinator). Bound s (e ∷ past) o.state) (sym is)
-    (bound_done s past e reads v k row (coordinator_in s past) run.0 (busy_step s past e valid run) was frozen made at nodes bd here)
-bound_out s past e out valid run was frozen made (TakesMore reads v k row takes verdict is) =
-    let nodes = (current s past (lawful s valid) run.1 (all_apt s past valid run.1) reads takes.phase).nodes ∙ coordinator_nodes s past in
-    subst (λ (o : Out Coordinator). Bound s (e ∷ past) o.state) (sym is)
-    (bound_asked s past e reads v k row (coordinator_in s past) run.0 (busy_step s past e valid run) was frozen made takes nodes)
-bound_out s past e out valid run was frozen made (Denies reads v k row takes verdict clear is) =
-    subst (λ (o : Out Coordinator). Bound s (e ∷ past) o.state) (sym is)
-    (bound_denies s past e reads v k row valid run.1 run.0 (busy_step s past e valid run) was takes verdict clear)
+bound_out s count G view steady past e valid run apt was frozen rowless (Lasts at calm is sent) =
+    subst (Bound s (e ∷ past)) (sym is)
+    (bound_holds s past e (count past) (busy_step s past e valid run) was frozen rowless (no_nudge_at e.took.body calm))
+bound_out s count G view steady past e valid run apt was frozen rowless (BeginsRound reads v k lt none is sent) =
+    subst (Bound s (e ∷ past)) (sym is) (record {
+      counts = λ x at clear quiet. begins_exact s count G view past e v k run.1 apt lt rowless;
+      pausing = λ at. absurd (cc at);
+    })
+bound_out s count G view steady past e valid run apt was frozen rowless (TakesDone reads v k row at bd here is sent) =
+    let nodes = (shaped s count G view past run.1 apt reads at).nodes in
+    subst (Bound s (e ∷ past)) (sym is)
+    (bound_done s past e reads v k row (count past) run.0 (busy_step s past e valid run) was frozen rowless at nodes bd here)
+bound_out s count G view steady past e valid run apt was frozen rowless (TakesRequests reads v k row takes verdict is sent) =
+    let nodes = (shaped s count G view past run.1 apt reads takes.pace).nodes in
+    subst (Bound s (e ∷ past)) (sym is)
+    (bound_asked s past e reads v k row (count past) run.0 (busy_step s past e valid run) was frozen rowless takes nodes)
+bound_out s count G view steady past e valid run apt was frozen rowless (Denies reads v k row takes verdict clear is sent) =
+    bound_denies s count steady past e (count (e ∷ past)) reads v k row valid run.1 apt run.0 (busy_step s past e valid run)
+    (shaped s count G view past run.1 apt) was takes verdict clear (ap (λ (x : Count). x.pace) is)
 
 -- Other actors.
 -- the counters don't change, and what is sent is exact
@@ -361,29 +340,26 @@ works_stand s past e p x valid apt run none quiet w (NodeKeeps q r k d) = keeps_
 works_stand s past e p x valid apt run none quiet w (ByCoordinator there says) = absurd (omega (arith, there, w.brings.at, w.brings.below))
 works_stand s past e p x valid apt run none quiet w (Submits there says) = absurd (omega (arith, there, w.brings.at, w.brings.below))
 
-stands : (s : ScriptData) (past : List Entry) (e : Entry) (reads : Bool) → IsValid s → IsStepRun s (e ∷ past)
-    → tally (λ (l : Letter). of_trees l.body) (outstanding s past) ≡ 0 → busy s (e ∷ past) ≡ 0 → (coordinator_in s past).phase ≡ Counting reads
-    → e.actor.0 ≢ s.nodes → Progress s past e → Stands s past e
-stands s past e reads valid run none quiet at away (Begins bd here made) = record {
+stands : (s : ScriptData) (count : List Entry → Count) → IsSteady s count → (past : List Entry) (e : Entry) (reads : Bool) → IsValid s
+    → IsStepRun s (e ∷ past) → AllApt s (e ∷ past) → tally (λ (l : Letter). of_trees l.body) (outstanding s past) ≡ 0
+    → busy s (e ∷ past) ≡ 0 → (count past).pace ≡ InRound reads → e.actor.0 ≢ s.nodes → Progress s past e → Stands s past e
+stands s count steady past e reads valid run apt none quiet at away (Begins bd here made) = record {
   frozen = frozen_away s past e (omega (arith, here));
   sent = λ v r. client_exact s past e v r (client_in s past) [] tt made;
 }
-stands s past e reads valid run none quiet at away (Hears t w answer bd here lt made) = record {
+stands s count steady past e reads valid run apt none quiet at away (Hears t w answer bd here lt made) = record {
   frozen = frozen_away s past e (omega (arith, here));
   sent = λ v r. client_exact s past e v r (with_answer t.0 (client_in s past)) (nudge s ∷ []) ((λ id. tt), tt) made;
 }
-stands s past e reads valid run none quiet at away (Ends w bd here made) = record {
+stands s count steady past e reads valid run apt none quiet at away (Ends w bd here made) = record {
   frozen = frozen_away s past e (omega (arith, here));
   sent = λ v r. client_exact s past e v r (with_end (client_in s past)) [] tt made;
 }
-stands s past e reads valid run none quiet at away (Coordinates tells here made) = absurd (away here)
-stands s past e reads valid run none quiet at away (Works p r w) =
-    let apt = all_apt s (e ∷ past) valid run in works_stand s past e p r valid apt run none quiet w (case s past e run.0 apt.0)
-stands s past e reads valid run none quiet at away (Obeys p out more here lt order state is woken) =
-    let counts = order_counts s (node_in s past p) e.took.body out (λ v bd.
-    let sweeping = phase_for s past e (Sweep v) (lawful s valid) run.1 (all_apt s past valid run.1) run.0 bd in
-    let clash : Counting reads ≡ Sweeping = sym at ∙ sweeping in
-    absurd (cc clash)) order in
+stands s count steady past e reads valid run apt none quiet at away (Coordinates tells here made) = absurd (away here)
+stands s count steady past e reads valid run apt none quiet at away (Works p r w) =
+    works_stand s past e p r valid apt run none quiet w (case s past e run.0 apt.0)
+stands s count steady past e reads valid run apt none quiet at away (Obeys p out more here lt order state is woken) =
+    let counts = steady.orders past e reads p out run apt.1 at here lt order in
     let frozen : Frozen s past e = frozen_here s past e p here (ap (λ (st : Node). st.counts) state ∙ counts) in
     record {
       frozen = frozen;
@@ -394,43 +370,58 @@ stands s past e reads valid run none quiet at away (Obeys p out more here lt ord
           (wakes_exact s (e ∷ past) v r p more (are_wakes e.took.body more woken))));
     }
 
-bound_away : (s : ScriptData) (past : List Entry) (e : Entry) (valid : IsValid s) (run : IsStepRun s (e ∷ past))
-    → e.actor.0 ≢ s.nodes → Progress s past e → Bound s past (coordinator_in s past) → Bound s (e ∷ past) (coordinator_in s (e ∷ past))
-bound_away s past e valid run away next was =
-    let c = coordinator_in s past in
+bound_away : (s : ScriptData) (count : List Entry → Count) (G : Premise) → IsCounting s count G → IsSteady s count
+    → (past : List Entry) (e : Entry) (valid : IsValid s) (run : IsStepRun s (e ∷ past)) → AllApt s (e ∷ past) → e.actor.0 ≢ s.nodes
+    → Progress s past e → Bound s past (count past) → Bound s (e ∷ past) (count (e ∷ past))
+bound_away s count G view steady past e valid run apt away next was =
+    let c = count past in
     let step = busy_step s past e valid run in
     let calm = no_nudge s past e valid run.1 run.0 away in
-    subst (λ (d : Coordinator). Bound s (e ∷ past) d) (sym (coordinator_kept s past e away)) (record {
+    subst (Bound s (e ∷ past)) (sym (view.stays past e away)) (record {
       counts = λ reads at clear none.
           let before : busy s past ≡ 0 = omega (arith, step, none, calm) in
           let exact = was.counts reads at clear before in
-          let all = stands s past e reads valid run (none_of_trees s past valid run.1 before) none at away next in
-          exact_on s past e c.current c.current all.frozen refl refl exact.letters exact.dones exact.askeds
-          (all.sent c.current.version.0 c.current.number);
-      pausing = λ reads at. omega (arith, was.pausing reads at, step, calm);
+          let all = stands s count steady past e reads valid run apt (none_of_trees s past valid run.1 before) none at away next in
+          exact_on s past e c.round c.round all.frozen refl refl exact.letters exact.dones exact.askeds
+          (all.sent c.round.version.0 c.round.number);
+      pausing = λ at. omega (arith, was.pausing at, step, calm);
     })
 
-bound_next : (s : ScriptData) (past : List Entry) (e : Entry) (valid : IsValid s) (run : IsStepRun s (e ∷ past))
-    → Progress s past e → Bound s past (coordinator_in s past) → Bound s (e ∷ past) (coordinator_in s (e ∷ past))
-bound_next s past e valid run (Coordinates tells at made) was =
-    let c = coordinator_in s past in
-    let out = coordinator_row c e.took.from.0 e.took.body in
-    subst (λ (d : Coordinator). Bound s (e ∷ past) d) (sym made.state)
-    (bound_out s past e out valid run was (frozen_away s past e (omega (arith, at))) made
-    (course c e.took.from.0 e.took.body out (outcome_in s past e (lawful s valid) run.1 (all_apt s past valid run.1))))
-bound_next s past e valid run (Begins bd at made) was =
-    bound_away s past e valid run (omega (arith, at)) (Begins bd at made) was
-bound_next s past e valid run (Hears t v answer bd at lt made) was =
-    bound_away s past e valid run (omega (arith, at)) (Hears t v answer bd at lt made) was
-bound_next s past e valid run (Ends v bd at made) was =
-    bound_away s past e valid run (omega (arith, at)) (Ends v bd at made) was
-bound_next s past e valid run (Works p r w) was =
-    bound_away s past e valid run (omega (arith, w.brings.at, w.brings.below)) (Works p r w) was
-bound_next s past e valid run (Obeys p out more at lt order state is woken) was =
-    bound_away s past e valid run (omega (arith, at, lt)) (Obeys p out more at lt order state is woken) was
+bound_next : (s : ScriptData) (count : List Entry → Count) (G : Premise) → IsCounting s count G → IsSteady s count
+    → (past : List Entry) (e : Entry) (valid : IsValid s) (run : IsStepRun s (e ∷ past)) → AllApt s (e ∷ past) → Progress s past e
+    → Bound s past (count past) → Bound s (e ∷ past) (count (e ∷ past))
+bound_next s count G view steady past e valid run apt (Coordinates tells at made) was =
+    bound_out s count G view steady past e valid run apt.1 was (frozen_away s past e (omega (arith, at))) (orders_rowless s past e made)
+    (view.steps past e run apt.1 at)
+bound_next s count G view steady past e valid run apt (Begins bd at made) was =
+    bound_away s count G view steady past e valid run apt (omega (arith, at)) (Begins bd at made) was
+bound_next s count G view steady past e valid run apt (Hears t v answer bd at lt made) was =
+    bound_away s count G view steady past e valid run apt (omega (arith, at)) (Hears t v answer bd at lt made) was
+bound_next s count G view steady past e valid run apt (Ends v bd at made) was =
+    bound_away s count G view steady past e valid run apt (omega (arith, at)) (Ends v bd at made) was
+bound_next s count G view steady past e valid run apt (Works p r w) was =
+    bound_away s count G view steady past e valid run apt (omega (arith, w.brings.at, w.brings.below)) (Works p r w) was
+bound_next s count G view steady past e valid run apt (Obeys p out more at lt order state is woken) was =
+    bound_away s count G view steady past e valid run apt (omega (arith, at, lt)) (Obeys p out more at lt order state is woken) was
 
 -- in every run
-pub bound : (s : ScriptData) (past : List Entry) (valid : IsValid s) (run : IsStepRun s past) → Bound s past (coordinator_in s past)
-bound s [] valid run = record { counts = λ x at. absurd (cc at); pausing = λ x at. absurd (cc at) }
-bound s (e ∷ past) valid run =
-    bound_next s past e valid run (progress s past e (lawful s valid) (all_apt s (e ∷ past) valid run) run) (bound s past valid run.1)
+pub rows_bound : (s : ScriptData) (count : List Entry → Count) (G : Premise) → IsCounting s count G → IsSteady s count
+    → (past : List Entry) (valid : IsValid s) (run : IsStepRun s past) → AllApt s past → Bound s past (count past)
+rows_bound s count G view steady [] valid run apt = record {
+  counts = λ x at. absurd (none_in_round (count []).pace x view.start at);
+  pausing = λ at. absurd (cc (view.start, at));
+}
+rows_bound s count G view steady (e ∷ past) valid run apt =
+    bound_next s count G view steady past e valid run apt (progress s past e view.lawful apt run)
+    (rows_bound s count G view steady past valid run.1 apt.1)
+
+-- The coordinator is steady: it sweeps in another phase than it counts.
+pub coordinator_steady : (s : ScriptData) (valid : IsValid s) → IsSteady s (count_in s)
+coordinator_steady s valid = record {
+  orders = λ past e reads p out run apt at here lt order. order_counts s (node_in s past p) e.took.body out (λ v bd.
+      let sweeping = phase_for s past e (Sweep v) (lawful s valid) run.1 apt run.0 bd in
+      let counting : (coordinator_in s past).phase ≡ Counting reads = counting_is (coordinator_in s past).phase reads at in
+      let clash : Counting reads ≡ Sweeping = sym counting ∙ sweeping in
+      absurd (cc clash)) order;
+  low = λ past reads p run apt at lt. ((coordinator_counts s (lawful s valid)).opens reads past run apt at tt).low p lt;
+}
