@@ -4,7 +4,6 @@
 
 mod change;
 mod coordinator;
-mod letters;
 
 pub use change::{CoordinatorChange, CoordinatorPrepared, Next};
 pub use coordinator::{Coordinator, MOST_NODES};
