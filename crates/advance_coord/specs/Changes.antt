@@ -1,32 +1,15 @@
 -- How the coordinator changes in a step that is prepared, and when it may.
-use Rattle.std.specs.Prelude.{◌≡◌, ◌<◌, ⊤, ℕ, false, true, List, length}
+use Rattle.std.specs.Prelude.{◌≡◌, false, true}
 use Rattle.tv_base.specs.Outside.{one_more}
-use Rattle.phase_out.specs.Rounds.{RoundData}
+use Rattle.phase_out.specs.declared.count.RowChange.{RowChange}
+pub use Rattle.phase_out.specs.Counts.{MayKeep, round_with}
 use Rattle.letter_types.specs.Steps.{Out, made}
-use Rattle.world_model.specs.Coordinator.{Coordinator, in_phase, with_asked, with_done, with_next}
+use Rattle.world_model.specs.Coordinator.{Coordinator, in_phase, with_next}
 use Rattle.world_model.specs.declared.phase.Phase.TheVariants.{Counting}
-use Rattle.advance_coord.specs.declared.change.RowChange.{RowChange}
-use Rattle.advance_coord.specs.declared.change.RowChange.TheVariants.{NoRow, Done, Asked}
 use Rattle.advance_coord.specs.declared.change.Next.{Next}
 use Rattle.advance_coord.specs.declared.change.Next.TheVariants.{Stay, Wait, Nudge, Acknowledge, Begin, Count, GoOn}
 use Rattle.advance_coord.specs.declared.change.CoordinatorChange.{CoordinatorChange}
 use Rattle.advance_coord.specs.declared.change.CoordinatorPrepared.{CoordinatorPrepared}
-
--- the round with the row that it is given
-abbrev pub round_with : RowChange → RoundData → RoundData
-round_with NoRow r = r
-round_with (Done from row) r = with_done from.0 row r
-round_with (Asked from row) r = with_asked from.0 row r
-
--- a row is a node's, and has a number for each node
-abbrev pub IsRowOf : ℕ → List ℕ → RoundData → Type 0
-IsRowOf from row r = (from < r.nodes) × (length row ≡ r.nodes)
-
--- the round may be given the row
-abbrev pub MayKeep : RowChange → RoundData → Type 0
-MayKeep NoRow r = ⊤
-MayKeep (Done from row) r = IsRowOf from.0 row r
-MayKeep (Asked from row) r = IsRowOf from.0 row r
 
 -- the coordinator with the row
 abbrev pub with_kept_row : RowChange → Coordinator → Coordinator

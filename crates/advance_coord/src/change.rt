@@ -1,24 +1,12 @@
 // How the coordinator changes in a step, once the step is prepared.
 ghost use Rattle.std.specs.Prelude.{◌≡◌, []};
-ghost use Rattle.advance_coord.specs.declared.change.RowChange.TheVariants.{NoRow};
+ghost use Rattle.phase_out.specs.declared.count.RowChange.TheVariants.{NoRow};
 ghost use Rattle.advance_coord.specs.inside.Sent.{letters_alone};
 
-use letter_types::{Acts, Letters, Row, StepOut};
-use phase_out::Round;
+use letter_types::{Acts, Letters, StepOut};
+use phase_out::{Round, RowChange};
 use std::alloc::Global;
-use tv_base::NodeNo;
 use world_model::Phase;
-
-/// Which row the round is given.
-#[derive(Drop)]
-pub enum RowChange {
-    /// None.
-    NoRow,
-    /// A node's row of completions, in place of an earlier one.
-    Done { from: NodeNo, row: Row },
-    /// A node's row of requests, in place of an earlier one.
-    Asked { from: NodeNo, row: Row },
-}
 
 /// What comes next.
 #[derive(Drop)]

@@ -1,20 +1,20 @@
 // The coordinator: what it keeps, and its row for each letter.
-ghost use Rattle.std.specs.Prelude.{◌≡◌, ◌<◌, ◌≤◌, ◌==◌, ◌&&◌, [], false, true, not, length, if◌then◌else◌, IfOk, OnErr};
+ghost use Rattle.std.specs.Prelude.{◌≡◌, ◌≤◌, ◌==◌, false, true, IfOk, OnErr};
 ghost use Rattle.tv_base.specs.Outside.{one_more};
 ghost use Rattle.letter_types.specs.Steps.{made};
-ghost use Rattle.letter_types.specs.declared.bodies.Body.TheVariants.{Turn};
-ghost use Rattle.world_model.specs.declared.phase.Phase.TheVariants.{Turning};
+ghost use Rattle.letter_types.specs.declared.bodies.Body.TheVariants.{Turn, DoneRow, AskedRow};
+ghost use Rattle.world_model.specs.declared.phase.Phase.TheVariants.{Turning, Counting};
 ghost use Rattle.advance_coord.specs.Changes.{IsCoordinatorStepOf, CoordinatorMayDo, MayKeep, after_coordinator_change, after_next_phase, with_kept_row};
-ghost use Rattle.world_model.specs.Coordinator.{start_coordinator, coordinator_row, begin_phase, begin_round, counted_version, in_phase, version, acknowledged, ask_requests, keep_done, keep_asked, after_verdict, end_count, end_advance};
+ghost use Rattle.advance_coord.specs.inside.ByCount.{as_counted, requests_asked};
+ghost use Rattle.world_model.specs.Coordinator.{start_coordinator, coordinator_row, begin_phase, begin_round, counted_version, in_phase, version, acknowledged, end_count, end_advance, row_of};
 
-use crate::change::{CoordinatorPrepared, Next, RowChange};
-use crate::letters::{to_nodes, with_nodes};
+use crate::change::{CoordinatorPrepared, Next};
 use letter_types::{Body, Letter, Letters, Row, Step, StepOut, copy_row, one_letter};
-use phase_out::Round;
+use phase_out::{Count, Counted, RowChange};
 use std::alloc::Global;
 use std::marker::Model;
 use tv_base::{ActorNo, NoMemory, NodeNo, Version};
-use world_model::Phase;
+use world_model::{Phase, to_nodes, with_nodes};
 
 /// The greatest number of nodes of a coordinator.
 pub const MOST_NODES: u8 = 64;
@@ -25,11 +25,9 @@ pub struct Coordinator {
     nodes: u8,
     update: u64,
     waits: u64,
-    round: u64,
     phase: Phase,
     acks: u64,
-    current: Round,
-    nudged: bool,
+    count: Count,
 }
 
 impl Model for Coordinator {
@@ -42,11 +40,11 @@ impl Model for Coordinator {
       nodes = c.nodes;
       update = c.update;
       waits = c.waits;
-      round = c.round;
+      round = c.count.number;
       phase = c.phase;
       acks = c.acks;
-      current = c.current;
-      flag = c.nudged;
+      current = c.count.current;
+      flag = c.count.flag;
     } };
 
     ghost invariant = { λ c. c.nodes ≤ 64 };
@@ -62,11 +60,9 @@ impl Coordinator {
             nodes,
             update: 1,
             waits: 0,
-            round: 0,
             phase: Phase::Idle,
             acks: 0,
-            current: Round::empty(alloc),
-            nudged: false,
+            count: Count::new(alloc, 0),
         }
     }
 
@@ -100,10 +96,8 @@ impl Coordinator {
                     round,
                     row,
                 },
-                Phase::Counting { .. },
-            ) if self.current.is_of(from, *version, *round, row) => {
-                self.keep_done(alloc, from, row)
-            }
+                Phase::Counting { reads },
+            ) => self.on_done_row(alloc, reads, from, *version, *round, row),
             (
                 Body::AskedRow {
                     version,
@@ -111,9 +105,7 @@ impl Coordinator {
                     row,
                 },
                 Phase::Counting { reads },
-            ) if self.current.is_of(from, *version, *round, row) && self.current.all_done() => {
-                self.keep_asked(alloc, reads, from, row)
-            }
+            ) => self.on_asked_row(alloc, reads, from, *version, *round, row),
             (Body::Nudge, Phase::Counting { .. }) => {
                 Ok(CoordinatorPrepared::silent(alloc, Next::Nudge))
             }
@@ -131,21 +123,9 @@ impl Coordinator {
         ensures out { result ≡ prepared.out }
     {
         let CoordinatorPrepared { change, out } = prepared;
-        self.keep(change.row);
+        self.count.keep(change.row);
         self.go_on(change.next);
         out
-    }
-
-    /// Gives the round its row.
-    fn keep(&mut self, row: RowChange)
-        requires { MayKeep row self.old.current }
-        ensures { self.new ≡ with_kept_row row self.old }
-    {
-        match row {
-            RowChange::NoRow => {}
-            RowChange::Done { from, row } => self.current.take_done(from, row),
-            RowChange::Asked { from, row } => self.current.take_asked(from, row),
-        }
     }
 
     /// Does what comes next.
@@ -155,13 +135,11 @@ impl Coordinator {
         match next {
             Next::Stay => {}
             Next::Wait => self.waits = self.waits.saturating_add(1),
-            Next::Nudge => self.nudged = true,
+            Next::Nudge => self.count.nudge(),
             Next::Acknowledge => self.acks = self.acks.saturating_add(1),
             Next::Begin(phase) => self.enter(phase),
             Next::Count { reads, round } => {
-                self.round = round.number();
-                self.current = round;
-                self.nudged = false;
+                self.count.begin(round);
                 self.enter(Phase::Counting { reads });
             }
             Next::GoOn { phase, waits } => {
@@ -225,11 +203,10 @@ impl Coordinator {
         ensures { IfOk result (IsCoordinatorStepOf (begin_round reads self.now) self.now) }
     {
         let version = self.counted(reads);
-        let number = self.round.saturating_add(1);
-        let round = Round::new(alloc, version, number, self.nodes)?;
+        let round = self.count.next_round(alloc, version, self.nodes)?;
         let body = Body::AskDone {
             version,
-            round: number,
+            round: round.number(),
         };
         let sent = to_nodes(alloc, self.nodes, &body)?;
         Ok(CoordinatorPrepared::sending(
@@ -305,80 +282,79 @@ impl Coordinator {
         Ok(CoordinatorPrepared::sending(alloc, RowChange::NoRow, next, sent))
     }
 
-    /// A row of completions of this round is kept, and the requests are asked for if it fills the last missing place.
-    fn keep_done(
-        &self,
-        alloc: Global,
-        from: NodeNo,
-        row: &Row,
-    ) -> Result<CoordinatorPrepared, NoMemory>
-        requires node { from.0 < self.now.current.nodes }
-        requires numbers { length row.now ≡ self.now.current.nodes }
-        ensures { IfOk result (IsCoordinatorStepOf (keep_done from.0 row.now self.now) self.now) }
-    {
-        let are_in = self.current.all_done_with(from);
-        let were_in = self.current.all_done();
-        let sent = self.ask_requests(alloc, are_in, were_in)?;
-        let row = RowChange::Done {
-            from,
-            row: copy_row(alloc, row)?,
-        };
-        Ok(CoordinatorPrepared::sending(alloc, row, Next::Stay, sent))
-    }
-
-    /// Every node is asked for its requests, if all completions are in and weren't before.
-    fn ask_requests(&self, alloc: Global, are_in: bool, were_in: bool) -> Result<Letters, NoMemory>
-        ensures { IfOk result (λ sent. sent ≡ (if are_in && not were_in then ask_requests self.now else [])) }
-    {
-        if are_in && !were_in {
-            let body = Body::AskAsked {
-                version: self.current.version(),
-                round: self.current.number(),
-            };
-            return to_nodes(alloc, self.nodes, &body);
-        }
-        Ok(Letters::new(alloc))
-    }
-
-    /// A row of requests of this round is kept, and what the verdict asks for is done if all are in.
-    fn keep_asked(
+    /// A node's row of completions came in, while a round is counted.
+    fn on_done_row(
         &self,
         alloc: Global,
         reads: bool,
         from: NodeNo,
+        version: Version,
+        round: u64,
         row: &Row,
     ) -> Result<CoordinatorPrepared, NoMemory>
-        requires node { from.0 < self.now.current.nodes }
-        requires numbers { length row.now ≡ self.now.current.nodes }
-        ensures { IfOk result (IsCoordinatorStepOf (keep_asked reads from.0 row.now self.now) self.now) }
+        ensures { IfOk result (IsCoordinatorStepOf
+            (row_of (DoneRow version round row.now) (Counting reads) from.0 self.now) self.now) }
     {
-        let verdict = self.current.verdict_with(from, row);
-        let row = RowChange::Asked {
-            from,
-            row: copy_row(alloc, row)?,
+        let Some(counted) = self.count.look_done(from, version, round, row) else {
+            return Ok(CoordinatorPrepared::silent(alloc, Next::Stay));
         };
-        let prepared = self.judge(alloc, reads, row, verdict)?;
-        Ok(prepared)
+        let row = copy_row(alloc, row)?;
+        self.after_row(alloc, reads, RowChange::Done { from, row }, counted)
     }
 
-    /// What the verdict asks for is done, where this row is kept.
-    fn judge(
+    /// A node's row of requests came in, while a round is counted.
+    fn on_asked_row(
+        &self,
+        alloc: Global,
+        reads: bool,
+        from: NodeNo,
+        version: Version,
+        round: u64,
+        row: &Row,
+    ) -> Result<CoordinatorPrepared, NoMemory>
+        ensures { IfOk result (IsCoordinatorStepOf
+            (row_of (AskedRow version round row.now) (Counting reads) from.0 self.now) self.now) }
+    {
+        let Some(counted) = self.count.look_asked(from, version, round, row) else {
+            return Ok(CoordinatorPrepared::silent(alloc, Next::Stay));
+        };
+        let row = copy_row(alloc, row)?;
+        self.after_row(alloc, reads, RowChange::Asked { from, row }, counted)
+    }
+
+    /// What the count asks for is done, where this row is kept.
+    fn after_row(
         &self,
         alloc: Global,
         reads: bool,
         row: RowChange,
-        verdict: Option<bool>,
+        counted: Counted,
     ) -> Result<CoordinatorPrepared, NoMemory>
         requires { MayKeep row self.now.current }
-        ensures { IfOk result (IsCoordinatorStepOf (after_verdict reads verdict (with_kept_row row self.now)) self.now) }
+        ensures { IfOk result (IsCoordinatorStepOf (as_counted reads counted (with_kept_row row self.now)) self.now) }
     {
-        let next = match verdict {
-            None => Next::Stay,
-            Some(true) => return self.end_count(alloc, reads, row),
-            Some(false) if self.nudged => return self.begin_round(alloc, reads),
-            Some(false) => Next::Begin(Phase::Paused { reads }),
+        let next = match counted {
+            Counted::Goes => Next::Stay,
+            Counted::AsksRequests => return self.ask_requests(alloc, row),
+            Counted::Agrees => return self.end_count(alloc, reads, row),
+            Counted::Recounts => return self.begin_round(alloc, reads),
+            Counted::Pauses => Next::Begin(Phase::Paused { reads }),
         };
         Ok(CoordinatorPrepared::sending(alloc, row, next, Letters::new(alloc)))
+    }
+
+    /// Every node is asked for its requests, where this row is kept.
+    fn ask_requests(&self, alloc: Global, row: RowChange) -> Result<CoordinatorPrepared, NoMemory>
+        requires { MayKeep row self.now.current }
+        ensures { IfOk result (IsCoordinatorStepOf (requests_asked (with_kept_row row self.now)) self.now) }
+    {
+        let round = self.count.round();
+        let body = Body::AskAsked {
+            version: round.version(),
+            round: round.number(),
+        };
+        let sent = to_nodes(alloc, self.nodes, &body)?;
+        Ok(CoordinatorPrepared::sending(alloc, row, Next::Stay, sent))
     }
 
     /// The counted version is quiet.

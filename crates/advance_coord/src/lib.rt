@@ -4,8 +4,8 @@
 
 mod change;
 mod coordinator;
-mod letters;
 
-pub use change::{CoordinatorChange, CoordinatorPrepared, Next, RowChange};
+pub use change::{CoordinatorChange, CoordinatorPrepared, Next};
 pub use coordinator::{Coordinator, MOST_NODES};
+pub use phase_out::RowChange;
 pub use world_model::Phase;

@@ -18,6 +18,7 @@ pub mod Reads
 pub mod Advancing
 pub mod Apt
 pub mod Coordinator
+pub mod Restarting
 pub mod Client
 pub mod Core
 pub mod Decisions

@@ -6,11 +6,15 @@ ghost use Rattle.letter_types.specs.declared.entries.Entry.{Entry};
 ghost use Rattle.script_parts.specs.ScriptData.{ScriptData};
 ghost use Rattle.world_model.specs.Runs.{IsStepRun, IsWorldRun};
 
+mod letters;
 mod phase;
 mod refusal;
+mod restarting;
 
+pub use letters::{to_nodes, with_nodes};
 pub use phase::Phase;
 pub use refusal::Refusal;
+pub use restarting::{RestartPhase, Told};
 
 /// A history that goes step by step is one whose letters went as letters do and whose actors each follow their table.
 pub fn steps_follow_the_tables()

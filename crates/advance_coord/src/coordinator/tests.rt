@@ -1,6 +1,6 @@
 use super::*;
 use letter_types::{Body, Letter, LetterId, Outgoing, Row, Step};
-use phase_out::Round;
+use phase_out::Count;
 use std::alloc::Global;
 use std::test::Fail;
 use tv_base::{ActorNo, NoMemory, Stamp, Version};
@@ -197,11 +197,9 @@ fn numbers_stop_at_their_greatest(rt: HostRuntime) -> Result<(), Fail> {
         nodes: 2,
         update: u64::MAX,
         waits: u64::MAX,
-        round: u64::MAX,
         phase: Phase::Paused { reads: true },
         acks: 0,
-        current: Round::empty(alloc),
-        nudged: false,
+        count: Count::new(alloc, u64::MAX),
     };
     let most = u64::MAX;
     assert_eq!(rt;

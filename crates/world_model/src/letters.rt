@@ -1,4 +1,4 @@
-// What the coordinator sends.
+// What a coordinator sends to every node.
 ghost use Rattle.std.specs.Prelude.{◌≡◌, ◌++◌, IfOk};
 ghost use Rattle.world_model.specs.Coordinator.{to_nodes};
 
@@ -7,7 +7,7 @@ use std::alloc::Global;
 use tv_base::{ActorNo, NoMemory};
 
 /// These letters, and after them one of this body to each node.
-pub(crate) fn with_nodes(
+pub fn with_nodes(
     alloc: Global,
     first: Letters,
     nodes: u8,
@@ -27,7 +27,7 @@ pub(crate) fn with_nodes(
 }
 
 /// A letter of this body to each node.
-pub(crate) fn to_nodes(alloc: Global, nodes: u8, body: &Body) -> Result<Letters, NoMemory>
+pub fn to_nodes(alloc: Global, nodes: u8, body: &Body) -> Result<Letters, NoMemory>
     ensures { IfOk result (λ sent. sent ≡ to_nodes nodes body.now) }
 {
     let sent = with_nodes(alloc, Letters::new(alloc), nodes, body)?;

@@ -1,0 +1,2 @@
+pub mod RestartChanges
+pub mod inside

@@ -1,0 +1,46 @@
+-- How the coordinator changes in a step that is prepared, and when it may.
+use Rattle.std.specs.Prelude.{◌≡◌, ◌<◌, ⊤, length, Some}
+use Rattle.tv_base.specs.Outside.{one_more}
+use Rattle.phase_out.specs.Counts.{MayKeep, count_with, count_begun, nudged}
+use Rattle.letter_types.specs.Steps.{Out, made}
+use Rattle.world_model.specs.Restarting.{Restarting, in_restart_phase, next_epoch, with_advances, with_told}
+use Rattle.world_model.specs.declared.restarting.RestartPhase.TheVariants.{Counting}
+use Rattle.coord_restart.specs.declared.change.Taken.{Taken}
+use Rattle.coord_restart.specs.declared.change.Taken.TheVariants.{Nothing, Row, Nudge, Numbers, Sent}
+use Rattle.coord_restart.specs.declared.change.RestartNext.{RestartNext}
+use Rattle.coord_restart.specs.declared.change.RestartNext.TheVariants.{Stay, Want, Acknowledge, Begin, Count, GoOn, Forget}
+use Rattle.coord_restart.specs.declared.change.RestartChange.{RestartChange}
+use Rattle.coord_restart.specs.declared.change.RestartPrepared.{RestartPrepared}
+
+-- the coordinator with what it keeps of a letter
+abbrev pub with_taken : Taken → Restarting → Restarting
+with_taken Nothing c = c
+with_taken (Row row) c = record c { count = count_with row c.count }
+with_taken Nudge c = record c { count = nudged c.count }
+with_taken (Numbers from t) c = with_told from.0 t c
+with_taken (Sent k) c = record c { heard = Some k }
+
+-- it may keep that
+abbrev pub MayTakeUp : Taken → Restarting → Type 0
+MayTakeUp (Row row) c = MayKeep row c.count.current
+MayTakeUp (Numbers from t) c = from.0 < length c.told
+MayTakeUp _ c = ⊤
+
+-- the coordinator after what comes next
+abbrev pub after_restart_next : RestartNext → Restarting → Restarting
+after_restart_next Stay c = c
+after_restart_next (Want wanted) c = record c { wanted = wanted }
+after_restart_next Acknowledge c = record c { acks = one_more c.acks }
+after_restart_next (Begin phase) c = in_restart_phase phase c
+after_restart_next (Count reads round) c = in_restart_phase (Counting reads) (record c { count = count_begun round })
+after_restart_next (GoOn wanted ended phase) c = in_restart_phase phase (with_advances wanted ended c)
+after_restart_next (Forget count told) c = record (next_epoch c) { count = count; told = told }
+
+-- the coordinator after a step
+abbrev pub after_restart_change : RestartChange → Restarting → Restarting
+after_restart_change change c = after_restart_next change.next (with_taken change.taken c)
+
+-- a step that is prepared is this row of the coordinator, and the coordinator may do it
+pub record IsRestartStepOf (o : Out Restarting) (c : Restarting) (p : RestartPrepared) : Type 0 where
+  pub row : made (after_restart_change p.change c) p.out ≡ o
+  pub may : MayTakeUp p.change.taken c

@@ -1,0 +1,103 @@
+// How the coordinator changes in a step, once the step is prepared.
+ghost use Rattle.std.specs.Prelude.{◌≡◌, []};
+
+use letter_types::{Acts, Letters, StepOut};
+use phase_out::{Count, Round, RowChange};
+use std::alloc::Global;
+use tv_base::{NodeNo, Seq};
+use world_model::{RestartPhase, Told};
+
+/// What each node told, or None where it hasn't.
+pub type AllTold = Seq<Option<Told>, 0xff>;
+
+/// What is kept of a letter.
+#[derive(Drop)]
+pub enum Taken {
+    /// Nothing.
+    Nothing,
+    /// A node's row, by the count.
+    Row(RowChange),
+    /// That a tree was answered since the round began.
+    Nudge,
+    /// What a node told, in place of an earlier one.
+    Numbers { from: NodeNo, told: Told },
+    /// How many advances the client sent.
+    Sent(u64),
+}
+
+/// What comes next.
+#[derive(Drop)]
+pub enum RestartNext {
+    /// All else stays.
+    Stay,
+    /// So many advances are wanted.
+    Want(u64),
+    /// One acknowledgement more.
+    Acknowledge,
+    /// A phase begins.
+    Begin(RestartPhase),
+    /// A round begins.
+    Count {
+        reads: bool,
+        round: Round,
+    },
+    /// A phase begins, where so many advances are wanted and so many have ended.
+    GoOn {
+        wanted: u64,
+        ended: u64,
+        phase: RestartPhase,
+    },
+    /// The next epoch begins, with a count before its first round and a place for what each node tells.
+    Forget {
+        count: Count,
+        told: AllTold,
+    },
+}
+
+/// What the coordinator does: it keeps what the letter says, and then comes what comes next.
+#[derive(Drop)]
+pub struct RestartChange {
+    pub taken: Taken,
+    pub next: RestartNext,
+}
+
+/// A step of the coordinator that is prepared: what it does, and what goes out.
+#[derive(Drop)]
+pub struct RestartPrepared {
+    pub change: RestartChange,
+    pub out: StepOut,
+}
+
+impl RestartPrepared {
+    /// What goes out.
+    pub fn out(&self) -> &StepOut
+        ensures { result.now ≡ self.now.out }
+    {
+        &self.out
+    }
+
+    /// A change with these letters, and no act.
+    pub(crate) fn sending(
+        alloc: Global,
+        taken: Taken,
+        next: RestartNext,
+        sent: Letters,
+    ) -> RestartPrepared
+        ensures { result ≡ record { change = record { taken = taken; next = next }; out = record { sent = sent; acts = [] } } }
+    {
+        RestartPrepared {
+            change: RestartChange { taken, next },
+            out: StepOut {
+                sent,
+                acts: Acts::new(alloc),
+            },
+        }
+    }
+
+    /// A change with no letter.
+    pub(crate) fn silent(alloc: Global, taken: Taken, next: RestartNext) -> RestartPrepared
+        ensures { result ≡ record { change = record { taken = taken; next = next }; out = record { sent = []; acts = [] } } }
+    {
+        RestartPrepared::sending(alloc, taken, next, Letters::new(alloc))
+    }
+}

@@ -1,0 +1,602 @@
+// The coordinator that may forget: what it keeps, and its row for each letter.
+ghost use Rattle.std.specs.Prelude.{◌≡◌, ◌≤◌, ◌+◌, ◌++◌, replicate, max, true, false, Some, None, IfOk, OnErr};
+ghost use Rattle.letter_types.specs.Steps.{made};
+ghost use Rattle.letter_types.specs.declared.bodies.Body.TheVariants.{Numbers, Wanted, Obeyed, DoneRow, AskedRow};
+ghost use Rattle.world_model.specs.declared.restarting.RestartPhase.TheVariants.{Recovering, Doing, Counting};
+ghost use Rattle.coord_restart.specs.RestartChanges.{IsRestartStepOf, MayTakeUp, after_restart_change, after_restart_next, with_taken};
+ghost use Rattle.world_model.specs.Restarting.{start_restarting, restarting_row, restart_row_of, forget, enter, enter_telling, orders, target, next_advance, with_wanted, with_advances, version_counted, begin_counting, ask_all_requests, end_counting, by_counted, end_advancing, after_doing, obeyed, same_what, is_answer, resume, recover, in_restart_phase};
+
+use crate::change::{AllTold, RestartNext, RestartPrepared, Taken};
+use crate::tellings::{Tellings, next_advance};
+use letter_types::{
+    Body, Letter, Letters, Outgoing, Row, Step, StepOut, What, copy_row, one_letter,
+};
+use phase_out::{Count, Counted, RowChange};
+use std::alloc::Global;
+use std::marker::Model;
+use tv_base::{ActorNo, NoMemory, NodeNo, Version};
+use world_model::{RestartPhase, Told, to_nodes, with_nodes};
+
+/// The greatest number of nodes of a coordinator.
+pub const MOST_NODES: u8 = 64;
+
+/// How many rounds an epoch has numbers for, before those of the next.
+const ROUNDS_OF_EPOCH: u64 = 0x1_0000_0000;
+
+/// The coordinator's state. Its numbers stop at 2^64 - 1.
+#[derive(Drop)]
+pub struct Restarting {
+    nodes: u8,
+    epoch: u64,
+    wanted: u64,
+    ended: u64,
+    phase: RestartPhase,
+    acks: u64,
+    count: Count,
+    told: AllTold,
+    heard: Option<u64>,
+}
+
+impl Model for Restarting {
+    ghost use Rattle.std.specs.Prelude.{◌≤◌};
+    ghost use Rattle.world_model.specs.Restarting.{Restarting};
+
+    ghost Value = { Restarting };
+
+    ghost view = { λ c. record {
+      nodes = c.nodes;
+      epoch = c.epoch;
+      wanted = c.wanted;
+      ended = c.ended;
+      phase = c.phase;
+      acks = c.acks;
+      count = c.count;
+      told = c.told;
+      heard = c.heard;
+    } };
+
+    ghost invariant = { λ c. c.nodes ≤ 64 };
+}
+
+impl Restarting {
+    /// The coordinator of so many nodes as a run begins.
+    pub fn new(alloc: Global, nodes: u8) -> Restarting
+        requires { nodes ≤ MOST_NODES }
+        ensures { result ≡ start_restarting nodes }
+    {
+        Restarting {
+            nodes,
+            epoch: 0,
+            wanted: 0,
+            ended: 0,
+            phase: RestartPhase::Idle,
+            acks: 0,
+            count: Count::new(alloc, 0),
+            told: AllTold::new(alloc),
+            heard: None,
+        }
+    }
+
+    /// What the coordinator does with a letter: its row of the coordinator's table. What goes out is given, and an
+    /// equal copy kept. If memory runs out, the coordinator is as it was.
+    pub fn on(&mut self, alloc: Global, letter: &Letter) -> Result<Step, NoMemory>
+        ensures row { IfOk result
+            (λ step. made self.new step.given ≡ restarting_row self.old letter.now.from.0 letter.now.body) }
+        ensures kept { IfOk result (λ step. step.kept ≡ step.given) }
+        ensures err { OnErr result (self.new ≡ self.old) }
+    {
+        let prepared = self.prepare(alloc, letter)?;
+        let kept = prepared.out().copy(alloc)?;
+        let given = self.done(prepared);
+        Ok(Step { given, kept })
+    }
+
+    /// Prepares what the coordinator does with a letter: its row of the coordinator's table. It takes all memory that
+    /// the step needs, and changes nothing.
+    pub fn prepare(&self, alloc: Global, letter: &Letter) -> Result<RestartPrepared, NoMemory>
+        ensures { IfOk result (IsRestartStepOf (restarting_row self.now letter.now.from.0 letter.now.body) self.now) }
+    {
+        let from = NodeNo(letter.from.0);
+        match (&letter.body, self.phase) {
+            (Body::Lose, _) => self.forget(alloc),
+            (Body::AdvanceNo { advance }, RestartPhase::Idle) => {
+                self.advance(alloc, u64::from(*advance))
+            }
+            (Body::AdvanceNo { advance }, _) => {
+                let wanted = self.wanted.max(u64::from(*advance));
+                Ok(RestartPrepared::silent(alloc, Taken::Nothing, RestartNext::Want(wanted)))
+            }
+            (
+                Body::Numbers {
+                    epoch,
+                    update,
+                    read,
+                    low,
+                },
+                RestartPhase::Recovering,
+            ) => {
+                let told = Told {
+                    update: *update,
+                    read: *read,
+                    low: *low,
+                };
+                self.on_numbers(alloc, from, *epoch, told)
+            }
+            (Body::Wanted { epoch, advances }, RestartPhase::Recovering) => {
+                self.on_wanted(alloc, letter.from, *epoch, *advances)
+            }
+            (
+                Body::Obeyed {
+                    epoch,
+                    what,
+                    version,
+                },
+                RestartPhase::Doing(doing),
+            ) => self.on_obeyed(alloc, *epoch, *what, *version, doing),
+            (
+                Body::DoneRow {
+                    version,
+                    round,
+                    row,
+                },
+                RestartPhase::Counting { reads },
+            ) => self.on_done_row(alloc, reads, from, *version, *round, row),
+            (
+                Body::AskedRow {
+                    version,
+                    round,
+                    row,
+                },
+                RestartPhase::Counting { reads },
+            ) => self.on_asked_row(alloc, reads, from, *version, *round, row),
+            (Body::Nudge, RestartPhase::Counting { .. }) => {
+                Ok(RestartPrepared::silent(alloc, Taken::Nudge, RestartNext::Stay))
+            }
+            (Body::Nudge, RestartPhase::Paused { reads }) => self.begin_counting(alloc, reads),
+            _ => Ok(RestartPrepared::silent(alloc, Taken::Nothing, RestartNext::Stay)),
+        }
+    }
+
+    /// Does a step that was prepared, and gives what goes out. Needs no memory.
+    pub fn done(&mut self, prepared: RestartPrepared) -> StepOut
+        requires { MayTakeUp prepared.change.taken self.old }
+        ensures after { self.new ≡ after_restart_change prepared.change self.old }
+        ensures out { result ≡ prepared.out }
+    {
+        let RestartPrepared { change, out } = prepared;
+        self.take_up(change.taken);
+        self.go_on(change.next);
+        out
+    }
+
+    /// Keeps what a letter says.
+    fn take_up(&mut self, taken: Taken)
+        requires { MayTakeUp taken self.old }
+        ensures { self.new ≡ with_taken taken self.old }
+    {
+        match taken {
+            Taken::Nothing => {}
+            Taken::Row(row) => self.count.keep(row),
+            Taken::Nudge => self.count.nudge(),
+            Taken::Numbers { from, told } => {
+                self.told.put(from.0 as usize, Some(told));
+            }
+            Taken::Sent(sent) => self.heard = Some(sent),
+        }
+    }
+
+    /// Does what comes next.
+    fn go_on(&mut self, next: RestartNext)
+        ensures { self.new ≡ after_restart_next next self.old }
+    {
+        match next {
+            RestartNext::Stay => {}
+            RestartNext::Want(wanted) => self.wanted = wanted,
+            RestartNext::Acknowledge => self.acks = self.acks.saturating_add(1),
+            RestartNext::Begin(phase) => self.enter(phase),
+            RestartNext::Count { reads, round } => {
+                self.count.begin(round);
+                self.enter(RestartPhase::Counting { reads });
+            }
+            RestartNext::GoOn {
+                wanted,
+                ended,
+                phase,
+            } => {
+                self.wanted = wanted;
+                self.ended = ended;
+                self.enter(phase);
+            }
+            RestartNext::Forget { count, told } => self.begin_epoch(count, told),
+        }
+    }
+
+    /// A phase begins: it misses every acknowledgement.
+    fn enter(&mut self, phase: RestartPhase)
+        ensures { self.new ≡ in_restart_phase phase self.old }
+    {
+        self.phase = phase;
+        self.acks = 0;
+    }
+
+    /// The next epoch begins.
+    fn begin_epoch(&mut self, count: Count, told: AllTold)
+        ensures { self.new ≡ after_restart_next (RestartNext.Forget count told) self.old }
+    {
+        self.epoch = self.epoch.saturating_add(1);
+        self.wanted = 0;
+        self.ended = 0;
+        self.count = count;
+        self.told = told;
+        self.heard = None;
+        self.enter(RestartPhase::Recovering);
+    }
+
+    /// The client's number.
+    fn client(&self) -> ActorNo
+        ensures { result ≡ record { 0 = self.now.nodes + 1 } }
+    {
+        ActorNo(self.nodes + 1)
+    }
+
+    /// All but the epoch is to be forgotten, and every node and the client are asked.
+    fn forget(&self, alloc: Global) -> Result<RestartPrepared, NoMemory>
+        ensures { IfOk result (IsRestartStepOf (forget self.now) self.now) }
+    {
+        let epoch = self.epoch.saturating_add(1);
+        let count = Count::new(alloc, epoch.saturating_mul(ROUNDS_OF_EPOCH));
+        let told = none_told(alloc, self.nodes)?;
+        let mut sent = to_nodes(alloc, self.nodes, &Body::Ask { epoch })?;
+        sent.push(Outgoing {
+            to: self.client(),
+            body: Body::Ask { epoch },
+        })?;
+        let next = RestartNext::Forget { count, told };
+        Ok(RestartPrepared::sending(alloc, Taken::Nothing, next, sent))
+    }
+
+    /// These letters, and after them the orders with which a phase begins, where so many advancements have ended.
+    fn with_orders(
+        &self,
+        alloc: Global,
+        first: Letters,
+        phase: RestartPhase,
+        ended: u64,
+    ) -> Result<Letters, NoMemory>
+        ensures { IfOk result (λ sent. sent ≡ first ++ orders phase (record self.now { ended = ended })) }
+    {
+        let RestartPhase::Doing(what) = phase else {
+            return Ok(first);
+        };
+        let order = Body::Order {
+            epoch: self.epoch,
+            what,
+            version: target(what, ended),
+        };
+        let sent = with_nodes(alloc, first, self.nodes, &order)?;
+        Ok(sent)
+    }
+
+    /// Advances up to this number are wanted, in phase idle.
+    fn advance(&self, alloc: Global, advance: u64) -> Result<RestartPrepared, NoMemory>
+        ensures { IfOk result (IsRestartStepOf
+            (enter (next_advance (max self.now.wanted advance) self.now.ended) (with_wanted advance self.now)) self.now) }
+    {
+        let wanted = self.wanted.max(advance);
+        let ended = self.ended;
+        let phase = next_advance(wanted, ended);
+        let sent = self.with_orders(alloc, Letters::new(alloc), phase, ended)?;
+        let next = RestartNext::GoOn {
+            wanted,
+            ended,
+            phase,
+        };
+        Ok(RestartPrepared::sending(alloc, Taken::Nothing, next, sent))
+    }
+
+    /// The client hears how many advancements have ended, and a phase begins.
+    fn enter_telling(
+        &self,
+        alloc: Global,
+        taken: Taken,
+        wanted: u64,
+        ended: u64,
+        phase: RestartPhase,
+    ) -> Result<RestartPrepared, NoMemory>
+        requires { MayTakeUp taken self.now }
+        ensures { IfOk result (IsRestartStepOf
+            (enter_telling phase (with_advances wanted ended (with_taken taken self.now))) self.now) }
+    {
+        let version = Version(ended);
+        let told = one_letter(alloc, self.client(), Body::Advanced { version })?;
+        let sent = self.with_orders(alloc, told, phase, ended)?;
+        let next = RestartNext::GoOn {
+            wanted,
+            ended,
+            phase,
+        };
+        Ok(RestartPrepared::sending(alloc, taken, next, sent))
+    }
+
+    /// A node told its numbers, while the coordinator recovers.
+    fn on_numbers(
+        &self,
+        alloc: Global,
+        from: NodeNo,
+        epoch: u64,
+        told: Told,
+    ) -> Result<RestartPrepared, NoMemory>
+        ensures { IfOk result (IsRestartStepOf
+            (restart_row_of (Numbers epoch told.update told.read told.low) Recovering from.0 self.now) self.now) }
+    {
+        let place = from.0 as usize;
+        let kept = self.told.items();
+        if !(epoch == self.epoch && place < kept.len()) {
+            return Ok(RestartPrepared::silent(alloc, Taken::Nothing, RestartNext::Stay));
+        }
+        let new = [Some(told)];
+        let tellings = Tellings::with(kept, place, &told, &new);
+        self.recover(alloc, Taken::Numbers { from, told }, &tellings, self.heard)
+    }
+
+    /// The client said how many advances it sent, while the coordinator recovers.
+    fn on_wanted(
+        &self,
+        alloc: Global,
+        from: ActorNo,
+        epoch: u64,
+        advances: u32,
+    ) -> Result<RestartPrepared, NoMemory>
+        ensures { IfOk result (IsRestartStepOf
+            (restart_row_of (Wanted epoch advances) Recovering from.0 self.now) self.now) }
+    {
+        if !(epoch == self.epoch && from.0 == self.nodes + 1) {
+            return Ok(RestartPrepared::silent(alloc, Taken::Nothing, RestartNext::Stay));
+        }
+        let sent = u64::from(advances);
+        let tellings = Tellings::kept(self.told.items());
+        self.recover(alloc, Taken::Sent(sent), &tellings, Some(sent))
+    }
+
+    /// The coordinator resumes once each node and the client have told: with what is taken now, this is what they told.
+    fn recover(
+        &self,
+        alloc: Global,
+        taken: Taken,
+        tellings: &Tellings,
+        heard: Option<u64>,
+    ) -> Result<RestartPrepared, NoMemory>
+        requires may { MayTakeUp taken self.now }
+        requires told { tellings.now ≡ (with_taken taken self.now).told }
+        requires heard { heard ≡ (with_taken taken self.now).heard }
+        ensures { IfOk result (IsRestartStepOf (recover (with_taken taken self.now)) self.now) }
+    {
+        if !tellings.are_all() {
+            return Ok(RestartPrepared::silent(alloc, taken, RestartNext::Stay));
+        }
+        let Some(sent) = heard else {
+            return Ok(RestartPrepared::silent(alloc, taken, RestartNext::Stay));
+        };
+        self.resume(alloc, taken, tellings, sent)
+    }
+
+    /// The coordinator goes on by what nodes told, and by how many advances the client sent.
+    fn resume(
+        &self,
+        alloc: Global,
+        taken: Taken,
+        tellings: &Tellings,
+        sent: u64,
+    ) -> Result<RestartPrepared, NoMemory>
+        requires may { MayTakeUp taken self.now }
+        requires told { tellings.now ≡ (with_taken taken self.now).told }
+        ensures { IfOk result (IsRestartStepOf (resume sent (with_taken taken self.now)) self.now) }
+    {
+        let wanted = self.wanted.max(sent);
+        let ended = tellings.least_low();
+        let phase = tellings.phase(wanted, ended);
+        let prepared = self.enter_telling(alloc, taken, wanted, ended, phase)?;
+        Ok(prepared)
+    }
+
+    /// A node has obeyed an order, while nodes are doing one.
+    fn on_obeyed(
+        &self,
+        alloc: Global,
+        epoch: u64,
+        what: What,
+        version: Version,
+        doing: What,
+    ) -> Result<RestartPrepared, NoMemory>
+        ensures { IfOk result (IsRestartStepOf
+            (restart_row_of (Obeyed epoch what version) (Doing doing) 0 self.now) self.now) }
+    {
+        if !self.is_answer(epoch, what, version, doing) {
+            return Ok(RestartPrepared::silent(alloc, Taken::Nothing, RestartNext::Stay));
+        }
+        if self.acks.saturating_add(1) == u64::from(self.nodes) {
+            return self.after_doing(alloc, doing);
+        }
+        Ok(RestartPrepared::silent(alloc, Taken::Nothing, RestartNext::Acknowledge))
+    }
+
+    /// Whether an answer is to the order that nodes are doing.
+    fn is_answer(&self, epoch: u64, what: What, version: Version, doing: What) -> bool
+        ensures { result ≡ is_answer epoch what version doing self.now }
+    {
+        epoch == self.epoch && (same_what(what, doing) && version.0 == target(doing, self.ended).0)
+    }
+
+    /// Every node has obeyed.
+    fn after_doing(&self, alloc: Global, doing: What) -> Result<RestartPrepared, NoMemory>
+        ensures { IfOk result (IsRestartStepOf (after_doing doing self.now) self.now) }
+    {
+        match doing {
+            What::Turn => self.begin_counting(alloc, false),
+            What::Show => self.begin_counting(alloc, true),
+            What::Sweep => self.end_advancing(alloc),
+        }
+    }
+
+    /// An advancement has ended, and the next begins if it is wanted.
+    fn end_advancing(&self, alloc: Global) -> Result<RestartPrepared, NoMemory>
+        ensures { IfOk result (IsRestartStepOf (end_advancing self.now) self.now) }
+    {
+        let ended = self.ended.saturating_add(1);
+        let phase = next_advance(self.wanted, ended);
+        self.enter_telling(alloc, Taken::Nothing, self.wanted, ended, phase)
+    }
+
+    /// The version that a round counts.
+    fn version_counted(&self, reads: bool) -> Version
+        ensures { result ≡ version_counted reads self.now }
+    {
+        if reads {
+            Version(self.ended)
+        } else {
+            Version(self.ended.saturating_add(1))
+        }
+    }
+
+    /// A round begins: every node is asked for its completions.
+    fn begin_counting(&self, alloc: Global, reads: bool) -> Result<RestartPrepared, NoMemory>
+        ensures { IfOk result (IsRestartStepOf (begin_counting reads self.now) self.now) }
+    {
+        let version = self.version_counted(reads);
+        let round = self.count.next_round(alloc, version, self.nodes)?;
+        let body = Body::AskDone {
+            version,
+            round: round.number(),
+        };
+        let sent = to_nodes(alloc, self.nodes, &body)?;
+        let next = RestartNext::Count { reads, round };
+        Ok(RestartPrepared::sending(alloc, Taken::Nothing, next, sent))
+    }
+
+    /// A node's row of completions came in, while a round is counted.
+    fn on_done_row(
+        &self,
+        alloc: Global,
+        reads: bool,
+        from: NodeNo,
+        version: Version,
+        round: u64,
+        row: &Row,
+    ) -> Result<RestartPrepared, NoMemory>
+        ensures { IfOk result (IsRestartStepOf
+            (restart_row_of (DoneRow version round row.now) (Counting reads) from.0 self.now) self.now) }
+    {
+        let Some(counted) = self.count.look_done(from, version, round, row) else {
+            return Ok(RestartPrepared::silent(alloc, Taken::Nothing, RestartNext::Stay));
+        };
+        let row = copy_row(alloc, row)?;
+        self.after_row(alloc, reads, RowChange::Done { from, row }, counted)
+    }
+
+    /// A node's row of requests came in, while a round is counted.
+    fn on_asked_row(
+        &self,
+        alloc: Global,
+        reads: bool,
+        from: NodeNo,
+        version: Version,
+        round: u64,
+        row: &Row,
+    ) -> Result<RestartPrepared, NoMemory>
+        ensures { IfOk result (IsRestartStepOf
+            (restart_row_of (AskedRow version round row.now) (Counting reads) from.0 self.now) self.now) }
+    {
+        let Some(counted) = self.count.look_asked(from, version, round, row) else {
+            return Ok(RestartPrepared::silent(alloc, Taken::Nothing, RestartNext::Stay));
+        };
+        let row = copy_row(alloc, row)?;
+        self.after_row(alloc, reads, RowChange::Asked { from, row }, counted)
+    }
+
+    /// What the count asks for is done, where this row is kept.
+    fn after_row(
+        &self,
+        alloc: Global,
+        reads: bool,
+        row: RowChange,
+        counted: Counted,
+    ) -> Result<RestartPrepared, NoMemory>
+        requires { MayTakeUp (Taken.Row row) self.now }
+        ensures { IfOk result (IsRestartStepOf (by_counted reads counted (with_taken (Taken.Row row) self.now)) self.now) }
+    {
+        let next = match counted {
+            Counted::Goes => RestartNext::Stay,
+            Counted::AsksRequests => return self.ask_requests(alloc, row),
+            Counted::Agrees => return self.end_counting(alloc, reads, row),
+            Counted::Recounts => return self.begin_counting(alloc, reads),
+            Counted::Pauses => RestartNext::Begin(RestartPhase::Paused { reads }),
+        };
+        Ok(RestartPrepared::silent(alloc, Taken::Row(row), next))
+    }
+
+    /// Every node is asked for its requests, where this row is kept.
+    fn ask_requests(&self, alloc: Global, row: RowChange) -> Result<RestartPrepared, NoMemory>
+        requires { MayTakeUp (Taken.Row row) self.now }
+        ensures { IfOk result (IsRestartStepOf (ask_all_requests (with_taken (Taken.Row row) self.now)) self.now) }
+    {
+        let round = self.count.round();
+        let body = Body::AskAsked {
+            version: round.version(),
+            round: round.number(),
+        };
+        let sent = to_nodes(alloc, self.nodes, &body)?;
+        Ok(RestartPrepared::sending(alloc, Taken::Row(row), RestartNext::Stay, sent))
+    }
+
+    /// The counted version is quiet, where this row is kept: it is shown, or what is older than the next one is swept.
+    fn end_counting(
+        &self,
+        alloc: Global,
+        reads: bool,
+        row: RowChange,
+    ) -> Result<RestartPrepared, NoMemory>
+        requires { MayTakeUp (Taken.Row row) self.now }
+        ensures { IfOk result (IsRestartStepOf (end_counting reads (with_taken (Taken.Row row) self.now)) self.now) }
+    {
+        let what = if reads { What::Sweep } else { What::Show };
+        let phase = RestartPhase::Doing(what);
+        let sent = self.with_orders(alloc, Letters::new(alloc), phase, self.ended)?;
+        Ok(RestartPrepared::sending(alloc, Taken::Row(row), RestartNext::Begin(phase), sent))
+    }
+}
+
+/// The version that nodes are told to turn to, to show or to sweep to, where so many advancements have ended.
+fn target(what: What, ended: u64) -> Version
+    ensures { result ≡ target what ended }
+{
+    let next = ended.saturating_add(1);
+    match what {
+        What::Turn => Version(next.saturating_add(1)),
+        What::Show | What::Sweep => Version(next),
+    }
+}
+
+/// Whether the two are the same.
+fn same_what(what: What, other: What) -> bool
+    ensures { result ≡ same_what what other }
+{
+    match (what, other) {
+        (What::Turn, What::Turn) | (What::Show, What::Show) | (What::Sweep, What::Sweep) => true,
+        _ => false,
+    }
+}
+
+/// A place for what each of so many nodes tells.
+#[tactic(auto, using(std::proofs::lemmas::Grind::replicate_next))]
+fn none_told(alloc: Global, nodes: u8) -> Result<AllTold, NoMemory>
+    ensures told { IfOk result (λ told. told ≡ replicate nodes None) }
+{
+    let mut told = AllTold::new(alloc);
+    for _ in 0..nodes {
+        told.push(None)?;
+    }
+    Ok(told)
+}
+
+#[cfg(test)]
+mod tests;

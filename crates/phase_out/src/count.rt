@@ -1,0 +1,161 @@
+// A count: the round that is counted or was last, and what is asked of its coordinator.
+ghost use Rattle.std.specs.Prelude.{◌≡◌, MatchOption, IfOk};
+ghost use Rattle.tv_base.specs.Outside.{one_more};
+ghost use Rattle.phase_out.specs.Rounds.{new_round};
+ghost use Rattle.phase_out.specs.Counts.{MayKeep, start_count, count_begun, count_with, nudged, count_stays, told_done, told_asked};
+
+use crate::round::Round;
+use pair_counters::Row;
+use std::alloc::Global;
+use std::marker::Model;
+use tv_base::{NoMemory, NodeNo, Version};
+
+/// Which row the round is given.
+#[derive(Drop)]
+pub enum RowChange {
+    /// None.
+    NoRow,
+    /// A node's row of completions, in place of an earlier one.
+    Done { from: NodeNo, row: Row },
+    /// A node's row of requests, in place of an earlier one.
+    Asked { from: NodeNo, row: Row },
+}
+
+/// What a count asks of its coordinator.
+#[derive(Clone, Copy, Debug, PartialEq, Eq)]
+pub enum Counted {
+    /// Nothing: it goes on.
+    Goes,
+    /// All completions are in: every node is to be asked for its requests.
+    AsksRequests,
+    /// Every pair of nodes agrees: the version is quiet.
+    Agrees,
+    /// A pair differs, and a tree was answered since the round began: another round is to begin.
+    Recounts,
+    /// A pair differs: another round is to begin when a tree is answered.
+    Pauses,
+}
+
+/// The counting part of a coordinator: the round that is counted or was last, and whether a tree was answered since it
+/// began. Whether the count goes on or is paused is the coordinator's phase.
+#[derive(Drop)]
+pub struct Count {
+    number: u64,
+    current: Round,
+    nudged: bool,
+}
+
+impl Model for Count {
+    ghost use Rattle.phase_out.specs.Counts.{CountData};
+
+    ghost Value = { CountData };
+
+    ghost view = { λ c. record { number = c.number; current = c.current; flag = c.nudged } };
+}
+
+impl Count {
+    /// A count before its first round, after rounds up to this number. Needs no memory.
+    pub fn new(alloc: Global, number: u64) -> Count
+        ensures { result ≡ start_count number }
+    {
+        Count {
+            number,
+            current: Round::empty(alloc),
+            nudged: false,
+        }
+    }
+
+    /// The round that is counted or was last.
+    pub fn round(&self) -> &Round
+        ensures { result.now ≡ self.now.current }
+    {
+        &self.current
+    }
+
+    /// The next round: one of this version and of so many nodes, which misses every row. Its number is one more than
+    /// the last, and stops at 2^64 - 1.
+    pub fn next_round(&self, alloc: Global, version: Version, nodes: u8) -> Result<Round, NoMemory>
+        ensures { IfOk result (λ round. round ≡ new_round version (one_more self.now.number) nodes) }
+    {
+        let round = Round::new(alloc, version, self.number.saturating_add(1), nodes)?;
+        Ok(round)
+    }
+
+    /// What a row of completions would ask for, that an actor tells of a version and a round's number. None where
+    /// nothing comes of it, since it is none of this round.
+    pub fn look_done(
+        &self,
+        from: NodeNo,
+        version: Version,
+        number: u64,
+        row: &Row,
+    ) -> Option<Counted>
+        ensures { MatchOption result
+            (told_done from.0 version number row.now self.now ≡ count_stays self.now)
+            (λ counted. (told_done from.0 version number row.now self.now
+            ≡ record { state = count_with (RowChange.Done from row.now) self.now; counted = counted })
+            × MayKeep (RowChange.Done from row.now) self.now.current) }
+    {
+        if !self.current.is_of(from, version, number, row) {
+            return None;
+        }
+        if self.current.all_done_with(from) && !self.current.all_done() {
+            return Some(Counted::AsksRequests);
+        }
+        Some(Counted::Goes)
+    }
+
+    /// What a row of requests would ask for, that an actor tells of a version and a round's number. None where nothing
+    /// comes of it, since it is none of this round, or a row of completions is missing.
+    pub fn look_asked(
+        &self,
+        from: NodeNo,
+        version: Version,
+        number: u64,
+        row: &Row,
+    ) -> Option<Counted>
+        ensures { MatchOption result
+            (told_asked from.0 version number row.now self.now ≡ count_stays self.now)
+            (λ counted. (told_asked from.0 version number row.now self.now
+            ≡ record { state = count_with (RowChange.Asked from row.now) self.now; counted = counted })
+            × MayKeep (RowChange.Asked from row.now) self.now.current) }
+    {
+        if !(self.current.is_of(from, version, number, row) && self.current.all_done()) {
+            return None;
+        }
+        match self.current.verdict_with(from, row) {
+            None => Some(Counted::Goes),
+            Some(true) => Some(Counted::Agrees),
+            Some(false) if self.nudged => Some(Counted::Recounts),
+            Some(false) => Some(Counted::Pauses),
+        }
+    }
+
+    /// Gives the round its row. Needs no memory.
+    pub fn keep(&mut self, row: RowChange)
+        requires { MayKeep row self.old.current }
+        ensures { self.new ≡ count_with row self.old }
+    {
+        match row {
+            RowChange::NoRow => {}
+            RowChange::Done { from, row } => self.current.take_done(from, row),
+            RowChange::Asked { from, row } => self.current.take_asked(from, row),
+        }
+    }
+
+    /// A tree was answered.
+    pub fn nudge(&mut self)
+        ensures { self.new ≡ nudged self.old }
+    {
+        self.nudged = true;
+    }
+
+    /// A round begins in place of the last one. Needs no memory.
+    pub fn begin(&mut self, round: Round)
+        ensures { self.new ≡ count_begun round }
+    {
+        self.number = round.number();
+        self.current = round;
+        self.nudged = false;
+    }
+}
