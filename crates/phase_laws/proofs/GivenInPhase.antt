@@ -1,6 +1,6 @@
 -- In every run of the coordinator that remembers, what was given is what its phase allows: so advancements are as they should be.
-use Rattle.std.proofs.Common.{◌≡◌, ◌≢◌, ◌⊎◌, inl, inr, ℕ, zero, suc, ◌+◌, ◌-◌, ◌*◌, ◌<◌, ◌≤◌, ◌==◌, max, Bool, true, false, not, ◌&&◌, if◌then◌else◌, List, [], ◌∷◌, ◌++◌, refl, sym, ap, subst, ◌∙◌, arith, Option, Some, None}
-use Rattle.std.proofs.Math.Nat.{le-max_left, le-max_right, max-eq_left, max-eq_right, max-le}
+use Rattle.std.proofs.Common.{◌≡◌, ◌≢◌, ◌⊎◌, inl, inr, ℕ, zero, suc, ◌+◌, ◌<◌, ◌≤◌, ◌==◌, max, Bool, true, false, not, ◌&&◌, if◌then◌else◌, List, [], ◌∷◌, ◌++◌, refl, sym, ap, subst, ◌∙◌, arith}
+use Rattle.std.proofs.Math.Nat.{le-max_left, le-max_right, max-eq_left, max-eq_right}
 use Rattle.std.proofs.lemmas.Bool.{cases_eq}
 use Rattle.tv_base.specs.declared.numbers.Version.{Version}
 use Rattle.letter_types.specs.declared.bodies.Body.{Body}
@@ -9,15 +9,14 @@ use Rattle.letter_types.specs.declared.entries.Entry.{Entry}
 use Rattle.letter_types.specs.declared.entries.Letter.{Letter}
 use Rattle.letter_types.specs.declared.entries.Outgoing.{Outgoing}
 use Rattle.letter_types.specs.Steps.{Out, still}
-use Rattle.node_versions.specs.declared.turns.Turns.{Turns as TurnsOf}
 use Rattle.phase_out.specs.Rounds.{all_in}
-use Rattle.tx_trees.specs.ScriptData.{ScriptData, reads}
+use Rattle.tx_trees.specs.ScriptData.{ScriptData}
 use Rattle.world_model.specs.AllApt.{AllApt}
 use Rattle.world_model.specs.Coordinator.{Coordinator, advanced, begin_phase, coordinator_row, counted_version, end_count, in_phase, keep_done, to_nodes, version, with_done}
 use Rattle.world_model.specs.Counts.{Each, one_if, tally}
 use Rattle.world_model.specs.Kept.{outstanding}
 use Rattle.world_model.specs.Node.{Node}
-use Rattle.world_model.specs.Runs.{IsStepRun, coordinator_in, in_flight, node_in}
+use Rattle.world_model.specs.Runs.{IsStepRun, MayFollow, coordinator_in, in_flight, node_in}
 use Rattle.world_model.specs.declared.phase.Phase.{Phase}
 use Rattle.world_model.specs.declared.phase.Phase.TheVariants.{Counting, Idle, Paused, Showing, Sweeping, Turning}
 use Rattle.world_model.proofs.Bags.{one_if_same}
@@ -26,14 +25,15 @@ use Rattle.world_model.proofs.Every.{coordinator_kept, each_both, each_map, node
 use Rattle.world_model.proofs.Gone.{under_or}
 use Rattle.world_model.proofs.Orders.{coordinator_nodes, to_nodes_each}
 use Rattle.phase_laws.specs.Advances.{running}
-use Rattle.phase_laws.specs.Given.{IsGivenAnew, first_given, greatest_given, greatest_told, version_told}
+use Rattle.phase_laws.specs.Given.{IsGivenAnew, greatest_given, greatest_told, version_told}
 use Rattle.phase_laws.specs.Phases.{Stage, TurnStage, ShowStage, SweepStage, count_in_flight, most_low, most_read, most_update, token}
 use Rattle.phase_laws.specs.Quiet.{IsGivenInQuiet}
 use Rattle.phase_laws.proofs.Advancing.{IsAdvancing, IsAhead, IsOrderGiven, IsTurnedTo, IsWithin, given_stays, greatest_least, sent_given}
 use Rattle.phase_laws.proofs.Lawful.{IsLawful}
-use Rattle.phase_laws.proofs.LevelAt.{Level, LevelAt, LevelBody, Levels, tell, tells}
+use Rattle.phase_laws.proofs.LevelAt.{Level, LevelBody, Levels, tell, tells}
 use Rattle.phase_laws.proofs.Levels.{levels}
 use Rattle.phase_laws.proofs.Outcomes.{Outcome, Rests, Queues, Flags, Turns, Acks, LastTurned, LastShown, Finishes, GoesOn, Resumes, KeepsDone, KeepsAsked, Agrees, Recounts, Pauses, asked_kept, finished, gone_on, round_begun}
+use Rattle.phase_laws.proofs.Progress.{coordinates}
 use Rattle.phase_laws.proofs.Sending.{IsApart, Sending, SendsApart, SendsAsked, SendsDone, SendsOrders, sending}
 use Rattle.phase_laws.proofs.Shows.{given_in_quiet}
 use Rattle.phase_laws.proofs.Small.{IsSmall, outcome_in, small}
@@ -233,24 +233,25 @@ given_by g s past e away (SendsDone v k lt bd sent same) =
 given_by g s past e away (SendsAsked v k lt bd sent same) =
     given_stays g e past (subst (λ (os : List Outgoing). Each (λ (o : Outgoing). version_told g o.body ≡ 0) os) (sym sent)
     ((rows_told g v k _).1, tt))
-given_by g s past e away (SendsOrders tells at made) = absurd (away at)
+given_by g s past e away (SendsOrders at rowless) = absurd (away at)
 
 given_away : (g : Stage) (s : ScriptData) (past : List Entry) (e : Entry) → IsLawful s → IsStepRun s (e ∷ past) → AllApt s (e ∷ past)
     → e.actor.0 ≢ s.nodes → greatest_given g (e ∷ past) ≡ greatest_given g past
 given_away g s past e laws run apt away = given_by g s past e away (sending s past e laws run apt)
 
 -- so does an entry that has an act, which is none of the coordinator's
-acted_by : (g : Stage) (s : ScriptData) (past : List Entry) (e : Entry) → (e.acts ≡ [] → ⊥) → Sending s past e → greatest_given g (e ∷ past) ≡ greatest_given g past
-acted_by g s past e acts (SendsApart ne plain all) = given_by g s past e ne (SendsApart ne plain all)
-acted_by g s past e acts (SendsDone v k lt bd sent same) =
+acted_by : (g : Stage) (s : ScriptData) (past : List Entry) (e : Entry) → MayFollow s past e → (e.acts ≡ [] → ⊥) → Sending s past e
+    → greatest_given g (e ∷ past) ≡ greatest_given g past
+acted_by g s past e m acts (SendsApart ne plain all) = given_by g s past e ne (SendsApart ne plain all)
+acted_by g s past e m acts (SendsDone v k lt bd sent same) =
     given_by g s past e (λ eq. omega (arith, eq, lt)) (SendsDone v k lt bd sent same)
-acted_by g s past e acts (SendsAsked v k lt bd sent same) =
+acted_by g s past e m acts (SendsAsked v k lt bd sent same) =
     given_by g s past e (λ eq. omega (arith, eq, lt)) (SendsAsked v k lt bd sent same)
-acted_by g s past e acts (SendsOrders tells at made) = absurd (acts made.acts)
+acted_by g s past e m acts (SendsOrders at rowless) = absurd (acts (coordinates s past e m at).acts)
 
 pub given_acted : (g : Stage) (s : ScriptData) (past : List Entry) (e : Entry) → IsLawful s → IsStepRun s (e ∷ past) → AllApt s (e ∷ past)
     → (e.acts ≡ [] → ⊥) → greatest_given g (e ∷ past) ≡ greatest_given g past
-given_acted g s past e laws run apt acts = acted_by g s past e acts (sending s past e laws run apt)
+given_acted g s past e laws run apt acts = acted_by g s past e run.0 acts (sending s past e laws run apt)
 
 -- what was given is the most of the phase, in every run
 abbrev IsMost : Stage → ScriptData → List Entry → Type 0
@@ -262,20 +263,21 @@ most_kept g s past e away sends was =
     given_by g s past e away sends ∙ was
     ∙ ap (λ (c : Coordinator). most_given g c.phase c.update) (sym (coordinator_kept s past e away))
 
-most_next : (g : Stage) (s : ScriptData) (past : List Entry) (e : Entry) → IsLawful s → IsStepRun s past → AllApt s past
+most_next : (g : Stage) (s : ScriptData) (past : List Entry) (e : Entry) → IsLawful s → IsStepRun s (e ∷ past) → AllApt s past
     → Sending s past e → IsMost g s past → IsMost g s (e ∷ past)
 most_next g s past e laws run apt (SendsApart ne plain all) was = most_kept g s past e ne (SendsApart ne plain all) was
 most_next g s past e laws run apt (SendsDone v k lt bd sent same) was =
     most_kept g s past e (λ eq. omega (arith, eq, lt)) (SendsDone v k lt bd sent same) was
 most_next g s past e laws run apt (SendsAsked v k lt bd sent same) was =
     most_kept g s past e (λ eq. omega (arith, eq, lt)) (SendsAsked v k lt bd sent same) was
-most_next g s past e laws run apt (SendsOrders tells at made) was =
+most_next g s past e laws run apt (SendsOrders at rowless) was =
+    let made = coordinates s past e run.0 at in
     let c = coordinator_in s past in
     let out = coordinator_row c e.took.from.0 e.took.body in
     let some : 1 ≤ c.nodes = omega (arith, coordinator_nodes s past, laws.valid.some_nodes) in
     ap (λ (os : List Outgoing). max (greatest_told g os) (greatest_given g past)) made.sent
     ∙ ap (λ (n : ℕ). max (greatest_told g out.sent) n) was
-    ∙ gives g c e.took.from.0 e.took.body out some (outcome_in s past e laws run apt)
+    ∙ gives g c e.took.from.0 e.took.body out some (outcome_in s past e laws run.1 apt)
     ∙ ap (λ (d : Coordinator). most_given g d.phase d.update) (sym made.state)
 
 most_first : (g : Stage) (s : ScriptData) → IsMost g s []
@@ -286,7 +288,7 @@ most_first SweepStage s = refl
 given_is : (g : Stage) (s : ScriptData) (past : List Entry) → IsLawful s → IsStepRun s past → AllApt s past → IsMost g s past
 given_is g s [] laws run apt = most_first g s
 given_is g s (e ∷ past) laws run apt =
-    most_next g s past e laws run.1 apt.1 (sending s past e laws run apt) (given_is g s past laws run.1 apt.1)
+    most_next g s past e laws run apt.1 (sending s past e laws run apt) (given_is g s past laws run.1 apt.1)
 
 -- A node is within it.
 record IsMid (update read low turned showed swept : ℕ) : Type 0 where
