@@ -1,12 +1,11 @@
 -- What the code's searches find: the first operation that stands against a need, the first conflict, the newest version that is
 -- written, and the first operation that meets a newer one.
-use Rattle.std.proofs.Common.{◌≡◌, ◌⊎◌, inl, inr, ℕ, zero, suc, ◌+◌, ◌<◌, ◌≤◌, Bool, true, false, List, [], ◌∷◌, length, refl, sym, ap, subst, ◌∙◌, arith, Option, Some, None, drop, get_or, max}
-use Rattle.std.specs.Prelude.{if◌then◌else◌, ◌&&◌, ◌==◌, nat_lt, not, slice_get}
+use Rattle.std.proofs.Common.{◌≡◌, inl, inr, ℕ, zero, suc, ◌+◌, ◌<◌, ◌≤◌, Bool, true, false, List, [], ◌∷◌, length, refl, sym, ap, ◌∙◌, arith, Option, Some, None, drop, get_or, max}
+use Rattle.std.specs.Prelude.{if◌then◌else◌, ◌&&◌, nat_lt, slice_get}
 use Rattle.std.specs.List.{AllByRecursion}
 use Rattle.std.specs.Option.{option_map, option_or}
 use Rattle.std.proofs.lemmas.Bool.Decides.{nat_tests}
 use Rattle.std.proofs.lemmas.List.{drop_all}
-use Rattle.tv_base.specs.declared.numbers.ItemNo.{ItemNo}
 use Rattle.tv_base.specs.declared.numbers.TreeNo.{TreeNo}
 use Rattle.letter_types.specs.declared.votes.Cause.{Cause}
 use Rattle.letter_types.specs.declared.votes.Cause.TheVariants.{Conflict, Newer}
@@ -24,7 +23,7 @@ use Rattle.board_rules.specs.Histories.{Place, is_strict_tree}
 use Rattle.board_rules.specs.Stands.{conflict_of, conflict_with, holder_of, lock_mode_of, newer_of, newest_of}
 use Rattle.board_tallies.specs.Board.{BoardData}
 use Rattle.board_standing.specs.declared.users.User.{User}
-use Rattle.board_standing.specs.Views.{AreThere, AreUsersOf, IsView, MayLook, MayNeed, UsersData}
+use Rattle.board_standing.specs.Views.{IsView, MayNeed, UsersData}
 use Rattle.board_standing.specs.inside.Users.{first_tree, has_written, is_mark, is_meant, lesser_number, lesser_tree, newer_item, newest_by, stands_against, users_of, version_by}
 use Rattle.board_standing.proofs.Holding.{holder_is_first, marks_meet_no_marks}
 use Rattle.board_standing.proofs.Newest.{newest_is}

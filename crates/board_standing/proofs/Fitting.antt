@@ -1,6 +1,6 @@
 -- What a valid script says of the operations of a subtransaction.
-use Rattle.std.proofs.Common.{◌≡◌, ◌⊎◌, inl, inr, ◌||◌, ℕ, ◌<◌, Bool, true, false, List, [], ◌∷◌, length, refl, sym, ap, subst, ◌∙◌, Option, Some, None}
-use Rattle.std.specs.Prelude.{cond, filter, slice_get}
+use Rattle.std.proofs.Common.{◌≡◌, inl, inr, ◌||◌, ℕ, ◌<◌, Bool, true, false, List, [], ◌∷◌, length, refl, sym, ap, subst, ◌∙◌, Option, Some, None}
+use Rattle.std.specs.Prelude.{cond, slice_get}
 use Rattle.std.specs.List.{AllByRecursion}
 use Rattle.std.proofs.lemmas.Bool.{or_left, or_right}
 use Rattle.commute_ops.specs.declared.kinds.Kind.{Kind}
@@ -22,7 +22,7 @@ use Rattle.tx_trees.proofs.Stays.{op_within}
 use Rattle.board_rules.specs.Right.{gets_among, is_get}
 use Rattle.board_rules.specs.Stands.{lock_mode_of}
 use Rattle.board_rules.proofs.ItemAt.{ops_of_subs}
-use Rattle.board_rules.proofs.NoVotes.{AreMarking, updates_mark}
+use Rattle.board_rules.proofs.NoVotes.{updates_mark}
 use Rattle.board_rules.proofs.TreeSubs.{found_ops}
 use Rattle.board_standing.specs.Views.{AreThere, MayLook, MayNeed}
 use Rattle.board_standing.specs.Notes.{Suits, SuitsAt}

@@ -1,6 +1,6 @@
 -- What operations see of their items is what the items are worth.
-use Rattle.std.proofs.Common.{◌≡◌, ℕ, suc, ◌+◌, ◌<◌, ◌≤◌, ◌==◌, Bool, true, false, List, [], ◌∷◌, length, ltb, refl, sym, ap, subst, ◌∙◌, arith, Option, Some, None, drop, get_or}
-use Rattle.std.specs.Prelude.{if◌then◌else◌, cond, filter, is_some, slice_get}
+use Rattle.std.proofs.Common.{◌≡◌, ℕ, ◌+◌, ◌<◌, ◌==◌, Bool, true, false, List, [], ◌∷◌, length, ltb, refl, sym, ap, subst, ◌∙◌, arith, Option, Some, None, drop, get_or}
+use Rattle.std.specs.Prelude.{cond, is_some, slice_get}
 use Rattle.std.specs.Bool.{Decides}
 use Rattle.std.specs.Option.{option_or}
 use Rattle.std.proofs.lemmas.Bool.Decides.{nat_tests}
