@@ -1,8 +1,8 @@
 -- Acts of an entry, noted one after the other.
-use Rattle.std.proofs.Common.{◌≡◌, inl, inr, ◌&&◌, ℕ, zero, suc, ◌+◌, ◌<◌, Bool, true, false, List, [], ◌∷◌, ◌++◌, length, refl, sym, ap, subst, ◌∙◌, arith, append_assoc, append-nil, take, drop, take-append-drop, get_or, map, Decides, Option, Some}
+use Rattle.std.proofs.Common.{◌≡◌, inl, inr, ◌&&◌, ℕ, zero, suc, ◌+◌, ◌<◌, Bool, true, false, List, [], ◌∷◌, ◌++◌, length, refl, sym, ap, subst, ◌∙◌, arith, append_assoc, append-nil, take, drop, take-append-drop, get_or, map, Decides}
 use Rattle.std.specs.Prelude.{if◌then◌else◌}
 use Rattle.std.specs.List.{list_all}
-use Rattle.std.specs.Option.{IfSome, option_map}
+use Rattle.std.specs.Option.{option_map}
 use Rattle.std.proofs.lemmas.Bool.{and_from, and_parts}
 use Rattle.std.proofs.lemmas.List.{take-append-le, take_all, take_more}
 use Rattle.std.proofs.lemmas.List.Folds.{list_all-append}
@@ -178,10 +178,7 @@ pub decide_by : (P : Type 0) (r : Bool) → (r ≡ true → P) → (r ≡ false 
 decide_by P true tells fails = (tells, (λ p. refl))
 decide_by P false tells fails = (tells, (λ p. absurd (fails refl p)))
 
--- What is said of a value if there is one, said of the one that is there; and what is pushed where there is room.
-pub at_some : {X : Type 0} (P : X → Type 0) (o : Option X) (x : X) → o ≡ Some x → IfSome o P → P x
-at_some {X = X} P o x is all = subst (λ (q : Option X). IfSome q P) is all
-
+-- What is pushed where there is room.
 pub pushed : {X : Type 0} (b : Bool) (xs ys olds : List X) → b ≡ true → xs ≡ (if b then ys else olds) → xs ≡ ys
 pushed true xs ys olds is so = so
 pushed false xs ys olds is so = absurd (cc is)

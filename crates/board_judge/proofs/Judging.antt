@@ -1,5 +1,5 @@
 -- An entry that passes all tests may come, and one that fails in one breaks its rule.
-use Rattle.std.proofs.Common.{◌≡◌, ◌&&◌, inl, inr, ℕ, ℤ, Bool, true, false, List, [], ◌∷◌, ◌++◌, length, map, refl, sym, ap, subst, ◌∙◌, append-nil, Option, Some, None, Decides}
+use Rattle.std.proofs.Common.{◌≡◌, inl, inr, ℕ, ℤ, Bool, true, false, List, [], ◌∷◌, ◌++◌, length, map, refl, sym, ap, subst, ◌∙◌, append-nil, Option, Some, None, Decides}
 use Rattle.std.specs.Prelude.{Result, Ok, Err, IfOk, slice_get}
 use Rattle.tv_base.specs.declared.numbers.NoMemory.{NoMemory}
 use Rattle.tv_base.specs.declared.numbers.Stamp.{Stamp}
@@ -14,7 +14,6 @@ use Rattle.board_tallies.specs.GateRows.{AreGatesOf, GatesData}
 use Rattle.board_standing.specs.Views.{AreUsersOf, UsersData}
 use Rattle.worth_steps.specs.Worth.{MayBegin}
 use Rattle.std.specs.List.{list_all}
-use Rattle.std.proofs.lemmas.Bool.{and_from, and_parts}
 use Rattle.letter_types.specs.declared.acts.Act.{Act}
 use Rattle.letter_types.specs.declared.acts.Act.TheVariants.{Born, Did, Turned, Showed, Swept, Finished, Waits, Parked, Voted, Freed, Decided, Applied}
 use Rattle.letter_types.specs.declared.entries.Entry.{Entry}
@@ -22,7 +21,7 @@ use Rattle.script_parts.specs.ScriptData.{ScriptData}
 use Rattle.board_rules.specs.declared.rule_names.Rule.{Rule}
 use Rattle.board_rules.specs.declared.rule_names.Rule.TheVariants as rules
 use Rattle.board_rules.specs.Histories.{Place, places_at, places_of}
-use Rattle.board_rules.specs.Judging.{AreRight, Breaks, DoesAtOnce, FirstFails, IsAccepted, KeepToScript, MayCome, rule_of}
+use Rattle.board_rules.specs.Judging.{AreRight, Breaks, DoesAtOnce, FirstFails, KeepToScript, MayCome, rule_of}
 use Rattle.board_rules.specs.Moves.{IsMove, OneByOne}
 use Rattle.board_rules.specs.Right.{IsDoneAtOnce, IsRightAct}
 use Rattle.board_rules.proofs.Judging.{accepted_more}

@@ -1,5 +1,5 @@
 -- Deeds noted on the items' worths, one after the other, and taken back.
-use Rattle.std.proofs.Common.{◌≡◌, ◌==◌, ℕ, zero, suc, ◌+◌, ◌<◌, ◌≤◌, Bool, true, false, List, [], ◌∷◌, ◌++◌, length, ltb, refl, sym, ap, subst, ◌∙◌, arith, append_assoc, append-nil, Option, Some, None, map, take, get_or, ℤ}
+use Rattle.std.proofs.Common.{◌≡◌, ◌==◌, ℕ, zero, suc, ◌+◌, ◌<◌, ◌≤◌, Bool, true, false, List, [], ◌∷◌, ◌++◌, length, ltb, refl, sym, ap, subst, ◌∙◌, arith, add-one, append_assoc, append-nil, Option, Some, None, map, take, get_or, ℤ}
 use Rattle.std.specs.Prelude.{if◌then◌else◌, slice_get, slice_set}
 use Rattle.std.specs.List.{AllByRecursion}
 use Rattle.std.specs.Option.{option_map}
@@ -17,6 +17,7 @@ use Rattle.script_parts.specs.declared.parts.ItemRow.{ItemRow}
 use Rattle.script_parts.specs.declared.parts.Sub.{Sub}
 use Rattle.script_parts.specs.declared.parts.SubOp.{SubOp}
 use Rattle.script_parts.specs.declared.parts.Tree.{Tree}
+use Rattle.script_parts.proofs.SubsOf.{all_at}
 use Rattle.board_rules.specs.Histories.{Place}
 use Rattle.board_rules.specs.Worth.{first_value}
 use Rattle.board_rules.proofs.TreeSubs.{found_ops}
@@ -155,9 +156,6 @@ noted_one ws i n w z here kind more = record {
       subst (λ (ms : List Noted). AreWorths first ms v) (sym (append-nil ns)) (subst (λ (y : WorthsData). AreWorths first ns y) new kept)
 
 -- with one operation, or one subtransaction, more
-plus_one : (n : ℕ) → n + 1 ≡ suc n
-plus_one n = omega arith
-
 ops_next : (v x i : ℕ) (os : List SubOp) (o : SubOp) → slice_get os i ≡ Some o
     → ops_noted v x (take i os) ++ one_noted o.item.0 (record { version = v; deed = o.deed }) x ≡ ops_noted v x (take (suc i) os)
 ops_next v x i [] o at = absurd (cc at)
@@ -189,7 +187,7 @@ pub ops_on : (v i : ℕ) (os : List SubOp) (d : SubOp) (olds mids news : List Wo
 ops_on v i os d olds mids news lt before one =
     let o = get_or os i d in
     noted_alike (λ x. ops_noted v x (take i os) ++ one_noted o.item.0 (record { version = v; deed = o.deed }) x) (λ x. ops_noted v x (take (i + 1) os)) olds news
-    (λ x. ops_next v x i os o (slice_get-get_or os i d lt) ∙ ap (λ (n : ℕ). ops_noted v x (take n os)) (sym (plus_one i)))
+    (λ x. ops_next v x i os o (slice_get-get_or os i d lt) ∙ ap (λ (n : ℕ). ops_noted v x (take n os)) (sym (add-one i)))
     (noted_then (λ x. ops_noted v x (take i os)) (one_noted o.item.0 (record { version = v; deed = o.deed })) olds mids news before one)
 
 pub ops_all : (v n : ℕ) (os : List SubOp) (olds news : List WorthsData) → length os ≤ n → HasNoted (λ x. ops_noted v x (take n os)) olds news
@@ -203,7 +201,7 @@ pub subs_on : (v i : ℕ) (subs : List Sub) (sub : Sub) (olds mids news : List W
     → HasNoted (λ x. subs_noted v x (take (i + 1) subs)) olds news
 subs_on v i subs sub olds mids news at before one =
     noted_alike (λ x. subs_noted v x (take i subs) ++ ops_noted v x sub.ops) (λ x. subs_noted v x (take (i + 1) subs)) olds news
-    (λ x. subs_next v x i subs sub at ∙ ap (λ (n : ℕ). subs_noted v x (take n subs)) (sym (plus_one i)))
+    (λ x. subs_next v x i subs sub at ∙ ap (λ (n : ℕ). subs_noted v x (take n subs)) (sym (add-one i)))
     (noted_then (λ x. subs_noted v x (take i subs)) (λ x. ops_noted v x sub.ops) olds mids news before one)
 
 pub subs_all : (v n : ℕ) (subs : List Sub) (olds news : List WorthsData) → length subs ≤ n → HasNoted (λ x. subs_noted v x (take n subs)) olds news
@@ -212,11 +210,6 @@ subs_all v n subs olds news le all =
     noted_alike (λ x. subs_noted v x (take n subs)) (λ x. subs_noted v x subs) olds news (λ x. ap (subs_noted v x) (take_all n subs le)) all
 
 -- What suits.
-pub suits_at : {A : Type 0} (P : A → Type 0) (xs : List A) (i : ℕ) (x : A) → AllByRecursion P xs → slice_get xs i ≡ Some x → P x
-suits_at P [] i x all at = absurd (cc at)
-suits_at P (y ∷ xs) zero x all at = (let same : y ≡ x = cc at in subst P same all.0)
-suits_at P (y ∷ xs) (suc i) x all at = suits_at P xs i x all.1 at
-
 each_place : {A : Type 0} (P : A → Type 0) (xs : List A) → ((i : ℕ) (x : A) → slice_get xs i ≡ Some x → P x) → AllByRecursion P xs
 each_place P [] all = tt
 each_place P (x ∷ xs) all = (all zero x refl, each_place P xs (λ i y at. all (suc i) y at))
@@ -252,12 +245,12 @@ pub all_suit : (kinds ks : List Kind) (os : List SubOp) (i : ℕ) (d : SubOp) �
 all_suit kinds ks os i d same all lt =
     let o = get_or os i d in
     subst (λ (cs : List Kind). SuitsKind o.deed (slice_get cs o.item.0)) (sym same)
-    (suits_at (λ (p : SubOp). SuitsKind p.deed (slice_get kinds p.item.0)) os i o all (slice_get-get_or os i d lt))
+    (all_at (λ (p : SubOp). SuitsKind p.deed (slice_get kinds p.item.0)) os i o all (slice_get-get_or os i d lt))
 
 pub all_subs_suit : (kinds ks : List Kind) (subs : List Sub) (i : ℕ) (sub : Sub) → ks ≡ kinds → AllSubsSuit kinds subs → slice_get subs i ≡ Some sub
     → AllSuit ks sub.ops
 all_subs_suit kinds ks subs i sub same all at =
-    subst (λ (cs : List Kind). AllSuit cs sub.ops) (sym same) (suits_at (λ (k : Sub). AllSuit kinds k.ops) subs i sub all at)
+    subst (λ (cs : List Kind). AllSuit cs sub.ops) (sym same) (all_at (λ (k : Sub). AllSuit kinds k.ops) subs i sub all at)
 
 -- what is found of a tree, or isn't
 pub subs_nowhere : (s : ScriptData) (trees : List Tree) (t : ℕ) → trees ≡ s.trees → false ≡ ltb t (length trees) → subs_at s t ≡ []

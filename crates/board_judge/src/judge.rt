@@ -76,7 +76,7 @@ impl<'a> Model for Judge<'a> {
 }
 
 impl<'a> Judge<'a> {
-    /// A judge that has taken no entry yet. Takes time and memory by the script.
+    /// A judge that has taken no entry yet; all its memory is asked of this allocator. Takes time and memory by the script.
     pub fn new(alloc: Global, script: &'a Script) -> Result<Judge<'a>, NoMemory>
         ensures script { IfOk result (λ j. j.script ≡ script.now) }
         ensures taken { IfOk result (λ j. HasJudged j []) }
@@ -88,6 +88,7 @@ impl<'a> Judge<'a> {
         let board = Board::new(alloc, script)?;
         let worths = first_worths(alloc, script)?;
         let basis = Basis {
+            alloc,
             script,
             gates,
             users,
@@ -102,20 +103,19 @@ impl<'a> Judge<'a> {
     /// Takes an entry, if it may come after those that were taken: then the judge has taken it too. Else it is refused, by
     /// the first rule that it breaks, and the judge is what it was. Takes time by the entry's acts, with the operations and
     /// values of the trees that they end, and for locks by the operations of the script on these items.
-    pub fn take(&mut self, alloc: Global, entry: &Entry) -> Result<(), Refused>
+    pub fn take(&mut self, entry: &Entry) -> Result<(), Refused>
         ensures script { self.new.script ≡ self.old.script }
         ensures ok { OnOk result ((h : List Entry) → HasJudged self.old h
             → MayCome self.old.script h entry.now × HasJudged self.new (h ++ entry.now ∷ [])) }
         ensures refused { IfErr result (λ refused. IsRefusal self.old entry.now refused) }
         ensures err { OnErr result (self.new ≡ self.old) }
     {
-        let mut steps = Vec::new(alloc);
-        let mut trail = Vec::new(alloc);
+        let mut steps = Vec::new(self.basis.alloc);
+        let mut trail = Vec::new(self.basis.alloc);
         let tried = try_entry(
             &self.basis,
             &mut self.board,
             &mut self.worths,
-            alloc,
             entry,
             &mut steps,
             &mut trail,
@@ -130,12 +130,12 @@ impl<'a> Judge<'a> {
     }
 
     /// What an item is worth at a version after the entries that were taken. Only a bag needs memory.
-    pub fn worth(&self, alloc: Global, item: ItemNo, version: Version) -> Result<Value, NoMemory>
+    pub fn worth(&self, item: ItemNo, version: Version) -> Result<Value, NoMemory>
         requires { item.0 < length self.now.script.items }
         ensures { IfOk result (λ worth. (h : List Entry) → HasJudged self.now h
             → worth ≡ worth_in self.now.script (places_of h) item.0 version.0) }
     {
-        let value = self.worths[item.0 as usize].at(alloc, version)?;
+        let value = self.worths[item.0 as usize].at(self.basis.alloc, version)?;
         Ok(value)
     }
 
@@ -152,7 +152,6 @@ fn try_entry(
     basis: &Basis,
     board: &mut Board,
     worths: &mut Vec<Worths>,
-    alloc: Global,
     entry: &Entry,
     steps: &mut Vec<Step>,
     trail: &mut Vec<Altered>,
@@ -175,7 +174,7 @@ fn try_entry(
         &entry.took.body,
         entry.acts.items(),
     );
-    let broken = note_acts(basis, board, worths, alloc, entry, steps)?;
+    let broken = note_acts(basis, board, worths, entry, steps)?;
     if broken.is_some() {
         return Ok(broken);
     }

@@ -12,7 +12,6 @@ use crate::votes::{Basis, is_move, is_right_yes};
 use board_rules::Rule;
 use board_tallies::{Board, Noted};
 use letter_types::{Act, Entry};
-use std::alloc::Global;
 use tv_base::{ActorNo, NoMemory};
 use worth_steps::Worths;
 
@@ -31,7 +30,6 @@ pub(crate) fn note_act(
     basis: &Basis,
     board: &mut Board,
     worths: &[Worths],
-    alloc: Global,
     node: ActorNo,
     act: &Act,
 ) -> Result<Option<Step>, NoMemory>
@@ -45,7 +43,7 @@ pub(crate) fn note_act(
     ensures same { IfOk result (λ step. IsNone step → board.new ≡ board.old) }
     ensures err { OnErr result (board.new ≡ board.old) }
 {
-    if !is_move(basis, board, worths, alloc, node, act)? {
+    if !is_move(basis, board, worths, node, act)? {
         return Ok(None);
     }
     let keeps = board.keeps(basis.script, &basis.gates, node, act);
@@ -63,7 +61,6 @@ fn note_next(
     basis: &Basis,
     board: &mut Board,
     worths: &[Worths],
-    alloc: Global,
     node: ActorNo,
     act: &Act,
     steps: &mut Vec<Step>,
@@ -79,7 +76,7 @@ fn note_next(
     ensures still { IfOk result (λ moves. moves ≡ false → board.new ≡ board.old) }
     ensures back { restored steps.new.items board.new ≡ restored steps.old.items board.old }
 {
-    let Some(step) = note_act(basis, board, worths, alloc, node, act)? else {
+    let Some(step) = note_act(basis, board, worths, node, act)? else {
         return Ok(false);
     };
     if steps.push(step).is_err() {
@@ -94,7 +91,6 @@ pub(crate) fn note_acts(
     basis: &Basis,
     board: &mut Board,
     worths: &[Worths],
-    alloc: Global,
     entry: &Entry,
     steps: &mut Vec<Step>,
 ) -> Result<Option<Rule>, NoMemory>
@@ -108,7 +104,7 @@ pub(crate) fn note_acts(
     ensures back { restored steps.new.items board.new ≡ board.old }
 {
     for act in entry.acts.items() {
-        if !note_next(basis, board, worths, alloc, entry.actor, act, steps)? {
+        if !note_next(basis, board, worths, entry.actor, act, steps)? {
             return Ok(Some(rule_of(act)));
         }
     }

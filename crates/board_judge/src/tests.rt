@@ -79,11 +79,11 @@ fn a_root_is_done_at_once(rt: HostRuntime) -> Result<(), Fail> {
         rule: Rule::AtOnce,
     };
     assert_eq!(rt;
-        judge.take(alloc, &root_taken(alloc, false)?),
+        judge.take(&root_taken(alloc, false)?),
         Err(Refused::Wrong(late))
     );
-    assert_eq!(rt; judge.take(alloc, &root_taken(alloc, true)?), Ok(()));
-    let fifteen = match judge.worth(alloc, ItemNo(0), Version(1))? {
+    assert_eq!(rt; judge.take(&root_taken(alloc, true)?), Ok(()));
+    let fifteen = match judge.worth(ItemNo(0), Version(1))? {
         Value::Sum(sum) => sum.0 == 15,
         _ => false,
     };

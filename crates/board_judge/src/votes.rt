@@ -23,9 +23,10 @@ use tv_base::{ActorNo, ItemNo, NoMemory, Version};
 use tx_trees::Script;
 use worth_steps::Worths;
 
-// What a judge never changes: the script, and what was made of it.
+// What a judge never changes: where it asks for memory, the script, and what was made of it.
 #[derive(Drop)]
 pub(crate) struct Basis<'a> {
+    pub(crate) alloc: Global,
     pub(crate) script: &'a Script,
     pub(crate) gates: Gates,
     pub(crate) users: Users,
@@ -50,7 +51,6 @@ pub(crate) fn is_move(
     basis: &Basis,
     board: &Board,
     worths: &[Worths],
-    alloc: Global,
     node: ActorNo,
     act: &Act,
 ) -> Result<bool, NoMemory>
@@ -64,7 +64,7 @@ pub(crate) fn is_move(
     let Some(ballot) = ballot_of(act) else {
         return Ok(true);
     };
-    let cause = cause(basis, board, worths, alloc, node, ballot.asked)?;
+    let cause = cause(basis, board, worths, node, ballot.asked)?;
     Ok(same_cause(ballot.refusal, cause))
 }
 
@@ -101,7 +101,6 @@ fn cause(
     basis: &Basis,
     board: &Board,
     worths: &[Worths],
-    alloc: Global,
     node: ActorNo,
     asked: Asked,
 ) -> Result<Option<Cause>, NoMemory>
@@ -120,7 +119,7 @@ fn cause(
     if later.is_some() {
         return Ok(later);
     }
-    let found = short(alloc, worths, Version(version), ops)?;
+    let found = short(basis.alloc, worths, Version(version), ops)?;
     Ok(found)
 }
 

@@ -1,12 +1,11 @@
 -- What the code's searches find: the first operation that stands against a need, the first conflict, the newest version that is
 -- written, and the first operation that meets a newer one.
-use Rattle.std.proofs.Common.{◌≡◌, ◌⊎◌, inl, inr, ℕ, zero, suc, ◌+◌, ◌<◌, ◌≤◌, Bool, true, false, List, [], ◌∷◌, length, refl, sym, ap, subst, ◌∙◌, arith, add-one, Option, Some, None, drop, drop-cons, get_or, max}
-use Rattle.std.specs.Prelude.{if◌then◌else◌, ◌&&◌, ◌==◌, nat_lt, not, slice_get}
+use Rattle.std.proofs.Common.{◌≡◌, inl, inr, ℕ, zero, suc, ◌+◌, ◌<◌, ◌≤◌, Bool, true, false, List, [], ◌∷◌, length, refl, sym, ap, ◌∙◌, arith, Option, Some, None, drop, get_or, max}
+use Rattle.std.specs.Prelude.{if◌then◌else◌, ◌&&◌, nat_lt, slice_get}
 use Rattle.std.specs.List.{AllByRecursion}
 use Rattle.std.specs.Option.{option_map, option_or}
 use Rattle.std.proofs.lemmas.Bool.Decides.{nat_tests}
 use Rattle.std.proofs.lemmas.List.{drop_all}
-use Rattle.tv_base.specs.declared.numbers.ItemNo.{ItemNo}
 use Rattle.tv_base.specs.declared.numbers.TreeNo.{TreeNo}
 use Rattle.letter_types.specs.declared.votes.Cause.{Cause}
 use Rattle.letter_types.specs.declared.votes.Cause.TheVariants.{Conflict, Newer}
@@ -19,17 +18,15 @@ use Rattle.script_parts.specs.declared.parts.SubOp.{SubOp}
 use Rattle.script_parts.specs.declared.parts.Tree.{Tree}
 use Rattle.script_parts.specs.declared.parts.TreeKind.{TreeKind}
 use Rattle.script_parts.specs.declared.parts.TreeKind.TheVariants.{Update, Read, Strict}
+use Rattle.script_parts.proofs.Loading.{rest_at}
 use Rattle.board_rules.specs.Histories.{Place, is_strict_tree}
 use Rattle.board_rules.specs.Stands.{conflict_of, conflict_with, holder_of, lock_mode_of, newer_of, newest_of}
 use Rattle.board_tallies.specs.Board.{BoardData}
 use Rattle.board_standing.specs.declared.users.User.{User}
-use Rattle.board_standing.specs.Views.{AreThere, AreUsersOf, IsView, MayLook, MayNeed, UsersData}
+use Rattle.board_standing.specs.Views.{IsView, MayNeed, UsersData}
 use Rattle.board_standing.specs.inside.Users.{first_tree, has_written, is_mark, is_meant, lesser_number, lesser_tree, newer_item, newest_by, stands_against, users_of, version_by}
 use Rattle.board_standing.proofs.Holding.{holder_is_first, marks_meet_no_marks}
 use Rattle.board_standing.proofs.Newest.{newest_is}
-
-pub opened : {A : Type 0} (xs : List A) (i : ℕ) (d : A) → i < length xs → drop i xs ≡ get_or xs i d ∷ drop (i + 1) xs
-opened xs i d within = rw (add-one, drop-cons xs i d) refl
 
 pub all_at : {A : Type 0} (P : A → Type 0) (xs : List A) (i : ℕ) (d : A) → i < length xs → AllByRecursion P xs → P (get_or xs i d)
 all_at P [] i d within all = absurd (omega (arith, within))
@@ -40,14 +37,14 @@ all_at P (x ∷ xs) (suc i) d within all = all_at P xs i d (omega (arith, within
 pub first_found : (test : User → Bool) (us : List User) (i : ℕ) (d : User) (first : Option ℕ) → i < length us → test (get_or us i d) ≡ true
     → first_tree test (drop i us) ≡ first → Some (get_or us i d).tree.0 ≡ first
 first_found test us i d first within passes is =
-    by (ap (first_tree test) (sym (opened us i d within)) ∙ is) where
+    by (ap (first_tree test) (sym (rest_at us i d within)) ∙ is) where
       by : (if test (get_or us i d) then Some (get_or us i d).tree.0 else first_tree test (drop (i + 1) us)) ≡ first → Some (get_or us i d).tree.0 ≡ first
       by so = rw passes at so
 
 pub first_passed : (test : User → Bool) (us : List User) (i : ℕ) (d : User) (first : Option ℕ) → i < length us → test (get_or us i d) ≡ false
     → first_tree test (drop i us) ≡ first → first_tree test (drop (i + 1) us) ≡ first
 first_passed test us i d first within passes is =
-    by (ap (first_tree test) (sym (opened us i d within)) ∙ is) where
+    by (ap (first_tree test) (sym (rest_at us i d within)) ∙ is) where
       by : (if test (get_or us i d) then Some (get_or us i d).tree.0 else first_tree test (drop (i + 1) us)) ≡ first → first_tree test (drop (i + 1) us) ≡ first
       by so = rw passes at so
 
@@ -126,7 +123,7 @@ module _ (s : ScriptData) (xs : List Place) (p t : ℕ) (os : List SubOp) (i : �
   front : conflict_of s xs p t (drop i os)
       ≡ option_or (conflict_with (get_or os i d).item (option_map (λ (k : TreeNo). k.0) h)) (conflict_of s xs p t (drop (i + 1) os))
   front =
-      ap (conflict_of s xs p t) (opened os i d within)
+      ap (conflict_of s xs p t) (rest_at os i d within)
       ∙ ap (λ (o : Option ℕ). option_or (conflict_with (get_or os i d).item o) (conflict_of s xs p t (drop (i + 1) os))) (sym found)
 
   pub conflict_found : (k : TreeNo) (all : Option Cause) → h ≡ Some k → conflict_of s xs p t (drop i os) ≡ all
@@ -147,7 +144,7 @@ pub newest_on : (s : ScriptData) (xs : List Place) (p : ℕ) (us : List User) (i
 newest_on s xs p us i d old new all within is so =
     ap (λ (n : ℕ). max n (newest_by s xs p (drop (i + 1) us))) is
     ∙ by (has_written s xs p (get_or us i d)) (version_by xs (get_or us i d)) (newest_by s xs p (drop (i + 1) us))
-    ∙ sym (ap (λ (vs : List User). max old (newest_by s xs p vs)) (opened us i d within)) ∙ so where
+    ∙ sym (ap (λ (vs : List User). max old (newest_by s xs p vs)) (rest_at us i d within)) ∙ so where
       by : (c : Bool) (v n : ℕ) → max (if c then max old v else old) n ≡ max old (if c then max v n else n)
       by true v n = omega arith
       by false v n = refl
@@ -167,7 +164,7 @@ newer_found : (s : ScriptData) (xs : List Place) (p v : ℕ) (os : List SubOp) (
 newer_found s xs p v os i d one all within is so =
     ap (λ (o : Option Cause). option_or o (newer_of s xs p v (drop (i + 1) os))) is
     ∙ sym (newer_front s xs p v (get_or os i d) (drop (i + 1) os))
-    ∙ sym (ap (newer_of s xs p v) (opened os i d within)) ∙ so
+    ∙ sym (ap (newer_of s xs p v) (rest_at os i d within)) ∙ so
 
 pub newer_first : (s : ScriptData) (xs : List Place) (p v : ℕ) (os : List SubOp) (i : ℕ) (d : SubOp) (one all : Option Cause) (cause : Cause) → i < length os
     → one ≡ newer_item s xs p v (get_or os i d) → newer_of s xs p v (drop i os) ≡ all → one ≡ Some cause → Some cause ≡ all

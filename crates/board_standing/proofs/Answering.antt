@@ -1,6 +1,6 @@
 -- Whether acts answer what is asked for: what is found among them, and how many park.
-use Rattle.std.proofs.Common.{◌≡◌, ◌&&◌, ◌||◌, ◌==◌, ℕ, zero, suc, ◌+◌, ◌<◌, ◌≤◌, Bool, true, false, List, [], ◌∷◌, ◌++◌, length, refl, sym, ap, subst, ◌∙◌, arith, Option, Some, None, take, drop, get_or, eqb-true}
-use Rattle.std.specs.Prelude.{if◌then◌else◌, cond, filter, slice_get, IsTrue, is_none, is_some, not, Decides}
+use Rattle.std.proofs.Common.{◌≡◌, ◌&&◌, ◌||◌, ◌==◌, ℕ, ◌+◌, ◌<◌, ◌≤◌, Bool, true, false, List, [], ◌∷◌, length, refl, sym, ap, subst, ◌∙◌, arith, Option, Some, None, take, drop, get_or, eqb-true}
+use Rattle.std.specs.Prelude.{if◌then◌else◌, cond, filter, is_none, is_some, not, Decides}
 use Rattle.std.specs.List.{list_any}
 use Rattle.std.proofs.lemmas.Bool.{and_from, and_parts}
 use Rattle.std.proofs.lemmas.Bool.Decides.{nat_tests}
@@ -17,25 +17,25 @@ use Rattle.letter_types.specs.declared.bodies.Body.TheVariants as bodies
 use Rattle.letter_types.specs.declared.votes.Cause.{Cause}
 use Rattle.letter_types.specs.declared.votes.Cause.TheVariants.{Conflict, Newer, Short}
 use Rattle.script_parts.specs.ScriptData.{ScriptData}
-use Rattle.board_rules.specs.Histories.{Place, does}
-use Rattle.board_rules.specs.Right.{IsDoneAtOnce, IsDoneOrParked, commutes, in_way_of, is_parking, parking_for, parkings}
+use Rattle.script_parts.proofs.Loading.{rest_at}
+use Rattle.board_rules.specs.Histories.{Place}
+use Rattle.board_rules.specs.Right.{IsDoneAtOnce, IsDoneOrParked, in_way_of, is_parking, parking_for, parkings}
 use Rattle.board_standing.specs.declared.at_once.Asked.{Asked}
 use Rattle.board_standing.specs.declared.at_once.InWay.{InWay}
 use Rattle.board_standing.specs.inside.Asking.{IsAnsweredFor, asked_of, lock_in, parks_this}
-use Rattle.board_standing.proofs.Against.{opened}
 
 -- What passes.
 pub any_found : {A : Type 0} (test : A → Bool) (xs : List A) (i : ℕ) (d : A) (all : Bool) → i < length xs → test (get_or xs i d) ≡ true
     → list_any test (drop i xs) ≡ all → true ≡ all
 any_found test xs i d all within passes is =
-    by (ap (list_any test) (sym (opened xs i d within)) ∙ is) where
+    by (ap (list_any test) (sym (rest_at xs i d within)) ∙ is) where
       by : (test (get_or xs i d) || list_any test (drop (i + 1) xs)) ≡ all → true ≡ all
       by so = rw passes at so
 
 pub any_passed : {A : Type 0} (test : A → Bool) (xs : List A) (i : ℕ) (d : A) (all : Bool) → i < length xs → test (get_or xs i d) ≡ false
     → list_any test (drop i xs) ≡ all → list_any test (drop (i + 1) xs) ≡ all
 any_passed test xs i d all within passes is =
-    by (ap (list_any test) (sym (opened xs i d within)) ∙ is) where
+    by (ap (list_any test) (sym (rest_at xs i d within)) ∙ is) where
       by : (test (get_or xs i d) || list_any test (drop (i + 1) xs)) ≡ all → list_any test (drop (i + 1) xs) ≡ all
       by so = rw passes at so
 

@@ -1,9 +1,8 @@
 -- What a valid script says of the operations of a subtransaction.
-use Rattle.std.proofs.Common.{◌≡◌, ◌⊎◌, inl, inr, ◌||◌, ℕ, ◌<◌, Bool, true, false, List, [], ◌∷◌, length, refl, sym, ap, subst, ◌∙◌, Option, Some, None}
-use Rattle.std.specs.Prelude.{cond, filter, slice_get}
+use Rattle.std.proofs.Common.{◌≡◌, inl, inr, ◌||◌, ℕ, ◌<◌, Bool, true, false, List, [], ◌∷◌, length, refl, sym, ap, subst, ◌∙◌, Option, Some, None}
+use Rattle.std.specs.Prelude.{cond, slice_get}
 use Rattle.std.specs.List.{AllByRecursion}
 use Rattle.std.proofs.lemmas.Bool.{or_left, or_right}
-use Rattle.std.proofs.lemmas.Option.{slice_get_within}
 use Rattle.commute_ops.specs.declared.kinds.Kind.{Kind}
 use Rattle.commute_ops.specs.declared.kinds.Kind.TheVariants.{Sum as SumKind, Top as TopKind, Bag as BagKind}
 use Rattle.nc_locks.specs.declared.modes.Mode.TheVariants.{Mark}
@@ -19,10 +18,11 @@ use Rattle.script_parts.specs.declared.parts.Tree.{Tree}
 use Rattle.script_parts.specs.declared.parts.TreeKind.{TreeKind}
 use Rattle.script_parts.specs.declared.parts.TreeKind.TheVariants.{Update, Read, Strict}
 use Rattle.script_parts.proofs.SubsOf.{all_at, found_subs}
+use Rattle.tx_trees.proofs.Stays.{op_within}
 use Rattle.board_rules.specs.Right.{gets_among, is_get}
 use Rattle.board_rules.specs.Stands.{lock_mode_of}
 use Rattle.board_rules.proofs.ItemAt.{ops_of_subs}
-use Rattle.board_rules.proofs.NoVotes.{AreMarking, updates_mark}
+use Rattle.board_rules.proofs.NoVotes.{updates_mark}
 use Rattle.board_rules.proofs.TreeSubs.{found_ops}
 use Rattle.board_standing.specs.Views.{AreThere, MayLook, MayNeed}
 use Rattle.board_standing.specs.Notes.{Suits, SuitsAt}
@@ -51,16 +51,10 @@ pub each_op : (P Q : SubOp → Type 0) (os : List SubOp) → ((o : SubOp) → P 
 each_op P Q [] to all = tt
 each_op P Q (o ∷ os) to all = (to o all.0, each_op P Q os to all.1)
 
-item_of : (items : List ItemRow) (kind : TreeKind) (node : ℕ) (o : SubOp) → IsOp items kind node o → o.item.0 < length items
-item_of items kind node o is = by (slice_get items o.item.0) refl is where
-  by : (row : Option ItemRow) → slice_get items o.item.0 ≡ row → OpAt kind node o row → o.item.0 < length items
-  by None at fits = absurd fits
-  by (Some row) at fits = slice_get_within items o.item.0 row at
-
 pub ops_there : (s : ScriptData) (t k : ℕ) → IsValid s → AreThere s (ops_of s t k)
 ops_there s t k valid = elim (fit_here s t k valid) [
   | NoneHere none ↦ subst (AreThere s) (sym none) tt
-  | AllFit tree node at all ↦ each_op (IsOp s.items tree.kind node) (λ (o : SubOp). o.item.0 < length s.items) (ops_of s t k) (item_of s.items tree.kind node) all
+  | AllFit tree node at all ↦ each_op (IsOp s.items tree.kind node) (λ (o : SubOp). o.item.0 < length s.items) (ops_of s t k) (op_within s.items tree.kind node) all
 ]
 
 -- an update tree needs marks alone, and where a strict tree asks there is one

@@ -1,5 +1,5 @@
 -- Operations listed by item, one after the other.
-use Rattle.std.proofs.Common.{subst, ◌≡◌, ◌==◌, ℕ, zero, suc, ◌+◌, ◌<◌, ◌≤◌, Bool, true, false, List, [], ◌∷◌, ◌++◌, length, refl, sym, ap, ◌∙◌, arith, append_assoc, append-nil, take, get_or, slice_set, Some}
+use Rattle.std.proofs.Common.{subst, ◌≡◌, ◌==◌, ℕ, zero, suc, ◌+◌, ◌<◌, ◌≤◌, Bool, true, false, List, [], ◌∷◌, ◌++◌, length, refl, sym, ap, ◌∙◌, arith, add-one, append_assoc, append-nil, take, get_or, slice_set, Some}
 use Rattle.std.specs.Prelude.{if◌then◌else◌, slice_get}
 use Rattle.std.proofs.lemmas.Bool.Decides.{nat_tests}
 use Rattle.std.proofs.lemmas.List.{length-append, take_all}
@@ -118,9 +118,6 @@ subs_next t j x (suc i) (y ∷ subs) sub at =
     (ap (λ (m : ℕ). subs_users t (suc j) x (take i subs) ++ ops_users t m x sub.ops) next ∙ subs_next t (suc j) x i subs sub at)
 
 -- The same, as the code's loops have it.
-plus_one : (n : ℕ) → n + 1 ≡ suc n
-plus_one n = omega arith
-
 pub put_more_at : (olds : List (List User)) (p : ℕ) (us vs : List User) (u : User) → p < length olds → us ≡ get_or olds p [] → vs ≡ us ++ u ∷ []
     → HasMore (λ x. if p == x then u ∷ [] else []) olds (slice_set olds p vs)
 put_more_at olds p us vs u lt is put =
@@ -136,7 +133,7 @@ ops_on t j m i os d olds mids news lt is before more =
     more_alike (λ x. ops_users t j x (take i os) ++ (if o.item.0 == x then record { tree = record { 0 = t }; sub = record { 0 = j }; mode = m } ∷ [] else []))
     (λ x. ops_users t j x (take (i + 1) os)) olds news
     (λ x. ap (λ (n : Mode). ops_users t j x (take i os) ++ (if o.item.0 == x then record { tree = record { 0 = t }; sub = record { 0 = j }; mode = n } ∷ [] else [])) is
-    ∙ ops_next t j x i os o (slice_get-get_or os i d lt) ∙ ap (λ (n : ℕ). ops_users t j x (take n os)) (sym (plus_one i)))
+    ∙ ops_next t j x i os o (slice_get-get_or os i d lt) ∙ ap (λ (n : ℕ). ops_users t j x (take n os)) (sym (add-one i)))
     (more_then (λ x. ops_users t j x (take i os)) (λ x. if o.item.0 == x then record { tree = record { 0 = t }; sub = record { 0 = j }; mode = m } ∷ [] else []) olds mids news before more)
 
 pub subs_on : (t i : ℕ) (subs : List Sub) (sub : Sub) (olds mids news : List (List User)) → i < length subs → sub ≡ get_or subs i sub
@@ -147,7 +144,7 @@ subs_on t i subs sub olds mids news lt at before more =
     let there : slice_get subs i ≡ Some sub = slice_get-get_or subs i sub lt ∙ ap (λ (z : Sub). Some z) (sym at) in
     more_alike (λ x. subs_users t 0 x (take i subs) ++ ops_users t i x sub.ops) (λ x. subs_users t 0 x (take (i + 1) subs)) olds news
     (λ x. ap (λ (n : ℕ). subs_users t 0 x (take i subs) ++ ops_users t n x sub.ops) (sym (zero_plus i))
-    ∙ subs_next t 0 x i subs sub there ∙ ap (λ (n : ℕ). subs_users t 0 x (take n subs)) (sym (plus_one i)))
+    ∙ subs_next t 0 x i subs sub there ∙ ap (λ (n : ℕ). subs_users t 0 x (take n subs)) (sym (add-one i)))
     (more_then (λ x. subs_users t 0 x (take i subs)) (λ x. ops_users t i x sub.ops) olds mids news before more) where
       zero_plus : (n : ℕ) → 0 + n ≡ n
       zero_plus n = omega arith
@@ -179,7 +176,7 @@ trees_on s strict i trees tree mids news same lt at before more =
           let here : x < length mids = omega (arith, below, more.count) in
           more.each x here ∙ ap (λ (us : List User). us ++ tree_users (is_meant strict) i x tree) (before.each x here)
           ∙ ap (λ (n : ℕ). trees_users (is_meant strict) 0 x (take i s.trees) ++ tree_users (is_meant strict) n x tree) (sym (zero_plus i))
-          ∙ trees_next (is_meant strict) 0 x i s.trees tree there ∙ ap (λ (n : ℕ). trees_users (is_meant strict) 0 x (take n s.trees)) (sym (plus_one i));
+          ∙ trees_next (is_meant strict) 0 x i s.trees tree there ∙ ap (λ (n : ℕ). trees_users (is_meant strict) 0 x (take n s.trees)) (sym (add-one i));
     } where
       zero_plus : (n : ℕ) → 0 + n ≡ n
       zero_plus n = omega arith

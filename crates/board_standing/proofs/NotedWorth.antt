@@ -1,6 +1,6 @@
 -- The worth of an item is that of the deeds of the trees that take effect, noted in order of closing; and one act more notes
 -- the deeds of the tree that it closes.
-use Rattle.std.proofs.Common.{◌≡◌, ◌==◌, ◌&&◌, ℕ, zero, suc, Bool, true, false, List, [], ◌∷◌, ◌++◌, length, refl, sym, ap, subst, ◌∙◌, append_assoc, append-nil, Option, Some, None}
+use Rattle.std.proofs.Common.{◌≡◌, ◌==◌, ◌&&◌, ℕ, zero, suc, Bool, true, false, List, [], ◌∷◌, ◌++◌, refl, sym, ap, ◌∙◌, append_assoc, append-nil, Option, Some, None}
 use Rattle.std.specs.Prelude.{if◌then◌else◌, cond, filter, fold, slice_get, is_some}
 use Rattle.std.specs.List.{AllByRecursion}
 use Rattle.std.proofs.lemmas.List.Elements.{filter-append}
@@ -13,7 +13,7 @@ use Rattle.script_parts.specs.Valid.{IsValid}
 use Rattle.script_parts.specs.declared.parts.Sub.{Sub}
 use Rattle.script_parts.specs.declared.parts.SubOp.{SubOp}
 use Rattle.board_rules.specs.ButCause.{IsMoveButCause}
-use Rattle.board_rules.specs.Histories.{Place, version_in, was_born}
+use Rattle.board_rules.specs.Histories.{Place, version_in}
 use Rattle.board_rules.specs.Serial.{commit_order, is_member_in, is_settled_in, is_version, members_in, serial_in}
 use Rattle.board_rules.specs.Stands.{version_or_zero}
 use Rattle.board_rules.specs.Worth.{after_ops, after_subs, after_tree, first_value, worth_in}

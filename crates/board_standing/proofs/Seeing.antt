@@ -1,6 +1,6 @@
 -- What operations see of their items is what the items are worth.
-use Rattle.std.proofs.Common.{◌≡◌, ℕ, suc, ◌+◌, ◌<◌, ◌≤◌, ◌==◌, Bool, true, false, List, [], ◌∷◌, length, ltb, refl, sym, ap, subst, ◌∙◌, arith, Option, Some, None, drop, get_or}
-use Rattle.std.specs.Prelude.{if◌then◌else◌, cond, filter, is_some, slice_get}
+use Rattle.std.proofs.Common.{◌≡◌, ℕ, ◌+◌, ◌<◌, ◌==◌, Bool, true, false, List, [], ◌∷◌, length, ltb, refl, sym, ap, subst, ◌∙◌, arith, Option, Some, None, drop, get_or}
+use Rattle.std.specs.Prelude.{cond, is_some, slice_get}
 use Rattle.std.specs.Bool.{Decides}
 use Rattle.std.specs.Option.{option_or}
 use Rattle.std.proofs.lemmas.Bool.Decides.{nat_tests}
@@ -14,6 +14,7 @@ use Rattle.script_parts.specs.ScriptData.{ScriptData}
 use Rattle.script_parts.specs.declared.parts.Deed.{Deed}
 use Rattle.script_parts.specs.declared.parts.Deed.TheVariants.{Apply, Get, Set, Draw}
 use Rattle.script_parts.specs.declared.parts.SubOp.{SubOp}
+use Rattle.script_parts.proofs.Loading.{rest_at}
 use Rattle.board_rules.specs.Histories.{Place}
 use Rattle.board_rules.specs.Right.{gets_among, is_get, with_worths}
 use Rattle.board_rules.specs.Worth.{first_value, worth_in}
@@ -21,7 +22,6 @@ use Rattle.worth_steps.specs.Kept.{AreWorths, WorthsData}
 use Rattle.worth_steps.specs.Worth.{worth_of}
 use Rattle.board_standing.specs.Notes.{AreKnown, noted_on}
 use Rattle.board_standing.specs.inside.Shorts.{draws, short_item, short_ops}
-use Rattle.board_standing.proofs.Against.{opened}
 use Rattle.board_standing.proofs.NotedWorth.{noted_is_worth}
 
 -- what is kept of an item says what it is worth
@@ -102,7 +102,7 @@ short_front : (s : ScriptData) (xs : List Place) (v : ℕ) (os : List SubOp) (i 
     → option_or one (short_ops s xs v (drop (i + 1) os)) ≡ all
 short_front s xs v os i d one all within is so =
     ap (λ (o : Option Cause). option_or o (short_ops s xs v (drop (i + 1) os))) is
-    ∙ sym (ap (short_ops s xs v) (opened os i d within)) ∙ so
+    ∙ sym (ap (short_ops s xs v) (rest_at os i d within)) ∙ so
 
 pub short_first : (s : ScriptData) (xs : List Place) (v : ℕ) (os : List SubOp) (i : ℕ) (d : SubOp) (one all : Option Cause) → i < length os
     → one ≡ short_item s xs v (get_or os i d) → short_ops s xs v (drop i os) ≡ all → is_some one ≡ true → one ≡ all

@@ -1,29 +1,27 @@
 -- Which locks of a tree stand, by what it has done and voted and by where it was freed or applied: after acts that are
 -- moves nothing is locked for a tree that was let go.
-use Rattle.std.proofs.Common.{◌≡◌, ◌⊎◌, inl, inr, ◌==◌, ◌&&◌, ◌||◌, ℕ, zero, suc, ◌<◌, Bool, true, false, List, [], ◌∷◌, ◌++◌, length, refl, sym, ap, subst, ◌∙◌, arith, append_assoc, append-nil, Option, Some, None, take, drop, take-append-drop}
-use Rattle.std.specs.Prelude.{if◌then◌else◌, filter, fold, map, not, slice_get}
+use Rattle.std.proofs.Common.{◌≡◌, inl, inr, ◌==◌, ◌&&◌, ◌||◌, ℕ, ◌<◌, Bool, true, false, List, [], ◌∷◌, ◌++◌, length, refl, sym, ap, subst, ◌∙◌, arith, append_assoc, append-nil, take, drop, take-append-drop}
+use Rattle.std.specs.Prelude.{if◌then◌else◌, not}
 use Rattle.std.specs.List.{list_any}
-use Rattle.std.proofs.lemmas.Bool.{and_from, and_parts, eqb-true, or_cases, or_left, or_right}
+use Rattle.std.proofs.lemmas.Bool.{eqb-true, or_cases}
 use Rattle.std.proofs.lemmas.List.{take-append-le, take_all}
 use Rattle.std.proofs.lemmas.List.Folds.{list_any-append}
 use Rattle.std.proofs.lemmas.List.Sums.{fold-append}
-use Rattle.std.proofs.lemmas.Option.{slice_get_within}
-use Rattle.tv_base.proofs.ByPlace.{slice_get_last, slice_get_left}
+use Rattle.tv_base.proofs.ByPlace.{slice_get_last}
 use Rattle.tv_base.proofs.Truths.{left_true, right_true}
 use Rattle.letter_types.specs.declared.acts.Act.{Act}
 use Rattle.letter_types.specs.declared.acts.Act.TheVariants.{Born, Did, Turned, Showed, Swept, Finished, Waits, Parked, Voted, Freed, Decided, Applied}
 use Rattle.letter_types.specs.declared.votes.Vote.TheVariants.{Yes, No}
 use Rattle.nc_locks.specs.declared.modes.Mode.{Mode}
-use Rattle.script_parts.specs.ScriptData.{ScriptData, ops_of, sub_at, subs_at, updates}
-use Rattle.script_parts.specs.declared.parts.Sub.{Sub}
+use Rattle.script_parts.specs.ScriptData.{ScriptData, ops_of, subs_at, updates}
 use Rattle.script_parts.specs.declared.parts.SubOp.{SubOp}
 use Rattle.board_rules.specs.ButCause.{IsMoveButCause, IsMoveButCauseAt}
 use Rattle.board_rules.specs.Histories.{Place, applies, is_strict_tree, is_whole_in, was_applied, was_done}
-use Rattle.board_rules.specs.Moves.{IsAskedBy, decides_as, was_decided_as}
-use Rattle.board_rules.specs.Stands.{frees, locked_by, modes_after, modes_on, modes_standing, releases, voted_yes, votes, was_freed, was_voted}
-use Rattle.board_rules.proofs.ActTests.{applies_as_is, applies_as_one, decides_as_is, does_is, frees_is, votes_yes_is}
-use Rattle.board_rules.proofs.Once.{clash, same_tests}
-use Rattle.board_rules.proofs.Positions.{found_all, there}
+use Rattle.board_rules.specs.Moves.{decides_as, was_decided_as}
+use Rattle.board_rules.specs.Stands.{frees, locked_by, modes_after, modes_on, modes_standing, releases, votes, was_freed, was_voted}
+use Rattle.board_rules.proofs.ActTests.{applies_as_is, applies_as_one, decides_as_is, frees_is}
+use Rattle.board_rules.proofs.Once.{clash}
+use Rattle.board_rules.proofs.Positions.{found_all}
 use Rattle.board_rules.proofs.Wholes.{any_more, whole_all, whole_done, update_not_strict}
 use Rattle.board_standing.specs.Settled.{IsMoveRun}
 use Rattle.board_standing.proofs.OneMore.{asked_there, run_before}

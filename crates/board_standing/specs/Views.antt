@@ -1,5 +1,5 @@
 -- What is looked at to tell what stands: a script, its operations on each item, and the Board's tallies.
-use Rattle.std.specs.Prelude.{ℕ, false, true, ◌≡◌, ◌<◌, ◌⊎◌, List, length}
+use Rattle.std.specs.Prelude.{false, true, ◌≡◌, ◌<◌, ◌⊎◌, List, length}
 use Rattle.std.specs.List.{AllByRecursion}
 use Rattle.nc_locks.specs.declared.modes.Mode.{Mode}
 use Rattle.nc_locks.specs.declared.modes.Mode.TheVariants.{Mark}

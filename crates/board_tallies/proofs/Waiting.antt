@@ -7,6 +7,7 @@ use Rattle.std.proofs.lemmas.Bool.Decides.{Decides-and, Decides-like}
 use Rattle.std.proofs.lemmas.List.Sums.{sum_by-cons}
 use Rattle.std.proofs.lemmas.Option.{get_or_from_slice_get, slice_get-get_or, slice_get_within}
 use Rattle.tv_base.specs.declared.numbers.Version.{Version}
+use Rattle.tv_base.proofs.Truths.{right_true}
 use Rattle.script_parts.specs.ScriptData.{ScriptData, is_read}
 use Rattle.script_parts.specs.declared.parts.Tree.{Tree}
 use Rattle.board_rules.specs.Histories.{Place}
@@ -141,10 +142,6 @@ whole_from : (born through : Bool) → born ≡ true → through ≡ true → (b
 whole_from true through is so = so
 whole_from false through is so = absurd (cc is)
 
-through_from : (born through : Bool) → (born && through) ≡ true → through ≡ true
-through_from true through is = is
-through_from false through is = absurd (cc is)
-
 -- the tallies say whether all such trees up to a version are whole
 pub waits_decides : (s : ScriptData) (xs : List Place) (b : BoardData) (are : ℕ → Bool) (r : Bool) (v : ℕ) → IsBoardOf s xs b
     → AreOfKind are s r → Decides (none_to r v b.pending) (AllWholeTo are s xs v)
@@ -174,6 +171,6 @@ waits_decides s xs b are r v board kinds =
             let shows : ShowsTree t xs st = subst (λ (z : TreeState). ShowsTree t xs z) same (board.states t) in
             none_pends_by r (is_read tree.kind) (is_through tree st) w st.born
             (λ u kind born is.
-            through_from (is_some st.born) (is_through tree st)
+            right_true (is_some st.born) (is_through tree st)
             (whole_is s xs t tree st at shows
             ∙ whole t u (kinds.kind t tree at ∙ kind) (sym shows.born ∙ born) (omega (arith, is, le))))

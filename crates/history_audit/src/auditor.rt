@@ -45,12 +45,12 @@ pub fn audit(alloc: Global, script: &Script, text: &[u8]) -> Result<u64, AuditRe
 {
     let mut judge = Judge::new(alloc, script)?;
     let mut walk = Walk::new(alloc, script, text);
-    while take_next(alloc, &mut walk, &mut judge)? {}
+    while take_next(&mut walk, &mut judge)? {}
     end(walk.count(), judge.is_finished())
 }
 
 // Takes the next entry of the walk. Whether there was one.
-fn take_next(alloc: Global, walk: &mut Walk, judge: &mut Judge) -> Result<bool, AuditRefusal>
+fn take_next(walk: &mut Walk, judge: &mut Judge) -> Result<bool, AuditRefusal>
     ensures more { IfOk result (λ more. more ≡ true → (s : ScriptData) (text : List ℕ) (h : List Entry)
         → IsUnderAudit s text h walk.old judge.old → (e : Entry) × IsUnderAudit s text (h ++ e ∷ []) walk.new judge.new) }
     ensures shorter { IfOk result (λ more. more ≡ true → length walk.new.rest < length walk.old.rest) }
@@ -68,7 +68,7 @@ fn take_next(alloc: Global, walk: &mut Walk, judge: &mut Judge) -> Result<bool, 
     let Some(entry) = next else {
         return Ok(false);
     };
-    match judge.take(alloc, &entry) {
+    match judge.take(&entry) {
         Ok(()) => Ok(true),
         Err(refused) => Err(refusal(refused, number)),
     }

@@ -1,4 +1,4 @@
--- What trying an entry has found: nothing, and then the tallies are those with it; or the first rule that it breaks.
+-- An entry that is tried, and why it is refused.
 use Rattle.std.specs.Prelude.{◌++◌, ◌∷◌, [], List, Option, Some, None, Result, Ok, Err}
 use Rattle.tv_base.specs.declared.numbers.Stamp.{Stamp}
 use Rattle.tv_base.specs.declared.numbers.NoMemory.{NoMemory}
@@ -23,6 +23,8 @@ refused_for stamp (Ok None) = None
 refused_for stamp (Ok (Some rule)) = Some (refused.Wrong (record { stamp = stamp; rule = rule }))
 refused_for stamp (Err none) = Some refused.NoMemory
 
+-- what trying an entry after the history h has found: nothing, and then these are the tallies with it, or the first rule that
+-- it breaks
 abbrev pub IsTried : JudgeData → List Entry → Entry → Option Rule → BoardData → List WorthsData → Type 0
 IsTried j h e None b ws = MayCome j.script h e × HasJudged (record j { board = b; worths = ws }) (h ++ e ∷ [])
 IsTried j h e (Some rule) b ws = Breaks j.script h e rule

@@ -1,5 +1,5 @@
 -- What a letter asks for, and what answers it.
-use Rattle.std.specs.Prelude.{ℕ, Bool, true, false, ◌≡◌, ◌==◌, ◌&&◌, List, Option, Some, None, IsTrue, is_none}
+use Rattle.std.specs.Prelude.{Bool, false, ◌≡◌, ◌==◌, ◌&&◌, List, Option, Some, None, IsTrue, is_none}
 use Rattle.std.specs.List.{list_any}
 use Rattle.tv_base.specs.declared.numbers.ItemNo.{ItemNo}
 use Rattle.tv_base.specs.declared.numbers.SubNo.{SubNo}

@@ -3,7 +3,7 @@ use Rattle.std.specs.Prelude.{is_some}
 use Rattle.board_rules.specs.Histories.{Place, places_of}
 use Rattle.board_judge.specs.declared.noting.Step.{Step}
 use Rattle.board_judge.specs.inside.Steps.{AreNoted}
-use Rattle.board_judge.proofs.Going.{at_some, one_noted, pushed, restored_more}
+use Rattle.board_judge.proofs.Going.{one_noted, pushed, restored_more}
 use Rattle.board_judge.proofs.noting.note_next.Goals as goal
 
 pub returns-in_default-clause-not : goal.returns-in_default-clause-not
@@ -14,12 +14,13 @@ returns-clause-noted c = λ moves h ys midway noted.
     let s = c.args.basis.now.script.now in
     let x : Place = record { node = c.args.node.0; act = c.args.act.now } in
     let all : c.push.new.self.items ≡ c.args.steps.now.items ++ c.in-Some.step ∷ [] = pushed _ _ _ _ c.if-is_err.ensures.negation c.push.ensures.items in
-    let step = at_some _ _ c.in-Some.step c.in-Some.is c.in_ok-step.ensures.stepped h (places_of h ++ ys) midway in
+    let stepped = rw c.in-Some.is at c.in_ok-step.ensures.stepped in
+    let step = stepped h (places_of h ++ ys) midway in
     subst (λ (sts : List Step). AreNoted s h (ys ++ x ∷ []) sts c.note_act.new.board) (sym all)
     (one_noted s h ys x c.args.steps.now.items c.in-Some.step c.args.board.now c.note_act.new.board noted step)
 
 pub returns-clause-back : goal.returns-clause-back
 returns-clause-back c =
     let all : c.push.new.self.items ≡ c.args.steps.now.items ++ c.in-Some.step ∷ [] = pushed _ _ _ _ c.if-is_err.ensures.negation c.push.ensures.items in
-    let back = at_some _ _ c.in-Some.step c.in-Some.is c.in_ok-step.ensures.back in
+    let back = rw c.in-Some.is at c.in_ok-step.ensures.back in
     restored_more c.push.new.self.items c.args.steps.now.items c.in-Some.step c.args.board.now c.note_act.new.board _ all back refl

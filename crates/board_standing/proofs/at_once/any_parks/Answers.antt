@@ -1,5 +1,4 @@
-use Rattle.std.proofs.Common.{◌≡◌, ap, sym, ◌∙◌, refl}
-use Rattle.letter_types.specs.declared.acts.Act.{Act}
+use Rattle.std.proofs.Common.{ap, sym, ◌∙◌, refl}
 use Rattle.board_standing.specs.inside.Asking.{parks_this}
 use Rattle.board_standing.proofs.Answering.{any_found, any_none, any_passed}
 use Rattle.board_standing.proofs.at_once.any_parks.Goals as goal

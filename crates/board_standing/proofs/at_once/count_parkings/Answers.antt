@@ -1,4 +1,4 @@
-use Rattle.std.proofs.Common.{◌≡◌, ap, sym, ◌∙◌, refl, arith, length}
+use Rattle.std.proofs.Common.{ap, ◌∙◌, length}
 use Rattle.std.proofs.lemmas.List.{take_all}
 use Rattle.letter_types.specs.declared.acts.Act.{Act}
 use Rattle.std.specs.Prelude.{List}

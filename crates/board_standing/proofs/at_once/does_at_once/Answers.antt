@@ -1,4 +1,4 @@
-use Rattle.std.proofs.Common.{◌≡◌, ◌==◌, ℕ, ap, sym, ◌∙◌}
+use Rattle.std.proofs.Common.{◌==◌, ℕ, ap, sym, ◌∙◌}
 use Rattle.board_standing.proofs.Answering.{decide_asked, decide_unasked}
 use Rattle.board_standing.proofs.at_once.does_at_once.Goals as goal
 

@@ -1,7 +1,6 @@
-use Rattle.std.proofs.Common.{◌≡◌, ◌∙◌, ap, sym, subst, List, Bool, true, Option, None}
+use Rattle.std.proofs.Common.{◌≡◌, ◌∙◌, ap, sym, subst, Bool, true, Option, None}
 use Rattle.std.specs.Prelude.{if◌then◌else◌}
 use Rattle.letter_types.specs.declared.votes.Cause.{Cause}
-use Rattle.script_parts.specs.declared.parts.SubOp.{SubOp}
 use Rattle.board_rules.specs.Stands.{conflict_of}
 use Rattle.board_standing.specs.Views.{AreThere, MayLook}
 use Rattle.board_standing.proofs.Fitting.{marks_asked, ops_there}

@@ -1,4 +1,4 @@
-use Rattle.std.proofs.Common.{◌≡◌, ◌==◌, ℕ, ap, sym, ◌∙◌}
+use Rattle.std.proofs.Common.{◌==◌, ℕ, ap, sym, ◌∙◌}
 use Rattle.board_standing.proofs.Answering.{decide_many, decide_none_parked, decide_parked}
 use Rattle.board_standing.proofs.at_once.is_parked_as.Goals as goal
 

@@ -1,7 +1,6 @@
-use Rattle.std.proofs.Common.{◌≡◌, ◌==◌, ℕ, List, [], ◌∷◌, length, sym, subst, ◌∙◌, Decides, refl, arith, true, Bool}
+use Rattle.std.proofs.Common.{◌≡◌, ℕ, List, ◌∷◌, sym, subst, ◌∙◌, Decides}
 use Rattle.commute_ops.specs.declared.value.Value.{Value}
 use Rattle.tv_base.specs.declared.numbers.ItemNo.{ItemNo}
-use Rattle.std.proofs.lemmas.Bool.Decides.{nat_tests}
 use Rattle.script_parts.specs.declared.parts.SubOp.{SubOp}
 use Rattle.board_rules.specs.Right.{gets_among, with_worths}
 use Rattle.board_rules.specs.Worth.{worth_in}

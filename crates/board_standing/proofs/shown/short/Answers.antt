@@ -1,4 +1,4 @@
-use Rattle.std.proofs.Common.{◌≡◌, ◌<◌, List, length, ap, sym, ◌∙◌, refl}
+use Rattle.std.proofs.Common.{◌<◌, length, ap, sym, ◌∙◌, refl}
 use Rattle.std.proofs.lemmas.List.{drop_all}
 use Rattle.script_parts.specs.declared.parts.SubOp.{SubOp}
 use Rattle.board_standing.specs.inside.Shorts.{short_ops}

@@ -1,4 +1,4 @@
-use Rattle.std.proofs.Common.{◌≡◌, sym, ◌∙◌}
+use Rattle.std.proofs.Common.{sym, ◌∙◌}
 use Rattle.std.specs.Prelude.{slice_get}
 use Rattle.board_rules.specs.Worth.{first_value}
 use Rattle.board_standing.specs.Notes.{noted_on}

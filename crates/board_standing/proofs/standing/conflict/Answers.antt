@@ -1,4 +1,4 @@
-use Rattle.std.proofs.Common.{◌≡◌, ◌<◌, ℕ, List, length, ap, sym, subst, ◌∙◌, refl}
+use Rattle.std.proofs.Common.{◌<◌, length, ap, sym, subst, ◌∙◌, refl}
 use Rattle.std.proofs.lemmas.List.{drop_all}
 use Rattle.nc_locks.specs.declared.modes.Mode.{Mode}
 use Rattle.script_parts.specs.declared.parts.SubOp.{SubOp}

@@ -1,5 +1,5 @@
-use Rattle.std.proofs.Common.{◌≡◌, List, ap, sym, ◌∙◌, refl}
-use Rattle.board_standing.specs.inside.Users.{first_tree, stands_against}
+use Rattle.std.proofs.Common.{sym, ◌∙◌, refl}
+use Rattle.board_standing.specs.inside.Users.{stands_against}
 use Rattle.board_standing.proofs.Against.{first_found, first_passed, first_none}
 use Rattle.board_standing.proofs.standing.first_against.Goals as goal
 

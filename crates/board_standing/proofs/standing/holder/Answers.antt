@@ -1,4 +1,4 @@
-use Rattle.std.proofs.Common.{◌≡◌, List, [], ap, sym, ◌∙◌, get_or}
+use Rattle.std.proofs.Common.{[], ap, sym, ◌∙◌, get_or}
 use Rattle.board_standing.specs.Views.{UsersData}
 use Rattle.board_standing.proofs.Against.{marked_holder, other_holder}
 use Rattle.board_standing.proofs.standing.holder.Goals as goal

@@ -1,4 +1,4 @@
-use Rattle.std.proofs.Common.{◌≡◌, List, [], ap, ◌∙◌, get_or}
+use Rattle.std.proofs.Common.{[], ap, ◌∙◌, get_or}
 use Rattle.board_standing.specs.Views.{UsersData}
 use Rattle.board_standing.proofs.Against.{newest_here}
 use Rattle.board_standing.proofs.standing.newest.Goals as goal

@@ -1,6 +1,5 @@
-use Rattle.std.proofs.Common.{◌≡◌, List, [], ap, sym, ◌∙◌, arith, max, ℕ}
+use Rattle.std.proofs.Common.{◌≡◌, ap, arith, max, ℕ}
 use Rattle.std.proofs.lemmas.List.{drop_all}
-use Rattle.board_standing.specs.declared.users.User.{User}
 use Rattle.board_standing.specs.inside.Users.{newest_by}
 use Rattle.board_standing.proofs.Against.{newest_on}
 use Rattle.board_standing.proofs.standing.newest_by.Goals as goal

@@ -1,4 +1,4 @@
-use Rattle.std.proofs.Common.{◌∙◌, ap, subst, List}
+use Rattle.std.proofs.Common.{subst, List}
 use Rattle.script_parts.specs.declared.parts.SubOp.{SubOp}
 use Rattle.board_standing.specs.inside.Users.{HasMore, ops_users}
 use Rattle.board_standing.proofs.Listing.{more_first, subs_on}

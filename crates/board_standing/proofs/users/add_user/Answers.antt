@@ -1,6 +1,5 @@
-use Rattle.std.proofs.Common.{rules, ◌≡◌, ◌≤◌, ◌<◌, ◌++◌, ◌∷◌, [], List, length, get_or, arith}
+use Rattle.std.proofs.Common.{◌≤◌, ◌<◌, length, arith}
 use Rattle.std.proofs.lemmas.Grind.{common_steps}
-use Rattle.board_standing.specs.declared.users.User.{User}
 use Rattle.board_standing.proofs.Listing.{put_more_at, beyond_more}
 use Rattle.board_standing.proofs.users.add_user.Goals as goal
 

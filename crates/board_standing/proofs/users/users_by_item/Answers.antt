@@ -1,4 +1,4 @@
-use Rattle.std.proofs.Common.{ap, ◌≡◌, List, length}
+use Rattle.std.proofs.Common.{ap, List, length}
 use Rattle.script_parts.specs.declared.parts.ItemRow.{ItemRow}
 use Rattle.board_standing.proofs.Listing.{trees_on, trees_none, trees_all}
 use Rattle.board_standing.proofs.users.users_by_item.Goals as goal

@@ -1,4 +1,4 @@
-use Rattle.std.proofs.Common.{ap, sym, subst}
+use Rattle.std.proofs.Common.{sym, subst}
 use Rattle.board_rules.specs.Histories.{places_of}
 use Rattle.board_judge.specs.Judged.{HasJudged, JudgeData}
 use Rattle.board_judge.proofs.judge.Judge.is_finished.Goals as goal
