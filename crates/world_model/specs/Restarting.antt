@@ -23,7 +23,8 @@ abbrev pub AllTold : Type 0
 AllTold = List (Option Told)
 
 -- the number of nodes, how often it has forgotten, how many advances are wanted and how many have ended, the phase, its
--- acknowledgements, its count, and since it has forgotten what each node told and how many advances the client sent
+-- acknowledgements, its count, and what each node and the client told since it has forgotten: the node's versions, and how
+-- many advances the client sent
 pub record Restarting : Type 0 where
   pub nodes : ℕ
   pub epoch : ℕ
@@ -71,10 +72,11 @@ enter phase c = record { state = in_restart_phase phase c; sent = orders phase c
 abbrev pub next_advance : ℕ → ℕ → RestartPhase
 next_advance wanted ended = if nat_lt ended wanted then Doing ToTurn else Idle
 
--- the client hears first how many advancements have ended
+-- a letter to the client
 abbrev pub to_client : Body → Restarting → Outgoing
 to_client body c = record { to = record { 0 = c.nodes + 1 }; body = body }
 
+-- a phase begins with its orders, and before them the client hears how many advancements have ended
 abbrev pub enter_telling : RestartPhase → Restarting → Out Restarting
 enter_telling phase c = record {
   state = in_restart_phase phase c;
@@ -101,7 +103,7 @@ abbrev pub ask_all_requests : Restarting → Out Restarting
 ask_all_requests c =
     record { state = c; sent = to_nodes c.nodes (AskAsked c.count.current.version c.count.current.number); acts = [] }
 
--- a version is quiet: the next one is shown to reads, or what is older than that is swept
+-- the version that was counted is quiet: it is shown to reads, or where reads have left it nodes sweep to the next one
 abbrev pub end_counting : Bool → Restarting → Out Restarting
 end_counting false c = enter (Doing ToShow) c
 end_counting true c = enter (Doing ToSweep) c
