@@ -9,12 +9,13 @@ ghost use Rattle.advance_coord.specs.inside.ByCount.{as_counted, requests_asked}
 ghost use Rattle.world_model.specs.Coordinator.{start_coordinator, coordinator_row, begin_phase, begin_round, counted_version, in_phase, version, acknowledged, end_count, end_advance, row_of};
 
 use crate::change::{CoordinatorPrepared, Next};
+use crate::letters::{to_nodes, with_nodes};
 use letter_types::{Body, Letter, Letters, Row, Step, StepOut, copy_row, one_letter};
 use phase_out::{Count, Counted, RowChange};
 use std::alloc::Global;
 use std::marker::Model;
 use tv_base::{ActorNo, NoMemory, NodeNo, Version};
-use world_model::{Phase, to_nodes, with_nodes};
+use world_model::Phase;
 
 /// The greatest number of nodes of a coordinator.
 pub const MOST_NODES: u8 = 64;

@@ -4,8 +4,10 @@
 
 mod change;
 mod coordinator;
+mod letters;
 
 pub use change::{CoordinatorChange, CoordinatorPrepared, Next};
 pub use coordinator::{Coordinator, MOST_NODES};
+pub use letters::{to_nodes, with_nodes};
 pub use phase_out::RowChange;
 pub use world_model::Phase;

@@ -8,6 +8,7 @@ ghost use Rattle.world_model.specs.Restarting.{start_restarting, restarting_row,
 
 use crate::change::{AllTold, RestartNext, RestartPrepared, Taken};
 use crate::tellings::{Tellings, next_advance};
+use advance_coord::{to_nodes, with_nodes};
 use letter_types::{
     Body, Letter, Letters, Outgoing, Row, Step, StepOut, What, copy_row, one_letter,
 };
@@ -15,7 +16,7 @@ use phase_out::{Count, Counted, RowChange};
 use std::alloc::Global;
 use std::marker::Model;
 use tv_base::{ActorNo, NoMemory, NodeNo, Version};
-use world_model::{RestartPhase, Told, to_nodes, with_nodes};
+use world_model::{RestartPhase, Told};
 
 /// The greatest number of nodes of a coordinator.
 pub const MOST_NODES: u8 = 64;

@@ -4,7 +4,6 @@ use Rattle.letter_types.specs.declared.entries.Entry.{Entry}
 use Rattle.tx_trees.specs.ScriptData.{ScriptData}
 use Rattle.tx_trees.specs.Valid.{IsValid}
 use Rattle.board_rules.specs.Gates.{Fits, KeepsTo}
-use Rattle.board_rules.specs.Histories.{Place}
 use Rattle.world_model.specs.Runs.{IsStepRun}
 use Rattle.tree_laws.proofs.Histories.{at_each_act_more}
 use Rattle.headline.proofs.Keeps.{entry_keeps}

@@ -19,18 +19,13 @@ use Rattle.world_model.specs.Node.{Node}
 use Rattle.world_model.specs.Strict.{CoreKeeping, core_row}
 use Rattle.tx_trees.specs.ScriptData.{ScriptData}
 use Rattle.tx_trees.specs.Valid.{IsValid}
-use Rattle.world_model.specs.declared.phase.Phase.{Phase}
-use Rattle.world_model.specs.declared.phase.Phase.TheVariants.{Sweeping}
 use Rattle.board_rules.specs.Gates.{sweeps_to, was_swept}
 use Rattle.board_rules.specs.Histories.{Place, places_at, places_of}
-use Rattle.world_model.specs.Counts.{one_if}
-use Rattle.world_model.specs.Runs.{MayFollow, IsStepRun, coordinator_in, keeping_in, node_in, in_flight}
-use Rattle.world_model.proofs.Bags.{one_if_same, tally-drop}
+use Rattle.world_model.specs.Runs.{MayFollow, IsStepRun, keeping_in, node_in}
 use Rattle.world_model.proofs.Every.{node_kept}
 use Rattle.world_model.proofs.Cases.{Case, Coordinates, Does, Keeps, NodeDoes, NodeKeeps, Submits, case}
 use Rattle.world_model.proofs.Keepings.{of_kept}
-use Rattle.world_model.proofs.EachOutstanding.{each_took}
-use Rattle.run_laws.proofs.EveryApt.{all_apt, lawful}
+use Rattle.run_laws.proofs.EveryApt.{all_apt}
 use Rattle.phase_laws.proofs.Advancing.{taken_ahead, taken_given}
 use Rattle.run_laws.proofs.InTime.{advancing_run}
 use Rattle.phase_laws.proofs.Brought.{IsAsking}

@@ -6,12 +6,10 @@ ghost use Rattle.letter_types.specs.declared.entries.Entry.{Entry};
 ghost use Rattle.script_parts.specs.ScriptData.{ScriptData};
 ghost use Rattle.world_model.specs.Runs.{IsStepRun, IsWorldRun};
 
-mod letters;
 mod phase;
 mod refusal;
 mod restarting;
 
-pub use letters::{to_nodes, with_nodes};
 pub use phase::Phase;
 pub use refusal::Refusal;
 pub use restarting::{RestartPhase, Told};
