@@ -64,23 +64,20 @@ fn note_on(rows: &mut Vec<Tally>, tree: TreeNo, news: News)
 {
     let place = tree.0 as usize;
     if place < rows.len() {
-        let row = with_news(rows[place], news);
-        rows[place] = row;
+        add_news(&mut rows[place], news);
     }
 }
 
-// The row with what is noted: the version in place of a later one, a mark, or whether it commits.
-fn with_news(row: Tally, news: News) -> Tally
-    ensures { result ≡ with_news news row }
+// Puts into the row what is noted: the version in place of a later one, a mark, or whether it commits.
+fn add_news(row: &mut Tally, news: News)
+    ensures { row.new ≡ with_news news row.old }
 {
-    let mut row = row;
     match news {
         News::Born(version) => row.born = Some(version),
         News::Done(sub) => mark(&mut row.done, sub.0 as usize),
         News::Decided(commit) => row.committed = commit || row.committed,
         News::Applied(node) => mark(&mut row.applied, node.0 as usize),
     }
-    row
 }
 
 // Marks the place, if it is there.

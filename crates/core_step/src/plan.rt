@@ -191,6 +191,7 @@ fn plan_kind(
 }
 
 /// A letter that asks for a subtransaction of a tree.
+#[inline(always)]
 fn plan_tree(
     alloc: Global,
     core: &NodeCore,

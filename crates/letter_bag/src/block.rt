@@ -70,6 +70,9 @@ pub(crate) fn take_item<T>(items: &mut VecDeque<T>, i: usize) -> T
     ensures len { deque_len items.new + 1 ≡ deque_len items.old }
     ensures capacity { deque_capacity items.new ≡ deque_capacity items.old }
 {
+    if i == 0 {
+        return items.pop_front().unwrap();
+    }
     items.remove(i).unwrap()
 }
 

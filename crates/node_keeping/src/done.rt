@@ -64,6 +64,7 @@ fn change_kept(kept: &mut KeptLetters, change: KeptChange)
 }
 
 /// The core does its step, and then the kept letters change. Where no memory is found the node is as it was.
+#[inline(always)]
 fn row_done(
     node: &mut KeepingParts,
     prepared: Boxed<CorePrepared>,
@@ -78,6 +79,7 @@ fn row_done(
 }
 
 /// Does a step that was prepared, and gives what goes out. Where no memory is found the node is as it was.
+#[inline(always)]
 pub fn keeping_done(node: &mut KeepingParts, prepared: KeepingPrepared) -> Result<StepOut, NoMemory>
     requires { MayDoKeeping prepared node.old }
     ensures { IsKeepingDone prepared node.old node.new result }

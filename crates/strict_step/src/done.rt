@@ -49,6 +49,7 @@ fn change_votes(
 
 /// The votes change, and the parts do their step, which opens no tree. Only the votes may need memory; then all is as
 /// it was.
+#[inline(always)]
 fn parts_done(
     parts: &mut NodeParts,
     locks: &mut Locks,
@@ -69,6 +70,7 @@ fn parts_done(
 }
 
 /// Does a step that opens no tree and leaves the held answers. Where no memory is found the node is as it was.
+#[inline(always)]
 fn still_done(
     core: &mut NodeCore,
     votes: VoteChange,
@@ -157,6 +159,7 @@ fn hold_done(
 }
 
 /// Does a step that opens no tree. Where no memory is found the node is as it was.
+#[inline(always)]
 fn holds_done(core: &mut NodeCore, prepared: CorePrepared) -> Result<StepOut, NoMemory>
     requires may { MayDoCore prepared core.old }
     requires none { OpensNone prepared.prepared.change }
@@ -181,6 +184,7 @@ fn holds_done(core: &mut NodeCore, prepared: CorePrepared) -> Result<StepOut, No
 }
 
 /// Opens a tree, and then does the rest of the step. Where no memory is found the node is as it was.
+#[inline(always)]
 fn open_done(
     core: &mut NodeCore,
     opening: Opening,
@@ -206,6 +210,7 @@ fn open_done(
 }
 
 /// Does a step that was prepared, and gives what goes out. Where no memory is found the node is as it was.
+#[inline(always)]
 pub fn core_done(core: &mut NodeCore, prepared: CorePrepared) -> Result<StepOut, NoMemory>
     requires { MayDoCore prepared core.old }
     ensures { IsCoreDone (core_prepared_row prepared (core_of core.old)) core.old core.new result }

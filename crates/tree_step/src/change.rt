@@ -98,6 +98,7 @@ impl Prepared {
 
 /// The home of a tree does this, and the answers that are held there stay. Only to open a tree may need memory; then
 /// the homes are as they were.
+#[inline(always)]
 fn change_home(homes: &mut Homes, home: HomeChange) -> Result<(), NoMemory>
     requires { MayHome home (open_trees homes.old) }
     ensures trees { MatchResult result (λ _. open_trees homes.new ≡ home_after home (open_trees homes.old))
@@ -139,6 +140,7 @@ fn raise_if(turns: &mut Turns, raises: bool, v: Version)
 
 /// A subtransaction is done, or a notice is brought, and this goes out. Only to open a tree at its home may need
 /// memory; then the node is as it was.
+#[inline(always)]
 fn change_tree(node: &mut NodeParts, change: TreeChange, out: StepOut) -> Result<StepOut, NoMemory>
     requires { MayDo (Tree change) out.sent node.old }
     ensures done { IsDone (made (after_tree_change change out.sent (data_of node.old)) out) node.old node.new result }
@@ -153,6 +155,7 @@ fn change_tree(node: &mut NodeParts, change: TreeChange, out: StepOut) -> Result
 
 /// Does a step that was prepared, and gives what goes out. Only to open a tree at its home may need memory; then the
 /// node is as it was.
+#[inline(always)]
 pub fn done(node: &mut NodeParts, prepared: Prepared) -> Result<StepOut, NoMemory>
     requires { MayDo prepared.change prepared.out.sent node.old }
     ensures done { IsDone (prepared_row prepared (data_of node.old)) node.old node.new result }

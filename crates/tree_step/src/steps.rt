@@ -152,7 +152,7 @@ pub(crate) fn prepare_sub(
     let subs = script.subs_of(request.tree);
     let home = NodeNo(script.home_of(request.tree));
     let Effect { staged, notice } = effect;
-    let out = sub_out(alloc, home, request, &notice, raises, subs)?;
+    let out = sub_out(alloc, home, request, notice, raises, subs)?;
     let counting = Counting {
         version: request.version,
         root: false,

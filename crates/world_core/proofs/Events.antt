@@ -74,20 +74,22 @@ set_last (y ∷ h) x e = ap (λ (ys : List Entry). y ∷ ys) (set_last h x e)
 last_place : (h : List Entry) (x : Entry) → length (h ++ x ∷ []) - 1 ≡ length h
 last_place h x = omega (arith, length-append h (x ∷ []))
 
+abbrev entry_made : Letter → StepOut → Stamp → Entry
+entry_made l out stamp = record { stamp = stamp; actor = l.to; took = l; sent = out.sent; acts = out.acts }
+
 -- what the calls of an event say
-pub record Event (s : ScriptData) (w : WorldData) (k : ℕ) (l : Letter) (p : ActorPrepared) (copy : List Outgoing) (out : StepOut) (stamp : Stamp) (x : Entry) (next : WorldData) : Type 0 where
+pub record Event (s : ScriptData) (w : WorldData) (k : ℕ) (l : Letter) (p : ActorPrepared) (out : StepOut) (stamp : Stamp) (x : Entry) (next : WorldData) : Type 0 where
   pub letter : slice_get w.bag k ≡ Some l
   pub step : IfSome (slice_get w.actors l.to.0) (λ st. IsActorStepOf s l st p)
   pub acted : Acted l.to.0 p w.actors next.actors out
-  pub copied : copy ≡ (out_of p).sent
   pub stamp_is : stamp.0 ≡ length w.history + 1
-  pub bag : IfSome (slice_get w.bag k) (λ m. next.bag ≡ remove w.bag k ++ sealed stamp.0 m.to.0 0 copy)
-  pub history : IfSome (slice_get w.bag k) (λ m. next.history ≡ slice_set (w.history ++ x ∷ []) (length (w.history ++ x ∷ []) - 1) (record { stamp = stamp; actor = m.to; took = m; sent = out.sent; acts = out.acts }))
+  pub bag : next.bag ≡ remove w.bag k ++ sealed stamp.0 l.to.0 0 (out_of p).sent
+  pub history : next.history ≡ slice_set (w.history ++ x ∷ []) (length (w.history ++ x ∷ []) - 1) (entry_made l out stamp)
 
 -- the actor made its row
-took_by : (s : ScriptData) (w : WorldData) (k : ℕ) (l : Letter) (p : ActorPrepared) (copy : List Outgoing) (out : StepOut) (stamp : Stamp) (x : Entry) (next : WorldData)
-    → IsWorldOf s w → Event s w k l p copy out stamp x next → Took s l w.actors next.actors out
-took_by s w k l p copy out stamp x next world e =
+took_by : (s : ScriptData) (w : WorldData) (k : ℕ) (l : Letter) (p : ActorPrepared) (out : StepOut) (stamp : Stamp) (x : Entry) (next : WorldData)
+    → IsWorldOf s w → Event s w k l p out stamp x next → Took s l w.actors next.actors out
+took_by s w k l p out stamp x next world e =
     let a = e.acted in
     record {
       before = a.before;
@@ -98,36 +100,32 @@ took_by s w k l p copy out stamp x next world e =
           (if_some (λ st. IsActorStepOf s l st p) (slice_get w.actors l.to.0) a.before a.there e.step) a.done;
     }
 
-abbrev entry_made : Letter → StepOut → Stamp → Entry
-entry_made l out stamp = record { stamp = stamp; actor = l.to; took = l; sent = out.sent; acts = out.acts }
-
-pub history_is : (s : ScriptData) (w : WorldData) (k : ℕ) (l : Letter) (p : ActorPrepared) (copy : List Outgoing) (out : StepOut) (stamp : Stamp) (x : Entry) (next : WorldData) → Event s w k l p copy out stamp x next
+pub history_is : (s : ScriptData) (w : WorldData) (k : ℕ) (l : Letter) (p : ActorPrepared) (out : StepOut) (stamp : Stamp) (x : Entry) (next : WorldData) → Event s w k l p out stamp x next
     → next.history ≡ w.history ++ entry_of (length w.history + 1) l out.sent out.acts ∷ []
-history_is s w k l p copy out stamp x next e =
-    if_some (λ m. next.history ≡ slice_set (w.history ++ x ∷ []) (length (w.history ++ x ∷ []) - 1) (record { stamp = stamp; actor = m.to; took = m; sent = out.sent; acts = out.acts })) (slice_get w.bag k) l e.letter e.history
+history_is s w k l p out stamp x next e =
+    e.history
     ∙ ap (λ (n : ℕ). slice_set (w.history ++ x ∷ []) n (entry_made l out stamp)) (last_place w.history x)
     ∙ set_last w.history x (entry_made l out stamp)
     ∙ ap (λ (n : ℕ). w.history ++ entry_of n l out.sent out.acts ∷ []) e.stamp_is
 
-pub event_world : (s : ScriptData) (w : WorldData) (k : ℕ) (l : Letter) (p : ActorPrepared) (copy : List Outgoing) (out : StepOut) (stamp : Stamp) (x : Entry) (next : WorldData)
-    → IsWorldOf s w → IsValid s → Event s w k l p copy out stamp x next → IsWorldOf s next
-event_world s w k l p copy out stamp x next world valid e =
-    let bag : next.bag ≡ remove w.bag k ++ sealed stamp.0 l.to.0 0 copy = if_some (λ m. next.bag ≡ remove w.bag k ++ sealed stamp.0 m.to.0 0 copy) (slice_get w.bag k) l e.letter e.bag in
-    let sent : copy ≡ out.sent = e.copied ∙ ap (λ (o : StepOut). o.sent) (sym (out_is p e.acted.before e.acted.after out e.acted.done)) in
+pub event_world : (s : ScriptData) (w : WorldData) (k : ℕ) (l : Letter) (p : ActorPrepared) (out : StepOut) (stamp : Stamp) (x : Entry) (next : WorldData)
+    → IsWorldOf s w → IsValid s → Event s w k l p out stamp x next → IsWorldOf s next
+event_world s w k l p out stamp x next world valid e =
+    let sent : (out_of p).sent ≡ out.sent = ap (λ (o : StepOut). o.sent) (sym (out_is p e.acted.before e.acted.after out e.acted.done)) in
     let made : IsWorldOf s (record { actors = next.actors; bag = next.bag; history = w.history ++ entry_of (length w.history + 1) l out.sent out.acts ∷ [] }) =
     next_world s w k l out next.actors next.bag world valid (record {
       letter = e.letter;
-      took = took_by s w k l p copy out stamp x next world e;
-      bag = bag ∙ (λ i. remove w.bag k ++ sealed (e.stamp_is i) l.to.0 0 (sent i));
+      took = took_by s w k l p out stamp x next world e;
+      bag = e.bag ∙ (λ i. remove w.bag k ++ sealed (e.stamp_is i) l.to.0 0 (sent i));
     }) in
-    subst (λ (h : List Entry). IsWorldOf s (record { actors = next.actors; bag = next.bag; history = h })) (sym (history_is s w k l p copy out stamp x next e)) made
+    subst (λ (h : List Entry). IsWorldOf s (record { actors = next.actors; bag = next.bag; history = h })) (sym (history_is s w k l p out stamp x next e)) made
 
-pub event_took : (s : ScriptData) (w : WorldData) (k : ℕ) (l : Letter) (p : ActorPrepared) (copy : List Outgoing) (out : StepOut) (stamp : Stamp) (x : Entry) (next : WorldData)
-    → Event s w k l p copy out stamp x next → TookLetter k w next
-event_took s w k l p copy out stamp x next e = (entry_of (length w.history + 1) l out.sent out.acts, history_is s w k l p copy out stamp x next e, e.letter)
+pub event_took : (s : ScriptData) (w : WorldData) (k : ℕ) (l : Letter) (p : ActorPrepared) (out : StepOut) (stamp : Stamp) (x : Entry) (next : WorldData)
+    → Event s w k l p out stamp x next → TookLetter k w next
+event_took s w k l p out stamp x next e = (entry_of (length w.history + 1) l out.sent out.acts, history_is s w k l p out stamp x next e, e.letter)
 
-pub event_count : (s : ScriptData) (w : WorldData) (k : ℕ) (l : Letter) (p : ActorPrepared) (copy : List Outgoing) (out : StepOut) (stamp : Stamp) (x : Entry) (next : WorldData)
-    → Event s w k l p copy out stamp x next → length next.history ≡ length w.history + 1
-event_count s w k l p copy out stamp x next e =
-    ap (length {A = Entry}) (history_is s w k l p copy out stamp x next e)
+pub event_count : (s : ScriptData) (w : WorldData) (k : ℕ) (l : Letter) (p : ActorPrepared) (out : StepOut) (stamp : Stamp) (x : Entry) (next : WorldData)
+    → Event s w k l p out stamp x next → length next.history ≡ length w.history + 1
+event_count s w k l p out stamp x next e =
+    ap (length {A = Entry}) (history_is s w k l p out stamp x next e)
     ∙ omega (arith, length-append w.history (entry_of (length w.history + 1) l out.sent out.acts ∷ []))

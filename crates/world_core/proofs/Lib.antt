@@ -6,3 +6,4 @@ pub mod First
 pub mod Worlds
 pub mod Leads
 pub mod Events
+pub mod TakenBack

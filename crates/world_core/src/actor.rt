@@ -108,6 +108,7 @@ pub fn actor_prepare(
 
 /// Does a step that was prepared for this actor, and gives what goes out. Where a node finds no memory, it is as it
 /// was; the coordinator and the client need none.
+#[inline(always)]
 pub fn actor_done(state: &mut ActorState, prepared: ActorPrepared) -> Result<StepOut, NoMemory>
     requires { ActorMayDo prepared state.old }
     ensures { MatchResult result (IsActorDone prepared state.old state.new) (λ _. state.new ≡ state.old) }

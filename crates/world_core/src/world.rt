@@ -1,19 +1,20 @@
 // A world: all actors, the letters in flight, and the history so far.
-ghost use Rattle.std.specs.Prelude.{◌≡◌, ◌<◌, ◌≤◌, ◌+◌, ◌-◌, ◌^◌, ◌++◌, [], length, slice_get, slice_set, IfOk, IfSome, MatchResult, OnOk, OnErr, Some};
+ghost use Rattle.std.specs.Prelude.{◌≡◌, ◌<◌, ◌≤◌, ◌+◌, ◌-◌, ◌^◌, ◌++◌, [], length, slice_get, slice_set, take, IfOk, IfSome, MatchResult, OnOk, OnErr, Some};
 ghost use Rattle.std.specs.List.{remove};
 ghost use Rattle.letter_types.specs.Letters.{go, sealed};
 ghost use Rattle.tx_trees.specs.ScriptData.{ScriptData};
 ghost use Rattle.world_model.specs.Runs.{actor_after};
 ghost use Rattle.world_core.specs.Actors.{AreStatesOf, actor_data, IsWorldOf, MOST_ENTRIES, TookLetter};
-ghost use Rattle.world_core.specs.Prepared.{IsActorStepOf, ActorMayDo, MayTake};
+ghost use Rattle.world_core.specs.Prepared.{IsActorStepOf, ActorMayDo, MayTake, out_of};
 ghost use Rattle.world_core.specs.inside.Actors.{Acted, world_of};
 ghost use Rattle.pair_counters.specs.Numbers.{MOST_COUNT};
 
 use crate::actor::{ActorPrepared, ActorState, actor_done, actor_prepare};
 use letter_bag::Bag;
-use letter_types::{Acts, Body, Entry, History, Letter, LetterId, Letters, StepOut, copy_letters};
+use letter_types::{Acts, Body, Entry, History, Letter, LetterId, Letters, StepOut};
 use std::alloc::Global;
 use std::marker::Model;
+use std::mem;
 use tv_base::{ActorNo, NoMemory, Stamp};
 use tx_trees::Script;
 
@@ -73,21 +74,47 @@ fn first_actors(alloc: Global, script: &Script) -> Result<Vec<ActorState>, NoMem
     Ok(actors)
 }
 
-/// The letters of an entry go to the end of the bag, each with its id.
-fn send(bag: &mut Bag<Letter>, stamp: Stamp, actor: ActorNo, sent: Letters)
-    requires { length sent ≤ bag.old.room }
-    ensures { bag.new.items ≡ bag.old.items ++ sealed stamp.0 actor.0 0 sent }
+/// Takes the last letters out of the bag, so that so many are left.
+fn take_back(bag: &mut Bag<Letter>, left: usize)
+    ensures { bag.new.items ≡ take left bag.old.items }
 {
+    while left < bag.len() {
+        let last = bag.len() - 1;
+        let _letter = bag.take(last);
+    }
+}
+
+/// Equal letters go to the end of the bag, each with its id. Where no memory is found the bag has what it had.
+fn send(
+    alloc: Global,
+    bag: &mut Bag<Letter>,
+    stamp: Stamp,
+    actor: ActorNo,
+    sent: &Letters,
+) -> Result<(), NoMemory>
+    requires { length sent.now ≤ bag.old.room }
+    ensures ok { OnOk result (bag.new.items ≡ bag.old.items ++ sealed stamp.0 actor.0 0 sent.now) }
+    ensures err { OnErr result (bag.new.items ≡ bag.old.items) }
+{
+    let before = bag.len();
     let mut place: u32 = 0;
-    for outgoing in sent.into_vec() {
-        bag.put_reserved(Letter {
-            id: LetterId { stamp, place },
-            from: actor,
-            to: outgoing.to,
-            body: outgoing.body,
-        });
+    let items = sent.items();
+    for outgoing in items {
+        match outgoing.body.copy(alloc) {
+            Ok(body) => bag.put_reserved(Letter {
+                id: LetterId { stamp, place },
+                from: actor,
+                to: outgoing.to,
+                body,
+            }),
+            Err(refused) => {
+                take_back(bag, before);
+                return Err(refused);
+            }
+        }
         place = place.saturating_add(1);
     }
+    Ok(())
 }
 
 /// The state of an actor.
@@ -131,47 +158,69 @@ fn act(
     actor_done(state, prepared)
 }
 
-/// Takes letter `k` out of the bag, sends an equal copy of what the step sent, and puts the entry in the last place of
-/// the history.
-fn finish(
-    bag: &mut Bag<Letter>,
-    history: &mut History,
-    stamp: Stamp,
-    k: usize,
-    copy: Letters,
-    out: StepOut,
-)
+/// Takes letter `k` out of the bag, and puts the entry in the last place of the history.
+fn finish(bag: &mut Bag<Letter>, history: &mut History, stamp: Stamp, k: usize, out: StepOut)
     requires waits { k < length bag.old.items }
-    requires room { length copy ≤ bag.old.room }
     requires place { 0 < length history.old }
-    ensures bag { IfSome (slice_get bag.old.items k) (λ l. bag.new.items
-        ≡ remove bag.old.items k ++ sealed stamp.0 l.to.0 0 copy) }
+    ensures bag { bag.new.items ≡ remove bag.old.items k }
     ensures history { IfSome (slice_get bag.old.items k) (λ l. history.new
         ≡ slice_set history.old (length history.old - 1)
         (record { stamp = stamp; actor = l.to; took = l; sent = out.sent; acts = out.acts })) }
 {
     let StepOut { sent, acts } = out;
     let took = bag.take(k);
-    let actor = took.to;
-    send(bag, stamp, actor, copy);
     let last = history.items().len() - 1;
-    let _placeholder = history.put(
+    let placeholder = history.put(
         last,
         Entry {
             stamp,
-            actor,
+            actor: took.to,
             took,
             sent,
             acts,
         },
     );
+    // It holds no memory that could be given back.
+    mem::forget(placeholder);
 }
 
-/// Makes room for the letters of one step.
+/// Sends an equal copy of what goes out, and lets the actor do its step. Where no memory is found both are as they were.
+fn pass(
+    alloc: Global,
+    actors: &mut Vec<ActorState>,
+    bag: &mut Bag<Letter>,
+    stamp: Stamp,
+    actor: ActorNo,
+    prepared: ActorPrepared,
+) -> Result<StepOut, NoMemory>
+    requires here { actor.0 < length actors.old.items }
+    requires may { IfSome (slice_get actors.old.items actor.0) (ActorMayDo prepared) }
+    requires room { length (out_of prepared).sent ≤ bag.old.room }
+    ensures acted { MatchResult result (Acted actor.0 prepared actors.old.items actors.new.items)
+        (λ _. actors.new.items ≡ actors.old.items) }
+    ensures sent { OnOk result (bag.new.items
+        ≡ bag.old.items ++ sealed stamp.0 actor.0 0 (out_of prepared).sent) }
+    ensures same_bag { OnErr result (bag.new.items ≡ bag.old.items) }
+{
+    let before = bag.len();
+    send(alloc, bag, stamp, actor, &prepared.out().sent)?;
+    match act(actors, actor, prepared) {
+        Ok(out) => Ok(out),
+        Err(refused) => {
+            take_back(bag, before);
+            Err(refused)
+        }
+    }
+}
+
+/// Makes room for the letters of one step, if it sends any.
 fn make_room(bag: &mut Bag<Letter>, room: usize) -> Result<(), NoMemory>
     ensures items { bag.new.items ≡ bag.old.items }
-    ensures ok { OnOk result (bag.new.room ≡ room) }
+    ensures ok { OnOk result (room ≤ bag.new.room) }
 {
+    if room == 0 {
+        return Ok(());
+    }
     bag.reserve(room)?;
     Ok(())
 }
@@ -203,12 +252,11 @@ fn advance(
     let letter = bag.at(k);
     let actor = letter.to;
     let prepared = prepare(alloc, script, actors, letter)?;
-    let copy = copy_letters(alloc, &prepared.out().sent)?;
-    make_room(bag, copy.items().len())?;
+    make_room(bag, prepared.out().sent.items().len())?;
     history.push(placeholder(alloc, stamp))?;
-    match act(actors, actor, prepared) {
+    match pass(alloc, actors, bag, stamp, actor, prepared) {
         Ok(out) => {
-            finish(bag, history, stamp, k, copy, out);
+            finish(bag, history, stamp, k, out);
             Ok(stamp)
         }
         Err(refused) => {

@@ -1,13 +1,15 @@
-use Rattle.std.proofs.Common.{◌≡◌, ◌+◌, ◌-◌, ◌^◌, ◌≤◌, ap, ◌∙◌, subst, arith, List, [], ◌∷◌, ◌++◌, length}
-use Rattle.std.specs.Prelude.{slice_get, slice_set, IfSome}
+use Rattle.std.proofs.Common.{◌≡◌, ◌+◌, ◌-◌, ◌<◌, ◌^◌, ◌≤◌, ap, ◌∙◌, sym, subst, arith, List, Some, [], ◌∷◌, ◌++◌, length}
+use Rattle.std.specs.Prelude.{slice_get, slice_set}
 use Rattle.std.specs.List.{remove}
+use Rattle.std.proofs.lemmas.List.Edits.{remove-append_left}
+use Rattle.tv_base.proofs.ByPlace.{slice_get-old}
 use Rattle.tv_base.specs.declared.numbers.Stamp.{Stamp}
 use Rattle.letter_types.specs.Letters.{sealed}
 use Rattle.letter_types.specs.declared.entries.Letter.{Letter}
 use Rattle.letter_types.specs.declared.entries.Entry.{Entry}
-use Rattle.letter_types.specs.declared.entries.StepOut.{StepOut}
+use Rattle.world_core.specs.Prepared.{out_of}
 use Rattle.world_core.specs.inside.Actors.{world_of}
-use Rattle.world_core.proofs.Events.{is_here, may_act, may_take, Event, event_world, event_took, event_count}
+use Rattle.world_core.proofs.Events.{if_some, is_here, may_act, may_take, Event, event_world, event_took, event_count}
 use Rattle.world_core.proofs.world.advance.Goals as goal
 
 pub prepare-requires-clause-here : goal.prepare-requires-clause-here
@@ -18,34 +20,38 @@ prepare-requires-clause-may c =
     let few : length c.args.history.now ≤ 2 ^ 40 = c.items.ensures.limit in
     may_take _ _ _ _ _ c.requires.world c.nodes-valid.ensures.valid (omega (arith, few)) c.at-letter.ensures
 
-pub act-requires-clause-here : goal.act-requires-clause-here
-act-requires-clause-here c = is_here _ _ _ _ c.requires.world c.nodes-valid.ensures.valid c.at-letter.ensures
+pub pass-requires-clause-here : goal.pass-requires-clause-here
+pass-requires-clause-here c = is_here _ _ _ _ c.requires.world c.nodes-valid.ensures.valid c.at-letter.ensures
 
-pub act-requires-clause-may : goal.act-requires-clause-may
-act-requires-clause-may c = may_act c.args.script.now c.at-letter.result.now _ c.args.actors.now.items c.in_ok-prepared.ensures
+pub pass-requires-clause-may : goal.pass-requires-clause-may
+pass-requires-clause-may c = may_act c.args.script.now c.at-letter.result.now _ c.args.actors.now.items c.in_ok-prepared.ensures
 
 event : (c : goal.After-finish) → Event c.args.script.now (world_of c.args.actors.now.items c.args.bag.now.items c.args.history.now) c.args.k c.at-letter.result.now
-    c.in_ok-prepared.prepared c.in_ok-copy.copy c.in-Ok.out (record { 0 = length c.items.result.now + 1 }) c.placeholder.result (world_of c.act.new.actors.items c.finish.new.bag.items c.finish.new.history)
+    c.in_ok-prepared.prepared c.in-Ok.out (record { 0 = length c.items.result.now + 1 }) c.placeholder.result (world_of c.pass.new.actors.items c.finish.new.bag.items c.finish.new.history)
 event c =
-    let same : c.make_room.new.bag.items ≡ c.args.bag.now.items = c.in_ok-make_room.ensures.items in
+    let w = world_of c.args.actors.now.items c.args.bag.now.items c.args.history.now in
+    let l = c.at-letter.result.now in
     let stamp : Stamp = record { 0 = length c.items.result.now + 1 } in
     let out = c.in-Ok.out in
+    let more = sealed stamp.0 l.to.0 0 (out_of c.in_ok-prepared.prepared).sent in
+    let sent : c.pass.new.bag.items ≡ w.bag ++ more = c.in-Ok.ensures.sent ∙ ap (λ (ls : List Letter). ls ++ more) c.in_ok-make_room.ensures.items in
+    let found : slice_get c.pass.new.bag.items c.args.k ≡ Some l = ap (λ (ls : List Letter). slice_get ls c.args.k) sent ∙ slice_get-old w.bag more c.args.k c.requires.waits ∙ c.at-letter.ensures in
     record {
       letter = c.at-letter.ensures;
       step = c.in_ok-prepared.ensures;
-      acted = c.in-Ok.ensures;
-      copied = c.in_ok-copy.ensures ∙ ap (λ (o : StepOut). o.sent) c.out.ensures;
+      acted = c.in-Ok.ensures.acted;
       stamp_is = omega (arith, ap (length {A = Entry}) c.items.ensures.items);
-      bag = subst (λ (ls : List Letter). IfSome (slice_get ls c.args.k) (λ m. c.finish.new.bag.items ≡ remove ls c.args.k ++ sealed stamp.0 m.to.0 0 c.in_ok-copy.copy)) same c.finish.ensures.bag;
-      history = subst (λ (ls : List Letter). IfSome (slice_get ls c.args.k) (λ m. c.finish.new.history ≡ slice_set (c.args.history.now ++ c.placeholder.result ∷ []) (length (c.args.history.now ++ c.placeholder.result ∷ []) - 1) (record { stamp = stamp; actor = m.to; took = m; sent = out.sent; acts = out.acts }))) same
-          (subst (λ (h : List Entry). IfSome (slice_get c.make_room.new.bag.items c.args.k) (λ m. c.finish.new.history ≡ slice_set h (length h - 1) (record { stamp = stamp; actor = m.to; took = m; sent = out.sent; acts = out.acts }))) c.in_ok-push.ensures.ok c.finish.ensures.history);
+      bag = c.finish.ensures.bag ∙ ap (λ (ls : List Letter). remove ls c.args.k) sent ∙ remove-append_left w.bag more c.args.k c.requires.waits;
+      history = subst (λ (h : List Entry). c.finish.new.history ≡ slice_set h (length h - 1) (record { stamp = stamp; actor = l.to; took = l; sent = out.sent; acts = out.acts })) c.in_ok-push.ensures.ok
+          (if_some (λ m. c.finish.new.history ≡ slice_set c.push.new.self (length c.push.new.self - 1) (record { stamp = stamp; actor = m.to; took = m; sent = out.sent; acts = out.acts }))
+          (slice_get c.pass.new.bag.items c.args.k) l found c.finish.ensures.history);
     }
 
 pub returns-in-Ok-clause-world : goal.returns-in-Ok-clause-world
-returns-in-Ok-clause-world c = event_world _ _ _ _ _ _ _ _ _ _ c.requires.world c.nodes-valid.ensures.valid (event c)
+returns-in-Ok-clause-world c = event_world _ _ _ _ _ _ _ _ _ c.requires.world c.nodes-valid.ensures.valid (event c)
 
 pub returns-in-Ok-clause-took : goal.returns-in-Ok-clause-took
-returns-in-Ok-clause-took c = event_took _ _ _ _ _ _ _ _ _ _ (event c)
+returns-in-Ok-clause-took c = event_took _ _ _ _ _ _ _ _ _ (event c)
 
 pub returns-in-Ok-clause-stamp : goal.returns-in-Ok-clause-stamp
-returns-in-Ok-clause-stamp c = omega (arith, event_count _ _ _ _ _ _ _ _ _ _ (event c), ap (length {A = Entry}) c.items.ensures.items)
+returns-in-Ok-clause-stamp c = omega (arith, event_count _ _ _ _ _ _ _ _ _ (event c), ap (length {A = Entry}) c.items.ensures.items)
