@@ -5,7 +5,6 @@ use Rattle.std.specs.List.{remove}
 use Rattle.std.proofs.lemmas.List.{length-append, length-reverse}
 use Rattle.tv_base.specs.declared.numbers.Stamp.{Stamp}
 use Rattle.letter_types.specs.declared.entries.Letter.{Letter}
-use Rattle.letter_types.specs.declared.entries.Outgoing.{Outgoing}
 use Rattle.letter_types.specs.declared.entries.StepOut.{StepOut}
 use Rattle.letter_types.specs.declared.entries.Entry.{Entry}
 use Rattle.letter_types.specs.Letters.{sealed}

@@ -1,4 +1,4 @@
-use Rattle.std.proofs.Common.{◌≡◌, ◌-◌, ◌∙◌, ap, arith, length, List, sym, take, take_all}
+use Rattle.std.proofs.Common.{◌-◌, ◌∙◌, ap, arith, sym, take, take_all}
 use Rattle.letter_bag.specs.Bag.{BagData}
 use Rattle.letter_types.specs.declared.entries.Letter.{Letter}
 use Rattle.world_core.proofs.TakenBack.{take-remove}
