@@ -11,8 +11,8 @@ mod waiting;
 
 pub use phases::{
     advances_are_kept, counts_are_small, every_letter_comes_in_time, every_letter_taken_is_apt,
-    no_round_without_advancements, nodes_keep_together, phases_have_their_letters, requests_are_completions_and_letters,
-    rounds_are_few, versions_keep_to_the_phase,
+    no_round_without_advancements, nodes_keep_together, phases_have_their_letters,
+    requests_are_completions_and_letters, rounds_are_few, versions_keep_to_the_phase,
 };
 pub use shown::{
     nothing_comes_to_what_is_shown, orders_are_given_in_quiet, what_is_shown_is_whole,
