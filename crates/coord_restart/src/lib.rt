@@ -6,6 +6,7 @@ mod change;
 mod restarting;
 mod tellings;
 
+pub use advance_coord::MOST_NODES;
 pub use change::{AllTold, RestartChange, RestartNext, RestartPrepared, Taken};
-pub use restarting::{MOST_NODES, Restarting};
+pub use restarting::Restarting;
 pub use world_model::RestartPhase;

@@ -8,7 +8,7 @@ ghost use Rattle.world_model.specs.Restarting.{start_restarting, restarting_row,
 
 use crate::change::{AllTold, RestartNext, RestartPrepared, Taken};
 use crate::tellings::{Tellings, next_advance};
-use advance_coord::{to_nodes, with_nodes};
+use advance_coord::{MOST_NODES, to_nodes, with_nodes};
 use letter_types::{
     Body, Letter, Letters, Outgoing, Row, Step, StepOut, What, copy_row, one_letter,
 };
@@ -17,9 +17,6 @@ use std::alloc::Global;
 use std::marker::Model;
 use tv_base::{ActorNo, NoMemory, NodeNo, Version};
 use world_model::{RestartPhase, Told};
-
-/// The greatest number of nodes of a coordinator.
-pub const MOST_NODES: u8 = 64;
 
 /// How many rounds an epoch has numbers for, before those of the next.
 const ROUNDS_OF_EPOCH: u64 = 0x1_0000_0000;
