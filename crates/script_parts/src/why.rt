@@ -60,9 +60,6 @@ pub enum Why {
     /// A strict tree already has an operation on the item.
     #[error("a strict tree already has an operation on the item")]
     ItemTwice,
-    /// The row is of a form that isn't built yet.
-    #[error("the row is of a form that isn't built yet")]
-    NotBuilt,
 }
 
 impl Why {
@@ -88,7 +85,6 @@ impl Why {
             Why::TooMany => "TooMany",
             Why::TooMuch => "TooMuch",
             Why::ItemTwice => "ItemTwice",
-            Why::NotBuilt => "NotBuilt",
         }
     }
 }

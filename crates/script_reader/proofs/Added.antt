@@ -1,8 +1,8 @@
 -- What a call on a script made, where it took the record.
-use Rattle.std.proofs.Common.{◌≡◌, ◌++◌, ◌∷◌, [], ℕ, Bool, true, false, List, Option, Some, None, Result, Ok, Err, refl, arith}
+use Rattle.std.proofs.Common.{◌≡◌, ◌∷◌, [], ℕ, Bool, true, false, List, Option, Some, None, Result, Ok, Err, refl, arith}
 use Rattle.std.specs.Prelude.{if◌then◌else◌, nat_le, not}
 use Rattle.tv_base.specs.declared.numbers.NodeNo.{NodeNo}
-use Rattle.tx_trees.specs.Adding.{adds_advance, adds_fail, are_crowded, is_heavy, taken_unless, last_may_fail, last_subs, with_failed, adds_item, adds_lose, adds_op, adds_op_at, adds_pick, adds_settle, adds_sub, adds_tree, place_of, with_item, with_op, with_row, with_sub, with_tree}
+use Rattle.tx_trees.specs.Adding.{adds_advance, adds_fail, are_crowded, is_heavy, taken_unless, last_may_fail, last_subs, with_failed, adds_item, adds_lose, adds_op, adds_op_at, adds_settle, adds_sub, adds_tree, place_of, with_item, with_op, with_row, with_sub, with_tree}
 use Rattle.tx_trees.specs.Ranges.{is_in_range}
 use Rattle.tx_trees.specs.ScriptData.{ScriptData}
 use Rattle.tx_trees.specs.declared.parts.Deed.{Deed}
@@ -59,10 +59,6 @@ lose_is s t is = grind arith
 
 pub settle_is : (s t : ScriptData) → adds_settle s ≡ Ok t → with_row s rows.Settle ≡ t
 settle_is s t is = cc is
-
--- a pick that was taken is last
-pub pick_is : (s t : ScriptData) (k : ℕ) → adds_pick s k ≡ Ok t → record s { picks = s.picks ++ k ∷ []; begun = false } ≡ t
-pick_is s t k is = cc is
 
 -- an operation that was taken is on an item
 pub record TakesOp (s t : ScriptData) (deed : Deed) : Type 0 where

@@ -138,25 +138,25 @@ amount_row_is s word item bytes a deed ha hd =
     passes ∙ ap (op_row s item) (sym hd)
 
 -- what a row is, by what the code read of it
-pub later_is : (every : Bool) (s : ScriptData) (fields : List (List ℕ)) (f : Form) (word : List ℕ) (w : RowWord) (n : ℕ) (fits : Bool) → f ≡ s.form → word ≡ field fields 0 → Some w ≡ later_word f word → fits ≡ len_fits w n → n ≡ length fields → fits ≡ true
-    → later_row every s fields ≡ later_form every s fields w
-later_is every s fields f word w n fits same_form is hw hf hn good =
+pub later_is : (s : ScriptData) (fields : List (List ℕ)) (f : Form) (word : List ℕ) (w : RowWord) (n : ℕ) (fits : Bool) → f ≡ s.form → word ≡ field fields 0 → Some w ≡ later_word f word → fits ≡ len_fits w n → n ≡ length fields → fits ≡ true
+    → later_row s fields ≡ later_form s fields w
+later_is s fields f word w n fits same_form is hw hf hn good =
     let e : later_word s.form (field fields 0) ≡ Some w = ap (later_word s.form) (sym is) ∙ ap (λ (g : Form). later_word g word) (sym same_form) ∙ sym hw in
     let same : len_fits w (length fields) ≡ true = ap (len_fits w) (sym hn) ∙ sym hf ∙ good in
-    ap (λ (o : Option RowWord). by_word fields o (later_form every s fields)) e ∙ rw same refl
+    ap (λ (o : Option RowWord). by_word fields o (later_form s fields)) e ∙ rw same refl
 
 -- an item row, by its fields
-pub item_form_is : (every : Bool) (s : ScriptData) (fields : List (List ℕ)) (w : RowWord) (a b c d : List ℕ) → w ≡ words.Item → a ≡ field fields 1 → b ≡ field fields 2 → c ≡ field fields 3 → d ≡ field fields 4
-    → later_form every s fields w ≡ item_row s a b c d
-item_form_is every s fields w a b c d is ha hb hc hd = rw (is, ha, hb, hc, hd) refl
+pub item_form_is : (s : ScriptData) (fields : List (List ℕ)) (w : RowWord) (a b c d : List ℕ) → w ≡ words.Item → a ≡ field fields 1 → b ≡ field fields 2 → c ≡ field fields 3 → d ≡ field fields 4
+    → later_form s fields w ≡ item_row s a b c d
+item_form_is s fields w a b c d is ha hb hc hd = rw (is, ha, hb, hc, hd) refl
 
 -- an operation row with an amount, by its fields
-pub amount_form_is : (every : Bool) (s : ScriptData) (fields : List (List ℕ)) (w : RowWord) (word : OpWord) (a b : List ℕ) → w ≡ words.Op word → a ≡ field fields 1 → b ≡ field fields 2 → later_form every s fields w ≡ amount_row s word a b
-amount_form_is every s fields w word a b is ha hb = rw (is, ha, hb) refl
+pub amount_form_is : (s : ScriptData) (fields : List (List ℕ)) (w : RowWord) (word : OpWord) (a b : List ℕ) → w ≡ words.Op word → a ≡ field fields 1 → b ≡ field fields 2 → later_form s fields w ≡ amount_row s word a b
+amount_form_is s fields w word a b is ha hb = rw (is, ha, hb) refl
 
 -- a `get` row, by its field
-pub get_form_is : (every : Bool) (s : ScriptData) (fields : List (List ℕ)) (w : RowWord) (a : List ℕ) → w ≡ words.Get → a ≡ field fields 1 → later_form every s fields w ≡ op_row s a deeds.Get
-get_form_is every s fields w a is ha = rw (is, ha) refl
+pub get_form_is : (s : ScriptData) (fields : List (List ℕ)) (w : RowWord) (a : List ℕ) → w ≡ words.Get → a ≡ field fields 1 → later_form s fields w ≡ op_row s a deeds.Get
+get_form_is s fields w a is ha = rw (is, ha) refl
 
 -- a `lose` row is read of a script of the second form alone
 no_lose : (f : Form) (o : Option RowWord) → if_word (may_follow f) o ≡ Some words.Lose → f ≡ forms.Two
@@ -199,8 +199,8 @@ pub second_fails : (s : ScriptData) (fields : List (List ℕ)) (f : Form) (word 
 second_fails s fields f word w same is hw fails = sym same ∙ no_fail f (word_of word) (sym hw ∙ ap (λ (v : RowWord). Some v) fails)
 
 -- a `fail` row, by its field
-pub fail_form_is : (every : Bool) (s : ScriptData) (fields : List (List ℕ)) (w : RowWord) (a : List ℕ) → w ≡ words.Fail → a ≡ field fields 1 → later_form every s fields w ≡ fail_row s a
-fail_form_is every s fields w a is ha = rw (is, ha) refl
+pub fail_form_is : (s : ScriptData) (fields : List (List ℕ)) (w : RowWord) (a : List ℕ) → w ≡ words.Fail → a ≡ field fields 1 → later_form s fields w ≡ fail_row s a
+fail_form_is s fields w a is ha = rw (is, ha) refl
 
 -- a `fail` row that meets no condition but a limit undoes the tree
 pub fail_row_is : (s : ScriptData) (sub : List ℕ) (k : ℕ) → Some k ≡ number_spelled sub → s.begun ≡ true → k < last_subs s.trees → last_may_fail s.trees ≡ true → fail_row s sub ≡ puts_undone s k
@@ -230,17 +230,17 @@ fail_wrong_kind s sub k hk begun earlier adds =
     rw (a.0, a.1, begun, low, adds) refl
 
 -- a row that hasn't its number of fields
-pub later_wrong : (every : Bool) (s : ScriptData) (fields : List (List ℕ)) (f : Form) (word : List ℕ) (w : RowWord) (n : ℕ) (fits : Bool) → f ≡ s.form → word ≡ field fields 0 → Some w ≡ later_word f word → fits ≡ len_fits w n → n ≡ length fields → fits ≡ false
-    → later_row every s fields ≡ Err why.WrongFields
-later_wrong every s fields f word w n fits same_form is hw hf hn bad =
+pub later_wrong : (s : ScriptData) (fields : List (List ℕ)) (f : Form) (word : List ℕ) (w : RowWord) (n : ℕ) (fits : Bool) → f ≡ s.form → word ≡ field fields 0 → Some w ≡ later_word f word → fits ≡ len_fits w n → n ≡ length fields → fits ≡ false
+    → later_row s fields ≡ Err why.WrongFields
+later_wrong s fields f word w n fits same_form is hw hf hn bad =
     let e : later_word s.form (field fields 0) ≡ Some w = ap (later_word s.form) (sym is) ∙ ap (λ (g : Form). later_word g word) (sym same_form) ∙ sym hw in
     let same : len_fits w (length fields) ≡ false = ap (len_fits w) (sym hn) ∙ sym hf ∙ bad in
-    ap (λ (o : Option RowWord). by_word fields o (later_form every s fields)) e ∙ rw same refl
+    ap (λ (o : Option RowWord). by_word fields o (later_form s fields)) e ∙ rw same refl
 
 -- a tree row, by its fields
-pub tree_form_is : (every : Bool) (s : ScriptData) (fields : List (List ℕ)) (w : RowWord) (kind : TreeKind) (a b : List ℕ) → w ≡ words.Tree kind → a ≡ field fields 1 → b ≡ field fields 2 → later_form every s fields w ≡ tree_row s kind a b
-tree_form_is every s fields w kind a b is ha hb = rw (is, ha, hb) refl
+pub tree_form_is : (s : ScriptData) (fields : List (List ℕ)) (w : RowWord) (kind : TreeKind) (a b : List ℕ) → w ≡ words.Tree kind → a ≡ field fields 1 → b ≡ field fields 2 → later_form s fields w ≡ tree_row s kind a b
+tree_form_is s fields w kind a b is ha hb = rw (is, ha, hb) refl
 
 -- a `sub` row, by its fields
-pub sub_form_is : (every : Bool) (s : ScriptData) (fields : List (List ℕ)) (w : RowWord) (a b : List ℕ) → w ≡ words.Sub → a ≡ field fields 1 → b ≡ field fields 2 → later_form every s fields w ≡ sub_row s a b
-sub_form_is every s fields w a b is ha hb = rw (is, ha, hb) refl
+pub sub_form_is : (s : ScriptData) (fields : List (List ℕ)) (w : RowWord) (a b : List ℕ) → w ≡ words.Sub → a ≡ field fields 1 → b ≡ field fields 2 → later_form s fields w ≡ sub_row s a b
+sub_form_is s fields w a b is ha hb = rw (is, ha, hb) refl

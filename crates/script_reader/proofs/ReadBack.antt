@@ -12,7 +12,7 @@ use Rattle.tx_trees.specs.Adding.{adds_advance, adds_item, adds_lose, adds_op, a
 use Rattle.tx_trees.specs.Counts.{loses_in}
 use Rattle.tx_trees.specs.Forms.{most_nodes}
 use Rattle.tx_trees.specs.Ranges.{is_in_range}
-use Rattle.tx_trees.specs.Rebuilt.{fail_added, written_subs, items_added, name_at, SameScript, ops_added, picks_added, rebuilt, rooted_added, rows_added, subs_added, then_more, tree_added}
+use Rattle.tx_trees.specs.Rebuilt.{fail_added, written_subs, items_added, name_at, ops_added, picks_added, rebuilt, rooted_added, rows_added, subs_added, then_more, tree_added}
 use Rattle.tx_trees.specs.ScriptData.{ScriptData}
 use Rattle.tx_trees.specs.Valid.{AreSubs, IsItem, IsOp, IsValid}
 use Rattle.tx_trees.specs.declared.parts.Form.{Form}
@@ -27,38 +27,36 @@ use Rattle.tx_trees.specs.declared.parts.TreeKind.{TreeKind}
 use Rattle.tx_trees.specs.declared.parts.Written.{Written}
 use Rattle.tx_trees.proofs.Undoing.{WrittenTree, written_trees}
 use Rattle.tx_trees.specs.declared.why.Why.{Why}
-use Rattle.script_reader.specs.Builds.{Builds}
 use Rattle.script_reader.specs.inside.Numbers.{AreOf32Bits}
 use Rattle.script_reader.specs.ReadBack.{IsReadAs}
-use Rattle.script_reader.specs.Reading.{after_first, read_every, read_of, read_rows, rows_from, then_rows}
+use Rattle.script_reader.specs.Reading.{after_first, read_of, read_rows, rows_from, then_rows}
 use Rattle.script_reader.specs.Records.{records_in}
-use Rattle.script_reader.specs.Rows.{every_form, later_row}
+use Rattle.script_reader.specs.Rows.{later_row}
 use Rattle.script_reader.specs.Written.{fail_fields, fail_rows, form_rows, lines, item_fields, nodes_fields, op_fields, ops_rows, pick_fields, rows_of, rows_of_rows, rows_of_tree, sub_fields, subs_rows, tree_fields, tree_rows, written}
 use Rattle.script_reader.proofs.Added.{advance_is, fail_is, item_is, lose_is, op_in_range, op_taken, settle_is, sub_is, tree_is}
 use Rattle.script_reader.proofs.Lines.{few_lines, lines_read}
 use Rattle.script_reader.proofs.PlainRows.{all_plain, op_named, small_deed}
 use Rattle.script_reader.proofs.RowsBack.{deed_back, fail_back, item_back, lose_back, nodes_back, pick_back, second_nodes_back, sub_back, tree_back}
-use Rattle.script_reader.proofs.Alike.{both_read}
 use Rattle.script_reader.proofs.Script.{ends, goes_on}
 
 -- these rows, read from script u on, give v, whatever row comes next
 abbrev Reads : ScriptData → List (List (List ℕ)) → ScriptData → Type 0
-Reads u rs v = (at : ℕ) (more : List (List (List ℕ))) → (k : ℕ) × (rows_from every_form u at (rs ++ more) ≡ rows_from every_form v k more)
+Reads u rs v = (at : ℕ) (more : List (List (List ℕ))) → (k : ℕ) × (rows_from u at (rs ++ more) ≡ rows_from v k more)
 
 -- no rows
 reads_none : (u v : ScriptData) → u ≡ v → Reads u [] v
-reads_none u v h at more = (at, ap (λ (w : ScriptData). rows_from every_form w at more) h)
+reads_none u v h at more = (at, ap (λ (w : ScriptData). rows_from w at more) h)
 
 -- one row before others
-reads_one : (u v w : ScriptData) (r : List (List ℕ)) (rs : List (List (List ℕ))) → later_row every_form u r ≡ Ok v → Reads v rs w → Reads u (r ∷ rs) w
-reads_one u v w r rs one rest at more = let next = rest (at + 1) more in (next.0, goes_on every_form u v at (r ∷ (rs ++ more)) r (rs ++ more) refl one ∙ next.1)
+reads_one : (u v w : ScriptData) (r : List (List ℕ)) (rs : List (List (List ℕ))) → later_row u r ≡ Ok v → Reads v rs w → Reads u (r ∷ rs) w
+reads_one u v w r rs one rest at more = let next = rest (at + 1) more in (next.0, goes_on u v at (r ∷ (rs ++ more)) r (rs ++ more) refl one ∙ next.1)
 
 -- rows before others
 reads_both : (u v w : ScriptData) (xs ys : List (List (List ℕ))) → Reads u xs v → Reads v ys w → Reads u (xs ++ ys) w
 reads_both u v w xs ys first second at more =
     let a = first at (ys ++ more) in
     let b = second a.0 more in
-    (b.0, ap (rows_from every_form u at) (append_assoc xs ys more) ∙ a.1 ∙ b.1)
+    (b.0, ap (rows_from u at) (append_assoc xs ys more) ∙ a.1 ∙ b.1)
 
 -- a row that was taken, and then the others
 record Goes (x : Result ScriptData Why) (more : ScriptData → Result ScriptData Why) (v : ScriptData) : Type 0 where
@@ -244,18 +242,18 @@ picks_back (k ∷ ks) u v small h =
     reads_one u g.first v (pick_fields k) (map pick_fields ks) (pick_back u k (small 0) ∙ g.is) (picks_back ks g.first v (λ i. small (suc i)) g.rest)
 
 -- from the `nodes` row on, after the row of the second form where it is there
-nodes_then : (f : Form) (n : ℕ) (u : ScriptData) (rs : List (List (List ℕ))) → 1 ≤ n → n ≤ most_nodes f → Reads (fresh f n) rs u → read_rows every_form (form_rows f ++ nodes_fields n ∷ rs) ≡ Ok u
+nodes_then : (f : Form) (n : ℕ) (u : ScriptData) (rs : List (List (List ℕ))) → 1 ≤ n → n ≤ most_nodes f → Reads (fresh f n) rs u → read_rows (form_rows f ++ nodes_fields n ∷ rs) ≡ Ok u
 nodes_then forms.One n u rs some few reads =
-    let start = ap (λ (x : Result (Option ScriptData) Why). after_first every_form x rs) (nodes_back n some few) in
+    let start = ap (λ (x : Result (Option ScriptData) Why). after_first x rs) (nodes_back n some few) in
     let rest = reads 2 [] in
-    start ∙ ap (rows_from every_form (fresh forms.One n) 2) (sym (append-nil rs)) ∙ rest.1 ∙ ends every_form u rest.0 [] refl
+    start ∙ ap (rows_from (fresh forms.One n) 2) (sym (append-nil rs)) ∙ rest.1 ∙ ends u rest.0 [] refl
 nodes_then forms.Two n u rs some few reads =
-    let start = ap (λ (x : Result ScriptData Why). then_rows 2 x (λ t. rows_from every_form t 3 rs)) (second_nodes_back n some few) in
+    let start = ap (λ (x : Result ScriptData Why). then_rows 2 x (λ t. rows_from t 3 rs)) (second_nodes_back n some few) in
     let rest = reads 3 [] in
-    start ∙ ap (rows_from every_form (fresh forms.Two n) 3) (sym (append-nil rs)) ∙ rest.1 ∙ ends every_form u rest.0 [] refl
+    start ∙ ap (rows_from (fresh forms.Two n) 3) (sym (append-nil rs)) ∙ rest.1 ∙ ends u rest.0 [] refl
 
 -- what builds a script again reads its rows
-rows_read : (s u : ScriptData) → IsValid s → AreOf32Bits s.picks → rebuilt s ≡ Ok u → read_rows every_form (rows_of s) ≡ Ok u
+rows_read : (s u : ScriptData) → IsValid s → AreOf32Bits s.picks → rebuilt s ≡ Ok u → read_rows (rows_of s) ≡ Ok u
 rows_read s u h small is =
     let g = goes (items_added (fresh s.form s.nodes) s.items) (λ t. then_more (rows_added s.trees t s.rows) (λ w. picks_added w s.picks)) u is in
     let f = goes (rows_added s.trees g.first s.rows) (λ w. picks_added w s.picks) u g.rest in
@@ -270,21 +268,13 @@ rows_read s u h small is =
     (reads_both g.first f.first u (rows_of_rows s.items s.trees s.rows) (map pick_fields s.picks) rows picks))
 
 -- what is written of a script is read as the same script
-read_back : (s : ScriptData) → IsValid s → AreOf32Bits s.picks → length (written s) ≤ 8388608 → IsReadAs (read_every (written s)) s
+read_back : (s : ScriptData) → IsValid s → AreOf32Bits s.picks → length (written s) ≤ 8388608 → IsReadAs (read_of (written s)) s
 read_back s h small few =
     let again = is_rebuilt s h in
     let short : nat_lt 8388608 (length (written s)) ≡ false = lt-leb 8388609 (length (written s)) (omega (arith, few)) in
-    let read : read_every (written s) ≡ read_rows every_form (records_in (written s)) = rw short refl in
-    (again.0, read ∙ ap (read_rows every_form) (written_rows s h small) ∙ rows_read s again.0 h small again.1, again.2)
+    let read : read_of (written s) ≡ read_rows (records_in (written s)) = rw short refl in
+    (again.0, read ∙ ap read_rows (written_rows s h small) ∙ rows_read s again.0 h small again.1, again.2)
 
 -- the same of a text that is equal to what is written
-pub every_read : (s : ScriptData) (text : List ℕ) → IsValid s → AreOf32Bits s.picks → text ≡ written s → length text ≤ 8388608 → IsReadAs (read_every text) s
-every_read s text h small is few = subst (λ (x : List ℕ). IsReadAs (read_every x) s) (sym is) (read_back s h small (subst (λ (x : List ℕ). length x ≤ 8388608) is few))
-
--- a script that is the same is of the built forms too
-same_builds : (t s : ScriptData) → SameScript t s → Builds s → Builds t
-same_builds t s same b = ap loses_in same.rows ∙ b
-
--- where the script is of built forms these alone are enough
-pub text_read : (s : ScriptData) (text : List ℕ) → IsReadAs (read_every text) s → Builds s → IsReadAs (read_of text) s
-text_read s text every b = (every.0, (both_read text).built every.0 (same_builds every.0 s every.2 b) every.1, every.2)
+pub text_read : (s : ScriptData) (text : List ℕ) → IsValid s → AreOf32Bits s.picks → text ≡ written s → length text ≤ 8388608 → IsReadAs (read_of text) s
+text_read s text h small is few = subst (λ (x : List ℕ). IsReadAs (read_of x) s) (sym is) (read_back s h small (subst (λ (x : List ℕ). length x ≤ 8388608) is few))

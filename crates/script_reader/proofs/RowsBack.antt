@@ -1,5 +1,5 @@
 -- Each row that is written of a script is read as the call that adds it.
-use Rattle.std.proofs.Common.{◌≡◌, ◌<◌, ◌≤◌, ◌^◌, ◌∙◌, ℕ, Bool, true, false, not, List, [], ◌∷◌, Some, Result, Ok, Err, refl, ap, arith}
+use Rattle.std.proofs.Common.{◌≡◌, ◌<◌, ◌≤◌, ◌^◌, ◌∙◌, ℕ, Bool, true, false, not, List, [], ◌∷◌, Some, Ok, refl, ap, arith}
 use Rattle.std.specs.Prelude.{ℤ, IsTrue, ◌||◌, codes, decimal, is_some, length, nat_le, unsigned_abs}
 use Rattle.std.proofs.lemmas.Bool.{le-leb, lt-leb}
 use Rattle.std.specs.Fmt.{signed_decimal}
@@ -27,7 +27,7 @@ use Rattle.tx_trees.specs.declared.parts.TreeKind.TheVariants as trees
 use Rattle.tx_trees.specs.declared.why.Why.{Why}
 use Rattle.tx_trees.specs.declared.why.Why.TheVariants as why
 use Rattle.script_reader.specs.inside.Numbers.{amount_of, number_spelled}
-use Rattle.script_reader.specs.Rows.{amount_row, begun_script, by_word, deed_of, every_form, fail_row, field, later_form, first_row, if_built, item_row, later_row, nodes_row, op_row, pick_row, second_row, sub_row, tree_row, unless}
+use Rattle.script_reader.specs.Rows.{amount_row, begun_script, by_word, deed_of, fail_row, field, later_form, first_row, item_row, later_row, nodes_row, op_row, pick_row, second_row, sub_row, tree_row, unless}
 use Rattle.script_reader.specs.Words.{kind_of, kind_word, later_word}
 use Rattle.script_reader.specs.Written.{deed_fields, fail_fields, item_fields, nodes_fields, pick_fields, sub_fields, tree_fields}
 use Rattle.script_reader.specs.declared.words.OpWord.{OpWord}
@@ -56,11 +56,6 @@ tried_item true b c d w x y z new = refl
 tried_item false true c d w x y z new = refl
 tried_item false false true d w x y z new = refl
 tried_item false false false d w x y z new = refl
-
--- what is read by every form is taken or refused as it is
-any_built : (r : Result ScriptData Why) → if_built true r ≡ r
-any_built (Ok s) = refl
-any_built (Err w) = refl
 
 -- the same of a tree
 tried_tree : (a b c d : Bool) (w x y z : Why) (new : ScriptData)
@@ -95,50 +90,49 @@ second_nodes_back n some few =
     form ∙ nodes_row_back forms.Two n some few few
 
 -- an item row
-pub item_back : (s : ScriptData) (n : ℕ) (r : ItemRow) → n ≤ 64 → IsItem n r → later_row every_form s (item_fields r) ≡ adds_item s r
+pub item_back : (s : ScriptData) (n : ℕ) (r : ItemRow) → n ≤ 64 → IsItem n r → later_row s (item_fields r) ≡ adds_item s r
 item_back s n r few h =
-    let form : later_row every_form s (item_fields r) ≡ item_row s r.name (decimal r.node.0) (kind_word r.kind) (signed_decimal r.initial) = refl in
+    let form : later_row s (item_fields r) ≡ item_row s r.name (decimal r.node.0) (kind_word r.kind) (signed_decimal r.initial) = refl in
     let typed = item_row_is s r.name (decimal r.node.0) (kind_word r.kind) (signed_decimal r.initial) r.node.0 (Some r.kind) r.initial (number_back r.node.0 (omega (arith, h.node))) (kind_back r.kind) (amount_back r.initial (omega (arith, h.small))) in
     form ∙ typed
     ∙ tried_item (nat_le s.nodes r.node.0 || not (may_start s.form r.kind r.initial)) (not (is_name r.name)) (is_some (place_of r.name s.items)) (nat_le 10000 (length s.items)) why.OutOfRange why.BadName why.NameTaken why.TooMany (with_item s r)
 
 -- a tree row, by its fields
-tree_form : (s : ScriptData) (kind : TreeKind) (name : List ℕ) (node : NodeNo) → later_row every_form s (tree_fields kind name node.0) ≡ tree_row s kind name (decimal node.0)
+tree_form : (s : ScriptData) (kind : TreeKind) (name : List ℕ) (node : NodeNo) → later_row s (tree_fields kind name node.0) ≡ tree_row s kind name (decimal node.0)
 tree_form s trees.Update name node = refl
 tree_form s trees.Read name node = refl
 tree_form s trees.Strict name node = refl
 
 -- a tree row, of whatever kind
-pub tree_back : (s : ScriptData) (kind : TreeKind) (name : List ℕ) (node : NodeNo) → node.0 < 64 → later_row every_form s (tree_fields kind name node.0) ≡ adds_tree s name kind node
+pub tree_back : (s : ScriptData) (kind : TreeKind) (name : List ℕ) (node : NodeNo) → node.0 < 64 → later_row s (tree_fields kind name node.0) ≡ adds_tree s name kind node
 tree_back s kind name node low =
     let form = tree_form s kind name node in
     form ∙ rw (number_read node.0 (omega (arith, low)), value_read node.0 (omega (arith, low)))
     (tried_tree (nat_le s.nodes node.0) (not (is_name name)) (names_tree name s.trees) (has_no_tree_left s.nodes kind s.trees) why.OutOfRange why.BadName why.NameTaken why.TooMany (with_tree s name kind node))
 
 -- a `sub` row
-pub sub_back : (s : ScriptData) (x : Sub) → x.parent.0 < 64 → x.node.0 < 64 → later_row every_form s (sub_fields x) ≡ adds_sub s x.parent.0 x.node
+pub sub_back : (s : ScriptData) (x : Sub) → x.parent.0 < 64 → x.node.0 < 64 → later_row s (sub_fields x) ≡ adds_sub s x.parent.0 x.node
 sub_back s x early low =
-    let form : later_row every_form s (sub_fields x) ≡ sub_row s (decimal x.parent.0) (decimal x.node.0) = refl in
+    let form : later_row s (sub_fields x) ≡ sub_row s (decimal x.parent.0) (decimal x.node.0) = refl in
     form ∙ rw (number_read x.parent.0 (omega (arith, early)), number_read x.node.0 (omega (arith, low)), value_read x.parent.0 (omega (arith, early)), value_read x.node.0 (omega (arith, low)))
     (tried_sub (nat_le s.nodes x.node.0) (not s.begun) (nat_le (last_subs s.trees) x.parent.0) (has_no_sub_left s.trees) why.OutOfRange why.NoTree why.BadParent why.TooMany (with_sub s x.parent.0 x.node))
 
 -- a `fail` row of a script of the second form
-pub fail_back : (s : ScriptData) (k : ℕ) → s.form ≡ forms.Two → k < 64 → later_row every_form s (fail_fields k) ≡ adds_fail s k
+pub fail_back : (s : ScriptData) (k : ℕ) → s.form ≡ forms.Two → k < 64 → later_row s (fail_fields k) ≡ adds_fail s k
 fail_back s k second small =
-    let form : later_row every_form s (fail_fields k) ≡ fail_row s (decimal k) = ap (λ (f : Form). by_word (fail_fields k) (later_word f (field (fail_fields k) 0)) (later_form every_form s (fail_fields k))) second in
+    let form : later_row s (fail_fields k) ≡ fail_row s (decimal k) = ap (λ (f : Form). by_word (fail_fields k) (later_word f (field (fail_fields k) 0)) (later_form s (fail_fields k))) second in
     form ∙ rw (number_read k (omega (arith, small)), value_read k (omega (arith, small))) refl
 
 -- a `lose` row, which a script of the second form alone has
-pub lose_back : (s : ScriptData) → s.form ≡ forms.Two → later_row every_form s (codes "lose" ∷ []) ≡ adds_lose s
+pub lose_back : (s : ScriptData) → s.form ≡ forms.Two → later_row s (codes "lose" ∷ []) ≡ adds_lose s
 lose_back s second =
     let fields = codes "lose" ∷ [] in
-    let form : later_row every_form s fields ≡ if_built true (adds_lose s) = ap (λ (f : Form). by_word fields (later_word f (field fields 0)) (later_form every_form s fields)) second in
-    form ∙ any_built (adds_lose s)
+    ap (λ (f : Form). by_word fields (later_word f (field fields 0)) (later_form s fields)) second
 
 -- a `pick` row
-pub pick_back : (s : ScriptData) (k : ℕ) → k < 2 ^ 32 → later_row every_form s (pick_fields k) ≡ adds_pick s k
+pub pick_back : (s : ScriptData) (k : ℕ) → k < 2 ^ 32 → later_row s (pick_fields k) ≡ adds_pick s k
 pick_back s k small =
-    let form : later_row every_form s (pick_fields k) ≡ pick_row s (decimal k) = refl in
+    let form : later_row s (pick_fields k) ≡ pick_row s (decimal k) = refl in
     let fits : nat_le 4294967296 k ≡ false = lt-leb 4294967296 k (omega arith) in
     form ∙ rw (number_read k (omega arith), value_read k (omega arith), fits) refl
 
@@ -154,7 +148,7 @@ amount_op_back s word name a named range small =
     amount_row_is s word name (signed_decimal a) a (deed_of word a) (amount_back a small) refl ∙ op_back s name (deed_of word a) named range
 
 -- an operation row
-pub deed_back : (s : ScriptData) (name : List ℕ) (deed : Deed) → IsTrue (is_name name) → IsTrue (is_in_range s.form deed) → magnitude deed < 10 ^ 32 → later_row every_form s (deed_fields name deed) ≡ adds_op s name deed
+pub deed_back : (s : ScriptData) (name : List ℕ) (deed : Deed) → IsTrue (is_name name) → IsTrue (is_in_range s.form deed) → magnitude deed < 10 ^ 32 → later_row s (deed_fields name deed) ≡ adds_op s name deed
 deed_back s name (deeds.Apply (applied.Add a)) named range small = amount_op_back s ops.Add name a named range small
 deed_back s name (deeds.Apply (applied.Top a)) named range small = amount_op_back s ops.Top name a named range small
 deed_back s name (deeds.Apply (applied.Put a)) named range small = amount_op_back s ops.Put name a named range small

@@ -2,10 +2,8 @@ pub mod Records
 pub mod RecordsInside
 pub mod Numbers
 pub mod Words
-pub mod Builds
 pub mod Rows
 pub mod Reading
 pub mod Written
 pub mod ReadBack
-pub mod BothReadings
 pub mod inside

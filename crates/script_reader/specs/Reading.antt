@@ -1,12 +1,12 @@
 -- The script that bytes are, or the first fault.
-use Rattle.std.specs.Prelude.{ℕ, Bool, ◌≡◌, ◌+◌, nat_lt, List, [], ◌∷◌, length, Option, Some, None}
+use Rattle.std.specs.Prelude.{ℕ, ◌≡◌, ◌+◌, nat_lt, List, [], ◌∷◌, length, Option, Some, None}
 use Rattle.std.specs.Prelude.{Result, Ok, Err, if◌then◌else◌, ⊤}
 use Rattle.tv_base.specs.declared.moving.TheConstants.{MOST_BYTES}
 use Rattle.tx_trees.specs.ScriptData.{ScriptData}
 use Rattle.tx_trees.specs.declared.why.Why.{Why}
 use Rattle.tx_trees.specs.declared.why.Why.TheVariants as why
 use Rattle.script_reader.specs.Records.{records_in}
-use Rattle.script_reader.specs.Rows.{built_forms, every_form, first_row, later_row, second_row}
+use Rattle.script_reader.specs.Rows.{first_row, later_row, second_row}
 use Rattle.script_reader.specs.declared.reading.ScriptFault.{ScriptFault}
 use Rattle.script_reader.specs.declared.reading.ScriptRefusal.{ScriptRefusal}
 use Rattle.script_reader.specs.declared.reading.ScriptRefusal.TheVariants as ends
@@ -22,38 +22,30 @@ then_rows row (Ok s) more = more s
 then_rows row (Err w) more = Err (fault row w)
 
 -- the records from this row on
-unfoldable pub rows_from : Bool → ScriptData → ℕ → List (List (List ℕ)) → Result ScriptData ScriptFault
-rows_from every s row [] = Ok s
-rows_from every s row (r ∷ rs) = then_rows row (later_row every s r) (λ t. rows_from every t (row + 1) rs)
+unfoldable pub rows_from : ScriptData → ℕ → List (List (List ℕ)) → Result ScriptData ScriptFault
+rows_from s row [] = Ok s
+rows_from s row (r ∷ rs) = then_rows row (later_row s r) (λ t. rows_from t (row + 1) rs)
 
 -- the records after one that names the second form: the first of them makes a script
-abbrev pub second_rows : Bool → List (List (List ℕ)) → Result ScriptData ScriptFault
-second_rows every [] = Err (fault 2 why.NodesFirst)
-second_rows every (r ∷ rs) = then_rows 2 (second_row r) (λ s. rows_from every s 3 rs)
+abbrev pub second_rows : List (List (List ℕ)) → Result ScriptData ScriptFault
+second_rows [] = Err (fault 2 why.NodesFirst)
+second_rows (r ∷ rs) = then_rows 2 (second_row r) (λ s. rows_from s 3 rs)
 
 -- the records after the first
-abbrev pub after_first : Bool → Result (Option ScriptData) Why → List (List (List ℕ)) → Result ScriptData ScriptFault
-after_first every (Err w) rs = Err (fault 1 w)
-after_first every (Ok None) rs = second_rows every rs
-after_first every (Ok (Some s)) rs = rows_from every s 2 rs
+abbrev pub after_first : Result (Option ScriptData) Why → List (List (List ℕ)) → Result ScriptData ScriptFault
+after_first (Err w) rs = Err (fault 1 w)
+after_first (Ok None) rs = second_rows rs
+after_first (Ok (Some s)) rs = rows_from s 2 rs
 
 -- all records: the first makes a script, or names the second form, and then the second does; each later one adds to it
-abbrev pub read_rows : Bool → List (List (List ℕ)) → Result ScriptData ScriptFault
-read_rows every [] = Err (fault 1 why.NodesFirst)
-read_rows every (r ∷ rs) = after_first every (first_row r) rs
+abbrev pub read_rows : List (List (List ℕ)) → Result ScriptData ScriptFault
+read_rows [] = Err (fault 1 why.NodesFirst)
+read_rows (r ∷ rs) = after_first (first_row r) rs
 
--- all records of a text, unless it is too long
-abbrev pub read_text : Bool → List ℕ → Result ScriptData ScriptFault
-read_text every bytes =
-    if nat_lt MOST_BYTES (length bytes) then Err (fault 0 why.TooLong) else read_rows every (records_in bytes)
-
--- the script that bytes are, or the first faulty record and the lowest of its reasons
+-- the script that bytes are, or the first faulty record and the lowest of its reasons; a text that is too long is none
 abbrev pub read_of : List ℕ → Result ScriptData ScriptFault
-read_of bytes = read_text built_forms bytes
-
--- the same where rows of every form are read, also of those that aren't run yet
-abbrev pub read_every : List ℕ → Result ScriptData ScriptFault
-read_every bytes = read_text every_form bytes
+read_of bytes =
+    if nat_lt MOST_BYTES (length bytes) then Err (fault 0 why.TooLong) else read_rows (records_in bytes)
 
 -- what a call gave is what reading gives, unless memory ran out
 abbrev pub Gives : Result ScriptData ScriptRefusal → Result ScriptData ScriptFault → Type 0

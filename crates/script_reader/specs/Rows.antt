@@ -1,5 +1,5 @@
 -- What each row does to a script, with its conditions in the order of their numbers.
-use Rattle.std.specs.Prelude.{ℕ, ℤ, Bool, true, false, not, ◌==◌, ◌&&◌, ◌||◌, nat_le, List, [], ◌∷◌, length}
+use Rattle.std.specs.Prelude.{ℕ, ℤ, Bool, not, ◌==◌, ◌&&◌, ◌||◌, nat_le, List, [], ◌∷◌, length}
 use Rattle.std.specs.Prelude.{get_or, Option, Some, None, is_some, Result, Ok, Err, if◌then◌else◌, unsigned_abs}
 use Rattle.commute_ops.specs.declared.kinds.Kind.{Kind}
 use Rattle.commute_ops.specs.declared.kinds.Op.TheVariants as applied
@@ -25,23 +25,10 @@ use Rattle.script_reader.specs.declared.words.OpWord.TheVariants as ops
 use Rattle.script_reader.specs.declared.words.RowWord.{RowWord}
 use Rattle.script_reader.specs.declared.words.RowWord.TheVariants as words
 
--- rows of every form are read, also of one that isn't run yet
-abbrev pub every_form : Bool
-every_form = true
-
--- rows of the built forms alone are read
-abbrev pub built_forms : Bool
-built_forms = false
-
 -- the first condition that holds gives its reason; where none holds, what comes next
 abbrev pub unless : {A : Type 0} → List (Bool × Why) → Result A Why → Result A Why
 unless [] next = next
 unless (c ∷ cs) next = if c.0 then Err c.1 else unless cs next
-
--- a form that is left out, since it isn't built yet, is refused for that where there is no other reason
-abbrev pub if_built : Bool → Result ScriptData Why → Result ScriptData Why
-if_built built (Ok s) = if built then Ok s else Err why.NotBuilt
-if_built built (Err w) = Err w
 
 -- a node by its number
 abbrev pub node_no : ℕ → NodeNo
@@ -131,8 +118,8 @@ pick_row s place =
     (adds_pick s (decimal_value place))
 
 -- `lose`
-abbrev pub lose_row : Bool → ScriptData → Result ScriptData Why
-lose_row every s = if_built every (adds_lose s)
+abbrev pub lose_row : ScriptData → Result ScriptData Why
+lose_row s = adds_lose s
 
 -- `fail,SUB`
 abbrev pub fail_row : ScriptData → List ℕ → Result ScriptData Why
@@ -164,19 +151,19 @@ second_form fields words.Nodes = nodes_row forms.Two (field fields 1)
 second_form fields _ = Err why.NodesFirst
 
 -- a later record, by its word
-abbrev pub later_form : Bool → ScriptData → List (List ℕ) → RowWord → Result ScriptData Why
-later_form every s fields words.Form = Err why.UnknownRow
-later_form every s fields words.Nodes = Err why.NodesTwice
-later_form every s fields words.Item = item_row s (field fields 1) (field fields 2) (field fields 3) (field fields 4)
-later_form every s fields (words.Tree kind) = tree_row s kind (field fields 1) (field fields 2)
-later_form every s fields words.Sub = sub_row s (field fields 1) (field fields 2)
-later_form every s fields (words.Op op) = amount_row s op (field fields 1) (field fields 2)
-later_form every s fields words.Get = op_row s (field fields 1) deeds.Get
-later_form every s fields words.Advance = advance_row s
-later_form every s fields words.Settle = adds_settle s
-later_form every s fields words.Pick = pick_row s (field fields 1)
-later_form every s fields words.Lose = lose_row every s
-later_form every s fields words.Fail = fail_row s (field fields 1)
+abbrev pub later_form : ScriptData → List (List ℕ) → RowWord → Result ScriptData Why
+later_form s fields words.Form = Err why.UnknownRow
+later_form s fields words.Nodes = Err why.NodesTwice
+later_form s fields words.Item = item_row s (field fields 1) (field fields 2) (field fields 3) (field fields 4)
+later_form s fields (words.Tree kind) = tree_row s kind (field fields 1) (field fields 2)
+later_form s fields words.Sub = sub_row s (field fields 1) (field fields 2)
+later_form s fields (words.Op op) = amount_row s op (field fields 1) (field fields 2)
+later_form s fields words.Get = op_row s (field fields 1) deeds.Get
+later_form s fields words.Advance = advance_row s
+later_form s fields words.Settle = adds_settle s
+later_form s fields words.Pick = pick_row s (field fields 1)
+later_form s fields words.Lose = lose_row s
+later_form s fields words.Fail = fail_row s (field fields 1)
 
 -- the first record
 abbrev pub first_row : List (List ℕ) → Result (Option ScriptData) Why
@@ -187,5 +174,5 @@ abbrev pub second_row : List (List ℕ) → Result ScriptData Why
 second_row fields = by_word fields (later_word forms.Two (field fields 0)) (second_form fields)
 
 -- a later record
-abbrev pub later_row : Bool → ScriptData → List (List ℕ) → Result ScriptData Why
-later_row every s fields = by_word fields (later_word s.form (field fields 0)) (later_form every s fields)
+abbrev pub later_row : ScriptData → List (List ℕ) → Result ScriptData Why
+later_row s fields = by_word fields (later_word s.form (field fields 0)) (later_form s fields)

@@ -1,7 +1,6 @@
 //! Scripts, read from their text and written as text.
 #![tactic(auto)]
 
-mod both_readings;
 mod numbers;
 mod reading;
 mod records;
@@ -10,6 +9,5 @@ mod text_fields;
 mod words;
 mod writing;
 
-pub use both_readings::both_readings_agree;
 pub use reading::{ScriptFault, ScriptRefusal, read_script};
 pub use writing::write_script;

@@ -3,7 +3,6 @@ ghost use Rattle.std.specs.Prelude.{◌≡◌, ◌≤◌, ◌+◌, length};
 ghost use Rattle.script_reader.specs.Reading.{Gives, read_of, read_rows, rows_from, second_rows};
 ghost use Rattle.script_reader.specs.inside.Reading.{refused_at};
 ghost use Rattle.script_reader.specs.Records.{AreAllRecords, records_in};
-ghost use Rattle.script_reader.specs.Rows.{built_forms};
 ghost use Rattle.tv_base.specs.declared.moving.TheConstants.{MOST_BYTES};
 
 use crate::records::Records;
@@ -74,7 +73,7 @@ pub fn read_script(alloc: Global, bytes: &[u8]) -> Result<Script, ScriptRefusal>
 // The records of a text that isn't too long.
 fn read_records(alloc: Global, bytes: &[u8]) -> Result<Script, ScriptRefusal>
     requires { length bytes.now ≤ MOST_BYTES }
-    ensures { Gives result (read_rows built_forms (records_in bytes.now)) }
+    ensures { Gives result (read_rows (records_in bytes.now)) }
 {
     let mut records = Records::new(alloc, bytes);
     let mut row = ByteRecord::new(alloc);
@@ -98,7 +97,7 @@ fn read_second(
     row: &mut ByteRecord,
 ) -> Result<Script, ScriptRefusal>
     requires { length records.old ≤ MOST_BYTES }
-    ensures { Gives result (second_rows built_forms records.old) }
+    ensures { Gives result (second_rows records.old) }
 {
     if !records.next(row)? {
         return Err(at_row(2, Refusal::Why(Why::NodesFirst)));
@@ -119,7 +118,7 @@ fn read_later(
     row: &mut ByteRecord,
 ) -> Result<Script, ScriptRefusal>
     requires { first + length records.old ≤ 8388611 }
-    ensures { Gives result (rows_from built_forms begun first records.old) }
+    ensures { Gives result (rows_from begun first records.old) }
 {
     let mut script = begun;
     let mut at = first;

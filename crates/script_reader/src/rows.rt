@@ -2,7 +2,7 @@
 ghost use Rattle.std.specs.Prelude.{◌≡◌, ◌<◌, ◌^◌, true, unsigned_abs};
 ghost use Rattle.csv.specs.Records.{fields_of};
 ghost use Rattle.tx_trees.specs.Adding.{last_may_fail, last_subs, puts_undone};
-ghost use Rattle.script_reader.specs.Rows.{advance_row, amount_row, begun_script, built_forms, deed_of, fail_row, first_row, form_row, item_of, item_row, later_row, lose_row, nodes_row, op_row, pick_row, second_row, starts, sub_row, tree_row};
+ghost use Rattle.script_reader.specs.Rows.{advance_row, amount_row, begun_script, deed_of, fail_row, first_row, form_row, item_of, item_row, later_row, lose_row, nodes_row, op_row, pick_row, second_row, starts, sub_row, tree_row};
 ghost use Rattle.script_reader.specs.inside.Rows.{HasBegunWith, Leaves, Makes};
 
 use crate::numbers::{amount, number};
@@ -198,10 +198,9 @@ fn pick_row_of(script: &mut Script, place: &[u8]) -> Result<(), Refusal>
 
 fn lose_row_of(script: &mut Script) -> Result<(), Refusal>
     requires { script.old.form ≡ Form.Two }
-    ensures { Leaves (lose_row built_forms script.old) result script.new }
+    ensures { Leaves (lose_row script.old) result script.new }
 {
-    script.add_lose()?;
-    Err(Refusal::Why(Why::NotBuilt))
+    script.add_lose()
 }
 
 fn fail_row_of(alloc: Global, script: &mut Script, sub: &[u8]) -> Result<(), Refusal>
@@ -284,7 +283,7 @@ pub(crate) fn take_later(
     script: &mut Script,
     row: &ByteRecord,
 ) -> Result<(), Refusal>
-    ensures { Leaves (later_row built_forms script.old (fields_of row.now)) result script.new }
+    ensures { Leaves (later_row script.old (fields_of row.now)) result script.new }
 {
     let Some(word) = later_word(script.form(), field(row, 0)) else {
         return Err(Refusal::Why(Why::UnknownRow));

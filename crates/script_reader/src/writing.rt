@@ -4,9 +4,8 @@ ghost use Rattle.std.specs.Fmt.{signed_decimal};
 ghost use Rattle.std.specs.Str.{IsAscii};
 ghost use Rattle.tv_base.specs.declared.moving.TheConstants.{MOST_BYTES};
 ghost use Rattle.tx_trees.specs.Rebuilt.{name_at};
-ghost use Rattle.script_reader.specs.Builds.{Builds};
 ghost use Rattle.script_reader.specs.ReadBack.{IsReadAs};
-ghost use Rattle.script_reader.specs.Reading.{read_every, read_of};
+ghost use Rattle.script_reader.specs.Reading.{read_of};
 ghost use Rattle.script_reader.specs.inside.Numbers.{AreOf32Bits};
 ghost use Rattle.script_reader.specs.Words.{kind_word, tree_word};
 ghost use Rattle.tx_trees.specs.AsciiNames.{AreAsciiItems, AreAsciiTrees};
@@ -20,13 +19,10 @@ use tx_trees::{Deed, Form, ItemRow, Script, ScriptRow, Sub, SubOp, Tree, TreeKin
 
 /// The text of a script: the row of the second form, if it is of that, the `nodes` row, all items, all rows with their
 /// trees, and then all picks, each as a line. Running out of memory is the only error. A text of at most 8,388,608
-/// bytes is an equal script, where rows of every form are read. `read_script` reads it so too, if the script has no row
-/// that makes the coordinator forget, which is the one form that isn't built.
+/// bytes is read as an equal script.
 pub fn write_script(alloc: Global, script: &Script) -> Result<Text, NoMemory>
     ensures text { IfOk result (λ text. text ≡ written script.now) }
-    ensures every { IfOk result (λ text. length text ≤ MOST_BYTES → IsReadAs (read_every text) script.now) }
-    ensures read { IfOk result (λ text. length text ≤ MOST_BYTES → Builds script.now
-        → IsReadAs (read_of text) script.now) }
+    ensures read { IfOk result (λ text. length text ≤ MOST_BYTES → IsReadAs (read_of text) script.now) }
 {
     let mut text = Text::new(alloc);
     push_form(&mut text, script.form())?;

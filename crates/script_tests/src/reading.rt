@@ -1,6 +1,7 @@
-use script_reader::{ScriptFault, ScriptRefusal, read_script};
+use script_reader::{ScriptFault, ScriptRefusal, read_script, write_script};
 use std::alloc::Global;
 use std::test::Fail;
+use tv_base::Text;
 use tx_trees::Why;
 
 /// The fault of this text, which has one.
@@ -20,7 +21,6 @@ fn strict_trees_are_refused_by_their_own_reasons(rt: HostRuntime) -> Result<(), 
     let lowered: &[u8] = b"nodes,1\nitem,b,0,top,5\nstrict,k,0\ndraw,b,1\n";
     let set: &[u8] = b"nodes,1\nitem,c,0,bag,0\nstrict,k,0\nset,c,1\n";
     let added: &[u8] = b"nodes,1\nitem,a,0,sum,5\nstrict,k,0\nadd,a,1\n";
-    let lost: &[u8] = b"threev,2\nnodes,1\nstrict,k,0\nlose\n";
     for (text, row, why) in [
         (twice, 5, Why::ItemTwice),
         (later, 6, Why::ItemTwice),
@@ -28,9 +28,35 @@ fn strict_trees_are_refused_by_their_own_reasons(rt: HostRuntime) -> Result<(), 
         (lowered, 4, Why::WrongKind),
         (set, 4, Why::WrongKind),
         (added, 4, Why::WrongKind),
-        (lost, 4, Why::NotBuilt),
     ] {
         assert_eq!(rt; fault_of(rt.alloc(), text)?, ScriptFault { row, why });
     }
+    Ok(())
+}
+
+/// A script of the second form with so many `lose` rows.
+fn losing(alloc: Global, count: u32) -> Result<Text, Fail> {
+    let mut text = Text::new(alloc);
+    text.push_all(b"threev,2\nnodes,1\n")
+        .map_err(|_| "no memory")?;
+    for _ in 0..count {
+        text.push_all(b"lose\n").map_err(|_| "no memory")?;
+    }
+    Ok(text)
+}
+
+#[test]
+fn rows_that_forget_are_read_up_to_their_limit(rt: HostRuntime) -> Result<(), Fail> {
+    let most = losing(rt.alloc(), 100)?;
+    let script = read_script(rt.alloc(), most.bytes())?;
+    assert_eq!(rt; script.loses(), 100);
+    let again = write_script(rt.alloc(), &script).map_err(|_| "no memory")?;
+    assert_eq!(rt; again.bytes(), most.bytes());
+    let more = losing(rt.alloc(), 101)?;
+    let (row, why) = (103, Why::TooMany);
+    assert_eq!(rt;
+        fault_of(rt.alloc(), more.bytes())?,
+        ScriptFault { row, why }
+    );
     Ok(())
 }

@@ -6,7 +6,7 @@ use tv_base::{ItemNo, Name, NodeNo, SubNo, TreeNo};
 use tx_trees::{Deed, Form, ItemRow, Refusal, Script, TreeKind, Why};
 
 // A text that is no name at all: no call is made.
-const NO_CALL: Refusal = Refusal::Why(Why::NotBuilt);
+const NO_CALL: Refusal = Refusal::Why(Why::BadName);
 
 fn item_of(
     script: &mut Script,

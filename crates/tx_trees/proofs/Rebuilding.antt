@@ -354,7 +354,7 @@ pub advances_in-append : (xs ys : List ScriptRow) → advances_in (xs ++ ys) ≡
 advances_in-append [] ys = omega arith
 advances_in-append (x ∷ xs) ys = omega (arith, advances_in-append xs ys)
 
-loses_in-append : (xs ys : List ScriptRow) → loses_in (xs ++ ys) ≡ loses_in xs + loses_in ys
+pub loses_in-append : (xs ys : List ScriptRow) → loses_in (xs ++ ys) ≡ loses_in xs + loses_in ys
 loses_in-append [] ys = omega arith
 loses_in-append (x ∷ xs) ys = omega (arith, loses_in-append xs ys)
 

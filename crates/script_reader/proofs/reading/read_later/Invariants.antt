@@ -1,11 +1,10 @@
 use Rattle.std.proofs.Common.{◌≡◌, ◌+◌, ◌≤◌, length}
 use Rattle.script_reader.specs.Reading.{rows_from}
-use Rattle.script_reader.specs.Rows.{built_forms}
 use Rattle.script_reader.proofs.reading.read_later.Given as goal
 
 abbrev pub invariant-loop-script : goal.invariant-loop-script
 invariant-loop-script l = record {
-  so_far : rows_from built_forms l.fn.begun l.first l.fn.records ≡ rows_from built_forms l.script l.at l.records;
+  so_far : rows_from l.fn.begun l.first l.fn.records ≡ rows_from l.script l.at l.records;
   small : l.at + length l.records ≤ 8388611;
 }
 

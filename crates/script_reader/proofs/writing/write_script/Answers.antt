@@ -6,7 +6,7 @@ use Rattle.tx_trees.specs.AsciiNames.{AreAsciiItems, AreAsciiTrees}
 use Rattle.tx_trees.proofs.AsciiNames.{items_ascii, trees_ascii}
 use Rattle.script_reader.proofs.Pushed.{all_pushed, rows_are}
 use Rattle.script_reader.specs.inside.Numbers.{AreOf32Bits}
-use Rattle.script_reader.proofs.ReadBack.{every_read, text_read}
+use Rattle.script_reader.proofs.ReadBack.{text_read}
 use Rattle.script_reader.proofs.writing.write_script.Goals as goal
 
 pub push_items-requires : goal.push_items-requires
@@ -32,5 +32,4 @@ returns c =
     let picks = c.in_ok-push_picks.ensures.text ∙ ap (λ (x : List ℕ). c.push_rows.new.text ++ lines (map pick_fields x)) c.picks.ensures in
     let text = all_pushed s t c.push_form.new.text c.push_nodes.new.text c.push_items.new.text c.push_rows.new.text c.push_picks.new.text c.new-text.ensures form nodes items rows picks in
     let small : AreOf32Bits s.picks = subst AreOf32Bits c.picks.ensures c.in_ok-push_picks.ensures.small in
-    let every = every_read s c.push_picks.new.text c.nodes.ensures.valid small text in
-    record { text = text; every = every; read = λ few. text_read s c.push_picks.new.text (every few) }
+    record { text = text; read = text_read s c.push_picks.new.text c.nodes.ensures.valid small text }
