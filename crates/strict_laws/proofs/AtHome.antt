@@ -10,13 +10,13 @@ use Rattle.letter_types.specs.Kept.{brought}
 use Rattle.letter_types.specs.declared.acts.Act.{Act}
 use Rattle.letter_types.specs.declared.acts.Act.TheVariants as acts
 use Rattle.letter_types.specs.declared.bodies.Body.{Body}
-use Rattle.letter_types.specs.declared.bodies.Body.TheVariants.{Advanced, Go, Reply, Root, Sub as SubLetter, Done, Turn, Show, Sweep, AskDone, AskAsked, Decide, Decided, Release}
+use Rattle.letter_types.specs.declared.bodies.Body.TheVariants.{Advanced, Go, Reply, Root, Sub as SubLetter, Done, Turn, Show, Sweep, AskDone, AskAsked, Decide, Decided, Release, Ask, Order}
 use Rattle.letter_types.specs.declared.bodies.Notice.{Notice}
 use Rattle.letter_types.specs.declared.bodies.Notice.TheVariants as notices
 use Rattle.letter_types.specs.declared.entries.Entry.{Entry}
 use Rattle.letter_types.specs.declared.entries.Letter.{Letter}
 use Rattle.letter_types.specs.declared.votes.Vote.TheVariants.{Yes, No}
-use Rattle.letter_types.specs.Steps.{still}
+use Rattle.letter_types.specs.Steps.{Out, still}
 use Rattle.script_parts.specs.ScriptData.{ScriptData, home_of, node_of, ops_of, updates}
 use Rattle.script_parts.specs.Valid.{IsValid}
 use Rattle.script_parts.specs.declared.parts.ItemRow.{ItemRow}
@@ -26,7 +26,11 @@ use Rattle.script_parts.specs.declared.parts.TreeKind.TheVariants.{Update, Read,
 use Rattle.tree_home.specs.declared.homes.Answered.{Answered}
 use Rattle.letter_types.specs.declared.entries.Outgoing.{Outgoing}
 use Rattle.nc_locks.specs.Locks.{has_lock}
-use Rattle.world_model.specs.Client.{Client, client_finishes, client_row, next_after, nudge, submit, with_answer, with_end}
+use Rattle.world_model.proofs.Coordination.{of_forgetting, of_remembering}
+use Rattle.world_model.specs.Lossy.{is_lossy}
+use Rattle.world_model.specs.Epochs.{is_core_timely}
+use Rattle.world_model.proofs.Epochs.{ask_each, order_each}
+use Rattle.world_model.specs.Client.{Client, client_finishes, client_row, next_after, nudge, submit, with_answer, with_end, wanted}
 use Rattle.world_model.proofs.Orders.{no_acts}
 use Rattle.world_model.specs.Asked.{asked_ops, asked_version, tree_part}
 use Rattle.world_model.specs.Core.{Core}
@@ -37,8 +41,8 @@ use Rattle.world_model.specs.Named.{is_named, is_new, is_strict_at, is_timely, t
 use Rattle.world_model.specs.Node.{Effect, Node}
 use Rattle.world_model.specs.Notices.{act_of, values_of}
 use Rattle.world_model.specs.Reads.{getting}
-use Rattle.world_model.specs.Runs.{AtNode, AtCoordinator, AtClient, Moves, client_in, coordinator_in, keeping_in}
-use Rattle.world_model.specs.Strict.{CoreKeeping, can_make_at, core_by_kind, core_keeping, core_row, decided, decides_near, is_core_apt, is_of_strict, is_unheld, locks_by, none_refuses, note_core, noted_vote, refused_there, voting}
+use Rattle.world_model.specs.Runs.{AtNode, AtCoordinator, AtRestarting, AtClient, Moves, client_in, coordinator_in, keeping_in}
+use Rattle.world_model.specs.Strict.{CoreKeeping, can_make_at, core_by_kind, core_keeping, core_row, decided, decides_near, is_core_apt, is_of_script, is_unheld, locks_by, none_refuses, note_core, noted_vote, refused_there, voting}
 use Rattle.world_model.specs.Updates.{touching}
 use Rattle.world_model.specs.Votes.{vote_of}
 use Rattle.script_parts.specs.Counts.{has_strict}
@@ -121,16 +125,17 @@ row_here s p from (Show v) c named = (tt, tt)
 row_here s p from (Sweep v) c named = (tt, tt)
 row_here s p from (AskDone v k) c named = tt
 row_here s p from (AskAsked v k) c named = tt
+row_here s p from (Order e what v) c named =
+    order_each (λ (o : Out Core). Here s p o.acts) s p from e what v c tt tt (λ is. turned s p v.0 (nat_lt c.node.turns.update.0 v.0))
+    (λ is new. (tt, tt)) (λ is new. (tt, tt))
+row_here s p from (Ask e) c named = ask_each (λ (o : Out Core). Here s p o.acts) s e c tt tt
 row_here s p from _ c named = tt
 
 -- what a node does with a letter
 named_of : (s : ScriptData) (p : ℕ) (c : Core) (l : Letter) → is_core_apt s p c l ≡ true → is_named s p l.from.0 l.body ≡ true
 named_of s p c l apt =
-    second (has_strict_or l.body) (is_named s p l.from.0 l.body)
-    (is_new s c.node l.body && is_unheld l.body c.holds && (is_timely s c.node l.body && decides_near s c.node l.body && can_make_at s p c l.body)) apt where
-      has_strict_or : Body → Bool
-      has_strict_or b = has_strict s || not (is_of_strict b)
-
+    second (is_of_script s l.body) (is_named s p l.from.0 l.body)
+    (is_new s c.node l.body && is_unheld l.body c.holds && (is_core_timely s c l.body && decides_near s c.node l.body && can_make_at s p c l.body)) apt where
       second : (a b d : Bool) → (a && (b && d)) ≡ true → b ≡ true
       second true true d is = refl
       second true false d is = absurd (cc is)
@@ -170,15 +175,20 @@ answer_here s p c t false = tt
 client_here : (s : ScriptData) (p : ℕ) (c : Client) (body : Body) → Here s p (client_row s c body).acts
 client_here s p c Go = submit_here s p c [] (client_finishes s (next_after s c) c) refl
 client_here s p c (Reply t v answer) = answer_here s p c t.0 (nat_lt t.0 (length s.trees))
-client_here s p c (Advanced v) = submit_here s p (with_end c) [] (client_finishes s (next_after s (with_end c)) (with_end c)) refl
+client_here s p c (Advanced v) =
+    let d = with_end s v c in submit_here s p d [] (client_finishes s (next_after s d) d) refl
+client_here s p c (Ask e) = asked_here (is_lossy s) where
+  asked_here : (test : Bool) → Here s p (if test then wanted s e c else still c).acts
+  asked_here true = tt
+  asked_here false = tt
 client_here s p c _ = tt
 
 entry_here : (s : ScriptData) (past : List Entry) (e : Entry) → Moves s past e → Here s e.actor.0 e.acts
 entry_here s past e (AtNode lt says) =
     let n = keeping_in s past e.actor.0 in
     subst (Here s e.actor.0) (sym says.1) (brought_here s e.actor.0 e.took n (brought n.kept e.took e.took.body))
-entry_here s past e (AtCoordinator at says) =
-    subst (Here s e.actor.0) (sym (says.1 ∙ no_acts (coordinator_in s past) e.took.from.0 e.took.body)) tt
+entry_here s past e (AtCoordinator at keeps says) = subst (Here s e.actor.0) (sym (of_remembering s past e keeps says).acts) tt
+entry_here s past e (AtRestarting at loses says) = subst (Here s e.actor.0) (sym (of_forgetting s past e loses says).acts) tt
 entry_here s past e (AtClient at says) =
     subst (Here s e.actor.0) (sym says.1) (client_here s e.actor.0 (client_in s past) e.took.body)
 

@@ -10,7 +10,7 @@ use Rattle.item_versions.specs.Table.{Table}
 use Rattle.letter_types.specs.declared.acts.Act.{Act}
 use Rattle.letter_types.specs.declared.acts.Act.TheVariants as acts
 use Rattle.letter_types.specs.declared.bodies.Body.{Body}
-use Rattle.letter_types.specs.declared.bodies.Body.TheVariants.{Root, Sub as SubLetter, Done, Turn, Show, Sweep, Decide, Decided, Release, AskDone, AskAsked}
+use Rattle.letter_types.specs.declared.bodies.Body.TheVariants.{Root, Sub as SubLetter, Done, Turn, Show, Sweep, Decide, Decided, Release, AskDone, AskAsked, Ask, Order}
 use Rattle.letter_types.specs.declared.bodies.Notice.{Notice}
 use Rattle.letter_types.specs.declared.entries.Letter.{Letter}
 use Rattle.letter_types.specs.declared.votes.Vote.{Vote}
@@ -29,6 +29,8 @@ use Rattle.script_parts.specs.declared.parts.TreeKind.{TreeKind}
 use Rattle.script_parts.specs.declared.parts.TreeKind.TheVariants.{Update, Read, Strict}
 use Rattle.tree_home.specs.declared.homes.Answered.{Answered}
 use Rattle.tree_home.specs.Homes.{Gets}
+use Rattle.world_model.specs.Epochs.{is_core_timely}
+use Rattle.world_model.proofs.Epochs.{ask_each, order_each}
 use Rattle.world_model.specs.Apt.{can_make}
 use Rattle.world_model.specs.Asked.{tree_part}
 use Rattle.world_model.specs.Core.{Core}
@@ -36,7 +38,7 @@ use Rattle.world_model.specs.Done.{TreeOut, note_part, turned_if}
 use Rattle.world_model.specs.Named.{is_named, is_new, is_strict_at, is_timely, tree_kind_at}
 use Rattle.world_model.specs.Notices.{act_of, values_of}
 use Rattle.world_model.specs.Reads.{gets}
-use Rattle.world_model.specs.Strict.{can_make_at, core_by_kind, core_row, decided, decides_near, is_core_apt, is_of_strict, is_unheld, locks_by, none_refuses, note_core, noted_vote, notice_by, read_core, refused_there, update_core, voted_core, voting}
+use Rattle.world_model.specs.Strict.{can_make_at, core_by_kind, core_row, decided, decides_near, is_core_apt, is_of_script, is_unheld, locks_by, none_refuses, note_core, noted_vote, notice_by, read_core, refused_there, update_core, voted_core, voting}
 use Rattle.world_model.specs.Updates.{can_touch, can_update, may_make, table_after_deed}
 use Rattle.world_model.specs.Votes.{mode_wanted, vote_of, wanted_by}
 use Rattle.board_rules.specs.Locked.{locks_after_act, needed_by}
@@ -188,6 +190,11 @@ noted s from t k v notice c true is =
     rw is (decided_locks s d o o.answered ∙ sym (decided_acts s d o o.answered c.locks))
 noted s from t k v notice c false is = rw is refl
 
+-- a turn leaves the locks
+after_turn : (s : ScriptData) (ls : List Lock) (raises : Bool) (v : ℕ) → locks_after_acts s ls (turned_if raises v) ≡ ls
+after_turn s ls true v = refl
+after_turn s ls false v = refl
+
 -- a letter of this body that is apt
 row_follows : (s : ScriptData) (p from : ℕ) (body : Body) (c : Core) → has_strict s ≡ true → can_make_at s p c body ≡ true
     → Follows s c (core_row s p c from body)
@@ -197,23 +204,23 @@ row_follows s p from (Done t k v notice) c strict can = noted s from t k v notic
 row_follows s p from (Decide t v commit) c strict can = refl
 row_follows s p from (Decided t v) c strict can = refl
 row_follows s p from (Release t) c strict can = refl
-row_follows s p from (Turn v) c strict can =
-    sym (after_one s c.locks (nat_lt c.node.turns.update.0 v.0) v.0) where
-      after_one : (s : ScriptData) (ls : List Lock) (raises : Bool) (v : ℕ) → locks_after_acts s ls (turned_if raises v) ≡ ls
-      after_one s ls true v = refl
-      after_one s ls false v = refl
+row_follows s p from (Turn v) c strict can = sym (after_turn s c.locks (nat_lt c.node.turns.update.0 v.0) v.0)
 row_follows s p from (Show v) c strict can = refl
 row_follows s p from (Sweep v) c strict can = refl
 row_follows s p from (AskDone v k) c strict can = refl
 row_follows s p from (AskAsked v k) c strict can = refl
+row_follows s p from (Order e what v) c strict can =
+    order_each (Follows s c) s p from e what v c refl refl (λ is. sym (after_turn s c.locks (nat_lt c.node.turns.update.0 v.0) v.0))
+    (λ is new. refl) (λ is new. refl)
+row_follows s p from (Ask e) c strict can = ask_each (Follows s c) s e c refl refl
 row_follows s p from _ c strict can = refl
 
 step_follows : (s : ScriptData) (p : ℕ) (c : Core) (l : Letter) (test : Bool) → has_strict s ≡ true → is_core_apt s p c l ≡ test
     → Follows s c (if test then core_row s p c l.from.0 l.body else still c)
 step_follows s p c l true strict is =
     row_follows s p l.from.0 l.body c strict
-    (last (has_strict s || not (is_of_strict l.body)) (is_named s p l.from.0 l.body) (is_new s c.node l.body) (is_unheld l.body c.holds)
-    (is_timely s c.node l.body) (decides_near s c.node l.body) (can_make_at s p c l.body) is) where
+    (last (is_of_script s l.body) (is_named s p l.from.0 l.body) (is_new s c.node l.body) (is_unheld l.body c.holds)
+    (is_core_timely s c l.body) (decides_near s c.node l.body) (can_make_at s p c l.body) is) where
       last : (a b d e f g h : Bool) → (a && (b && (d && e && (f && g && h)))) ≡ true → h ≡ true
       last a b d e f g h all = grind arith
 step_follows s p c l false strict is = refl

@@ -8,7 +8,7 @@ use Rattle.tv_base.specs.declared.numbers.Version.{Version}
 use Rattle.letter_types.specs.Kept.{brought}
 use Rattle.letter_types.specs.Steps.{Out, still}
 use Rattle.letter_types.specs.declared.bodies.Body.{Body}
-use Rattle.letter_types.specs.declared.bodies.Body.TheVariants.{Root, Sub as SubLetter, Done, Decide, Decided, Release}
+use Rattle.letter_types.specs.declared.bodies.Body.TheVariants.{Root, Sub as SubLetter, Done, Decide, Decided, Release, Ask, Order}
 use Rattle.letter_types.specs.declared.bodies.Notice.{Notice}
 use Rattle.letter_types.specs.declared.entries.Entry.{Entry}
 use Rattle.letter_types.specs.declared.entries.Letter.{Letter}
@@ -18,6 +18,7 @@ use Rattle.tree_home.specs.declared.homes.Held.{Held}
 use Rattle.script_parts.specs.ScriptData.{ScriptData}
 use Rattle.script_parts.specs.declared.parts.TreeKind.{TreeKind}
 use Rattle.script_parts.specs.declared.parts.TreeKind.TheVariants.{Update, Read, Strict}
+use Rattle.world_model.proofs.Epochs.{ask_each, order_each}
 use Rattle.world_model.specs.Asked.{asked_ops, asked_version, tree_part}
 use Rattle.world_model.specs.Core.{Core}
 use Rattle.world_model.specs.Done.{TreeOut, note_part}
@@ -115,6 +116,9 @@ core_own s p from (Done t k v notice) c = note_own s from t k v notice c
 core_own s p from (Decide t v commit) c = λ own. own
 core_own s p from (Decided t v) c = λ own. acked_own t c.holds own
 core_own s p from (Release t) c = λ own. own
+core_own s p from (Order e what v) c =
+    order_each (KeepsOwn c) s p from e what v c (λ own. own) (λ own. own) (λ is own. own) (λ is new own. own) (λ is new own. own)
+core_own s p from (Ask e) c = ask_each (KeepsOwn c) s e c (λ own. own) (λ own. own)
 core_own s p from _ c = λ own. own
 
 -- a letter that is kept leaves them

@@ -10,7 +10,7 @@ use Rattle.tv_base.specs.declared.numbers.SubNo.{SubNo}
 use Rattle.tv_base.specs.declared.numbers.TreeNo.{TreeNo}
 use Rattle.tv_base.specs.declared.numbers.Version.{Version}
 use Rattle.letter_types.specs.declared.bodies.Body.{Body}
-use Rattle.letter_types.specs.declared.bodies.Body.TheVariants.{Root, Sub as SubLetter, Done, Turn, Show, Sweep, AskDone, AskAsked, Decide, Decided, Release}
+use Rattle.letter_types.specs.declared.bodies.Body.TheVariants.{Root, Sub as SubLetter, Done, Turn, Show, Sweep, AskDone, AskAsked, Decide, Decided, Release, Ask, Order}
 use Rattle.letter_types.specs.declared.bodies.Notice.{Notice}
 use Rattle.letter_types.specs.declared.votes.Vote.{Vote}
 use Rattle.letter_types.specs.declared.votes.Vote.TheVariants.{Yes, No}
@@ -27,6 +27,8 @@ use Rattle.script_parts.specs.ScriptData.{ScriptData}
 use Rattle.script_parts.specs.declared.parts.SubOp.{SubOp}
 use Rattle.script_parts.specs.declared.parts.TreeKind.{TreeKind}
 use Rattle.script_parts.specs.declared.parts.TreeKind.TheVariants.{Update, Read, Strict}
+use Rattle.letter_types.specs.Steps.{Out}
+use Rattle.world_model.proofs.Epochs.{ask_each, order_each}
 use Rattle.world_model.specs.Asked.{asked_ops, asked_version, tree_part}
 use Rattle.world_model.specs.Core.{Core}
 use Rattle.world_model.specs.Done.{note_part}
@@ -189,6 +191,13 @@ row_comes s p from (Show v) c = stood s c (Show v) _ refl (λ t gone. gone)
 row_comes s p from (Sweep v) c = stood s c (Sweep v) _ refl (λ t gone. gone)
 row_comes s p from (AskDone v k) c = stood s c (AskDone v k) _ refl (λ t gone. gone)
 row_comes s p from (AskAsked v k) c = stood s c (AskAsked v k) _ refl (λ t gone. gone)
+row_comes s p from (Order e what v) c =
+    let same = λ (d : Core) (locks : d.locks ≡ c.locks). stood s c (Order e what v) d locks (λ t gone. gone) in
+    order_each (λ (o : Out Core). Comes s c (Order e what v) o.state) s p from e what v c (same _ refl) (same _ refl) (λ is. same _ refl)
+    (λ is new. same _ refl) (λ is new. same _ refl)
+row_comes s p from (Ask e) c =
+    let same = λ (d : Core) (locks : d.locks ≡ c.locks). stood s c (Ask e) d locks (λ t gone. gone) in
+    ask_each (λ (o : Out Core). Comes s c (Ask e) o.state) s e c (same _ refl) (same _ refl)
 row_comes s p from _ c = stood s c _ _ refl (λ t gone. gone)
 
 -- And a hold that isn't let go stays.
@@ -246,4 +255,10 @@ row_stays s p from (Show v) c = stays c (Show v) _ refl
 row_stays s p from (Sweep v) c = stays c (Sweep v) _ refl
 row_stays s p from (AskDone v k) c = stays c (AskDone v k) _ refl
 row_stays s p from (AskAsked v k) c = stays c (AskAsked v k) _ refl
+row_stays s p from (Order e what v) c =
+    order_each (λ (o : Out Core). Stays c (Order e what v) o.state) s p from e what v c (stays c (Order e what v) _ refl)
+    (stays c (Order e what v) _ refl) (λ is. stays c (Order e what v) _ refl) (λ is new. stays c (Order e what v) _ refl)
+    (λ is new. stays c (Order e what v) _ refl)
+row_stays s p from (Ask e) c =
+    ask_each (λ (o : Out Core). Stays c (Ask e) o.state) s e c (stays c (Ask e) _ refl) (stays c (Ask e) _ refl)
 row_stays s p from other c = stays c other _ refl

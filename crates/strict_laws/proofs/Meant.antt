@@ -9,15 +9,16 @@ use Rattle.letter_types.specs.declared.entries.LetterId.{LetterId}
 use Rattle.letter_types.specs.declared.entries.Outgoing.{Outgoing}
 use Rattle.letter_types.specs.declared.kept.KeptLetter.{KeptLetter}
 use Rattle.letter_types.specs.declared.kept.Why.{Why}
-use Rattle.letter_types.specs.Kept.{brought, kept_without, wakes, wakes_by}
+use Rattle.letter_types.specs.Kept.{brought, kept_without, wakes}
 use Rattle.letter_types.specs.Steps.{still}
 use Rattle.script_parts.specs.Counts.{has_strict}
 use Rattle.script_parts.specs.ScriptData.{ScriptData}
 use Rattle.script_parts.specs.Valid.{IsValid}
+use Rattle.world_model.proofs.Coordination.{of_forgetting, of_remembering}
 use Rattle.world_model.specs.Counts.{Each}
-use Rattle.world_model.specs.Keeping.{AreKeptAt, KeepingNode, brought_row, is_apt_at, kept_row}
+use Rattle.world_model.specs.Keeping.{AreKeptAt, KeepingNode, brought_row, is_apt_at, kept_row, woken_by}
 use Rattle.world_model.specs.Kept.{outstanding}
-use Rattle.world_model.specs.Runs.{AtClient, AtCoordinator, AtNode, MayFollow, Moves, client_in, coordinator_in, keeping_in}
+use Rattle.world_model.specs.Runs.{AtClient, AtCoordinator, AtNode, AtRestarting, MayFollow, Moves, client_in, coordinator_in, keeping_in}
 use Rattle.world_model.specs.Strict.{CoreKeeping, core_keeping, core_row, is_core_apt}
 use Rattle.world_model.proofs.EachOutstanding.{EachKept, each_brought, each_first, each_kept, each_outstanding, each_took, kept_meanwhile}
 use Rattle.world_model.proofs.Every.{each_append, each_map}
@@ -57,9 +58,9 @@ row_sends : (s : ScriptData) (p : ℕ) (l r : Letter) (n : KeepingNode) (o : Opt
 row_sends s p l r n (Some k) valid st to meant = tt
 row_sends s p l r n None valid st to meant =
     let here : IsMeant s r.from.0 p r.body = subst (λ (q : ℕ). IsMeant s r.from.0 q r.body) to meant in
-    each_append (of (IsMeant s p)) (core_row s p n.core r.from.0 r.body).sent (wakes (wakes_by r.body) (kept_without n.kept l.body))
+    each_append (of (IsMeant s p)) (core_row s p n.core r.from.0 r.body).sent (wakes (woken_by n.core r.body) (kept_without n.kept l.body))
     (core_meant s p r.from.0 n.core r.body st.below st.holds here)
-    (node_wakes s p n (wakes_by r.body) l.body (has_strict s) valid st refl)
+    (node_wakes s p n (woken_by n.core r.body) l.body (has_strict s) valid st refl)
 
 apt_sends : (s : ScriptData) (p : ℕ) (l r : Letter) (n : KeepingNode) (test : Bool) → IsValid s → Stands s p n → IsLetterMeant s r
     → is_apt_at s p n r ≡ test
@@ -93,9 +94,8 @@ entry_sends s past e valid m all (AtNode lt says) =
     subst (AreMeant s p) (sym says.0)
     (brought_sends s p e.took n (brought n.kept e.took e.took.body) valid (stands s past p lt all)
     (each_took (IsLetterMeant s) s past e m all) refl)
-entry_sends s past e valid m all (AtCoordinator at says) =
-    subst (AreMeant s e.actor.0) (sym says.0)
-    (coordinator_meant s (coordinator_in s past) e.actor.0 e.took.from.0 e.took.body (coordinator_nodes s past))
+entry_sends s past e valid m all (AtCoordinator at keeps says) = coordinator_meant s e (of_remembering s past e keeps says)
+entry_sends s past e valid m all (AtRestarting at loses says) = coordinator_meant s e (of_forgetting s past e loses says)
 entry_sends s past e valid m all (AtClient at says) =
     subst (AreMeant s e.actor.0) (sym says.0) (client_meant s (client_in s past) e.actor.0 e.took.body valid)
 

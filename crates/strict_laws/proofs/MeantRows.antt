@@ -1,17 +1,18 @@
 -- What each actor sends is meant, by rows.
-use Rattle.std.proofs.Common.{◌≡◌, ℕ, suc, ◌+◌, ◌<◌, ◌==◌, ◌&&◌, Bool, true, false, List, [], ◌∷◌, length, take, drop, refl, sym, subst, ◌∙◌, arith, Option, Some, None}
+use Rattle.std.proofs.Common.{◌≡◌, ℕ, suc, ◌+◌, ◌<◌, ◌≤◌, ◌==◌, ◌&&◌, Bool, true, false, not, ◌⊎◌, List, [], ◌∷◌, length, take, drop, refl, sym, subst, ◌∙◌, arith, Option, Some, None}
 use Rattle.std.specs.Prelude.{if◌then◌else◌, nat_lt, slice_get}
 use Rattle.std.proofs.lemmas.Bool.Decides.{nat_tests}
 use Rattle.tv_base.specs.declared.numbers.SubNo.{SubNo}
 use Rattle.tv_base.specs.declared.numbers.TreeNo.{TreeNo}
 use Rattle.letter_types.specs.declared.bodies.Body.{Body}
-use Rattle.letter_types.specs.declared.bodies.Body.TheVariants.{Go, Root, Sub as SubLetter, Done, Reply, Decide, Decided, Turn, Show, Sweep, AskDone, AskAsked, Advanced, Wake}
+use Rattle.letter_types.specs.declared.bodies.Body.TheVariants.{Go, Root, Sub as SubLetter, Done, Reply, Decide, Decided, Turn, Show, Sweep, AskDone, AskAsked, Advanced, Wake, Advance, AdvanceNo, Ask, Order}
+use Rattle.letter_types.specs.declared.entries.Entry.{Entry}
 use Rattle.letter_types.specs.declared.entries.Outgoing.{Outgoing}
 use Rattle.letter_types.specs.declared.kept.KeptLetter.{KeptLetter}
 use Rattle.letter_types.specs.declared.kept.Why.{Why}
 use Rattle.letter_types.specs.Kept.{wakes}
 use Rattle.letter_types.specs.Steps.{Out, still}
-use Rattle.script_parts.specs.Counts.{has_strict}
+use Rattle.script_parts.specs.Counts.{has_strict, loses_in}
 use Rattle.script_parts.specs.ScriptData.{ScriptData, home_of, node_of, sub_at, subs_at}
 use Rattle.script_parts.specs.Valid.{IsTree, IsValid, NamesInOrder}
 use Rattle.script_parts.specs.declared.parts.ScriptRow.{ScriptRow}
@@ -20,21 +21,23 @@ use Rattle.script_parts.specs.declared.parts.Sub.{Sub}
 use Rattle.script_parts.specs.declared.parts.Tree.{Tree}
 use Rattle.script_parts.proofs.SubsOf.{all_at, names_end}
 use Rattle.world_model.specs.Children.{sub_letters}
-use Rattle.world_model.specs.Client.{Client, client_row, nudge, rows_letters, submit, submitted, with_answer, with_end}
-use Rattle.world_model.specs.Coordinator.{Coordinator, coordinator_row}
+use Rattle.world_model.specs.Client.{Client, advance_letter, advances_sent, client_row, nudge, rows_letters, submit, submitted, wanted, with_answer, with_end}
+use Rattle.world_model.specs.Lossy.{is_lossy}
 use Rattle.world_model.specs.Core.{Core}
 use Rattle.world_model.specs.Counts.{Each}
 use Rattle.world_model.specs.Keeping.{AreKeptAt, AsksFor, IsKeptAt}
 use Rattle.world_model.specs.Named.{is_strict_at, tree_kind_at}
 use Rattle.world_model.specs.Strict.{core_row}
 use Rattle.world_model.proofs.EachOutstanding.{EachKept}
-use Rattle.world_model.proofs.Every.{each_append}
+use Rattle.world_model.proofs.Coordination.{IsCoordinated, IsOfCoordinator}
+use Rattle.world_model.proofs.Every.{each_append, each_map}
 use Rattle.world_model.proofs.Fits.{each_drop, each_take}
-use Rattle.world_model.proofs.Orders.{OfOrders, coordinator_each, of}
+use Rattle.world_model.proofs.Orders.{of}
 use Rattle.world_model.proofs.Scripts.{get_below, get_some}
 use Rattle.strict_laws.specs.Meant.{IsLetterMeant, IsMeant}
 use Rattle.strict_laws.proofs.HeldOwn.{HoldsOwn, acked_tree}
 use Rattle.strict_laws.proofs.RowSends.{OfRow, OfTree, core_each}
+use Rattle.world_model.proofs.Sends.{asked_each, advance_each}
 
 -- all that an actor sends is meant
 abbrev pub AreMeant : ScriptData → ℕ → List Outgoing → Type 0
@@ -122,11 +125,13 @@ row_meant s p from c (Decided t v) below own meant = λ a answer is. (
   subst (λ (u : TreeNo). u.0 < length s.trees) (sym (acked_tree t c.holds a own is)) (strict_below s t.0 meant.strict),
   refl,
 )
-row_meant s p from c (Turn v) below own meant = (below, refl)
-row_meant s p from c (Show v) below own meant = (below, refl)
-row_meant s p from c (Sweep v) below own meant = (below, refl)
+row_meant s p from c (Turn v) below own meant = ((below, refl), meant.1)
+row_meant s p from c (Show v) below own meant = ((below, refl), meant.1)
+row_meant s p from c (Sweep v) below own meant = ((below, refl), meant.1)
 row_meant s p from c (AskDone v k) below own meant = λ row is. ((below, refl), is)
 row_meant s p from c (AskAsked v k) below own meant = λ row is. ((below, refl), is)
+row_meant s p from c (Order e what v) below own meant = ((below, refl), meant.1)
+row_meant s p from c (Ask e) below own meant = λ u r l. ((below, refl), meant.1)
 row_meant s p from c _ below own meant = tt
 
 -- what a core sends
@@ -180,50 +185,63 @@ wakes_meant s p test (x ∷ xs) valid some below at meant =
     one_wake s p test x xs (test x.why) valid some below at.0 meant.0 (wakes_meant s p test xs valid some below at.1 meant.1)
 
 -- The coordinator.
-orders_meant : (s : ScriptData) (from n : ℕ) → n ≡ s.nodes → OfOrders (IsMeant s from) n
-orders_meant s from n is = record {
-  turn = λ to v lt. omega (arith, lt, is);
-  show = λ to v lt. omega (arith, lt, is);
-  sweep = λ to v lt. omega (arith, lt, is);
-  ask_done = λ to v k lt. omega (arith, lt, is);
-  ask_asked = λ to v k lt. omega (arith, lt, is);
-  advanced = λ v. omega (arith, is);
-}
+coordinated_meant : (s : ScriptData) (from to : ℕ) (body : Body) → IsOfCoordinator s to body → IsMeant s from to body
+coordinated_meant s from to (Turn v) is = is
+coordinated_meant s from to (Show v) is = is
+coordinated_meant s from to (Sweep v) is = is
+coordinated_meant s from to (Order e what v) is = is
+coordinated_meant s from to (Ask e) is = is
+coordinated_meant s from to (AskDone v k) is = is
+coordinated_meant s from to (AskAsked v k) is = is
+coordinated_meant s from to (Advanced v) is = is
+coordinated_meant s from to Go is = absurd is
+coordinated_meant s from to _ is = absurd is
 
-pub coordinator_meant : (s : ScriptData) (c : Coordinator) (at from : ℕ) (body : Body) → c.nodes ≡ s.nodes
-    → AreMeant s at (coordinator_row c from body).sent
-coordinator_meant s c at from body is = coordinator_each (IsMeant s at) c (orders_meant s at c.nodes is) from body
+pub coordinator_meant : (s : ScriptData) (e : Entry) → IsCoordinated s e → AreMeant s e.actor.0 e.sent
+coordinator_meant s e made =
+    each_map (of (IsOfCoordinator s)) (of (IsMeant s e.actor.0)) e.sent (λ o is. coordinated_meant s e.actor.0 o.to.0 o.body is) made.sent
 
 -- The client.
 
--- a row that names a tree names one of the script
+-- a row that names a tree names one of the script, and a row that makes the coordinator forget makes the script one that does
 abbrev pub NamesTree : ScriptData → ScriptRow → Type 0
 NamesTree s (TreeRow t) = t.0 < length s.trees
+NamesTree s LoseRow = is_lossy s ≡ true
 NamesTree s SettleRow = Unit {0}
 NamesTree s _ = Unit {0}
 
-pub rows_name : (s : ScriptData) (i : ℕ) (rows : List ScriptRow) → NamesInOrder i (length s.trees) rows → Each (NamesTree s) rows
-rows_name s i [] names = tt
-rows_name s i (TreeRow t ∷ rows) names =
-    (omega (arith, names.0, names_end (i + 1) (length s.trees) rows names.1), rows_name s (i + 1) rows names.1)
-rows_name s i (AdvanceRow ∷ rows) names = (tt, rows_name s i rows names)
-rows_name s i (LoseRow ∷ rows) names = (tt, rows_name s i rows names)
-rows_name s i (SettleRow ∷ rows) names = (tt, rows_name s i rows names)
+lossy_by : (n : ℕ) → 1 ≤ n → not (n == 0) ≡ true
+lossy_by n some = grind (arith, nat_tests)
 
-rows_meant : (s : ScriptData) (from : ℕ) (rows : List ScriptRow) → Each (NamesTree s) rows → AreMeant s from (rows_letters s rows)
-rows_meant s from [] all = tt
-rows_meant s from (TreeRow t ∷ rows) all = (record { tree = all.0; home = refl }, rows_meant s from rows all.1)
-rows_meant s from (AdvanceRow ∷ rows) all = (refl, rows_meant s from rows all.1)
-rows_meant s from (LoseRow ∷ rows) all = rows_meant s from rows all.1
-rows_meant s from (SettleRow ∷ rows) all = rows_meant s from rows all.1
+rows_from : (s : ScriptData) (i : ℕ) (rows : List ScriptRow) → NamesInOrder i (length s.trees) rows → loses_in rows ≤ loses_in s.rows
+    → Each (NamesTree s) rows
+rows_from s i [] names le = tt
+rows_from s i (TreeRow t ∷ rows) names le =
+    (omega (arith, names.0, names_end (i + 1) (length s.trees) rows names.1), rows_from s (i + 1) rows names.1 (omega (arith, le)))
+rows_from s i (AdvanceRow ∷ rows) names le = (tt, rows_from s i rows names (omega (arith, le)))
+rows_from s i (LoseRow ∷ rows) names le = (lossy_by (loses_in s.rows) (omega (arith, le)), rows_from s i rows names (omega (arith, le)))
+rows_from s i (SettleRow ∷ rows) names le = (tt, rows_from s i rows names (omega (arith, le)))
+
+pub rows_name : (s : ScriptData) → IsValid s → Each (NamesTree s) s.rows
+rows_name s valid = rows_from s 0 s.rows valid.rows (omega arith)
+
+advance_meant : (s : ScriptData) (from k : ℕ) → IsMeant s from s.nodes (advance_letter s k)
+advance_meant s from k = advance_each (IsMeant s from s.nodes) s k (λ is. (refl, is)) (λ is. (refl, is))
+
+rows_meant : (s : ScriptData) (from k : ℕ) (rows : List ScriptRow) → Each (NamesTree s) rows → AreMeant s from (rows_letters s k rows)
+rows_meant s from k [] all = tt
+rows_meant s from k (TreeRow t ∷ rows) all = (record { tree = all.0; home = refl }, rows_meant s from k rows all.1)
+rows_meant s from k (AdvanceRow ∷ rows) all = (advance_meant s from k, rows_meant s from (k + 1) rows all.1)
+rows_meant s from k (LoseRow ∷ rows) all = ((refl, all.0), rows_meant s from k rows all.1)
+rows_meant s from k (SettleRow ∷ rows) all = rows_meant s from k rows all.1
 
 submit_meant : (s : ScriptData) (c : Client) (from : ℕ) (first : List Outgoing) → IsValid s → AreMeant s from first
     → AreMeant s from (submit s c first).sent
 submit_meant s c from first valid all =
     let n = submitted c (take c.next s.rows) (drop c.next s.rows) in
-    each_append (of (IsMeant s from)) first (rows_letters s (take n (drop c.next s.rows))) all
-    (rows_meant s from (take n (drop c.next s.rows))
-    (each_take (NamesTree s) n (drop c.next s.rows) (each_drop (NamesTree s) c.next s.rows (rows_name s 0 s.rows valid.rows))))
+    each_append (of (IsMeant s from)) first (rows_letters s (advances_sent s c) (take n (drop c.next s.rows))) all
+    (rows_meant s from (advances_sent s c) (take n (drop c.next s.rows))
+    (each_take (NamesTree s) n (drop c.next s.rows) (each_drop (NamesTree s) c.next s.rows (rows_name s valid))))
 
 pick_meant : (s : ScriptData) (from : ℕ) (b : Bool) (x y : Out Client) → AreMeant s from x.sent → AreMeant s from y.sent
     → AreMeant s from (if b then x else y).sent
@@ -235,5 +253,6 @@ client_meant s c from Go valid = submit_meant s c from [] valid tt
 client_meant s c from (Reply t v answer) valid =
     pick_meant s from (nat_lt t.0 (length s.trees)) (submit s (with_answer t.0 c) (nudge s ∷ [])) (still c)
     (submit_meant s (with_answer t.0 c) from (nudge s ∷ []) valid (refl, tt)) tt
-client_meant s c from (Advanced v) valid = submit_meant s (with_end c) from [] valid tt
+client_meant s c from (Advanced v) valid = submit_meant s (with_end s v c) from [] valid tt
+client_meant s c from (Ask e) valid = asked_each (λ (o : Out Client). AreMeant s from o.sent) s c e tt (λ is. ((refl, is), tt))
 client_meant s c from _ valid = tt

@@ -11,11 +11,11 @@ use Rattle.tv_base.specs.declared.numbers.Version.{Version}
 use Rattle.item_versions.specs.Table.{Table}
 use Rattle.letter_types.specs.Kept.{brought}
 use Rattle.letter_types.specs.declared.bodies.Body.{Body}
-use Rattle.letter_types.specs.declared.bodies.Body.TheVariants.{Root, Sub as SubLetter, Done, Turn, Show, Sweep, AskDone, AskAsked, Decide, Decided, Release}
+use Rattle.letter_types.specs.declared.bodies.Body.TheVariants.{Root, Sub as SubLetter, Done, Turn, Show, Sweep, AskDone, AskAsked, Decide, Decided, Release, Ask, Order}
 use Rattle.letter_types.specs.declared.bodies.Notice.{Notice}
 use Rattle.letter_types.specs.declared.entries.Letter.{Letter}
 use Rattle.letter_types.specs.declared.votes.Cause.{Cause}
-use Rattle.letter_types.specs.Steps.{still}
+use Rattle.letter_types.specs.Steps.{Out, still}
 use Rattle.nc_locks.specs.declared.modes.Lock.{Lock}
 use Rattle.nc_locks.specs.declared.modes.Met.{Met}
 use Rattle.nc_locks.specs.declared.modes.Mode.{Mode}
@@ -28,6 +28,7 @@ use Rattle.script_parts.specs.ScriptData.{ScriptData, ops_of}
 use Rattle.script_parts.specs.declared.parts.SubOp.{SubOp}
 use Rattle.script_parts.specs.declared.parts.TreeKind.{TreeKind}
 use Rattle.script_parts.specs.declared.parts.TreeKind.TheVariants.{Update, Read, Strict}
+use Rattle.world_model.proofs.Epochs.{ask_each, order_each}
 use Rattle.world_model.specs.Asked.{tree_part}
 use Rattle.world_model.specs.Core.{Core}
 use Rattle.world_model.specs.Done.{note_part}
@@ -177,6 +178,9 @@ row_apart s p from (Show v) c old is = old
 row_apart s p from (Sweep v) c old is = old
 row_apart s p from (AskDone v k) c old is = old
 row_apart s p from (AskAsked v k) c old is = old
+row_apart s p from (Order e what v) c old is =
+    order_each (λ (o : Out Core). HaveNoConflict o.state.locks) s p from e what v c old old (λ turn. old) (λ show new. old) (λ sweep new. old)
+row_apart s p from (Ask e) c old is = ask_each (λ (o : Out Core). HaveNoConflict o.state.locks) s e c old old
 row_apart s p from _ c old is = old
 
 -- what a node does with a letter

@@ -4,20 +4,21 @@ use Rattle.std.specs.Prelude.{if◌then◌else◌, nat_lt}
 use Rattle.tv_base.specs.declared.numbers.SubNo.{SubNo}
 use Rattle.tv_base.specs.declared.numbers.TreeNo.{TreeNo}
 use Rattle.letter_types.specs.declared.bodies.Body.{Body}
-use Rattle.letter_types.specs.declared.bodies.Body.TheVariants.{Go, Root, Sub as SubLetter, Done, Reply, Decide, Decided, Turn, Show, Sweep, AskDone, AskAsked, Advanced}
+use Rattle.letter_types.specs.declared.bodies.Body.TheVariants.{Go, Root, Sub as SubLetter, Done, Reply, Decide, Decided, Turn, Show, Sweep, AskDone, AskAsked, Advanced, Ask, Order}
 use Rattle.letter_types.specs.declared.entries.Outgoing.{Outgoing}
 use Rattle.letter_types.specs.Steps.{Out, still}
 use Rattle.script_parts.specs.ScriptData.{ScriptData, subs_at}
 use Rattle.world_model.specs.Calls.{is_wake_of}
 use Rattle.world_model.specs.Children.{sub_letters}
-use Rattle.world_model.specs.Client.{Client, client_row, nudge, rows_letters, submit, submitted, with_answer, with_end}
-use Rattle.world_model.specs.Coordinator.{Coordinator, coordinator_row}
+use Rattle.world_model.specs.Client.{Client, advances_sent, client_row, nudge, rows_letters, submit, submitted, wanted, with_answer, with_end}
+use Rattle.world_model.specs.Lossy.{is_lossy}
 use Rattle.world_model.specs.Core.{Core}
 use Rattle.world_model.specs.Counts.{tally}
 use Rattle.world_model.specs.Strict.{core_row}
 use Rattle.world_model.proofs.Bags.{tally-append}
 use Rattle.world_model.proofs.Every.{each_none, each_zero}
-use Rattle.world_model.proofs.Orders.{OfOrders, coordinator_each}
+use Rattle.letter_types.specs.declared.entries.Entry.{Entry}
+use Rattle.world_model.proofs.Coordination.{IsCoordinated, OfCoordinator, coordinated_each}
 use Rattle.world_model.proofs.Sends.{on, roots_none, subs_none}
 use Rattle.strict_laws.proofs.RowSends.{OfChildren, OfRow, OfTree, core_each}
 
@@ -50,6 +51,8 @@ row_none t k s c (Decided u v) = λ a answer is. refl
 row_none t k s c (Turn v) = refl
 row_none t k s c (Show v) = refl
 row_none t k s c (Sweep v) = refl
+row_none t k s c (Order e what v) = refl
+row_none t k s c (Ask e) = λ u r l. refl
 row_none t k s c (AskDone v j) = λ row is. refl
 row_none t k s c (AskAsked v j) = λ row is. refl
 row_none t k s c _ = tt
@@ -60,20 +63,21 @@ core_none t k s p from c body =
     each_none (on (is_wake_of t k)) (core_row s p c from body).sent (core_each (IsNoWake t k) s p from body c (row_none t k s c body))
 
 -- the coordinator
-orders_none : (t : TreeNo) (k : SubNo) (n : ℕ) → OfOrders (IsNoWake t k) n
-orders_none t k n = record {
-  turn = λ to v lt. refl;
-  show = λ to v lt. refl;
-  sweep = λ to v lt. refl;
-  ask_done = λ to v j lt. refl;
-  ask_asked = λ to v j lt. refl;
+orders_none : (t : TreeNo) (k : SubNo) → OfCoordinator (λ body. is_wake_of t k body ≡ 0)
+orders_none t k = record {
+  turn = λ v. refl;
+  show = λ v. refl;
+  sweep = λ v. refl;
+  order = λ e what v. refl;
+  ask = λ e. refl;
+  ask_done = λ v j. refl;
+  ask_asked = λ v j. refl;
   advanced = λ v. refl;
 }
 
-pub coordinator_none : (t : TreeNo) (k : SubNo) (c : Coordinator) (from : ℕ) (body : Body) → HaveNoWake t k (coordinator_row c from body).sent
-coordinator_none t k c from body =
-    each_none (on (is_wake_of t k)) (coordinator_row c from body).sent
-    (coordinator_each (IsNoWake t k) c (orders_none t k c.nodes) from body)
+pub coordinator_none : (t : TreeNo) (k : SubNo) (s : ScriptData) (e : Entry) → IsCoordinated s e → HaveNoWake t k e.sent
+coordinator_none t k s e made =
+    each_none (on (is_wake_of t k)) e.sent (coordinated_each (λ body. is_wake_of t k body ≡ 0) s e (orders_none t k) made)
 
 -- the client
 submit_none : (t : TreeNo) (k : SubNo) (s : ScriptData) (c : Client) (first : List Outgoing) → HaveNoWake t k first
@@ -82,8 +86,8 @@ submit_none t k s c first none =
     let rows = take (submitted c (take c.next s.rows) (drop c.next s.rows)) (drop c.next s.rows) in
     omega (
       arith,
-      tally-append (on (is_wake_of t k)) first (rows_letters s rows),
-      roots_none (is_wake_of t k) s rows (λ u. refl) refl,
+      tally-append (on (is_wake_of t k)) first (rows_letters s (advances_sent s c) rows),
+      roots_none (is_wake_of t k) s (advances_sent s c) rows (record { root = λ u. refl; advance = refl; numbered = λ i. refl; lose = refl }),
       none,
     )
 
@@ -97,5 +101,6 @@ client_none t k s c Go = submit_none t k s c [] refl
 client_none t k s c (Reply u v answer) =
     pick_none t k (nat_lt u.0 (length s.trees)) (submit s (with_answer u.0 c) (nudge s ∷ [])) (still c)
     (submit_none t k s (with_answer u.0 c) (nudge s ∷ []) refl) refl
-client_none t k s c (Advanced v) = submit_none t k s (with_end c) [] refl
+client_none t k s c (Advanced v) = submit_none t k s (with_end s v c) [] refl
+client_none t k s c (Ask e) = pick_none t k (is_lossy s) (wanted s e c) (still c) refl refl
 client_none t k s c _ = refl

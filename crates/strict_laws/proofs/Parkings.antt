@@ -10,7 +10,7 @@ use Rattle.tv_base.specs.declared.numbers.Version.{Version}
 use Rattle.letter_types.specs.declared.acts.Act.{Act}
 use Rattle.letter_types.specs.declared.acts.Act.TheVariants as acts
 use Rattle.letter_types.specs.declared.bodies.Body.{Body}
-use Rattle.letter_types.specs.declared.bodies.Body.TheVariants.{Root, Sub as SubLetter, Done, Turn, Show, Sweep, AskDone, AskAsked, Decide, Decided, Release}
+use Rattle.letter_types.specs.declared.bodies.Body.TheVariants.{Root, Sub as SubLetter, Done, Turn, Show, Sweep, AskDone, AskAsked, Decide, Decided, Release, Ask, Order}
 use Rattle.letter_types.specs.declared.bodies.Notice.{Notice}
 use Rattle.letter_types.specs.declared.bodies.Notice.TheVariants as notices
 use Rattle.tree_home.specs.Homes.{Gets}
@@ -21,6 +21,8 @@ use Rattle.script_parts.specs.declared.parts.TreeKind.{TreeKind}
 use Rattle.script_parts.specs.declared.parts.TreeKind.TheVariants.{Update, Read, Strict}
 use Rattle.board_rules.specs.Histories.{does}
 use Rattle.board_rules.specs.Right.{is_parking, parkings}
+use Rattle.letter_types.specs.Steps.{Out}
+use Rattle.world_model.proofs.Epochs.{ask_each, order_each}
 use Rattle.world_model.specs.Asked.{asked_ops, asked_version, tree_part}
 use Rattle.world_model.specs.Core.{Core}
 use Rattle.world_model.specs.Counts.{one_if, tally}
@@ -132,6 +134,10 @@ row_parks s p from (Show v) c = refl
 row_parks s p from (Sweep v) c = refl
 row_parks s p from (AskDone v k) c = refl
 row_parks s p from (AskAsked v k) c = refl
+row_parks s p from (Order e what v) c =
+    order_each (λ (o : Out Core). parkings o.acts ≡ []) s p from e what v c refl refl
+    (λ is. raise_parks (nat_lt c.node.turns.update.0 v.0) v.0) (λ is new. refl) (λ is new. refl)
+row_parks s p from (Ask e) c = ask_each (λ (o : Out Core). parkings o.acts ≡ []) s e c refl refl
 row_parks s p from _ c = refl
 
 -- Where no act is counted as parking, none parks.

@@ -8,7 +8,7 @@ use Rattle.tv_base.specs.declared.numbers.Version.{Version}
 use Rattle.letter_types.specs.declared.bodies.Answer.{Answer}
 use Rattle.letter_types.specs.declared.bodies.Answer.TheVariants.{Whole}
 use Rattle.letter_types.specs.declared.bodies.Body.{Body}
-use Rattle.letter_types.specs.declared.bodies.Body.TheVariants.{Root, Sub as SubLetter, Done, Reply, Decide, Decided, Release, Turn, Show, Sweep, Turned, Shown, Swept, AskDone, AskAsked, DoneRow, AskedRow}
+use Rattle.letter_types.specs.declared.bodies.Body.TheVariants.{Root, Sub as SubLetter, Done, Reply, Decide, Decided, Release, Turn, Show, Sweep, Turned, Shown, Swept, AskDone, AskAsked, DoneRow, AskedRow, Ask, Order, Numbers, Obeyed}
 use Rattle.letter_types.specs.declared.bodies.Notice.{Notice}
 use Rattle.letter_types.specs.declared.entries.Outgoing.{Outgoing}
 use Rattle.letter_types.specs.Steps.{Out}
@@ -26,6 +26,7 @@ use Rattle.script_parts.specs.declared.parts.Sub.{Sub}
 use Rattle.script_parts.specs.declared.parts.TreeKind.{TreeKind}
 use Rattle.script_parts.specs.declared.parts.TreeKind.TheVariants.{Update, Read, Strict}
 use Rattle.strict_laws.specs.Meant.{IsVisited}
+use Rattle.world_model.proofs.Epochs.{ask_each, order_each}
 use Rattle.world_model.specs.Asked.{asked_ops, tree_part}
 use Rattle.world_model.specs.Children.{done_letter, sub_letters}
 use Rattle.world_model.specs.Core.{Core, Refusals}
@@ -68,6 +69,8 @@ OfRow P s c (Decided t v) = (a : Answered) (answer : Answer) → answer_when_ack
 OfRow P s c (Turn v) = P s.nodes (Turned v)
 OfRow P s c (Show v) = P s.nodes (Shown v)
 OfRow P s c (Sweep v) = P s.nodes (Swept v)
+OfRow P s c (Order e what v) = P s.nodes (Obeyed e what v)
+OfRow P s c (Ask e) = (u r l : Version) → P s.nodes (Numbers e u r l)
 OfRow P s c (AskDone v k) = (row : List ℕ) → length row ≡ s.nodes → P s.nodes (DoneRow v k row)
 OfRow P s c (AskAsked v k) = (row : List ℕ) → length row ≡ s.nodes → P s.nodes (AskedRow v k row)
 OfRow P s c _ = Unit {0}
@@ -268,4 +271,8 @@ core_each P s p from (Show v) c h = (h, tt)
 core_each P s p from (Sweep v) c h = (h, tt)
 core_each P s p from (AskDone v k) c h = (h _ (length_numbers s.nodes (c.node.counts.done v.0)), tt)
 core_each P s p from (AskAsked v k) c h = (h _ (length_numbers s.nodes (c.node.counts.asked v.0)), tt)
+core_each P s p from (Order e what v) c h =
+    order_each (λ (o : Out Core). Each (of P) o.sent) s p from e what v c tt (h, tt) (λ is. (h, tt)) (λ is new. (h, tt)) (λ is new. (h, tt))
+core_each P s p from (Ask e) c h =
+    ask_each (λ (o : Out Core). Each (of P) o.sent) s e c tt (h c.node.turns.update c.node.turns.read c.node.turns.low, tt)
 core_each P s p from _ c h = tt

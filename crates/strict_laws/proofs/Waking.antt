@@ -12,7 +12,7 @@ use Rattle.letter_types.specs.declared.entries.Letter.{Letter}
 use Rattle.letter_types.specs.declared.entries.Outgoing.{Outgoing}
 use Rattle.letter_types.specs.declared.kept.KeptLetter.{KeptLetter}
 use Rattle.letter_types.specs.declared.kept.Why.{Why}
-use Rattle.letter_types.specs.Kept.{first_called, is_called, is_called_for, kept_without, wakes, wakes_by}
+use Rattle.letter_types.specs.Kept.{first_called, is_called, is_called_for, kept_without, wakes}
 use Rattle.letter_types.specs.Letters.{letters_of}
 use Rattle.script_parts.specs.ScriptData.{ScriptData, client_of}
 use Rattle.world_model.specs.Calls.{calls, is_wake_of}
@@ -20,7 +20,8 @@ use Rattle.world_model.specs.Core.{Core}
 use Rattle.world_model.specs.Counts.{one_if, tally}
 use Rattle.world_model.specs.Keeping.{AreKeptAt, KeepingNode}
 use Rattle.world_model.specs.Kept.{kept_in}
-use Rattle.world_model.specs.Runs.{MayFollow, client_in, coordinator_in, in_flight, keeping_in}
+use Rattle.world_model.specs.Keeping.{woken_by}
+use Rattle.world_model.specs.Runs.{MayFollow, client_in, in_flight, keeping_in}
 use Rattle.world_model.specs.Strict.{CoreKeeping, core_keeping, core_row}
 use Rattle.world_model.proofs.Bags.{sealed_tally, tally-append, tally-drop, tally_step}
 use Rattle.world_model.proofs.Calls.{done_calls, kept_calls}
@@ -109,10 +110,10 @@ elsewhere t k s past e p m ne none =
 -- what a node's row sends
 node_sent : (t : TreeNo) (k : SubNo) (s : ScriptData) (past : List Entry) (e : Entry) (p q : ℕ) (r : Letter) → Does s past e q r
     → tally (sent_wake t k p) e.sent
-    ≡ tally (sent_wake t k p) (wakes (wakes_by r.body) (kept_without (kept_in s past q) e.took.body))
+    ≡ tally (sent_wake t k p) (wakes (woken_by (keeping_in s past q).core r.body) (kept_without (kept_in s past q) e.took.body))
 node_sent t k s past e p q r d =
     let core = (core_row s q (keeping_in s past q).core r.from.0 r.body).sent in
-    let woken = wakes (wakes_by r.body) (kept_without (kept_in s past q) e.took.body) in
+    let woken = wakes (woken_by (keeping_in s past q).core r.body) (kept_without (kept_in s past q) e.took.body) in
     omega (
       arith,
       ap (λ (os : List Outgoing). tally (sent_wake t k p) os) d.sent,
@@ -133,7 +134,7 @@ does_here t k s past e p r m d =
       ap (calls t k) d.kept,
       took_own t k p e.took (m.addressee ∙ d.brings.at),
       node_sent t k s past e p p r d,
-      own_wakes t k p (wakes_by r.body) rest (stay_kept s past e p),
+      own_wakes t k p (woken_by (keeping_in s past p).core r.body) rest (stay_kept s past e p),
     )
 
 does_balance : (t : TreeNo) (k : SubNo) (s : ScriptData) (past : List Entry) (e : Entry) (p q : ℕ) (r : Letter) → MayFollow s past e
@@ -143,7 +144,7 @@ does_balance t k s past e p q r m d (inl is) =
 does_balance t k s past e p q r m d (inr ne) =
     elsewhere t k s past e p m (λ is. ne (sym d.brings.at ∙ is))
     (node_sent t k s past e p q r d
-    ∙ other_wakes t k p q (wakes_by r.body) (kept_without (kept_in s past q) e.took.body) ne (stay_kept s past e q))
+    ∙ other_wakes t k p q (woken_by (keeping_in s past q).core r.body) (kept_without (kept_in s past q) e.took.body) ne (stay_kept s past e q))
 
 -- a letter that is kept isn't kept as called
 kept_uncalled : (s : ScriptData) (c : Core) (body : Body) (k : CoreKeeping) → core_keeping s c body ≡ Some k → is_called k.why ≡ false
@@ -174,10 +175,8 @@ balances : (t : TreeNo) (k : SubNo) (s : ScriptData) (past : List Entry) (e : En
     → Case s past e → Balances t k s past e p
 balances t k s past e p m lt (NodeDoes q r d) = does_balance t k s past e p q r m d (cases_eq q p)
 balances t k s past e p m lt (NodeKeeps q r o d) = keeps_balance t k s past e p q r o m d (cases_eq q p)
-balances t k s past e p m lt (Coordinates at says) =
-    elsewhere t k s past e p m (λ is. omega (arith, is, at, lt))
-    (ap (λ (os : List Outgoing). tally (sent_wake t k p) os) says.0
-    ∙ no_wakes t k p _ (coordinator_none t k (coordinator_in s past) e.took.from.0 e.took.body))
+balances t k s past e p m lt (Coordinates at made) =
+    elsewhere t k s past e p m (λ is. omega (arith, is, at, lt)) (no_wakes t k p _ (coordinator_none t k s e made))
 balances t k s past e p m lt (Submits at says) =
     elsewhere t k s past e p m (λ is. omega (arith, is, at, lt))
     (ap (λ (os : List Outgoing). tally (sent_wake t k p) os) says.0

@@ -1,15 +1,16 @@
 -- What each letter that has still to be done says, and between which actors it goes.
-use Rattle.std.specs.Prelude.{ℕ, true, ◌<◌, ◌≡◌, List, length}
+use Rattle.std.specs.Prelude.{ℕ, Bool, true, false, ◌<◌, ◌≡◌, ◌⊎◌, List, length}
 use Rattle.tv_base.specs.declared.numbers.SubNo.{SubNo}
 use Rattle.tv_base.specs.declared.numbers.TreeNo.{TreeNo}
 use Rattle.letter_types.specs.declared.bodies.Body.{Body}
-use Rattle.letter_types.specs.declared.bodies.Body.TheVariants.{Go, Root, Sub as SubLetter, Done, Reply, Nudge, Advance, Turn, Show, Sweep, Turned, Shown, Swept, AskDone, AskAsked, DoneRow, AskedRow, Advanced, Decide, Decided, Release, Wake}
+use Rattle.letter_types.specs.declared.bodies.Body.TheVariants.{Go, Root, Sub as SubLetter, Done, Reply, Nudge, Advance, Turn, Show, Sweep, Turned, Shown, Swept, AskDone, AskAsked, DoneRow, AskedRow, Advanced, Decide, Decided, Release, Wake, Lose, AdvanceNo, Ask, Numbers, Wanted, Order, Obeyed}
 use Rattle.letter_types.specs.declared.bodies.Notice.{Notice}
 use Rattle.letter_types.specs.declared.entries.Entry.{Entry}
 use Rattle.letter_types.specs.declared.entries.Letter.{Letter}
 use Rattle.script_parts.specs.Counts.{has_strict}
 use Rattle.script_parts.specs.ScriptData.{ScriptData, client_of, home_of, node_of, subs_at, updates, visits}
 use Rattle.script_parts.specs.Valid.{IsValid}
+use Rattle.world_model.specs.Lossy.{is_lossy}
 use Rattle.world_model.specs.Counts.{Each}
 use Rattle.world_model.specs.Kept.{outstanding}
 use Rattle.world_model.specs.Named.{is_strict_at, suits}
@@ -74,6 +75,16 @@ pub record IsMeantWake (s : ScriptData) (from to : ℕ) (t : TreeNo) (k : SubNo)
 abbrev pub IsToCoordinator : ScriptData → ℕ → ℕ → Type 0
 IsToCoordinator s from to = (from < s.nodes) × (to ≡ s.nodes)
 
+-- and one to it, of this kind of scripts: those whose coordinator may forget, or the others
+abbrev pub IsOrderOf : Bool → ScriptData → ℕ → Type 0
+IsOrderOf lossy s to = (to < s.nodes) × (is_lossy s ≡ lossy)
+
+abbrev pub IsReportOf : Bool → ScriptData → ℕ → ℕ → Type 0
+IsReportOf lossy s from to = IsToCoordinator s from to × (is_lossy s ≡ lossy)
+
+abbrev pub IsRequestOf : Bool → ScriptData → ℕ → Type 0
+IsRequestOf lossy s to = (to ≡ s.nodes) × (is_lossy s ≡ lossy)
+
 -- a letter of this body, between these actors
 abbrev pub IsMeant : ScriptData → ℕ → ℕ → Body → Type 0
 IsMeant s from to Go = to ≡ client_of s
@@ -82,15 +93,15 @@ IsMeant s from to (SubLetter t k v) = IsMeantSub s from to t k
 IsMeant s from to (Done t k v notice) = IsMeantDone s from to t k notice
 IsMeant s from to (Reply t v answer) = (t.0 < length s.trees) × (to ≡ client_of s)
 IsMeant s from to Nudge = to ≡ s.nodes
-IsMeant s from to Advance = to ≡ s.nodes
-IsMeant s from to (Turned v) = IsToCoordinator s from to
-IsMeant s from to (Shown v) = IsToCoordinator s from to
-IsMeant s from to (Swept v) = IsToCoordinator s from to
+IsMeant s from to Advance = IsRequestOf false s to
+IsMeant s from to (Turned v) = IsReportOf false s from to
+IsMeant s from to (Shown v) = IsReportOf false s from to
+IsMeant s from to (Swept v) = IsReportOf false s from to
 IsMeant s from to (DoneRow v k row) = IsToCoordinator s from to × (length row ≡ s.nodes)
 IsMeant s from to (AskedRow v k row) = IsToCoordinator s from to × (length row ≡ s.nodes)
-IsMeant s from to (Turn v) = to < s.nodes
-IsMeant s from to (Show v) = to < s.nodes
-IsMeant s from to (Sweep v) = to < s.nodes
+IsMeant s from to (Turn v) = IsOrderOf false s to
+IsMeant s from to (Show v) = IsOrderOf false s to
+IsMeant s from to (Sweep v) = IsOrderOf false s to
 IsMeant s from to (AskDone v k) = to < s.nodes
 IsMeant s from to (AskAsked v k) = to < s.nodes
 IsMeant s from to (Advanced v) = to ≡ client_of s
@@ -98,7 +109,13 @@ IsMeant s from to (Decide t v commit) = IsMeantDecide s from to t
 IsMeant s from to (Decided t v) = IsMeantDecided s from to t
 IsMeant s from to (Release t) = IsMeantRelease s to t
 IsMeant s from to (Wake t k) = IsMeantWake s from to t k
-IsMeant s from to _ = ⊥
+IsMeant s from to Lose = IsRequestOf true s to
+IsMeant s from to (AdvanceNo i) = IsRequestOf true s to
+IsMeant s from to (Wanted e k) = IsRequestOf true s to
+IsMeant s from to (Ask e) = ((to < s.nodes) ⊎ (to ≡ client_of s)) × (is_lossy s ≡ true)
+IsMeant s from to (Order e what v) = IsOrderOf true s to
+IsMeant s from to (Numbers e u r l) = IsReportOf true s from to
+IsMeant s from to (Obeyed e what v) = IsReportOf true s from to
 
 abbrev pub IsLetterMeant : ScriptData → Letter → Type 0
 IsLetterMeant s l = IsMeant s l.from.0 l.to.0 l.body

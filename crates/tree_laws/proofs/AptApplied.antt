@@ -6,18 +6,19 @@ use Rattle.std.proofs.lemmas.Bool.{cases_eq}
 use Rattle.std.proofs.lemmas.Bool.Decides.{nat_tests}
 use Rattle.tv_base.specs.declared.numbers.TreeNo.{TreeNo}
 use Rattle.tv_base.specs.declared.numbers.Version.{Version}
-use Rattle.letter_types.specs.Kept.{kept_without, wakes, wakes_by}
+use Rattle.letter_types.specs.Kept.{kept_without, wakes}
 use Rattle.letter_types.specs.Steps.{Out}
 use Rattle.letter_types.specs.declared.acts.Act.{Act}
 use Rattle.letter_types.specs.declared.acts.Act.TheVariants as acts
 use Rattle.letter_types.specs.declared.bodies.Body.{Body}
-use Rattle.letter_types.specs.declared.bodies.Body.TheVariants.{Advance, Advanced, AskAsked, AskDone, Decide, Go, Nudge, Root, Show, Sub as SubLetter, Sweep, Turn, Wake}
+use Rattle.letter_types.specs.declared.bodies.Body.TheVariants.{Advance, Advanced, AskAsked, AskDone, Decide, Go, Nudge, Root, Show, Sub as SubLetter, Sweep, Turn, Wake, Lose, Wanted, AdvanceNo, Order, Ask}
 use Rattle.letter_types.specs.declared.entries.Entry.{Entry}
 use Rattle.letter_types.specs.declared.entries.Letter.{Letter}
 use Rattle.letter_types.specs.declared.entries.Outgoing.{Outgoing}
 use Rattle.tree_home.specs.declared.homes.Answered.{Answered}
 use Rattle.tx_trees.specs.ScriptData.{ScriptData, client_of, subs_at, visited, visited_by, visits}
 use Rattle.tx_trees.specs.declared.parts.Sub.{Sub}
+use Rattle.world_model.specs.Keeping.{woken_by}
 use Rattle.world_model.specs.Core.{Core, Refusals}
 use Rattle.world_model.specs.Counts.{one_if, tally}
 use Rattle.world_model.specs.Kept.{kept_by, kept_in, of_done, outstanding}
@@ -31,7 +32,7 @@ use Rattle.world_model.proofs.Sends.{on}
 use Rattle.tree_laws.specs.Applied.{AppliedWhereDecided, applies_as, has_decided, decisions_to, tells_decision}
 use Rattle.tree_laws.specs.Stages.{decides, decisions}
 use Rattle.tree_laws.proofs.AptRulings.{OfDecides, OfRulings, RowRules, applied_acts, client_acts, core_rules, is_decide, keeping_acts, ruled_acts, ruled_letters, rulings_no_keeping}
-use Rattle.tree_laws.proofs.AptStagesApart.{CountsNoOthers, client_none, coordinator_none, orders_none}
+use Rattle.tree_laws.proofs.AptStagesApart.{CountsNoOthers, client_none, coordinator_none, none_of_others}
 use Rattle.tree_laws.proofs.AptStagesSteps.{CountsNoAsking, kept_by_zero}
 use Rattle.tree_laws.proofs.AptSteps.{wakes_none}
 use Rattle.tree_laws.proofs.AptVersions.{tally_less}
@@ -90,15 +91,12 @@ tells_no_asking t b = record {
 }
 
 tells_no_others : (t : ℕ) (b : Bool) → CountsNoOthers (tells_decision t b)
-tells_no_others t b = record {
-  roots = λ u. other_tells t b (Root u) refl;
-  advance = other_tells t b Advance refl;
-  nudge = other_tells t b Nudge refl;
-  orders = λ n.
-      orders_none (tells_decision t b) n
-      (λ v. (other_tells t b (Turn v) refl, (other_tells t b (Show v) refl, other_tells t b (Sweep v) refl)))
-      (λ v k. (other_tells t b (AskDone v k) refl, other_tells t b (AskAsked v k) refl)) (λ v. other_tells t b (Advanced v) refl);
-}
+tells_no_others t b =
+    let none : (body : Body) → is_decide body ≡ false → tells_decision t b body ≡ 0 = other_tells t b in
+    none_of_others (tells_decision t b) (λ u. none (Root u) refl) (λ v. (none (Turn v) refl, (none (Show v) refl, none (Sweep v) refl)))
+    (λ e what v. (none (Order e what v) refl, none (Ask e) refl)) (λ v k. (none (AskDone v k) refl, none (AskAsked v k) refl))
+    (λ v. none (Advanced v) refl) (none Nudge refl, (none Advance refl, none Lose refl))
+    (λ e k. (none (Wanted e k) refl, none (AdvanceNo k) refl))
 
 -- The nodes that a tree visits are told once each.
 abbrev at_node : ℕ → ℕ → ℕ → ℕ
@@ -258,7 +256,7 @@ does_even s past e p r t b q lt is d =
     let c : Core = (keeping_in s past p).core in
     let row : Out Core = core_row s p c r.from.0 r.body in
     let rules : RowRules s c r.body row = core_rules s p r.from.0 r.body c in
-    let more : List Outgoing = wakes (wakes_by r.body) (kept_without (kept_in s past p) e.took.body) in
+    let more : List Outgoing = wakes (woken_by (keeping_in s past p).core r.body) (kept_without (kept_in s past p) e.took.body) in
     let applies : tally (applies_as t b) e.acts ≡ tells_decision t b r.body =
     omega (
       arith,
@@ -275,7 +273,7 @@ does_even s past e p r t b q lt is d =
         arith,
         ap (λ (os : List Outgoing). tally (told_to t b q) os) d.sent,
         tally-append (told_to t b q) row.sent more,
-        wakes_none (told_to t b q) (wakes_by r.body) (kept_without (kept_in s past p) e.took.body)
+        wakes_none (told_to t b q) (woken_by (keeping_in s past p).core r.body) (kept_without (kept_in s past p) e.took.body)
             (λ x. told_of t b q (record { to = x.letter.to; body = Wake x.tree x.sub }) refl),
         rules.sends (told_to t b q) (told_of t b q),
         ruled_told s t q b row.state.refusals rules.found lt is,
@@ -312,11 +310,9 @@ even_by : (s : ScriptData) (past : List Entry) (e : Entry) (t : ℕ) (b : Bool) 
     → visits (subs_at s t) q ≡ true → Case s past e → Even s past e t b q
 even_by s past e t b q m lt is (NodeDoes p r d) = does_even s past e p r t b q lt is d
 even_by s past e t b q m lt is (NodeKeeps p r k d) = keeps_even s past e p r k t b q d
-even_by s past e t b q m lt is (Coordinates at says) =
-    apart_even s past e t b q m lt (omega (arith, at))
-    (ap (λ (os : List Outgoing). tally (on (tells_decision t b)) os) says.0
-    ∙ coordinator_none (tells_decision t b) (coordinator_in s past) e.took (tells_no_others t b))
-    (λ g of. ap (λ (xs : List Act). tally g xs) (says.1 ∙ no_acts (coordinator_in s past) e.took.from.0 e.took.body))
+even_by s past e t b q m lt is (Coordinates at made) =
+    apart_even s past e t b q m lt (omega (arith, at)) (coordinator_none (tells_decision t b) s e made (tells_no_others t b))
+    (λ g of. ap (λ (xs : List Act). tally g xs) made.acts)
 even_by s past e t b q m lt is (Submits at says) =
     apart_even s past e t b q m lt (omega (arith, at))
     (ap (λ (os : List Outgoing). tally (on (tells_decision t b)) os) says.0

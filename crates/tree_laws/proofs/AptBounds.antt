@@ -36,7 +36,7 @@ use Rattle.tree_laws.specs.Applied.{applies_as}
 use Rattle.tree_laws.specs.Dids.{asks}
 use Rattle.tree_laws.specs.Effects.{effects}
 use Rattle.tree_laws.specs.Turns.{has_turn, turns}
-use Rattle.tree_laws.proofs.AptItems.{Applies, Changes, Collects, Raises, Rests, Shows, Touches, core_changes}
+use Rattle.tree_laws.proofs.AptItems.{Applies, Changes, Collects, Follows, Raises, Rests, Shows, Touches, core_changes}
 use Rattle.tree_laws.proofs.AptStagesOwn.{sub_of_node}
 use Rattle.tree_laws.proofs.AptSteps.{apt_named}
 use Rattle.tree_laws.proofs.AptTurns.{core_turns}
@@ -156,20 +156,22 @@ applies_keep s past e p t v r valid d is all =
 
 -- whatever it does
 by_change : (s : ScriptData) (past : List Entry) (e : Entry) (p : ℕ) (r : Letter) (items : Table) (turns : Turns) → IsValid s
-    → Does s past e p r → Changes s p r.body (node_in s past p) items turns → InBounds s past p (node_in s past p).items
+    → Does s past e p r → Changes s p r.body (keeping_in s past p).core items turns → InBounds s past p (node_in s past p).items
     → InBounds s (e ∷ past) p items
 by_change s past e p r items turns valid d (Rests is same) all =
     subst (InBounds s (e ∷ past) p) (sym is) (grown s past e p (node_in s past p).items all)
-by_change s past e p r items turns valid d (Raises v of is same) all =
+by_change s past e p r items turns valid d (Follows t k v letter is same) all =
+    subst (InBounds s (e ∷ past) p) (sym is) (grown s past e p (node_in s past p).items all)
+by_change s past e p r items turns valid d (Raises v to is same) all =
     subst (InBounds s (e ∷ past) p) (sym is) (grown s past e p (node_in s past p).items all)
 by_change s past e p r items turns valid d (Touches t k one kind is same) all =
     subst (InBounds s (e ∷ past) p) (sym is)
     (touches_keep s past e p t k (asked_version (node_in s past p).turns.update r.body) r valid d one kind all)
 by_change s past e p r items turns valid d (Applies t v body is same) all =
     subst (InBounds s (e ∷ past) p) (sym is) (applies_keep s past e p t v r valid d body all)
-by_change s past e p r items turns valid d (Shows v body is same) all =
+by_change s past e p r items turns valid d (Shows v to is same) all =
     subst (InBounds s (e ∷ past) p) (sym is) (grown s past e p (node_in s past p).items all)
-by_change s past e p r items turns valid d (Collects v body is same) all =
+by_change s past e p r items turns valid d (Collects v to is same) all =
     subst (InBounds s (e ∷ past) p) (sym is)
     (collected_table s.items p (effect_bound s (e ∷ past)) v (node_in s past p).items (grown s past e p (node_in s past p).items all))
 

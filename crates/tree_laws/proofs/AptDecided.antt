@@ -251,10 +251,9 @@ next_once s past e w valid apt run lt (Other p r g it) =
 next_once s past e w valid apt run lt (Kept p r k d) =
     let l : Leaves s past e w = kept_leaves s past e p w r k valid apt run d in
     passes_once s past e w l.home (l.turned 0) (kept_decides s past e p w r k d)
-next_once s past e w valid apt run lt (ByCoordinator at says) =
-    let quiet = says.1 ∙ no_acts (coordinator_in s past) e.took.from.0 e.took.body in
-    let l : Leaves s past e w = coordinator_leaves s past e w valid apt run lt at says in
-    passes_once s past e w l.home (l.turned 0) (ap (λ (xs : List Act). decides_any w xs) quiet)
+next_once s past e w valid apt run lt (ByCoordinator at made) =
+    let l : Leaves s past e w = coordinator_leaves s past e w valid apt run lt at made in
+    passes_once s past e w l.home (l.turned 0) (ap (λ (xs : List Act). decides_any w xs) made.acts)
 next_once s past e w valid apt run lt (ByClient at says) =
     let none = λ (b : Bool).
     ap (λ (xs : List Act). tally (has_decided w b) xs) says.1

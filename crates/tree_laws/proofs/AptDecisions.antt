@@ -8,13 +8,13 @@ use Rattle.tv_base.specs.declared.numbers.SubNo.{SubNo}
 use Rattle.tv_base.specs.declared.numbers.TreeNo.{TreeNo}
 use Rattle.tv_base.specs.declared.numbers.Version.{Version}
 use Rattle.letter_types.specs.declared.bodies.Body.{Body}
-use Rattle.letter_types.specs.declared.bodies.Body.TheVariants.{Go, Root, Sub as SubLetter, Done, Decide, Decided, Release, Reply, Advanced, Turn, Show, Sweep, AskDone, AskAsked}
+use Rattle.letter_types.specs.declared.bodies.Body.TheVariants.{Go, Root, Sub as SubLetter, Done, Decide, Decided, Release, Reply, Advanced, Turn, Show, Sweep, AskDone, AskAsked, Ask, Order}
 use Rattle.letter_types.specs.declared.bodies.Notice.{Notice}
 use Rattle.letter_types.specs.declared.entries.Entry.{Entry}
 use Rattle.letter_types.specs.declared.entries.Letter.{Letter}
 use Rattle.letter_types.specs.declared.entries.Outgoing.{Outgoing}
 use Rattle.letter_types.specs.declared.votes.Vote.{Vote}
-use Rattle.letter_types.specs.Kept.{kept_without, wakes, wakes_by}
+use Rattle.letter_types.specs.Kept.{kept_without, wakes}
 use Rattle.letter_types.specs.Steps.{Out, still}
 use Rattle.tree_home.specs.HeldAnswers.{answer_when_acked}
 use Rattle.tree_home.specs.Homes.{Gets, OpenTrees, after_notice, answer_in, answer_of, answer_with, begun, home_in, misses, new_tree, noted_of, outcome, with_notice}
@@ -28,10 +28,15 @@ use Rattle.tx_trees.specs.Valid.{IsValid}
 use Rattle.tx_trees.specs.declared.parts.TreeKind.{TreeKind}
 use Rattle.tx_trees.specs.declared.parts.TreeKind.TheVariants.{Update, Read, Strict}
 use Rattle.board_rules.specs.Histories.{Place, places_at, version_in}
+use Rattle.world_model.proofs.Epochs.{ask_each, order_each}
+use Rattle.world_model.specs.Lossy.{is_lossy}
+use Rattle.world_model.proofs.Coordination.{OfCoordinator, coordinated_each}
+use Rattle.world_model.proofs.Sends.{CountsNoRow, asked_each}
+use Rattle.world_model.specs.Keeping.{woken_by}
 use Rattle.world_model.specs.AllApt.{AllApt}
 use Rattle.world_model.specs.Asked.{asked_ops, asked_version, tree_part}
 use Rattle.world_model.specs.Children.{done_letter, sub_letters}
-use Rattle.world_model.specs.Client.{Client, client_row, nudge, submit, with_answer, with_end}
+use Rattle.world_model.specs.Client.{Client, client_row, nudge, submit, with_answer, with_end, wanted}
 use Rattle.world_model.specs.Coordinator.{Coordinator}
 use Rattle.world_model.specs.Core.{Core}
 use Rattle.world_model.specs.Counts.{one_if, tally}
@@ -264,6 +269,11 @@ row xs s p from (Show v) c all says = record { homes = all; sent = refl }
 row xs s p from (Sweep v) c all says = record { homes = all; sent = refl }
 row xs s p from (AskDone v k) c all says = record { homes = all; sent = refl }
 row xs s p from (AskAsked v k) c all says = record { homes = all; sent = refl }
+row xs s p from (Order e what v) c all says =
+    order_each (CoreRow xs) s p from e what v c (record { homes = all; sent = refl }) (record { homes = all; sent = refl })
+    (λ is. record { homes = all; sent = refl }) (λ is new. record { homes = all; sent = refl }) (λ is new. record { homes = all; sent = refl })
+row xs s p from (Ask e) c all says =
+    ask_each (CoreRow xs) s e c (record { homes = all; sent = refl }) (record { homes = all; sent = refl })
 row xs s p from _ c all says = record { homes = all; sent = refl }
 
 says_version : (xs ys : List Place) (v : Version) (body : Body) → DoneIn (xs ++ ys) v body → misdecided xs body ≡ 0 → SaysVersion (xs ++ ys) v body
@@ -325,7 +335,7 @@ does_next s past e p r valid apt run have d =
     let ys : List Place = places_at e in
     let c : Core = (keeping_in s past p).core in
     let out : Out Core = core_row s p c r.from.0 r.body in
-    let more : List Outgoing = wakes (wakes_by r.body) (kept_without (kept_in s past p) e.took.body) in
+    let more : List Outgoing = wakes (woken_by (keeping_in s past p).core r.body) (kept_without (kept_in s past p) e.took.body) in
     let dated : DoneIn (xs ++ ys) (work_version s c r.body) r.body = dated_here s past e p r valid apt run d in
     let own : misdecided xs r.body ≡ 0 =
     omega (
@@ -347,7 +357,7 @@ does_next s past e p r valid apt run have d =
             it.sent,
             ap (λ (os : List Outgoing). tally (on (misdecided (xs ++ ys))) os) d.sent,
             tally-append (on (misdecided (xs ++ ys))) out.sent more,
-            wakes_none (on (misdecided (xs ++ ys))) (wakes_by r.body) (kept_without (kept_in s past p) e.took.body) (λ x. refl),
+            wakes_none (on (misdecided (xs ++ ys))) (woken_by (keeping_in s past p).core r.body) (kept_without (kept_in s past p) e.took.body) (λ x. refl),
           ));
     }
 
@@ -380,38 +390,41 @@ apart_next s past e m have out sent = record {
   decisions = decisions_next (before past) (places_at e) s past e m have sent;
 }
 
-orders_none : (xs : List Place) (n : ℕ) → OfOrders (λ (to : ℕ) (b : Body). misdecided xs b ≡ 0) n
-orders_none xs n = record {
-  turn = λ to v lt. refl;
-  show = λ to v lt. refl;
-  sweep = λ to v lt. refl;
-  ask_done = λ to v k lt. refl;
-  ask_asked = λ to v k lt. refl;
+orders_none : (xs : List Place) → OfCoordinator (λ (b : Body). misdecided xs b ≡ 0)
+orders_none xs = record {
+  turn = λ v. refl;
+  show = λ v. refl;
+  sweep = λ v. refl;
+  order = λ e what v. refl;
+  ask = λ e. refl;
+  ask_done = λ v k. refl;
+  ask_asked = λ v k. refl;
   advanced = λ v. refl;
 }
 
+rows_none : (xs : List Place) → CountsNoRow (misdecided xs)
+rows_none xs = record { root = λ u. refl; advance = refl; numbered = λ i. refl; lose = refl }
+
 hears_none : (xs : List Place) (s : ScriptData) (c : Client) (t : ℕ) (test : Bool)
     → tally (on (misdecided xs)) (if test then submit s (with_answer t c) (nudge s ∷ []) else still c).sent ≡ 0
-hears_none xs s c t true = submit_none (misdecided xs) s (with_answer t c) (nudge s ∷ []) refl (λ u. refl) refl
+hears_none xs s c t true = submit_none (misdecided xs) s (with_answer t c) (nudge s ∷ []) refl (rows_none xs)
 hears_none xs s c t false = refl
 
 client_none : (xs : List Place) (s : ScriptData) (c : Client) (body : Body) → tally (on (misdecided xs)) (client_row s c body).sent ≡ 0
-client_none xs s c Go = submit_none (misdecided xs) s c [] refl (λ u. refl) refl
+client_none xs s c Go = submit_none (misdecided xs) s c [] refl (rows_none xs)
 client_none xs s c (Reply t v answer) = hears_none xs s c t.0 (nat_lt t.0 (length s.trees))
-client_none xs s c (Advanced v) = submit_none (misdecided xs) s (with_end c) [] refl (λ u. refl) refl
+client_none xs s c (Advanced v) = submit_none (misdecided xs) s (with_end s v c) [] refl (rows_none xs)
+client_none xs s c (Ask e) = asked_each (λ (o : Out Client). tally (on (misdecided xs)) o.sent ≡ 0) s c e refl (λ is. refl)
 client_none xs s c _ = refl
 
 next_by : (s : ScriptData) (past : List Entry) (e : Entry) → IsValid s → AllApt s past → IsStepRun s (e ∷ past)
     → HaveVersions (before past) s past → Case s past e → HaveVersions (before past ++ places_at e) s (e ∷ past)
 next_by s past e valid apt run have (NodeDoes p r d) = does_next s past e p r valid apt run have d
 next_by s past e valid apt run have (NodeKeeps p r k d) = keeps_next s past e p r k run.0 have d
-next_by s past e valid apt run have (Coordinates at says) =
+next_by s past e valid apt run have (Coordinates at made) =
     let zs : List Place = before past ++ places_at e in
-    let c : Coordinator = coordinator_in s past in
     apart_next s past e run.0 have (omega (arith, at))
-    (ap (λ (os : List Outgoing). tally (on (misdecided zs)) os) says.0
-    ∙ each_none (on (misdecided zs)) (coordinator_table c e.took).sent
-    (coordinator_each (λ (to : ℕ) (b : Body). misdecided zs b ≡ 0) c (orders_none zs c.nodes) e.took.from.0 e.took.body))
+    (each_none (on (misdecided zs)) e.sent (coordinated_each (λ (b : Body). misdecided zs b ≡ 0) s e (orders_none zs) made))
 next_by s past e valid apt run have (Submits at says) =
     let zs : List Place = before past ++ places_at e in
     apart_next s past e run.0 have (omega (arith, at))

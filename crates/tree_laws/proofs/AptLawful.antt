@@ -11,7 +11,7 @@ use Rattle.tv_base.specs.declared.numbers.Version.{Version}
 use Rattle.letter_types.specs.Steps.{Out, still}
 use Rattle.letter_types.specs.declared.bodies.Answer.{Answer}
 use Rattle.letter_types.specs.declared.bodies.Body.{Body}
-use Rattle.letter_types.specs.declared.bodies.Body.TheVariants.{Root, Sub as SubLetter, Done, Go, Decide, Decided, Release, Reply, Advanced, Turn, Show, Sweep, AskDone, AskAsked}
+use Rattle.letter_types.specs.declared.bodies.Body.TheVariants.{Root, Sub as SubLetter, Done, Go, Decide, Decided, Release, Reply, Advanced, Turn, Show, Sweep, AskDone, AskAsked, Ask, Order}
 use Rattle.letter_types.specs.declared.bodies.Notice.{Notice}
 use Rattle.letter_types.specs.declared.entries.Entry.{Entry}
 use Rattle.letter_types.specs.declared.entries.Letter.{Letter}
@@ -50,7 +50,7 @@ use Rattle.world_model.proofs.Lawful.{is_nudge, nudged}
 use Rattle.world_model.proofs.Orders.{coordinator_each}
 use Rattle.world_model.proofs.Outstanding.{IsOutstanding}
 use Rattle.world_model.proofs.Scripts.{SubAt, get_below, sub_here}
-use Rattle.world_model.proofs.Sends.{on, subs_none}
+use Rattle.world_model.proofs.Sends.{on, subs_none, asked_each}
 use Rattle.tree_laws.specs.Dids.{answers, letters_asking, replies, replies_to}
 use Rattle.tree_laws.specs.Stages.{StageAt, Answered, Gathers, Holds, Unborn, held_at, home_at}
 use Rattle.tree_laws.proofs.AptDecisions.{EachOpen, noted_answer, open_trees_carry_versions}
@@ -62,8 +62,10 @@ use Rattle.tree_laws.proofs.AptSteps.{client_moves, home_node}
 use Rattle.tree_laws.proofs.AptTurns.{no_turn_yet}
 use Rattle.tree_laws.proofs.AptVersions.{before, dated_run, is_right, is_version, misdated, version_is}
 use Rattle.tree_laws.proofs.Client.{answered_places}
-use Rattle.tree_laws.proofs.Nudges.{nudge_sent, orders_none, unheard, unheard_first, unheard_less}
+use Rattle.tree_laws.proofs.Nudges.{nudge_sent, orders_none, rows_no_nudges, unheard, unheard_first, unheard_less}
 use Rattle.tree_laws.proofs.Turns.{answers_none, each_told, releases_none, replies_none}
+use Rattle.world_model.proofs.Epochs.{ask_each, order_each}
+use Rattle.world_model.proofs.Coordination.{coordinated_each}
 
 -- The row of a core sends no nudge.
 part_quiet : (s : ScriptData) (p from : ℕ) (v : Version) (raises : Bool) (e : Effect) (body : Body) (st : Node)
@@ -146,6 +148,9 @@ core_quiet s p from (Show v) c = refl
 core_quiet s p from (Sweep v) c = refl
 core_quiet s p from (AskDone v k) c = refl
 core_quiet s p from (AskAsked v k) c = refl
+core_quiet s p from (Order e what v) c =
+    order_each (λ (o : Out Core). tally (on is_nudge) o.sent ≡ 0) s p from e what v c refl refl (λ to. refl) (λ to new. refl) (λ to new. refl)
+core_quiet s p from (Ask e) c = ask_each (λ (o : Out Core). tally (on is_nudge) o.sent ≡ 0) s e c refl refl
 core_quiet s p from Go c = refl
 core_quiet s p from _ c = refl
 
@@ -169,6 +174,9 @@ row_hears : (s : ScriptData) (c : Client) (body : Body) (t : ℕ)
 row_hears s c Go t = omega arith
 row_hears s c (Reply u v answer) t = hears_more s c u t (nat_lt u.0 (length s.trees))
 row_hears s c (Advanced v) t = omega arith
+row_hears s c (Ask e) t =
+    asked_each (λ (o : Out Client). one_if (get_or o.state.answered t false) ≤ replies_to t (Ask e) + one_if (get_or c.answered t false)) s c e
+    (omega arith) (λ is. omega arith)
 row_hears s c _ t = omega arith
 
 abbrev hears : ScriptData → List Entry → ℕ → ℕ
@@ -234,9 +242,10 @@ hears_nudges s c t false is places new = omega arith
 row_nudges : (s : ScriptData) (c : Client) (body : Body) → length c.answered ≡ length s.trees
     → ((t : TreeNo) (v : Version) (answer : Answer) → body ≡ Reply t v answer → t.0 < length s.trees → get_or c.answered t.0 false ≡ false)
     → Nudges s c (client_row s c body)
-row_nudges s c Go places new = omega (arith, submit_none is_nudge s c [] refl (λ t. refl) refl)
+row_nudges s c Go places new = omega (arith, submit_none is_nudge s c [] refl rows_no_nudges)
 row_nudges s c (Reply t v answer) places new = hears_nudges s c t (nat_lt t.0 (length s.trees)) refl places (λ lt. new t v answer refl lt)
-row_nudges s c (Advanced v) places new = omega (arith, submit_none is_nudge s (with_end c) [] refl (λ t. refl) refl)
+row_nudges s c (Advanced v) places new = omega (arith, submit_none is_nudge s (with_end s v c) [] refl rows_no_nudges)
+row_nudges s c (Ask e) places new = asked_each (Nudges s c) s c e (omega arith) (λ is. omega arith)
 row_nudges s c _ places new = omega arith
 
 -- nudges in flight, nudges taken and trees of which the client hasn't heard are as many as trees
@@ -272,12 +281,9 @@ next_even s past e valid apt run even (NodeKeeps p r k d) =
     let at = d.brings.at in
     let lt = d.brings.below in
     aside_even s past e run.0 even (λ is. omega (arith, at, lt, is)) (ap (λ (os : List Outgoing). tally (on is_nudge) os) d.sent)
-next_even s past e valid apt run even (Coordinates at says) =
-    let c : Coordinator = coordinator_in s past in
+next_even s past e valid apt run even (Coordinates at made) =
     aside_even s past e run.0 even (λ is. omega (arith, at, is))
-    (ap (λ (os : List Outgoing). tally (on is_nudge) os) says.0
-    ∙ each_none (on is_nudge) (coordinator_table c e.took).sent
-    (coordinator_each (λ (to : ℕ) (b : Body). is_nudge b ≡ 0) c (orders_none c.nodes) e.took.from.0 e.took.body))
+    (each_none (on is_nudge) e.sent (coordinated_each (λ (b : Body). is_nudge b ≡ 0) s e orders_none made))
 next_even s past e valid apt run even (Submits at says) = client_even s past e valid apt run even at says
 
 evened : (s : ScriptData) (past : List Entry) → IsValid s → AllApt s past → IsStepRun s past → Evened s past

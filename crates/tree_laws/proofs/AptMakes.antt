@@ -48,6 +48,7 @@ use Rattle.tree_laws.proofs.Loads.{trees_done, trees_most}
 use Rattle.tree_laws.proofs.NodeLoads.{StrictTree, kind_here, node_load_more, node_ops_fit, ops_fit_kind, plain_kind, strict_there}
 use Rattle.tree_laws.proofs.Overwriting.{can_decide_ops}
 use Rattle.tree_laws.proofs.Tables.{touched_table}
+use Rattle.world_model.specs.Epochs.{is_core_timely}
 
 -- a run of apt letters of a valid script, in which decisions are applied where they are made
 record Running (s : ScriptData) (past : List Entry) : Type 0 where
@@ -272,7 +273,7 @@ decision_made s past r p t v true g lt out to is named timely = commit_made s pa
 decision_made s past r p t v false g lt out to is named timely = refl
 
 makes_by : (s : ScriptData) (past : List Entry) (r : Letter) (p : ℕ) (body : Body) → Running s past → p < s.nodes → IsOutstanding s past r
-    → r.to.0 ≡ p → r.body ≡ body → is_named s p r.from.0 body ≡ true → is_timely s (node_in s past p) body ≡ true
+    → r.to.0 ≡ p → r.body ≡ body → is_named s p r.from.0 body ≡ true → is_core_timely s (keeping_in s past p).core body ≡ true
     → can_make_at s p (keeping_in s past p).core body ≡ true
 makes_by s past r p (Root t) g lt out to is named timely =
     made_by s past p t.0 0 (Root t) (tree_kind_at s t.0) refl
@@ -286,7 +287,7 @@ makes_by s past r p _ g lt out to is named timely = refl
 -- a letter that is outstanding, meant for its node and timely asks for what can be made
 pub makes : (s : ScriptData) (past : List Entry) (r : Letter) (p : ℕ) → DecidedOnce → AppliedWhereDecided → IsValid s → AllApt s past
     → IsStepRun s past → p < s.nodes → IsOutstanding s past r → r.to.0 ≡ p → is_named s p r.from.0 r.body ≡ true
-    → is_timely s (node_in s past p) r.body ≡ true → can_make_at s p (keeping_in s past p).core r.body ≡ true
+    → is_core_timely s (keeping_in s past p).core r.body ≡ true → can_make_at s p (keeping_in s past p).core r.body ≡ true
 makes s past r p once where_decided valid apt run lt out to named timely =
     makes_by s past r p r.body (record { once = once; where_decided = where_decided; valid = valid; apt = apt; run = run }) lt out to refl named
     timely

@@ -16,6 +16,7 @@ use Rattle.tree_home.specs.HeldAnswers.{HeldAnswers, held_in}
 use Rattle.tree_home.specs.declared.homes.Held.{Held}
 use Rattle.tx_trees.specs.ScriptData.{ScriptData, client_of, home_of}
 use Rattle.tx_trees.specs.Valid.{IsValid}
+use Rattle.world_model.proofs.Coordination.{IsCoordinated}
 use Rattle.world_model.specs.AllApt.{AllApt}
 use Rattle.world_model.specs.Counts.{one_if, tally}
 use Rattle.world_model.specs.Runs.{IsStepRun, Says, client_in, coordinator_in, keeping_in}
@@ -87,7 +88,7 @@ later_sub k n none = let zero : one_if (k == 0) ≡ 0 = omega (arith, none) in g
 pub data OfTree (s : ScriptData) (past : List Entry) (e : Entry) (w : ℕ) : Type 0 where
   Other : (p : ℕ) (r : Letter) → Doing s past e p r → IsOther w (keeping_in s past p).core.holds r.body → OfTree s past e w
   Kept : (p : ℕ) (r : Letter) (k : CoreKeeping) → Keeps s past e p r k → OfTree s past e w
-  ByCoordinator : e.actor.0 ≡ s.nodes → Says (coordinator_table (coordinator_in s past) e.took) e → OfTree s past e w
+  ByCoordinator : e.actor.0 ≡ s.nodes → IsCoordinated s e → OfTree s past e w
   ByClient : e.actor.0 ≡ client_of s → Says (client_table s (client_in s past) e.took) e → OfTree s past e w
   OwnRoot : (p : ℕ) (t : TreeNo) (r : Letter) → Doing s past e p r → r.body ≡ Root t → t.0 ≡ w → OfTree s past e w
   OwnSub : (p : ℕ) (t : TreeNo) (k : SubNo) (v : Version) (r : Letter) → Doing s past e p r → r.body ≡ SubLetter t k v → 0 < k.0 → t.0 ≡ w
@@ -136,7 +137,7 @@ of_case : (s : ScriptData) (past : List Entry) (e : Entry) (w : ℕ) → IsValid
 of_case s past e w valid apt run all (NodeDoes p r d) =
     does_of s past e p w r r.body (record { valid = valid; apt = apt; run = run; enters = enters s past e valid apt run; does = d }) refl all
 of_case s past e w valid apt run all (NodeKeeps p r k d) = Kept p r k d
-of_case s past e w valid apt run all (Coordinates at says) = ByCoordinator at says
+of_case s past e w valid apt run all (Coordinates at made) = ByCoordinator at made
 of_case s past e w valid apt run all (Submits at says) = ByClient at says
 
 pub of_tree : (s : ScriptData) (past : List Entry) (e : Entry) (w : ℕ) → IsValid s → AllApt s (e ∷ past) → IsStepRun s (e ∷ past) → AllStaged s past
@@ -155,11 +156,11 @@ pub kept_leaves : (s : ScriptData) (past : List Entry) (e : Entry) (p w : ℕ) (
 kept_leaves s past e p w r k valid apt run d = keeps_leaves s past e p w r k run.0 (enters s past e valid apt run) d
 
 pub coordinator_leaves : (s : ScriptData) (past : List Entry) (e : Entry) (w : ℕ) → IsValid s → AllApt s (e ∷ past) → IsStepRun s (e ∷ past)
-    → w < length s.trees → e.actor.0 ≡ s.nodes → Says (coordinator_table (coordinator_in s past) e.took) e → Leaves s past e w
-coordinator_leaves s past e w valid apt run lt at says =
+    → w < length s.trees → e.actor.0 ≡ s.nodes → IsCoordinated s e → Leaves s past e w
+coordinator_leaves s past e w valid apt run lt at made =
     apart_leaves s past e w run.0 (enters s past e valid apt run) (none_strays s past valid apt.1 run.1) (none_misplaced s past valid apt.1 run.1)
     (home_node s w valid lt) (omega (arith, at))
-    (λ f none. ap (λ (os : List Outgoing). tally (on f) os) says.0 ∙ coordinator_none f (coordinator_in s past) e.took none)
+    (λ f none. coordinator_none f s e made none)
 
 pub client_leaves : (s : ScriptData) (past : List Entry) (e : Entry) (w : ℕ) → IsValid s → AllApt s (e ∷ past) → IsStepRun s (e ∷ past)
     → w < length s.trees → e.actor.0 ≡ client_of s → Says (client_table s (client_in s past) e.took) e → Leaves s past e w

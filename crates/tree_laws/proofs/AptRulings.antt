@@ -9,7 +9,7 @@ use Rattle.letter_types.specs.Steps.{Out, still}
 use Rattle.letter_types.specs.declared.acts.Act.{Act}
 use Rattle.letter_types.specs.declared.acts.Act.TheVariants as acts
 use Rattle.letter_types.specs.declared.bodies.Body.{Body}
-use Rattle.letter_types.specs.declared.bodies.Body.TheVariants.{Root, Sub as SubLetter, Done, Go, Decide, Decided, Release, Reply, Advanced, Turn, Show, Sweep, AskDone, AskAsked}
+use Rattle.letter_types.specs.declared.bodies.Body.TheVariants.{Root, Sub as SubLetter, Done, Go, Decide, Decided, Release, Reply, Advanced, Turn, Show, Sweep, AskDone, AskAsked, Ask, Order}
 use Rattle.letter_types.specs.declared.bodies.Notice.{Notice}
 use Rattle.letter_types.specs.declared.bodies.Notice.TheVariants.{Did as DidNotice, Yes, No}
 use Rattle.letter_types.specs.declared.entries.Outgoing.{Outgoing}
@@ -22,9 +22,11 @@ use Rattle.tx_trees.specs.ScriptData.{ScriptData, client_of, home_of, subs_at, v
 use Rattle.tx_trees.specs.declared.parts.Sub.{Sub}
 use Rattle.tx_trees.specs.declared.parts.TreeKind.{TreeKind}
 use Rattle.tx_trees.specs.declared.parts.TreeKind.TheVariants.{Update, Read, Strict}
+use Rattle.world_model.proofs.Epochs.{ask_each, order_each}
+use Rattle.world_model.specs.Lossy.{is_lossy}
 use Rattle.world_model.specs.Asked.{asked_ops, asked_version, tree_part}
 use Rattle.world_model.specs.Children.{done_letter, sub_letter, sub_letters}
-use Rattle.world_model.specs.Client.{Client, client_finishes, client_row, next_after, nudge, submit, with_answer, with_end}
+use Rattle.world_model.specs.Client.{Client, client_finishes, client_row, next_after, nudge, submit, with_answer, with_end, wanted}
 use Rattle.world_model.specs.Core.{Core, Refusals}
 use Rattle.world_model.specs.Counts.{tally}
 use Rattle.world_model.specs.Done.{TreeOut, note_part, turned_if}
@@ -41,6 +43,7 @@ use Rattle.world_model.proofs.Keepings.{of_kept}
 use Rattle.tree_laws.proofs.AptStagesRows.{noted_names}
 use Rattle.tree_laws.proofs.Noting.{Last, More, Noting, misses_root, noting}
 use Rattle.tree_laws.proofs.Turns.{answers_none, is_asking, releases_none, replies_none}
+use Rattle.world_model.proofs.Sends.{asked_each}
 
 -- a letter that tells a decision
 abbrev pub is_decide : Body → Bool
@@ -343,6 +346,15 @@ core_rules s p from (Show v) c = rules_none s c (Show v) _ (λ u its. absurd its
 core_rules s p from (Sweep v) c = rules_none s c (Sweep v) _ (λ u its. absurd its) (λ g of. one_act g _ of refl) (λ f of. one_letter f _ of refl)
 core_rules s p from (AskDone v k) c = rules_none s c (AskDone v k) _ (λ u its. absurd its) (λ g of. refl) (λ f of. one_letter f _ of refl)
 core_rules s p from (AskAsked v k) c = rules_none s c (AskAsked v k) _ (λ u its. absurd its) (λ g of. refl) (λ f of. one_letter f _ of refl)
+core_rules s p from (Order e what v) c =
+    order_each (RowRules s c (Order e what v)) s p from e what v c (rules_none s c (Order e what v) _ (λ u its. absurd its) (λ g of. refl) (λ f of. refl))
+    (rules_none s c (Order e what v) _ (λ u its. absurd its) (λ g of. refl) (λ f of. one_letter f _ of refl))
+    (λ is. rules_none s c (Order e what v) _ (λ u its. absurd its) (λ g of. turned_other g (nat_lt c.node.turns.update.0 v.0) v.0 of) (λ f of. one_letter f _ of refl))
+    (λ is new. rules_none s c (Order e what v) _ (λ u its. absurd its) (λ g of. one_act g _ of refl) (λ f of. one_letter f _ of refl))
+    (λ is new. rules_none s c (Order e what v) _ (λ u its. absurd its) (λ g of. one_act g _ of refl) (λ f of. one_letter f _ of refl))
+core_rules s p from (Ask e) c =
+    ask_each (RowRules s c (Ask e)) s e c (rules_none s c (Ask e) _ (λ u its. absurd its) (λ g of. refl) (λ f of. refl))
+    (rules_none s c (Ask e) _ (λ u its. absurd its) (λ g of. refl) (λ f of. one_letter f _ of refl))
 core_rules s p from Go c = rules_none s c Go _ (λ u its. absurd its) (λ g of. refl) (λ f of. refl)
 core_rules s p from _ c = rules_none s c _ _ (λ u its. absurd its) (λ g of. refl) (λ f of. refl)
 
@@ -355,7 +367,8 @@ hears_acts g s c t false none = refl
 pub client_acts : (g : Act → ℕ) (s : ScriptData) (c : Client) (body : Body) → g acts.Finished ≡ 0 → tally g (client_row s c body).acts ≡ 0
 client_acts g s c Go none = finish_none g (client_finishes s (next_after s c) c) none
 client_acts g s c (Reply t v answer) none = hears_acts g s c t.0 (nat_lt t.0 (length s.trees)) none
-client_acts g s c (Advanced v) none = finish_none g (client_finishes s (next_after s (with_end c)) (with_end c)) none
+client_acts g s c (Advanced v) none = let d = with_end s v c in finish_none g (client_finishes s (next_after s d) d) none
+client_acts g s c (Ask e) none = asked_each (λ (o : Out Client). tally g o.acts ≡ 0) s c e refl (λ is. refl)
 client_acts g s c _ none = refl
 
 -- numbers that count no act of keeping a letter

@@ -7,10 +7,10 @@ use Rattle.tv_base.proofs.Truths.{left_true}
 use Rattle.tv_base.specs.declared.numbers.SubNo.{SubNo}
 use Rattle.tv_base.specs.declared.numbers.TreeNo.{TreeNo}
 use Rattle.tv_base.specs.declared.numbers.Version.{Version}
-use Rattle.letter_types.specs.Kept.{kept_without, wakes, wakes_by}
+use Rattle.letter_types.specs.Kept.{kept_without, wakes}
 use Rattle.letter_types.specs.Steps.{Out, still}
 use Rattle.letter_types.specs.declared.bodies.Body.{Body}
-use Rattle.letter_types.specs.declared.bodies.Body.TheVariants.{Root, Sub as SubLetter, Done, Go, Decide, Decided, Release, Reply, Advance, Nudge, Advanced, Turn, Show, Sweep, AskDone, AskAsked}
+use Rattle.letter_types.specs.declared.bodies.Body.TheVariants.{Root, Sub as SubLetter, Done, Go, Decide, Decided, Release, Reply, Advance, Nudge, Advanced, Turn, Show, Sweep, AskDone, AskAsked, Ask, Order, Wanted, AdvanceNo, Lose}
 use Rattle.letter_types.specs.declared.bodies.Notice.{Notice}
 use Rattle.letter_types.specs.declared.entries.Entry.{Entry}
 use Rattle.letter_types.specs.declared.entries.Letter.{Letter}
@@ -23,15 +23,21 @@ use Rattle.tx_trees.specs.Valid.{IsValid}
 use Rattle.tx_trees.specs.declared.parts.Tree.{Tree}
 use Rattle.tx_trees.specs.declared.parts.TreeKind.{TreeKind}
 use Rattle.tx_trees.specs.declared.parts.TreeKind.TheVariants.{Update, Read, Strict}
+use Rattle.world_model.proofs.Epochs.{ask_each, order_each}
+use Rattle.world_model.specs.Lossy.{is_lossy}
+use Rattle.world_model.proofs.Coordination.{IsCoordinated, OfCoordinator, coordinated_each}
+use Rattle.letter_types.specs.declared.bodies.What.{What}
+use Rattle.letter_types.specs.declared.bodies.What.TheVariants as whats
+use Rattle.world_model.proofs.Sends.{CountsNoRow}
 use Rattle.world_model.specs.AllApt.{AllApt}
 use Rattle.world_model.specs.Asked.{asked_ops, asked_version, tree_part}
 use Rattle.world_model.specs.Children.{done_letter, sub_letters}
-use Rattle.world_model.specs.Client.{Client, client_row, nudge, submit, with_answer, with_end}
+use Rattle.world_model.specs.Client.{advances_sent, Client, client_row, nudge, submit, with_answer, with_end, wanted}
 use Rattle.world_model.specs.Coordinator.{Coordinator}
 use Rattle.world_model.specs.Core.{Core}
 use Rattle.world_model.specs.Counts.{Each, one_if, tally}
 use Rattle.world_model.specs.Done.{TreeOut, note_part}
-use Rattle.world_model.specs.Keeping.{KeepingNode}
+use Rattle.world_model.specs.Keeping.{KeepingNode, woken_by}
 use Rattle.world_model.specs.Kept.{kept_in, outstanding}
 use Rattle.world_model.specs.Named.{is_named, is_strict_at, tree_kind_at}
 use Rattle.world_model.specs.Node.{Effect, Node}
@@ -190,6 +196,9 @@ core_placed s p from (Show v) c has = refl
 core_placed s p from (Sweep v) c has = refl
 core_placed s p from (AskDone v k) c has = refl
 core_placed s p from (AskAsked v k) c has = refl
+core_placed s p from (Order e what v) c has =
+    order_each (λ (o : Out Core). tally (sent_off s) o.sent ≡ 0) s p from e what v c refl refl (λ is. refl) (λ is new. refl) (λ is new. refl)
+core_placed s p from (Ask e) c has = ask_each (λ (o : Out Core). tally (sent_off s) o.sent ≡ 0) s e c refl refl
 core_placed s p from Go c has = refl
 core_placed s p from _ c has = refl
 
@@ -212,60 +221,66 @@ has_home s p from _ valid lt named = tt
 
 -- What the coordinator and the client send, of a number that counts none of it.
 pub record CountsNoOthers (f : Body → ℕ) : Type 0 where
-  pub roots : (t : TreeNo) → f (Root t) ≡ 0
-  pub advance : f Advance ≡ 0
+  pub rows : CountsNoRow f
   pub nudge : f Nudge ≡ 0
-  pub orders : (n : ℕ) → OfOrders (λ (to : ℕ) (b : Body). f b ≡ 0) n
+  pub wanted : (e k : ℕ) → f (Wanted e k) ≡ 0
+  pub orders : OfCoordinator (λ (b : Body). f b ≡ 0)
 
 hears_none : (f : Body → ℕ) (s : ScriptData) (c : Client) (t : ℕ) (test : Bool) → CountsNoOthers f
     → tally (on f) (if test then submit s (with_answer t c) (nudge s ∷ []) else still c).sent ≡ 0
-hears_none f s c t true none = submit_none f s (with_answer t c) (nudge s ∷ []) (omega (arith, none.nudge)) none.roots none.advance
+hears_none f s c t true none = submit_none f s (with_answer t c) (nudge s ∷ []) (omega (arith, none.nudge)) none.rows
 hears_none f s c t false none = refl
 
+asked_none : (f : Body → ℕ) (s : ScriptData) (c : Client) (e : ℕ) (test : Bool) → CountsNoOthers f
+    → tally (on f) (if test then wanted s e c else still c).sent ≡ 0
+asked_none f s c e true none = omega (arith, none.wanted e (advances_sent s c))
+asked_none f s c e false none = refl
+
 pub client_none : (f : Body → ℕ) (s : ScriptData) (c : Client) (body : Body) → CountsNoOthers f → tally (on f) (client_row s c body).sent ≡ 0
-client_none f s c Go none = submit_none f s c [] refl none.roots none.advance
+client_none f s c Go none = submit_none f s c [] refl none.rows
 client_none f s c (Reply t v answer) none = hears_none f s c t.0 (nat_lt t.0 (length s.trees)) none
-client_none f s c (Advanced v) none = submit_none f s (with_end c) [] refl none.roots none.advance
+client_none f s c (Advanced v) none = submit_none f s (with_end s v c) [] refl none.rows
+client_none f s c (Ask e) none = asked_none f s c e (is_lossy s) none
 client_none f s c _ none = refl
 
-pub coordinator_none : (f : Body → ℕ) (c : Coordinator) (l : Letter) → CountsNoOthers f → tally (on f) (coordinator_table c l).sent ≡ 0
-coordinator_none f c l none =
-    each_none (on f) (coordinator_table c l).sent (coordinator_each (λ (to : ℕ) (b : Body). f b ≡ 0) c (none.orders c.nodes) l.from.0 l.body)
+pub coordinator_none : (f : Body → ℕ) (s : ScriptData) (e : Entry) → IsCoordinated s e → CountsNoOthers f → tally (on f) e.sent ≡ 0
+coordinator_none f s e made none = each_none (on f) e.sent (coordinated_each (λ (b : Body). f b ≡ 0) s e none.orders made)
 
-pub orders_none : (f : Body → ℕ) (n : ℕ) → ((v : Version) → (f (Turn v) ≡ 0) × ((f (Show v) ≡ 0) × (f (Sweep v) ≡ 0)))
-    → ((v : Version) (k : ℕ) → (f (AskDone v k) ≡ 0) × (f (AskAsked v k) ≡ 0)) → ((v : Version) → f (Advanced v) ≡ 0) → OfOrders (λ (to : ℕ) (b : Body). f b ≡ 0) n
-orders_none f n tells asks_of ends = record {
-  turn = λ to v lt. (tells v).0;
-  show = λ to v lt. (tells v).1.0;
-  sweep = λ to v lt. (tells v).1.1;
-  ask_done = λ to v k lt. (asks_of v k).0;
-  ask_asked = λ to v k lt. (asks_of v k).1;
-  advanced = λ v. ends v;
+-- none of it is counted where each letter of it isn't
+pub none_of_others : (f : Body → ℕ) → ((t : TreeNo) → f (Root t) ≡ 0) → ((v : Version) → (f (Turn v) ≡ 0) × ((f (Show v) ≡ 0) × (f (Sweep v) ≡ 0)))
+    → ((e : ℕ) (what : What) (v : Version) → (f (Order e what v) ≡ 0) × (f (Ask e) ≡ 0))
+    → ((v : Version) (k : ℕ) → (f (AskDone v k) ≡ 0) × (f (AskAsked v k) ≡ 0)) → ((v : Version) → f (Advanced v) ≡ 0)
+    → (f Nudge ≡ 0) × ((f Advance ≡ 0) × (f Lose ≡ 0)) → ((e k : ℕ) → (f (Wanted e k) ≡ 0) × (f (AdvanceNo k) ≡ 0)) → CountsNoOthers f
+none_of_others f root tells orders asks_of ends single pairs = record {
+  rows = record { root = root; advance = single.1.0; numbered = λ i. (pairs 0 i).1; lose = single.1.1 };
+  nudge = single.0;
+  wanted = λ e k. (pairs e k).0;
+  orders = record {
+    turn = λ v. (tells v).0;
+    show = λ v. (tells v).1.0;
+    sweep = λ v. (tells v).1.1;
+    order = λ e what v. (orders e what v).0;
+    ask = λ e. (orders e whats.Turn (record { 0 = 0 })).1;
+    ask_done = λ v k. (asks_of v k).0;
+    ask_asked = λ v k. (asks_of v k).1;
+    advanced = λ v. ends v;
+  };
 }
 
 reports_no_others : CountsNoOthers is_report
-reports_no_others = record {
-  roots = λ t. refl;
-  advance = refl;
-  nudge = refl;
-  orders = λ n. orders_none is_report n (λ v. (refl, (refl, refl))) (λ v k. (refl, refl)) (λ v. refl);
-}
+reports_no_others =
+    none_of_others is_report (λ t. refl) (λ v. (refl, (refl, refl))) (λ e what v. (refl, refl)) (λ v k. (refl, refl)) (λ v. refl)
+    (refl, (refl, refl)) (λ e k. (refl, refl))
 
 replies_no_others : (w : ℕ) → CountsNoOthers (replies_to w)
-replies_no_others w = record {
-  roots = λ t. refl;
-  advance = refl;
-  nudge = refl;
-  orders = λ n. orders_none (replies_to w) n (λ v. (refl, (refl, refl))) (λ v k. (refl, refl)) (λ v. refl);
-}
+replies_no_others w =
+    none_of_others (replies_to w) (λ t. refl) (λ v. (refl, (refl, refl))) (λ e what v. (refl, refl)) (λ v k. (refl, refl)) (λ v. refl)
+    (refl, (refl, refl)) (λ e k. (refl, refl))
 
 decides_no_others : (w : ℕ) → CountsNoOthers (decides w)
-decides_no_others w = record {
-  roots = λ t. refl;
-  advance = refl;
-  nudge = refl;
-  orders = λ n. orders_none (decides w) n (λ v. (refl, (refl, refl))) (λ v k. (refl, refl)) (λ v. refl);
-}
+decides_no_others w =
+    none_of_others (decides w) (λ t. refl) (λ v. (refl, (refl, refl))) (λ e what v. (refl, refl)) (λ v k. (refl, refl)) (λ v. refl)
+    (refl, (refl, refl)) (λ e k. (refl, refl))
 
 -- So none is misplaced.
 off_next : (s : ScriptData) (past : List Entry) (e : Entry) → MayFollow s past e → NoneMisplaced s past → tally (sent_off s) e.sent ≡ 0
@@ -283,20 +298,19 @@ does_sends : (s : ScriptData) (past : List Entry) (e : Entry) (p : ℕ) (r : Let
 does_sends s past e p r valid d =
     let c : Core = (keeping_in s past p).core in
     let row : Out Core = core_row s p c r.from.0 r.body in
-    let more : List Outgoing = wakes (wakes_by r.body) (kept_without (kept_in s past p) e.took.body) in
+    let more : List Outgoing = wakes (woken_by (keeping_in s past p).core r.body) (kept_without (kept_in s past p) e.took.body) in
     omega (
       arith,
       ap (λ (os : List Outgoing). tally (sent_off s) os) d.sent,
       tally-append (sent_off s) row.sent more,
-      wakes_none (sent_off s) (wakes_by r.body) (kept_without (kept_in s past p) e.took.body) (λ x. refl),
+      wakes_none (sent_off s) (woken_by (keeping_in s past p).core r.body) (kept_without (kept_in s past p) e.took.body) (λ x. refl),
       core_placed s p r.from.0 r.body c (has_home s p r.from.0 r.body valid d.brings.below (apt_named s p c r d.brings.apt)),
     )
 
 off_by : (s : ScriptData) (past : List Entry) (e : Entry) → IsValid s → Case s past e → tally (sent_off s) e.sent ≡ 0
 off_by s past e valid (NodeDoes p r d) = does_sends s past e p r valid d
 off_by s past e valid (NodeKeeps p r k d) = ap (λ (os : List Outgoing). tally (sent_off s) os) d.sent
-off_by s past e valid (Coordinates at says) =
-    no_reports s e.sent (ap (λ (os : List Outgoing). tally (on is_report) os) says.0 ∙ coordinator_none is_report (coordinator_in s past) e.took reports_no_others)
+off_by s past e valid (Coordinates at made) = no_reports s e.sent (coordinator_none is_report s e made reports_no_others)
 off_by s past e valid (Submits at says) =
     no_reports s e.sent (ap (λ (os : List Outgoing). tally (on is_report) os) says.0 ∙ client_none is_report s (client_in s past) e.took.body reports_no_others)
 

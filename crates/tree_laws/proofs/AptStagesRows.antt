@@ -5,7 +5,7 @@ use Rattle.tv_base.specs.declared.numbers.SubNo.{SubNo}
 use Rattle.tv_base.specs.declared.numbers.TreeNo.{TreeNo}
 use Rattle.tv_base.specs.declared.numbers.Version.{Version}
 use Rattle.letter_types.specs.declared.bodies.Body.{Body}
-use Rattle.letter_types.specs.declared.bodies.Body.TheVariants.{Root, Sub as SubLetter, Done, Go, Decide, Decided, Release, Turn, Show, Sweep, AskDone, AskAsked}
+use Rattle.letter_types.specs.declared.bodies.Body.TheVariants.{Root, Sub as SubLetter, Done, Go, Decide, Decided, Release, Turn, Show, Sweep, AskDone, AskAsked, Ask, Order}
 use Rattle.letter_types.specs.declared.bodies.Notice.{Notice}
 use Rattle.letter_types.specs.declared.votes.Vote.{Vote}
 use Rattle.letter_types.specs.Steps.{Out}
@@ -17,6 +17,7 @@ use Rattle.tree_home.specs.declared.homes.Held.{Held}
 use Rattle.tx_trees.specs.ScriptData.{ScriptData, client_of, home_of, subs_at, visited_by}
 use Rattle.tx_trees.specs.declared.parts.TreeKind.{TreeKind}
 use Rattle.tx_trees.specs.declared.parts.TreeKind.TheVariants.{Update, Read, Strict}
+use Rattle.world_model.proofs.Epochs.{ask_each, order_each}
 use Rattle.world_model.specs.Asked.{asked_ops, asked_version, tree_part}
 use Rattle.world_model.specs.Children.{done_letter, sub_letters}
 use Rattle.world_model.specs.Core.{Core, Refusals}
@@ -243,6 +244,13 @@ core_aside w s p from (Show v) c apart = record { home = refl; held = refl; repl
 core_aside w s p from (Sweep v) c apart = record { home = refl; held = refl; replies = refl; decides = refl }
 core_aside w s p from (AskDone v k) c apart = record { home = refl; held = refl; replies = refl; decides = refl }
 core_aside w s p from (AskAsked v k) c apart = record { home = refl; held = refl; replies = refl; decides = refl }
+core_aside w s p from (Order e what v) c apart =
+    order_each (Aside w (Order e what v) c.node.homes c.holds) s p from e what v c (record { home = refl; held = refl; replies = refl; decides = refl })
+    (record { home = refl; held = refl; replies = refl; decides = refl }) (λ is. record { home = refl; held = refl; replies = refl; decides = refl })
+    (λ is new. record { home = refl; held = refl; replies = refl; decides = refl }) (λ is new. record { home = refl; held = refl; replies = refl; decides = refl })
+core_aside w s p from (Ask e) c apart =
+    ask_each (Aside w (Ask e) c.node.homes c.holds) s e c (record { home = refl; held = refl; replies = refl; decides = refl })
+    (record { home = refl; held = refl; replies = refl; decides = refl })
 core_aside w s p from Go c apart = record { home = refl; held = refl; replies = refl; decides = refl }
 core_aside w s p from _ c apart = record { home = refl; held = refl; replies = refl; decides = refl }
 

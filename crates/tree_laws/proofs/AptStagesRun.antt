@@ -17,7 +17,7 @@ next_by : (s : ScriptData) (past : List Entry) (e : Entry) (w : ℕ) → IsValid
     → w < length s.trees → OfTree s past e w → StageNext s past e w
 next_by s past e w valid apt run lt (Other p r g it) = stays s past e w (other_leaves s past e p w r g it)
 next_by s past e w valid apt run lt (Kept p r k d) = stays s past e w (kept_leaves s past e p w r k valid apt run d)
-next_by s past e w valid apt run lt (ByCoordinator at says) = stays s past e w (coordinator_leaves s past e w valid apt run lt at says)
+next_by s past e w valid apt run lt (ByCoordinator at made) = stays s past e w (coordinator_leaves s past e w valid apt run lt at made)
 next_by s past e w valid apt run lt (ByClient at says) = stays s past e w (client_leaves s past e w valid apt run lt at says)
 next_by s past e w valid apt run lt (OwnRoot p t r g is same) = subst (λ (u : ℕ). StageNext s past e u) same (root_stage s past e p t r g is)
 next_by s past e w valid apt run lt (OwnSub p t k v r g is some same) =

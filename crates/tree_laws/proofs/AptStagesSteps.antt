@@ -4,7 +4,7 @@ use Rattle.std.proofs.lemmas.Bool.{cases_eq}
 use Rattle.tv_base.specs.declared.numbers.SubNo.{SubNo}
 use Rattle.tv_base.specs.declared.numbers.TreeNo.{TreeNo}
 use Rattle.tv_base.specs.declared.numbers.Version.{Version}
-use Rattle.letter_types.specs.Kept.{kept_without, wakes, wakes_by}
+use Rattle.letter_types.specs.Kept.{kept_without, wakes}
 use Rattle.letter_types.specs.Steps.{Out}
 use Rattle.letter_types.specs.declared.bodies.Body.{Body}
 use Rattle.letter_types.specs.declared.bodies.Body.TheVariants.{Root, Sub as SubLetter, Done, Go, Wake}
@@ -17,7 +17,7 @@ use Rattle.tx_trees.specs.ScriptData.{ScriptData, home_of, subs_at}
 use Rattle.world_model.specs.Children.{done_letter, sub_letters}
 use Rattle.world_model.specs.Core.{Core}
 use Rattle.world_model.specs.Counts.{one_if, tally}
-use Rattle.world_model.specs.Keeping.{AreKeptAt, AsksFor, KeepingNode}
+use Rattle.world_model.specs.Keeping.{AreKeptAt, AsksFor, KeepingNode, woken_by}
 use Rattle.world_model.specs.Kept.{kept_by, kept_in, of_done, outstanding}
 use Rattle.world_model.specs.Runs.{MayFollow, in_flight, keeping_in}
 use Rattle.world_model.specs.Strict.{CoreKeeping, core_row}
@@ -123,7 +123,7 @@ notes_by s past e t k m n =
       done_flow (tells_done t k) s past e (tells_no_asking t k) m,
       n.sends (on (tells_done t k)) (tells_of t k),
       sent_tells s t k n.version n.notice n.body,
-      roots_none (tells_done t k) s n.rows (λ u. refl) refl,
+      roots_none (tells_done t k) s n.before n.rows (record { root = λ u. refl; advance = refl; numbered = λ i. refl; lose = refl }),
       n.done (told t k) refl,
     )
 
@@ -151,12 +151,12 @@ pub sent_by : (f : Body → ℕ) (s : ScriptData) (past : List Entry) (e : Entry
     → Does s past e p r → tally (on f) e.sent ≡ tally (on f) (core_row s p (keeping_in s past p).core r.from.0 r.body).sent
 sent_by f s past e p r none d =
     let row : Out Core = core_row s p (keeping_in s past p).core r.from.0 r.body in
-    let more : List Outgoing = wakes (wakes_by r.body) (kept_without (kept_in s past p) e.took.body) in
+    let more : List Outgoing = wakes (woken_by (keeping_in s past p).core r.body) (kept_without (kept_in s past p) e.took.body) in
     omega (
       arith,
       ap (λ (os : List Outgoing). tally (on f) os) d.sent,
       tally-append (on f) row.sent more,
-      wakes_none (on f) (wakes_by r.body) (kept_without (kept_in s past p) e.took.body) (λ x. none x.tree x.sub),
+      wakes_none (on f) (woken_by (keeping_in s past p).core r.body) (kept_without (kept_in s past p) e.took.body) (λ x. none x.tree x.sub),
     )
 
 -- A row beside tree w.

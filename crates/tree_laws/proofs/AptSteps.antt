@@ -8,7 +8,7 @@ use Rattle.tv_base.specs.declared.numbers.Version.{Version}
 use Rattle.letter_types.specs.declared.acts.Act.{Act}
 use Rattle.letter_types.specs.declared.acts.Act.TheVariants as acts
 use Rattle.letter_types.specs.declared.bodies.Body.{Body}
-use Rattle.letter_types.specs.declared.bodies.Body.TheVariants.{Advanced, AskAsked, AskDone, Go, Reply, Root, Show, Sub as SubLetter, Sweep, Turn, Wake}
+use Rattle.letter_types.specs.declared.bodies.Body.TheVariants.{Advanced, AskAsked, AskDone, Go, Reply, Root, Show, Sub as SubLetter, Sweep, Turn, Wake, Ask, Order, Wanted, AdvanceNo, Advance as AdvanceLetter}
 use Rattle.letter_types.specs.declared.bodies.Notice.{Notice}
 use Rattle.letter_types.specs.declared.bodies.Notice.TheVariants.{Did as DidNotice}
 use Rattle.letter_types.specs.declared.entries.Entry.{Entry}
@@ -16,7 +16,7 @@ use Rattle.letter_types.specs.declared.entries.Letter.{Letter}
 use Rattle.letter_types.specs.declared.entries.Outgoing.{Outgoing}
 use Rattle.letter_types.specs.declared.kept.KeptLetter.{KeptLetter}
 use Rattle.letter_types.specs.declared.kept.Why.{Why}
-use Rattle.letter_types.specs.Kept.{kept_without, wakes, wakes_by}
+use Rattle.letter_types.specs.Kept.{kept_without, wakes}
 use Rattle.letter_types.specs.Steps.{Out, still}
 use Rattle.tx_trees.proofs.SubsOf.{all_at, found_subs, names_end, sub_nodes}
 use Rattle.tx_trees.specs.ScriptData.{ScriptData, client_of, home_of, node_of, sub_at, subs_at}
@@ -24,29 +24,33 @@ use Rattle.tx_trees.specs.Valid.{IsTree, IsValid, NamesInOrder}
 use Rattle.tx_trees.specs.declared.parts.ScriptRow.{ScriptRow}
 use Rattle.tx_trees.specs.declared.parts.ScriptRow.TheVariants.{Tree as TreeRow, Advance, Settle, Lose}
 use Rattle.tx_trees.specs.declared.parts.Sub.{Sub}
+use Rattle.world_model.specs.Keeping.{woken_by}
 use Rattle.world_model.specs.AllApt.{AllApt}
 use Rattle.world_model.specs.Children.{done_letter, sub_letters}
-use Rattle.world_model.specs.Client.{Client, client_finishes, client_row, next_after, nudge, rows_letters, submit, submitted, with_answer, with_end}
-use Rattle.world_model.specs.Coordinator.{Coordinator}
+use Rattle.world_model.specs.Client.{Client, advance_letter, advances_sent, client_finishes, client_row, next_after, nudge, rows_letters, submit, submitted, wanted, with_answer, with_end}
+use Rattle.world_model.specs.Epochs.{is_core_timely}
+use Rattle.world_model.specs.Lossy.{is_lossy}
 use Rattle.world_model.specs.Core.{Core}
 use Rattle.world_model.specs.Counts.{one_if, tally}
 use Rattle.world_model.specs.Done.{turned_if}
 use Rattle.world_model.specs.Kept.{done_by, keeps_letter, kept_in, of_done, outstanding}
-use Rattle.world_model.specs.Runs.{IsStepRun, MayFollow, Says, client_in, coordinator_in, keeping_in}
+use Rattle.world_model.specs.Runs.{IsStepRun, MayFollow, Says, client_in, keeping_in}
 use Rattle.world_model.specs.Strict.{CoreKeeping, can_make_at, core_row, decides_near, is_core_apt, is_unheld}
-use Rattle.world_model.specs.Tables.{client_table, coordinator_table}
-use Rattle.world_model.specs.Named.{is_named, is_new, is_timely}
+use Rattle.world_model.specs.Tables.{client_table}
+use Rattle.world_model.specs.Named.{is_named, is_new}
 use Rattle.world_model.proofs.Bags.{sealed_tally, tally-append}
 use Rattle.world_model.proofs.Cases.{Case, Coordinates, Does, Keeps, NodeDoes, NodeKeeps, Submits, case, does_number, keeps_number}
 use Rattle.world_model.proofs.EachOutstanding.{done_outstanding}
-use Rattle.world_model.proofs.Every.{each_none}
+use Rattle.world_model.proofs.Coordination.{IsCoordinated, IsOfCoordinator}
+use Rattle.world_model.proofs.Every.{each_map, each_none}
 use Rattle.world_model.proofs.Flows.{client_kept, finish_none}
 use Rattle.world_model.proofs.Keepings.{OfKeepings, of_kept}
-use Rattle.world_model.proofs.Orders.{OfOrders, coordinator_each, no_acts, of}
+use Rattle.world_model.proofs.Orders.{of}
 use Rattle.world_model.proofs.Outstanding.{done_apart, outstanding_first, outstanding_step, took_outstanding}
 use Rattle.world_model.proofs.Scripts.{get_some}
 use Rattle.tree_laws.proofs.Sent.{tally_take_le, tally_take_more}
 use Rattle.tree_laws.proofs.Turns.{OfTreeActs, OfTreeLetters, Works, core_works, done_for, is_tree_act, is_tree_letter, sent_for, work_version}
+use Rattle.world_model.proofs.Sends.{asked_each, advance_each}
 
 -- a letter that asks for a subtransaction and doesn't go to a node, or asks for a root by a Sub
 abbrev pub strays : ScriptData → ℕ → Body → ℕ
@@ -72,11 +76,12 @@ pub record Enters (s : ScriptData) (past : List Entry) (e : Entry) : Type 0 wher
   pub body : Body
   pub version : Version
   pub notice : Notice
+  pub before : ℕ
   pub rows : List ScriptRow
   pub near : strays s to body ≡ 0
   pub done : (f : Body → ℕ) → f Go ≡ 0 → of_done (λ (l : Letter). f l.body) s past e ≡ f body
   pub sends : (f : Outgoing → ℕ) → OfTreeLetters f
-      → tally f e.sent ≡ tally f (sent_for s version notice body) + tally f (rows_letters s rows)
+      → tally f e.sent ≡ tally f (sent_for s version notice body) + tally f (rows_letters s before rows)
   pub acts : (g : Act → ℕ) → OfTreeActs g → tally g e.acts ≡ tally g (done_for version notice body)
   pub next : (f : ScriptRow → ℕ)
       → tally f (take (client_in s (e ∷ past)).next s.rows) ≡ tally f (take (client_in s past).next s.rows) + tally f rows
@@ -89,7 +94,7 @@ named_of a b c is = grind arith
 pub apt_named : (s : ScriptData) (p : ℕ) (c : Core) (l : Letter) → is_core_apt s p c l ≡ true → is_named s p l.from.0 l.body ≡ true
 apt_named s p c l apt =
     named_of _ (is_named s p l.from.0 l.body)
-    (is_new s c.node l.body && is_unheld l.body c.holds && (is_timely s c.node l.body && decides_near s c.node l.body && can_make_at s p c l.body)) apt
+    (is_new s c.node l.body && is_unheld l.body c.holds && (is_core_timely s c l.body && decides_near s c.node l.body && can_make_at s p c l.body)) apt
 
 -- Wakes are no tree's letters.
 wake_none : (f : Outgoing → ℕ) (b : Bool) (o : Outgoing) (os : List Outgoing) → f o ≡ 0 → tally f os ≡ 0
@@ -132,7 +137,7 @@ does_enters : (s : ScriptData) (past : List Entry) (e : Entry) (p : ℕ) (r : Le
     → Does s past e p r → Enters s past e
 does_enters s past e p r m none d =
     let c : Core = (keeping_in s past p).core in
-    let more : List Outgoing = wakes (wakes_by r.body) (kept_without (kept_in s past p) e.took.body) in
+    let more : List Outgoing = wakes (woken_by (keeping_in s past p).core r.body) (kept_without (kept_in s past p) e.took.body) in
     let row : Out Core = core_row s p c r.from.0 r.body in
     let w : Works s (work_version s c r.body) r.body row.sent row.acts = core_works s p r.from.0 r.body c d.brings.below (apt_named s p c r d.brings.apt) in
     record {
@@ -140,6 +145,7 @@ does_enters s past e p r m none d =
       body = r.body;
       version = work_version s c r.body;
       notice = w.notice;
+      before = 0;
       rows = [];
       near = does_near s past e p r m none d;
       done = λ f go. does_number (λ (l : Letter). f l.body) s past e p r d;
@@ -148,7 +154,7 @@ does_enters s past e p r m none d =
             arith,
             ap (λ (os : List Outgoing). tally f os) d.sent,
             tally-append f row.sent more,
-            wakes_none f (wakes_by r.body) (kept_without (kept_in s past p) e.took.body) (λ x. of (record { to = x.letter.to; body = Wake x.tree x.sub }) refl),
+            wakes_none f (woken_by (keeping_in s past p).core r.body) (kept_without (kept_in s past p) e.took.body) (λ x. of (record { to = x.letter.to; body = Wake x.tree x.sub }) refl),
             w.sends f of,
           );
       acts = λ g of. ap (λ (xs : List Act). tally g xs) d.acts ∙ w.acts g of;
@@ -187,6 +193,7 @@ keeps_enters s past e p r k d =
       body = Go;
       version = record { 0 = 0 };
       notice = DidNotice [];
+      before = 0;
       rows = [];
       near = refl;
       done = λ f go. keeps_number (λ (l : Letter). f l.body) s past e p r k d ∙ sym go;
@@ -213,13 +220,13 @@ apart_done s to (SubLetter t k w) v notice le none = absurd (omega (arith, none,
 apart_done s to _ v notice le none = refl
 
 -- such an entry, by its rows
-apart_enters : (s : ScriptData) (past : List Entry) (e : Entry) (rows : List ScriptRow) → MayFollow s past e → NoneStrays s past
+apart_enters : (s : ScriptData) (past : List Entry) (e : Entry) (before : ℕ) (rows : List ScriptRow) → MayFollow s past e → NoneStrays s past
     → s.nodes ≤ e.actor.0
-    → ((f : Outgoing → ℕ) → OfTreeLetters f → tally f e.sent ≡ tally f (rows_letters s rows))
+    → ((f : Outgoing → ℕ) → OfTreeLetters f → tally f e.sent ≡ tally f (rows_letters s before rows))
     → ((g : Act → ℕ) → OfTreeActs g → tally g e.acts ≡ 0)
     → ((f : ScriptRow → ℕ) → tally f (take (client_in s (e ∷ past)).next s.rows) ≡ tally f (take (client_in s past).next s.rows) + tally f rows)
     → ((f : ScriptRow → ℕ) → tally f rows ≤ tally f s.rows) → Enters s past e
-apart_enters s past e rows m none out sent quiet next known =
+apart_enters s past e before rows m none out sent quiet next known =
     let v : Version = record { 0 = 0 } in
     let to : s.nodes ≤ e.took.to.0 = omega (arith, out, m.addressee) in
     let near : strays s e.took.to.0 e.took.body ≡ 0 = omega (arith, none, took_outstanding s past e m (strayed s)) in
@@ -228,6 +235,7 @@ apart_enters s past e rows m none out sent quiet next known =
       body = e.took.body;
       version = v;
       notice = DidNotice [];
+      before = before;
       rows = rows;
       near = near;
       done = λ f go. done_apart (λ (l : Letter). f l.body) s past e out;
@@ -238,32 +246,33 @@ apart_enters s past e rows m none out sent quiet next known =
     }
 
 -- The coordinator.
-orders_none : (f : Outgoing → ℕ) (n : ℕ) → OfTreeLetters f → OfOrders (λ (to : ℕ) (b : Body). f (record { to = record { 0 = to }; body = b }) ≡ 0) n
-orders_none f n of = record {
-  turn = λ to v lt. of (record { to = record { 0 = to }; body = Turn v }) refl;
-  show = λ to v lt. of (record { to = record { 0 = to }; body = Show v }) refl;
-  sweep = λ to v lt. of (record { to = record { 0 = to }; body = Sweep v }) refl;
-  ask_done = λ to v k lt. of (record { to = record { 0 = to }; body = AskDone v k }) refl;
-  ask_asked = λ to v k lt. of (record { to = record { 0 = to }; body = AskAsked v k }) refl;
-  advanced = λ v. of (record { to = record { 0 = n + 1 }; body = Advanced v }) refl;
-}
+orders_none : (f : Outgoing → ℕ) → OfTreeLetters f → (s : ScriptData) (o : Outgoing) → IsOfCoordinator s o.to.0 o.body → f o ≡ 0
+orders_none f of s o is = of o (by o.body is) where
+  by : (body : Body) → IsOfCoordinator s o.to.0 body → is_tree_letter body ≡ false
+  by (Turn v) is = refl
+  by (Show v) is = refl
+  by (Sweep v) is = refl
+  by (Order e what v) is = refl
+  by (Ask e) is = refl
+  by (AskDone v k) is = refl
+  by (AskAsked v k) is = refl
+  by (Advanced v) is = refl
+  by Go is = absurd is
+  by _ is = absurd is
 
 coordinates_enters : (s : ScriptData) (past : List Entry) (e : Entry) → MayFollow s past e → NoneStrays s past → e.actor.0 ≡ s.nodes
-    → Says (coordinator_table (coordinator_in s past) e.took) e → Enters s past e
-coordinates_enters s past e m none at says =
-    let c : Coordinator = coordinator_in s past in
-    apart_enters s past e [] m none (omega (arith, at))
-    (λ f of.
-    ap (λ (os : List Outgoing). tally f os) says.0
-    ∙ each_none f (coordinator_table c e.took).sent
-    (coordinator_each (λ (to : ℕ) (b : Body). f (record { to = record { 0 = to }; body = b }) ≡ 0) c (orders_none f c.nodes of) e.took.from.0 e.took.body))
-    (λ g of. ap (λ (xs : List Act). tally g xs) (says.1 ∙ no_acts c e.took.from.0 e.took.body))
+    → IsCoordinated s e → Enters s past e
+coordinates_enters s past e m none at made =
+    apart_enters s past e 0 [] m none (omega (arith, at))
+    (λ f counts. each_none f e.sent (each_map (of (IsOfCoordinator s)) (λ (o : Outgoing). f o ≡ 0) e.sent (λ o is. orders_none f counts s o is) made.sent))
+    (λ g counts. ap (λ (xs : List Act). tally g xs) made.acts)
     (kept_rows s past e (client_kept s past e (omega (arith, at)))) (λ f. omega arith)
 
 -- The client: it submits rows, or none.
 pub record Submitted (s : ScriptData) (c : Client) (out : Out Client) : Type 0 where
+  pub before : ℕ
   pub rows : List ScriptRow
-  pub sends : (f : Outgoing → ℕ) → OfTreeLetters f → tally f out.sent ≡ tally f (rows_letters s rows)
+  pub sends : (f : Outgoing → ℕ) → OfTreeLetters f → tally f out.sent ≡ tally f (rows_letters s before rows)
   pub acts : (g : Act → ℕ) → OfTreeActs g → tally g out.acts ≡ 0
   pub next : (f : ScriptRow → ℕ) → tally f (take out.state.next s.rows) ≡ tally f (take c.next s.rows) + tally f rows
   pub known : (f : ScriptRow → ℕ) → tally f rows ≤ tally f s.rows
@@ -274,8 +283,9 @@ submits s c d first same quiet =
     let n : ℕ = submitted d (take d.next s.rows) (drop d.next s.rows) in
     let rows : List ScriptRow = take n (drop d.next s.rows) in
     record {
+      before = advances_sent s d;
       rows = rows;
-      sends = λ f of. omega (arith, tally-append f first (rows_letters s rows), quiet f of);
+      sends = λ f of. omega (arith, tally-append f first (rows_letters s (advances_sent s d) rows), quiet f of);
       acts = λ g of. finish_none g (client_finishes s (next_after s d) d) (of acts.Finished refl);
       next = λ f. omega (arith, tally_take_more f d.next n s.rows, ap (λ (i : ℕ). tally f (take i s.rows)) same);
       known = λ f. omega (arith, tally_take_more f d.next n s.rows, tally_take_le f (d.next + n) s.rows);
@@ -283,6 +293,7 @@ submits s c d first same quiet =
 
 stands : (s : ScriptData) (c : Client) → Submitted s c (still c)
 stands s c = record {
+  before = 0;
   rows = [];
   sends = λ f of. refl;
   acts = λ g of. refl;
@@ -294,10 +305,22 @@ hears : (s : ScriptData) (c : Client) (t : ℕ) (test : Bool) → Submitted s c 
 hears s c t true = submits s c (with_answer t c) (nudge s ∷ []) refl (λ f of. omega (arith, of (nudge s) refl))
 hears s c t false = stands s c
 
+-- it tells how many advancements it was asked for
+tells_wanted : (s : ScriptData) (c : Client) (e : ℕ) → Submitted s c (wanted s e c)
+tells_wanted s c e = record {
+  before = 0;
+  rows = [];
+  sends = λ f of. omega (arith, of (record { to = record { 0 = s.nodes }; body = Wanted e (advances_sent s c) }) refl);
+  acts = λ g of. refl;
+  next = λ f. omega arith;
+  known = λ f. omega arith;
+}
+
 client_submits : (s : ScriptData) (c : Client) (body : Body) → Submitted s c (client_row s c body)
 client_submits s c Go = submits s c c [] refl (λ f of. refl)
 client_submits s c (Reply t v answer) = hears s c t.0 (nat_lt t.0 (length s.trees))
-client_submits s c (Advanced v) = submits s c (with_end c) [] refl (λ f of. refl)
+client_submits s c (Advanced v) = submits s c (with_end s v c) [] refl (λ f of. refl)
+client_submits s c (Ask e) = asked_each (Submitted s c) s c e (stands s c) (λ is. tells_wanted s c e)
 client_submits s c _ = stands s c
 
 pub client_moves : (s : ScriptData) (past : List Entry) (e : Entry) → e.actor.0 ≡ client_of s
@@ -309,7 +332,7 @@ submits_enters : (s : ScriptData) (past : List Entry) (e : Entry) → MayFollow 
 submits_enters s past e m none at says =
     let c : Client = client_in s past in
     let sub : Submitted s c (client_table s c e.took) = client_submits s c e.took.body in
-    apart_enters s past e sub.rows m none (omega (arith, at)) (λ f of. ap (λ (os : List Outgoing). tally f os) says.0 ∙ sub.sends f of)
+    apart_enters s past e sub.before sub.rows m none (omega (arith, at)) (λ f of. ap (λ (os : List Outgoing). tally f os) says.0 ∙ sub.sends f of)
     (λ g of. ap (λ (xs : List Act). tally g xs) says.1 ∙ sub.acts g of)
     (λ f. ap (λ (d : Client). tally f (take d.next s.rows)) (client_moves s past e at) ∙ sub.next f) sub.known
 
@@ -317,7 +340,7 @@ submits_enters s past e m none at says =
 enters_by : (s : ScriptData) (past : List Entry) (e : Entry) → MayFollow s past e → NoneStrays s past → Case s past e → Enters s past e
 enters_by s past e m none (NodeDoes p r d) = does_enters s past e p r m none d
 enters_by s past e m none (NodeKeeps p r k d) = keeps_enters s past e p r k d
-enters_by s past e m none (Coordinates at says) = coordinates_enters s past e m none at says
+enters_by s past e m none (Coordinates at made) = coordinates_enters s past e m none at made
 enters_by s past e m none (Submits at says) = submits_enters s past e m none at says
 
 -- No letter strays.
@@ -372,12 +395,15 @@ row_strays s (TreeRow t) = one_if (not (nat_lt (home_of s t.0) s.nodes))
 row_strays s Settle = 0
 row_strays s _ = 0
 
-rows_stray : (s : ScriptData) (rows : List ScriptRow) → tally (sent_astray s) (rows_letters s rows) ≡ tally (row_strays s) rows
-rows_stray s [] = refl
-rows_stray s (TreeRow t ∷ rows) = omega (arith, rows_stray s rows)
-rows_stray s (Advance ∷ rows) = omega (arith, rows_stray s rows)
-rows_stray s (Settle ∷ rows) = omega (arith, rows_stray s rows)
-rows_stray s (Lose ∷ rows) = omega (arith, rows_stray s rows)
+advance_strays : (s : ScriptData) (to k : ℕ) → strays s to (advance_letter s k) ≡ 0
+advance_strays s to k = advance_each (λ body. strays s to body ≡ 0) s k (λ is. refl) (λ is. refl)
+
+rows_stray : (s : ScriptData) (k : ℕ) (rows : List ScriptRow) → tally (sent_astray s) (rows_letters s k rows) ≡ tally (row_strays s) rows
+rows_stray s k [] = refl
+rows_stray s k (TreeRow t ∷ rows) = omega (arith, rows_stray s k rows)
+rows_stray s k (Advance ∷ rows) = omega (arith, advance_strays s s.nodes k, rows_stray s (k + 1) rows)
+rows_stray s k (Settle ∷ rows) = omega (arith, rows_stray s k rows)
+rows_stray s k (Lose ∷ rows) = omega (arith, rows_stray s k rows)
 
 rows_near : (s : ScriptData) (i : ℕ) (rows : List ScriptRow) → IsValid s → NamesInOrder i (length s.trees) rows
     → tally (row_strays s) rows ≡ 0
@@ -401,7 +427,7 @@ near_next s past e valid m none n =
       sealed_tally (strayed s) (sent_astray s) e.stamp.0 e.actor.0 0 e.sent (λ i o. refl),
       n.sends (sent_astray s) (tree_letters_stray s),
       sent_near s n.version n.notice n.body valid,
-      rows_stray s n.rows,
+      rows_stray s n.before n.rows,
       n.known (row_strays s),
       rows_near s 0 s.rows valid valid.rows,
     )

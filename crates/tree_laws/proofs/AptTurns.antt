@@ -148,7 +148,7 @@ roots_have_turns s (e ∷ past) t valid apt run =
       asked_more s past e t 0 run.0 n,
       n.sends (on (asks t 0)) (asks_of t 0),
       root_next s t n.version n.notice n.body,
-      roots_of_rows s t n.rows,
+      roots_of_rows s t n.before n.rows,
       n.next (is_row_of t),
     )
 
@@ -186,7 +186,7 @@ subs_have_turns s (e ∷ past) t k x valid apt run at some =
       asked_more s past e t k run.0 n,
       n.sends (on (asks t k)) (asks_of t k),
       asked_next s t k x n.version n.notice n.body at (parent_before s t k x valid at some),
-      roots_alone s t k n.rows some,
+      roots_alone s t k n.before n.rows some,
     )
 
 -- the same by a subtransaction in its tree

@@ -240,7 +240,7 @@ dated_next s past e valid apt run dated =
           (λ l. misdated_less (before past) (places_at e) l.body),
       n.sends (on (misdated zs)) (misdated_of zs),
       sent_dated s zs n.version n.notice n.body (done_dated s past e valid apt.1 run dated n),
-      roots_none (misdated zs) s n.rows (λ t. refl) refl,
+      roots_none (misdated zs) s n.before n.rows (record { root = λ t. refl; advance = refl; numbered = λ i. refl; lose = refl }),
     )
 
 pub dated_run : (s : ScriptData) (past : List Entry) → IsValid s → AllApt s past → IsStepRun s past → Dated s past

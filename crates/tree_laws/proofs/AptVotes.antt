@@ -46,7 +46,7 @@ use Rattle.tree_laws.proofs.AptDecided.{GathersNow, Now, Once, ack_decides, deci
 use Rattle.tree_laws.proofs.AptApplied.{decides_of}
 use Rattle.tree_laws.proofs.AptOfTree.{ByClient, ByCoordinator, IsOther, Kept, OfTree, Other, OwnAck, OwnNote, OwnRoot, OwnSub, decided_names, of_tree}
 use Rattle.tree_laws.proofs.AptRulings.{CountsNoKeeping, RowRules, Rules, client_acts, core_rules, keeping_acts, ruled_acts}
-use Rattle.tree_laws.proofs.AptStagesApart.{CountsNoOthers, NoneMisplaced, client_none, coordinator_none, misplaced, none_misplaced, orders_none}
+use Rattle.tree_laws.proofs.AptStagesApart.{CountsNoOthers, NoneMisplaced, client_none, coordinator_none, misplaced, none_misplaced, none_of_others}
 use Rattle.tree_laws.proofs.AptStagesOwn.{Doing, NoteAt, ack_home, asked, home_here, note_at, note_missed, root_home, root_unturned, sub_of_node, sub_place, turned_here, unborn_by}
 use Rattle.tree_laws.proofs.AptStagesRun.{stages_of_trees}
 use Rattle.tree_laws.proofs.AptStagesSteps.{CountsNoAsking, done_flow, sent_by}
@@ -111,12 +111,9 @@ tells_no_asking : (w : ℕ) → CountsNoAsking (tells_no w)
 tells_no_asking w = record { roots = λ u. refl; subs = λ u j v. refl; wakes = λ u j. refl }
 
 tells_no_others : (w : ℕ) → CountsNoOthers (tells_no w)
-tells_no_others w = record {
-  roots = λ t. refl;
-  advance = refl;
-  nudge = refl;
-  orders = λ n. orders_none (tells_no w) n (λ v. (refl, (refl, refl))) (λ v k. (refl, refl)) (λ v. refl);
-}
+tells_no_others w =
+    none_of_others (tells_no w) (λ t. refl) (λ v. (refl, (refl, refl))) (λ e what v. (refl, refl)) (λ v k. (refl, refl)) (λ v. refl)
+    (refl, (refl, refl)) (λ e k. (refl, refl))
 
 votes_no_keeping : (w : ℕ) → CountsNoKeeping (votes_no w)
 votes_no_keeping w = record { turned = λ v. refl; parked = λ t k i u. refl; waits = λ t v x. refl }
@@ -549,11 +546,11 @@ next_votes : (s : ScriptData) (past : List Entry) (e : Entry) (w : ℕ) → IsVa
     → w < length s.trees → OfTree s past e w → VotesNext s past e w
 next_votes s past e w valid apt run lt (Other p r g it) = votes_stay s past e w (other_leaves s past e p w r g it)
 next_votes s past e w valid apt run lt (Kept p r k d) = votes_stay s past e w (kept_leaves s past e p w r k run.0 d)
-next_votes s past e w valid apt run lt (ByCoordinator at says) =
-    let quiet = says.1 ∙ no_acts (coordinator_in s past) e.took.from.0 e.took.body in
+next_votes s past e w valid apt run lt (ByCoordinator at made) =
+    let quiet = made.acts in
     votes_stay s past e w
     (apart_leaves s past e w run.0 (none_misplaced s past valid apt.1 run.1) (home_node s w valid lt) (omega (arith, at))
-    (ap (λ (os : List Outgoing). tally (on (tells_no w)) os) says.0 ∙ coordinator_none (tells_no w) (coordinator_in s past) e.took (tells_no_others w))
+    (coordinator_none (tells_no w) s e made (tells_no_others w))
     (ap (λ (xs : List Act). tally (votes_no w) xs) quiet) (ap (λ (xs : List Act). decides_any w xs) quiet))
 next_votes s past e w valid apt run lt (ByClient at says) =
     let none = λ (g : Act → ℕ) (is : g acts.Finished ≡ 0).

@@ -7,7 +7,7 @@ use Rattle.tv_base.specs.declared.numbers.Version.{Version}
 use Rattle.letter_types.specs.Steps.{Out}
 use Rattle.letter_types.specs.declared.acts.Act.TheVariants as acts
 use Rattle.letter_types.specs.declared.bodies.Body.{Body}
-use Rattle.letter_types.specs.declared.bodies.Body.TheVariants.{Root, Sub as SubLetter, Done, Go, Decide, Decided, Release, Turn, Show, Sweep, AskDone, AskAsked}
+use Rattle.letter_types.specs.declared.bodies.Body.TheVariants.{Root, Sub as SubLetter, Done, Go, Decide, Decided, Release, Turn, Show, Sweep, AskDone, AskAsked, Order, Ask}
 use Rattle.letter_types.specs.declared.bodies.Notice.{Notice}
 use Rattle.letter_types.specs.declared.bodies.Notice.TheVariants.{Did as DidNotice, Yes, No}
 use Rattle.letter_types.specs.declared.votes.Vote.{Vote}
@@ -33,6 +33,7 @@ use Rattle.world_model.proofs.Bags.{tally-append}
 use Rattle.world_model.proofs.Sends.{on, subs_none}
 use Rattle.tree_laws.specs.Applied.{votes_no}
 use Rattle.tree_laws.proofs.Turns.{answers_none, each_told, releases_none, replies_none}
+use Rattle.world_model.proofs.Epochs.{order_each, ask_each}
 
 -- a notice of tree u that is a no of tree t
 abbrev pub is_no : ℕ → Notice → ℕ → ℕ
@@ -241,5 +242,12 @@ core_votes w s p from (Show v) c = rests s w c (Show v) _ refl refl refl
 core_votes w s p from (Sweep v) c = rests s w c (Sweep v) _ refl refl refl
 core_votes w s p from (AskDone v k) c = rests s w c (AskDone v k) _ refl refl refl
 core_votes w s p from (AskAsked v k) c = rests s w c (AskAsked v k) _ refl refl refl
+core_votes w s p from (Order e what v) c =
+    let body : Body = Order e what v in
+    order_each (RowVotes s w c body) s p from e what v c (rests s w c body _ refl refl refl) (rests s w c body _ refl refl refl)
+    (λ to. rests s w c body _ (turned_no w (nat_lt c.node.turns.update.0 v.0) v.0) refl refl) (λ to new. rests s w c body _ refl refl refl)
+    (λ to new. rests s w c body _ refl refl refl)
+core_votes w s p from (Ask e) c =
+    ask_each (RowVotes s w c (Ask e)) s e c (rests s w c (Ask e) _ refl refl refl) (rests s w c (Ask e) _ refl refl refl)
 core_votes w s p from Go c = rests s w c Go _ refl refl refl
 core_votes w s p from _ c = rests s w c _ _ refl refl refl

@@ -11,6 +11,7 @@ use Rattle.tv_base.specs.declared.numbers.Version.{Version}
 use Rattle.commute_ops.specs.Ops.{value_start}
 use Rattle.commute_ops.specs.declared.value.Value.{Value}
 use Rattle.letter_types.specs.declared.bodies.Body.{Body}
+use Rattle.letter_types.specs.declared.bodies.What.TheVariants as whats
 use Rattle.letter_types.specs.declared.bodies.Body.TheVariants.{Go, Root, Sub as SubLetter, Turn, Sweep}
 use Rattle.letter_types.specs.declared.entries.Entry.{Entry}
 use Rattle.letter_types.specs.declared.entries.Letter.{Letter}
@@ -44,8 +45,10 @@ use Rattle.world_model.specs.Updates.{table_after_deed, table_after_ops}
 use Rattle.world_model.proofs.Cases.{Case, Coordinates, NodeDoes, NodeKeeps, Submits, case}
 use Rattle.world_model.proofs.Every.{node_kept}
 use Rattle.tree_laws.specs.Dids.{asks}
-use Rattle.tree_laws.proofs.AptItems.{Applies, Changes, Collects, RaisesTo, Raises, Rests, Shows, Touches, core_changes, raised_to}
+use Rattle.tree_laws.proofs.AptItems.{Applies, Changes, Collects, Follows, Raises, Rests, Shows, Touches, core_changes, raised_to}
 use Rattle.tree_laws.proofs.Overwriting.{HasRoom}
+use Rattle.world_model.specs.Epochs.{is_core_timely}
+use Rattle.world_model.proofs.Epochs.{order_timely}
 
 -- the version that is updated and the one that is read are near, and so are those of the items, which ascend
 pub record IsInWindow (items : Table) (turns : Turns) : Type 0 where
@@ -127,25 +130,22 @@ raise_near : (items : Table) (turns : Turns) (v : Version) → v.0 ≤ turns.low
     → IsInWindow items (raised_to v turns)
 raise_near items turns v most win = raise_by items turns v.0 (nat_lt turns.update.0 v.0) refl most win
 
--- what a timely letter says of the version that it may raise to
-raise_timely : (s : ScriptData) (st : Node) (body : Body) (v : Version) → RaisesTo body v → is_timely s st body ≡ true
-    → v.0 ≤ st.turns.low.0 + 2
-raise_timely s st (SubLetter t k w) v is timely =
-    let same : w.0 ≡ v.0 = ap (λ (x : Version). x.0) is in omega (arith, same, in_window-high st.turns.low.0 w.0 timely)
-raise_timely s st (Turn w) v is timely =
-    let same : w.0 ≡ v.0 = ap (λ (x : Version). x.0) is in
-    let most : w.0 ≤ st.turns.low.0 + 2 = grind (arith, nat_tests) in
-    omega (arith, same, most)
-raise_timely s st Go v is timely = absurd is
-raise_timely s st _ v is timely = absurd is
+-- what a timely letter says of the version that it raises to
+follow_timely : (s : ScriptData) (c : Core) (body : Body) (t : TreeNo) (k : SubNo) (v : Version) → body ≡ SubLetter t k v
+    → is_core_timely s c body ≡ true → v.0 ≤ c.node.turns.low.0 + 2
+follow_timely s c body t k v is timely = in_window-high c.node.turns.low.0 v.0 (ap (is_core_timely s c) (sym is) ∙ timely)
+
+turn_timely : (s : ScriptData) (st : Node) (v : Version) → is_timely s st (Turn v) ≡ true → v.0 ≤ st.turns.low.0 + 2
+turn_timely s st v timely = grind (arith, nat_tests)
 
 -- and in which it asks for a subtransaction
-asked_near : (s : ScriptData) (st : Node) (t k : ℕ) (body : Body) → asks t k body ≡ 1 → is_timely s st body ≡ true
-    → in_window st.turns.low.0 st.turns.update.0 ≡ true → in_window st.turns.low.0 (asked_version st.turns.update body).0 ≡ true
-asked_near s st t k (Root u) one timely near = near
-asked_near s st t k (SubLetter u j w) one timely near = timely
-asked_near s st t k Go one timely near = absurd (cc one)
-asked_near s st t k _ one timely near = absurd (cc one)
+asked_near : (s : ScriptData) (c : Core) (t k : ℕ) (body : Body) → asks t k body ≡ 1 → is_core_timely s c body ≡ true
+    → in_window c.node.turns.low.0 c.node.turns.update.0 ≡ true
+    → in_window c.node.turns.low.0 (asked_version c.node.turns.update body).0 ≡ true
+asked_near s c t k (Root u) one timely near = near
+asked_near s c t k (SubLetter u j w) one timely near = timely
+asked_near s c t k Go one timely near = absurd (cc one)
+asked_near s c t k _ one timely near = absurd (cc one)
 
 -- a version that is swept to
 record SweepsTo (v : ℕ) (turns : Turns) : Type 0 where
@@ -176,31 +176,37 @@ sweep_near items turns v to win =
 abbrev IsNodeInWindow : Node → Type 0
 IsNodeInWindow st = IsInWindow st.items st.turns
 
-by_change : (s : ScriptData) (p : ℕ) (body : Body) (st : Node) (items : Table) (turns : Turns) → is_timely s st body ≡ true
-    → Changes s p body st items turns → IsNodeInWindow st → IsInWindow items turns
-by_change s p body st items turns timely (Rests is same) win = moved items st.items turns st.turns is same win
-by_change s p body st items turns timely (Raises v of is same) win =
-    moved items st.items turns (raised_to v st.turns) is same (raise_near st.items st.turns v (raise_timely s st body v of timely) win)
-by_change s p body st items turns timely (Touches t k one kind is same) win =
-    let v : Version = asked_version st.turns.update body in
-    let near = asked_near s st t k body one timely win.update in
-    let all = ops_near st.turns.low.0 v (ops_of s t k) st.items near (win.held, win.items_near) in
-    let now : Table = table_after_ops v (ops_of s t k) st.items in
-    moved items now turns (raised_to v st.turns) is same
-    (raise_near now st.turns v (in_window-high st.turns.low.0 v.0 near)
+by_change : (s : ScriptData) (p : ℕ) (body : Body) (c : Core) (items : Table) (turns : Turns) → is_core_timely s c body ≡ true
+    → Changes s p body c items turns → IsNodeInWindow c.node → IsInWindow items turns
+by_change s p body c items turns timely (Rests is same) win = moved items c.node.items turns c.node.turns is same win
+by_change s p body c items turns timely (Follows t k v letter is same) win =
+    let most = follow_timely s c body t k v letter timely in
+    moved items c.node.items turns (raised_to v c.node.turns) is same (raise_near c.node.items c.node.turns v most win)
+by_change s p body c items turns timely (Raises v to is same) win =
+    let most = turn_timely s c.node v (order_timely s c body whats.Turn v to timely) in
+    moved items c.node.items turns (raised_to v c.node.turns) is same (raise_near c.node.items c.node.turns v most win)
+by_change s p body c items turns timely (Touches t k one kind is same) win =
+    let v : Version = asked_version c.node.turns.update body in
+    let low : ℕ = c.node.turns.low.0 in
+    let near = asked_near s c t k body one timely win.update in
+    let all = ops_near low v (ops_of s t k) c.node.items near (win.held, win.items_near) in
+    let now : Table = table_after_ops v (ops_of s t k) c.node.items in
+    moved items now turns (raised_to v c.node.turns) is same
+    (raise_near now c.node.turns v (in_window-high low v.0 near)
     (record { update = win.update; read = win.read; held = all.0; items_near = all.1 }))
-by_change s p body st items turns timely (Applies t v letter is same) win =
-    let near : in_window st.turns.low.0 v.0 ≡ true = ap (is_timely s st) (sym letter) ∙ timely in
-    let all = commit_near st.turns.low.0 v (ops_at p (subs_at s t.0)) st.items near (win.held, win.items_near) in
-    moved items (applied_in v (ops_at p (subs_at s t.0)) st.items) turns st.turns is same
+by_change s p body c items turns timely (Applies t v letter is same) win =
+    let low : ℕ = c.node.turns.low.0 in
+    let near : in_window low v.0 ≡ true = ap (is_core_timely s c) (sym letter) ∙ timely in
+    let all = commit_near low v (ops_at p (subs_at s t.0)) c.node.items near (win.held, win.items_near) in
+    moved items (applied_in v (ops_at p (subs_at s t.0)) c.node.items) turns c.node.turns is same
     (record { update = win.update; read = win.read; held = all.0; items_near = all.1 })
-by_change s p body st items turns timely (Shows v letter is same) win =
-    let near : in_window st.turns.low.0 v.0 ≡ true = ap (is_timely s st) (sym letter) ∙ timely in
-    moved items st.items turns (record st.turns { read = v }) is same
+by_change s p body c items turns timely (Shows v to is same) win =
+    let near : in_window c.node.turns.low.0 v.0 ≡ true = order_timely s c body whats.Show v to timely in
+    moved items c.node.items turns (record c.node.turns { read = v }) is same
     (record { update = win.update; read = near; held = win.held; items_near = win.items_near })
-by_change s p body st items turns timely (Collects v letter is same) win =
-    moved items (collected_all v st.items) turns (record st.turns { low = v }) is same
-    (sweep_near st.items st.turns v (sweep_timely s st v (ap (is_timely s st) (sym letter) ∙ timely)) win)
+by_change s p body c items turns timely (Collects v to is same) win =
+    moved items (collected_all v c.node.items) turns (record c.node.turns { low = v }) is same
+    (sweep_near c.node.items c.node.turns v (sweep_timely s c.node v (order_timely s c body whats.Sweep v to timely)) win)
 
 -- A letter that is kept.
 parked_near : (c : Core) (t : TreeNo) (k : SubNo) (raises : Bool) (v : Version) (found : _) (kept : CoreKeeping)
@@ -234,7 +240,7 @@ kept_sub s c t k v (Some Strict) kept most win is = absurd (cc is)
 kept_sub s c t k v (Some Read) kept most win is = absurd (cc is)
 kept_sub s c t k v None kept most win is = absurd (cc is)
 
-kept_near : (s : ScriptData) (c : Core) (body : Body) (kept : CoreKeeping) → is_timely s c.node body ≡ true → IsNodeInWindow c.node
+kept_near : (s : ScriptData) (c : Core) (body : Body) (kept : CoreKeeping) → is_core_timely s c body ≡ true → IsNodeInWindow c.node
     → core_keeping s c body ≡ Some kept → IsNodeInWindow kept.state.node
 kept_near s c (Root t) kept timely win is = kept_root s c t (tree_kind_at s t.0) kept win is
 kept_near s c (SubLetter t k v) kept timely win is =
@@ -245,9 +251,9 @@ kept_near s c _ kept timely win is = absurd (cc is)
 timely_of : (a b c d e f g : Bool) → (a && (b && (c && d && (e && f && g)))) ≡ true → e ≡ true
 timely_of a b c d e f g is = grind arith
 
-pub apt_timely : (s : ScriptData) (p : ℕ) (c : Core) (l : Letter) → is_core_apt s p c l ≡ true → is_timely s c.node l.body ≡ true
+pub apt_timely : (s : ScriptData) (p : ℕ) (c : Core) (l : Letter) → is_core_apt s p c l ≡ true → is_core_timely s c l.body ≡ true
 apt_timely s p c l apt =
-    timely_of _ (is_named s p l.from.0 l.body) (is_new s c.node l.body) (is_unheld l.body c.holds) (is_timely s c.node l.body)
+    timely_of _ (is_named s p l.from.0 l.body) (is_new s c.node l.body) (is_unheld l.body c.holds) (is_core_timely s c l.body)
     (decides_near s c.node l.body) (can_make_at s p c l.body) apt
 
 at_node : (s : ScriptData) (past : List Entry) (e : Entry) (p : ℕ) → e.actor.0 ≡ p → p < s.nodes → Case s past e
@@ -259,7 +265,7 @@ at_node s past e p at lt (NodeDoes q r d) win =
     let now : Node = (core_row s q c r.from.0 r.body).state.node in
     subst (λ (n : ℕ). IsNodeInWindow (node_in s (e ∷ past) n)) qp
     (subst (λ (x : Core). IsNodeInWindow x.node) (sym d.core)
-    (by_change s q r.body c.node now.items now.turns (apt_timely s q c r d.brings.apt) (core_changes s q r.from.0 r.body c) here))
+    (by_change s q r.body c now.items now.turns (apt_timely s q c r d.brings.apt) (core_changes s q r.from.0 r.body c) here))
 at_node s past e p at lt (NodeKeeps q r k d) win =
     let qp : q ≡ p = sym d.brings.at ∙ at in
     let here : IsNodeInWindow (node_in s past q) = subst (λ (n : ℕ). IsNodeInWindow (node_in s past n)) (sym qp) win in

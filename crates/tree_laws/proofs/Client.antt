@@ -17,9 +17,10 @@ use Rattle.world_model.proofs.Scripts.{get_below}
 use Rattle.std.proofs.lemmas.List.{length-set, length-replicate}
 use Rattle.tv_base.specs.declared.numbers.TreeNo.{TreeNo}
 use Rattle.letter_types.specs.declared.bodies.Body.{Body}
-use Rattle.letter_types.specs.declared.bodies.Body.TheVariants.{Go, Reply, Advanced}
-use Rattle.letter_types.specs.Steps.{still}
+use Rattle.letter_types.specs.declared.bodies.Body.TheVariants.{Go, Reply, Advanced, Ask, Order}
+use Rattle.letter_types.specs.Steps.{still, Out}
 use Rattle.world_model.specs.Runs.{client_in}
+use Rattle.world_model.proofs.Sends.{asked_each}
 
 -- How far the client submits.
 
@@ -174,6 +175,7 @@ row_places : (s : ScriptData) (c : Client) (b : Body) → length (client_row s c
 row_places s c Go = refl
 row_places s c (Reply t v answer) = reply_places s c t (nat_lt t.0 (length s.trees))
 row_places s c (Advanced v) = refl
+row_places s c (Ask e) = asked_each (λ (o : Out Client). length o.state.answered ≡ length c.answered) s c e refl (λ is. refl)
 row_places s c _ = refl
 
 places_by : (s : ScriptData) (past : List Entry) (e : Entry) (test : Bool) → length (client_in s past).answered ≡ length s.trees

@@ -80,7 +80,7 @@ small_valid = record {
 -- the run of the small script
 pub small_run : IsStepRun small (sample small 6)
 small_run = (
-  record { stamp = refl; waits = refl; addressee = refl; moves = AtCoordinator refl (refl, refl) },
+  record { stamp = refl; waits = refl; addressee = refl; moves = AtCoordinator refl refl (refl, refl) },
   (
     record { stamp = refl; waits = refl; addressee = refl; moves = AtClient refl (refl, refl) },
     (
@@ -155,7 +155,7 @@ read_valid = record {
 -- the run of the script with a read
 pub read_run : IsStepRun with_read (sample with_read 11)
 read_run = (
-  record { stamp = refl; waits = refl; addressee = refl; moves = AtCoordinator refl (refl, refl) },
+  record { stamp = refl; waits = refl; addressee = refl; moves = AtCoordinator refl refl (refl, refl) },
   (
     record { stamp = refl; waits = refl; addressee = refl; moves = AtClient refl (refl, refl) },
     (
@@ -165,7 +165,7 @@ read_run = (
         (
           record { stamp = refl; waits = refl; addressee = refl; moves = AtNode (omega arith) (refl, refl) },
           (
-            record { stamp = refl; waits = refl; addressee = refl; moves = AtCoordinator refl (refl, refl) },
+            record { stamp = refl; waits = refl; addressee = refl; moves = AtCoordinator refl refl (refl, refl) },
             (
               record { stamp = refl; waits = refl; addressee = refl; moves = AtClient refl (refl, refl) },
               (

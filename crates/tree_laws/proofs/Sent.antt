@@ -8,11 +8,13 @@ use Rattle.tx_trees.specs.Valid.{NamesInOrder}
 use Rattle.tx_trees.specs.declared.parts.ScriptRow.{ScriptRow}
 use Rattle.tx_trees.specs.declared.parts.ScriptRow.TheVariants.{Tree as TreeRow, Advance, Settle, Lose}
 use Rattle.tx_trees.specs.declared.parts.Sub.{Sub}
+use Rattle.letter_types.specs.declared.bodies.Body.TheVariants.{AdvanceNo, Advance as AdvanceLetter}
 use Rattle.world_model.specs.Counts.{tally, one_if}
 use Rattle.world_model.proofs.Bags.{tally-append}
 use Rattle.world_model.specs.Children.{sub_letters}
-use Rattle.world_model.specs.Client.{rows_letters}
-use Rattle.world_model.proofs.Sends.{on, roots_none}
+use Rattle.world_model.specs.Client.{advance_letter, rows_letters}
+use Rattle.world_model.specs.Lossy.{is_lossy}
+use Rattle.world_model.proofs.Sends.{on, roots_none, advance_each}
 use Rattle.tree_laws.specs.Dids.{asks, roots_sent}
 
 -- The children of a subtransaction.
@@ -124,19 +126,23 @@ no_root t u v parent xs = no_root_by t u v parent xs (u == t) refl
 root_alone : (t u k : ℕ) → 0 < k → one_if ((u == t) && (0 == k)) ≡ 0
 root_alone t u k lt = grind (arith, nat_tests)
 
-pub roots_alone : (s : ScriptData) (t k : ℕ) (rows : List ScriptRow) → 0 < k → tally (on (asks t k)) (rows_letters s rows) ≡ 0
-roots_alone s t k rows lt = roots_none (asks t k) s rows (λ u. root_alone t u.0 k lt) refl
+pub roots_alone : (s : ScriptData) (t k n : ℕ) (rows : List ScriptRow) → 0 < k → tally (on (asks t k)) (rows_letters s n rows) ≡ 0
+roots_alone s t k n rows lt =
+    roots_none (asks t k) s n rows (record { root = λ u. root_alone t u.0 k lt; advance = refl; numbered = λ i. refl; lose = refl })
 
 root_here : (t u : ℕ) → one_if ((u == t) && (0 == 0)) ≡ one_if (u == t)
 root_here t u = grind (arith, nat_tests)
 
 -- the letters of rows ask for a tree's root as often as the rows do
-pub roots_of_rows : (s : ScriptData) (t : ℕ) (rows : List ScriptRow) → tally (on (asks t 0)) (rows_letters s rows) ≡ roots_sent t rows
-roots_of_rows s t [] = refl
-roots_of_rows s t (TreeRow u ∷ rows) = omega (arith, root_here t u.0, roots_of_rows s t rows)
-roots_of_rows s t (Advance ∷ rows) = omega (arith, roots_of_rows s t rows)
-roots_of_rows s t (Settle ∷ rows) = omega (arith, roots_of_rows s t rows)
-roots_of_rows s t (Lose ∷ rows) = omega (arith, roots_of_rows s t rows)
+advance_asks : (s : ScriptData) (t k n : ℕ) → asks t k (advance_letter s n) ≡ 0
+advance_asks s t k n = advance_each (λ body. asks t k body ≡ 0) s n (λ is. refl) (λ is. refl)
+
+pub roots_of_rows : (s : ScriptData) (t n : ℕ) (rows : List ScriptRow) → tally (on (asks t 0)) (rows_letters s n rows) ≡ roots_sent t rows
+roots_of_rows s t n [] = refl
+roots_of_rows s t n (TreeRow u ∷ rows) = omega (arith, root_here t u.0, roots_of_rows s t n rows)
+roots_of_rows s t n (Advance ∷ rows) = omega (arith, advance_asks s t 0 n, roots_of_rows s t (n + 1) rows)
+roots_of_rows s t n (Settle ∷ rows) = omega (arith, roots_of_rows s t n rows)
+roots_of_rows s t n (Lose ∷ rows) = omega (arith, roots_of_rows s t n rows)
 
 rooted_before : (t i n : ℕ) (rows : List ScriptRow) → NamesInOrder i n rows → t < i → roots_sent t rows ≡ 0
 rooted_before t i n [] names lt = refl

@@ -11,7 +11,7 @@ use Rattle.letter_types.specs.declared.acts.Act.TheVariants as acts
 use Rattle.letter_types.specs.declared.bodies.Answer.{Answer}
 use Rattle.letter_types.specs.declared.bodies.Answer.TheVariants.{Whole}
 use Rattle.letter_types.specs.declared.bodies.Body.{Body}
-use Rattle.letter_types.specs.declared.bodies.Body.TheVariants.{Root, Sub as SubLetter, Done, Go, Decide, Decided, Release, Reply, Turn, Show, Sweep, AskDone, AskAsked}
+use Rattle.letter_types.specs.declared.bodies.Body.TheVariants.{Root, Sub as SubLetter, Done, Go, Decide, Decided, Release, Reply, Turn, Show, Sweep, AskDone, AskAsked, Ask, Order}
 use Rattle.letter_types.specs.declared.bodies.Notice.{Notice}
 use Rattle.letter_types.specs.declared.bodies.Notice.TheVariants.{Did as DidNotice}
 use Rattle.letter_types.specs.declared.entries.Outgoing.{Outgoing}
@@ -23,6 +23,7 @@ use Rattle.tx_trees.specs.ScriptData.{ScriptData, client_of, node_of, sub_at, su
 use Rattle.tx_trees.specs.declared.parts.Tree.{Tree}
 use Rattle.tx_trees.specs.declared.parts.TreeKind.{TreeKind}
 use Rattle.tx_trees.specs.declared.parts.TreeKind.TheVariants.{Update, Read, Strict}
+use Rattle.world_model.proofs.Epochs.{ask_each, order_each}
 use Rattle.world_model.specs.Asked.{asked_ops, asked_version, tree_part}
 use Rattle.world_model.specs.Children.{sub_letters}
 use Rattle.world_model.specs.Core.{Core, Refusals}
@@ -286,4 +287,15 @@ core_works s p from (Show v) c lt named = rests s c.node.turns.update (Show v) _
 core_works s p from (Sweep v) c lt named = rests s c.node.turns.update (Sweep v) _ _ refl (λ f of. one_letter f _ of refl) (λ g of. one_act g _ of refl)
 core_works s p from (AskDone v k) c lt named = rests s c.node.turns.update (AskDone v k) _ _ refl (λ f of. one_letter f _ of refl) (λ g of. refl)
 core_works s p from (AskAsked v k) c lt named = rests s c.node.turns.update (AskAsked v k) _ _ refl (λ f of. one_letter f _ of refl) (λ g of. refl)
+core_works s p from (Order e what v) c lt named =
+    order_each (CoreWorks s c.node.turns.update (Order e what v)) s p from e what v c
+    (rests s c.node.turns.update (Order e what v) _ _ refl (λ f of. refl) (λ g of. refl))
+    (rests s c.node.turns.update (Order e what v) _ _ refl (λ f of. one_letter f _ of refl) (λ g of. refl))
+    (λ is. rests s c.node.turns.update (Order e what v) _ _ refl (λ f of. one_letter f _ of refl) (λ g of. turned_none g (nat_lt c.node.turns.update.0 v.0) v.0 of))
+    (λ is new. rests s c.node.turns.update (Order e what v) _ _ refl (λ f of. one_letter f _ of refl) (λ g of. one_act g _ of refl))
+    (λ is new. rests s c.node.turns.update (Order e what v) _ _ refl (λ f of. one_letter f _ of refl) (λ g of. one_act g _ of refl))
+core_works s p from (Ask e) c lt named =
+    ask_each (CoreWorks s c.node.turns.update (Ask e)) s e c
+    (rests s c.node.turns.update (Ask e) _ _ refl (λ f of. refl) (λ g of. refl))
+    (rests s c.node.turns.update (Ask e) _ _ refl (λ f of. one_letter f _ of refl) (λ g of. refl))
 core_works s p from _ c lt named = rests s c.node.turns.update _ [] [] refl (λ f of. refl) (λ g of. refl)

@@ -2,7 +2,7 @@
 use Rattle.std.specs.Prelude.{if◌then◌else◌, ℕ, ◌+◌, ◌-◌, ◌*◌, List, [], ◌∷◌, length}
 use Rattle.letter_types.specs.declared.entries.Entry.{Entry}
 use Rattle.letter_types.specs.Letters.{own}
-use Rattle.tx_trees.specs.Counts.{has_strict, strict_trees, update_subs}
+use Rattle.tx_trees.specs.Counts.{has_strict, loses_in, strict_trees, update_subs}
 use Rattle.tx_trees.specs.declared.parts.Tree.{Tree}
 use Rattle.tx_trees.specs.declared.parts.TreeKind.{TreeKind}
 use Rattle.tx_trees.specs.declared.parts.TreeKind.TheVariants.{Read, Strict, Update}
@@ -46,6 +46,14 @@ strict_entries s =
     + strict_trees s.trees * advances_in s.rows
     else 0
 
--- the entries of a run, at most: rounds are two for each advancement and one for each tree, at most
+-- the further entries of a run whose coordinator forgets, at most: each time it takes the letter that makes it forget, asks
+-- every node and the client, of which each takes the question and tells it, and tells the client how many advancements have
+-- ended; and what was done of the advancement under way may have to be done again, where no node has come to it: two orders,
+-- each of which every node takes and answers, and a round
+abbrev pub lossy_entries : ScriptData → ℕ
+lossy_entries s = loses_in s.rows * (10 * s.nodes + 4)
+
+-- the entries of a run, at most: rounds are two for each advancement and one for each tree, at most, but for those that are
+-- begun anew
 abbrev pub entries_most : ScriptData → ℕ
-entries_most s = entries_of s (2 * advances_in s.rows + length s.trees) + strict_entries s
+entries_most s = entries_of s (2 * advances_in s.rows + length s.trees) + strict_entries s + lossy_entries s

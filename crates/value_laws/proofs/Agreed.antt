@@ -153,11 +153,8 @@ entry_turn s past e t k strict (NodeDoes q r d) =
 entry_turn s past e t k strict (NodeKeeps q r kept d) =
     let none : lasting e.acts ≡ [] = ap lasting d.acts ∙ keeping_lasts s (keeping_in s past q).core r.body kept d.keeps in
     omega (arith, tally_lasting (has_turn t k) (turns_others t k) e.acts, ap (λ (xs : List Act). tally (has_turn t k) xs) none)
-entry_turn s past e t k strict (Coordinates at says) =
-    omega (
-      arith,
-      ap (λ (xs : List Act). tally (has_turn t k) xs) (says.1 ∙ no_acts (coordinator_in s past) e.took.from.0 e.took.body),
-    )
+entry_turn s past e t k strict (Coordinates at made) =
+    omega (arith, ap (λ (xs : List Act). tally (has_turn t k) xs) made.acts)
 entry_turn s past e t k strict (Submits at says) =
     omega (
       arith,

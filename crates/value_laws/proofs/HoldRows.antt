@@ -10,7 +10,7 @@ use Rattle.tv_base.specs.declared.numbers.TreeNo.{TreeNo}
 use Rattle.tv_base.specs.declared.numbers.Version.{Version}
 use Rattle.item_versions.specs.Table.{Table}
 use Rattle.letter_types.specs.declared.bodies.Body.{Body}
-use Rattle.letter_types.specs.declared.bodies.Body.TheVariants.{Root, Sub as SubLetter, Done, Turn, Show, Sweep, Decide, Decided, Release, AskDone, AskAsked}
+use Rattle.letter_types.specs.declared.bodies.Body.TheVariants.{Root, Sub as SubLetter, Done, Turn, Show, Sweep, Decide, Decided, Release, AskDone, AskAsked, Order, Ask}
 use Rattle.letter_types.specs.declared.bodies.Notice.{Notice}
 use Rattle.letter_types.specs.declared.votes.Cause.{Cause}
 use Rattle.letter_types.specs.declared.votes.Vote.{Vote}
@@ -40,6 +40,8 @@ use Rattle.tree_laws.proofs.Turns.{kind_version, work_version}
 use Rattle.strict_laws.proofs.ByActs.{decided_locks}
 use Rattle.strict_laws.proofs.RunConflicts.{wanted_tree}
 use Rattle.strict_laws.proofs.Holding.{wanted_mark}
+use Rattle.world_model.proofs.Epochs.{order_each, ask_each}
+use Rattle.letter_types.specs.Steps.{Out}
 
 -- no letter tells a decision on this tree
 abbrev pub IsNoDecision : ℕ → Body → Type 0
@@ -204,4 +206,12 @@ hold_comes s p from (Show v) c l hold has = Stood has (λ u w b eq. absurd (cc e
 hold_comes s p from (Sweep v) c l hold has = Stood has (λ u w b eq. absurd (cc eq))
 hold_comes s p from (AskDone v k) c l hold has = Stood has (λ u w b eq. absurd (cc eq))
 hold_comes s p from (AskAsked v k) c l hold has = Stood has (λ u w b eq. absurd (cc eq))
+hold_comes s p from (Order e what v) c l hold has =
+    order_each (λ (o : Out Core). has_lock l o.state.locks ≡ true → HoldComes s (Order e what v) c o.state l) s p from e what v c
+    (λ has. Stood has (λ u w b eq. absurd (cc eq))) (λ has. Stood has (λ u w b eq. absurd (cc eq)))
+    (λ to has. Stood has (λ u w b eq. absurd (cc eq))) (λ to new has. Stood has (λ u w b eq. absurd (cc eq)))
+    (λ to new has. Stood has (λ u w b eq. absurd (cc eq))) has
+hold_comes s p from (Ask e) c l hold has =
+    ask_each (λ (o : Out Core). has_lock l o.state.locks ≡ true → HoldComes s (Ask e) c o.state l) s e c
+    (λ has. Stood has (λ u w b eq. absurd (cc eq))) (λ has. Stood has (λ u w b eq. absurd (cc eq))) has
 hold_comes s p from _ c l hold has = Stood has (λ u w b eq. absurd (cc eq))

@@ -15,6 +15,7 @@ use Rattle.item_versions.specs.Table.{Table, item_in}
 use Rattle.item_versions.proofs.Window.{AllUpTo, up_to-more}
 use Rattle.letter_types.specs.declared.bodies.Body.{Body}
 use Rattle.letter_types.specs.declared.bodies.Body.TheVariants.{Root, Sub as SubLetter, Go, Decide, Sweep}
+use Rattle.letter_types.specs.declared.bodies.What.TheVariants as whats
 use Rattle.letter_types.specs.declared.entries.Entry.{Entry}
 use Rattle.letter_types.specs.declared.entries.Letter.{Letter}
 use Rattle.nc_locks.specs.declared.modes.Lock.{Lock}
@@ -51,7 +52,7 @@ use Rattle.world_model.proofs.Scripts.{get_below}
 use Rattle.board_rules.specs.Histories.{Place, places_at, places_of, version_in}
 use Rattle.board_rules.proofs.Places.{version_stays}
 use Rattle.tree_laws.specs.Dids.{asks}
-use Rattle.tree_laws.proofs.AptItems.{Applies, Changes, Collects, Raises, Rests, Shows, Touches, core_changes}
+use Rattle.tree_laws.proofs.AptItems.{Applies, Changes, Collects, Follows, Raises, Rests, Shows, Touches, core_changes}
 use Rattle.tree_laws.proofs.AptDecisions.{dated_here}
 use Rattle.tree_laws.proofs.AptSteps.{apt_named, done_before}
 use Rattle.tree_laws.proofs.AptVersions.{before, version_is}
@@ -68,6 +69,8 @@ use Rattle.value_laws.proofs.Agreed.{IsAgreed, agreed}
 use Rattle.value_laws.proofs.HeldItems.{collected_most, commit_other, none_newer, ops_other}
 use Rattle.value_laws.proofs.HoldRows.{HoldComes, IsNoDecision, Stood, Taken, apart_none, hold_comes}
 use Rattle.value_laws.proofs.VoteLocks.{has_some, vote_locks_stand}
+use Rattle.world_model.proofs.Epochs.{order_timely}
+use Rattle.world_model.specs.Epochs.{is_core_timely}
 
 -- An update that meets no lock marks no item that is held.
 other_item : (a b : ℕ) (x y : Bool) → x ≡ true → y ≡ true → ((a == b) && (x && y)) ≡ false → (b == a) ≡ false
@@ -279,12 +282,16 @@ agreed_here s past e p r t v w is =
 stood : (s : ScriptData) (past : List Entry) (e : Entry) (p : ℕ) (r : Letter) (l : Lock) → WorksByVotes s past e p r → l.mode ≡ Hold
     → has_lock l (keeping_in s past p).core.locks ≡ true → IsNoDecision l.tree.0 r.body
     → IsNewest s (before past) (keeping_in s past p).core.node l
-    → Changes s p r.body (keeping_in s past p).core.node (After s past p r).node.items (After s past p r).node.turns
+    → Changes s p r.body (keeping_in s past p).core (After s past p r).node.items (After s past p r).node.turns
     → IsNewest s (before past ++ places_at e) (After s past p r).node l
 stood s past e p r l w hold has other n (Rests is turns) =
     goes_on s (before past) (places_at e) (keeping_in s past p).core.node (After s past p r).node l (ap (item_in l.item) is)
     (ap (λ x. x.low.0) turns) n
-stood s past e p r l w hold has other n (Raises v of is turns) =
+stood s past e p r l w hold has other n (Follows t k v letter is turns) =
+    let st : Node = (keeping_in s past p).core.node in
+    goes_on s (before past) (places_at e) st (After s past p r).node l (ap (item_in l.item) is)
+    (ap (λ x. x.low.0) turns ∙ raised_low (nat_lt st.turns.update.0 v.0) v.0 st.turns) n
+stood s past e p r l w hold has other n (Raises v to is turns) =
     let st : Node = (keeping_in s past p).core.node in
     goes_on s (before past) (places_at e) st (After s past p r).node l (ap (item_in l.item) is)
     (ap (λ x. x.low.0) turns ∙ raised_low (nat_lt st.turns.update.0 v.0) v.0 st.turns) n
@@ -304,13 +311,13 @@ stood s past e p r l w hold has other n (Applies t v letter is turns) =
     let apart = held_apart t c.locks l (ops_at p (subs_at s t.0)) (runs_apart s past p) has hold (other t v true letter) held in
     goes_on s (before past) (places_at e) c.node (After s past p r).node l
     (ap (item_in l.item) is ∙ commit_other v l.item (ops_at p (subs_at s t.0)) c.node.items apart) (ap (λ x. x.low.0) turns) n
-stood s past e p r l w hold has other n (Shows v letter is turns) =
+stood s past e p r l w hold has other n (Shows v to is turns) =
     goes_on s (before past) (places_at e) (keeping_in s past p).core.node (After s past p r).node l (ap (item_in l.item) is)
     (ap (λ x. x.low.0) turns) n
-stood s past e p r l w hold has other n (Collects v letter is turns) =
+stood s past e p r l w hold has other n (Collects v to is turns) =
     let c : Core = (keeping_in s past p).core in
     let timely : is_timely s c.node (Sweep v) ≡ true =
-    ap (is_timely s c.node) (sym letter) ∙ apt_timely s p c r w.does.brings.apt in
+    order_timely s c r.body whats.Sweep v to (apt_timely s p c r w.does.brings.apt) in
     let le : c.node.turns.low.0 ≤ v.0 =
     at_most c.node.turns.low.0 v.0 (nat_le v.0 c.node.turns.read.0 && nat_le v.0 c.node.turns.update.0) timely in
     collects_on s (before past) (places_at e) c.node (After s past p r).node l v is (ap (λ x. x.low.0) turns) le n

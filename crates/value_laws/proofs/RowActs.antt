@@ -9,7 +9,7 @@ use Rattle.tv_base.specs.declared.numbers.Version.{Version}
 use Rattle.letter_types.specs.declared.acts.Act.{Act}
 use Rattle.letter_types.specs.declared.acts.Act.TheVariants as acts
 use Rattle.letter_types.specs.declared.bodies.Body.{Body}
-use Rattle.letter_types.specs.declared.bodies.Body.TheVariants.{Root, Sub as SubLetter, Done, Turn, Show, Sweep, Decide, Decided, Release, AskDone, AskAsked}
+use Rattle.letter_types.specs.declared.bodies.Body.TheVariants.{Root, Sub as SubLetter, Done, Turn, Show, Sweep, Decide, Decided, Release, AskDone, AskAsked, Order, Ask}
 use Rattle.letter_types.specs.declared.bodies.Notice.{Notice}
 use Rattle.letter_types.specs.declared.bodies.Notice.TheVariants as notices
 use Rattle.letter_types.specs.declared.votes.Vote.{Vote}
@@ -27,6 +27,8 @@ use Rattle.world_model.specs.Reads.{gets}
 use Rattle.world_model.specs.Strict.{CoreKeeping, core_by_kind, core_keeping, core_row, decided, locks_by, none_refuses, note_core, noted_vote, notice_by, refused_there, voting}
 use Rattle.world_model.specs.Votes.{vote_of}
 use Rattle.world_model.proofs.Keepings.{of_kept}
+use Rattle.world_model.proofs.Epochs.{order_each, ask_each}
+use Rattle.letter_types.specs.Steps.{Out}
 
 -- a Did, a vote, an Applied or a Freed
 abbrev pub is_lasting : Act → Bool
@@ -138,6 +140,13 @@ row_lasts s p from (Show v) c = refl
 row_lasts s p from (Sweep v) c = refl
 row_lasts s p from (AskDone v k) c = refl
 row_lasts s p from (AskAsked v k) c = refl
+row_lasts s p from (Order e what v) c =
+    order_each (λ (o : Out Core). lasting o.acts ≡ []) s p from e what v c refl refl (λ to. by (nat_lt c.node.turns.update.0 v.0))
+    (λ to new. refl) (λ to new. refl) where
+      by : (raises : Bool) → lasting (turned_if raises v.0) ≡ []
+      by true = refl
+      by false = refl
+row_lasts s p from (Ask e) c = ask_each (λ (o : Out Core). lasting o.acts ≡ []) s e c refl refl
 row_lasts s p from _ c = refl
 
 -- and nothing lasts of a letter that is kept

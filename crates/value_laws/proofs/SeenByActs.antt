@@ -21,6 +21,7 @@ use Rattle.letter_types.specs.declared.acts.Act.{Act}
 use Rattle.letter_types.specs.declared.acts.Act.TheVariants as acts
 use Rattle.letter_types.specs.declared.bodies.Body.{Body}
 use Rattle.letter_types.specs.declared.bodies.Body.TheVariants.{Root, Sub as SubLetter, Go, Decide, Sweep, Decided}
+use Rattle.letter_types.specs.declared.bodies.What.TheVariants as whats
 use Rattle.letter_types.specs.declared.entries.Entry.{Entry}
 use Rattle.letter_types.specs.declared.entries.Letter.{Letter}
 use Rattle.nc_locks.specs.declared.modes.Mode.TheVariants.{Hold}
@@ -51,7 +52,7 @@ use Rattle.board_rules.specs.Worth.{first_value}
 use Rattle.tree_laws.specs.Carried.{CarriesVersion}
 use Rattle.tree_laws.specs.SeenAt.{seen_at}
 use Rattle.tree_laws.proofs.AptDecisions.{dated_here, letters_carry_versions, misdecided}
-use Rattle.tree_laws.proofs.AptItems.{Applies, Changes, Collects, Raises, Rests, Shows, Touches, core_changes}
+use Rattle.tree_laws.proofs.AptItems.{Applies, Changes, Collects, Follows, Raises, Rests, Shows, Touches, core_changes}
 use Rattle.tree_laws.proofs.AptVersions.{DoneIn, before, is_right, is_version, still_by, version_is}
 use Rattle.tree_laws.proofs.AptWindows.{apt_timely, nodes_in_window}
 use Rattle.tree_laws.proofs.Histories.{places_more}
@@ -64,6 +65,8 @@ use Rattle.value_laws.proofs.Newest.{AllNewest, AreHeldBy, WorksByVotes, agreed_
 use Rattle.value_laws.proofs.Overwritten.{AreTop, IsOfCommit}
 use Rattle.value_laws.proofs.RowActs.{fold_lasting, is_lasting, keeping_lasts, lasting, lasting_acts, row_lasts}
 use Rattle.value_laws.proofs.SeenRows.{IsCommit, IsReady, row_sees}
+use Rattle.world_model.proofs.Epochs.{order_timely}
+use Rattle.world_model.specs.Epochs.{is_core_timely}
 
 -- Acts that don't last leave a value, and so do those of another node.
 act_left : (s : ScriptData) (zs : List Place) (p x v : ℕ) (w : Value) (a : Act) → is_lasting a ≡ false → value_by_act s zs p x v w a ≡ w
@@ -96,19 +99,22 @@ other_places s zs p x v q w (a ∷ xs) ne =
     ∙ other_places s zs p x v q w xs ne
 
 -- The low version of a node never falls.
-low_by : (s : ScriptData) (p : ℕ) (body : Body) (st after : Node) → is_timely s st body ≡ true
-    → Changes s p body st after.items after.turns → st.turns.low.0 ≤ after.turns.low.0
-low_by s p body st after timely (Rests is turns) = omega (arith, ap (λ x. x.low.0) turns)
-low_by s p body st after timely (Raises v of is turns) =
-    omega (arith, ap (λ x. x.low.0) turns, raised_low (nat_lt st.turns.update.0 v.0) v.0 st.turns)
-low_by s p body st after timely (Touches t k one kind is turns) =
-    let v : Version = asked_version st.turns.update body in
-    omega (arith, ap (λ x. x.low.0) turns, raised_low (nat_lt st.turns.update.0 v.0) v.0 st.turns)
-low_by s p body st after timely (Applies t v letter is turns) = omega (arith, ap (λ x. x.low.0) turns)
-low_by s p body st after timely (Shows v letter is turns) = omega (arith, ap (λ x. x.low.0) turns)
-low_by s p body st after timely (Collects v letter is turns) =
-    let its : is_timely s st (Sweep v) ≡ true = ap (is_timely s st) (sym letter) ∙ timely in
-    let le : st.turns.low.0 ≤ v.0 = at_most st.turns.low.0 v.0 (nat_le v.0 st.turns.read.0 && nat_le v.0 st.turns.update.0) its in
+low_by : (s : ScriptData) (p : ℕ) (body : Body) (c : Core) (after : Node) → is_core_timely s c body ≡ true
+    → Changes s p body c after.items after.turns → c.node.turns.low.0 ≤ after.turns.low.0
+low_by s p body c after timely (Rests is turns) = omega (arith, ap (λ x. x.low.0) turns)
+low_by s p body c after timely (Follows t k v letter is turns) =
+    omega (arith, ap (λ x. x.low.0) turns, raised_low (nat_lt c.node.turns.update.0 v.0) v.0 c.node.turns)
+low_by s p body c after timely (Raises v to is turns) =
+    omega (arith, ap (λ x. x.low.0) turns, raised_low (nat_lt c.node.turns.update.0 v.0) v.0 c.node.turns)
+low_by s p body c after timely (Touches t k one kind is turns) =
+    let v : Version = asked_version c.node.turns.update body in
+    omega (arith, ap (λ x. x.low.0) turns, raised_low (nat_lt c.node.turns.update.0 v.0) v.0 c.node.turns)
+low_by s p body c after timely (Applies t v letter is turns) = omega (arith, ap (λ x. x.low.0) turns)
+low_by s p body c after timely (Shows v to is turns) = omega (arith, ap (λ x. x.low.0) turns)
+low_by s p body c after timely (Collects v to is turns) =
+    let now = c.node.turns in
+    let its : is_timely s c.node (Sweep v) ≡ true = order_timely s c body whats.Sweep v to timely in
+    let le : now.low.0 ≤ v.0 = at_most now.low.0 v.0 (nat_le v.0 now.read.0 && nat_le v.0 now.update.0) its in
     omega (arith, ap (λ x. x.low.0) turns, le)
 
 -- What is known where a node does a letter.
@@ -123,7 +129,7 @@ can_of a b c d e f g is = grind arith
 
 pub apt_can : (s : ScriptData) (p : ℕ) (c : Core) (l : Letter) → is_core_apt s p c l ≡ true → can_make_at s p c l.body ≡ true
 apt_can s p c l apt =
-    can_of _ (is_named s p l.from.0 l.body) (is_new s c.node l.body) (is_unheld l.body c.holds) (is_timely s c.node l.body)
+    can_of _ (is_named s p l.from.0 l.body) (is_new s c.node l.body) (is_unheld l.body c.holds) (is_core_timely s c l.body)
     (decides_near s c.node l.body) (can_make_at s p c l.body) apt
 
 -- a letter of a decision has its tree's version
@@ -192,7 +198,7 @@ commit_here s past e p r t v ys w is =
     let lt : p < s.nodes = w.does.brings.below in
     let it = agreed_here s past e p r t v w is in
     let version : version_in t.0 (before past) ≡ Some v = decision_version s past e p r t v w.valid w.apt.1 w.run w.does is in
-    let within : in_window c.node.turns.low.0 v.0 ≡ true = ap (is_timely s c.node) (sym is) ∙ apt_timely s p c r w.does.brings.apt in
+    let within : in_window c.node.turns.low.0 v.0 ≡ true = ap (is_core_timely s c) (sym is) ∙ apt_timely s p c r w.does.brings.apt in
     let tree : StrictTree s t.0 = strict_there s t.0 it.0 in
     record {
       strict = it.0;
@@ -253,7 +259,7 @@ does_sees s past e p r w old ys x v row at node low =
     let value : Value = fold (value_by_place s (before past ++ (places_at e ++ ys)) p x v) (first_of s x) (before past) in
     let now : after.node.turns.low.0 ≤ v = omega (arith, low, ap (λ (y : Core). y.node.turns.low.0) d.core) in
     let grows : c.node.turns.low.0 ≤ after.node.turns.low.0 =
-    low_by s p r.body c.node after.node (apt_timely s p c r d.brings.apt) (core_changes s p r.from.0 r.body c) in
+    low_by s p r.body c after.node (apt_timely s p c r d.brings.apt) (core_changes s p r.from.0 r.body c) in
     let le : c.node.turns.low.0 ≤ v = omega (arith, now, grows) in
     let item : ItemNo = record { 0 = x } in
     let u : Version = record { 0 = v } in

@@ -14,7 +14,7 @@ use Rattle.item_versions.proofs.Window.{CanCollect-windowed}
 use Rattle.letter_types.specs.declared.acts.Act.{Act}
 use Rattle.letter_types.specs.declared.acts.Act.TheVariants as acts
 use Rattle.letter_types.specs.declared.bodies.Body.{Body}
-use Rattle.letter_types.specs.declared.bodies.Body.TheVariants.{Root, Sub as SubLetter, Done, Turn, Show, Sweep, Decide, Decided, Release, AskDone, AskAsked}
+use Rattle.letter_types.specs.declared.bodies.Body.TheVariants.{Root, Sub as SubLetter, Done, Turn, Show, Sweep, Decide, Decided, Release, AskDone, AskAsked, Order, Ask}
 use Rattle.letter_types.specs.declared.bodies.Notice.{Notice}
 use Rattle.letter_types.specs.declared.votes.Vote.{Vote}
 use Rattle.letter_types.specs.declared.votes.Vote.TheVariants.{Yes, No}
@@ -44,6 +44,8 @@ use Rattle.value_laws.specs.ValuesByActs.{value_by_act}
 use Rattle.value_laws.proofs.HoldRows.{decided_table}
 use Rattle.value_laws.proofs.Overwritten.{AreTop, IsOfCommit, commit_seen}
 use Rattle.value_laws.proofs.RowActs.{asked_acts, lasting_acts}
+use Rattle.world_model.proofs.Epochs.{order_each, ask_each}
+use Rattle.letter_types.specs.Steps.{Out}
 
 -- items in a window are from its low version on
 pub near_from : (low : ℕ) (items : Table) → AreNear low items → EachItem (IsFrom low) items
@@ -180,4 +182,11 @@ row_sees s zs p from x u w (Sweep v) c ready le now seen =
     collected_shows v u x c.node.turns.low.0 c.node.items (near_from c.node.turns.low.0 c.node.items ready.near) now ∙ seen
 row_sees s zs p from x u w (AskDone v k) c ready le now seen = seen
 row_sees s zs p from x u w (AskAsked v k) c ready le now seen = seen
+row_sees s zs p from x u w (Order e what v) c ready le now seen =
+    order_each (λ (o : Out Core). o.state.node.turns.low.0 ≤ u.0 → Sees s zs p x u w [] o.state.node.items) s p from e what v c (λ now. seen)
+    (λ now. seen) (λ to now. seen) (λ to new now. seen)
+    (λ to new now.
+    collected_shows v u x c.node.turns.low.0 c.node.items (near_from c.node.turns.low.0 c.node.items ready.near) now ∙ seen) now
+row_sees s zs p from x u w (Ask e) c ready le now seen =
+    ask_each (λ (o : Out Core). Sees s zs p x u w [] o.state.node.items) s e c seen seen
 row_sees s zs p from x u w _ c ready le now seen = seen

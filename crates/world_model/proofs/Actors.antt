@@ -1,6 +1,6 @@
 -- The table of an actor is that of a node, of the coordinator or of the client; so a run of one is a run of the other.
-use Rattle.std.proofs.Common.{◌≡◌, ◌⊎◌, inl, inr, ℕ, zero, suc, ◌+◌, ◌<◌, ◌==◌, Bool, true, false, List, [], ◌∷◌, refl, ap, sym, subst, arith, Some}
-use Rattle.std.specs.Prelude.{nat_lt, map, slice_get}
+use Rattle.std.proofs.Common.{◌≡◌, ◌⊎◌, inl, inr, ℕ, zero, suc, ◌+◌, ◌<◌, ◌==◌, Bool, true, false, List, [], ◌∷◌, refl, ap, sym, subst, arith, Some, ◌∙◌}
+use Rattle.std.specs.Prelude.{if◌then◌else◌, nat_lt, map, slice_get}
 use Rattle.std.proofs.lemmas.Bool.Decides.{nat_tests}
 use Rattle.letter_types.specs.declared.entries.Letter.{Letter}
 use Rattle.letter_types.specs.declared.entries.Entry.{Entry}
@@ -9,10 +9,12 @@ use Rattle.letter_types.specs.Letters.{go, own, find_id, letters_of}
 use Rattle.letter_types.specs.Postal.{IsMessageRun, delivery_of, letters_sent}
 use Rattle.letter_types.specs.Steps.{Out}
 use Rattle.script_parts.specs.ScriptData.{ScriptData, client_of}
+use Rattle.world_model.specs.Restarting.{start_restarting}
+use Rattle.world_model.specs.Lossy.{is_lossy}
 use Rattle.world_model.specs.Keeping.{KeepingNode, keeping_row, start_keeping}
 use Rattle.world_model.specs.Coordinator.{start_coordinator}
 use Rattle.world_model.specs.Client.{start_client}
-use Rattle.world_model.specs.Tables.{ActorData, NodeData, CoordinatorData, ClientData, start_actor, as_actor, actor_row, coordinator_table, client_table}
+use Rattle.world_model.specs.Tables.{ActorData, NodeData, CoordinatorData, RestartingData, ClientData, start_actor, start_coordination, as_actor, actor_row, coordinator_table, restarting_table, client_table}
 use Rattle.world_model.specs.Runs.{IsRunOf, after, IsWorldRun}
 
 -- The letters of a history of entries went as letters do.
@@ -131,11 +133,21 @@ seen_after big see row same st (e ∷ es) = rw (same st e.took) (seen_after big 
 pub starts_node : (s : ScriptData) (p : ℕ) → p < s.nodes → start_actor s p ≡ NodeData (start_keeping s p)
 starts_node s p lt = let is : nat_lt p s.nodes ≡ true = grind (arith, nat_tests) in rw is refl
 
-pub starts_coordinator : (s : ScriptData) → start_actor s s.nodes ≡ CoordinatorData (start_coordinator s.nodes)
-starts_coordinator s =
+starts_coordination : (s : ScriptData) → start_actor s s.nodes ≡ start_coordination s
+starts_coordination s =
     let no : nat_lt s.nodes s.nodes ≡ false = grind (arith, nat_tests) in
     let is : (s.nodes == s.nodes) ≡ true = grind (arith, nat_tests) in
     rw no (rw is refl)
+
+pub starts_coordinator : (s : ScriptData) → is_lossy s ≡ false → start_actor s s.nodes ≡ CoordinatorData (start_coordinator s.nodes)
+starts_coordinator s keeps =
+    starts_coordination s
+    ∙ ap (λ (b : Bool). if b then RestartingData (start_restarting s.nodes) else CoordinatorData (start_coordinator s.nodes)) keeps
+
+pub starts_restarting : (s : ScriptData) → is_lossy s ≡ true → start_actor s s.nodes ≡ RestartingData (start_restarting s.nodes)
+starts_restarting s loses =
+    starts_coordination s
+    ∙ ap (λ (b : Bool). if b then RestartingData (start_restarting s.nodes) else CoordinatorData (start_coordinator s.nodes)) loses
 
 pub starts_client : (s : ScriptData) → start_actor s (client_of s) ≡ ClientData (start_client s)
 starts_client s =
@@ -147,17 +159,19 @@ starts_client s =
 pub record RowsRun (row : ℕ → KeepingNode → Letter → Out KeepingNode) (s : ScriptData) (h : List Entry) : Type 0 where
   pub postal : IsPostalEntry (client_of s) h
   pub nodes : (p : ℕ) → p < s.nodes → IsRunOf (row p) (start_keeping s p) (own p h)
-  pub coordinator : IsRunOf coordinator_table (start_coordinator s.nodes) (own s.nodes h)
+  pub coordinator : is_lossy s ≡ false → IsRunOf coordinator_table (start_coordinator s.nodes) (own s.nodes h)
+  pub restarting : is_lossy s ≡ true → IsRunOf restarting_table (start_restarting s.nodes) (own s.nodes h)
   pub client : IsRunOf (client_table s) (start_client s) (own (client_of s) h)
 
 -- where they go by the window of versions
 abbrev pub IsTableRun : ScriptData → List Entry → Type 0
 IsTableRun s h = RowsRun (keeping_row s) s h
 
--- one table for all actors that is made of these rows, and of the coordinator's and the client's tables
+-- one table for all actors that is made of these rows, and of the tables of coordinators and of the client
 pub record IsTableOf (s : ScriptData) (big : ℕ → ActorData → Letter → Out ActorData) (row : ℕ → KeepingNode → Letter → Out KeepingNode) : Type 0 where
   pub node : (p : ℕ) → Sees (big p) NodeData (row p)
   pub coordinator : (a : ℕ) → Sees (big a) CoordinatorData coordinator_table
+  pub restarting : (a : ℕ) → Sees (big a) RestartingData restarting_table
   pub client : (a : ℕ) → Sees (big a) ClientData (client_table s)
 
 -- each actor's own entries are a run of its table from its start
@@ -171,16 +185,19 @@ rows_run big row s h is postal actors = record {
   nodes = λ p lt.
       run_seen (big p) NodeData (row p) (is.node p) (start_keeping s p) (own p h)
       (subst (λ (st : ActorData). IsRunOf (big p) st (own p h)) (starts_node s p lt) (actors p (omega arith)));
-  coordinator =
+  coordinator = λ keeps.
       run_seen (big s.nodes) CoordinatorData coordinator_table (is.coordinator s.nodes) (start_coordinator s.nodes) (own s.nodes h)
-      (subst (λ (st : ActorData). IsRunOf (big s.nodes) st (own s.nodes h)) (starts_coordinator s) (actors s.nodes (omega arith)));
+      (subst (λ (st : ActorData). IsRunOf (big s.nodes) st (own s.nodes h)) (starts_coordinator s keeps) (actors s.nodes (omega arith)));
+  restarting = λ loses.
+      run_seen (big s.nodes) RestartingData restarting_table (is.restarting s.nodes) (start_restarting s.nodes) (own s.nodes h)
+      (subst (λ (st : ActorData). IsRunOf (big s.nodes) st (own s.nodes h)) (starts_restarting s loses) (actors s.nodes (omega arith)));
   client =
       run_seen (big (client_of s)) ClientData (client_table s) (is.client (client_of s)) (start_client s) (own (client_of s) h)
       (subst (λ (st : ActorData). IsRunOf (big (client_of s)) st (own (client_of s) h)) (starts_client s) (actors (client_of s) (omega arith)));
 }
 
 by_window : (s : ScriptData) → IsTableOf s (actor_row s) (keeping_row s)
-by_window s = record { node = λ p st l. refl; coordinator = λ a c l. refl; client = λ a c l. refl }
+by_window s = record { node = λ p st l. refl; coordinator = λ a c l. refl; restarting = λ a c l. refl; client = λ a c l. refl }
 
 pub table_run : (s : ScriptData) (h : List Entry) → IsWorldRun s h → IsTableRun s h
 table_run s h w = rows_run (actor_row s) (keeping_row s) s h (by_window s) w.postal w.actors
@@ -208,9 +225,16 @@ actor_run big row s h a is run (ANode lt) =
     subst (λ (st : ActorData). IsRunOf (big a) st (own a h)) (sym (starts_node s a lt))
     (seen_run (big a) NodeData (row a) (is.node a) (start_keeping s a) (own a h) (run.nodes a lt))
 actor_run big row s h a is run (TheCoordinator at) =
-    subst (λ (b : ℕ). IsRunOf (big b) (start_actor s b) (own b h)) (sym at)
-    (subst (λ (st : ActorData). IsRunOf (big s.nodes) st (own s.nodes h)) (sym (starts_coordinator s))
-    (seen_run (big s.nodes) CoordinatorData coordinator_table (is.coordinator s.nodes) (start_coordinator s.nodes) (own s.nodes h) run.coordinator))
+    subst (λ (b : ℕ). IsRunOf (big b) (start_actor s b) (own b h)) (sym at) (by (is_lossy s) refl) where
+      by : (loses : Bool) → is_lossy s ≡ loses → IsRunOf (big s.nodes) (start_actor s s.nodes) (own s.nodes h)
+      by false keeps =
+          subst (λ (st : ActorData). IsRunOf (big s.nodes) st (own s.nodes h)) (sym (starts_coordinator s keeps))
+          (seen_run (big s.nodes) CoordinatorData coordinator_table (is.coordinator s.nodes) (start_coordinator s.nodes) (own s.nodes h)
+          (run.coordinator keeps))
+      by true loses =
+          subst (λ (st : ActorData). IsRunOf (big s.nodes) st (own s.nodes h)) (sym (starts_restarting s loses))
+          (seen_run (big s.nodes) RestartingData restarting_table (is.restarting s.nodes) (start_restarting s.nodes) (own s.nodes h)
+          (run.restarting loses))
 actor_run big row s h a is run (TheClient at) =
     subst (λ (b : ℕ). IsRunOf (big b) (start_actor s b) (own b h)) (sym at)
     (subst (λ (st : ActorData). IsRunOf (big (client_of s)) st (own (client_of s) h)) (sym (starts_client s))
@@ -232,10 +256,15 @@ pub node_data_after : (s : ScriptData) (p : ℕ) (es : List Entry) → p < s.nod
     → after (actor_row s p) (start_actor s p) es ≡ NodeData (after (keeping_row s p) (start_keeping s p) es)
 node_data_after s p es lt = rw (starts_node s p lt) (seen_after (actor_row s p) NodeData (keeping_row s p) (λ st l. refl) (start_keeping s p) es)
 
-pub coordinator_data_after : (s : ScriptData) (es : List Entry)
+pub coordinator_data_after : (s : ScriptData) (es : List Entry) → is_lossy s ≡ false
     → after (actor_row s s.nodes) (start_actor s s.nodes) es ≡ CoordinatorData (after coordinator_table (start_coordinator s.nodes) es)
-coordinator_data_after s es =
-    rw (starts_coordinator s) (seen_after (actor_row s s.nodes) CoordinatorData coordinator_table (λ st l. refl) (start_coordinator s.nodes) es)
+coordinator_data_after s es keeps =
+    rw (starts_coordinator s keeps) (seen_after (actor_row s s.nodes) CoordinatorData coordinator_table (λ st l. refl) (start_coordinator s.nodes) es)
+
+pub restarting_data_after : (s : ScriptData) (es : List Entry) → is_lossy s ≡ true
+    → after (actor_row s s.nodes) (start_actor s s.nodes) es ≡ RestartingData (after restarting_table (start_restarting s.nodes) es)
+restarting_data_after s es loses =
+    rw (starts_restarting s loses) (seen_after (actor_row s s.nodes) RestartingData restarting_table (λ st l. refl) (start_restarting s.nodes) es)
 
 pub client_data_after : (s : ScriptData) (es : List Entry)
     → after (actor_row s (client_of s)) (start_actor s (client_of s)) es ≡ ClientData (after (client_table s) (start_client s) es)

@@ -9,14 +9,16 @@ use Rattle.letter_types.specs.declared.entries.Letter.{Letter}
 use Rattle.letter_types.specs.declared.entries.Entry.{Entry}
 use Rattle.letter_types.specs.Letters.{go, own, same_id, find_id, drop_id, letters_of}
 use Rattle.script_parts.specs.ScriptData.{ScriptData, client_of}
+use Rattle.world_model.specs.Restarting.{start_restarting}
+use Rattle.world_model.specs.Lossy.{is_lossy}
 use Rattle.world_model.specs.Keeping.{keeping_row, start_keeping}
 use Rattle.world_model.specs.Coordinator.{start_coordinator}
-use Rattle.world_model.specs.Tables.{NodeData, CoordinatorData, ClientData, client_table, coordinator_table}
-use Rattle.world_model.specs.Runs.{IsRunOf, after, actor_after, IsWorldRun, in_flight, keeping_in, coordinator_in, client_in, actor_in, Says, Moves, AtNode, AtCoordinator, AtClient, MayFollow, IsStepRun}
+use Rattle.world_model.specs.Tables.{NodeData, CoordinatorData, RestartingData, ClientData, client_table, coordinator_table, restarting_table}
+use Rattle.world_model.specs.Runs.{IsRunOf, after, actor_after, IsWorldRun, in_flight, keeping_in, coordinator_in, restarting_in, coordination_in, client_in, actor_in, Says, Moves, AtNode, AtCoordinator, AtRestarting, AtClient, MayFollow, IsStepRun}
 use Rattle.world_model.specs.Counts.{tally, one_if}
 use Rattle.world_model.proofs.Bags.{tally-drop}
-use Rattle.world_model.proofs.Bridge.{reverse_more, own_more, node_after, coordinator_after, client_after}
-use Rattle.world_model.proofs.Actors.{IsTableRun, world_of_tables, node_data_after, coordinator_data_after, client_data_after}
+use Rattle.world_model.proofs.Bridge.{reverse_more, own_more, node_after, coordinator_after, restarting_after, client_after}
+use Rattle.world_model.proofs.Actors.{IsTableRun, world_of_tables, node_data_after, coordinator_data_after, restarting_data_after, client_data_after}
 use Rattle.world_model.proofs.Gone.{apart_from, same_is, of_id, found_one, Gone, gone_now, gone}
 use Rattle.letter_types.specs.Steps.{Out}
 use Rattle.letter_types.proofs.Ids.{same_id-self}
@@ -101,7 +103,8 @@ stamps_of s (e ∷ past) k f run at =
 
 actor_below : (s : ScriptData) (past : List Entry) (e : Entry) → Moves s past e → e.actor.0 < client_of s + 1
 actor_below s past e (AtNode node says) = omega arith
-actor_below s past e (AtCoordinator at says) = omega arith
+actor_below s past e (AtCoordinator at keeps says) = omega arith
+actor_below s past e (AtRestarting at loses says) = omega arith
 actor_below s past e (AtClient at says) = omega arith
 
 addressed : (s : ScriptData) (past : List Entry) (k : ℕ) (f : Entry) → IsStepRun s past → slice_get (reverse past) k ≡ Some f
@@ -178,19 +181,29 @@ pub says_node : (s : ScriptData) (past : List Entry) (e : Entry) (p : ℕ) → M
     → Says (keeping_row s p (keeping_in s past p) e.took) e
 says_node s past e p (AtNode node says) lt is =
     let eq : e.actor.0 ≡ p = grind (arith, nat_tests) in subst (λ (n : ℕ). Says (keeping_row s n (keeping_in s past n) e.took) e) eq says
-says_node s past e p (AtCoordinator at says) lt is = let eq : e.actor.0 ≡ p = grind (arith, nat_tests) in absurd (omega arith)
+says_node s past e p (AtCoordinator at keeps says) lt is = let eq : e.actor.0 ≡ p = grind (arith, nat_tests) in absurd (omega arith)
+says_node s past e p (AtRestarting at loses says) lt is = let eq : e.actor.0 ≡ p = grind (arith, nat_tests) in absurd (omega arith)
 says_node s past e p (AtClient at says) lt is = let eq : e.actor.0 ≡ p = grind (arith, nat_tests) in absurd (omega arith)
 
-says_coordinator : (s : ScriptData) (past : List Entry) (e : Entry) → Moves s past e → (e.actor.0 == s.nodes) ≡ true
+says_coordinator : (s : ScriptData) (past : List Entry) (e : Entry) → Moves s past e → is_lossy s ≡ false → (e.actor.0 == s.nodes) ≡ true
     → Says (coordinator_table (coordinator_in s past) e.took) e
-says_coordinator s past e (AtNode node says) is = let eq : e.actor.0 ≡ s.nodes = grind (arith, nat_tests) in absurd (omega arith)
-says_coordinator s past e (AtCoordinator at says) is = says
-says_coordinator s past e (AtClient at says) is = let eq : e.actor.0 ≡ s.nodes = grind (arith, nat_tests) in absurd (omega arith)
+says_coordinator s past e (AtNode node says) keeps is = let eq : e.actor.0 ≡ s.nodes = grind (arith, nat_tests) in absurd (omega arith)
+says_coordinator s past e (AtCoordinator at kept says) keeps is = says
+says_coordinator s past e (AtRestarting at loses says) keeps is = absurd (cc (loses, keeps))
+says_coordinator s past e (AtClient at says) keeps is = let eq : e.actor.0 ≡ s.nodes = grind (arith, nat_tests) in absurd (omega arith)
+
+says_restarting : (s : ScriptData) (past : List Entry) (e : Entry) → Moves s past e → is_lossy s ≡ true → (e.actor.0 == s.nodes) ≡ true
+    → Says (restarting_table (restarting_in s past) e.took) e
+says_restarting s past e (AtNode node says) loses is = let eq : e.actor.0 ≡ s.nodes = grind (arith, nat_tests) in absurd (omega arith)
+says_restarting s past e (AtCoordinator at keeps says) loses is = absurd (cc (loses, keeps))
+says_restarting s past e (AtRestarting at lost says) loses is = says
+says_restarting s past e (AtClient at says) loses is = let eq : e.actor.0 ≡ s.nodes = grind (arith, nat_tests) in absurd (omega arith)
 
 says_client : (s : ScriptData) (past : List Entry) (e : Entry) → Moves s past e → (e.actor.0 == client_of s) ≡ true
     → Says (client_table s (client_in s past) e.took) e
 says_client s past e (AtNode node says) is = let eq : e.actor.0 ≡ client_of s = grind (arith, nat_tests) in absurd (omega arith)
-says_client s past e (AtCoordinator at says) is = let eq : e.actor.0 ≡ client_of s = grind (arith, nat_tests) in absurd (omega arith)
+says_client s past e (AtCoordinator at keeps says) is = let eq : e.actor.0 ≡ client_of s = grind (arith, nat_tests) in absurd (omega arith)
+says_client s past e (AtRestarting at loses says) is = let eq : e.actor.0 ≡ client_of s = grind (arith, nat_tests) in absurd (omega arith)
 says_client s past e (AtClient at says) is = says
 
 node_runs : (s : ScriptData) (past : List Entry) (p : ℕ) → p < s.nodes → IsStepRun s past
@@ -199,10 +212,19 @@ node_runs s [] p lt run = tt
 node_runs s (e ∷ past) p lt run =
     run_more (keeping_row s p) (start_keeping s p) p e past (keeping_in s past p) (node_after s past p) (node_runs s past p lt run.1) (says_node s past e p run.0.moves lt)
 
-coordinator_runs : (s : ScriptData) (past : List Entry) → IsStepRun s past → IsRunOf coordinator_table (start_coordinator s.nodes) (own s.nodes (reverse past))
-coordinator_runs s [] run = tt
-coordinator_runs s (e ∷ past) run =
-    run_more coordinator_table (start_coordinator s.nodes) s.nodes e past (coordinator_in s past) (coordinator_after s past) (coordinator_runs s past run.1) (says_coordinator s past e run.0.moves)
+coordinator_runs : (s : ScriptData) (past : List Entry) → is_lossy s ≡ false → IsStepRun s past
+    → IsRunOf coordinator_table (start_coordinator s.nodes) (own s.nodes (reverse past))
+coordinator_runs s [] keeps run = tt
+coordinator_runs s (e ∷ past) keeps run =
+    run_more coordinator_table (start_coordinator s.nodes) s.nodes e past (coordinator_in s past) (coordinator_after s past)
+    (coordinator_runs s past keeps run.1) (says_coordinator s past e run.0.moves keeps)
+
+restarting_runs : (s : ScriptData) (past : List Entry) → is_lossy s ≡ true → IsStepRun s past
+    → IsRunOf restarting_table (start_restarting s.nodes) (own s.nodes (reverse past))
+restarting_runs s [] loses run = tt
+restarting_runs s (e ∷ past) loses run =
+    run_more restarting_table (start_restarting s.nodes) s.nodes e past (restarting_in s past) (restarting_after s past)
+    (restarting_runs s past loses run.1) (says_restarting s past e run.0.moves loses)
 
 client_runs : (s : ScriptData) (past : List Entry) → IsStepRun s past
     → IsRunOf (client_table s) (start_client s) (own (client_of s) (reverse past))
@@ -220,7 +242,8 @@ table_run_of s past run = record {
     known = λ k e at. (addressed s past k e run at).1;
   };
   nodes = λ p lt. node_runs s past p lt run;
-  coordinator = coordinator_runs s past run;
+  coordinator = λ keeps. coordinator_runs s past keeps run;
+  restarting = λ loses. restarting_runs s past loses run;
   client = client_runs s past run;
 }
 
@@ -231,9 +254,20 @@ world_run s past run = world_of_tables s (reverse past) (table_run_of s past run
 pub node_leads : (s : ScriptData) (past : List Entry) (p : ℕ) → p < s.nodes → actor_after s (reverse past) p ≡ NodeData (keeping_in s past p)
 node_leads s past p lt = node_data_after s p (own p (reverse past)) lt ∙ ap NodeData (node_after s past p)
 
-pub coordinator_leads : (s : ScriptData) (past : List Entry)
+pub coordinator_leads : (s : ScriptData) (past : List Entry) → is_lossy s ≡ false
     → actor_after s (reverse past) s.nodes ≡ CoordinatorData (coordinator_in s past)
-coordinator_leads s past = coordinator_data_after s (own s.nodes (reverse past)) ∙ ap CoordinatorData (coordinator_after s past)
+coordinator_leads s past keeps = coordinator_data_after s (own s.nodes (reverse past)) keeps ∙ ap CoordinatorData (coordinator_after s past)
+
+pub restarting_leads : (s : ScriptData) (past : List Entry) → is_lossy s ≡ true
+    → actor_after s (reverse past) s.nodes ≡ RestartingData (restarting_in s past)
+restarting_leads s past loses = restarting_data_after s (own s.nodes (reverse past)) loses ∙ ap RestartingData (restarting_after s past)
+
+coordination_leads : (s : ScriptData) (past : List Entry) → actor_after s (reverse past) s.nodes ≡ coordination_in s past
+coordination_leads s past = by (is_lossy s) refl where
+  by : (loses : Bool) → is_lossy s ≡ loses
+      → actor_after s (reverse past) s.nodes ≡ (if loses then RestartingData (restarting_in s past) else CoordinatorData (coordinator_in s past))
+  by false keeps = coordinator_leads s past keeps
+  by true loses = restarting_leads s past loses
 
 pub client_leads : (s : ScriptData) (past : List Entry) → actor_after s (reverse past) (client_of s) ≡ ClientData (client_in s past)
 client_leads s past = client_data_after s (own (client_of s) (reverse past)) ∙ ap ClientData (client_after s past)
@@ -243,7 +277,7 @@ is_node : (s : ScriptData) (past : List Entry) (a : ℕ) → nat_lt a s.nodes �
 is_node s past a is = rw is refl
 
 is_coordinator : (s : ScriptData) (past : List Entry) (a : ℕ) → nat_lt a s.nodes ≡ false → (a == s.nodes) ≡ true
-    → actor_in s past a ≡ CoordinatorData (coordinator_in s past)
+    → actor_in s past a ≡ coordination_in s past
 is_coordinator s past a is at = rw (is, at) refl
 
 is_client : (s : ScriptData) (past : List Entry) (a : ℕ) → nat_lt a s.nodes ≡ false → (a == s.nodes) ≡ false
@@ -255,7 +289,7 @@ leads_by : (s : ScriptData) (past : List Entry) (a : ℕ) (b c : Bool) → nat_l
 leads_by s past a true c is at lt = is_node s past a is ∙ sym (node_leads s past a (grind (arith, nat_tests)))
 leads_by s past a false true is at lt =
     let eq : a ≡ s.nodes = grind (arith, nat_tests) in
-    is_coordinator s past a is at ∙ sym (coordinator_leads s past) ∙ ap (actor_after s (reverse past)) (sym eq)
+    is_coordinator s past a is at ∙ sym (coordination_leads s past) ∙ ap (actor_after s (reverse past)) (sym eq)
 leads_by s past a false false is at lt =
     let eq : a ≡ client_of s = grind (arith, nat_tests) in
     is_client s past a is at ∙ sym (client_leads s past) ∙ ap (actor_after s (reverse past)) (sym eq)

@@ -9,10 +9,11 @@ use Rattle.letter_types.specs.declared.entries.Letter.{Letter}
 use Rattle.letter_types.specs.declared.entries.Entry.{Entry}
 use Rattle.letter_types.specs.Letters.{go, own, find_id, letters_of}
 use Rattle.script_parts.specs.ScriptData.{ScriptData, client_of}
+use Rattle.world_model.specs.Restarting.{start_restarting}
 use Rattle.world_model.specs.Keeping.{keeping_row, start_keeping}
 use Rattle.world_model.specs.Coordinator.{start_coordinator}
-use Rattle.world_model.specs.Tables.{client_table, coordinator_table}
-use Rattle.world_model.specs.Runs.{IsRunOf, after, keeping_in, coordinator_in, client_in, Says}
+use Rattle.world_model.specs.Tables.{client_table, coordinator_table, restarting_table}
+use Rattle.world_model.specs.Runs.{IsRunOf, after, keeping_in, coordinator_in, restarting_in, client_in, Says}
 use Rattle.world_model.proofs.Actors.{IsPostalEntry}
 use Rattle.letter_types.specs.Steps.{Out}
 use Rattle.world_model.specs.Client.{start_client}
@@ -58,6 +59,12 @@ pub coordinator_after : (s : ScriptData) (past : List Entry)
 coordinator_after s [] = refl
 coordinator_after s (e ∷ past) =
     state_more coordinator_table (start_coordinator s.nodes) s.nodes e past (coordinator_in s past) (coordinator_after s past)
+
+pub restarting_after : (s : ScriptData) (past : List Entry)
+    → after restarting_table (start_restarting s.nodes) (own s.nodes (reverse past)) ≡ restarting_in s past
+restarting_after s [] = refl
+restarting_after s (e ∷ past) =
+    state_more restarting_table (start_restarting s.nodes) s.nodes e past (restarting_in s past) (restarting_after s past)
 
 pub client_after : (s : ScriptData) (past : List Entry)
     → after (client_table s) (start_client s) (own (client_of s) (reverse past)) ≡ client_in s past

@@ -6,7 +6,7 @@ use Rattle.std.proofs.lemmas.Bool.Decides.{nat_tests}
 use Rattle.tv_base.specs.declared.numbers.SubNo.{SubNo}
 use Rattle.tv_base.specs.declared.numbers.TreeNo.{TreeNo}
 use Rattle.letter_types.specs.declared.bodies.Body.{Body}
-use Rattle.letter_types.specs.declared.bodies.Body.TheVariants.{Show, Decide, Wake}
+use Rattle.letter_types.specs.declared.bodies.Body.TheVariants.{Go, Order, Show, Decide, Wake}
 use Rattle.letter_types.specs.declared.entries.Letter.{Letter}
 use Rattle.world_model.specs.Calls.{calls, is_wake_of}
 use Rattle.world_model.specs.Counts.{tally, one_if}
@@ -15,7 +15,9 @@ use Rattle.letter_types.specs.declared.kept.KeptLetter.{KeptLetter}
 use Rattle.letter_types.specs.declared.kept.Why.{Why}
 use Rattle.letter_types.specs.Kept.{brought, is_called, is_called_for, first_called, kept_without, wakes, wakes_by, with_called, without_called}
 use Rattle.letter_types.specs.declared.kept.Why.TheVariants.{ForShow, ForHolder, Called}
-use Rattle.world_model.specs.Keeping.{KeepingNode, kept_row}
+use Rattle.world_model.specs.Core.{Core}
+use Rattle.world_model.specs.Epochs.{plain_order, is_obeyed_now}
+use Rattle.world_model.specs.Keeping.{KeepingNode, kept_row, woken_by}
 use Rattle.world_model.specs.Strict.{CoreKeeping}
 use Rattle.world_model.proofs.Bags.{tally-append}
 use Rattle.world_model.proofs.Sends.{on}
@@ -35,10 +37,18 @@ one_woken t k x true Called is stays = absurd (let no : true ≡ false = stays r
 one_woken t k x true ForShow is stays = rw is (omega arith)
 one_woken t k x true (ForHolder h) is stays = rw is (omega arith)
 
-uncalled : (b : Body) (why : Why) → is_called why ≡ true → wakes_by b why ≡ false
-uncalled b Called is = called_stays b
-uncalled b ForShow is = absurd (cc is)
-uncalled b (ForHolder h) is = absurd (cc is)
+uncalled : (c : Core) (b : Body) (why : Why) → is_called why ≡ true → woken_by c b why ≡ false
+uncalled c (Order e what v) Called is =
+    let none : wakes_by (plain_order what v) Called ≡ false = called_stays (plain_order what v) in
+    by (is_obeyed_now e what v c) (wakes_by (plain_order what v) Called) none where
+      by : (a b : Bool) → b ≡ false → (a && b) ≡ false
+      by a b none = grind arith
+uncalled c (Show v) Called is = refl
+uncalled c (Decide t v commit) Called is = refl
+uncalled c Go Called is = refl
+uncalled c _ Called is = refl
+uncalled c b ForShow is = absurd (cc is)
+uncalled c b (ForHolder h) is = absurd (cc is)
 
 wakes_at : (t : TreeNo) (k : SubNo) (f : Why → Bool) (x : KeptLetter) (xs : List KeptLetter) (test : Bool) → f x.why ≡ test
     → (is_called x.why ≡ true → test ≡ false)
@@ -48,11 +58,11 @@ wakes_at t k f x xs true is stays rest = rw is (omega (arith, rest, one_woken t 
 wakes_at t k f x xs false is stays rest = rw is (omega (arith, rest))
 
 -- a letter that wakes others sends a Wake for each
-pub wakes_call : (t : TreeNo) (k : SubNo) (b : Body) (xs : List KeptLetter)
-    → calls t k (with_called (wakes_by b) xs) ≡ calls t k xs + tally (on (is_wake_of t k)) (wakes (wakes_by b) xs)
-wakes_call t k b [] = refl
-wakes_call t k b (x ∷ xs) =
-    wakes_at t k (wakes_by b) x xs (wakes_by b x.why) refl (uncalled b x.why) (wakes_call t k b xs)
+pub wakes_call : (t : TreeNo) (k : SubNo) (c : Core) (b : Body) (xs : List KeptLetter)
+    → calls t k (with_called (woken_by c b) xs) ≡ calls t k xs + tally (on (is_wake_of t k)) (wakes (woken_by c b) xs)
+wakes_call t k c b [] = refl
+wakes_call t k c b (x ∷ xs) =
+    wakes_at t k (woken_by c b) x xs (woken_by c b x.why) refl (uncalled c b x.why) (wakes_call t k c b xs)
 
 -- what a Wake brings is called no more
 brought_at : (t : TreeNo) (k : SubNo) (u : TreeNo) (j : SubNo) (x : KeptLetter) (xs : List KeptLetter) (r : Letter) (test : Bool)
@@ -83,9 +93,9 @@ brought_calls u j kept l r _ at = omega arith
 -- so a node's step keeps them as many as the Wakes in flight: a letter that is done
 pub done_calls : (u : TreeNo) (j : SubNo) (s : ScriptData) (p : ℕ) (l r : Letter) (n : KeepingNode) → brought n.kept l l.body ≡ Some r
     → calls u j (kept_row s p l r n None).state.kept + is_wake_of u j l.body
-    ≡ calls u j n.kept + tally (on (is_wake_of u j)) (wakes (wakes_by r.body) (kept_without n.kept l.body))
+    ≡ calls u j n.kept + tally (on (is_wake_of u j)) (wakes (woken_by n.core r.body) (kept_without n.kept l.body))
 done_calls u j s p l r n at =
-    omega (arith, wakes_call u j r.body (kept_without n.kept l.body), brought_calls u j n.kept l r l.body at)
+    omega (arith, wakes_call u j n.core r.body (kept_without n.kept l.body), brought_calls u j n.kept l r l.body at)
 
 -- and a letter that is kept, for another reason than that it is called
 pub kept_calls : (u : TreeNo) (j : SubNo) (s : ScriptData) (p : ℕ) (l r : Letter) (n : KeepingNode) (k : CoreKeeping) → is_called k.why ≡ false

@@ -5,14 +5,15 @@ use Rattle.std.specs.Prelude.{if◌then◌else◌, nat_lt, is_some}
 use Rattle.std.proofs.lemmas.Bool.Decides.{nat_tests}
 use Rattle.letter_types.specs.declared.entries.Entry.{Entry}
 use Rattle.letter_types.specs.declared.entries.Letter.{Letter}
-use Rattle.letter_types.specs.Kept.{brought, kept_without, wakes, wakes_by, with_called}
+use Rattle.letter_types.specs.Kept.{brought, kept_without, wakes, with_called}
 use Rattle.letter_types.specs.Steps.{Out}
 use Rattle.script_parts.specs.ScriptData.{ScriptData, client_of}
-use Rattle.world_model.specs.Keeping.{KeepingNode, brought_row, is_apt_at, is_apt_brought, keeping_row, kept_row}
+use Rattle.world_model.proofs.Coordination.{IsCoordinated, of_forgetting, of_remembering}
+use Rattle.world_model.specs.Keeping.{KeepingNode, brought_row, is_apt_at, is_apt_brought, keeping_row, kept_row, woken_by}
 use Rattle.world_model.specs.Kept.{done_by, done_of, keeps_letter, kept_in, of_done, stays_of}
-use Rattle.world_model.specs.Runs.{AtClient, AtCoordinator, AtNode, MayFollow, Moves, Says, client_in, coordinator_in, keeping_in}
+use Rattle.world_model.specs.Runs.{AtClient, AtCoordinator, AtNode, AtRestarting, MayFollow, Moves, Says, client_in, keeping_in}
 use Rattle.world_model.specs.Strict.{CoreKeeping, core_keeping, core_row, is_core_apt}
-use Rattle.world_model.specs.Tables.{client_table, coordinator_table}
+use Rattle.world_model.specs.Tables.{client_table}
 use Rattle.world_model.proofs.Outstanding.{keeping_here}
 use Rattle.world_model.specs.AllApt.{WasApt}
 
@@ -29,10 +30,10 @@ pub record Does (s : ScriptData) (past : List Entry) (e : Entry) (p : ℕ) (r : 
   pub brings : Brings s past e p r
   pub now : core_keeping s (keeping_in s past p).core r.body ≡ None
   pub core : (keeping_in s (e ∷ past) p).core ≡ (core_row s p (keeping_in s past p).core r.from.0 r.body).state
-  pub kept : kept_in s (e ∷ past) p ≡ with_called (wakes_by r.body) (kept_without (kept_in s past p) e.took.body)
+  pub kept : kept_in s (e ∷ past) p ≡ with_called (woken_by (keeping_in s past p).core r.body) (kept_without (kept_in s past p) e.took.body)
   pub sent : e.sent
       ≡ (core_row s p (keeping_in s past p).core r.from.0 r.body).sent
-      ++ wakes (wakes_by r.body) (kept_without (kept_in s past p) e.took.body)
+      ++ wakes (woken_by (keeping_in s past p).core r.body) (kept_without (kept_in s past p) e.took.body)
   pub acts : e.acts ≡ (core_row s p (keeping_in s past p).core r.from.0 r.body).acts
 
 -- or it is kept
@@ -48,7 +49,7 @@ pub record Keeps (s : ScriptData) (past : List Entry) (e : Entry) (p : ℕ) (r :
 pub data Case (s : ScriptData) (past : List Entry) (e : Entry) : Type 0 where
   NodeDoes : (p : ℕ) (r : Letter) → Does s past e p r → Case s past e
   NodeKeeps : (p : ℕ) (r : Letter) (k : CoreKeeping) → Keeps s past e p r k → Case s past e
-  Coordinates : e.actor.0 ≡ s.nodes → Says (coordinator_table (coordinator_in s past) e.took) e → Case s past e
+  Coordinates : e.actor.0 ≡ s.nodes → IsCoordinated s e → Case s past e
   Submits : e.actor.0 ≡ client_of s → Says (client_table s (client_in s past) e.took) e → Case s past e
 
 -- the row of a letter that is brought and apt
@@ -105,7 +106,8 @@ node_case s past e (Some r) lt says is apt =
 
 case_of : (s : ScriptData) (past : List Entry) (e : Entry) → Moves s past e → WasApt s past e → Case s past e
 case_of s past e (AtNode lt says) apt = node_case s past e (brought (kept_in s past e.actor.0) e.took e.took.body) lt says refl (apt lt)
-case_of s past e (AtCoordinator at says) apt = Coordinates at says
+case_of s past e (AtCoordinator at keeps says) apt = Coordinates at (of_remembering s past e keeps says)
+case_of s past e (AtRestarting at loses says) apt = Coordinates at (of_forgetting s past e loses says)
 case_of s past e (AtClient at says) apt = Submits at says
 
 pub case : (s : ScriptData) (past : List Entry) (e : Entry) → MayFollow s past e → WasApt s past e → Case s past e

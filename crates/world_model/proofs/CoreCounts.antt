@@ -6,7 +6,7 @@ use Rattle.tv_base.specs.declared.numbers.SubNo.{SubNo}
 use Rattle.tv_base.specs.declared.numbers.TreeNo.{TreeNo}
 use Rattle.tv_base.specs.declared.numbers.Version.{Version}
 use Rattle.letter_types.specs.declared.bodies.Body.{Body}
-use Rattle.letter_types.specs.declared.bodies.Body.TheVariants.{Root, Sub as SubLetter, Done, Decide, Decided, Release, Turn, Show, Sweep, AskDone, AskAsked}
+use Rattle.letter_types.specs.declared.bodies.Body.TheVariants.{Root, Sub as SubLetter, Done, Decide, Decided, Release, Turn, Show, Sweep, AskDone, AskAsked, Ask, Order}
 use Rattle.letter_types.specs.declared.bodies.Notice.{Notice}
 use Rattle.letter_types.specs.declared.entries.Outgoing.{Outgoing}
 use Rattle.letter_types.specs.declared.votes.Vote.{Vote}
@@ -20,6 +20,7 @@ use Rattle.script_parts.specs.declared.parts.TreeKind.TheVariants.{Update, Read,
 use Rattle.script_parts.proofs.SubsOf.{few_subs}
 use Rattle.world_model.specs.Asked.{asked_ops, asked_version, tree_part}
 use Rattle.world_model.specs.Children.{addressees, done_letter, sub_letters}
+use Rattle.world_model.proofs.Epochs.{ask_each, order_each}
 use Rattle.world_model.specs.Core.{Core}
 use Rattle.world_model.specs.Done.{TreeOut, counted_root, counted_sub, note_part, sub_sent}
 use Rattle.world_model.specs.Named.{is_strict_at, tree_kind_at}
@@ -163,4 +164,10 @@ core_grew s p from (Show v) c valid = stays MOST_COUNTED c.node.counts
 core_grew s p from (Sweep v) c valid = sweep_grew v.0 c.node.counts
 core_grew s p from (AskDone v k) c valid = stays MOST_COUNTED c.node.counts
 core_grew s p from (AskAsked v k) c valid = stays MOST_COUNTED c.node.counts
+core_grew s p from (Order e what v) c valid =
+    order_each (λ (o : Out Core). Grew c.node.counts o.state.node.counts) s p from e what v c (stays MOST_COUNTED c.node.counts)
+    (stays MOST_COUNTED c.node.counts) (λ is. stays MOST_COUNTED c.node.counts) (λ is new. stays MOST_COUNTED c.node.counts)
+    (λ is new. sweep_grew v.0 c.node.counts)
+core_grew s p from (Ask e) c valid =
+    ask_each (λ (o : Out Core). Grew c.node.counts o.state.node.counts) s e c (stays MOST_COUNTED c.node.counts) (stays MOST_COUNTED c.node.counts)
 core_grew s p from _ c valid = stays MOST_COUNTED c.node.counts

@@ -7,7 +7,7 @@ use Rattle.tv_base.specs.declared.numbers.SubNo.{SubNo}
 use Rattle.tv_base.specs.declared.numbers.TreeNo.{TreeNo}
 use Rattle.tv_base.specs.declared.numbers.Version.{Version}
 use Rattle.letter_types.specs.declared.bodies.Body.{Body}
-use Rattle.letter_types.specs.declared.bodies.Body.TheVariants.{Root, Sub as SubLetter, Done, Decide, Decided, Release, Turn, Show, Sweep, AskDone, AskAsked}
+use Rattle.letter_types.specs.declared.bodies.Body.TheVariants.{Root, Sub as SubLetter, Done, Decide, Decided, Release, Turn, Show, Sweep, AskDone, AskAsked, Ask, Order}
 use Rattle.letter_types.specs.declared.bodies.Notice.{Notice}
 use Rattle.letter_types.specs.declared.entries.Outgoing.{Outgoing}
 use Rattle.letter_types.specs.Steps.{Out}
@@ -21,6 +21,7 @@ use Rattle.script_parts.specs.declared.parts.TreeKind.TheVariants.{Update, Read,
 use Rattle.script_parts.proofs.SubsOf.{all_at, sub_nodes}
 use Rattle.world_model.specs.Asked.{asked_ops, asked_version, tree_part}
 use Rattle.world_model.specs.Children.{done_letter, sub_letters}
+use Rattle.world_model.proofs.Epochs.{ask_each, order_each}
 use Rattle.world_model.specs.Core.{Core, Refusals}
 use Rattle.world_model.specs.Counts.{Each}
 use Rattle.world_model.specs.Done.{TreeOut, note_part}
@@ -158,4 +159,8 @@ core_for s p from (Show v) c valid = (omega arith, tt)
 core_for s p from (Sweep v) c valid = (omega arith, tt)
 core_for s p from (AskDone v k) c valid = (omega arith, tt)
 core_for s p from (AskAsked v k) c valid = (omega arith, tt)
+core_for s p from (Order e what v) c valid =
+    order_each (λ (o : Out Core). For (s.nodes + 2) o.sent) s p from e what v c tt (omega arith, tt) (λ is. (omega arith, tt))
+    (λ is new. (omega arith, tt)) (λ is new. (omega arith, tt))
+core_for s p from (Ask e) c valid = ask_each (λ (o : Out Core). For (s.nodes + 2) o.sent) s e c tt (omega arith, tt)
 core_for s p from _ c valid = tt

@@ -14,9 +14,9 @@ use Rattle.script_parts.specs.ScriptData.{ScriptData}
 use Rattle.world_model.specs.Counts.{tally, Each}
 use Rattle.letter_types.specs.declared.kept.KeptLetter.{KeptLetter}
 use Rattle.letter_types.specs.declared.kept.Why.{Why}
-use Rattle.letter_types.specs.Kept.{is_called_for, first_called, without_called, brought, kept_without, wakes_by, with_called}
+use Rattle.letter_types.specs.Kept.{is_called_for, first_called, without_called, brought, kept_without, with_called}
 use Rattle.letter_types.specs.declared.kept.Why.TheVariants.{Called}
-use Rattle.world_model.specs.Keeping.{KeepingNode, is_apt_at, kept_row, brought_row}
+use Rattle.world_model.specs.Keeping.{KeepingNode, is_apt_at, kept_row, brought_row, woken_by}
 use Rattle.world_model.specs.Kept.{kept_in, kept_by, outstanding, done_of, done_by}
 use Rattle.world_model.specs.Runs.{in_flight, keeping_in, IsStepRun, MayFollow}
 use Rattle.world_model.specs.Strict.{CoreKeeping, core_keeping, is_core_apt}
@@ -92,7 +92,7 @@ each_more P (y ∷ xs) x all one = (all.0, each_more P xs x all.1 one)
 
 each_row : (P : Letter → Type 0) (s : ScriptData) (p : ℕ) (l r : Letter) (n : KeepingNode) (o : Option CoreKeeping)
     → EachKept P (kept_without n.kept l.body) → P r → EachKept P (kept_row s p l r n o).state.kept
-each_row P s p l r n None all one = each_woken P (wakes_by r.body) (kept_without n.kept l.body) all
+each_row P s p l r n None all one = each_woken P (woken_by n.core r.body) (kept_without n.kept l.body) all
 each_row P s p l r n (Some k) all one =
     each_more P (kept_without n.kept l.body) (record { letter = r; tree = k.tree; sub = k.sub; why = k.why }) all one
 

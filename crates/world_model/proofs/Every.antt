@@ -8,7 +8,7 @@ use Rattle.letter_types.specs.declared.entries.Entry.{Entry}
 use Rattle.letter_types.specs.Letters.{same_id, find_id, drop_id, sealed, letters_of}
 use Rattle.script_parts.specs.ScriptData.{ScriptData}
 use Rattle.world_model.specs.Keeping.{KeepingNode, keeping_row}
-use Rattle.world_model.specs.Runs.{in_flight, coordinator_in, keeping_in, node_in, Says, Moves, AtNode, AtCoordinator, AtClient, MayFollow}
+use Rattle.world_model.specs.Runs.{in_flight, coordinator_in, keeping_in, node_in, Says, Moves, AtNode, AtCoordinator, AtRestarting, AtClient, MayFollow}
 use Rattle.world_model.specs.Counts.{tally, Each}
 use Rattle.world_model.proofs.Outstanding.{keeping_elsewhere}
 
@@ -65,7 +65,8 @@ each_taken P s past e m all = each_found P e.took.id (in_flight s past) e.took a
 pub moved_says : (s : ScriptData) (past : List Entry) (e : Entry) (p : ℕ) → p < s.nodes → e.actor.0 ≡ p → Moves s past e
     → Says (keeping_row s p (keeping_in s past p) e.took) e
 moved_says s past e p lt eq (AtNode node says) = subst (λ (n : ℕ). Says (keeping_row s n (keeping_in s past n) e.took) e) eq says
-moved_says s past e p lt eq (AtCoordinator at says) = absurd (omega arith)
+moved_says s past e p lt eq (AtCoordinator at keeps says) = absurd (omega arith)
+moved_says s past e p lt eq (AtRestarting at loses says) = absurd (omega arith)
 moved_says s past e p lt eq (AtClient at says) = absurd (omega arith)
 
 pub node_kept : (s : ScriptData) (past : List Entry) (e : Entry) (p : ℕ) → e.actor.0 ≢ p → node_in s (e ∷ past) p ≡ node_in s past p

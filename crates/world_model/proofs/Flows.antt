@@ -5,20 +5,20 @@ use Rattle.std.proofs.lemmas.Bool.Decides.{nat_tests}
 use Rattle.letter_types.specs.declared.acts.Act.{Act}
 use Rattle.letter_types.specs.declared.acts.Act.TheVariants.{Finished}
 use Rattle.letter_types.specs.declared.bodies.Body.{Body}
-use Rattle.letter_types.specs.declared.bodies.Body.TheVariants.{Root, Advance, Wake}
+use Rattle.letter_types.specs.declared.bodies.Body.TheVariants.{Wake}
 use Rattle.letter_types.specs.declared.entries.Entry.{Entry}
 use Rattle.letter_types.specs.declared.entries.Letter.{Letter}
 use Rattle.letter_types.specs.declared.entries.Outgoing.{Outgoing}
 use Rattle.tv_base.specs.declared.numbers.SubNo.{SubNo}
 use Rattle.tv_base.specs.declared.numbers.TreeNo.{TreeNo}
 use Rattle.script_parts.specs.ScriptData.{ScriptData, client_of}
-use Rattle.world_model.specs.Client.{Client, submit, submitted, rows_letters}
+use Rattle.world_model.specs.Client.{Client, advances_sent, submit, submitted, rows_letters}
 use Rattle.world_model.specs.Counts.{tally}
 use Rattle.world_model.specs.Kept.{outstanding, of_done}
 use Rattle.world_model.specs.Runs.{client_in, in_flight, MayFollow}
 use Rattle.world_model.proofs.Bags.{tally-append, tally_step, sealed_tally}
 use Rattle.world_model.proofs.Outstanding.{outstanding_step}
-use Rattle.world_model.proofs.Sends.{on, roots_none}
+use Rattle.world_model.proofs.Sends.{on, CountsNoRow, roots_none}
 
 -- what an entry does to a number of bodies
 pub flow : (f : Body → ℕ) (s : ScriptData) (past : List Entry) (e : Entry) → MayFollow s past e
@@ -50,10 +50,11 @@ client_kept s past e ne = let other : (e.actor.0 == client_of s) ≡ false = gri
 
 -- The client's letters and acts.
 pub submit_none : (f : Body → ℕ) (s : ScriptData) (c : Client) (first : List Outgoing) → tally (on f) first ≡ 0
-    → ((t : TreeNo) → f (Root t) ≡ 0) → f Advance ≡ 0 → tally (on f) (submit s c first).sent ≡ 0
-submit_none f s c first quiet none never =
+    → CountsNoRow f → tally (on f) (submit s c first).sent ≡ 0
+submit_none f s c first quiet none =
     let rows = take (submitted c (take c.next s.rows) (drop c.next s.rows)) (drop c.next s.rows) in
-    omega (arith, tally-append (on f) first (rows_letters s rows), quiet, roots_none f s rows none never)
+    let k = advances_sent s c in
+    omega (arith, tally-append (on f) first (rows_letters s k rows), quiet, roots_none f s k rows none)
 
 -- that all is finished is no act of a tree
 pub finish_none : (f : Act → ℕ) (test : Bool) → f Finished ≡ 0 → tally f (if test then Finished ∷ [] else []) ≡ 0

@@ -14,7 +14,7 @@ use Rattle.letter_types.specs.declared.entries.Letter.{Letter}
 use Rattle.letter_types.specs.declared.kept.KeptLetter.{KeptLetter}
 use Rattle.letter_types.specs.declared.kept.Why.{Why}
 use Rattle.letter_types.specs.declared.kept.Why.TheVariants.{Called}
-use Rattle.letter_types.specs.Kept.{brought, is_called_for, kept_without, wakes, wakes_by, with_called, without_called}
+use Rattle.letter_types.specs.Kept.{brought, is_called_for, kept_without, wakes, with_called, without_called}
 use Rattle.letter_types.specs.Steps.{Out, still}
 use Rattle.nc_locks.specs.declared.modes.Met.{Met}
 use Rattle.script_parts.specs.ScriptData.{ScriptData}
@@ -22,7 +22,7 @@ use Rattle.script_parts.specs.declared.parts.TreeKind.{TreeKind}
 use Rattle.script_parts.specs.declared.parts.TreeKind.TheVariants.{Update, Read, Strict}
 use Rattle.world_model.specs.Asked.{asked_ops}
 use Rattle.world_model.specs.Core.{Core}
-use Rattle.world_model.specs.Keeping.{Aptness, AreKeptAt, AsksFor, IsKeptAt, KeepingNode, brought_row, is_apt_there, keeping_row, kept_row}
+use Rattle.world_model.specs.Keeping.{Aptness, AreKeptAt, AsksFor, IsKeptAt, KeepingNode, brought_row, is_apt_there, keeping_row, kept_row, woken_by}
 use Rattle.world_model.specs.Named.{tree_kind_at}
 use Rattle.world_model.specs.Runs.{keeping_in}
 use Rattle.world_model.specs.Strict.{CoreKeeping, core_keeping, is_born_now, is_core_apt, kept_by_kind, meets, parked_if, root_waiting}
@@ -123,7 +123,7 @@ row_keeps : (s : ScriptData) (p : ℕ) (l r : Letter) (n : KeepingNode) (found :
 row_keeps s p l r n (Some k) so to all =
     one_more_kept p (kept_without n.kept l.body) (record { letter = r; tree = k.tree; sub = k.sub; why = k.why })
     (still_kept p n.kept l.body all) (record { to = to; asks = so.asks })
-row_keeps s p l r n None so to all = called_kept p (wakes_by r.body) (kept_without n.kept l.body) (still_kept p n.kept l.body all)
+row_keeps s p l r n None so to all = called_kept p (woken_by n.core r.body) (kept_without n.kept l.body) (still_kept p n.kept l.body all)
 
 -- an apt letter is addressed to the node
 pub apt_there : (apt : Aptness) (p : ℕ) (n : KeepingNode) (r : Letter) → is_apt_there apt p n r ≡ true → r.to.0 ≡ p

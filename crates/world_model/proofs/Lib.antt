@@ -16,10 +16,13 @@ pub mod Nexts
 pub mod Sends
 pub mod Flows
 pub mod Orders
+pub mod Restarts
+pub mod Coordination
 pub mod Lawful
 pub mod Addressed
 pub mod Requests
 pub mod Visited
+pub mod Epochs
 pub mod CoreCounts
 pub mod CoreSends
 pub mod KeptThere

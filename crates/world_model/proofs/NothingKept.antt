@@ -6,11 +6,11 @@ use Rattle.letter_types.specs.declared.bodies.Body.TheVariants.{Wake}
 use Rattle.letter_types.specs.declared.entries.Entry.{Entry}
 use Rattle.letter_types.specs.declared.entries.Letter.{Letter}
 use Rattle.letter_types.specs.declared.kept.KeptLetter.{KeptLetter}
-use Rattle.letter_types.specs.Kept.{brought, kept_without, wakes_by, with_called}
+use Rattle.letter_types.specs.Kept.{brought, kept_without, with_called}
 use Rattle.letter_types.specs.Steps.{still}
 use Rattle.script_parts.specs.Counts.{has_strict}
 use Rattle.script_parts.specs.ScriptData.{ScriptData}
-use Rattle.world_model.specs.Keeping.{KeepingNode, brought_row, is_apt_at, kept_row, keeping_row}
+use Rattle.world_model.specs.Keeping.{KeepingNode, brought_row, is_apt_at, kept_row, keeping_row, woken_by}
 use Rattle.world_model.specs.Kept.{kept_in}
 use Rattle.world_model.specs.Runs.{keeping_in}
 use Rattle.world_model.specs.Strict.{CoreKeeping, core_keeping, is_core_apt}
@@ -24,7 +24,7 @@ none_without _ = refl
 done_keeps_none : (s : ScriptData) (p : ℕ) (l r : Letter) (n : KeepingNode) (k : Option CoreKeeping) → n.kept ≡ [] → k ≡ None
     → (kept_row s p l r n k).state.kept ≡ []
 done_keeps_none s p l r n None none is =
-    ap (λ (ks : List KeptLetter). with_called (wakes_by r.body) (kept_without ks l.body)) none ∙ ap (with_called (wakes_by r.body)) (none_without l.body)
+    ap (λ (ks : List KeptLetter). with_called (woken_by n.core r.body) (kept_without ks l.body)) none ∙ ap (with_called (woken_by n.core r.body)) (none_without l.body)
 done_keeps_none s p l r n (Some k) none is = absurd (cc is)
 
 apt_keeps_none : (s : ScriptData) (p : ℕ) (l r : Letter) (n : KeepingNode) (test : Bool) → has_strict s ≡ false → n.kept ≡ []

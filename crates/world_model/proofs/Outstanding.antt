@@ -14,9 +14,9 @@ use Rattle.script_parts.specs.ScriptData.{ScriptData}
 use Rattle.world_model.specs.Counts.{tally}
 use Rattle.letter_types.specs.declared.kept.KeptLetter.{KeptLetter}
 use Rattle.letter_types.specs.declared.kept.Why.{Why}
-use Rattle.letter_types.specs.Kept.{is_called_for, first_called, without_called, brought, kept_without, wakes_by, with_called}
+use Rattle.letter_types.specs.Kept.{is_called_for, first_called, without_called, brought, kept_without, with_called}
 use Rattle.letter_types.specs.declared.kept.Why.TheVariants.{Called}
-use Rattle.world_model.specs.Keeping.{KeepingNode, is_apt_at, kept_row, brought_row, keeping_row}
+use Rattle.world_model.specs.Keeping.{KeepingNode, is_apt_at, kept_row, brought_row, keeping_row, woken_by}
 use Rattle.world_model.specs.Kept.{kept_in, kept_by, outstanding, done_of, stays_of, none_if, of_done}
 use Rattle.world_model.specs.Runs.{in_flight, keeping_in, MayFollow}
 use Rattle.world_model.specs.Strict.{CoreKeeping, core_keeping, is_core_apt}
@@ -76,7 +76,7 @@ one_more f (y ∷ xs) x = omega (arith, one_more f xs x)
 row_left : (f : Letter → ℕ) (s : ScriptData) (p : ℕ) (l r : Letter) (n : KeepingNode) (o : Option CoreKeeping)
     → tally f (letters (kept_row s p l r n o).state.kept) + none_if (is_some o) (f r)
     ≡ tally f (letters (kept_without n.kept l.body)) + f r
-row_left f s p l r n None = omega (arith, called_kept f (wakes_by r.body) (kept_without n.kept l.body))
+row_left f s p l r n None = omega (arith, called_kept f (woken_by n.core r.body) (kept_without n.kept l.body))
 row_left f s p l r n (Some k) =
     omega (arith, one_more f (kept_without n.kept l.body) (record { letter = r; tree = k.tree; sub = k.sub; why = k.why }))
 

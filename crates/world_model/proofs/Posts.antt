@@ -13,12 +13,14 @@ use Rattle.letter_types.specs.declared.entries.Entry.{Entry}
 use Rattle.letter_types.specs.Letters.{go, own, same_id, find_id, drop_id, sealed, letters_of}
 use Rattle.letter_types.specs.Steps.{Out}
 use Rattle.script_parts.specs.ScriptData.{ScriptData, client_of}
+use Rattle.world_model.specs.Restarting.{start_restarting}
+use Rattle.world_model.specs.Lossy.{is_lossy}
 use Rattle.world_model.specs.Keeping.{KeepingNode, keeping_row, start_keeping}
 use Rattle.world_model.specs.Coordinator.{start_coordinator}
-use Rattle.world_model.specs.Tables.{client_table, coordinator_table}
-use Rattle.world_model.specs.Runs.{IsRunOf, after, IsWorldRun, in_flight, keeping_in, coordinator_in, client_in, Says, Moves, AtNode, AtCoordinator, AtClient, MayFollow, IsStepRun}
+use Rattle.world_model.specs.Tables.{client_table, coordinator_table, restarting_table}
+use Rattle.world_model.specs.Runs.{IsRunOf, after, IsWorldRun, in_flight, keeping_in, coordinator_in, restarting_in, client_in, Says, Moves, AtNode, AtCoordinator, AtRestarting, AtClient, MayFollow, IsStepRun}
 use Rattle.world_model.proofs.Gone.{apart_from, same_is}
-use Rattle.world_model.proofs.Bridge.{reverse_more, postal_less, run_less, node_after, coordinator_after, client_after}
+use Rattle.world_model.proofs.Bridge.{reverse_more, postal_less, run_less, node_after, coordinator_after, restarting_after, client_after}
 use Rattle.world_model.proofs.Actors.{IsPostalEntry, RowsRun, IsTableRun, table_run}
 use Rattle.world_model.specs.Client.{start_client}
 
@@ -154,13 +156,22 @@ came_from s e past k (inr (j, f, lt, here, found)) at =
 -- whose step the last entry is, where it says what its node's row says
 pub moves_by : (s : ScriptData) (e : Entry) (past : List Entry)
     → (e.actor.0 < s.nodes → Says (keeping_row s e.actor.0 (keeping_in s past e.actor.0) e.took) e)
-    → IsRunOf coordinator_table (start_coordinator s.nodes) (own s.nodes (reverse (e ∷ past)))
+    → (is_lossy s ≡ false → IsRunOf coordinator_table (start_coordinator s.nodes) (own s.nodes (reverse (e ∷ past))))
+    → (is_lossy s ≡ true → IsRunOf restarting_table (start_restarting s.nodes) (own s.nodes (reverse (e ∷ past))))
     → IsRunOf (client_table s) (start_client s) (own (client_of s) (reverse (e ∷ past)))
     → (e.actor.0 < s.nodes) ⊎ ((e.actor.0 ≡ s.nodes) ⊎ (e.actor.0 ≡ client_of s)) → Moves s past e
-moves_by s e past node coordinator client (inl lt) = AtNode lt (node lt)
-moves_by s e past node coordinator client (inr (inl at)) =
-    AtCoordinator at ((run_less coordinator_table (start_coordinator s.nodes) s.nodes e past (coordinator_in s past) (coordinator_after s past) coordinator).1 (rw at (same_test s.nodes)))
-moves_by s e past node coordinator client (inr (inr at)) =
+moves_by s e past node coordinator restarting client (inl lt) = AtNode lt (node lt)
+moves_by s e past node coordinator restarting client (inr (inl at)) = by (is_lossy s) refl where
+  by : (loses : Bool) → is_lossy s ≡ loses → Moves s past e
+  by false keeps =
+      AtCoordinator at keeps
+      ((run_less coordinator_table (start_coordinator s.nodes) s.nodes e past (coordinator_in s past) (coordinator_after s past)
+      (coordinator keeps)).1 (rw at (same_test s.nodes)))
+  by true loses =
+      AtRestarting at loses
+      ((run_less restarting_table (start_restarting s.nodes) s.nodes e past (restarting_in s past) (restarting_after s past)
+      (restarting loses)).1 (rw at (same_test s.nodes)))
+moves_by s e past node coordinator restarting client (inr (inr at)) =
     AtClient at ((run_less (client_table s) (start_client s) (client_of s) e past (client_in s past) (client_after s past) client).1 (rw at (same_test (client_of s))))
 
 node_says : (s : ScriptData) (e : Entry) (past : List Entry) → IsTableRun s (reverse (e ∷ past)) → e.actor.0 < s.nodes
@@ -205,7 +216,7 @@ follows_by s e past run postal moves =
 may_follow : (s : ScriptData) (e : Entry) (past : List Entry) → IsStepRun s past → IsTableRun s (reverse (e ∷ past)) → MayFollow s past e
 may_follow s e past run world =
     follows_by s e past run world.postal
-    (moves_by s e past (node_says s e past world) world.coordinator world.client (who_of s e past world.postal).1)
+    (moves_by s e past (node_says s e past world) world.coordinator world.restarting world.client (who_of s e past world.postal).1)
 
 -- a run by tables without its last entry
 pub rows_less : (row : ℕ → KeepingNode → Letter → Out KeepingNode) (s : ScriptData) (e : Entry) (past : List Entry)
@@ -214,7 +225,12 @@ rows_less row s e past world = record {
   postal = postal_less s e (reverse past) (rw (reverse_more e past) at world.postal);
   nodes = λ p lt.
       (run_less (row p) (start_keeping s p) p e past (after (row p) (start_keeping s p) (own p (reverse past))) refl (world.nodes p lt)).0;
-  coordinator = (run_less coordinator_table (start_coordinator s.nodes) s.nodes e past (coordinator_in s past) (coordinator_after s past) world.coordinator).0;
+  coordinator = λ keeps.
+      (run_less coordinator_table (start_coordinator s.nodes) s.nodes e past (coordinator_in s past) (coordinator_after s past)
+      (world.coordinator keeps)).0;
+  restarting = λ loses.
+      (run_less restarting_table (start_restarting s.nodes) s.nodes e past (restarting_in s past) (restarting_after s past)
+      (world.restarting loses)).0;
   client = (run_less (client_table s) (start_client s) (client_of s) e past (client_in s past) (client_after s past) world.client).0;
 }
 

@@ -12,11 +12,14 @@ use Rattle.letter_types.specs.Steps.{Out, still}
 use Rattle.pair_counters.specs.Numbers.{AllBelow, Numbers}
 use Rattle.script_parts.specs.ScriptData.{ScriptData}
 use Rattle.script_parts.specs.Valid.{IsValid}
+use Rattle.world_model.specs.Restarting.{start_restarting}
+use Rattle.world_model.specs.Lossy.{is_lossy}
+use Rattle.world_model.specs.Coordinator.{start_coordinator}
 use Rattle.world_model.specs.Core.{Core}
 use Rattle.world_model.specs.Keeping.{Aptness, KeepingNode, brought_row, is_apt_there, keeping_row, kept_row}
 use Rattle.world_model.specs.Runs.{actor_in, after}
 use Rattle.world_model.specs.Strict.{CoreKeeping, core_keeping, is_core_apt}
-use Rattle.world_model.specs.Tables.{ActorData, NodeData, CoordinatorData, ClientData, actor_row, start_actor}
+use Rattle.world_model.specs.Tables.{ActorData, NodeData, CoordinatorData, RestartingData, ClientData, actor_row, start_actor}
 use Rattle.world_model.specs.Taking.{CountsBelow, MOST_COUNTED}
 use Rattle.world_model.proofs.Back.{actor_leads}
 use Rattle.world_model.proofs.CoreCounts.{Grew, core_grew, stays}
@@ -51,10 +54,11 @@ brought_grew apt s p l n (Some r) valid =
 node_grew : (s : ScriptData) (p : ℕ) (n : KeepingNode) (l : Letter) → IsValid s → RowGrew n (keeping_row s p n l)
 node_grew s p n l valid = brought_grew (is_core_apt s p) s p l n (brought n.kept l l.body) valid
 
--- what an actor keeps: a node's numbers are below m, and the coordinator is that of the script's nodes
+-- what an actor keeps: a node's numbers are below m
 abbrev pub KeepsBelow : ScriptData → ℕ → ActorData → Type 0
 KeepsBelow s m (NodeData n) = AllBelow m n.core.node.counts
-KeepsBelow s m (CoordinatorData c) = c.nodes ≡ s.nodes
+KeepsBelow s m (CoordinatorData c) = Unit {0}
+KeepsBelow s m (RestartingData c) = Unit {0}
 KeepsBelow s m (ClientData c) = Unit {0}
 
 below_grew : (m : ℕ) (old new : Numbers) → Grew old new → AllBelow m old → AllBelow (m + MOST_COUNTED) new
@@ -65,7 +69,8 @@ step_keeps : (s : ScriptData) (a m : ℕ) (d : ActorData) (l : Letter) → IsVal
     → KeepsBelow s (m + MOST_COUNTED) (actor_row s a d l).state
 step_keeps s a m (NodeData n) l valid keeps =
     below_grew m n.core.node.counts (keeping_row s a n l).state.core.node.counts (node_grew s a n l valid) keeps
-step_keeps s a m (CoordinatorData c) l valid keeps = (row_plain l.from.0 c l.body c.phase).nodes ∙ keeps
+step_keeps s a m (CoordinatorData c) l valid keeps = tt
+step_keeps s a m (RestartingData c) l valid keeps = tt
 step_keeps s a m (ClientData c) l valid keeps = tt
 
 steps_keep : (s : ScriptData) (a m : ℕ) (d : ActorData) (es : List Entry) → IsValid s → KeepsBelow s m d
@@ -77,7 +82,11 @@ steps_keep s a m d (e ∷ es) valid keeps =
 
 start_keeps_by : (s : ScriptData) (a : ℕ) (b c : Bool) → nat_lt a s.nodes ≡ b → (a == s.nodes) ≡ c → KeepsBelow s 1 (start_actor s a)
 start_keeps_by s a true c is at = rw is (λ v q. (omega arith, omega arith))
-start_keeps_by s a false true is at = rw (is, at) refl
+start_keeps_by s a false true is at = rw (is, at) (by (is_lossy s)) where
+  by : (loses : Bool)
+      → KeepsBelow s 1 (if loses then RestartingData (start_restarting s.nodes) else CoordinatorData (start_coordinator s.nodes))
+  by false = tt
+  by true = tt
 start_keeps_by s a false false is at = rw (is, at) tt
 
 -- an actor after its entries
@@ -88,6 +97,7 @@ keeps s a es valid = steps_keep s a 1 (start_actor s a) es valid (start_keeps_by
 counts_below : (s : ScriptData) (m n : ℕ) (d : ActorData) → m ≤ n → KeepsBelow s m d → CountsBelow n d
 counts_below s m n (NodeData k) le below = λ v q. (omega (arith, (below v q).0), omega (arith, (below v q).1))
 counts_below s m n (CoordinatorData c) le below = tt
+counts_below s m n (RestartingData c) le below = tt
 counts_below s m n (ClientData c) le below = tt
 
 -- what it counts is small while its entries are few

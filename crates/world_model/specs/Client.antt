@@ -1,14 +1,16 @@
 -- The client's table.
-use Rattle.std.specs.Prelude.{if◌then◌else◌, ℕ, Bool, true, false, not, ◌==◌, ◌&&◌, ◌||◌, ◌+◌, ◌-◌, ◌^◌, min, nat_le, nat_lt, List, [], ◌∷◌, ◌++◌, length, take, drop, replicate, slice_set, get_or}
+use Rattle.std.specs.Prelude.{if◌then◌else◌, ℕ, Bool, true, false, not, ◌==◌, ◌&&◌, ◌||◌, ◌+◌, ◌-◌, ◌^◌, max, min, nat_le, nat_lt, List, [], ◌∷◌, ◌++◌, length, take, drop, replicate, slice_set, get_or}
 use Rattle.script_parts.specs.ScriptData.{ScriptData, home_of}
 use Rattle.script_parts.specs.Adding.{advances_in}
 use Rattle.script_parts.specs.declared.parts.ScriptRow.{ScriptRow}
-use Rattle.script_parts.specs.declared.parts.ScriptRow.TheVariants.{Tree as TreeRow, Advance as AdvanceRow, Settle as SettleRow}
+use Rattle.script_parts.specs.declared.parts.ScriptRow.TheVariants.{Tree as TreeRow, Advance as AdvanceRow, Settle as SettleRow, Lose as LoseRow}
 use Rattle.letter_types.specs.declared.acts.Act.TheVariants.{Finished}
 use Rattle.letter_types.specs.declared.bodies.Body.{Body}
-use Rattle.letter_types.specs.declared.bodies.Body.TheVariants.{Go, Root, Reply, Nudge, Advance, Advanced}
+use Rattle.letter_types.specs.declared.bodies.Body.TheVariants.{Go, Root, Reply, Nudge, Advance, Advanced, AdvanceNo, Ask, Lose, Wanted}
 use Rattle.letter_types.specs.declared.entries.Outgoing.{Outgoing}
 use Rattle.letter_types.specs.Steps.{Out, still}
+use Rattle.tv_base.specs.declared.numbers.Version.{Version}
+use Rattle.world_model.specs.Lossy.{is_lossy}
 
 -- how many rows are submitted, which trees are answered, how many advancements have ended, whether all is finished
 pub record Client : Type 0 where
@@ -39,13 +41,22 @@ submitted c before (SettleRow ∷ rows) =
     if have_ended c before then submitted c (before ++ SettleRow ∷ []) rows + 1 else 0
 submitted c before (row ∷ rows) = submitted c (before ++ row ∷ []) rows + 1
 
--- a Root to its home for each tree, an Advance to the coordinator for each advancement; for a row that makes the
--- coordinator forget nothing yet, since no script that has one is run
-abbrev pub rows_letters : ScriptData → List ScriptRow → List Outgoing
-rows_letters s [] = []
-rows_letters s (TreeRow t ∷ rows) = record { to = record { 0 = home_of s t.0 }; body = Root t } ∷ rows_letters s rows
-rows_letters s (AdvanceRow ∷ rows) = record { to = record { 0 = s.nodes }; body = Advance } ∷ rows_letters s rows
-rows_letters s (_ ∷ rows) = rows_letters s rows
+-- the letter that asks for the advancement after so many: it has a number where the coordinator may forget
+abbrev pub advance_letter : ScriptData → ℕ → Body
+advance_letter s k = if is_lossy s then AdvanceNo (k + 1) else Advance
+
+-- a Root to its home for each tree, a letter to the coordinator for each advancement and for each row that makes it forget, of
+-- rows before which so many advancements were asked for
+abbrev pub rows_letters : ScriptData → ℕ → List ScriptRow → List Outgoing
+rows_letters s k [] = []
+rows_letters s k (TreeRow t ∷ rows) = record { to = record { 0 = home_of s t.0 }; body = Root t } ∷ rows_letters s k rows
+rows_letters s k (AdvanceRow ∷ rows) = record { to = record { 0 = s.nodes }; body = advance_letter s k } ∷ rows_letters s (k + 1) rows
+rows_letters s k (LoseRow ∷ rows) = record { to = record { 0 = s.nodes }; body = Lose } ∷ rows_letters s k rows
+rows_letters s k (_ ∷ rows) = rows_letters s k rows
+
+-- how many advancements the client has asked for
+abbrev pub advances_sent : ScriptData → Client → ℕ
+advances_sent s c = advances_in (take c.next s.rows)
 
 -- how many rows are submitted once the client has submitted what it may
 abbrev pub next_after : ScriptData → Client → ℕ
@@ -64,7 +75,8 @@ submit s c first = record {
     ended = c.ended;
     finished = c.finished || client_finishes s (next_after s c) c;
   };
-  sent = first ++ rows_letters s (take (submitted c (take c.next s.rows) (drop c.next s.rows)) (drop c.next s.rows));
+  sent = first
+      ++ rows_letters s (advances_sent s c) (take (submitted c (take c.next s.rows) (drop c.next s.rows)) (drop c.next s.rows));
   acts = if client_finishes s (next_after s c) c then Finished ∷ [] else [];
 }
 
@@ -72,9 +84,17 @@ submit s c first = record {
 abbrev pub with_answer : ℕ → Client → Client
 with_answer t c = record c { answered = slice_set c.answered t true }
 
--- one more advancement has ended; the number stays at its type's end
-abbrev pub with_end : Client → Client
-with_end c = record c { ended = min (c.ended + 1) (2 ^ 64 - 1) }
+-- one more advancement has ended, or so many have, where the coordinator may forget; the number stays at its type's end
+abbrev pub with_end : ScriptData → Version → Client → Client
+with_end s v c = record c { ended = if is_lossy s then max c.ended v.0 else min (c.ended + 1) (2 ^ 64 - 1) }
+
+-- a coordinator that has forgotten is told how many advancements it was asked for
+abbrev pub wanted : ScriptData → ℕ → Client → Out Client
+wanted s e c = record {
+  state = c;
+  sent = record { to = record { 0 = s.nodes }; body = Wanted e (advances_sent s c) } ∷ [];
+  acts = [];
+}
 
 -- the coordinator hears that a tree was answered
 abbrev pub nudge : ScriptData → Outgoing
@@ -85,5 +105,6 @@ abbrev pub client_row : ScriptData → Client → Body → Out Client
 client_row s c Go = submit s c []
 client_row s c (Reply t v answer) =
     if nat_lt t.0 (length s.trees) then submit s (with_answer t.0 c) (nudge s ∷ []) else still c
-client_row s c (Advanced v) = submit s (with_end c) []
+client_row s c (Advanced v) = submit s (with_end s v c) []
+client_row s c (Ask e) = if is_lossy s then wanted s e c else still c
 client_row s c _ = still c

@@ -29,16 +29,18 @@ abbrev pub refused_by : TreeNo → SubNo → Notice → Refusals → Refusals
 refused_by t k (No cause) rs = put_at t.0 (Some (lesser (rs t.0) (record { sub = k; cause = cause }))) rs
 refused_by t k _ rs = rs
 
--- the node that commuting trees see, its locks, the answers that it holds, and the noes
+-- the node that commuting trees see, its locks, the answers that it holds, the noes, and the epoch of the coordinator that it
+-- has last heard of
 pub record Core : Type 0 where
   pub node : Node
   pub locks : List Lock
   pub holds : HeldAnswers
   pub refusals : Refusals
+  pub epoch : ℕ
 
--- a node without locks, that holds no answer and knows of no no
+-- a node without locks, that holds no answer and knows of no no, and of no epoch but the first
 abbrev pub plain_core : Node → Core
-plain_core st = record { node = st; locks = []; holds = λ t. None; refusals = no_refusals }
+plain_core st = record { node = st; locks = []; holds = λ t. None; refusals = no_refusals; epoch = 0 }
 
 abbrev pub start_core : ScriptData → ℕ → Core
 start_core s p = plain_core (start_node s p)

@@ -5,13 +5,15 @@ use Rattle.std.specs.List.{AllByRecursion}
 use Rattle.tv_base.specs.declared.numbers.SubNo.{SubNo}
 use Rattle.tv_base.specs.declared.numbers.TreeNo.{TreeNo}
 use Rattle.letter_types.specs.declared.bodies.Body.{Body}
-use Rattle.letter_types.specs.declared.bodies.Body.TheVariants.{Root, Sub as SubLetter}
+use Rattle.letter_types.specs.declared.bodies.Body.TheVariants.{Root, Sub as SubLetter, Order}
 use Rattle.letter_types.specs.declared.entries.Letter.{Letter}
 use Rattle.letter_types.specs.declared.kept.KeptLetter.{KeptLetter}
 use Rattle.letter_types.specs.Kept.{brought, kept_without, wakes, wakes_by, with_called}
 use Rattle.letter_types.specs.Steps.{Out, still}
 use Rattle.script_parts.specs.ScriptData.{ScriptData}
 use Rattle.world_model.specs.Core.{Core, start_core}
+use Rattle.letter_types.specs.declared.kept.Why.{Why}
+use Rattle.world_model.specs.Epochs.{plain_order, is_obeyed_now}
 use Rattle.world_model.specs.Strict.{CoreKeeping, core_keeping, core_row, is_core_apt, is_widely_core_apt}
 
 -- the kept letters are in the order in which it kept them
@@ -38,6 +40,11 @@ abbrev pub is_apt_brought : ScriptData → ℕ → KeepingNode → Option Letter
 is_apt_brought s p n None = false
 is_apt_brought s p n (Some r) = is_apt_at s p n r
 
+-- what a letter wakes at a core: an order of a coordinator that forgets what the order does for which it stands, if it does that
+abbrev pub woken_by : Core → Body → Why → Bool
+woken_by c (Order e what v) w = is_obeyed_now e what v c && wakes_by (plain_order what v) w
+woken_by c body w = wakes_by body w
+
 -- letter l came and brought letter r, which is apt: it is kept, or its row is made and what waited for it is woken
 abbrev pub kept_row : ScriptData → ℕ → Letter → Letter → KeepingNode → Option CoreKeeping → Out KeepingNode
 kept_row s p l r n (Some k) = record {
@@ -51,9 +58,9 @@ kept_row s p l r n (Some k) = record {
 kept_row s p l r n None = record {
   state = record {
     core = (core_row s p n.core r.from.0 r.body).state;
-    kept = with_called (wakes_by r.body) (kept_without n.kept l.body);
+    kept = with_called (woken_by n.core r.body) (kept_without n.kept l.body);
   };
-  sent = (core_row s p n.core r.from.0 r.body).sent ++ wakes (wakes_by r.body) (kept_without n.kept l.body);
+  sent = (core_row s p n.core r.from.0 r.body).sent ++ wakes (woken_by n.core r.body) (kept_without n.kept l.body);
   acts = (core_row s p n.core r.from.0 r.body).acts;
 }
 

@@ -21,6 +21,8 @@ pub mod Coordinator
 pub mod Restarting
 pub mod Client
 pub mod Core
+pub mod Lossy
+pub mod Epochs
 pub mod Decisions
 pub mod Strict
 pub mod Votes

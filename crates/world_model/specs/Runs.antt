@@ -1,5 +1,5 @@
 -- Histories that the tables allow.
-use Rattle.std.specs.Prelude.{if◌then◌else◌, ℕ, ◌==◌, ◌+◌, ◌<◌, ◌≡◌, nat_lt, List, [], ◌∷◌, length, map, Some}
+use Rattle.std.specs.Prelude.{if◌then◌else◌, ℕ, ◌==◌, ◌+◌, ◌<◌, ◌≡◌, nat_lt, true, false, List, [], ◌∷◌, length, map, Some}
 use Rattle.letter_types.specs.declared.entries.Letter.{Letter}
 use Rattle.letter_types.specs.declared.entries.Entry.{Entry}
 use Rattle.letter_types.specs.Letters.{find_id, own}
@@ -11,7 +11,9 @@ use Rattle.world_model.specs.Node.{Node}
 use Rattle.world_model.specs.Keeping.{KeepingNode, keeping_row, start_keeping}
 use Rattle.world_model.specs.Coordinator.{Coordinator, start_coordinator}
 use Rattle.world_model.specs.Client.{Client, start_client}
-use Rattle.world_model.specs.Tables.{ActorData, NodeData, CoordinatorData, ClientData, start_actor, actor_row, wide_actor_row, coordinator_table, client_table}
+use Rattle.world_model.specs.Tables.{ActorData, NodeData, CoordinatorData, RestartingData, ClientData, start_actor, actor_row, wide_actor_row, coordinator_table, restarting_table, client_table}
+use Rattle.world_model.specs.Restarting.{Restarting, start_restarting}
+use Rattle.world_model.specs.Lossy.{is_lossy}
 
 -- The public shape: the letters went as letters do, and each actor's own entries, in order, are a run of its table.
 
@@ -65,16 +67,25 @@ coordinator_in s [] = start_coordinator s.nodes
 coordinator_in s (e ∷ past) =
     if e.actor.0 == s.nodes then (coordinator_table (coordinator_in s past) e.took).state else coordinator_in s past
 
+abbrev pub restarting_in : ScriptData → List Entry → Restarting
+restarting_in s [] = start_restarting s.nodes
+restarting_in s (e ∷ past) =
+    if e.actor.0 == s.nodes then (restarting_table (restarting_in s past) e.took).state else restarting_in s past
+
 abbrev pub client_in : ScriptData → List Entry → Client
 client_in s [] = start_client s
 client_in s (e ∷ past) =
     if e.actor.0 == client_of s then (client_table s (client_in s past) e.took).state else client_in s past
 
+-- the coordinator that the script has
+abbrev pub coordination_in : ScriptData → List Entry → ActorData
+coordination_in s past = if is_lossy s then RestartingData (restarting_in s past) else CoordinatorData (coordinator_in s past)
+
 -- actor a after a past: the nodes, then the coordinator, then the client
 abbrev pub actor_in : ScriptData → List Entry → ℕ → ActorData
 actor_in s past a =
     if nat_lt a s.nodes then NodeData (keeping_in s past a)
-    else if a == s.nodes then CoordinatorData (coordinator_in s past) else ClientData (client_in s past)
+    else if a == s.nodes then coordination_in s past else ClientData (client_in s past)
 
 -- the table says these letters and these acts
 abbrev pub Says : {St : Type 0} → Out St → Entry → Type 0
@@ -83,7 +94,8 @@ Says out e = (e.sent ≡ out.sent) × (e.acts ≡ out.acts)
 -- whose step an entry is
 pub data Moves (s : ScriptData) (past : List Entry) (e : Entry) : Type 0 where
   AtNode : e.actor.0 < s.nodes → Says (keeping_row s e.actor.0 (keeping_in s past e.actor.0) e.took) e → Moves s past e
-  AtCoordinator : e.actor.0 ≡ s.nodes → Says (coordinator_table (coordinator_in s past) e.took) e → Moves s past e
+  AtCoordinator : e.actor.0 ≡ s.nodes → is_lossy s ≡ false → Says (coordinator_table (coordinator_in s past) e.took) e → Moves s past e
+  AtRestarting : e.actor.0 ≡ s.nodes → is_lossy s ≡ true → Says (restarting_table (restarting_in s past) e.took) e → Moves s past e
   AtClient : e.actor.0 ≡ client_of s → Says (client_table s (client_in s past) e.took) e → Moves s past e
 
 -- an entry may come next

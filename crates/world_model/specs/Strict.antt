@@ -9,7 +9,7 @@ use Rattle.letter_types.specs.declared.acts.Act.TheVariants as acts
 use Rattle.letter_types.specs.declared.bodies.Answer.{Answer}
 use Rattle.letter_types.specs.declared.bodies.Answer.TheVariants.{Whole, Aborted}
 use Rattle.letter_types.specs.declared.bodies.Body.{Body}
-use Rattle.letter_types.specs.declared.bodies.Body.TheVariants.{Root, Sub as SubLetter, Done, Decide, Decided, Release, Wake, Reply}
+use Rattle.letter_types.specs.declared.bodies.Body.TheVariants.{Root, Sub as SubLetter, Done, Decide, Decided, Release, Wake, Reply, Ask, Order}
 use Rattle.letter_types.specs.declared.bodies.Notice.{Notice}
 use Rattle.letter_types.specs.declared.bodies.Notice.TheVariants as notices
 use Rattle.letter_types.specs.declared.entries.Letter.{Letter}
@@ -32,13 +32,14 @@ use Rattle.script_parts.specs.declared.parts.TreeKind.TheVariants.{Update, Read,
 use Rattle.tree_home.specs.Homes.{misses}
 use Rattle.tree_home.specs.HeldAnswers.{HeldAnswers, acked, answer_when_acked, held_in, holding}
 use Rattle.tree_home.specs.declared.homes.Answered.{Answered}
-use Rattle.world_model.specs.Apt.{can_make, is_widely_timely, row}
+use Rattle.world_model.specs.Apt.{can_make, row}
 use Rattle.world_model.specs.Asked.{asked_ops, asked_version, tree_part}
 use Rattle.world_model.specs.declared.refusal.Refusal.{Refusal}
 use Rattle.world_model.specs.Core.{Core, Refusals, refused_by, in_core}
 use Rattle.world_model.specs.Decisions.{can_decide, decided_items}
 use Rattle.world_model.specs.Done.{TreeOut, counted_sub, note_part, raised_if, turned_if}
-use Rattle.world_model.specs.Named.{is_near, is_named, is_new, is_strict_at, is_timely, tree_kind_at}
+use Rattle.world_model.specs.Named.{is_near, is_named, is_new, is_strict_at, tree_kind_at}
+use Rattle.world_model.specs.Epochs.{ask_core, is_core_timely, is_of_coordinator, is_widely_core_timely, order_core}
 use Rattle.world_model.specs.Node.{Effect, Node}
 use Rattle.world_model.specs.Notices.{answer_noted, reply_letters, values_of}
 use Rattle.world_model.specs.Reads.{getting}
@@ -202,6 +203,8 @@ core_row s p c from (Done t k v notice) = note_core s from t k v notice c
 core_row s p c from (Decide t v commit) = decide_core s p from t v commit c
 core_row s p c from (Decided t v) = acked_core s from t v c
 core_row s p c from (Release t) = release_core t c
+core_row s p c from (Order e what v) = order_core s p from e what v c
+core_row s p c from (Ask e) = ask_core s e c
 core_row s p c from body = in_core c (row s p c.node from body)
 
 -- Which letters are apt.
@@ -235,22 +238,26 @@ can_make_at s p c (SubLetter t k v) = is_strict_at s t.0 || can_make s c.node (S
 can_make_at s p c (Decide t v commit) = can_decide s p t v commit c.node.items
 can_make_at s p c _ = true
 
+-- a letter that the script has: of strict trees where there are some, and of its coordinator
+abbrev pub is_of_script : ScriptData → Body → Bool
+is_of_script s body = (has_strict s || not (is_of_strict body)) && is_of_coordinator s body
+
 -- a letter is apt at a node: it is one that the script has, what it names belongs there, a root is new, its version is
 -- one that the node can go by, and what it asks for may be made
 abbrev pub is_core_apt : ScriptData → ℕ → Core → Letter → Bool
 is_core_apt s p c l =
-    (has_strict s || not (is_of_strict l.body))
+    is_of_script s l.body
     && (is_named s p l.from.0 l.body
     && (is_new s c.node l.body && is_unheld l.body c.holds
-    && (is_timely s c.node l.body && decides_near s c.node l.body && can_make_at s p c l.body)))
+    && (is_core_timely s c l.body && decides_near s c.node l.body && can_make_at s p c l.body)))
 
 -- a letter is apt at a node that keeps versions without end
 abbrev pub is_widely_core_apt : ScriptData → ℕ → Core → Letter → Bool
 is_widely_core_apt s p c l =
-    (has_strict s || not (is_of_strict l.body))
+    is_of_script s l.body
     && (is_named s p l.from.0 l.body
     && (is_new s c.node l.body && is_unheld l.body c.holds
-    && (is_widely_timely s c.node l.body && can_make_at s p c l.body)))
+    && (is_widely_core_timely s c l.body && can_make_at s p c l.body)))
 
 -- what a core makes of a letter that it doesn't keep
 abbrev pub core_step : ScriptData → ℕ → Core → Letter → Out Core
