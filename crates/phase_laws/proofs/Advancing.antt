@@ -3,7 +3,8 @@
 use Rattle.std.proofs.Common.{◌≡◌, ◌⊎◌, inl, inr, ℕ, ◌+◌, ◌<◌, ◌≤◌, max, false, List, ◌∷◌, [], subst, ◌∙◌, arith}
 use Rattle.std.proofs.Math.Nat.{le-max_left, le-max_right, max-eq_left, max-eq_right, max-le}
 use Rattle.letter_types.specs.declared.bodies.Body.{Body}
-use Rattle.letter_types.specs.declared.bodies.Body.TheVariants.{Go, Sub as SubLetter, Turn, Show, Sweep}
+use Rattle.letter_types.specs.declared.bodies.Body.TheVariants.{Go, Sub as SubLetter, Turn, Show, Sweep, Order}
+use Rattle.letter_types.specs.declared.bodies.What.TheVariants as whats
 use Rattle.letter_types.specs.declared.entries.Entry.{Entry}
 use Rattle.letter_types.specs.declared.entries.Letter.{Letter}
 use Rattle.letter_types.specs.declared.entries.Outgoing.{Outgoing}
@@ -14,7 +15,7 @@ use Rattle.world_model.specs.Kept.{outstanding}
 use Rattle.world_model.specs.Runs.{MayFollow, client_in, in_flight, node_in}
 use Rattle.world_model.proofs.Every.{each_map, each_taken}
 use Rattle.phase_laws.specs.Advances.{asked_for}
-use Rattle.phase_laws.specs.Given.{IsGivenAnew, KeepTogether, greatest_given, greatest_told, version_told}
+use Rattle.phase_laws.specs.Given.{IsGivenAnew, IsShownAnew, IsSweptAnew, KeepTogether, greatest_given, greatest_told, version_told}
 use Rattle.phase_laws.specs.Phases.{Stage, TurnStage, ShowStage, SweepStage}
 use Rattle.phase_laws.specs.Quiet.{IsQuietForReads, IsQuietForUpdates}
 use Rattle.phase_laws.proofs.Brought.{BringsTo, each_of_brought}
@@ -35,6 +36,9 @@ abbrev pub IsOrderGiven : List Entry → Body → Type 0
 IsOrderGiven past (Turn v) = v.0 ≤ greatest_given TurnStage past
 IsOrderGiven past (Show v) = v.0 ≤ greatest_given ShowStage past
 IsOrderGiven past (Sweep v) = v.0 ≤ greatest_given SweepStage past
+IsOrderGiven past (Order e whats.Turn v) = v.0 ≤ greatest_given TurnStage past
+IsOrderGiven past (Order e whats.Show v) = v.0 ≤ greatest_given ShowStage past
+IsOrderGiven past (Order e whats.Sweep v) = v.0 ≤ greatest_given SweepStage past
 IsOrderGiven past _ = Unit {0}
 
 -- a letter of a tree that isn't a read tree is of a version to which nodes were told to turn
@@ -43,7 +47,7 @@ IsTurnedTo s past (SubLetter t k v) = reads s t.0 ≡ false → v.0 ≤ greatest
 IsTurnedTo s past Go = Unit {0}
 IsTurnedTo s past _ = Unit {0}
 
--- an order has still to be obeyed
+-- an order of a coordinator that remembers has still to be obeyed
 abbrev pub IsAhead : Turns → Body → Type 0
 IsAhead turns (Show v) = turns.read.0 < v.0
 IsAhead turns (Sweep v) = turns.low.0 < v.0
@@ -91,19 +95,35 @@ given_stays g e past none =
     max-eq_right (omega (arith, zero))
 
 -- What is given anew is the next version, which is quiet.
+shown_anew : (s : ScriptData) (past : List Entry) (v : ℕ) → IsShownAnew s past v
+    → (v ≤ greatest_given ShowStage past)
+    ⊎ ((v ≡ greatest_given ShowStage past + 1) × IsQuietForUpdates s past (greatest_given ShowStage past + 1))
+shown_anew s past v (inl le) = inl le
+shown_anew s past v (inr (is, quiet)) = inr (is, subst (IsQuietForUpdates s past) is quiet)
+
+swept_anew : (s : ScriptData) (past : List Entry) (v : ℕ) → IsSweptAnew s past v
+    → (v ≤ greatest_given SweepStage past)
+    ⊎ ((v ≡ greatest_given SweepStage past + 1) × IsQuietForReads s past (greatest_given SweepStage past + 1))
+swept_anew s past v (inl le) = inl le
+swept_anew s past v (inr (is, quiet)) = inr (is, subst (IsQuietForReads s past) is quiet)
+
 told_show : (s : ScriptData) (past : List Entry) (body : Body) → IsGivenAnew s past body
     → (version_told ShowStage body ≤ greatest_given ShowStage past)
     ⊎ ((version_told ShowStage body ≡ greatest_given ShowStage past + 1) × IsQuietForUpdates s past (greatest_given ShowStage past + 1))
-told_show s past (Show v) (inl le) = inl le
-told_show s past (Show v) (inr (is, quiet)) = inr (is, subst (IsQuietForUpdates s past) is quiet)
+told_show s past (Show v) anew = shown_anew s past v.0 anew
+told_show s past (Order e whats.Show v) anew = shown_anew s past v.0 anew
+told_show s past (Order e whats.Turn v) anew = inl (omega arith)
+told_show s past (Order e whats.Sweep v) anew = inl (omega arith)
 told_show s past Go anew = inl (omega arith)
 told_show s past _ anew = inl (omega arith)
 
 told_sweep : (s : ScriptData) (past : List Entry) (body : Body) → IsGivenAnew s past body
     → (version_told SweepStage body ≤ greatest_given SweepStage past)
     ⊎ ((version_told SweepStage body ≡ greatest_given SweepStage past + 1) × IsQuietForReads s past (greatest_given SweepStage past + 1))
-told_sweep s past (Sweep v) (inl le) = inl le
-told_sweep s past (Sweep v) (inr (is, quiet)) = inr (is, subst (IsQuietForReads s past) is quiet)
+told_sweep s past (Sweep v) anew = swept_anew s past v.0 anew
+told_sweep s past (Order e whats.Sweep v) anew = swept_anew s past v.0 anew
+told_sweep s past (Order e whats.Turn v) anew = inl (omega arith)
+told_sweep s past (Order e whats.Show v) anew = inl (omega arith)
 told_sweep s past Go anew = inl (omega arith)
 told_sweep s past _ anew = inl (omega arith)
 

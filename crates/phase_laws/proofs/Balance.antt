@@ -9,7 +9,7 @@ use Rattle.tv_base.specs.declared.numbers.SubNo.{SubNo}
 use Rattle.tv_base.specs.declared.numbers.TreeNo.{TreeNo}
 use Rattle.tv_base.specs.declared.numbers.Version.{Version}
 use Rattle.letter_types.specs.declared.bodies.Body.{Body}
-use Rattle.letter_types.specs.declared.bodies.Body.TheVariants.{Root, Sub as SubLetter, Done, Decide, Decided, Release, Turn, Show, Sweep, AskDone, AskAsked}
+use Rattle.letter_types.specs.declared.bodies.Body.TheVariants.{Root, Sub as SubLetter, Done, Decide, Decided, Release, Turn, Show, Sweep, AskDone, AskAsked, Order, Ask}
 use Rattle.letter_types.specs.declared.bodies.Notice.{Notice}
 use Rattle.letter_types.specs.declared.entries.Entry.{Entry}
 use Rattle.letter_types.specs.declared.entries.Letter.{Letter}
@@ -51,19 +51,24 @@ use Rattle.phase_laws.specs.Apt.{AptRunsBalance, CountsAreSmall}
 use Rattle.phase_laws.specs.Balance.{goes_between, out, version_is}
 use Rattle.phase_laws.proofs.CoreCounts.{at_node, core_counts}
 use Rattle.phase_laws.proofs.Counters.{counted}
-use Rattle.phase_laws.proofs.Lawful.{IsLawful}
+use Rattle.phase_laws.proofs.Lawful.{IsTreeLawful}
 use Rattle.phase_laws.proofs.Moves.{Counts, RowCounts, aside, by_node, sent_on, uncounted_goes}
 use Rattle.phase_laws.proofs.Working.{decided_turns}
+use Rattle.world_model.specs.Epochs.{is_core_timely, plain_order}
+use Rattle.world_model.specs.Keeping.{woken_by}
+use Rattle.world_model.proofs.Epochs.{Orders, order_timely, order_each, ask_each}
+use Rattle.letter_types.specs.declared.bodies.What.{What}
+use Rattle.letter_types.specs.declared.bodies.What.TheVariants as whats
 
 -- What is known of an apt letter: what it names belongs to the node, and it comes in time.
 named_and_timely : (a b c d e f g : Bool) → (a && (b && (c && d && (e && f && g)))) ≡ true → (b ≡ true) × (e ≡ true)
 named_and_timely a b c d e f g is = (grind arith, grind arith)
 
 pub apt_parts : (s : ScriptData) (p : ℕ) (c : Core) (l : Letter) → is_core_apt s p c l ≡ true
-    → (is_named s p l.from.0 l.body ≡ true) × (is_timely s c.node l.body ≡ true)
+    → (is_named s p l.from.0 l.body ≡ true) × (is_core_timely s c l.body ≡ true)
 apt_parts s p c l apt =
     named_and_timely _ (is_named s p l.from.0 l.body) (is_new s c.node l.body) (is_unheld l.body c.holds)
-    (is_timely s c.node l.body) (decides_near s c.node l.body) (can_make_at s p c l.body) apt
+    (is_core_timely s c l.body) (decides_near s c.node l.body) (can_make_at s p c l.body) apt
 
 -- Wakes aren't counted.
 wake_uncounted : (v q : ℕ) (b : Bool) (o : Outgoing) (os : List Outgoing) → counted v q o ≡ 0 → tally (counted v q) os ≡ 0
@@ -112,7 +117,7 @@ flow s past e v p q m =
 abbrev pub row_seen : ScriptData → List Entry → Entry → ℕ → Letter → Out Node
 row_seen s past e p r =
     with_more (at_node (core_row s p (keeping_in s past p).core r.from.0 r.body))
-    (wakes (wakes_by r.body) (kept_without (kept_in s past p) e.took.body))
+    (wakes (woken_by (keeping_in s past p).core r.body) (kept_without (kept_in s past p) e.took.body))
 
 pub seen_made : (s : ScriptData) (past : List Entry) (e : Entry) (p : ℕ) (r : Letter) → Does s past e p r
     → Made s past e p (row_seen s past e p r)
@@ -124,11 +129,11 @@ does_counts : (s : ScriptData) (past : List Entry) (e : Entry) (v p : ℕ) (r : 
 does_counts s past e v p r valid d =
     let c : Core = (keeping_in s past p).core in
     let row : Out Node = at_node (core_row s p c r.from.0 r.body) in
-    let more : List Outgoing = wakes (wakes_by r.body) (kept_without (kept_in s past p) e.took.body) in
+    let more : List Outgoing = wakes (woken_by c r.body) (kept_without (kept_in s past p) e.took.body) in
     by_node s past e r p v (row_seen s past e p r) (seen_made s past e p r d) d.brings.at
     (record { is = λ f. does_number f s past e p r d; to = d.brings.to ∙ sym d.brings.at })
     (counts_more p v r.from.0 r.body c.node row more
-    (λ q. wakes_uncounted v q (wakes_by r.body) (kept_without (kept_in s past p) e.took.body))
+    (λ q. wakes_uncounted v q (woken_by c r.body) (kept_without (kept_in s past p) e.took.body))
     (core_counts s p v r.from.0 r.body c valid d.brings.below (apt_parts s p c r d.brings.apt).0))
 
 raised_low : (b : Bool) (v : Version) (turns : Turns)
@@ -253,7 +258,11 @@ note_rises s from t k w notice c =
     pick c (is_strict_at s t.0) (decided s noted o o.answered) (answered s c o)
     (omega (arith, ap (λ (turns : Turns). turns.low.0) (decided_turns s noted o o.answered))) (omega arith)
 
-row_rises : (s : ScriptData) (p from : ℕ) (body : Body) (c : Core) → is_timely s c.node body ≡ true
+sweep_rises : (s : ScriptData) (c : Core) (w : Version) → is_timely s c.node (Sweep w) ≡ true → c.node.turns.low.0 ≤ w.0
+sweep_rises s c w timely =
+    at_most c.node.turns.low.0 w.0 (nat_le w.0 c.node.turns.read.0 && nat_le w.0 c.node.turns.update.0) timely
+
+row_rises : (s : ScriptData) (p from : ℕ) (body : Body) (c : Core) → is_core_timely s c body ≡ true
     → Rises c (core_row s p c from body)
 row_rises s p from (Root t) c timely = kind_rises s p from t (Root t) (tree_kind_at s t.0) c
 row_rises s p from (SubLetter t k w) c timely = kind_rises s p from t (SubLetter t k w) (tree_kind_at s t.0) c
@@ -263,10 +272,16 @@ row_rises s p from (Decided t w) c timely = omega arith
 row_rises s p from (Release t) c timely = omega arith
 row_rises s p from (Turn w) c timely = omega (arith, raised_low (nat_lt c.node.turns.update.0 w.0) w c.node.turns)
 row_rises s p from (Show w) c timely = omega arith
-row_rises s p from (Sweep w) c timely =
-    at_most c.node.turns.low.0 w.0 (nat_le w.0 c.node.turns.read.0 && nat_le w.0 c.node.turns.update.0) timely
+row_rises s p from (Sweep w) c timely = sweep_rises s c w timely
 row_rises s p from (AskDone w k) c timely = omega arith
 row_rises s p from (AskAsked w k) c timely = omega arith
+row_rises s p from (Order e what w) c timely =
+    let ready : (asked : What) → Orders c (Order e what w) asked w → is_timely s c.node (plain_order asked w) ≡ true =
+    λ asked to. order_timely s c (Order e what w) asked w to timely in
+    order_each (Rises c) s p from e what w c (omega arith) (omega arith)
+    (λ to. omega (arith, raised_low (nat_lt c.node.turns.update.0 w.0) w c.node.turns)) (λ to new. omega arith)
+    (λ to new. sweep_rises s c w (ready whats.Sweep to))
+row_rises s p from (Ask e) c timely = ask_each (Rises c) s e c (omega arith) (omega arith)
 row_rises s p from _ c timely = omega arith
 
 -- where a node keeps a letter its low version stays
@@ -305,7 +320,7 @@ apt_runs_balance s (e ∷ past) v p q valid apt run lp lq low_p low_q =
     )
 
 -- so in the runs of a lawful script
-pub balanced_at : (s : ScriptData) (past : List Entry) (v p q : ℕ) → IsLawful s → IsStepRun s past → AllApt s past
+pub balanced_at : (s : ScriptData) (past : List Entry) (v p q : ℕ) → IsTreeLawful s → IsStepRun s past → AllApt s past
     → p < s.nodes → q < s.nodes → (node_in s past p).turns.low.0 ≤ v → (node_in s past q).turns.low.0 ≤ v
     → (node_in s past p).counts.asked v q ≡ (node_in s past q).counts.done v p + out s past v p q
 balanced_at s past v p q laws run apt lp lq low_p low_q = apt_runs_balance s past v p q laws.valid apt run lp lq low_p low_q

@@ -134,7 +134,7 @@ below_kept : (s : ScriptData) (past : List Entry) (e : Entry) (d : Coordinator) 
     → IsSilentBelow s (e ∷ past) d
 below_kept s past e d laws run apt was same = λ w lt.
     let less : w < floor (coordinator_in s past) = omega (arith, same, lt) in
-    silent_stays s past e w laws run apt (was w less)
+    silent_stays s past e w laws.trees run apt (was w less)
     (closed_below s past w (levels s past laws run.1 apt.1) less)
 
 last_or_less : (w u : ℕ) → w < u → (w ≡ u - 1) ⊎ (w < u - 1)
@@ -158,7 +158,7 @@ below_by : (s : ScriptData) (past : List Entry) (e : Entry) (o : Out Coordinator
 below_by s past e o laws run apt was (inl same) = below_kept s past e o.state laws run apt was same
 below_by s past e o laws run apt was (inr raises) = λ w lt.
     let less : w < (coordinator_in s past).update = omega (arith, raises.to, lt) in
-    silent_stays s past e w laws run apt
+    silent_stays s past e w laws.trees run apt
     (raised_silent s past e o w laws run apt.1 was raises (last_or_less w (coordinator_in s past).update less))
     (closed_counted s past w (levels s past laws run.1 apt.1) raises.takes.phase less)
 
@@ -176,7 +176,7 @@ below_next s past e laws run apt was (SendsAsked v k lt bd sent same) =
 below_next s past e laws run apt was (SendsOrders at rowless) =
     let c = coordinator_in s past in
     let row = coordinator_row c e.took.from.0 e.took.body in
-    subst (IsSilentBelow s (e ∷ past)) (sym (coordinates s past e run.0 at).state)
+    subst (IsSilentBelow s (e ∷ past)) (sym (coordinates s past e laws.keeps run.0 at).state)
     (below_by s past e row laws run apt was
     (floor_next c e.took.from.0 e.took.body row (outcome_in s past e laws run.1 apt.1)))
 
@@ -184,7 +184,7 @@ pub silent_below : (s : ScriptData) (past : List Entry) → IsLawful s → IsSte
     → IsSilentBelow s past (coordinator_in s past)
 silent_below s [] laws run apt = λ w lt. absurd (omega (arith, lt))
 silent_below s (e ∷ past) laws run apt =
-    below_next s past e laws run apt (silent_below s past laws run.1 apt.1) (sending s past e laws run apt)
+    below_next s past e laws run apt (silent_below s past laws run.1 apt.1) (sending s past e laws.trees run apt)
 
 -- of a version that a node has left nothing is outstanding
 pub left_silent : (s : ScriptData) (past : List Entry) (v p : ℕ) → IsLawful s → IsStepRun s past → AllApt s past
@@ -203,6 +203,6 @@ none_left s past v p q laws run apt lp lq (inr left) = left_silent s past v q la
 -- requests are completions and letters
 pub balanced : (s : ScriptData) (past : List Entry) → IsLawful s → IsStepRun s past → AllApt s past → IsBalanced s past
 balanced s past laws run apt = record {
-  equal = λ v p q lp lq low_p low_q. balanced_at s past v p q laws run apt lp lq low_p low_q;
+  equal = λ v p q lp lq low_p low_q. balanced_at s past v p q laws.trees run apt lp lq low_p low_q;
   none = λ v p q lp lq left. none_left s past v p q laws run apt lp lq left;
 }

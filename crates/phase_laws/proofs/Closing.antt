@@ -22,16 +22,17 @@ use Rattle.tx_trees.specs.declared.parts.ScriptRow.TheVariants.{Tree as TreeRow,
 use Rattle.world_model.specs.Coordinator.{coordinator_row}
 use Rattle.world_model.specs.declared.phase.Phase.{Phase}
 use Rattle.world_model.specs.declared.phase.Phase.TheVariants.{Idle, Turning, Counting, Paused, Showing, Sweeping}
-use Rattle.world_model.specs.Client.{Client, rows_letters, submit, submitted, with_answer, with_end, nudge}
+use Rattle.world_model.specs.Client.{Client, rows_letters, submit, submitted, with_answer, with_end, nudge, advances_sent}
 use Rattle.world_model.specs.Counts.{Each}
 use Rattle.world_model.specs.Runs.{client_in, coordinator_in, node_in, MayFollow, IsStepRun}
 use Rattle.world_model.specs.AllApt.{AllApt}
 use Rattle.world_model.proofs.Every.{coordinator_kept, each_append, each_map}
-use Rattle.phase_laws.proofs.Lawful.{IsLawful}
+use Rattle.phase_laws.proofs.Lawful.{IsLawful, IsTreeLawful}
 use Rattle.world_model.proofs.Nexts.{Order, Turns, Shows, Sweeps, TellsDone, TellsAsked}
 use Rattle.world_model.proofs.Orders.{coordinator_each}
 use Rattle.phase_laws.proofs.Brought.{BringsTo, IsAsking, brought_meant, brought_outstanding, brought_to, each_of_brought, sender_below}
-use Rattle.phase_laws.proofs.Progress.{Begins, Coordinates, Ends, Hears, IsWake, Obeys, Progress, WakesFor, Works, are_wakes, coordinates, itself, progress}
+use Rattle.phase_laws.proofs.Heeds.{IsWake}
+use Rattle.phase_laws.proofs.Progress.{Begins, Coordinates, Ends, Hears, Obeys, Progress, WakesFor, Works, are_wakes, coordinates, itself, progress}
 use Rattle.phase_laws.proofs.Working.{SentIn, done_version}
 use Rattle.phase_laws.proofs.Levels.{IsOrder, Levels, levels, most_read, order_timely}
 use Rattle.phase_laws.proofs.Outcomes.{update_next}
@@ -45,6 +46,7 @@ use Rattle.world_model.proofs.Gone.{under_or}
 use Rattle.world_model.proofs.EachOutstanding.{each_first, each_outstanding}
 use Rattle.world_model.specs.Kept.{kept_in, outstanding}
 use Rattle.tv_base.proofs.Truths.{same_test}
+use Rattle.world_model.proofs.Sends.{OfRows, rows_each}
 
 -- the version of a letter of a tree
 abbrev pub tree_version : Body → ℕ
@@ -61,18 +63,20 @@ SentUpTo m os = Each (λ (o : Outgoing). (i : LetterId) → tree_version o.body 
 up_to_append : (m : ℕ) (xs ys : List Outgoing) → SentUpTo m xs → SentUpTo m ys → SentUpTo m (xs ++ ys)
 up_to_append m xs ys a b = each_append (λ (o : Outgoing). (i : LetterId) → tree_version o.body ≤ m) xs ys a b
 
-rows_up_to : (m : ℕ) (s : ScriptData) (rows : List ScriptRow) → SentUpTo m (rows_letters s rows)
-rows_up_to m s [] = tt
-rows_up_to m s (TreeRow t ∷ rows) = ((λ i. omega arith), rows_up_to m s rows)
-rows_up_to m s (AdvanceRow ∷ rows) = ((λ i. omega arith), rows_up_to m s rows)
-rows_up_to m s (SettleRow ∷ rows) = rows_up_to m s rows
-rows_up_to m s (LoseRow ∷ rows) = rows_up_to m s rows
+rows_up_to : (m : ℕ) → OfRows (λ to body. (i : LetterId) → tree_version body ≤ m)
+rows_up_to m = record {
+  root = λ to t i. omega arith;
+  advance = λ to i. omega arith;
+  numbered = λ to k i. omega arith;
+  lose = λ to i. omega arith;
+}
 
 submit_up_to : (m : ℕ) (s : ScriptData) (c : Client) (first : List Outgoing) → SentUpTo m first
     → SentUpTo m (submit s c first).sent
 submit_up_to m s c first all =
     let rows = take (submitted c (take c.next s.rows) (drop c.next s.rows)) (drop c.next s.rows) in
-    up_to_append m first (rows_letters s rows) all (rows_up_to m s rows)
+    up_to_append m first (rows_letters s (advances_sent s c) rows) all
+    (rows_each (λ to body. (i : LetterId) → tree_version body ≤ m) s (advances_sent s c) rows (rows_up_to m))
 
 order_up_to : (m : ℕ) (s : ScriptData) (st : Node) (body : Body) (out : Out Node) → Order s st body out
     → SentUpTo m out.sent
@@ -113,7 +117,7 @@ root_up_to : (m : ℕ) (st : Node) (b : Bool) → st.turns.update.0 ≤ m → st
 root_up_to m st true update read = read
 root_up_to m st false update read = update
 
-done_up_to : (m : ℕ) (s : ScriptData) (st : Node) (does : Body) → st.turns.update.0 ≤ m → st.turns.read.0 ≤ m → tree_version does ≤ m
+pub done_up_to : (m : ℕ) (s : ScriptData) (st : Node) (does : Body) → st.turns.update.0 ≤ m → st.turns.read.0 ≤ m → tree_version does ≤ m
     → (done_version s st does).0 ≤ m
 done_up_to m s st (Root t) update read own = root_up_to m st (reads s t.0) update read
 done_up_to m s st (SubLetter t k v) update read own = own
@@ -122,7 +126,7 @@ done_up_to m s st (Decide t v commit) update read own = own
 done_up_to m s st (Decided t v) update read own = own
 done_up_to m s st _ update read own = update
 
-in_up_to : (m : ℕ) (s : ScriptData) (st : Node) (does body : Body) → (done_version s st does).0 ≤ m → SentIn s st does body
+pub in_up_to : (m : ℕ) (s : ScriptData) (st : Node) (does body : Body) → (done_version s st does).0 ≤ m → SentIn s st does body
     → tree_version body ≤ m
 in_up_to m s st does (SubLetter t k v) le sent = omega (arith, le, ap (λ (x : Version). x.0) sent.1)
 in_up_to m s st does (Done t k v notice) le sent = omega (arith, le, ap (λ (x : Version). x.0) sent)
@@ -154,7 +158,7 @@ sent_up_to s past e m0 all took (Hears t v answer bd at lt made) =
     by_sent _ e _ made.sent
     (submit_up_to _ s (with_answer t.0 (client_in s past)) (nudge s ∷ []) ((λ i. omega arith), tt))
 sent_up_to s past e m0 all took (Ends v bd at made) =
-    by_sent _ e _ made.sent (submit_up_to _ s (with_end (client_in s past)) [] tt)
+    by_sent _ e _ made.sent (submit_up_to _ s (with_end s v (client_in s past)) [] tt)
 sent_up_to s past e m0 all took (Coordinates tells at made) =
     let m = (coordinator_in s past).update + 1 in
     by_sent m e _ made.sent
@@ -196,7 +200,7 @@ update_rises s past e laws run apt (SendsAsked v k lt bd sent kept) =
 update_rises s past e laws run apt (SendsOrders at rowless) =
     let c = coordinator_in s past in
     let row = coordinator_row c e.took.from.0 e.took.body in
-    let same = ap (λ (d : _). d.update) (coordinates s past e run.0 at).state in
+    let same = ap (λ (d : _). d.update) (coordinates s past e laws.keeps run.0 at).state in
     let rise =
     one_of row.state.update c.update
     (update_next c e.took.from.0 e.took.body row (outcome_in s past e laws run.1 apt)) in
@@ -211,7 +215,7 @@ letters_up_to s (e ∷ past) laws run apt =
     let u = (coordinator_in s past).update in
     let w = (coordinator_in s (e ∷ past)).update in
     let was = letters_up_to s past laws run.1 apt.1 in
-    let rise = update_rises s past e laws run apt.1 (sending s past e laws run apt) in
+    let rise = update_rises s past e laws run apt.1 (sending s past e laws.trees run apt) in
     each_outstanding (λ (l : Letter). tree_version l.body ≤ w + 1) s past e run.0
     (each_map (λ (l : Letter). tree_version l.body ≤ u + 1) (λ (l : Letter). tree_version l.body ≤ w + 1)
     (outstanding s past)
@@ -241,47 +245,58 @@ tree_letter_near s past e p v r laws run apt b is ver =
     let all = levels s past laws run.1 apt in
     let m = (coordinator_in s past).update + 1 in
     let most = each_of_brought (λ (l : Letter). tree_version l.body ≤ m) s past e p r b run.0 (letters_up_to s past laws run.1 apt) in
-    let from = sender_below s r.from.0 p v r.body laws.valid (brought_meant s past e p r laws.valid b run) is in (
+    let from = sender_below s r.from.0 p v r.body laws.trees.valid (brought_meant s past e p r laws.trees.valid b run) is in (
       not_left s past e p v r laws run apt b from is (under_or (node_in s past p).turns.low.0 v),
       omega (arith, most, ver, (all.node p b.below).low_from, all.first),
     )
 
--- so it is timely
-near_timely : (s : ScriptData) (past : List Entry) (e : Entry) (p : ℕ) (v : Version) (r : Letter) (body : Body) → IsLawful s
-    → IsStepRun s (e ∷ past) → AllApt s past → BringsTo s past e p r → r.body ≡ body → version_is v.0 body ≡ true → tree_version body ≡ v.0
-    → is_near (node_in s past p) v ≡ true
-near_timely s past e p v r body laws run apt b bd is ver =
-    let near = tree_letter_near s past e p v.0 r laws run apt b (ap (version_is v.0) bd ∙ is) (ap tree_version bd ∙ ver) in
-    in_window-is (node_in s past p).turns.low.0 v.0 near.0 near.1
+-- A letter of a tree that is brought to a node is of a version that the node counts in.
+abbrev pub IsNearAt : ScriptData → List Entry → ℕ → Letter → Type 0
+IsNearAt s past p r = (v : ℕ) → version_is v r.body ≡ true → tree_version r.body ≡ v
+    → ((node_in s past p).turns.low.0 ≤ v) × (v ≤ (node_in s past p).turns.low.0 + 2)
 
--- Each letter that is brought to a node is timely there.
+near_timely : (s : ScriptData) (past : List Entry) (p : ℕ) (v : Version) (r : Letter) (body : Body) → IsNearAt s past p r → r.body ≡ body
+    → version_is v.0 body ≡ true → tree_version body ≡ v.0 → is_near (node_in s past p) v ≡ true
+near_timely s past p v r body near bd is ver =
+    let both = near v.0 (ap (version_is v.0) bd ∙ is) (ap tree_version bd ∙ ver) in
+    in_window-is (node_in s past p).turns.low.0 v.0 both.0 both.1
+
+-- so it is timely there, and so is any other letter where an order is
+pub timely_near : (s : ScriptData) (past : List Entry) (p : ℕ) (r : Letter) (body : Body) → IsNearAt s past p r → r.body ≡ body
+    → (IsOrder body → is_timely s (node_in s past p) body ≡ true) → is_timely s (node_in s past p) body ≡ true
+timely_near s past p r (SubLetter t k v) near bd order = near_timely s past p v r (SubLetter t k v) near bd (same_test v.0) refl
+timely_near s past p r (Done t k v notice) near bd order = near_timely s past p v r (Done t k v notice) near bd (same_test v.0) refl
+timely_near s past p r (Decide t v commit) near bd order = near_timely s past p v r (Decide t v commit) near bd (same_test v.0) refl
+timely_near s past p r (Decided t v) near bd order = near_timely s past p v r (Decided t v) near bd (same_test v.0) refl
+timely_near s past p r (Turn v) near bd order = order tt
+timely_near s past p r (Show v) near bd order = order tt
+timely_near s past p r (Sweep v) near bd order = order tt
+timely_near s past p r _ near bd order = refl
+
+-- An order that is brought was taken itself.
+is_no_asking : (body : Body) → IsOrder body → IsAsking body → ⊥
+is_no_asking (Root t) order asks = order
+is_no_asking (SubLetter t k v) order asks = order
+is_no_asking _ order asks = asks
+
 order_there : (s : ScriptData) (past : List Entry) (e : Entry) (p : ℕ) (r : Letter) (body : Body) → IsLawful s → IsStepRun s (e ∷ past)
-    → AllApt s past → BringsTo s past e p r → r.body ≡ body → (IsAsking body → ⊥) → IsOrder body → is_timely s (node_in s past p) body ≡ true
-order_there s past e p r body laws run apt b bd other is =
-    let same : r ≡ e.took = itself s past e p r b (λ asks. other (subst IsAsking bd asks)) in
+    → AllApt s past → BringsTo s past e p r → r.body ≡ body → IsOrder body → is_timely s (node_in s past p) body ≡ true
+order_there s past e p r body laws run apt b bd is =
+    let same : r ≡ e.took = itself s past e p r b (λ asks. is_no_asking body is (subst IsAsking bd asks)) in
     order_timely s past e body p laws run.1 apt run.0 b.below (ap (λ (l : Letter). l.body) (sym same) ∙ bd) is
 
-timely_by : (s : ScriptData) (past : List Entry) (e : Entry) (p : ℕ) (r : Letter) (body : Body) → IsLawful s → IsStepRun s (e ∷ past)
-    → AllApt s past → BringsTo s past e p r → r.body ≡ body → is_timely s (node_in s past p) body ≡ true
-timely_by s past e p r (SubLetter t k v) laws run apt b bd =
-    near_timely s past e p v r (SubLetter t k v) laws run apt b bd (same_test v.0) refl
-timely_by s past e p r (Done t k v notice) laws run apt b bd =
-    near_timely s past e p v r (Done t k v notice) laws run apt b bd (same_test v.0) refl
-timely_by s past e p r (Decide t v commit) laws run apt b bd =
-    near_timely s past e p v r (Decide t v commit) laws run apt b bd (same_test v.0) refl
-timely_by s past e p r (Decided t v) laws run apt b bd =
-    near_timely s past e p v r (Decided t v) laws run apt b bd (same_test v.0) refl
-timely_by s past e p r (Turn v) laws run apt b bd = order_there s past e p r (Turn v) laws run apt b bd (λ asks. asks) tt
-timely_by s past e p r (Show v) laws run apt b bd = order_there s past e p r (Show v) laws run apt b bd (λ asks. asks) tt
-timely_by s past e p r (Sweep v) laws run apt b bd = order_there s past e p r (Sweep v) laws run apt b bd (λ asks. asks) tt
-timely_by s past e p r _ laws run apt b bd = refl
+timely_by : (s : ScriptData) (past : List Entry) (e : Entry) (p : ℕ) (r : Letter) → IsLawful s → IsStepRun s (e ∷ past)
+    → AllApt s past → BringsTo s past e p r → is_timely s (node_in s past p) r.body ≡ true
+timely_by s past e p r laws run apt b =
+    timely_near s past p r r.body (λ v is ver. tree_letter_near s past e p v r laws run apt b is ver) refl
+    (λ order. order_there s past e p r r.body laws run apt b refl order)
 
 -- also where it isn't known yet that the letter is apt
 pub letter_timely : (s : ScriptData) (past : List Entry) (e : Entry) (r : Letter) → IsLawful s → IsStepRun s (e ∷ past) → AllApt s past
     → e.actor.0 < s.nodes → brought (kept_in s past e.actor.0) e.took e.took.body ≡ Some r
     → is_timely s (node_in s past e.actor.0) r.body ≡ true
 letter_timely s past e r laws run apt lt is =
-    timely_by s past e e.actor.0 r r.body laws run apt (record { at = refl; below = lt; brings = is }) refl
+    timely_by s past e e.actor.0 r laws run apt (record { at = refl; below = lt; brings = is })
 
 -- And the tree that a notice answers is of a version that its home counts in.
 answer_in_near : (s : ScriptData) (st : Node) (v : Version) (found : Option Answered) → is_near st v ≡ true
@@ -291,17 +306,24 @@ answer_in_near s st v (Some a) near own =
     let here : is_near st a.version ≡ true = ap (is_near st) (own a refl) ∙ near in
     ap (λ (b : Bool). not (is_strict_at s a.tree.0) || b) here ∙ or_right (not (is_strict_at s a.tree.0)) true refl
 
-answer_by : (s : ScriptData) (past : List Entry) (e : Entry) (p : ℕ) (r : Letter) (body : Body) → IsLawful s → IsStepRun s (e ∷ past)
-    → AllApt s past → BringsTo s past e p r → r.body ≡ body → decides_near s (node_in s past p) body ≡ true
-answer_by s past e p r (Done t k v notice) laws run apt b bd =
-    answer_in_near s (node_in s past p) v (answer_noted t k (values_of notice) (node_in s past p).homes)
-    (timely_by s past e p r (Done t k v notice) laws run apt b bd)
+answer_by : (s : ScriptData) (past : List Entry) (e : Entry) (p : ℕ) (r : Letter) (body : Body) → IsTreeLawful s → IsStepRun s (e ∷ past)
+    → AllApt s past → BringsTo s past e p r → r.body ≡ body → is_timely s (node_in s past p) body ≡ true
+    → decides_near s (node_in s past p) body ≡ true
+answer_by s past e p r (Done t k v notice) laws run apt b bd timely =
+    answer_in_near s (node_in s past p) v (answer_noted t k (values_of notice) (node_in s past p).homes) timely
     (λ a is. laws.answered_in past r t k v notice a p apt run.1 (brought_outstanding s past e p r b run.0) bd (brought_to s past e p r b run)
     b.below is)
-answer_by s past e p r _ laws run apt b bd = refl
+answer_by s past e p r _ laws run apt b bd timely = refl
+
+-- where the letter is timely
+pub near_where_timely : (s : ScriptData) (past : List Entry) (e : Entry) (r : Letter) → IsTreeLawful s → IsStepRun s (e ∷ past) → AllApt s past
+    → e.actor.0 < s.nodes → brought (kept_in s past e.actor.0) e.took e.took.body ≡ Some r
+    → is_timely s (node_in s past e.actor.0) r.body ≡ true → decides_near s (node_in s past e.actor.0) r.body ≡ true
+near_where_timely s past e r laws run apt lt is timely =
+    answer_by s past e e.actor.0 r r.body laws run apt (record { at = refl; below = lt; brings = is }) refl timely
 
 pub answer_near : (s : ScriptData) (past : List Entry) (e : Entry) (r : Letter) → IsLawful s → IsStepRun s (e ∷ past) → AllApt s past
     → e.actor.0 < s.nodes → brought (kept_in s past e.actor.0) e.took e.took.body ≡ Some r
     → decides_near s (node_in s past e.actor.0) r.body ≡ true
 answer_near s past e r laws run apt lt is =
-    answer_by s past e e.actor.0 r r.body laws run apt (record { at = refl; below = lt; brings = is }) refl
+    near_where_timely s past e r laws.trees run apt lt is (letter_timely s past e r laws run apt lt is)

@@ -188,7 +188,7 @@ step_in : (s : ScriptData) (past : List Entry) (e : Entry) → IsLawful s → Is
 step_in s past e laws run apt at =
     let c = coordinator_in s past in
     let out = coordinator_row c e.took.from.0 e.took.body in
-    let made = coordinates s past e run.0 at in
+    let made = coordinates s past e laws.keeps run.0 at in
     let step = count_step s.nodes c e.took.from.0 e.took.body out (coordinator_nodes s past) (outcome_in s past e laws run.1 apt) in
     subst (λ (d : Coordinator). CountStep s.nodes (count_of c) (count_of d) e.took.from.0 e.took.body e.sent) (sym made.state)
     (subst (λ (os : List Outgoing). CountStep s.nodes (count_of c) (count_of out.state) e.took.from.0 e.took.body os) (sym made.sent) step)
@@ -237,7 +237,7 @@ versioned_next : (s : ScriptData) (past : List Entry) (e : Entry) → IsLawful s
 versioned_next s past e laws run apt was (inl at) =
     let c = coordinator_in s past in
     let out = coordinator_row c e.took.from.0 e.took.body in
-    subst IsVersioned (sym (coordinates s past e run.0 at).state)
+    subst IsVersioned (sym (coordinates s past e laws.keeps run.0 at).state)
     (versioned_out c e.took.from.0 e.took.body out was (outcome_in s past e laws run.1 apt))
 versioned_next s past e laws run apt was (inr away) = subst IsVersioned (sym (coordinator_kept s past e away)) was
 
@@ -281,7 +281,7 @@ open_in s past reads laws run apt at =
 -- in every run the coordinator counts so
 pub coordinator_counts : (s : ScriptData) → IsLawful s → IsCounting s (count_in s) Always
 coordinator_counts s laws = record {
-  lawful = laws;
+  lawful = laws.trees;
   start = refl;
   stays = λ past e away. ap count_of (coordinator_kept s past e away);
   steps = λ past e run apt at. step_in s past e laws run apt at;

@@ -8,7 +8,7 @@ use Rattle.tv_base.specs.declared.numbers.SubNo.{SubNo}
 use Rattle.tv_base.specs.declared.numbers.TreeNo.{TreeNo}
 use Rattle.tv_base.specs.declared.numbers.Version.{Version}
 use Rattle.letter_types.specs.declared.bodies.Body.{Body}
-use Rattle.letter_types.specs.declared.bodies.Body.TheVariants.{Root, Sub as SubLetter, Done, Decide, Decided, Release, Turn, Show, Sweep, AskDone, AskAsked}
+use Rattle.letter_types.specs.declared.bodies.Body.TheVariants.{Root, Sub as SubLetter, Done, Decide, Decided, Release, Turn, Show, Sweep, AskDone, AskAsked, Order, Ask}
 use Rattle.letter_types.specs.declared.bodies.Notice.{Notice}
 use Rattle.letter_types.specs.declared.entries.Outgoing.{Outgoing}
 use Rattle.letter_types.specs.declared.votes.Vote.{Vote}
@@ -41,6 +41,9 @@ use Rattle.world_model.proofs.Visited.{few_visited}
 use Rattle.phase_laws.specs.Balance.{MOST_COUNTED, version_is}
 use Rattle.phase_laws.proofs.Counters.{AreOf, at_pair, children_few, children_of, counted, more_is, replies_uncounted, root_asked, root_completed, sub_asked, sub_completed}
 use Rattle.phase_laws.proofs.Moves.{RowCounts, cut_at, cut_most, quiet_row}
+use Rattle.world_model.proofs.Epochs.{order_each, ask_each}
+use Rattle.world_model.specs.Advancing.{sweep_row}
+use Rattle.letter_types.specs.declared.acts.Act.{Act}
 
 -- numbers that a row makes of others: whether it counts one of version v with itself, and what it counts besides, of which
 -- at most m to one node
@@ -302,14 +305,26 @@ core_adds : (h v from : ℕ) (body : Body) (c : Core) (out : Out Core) → CoreA
 core_adds h v from body c out adds = row_adds h v from body c.node (at_node out) adds
 
 -- an order, and a letter that changes nothing, that isn't counted
+quiet_counts : (h v from : ℕ) (body : Body) (st : Node) (out : Out Node) → version_is v body ≡ false
+    → out.state.counts ≡ st.counts → ((q : ℕ) → tally (counted v q) out.sent ≡ 0) → RowCounts h v from body st out
+quiet_counts h v from body st out none same sent =
+    quiet_row h v from body st out none (λ q low. ap (λ (n : Numbers). n.asked v q) same) (λ p low. ap (λ (n : Numbers). n.done v p) same)
+    (λ q. omega (arith, ap (λ (n : Numbers). n.asked v q) same)) (λ p. omega (arith, ap (λ (n : Numbers). n.done v p) same)) sent
+
 order_counts : (s : ScriptData) (h v from : ℕ) (body : Body) (c : Core) → version_is v body ≡ false
     → (core_row s h c from body).state.node.counts ≡ c.node.counts
     → ((q : ℕ) → tally (counted v q) (core_row s h c from body).sent ≡ 0)
     → RowCounts h v from body c.node (at_node (core_row s h c from body))
-order_counts s h v from body c none same sent =
-    quiet_row h v from body c.node (at_node (core_row s h c from body)) none
-    (λ q low. ap (λ (n : Numbers). n.asked v q) same) (λ p low. ap (λ (n : Numbers). n.done v p) same)
-    (λ q. omega (arith, ap (λ (n : Numbers). n.asked v q) same)) (λ p. omega (arith, ap (λ (n : Numbers). n.done v p) same)) sent
+order_counts s h v from body c none same sent = quiet_counts h v from body c.node (at_node (core_row s h c from body)) none same sent
+
+-- a sweep cuts what is counted below its version
+swept_counts : (s : ScriptData) (h v from : ℕ) (body : Body) (st : Node) (w : Version) (os : List Outgoing) (acts : List Act)
+    → version_is v body ≡ false → ((q : ℕ) → tally (counted v q) os ≡ 0)
+    → RowCounts h v from body st (record { state = (sweep_row s w st).state; sent = os; acts = acts })
+swept_counts s h v from body st w os acts none sent =
+    quiet_row h v from body st (record { state = (sweep_row s w st).state; sent = os; acts = acts }) none
+    (λ q low. cut_at w.0 v q st.counts.asked low) (λ p low. cut_at w.0 v p st.counts.done low) (λ q. cut_most w.0 v q st.counts.asked)
+    (λ p. cut_most w.0 v p st.counts.done) sent
 
 -- the row of a letter that names what belongs to the node
 pub core_counts : (s : ScriptData) (h v from : ℕ) (body : Body) (c : Core) → IsValid s → h < s.nodes → is_named s h from body ≡ true
@@ -329,10 +344,15 @@ core_counts s h v from (Decided t w) c valid lt named =
 core_counts s h v from (Release t) c valid lt named = order_counts s h v from (Release t) c refl refl (λ q. refl)
 core_counts s h v from (Turn w) c valid lt named = order_counts s h v from (Turn w) c refl refl (λ q. refl)
 core_counts s h v from (Show w) c valid lt named = order_counts s h v from (Show w) c refl refl (λ q. refl)
-core_counts s h v from (Sweep w) c valid lt named =
-    quiet_row h v from (Sweep w) c.node (at_node (core_row s h c from (Sweep w))) refl
-    (λ q low. cut_at w.0 v q c.node.counts.asked low) (λ p low. cut_at w.0 v p c.node.counts.done low)
-    (λ q. cut_most w.0 v q c.node.counts.asked) (λ p. cut_most w.0 v p c.node.counts.done) (λ q. refl)
+core_counts s h v from (Sweep w) c valid lt named = swept_counts s h v from (Sweep w) c.node w _ _ refl (λ q. refl)
 core_counts s h v from (AskDone w k) c valid lt named = order_counts s h v from (AskDone w k) c refl refl (λ q. refl)
 core_counts s h v from (AskAsked w k) c valid lt named = order_counts s h v from (AskAsked w k) c refl refl (λ q. refl)
+core_counts s h v from (Order e what w) c valid lt named =
+    let body : Body = Order e what w in
+    order_each (λ (o : Out Core). RowCounts h v from body c.node (at_node o)) s h from e what w c (quiet_counts h v from body c.node _ refl refl (λ q. refl))
+    (quiet_counts h v from body c.node _ refl refl (λ q. refl)) (λ to. quiet_counts h v from body c.node _ refl refl (λ q. refl))
+    (λ to new. quiet_counts h v from body c.node _ refl refl (λ q. refl)) (λ to new. swept_counts s h v from body c.node w _ _ refl (λ q. refl))
+core_counts s h v from (Ask e) c valid lt named =
+    ask_each (λ (o : Out Core). RowCounts h v from (Ask e) c.node (at_node o)) s e c (quiet_counts h v from (Ask e) c.node _ refl refl (λ q. refl))
+    (quiet_counts h v from (Ask e) c.node _ refl refl (λ q. refl))
 core_counts s h v from _ c valid lt named = order_counts s h v from _ c refl refl (λ q. refl)

@@ -11,7 +11,7 @@ use Rattle.tx_trees.specs.ScriptData.{ScriptData}
 use Rattle.world_model.specs.AllApt.{AllApt}
 use Rattle.world_model.specs.Coordinator.{to_nodes, with_asked, with_done}
 use Rattle.world_model.specs.Runs.{IsStepRun, node_in}
-use Rattle.phase_laws.proofs.Lawful.{IsLawful}
+use Rattle.phase_laws.proofs.Lawful.{IsTreeLawful}
 use Rattle.phase_laws.proofs.Sending.{AllPlain}
 use Rattle.phase_laws.proofs.Silence.{Closed}
 
@@ -103,7 +103,7 @@ Premise = Bool → ℕ → List Entry → Type 0
 -- a coordinator that counts so: it counts nothing at first, entries of others leave its count, each of its own is a step of
 -- it, and the version counted is open where the premise holds of it. A premise that holds after an entry held before it
 pub record IsCounting (s : ScriptData) (count : List Entry → Count) (G : Premise) : Type 0 where
-  pub lawful : IsLawful s
+  pub lawful : IsTreeLawful s
   pub start : (count []).pace ≡ NoRound
   pub stays : (past : List Entry) (e : Entry) → e.actor.0 ≢ s.nodes → count (e ∷ past) ≡ count past
   pub steps : (past : List Entry) (e : Entry) → IsStepRun s (e ∷ past) → AllApt s past → e.actor.0 ≡ s.nodes

@@ -4,7 +4,8 @@ use Rattle.std.proofs.Math.Nat.{le-max_left, le-max_right, max-eq_left, max-eq_r
 use Rattle.std.proofs.lemmas.Bool.{cases_eq}
 use Rattle.tv_base.specs.declared.numbers.Version.{Version}
 use Rattle.letter_types.specs.declared.bodies.Body.{Body}
-use Rattle.letter_types.specs.declared.bodies.Body.TheVariants.{Go, Sub as SubLetter, Turn, Show, Sweep, AskDone, AskAsked, DoneRow, AskedRow}
+use Rattle.letter_types.specs.declared.bodies.Body.TheVariants.{Go, Sub as SubLetter, Turn, Show, Sweep, AskDone, AskAsked, DoneRow, AskedRow, Order}
+use Rattle.letter_types.specs.declared.bodies.What.TheVariants as whats
 use Rattle.letter_types.specs.declared.entries.Entry.{Entry}
 use Rattle.letter_types.specs.declared.entries.Letter.{Letter}
 use Rattle.letter_types.specs.declared.entries.Outgoing.{Outgoing}
@@ -27,7 +28,7 @@ use Rattle.world_model.proofs.Orders.{coordinator_nodes, to_nodes_each}
 use Rattle.phase_laws.specs.Advances.{running}
 use Rattle.phase_laws.specs.Given.{IsGivenAnew, greatest_given, greatest_told, version_told}
 use Rattle.phase_laws.specs.Phases.{Stage, TurnStage, ShowStage, SweepStage, count_in_flight, most_low, most_read, most_update, token}
-use Rattle.phase_laws.specs.Quiet.{IsGivenInQuiet}
+use Rattle.phase_laws.specs.Quiet.{IsGivenInQuiet, IsQuietForReads, IsQuietForUpdates}
 use Rattle.phase_laws.proofs.Advancing.{IsAdvancing, IsAhead, IsOrderGiven, IsTurnedTo, IsWithin, given_stays, greatest_least, sent_given}
 use Rattle.phase_laws.proofs.Lawful.{IsLawful}
 use Rattle.phase_laws.proofs.LevelAt.{Level, LevelBody, Levels, tell, tells}
@@ -38,6 +39,7 @@ use Rattle.phase_laws.proofs.Sending.{IsApart, Sending, SendsApart, SendsAsked, 
 use Rattle.phase_laws.proofs.Shows.{given_in_quiet}
 use Rattle.phase_laws.proofs.Small.{IsSmall, outcome_in, small}
 use Rattle.phase_laws.proofs.Tokens.{showing_phase, sweeping_phase, told, turning_phase}
+use Rattle.world_model.specs.Lossy.{is_lossy}
 
 -- the greatest version that a stage may have been given in a phase of an advancement from version u
 abbrev most_given : Stage → Phase → ℕ → ℕ
@@ -209,10 +211,13 @@ gives g c from body out some (Pauses kind v k row takes differs flag is) =
 -- an entry of another actor tells nothing
 apart_told : (g : Stage) (body : Body) → IsApart body → version_told g body ≡ 0
 apart_told TurnStage (Turn v) apart = absurd apart
+apart_told TurnStage (Order e what v) apart = absurd apart
 apart_told TurnStage _ apart = refl
 apart_told ShowStage (Show v) apart = absurd apart
+apart_told ShowStage (Order e what v) apart = absurd apart
 apart_told ShowStage _ apart = refl
 apart_told SweepStage (Sweep v) apart = absurd apart
+apart_told SweepStage (Order e what v) apart = absurd apart
 apart_told SweepStage _ apart = refl
 
 rows_told : (g : Stage) (v : Version) (k : ℕ) (row : List ℕ)
@@ -222,7 +227,7 @@ rows_told ShowStage v k row = (refl, refl)
 rows_told SweepStage v k row = (refl, refl)
 
 -- the entries of others leave what was given
-given_by : (g : Stage) (s : ScriptData) (past : List Entry) (e : Entry) → e.actor.0 ≢ s.nodes → Sending s past e
+pub given_by : (g : Stage) (s : ScriptData) (past : List Entry) (e : Entry) → e.actor.0 ≢ s.nodes → Sending s past e
     → greatest_given g (e ∷ past) ≡ greatest_given g past
 given_by g s past e away (SendsApart ne plain all) =
     given_stays g e past
@@ -237,21 +242,21 @@ given_by g s past e away (SendsOrders at rowless) = absurd (away at)
 
 given_away : (g : Stage) (s : ScriptData) (past : List Entry) (e : Entry) → IsLawful s → IsStepRun s (e ∷ past) → AllApt s (e ∷ past)
     → e.actor.0 ≢ s.nodes → greatest_given g (e ∷ past) ≡ greatest_given g past
-given_away g s past e laws run apt away = given_by g s past e away (sending s past e laws run apt)
+given_away g s past e laws run apt away = given_by g s past e away (sending s past e laws.trees run apt)
 
 -- so does an entry that has an act, which is none of the coordinator's
-acted_by : (g : Stage) (s : ScriptData) (past : List Entry) (e : Entry) → MayFollow s past e → (e.acts ≡ [] → ⊥) → Sending s past e
+acted_by : (g : Stage) (s : ScriptData) (past : List Entry) (e : Entry) → is_lossy s ≡ false → MayFollow s past e → (e.acts ≡ [] → ⊥) → Sending s past e
     → greatest_given g (e ∷ past) ≡ greatest_given g past
-acted_by g s past e m acts (SendsApart ne plain all) = given_by g s past e ne (SendsApart ne plain all)
-acted_by g s past e m acts (SendsDone v k lt bd sent same) =
+acted_by g s past e keeps m acts (SendsApart ne plain all) = given_by g s past e ne (SendsApart ne plain all)
+acted_by g s past e keeps m acts (SendsDone v k lt bd sent same) =
     given_by g s past e (λ eq. omega (arith, eq, lt)) (SendsDone v k lt bd sent same)
-acted_by g s past e m acts (SendsAsked v k lt bd sent same) =
+acted_by g s past e keeps m acts (SendsAsked v k lt bd sent same) =
     given_by g s past e (λ eq. omega (arith, eq, lt)) (SendsAsked v k lt bd sent same)
-acted_by g s past e m acts (SendsOrders at rowless) = absurd (acts (coordinates s past e m at).acts)
+acted_by g s past e keeps m acts (SendsOrders at rowless) = absurd (acts (coordinates s past e keeps m at).acts)
 
 pub given_acted : (g : Stage) (s : ScriptData) (past : List Entry) (e : Entry) → IsLawful s → IsStepRun s (e ∷ past) → AllApt s (e ∷ past)
     → (e.acts ≡ [] → ⊥) → greatest_given g (e ∷ past) ≡ greatest_given g past
-given_acted g s past e laws run apt acts = acted_by g s past e run.0 acts (sending s past e laws run apt)
+given_acted g s past e laws run apt acts = acted_by g s past e laws.keeps run.0 acts (sending s past e laws.trees run apt)
 
 -- what was given is the most of the phase, in every run
 abbrev IsMost : Stage → ScriptData → List Entry → Type 0
@@ -271,10 +276,10 @@ most_next g s past e laws run apt (SendsDone v k lt bd sent same) was =
 most_next g s past e laws run apt (SendsAsked v k lt bd sent same) was =
     most_kept g s past e (λ eq. omega (arith, eq, lt)) (SendsAsked v k lt bd sent same) was
 most_next g s past e laws run apt (SendsOrders at rowless) was =
-    let made = coordinates s past e run.0 at in
+    let made = coordinates s past e laws.keeps run.0 at in
     let c = coordinator_in s past in
     let out = coordinator_row c e.took.from.0 e.took.body in
-    let some : 1 ≤ c.nodes = omega (arith, coordinator_nodes s past, laws.valid.some_nodes) in
+    let some : 1 ≤ c.nodes = omega (arith, coordinator_nodes s past, laws.trees.valid.some_nodes) in
     ap (λ (os : List Outgoing). max (greatest_told g os) (greatest_given g past)) made.sent
     ∙ ap (λ (n : ℕ). max (greatest_told g out.sent) n) was
     ∙ gives g c e.took.from.0 e.took.body out some (outcome_in s past e laws run.1 apt)
@@ -288,7 +293,7 @@ most_first SweepStage s = refl
 given_is : (g : Stage) (s : ScriptData) (past : List Entry) → IsLawful s → IsStepRun s past → AllApt s past → IsMost g s past
 given_is g s [] laws run apt = most_first g s
 given_is g s (e ∷ past) laws run apt =
-    most_next g s past e laws run apt.1 (sending s past e laws run apt) (given_is g s past laws run.1 apt.1)
+    most_next g s past e laws run apt.1 (sending s past e laws.trees run apt) (given_is g s past laws run.1 apt.1)
 
 -- A node is within it.
 record IsMid (update read low turned showed swept : ℕ) : Type 0 where
@@ -363,6 +368,7 @@ order_body s past (Sweep v) laws run apt level there =
     let c = coordinator_in s past in
     let at = sweeping_phase c.phase (count_in_flight (token SweepStage) s past) c.acks s.nodes (there SweepStage) (told SweepStage s past laws run apt) in
     omega (arith, level, given_is SweepStage s past laws run apt, ap (λ (p : Phase). most_low p c.update) at)
+order_body s past (Order e what v) laws run apt level there = absurd level
 order_body s past _ laws run apt level there = tt
 
 -- each of those in flight counts itself
@@ -464,16 +470,21 @@ advancing s past laws run apt =
     }
 
 -- And what is told is what was told before, or the next version, in quiet.
+next_or_less : (v m : ℕ) (Q : Type 0) → Q → v ≤ m + 1 → (v ≤ m) ⊎ ((v ≡ m + 1) × Q)
+next_or_less v m Q quiet le = by (under_or v m) where
+  by : (v ≤ m) ⊎ (m < v) → (v ≤ m) ⊎ ((v ≡ m + 1) × Q)
+  by (inl less) = inl less
+  by (inr more) = inr (omega (arith, more, le), quiet)
+
 anew_body : (s : ScriptData) (past : List Entry) (body : Body) → IsGivenInQuiet s past body
     → version_told ShowStage body ≤ greatest_given ShowStage past + 1 → version_told SweepStage body ≤ greatest_given SweepStage past + 1 → IsGivenAnew s past body
-anew_body s past (Show v) quiet shown swept = by (under_or v.0 (greatest_given ShowStage past)) where
-  by : (v.0 ≤ greatest_given ShowStage past) ⊎ (greatest_given ShowStage past < v.0) → IsGivenAnew s past (Show v)
-  by (inl le) = inl le
-  by (inr more) = inr (omega (arith, more, shown), quiet)
-anew_body s past (Sweep v) quiet shown swept = by (under_or v.0 (greatest_given SweepStage past)) where
-  by : (v.0 ≤ greatest_given SweepStage past) ⊎ (greatest_given SweepStage past < v.0) → IsGivenAnew s past (Sweep v)
-  by (inl le) = inl le
-  by (inr more) = inr (omega (arith, more, swept), quiet)
+anew_body s past (Show v) quiet shown swept = next_or_less v.0 (greatest_given ShowStage past) (IsQuietForUpdates s past v.0) quiet shown
+anew_body s past (Sweep v) quiet shown swept = next_or_less v.0 (greatest_given SweepStage past) (IsQuietForReads s past v.0) quiet swept
+anew_body s past (Order e whats.Turn v) quiet shown swept = tt
+anew_body s past (Order e whats.Show v) quiet shown swept =
+    next_or_less v.0 (greatest_given ShowStage past) (IsQuietForUpdates s past v.0) quiet shown
+anew_body s past (Order e whats.Sweep v) quiet shown swept =
+    next_or_less v.0 (greatest_given SweepStage past) (IsQuietForReads s past v.0) quiet swept
 anew_body s past Go quiet shown swept = tt
 anew_body s past _ quiet shown swept = tt
 
@@ -488,7 +499,7 @@ given_by_one s past e laws run apt = by (cases_eq e.actor.0 s.nodes) where
     omega (arith, given_away SweepStage s past e laws run apt away),
   )
   by (inl at) =
-      let some : 0 < s.nodes = laws.valid.some_nodes in
+      let some : 0 < s.nodes = laws.trees.valid.some_nodes in
       let same : (node_in s (e ∷ past) 0).turns.low.0 ≡ (node_in s past 0).turns.low.0 =
       ap (λ (st : Node). st.turns.low.0) (node_kept s past e 0 (λ eq. omega (arith, eq, at, some))) in
       let before = within s past 0 laws run.1 apt.1 some in

@@ -26,7 +26,8 @@ use Rattle.world_model.proofs.Sends.{on}
 use Rattle.world_model.specs.Kept.{kept_by, kept_in, outstanding}
 use Rattle.phase_laws.specs.Phases.{count_in_flight}
 use Rattle.phase_laws.proofs.Brought.{IsAsking, kept_ask}
-use Rattle.phase_laws.proofs.Progress.{Begins, Coordinates, Ends, Hears, IsWake, Obeys, Progress, WakesFor, Works, are_wakes}
+use Rattle.phase_laws.proofs.Heeds.{IsWake}
+use Rattle.phase_laws.proofs.Progress.{Begins, Coordinates, Ends, Hears, Obeys, Progress, WakesFor, Works, are_wakes}
 use Rattle.phase_laws.proofs.Working.{AreSentIn, IsOfTrees, SentIn}
 
 -- a letter to each node counts as often as there are nodes, or not at all

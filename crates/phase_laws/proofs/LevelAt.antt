@@ -2,7 +2,7 @@
 use Rattle.std.proofs.Common.{◌≡◌, ℕ, ◌+◌, ◌-◌, ◌<◌, ◌≤◌, ◌==◌, true, false, List, ◌∷◌, refl, arith, Option, Some, None, []}
 use Rattle.std.specs.Prelude.{slice_get}
 use Rattle.letter_types.specs.declared.bodies.Body.{Body}
-use Rattle.letter_types.specs.declared.bodies.Body.TheVariants.{Sub as SubLetter, Turn, Show, Sweep}
+use Rattle.letter_types.specs.declared.bodies.Body.TheVariants.{Sub as SubLetter, Turn, Show, Sweep, Order}
 use Rattle.letter_types.specs.declared.entries.Entry.{Entry}
 use Rattle.letter_types.specs.declared.entries.Letter.{Letter}
 use Rattle.tx_trees.specs.ScriptData.{ScriptData, is_read, is_update, reads, updates}
@@ -110,6 +110,7 @@ LevelBody s phase u (Turn v) = v.0 ≡ u + 1
 LevelBody s phase u (Show v) = v.0 ≡ u
 LevelBody s phase u (Sweep v) = v.0 ≡ u
 LevelBody s phase u (SubLetter t k v) = reads s t.0 ≡ false → v.0 ≤ most_update phase u
+LevelBody s phase u (Order e what v) = ⊥
 LevelBody s phase u _ = Unit {0}
 
 -- the levels of all nodes, and the versions in all letters that have still to be done; the coordinator's version is at

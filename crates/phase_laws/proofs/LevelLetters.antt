@@ -4,7 +4,7 @@ use Rattle.std.proofs.lemmas.Bool.Decides.{nat_tests}
 use Rattle.tv_base.specs.declared.numbers.TreeNo.{TreeNo}
 use Rattle.tv_base.specs.declared.numbers.Version.{Version}
 use Rattle.letter_types.specs.declared.bodies.Body.{Body}
-use Rattle.letter_types.specs.declared.bodies.Body.TheVariants.{Root, Sub as SubLetter, Done, Reply, Turn, Show, Sweep, Swept, AskDone, AskAsked, Decide, Decided, Release, Wake}
+use Rattle.letter_types.specs.declared.bodies.Body.TheVariants.{Root, Sub as SubLetter, Done, Reply, Turn, Show, Sweep, Swept, AskDone, AskAsked, Decide, Decided, Release, Wake, Order as OrderLetter}
 use Rattle.letter_types.specs.declared.entries.Entry.{Entry}
 use Rattle.letter_types.specs.declared.entries.Letter.{Letter}
 use Rattle.letter_types.specs.declared.entries.LetterId.{LetterId}
@@ -18,7 +18,7 @@ use Rattle.world_model.specs.Node.{Node}
 use Rattle.world_model.specs.Coordinator.{Coordinator, version, to_nodes, counted_version, end_count, coordinator_row}
 use Rattle.world_model.specs.declared.phase.Phase.{Phase}
 use Rattle.world_model.specs.declared.phase.Phase.TheVariants.{Idle, Turning, Counting, Showing, Sweeping}
-use Rattle.world_model.specs.Client.{Client, rows_letters, submit, submitted, with_answer, with_end, nudge}
+use Rattle.world_model.specs.Client.{Client, rows_letters, submit, submitted, with_answer, with_end, nudge, advances_sent}
 use Rattle.world_model.specs.Counts.{Each}
 use Rattle.world_model.specs.Runs.{IsStepRun, client_in, coordinator_in, node_in, in_flight, MayFollow}
 use Rattle.world_model.specs.AllApt.{AllApt}
@@ -36,8 +36,10 @@ use Rattle.phase_laws.proofs.Tokens.{told}
 use Rattle.phase_laws.proofs.LevelAt.{LevelBody, Levels, order, orders_no_trees, tally_most}
 use Rattle.phase_laws.proofs.Brought.{each_of_brought}
 use Rattle.phase_laws.proofs.Letters.{waits_in_flight}
-use Rattle.phase_laws.proofs.Progress.{Begins, Coordinates, Ends, Hears, IsWake, Obeys, Progress, WakesFor, Works, are_wakes}
+use Rattle.phase_laws.proofs.Heeds.{IsWake}
+use Rattle.phase_laws.proofs.Progress.{Begins, Coordinates, Ends, Hears, Obeys, Progress, WakesFor, Works, are_wakes}
 use Rattle.phase_laws.proofs.Working.{AsksOf, SentIn, done_version, root_version}
+use Rattle.world_model.proofs.Sends.{OfRows, rows_each}
 
 -- The versions in letters.
 -- the same of a letter that is sent, whatever its id will be
@@ -68,13 +70,8 @@ sent_level s phase u st does to (Release t) most right sent id = tt
 sent_level s phase u st does to (Wake t k) most right sent id = tt
 sent_level s phase u st does to _ most right sent id = absurd sent
 
-rows_level : (s : ScriptData) (phase : Phase) (u : ℕ) (rows : List ScriptRow)
-    → Each (of (InLevel s phase u)) (rows_letters s rows)
-rows_level s phase u [] = tt
-rows_level s phase u (TreeRow t ∷ rows) = ((λ id. tt), rows_level s phase u rows)
-rows_level s phase u (AdvanceRow ∷ rows) = ((λ id. tt), rows_level s phase u rows)
-rows_level s phase u (SettleRow ∷ rows) = rows_level s phase u rows
-rows_level s phase u (LoseRow ∷ rows) = rows_level s phase u rows
+rows_level : (s : ScriptData) (phase : Phase) (u : ℕ) → OfRows (InLevel s phase u)
+rows_level s phase u = record { root = λ to t id. tt; advance = λ to id. tt; numbered = λ to i id. tt; lose = λ to id. tt }
 
 -- what a node answers to an order
 order_level : (s : ScriptData) (phase : Phase) (u : ℕ) (st : Node) (body : Body) (out : Out Node) → Order s st body out
@@ -125,6 +122,7 @@ level_mono s from to u (Turn v) le right = right
 level_mono s from to u (Show v) le right = right
 level_mono s from to u (Sweep v) le right = right
 level_mono s from to u (SubLetter t k v) le right = λ is. let most = right is in omega (arith, most, le)
+level_mono s from to u (OrderLetter e what v) le right = absurd right
 level_mono s from to u _ le right = tt
 
 -- what a step of the coordinator leaves right: the outstanding letters, and those that it sends
@@ -188,6 +186,7 @@ level_further s to u (Turn v) a b c le right = absurd (omega (arith, a))
 level_further s to u (Show v) a b c le right = absurd (omega (arith, b))
 level_further s to u (Sweep v) a b c le right = absurd (omega (arith, c))
 level_further s to u (SubLetter t k v) a b c le right = λ is. let most = right is in omega (arith, most, le)
+level_further s to u (OrderLetter e what v) a b c le right = absurd right
 level_further s to u _ a b c le right = tt
 
 order_most : (g : Stage) (body : Body) → order g body ≤ token g body
@@ -347,7 +346,8 @@ submit_level : (s : ScriptData) (phase : Phase) (u : ℕ) (c : Client) (first : 
     → Each (of (InLevel s phase u)) first → Each (of (InLevel s phase u)) (submit s c first).sent
 submit_level s phase u c first right =
     let rest = take (submitted c (take c.next s.rows) (drop c.next s.rows)) (drop c.next s.rows) in
-    each_append (of (InLevel s phase u)) first (rows_letters s rest) right (rows_level s phase u rest)
+    each_append (of (InLevel s phase u)) first (rows_letters s (advances_sent s c) rest) right
+    (rows_each (InLevel s phase u) s (advances_sent s c) rest (rows_level s phase u))
 
 -- the versions in letters after an entry
 pub letters_next : (s : ScriptData) (past : List Entry) (e : Entry) → IsLawful s → IsStepRun s (e ∷ past) → AllApt s past
@@ -363,7 +363,7 @@ letters_next s past e laws run apt was (Hears t v answer bd at lt made) =
     (submit_level s c.phase c.update client (nudge s ∷ []) ((λ id. tt), tt))
 letters_next s past e laws run apt was (Ends v bd at made) =
     let c = coordinator_in s past in
-    let client = with_end (client_in s past) in
+    let client = with_end s v (client_in s past) in
     letters_kept s past e (submit s client []).sent run.0 (omega (arith, at)) was.letters made.sent
     (submit_level s c.phase c.update client [] tt)
 letters_next s past e laws run apt was (Coordinates tells at made) =

@@ -37,7 +37,7 @@ use Rattle.phase_laws.proofs.Progress.{Begins, Coordinates, Ends, Hears, Obeys, 
 use Rattle.phase_laws.proofs.Working.{IsRaiser}
 use Rattle.phase_laws.proofs.Outcomes.{Outcome, Rests, Queues, Flags, Turns, Acks, LastTurned, LastShown, Finishes, GoesOn, Resumes, KeepsDone, KeepsAsked, Agrees, Recounts, Pauses, asked_kept, finished, gone_on, round_begun}
 use Rattle.phase_laws.proofs.Small.{outcome_in}
-use Rattle.phase_laws.proofs.Tokens.{IsCalm, PhaseFor, phase_for, token_passes, told, calm_within, turn_fills, show_fills, sweep_fills, ask_fills, advance_apart, nudge_apart, ask_apart, ask_done_apart}
+use Rattle.phase_laws.proofs.Tokens.{IsCalm, PhaseFor, phase_for, token_passes, told, calm_within, turn_fills, show_fills, sweep_fills, ask_fills, token_rows, nudge_apart, ask_apart, ask_done_apart}
 use Rattle.phase_laws.proofs.LevelAt.{Level, LevelAt, LevelBody, Levels, order, orders_no_trees, tally_most, tell, tells}
 
 -- What is sent to a node.
@@ -550,7 +550,7 @@ level_by_client : (s : ScriptData) (past : List Entry) (e : Entry) (c : Client) 
 level_by_client s past e c first m at made quiet was q here =
     let sent : (g : Stage) → tally (on (token g)) e.sent ≡ 0 =
     λ g. ap (λ (os : List Outgoing). tally (on (token g)) os) made.sent
-    ∙ submit_none (token g) s c first (quiet g) (token_passes g).sent.root (advance_apart g) in
+    ∙ submit_none (token g) s c first (quiet g) (token_rows g) in
     level_stays s past e q m (omega (arith, at)) (omega (arith, at, here)) (λ g. sent_none g q e.sent (sent g)) (was q here)
 
 -- the coordinator
@@ -649,7 +649,7 @@ level_next s past e laws run apt was (Hears t v answer bd at lt made) =
     level_by_client s past e (with_answer t.0 (client_in s past)) (nudge s ∷ []) run.0 at made
     (λ g. omega (arith, nudge_apart g)) was.node
 level_next s past e laws run apt was (Ends v bd at made) =
-    level_by_client s past e (with_end (client_in s past)) [] run.0 at made (λ g. refl) was.node
+    level_by_client s past e (with_end s v (client_in s past)) [] run.0 at made (λ g. refl) was.node
 level_next s past e laws run apt was (Coordinates tells at made) = level_by_coordinator s past e laws run apt at made was
 level_next s past e laws run apt was (Works p r work) =
     let c = coordinator_in s past in

@@ -2,6 +2,8 @@ pub mod Outcomes
 pub mod Lawful
 pub mod Brought
 pub mod Working
+pub mod ClientSteps
+pub mod Heeds
 pub mod Progress
 pub mod Letters
 pub mod Small
@@ -27,4 +29,5 @@ pub mod Below
 pub mod Closing
 pub mod Advancing
 pub mod GivenInPhase
+pub mod Governed
 pub mod Sampled

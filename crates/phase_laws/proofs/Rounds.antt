@@ -22,7 +22,7 @@ use Rattle.world_model.specs.Runs.{coordinator_in, node_in, in_flight, MayFollow
 use Rattle.world_model.specs.AllApt.{AllApt}
 use Rattle.world_model.proofs.Bags.{tally-drop}
 use Rattle.world_model.proofs.Every.{each_map, each_step, each_taken, each_zero}
-use Rattle.phase_laws.proofs.Lawful.{IsLawful}
+use Rattle.phase_laws.proofs.Lawful.{IsLawful, IsTreeLawful}
 use Rattle.phase_laws.proofs.CoordinatorCounts.{Always, coordinator_counts, count_in, takes_row, versioned}
 use Rattle.phase_laws.proofs.Counting.{Count, CountStep, Denies, Holds, IsCounting, IsNudged, InRound, Lasts, Leaves, Begins, TakesDone, TakesRequests, TakesRow, asks_after, count_asked, count_done, none_in_round, paused_in_round, Premise}
 use Rattle.phase_laws.proofs.Outcomes.{TakesAsked}
@@ -111,7 +111,7 @@ sent_at_least s past e number v p q b lt now (SendsAsked w k node bd sent same) 
 sent_at_least s past e number v p q b lt now (SendsOrders at rowless) = orders_at_least number v p q b e.actor.0 e.sent rowless
 
 -- a pair that differs does so after any entry, with these rows of requests
-differs_goes : (s : ScriptData) (past : List Entry) (e : Entry) (r : RoundData) (ks : NodeRows) → IsLawful s
+differs_goes : (s : ScriptData) (past : List Entry) (e : Entry) (r : RoundData) (ks : NodeRows) → IsTreeLawful s
     → IsStepRun s (e ∷ past) → AllApt s (e ∷ past)
     → LowIn s (e ∷ past) r.version.0 → (x : Differs s past r)
     → ((row : List ℕ) → slice_get ks x.p ≡ Some (Some row) → x.b ≤ slice_index row x.q)
@@ -129,7 +129,7 @@ differs_goes s past e r ks laws run apt low x kept = record {
   kept = kept;
 }
 
-found_goes : (s : ScriptData) (past : List Entry) (e : Entry) (r : RoundData) (ks : NodeRows) → IsLawful s
+found_goes : (s : ScriptData) (past : List Entry) (e : Entry) (r : RoundData) (ks : NodeRows) → IsTreeLawful s
     → IsStepRun s (e ∷ past) → AllApt s (e ∷ past)
     → Closed s past r.version.0 → LowIn s (e ∷ past) r.version.0
     → ((x : Differs s past r) (row : List ℕ) → slice_get ks x.p ≡ Some (Some row) → x.b ≤ slice_index row x.q)
@@ -141,7 +141,7 @@ found_goes s past e r ks laws run apt closed low kept (inr x) =
     inr (differs_goes s past e r ks laws run apt low x (kept x))
 
 -- a round goes on, with these rows of requests
-round_goes : (s : ScriptData) (past : List Entry) (e : Entry) (r : RoundData) (ks : NodeRows) → IsLawful s
+round_goes : (s : ScriptData) (past : List Entry) (e : Entry) (r : RoundData) (ks : NodeRows) → IsTreeLawful s
     → IsStepRun s (e ∷ past) → AllApt s (e ∷ past)
     → Closed s past r.version.0 → LowIn s (e ∷ past) r.version.0
     → ((q : ℕ) → going (first_wave r.number q) s (e ∷ past) ≤ going (first_wave r.number q) s past)
@@ -210,7 +210,7 @@ clean_letter number v p q b from to (AskedRow w k row) none = λ ks ws is. absur
 clean_letter number v p q b from to _ none = tt
 
 -- once all completions are in: the version is silent, or a pair has an outstanding letter, and differs
-at_last : (s : ScriptData) (past : List Entry) (r : RoundData) → IsLawful s → IsStepRun s past → AllApt s past
+at_last : (s : ScriptData) (past : List Entry) (r : RoundData) → IsTreeLawful s → IsStepRun s past → AllApt s past
     → LowIn s past r.version.0
     → ((q : ℕ) (row : List ℕ) → q < s.nodes → slice_get r.dones q ≡ Some (Some row) → (p : ℕ) → p < s.nodes
     → slice_index row p ≤ (node_in s past q).counts.done r.version.0 p)
@@ -240,7 +240,7 @@ at_last s past r laws run apt low rows letters clear (inr (p, q, lp, lq, some)) 
 -- the rows of completions that are kept then
 row_kept_by : (s : ScriptData) (past : List Entry) (e : Entry) (r : RoundData) (v : Version) (k : ℕ) (row : List ℕ)
     (q : ℕ) (row' : List ℕ)
-    → IsLawful s → IsStepRun s (e ∷ past) → AllApt s (e ∷ past) → LowIn s (e ∷ past) r.version.0 → Round s past r
+    → IsTreeLawful s → IsStepRun s (e ∷ past) → AllApt s (e ∷ past) → LowIn s (e ∷ past) r.version.0 → Round s past r
     → e.took.body ≡ DoneRow v k row
     → v.0 ≡ r.version.0 → q < s.nodes
     → ((e.took.from.0 ≡ q) × (Some row ≡ Some row')) ⊎ (slice_get r.dones q ≡ Some (Some row')) → (p : ℕ) → p < s.nodes
@@ -295,7 +295,7 @@ done_found s past e r v k row false m was places bd ks lt rest missing = rest mi
 
 -- the round takes a row of completions
 round_takes : (s : ScriptData) (past : List Entry) (e : Entry) (r : RoundData) (v : Version) (k : ℕ) (row : List ℕ)
-    → IsLawful s → IsStepRun s (e ∷ past) → AllApt s (e ∷ past) → LowIn s (e ∷ past) r.version.0 → Round s past r
+    → IsTreeLawful s → IsStepRun s (e ∷ past) → AllApt s (e ∷ past) → LowIn s (e ∷ past) r.version.0 → Round s past r
     → length r.dones ≡ s.nodes → e.took.body ≡ DoneRow v k row → v.0 ≡ r.version.0 → k ≡ r.number
     → e.took.from.0 < s.nodes → AllRowless e.sent → e.sent ≡ asks_after s.nodes e.took.from.0 row r
     → Round s (e ∷ past) (with_done e.took.from.0 row r)

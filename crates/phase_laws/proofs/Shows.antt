@@ -1,7 +1,7 @@
 -- A version is shown, and swept to, in quiet alone.
 use Rattle.std.proofs.Common.{if◌then◌else◌, ◌≡◌, ℕ, ◌+◌, ◌-◌, ◌<◌, ◌&&◌, not, Bool, true, false, List, [], ◌∷◌, refl, sym, subst, arith}
 use Rattle.letter_types.specs.declared.bodies.Body.{Body}
-use Rattle.letter_types.specs.declared.bodies.Body.TheVariants.{Turn, Show, Sweep, AskDone, AskAsked}
+use Rattle.letter_types.specs.declared.bodies.Body.TheVariants.{Turn, Show, Sweep, AskDone, AskAsked, Order}
 use Rattle.letter_types.specs.declared.entries.Entry.{Entry}
 use Rattle.letter_types.specs.declared.entries.Outgoing.{Outgoing}
 use Rattle.letter_types.specs.Steps.{Out}
@@ -122,6 +122,7 @@ given_by s past e out laws run apt (Pauses reads v k row takes verdict flag is) 
 apart_given : (s : ScriptData) (past : List Entry) (body : Body) → IsApart body → IsGivenInQuiet s past body
 apart_given s past (Show v) apart = absurd apart
 apart_given s past (Sweep v) apart = absurd apart
+apart_given s past (Order e what v) apart = absurd apart
 apart_given s past _ apart = tt
 
 given_next : (s : ScriptData) (past : List Entry) (e : Entry) → IsLawful s → IsStepRun s (e ∷ past) → AllApt s past
@@ -133,7 +134,7 @@ given_next s past e laws run apt (SendsApart away plain all) =
 given_next s past e laws run apt (SendsDone v k lt bd sent same) = subst (Given s past) (sym sent) (tt, tt)
 given_next s past e laws run apt (SendsAsked v k lt bd sent same) = subst (Given s past) (sym sent) (tt, tt)
 given_next s past e laws run apt (SendsOrders at rowless) =
-    subst (Given s past) (sym (coordinates s past e run.0 at).sent)
+    subst (Given s past) (sym (coordinates s past e laws.keeps run.0 at).sent)
     (given_by s past e (coordinator_row (coordinator_in s past) e.took.from.0 e.took.body) laws run apt
     (outcome_in s past e laws run.1 apt))
 
@@ -141,4 +142,4 @@ given_next s past e laws run apt (SendsOrders at rowless) =
 pub given_in_quiet : (s : ScriptData) (past : List Entry) (e : Entry) → IsLawful s → IsStepRun s (e ∷ past)
     → AllApt s (e ∷ past)
     → Each (λ (o : Outgoing). IsGivenInQuiet s past o.body) e.sent
-given_in_quiet s past e laws run apt = given_next s past e laws run apt.1 (sending s past e laws run apt)
+given_in_quiet s past e laws run apt = given_next s past e laws run apt.1 (sending s past e laws.trees run apt)

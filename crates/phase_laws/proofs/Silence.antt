@@ -2,7 +2,7 @@
 use Rattle.std.proofs.Common.{if◌then◌else◌, ◌≡◌, ◌≢◌, ◌⊎◌, inl, inr, ℕ, zero, suc, ◌<◌, ◌≤◌, ◌==◌, Bool, true, false, List, [], ◌∷◌, ◌++◌, refl, sym, ap, subst, ◌∙◌, arith, take, drop}
 use Rattle.std.proofs.lemmas.Bool.Decides.{nat_tests}
 use Rattle.letter_types.specs.declared.bodies.Body.{Body}
-use Rattle.letter_types.specs.declared.bodies.Body.TheVariants.{Root, Sub as SubLetter, Done, Reply, Decide, Decided, Release, Wake}
+use Rattle.letter_types.specs.declared.bodies.Body.TheVariants.{Root, Sub as SubLetter, Done, Reply, Decide, Decided, Release, Wake, Obeyed, Ask}
 use Rattle.letter_types.specs.declared.entries.Entry.{Entry}
 use Rattle.letter_types.specs.declared.entries.Letter.{Letter}
 use Rattle.letter_types.specs.declared.entries.Outgoing.{Outgoing}
@@ -13,13 +13,13 @@ use Rattle.tx_trees.specs.ScriptData.{ScriptData, reads}
 use Rattle.tx_trees.specs.Valid.{IsValid}
 use Rattle.tx_trees.specs.declared.parts.ScriptRow.{ScriptRow}
 use Rattle.tx_trees.specs.declared.parts.ScriptRow.TheVariants.{Tree as TreeRow, Advance as AdvanceRow, Settle as SettleRow, Lose as LoseRow}
-use Rattle.world_model.specs.Client.{Client, rows_letters, submit, submitted, with_answer, with_end, nudge}
+use Rattle.world_model.specs.Client.{Client, rows_letters, submit, submitted, with_answer, with_end, nudge, advances_sent}
 use Rattle.world_model.specs.Counts.{Each, tally}
-use Rattle.world_model.specs.Runs.{client_in, coordinator_in, node_in, IsStepRun}
+use Rattle.world_model.specs.Runs.{client_in, coordinator_in, node_in, IsStepRun, keeping_in, restarting_in}
 use Rattle.world_model.specs.AllApt.{AllApt}
 use Rattle.world_model.proofs.Outstanding.{IsOutstanding}
 use Rattle.world_model.proofs.Every.{each_append, each_map, each_none}
-use Rattle.phase_laws.proofs.Lawful.{IsLawful}
+use Rattle.phase_laws.proofs.Lawful.{IsTreeLawful}
 use Rattle.world_model.proofs.Nexts.{Order, Turns, Shows, Sweeps, TellsDone, TellsAsked}
 use Rattle.world_model.proofs.Orders.{coordinator_each}
 use Rattle.phase_laws.specs.Balance.{version_is, goes_between, out}
@@ -27,8 +27,13 @@ use Rattle.phase_laws.specs.Quiet.{IsSilent}
 use Rattle.phase_laws.proofs.Balance.{apt_counts, flow}
 use Rattle.phase_laws.proofs.Brought.{brought_meant, brought_outstanding, brought_to, sender_below}
 use Rattle.phase_laws.proofs.Moves.{sent_on}
-use Rattle.phase_laws.proofs.Progress.{Begins, Coordinates, Ends, Hears, IsWake, Obeys, Progress, WakesFor, Works, are_wakes, progress}
+use Rattle.phase_laws.proofs.Heeds.{IsWake, AreWakes, Heed, Leaves, Answers, Repeats, Obeys as HeedObeys, IsOfEpoch}
+use Rattle.phase_laws.proofs.Progress.{Begins, Coordinates, Ends, Hears, Obeys, Progress, WakesFor, Works, are_wakes, progress, Asked, Course, Forgetting, Heeds, Restarts, course, MadeByRestarting}
 use Rattle.phase_laws.proofs.Working.{SentIn, done_version}
+use Rattle.world_model.proofs.Sends.{OfRows, rows_each}
+use Rattle.world_model.proofs.Restarts.{restarting_each}
+use Rattle.world_model.specs.Core.{Core}
+use Rattle.world_model.specs.Advancing.{to_coordinator}
 
 -- no root is born in version v
 abbrev pub Closed : ScriptData → List Entry → ℕ → Type 0
@@ -42,18 +47,15 @@ NoneOf v os = Each (λ (o : Outgoing). version_is v o.body ≡ false) os
 none_append : (v : ℕ) (xs ys : List Outgoing) → NoneOf v xs → NoneOf v ys → NoneOf v (xs ++ ys)
 none_append v xs ys a b = each_append (λ (o : Outgoing). version_is v o.body ≡ false) xs ys a b
 
-rows_none : (v : ℕ) (s : ScriptData) (rows : List ScriptRow) → NoneOf v (rows_letters s rows)
-rows_none v s [] = tt
-rows_none v s (TreeRow t ∷ rows) = (refl, rows_none v s rows)
-rows_none v s (AdvanceRow ∷ rows) = (refl, rows_none v s rows)
-rows_none v s (SettleRow ∷ rows) = rows_none v s rows
-rows_none v s (LoseRow ∷ rows) = rows_none v s rows
+rows_none : (v : ℕ) → OfRows (λ to body. version_is v body ≡ false)
+rows_none v = record { root = λ to t. refl; advance = λ to. refl; numbered = λ to i. refl; lose = λ to. refl }
 
 submit_none : (v : ℕ) (s : ScriptData) (c : Client) (first : List Outgoing) → NoneOf v first
     → NoneOf v (submit s c first).sent
 submit_none v s c first all =
     let rows = take (submitted c (take c.next s.rows) (drop c.next s.rows)) (drop c.next s.rows) in
-    none_append v first (rows_letters s rows) all (rows_none v s rows)
+    none_append v first (rows_letters s (advances_sent s c) rows) all
+    (rows_each (λ to body. version_is v body ≡ false) s (advances_sent s c) rows (rows_none v))
 
 order_none : (s : ScriptData) (v : ℕ) (st : Node) (body : Body) (out : Out Node) → Order s st body out
     → NoneOf v out.sent
@@ -97,10 +99,13 @@ wake_none : (v : ℕ) (body : Body) → IsWake body → version_is v body ≡ fa
 wake_none v (Wake t k) wake = refl
 wake_none v _ wake = absurd wake
 
-woken_none : (v : ℕ) (body : Body) (more : List Outgoing) → WakesFor body more → NoneOf v more
-woken_none v body more woken =
+wakes_none : (v : ℕ) (more : List Outgoing) → AreWakes more → NoneOf v more
+wakes_none v more woken =
     each_map (λ (o : Outgoing). IsWake o.body) (λ (o : Outgoing). version_is v o.body ≡ false) more (λ o wake. wake_none v o.body wake)
-    (are_wakes body more woken)
+    woken
+
+woken_none : (v : ℕ) (body : Body) (more : List Outgoing) → WakesFor body more → NoneOf v more
+woken_none v body more woken = wakes_none v more (are_wakes body more woken)
 
 pub goes_itself : (v p q : ℕ) (l : Letter) → version_is v l.body ≡ true → l.from.0 ≡ p → l.to.0 ≡ q
     → goes_between v p q l ≡ 1
@@ -129,7 +134,7 @@ none_sent s past e v valid run silent closed (Begins bd at made) =
 none_sent s past e v valid run silent closed (Hears t w answer bd at lt made) =
     by_sent v e _ made.sent (submit_none v s (with_answer t.0 (client_in s past)) (nudge s ∷ []) (refl, tt))
 none_sent s past e v valid run silent closed (Ends w bd at made) =
-    by_sent v e _ made.sent (submit_none v s (with_end (client_in s past)) [] tt)
+    by_sent v e _ made.sent (submit_none v s (with_end s w (client_in s past)) [] tt)
 none_sent s past e v valid run silent closed (Coordinates tells at made) =
     by_sent v e _ made.sent (coordinator_each (λ to body. version_is v body ≡ false) (coordinator_in s past) (record {
       turn = λ to w lt. refl;
@@ -152,15 +157,38 @@ none_sent s past e v valid run silent closed (Obeys p out more at lt order state
     by_sent v e (out.sent ++ more) sent
     (none_append v out.sent more (order_none s v (node_in s past p) e.took.body out order) (woken_none v e.took.body more woken))
 
+heed_none : (s : ScriptData) (v : ℕ) (c d : Core) (body : Body) (sent : List Outgoing) → Heed s c d body sent → NoneOf v sent
+heed_none s v c d body sent (Leaves n of late same none) = subst (NoneOf v) (sym none) tt
+heed_none s v c d body sent (Answers n bd new same is) = subst (NoneOf v) (sym is) (refl, tt)
+heed_none s v c d body sent (Repeats n what w bd new was same is) = subst (NoneOf v) (sym is) (refl, tt)
+heed_none s v c d body sent (HeedObeys n what w more bd new less epoch turns is woken) =
+    subst (NoneOf v) (sym is) (none_append v (to_coordinator s (Obeyed n what w)) more (refl, tt) (wakes_none v more woken))
+
+course_none : (s : ScriptData) (past : List Entry) (e : Entry) (v : ℕ) → IsValid s → IsStepRun s (e ∷ past) → IsSilent s past v
+    → Closed s past v → Course s past e → NoneOf v e.sent
+course_none s past e v valid run silent closed (inl next) = none_sent s past e v valid run silent closed next
+course_none s past e v valid run silent closed (inr (Asked n bd at loses made)) = by_sent v e _ made.sent (refl, tt)
+course_none s past e v valid run silent closed (inr (Restarts tells at loses made)) =
+    by_sent v e _ made.sent (restarting_each (λ to body. version_is v body ≡ false) (restarting_in s past) (record {
+      ask = λ to n lt. refl;
+      ask_client = λ n. refl;
+      order = λ to n what w lt. refl;
+      ask_done = λ to w k lt. refl;
+      ask_asked = λ to w k lt. refl;
+      advanced = λ w. refl;
+    }) e.took.from.0 e.took.body)
+course_none s past e v valid run silent closed (inr (Heeds p at lt loses heed)) =
+    heed_none s v (keeping_in s past p).core (keeping_in s (e ∷ past) p).core e.took.body e.sent heed
+
 uncounted : (a v p q : ℕ) (o : Outgoing) → version_is v o.body ≡ false → sent_on a v p q o ≡ 0
 uncounted a v p q o is = rw is refl
 
 -- a silent version that is closed stays silent
-pub silent_stays : (s : ScriptData) (past : List Entry) (e : Entry) (v : ℕ) → IsLawful s → IsStepRun s (e ∷ past)
+pub silent_stays : (s : ScriptData) (past : List Entry) (e : Entry) (v : ℕ) → IsTreeLawful s → IsStepRun s (e ∷ past)
     → AllApt s (e ∷ past)
     → IsSilent s past v → Closed s past v → IsSilent s (e ∷ past) v
 silent_stays s past e v laws run apt silent closed = λ p q lp lq.
-    let none = none_sent s past e v laws.valid run silent closed (progress s past e laws apt run) in
+    let none = course_none s past e v laws.valid run silent closed (course s past e laws apt run) in
     let sent : tally (sent_on e.actor.0 v p q) e.sent ≡ 0 =
     each_none (sent_on e.actor.0 v p q) e.sent
     (each_map (λ (o : Outgoing). version_is v o.body ≡ false) (λ (o : Outgoing). sent_on e.actor.0 v p q o ≡ 0) e.sent
@@ -168,14 +196,14 @@ silent_stays s past e v laws run apt silent closed = λ p q lp lq.
     omega (arith, flow s past e v p q run.0, silent p q lp lq, sent)
 
 -- Counters only grow, but for what is swept.
-pub done_grows : (s : ScriptData) (past : List Entry) (e : Entry) (q v p : ℕ) → IsLawful s → IsStepRun s (e ∷ past)
+pub done_grows : (s : ScriptData) (past : List Entry) (e : Entry) (q v p : ℕ) → IsTreeLawful s → IsStepRun s (e ∷ past)
     → AllApt s (e ∷ past)
     → q < s.nodes → (node_in s (e ∷ past) q).turns.low.0 ≤ v
     → (node_in s past q).counts.done v p ≤ (node_in s (e ∷ past) q).counts.done v p
 done_grows s past e q v p laws run apt lt low =
     let counts = apt_counts s past e v laws.valid apt run in omega (arith, counts.done p q lt low)
 
-pub asked_grows : (s : ScriptData) (past : List Entry) (e : Entry) (p v q : ℕ) → IsLawful s → IsStepRun s (e ∷ past)
+pub asked_grows : (s : ScriptData) (past : List Entry) (e : Entry) (p v q : ℕ) → IsTreeLawful s → IsStepRun s (e ∷ past)
     → AllApt s (e ∷ past)
     → p < s.nodes → (node_in s (e ∷ past) p).turns.low.0 ≤ v
     → (node_in s past p).counts.asked v q ≤ (node_in s (e ∷ past) p).counts.asked v q

@@ -17,7 +17,7 @@ use Rattle.tx_trees.proofs.SubsOf.{few_nodes}
 use Rattle.world_model.specs.Coordinator.{Coordinator, version, in_phase, begin_phase, counted_version, end_count, coordinator_row}
 use Rattle.world_model.specs.declared.phase.Phase.{Phase}
 use Rattle.world_model.specs.declared.phase.Phase.TheVariants.{Idle, Turning, Counting, Paused, Showing, Sweeping}
-use Rattle.world_model.specs.Client.{Client, rows_letters, submit, submitted, with_answer, with_end, nudge}
+use Rattle.world_model.specs.Client.{Client, rows_letters, submit, submitted, with_answer, with_end, nudge, advances_sent, advance_letter}
 use Rattle.world_model.specs.Counts.{tally, one_if}
 use Rattle.world_model.specs.Runs.{IsStepRun, MayFollow, client_in, coordinator_in}
 use Rattle.world_model.proofs.Bags.{tally-append}
@@ -26,13 +26,16 @@ use Rattle.world_model.proofs.Flows.{flow, client_kept}
 use Rattle.world_model.proofs.Lawful.{is_nudge, nudged}
 use Rattle.phase_laws.proofs.Lawful.{IsLawful}
 use Rattle.world_model.proofs.Nexts.{MadeByClient, MadeByCoordinator, Tells}
-use Rattle.world_model.proofs.Sends.{on}
+use Rattle.world_model.proofs.Sends.{on, CountsNoRow, roots_none}
 use Rattle.world_model.specs.AllApt.{AllApt}
 use Rattle.phase_laws.specs.Phases.{count_in_flight}
 pub use Rattle.phase_laws.specs.Advances.{AdvancesAreKept, RoundsAreFew, asked_for, is_advance_letter, is_advanced, running}
 use Rattle.phase_laws.proofs.Letters.{NoTrees, Passes, keep_done_none, node_keeps, to_nodes_none}
 use Rattle.phase_laws.proofs.Progress.{Begins, Coordinates, Ends, Hears, Obeys, Progress, Works, progress}
 use Rattle.phase_laws.proofs.Outcomes.{HasRoom, Ignored, IsAnswer, IsRunning, Outcome, Rests, Queues, Flags, Turns, Acks, LastTurned, LastShown, Finishes, GoesOn, Resumes, KeepsDone, KeepsAsked, Agrees, Recounts, Pauses, asked_kept, one_more_is, outcome, round_begun}
+use Rattle.world_model.specs.Lossy.{is_lossy}
+use Rattle.tv_base.specs.Outside.{one_more}
+use Rattle.tv_base.specs.declared.numbers.Version.{Version}
 
 -- how many rounds the advancement in progress has begun without a nudge, at most
 abbrev pub rounds_in : Phase → ℕ
@@ -84,13 +87,13 @@ pub has_room : (s : ScriptData) (past : List Entry) → IsLawful s → IsStepRun
     → HasRoom (coordinator_in s past)
 has_room s past laws run apt small =
     let most : asked_for s past ≤ 100 =
-    omega (arith, asked_most (client_in s past).next s.rows, laws.valid.limited.advances) in
-    let few : nudged past ≤ 20000 = omega (arith, laws.nudges past run apt, laws.valid.few_trees) in
+    omega (arith, asked_most (client_in s past).next s.rows, laws.trees.valid.limited.advances) in
+    let few : nudged past ≤ 20000 = omega (arith, laws.trees.nudges past run apt, laws.trees.valid.few_trees) in
     record {
       update = omega (arith, most, small.asked);
       waits = omega (arith, most, small.asked);
       round = omega (arith, most, few, small.asked, small.rounds, rounds_running (coordinator_in s past).phase);
-      acks = omega (arith, small.acks, few_nodes s laws.valid);
+      acks = omega (arith, small.acks, few_nodes s laws.trees.valid);
     }
 
 -- What a step of the coordinator makes of these numbers.
@@ -324,25 +327,25 @@ costs c from body out (Pauses reads v k row takes verdict flag is) =
     (pauses_costs c from row body reads takes.phase (ap is_advance_letter takes.body_is))
 
 -- What the client submits.
-rows_advances : (s : ScriptData) (rows : List ScriptRow) → tally (on is_advance_letter) (rows_letters s rows) ≡ advances_in rows
-rows_advances s [] = refl
-rows_advances s (TreeRow t ∷ rows) = omega (arith, rows_advances s rows)
-rows_advances s (AdvanceRow ∷ rows) = omega (arith, rows_advances s rows)
-rows_advances s (SettleRow ∷ rows) = omega (arith, rows_advances s rows)
-rows_advances s (LoseRow ∷ rows) = omega (arith, rows_advances s rows)
+one_advance : (s : ScriptData) (k : ℕ) → is_lossy s ≡ false → is_advance_letter (advance_letter s k) ≡ 1
+one_advance s k keeps = rw keeps refl
 
-rows_advanced : (s : ScriptData) (rows : List ScriptRow) → tally (on is_advanced) (rows_letters s rows) ≡ 0
-rows_advanced s [] = refl
-rows_advanced s (TreeRow t ∷ rows) = omega (arith, rows_advanced s rows)
-rows_advanced s (AdvanceRow ∷ rows) = omega (arith, rows_advanced s rows)
-rows_advanced s (SettleRow ∷ rows) = rows_advanced s rows
-rows_advanced s (LoseRow ∷ rows) = rows_advanced s rows
+rows_advances : (s : ScriptData) (k : ℕ) (rows : List ScriptRow) → is_lossy s ≡ false
+    → tally (on is_advance_letter) (rows_letters s k rows) ≡ advances_in rows
+rows_advances s k [] keeps = refl
+rows_advances s k (TreeRow t ∷ rows) keeps = omega (arith, rows_advances s k rows keeps)
+rows_advances s k (AdvanceRow ∷ rows) keeps = omega (arith, one_advance s k keeps, rows_advances s (k + 1) rows keeps)
+rows_advances s k (SettleRow ∷ rows) keeps = omega (arith, rows_advances s k rows keeps)
+rows_advances s k (LoseRow ∷ rows) keeps = omega (arith, rows_advances s k rows keeps)
+
+rows_advanced : CountsNoRow is_advanced
+rows_advanced = record { root = λ t. refl; advance = refl; numbered = λ i. refl; lose = refl }
 
 -- an Advance for each advancement of the rows that are submitted
-submits : (s : ScriptData) (c : Client) (first : List Outgoing)
+submits : (s : ScriptData) (c : Client) (first : List Outgoing) → is_lossy s ≡ false
     → tally (on is_advance_letter) (submit s c first).sent + advances_in (take c.next s.rows)
     ≡ tally (on is_advance_letter) first + advances_in (take (submit s c first).state.next s.rows)
-submits s c first =
+submits s c first keeps =
     let n = submitted c (take c.next s.rows) (drop c.next s.rows) in
     let rest = take n (drop c.next s.rows) in
     let all : advances_in (take (c.next + n) s.rows) ≡ advances_in (take c.next s.rows ++ rest) =
@@ -351,15 +354,19 @@ submits s c first =
       arith,
       all,
       advances_in-append (take c.next s.rows) rest,
-      tally-append (on is_advance_letter) first (rows_letters s rest),
-      rows_advances s rest,
+      tally-append (on is_advance_letter) first (rows_letters s (advances_sent s c) rest),
+      rows_advances s (advances_sent s c) rest keeps,
     )
 
 submits_none : (s : ScriptData) (c : Client) (first : List Outgoing)
     → tally (on is_advanced) (submit s c first).sent ≡ tally (on is_advanced) first
 submits_none s c first =
     let rest = take (submitted c (take c.next s.rows) (drop c.next s.rows)) (drop c.next s.rows) in
-    omega (arith, tally-append (on is_advanced) first (rows_letters s rest), rows_advanced s rest)
+    omega (
+      arith,
+      tally-append (on is_advanced) first (rows_letters s (advances_sent s c) rest),
+      roots_none is_advanced s (advances_sent s c) rest rows_advanced,
+    )
 
 -- The numbers after an entry of another actor than the coordinator.
 other_small : (s : ScriptData) (past : List Entry) (e : Entry) → e.actor.0 ≢ s.nodes → IsSmall s past
@@ -436,12 +443,12 @@ by_node s past e m node was next =
     (omega (arith, asked, node_keeps is_advance_letter advance_passes s past e m node next))
     (omega (arith, ended, node_keeps is_advanced advanced_passes s past e m node next))
 
-by_client : (s : ScriptData) (past : List Entry) (e : Entry) (c : Client) (first : List Outgoing) → MayFollow s past e
-    → IsSmall s past
+by_client : (s : ScriptData) (past : List Entry) (e : Entry) (c : Client) (first : List Outgoing) → is_lossy s ≡ false
+    → MayFollow s past e → IsSmall s past
     → e.actor.0 ≡ client_of s → MadeByClient s past e (submit s c first) → c.next ≡ (client_in s past).next
     → tally (on is_advance_letter) first ≡ 0 → tally (on is_advanced) first ≡ 0 → is_advance_letter e.took.body ≡ 0
     → c.ended ≡ (client_in s past).ended + is_advanced e.took.body → IsSmall s (e ∷ past)
-by_client s past e c first m was at made next quiet silent took ended =
+by_client s past e c first keeps m was at made next quiet silent took ended =
     let more : asked_for s (e ∷ past) ≡ advances_in (take (submit s c first).state.next s.rows) =
     ap (λ (x : Client). advances_in (take x.next s.rows)) made.state in
     let before : advances_in (take c.next s.rows) ≡ asked_for s past = ap (λ (n : ℕ). advances_in (take n s.rows)) next in
@@ -451,7 +458,7 @@ by_client s past e c first m was at made next quiet silent took ended =
     let tells : tally (on is_advanced) e.sent ≡ tally (on is_advanced) (submit s c first).sent =
     ap (λ (os : List Outgoing). tally (on is_advanced) os) made.sent in
     other_small s past e (omega (arith, at)) was
-    (omega (arith, flow is_advance_letter s past e m, more, before, asks, submits s c first, quiet, took))
+    (omega (arith, flow is_advance_letter s past e m, more, before, asks, submits s c first keeps, quiet, took))
     (omega (arith, flow is_advanced s past e m, heard, tells, submits_none s c first, silent, ended))
 
 -- the coordinator isn't told that an advancement has ended
@@ -485,19 +492,22 @@ by_coordinator s past e laws run apt was told at made =
     subst (λ (d : Coordinator). Numbers s (e ∷ past) d) (sym made.state) after
 
 -- after any entry
+ended_next : (s : ScriptData) (v : Version) (c : Client) → is_lossy s ≡ false → (with_end s v c).ended ≡ one_more c.ended
+ended_next s v c keeps = rw keeps refl
+
 small_next : (s : ScriptData) (past : List Entry) (e : Entry) → IsLawful s → IsStepRun s (e ∷ past) → AllApt s past
     → IsSmall s past → Progress s past e → IsSmall s (e ∷ past)
 small_next s past e laws run apt was (Begins bd at made) =
-    by_client s past e (client_in s past) [] run.0 was at made refl refl refl (ap is_advance_letter bd)
+    by_client s past e (client_in s past) [] laws.keeps run.0 was at made refl refl refl (ap is_advance_letter bd)
     (omega (arith, ap is_advanced bd))
 small_next s past e laws run apt was (Hears t v answer bd at lt made) =
-    by_client s past e (with_answer t.0 (client_in s past)) (nudge s ∷ []) run.0 was at made refl refl refl
+    by_client s past e (with_answer t.0 (client_in s past)) (nudge s ∷ []) laws.keeps run.0 was at made refl refl refl
     (ap is_advance_letter bd) (omega (arith, ap is_advanced bd))
 small_next s past e laws run apt was (Ends v bd at made) =
     let few : (client_in s past).ended < 2 ^ 64 - 1 =
     omega (arith, was.ended, (has_room s past laws run.1 apt was).update) in
-    by_client s past e (with_end (client_in s past)) [] run.0 was at made refl refl refl (ap is_advance_letter bd)
-    (omega (arith, one_more_is (client_in s past).ended few, ap is_advanced bd))
+    by_client s past e (with_end s v (client_in s past)) [] laws.keeps run.0 was at made refl refl refl (ap is_advance_letter bd)
+    (omega (arith, ended_next s v (client_in s past) laws.keeps, one_more_is (client_in s past).ended few, ap is_advanced bd))
 small_next s past e laws run apt was (Coordinates tells at made) = by_coordinator s past e laws run apt was tells at made
 small_next s past e laws run apt was (Works p r work) =
     by_node s past e run.0 (omega (arith, work.brings.at, work.brings.below)) was (Works p r work)
@@ -508,7 +518,7 @@ small_next s past e laws run apt was (Obeys p out more at lt order state sent wo
 pub small : (s : ScriptData) (past : List Entry) → IsLawful s → IsStepRun s past → AllApt s past → IsSmall s past
 small s [] laws run apt = record {
   nodes = refl;
-  acks = omega (arith, laws.valid.some_nodes);
+  acks = omega (arith, laws.trees.valid.some_nodes);
   idle = λ idle. refl;
   asked = omega arith;
   ended = omega arith;
@@ -535,7 +545,7 @@ rounds_most s past laws run apt =
 -- nudges are at most as many as trees
 pub rounds_by_trees : (s : ScriptData) (past : List Entry) → IsLawful s → IsStepRun s past → AllApt s past
     → RoundsAreFew s past
-rounds_by_trees s past laws run apt = omega (arith, rounds_most s past laws run apt, laws.nudges past run apt)
+rounds_by_trees s past laws run apt = omega (arith, rounds_most s past laws run apt, laws.trees.nudges past run apt)
 
 -- and no advancement is lost
 pub advances_kept : (s : ScriptData) (past : List Entry) → IsLawful s → IsStepRun s past → AllApt s past → AdvancesAreKept s past

@@ -22,7 +22,7 @@ use Rattle.world_model.specs.Counts.{Each}
 use Rattle.world_model.specs.Runs.{node_in, in_flight, IsStepRun}
 use Rattle.world_model.specs.AllApt.{AllApt}
 use Rattle.world_model.proofs.Every.{each_map, each_step, each_taken}
-use Rattle.phase_laws.proofs.Lawful.{IsLawful}
+use Rattle.phase_laws.proofs.Lawful.{IsLawful, IsTreeLawful}
 use Rattle.world_model.proofs.Orders.{to_nodes_each}
 use Rattle.phase_laws.proofs.Balance.{apt_low_rises}
 use Rattle.phase_laws.proofs.CoordinatorCounts.{Always, coordinator_counts, count_in}
@@ -110,7 +110,7 @@ RowBody s past q (DoneRow w k row) =
     → slice_index row p ≤ (node_in s past q).counts.done w.0 p
 RowBody s past q _ = Unit {0}
 
-pub row_later : (s : ScriptData) (past : List Entry) (e : Entry) (q : ℕ) (body : Body) → IsLawful s
+pub row_later : (s : ScriptData) (past : List Entry) (e : Entry) (q : ℕ) (body : Body) → IsTreeLawful s
     → IsStepRun s (e ∷ past) → AllApt s (e ∷ past)
     → RowBody s past q body → RowBody s (e ∷ past) q body
 row_later s past e q (DoneRow w k row) laws run apt ok = λ hq p hp low.
@@ -149,7 +149,7 @@ rows_sent s past e (SendsOrders at rowless) =
     → RowBody s (e ∷ past) e.actor.0 o.body) e.sent
     (λ o none i. rowless_row s (e ∷ past) e.actor.0 o.body none) rowless
 
-pub rows_true : (s : ScriptData) (past : List Entry) → IsLawful s → IsStepRun s past → AllApt s past
+pub rows_true : (s : ScriptData) (past : List Entry) → IsTreeLawful s → IsStepRun s past → AllApt s past
     → Each (λ (l : Letter). RowBody s past l.from.0 l.body) (in_flight s past)
 rows_true s [] laws run apt = (tt, tt)
 rows_true s (e ∷ past) laws run apt =

@@ -3,7 +3,7 @@ use Rattle.std.proofs.Common.{◌≡◌, ◌≢◌, ◌⊎◌, inl, inr, ℕ, �
 use Rattle.std.proofs.lemmas.Bool.Decides.{nat_tests}
 use Rattle.tv_base.specs.declared.numbers.Version.{Version}
 use Rattle.letter_types.specs.declared.bodies.Body.{Body}
-use Rattle.letter_types.specs.declared.bodies.Body.TheVariants.{Go, Nudge, Advance, Turn, Show, Sweep, Turned, Shown, Swept, AskDone, AskAsked, DoneRow, AskedRow, Advanced}
+use Rattle.letter_types.specs.declared.bodies.Body.TheVariants.{Go, Nudge, Advance, Turn, Show, Sweep, Turned, Shown, Swept, AskDone, AskAsked, DoneRow, AskedRow, Advanced, AdvanceNo, Lose}
 use Rattle.letter_types.specs.declared.entries.Entry.{Entry}
 use Rattle.letter_types.specs.declared.entries.Letter.{Letter}
 use Rattle.letter_types.specs.declared.entries.Outgoing.{Outgoing}
@@ -21,7 +21,7 @@ use Rattle.world_model.proofs.Flows.{flow, flow_same, submit_none}
 use Rattle.phase_laws.proofs.Lawful.{IsLawful}
 use Rattle.world_model.proofs.Nexts.{MadeByClient, MadeByCoordinator, Tells}
 use Rattle.world_model.proofs.Orders.{coordinator_nodes}
-use Rattle.world_model.proofs.Sends.{on}
+use Rattle.world_model.proofs.Sends.{on, CountsNoRow}
 use Rattle.world_model.specs.AllApt.{AllApt}
 pub use Rattle.phase_laws.specs.Phases.{Stage, TurnStage, ShowStage, SweepStage, Told, token, count_in_flight, within}
 use Rattle.phase_laws.proofs.Letters.{NoTrees, Passes, keep_done_none, node_keeps, to_nodes_none, to_nodes_one}
@@ -235,6 +235,25 @@ advance_apart TurnStage = refl
 advance_apart ShowStage = refl
 advance_apart SweepStage = refl
 
+pub numbered_apart : (i : ℕ) → IsApart (AdvanceNo i)
+numbered_apart i TurnStage = refl
+numbered_apart i ShowStage = refl
+numbered_apart i SweepStage = refl
+
+pub lose_apart : IsApart Lose
+lose_apart TurnStage = refl
+lose_apart ShowStage = refl
+lose_apart SweepStage = refl
+
+-- none of the letters of the script's rows is a token
+pub token_rows : (g : Stage) → CountsNoRow (token g)
+token_rows g = record {
+  root = (token_passes g).sent.root;
+  advance = advance_apart g;
+  numbered = λ i. numbered_apart i g;
+  lose = lose_apart g;
+}
+
 pub nudge_apart : IsApart Nudge
 nudge_apart TurnStage = refl
 nudge_apart ShowStage = refl
@@ -397,7 +416,7 @@ told_by_client : (g : Stage) (s : ScriptData) (past : List Entry) (e : Entry) (c
 told_by_client g s past e c first m at made was quiet took =
     let sent : tally (on (token g)) e.sent ≡ 0 =
     ap (λ (os : List Outgoing). tally (on (token g)) os) made.sent
-    ∙ submit_none (token g) s c first quiet (token_passes g).sent.root (advance_apart g) in
+    ∙ submit_none (token g) s c first quiet (token_rows g) in
     kept_told g s past e (omega (arith, at)) was (flow_same (token g) s past e m took sent)
 
 told_by_node : (g : Stage) (s : ScriptData) (past : List Entry) (e : Entry) → MayFollow s past e → e.actor.0 < s.nodes
@@ -432,7 +451,7 @@ told_next g s past e laws run apt was (Hears t v answer bd at lt made) =
     (omega (arith, nudge_apart g))
     (ap (token g) bd ∙ (token_passes g).sent.reply t v answer)
 told_next g s past e laws run apt was (Ends v bd at made) =
-    told_by_client g s past e (with_end (client_in s past)) [] run.0 at made was refl
+    told_by_client g s past e (with_end s v (client_in s past)) [] run.0 at made was refl
     (apart_by e.took.body (Advanced v) bd (advanced_apart v) g)
 told_next g s past e laws run apt was (Coordinates tells at made) =
     told_by_coordinator g s past e laws run apt tells made was

@@ -1,7 +1,8 @@
 -- The greatest versions of which orders were sent so far, whatever became of them.
 use Rattle.std.specs.Prelude.{ℕ, ◌+◌, ◌<◌, ◌≤◌, ◌≡◌, ◌⊎◌, max, List, [], ◌∷◌}
 use Rattle.letter_types.specs.declared.bodies.Body.{Body}
-use Rattle.letter_types.specs.declared.bodies.Body.TheVariants.{Go, Turn, Show, Sweep}
+use Rattle.letter_types.specs.declared.bodies.Body.TheVariants.{Go, Turn, Show, Sweep, Order}
+use Rattle.letter_types.specs.declared.bodies.What.TheVariants as whats
 use Rattle.letter_types.specs.declared.entries.Entry.{Entry}
 use Rattle.letter_types.specs.declared.entries.Outgoing.{Outgoing}
 use Rattle.node_versions.specs.declared.turns.Turns.{Turns}
@@ -16,6 +17,9 @@ abbrev pub version_told : Stage → Body → ℕ
 version_told TurnStage (Turn v) = v.0
 version_told ShowStage (Show v) = v.0
 version_told SweepStage (Sweep v) = v.0
+version_told TurnStage (Order e whats.Turn v) = v.0
+version_told ShowStage (Order e whats.Show v) = v.0
+version_told SweepStage (Order e whats.Sweep v) = v.0
 version_told g _ = 0
 
 -- the greatest that goes out
@@ -34,10 +38,19 @@ abbrev pub greatest_given : Stage → List Entry → ℕ
 greatest_given g [] = first_given g
 greatest_given g (e ∷ past) = max (greatest_told g e.sent) (greatest_given g past)
 
--- a version is told that was told before, or the next one, which is quiet
+-- a version is shown, or swept to, that was before, or the next one, which is quiet
+abbrev pub IsShownAnew : ScriptData → List Entry → ℕ → Type 0
+IsShownAnew s past v = (v ≤ greatest_given ShowStage past) ⊎ ((v ≡ greatest_given ShowStage past + 1) × IsQuietForUpdates s past v)
+
+abbrev pub IsSweptAnew : ScriptData → List Entry → ℕ → Type 0
+IsSweptAnew s past v = (v ≤ greatest_given SweepStage past) ⊎ ((v ≡ greatest_given SweepStage past + 1) × IsQuietForReads s past v)
+
+-- what is told to nodes
 abbrev pub IsGivenAnew : ScriptData → List Entry → Body → Type 0
-IsGivenAnew s past (Show v) = (v.0 ≤ greatest_given ShowStage past) ⊎ ((v.0 ≡ greatest_given ShowStage past + 1) × IsQuietForUpdates s past v.0)
-IsGivenAnew s past (Sweep v) = (v.0 ≤ greatest_given SweepStage past) ⊎ ((v.0 ≡ greatest_given SweepStage past + 1) × IsQuietForReads s past v.0)
+IsGivenAnew s past (Show v) = IsShownAnew s past v.0
+IsGivenAnew s past (Sweep v) = IsSweptAnew s past v.0
+IsGivenAnew s past (Order e whats.Show v) = IsShownAnew s past v.0
+IsGivenAnew s past (Order e whats.Sweep v) = IsSweptAnew s past v.0
 IsGivenAnew s past Go = Unit {0}
 IsGivenAnew s past _ = Unit {0}
 

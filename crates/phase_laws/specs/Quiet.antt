@@ -1,7 +1,8 @@
 -- When a version is quiet, and which orders are given in quiet alone.
 use Rattle.std.specs.Prelude.{ℕ, ◌-◌, ◌<◌, ◌≤◌, ◌≡◌, List}
 use Rattle.letter_types.specs.declared.bodies.Body.{Body}
-use Rattle.letter_types.specs.declared.bodies.Body.TheVariants.{Show, Sweep}
+use Rattle.letter_types.specs.declared.bodies.Body.TheVariants.{Show, Sweep, Order}
+use Rattle.letter_types.specs.declared.bodies.What.TheVariants as whats
 use Rattle.letter_types.specs.declared.entries.Entry.{Entry}
 use Rattle.tx_trees.specs.ScriptData.{ScriptData}
 use Rattle.world_model.specs.Runs.{node_in}
@@ -25,4 +26,6 @@ pub record IsQuietForReads (s : ScriptData) (past : List Entry) (v : ℕ) : Type
 abbrev pub IsGivenInQuiet : ScriptData → List Entry → Body → Type 0
 IsGivenInQuiet s past (Show v) = IsQuietForUpdates s past v.0
 IsGivenInQuiet s past (Sweep v) = IsQuietForReads s past v.0
+IsGivenInQuiet s past (Order e whats.Show v) = IsQuietForUpdates s past v.0
+IsGivenInQuiet s past (Order e whats.Sweep v) = IsQuietForReads s past v.0
 IsGivenInQuiet s past _ = Unit {0}
