@@ -162,9 +162,8 @@ at_once s past e valid run (NodeKeeps p r k d) =
     (subst (Answers s (places_of (reverse past)) p r.body) (sym d.acts)
     (keeping_answers s (places_of (reverse past)) p r.body (keeping_in s past p).core k d.keeps
     (brought_meets s past e p r valid run d.brings)))
-at_once s past e valid run (Coordinates at says) =
-    other_at_once s past e valid run (omega (arith, at))
-    (ap parkings (says.1 ∙ no_acts (coordinator_in s past) e.took.from.0 e.took.body))
+at_once s past e valid run (Coordinates at made) =
+    other_at_once s past e valid run (omega (arith, at)) (ap parkings made.acts)
 at_once s past e valid run (Submits at says) =
     other_at_once s past e valid run (omega (arith, at))
     (none_parks e.acts

@@ -13,7 +13,7 @@ use Rattle.world_model.proofs.Every.{each_map, each_none, each_zero}
 use Rattle.phase_laws.specs.Balance.{goes_between, out, version_is}
 use Rattle.phase_laws.proofs.Balance.{balanced_at}
 use Rattle.phase_laws.proofs.Moves.{uncounted_goes}
-use Rattle.run_laws.proofs.EveryApt.{all_apt, lawful}
+use Rattle.run_laws.proofs.EveryApt.{all_apt, governed}
 use Rattle.run_laws.proofs.Measures.{of_trees}
 
 -- a letter that isn't of a tree that is born isn't counted
@@ -37,4 +37,4 @@ pub balances : (s : ScriptData) (past : List Entry) → IsValid s → IsStepRun 
     → (v p q : ℕ) → p < s.nodes → q < s.nodes → (node_in s past p).turns.low.0 ≤ v → (node_in s past q).turns.low.0 ≤ v
     → (node_in s past p).counts.asked v q ≡ (node_in s past q).counts.done v p
 balances s past valid run none v p q lp lq low_p low_q =
-    omega (arith, balanced_at s past v p q (lawful s valid) run (all_apt s past valid run) lp lq low_p low_q, out_none s past v p q none)
+    omega (arith, ((governed s valid).balanced past run (all_apt s past valid run)).equal v p q lp lq low_p low_q, out_none s past v p q none)

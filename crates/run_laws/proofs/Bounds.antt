@@ -1,12 +1,14 @@
 -- How many entries a run has at most, in every script.
 use Rattle.std.proofs.Common.{◌≡◌, ℕ, zero, suc, ◌+◌, ◌*◌, ◌<◌, ◌≤◌, ◌==◌, ◌&&◌, Bool, true, false, List, [], ◌∷◌, length, refl, sym, ap, subst, ◌∙◌, arith, Option, Some, None}
 use Rattle.std.specs.Prelude.{if◌then◌else◌, slice_get}
+use Rattle.std.proofs.Math.Nat.{mul-le-mul_left}
 use Rattle.std.proofs.lemmas.Bool.{eqb-true, not-false}
 use Rattle.std.proofs.lemmas.Bool.Decides.{nat_tests}
+use Rattle.std.proofs.lemmas.Nat.{mul-le}
 use Rattle.tv_base.specs.declared.numbers.TreeNo.{TreeNo}
-use Rattle.letter_types.specs.Kept.{kept_without, wakes, wakes_by}
+use Rattle.letter_types.specs.Kept.{kept_without, wakes}
 use Rattle.letter_types.specs.declared.bodies.Body.{Body}
-use Rattle.letter_types.specs.declared.bodies.Body.TheVariants.{Go, Root, Sub as SubLetter, Done, Reply, Nudge, Advance, Advanced, Decide, Decided, Release, Wake, Turn, Show, Sweep, Turned, Shown, Swept, AskDone, AskAsked, DoneRow, AskedRow}
+use Rattle.letter_types.specs.declared.bodies.Body.TheVariants.{Go, Root, Sub as SubLetter, Done, Reply, Nudge, Advance, Advanced, Decide, Decided, Release, Wake, Turn, Show, Sweep, Turned, Shown, Swept, AskDone, AskAsked, DoneRow, AskedRow, Order, Ask, Lose, AdvanceNo, Numbers, Wanted, Obeyed}
 use Rattle.letter_types.specs.declared.entries.Entry.{Entry}
 use Rattle.letter_types.specs.declared.entries.Letter.{Letter}
 use Rattle.letter_types.specs.declared.entries.Outgoing.{Outgoing}
@@ -15,7 +17,7 @@ use Rattle.script_parts.specs.ScriptData.{is_strict, is_update, updates}
 use Rattle.script_parts.specs.declared.parts.Tree.{Tree}
 use Rattle.script_parts.specs.declared.parts.TreeKind.{TreeKind}
 use Rattle.script_parts.specs.declared.parts.TreeKind.TheVariants.{Read, Strict, Update}
-use Rattle.tx_trees.specs.Counts.{advances_in, all_subs}
+use Rattle.tx_trees.specs.Counts.{advances_in, all_subs, loses_in}
 use Rattle.tx_trees.specs.ScriptData.{ScriptData, subs_at}
 use Rattle.tx_trees.specs.Valid.{IsValid}
 use Rattle.script_parts.proofs.SubsOf.{few_nodes}
@@ -43,20 +45,23 @@ use Rattle.phase_laws.specs.Advances.{asked_for, running}
 use Rattle.phase_laws.proofs.Brought.{sub_node_below}
 use Rattle.phase_laws.proofs.Small.{asked_most, rounds_by_trees, small}
 use Rattle.tree_laws.specs.Dids.{asks, is_go, letters_asking, replies_to, tells_done}
-use Rattle.tree_laws.specs.Entries.{entries_most, entries_of, if_strict, strict_entries, strict_subs}
+use Rattle.tree_laws.specs.Entries.{entries_most, entries_of, if_strict, lossy_entries, strict_entries, strict_subs}
 use Rattle.tree_laws.specs.Turns.{turns}
 use Rattle.tree_laws.proofs.AptLawful.{nudges_few}
-use Rattle.tree_laws.proofs.AptStagesApart.{CountsNoOthers, client_none, coordinator_none}
+use Rattle.tree_laws.proofs.AptStagesApart.{CountsNoOthers, client_none, coordinator_none, none_of_others}
 use Rattle.tree_laws.proofs.AptStagesSteps.{sent_tells, tells_of, told, turned_by}
 use Rattle.tree_laws.proofs.AptSteps.{Enters, enters, strays, wakes_none}
 use Rattle.tree_laws.proofs.AptTurns.{turns_at_most_once, turns_come_once}
 use Rattle.tree_laws.proofs.Entries.{all_subs_here, is_reply, is_work, some_subs, subs_at_here, taken_in, taken_over, taken_replies, work_hit, work_none}
 use Rattle.tree_laws.proofs.Sums.{over, over_hit, over_none}
 use Rattle.run_laws.proofs.Costs.{is_apart, paid, stages}
+use Rattle.run_laws.proofs.CostsAnew.{aparts_anew}
 use Rattle.run_laws.proofs.EveryApt.{all_apt, lawful}
-use Rattle.run_laws.proofs.SentFew.{ack_of, acks_few, answered_once, decide_of, decides_few, no_others, release_of, releases_few, taken_sent}
+use Rattle.run_laws.proofs.SentFew.{ack_of, acks_few, answered_once, decide_of, decides_few, release_of, releases_few, taken_sent}
 use Rattle.run_laws.proofs.Stopping.{took_meant}
 use Rattle.run_laws.proofs.WakesFew.{over_most, read_wakes, root_wakes, sent_in, strict_wakes, update_wakes, wake_of}
+use Rattle.world_model.specs.Keeping.{woken_by}
+use Rattle.world_model.specs.Lossy.{is_lossy}
 
 -- Sums.
 over_few : {X : Type 0} (i : ℕ) (f : ℕ → ℕ) (xs : List X) → ((k : ℕ) → i ≤ k → k < i + length xs → f k ≤ 1) → over i f xs ≤ length xs
@@ -151,7 +156,13 @@ one_kind s from to (Decide t v commit) meant = refl
 one_kind s from to (Decided t v) meant = refl
 one_kind s from to (Release t) meant = refl
 one_kind s from to (Wake t k) meant = refl
-one_kind s from to _ meant = absurd meant
+one_kind s from to Lose meant = refl
+one_kind s from to (AdvanceNo i) meant = refl
+one_kind s from to (Ask e) meant = refl
+one_kind s from to (Numbers e u r l) meant = refl
+one_kind s from to (Wanted e k) meant = refl
+one_kind s from to (Order e what v) meant = refl
+one_kind s from to (Obeyed e what v) meant = refl
 
 pub counted : (s : ScriptData) (past : List Entry) → IsValid s → IsStepRun s past
     → length past
@@ -268,7 +279,7 @@ notes_sent s past e t k n =
       arith,
       n.sends (on (tells_done t k)) (tells_of t k),
       sent_tells s t k n.version n.notice n.body,
-      roots_none (tells_done t k) s n.rows (λ u. refl) refl,
+      roots_none (tells_done t k) s n.before n.rows (record { root = λ u. refl; advance = refl; numbered = λ i. refl; lose = refl }),
     )
 
 notes_most : (s : ScriptData) (past : List Entry) (t k : ℕ) → IsValid s → IsStepRun s past → sent_in (tells_done t k) past ≤ turns past t k
@@ -344,27 +355,34 @@ stages_most (Paused false) = omega arith
 stages_most Showing = omega arith
 stages_most Sweeping = omega arith
 
-mul_le : (m a b : ℕ) → a ≤ b → m * a ≤ m * b
-mul_le zero a b le = omega arith
-mul_le (suc m) a b le = omega (arith, le, mul_le m a b le)
-
 apart_most : (n a t u run stage round asked x : ℕ) → x + 6 * n + 1 ≤ asked + (u * (6 * n + 1) + 2 * n * stage + 4 * n * round)
     → u + run ≤ a + 1 → asked ≤ a → stage ≤ 3 * run → round ≤ 2 * a + t → x ≤ a * (2 + 6 * n) + 4 * n * (2 * a + t)
 apart_most n a t u run stage round asked x is up most few rounds =
-    let one : 2 * n * stage ≤ 2 * n * (3 * run) = mul_le (2 * n) stage (3 * run) few in
-    let two : (6 * n + 1) * (u + run) ≤ (6 * n + 1) * (a + 1) = mul_le (6 * n + 1) (u + run) (a + 1) up in
-    let three : 4 * n * round ≤ 4 * n * (2 * a + t) = mul_le (4 * n) round (2 * a + t) rounds in
+    let one : 2 * n * stage ≤ 2 * n * (3 * run) = mul-le-mul_left (2 * n) few in
+    let two : (6 * n + 1) * (u + run) ≤ (6 * n + 1) * (a + 1) = mul-le-mul_left (6 * n + 1) up in
+    let three : 4 * n * round ≤ 4 * n * (2 * a + t) = mul-le-mul_left (4 * n) rounds in
     omega (arith, is, one, two, three, most)
 
-aparts_most : (s : ScriptData) (past : List Entry) → IsValid s → IsStepRun s past
+aparts_kept : (s : ScriptData) (past : List Entry) → IsValid s → is_lossy s ≡ false → IsStepRun s past
     → taken_in is_apart past ≤ advances_in s.rows * (2 + 6 * s.nodes) + 4 * s.nodes * (2 * advances_in s.rows + length s.trees)
-aparts_most s past valid run =
+aparts_kept s past valid keeps run =
     let c = coordinator_in s past in
-    let now = small s past (lawful s valid) run (all_apt s past valid run) in
+    let now = small s past (lawful s valid keeps) run (all_apt s past valid run) in
     let most : asked_for s past ≤ advances_in s.rows = asked_most (client_in s past).next s.rows in
     apart_most s.nodes (advances_in s.rows) (length s.trees) c.update (running c.phase) (stages c.phase) c.round (asked_for s past) (taken_in is_apart past)
-    (omega (arith, paid s past valid run)) (omega (arith, now.asked, most)) most (stages_most c.phase)
-    (rounds_by_trees s past (lawful s valid) run (all_apt s past valid run))
+    (omega (arith, paid s past valid keeps run)) (omega (arith, now.asked, most)) most (stages_most c.phase)
+    (rounds_by_trees s past (lawful s valid keeps) run (all_apt s past valid run))
+
+-- of either coordinator
+aparts_most : (s : ScriptData) (past : List Entry) → IsValid s → IsStepRun s past
+    → taken_in is_apart past
+    ≤ advances_in s.rows * (2 + 6 * s.nodes) + 4 * s.nodes * (2 * advances_in s.rows + length s.trees) + lossy_entries s
+aparts_most s past valid run = by (is_lossy s) refl where
+  by : (loses : Bool) → is_lossy s ≡ loses
+      → taken_in is_apart past
+      ≤ advances_in s.rows * (2 + 6 * s.nodes) + 4 * s.nodes * (2 * advances_in s.rows + length s.trees) + lossy_entries s
+  by true is = aparts_anew s past valid is run
+  by false is = omega (arith, aparts_kept s past valid is run)
 
 -- The client begins once.
 abbrev IsNoGo : ℕ → Body → Type 0
@@ -393,25 +411,28 @@ row_go s c (Show v) = refl
 row_go s c (Sweep v) = refl
 row_go s c (AskDone v j) = λ row is. refl
 row_go s c (AskAsked v j) = λ row is. refl
+row_go s c (Order e what v) = refl
+row_go s c (Ask e) = λ u r l. refl
 row_go s c _ = tt
 
 go_no_others : CountsNoOthers is_go
-go_no_others = no_others is_go (λ u. refl) refl refl (λ v. (refl, (refl, refl))) (λ v k. (refl, refl)) (λ v. refl)
+go_no_others =
+    none_of_others is_go (λ u. refl) (λ v. (refl, (refl, refl))) (λ e what v. (refl, refl)) (λ v k. (refl, refl)) (λ v. refl)
+    (refl, (refl, refl)) (λ e k. (refl, refl))
 
 entry_go : (s : ScriptData) (past : List Entry) (e : Entry) → Case s past e → tally (on is_go) e.sent ≡ 0
 entry_go s past e (NodeDoes p r d) =
     let c : Core = (keeping_in s past p).core in
-    let more : List Outgoing = wakes (wakes_by r.body) (kept_without (kept_in s past p) e.took.body) in
+    let more : List Outgoing = wakes (woken_by (keeping_in s past p).core r.body) (kept_without (kept_in s past p) e.took.body) in
     omega (
       arith,
       ap (λ (os : List Outgoing). tally (on is_go) os) d.sent,
       tally-append (on is_go) (core_row s p c r.from.0 r.body).sent more,
-      wakes_none (on is_go) (wakes_by r.body) (kept_without (kept_in s past p) e.took.body) (λ x. refl),
+      wakes_none (on is_go) (woken_by (keeping_in s past p).core r.body) (kept_without (kept_in s past p) e.took.body) (λ x. refl),
       each_none (on is_go) (core_row s p c r.from.0 r.body).sent (core_each IsNoGo s p r.from.0 r.body c (row_go s c r.body)),
     )
 entry_go s past e (NodeKeeps p r o d) = ap (λ (os : List Outgoing). tally (on is_go) os) d.sent
-entry_go s past e (Coordinates at says) =
-    ap (λ (os : List Outgoing). tally (on is_go) os) says.0 ∙ coordinator_none is_go (coordinator_in s past) e.took go_no_others
+entry_go s past e (Coordinates at made) = coordinator_none is_go s e made go_no_others
 entry_go s past e (Submits at says) =
     ap (λ (os : List Outgoing). tally (on is_go) os) says.0 ∙ client_none is_go s (client_in s past) e.took.body go_no_others
 
@@ -642,8 +663,10 @@ entries_few s past valid run =
       some_subs s.nodes s.items s.trees valid.trees,
     )
 
--- In a script without strict trees that is what two rounds for each advancement and one for each tree make.
-pub plain_most : (s : ScriptData) → has_strict s ≡ false → entries_most s ≡ entries_of s (2 * advances_in s.rows + length s.trees)
+-- In a script without strict trees that is what two rounds for each advancement and one for each tree make, and what forgetting
+-- adds.
+pub plain_most : (s : ScriptData) → has_strict s ≡ false
+    → entries_most s ≡ entries_of s (2 * advances_in s.rows + length s.trees) + lossy_entries s
 plain_most s none = rw none (omega arith)
 
 -- By the limits of scripts that is a small number.
@@ -663,13 +686,17 @@ strict_small s valid = by (has_strict s) where
       else 0)
       ≤ 1300000
   by true =
-      let roots = mul_le (strict_trees s.trees) (advances_in s.rows) 100 valid.limited.advances in
+      let roots = mul-le-mul_left (strict_trees s.trees) valid.limited.advances in
       omega (arith, kinds_split s.trees, valid.limited.subs, valid.limited.pairs, valid.limited.strict, roots)
   by false = omega arith
 
+lossy_small : (s : ScriptData) → IsValid s → lossy_entries s ≤ 64400
+lossy_small s valid =
+    mul-le (loses_in s.rows) (10 * s.nodes + 4) 100 644 valid.limited.loses (omega (arith, few_nodes s valid))
+
 most_small : (s : ScriptData) → IsValid s → entries_most s ≤ 3000000
 most_small s valid =
-    let each = mul_le s.nodes (advances_in s.rows) 100 valid.limited.advances in
+    let each = mul-le-mul_left s.nodes valid.limited.advances in
     omega (
       arith,
       each,
@@ -679,6 +706,7 @@ most_small s valid =
       valid.limited.advances,
       valid.limited.places,
       strict_small s valid,
+      lossy_small s valid,
     )
 
 pub entries_small : (s : ScriptData) (past : List Entry) → IsValid s → IsStepRun s past → length past ≤ 3000000

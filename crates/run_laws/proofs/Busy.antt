@@ -25,7 +25,7 @@ use Rattle.world_model.proofs.Bags.{one_if_same}
 use Rattle.strict_laws.specs.Meant.{IsLetterMeant, IsMeant}
 use Rattle.strict_laws.proofs.Meant.{letters_are_meant}
 use Rattle.strict_laws.proofs.MeantRows.{root_below, strict_below}
-use Rattle.phase_laws.proofs.Progress.{Begins, Coordinates, Ends, Hears, Obeys, Progress, Works, progress}
+use Rattle.phase_laws.proofs.ClientSteps.{Aside, Begins, ClientStep, Ends, Hears, Tells, client_step}
 use Rattle.tree_laws.specs.Dids.{letters_asking, asks, answers, is_row_of, notices, roots_sent, tells_done}
 use Rattle.tree_laws.specs.Stages.{StageAt, Answered, Gathers, Holds, Unborn, decides, decisions}
 use Rattle.tree_laws.specs.Turns.{has_turn, turns}
@@ -127,21 +127,19 @@ hears_busy s past e t valid m lt made =
       with_answer_less s past (client_in s past) t valid lt,
     )
 
-busy_next : (s : ScriptData) (past : List Entry) (e : Entry) → IsValid s → MayFollow s past e → Progress s past e
+busy_next : (s : ScriptData) (past : List Entry) (e : Entry) → IsValid s → MayFollow s past e → ClientStep s past e
     → busy s past ≤ busy s (e ∷ past) + nudges e.took.body
-busy_next s past e valid m (Begins bd at made) = submits_busy s past e (client_in s past) m refl made
-busy_next s past e valid m (Hears t v answer bd at lt made) = hears_busy s past e t.0 valid m lt made
-busy_next s past e valid m (Ends v bd at made) = submits_busy s past e (with_end (client_in s past)) m refl made
-busy_next s past e valid m (Coordinates tells at made) = kept_busy s past e m (client_kept s past e (omega (arith, at)))
-busy_next s past e valid m (Works p r w) = kept_busy s past e m (client_kept s past e (omega (arith, w.brings.at, w.brings.below)))
-busy_next s past e valid m (Obeys p out more at lt order state sent woken) =
-    kept_busy s past e m (client_kept s past e (omega (arith, at, lt)))
+busy_next s past e valid m (Begins bd made) = submits_busy s past e (client_in s past) m refl made
+busy_next s past e valid m (Hears t v answer bd lt made) = hears_busy s past e t.0 valid m lt made
+busy_next s past e valid m (Ends v bd made) = submits_busy s past e (with_end s v (client_in s past)) m refl made
+busy_next s past e valid m (Tells n bd loses made) = kept_busy s past e m made.state
+busy_next s past e valid m (Aside ne) = kept_busy s past e m (client_kept s past e ne)
 
 -- busyness falls only by a nudge that is taken
 pub busy_step : (s : ScriptData) (past : List Entry) (e : Entry) → IsValid s → IsStepRun s (e ∷ past)
     → busy s past ≤ busy s (e ∷ past) + nudges e.took.body
 busy_step s past e valid run =
-    busy_next s past e valid run.0 (progress s past e (lawful s valid) (all_apt s (e ∷ past) valid run) run)
+    busy_next s past e valid run.0 (client_step s past e valid run)
 
 -- a nudge is for the coordinator
 nudge_at : (s : ScriptData) (from to : ℕ) (body : Body) → IsMeant s from to body → to ≢ s.nodes → nudges body ≡ 0

@@ -3,7 +3,8 @@ use Rattle.std.proofs.Common.{◌≡◌, ◌⊎◌, inl, inr, ℕ, ◌+◌, ◌<
 use Rattle.std.specs.Prelude.{slice_get}
 use Rattle.tv_base.specs.declared.numbers.Version.{Version}
 use Rattle.letter_types.specs.declared.bodies.Body.{Body}
-use Rattle.letter_types.specs.declared.bodies.Body.TheVariants.{Go, Show, Sweep}
+use Rattle.letter_types.specs.declared.bodies.Body.TheVariants.{Go, Order, Show, Sweep}
+use Rattle.letter_types.specs.declared.bodies.What.TheVariants as whats
 use Rattle.letter_types.specs.declared.entries.Entry.{Entry}
 use Rattle.letter_types.specs.declared.entries.Letter.{Letter}
 use Rattle.world_model.specs.Coordinator.{Coordinator, coordinator_row}
@@ -21,12 +22,12 @@ use Rattle.world_model.proofs.Scripts.{get_below}
 use Rattle.tree_laws.proofs.Histories.{places_more}
 use Rattle.phase_laws.specs.Phases.{ShowStage, SweepStage}
 use Rattle.phase_laws.proofs.Advancing.{IsOrderGiven, given_rises}
-use Rattle.run_laws.specs.Shown.{IsBackedBy, IsClosedBy}
+use Rattle.run_laws.specs.Shown.{IsBackedBy, IsClosedBy, NoReadCame, NoWriterCame, ReadsAreWhole, WritersAreWhole}
 use Rattle.run_laws.proofs.InTime.{advancing_run}
 use Rattle.run_laws.proofs.Reached.{born_above, now_below, whole_run}
 use Rattle.run_laws.proofs.Wholes.{born_split, born_with, is_of_kind}
 
-read_there : (s : ScriptData) (t : ℕ) (found : Option Tree) → slice_get s.trees t ≡ found
+pub read_there : (s : ScriptData) (t : ℕ) (found : Option Tree) → slice_get s.trees t ≡ found
     → (elim found [ Some tree ↦ is_read tree.kind | None ↦ false ]) ≡ true → t < length s.trees
 read_there s t None is read = absurd (cc read)
 read_there s t (Some tree) is read = get_below s.trees t tree is
@@ -35,12 +36,17 @@ read_there s t (Some tree) is read = get_below s.trees t tree is
 abbrev Bounds : ScriptData → List Entry → Body → Type 0
 Bounds s past (Show v) = v.0 < now_below false s past
 Bounds s past (Sweep v) = v.0 ≤ now_below true s past
+Bounds s past (Order e whats.Show v) = v.0 < now_below false s past
+Bounds s past (Order e whats.Sweep v) = v.0 ≤ now_below true s past
 Bounds s past Go = Unit {0}
 Bounds s past _ = Unit {0}
 
 bounds_of : (s : ScriptData) (past : List Entry) (b : Body) → IsOrderGiven past b → Bounds s past b
 bounds_of s past (Show v) of = omega (arith, of)
 bounds_of s past (Sweep v) of = of
+bounds_of s past (Order e whats.Turn v) of = tt
+bounds_of s past (Order e whats.Show v) of = omega (arith, of)
+bounds_of s past (Order e whats.Sweep v) of = of
 bounds_of s past Go of = tt
 bounds_of s past _ of = tt
 
@@ -51,11 +57,22 @@ all_bounds s past valid run =
     (λ l of. bounds_of s past l.body of) (advancing_run s past valid run).orders
 
 -- so the trees after it are whole
-backed : (s : ScriptData) (past : List Entry) (b : Body) → IsValid s → IsStepRun s past → Bounds s past b → IsBackedBy s (reverse past) b
-backed s past (Show v) valid run bound = λ t w there writes born le.
+writers_whole : (s : ScriptData) (past : List Entry) (v : Version) → IsValid s → IsStepRun s past → v.0 < now_below false s past
+    → WritersAreWhole s (reverse past) v.0
+writers_whole s past v valid run bound = λ t w there writes born le.
     whole_run false s past valid run t w there (ap not writes) born (omega (arith, bound, le))
-backed s past (Sweep v) valid run bound = λ t w read born lt.
+
+reads_whole : (s : ScriptData) (past : List Entry) (v : Version) → IsValid s → IsStepRun s past → v.0 ≤ now_below true s past
+    → ReadsAreWhole s (reverse past) v.0
+reads_whole s past v valid run bound = λ t w read born lt.
     whole_run true s past valid run t w (read_there s t (slice_get s.trees t) refl read) read born (omega (arith, bound, lt))
+
+backed : (s : ScriptData) (past : List Entry) (b : Body) → IsValid s → IsStepRun s past → Bounds s past b → IsBackedBy s (reverse past) b
+backed s past (Show v) valid run bound = writers_whole s past v valid run bound
+backed s past (Sweep v) valid run bound = reads_whole s past v valid run bound
+backed s past (Order e whats.Turn v) valid run bound = tt
+backed s past (Order e whats.Show v) valid run bound = writers_whole s past v valid run bound
+backed s past (Order e whats.Sweep v) valid run bound = reads_whole s past v valid run bound
 backed s past Go valid run bound = tt
 backed s past _ valid run bound = tt
 
@@ -97,12 +114,22 @@ none_came kind s past (e ∷ later) t w valid run of lt born =
     came_by kind s past later e t w valid run of lt (λ old. none_came kind s past later t w valid run.1 of lt old)
     (born_split t (places_of (reverse (later ++ past))) (places_at e) w (sym (ap (version_in t) (places_more e (later ++ past))) ∙ born))
 
+no_writer : (s : ScriptData) (past later : List Entry) (v : Version) → IsValid s → IsStepRun s (later ++ past) → v.0 < now_below false s past
+    → NoWriterCame s (reverse past) (reverse (later ++ past)) v.0
+no_writer s past later v valid run bound = λ t w there writes born le.
+    none_came false s past later t w valid run (ap not writes) (omega (arith, bound, le)) born
+
+no_read : (s : ScriptData) (past later : List Entry) (v : Version) → IsValid s → IsStepRun s (later ++ past) → v.0 ≤ now_below true s past
+    → NoReadCame s (reverse past) (reverse (later ++ past)) v.0
+no_read s past later v valid run bound = λ t w read born lt. none_came true s past later t w valid run read (omega (arith, bound, lt)) born
+
 closed_by : (s : ScriptData) (past later : List Entry) (b : Body) → IsValid s → IsStepRun s (later ++ past) → Bounds s past b
     → IsClosedBy s (reverse past) (reverse (later ++ past)) b
-closed_by s past later (Show v) valid run bound = λ t w there writes born le.
-    none_came false s past later t w valid run (ap not writes) (omega (arith, bound, le)) born
-closed_by s past later (Sweep v) valid run bound = λ t w read born lt.
-    none_came true s past later t w valid run read (omega (arith, bound, lt)) born
+closed_by s past later (Show v) valid run bound = no_writer s past later v valid run bound
+closed_by s past later (Sweep v) valid run bound = no_read s past later v valid run bound
+closed_by s past later (Order e whats.Turn v) valid run bound = tt
+closed_by s past later (Order e whats.Show v) valid run bound = no_writer s past later v valid run bound
+closed_by s past later (Order e whats.Sweep v) valid run bound = no_read s past later v valid run bound
 closed_by s past later Go valid run bound = tt
 closed_by s past later _ valid run bound = tt
 

@@ -8,7 +8,7 @@ use Rattle.letter_types.specs.declared.entries.Letter.{Letter}
 use Rattle.letter_types.specs.declared.entries.Outgoing.{Outgoing}
 use Rattle.phase_out.specs.Rounds.{NodeRows}
 use Rattle.script_parts.specs.Counts.{has_strict}
-use Rattle.world_model.specs.Client.{Client, nudge, rows_letters, submit, submitted, with_answer, with_end}
+use Rattle.world_model.specs.Client.{Client, nudge, rows_letters, submit, submitted, with_answer, with_end, advances_sent}
 use Rattle.world_model.specs.Coordinator.{Coordinator, coordinator_row}
 use Rattle.world_model.specs.declared.phase.Phase.{Phase}
 use Rattle.world_model.specs.declared.phase.Phase.TheVariants.{Idle, Turning, Counting, Paused, Showing, Sweeping}
@@ -37,7 +37,6 @@ use Rattle.tree_laws.specs.Entries.{entries_of, rounds_in, strict_entries}
 use Rattle.tree_laws.specs.Stages.{StageAt, IsAnswered, Answered, Gathers, Holds, Unborn}
 use Rattle.tree_laws.specs.Turns.{turns}
 use Rattle.tree_laws.proofs.AptLawful.{heard_were_sent}
-use Rattle.tree_laws.proofs.AptStagesApart.{orders_none}
 use Rattle.tree_laws.proofs.AptStagesRun.{stages_of_trees}
 use Rattle.tree_laws.proofs.AptStagesSteps.{told, turned_by}
 use Rattle.tree_laws.proofs.AptSteps.{enters}
@@ -47,13 +46,15 @@ use Rattle.tree_laws.proofs.Sent.{rooted_once}
 use Rattle.tree_laws.proofs.Sums.{over, over_add, over_ones, over_same}
 use Rattle.run_laws.proofs.Bounds.{asks_sent, counted, is_note, no_go, note_by_tree, notes_root, notes_sent, reply_by_tree, strict_few, taken_same, work_by_tree}
 use Rattle.run_laws.proofs.Busy.{no_nudge}
-use Rattle.run_laws.proofs.Costs.{cost, is_apart, paid, stages, unasked}
+use Rattle.epoch_laws.proofs.Prices.{price}
+use Rattle.run_laws.proofs.Costs.{is_apart, paid, stages, unasked}
 use Rattle.run_laws.proofs.Ends.{all_rows, answered_now, ended_all, idle}
 use Rattle.run_laws.proofs.EveryApt.{all_apt, lawful}
 use Rattle.run_laws.proofs.Measures.{nudges}
 use Rattle.run_laws.proofs.SentFew.{taken_sent}
 use Rattle.run_laws.proofs.Stopping.{took_meant}
 use Rattle.run_laws.proofs.WakesFew.{sent_in}
+use Rattle.world_model.specs.Lossy.{is_lossy}
 
 -- Where no letter is in flight, all that was sent was taken.
 none_flies : (f : Body → ℕ) (s : ScriptData) (past : List Entry) → in_flight s past ≡ [] → count_in_flight f s past ≡ 0
@@ -69,9 +70,9 @@ answered_of s past t some (Gathers h g) = absurd (omega (arith, some, g.answers)
 answered_of s past t some (Holds h g) = absurd (omega (arith, some, g.answers))
 answered_of s past t some (Answered a) = a
 
-answered_all : (s : ScriptData) (past : List Entry) (t : ℕ) → IsValid s → IsStepRun s past → in_flight s past ≡ [] → t < length s.trees
+answered_all : (s : ScriptData) (past : List Entry) (t : ℕ) → IsValid s → is_lossy s ≡ false → IsStepRun s past → in_flight s past ≡ [] → t < length s.trees
     → IsAnswered s past t
-answered_all s past t valid run empty lt =
+answered_all s past t valid keeps run empty lt =
     let rows : roots_sent t (take (client_in s past).next s.rows) ≡ roots_sent t s.rows =
     ap (λ (xs : List ScriptRow). roots_sent t xs) (all_rows s past valid run empty) in
     let row : 1 ≤ roots_sent t (take (client_in s past).next s.rows) =
@@ -80,31 +81,31 @@ answered_all s past t valid run empty lt =
     answered_of s past t (omega (arith, heard_were_sent s past t run, heard)) (stages_of_trees s past valid (all_apt s past valid run) run t lt)
 
 -- So each of its subtransactions was asked for once,
-asked_once : (s : ScriptData) (past : List Entry) (t k : ℕ) → IsValid s → IsStepRun s past → in_flight s past ≡ [] → t < length s.trees
+asked_once : (s : ScriptData) (past : List Entry) (t k : ℕ) → IsValid s → is_lossy s ≡ false → IsStepRun s past → in_flight s past ≡ [] → t < length s.trees
     → k < length (subs_at s t) → taken_in (asks t k) past ≡ 1
-asked_once s past t k valid run empty lt kt =
+asked_once s past t k valid keeps run empty lt kt =
     let sub : SubAt s t k = sub_there s t k lt kt in
     omega (
       arith,
       taken_all (asks t k) s past run empty,
       asks_sent s past t k valid run,
-      (answered_all s past t valid run empty lt).all.turned k kt,
+      (answered_all s past t valid keeps run empty lt).all.turned k kt,
       turns_come_once s past t k sub.sub valid (all_apt s past valid run) run (sub_here s t k sub),
     )
 
-tree_works : (s : ScriptData) (past : List Entry) (t : ℕ) → IsValid s → IsStepRun s past → in_flight s past ≡ [] → t < length s.trees
+tree_works : (s : ScriptData) (past : List Entry) (t : ℕ) → IsValid s → is_lossy s ≡ false → IsStepRun s past → in_flight s past ≡ [] → t < length s.trees
     → taken_in (asks_in s t) past ≡ length (subs_at s t)
-tree_works s past t valid run empty lt =
+tree_works s past t valid keeps run empty lt =
     taken_over (asks t) (subs_at s t) past
-    ∙ over_ones 0 (λ k. taken_in (asks t k) past) (subs_at s t) (λ k from kt. asked_once s past t k valid run empty lt (omega (arith, kt)))
+    ∙ over_ones 0 (λ k. taken_in (asks t k) past) (subs_at s t) (λ k from kt. asked_once s past t k valid keeps run empty lt (omega (arith, kt)))
 
-works_taken : (s : ScriptData) (past : List Entry) → IsValid s → IsStepRun s past → in_flight s past ≡ []
+works_taken : (s : ScriptData) (past : List Entry) → IsValid s → is_lossy s ≡ false → IsStepRun s past → in_flight s past ≡ []
     → taken_in is_work past ≡ all_subs s.trees
-works_taken s past valid run empty =
+works_taken s past valid keeps run empty =
     taken_same is_work (λ b. over 0 (λ t. asks_in s t b) s.trees) s past valid run (work_by_tree s valid)
     ∙ (taken_over (asks_in s) s.trees past
     ∙ (over_same 0 (λ t. taken_in (asks_in s t) past) (λ t. length (subs_at s t)) s.trees
-    (λ t from lt. tree_works s past t valid run empty (omega (arith, lt))) ∙ all_subs_here s))
+    (λ t from lt. tree_works s past t valid keeps run empty (omega (arith, lt))) ∙ all_subs_here s))
 
 -- and each but the root told once that it is done.
 told_asks : (t k : ℕ) (b : Body) → 0 < k → told t k b ≡ asks t k b
@@ -132,14 +133,14 @@ notes_made s (e ∷ past) t k valid run some =
       turned_by s past e t k n,
     )
 
-told_once : (s : ScriptData) (past : List Entry) (t k : ℕ) → IsValid s → IsStepRun s past → in_flight s past ≡ [] → t < length s.trees
+told_once : (s : ScriptData) (past : List Entry) (t k : ℕ) → IsValid s → is_lossy s ≡ false → IsStepRun s past → in_flight s past ≡ [] → t < length s.trees
     → 0 < k → k < length (subs_at s t) → taken_in (tells_done t k) past ≡ 1
-told_once s past t k valid run empty lt some kt =
+told_once s past t k valid keeps run empty lt some kt =
     omega (
       arith,
       taken_all (tells_done t k) s past run empty,
       notes_made s past t k valid run some,
-      (answered_all s past t valid run empty lt).all.turned k kt,
+      (answered_all s past t valid keeps run empty lt).all.turned k kt,
     )
 
 -- numbers that are 1, but for the first, which is 0
@@ -152,9 +153,9 @@ all_but_first f (x ∷ xs) some first one =
 abbrev tells_in : ScriptData → ℕ → Body → ℕ
 tells_in s t b = over 0 (λ k. tells_done t k b) (subs_at s t)
 
-tree_notes : (s : ScriptData) (past : List Entry) (t : ℕ) → IsValid s → IsStepRun s past → in_flight s past ≡ [] → t < length s.trees
+tree_notes : (s : ScriptData) (past : List Entry) (t : ℕ) → IsValid s → is_lossy s ≡ false → IsStepRun s past → in_flight s past ≡ [] → t < length s.trees
     → taken_in (tells_in s t) past + 1 ≡ length (subs_at s t)
-tree_notes s past t valid run empty lt =
+tree_notes s past t valid keeps run empty lt =
     let all : taken_in (tells_in s t) past ≡ over 0 (λ k. taken_in (tells_done t k) past) (subs_at s t) =
     taken_over (tells_done t) (subs_at s t) past in
     omega (
@@ -162,12 +163,12 @@ tree_notes s past t valid run empty lt =
       all,
       all_but_first (λ k. taken_in (tells_done t k) past) (subs_at s t) (omega (arith, root_below s t valid lt))
           (omega (arith, taken_all (tells_done t 0) s past run empty, notes_root s past t valid run))
-          (λ k some kt. told_once s past t k valid run empty lt some kt),
+          (λ k some kt. told_once s past t k valid keeps run empty lt some kt),
     )
 
-notes_taken : (s : ScriptData) (past : List Entry) → IsValid s → IsStepRun s past → in_flight s past ≡ []
+notes_taken : (s : ScriptData) (past : List Entry) → IsValid s → is_lossy s ≡ false → IsStepRun s past → in_flight s past ≡ []
     → taken_in is_note past + length s.trees ≡ all_subs s.trees
-notes_taken s past valid run empty =
+notes_taken s past valid keeps run empty =
     let notes : taken_in is_note past ≡ over 0 (λ t. taken_in (tells_in s t) past) s.trees =
     taken_same is_note (λ b. over 0 (λ t. tells_in s t b) s.trees) s past valid run (note_by_tree s)
     ∙ taken_over (tells_in s) s.trees past in
@@ -180,14 +181,14 @@ notes_taken s past valid run empty =
       ones,
       over_ones 0 (λ t. 1) s.trees (λ t from lt. refl),
       over_same 0 (λ t. taken_in (tells_in s t) past + 1) (λ t. length (subs_at s t)) s.trees
-          (λ t from lt. tree_notes s past t valid run empty (omega (arith, lt))),
+          (λ t from lt. tree_notes s past t valid keeps run empty (omega (arith, lt))),
       all_subs_here s,
     )
 
 -- The client hears of each tree, and tells the coordinator so.
-replies_taken : (s : ScriptData) (past : List Entry) → IsValid s → IsStepRun s past → in_flight s past ≡ []
+replies_taken : (s : ScriptData) (past : List Entry) → IsValid s → is_lossy s ≡ false → IsStepRun s past → in_flight s past ≡ []
     → taken_in is_reply past ≡ length s.trees
-replies_taken s past valid run empty =
+replies_taken s past valid keeps run empty =
     taken_same is_reply (λ b. over 0 (λ t. replies_to t b) s.trees) s past valid run (reply_by_tree s)
     ∙ (taken_over replies_to s.trees past
     ∙ over_ones 0 (λ t. taken_in (replies_to t) past) s.trees (λ t from lt.
@@ -195,13 +196,17 @@ replies_taken s past valid run empty =
       arith,
       taken_replies s past t run,
       none_flies (replies_to t) s past empty,
-      (answered_all s past t valid run empty (omega (arith, lt))).answers,
+      (answered_all s past t valid keeps run empty (omega (arith, lt))).answers,
     )))
 
 submit_nudges : (s : ScriptData) (c : Client) (first : List Outgoing) → tally (on nudges) (submit s c first).sent ≡ tally (on nudges) first
 submit_nudges s c first =
     let rows = take (submitted c (take c.next s.rows) (drop c.next s.rows)) (drop c.next s.rows) in
-    omega (arith, tally-append (on nudges) first (rows_letters s rows), roots_none nudges s rows (λ t. refl) refl)
+    omega (
+      arith,
+      tally-append (on nudges) first (rows_letters s (advances_sent s c) rows),
+      roots_none nudges s (advances_sent s c) rows (record { root = λ t. refl; advance = refl; numbered = λ i. refl; lose = refl }),
+    )
 
 -- no node sends a nudge
 nudge_trees : NoTrees nudges
@@ -261,7 +266,7 @@ entry_nudges s past e valid run (Hears t v answer bd at lt made) =
       submit_nudges s (with_answer t.0 (client_in s past)) (nudge s ∷ []),
     )
 entry_nudges s past e valid run (Ends v bd at made) =
-    omega (arith, ap is_reply bd, ap (λ (os : List Outgoing). tally (on nudges) os) made.sent, submit_nudges s (with_end (client_in s past)) [])
+    omega (arith, ap is_reply bd, ap (λ (os : List Outgoing). tally (on nudges) os) made.sent, submit_nudges s (with_end s v (client_in s past)) [])
 entry_nudges s past e valid run (Coordinates tells at made) =
     let c : Coordinator = coordinator_in s past in
     omega (
@@ -269,7 +274,14 @@ entry_nudges s past e valid run (Coordinates tells at made) =
       ap (λ (os : List Outgoing). tally (on nudges) os) made.sent,
       each_none (on nudges) (coordinator_row c e.took.from.0 e.took.body).sent
           (coordinator_each (λ (to : ℕ) (b : Body). nudges b ≡ 0) c
-          (orders_none nudges c.nodes (λ v. (refl, (refl, refl))) (λ v k. (refl, refl)) (λ v. refl)) e.took.from.0 e.took.body),
+          (record {
+            turn = λ to v lt. refl;
+            show = λ to v lt. refl;
+            sweep = λ to v lt. refl;
+            ask_done = λ to v k lt. refl;
+            ask_asked = λ to v k lt. refl;
+            advanced = λ v. refl;
+          }) e.took.from.0 e.took.body),
       takes_no_answer s past e valid run (omega (arith, at)),
     )
 entry_nudges s past e valid run (Works p r w) =
@@ -277,13 +289,13 @@ entry_nudges s past e valid run (Works p r w) =
 entry_nudges s past e valid run (Obeys p out more at lt order state sent woken) =
     node_nudges s past e valid run (omega (arith, at, lt)) (Obeys p out more at lt order state sent woken)
 
-nudges_sent : (s : ScriptData) (past : List Entry) → IsValid s → IsStepRun s past → sent_in nudges past ≡ taken_in is_reply past
-nudges_sent s [] valid run = refl
-nudges_sent s (e ∷ past) valid run =
+nudges_sent : (s : ScriptData) (past : List Entry) → IsValid s → is_lossy s ≡ false → IsStepRun s past → sent_in nudges past ≡ taken_in is_reply past
+nudges_sent s [] valid keeps run = refl
+nudges_sent s (e ∷ past) valid keeps run =
     omega (
       arith,
-      nudges_sent s past valid run.1,
-      entry_nudges s past e valid run (progress s past e (lawful s valid) (all_apt s (e ∷ past) valid run) run),
+      nudges_sent s past valid keeps run.1,
+      entry_nudges s past e valid run (progress s past e (lawful s valid keeps) (all_apt s (e ∷ past) valid run) run),
     )
 
 one_nudge : (b : Body) → is_nudge b ≡ nudges b
@@ -295,14 +307,14 @@ nudged_taken : (past : List Entry) → nudged past ≡ taken_in nudges past
 nudged_taken [] = refl
 nudged_taken (e ∷ past) = omega (arith, one_nudge e.took.body, nudged_taken past)
 
-nudges_taken : (s : ScriptData) (past : List Entry) → IsValid s → IsStepRun s past → in_flight s past ≡ [] → nudged past ≡ length s.trees
-nudges_taken s past valid run empty =
+nudges_taken : (s : ScriptData) (past : List Entry) → IsValid s → is_lossy s ≡ false → IsStepRun s past → in_flight s past ≡ [] → nudged past ≡ length s.trees
+nudges_taken s past valid keeps run empty =
     omega (
       arith,
       nudged_taken past,
       taken_all nudges s past run empty,
-      nudges_sent s past valid run,
-      replies_taken s past valid run empty,
+      nudges_sent s past valid keeps run,
+      replies_taken s past valid keeps run empty,
     )
 
 -- So many letters of advancements were taken.
@@ -321,27 +333,27 @@ apart_by n a u x stage round up none is =
     let two : 2 * n * stage ≡ 2 * n * 0 = ap (λ (k : ℕ). 2 * n * k) none in
     omega (arith, one, two, is)
 
-aparts_taken : (s : ScriptData) (past : List Entry) → IsValid s → IsStepRun s past → in_flight s past ≡ []
+aparts_taken : (s : ScriptData) (past : List Entry) → IsValid s → is_lossy s ≡ false → IsStepRun s past → in_flight s past ≡ []
     → taken_in is_apart past ≡ advances_in s.rows * (2 + 6 * s.nodes) + 4 * s.nodes * (coordinator_in s past).round
-aparts_taken s past valid run empty =
+aparts_taken s past valid keeps run empty =
     let c = coordinator_in s past in
-    let calm = idle_pend s.nodes c.phase c.current.dones (idle s past valid run empty) in
+    let calm = idle_pend s.nodes c.phase c.current.dones (idle s past valid keeps run empty) in
     let all : asked_for s past ≡ advances_in s.rows = ap advances_in (all_rows s past valid run empty) in
     let up : c.update ≡ advances_in s.rows + 1 =
     omega (
       arith,
       all,
       ended_all s past valid run empty,
-      (small s past (lawful s valid) run (all_apt s past valid run)).ended,
+      (small s past (lawful s valid keeps) run (all_apt s past valid run)).ended,
       none_flies is_advanced s past empty,
     ) in
     apart_by s.nodes (advances_in s.rows) c.update (taken_in is_apart past) (stages c.phase) c.round up calm.1
-    (omega (arith, paid s past valid run, none_flies cost s past empty, calm.0, all))
+    (omega (arith, paid s past valid keeps run, none_flies price s past empty, calm.0, all))
 
 -- The law.
-pub entries_counted : (s : ScriptData) (past : List Entry) → IsValid s → has_strict s ≡ false → IsStepRun s past → in_flight s past ≡ []
+pub entries_counted : (s : ScriptData) (past : List Entry) → IsValid s → is_lossy s ≡ false → has_strict s ≡ false → IsStepRun s past → in_flight s past ≡ []
     → length past ≡ entries_of s (rounds_in s (reverse past))
-entries_counted s past valid plain run empty =
+entries_counted s past valid keeps plain run empty =
     let rounds : rounds_in s (reverse past) ≡ (coordinator_in s past).round = ap (λ (c : Coordinator). c.round) (coordinator_after s past) in
     let none : strict_entries s ≡ 0 = rw plain refl in
     rw rounds (omega (
@@ -349,11 +361,11 @@ entries_counted s past valid plain run empty =
       counted s past valid run,
       taken_all is_go s past run empty,
       no_go s past valid run,
-      works_taken s past valid run empty,
-      notes_taken s past valid run empty,
-      replies_taken s past valid run empty,
-      nudges_taken s past valid run empty,
-      aparts_taken s past valid run empty,
+      works_taken s past valid keeps run empty,
+      notes_taken s past valid keeps run empty,
+      replies_taken s past valid keeps run empty,
+      nudges_taken s past valid keeps run empty,
+      aparts_taken s past valid keeps run empty,
       strict_few s past valid run,
       none,
       some_subs s.nodes s.items s.trees valid.trees,

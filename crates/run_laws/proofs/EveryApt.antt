@@ -1,12 +1,12 @@
 -- In every run of every valid script each letter that comes to a node brings one, which is apt there: what it names belongs
 -- there, a root is new, its version is one that the node can go by, and what it asks for can be made.
 use Rattle.std.proofs.Common.{◌≡◌, ℕ, ◌<◌, ◌≤◌, ◌==◌, ◌&&◌, ◌||◌, Bool, true, false, not, List, [], ◌∷◌, length, refl, sym, ap, subst, ◌∙◌, arith, Option, Some, None}
-use Rattle.std.specs.Prelude.{IsSome, nat_lt}
+use Rattle.std.specs.Prelude.{IsSome, nat_lt, if◌then◌else◌}
 use Rattle.std.proofs.lemmas.Bool.{and_from, lt-ltb, or_left, or_right}
 use Rattle.std.proofs.lemmas.Bool.Decides.{nat_tests}
 use Rattle.letter_types.specs.Kept.{brought, first_called}
 use Rattle.letter_types.specs.declared.bodies.Body.{Body}
-use Rattle.letter_types.specs.declared.bodies.Body.TheVariants.{Go, Root, Sub as SubLetter, Done, Decide, Decided, Release, Wake}
+use Rattle.letter_types.specs.declared.bodies.Body.TheVariants.{Go, Root, Sub as SubLetter, Done, Decide, Decided, Release, Wake, Lose, AdvanceNo, Ask, Numbers, Wanted, Order, Obeyed, Advance, Turn, Show, Sweep, Turned, Shown, Swept}
 use Rattle.letter_types.specs.declared.entries.Entry.{Entry}
 use Rattle.letter_types.specs.declared.entries.Letter.{Letter}
 use Rattle.script_parts.specs.Counts.{has_strict}
@@ -30,17 +30,31 @@ use Rattle.tree_laws.proofs.AptLawful.{answered_in, nudges_few, root_unborn}
 use Rattle.tree_laws.proofs.AptMakes.{makes}
 use Rattle.tree_laws.proofs.Counts.{one_here}
 use Rattle.phase_laws.proofs.Brought.{BringsTo, brought_meant, brought_outstanding, brought_to, home_below}
-use Rattle.phase_laws.proofs.Closing.{answer_near, letter_timely}
-use Rattle.phase_laws.proofs.Lawful.{IsLawful}
+use Rattle.phase_laws.proofs.Governed.{IsGoverned, remembering}
+use Rattle.phase_laws.proofs.Lawful.{IsLawful, IsTreeLawful}
+use Rattle.epoch_laws.proofs.Forgetting.{forgetting}
+use Rattle.world_model.specs.Lossy.{is_lossy}
+use Rattle.world_model.specs.Epochs.{is_core_timely, is_of_coordinator}
 
 -- what the laws of phases need of trees
-pub lawful : (s : ScriptData) → IsValid s → IsLawful s
-lawful s valid = record {
+pub tree_lawful : (s : ScriptData) → IsValid s → IsTreeLawful s
+tree_lawful s valid = record {
   valid = valid;
   nudges = λ past run apt. nudges_few s past valid apt run;
   answered_in = λ past r t k v notice a p apt run out is to lt found.
       answered_in s past r t k v notice a p valid apt run out is lt to found;
 }
+
+-- and of a coordinator that remembers
+pub lawful : (s : ScriptData) → IsValid s → is_lossy s ≡ false → IsLawful s
+lawful s valid keeps = record { trees = tree_lawful s valid; keeps = keeps }
+
+-- what the laws above need of either coordinator
+pub governed : (s : ScriptData) → IsValid s → IsGoverned s
+governed s valid = by (is_lossy s) refl where
+  by : (loses : Bool) → is_lossy s ≡ loses → IsGoverned s
+  by true is = forgetting s (tree_lawful s valid) is
+  by false is = remembering s (lawful s valid is)
 
 -- A letter that comes brings one: a Wake finds the letter that it calls.
 found : (o : Option Letter) → IsSome o → (r : Letter) × (o ≡ Some r)
@@ -95,6 +109,34 @@ belongs s p from (Wake t k) meant = or_left (has_strict s) false meant.some_stri
 belongs s p from Go meant = or_right (has_strict s) true refl
 belongs s p from _ meant = or_right (has_strict s) true refl
 
+-- and those of a coordinator where the script has that one
+not_of : (s : ScriptData) (forgets remembers : Bool) → (forgets ≡ true → is_lossy s ≡ true) → (remembers ≡ true → is_lossy s ≡ false)
+    → (if is_lossy s then not remembers else not forgets) ≡ true
+not_of s forgets remembers lossy plain = by (is_lossy s) forgets remembers lossy plain where
+  by : (l f r : Bool) → (f ≡ true → l ≡ true) → (r ≡ true → l ≡ false) → (if l then not r else not f) ≡ true
+  by true f false lossy plain = refl
+  by true f true lossy plain = absurd (cc (plain refl))
+  by false false r lossy plain = refl
+  by false true r lossy plain = absurd (cc (lossy refl))
+
+of_coordinator : (s : ScriptData) (p from : ℕ) (b : Body) → IsMeant s from p b → is_of_coordinator s b ≡ true
+of_coordinator s p from Lose meant = not_of s true false (λ is. meant.1) (λ is. absurd (cc is))
+of_coordinator s p from (AdvanceNo i) meant = not_of s true false (λ is. meant.1) (λ is. absurd (cc is))
+of_coordinator s p from (Ask e) meant = not_of s true false (λ is. meant.1) (λ is. absurd (cc is))
+of_coordinator s p from (Numbers e u r l) meant = not_of s true false (λ is. meant.1) (λ is. absurd (cc is))
+of_coordinator s p from (Wanted e k) meant = not_of s true false (λ is. meant.1) (λ is. absurd (cc is))
+of_coordinator s p from (Order e what v) meant = not_of s true false (λ is. meant.1) (λ is. absurd (cc is))
+of_coordinator s p from (Obeyed e what v) meant = not_of s true false (λ is. meant.1) (λ is. absurd (cc is))
+of_coordinator s p from Advance meant = not_of s false true (λ is. absurd (cc is)) (λ is. meant.1)
+of_coordinator s p from (Turn v) meant = not_of s false true (λ is. absurd (cc is)) (λ is. meant.1)
+of_coordinator s p from (Show v) meant = not_of s false true (λ is. absurd (cc is)) (λ is. meant.1)
+of_coordinator s p from (Sweep v) meant = not_of s false true (λ is. absurd (cc is)) (λ is. meant.1)
+of_coordinator s p from (Turned v) meant = not_of s false true (λ is. absurd (cc is)) (λ is. meant.1)
+of_coordinator s p from (Shown v) meant = not_of s false true (λ is. absurd (cc is)) (λ is. meant.1)
+of_coordinator s p from (Swept v) meant = not_of s false true (λ is. absurd (cc is)) (λ is. meant.1)
+of_coordinator s p from Go meant = not_of s false false (λ is. absurd (cc is)) (λ is. absurd (cc is))
+of_coordinator s p from _ meant = not_of s false false (λ is. absurd (cc is)) (λ is. absurd (cc is))
+
 -- A root is new.
 record IsNewRoot (s : ScriptData) (past : List Entry) (p : ℕ) (b : Body) : Type 0 where
   new : is_new s (node_in s past p) b ≡ true
@@ -124,18 +166,18 @@ apt_by : (s : ScriptData) (past : List Entry) (e : Entry) (r : Letter) → IsVal
 apt_by s past e r valid apt run lt is =
     let p = e.actor.0 in
     let c = (keeping_in s past p).core in
-    let laws = lawful s valid in
+    let laws = governed s valid in
     let b : BringsTo s past e p r = record { at = refl; below = lt; brings = is } in
     let to : r.to.0 ≡ p = brought_to s past e p r b run in
     let meant = brought_meant s past e p r valid b run in
     let out = brought_outstanding s past e p r b run.0 in
     let own = named s p r.from.0 r.body valid meant in
     let fresh = root_new s past p r r.body valid apt run.1 out refl meant in
-    let timely : is_timely s c.node r.body ≡ true = letter_timely s past e r laws run apt lt is in
-    let near : decides_near s c.node r.body ≡ true = answer_near s past e r laws run apt lt is in
+    let timely : is_core_timely s c r.body ≡ true = laws.timely past e r run apt lt is in
+    let near : decides_near s c.node r.body ≡ true = laws.near past e r run apt lt is in
     let made : can_make_at s p c r.body ≡ true =
     makes s past r p decided_once applied_where_decided valid apt run.1 lt out to own timely in
-    rw (same_true r.to.0 p (sym to), belongs s p r.from.0 r.body meant, own, fresh.new, fresh.unheld, timely, near, made) refl
+    rw (same_true r.to.0 p (sym to), belongs s p r.from.0 r.body meant, of_coordinator s p r.from.0 r.body meant, own, fresh.new, fresh.unheld, timely, near, made) refl
 
 pub next_apt : (s : ScriptData) (past : List Entry) (e : Entry) → IsValid s → AllApt s past → IsStepRun s (e ∷ past) → WasApt s past e
 next_apt s past e valid apt run = λ lt.

@@ -180,8 +180,8 @@ born_by_case s past e t w valid apt run some (NodeKeeps p r k d) =
     (record { turned = λ v. refl; parked = λ u j i x. refl; waits = λ u v x. refl })
     d.keeps)
     some
-born_by_case s past e t w valid apt run some (Coordinates at says) =
-    no_births s past e t w (ap (tally (is_born t)) (says.1 ∙ no_acts (coordinator_in s past) e.took.from.0 e.took.body)) some
+born_by_case s past e t w valid apt run some (Coordinates at made) =
+    no_births s past e t w (ap (tally (is_born t)) made.acts) some
 born_by_case s past e t w valid apt run some (Submits at says) =
     no_births s past e t w (ap (tally (is_born t)) says.1 ∙ client_acts (is_born t) s (client_in s past) e.took.body refl) some
 

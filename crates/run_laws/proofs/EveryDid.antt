@@ -142,8 +142,7 @@ none_votes s past e t k plain (NodeKeeps p r x d) =
     ∙ keeping_acts (is_vote_of t k) s (keeping_in s past p).core r.body x
     (record { turned = λ v. refl; parked = λ u j i w. refl; waits = λ u v w. refl })
     d.keeps
-none_votes s past e t k plain (Coordinates at says) =
-    ap (λ (xs : List Act). tally (is_vote_of t k) xs) (says.1 ∙ no_acts (coordinator_in s past) e.took.from.0 e.took.body)
+none_votes s past e t k plain (Coordinates at made) = ap (λ (xs : List Act). tally (is_vote_of t k) xs) made.acts
 none_votes s past e t k plain (Submits at says) =
     ap (λ (xs : List Act). tally (is_vote_of t k) xs) says.1
     ∙ client_acts (is_vote_of t k) s (client_in s past) e.took.body refl

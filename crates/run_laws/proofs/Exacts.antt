@@ -17,7 +17,7 @@ use Rattle.tx_trees.specs.ScriptData.{ScriptData}
 use Rattle.tx_trees.specs.declared.parts.ScriptRow.{ScriptRow}
 use Rattle.tx_trees.specs.declared.parts.ScriptRow.TheVariants.{Tree as TreeRow, Advance as AdvanceRow, Settle as SettleRow, Lose as LoseRow}
 use Rattle.world_model.specs.Node.{Node}
-use Rattle.world_model.specs.Client.{Client, rows_letters, submit, submitted}
+use Rattle.world_model.specs.Client.{Client, rows_letters, submit, submitted, advances_sent}
 use Rattle.world_model.specs.Counts.{Each}
 use Rattle.world_model.specs.Runs.{node_in, in_flight, MayFollow}
 use Rattle.world_model.proofs.Every.{each_append, each_map, each_step, each_taken, node_kept}
@@ -28,6 +28,7 @@ use Rattle.run_laws.proofs.Measures.{busy}
 use Rattle.phase_laws.proofs.Steps.{numbers_at}
 use Rattle.phase_laws.proofs.Waves.{in_at}
 use Rattle.run_laws.proofs.Heard.{row_from}
+use Rattle.world_model.proofs.Sends.{OfRows, rows_each}
 
 -- a row of version v and round r has the present numbers of its sender
 abbrev pub ExactBody : ScriptData → List Entry → ℕ → ℕ → ℕ → Body → Type 0
@@ -124,20 +125,17 @@ order_exact s past e v r a body out frozen (TellsAsked w k bd is) =
       tt,
     )
 
-rows_exact : (s : ScriptData) (past : List Entry) (v r a : ℕ) (rows : List ScriptRow) → SentExact s past v r a (rows_letters s rows)
-rows_exact s past v r a [] = tt
-rows_exact s past v r a (TreeRow t ∷ rows) = ((λ id. tt), rows_exact s past v r a rows)
-rows_exact s past v r a (AdvanceRow ∷ rows) = ((λ id. tt), rows_exact s past v r a rows)
-rows_exact s past v r a (SettleRow ∷ rows) = rows_exact s past v r a rows
-rows_exact s past v r a (LoseRow ∷ rows) = rows_exact s past v r a rows
+rows_exact : (s : ScriptData) (past : List Entry) (v r a : ℕ) → OfRows (λ to body. LetterId → ExactBody s past v r a body)
+rows_exact s past v r a =
+    record { root = λ to t id. tt; advance = λ to id. tt; numbered = λ to i id. tt; lose = λ to id. tt }
 
 pub client_exact : (s : ScriptData) (past : List Entry) (e : Entry) (v r : ℕ) (c : Client) (first : List Outgoing) → SentExact s (e ∷ past) v r e.actor.0 first
     → MadeByClient s past e (submit s c first) → SentExact s (e ∷ past) v r e.actor.0 e.sent
 client_exact s past e v r c first all made =
     let rows = take (submitted c (take c.next s.rows) (drop c.next s.rows)) (drop c.next s.rows) in
     subst (λ (os : List Outgoing). SentExact s (e ∷ past) v r e.actor.0 os) (sym made.sent)
-    (each_append (λ (o : Outgoing). LetterId → ExactBody s (e ∷ past) v r e.actor.0 o.body) first (rows_letters s rows) all
-    (rows_exact s (e ∷ past) v r e.actor.0 rows))
+    (each_append (λ (o : Outgoing). LetterId → ExactBody s (e ∷ past) v r e.actor.0 o.body) first (rows_letters s (advances_sent s c) rows) all
+    (rows_each (λ to body. LetterId → ExactBody s (e ∷ past) v r e.actor.0 body) s (advances_sent s c) rows (rows_exact s (e ∷ past) v r e.actor.0)))
 
 rowless_exact : (s : ScriptData) (past : List Entry) (v r a : ℕ) (body : Body) → IsRowless body → ExactBody s past v r a body
 rowless_exact s past v r a (DoneRow w k row) none = absurd none

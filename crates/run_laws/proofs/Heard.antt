@@ -18,14 +18,15 @@ use Rattle.world_model.specs.AllApt.{AllApt}
 use Rattle.world_model.specs.Node.{Node}
 use Rattle.world_model.specs.Coordinator.{to_nodes, with_asked, with_done}
 use Rattle.world_model.specs.Counts.{tally, one_if}
-use Rattle.world_model.specs.Runs.{node_in, in_flight, MayFollow, IsStepRun}
+use Rattle.world_model.specs.Runs.{node_in, in_flight, MayFollow, IsStepRun, keeping_in}
 use Rattle.world_model.proofs.Bags.{tally-append, tally_step, sealed_tally}
 use Rattle.world_model.proofs.Nexts.{Order, Turns, Shows, Sweeps, TellsDone, TellsAsked}
 use Rattle.phase_laws.proofs.Counting.{Count, CountStep, Denies, Holds, IsCounting, IsNudged, InRound, Lasts, Leaves, NoDone, Refused, TakesDone, TakesRequests, Begins as BeginsRound, asks_after, none_in_round, paused_in_round, Premise}
-use Rattle.phase_laws.proofs.Progress.{Begins, Coordinates, Ends, Hears, Obeys, Progress, Works, progress}
+use Rattle.phase_laws.proofs.Progress.{Begins, Coordinates, Ends, Hears, Obeys, Progress, Works, Asked, Course, Heeds, Restarts, course}
 use Rattle.phase_laws.proofs.Silence.{below_or_at}
 use Rattle.phase_laws.proofs.Steps.{Shaped, shaped}
 use Rattle.phase_laws.proofs.Working.{IsOfTrees}
+use Rattle.phase_laws.proofs.Sending.{IsPlain, heed_plain, trees_plain}
 
 -- the first wave's or the second wave's question to node q, or q's answer
 abbrev pub wave : Bool → ℕ → ℕ → ℕ → ℕ → ℕ → ℕ → Body → ℕ
@@ -128,29 +129,27 @@ order_waves s two v r q from p st body out (TellsAsked w k bd is) =
       full_row two (w.0 == v) (k == r) (p == q) (length row) s.nodes (length_numbers s.nodes (st.counts.asked w.0)),
     )
 
--- no letter of a tree is one of them
-trees_none : (two : Bool) (v r q n from to : ℕ) (body : Body) → IsOfTrees body → wave two v r q n from to body ≡ 0
-trees_none two v r q n from to (Root t) of = refl
-trees_none two v r q n from to (SubLetter t k w) of = refl
-trees_none two v r q n from to (Done t k w notice) of = refl
-trees_none two v r q n from to (Decide t w commit) of = refl
-trees_none two v r q n from to (Decided t w) of = refl
-trees_none two v r q n from to (Release t) of = refl
-trees_none two v r q n from to (Wake t k) of = refl
-trees_none two v r q n from to _ of = absurd of
+-- no other letter is one of them
+plain_none : (two : Bool) (v r q n from to : ℕ) (body : Body) → IsPlain body → wave two v r q n from to body ≡ 0
+plain_none two v r q n from to (AskDone w k) plain = absurd plain
+plain_none two v r q n from to (AskAsked w k) plain = absurd plain
+plain_none two v r q n from to (DoneRow w k row) plain = absurd plain
+plain_none two v r q n from to (AskedRow w k row) plain = absurd plain
+plain_none two v r q n from to _ plain = refl
+
+took_none : (s : ScriptData) (past : List Entry) (e : Entry) (two : Bool) (v r q : ℕ) → MayFollow s past e → IsPlain e.took.body
+    → waves s past two v r q ≤ waves s (e ∷ past) two v r q
+took_none s past e two v r q m plain =
+    omega (arith, wave_flow s past e two v r q m, plain_none two v r q s.nodes e.took.from.0 e.actor.0 e.took.body plain)
 
 -- so no other actor than the coordinator takes one away
 waves_stay : (s : ScriptData) (past : List Entry) (e : Entry) (two : Bool) (v r q : ℕ) → MayFollow s past e → e.actor.0 ≢ s.nodes
     → Progress s past e → waves s past two v r q ≤ waves s (e ∷ past) two v r q
-waves_stay s past e two v r q m away (Begins bd at made) =
-    omega (arith, wave_flow s past e two v r q m, ap (λ (b : Body). wave two v r q s.nodes e.took.from.0 e.actor.0 b) bd)
-waves_stay s past e two v r q m away (Hears t w answer bd at lt made) =
-    omega (arith, wave_flow s past e two v r q m, ap (λ (b : Body). wave two v r q s.nodes e.took.from.0 e.actor.0 b) bd)
-waves_stay s past e two v r q m away (Ends w bd at made) =
-    omega (arith, wave_flow s past e two v r q m, ap (λ (b : Body). wave two v r q s.nodes e.took.from.0 e.actor.0 b) bd)
+waves_stay s past e two v r q m away (Begins bd at made) = took_none s past e two v r q m (subst IsPlain (sym bd) tt)
+waves_stay s past e two v r q m away (Hears t w answer bd at lt made) = took_none s past e two v r q m (subst IsPlain (sym bd) tt)
+waves_stay s past e two v r q m away (Ends w bd at made) = took_none s past e two v r q m (subst IsPlain (sym bd) tt)
 waves_stay s past e two v r q m away (Coordinates tells at made) = absurd (away at)
-waves_stay s past e two v r q m away (Works p x w) =
-    omega (arith, wave_flow s past e two v r q m, trees_none two v r q s.nodes e.took.from.0 e.actor.0 e.took.body w.took)
+waves_stay s past e two v r q m away (Works p x w) = took_none s past e two v r q m (trees_plain e.took.body w.took)
 waves_stay s past e two v r q m away (Obeys p out more at lt order state is woken) =
     let took : wave two v r q s.nodes e.took.from.0 e.actor.0 e.took.body ≡ wave two v r q s.nodes e.took.from.0 p e.took.body =
     ap (λ (n : ℕ). wave two v r q s.nodes e.took.from.0 n e.took.body) at in
@@ -388,11 +387,11 @@ heard_same s past e c was more = λ reads at.
     }
 
 heard_away : (s : ScriptData) (count : List Entry → Count) (G : Premise) → IsCounting s count G
-    → (past : List Entry) (e : Entry) → MayFollow s past e → e.actor.0 ≢ s.nodes → Progress s past e → Heard s past (count past)
+    → (past : List Entry) (e : Entry) → e.actor.0 ≢ s.nodes
+    → ((two : Bool) (v r q : ℕ) → waves s past two v r q ≤ waves s (e ∷ past) two v r q) → Heard s past (count past)
     → Heard s (e ∷ past) (count (e ∷ past))
-heard_away s count G view past e m away next was =
-    subst (Heard s (e ∷ past)) (sym (view.stays past e away))
-    (heard_same s past e (count past) was (λ two v r q. waves_stay s past e two v r q m away next))
+heard_away s count G view past e away stay was =
+    subst (Heard s (e ∷ past)) (sym (view.stays past e away)) (heard_same s past e (count past) was stay)
 
 heard_told : (s : ScriptData) (count : List Entry → Count) (G : Premise) → IsCounting s count G
     → (past : List Entry) (e : Entry) → IsStepRun s (e ∷ past) → AllApt s past → e.actor.0 ≡ s.nodes → Heard s past (count past)
@@ -408,23 +407,37 @@ heard_told s count G view past e run apt at was =
     (view.steps past e run apt at)
 
 heard_next : (s : ScriptData) (count : List Entry → Count) (G : Premise) → IsCounting s count G
-    → (past : List Entry) (e : Entry) → IsStepRun s (e ∷ past) → AllApt s past → Progress s past e → Heard s past (count past)
+    → (past : List Entry) (e : Entry) → IsStepRun s (e ∷ past) → AllApt s past → Course s past e → Heard s past (count past)
     → Heard s (e ∷ past) (count (e ∷ past))
-heard_next s count G view past e run apt (Coordinates tells at made) was = heard_told s count G view past e run apt at was
-heard_next s count G view past e run apt (Begins bd at made) was =
-    heard_away s count G view past e run.0 (omega (arith, at)) (Begins bd at made) was
-heard_next s count G view past e run apt (Hears t v answer bd at lt made) was =
-    heard_away s count G view past e run.0 (omega (arith, at)) (Hears t v answer bd at lt made) was
-heard_next s count G view past e run apt (Ends v bd at made) was =
-    heard_away s count G view past e run.0 (omega (arith, at)) (Ends v bd at made) was
-heard_next s count G view past e run apt (Works p r w) was =
-    heard_away s count G view past e run.0 (omega (arith, w.brings.at, w.brings.below)) (Works p r w) was
-heard_next s count G view past e run apt (Obeys p out more at lt order state is woken) was =
-    heard_away s count G view past e run.0 (omega (arith, at, lt)) (Obeys p out more at lt order state is woken) was
+heard_next s count G view past e run apt (inl (Coordinates tells at made)) was = heard_told s count G view past e run apt at was
+heard_next s count G view past e run apt (inl (Begins bd at made)) was =
+    let away : e.actor.0 ≢ s.nodes = λ same. omega (arith, at, same) in
+    heard_away s count G view past e away (λ two v r q. waves_stay s past e two v r q run.0 away (Begins bd at made)) was
+heard_next s count G view past e run apt (inl (Hears t w answer bd at lt made)) was =
+    let away : e.actor.0 ≢ s.nodes = λ same. omega (arith, at, same) in
+    heard_away s count G view past e away (λ two v r q. waves_stay s past e two v r q run.0 away (Hears t w answer bd at lt made)) was
+heard_next s count G view past e run apt (inl (Ends w bd at made)) was =
+    let away : e.actor.0 ≢ s.nodes = λ same. omega (arith, at, same) in
+    heard_away s count G view past e away (λ two v r q. waves_stay s past e two v r q run.0 away (Ends w bd at made)) was
+heard_next s count G view past e run apt (inl (Works p x w)) was =
+    let away : e.actor.0 ≢ s.nodes = λ same. omega (arith, w.brings.at, w.brings.below, same) in
+    heard_away s count G view past e away (λ two v r q. waves_stay s past e two v r q run.0 away (Works p x w)) was
+heard_next s count G view past e run apt (inl (Obeys p out more at lt order state is woken)) was =
+    let away : e.actor.0 ≢ s.nodes = λ same. omega (arith, at, lt, same) in
+    heard_away s count G view past e away
+    (λ two v r q. waves_stay s past e two v r q run.0 away (Obeys p out more at lt order state is woken)) was
+heard_next s count G view past e run apt (inr (Restarts tells at loses made)) was = heard_told s count G view past e run apt at was
+heard_next s count G view past e run apt (inr (Asked n bd at loses made)) was =
+    heard_away s count G view past e (λ same. omega (arith, at, same))
+    (λ two v r q. took_none s past e two v r q run.0 (subst IsPlain (sym bd) tt)) was
+heard_next s count G view past e run apt (inr (Heeds p at lt loses heed)) was =
+    heard_away s count G view past e (λ same. omega (arith, at, lt, same))
+    (λ two v r q. took_none s past e two v r q run.0
+    (heed_plain s (keeping_in s past p).core (keeping_in s (e ∷ past) p).core e.took.body e.sent heed)) was
 
 -- in every run both waves are heard
 pub waves_heard : (s : ScriptData) (count : List Entry → Count) (G : Premise) → IsCounting s count G
     → (past : List Entry) → IsStepRun s past → AllApt s past → Heard s past (count past)
 waves_heard s count G view [] run apt = λ reads at. absurd (none_in_round (count []).pace reads view.start at)
 waves_heard s count G view (e ∷ past) run apt =
-    heard_next s count G view past e run apt.1 (progress s past e view.lawful apt run) (waves_heard s count G view past run.1 apt.1)
+    heard_next s count G view past e run apt.1 (course s past e view.lawful apt run) (waves_heard s count G view past run.1 apt.1)

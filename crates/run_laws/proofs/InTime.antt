@@ -1,5 +1,5 @@
 -- Every run is in time, and what the laws of phases say of every run.
-use Rattle.std.proofs.Common.{◌≡◌, ℕ, ◌+◌, ◌*◌, ◌<◌, ◌==◌, true, List, [], ◌∷◌, length, refl, sym, ap, ◌∙◌}
+use Rattle.std.proofs.Common.{false, ◌≡◌, ℕ, ◌+◌, ◌*◌, ◌<◌, ◌==◌, true, List, [], ◌∷◌, length, refl, sym, ap, ◌∙◌}
 use Rattle.std.proofs.lemmas.Bool.{and_parts}
 use Rattle.letter_types.specs.Kept.{brought}
 use Rattle.letter_types.specs.declared.bodies.Body.{Body}
@@ -26,15 +26,17 @@ use Rattle.phase_laws.proofs.GivenInPhase.{advancing, given_acted, given_anew}
 use Rattle.phase_laws.proofs.Balance.{apt_parts, counts_are_small}
 use Rattle.phase_laws.proofs.Below.{balanced}
 use Rattle.phase_laws.proofs.Shows.{given_in_quiet}
-use Rattle.run_laws.proofs.EveryApt.{all_apt as every_apt, lawful as every_lawful}
+use Rattle.run_laws.proofs.EveryApt.{all_apt as every_apt, governed, lawful as every_lawful}
+use Rattle.world_model.specs.Lossy.{is_lossy}
+use Rattle.world_model.specs.Epochs.{is_core_timely}
 
 -- A letter that was apt came in time: a Wake always does, and any other letter brings itself.
 timely_by : (s : ScriptData) (p : ℕ) (n : KeepingNode) (l : Letter) (b : Body) → l.body ≡ b → is_apt_brought s p n (brought n.kept l b) ≡ true
-    → is_timely s n.core.node b ≡ true
+    → is_core_timely s n.core b ≡ true
 timely_by s p n l (Wake t k) is apt = refl
 timely_by s p n l _ is apt =
     let parts = and_parts (l.to.0 == p) (is_core_apt s p n.core l) apt in
-    ap (is_timely s n.core.node) (sym is) ∙ (apt_parts s p n.core l parts.1).1
+    ap (is_core_timely s n.core) (sym is) ∙ (apt_parts s p n.core l parts.1).1
 
 was_timely : (s : ScriptData) (past : List Entry) (e : Entry) → WasApt s past e → WasTimely s past e
 was_timely s past e apt lt = timely_by s e.actor.0 (keeping_in s past e.actor.0) e.took e.took.body refl (apt lt)
@@ -48,25 +50,25 @@ pub every_in_time : (s : ScriptData) (past : List Entry) → IsValid s → IsSte
 every_in_time s past valid run = timely_of s past (every_apt s past valid run)
 
 pub balanced_run : (s : ScriptData) (past : List Entry) → IsValid s → IsStepRun s past → IsBalanced s past
-balanced_run s past valid run = balanced s past (every_lawful s valid) run (every_apt s past valid run)
+balanced_run s past valid run = (governed s valid).balanced past run (every_apt s past valid run)
 
 pub counts_small : (s : ScriptData) (past : List Entry) → IsValid s → IsStepRun s past → (p : ℕ) → p < s.nodes
     → AllBelow (MOST_COUNTED * length past + 1) (node_in s past p).counts
 counts_small s past valid run p lt = counts_are_small s past p valid lt
 
-pub given_run : (s : ScriptData) (past : List Entry) (e : Entry) → IsValid s → IsStepRun s (e ∷ past)
+pub given_run : (s : ScriptData) (past : List Entry) (e : Entry) → IsValid s → is_lossy s ≡ false → IsStepRun s (e ∷ past)
     → Each (λ (o : Outgoing). IsGivenInQuiet s past o.body) e.sent
-given_run s past e valid run = given_in_quiet s past e (every_lawful s valid) run (every_apt s (e ∷ past) valid run)
+given_run s past e valid keeps run = given_in_quiet s past e (every_lawful s valid keeps) run (every_apt s (e ∷ past) valid run)
 
 -- advancements are as they should be, and a version is told that was told before, or the next one, in quiet
 pub advancing_run : (s : ScriptData) (past : List Entry) → IsValid s → IsStepRun s past → IsAdvancing s past
-advancing_run s past valid run = advancing s past (every_lawful s valid) run (every_apt s past valid run)
+advancing_run s past valid run = (governed s valid).advancing past run (every_apt s past valid run)
 
 pub anew_run : (s : ScriptData) (past : List Entry) (e : Entry) → IsValid s → IsStepRun s (e ∷ past)
     → Each (λ (o : Outgoing). IsGivenAnew s past o.body) e.sent
-anew_run s past e valid run = given_anew s past e (every_lawful s valid) run (every_apt s (e ∷ past) valid run)
+anew_run s past e valid run = (governed s valid).anew past e run (every_apt s (e ∷ past) valid run)
 
 -- an entry that has an act leaves what was given
 pub acted_run : (g : Stage) (s : ScriptData) (past : List Entry) (e : Entry) → IsValid s → IsStepRun s (e ∷ past) → (e.acts ≡ [] → ⊥)
     → greatest_given g (e ∷ past) ≡ greatest_given g past
-acted_run g s past e valid run acts = given_acted g s past e (every_lawful s valid) run (every_apt s (e ∷ past) valid run) acts
+acted_run g s past e valid run acts = (governed s valid).acted g past e run (every_apt s (e ∷ past) valid run) acts

@@ -7,7 +7,7 @@ use Rattle.tv_base.specs.declared.numbers.Version.{Version}
 use Rattle.letter_types.specs.declared.acts.Act.{Act}
 use Rattle.letter_types.specs.declared.acts.Act.TheVariants as acts
 use Rattle.letter_types.specs.declared.bodies.Body.{Body}
-use Rattle.letter_types.specs.declared.bodies.Body.TheVariants.{Root, Sub as SubLetter, Done, Decide, Decided, Release, Turn, Show, Sweep, AskDone, AskAsked}
+use Rattle.letter_types.specs.declared.bodies.Body.TheVariants.{Root, Sub as SubLetter, Done, Decide, Decided, Release, Turn, Show, Sweep, AskDone, AskAsked, Order, Ask}
 use Rattle.letter_types.specs.declared.bodies.Notice.{Notice}
 use Rattle.letter_types.specs.declared.bodies.Notice.TheVariants as notices
 use Rattle.letter_types.specs.declared.entries.Entry.{Entry}
@@ -37,6 +37,9 @@ use Rattle.world_model.proofs.Keepings.{of_kept}
 use Rattle.world_model.proofs.Orders.{no_acts}
 use Rattle.tree_laws.proofs.AptRulings.{client_acts}
 use Rattle.run_laws.specs.Parks.{parks_for, shown_as, waits_for}
+use Rattle.world_model.proofs.Epochs.{order_each, ask_each}
+use Rattle.letter_types.specs.Steps.{Out}
+use Rattle.world_model.proofs.Coordination.{IsCoordinated}
 
 -- a letter is parked, or a root waits
 abbrev pub is_keeping : Act → Bool
@@ -108,6 +111,10 @@ row_plain s p from (Show v) c = (refl, tt)
 row_plain s p from (Sweep v) c = (refl, tt)
 row_plain s p from (AskDone v k) c = tt
 row_plain s p from (AskAsked v k) c = tt
+row_plain s p from (Order e what v) c =
+    order_each (λ (o : Out Core). Plain o.acts) s p from e what v c tt tt (λ to. turned_plain v.0 (nat_lt c.node.turns.update.0 v.0))
+    (λ to new. (refl, tt)) (λ to new. (refl, tt))
+row_plain s p from (Ask e) c = ask_each (λ (o : Out Core). Plain o.acts) s e c tt tt
 row_plain s p from _ c = tt
 
 -- so an entry that does a letter
@@ -120,9 +127,8 @@ does_none g s past e p r of d =
     (each_map (λ (a : Act). is_keeping a ≡ false) (λ (a : Act). g a ≡ 0) (core_row s p c r.from.0 r.body).acts of (row_plain s p r.from.0 r.body c))
 
 -- and one of another actor
-pub coordinator_none : (g : Act → ℕ) (s : ScriptData) (past : List Entry) (e : Entry)
-    → Says (coordinator_table (coordinator_in s past) e.took) e → tally g e.acts ≡ 0
-coordinator_none g s past e says = ap (λ (xs : List Act). tally g xs) (says.1 ∙ no_acts (coordinator_in s past) e.took.from.0 e.took.body)
+pub coordinator_none : (g : Act → ℕ) (s : ScriptData) (e : Entry) → IsCoordinated s e → tally g e.acts ≡ 0
+coordinator_none g s e made = ap (λ (xs : List Act). tally g xs) made.acts
 
 pub client_none : (g : Act → ℕ) (s : ScriptData) (past : List Entry) (e : Entry) → OfKeeping g
     → Says (client_table s (client_in s past) e.took) e → tally g e.acts ≡ 0

@@ -27,7 +27,7 @@ use Rattle.world_model.specs.Counts.{Each, one_if}
 use Rattle.world_model.specs.Done.{raised_if}
 use Rattle.world_model.specs.declared.phase.Phase.{Phase}
 use Rattle.world_model.specs.declared.phase.Phase.TheVariants.{Idle, Turning, Counting, Paused, Showing, Sweeping}
-use Rattle.world_model.specs.Keeping.{KeepingNode}
+use Rattle.world_model.specs.Keeping.{KeepingNode, woken_by}
 use Rattle.world_model.specs.Kept.{kept_in}
 use Rattle.world_model.specs.Named.{is_strict_at, tree_kind_at}
 use Rattle.world_model.specs.Node.{Node}
@@ -49,12 +49,13 @@ use Rattle.phase_laws.proofs.Brought.{brought_meant}
 use Rattle.phase_laws.proofs.Levels.{versions_in_phase}
 use Rattle.phase_laws.proofs.Progress.{Begins, Coordinates, Ends, Hears, Obeys, Progress, Works, brings_to, progress}
 use Rattle.phase_laws.proofs.Small.{small}
-use Rattle.phase_laws.proofs.Working.{RaisesBy}
+use Rattle.phase_laws.proofs.Working.{RaisesBy, keeps_turns}
 use Rattle.tree_laws.proofs.Counts.{one_here}
 use Rattle.run_laws.specs.Waiting.{IsKeptUntil, LettersStayKeptForAReason}
 use Rattle.run_laws.proofs.EveryApt.{all_apt, lawful}
 use Rattle.run_laws.proofs.InTime.{advancing_run}
 use Rattle.run_laws.proofs.Holders.{holders}
+use Rattle.run_laws.proofs.Woken.{Rises, does_rises, holder_woken}
 
 -- why node p keeps a letter of tree t
 abbrev pub Reason : ScriptData → List Entry → ℕ → TreeNo → Why → Type 0
@@ -84,18 +85,18 @@ pub each_meanwhile : (P : KeptLetter → Type 0) (xs : List KeptLetter) (b : Bod
 each_meanwhile P xs (Wake t k) all = each_without P t k xs all
 each_meanwhile P xs _ all = all
 
-woken_by : (Q : KeptLetter → Type 0) (x : KeptLetter) (test b : Bool) → test ≡ b
+woken_one : (Q : KeptLetter → Type 0) (x : KeptLetter) (test b : Bool) → test ≡ b
     → (test ≡ true → Q (record x { why = Called })) → (test ≡ false → Q x)
     → Q (if test then record x { why = Called } else x)
-woken_by Q x test true is hit miss = rw is (hit is)
-woken_by Q x test false is hit miss = rw is (miss is)
+woken_one Q x test true is hit miss = rw is (hit is)
+woken_one Q x test false is hit miss = rw is (miss is)
 
 pub each_woken : (P Q : KeptLetter → Type 0) (test : Why → Bool) (xs : List KeptLetter)
     → ((x : KeptLetter) → test x.why ≡ true → P x → Q (record x { why = Called }))
     → ((x : KeptLetter) → test x.why ≡ false → P x → Q x) → Each P xs → Each Q (with_called test xs)
 each_woken P Q test [] hit miss all = tt
 each_woken P Q test (x ∷ xs) hit miss all =
-    (woken_by Q x (test x.why) (test x.why) refl (λ is. hit x is all.0) (λ is. miss x is all.0), each_woken P Q test xs hit miss all.1)
+    (woken_one Q x (test x.why) (test x.why) refl (λ is. hit x is all.0) (λ is. miss x is all.0), each_woken P Q test xs hit miss all.1)
 
 -- The numbers of a node.
 -- the version that is updated is one or two above the one that is read
@@ -107,11 +108,6 @@ near s past p valid run lt =
       omega (arith, at.update_turned, at.turned_low, at.low_swept, at.swept_read),
     )
 
--- an entry that shows nothing to the node
-pub record Rises (old new : Node) : Type 0 where
-  pub read : new.turns.read.0 ≡ old.turns.read.0
-  pub update : old.turns.update.0 ≤ new.turns.update.0
-
 works_rises : (s : ScriptData) (old new : Node) (body : Body) → RaisesBy s old.turns new.turns body → Rises old new
 works_rises s old new body r = record { read = rw r.turns (read_by r.raises); update = rw r.turns (update_by r.raises r.higher) } where
   read_by : (b : Bool) → (raised_if b r.version old.turns).read.0 ≡ old.turns.read.0
@@ -122,53 +118,10 @@ works_rises s old new body r = record { read = rw r.turns (read_by r.raises); up
   update_by true higher = omega (arith, higher refl)
   update_by false higher = omega arith
 
-turn_rises : (old : Node) (v : ℕ) (b : Bool) → nat_lt old.turns.update.0 v ≡ b
-    → old.turns.update.0 ≤ (if nat_lt old.turns.update.0 v then record old.turns { update = record { 0 = v } } else old.turns).update.0
-turn_rises old v true is = let lt : old.turns.update.0 < v = grind (arith, nat_tests) in rw is (omega (arith, lt))
-turn_rises old v false is = rw is (omega arith)
-
-turn_reads : (old : Node) (v : ℕ) (b : Bool)
-    → (if b then record old.turns { update = record { 0 = v } } else old.turns).read.0 ≡ old.turns.read.0
-turn_reads old v true = refl
-turn_reads old v false = refl
-
-order_rises : (s : ScriptData) (old : Node) (body : Body) (out : Out Node) → ((v : Version) → body ≡ Show v → ⊥) → Order s old body out
-    → Rises old out.state
-order_rises s old body out none (Turns v bd is) =
-    subst (λ (o : Out Node). Rises old o.state) (sym is)
-    (record { read = turn_reads old v.0 (nat_lt old.turns.update.0 v.0); update = turn_rises old v.0 (nat_lt old.turns.update.0 v.0) refl })
-order_rises s old body out none (Shows v bd is) = absurd (none v bd)
-order_rises s old body out none (Sweeps v bd is) =
-    subst (λ (o : Out Node). Rises old o.state) (sym is) (record { read = refl; update = omega arith })
-order_rises s old body out none (TellsDone v k bd is) =
-    subst (λ (o : Out Node). Rises old o.state) (sym is) (record { read = refl; update = omega arith })
-order_rises s old body out none (TellsAsked v k bd is) =
-    subst (λ (o : Out Node). Rises old o.state) (sym is) (record { read = refl; update = omega arith })
-
-pub rises : (s : ScriptData) (past : List Entry) (e : Entry) (p : ℕ) → p < s.nodes → e.actor.0 ≡ p → ((v : Version) → e.took.body ≡ Show v → ⊥)
-    → Progress s past e → Rises (node_in s past p) (node_in s (e ∷ past) p)
-rises s past e p lt at none (Begins bd here made) = absurd (omega (arith, at, here, lt))
-rises s past e p lt at none (Hears t v answer bd here below made) = absurd (omega (arith, at, here, lt))
-rises s past e p lt at none (Ends v bd here made) = absurd (omega (arith, at, here, lt))
-rises s past e p lt at none (Coordinates tells here made) = absurd (omega (arith, at, here, lt))
-rises s past e p lt at none (Works q r w) =
-    subst (λ (n : ℕ). Rises (node_in s past n) (node_in s (e ∷ past) n)) (sym w.brings.at ∙ at)
-    (works_rises s (node_in s past q) (node_in s (e ∷ past) q) r.body w.turns)
-rises s past e p lt at none (Obeys q out more here below order state sent woken) =
-    subst (λ (n : ℕ). Rises (node_in s past n) (node_in s (e ∷ past) n)) (sym here ∙ at)
-    (subst (λ (st : Node). Rises (node_in s past q) st) (sym state) (order_rises s (node_in s past q) e.took.body out none order))
-
 two_on : (s : ScriptData) (past : List Entry) (e : Entry) (p : ℕ) → IsValid s → IsStepRun s (e ∷ past) → p < s.nodes
     → Rises (node_in s past p) (node_in s (e ∷ past) p) → (node_in s past p).turns.update.0 ≡ (node_in s past p).turns.read.0 + 2
     → (node_in s (e ∷ past) p).turns.update.0 ≡ (node_in s (e ∷ past) p).turns.read.0 + 2
 two_on s past e p valid run lt up two = omega (arith, up.read, up.update, two, (near s (e ∷ past) p valid run lt).1)
-
--- a Show brings itself
-pub show_brought : (kept : List KeptLetter) (l r : Letter) (v : Version) (b : Body) → l.body ≡ b → b ≡ Show v → brought kept l b ≡ Some r
-    → r.body ≡ Show v
-show_brought kept l r v (Wake t k) is bd at = absurd (cc bd)
-show_brought kept l r v _ is bd at =
-    let same : l ≡ r = grind arith in ap (λ (x : Letter). x.body) (sym same) ∙ is ∙ bd
 
 -- no tree is both
 pub not_both : (s : ScriptData) (t : ℕ) (kind : Option TreeKind) → tree_kind_at s t ≡ kind → updates s t ≡ true → is_strict_at s t ≡ true → ⊥
@@ -186,20 +139,17 @@ holder_stays s p from h (Release u) meant strict none gone =
 holder_stays s p from h _ meant strict none gone = absurd gone
 
 does_reason : (s : ScriptData) (past : List Entry) (e : Entry) (p : ℕ) (r : Letter) (t : TreeNo) (w : Why) → IsValid s → IsStepRun s (e ∷ past)
-    → Does s past e p r → wakes_by r.body w ≡ false → Reason s past p t w → Reason s (e ∷ past) p t w
+    → Does s past e p r → woken_by (keeping_in s past p).core r.body w ≡ false → Reason s past p t w → Reason s (e ∷ past) p t w
 does_reason s past e p r t ForShow valid run d none reason =
-    let up = rises s past e p d.brings.below d.brings.at (λ v bd.
-    (let shown : wakes_by r.body ForShow ≡ true =
-    ap (λ (b : Body). wakes_by b ForShow) (show_brought (kept_in s past p) e.took r v e.took.body refl bd d.brings.brings) in
-    cc (shown, none))) (progress s past e (lawful s valid) (all_apt s (e ∷ past) valid run) run) in
-    (reason.0, two_on s past e p valid run d.brings.below up reason.1)
+    (reason.0, two_on s past e p valid run d.brings.below (does_rises s past e p r d none) reason.1)
 does_reason s past e p r t (ForHolder h) valid run d none reason =
     let c : Core = (keeping_in s past p).core in
     let strict = (holders s past p valid (all_apt s past valid run.1) run.1 d.brings.below h reason.1).strict in
     let meant = brought_meant s past e p r valid (brings_to s past e p r d.brings) run in (
       reason.0,
       same_holds (core_row s p c r.from.0 r.body).state (keeping_in s (e ∷ past) p).core h (ap (λ (x : Core). x.locks) d.core)
-          (row_stays s p r.from.0 r.body c h reason.1 (holder_stays s p r.from.0 h r.body meant strict none)),
+          (row_stays s p r.from.0 r.body c h reason.1
+          (holder_stays s p r.from.0 h r.body meant strict (sym (holder_woken c r.body h) ∙ none))),
     )
 does_reason s past e p r t Called valid run d none reason = tt
 
@@ -207,20 +157,20 @@ does_waiting : (s : ScriptData) (past : List Entry) (e : Entry) (p : ℕ) (r : L
     → AreWaiting s past p (kept_in s past p) → AreWaiting s (e ∷ past) p (kept_in s (e ∷ past) p)
 does_waiting s past e p r valid run d all =
     subst (AreWaiting s (e ∷ past) p) (sym d.kept)
-    (each_woken (IsWaiting s past p) (IsWaiting s (e ∷ past) p) (wakes_by r.body) (kept_without (kept_in s past p) e.took.body)
+    (each_woken (IsWaiting s past p) (IsWaiting s (e ∷ past) p) (woken_by (keeping_in s past p).core r.body) (kept_without (kept_in s past p) e.took.body)
     (λ x hit at. record { root = at.root; why = tt })
     (λ x none at. record { root = at.root; why = does_reason s past e p r x.tree x.why valid run d none at.why })
     (each_meanwhile (IsWaiting s past p) (kept_in s past p) e.took.body all))
 
 -- A letter more that is kept.
-pub keeps_rises : (s : ScriptData) (past : List Entry) (e : Entry) (p : ℕ) (r : Letter) (k : CoreKeeping) → IsValid s → IsStepRun s (e ∷ past)
-    → Keeps s past e p r k → Rises (node_in s past p) (node_in s (e ∷ past) p)
-keeps_rises s past e p r k valid run d =
-    rises s past e p d.brings.below d.brings.at (λ v bd.
-    (let none : core_keeping s (keeping_in s past p).core r.body ≡ None =
-    ap (core_keeping s (keeping_in s past p).core) (show_brought (kept_in s past p) e.took r v e.took.body refl bd d.brings.brings) in
-    let some = d.keeps in
-    cc (none, some))) (progress s past e (lawful s valid) (all_apt s (e ∷ past) valid run) run)
+pub keeps_rises : (s : ScriptData) (past : List Entry) (e : Entry) (p : ℕ) (r : Letter) (k : CoreKeeping) → Keeps s past e p r k
+    → Rises (node_in s past p) (node_in s (e ∷ past) p)
+keeps_rises s past e p r k d =
+    let c : Core = (keeping_in s past p).core in
+    let turns : RaisesBy s c.node.turns k.state.node.turns r.body =
+    subst (OfKeeping (λ (x : CoreKeeping). RaisesBy s c.node.turns x.state.node.turns r.body)) d.keeps (keeps_turns s c r.body) in
+    works_rises s c.node (node_in s (e ∷ past) p) r.body
+    (subst (λ (x : Core). RaisesBy s c.node.turns x.node.turns r.body) (sym d.core) turns)
 
 keeps_locks : (s : ScriptData) (past : List Entry) (e : Entry) (p : ℕ) (r : Letter) (k : CoreKeeping) (t : TreeNo) → Keeps s past e p r k
     → Holds (keeping_in s past p).core t → Holds (keeping_in s (e ∷ past) p).core t
@@ -232,7 +182,7 @@ keeps_locks s past e p r k t d h =
 keeps_reason : (s : ScriptData) (past : List Entry) (e : Entry) (p : ℕ) (r : Letter) (k : CoreKeeping) (t : TreeNo) (w : Why) → IsValid s
     → IsStepRun s (e ∷ past) → Keeps s past e p r k → Reason s past p t w → Reason s (e ∷ past) p t w
 keeps_reason s past e p r k t ForShow valid run d reason =
-    (reason.0, two_on s past e p valid run d.brings.below (keeps_rises s past e p r k valid run d) reason.1)
+    (reason.0, two_on s past e p valid run d.brings.below (keeps_rises s past e p r k d) reason.1)
 keeps_reason s past e p r k t (ForHolder h) valid run d reason = (reason.0, keeps_locks s past e p r k h d reason.1)
 keeps_reason s past e p r k t Called valid run d reason = tt
 

@@ -17,6 +17,7 @@ pub mod Wholes
 pub mod Reached
 pub mod Closed
 pub mod InTime
+pub mod Woken
 pub mod Taken
 pub mod Measures
 pub mod Busy
@@ -24,8 +25,11 @@ pub mod Balancing
 pub mod Heard
 pub mod Exacts
 pub mod Pauses
+pub mod RoundsOver
+pub mod EndsAnew
 pub mod Ends
 pub mod Costs
+pub mod CostsAnew
 pub mod Entries
 pub mod Bounds
 pub mod Sampled

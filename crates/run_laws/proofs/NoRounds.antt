@@ -1,5 +1,5 @@
 -- In a run of a script without advancements no round begins: the coordinator stays idle.
-use Rattle.std.proofs.Common.{◌≡◌, ◌≢◌, ℕ, List, [], ◌∷◌, reverse, refl, ap, ◌∙◌, arith}
+use Rattle.std.proofs.Common.{◌≡◌, ◌≢◌, ℕ, List, [], ◌∷◌, reverse, refl, ap, ◌∙◌, arith, false}
 use Rattle.letter_types.specs.declared.bodies.Body.{Body}
 use Rattle.letter_types.specs.declared.bodies.Body.TheVariants.{Go, Advance}
 use Rattle.letter_types.specs.declared.entries.Entry.{Entry}
@@ -17,12 +17,13 @@ use Rattle.phase_laws.proofs.Progress.{Begins, Coordinates, Ends, Hears, Obeys, 
 use Rattle.phase_laws.proofs.Small.{asked_most, small}
 use Rattle.tree_laws.specs.Entries.{rounds_in}
 use Rattle.run_laws.proofs.EveryApt.{all_apt, lawful}
+use Rattle.world_model.specs.Lossy.{is_lossy}
 
 -- Nothing is asked for, so no phase runs.
-none_runs : (s : ScriptData) (past : List Entry) → IsValid s → IsStepRun s past → advances_in s.rows ≡ 0
+none_runs : (s : ScriptData) (past : List Entry) → IsValid s → is_lossy s ≡ false → IsStepRun s past → advances_in s.rows ≡ 0
     → running (coordinator_in s past).phase ≡ 0
-none_runs s past valid run none =
-    let now = small s past (lawful s valid) run (all_apt s past valid run) in
+none_runs s past valid keeps run none =
+    let now = small s past (lawful s valid keeps) run (all_apt s past valid run) in
     omega (arith, now.asked, now.ended, asked_most (client_in s past).next s.rows, none)
 
 -- A letter that leaves an idle coordinator idle begins no round.
@@ -60,13 +61,13 @@ next_round s past e idle still (Coordinates tells at made) =
 next_round s past e idle still (Works p r w) = kept_round s past e (omega (arith, w.brings.at, w.brings.below))
 next_round s past e idle still (Obeys p out more at lt order state sent woken) = kept_round s past e (omega (arith, at, lt))
 
-no_round : (s : ScriptData) (past : List Entry) → IsValid s → IsStepRun s past → advances_in s.rows ≡ 0 → (coordinator_in s past).round ≡ 0
-no_round s [] valid run none = refl
-no_round s (e ∷ past) valid run none =
-    next_round s past e (none_runs s past valid run.1 none) (none_runs s (e ∷ past) valid run none)
-    (progress s past e (lawful s valid) (all_apt s (e ∷ past) valid run) run)
-    ∙ no_round s past valid run.1 none
+no_round : (s : ScriptData) (past : List Entry) → IsValid s → is_lossy s ≡ false → IsStepRun s past → advances_in s.rows ≡ 0 → (coordinator_in s past).round ≡ 0
+no_round s [] valid keeps run none = refl
+no_round s (e ∷ past) valid keeps run none =
+    next_round s past e (none_runs s past valid keeps run.1 none) (none_runs s (e ∷ past) valid keeps run none)
+    (progress s past e (lawful s valid keeps) (all_apt s (e ∷ past) valid run) run)
+    ∙ no_round s past valid keeps run.1 none
 
 -- of a history
-pub no_rounds : (s : ScriptData) (past : List Entry) → IsValid s → IsStepRun s past → advances_in s.rows ≡ 0 → rounds_in s (reverse past) ≡ 0
-no_rounds s past valid run none = ap (λ (c : Coordinator). c.round) (coordinator_after s past) ∙ no_round s past valid run none
+pub no_rounds : (s : ScriptData) (past : List Entry) → IsValid s → is_lossy s ≡ false → IsStepRun s past → advances_in s.rows ≡ 0 → rounds_in s (reverse past) ≡ 0
+no_rounds s past valid keeps run none = ap (λ (c : Coordinator). c.round) (coordinator_after s past) ∙ no_round s past valid keeps run none

@@ -18,7 +18,7 @@ use Rattle.letter_types.specs.declared.kept.Why.TheVariants.{Called, ForHolder, 
 use Rattle.tx_trees.specs.ScriptData.{ScriptData, node_of}
 use Rattle.tx_trees.specs.Valid.{IsValid}
 use Rattle.world_model.specs.Counts.{one_if, tally}
-use Rattle.world_model.specs.Keeping.{AreKeptAt, AsksFor, KeepingNode}
+use Rattle.world_model.specs.Keeping.{AreKeptAt, AsksFor, KeepingNode, woken_by}
 use Rattle.world_model.specs.Kept.{kept_by, kept_in}
 use Rattle.world_model.specs.Runs.{IsStepRun, in_flight, keeping_in}
 use Rattle.world_model.specs.Strict.{CoreKeeping}
@@ -40,6 +40,8 @@ use Rattle.run_laws.proofs.EveryApt.{all_apt}
 use Rattle.run_laws.proofs.Holders.{IsAsked, applied_any, applies_any, asked_sub, does_apply, elsewhere_unapplied, holders, keeps_apply}
 use Rattle.run_laws.proofs.KeptWhy.{Reason, new_reason}
 use Rattle.run_laws.proofs.KeepingActs.{client_none, coordinator_none, does_none, keeps_parks, parked_as, parks_of}
+use Rattle.run_laws.proofs.Woken.{holder_woken}
+use Rattle.world_model.specs.Core.{Core}
 
 -- Numbers of kept letters that count none that is called.
 abbrev pub NoneCalled : (KeptLetter → ℕ) → Type 0
@@ -61,10 +63,10 @@ pub meanwhile_same : (f : KeptLetter → ℕ) (kept : List KeptLetter) (b : Body
 meanwhile_same f kept (Wake t k) none = without_same f t k kept none
 meanwhile_same f kept _ none = refl
 
-woken_by : (f : KeptLetter → ℕ) (x : KeptLetter) (test b : Bool) → test ≡ b → (test ≡ true → f x ≡ 0) → f (record x { why = Called }) ≡ 0
+woken_one : (f : KeptLetter → ℕ) (x : KeptLetter) (test b : Bool) → test ≡ b → (test ≡ true → f x ≡ 0) → f (record x { why = Called }) ≡ 0
     → f (if test then record x { why = Called } else x) ≡ f x
-woken_by f x test true is pass none = rw is (omega (arith, pass is, none))
-woken_by f x test false is pass none = rw is refl
+woken_one f x test true is pass none = rw is (omega (arith, pass is, none))
+woken_one f x test false is pass none = rw is refl
 
 -- nor does it change them to wake letters that they don't count
 pub woken_same : (f : KeptLetter → ℕ) (test : Why → Bool) (xs : List KeptLetter) → NoneCalled f
@@ -73,7 +75,7 @@ woken_same f test [] none pass = refl
 woken_same f test (x ∷ xs) none pass =
     omega (
       arith,
-      woken_by f x (test x.why) (test x.why) refl (pass x) (none (record x { why = Called }) refl),
+      woken_one f x (test x.why) (test x.why) refl (pass x) (none (record x { why = Called }) refl),
       woken_same f test xs none pass,
     )
 
@@ -106,11 +108,11 @@ holder_told t k h u j g (Show v) none is = absurd (cc is)
 holder_told t k h u j g Go none is = absurd (cc is)
 holder_told t k h u j g _ none is = absurd (cc is)
 
-unwoken : (t k h u j : ℕ) (w : Why) (b : Body) → tells_decision h true b + tells_decision h false b ≡ 0 → wakes_by b w ≡ true
+unwoken : (t k h u j : ℕ) (w : Why) (c : Core) (b : Body) → tells_decision h true b + tells_decision h false b ≡ 0 → woken_by c b w ≡ true
     → parked_as t k h u j w ≡ 0
-unwoken t k h u j ForShow b none is = refl
-unwoken t k h u j Called b none is = refl
-unwoken t k h u j (ForHolder g) b none is = holder_told t k h u j g b none is
+unwoken t k h u j ForShow c b none is = refl
+unwoken t k h u j Called c b none is = refl
+unwoken t k h u j (ForHolder g) c b none is = holder_told t k h u j g b none (sym (holder_woken c b g) ∙ is)
 
 -- How often it was parked, by whether the decision was applied.
 record ParkedAt (applied kept count : ℕ) : Type 0 where
@@ -138,8 +140,9 @@ does_parked s past e p t k h r d ih = by (tells_decision h true r.body + tells_d
 
   by : (n : ℕ) → tells_decision h true r.body + tells_decision h false r.body ≡ n → ParkedHere s (e ∷ past) p t k h
   by zero none =
-      let woken = woken_same (is_parked t k h) (wakes_by r.body) (kept_without (kept_in s past p) e.took.body)
-      (λ x is. parked_uncalled t k h x.tree.0 x.sub.0 x.why is) (λ x is. unwoken t k h x.tree.0 x.sub.0 x.why r.body none is) in
+      let c : Core = (keeping_in s past p).core in
+      let woken = woken_same (is_parked t k h) (woken_by c r.body) (kept_without (kept_in s past p) e.took.body)
+      (λ x is. parked_uncalled t k h x.tree.0 x.sub.0 x.why is) (λ x is. unwoken t k h x.tree.0 x.sub.0 x.why c r.body none is) in
       record {
         now = λ free. omega (arith, ih.now (omega (arith, free, applied)), ap (λ (xs : List KeptLetter). tally (is_parked t k h) xs) d.kept, woken, rest, acts);
         most = omega (arith, ih.most, acts);
@@ -322,7 +325,7 @@ parks_elsewhere s past e t k h valid run ne (NodeKeeps q r o d) =
     keeps_parks s past e q r o t k h d
     ∙ parked_far t k h o.tree.0 o.sub.0 o.why (λ tree sub.
     ne (omega (arith, d.brings.at, d.brings.below)) (d.brings.at ∙ a.node ∙ ap (λ (u : ℕ). node_of s u o.sub.0) tree ∙ ap (λ (j : ℕ). node_of s t j) sub))
-parks_elsewhere s past e t k h valid run ne (Coordinates at says) = coordinator_none (parks_for t k h) s past e says
+parks_elsewhere s past e t k h valid run ne (Coordinates at made) = coordinator_none (parks_for t k h) s e made
 parks_elsewhere s past e t k h valid run ne (Submits at says) = client_none (parks_for t k h) s past e (parks_of t k h) says
 
 other_parked : (s : ScriptData) (past : List Entry) (e : Entry) (p t k h : ℕ) → e.actor.0 ≢ p → tally (parks_for t k h) e.acts ≡ 0

@@ -38,8 +38,8 @@ use Rattle.strict_laws.proofs.MeantRows.{root_below}
 use Rattle.phase_laws.proofs.Brought.{BringsTo, IsAsking, brought_meant, brought_outstanding, kept_ask}
 use Rattle.phase_laws.proofs.CoordinatorCounts.{coordinator_counts, count_in, counting_is}
 use Rattle.phase_laws.proofs.Counting.{AfterRound, Begins as BeginsRound, Count, CountStep, Denies, Holds, InRound, IsCounting, IsNudged, Lasts, Leaves, NoNudge, TakesDone, TakesRequests, TakesRow, count_asked, count_done, none_in_round, paused_in_round, Premise}
-use Rattle.phase_laws.proofs.Progress.{AreWakes, Begins, Coordinates, Ends, Hears, IsWake, Obeys, Progress, Work, Works, are_wakes, asking_of, brings_to, progress, wakes_are}
-use Rattle.phase_laws.proofs.Sending.{AllRowless, orders_rowless}
+use Rattle.phase_laws.proofs.Progress.{Begins, Coordinates, Ends, Hears, Obeys, Progress, Work, Works, are_wakes, asking_of, brings_to, Asked, Course, Forgetting, Heeds, Restarts, course}
+use Rattle.phase_laws.proofs.Sending.{AllRowless, orders_rowless, course_rowless}
 use Rattle.phase_laws.proofs.Tokens.{phase_for}
 use Rattle.phase_laws.proofs.Steps.{Shaped, none_later, round_of, shaped}
 use Rattle.phase_laws.proofs.Waves.{none_kept}
@@ -56,6 +56,9 @@ use Rattle.run_laws.proofs.Measures.{busy, nudges, of_trees}
 use Rattle.run_laws.proofs.Busy.{born_heard, busy_step, no_nudge, trees_rest}
 use Rattle.run_laws.proofs.Exacts.{Counts, Exact, ExactBody, Frozen, Pausing, SentExact, all_agree, asked_put, client_exact, done_put, exact_on, frozen_away, kept_is, order_counts, order_exact, orders_exact}
 use Rattle.run_laws.proofs.EveryApt.{lawful}
+use Rattle.world_model.specs.Keeping.{woken_by}
+use Rattle.world_model.specs.Lossy.{is_lossy}
+use Rattle.phase_laws.proofs.Heeds.{AreWakes, IsWake, wakes_are, Heed, Leaves, Answers, Repeats, Obeys as HeedObeys}
 
 pub record Bound (s : ScriptData) (past : List Entry) (c : Count) : Type 0 where
   pub counts : Counts s past c
@@ -66,6 +69,10 @@ pub record IsSteady (s : ScriptData) (count : List Entry → Count) : Type 0 whe
   pub orders : (past : List Entry) (e : Entry) (reads : Bool) (p : ℕ) (out : Out Node) → IsStepRun s (e ∷ past) → AllApt s past
       → (count past).pace ≡ InRound reads → e.actor.0 ≡ p → p < s.nodes → Order s (node_in s past p) e.took.body out
       → out.state.counts ≡ (node_in s past p).counts
+  pub heeds : (past : List Entry) (e : Entry) (reads : Bool) (p : ℕ) → IsStepRun s (e ∷ past) → AllApt s (e ∷ past)
+      → (count past).pace ≡ InRound reads → e.actor.0 ≡ p → p < s.nodes → is_lossy s ≡ true
+      → Heed s (keeping_in s past p).core (keeping_in s (e ∷ past) p).core e.took.body e.sent
+      → (node_in s (e ∷ past) p).counts ≡ (node_in s past p).counts
   pub low : (past : List Entry) (reads : Bool) (p : ℕ) → IsStepRun s past → AllApt s past → (count past).pace ≡ InRound reads
       → p < s.nodes → (node_in s past p).turns.low.0 ≤ (count past).round.version.0
 
@@ -285,12 +292,13 @@ row_stands : (s : ScriptData) (past : List Entry) (e : Entry) (p : ℕ) (r : Let
     → (core_row s p (keeping_in s past p).core r.from.0 r.body).state.node.counts ≡ (node_in s past p).counts
     → (core_row s p (keeping_in s past p).core r.from.0 r.body).sent ≡ [] → Stands s past e
 row_stands s past e p r d counts none =
-    let more = wakes (wakes_by r.body) (kept_without (kept_in s past p) e.took.body) in
+    let c : Core = (keeping_in s past p).core in
+    let more = wakes (woken_by c r.body) (kept_without (kept_in s past p) e.took.body) in
     record {
       frozen = frozen_here s past e p d.brings.at (ap (λ (c : Core). c.node.counts) d.core ∙ counts);
       sent = λ v k.
           subst (SentExact s (e ∷ past) v k e.actor.0) (sym (d.sent ∙ ap (λ (os : List Outgoing). os ++ more) none))
-          (wakes_exact s (e ∷ past) v k e.actor.0 more (wakes_are (wakes_by r.body) (kept_without (kept_in s past p) e.took.body)));
+          (wakes_exact s (e ∷ past) v k e.actor.0 more (wakes_are (woken_by c r.body) (kept_without (kept_in s past p) e.took.body)));
     }
 
 does_stand : (s : ScriptData) (past : List Entry) (e : Entry) (p : ℕ) (r : Letter) (b : Body) → Doing s past e p r → r.body ≡ b → IsOfTrees b
@@ -353,7 +361,7 @@ stands s count steady past e reads valid run apt none quiet at away (Hears t w a
 }
 stands s count steady past e reads valid run apt none quiet at away (Ends w bd here made) = record {
   frozen = frozen_away s past e (omega (arith, here));
-  sent = λ v r. client_exact s past e v r (with_end (client_in s past)) [] tt made;
+  sent = λ v r. client_exact s past e v r (with_end s w (client_in s past)) [] tt made;
 }
 stands s count steady past e reads valid run apt none quiet at away (Coordinates tells here made) = absurd (away here)
 stands s count steady past e reads valid run apt none quiet at away (Works p r w) =
@@ -370,9 +378,38 @@ stands s count steady past e reads valid run apt none quiet at away (Obeys p out
           (wakes_exact s (e ∷ past) v r p more (are_wakes e.took.body more woken))));
     }
 
+heed_exact : (s : ScriptData) (past : List Entry) (v r a : ℕ) (c d : Core) (body : Body) (os : List Outgoing) → Heed s c d body os
+    → SentExact s past v r a os
+heed_exact s past v r a c d body os (Leaves n of late same none) = subst (SentExact s past v r a) (sym none) tt
+heed_exact s past v r a c d body os (Answers n bd new same is) = subst (SentExact s past v r a) (sym is) ((λ id. tt), tt)
+heed_exact s past v r a c d body os (Repeats n what w bd new was same is) = subst (SentExact s past v r a) (sym is) ((λ id. tt), tt)
+heed_exact s past v r a c d body os (HeedObeys n what w more bd new less epoch turns is woken) =
+    subst (SentExact s past v r a) (sym is) ((λ id. tt), wakes_exact s past v r a more woken)
+
+forgetting_stands : (s : ScriptData) (count : List Entry → Count) → IsSteady s count → (past : List Entry) (e : Entry) (reads : Bool)
+    → IsStepRun s (e ∷ past) → AllApt s (e ∷ past) → (count past).pace ≡ InRound reads → e.actor.0 ≢ s.nodes → Forgetting s past e
+    → Stands s past e
+forgetting_stands s count steady past e reads run apt at away (Asked n bd here loses made) = record {
+  frozen = frozen_away s past e (omega (arith, here));
+  sent = λ v r. subst (SentExact s (e ∷ past) v r e.actor.0) (sym made.sent) ((λ id. tt), tt);
+}
+forgetting_stands s count steady past e reads run apt at away (Restarts tells here loses made) = absurd (away here)
+forgetting_stands s count steady past e reads run apt at away (Heeds p here lt loses heed) = record {
+  frozen = frozen_here s past e p here (steady.heeds past e reads p run apt at here lt loses heed);
+  sent = λ v r. heed_exact s (e ∷ past) v r e.actor.0 (keeping_in s past p).core (keeping_in s (e ∷ past) p).core e.took.body e.sent heed;
+}
+
+course_stands : (s : ScriptData) (count : List Entry → Count) → IsSteady s count → (past : List Entry) (e : Entry) (reads : Bool) → IsValid s
+    → IsStepRun s (e ∷ past) → AllApt s (e ∷ past) → tally (λ (l : Letter). of_trees l.body) (outstanding s past) ≡ 0
+    → busy s (e ∷ past) ≡ 0 → (count past).pace ≡ InRound reads → e.actor.0 ≢ s.nodes → Course s past e → Stands s past e
+course_stands s count steady past e reads valid run apt none quiet at away (inl next) =
+    stands s count steady past e reads valid run apt none quiet at away next
+course_stands s count steady past e reads valid run apt none quiet at away (inr next) =
+    forgetting_stands s count steady past e reads run apt at away next
+
 bound_away : (s : ScriptData) (count : List Entry → Count) (G : Premise) → IsCounting s count G → IsSteady s count
     → (past : List Entry) (e : Entry) (valid : IsValid s) (run : IsStepRun s (e ∷ past)) → AllApt s (e ∷ past) → e.actor.0 ≢ s.nodes
-    → Progress s past e → Bound s past (count past) → Bound s (e ∷ past) (count (e ∷ past))
+    → Course s past e → Bound s past (count past) → Bound s (e ∷ past) (count (e ∷ past))
 bound_away s count G view steady past e valid run apt away next was =
     let c = count past in
     let step = busy_step s past e valid run in
@@ -381,28 +418,21 @@ bound_away s count G view steady past e valid run apt away next was =
       counts = λ reads at clear none.
           let before : busy s past ≡ 0 = omega (arith, step, none, calm) in
           let exact = was.counts reads at clear before in
-          let all = stands s count steady past e reads valid run apt (none_of_trees s past valid run.1 before) none at away next in
+          let all = course_stands s count steady past e reads valid run apt (none_of_trees s past valid run.1 before) none at away next in
           exact_on s past e c.round c.round all.frozen refl refl exact.letters exact.dones exact.askeds
           (all.sent c.round.version.0 c.round.number);
       pausing = λ at. omega (arith, was.pausing at, step, calm);
     })
 
 bound_next : (s : ScriptData) (count : List Entry → Count) (G : Premise) → IsCounting s count G → IsSteady s count
-    → (past : List Entry) (e : Entry) (valid : IsValid s) (run : IsStepRun s (e ∷ past)) → AllApt s (e ∷ past) → Progress s past e
+    → (past : List Entry) (e : Entry) (valid : IsValid s) (run : IsStepRun s (e ∷ past)) → AllApt s (e ∷ past) → Course s past e
     → Bound s past (count past) → Bound s (e ∷ past) (count (e ∷ past))
-bound_next s count G view steady past e valid run apt (Coordinates tells at made) was =
-    bound_out s count G view steady past e valid run apt.1 was (frozen_away s past e (omega (arith, at))) (orders_rowless s past e made)
-    (view.steps past e run apt.1 at)
-bound_next s count G view steady past e valid run apt (Begins bd at made) was =
-    bound_away s count G view steady past e valid run apt (omega (arith, at)) (Begins bd at made) was
-bound_next s count G view steady past e valid run apt (Hears t v answer bd at lt made) was =
-    bound_away s count G view steady past e valid run apt (omega (arith, at)) (Hears t v answer bd at lt made) was
-bound_next s count G view steady past e valid run apt (Ends v bd at made) was =
-    bound_away s count G view steady past e valid run apt (omega (arith, at)) (Ends v bd at made) was
-bound_next s count G view steady past e valid run apt (Works p r w) was =
-    bound_away s count G view steady past e valid run apt (omega (arith, w.brings.at, w.brings.below)) (Works p r w) was
-bound_next s count G view steady past e valid run apt (Obeys p out more at lt order state is woken) was =
-    bound_away s count G view steady past e valid run apt (omega (arith, at, lt)) (Obeys p out more at lt order state is woken) was
+bound_next s count G view steady past e valid run apt next was = by (cases_eq e.actor.0 s.nodes) where
+  by : (e.actor.0 ≡ s.nodes) ⊎ (e.actor.0 ≢ s.nodes) → Bound s (e ∷ past) (count (e ∷ past))
+  by (inl at) =
+      bound_out s count G view steady past e valid run apt.1 was (frozen_away s past e (omega (arith, at))) (course_rowless s past e at next)
+      (view.steps past e run apt.1 at)
+  by (inr away) = bound_away s count G view steady past e valid run apt away next was
 
 -- in every run
 pub rows_bound : (s : ScriptData) (count : List Entry → Count) (G : Premise) → IsCounting s count G → IsSteady s count
@@ -412,16 +442,17 @@ rows_bound s count G view steady [] valid run apt = record {
   pausing = λ at. absurd (cc (view.start, at));
 }
 rows_bound s count G view steady (e ∷ past) valid run apt =
-    bound_next s count G view steady past e valid run apt (progress s past e view.lawful apt run)
+    bound_next s count G view steady past e valid run apt (course s past e view.lawful apt run)
     (rows_bound s count G view steady past valid run.1 apt.1)
 
 -- The coordinator is steady: it sweeps in another phase than it counts.
-pub coordinator_steady : (s : ScriptData) (valid : IsValid s) → IsSteady s (count_in s)
-coordinator_steady s valid = record {
+pub coordinator_steady : (s : ScriptData) (valid : IsValid s) → is_lossy s ≡ false → IsSteady s (count_in s)
+coordinator_steady s valid keeps = record {
   orders = λ past e reads p out run apt at here lt order. order_counts s (node_in s past p) e.took.body out (λ v bd.
-      let sweeping = phase_for s past e (Sweep v) (lawful s valid) run.1 apt run.0 bd in
+      let sweeping = phase_for s past e (Sweep v) (lawful s valid keeps) run.1 apt run.0 bd in
       let counting : (coordinator_in s past).phase ≡ Counting reads = counting_is (coordinator_in s past).phase reads at in
       let clash : Counting reads ≡ Sweeping = sym counting ∙ sweeping in
       absurd (cc clash)) order;
-  low = λ past reads p run apt at lt. ((coordinator_counts s (lawful s valid)).opens reads past run apt at tt).low p lt;
+  heeds = λ past e reads p run apt at here lt loses heed. absurd (cc (sym keeps ∙ loses));
+  low = λ past reads p run apt at lt. ((coordinator_counts s (lawful s valid keeps)).opens reads past run apt at tt).low p lt;
 }

@@ -20,6 +20,7 @@ use Rattle.world_model.proofs.Addressees.{all_addressed}
 use Rattle.tree_laws.specs.Entries.{entries_of}
 use Rattle.tree_laws.proofs.Sampled.{small_valid}
 use Rattle.run_laws.proofs.Ends.{no_run_stalls}
+use Rattle.world_model.specs.Lossy.{is_lossy}
 
 -- the small script, and an advancement after its tree
 abbrev pub advanced : ScriptData
@@ -39,28 +40,28 @@ first_found : (l : Letter) (ls : List Letter) → find_id l.id (l ∷ ls) ≡ So
 first_found l ls = rw (same_id-self l.id) refl
 
 follows : (s : ScriptData) (past : List Entry) (l : Letter) → find_id l.id (in_flight s past) ≡ Some l → l.to.0 < s.nodes + 2
-    → (a b : Bool) → nat_lt l.to.0 s.nodes ≡ a → (l.to.0 == s.nodes) ≡ b
+    → is_lossy s ≡ false → (a b : Bool) → nat_lt l.to.0 s.nodes ≡ a → (l.to.0 == s.nodes) ≡ b
     → MayFollow s past (if a then entry_by past l (keeping_row s l.to.0 (keeping_in s past l.to.0) l)
     else if b then entry_by past l (coordinator_table (coordinator_in s past) l) else entry_by past l (client_table s (client_in s past) l))
-follows s past l found lt true b node at =
+follows s past l found lt keeps true b node at =
     record { stamp = refl; waits = found; addressee = refl; moves = AtNode (grind (arith, nat_tests)) (refl, refl) }
-follows s past l found lt false true node at =
-    record { stamp = refl; waits = found; addressee = refl; moves = AtCoordinator (grind (arith, nat_tests)) (refl, refl) }
-follows s past l found lt false false node at =
+follows s past l found lt keeps false true node at =
+    record { stamp = refl; waits = found; addressee = refl; moves = AtCoordinator (grind (arith, nat_tests)) keeps (refl, refl) }
+follows s past l found lt keeps false false node at =
     record { stamp = refl; waits = found; addressee = refl; moves = AtClient (grind (arith, nat_tests)) (refl, refl) }
 
-next_run : (s : ScriptData) (past : List Entry) (ls : List Letter) → IsValid s → IsStepRun s past → in_flight s past ≡ ls → IsStepRun s (next_of s past ls)
-next_run s past [] valid run at = run
-next_run s past (l ∷ ls) valid run at =
+next_run : (s : ScriptData) (past : List Entry) (ls : List Letter) → IsValid s → is_lossy s ≡ false → IsStepRun s past → in_flight s past ≡ ls → IsStepRun s (next_of s past ls)
+next_run s past [] valid keeps run at = run
+next_run s past (l ∷ ls) valid keeps run at =
     let lt : l.to.0 < s.nodes + 2 =
     (subst (λ (xs : List Letter). Each (λ (x : Letter). x.to.0 < s.nodes + 2) xs) at (all_addressed s past valid run)).0 in
     let found : find_id l.id (in_flight s past) ≡ Some l = ap (λ (xs : List Letter). find_id l.id xs) at ∙ first_found l ls in
-    (follows s past l found lt (nat_lt l.to.0 s.nodes) (l.to.0 == s.nodes) refl refl, run)
+    (follows s past l found lt keeps (nat_lt l.to.0 s.nodes) (l.to.0 == s.nodes) refl refl, run)
 
 -- each sample is one
-pub sample_run : (s : ScriptData) (n : ℕ) → IsValid s → IsStepRun s (sample s n)
-sample_run s zero valid = tt
-sample_run s (suc n) valid = next_run s (sample s n) (in_flight s (sample s n)) valid (sample_run s n valid) refl
+pub sample_run : (s : ScriptData) (n : ℕ) → IsValid s → is_lossy s ≡ false → IsStepRun s (sample s n)
+sample_run s zero valid keeps = tt
+sample_run s (suc n) valid keeps = next_run s (sample s n) (in_flight s (sample s n)) valid keeps (sample_run s n valid keeps) refl
 
 -- The script is valid, so the law says that the run ends.
 loads : (x : ℕ) → x < 2 → load x advanced ≤ most_amount advanced.form
@@ -97,4 +98,4 @@ valid = record {
 }
 
 pub ends : HasFinished (reverse (sample advanced 44))
-ends = (no_run_stalls advanced (sample advanced 44) valid (sample_run advanced 44 valid) refl).1
+ends = (no_run_stalls advanced (sample advanced 44) valid (sample_run advanced 44 valid refl) refl).1

@@ -9,7 +9,7 @@ use Rattle.tv_base.specs.declared.numbers.TreeNo.{TreeNo}
 use Rattle.tv_base.specs.declared.numbers.Version.{Version}
 use Rattle.letter_types.specs.Kept.{kept_without, wakes, wakes_by}
 use Rattle.letter_types.specs.declared.bodies.Body.{Body}
-use Rattle.letter_types.specs.declared.bodies.Body.TheVariants.{Go, Root, Sub as SubLetter, Done, Nudge, Advance, Advanced, Decide, Decided, Release, Turn, Show, Sweep, AskDone, AskAsked}
+use Rattle.letter_types.specs.declared.bodies.Body.TheVariants.{Go, Root, Sub as SubLetter, Done, Nudge, Advance, Advanced, Decide, Decided, Release, Turn, Show, Sweep, AskDone, AskAsked, Order, Ask}
 use Rattle.letter_types.specs.declared.bodies.Notice.{Notice}
 use Rattle.letter_types.specs.declared.entries.Entry.{Entry}
 use Rattle.letter_types.specs.declared.entries.Letter.{Letter}
@@ -48,13 +48,14 @@ use Rattle.tree_laws.specs.Dids.{answers, replies_to}
 use Rattle.tree_laws.proofs.AptDecided.{decided_any, decided_once, decides_any, ruled_here}
 use Rattle.tree_laws.proofs.AptLawful.{answers_once}
 use Rattle.tree_laws.proofs.AptRulings.{RowRules, core_rules, is_decide, ruled_acts, ruled_letters}
-use Rattle.tree_laws.proofs.AptStagesApart.{CountsNoOthers, client_none, coordinator_none, orders_none}
+use Rattle.tree_laws.proofs.AptStagesApart.{CountsNoOthers, client_none, coordinator_none, none_of_others}
 use Rattle.tree_laws.proofs.AptStagesRun.{stages_of_trees}
 use Rattle.tree_laws.proofs.AptSteps.{wakes_none}
 use Rattle.tree_laws.proofs.Entries.{taken_in}
 use Rattle.tree_laws.proofs.Turns.{each_told}
 use Rattle.run_laws.proofs.EveryApt.{all_apt}
 use Rattle.run_laws.proofs.WakesFew.{sent_in}
+use Rattle.world_model.specs.Keeping.{woken_by}
 
 -- The nodes that a tree visits.
 below_more : (x n : ℕ) → one_if (nat_lt x (suc n)) ≡ one_if (nat_lt x n) + one_if (x == n)
@@ -129,14 +130,9 @@ decide_only t o is = by o.body is where
   by Go none = refl
   by _ none = refl
 
-pub no_others : (f : Body → ℕ) → ((t : TreeNo) → f (Root t) ≡ 0) → f Advance ≡ 0 → f Nudge ≡ 0
-    → ((v : Version) → (f (Turn v) ≡ 0) × ((f (Show v) ≡ 0) × (f (Sweep v) ≡ 0)))
-    → ((v : Version) (k : ℕ) → (f (AskDone v k) ≡ 0) × (f (AskAsked v k) ≡ 0)) → ((v : Version) → f (Advanced v) ≡ 0) → CountsNoOthers f
-no_others f root advance nudge orders asks ended =
-    record { roots = root; advance = advance; nudge = nudge; orders = λ n. orders_none f n orders asks ended }
-
 decide_no_others : (t : ℕ) → CountsNoOthers (decide_of t)
-decide_no_others t = no_others (decide_of t) (λ u. refl) refl refl (λ v. (refl, (refl, refl))) (λ v k. (refl, refl)) (λ v. refl)
+decide_no_others t = none_of_others (decide_of t) (λ u. refl) (λ v. (refl, (refl, refl))) (λ e what v. (refl, refl)) (λ v k. (refl, refl)) (λ v. refl)
+    (refl, (refl, refl)) (λ e k. (refl, refl))
 
 ruled_sends : (s : ScriptData) (t : ℕ) (rs : Refusals) (found : Option Answered)
     → Sends (tally (on (decide_of t)) (ruled_letters s rs found)) (decides_any t (ruled_acts rs found)) (length (visited_by s t))
@@ -169,13 +165,13 @@ does_decides s past e p t r d =
     let c : Core = (keeping_in s past p).core in
     let row : Out Core = core_row s p c r.from.0 r.body in
     let rules : RowRules s c r.body row = core_rules s p r.from.0 r.body c in
-    let more : List Outgoing = wakes (wakes_by r.body) (kept_without (kept_in s past p) e.took.body) in
+    let more : List Outgoing = wakes (woken_by (keeping_in s past p).core r.body) (kept_without (kept_in s past p) e.took.body) in
     let sent : tally (on (decide_of t)) e.sent ≡ tally (on (decide_of t)) (ruled_letters s row.state.refusals rules.found) =
     omega (
       arith,
       ap (λ (os : List Outgoing). tally (on (decide_of t)) os) d.sent,
       tally-append (on (decide_of t)) row.sent more,
-      wakes_none (on (decide_of t)) (wakes_by r.body) (kept_without (kept_in s past p) e.took.body) (λ x. refl),
+      wakes_none (on (decide_of t)) (woken_by (keeping_in s past p).core r.body) (kept_without (kept_in s past p) e.took.body) (λ x. refl),
       rules.sends (on (decide_of t)) (decide_only t),
     ) in
     let acts : decides_any t e.acts ≡ decides_any t (ruled_acts row.state.refusals rules.found) =
@@ -188,9 +184,7 @@ entry_decides : (s : ScriptData) (past : List Entry) (e : Entry) (t : ℕ) → C
     → Sends (tally (on (decide_of t)) e.sent) (decides_any t e.acts) (length (visited_by s t))
 entry_decides s past e t (NodeDoes p r d) = does_decides s past e p t r d
 entry_decides s past e t (NodeKeeps p r o d) = inl (ap (λ (os : List Outgoing). tally (on (decide_of t)) os) d.sent)
-entry_decides s past e t (Coordinates at says) =
-    inl (ap (λ (os : List Outgoing). tally (on (decide_of t)) os) says.0
-    ∙ coordinator_none (decide_of t) (coordinator_in s past) e.took (decide_no_others t))
+entry_decides s past e t (Coordinates at made) = inl (coordinator_none (decide_of t) s e made (decide_no_others t))
 entry_decides s past e t (Submits at says) =
     inl (ap (λ (os : List Outgoing). tally (on (decide_of t)) os) says.0
     ∙ client_none (decide_of t) s (client_in s past) e.took.body (decide_no_others t))
@@ -225,7 +219,8 @@ ack_of t Go = 0
 ack_of t _ = 0
 
 ack_no_others : (t : ℕ) → CountsNoOthers (ack_of t)
-ack_no_others t = no_others (ack_of t) (λ u. refl) refl refl (λ v. (refl, (refl, refl))) (λ v k. (refl, refl)) (λ v. refl)
+ack_no_others t = none_of_others (ack_of t) (λ u. refl) (λ v. (refl, (refl, refl))) (λ e what v. (refl, refl)) (λ v k. (refl, refl)) (λ v. refl)
+    (refl, (refl, refl)) (λ e k. (refl, refl))
 
 abbrev IsNoAck : ℕ → ℕ → Body → Type 0
 IsNoAck t to body = ack_of t body ≡ 0
@@ -259,6 +254,8 @@ row_acks s p from t c (Sweep v) = omega (arith, none_by s p from t c (Sweep v) r
 row_acks s p from t c (AskDone v k) = omega (arith, none_by s p from t c (AskDone v k) (λ row is. refl))
 row_acks s p from t c (AskAsked v k) = omega (arith, none_by s p from t c (AskAsked v k) (λ row is. refl))
 row_acks s p from t c (Release u) = omega (arith, none_by s p from t c (Release u) tt)
+row_acks s p from t c (Order e what v) = omega (arith, none_by s p from t c (Order e what v) refl)
+row_acks s p from t c (Ask e) = omega (arith, none_by s p from t c (Ask e) (λ u r l. refl))
 row_acks s p from t c Go = omega (arith, none_by s p from t c Go tt)
 row_acks s p from t c _ = omega arith
 
@@ -277,22 +274,17 @@ took_decide s past e p t r d = by r.body refl where
 entry_acks : (s : ScriptData) (past : List Entry) (e : Entry) (t : ℕ) → Case s past e → tally (on (ack_of t)) e.sent ≤ decide_of t e.took.body
 entry_acks s past e t (NodeDoes p r d) =
     let c : Core = (keeping_in s past p).core in
-    let more : List Outgoing = wakes (wakes_by r.body) (kept_without (kept_in s past p) e.took.body) in
+    let more : List Outgoing = wakes (woken_by (keeping_in s past p).core r.body) (kept_without (kept_in s past p) e.took.body) in
     omega (
       arith,
       ap (λ (os : List Outgoing). tally (on (ack_of t)) os) d.sent,
       tally-append (on (ack_of t)) (core_row s p c r.from.0 r.body).sent more,
-      wakes_none (on (ack_of t)) (wakes_by r.body) (kept_without (kept_in s past p) e.took.body) (λ x. refl),
+      wakes_none (on (ack_of t)) (woken_by (keeping_in s past p).core r.body) (kept_without (kept_in s past p) e.took.body) (λ x. refl),
       row_acks s p r.from.0 t c r.body,
       took_decide s past e p t r d,
     )
 entry_acks s past e t (NodeKeeps p r o d) = omega (arith, ap (λ (os : List Outgoing). tally (on (ack_of t)) os) d.sent)
-entry_acks s past e t (Coordinates at says) =
-    omega (
-      arith,
-      ap (λ (os : List Outgoing). tally (on (ack_of t)) os) says.0,
-      coordinator_none (ack_of t) (coordinator_in s past) e.took (ack_no_others t),
-    )
+entry_acks s past e t (Coordinates at made) = omega (arith, coordinator_none (ack_of t) s e made (ack_no_others t))
 entry_acks s past e t (Submits at says) =
     omega (
       arith,
@@ -318,7 +310,8 @@ release_of t Go = 0
 release_of t _ = 0
 
 release_no_others : (t : ℕ) → CountsNoOthers (release_of t)
-release_no_others t = no_others (release_of t) (λ u. refl) refl refl (λ v. (refl, (refl, refl))) (λ v k. (refl, refl)) (λ v. refl)
+release_no_others t = none_of_others (release_of t) (λ u. refl) (λ v. (refl, (refl, refl))) (λ e what v. (refl, refl)) (λ v k. (refl, refl)) (λ v. refl)
+    (refl, (refl, refl)) (λ e k. (refl, refl))
 
 abbrev Releases : ScriptData → ℕ → List Outgoing → Type 0
 Releases s t os = Sends (tally (on (release_of t)) os) (tally (on (replies_to t)) os) (length (visited_by s t))
@@ -442,26 +435,28 @@ row_releases s p from t c (Show v) = no_release s p from t c (Show v) refl
 row_releases s p from t c (Sweep v) = no_release s p from t c (Sweep v) refl
 row_releases s p from t c (AskDone v k) = no_release s p from t c (AskDone v k) (λ row is. refl)
 row_releases s p from t c (AskAsked v k) = no_release s p from t c (AskAsked v k) (λ row is. refl)
+row_releases s p from t c (Order e what v) = no_release s p from t c (Order e what v) refl
+row_releases s p from t c (Ask e) = no_release s p from t c (Ask e) (λ u r l. refl)
 row_releases s p from t c _ = inl refl
 
 does_releases : (s : ScriptData) (past : List Entry) (e : Entry) (p t : ℕ) (r : Letter) → Does s past e p r → Releases s t e.sent
 does_releases s past e p t r d =
     let c : Core = (keeping_in s past p).core in
     let row : Out Core = core_row s p c r.from.0 r.body in
-    let more : List Outgoing = wakes (wakes_by r.body) (kept_without (kept_in s past p) e.took.body) in
+    let more : List Outgoing = wakes (woken_by (keeping_in s past p).core r.body) (kept_without (kept_in s past p) e.took.body) in
     let sent : tally (on (release_of t)) e.sent ≡ tally (on (release_of t)) row.sent =
     omega (
       arith,
       ap (λ (os : List Outgoing). tally (on (release_of t)) os) d.sent,
       tally-append (on (release_of t)) row.sent more,
-      wakes_none (on (release_of t)) (wakes_by r.body) (kept_without (kept_in s past p) e.took.body) (λ x. refl),
+      wakes_none (on (release_of t)) (woken_by (keeping_in s past p).core r.body) (kept_without (kept_in s past p) e.took.body) (λ x. refl),
     ) in
     let told : tally (on (replies_to t)) e.sent ≡ tally (on (replies_to t)) row.sent =
     omega (
       arith,
       ap (λ (os : List Outgoing). tally (on (replies_to t)) os) d.sent,
       tally-append (on (replies_to t)) row.sent more,
-      wakes_none (on (replies_to t)) (wakes_by r.body) (kept_without (kept_in s past p) e.took.body) (λ x. refl),
+      wakes_none (on (replies_to t)) (woken_by (keeping_in s past p).core r.body) (kept_without (kept_in s past p) e.took.body) (λ x. refl),
     ) in
     subst (λ (m : ℕ). Sends m (tally (on (replies_to t)) e.sent) (length (visited_by s t))) (sym sent)
     (subst (λ (m : ℕ). Sends (tally (on (release_of t)) row.sent) m (length (visited_by s t))) (sym told) (row_releases s p r.from.0 t c r.body))
@@ -469,9 +464,7 @@ does_releases s past e p t r d =
 entry_releases : (s : ScriptData) (past : List Entry) (e : Entry) (t : ℕ) → Case s past e → Releases s t e.sent
 entry_releases s past e t (NodeDoes p r d) = does_releases s past e p t r d
 entry_releases s past e t (NodeKeeps p r o d) = inl (ap (λ (os : List Outgoing). tally (on (release_of t)) os) d.sent)
-entry_releases s past e t (Coordinates at says) =
-    inl (ap (λ (os : List Outgoing). tally (on (release_of t)) os) says.0
-    ∙ coordinator_none (release_of t) (coordinator_in s past) e.took (release_no_others t))
+entry_releases s past e t (Coordinates at made) = inl (coordinator_none (release_of t) s e made (release_no_others t))
 entry_releases s past e t (Submits at says) =
     inl (ap (λ (os : List Outgoing). tally (on (release_of t)) os) says.0
     ∙ client_none (release_of t) s (client_in s past) e.took.body (release_no_others t))

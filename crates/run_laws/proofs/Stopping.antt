@@ -20,7 +20,7 @@ use Rattle.world_model.proofs.Nexts.{MadeByClient}
 use Rattle.world_model.proofs.Sends.{on}
 use Rattle.strict_laws.specs.Meant.{IsLetterMeant, IsMeant}
 use Rattle.strict_laws.proofs.Meant.{letters_are_meant}
-use Rattle.phase_laws.proofs.Progress.{Begins, Coordinates, Ends, Hears, Obeys, Progress, Works, progress}
+use Rattle.phase_laws.proofs.ClientSteps.{Aside, Begins, ClientStep, Ends, Hears, Tells, client_step}
 use Rattle.tree_laws.specs.Dids.{answers, goes, is_go, replies, replies_to}
 use Rattle.tree_laws.specs.Ends.{is_finish}
 use Rattle.tree_laws.proofs.Client.{IsStopped, answered_places, finish_count, finished_then, finishes_once, stopped, stopped_most}
@@ -67,12 +67,10 @@ reply_away s from to t _ meant ne = refl
 pub took_meant : (s : ScriptData) (past : List Entry) (e : Entry) → IsValid s → IsStepRun s (e ∷ past) → IsLetterMeant s e.took
 took_meant s past e valid run = each_took (IsLetterMeant s) s past e run.0 (letters_are_meant s past valid run.1)
 
-kept_stop : (s : ScriptData) (past : List Entry) (e : Entry) → IsValid s → IsStepRun s (e ∷ past) → Stopping s past → e.actor.0 ≢ client_of s
-    → Stopping s (e ∷ past)
-kept_stop s past e valid run rest ne =
-    let other = go_away s e.took.from.0 e.took.to.0 e.took.body (took_meant s past e valid run) (λ is. ne (sym run.0.addressee ∙ is)) in
-    let kept = client_kept s past e ne in
-    let before : goes s (e ∷ past) ≡ 0 → goes s past ≡ 0 = λ gone. omega (arith, other, flow is_go s past e run.0) in
+same_stop : (s : ScriptData) (past : List Entry) (e : Entry) → MayFollow s past e → Stopping s past → is_go e.took.body ≡ 0
+    → client_in s (e ∷ past) ≡ client_in s past → Stopping s (e ∷ past)
+same_stop s past e m rest other kept =
+    let before : goes s (e ∷ past) ≡ 0 → goes s past ≡ 0 = λ gone. omega (arith, other, flow is_go s past e m) in
     let same : one_if (client_in s (e ∷ past)).finished ≡ one_if (client_in s past).finished = ap (λ (x : Client). one_if x.finished) kept in
     record {
       most = subst (λ (x : Client). x.next ≤ length s.rows) (sym kept) rest.most;
@@ -82,15 +80,16 @@ kept_stop s past e valid run rest ne =
       told = omega (arith, same, rest.told);
     }
 
-next_stop : (s : ScriptData) (past : List Entry) (e : Entry) → IsValid s → IsStepRun s (e ∷ past) → Stopping s past → Progress s past e
+next_stop : (s : ScriptData) (past : List Entry) (e : Entry) → IsValid s → IsStepRun s (e ∷ past) → Stopping s past → ClientStep s past e
     → Stopping s (e ∷ past)
-next_stop s past e valid run rest (Begins is at made) = submits_stop s past e (client_in s past) [] rest refl refl made
-next_stop s past e valid run rest (Hears t v answer is at lt made) =
+next_stop s past e valid run rest (Begins is made) = submits_stop s past e (client_in s past) [] rest refl refl made
+next_stop s past e valid run rest (Hears t v answer is lt made) =
     submits_stop s past e (with_answer t.0 (client_in s past)) (nudge s ∷ []) rest refl refl made
-next_stop s past e valid run rest (Ends v is at made) = submits_stop s past e (with_end (client_in s past)) [] rest refl refl made
-next_stop s past e valid run rest (Coordinates tells at made) = kept_stop s past e valid run rest (omega (arith, at))
-next_stop s past e valid run rest (Works p r w) = kept_stop s past e valid run rest (omega (arith, w.brings.at, w.brings.below))
-next_stop s past e valid run rest (Obeys p out more at lt order state sent woken) = kept_stop s past e valid run rest (omega (arith, at, lt))
+next_stop s past e valid run rest (Ends v is made) = submits_stop s past e (with_end s v (client_in s past)) [] rest refl refl made
+next_stop s past e valid run rest (Tells n is loses made) = same_stop s past e run.0 rest (ap is_go is) made.state
+next_stop s past e valid run rest (Aside ne) =
+    same_stop s past e run.0 rest (go_away s e.took.from.0 e.took.to.0 e.took.body (took_meant s past e valid run) (λ is. ne (sym run.0.addressee ∙ is)))
+    (client_kept s past e ne)
 
 pub stopping : (s : ScriptData) (past : List Entry) → IsValid s → IsStepRun s past → Stopping s past
 stopping s [] valid run = record {
@@ -100,7 +99,7 @@ stopping s [] valid run = record {
   told = omega arith;
 }
 stopping s (e ∷ past) valid run =
-    next_stop s past e valid run (stopping s past valid run.1) (progress s past e (lawful s valid) (all_apt s (e ∷ past) valid run) run)
+    next_stop s past e valid run (stopping s past valid run.1) (client_step s past e valid run)
 
 -- Answers: each is in flight, or the client has heard it.
 abbrev IsKnown : ScriptData → List Entry → ℕ → Type 0
@@ -145,20 +144,19 @@ away_known s past e t valid run ne old =
     (ap (λ (c : Client). get_or c.answered t false) (client_kept s past e ne)) old
 
 next_known : (s : ScriptData) (past : List Entry) (e : Entry) (t : ℕ) → IsValid s → IsStepRun s (e ∷ past) → t < length s.trees → IsKnown s past t
-    → Progress s past e → IsKnown s (e ∷ past) t
-next_known s past e t valid run lt old (Begins is at made) =
+    → ClientStep s past e → IsKnown s (e ∷ past) t
+next_known s past e t valid run lt old (Begins is made) =
     same_known s past e t run.0 (ap (replies_to t) is) (ap (λ (c : Client). get_or c.answered t false) made.state) old
-next_known s past e t valid run lt old (Hears u v answer is at below made) =
+next_known s past e t valid run lt old (Hears u v answer is below made) =
     hears_known s past e t u.0 run.0 lt (ap (replies_to t) is) (ap (λ (c : Client). c.answered) made.state) old (cases_eq u.0 t)
-next_known s past e t valid run lt old (Ends v is at made) =
+next_known s past e t valid run lt old (Ends v is made) =
     same_known s past e t run.0 (ap (replies_to t) is) (ap (λ (c : Client). get_or c.answered t false) made.state) old
-next_known s past e t valid run lt old (Coordinates tells at made) = away_known s past e t valid run (omega (arith, at)) old
-next_known s past e t valid run lt old (Works p r w) = away_known s past e t valid run (omega (arith, w.brings.at, w.brings.below)) old
-next_known s past e t valid run lt old (Obeys p out more at below order state sent woken) =
-    away_known s past e t valid run (omega (arith, at, below)) old
+next_known s past e t valid run lt old (Tells n is loses made) =
+    same_known s past e t run.0 (ap (replies_to t) is) (ap (λ (c : Client). get_or c.answered t false) made.state) old
+next_known s past e t valid run lt old (Aside ne) = away_known s past e t valid run ne old
 
 pub answer_known : (s : ScriptData) (past : List Entry) (t : ℕ) → IsValid s → IsStepRun s past → t < length s.trees → IsKnown s past t
 answer_known s [] t valid run lt = λ some. absurd (omega (arith, some))
 answer_known s (e ∷ past) t valid run lt =
     next_known s past e t valid run lt (answer_known s past t valid run.1 lt)
-    (progress s past e (lawful s valid) (all_apt s (e ∷ past) valid run) run)
+    (client_step s past e valid run)

@@ -6,9 +6,9 @@ use Rattle.tx_trees.specs.ScriptData.{ScriptData, client_of}
 use Rattle.tx_trees.specs.Valid.{IsValid}
 use Rattle.world_model.specs.Keeping.{is_apt_brought}
 use Rattle.world_model.specs.Kept.{kept_in}
-use Rattle.world_model.specs.Runs.{IsStepRun, actor_after, AtNode, AtCoordinator, AtClient, Moves, keeping_in}
+use Rattle.world_model.specs.Runs.{IsStepRun, actor_after, AtNode, AtCoordinator, AtClient, Moves, keeping_in, AtRestarting}
 use Rattle.world_model.specs.Tables.{ActorData}
-use Rattle.world_model.proofs.Back.{client_leads, coordinator_leads, node_leads}
+use Rattle.world_model.proofs.Back.{client_leads, coordinator_leads, node_leads, restarting_leads}
 use Rattle.tree_laws.proofs.Histories.{before_more}
 use Rattle.run_laws.specs.Taken.{IsAptFor, TakesWhatIsApt}
 use Rattle.run_laws.proofs.EveryApt.{all_apt}
@@ -32,8 +32,10 @@ taken_by : (s : ScriptData) (past : List Entry) (e : Entry) → IsValid s → Is
     → IsAptEntry s (reverse past) e
 taken_by s past e valid run (AtNode lt says) =
     subst (λ (d : ActorData). IsAptFor s e.actor.0 d e.took) (sym (node_leads s past e.actor.0 lt)) (apt_here s past e valid run lt)
-taken_by s past e valid run (AtCoordinator at says) =
-    in_state s (reverse past) e s.nodes _ at (coordinator_leads s past) tt
+taken_by s past e valid run (AtCoordinator at keeps says) =
+    in_state s (reverse past) e s.nodes _ at (coordinator_leads s past keeps) tt
+taken_by s past e valid run (AtRestarting at loses says) =
+    in_state s (reverse past) e s.nodes _ at (restarting_leads s past loses) tt
 taken_by s past e valid run (AtClient at says) =
     in_state s (reverse past) e (client_of s) _ at (client_leads s past) tt
 

@@ -16,7 +16,7 @@ use Rattle.letter_types.specs.Steps.{Out}
 use Rattle.tx_trees.specs.ScriptData.{ScriptData, home_of, node_of}
 use Rattle.tx_trees.specs.Valid.{IsValid}
 use Rattle.world_model.specs.Counts.{one_if, tally}
-use Rattle.world_model.specs.Keeping.{KeepingNode}
+use Rattle.world_model.specs.Keeping.{KeepingNode, woken_by}
 use Rattle.world_model.specs.Kept.{kept_in}
 use Rattle.world_model.specs.Node.{Node}
 use Rattle.world_model.specs.Runs.{IsStepRun, coordinator_in, in_flight, keeping_in, node_in}
@@ -43,8 +43,10 @@ use Rattle.run_laws.specs.Parks.{StrictRootsWaitFewTimes, is_kept_for_show, show
 use Rattle.run_laws.proofs.EveryApt.{all_apt, lawful}
 use Rattle.run_laws.proofs.InTime.{advancing_run}
 use Rattle.run_laws.proofs.KeepingActs.{client_none, coordinator_none, does_none, keeps_waits, waits_of}
-use Rattle.run_laws.proofs.KeptWhy.{AreWaiting, IsWaiting, Reason, keeps_rises, rises, show_brought, waiting}
+use Rattle.run_laws.proofs.KeptWhy.{AreWaiting, IsWaiting, Reason, keeps_rises, waiting}
 use Rattle.run_laws.proofs.ParksOnce.{asks_sum, keeps_asked, kept_asks, meanwhile_same, woken_same}
+use Rattle.run_laws.proofs.Woken.{does_rises, does_shows}
+use Rattle.world_model.specs.Core.{Core}
 
 -- Letters that are kept for a Show.
 shown_uncalled : (t u : ℕ) (w : Why) → is_called w ≡ true → shown_as t u w ≡ 0
@@ -53,10 +55,10 @@ shown_uncalled t u ForShow is = absurd (cc is)
 shown_uncalled t u (ForHolder g) is = absurd (cc is)
 
 -- no other letter than a Show wakes them
-shown_unwoken : (t u : ℕ) (w : Why) (b : Body) → wakes_by b ForShow ≡ false → wakes_by b w ≡ true → shown_as t u w ≡ 0
-shown_unwoken t u ForShow b other is = absurd (cc (other, is))
-shown_unwoken t u Called b other is = refl
-shown_unwoken t u (ForHolder g) b other is = refl
+shown_unwoken : (t u : ℕ) (w : Why) (c : Core) (b : Body) → woken_by c b ForShow ≡ false → woken_by c b w ≡ true → shown_as t u w ≡ 0
+shown_unwoken t u ForShow c b other is = absurd (cc (other, is))
+shown_unwoken t u Called c b other is = refl
+shown_unwoken t u (ForHolder g) c b other is = refl
 
 -- of one tree at most one is kept so
 shown_root : (t u j : ℕ) (w : Why) → (w ≡ ForShow → j ≡ 0) → shown_as t u w ≤ one_if ((u == t) && (j == 0))
@@ -90,83 +92,30 @@ shown_once s past t valid run lt =
       turns_come_once s past t 0 sub.sub valid (all_apt s past valid run) run (sub_here s t 0 sub),
     )
 
--- A Show raises the version that is read.
-show_raises : (s : ScriptData) (past : List Entry) (e : Entry) (p : ℕ) (v : Version) → IsValid s → IsStepRun s (e ∷ past) → e.actor.0 ≡ p
-    → p < s.nodes → e.took.body ≡ Show v → (node_in s past p).turns.read.0 + 1 ≤ v.0
-show_raises s past e p v valid run at lt is =
-    let ahead = taken_ahead s past e p (Show v) (advancing_run s past valid run.1) run.0 at lt is in omega (arith, ahead)
-
-order_reads : (s : ScriptData) (old : Node) (body : Body) (out : Out Node) (v : Version) → body ≡ Show v → Order s old body out
-    → out.state.turns.read.0 ≡ v.0
-order_reads s old body out v is (Turns w bd made) = absurd (cc (is, bd))
-order_reads s old body out v is (Sweeps w bd made) = absurd (cc (is, bd))
-order_reads s old body out v is (TellsDone w k bd made) = absurd (cc (is, bd))
-order_reads s old body out v is (TellsAsked w k bd made) = absurd (cc (is, bd))
-order_reads s old body out v is (Shows w bd made) =
-    let same : Show w ≡ Show v = sym bd ∙ is in
-    let its : w ≡ v = cc same in
-    ap (λ (o : Out Node). o.state.turns.read.0) made ∙ ap (λ (x : Version). x.0) its
-
-shows : (s : ScriptData) (past : List Entry) (e : Entry) (p : ℕ) (v : Version) → p < s.nodes → e.actor.0 ≡ p → e.took.body ≡ Show v
-    → Progress s past e → (node_in s (e ∷ past) p).turns.read.0 ≡ v.0
-shows s past e p v lt at is (Begins bd here made) = absurd (omega (arith, at, here, lt))
-shows s past e p v lt at is (Hears t w answer bd here below made) = absurd (omega (arith, at, here, lt))
-shows s past e p v lt at is (Ends w bd here made) = absurd (omega (arith, at, here, lt))
-shows s past e p v lt at is (Told told here made) = absurd (omega (arith, at, here, lt))
-shows s past e p v lt at is (Works q r w) = let of = w.took in absurd (subst IsOfTrees is of)
-shows s past e p v lt at is (Obeys q out more here below order state sent woken) =
-    subst (λ (n : ℕ). (node_in s (e ∷ past) n).turns.read.0 ≡ v.0) (sym here ∙ at)
-    (ap (λ (st : Node). st.turns.read.0) state ∙ order_reads s (node_in s past q) e.took.body out v is order)
-
 -- The number of waits.
 abbrev WaitedHere : ScriptData → List Entry → ℕ → ℕ → Type 0
 WaitedHere s past p t = waitings past t ≤ (node_in s past p).turns.read.0 + tally (is_kept_for_show t) (kept_in s past p)
 
--- the Show that is brought is the letter that is taken
-took_show : (s : ScriptData) (past : List Entry) (e : Entry) (p : ℕ) (r : Letter) (v : Version) → r.body ≡ Show v → Does s past e p r
-    → e.took.body ≡ Show v
-took_show s past e p r v is d =
-    let same : r ≡ e.took = itself s past e p r (brings_to s past e p r d.brings) (λ asks. subst IsAsking is asks) in
-    ap (λ (l : Letter). l.body) (sym same) ∙ is
-
-show_of : (b : Body) → wakes_by b ForShow ≡ true → (v : Version) × (b ≡ Show v)
-show_of (Show v) is = (v, refl)
-show_of (Decide t v commit) is = absurd (cc is)
-show_of Go is = absurd (cc is)
-show_of _ is = absurd (cc is)
-
 does_waited : (s : ScriptData) (past : List Entry) (e : Entry) (t : ℕ) (r : Letter) → IsValid s → IsStepRun s (e ∷ past)
     → t < length s.trees → Does s past e (home_of s t) r → WaitedHere s past (home_of s t) t → WaitedHere s (e ∷ past) (home_of s t) t
-does_waited s past e t r valid run lt d ih = by (wakes_by r.body ForShow) refl where
+does_waited s past e t r valid run lt d ih = by (woken_by c r.body ForShow) refl where
+  c : Core
+  c = (keeping_in s past (home_of s t)).core
+
   acts : tally (waits_for t) e.acts ≡ 0
   acts = does_none (waits_for t) s past e (home_of s t) r (waits_of t) d
 
   rest : tally (is_kept_for_show t) (kept_without (kept_in s past (home_of s t)) e.took.body) ≡ tally (is_kept_for_show t) (kept_in s past (home_of s t))
   rest = meanwhile_same (is_kept_for_show t) (kept_in s past (home_of s t)) e.took.body (λ x is. shown_uncalled t x.tree.0 x.why is)
 
-  goes : Progress s past e
-  goes = progress s past e (lawful s valid) (all_apt s (e ∷ past) valid run) run
-
-  by : (test : Bool) → wakes_by r.body ForShow ≡ test → WaitedHere s (e ∷ past) (home_of s t) t
+  by : (test : Bool) → woken_by c r.body ForShow ≡ test → WaitedHere s (e ∷ past) (home_of s t) t
   by false other =
-      let up = rises s past e (home_of s t) d.brings.below d.brings.at (λ v bd.
-      (let shown : wakes_by r.body ForShow ≡ true =
-      ap (λ (b : Body). wakes_by b ForShow) (show_brought (kept_in s past (home_of s t)) e.took r v e.took.body refl bd d.brings.brings) in
-      cc (shown, other))) goes in
-      let woken = woken_same (is_kept_for_show t) (wakes_by r.body) (kept_without (kept_in s past (home_of s t)) e.took.body)
-      (λ x is. shown_uncalled t x.tree.0 x.why is) (λ x is. shown_unwoken t x.tree.0 x.why r.body other is) in
+      let up = does_rises s past e (home_of s t) r d other in
+      let woken = woken_same (is_kept_for_show t) (woken_by c r.body) (kept_without (kept_in s past (home_of s t)) e.took.body)
+      (λ x is. shown_uncalled t x.tree.0 x.why is) (λ x is. shown_unwoken t x.tree.0 x.why c r.body other is) in
       omega (arith, ih, acts, rest, woken, ap (λ (xs : List KeptLetter). tally (is_kept_for_show t) xs) d.kept, up.read)
   by true show =
-      let (v, is) = show_of r.body show in
-      let took : e.took.body ≡ Show v = took_show s past e (home_of s t) r v is d in
-      omega (
-        arith,
-        ih,
-        acts,
-        shown_once s past t valid run.1 lt,
-        shows s past e (home_of s t) v d.brings.below d.brings.at took goes,
-        show_raises s past e (home_of s t) v valid run d.brings.at d.brings.below took,
-      )
+      omega (arith, ih, acts, shown_once s past t valid run.1 lt, does_shows s past e (home_of s t) r valid run d show)
 
 keeps_waited : (s : ScriptData) (past : List Entry) (e : Entry) (p t : ℕ) (r : Letter) (o : CoreKeeping) → IsValid s → IsStepRun s (e ∷ past)
     → Keeps s past e p r o → WaitedHere s past p t → WaitedHere s (e ∷ past) p t
@@ -180,7 +129,7 @@ keeps_waited s past e p t r o valid run d ih =
       meanwhile_same (is_kept_for_show t) (kept_in s past p) e.took.body (λ y is. shown_uncalled t y.tree.0 y.why is),
       ap (λ (xs : List KeptLetter). tally (is_kept_for_show t) xs) d.kept,
       tally-append (is_kept_for_show t) others (x ∷ []),
-      (keeps_rises s past e p r o valid run d).read,
+      (keeps_rises s past e p r o d).read,
     )
 
 -- another node lets no root of this tree wait
@@ -206,7 +155,7 @@ waits_elsewhere s past e t valid run ne (NodeKeeps q r o d) =
     keeps_waits s past e q r o t d
     ∙ shown_some t o.tree.0 o.why (λ why tree.
     ne (d.brings.at ∙ a.node ∙ ap (λ (u : ℕ). node_of s u o.sub.0) tree ∙ ap (λ (j : ℕ). node_of s t j) (kept_root s past q r e o d why)))
-waits_elsewhere s past e t valid run ne (Coordinates at says) = coordinator_none (waits_for t) s past e says
+waits_elsewhere s past e t valid run ne (Coordinates at made) = coordinator_none (waits_for t) s e made
 waits_elsewhere s past e t valid run ne (Submits at says) = client_none (waits_for t) s past e (waits_of t) says
 
 other_waited : (s : ScriptData) (past : List Entry) (e : Entry) (p t : ℕ) → e.actor.0 ≢ p → tally (waits_for t) e.acts ≡ 0

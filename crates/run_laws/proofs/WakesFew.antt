@@ -24,7 +24,7 @@ use Rattle.world_model.specs.Core.{Core}
 use Rattle.world_model.specs.Counts.{Each, one_if, tally}
 use Rattle.world_model.specs.declared.phase.Phase.{Phase}
 use Rattle.world_model.specs.declared.phase.Phase.TheVariants.{Idle, Turning, Counting, Paused, Showing, Sweeping}
-use Rattle.world_model.specs.Keeping.{KeepingNode}
+use Rattle.world_model.specs.Keeping.{KeepingNode, woken_by}
 use Rattle.world_model.specs.Kept.{kept_in}
 use Rattle.world_model.specs.Named.{is_strict_at, tree_kind_at}
 use Rattle.world_model.specs.Runs.{IsStepRun, client_in, coordinator_in, keeping_in, node_in}
@@ -55,6 +55,7 @@ use Rattle.run_laws.proofs.KeepingActs.{OfKeeping, after_turn, client_none, coor
 use Rattle.run_laws.proofs.KeptWhy.{AreWaiting, Reason, each_meanwhile, each_woken, new_reason, not_both, waiting}
 use Rattle.run_laws.proofs.ParksOnce.{keeps_asked, letters_park_once, meanwhile_same}
 use Rattle.run_laws.proofs.WaitsFew.{strict_roots_wait_few_times, waiting_root}
+use Rattle.run_laws.proofs.Woken.{called_unwoken}
 
 -- how many letters of these bodies were sent
 abbrev pub sent_in : (Body → ℕ) → List Entry → ℕ
@@ -107,7 +108,7 @@ own_by s past e p valid run lt all (inl at) (NodeDoes q r g) =
     let same : q ≡ p = sym g.brings.at ∙ at in
     let d : Does s past e p r = subst (λ (n : ℕ). Does s past e n r) same g in
     subst (Each (IsOwn s p)) (sym d.kept)
-    (each_woken (IsOwn s p) (IsOwn s p) (wakes_by r.body) (kept_without (kept_in s past p) e.took.body) (λ x hit is. is) (λ x miss is. is)
+    (each_woken (IsOwn s p) (IsOwn s p) (woken_by (keeping_in s past p).core r.body) (kept_without (kept_in s past p) e.took.body) (λ x hit is. is) (λ x miss is. is)
     (each_meanwhile (IsOwn s p) (kept_in s past p) e.took.body all))
 own_by s past e p valid run lt all (inl at) (NodeKeeps q r o g) =
     let same : q ≡ p = sym g.brings.at ∙ at in
@@ -175,10 +176,10 @@ abbrev WokenHere : ScriptData → List Entry → ℕ → ℕ → ℕ → Type 0
 WokenHere s past p t k = sent_in (wake_of t k) past + tally (is_uncalled t k) (kept_in s past p) ≡ keepings past t k
 
 row_sends : (s : ScriptData) (past : List Entry) (e : Entry) (q t k : ℕ) (r : Letter) → Does s past e q r
-    → tally (on (wake_of t k)) e.sent ≡ tally (on (wake_of t k)) (wakes (wakes_by r.body) (kept_without (kept_in s past q) e.took.body))
+    → tally (on (wake_of t k)) e.sent ≡ tally (on (wake_of t k)) (wakes (woken_by (keeping_in s past q).core r.body) (kept_without (kept_in s past q) e.took.body))
 row_sends s past e q t k r d =
     let row = (core_row s q (keeping_in s past q).core r.from.0 r.body).sent in
-    let woken = wakes (wakes_by r.body) (kept_without (kept_in s past q) e.took.body) in
+    let woken = wakes (woken_by (keeping_in s past q).core r.body) (kept_without (kept_in s past q) e.took.body) in
     omega (
       arith,
       ap (λ (os : List Outgoing). tally (on (wake_of t k)) os) d.sent,
@@ -193,7 +194,8 @@ does_woken s past e p t k r d ih =
       arith,
       ih,
       row_sends s past e p t k r d,
-      wakes_all t k (wakes_by r.body) (kept_without (kept_in s past p) e.took.body) (called_stays r.body),
+      wakes_all t k (woken_by (keeping_in s past p).core r.body) (kept_without (kept_in s past p) e.took.body)
+          (called_unwoken (keeping_in s past p).core r.body),
       ap (λ (xs : List KeptLetter). tally (is_uncalled t k) xs) d.kept,
       meanwhile_same (is_uncalled t k) (kept_in s past p) e.took.body (λ x is. called_none t k x.tree.0 x.sub.0 x.why is),
       does_none (keeps_of t k) s past e p r (keeps_only t k) d,
@@ -227,7 +229,7 @@ elsewhere : (s : ScriptData) (past : List Entry) (e : Entry) (t k : ℕ) → IsV
     → Case s past e → Quiet past e t k
 elsewhere s past e t k valid run ne (NodeDoes q r d) = record {
   sent = row_sends s past e q t k r d
-      ∙ far_wakes s q t k (wakes_by r.body) (kept_without (kept_in s past q) e.took.body) (λ is. ne (d.brings.at ∙ is))
+      ∙ far_wakes s q t k (woken_by (keeping_in s past q).core r.body) (kept_without (kept_in s past q) e.took.body) (λ is. ne (d.brings.at ∙ is))
       (each_meanwhile (IsOwn s q) (kept_in s past q) e.took.body (all_own s past q valid run.1 d.brings.below));
   acts = does_none (keeps_of t k) s past e q r (keeps_only t k) d;
 }
@@ -237,10 +239,9 @@ elsewhere s past e t k valid run ne (NodeKeeps q r o d) = record {
       ne (d.brings.at ∙ (keeps_asked s past e q r o valid run d).node
       ∙ ap (λ (u : ℕ). node_of s u o.sub.0) tree ∙ ap (λ (j : ℕ). node_of s t j) sub));
 }
-elsewhere s past e t k valid run ne (Coordinates at says) = record {
-  sent = ap (λ (os : List Outgoing). tally (on (wake_of t k)) os) says.0
-      ∙ coordinator_sends_none (record { 0 = t }) (record { 0 = k }) (coordinator_in s past) e.took.from.0 e.took.body;
-  acts = coordinator_none (keeps_of t k) s past e says;
+elsewhere s past e t k valid run ne (Coordinates at made) = record {
+  sent = coordinator_sends_none (record { 0 = t }) (record { 0 = k }) s e made;
+  acts = coordinator_none (keeps_of t k) s e made;
 }
 elsewhere s past e t k valid run ne (Submits at says) = record {
   sent = ap (λ (os : List Outgoing). tally (on (wake_of t k)) os) says.0
@@ -257,12 +258,12 @@ node_woken s past e p t k lt at ih (NodeKeeps q r o d) =
 node_woken s past e p t k lt at ih (Coordinates there says) = absurd (omega (arith, at, there, lt))
 node_woken s past e p t k lt at ih (Submits there says) = absurd (omega (arith, at, there, lt))
 
-woken_by : (s : ScriptData) (past : List Entry) (e : Entry) (t k : ℕ) → IsValid s → IsStepRun s (e ∷ past) → node_of s t k < s.nodes
+woken_next : (s : ScriptData) (past : List Entry) (e : Entry) (t k : ℕ) → IsValid s → IsStepRun s (e ∷ past) → node_of s t k < s.nodes
     → WokenHere s past (node_of s t k) t k → (e.actor.0 ≡ node_of s t k) ⊎ (e.actor.0 ≢ node_of s t k)
     → WokenHere s (e ∷ past) (node_of s t k) t k
-woken_by s past e t k valid run lt ih (inl at) =
+woken_next s past e t k valid run lt ih (inl at) =
     node_woken s past e (node_of s t k) t k lt at ih (case s past e run.0 (all_apt s (e ∷ past) valid run).0)
-woken_by s past e t k valid run lt ih (inr ne) =
+woken_next s past e t k valid run lt ih (inr ne) =
     let quiet = elsewhere s past e t k valid run ne (case s past e run.0 (all_apt s (e ∷ past) valid run).0) in
     omega (
       arith,
@@ -276,7 +277,7 @@ pub wakes_and_kept : (s : ScriptData) (past : List Entry) (t k : ℕ) → IsVali
     → sent_in (wake_of t k) past + tally (is_uncalled t k) (kept_in s past (node_of s t k)) ≡ keepings past t k
 wakes_and_kept s [] t k valid run lt = refl
 wakes_and_kept s (e ∷ past) t k valid run lt =
-    woken_by s past e t k valid run lt (wakes_and_kept s past t k valid run.1 lt) (cases_eq e.actor.0 (node_of s t k))
+    woken_next s past e t k valid run lt (wakes_and_kept s past t k valid run.1 lt) (cases_eq e.actor.0 (node_of s t k))
 
 -- Which letters are kept, by the kinds of their trees.
 reason_of : (s : ScriptData) (past : List Entry) (e : Entry) (p : ℕ) (r : Letter) (o : CoreKeeping) → Keeps s past e p r o
@@ -293,7 +294,7 @@ never_kept s (e ∷ past) t k valid run never =
       by (NodeKeeps q r o d) =
           keeps_one s past e q r o t k d
           ∙ uncalled_far t k o.tree.0 o.sub.0 o.why (never (keeping_in s past q).core o.tree o.sub o.why (reason_of s past e q r o d))
-      by (Coordinates at says) = coordinator_none (keeps_of t k) s past e says
+      by (Coordinates at made) = coordinator_none (keeps_of t k) s e made
       by (Submits at says) = client_none (keeps_of t k) s past e (keeps_only t k) says
 
 update_at : (s : ScriptData) (u t : ℕ) → u ≡ t → updates s u ≡ true → updates s t ≡ true
@@ -341,7 +342,7 @@ root_keepings s (e ∷ past) t valid run strict =
             keeps_waits s past e q r o t d,
             kept_as_waits s t (keeping_in s past q).core o.tree o.sub o.why strict (reason_of s past e q r o d),
           )
-      by (Coordinates at says) = omega (arith, coordinator_none (keeps_of t 0) s past e says)
+      by (Coordinates at made) = omega (arith, coordinator_none (keeps_of t 0) s e made)
       by (Submits at says) = omega (arith, client_none (keeps_of t 0) s past e (keeps_only t 0) says)
 
 -- what is kept for a Show isn't called
@@ -413,7 +414,7 @@ parked_for_strict s (e ∷ past) t k h valid run none =
       by (NodeKeeps q r o d) =
           keeps_parks s past e q r o t k h d
           ∙ park_strict s t k h o.tree.0 o.sub.0 o.why none (λ g is. holder_strict s past e q r o g valid run d is)
-      by (Coordinates at says) = coordinator_none (parks_for t k h) s past e says
+      by (Coordinates at made) = coordinator_none (parks_for t k h) s e made
       by (Submits at says) = client_none (parks_for t k h) s past e (parks_of t k h) says
 
 pub park_most : (s : ScriptData) (past : List Entry) (t k h : ℕ) → IsValid s → IsStepRun s past
@@ -450,7 +451,7 @@ entry_parks s past e t k valid run up (NodeKeeps q r o d) =
       over_same 0 (λ h. tally (parks_for t k h) e.acts) (λ h. parked_as t k h o.tree.0 o.sub.0 o.why) s.trees
           (λ h le lt. keeps_parks s past e q r o t k h d),
     )
-entry_parks s past e t k valid run up (Coordinates at says) = omega (arith, coordinator_none (keeps_of t k) s past e says)
+entry_parks s past e t k valid run up (Coordinates at made) = omega (arith, coordinator_none (keeps_of t k) s e made)
 entry_parks s past e t k valid run up (Submits at says) = omega (arith, client_none (keeps_of t k) s past e (keeps_only t k) says)
 
 pub update_keepings : (s : ScriptData) (past : List Entry) (t k : ℕ) → IsValid s → IsStepRun s past → updates s t ≡ true

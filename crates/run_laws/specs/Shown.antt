@@ -2,7 +2,8 @@
 use Rattle.std.specs.Prelude.{◌≡◌, ℕ, ◌<◌, ◌≤◌, true, false, List, length, Some}
 use Rattle.tv_base.specs.declared.numbers.Version.{Version}
 use Rattle.letter_types.specs.declared.bodies.Body.{Body}
-use Rattle.letter_types.specs.declared.bodies.Body.TheVariants.{Go, Show, Sweep}
+use Rattle.letter_types.specs.declared.bodies.Body.TheVariants.{Go, Order, Show, Sweep}
+use Rattle.letter_types.specs.declared.bodies.What.TheVariants as whats
 use Rattle.letter_types.specs.declared.entries.Entry.{Entry}
 use Rattle.tx_trees.specs.ScriptData.{ScriptData, reads}
 use Rattle.board_rules.specs.Histories.{IsWhole, version_of}
@@ -16,11 +17,13 @@ WritersAreWhole s h v =
 abbrev pub ReadsAreWhole : ScriptData → List Entry → ℕ → Type 0
 ReadsAreWhole s h v = (t : ℕ) (w : Version) → reads s t ≡ true → version_of h t ≡ Some w → w.0 < v → IsWhole s h t
 
--- where Show(v) is in flight, the writers of version at most v are whole; where Sweep(v) is, the read trees of versions
--- below v are
+-- where Show(v) is in flight, or an order that stands for it, the writers of version at most v are whole; where Sweep(v) is,
+-- the read trees of versions below v are
 abbrev pub IsBackedBy : ScriptData → List Entry → Body → Type 0
 IsBackedBy s h (Show v) = WritersAreWhole s h v.0
 IsBackedBy s h (Sweep v) = ReadsAreWhole s h v.0
+IsBackedBy s h (Order e whats.Show v) = WritersAreWhole s h v.0
+IsBackedBy s h (Order e whats.Sweep v) = ReadsAreWhole s h v.0
 IsBackedBy s h Go = Unit {0}
 IsBackedBy s h _ = Unit {0}
 
@@ -34,10 +37,12 @@ abbrev pub NoReadCame : ScriptData → List Entry → List Entry → ℕ → Typ
 NoReadCame s h later v =
     (t : ℕ) (w : Version) → reads s t ≡ true → version_of later t ≡ Some w → w.0 < v → version_of h t ≡ Some w
 
--- where Show(v) was in flight, no writer has come to a version at most v later; where Sweep(v) was, no read tree to one
--- below v
+-- where Show(v) was in flight, or an order that stands for it, no writer has come to a version at most v later; where Sweep(v)
+-- was, no read tree to one below v
 abbrev pub IsClosedBy : ScriptData → List Entry → List Entry → Body → Type 0
 IsClosedBy s h later (Show v) = NoWriterCame s h later v.0
 IsClosedBy s h later (Sweep v) = NoReadCame s h later v.0
+IsClosedBy s h later (Order e whats.Show v) = NoWriterCame s h later v.0
+IsClosedBy s h later (Order e whats.Sweep v) = NoReadCame s h later v.0
 IsClosedBy s h later Go = Unit {0}
 IsClosedBy s h later _ = Unit {0}

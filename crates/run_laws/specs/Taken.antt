@@ -6,13 +6,14 @@ use Rattle.letter_types.specs.declared.entries.Letter.{Letter}
 use Rattle.tx_trees.specs.ScriptData.{ScriptData}
 use Rattle.world_model.specs.Keeping.{is_apt_brought}
 use Rattle.world_model.specs.Runs.{actor_after}
-use Rattle.world_model.specs.Tables.{ActorData, NodeData, CoordinatorData, ClientData}
+use Rattle.world_model.specs.Tables.{ActorData, NodeData, CoordinatorData, RestartingData, ClientData}
 
 -- where actor a is a node, the letter that this one brings there is apt in this state; the coordinator and the client
 -- take any letter
 abbrev pub IsAptFor : ScriptData → ℕ → ActorData → Letter → Type 0
 IsAptFor s a (NodeData n) l = IsTrue (is_apt_brought s a n (brought n.kept l l.body))
 IsAptFor s a (CoordinatorData c) l = Unit {0}
+IsAptFor s a (RestartingData c) l = Unit {0}
 IsAptFor s a (ClientData c) l = Unit {0}
 
 -- each letter that a node took brought one that was apt there, in the state to which the node's entries before had led

@@ -1,5 +1,5 @@
 // Phases of the coordinator, and counters.
-ghost use Rattle.std.specs.Prelude.{ℕ, ◌≡◌, ◌<◌, ◌+◌, ◌*◌, List, length, reverse};
+ghost use Rattle.std.specs.Prelude.{ℕ, false, ◌≡◌, ◌<◌, ◌+◌, ◌*◌, List, length, reverse};
 ghost use Rattle.letter_types.specs.declared.entries.Entry.{Entry};
 ghost use Rattle.pair_counters.specs.Numbers.{AllBelow};
 ghost use Rattle.phase_laws.specs.Advances.{AdvancesAreKept, RoundsAreFew};
@@ -13,6 +13,7 @@ ghost use Rattle.tx_trees.specs.ScriptData.{ScriptData};
 ghost use Rattle.tx_trees.specs.Valid.{IsValid};
 ghost use Rattle.world_model.specs.Runs.{node_in, IsStepRun};
 ghost use Rattle.world_model.specs.Timely.{AllTimely};
+ghost use Rattle.world_model.specs.Lossy.{is_lossy};
 
 /// In every run of every valid script each letter that a node took came in time: a Sub, a Done, a Decide and a Decided no
 /// later than their version may be counted, an order no earlier and no later than the node's versions allow.
@@ -31,14 +32,14 @@ pub fn every_letter_taken_is_apt()
 /// In the phase of each stage its orders and answers in flight and the acknowledgements are as many as nodes, and at
 /// other times there are none.
 pub fn phases_have_their_letters()
-    ensures { (s : ScriptData) (past : List Entry) → IsValid s → IsStepRun s past
+    ensures { (s : ScriptData) (past : List Entry) → IsValid s → is_lossy s ≡ false → IsStepRun s past
         → PhasesHaveTheirLetters s past }
 {}
 
 /// Every node's versions are those of the coordinator's phase: with the coordinator at u, update is u or u + 1, read
 /// u - 1 or u, low u - 1 or u, and neither update nor read is more than two above low.
 pub fn versions_keep_to_the_phase()
-    ensures { (s : ScriptData) (past : List Entry) → IsValid s → IsStepRun s past
+    ensures { (s : ScriptData) (past : List Entry) → IsValid s → is_lossy s ≡ false → IsStepRun s past
         → VersionsKeepToThePhase s past }
 {}
 
@@ -51,18 +52,18 @@ pub fn nodes_keep_together()
 /// Each advancement that was asked for is in a letter, waits, is in progress or has ended, and of each that has ended
 /// the client hears once.
 pub fn advances_are_kept()
-    ensures { (s : ScriptData) (past : List Entry) → IsValid s → IsStepRun s past
+    ensures { (s : ScriptData) (past : List Entry) → IsValid s → is_lossy s ≡ false → IsStepRun s past
         → AdvancesAreKept s past }
 {}
 
 /// There are at most two rounds for each advancement and one for each tree.
 pub fn rounds_are_few()
-    ensures { (s : ScriptData) (past : List Entry) → IsValid s → IsStepRun s past → RoundsAreFew s past }
+    ensures { (s : ScriptData) (past : List Entry) → IsValid s → is_lossy s ≡ false → IsStepRun s past → RoundsAreFew s past }
 {}
 
 /// In a run of a script without advancements no round begins.
 pub fn no_round_without_advancements()
-    ensures { (s : ScriptData) (past : List Entry) → IsValid s → IsStepRun s past → advances_in s.rows ≡ 0
+    ensures { (s : ScriptData) (past : List Entry) → IsValid s → is_lossy s ≡ false → IsStepRun s past → advances_in s.rows ≡ 0
         → rounds_in s (reverse past) ≡ 0 }
 {}
 

@@ -2,15 +2,16 @@
 ghost use Rattle.std.specs.Prelude.{ℕ, ◌≡◌, ◌<◌, ◌≤◌, ◌+◌, ◌*◌, List, [], length, true, false, reverse};
 ghost use Rattle.board_rules.specs.Right.{HasFinished};
 ghost use Rattle.letter_types.specs.declared.entries.Entry.{Entry};
-ghost use Rattle.tree_laws.specs.Entries.{entries_most, entries_of, rounds_in};
+ghost use Rattle.tree_laws.specs.Entries.{entries_most, entries_of, lossy_entries, rounds_in};
 ghost use Rattle.tx_trees.specs.Counts.{advances_in, has_strict};
 ghost use Rattle.tx_trees.specs.ScriptData.{ScriptData};
 ghost use Rattle.tx_trees.specs.Valid.{IsValid};
+ghost use Rattle.world_model.specs.Lossy.{is_lossy};
 ghost use Rattle.world_model.specs.Kept.{kept_in};
 ghost use Rattle.world_model.specs.Runs.{client_in, in_flight, IsStepRun};
 
-/// No run stalls, also of a script with strict trees: where no letter is in flight any more, every tree is answered, every
-/// advancement has ended, and the client has finished.
+/// No run stalls, also of a script with strict trees, or of one whose coordinator forgets: where no letter is in flight any more,
+/// every tree is answered, every advancement has ended, and the client has finished.
 pub fn no_run_stalls()
     ensures { (s : ScriptData) (past : List Entry) → IsValid s → IsStepRun s past → in_flight s past ≡ []
         → ((client_in s past).finished ≡ true) × HasFinished (reverse past) }
@@ -25,19 +26,22 @@ pub fn nothing_is_kept_at_the_end()
 /// A run of a script without strict trees in which no letter is in flight any more has as many entries as its trees,
 /// advancements and rounds take.
 pub fn entries_are_counted()
-    ensures { (s : ScriptData) (past : List Entry) → IsValid s → has_strict s ≡ false → IsStepRun s past
+    ensures { (s : ScriptData) (past : List Entry) → IsValid s → is_lossy s ≡ false → has_strict s ≡ false → IsStepRun s past
         → in_flight s past ≡ [] → length past ≡ entries_of s (rounds_in s (reverse past)) }
 {}
 
-/// A run has at most so many entries: as many as two rounds for each advancement and one for each tree would bring it to, and
-/// where there is a strict tree those of its decisions, of marks that are let go and of letters that are woken.
+/// A run has at most so many entries: as many as two rounds for each advancement and one for each tree would bring it to,
+/// where there is a strict tree those of its decisions, of marks that are let go and of letters that are woken, and for each
+/// time that the coordinator is made to forget those by which it recovers and does anew what was under way.
 pub fn entries_are_few()
     ensures { (s : ScriptData) (past : List Entry) → IsValid s → IsStepRun s past → length past ≤ entries_most s }
 {}
 
-/// Where no tree is strict that is what two rounds for each advancement and one for each tree make.
+/// Where no tree is strict that is what two rounds for each advancement and one for each tree make, and what forgetting adds:
+/// nothing, where no row makes the coordinator forget.
 pub fn plain_runs_have_fewer_entries()
-    ensures { (s : ScriptData) → has_strict s ≡ false → entries_most s ≡ entries_of s (2 * advances_in s.rows + length s.trees) }
+    ensures { (s : ScriptData) → has_strict s ≡ false
+        → entries_most s ≡ entries_of s (2 * advances_in s.rows + length s.trees) + lossy_entries s }
 {}
 
 /// By the limits of scripts no run has more than 3 million entries.

@@ -2,4 +2,4 @@ use Rattle.run_laws.proofs.InTime.{given_run}
 use Rattle.run_laws.proofs.shown.orders_are_given_in_quiet.Goals as goal
 
 pub returns : goal.returns
-returns c = λ s past e valid run. given_run s past e valid run
+returns c = λ s past e valid keeps run. given_run s past e valid keeps run

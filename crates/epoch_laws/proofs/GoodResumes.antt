@@ -1,0 +1,313 @@
+-- The coordinator recovers: it hears more, and once it has heard all it goes on from what it was told.
+use Rattle.std.proofs.Common.{◌≡◌, ◌≢◌, ◌⊎◌, inl, inr, ℕ, zero, suc, ◌+◌, ◌<◌, ◌≤◌, Bool, true, false, List, [], ◌∷◌, length, refl, sym, ap, subst, ◌∙◌, arith, Option, Some, None}
+use Rattle.std.specs.Prelude.{if◌then◌else◌, is_some, max, nat_lt, slice_get, slice_set}
+use Rattle.std.specs.List.{list_all, list_any}
+use Rattle.std.proofs.Math.Nat.{le-max_right, max-le}
+use Rattle.std.proofs.lemmas.Bool.Decides.{nat_tests}
+use Rattle.std.proofs.lemmas.List.{length-set}
+use Rattle.tv_base.specs.Outside.{one_more}
+use Rattle.letter_types.specs.declared.bodies.Body.{Body}
+use Rattle.letter_types.specs.declared.bodies.Body.TheVariants.{Advanced, Order, Wanted}
+use Rattle.letter_types.specs.declared.bodies.What.{What}
+use Rattle.letter_types.specs.declared.bodies.What.TheVariants.{Turn as ToTurn, Show as ToShow, Sweep as ToSweep}
+use Rattle.letter_types.specs.declared.entries.Entry.{Entry}
+use Rattle.tx_trees.specs.ScriptData.{ScriptData}
+use Rattle.world_model.specs.Coordinator.{to_nodes, version}
+use Rattle.world_model.specs.Restarting.{AllTold, Restarting, in_restart_phase, least_low, low_differs, orders, read_is, recover, resume_if, target, to_client, update_is, with_advances}
+use Rattle.world_model.specs.Runs.{restarting_in}
+use Rattle.world_model.specs.declared.restarting.RestartPhase.{RestartPhase}
+use Rattle.world_model.specs.declared.restarting.RestartPhase.TheVariants.{Idle, Recovering, Doing}
+use Rattle.world_model.specs.declared.restarting.Told.{Told}
+use Rattle.world_model.proofs.Restarts.{restarting_nodes}
+use Rattle.phase_laws.specs.Advances.{asked_for}
+use Rattle.phase_laws.specs.Given.{IsGivenAnew, greatest_given}
+use Rattle.phase_laws.specs.Phases.{TurnStage, ShowStage, SweepStage}
+use Rattle.phase_laws.proofs.Waves.{going, set_get}
+use Rattle.epoch_laws.proofs.AfterCoordinator.{given_still}
+use Rattle.epoch_laws.proofs.Few.{IsFew}
+use Rattle.epoch_laws.proofs.Good.{AreNumbers, AreWanted, IsGood, IsHeard, IsHeardOf, IsInPhase, IsRight, IsUpTo, LevelOf, epoch_in, order_to, turns_in}
+use Rattle.epoch_laws.proofs.GoodOutcomes.{few_low, took_none}
+use Rattle.epoch_laws.proofs.GoodSteps.{AllAsk, IsMove, asks_nothing, good_stays, heard_at, steady_at, up_still}
+use Rattle.epoch_laws.proofs.GoodTells.{AllEnd, IsWell, MayBeTold, ends_nothing, ends_own, ends_right, good_calm, good_tells, well_by}
+use Rattle.epoch_laws.proofs.RestartSteps.{HearsMore, OfClient, OfNode}
+use Rattle.epoch_laws.proofs.ToldLists.{AreSmall, HasTold, SomeTold, all_told, least_most, least_told, some_low, some_read, some_update}
+
+-- What it has heard with this letter, by d.
+pub record HasHeard (s : ScriptData) (past : List Entry) (d : Restarting) : Type 0 where
+  pub epoch : d.epoch ≡ (restarting_in s past).epoch
+  pub phase : d.phase ≡ Recovering
+  pub nodes_are : d.nodes ≡ s.nodes
+  pub wanted : d.wanted ≤ asked_for s past
+  pub places : length d.told ≡ s.nodes
+  pub nodes : (q : ℕ) (t : Told) → q < s.nodes → HasTold d.told q t → IsHeardOf s past q t
+  pub client : (k : ℕ) → d.heard ≡ Some k → (greatest_given TurnStage past ≤ k + 1) × (k ≤ asked_for s past)
+
+recovering : (s : ScriptData) (past : List Entry) → IsGood s past → (restarting_in s past).phase ≡ Recovering → IsHeard s past
+recovering s past good at = subst (λ (phase : RestartPhase). IsInPhase s past phase) at good.phased
+
+some_same : (t u : Told) → Some t ≡ Some u → t ≡ u
+some_same t u is = cc is
+
+more_told : (s : ScriptData) (past : List Entry) (ts : AllTold) (from : ℕ) (new : Told) → IsHeardOf s past from new
+    → ((q : ℕ) (t : Told) → q < s.nodes → HasTold ts q t → IsHeardOf s past q t)
+    → (q : ℕ) (t : Told) → q < s.nodes → HasTold (slice_set ts from (Some new)) q t → IsHeardOf s past q t
+more_told s past ts from new here old q t lt has = by (set_get ts from q (Some new) (Some t) has) where
+  by : ((from ≡ q) × (Some new ≡ Some t)) ⊎ (slice_get ts q ≡ Some (Some t)) → IsHeardOf s past q t
+  by (inl both) = subst (λ (u : Told). IsHeardOf s past q u) (some_same new t both.1) (subst (λ (n : ℕ). IsHeardOf s past n new) both.0 here)
+  by (inr was) = old q t lt was
+
+some_number : (a b : ℕ) → Some a ≡ Some b → a ≡ b
+some_number a b is = cc is
+
+pub heard_more : (s : ScriptData) (past : List Entry) (from to : ℕ) (body : Body) (d : Restarting) → IsGood s past → IsFew s past
+    → (restarting_in s past).phase ≡ Recovering → IsRight s past from to body → ((e k : ℕ) → body ≡ Wanted e k → k ≤ asked_for s past)
+    → HearsMore (restarting_in s past) from body d → HasHeard s past d
+heard_more s past from to body d good few at right asked (OfNode u r l bd lt is) =
+    let c = restarting_in s past in
+    let was = recovering s past good at in
+    let now : AreNumbers s past from c.epoch u r l = subst (IsRight s past from to) bd right in
+    subst (HasHeard s past) (sym is) (record {
+      epoch = refl;
+      phase = at;
+      nodes_are = restarting_nodes s past;
+      wanted = few.wanted;
+      places = length-set c.told from (Some (record { update = u; read = r; low = l })) ∙ was.places;
+      nodes = more_told s past c.told from (record { update = u; read = r; low = l }) (record { told = now.told; latest = now.latest refl at }) was.nodes;
+      client = λ k has. (was.client k has, few.heard k has);
+    })
+heard_more s past from to body d good few at right asked (OfClient k bd who is) =
+    let c = restarting_in s past in
+    let was = recovering s past good at in
+    let now : AreWanted s past c.epoch k = subst (IsRight s past from to) bd right in
+    subst (HasHeard s past) (sym is) (record {
+      epoch = refl;
+      phase = at;
+      nodes_are = restarting_nodes s past;
+      wanted = few.wanted;
+      places = was.places;
+      nodes = was.nodes;
+      client = λ j has.
+          let same : k ≡ j = some_number k j has in
+          (omega (arith, same, now.covers refl at), omega (arith, same, asked c.epoch k bd));
+    })
+
+-- 1. It hasn't heard all.
+pub still_recovers : (s : ScriptData) (past : List Entry) (e : Entry) (d : Restarting) → IsMove s past e d → HasHeard s past d
+    → (restarting_in s past).phase ≡ Recovering → e.sent ≡ [] → IsWell s past e
+still_recovers s past e d m heard at none =
+    let asks : AllAsk e.sent = subst AllAsk (sym none) tt in
+    let nothing = asks_nothing e.sent asks in
+    well_by s past e nothing
+    (good_stays s past e d m heard.epoch asks (λ what v is. absurd (cc (sym at ∙ is.phase))) (λ is. at)
+    (subst (λ (phase : RestartPhase). IsInPhase s (e ∷ past) phase) (sym heard.phase)
+    (heard_at s past e d m (given_still past e nothing) heard.epoch heard.places heard.nodes (λ k has. (heard.client k has).0))))
+
+-- 2. It has: how far nodes are, where f is the least low version that was told.
+pub record IsFound (s : ScriptData) (past : List Entry) (d : Restarting) (f w : ℕ) : Type 0 where
+  pub few : f ≤ 100
+  pub epoch : (q : ℕ) → q < s.nodes → (restarting_in s past).epoch ≤ epoch_in s past q
+  pub low : (q : ℕ) → q < s.nodes → f ≤ (turns_in s past q).low.0
+  pub up_to : IsUpTo past f w
+  pub wanted : w ≤ asked_for s past
+
+has_below : (ts : AllTold) (q : ℕ) (t : Told) → HasTold ts q t → q < length ts
+has_below [] q t has = absurd (cc has)
+has_below (o ∷ ts) zero t has = omega arith
+has_below (o ∷ ts) (suc q) t has = omega (arith, has_below ts q t has)
+
+found : (s : ScriptData) (past : List Entry) (d : Restarting) (k : ℕ) → 1 ≤ s.nodes → IsGood s past → IsFew s past → HasHeard s past d
+    → list_all is_some d.told ≡ true → d.heard ≡ Some k → IsFound s past d (least_low d.told) (max d.wanted k)
+found s past d k some good few heard all has =
+    let small : AreSmall d.told = λ q t told.
+    let lt : q < s.nodes = omega (arith, has_below d.told q t told, heard.places) in
+    omega (arith, (heard.nodes q t lt told).told.low, few_low s past q good few lt) in
+    let least = least_told d.told all (omega (arith, some, heard.places)) small in
+    let there : least.node < s.nodes = omega (arith, least.below, heard.places) in
+    let latest = (heard.nodes least.node least.told there least.has).latest in
+    let client = heard.client k has in
+    let at = λ (q : ℕ) (lt : q < s.nodes). all_told d.told q all (omega (arith, lt, heard.places)) in
+    record {
+      few = omega (arith, least.fits, small least.node least.told least.has);
+      epoch = λ q lt. let (t, told) = at q lt in (heard.nodes q t lt told).latest.epoch;
+      low = λ q lt. let (t, told) = at q lt in omega (arith, least_most d.told q t told, (heard.nodes q t lt told).told.low);
+      up_to = record {
+        turned = omega (arith, latest.turned, least.fits);
+        showed = omega (arith, latest.showed, least.fits);
+        swept = omega (arith, latest.swept, least.fits);
+        asked = omega (arith, client.0, le-max_right d.wanted k);
+      };
+      wanted = max-le heard.wanted client.1;
+    }
+
+-- with the order that comes next
+record IsNext (s : ScriptData) (past : List Entry) (what : What) (f w : ℕ) : Type 0 where
+  turn : what ≡ ToTurn → f + 1 ≤ w
+  show : what ≡ ToShow → f + 1 ≤ greatest_given ShowStage past
+  sweep : what ≡ ToSweep → f + 1 ≤ greatest_given SweepStage past
+
+next_level : (s : ScriptData) (past : List Entry) (what : What) (f w q k : ℕ) → IsGood s past → IsNext s past what f w → q < s.nodes → 1 ≤ k
+    → (restarting_in s past).epoch ≤ epoch_in s past q → f ≤ (turns_in s past q).low.0
+    → LevelOf (Doing what) f (restarting_in s past).epoch (epoch_in s past q) (turns_in s past q) k
+next_level s past ToTurn f w q k good next lq some since low = let was = good.within q lq in omega (arith, was, some, since, low)
+next_level s past ToShow f w q k good next lq some since low =
+    let was = good.within q lq in omega (arith, was, some, since, low, next.show refl)
+next_level s past ToSweep f w q k good next lq some since low =
+    let was = good.within q lq in omega (arith, was, some, since, low, next.sweep refl)
+
+next_may : (s : ScriptData) (past : List Entry) (what : What) (f w q : ℕ) → IsGood s past → IsNext s past what f w → q < s.nodes
+    → f ≤ (turns_in s past q).low.0 → MayBeTold what f (turns_in s past q)
+next_may s past ToTurn f w q good next lq low = low
+next_may s past ToShow f w q good next lq low = (low, omega (arith, next.show refl, (good.within q lq).showed_update))
+next_may s past ToSweep f w q good next lq low = (low, omega (arith, next.sweep refl, (good.within q lq).swept_read))
+
+next_anew : (s : ScriptData) (past : List Entry) (what : What) (d f w : ℕ) → f ≤ 100 → IsNext s past what f w
+    → IsGivenAnew s past (Order d what (target what f))
+next_anew s past ToTurn d f w few next = tt
+next_anew s past ToShow d f w few next = inl (omega (arith, few, next.show refl))
+next_anew s past ToSweep d f w few next = inl (omega (arith, few, next.sweep refl))
+
+resumes_by : (s : ScriptData) (past : List Entry) (e : Entry) (d : Restarting) (what : What) (f w : ℕ)
+    → IsMove s past e (in_restart_phase (Doing what) (with_advances w f d)) → HasHeard s past d → IsFound s past d f w
+    → (restarting_in s past).phase ≡ Recovering → IsNext s past what f w
+    → e.sent ≡ to_client (Advanced (version f)) d ∷ orders (Doing what) (with_advances w f d) → IsWell s past e
+resumes_by s past e d what f w m heard found at next is =
+    let c = restarting_in s past in
+    let x = in_restart_phase (Doing what) (with_advances w f d) in
+    good_tells s past e x what f w m (took_none s past e x m (λ a v now. cc (sym at ∙ now.phase)))
+    (record { phase = refl; epoch = heard.epoch; ended = refl; wanted = refl; acks = refl }) (record {
+      before = to_client (Advanced (version f)) d ∷ [];
+      sent = is
+          ∙ ap (λ (n : ℕ). to_client (Advanced (version f)) d ∷ to_nodes n (Order d.epoch what (target what f))) heard.nodes_are
+          ∙ ap (λ (n : ℕ). to_client (Advanced (version f)) d ∷ to_nodes s.nodes (Order n what (target what f))) heard.epoch;
+      ends = (refl, tt);
+      few = omega (arith, found.few);
+      level = λ q k lq some. next_level s past what f w q k m.good next lq some (found.epoch q lq) (found.low q lq);
+      up_to = found.up_to;
+      may = λ q lq. next_may s past what f w q m.good next lq (found.low q lq);
+      wanted = next.turn;
+      asked = found.wanted;
+      from = λ same.
+          let some = m.laws.valid.some_nodes in omega (arith, found.low 0 some, (m.good.within 0 some).low_swept);
+      silent = λ same new. absurd (omega (arith, new, next.sweep same));
+      anew = next_anew s past what c.epoch f w found.few next;
+    })
+
+idle_found : (s : ScriptData) (past : List Entry) (f q k : ℕ) → IsGood s past → q < s.nodes
+    → (restarting_in s past).epoch ≤ epoch_in s past q → f ≤ (turns_in s past q).low.0
+    → LevelOf Idle f (restarting_in s past).epoch (epoch_in s past q) (turns_in s past q) k
+idle_found s past f q k good lq since low = let was = good.within q lq in omega (arith, was, since, low)
+
+-- or none comes
+rests_by : (s : ScriptData) (past : List Entry) (e : Entry) (d : Restarting) (f w : ℕ)
+    → IsMove s past e (in_restart_phase Idle (with_advances w f d)) → HasHeard s past d → IsFound s past d f w
+    → (restarting_in s past).phase ≡ Recovering → e.sent ≡ to_client (Advanced (version f)) d ∷ [] → IsWell s past e
+rests_by s past e d f w m heard found at is =
+    let c = restarting_in s past in
+    let x = in_restart_phase Idle (with_advances w f d) in
+    let ends : AllEnd f e.sent = subst (AllEnd f) (sym is) (refl, tt) in
+    let nothing = ends_nothing f e.sent ends in
+    let still = given_still past e nothing in
+    well_by s past e nothing
+    (good_calm s past e x m (record {
+      epoch = heard.epoch;
+      heard = found.epoch;
+      knows = λ same. cc same;
+      last = took_none s past e x m (λ a v now. cc (sym at ∙ now.phase));
+    }) nothing (ends_own f e.sent ends) (ends_right s past e x f e.sent m found.low ends)
+    (steady_at s past e x Idle m
+    (λ q lq.
+    subst (λ (n : ℕ). LevelOf Idle f n (epoch_in s past q) (turns_in s past q) (going (order_to n q) s (e ∷ past))) (sym heard.epoch)
+    (idle_found s past f q (going (order_to c.epoch q) s (e ∷ past)) m.good lq (found.epoch q lq) (found.low q lq)))
+    tt (up_still past e f w w still (omega arith) found.up_to)))
+
+-- whichever comes
+goes_on : (s : ScriptData) (past : List Entry) (e : Entry) (d : Restarting) (f w : ℕ) (test : Bool) → nat_lt f w ≡ test
+    → IsMove s past e (in_restart_phase (if test then Doing ToTurn else Idle) (with_advances w f d)) → HasHeard s past d → IsFound s past d f w
+    → (restarting_in s past).phase ≡ Recovering
+    → e.sent ≡ to_client (Advanced (version f)) d ∷ orders (if test then Doing ToTurn else Idle) (with_advances w f d) → IsWell s past e
+goes_on s past e d f w true test m heard found at is =
+    let lt : f < w = grind (arith, nat_tests) in
+    resumes_by s past e d ToTurn f w m heard found at
+    (record { turn = λ same. omega (arith, lt); show = λ same. absurd (cc same); sweep = λ same. absurd (cc same) }) is
+goes_on s past e d f w false test m heard found at is = rests_by s past e d f w m heard found at is
+
+above_by : (a f : ℕ) → f ≤ a → a ≢ f → f + 1 ≤ a
+above_by a f le ne = grind arith
+
+below_told : (s : ScriptData) (past : List Entry) (d : Restarting) (P : Told → Type 0) (some : SomeTold d.told P) → HasHeard s past d
+    → some.node < s.nodes
+below_told s past d P some heard = omega (arith, some.below, heard.places)
+
+-- some node has swept, or shown, or turned
+swept_next : (s : ScriptData) (past : List Entry) (d : Restarting) (w : ℕ) → IsGood s past → HasHeard s past d
+    → list_any (low_differs (least_low d.told)) d.told ≡ true → IsNext s past ToSweep (least_low d.told) w
+swept_next s past d w good heard any =
+    let f = least_low d.told in
+    let some = some_low d.told f any in
+    let lt = below_told s past d (λ (t : Told). t.low.0 ≢ f) some heard in
+    let told = (heard.nodes some.node some.told lt some.has).told in
+    let top = above_by some.told.low.0 f (least_most d.told some.node some.told some.has) some.fits in
+    record {
+      turn = λ same. absurd (cc same);
+      show = λ same. absurd (cc same);
+      sweep = λ same. omega (arith, top, told.low, (good.within some.node lt).low_swept);
+    }
+
+shown_next : (s : ScriptData) (past : List Entry) (d : Restarting) (f w : ℕ) → f ≤ 100 → IsGood s past → HasHeard s past d
+    → list_any (read_is (one_more f)) d.told ≡ true → IsNext s past ToShow f w
+shown_next s past d f w few good heard any =
+    let some = some_read d.told (one_more f) any in
+    let lt = below_told s past d (λ (t : Told). t.read.0 ≡ one_more f) some heard in
+    let told = (heard.nodes some.node some.told lt some.has).told in
+    record {
+      turn = λ same. absurd (cc same);
+      show = λ same. omega (arith, few, some.fits, told.read, (good.within some.node lt).read_showed);
+      sweep = λ same. absurd (cc same);
+    }
+
+turned_next : (s : ScriptData) (past : List Entry) (d : Restarting) (f w : ℕ) → f ≤ 100 → IsGood s past → HasHeard s past d → IsUpTo past f w
+    → list_any (update_is (one_more (one_more f))) d.told ≡ true → IsNext s past ToTurn f w
+turned_next s past d f w few good heard up any =
+    let some = some_update d.told (one_more (one_more f)) any in
+    let lt = below_told s past d (λ (t : Told). t.update.0 ≡ one_more (one_more f)) some heard in
+    let told = (heard.nodes some.node some.told lt some.has).told in
+    record {
+      turn = λ same. omega (arith, few, some.fits, told.update, (good.within some.node lt).update_turned, up.asked);
+      show = λ same. absurd (cc same);
+      sweep = λ same. absurd (cc same);
+    }
+
+-- the phase by these tests
+abbrev phase_of : Bool → Bool → Bool → Bool → RestartPhase
+phase_of swept shown turned goes =
+    if swept then Doing ToSweep else if shown then Doing ToShow else if turned then Doing ToTurn else if goes then Doing ToTurn else Idle
+
+resumes : (s : ScriptData) (past : List Entry) (e : Entry) (d : Restarting) (w : ℕ) (swept shown turned goes : Bool)
+    → list_any (low_differs (least_low d.told)) d.told ≡ swept → list_any (read_is (one_more (least_low d.told))) d.told ≡ shown
+    → list_any (update_is (one_more (one_more (least_low d.told)))) d.told ≡ turned → nat_lt (least_low d.told) w ≡ goes
+    → IsMove s past e (in_restart_phase (phase_of swept shown turned goes) (with_advances w (least_low d.told) d)) → HasHeard s past d
+    → IsFound s past d (least_low d.told) w → (restarting_in s past).phase ≡ Recovering
+    → e.sent ≡ to_client (Advanced (version (least_low d.told))) d ∷ orders (phase_of swept shown turned goes) (with_advances w (least_low d.told) d)
+    → IsWell s past e
+resumes s past e d w true shown turned goes a b c g m heard found at is =
+    resumes_by s past e d ToSweep (least_low d.told) w m heard found at (swept_next s past d w m.good heard a) is
+resumes s past e d w false true turned goes a b c g m heard found at is =
+    resumes_by s past e d ToShow (least_low d.told) w m heard found at (shown_next s past d (least_low d.told) w found.few m.good heard b) is
+resumes s past e d w false false true goes a b c g m heard found at is =
+    resumes_by s past e d ToTurn (least_low d.told) w m heard found at
+    (turned_next s past d (least_low d.told) w found.few m.good heard found.up_to c) is
+resumes s past e d w false false false goes a b c g m heard found at is = goes_on s past e d (least_low d.told) w goes g m heard found at is
+
+-- So the coordinator recovers.
+well_recovers_by : (s : ScriptData) (past : List Entry) (e : Entry) (d : Restarting) (all : Bool) (k : Option ℕ) → list_all is_some d.told ≡ all
+    → d.heard ≡ k → IsMove s past e (resume_if all k d).state → HasHeard s past d → IsFew s past → (restarting_in s past).phase ≡ Recovering
+    → e.sent ≡ (resume_if all k d).sent → IsWell s past e
+well_recovers_by s past e d true (Some k) all has m heard few at is =
+    resumes s past e d (max d.wanted k) _ _ _ _ refl refl refl refl m heard
+    (found s past d k m.laws.valid.some_nodes m.good few heard all has) at is
+well_recovers_by s past e d true None all has m heard few at is = still_recovers s past e d m heard at is
+well_recovers_by s past e d false k all has m heard few at is = still_recovers s past e d m heard at is
+
+pub well_recovers : (s : ScriptData) (past : List Entry) (e : Entry) (d : Restarting) → IsMove s past e (recover d).state → HasHeard s past d
+    → IsFew s past → (restarting_in s past).phase ≡ Recovering → e.sent ≡ (recover d).sent → IsWell s past e
+well_recovers s past e d m heard few at is = well_recovers_by s past e d (list_all is_some d.told) d.heard refl refl m heard few at is

@@ -1,0 +1,297 @@
+-- What of an advancement a coordinator that forgets need not do again, and how much it has done of all.
+use Rattle.std.proofs.Common.{if◌then◌else◌, ◌≡◌, ◌⊎◌, inl, inr, ℕ, ◌+◌, ◌*◌, ◌<◌, ◌≤◌, ◌==◌, ◌&&◌, Bool, true, false, List, [], ◌∷◌, refl, sym, ap, subst, ◌∙◌, arith}
+use Rattle.std.specs.List.{list_any}
+use Rattle.std.proofs.Math.Nat.{mul-le-mul_right}
+use Rattle.std.proofs.lemmas.Bool.Decides.{nat_tests}
+use Rattle.tv_base.specs.Outside.{one_more}
+use Rattle.tv_base.specs.declared.numbers.Version.{Version}
+use Rattle.letter_types.specs.declared.bodies.Body.{Body}
+use Rattle.letter_types.specs.declared.bodies.Body.TheVariants.{Ask, Go, Order}
+use Rattle.letter_types.specs.declared.bodies.What.{What}
+use Rattle.letter_types.specs.declared.bodies.What.TheVariants.{Turn as ToTurn, Show as ToShow, Sweep as ToSweep}
+use Rattle.letter_types.specs.declared.entries.Entry.{Entry}
+use Rattle.letter_types.specs.declared.entries.Letter.{Letter}
+use Rattle.node_versions.specs.declared.turns.Turns.{Turns}
+use Rattle.tx_trees.specs.Counts.{advances_in}
+use Rattle.tx_trees.specs.ScriptData.{ScriptData}
+use Rattle.tx_trees.specs.Valid.{IsValid}
+use Rattle.world_model.specs.Coordinator.{to_nodes}
+use Rattle.world_model.specs.Counts.{one_if, tally}
+use Rattle.world_model.specs.Restarting.{AllTold, Restarting, forget, least_low, low_differs, next_advance, phase_by, read_is, target, to_client, update_is}
+use Rattle.world_model.specs.Runs.{client_in, in_flight, restarting_in}
+use Rattle.world_model.specs.declared.restarting.RestartPhase.{RestartPhase}
+use Rattle.world_model.specs.declared.restarting.RestartPhase.TheVariants.{Idle, Recovering, Doing, Counting, Paused}
+use Rattle.world_model.proofs.Bags.{tally-append}
+use Rattle.world_model.proofs.Every.{each_append, each_map, each_none}
+use Rattle.world_model.proofs.Orders.{of, to_nodes_each}
+use Rattle.world_model.proofs.Sends.{on}
+use Rattle.phase_laws.specs.Given.{greatest_given}
+use Rattle.phase_laws.specs.Phases.{TurnStage}
+use Rattle.phase_laws.proofs.Outcomes.{one_more_is}
+use Rattle.phase_laws.proofs.Small.{asked_most}
+use Rattle.phase_laws.proofs.Waves.{going}
+use Rattle.epoch_laws.proofs.Floors.{AllAskAnew, AsksAnew, IsFrom, IsRestored}
+use Rattle.epoch_laws.proofs.Good.{IsCurrent, IsGood, IsInPhase, IsRight, IsSteady, LevelOf, least_read, least_update, order_to, stage_of, turns_in}
+use Rattle.epoch_laws.proofs.Prices.{IsEntered, begun, doing_entered, next_entered, next_orders, ordered, price, to_nodes_price}
+
+-- in these phases each node reads the next version already
+abbrev pub shown_in : RestartPhase → Bool
+shown_in (Counting reads) = reads
+shown_in (Paused reads) = reads
+shown_in (Doing ToSweep) = true
+shown_in Idle = false
+shown_in _ = false
+
+-- where some node does, what comes before it isn't done again: the turn, and the round for updates
+abbrev pub kept_of : ℕ → Bool → ℕ
+kept_of n shown = if shown then 6 * n else 0
+
+-- the rest is the orders and a round at most
+pub begun_most : (n : ℕ) (phase : RestartPhase) → begun n phase ≤ kept_of n (shown_in phase) + 8 * n
+begun_most n Idle = omega arith
+begun_most n Recovering = omega arith
+begun_most n (Doing ToTurn) = omega arith
+begun_most n (Doing ToShow) = omega arith
+begun_most n (Doing ToSweep) = omega arith
+begun_most n (Counting true) = omega arith
+begun_most n (Counting false) = omega arith
+begun_most n (Paused true) = omega arith
+begun_most n (Paused false) = omega arith
+
+-- all of an advancement
+begun_all : (n : ℕ) (phase : RestartPhase) → begun n phase ≤ 14 * n
+begun_all n Idle = omega arith
+begun_all n Recovering = omega arith
+begun_all n (Doing ToTurn) = omega arith
+begun_all n (Doing ToShow) = omega arith
+begun_all n (Doing ToSweep) = omega arith
+begun_all n (Counting true) = omega arith
+begun_all n (Counting false) = omega arith
+begun_all n (Paused true) = omega arith
+begun_all n (Paused false) = omega arith
+
+-- so far each node is in each phase
+read_from : (phase : RestartPhase) (f : ℕ) → f + one_if (shown_in phase) ≤ least_read phase f
+read_from Idle f = omega arith
+read_from Recovering f = omega arith
+read_from (Doing ToTurn) f = omega arith
+read_from (Doing ToShow) f = omega arith
+read_from (Doing ToSweep) f = omega arith
+read_from (Counting true) f = omega arith
+read_from (Counting false) f = omega arith
+read_from (Paused true) f = omega arith
+read_from (Paused false) f = omega arith
+
+pub from_level : (phase : RestartPhase) (f e epoch : ℕ) (turns : Turns) (orders : ℕ) → LevelOf phase f e epoch turns orders
+    → IsFrom f (shown_in phase) turns.read.0 turns.low.0
+from_level phase f e epoch turns orders level = record { low = level.low; read = omega (arith, level.read, read_from phase f) }
+
+-- Forgetting: each node and the client are asked.
+pub forget_price : (c : Restarting) → tally (on price) (forget c).sent ≡ 2 * c.nodes + 2
+forget_price c =
+    let e : ℕ = one_more c.epoch in
+    omega (
+      arith,
+      to_nodes_price c.nodes (Ask e) refl,
+      tally-append (on price) (to_nodes c.nodes (Ask e)) (to_client (Ask e) c ∷ []),
+    )
+
+pub forget_asks : (c : Restarting) → AllAskAnew (forget c).sent
+forget_asks c =
+    each_append (of (λ to b. AsksAnew b)) (to_nodes c.nodes (Ask (one_more c.epoch))) _
+    (to_nodes_each (λ to b. AsksAnew b) c.nodes (Ask (one_more c.epoch)) (λ to lt. tt)) (tt, tt)
+
+-- Resuming: the phases with which it goes on.
+told_entered : (n : ℕ) (lows reads updates : Bool) (next : RestartPhase) → IsEntered n next
+    → IsEntered n (if lows then Doing ToSweep else if reads then Doing ToShow else if updates then Doing ToTurn else next)
+told_entered n true reads updates next goes = doing_entered n ToSweep
+told_entered n false true updates next goes = doing_entered n ToShow
+told_entered n false false true next goes = doing_entered n ToTurn
+told_entered n false false false next goes = goes
+
+pub by_entered : (n : ℕ) (ts : AllTold) (wanted f : ℕ) → IsEntered n (phase_by ts wanted f)
+by_entered n ts wanted f =
+    told_entered n (list_any (low_differs f) ts) (list_any (read_is (one_more f)) ts)
+    (list_any (update_is (one_more (one_more f))) ts) (next_advance wanted f) (next_entered n wanted f)
+
+told_orders : (n : ℕ) (lows reads updates : Bool) (next : RestartPhase) → ordered n next ≤ begun n next
+    → ordered n (if lows then Doing ToSweep else if reads then Doing ToShow else if updates then Doing ToTurn else next)
+    ≤ begun n (if lows then Doing ToSweep else if reads then Doing ToShow else if updates then Doing ToTurn else next)
+told_orders n true reads updates next goes = omega arith
+told_orders n false true updates next goes = omega arith
+told_orders n false false true next goes = omega arith
+told_orders n false false false next goes = goes
+
+by_orders : (n : ℕ) (ts : AllTold) (wanted f : ℕ) → ordered n (phase_by ts wanted f) ≤ begun n (phase_by ts wanted f)
+by_orders n ts wanted f =
+    told_orders n (list_any (low_differs f) ts) (list_any (read_is (one_more f)) ts)
+    (list_any (update_is (one_more (one_more f))) ts) (next_advance wanted f) (omega (arith, next_orders n wanted f))
+
+-- where some node reads the next version, it goes on with a sweep, or with its show
+shown_orders : (n : ℕ) (lows reads updates : Bool) (next : RestartPhase) → reads ≡ true
+    → 6 * n + ordered n (if lows then Doing ToSweep else if reads then Doing ToShow else if updates then Doing ToTurn else next)
+    ≤ begun n (if lows then Doing ToSweep else if reads then Doing ToShow else if updates then Doing ToTurn else next)
+shown_orders n true reads updates next is = omega arith
+shown_orders n false true updates next is = omega arith
+shown_orders n false false updates next is = absurd (cc is)
+
+by_shown : (n : ℕ) (ts : AllTold) (wanted f : ℕ) → list_any (read_is (one_more f)) ts ≡ true
+    → 6 * n + ordered n (phase_by ts wanted f) ≤ begun n (phase_by ts wanted f)
+by_shown n ts wanted f is =
+    shown_orders n (list_any (low_differs f) ts) (list_any (read_is (one_more f)) ts)
+    (list_any (update_is (one_more (one_more f))) ts) (next_advance wanted f) is
+
+same_or_more : (f g : ℕ) → f ≤ g → (g ≡ f) ⊎ (f + 1 ≤ g)
+same_or_more f g le = grind arith
+
+-- so it goes on with no less than was kept
+pub resume_pays : (n : ℕ) (ts : AllTold) (wanted f : ℕ) (shown : Bool) → IsRestored ts f shown
+    → f * (14 * n + 1) + kept_of n shown + ordered n (phase_by ts wanted (least_low ts))
+    ≤ least_low ts * (14 * n + 1) + begun n (phase_by ts wanted (least_low ts))
+resume_pays n ts wanted f shown rest = by shown refl (same_or_more f (least_low ts) rest.low) where
+  g : ℕ
+  g = least_low ts
+
+  by : (b : Bool) → shown ≡ b → (g ≡ f) ⊎ (f + 1 ≤ g)
+      → f * (14 * n + 1) + kept_of n b + ordered n (phase_by ts wanted g) ≤ g * (14 * n + 1) + begun n (phase_by ts wanted g)
+  by false is (inl same) =
+      omega (arith, ap (λ (k : ℕ). k * (14 * n + 1)) same, by_orders n ts wanted g)
+  by true is (inl same) =
+      omega (arith, ap (λ (k : ℕ). k * (14 * n + 1)) same, by_shown n ts wanted g (rest.shows is same))
+  by false is (inr more) = omega (arith, mul-le-mul_right (14 * n + 1) more, by_orders n ts wanted g)
+  by true is (inr more) = omega (arith, mul-le-mul_right (14 * n + 1) more, by_orders n ts wanted g)
+
+-- How much it has done.
+-- some node's versions
+pub low_most : (s : ScriptData) (past : List Entry) (q : ℕ) → IsGood s past → q < s.nodes
+    → (turns_in s past q).low.0 + 1 ≤ greatest_given TurnStage past
+low_most s past q good lt =
+    let within = good.within q lt in
+    omega (arith, within.low_swept, within.swept_read, within.read_showed, within.showed_update, within.update_turned)
+
+pub read_most : (s : ScriptData) (past : List Entry) (q : ℕ) → IsGood s past → q < s.nodes
+    → (turns_in s past q).read.0 + 1 ≤ greatest_given TurnStage past
+read_most s past q good lt =
+    let within = good.within q lt in
+    omega (arith, within.read_showed, within.showed_update, within.update_turned)
+
+pub turned_most : (s : ScriptData) (past : List Entry) → IsGood s past → greatest_given TurnStage past ≤ advances_in s.rows + 1
+turned_most s past good = omega (arith, good.asked, asked_most (client_in s past).next s.rows)
+
+pub ended_most : (s : ScriptData) (past : List Entry) (phase : RestartPhase) → IsValid s → IsGood s past → IsSteady s past phase
+    → (restarting_in s past).ended ≤ advances_in s.rows
+ended_most s past phase valid good steady =
+    let some : 0 < s.nodes = omega (arith, valid.some_nodes) in
+    omega (arith, (steady.level 0 some).low, low_most s past 0 good some, turned_most s past good)
+
+pub steady_in : (s : ScriptData) (past : List Entry) (phase : RestartPhase) → (phase ≡ Recovering → ⊥) → IsInPhase s past phase
+    → IsSteady s past phase
+steady_in s past Idle known steady = steady
+steady_in s past (Doing what) known steady = steady
+steady_in s past (Counting reads) known steady = steady
+steady_in s past (Paused reads) known steady = steady
+steady_in s past Recovering known heard = absurd (known refl)
+
+-- While nodes turn, they were told so.
+target_turn : (f : ℕ) → f ≤ 200 → (target ToTurn f).0 ≡ f + 2
+target_turn f few =
+    let one : one_more f ≡ f + 1 = one_more_is f (omega (arith, few)) in
+    let two : one_more (one_more f) ≡ one_more f + 1 = one_more_is (one_more f) (omega (arith, few, one)) in
+    omega (arith, one, two)
+
+-- an order of the present epoch says so
+current_turn : (s : ScriptData) (past : List Entry) (what : What) (v : Version) → (restarting_in s past).ended ≤ 200
+    → (restarting_in s past).phase ≡ Doing ToTurn → IsCurrent (restarting_in s past) what v
+    → v.0 ≤ greatest_given (stage_of what) past
+    → (restarting_in s past).ended + 2 ≤ greatest_given TurnStage past
+current_turn s past what v few at current given =
+    let c = restarting_in s past in
+    let is : what ≡ ToTurn = cc (sym current.phase ∙ at) in
+    let told : v.0 ≤ greatest_given TurnStage past = subst (λ (w : What). v.0 ≤ greatest_given (stage_of w) past) is given in
+    let version : v.0 ≡ (target ToTurn c.ended).0 = current.version ∙ ap (λ (w : What). (target w c.ended).0) is in
+    omega (arith, told, version, target_turn c.ended few)
+
+apart : (a b : ℕ) (test : Bool) → (a ≡ b → ⊥) → one_if ((a == b) && test) ≡ 0
+apart a b test ne = let no : (a == b) ≡ false = grind (arith, nat_tests) in rw no refl
+
+order_none : (s : ScriptData) (past : List Entry) (q from to : ℕ) (body : Body) → (restarting_in s past).ended ≤ 200
+    → (restarting_in s past).phase ≡ Doing ToTurn → greatest_given TurnStage past < (restarting_in s past).ended + 2
+    → IsRight s past from to body → order_to (restarting_in s past).epoch q from to body ≡ 0
+order_none s past q from to (Order e what v) few at less right =
+    apart e (restarting_in s past).epoch (to == q)
+    (λ now. let most = current_turn s past what v few at (right.current now) right.given in omega (arith, most, less))
+order_none s past q from to Go few at less right = refl
+order_none s past q from to _ few at less right = refl
+
+less_or : (a b : ℕ) → (b ≤ a) ⊎ (a < b)
+less_or a b = grind arith
+
+pub turn_given : (s : ScriptData) (past : List Entry) (q : ℕ) → IsGood s past → q < s.nodes → (restarting_in s past).ended ≤ 200
+    → (restarting_in s past).phase ≡ Doing ToTurn → IsSteady s past (Doing ToTurn)
+    → (restarting_in s past).ended + 2 ≤ greatest_given TurnStage past
+turn_given s past q good lt few at steady =
+    by (less_or (greatest_given TurnStage past) ((restarting_in s past).ended + 2)) where
+      e : ℕ
+      e = (restarting_in s past).epoch
+
+      by : ((restarting_in s past).ended + 2 ≤ greatest_given TurnStage past)
+          ⊎ (greatest_given TurnStage past < (restarting_in s past).ended + 2)
+          → (restarting_in s past).ended + 2 ≤ greatest_given TurnStage past
+      by (inl most) = most
+      by (inr less) =
+          let none : going (order_to e q) s past ≡ 0 =
+          each_none (λ (l : Letter). order_to e q l.from.0 l.to.0 l.body) (in_flight s past)
+          (each_map (λ (l : Letter). IsRight s past l.from.0 l.to.0 l.body)
+          (λ (l : Letter). order_to e q l.from.0 l.to.0 l.body ≡ 0)
+          (in_flight s past) (λ l right. order_none s past q l.from.0 l.to.0 l.body few at less right) good.letters) in
+          omega (arith, none, (steady.level q lt).comes, (good.within q lt).update_turned)
+
+-- so no more is done than all that the client asks for
+all_done : (n a f : ℕ) (phase : RestartPhase) → f + 1 ≤ a → f * (14 * n + 1) + begun n phase ≤ a * (14 * n + 1)
+all_done n a f phase less = omega (arith, begun_all n phase, mul-le-mul_right (14 * n + 1) less)
+
+updates_all : (s : ScriptData) (past : List Entry) (phase : RestartPhase) → IsValid s → IsGood s past → IsSteady s past phase
+    → least_update phase (restarting_in s past).ended ≡ (restarting_in s past).ended + 2
+    → (restarting_in s past).ended * (14 * s.nodes + 1) + begun s.nodes phase ≤ advances_in s.rows * (14 * s.nodes + 1)
+updates_all s past phase valid good steady is =
+    let some : 0 < s.nodes = omega (arith, valid.some_nodes) in
+    all_done s.nodes (advances_in s.rows) (restarting_in s past).ended phase
+    (omega (arith, is, (steady.level 0 some).update, (good.within 0 some).update_turned, turned_most s past good))
+
+pub spent_most : (s : ScriptData) (past : List Entry) (phase : RestartPhase) → IsValid s → IsGood s past
+    → (restarting_in s past).phase ≡ phase
+    → IsSteady s past phase
+    → (restarting_in s past).ended * (14 * s.nodes + 1) + begun s.nodes phase ≤ advances_in s.rows * (14 * s.nodes + 1)
+spent_most s past Idle valid good at steady =
+    omega (arith, mul-le-mul_right (14 * s.nodes + 1) (ended_most s past Idle valid good steady))
+spent_most s past (Doing ToTurn) valid good at steady =
+    let some : 0 < s.nodes = omega (arith, valid.some_nodes) in
+    let few = ended_most s past (Doing ToTurn) valid good steady in
+    all_done s.nodes (advances_in s.rows) (restarting_in s past).ended (Doing ToTurn) (omega (
+      arith,
+      turn_given s past 0 good some (omega (arith, few, valid.limited.advances)) at steady,
+      turned_most s past good,
+    ))
+spent_most s past (Doing ToShow) valid good at steady = updates_all s past (Doing ToShow) valid good steady refl
+spent_most s past (Doing ToSweep) valid good at steady = updates_all s past (Doing ToSweep) valid good steady refl
+spent_most s past (Counting reads) valid good at steady = updates_all s past (Counting reads) valid good steady refl
+spent_most s past (Paused reads) valid good at steady = updates_all s past (Paused reads) valid good steady refl
+spent_most s past Recovering valid good at steady =
+    omega (arith, mul-le-mul_right (14 * s.nodes + 1) (ended_most s past Recovering valid good steady))
+
+-- also while it recovers
+pub kept_most : (s : ScriptData) (past : List Entry) (f : ℕ) (shown : Bool) → IsValid s → IsGood s past
+    → IsFrom f shown (turns_in s past 0).read.0 (turns_in s past 0).low.0
+    → f * (14 * s.nodes + 1) + kept_of s.nodes shown ≤ advances_in s.rows * (14 * s.nodes + 1)
+kept_most s past f shown valid good from = by shown refl where
+  some : 0 < s.nodes
+  some = omega (arith, valid.some_nodes)
+
+  by : (b : Bool) → shown ≡ b → f * (14 * s.nodes + 1) + kept_of s.nodes b ≤ advances_in s.rows * (14 * s.nodes + 1)
+  by false is =
+      let few : f ≤ advances_in s.rows = omega (arith, from.low, low_most s past 0 good some, turned_most s past good) in
+      omega (arith, mul-le-mul_right (14 * s.nodes + 1) few)
+  by true is =
+      let less : f + 1 ≤ advances_in s.rows =
+      omega (arith, from.read, ap one_if is, read_most s past 0 good some, turned_most s past good) in
+      omega (arith, mul-le-mul_right (14 * s.nodes + 1) less)

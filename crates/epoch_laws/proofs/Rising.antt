@@ -1,0 +1,220 @@
+-- An entry of the client or of a node: the epoch of each node and its versions don't fall, and come to no more than was begun
+-- and given.
+use Rattle.std.proofs.Common.{◌≡◌, ◌≢◌, ◌⊎◌, inl, inr, ℕ, ◌<◌, ◌≤◌, Bool, true, false, List, ◌∷◌, refl, sym, ap, subst, ◌∙◌, arith}
+use Rattle.std.proofs.lemmas.Bool.{cases_eq}
+use Rattle.tv_base.specs.declared.numbers.Version.{Version}
+use Rattle.letter_types.specs.declared.bodies.Body.{Body}
+use Rattle.letter_types.specs.declared.bodies.Body.TheVariants.{Root, Sub as SubLetter, Done, Decide, Decided, Release, Wake, Ask, Order}
+use Rattle.letter_types.specs.declared.bodies.What.{What}
+use Rattle.letter_types.specs.declared.bodies.What.TheVariants.{Turn as ToTurn, Show as ToShow, Sweep as ToSweep}
+use Rattle.letter_types.specs.declared.entries.Entry.{Entry}
+use Rattle.letter_types.specs.declared.entries.Letter.{Letter}
+use Rattle.node_versions.specs.declared.turns.Turns.{Turns}
+use Rattle.tx_trees.specs.ScriptData.{ScriptData}
+use Rattle.world_model.specs.Core.{Core}
+use Rattle.world_model.specs.Done.{raised_if}
+use Rattle.world_model.specs.Keeping.{KeepingNode}
+use Rattle.world_model.specs.Node.{Node}
+use Rattle.world_model.specs.Runs.{MayFollow, keeping_in, restarting_in}
+use Rattle.world_model.proofs.Every.{each_taken}
+use Rattle.world_model.proofs.Outstanding.{keeping_elsewhere}
+use Rattle.phase_laws.specs.Given.{greatest_given}
+use Rattle.phase_laws.specs.Phases.{TurnStage, ShowStage, SweepStage}
+use Rattle.phase_laws.proofs.Brought.{each_of_brought}
+use Rattle.phase_laws.proofs.Closing.{tree_version}
+use Rattle.phase_laws.proofs.Heeds.{Answers, Heed, Leaves, Obeys, Repeats, turned_to, version_of}
+use Rattle.phase_laws.proofs.Progress.{Work}
+use Rattle.phase_laws.proofs.Working.{IsOfTrees, IsRaiser}
+use Rattle.epoch_laws.proofs.Aside.{Aside, TellsCounts, Counts, Heeds, IsEpochless, Submits, Tells, Works}
+use Rattle.epoch_laws.proofs.Good.{IsGood, IsOrder, IsRight, stage_of}
+use Rattle.epoch_laws.proofs.TreeEpochs.{IsOfNoEpoch, epoch_stays}
+
+-- a node's epoch and versions don't fall
+pub record Rises (c d : Core) : Type 0 where
+  pub epoch : c.epoch ≤ d.epoch
+  pub update : c.node.turns.update.0 ≤ d.node.turns.update.0
+  pub read : c.node.turns.read.0 ≤ d.node.turns.read.0
+  pub low : c.node.turns.low.0 ≤ d.node.turns.low.0
+
+-- and after it they are at most what was begun, and given
+pub record Fares (s : ScriptData) (past : List Entry) (c d : Core) : Type 0 where
+  pub rises : Rises c d
+  pub begun : d.epoch ≤ (restarting_in s past).epoch
+  pub turned : d.node.turns.update.0 ≤ greatest_given TurnStage past
+  pub showed : d.node.turns.read.0 ≤ greatest_given ShowStage past
+  pub swept : d.node.turns.low.0 ≤ greatest_given SweepStage past
+
+pub rises_same : (c : Core) → Rises c c
+rises_same c = record { epoch = omega arith; update = omega arith; read = omega arith; low = omega arith }
+
+stays : (s : ScriptData) (past : List Entry) (p : ℕ) → IsGood s past → p < s.nodes
+    → Fares s past (keeping_in s past p).core (keeping_in s past p).core
+stays s past p good lt =
+    let within = good.within p lt in
+    record {
+      rises = rises_same (keeping_in s past p).core;
+      begun = good.epochs p lt;
+      turned = within.update_turned;
+      showed = within.read_showed;
+      swept = within.low_swept;
+    }
+
+-- the letter that is taken is as it should be
+pub took_right : (s : ScriptData) (past : List Entry) (e : Entry) (body : Body) → IsGood s past → MayFollow s past e
+    → e.took.body ≡ body
+    → IsRight s past e.took.from.0 e.took.to.0 body
+took_right s past e body good m is =
+    subst (IsRight s past e.took.from.0 e.took.to.0) is
+    (each_taken (λ (l : Letter). IsRight s past l.from.0 l.to.0 l.body) s past e m good.letters)
+
+-- A node that works for a tree may raise its update version to that of a letter.
+raiser_version : (s : ScriptData) (v : ℕ) (body : Body) → IsRaiser s v body → v ≤ tree_version body
+raiser_version s v (SubLetter t k w) raiser = omega (arith, raiser.0)
+raiser_version s v _ raiser = absurd raiser
+
+-- a core with these numbers, whatever else it has
+by_numbers : (s : ScriptData) (past : List Entry) (c d : Core) (n : ℕ) (t : Turns) → d.epoch ≡ n → d.node.turns ≡ t
+    → Fares s past c (record c { epoch = n; node = record c.node { turns = t } }) → Fares s past c d
+by_numbers s past c d n t epoch turns fares =
+    let update : d.node.turns.update.0 ≡ t.update.0 = ap (λ (x : Turns). x.update.0) turns in
+    let read : d.node.turns.read.0 ≡ t.read.0 = ap (λ (x : Turns). x.read.0) turns in
+    let low : d.node.turns.low.0 ≡ t.low.0 = ap (λ (x : Turns). x.low.0) turns in
+    record {
+      rises = record {
+        epoch = omega (arith, epoch, fares.rises.epoch);
+        update = omega (arith, update, fares.rises.update);
+        read = omega (arith, read, fares.rises.read);
+        low = omega (arith, low, fares.rises.low);
+      };
+      begun = omega (arith, epoch, fares.begun);
+      turned = omega (arith, update, fares.turned);
+      showed = omega (arith, read, fares.showed);
+      swept = omega (arith, low, fares.swept);
+    }
+
+raised : (s : ScriptData) (past : List Entry) (c d : Core) (raises : Bool) (v : ℕ)
+    → d.node.turns ≡ raised_if raises v c.node.turns
+    → (raises ≡ true → c.node.turns.update.0 < v) → (raises ≡ true → v ≤ greatest_given TurnStage past) → d.epoch ≡ c.epoch
+    → Fares s past c c → Fares s past c d
+raised s past c d true v is higher most epoch was =
+    by_numbers s past c d c.epoch (record c.node.turns { update = record { 0 = v } }) epoch is (record {
+      rises = record { epoch = omega arith; update = omega (arith, higher refl); read = omega arith; low = omega arith };
+      begun = was.begun;
+      turned = most refl;
+      showed = was.showed;
+      swept = was.swept;
+    })
+raised s past c d false v is higher most epoch was = by_numbers s past c d c.epoch c.node.turns epoch is was
+
+tree_of_none : (body : Body) → IsOfTrees body → IsOfNoEpoch body
+tree_of_none (Root t) of = tt
+tree_of_none (SubLetter t k v) of = tt
+tree_of_none (Done t k v notice) of = tt
+tree_of_none (Decide t v commit) of = tt
+tree_of_none (Decided t v) of = tt
+tree_of_none (Release t) of = tt
+tree_of_none (Wake t k) of = tt
+tree_of_none _ of = absurd of
+
+work_fares : (s : ScriptData) (past : List Entry) (e : Entry) (p : ℕ) (r : Letter) → IsGood s past → MayFollow s past e
+    → Work s past e p r
+    → Fares s past (keeping_in s past p).core (keeping_in s (e ∷ past) p).core
+work_fares s past e p r good m work =
+    let by = work.turns in
+    let most : tree_version r.body ≤ greatest_given TurnStage past =
+    each_of_brought (λ (l : Letter). tree_version l.body ≤ greatest_given TurnStage past) s past e p r work.brings m good.trees in
+    raised s past (keeping_in s past p).core (keeping_in s (e ∷ past) p).core by.raises by.version by.turns by.higher
+    (λ is. omega (arith, most, raiser_version s by.version r.body (by.by is)))
+    (epoch_stays s past e p work.brings.at (tree_of_none e.took.body work.took)) (stays s past p good work.brings.below)
+
+-- A node that tells what it has counted stays as it is.
+epochless_of_none : (body : Body) → IsEpochless body → IsOfNoEpoch body
+epochless_of_none (Ask n) none = absurd none
+epochless_of_none (Order n what v) none = absurd none
+epochless_of_none _ none = tt
+
+count_fares : (s : ScriptData) (past : List Entry) (e : Entry) (p : ℕ) → IsGood s past → TellsCounts s past e p
+    → Fares s past (keeping_in s past p).core (keeping_in s (e ∷ past) p).core
+count_fares s past e p good count =
+    raised s past (keeping_in s past p).core (keeping_in s (e ∷ past) p).core false 0 (ap (λ (st : Node). st.turns) count.same)
+    (λ is. absurd (cc is)) (λ is. absurd (cc is))
+    (epoch_stays s past e p count.at (epochless_of_none e.took.body count.took)) (stays s past p good count.below)
+
+-- A node that heeds an order or a question comes to its epoch, and by an order to its version, if it wasn't there yet.
+in_epoch : (s : ScriptData) (past : List Entry) (c d : Core) (n : ℕ) → n ≤ (restarting_in s past).epoch → c.epoch ≤ n
+    → d ≡ record c { epoch = n } → Fares s past c c → Fares s past c d
+in_epoch s past c d n begun new is was =
+    subst (Fares s past c) (sym is) (record {
+      rises = record { epoch = new; update = omega arith; read = omega arith; low = omega arith };
+      begun = begun;
+      turned = was.turned;
+      showed = was.showed;
+      swept = was.swept;
+    })
+
+at_version : (s : ScriptData) (past : List Entry) (c : Core) (n : ℕ) (what : What) (v : Version)
+    → v.0 ≤ greatest_given (stage_of what) past
+    → version_of what c.node.turns < v.0 → c.epoch ≤ n → n ≤ (restarting_in s past).epoch → Fares s past c c
+    → Fares s past c (record c { epoch = n; node = record c.node { turns = turned_to what v c.node.turns } })
+at_version s past c n ToTurn v given less new begun was = record {
+  rises = record { epoch = new; update = omega (arith, less); read = omega arith; low = omega arith };
+  begun = begun;
+  turned = given;
+  showed = was.showed;
+  swept = was.swept;
+}
+at_version s past c n ToShow v given less new begun was = record {
+  rises = record { epoch = new; update = omega arith; read = omega (arith, less); low = omega arith };
+  begun = begun;
+  turned = was.turned;
+  showed = given;
+  swept = was.swept;
+}
+at_version s past c n ToSweep v given less new begun was = record {
+  rises = record { epoch = new; update = omega arith; read = omega arith; low = omega (arith, less) };
+  begun = begun;
+  turned = was.turned;
+  showed = was.showed;
+  swept = given;
+}
+
+heed_fares : (s : ScriptData) (past : List Entry) (e : Entry) (p : ℕ) → IsGood s past → MayFollow s past e → p < s.nodes
+    → Heed s (keeping_in s past p).core (keeping_in s (e ∷ past) p).core e.took.body e.sent
+    → Fares s past (keeping_in s past p).core (keeping_in s (e ∷ past) p).core
+heed_fares s past e p good m lt (Leaves n of late same none) =
+    subst (λ (d : Core). Fares s past (keeping_in s past p).core d) (sym same) (stays s past p good lt)
+heed_fares s past e p good m lt (Answers n bd new same is) =
+    in_epoch s past (keeping_in s past p).core (keeping_in s (e ∷ past) p).core n (took_right s past e (Ask n) good m bd) new same
+    (stays s past p good lt)
+heed_fares s past e p good m lt (Repeats n what v bd new was same is) =
+    let right : IsOrder s past e.took.to.0 n what v = took_right s past e (Order n what v) good m bd in
+    in_epoch s past (keeping_in s past p).core (keeping_in s (e ∷ past) p).core n right.epoch new same (stays s past p good lt)
+heed_fares s past e p good m lt (Obeys n what v more bd new less epoch turns is woken) =
+    let right : IsOrder s past e.took.to.0 n what v = took_right s past e (Order n what v) good m bd in
+    let c : Core = (keeping_in s past p).core in
+    by_numbers s past c (keeping_in s (e ∷ past) p).core n (turned_to what v c.node.turns) epoch turns
+    (at_version s past c n what v right.given less new right.epoch (stays s past p good lt))
+
+-- So each node fares.
+elsewhere : (s : ScriptData) (past : List Entry) (e : Entry) (q : ℕ) → IsGood s past → q < s.nodes → e.actor.0 ≢ q
+    → Fares s past (keeping_in s past q).core (keeping_in s (e ∷ past) q).core
+elsewhere s past e q good lt ne =
+    subst (λ (n : KeepingNode). Fares s past (keeping_in s past q).core n.core) (sym (keeping_elsewhere s past e q ne)) (stays s past q good lt)
+
+at_node : (s : ScriptData) (past : List Entry) (e : Entry) (p q : ℕ) → IsGood s past → q < s.nodes → e.actor.0 ≡ p
+    → Fares s past (keeping_in s past p).core (keeping_in s (e ∷ past) p).core → (p ≡ q) ⊎ (p ≢ q)
+    → Fares s past (keeping_in s past q).core (keeping_in s (e ∷ past) q).core
+at_node s past e p q good lt at here (inl same) =
+    subst (λ (n : ℕ). Fares s past (keeping_in s past n).core (keeping_in s (e ∷ past) n).core) same here
+at_node s past e p q good lt at here (inr other) = elsewhere s past e q good lt (λ is. other (sym at ∙ is))
+
+pub fares : (s : ScriptData) (past : List Entry) (e : Entry) (q : ℕ) → IsGood s past → MayFollow s past e → q < s.nodes
+    → Aside s past e
+    → Fares s past (keeping_in s past q).core (keeping_in s (e ∷ past) q).core
+fares s past e q good m lt (Submits c first at told bare made) = elsewhere s past e q good lt (λ is. omega (arith, at, is, lt))
+fares s past e q good m lt (Tells n at bd made) = elsewhere s past e q good lt (λ is. omega (arith, at, is, lt))
+fares s past e q good m lt (Works p r work) =
+    at_node s past e p q good lt work.brings.at (work_fares s past e p r good m work) (cases_eq p q)
+fares s past e q good m lt (Counts p count) = at_node s past e p q good lt count.at (count_fares s past e p good count) (cases_eq p q)
+fares s past e q good m lt (Heeds p at below heed) =
+    at_node s past e p q good lt at (heed_fares s past e p good m below heed) (cases_eq p q)
