@@ -288,7 +288,7 @@ entry_waits s past e valid run (NodeKeeps p r k d) =
     node_waits s past e p r valid run d.brings (keeping_waits s r.body (keeping_in s past p).core k e d.keeps d.acts)
 entry_waits s past e valid run (Coordinates at says) =
     other_waits s past e valid run (omega (arith, at))
-    (none_waits e.acts (coordinator_none (λ (a : Act). one_if (lets_wait a)) s past e says))
+    (none_waits e.acts (coordinator_none (λ (a : Act). one_if (lets_wait a)) s e says))
 entry_waits s past e valid run (Submits at says) =
     other_waits s past e valid run (omega (arith, at))
     (none_waits e.acts (client_none (λ (a : Act). one_if (lets_wait a)) s past e wait_kept says))

@@ -10,7 +10,7 @@ use Rattle.tv_base.specs.declared.numbers.TreeNo.{TreeNo}
 use Rattle.tv_base.specs.declared.numbers.Version.{Version}
 use Rattle.letter_types.specs.declared.acts.Act.{Act}
 use Rattle.letter_types.specs.declared.bodies.Body.{Body}
-use Rattle.letter_types.specs.declared.bodies.Body.TheVariants.{Root, Sub as SubLetter, Done, Turn, Show, Sweep, Decide, Decided, Release, AskDone, AskAsked}
+use Rattle.letter_types.specs.declared.bodies.Body.TheVariants.{Root, Sub as SubLetter, Done, Turn, Show, Sweep, Decide, Decided, Release, AskDone, AskAsked, Order, Ask}
 use Rattle.letter_types.specs.declared.bodies.Notice.{Notice}
 use Rattle.letter_types.specs.declared.entries.Entry.{Entry}
 use Rattle.letter_types.specs.declared.votes.Vote.{Vote}
@@ -34,6 +34,7 @@ use Rattle.world_model.specs.Strict.{CoreKeeping, answered, core_by_kind, core_k
 use Rattle.world_model.specs.Updates.{touching}
 use Rattle.world_model.specs.Votes.{vote_of}
 use Rattle.world_model.proofs.Cases.{Case, Coordinates, NodeDoes, NodeKeeps, Submits, case}
+use Rattle.world_model.proofs.Epochs.{ask_each, order_each}
 use Rattle.world_model.proofs.Every.{node_kept}
 use Rattle.world_model.proofs.Keepings.{of_kept}
 use Rattle.board_rules.specs.Histories.{Place, places_at, places_of}
@@ -149,6 +150,12 @@ row_leads s p from (Show v) c = record { update = refl; read = refl; low = refl 
 row_leads s p from (Sweep v) c = record { update = refl; read = refl; low = refl }
 row_leads s p from (AskDone v k) c = record { update = refl; read = refl; low = refl }
 row_leads s p from (AskAsked v k) c = record { update = refl; read = refl; low = refl }
+row_leads s p from (Order e what v) c =
+    order_each (LeadsOut c) s p from e what v c (record { update = refl; read = refl; low = refl })
+    (record { update = refl; read = refl; low = refl }) (λ to. turn_leads v c.node.turns (nat_lt c.node.turns.update.0 v.0) refl)
+    (λ to new. record { update = refl; read = refl; low = refl }) (λ to new. record { update = refl; read = refl; low = refl })
+row_leads s p from (Ask e) c =
+    ask_each (LeadsOut c) s e c (record { update = refl; read = refl; low = refl }) (record { update = refl; read = refl; low = refl })
 row_leads s p from _ c = record { update = refl; read = refl; low = refl }
 
 -- so of a letter that is kept
@@ -249,7 +256,7 @@ numbers_next s past e p lt are (NodeKeeps h r k d) =
     (subst (λ (xs : List Act). Leads xs c.node.turns (node_in s (e ∷ past) h).turns) (sym d.acts)
     (subst (λ (x : Core). Leads k.acts c.node.turns x.node.turns) (sym d.core) (keeping_leads s c r.body k d.keeps)))
     are (cases_eq h p)
-numbers_next s past e p lt are (Coordinates at says) = kept s past e p (λ is. omega (arith, at, is, lt)) are
+numbers_next s past e p lt are (Coordinates at made) = kept s past e p (λ is. omega (arith, at, is, lt)) are
 numbers_next s past e p lt are (Submits at says) = kept s past e p (λ is. omega (arith, at, is, lt)) are
 
 -- in every run

@@ -16,7 +16,7 @@ use Rattle.world_model.specs.Runs.{IsStepRun, client_in, in_flight}
 use Rattle.world_model.proofs.Bags.{tally-drop}
 use Rattle.world_model.proofs.Flows.{client_kept, flow}
 use Rattle.world_model.proofs.Scripts.{SubAt, get_below, sub_here, sub_there}
-use Rattle.phase_laws.proofs.Progress.{Begins, Coordinates, Ends, Hears, Obeys, Progress, Works, progress}
+use Rattle.phase_laws.proofs.ClientSteps.{Aside, Begins, ClientStep, Ends, Hears, Tells, client_step}
 use Rattle.tree_laws.specs.Dids.{answers, is_born, replies, replies_to}
 use Rattle.tree_laws.specs.Stages.{AllTurned, StageAt, Answered, Gathers, Holds, Unborn}
 use Rattle.tree_laws.proofs.Acts.{of_act}
@@ -27,7 +27,7 @@ use Rattle.tree_laws.proofs.AptStagesRun.{stages_of_trees}
 use Rattle.tree_laws.proofs.AptSteps.{home_node}
 use Rattle.tree_laws.proofs.AptTurns.{births_are_turns}
 use Rattle.tree_laws.proofs.Counted.{all_done_of, births_in, dids_in, was_done_of}
-use Rattle.run_laws.proofs.EveryApt.{all_apt, lawful}
+use Rattle.run_laws.proofs.EveryApt.{all_apt}
 use Rattle.run_laws.proofs.EveryDid.{dids_are_turns}
 use Rattle.run_laws.proofs.EveryWhole.{all_applied_of, strict_is, was_applied_of}
 use Rattle.rule_laws.proofs.Releases.{born_some}
@@ -52,24 +52,23 @@ same_heard : (s : ScriptData) (past : List Entry) (e : Entry) (t : ℕ) → e.ac
     → HasHeard (client_in s (e ∷ past)) t ≤ HasHeard (client_in s past) t + replies_to t e.took.body
 same_heard s past e t ne = omega (arith, ap (λ (c : Client). HasHeard c t) (client_kept s past e ne))
 
-heard_next : (s : ScriptData) (past : List Entry) (e : Entry) (t : ℕ) → Progress s past e
+heard_next : (s : ScriptData) (past : List Entry) (e : Entry) (t : ℕ) → ClientStep s past e
     → HasHeard (client_in s (e ∷ past)) t ≤ HasHeard (client_in s past) t + replies_to t e.took.body
-heard_next s past e t (Begins is at made) = omega (arith, ap (λ (c : Client). HasHeard c t) made.state)
-heard_next s past e t (Hears u v answer is at lt made) =
+heard_next s past e t (Begins is made) = omega (arith, ap (λ (c : Client). HasHeard c t) made.state)
+heard_next s past e t (Hears u v answer is lt made) =
     omega (
       arith,
       ap (λ (c : Client). HasHeard c t) made.state,
       hears (client_in s past).answered t u.0 (cases_eq u.0 t),
       ap (replies_to t) is,
     )
-heard_next s past e t (Ends v is at made) = omega (arith, ap (λ (c : Client). HasHeard c t) made.state)
-heard_next s past e t (Coordinates tells at made) = same_heard s past e t (omega (arith, at))
-heard_next s past e t (Works p r w) = same_heard s past e t (omega (arith, w.brings.at, w.brings.below))
-heard_next s past e t (Obeys p out more at lt order state sent woken) = same_heard s past e t (omega (arith, at, lt))
+heard_next s past e t (Ends v is made) = omega (arith, ap (λ (c : Client). HasHeard c t) made.state)
+heard_next s past e t (Tells n is loses made) = omega (arith, ap (λ (c : Client). HasHeard c t) made.state)
+heard_next s past e t (Aside ne) = same_heard s past e t ne
 
 heard_more : (s : ScriptData) (past : List Entry) (e : Entry) (t : ℕ) → IsValid s → IsStepRun s (e ∷ past)
     → HasHeard (client_in s (e ∷ past)) t ≤ HasHeard (client_in s past) t + replies_to t e.took.body
-heard_more s past e t valid run = heard_next s past e t (progress s past e (lawful s valid) (all_apt s (e ∷ past) valid run) run)
+heard_more s past e t valid run = heard_next s past e t (client_step s past e valid run)
 
 none_heard : (n t : ℕ) → one_if (get_or (replicate n false) t false) ≡ 0
 none_heard zero t = refl

@@ -21,11 +21,11 @@ ended_past s past valid run left = record {
   headline = headline_past s past valid run (no_run_stalls s past valid run left).1;
   left = ap (in_flight s) (reverse-reverse past) ∙ left;
   most = omega (arith, length-reverse past, entries_few s past valid run);
-  entries = λ plain. length-reverse past ∙ entries_counted s past valid plain run left;
-  rounds = omega (
+  entries = λ keeps plain. length-reverse past ∙ entries_counted s past valid keeps plain run left;
+  rounds = λ keeps. omega (
     arith,
-    rounds_by_trees s past (lawful s valid) run (all_apt s past valid run),
+    rounds_by_trees s past (lawful s valid keeps) run (all_apt s past valid run),
     ap (λ (c : Coordinator). c.round) (coordinator_after s past),
   );
-  no_rounds = λ still. no_rounds s past valid run still;
+  no_rounds = λ keeps still. no_rounds s past valid keeps run still;
 }

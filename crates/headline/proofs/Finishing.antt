@@ -7,7 +7,7 @@ use Rattle.tv_base.specs.declared.numbers.Version.{Version}
 use Rattle.letter_types.specs.declared.acts.Act.{Act}
 use Rattle.letter_types.specs.declared.acts.Act.TheVariants as acts
 use Rattle.letter_types.specs.declared.bodies.Body.{Body}
-use Rattle.letter_types.specs.declared.bodies.Body.TheVariants.{Root, Sub as SubLetter, Done, Turn, Show, Sweep, Decide, Decided, Release, AskDone, AskAsked}
+use Rattle.letter_types.specs.declared.bodies.Body.TheVariants.{Root, Sub as SubLetter, Done, Turn, Show, Sweep, Decide, Decided, Release, AskDone, AskAsked, Order, Ask}
 use Rattle.letter_types.specs.declared.bodies.Notice.{Notice}
 use Rattle.letter_types.specs.declared.bodies.Notice.TheVariants as notices
 use Rattle.letter_types.specs.declared.entries.Entry.{Entry}
@@ -28,20 +28,20 @@ use Rattle.world_model.specs.Named.{is_strict_at, tree_kind_at}
 use Rattle.world_model.specs.Node.{Effect, Node}
 use Rattle.world_model.specs.Notices.{act_of, values_of}
 use Rattle.world_model.specs.Reads.{getting}
-use Rattle.world_model.specs.Runs.{IsStepRun, client_in, coordinator_in, keeping_in}
+use Rattle.world_model.specs.Runs.{IsStepRun, client_in, keeping_in}
 use Rattle.world_model.specs.Strict.{answered, core_by_kind, core_row, decided, locks_by, none_refuses, note_core, noted_vote, refused_there, voting}
 use Rattle.world_model.specs.Updates.{touching}
 use Rattle.world_model.specs.Votes.{vote_of}
 use Rattle.world_model.proofs.Bags.{tally-append}
-use Rattle.world_model.proofs.Cases.{Case, Coordinates as ByCoordinator, NodeDoes, NodeKeeps, Submits, case}
+use Rattle.world_model.proofs.Cases.{Case, Coordinates, NodeDoes, NodeKeeps, Submits, case}
+use Rattle.world_model.proofs.Epochs.{ask_each, order_each}
 use Rattle.world_model.proofs.Flows.{client_kept}
 use Rattle.world_model.proofs.Nexts.{MadeByClient}
-use Rattle.world_model.proofs.Orders.{no_acts}
-use Rattle.phase_laws.proofs.Progress.{Begins, Coordinates, Ends, Hears, Obeys, Progress, Works, progress}
+use Rattle.phase_laws.proofs.ClientSteps.{Aside, Begins, ClientStep, Ends, Hears, Tells, client_step}
 use Rattle.tree_laws.specs.Ends.{is_finish}
 use Rattle.tree_laws.proofs.AptRulings.{keeping_acts}
 use Rattle.tree_laws.proofs.Client.{IsOver, finish_count, finishes_once, over_then}
-use Rattle.run_laws.proofs.EveryApt.{all_apt, lawful}
+use Rattle.run_laws.proofs.EveryApt.{all_apt}
 use Rattle.headline.proofs.Passes.{answer_ended, end_ended, passed_run}
 
 -- No act of a row of a core is the end.
@@ -113,6 +113,10 @@ row_none s p from (Show v) c = refl
 row_none s p from (Sweep v) c = refl
 row_none s p from (AskDone v k) c = refl
 row_none s p from (AskAsked v k) c = refl
+row_none s p from (Order e what v) c =
+    order_each (λ (o : Out Core). tally is_finish o.acts ≡ 0) s p from e what v c refl refl
+    (λ to. turned_none (nat_lt c.node.turns.update.0 v.0) v.0) (λ to new. refl) (λ to new. refl)
+row_none s p from (Ask e) c = ask_each (λ (o : Out Core). tally is_finish o.acts ≡ 0) s e c refl refl
 row_none s p from _ c = refl
 
 -- so nobody but the client finishes
@@ -123,8 +127,7 @@ none_finishes s past e ne (NodeKeeps p r k d) =
     ap (λ (xs : List Act). tally is_finish xs) d.acts
     ∙ keeping_acts is_finish s (keeping_in s past p).core r.body k
     (record { turned = λ v. refl; parked = λ t j i u. refl; waits = λ t v w. refl }) d.keeps
-none_finishes s past e ne (ByCoordinator at says) =
-    ap (λ (xs : List Act). tally is_finish xs) (says.1 ∙ no_acts (coordinator_in s past) e.took.from.0 e.took.body)
+none_finishes s past e ne (Coordinates at made) = ap (λ (xs : List Act). tally is_finish xs) made.acts
 none_finishes s past e ne (Submits at says) = absurd (ne at)
 
 -- The client in a run.
@@ -148,38 +151,33 @@ submits_on s past e c first old same over made = record {
   over = subst (λ (x : Client). x.finished ≡ true → IsOver s x) (sym made.state) (over_then s c first over);
 }
 
--- another actor goes on
-goes_on : (s : ScriptData) (past : List Entry) (e : Entry) → IsValid s → IsStepRun s (e ∷ past) → IsFinishing s past → e.actor.0 ≢ client_of s
-    → IsFinishing s (e ∷ past)
-goes_on s past e valid run old ne =
-    let kept = client_kept s past e ne in
-    record {
-      once = omega (
-        arith,
-        old.once,
-        ap (λ (x : Client). one_if x.finished) kept,
-        none_finishes s past e ne (case s past e run.0 (all_apt s (e ∷ past) valid run).0),
-      );
-      over = subst (λ (x : Client). x.finished ≡ true → IsOver s x) (sym kept) old.over;
-    }
+-- it stays as it is, and nobody finishes
+goes_on : (s : ScriptData) (past : List Entry) (e : Entry) → IsFinishing s past → tally is_finish e.acts ≡ 0
+    → client_in s (e ∷ past) ≡ client_in s past → IsFinishing s (e ∷ past)
+goes_on s past e old none kept = record {
+  once = omega (arith, old.once, ap (λ (x : Client). one_if x.finished) kept, none);
+  over = subst (λ (x : Client). x.finished ≡ true → IsOver s x) (sym kept) old.over;
+}
 
-finishing_next : (s : ScriptData) (past : List Entry) (e : Entry) → IsValid s → IsStepRun s (e ∷ past) → IsFinishing s past → Progress s past e
+finishing_next : (s : ScriptData) (past : List Entry) (e : Entry) → IsValid s → IsStepRun s (e ∷ past) → IsFinishing s past → ClientStep s past e
     → IsFinishing s (e ∷ past)
-finishing_next s past e valid run old (Begins is at made) = submits_on s past e (client_in s past) [] old refl old.over made
-finishing_next s past e valid run old (Hears t v answer is at lt made) =
+finishing_next s past e valid run old (Begins is made) = submits_on s past e (client_in s past) [] old refl old.over made
+finishing_next s past e valid run old (Hears t v answer is lt made) =
     let c = client_in s past in
     submits_on s past e (with_answer t.0 c) (nudge s ∷ []) old refl
     (λ done. record { all = (old.over done).all; ended = answer_ended c t.0 s.rows (old.over done).ended }) made
-finishing_next s past e valid run old (Ends v is at made) =
+finishing_next s past e valid run old (Ends v is made) =
     let c = client_in s past in
-    submits_on s past e (with_end c) [] old refl
-    (λ done. record { all = (old.over done).all; ended = end_ended c s.rows (passed_run s past valid run.1).small (old.over done).ended }) made
-finishing_next s past e valid run old (Coordinates tells at made) = goes_on s past e valid run old (omega (arith, at))
-finishing_next s past e valid run old (Works p r w) = goes_on s past e valid run old (omega (arith, w.brings.at, w.brings.below))
-finishing_next s past e valid run old (Obeys p out more at lt order state sent woken) = goes_on s past e valid run old (omega (arith, at, lt))
+    let small = (passed_run s past valid run.1).small in
+    submits_on s past e (with_end s v c) [] old refl
+    (λ done. record { all = (old.over done).all; ended = end_ended s v c s.rows small (old.over done).ended }) made
+finishing_next s past e valid run old (Tells n is loses made) =
+    goes_on s past e old (ap (λ (xs : List Act). tally is_finish xs) made.acts) made.state
+finishing_next s past e valid run old (Aside ne) =
+    goes_on s past e old (none_finishes s past e ne (case s past e run.0 (all_apt s (e ∷ past) valid run).0)) (client_kept s past e ne)
 
 -- in every run
 pub finishing_run : (s : ScriptData) (past : List Entry) → IsValid s → IsStepRun s past → IsFinishing s past
 finishing_run s [] valid run = record { once = refl; over = λ done. absurd (cc done) }
 finishing_run s (e ∷ past) valid run =
-    finishing_next s past e valid run (finishing_run s past valid run.1) (progress s past e (lawful s valid) (all_apt s (e ∷ past) valid run) run)
+    finishing_next s past e valid run (finishing_run s past valid run.1) (client_step s past e valid run)

@@ -14,6 +14,7 @@ use Rattle.item_versions.proofs.Tables.{Each, each-item, each-replaced}
 use Rattle.item_versions.proofs.Window.{AllUpTo, up_to-more}
 use Rattle.letter_types.specs.declared.bodies.Body.{Body}
 use Rattle.letter_types.specs.declared.bodies.Body.TheVariants.{Decide, Sweep}
+use Rattle.letter_types.specs.declared.bodies.What.TheVariants as whats
 use Rattle.letter_types.specs.declared.entries.Entry.{Entry}
 use Rattle.node_versions.specs.declared.turns.Turns.{Turns}
 use Rattle.tx_trees.specs.ScriptData.{ScriptData, ops_of, subs_at}
@@ -27,6 +28,7 @@ use Rattle.board_rules.specs.Stands.{overwrites}
 use Rattle.world_model.specs.Asked.{asked_version}
 use Rattle.world_model.specs.Core.{Core}
 use Rattle.world_model.specs.Decisions.{applied_in, ops_at, overwritten, overwritten_in}
+use Rattle.world_model.specs.Epochs.{is_core_timely}
 use Rattle.world_model.specs.Named.{is_timely}
 use Rattle.world_model.specs.Node.{Node, items_at}
 use Rattle.world_model.specs.Reads.{seen_in}
@@ -34,9 +36,10 @@ use Rattle.world_model.specs.Runs.{IsStepRun, keeping_in, node_in}
 use Rattle.world_model.specs.Strict.{core_row}
 use Rattle.world_model.specs.Updates.{table_after_deed, table_after_ops}
 use Rattle.world_model.proofs.Cases.{Case, Coordinates, NodeDoes, NodeKeeps, Submits, case}
+use Rattle.world_model.proofs.Epochs.{order_timely}
 use Rattle.world_model.proofs.Every.{node_kept}
 use Rattle.world_model.proofs.KeptThere.{IsCoreKeeping, OfKeeping, core_keeps}
-use Rattle.tree_laws.proofs.AptItems.{Applies, Changes, Collects, Raises, Rests, Shows, Touches, core_changes, raised_to}
+use Rattle.tree_laws.proofs.AptItems.{Applies, Changes, Collects, Follows, Raises, Rests, Shows, Touches, core_changes, raised_to}
 use Rattle.tree_laws.proofs.AptWindows.{apt_timely}
 use Rattle.run_laws.proofs.EveryApt.{all_apt}
 use Rattle.run_laws.proofs.KeptWhy.{keeps_rises}
@@ -113,26 +116,29 @@ moved a b x y ab xy all = subst (λ (z : Turns). IsUpToDate a z) (sym xy) (subst
 sweeps : (s : ScriptData) (st : Node) (v : Version) → is_timely s st (Sweep v) ≡ true → v.0 ≤ st.turns.update.0
 sweeps s st v timely = grind (arith, nat_tests)
 
-by_change : (s : ScriptData) (p : ℕ) (body : Body) (st : Node) (items : Table) (turns : Turns) → is_timely s st body ≡ true
-    → ((t : TreeNo) (v : Version) → body ≡ Decide t v true → v.0 ≤ st.turns.update.0) → Changes s p body st items turns
-    → IsUpToDate st.items st.turns → IsUpToDate items turns
-by_change s p body st items turns timely commit (Rests is same) all = moved items st.items turns st.turns is same all
-by_change s p body st items turns timely commit (Raises v of is same) all =
-    moved items st.items turns (raised_to v st.turns) is same
-    (more st.turns.update.0 (raised_to v st.turns).update.0 st.items (raises st.turns v).0 all)
-by_change s p body st items turns timely commit (Touches t k one kind is same) all =
-    let v : Version = asked_version st.turns.update body in
-    let up : Turns = raised_to v st.turns in
-    moved items (table_after_ops v (ops_of s t k) st.items) turns up is same
-    (ops_most up.update.0 v (ops_of s t k) st.items (raises st.turns v).1 (more st.turns.update.0 up.update.0 st.items (raises st.turns v).0 all))
-by_change s p body st items turns timely commit (Applies t v letter is same) all =
-    moved items (applied_in v (ops_at p (subs_at s t.0)) st.items) turns st.turns is same
-    (commit_most st.turns.update.0 v (ops_at p (subs_at s t.0)) st.items (commit t v letter) all)
-by_change s p body st items turns timely commit (Shows v letter is same) all =
-    moved items st.items turns (record st.turns { read = v }) is same all
-by_change s p body st items turns timely commit (Collects v letter is same) all =
-    moved items (collected_all v st.items) turns (record st.turns { low = v }) is same
-    (sweep_most st.turns.update.0 v st.items (sweeps s st v (ap (is_timely s st) (sym letter) ∙ timely)) all)
+by_change : (s : ScriptData) (p : ℕ) (body : Body) (c : Core) (items : Table) (turns : Turns) → is_core_timely s c body ≡ true
+    → ((t : TreeNo) (v : Version) → body ≡ Decide t v true → v.0 ≤ c.node.turns.update.0) → Changes s p body c items turns
+    → IsUpToDate c.node.items c.node.turns → IsUpToDate items turns
+by_change s p body c items turns timely commit (Rests is same) all = moved items c.node.items turns c.node.turns is same all
+by_change s p body c items turns timely commit (Follows t k v letter is same) all =
+    moved items c.node.items turns (raised_to v c.node.turns) is same
+    (more c.node.turns.update.0 (raised_to v c.node.turns).update.0 c.node.items (raises c.node.turns v).0 all)
+by_change s p body c items turns timely commit (Raises v to is same) all =
+    moved items c.node.items turns (raised_to v c.node.turns) is same
+    (more c.node.turns.update.0 (raised_to v c.node.turns).update.0 c.node.items (raises c.node.turns v).0 all)
+by_change s p body c items turns timely commit (Touches t k one kind is same) all =
+    let v : Version = asked_version c.node.turns.update body in
+    let up : Turns = raised_to v c.node.turns in
+    moved items (table_after_ops v (ops_of s t k) c.node.items) turns up is same
+    (ops_most up.update.0 v (ops_of s t k) c.node.items (raises c.node.turns v).1 (more c.node.turns.update.0 up.update.0 c.node.items (raises c.node.turns v).0 all))
+by_change s p body c items turns timely commit (Applies t v letter is same) all =
+    moved items (applied_in v (ops_at p (subs_at s t.0)) c.node.items) turns c.node.turns is same
+    (commit_most c.node.turns.update.0 v (ops_at p (subs_at s t.0)) c.node.items (commit t v letter) all)
+by_change s p body c items turns timely commit (Shows v to is same) all =
+    moved items c.node.items turns (record c.node.turns { read = v }) is same all
+by_change s p body c items turns timely commit (Collects v to is same) all =
+    moved items (collected_all v c.node.items) turns (record c.node.turns { low = v }) is same
+    (sweep_most c.node.turns.update.0 v c.node.items (sweeps s c.node v (order_timely s c body whats.Sweep v to timely)) all)
 
 -- In a run.
 abbrev IsNodeUpToDate : Node → Type 0
@@ -147,7 +153,7 @@ at_node s past e p valid run at lt (NodeDoes q r d) all =
     let now : Node = (core_row s q c r.from.0 r.body).state.node in
     subst (λ (n : ℕ). IsNodeUpToDate (node_in s (e ∷ past) n)) qp
     (subst (λ (x : Core). IsNodeUpToDate x.node) (sym d.core)
-    (by_change s q r.body c.node now.items now.turns (apt_timely s q c r d.brings.apt)
+    (by_change s q r.body c now.items now.turns (apt_timely s q c r d.brings.apt)
     (λ t v is. commits_below s past e q r t v valid run d is) (core_changes s q r.from.0 r.body c) here))
 at_node s past e p valid run at lt (NodeKeeps q r k d) all =
     let qp : q ≡ p = sym d.brings.at ∙ at in
@@ -158,8 +164,8 @@ at_node s past e p valid run at lt (NodeKeeps q r k d) all =
     let up : Turns = (node_in s (e ∷ past) q).turns in
     subst (λ (n : ℕ). IsNodeUpToDate (node_in s (e ∷ past) n)) qp
     (moved (node_in s (e ∷ past) q).items (node_in s past q).items up up items refl
-    (more (node_in s past q).turns.update.0 up.update.0 (node_in s past q).items (keeps_rises s past e q r k valid run d).update here))
-at_node s past e p valid run at lt (Coordinates out says) all = absurd (omega (arith, at, lt, out))
+    (more (node_in s past q).turns.update.0 up.update.0 (node_in s past q).items (keeps_rises s past e q r k d).update here))
+at_node s past e p valid run at lt (Coordinates out made) all = absurd (omega (arith, at, lt, out))
 at_node s past e p valid run at lt (Submits out says) all = absurd (omega (arith, at, lt, out))
 
 -- in every run

@@ -22,7 +22,7 @@ use Rattle.board_rules.specs.Right.{finishes as finishes_act, has_finished}
 use Rattle.world_model.specs.Client.{client_finishes, next_after, with_answer, with_end}
 use Rattle.world_model.specs.Counts.{one_if, tally}
 use Rattle.world_model.specs.AllApt.{AllApt}
-use Rattle.world_model.specs.Runs.{IsStepRun, client_in, node_in}
+use Rattle.world_model.specs.Runs.{IsStepRun, client_in, keeping_in, node_in}
 use Rattle.world_model.proofs.Every.{node_kept}
 use Rattle.world_model.proofs.Cases.{case}
 use Rattle.tree_laws.specs.Dids.{asks, letters_asking}
@@ -31,12 +31,12 @@ use Rattle.tree_laws.proofs.Acts.{any_counted, finish_marks, of_act}
 use Rattle.tree_laws.proofs.AptTurns.{roots_have_turns}
 use Rattle.tree_laws.proofs.Counts.{one_here}
 use Rattle.tree_laws.proofs.Finishes.{finishes_of, is_true_of}
-use Rattle.run_laws.proofs.EveryApt.{all_apt, lawful}
+use Rattle.run_laws.proofs.EveryApt.{all_apt}
 use Rattle.run_laws.proofs.InTime.{advancing_run}
 use Rattle.phase_laws.specs.Given.{greatest_given}
 use Rattle.phase_laws.specs.Phases.{TurnStage}
 use Rattle.phase_laws.proofs.Brought.{BringsTo, brought_outstanding}
-use Rattle.phase_laws.proofs.Progress.{Begins, Coordinates, Ends, Hears, Obeys, Progress, Works, progress}
+use Rattle.phase_laws.proofs.ClientSteps.{Aside, Begins, ClientStep, Ends, Hears, Tells, client_step}
 use Rattle.board_laws.proofs.NodeNumbers.{node_numbers}
 use Rattle.board_laws.proofs.Openings.{OpensFor, opens, opens_as}
 use Rattle.board_laws.proofs.Raised.{raised_most}
@@ -145,25 +145,24 @@ client_keeps : (s : ScriptData) (past : List Entry) (e : Entry) (test : Bool) �
 client_keeps s past e true valid run at acts = by_acts s past e (Finished ∷ []) acts (finished s past e valid run at acts, tt)
 client_keeps s past e false valid run at acts = by_acts s past e [] acts tt
 
-by_client : (s : ScriptData) (past : List Entry) (e : Entry) → IsValid s → IsStepRun s (e ∷ past) → e.actor.0 ≡ client_of s → Progress s past e
+by_client : (s : ScriptData) (past : List Entry) (e : Entry) → IsValid s → IsStepRun s (e ∷ past) → e.actor.0 ≡ client_of s → ClientStep s past e
     → KeepAll s (places_of (reverse past)) (places_at e)
-by_client s past e valid run at (Begins is here made) =
+by_client s past e valid run at (Begins is made) =
     let c = client_in s past in client_keeps s past e (client_finishes s (next_after s c) c) valid run at made.acts
-by_client s past e valid run at (Hears t v answer is here lt made) =
+by_client s past e valid run at (Hears t v answer is lt made) =
     let c = with_answer t.0 (client_in s past) in client_keeps s past e (client_finishes s (next_after s c) c) valid run at made.acts
-by_client s past e valid run at (Ends v is here made) =
-    let c = with_end (client_in s past) in client_keeps s past e (client_finishes s (next_after s c) c) valid run at made.acts
-by_client s past e valid run at (Coordinates tells here made) = absurd (omega (arith, at, here))
-by_client s past e valid run at (Works p r w) = absurd (omega (arith, at, w.brings.at, w.brings.below))
-by_client s past e valid run at (Obeys p out more here lt order state sent woken) = absurd (omega (arith, at, here, lt))
+by_client s past e valid run at (Ends v is made) =
+    let c = with_end s v (client_in s past) in client_keeps s past e (client_finishes s (next_after s c) c) valid run at made.acts
+by_client s past e valid run at (Tells n is loses made) = by_acts s past e [] made.acts tt
+by_client s past e valid run at (Aside ne) = absurd (ne at)
 
 -- An act that opens an entry of a node.
 opening_keeps : (s : ScriptData) (past : List Entry) (e : Entry) (p : ℕ) (r : Letter) (a : Act) → IsValid s → IsStepRun s (e ∷ past)
-    → BringsTo s past e p r → opens a ≡ true → OpensFor s (node_in s past p).turns r.body a
+    → BringsTo s past e p r → opens a ≡ true → OpensFor s (keeping_in s past p).core r.body a
     → KeepsToAt s (places_of (reverse past)) e.actor.0 a
 opening_keeps s past e p r (Born t v) valid run b is for = born s past e p r t valid run b for
 opening_keeps s past e p r (Turned v) valid run b is for =
-    turned s past p v.0 valid run.1 b.below (ltb-true (node_in s past p).turns.update.0 v.0 for.0) (raised_most s past e p r r.body v valid run b refl for.1)
+    turned s past p v.0 valid run.1 b.below (ltb-true (node_in s past p).turns.update.0 v.0 for.0) (raised_most s past e p r v valid run b for.1)
 opening_keeps s past e p r Finished valid run b is for = absurd (cc is)
 opening_keeps s past e p r _ valid run b is for = tt
 
@@ -213,5 +212,5 @@ entry_keeps s past e valid run = by (cases_eq e.actor.0 (client_of s)) where
   apt = all_apt s (e ∷ past) valid run
 
   by : (e.actor.0 ≡ client_of s) ⊎ (e.actor.0 ≢ client_of s) → KeepAll s (places_of (reverse past)) (places_at e)
-  by (inl at) = by_client s past e valid run at (progress s past e (lawful s valid) apt run)
+  by (inl at) = by_client s past e valid run at (client_step s past e valid run)
   by (inr ne) = by_node s past e valid run (none_finishes s past e ne (case s past e run.0 apt.0))

@@ -41,7 +41,7 @@ each_at P (y ∷ xs) (suc j) x all here = each_at P xs j x all.1 here
 tree_there : (s : ScriptData) (i j t : ℕ) → IsValid s → slice_get (awaited s i) j ≡ Some (TreeRow (record { 0 = t })) → t < length s.trees
 tree_there s i j t valid here =
     each_at (NamesTree s) (awaited s i) j (TreeRow (record { 0 = t }))
-    (each_before (NamesTree s) (take i s.rows) (each_take (NamesTree s) i s.rows (rows_name s 0 s.rows valid.rows))) here
+    (each_before (NamesTree s) (take i s.rows) (each_take (NamesTree s) i s.rows (rows_name s valid))) here
 
 -- Where all trees of these rows are answered, each is.
 pub answered_at : (answered : List Bool) (j t : ℕ) (rows : List ScriptRow) → all_answered answered rows ≡ true

@@ -1,10 +1,13 @@
 -- The client passes a settle row only when all before it has ended. So for each row that it has submitted, and for the
 -- one that it is at, all for which the row waits has ended at the client.
 use Rattle.std.proofs.Common.{◌≡◌, ◌≢◌, ℕ, zero, suc, ◌+◌, ◌-◌, ◌≤◌, Bool, true, false, List, [], ◌∷◌, ◌++◌, take, drop, refl, sym, ap, subst, ◌∙◌, arith, append_assoc, append-nil, set, inl, inr}
-use Rattle.std.specs.Prelude.{if◌then◌else◌, ◌^◌, min, nat_le}
+use Rattle.std.specs.Prelude.{if◌then◌else◌, ◌^◌, max, min, nat_le}
 use Rattle.std.specs.List.{list_any}
+use Rattle.std.proofs.Math.Nat.{le-max_left}
 use Rattle.std.proofs.Math.Seq.{take-add}
 use Rattle.std.proofs.lemmas.Bool.{and_from, and_parts, cases_lt}
+use Rattle.std.proofs.lemmas.Bool.Decides.{nat_tests}
+use Rattle.tv_base.specs.declared.numbers.Version.{Version}
 use Rattle.letter_types.specs.declared.entries.Entry.{Entry}
 use Rattle.letter_types.specs.declared.entries.Outgoing.{Outgoing}
 use Rattle.tx_trees.specs.Counts.{advances_in}
@@ -14,12 +17,12 @@ use Rattle.tx_trees.specs.declared.parts.ScriptRow.{ScriptRow}
 use Rattle.tx_trees.specs.declared.parts.ScriptRow.TheVariants.{Tree as TreeRow, Advance as AdvanceRow, Settle as SettleRow, Lose as LoseRow}
 use Rattle.board_rules.specs.Gates.{awaited, before_settle, is_settle_row}
 use Rattle.world_model.specs.Client.{Client, all_answered, have_ended, nudge, submit, submitted, with_answer, with_end}
+use Rattle.world_model.specs.Lossy.{is_lossy}
 use Rattle.world_model.specs.Runs.{IsStepRun, client_in}
 use Rattle.world_model.proofs.Flows.{client_kept}
 use Rattle.world_model.proofs.Nexts.{MadeByClient}
-use Rattle.phase_laws.proofs.Progress.{Begins, Coordinates, Ends, Hears, Obeys, Progress, Works, progress}
+use Rattle.phase_laws.proofs.ClientSteps.{Aside, Begins, ClientStep, Ends, Hears, Tells, client_step}
 use Rattle.tree_laws.proofs.Client.{answers_grow, end_grows}
-use Rattle.run_laws.proofs.EveryApt.{all_apt, lawful}
 
 -- The rows before the last settle row, with one row more after.
 settle_there : (xs : List ScriptRow) → list_any is_settle_row (xs ++ SettleRow ∷ []) ≡ true
@@ -108,15 +111,29 @@ answer_ended c t rows is =
     let parts = and_parts (all_answered c.answered rows) (nat_le (advances_in rows) c.ended) is in
     and_from (all_answered (set c.answered t true) rows) (nat_le (advances_in rows) c.ended) (answers_grow c.answered t rows parts.0) parts.1
 
-pub end_ended : (c : Client) (rows : List ScriptRow) → c.ended ≤ 2 ^ 64 - 1 → have_ended c rows ≡ true → have_ended (with_end c) rows ≡ true
-end_ended c rows small is =
-    let parts = and_parts (all_answered c.answered rows) (nat_le (advances_in rows) c.ended) is in
-    and_from (all_answered c.answered rows) (nat_le (advances_in rows) (min (c.ended + 1) (2 ^ 64 - 1))) parts.0
-    (end_grows (advances_in rows) c.ended small parts.1)
+greatest_grows : (n k m : ℕ) → nat_le n k ≡ true → nat_le n (max k m) ≡ true
+greatest_grows n k m is =
+    let le : n ≤ k = grind (arith, nat_tests) in
+    let more : k ≤ max k m = le-max_left k m in
+    grind (arith, nat_tests)
 
--- In a run. The number of ends that the client has heard of is one that it can keep.
+ends_grow : (s : ScriptData) (n k m : ℕ) → (is_lossy s ≡ false → k ≤ 2 ^ 64 - 1) → nat_le n k ≡ true
+    → nat_le n (if is_lossy s then max k m else min (k + 1) (2 ^ 64 - 1)) ≡ true
+ends_grow s n k m small is = by (is_lossy s) refl where
+  by : (loses : Bool) → is_lossy s ≡ loses → nat_le n (if loses then max k m else min (k + 1) (2 ^ 64 - 1)) ≡ true
+  by true lossy = greatest_grows n k m is
+  by false keeps = end_grows n k (small keeps) is
+
+pub end_ended : (s : ScriptData) (v : Version) (c : Client) (rows : List ScriptRow) → (is_lossy s ≡ false → c.ended ≤ 2 ^ 64 - 1)
+    → have_ended c rows ≡ true → have_ended (with_end s v c) rows ≡ true
+end_ended s v c rows small is =
+    let parts = and_parts (all_answered c.answered rows) (nat_le (advances_in rows) c.ended) is in
+    and_from (all_answered c.answered rows) (nat_le (advances_in rows) (with_end s v c).ended) parts.0
+    (ends_grow s (advances_in rows) c.ended v.0 small parts.1)
+
+-- In a run. Where the client counts the ends that it has heard of, their number is one that it can keep.
 pub record IsPassing (s : ScriptData) (c : Client) : Type 0 where
-  pub small : c.ended ≤ 2 ^ 64 - 1
+  pub small : is_lossy s ≡ false → c.ended ≤ 2 ^ 64 - 1
   pub passed : Passed s c
 
 by_client : (s : ScriptData) (past : List Entry) (e : Entry) (c : Client) (first : List Outgoing) → IsPassing s c
@@ -125,32 +142,34 @@ by_client s past e c first passing made =
     subst (λ (x : Client). IsPassing s x) (sym made.state)
     (record { small = passing.small; passed = submit_passed s c first passing.passed })
 
-others : (s : ScriptData) (past : List Entry) (e : Entry) → e.actor.0 ≢ client_of s → IsPassing s (client_in s past)
+same_passing : (s : ScriptData) (past : List Entry) (e : Entry) → client_in s (e ∷ past) ≡ client_in s past → IsPassing s (client_in s past)
     → IsPassing s (client_in s (e ∷ past))
-others s past e ne passing = subst (λ (x : Client). IsPassing s x) (sym (client_kept s past e ne)) passing
+same_passing s past e same passing = subst (λ (x : Client). IsPassing s x) (sym same) passing
 
-end_small : (c : Client) → (with_end c).ended ≤ 2 ^ 64 - 1
-end_small c = omega arith
+end_small : (s : ScriptData) (v : Version) (c : Client) → is_lossy s ≡ false → (with_end s v c).ended ≤ 2 ^ 64 - 1
+end_small s v c keeps = by (is_lossy s) keeps where
+  by : (loses : Bool) → loses ≡ false → (if loses then max c.ended v.0 else min (c.ended + 1) (2 ^ 64 - 1)) ≤ 2 ^ 64 - 1
+  by true is = absurd (cc is)
+  by false is = omega arith
 
-passed_next : (s : ScriptData) (past : List Entry) (e : Entry) → IsPassing s (client_in s past) → Progress s past e
+passed_next : (s : ScriptData) (past : List Entry) (e : Entry) → IsPassing s (client_in s past) → ClientStep s past e
     → IsPassing s (client_in s (e ∷ past))
-passed_next s past e passing (Begins is at made) = by_client s past e (client_in s past) [] passing made
-passed_next s past e passing (Hears t v answer is at lt made) =
+passed_next s past e passing (Begins is made) = by_client s past e (client_in s past) [] passing made
+passed_next s past e passing (Hears t v answer is lt made) =
     let c = client_in s past in
     by_client s past e (with_answer t.0 c) (nudge s ∷ [])
     (record { small = passing.small; passed = λ i le. answer_ended c t.0 (awaited s i) (passing.passed i le) }) made
-passed_next s past e passing (Ends v is at made) =
+passed_next s past e passing (Ends v is made) =
     let c = client_in s past in
-    by_client s past e (with_end c) []
-    (record { small = end_small c; passed = λ i le. end_ended c (awaited s i) passing.small (passing.passed i le) }) made
-passed_next s past e passing (Coordinates tells at made) = others s past e (omega (arith, at)) passing
-passed_next s past e passing (Works p r w) = others s past e (omega (arith, w.brings.at, w.brings.below)) passing
-passed_next s past e passing (Obeys p out more at lt order state sent woken) = others s past e (omega (arith, at, lt)) passing
+    by_client s past e (with_end s v c) []
+    (record { small = end_small s v c; passed = λ i le. end_ended s v c (awaited s i) passing.small (passing.passed i le) }) made
+passed_next s past e passing (Tells n is loses made) = same_passing s past e made.state passing
+passed_next s past e passing (Aside ne) = same_passing s past e (client_kept s past e ne) passing
 
 first_passed : (s : ScriptData) (i : ℕ) → i ≡ 0 → have_ended (client_in s []) (awaited s i) ≡ true
 first_passed s i is = subst (λ (n : ℕ). have_ended (client_in s []) (awaited s n) ≡ true) (sym is) refl
 
 pub passed_run : (s : ScriptData) (past : List Entry) → IsValid s → IsStepRun s past → IsPassing s (client_in s past)
-passed_run s [] valid run = record { small = omega arith; passed = λ i le. first_passed s i (omega (arith, le)) }
+passed_run s [] valid run = record { small = λ keeps. omega arith; passed = λ i le. first_passed s i (omega (arith, le)) }
 passed_run s (e ∷ past) valid run =
-    passed_next s past e (passed_run s past valid run.1) (progress s past e (lawful s valid) (all_apt s (e ∷ past) valid run) run)
+    passed_next s past e (passed_run s past valid run.1) (client_step s past e valid run)

@@ -107,7 +107,7 @@ all_taken : in_flight drawing (sample drawing 30) ≡ []
 all_taken = refl
 
 pub ended : HasEnded drawing ran
-ended = ended_past drawing (sample drawing 30) valid (sample_run drawing 30 valid) all_taken
+ended = ended_past drawing (sample drawing 30) valid (sample_run drawing 30 valid refl) all_taken
 
 pub commits : was_committed 1 (places_of ran) ≡ true
 commits = refl

@@ -1,5 +1,5 @@
 -- A node's low version rises by one at a time. So it has collected to each version from 1 up to its low version.
-use Rattle.std.proofs.Common.{◌≡◌, ◌≢◌, ◌⊎◌, inl, inr, ℕ, ◌+◌, ◌<◌, ◌≤◌, ◌==◌, ◌&&◌, true, List, [], ◌∷◌, ◌++◌, reverse, refl, sym, ap, subst, ◌∙◌, arith}
+use Rattle.std.proofs.Common.{◌≡◌, ◌≢◌, ◌⊎◌, inl, inr, ℕ, ◌+◌, ◌<◌, ◌≤◌, ◌==◌, ◌&&◌, true, false, List, [], ◌∷◌, ◌++◌, reverse, refl, sym, ap, subst, ◌∙◌, arith}
 use Rattle.std.specs.Prelude.{nat_lt}
 use Rattle.std.proofs.lemmas.Bool.{cases_eq, cases_lt, or_right}
 use Rattle.std.proofs.lemmas.Bool.Decides.{nat_tests}
@@ -9,32 +9,34 @@ use Rattle.tv_base.specs.declared.numbers.Version.{Version}
 use Rattle.letter_types.specs.declared.acts.Act.{Act}
 use Rattle.letter_types.specs.declared.acts.Act.TheVariants.{Swept as SweptAct}
 use Rattle.letter_types.specs.declared.bodies.Body.{Body}
-use Rattle.letter_types.specs.declared.bodies.Body.TheVariants.{Sweep}
+use Rattle.letter_types.specs.declared.bodies.What.TheVariants as whats
 use Rattle.letter_types.specs.declared.entries.Entry.{Entry}
 use Rattle.letter_types.specs.declared.entries.Letter.{Letter}
 use Rattle.node_versions.specs.declared.turns.Turns.{Turns}
 use Rattle.world_model.specs.Asked.{asked_version}
 use Rattle.world_model.specs.Core.{Core}
+use Rattle.world_model.specs.Epochs.{was_obeyed}
 use Rattle.world_model.specs.Node.{Node}
 use Rattle.world_model.specs.Strict.{CoreKeeping, core_row}
 use Rattle.tx_trees.specs.ScriptData.{ScriptData}
 use Rattle.tx_trees.specs.Valid.{IsValid}
 use Rattle.board_rules.specs.Gates.{sweeps_to, was_swept}
 use Rattle.board_rules.specs.Histories.{Place, places_at, places_of}
-use Rattle.world_model.specs.Runs.{MayFollow, IsStepRun, keeping_in, node_in}
+use Rattle.world_model.specs.Runs.{IsStepRun, keeping_in, node_in}
+use Rattle.world_model.proofs.Epochs.{Anew, Orders, Plainly}
 use Rattle.world_model.proofs.Every.{node_kept}
 use Rattle.world_model.proofs.Cases.{Case, Coordinates, Does, Keeps, NodeDoes, NodeKeeps, Submits, case}
 use Rattle.world_model.proofs.Keepings.{of_kept}
 use Rattle.run_laws.proofs.EveryApt.{all_apt}
-use Rattle.phase_laws.proofs.Advancing.{taken_ahead, taken_given}
 use Rattle.run_laws.proofs.InTime.{advancing_run}
-use Rattle.phase_laws.proofs.Brought.{IsAsking}
-use Rattle.phase_laws.proofs.Progress.{brings_to, itself}
-use Rattle.tree_laws.proofs.AptItems.{Applies, Changes, Collects, Raises, Rests, Shows, Touches, core_changes, raised_to}
+use Rattle.phase_laws.proofs.Brought.{BringsTo}
+use Rattle.phase_laws.proofs.Progress.{brings_to}
+use Rattle.tree_laws.proofs.AptItems.{Applies, Changes, Collects, Follows, Raises, Rests, Shows, Touches, core_changes, raised_to}
 use Rattle.tree_laws.proofs.Histories.{places_more}
 use Rattle.tree_laws.proofs.Seen.{raised_low}
 use Rattle.tree_laws.proofs.Counted.{placed}
 use Rattle.board_rules.proofs.Wholes.{any_more}
+use Rattle.board_laws.proofs.Raised.{ordered_given, sweeps_ahead}
 
 -- What was collected, with more acts.
 swept_more : (p v : ℕ) (xs ys : List Place) → was_swept p v xs ≡ true → was_swept p v (xs ++ ys) ≡ true
@@ -45,11 +47,24 @@ swept_last p v xs ys is =
     list_any-append (λ (x : Place). (x.node == p) && sweeps_to v x.act) xs ys ∙ or_right (was_swept p v xs) (was_swept p v ys) is
 
 -- A sweep is to the version after the low one.
-sweep_next : (s : ScriptData) (past : List Entry) (e : Entry) (p : ℕ) (v : Version) → IsValid s → IsStepRun s past → MayFollow s past e
-    → p < s.nodes → e.actor.0 ≡ p → e.took.body ≡ Sweep v → v.0 ≡ (node_in s past p).turns.low.0 + 1
-sweep_next s past e p v valid run m lt at is =
-    let all = advancing_run s past valid run in
-    omega (arith, taken_ahead s past e p (Sweep v) all m at lt is, taken_given s past e (Sweep v) all m is, (all.within p lt).swept_low)
+sweep_next : (s : ScriptData) (past : List Entry) (e : Entry) (p : ℕ) (r : Letter) (v : Version) → IsValid s → IsStepRun s (e ∷ past)
+    → BringsTo s past e p r → Orders (keeping_in s past p).core r.body whats.Sweep v → v.0 ≡ (node_in s past p).turns.low.0 + 1
+sweep_next s past e p r v valid run b to =
+    omega (
+      arith,
+      sweeps_ahead s past e p r v valid run b to,
+      ordered_given s past e p r whats.Sweep v valid run b to,
+      ((advancing_run s past valid run.1).within p b.below).swept_low,
+    )
+
+-- and it is all that its entry does
+sweep_acts : (s : ScriptData) (p from : ℕ) (c : Core) (body : Body) (v : Version) → Orders c body whats.Sweep v
+    → (core_row s p c from body).acts ≡ SweptAct v ∷ []
+sweep_acts s p from c body v (Plainly is) = ap (λ (b : Body). (core_row s p c from b).acts) is
+sweep_acts s p from c body v (Anew e is takes) =
+    let new : nat_lt e c.epoch ≡ false = grind arith in
+    let first : was_obeyed whats.Sweep v c.node ≡ false = grind arith in
+    ap (λ (b : Body). (core_row s p c from b).acts) is ∙ rw (new, first) refl
 
 -- node p has collected to each version up to its low one
 abbrev pub SweptTo : ScriptData → List Entry → ℕ → Type 0
@@ -98,21 +113,21 @@ does_swept s past e p r valid run d swept = by (core_changes s p r.from.0 r.body
   low_is : (turns : Turns) → now.turns ≡ turns → (node_in s (e ∷ past) p).turns.low.0 ≡ turns.low.0
   low_is turns same = ap (λ (x : Core). x.node.turns.low.0) d.core ∙ ap (λ (x : Turns). x.low.0) same
 
-  by : Changes s p r.body c.node now.items now.turns → SweptTo s (e ∷ past) p
+  by : Changes s p r.body c now.items now.turns → SweptTo s (e ∷ past) p
   by (Rests is same) = stays s past e p (low_is c.node.turns same) swept
-  by (Raises v of is same) =
+  by (Follows t k v letter is same) =
+      stays s past e p (low_is (raised_to v c.node.turns) same ∙ raised_low (nat_lt c.node.turns.update.0 v.0) v.0 c.node.turns) swept
+  by (Raises v to is same) =
       stays s past e p (low_is (raised_to v c.node.turns) same ∙ raised_low (nat_lt c.node.turns.update.0 v.0) v.0 c.node.turns) swept
   by (Touches t k one kind is same) =
       let v : Version = asked_version c.node.turns.update r.body in
       stays s past e p (low_is (raised_to v c.node.turns) same ∙ raised_low (nat_lt c.node.turns.update.0 v.0) v.0 c.node.turns) swept
   by (Applies t v letter is same) = stays s past e p (low_is c.node.turns same) swept
-  by (Shows v letter is same) = stays s past e p (low_is (record c.node.turns { read = v }) same) swept
-  by (Collects v letter is same) =
-      let own : r ≡ e.took = itself s past e p r (brings_to s past e p r d.brings) (λ asks. subst IsAsking letter asks) in
-      let took : e.took.body ≡ Sweep v = ap (λ (l : Letter). l.body) (sym own) ∙ letter in
-      let acts : e.acts ≡ SweptAct v ∷ [] = d.acts ∙ ap (λ (b : Body). (core_row s p c r.from.0 b).acts) letter in
+  by (Shows v to is same) = stays s past e p (low_is (record c.node.turns { read = v }) same) swept
+  by (Collects v to is same) =
+      let acts : e.acts ≡ SweptAct v ∷ [] = d.acts ∙ sweep_acts s p r.from.0 c r.body v to in
       swept_by s past e p v acts (low_is (record c.node.turns { low = v }) same) d.brings.at
-      (sweep_next s past e p v valid run.1 run.0 d.brings.below d.brings.at took) swept
+      (sweep_next s past e p r v valid run (brings_to s past e p r d.brings) to) swept
 
 keeps_swept : (s : ScriptData) (past : List Entry) (e : Entry) (p : ℕ) (r : Letter) (k : CoreKeeping) → Keeps s past e p r k
     → SweptTo s past p → SweptTo s (e ∷ past) p
@@ -130,7 +145,7 @@ swept_at s past e p valid run lt at (NodeDoes q r d) swept =
     does_swept s past e p r valid run (subst (λ (n : ℕ). Does s past e n r) (sym d.brings.at ∙ at) d) swept
 swept_at s past e p valid run lt at (NodeKeeps q r k d) swept =
     keeps_swept s past e p r k (subst (λ (n : ℕ). Keeps s past e n r k) (sym d.brings.at ∙ at) d) swept
-swept_at s past e p valid run lt at (Coordinates out says) swept = absurd (omega (arith, at, lt, out))
+swept_at s past e p valid run lt at (Coordinates out made) swept = absurd (omega (arith, at, lt, out))
 swept_at s past e p valid run lt at (Submits out says) swept = absurd (omega (arith, at, lt, out))
 
 -- in every run

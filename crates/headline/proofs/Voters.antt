@@ -28,11 +28,10 @@ use Rattle.world_model.specs.Counts.{one_if, tally}
 use Rattle.world_model.specs.Done.{raised_if}
 use Rattle.world_model.specs.Named.{is_named, is_strict_at, tree_kind_at}
 use Rattle.world_model.specs.Node.{Node}
-use Rattle.world_model.specs.Runs.{IsStepRun, client_in, coordinator_in, keeping_in, node_in}
+use Rattle.world_model.specs.Runs.{IsStepRun, client_in, keeping_in, node_in}
 use Rattle.world_model.specs.Strict.{core_by_kind, core_row}
 use Rattle.world_model.proofs.Cases.{Case, Coordinates, Does, NodeDoes, NodeKeeps, Submits, case}
 use Rattle.world_model.proofs.Every.{node_kept}
-use Rattle.world_model.proofs.Orders.{no_acts}
 use Rattle.world_model.proofs.Scripts.{get_below}
 use Rattle.phase_laws.proofs.Brought.{brought_outstanding, each_of_brought}
 use Rattle.phase_laws.proofs.Progress.{brings_to}
@@ -45,7 +44,7 @@ use Rattle.tree_laws.proofs.AptApplied.{applied_where_decided}
 use Rattle.tree_laws.proofs.AptBounds.{asked_node}
 use Rattle.tree_laws.proofs.AptDecided.{Once, decided_any, once_in_run}
 use Rattle.tree_laws.proofs.AptDecisions.{dated_here, letters_carry_versions}
-use Rattle.tree_laws.proofs.AptItems.{Applies, Changes, Collects, Raises, Rests, Shows, Touches, core_changes, raised_to}
+use Rattle.tree_laws.proofs.AptItems.{Applies, Changes, Collects, Follows, Raises, Rests, Shows, Touches, core_changes, raised_to}
 use Rattle.tree_laws.proofs.AptMakes.{decision_waits}
 use Rattle.tree_laws.proofs.AptRulings.{client_acts, keeping_acts}
 use Rattle.tree_laws.proofs.AptStagesRun.{stages_of_trees}
@@ -70,15 +69,16 @@ raise_by turns v false is =
 pub raises : (turns : Turns) (v : Version) → (turns.update.0 ≤ (raised_to v turns).update.0) × (v.0 ≤ (raised_to v turns).update.0)
 raises turns v = raise_by turns v.0 (nat_lt turns.update.0 v.0) refl
 
-grows_by : (s : ScriptData) (p : ℕ) (body : Body) (st : Node) (items : Table) (turns : Turns) → Changes s p body st items turns
-    → st.turns.update.0 ≤ turns.update.0
-grows_by s p body st items turns (Rests is same) = omega (arith, ap (λ (x : Turns). x.update.0) same)
-grows_by s p body st items turns (Raises v of is same) = omega (arith, ap (λ (x : Turns). x.update.0) same, (raises st.turns v).0)
-grows_by s p body st items turns (Touches t k one kind is same) =
-    omega (arith, ap (λ (x : Turns). x.update.0) same, (raises st.turns (asked_version st.turns.update body)).0)
-grows_by s p body st items turns (Applies t v letter is same) = omega (arith, ap (λ (x : Turns). x.update.0) same)
-grows_by s p body st items turns (Shows v letter is same) = omega (arith, ap (λ (x : Turns). x.update.0) same)
-grows_by s p body st items turns (Collects v letter is same) = omega (arith, ap (λ (x : Turns). x.update.0) same)
+grows_by : (s : ScriptData) (p : ℕ) (body : Body) (c : Core) (items : Table) (turns : Turns) → Changes s p body c items turns
+    → c.node.turns.update.0 ≤ turns.update.0
+grows_by s p body c items turns (Rests is same) = omega (arith, ap (λ (x : Turns). x.update.0) same)
+grows_by s p body c items turns (Follows t k v letter is same) = omega (arith, ap (λ (x : Turns). x.update.0) same, (raises c.node.turns v).0)
+grows_by s p body c items turns (Raises v to is same) = omega (arith, ap (λ (x : Turns). x.update.0) same, (raises c.node.turns v).0)
+grows_by s p body c items turns (Touches t k one kind is same) =
+    omega (arith, ap (λ (x : Turns). x.update.0) same, (raises c.node.turns (asked_version c.node.turns.update body)).0)
+grows_by s p body c items turns (Applies t v letter is same) = omega (arith, ap (λ (x : Turns). x.update.0) same)
+grows_by s p body c items turns (Shows v to is same) = omega (arith, ap (λ (x : Turns). x.update.0) same)
+grows_by s p body c items turns (Collects v to is same) = omega (arith, ap (λ (x : Turns). x.update.0) same)
 
 -- an entry of a node that does a letter
 pub does_grow : (s : ScriptData) (past : List Entry) (e : Entry) (p : ℕ) (r : Letter) → Does s past e p r
@@ -87,7 +87,7 @@ does_grow s past e p r d =
     let c : Core = (keeping_in s past p).core in
     let now : Node = (core_row s p c r.from.0 r.body).state.node in
     subst (λ (x : Core). c.node.turns.update.0 ≤ x.node.turns.update.0) (sym d.core)
-    (grows_by s p r.body c.node now.items now.turns (core_changes s p r.from.0 r.body c))
+    (grows_by s p r.body c now.items now.turns (core_changes s p r.from.0 r.body c))
 
 grow_at : (s : ScriptData) (past : List Entry) (e : Entry) (p : ℕ) → IsValid s → IsStepRun s (e ∷ past) → p < s.nodes → e.actor.0 ≡ p
     → Case s past e → (node_in s past p).turns.update.0 ≤ (node_in s (e ∷ past) p).turns.update.0
@@ -96,8 +96,8 @@ grow_at s past e p valid run lt at (NodeDoes q r d) =
     (does_grow s past e q r d)
 grow_at s past e p valid run lt at (NodeKeeps q r k d) =
     subst (λ (n : ℕ). (node_in s past n).turns.update.0 ≤ (node_in s (e ∷ past) n).turns.update.0) (sym d.brings.at ∙ at)
-    (keeps_rises s past e q r k valid run d).update
-grow_at s past e p valid run lt at (Coordinates out says) = absurd (omega (arith, at, lt, out))
+    (keeps_rises s past e q r k d).update
+grow_at s past e p valid run lt at (Coordinates out made) = absurd (omega (arith, at, lt, out))
 grow_at s past e p valid run lt at (Submits out says) = absurd (omega (arith, at, lt, out))
 
 -- an entry
@@ -214,12 +214,8 @@ turned_now s past e t k valid run strict some (NodeKeeps p r kept d) =
       keeping_acts (has_turn t k) s (keeping_in s past p).core r.body kept
           (record { turned = λ v. refl; parked = λ u j i x. refl; waits = λ u v x. refl }) d.keeps,
     ))
-turned_now s past e t k valid run strict some (Coordinates at says) =
-    absurd (omega (
-      arith,
-      some,
-      ap (λ (xs : List Act). tally (has_turn t k) xs) (says.1 ∙ no_acts (coordinator_in s past) e.took.from.0 e.took.body),
-    ))
+turned_now s past e t k valid run strict some (Coordinates at made) =
+    absurd (omega (arith, some, ap (λ (xs : List Act). tally (has_turn t k) xs) made.acts))
 turned_now s past e t k valid run strict some (Submits at says) =
     absurd (omega (
       arith,

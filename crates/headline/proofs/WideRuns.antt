@@ -1,6 +1,6 @@
 -- A run by the wider aptness is a run by the window of versions: each letter in flight is apt.
 use Rattle.std.proofs.Common.{if◌then◌else◌, ◌≡◌, ℕ, ◌+◌, ◌<◌, ◌≤◌, ◌==◌, ◌&&◌, ◌||◌, Bool, true, false, not, List, [], ◌∷◌, reverse, refl, sym, ap, subst, ◌∙◌, arith, Option, Some, None}
-use Rattle.std.specs.Prelude.{length, nat_le}
+use Rattle.std.specs.Prelude.{length, nat_le, nat_lt}
 use Rattle.std.proofs.lemmas.Bool.{and_parts}
 use Rattle.std.proofs.lemmas.Bool.Decides.{nat_tests}
 use Rattle.std.proofs.lemmas.List.{reverse-reverse}
@@ -11,21 +11,21 @@ use Rattle.item_versions.specs.Table.{Table}
 use Rattle.item_versions.specs.Collecting.{may_collect, may_collect_all}
 use Rattle.item_versions.specs.Window.{IsWindowed, IsWindowedTable}
 use Rattle.letter_types.specs.declared.bodies.Body.{Body}
-use Rattle.letter_types.specs.declared.bodies.Body.TheVariants.{Go, Sweep}
+use Rattle.letter_types.specs.declared.bodies.Body.TheVariants.{Go, Order, Sweep}
 use Rattle.letter_types.specs.declared.entries.Entry.{Entry}
 use Rattle.letter_types.specs.declared.entries.Letter.{Letter}
 use Rattle.letter_types.specs.Kept.{brought}
 use Rattle.letter_types.specs.Letters.{find_id, own}
 use Rattle.letter_types.specs.Steps.{Out}
-use Rattle.tx_trees.specs.Counts.{has_strict}
 use Rattle.tx_trees.specs.ScriptData.{ScriptData}
 use Rattle.tx_trees.specs.Valid.{IsValid}
 use Rattle.world_model.specs.Named.{is_named, is_new, is_timely}
 use Rattle.world_model.specs.Node.{Node}
 use Rattle.world_model.specs.Apt.{is_widely_timely}
 use Rattle.world_model.specs.Core.{Core}
+use Rattle.world_model.specs.Epochs.{is_core_timely, is_widely_core_timely, plain_order}
 use Rattle.world_model.specs.Keeping.{KeepingNode, brought_row, is_apt_brought, keeping_row, start_keeping, wide_keeping_row}
-use Rattle.world_model.specs.Strict.{can_make_at, decides_near, is_core_apt, is_of_strict, is_unheld, is_widely_core_apt}
+use Rattle.world_model.specs.Strict.{can_make_at, decides_near, is_core_apt, is_of_script, is_unheld, is_widely_core_apt}
 use Rattle.world_model.specs.Runs.{IsRunOf, MayFollow, AtNode, Says, IsStepRun, IsWideRun, IsWorldRun, after, keeping_in, in_flight}
 use Rattle.world_model.specs.Tables.{wide_actor_row}
 use Rattle.world_model.proofs.Actors.{IsTableOf, RowsRun, rows_run, runs_of_rows}
@@ -53,6 +53,20 @@ widely_timely s st (Sweep v) near timely =
 widely_timely s st Go near timely = refl
 widely_timely s st _ near timely = refl
 
+-- also an order of a coordinator that forgets
+or_more : (a b d : Bool) → (b ≡ true → d ≡ true) → (a || b) ≡ true → (a || d) ≡ true
+or_more true b d more is = refl
+or_more false b d more is = more is
+
+widely_core_timely : (s : ScriptData) (c : Core) (b : Body) → IsWindowedTable c.node.turns.low.0 c.node.items → is_core_timely s c b ≡ true
+    → is_widely_core_timely s c b ≡ true
+widely_core_timely s c (Order e what v) near timely =
+    or_more (nat_lt e c.epoch) (is_timely s c.node (plain_order what v)) (is_widely_timely s c.node (plain_order what v))
+    (widely_timely s c.node (plain_order what v) near) timely
+widely_core_timely s c Go near timely = refl
+widely_core_timely s c (Sweep v) near timely = widely_timely s c.node (Sweep v) near timely
+widely_core_timely s c _ near timely = refl
+
 wide_by : (h a b c d e f g : Bool) → (h && (a && (b && c && (d && e && f)))) ≡ true → (d ≡ true → g ≡ true)
     → (h && (a && (b && c && (g && f)))) ≡ true
 wide_by h a b c true e f true is wide = grind arith
@@ -64,9 +78,9 @@ wide_by h a b c false e f g is wide = absurd (let not_so : false ≡ true = sym 
 widely_apt : (s : ScriptData) (p : ℕ) (c : Core) (l : Letter) → IsWindowedTable c.node.turns.low.0 c.node.items
     → is_core_apt s p c l ≡ true → is_widely_core_apt s p c l ≡ true
 widely_apt s p c l near apt =
-    wide_by (has_strict s || not (is_of_strict l.body)) (is_named s p l.from.0 l.body) (is_new s c.node l.body)
-    (is_unheld l.body c.holds) (is_timely s c.node l.body) (decides_near s c.node l.body) (can_make_at s p c l.body)
-    (is_widely_timely s c.node l.body) apt (λ timely. widely_timely s c.node l.body near timely)
+    wide_by (is_of_script s l.body) (is_named s p l.from.0 l.body) (is_new s c.node l.body)
+    (is_unheld l.body c.holds) (is_core_timely s c l.body) (decides_near s c.node l.body) (can_make_at s p c l.body)
+    (is_widely_core_timely s c l.body) apt (λ timely. widely_core_timely s c l.body near timely)
 
 -- so both tables have the same row where the letter that is brought is apt
 same_by : (s : ScriptData) (p : ℕ) (n : KeepingNode) (l : Letter) (o : Option Letter)
@@ -144,6 +158,7 @@ wide_rows s past valid run =
       postal = tables.postal;
       nodes = λ p lt. wide_nodes s past p valid run lt;
       coordinator = tables.coordinator;
+      restarting = tables.restarting;
       client = tables.client;
     }
 
@@ -162,13 +177,13 @@ wide_steps s [] valid wide = tt
 wide_steps s (e ∷ past) valid wide =
     let run = wide_steps s past valid (rows_less (wide_keeping_row s) s e past wide) in (
       follows_by s e past run wide.postal
-          (moves_by s e past (λ lt. wide_says s e past valid run wide lt) wide.coordinator wide.client (who_of s e past wide.postal).1),
+          (moves_by s e past (λ lt. wide_says s e past valid run wide lt) wide.coordinator wide.restarting wide.client (who_of s e past wide.postal).1),
       run,
     )
 
 -- The two shapes.
 by_wider : (s : ScriptData) → IsTableOf s (wide_actor_row s) (wide_keeping_row s)
-by_wider s = record { node = λ p st l. refl; coordinator = λ a c l. refl; client = λ a c l. refl }
+by_wider s = record { node = λ p st l. refl; coordinator = λ a c l. refl; restarting = λ a c l. refl; client = λ a c l. refl }
 
 pub widened : (s : ScriptData) (h : List Entry) → IsValid s → IsWorldRun s h → IsWideRun s h
 widened s h valid world =

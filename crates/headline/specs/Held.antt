@@ -12,17 +12,19 @@ use Rattle.tx_trees.specs.ScriptData.{ScriptData}
 use Rattle.tx_trees.specs.declared.parts.ItemRow.{ItemRow}
 use Rattle.board_rules.specs.Worth.{is_written, worth}
 use Rattle.world_model.specs.Runs.{actor_after}
-use Rattle.world_model.specs.Tables.{ActorData, NodeData, CoordinatorData, ClientData}
+use Rattle.world_model.specs.Tables.{ActorData, NodeData, CoordinatorData, RestartingData, ClientData}
 
 -- a node's items and its three numbers; another actor has none
 abbrev pub items_of : ActorData → Table
 items_of (NodeData n) = n.core.node.items
 items_of (CoordinatorData c) = []
+items_of (RestartingData c) = []
 items_of (ClientData c) = []
 
 abbrev pub turns_of : ActorData → Turns
 turns_of (NodeData n) = n.core.node.turns
 turns_of (CoordinatorData c) = first_turns
+turns_of (RestartingData c) = first_turns
 turns_of (ClientData c) = first_turns
 
 -- the versions of item x, each with its value, that node p holds after a history

@@ -15,9 +15,9 @@ pub fn every_finished_run_has_the_headline()
         → HasHeadline s h }
 {}
 
-/// Every run in which no letter is left has ended: it has the headline, and as many entries as the script and the
-/// rounds of its advancements make.
+/// Every run in which no letter is left has ended: it has the headline, and at most so many entries; where the coordinator
+/// remembers and no tree is strict, as many as the script and the rounds of its advancements make.
 pub fn every_run_without_letters_has_ended()
-    ensures { (s : ScriptData) (past : List Entry) → IsValid s → IsStepRun s past → in_flight s past ≡ []
-        → HasEnded s (reverse past) }
+    ensures { (s : ScriptData) (past : List Entry) → IsValid s → IsStepRun s past
+        → in_flight s past ≡ [] → HasEnded s (reverse past) }
 {}

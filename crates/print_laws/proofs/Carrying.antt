@@ -7,12 +7,12 @@ use Rattle.std.proofs.lemmas.Bool.{cases_eq}
 use Rattle.tv_base.specs.declared.numbers.SubNo.{SubNo}
 use Rattle.tv_base.specs.declared.numbers.TreeNo.{TreeNo}
 use Rattle.tv_base.specs.declared.numbers.Version.{Version}
-use Rattle.letter_types.specs.Kept.{kept_without, wakes, wakes_by}
+use Rattle.letter_types.specs.Kept.{kept_without, wakes}
 use Rattle.letter_types.specs.Steps.{Out, still}
 use Rattle.letter_types.specs.declared.acts.Act.{Act}
 use Rattle.letter_types.specs.declared.acts.Act.TheVariants as acts
 use Rattle.letter_types.specs.declared.bodies.Body.{Body}
-use Rattle.letter_types.specs.declared.bodies.Body.TheVariants.{Go, Root, Sub as SubLetter, Done, Reply, Advanced, Decide, Release, Wake}
+use Rattle.letter_types.specs.declared.bodies.Body.TheVariants.{Go, Root, Sub as SubLetter, Done, Reply, Advanced, Decide, Release, Wake, Ask}
 use Rattle.letter_types.specs.declared.entries.Entry.{Entry}
 use Rattle.letter_types.specs.declared.entries.Letter.{Letter}
 use Rattle.letter_types.specs.declared.entries.LetterId.{LetterId}
@@ -24,30 +24,29 @@ use Rattle.script_parts.specs.Counts.{has_strict}
 use Rattle.script_parts.specs.ScriptData.{ScriptData, node_of, ops_of, updates}
 use Rattle.script_parts.specs.Valid.{IsOp, IsValid}
 use Rattle.script_parts.specs.declared.parts.ScriptRow.{ScriptRow}
-use Rattle.script_parts.specs.declared.parts.ScriptRow.TheVariants.{Tree as TreeRow, Advance as AdvanceRow, Settle as SettleRow, Lose as LoseRow}
 use Rattle.script_parts.specs.declared.parts.TreeKind.{TreeKind}
 use Rattle.script_parts.specs.declared.parts.TreeKind.TheVariants.{Update, Read, Strict}
 use Rattle.board_rules.proofs.Wholes.{updates_there}
 use Rattle.board_rules.specs.Histories.{places_of}
 use Rattle.world_model.specs.AllApt.{AllApt}
-use Rattle.world_model.specs.Client.{Client, client_finishes, client_row, next_after, nudge, rows_letters, submit, submitted, with_answer, with_end}
-use Rattle.world_model.specs.Coordinator.{Coordinator, coordinator_row}
+use Rattle.world_model.specs.Client.{Client, advances_sent, client_finishes, client_row, next_after, nudge, rows_letters, submit, submitted, with_answer, with_end}
 use Rattle.world_model.specs.Core.{Core}
 use Rattle.world_model.specs.Counts.{Each}
-use Rattle.world_model.specs.Keeping.{KeepingNode}
+use Rattle.world_model.specs.Keeping.{KeepingNode, woken_by}
 use Rattle.world_model.specs.Kept.{kept_in, outstanding}
 use Rattle.world_model.specs.Named.{is_strict_at, tree_kind_at}
-use Rattle.world_model.specs.Runs.{IsStepRun, client_in, coordinator_in, keeping_in}
+use Rattle.world_model.specs.Runs.{IsStepRun, client_in, keeping_in}
 use Rattle.world_model.specs.Strict.{CoreKeeping, core_keeping, is_born_now, kept_by_kind, meets, parked_if, root_waiting}
 use Rattle.world_model.specs.Votes.{conflict_by}
 use Rattle.world_model.proofs.Cases.{Case, Coordinates, Does, Keeps, NodeDoes, NodeKeeps, Submits, case}
+use Rattle.world_model.proofs.Coordination.{IsCoordinated, coordinated_each}
 use Rattle.world_model.proofs.EachOutstanding.{each_first, each_outstanding}
 use Rattle.world_model.proofs.Every.{each_append, each_map}
 use Rattle.world_model.proofs.Keepings.{of_kept}
-use Rattle.world_model.proofs.Orders.{coordinator_each, no_acts}
 use Rattle.world_model.proofs.Outstanding.{keeping_elsewhere}
 use Rattle.world_model.proofs.Plain.{no_strict}
 use Rattle.world_model.proofs.Scripts.{SubAt, sub_there, tree_below}
+use Rattle.world_model.proofs.Sends.{asked_each, rows_each}
 use Rattle.strict_laws.specs.Meant.{IsMeant}
 use Rattle.strict_laws.proofs.AtHome.{all_append}
 use Rattle.strict_laws.proofs.DoneOrParked.{meets_way}
@@ -182,24 +181,24 @@ wakes_carried s test (x ∷ xs) = by (test x.why) (wakes_carried s test xs) wher
   by true rest = (tt, rest)
   by false rest = rest
 
-coordinator_carried : (s : ScriptData) (c : Coordinator) (from : ℕ) (body : Body) → AreCarried s (coordinator_row c from body).sent
-coordinator_carried s c from body =
-    coordinator_each (λ to b. Carries s b) c
+coordinator_carried : (s : ScriptData) (e : Entry) → IsCoordinated s e → AreCarried s e.sent
+coordinator_carried s e made =
+    coordinated_each (Carries s) s e
     (record {
-      turn = λ to v lt. tt;
-      show = λ to v lt. tt;
-      sweep = λ to v lt. tt;
-      ask_done = λ to v k lt. tt;
-      ask_asked = λ to v k lt. tt;
+      turn = λ v. tt;
+      show = λ v. tt;
+      sweep = λ v. tt;
+      order = λ n what v. tt;
+      ask = λ n. tt;
+      ask_done = λ v k. tt;
+      ask_asked = λ v k. tt;
       advanced = λ v. tt;
-    }) from body
+    }) made
 
-rows_carried : (s : ScriptData) (rows : List ScriptRow) → AreCarried s (rows_letters s rows)
-rows_carried s [] = tt
-rows_carried s (TreeRow t ∷ rows) = (tt, rows_carried s rows)
-rows_carried s (AdvanceRow ∷ rows) = (tt, rows_carried s rows)
-rows_carried s (SettleRow ∷ rows) = rows_carried s rows
-rows_carried s (LoseRow ∷ rows) = rows_carried s rows
+rows_carried : (s : ScriptData) (k : ℕ) (rows : List ScriptRow) → AreCarried s (rows_letters s k rows)
+rows_carried s k rows =
+    rows_each (λ to b. Carries s b) s k rows
+    (record { root = λ to t. tt; advance = λ to. tt; numbered = λ to i. tt; lose = λ to. tt })
 
 -- an actor's letters and acts
 record Says (s : ScriptData) (letters : List Outgoing) (did : List Act) : Type 0 where
@@ -216,7 +215,8 @@ next_rows s c = take (submitted c (take c.next s.rows) (drop c.next s.rows)) (dr
 client_submits : (s : ScriptData) (c : Client) (first : List Outgoing) → AreCarried s first
     → SaysOut s (submit s c first)
 client_submits s c first one = record {
-  sent = each_append (λ (o : Outgoing). Carries s o.body) first (rows_letters s (next_rows s c)) one (rows_carried s (next_rows s c));
+  sent = each_append (λ (o : Outgoing). Carries s o.body) first (rows_letters s (advances_sent s c) (next_rows s c)) one
+      (rows_carried s (advances_sent s c) (next_rows s c));
   acts = by (client_finishes s (next_after s c) c);
 } where
   by : (b : Bool) → AllByRecursion (IsActOf s) (if b then acts.Finished ∷ [] else [])
@@ -229,7 +229,8 @@ client_says s c (Reply t v answer) = by (nat_lt t.0 (length s.trees)) where
   by : (b : Bool) → SaysOut s (if b then submit s (with_answer t.0 c) (nudge s ∷ []) else still c)
   by true = client_submits s (with_answer t.0 c) (nudge s ∷ []) (tt, tt)
   by false = record { sent = tt; acts = tt }
-client_says s c (Advanced v) = client_submits s (with_end c) [] tt
+client_says s c (Advanced v) = client_submits s (with_end s v c) [] tt
+client_says s c (Ask e) = asked_each (SaysOut s) s c e (record { sent = tt; acts = tt }) (λ is. record { sent = (tt, tt); acts = tt })
 client_says s c _ = record { sent = tt; acts = tt }
 
 -- An entry.
@@ -265,8 +266,8 @@ does_so s past e p r g all run d =
     record {
       actor = (let at = d.brings.at in let lt = g.below in omega arith);
       sent = subst (AreCarried s) (sym d.sent)
-          (each_append (λ (o : Outgoing). Carries s o.body) _ (wakes (wakes_by r.body) woken) steps.sent
-          (wakes_carried s (wakes_by r.body) woken));
+          (each_append (λ (o : Outgoing). Carries s o.body) _ (wakes (woken_by c r.body) woken) steps.sent
+          (wakes_carried s (woken_by c r.body) woken));
       acts = subst (AllByRecursion (IsActOf s)) (sym d.acts) steps.acts;
       cores = with_core s past e p d.brings.at all (subst (Gathers s) (sym d.core) steps.gathers);
     }
@@ -302,10 +303,10 @@ entry_so s past e valid apt run all (NodeKeeps p r k d) =
     let g : Runs s past p =
     record { valid = valid; apt = apt; run = run.1; below = d.brings.below; gathers = all.cores p d.brings.below } in
     keeps_so s past e p r k g all run d
-entry_so s past e valid apt run all (Coordinates at says) = record {
+entry_so s past e valid apt run all (Coordinates at made) = record {
   actor = omega arith;
-  sent = subst (AreCarried s) (sym says.0) (coordinator_carried s (coordinator_in s past) e.took.from.0 e.took.body);
-  acts = subst (AllByRecursion (IsActOf s)) (sym (says.1 ∙ no_acts (coordinator_in s past) e.took.from.0 e.took.body)) tt;
+  sent = coordinator_carried s e made;
+  acts = subst (AllByRecursion (IsActOf s)) (sym made.acts) tt;
   cores = other_core s past e (λ lt. omega (arith, at, lt)) all;
 }
 entry_so s past e valid apt run all (Submits at says) =

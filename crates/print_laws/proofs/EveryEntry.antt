@@ -7,7 +7,7 @@ use Rattle.letter_types.specs.Letters.{drop_id, letters_of, sealed}
 use Rattle.letter_types.specs.declared.bodies.Answer.{Answer}
 use Rattle.letter_types.specs.declared.bodies.Answer.TheVariants.{Whole, Aborted}
 use Rattle.letter_types.specs.declared.bodies.Body.{Body}
-use Rattle.letter_types.specs.declared.bodies.Body.TheVariants.{Go, Root, Sub as SubLetter, Done, Reply, Nudge, Advance, Turn, Show, Sweep, Turned, Shown, Swept, AskDone, AskAsked, DoneRow, AskedRow, Advanced, Decide, Decided, Release, Wake}
+use Rattle.letter_types.specs.declared.bodies.Body.TheVariants.{Go, Root, Sub as SubLetter, Done, Reply, Nudge, Advance, Turn, Show, Sweep, Turned, Shown, Swept, AskDone, AskAsked, DoneRow, AskedRow, Advanced, Decide, Decided, Release, Wake, Lose, AdvanceNo, Ask, Numbers, Wanted, Order, Obeyed}
 use Rattle.letter_types.specs.declared.entries.Entry.{Entry}
 use Rattle.letter_types.specs.declared.entries.Letter.{Letter}
 use Rattle.letter_types.specs.declared.entries.Outgoing.{Outgoing}
@@ -64,7 +64,13 @@ body_of s from to (Decide t v commit) meant of = strict_below s t.0 meant.strict
 body_of s from to (Decided t v) meant of = strict_below s t.0 meant.strict
 body_of s from to (Release t) meant of = updates_there s t.0 meant.update
 body_of s from to (Wake t k) meant of = sub_of s t.0 k.0 meant.tree meant.sub
-body_of s from to _ meant of = absurd meant
+body_of s from to Lose meant of = tt
+body_of s from to (AdvanceNo i) meant of = tt
+body_of s from to (Ask e) meant of = tt
+body_of s from to (Numbers e update read low) meant of = tt
+body_of s from to (Wanted e i) meant of = tt
+body_of s from to (Order e what v) meant of = tt
+body_of s from to (Obeyed e what v) meant of = tt
 
 -- What is known of each letter that is sent, from the letters in flight after it.
 abbrev IsSentWell : ScriptData → Letter → Type 0

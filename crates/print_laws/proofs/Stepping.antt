@@ -10,7 +10,7 @@ use Rattle.letter_types.specs.Steps.{Out, still}
 use Rattle.letter_types.specs.declared.bodies.Answer.{Answer}
 use Rattle.letter_types.specs.declared.bodies.Answer.TheVariants.{Whole, Aborted}
 use Rattle.letter_types.specs.declared.bodies.Body.{Body}
-use Rattle.letter_types.specs.declared.bodies.Body.TheVariants.{Go, Root, Sub as SubLetter, Done, Reply, Decide, Decided, Release, Turn, Show, Sweep, AskDone, AskAsked}
+use Rattle.letter_types.specs.declared.bodies.Body.TheVariants.{Go, Root, Sub as SubLetter, Done, Reply, Decide, Decided, Release, Turn, Show, Sweep, AskDone, AskAsked, Order, Ask}
 use Rattle.letter_types.specs.declared.bodies.Notice.{Notice}
 use Rattle.letter_types.specs.declared.bodies.Notice.TheVariants as notices
 use Rattle.letter_types.specs.declared.entries.Outgoing.{Outgoing}
@@ -40,6 +40,7 @@ use Rattle.world_model.specs.Strict.{answer_by, answer_letters, answered, core_b
 use Rattle.world_model.specs.Updates.{touching}
 use Rattle.world_model.specs.Votes.{cause_in, vote_of, voted}
 use Rattle.world_model.specs.declared.refusal.Refusal.{Refusal}
+use Rattle.world_model.proofs.Epochs.{ask_each, order_each}
 use Rattle.world_model.proofs.Every.{each_append}
 use Rattle.world_model.proofs.Scripts.{SubAt, sub_here, tree_below}
 use Rattle.strict_laws.proofs.AtHome.{all_append}
@@ -421,6 +422,34 @@ core_steps s p from (AskAsked v k) c needs g = record {
   sent = (tt, tt);
   acts = tt;
 }
+core_steps s p from (Order e what v) c needs g =
+    order_each (Steps s) s p from e what v c (record { gathers = g; sent = tt; acts = tt })
+    (record {
+      gathers = record { small = g.small; opened = g.opened; holds = g.holds; refusals = g.refusals };
+      sent = (tt, tt);
+      acts = tt;
+    })
+    (λ to. record {
+      gathers = record { small = g.small; opened = g.opened; holds = g.holds; refusals = g.refusals };
+      sent = (tt, tt);
+      acts = turned_made s (nat_lt c.node.turns.update.0 v.0) v.0;
+    })
+    (λ to new. record {
+      gathers = record { small = g.small; opened = g.opened; holds = g.holds; refusals = g.refusals };
+      sent = (tt, tt);
+      acts = (tt, tt);
+    })
+    (λ to new. record {
+      gathers = record { small = small_collected_all v c.node.items g.small; opened = g.opened; holds = g.holds; refusals = g.refusals };
+      sent = (tt, tt);
+      acts = (tt, tt);
+    })
+core_steps s p from (Ask e) c needs g =
+    ask_each (Steps s) s e c (record { gathers = g; sent = tt; acts = tt }) (record {
+      gathers = record { small = g.small; opened = g.opened; holds = g.holds; refusals = g.refusals };
+      sent = (tt, tt);
+      acts = tt;
+    })
 core_steps s p from _ c needs g = record {
   gathers = record { small = g.small; opened = g.opened; holds = g.holds; refusals = g.refusals };
   sent = tt;

@@ -24,10 +24,9 @@ use Rattle.world_model.specs.Core.{Core}
 use Rattle.world_model.specs.Counts.{one_if, tally}
 use Rattle.world_model.specs.Named.{is_strict_at, tree_kind_at}
 use Rattle.world_model.specs.Notices.{act_of}
-use Rattle.world_model.specs.Runs.{IsStepRun, client_in, coordinator_in, keeping_in}
+use Rattle.world_model.specs.Runs.{IsStepRun, client_in, keeping_in}
 use Rattle.world_model.specs.Strict.{core_row, none_refuses, notice_by}
 use Rattle.world_model.proofs.Cases.{Case, Coordinates, NodeDoes, NodeKeeps, Submits, case}
-use Rattle.world_model.proofs.Orders.{no_acts}
 use Rattle.board_rules.specs.Histories.{Place, applies, places_at}
 use Rattle.board_rules.specs.Moves.{AllVoted, IsApplying, IsDecision, decides_as}
 use Rattle.board_rules.specs.Stands.{votes, votes_yes, voted_yes, was_voted}
@@ -246,9 +245,8 @@ decides_case s past e j t commit valid run at (NodeKeeps p r k d) =
     none_left s past e j t commit at
     (ap (λ (xs : List Act). tally (has_decided t commit) xs) d.acts
     ∙ keeping_acts (has_decided t commit) s (keeping_in s past p).core r.body k (rulings_no_keeping (has_decided t commit) (decides_of t commit)) d.keeps)
-decides_case s past e j t commit valid run at (Coordinates out says) =
-    none_left s past e j t commit at
-    (ap (λ (xs : List Act). tally (has_decided t commit) xs) (says.1 ∙ no_acts (coordinator_in s past) e.took.from.0 e.took.body))
+decides_case s past e j t commit valid run at (Coordinates out made) =
+    none_left s past e j t commit at (ap (λ (xs : List Act). tally (has_decided t commit) xs) made.acts)
 decides_case s past e j t commit valid run at (Submits out says) =
     none_left s past e j t commit at
     (ap (λ (xs : List Act). tally (has_decided t commit) xs) says.1

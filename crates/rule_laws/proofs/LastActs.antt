@@ -10,11 +10,12 @@ use Rattle.tv_base.specs.declared.numbers.Version.{Version}
 use Rattle.letter_types.specs.declared.acts.Act.{Act}
 use Rattle.letter_types.specs.declared.acts.Act.TheVariants as acts
 use Rattle.letter_types.specs.declared.bodies.Body.{Body}
-use Rattle.letter_types.specs.declared.bodies.Body.TheVariants.{Root, Sub as SubLetter, Done, Turn, Show, Sweep, Decide, Decided, Release, AskDone, AskAsked}
+use Rattle.letter_types.specs.declared.bodies.Body.TheVariants.{Root, Sub as SubLetter, Done, Turn, Show, Sweep, Decide, Decided, Release, AskDone, AskAsked, Order, Ask}
 use Rattle.letter_types.specs.declared.bodies.Notice.{Notice}
 use Rattle.letter_types.specs.declared.bodies.Notice.TheVariants as notices
 use Rattle.letter_types.specs.declared.entries.Entry.{Entry}
 use Rattle.letter_types.specs.declared.votes.Vote.{Vote}
+use Rattle.letter_types.specs.Steps.{Out}
 use Rattle.tree_home.specs.declared.homes.Answered.{Answered}
 use Rattle.script_parts.specs.declared.parts.TreeKind.{TreeKind}
 use Rattle.script_parts.specs.declared.parts.TreeKind.TheVariants.{Update, Read, Strict}
@@ -31,6 +32,7 @@ use Rattle.world_model.specs.Strict.{core_by_kind, core_row, decided, locks_by, 
 use Rattle.world_model.specs.Updates.{touching}
 use Rattle.world_model.specs.Votes.{vote_of}
 use Rattle.world_model.proofs.Bags.{tally-append}
+use Rattle.world_model.proofs.Epochs.{ask_each, order_each}
 use Rattle.board_rules.specs.Histories.{Place, places_at}
 use Rattle.tree_laws.specs.Turns.{has_turn, turns}
 use Rattle.tree_laws.proofs.Acts.{of_act}
@@ -137,6 +139,10 @@ note_last s from t k v notice c false j a at is so =
       none_left : (i : ℕ) (b : Act) → slice_get [] i ≡ Some b → ⊥
       none_left i b no_such = absurd (cc no_such)
 
+-- the acts of an order, whichever it is
+abbrev AreLast : List Act → Type 0
+AreLast xs = (j : ℕ) (a : Act) → slice_get xs j ≡ Some a → is_decided a ≡ true → lasting (take j xs) ≡ lasting xs
+
 pub row_last : (s : ScriptData) (p from : ℕ) (body : Body) (c : Core) (j : ℕ) (a : Act) → slice_get (core_row s p c from body).acts j ≡ Some a
     → is_decided a ≡ true → lasting (take j (core_row s p c from body).acts) ≡ lasting (core_row s p c from body).acts
 row_last s p from (Root t) c j a is so = kind_last s p from t (Root t) (tree_kind_at s t.0) c j a is so
@@ -151,6 +157,12 @@ row_last s p from (Show v) c j a is so = none_there (acts.Showed v ∷ []) j a r
 row_last s p from (Sweep v) c j a is so = none_there (acts.Swept v ∷ []) j a refl is so
 row_last s p from (AskDone v k) c j a is so = none_there [] j a refl is so
 row_last s p from (AskAsked v k) c j a is so = none_there [] j a refl is so
+row_last s p from (Order e what v) c j a is so =
+    order_each (λ (o : Out Core). AreLast o.acts) s p from e what v c (λ i b. none_there [] i b refl) (λ i b. none_there [] i b refl)
+    (λ to i b. let raises : Bool = nat_lt c.node.turns.update.0 v.0 in none_there (turned_if raises v.0) i b (turned_none raises v.0))
+    (λ to new i b. none_there (acts.Showed v ∷ []) i b refl) (λ to new i b. none_there (acts.Swept v ∷ []) i b refl) j a is so
+row_last s p from (Ask e) c j a is so =
+    ask_each (λ (o : Out Core). AreLast o.acts) s e c (λ i b. none_there [] i b refl) (λ i b. none_there [] i b refl) j a is so
 row_last s p from _ c j a is so = none_there [] j a refl is so
 
 -- so all turns are had before it

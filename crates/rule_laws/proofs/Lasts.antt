@@ -24,11 +24,10 @@ use Rattle.world_model.specs.Core.{Core}
 use Rattle.world_model.specs.Counts.{one_if, tally}
 use Rattle.world_model.specs.Named.{tree_kind_at}
 use Rattle.world_model.specs.Notices.{act_of}
-use Rattle.world_model.specs.Runs.{IsStepRun, client_in, coordinator_in, keeping_in}
+use Rattle.world_model.specs.Runs.{IsStepRun, client_in, keeping_in}
 use Rattle.world_model.specs.Strict.{notice_by}
 use Rattle.world_model.specs.Votes.{cause_in, vote_of}
 use Rattle.world_model.proofs.Cases.{Case, Coordinates, NodeDoes, NodeKeeps, Submits, case}
-use Rattle.world_model.proofs.Orders.{no_acts}
 use Rattle.tree_laws.proofs.AptRulings.{client_acts}
 use Rattle.tree_laws.proofs.AptStagesOwn.{Doing}
 use Rattle.tree_laws.proofs.AptSteps.{enters}
@@ -119,8 +118,7 @@ lasts_case s past e j a valid run is lasts (NodeDoes p r d) =
     (sym row ∙ one.0) one.1
 lasts_case s past e j a valid run is lasts (NodeKeeps p r k d) =
     absurd (none_here e.acts j a is lasts (ap lasting d.acts ∙ keeping_lasts s (keeping_in s past p).core r.body k d.keeps))
-lasts_case s past e j a valid run is lasts (Coordinates at says) =
-    absurd (none_here e.acts j a is lasts (ap lasting (says.1 ∙ no_acts (coordinator_in s past) e.took.from.0 e.took.body)))
+lasts_case s past e j a valid run is lasts (Coordinates at made) = absurd (none_here e.acts j a is lasts (ap lasting made.acts))
 lasts_case s past e j a valid run is lasts (Submits at says) =
     absurd (none_here e.acts j a is lasts
     (none_lasts e.acts

@@ -19,7 +19,7 @@ use Rattle.board_rules.proofs.Wholes.{strict_there, updates_there, whole_more}
 use Rattle.world_model.specs.Counts.{one_if, tally}
 use Rattle.world_model.specs.declared.phase.Phase.{Phase}
 use Rattle.world_model.specs.declared.phase.Phase.TheVariants.{Idle, Turning, Counting, Paused, Showing, Sweeping}
-use Rattle.world_model.specs.Runs.{IsStepRun, coordinator_in, node_in}
+use Rattle.world_model.specs.Runs.{IsStepRun, node_in}
 use Rattle.world_model.proofs.Bags.{tally-append}
 use Rattle.world_model.proofs.Scripts.{sub_there}
 use Rattle.tree_laws.specs.Dids.{is_born}

@@ -9,18 +9,20 @@ use Rattle.tv_base.specs.declared.numbers.Version.{Version}
 use Rattle.letter_types.specs.declared.acts.Act.{Act}
 use Rattle.letter_types.specs.declared.acts.Act.TheVariants as acts
 use Rattle.letter_types.specs.declared.bodies.Body.{Body}
-use Rattle.letter_types.specs.declared.bodies.Body.TheVariants.{Go, Root, Sub as SubLetter, Done, Turn, Show, Sweep, Decide, Decided, Release, AskDone, AskAsked, Reply}
+use Rattle.letter_types.specs.declared.bodies.Body.TheVariants.{Go, Root, Sub as SubLetter, Done, Turn, Show, Sweep, Decide, Decided, Release, AskDone, AskAsked, Reply, Order, Ask, Obeyed, Numbers}
 use Rattle.letter_types.specs.declared.bodies.Notice.{Notice}
 use Rattle.letter_types.specs.declared.bodies.Notice.TheVariants as notices
 use Rattle.letter_types.specs.declared.entries.Outgoing.{Outgoing}
 use Rattle.letter_types.specs.declared.votes.Vote.{Vote}
 use Rattle.tree_home.specs.HeldAnswers.{answer_when_acked}
+use Rattle.letter_types.specs.Steps.{Out}
 use Rattle.tree_home.specs.declared.homes.Answered.{Answered}
 use Rattle.script_parts.specs.declared.parts.Sub.{Sub}
 use Rattle.script_parts.specs.declared.parts.TreeKind.{TreeKind}
 use Rattle.script_parts.specs.declared.parts.TreeKind.TheVariants.{Update, Read, Strict}
 use Rattle.script_parts.specs.ScriptData.{visited, visited_by}
 use Rattle.script_parts.specs.ScriptData.{ScriptData, client_of, home_of, subs_at, visits}
+use Rattle.world_model.specs.Advancing.{to_coordinator}
 use Rattle.world_model.specs.Asked.{asked_ops, asked_version, tree_part}
 use Rattle.world_model.specs.Children.{done_letter, sub_letters}
 use Rattle.world_model.specs.Core.{Core}
@@ -35,6 +37,7 @@ use Rattle.world_model.specs.Updates.{touching}
 use Rattle.world_model.specs.Votes.{vote_of}
 use Rattle.nc_locks.specs.Locks.{with_locks}
 use Rattle.world_model.proofs.Bags.{one_if_most, tally-append}
+use Rattle.world_model.proofs.Epochs.{ask_each, order_each}
 use Rattle.world_model.proofs.Sends.{on, subs_none}
 use Rattle.tree_laws.specs.Dids.{replies_to}
 use Rattle.tree_laws.proofs.Turns.{answers_none, each_told, replies_none}
@@ -229,4 +232,12 @@ row_few s p from t q (Show v) c = none_few s t q (core_row s p c from (Show v)).
 row_few s p from t q (Sweep v) c = none_few s t q (core_row s p c from (Sweep v)).sent refl
 row_few s p from t q (AskDone v k) c = none_few s t q (core_row s p c from (AskDone v k)).sent refl
 row_few s p from t q (AskAsked v k) c = none_few s t q (core_row s p c from (AskAsked v k)).sent refl
+row_few s p from t q (Order e what v) c =
+    let told : ReleasesFew s t q (to_coordinator s (Obeyed e what v)) = none_few s t q (to_coordinator s (Obeyed e what v)) refl in
+    order_each (λ (o : Out Core). ReleasesFew s t q o.sent) s p from e what v c (omega arith) told (λ to. told) (λ to new. told)
+    (λ to new. told)
+row_few s p from t q (Ask e) c =
+    let turns = c.node.turns in
+    ask_each (λ (o : Out Core). ReleasesFew s t q o.sent) s e c (omega arith)
+    (none_few s t q (to_coordinator s (Numbers e turns.update turns.read turns.low)) refl)
 row_few s p from t q _ c = omega arith

@@ -6,7 +6,7 @@ use Rattle.std.proofs.lemmas.Bool.{and_from}
 use Rattle.std.proofs.lemmas.Bool.Decides.{nat_tests}
 use Rattle.tv_base.specs.declared.numbers.TreeNo.{TreeNo}
 use Rattle.tv_base.specs.declared.numbers.Version.{Version}
-use Rattle.letter_types.specs.Kept.{kept_without, wakes, wakes_by}
+use Rattle.letter_types.specs.Kept.{kept_without, wakes}
 use Rattle.letter_types.specs.declared.acts.Act.{Act}
 use Rattle.letter_types.specs.declared.acts.Act.TheVariants as acts
 use Rattle.letter_types.specs.declared.bodies.Body.{Body}
@@ -24,12 +24,12 @@ use Rattle.board_rules.proofs.Wholes.{update_not_strict, updates_there, whole_mo
 use Rattle.world_model.specs.Core.{Core}
 use Rattle.world_model.specs.Counts.{one_if, tally}
 use Rattle.world_model.specs.Kept.{kept_in, of_done, outstanding}
-use Rattle.world_model.specs.Runs.{IsStepRun, MayFollow, client_in, coordinator_in, keeping_in}
+use Rattle.world_model.specs.Keeping.{woken_by}
+use Rattle.world_model.specs.Runs.{IsStepRun, MayFollow, client_in, keeping_in}
 use Rattle.world_model.specs.Named.{is_strict_at}
 use Rattle.world_model.specs.Strict.{CoreKeeping, core_row}
 use Rattle.world_model.proofs.Bags.{sealed_tally, tally-append}
 use Rattle.world_model.proofs.Cases.{Case, Coordinates, Does, Keeps, NodeDoes, NodeKeeps, Submits, case, does_number, keeps_number}
-use Rattle.world_model.proofs.Orders.{no_acts}
 use Rattle.world_model.proofs.Outstanding.{done_apart, outstanding_first, outstanding_step}
 use Rattle.world_model.proofs.Sends.{on}
 use Rattle.strict_laws.specs.Meant.{IsMeant}
@@ -40,7 +40,7 @@ use Rattle.tree_laws.specs.Stages.{AllTurned, Answered as IsDone, Gathers, Holds
 use Rattle.tree_laws.specs.Turns.{has_turn, turns}
 use Rattle.tree_laws.proofs.Acts.{of_act}
 use Rattle.tree_laws.proofs.AptRulings.{CountsNoKeeping, client_acts, keeping_acts}
-use Rattle.tree_laws.proofs.AptStagesApart.{CountsNoOthers, client_none, coordinator_none, orders_none}
+use Rattle.tree_laws.proofs.AptStagesApart.{CountsNoOthers, client_none, coordinator_none, none_of_others}
 use Rattle.tree_laws.proofs.AptStagesOwn.{Doing}
 use Rattle.tree_laws.proofs.AptStagesRun.{stages_of_trees}
 use Rattle.tree_laws.proofs.AptSteps.{wakes_none}
@@ -90,7 +90,7 @@ does_fair : (s : ScriptData) (past : List Entry) (e : Entry) (p : ℕ) (r : Lett
 does_fair s past e p r t q d =
     let c : Core = (keeping_in s past p).core in
     let row : Out Core = core_row s p c r.from.0 r.body in
-    let more : List Outgoing = wakes (wakes_by r.body) (kept_without (kept_in s past p) e.took.body) in
+    let more : List Outgoing = wakes (woken_by c r.body) (kept_without (kept_in s past p) e.took.body) in
     record {
       freed =
           same_at q e.actor.0 r.to.0 (tally (has_freed t) e.acts) (releases_of t r.body) (d.brings.at ∙ sym d.brings.to)
@@ -102,7 +102,7 @@ does_fair s past e p r t q d =
         ap (λ (os : List Outgoing). tally (on (replies_to t)) os) d.sent,
         tally-append (released_to t q) row.sent more,
         tally-append (on (replies_to t)) row.sent more,
-        wakes_none (released_to t q) (wakes_by r.body) (kept_without (kept_in s past p) e.took.body)
+        wakes_none (released_to t q) (woken_by c r.body) (kept_without (kept_in s past p) e.took.body)
             (λ x. if_zero (x.letter.to.0 == q) (releases_of t (Wake x.tree x.sub)) refl),
         row_few s p r.from.0 t q r.body c,
       );
@@ -125,12 +125,9 @@ elsewhere : (q to n : ℕ) → q < to → (if to == q then n else 0) ≡ 0
 elsewhere q to n lt = let other : (to == q) ≡ false = grind (arith, nat_tests) in rw other refl
 
 releases_no_others : (t : ℕ) → CountsNoOthers (releases_of t)
-releases_no_others t = record {
-  roots = λ u. refl;
-  advance = refl;
-  nudge = refl;
-  orders = λ n. orders_none (releases_of t) n (λ v. (refl, (refl, refl))) (λ v k. (refl, refl)) (λ v. refl);
-}
+releases_no_others t =
+    none_of_others (releases_of t) (λ u. refl) (λ v. (refl, (refl, refl))) (λ e what v. (refl, refl)) (λ v k. (refl, refl)) (λ v. refl)
+    (refl, (refl, refl)) (λ e k. (refl, refl))
 
 apart_fair : (s : ScriptData) (past : List Entry) (e : Entry) (t q : ℕ) → MayFollow s past e → q < s.nodes → s.nodes ≤ e.actor.0
     → tally (on (releases_of t)) e.sent ≡ 0 → tally (has_freed t) e.acts ≡ 0 → Fair s past e t q
@@ -143,11 +140,9 @@ apart_fair s past e t q m lt out sent quiet = record {
 fair : (s : ScriptData) (past : List Entry) (e : Entry) (t q : ℕ) → MayFollow s past e → q < s.nodes → Case s past e → Fair s past e t q
 fair s past e t q m lt (NodeDoes p r d) = does_fair s past e p r t q d
 fair s past e t q m lt (NodeKeeps p r k d) = keeps_fair s past e p r k t q d
-fair s past e t q m lt (Coordinates at says) =
-    apart_fair s past e t q m lt (omega (arith, at))
-    (ap (λ (os : List Outgoing). tally (on (releases_of t)) os) says.0
-    ∙ coordinator_none (releases_of t) (coordinator_in s past) e.took (releases_no_others t))
-    (ap (λ (xs : List Act). tally (has_freed t) xs) (says.1 ∙ no_acts (coordinator_in s past) e.took.from.0 e.took.body))
+fair s past e t q m lt (Coordinates at made) =
+    apart_fair s past e t q m lt (omega (arith, at)) (coordinator_none (releases_of t) s e made (releases_no_others t))
+    (ap (λ (xs : List Act). tally (has_freed t) xs) made.acts)
 fair s past e t q m lt (Submits at says) =
     apart_fair s past e t q m lt (omega (arith, at))
     (ap (λ (os : List Outgoing). tally (on (releases_of t)) os) says.0

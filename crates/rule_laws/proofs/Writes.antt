@@ -48,7 +48,7 @@ use Rattle.strict_laws.specs.Meant.{IsMeant}
 use Rattle.phase_laws.proofs.Brought.{brought_meant}
 use Rattle.tree_laws.specs.Carried.{CarriesVersion}
 use Rattle.tree_laws.proofs.AptDecisions.{dated_here}
-use Rattle.tree_laws.proofs.AptItems.{Applies as AppliesItems, Changes, Collects, Raises, Rests, Shows, Touches, core_changes}
+use Rattle.tree_laws.proofs.AptItems.{Applies as AppliesItems, Changes, Collects, Follows, Raises, Rests, Shows, Touches, core_changes}
 use Rattle.tree_laws.proofs.AptStagesOwn.{Doing}
 use Rattle.tree_laws.proofs.AptVersions.{DoneIn, before, is_version, version_is}
 use Rattle.tree_laws.proofs.Histories.{places_more}
@@ -64,16 +64,17 @@ use Rattle.rule_laws.proofs.Turns.{carried, is_there}
 use Rattle.rule_laws.proofs.UpTo.{AreStrict, IsUpTo, collected_grows, commit_grows, commit_writes, ops_grow, ops_write}
 
 -- What the row of a letter makes of an item: what bounds the versions that are held after it bounds those before.
-row_grows : (s : ScriptData) (p : ℕ) (m : ℕ) (x : ItemNo) (body : Body) (c after : Core) → Changes s p body c.node after.node.items after.node.turns
+row_grows : (s : ScriptData) (p : ℕ) (m : ℕ) (x : ItemNo) (body : Body) (c after : Core) → Changes s p body c after.node.items after.node.turns
     → IsUpTo m (item_in x after.node.items) → IsUpTo m (item_in x c.node.items)
 row_grows s p m x body c after (Rests is turns) all = subst (λ (t : Table). IsUpTo m (item_in x t)) is all
-row_grows s p m x body c after (Raises v of is turns) all = subst (λ (t : Table). IsUpTo m (item_in x t)) is all
+row_grows s p m x body c after (Follows t k v letter is turns) all = subst (λ (i : Table). IsUpTo m (item_in x i)) is all
+row_grows s p m x body c after (Raises v to is turns) all = subst (λ (t : Table). IsUpTo m (item_in x t)) is all
 row_grows s p m x body c after (Touches t k one kind is turns) all =
     ops_grow m (asked_version c.node.turns.update body) x (ops_of s t k) c.node.items (subst (λ (i : Table). IsUpTo m (item_in x i)) is all)
 row_grows s p m x body c after (AppliesItems t v letter is turns) all =
     commit_grows m v x (ops_at p (subs_at s t.0)) c.node.items (subst (λ (i : Table). IsUpTo m (item_in x i)) is all)
-row_grows s p m x body c after (Shows v letter is turns) all = subst (λ (t : Table). IsUpTo m (item_in x t)) is all
-row_grows s p m x body c after (Collects v letter is turns) all =
+row_grows s p m x body c after (Shows v to is turns) all = subst (λ (t : Table). IsUpTo m (item_in x t)) is all
+row_grows s p m x body c after (Collects v to is turns) all =
     collected_grows m v x c.node.items (subst (λ (t : Table). IsUpTo m (item_in x t)) is all)
 
 -- and an entry
@@ -96,7 +97,7 @@ case_grows s past e p m x at lt (NodeKeeps q r k d) all =
     subst (λ (n : ℕ). IsUpTo m (item_in x (node_in s past n).items)) qp
     (subst (λ (t : Table). IsUpTo m (item_in x t)) (ap (λ (y : Core). y.node.items) d.core ∙ same)
     (subst (λ (n : ℕ). IsUpTo m (item_in x (node_in s (e ∷ past) n).items)) (sym qp) all))
-case_grows s past e p m x at lt (Coordinates out says) all = absurd (omega (arith, at, lt, out))
+case_grows s past e p m x at lt (Coordinates out made) all = absurd (omega (arith, at, lt, out))
 case_grows s past e p m x at lt (Submits out says) all = absurd (omega (arith, at, lt, out))
 
 entry_grows : (s : ScriptData) (past : List Entry) (e : Entry) (p m : ℕ) (x : ItemNo) → IsValid s → IsStepRun s (e ∷ past) → p < s.nodes

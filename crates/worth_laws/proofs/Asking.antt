@@ -14,7 +14,8 @@ use Rattle.script_parts.specs.ScriptData.{ScriptData}
 use Rattle.script_parts.specs.Valid.{IsValid}
 use Rattle.world_model.specs.Asked.{asked_version}
 use Rattle.world_model.specs.Core.{Core}
-use Rattle.world_model.specs.Named.{is_timely, tree_kind_at}
+use Rattle.world_model.specs.Epochs.{is_core_timely}
+use Rattle.world_model.specs.Named.{tree_kind_at}
 use Rattle.world_model.specs.Runs.{IsStepRun, keeping_in, node_in}
 use Rattle.board_rules.specs.Histories.{Place, places_at, version_in, was_born}
 use Rattle.board_rules.proofs.Places.{version_stays}
@@ -44,7 +45,7 @@ asked_low s past e p r t k u g (OfRoot is first) low =
     let same : (asked_version u r.body).0 ≡ u.0 = ap (λ (b : Body). (asked_version u b).0) is in omega (arith, low, same)
 asked_low s past e p r t k u g (OfSub v is) low =
     let c : Core = (keeping_in s past p).core in
-    let near : is_timely s c.node (SubLetter t k v) ≡ true = ap (is_timely s c.node) (sym is) ∙ apt_timely s p c r g.does.brings.apt in
+    let near : is_core_timely s c (SubLetter t k v) ≡ true = ap (is_core_timely s c) (sym is) ∙ apt_timely s p c r g.does.brings.apt in
     let same : (asked_version u r.body).0 ≡ v.0 = ap (λ (b : Body). (asked_version u b).0) is in
     omega (arith, same, in_window-low c.node.turns.low.0 v.0 near)
 

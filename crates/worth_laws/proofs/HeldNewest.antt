@@ -41,7 +41,7 @@ use Rattle.phase_laws.proofs.Balance.{apt_low_rises}
 use Rattle.tree_laws.specs.Carried.{CarriesVersion}
 use Rattle.tree_laws.specs.Dids.{asks}
 use Rattle.tree_laws.proofs.AptDecisions.{dated_here}
-use Rattle.tree_laws.proofs.AptItems.{Applies, Changes, Collects, Raises, Rests, Shows, Touches, core_changes}
+use Rattle.tree_laws.proofs.AptItems.{Applies, Changes, Collects, Follows, Raises, Rests, Shows, Touches, core_changes}
 use Rattle.tree_laws.proofs.AptStagesOwn.{Doing}
 use Rattle.tree_laws.proofs.AptSteps.{enters}
 use Rattle.tree_laws.proofs.AptVersions.{before}
@@ -149,9 +149,10 @@ commit_writes s past e p x r t v g is on =
 -- So the row of a letter keeps to the bound.
 row_bound : (s : ScriptData) (past : List Entry) (e : Entry) (p m : ℕ) (x : ItemNo) (r : Letter) (after : Core) → Doing s past e p r
     → newest_of s (before (e ∷ past)) p x.0 ≤ m → after.node.turns.low.0 ≤ m → IsMost m (item_in x (node_in s past p).items)
-    → Changes s p r.body (node_in s past p) after.node.items after.node.turns → IsMost m (item_in x after.node.items)
+    → Changes s p r.body (keeping_in s past p).core after.node.items after.node.turns → IsMost m (item_in x after.node.items)
 row_bound s past e p m x r after g newest low all (Rests is turns) = subst (λ (i : Table). IsMost m (item_in x i)) (sym is) all
-row_bound s past e p m x r after g newest low all (Raises v of is turns) = subst (λ (i : Table). IsMost m (item_in x i)) (sym is) all
+row_bound s past e p m x r after g newest low all (Follows t k v letter is turns) = subst (λ (i : Table). IsMost m (item_in x i)) (sym is) all
+row_bound s past e p m x r after g newest low all (Raises v to is turns) = subst (λ (i : Table). IsMost m (item_in x i)) (sym is) all
 row_bound s past e p m x r after g newest low all (Touches t k one kind is turns) =
     let st : Node = node_in s past p in
     let v : Version = asked_version st.turns.update r.body in
@@ -163,8 +164,8 @@ row_bound s past e p m x r after g newest low all (Applies t v letter is turns) 
     subst (λ (i : Table). IsMost m (item_in x i)) (sym is)
     (commit_most m v x (ops_at p (subs_at s t.0)) st.items
     (λ on. omega (arith, newest, commit_writes s past e p x.0 r t v g letter on)) all)
-row_bound s past e p m x r after g newest low all (Shows v letter is turns) = subst (λ (i : Table). IsMost m (item_in x i)) (sym is) all
-row_bound s past e p m x r after g newest low all (Collects v letter is turns) =
+row_bound s past e p m x r after g newest low all (Shows v to is turns) = subst (λ (i : Table). IsMost m (item_in x i)) (sym is) all
+row_bound s past e p m x r after g newest low all (Collects v to is turns) =
     let now : after.node.turns.low.0 ≡ v.0 = ap (λ y. y.low.0) turns in
     subst (λ (i : Table). IsMost m (item_in x i)) (sym is)
     (collection_most m v x (node_in s past p).items (omega (arith, now, low)) all)
@@ -197,7 +198,7 @@ case_bound s past e p x valid run lt at (NodeKeeps q r k d) all =
     subst (λ (n : ℕ). (node_in s (e ∷ past) n).items ≡ (node_in s past n).items) qp (ap (λ (y : Core). y.node.items) d.core ∙ same) in
     subst (λ (i : Table). IsMost (bound s (e ∷ past) p x.0) (item_in x i)) (sym items)
     (more (bound s past p x.0) (bound s (e ∷ past) p x.0) x (node_in s past p).items (bound_grows s past e p x.0 valid run lt) all)
-case_bound s past e p x valid run lt at (Coordinates out says) all = absurd (omega (arith, at, lt, out))
+case_bound s past e p x valid run lt at (Coordinates out made) all = absurd (omega (arith, at, lt, out))
 case_bound s past e p x valid run lt at (Submits out says) all = absurd (omega (arith, at, lt, out))
 
 -- At the start.

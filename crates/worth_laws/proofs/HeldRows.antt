@@ -20,10 +20,11 @@ use Rattle.item_versions.proofs.Holding.{IsHeld-item_in}
 use Rattle.letter_types.specs.declared.acts.Act.{Act}
 use Rattle.letter_types.specs.declared.acts.Act.TheVariants as acts
 use Rattle.letter_types.specs.declared.bodies.Body.{Body}
-use Rattle.letter_types.specs.declared.bodies.Body.TheVariants.{Root, Sub as SubLetter, Done, Turn, Show, Sweep, Decide, Decided, Release, AskDone, AskAsked}
+use Rattle.letter_types.specs.declared.bodies.Body.TheVariants.{Root, Sub as SubLetter, Done, Turn, Show, Sweep, Decide, Decided, Release, AskDone, AskAsked, Order, Ask}
 use Rattle.letter_types.specs.declared.bodies.Notice.{Notice}
 use Rattle.letter_types.specs.declared.votes.Vote.{Vote}
 use Rattle.letter_types.specs.declared.votes.Vote.TheVariants.{Yes, No}
+use Rattle.letter_types.specs.Steps.{Out}
 use Rattle.script_parts.specs.Deeds.{after_deed, overwrites}
 use Rattle.script_parts.specs.ScriptData.{ScriptData, ops_of, subs_at, updates}
 use Rattle.script_parts.specs.declared.parts.Deed.{Deed}
@@ -42,6 +43,7 @@ use Rattle.world_model.specs.Reads.{gets, seen_in}
 use Rattle.world_model.specs.Strict.{can_make_at, core_by_kind, core_row, locks_by, note_core, noted_vote, notice_by, refused_there, voting}
 use Rattle.world_model.specs.Updates.{can_touch, can_update, may_make, table_after_deed, table_after_ops}
 use Rattle.world_model.specs.Votes.{vote_of}
+use Rattle.world_model.proofs.Epochs.{ask_each, order_each}
 use Rattle.board_rules.specs.Histories.{Place, version_in}
 use Rattle.board_rules.specs.Worth.{changes, ops_change}
 use Rattle.tree_laws.proofs.AptVersions.{DoneIn, is_version, version_is}
@@ -349,4 +351,12 @@ row_holds s zs p from x w (Show v) c ready now = stay (holds_in w x c.node.items
 row_holds s zs p from x w (Sweep v) c ready now = collected_hold w v x c.node.items now ∙ stay (holds_in w x c.node.items)
 row_holds s zs p from x w (AskDone v k) c ready now = stay (holds_in w x c.node.items)
 row_holds s zs p from x w (AskAsked v k) c ready now = stay (holds_in w x c.node.items)
+row_holds s zs p from x w (Order e what v) c ready now =
+    order_each (λ (o : Out Core). o.state.node.turns.low.0 < w.0 → Holds s zs p x w c [] o.state.node.items) s p from e what v c
+    (λ low. stay (holds_in w x c.node.items)) (λ low. stay (holds_in w x c.node.items)) (λ to low. stay (holds_in w x c.node.items))
+    (λ to new low. stay (holds_in w x c.node.items))
+    (λ to new low. collected_hold w v x c.node.items low ∙ stay (holds_in w x c.node.items)) now
+row_holds s zs p from x w (Ask e) c ready now =
+    ask_each (λ (o : Out Core). Holds s zs p x w c [] o.state.node.items) s e c (stay (holds_in w x c.node.items))
+    (stay (holds_in w x c.node.items))
 row_holds s zs p from x w _ c ready now = stay (holds_in w x c.node.items)

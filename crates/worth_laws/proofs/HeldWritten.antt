@@ -25,7 +25,7 @@ use Rattle.script_parts.specs.declared.parts.TreeKind.TheVariants.{Strict}
 use Rattle.world_model.specs.AllApt.{AllApt}
 use Rattle.world_model.specs.Core.{Core}
 use Rattle.world_model.specs.Decisions.{ops_at}
-use Rattle.world_model.specs.Named.{is_timely}
+use Rattle.world_model.specs.Epochs.{is_core_timely}
 use Rattle.world_model.specs.Node.{Node, items_at}
 use Rattle.world_model.specs.Reads.{seen_in}
 use Rattle.world_model.specs.Runs.{IsStepRun, keeping_in, node_in}
@@ -102,7 +102,7 @@ commit_here s past e p r t v ys g is =
     record {
       strict = strict;
       version = born_later t.0 (before past ++ places_at e) ys v (born_later t.0 (before past) (places_at e) v born);
-      within = ap (is_timely s c.node) (sym is) ∙ apt_timely s p c r g.does.brings.apt;
+      within = ap (is_core_timely s c) (sym is) ∙ apt_timely s p c r g.does.brings.apt;
       reads = rw tree.subs (ops_read s p (ops_at p tree.tree.subs) (node_ops_fit s t.0 p tree.tree Strict g.valid tree.at tree.kind));
     }
 
@@ -220,7 +220,7 @@ holds_at s past e p valid apt run lt at (NodeDoes q r d) old =
 holds_at s past e p valid apt run lt at (NodeKeeps q r k d) old =
     let qp : q ≡ p = sym d.brings.at ∙ at in
     subst (λ (n : ℕ). HoldsOwn s past n → HoldsOwn s (e ∷ past) n) qp (keeps_holds s past e q r k apt run d) old
-holds_at s past e p valid apt run lt at (Coordinates out says) old = absurd (omega (arith, at, lt, out))
+holds_at s past e p valid apt run lt at (Coordinates out made) old = absurd (omega (arith, at, lt, out))
 holds_at s past e p valid apt run lt at (Submits out says) old = absurd (omega (arith, at, lt, out))
 
 -- At the start.
