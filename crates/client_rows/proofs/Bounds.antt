@@ -1,21 +1,24 @@
 -- What every row of the client's table keeps.
-use Rattle.std.proofs.Common.{if◌then◌else◌, ◌≡◌, ℕ, ◌+◌, ◌≤◌, Bool, true, false, List, [], ◌∷◌, ◌++◌, length, take, drop, Option, Some, None, refl, sym, ◌∙◌, ap, arith, length-append}
-use Rattle.std.proofs.lemmas.List.{length-set, length-take, length-drop, length-replicate}
+use Rattle.std.proofs.Common.{if◌then◌else◌, ◌≡◌, ℕ, ◌+◌, ◌≤◌, Bool, true, false, List, [], ◌∷◌, ◌++◌, length, take, drop, refl, sym, ◌∙◌, ap, arith}
+use Rattle.std.proofs.lemmas.List.{length-set, length-drop, length-replicate}
 use Rattle.tx_trees.specs.ScriptData.{ScriptData}
 use Rattle.tx_trees.specs.declared.parts.ScriptRow.{ScriptRow}
 use Rattle.tx_trees.specs.declared.parts.ScriptRow.TheVariants.{Tree as TreeRow, Advance as AdvanceRow, Settle as SettleRow, Lose as LoseRow}
 use Rattle.letter_types.specs.declared.bodies.Body.{Body}
-use Rattle.world_model.specs.Client.{Client, have_ended, submitted, rows_letters, next_after, client_row, start_client}
+use Rattle.world_model.specs.Client.{Client, have_ended, submitted, next_after, client_row, start_client}
 use Rattle.letter_types.specs.declared.entries.StepOut.{StepOut}
 use Rattle.client_rows.specs.Changes.{IsClientStepOf}
 use Rattle.client_rows.specs.declared.change.ClientChange.TheVariants.{Submit}
 use Rattle.client_rows.specs.Kept.{Kept, IsKeptOf, kept_of}
 use Rattle.client_rows.specs.inside.Places.{place_at}
 use Rattle.client_rows.specs.declared.places.Place.{Place}
-use Rattle.client_rows.specs.News.{news_of, answered_after, client_with_news, sent_first}
+use Rattle.client_rows.specs.News.{answered_after, client_with_news}
+use Rattle.client_rows.specs.inside.Heard.{heard_of, heard_row, submit_at}
 use Rattle.client_rows.specs.declared.news.News.{News}
-use Rattle.client_rows.specs.declared.news.News.TheVariants.{Begun, Answered, Ended}
-use Rattle.client_rows.proofs.Submits.{Submission, heard, row-heard, state_after, submission-row}
+use Rattle.client_rows.specs.declared.news.News.TheVariants.{Begun, Answered, Ended, EndedTo}
+use Rattle.client_rows.specs.declared.news.Heard.{Heard}
+use Rattle.client_rows.specs.declared.news.Heard.TheVariants.{Nothing, Told, Asked}
+use Rattle.client_rows.proofs.Submits.{Submission, row-heard, state_after, submission-row}
 
 -- where the client waits it submits fewer
 fewer : (b : Bool) (n m : ℕ) → n ≤ m → (if b then n else 0) ≤ m
@@ -41,25 +44,27 @@ pub length-answered_after : (news : News) (answered : List Bool) → length (ans
 length-answered_after Begun answered = refl
 length-answered_after (Answered t) answered = length-set answered t.0 true
 length-answered_after Ended answered = refl
+length-answered_after (EndedTo v) answered = refl
 
 -- what is known of a state that is the client's, of this script
 pub record IsWithinScript (s : ScriptData) (c : Client) : Type 0 where
   pub next : c.next ≤ length s.rows
   pub answered : length c.answered ≡ length s.trees
 
-heard_within : (s : ScriptData) (c : Client) (news : Option News) → IsWithinScript s c → IsWithinScript s (heard s c news).state
-heard_within s c None within = within
-heard_within s c (Some news) within = record {
+heard_within : (s : ScriptData) (c : Client) (heard : Heard) → IsWithinScript s c → IsWithinScript s (heard_row s c heard).state
+heard_within s c Nothing within = within
+heard_within s c (Told news) within = record {
   next = next_within s (client_with_news news c) within.next;
   answered = length-answered_after news c.answered ∙ within.answered;
 }
+heard_within s c (Asked e) within = within
 
 -- every row keeps the client within the script
 pub kept_more : (s : ScriptData) (c : Client) (body : Body) → c.next ≤ length s.rows → length c.answered ≡ length s.trees
     → ((client_row s c body).state.next ≤ length s.rows) × (length (client_row s c body).state.answered ≡ length s.trees)
 kept_more s c body next answered =
-    let within : IsWithinScript s (heard s c (news_of (length s.trees) body)).state =
-    heard_within s c (news_of (length s.trees) body) (record { next = next; answered = answered }) in
+    let within : IsWithinScript s (heard_row s c (heard_of s body)).state =
+    heard_within s c (heard_of s body) (record { next = next; answered = answered }) in
     rw (row-heard s c body) (within.next, within.answered)
 
 -- the client begins within the script
@@ -72,19 +77,18 @@ pub kept_of-kept : (s : ScriptData) (c : Client) → c.next ≤ length s.rows �
     → IsKeptOf s (kept_of s c)
 kept_of-kept s c next answered = record { numbers = refl; next = next; answered = answered }
 
--- what is prepared at news is the client's row, and keeps the client
-pub submission-step : (s : ScriptData) (k : Kept) (body : Body) (news : News) (at : Place) (ends : Bool) (out : StepOut)
-    → IsKeptOf s k → Some news ≡ news_of (length s.trees) body → at.next ≤ length s.rows
-    → Submission s news k.client at ends out
-    → IsClientStepOf s (client_row s k.client body) k (record { change = Submit news at ends; out = out })
-submission-step s k body news at ends out kept client_with_news within made_here =
+-- what is prepared at news submits what it may, and keeps the client
+pub submission-step : (s : ScriptData) (k : Kept) (news : News) (at : Place) (ends : Bool) (out : StepOut)
+    → IsKeptOf s k → at.next ≤ length s.rows → Submission s news k.client at ends out
+    → IsClientStepOf s (submit_at s news k.client) k (record { change = Submit news at ends; out = out })
+submission-step s k news at ends out kept within made_here =
     let known : List Bool = answered_after news k.client.answered in
     let here : at ≡ place_at s.rows known at.next =
     made_here.place ∙ ap (place_at s.rows known) (sym (ap (λ (p : Place). p.next) made_here.place)) in
     let held : Place → Kept = λ (p : Place).
     record { client = state_after news k.client at ends; sent = p.sent; unanswered = p.unanswered; asked = p.asked } in
     record {
-      row = submission-row s news k.client at ends out made_here ∙ ap (heard s k.client) client_with_news ∙ sym (row-heard s k.client body);
+      row = submission-row s news k.client at ends out made_here;
       still_kept = record {
         numbers = ap held here;
         next = within;

@@ -1,6 +1,6 @@
 -- The numbers that the client keeps, over one row more.
-use Rattle.std.proofs.Common.{if◌then◌else◌, ◌≡◌, ℕ, ◌+◌, ◌<◌, ◌≤◌, Bool, true, false, List, [], ◌∷◌, ◌++◌, length, take, get_or, refl, sym, ap, subst, ◌∙◌, arith}
-use Rattle.std.proofs.lemmas.List.{length-take, take_more}
+use Rattle.std.proofs.Common.{if◌then◌else◌, ◌≡◌, ℕ, ◌+◌, ◌<◌, ◌≤◌, Bool, true, false, List, [], ◌∷◌, ◌++◌, length, take, drop, get_or, refl, sym, ap, subst, ◌∙◌, arith}
+use Rattle.std.proofs.lemmas.List.{length-take, take-append-drop, take_more}
 use Rattle.tx_trees.specs.Adding.{advances_in}
 use Rattle.tx_trees.specs.declared.parts.ScriptRow.{ScriptRow}
 use Rattle.tx_trees.specs.declared.parts.ScriptRow.TheVariants.{Tree as TreeRow, Advance as AdvanceRow, Settle as SettleRow, Lose as LoseRow}
@@ -53,6 +53,20 @@ few_advances (AdvanceRow ∷ xs) = omega (arith, few_advances xs)
 few_advances (SettleRow ∷ xs) = omega (arith, few_advances xs)
 few_advances (LoseRow ∷ xs) = omega (arith, few_advances xs)
 
+-- a part of the rows asks for no more advancements than all, and so does that part with what comes after it
+pub few_asked : (n : ℕ) (rows : List ScriptRow) → advances_in (take n rows) ≤ advances_in rows
+few_asked n rows =
+    omega (arith, advances_in-append (take n rows) (drop n rows), ap advances_in (take-append-drop n rows))
+
+pub few_more_asked : (n m : ℕ) (rows : List ScriptRow)
+    → advances_in (take n rows) + advances_in (take m (drop n rows)) ≤ advances_in rows
+few_more_asked n m rows = omega (
+  arith,
+  few_asked m (drop n rows),
+  advances_in-append (take n rows) (drop n rows),
+  ap advances_in (take-append-drop n rows),
+)
+
 -- the numbers of a place are at most that of its rows
 pub record IsWithin (at : Place) : Type 0 where
   pub sent : at.sent ≤ at.next
@@ -96,6 +110,16 @@ place_behind rows answered at d row sent unanswered asked lt is here s u a =
     } in
     let counts : ◌≡◌ {A = Place} (record { next = at.next + 1; sent = sent; unanswered = unanswered; asked = asked }) (further at) = cc in
     counts ∙ ap further here ∙ sym (place_more rows answered at.next d row lt is)
+
+-- one row that asks for an advancement more asks for no more than all
+pub asked_next : (rows : List ScriptRow) (answered : List Bool) (at : Place) (d : ScriptRow)
+    → at.next < length rows → get_or rows at.next d ≡ AdvanceRow → at ≡ place_at rows answered at.next
+    → at.asked + 1 ≤ advances_in rows
+asked_next rows answered at d lt is here =
+    let further : ◌≡◌ {A = Place} (record { next = at.next + 1; sent = at.sent; unanswered = at.unanswered; asked = at.asked + 1 })
+    (place_at rows answered (at.next + 1)) =
+    place_behind rows answered at d AdvanceRow at.sent at.unanswered (at.asked + 1) lt is here (omega arith) (omega arith) (omega arith) in
+    omega (arith, ap (λ (p : Place). p.asked) further, few_asked (at.next + 1) rows)
 
 -- the numbers of a place fit where the next row's does
 pub below_next : (rows : List ScriptRow) (answered : List Bool) (at : Place) → at ≡ place_at rows answered at.next → IsWithin at

@@ -1,6 +1,6 @@
 -- What the client does with a letter is its row of the table.
-use Rattle.std.proofs.Common.{if◌then◌else◌, ◌≡◌, ℕ, ◌+◌, ◌-◌, ◌≤◌, ◌==◌, ◌&&◌, ◌||◌, Bool, true, false, List, [], ◌∷◌, ◌++◌, length, take, drop, Option, Some, None, refl, sym, ap, ◌∙◌, arith}
-use Rattle.std.specs.Prelude.{nat_lt, not}
+use Rattle.std.proofs.Common.{if◌then◌else◌, ◌≡◌, ℕ, ◌+◌, ◌-◌, ◌^◌, ◌≤◌, ◌==◌, ◌&&◌, ◌||◌, Bool, true, false, List, [], ◌∷◌, ◌++◌, length, take, drop, refl, sym, ap, ◌∙◌, arith}
+use Rattle.std.specs.Prelude.{max, min, nat_lt, not}
 use Rattle.std.proofs.lemmas.List.{take_all}
 use Rattle.std.proofs.lemmas.Bool.Decides.{nat_tests}
 use Rattle.tx_trees.specs.ScriptData.{ScriptData}
@@ -9,31 +9,33 @@ use Rattle.tx_trees.specs.declared.parts.ScriptRow.TheVariants.{Tree as TreeRow,
 use Rattle.letter_types.specs.declared.acts.Act.{Act}
 use Rattle.letter_types.specs.declared.acts.Act.TheVariants.{Finished}
 use Rattle.letter_types.specs.declared.bodies.Body.{Body}
-use Rattle.letter_types.specs.declared.bodies.Body.TheVariants.{Go, Reply, Advanced}
+use Rattle.letter_types.specs.declared.bodies.Body.TheVariants.{Go, Reply, Advanced, Ask}
 use Rattle.letter_types.specs.declared.entries.Outgoing.{Outgoing}
 use Rattle.letter_types.specs.declared.entries.StepOut.{StepOut}
 use Rattle.letter_types.specs.Steps.{Out, still, made}
-use Rattle.world_model.specs.Client.{Client, have_ended, submitted, rows_letters, next_after, client_finishes, submit, client_row}
-use Rattle.client_rows.specs.News.{news_of, answered_after, ended_after, client_with_news, sent_first}
+use Rattle.world_model.specs.Client.{Client, have_ended, submitted, rows_letters, advances_sent, next_after, client_finishes, submit, wanted, client_row}
+use Rattle.world_model.specs.Lossy.{is_lossy}
+use Rattle.client_rows.specs.News.{answered_after, ended_after, client_with_news, sent_first}
+use Rattle.client_rows.specs.inside.Heard.{heard_of, heard_row, submit_at}
 use Rattle.client_rows.specs.inside.Places.{is_over}
 use Rattle.client_rows.specs.inside.Places.{place_at, knowing, furthest}
 use Rattle.client_rows.specs.declared.news.News.{News}
-use Rattle.client_rows.specs.declared.news.News.TheVariants.{Answered}
+use Rattle.client_rows.specs.declared.news.News.TheVariants.{Answered, Ended, EndedTo}
+use Rattle.client_rows.specs.declared.news.Heard.TheVariants.{Nothing, Told, Asked}
 use Rattle.client_rows.specs.declared.places.Place.{Place}
 use Rattle.client_rows.proofs.Further.{over-ended}
 
--- what the client does with the news that it has, if any
-abbrev pub heard : ScriptData → Client → Option News → Out Client
-heard s c None = still c
-heard s c (Some news) = submit s (client_with_news news c) (sent_first s news)
-
--- each row of the table submits at its news, or does nothing
-pub row-heard : (s : ScriptData) (c : Client) (body : Body) → client_row s c body ≡ heard s c (news_of (length s.trees) body)
+-- each row of the table is that of what the client hears
+pub row-heard : (s : ScriptData) (c : Client) (body : Body) → client_row s c body ≡ heard_row s c (heard_of s body)
 row-heard s c Go = refl
 row-heard s c (Reply t v answer) = elim (nat_lt t.0 (length s.trees)) as (λ (b : Bool).
-    (if b then submit s (client_with_news (Answered t) c) (sent_first s (Answered t)) else still c)
-    ≡ heard s c (if b then Some (Answered t) else None)) [ true ↦ refl | false ↦ refl ]
-row-heard s c (Advanced v) = refl
+    (if b then submit_at s (Answered t) c else still c) ≡ heard_row s c (if b then Told (Answered t) else Nothing))
+    [ true ↦ refl | false ↦ refl ]
+row-heard s c (Advanced v) = elim (is_lossy s) as (λ (b : Bool).
+    submit s (record c { ended = if b then max c.ended v.0 else min (c.ended + 1) (2 ^ 64 - 1) }) []
+    ≡ submit_at s (if b then EndedTo v else Ended) c) [ true ↦ refl | false ↦ refl ]
+row-heard s c (Ask e) = elim (is_lossy s) as (λ (b : Bool).
+    (if b then wanted s e c else still c) ≡ heard_row s c (if b then Asked e else Nothing)) [ true ↦ refl | false ↦ refl ]
 row-heard s c _ = refl
 
 -- which rows are submitted follows from what is answered and has ended
@@ -76,7 +78,8 @@ pub record Submission (s : ScriptData) (news : News) (c : Client) (at : Place) (
       ≡ place_at s.rows (answered_after news c.answered)
       (furthest (answered_after news c.answered) (ended_after news c.ended) s.rows c.next)
   pub finish : ends ≡ ((at.next == length s.rows) && (is_over at (ended_after news c.ended) && not c.finished))
-  pub sent : out.sent ≡ sent_first s news ++ rows_letters s (take (at.next - c.next) (drop c.next s.rows))
+  pub sent : out.sent
+      ≡ sent_first s news ++ rows_letters s (advances_sent s c) (take (at.next - c.next) (drop c.next s.rows))
   pub acts : out.acts ≡ (if ends then Finished ∷ [] else [])
 
 -- the state that the call leaves
@@ -89,7 +92,7 @@ state_after news c at ends = record {
 }
 
 pub submission-row : (s : ScriptData) (news : News) (c : Client) (at : Place) (ends : Bool) (out : StepOut)
-    → Submission s news c at ends out → made (state_after news c at ends) out ≡ heard s c (Some news)
+    → Submission s news c at ends out → made (state_after news c at ends) out ≡ submit_at s news c
 submission-row s news c at ends out made_here =
     let after : Client = client_with_news news c in
     let next : at.next ≡ next_after s after = ap (λ (p : Place). p.next) made_here.place ∙ sym (next_after-furthest s after) in
@@ -101,10 +104,11 @@ submission-row s news c at ends out made_here =
     let many : at.next - c.next ≡ submitted after (take c.next s.rows) (drop c.next s.rows) = omega (arith, next) in
     same_row (answered_after news c.answered) (ended_after news c.ended) at.next (next_after s after)
     (c.finished || ends) (c.finished || client_finishes s (next_after s after) after)
-    out.sent (sent_first s news ++ rows_letters s (take (submitted after (take c.next s.rows) (drop c.next s.rows)) (drop c.next s.rows)))
+    out.sent (sent_first s news
+    ++ rows_letters s (advances_sent s c) (take (submitted after (take c.next s.rows) (drop c.next s.rows)) (drop c.next s.rows)))
     out.acts (if client_finishes s (next_after s after) after then Finished ∷ [] else [])
     next (ap (λ (b : Bool). c.finished || b) finish)
-    (made_here.sent ∙ ap (λ (n : ℕ). sent_first s news ++ rows_letters s (take n (drop c.next s.rows))) many)
+    (made_here.sent ∙ ap (λ (n : ℕ). sent_first s news ++ rows_letters s (advances_sent s c) (take n (drop c.next s.rows))) many)
     (made_here.acts ∙ ap (λ (b : Bool). if b then Finished ∷ [] else []) finish)
 
 -- from equal rows, answers, ends and places the client comes to equal places

@@ -1,19 +1,10 @@
--- What a letter tells the client, and what the client knows then.
-use Rattle.std.specs.Prelude.{if◌then◌else◌, ℕ, Bool, true, ◌+◌, ◌-◌, ◌^◌, min, nat_lt, List, [], ◌∷◌, slice_set, Option, Some, None}
+-- News, and what the client knows then.
+use Rattle.std.specs.Prelude.{ℕ, Bool, true, ◌+◌, ◌-◌, ◌^◌, max, min, List, [], ◌∷◌, slice_set}
 use Rattle.tx_trees.specs.ScriptData.{ScriptData}
-use Rattle.letter_types.specs.declared.bodies.Body.{Body}
-use Rattle.letter_types.specs.declared.bodies.Body.TheVariants.{Go, Reply, Advanced}
 use Rattle.letter_types.specs.declared.entries.Outgoing.{Outgoing}
 use Rattle.world_model.specs.Client.{Client, nudge}
 use Rattle.client_rows.specs.declared.news.News.{News}
-use Rattle.client_rows.specs.declared.news.News.TheVariants.{Begun, Answered, Ended}
-
--- what a letter of this body tells, in a script of so many trees, if the client submits at it
-abbrev pub news_of : ℕ → Body → Option News
-news_of trees Go = Some Begun
-news_of trees (Reply t v answer) = if nat_lt t.0 trees then Some (Answered t) else None
-news_of trees (Advanced v) = Some Ended
-news_of trees _ = None
+use Rattle.client_rows.specs.declared.news.News.TheVariants.{Answered, Ended, EndedTo}
 
 -- which trees are answered then
 abbrev pub answered_after : News → List Bool → List Bool
@@ -25,6 +16,7 @@ answered_after _ answered = answered
 abbrev pub ended_after : News → ℕ → ℕ
 ended_after (Answered t) ended = ended
 ended_after Ended ended = min (ended + 1) (2 ^ 64 - 1)
+ended_after (EndedTo v) ended = max ended v.0
 ended_after _ ended = ended
 
 -- the client's state with the news, before it submits

@@ -1,14 +1,15 @@
 // The client: it submits the script's rows.
 ghost use Rattle.std.specs.Prelude.{◌≡◌, ◌==◌, ◌&&◌, length, not, IfOk, OnOk, OnErr};
 ghost use Rattle.letter_types.specs.Steps.{made};
-ghost use Rattle.world_model.specs.Client.{client_row, start_client};
+ghost use Rattle.world_model.specs.Client.{client_row, start_client, wanted};
 ghost use Rattle.client_rows.specs.Changes.{IsClientStepOf, after_client_change};
 ghost use Rattle.client_rows.specs.Kept.{IsKeptOf, kept_of};
+ghost use Rattle.client_rows.specs.inside.Heard.{submit_at};
 ghost use Rattle.client_rows.specs.inside.Places.{is_over};
 
 use crate::change::{ClientChange, ClientPrepared};
 use crate::letters;
-use crate::news::{ended_after, mark, news_of};
+use crate::news::{Heard, News, ended_after, heard_of, mark};
 use crate::places::{Place, furthest, is_over, with_news};
 use letter_types::{Letter, Step, StepOut};
 use std::alloc::Global;
@@ -106,17 +107,42 @@ impl Client {
         ensures { IfOk result
             (IsClientStepOf script.now (client_row script.now self.now.client letter.now.body) self.now) }
     {
-        let Some(news) = news_of(script.trees().len(), &letter.body) else {
-            return Ok(ClientPrepared::still(alloc));
-        };
+        match heard_of(script, &letter.body) {
+            Heard::Nothing => Ok(ClientPrepared::still(alloc)),
+            Heard::Told(news) => self.submit(alloc, news, script),
+            Heard::Asked(epoch) => self.answer(alloc, epoch, script),
+        }
+    }
+
+    /// Prepares what the client does at news: it submits what it may.
+    fn submit(&self, alloc: Global, news: News, script: &Script) -> Result<ClientPrepared, NoMemory>
+        requires { IsKeptOf script.now self.now }
+        ensures { IfOk result
+            (IsClientStepOf script.now (submit_at script.now news self.now.client) self.now) }
+    {
+        let _valid = script.nodes();
         let rows = script.rows();
         let ended = ended_after(news, self.ended);
         let known = with_news(rows, &self.answered, news, self.at);
         let at = furthest(rows, &self.answered, news, ended, known);
         let finishes = finishes(rows, at, ended, self.finished);
-        let out = letters::out(alloc, script, news, &rows[self.at.next..at.next], finishes)?;
+        let submitted = &rows[self.at.next..at.next];
+        let out = letters::out(alloc, script, news, self.at.asked, submitted, finishes)?;
         Ok(ClientPrepared {
             change: ClientChange::Submit { news, at, finishes },
+            out,
+        })
+    }
+
+    /// Prepares the answer to a coordinator that has forgotten: how many advancements it was asked for.
+    fn answer(&self, alloc: Global, epoch: u64, script: &Script) -> Result<ClientPrepared, NoMemory>
+        requires { IsKeptOf script.now self.now }
+        ensures { IfOk result
+            (IsClientStepOf script.now (wanted script.now epoch self.now.client) self.now) }
+    {
+        let out = letters::wanted(alloc, script, epoch, self.at.asked)?;
+        Ok(ClientPrepared {
+            change: ClientChange::Still,
             out,
         })
     }

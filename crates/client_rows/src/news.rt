@@ -1,30 +1,60 @@
 // What a letter tells the client.
 ghost use Rattle.std.specs.Prelude.{◌≡◌, false, get_or};
-ghost use Rattle.client_rows.specs.News.{news_of, answered_after, ended_after};
+ghost use Rattle.client_rows.specs.News.{answered_after, ended_after};
+ghost use Rattle.client_rows.specs.inside.Heard.{news_of_end, heard_of};
 
 use letter_types::Body;
-use tv_base::TreeNo;
+use tv_base::{TreeNo, Version};
+use tx_trees::Script;
 
-/// What a letter tells the client.
+/// What is new to the client.
 #[derive(Clone, Copy)]
 pub enum News {
     /// The run begins.
     Begun,
     /// This tree, which is one of the script's, is answered.
     Answered(TreeNo),
-    /// An advancement has ended.
+    /// One more advancement has ended.
     Ended,
+    /// So many advancements have ended.
+    EndedTo(Version),
 }
 
-/// What a letter of this body tells, in a script of so many trees. None exactly where the client does nothing.
-pub(crate) fn news_of(trees: usize, body: &Body) -> Option<News>
-    ensures { result ≡ news_of trees body.now }
+/// What the client of a script hears from a letter.
+#[derive(Clone, Copy)]
+pub(crate) enum Heard {
+    /// Nothing that it goes by.
+    Nothing,
+    /// News, at which it submits what it may.
+    Told(News),
+    /// The coordinator of this epoch has forgotten how many advancements it was asked for.
+    Asked(u64),
+}
+
+/// What the client of a script hears from a letter of this body.
+pub(crate) fn heard_of(script: &Script, body: &Body) -> Heard
+    ensures { result ≡ heard_of script.now body.now }
 {
     match body {
-        Body::Go => Some(News::Begun),
-        Body::Reply { tree, .. } if (tree.0 as usize) < trees => Some(News::Answered(*tree)),
-        Body::Advanced { .. } => Some(News::Ended),
-        _ => None,
+        Body::Go => Heard::Told(News::Begun),
+        Body::Reply { tree, .. } if (tree.0 as usize) < script.trees().len() => {
+            Heard::Told(News::Answered(*tree))
+        }
+        Body::Advanced { version } => Heard::Told(news_of_end(script, *version)),
+        Body::Ask { epoch } if script.loses() > 0 => Heard::Asked(*epoch),
+        _ => Heard::Nothing,
+    }
+}
+
+/// What the end of an advancement tells, which comes with this version. A coordinator that may forget may tell an end
+/// twice, or more ends than one at once.
+fn news_of_end(script: &Script, version: Version) -> News
+    ensures { result ≡ news_of_end script.now version }
+{
+    if script.loses() > 0 {
+        News::EndedTo(version)
+    } else {
+        News::Ended
     }
 }
 
@@ -47,6 +77,7 @@ pub(crate) fn ended_after(news: News, ended: u64) -> u64
 {
     match news {
         News::Ended => ended.saturating_add(1),
+        News::EndedTo(version) => ended.max(version.0),
         _ => ended,
     }
 }

@@ -1,5 +1,6 @@
 // How far the client is among the rows.
-ghost use Rattle.std.specs.Prelude.{◌≡◌, ◌+◌, ◌<◌, ◌≤◌, length};
+ghost use Rattle.std.specs.Prelude.{◌≡◌, ◌+◌, ◌^◌, ◌<◌, ◌≤◌, length};
+ghost use Rattle.tx_trees.specs.Adding.{advances_in};
 ghost use Rattle.tx_trees.specs.Valid.{NamesInOrder};
 ghost use Rattle.client_rows.specs.News.{answered_after};
 ghost use Rattle.client_rows.specs.inside.Places.{is_over};
@@ -18,14 +19,14 @@ pub struct Place {
     /// How many of these trees aren't answered.
     pub unanswered: usize,
     /// How many of the rows ask for an advancement.
-    pub asked: u64,
+    pub asked: u32,
 }
 
 /// Whether all that was submitted up to a place has ended.
 pub(crate) fn is_over(at: Place, ended: u64) -> bool
     ensures { result ≡ is_over at ended }
 {
-    at.unanswered == 0 && at.asked <= ended
+    at.unanswered == 0 && u64::from(at.asked) <= ended
 }
 
 /// The same place once the news is known: a tree that is answered by it counts as open no more.
@@ -49,6 +50,7 @@ pub(crate) fn with_news(rows: &[ScriptRow], answered: &[bool], news: News, at: P
 /// The place after the next row.
 fn behind_next(rows: &[ScriptRow], answered: &[bool], news: News, at: Place) -> Place
     requires more { at.next < length rows.now }
+    requires few { advances_in rows.now < 2 ^ 32 }
     requires at { at ≡ place_at rows.now (answered_after news answered.now) at.next }
     ensures { result ≡ place_at rows.now (answered_after news answered.now) (at.next + 1) }
 {
@@ -94,6 +96,7 @@ pub(crate) fn furthest(
     from: Place,
 ) -> Place
     requires next { from.next ≤ length rows.now }
+    requires few { advances_in rows.now < 2 ^ 32 }
     requires from { from ≡ place_at rows.now (answered_after news answered.now) from.next }
     ensures forward { from.next ≤ result.next }
     ensures within { result.next ≤ length rows.now }

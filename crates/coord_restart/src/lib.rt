@@ -1,5 +1,4 @@
 //! The coordinator that may forget its state: all but its epoch. It goes on from what the nodes and the client tell.
-//! Nothing uses it yet: no script in which a coordinator forgets is run.
 #![tactic(auto)]
 
 mod change;

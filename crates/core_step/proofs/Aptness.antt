@@ -5,8 +5,11 @@ use Rattle.tv_base.specs.declared.numbers.SubNo.{SubNo}
 use Rattle.tv_base.specs.declared.numbers.TreeNo.{TreeNo}
 use Rattle.tv_base.specs.declared.numbers.Version.{Version}
 use Rattle.letter_types.specs.declared.bodies.Body.{Body}
-use Rattle.letter_types.specs.declared.bodies.Body.TheVariants.{Root, Sub as SubLetter, Done, Turn, Show, Sweep, AskDone, AskAsked, Decide, Decided, Release, Wake}
+use Rattle.letter_types.specs.declared.bodies.Body.TheVariants.{Root, Sub as SubLetter, Done, Turn, Show, Sweep, AskDone, AskAsked, Decide, Decided, Release, Wake, Order, Ask}
 use Rattle.letter_types.specs.declared.bodies.Notice.{Notice}
+use Rattle.letter_types.specs.declared.bodies.What.{What}
+use Rattle.letter_types.specs.declared.bodies.What.TheVariants as whats
+use Rattle.letter_types.specs.declared.entries.Letter.{Letter}
 use Rattle.letter_types.specs.Steps.{still}
 use Rattle.tx_trees.specs.Counts.{has_strict}
 use Rattle.tx_trees.specs.ScriptData.{ScriptData, home_of, node_of, subs_at, visits}
@@ -15,11 +18,12 @@ use Rattle.tx_trees.specs.declared.parts.TreeKind.TheVariants.{Update, Read, Str
 use Rattle.world_model.specs.Apt.{can_make, can_make_by}
 use Rattle.world_model.specs.Core.{Core}
 use Rattle.world_model.specs.Decisions.{can_decide}
+use Rattle.world_model.specs.Epochs.{is_core_timely, is_of_coordinator, plain_order}
 use Rattle.world_model.specs.Named.{is_named, is_near, is_new, is_strict_at, is_timely, tree_kind_at}
 use Rattle.world_model.specs.Node.{Node}
 use Rattle.world_model.specs.Notices.{answer_noted, values_of}
-use Rattle.world_model.specs.Strict.{core_keeping, core_row, is_near_answer, is_unheld}
-use Rattle.tree_step.specs.Due.{is_due}
+use Rattle.world_model.specs.Strict.{can_make_at, core_keeping, core_row, decides_near, is_core_apt, is_near_answer, is_of_strict, is_unheld}
+use Rattle.tree_step.specs.Due.{can_obey, is_due}
 use Rattle.core_step.specs.inside.Apt.{acked_apt, apt_by, decide_apt, is_own, makes_by, release_apt, tree_apt, wake_apt}
 
 -- what a letter asks for of a tree, by the tree's kind
@@ -89,32 +93,34 @@ pub called_apt : (s : ScriptData) (p from : ℕ) (c : Core) (t : TreeNo) (k : Su
     → wake_apt s p t k ≡ apt_by s p from c (Wake t k)
 called_apt s p from c t k = one_test (has_strict s) (node_of s t.0 k.0 == p)
 
-order_test : (h d : Bool)
-    → (true && (true && (true && d))) ≡ ((h || not false) && (true && (true && true && (d && true && true))))
+order_test : (h d : Bool) → d ≡ ((h || not false) && (true && (true && true && (d && true && true))))
 order_test h d = grind arith
 
-pub turn_apt : (s : ScriptData) (p from : ℕ) (c : Core) (v : Version)
-    → is_due s p c.node from (Turn v) ≡ apt_by s p from c (Turn v)
-turn_apt s p from c v = order_test (has_strict s) (is_timely s c.node (Turn v))
+-- an order of a coordinator that remembers
+pub plain_apt : (s : ScriptData) (p from : ℕ) (c : Core) (what : What) (v : Version)
+    → can_obey what v c.node.turns ≡ apt_by s p from c (plain_order what v)
+plain_apt s p from c whats.Turn v = order_test (has_strict s) (is_timely s c.node (Turn v))
+plain_apt s p from c whats.Show v = order_test (has_strict s) (is_timely s c.node (Show v))
+plain_apt s p from c whats.Sweep v = order_test (has_strict s) (is_timely s c.node (Sweep v))
 
-pub show_apt : (s : ScriptData) (p from : ℕ) (c : Core) (v : Version)
-    → is_due s p c.node from (Show v) ≡ apt_by s p from c (Show v)
-show_apt s p from c v = order_test (has_strict s) (is_timely s c.node (Show v))
+-- one of a coordinator that forgets
+pub order_apt : (s : ScriptData) (p from : ℕ) (c : Core) (e : ℕ) (what : What) (v : Version)
+    → (nat_lt e c.epoch || can_obey what v c.node.turns) ≡ apt_by s p from c (Order e what v)
+order_apt s p from c e whats.Turn v = order_test (has_strict s) (nat_lt e c.epoch || is_timely s c.node (Turn v))
+order_apt s p from c e whats.Show v = order_test (has_strict s) (nat_lt e c.epoch || is_timely s c.node (Show v))
+order_apt s p from c e whats.Sweep v = order_test (has_strict s) (nat_lt e c.epoch || is_timely s c.node (Sweep v))
 
-pub sweep_apt : (s : ScriptData) (p from : ℕ) (c : Core) (v : Version)
-    → is_due s p c.node from (Sweep v) ≡ apt_by s p from c (Sweep v)
-sweep_apt s p from c v = order_test (has_strict s) (is_timely s c.node (Sweep v))
-
+-- what asks a node for its numbers
 pub done_row_apt : (s : ScriptData) (p from : ℕ) (c : Core) (v : Version) (k : ℕ)
-    → is_due s p c.node from (AskDone v k) ≡ apt_by s p from c (AskDone v k)
+    → true ≡ apt_by s p from c (AskDone v k)
 done_row_apt s p from c v k = order_test (has_strict s) true
 
 pub asked_row_apt : (s : ScriptData) (p from : ℕ) (c : Core) (v : Version) (k : ℕ)
-    → is_due s p c.node from (AskAsked v k) ≡ apt_by s p from c (AskAsked v k)
+    → true ≡ apt_by s p from c (AskAsked v k)
 asked_row_apt s p from c v k = order_test (has_strict s) true
 
-or_true : (h : Bool) → true ≡ ((h || not false) && true)
-or_true h = grind arith
+pub ask_apt : (s : ScriptData) (p from : ℕ) (c : Core) (e : ℕ) → true ≡ apt_by s p from c (Ask e)
+ask_apt s p from c e = order_test (has_strict s) true
 
 -- a letter without a row of its own is apt, isn't kept, and changes nothing
 pub other_row : (s : ScriptData) (p from : ℕ) (c : Core) (body : Body) → is_own body ≡ false
@@ -131,4 +137,30 @@ other_row s p from c (Decide t v commit) is = absurd (cc)
 other_row s p from c (Decided t v) is = absurd (cc)
 other_row s p from c (Release t) is = absurd (cc)
 other_row s p from c (Wake t k) is = absurd (cc)
-other_row s p from c _ is = (or_true (has_strict s), refl, refl)
+other_row s p from c (Order e what v) is = absurd (cc)
+other_row s p from c (Ask e) is = absurd (cc)
+other_row s p from c _ is = (order_test (has_strict s) true, refl, refl)
+
+-- A letter that the script's coordinator has is apt just where it is so by this; any other isn't.
+own_first : (a own b : Bool) → own ≡ true → (a && b) ≡ ((a && own) && b)
+own_first a own b is = grind arith
+
+other_first : (a own b : Bool) → own ≡ false → ((a && own) && b) ≡ false
+other_first a own b is = grind arith
+
+-- what is tested of a letter once it is one that the script has
+abbrev is_apt_there : ScriptData → ℕ → Core → Letter → Bool
+is_apt_there s p c l =
+    is_named s p l.from.0 l.body
+    && (is_new s c.node l.body && is_unheld l.body c.holds
+    && (is_core_timely s c l.body && decides_near s c.node l.body && can_make_at s p c l.body))
+
+pub own_apt : (s : ScriptData) (p : ℕ) (c : Core) (l : Letter) → is_of_coordinator s l.body ≡ true
+    → apt_by s p l.from.0 c l.body ≡ is_core_apt s p c l
+own_apt s p c l own =
+    own_first (has_strict s || not (is_of_strict l.body)) (is_of_coordinator s l.body) (is_apt_there s p c l) own
+
+pub other_unapt : (s : ScriptData) (p : ℕ) (c : Core) (l : Letter) → is_of_coordinator s l.body ≡ false
+    → is_core_apt s p c l ≡ false
+other_unapt s p c l other =
+    other_first (has_strict s || not (is_of_strict l.body)) (is_of_coordinator s l.body) (is_apt_there s p c l) other

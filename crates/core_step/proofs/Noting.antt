@@ -16,15 +16,15 @@ use Rattle.strict_step.specs.Changes.{IsCoreStepOf}
 use Rattle.strict_step.specs.State.{core_of}
 use Rattle.strict_step.specs.declared.change.CorePrepared.{CorePrepared}
 use Rattle.strict_step.specs.declared.state.NodeCore.{NodeCore}
-use Rattle.core_step.specs.Plans.{IsPlanOf}
 use Rattle.core_step.specs.declared.plan.CorePlan.TheVariants.{Still, Does}
+use Rattle.core_step.specs.inside.Apt.{IsOwnPlan}
 use Rattle.core_step.proofs.Aptness.{note_apt}
 use Rattle.core_step.proofs.Decisions.{IsNotice, is_notice}
 use Rattle.core_step.proofs.Planned.{due_body, first_fails, first_holds, plan_one, undue_body}
 
 -- one that isn't due
 pub note_undue : (s : ScriptData) (l : Letter) (n : NodeCore) (t : TreeNo) (k : SubNo) (v : Version) (notice : Notice)
-    → l.body ≡ Done t k v notice → false ≡ is_due s l.to.0 (data_of n.parts) l.from.0 l.body → IsPlanOf s l n Still
+    → l.body ≡ Done t k v notice → false ≡ is_due s l.to.0 (data_of n.parts) l.from.0 l.body → IsOwnPlan s l n Still
 note_undue s l n t k v notice is due =
     plan_one s l n (Done t k v notice) _ Still is (note_apt s l.to.0 l.from.0 (core_of n) t k v notice)
     (first_fails (is_due s l.to.0 (data_of n.parts) l.from.0 (Done t k v notice))
@@ -35,7 +35,7 @@ note_undue s l n t k v notice is due =
 pub note_far : (s : ScriptData) (l : Letter) (n : NodeCore) (t : TreeNo) (k : SubNo) (v : Version) (notice : Notice)
     → l.body ≡ Done t k v notice → true ≡ is_due s l.to.0 (data_of n.parts) l.from.0 l.body
     → is_near_answer s (data_of n.parts) (answer_noted t k (values_of notice) (open_trees n.parts.homes)) ≡ false
-    → IsPlanOf s l n Still
+    → IsOwnPlan s l n Still
 note_far s l n t k v notice is due far =
     plan_one s l n (Done t k v notice) _ Still is (note_apt s l.to.0 l.from.0 (core_of n) t k v notice)
     (first_holds (is_due s l.to.0 (data_of n.parts) l.from.0 (Done t k v notice))
@@ -48,7 +48,7 @@ pub note_plan : (s : ScriptData) (l : Letter) (n : NodeCore) (t : TreeNo) (k : S
     (from : ℕ) (q : CorePrepared) → l.body ≡ Done t k v notice
     → true ≡ is_due s l.to.0 (data_of n.parts) l.from.0 l.body
     → is_near_answer s (data_of n.parts) (answer_noted t k (values_of notice) (open_trees n.parts.homes)) ≡ true
-    → from ≡ l.from.0 → IsCoreStepOf (note_core s from t k v notice (core_of n)) n q → IsPlanOf s l n (Does q)
+    → from ≡ l.from.0 → IsCoreStepOf (note_core s from t k v notice (core_of n)) n q → IsOwnPlan s l n (Does q)
 note_plan s l n t k v notice from q is due near sent step =
     plan_one s l n (Done t k v notice) _ (Does q) is (note_apt s l.to.0 l.from.0 (core_of n) t k v notice)
     (record {

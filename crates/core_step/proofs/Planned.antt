@@ -11,16 +11,17 @@ use Rattle.letter_types.specs.declared.entries.Letter.{Letter}
 use Rattle.tx_trees.specs.ScriptData.{ScriptData}
 use Rattle.tree_home.specs.HeldAnswers.{held_answers}
 use Rattle.tx_trees.specs.declared.parts.TreeKind.{TreeKind}
+use Rattle.world_model.specs.Epochs.{is_of_coordinator}
 use Rattle.world_model.specs.Named.{tree_kind_at}
 use Rattle.world_model.specs.Strict.{core_by_kind, core_keeping, core_row, is_unheld, kept_by_kind}
 use Rattle.tree_step.specs.Due.{is_due}
 use Rattle.tree_step.specs.Node.{data_of}
 use Rattle.strict_step.specs.State.{core_of}
 use Rattle.strict_step.specs.declared.state.NodeCore.{NodeCore}
-use Rattle.core_step.specs.Plans.{IsPlanBy, IsPlanOf}
+use Rattle.core_step.specs.Plans.{IsPlanBy, IsPlanOf, IsPlanWhere}
 use Rattle.core_step.specs.declared.plan.CorePlan.{CorePlan}
-use Rattle.core_step.specs.inside.Apt.{apt_by, makes_by, tree_apt}
-use Rattle.core_step.proofs.Aptness.{root_apt, sub_apt}
+use Rattle.core_step.specs.inside.Apt.{IsOwnPlan, apt_by, makes_by, tree_apt}
+use Rattle.core_step.proofs.Aptness.{own_apt, root_apt, sub_apt}
 
 -- a plan of a letter of this body, that is apt by this test
 abbrev pub IsPlanHere : ScriptData → Letter → NodeCore → Body → Bool → CorePlan → Type 0
@@ -28,14 +29,14 @@ IsPlanHere s l n body test plan =
     IsPlanBy test (core_keeping s (core_of n) body) (core_row s l.to.0 (core_of n) l.from.0 body) n plan
 
 pub plan_one : (s : ScriptData) (l : Letter) (n : NodeCore) (body : Body) (test : Bool) (plan : CorePlan) → l.body ≡ body
-    → test ≡ apt_by s l.to.0 l.from.0 (core_of n) body → IsPlanHere s l n body test plan → IsPlanOf s l n plan
+    → test ≡ apt_by s l.to.0 l.from.0 (core_of n) body → IsPlanHere s l n body test plan → IsOwnPlan s l n plan
 plan_one s l n body test plan is same planned =
     subst (λ (b : Body). IsPlanHere s l n b (apt_by s l.to.0 l.from.0 (core_of n) b) plan) (sym is)
     (subst (λ (x : Bool). IsPlanHere s l n body x plan) same planned)
 
 pub plan_result : (s : ScriptData) (l : Letter) (n : NodeCore) (body : Body) (test : Bool) (r : Result CorePlan NoMemory)
     → l.body ≡ body → test ≡ apt_by s l.to.0 l.from.0 (core_of n) body → IfOk r (IsPlanHere s l n body test)
-    → IfOk r (IsPlanOf s l n)
+    → IfOk r (IsOwnPlan s l n)
 plan_result s l n body test r is same planned =
     subst (λ (b : Body). IfOk r (IsPlanHere s l n b (apt_by s l.to.0 l.from.0 (core_of n) b))) (sym is)
     (subst (λ (x : Bool). IfOk r (IsPlanHere s l n body x)) same planned)
@@ -85,7 +86,7 @@ tree_plan s l n t kind r is free planned =
 
 pub root_plan : (s : ScriptData) (l : Letter) (n : NodeCore) (t : TreeNo) (r : Result CorePlan NoMemory) → l.body ≡ Root t
     → IfOk r (IsTreePlan s l n t l.body (tree_apt s l.to.0 l.from.0 (core_of n) t l.body) (tree_kind_at s t.0))
-    → IfOk r (IsPlanOf s l n)
+    → IfOk r (IsOwnPlan s l n)
 root_plan s l n t r is planned =
     plan_result s l n (Root t) (tree_apt s l.to.0 l.from.0 (core_of n) t (Root t)) r is
     (root_apt s l.to.0 l.from.0 (core_of n) t)
@@ -95,9 +96,15 @@ root_plan s l n t r is planned =
 pub sub_plan : (s : ScriptData) (l : Letter) (n : NodeCore) (t : TreeNo) (k : SubNo) (v : Version)
     (r : Result CorePlan NoMemory) → l.body ≡ SubLetter t k v
     → IfOk r (IsTreePlan s l n t l.body (tree_apt s l.to.0 l.from.0 (core_of n) t l.body) (tree_kind_at s t.0))
-    → IfOk r (IsPlanOf s l n)
+    → IfOk r (IsOwnPlan s l n)
 sub_plan s l n t k v r is planned =
     plan_result s l n (SubLetter t k v) (tree_apt s l.to.0 l.from.0 (core_of n) t (SubLetter t k v)) r is
     (sub_apt s l.to.0 l.from.0 (core_of n) t k v)
     (subst (λ (b : Body). IfOk r (IsTreePlan s l n t b (tree_apt s l.to.0 l.from.0 (core_of n) t b) (tree_kind_at s t.0)))
     is planned)
+
+-- a plan of a letter that the script's coordinator has
+pub own_plan : (s : ScriptData) (l : Letter) (n : NodeCore) (r : Result CorePlan NoMemory)
+    → is_of_coordinator s l.body ≡ true → IfOk r (IsOwnPlan s l n) → IfOk r (IsPlanOf s l n)
+own_plan s l n r own planned =
+    subst (λ (x : Bool). IfOk r (λ (plan : CorePlan). IsPlanWhere x s l n plan)) (own_apt s l.to.0 (core_of n) l own) planned

@@ -55,8 +55,11 @@ IsPlanBy test keeping o n Still = test ≡ false
 IsPlanBy test keeping o n (Keeps k) = IsKeptBy test keeping n k
 IsPlanBy test keeping o n (Does p) = IsDoneBy test keeping o n p
 
+-- what a core does with a letter is planned, where this says whether the letter is apt
+abbrev pub IsPlanWhere : Bool → ScriptData → Letter → NodeCore → CorePlan → Type 0
+IsPlanWhere test s l n plan =
+    IsPlanBy test (core_keeping s (core_of n) l.body) (core_row s l.to.0 (core_of n) l.from.0 l.body) n plan
+
 -- what a core does with a letter is planned
 abbrev pub IsPlanOf : ScriptData → Letter → NodeCore → CorePlan → Type 0
-IsPlanOf s l n plan =
-    IsPlanBy (is_core_apt s l.to.0 (core_of n) l) (core_keeping s (core_of n) l.body)
-    (core_row s l.to.0 (core_of n) l.from.0 l.body) n plan
+IsPlanOf s l n plan = IsPlanWhere (is_core_apt s l.to.0 (core_of n) l) s l n plan

@@ -5,6 +5,8 @@ ghost use Rattle.item_versions.specs.Window.{in_window};
 ghost use Rattle.tree_home.specs.HeldAnswers.{held_answers, held_in};
 ghost use Rattle.tree_home.specs.Homes.{open_trees};
 ghost use Rattle.tx_trees.specs.ScriptData.{node_of, sub_at};
+ghost use Rattle.world_model.specs.Epochs.{is_of_coordinator, is_of_forgetting, is_of_remembering};
+ghost use Rattle.world_model.specs.Lossy.{is_lossy};
 ghost use Rattle.world_model.specs.Named.{is_strict_at};
 ghost use Rattle.world_model.specs.Notices.{answer_noted, values_of};
 ghost use Rattle.world_model.specs.Strict.{is_near_answer, is_unheld};
@@ -27,6 +29,55 @@ use tx_trees::{Script, Sub, TreeKind};
 
 /// How many versions a node goes by at a time.
 const VERSIONS: u64 = 3;
+
+/// Whether a letter is of, or to, a coordinator that forgets.
+fn is_of_forgetting(body: &Body) -> bool
+    ensures { result ≡ is_of_forgetting body.now }
+{
+    matches!(
+        body,
+        Body::Lose
+            | Body::AdvanceNo { .. }
+            | Body::Ask { .. }
+            | Body::Numbers { .. }
+            | Body::Wanted { .. }
+            | Body::Order { .. }
+            | Body::Obeyed { .. }
+    )
+}
+
+/// Whether a letter is of, or to, a coordinator that remembers.
+fn is_of_remembering(body: &Body) -> bool
+    ensures { result ≡ is_of_remembering body.now }
+{
+    matches!(
+        body,
+        Body::Advance
+            | Body::Turn { .. }
+            | Body::Show { .. }
+            | Body::Sweep { .. }
+            | Body::Turned { .. }
+            | Body::Shown { .. }
+            | Body::Swept { .. }
+    )
+}
+
+/// Whether a row of the script makes its coordinator forget.
+fn is_lossy(script: &Script) -> bool
+    ensures { result ≡ is_lossy script.now }
+{
+    script.loses() != 0
+}
+
+/// Whether a letter is one that the script's coordinator has.
+pub(crate) fn is_of_coordinator(script: &Script, body: &Body) -> bool
+    ensures { result ≡ is_of_coordinator script.now body.now }
+{
+    if is_lossy(script) {
+        return !is_of_remembering(body);
+    }
+    !is_of_forgetting(body)
+}
 
 /// Whether a version is one of the three that begin with the low version.
 fn is_near(turns: &Turns, version: Version) -> bool

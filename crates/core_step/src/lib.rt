@@ -7,4 +7,5 @@ mod orders;
 mod plan;
 
 pub use meeting::CoreKept;
+pub use orders::is_obeyed_now;
 pub use plan::{CorePlan, plan_core};

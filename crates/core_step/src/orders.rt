@@ -1,28 +1,37 @@
 // What a core does with the coordinator's letters, and with letters that have no row of their own.
 ghost use Rattle.std.specs.Prelude.{◌≡◌, false, IfOk};
-ghost use Rattle.letter_types.specs.declared.bodies.Body.TheVariants.{AskAsked, AskDone, Show, Sweep, Turn};
-ghost use Rattle.strict_step.specs.State.{IsCoreReady};
-ghost use Rattle.core_step.specs.Plans.{IsPlanOf};
-ghost use Rattle.core_step.specs.inside.Apt.{is_own};
+ghost use Rattle.letter_types.specs.declared.bodies.Body.TheVariants.{Ask, AskAsked, AskDone, Numbers, Order};
+ghost use Rattle.world_model.specs.Epochs.{plain_order, is_obeyed_now};
+ghost use Rattle.strict_step.specs.State.{IsCoreReady, core_of};
+ghost use Rattle.core_step.specs.inside.Apt.{IsOwnPlan, is_own};
 ghost use Rattle.core_step.specs.inside.Stays.{of_parts, still_step};
 
 use crate::plan::CorePlan;
-use letter_types::{Boxed, Letter};
-use node_step::{prepare_asked, prepare_done, prepare_show, prepare_sweep, prepare_turn};
+use letter_types::{Body, Boxed, Letter, What};
+use node_step::{
+    plain_answer, prepare_asked, prepare_done, prepare_obeyed, prepare_order, prepare_told,
+    was_obeyed,
+};
+use node_versions::Turns;
 use std::alloc::Global;
 use strict_step::{CorePrepared, HoldChange, NodeCore, VoteChange};
-use tree_step::{Prepared, is_due};
+use tree_step::{Prepared, can_obey};
 use tv_base::{NoMemory, Version};
 use tx_trees::Script;
 
-/// A step of a node's parts, in which locks, noes and held answers stay.
-fn of_parts(alloc: Global, prepared: Prepared) -> Result<Boxed<CorePrepared>, NoMemory>
-    ensures { IfOk result (λ step. step ≡ of_parts prepared) }
+/// A step of a node's parts, in which locks, noes and held answers stay, and the node hears of this epoch, if of one.
+fn of_parts(
+    alloc: Global,
+    prepared: Prepared,
+    epoch: Option<u64>,
+) -> Result<Boxed<CorePrepared>, NoMemory>
+    ensures { IfOk result (λ step. step ≡ of_parts prepared epoch) }
 {
     let prepared = CorePrepared {
         prepared,
         votes: VoteChange::Stay,
         holds: HoldChange::Stay,
+        epoch,
     };
     Ok(Boxed::new(alloc, prepared)?)
 }
@@ -31,7 +40,7 @@ fn of_parts(alloc: Global, prepared: Prepared) -> Result<Boxed<CorePrepared>, No
 pub(crate) fn still_step(alloc: Global) -> Result<Boxed<CorePrepared>, NoMemory>
     ensures { IfOk result (λ step. step ≡ still_step) }
 {
-    let step = of_parts(alloc, Prepared::still(alloc))?;
+    let step = of_parts(alloc, Prepared::still(alloc), None)?;
     Ok(step)
 }
 
@@ -44,7 +53,7 @@ pub(crate) fn plan_other(
 ) -> Result<CorePlan, NoMemory>
     requires ready { IsCoreReady script.now letter.now.to.0 core.now }
     requires other { is_own letter.now.body ≡ false }
-    ensures { IfOk result (IsPlanOf script.now letter.now core.now) }
+    ensures { IfOk result (IsOwnPlan script.now letter.now core.now) }
 {
     let _ = core;
     let _ = letter;
@@ -52,61 +61,93 @@ pub(crate) fn plan_other(
     Ok(CorePlan::Does(still_step(alloc)?))
 }
 
-/// A turn.
-pub(crate) fn plan_turn(
+/// An order of a coordinator that remembers: a turn, a version to show, or a sweep.
+pub(crate) fn plan_plain(
     alloc: Global,
     core: &NodeCore,
     letter: &Letter,
     script: &Script,
+    what: What,
     version: Version,
 ) -> Result<CorePlan, NoMemory>
     requires ready { IsCoreReady script.now letter.now.to.0 core.now }
-    requires body { letter.now.body ≡ Turn version }
-    ensures { IfOk result (IsPlanOf script.now letter.now core.now) }
+    requires body { letter.now.body ≡ plain_order what version }
+    ensures { IfOk result (IsOwnPlan script.now letter.now core.now) }
 {
-    if !is_due(&core.parts, letter, script) {
+    let _ = letter;
+    if !can_obey(&core.parts.turns, what, version) {
         return Ok(CorePlan::Still);
     }
-    let prepared = prepare_turn(alloc, &core.parts, script, version)?;
-    Ok(CorePlan::Does(of_parts(alloc, prepared)?))
+    let answer = plain_answer(what, version);
+    let prepared = prepare_order(alloc, &core.parts, script, what, version, answer)?;
+    Ok(CorePlan::Does(of_parts(alloc, prepared, None)?))
 }
 
-/// A version is shown to reads.
-pub(crate) fn plan_show(
+/// An order of a coordinator that forgets: one of an epoch before the node's is left. Else the node hears of its epoch,
+/// answers, and does what it is ordered, unless it did that before.
+pub(crate) fn plan_order(
     alloc: Global,
     core: &NodeCore,
     letter: &Letter,
     script: &Script,
+    epoch: u64,
+    what: What,
     version: Version,
 ) -> Result<CorePlan, NoMemory>
     requires ready { IsCoreReady script.now letter.now.to.0 core.now }
-    requires body { letter.now.body ≡ Show version }
-    ensures { IfOk result (IsPlanOf script.now letter.now core.now) }
+    requires body { letter.now.body ≡ Order epoch what version }
+    ensures { IfOk result (IsOwnPlan script.now letter.now core.now) }
 {
-    if !is_due(&core.parts, letter, script) {
+    let _ = letter;
+    if epoch < core.epoch {
+        return Ok(CorePlan::Does(still_step(alloc)?));
+    }
+    if !can_obey(&core.parts.turns, what, version) {
         return Ok(CorePlan::Still);
     }
-    let prepared = prepare_show(alloc, &core.parts, script, version)?;
-    Ok(CorePlan::Does(of_parts(alloc, prepared)?))
+    let prepared = prepare_obeyed(alloc, &core.parts, script, epoch, what, version)?;
+    Ok(CorePlan::Does(of_parts(alloc, prepared, Some(epoch))?))
 }
 
-/// A sweep.
-pub(crate) fn plan_sweep(
+/// Whether an order of a coordinator that forgets takes effect: it isn't of an epoch before the node's, and wasn't obeyed
+/// before.
+pub fn is_obeyed_now(core: &NodeCore, epoch: u64, what: What, version: Version) -> bool
+    ensures { result ≡ is_obeyed_now epoch what version (core_of core.now) }
+{
+    epoch >= core.epoch && !was_obeyed(&core.parts, what, version)
+}
+
+/// What a node of these versions tells a coordinator that has forgotten.
+fn numbers(epoch: u64, turns: &Turns) -> Body
+    ensures { result ≡ Numbers epoch turns.now.update turns.now.read turns.now.low }
+{
+    Body::Numbers {
+        epoch,
+        update: turns.update,
+        read: turns.read,
+        low: turns.low,
+    }
+}
+
+/// A coordinator that has forgotten asks for a node's versions: it is told, unless it asks in an epoch before the node's.
+pub(crate) fn plan_ask(
     alloc: Global,
     core: &NodeCore,
     letter: &Letter,
     script: &Script,
-    version: Version,
+    epoch: u64,
 ) -> Result<CorePlan, NoMemory>
     requires ready { IsCoreReady script.now letter.now.to.0 core.now }
-    requires body { letter.now.body ≡ Sweep version }
-    ensures { IfOk result (IsPlanOf script.now letter.now core.now) }
+    requires body { letter.now.body ≡ Ask epoch }
+    ensures { IfOk result (IsOwnPlan script.now letter.now core.now) }
 {
-    if !is_due(&core.parts, letter, script) {
-        return Ok(CorePlan::Still);
+    let _ = letter;
+    if epoch >= core.epoch {
+        let answer = numbers(epoch, &core.parts.turns);
+        let told = prepare_told(alloc, &core.parts, script, answer)?;
+        return Ok(CorePlan::Does(of_parts(alloc, told, Some(epoch))?));
     }
-    let prepared = prepare_sweep(alloc, &core.parts, script, version)?;
-    Ok(CorePlan::Does(of_parts(alloc, prepared)?))
+    Ok(CorePlan::Does(still_step(alloc)?))
 }
 
 /// A node tells its completions of a version.
@@ -120,11 +161,11 @@ pub(crate) fn plan_done_row(
 ) -> Result<CorePlan, NoMemory>
     requires ready { IsCoreReady script.now letter.now.to.0 core.now }
     requires body { letter.now.body ≡ AskDone version round }
-    ensures { IfOk result (IsPlanOf script.now letter.now core.now) }
+    ensures { IfOk result (IsOwnPlan script.now letter.now core.now) }
 {
     let _ = letter;
     let prepared = prepare_done(alloc, &core.parts, script, version, round)?;
-    Ok(CorePlan::Does(of_parts(alloc, prepared)?))
+    Ok(CorePlan::Does(of_parts(alloc, prepared, None)?))
 }
 
 /// A node tells its requests of a version.
@@ -138,9 +179,9 @@ pub(crate) fn plan_asked_row(
 ) -> Result<CorePlan, NoMemory>
     requires ready { IsCoreReady script.now letter.now.to.0 core.now }
     requires body { letter.now.body ≡ AskAsked version round }
-    ensures { IfOk result (IsPlanOf script.now letter.now core.now) }
+    ensures { IfOk result (IsOwnPlan script.now letter.now core.now) }
 {
     let _ = letter;
     let prepared = prepare_asked(alloc, &core.parts, script, version, round)?;
-    Ok(CorePlan::Does(of_parts(alloc, prepared)?))
+    Ok(CorePlan::Does(of_parts(alloc, prepared, None)?))
 }

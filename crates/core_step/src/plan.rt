@@ -4,6 +4,7 @@ ghost use Rattle.letter_types.specs.declared.bodies.Body.TheVariants.{Decide, De
 ghost use Rattle.tree_home.specs.HeldAnswers.{held_answers};
 ghost use Rattle.tx_trees.specs.declared.parts.TreeKind.TheVariants.{Read, Strict, Update};
 ghost use Rattle.world_model.specs.Asked.{asked_ops};
+ghost use Rattle.world_model.specs.Epochs.{is_of_coordinator};
 ghost use Rattle.world_model.specs.Named.{tree_kind_at};
 ghost use Rattle.world_model.specs.Reads.{can_read};
 ghost use Rattle.world_model.specs.Strict.{core_by_kind, is_unheld, kept_by_kind, meets, read_core, strict_core, update_core};
@@ -13,14 +14,16 @@ ghost use Rattle.tree_step.specs.Node.{data_of};
 ghost use Rattle.strict_step.specs.State.{IsCoreReady, core_of};
 ghost use Rattle.core_step.specs.Plans.{IsPlanBy, IsPlanOf};
 ghost use Rattle.core_step.specs.declared.plan.CorePlan.TheVariants.{Does};
-ghost use Rattle.core_step.specs.inside.Apt.{asks_a_sub, makes_by, tree_apt};
+ghost use Rattle.core_step.specs.inside.Apt.{IsOwnPlan, asks_a_sub, makes_by, tree_apt};
 
-use crate::due::{acked_apt, decide_apt, decides_near, is_free, release_apt, wake_apt};
+use crate::due::{
+    acked_apt, decide_apt, decides_near, is_free, is_of_coordinator, release_apt, wake_apt,
+};
 use crate::meeting::{CoreKept, meets, parked, root_waiting, waits_for_show};
 use crate::orders::{
-    plan_asked_row, plan_done_row, plan_other, plan_show, plan_sweep, plan_turn, still_step,
+    plan_ask, plan_asked_row, plan_done_row, plan_order, plan_other, plan_plain, still_step,
 };
-use letter_types::{Body, Boxed, Letter, Notice};
+use letter_types::{Body, Boxed, Letter, Notice, What};
 use nc_commit::Decision;
 use nc_locks::Met;
 use std::alloc::Global;
@@ -230,7 +233,7 @@ fn plan_note(
     requires body { letter.now.body ≡ Done request.tree request.sub request.version notice.now }
     requires from { request.from.0 ≡ letter.now.from.0 }
     // What is planned.
-    ensures { IfOk result (IsPlanOf script.now letter.now core.now) }
+    ensures { IfOk result (IsOwnPlan script.now letter.now core.now) }
 {
     if !is_due(&core.parts, letter, script) {
         return Ok(CorePlan::Still);
@@ -254,7 +257,7 @@ fn plan_decide(
     requires ready { IsCoreReady script.now letter.now.to.0 core.now }
     requires body { letter.now.body ≡ Decide decision.tree decision.version decision.commit }
     // What is planned.
-    ensures { IfOk result (IsPlanOf script.now letter.now core.now) }
+    ensures { IfOk result (IsOwnPlan script.now letter.now core.now) }
 {
     if !decide_apt(core, letter, script, decision) {
         return Ok(CorePlan::Still);
@@ -278,7 +281,7 @@ fn plan_acked(
     requires ready { IsCoreReady script.now letter.now.to.0 core.now }
     requires body { letter.now.body ≡ Decided tree version }
     // What is planned.
-    ensures { IfOk result (IsPlanOf script.now letter.now core.now) }
+    ensures { IfOk result (IsOwnPlan script.now letter.now core.now) }
 {
     if !acked_apt(core, letter, script, tree, version) {
         return Ok(CorePlan::Still);
@@ -300,7 +303,7 @@ fn plan_release(
     requires ready { IsCoreReady script.now letter.now.to.0 core.now }
     requires body { letter.now.body ≡ Release tree }
     // What is planned.
-    ensures { IfOk result (IsPlanOf script.now letter.now core.now) }
+    ensures { IfOk result (IsOwnPlan script.now letter.now core.now) }
 {
     if !release_apt(script, letter.to, tree) {
         return Ok(CorePlan::Still);
@@ -322,7 +325,7 @@ fn plan_wake(
     requires ready { IsCoreReady script.now letter.now.to.0 core.now }
     requires body { letter.now.body ≡ Wake tree sub }
     // What is planned.
-    ensures { IfOk result (IsPlanOf script.now letter.now core.now) }
+    ensures { IfOk result (IsOwnPlan script.now letter.now core.now) }
 {
     if !wake_apt(script, letter.to, tree, sub) {
         return Ok(CorePlan::Still);
@@ -330,16 +333,16 @@ fn plan_wake(
     Ok(CorePlan::Does(still_step(alloc)?))
 }
 
-/// What a core does with a letter: nothing where it isn't apt; else it keeps the letter where it has to, and does its row
-/// where not (docs/ALGORITHM.md, "Nodes with strict trees").
-pub fn plan_core(
+/// What a core does with a letter that the script's coordinator has.
+#[inline(always)]
+fn plan_own(
     alloc: Global,
     core: &NodeCore,
     letter: &Letter,
     script: &Script,
 ) -> Result<CorePlan, NoMemory>
     requires { IsCoreReady script.now letter.now.to.0 core.now }
-    ensures { IfOk result (IsPlanOf script.now letter.now core.now) }
+    ensures { IfOk result (IsOwnPlan script.now letter.now core.now) }
 {
     match &letter.body {
         Body::Root { tree } => plan_tree(alloc, core, letter, script, *tree),
@@ -373,9 +376,15 @@ pub fn plan_core(
         Body::Decided { tree, version } => plan_acked(alloc, core, letter, script, *tree, *version),
         Body::Release { tree } => plan_release(alloc, core, letter, script, *tree),
         Body::Wake { tree, sub } => plan_wake(alloc, core, letter, script, *tree, *sub),
-        Body::Turn { version } => plan_turn(alloc, core, letter, script, *version),
-        Body::Show { version } => plan_show(alloc, core, letter, script, *version),
-        Body::Sweep { version } => plan_sweep(alloc, core, letter, script, *version),
+        Body::Turn { version } => plan_plain(alloc, core, letter, script, What::Turn, *version),
+        Body::Show { version } => plan_plain(alloc, core, letter, script, What::Show, *version),
+        Body::Sweep { version } => plan_plain(alloc, core, letter, script, What::Sweep, *version),
+        Body::Order {
+            epoch,
+            what,
+            version,
+        } => plan_order(alloc, core, letter, script, *epoch, *what, *version),
+        Body::Ask { epoch } => plan_ask(alloc, core, letter, script, *epoch),
         Body::AskDone { version, round } => {
             plan_done_row(alloc, core, letter, script, *version, *round)
         }
@@ -384,4 +393,21 @@ pub fn plan_core(
         }
         _ => plan_other(alloc, core, letter, script),
     }
+}
+
+/// What a core does with a letter: nothing where it isn't apt; else it keeps the letter where it has to, and does its row
+/// where not (docs/ALGORITHM.md, "Nodes with strict trees").
+pub fn plan_core(
+    alloc: Global,
+    core: &NodeCore,
+    letter: &Letter,
+    script: &Script,
+) -> Result<CorePlan, NoMemory>
+    requires { IsCoreReady script.now letter.now.to.0 core.now }
+    ensures { IfOk result (IsPlanOf script.now letter.now core.now) }
+{
+    if !is_of_coordinator(script, &letter.body) {
+        return Ok(CorePlan::Still);
+    }
+    plan_own(alloc, core, letter, script)
 }

@@ -18,7 +18,7 @@ use Rattle.tree_step.specs.declared.change.Change.TheVariants.{Still, Tree, Turn
 use Rattle.tree_step.specs.declared.change.TreeChange.{TreeChange}
 use Rattle.tree_step.specs.declared.counting.Counting.{Counting}
 use Rattle.tree_step.specs.declared.node.NodeParts.{NodeParts}
-use Rattle.strict_step.specs.Changes.{MayAsk, MayDoCore, after_core_change, asked_with, core_prepared_row, holds_with, locks_with, refusals_with}
+use Rattle.strict_step.specs.Changes.{MayAsk, MayDoCore, after_core_change, asked_with, core_prepared_row, epoch_with, holds_with, locks_with, refusals_with}
 use Rattle.strict_step.specs.State.{IsApart, core_of}
 use Rattle.strict_step.specs.declared.change.CorePrepared.{CorePrepared}
 use Rattle.strict_step.specs.declared.state.NodeCore.{NodeCore}
@@ -88,6 +88,7 @@ core_by p c st = record {
   locks = locks_with p.votes c.locks;
   holds = holds_with p.holds c.holds;
   refusals = refusals_with p.votes c.refusals;
+  epoch = epoch_with p.epoch c.epoch;
 }
 
 -- so the core afterwards is the same

@@ -1,10 +1,13 @@
 -- What a letter that is done wakes.
-use Rattle.std.proofs.Common.{◌≡◌, ℕ, Bool, true, false, List, [], ◌∷◌, ◌++◌, refl, sym, ap, ◌∙◌, cond, Some}
+use Rattle.std.proofs.Common.{◌≡◌, ◌&&◌, ℕ, Bool, true, false, List, [], ◌∷◌, ◌++◌, refl, sym, ap, ◌∙◌, cond, Some}
+use Rattle.std.specs.Prelude.{if◌then◌else◌}
 use Rattle.std.proofs.lemmas.List.{append-nil}
 use Rattle.tv_base.specs.declared.numbers.SubNo.{SubNo}
 use Rattle.tv_base.specs.declared.numbers.TreeNo.{TreeNo}
+use Rattle.tv_base.specs.declared.numbers.Version.{Version}
 use Rattle.letter_types.specs.declared.bodies.Body.{Body}
-use Rattle.letter_types.specs.declared.bodies.Body.TheVariants.{Root, Sub as SubLetter, Wake}
+use Rattle.letter_types.specs.declared.bodies.Body.TheVariants.{Root, Sub as SubLetter, Wake, Order}
+use Rattle.letter_types.specs.declared.bodies.What.{What}
 use Rattle.letter_types.specs.declared.entries.Letter.{Letter}
 use Rattle.letter_types.specs.declared.entries.Outgoing.{Outgoing}
 use Rattle.letter_types.specs.declared.kept.KeptLetter.{KeptLetter}
@@ -14,8 +17,9 @@ use Rattle.letter_types.specs.Kept.{brought, first_called, kept_without, wakes, 
 use Rattle.letter_types.specs.Steps.{Out}
 use Rattle.kept_letters.proofs.Calling.{none_called, none_woken}
 use Rattle.world_model.specs.Core.{Core}
-use Rattle.world_model.specs.Keeping.{AreKeptAt, AsksFor, KeepingNode}
-use Rattle.node_keeping.specs.inside.Bringing.{done_out, waking_out}
+use Rattle.world_model.specs.Epochs.{plain_order, is_obeyed_now}
+use Rattle.world_model.specs.Keeping.{AreKeptAt, AsksFor, KeepingNode, woken_by}
+use Rattle.node_keeping.specs.inside.Bringing.{done_out, waking_order, waking_out}
 use Rattle.node_keeping.proofs.Brought.{called_at}
 
 -- where no Wake is sent all stay as they are
@@ -40,10 +44,11 @@ silent b n o none =
     λ i. record { state = record { core = o.state; kept = sym kept i }; sent = sym sent i; acts = o.acts }
 
 -- a letter that may be kept wakes none
-asking_wakes_none : (t : TreeNo) (k : SubNo) (b : Body) → AsksFor t k b → (why : Why) → wakes_by b why ≡ false
-asking_wakes_none t k (Root u) asks why = refl
-asking_wakes_none t k (SubLetter u j v) asks why = refl
-asking_wakes_none t k _ asks why = absurd asks
+asking_wakes_none : (c : Core) (t : TreeNo) (k : SubNo) (b : Body) → AsksFor t k b → (why : Why)
+    → woken_by c b why ≡ false
+asking_wakes_none c t k (Root u) asks why = refl
+asking_wakes_none c t k (SubLetter u j v) asks why = refl
+asking_wakes_none c t k _ asks why = absurd asks
 
 -- so where a Wake brought it, it only goes
 pub wake_done : (p : ℕ) (t : TreeNo) (k : SubNo) (l r : Letter) (n : KeepingNode) (o : Out Core) → l.body ≡ Wake t k
@@ -53,12 +58,12 @@ pub wake_done : (p : ℕ) (t : TreeNo) (k : SubNo) (l r : Letter) (n : KeepingNo
 wake_done p t k l r n o wake at is =
     let first : first_called t k n.kept ≡ Some r = sym (ap (λ (b : Body). brought n.kept l b) wake) ∙ is in
     let asks = (called_at p t k n.kept r at first).asks in
-    let off = asking_wakes_none t k r.body asks in
+    let off = asking_wakes_none n.core t k r.body asks in
     let rest : kept_without n.kept l.body ≡ without_called t k n.kept = ap (λ (b : Body). kept_without n.kept b) wake in
-    let kept : with_called (wakes_by r.body) (kept_without n.kept l.body) ≡ without_called t k n.kept =
-    none_called (wakes_by r.body) (kept_without n.kept l.body) off ∙ rest in
-    let sent : o.sent ++ wakes (wakes_by r.body) (kept_without n.kept l.body) ≡ o.sent =
-    ap (λ (ls : List Outgoing). o.sent ++ ls) (none_woken (wakes_by r.body) (kept_without n.kept l.body) off)
+    let kept : with_called (woken_by n.core r.body) (kept_without n.kept l.body) ≡ without_called t k n.kept =
+    none_called (woken_by n.core r.body) (kept_without n.kept l.body) off ∙ rest in
+    let sent : o.sent ++ wakes (woken_by n.core r.body) (kept_without n.kept l.body) ≡ o.sent =
+    ap (λ (ls : List Outgoing). o.sent ++ ls) (none_woken (woken_by n.core r.body) (kept_without n.kept l.body) off)
     ∙ append-nil o.sent in
     λ i. record { state = record { core = o.state; kept = sym kept i }; sent = sym sent i; acts = o.acts }
 
@@ -76,13 +81,45 @@ stays_by : (kept : List KeptLetter) (b : Body) → is_wake b ≡ false → kept_
 stays_by kept (Wake t k) off = let no : true ≡ false = off in cc
 stays_by kept _ off = refl
 
-pub itself_done : (l r : Letter) (n : KeepingNode) (o : Out Core) → is_wake l.body ≡ false
-    → brought n.kept l l.body ≡ Some r → waking_out l.body n o ≡ done_out l r n o
-itself_done l r n o off is =
-    let same = itself_by n.kept l r l.body off is in
+-- and wakes what this letter does, if that is the same
+waking_done : (b : Body) (l r : Letter) (n : KeepingNode) (o : Out Core) → is_wake l.body ≡ false
+    → brought n.kept l l.body ≡ Some r → wakes_by b ≡ woken_by n.core l.body → waking_out b n o ≡ done_out l r n o
+waking_done b l r n o off is same =
+    let itself = itself_by n.kept l r l.body off is in
     let stays = stays_by n.kept l.body off in
+    let woken = same ∙ ap (λ (m : Letter). woken_by n.core m.body) itself in
     λ i. record {
-      state = record { core = o.state; kept = with_called (wakes_by (same i).body) (sym stays i) };
-      sent = o.sent ++ wakes (wakes_by (same i).body) (sym stays i);
+      state = record { core = o.state; kept = with_called (woken i) (sym stays i) };
+      sent = o.sent ++ wakes (woken i) (sym stays i);
       acts = o.acts;
     }
+
+-- an order of a coordinator that forgets wakes what the order does for which it stands, if it takes effect
+abbrev pub is_order : Body → Bool
+is_order (Order e what v) = true
+is_order (Root t) = false
+is_order _ = false
+
+order_wakes : (e : ℕ) (what : What) (v : Version) (c : Core)
+    → wakes_by (waking_order e what v c) ≡ woken_by c (Order e what v)
+order_wakes e what v c = by (is_obeyed_now e what v c) where
+  by : (b : Bool)
+      → wakes_by (if b then plain_order what v else Order e what v) ≡ (λ (w : Why). b && wakes_by (plain_order what v) w)
+  by true = refl
+  by false = refl
+
+pub order_done : (e : ℕ) (what : What) (v : Version) (l r : Letter) (n : KeepingNode) (o : Out Core)
+    → l.body ≡ Order e what v → brought n.kept l l.body ≡ Some r
+    → waking_out (waking_order e what v n.core) n o ≡ done_out l r n o
+order_done e what v l r n o is brings =
+    waking_done (waking_order e what v n.core) l r n o (ap (λ (b : Body). is_wake b) is) brings
+    (order_wakes e what v n.core ∙ sym (ap (λ (b : Body). woken_by n.core b) is))
+
+-- any other wakes what it wakes by itself
+plain_wakes : (c : Core) (b : Body) → is_order b ≡ false → wakes_by b ≡ woken_by c b
+plain_wakes c (Order e what v) off = let no : true ≡ false = off in cc
+plain_wakes c _ off = refl
+
+pub itself_done : (l r : Letter) (n : KeepingNode) (o : Out Core) → is_wake l.body ≡ false → is_order l.body ≡ false
+    → brought n.kept l l.body ≡ Some r → waking_out l.body n o ≡ done_out l r n o
+itself_done l r n o off plain is = waking_done l.body l r n o off is (plain_wakes n.core l.body plain)

@@ -7,16 +7,17 @@ ghost use Rattle.strict_step.specs.State.{core_of};
 ghost use Rattle.core_step.specs.Plans.{RaisesNear, kept_core};
 ghost use Rattle.node_keeping.specs.Changes.{IsKeepingStepOf, IsSettled};
 ghost use Rattle.node_keeping.specs.State.{IsKeepingReady, keeping_of};
-ghost use Rattle.node_keeping.specs.inside.Bringing.{IsBroughtBy, done_out, keep_by, kept_out, sent_behind, waking_out};
+ghost use Rattle.world_model.specs.Epochs.{plain_order};
+ghost use Rattle.node_keeping.specs.inside.Bringing.{IsBroughtBy, done_out, keep_by, kept_out, sent_behind, waking_order, waking_out};
 
 use crate::change::{Keep, KeepingPrepared, KeptChange};
 use crate::state::KeepingParts;
-use core_step::{CoreKept, CorePlan, plan_core};
-use letter_types::{Body, Boxed, KeptLetter, Letter, Letters, StepOut, Why};
+use core_step::{CoreKept, CorePlan, is_obeyed_now, plan_core};
+use letter_types::{Body, Boxed, KeptLetter, Letter, Letters, StepOut, What, Why};
 use std::alloc::Global;
-use strict_step::CorePrepared;
+use strict_step::{CorePrepared, NodeCore};
 use tree_step::Prepared;
-use tv_base::{NoMemory, SubNo, TreeNo};
+use tv_base::{NoMemory, SubNo, TreeNo, Version};
 use tx_trees::Script;
 
 /// A copy of a letter.
@@ -110,6 +111,7 @@ fn send_behind(
         prepared: Prepared { change, out },
         votes,
         holds,
+        epoch,
     } = prepared.into_inner();
     let StepOut { sent, acts } = out;
     let mut sent = sent;
@@ -124,6 +126,7 @@ fn send_behind(
             prepared,
             votes,
             holds,
+            epoch,
         },
     )?;
     Ok(new)
@@ -170,6 +173,32 @@ fn prepare_waking(
     })
 }
 
+/// The order of a coordinator that remembers.
+fn plain_order(what: What, version: Version) -> Body
+    ensures { result ≡ plain_order what version }
+{
+    match what {
+        What::Turn => Body::Turn { version },
+        What::Show => Body::Show { version },
+        What::Sweep => Body::Sweep { version },
+    }
+}
+
+/// A letter that wakes what an order of a coordinator that forgets does: the one for which the order stands, if it takes
+/// effect, and else the order, which as a letter wakes none.
+fn waking_order(core: &NodeCore, epoch: u64, what: What, version: Version) -> Body
+    ensures { result ≡ waking_order epoch what version (core_of core.now) }
+{
+    if is_obeyed_now(core, epoch, what, version) {
+        return plain_order(what, version);
+    }
+    Body::Order {
+        epoch,
+        what,
+        version,
+    }
+}
+
 /// Prepares that what a letter brought is done.
 fn prepare_does(
     alloc: Global,
@@ -194,6 +223,14 @@ fn prepare_does(
                 sub: *sub,
             },
         }),
+        Body::Order {
+            epoch,
+            what,
+            version,
+        } => {
+            let body = waking_order(&node.core, *epoch, *what, *version);
+            prepare_waking(alloc, node, &body, prepared)
+        }
         _ => prepare_waking(alloc, node, &letter.body, prepared),
     }
 }

@@ -3,4 +3,7 @@
 
 mod orders;
 
-pub use orders::{prepare_asked, prepare_done, prepare_show, prepare_sweep, prepare_turn};
+pub use orders::{
+    plain_answer, prepare_asked, prepare_done, prepare_obeyed, prepare_order, prepare_told,
+    was_obeyed,
+};

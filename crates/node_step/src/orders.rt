@@ -1,15 +1,15 @@
 // What a node does with the coordinator's letters.
-ghost use Rattle.std.specs.Prelude.{◌≡◌, nat_le, nat_lt, ◌+◌, IfOk, IsTrue};
-ghost use Rattle.item_versions.specs.Window.{in_window};
-ghost use Rattle.letter_types.specs.declared.bodies.Body.TheVariants.{Sweep};
-ghost use Rattle.world_model.specs.Named.{is_timely};
-ghost use Rattle.tree_step.specs.Changes.{IsNodeStepOf};
+ghost use Rattle.std.specs.Prelude.{◌≡◌, nat_lt, IfOk, IsTrue};
+ghost use Rattle.world_model.specs.Advancing.{asked_row, done_row, to_coordinator};
 ghost use Rattle.world_model.specs.Done.{turned_if};
+ghost use Rattle.world_model.specs.Epochs.{was_obeyed};
+ghost use Rattle.tree_step.specs.Changes.{IsNodeStepOf};
+ghost use Rattle.tree_step.specs.Due.{can_obey};
 ghost use Rattle.tree_step.specs.Node.{data_of, CanStep};
-ghost use Rattle.world_model.specs.Advancing.{asked_row, done_row, show_row, sweep_row, to_coordinator, turn_row};
-ghost use Rattle.node_step.specs.inside.Advancing.{acts_if};
+ghost use Rattle.node_step.specs.Orders.{obeyed_row, ordered_row, plain_answer, told_row};
+ghost use Rattle.node_step.specs.inside.Advancing.{acts_if, order_acts, order_change};
 
-use letter_types::{Act, Acts, Body, StepOut, one_letter};
+use letter_types::{Act, Acts, Body, StepOut, What, one_letter};
 use node_versions::Turns;
 use std::alloc::Global;
 use tree_step::{Change, NodeParts, Prepared};
@@ -57,56 +57,109 @@ fn turn_act(turns: &Turns, version: Version) -> Option<Act>
     None
 }
 
-/// Prepares a turn: the update version is raised where it is less.
-pub fn prepare_turn(
+/// The act of an order, if there is one.
+fn order_act(turns: &Turns, what: What, version: Version) -> Option<Act>
+    ensures { acts_if result ≡ order_acts what version turns.now }
+{
+    match what {
+        What::Turn => turn_act(turns, version),
+        What::Show => Some(Act::Showed { version }),
+        What::Sweep => Some(Act::Swept { version }),
+    }
+}
+
+/// What a node does by an order.
+fn order_change(what: What, version: Version) -> Change
+    ensures { result ≡ order_change what version }
+{
+    match what {
+        What::Turn => Change::Turn(version),
+        What::Show => Change::Show(version),
+        What::Sweep => Change::Sweep(version),
+    }
+}
+
+/// What a coordinator that remembers is answered.
+pub fn plain_answer(what: What, version: Version) -> Body
+    ensures { result ≡ plain_answer what version }
+{
+    match what {
+        What::Turn => Body::Turned { version },
+        What::Show => Body::Shown { version },
+        What::Sweep => Body::Swept { version },
+    }
+}
+
+/// Prepares that a node does what it is ordered, and answers this: the update version is raised where it is less; or a
+/// version is shown to reads; or every item is collected to a version, which is the low version then, and what was
+/// counted of older ones goes.
+pub fn prepare_order(
     alloc: Global,
     node: &NodeParts,
     script: &Script,
+    what: What,
     version: Version,
+    answer: Body,
 ) -> Result<Prepared, NoMemory>
     requires ready { CanStep script.now node.now }
-    requires near { IsTrue (nat_le version.0 (node.now.turns.low.0 + 2)) }
-    ensures { IfOk result (IsNodeStepOf (turn_row script.now version (data_of node.now)) node.now) }
+    requires can { IsTrue (can_obey what version node.now.turns) }
+    ensures { IfOk result (IsNodeStepOf (ordered_row script.now what version answer (data_of node.now)) node.now) }
 {
-    let act = turn_act(&node.turns, version);
-    let change = Change::Turn(version);
-    let prepared = answering(alloc, script, change, Body::Turned { version }, act)?;
+    let act = order_act(&node.turns, what, version);
+    let change = order_change(what, version);
+    let prepared = answering(alloc, script, change, answer, act)?;
     Ok(prepared)
 }
 
-/// Prepares that a version is shown to reads.
-pub fn prepare_show(
+/// Prepares that a node stays as it is, and tells the coordinator this.
+pub fn prepare_told(
     alloc: Global,
     node: &NodeParts,
     script: &Script,
-    version: Version,
+    answer: Body,
 ) -> Result<Prepared, NoMemory>
-    requires ready { CanStep script.now node.now }
-    requires near { IsTrue (in_window node.now.turns.low.0 version.0) }
-    ensures { IfOk result (IsNodeStepOf (show_row script.now version (data_of node.now)) node.now) }
+    requires { CanStep script.now node.now }
+    ensures { IfOk result (IsNodeStepOf (told_row script.now answer (data_of node.now)) node.now) }
 {
-    let act = Some(Act::Showed { version });
-    let change = Change::Show(version);
-    let prepared = answering(alloc, script, change, Body::Shown { version }, act)?;
+    let _ = node;
+    let prepared = answering(alloc, script, Change::Still, answer, None)?;
     Ok(prepared)
 }
 
-/// Prepares a sweep: every item is collected to a version, which is the low version then, and what was counted of older
-/// ones goes.
-pub fn prepare_sweep(
+/// Whether an order was obeyed before: the version that it raises isn't less.
+pub fn was_obeyed(node: &NodeParts, what: What, version: Version) -> bool
+    ensures { result ≡ was_obeyed what version (data_of node.now) }
+{
+    match what {
+        What::Turn => node.turns.update.0 >= version.0,
+        What::Show => node.turns.read.0 >= version.0,
+        What::Sweep => node.turns.low.0 >= version.0,
+    }
+}
+
+/// Prepares that a node obeys an order of a coordinator that forgets, of this epoch: it does what it is ordered, unless it
+/// did that before, and answers either way.
+pub fn prepare_obeyed(
     alloc: Global,
     node: &NodeParts,
     script: &Script,
+    epoch: u64,
+    what: What,
     version: Version,
 ) -> Result<Prepared, NoMemory>
     requires ready { CanStep script.now node.now }
-    requires left { IsTrue (is_timely script.now (data_of node.now) (Sweep version)) }
-    ensures { IfOk result (IsNodeStepOf (sweep_row script.now version (data_of node.now)) node.now) }
+    requires can { IsTrue (can_obey what version node.now.turns) }
+    ensures { IfOk result (IsNodeStepOf (obeyed_row script.now epoch what version (data_of node.now)) node.now) }
 {
-    let act = Some(Act::Swept { version });
-    let change = Change::Sweep(version);
-    let prepared = answering(alloc, script, change, Body::Swept { version }, act)?;
-    Ok(prepared)
+    let answer = Body::Obeyed {
+        epoch,
+        what,
+        version,
+    };
+    if was_obeyed(node, what, version) {
+        return prepare_told(alloc, node, script, answer);
+    }
+    prepare_order(alloc, node, script, what, version, answer)
 }
 
 /// Prepares that a node tells its completions of a version by sender, in answer to a round.

@@ -2,6 +2,7 @@
 use Rattle.std.specs.Prelude.{◌≡◌, [], ◌∷◌, ◌++◌, reverse}
 use Rattle.letter_types.specs.declared.entries.Entry.{Entry}
 use Rattle.letter_types.specs.declared.entries.Outgoing.{Outgoing}
+use Rattle.run_laws.specs.Given.{IsGivenAnew}
 use Rattle.run_laws.specs.Quiet.{IsGivenInQuiet}
 use Rattle.tx_trees.specs.ScriptData.{ScriptData}
 use Rattle.world_core.specs.Actors.{WorldData}
@@ -11,3 +12,8 @@ use Rattle.world_model.specs.Counts.{Each}
 abbrev pub GaveInQuiet : ScriptData → WorldData → WorldData → Type 0
 GaveInQuiet s old new = (e : Entry) → new.history ≡ old.history ++ e ∷ []
     → Each (λ (o : Outgoing). IsGivenInQuiet s (reverse old.history) o.body) e.sent
+
+-- what it tells nodes to show, or to sweep to, they were told before, or it tells them in quiet
+abbrev pub GaveAnew : ScriptData → WorldData → WorldData → Type 0
+GaveAnew s old new = (e : Entry) → new.history ≡ old.history ++ e ∷ []
+    → Each (λ (o : Outgoing). IsGivenAnew s (reverse old.history) o.body) e.sent

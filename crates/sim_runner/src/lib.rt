@@ -7,7 +7,7 @@ mod pickers;
 mod picks;
 mod simulation;
 
-pub use laws::{worlds_are_balanced, worlds_give_in_quiet};
+pub use laws::{worlds_are_balanced, worlds_give_before_or_in_quiet, worlds_give_in_quiet};
 pub use pickers::{Hold, Newest, Picker, Starve};
 pub use picks::Picks;
 pub use simulation::{simulate, simulate_by};

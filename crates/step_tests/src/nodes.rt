@@ -80,6 +80,7 @@ fn keeping_for(
         parts: node_for(alloc, script, letter, read)?,
         locks: Locks::new(alloc),
         refusals: Refusals::new(alloc),
+        epoch: 0,
     };
     Ok(KeepingParts {
         core,

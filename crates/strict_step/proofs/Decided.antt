@@ -94,6 +94,7 @@ pub decide_ready : (s : ScriptData) (p : ℕ) (from : NodeNo) (t : TreeNo) (v : 
       };
       votes = Free t;
       holds = holds.Stay;
+      epoch = None;
     }) (core_of n)
     ≡ decide_core s p from.0 t v commit (core_of n)
 decide_ready s p from t v commit n staged home out items at letters acts =
@@ -254,6 +255,7 @@ pub decide_step : (s : ScriptData) (p : ℕ) (from : NodeNo) (t : TreeNo) (v : V
       };
       votes = Free t;
       holds = holds.Stay;
+      epoch = None;
     })
 decide_step s p from t v commit n staged home out ready near held items at there letters acts =
     let low = n.parts.turns.low.0 in

@@ -85,6 +85,7 @@ decided_change part votes a nodes out = record {
   prepared = record { change = part.prepared.change; out = out };
   votes = votes;
   holds = Hold a nodes;
+  epoch = None;
 }
 
 -- it is the row
@@ -117,6 +118,7 @@ decided_ready s part votes n a commit nodes out counted known names letters told
         locks = locks_with votes n.locks;
         holds = held i;
         refusals = refusals_with votes (by_tree n.refusals);
+        epoch = n.epoch;
       };
       sent = sent i;
       acts = done i;

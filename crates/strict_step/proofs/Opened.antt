@@ -18,7 +18,7 @@ use Rattle.tree_step.specs.declared.change.Change.TheVariants.{Still, Tree, Turn
 use Rattle.tree_step.specs.declared.change.HomeChange.{HomeChange}
 use Rattle.tree_step.specs.declared.change.HomeChange.TheVariants.{Stay, Open, Note, Forget}
 use Rattle.tree_step.specs.declared.node.NodeParts.{NodeParts}
-use Rattle.strict_step.specs.Changes.{MayAsk, after_parts_change, asked_with, core_prepared_row, holds_with, locks_with, refusals_with}
+use Rattle.strict_step.specs.Changes.{MayAsk, after_parts_change, asked_with, core_prepared_row, epoch_with, holds_with, locks_with, refusals_with}
 use Rattle.strict_step.specs.State.{core_of}
 use Rattle.strict_step.specs.declared.change.CorePrepared.{CorePrepared}
 use Rattle.strict_step.specs.declared.change.HoldChange.{HoldChange}
@@ -117,6 +117,7 @@ core_in_parts p o n h is begin held =
         locks = locks_with p.votes n.locks;
         holds = holds_with p.holds (by_tree (held i));
         refusals = refusals_with p.votes (by_tree n.refusals);
+        epoch = epoch_with p.epoch n.epoch;
       };
       sent = (row i).sent;
       acts = (row i).acts;

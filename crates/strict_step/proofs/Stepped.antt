@@ -23,11 +23,12 @@ use Rattle.tree_step.specs.declared.change.Change.TheVariants.{Still, Tree, Turn
 use Rattle.tree_step.specs.declared.change.Prepared.{Prepared}
 use Rattle.letter_types.specs.declared.entries.Outgoing.{Outgoing}
 use Rattle.tree_step.specs.declared.node.NodeParts.{NodeParts}
-use Rattle.strict_step.specs.Changes.{asked_with, core_prepared_row, holds_with, locks_with, numbers_of_nodes, refusals_with}
+use Rattle.strict_step.specs.Changes.{MayDoCore, asked_with, core_prepared_row, epoch_with, holds_with, locks_with, numbers_of_nodes, refusals_with}
 use Rattle.strict_step.proofs.Asking.{with_asked}
 use Rattle.strict_step.specs.State.{IsApart, core_of, core_with}
 use Rattle.strict_step.specs.declared.change.CorePrepared.{CorePrepared}
 use Rattle.strict_step.specs.declared.state.NodeCore.{NodeCore}
+use Rattle.strict_step.specs.inside.Openings.{unheard}
 
 module _ {A E : Type 0} where
   -- what is so after an answer, and after a failure
@@ -71,15 +72,19 @@ pub stepped : (p : CorePrepared) (n : NodeCore) (mid parts : NodeParts) (locks :
     → locks ≡ locks_with p.votes n.locks
     → by_tree refusals ≡ refusals_with p.votes (by_tree n.refusals)
     → held_answers parts.homes ≡ holds_with p.holds (held_answers n.parts.homes)
-    → made (core_with parts locks refusals) out ≡ core_prepared_row p (core_of n)
+    → made (core_with parts locks refusals (epoch_with p.epoch n.epoch)) out ≡ core_prepared_row p (core_of n)
 stepped p n mid parts locks refusals out row asked locked noes held =
     let node = asked
     ∙ ap (λ (o : Out Node). record o.state { counts = asked_with p.holds o.state.counts }) row in
     λ i. record {
-      state = record { node = node i; locks = locked i; holds = held i; refusals = noes i };
+      state = record { node = node i; locks = locked i; holds = held i; refusals = noes i; epoch = epoch_with p.epoch n.epoch };
       sent = (row i).sent;
       acts = (row i).acts;
     }
+
+-- a node that may do a step may do it without the epoch of which it hears
+pub may_unheard : (p : CorePrepared) (n : NodeCore) → MayDoCore p n → MayDoCore (unheard p) n
+may_unheard p n may = record { parts = may.parts; holds = may.holds; asks = may.asks; apart = may.apart }
 
 -- then of no tree that is open an answer is held, if so says the row
 pub apart : (now : Core) (out : StepOut) (o : Out Core) → made now out ≡ o → IsApart o.state → IsApart now

@@ -1,5 +1,5 @@
 -- How a node with strict trees changes in a step that was prepared, and when it may.
-use Rattle.std.specs.Prelude.{ℕ, ◌≡◌, ◌<◌, ◌≤◌, ⊤, List, length, map, All, IfOk, IsTrue, IsSome, None, Some, OnErr, OnOk, Result}
+use Rattle.std.specs.Prelude.{ℕ, ◌≡◌, ◌<◌, ◌≤◌, ⊤, List, length, map, All, IfOk, IsTrue, IsSome, Option, None, Some, OnErr, OnOk, Result}
 use Rattle.tv_base.specs.declared.numbers.NoMemory.{NoMemory}
 use Rattle.tv_base.specs.declared.numbers.NodeNo.{NodeNo}
 use Rattle.item_versions.specs.Window.{in_window}
@@ -66,6 +66,11 @@ MayAsk (Hold a visited) nodes st =
     IsTrue (in_window st.turns.low.0 a.version.0) × All (λ (q : NodeNo). q.0 < nodes) visited × (length visited ≤ 64)
 MayAsk _ nodes st = ⊤
 
+-- the epoch afterwards
+abbrev pub epoch_with : Option ℕ → ℕ → ℕ
+epoch_with (Some e) epoch = e
+epoch_with None epoch = epoch
+
 -- the node that commuting trees see, after a step
 abbrev pub after_parts_change : CorePrepared → Node → Node
 after_parts_change p st = after_change p.prepared.change p.prepared.out.sent st
@@ -77,15 +82,16 @@ after_core_change p c = record {
   locks = locks_with p.votes c.locks;
   holds = holds_with p.holds c.holds;
   refusals = refusals_with p.votes c.refusals;
+  epoch = epoch_with p.epoch c.epoch;
 }
 
 -- a node, and what goes out, after a step that was prepared, as a table's row
 abbrev pub core_prepared_row : CorePrepared → Core → Out Core
 core_prepared_row p c = made (after_core_change p c) p.prepared.out
 
--- a step of these parts
+-- a step of these parts, of which the node hears no epoch
 abbrev pub prepared_of : Prepared → VoteChange → HoldChange → CorePrepared
-prepared_of p votes holds = record { prepared = p; votes = votes; holds = holds }
+prepared_of p votes holds = record { prepared = p; votes = votes; holds = holds; epoch = None }
 
 -- a node may do a step that was prepared: its parts may, what is held and asked for fits, and of no tree that is open
 -- then an answer is held

@@ -14,18 +14,19 @@ use Rattle.tree_step.specs.Node.{IsInWindow, IsReady, data_of}
 use Rattle.tree_step.specs.declared.node.NodeParts.{NodeParts}
 use Rattle.strict_step.specs.declared.state.NodeCore.{NodeCore}
 
--- what the table sees of these parts, locks and noes
-abbrev pub core_with : NodeParts → List Lock → List (TreeNo × Refusal) → Core
-core_with parts locks refusals = record {
+-- what the table sees of these parts, locks, noes and epoch
+abbrev pub core_with : NodeParts → List Lock → List (TreeNo × Refusal) → ℕ → Core
+core_with parts locks refusals epoch = record {
   node = data_of parts;
   locks = locks;
   holds = held_answers parts.homes;
   refusals = by_tree refusals;
+  epoch = epoch;
 }
 
 -- what it sees of a node
 abbrev pub core_of : NodeCore → Core
-core_of n = core_with n.parts n.locks n.refusals
+core_of n = core_with n.parts n.locks n.refusals n.epoch
 
 -- of no tree that is open an answer is held
 abbrev pub AreApart : OpenTrees → HeldAnswers → Type 0

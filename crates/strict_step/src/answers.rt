@@ -129,6 +129,7 @@ pub(crate) fn answered_step(
         prepared,
         votes,
         holds: HoldChange::Stay,
+        epoch: None,
     };
     push_releases(alloc, &mut prepared.prepared.out.sent, script, &answered)?;
     push_reply(&mut prepared.prepared.out.sent, client_of(script), answered)?;
@@ -197,6 +198,7 @@ pub(crate) fn decided_step(
             prepared,
             votes,
             holds: HoldChange::Stay,
+            epoch: None,
         };
         return Ok(Boxed::new(alloc, prepared)?);
     };
@@ -214,6 +216,7 @@ pub(crate) fn decided_step(
             answered: held,
             visited: told,
         },
+        epoch: None,
     };
     Ok(Boxed::new(alloc, prepared)?)
 }

@@ -47,14 +47,15 @@ pub enum HoldChange {
     },
 }
 
-/// A step that is prepared: what the node's parts do and what goes out, and what becomes of locks or noes and of held
-/// answers. The answer that an acknowledgement sets free is among what goes out. It is handed on behind a pointer, since
-/// it is large.
+/// A step that is prepared: what the node's parts do and what goes out, what becomes of locks or noes and of held
+/// answers, and the epoch of which the node hears, if it hears of one. The answer that an acknowledgement sets free is
+/// among what goes out. It is handed on behind a pointer, since it is large.
 #[derive(Drop)]
 pub struct CorePrepared {
     pub prepared: Prepared,
     pub votes: VoteChange,
     pub holds: HoldChange,
+    pub epoch: Option<u64>,
 }
 
 /// A tree of so many subtransactions that is to be opened at its home.
@@ -101,6 +102,7 @@ pub(crate) fn once_open(prepared: CorePrepared) -> CorePrepared
         prepared: Prepared { change, out },
         votes,
         holds,
+        epoch,
     } = prepared;
     let prepared = Prepared {
         change: changed_once_open(change),
@@ -110,6 +112,7 @@ pub(crate) fn once_open(prepared: CorePrepared) -> CorePrepared
         prepared,
         votes,
         holds,
+        epoch,
     }
 }
 

@@ -58,6 +58,7 @@ pub fn prepare_release(
         prepared,
         votes: VoteChange::Free { tree },
         holds: HoldChange::Stay,
+        epoch: None,
     };
     Ok(Boxed::new(alloc, prepared)?)
 }
@@ -126,6 +127,7 @@ pub fn prepare_decide(
             tree: decision.tree,
         },
         holds: HoldChange::Stay,
+        epoch: None,
     };
     Ok(Boxed::new(alloc, prepared)?)
 }
@@ -274,6 +276,7 @@ pub fn prepare_acked(
         prepared,
         votes,
         holds,
+        epoch: None,
     };
     Ok(Boxed::new(alloc, prepared)?)
 }

@@ -5,10 +5,10 @@ ghost use Rattle.pair_counters.specs.Rows.{counts_of};
 ghost use Rattle.tree_home.specs.Maps.{by_tree};
 ghost use Rattle.tree_step.specs.Changes.{IsDone, MayDo, OpensNone, prepared_row};
 ghost use Rattle.tree_step.specs.Node.{data_of};
-ghost use Rattle.strict_step.specs.Changes.{IsCoreDone, MayDoCore, core_prepared_row, locks_with, numbers_of_nodes, prepared_of, refusals_with};
+ghost use Rattle.strict_step.specs.Changes.{IsCoreDone, MayDoCore, core_prepared_row, epoch_with, locks_with, numbers_of_nodes, prepared_of, refusals_with};
 ghost use Rattle.strict_step.specs.declared.change.HoldChange.TheVariants.{Stay, Hold, Ack};
 ghost use Rattle.strict_step.specs.State.{core_of};
-ghost use Rattle.strict_step.specs.inside.Openings.{opening_in};
+ghost use Rattle.strict_step.specs.inside.Openings.{opening_in, unheard};
 
 use crate::change::{
     CorePrepared, HoldChange, Opening, Visited, VoteChange, once_open, opening_in,
@@ -84,6 +84,7 @@ fn still_done(
         parts,
         locks,
         refusals,
+        epoch: _,
     } = core;
     parts_done(parts, locks, refusals, votes, prepared)
 }
@@ -104,6 +105,7 @@ fn ack_done(
         parts,
         locks,
         refusals,
+        epoch: _,
     } = core;
     let out = parts_done(parts, locks, refusals, votes, prepared)?;
     parts.homes.acked(tree);
@@ -142,6 +144,7 @@ fn hold_done(
         parts,
         locks,
         refusals,
+        epoch: _,
     } = core;
     let Answered { tree, version, .. } = answered;
     let nodes = visited.items();
@@ -158,17 +161,18 @@ fn hold_done(
     }
 }
 
-/// Does a step that opens no tree. Where no memory is found the node is as it was.
+/// Does a step that opens no tree, but that the node hears of an epoch. Where no memory is found the node is as it was.
 #[inline(always)]
 fn holds_done(core: &mut NodeCore, prepared: CorePrepared) -> Result<StepOut, NoMemory>
     requires may { MayDoCore prepared core.old }
     requires none { OpensNone prepared.prepared.change }
-    ensures { IsCoreDone (core_prepared_row prepared (core_of core.old)) core.old core.new result }
+    ensures { IsCoreDone (core_prepared_row (unheard prepared) (core_of core.old)) core.old core.new result }
 {
     let CorePrepared {
         prepared,
         votes,
         holds,
+        epoch: _,
     } = prepared;
     match holds {
         HoldChange::Stay => still_done(core, votes, prepared),
@@ -183,7 +187,8 @@ fn holds_done(core: &mut NodeCore, prepared: CorePrepared) -> Result<StepOut, No
     }
 }
 
-/// Opens a tree, and then does the rest of the step. Where no memory is found the node is as it was.
+/// Opens a tree, and then does the rest of the step, but that the node hears of an epoch. Where no memory is found the
+/// node is as it was.
 #[inline(always)]
 fn open_done(
     core: &mut NodeCore,
@@ -192,7 +197,7 @@ fn open_done(
 ) -> Result<StepOut, NoMemory>
     requires may { MayDoCore prepared core.old }
     requires opens { opening_in prepared.prepared.change ≡ Some opening }
-    ensures { IsCoreDone (core_prepared_row prepared (core_of core.old)) core.old core.new result }
+    ensures { IsCoreDone (core_prepared_row (unheard prepared) (core_of core.old)) core.old core.new result }
 {
     let Opening {
         tree,
@@ -209,14 +214,35 @@ fn open_done(
     }
 }
 
+/// Does a step that was prepared, but that the node hears of an epoch. Where no memory is found the node is as it was.
+#[inline(always)]
+fn step_done(core: &mut NodeCore, prepared: CorePrepared) -> Result<StepOut, NoMemory>
+    requires { MayDoCore prepared core.old }
+    ensures { IsCoreDone (core_prepared_row (unheard prepared) (core_of core.old)) core.old core.new result }
+{
+    match opening_in(&prepared.prepared.change) {
+        None => holds_done(core, prepared),
+        Some(opening) => open_done(core, opening, prepared),
+    }
+}
+
+/// The node hears of an epoch, if it hears of one.
+fn hear_of(epoch: &mut u64, heard: Option<u64>)
+    ensures { epoch.new ≡ epoch_with heard epoch.old }
+{
+    if let Some(heard) = heard {
+        *epoch = heard;
+    }
+}
+
 /// Does a step that was prepared, and gives what goes out. Where no memory is found the node is as it was.
 #[inline(always)]
 pub fn core_done(core: &mut NodeCore, prepared: CorePrepared) -> Result<StepOut, NoMemory>
     requires { MayDoCore prepared core.old }
     ensures { IsCoreDone (core_prepared_row prepared (core_of core.old)) core.old core.new result }
 {
-    match opening_in(&prepared.prepared.change) {
-        None => holds_done(core, prepared),
-        Some(opening) => open_done(core, opening, prepared),
-    }
+    let epoch = prepared.epoch;
+    let out = step_done(core, prepared)?;
+    hear_of(&mut core.epoch, epoch);
+    Ok(out)
 }

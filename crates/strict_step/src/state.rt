@@ -3,11 +3,12 @@ use crate::refusals::Refusals;
 use nc_locks::Locks;
 use tree_step::NodeParts;
 
-/// A node's state where there are strict trees: that of its parts, among which its homes hold answers, its locks, and
-/// the noes.
+/// A node's state where there are strict trees: that of its parts, among which its homes hold answers, its locks, the
+/// noes, and the latest epoch of a coordinator that forgets of which it has heard, 0 at first.
 #[derive(Drop)]
 pub struct NodeCore {
     pub parts: NodeParts,
     pub locks: Locks,
     pub refusals: Refusals,
+    pub epoch: u64,
 }

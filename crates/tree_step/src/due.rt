@@ -1,15 +1,15 @@
-// Whether a letter is one that a node takes.
+// Whether a letter is one that a node takes, and an order one that it can obey.
 ghost use Rattle.std.specs.Prelude.{◌≡◌, ◌==◌, ◌&&◌, ◌+◌, not, is_some, nat_le, nat_lt, length};
 ghost use Rattle.item_versions.specs.Window.{in_window};
 ghost use Rattle.tx_trees.specs.ScriptData.{home_of, node_of, subs_at};
 ghost use Rattle.tree_home.specs.Homes.{home_in, open_trees};
 ghost use Rattle.world_model.specs.Named.{is_did, is_strict_at, suits};
-ghost use Rattle.tree_step.specs.Due.{is_due};
+ghost use Rattle.tree_step.specs.Due.{can_obey, is_due};
 ghost use Rattle.tree_step.specs.Node.{data_of};
 
 use crate::lookups::{kind_of, node_of};
 use crate::node::NodeParts;
-use letter_types::{Body, Letter, Notice};
+use letter_types::{Body, Letter, Notice, What};
 use node_versions::Turns;
 use tree_home::Homes;
 use tv_base::{ActorNo, SubNo, TreeNo, Version};
@@ -89,11 +89,22 @@ fn is_left_behind(turns: &Turns, version: Version) -> bool
     turns.low.0 <= version.0 && version.0 <= turns.read.0 && version.0 <= turns.update.0
 }
 
-/// Whether a letter is one that a node takes, and what it names belongs there, a root's tree isn't open yet, and the
-/// version that it names is one that the node can go by: a subtransaction, a notice and a version to show are of one of
-/// the three versions that begin with the low version, a version to raise to is at most the last of them, and a version
-/// to collect to is from the low version up and neither read nor updated below. Letters that ask for rows are always
-/// taken.
+/// Whether a node can go by a version that it is ordered to raise to, to show or to collect to: one to raise to is at
+/// most the last of the three versions that begin with the low version, one to show is one of them, and one to collect to
+/// is from the low version up and neither read nor updated below.
+pub fn can_obey(turns: &Turns, what: What, version: Version) -> bool
+    ensures { result ≡ can_obey what version turns.now }
+{
+    match what {
+        What::Turn => is_within_reach(turns, version),
+        What::Show => is_near(turns, version),
+        What::Sweep => is_left_behind(turns, version),
+    }
+}
+
+/// Whether a letter is one of a tree that a node takes, and what it names belongs there, a root's tree isn't open yet,
+/// and the version that it names is one that the node can go by: a subtransaction and a notice are of one of the three
+/// versions that begin with the low version.
 pub fn is_due(node: &NodeParts, letter: &Letter, script: &Script) -> bool
     ensures { result ≡ is_due script.now letter.now.to.0 (data_of node.now) letter.now.from.0 letter.now.body }
 {
@@ -112,11 +123,6 @@ pub fn is_due(node: &NodeParts, letter: &Letter, script: &Script) -> bool
                 && suits(script, *tree, notice)
                 && is_near(&node.turns, *version)
         }
-        Body::Turn { version } => is_within_reach(&node.turns, *version),
-        Body::Show { version } => is_near(&node.turns, *version),
-        Body::Sweep { version } => is_left_behind(&node.turns, *version),
-        Body::AskDone { .. } => true,
-        Body::AskAsked { .. } => true,
         _ => false,
     }
 }

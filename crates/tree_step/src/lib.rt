@@ -15,7 +15,7 @@ mod steps;
 pub use asked::{InVersion, Request, asked_ops, asked_version, prepare_tree};
 pub use change::{Change, HomeChange, Prepared, TreeChange, TreePrepared, done, done_twice};
 pub use counting::Counting;
-pub use due::is_due;
+pub use due::{can_obey, is_due};
 pub use lookups::kind_of;
 pub use node::{Effect, NodeParts};
 pub use notices::prepare_notice;

@@ -14,11 +14,11 @@ use Rattle.node_keeping.specs.declared.change.KeepingPrepared.{KeepingPrepared}
 use Rattle.node_keeping.specs.declared.change.KeepingPrepared.TheVariants.{Still as StillStep, Keeps as KeepsStep, Does as DoesStep}
 use Rattle.tx_trees.specs.ScriptData.{ScriptData}
 use Rattle.world_model.specs.Keeping.{KeepingNode}
-use Rattle.world_model.specs.Tables.{NodeData, CoordinatorData, ClientData, actor_row, as_actor}
+use Rattle.world_model.specs.Tables.{NodeData, CoordinatorData, RestartingData, ClientData, actor_row, as_actor}
 use Rattle.world_core.specs.declared.actor.ActorState.{ActorState}
-use Rattle.world_core.specs.declared.actor.ActorState.TheVariants.{Node, Coordinator, Client}
+use Rattle.world_core.specs.declared.actor.ActorState.TheVariants.{Node, Coordinator, Restarting, Client}
 use Rattle.world_core.specs.declared.actor.ActorPrepared.{ActorPrepared}
-use Rattle.world_core.specs.declared.actor.ActorPrepared.TheVariants.{Node as NodeStep, Coordinator as CoordinatorStep, Client as ClientStep}
+use Rattle.world_core.specs.declared.actor.ActorPrepared.TheVariants.{Node as NodeStep, Coordinator as CoordinatorStep, Restarting as RestartStep, Client as ClientStep}
 use Rattle.world_core.specs.Actors.{IsFor, actor_data}
 use Rattle.world_core.specs.Prepared.{IsActorDone, IsActorStepOf, ActorMayDo, out_of}
 use Rattle.world_core.specs.inside.Actors.{Acted}
@@ -27,13 +27,20 @@ use Rattle.world_core.specs.inside.Actors.{Acted}
 pub may_do : (s : ScriptData) (l : Letter) (st : ActorState) (p : ActorPrepared) → IsActorStepOf s l st p → ActorMayDo p st
 may_do s l (Node n) (NodeStep p) is = is.may
 may_do s l (Coordinator c) (CoordinatorStep p) is = is.may
+may_do s l (Restarting c) (RestartStep p) is = is.may
 may_do s l (Client k) (ClientStep p) is = tt
 may_do s l (Node n) (CoordinatorStep p) is = absurd is
+may_do s l (Node n) (RestartStep p) is = absurd is
 may_do s l (Node n) (ClientStep p) is = absurd is
 may_do s l (Coordinator c) (NodeStep p) is = absurd is
+may_do s l (Coordinator c) (RestartStep p) is = absurd is
 may_do s l (Coordinator c) (ClientStep p) is = absurd is
+may_do s l (Restarting c) (NodeStep p) is = absurd is
+may_do s l (Restarting c) (CoordinatorStep p) is = absurd is
+may_do s l (Restarting c) (ClientStep p) is = absurd is
 may_do s l (Client k) (NodeStep p) is = absurd is
 may_do s l (Client k) (CoordinatorStep p) is = absurd is
+may_do s l (Client k) (RestartStep p) is = absurd is
 
 -- an actor made its row of a letter, is of the script still, and this goes out
 pub record IsRow (s : ScriptData) (l : Letter) (old new : ActorState) (out : StepOut) : Type 0 where
@@ -50,22 +57,39 @@ is_row s l (Coordinator c) (Coordinator d) (CoordinatorStep p) out for is done =
       row = (λ i. made (CoordinatorData (done.0 i)) (done.1 i)) ∙ ap (as_actor CoordinatorData) is.row;
       script = tt;
     }
+is_row s l (Restarting c) (Restarting d) (RestartStep p) out for is done =
+    record {
+      row = (λ i. made (RestartingData (done.0 i)) (done.1 i)) ∙ ap (as_actor RestartingData) is.row;
+      script = tt;
+    }
 is_row s l (Client k) (Client m) (ClientStep p) out for is done = record {
   row = (λ i. made (ClientData (done.0 i).client) (done.1 i)) ∙ ap (as_actor ClientData) is.row;
   script = subst (λ (x : Kept). IsKeptOf s x) (sym done.0) is.still_kept;
 }
 is_row s l (Node n) (Coordinator d) (NodeStep p) out for is done = absurd done
+is_row s l (Node n) (Restarting d) (NodeStep p) out for is done = absurd done
 is_row s l (Node n) (Client m) (NodeStep p) out for is done = absurd done
 is_row s l (Coordinator c) (Node m) (CoordinatorStep p) out for is done = absurd done
+is_row s l (Coordinator c) (Restarting d) (CoordinatorStep p) out for is done = absurd done
 is_row s l (Coordinator c) (Client m) (CoordinatorStep p) out for is done = absurd done
+is_row s l (Restarting c) (Node m) (RestartStep p) out for is done = absurd done
+is_row s l (Restarting c) (Coordinator d) (RestartStep p) out for is done = absurd done
+is_row s l (Restarting c) (Client m) (RestartStep p) out for is done = absurd done
 is_row s l (Client k) (Node m) (ClientStep p) out for is done = absurd done
 is_row s l (Client k) (Coordinator d) (ClientStep p) out for is done = absurd done
+is_row s l (Client k) (Restarting d) (ClientStep p) out for is done = absurd done
 is_row s l (Node n) new (CoordinatorStep p) out for is done = absurd is
+is_row s l (Node n) new (RestartStep p) out for is done = absurd is
 is_row s l (Node n) new (ClientStep p) out for is done = absurd is
 is_row s l (Coordinator c) new (NodeStep p) out for is done = absurd is
+is_row s l (Coordinator c) new (RestartStep p) out for is done = absurd is
 is_row s l (Coordinator c) new (ClientStep p) out for is done = absurd is
+is_row s l (Restarting c) new (NodeStep p) out for is done = absurd is
+is_row s l (Restarting c) new (CoordinatorStep p) out for is done = absurd is
+is_row s l (Restarting c) new (ClientStep p) out for is done = absurd is
 is_row s l (Client k) new (NodeStep p) out for is done = absurd is
 is_row s l (Client k) new (CoordinatorStep p) out for is done = absurd is
+is_row s l (Client k) new (RestartStep p) out for is done = absurd is
 
 -- what goes out of a node is what was prepared
 out_made : (p : KeepingPrepared) (n : KeepingNode) (m : KeepingNode) (out : StepOut) → made m out ≡ keeping_prepared_row p n
@@ -78,19 +102,32 @@ out_made (DoesStep prepared change) n m out is = λ i. record { sent = (is i).se
 pub out_is : (p : ActorPrepared) (old new : ActorState) (out : StepOut) → IsActorDone p old new out → out ≡ out_of p
 out_is (NodeStep p) (Node n) (Node m) out done = out_made p (keeping_of n) (keeping_of m) out done.0
 out_is (CoordinatorStep p) (Coordinator c) (Coordinator d) out done = done.1
+out_is (RestartStep p) (Restarting c) (Restarting d) out done = done.1
 out_is (ClientStep p) (Client k) (Client m) out done = done.1
 out_is (NodeStep p) (Node n) (Coordinator d) out done = absurd done
+out_is (NodeStep p) (Node n) (Restarting d) out done = absurd done
 out_is (NodeStep p) (Node n) (Client m) out done = absurd done
 out_is (NodeStep p) (Coordinator c) new out done = absurd done
+out_is (NodeStep p) (Restarting c) new out done = absurd done
 out_is (NodeStep p) (Client k) new out done = absurd done
 out_is (CoordinatorStep p) (Coordinator c) (Node m) out done = absurd done
+out_is (CoordinatorStep p) (Coordinator c) (Restarting d) out done = absurd done
 out_is (CoordinatorStep p) (Coordinator c) (Client m) out done = absurd done
 out_is (CoordinatorStep p) (Node n) new out done = absurd done
+out_is (CoordinatorStep p) (Restarting c) new out done = absurd done
 out_is (CoordinatorStep p) (Client k) new out done = absurd done
+out_is (RestartStep p) (Restarting c) (Node m) out done = absurd done
+out_is (RestartStep p) (Restarting c) (Coordinator d) out done = absurd done
+out_is (RestartStep p) (Restarting c) (Client m) out done = absurd done
+out_is (RestartStep p) (Node n) new out done = absurd done
+out_is (RestartStep p) (Coordinator c) new out done = absurd done
+out_is (RestartStep p) (Client k) new out done = absurd done
 out_is (ClientStep p) (Client k) (Node m) out done = absurd done
 out_is (ClientStep p) (Client k) (Coordinator d) out done = absurd done
+out_is (ClientStep p) (Client k) (Restarting d) out done = absurd done
 out_is (ClientStep p) (Node n) new out done = absurd done
 out_is (ClientStep p) (Coordinator c) new out done = absurd done
+out_is (ClientStep p) (Restarting c) new out done = absurd done
 
 -- the actor at a place did it, and the others stay
 pub acted_at : (a : ℕ) (p : ActorPrepared) (old : List ActorState) (before after : ActorState) (r : Result StepOut NoMemory)

@@ -49,11 +49,11 @@ starts_in_window n nodes turns items counts =
       counters = ap (λ (x : Counts). x.low) counts ∙ sym low;
     }
 
--- nothing is locked, held, refused or kept
+-- nothing is locked, held, refused or kept, and the epoch is the first one
 pub starts_keeping : (s : ScriptData) (p : ℕ) (n : KeepingParts) → data_of n.core.parts ≡ start_node s p → n.core.parts.homes ≡ no_homes
-    → n.core.locks ≡ [] → n.core.refusals ≡ [] → n.kept ≡ [] → keeping_of n ≡ start_keeping s p
-starts_keeping s p n node homes locks noes kept = λ i. record {
-  core = record { node = node i; locks = locks i; holds = held_answers (homes i); refusals = by_tree (noes i) };
+    → n.core.locks ≡ [] → n.core.refusals ≡ [] → n.core.epoch ≡ 0 → n.kept ≡ [] → keeping_of n ≡ start_keeping s p
+starts_keeping s p n node homes locks noes epoch kept = λ i. record {
+  core = record { node = node i; locks = locks i; holds = held_answers (homes i); refusals = by_tree (noes i); epoch = epoch i };
   kept = kept i;
 }
 

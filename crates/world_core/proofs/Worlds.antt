@@ -1,6 +1,6 @@
 -- A step of an actor makes the next world.
 use Rattle.std.proofs.Common.{◌≡◌, ◌≢◌, ℕ, ◌+◌, ◌<◌, ◌==◌, Bool, true, false, List, [], ◌∷◌, ◌++◌, length, reverse, Some, refl, sym, ap, ◌∙◌, subst, arith}
-use Rattle.std.specs.Prelude.{nat_lt, slice_get, slice_set}
+use Rattle.std.specs.Prelude.{if◌then◌else◌, nat_lt, slice_get, slice_set}
 use Rattle.std.specs.List.{remove}
 use Rattle.std.proofs.lemmas.Bool.Decides.{nat_tests}
 use Rattle.std.proofs.lemmas.List.{length-reverse, reverse-append}
@@ -17,12 +17,13 @@ use Rattle.letter_types.specs.Letters.{sealed}
 use Rattle.letter_types.specs.Steps.{Out, made}
 use Rattle.tx_trees.specs.ScriptData.{ScriptData, client_of}
 use Rattle.tx_trees.specs.Valid.{IsValid}
-use Rattle.world_model.specs.Runs.{MayFollow, Moves, AtNode, AtCoordinator, AtClient, actor_in, in_flight}
+use Rattle.world_model.specs.Lossy.{is_lossy}
+use Rattle.world_model.specs.Runs.{MayFollow, Moves, AtNode, AtCoordinator, AtRestarting, AtClient, Says, actor_in, coordination_in, coordinator_in, restarting_in, in_flight}
 use Rattle.world_model.proofs.Gone.{unique}
 use Rattle.world_model.proofs.Addressees.{addressed}
 use Rattle.world_model.proofs.Scripts.{get_below}
 use Rattle.world_core.specs.declared.actor.ActorState.{ActorState}
-use Rattle.world_model.specs.Tables.{ActorData, actor_row}
+use Rattle.world_model.specs.Tables.{ActorData, CoordinatorData, RestartingData, actor_row, coordinator_table, restarting_table}
 use Rattle.world_core.specs.Actors.{AreStatesOf, IsFor, IsStateOf, IsWorldOf, WorldData, actor_data}
 use Rattle.world_core.proofs.Doing.{IsRow}
 use Rattle.world_core.proofs.Bag.{Found, found_at}
@@ -31,13 +32,35 @@ use Rattle.world_core.proofs.Bag.{Found, found_at}
 abbrev pub entry_of : ℕ → Letter → List Outgoing → List Act → Entry
 entry_of stamp l sent acts = record { stamp = record { 0 = stamp }; actor = l.to; took = l; sent = sent; acts = acts }
 
+-- the coordinator of either kind, by its number
+coordinator_is : (s : ScriptData) (past : List Entry) (a : ℕ) → nat_lt a s.nodes ≡ false → (a == s.nodes) ≡ true → is_lossy s ≡ false
+    → actor_in s past a ≡ CoordinatorData (coordinator_in s past)
+coordinator_is s past a is at keeps =
+    let here : actor_in s past a ≡ coordination_in s past = rw (is, at) refl in
+    here ∙ ap (λ (b : Bool). if b then RestartingData (restarting_in s past) else CoordinatorData (coordinator_in s past)) keeps
+
+restarting_is : (s : ScriptData) (past : List Entry) (a : ℕ) → nat_lt a s.nodes ≡ false → (a == s.nodes) ≡ true → is_lossy s ≡ true
+    → actor_in s past a ≡ RestartingData (restarting_in s past)
+restarting_is s past a is at loses =
+    let here : actor_in s past a ≡ coordination_in s past = rw (is, at) refl in
+    here ∙ ap (λ (b : Bool). if b then RestartingData (restarting_in s past) else CoordinatorData (coordinator_in s past)) loses
+
 -- whose step it is
 moves_by : (s : ScriptData) (past : List Entry) (l : Letter) (stamp : ℕ) (sent : List Outgoing) (acts : List Act) (b c : Bool)
     → nat_lt l.to.0 s.nodes ≡ b → (l.to.0 == s.nodes) ≡ c → l.to.0 < s.nodes + 2
     → sent ≡ (actor_row s l.to.0 (actor_in s past l.to.0) l).sent → acts ≡ (actor_row s l.to.0 (actor_in s past l.to.0) l).acts
     → Moves s past (entry_of stamp l sent acts)
 moves_by s past l stamp sent acts true c is at lt a b = AtNode (grind (arith, nat_tests)) (rw is at a, rw is at b)
-moves_by s past l stamp sent acts false true is at lt a b = AtCoordinator (grind (arith, nat_tests)) (rw (is, at) at a, rw (is, at) at b)
+moves_by s past l stamp sent acts false true is at lt a b = by (is_lossy s) refl where
+  of : (d : ActorData) → actor_in s past l.to.0 ≡ d → Says (actor_row s l.to.0 d l) (entry_of stamp l sent acts)
+  of d now =
+      (a ∙ ap (λ (x : ActorData). (actor_row s l.to.0 x l).sent) now, b ∙ ap (λ (x : ActorData). (actor_row s l.to.0 x l).acts) now)
+
+  by : (loses : Bool) → is_lossy s ≡ loses → Moves s past (entry_of stamp l sent acts)
+  by false keeps =
+      AtCoordinator (grind (arith, nat_tests)) keeps (of (CoordinatorData (coordinator_in s past)) (coordinator_is s past l.to.0 is at keeps))
+  by true loses =
+      AtRestarting (grind (arith, nat_tests)) loses (of (RestartingData (restarting_in s past)) (restarting_is s past l.to.0 is at loses))
 moves_by s past l stamp sent acts false false is at lt a b = AtClient (grind (arith, nat_tests)) (rw (is, at) at a, rw (is, at) at b)
 
 -- the addressee's next state
@@ -45,7 +68,19 @@ state_by : (s : ScriptData) (past : List Entry) (l : Letter) (stamp : ℕ) (sent
     → nat_lt l.to.0 s.nodes ≡ b → (l.to.0 == s.nodes) ≡ c → l.to.0 < s.nodes + 2
     → (actor_row s l.to.0 (actor_in s past l.to.0) l).state ≡ actor_in s (entry_of stamp l sent acts ∷ past) l.to.0
 state_by s past l stamp sent acts true c is at lt = rw (is, same_test l.to.0) refl
-state_by s past l stamp sent acts false true is at lt = rw (is, at) refl
+state_by s past l stamp sent acts false true is at lt = by (is_lossy s) refl where
+  e : Entry
+  e = entry_of stamp l sent acts
+
+  by : (loses : Bool) → is_lossy s ≡ loses → (actor_row s l.to.0 (actor_in s past l.to.0) l).state ≡ actor_in s (e ∷ past) l.to.0
+  by false keeps =
+      let next : (coordinator_table (coordinator_in s past) l).state ≡ coordinator_in s (e ∷ past) = rw at refl in
+      ap (λ (x : ActorData). (actor_row s l.to.0 x l).state) (coordinator_is s past l.to.0 is at keeps)
+      ∙ ap CoordinatorData next ∙ sym (coordinator_is s (e ∷ past) l.to.0 is at keeps)
+  by true loses =
+      let next : (restarting_table (restarting_in s past) l).state ≡ restarting_in s (e ∷ past) = rw at refl in
+      ap (λ (x : ActorData). (actor_row s l.to.0 x l).state) (restarting_is s past l.to.0 is at loses)
+      ∙ ap RestartingData next ∙ sym (restarting_is s (e ∷ past) l.to.0 is at loses)
 state_by s past l stamp sent acts false false is at lt =
     let client : (l.to.0 == client_of s) ≡ true = grind (arith, nat_tests) in rw (is, at, client) refl
 
@@ -54,8 +89,17 @@ others_by : (s : ScriptData) (past : List Entry) (e : Entry) (a : ℕ) (b c : Bo
     → (a == s.nodes) ≡ c → a < s.nodes + 2 → e.actor.0 ≢ a
     → actor_in s (e ∷ past) a ≡ actor_in s past a
 others_by s past e a true c is at lt ne = let no : (e.actor.0 == a) ≡ false = grind (arith, nat_tests) in rw (is, no) refl
-others_by s past e a false true is at lt ne =
-    let no : (e.actor.0 == s.nodes) ≡ false = grind (arith, nat_tests) in rw (is, at, no) refl
+others_by s past e a false true is at lt ne = by (is_lossy s) refl where
+  no : (e.actor.0 == s.nodes) ≡ false
+  no = grind (arith, nat_tests)
+
+  by : (loses : Bool) → is_lossy s ≡ loses → actor_in s (e ∷ past) a ≡ actor_in s past a
+  by false keeps =
+      let same : coordinator_in s (e ∷ past) ≡ coordinator_in s past = rw no refl in
+      coordinator_is s (e ∷ past) a is at keeps ∙ ap CoordinatorData same ∙ sym (coordinator_is s past a is at keeps)
+  by true loses =
+      let same : restarting_in s (e ∷ past) ≡ restarting_in s past = rw no refl in
+      restarting_is s (e ∷ past) a is at loses ∙ ap RestartingData same ∙ sym (restarting_is s past a is at loses)
 others_by s past e a false false is at lt ne = let no : (e.actor.0 == client_of s) ≡ false = grind (arith, nat_tests) in rw (is, at, no) refl
 
 -- the addressee of a letter made its row of it, this goes out, and the other actors stay

@@ -6,21 +6,23 @@ use Rattle.letter_types.specs.declared.entries.Entry.{Entry}
 use Rattle.node_keeping.specs.State.{keeping_of}
 use Rattle.tree_step.specs.Node.{IsOf}
 use Rattle.tx_trees.specs.ScriptData.{ScriptData}
-use Rattle.world_model.specs.Tables.{ActorData, NodeData, CoordinatorData, ClientData}
+use Rattle.world_model.specs.Tables.{ActorData, NodeData, CoordinatorData, RestartingData, ClientData}
 use Rattle.world_model.specs.Runs.{IsStepRun, actor_in, in_flight}
 use Rattle.world_core.specs.declared.actor.ActorState.{ActorState}
-use Rattle.world_core.specs.declared.actor.ActorState.TheVariants.{Node, Coordinator, Client}
+use Rattle.world_core.specs.declared.actor.ActorState.TheVariants.{Node, Coordinator, Restarting, Client}
 
 -- a state as its table sees it
 abbrev pub actor_data : ActorState → ActorData
 actor_data (Node n) = NodeData (keeping_of n)
 actor_data (Coordinator c) = CoordinatorData c
+actor_data (Restarting c) = RestartingData c
 actor_data (Client c) = ClientData c.client
 
 -- a state of the script: a node counts by the script's nodes, and a client goes over its rows
 abbrev pub IsFor : ScriptData → ActorState → Type 0
 IsFor s (Node n) = IsOf s n.core.parts
 IsFor s (Coordinator c) = Unit {0}
+IsFor s (Restarting c) = Unit {0}
 IsFor s (Client c) = IsKeptOf s c
 
 -- the state of actor a after a past

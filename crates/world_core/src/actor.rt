@@ -1,7 +1,7 @@
 // The actors as one, and their steps.
 ghost use Rattle.std.specs.Prelude.{◌≡◌, ◌<◌, ◌+◌, [], IfOk, MatchResult, OnOk, OnErr};
 ghost use Rattle.letter_types.specs.Steps.{made};
-ghost use Rattle.world_model.specs.Tables.{actor_row};
+ghost use Rattle.world_model.specs.Tables.{actor_row, start_coordination};
 ghost use Rattle.world_model.specs.Taking.{CountsBelow, IsAddressed};
 ghost use Rattle.world_core.specs.Actors.{actor_data, IsFor, IsStateOf};
 ghost use Rattle.world_core.specs.Prepared.{IsActorDone, IsActorStepOf, ActorMayDo, MayTake, out_of};
@@ -10,6 +10,7 @@ ghost use Rattle.pair_counters.specs.Numbers.{MOST_COUNT};
 use crate::node::NodeState;
 use advance_coord::{Coordinator, CoordinatorPrepared};
 use client_rows::{Client, ClientPrepared};
+use coord_restart::{RestartPrepared, Restarting};
 use letter_types::{Boxed, Letter, Step, StepOut};
 use node_keeping::KeepingPrepared;
 use std::alloc::Global;
@@ -22,6 +23,8 @@ pub enum ActorState {
     Node(NodeState),
     /// The coordinator of advancements.
     Coordinator(Coordinator),
+    /// The coordinator of a script that makes it forget.
+    Restarting(Restarting),
     /// The client, which submits the script.
     Client(Client),
 }
@@ -32,6 +35,7 @@ impl Drop for ActorState {
         match self {
             ActorState::Node(_) => {}
             ActorState::Coordinator(_) => {}
+            ActorState::Restarting(_) => {}
             ActorState::Client(_) => {}
         }
     }
@@ -44,6 +48,8 @@ pub enum ActorPrepared {
     Node(KeepingPrepared),
     /// The coordinator's step, which is rare, and large.
     Coordinator(Boxed<CoordinatorPrepared>),
+    /// The same of one that may forget.
+    Restarting(Boxed<RestartPrepared>),
     /// The client's step.
     Client(ClientPrepared),
 }
@@ -56,8 +62,22 @@ impl ActorPrepared {
         match self {
             ActorPrepared::Node(prepared) => prepared.out(),
             ActorPrepared::Coordinator(prepared) => prepared.get().out(),
+            ActorPrepared::Restarting(prepared) => prepared.get().out(),
             ActorPrepared::Client(prepared) => prepared.out(),
         }
+    }
+}
+
+/// The coordinator of a script as a run begins: one that may forget where a row of the script makes it.
+fn start_coordination(alloc: Global, script: &Script) -> ActorState
+    ensures start { actor_data result ≡ start_coordination script.now }
+    ensures script { IsFor script.now result }
+{
+    let nodes = script.nodes();
+    if script.loses() > 0 {
+        ActorState::Restarting(Restarting::new(alloc, nodes))
+    } else {
+        ActorState::Coordinator(Coordinator::new(alloc, nodes))
     }
 }
 
@@ -72,7 +92,7 @@ impl ActorState {
             return Ok(ActorState::Node(NodeState::start(alloc, script, NodeNo(actor.0))?));
         }
         if actor.0 == nodes {
-            return Ok(ActorState::Coordinator(Coordinator::new(alloc, nodes)));
+            return Ok(start_coordination(alloc, script));
         }
         Ok(ActorState::Client(Client::new(alloc, script)?))
     }
@@ -99,6 +119,10 @@ pub fn actor_prepare(
             let prepared = Boxed::new(alloc, coordinator.prepare(alloc, letter)?)?;
             Ok(ActorPrepared::Coordinator(prepared))
         }
+        ActorState::Restarting(coordinator) => {
+            let prepared = Boxed::new(alloc, coordinator.prepare(alloc, letter)?)?;
+            Ok(ActorPrepared::Restarting(prepared))
+        }
         ActorState::Client(client) => {
             let prepared = client.prepare(alloc, letter, script)?;
             Ok(ActorPrepared::Client(prepared))
@@ -120,6 +144,10 @@ pub fn actor_done(state: &mut ActorState, prepared: ActorPrepared) -> Result<Ste
         },
         ActorPrepared::Coordinator(prepared) => match state {
             ActorState::Coordinator(coordinator) => Ok(coordinator.done(prepared.into_inner())),
+            _ => unreachable!(),
+        },
+        ActorPrepared::Restarting(prepared) => match state {
+            ActorState::Restarting(coordinator) => Ok(coordinator.done(prepared.into_inner())),
             _ => unreachable!(),
         },
         ActorPrepared::Client(prepared) => match state {

@@ -78,7 +78,8 @@ fn items_at(
 
 impl NodeState {
     /// Node `node` as a run of the script begins: the first versions, each of its items in version 0 with its initial
-    /// value, nothing counted, no tree's notices gathered and no answer held, no lock and no letter kept.
+    /// value, nothing counted, no tree's notices gathered and no answer held, no lock and no letter kept, and no epoch but
+    /// the first heard of.
     pub fn start(alloc: Global, script: &Script, node: NodeNo) -> Result<NodeState, NoMemory>
         ensures start { IfOk result (λ n. keeping_of n ≡ start_keeping script.now node.0) }
         ensures script { IfOk result (λ n. IsOf script.now n.core.parts) }
@@ -95,6 +96,7 @@ impl NodeState {
             parts,
             locks: Locks::new(alloc),
             refusals: Refusals::new(alloc),
+            epoch: 0,
         };
         Ok(NodeState {
             node: KeepingParts {

@@ -4,7 +4,8 @@ use Rattle.tv_base.specs.declared.numbers.SubNo.{SubNo}
 use Rattle.tv_base.specs.declared.numbers.TreeNo.{TreeNo}
 use Rattle.tv_base.specs.declared.numbers.Version.{Version}
 use Rattle.letter_types.specs.declared.bodies.Body.{Body}
-use Rattle.letter_types.specs.declared.bodies.Body.TheVariants.{Root, Sub as SubLetter, Done, Turn, Show, Sweep, AskDone, AskAsked, Decide, Decided, Release, Wake}
+use Rattle.letter_types.specs.declared.bodies.Body.TheVariants.{Root, Sub as SubLetter, Done, Turn, Show, Sweep, AskDone, AskAsked, Decide, Decided, Release, Wake, Order, Ask}
+use Rattle.letter_types.specs.declared.entries.Letter.{Letter}
 use Rattle.tree_home.specs.declared.homes.Answered.{Answered}
 use Rattle.tx_trees.specs.Counts.{has_strict}
 use Rattle.tx_trees.specs.ScriptData.{ScriptData, home_of, node_of, subs_at, visits}
@@ -12,20 +13,29 @@ use Rattle.tx_trees.specs.declared.parts.TreeKind.{TreeKind}
 use Rattle.tx_trees.specs.declared.parts.TreeKind.TheVariants.{Update, Read, Strict}
 use Rattle.world_model.specs.Core.{Core}
 use Rattle.world_model.specs.Decisions.{can_decide}
-use Rattle.world_model.specs.Named.{is_named, is_near, is_new, is_strict_at, is_timely, tree_kind_at}
+use Rattle.world_model.specs.Epochs.{is_core_timely}
+use Rattle.world_model.specs.Named.{is_named, is_near, is_new, is_strict_at, tree_kind_at}
 use Rattle.world_model.specs.Node.{Node}
 use Rattle.world_model.specs.Reads.{can_read}
 use Rattle.world_model.specs.Strict.{can_make_at, decides_near, is_of_strict, is_unheld}
 use Rattle.world_model.specs.Updates.{can_update}
 use Rattle.tree_step.specs.Due.{is_due}
+use Rattle.strict_step.specs.State.{core_of}
+use Rattle.strict_step.specs.declared.state.NodeCore.{NodeCore}
+use Rattle.core_step.specs.Plans.{IsPlanWhere}
+use Rattle.core_step.specs.declared.plan.CorePlan.{CorePlan}
 
--- whether a letter of this sender and body is apt at node p
+-- whether a letter of this sender and body is apt at node p, where the script's coordinator has it
 abbrev pub apt_by : ScriptData → ℕ → ℕ → Core → Body → Bool
 apt_by s p from c body =
     (has_strict s || not (is_of_strict body))
     && (is_named s p from body
     && (is_new s c.node body && is_unheld body c.holds
-    && (is_timely s c.node body && decides_near s c.node body && can_make_at s p c body)))
+    && (is_core_timely s c body && decides_near s c.node body && can_make_at s p c body)))
+
+-- what a core does with a letter that the script's coordinator has is planned
+abbrev pub IsOwnPlan : ScriptData → Letter → NodeCore → CorePlan → Type 0
+IsOwnPlan s l n plan = IsPlanWhere (apt_by s l.to.0 l.from.0 (core_of n) l.body) s l n plan
 
 -- a letter that asks for a subtransaction
 abbrev pub asks_a_sub : Body → Bool
@@ -90,4 +100,6 @@ is_own (Decide t v commit) = true
 is_own (Decided t v) = true
 is_own (Release t) = true
 is_own (Wake t k) = true
+is_own (Order e what v) = true
+is_own (Ask e) = true
 is_own _ = false

@@ -1,16 +1,19 @@
 -- What becomes of the letter that another brings to its node. Private code alone cites these definitions.
-use Rattle.std.specs.Prelude.{◌≡◌, List, [], ◌∷◌, ◌++◌, Some}
+use Rattle.std.specs.Prelude.{if◌then◌else◌, ℕ, ◌≡◌, List, [], ◌∷◌, ◌++◌, Some}
 use Rattle.tv_base.specs.declared.numbers.SubNo.{SubNo}
 use Rattle.tv_base.specs.declared.numbers.TreeNo.{TreeNo}
+use Rattle.tv_base.specs.declared.numbers.Version.{Version}
 use Rattle.letter_types.specs.declared.bodies.Body.{Body}
-use Rattle.letter_types.specs.declared.bodies.Body.TheVariants.{Wake}
+use Rattle.letter_types.specs.declared.bodies.Body.TheVariants.{Wake, Order}
+use Rattle.letter_types.specs.declared.bodies.What.{What}
 use Rattle.letter_types.specs.declared.entries.Letter.{Letter}
 use Rattle.letter_types.specs.declared.entries.Outgoing.{Outgoing}
 use Rattle.letter_types.specs.declared.kept.Why.{Why}
 use Rattle.letter_types.specs.Kept.{brought, kept_without, wakes, wakes_by, with_called}
 use Rattle.letter_types.specs.Steps.{Out}
 use Rattle.world_model.specs.Core.{Core}
-use Rattle.world_model.specs.Keeping.{AreKeptAt, KeepingNode}
+use Rattle.world_model.specs.Epochs.{plain_order, is_obeyed_now}
+use Rattle.world_model.specs.Keeping.{AreKeptAt, KeepingNode, woken_by}
 use Rattle.world_model.specs.Strict.{CoreKeeping}
 use Rattle.strict_step.specs.declared.change.CorePrepared.{CorePrepared}
 use Rattle.node_keeping.specs.declared.change.Keep.{Keep}
@@ -41,8 +44,8 @@ kept_out l r n k = record {
 -- or it is done, this came of it at the core, and what waited for it is woken
 abbrev pub done_out : Letter → Letter → KeepingNode → Out Core → Out KeepingNode
 done_out l r n o = record {
-  state = record { core = o.state; kept = with_called (wakes_by r.body) (kept_without n.kept l.body) };
-  sent = o.sent ++ wakes (wakes_by r.body) (kept_without n.kept l.body);
+  state = record { core = o.state; kept = with_called (woken_by n.core r.body) (kept_without n.kept l.body) };
+  sent = o.sent ++ wakes (woken_by n.core r.body) (kept_without n.kept l.body);
   acts = o.acts;
 }
 
@@ -53,6 +56,11 @@ waking_out body n o = record {
   sent = o.sent ++ wakes (wakes_by body) n.kept;
   acts = o.acts;
 }
+
+-- a letter that wakes what an order of a coordinator that forgets does: the one for which the order stands, if it takes
+-- effect, and else the order, which as a letter wakes none
+abbrev pub waking_order : ℕ → What → Version → Core → Body
+waking_order e what v c = if is_obeyed_now e what v c then plain_order what v else Order e what v
 
 -- the same step, which sends these letters behind its own
 abbrev pub sent_behind : List Outgoing → CorePrepared → CorePrepared

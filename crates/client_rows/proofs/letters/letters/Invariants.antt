@@ -1,9 +1,13 @@
-use Rattle.std.proofs.Common.{◌≡◌, ◌++◌, drop}
+use Rattle.std.proofs.Common.{◌≡◌, ◌++◌, ◌+◌, ◌^◌, ◌<◌, drop}
+use Rattle.tx_trees.specs.Adding.{advances_in}
 use Rattle.world_model.specs.Client.{rows_letters}
 use Rattle.client_rows.specs.News.{sent_first}
 use Rattle.client_rows.proofs.letters.letters.Given as goal
 
--- the letters so far, and those of the rows that are left, are all of them
+-- the letters so far, and those of the rows that are left, are all of them; and so many more advancements fit
 abbrev pub invariant-loop-row : goal.invariant-loop-row
-invariant-loop-row l =
-    l.sent ++ rows_letters l.script (drop l.row-index l.rows) ≡ sent_first l.script l.fn.news ++ rows_letters l.script l.rows
+invariant-loop-row l = record {
+  sent : l.sent ++ rows_letters l.script l.asked (drop l.row-index l.rows)
+      ≡ sent_first l.script l.fn.news ++ rows_letters l.script l.fn.before l.rows;
+  few : l.asked + advances_in (drop l.row-index l.rows) < 2 ^ 32;
+}

@@ -1,7 +1,7 @@
 use Rattle.std.proofs.Common.{◌+◌, Fits, w64, arith, rules, sym}
 use Rattle.std.proofs.Math.Facts.{Fits-le}
 use Rattle.client_rows.specs.News.{answered_after}
-use Rattle.client_rows.proofs.Counts.{IsWithin, below_next, place_behind}
+use Rattle.client_rows.proofs.Counts.{IsWithin, asked_next, below_next, place_behind}
 use Rattle.client_rows.proofs.places.behind_next.Goals as goal
 
 pub overflow_add-result : goal.overflow_add-result
@@ -24,9 +24,9 @@ overflow_add-result-in-Tree-2-2 c =
 
 pub overflow_add-result-in-Advance : goal.overflow_add-result-in-Advance
 overflow_add-result-in-Advance c =
-    let next : Fits w64 (c.args.at.next + 1) = search rules in
-    let within : IsWithin c.args.at = below_next c.args.rows.now (answered_after c.args.news c.args.answered.now) c.args.at c.requires.at in
-    Fits-le (omega (arith, within.asked)) next
+    let asked =
+    asked_next c.args.rows.now (answered_after c.args.news c.args.answered.now) c.args.at _ c.requires.more c.in-Advance.is c.requires.at in
+    omega (arith, asked, c.requires.few)
 
 pub returns-in-Tree : goal.returns-in-Tree
 returns-in-Tree c =

@@ -1,10 +1,11 @@
-use Rattle.std.proofs.Common.{refl}
+use Rattle.std.proofs.Common.{refl, None}
 use Rattle.letter_types.specs.declared.bodies.Body.TheVariants.{AskDone}
 use Rattle.world_model.specs.Advancing.{done_row}
 use Rattle.tree_step.specs.Node.{data_of}
 use Rattle.strict_step.specs.State.{core_of}
+use Rattle.core_step.specs.inside.Stays.{hearing}
 use Rattle.core_step.proofs.Aptness.{done_row_apt}
-use Rattle.core_step.proofs.Ordering.{due_plan}
+use Rattle.core_step.proofs.Ordering.{of_parts_step, own_done}
 use Rattle.core_step.proofs.orders.plan_done_row.Goals as goal
 
 pub returns : goal.returns
@@ -14,7 +15,8 @@ returns c =
     let n = c.args.core.now in
     let v = c.args.version in
     let k = c.args.round in
-    due_plan s l n (AskDone v k) (done_row s v k (data_of n.parts)) c.in_ok-prepared.prepared c.in_ok-of_parts.field-0
-    c.requires.body
-    (done_row_apt s l.to.0 l.from.0 (core_of n) v k) refl refl refl c.in_ok-of_parts.ensures c.in_ok-prepared.ensures refl
-    c.requires.ready.apart
+    let row = done_row s v k (data_of n.parts) in
+    own_done s l n (AskDone v k) (hearing None (core_of n) row) c.in_ok-of_parts.field-0 c.requires.body
+    (done_row_apt s l.to.0 l.from.0 (core_of n) v k) refl refl
+    (of_parts_step row n c.in_ok-prepared.prepared None c.in_ok-of_parts.field-0 c.in_ok-of_parts.ensures
+    c.in_ok-prepared.ensures refl c.requires.ready.apart)

@@ -1,4 +1,4 @@
-use Rattle.std.proofs.Common.{◌∙◌}
+use Rattle.std.proofs.Common.{◌∙◌, None}
 use Rattle.core_step.specs.inside.Stays.{of_parts}
 use Rattle.core_step.proofs.orders.still_step.Goals as goal
 
@@ -8,4 +8,4 @@ returns c =
     ∙ λ i. of_parts (record {
       change = c.still.ensures.change i;
       out = record { sent = c.still.ensures.sent i; acts = c.still.ensures.acts i };
-    })
+    }) None

@@ -1,7 +1,14 @@
+use Rattle.std.proofs.Common.{ap, subst, ◌∙◌}
+use Rattle.std.specs.Prelude.{IfOk}
+use Rattle.letter_types.specs.declared.bodies.Body.{Body}
+use Rattle.letter_types.specs.Steps.{Out}
+use Rattle.world_model.specs.Keeping.{KeepingNode}
 use Rattle.strict_step.specs.Changes.{core_prepared_row}
 use Rattle.strict_step.specs.State.{core_of}
+use Rattle.node_keeping.specs.Changes.{IsKeepingStepOf}
 use Rattle.node_keeping.specs.State.{keeping_of}
-use Rattle.node_keeping.proofs.Woken.{wake_done}
+use Rattle.node_keeping.specs.inside.Bringing.{waking_out}
+use Rattle.node_keeping.proofs.Woken.{order_done, wake_done}
 use Rattle.node_keeping.proofs.prepare.prepare_does.Goals as goal
 
 pub returns-in-Wake : goal.returns-in-Wake
@@ -13,3 +20,12 @@ returns-in-Wake c =
           (keeping_of n) (core_prepared_row c.args.prepared (core_of n.core)) c.in-Wake.is from.kept from.brings;
       may = c.requires.may;
     }
+
+pub returns-in-Order : goal.returns-in-Order
+returns-in-Order c =
+    let n = c.args.node.now in
+    subst (λ (o : Out KeepingNode). IfOk c.prepare_waking.result (IsKeepingStepOf o n))
+    (ap (λ (b : Body). waking_out b (keeping_of n) (core_prepared_row c.args.prepared (core_of n.core))) c.waking_order-body.ensures
+    ∙ order_done c.in-Order.epoch c.in-Order.what c.in-Order.version c.args.letter.now c.args.brought.now (keeping_of n)
+    (core_prepared_row c.args.prepared (core_of n.core)) c.in-Order.is c.requires.brought.brings)
+    c.prepare_waking.ensures

@@ -12,13 +12,10 @@ pub returns : goal.returns
 returns c =
     let n = c.args.core.now in
     let answered = c.in_ok-answered.answered in
-    let same : record { prepared = c.completing-prepared.result; votes = c.dropped-votes.result; holds = c.ack-holds.result }
+    let same : prepared_of c.completing-prepared.result c.dropped-votes.result c.ack-holds.result
     ≡ prepared_of (completing c.args.from c.args.version (record { sent = c.in_ok-sent.sent; acts = c.new.result }))
-    (dropped answered) (ack_of c.args.tree (held_in c.args.tree (held_answers n.parts.homes))) = λ i. record {
-      prepared = c.completing-prepared.ensures i;
-      votes = c.dropped-votes.ensures i;
-      holds = c.ack-holds.ensures i;
-    } in
+    (dropped answered) (ack_of c.args.tree (held_in c.args.tree (held_answers n.parts.homes))) =
+    λ i. prepared_of (c.completing-prepared.ensures i) (c.dropped-votes.ensures i) (c.ack-holds.ensures i) in
     subst (λ (p : CorePrepared). IsCoreStepOf (acked_core c.args.script.now c.args.from.0 c.args.tree c.args.version (core_of n)) n p)
     (sym (c.in_ok-new.ensures ∙ same))
     (acked_step c.args.script.now c.args.from c.args.tree c.args.version n

@@ -25,7 +25,8 @@ returns c =
       row = row;
       nodes = done.nodes;
       window = same_window parts c.acked.new.self done.window;
-      apart = apart (core_with (with_homes c.acked.new.self parts) c.parts_done.new.locks c.parts_done.new.refusals)
+      apart = apart (core_with (with_homes c.acked.new.self parts) c.parts_done.new.locks c.parts_done.new.refusals
+          c.args.core.now.epoch)
           c.in_ok-out.out (core_prepared_row p (core_of c.args.core.now)) row c.requires.may.apart;
       err = tt;
     }

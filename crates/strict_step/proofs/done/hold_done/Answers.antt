@@ -47,7 +47,8 @@ returns-in-Ok c =
       nodes = ap (λ (k : Counts). k.nodes) c.ask_each.ensures ∙ done.nodes;
       window = asked_window mid c.ask_each.new.counters c.args.answered.version.0 c.items-nodes.result.now
           c.ask_each.ensures done.window;
-      apart = apart (core_with parts c.parts_done.new.locks c.parts_done.new.refusals) c.in-Ok.out
+      apart = apart (core_with parts c.parts_done.new.locks c.parts_done.new.refusals
+          c.args.core.now.epoch) c.in-Ok.out
           (core_prepared_row p (core_of c.args.core.now)) row c.requires.may.apart;
       err = tt;
     }
@@ -75,5 +76,6 @@ returns c =
         };
         locks = c.in-Err.ensures.locks i;
         refusals = c.in-Err.ensures.refusals i;
+        epoch = c.args.core.now.epoch;
       };
     }

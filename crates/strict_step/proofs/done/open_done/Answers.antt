@@ -11,6 +11,7 @@ use Rattle.strict_step.specs.Changes.{MayDoCore, MayHold, core_prepared_row}
 use Rattle.strict_step.specs.State.{IsApart, core_of}
 use Rattle.strict_step.specs.declared.change.CorePrepared.{CorePrepared}
 use Rattle.strict_step.specs.declared.state.NodeCore.{NodeCore}
+use Rattle.strict_step.specs.inside.Openings.{unheard}
 use Rattle.strict_step.proofs.Opened.{ask_once_open, begun_there, core_in_parts, is_shut, may_once_open, once_begun}
 use Rattle.strict_step.proofs.Undone.{unopened}
 use Rattle.strict_step.proofs.done.open_done.Goals as goal
@@ -40,8 +41,8 @@ forget-requires c =
 pub returns-in-Ok : goal.returns-in-Ok
 returns-in-Ok c = record {
   row = c.in-Ok.ensures.row
-      ∙ ap (λ (p : CorePrepared). core_prepared_row p (core_of (once_begun c.begin.new.self c.args.core.now))) c.once_open.ensures
-      ∙ core_in_parts c.args.prepared c.args.opening c.args.core.now c.begin.new.self c.requires.opens
+      ∙ ap (λ (p : CorePrepared). core_prepared_row (unheard p) (core_of (once_begun c.begin.new.self c.args.core.now))) c.once_open.ensures
+      ∙ core_in_parts (unheard c.args.prepared) c.args.opening c.args.core.now c.begin.new.self c.requires.opens
       c.in_ok-begin.ensures.ok c.begin.ensures.held;
   nodes = c.in-Ok.ensures.nodes;
   window = c.in-Ok.ensures.window;
@@ -73,5 +74,6 @@ returns-in-Err c =
         };
         locks = (same i).locks;
         refusals = (same i).refusals;
+        epoch = (same i).epoch;
       };
     }
